@@ -1,0 +1,38 @@
+//! How large a heap and its world are.
+
+use crate::Fault;
+
+/// How many mutators, workers, queues and cells there are, and how long a soft reference is kept.
+#[derive(Clone, Copy, Debug, PartialEq, Eq)]
+pub struct Config {
+    /// Program threads: 1 to 8.
+    pub mutators: u32,
+    /// Threads of the collector: 1 to 8.
+    pub workers: u32,
+    /// Reference queues: 1 to 16.
+    pub queues: u32,
+    /// Objects that fit into the heap at one time: 1 to 4,096.
+    pub cells: u32,
+    /// A soft reference is kept while the clock less its stamp is at most this. Any number.
+    pub span: u64,
+}
+
+impl Config {
+    ghost use Rattle.std.specs.Prelude.{◌≡◌, if◌then◌else◌};
+    ghost use Rattle.ref_base.specs.Limits.{is_within_limits};
+
+    /// Whether each number is within its limits. The one error is `BadConfig`. Takes no memory.
+    pub fn check(&self) -> Result<(), Fault>
+        ensures { result ≡ (if is_within_limits self.now then Ok tt else Err Fault.BadConfig) }
+    {
+        let mutators_fit = (1..=8).contains(&self.mutators);
+        let workers_fit = (1..=8).contains(&self.workers);
+        let queues_fit = (1..=16).contains(&self.queues);
+        let cells_fit = (1..=4_096).contains(&self.cells);
+        if mutators_fit && workers_fit && queues_fit && cells_fit {
+            Ok(())
+        } else {
+            Err(Fault::BadConfig)
+        }
+    }
+}

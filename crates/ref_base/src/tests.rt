@@ -1,0 +1,208 @@
+//! The texts, the faults and the limits, against values that were worked out by hand.
+
+use crate::{Config, Fault, MutNo, ObjNo, QueueNo, Reply, Row, SlotNo, Step, WorkerNo};
+use std::test::Fail;
+
+#[test]
+fn each_number_prints_behind_its_letter(rt: HostRuntime) -> Result<(), Fail> {
+    let alloc = rt.alloc();
+    assert_eq!(rt;
+        format!(in alloc; "{}", ObjNo(4_294_967_295))?.as_str(),
+        "4294967295"
+    );
+    assert_eq!(rt; format!(in alloc; "{}", QueueNo(0))?.as_str(), "q0");
+    assert_eq!(rt; format!(in alloc; "{}", MutNo(0))?.as_str(), "m0");
+    assert_eq!(rt; format!(in alloc; "{}", WorkerNo(3))?.as_str(), "w3");
+    assert_eq!(rt; format!(in alloc; "{}", SlotNo(15))?.as_str(), "s15");
+    Ok(())
+}
+
+#[test]
+fn each_step_prints_as_in_a_script(rt: HostRuntime) -> Result<(), Fail> {
+    let mutator = MutNo(0);
+    let slot = SlotNo(1);
+    let source = SlotNo(0);
+    let table = [
+        (
+            Step::New {
+                mutator,
+                slot,
+                fields: 2,
+            },
+            "m0 new s1 2",
+        ),
+        (
+            Step::Weak {
+                mutator,
+                slot,
+                source,
+                queue: Some(QueueNo(0)),
+                fields: 2,
+            },
+            "m0 weak s1 s0 q0 2",
+        ),
+        (
+            Step::Weak {
+                mutator: MutNo(7),
+                slot,
+                source,
+                queue: None,
+                fields: 0,
+            },
+            "m7 weak s1 s0 - 0",
+        ),
+        (Step::Unhook { mutator, slot }, "m0 unhook s1"),
+        (Step::Put { mutator }, "m0 put"),
+        (Step::Release { mutator }, "m0 release"),
+        (
+            Step::Poll {
+                mutator,
+                queue: QueueNo(15),
+            },
+            "m0 poll q15",
+        ),
+        (
+            Step::Close {
+                mutator,
+                queue: QueueNo(0),
+            },
+            "m0 close q0",
+        ),
+    ];
+    for (step, want) in table {
+        assert_eq!(rt; format!(in rt.alloc(); "{step}")?.as_str(), want);
+    }
+    Ok(())
+}
+
+#[test]
+fn each_reply_prints_as_in_a_trace(rt: HostRuntime) -> Result<(), Fail> {
+    let table = [
+        (Reply::Object(ObjNo(1)), "object 1"),
+        (
+            Reply::Notice {
+                object: ObjNo(2),
+                queue: QueueNo(0),
+            },
+            "notice 2 q0 own",
+        ),
+        (Reply::Nothing, "none"),
+        (Reply::Added(0), "added 0"),
+        (Reply::Already, "already"),
+        (Reply::Closed, "closed"),
+        (Reply::Took(ObjNo(2)), "took 2"),
+        (Reply::Empty, "empty"),
+        (Reply::Done, "ok"),
+        (Reply::Refused(Fault::NoSuchActor), "refused 9 NoSuchActor"),
+    ];
+    for (reply, want) in table {
+        assert_eq!(rt; format!(in rt.alloc(); "{reply}")?.as_str(), want);
+    }
+    Ok(())
+}
+
+#[test]
+fn a_row_prints_its_step_a_colon_and_its_reply(rt: HostRuntime) -> Result<(), Fail> {
+    let step = Step::New {
+        mutator: MutNo(0),
+        slot: SlotNo(0),
+        fields: 0,
+    };
+    let row = Row {
+        step,
+        reply: Reply::Object(ObjNo(1)),
+    };
+    assert_eq!(rt;
+        format!(in rt.alloc(); "{row}")?.as_str(),
+        "m0 new s0 0 : object 1"
+    );
+    Ok(())
+}
+
+#[test]
+fn each_fault_has_its_number_and_prints_as_its_name(rt: HostRuntime) -> Result<(), Fail> {
+    let table = [
+        (Fault::BadConfig, 1, "BadConfig"),
+        (Fault::NoSuchObject, 2, "NoSuchObject"),
+        (Fault::NoMemory, 3, "NoMemory"),
+        (Fault::NoCell, 4, "NoCell"),
+        (Fault::NumbersSpent, 5, "NumbersSpent"),
+        (Fault::EmptySlot, 6, "EmptySlot"),
+        (Fault::BadField, 7, "BadField"),
+        (Fault::NotAReference, 8, "NotAReference"),
+        (Fault::NoSuchActor, 9, "NoSuchActor"),
+        (Fault::BadQueue, 10, "BadQueue"),
+        (Fault::ForeignHold, 11, "ForeignHold"),
+        (Fault::WrongPhase, 12, "WrongPhase"),
+        (Fault::ClockBack, 13, "ClockBack"),
+        (Fault::GreyLeft, 14, "GreyLeft"),
+        (Fault::ClearingLeft, 15, "ClearingLeft"),
+        (Fault::SweepLeft, 16, "SweepLeft"),
+        (Fault::MovesLeft, 17, "MovesLeft"),
+        (Fault::NoRoom, 18, "NoRoom"),
+        (Fault::AddressesSpent, 19, "AddressesSpent"),
+        (Fault::WrongQueue, 20, "WrongQueue"),
+        (Fault::RegisteredTwice, 21, "RegisteredTwice"),
+        (Fault::TableClosed, 22, "TableClosed"),
+        (Fault::HandFull, 23, "HandFull"),
+        (Fault::HandEmpty, 24, "HandEmpty"),
+        (Fault::TurnsSpent, 25, "TurnsSpent"),
+    ];
+    for (fault, number, name) in table {
+        assert_eq!(rt; fault.number(), number, "the number of {name}");
+        assert_eq!(rt; fault.name(), name);
+        assert_eq!(rt; format!(in rt.alloc(); "{fault}")?.as_str(), name);
+    }
+    Ok(())
+}
+
+#[test]
+fn a_config_fits_exactly_within_its_limits(rt: HostRuntime) {
+    let least = Config {
+        mutators: 1,
+        workers: 1,
+        queues: 1,
+        cells: 1,
+        span: 0,
+    };
+    let most = Config {
+        mutators: 8,
+        workers: 8,
+        queues: 16,
+        cells: 4_096,
+        span: u64::MAX,
+    };
+    for fits in [least, most] {
+        assert_eq!(rt; fits.check(), Ok(()), "{fits:?}");
+    }
+    let too_few = [
+        Config {
+            mutators: 0,
+            ..least
+        },
+        Config {
+            workers: 0,
+            ..least
+        },
+        Config { queues: 0, ..least },
+        Config { cells: 0, ..least },
+    ];
+    let too_many = [
+        Config {
+            mutators: 9,
+            ..most
+        },
+        Config { workers: 9, ..most },
+        Config { queues: 17, ..most },
+        Config {
+            cells: 4_097,
+            ..most
+        },
+    ];
+    for refused in too_few {
+        assert_eq!(rt; refused.check(), Err(Fault::BadConfig), "{refused:?}");
+    }
+    for refused in too_many {
+        assert_eq!(rt; refused.check(), Err(Fault::BadConfig), "{refused:?}");
+    }
+}

@@ -1,0 +1,2 @@
+pub mod QueueLists
+pub mod QueueAnswers

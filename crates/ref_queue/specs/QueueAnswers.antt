@@ -1,0 +1,51 @@
+-- What the calls of a reference queue answer, and what they leave.
+use Rattle.std.specs.Prelude.{◌≡◌, ℕ, true, false, [], ◌∷◌, length, Result, Ok, Err}
+use Rattle.ref_base.specs.declared.fault.Fault.{Fault}
+use Rattle.ref_base.specs.declared.fault.Fault.TheVariants.{WrongQueue, NoMemory}
+use Rattle.ref_queue.specs.declared.queue.Put.{Put}
+use Rattle.ref_queue.specs.declared.queue.Put.TheVariants.{Added, Already, Closed}
+use Rattle.ref_queue.specs.declared.queue.Polled.{Polled}
+use Rattle.ref_queue.specs.declared.queue.Polled.TheVariants.{Took, Empty, Closed as Ended}
+use Rattle.ref_queue.specs.QueueLists.{Lists, enqueued, was_put, with_parcel, with_taken}
+
+module _ {T : Type 0} (object_of queue_of : T → ℕ) (q : Lists T) (x : T) where
+  -- x is for this queue
+  abbrev pub IsOwn : Type 0
+  IsOwn = queue_of x ≡ q.queue
+
+  -- x may go in: it is for this queue, its number was never put in, and the queue is open
+  abbrev pub MayGoIn : Type 0
+  MayGoIn = IsOwn × (was_put object_of q x ≡ false) × (q.closed ≡ false)
+
+  -- when a put of x is refused with this fault
+  abbrev pub RefusesPut : Fault → Type 0
+  RefusesPut WrongQueue = ¬ IsOwn
+  RefusesPut NoMemory = MayGoIn
+  RefusesPut _ = ⊥
+
+  -- when a put of x gives this answer; but for no memory, exactly one answer fits
+  abbrev pub AnswersPut : Result (Put T) (Fault × T) → Type 0
+  AnswersPut (Ok (Added position)) = MayGoIn × (position ≡ length (enqueued object_of q))
+  AnswersPut (Ok (Already back)) = IsOwn × (was_put object_of q x ≡ true) × (back ≡ x)
+  AnswersPut (Ok (Closed back)) = IsOwn × (was_put object_of q x ≡ false) × (q.closed ≡ true) × (back ≡ x)
+  AnswersPut (Err refused) = RefusesPut refused.0 × (refused.1 ≡ x)
+
+  -- the queue after that answer: x stands last where it was added, and else nothing changed
+  abbrev pub after_put : Result (Put T) (Fault × T) → Lists T
+  after_put (Ok (Added _)) = with_parcel q x
+  after_put (Ok (Already _)) = q
+  after_put (Ok (Closed _)) = q
+  after_put (Err _) = q
+
+module _ {T : Type 0} where
+  -- P of the parcel, where a poll took one
+  abbrev pub IfTook : Polled T → (T → Type 0) → Type 0
+  IfTook (Took x) P = P x
+  IfTook Empty P = Unit {0}
+  IfTook Ended P = Unit {0}
+
+  -- when a poll of q answers so and leaves r: the first that stands is taken, or nothing stands and nothing changed
+  abbrev pub Polls : (T → ℕ) → Lists T → Polled T → Lists T → Type 0
+  Polls object_of q (Took x) r = (q.stands ≡ x ∷ r.stands) × (r ≡ with_taken object_of q x r.stands)
+  Polls object_of q Empty r = (q.stands ≡ []) × (q.closed ≡ false) × (r ≡ q)
+  Polls object_of q Ended r = (q.stands ≡ []) × (q.closed ≡ true) × (r ≡ q)

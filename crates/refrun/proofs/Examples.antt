@@ -1,0 +1,132 @@
+-- The definitions at work on what one can read off by hand.
+use Rattle.std.proofs.Common.{◌≡◌, ◌^◌, ℕ, true, false, List, [], ◌∷◌, Option, Some, None, codes, inl, inr, refl}
+use Rattle.ref_base.specs.QueueRows.{put_into, taken_from, was_closed}
+use Rattle.ref_base.specs.declared.config.Config.{Config}
+use Rattle.ref_base.specs.declared.fault.Fault.TheVariants.{HandEmpty, NoMemory}
+use Rattle.ref_base.specs.declared.reply.Reply.TheVariants as replies
+use Rattle.ref_base.specs.declared.row.Row.{Row}
+use Rattle.ref_base.specs.declared.step.Step.TheVariants.{New, Weak, Unhook, Put, Release, Poll, Close}
+use Rattle.refrun.specs.Lines.{lines_of, content_of, words_of}
+use Rattle.refrun.specs.Numerals.{number_below, number_behind}
+use Rattle.refrun.specs.Scripts.{text_fault}
+use Rattle.refrun.specs.Spelling.{SpellsStep}
+use Rattle.refrun.specs.StepFaults.{step_fault}
+use Rattle.refrun.specs.Tables.{State, first_state, IsRun}
+use Rattle.refrun.specs.declared.fault.LineFault.TheVariants.{UnknownStep, MissingWord, BadWord, ExtraWord, BadHeader}
+use Rattle.refrun.specs.declared.fault.TextFault.TheVariants.{Line}
+
+-- ---- words and numbers
+
+spaces_part_words : words_of (codes "  m0  put ") ≡ codes "m0" ∷ codes "put" ∷ []
+spaces_part_words = refl
+
+an_lf_begins_no_line : lines_of (97 ∷ 10 ∷ []) ≡ record { bytes = 97 ∷ []; is_ended = true } ∷ []
+an_lf_begins_no_line = refl
+
+one_cr_belongs_to_the_end : content_of (record { bytes = 97 ∷ 13 ∷ 13 ∷ []; is_ended = true }) ≡ 97 ∷ 13 ∷ []
+one_cr_belongs_to_the_end = refl
+
+a_cr_before_no_lf_stays : content_of (record { bytes = 97 ∷ 13 ∷ []; is_ended = false }) ≡ 97 ∷ 13 ∷ []
+a_cr_before_no_lf_stays = refl
+
+leading_zeros_are_allowed : number_behind (codes "s") (codes "s007") ≡ Some 7
+leading_zeros_are_allowed = refl
+
+twenty_digits_at_most : number_below (2 ^ 32) (codes "000000000000000000007") ≡ None
+twenty_digits_at_most = refl
+
+-- ---- faults go by kind and not by place
+
+a_step_is_spelt : SpellsStep (words_of (codes "m0 weak s1 s00 - 2")) (Weak 0 1 0 None 2)
+a_step_is_spelt = (refl, (refl, (refl, (refl, (refl, (refl, tt))))))
+
+the_letter_comes_first : step_fault (words_of (codes "w0 new s0 0")) ≡ Some UnknownStep
+the_letter_comes_first = refl
+
+the_rest_of_the_first_word_is_a_number : step_fault (words_of (codes "move put")) ≡ Some BadWord
+the_rest_of_the_first_word_is_a_number = refl
+
+missing_comes_before_bad : step_fault (words_of (codes "mx new s0")) ≡ Some MissingWord
+missing_comes_before_bad = refl
+
+bad_comes_before_extra : step_fault (words_of (codes "m0 new 0 0 0")) ≡ Some BadWord
+bad_comes_before_extra = refl
+
+an_extra_word_is_no_bad_one : step_fault (words_of (codes "m0 put x")) ≡ Some ExtraWord
+an_extra_word_is_no_bad_one = refl
+
+a_header_that_never_comes : text_fault [] ≡ Some (Line 1 BadHeader)
+a_header_that_never_comes = refl
+
+-- ---- a run that puts, closes and takes
+
+two_queues : Config
+two_queues = record { mutators = 1; workers = 1; queues = 2; cells = 4; span = 0 }
+
+rows : List Row
+rows = record { step = New 0 0 0; reply = replies.Object 1 }
+    ∷ record { step = Weak 0 1 0 (Some 1) 0; reply = replies.Object 2 }
+    ∷ record { step = Unhook 0 1; reply = replies.Notice 2 1 }
+    ∷ record { step = Put 0; reply = replies.Refused NoMemory }
+    ∷ record { step = Put 0; reply = replies.Added 0 }
+    ∷ record { step = Put 0; reply = replies.Refused HandEmpty }
+    ∷ record { step = Close 0 1; reply = replies.Done }
+    ∷ record { step = Poll 0 1; reply = replies.Took 2 }
+    ∷ record { step = Put 0; reply = replies.Already }
+    ∷ []
+
+-- the rows are a run of the table, one of them refused for want of memory and one because the hand is empty
+they_run : (last : State) × IsRun (first_state two_queues) rows last
+unfolding two_queues rows
+they_run = (
+  _,
+  (
+    _,
+    inl (refl, refl),
+    (
+      _,
+      inl (refl, refl),
+      (
+        _,
+        inl (refl, refl),
+        (
+          _,
+          inr (tt, refl, refl),
+          (
+            _,
+            inl (refl, refl),
+            (
+              _,
+              (refl, refl),
+              (
+                _,
+                inl (refl, refl),
+                (
+                  _,
+                  inl (refl, refl),
+                  (
+                    _,
+                    inl (refl, refl),
+                    refl,
+                  ),
+                ),
+              ),
+            ),
+          ),
+        ),
+      ),
+    ),
+  ),
+)
+
+reference_2_is_put_in : put_into 1 rows ≡ 2 ∷ []
+unfolding rows
+reference_2_is_put_in = refl
+
+reference_2_is_taken : taken_from 1 rows ≡ 2 ∷ []
+unfolding rows
+reference_2_is_taken = refl
+
+queue_1_is_closed_and_queue_0_is_not : (was_closed 1 rows ≡ true) × (was_closed 0 rows ≡ false)
+unfolding rows
+queue_1_is_closed_and_queue_0_is_not = (refl, refl)

@@ -1,0 +1,100 @@
+-- A text that spells a script has no fault.
+use Rattle.std.proofs.Common.{◌≡◌, ℕ, ◌+◌, true, List, [], ◌∷◌, Some, None, refl, inl, inr}
+use Rattle.std.specs.Char.{is_ascii}
+use Rattle.std.specs.List.{list_all}
+use Rattle.std.proofs.lemmas.Bool.{cases_Bool, and_parts}
+use Rattle.ref_base.specs.Limits.{is_within_limits}
+use Rattle.ref_base.specs.declared.config.Config.{Config}
+use Rattle.ref_base.specs.declared.step.Step.{Step}
+use Rattle.refrun.specs.Lines.{TextLine, lines_of}
+use Rattle.refrun.specs.StepFaults.{step_fault}
+use Rattle.refrun.specs.Scripts.{Header, Configuration, Steps, is_short, is_plain, says_nothing, line_words, told}
+use Rattle.refrun.specs.Scripts.{is_header, config_of, SpellSteps, SpellScript, AreScript, IsScript, plain_fault}
+use Rattle.refrun.specs.Scripts.{first_fault, text_fault}
+use Rattle.refrun.proofs.Spelt.{spelt_without_fault}
+
+plain_without_fault : (line : TextLine) → is_plain line ≡ true → plain_fault line ≡ None
+plain_without_fault line h = let p = and_parts (is_short line) (list_all is_ascii line.bytes) h in simp (p.0, p.1) refl
+
+-- the first of the lines spells its step, and the others have no fault
+first_step : (words : List (List ℕ)) (lines : List TextLine) (steps : List Step) (k : ℕ) → ((later : List Step)
+    → SpellSteps (told lines) later → first_fault Steps k lines ≡ None)
+    → SpellSteps (words ∷ told lines) steps → (step_fault words ≡ None) × (first_fault Steps k lines ≡ None)
+first_step words lines [] k goes_on spelt = absurd spelt
+first_step words lines (step ∷ steps) k goes_on spelt = (spelt_without_fault words step spelt.0, goes_on steps spelt.1)
+
+-- lines of steps
+steps_without_fault : (lines : List TextLine) (steps : List Step) (k : ℕ) → list_all is_plain lines ≡ true
+    → SpellSteps (told lines) steps → first_fault Steps k lines ≡ None
+steps_without_fault [] steps k plain spelt = refl
+steps_without_fault (line ∷ lines) steps k plain spelt =
+    let p = and_parts (is_plain line) (list_all is_plain lines) plain in
+    let whole = plain_without_fault line p.0 in
+    elim (cases_Bool (says_nothing (line_words line))) [
+      | inl silent ↦
+          let rest : SpellSteps (told lines) steps = simp silent at spelt in
+          simp (whole, silent) (steps_without_fault lines steps (k + 1) p.1 rest)
+      | inr says ↦
+          let all : SpellSteps (line_words line ∷ told lines) steps = simp says at spelt in
+          let none = first_step (line_words line) lines steps (k + 1) (λ later h. steps_without_fault lines later
+          (k + 1) p.1 h) all in
+          simp (whole, says, none.0) none.1
+    ]
+
+-- the configuration and the steps
+abbrev SpellBody : List (List (List ℕ)) → Config → List Step → Type 0
+SpellBody [] config steps = ⊥
+SpellBody (words ∷ lines) config steps = (config_of words ≡ Some config) ×
+    (is_within_limits config ≡ true) × SpellSteps lines steps
+
+body_without_fault : (lines : List TextLine) (config : Config) (steps : List Step) (k : ℕ)
+    → list_all is_plain lines ≡ true → SpellBody (told lines) config steps → first_fault Configuration k lines ≡ None
+body_without_fault [] config steps k plain spelt = absurd spelt
+body_without_fault (line ∷ lines) config steps k plain spelt =
+    let p = and_parts (is_plain line) (list_all is_plain lines) plain in
+    let whole = plain_without_fault line p.0 in
+    elim (cases_Bool (says_nothing (line_words line))) [
+      | inl silent ↦
+          let rest : SpellBody (told lines) config steps = simp silent at spelt in
+          simp (whole, silent) (body_without_fault lines config steps (k + 1) p.1 rest)
+      | inr says ↦
+          let all : SpellBody (line_words line ∷ told lines) config steps = simp says at spelt in
+          simp (whole, says, all.0, all.1) (steps_without_fault lines steps (k + 1) p.1 all.2)
+    ]
+
+-- the header, and the body behind it
+body_of : (lines : List (List (List ℕ))) (words : List (List ℕ)) (config : Config) (steps : List Step)
+    → SpellScript (words ∷ lines) config steps → (is_header words ≡ true) × SpellBody lines config steps
+body_of [] words config steps spelt = absurd spelt
+body_of (line ∷ lines) words config steps spelt = (spelt.0, (spelt.1, spelt.2, spelt.3))
+
+lines_without_fault : (lines : List TextLine) (config : Config) (steps : List Step) (k : ℕ)
+    → list_all is_plain lines ≡ true → SpellScript (told lines) config steps → first_fault Header k lines ≡ None
+lines_without_fault [] config steps k plain spelt = absurd spelt
+lines_without_fault (line ∷ lines) config steps k plain spelt =
+    let p = and_parts (is_plain line) (list_all is_plain lines) plain in
+    let whole = plain_without_fault line p.0 in
+    elim (cases_Bool (says_nothing (line_words line))) [
+      | inl silent ↦
+          let rest : SpellScript (told lines) config steps = simp silent at spelt in
+          simp (whole, silent) (lines_without_fault lines config steps (k + 1) p.1 rest)
+      | inr says ↦
+          let all : SpellScript (line_words line ∷ told lines) config steps = simp says at spelt in
+          let body = body_of (told lines) (line_words line) config steps all in
+          simp (whole, says, body.0) (body_without_fault lines config steps (k + 1) p.1 body.1)
+    ]
+
+pub script_without_fault : (text : List ℕ) (config : Config) (steps : List Step) → IsScript text config steps
+    → text_fault text ≡ None
+script_without_fault text config steps h = simp h.short (lines_without_fault
+    (lines_of text) config steps 1 h.lines.plain h.lines.told)
+
+-- a script's configuration is within its limits
+pub script_within_limits : (lines : List TextLine) (config : Config) (steps : List Step)
+    → AreScript lines config steps → is_within_limits config ≡ true
+script_within_limits lines config steps h = limits (told lines) h.told
+  where
+    limits : (told_lines : List (List (List ℕ))) → SpellScript told_lines config steps → is_within_limits config ≡ true
+    limits [] spelt = absurd spelt
+    limits (header ∷ []) spelt = absurd spelt
+    limits (header ∷ words ∷ more) spelt = spelt.2

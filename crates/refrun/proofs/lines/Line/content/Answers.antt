@@ -1,0 +1,15 @@
+use Rattle.std.proofs.Common.{sym}
+use Rattle.std.proofs.lemmas.Bool.{ne_eqb}
+use Rattle.refrun.specs.LineViews.{line_of}
+use Rattle.refrun.proofs.Cuts.{content_before_cr, content_kept}
+use Rattle.refrun.proofs.lines.Line.content.Goals as goal
+
+pub returns-in-Some : goal.returns-in-Some
+returns-in-Some c =
+    sym (content_before_cr (line_of c.args.self.now) c.in-Some.front.now c.in-Some.last.now c.if-not-self.false
+    c.in-Some.ensures.cases.0 c.if-last-eq13.true)
+
+pub returns-in_default : goal.returns-in_default
+returns-in_default c =
+    sym (content_kept (line_of c.args.self.now) c.in-Some.front.now c.in-Some.last.now c.if-not-self.false
+    c.in-Some.ensures.cases.0 (ne_eqb _ _ c.if-last-eq13.false))

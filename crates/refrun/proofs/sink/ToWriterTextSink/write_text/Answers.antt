@@ -1,0 +1,22 @@
+use Rattle.std.proofs.Common.{rules}
+use Rattle.std.proofs.lemmas.Result.{err_from_is_err_and}
+use Rattle.refrun.proofs.WriteLemmas.{written_more, written_prefix, written_then}
+use Rattle.refrun.proofs.sink.ToWriterTextSink.write_text.Goals as goal
+
+pub returns-in_err-count-clause-err : goal.returns-in_err-count-clause-err
+returns-in_err-count-clause-err g c =
+    let p = err_from_is_err_and c.from_residual.result c.from_residual.ensures.1 in
+    rw p.1 (written_then _ (g.W.Write.contents c.loop-rest.self.writer) _ c.args.text.now c.loop-rest.rest.now
+    c.loop-rest.invariant.0 c.in_err-count.ensures.err)
+
+pub loop-rest-preserved : goal.loop-rest-preserved
+loop-rest-preserved g c = (
+  written_more _ (g.W.Write.contents c.loop-rest.self.writer) _ c.args.text.now c.loop-rest.rest.now _ _
+      c.loop-rest.invariant.0 c.in_ok-count.ensures.ok.2 c.split_at.ensures.back,
+  search rules,
+)
+
+pub returns-then-is_err-clause-err : goal.returns-then-is_err-clause-err
+returns-then-is_err-clause-err g c =
+    written_prefix _ (g.W.Write.contents c.loop-rest.self.writer) _ c.args.text.now c.loop-rest.rest.now
+    c.loop-rest.invariant.0 c.flush.ensures.bytes

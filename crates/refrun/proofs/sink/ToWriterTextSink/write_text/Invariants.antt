@@ -1,0 +1,10 @@
+use Rattle.std.proofs.Common.{◌≡◌, length}
+use Rattle.refrun.proofs.WriteLemmas.{HasWritten}
+use Rattle.refrun.proofs.sink.ToWriterTextSink.write_text.Given as goal
+
+abbrev pub invariant-loop-rest : goal.invariant-loop-rest
+invariant-loop-rest g l = HasWritten (g.W.Write.contents l.fn.self.writer)
+    (g.W.Write.contents l.self.writer) l.text l.rest × (l.self.has_failed ≡ l.fn.self.has_failed)
+
+abbrev pub decreases-loop-rest : goal.decreases-loop-rest
+decreases-loop-rest g l = length l.rest

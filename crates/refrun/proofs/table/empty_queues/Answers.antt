@@ -1,0 +1,8 @@
+use Rattle.std.proofs.Common.{arith}
+use Rattle.refrun.proofs.Tables.{new_queues_more}
+use Rattle.refrun.proofs.table.empty_queues.Goals as goal
+
+pub loop-queue-preserved : goal.loop-queue-preserved
+loop-queue-preserved c =
+    let more = new_queues_more 0 c.loop-queue.queue c.loop-queue.queue (omega arith) in
+    rw (c.in_ok-push.ensures.items, c.loop-queue.invariant, c.new.ensures, more)

@@ -1,0 +1,6 @@
+use Rattle.std.proofs.Common.{◌≡◌}
+use Rattle.refrun.specs.Tables.{new_queues}
+use Rattle.refrun.proofs.table.empty_queues.Given as goal
+
+abbrev pub invariant-loop-queue : goal.invariant-loop-queue
+invariant-loop-queue l = l.queues.items ≡ new_queues 0 l.queue

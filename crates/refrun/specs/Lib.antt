@@ -1,0 +1,15 @@
+pub mod ExitStatuses
+pub mod Lines
+pub mod LineViews
+pub mod Numerals
+pub mod Spelling
+pub mod StepFaults
+pub mod Scripts
+pub mod ScriptReading
+pub mod Tables
+pub mod SoundTables
+pub mod TableFields
+pub mod TableAnswers
+pub mod Streams
+pub mod Traces
+pub mod TextReading

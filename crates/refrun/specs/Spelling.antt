@@ -1,0 +1,23 @@
+-- The grammar of a line: which words spell which step.
+use Rattle.std.specs.Prelude.{◌≡◌, ℕ, ◌^◌, List, [], ◌∷◌, Some}
+use Rattle.ref_base.specs.Texts.{Word, Letters, Numbered, Long}
+use Rattle.ref_base.specs.Steps.{step_words}
+use Rattle.ref_base.specs.declared.step.Step.{Step}
+use Rattle.refrun.specs.Numerals.{number_below, number_behind}
+
+-- a word of a line spells a word of a step: the same letters, or the same number with any leading zeros
+abbrev pub IsSpelt : List ℕ → Word → Type 0
+IsSpelt word (Letters letters) = word ≡ letters
+IsSpelt word (Numbered letters n) = number_behind letters word ≡ Some n
+IsSpelt word (Long n) = number_below (2 ^ 64) word ≡ Some n
+
+-- word by word
+abbrev pub AreSpelt : List (List ℕ) → List Word → Type 0
+AreSpelt [] [] = Unit {0}
+AreSpelt [] (v ∷ vs) = ⊥
+AreSpelt (w ∷ ws) [] = ⊥
+AreSpelt (w ∷ ws) (v ∷ vs) = IsSpelt w v × AreSpelt ws vs
+
+-- the words of a line spell a step
+abbrev pub SpellsStep : List (List ℕ) → Step → Type 0
+SpellsStep words step = AreSpelt words (step_words step)

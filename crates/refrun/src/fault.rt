@@ -1,0 +1,90 @@
+//! What is wrong with a text, or with the ends that it is read from and its trace is written to.
+
+use std::alloc::{AllocError, AllocFailed};
+use thiserror::Error;
+
+/// What is wrong with a line. It prints as it stands behind the line's number.
+#[derive(Clone, Copy, Debug, PartialEq, Eq, Error)]
+pub enum LineFault {
+    /// More than 200 bytes stand before the line's end.
+    #[error("line too long")]
+    LineTooLong,
+    /// A byte is above 127.
+    #[error("not ASCII")]
+    NotAscii,
+    /// The first line that says something isn't `refscript 1`.
+    #[error("bad header")]
+    BadHeader,
+    /// The next isn't `config` and five numbers within their limits.
+    #[error("bad config")]
+    BadConfig,
+    /// No step has this actor's letter and this name.
+    #[error("unknown step")]
+    UnknownStep,
+    /// The step wants more words.
+    #[error("missing word")]
+    MissingWord,
+    /// An actor's number or an operand isn't of its form.
+    #[error("bad word")]
+    BadWord,
+    /// A word stands behind the last operand.
+    #[error("extra word")]
+    ExtraWord,
+}
+
+/// Why no whole trace was written.
+#[derive(Clone, Copy, Debug, PartialEq, Eq, Error)]
+pub enum TextFault {
+    /// The first faulty line, counted from 1, and its fault. Nothing was written.
+    #[error("line {0}: {1}")]
+    Line(u64, LineFault),
+    /// The text has more than 4,194,304 bytes. Nothing was written.
+    #[error("script too long")]
+    TooLong,
+    /// A read failed. Nothing was written.
+    #[error("cannot read")]
+    CannotRead,
+    /// A write failed. A prefix of the trace may have gone out.
+    #[error("cannot write")]
+    CannotWrite,
+    /// Memory ran out. Nothing was written.
+    #[error("no memory")]
+    NoMemory,
+}
+
+impl From<AllocError> for TextFault {
+    ghost use Rattle.std.specs.Prelude.{◌≡◌};
+    ghost use Rattle.refrun.specs.declared.fault.TextFault.TheVariants.{NoMemory};
+
+    ghost from_gives = { λ _ e. e ≡ NoMemory };
+
+    fn from(_error: AllocError) -> TextFault {
+        TextFault::NoMemory
+    }
+}
+
+impl<T: Drop> From<AllocFailed<T>> for TextFault {
+    ghost use Rattle.std.specs.Prelude.{◌≡◌};
+    ghost use Rattle.refrun.specs.declared.fault.TextFault.TheVariants.{NoMemory};
+
+    ghost from_gives = { λ _ e. e ≡ NoMemory };
+
+    fn from(_error: AllocFailed<T>) -> TextFault {
+        TextFault::NoMemory
+    }
+}
+
+impl TextFault {
+    ghost use Rattle.std.specs.Prelude.{◌≡◌};
+    ghost use Rattle.refrun.specs.ExitStatuses.{exit_status_of};
+
+    /// The exit status of a program that ends with this fault: 5 for want of memory, and else 3. Takes no memory.
+    pub fn exit_status(self) -> u8
+        ensures { result ≡ exit_status_of self }
+    {
+        match self {
+            TextFault::NoMemory => 5,
+            _ => 3,
+        }
+    }
+}

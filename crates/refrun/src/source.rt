@@ -1,0 +1,75 @@
+//! What a text is read from.
+
+ghost use Rattle.std.specs.Prelude.{◌≡◌, ◌||◌, ◌<◌, ◌≤◌, is_err, false};
+ghost use Rattle.std.specs.Io.{ReadsAtMost};
+ghost use Rattle.std.specs.Io.KnownBytes.{ReadConsumes};
+
+use std::io::{Error, ErrorKind, Read};
+
+/// Reading failed.
+#[derive(Clone, Copy, Debug, PartialEq, Eq)]
+pub struct ReadFailed;
+
+/// What a text is read from. Unlike `std::io::Read` it tells, in contracts, whether a read has failed: so that a
+/// caller can promise to report a failure only where there was one.
+pub trait TextSource {
+    ghost use Rattle.std.specs.Prelude.{ℕ, List, Option, Bool};
+
+    /// The bytes that reads will give from here on, where they are known.
+    ghost remaining: { Self → Option (List ℕ) };
+
+    /// Whether a read has failed.
+    ghost has_failed: { Self → Bool };
+
+    /// Reads into the front of the buffer, and answers how many bytes: 0 only at the end, or where there is no room.
+    fn read(&mut self, buffer: &mut [u8]) -> Result<usize, ReadFailed>
+        ensures bound { ReadsAtMost result buffer.new }
+        ensures bytes { ReadConsumes (remaining self.old) (remaining self.new) result buffer.new }
+        ensures failed { has_failed self.new ≡ (has_failed self.old || is_err result) };
+}
+
+/// Any reader as a source. A read that was interrupted is tried again, up to the 999th interruption of this source;
+/// the 1,000th is a failure, and so is every other error.
+#[derive(Drop)]
+pub struct FromReader<R> {
+    reader: R,
+    interruptions: u32,
+    has_failed: bool,
+}
+
+impl<R: Read> FromReader<R> {
+    /// A source that hasn't failed and was never interrupted. Takes no memory.
+    pub fn new(reader: R) -> Self
+        ensures bytes { ⟦<FromReader<R> as TextSource>⟧.remaining result ≡ R.remaining reader }
+        ensures fresh { ⟦<FromReader<R> as TextSource>⟧.has_failed result ≡ false }
+    {
+        FromReader {
+            reader,
+            interruptions: 0,
+            has_failed: false,
+        }
+    }
+}
+
+impl<R: Read> TextSource for FromReader<R> {
+    ghost remaining = { λ s. R.remaining s.reader };
+
+    ghost has_failed = { λ s. s.has_failed };
+
+    fn read(&mut self, buffer: &mut [u8]) -> Result<usize, ReadFailed> {
+        while self.interruptions < 1_000 {
+            match self.reader.read(buffer) {
+                Ok(count) => return Ok(count),
+                Err(error) if is_interruption(&error) => self.interruptions += 1,
+                Err(_) => break,
+            }
+        }
+        self.has_failed = true;
+        Err(ReadFailed)
+    }
+}
+
+/// Whether a read that fails so may be tried again.
+fn is_interruption(error: &Error) -> bool {
+    error.kind() == ErrorKind::Interrupted
+}

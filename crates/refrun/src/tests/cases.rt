@@ -1,0 +1,151 @@
+//! Scripts, and what each must print: the trace on standard output, or the one line on standard error. They were written
+//! by hand from the rules, before there was a program.
+
+/// A script and what it must print.
+pub struct Case {
+    pub name: &'static str,
+    pub script: &'static [u8],
+    pub trace: &'static [u8],
+    pub error: &'static str,
+}
+
+pub static CASES: [Case; 23] = [
+    Case {
+        name: "empty script",
+        script: b"refscript 1\nconfig 1 1 1 1 0\n",
+        trace: b"reftrace 1\n",
+        error: "",
+    },
+    Case {
+        name: "two enqueued in order",
+        script: b"refscript 1\nconfig 1 1 1 8 10\nm0 new s0 0\nm0 weak s1 s0 q0 0\nm0 weak s2 s0 q0 0\nm0 unhook s1\nm0 put\nm0 unhook s2\nm0 put\nm0 poll q0\nm0 release\nm0 poll q0\nm0 release\nm0 poll q0\n",
+        trace: b"reftrace 1\n1 m0 new s0 0 : object 1\n2 m0 weak s1 s0 q0 0 : object 2\n3 m0 weak s2 s0 q0 0 : object 3\n4 m0 unhook s1 : notice 2 q0 own\n5 m0 put : added 0\n6 m0 unhook s2 : notice 3 q0 own\n7 m0 put : added 1\n8 m0 poll q0 : took 2\n9 m0 release : ok\n10 m0 poll q0 : took 3\n11 m0 release : ok\n12 m0 poll q0 : empty\n",
+        error: "",
+    },
+    Case {
+        name: "closed queue",
+        script: b"refscript 1\nconfig 1 1 1 8 10\nm0 new s0 0\nm0 weak s1 s0 q0 0\nm0 weak s2 s0 q0 0\nm0 unhook s1\nm0 put\nm0 close q0\nm0 unhook s2\nm0 put\nm0 release\nm0 poll q0\nm0 release\nm0 poll q0\nm0 close q0\n",
+        trace: b"reftrace 1\n1 m0 new s0 0 : object 1\n2 m0 weak s1 s0 q0 0 : object 2\n3 m0 weak s2 s0 q0 0 : object 3\n4 m0 unhook s1 : notice 2 q0 own\n5 m0 put : added 0\n6 m0 close q0 : ok\n7 m0 unhook s2 : notice 3 q0 own\n8 m0 put : closed\n9 m0 release : ok\n10 m0 poll q0 : took 2\n11 m0 release : ok\n12 m0 poll q0 : closed\n13 m0 close q0 : closed\n",
+        error: "",
+    },
+    Case {
+        name: "order of refusals first path",
+        script: b"refscript 1\nconfig 1 1 1 8 10\nm0 put\nm0 new s0 9\nm0 new s16 0\nm1 new s0 0\nm0 weak s1 s0 q0 0\nm0 new s0 8\nm0 weak s1 s0 q1 0\nm0 weak s1 s0 q0 0\nm0 unhook s1\nm0 poll q0\n",
+        trace: b"reftrace 1\n1 m0 put : refused 24 HandEmpty\n2 m0 new s0 9 : refused 7 BadField\n3 m0 new s16 0 : refused 9 NoSuchActor\n4 m1 new s0 0 : refused 9 NoSuchActor\n5 m0 weak s1 s0 q0 0 : refused 6 EmptySlot\n6 m0 new s0 8 : object 1\n7 m0 weak s1 s0 q1 0 : refused 10 BadQueue\n8 m0 weak s1 s0 q0 0 : object 2\n9 m0 unhook s1 : notice 2 q0 own\n10 m0 poll q0 : refused 23 HandFull\n",
+        error: "",
+    },
+    Case {
+        name: "empty input",
+        script: b"",
+        trace: b"",
+        error: "refrun: line 1: bad header\n",
+    },
+    Case {
+        name: "header alone",
+        script: b"refscript 1\n",
+        trace: b"",
+        error: "refrun: line 2: bad config\n",
+    },
+    Case {
+        name: "config out of limits",
+        script: b"refscript 1\nconfig 0 1 1 1 0\n",
+        trace: b"",
+        error: "refrun: line 2: bad config\n",
+    },
+    Case {
+        name: "unknown step",
+        script: b"refscript 1\nconfig 1 1 1 8 10\nm0 fly s0\n",
+        trace: b"",
+        error: "refrun: line 3: unknown step\n",
+    },
+    Case {
+        name: "missing word",
+        script: b"refscript 1\nconfig 1 1 1 8 10\nm0 new s0\n",
+        trace: b"",
+        error: "refrun: line 3: missing word\n",
+    },
+    Case {
+        name: "line of 201 bytes",
+        script: b"refscript 1\nconfig 1 1 1 8 10\nm0 new s0 0                                                                                                                                                                                              \n",
+        trace: b"",
+        error: "refrun: line 3: line too long\n",
+    },
+    Case {
+        name: "byte above 127",
+        script: b"refscript 1\nconfig 1 1 1 8 10\nm0 new s0 0 \xff\n",
+        trace: b"",
+        error: "refrun: line 3: not ASCII\n",
+    },
+    Case {
+        name: "actor of another kind",
+        script: b"refscript 1\nconfig 1 1 1 8 10\nm0 scan\n",
+        trace: b"",
+        error: "refrun: line 3: unknown step\n",
+    },
+    Case {
+        name: "actor number too large",
+        script: b"refscript 1\nconfig 1 1 1 8 10\nm4294967296 new s0 0\n",
+        trace: b"",
+        error: "refrun: line 3: bad word\n",
+    },
+    Case {
+        name: "one word too many",
+        script: b"refscript 1\nconfig 1 1 1 8 10\nm0 new s0 0 0\n",
+        trace: b"",
+        error: "refrun: line 3: extra word\n",
+    },
+    Case {
+        name: "twenty one digits",
+        script: b"refscript 1\nconfig 1 1 1 8 10\nm0 new s0 000000000000000000000\n",
+        trace: b"",
+        error: "refrun: line 3: bad word\n",
+    },
+    Case {
+        name: "twenty digits",
+        script: b"refscript 1\nconfig 1 1 1 8 10\nm0 new s0 00000000000000000000\n",
+        trace: b"reftrace 1\n1 m0 new s0 0 : object 1\n",
+        error: "",
+    },
+    Case {
+        name: "actor outside the configuration",
+        script: b"refscript 1\nconfig 1 1 1 8 10\nm9 new s0 0\n",
+        trace: b"reftrace 1\n1 m9 new s0 0 : refused 9 NoSuchActor\n",
+        error: "",
+    },
+    Case {
+        name: "lines end with cr lf",
+        script: b"refscript 1\r\nconfig 1 1 1 8 10\r\nm0 new s0 0\r\n",
+        trace: b"reftrace 1\n1 m0 new s0 0 : object 1\n",
+        error: "",
+    },
+    Case {
+        name: "line of 200 bytes",
+        script: b"refscript 1\nconfig 1 1 1 8 10\nm0 new s0 0                                                                                                                                                                                             \n",
+        trace: b"reftrace 1\n1 m0 new s0 0 : object 1\n",
+        error: "",
+    },
+    Case {
+        name: "header of version 3",
+        script: b"refscript 3\nconfig 1 1 1 8 10\n",
+        trace: b"",
+        error: "refrun: line 1: bad header\n",
+    },
+    Case {
+        name: "version 1 cells above the limit",
+        script: b"refscript 1\nconfig 1 1 1 4097 0\n",
+        trace: b"",
+        error: "refrun: line 2: bad config\n",
+    },
+    Case {
+        name: "version 1 greatest cells",
+        script: b"refscript 1\nconfig 1 1 1 4096 0\n",
+        trace: b"reftrace 1\n",
+        error: "",
+    },
+    Case {
+        name: "every refusal",
+        script: b"refscript 1\nconfig 1 1 1 3 0\n# each step of a mutator, refused and not\nm0 unhook s0\nm0 new s0 0\nm0 unhook s0\nm0 weak s1 s0 - 9\nm0 weak s1 s0 - 0\nm0 unhook s1\nm0 weak s2 s0 q0 0\nm0 new s3 0\nm0 weak s3 s0 q0 0\nm0 unhook s2\nm0 unhook s2\nm0 poll q1\nm0 put\nm0 unhook s2\nm0 put\nm0 release\nm0 release\nm1 put\nm0 close q1\nm1 close q0\nm0 poll q0\nm0 poll q0\nm0 put\nm0 release\nm0 poll q0\nm0 close q0\nm0 poll q0\n",
+        trace: b"reftrace 1\n1 m0 unhook s0 : refused 6 EmptySlot\n2 m0 new s0 0 : object 1\n3 m0 unhook s0 : refused 8 NotAReference\n4 m0 weak s1 s0 - 9 : refused 7 BadField\n5 m0 weak s1 s0 - 0 : object 2\n6 m0 unhook s1 : none\n7 m0 weak s2 s0 q0 0 : object 3\n8 m0 new s3 0 : refused 4 NoCell\n9 m0 weak s3 s0 q0 0 : refused 4 NoCell\n10 m0 unhook s2 : notice 3 q0 own\n11 m0 unhook s2 : refused 23 HandFull\n12 m0 poll q1 : refused 10 BadQueue\n13 m0 put : added 0\n14 m0 unhook s2 : notice 3 q0 own\n15 m0 put : already\n16 m0 release : ok\n17 m0 release : refused 24 HandEmpty\n18 m1 put : refused 9 NoSuchActor\n19 m0 close q1 : refused 10 BadQueue\n20 m1 close q0 : refused 9 NoSuchActor\n21 m0 poll q0 : took 3\n22 m0 poll q0 : refused 23 HandFull\n23 m0 put : already\n24 m0 release : ok\n25 m0 poll q0 : empty\n26 m0 close q0 : ok\n27 m0 poll q0 : closed\n",
+        error: "",
+    },
+];

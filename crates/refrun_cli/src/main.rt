@@ -1,0 +1,73 @@
+//! The program `refrun`. `refrun run` reads a script on standard input and prints its trace on standard output. What it
+//! says on standard error begins with `refrun: `, but for what `clap` says of a wrong command line. Exit statuses: 0
+//! done, 2 a wrong command line, 3 a fault of the text or of reading and writing, 5 no memory.
+#![tactic(auto)]
+
+use clap::error::ErrorKind;
+use clap::{ArgMatches, Command, Error};
+use refrun::{FromReader, TextFault, ToWriter, run_script};
+use std::alloc::Global;
+use std::process::ExitCode;
+use std::{env, io};
+
+/// The status of a wrong command line.
+const WRONG_COMMAND_LINE: u8 = 2;
+
+fn main(rt: HostRuntime) -> ExitCode {
+    let words: Vec<String> = match env::args(&rt).and_then(|args| Ok(args.collect(rt.alloc())?)) {
+        Ok(words) => words,
+        Err(error) if error.kind() == io::ErrorKind::OutOfMemory => {
+            return report(&rt, TextFault::NoMemory);
+        }
+        Err(_) => {
+            let _ = rt.eprintln("refrun: the command line can't be read");
+            return ExitCode::from(WRONG_COMMAND_LINE);
+        }
+    };
+    match command_of(rt.alloc(), words.as_slice()) {
+        Ok(_) => run(&rt),
+        Err(error) => refuse(&rt, error),
+    }
+}
+
+/// What the words ask for. There is one thing to do as yet.
+fn command_of<'a>(alloc: Global, words: &'a [String]) -> Result<ArgMatches<'a>, Error> {
+    let run = Command::new(alloc, "run").about(
+        "Reads a script on standard input and prints its trace",
+    );
+    Command::new(alloc, "refrun")
+        .bin_name("refrun")?
+        .about("Runs scripts of reference processing and prints their traces")
+        .version("0.1.0")
+        .subcommand_required(true)
+        .subcommand(run)?
+        .try_get_matches_from(words)
+}
+
+/// Runs the script on standard input.
+fn run<R: Input + Print + Eprint + AllocGlobal>(rt: &R) -> ExitCode {
+    let mut reader = FromReader::new(rt.reader());
+    let mut writer = ToWriter::new(io::writer(rt));
+    match run_script(rt.alloc(), &mut reader, &mut writer) {
+        Ok(()) => ExitCode::SUCCESS,
+        Err(fault) => report(rt, fault),
+    }
+}
+
+/// Tells a fault on standard error.
+fn report(rt: &impl Eprint, fault: TextFault) -> ExitCode {
+    let _ = rt.eprintln(format_args!("refrun: {fault}"));
+    ExitCode::from(fault.exit_status())
+}
+
+/// Prints what the command line gets for an answer: help and version on standard output, faults on standard error.
+fn refuse<R: Print + Eprint>(rt: &R, error: Error) -> ExitCode {
+    if error.kind() == ErrorKind::OutOfMemory {
+        return report(rt, TextFault::NoMemory);
+    }
+    match error.print(rt) {
+        Ok(()) if error.use_stderr() => ExitCode::from(WRONG_COMMAND_LINE),
+        Ok(()) => ExitCode::SUCCESS,
+        Err(_) => report(rt, TextFault::CannotWrite),
+    }
+}
