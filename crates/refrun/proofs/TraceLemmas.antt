@@ -123,11 +123,11 @@ pub answers_prefix : (known : Option (List ℕ)) (items slice bytes printed : Li
     → AppendsPrefix old new bytes
     → IfSome known (λ text. (out : List ℕ) × PrintsTrace text out × AppendsPrefix old new out)
 answers_prefix None items slice bytes printed config steps old new read short same lines traced bytes_are gone = tt
-answers_prefix (Some text) items slice bytes printed config steps old new read short same lines traced bytes_are gone = (
+answers_prefix (Some text) items slice bytes printed config steps old new read short same lines traced are gone = (
   printed,
   prints_trace text printed config steps
       (is_script text items slice config steps read short same lines) traced,
-  rw bytes_are at gone,
+  rw are at gone,
 )
 
 -- there is no fault to tell of

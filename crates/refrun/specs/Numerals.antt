@@ -11,8 +11,8 @@ is_numeral word = nat_le 1 (length word) && nat_le (length word) 20 && list_all 
 
 -- the number below the limit that a word spells
 abbrev pub number_below : ℕ → List ℕ → Option ℕ
-number_below limit word = if is_numeral word && nat_lt (digits_value 10 word) limit then Some
-    (digits_value 10 word) else None
+number_below limit word =
+    if is_numeral word && nat_lt (digits_value 10 word) limit then Some (digits_value 10 word) else None
 
 -- the number below 2^32 that a word spells behind letters
 abbrev pub number_behind : List ℕ → List ℕ → Option ℕ

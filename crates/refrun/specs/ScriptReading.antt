@@ -24,13 +24,13 @@ in_front (Some content) lines = words_of content.now ∷ lines
 -- the fault of that line, or the first behind it
 abbrev pub fault_from : Place → Option (Bor (List ℕ)) → ℕ → List TextLine → Option TextFault
 fault_from place None k lines = fault_or k (end_fault place) None
-fault_from place (Some content) k lines = fault_or k (place_fault place (words_of content.now)) (first_fault
-    (after place) (k + 1) lines)
+fault_from place (Some content) k lines =
+    fault_or k (place_fault place (words_of content.now)) (first_fault (after place) (k + 1) lines)
 
 -- behind the line of a number stand the line that was found, if one was, and the rest
 pub record Finds (text : List ℕ) (number : ℕ) (found : Told) : Type 0 where
   pub told : told (lines_of text) ≡ in_front found.content (told (lines_of found.rest.now))
   pub plain : list_all is_plain (lines_of text) ≡ list_all is_plain (lines_of found.rest.now)
-  pub fault : (place : Place) → first_fault place (number + 1)
-      (lines_of text) ≡ fault_from place found.content found.number (lines_of found.rest.now)
+  pub fault : (place : Place) → first_fault place (number + 1) (lines_of text) ≡
+      fault_from place found.content found.number (lines_of found.rest.now)
   pub done : IfNone found.content (lines_of found.rest.now ≡ [])

@@ -49,20 +49,16 @@ is_header other = false
 
 -- the configuration that words spell
 abbrev pub config_from : Option ℕ → Option ℕ → Option ℕ → Option ℕ → Option ℕ → Option Config
-config_from (Some m) (Some w) (Some q) (Some c) (Some s) = Some (record {
-  mutators = m;
-  workers = w;
-  queues =
-      q;
-  cells = c;
-  span = s;
-})
+config_from (Some m) (Some w) (Some q) (Some c) (Some s) =
+    Some (record { mutators = m; workers = w; queues = q; cells = c; span = s })
 config_from m w q c s = None
 
 abbrev pub config_of : List (List ℕ) → Option Config
-config_of (name ∷ m ∷ w ∷ q ∷ c ∷ s ∷ []) = if bytes_eq name (codes "config") then config_from (number_below
-    (2 ^ 32) m) (number_below (2 ^ 32) w) (number_below (2 ^ 32) q) (number_below (2 ^ 32) c) (number_below
-    (2 ^ 64) s) else None
+config_of (name ∷ m ∷ w ∷ q ∷ c ∷ s ∷ []) =
+    if bytes_eq name (codes "config") then
+    config_from (number_below (2 ^ 32) m) (number_below (2 ^ 32) w) (number_below (2 ^ 32) q)
+    (number_below (2 ^ 32) c) (number_below (2 ^ 64) s)
+    else None
 config_of other = None
 
 -- each line spells its step
@@ -76,8 +72,9 @@ SpellSteps (words ∷ lines) (step ∷ steps) = SpellsStep words step × SpellSt
 abbrev pub SpellScript : List (List (List ℕ)) → Config → List Step → Type 0
 SpellScript [] config steps = ⊥
 SpellScript (header ∷ []) config steps = ⊥
-SpellScript (header ∷ words ∷ lines) config steps = (is_header header ≡ true) × (config_of words ≡ Some config) ×
-    (is_within_limits config ≡ true) × SpellSteps lines steps
+SpellScript (header ∷ words ∷ lines) config steps =
+    (is_header header ≡ true) × (config_of words ≡ Some config) × (is_within_limits config ≡ true) ×
+    SpellSteps lines steps
 
 -- the lines are those of a script of this configuration and these steps
 pub record AreScript (lines : List TextLine) (config : Config) (steps : List Step) : Type 0 where
@@ -129,8 +126,8 @@ fault_or k None later = later
 
 -- what is wrong with a line whatever it says
 abbrev pub plain_fault : TextLine → Option LineFault
-plain_fault line = if is_short line then
-    (if list_all is_ascii line.bytes then None else Some NotAscii) else Some LineTooLong
+plain_fault line =
+    if is_short line then (if list_all is_ascii line.bytes then None else Some NotAscii) else Some LineTooLong
 
 -- the fault of the first faulty line, where the first of the lines has number k
 abbrev pub first_fault : Place → ℕ → List TextLine → Option TextFault

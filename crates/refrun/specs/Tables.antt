@@ -67,8 +67,7 @@ queue_at s q = slice_index_or s.queues q (new_queue q)
 abbrev pub with_object : State → ℕ → ℕ → Object → State
 with_object s m n object = record s {
   objects = s.objects ++ object ∷ [];
-  slots = slice_set s.slots (16 * m + n)
-      (Some (length s.objects + 1));
+  slots = slice_set s.slots (16 * m + n) (Some (length s.objects + 1));
 }
 
 abbrev pub with_hand : State → ℕ → Option Notice → State
@@ -97,10 +96,10 @@ abbrev pub is_queue_or_none : State → Option ℕ → Bool
 is_queue_or_none s None = true
 is_queue_or_none s (Some q) = is_queue s q
 
--- NoSuchActor, BadField, NoCell
+-- BadField, NoCell
 abbrev pub cell_refusal : State → ℕ → Option Fault
-cell_refusal s fields = unless (nat_le fields 8) BadField (unless (nat_lt
-    (length s.objects) s.config.cells) NoCell None)
+cell_refusal s fields =
+    unless (nat_le fields 8) BadField (unless (nat_lt (length s.objects) s.config.cells) NoCell None)
 
 abbrev pub new_refusal : State → ℕ → ℕ → ℕ → Option Fault
 new_refusal s m n fields = unless (is_mutator s m && is_slot n) NoSuchActor (cell_refusal s fields)
@@ -133,8 +132,9 @@ reference_refusal s None = Some EmptySlot
 reference_refusal s (Some n) = kind_refusal (object_at s n)
 
 abbrev pub unhook_refusal : State → ℕ → ℕ → Option Fault
-unhook_refusal s m n = unless (is_mutator s m && is_slot n) NoSuchActor (unless_full (hand_at s m)
-    (reference_refusal s (slot_at s m n)))
+unhook_refusal s m n =
+    unless (is_mutator s m && is_slot n) NoSuchActor
+    (unless_full (hand_at s m) (reference_refusal s (slot_at s m n)))
 
 abbrev pub hand_refusal : State → ℕ → Option Fault
 hand_refusal s m = unless (is_mutator s m) NoSuchActor (unless_empty (hand_at s m))
@@ -143,8 +143,8 @@ abbrev pub close_refusal : State → ℕ → ℕ → Option Fault
 close_refusal s m q = unless (is_mutator s m) NoSuchActor (unless (is_queue s q) BadQueue None)
 
 abbrev pub poll_refusal : State → ℕ → ℕ → Option Fault
-poll_refusal s m q = unless (is_mutator s m) NoSuchActor (unless (is_queue s q) BadQueue (unless_full
-    (hand_at s m) None))
+poll_refusal s m q =
+    unless (is_mutator s m) NoSuchActor (unless (is_queue s q) BadQueue (unless_full (hand_at s m) None))
 
 abbrev pub refusal : State → Step → Option Fault
 refusal s (New m n fields) = new_refusal s m n fields
@@ -169,11 +169,8 @@ leads reply state = record { reply = reply; state = state }
 abbrev pub unhook_outcome : State → ℕ → ℕ → Object → Outcome
 unhook_outcome s m n Plain = leads replies.Nothing s
 unhook_outcome s m n (Reference None) = leads replies.Nothing s
-unhook_outcome s m n (Reference (Some q)) = leads (replies.Notice n q) (with_hand s m (Some (record {
-  object =
-      n;
-  queue = q;
-})))
+unhook_outcome s m n (Reference (Some q)) =
+    leads (replies.Notice n q) (with_hand s m (Some (record { object = n; queue = q })))
 
 abbrev pub unhook_slot : State → ℕ → Option ℕ → Outcome
 unhook_slot s m None = leads replies.Nothing s
@@ -184,8 +181,8 @@ abbrev pub put_outcome : State → ℕ → Notice → Lists Notice → Outcome
 put_outcome s m notice lists =
     if was_put object_of lists notice then leads replies.Already s else
     (if lists.closed then leads replies.Closed s else
-    leads (replies.Added (length (enqueued object_of lists))) (with_queue (with_hand s m None) notice.queue
-    (with_parcel lists notice)))
+    leads (replies.Added (length (enqueued object_of lists)))
+    (with_queue (with_hand s m None) notice.queue (with_parcel lists notice)))
 
 abbrev pub put_hand : State → ℕ → Option Notice → Outcome
 put_hand s m None = leads replies.Done s
@@ -194,17 +191,19 @@ put_hand s m (Some notice) = put_outcome s m notice (queue_at s notice.queue)
 -- the first that stands is taken
 abbrev pub poll_outcome : State → ℕ → ℕ → Lists Notice → List Notice → Outcome
 poll_outcome s m q lists [] = leads (if lists.closed then replies.Closed else replies.Empty) s
-poll_outcome s m q lists (notice ∷ rest) = leads (replies.Took notice.object) (with_queue (with_hand s m
-    (Some notice)) q (with_taken object_of lists notice rest))
+poll_outcome s m q lists (notice ∷ rest) =
+    leads (replies.Took notice.object)
+    (with_queue (with_hand s m (Some notice)) q (with_taken object_of lists notice rest))
 
 abbrev pub close_outcome : State → ℕ → Lists Notice → Outcome
-close_outcome s q lists = leads (if lists.closed then replies.Closed else replies.Done) (with_queue s q
-    (record lists { closed = true }))
+close_outcome s q lists =
+    leads (if lists.closed then replies.Closed else replies.Done)
+    (with_queue s q (record lists { closed = true }))
 
 abbrev pub outcome : State → Step → Outcome
 outcome s (New m n fields) = leads (replies.Object (length s.objects + 1)) (with_object s m n Plain)
-outcome s (Weak m n source queue fields) = leads (replies.Object (length s.objects + 1)) (with_object s m n
-    (Reference queue))
+outcome s (Weak m n source queue fields) =
+    leads (replies.Object (length s.objects + 1)) (with_object s m n (Reference queue))
 outcome s (Unhook m n) = unhook_slot s m (slot_at s m n)
 outcome s (Put m) = put_hand s m (hand_at s m)
 outcome s (Release m) = leads replies.Done (with_hand s m None)
@@ -219,8 +218,9 @@ MayWantMemory (replies.Added position) = Unit {0}
 MayWantMemory _ = ⊥
 
 abbrev pub IsOutcome : State → Outcome → Reply → State → Type 0
-IsOutcome s done reply b = ((reply ≡ done.reply) × (b ≡ done.state)) ⊎ (MayWantMemory done.reply ×
-    (reply ≡ replies.Refused NoMemory) × (b ≡ s))
+IsOutcome s done reply b =
+    ((reply ≡ done.reply) × (b ≡ done.state)) ⊎
+    (MayWantMemory done.reply × (reply ≡ replies.Refused NoMemory) × (b ≡ s))
 
 abbrev pub IsAnswer : State → Option Fault → Outcome → Reply → State → Type 0
 IsAnswer s (Some fault) done reply b = (reply ≡ replies.Refused fault) × (b ≡ s)

@@ -42,8 +42,9 @@ pub record AddsRow (old new : State) (k : ℕ) (step : Step) (printed more : Lis
 -- what is printed of the steps under this configuration: the text of rows with one reply each that are a run of the
 -- table
 abbrev pub TracesSteps : Config → List Step → List ℕ → Type 0
-TracesSteps config steps printed = (rows : List Row) × (last : State) × (steps_of rows ≡ steps) × IsRun
-    (first_state config) rows last × (printed ≡ trace_text rows)
+TracesSteps config steps printed =
+    (rows : List Row) × (last : State) × (steps_of rows ≡ steps) × IsRun (first_state config) rows last ×
+    (printed ≡ trace_text rows)
 
 -- what is printed is the text of a trace of the steps of the script that the text spells, with one reply each
 pub record PrintsTrace (text printed : List ℕ) : Type 0 where

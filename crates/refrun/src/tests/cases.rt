@@ -1,5 +1,5 @@
-//! Scripts, and what each must print: the trace on standard output, or the one line on standard error. They were written
-//! by hand from the rules, before there was a program.
+//! Scripts, and what each must print: the trace on standard output, or the one line on standard error. They were worked
+//! out by hand from the rules.
 
 /// A script and what it must print.
 pub struct Case {
