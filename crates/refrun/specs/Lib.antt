@@ -11,5 +11,6 @@ pub mod SoundTables
 pub mod TableFields
 pub mod TableAnswers
 pub mod Streams
+pub mod Reads
 pub mod Traces
 pub mod TextReading

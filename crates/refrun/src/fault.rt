@@ -1,5 +1,6 @@
 //! What is wrong with a text, or with the ends that it is read from and its trace is written to.
 
+use crate::source::ReadError;
 use std::alloc::{AllocError, AllocFailed};
 use thiserror::Error;
 
@@ -71,6 +72,20 @@ impl<T: Drop> From<AllocFailed<T>> for TextFault {
 
     fn from(_error: AllocFailed<T>) -> TextFault {
         TextFault::NoMemory
+    }
+}
+
+impl From<ReadError> for TextFault {
+    ghost use Rattle.std.specs.Prelude.{◌≡◌};
+    ghost use Rattle.refrun.specs.Reads.{fault_of_read};
+
+    ghost from_gives = { λ error e. e ≡ fault_of_read error };
+
+    fn from(error: ReadError) -> TextFault {
+        match error {
+            ReadError::Failed => TextFault::CannotRead,
+            ReadError::NoMemory => TextFault::NoMemory,
+        }
     }
 }
 

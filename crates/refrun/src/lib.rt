@@ -15,7 +15,7 @@ mod trace;
 
 pub use fault::{LineFault, TextFault};
 pub use sink::{TextSink, ToWriter, WriteFailed};
-pub use source::{FromReader, ReadFailed, TextSource};
+pub use source::{FromReader, ReadError, TextSource};
 pub use trace::run_script;
 
 #[cfg(test)]

@@ -35,9 +35,7 @@ fn read_more<R: TextSource>(
     ensures kinds { IfErr result IsReadingFailure }
     ensures failed { R.has_failed reader.new ≡ (R.has_failed reader.old || is_cannot_read result) }
 {
-    let count = reader
-        .read(chunk.as_mut_slice())
-        .map_err(|_| TextFault::CannotRead)?;
+    let count = reader.read(chunk.as_mut_slice())?;
     let (bytes, _) = chunk.as_slice().split_at(count);
     text.extend_from_slice(bytes)
         .map_err(|_| TextFault::NoMemory)?;

@@ -1,14 +1,20 @@
 //! What a text is read from.
 
-ghost use Rattle.std.specs.Prelude.{◌≡◌, ◌||◌, ◌<◌, ◌≤◌, is_err, false};
+ghost use Rattle.std.specs.Prelude.{◌≡◌, ◌||◌, ◌<◌, ◌≤◌, false};
 ghost use Rattle.std.specs.Io.{ReadsAtMost};
 ghost use Rattle.std.specs.Io.KnownBytes.{ReadConsumes};
+ghost use Rattle.refrun.specs.Reads.{is_failed_read};
 
-use std::io::{Error, ErrorKind, Read};
+use std::io::{ErrorKind, Read};
 
-/// Reading failed.
+/// Why a read gave nothing.
 #[derive(Clone, Copy, Debug, PartialEq, Eq)]
-pub struct ReadFailed;
+pub enum ReadError {
+    /// The read failed.
+    Failed,
+    /// The reader found no memory.
+    NoMemory,
+}
 
 /// What a text is read from. Unlike `std::io::Read` it tells, in contracts, whether a read has failed: so that a
 /// caller can promise to report a failure only where there was one.
@@ -22,14 +28,14 @@ pub trait TextSource {
     ghost has_failed: { Self → Bool };
 
     /// Reads into the front of the buffer, and answers how many bytes: 0 only at the end, or where there is no room.
-    fn read(&mut self, buffer: &mut [u8]) -> Result<usize, ReadFailed>
+    fn read(&mut self, buffer: &mut [u8]) -> Result<usize, ReadError>
         ensures bound { ReadsAtMost result buffer.new }
         ensures bytes { ReadConsumes (remaining self.old) (remaining self.new) result buffer.new }
-        ensures failed { has_failed self.new ≡ (has_failed self.old || is_err result) };
+        ensures failed { has_failed self.new ≡ (has_failed self.old || is_failed_read result) };
 }
 
 /// Any reader as a source. A read that was interrupted is tried again, up to the 999th interruption of this source;
-/// the 1,000th is a failure, and so is every other error.
+/// the 1,000th is a failure, and so is every other error but `OutOfMemory`.
 #[derive(Drop)]
 pub struct FromReader<R> {
     reader: R,
@@ -56,20 +62,18 @@ impl<R: Read> TextSource for FromReader<R> {
 
     ghost has_failed = { λ s. s.has_failed };
 
-    fn read(&mut self, buffer: &mut [u8]) -> Result<usize, ReadFailed> {
+    fn read(&mut self, buffer: &mut [u8]) -> Result<usize, ReadError> {
         while self.interruptions < 1_000 {
             match self.reader.read(buffer) {
                 Ok(count) => return Ok(count),
-                Err(error) if is_interruption(&error) => self.interruptions += 1,
-                Err(_) => break,
+                Err(error) => match error.kind() {
+                    ErrorKind::Interrupted => self.interruptions += 1,
+                    ErrorKind::OutOfMemory => return Err(ReadError::NoMemory),
+                    _ => break,
+                },
             }
         }
         self.has_failed = true;
-        Err(ReadFailed)
+        Err(ReadError::Failed)
     }
-}
-
-/// Whether a read that fails so may be tried again.
-fn is_interruption(error: &Error) -> bool {
-    error.kind() == ErrorKind::Interrupted
 }

@@ -5,12 +5,28 @@ use crate::{FromReader, TextFault, ToWriter, run_script};
 use cases::CASES;
 use fakes::{Failure, Interrupted, ReadsThenFails, WritesThenFails};
 use std::alloc::{AllocError, Global};
+use std::io::ErrorKind;
 use std::test::Fail;
 
 /// What a script's run answers, and what it prints.
 fn printed(alloc: Global, script: &[u8]) -> (Result<(), TextFault>, Vec<u8>) {
     let mut trace = Vec::new(alloc);
     let mut reader = FromReader::new(script);
+    let answer = run_script(alloc, &mut reader, &mut ToWriter::new(&mut trace));
+    (answer, trace)
+}
+
+/// The same, where the reader fails so at the script's end.
+fn printed_until(
+    alloc: Global,
+    script: &[u8],
+    failure: ErrorKind,
+) -> (Result<(), TextFault>, Vec<u8>) {
+    let mut trace = Vec::new(alloc);
+    let mut reader = FromReader::new(ReadsThenFails {
+        bytes: script,
+        failure,
+    });
     let answer = run_script(alloc, &mut reader, &mut ToWriter::new(&mut trace));
     (answer, trace)
 }
@@ -42,9 +58,7 @@ fn each_script_prints_its_trace_or_its_fault(rt: HostRuntime) -> Result<(), Fail
 fn a_reader_that_fails_is_told_of(rt: HostRuntime) -> Result<(), Fail> {
     let alloc = rt.alloc();
     for case in &CASES {
-        let mut reader = FromReader::new(ReadsThenFails { bytes: case.script });
-        let mut trace = Vec::new(alloc);
-        let answer = run_script(alloc, &mut reader, &mut ToWriter::new(&mut trace));
+        let (answer, trace) = printed_until(alloc, case.script, ErrorKind::BrokenPipe);
         assert_eq!(rt; answer, Err(TextFault::CannotRead));
         assert!(rt; trace.is_empty());
     }
@@ -128,9 +142,15 @@ fn a_text_may_have_4194304_bytes(rt: HostRuntime) -> Result<(), Fail> {
 }
 
 #[test]
-fn want_of_memory_has_a_status_of_its_own(rt: HostRuntime) -> Result<(), Fail> {
+fn a_reader_that_finds_no_memory_has_a_status_of_its_own(rt: HostRuntime) -> Result<(), Fail> {
+    let alloc = rt.alloc();
+    for case in &CASES {
+        let (answer, trace) = printed_until(alloc, case.script, ErrorKind::OutOfMemory);
+        assert_eq!(rt; answer, Err(TextFault::NoMemory));
+        assert!(rt; trace.is_empty());
+    }
     assert_eq!(rt;
-        message(rt.alloc(), TextFault::NoMemory)?.as_str(),
+        message(alloc, TextFault::NoMemory)?.as_str(),
         "refrun: no memory\n"
     );
     assert_eq!(rt; TextFault::NoMemory.exit_status(), 5);

@@ -2,16 +2,17 @@
 
 use std::io::{Error, ErrorKind, Read, Result, Write};
 
-/// Gives its bytes in pieces of at most seven, and fails where they end.
+/// Gives its bytes in pieces of at most seven, and fails so where they end.
 #[derive(Drop)]
 pub struct ReadsThenFails<'a> {
     pub bytes: &'a [u8],
+    pub failure: ErrorKind,
 }
 
 impl Read for ReadsThenFails<'_> {
     fn read(&mut self, buffer: &mut [u8]) -> Result<usize> {
         if self.bytes.is_empty() {
-            return Err(Error::from(ErrorKind::BrokenPipe));
+            return Err(Error::from(self.failure));
         }
         let count = self.bytes.len().min(buffer.len()).min(7);
         let (front, rest) = self.bytes.split_at(count);
