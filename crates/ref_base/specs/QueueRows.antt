@@ -4,7 +4,7 @@ use Rattle.std.specs.Prelude.{◌≡◌, ℕ, Bool, true, false, ◌||◌, if◌
 use Rattle.std.specs.Prelude.{List, [], ◌∷◌, ◌++◌, Option, Some, None}
 use Rattle.std.specs.List.{IsDistinct}
 use Rattle.ref_base.specs.declared.step.Step.{Step}
-use Rattle.ref_base.specs.declared.step.Step.TheVariants.{New, Weak, Unhook, Put, Release, Poll, Close}
+use Rattle.ref_base.specs.declared.step.Step.TheVariants.{Unhook, Put, Release, Poll, Close}
 use Rattle.ref_base.specs.declared.reply.Reply.{Reply}
 use Rattle.ref_base.specs.declared.reply.Reply.TheVariants as replies
 use Rattle.ref_base.specs.declared.row.Row.{Row}

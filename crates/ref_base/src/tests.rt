@@ -1,6 +1,8 @@
 //! The texts, the faults and the limits, against values that were worked out by hand.
 
 use crate::{Config, Fault, MutNo, ObjNo, QueueNo, Reply, Row, SlotNo, Step, WorkerNo};
+use std::alloc::Global;
+use std::process::Abort;
 use std::test::Fail;
 
 #[test]
@@ -119,6 +121,16 @@ fn a_row_prints_its_step_a_colon_and_its_reply(rt: HostRuntime) -> Result<(), Fa
     Ok(())
 }
 
+/// Each fault has this number and this name, and prints as the name.
+fn agree(rt: &impl Abort, alloc: Global, table: &[(Fault, u32, &str)]) -> Result<(), Fail> {
+    for &(fault, number, name) in table {
+        assert_eq!(rt; fault.number(), number, "the number of {name}");
+        assert_eq!(rt; fault.name(), name);
+        assert_eq!(rt; format!(in alloc; "{fault}")?.as_str(), name);
+    }
+    Ok(())
+}
+
 #[test]
 fn each_fault_has_its_number_and_prints_as_its_name(rt: HostRuntime) -> Result<(), Fail> {
     let table = [
@@ -148,12 +160,7 @@ fn each_fault_has_its_number_and_prints_as_its_name(rt: HostRuntime) -> Result<(
         (Fault::HandEmpty, 24, "HandEmpty"),
         (Fault::TurnsSpent, 25, "TurnsSpent"),
     ];
-    for (fault, number, name) in table {
-        assert_eq!(rt; fault.number(), number, "the number of {name}");
-        assert_eq!(rt; fault.name(), name);
-        assert_eq!(rt; format!(in rt.alloc(); "{fault}")?.as_str(), name);
-    }
-    Ok(())
+    agree(&rt, rt.alloc(), &table)
 }
 
 #[test]
