@@ -4,8 +4,9 @@ ghost use Rattle.std.specs.Prelude.{◌≡◌, [], map, not, nat_eq, true, false
 
 use indexmap::IndexSet;
 use ref_base::{Fault, ObjNo, Parcel, QueueNo};
-use std::alloc::Global;
+use std::alloc::{Allocator, Global};
 use std::collections::VecDeque;
+use std::hash::{BuildHasherDefault, FoldHasher};
 use std::marker::Model;
 
 /// What a put answers where it is not refused.
@@ -30,17 +31,18 @@ pub enum Polled<T> {
     Closed,
 }
 
-/// A reference queue: the parcels that stand in it, and the number of each one that was ever put in.
+/// A reference queue: the parcels that stand in it, and the number of each one that was ever put in. All its memory is
+/// of the allocator that it was made with.
 #[derive(Drop)]
-pub struct Queue<T: Parcel> {
+pub struct Queue<T: Parcel, A: Allocator = Global> {
     queue: QueueNo,
     // The number of everything that was ever put in, in order. The last ones are of what stands.
-    enqueued: IndexSet<ObjNo>,
-    standing: VecDeque<T>,
+    enqueued: IndexSet<ObjNo, BuildHasherDefault<FoldHasher>, A>,
+    standing: VecDeque<T, A>,
     is_closed: bool,
 }
 
-impl<T: Parcel> Model for Queue<T> {
+impl<T: Parcel, A: Allocator> Model for Queue<T, A> {
     ghost use Rattle.ref_queue.specs.QueueLists.{Lists, lists_code, seen, IsSound};
 
     ghost Value = { Lists T };
@@ -52,13 +54,13 @@ impl<T: Parcel> Model for Queue<T> {
     ghost invariant = { λ s. IsSound T.object_of T.queue_of s.queue s.enqueued.keys s.standing.items };
 }
 
-impl<T: Parcel> Queue<T> {
+impl<T: Parcel, A: Allocator + Copy> Queue<T, A> {
     ghost use Rattle.std.specs.List.{IsDistinct};
     ghost use Rattle.ref_queue.specs.QueueLists.{enqueued};
     ghost use Rattle.ref_queue.specs.QueueAnswers.{AnswersPut, after_put, IfTook, Polls};
 
     /// The queue of this number, open, with nothing ever put in. Takes no memory.
-    pub fn new(alloc: Global, queue: QueueNo) -> Self
+    pub fn new(alloc: A, queue: QueueNo) -> Self
         ensures { result ≡ record { queue = queue; taken = []; stands = []; closed = false } }
     {
         Queue {
@@ -131,7 +133,7 @@ impl<T: Parcel> Queue<T> {
     }
 
     /// The numbers of all that were ever put in, in order. The one error is `NoMemory`. In time of their count.
-    pub fn enqueued(&self, alloc: Global) -> Result<Vec<ObjNo>, Fault>
+    pub fn enqueued<B: Allocator>(&self, alloc: B) -> Result<Vec<ObjNo, B>, Fault>
         ensures numbers { IfOk result (λ v. v.items ≡ enqueued T.object_of self.now) }
         ensures distinct { IsDistinct nat_eq (enqueued T.object_of self.now) }
         ensures err { OnErr result (result ≡ Err Fault.NoMemory) }
@@ -140,7 +142,7 @@ impl<T: Parcel> Queue<T> {
     }
 
     /// The numbers of all that were taken, in order. The one error is `NoMemory`. In time of their count.
-    pub fn taken(&self, alloc: Global) -> Result<Vec<ObjNo>, Fault>
+    pub fn taken<B: Allocator>(&self, alloc: B) -> Result<Vec<ObjNo, B>, Fault>
         ensures numbers { IfOk result (λ v. v.items ≡ self.now.taken) }
         ensures err { OnErr result (result ≡ Err Fault.NoMemory) }
     {
@@ -149,7 +151,7 @@ impl<T: Parcel> Queue<T> {
     }
 
     /// The numbers of all that stand, in order. The one error is `NoMemory`. In time of their count.
-    pub fn stands(&self, alloc: Global) -> Result<Vec<ObjNo>, Fault>
+    pub fn stands<B: Allocator>(&self, alloc: B) -> Result<Vec<ObjNo, B>, Fault>
         ensures numbers { IfOk result (λ v. v.items ≡ map T.object_of self.now.stands) }
         ensures err { OnErr result (result ≡ Err Fault.NoMemory) }
     {
@@ -158,7 +160,7 @@ impl<T: Parcel> Queue<T> {
     }
 
     /// Ends the queue, and gives what stands, in order. In time of how many were ever put in. Takes no memory.
-    pub fn end(self) -> VecDeque<T>
+    pub fn end(self) -> VecDeque<T, A>
         ensures { result.items ≡ self.stands }
     {
         let Queue { standing, .. } = self;
@@ -167,7 +169,7 @@ impl<T: Parcel> Queue<T> {
 }
 
 // The same numbers in a vector of their own.
-fn copied(alloc: Global, numbers: &[ObjNo]) -> Result<Vec<ObjNo>, Fault>
+fn copied<A: Allocator>(alloc: A, numbers: &[ObjNo]) -> Result<Vec<ObjNo, A>, Fault>
     ensures numbers { IfOk result (λ v. v.items ≡ numbers.now) }
     ensures err { OnErr result (result ≡ Err Fault.NoMemory) }
 {

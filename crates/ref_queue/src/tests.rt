@@ -1,6 +1,8 @@
 use crate::{Polled, Put, Queue};
+use bumpalo::Bump;
 use ref_base::{Fault, ObjNo, Parcel, QueueNo};
-use std::alloc::Global;
+use std::alloc::{AllocError, Global};
+use std::process::Abort;
 use std::test::Fail;
 
 /// The least that a queue takes: the two numbers themselves.
@@ -116,26 +118,80 @@ fn what_was_taken_and_what_stands_is_all_that_was_put_in(rt: HostRuntime) -> Res
     Ok(())
 }
 
-/// Meets a refusal where a run makes one allocation fail. No put here is refused otherwise.
-#[test]
-fn a_put_with_no_memory_changes_nothing(rt: HostRuntime) -> Result<(), Fail> {
-    let mut queue = Queue::new(rt.alloc(), QueueNo(0));
-    for object in 0..20 {
+/// An arena of so many bytes, rounded up, that takes no more.
+fn limited(alloc: Global, size: usize) -> Result<Bump, AllocError> {
+    let memory = Bump::try_with_capacity(alloc, size)?;
+    memory.set_allocation_limit(Some(memory.allocated_bytes()));
+    Ok(memory)
+}
+
+/// Puts slips in, numbered from 0, until there is no memory for one more. Answers how many were added.
+fn fill(rt: &impl Abort, queue: &mut Queue<Slip, &Bump>) -> u32 {
+    for object in 0..1_000 {
         match queue.put(of(object)) {
             Ok(put) => assert!(rt; matches!(&put, Put::Added(at) if *at == object as u64)),
             Err((fault, back)) => {
                 assert_eq!(rt; fault, Fault::NoMemory);
                 assert_eq!(rt; back, of(object));
-                // One refusal is all that such a run makes.
-                assert!(rt; matches!(&queue.put(back)?, Put::Added(at) if *at == object as u64));
+                return object;
             }
         }
     }
-    for object in 0..20 {
-        match queue.poll() {
-            Polled::Took(first) => assert_eq!(rt; first, of(object)),
-            other => assert!(rt; false, "{other:?}"),
+    assert!(rt; false, "a thousand were added");
+    1_000
+}
+
+#[test]
+fn a_put_without_memory_changes_nothing(rt: HostRuntime) -> Result<(), Fail> {
+    for size in [0, 64, 256, 1_024, 4_096] {
+        let mut memory = limited(rt.alloc(), size)?;
+        let mut queue = Queue::new(&memory, QueueNo(0));
+        let count = fill(&rt, &mut queue);
+        assert_eq!(rt; queue.enqueued(rt.alloc())?.len(), count as usize);
+        assert_eq!(rt; queue.stands(rt.alloc())?.len(), count as usize);
+        for object in 0..count {
+            match queue.poll() {
+                Polled::Took(first) => assert_eq!(rt; first, of(object)),
+                other => assert!(rt; false, "{other:?}"),
+            }
         }
+        assert!(rt; matches!(&queue.poll(), Polled::Empty));
+        drop(queue);
+        assert!(rt; memory.reset().is_ok(), "all memory was given back");
     }
+    Ok(())
+}
+
+#[test]
+fn want_of_memory_is_told_last(rt: HostRuntime) -> Result<(), Fail> {
+    let memory = limited(rt.alloc(), 1_024)?;
+    let mut queue = Queue::new(&memory, QueueNo(0));
+    let count = fill(&rt, &mut queue);
+    let next = of(count);
+    let stray = Slip {
+        object: count,
+        queue: 1,
+    };
+    assert!(rt; matches!(&queue.put(next), Err((Fault::NoMemory, _))));
+    assert!(rt; matches!(&queue.put(stray), Err((Fault::WrongQueue, _))));
+    assert!(rt; matches!(&queue.put(of(0)), Ok(Put::Already(_))));
+    queue.close();
+    assert!(rt; matches!(&queue.put(next), Ok(Put::Closed(_))));
+    Ok(())
+}
+
+#[test]
+fn lists_without_memory_are_refused(rt: HostRuntime) -> Result<(), Fail> {
+    let mut queue = Queue::new(rt.alloc(), QueueNo(0));
+    for object in 0..1_000 {
+        queue.put(of(object))?;
+    }
+    for _object in 0..500 {
+        queue.poll();
+    }
+    let tiny = limited(rt.alloc(), 64)?;
+    assert_eq!(rt; queue.enqueued(&tiny).err(), Some(Fault::NoMemory));
+    assert_eq!(rt; queue.taken(&tiny).err(), Some(Fault::NoMemory));
+    assert_eq!(rt; queue.stands(&tiny).err(), Some(Fault::NoMemory));
     Ok(())
 }

@@ -1,11 +1,11 @@
 -- The definitions at work on what one can read off by hand.
-use Rattle.std.proofs.Common.{◌≡◌, ◌^◌, ℕ, true, false, List, [], ◌∷◌, Option, Some, None, codes, inl, inr, refl}
+use Rattle.std.proofs.Common.{◌≡◌, ◌^◌, true, false, List, [], ◌∷◌, Some, None, codes, inl, inr, refl}
 use Rattle.ref_base.specs.QueueRows.{put_into, taken_from, was_closed}
 use Rattle.ref_base.specs.declared.config.Config.{Config}
 use Rattle.ref_base.specs.declared.fault.Fault.TheVariants.{HandEmpty, NoMemory}
 use Rattle.ref_base.specs.declared.reply.Reply.TheVariants as replies
 use Rattle.ref_base.specs.declared.row.Row.{Row}
-use Rattle.ref_base.specs.declared.step.Step.TheVariants.{New, Weak, Unhook, Put, Release, Poll, Close}
+use Rattle.ref_base.specs.declared.step.Step.TheVariants.{New, Weak, Unhook, Put, Poll, Close}
 use Rattle.refrun.specs.Lines.{lines_of, content_of, words_of}
 use Rattle.refrun.specs.Numerals.{number_below, number_behind}
 use Rattle.refrun.specs.Scripts.{text_fault}

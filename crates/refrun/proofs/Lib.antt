@@ -5,7 +5,10 @@ pub mod Spelt
 pub mod ScriptLines
 pub mod OneReading
 pub mod FaultLaws
+pub mod Pushes
 pub mod Tables
+pub mod TableSoundness
+pub mod TableAnswers
 pub mod QueueLaws
 pub mod RunLemmas
 pub mod TraceLemmas

@@ -2,7 +2,7 @@
 use Rattle.refrun.specs.declared.table.Table.TheInside.{Inside}
 use Rattle.refrun.specs.Tables.{State}
 
-abbrev pub state_of : Inside → State
+abbrev pub state_of : {A : Type 0} → Inside A → State
 state_of a = record {
   config = a.config;
   objects = a.objects.items;

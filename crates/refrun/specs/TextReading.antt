@@ -1,13 +1,12 @@
 -- What the reading of a text answers.
-use Rattle.std.specs.Prelude.{◌≡◌, ℕ, List, ◌++◌, length, Option, Some, Result, Ok, Err}
-use Rattle.std.specs.Global.{Vec}
+use Rattle.std.specs.Prelude.{◌≡◌, ℕ, List, ◌++◌, length, Option, Some, Result, Ok, Err, Vec}
 use Rattle.std.specs.Io.KnownBytes.{Consumes, IsAtEnd}
 use Rattle.refrun.specs.Scripts.{text_fault}
 use Rattle.refrun.specs.declared.fault.TextFault.{TextFault}
 use Rattle.refrun.specs.declared.fault.TextFault.TheVariants.{Line, TooLong, CannotRead, CannotWrite, NoMemory}
 
 -- what reading answers of the text that was there to read
-abbrev pub ReadsText : List ℕ → Result (Vec ℕ) TextFault → Type 0
+abbrev pub ReadsText : {A : Type 0} → List ℕ → Result (Vec ℕ A) TextFault → Type 0
 ReadsText text (Ok bytes) = bytes.items ≡ text
 ReadsText text (Err (Line k fault)) = ⊥
 ReadsText text (Err TooLong) = text_fault text ≡ Some TooLong

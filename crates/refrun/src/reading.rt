@@ -6,7 +6,7 @@ ghost use Rattle.refrun.specs.TextReading.{ReadsText, ReadsMore, IsReadingFault,
 
 use crate::fault::TextFault;
 use crate::source::TextSource;
-use std::alloc::Global;
+use std::alloc::Allocator;
 
 /// The greatest length of a text, in bytes.
 const MAX_TEXT: usize = 4_194_304;
@@ -15,18 +15,18 @@ const MAX_TEXT: usize = 4_194_304;
 const CHUNK: usize = 65_536;
 
 /// Where each read puts its bytes.
-fn new_chunk(alloc: Global) -> Result<Vec<u8>, TextFault>
+fn new_chunk<A: Allocator>(alloc: A) -> Result<Vec<u8, A>, TextFault>
     ensures ok { IfOk result (λ v. 0 < vec_len v) }
     ensures err { IfErr result (λ e. e ≡ TextFault.NoMemory) }
 {
-    vec![in alloc; 0u8; CHUNK].map_err(|_| TextFault::NoMemory)
+    Ok(vec![in alloc; 0u8; CHUNK]?)
 }
 
 /// One read, whose bytes go to the end of the text. Answers how many they are: 0 only at the end.
-fn read_more<R: TextSource>(
+fn read_more<R: TextSource, A: Allocator>(
     reader: &mut R,
-    chunk: &mut Vec<u8>,
-    text: &mut Vec<u8>,
+    chunk: &mut Vec<u8, A>,
+    text: &mut Vec<u8, A>,
 ) -> Result<usize, TextFault>
     requires { 0 < vec_len chunk.old }
     ensures bytes { IfOk result (λ n. ReadsMore (R.remaining reader.old)
@@ -37,13 +37,15 @@ fn read_more<R: TextSource>(
 {
     let count = reader.read(chunk.as_mut_slice())?;
     let (bytes, _) = chunk.as_slice().split_at(count);
-    text.extend_from_slice(bytes)
-        .map_err(|_| TextFault::NoMemory)?;
+    text.extend_from_slice(bytes)?;
     Ok(count)
 }
 
 /// All of a text that isn't too long. Where it is, reading stops soon behind the first byte too many.
-pub fn text_of<R: TextSource>(alloc: Global, reader: &mut R) -> Result<Vec<u8>, TextFault>
+pub fn text_of<R: TextSource, A: Allocator + Copy>(
+    alloc: A,
+    reader: &mut R,
+) -> Result<Vec<u8, A>, TextFault>
     ensures text { IfSome (R.remaining reader.old) (λ text. ReadsText text result) }
     ensures short { IfOk result (λ v. length v.items ≤ 4194304) }
     ensures kinds { IfErr result IsReadingFault }

@@ -18,13 +18,13 @@ use crate::lines::{Line, next_line, next_word};
 use crate::numerals::{long_number, short_number};
 use crate::steps::step_of;
 use ref_base::{Config, QueueNo, Step};
-use std::alloc::Global;
+use std::alloc::Allocator;
 
 /// What a script says.
-#[derive(Debug, Drop)]
-pub struct Script {
+#[derive(Drop)]
+pub struct Script<A: Allocator> {
     pub config: Config,
-    pub steps: Vec<Step>,
+    pub steps: Vec<Step, A>,
 }
 
 /// A line that says something, where one is left, its number, and the text behind it.
@@ -36,7 +36,7 @@ struct Told<'a> {
 }
 
 /// The script that a text spells, or the fault of its first faulty line.
-pub fn script_of(alloc: Global, text: &[u8]) -> Result<Script, TextFault>
+pub fn script_of<A: Allocator>(alloc: A, text: &[u8]) -> Result<Script<A>, TextFault>
     requires { length text.now ≤ 4194304 }
     ensures found { IfOk result (λ script. AreScript (lines_of text.now) script.config script.steps.items) }
     ensures fault { IfErr result (λ e. FailsFor e (first_fault Header 1 (lines_of text.now))) }
@@ -63,7 +63,7 @@ pub fn script_of(alloc: Global, text: &[u8]) -> Result<Script, TextFault>
 }
 
 /// The steps of the lines behind the line of this number.
-fn steps_of(alloc: Global, text: &[u8], number: u64) -> Result<Vec<Step>, TextFault>
+fn steps_of<A: Allocator>(alloc: A, text: &[u8], number: u64) -> Result<Vec<Step, A>, TextFault>
     requires { number + length text.now ≤ 4194305 }
     ensures spelt { IfOk result (λ steps. SpellSteps (told (lines_of text.now)) steps.items) }
     ensures plain { IfOk result (λ steps. list_all is_plain (lines_of text.now) ≡ true) }
@@ -79,7 +79,11 @@ fn steps_of(alloc: Global, text: &[u8], number: u64) -> Result<Vec<Step>, TextFa
 }
 
 /// Adds the step of the line of this number.
-fn add_step(steps: &mut Vec<Step>, content: &[u8], number: u64) -> Result<(), TextFault>
+fn add_step<A: Allocator>(
+    steps: &mut Vec<Step, A>,
+    content: &[u8],
+    number: u64,
+) -> Result<(), TextFault>
     ensures ok { OnOk result ((step : Step) × SpellsStep (words_of content.now) step ×
         (steps.new.items ≡ steps.old.items ++ step ∷ [])) }
     ensures fault { IfErr result (λ e. FailsFor e (fault_or number (step_fault (words_of content.now)) None)) }
@@ -87,7 +91,8 @@ fn add_step(steps: &mut Vec<Step>, content: &[u8], number: u64) -> Result<(), Te
     // A function that carries a step on has to name the types inside it, or its proof isn't made.
     let _queue: Option<QueueNo> = None;
     let step = step_of(content).map_err(|fault| TextFault::Line(number, fault))?;
-    steps.push(step).map_err(|_| TextFault::NoMemory)
+    steps.push(step)?;
+    Ok(())
 }
 
 /// The first line behind the line of this number that says something. Each line up to it is short enough and ASCII.

@@ -12,7 +12,7 @@ ghost use Rattle.refrun.specs.SoundTables.{IsHeld, IsRegistered, IsHanded};
 
 use ref_base::{Config, Fault, MutNo, ObjNo, Parcel, QueueNo, Reply, SlotNo, Step};
 use ref_queue::{Polled, Put, Queue};
-use std::alloc::{AllocError, Global};
+use std::alloc::{AllocError, Allocator};
 use std::marker::Model;
 
 /// How many slots a mutator has.
@@ -51,17 +51,17 @@ impl Parcel for Notice {
 
 /// The table that steps are run on. It takes its memory at once, but for what is put into queues.
 #[derive(Drop)]
-pub struct Table {
+pub struct Table<A: Allocator> {
     config: Config,
     // The object of number n stands at n - 1. There is room for all that may come, so no push fails.
-    objects: Vec<Object>,
+    objects: Vec<Object, A>,
     // The slots of mutator m stand from 16 * m on.
-    slots: Vec<Option<ObjNo>>,
-    hands: Vec<Option<Notice>>,
-    queues: Vec<Queue<Notice>>,
+    slots: Vec<Option<ObjNo>, A>,
+    hands: Vec<Option<Notice>, A>,
+    queues: Vec<Queue<Notice, A>, A>,
 }
 
-impl Model for Table {
+impl<A: Allocator> Model for Table<A> {
     ghost use Rattle.std.specs.Prelude.{vec_capacity};
     ghost use Rattle.refrun.specs.Tables.{State};
 
@@ -75,10 +75,10 @@ impl Model for Table {
     ghost invariant = { λ a. IsSound (state_of a) (vec_capacity a.objects) };
 }
 
-impl Table {
+impl<A: Allocator + Copy> Table<A> {
     /// The table of this size: no object, and empty slots, hands and queues. Takes all memory but that of what is put
     /// into queues.
-    pub fn new(alloc: Global, config: Config) -> Result<Table, AllocError>
+    pub fn new(alloc: A, config: Config) -> Result<Self, AllocError>
         requires { is_within_limits config ≡ true }
         ensures { IfOk result (λ table. table ≡ first_state config) }
     {
@@ -369,14 +369,17 @@ fn place_of(mutator: MutNo, slot: SlotNo) -> usize
 }
 
 /// So many empty slots.
-fn empty_slots(alloc: Global, count: usize) -> Result<Vec<Option<ObjNo>>, AllocError>
+fn empty_slots<A: Allocator>(alloc: A, count: usize) -> Result<Vec<Option<ObjNo>, A>, AllocError>
     ensures { IfOk result (λ slots. slots.items ≡ replicate count None) }
 {
     Vec::from_elem(alloc, None, count)
 }
 
 /// So many empty hands.
-fn empty_hands(alloc: Global, mutators: usize) -> Result<Vec<Option<Notice>>, AllocError>
+fn empty_hands<A: Allocator>(
+    alloc: A,
+    mutators: usize,
+) -> Result<Vec<Option<Notice>, A>, AllocError>
     ensures { IfOk result (λ hands. hands.items ≡ replicate mutators None) }
 {
     let mut hands = Vec::with_capacity(alloc, mutators)?;
@@ -387,7 +390,10 @@ fn empty_hands(alloc: Global, mutators: usize) -> Result<Vec<Option<Notice>>, Al
 }
 
 /// So many queues, into which nothing was ever put.
-fn empty_queues(alloc: Global, count: u32) -> Result<Vec<Queue<Notice>>, AllocError>
+fn empty_queues<A: Allocator + Copy>(
+    alloc: A,
+    count: u32,
+) -> Result<Vec<Queue<Notice, A>, A>, AllocError>
     ensures { IfOk result (λ queues. queues.items ≡ new_queues 0 count) }
 {
     let mut queues = Vec::with_capacity(alloc, count as usize)?;
@@ -398,8 +404,8 @@ fn empty_queues(alloc: Global, count: u32) -> Result<Vec<Queue<Notice>>, AllocEr
 }
 
 /// Puts a notice out of a hand into its queue. It goes back into the hand where the queue doesn't take it.
-fn put_into(
-    queue: &mut Queue<Notice>,
+fn put_into<A: Allocator + Copy>(
+    queue: &mut Queue<Notice, A>,
     notice: Notice,
     hand: &mut Option<Notice>,
 ) -> Result<Reply, Fault>
@@ -429,7 +435,7 @@ fn put_into(
 }
 
 /// Takes the first notice that stands in a queue into an empty hand.
-fn poll_into(queue: &mut Queue<Notice>, hand: &mut Option<Notice>) -> Reply
+fn poll_into<A: Allocator + Copy>(queue: &mut Queue<Notice, A>, hand: &mut Option<Notice>) -> Reply
     requires { hand.old ≡ None }
     ensures own { (queues : ℕ) → queue.old.queue < queues → IsHanded queues hand.new }
     ensures queue { queue.new.queue ≡ queue.old.queue }

@@ -1,18 +1,23 @@
 mod cases;
 mod fakes;
+mod memory;
 
 use crate::{FromReader, TextFault, ToWriter, run_script};
 use cases::CASES;
 use fakes::{Failure, Interrupted, ReadsThenFails, WritesThenFails};
-use std::alloc::{AllocError, Global};
+use std::alloc::{AllocError, Allocator, Global};
 use std::io::ErrorKind;
 use std::test::Fail;
 
-/// What a script's run answers, and what it prints.
-fn printed(alloc: Global, script: &[u8]) -> (Result<(), TextFault>, Vec<u8>) {
+/// What a script's run answers, with memory of this allocator, and what it prints.
+fn printed<A: Allocator + Copy>(
+    memory: A,
+    alloc: Global,
+    script: &[u8],
+) -> (Result<(), TextFault>, Vec<u8>) {
     let mut trace = Vec::new(alloc);
     let mut reader = FromReader::new(script);
-    let answer = run_script(alloc, &mut reader, &mut ToWriter::new(&mut trace));
+    let answer = run_script(memory, &mut reader, &mut ToWriter::new(&mut trace));
     (answer, trace)
 }
 
@@ -40,7 +45,7 @@ fn message(alloc: Global, fault: TextFault) -> Result<String, AllocError> {
 fn each_script_prints_its_trace_or_its_fault(rt: HostRuntime) -> Result<(), Fail> {
     for case in &CASES {
         let name = case.name;
-        let (answer, trace) = printed(rt.alloc(), case.script);
+        let (answer, trace) = printed(rt.alloc(), rt.alloc(), case.script);
         assert_eq!(rt; trace.as_slice(), case.trace, "{name}");
         let error = match answer {
             Ok(()) => String::new(rt.alloc()),
@@ -127,11 +132,11 @@ fn a_text_may_have_4194304_bytes(rt: HostRuntime) -> Result<(), Fail> {
     let mut script = Vec::from_slice(alloc, b"refscript 1\nconfig 1 1 1 1 0\n".as_slice())?;
     let blank = vec![in alloc; b'\n'; 4_194_304 - script.len()]?;
     script.extend_from_slice(blank.as_slice())?;
-    let (answer, trace) = printed(alloc, script.as_slice());
+    let (answer, trace) = printed(alloc, alloc, script.as_slice());
     assert_eq!(rt; answer, Ok(()));
     assert_eq!(rt; trace.as_slice(), b"reftrace 1\n".as_slice());
     script.push(b'\n')?;
-    let (answer, trace) = printed(alloc, script.as_slice());
+    let (answer, trace) = printed(alloc, alloc, script.as_slice());
     assert_eq!(rt; answer, Err(TextFault::TooLong));
     assert!(rt; trace.is_empty());
     assert_eq!(rt;

@@ -15,7 +15,7 @@ use crate::sink::{TextSink, WriteFailed};
 use crate::source::TextSource;
 use crate::table::Table;
 use ref_base::{QueueNo, Row, Step};
-use std::alloc::{AllocError, Global};
+use std::alloc::{AllocError, Allocator};
 
 /// Reads a script, runs it, and writes its trace.
 ///
@@ -25,9 +25,9 @@ use std::alloc::{AllocError, Global};
 /// out. `NoMemory` may come in place of each but the last. A growth that is refused inside a put is a row of the trace,
 /// and the script goes on.
 ///
-/// Takes time and memory by the lengths of the text and the trace.
-pub fn run_script<R: TextSource, W: TextSink>(
-    alloc: Global,
+/// Takes time and memory by the lengths of the text and the trace. All its memory is of this allocator.
+pub fn run_script<R: TextSource, W: TextSink, A: Allocator + Copy>(
+    alloc: A,
     reader: &mut R,
     writer: &mut W,
 ) -> Result<(), TextFault>
@@ -51,7 +51,7 @@ pub fn run_script<R: TextSource, W: TextSink>(
 }
 
 /// The text of the trace of a script.
-fn trace_of(alloc: Global, script: &Script) -> Result<String, TextFault>
+fn trace_of<A: Allocator + Copy>(alloc: A, script: &Script<A>) -> Result<String<A>, TextFault>
     requires { is_within_limits script.now.config ≡ true }
     ensures text { IfOk result (λ text. TracesSteps script.now.config script.now.steps.items (string_bytes text)) }
     ensures err { OnErr result (result ≡ Err TextFault.NoMemory) }
@@ -67,7 +67,12 @@ fn trace_of(alloc: Global, script: &Script) -> Result<String, TextFault>
 }
 
 /// Does one step, and adds its row to the text.
-fn add_row(text: &mut String, number: u64, table: &mut Table, step: &Step) -> Result<(), AllocError>
+fn add_row<A: Allocator + Copy>(
+    text: &mut String<A>,
+    number: u64,
+    table: &mut Table<A>,
+    step: &Step,
+) -> Result<(), AllocError>
     ensures { OnOk result (AddsRow table.old table.new number step.now (string_bytes text.old)
         (string_bytes text.new)) }
 {

@@ -18,20 +18,99 @@ pub static CASES: [Case; 23] = [
     },
     Case {
         name: "two enqueued in order",
-        script: b"refscript 1\nconfig 1 1 1 8 10\nm0 new s0 0\nm0 weak s1 s0 q0 0\nm0 weak s2 s0 q0 0\nm0 unhook s1\nm0 put\nm0 unhook s2\nm0 put\nm0 poll q0\nm0 release\nm0 poll q0\nm0 release\nm0 poll q0\n",
-        trace: b"reftrace 1\n1 m0 new s0 0 : object 1\n2 m0 weak s1 s0 q0 0 : object 2\n3 m0 weak s2 s0 q0 0 : object 3\n4 m0 unhook s1 : notice 2 q0 own\n5 m0 put : added 0\n6 m0 unhook s2 : notice 3 q0 own\n7 m0 put : added 1\n8 m0 poll q0 : took 2\n9 m0 release : ok\n10 m0 poll q0 : took 3\n11 m0 release : ok\n12 m0 poll q0 : empty\n",
+        script: b"refscript 1
+config 1 1 1 8 10
+m0 new s0 0
+m0 weak s1 s0 q0 0
+m0 weak s2 s0 q0 0
+m0 unhook s1
+m0 put
+m0 unhook s2
+m0 put
+m0 poll q0
+m0 release
+m0 poll q0
+m0 release
+m0 poll q0
+",
+        trace: b"reftrace 1
+1 m0 new s0 0 : object 1
+2 m0 weak s1 s0 q0 0 : object 2
+3 m0 weak s2 s0 q0 0 : object 3
+4 m0 unhook s1 : notice 2 q0 own
+5 m0 put : added 0
+6 m0 unhook s2 : notice 3 q0 own
+7 m0 put : added 1
+8 m0 poll q0 : took 2
+9 m0 release : ok
+10 m0 poll q0 : took 3
+11 m0 release : ok
+12 m0 poll q0 : empty
+",
         error: "",
     },
     Case {
         name: "closed queue",
-        script: b"refscript 1\nconfig 1 1 1 8 10\nm0 new s0 0\nm0 weak s1 s0 q0 0\nm0 weak s2 s0 q0 0\nm0 unhook s1\nm0 put\nm0 close q0\nm0 unhook s2\nm0 put\nm0 release\nm0 poll q0\nm0 release\nm0 poll q0\nm0 close q0\n",
-        trace: b"reftrace 1\n1 m0 new s0 0 : object 1\n2 m0 weak s1 s0 q0 0 : object 2\n3 m0 weak s2 s0 q0 0 : object 3\n4 m0 unhook s1 : notice 2 q0 own\n5 m0 put : added 0\n6 m0 close q0 : ok\n7 m0 unhook s2 : notice 3 q0 own\n8 m0 put : closed\n9 m0 release : ok\n10 m0 poll q0 : took 2\n11 m0 release : ok\n12 m0 poll q0 : closed\n13 m0 close q0 : closed\n",
+        script: b"refscript 1
+config 1 1 1 8 10
+m0 new s0 0
+m0 weak s1 s0 q0 0
+m0 weak s2 s0 q0 0
+m0 unhook s1
+m0 put
+m0 close q0
+m0 unhook s2
+m0 put
+m0 release
+m0 poll q0
+m0 release
+m0 poll q0
+m0 close q0
+",
+        trace: b"reftrace 1
+1 m0 new s0 0 : object 1
+2 m0 weak s1 s0 q0 0 : object 2
+3 m0 weak s2 s0 q0 0 : object 3
+4 m0 unhook s1 : notice 2 q0 own
+5 m0 put : added 0
+6 m0 close q0 : ok
+7 m0 unhook s2 : notice 3 q0 own
+8 m0 put : closed
+9 m0 release : ok
+10 m0 poll q0 : took 2
+11 m0 release : ok
+12 m0 poll q0 : closed
+13 m0 close q0 : closed
+",
         error: "",
     },
     Case {
         name: "order of refusals first path",
-        script: b"refscript 1\nconfig 1 1 1 8 10\nm0 put\nm0 new s0 9\nm0 new s16 0\nm1 new s0 0\nm0 weak s1 s0 q0 0\nm0 new s0 8\nm0 weak s1 s0 q1 0\nm0 weak s1 s0 q0 0\nm0 unhook s1\nm0 poll q0\n",
-        trace: b"reftrace 1\n1 m0 put : refused 24 HandEmpty\n2 m0 new s0 9 : refused 7 BadField\n3 m0 new s16 0 : refused 9 NoSuchActor\n4 m1 new s0 0 : refused 9 NoSuchActor\n5 m0 weak s1 s0 q0 0 : refused 6 EmptySlot\n6 m0 new s0 8 : object 1\n7 m0 weak s1 s0 q1 0 : refused 10 BadQueue\n8 m0 weak s1 s0 q0 0 : object 2\n9 m0 unhook s1 : notice 2 q0 own\n10 m0 poll q0 : refused 23 HandFull\n",
+        script: b"refscript 1
+config 1 1 1 8 10
+m0 put
+m0 new s0 9
+m0 new s16 0
+m1 new s0 0
+m0 weak s1 s0 q0 0
+m0 new s0 8
+m0 weak s1 s0 q1 0
+m0 weak s1 s0 q0 0
+m0 unhook s1
+m0 poll q0
+",
+        trace: b"reftrace 1
+1 m0 put : refused 24 HandEmpty
+2 m0 new s0 9 : refused 7 BadField
+3 m0 new s16 0 : refused 9 NoSuchActor
+4 m1 new s0 0 : refused 9 NoSuchActor
+5 m0 weak s1 s0 q0 0 : refused 6 EmptySlot
+6 m0 new s0 8 : object 1
+7 m0 weak s1 s0 q1 0 : refused 10 BadQueue
+8 m0 weak s1 s0 q0 0 : object 2
+9 m0 unhook s1 : notice 2 q0 own
+10 m0 poll q0 : refused 23 HandFull
+",
         error: "",
     },
     Case {
@@ -66,7 +145,10 @@ pub static CASES: [Case; 23] = [
     },
     Case {
         name: "line of 201 bytes",
-        script: b"refscript 1\nconfig 1 1 1 8 10\nm0 new s0 0                                                                                                                                                                                              \n",
+        script: b"refscript 1
+config 1 1 1 8 10
+m0 new s0 0                                                                                                                                                                                              
+",
         trace: b"",
         error: "refrun: line 3: line too long\n",
     },
@@ -120,7 +202,10 @@ pub static CASES: [Case; 23] = [
     },
     Case {
         name: "line of 200 bytes",
-        script: b"refscript 1\nconfig 1 1 1 8 10\nm0 new s0 0                                                                                                                                                                                             \n",
+        script: b"refscript 1
+config 1 1 1 8 10
+m0 new s0 0                                                                                                                                                                                             
+",
         trace: b"reftrace 1\n1 m0 new s0 0 : object 1\n",
         error: "",
     },
@@ -144,8 +229,66 @@ pub static CASES: [Case; 23] = [
     },
     Case {
         name: "every refusal",
-        script: b"refscript 1\nconfig 1 1 1 3 0\n# each step of a mutator, refused and not\nm0 unhook s0\nm0 new s0 0\nm0 unhook s0\nm0 weak s1 s0 - 9\nm0 weak s1 s0 - 0\nm0 unhook s1\nm0 weak s2 s0 q0 0\nm0 new s3 0\nm0 weak s3 s0 q0 0\nm0 unhook s2\nm0 unhook s2\nm0 poll q1\nm0 put\nm0 unhook s2\nm0 put\nm0 release\nm0 release\nm1 put\nm0 close q1\nm1 close q0\nm0 poll q0\nm0 poll q0\nm0 put\nm0 release\nm0 poll q0\nm0 close q0\nm0 poll q0\n",
-        trace: b"reftrace 1\n1 m0 unhook s0 : refused 6 EmptySlot\n2 m0 new s0 0 : object 1\n3 m0 unhook s0 : refused 8 NotAReference\n4 m0 weak s1 s0 - 9 : refused 7 BadField\n5 m0 weak s1 s0 - 0 : object 2\n6 m0 unhook s1 : none\n7 m0 weak s2 s0 q0 0 : object 3\n8 m0 new s3 0 : refused 4 NoCell\n9 m0 weak s3 s0 q0 0 : refused 4 NoCell\n10 m0 unhook s2 : notice 3 q0 own\n11 m0 unhook s2 : refused 23 HandFull\n12 m0 poll q1 : refused 10 BadQueue\n13 m0 put : added 0\n14 m0 unhook s2 : notice 3 q0 own\n15 m0 put : already\n16 m0 release : ok\n17 m0 release : refused 24 HandEmpty\n18 m1 put : refused 9 NoSuchActor\n19 m0 close q1 : refused 10 BadQueue\n20 m1 close q0 : refused 9 NoSuchActor\n21 m0 poll q0 : took 3\n22 m0 poll q0 : refused 23 HandFull\n23 m0 put : already\n24 m0 release : ok\n25 m0 poll q0 : empty\n26 m0 close q0 : ok\n27 m0 poll q0 : closed\n",
+        script: b"refscript 1
+config 1 1 1 3 0
+# each step of a mutator, refused and not
+m0 unhook s0
+m0 new s0 0
+m0 unhook s0
+m0 weak s1 s0 - 9
+m0 weak s1 s0 - 0
+m0 unhook s1
+m0 weak s2 s0 q0 0
+m0 new s3 0
+m0 weak s3 s0 q0 0
+m0 unhook s2
+m0 unhook s2
+m0 poll q1
+m0 put
+m0 unhook s2
+m0 put
+m0 release
+m0 release
+m1 put
+m0 close q1
+m1 close q0
+m0 poll q0
+m0 poll q0
+m0 put
+m0 release
+m0 poll q0
+m0 close q0
+m0 poll q0
+",
+        trace: b"reftrace 1
+1 m0 unhook s0 : refused 6 EmptySlot
+2 m0 new s0 0 : object 1
+3 m0 unhook s0 : refused 8 NotAReference
+4 m0 weak s1 s0 - 9 : refused 7 BadField
+5 m0 weak s1 s0 - 0 : object 2
+6 m0 unhook s1 : none
+7 m0 weak s2 s0 q0 0 : object 3
+8 m0 new s3 0 : refused 4 NoCell
+9 m0 weak s3 s0 q0 0 : refused 4 NoCell
+10 m0 unhook s2 : notice 3 q0 own
+11 m0 unhook s2 : refused 23 HandFull
+12 m0 poll q1 : refused 10 BadQueue
+13 m0 put : added 0
+14 m0 unhook s2 : notice 3 q0 own
+15 m0 put : already
+16 m0 release : ok
+17 m0 release : refused 24 HandEmpty
+18 m1 put : refused 9 NoSuchActor
+19 m0 close q1 : refused 10 BadQueue
+20 m1 close q0 : refused 9 NoSuchActor
+21 m0 poll q0 : took 3
+22 m0 poll q0 : refused 23 HandFull
+23 m0 put : already
+24 m0 release : ok
+25 m0 poll q0 : empty
+26 m0 close q0 : ok
+27 m0 poll q0 : closed
+",
         error: "",
     },
 ];

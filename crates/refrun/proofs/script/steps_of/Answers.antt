@@ -6,18 +6,18 @@ use Rattle.refrun.proofs.ScriptLines.{fails_for, has_read_more, has_read_all, ha
 use Rattle.refrun.proofs.script.steps_of.Goals as goal
 
 pub returns-in_err-told-clause-fault : goal.returns-in_err-told-clause-fault
-returns-in_err-told-clause-fault c =
+returns-in_err-told-clause-fault g c =
     let p = err_from_is_err_and c.from_residual.result c.from_residual.ensures.1 in
     rw (p.1, p.2) (fails_for Steps (c.args.number + 1) (lines_of c.args.text.now) _ (c.in_err-told.ensures.fault Steps))
 
 pub returns-in_err-add_step-clause-fault : goal.returns-in_err-add_step-clause-fault
-returns-in_err-add_step-clause-fault c =
+returns-in_err-add_step-clause-fault g c =
     let p = err_from_is_err_and c.from_residual-in_err-add_step.result c.from_residual-in_err-add_step.ensures.1 in
     rw (p.1, p.2) (has_read_fault c.args.text.now c.args.number c.loop-told.told c.loop-told.steps.items
     c.in-Some.content _ c.loop-told.invariant c.in-Some.is c.in_err-add_step.ensures.fault)
 
 pub returns-in_err-told-2-clause-fault : goal.returns-in_err-told-2-clause-fault
-returns-in_err-told-2-clause-fault c =
+returns-in_err-told-2-clause-fault g c =
     let p = err_from_is_err_and c.from_residual-in_err-told-2.result c.from_residual-in_err-told-2.ensures.1 in
     let added = c.in_ok-add_step.ensures.ok in
     rw (p.1, p.2) (fails_for Steps (c.args.number + 1) (lines_of c.args.text.now) _
@@ -25,16 +25,16 @@ returns-in_err-told-2-clause-fault c =
     added.0 _ c.loop-told.invariant c.in-Some.is added.1 c.in_err-told-2.ensures.fault))
 
 pub loop-told-preserved : goal.loop-told-preserved
-loop-told-preserved c =
+loop-told-preserved g c =
     let added = c.in_ok-add_step.ensures.ok in
     has_read_more c.args.text.now c.args.number c.loop-told.told c.in_ok-told-2.told c.loop-told.steps.items _
     c.in-Some.content added.0
     c.loop-told.invariant c.in-Some.is added.1 added.2 c.in_ok-told-2.ensures.found c.in_ok-told-2.ensures.behind
 
 pub returns-clause-spelt : goal.returns-clause-spelt
-returns-clause-spelt c = (has_read_all c.args.text.now c.args.number c.loop-told.told c.loop-told.steps.items
+returns-clause-spelt g c = (has_read_all c.args.text.now c.args.number c.loop-told.told c.loop-told.steps.items
     c.loop-told.invariant c.in_default.is).0
 
 pub returns-clause-plain : goal.returns-clause-plain
-returns-clause-plain c = (has_read_all c.args.text.now c.args.number c.loop-told.told c.loop-told.steps.items
+returns-clause-plain g c = (has_read_all c.args.text.now c.args.number c.loop-told.told c.loop-told.steps.items
     c.loop-told.invariant c.in_default.is).1

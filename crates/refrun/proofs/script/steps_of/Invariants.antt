@@ -2,7 +2,7 @@ use Rattle.refrun.proofs.ScriptLines.{HasRead, left_in}
 use Rattle.refrun.proofs.script.steps_of.Given as goal
 
 abbrev pub invariant-loop-told : goal.invariant-loop-told
-invariant-loop-told l = HasRead l.fn.text l.fn.number l.told l.steps.items
+invariant-loop-told g l = HasRead l.fn.text l.fn.number l.told l.steps.items
 
 abbrev pub decreases-loop-told : goal.decreases-loop-told
-decreases-loop-told l = left_in l.told.content l.told.rest.now
+decreases-loop-told g l = left_in l.told.content l.told.rest.now

@@ -2,4 +2,4 @@ use Rattle.std.proofs.Common.{◌≡◌, None, replicate}
 use Rattle.refrun.proofs.table.empty_hands.Given as goal
 
 abbrev pub invariant-loop-hand : goal.invariant-loop-hand
-invariant-loop-hand l = l.hands.items ≡ replicate l._hand None
+invariant-loop-hand g l = l.hands.items ≡ replicate l._hand None

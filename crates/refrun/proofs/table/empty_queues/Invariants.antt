@@ -3,4 +3,4 @@ use Rattle.refrun.specs.Tables.{new_queues}
 use Rattle.refrun.proofs.table.empty_queues.Given as goal
 
 abbrev pub invariant-loop-queue : goal.invariant-loop-queue
-invariant-loop-queue l = l.queues.items ≡ new_queues 0 l.queue
+invariant-loop-queue g l = l.queues.items ≡ new_queues 0 l.queue

@@ -3,7 +3,7 @@ use Rattle.refrun.proofs.TraceLemmas.{step_taken, traced_more}
 use Rattle.refrun.proofs.trace.trace_of.Goals as goal
 
 pub loop-step-preserved : goal.loop-step-preserved
-loop-step-preserved c =
+loop-step-preserved g c =
     let added = c.in_ok-add_row.ensures in
     let steps = c.args.script.now.steps.items in
     let longer = step_taken steps c.deref-step-items.result.now c.loop-step.step-index c.step-item.result
