@@ -4,7 +4,9 @@ use Rattle.std.specs.Prelude.{◌≡◌, ℕ, Bool, true, false, ◌||◌, if◌
 use Rattle.std.specs.Prelude.{List, [], ◌∷◌, ◌++◌, Option, Some, None}
 use Rattle.std.specs.List.{IsDistinct}
 use Rattle.ref_base.specs.declared.step.Step.{Step}
-use Rattle.ref_base.specs.declared.step.Step.TheVariants.{Unhook, Put, Release, Poll, Close}
+use Rattle.ref_base.specs.declared.step.Step.TheVariants.{Unhook, Put, Release, Poll, Adopt, Close, Hand}
+use Rattle.ref_base.specs.declared.actor.Actor.{Actor}
+use Rattle.ref_base.specs.declared.actor.Actor.TheVariants.{Mutator, Worker}
 use Rattle.ref_base.specs.declared.reply.Reply.{Reply}
 use Rattle.ref_base.specs.declared.reply.Reply.TheVariants as replies
 use Rattle.ref_base.specs.declared.row.Row.{Row}
@@ -14,24 +16,34 @@ pub record Held : Type 0 where
   pub object : ℕ
   pub queue : ℕ
 
--- what the hand of each mutator holds
+-- what the hand of each mutator and worker holds
 abbrev pub Hands : Type 0
-Hands = ℕ → Option Held
+Hands = Actor → Option Held
+
+abbrev pub is_same_actor : Actor → Actor → Bool
+is_same_actor (Mutator m) (Mutator k) = m == k
+is_same_actor (Worker m) (Worker k) = m == k
+is_same_actor who other = false
 
 -- the hands at first: each is empty
 abbrev pub empty_hands : Hands
-empty_hands m = None
+empty_hands who = None
 
--- the hands with what mutator m's hand holds replaced
-abbrev pub with_held : Hands → ℕ → Option Held → Hands
-with_held hands m held k = if k == m then held else hands k
+-- the hands with what one of them holds replaced
+abbrev pub with_held : Hands → Actor → Option Held → Hands
+with_held hands who held other = if is_same_actor other who then held else hands other
 
--- the hands after one more row: an unhook or a poll that gave a notice fills one, an added put or a release empties it
+-- the hands after one more row: an unhook, a hand or a poll that gave a notice fills one; an added put, an adopt or a
+-- release empties it
 abbrev pub held_after : Hands → Step → Reply → Hands
-held_after hands (Unhook m slot) (replies.Notice n q) = with_held hands m (Some (record { object = n; queue = q }))
-held_after hands (Poll m q) (replies.Took n) = with_held hands m (Some (record { object = n; queue = q }))
-held_after hands (Put m) (replies.Added position) = with_held hands m None
-held_after hands (Release m) replies.Done = with_held hands m None
+held_after hands (Unhook m slot) (replies.Notice n q cause) =
+    with_held hands (Mutator m) (Some (record { object = n; queue = q }))
+held_after hands (Hand w) (replies.Notice n q cause) =
+    with_held hands (Worker w) (Some (record { object = n; queue = q }))
+held_after hands (Poll m q) (replies.Took n) = with_held hands (Mutator m) (Some (record { object = n; queue = q }))
+held_after hands (Put who) (replies.Added position) = with_held hands who None
+held_after hands (Adopt m slot) (replies.Object n) = with_held hands (Mutator m) None
+held_after hands (Release who) replies.Done = with_held hands who None
 held_after hands step reply = hands
 
 -- the reference that the held notice reports, where there is one and it is for queue q
@@ -41,7 +53,7 @@ if_for q (Some held) = if held.queue == q then held.object ∷ [] else []
 
 -- what one row puts into queue q: the reference that the hand's notice reports
 abbrev pub put_by : Hands → ℕ → Step → Reply → List ℕ
-put_by hands q (Put m) (replies.Added position) = if_for q (hands m)
+put_by hands q (Put who) (replies.Added position) = if_for q (hands who)
 put_by hands q step reply = []
 
 -- what one row takes from queue q

@@ -23,6 +23,10 @@ text_of (w ∷ v ∷ ws) = word_text w ++ 32 ∷ text_of (v ∷ ws)
 abbrev pub mutator : ℕ → Word
 mutator m = Numbered (codes "m") m
 
+-- the word for a worker, as w0
+abbrev pub worker : ℕ → Word
+worker w = Numbered (codes "w") w
+
 -- the word for a slot, as s0
 abbrev pub slot : ℕ → Word
 slot s = Numbered (codes "s") s

@@ -2,22 +2,40 @@
 //! with their texts.
 #![tactic(auto)]
 
+mod actor;
+mod cause;
 mod config;
 mod fault;
+mod graph;
+pub mod laws;
 mod numbers;
 mod parcel;
+mod phase;
+mod reach;
+mod reachability;
 mod reply;
 mod row;
+mod search;
 mod step;
+mod stored;
 mod strength;
-#[cfg(test)]
-mod tests;
+mod urgency;
 
+pub use actor::Actor;
+pub use cause::Cause;
 pub use config::Config;
 pub use fault::Fault;
+pub use graph::Graph;
 pub use numbers::{MutNo, ObjNo, QueueNo, SlotNo, WorkerNo};
 pub use parcel::Parcel;
+pub use phase::Phase;
+pub use reach::{ObjectReach, Reach};
+pub use reachability::{strength_of, strengths};
 pub use reply::Reply;
 pub use row::Row;
 pub use step::Step;
 pub use strength::Strength;
+pub use urgency::Urgency;
+
+#[cfg(test)]
+mod tests;

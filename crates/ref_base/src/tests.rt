@@ -1,6 +1,9 @@
 //! The texts, the faults and the limits, against values that were worked out by hand.
 
-use crate::{Config, Fault, MutNo, ObjNo, QueueNo, Reply, Row, SlotNo, Step, WorkerNo};
+mod graphs;
+mod rows;
+
+use crate::{Config, Fault, MutNo, ObjNo, QueueNo, SlotNo, WorkerNo};
 use std::alloc::Global;
 use std::process::Abort;
 use std::test::Fail;
@@ -16,108 +19,6 @@ fn each_number_prints_behind_its_letter(rt: HostRuntime) -> Result<(), Fail> {
     assert_eq!(rt; format!(in alloc; "{}", MutNo(0))?.as_str(), "m0");
     assert_eq!(rt; format!(in alloc; "{}", WorkerNo(3))?.as_str(), "w3");
     assert_eq!(rt; format!(in alloc; "{}", SlotNo(15))?.as_str(), "s15");
-    Ok(())
-}
-
-#[test]
-fn each_step_prints_as_in_a_script(rt: HostRuntime) -> Result<(), Fail> {
-    let mutator = MutNo(0);
-    let slot = SlotNo(1);
-    let source = SlotNo(0);
-    let table = [
-        (
-            Step::New {
-                mutator,
-                slot,
-                fields: 2,
-            },
-            "m0 new s1 2",
-        ),
-        (
-            Step::Weak {
-                mutator,
-                slot,
-                source,
-                queue: Some(QueueNo(0)),
-                fields: 2,
-            },
-            "m0 weak s1 s0 q0 2",
-        ),
-        (
-            Step::Weak {
-                mutator: MutNo(7),
-                slot,
-                source,
-                queue: None,
-                fields: 0,
-            },
-            "m7 weak s1 s0 - 0",
-        ),
-        (Step::Unhook { mutator, slot }, "m0 unhook s1"),
-        (Step::Put { mutator }, "m0 put"),
-        (Step::Release { mutator }, "m0 release"),
-        (
-            Step::Poll {
-                mutator,
-                queue: QueueNo(15),
-            },
-            "m0 poll q15",
-        ),
-        (
-            Step::Close {
-                mutator,
-                queue: QueueNo(0),
-            },
-            "m0 close q0",
-        ),
-    ];
-    for (step, want) in table {
-        assert_eq!(rt; format!(in rt.alloc(); "{step}")?.as_str(), want);
-    }
-    Ok(())
-}
-
-#[test]
-fn each_reply_prints_as_in_a_trace(rt: HostRuntime) -> Result<(), Fail> {
-    let table = [
-        (Reply::Object(ObjNo(1)), "object 1"),
-        (
-            Reply::Notice {
-                object: ObjNo(2),
-                queue: QueueNo(0),
-            },
-            "notice 2 q0 own",
-        ),
-        (Reply::Nothing, "none"),
-        (Reply::Added(0), "added 0"),
-        (Reply::Already, "already"),
-        (Reply::Closed, "closed"),
-        (Reply::Took(ObjNo(2)), "took 2"),
-        (Reply::Empty, "empty"),
-        (Reply::Done, "ok"),
-        (Reply::Refused(Fault::NoSuchActor), "refused 9 NoSuchActor"),
-    ];
-    for (reply, want) in table {
-        assert_eq!(rt; format!(in rt.alloc(); "{reply}")?.as_str(), want);
-    }
-    Ok(())
-}
-
-#[test]
-fn a_row_prints_its_step_a_colon_and_its_reply(rt: HostRuntime) -> Result<(), Fail> {
-    let step = Step::New {
-        mutator: MutNo(0),
-        slot: SlotNo(0),
-        fields: 0,
-    };
-    let row = Row {
-        step,
-        reply: Reply::Object(ObjNo(1)),
-    };
-    assert_eq!(rt;
-        format!(in rt.alloc(); "{row}")?.as_str(),
-        "m0 new s0 0 : object 1"
-    );
     Ok(())
 }
 

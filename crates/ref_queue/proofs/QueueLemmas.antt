@@ -3,15 +3,11 @@ use Rattle.std.proofs.Common.{◌≡◌, ℕ, Bool, true, false, nat_eq, refl, a
 use Rattle.std.proofs.Common.{List, [], ◌∷◌, ◌++◌, length, map, append_assoc, length-append}
 use Rattle.std.proofs.lemmas.List.{take_at, length-map}
 use Rattle.std.specs.List.{list_any}
-use Rattle.std.specs.Cmp.{nat_eq_equiv}
-use Rattle.ref_queue.specs.QueueLists.{has, front, seen, IsSound}
+use Rattle.ref_base.specs.Members.{has}
+use Rattle.ref_base.proofs.HasLaws.{has-list_any}
+use Rattle.ref_queue.specs.QueueLists.{front, seen, IsSound}
 use Rattle.ref_queue.specs.QueueAnswers.{Polls}
 use Rattle.ref_queue.specs.declared.queue.Polled.TheVariants.{Took, Empty, Closed}
-
--- `has` answers as the set's own search does
-pub has-list_any : (ns : List ℕ) (n : ℕ) → has ns n ≡ list_any (nat_eq n) ns
-has-list_any [] n = refl
-has-list_any (m ∷ ms) n = rw (nat_eq_equiv.symm m n, has-list_any ms n) refl
 
 -- a list of length 0 is empty
 pub nil_from_length : {T : Type 0} (xs : List T) → length xs ≡ 0 → xs ≡ []

@@ -1,13 +1,9 @@
 -- What a reference queue is, as plain data.
-use Rattle.std.specs.Prelude.{◌≡◌, ℕ, ◌-◌, Bool, false, ◌||◌, ◌==◌, nat_eq, refl}
+use Rattle.std.specs.Prelude.{◌≡◌, ℕ, ◌-◌, Bool, nat_eq, refl}
 use Rattle.std.specs.Prelude.{List, [], ◌∷◌, ◌++◌, length, map, take}
 use Rattle.std.specs.Coded.{Coded, code_by, coded×, coded_ℕ, coded_bool, coded_list}
 use Rattle.std.specs.List.{AllByRecursion, IsDistinct}
-
--- whether n is among the numbers
-abbrev pub has : List ℕ → ℕ → Bool
-has [] n = false
-has (m ∷ ms) n = (m == n) || has ms n
+use Rattle.ref_base.specs.Members.{has}
 
 -- a queue: its number, the numbers of what was taken from it, what stands in it, first first, and whether it is closed
 pub record Lists (T : Type 0) : Type 0 where

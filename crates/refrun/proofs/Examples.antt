@@ -1,18 +1,24 @@
 -- The definitions at work on what one can read off by hand.
-use Rattle.std.proofs.Common.{◌≡◌, ◌^◌, true, false, List, [], ◌∷◌, Some, None, codes, inl, inr, refl}
-use Rattle.ref_base.specs.QueueRows.{put_into, taken_from, was_closed}
+use Rattle.std.proofs.Common.{◌≡◌, ◌^◌, true, false, List, [], ◌∷◌, ◌++◌, Some, None, codes, inl, inr, refl, arith}
+use Rattle.refrun.specs.QueueRows.{put_into, taken_from, was_closed}
 use Rattle.ref_base.specs.declared.config.Config.{Config}
 use Rattle.ref_base.specs.declared.fault.Fault.TheVariants.{HandEmpty, NoMemory}
-use Rattle.ref_base.specs.declared.reply.Reply.TheVariants as replies
-use Rattle.ref_base.specs.declared.row.Row.{Row}
-use Rattle.ref_base.specs.declared.step.Step.TheVariants.{New, Weak, Unhook, Put, Poll, Close}
+use Rattle.refrun.specs.declared.rows.Reply.TheVariants as replies
+use Rattle.refrun.specs.declared.rows.Row.{Row}
+use Rattle.refrun.specs.declared.rows.Step.TheVariants.{New, Weak, Unhook, Put, Poll, Close}
 use Rattle.refrun.specs.Lines.{lines_of, content_of, words_of}
 use Rattle.refrun.specs.Numerals.{number_below, number_behind}
-use Rattle.refrun.specs.Scripts.{text_fault}
+use Rattle.refrun.specs.TextFaults.{script_fault, graph_fault}
 use Rattle.refrun.specs.Spelling.{SpellsStep}
 use Rattle.refrun.specs.StepFaults.{step_fault}
 use Rattle.refrun.specs.Tables.{State, first_state, IsRun}
+use Rattle.refrun.specs.DeclarationFaults.{declaration_fault}
+use Rattle.refrun.specs.Declarations.{Root, Plain, Reference, SpellsDeclared}
+use Rattle.refrun.specs.GraphTexts.{DeclaresGraph}
+use Rattle.ref_base.specs.Graphs.{Graph, plain_object}
+use Rattle.ref_base.specs.declared.strength.Strength.TheVariants as strengths
 use Rattle.refrun.specs.declared.fault.LineFault.TheVariants.{UnknownStep, MissingWord, BadWord, ExtraWord, BadHeader}
+use Rattle.refrun.specs.declared.fault.LineFault.TheVariants.{UnknownLine, DoubleObject}
 use Rattle.refrun.specs.declared.fault.TextFault.TheVariants.{Line}
 
 -- ---- words and numbers
@@ -55,7 +61,7 @@ bad_comes_before_extra = refl
 an_extra_word_is_no_bad_one : step_fault (words_of (codes "m0 put x")) ≡ Some ExtraWord
 an_extra_word_is_no_bad_one = refl
 
-a_header_that_never_comes : text_fault [] ≡ Some (Line 1 BadHeader)
+a_header_that_never_comes : script_fault [] ≡ Some (Line 1 BadHeader)
 a_header_that_never_comes = refl
 
 -- ---- a run that puts, closes and takes
@@ -130,3 +136,55 @@ reference_2_is_taken = refl
 queue_1_is_closed_and_queue_0_is_not : (was_closed 1 rows ≡ true) × (was_closed 0 rows ≡ false)
 unfolding rows
 queue_1_is_closed_and_queue_0_is_not = (refl, refl)
+
+-- ---- graph texts
+
+a_reference_is_spelt : SpellsDeclared (words_of (codes "weak 04 - 5 -")) (Reference 4 strengths.Weak None (Some 5 ∷ None ∷ []))
+a_reference_is_spelt =
+    (refl, (refl, omega arith), refl, ((refl, omega arith), (refl, tt)), omega arith)
+
+a_ninth_field_is_an_extra_word : declaration_fault (words_of (codes "plain 1 2 2 2 2 2 2 2 2 x")) ≡ Some ExtraWord
+a_ninth_field_is_an_extra_word = refl
+
+an_eighth_field_may_be_a_bad_word : declaration_fault (words_of (codes "plain 1 2 2 2 2 2 2 2 x 2")) ≡ Some BadWord
+an_eighth_field_may_be_a_bad_word = refl
+
+no_object_has_the_number_0 : declaration_fault (words_of (codes "plain 0")) ≡ Some BadWord
+no_object_has_the_number_0 = refl
+
+a_reference_wants_a_referent : declaration_fault (words_of (codes "soft x")) ≡ Some MissingWord
+a_reference_wants_a_referent = refl
+
+an_edge_is_an_unknown_line : declaration_fault (words_of (codes "edge")) ≡ Some UnknownLine
+an_edge_is_an_unknown_line = refl
+
+-- `refgraph 1`, `plain 1`, `soft 01 -`
+an_object_is_declared_once : graph_fault (codes "refgraph 1" ++ 10 ∷ codes "plain 1" ++ 10 ∷ codes "soft 01 -")
+    ≡ Some (Line 3 DoubleObject)
+an_object_is_declared_once = refl
+
+one_root : Graph
+one_root = record { objects = plain_object 2 (None ∷ []) ∷ []; roots = 2 ∷ [] }
+
+-- `refgraph 1`, `root 2`, `plain 2 -`, `root 02`
+it_is_declared : DeclaresGraph (codes "refgraph 1" ++ 10 ∷ codes "root 2" ++ 10 ∷ codes "plain 2 -" ++ 10 ∷ codes "root 02")
+    one_root
+unfolding one_root
+it_is_declared = record {
+  short = refl;
+  lines = record {
+    declared = Root 2 ∷ Plain 2 (None ∷ []) ∷ Root 2 ∷ [];
+    said = record {
+      plain = refl;
+      told = (
+        refl,
+        (
+          (refl, (refl, omega arith)),
+          ((refl, (refl, omega arith), (refl, tt), omega arith), ((refl, (refl, omega arith)), tt)),
+        ),
+      );
+      none_twice = (refl, (refl, (refl, tt)));
+    };
+    graph_is = refl;
+  };
+}

@@ -1,16 +1,21 @@
--- A text that spells a script has no fault.
+-- A text that spells a script, or declares a graph, has no fault.
+use Rattle.ref_base.specs.Graphs.{Graph}
+use Rattle.refrun.specs.Declarations.{Declared, declared_no, with_declared_no, NoneTwice}
+use Rattle.refrun.specs.GraphTexts.{SpellAll, SpellGraph, DeclaresGraph}
+use Rattle.refrun.specs.TextFaults.{GraphHeader, Declarations, after, place_fault, fault_or, graph_fault}
+use Rattle.refrun.proofs.DeclaredSpelt.{declared_without_fault, number_of_words}
 use Rattle.std.proofs.Common.{◌≡◌, ℕ, ◌+◌, true, List, [], ◌∷◌, Some, None, refl, inl, inr}
 use Rattle.std.specs.Char.{is_ascii}
 use Rattle.std.specs.List.{list_all}
 use Rattle.std.proofs.lemmas.Bool.{cases_Bool, and_parts}
 use Rattle.ref_base.specs.Limits.{is_within_limits}
 use Rattle.ref_base.specs.declared.config.Config.{Config}
-use Rattle.ref_base.specs.declared.step.Step.{Step}
+use Rattle.refrun.specs.declared.rows.Step.{Step}
 use Rattle.refrun.specs.Lines.{TextLine, lines_of}
 use Rattle.refrun.specs.StepFaults.{step_fault}
-use Rattle.refrun.specs.Scripts.{Header, Configuration, Steps, is_short, is_plain, says_nothing, line_words, told}
-use Rattle.refrun.specs.Scripts.{is_header, config_of, SpellSteps, SpellScript, AreScript, IsScript, plain_fault}
-use Rattle.refrun.specs.Scripts.{first_fault, text_fault}
+use Rattle.refrun.specs.TextFaults.{ScriptHeader, Configuration, Steps, plain_fault, first_fault, script_fault}
+use Rattle.refrun.specs.ToldLines.{is_short, is_plain, says_nothing, line_words, told}
+use Rattle.refrun.specs.Scripts.{is_header, config_of, SpellSteps, SpellScript, AreScript, IsScript}
 use Rattle.refrun.proofs.Spelt.{spelt_without_fault}
 
 plain_without_fault : (line : TextLine) → is_plain line ≡ true → plain_fault line ≡ None
@@ -69,7 +74,7 @@ body_of [] words config steps spelt = absurd spelt
 body_of (line ∷ lines) words config steps spelt = (spelt.0, (spelt.1, spelt.2, spelt.3))
 
 lines_without_fault : (lines : List TextLine) (config : Config) (steps : List Step) (k : ℕ)
-    → list_all is_plain lines ≡ true → SpellScript (told lines) config steps → first_fault Header k lines ≡ None
+    → list_all is_plain lines ≡ true → SpellScript (told lines) config steps → first_fault ScriptHeader k lines ≡ None
 lines_without_fault [] config steps k plain spelt = absurd spelt
 lines_without_fault (line ∷ lines) config steps k plain spelt =
     let p = and_parts (is_plain line) (list_all is_plain lines) plain in
@@ -85,7 +90,7 @@ lines_without_fault (line ∷ lines) config steps k plain spelt =
     ]
 
 pub script_without_fault : (text : List ℕ) (config : Config) (steps : List Step) → IsScript text config steps
-    → text_fault text ≡ None
+    → script_fault text ≡ None
 script_without_fault text config steps h = simp h.short (lines_without_fault
     (lines_of text) config steps 1 h.lines.plain h.lines.told)
 
@@ -98,3 +103,53 @@ script_within_limits lines config steps h = limits (told lines) h.told
     limits [] spelt = absurd spelt
     limits (header ∷ []) spelt = absurd spelt
     limits (header ∷ words ∷ more) spelt = spelt.2
+
+-- ---- graph texts
+
+-- the first of the lines spells what it says, and the others have no fault
+first_declared : (words : List (List ℕ)) (lines : List TextLine) (ds : List Declared) (seen : List ℕ) (k : ℕ)
+    → ((later : List Declared) (more : List ℕ) → SpellAll (told lines) later → NoneTwice more later
+    → first_fault (Declarations more) (k + 1) lines ≡ None)
+    → SpellAll (words ∷ told lines) ds → NoneTwice seen ds
+    → fault_or k (place_fault (Declarations seen) words) (first_fault (after (Declarations seen) words) (k + 1) lines)
+    ≡ None
+first_declared words lines [] seen k goes_on spelt twice = absurd spelt
+first_declared words lines (d ∷ ds) seen k goes_on spelt twice =
+    rw (number_of_words d words spelt.0, declared_without_fault d words spelt.0, twice.0)
+    (goes_on ds (with_declared_no seen (declared_no d)) spelt.1 twice.1)
+
+-- lines that spell what they say, none of them twice
+all_without_fault : (lines : List TextLine) (ds : List Declared) (seen : List ℕ) (k : ℕ) → list_all is_plain lines ≡ true
+    → SpellAll (told lines) ds → NoneTwice seen ds → first_fault (Declarations seen) k lines ≡ None
+all_without_fault [] ds seen k plain spelt twice = refl
+all_without_fault (line ∷ lines) ds seen k plain spelt twice =
+    let p = and_parts (is_plain line) (list_all is_plain lines) plain in
+    let whole = plain_without_fault line p.0 in
+    elim (cases_Bool (says_nothing (line_words line))) [
+      | inl silent ↦
+          let rest : SpellAll (told lines) ds = simp silent at spelt in
+          simp (whole, silent) (all_without_fault lines ds seen (k + 1) p.1 rest twice)
+      | inr says ↦
+          let all : SpellAll (line_words line ∷ told lines) ds = simp says at spelt in
+          simp (whole, says) (first_declared (line_words line) lines ds seen k
+          (λ later more h t. all_without_fault lines later more (k + 1) p.1 h t) all twice)
+    ]
+
+graph_lines_without_fault : (lines : List TextLine) (ds : List Declared) (k : ℕ) → list_all is_plain lines ≡ true
+    → SpellGraph (told lines) ds → NoneTwice [] ds → first_fault GraphHeader k lines ≡ None
+graph_lines_without_fault [] ds k plain spelt twice = absurd spelt
+graph_lines_without_fault (line ∷ lines) ds k plain spelt twice =
+    let p = and_parts (is_plain line) (list_all is_plain lines) plain in
+    let whole = plain_without_fault line p.0 in
+    elim (cases_Bool (says_nothing (line_words line))) [
+      | inl silent ↦
+          let rest : SpellGraph (told lines) ds = simp silent at spelt in
+          simp (whole, silent) (graph_lines_without_fault lines ds (k + 1) p.1 rest twice)
+      | inr says ↦
+          let all : SpellGraph (line_words line ∷ told lines) ds = simp says at spelt in
+          simp (whole, says, all.0) (all_without_fault lines ds [] (k + 1) p.1 all.1 twice)
+    ]
+
+pub graph_without_fault : (text : List ℕ) (graph : Graph) → DeclaresGraph text graph → graph_fault text ≡ None
+graph_without_fault text graph h = simp h.short (graph_lines_without_fault (lines_of text) h.lines.declared 1
+    h.lines.said.plain h.lines.said.told h.lines.said.none_twice)

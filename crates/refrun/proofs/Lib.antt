@@ -1,9 +1,14 @@
 mod Examples
 pub mod Cuts
 pub mod Digits
+pub mod Fields
 pub mod Spelt
+pub mod LineLemmas
+pub mod DeclaredSpelt
+pub mod GraphLines
 pub mod ScriptLines
 pub mod OneReading
+pub mod OneGraph
 pub mod FaultLaws
 pub mod Pushes
 pub mod Tables
@@ -11,6 +16,8 @@ pub mod TableSoundness
 pub mod TableAnswers
 pub mod QueueLaws
 pub mod RunLemmas
+pub mod AnswerLemmas
 pub mod TraceLemmas
+pub mod ListingLemmas
 pub mod WriteLemmas
 pub mod ReadLemmas

@@ -5,17 +5,18 @@ use Rattle.std.specs.Str.{bytes_eq}
 use Rattle.std.proofs.lemmas.Bool.{false≢true}
 use Rattle.std.proofs.lemmas.Slice.Eq.{bytes_eq-Decides}
 use Rattle.ref_base.specs.Texts.{queue_or_none}
-use Rattle.ref_base.specs.Steps.{step_words}
+use Rattle.refrun.specs.Steps.{step_words}
 use Rattle.ref_base.specs.declared.config.Config.{Config}
-use Rattle.ref_base.specs.declared.step.Step.{Step}
-use Rattle.ref_base.specs.declared.step.Step.TheVariants.{New, Weak, Unhook, Put, Release, Poll, Close}
+use Rattle.refrun.specs.declared.rows.Step.{Step}
+use Rattle.refrun.specs.declared.rows.Step.TheVariants.{New, Weak, Unhook, Put, Release, Poll, Close}
 use Rattle.refrun.specs.Lines.{lines_of}
 use Rattle.refrun.specs.Numerals.{number_behind}
 use Rattle.refrun.specs.Spelling.{IsSpelt, SpellsStep}
-use Rattle.refrun.specs.Scripts.{told, config_of, SpellSteps, SpellScript, IsScript}
+use Rattle.refrun.specs.ToldLines.{told}
+use Rattle.refrun.specs.Scripts.{config_of, SpellSteps, SpellScript, IsScript}
 use Rattle.refrun.proofs.Spelt.{same_length}
 
-some_is : {A : Type 0} (o : Option A) (x y : A) → o ≡ Some x → o ≡ Some y → x ≡ y
+pub some_is : {A : Type 0} (o : Option A) (x y : A) → o ≡ Some x → o ≡ Some y → x ≡ y
 some_is o x y h k = let same : some x ≡ some y = sym h ∙ k in cc
   where
     some : {B : Type 0} → B → Option B
@@ -27,7 +28,7 @@ other_length : (words : List (List ℕ)) (s t : Step) → SpellsStep words s →
 other_length words s t h k = sym (same_length words (step_words s) h) ∙ same_length words (step_words t) k
 
 -- a word is not two names
-other_name : (word name other : List ℕ) → word ≡ name → word ≡ other → bytes_eq name other ≡ false → ⊥
+pub other_name : (word name other : List ℕ) → word ≡ name → word ≡ other → bytes_eq name other ≡ false → ⊥
 other_name word name other h k differ = let same = (bytes_eq-Decides name other).1 (sym h
     ∙ k) in absurd (false≢true (sym differ ∙ same))
 

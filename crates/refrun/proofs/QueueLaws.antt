@@ -10,14 +10,14 @@ use Rattle.std.proofs.lemmas.List.{append-nil, map-append, length-set, get_or-se
 use Rattle.std.proofs.lemmas.Map.Keys.{IsDistinct-push}
 use Rattle.ref_base.specs.declared.fault.Fault.{Fault}
 use Rattle.ref_base.specs.declared.fault.Fault.TheVariants.{NoMemory}
-use Rattle.ref_base.specs.declared.step.Step.{Step}
-use Rattle.ref_base.specs.declared.step.Step.TheVariants.{New, Weak, Unhook, Put, Release, Poll, Close}
-use Rattle.ref_base.specs.declared.reply.Reply.{Reply}
-use Rattle.ref_base.specs.declared.reply.Reply.TheVariants as replies
-use Rattle.ref_base.specs.declared.row.Row.{Row}
-use Rattle.ref_base.specs.QueueRows.{Held, Hands, with_held, held_after, put_by, taken_by, closed_by}
+use Rattle.refrun.specs.declared.rows.Step.{Step}
+use Rattle.refrun.specs.declared.rows.Step.TheVariants.{New, Weak, Unhook, Put, Release, Poll, Close}
+use Rattle.refrun.specs.declared.rows.Reply.{Reply}
+use Rattle.refrun.specs.declared.rows.Reply.TheVariants as replies
+use Rattle.refrun.specs.declared.rows.Row.{Row}
+use Rattle.refrun.specs.QueueRows.{Held, Hands, with_held, held_after, put_by, taken_by, closed_by}
+use Rattle.ref_base.proofs.HasLaws.{has-list_any}
 use Rattle.ref_queue.specs.QueueLists.{Lists, enqueued, was_put, with_parcel, with_taken}
-use Rattle.ref_queue.proofs.QueueLemmas.{has-list_any}
 use Rattle.refrun.specs.Tables.{State, new_queue, object_of, slot_at, hand_at, object_at, queue_at}
 use Rattle.refrun.specs.Tables.{with_object, with_hand, with_queue, IsAnswer, IsRow}
 use Rattle.refrun.specs.Tables.{unless, is_mutator, is_queue, is_queue_or_none, unless_empty, refusal}

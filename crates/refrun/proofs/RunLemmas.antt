@@ -5,9 +5,9 @@ use Rattle.std.specs.Prelude.{nat_eq, slice_index_or, replicate}
 use Rattle.std.specs.List.{IsDistinct}
 use Rattle.std.proofs.lemmas.List.{append-nil, length-replicate}
 use Rattle.ref_base.specs.declared.config.Config.{Config}
-use Rattle.ref_base.specs.declared.row.Row.{Row}
-use Rattle.ref_base.specs.QueueRows.{Hands, empty_hands, held_after, put_from, put_into, taken_from, was_closed}
-use Rattle.ref_base.specs.QueueRows.{KeepsQueue}
+use Rattle.refrun.specs.declared.rows.Row.{Row}
+use Rattle.refrun.specs.QueueRows.{Hands, empty_hands, held_after, put_from, put_into, taken_from, was_closed}
+use Rattle.refrun.specs.QueueRows.{KeepsQueue}
 use Rattle.ref_queue.specs.QueueLists.{Lists, enqueued}
 use Rattle.refrun.specs.Tables.{State, new_queue, new_queues, first_state, object_of, queue_at, IsRow, IsRun}
 use Rattle.refrun.specs.declared.table.Notice.{Notice}

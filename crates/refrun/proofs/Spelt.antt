@@ -3,9 +3,9 @@ use Rattle.std.proofs.Common.{◌≡◌, ℕ, suc, ◌^◌, true, false, ◌==�
 use Rattle.std.proofs.Common.{is_some, codes, refl, ap, inl, inr, arith}
 use Rattle.std.proofs.lemmas.Bool.{cases_Bool, le-ltb, eqb-true, or_right}
 use Rattle.ref_base.specs.Texts.{Word, slot, queue, queue_or_none, number}
-use Rattle.ref_base.specs.Steps.{step_words}
-use Rattle.ref_base.specs.declared.step.Step.{Step}
-use Rattle.ref_base.specs.declared.step.Step.TheVariants.{New, Weak, Unhook, Put, Release, Poll, Close}
+use Rattle.refrun.specs.Steps.{step_words}
+use Rattle.refrun.specs.declared.rows.Step.{Step}
+use Rattle.refrun.specs.declared.rows.Step.TheVariants.{New, Weak, Unhook, Put, Release, Poll, Close}
 use Rattle.refrun.specs.Numerals.{number_below, number_behind}
 use Rattle.refrun.specs.Spelling.{IsSpelt, AreSpelt, SpellsStep}
 use Rattle.refrun.specs.StepFaults.{Operand, Slot, Queue, QueueOrNone, Number, operands_of, fits, all_fit}

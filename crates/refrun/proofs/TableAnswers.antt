@@ -4,9 +4,9 @@ use Rattle.std.proofs.Common.{None, get_or}
 use Rattle.std.proofs.Common.{Bool, true, false, if◌then◌else◌, not, inl}
 use Rattle.ref_queue.specs.QueueLists.{Lists}
 use Rattle.refrun.specs.Tables.{State, queue_at, hand_at, with_queue, is_mutator, is_queue, IsRow, Outcome, leads, poll_outcome}
-use Rattle.ref_base.specs.declared.step.Step.TheVariants as steps
-use Rattle.ref_base.specs.declared.reply.Reply.{Reply}
-use Rattle.ref_base.specs.declared.reply.Reply.TheVariants.{Done, Closed}
+use Rattle.refrun.specs.declared.rows.Step.TheVariants as steps
+use Rattle.refrun.specs.declared.rows.Reply.{Reply}
+use Rattle.refrun.specs.declared.rows.Reply.TheVariants.{Done, Closed}
 use Rattle.refrun.specs.SoundTables.{IsSound}
 use Rattle.refrun.specs.declared.table.Notice.{Notice}
 use Rattle.refrun.proofs.Tables.{read_queue}

@@ -1,20 +1,17 @@
 -- The trace so far, and the trace of a whole script.
-use Rattle.std.proofs.Common.{◌≡◌, ℕ, ◌+◌, ◌<◌, ◌≤◌, List, [], ◌∷◌, ◌++◌, length, take, get_or, subst, Option, Some}
+use Rattle.std.proofs.Common.{◌≡◌, ℕ, ◌+◌, ◌<◌, ◌≤◌, List, [], ◌∷◌, ◌++◌, length, take, get_or, subst}
 use Rattle.std.proofs.Common.{None, codes, decimal, refl, sym, ap, ◌∙◌, append_assoc, arith}
 use Rattle.std.proofs.lemmas.List.{length-append, map_push, take_more}
-use Rattle.std.specs.Prelude.{IfSome}
-use Rattle.std.specs.Io.KnownBytes.{Appends}
 use Rattle.std.proofs.lemmas.Bool.{le-leb}
-use Rattle.ref_base.specs.Rows.{row_text}
+use Rattle.refrun.specs.Rows.{row_text}
 use Rattle.ref_base.specs.declared.config.Config.{Config}
-use Rattle.ref_base.specs.declared.step.Step.{Step}
-use Rattle.ref_base.specs.declared.row.Row.{Row}
-use Rattle.refrun.specs.Scripts.{IsScript, AreScript, text_fault}
+use Rattle.refrun.specs.declared.rows.Step.{Step}
+use Rattle.refrun.specs.declared.rows.Row.{Row}
+use Rattle.refrun.specs.Scripts.{IsScript, AreScript}
+use Rattle.refrun.specs.TextFaults.{script_fault}
 use Rattle.refrun.specs.Lines.{lines_of}
 use Rattle.refrun.specs.Tables.{State, first_state, IsRow, IsRun}
 use Rattle.refrun.specs.Traces.{numbered, trace_text, steps_of, AddsRow, TracesSteps, PrintsTrace}
-use Rattle.refrun.specs.Streams.{AppendsPrefix}
-use Rattle.refrun.specs.declared.fault.TextFault.{TextFault}
 use Rattle.refrun.proofs.FaultLaws.{script_without_fault}
 use Rattle.refrun.proofs.RunLemmas.{run_push, run_keeps_queue}
 
@@ -94,47 +91,23 @@ step_taken items seen i next taken seen_is within next_is taken_is =
     take_more items i next here ∙ ap (λ (s : Step). take i items ++ s ∷ []) (ap (λ
     (xs : List Step). get_or xs i next) (sym seen_is) ∙ sym next_is ∙ sym taken_is)
 
--- a text that was read and spells a script is a script
-is_script : (text items slice : List ℕ) (config : Config) (steps : List Step) → items ≡ text
-    → length items ≤ 4194304 → slice ≡ items → AreScript (lines_of slice) config steps → IsScript text config steps
-is_script text items slice config steps read short same lines = record {
-  short = le-leb _ _ (omega (arith, short, ap length read));
-  lines = subst (λ (t : List ℕ). AreScript (lines_of t) config steps) (same ∙ read) lines;
+-- a short enough slice that spells a script is a script
+pub is_script : (items slice : List ℕ) (config : Config) (steps : List Step) → length items ≤ 4194304
+    → slice ≡ items → AreScript (lines_of slice) config steps → IsScript items config steps
+is_script items slice config steps short same lines = record {
+  short = le-leb _ _ short;
+  lines = subst (λ (t : List ℕ). AreScript (lines_of t) config steps) same lines;
 }
 
--- the whole trace has gone out
-pub answers_done : (known : Option (List ℕ)) (items slice bytes printed : List ℕ) (config : Config)
-    (steps : List Step) (old new : Option (List ℕ)) → IfSome known (λ text. items ≡ text) → length items ≤ 4194304
-    → slice ≡ items → AreScript (lines_of slice) config steps → TracesSteps config steps printed → bytes ≡ printed
-    → Appends old new bytes
-    → IfSome known (λ text. (out : List ℕ) × PrintsTrace text out × Appends old new out)
-answers_done None items slice bytes printed config steps old new read short same lines traced bytes_are gone = tt
-answers_done (Some text) items slice bytes printed config steps old new read short same lines traced bytes_are gone = (
-  printed,
-  prints_trace text printed config steps
-      (is_script text items slice config steps read short same lines) traced,
-  rw bytes_are at gone,
-)
+-- the slice prints the trace of the steps that it spells
+pub slice_prints_trace : (items slice printed : List ℕ) (config : Config) (steps : List Step)
+    → length items ≤ 4194304 → slice ≡ items → AreScript (lines_of slice) config steps
+    → TracesSteps config steps printed → PrintsTrace items printed
+slice_prints_trace items slice printed config steps short same lines traced =
+    prints_trace items printed config steps (is_script items slice config steps short same lines) traced
 
--- a prefix of it has
-pub answers_prefix : (known : Option (List ℕ)) (items slice bytes printed : List ℕ) (config : Config)
-    (steps : List Step) (old new : Option (List ℕ)) → IfSome known (λ text. items ≡ text) → length items ≤ 4194304
-    → slice ≡ items → AreScript (lines_of slice) config steps → TracesSteps config steps printed → bytes ≡ printed
-    → AppendsPrefix old new bytes
-    → IfSome known (λ text. (out : List ℕ) × PrintsTrace text out × AppendsPrefix old new out)
-answers_prefix None items slice bytes printed config steps old new read short same lines traced bytes_are gone = tt
-answers_prefix (Some text) items slice bytes printed config steps old new read short same lines traced are gone = (
-  printed,
-  prints_trace text printed config steps
-      (is_script text items slice config steps read short same lines) traced,
-  rw are at gone,
-)
-
--- there is no fault to tell of
-pub tells_nothing : (known : Option (List ℕ)) (items slice : List ℕ) (config : Config) (steps : List Step)
-    (P : TextFault → Type 0) → IfSome known (λ text. items ≡ text) → length items ≤ 4194304
-    → slice ≡ items → AreScript (lines_of slice) config steps → IfSome known (λ text. IfSome (text_fault text) P)
-tells_nothing None items slice config steps P read short same lines = tt
-tells_nothing (Some text) items slice config steps P read short same lines =
-    let none = script_without_fault text config steps (is_script text items slice config steps read short same lines) in
-    rw none tt
+-- a slice that spells a script has no fault
+pub slice_without_fault : (items slice : List ℕ) (config : Config) (steps : List Step) → length items ≤ 4194304
+    → slice ≡ items → AreScript (lines_of slice) config steps → script_fault items ≡ None
+slice_without_fault items slice config steps short same lines =
+    script_without_fault items config steps (is_script items slice config steps short same lines)

@@ -1,9 +1,9 @@
 -- What the call that does a step gives back.
 use Rattle.std.specs.Prelude.{Result, Ok, Err}
 use Rattle.ref_base.specs.declared.fault.Fault.{Fault}
-use Rattle.ref_base.specs.declared.reply.Reply.{Reply}
-use Rattle.ref_base.specs.declared.reply.Reply.TheVariants.{Refused}
-use Rattle.ref_base.specs.declared.step.Step.{Step}
+use Rattle.refrun.specs.declared.rows.Reply.{Reply}
+use Rattle.refrun.specs.declared.rows.Reply.TheVariants.{Refused}
+use Rattle.refrun.specs.declared.rows.Step.{Step}
 use Rattle.refrun.specs.Tables.{State, IsRow}
 
 -- a fault is a reply too

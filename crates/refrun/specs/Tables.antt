@@ -7,11 +7,11 @@ use Rattle.ref_base.specs.declared.config.Config.{Config}
 use Rattle.ref_base.specs.declared.fault.Fault.{Fault}
 use Rattle.ref_base.specs.declared.fault.Fault.TheVariants.{NoMemory, NoCell, EmptySlot, BadField, NotAReference}
 use Rattle.ref_base.specs.declared.fault.Fault.TheVariants.{NoSuchActor, BadQueue, HandFull, HandEmpty}
-use Rattle.ref_base.specs.declared.step.Step.{Step}
-use Rattle.ref_base.specs.declared.step.Step.TheVariants.{New, Weak, Unhook, Put, Release, Poll, Close}
-use Rattle.ref_base.specs.declared.reply.Reply.{Reply}
-use Rattle.ref_base.specs.declared.reply.Reply.TheVariants as replies
-use Rattle.ref_base.specs.declared.row.Row.{Row}
+use Rattle.refrun.specs.declared.rows.Step.{Step}
+use Rattle.refrun.specs.declared.rows.Step.TheVariants.{New, Weak, Unhook, Put, Release, Poll, Close}
+use Rattle.refrun.specs.declared.rows.Reply.{Reply}
+use Rattle.refrun.specs.declared.rows.Reply.TheVariants as replies
+use Rattle.refrun.specs.declared.rows.Row.{Row}
 use Rattle.ref_queue.specs.QueueLists.{Lists, enqueued, was_put, with_parcel, with_taken}
 use Rattle.refrun.specs.declared.table.Object.{Object}
 use Rattle.refrun.specs.declared.table.Object.TheVariants.{Plain, Reference}

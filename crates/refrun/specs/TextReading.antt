@@ -1,7 +1,7 @@
 -- What the reading of a text answers.
 use Rattle.std.specs.Prelude.{◌≡◌, ℕ, List, ◌++◌, length, Option, Some, Result, Ok, Err, Vec}
 use Rattle.std.specs.Io.KnownBytes.{Consumes, IsAtEnd}
-use Rattle.refrun.specs.Scripts.{text_fault}
+use Rattle.refrun.specs.TextFaults.{Place, fault_at}
 use Rattle.refrun.specs.declared.fault.TextFault.{TextFault}
 use Rattle.refrun.specs.declared.fault.TextFault.TheVariants.{Line, TooLong, CannotRead, CannotWrite, NoMemory}
 
@@ -9,7 +9,7 @@ use Rattle.refrun.specs.declared.fault.TextFault.TheVariants.{Line, TooLong, Can
 abbrev pub ReadsText : {A : Type 0} → List ℕ → Result (Vec ℕ A) TextFault → Type 0
 ReadsText text (Ok bytes) = bytes.items ≡ text
 ReadsText text (Err (Line k fault)) = ⊥
-ReadsText text (Err TooLong) = text_fault text ≡ Some TooLong
+ReadsText text (Err TooLong) = (place : Place) → fault_at place text ≡ Some TooLong
 ReadsText text (Err CannotRead) = Unit {0}
 ReadsText text (Err CannotWrite) = ⊥
 ReadsText text (Err NoMemory) = Unit {0}

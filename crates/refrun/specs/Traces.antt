@@ -1,17 +1,15 @@
 -- What a script's run prints, and what each answer of a run says.
-use Rattle.std.specs.Prelude.{◌≡◌, ℕ, ◌+◌, Bool, true, false, List, [], ◌∷◌, ◌++◌, map, Option, Some, Result, Ok, Err}
-use Rattle.std.specs.Prelude.{codes, decimal, ◌⊎◌}
-use Rattle.std.specs.Io.KnownBytes.{Keeps, Appends}
-use Rattle.ref_base.specs.Rows.{row_text}
-use Rattle.ref_base.specs.QueueRows.{KeepsQueue}
+use Rattle.std.specs.Prelude.{◌≡◌, ℕ, ◌+◌, List, [], ◌∷◌, ◌++◌, map, Option, Result, codes, decimal}
+use Rattle.refrun.specs.Rows.{row_text}
+use Rattle.refrun.specs.QueueRows.{KeepsQueue}
 use Rattle.ref_base.specs.declared.config.Config.{Config}
-use Rattle.ref_base.specs.declared.step.Step.{Step}
-use Rattle.ref_base.specs.declared.row.Row.{Row}
-use Rattle.refrun.specs.Scripts.{IsScript, text_fault}
+use Rattle.refrun.specs.declared.rows.Step.{Step}
+use Rattle.refrun.specs.declared.rows.Row.{Row}
+use Rattle.refrun.specs.Answers.{AnswersText}
+use Rattle.refrun.specs.Scripts.{IsScript}
 use Rattle.refrun.specs.Tables.{State, first_state, IsRow, IsRun}
-use Rattle.refrun.specs.Streams.{AppendsPrefix}
+use Rattle.refrun.specs.TextFaults.{script_fault}
 use Rattle.refrun.specs.declared.fault.TextFault.{TextFault}
-use Rattle.refrun.specs.declared.fault.TextFault.TheVariants.{Line, TooLong, CannotRead, CannotWrite, NoMemory}
 
 -- a line for each row, the first of which has number k
 abbrev pub numbered : ℕ → List Row → List ℕ
@@ -56,44 +54,4 @@ pub record PrintsTrace (text printed : List ℕ) : Type 0 where
 
 -- What an answer says of the text that was read, and of what had gone out before the run and has now.
 abbrev pub AnswersRun : {T : Type 0} → List ℕ → Option (List ℕ) → Option (List ℕ) → Result T TextFault → Type 0
--- the whole trace has gone out
-AnswersRun text old new (Ok _) = (printed : List ℕ) × PrintsTrace text printed × Appends old new printed
--- a prefix of it has
-AnswersRun text old new (Err CannotWrite) =
-    (printed : List ℕ) × PrintsTrace text printed × AppendsPrefix old new printed
--- nothing has, and this is the text's fault
-AnswersRun text old new (Err (Line k fault)) = (text_fault text ≡ Some (Line k fault)) × Keeps old new
-AnswersRun text old new (Err TooLong) = (text_fault text ≡ Some TooLong) × Keeps old new
--- nothing has
-AnswersRun text old new (Err CannotRead) = Keeps old new
-AnswersRun text old new (Err NoMemory) = Keeps old new
-
--- nothing goes out but at the end of a run that was not given up before
-abbrev pub KeepsUnlessRun : {T : Type 0} → Option (List ℕ) → Option (List ℕ) → Result T TextFault → Type 0
-KeepsUnlessRun old new (Ok _) = Unit {0}
-KeepsUnlessRun old new (Err CannotWrite) = Unit {0}
-KeepsUnlessRun old new (Err (Line k fault)) = Keeps old new
-KeepsUnlessRun old new (Err TooLong) = Keeps old new
-KeepsUnlessRun old new (Err CannotRead) = Keeps old new
-KeepsUnlessRun old new (Err NoMemory) = Keeps old new
-
--- a faulty text is answered by its fault, unless reading failed or memory ran out
-abbrev pub TellsFault : {T : Type 0} → TextFault → Result T TextFault → Type 0
-TellsFault fault (Ok _) = ⊥
-TellsFault fault (Err e) = (e ≡ fault) ⊎ ((e ≡ CannotRead) ⊎ (e ≡ NoMemory))
-
-abbrev pub is_cannot_read : {T : Type 0} → Result T TextFault → Bool
-is_cannot_read (Ok _) = false
-is_cannot_read (Err (Line k fault)) = false
-is_cannot_read (Err TooLong) = false
-is_cannot_read (Err CannotRead) = true
-is_cannot_read (Err CannotWrite) = false
-is_cannot_read (Err NoMemory) = false
-
-abbrev pub is_cannot_write : {T : Type 0} → Result T TextFault → Bool
-is_cannot_write (Ok _) = false
-is_cannot_write (Err (Line k fault)) = false
-is_cannot_write (Err TooLong) = false
-is_cannot_write (Err CannotRead) = false
-is_cannot_write (Err CannotWrite) = true
-is_cannot_write (Err NoMemory) = false
+AnswersRun text old new result = AnswersText (PrintsTrace text) (script_fault text) old new result

@@ -1,39 +1,46 @@
-//! What is wrong with a text, or with the ends that it is read from and its trace is written to.
+//! What is wrong with a text, or with the ends that it is read from and its output is written to.
 
 use crate::source::ReadError;
 use std::alloc::{AllocError, AllocFailed};
 use thiserror::Error;
 
-/// What is wrong with a line. It prints as it stands behind the line's number.
+/// What is wrong with a line of a script or a graph text. It prints as it stands behind the line's number.
 #[derive(Clone, Copy, Debug, PartialEq, Eq, Error)]
 pub enum LineFault {
-    /// More than 200 bytes stand before the line's end.
+    /// In both texts: more than 200 bytes stand before the line's end.
     #[error("line too long")]
     LineTooLong,
-    /// A byte is above 127.
+    /// In both texts: a byte is above 127.
     #[error("not ASCII")]
     NotAscii,
-    /// The first line that says something isn't `refscript 1`.
+    /// In both texts: the first line that says something isn't `refscript 1` in a script, or `refgraph 1` in a graph
+    /// text.
     #[error("bad header")]
     BadHeader,
-    /// The next isn't `config` and five numbers within their limits.
+    /// In a script alone: the next isn't `config` and five numbers within their limits.
     #[error("bad config")]
     BadConfig,
-    /// No step has this actor's letter and this name.
+    /// In a script alone: no step has this actor's letter and this name.
     #[error("unknown step")]
     UnknownStep,
-    /// The step wants more words.
+    /// In a graph text alone: no line begins with this word.
+    #[error("unknown line")]
+    UnknownLine,
+    /// In both texts: the step or the line wants more words.
     #[error("missing word")]
     MissingWord,
-    /// An actor's number or an operand isn't of its form.
+    /// In both texts: an actor's number or an operand isn't of its form.
     #[error("bad word")]
     BadWord,
-    /// A word stands behind the last operand.
+    /// In both texts: a word stands behind the last operand.
     #[error("extra word")]
     ExtraWord,
+    /// In a graph text alone: an object of this number was declared before.
+    #[error("double object")]
+    DoubleObject,
 }
 
-/// Why no whole trace was written.
+/// Why no whole trace or listing was written.
 #[derive(Clone, Copy, Debug, PartialEq, Eq, Error)]
 pub enum TextFault {
     /// The first faulty line, counted from 1, and its fault. Nothing was written.
@@ -45,7 +52,7 @@ pub enum TextFault {
     /// A read failed. Nothing was written.
     #[error("cannot read")]
     CannotRead,
-    /// A write failed. A prefix of the trace may have gone out.
+    /// A write failed. A prefix of the output may have gone out.
     #[error("cannot write")]
     CannotWrite,
     /// Memory ran out. Nothing was written.

@@ -1,17 +1,20 @@
 //! What the definitions say together, beside any code.
 
 ghost use Rattle.std.specs.Prelude.{◌≡◌, ℕ, List, None};
-ghost use Rattle.ref_base.specs.QueueRows.{KeepsQueue};
+ghost use Rattle.refrun.specs.QueueRows.{KeepsQueue};
 ghost use Rattle.ref_base.specs.declared.config.Config.{Config};
-ghost use Rattle.ref_base.specs.declared.row.Row.{Row};
-ghost use Rattle.ref_base.specs.declared.step.Step.{Step};
-ghost use Rattle.refrun.specs.Scripts.{IsScript, text_fault};
+ghost use Rattle.refrun.specs.declared.rows.Row.{Row};
+ghost use Rattle.refrun.specs.declared.rows.Step.{Step};
+ghost use Rattle.refrun.specs.Scripts.{IsScript};
+ghost use Rattle.ref_base.specs.Graphs.{Graph};
+ghost use Rattle.refrun.specs.GraphTexts.{DeclaresGraph};
+ghost use Rattle.refrun.specs.TextFaults.{script_fault, graph_fault};
 ghost use Rattle.refrun.specs.Tables.{State, first_state, IsRun};
 
 /// A text that spells a script has no fault: nothing in the grammar is refused.
 pub fn a_script_has_no_fault()
     ensures { (text : List ℕ) (config : Config) (steps : List Step) → IsScript text config steps
-        → text_fault text ≡ None }
+        → script_fault text ≡ None }
 {}
 
 /// Whatever steps are run, each queue keeps its lists.
@@ -24,4 +27,14 @@ pub fn queues_are_kept()
 pub fn a_text_spells_one_script()
     ensures { (text : List ℕ) (c d : Config) (r s : List Step) → IsScript text c r → IsScript text d s
         → (c ≡ d) × (r ≡ s) }
+{}
+
+/// A text that declares a graph has no fault: nothing in the grammar is refused.
+pub fn a_graph_text_has_no_fault()
+    ensures { (text : List ℕ) (graph : Graph) → DeclaresGraph text graph → graph_fault text ≡ None }
+{}
+
+/// A text declares at most one graph.
+pub fn a_text_declares_one_graph()
+    ensures { (text : List ℕ) (g h : Graph) → DeclaresGraph text g → DeclaresGraph text h → g ≡ h }
 {}

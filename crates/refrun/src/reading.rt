@@ -1,7 +1,7 @@
 //! Reading a text whole, before anything of it is used.
 
 ghost use Rattle.std.specs.Prelude.{◌≡◌, ◌<◌, ◌≤◌, ◌||◌, length, Ok, IfOk, IfErr, IfSome, vec_len};
-ghost use Rattle.refrun.specs.Traces.{is_cannot_read};
+ghost use Rattle.refrun.specs.Answers.{is_cannot_read};
 ghost use Rattle.refrun.specs.TextReading.{ReadsText, ReadsMore, IsReadingFault, IsReadingFailure};
 
 use crate::fault::TextFault;

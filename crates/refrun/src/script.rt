@@ -1,23 +1,24 @@
 //! A whole script: its header, its configuration and its steps.
 
-ghost use Rattle.std.specs.Prelude.{◌≡◌, ◌+◌, ◌≤◌, ◌<◌, ◌^◌, ℕ, true, [], ◌∷◌, ◌++◌, Some, None, OnOk, OnSome};
-ghost use Rattle.std.specs.Prelude.{length, IfOk, IfErr, IfSome, MatchResult};
-ghost use Rattle.std.specs.Char.{is_ascii};
+ghost use Rattle.std.specs.Prelude.{◌≡◌, ◌+◌, ◌≤◌, ◌^◌, true, [], ◌∷◌, ◌++◌, Some, None, OnOk, OnSome, length};
+ghost use Rattle.std.specs.Prelude.{IfOk, IfErr};
 ghost use Rattle.std.specs.List.{list_all};
-ghost use Rattle.refrun.specs.Lines.{lines_of, content_of, words_of};
-ghost use Rattle.refrun.specs.LineViews.{line_of};
-ghost use Rattle.refrun.specs.Scripts.{Place, Header, Steps, is_plain, begins_remark, says_nothing, told, is_header};
-ghost use Rattle.refrun.specs.Scripts.{config_of, SpellSteps, AreScript, plain_fault, fault_or, first_fault};
+ghost use Rattle.refrun.specs.Lines.{lines_of, words_of};
+ghost use Rattle.refrun.specs.LineReading.{FailsFor};
+ghost use Rattle.refrun.specs.Scripts.{is_header, config_of, SpellSteps, AreScript};
 ghost use Rattle.refrun.specs.Spelling.{SpellsStep};
 ghost use Rattle.refrun.specs.StepFaults.{step_fault};
-ghost use Rattle.ref_base.specs.declared.step.Step.{Step};
-ghost use Rattle.refrun.specs.ScriptReading.{FailsFor, Finds};
+ghost use Rattle.refrun.specs.TextFaults.{ScriptHeader, Steps, fault_or, first_fault};
+ghost use Rattle.refrun.specs.ToldLines.{is_plain, told};
+ghost use Rattle.refrun.specs.declared.rows.Step.{Step};
 
 use crate::fault::{LineFault, TextFault};
-use crate::lines::{Line, next_line, next_word};
+use crate::lines::next_word;
 use crate::numerals::{long_number, short_number};
+use crate::rows::Step;
 use crate::steps::step_of;
-use ref_base::{Config, QueueNo, Step};
+use crate::told::{is_titled, next_told};
+use ref_base::{Config, QueueNo};
 use std::alloc::Allocator;
 
 /// What a script says.
@@ -27,19 +28,11 @@ pub struct Script<A: Allocator> {
     pub steps: Vec<Step, A>,
 }
 
-/// A line that says something, where one is left, its number, and the text behind it.
-#[derive(Clone, Copy)]
-struct Told<'a> {
-    content: Option<&'a [u8]>,
-    number: u64,
-    rest: &'a [u8],
-}
-
 /// The script that a text spells, or the fault of its first faulty line.
 pub fn script_of<A: Allocator>(alloc: A, text: &[u8]) -> Result<Script<A>, TextFault>
     requires { length text.now ≤ 4194304 }
     ensures found { IfOk result (λ script. AreScript (lines_of text.now) script.config script.steps.items) }
-    ensures fault { IfErr result (λ e. FailsFor e (first_fault Header 1 (lines_of text.now))) }
+    ensures fault { IfErr result (λ e. FailsFor e (first_fault ScriptHeader 1 (lines_of text.now))) }
 {
     let header = next_told(text, 0)?;
     let Some(line) = header.content else {
@@ -95,94 +88,11 @@ fn add_step<A: Allocator>(
     Ok(())
 }
 
-/// The first line behind the line of this number that says something. Each line up to it is short enough and ASCII.
-fn next_told(text: &[u8], number: u64) -> Result<Told<'_>, TextFault>
-    requires { number + length text.now ≤ 4194305 }
-    ensures found { IfOk result (Finds text.now number) }
-    ensures behind { IfOk result (λ t. OnSome t.content (t.number + length t.rest.now ≤ number + length text.now)) }
-    ensures shorter { IfOk result (λ t. OnSome t.content (length t.rest.now < length text.now)) }
-    ensures fault { IfErr result (λ e. (place : Place) → first_fault place (number + 1) (lines_of text.now) ≡ Some e) }
-{
-    let mut rest = text;
-    let mut number = number;
-    while let Some((line, behind)) = next_line(rest) {
-        number += 1;
-        rest = behind;
-        let content = match plain(line) {
-            Ok(content) => content,
-            Err(fault) => return Err(TextFault::Line(number, fault)),
-        };
-        if !says_nothing(content) {
-            return Ok(Told {
-                content: Some(content),
-                number,
-                rest,
-            });
-        }
-    }
-    Ok(Told {
-        content: None,
-        number: number + 1,
-        rest,
-    })
-}
-
-/// What a line's words stand in, where the line isn't too long and is ASCII.
-fn plain(line: Line<'_>) -> Result<&[u8], LineFault>
-    ensures { MatchResult result (λ content. (plain_fault (line_of line.entry) ≡ None) × (content.now ≡ content_of
-        (line_of line.entry)))
-        (λ fault. plain_fault (line_of line.entry) ≡ Some fault) }
-{
-    if line.bytes.len() > 200 {
-        return Err(LineFault::LineTooLong);
-    }
-    if !are_ascii(line.bytes) {
-        return Err(LineFault::NotAscii);
-    }
-    Ok(line.content())
-}
-
-/// Whether each byte is ASCII.
-fn are_ascii(bytes: &[u8]) -> bool
-    ensures { result ≡ list_all is_ascii bytes.now }
-{
-    bytes.iter().all(|byte| byte.is_ascii())
-}
-
-/// Whether a line is blank or a remark.
-fn says_nothing(content: &[u8]) -> bool
-    ensures { result ≡ says_nothing (words_of content.now) }
-{
-    match next_word(content) {
-        None => true,
-        Some((word, _)) => begins_remark(word),
-    }
-}
-
-/// Whether a word begins with `#`.
-fn begins_remark(word: &[u8]) -> bool
-    ensures { result ≡ begins_remark word.now }
-{
-    match word.split_first() {
-        Some((first, _)) => *first == b'#',
-        None => false,
-    }
-}
-
 /// Whether a line is the header.
 fn is_header(line: &[u8]) -> bool
     ensures { result ≡ is_header (words_of line.now) }
 {
-    let Some((name, rest)) = next_word(line) else {
-        return false;
-    };
-    let Some((version, rest)) = next_word(rest) else {
-        return false;
-    };
-    if next_word(rest).is_some() {
-        return false;
-    }
-    name == b"refscript".as_slice() && version == b"1".as_slice()
+    is_titled(line, b"refscript".as_slice())
 }
 
 /// The configuration that a line spells, within its limits or not.

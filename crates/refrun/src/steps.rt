@@ -10,7 +10,9 @@ ghost use Rattle.refrun.specs.StepFaults.{Slot, Queue, QueueOrNone, Number, fits
 use crate::fault::LineFault;
 use crate::lines::next_word;
 use crate::numerals::short_number;
-use ref_base::{MutNo, QueueNo, SlotNo, Step};
+use crate::operands::{ends, operand};
+use crate::rows::Step;
+use ref_base::{MutNo, QueueNo, SlotNo};
 
 /// The step that a line spells, or the first of its faults by kind.
 pub fn step_of(line: &[u8]) -> Result<Step, LineFault>
@@ -137,26 +139,6 @@ fn close_step(number: &[u8], operands: &[u8]) -> Result<Step, LineFault>
     let queue = queue_of(queue)?;
     ends(rest)?;
     Ok(Step::Close { mutator, queue })
-}
-
-/// The next operand, and the line behind it.
-fn operand(line: &[u8]) -> Result<(&[u8], &[u8]), LineFault>
-    ensures { MatchResult result (λ r. words_of line.now ≡ r.0.now ∷ words_of r.1.now)
-        (λ fault. (words_of line.now ≡ []) × (fault ≡ LineFault.MissingWord)) }
-{
-    next_word(line).ok_or(LineFault::MissingWord)
-}
-
-/// Whether no word is left.
-fn ends(line: &[u8]) -> Result<(), LineFault>
-    ensures { MatchResult result (λ _. words_of line.now ≡ [])
-        (λ fault. (word : List ℕ) × (words : List (List ℕ)) × (words_of line.now ≡ word ∷ words) ×
-        (fault ≡ LineFault.ExtraWord)) }
-{
-    match next_word(line) {
-        None => Ok(()),
-        Some(_) => Err(LineFault::ExtraWord),
-    }
 }
 
 fn mutator_of(number: &[u8]) -> Result<MutNo, LineFault>

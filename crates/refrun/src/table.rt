@@ -10,7 +10,8 @@ ghost use Rattle.refrun.specs.Tables.{put_outcome, poll_outcome};
 ghost use Rattle.refrun.specs.TableAnswers.{reply_of, Does};
 ghost use Rattle.refrun.specs.SoundTables.{IsHeld, IsRegistered, IsHanded};
 
-use ref_base::{Config, Fault, MutNo, ObjNo, Parcel, QueueNo, Reply, SlotNo, Step};
+use crate::rows::{Reply, Step};
+use ref_base::{Config, Fault, MutNo, ObjNo, Parcel, QueueNo, SlotNo};
 use ref_queue::{Polled, Put, Queue};
 use std::alloc::{AllocError, Allocator};
 use std::marker::Model;

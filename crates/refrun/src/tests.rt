@@ -1,5 +1,7 @@
 mod cases;
 mod fakes;
+mod graph_cases;
+mod graphs;
 mod memory;
 
 use crate::{FromReader, TextFault, ToWriter, run_script};

@@ -3,18 +3,19 @@
 ghost use Rattle.std.specs.Prelude.{◌≡◌, ◌++◌, ◌∷◌, [], ◌||◌, true, decimal, string_bytes, length, IfOk, OnOk, OnErr};
 ghost use Rattle.std.specs.Prelude.{IfSome};
 ghost use Rattle.ref_base.specs.Limits.{is_within_limits};
-ghost use Rattle.ref_base.specs.Rows.{row_text};
-ghost use Rattle.refrun.specs.Scripts.{text_fault};
-ghost use Rattle.refrun.specs.Traces.{TracesSteps, AddsRow, AnswersRun, KeepsUnlessRun, TellsFault, is_cannot_read};
-ghost use Rattle.refrun.specs.Traces.{is_cannot_write};
+ghost use Rattle.refrun.specs.Rows.{row_text};
+ghost use Rattle.refrun.specs.TextFaults.{script_fault};
+ghost use Rattle.refrun.specs.Traces.{TracesSteps, AddsRow, AnswersRun};
+ghost use Rattle.refrun.specs.Answers.{KeepsUnlessDone, TellsFault, is_cannot_read, is_cannot_write};
 
 use crate::fault::TextFault;
 use crate::reading::text_of;
+use crate::rows::{Row, Step};
 use crate::script::{Script, script_of};
 use crate::sink::{TextSink, WriteFailed};
 use crate::source::TextSource;
 use crate::table::Table;
-use ref_base::{QueueNo, Row, Step};
+use ref_base::QueueNo;
 use std::alloc::{AllocError, Allocator};
 
 /// Reads a script, runs it, and writes its trace.
@@ -34,10 +35,10 @@ pub fn run_script<R: TextSource, W: TextSink, A: Allocator + Copy>(
     ensures answer { IfSome (R.remaining reader.old) (λ text.
         AnswersRun text (W.contents writer.old) (W.contents writer.new) result) }
     ensures refused { IfSome (R.remaining reader.old) (λ text.
-        IfSome (text_fault text) (λ fault. TellsFault fault result)) }
+        IfSome (script_fault text) (λ fault. TellsFault fault result)) }
 
     // Whatever is known of the text.
-    ensures kept { KeepsUnlessRun (W.contents writer.old) (W.contents writer.new) result }
+    ensures kept { KeepsUnlessDone (W.contents writer.old) (W.contents writer.new) result }
     ensures cannot_read { R.has_failed reader.new ≡ (R.has_failed reader.old || is_cannot_read result) }
     ensures cannot_write { W.has_failed writer.new ≡ (W.has_failed writer.old || is_cannot_write result) }
 {

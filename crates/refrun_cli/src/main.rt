@@ -1,11 +1,12 @@
-//! The program `refrun`. `refrun run` reads a script on standard input and prints its trace on standard output. What it
-//! says on standard error begins with `refrun: `, but for what `clap` says of a wrong command line. Exit statuses: 0
-//! done, 2 a wrong command line, 3 a fault of the text or of reading and writing, 5 no memory.
+//! The program `refrun`. `refrun run` reads a script on standard input and prints its trace on standard output;
+//! `refrun strength` reads a graph text and prints how strongly each of its objects is reachable. What it says on standard
+//! error begins with `refrun: `, but for what `clap` says of a wrong command line. Exit statuses: 0 done, 2 a wrong
+//! command line, 3 a fault of the text or of reading and writing, 5 no memory.
 #![tactic(auto)]
 
 use clap::error::ErrorKind;
 use clap::{ArgMatches, Command, Error};
-use refrun::{FromReader, TextFault, ToWriter, run_script};
+use refrun::{FromReader, TextFault, ToWriter, run_script, strength_text};
 use std::alloc::Global;
 use std::process::ExitCode;
 use std::{env, io};
@@ -25,22 +26,29 @@ fn main(rt: HostRuntime) -> ExitCode {
         }
     };
     match command_of(rt.alloc(), words.as_slice()) {
+        Ok(matches) if matches.subcommand_name() == Some("strength") => strength(&rt),
         Ok(_) => run(&rt),
         Err(error) => refuse(&rt, error),
     }
 }
 
-/// What the words ask for. There is one thing to do as yet.
+/// What the words ask for: `run` or `strength`.
 fn command_of<'a>(alloc: Global, words: &'a [String]) -> Result<ArgMatches<'a>, Error> {
     let run = Command::new(alloc, "run").about(
         "Reads a script on standard input and prints its trace",
     );
+    let strength = Command::new(alloc, "strength").about(
+        "Reads a graph text on standard input and prints a strength per object",
+    );
     Command::new(alloc, "refrun")
         .bin_name("refrun")?
-        .about("Runs scripts of reference processing and prints their traces")
+        .about(
+            "Runs scripts of reference processing and prints their traces, and the strengths of object graphs",
+        )
         .version("0.1.0")
         .subcommand_required(true)
         .subcommand(run)?
+        .subcommand(strength)?
         .try_get_matches_from(words)
 }
 
@@ -48,7 +56,19 @@ fn command_of<'a>(alloc: Global, words: &'a [String]) -> Result<ArgMatches<'a>, 
 fn run<R: Input + Print + Eprint + AllocGlobal>(rt: &R) -> ExitCode {
     let mut reader = FromReader::new(rt.reader());
     let mut writer = ToWriter::new(io::writer(rt));
-    match run_script(rt.alloc(), &mut reader, &mut writer) {
+    status(rt, run_script(rt.alloc(), &mut reader, &mut writer))
+}
+
+/// Prints the strengths of the graph on standard input.
+fn strength<R: Input + Print + Eprint + AllocGlobal>(rt: &R) -> ExitCode {
+    let mut reader = FromReader::new(rt.reader());
+    let mut writer = ToWriter::new(io::writer(rt));
+    status(rt, strength_text(rt.alloc(), &mut reader, &mut writer))
+}
+
+/// The status of what a text answered, whose fault is told.
+fn status(rt: &impl Eprint, answer: Result<(), TextFault>) -> ExitCode {
+    match answer {
         Ok(()) => ExitCode::SUCCESS,
         Err(fault) => report(rt, fault),
     }

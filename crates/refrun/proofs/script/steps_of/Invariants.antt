@@ -1,4 +1,5 @@
-use Rattle.refrun.proofs.ScriptLines.{HasRead, left_in}
+use Rattle.refrun.proofs.LineLemmas.{left_in}
+use Rattle.refrun.proofs.ScriptLines.{HasRead}
 use Rattle.refrun.proofs.script.steps_of.Given as goal
 
 abbrev pub invariant-loop-told : goal.invariant-loop-told

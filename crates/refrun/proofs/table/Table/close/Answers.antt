@@ -1,6 +1,6 @@
 use Rattle.std.proofs.Common.{◌<◌, ◌∙◌, sym, ap, arith, Bool, if◌then◌else◌}
-use Rattle.ref_base.specs.declared.reply.Reply.{Reply}
-use Rattle.ref_base.specs.declared.reply.Reply.TheVariants.{Done, Closed}
+use Rattle.refrun.specs.declared.rows.Reply.{Reply}
+use Rattle.refrun.specs.declared.rows.Reply.TheVariants.{Done, Closed}
 use Rattle.std.proofs.lemmas.Grind.{common_steps}
 use Rattle.ref_queue.specs.QueueLists.{Lists}
 use Rattle.refrun.specs.declared.table.Notice.{Notice}

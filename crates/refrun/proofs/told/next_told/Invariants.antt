@@ -1,6 +1,6 @@
 use Rattle.std.proofs.Common.{length}
-use Rattle.refrun.proofs.ScriptLines.{Skips}
-use Rattle.refrun.proofs.script.next_told.Given as goal
+use Rattle.refrun.proofs.LineLemmas.{Skips}
+use Rattle.refrun.proofs.told.next_told.Given as goal
 
 abbrev pub invariant-loop-line : goal.invariant-loop-line
 invariant-loop-line l = Skips l.fn.text l.fn.number l.rest l.number

@@ -1,12 +1,13 @@
--- What the reading of a script has come to, line by line.
+-- What the reading of a text has come to, line by line.
 use Rattle.std.specs.Prelude.{◌≡◌, ℕ, ◌+◌, List, [], ◌∷◌, Option, Some, None, IfNone}
 use Rattle.std.specs.Borrow.{Bor}
 use Rattle.std.specs.List.{list_all}
 use Rattle.refrun.specs.Lines.{TextLine, lines_of, words_of}
-use Rattle.refrun.specs.Scripts.{Place, after, is_plain, told, place_fault, end_fault, fault_or, first_fault}
+use Rattle.refrun.specs.TextFaults.{Place, after, place_fault, end_fault, fault_or, first_fault}
+use Rattle.refrun.specs.ToldLines.{is_plain, told}
 use Rattle.refrun.specs.declared.fault.TextFault.{TextFault}
 use Rattle.refrun.specs.declared.fault.TextFault.TheVariants as texts
-use Rattle.refrun.specs.declared.script.Told.{Told}
+use Rattle.refrun.specs.declared.told.Told.{Told}
 
 -- want of memory, or the fault of the text
 abbrev pub FailsFor : TextFault → Option TextFault → Type 0
@@ -25,7 +26,8 @@ in_front (Some content) lines = words_of content.now ∷ lines
 abbrev pub fault_from : Place → Option (Bor (List ℕ)) → ℕ → List TextLine → Option TextFault
 fault_from place None k lines = fault_or k (end_fault place) None
 fault_from place (Some content) k lines =
-    fault_or k (place_fault place (words_of content.now)) (first_fault (after place) (k + 1) lines)
+    fault_or k (place_fault place (words_of content.now))
+    (first_fault (after place (words_of content.now)) (k + 1) lines)
 
 -- behind the line of a number stand the line that was found, if one was, and the rest
 pub record Finds (text : List ℕ) (number : ℕ) (found : Told) : Type 0 where

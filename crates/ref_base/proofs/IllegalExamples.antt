@@ -1,0 +1,158 @@
+-- Traces that differ from worked ones in one reply, and are not legal.
+use Rattle.std.proofs.Common.{◌≡◌, ℕ, Bool, refl, subst, List, [], ◌∷◌, drop, replicate, Option, Some, None, inl, inr}
+use Rattle.ref_base.specs.Graphs.{Graph, Object, plain_object}
+use Rattle.ref_base.specs.Worlds.{first_world}
+use Rattle.ref_base.specs.Collectors.{State}
+use Rattle.ref_base.specs.CollectorRows.{IsRun}
+use Rattle.ref_base.specs.LegalTraces.{IsLegal}
+use Rattle.ref_base.specs.declared.row.Row.{Row}
+use Rattle.ref_base.specs.declared.actor.Actor.TheVariants.{Mutator}
+use Rattle.ref_base.specs.declared.strength.Strength.TheVariants.{Weak}
+use Rattle.ref_base.specs.declared.urgency.Urgency.TheVariants.{Normal}
+use Rattle.ref_base.specs.declared.cause.Cause.TheVariants.{Own}
+use Rattle.ref_base.specs.declared.phase.Phase.TheVariants.{Marking}
+use Rattle.ref_base.specs.declared.fault.Fault.TheVariants.{HandEmpty}
+use Rattle.ref_base.specs.declared.step.Step.TheVariants as steps
+use Rattle.ref_base.specs.declared.reply.Reply.TheVariants as replies
+use Rattle.ref_base.proofs.WorkedTraces.{row, config_of}
+use Rattle.ref_base.proofs.LegalSteps.{mark_ended_by}
+
+-- a refusal where none applies: the hand holds a notice
+abbrev refused_without_cause : List Row
+refused_without_cause =
+    row (steps.New 0 0 0) (replies.Object 1) ∷
+    row (steps.Refer 0 Weak 1 0 (Some 0) 0) (replies.Object 2) ∷
+    row (steps.Unhook 0 1) (replies.Notice 2 0 Own) ∷
+    row (steps.Put (Mutator 0)) (replies.Refused HandEmpty) ∷
+    []
+
+refused_without_cause_is_not_legal : ¬ (IsLegal (config_of 1) refused_without_cause)
+refused_without_cause_is_not_legal legal =
+    let r1 = subst (λ s. IsRun s (drop 1 refused_without_cause) legal.0) legal.1.1.1 legal.1.2 in
+    let r2 = subst (λ s. IsRun s (drop 2 refused_without_cause) legal.0) r1.1.1 r1.2 in
+    let r3 = subst (λ s. IsRun s (drop 3 refused_without_cause) legal.0) r2.1.1 r2.2 in
+    elim r3.1 [
+      | inl added ↦ let e = added.0 in absurd cc
+      | inr wanted ↦ let e = wanted.0 in absurd cc
+    ]
+
+-- the one notice that was put in is taken a second time
+abbrev taken_twice : List Row
+taken_twice =
+    row (steps.New 0 0 0) (replies.Object 1) ∷
+    row (steps.Refer 0 Weak 1 0 (Some 0) 0) (replies.Object 2) ∷
+    row (steps.Unhook 0 1) (replies.Notice 2 0 Own) ∷
+    row (steps.Put (Mutator 0)) (replies.Added 0) ∷
+    row (steps.Poll 0 0) (replies.Took 2) ∷
+    row (steps.Release (Mutator 0)) replies.Done ∷
+    row (steps.Poll 0 0) (replies.Took 2) ∷
+    []
+
+taken_twice_is_not_legal : ¬ (IsLegal (config_of 1) taken_twice)
+taken_twice_is_not_legal legal =
+    let r1 = subst (λ s. IsRun s (drop 1 taken_twice) legal.0) legal.1.1.1 legal.1.2 in
+    let r2 = subst (λ s. IsRun s (drop 2 taken_twice) legal.0) r1.1.1 r1.2 in
+    let r3 = subst (λ s. IsRun s (drop 3 taken_twice) legal.0) r2.1.1 r2.2 in
+    elim r3.1 [
+      | inl added ↦
+          let r4 = subst (λ s. IsRun s (drop 4 taken_twice) legal.0) added.1 r3.2 in
+          let r5 = subst (λ s. IsRun s (drop 5 taken_twice) legal.0) r4.1.1 r4.2 in
+          let r6 = subst (λ s. IsRun s (drop 6 taken_twice) legal.0) r5.1.1 r5.2 in
+          let e = r6.1.0 in absurd cc
+      | inr wanted ↦ let e = wanted.0 in absurd cc
+    ]
+
+abbrev reference_to_1 : Object
+reference_to_1 = record {
+  no = 2;
+  fields = [];
+  reference = Some (record { strength = Weak; referent = Some 1; stamp = 0; queue = Some 0 });
+}
+
+abbrev objects : List Object
+objects = plain_object 1 [] ∷ reference_to_1 ∷ []
+
+-- an object and a weak reference to it in slot 1, the mark begun and the reference scanned
+abbrev marked : List (Option ℕ) → List Graph → Bool → State
+marked slots moments left = record {
+  world = record (first_world (config_of 1)) {
+    objects = objects;
+    slots = slots;
+    clock = 5;
+    cycle = 1;
+    phase = Marking;
+  };
+  next = 3;
+  born = 3;
+  moments = moments;
+  scanned = (2 ∷ []) ∷ [];
+  left = left;
+  doomed = [];
+  cleared = [];
+  found = [] ∷ [];
+}
+
+abbrev slots_with : Option ℕ → List (Option ℕ)
+slots_with third = None ∷ Some 2 ∷ None ∷ third ∷ replicate 12 None
+
+abbrev rooted : List ℕ → Graph
+rooted roots = record { objects = objects; roots = roots }
+
+object_is_not_null : (n : ℕ) → replies.Object n ≡ replies.Null → ⊥
+object_is_not_null n same = absurd cc
+
+-- a get answers an object that is doomed
+abbrev doomed_got : List Row
+doomed_got =
+    row (steps.New 0 0 0) (replies.Object 1) ∷
+    row (steps.Refer 0 Weak 1 0 (Some 0) 0) (replies.Object 2) ∷
+    row (steps.Drop 0 0) replies.Done ∷
+    row (steps.Begin 5 Normal) (replies.Cycle 1) ∷
+    row (steps.Scan 0) (replies.Scanned 2) ∷
+    row (steps.Scan 0) replies.Nothing ∷
+    row steps.EndMark (replies.Doomed 1) ∷
+    row (steps.Get 0 3 1) (replies.Object 1) ∷
+    []
+
+doomed_got_is_not_legal : ¬ (IsLegal (config_of 1) doomed_got)
+doomed_got_is_not_legal legal =
+    let r1 = subst (λ s. IsRun s (drop 1 doomed_got) legal.0) legal.1.1.1 legal.1.2 in
+    let r2 = subst (λ s. IsRun s (drop 2 doomed_got) legal.0) r1.1.1 r1.2 in
+    let r3 = subst (λ s. IsRun s (drop 3 doomed_got) legal.0) r2.1.1 r2.2 in
+    let r4 = subst (λ s. IsRun s (drop 4 doomed_got) legal.0) r3.1.1.1 r3.2 in
+    let r5 = subst (λ s. IsRun s (drop 5 doomed_got) legal.0) r4.1.2.1 r4.2 in
+    let left : Bool = r4.1.2.0 in
+    let before : State =
+    marked (slots_with None) (rooted (2 ∷ []) ∷ rooted (2 ∷ []) ∷ rooted (2 ∷ []) ∷ []) left in
+    let r6 : IsRun before (drop 6 doomed_got) legal.0 =
+    subst (λ s. IsRun s (drop 6 doomed_got) legal.0) r5.1.1.1 r5.2 in
+    let ended = mark_ended_by before legal.0 (drop 7 doomed_got) 1 refl r6 in
+    let r7 = subst (λ s. IsRun s (drop 7 doomed_got) legal.0) ended.after r6.2 in
+    object_is_not_null 1 r7.1.0
+
+-- an object that a slot holds is doomed
+abbrev kept_doomed : List Row
+kept_doomed =
+    row (steps.New 0 0 0) (replies.Object 1) ∷
+    row (steps.Refer 0 Weak 1 0 (Some 0) 0) (replies.Object 2) ∷
+    row (steps.Drop 0 0) replies.Done ∷
+    row (steps.Begin 5 Normal) (replies.Cycle 1) ∷
+    row (steps.Scan 0) (replies.Scanned 2) ∷
+    row (steps.Get 0 3 1) (replies.Object 1) ∷
+    row steps.EndMark (replies.Doomed 1) ∷
+    []
+
+kept_doomed_is_not_legal : ¬ (IsLegal (config_of 1) kept_doomed)
+kept_doomed_is_not_legal legal =
+    let r1 = subst (λ s. IsRun s (drop 1 kept_doomed) legal.0) legal.1.1.1 legal.1.2 in
+    let r2 = subst (λ s. IsRun s (drop 2 kept_doomed) legal.0) r1.1.1 r1.2 in
+    let r3 = subst (λ s. IsRun s (drop 3 kept_doomed) legal.0) r2.1.1 r2.2 in
+    let r4 = subst (λ s. IsRun s (drop 4 kept_doomed) legal.0) r3.1.1.1 r3.2 in
+    let r5 = subst (λ s. IsRun s (drop 5 kept_doomed) legal.0) r4.1.2.1 r4.2 in
+    let left : Bool = r5.1.1.0 in
+    let before : State =
+    marked (slots_with (Some 1)) (rooted (2 ∷ 1 ∷ []) ∷ rooted (2 ∷ []) ∷ rooted (2 ∷ []) ∷ []) left in
+    let r6 : IsRun before (drop 6 kept_doomed) legal.0 =
+    subst (λ s. IsRun s (drop 6 kept_doomed) legal.0) r5.1.1.1 r5.2 in
+    let ended = mark_ended_by before legal.0 [] 1 refl r6 in
+    ended.may_doom.none_kept 1 refl ([], (refl, refl))

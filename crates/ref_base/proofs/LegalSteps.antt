@@ -1,0 +1,70 @@
+-- How one shows of a concrete trace that it is legal, row by row.
+use Rattle.std.proofs.Common.{◌≡◌, ℕ, Bool, true, false, not, refl, ap, subst, List, [], ◌∷◌, length, Option, None}
+use Rattle.std.proofs.lemmas.Bool.{false≢true}
+use Rattle.ref_base.specs.Collectors.{State, first_state}
+use Rattle.ref_base.specs.LegalTraces.{IsLegal}
+use Rattle.ref_base.specs.declared.config.Config.{Config}
+use Rattle.ref_base.specs.Members.{has}
+use Rattle.ref_base.specs.DoomedSets.{new_clears, MayDoom}
+use Rattle.ref_base.specs.Worlds.{policy_of, graph_of}
+use Rattle.ref_base.specs.Collectors.{joined}
+use Rattle.ref_base.specs.CollectorRows.{EndsMark, AreFound, mark_ended, doomed_at, IsRow, IsRun, IsAnswer}
+use Rattle.ref_base.specs.declared.row.Row.{Row}
+use Rattle.ref_base.specs.Refusals.{is_in, refusal, unless}
+use Rattle.ref_base.specs.declared.fault.Fault.{Fault}
+use Rattle.ref_base.specs.declared.fault.Fault.TheVariants.{GreyLeft, WrongPhase}
+use Rattle.ref_base.specs.declared.phase.Phase.TheVariants.{Marking}
+use Rattle.ref_base.specs.declared.step.Step.TheVariants.{EndMark}
+use Rattle.ref_base.specs.declared.reply.Reply.TheVariants.{Doomed}
+
+-- where none is said to be left
+pub none_left : {T : Type 0} → false ≡ true → T
+none_left said = absurd (false≢true said)
+
+-- a mark ends, and the workers found these
+pub mark_ends : (a : State) (found : List (List ℕ))
+    → MayDoom (policy_of a.world) (graph_of a.world) a.moments (doomed_at a)
+    → AreFound a.world.objects a.scanned found
+    → ((n : ℕ) → has (new_clears a.world.objects (doomed_at a)) n ≡ true → has (joined found) n ≡ true)
+    → EndsMark a (Doomed (length (doomed_at a))) (mark_ended a (doomed_at a) found)
+mark_ends a found may are all = record {
+  answer = refl;
+  may_doom = may;
+  found = found;
+  are_found = are;
+  all_found = all;
+  after = refl;
+}
+
+-- what refuses the end of a mark
+abbrev pub end_refusal : Bool → Option Fault
+end_refusal left = unless (not left) GreyLeft None
+
+refused_at : (a : State) → is_in a.world.phase Marking ≡ true → refusal a EndMark ≡ end_refusal a.left
+refused_at a marking = ap (λ b. unless b WrongPhase (end_refusal a.left)) marking
+
+ended_unless : (a b : State) (count : ℕ) (left : Bool) → IsAnswer a (end_refusal left) EndMark (Doomed count) b
+    → EndsMark a (Doomed count) b
+ended_unless a b count true refused = let e = refused.0 in absurd cc
+ended_unless a b count false ended = ended
+
+-- a row that ended a mark ended it as it must
+pub mark_ended_by : (a last : State) (rows : List Row) (count : ℕ) → is_in a.world.phase Marking ≡ true
+    → (run : IsRun a (record { step = EndMark; reply = Doomed count } ∷ rows) last) → EndsMark a (Doomed count) run.0
+mark_ended_by a last rows count marking run =
+    ended_unless a run.0 count a.left
+    (subst (λ f. IsAnswer a f EndMark (Doomed count) run.0) (refused_at a marking) run.1)
+
+infixr 20 ◌⨾◌
+-- rows, one after the other
+pub data Rows : State → List Row → State → Type 0 where
+  stop : {a : State} → Rows a [] a
+  ◌⨾◌ : {a b c : State} {row : Row} {rows : List Row} → IsRow a row b → Rows b rows c → Rows a (row ∷ rows) c
+
+pub run_of : {a c : State} {rows : List Row} → Rows a rows c → IsRun a rows c
+run_of stop = refl
+run_of (first ⨾ rest) = (_, first, run_of rest)
+
+pub legal : (config : Config) (rows : List Row) {last : State} → Rows (first_state config) rows last
+    → IsLegal config rows
+legal config rows {last} run = (last, run_of run)

@@ -1,0 +1,59 @@
+-- How paths begin, go on, and stay within what is closed.
+use Rattle.std.proofs.Common.{◌≡◌, ℕ, true}
+use Rattle.std.proofs.Common.{List, [], ◌∷◌, Option, Some, None, inl, inr}
+use Rattle.std.proofs.lemmas.Bool.{cases_Bool, false≢true}
+use Rattle.ref_base.specs.Members.{has}
+use Rattle.ref_base.specs.Graphs.{Graph, Object, Reference, object_at, is_there}
+use Rattle.ref_base.specs.Paths.{Allowed, IsPath, EndsPath, targets_at, targets_of, allowed_referent, present, if_any}
+use Rattle.ref_base.proofs.HasLaws.{has-cases, has-left, has-right}
+
+module _ (allow : Allowed) (g : Graph) where
+  -- a path ends at each root that is there
+  pub root_ends : (n : ℕ) → is_there g.objects n ≡ true → has g.roots n ≡ true → EndsPath allow g n
+  root_ends n there root = ([], (there, root))
+
+  -- a path goes on to each target that is there
+  pub target_ends : (m n : ℕ) → EndsPath allow g m → has (targets_at allow g.objects m) n ≡ true
+      → is_there g.objects n ≡ true → EndsPath allow g n
+  target_ends m n ends target there = (m ∷ ends.0, (there, target, ends.1))
+
+  -- what holds of the roots and goes on along a path holds where one ends
+  pub path_within : (P : ℕ → Type 0) → ((n : ℕ) → is_there g.objects n ≡ true → has g.roots n ≡ true → P n)
+      → ((m n : ℕ) → P m → has (targets_at allow g.objects m) n ≡ true → is_there g.objects n ≡ true → P n)
+      → (n : ℕ) (before : List ℕ) → IsPath allow g n before → P n
+  path_within P at_roots along n [] path = at_roots n path.0 path.1
+  path_within P at_roots along n (m ∷ before) path =
+      along m n (path_within P at_roots along m before path.2) path.1 path.0
+
+-- where more references may be gone through, there are no fewer targets
+module _ (allow more : Allowed) (wider : (r : Reference) → allow r ≡ true → more r ≡ true) where
+  pub allowed_referent-wider : (r : Option Reference) (n : ℕ) → has (allowed_referent allow r) n ≡ true
+      → has (allowed_referent more r) n ≡ true
+  allowed_referent-wider None n h = h
+  allowed_referent-wider (Some r) n h =
+      elim (cases_Bool (allow r)) [
+        | inl may ↦
+            let held : has (if_any r.referent) n ≡ true = simp may at h in
+            let also : more r ≡ true = wider r may in
+            simp also held
+        | inr may_not ↦ absurd (false≢true (simp may_not at h))
+      ]
+
+  pub targets_of-wider : (o : Option Object) (n : ℕ) → has (targets_of allow o) n ≡ true
+      → has (targets_of more o) n ≡ true
+  targets_of-wider None n h = h
+  targets_of-wider (Some o) n h =
+      elim (has-cases (present o.fields) (allowed_referent allow o.reference) n h) [
+        | inl field ↦ has-left (present o.fields) (allowed_referent more o.reference) n field
+        | inr referent ↦
+            has-right (present o.fields) (allowed_referent more o.reference) n
+            (allowed_referent-wider o.reference n referent)
+      ]
+
+  -- and no fewer ends of paths
+  pub ends-wider : (g : Graph) (n : ℕ) → EndsPath allow g n → EndsPath more g n
+  ends-wider g n ends =
+      path_within allow g (EndsPath more g) (root_ends more g)
+      (λ k m before target there.
+      target_ends more g k m before (targets_of-wider (object_at g.objects k) m target) there)
+      n ends.0 ends.1

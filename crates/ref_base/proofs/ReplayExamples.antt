@@ -1,0 +1,131 @@
+-- What the replay of worked traces gives, as one reads it off their rows.
+use Rattle.std.proofs.Common.{◌≡◌, ℕ, [], ◌∷◌, take, Option, Some, None, refl}
+use Rattle.ref_base.specs.Graphs.{Object, plain_object}
+use Rattle.ref_base.specs.Worlds.{World, graph_of, slot_at, hand_of, pending_numbers}
+use Rattle.ref_base.specs.Replay.{replayed}
+use Rattle.ref_base.specs.QueueRows.{put_into, taken_from}
+use Rattle.ref_base.specs.WorkerOrder.{clearing_order}
+use Rattle.ref_base.specs.declared.strength.Strength.{Strength}
+use Rattle.ref_base.specs.declared.strength.Strength.TheVariants.{Soft, Weak}
+use Rattle.ref_base.specs.declared.cause.Cause.TheVariants.{Own, Cycle}
+use Rattle.ref_base.specs.declared.actor.Actor.TheVariants.{Mutator}
+use Rattle.ref_base.specs.declared.phase.Phase.TheVariants.{Sweeping}
+use Rattle.ref_base.proofs.WorkedTraces.{config_of, two_enqueued_in_order, death_reported_after_a_cycle}
+use Rattle.ref_base.proofs.WorkedTraces.{get_keeps_the_referent, two_workers_in_clearing_order}
+use Rattle.ref_base.proofs.WorkedTraces.{soft_kept_within_the_span, cleared_for_every_mutator_at_once}
+
+-- a reference with no fields, registered with queue 0
+abbrev reference : ℕ → Strength → Option ℕ → ℕ → Object
+reference n strength referent stamp = record {
+  no = n;
+  fields = [];
+  reference = Some (record { strength = strength; referent = referent; stamp = stamp; queue = Some 0 });
+}
+
+-- ---- two enqueued in order
+
+abbrev enqueued : World
+enqueued = replayed (config_of 1) two_enqueued_in_order
+
+both_are_cleared_and_all_are_in_slots : graph_of enqueued ≡ record {
+  objects = plain_object 1 [] ∷ reference 2 Weak None 0 ∷ reference 3 Weak None 0 ∷ [];
+  roots = 1 ∷ 2 ∷ 3 ∷ [];
+}
+both_are_cleared_and_all_are_in_slots = refl
+
+both_were_put_in : put_into 0 two_enqueued_in_order ≡ 2 ∷ 3 ∷ []
+both_were_put_in = refl
+
+both_were_taken : taken_from 0 two_enqueued_in_order ≡ 2 ∷ 3 ∷ []
+both_were_taken = refl
+
+the_hand_is_empty_again : hand_of enqueued (Mutator 0) ≡ None
+the_hand_is_empty_again = refl
+
+-- ---- a death, reported after a cycle
+
+abbrev reported : World
+reported = replayed (config_of 1) death_reported_after_a_cycle
+
+the_reference_is_in_two_slots : graph_of reported ≡ record {
+  objects = plain_object 1 [] ∷ reference 2 Weak None 0 ∷ [];
+  roots = 2 ∷ 2 ∷ [];
+}
+the_reference_is_in_two_slots = refl
+
+its_notice_was_put_in : put_into 0 death_reported_after_a_cycle ≡ 2 ∷ []
+its_notice_was_put_in = refl
+
+it_was_adopted : slot_at reported 0 2 ≡ Some 2
+it_was_adopted = refl
+
+the_cycle_is_being_swept : reported.phase ≡ Sweeping
+the_cycle_is_being_swept = refl
+
+-- before it is handed on, the cleared reference is pending, and so a root
+it_was_pending : pending_numbers (replayed (config_of 1) (take 9 death_reported_after_a_cycle)).pending ≡ 2 ∷ []
+it_was_pending = refl
+
+-- ---- a get keeps the referent
+
+abbrev got_and_kept : World
+got_and_kept = replayed (config_of 1) get_keeps_the_referent
+
+the_referent_is_in_a_slot : graph_of got_and_kept ≡ record {
+  objects = plain_object 1 [] ∷ reference 2 Weak (Some 1) 0 ∷ [];
+  roots = 2 ∷ 1 ∷ [];
+}
+the_referent_is_in_a_slot = refl
+
+-- ---- two workers
+
+abbrev delivered : World
+delivered = replayed (config_of 2) two_workers_in_clearing_order
+
+worker_0_cleared_two : clearing_order two_workers_in_clearing_order 0 0 ≡ 2 ∷ 6 ∷ []
+worker_0_cleared_two = refl
+
+worker_1_cleared_one : clearing_order two_workers_in_clearing_order 1 0 ≡ 4 ∷ []
+worker_1_cleared_one = refl
+
+all_three_were_put_in : put_into 0 two_workers_in_clearing_order ≡ 2 ∷ 6 ∷ 4 ∷ []
+all_three_were_put_in = refl
+
+all_three_were_taken : taken_from 0 two_workers_in_clearing_order ≡ 2 ∷ 6 ∷ 4 ∷ []
+all_three_were_taken = refl
+
+the_last_notice_is_in_the_hand :
+    hand_of delivered (Mutator 0) ≡ Some (record { object = 4; queue = 0; cause = Cycle 1 1 })
+the_last_notice_is_in_the_hand = refl
+
+what_is_held_is_a_root : (graph_of delivered).roots ≡ 2 ∷ 4 ∷ 6 ∷ 4 ∷ []
+what_is_held_is_a_root = refl
+
+-- ---- a soft reference within the span, and past it
+
+abbrev soft_cleared : World
+soft_cleared = replayed (config_of 1) soft_kept_within_the_span
+
+its_stamp_is_the_clock_at_its_making : graph_of soft_cleared ≡ record {
+  objects = plain_object 1 [] ∷ reference 2 Soft None 90 ∷ [];
+  roots = 2 ∷ 2 ∷ [];
+}
+its_stamp_is_the_clock_at_its_making = refl
+
+nothing_was_put_in : put_into 0 soft_kept_within_the_span ≡ []
+nothing_was_put_in = refl
+
+-- ---- cleared for every mutator at once
+
+abbrev cleared_at_once : World
+cleared_at_once = replayed (config_of 2) cleared_for_every_mutator_at_once
+
+the_programs_notice_comes_too_late :
+    hand_of cleared_at_once (Mutator 0) ≡ Some (record { object = 3; queue = 0; cause = Own })
+the_programs_notice_comes_too_late = refl
+
+the_workers_notice_was_put_in : put_into 0 cleared_for_every_mutator_at_once ≡ 3 ∷ []
+the_workers_notice_was_put_in = refl
+
+one_is_pending_still : pending_numbers cleared_at_once.pending ≡ 2 ∷ []
+one_is_pending_still = refl

@@ -1,0 +1,252 @@
+-- Each number has exactly one strength, and it is read off what was found.
+use Rattle.std.proofs.Common.{◌≡◌, ℕ, true, false, refl, sym, ap, subst, ◌∙◌, ◌==◌}
+use Rattle.std.proofs.Common.{List, [], ◌∷◌, map, Option, Some, None, inl, inr}
+use Rattle.std.proofs.lemmas.Bool.{cases_Bool, true≢false, false≢true}
+use Rattle.std.specs.List.{AllByRecursion}
+use Rattle.std.specs.List.Sorted.{IsStrictlySortedBy}
+use Rattle.std.specs.Ordering.{nat_cmp}
+use Rattle.ref_base.specs.Members.{has}
+use Rattle.ref_base.specs.Graphs.{Graph, Object, Reference, object_at, is_there, numbers}
+use Rattle.ref_base.specs.Paths.{Allowed, EndsPath, no_referents}
+use Rattle.ref_base.specs.Paths.{soft_referents, soft_and_weak_referents, if_any, is_phantom}
+use Rattle.ref_base.specs.Strengths.{HasStrength, HangsOnPhantom, IsPhantomObjectTo}
+use Rattle.ref_base.specs.Strengths.{IsPhantomReferenceTo, AreStrengths, IsRising}
+use Rattle.ref_base.specs.Searches.{IsReached, AreFound, found_reach, found_reaches, added_all}
+use Rattle.ref_base.specs.Searches.{phantom_referent, phantom_referent_at, phantom_referents}
+use Rattle.ref_base.specs.declared.reach.Reach.{Reach}
+use Rattle.ref_base.specs.declared.reach.Reach.TheVariants.{Strong, Soft, Weak, Phantom, Unreachable}
+use Rattle.ref_base.specs.declared.reach.ObjectReach.{ObjectReach}
+use Rattle.ref_base.proofs.HasLaws.{has-cases, has-left, has-right, has-first, has-single}
+use Rattle.ref_base.proofs.PathLaws.{ends-wider}
+use Rattle.ref_base.proofs.SearchLaws.{reached, added_all-only, added_all-has}
+use Rattle.ref_base.proofs.StoreLaws.{rising_from_sorted}
+
+-- ---- what hangs on phantom references
+
+-- the number that may be there is the one in the list
+pub if_any-has : (o : Option ℕ) (n : ℕ) → has (if_any o) n ≡ true → o ≡ Some n
+if_any-has None n h = absurd (false≢true h)
+if_any-has (Some m) n h = ap (λ k. Some k) (has-single m n h)
+
+pub phantom_referent-sound : (r : Option Reference) (n : ℕ) → has (phantom_referent r) n ≡ true
+    → IsPhantomReferenceTo n r
+phantom_referent-sound None n h = absurd (false≢true h)
+phantom_referent-sound (Some r) n h =
+    elim (cases_Bool (is_phantom r.strength)) [
+      | inl phantom ↦ (phantom, if_any-has r.referent n (simp phantom at h))
+      | inr other ↦ absurd (false≢true (simp other at h))
+    ]
+
+pub phantom_referent-complete : (r : Option Reference) (n : ℕ) → IsPhantomReferenceTo n r
+    → has (phantom_referent r) n ≡ true
+phantom_referent-complete None n h = absurd h
+phantom_referent-complete (Some r) n h = simp (h.0, h.1) (has-first n [])
+
+pub phantom_referent_at-sound : (o : Option Object) (n : ℕ) → has (phantom_referent_at o) n ≡ true
+    → IsPhantomObjectTo n o
+phantom_referent_at-sound None n h = absurd (false≢true h)
+phantom_referent_at-sound (Some o) n h = phantom_referent-sound o.reference n h
+
+pub phantom_referent_at-complete : (o : Option Object) (n : ℕ) → IsPhantomObjectTo n o
+    → has (phantom_referent_at o) n ≡ true
+phantom_referent_at-complete None n h = absurd h
+phantom_referent_at-complete (Some o) n h = phantom_referent-complete o.reference n h
+
+pub phantom_referents-sound : (os : List Object) (ms : List ℕ) (n : ℕ) → has (phantom_referents os ms) n ≡ true
+    → (m : ℕ) × (has ms m ≡ true) × IsPhantomObjectTo n (object_at os m)
+phantom_referents-sound os [] n h = absurd (false≢true h)
+phantom_referents-sound os (m ∷ ms) n h =
+    elim (has-cases (phantom_referent_at (object_at os m)) (phantom_referents os ms) n h) [
+      | inl here ↦ (m, has-first m ms, phantom_referent_at-sound (object_at os m) n here)
+      | inr later ↦
+          let found = phantom_referents-sound os ms n later in
+          (found.0, has-right (m ∷ []) ms found.0 found.1, found.2)
+    ]
+
+pub phantom_referents-complete : (os : List Object) (ms : List ℕ) (n m : ℕ) → has ms m ≡ true
+    → IsPhantomObjectTo n (object_at os m) → has (phantom_referents os ms) n ≡ true
+phantom_referents-complete os [] n m h phantom = absurd (false≢true h)
+phantom_referents-complete os (k ∷ ks) n m h phantom =
+    elim (has-cases (k ∷ []) ks m h) [
+      | inl here ↦
+          has-left (phantom_referent_at (object_at os k)) (phantom_referents os ks) n
+          (phantom_referent_at-complete (object_at os k) n
+          (subst (λ j. IsPhantomObjectTo n (object_at os j)) (sym (has-single k m here)) phantom))
+      | inr later ↦
+          has-right (phantom_referent_at (object_at os k)) (phantom_referents os ks) n
+          (phantom_referents-complete os ks n m later phantom)
+    ]
+
+module _ (g : Graph) (weak : List ℕ) (all : IsReached soft_and_weak_referents g weak) where
+  -- what the phantom references among all weakly reachable objects refer to hangs on one
+  pub hangs-sound : (n : ℕ) → has (phantom_referents g.objects weak) n ≡ true → HangsOnPhantom g n
+  hangs-sound n h =
+      let found = phantom_referents-sound g.objects weak n h in
+      (found.0, all.sound found.0 found.1, found.2)
+
+  pub hangs-complete : (n : ℕ) → HangsOnPhantom g n → has (phantom_referents g.objects weak) n ≡ true
+  hangs-complete n h = phantom_referents-complete g.objects weak n h.0 (all.complete h.0 h.1) h.2
+
+-- ---- one strength and no other
+
+module _ (g : Graph) (n : ℕ) where
+  pub soft_from_strong : EndsPath no_referents g n → EndsPath soft_referents g n
+  soft_from_strong = ends-wider no_referents soft_referents (λ r none. absurd (false≢true none)) g n
+
+  pub weak_from_soft : EndsPath soft_referents g n → EndsPath soft_and_weak_referents g n
+  weak_from_soft = ends-wider soft_referents soft_and_weak_referents (λ r soft. simp soft refl) g n
+
+  pub weak_from_strong : EndsPath no_referents g n → EndsPath soft_and_weak_referents g n
+  weak_from_strong strong = weak_from_soft (soft_from_strong strong)
+
+  pub exclusive : (a b : Reach) → HasStrength g n a → HasStrength g n b → a ≡ b
+  exclusive Strong Strong x y = refl
+  exclusive Strong Soft x y = absurd (y.0 x)
+  exclusive Strong Weak x y = absurd (y.0 (soft_from_strong x))
+  exclusive Strong Phantom x y = absurd (y.0 (weak_from_strong x))
+  exclusive Strong Unreachable x y = absurd (y.0 (weak_from_strong x))
+  exclusive Soft Strong x y = absurd (x.0 y)
+  exclusive Soft Soft x y = refl
+  exclusive Soft Weak x y = absurd (y.0 x.1)
+  exclusive Soft Phantom x y = absurd (y.0 (weak_from_soft x.1))
+  exclusive Soft Unreachable x y = absurd (y.0 (weak_from_soft x.1))
+  exclusive Weak Strong x y = absurd (x.0 (soft_from_strong y))
+  exclusive Weak Soft x y = absurd (x.0 y.1)
+  exclusive Weak Weak x y = refl
+  exclusive Weak Phantom x y = absurd (y.0 x.1)
+  exclusive Weak Unreachable x y = absurd (y.0 x.1)
+  exclusive Phantom Strong x y = absurd (x.0 (weak_from_strong y))
+  exclusive Phantom Soft x y = absurd (x.0 (weak_from_soft y.1))
+  exclusive Phantom Weak x y = absurd (x.0 y.1)
+  exclusive Phantom Phantom x y = refl
+  exclusive Phantom Unreachable x y = absurd (y.1 x.1)
+  exclusive Unreachable Strong x y = absurd (x.0 (weak_from_strong y))
+  exclusive Unreachable Soft x y = absurd (x.0 (weak_from_soft y.1))
+  exclusive Unreachable Weak x y = absurd (x.0 y.1)
+  exclusive Unreachable Phantom x y = absurd (x.1 y.1)
+  exclusive Unreachable Unreachable x y = refl
+
+-- ---- the strength that was found
+
+-- what isn't among what was reached ends no path
+pub unreached : (allow : Allowed) (g : Graph) (ns : List ℕ) (n : ℕ) → IsReached allow g ns → has ns n ≡ false
+    → ¬ (EndsPath allow g n)
+unreached allow g ns n all none = λ ends. true≢false (sym (all.complete n ends) ∙ none)
+
+module _ (g : Graph) (strong soft weak hung : List ℕ) (strong_all : IsReached no_referents g strong)
+    (soft_all : IsReached soft_referents g soft) (weak_all : IsReached soft_and_weak_referents g weak) (n : ℕ)
+    (sound : has hung n ≡ true → HangsOnPhantom g n) (complete : HangsOnPhantom g n → has hung n ≡ true) where
+  pub found_is : HasStrength g n (found_reach strong soft weak hung n)
+  found_is =
+      elim (cases_Bool (has strong n)) [
+        | inl at_strong ↦
+            let is : found_reach strong soft weak hung n ≡ Strong = simp at_strong refl in
+            subst (HasStrength g n) (sym is) (strong_all.sound n at_strong)
+        | inr not_strong ↦ elim (cases_Bool (has soft n)) [
+          | inl at_soft ↦
+              let is : found_reach strong soft weak hung n ≡ Soft = simp (not_strong, at_soft) refl in
+              subst (HasStrength g n) (sym is)
+              (unreached no_referents g strong n strong_all not_strong, soft_all.sound n at_soft)
+          | inr not_soft ↦ elim (cases_Bool (has weak n)) [
+            | inl at_weak ↦
+                let is : found_reach strong soft weak hung n ≡ Weak = simp (not_strong, not_soft, at_weak) refl in
+                subst (HasStrength g n) (sym is)
+                (unreached soft_referents g soft n soft_all not_soft, weak_all.sound n at_weak)
+            | inr not_weak ↦
+                let no_path = unreached soft_and_weak_referents g weak n weak_all not_weak in
+                elim (cases_Bool (has hung n)) [
+                  | inl at_hung ↦
+                      let is : found_reach strong soft weak hung n ≡ Phantom =
+                      simp (not_strong, not_soft, not_weak, at_hung) refl in
+                      subst (HasStrength g n) (sym is) (no_path, sound at_hung)
+                  | inr not_hung ↦
+                      let is : found_reach strong soft weak hung n ≡ Unreachable =
+                      simp (not_strong, not_soft, not_weak, not_hung) refl in
+                      subst (HasStrength g n) (sym is)
+                      (no_path, λ hangs. true≢false (sym (complete hangs) ∙ not_hung))
+                ]
+          ]
+        ]
+      ]
+
+-- each number has a strength
+pub some_strength : (g : Graph) (n : ℕ) → (reach : Reach) × HasStrength g n reach
+some_strength g n =
+    let strong = reached no_referents g in
+    let soft = reached soft_referents g in
+    let weak = reached soft_and_weak_referents g in
+    let hung : List ℕ = phantom_referents g.objects weak.0 in (
+      found_reach strong.0 soft.0 weak.0 hung n,
+      found_is g strong.0 soft.0 weak.0 hung strong.1 soft.1 weak.1 n (hangs-sound g weak.0 weak.1 n)
+          (hangs-complete g weak.0 weak.1 n),
+    )
+
+-- what three searches and a pass over the last found gives the strength of each object
+pub AreFound-reach : (g : Graph) (strong soft weak hung : List ℕ) → AreFound g strong soft weak hung → (n : ℕ)
+    → is_there g.objects n ≡ true → (reach : Reach) → reach ≡ found_reach strong soft weak hung n
+    → HasStrength g n reach
+AreFound-reach g strong soft weak hung found n there reach is =
+    subst (HasStrength g n) (sym is)
+    (found_is g strong soft weak hung found.strong_reached found.soft_reached found.weak_reached n
+    (found.hung_sound n) (found.hung_complete n there))
+
+-- and the pass over the last finds what hangs on phantom references, of what is there
+pub AreFound_from : (g : Graph) (strong soft weak hung : List ℕ) → IsReached no_referents g strong
+    → IsReached soft_referents g soft → IsReached soft_and_weak_referents g weak
+    → hung ≡ added_all g.objects [] (phantom_referents g.objects weak) → AreFound g strong soft weak hung
+AreFound_from g strong soft weak hung strong_all soft_all weak_all is =
+    let referents : List ℕ = phantom_referents g.objects weak in
+    record {
+      strong_reached = strong_all;
+      soft_reached = soft_all;
+      weak_reached = weak_all;
+      hung_sound = λ n h. elim (added_all-only g.objects referents [] n (subst (λ ns. has ns n ≡ true) is h)) [
+        | inl none ↦ absurd (false≢true none)
+        | inr found ↦ hangs-sound g weak weak_all n found.0
+      ];
+      hung_complete = λ n there hangs.
+          subst (λ ns. has ns n ≡ true) (sym is)
+          (added_all-has g.objects referents [] n (hangs-complete g weak weak_all n hangs) there);
+    }
+
+-- ---- the strengths of all objects
+
+-- each number of an object is there
+pub there_from_numbers : (os : List Object) (n : ℕ) → has (numbers os) n ≡ true → is_there os n ≡ true
+there_from_numbers [] n h = h
+there_from_numbers (o ∷ os) n h =
+    elim (cases_Bool (o.no == n)) [
+      | inl same ↦ simp same refl
+      | inr other ↦
+          let rest : has (numbers os) n ≡ true = simp other at h in
+          simp other (there_from_numbers os n rest)
+    ]
+
+module _ (g : Graph) (strong soft weak hung : List ℕ) where
+  pub found_reaches-objects : (ns : List ℕ) → map (λ l. l.object) (found_reaches strong soft weak hung ns) ≡ ns
+  found_reaches-objects [] = refl
+  found_reaches-objects (n ∷ ns) = ap (λ ms. n ∷ ms) (found_reaches-objects ns)
+
+  module _ (found : AreFound g strong soft weak hung) where
+    pub found_reaches-each : (ns : List ℕ) → ((n : ℕ) → has ns n ≡ true → is_there g.objects n ≡ true)
+        → AllByRecursion (λ l. HasStrength g l.object l.reach) (found_reaches strong soft weak hung ns)
+    found_reaches-each [] there = tt
+    found_reaches-each (n ∷ ns) there = (
+      AreFound-reach g strong soft weak hung found n (there n (has-first n ns))
+          (found_reach strong soft weak hung n) refl,
+      found_reaches-each ns (λ m h. there m (has-right (n ∷ []) ns m h)),
+    )
+
+    -- the strengths that are read off what was found, by number, are those of all objects
+    pub AreStrengths_from : (ns : List ℕ) (listed : List ObjectReach) → numbers g.objects ≡ ns
+        → IsStrictlySortedBy nat_cmp ns → listed ≡ found_reaches strong soft weak hung ns → AreStrengths g listed
+    AreStrengths_from ns listed all sorted is =
+        let objects : map (λ l. l.object) listed ≡ ns =
+        ap (map (λ l. l.object)) is ∙ found_reaches-objects ns in
+        record {
+          all = objects ∙ sym all;
+          by_number = subst IsRising (sym objects) (rising_from_sorted ns sorted);
+          each = subst (AllByRecursion (λ l. HasStrength g l.object l.reach)) (sym is)
+              (found_reaches-each ns
+              (λ n h. there_from_numbers g.objects n (subst (λ ms. has ms n ≡ true) (sym all) h)));
+        }

@@ -1,0 +1,333 @@
+-- The rows of the abstract collector: which step may be answered how in a state, and what state that leaves (package
+-- `java.lang.ref` of Java SE 17 for what the calls of a reference answer and for clearing at one instant; cycles,
+-- workers and queues: this project's profile).
+use Rattle.std.specs.Prelude.{◌≡◌, ℕ, ◌+◌, ◌<◌, Bool, true, false, not, ◌&&◌, ◌==◌, if◌then◌else◌, min}
+use Rattle.std.specs.Prelude.{List, [], ◌∷◌, ◌++◌, map, length, take, drop, Option, Some, None, slice_index_or, slice_set, ◌⊎◌}
+use Rattle.std.specs.Prelude.{is_some}
+use Rattle.ref_base.specs.Members.{has}
+use Rattle.ref_base.specs.Graphs.{Object, Reference, object_at, plain_object}
+use Rattle.ref_base.specs.Paths.{is_phantom}
+use Rattle.ref_base.specs.KeptPaths.{EverKept}
+use Rattle.ref_base.specs.DoomedSets.{unscanned, MayDoom, refers_into, new_clears}
+use Rattle.ref_base.specs.Worlds.{World, Notice, Pending, Queue, policy_of, graph_of, slot_at, hand_of, queue_at, standing}
+use Rattle.ref_base.specs.Worlds.{pending_of, reference_at, reference_in, with_slot, with_reference, with_field, cleared}
+use Rattle.ref_base.specs.Replay.{made, nulls, new_reference, changed_in, got, cut, minted, spent, put_in, took, pended}
+use Rattle.ref_base.specs.Replay.{registered_in, handed, begun, with_phase, closed_queue}
+use Rattle.ref_base.specs.Collectors.{State, joined}
+use Rattle.ref_base.specs.Refusals.{refusal, is_in}
+use Rattle.ref_base.specs.declared.cause.Cause.TheVariants.{Own, Cycle}
+use Rattle.ref_base.specs.declared.actor.Actor.{Actor}
+use Rattle.ref_base.specs.declared.actor.Actor.TheVariants.{Mutator}
+use Rattle.ref_base.specs.declared.phase.Phase.TheVariants.{Idle, Marking, Clearing, Sweeping}
+use Rattle.ref_base.specs.declared.fault.Fault.{Fault}
+use Rattle.ref_base.specs.declared.fault.Fault.TheVariants.{NoMemory}
+use Rattle.ref_base.specs.declared.step.Step.{Step}
+use Rattle.ref_base.specs.declared.step.Step.TheVariants as steps
+use Rattle.ref_base.specs.declared.reply.Reply.{Reply}
+use Rattle.ref_base.specs.declared.reply.Reply.TheVariants as replies
+use Rattle.ref_base.specs.declared.row.Row.{Row}
+
+-- ---- the forms of a row
+
+abbrev pub with_world : State → World → State
+with_world a w = record a { world = w }
+
+-- in a mark, the graph of this moment joins those of the mark
+abbrev pub ticked : State → State
+ticked a = if is_in a.world.phase Marking then record a { moments = graph_of a.world ∷ a.moments } else a
+
+-- the answer is this one, and it leaves this state
+abbrev pub Gives : Reply → State → Reply → State → Type 0
+Gives answer c reply b = (reply ≡ answer) × (b ≡ ticked c)
+
+-- an object is left: it was ever kept, it was made before the cycle began, and no row of the cycle scanned it
+abbrev pub IsLeft : State → ℕ → Type 0
+IsLeft a n = EverKept (policy_of a.world) a.moments n × (n < a.born) × (has (joined a.scanned) n ≡ false)
+
+-- b is c, but that it says anew whether an object is left, and says so only where one is
+abbrev pub IsBut : State → State → Type 0
+IsBut c b = (left : Bool) × (b ≡ record c { left = left }) × (left ≡ true → (n : ℕ) × IsLeft b n)
+
+-- the answer is this one, and where the flag says so the state it leaves says anew whether an object is left
+abbrev pub GivesAnewIf : Bool → Reply → State → Reply → State → Type 0
+GivesAnewIf true answer c reply b = (reply ≡ answer) × IsBut (ticked c) b
+GivesAnewIf false answer c reply b = Gives answer c reply b
+
+-- the answer is this one, and in a mark the state it leaves says anew whether an object is left
+abbrev pub GivesAnew : Reply → State → Reply → State → Type 0
+GivesAnew answer c = GivesAnewIf (is_in c.world.phase Marking) answer c
+
+-- an object or null
+abbrev pub value_reply : Option ℕ → Reply
+value_reply None = replies.Null
+value_reply (Some n) = replies.Object n
+
+-- ---- objects, slots and references
+
+-- one more object
+abbrev pub Makes : State → ℕ → ℕ → Object → Reply → State → Type 0
+Makes a m d o = Gives (replies.Object a.next) (record a { world = made a.world m d o; next = a.next + 1 })
+
+-- what the field of the object holds
+abbrev pub field_of : Option Object → ℕ → Option ℕ
+field_of None i = None
+field_of (Some o) i = slice_index_or o.fields i None
+
+abbrev pub field_in : World → Option ℕ → ℕ → Option ℕ
+field_in w None i = None
+field_in w (Some n) i = field_of (object_at w.objects n) i
+
+-- a load answers what the field holds
+abbrev pub Loads : State → ℕ → ℕ → Option ℕ → Reply → State → Type 0
+Loads a m d None = Gives replies.Null (with_world a (with_slot a.world m d None))
+Loads a m d (Some n) = GivesAnew (replies.Object n) (with_world a (with_slot a.world m d (Some n)))
+
+-- what the reference in the slot is
+abbrev pub reference_of : World → Option ℕ → Option Reference
+reference_of w None = None
+reference_of w (Some n) = reference_at w n
+
+-- what a get answers: nothing of a phantom reference, and else the referent
+abbrev pub referent_got : Option Reference → Option ℕ
+referent_got None = None
+referent_got (Some r) = if is_phantom r.strength then None else r.referent
+
+-- a get answers the referent, if any
+abbrev pub Gets : State → ℕ → ℕ → ℕ → Option ℕ → Reply → State → Type 0
+Gets a m d s None = Gives replies.Null (with_world a (got a.world m d s None))
+Gets a m d s (Some n) = GivesAnew (replies.Object n) (with_world a (got a.world m d s (Some n)))
+
+-- whether two values are the same object, or both null
+abbrev pub is_same : Option ℕ → Option ℕ → Bool
+is_same None None = true
+is_same None (Some n) = false
+is_same (Some m) None = false
+is_same (Some m) (Some n) = m == n
+
+-- the referent of a reference
+abbrev pub referent_of : Option Reference → Option ℕ
+referent_of None = None
+referent_of (Some r) = r.referent
+
+-- an unhook clears the reference, and gives a notice where it is registered
+abbrev pub Unhooks : State → ℕ → ℕ → Option ℕ → Option ℕ → Reply → State → Type 0
+Unhooks a m s None queue = Gives replies.Nothing (with_world a (cut a.world m s))
+Unhooks a m s (Some n) None = Gives replies.Nothing (with_world a (cut a.world m s))
+Unhooks a m s (Some n) (Some q) =
+    Gives (replies.Notice n q Own)
+    (with_world a (minted (cut a.world m s) (Mutator m) (record { object = n; queue = q; cause = Own })))
+
+-- ---- queues
+
+-- whether a reference was ever put in
+abbrev pub was_put : Queue → ℕ → Bool
+was_put q n = has (map (λ notice. notice.object) q.put_in) n
+
+-- a put is Already where the reference was ever put in, else Closed where the queue is closed, else Added; only then
+-- it may be refused for want of memory
+abbrev pub PutsInto : Bool → Bool → State → Actor → Notice → Reply → State → Type 0
+PutsInto true closed a who notice reply b = Gives replies.Already a reply b
+PutsInto false true a who notice reply b = Gives replies.Closed a reply b
+PutsInto false false a who notice reply b =
+    Gives (replies.Added (length (queue_at a.world notice.queue).put_in))
+    (with_world a (put_in a.world who (Some notice))) reply b
+    ⊎ Gives (replies.Refused NoMemory) a reply b
+
+-- a put of the hand's notice
+abbrev pub Puts : State → Actor → Option Notice → Reply → State → Type 0
+Puts a who None reply b = ⊥
+Puts a who (Some notice) reply b =
+    let q = queue_at a.world notice.queue in
+    PutsInto (was_put q notice.object) q.closed a who notice reply b
+
+-- a poll takes the first that stands
+abbrev pub Polls : State → ℕ → ℕ → List Notice → Reply → State → Type 0
+Polls a m q [] = Gives (if (queue_at a.world q).closed then replies.Closed else replies.Empty) a
+Polls a m q (notice ∷ rest) = Gives (replies.Took notice.object) (with_world a (took a.world m q notice.object))
+
+-- the slot holds what the hand's notice reports
+abbrev pub Adopts : State → ℕ → ℕ → Option Notice → Reply → State → Type 0
+Adopts a m d None reply b = ⊥
+Adopts a m d (Some notice) reply b =
+    Gives (replies.Object notice.object)
+    (with_world a (with_slot (spent a.world (Mutator m) (Some notice)) m d (Some notice.object))) reply b
+
+-- a close is accepted where the queue is open
+abbrev pub Closes : State → ℕ → Bool → Reply → State → Type 0
+Closes a q true = Gives replies.Closed a
+Closes a q false = Gives replies.Done (with_world a (closed_queue a.world q))
+
+-- ---- the cycle
+
+-- so many empty lists
+abbrev pub emptied : List (List ℕ) → List (List ℕ)
+emptied lists = map (λ ns. []) lists
+
+-- a cycle begins: nothing is scanned, and what is kept now is ever kept
+abbrev pub begun_state : State → World → State
+begun_state a w = record {
+  world = w;
+  next = a.next;
+  born = a.next;
+  moments = [];
+  scanned = emptied a.scanned;
+  left = a.left;
+  doomed = [];
+  cleared = [];
+  found = emptied a.found;
+}
+
+abbrev pub list_at : List (List ℕ) → ℕ → List ℕ
+list_at lists k = slice_index_or lists k []
+
+-- a scan answers Scanned, of an object that is left, exactly where it is said that one is
+abbrev pub Scans : State → ℕ → Reply → State → Type 0
+Scans a k (replies.Scanned n) b =
+    (a.left ≡ true) × IsLeft a n
+    × IsBut (ticked (record a { scanned = slice_set a.scanned k (list_at a.scanned k ++ n ∷ []) })) b
+Scans a k reply b = (a.left ≡ false) × Gives replies.Nothing a reply b
+
+-- the references among these objects
+abbrev pub references_among : List Object → List ℕ → List ℕ
+references_among os [] = []
+references_among os (n ∷ ns) =
+    if is_some (reference_in (object_at os n)) then n ∷ references_among os ns else references_among os ns
+
+-- whether the one list is what is left of the other where some entries are taken out
+abbrev pub is_subsequence : List ℕ → List ℕ → Bool
+is_subsequence [] ns = true
+is_subsequence (m ∷ ms) [] = false
+is_subsequence (m ∷ ms) (n ∷ ns) = if m == n then is_subsequence ms ns else is_subsequence (m ∷ ms) ns
+
+-- each worker found some of the references that it scanned, in order
+abbrev pub AreFound : List Object → List (List ℕ) → List (List ℕ) → Type 0
+AreFound os [] [] = Unit {0}
+AreFound os [] (fs ∷ found) = ⊥
+AreFound os (ss ∷ scanned) [] = ⊥
+AreFound os (ss ∷ scanned) (fs ∷ found) =
+    (is_subsequence fs (references_among os ss) ≡ true) × AreFound os scanned found
+
+-- the object, cleared if it lives and refers to one of the doomed
+abbrev pub shown : List ℕ → Object → Object
+shown d o = if not (has d o.no) && refers_into d o.reference then with_reference cleared o else o
+
+-- the mark ends: all new clears are cleared at once
+abbrev pub mark_ended : State → List ℕ → List (List ℕ) → State
+mark_ended a d found = record {
+  world = with_phase (record a.world { objects = map (λ o. shown d o) a.world.objects }) Clearing;
+  next = a.next;
+  born = a.born;
+  moments = a.moments;
+  scanned = a.scanned;
+  left = a.left;
+  doomed = d;
+  cleared = new_clears a.world.objects d;
+  found = found;
+}
+
+-- what a mark's end dooms: what was made before the cycle and never scanned
+abbrev pub doomed_at : State → List ℕ
+doomed_at a = unscanned a.world.objects a.born (joined a.scanned)
+
+-- A mark's end answers how many it dooms, and it may doom them. Each worker has found some of the references that it
+-- scanned, and each new clear among them.
+pub record EndsMark (a : State) (reply : Reply) (b : State) : Type 0 where
+  pub answer : reply ≡ replies.Doomed (length (doomed_at a))
+  pub may_doom : MayDoom (policy_of a.world) (graph_of a.world) a.moments (doomed_at a)
+  pub found : List (List ℕ)
+  pub are_found : AreFound a.world.objects a.scanned found
+  pub all_found : (n : ℕ) → has (new_clears a.world.objects (doomed_at a)) n ≡ true → has (joined found) n ≡ true
+  pub after : b ≡ mark_ended a (doomed_at a) found
+
+-- the first that a worker found is Cleared if the mark's end cleared it, else Skipped if it has no referent, else Kept
+abbrev pub looked_at : State → ℕ → ℕ → Reply
+looked_at a k n =
+    if has a.cleared n then replies.Cleared n else
+    (if is_some (referent_of (reference_at a.world n)) then replies.Kept n else replies.Skipped n)
+
+-- and it goes last in the worker's pending list if it was cleared and is registered
+abbrev pub looked : State → ℕ → ℕ → List ℕ → State
+looked a k n rest = record a {
+  world =
+      if has a.cleared n then pended a.world k n (registered_in (reference_at a.world n)) else a.world;
+  found = slice_set a.found k rest;
+}
+
+abbrev pub ClearsNext : State → ℕ → List ℕ → Reply → State → Type 0
+ClearsNext a k [] = Gives replies.Nothing a
+ClearsNext a k (n ∷ rest) = Gives (looked_at a k n) (looked a k n rest)
+
+-- the first pending reference's notice comes into the worker's hand
+abbrev pub HandsOn : State → ℕ → List Pending → Reply → State → Type 0
+HandsOn a k [] = Gives replies.Nothing a
+HandsOn a k (p ∷ ps) =
+    let cause = Cycle p.cycle k in
+    Gives (replies.Notice p.object p.queue cause)
+    (with_world a (handed a.world k (record { object = p.object; queue = p.queue; cause = cause })))
+
+-- the objects without those of these numbers
+abbrev pub without : List ℕ → List Object → List Object
+without ns [] = []
+without ns (o ∷ os) = if has ns o.no then without ns os else o ∷ without ns os
+
+-- a sweep frees the 64 least of the doomed, or all
+abbrev pub Sweeps : State → List ℕ → Reply → State → Type 0
+Sweeps a [] = Gives replies.Nothing a
+Sweeps a (n ∷ ns) =
+    Gives (replies.Swept (min 64 (length (n ∷ ns))))
+    (record a {
+      world = record a.world { objects = without (take 64 (n ∷ ns)) a.world.objects };
+      doomed = drop 64 (n ∷ ns);
+    })
+
+-- ---- the rows
+
+-- a step that isn't refused may be answered so, and leaves this state
+abbrev pub Accepts : State → Step → Reply → State → Type 0
+Accepts a (steps.New m d k) = Makes a m d (plain_object a.next (nulls k))
+Accepts a (steps.Refer m strength d s q k) =
+    Makes a m d (new_reference a.world a.next strength (slot_at a.world m s) q k)
+Accepts a (steps.Store m s i v) =
+    Gives replies.Done
+    (with_world a (changed_in a.world (slot_at a.world m s) (with_field i (slot_at a.world m v))))
+Accepts a (steps.Load m d s i) = Loads a m d (field_in a.world (slot_at a.world m s) i)
+Accepts a (steps.Copy m d s) =
+    Gives (value_reply (slot_at a.world m s)) (with_world a (with_slot a.world m d (slot_at a.world m s)))
+Accepts a (steps.Drop m s) = Gives replies.Done (with_world a (with_slot a.world m s None))
+Accepts a (steps.Get m d s) =
+    Gets a m d s (referent_got (reference_of a.world (slot_at a.world m s)))
+Accepts a (steps.Clear m s) = Gives replies.Done (with_world a (cut a.world m s))
+Accepts a (steps.RefersTo m s v) =
+    Gives
+    (replies.Refers (is_same (referent_of (reference_of a.world (slot_at a.world m s))) (slot_at a.world m v))) a
+Accepts a (steps.Unhook m s) =
+    Unhooks a m s (slot_at a.world m s) (registered_in (reference_of a.world (slot_at a.world m s)))
+Accepts a (steps.Put who) = Puts a who (hand_of a.world who)
+Accepts a (steps.Poll m q) = Polls a m q (standing (queue_at a.world q))
+Accepts a (steps.Adopt m d) = Adopts a m d (hand_of a.world (Mutator m))
+Accepts a (steps.Release who) = Gives replies.Done (with_world a (spent a.world who (hand_of a.world who)))
+Accepts a (steps.Close m q) = Closes a q (queue_at a.world q).closed
+Accepts a (steps.Begin now urgency) =
+    let n = a.world.cycle + 1 in
+    GivesAnew (replies.Cycle n) (begun_state a (begun a.world now urgency n))
+Accepts a (steps.Scan k) = Scans a k
+Accepts a steps.EndMark = EndsMark a
+Accepts a (steps.ClearNext k) = ClearsNext a k (list_at a.found k)
+Accepts a steps.EndClear = Gives replies.Done (with_world a (with_phase a.world Sweeping))
+Accepts a (steps.Hand k) = HandsOn a k (pending_of a.world k)
+Accepts a (steps.Sweep k) = Sweeps a a.doomed
+Accepts a steps.EndSweep = Gives replies.Done (with_world a (with_phase a.world Idle))
+
+-- the row of a step that is refused or not
+abbrev pub IsAnswer : State → Option Fault → Step → Reply → State → Type 0
+IsAnswer a (Some fault) step reply b = (reply ≡ replies.Refused fault) × (b ≡ a)
+IsAnswer a None step reply b = Accepts a step reply b
+
+-- from this state, the step may be answered so, and then leaves the state b
+abbrev pub IsRow : State → Row → State → Type 0
+IsRow a row b = IsAnswer a (refusal a row.step) row.step row.reply b
+
+-- the rows lead from the one state to the other
+abbrev pub IsRun : State → List Row → State → Type 0
+IsRun a [] b = b ≡ a
+IsRun a (row ∷ rows) b = (mid : State) × IsRow a row mid × IsRun mid rows b

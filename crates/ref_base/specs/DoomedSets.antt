@@ -1,0 +1,39 @@
+-- What a mark's end dooms, and which references it clears (Java SE 17, package `java.lang.ref`: the references to what
+-- is no longer reachable so are cleared at one instant; which objects are doomed is this project's profile).
+use Rattle.std.specs.Prelude.{◌≡◌, ℕ, Bool, true, false, not, ◌&&◌, if◌then◌else◌, nat_lt, List, [], ◌∷◌, Option, Some, None}
+use Rattle.ref_base.specs.Members.{has}
+use Rattle.ref_base.specs.Graphs.{Graph, Object, Reference, is_there}
+use Rattle.ref_base.specs.Paths.{targets_at}
+use Rattle.ref_base.specs.KeptPaths.{Policy, is_kept, IsKept, EverKept}
+
+-- the numbers of the objects that were made before the cycle began and that no row of the cycle scanned
+abbrev pub unscanned : List Object → ℕ → List ℕ → List ℕ
+unscanned [] born scanned = []
+unscanned (o ∷ os) born scanned =
+    if nat_lt o.no born && not (has scanned o.no) then o.no ∷ unscanned os born scanned else unscanned os born scanned
+
+-- A mark that ends at graph g may doom the objects d: no kept path leads to one of them; each object is among them to
+-- which none ever led in this mark; and no object outside them leads into them by a strong field or as a kept soft
+-- reference.
+pub record MayDoom (p : Policy) (g : Graph) (moments : List Graph) (d : List ℕ) : Type 0 where
+  pub none_kept : (n : ℕ) → has d n ≡ true → ¬ (IsKept p g n)
+  pub never_kept : (n : ℕ) → is_there g.objects n ≡ true → ¬ (EverKept p moments n) → has d n ≡ true
+  pub closed :
+      (m n : ℕ) → is_there g.objects m ≡ true → has d m ≡ false → has (targets_at (is_kept p) g.objects m) n ≡ true
+      → has d n ≡ false
+
+-- whether there is a number and it is among these
+abbrev pub is_among : List ℕ → Option ℕ → Bool
+is_among d None = false
+is_among d (Some n) = has d n
+
+-- whether this is a reference whose referent is one of these objects
+abbrev pub refers_into : List ℕ → Option Reference → Bool
+refers_into d None = false
+refers_into d (Some r) = is_among d r.referent
+
+-- the new clears: the references outside the doomed whose referent is doomed
+abbrev pub new_clears : List Object → List ℕ → List ℕ
+new_clears [] d = []
+new_clears (o ∷ os) d =
+    if not (has d o.no) && refers_into d o.reference then o.no ∷ new_clears os d else new_clears os d

@@ -1,0 +1,23 @@
+-- What a contract sees of a graph's fields.
+use Rattle.std.specs.Prelude.{ℕ, List, map, Option, Some, None}
+use Rattle.ref_base.specs.Graphs.{Graph, Object, Reference}
+use Rattle.ref_base.specs.declared.graph.Graph.{Graph as Fields}
+use Rattle.ref_base.specs.declared.stored.Link.{Link}
+use Rattle.ref_base.specs.declared.stored.Stored.{Stored}
+
+-- what a stored link says of a reference: it was never got, and has no queue
+abbrev pub reference_of : Option Link → Option Reference
+reference_of None = None
+reference_of (Some l) = Some (record { strength = l.strength; referent = l.referent; stamp = 0; queue = None })
+
+-- the object that is stored at a number
+abbrev pub object_of : ℕ × Stored → Object
+object_of e = record { no = e.0; fields = e.1.fields; reference = reference_of e.1.link }
+
+-- the objects that are stored
+abbrev pub objects_in : List (ℕ × Stored) → List Object
+objects_in es = map object_of es
+
+-- the graph that the fields hold
+abbrev pub graph_of : {A : Type 0} → Fields A → Graph
+graph_of g = record { objects = objects_in g.objects.entries; roots = g.roots.keys }

@@ -1,0 +1,78 @@
+-- What a search through a graph does to the numbers that it has seen, and what it finds.
+use Rattle.std.specs.Prelude.{◌≡◌, ℕ, ◌+◌, Bool, true, false, if◌then◌else◌}
+use Rattle.std.specs.Prelude.{List, [], ◌∷◌, ◌++◌, map, Option, Some, None}
+use Rattle.ref_base.specs.Members.{has}
+use Rattle.ref_base.specs.Graphs.{Graph, Object, Reference, object_at, is_there, with_root}
+use Rattle.ref_base.specs.Paths.{Allowed, EndsPath, if_any, is_phantom, is_soft, is_weak}
+use Rattle.ref_base.specs.Paths.{no_referents, soft_referents, soft_and_weak_referents}
+use Rattle.ref_base.specs.Strengths.{HangsOnPhantom}
+use Rattle.ref_base.specs.declared.reach.Reach.{Reach}
+use Rattle.ref_base.specs.declared.reach.Reach.TheVariants as reaches
+use Rattle.ref_base.specs.declared.reach.ObjectReach.{ObjectReach}
+use Rattle.ref_base.specs.declared.search.Allow.{Allow}
+use Rattle.ref_base.specs.declared.search.Allow.TheVariants as allow
+use Rattle.ref_base.specs.declared.strength.Strength.{Strength}
+
+-- whether a path may go through a reference of this strength
+abbrev pub allows : Allow → Strength → Bool
+allows allow.NoReferents s = false
+allows allow.Soft s = is_soft s
+allows allow.SoftAndWeak s = if is_soft s then true else is_weak s
+
+-- the same of references
+abbrev pub allowed : Allow → Allowed
+allowed a r = allows a r.strength
+
+-- the numbers with one more, last, where it is that of an object and isn't among them
+abbrev pub added : List Object → List ℕ → ℕ → List ℕ
+added os ns n = if is_there os n then with_root ns n else ns
+
+-- the same of each of some candidates in turn
+abbrev pub added_all : List Object → List ℕ → List ℕ → List ℕ
+added_all os ns [] = ns
+added_all os ns (c ∷ cs) = added_all os (added os ns c) cs
+
+-- how many objects have a number that isn't among ns
+abbrev pub unseen : List Object → List ℕ → ℕ
+unseen [] ns = 0
+unseen (o ∷ os) ns = (if has ns o.no then 0 else 1) + unseen os ns
+
+-- the numbers are those at which paths end
+pub record IsReached (allow : Allowed) (g : Graph) (ns : List ℕ) : Type 0 where
+  pub sound : (n : ℕ) → has ns n ≡ true → EndsPath allow g n
+  pub complete : (n : ℕ) → EndsPath allow g n → has ns n ≡ true
+
+-- the referent of an object that is a phantom reference
+abbrev pub phantom_referent : Option Reference → List ℕ
+phantom_referent None = []
+phantom_referent (Some r) = if is_phantom r.strength then if_any r.referent else []
+
+-- the referents of those of some objects that are phantom references
+abbrev pub phantom_referent_at : Option Object → List ℕ
+phantom_referent_at None = []
+phantom_referent_at (Some o) = phantom_referent o.reference
+
+abbrev pub phantom_referents : List Object → List ℕ → List ℕ
+phantom_referents os [] = []
+phantom_referents os (m ∷ ms) = phantom_referent_at (object_at os m) ++ phantom_referents os ms
+
+-- what three searches and a pass over what the last one found have found
+pub record AreFound (g : Graph) (strong soft weak hung : List ℕ) : Type 0 where
+  pub strong_reached : IsReached no_referents g strong
+  pub soft_reached : IsReached soft_referents g soft
+  pub weak_reached : IsReached soft_and_weak_referents g weak
+  pub hung_sound : (n : ℕ) → has hung n ≡ true → HangsOnPhantom g n
+  pub hung_complete : (n : ℕ) → is_there g.objects n ≡ true → HangsOnPhantom g n → has hung n ≡ true
+
+-- the strength of n, read off what was found
+abbrev pub found_reach : List ℕ → List ℕ → List ℕ → List ℕ → ℕ → Reach
+found_reach strong soft weak hung n =
+    if has strong n then reaches.Strong
+    else (if has soft n then reaches.Soft
+    else (if has weak n then reaches.Weak
+    else (if has hung n then reaches.Phantom else reaches.Unreachable)))
+
+-- objects by number with the strengths that are read off what was found
+abbrev pub found_reaches : List ℕ → List ℕ → List ℕ → List ℕ → List ℕ → List ObjectReach
+found_reaches strong soft weak hung ns =
+    map (λ n. record { object = n; reach = found_reach strong soft weak hung n }) ns

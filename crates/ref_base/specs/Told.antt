@@ -1,0 +1,56 @@
+-- What an answer tells, which is all that the replay of a trace reads of it.
+use Rattle.std.specs.Prelude.{ℕ, Bool, true, false, Option, Some, None}
+use Rattle.ref_base.specs.Worlds.{Notice}
+use Rattle.ref_base.specs.declared.reply.Reply.{Reply}
+use Rattle.ref_base.specs.declared.reply.Reply.TheVariants as replies
+
+-- the object that it names
+abbrev pub told_object : Reply → Option ℕ
+told_object (replies.Object n) = Some n
+told_object r = None
+
+-- what a slot holds now: an object or nothing
+abbrev pub told_value : Reply → Option (Option ℕ)
+told_value (replies.Object n) = Some (Some n)
+told_value replies.Null = Some None
+told_value r = None
+
+-- that it was done
+abbrev pub is_done : Reply → Bool
+is_done replies.Done = true
+is_done r = false
+
+-- the notice that a hand holds now
+abbrev pub told_notice : Reply → Option Notice
+told_notice (replies.Notice n q cause) = Some (record { object = n; queue = q; cause = cause })
+told_notice r = None
+
+-- that there is nothing to give
+abbrev pub is_nothing : Reply → Bool
+is_nothing replies.Nothing = true
+is_nothing r = false
+
+-- that a notice was put in
+abbrev pub is_added : Reply → Bool
+is_added (replies.Added position) = true
+is_added r = false
+
+-- the reference that was taken from a queue
+abbrev pub told_taken : Reply → Option ℕ
+told_taken (replies.Took n) = Some n
+told_taken r = None
+
+-- the number of the cycle that began
+abbrev pub told_cycle : Reply → Option ℕ
+told_cycle (replies.Cycle n) = Some n
+told_cycle r = None
+
+-- that a mark ended
+abbrev pub is_doomed : Reply → Bool
+is_doomed (replies.Doomed count) = true
+is_doomed r = false
+
+-- the reference that was cleared
+abbrev pub told_cleared : Reply → Option ℕ
+told_cleared (replies.Cleared n) = Some n
+told_cleared r = None

@@ -1,0 +1,29 @@
+//! Who has a hand.
+
+ghost use Rattle.std.specs.Prelude.{Some};
+
+use crate::{MutNo, WorkerNo};
+use std::fmt;
+
+/// A program thread or a thread of the collector: each has one hand. It prints as `m0` or `w0`.
+#[derive(Clone, Copy, Debug, PartialEq, Eq)]
+pub enum Actor {
+    /// A program thread.
+    Mutator(MutNo),
+    /// A thread of the collector.
+    Worker(WorkerNo),
+}
+
+impl fmt::Display for Actor {
+    ghost use Rattle.ref_base.specs.Texts.{word_text};
+    ghost use Rattle.ref_base.specs.Steps.{actor};
+
+    ghost output = { λ who. Some (word_text (actor who)) };
+
+    fn fmt<W: fmt::Write>(&self, f: &mut fmt::Formatter<W>) -> fmt::Result {
+        match *self {
+            Actor::Mutator(mutator) => write!(f, "{mutator}"),
+            Actor::Worker(worker) => write!(f, "{worker}"),
+        }
+    }
+}

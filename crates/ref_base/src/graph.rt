@@ -1,0 +1,143 @@
+//! Object graphs.
+
+ghost use Rattle.std.specs.Prelude.{◌≡◌, ◌≤◌, length, ℕ};
+ghost use Rattle.std.specs.BTreeMap.{IsOrdered};
+ghost use Rattle.std.specs.Map.{keys_of};
+ghost use Rattle.std.specs.Map.Iter.{ShowsInOrder, deref};
+ghost use Rattle.std.specs.Ordering.{nat_cmp};
+ghost use Rattle.std.specs.Option.{option_map};
+ghost use Rattle.ref_base.specs.GraphViews.{graph_of, object_of, reference_of};
+ghost use Rattle.ref_base.specs.GraphAnswers.{AnswersObject, after_object, AnswersRoot, after_root};
+ghost use Rattle.ref_base.specs.Graphs.{empty_graph, is_there, object_at, plain_object, reference_object};
+
+use crate::stored::{Fields, Link, Stored};
+use crate::{Fault, ObjNo, Strength};
+use indexmap::IndexSet;
+use std::alloc::{Allocator, Global};
+use std::collections::BTreeMap;
+use std::collections::btree_map::Keys;
+use std::hash::{BuildHasherDefault, FoldHasher};
+
+/// An object graph: objects, what they refer to, and roots, the numbers that a program reaches by itself (package
+/// `java.lang.ref` of Java SE 17). That objects have numbers and at most 8 fields is this project's profile. All its
+/// memory is of the allocator that it was made with.
+#[derive(Drop)]
+pub struct Graph<A: Allocator = Global> {
+    // By number, so that they are listed in order and found in logarithmic time.
+    objects: BTreeMap<ObjNo, Stored, A>,
+    roots: IndexSet<ObjNo, BuildHasherDefault<FoldHasher>, A>,
+}
+
+impl<A: Allocator + Copy> Graph<A> {
+    /// No object and no root. Takes no memory.
+    pub fn new(alloc: A) -> Self
+        ensures { graph_of result ≡ empty_graph }
+    {
+        Graph {
+            objects: BTreeMap::new(alloc),
+            roots: IndexSet::new(alloc),
+        }
+    }
+
+    /// Adds a plain object, with these fields, each an object's number or null. True where it was added, false where an
+    /// object of its number was there, which then stays as it is. A field may name an object that isn't there, or comes
+    /// later: while it isn't there, no path goes on to it.
+    ///
+    /// Tried in this order: `BadField` where there are more than 8 fields, false where the number is there, `NoMemory`
+    /// where a growth is refused. In each of these nothing has changed. Only true takes memory. In logarithmic time.
+    pub fn add_object(&mut self, no: ObjNo, fields: &[Option<ObjNo>]) -> Result<bool, Fault>
+        ensures answer { AnswersObject (graph_of self.old) (plain_object no fields.now) result }
+        ensures after { graph_of self.new ≡ after_object (graph_of self.old) (plain_object no fields.now) result }
+    {
+        self.add(no, fields, None)
+    }
+
+    /// Adds an object that is a reference: how strongly it holds its referent, and the referent or null. Its stamp is
+    /// 0, and it has no queue. Its answers, their order and its costs are those of `add_object`.
+    pub fn add_reference(
+        &mut self,
+        no: ObjNo,
+        strength: Strength,
+        referent: Option<ObjNo>,
+        fields: &[Option<ObjNo>],
+    ) -> Result<bool, Fault>
+        ensures answer { AnswersObject (graph_of self.old) (reference_object no strength referent fields.now) result }
+        ensures after { graph_of self.new
+            ≡ after_object (graph_of self.old) (reference_object no strength referent fields.now) result }
+    {
+        let link = Link { strength, referent };
+        self.add(no, fields, Some(link))
+    }
+
+    // Adds an object, plain or a reference.
+    fn add(
+        &mut self,
+        no: ObjNo,
+        fields: &[Option<ObjNo>],
+        link: Option<Link>,
+    ) -> Result<bool, Fault>
+        ensures answer { AnswersObject (graph_of self.old)
+            (record { no = no; fields = fields.now; reference = reference_of link }) result }
+        ensures after { graph_of self.new ≡ after_object (graph_of self.old)
+            (record { no = no; fields = fields.now; reference = reference_of link }) result }
+    {
+        if fields.len() > 8 {
+            return Err(Fault::BadField);
+        }
+        // Gives the proof that the numbers rise.
+        let _count = self.objects.len();
+        if self.objects.contains_key(&no) {
+            return Ok(false);
+        }
+        let stored = Stored {
+            fields: Fields::new(fields),
+            link,
+        };
+        match self.objects.insert(no, stored) {
+            Ok(_) => Ok(true),
+            Err(_) => Err(Fault::NoMemory),
+        }
+    }
+
+    /// Makes a number a root. True where it was none. It needn't be an object's: while there is no such object, no path
+    /// begins there. The one error is `NoMemory`, where a growth is refused: then nothing has changed, and it was no
+    /// root. In expected constant time, amortized.
+    pub fn add_root(&mut self, no: ObjNo) -> Result<bool, Fault>
+        ensures answer { AnswersRoot (graph_of self.old) no result }
+        ensures after { graph_of self.new ≡ after_root (graph_of self.old) no result }
+    {
+        match self.roots.insert(no) {
+            Ok(is_new) => Ok(is_new),
+            Err(_) => Err(Fault::NoMemory),
+        }
+    }
+
+    /// Whether there is an object of this number.
+    pub(crate) fn has_object(&self, no: ObjNo) -> bool
+        ensures { result ≡ is_there (graph_of self.now).objects no }
+    {
+        self.objects.contains_key(&no)
+    }
+
+    /// What is stored of the object of this number.
+    pub(crate) fn stored(&self, no: ObjNo) -> Option<&Stored>
+        ensures { option_map (λ s. object_of (no, s.now)) result ≡ object_at (graph_of self.now).objects no }
+    {
+        self.objects.get(&no)
+    }
+
+    /// The roots, in the order in which they were added.
+    pub(crate) fn roots(&self) -> &[ObjNo]
+        ensures { result.now ≡ (graph_of self.now).roots }
+    {
+        self.roots.as_slice()
+    }
+    /// The numbers of the objects, which rise.
+    pub(crate) fn numbers(&self) -> Keys<'_, ObjNo, Stored>
+        ensures rest { result ≡ keys_of self.now.objects.entries }
+        ensures sorted { IsOrdered nat_cmp self.now.objects }
+        ensures runs { ShowsInOrder (deref {X = ℕ}) }
+    {
+        self.objects.keys()
+    }
+}

@@ -1,0 +1,43 @@
+//! What the definitions say together, beside any code.
+
+ghost use Rattle.std.specs.Prelude.{◌≡◌, ℕ, false, List, ◌∷◌, ◌++◌, ◌⊎◌};
+ghost use Rattle.ref_base.specs.Graphs.{Graph};
+ghost use Rattle.ref_base.specs.KeptPaths.{Policy, is_normal, IsKept, EverKept};
+ghost use Rattle.ref_base.specs.LegalTraces.{IsLegal};
+ghost use Rattle.ref_base.specs.Strengths.{HasStrength};
+ghost use Rattle.ref_base.specs.declared.config.Config.{Config};
+ghost use Rattle.ref_base.specs.declared.reach.Reach.{Reach};
+ghost use Rattle.ref_base.specs.declared.row.Row.{Row};
+
+/// Whatever the graph and the number, it is reachable in one of the five ways.
+pub fn each_number_has_a_strength()
+    ensures { (g : Graph) (n : ℕ) → (reach : Reach) × HasStrength g n reach }
+{}
+
+/// And in no two of them.
+pub fn strengths_are_exclusive()
+    ensures { (g : Graph) (n : ℕ) (a b : Reach) → HasStrength g n a → HasStrength g n b → a ≡ b }
+{}
+
+/// What a kept path ends at is strongly or softly reachable.
+pub fn what_is_kept_is_reachable()
+    ensures { (p : Policy) (g : Graph) (n : ℕ) → IsKept p g n
+        → HasStrength g n Reach.Strong ⊎ HasStrength g n Reach.Soft }
+{}
+
+/// In an urgent cycle it is strongly reachable.
+pub fn an_urgent_cycle_keeps_what_is_strong()
+    ensures { (p : Policy) (g : Graph) (n : ℕ) → is_normal p.urgency ≡ false → IsKept p g n
+        → HasStrength g n Reach.Strong }
+{}
+
+/// What a kept path ends at in one moment of a mark was ever kept in it.
+pub fn what_is_kept_was_ever_kept()
+    ensures { (p : Policy) (later : List Graph) (g : Graph) (earlier : List Graph) (n : ℕ) → IsKept p g n
+        → EverKept p (later ++ g ∷ earlier) n }
+{}
+
+/// The front of a legal trace is legal: what is answered later changes no answer before.
+pub fn the_front_of_a_legal_trace_is_legal()
+    ensures { (config : Config) (front back : List Row) → IsLegal config (front ++ back) → IsLegal config front }
+{}

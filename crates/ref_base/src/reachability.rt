@@ -1,0 +1,164 @@
+//! How strongly the objects of a graph are reachable.
+
+ghost use Rattle.std.specs.Prelude.{◌≡◌, IfOk, OnErr, []};
+ghost use Rattle.std.specs.BTreeMap.{IsOrdered};
+ghost use Rattle.std.specs.Map.{keys_of};
+ghost use Rattle.std.specs.Ordering.{nat_cmp};
+ghost use Rattle.ref_base.specs.Graphs.{object_at};
+ghost use Rattle.ref_base.specs.GraphViews.{graph_of};
+ghost use Rattle.ref_base.specs.GraphAnswers.{AnswersStrength};
+ghost use Rattle.ref_base.specs.Paths.{if_any};
+ghost use Rattle.ref_base.specs.Searches.{added_all, phantom_referents, phantom_referent_at, AreFound};
+ghost use Rattle.ref_base.specs.Searches.{found_reach, found_reaches};
+ghost use Rattle.ref_base.specs.Strengths.{AreStrengths};
+
+use crate::search::{Allow, Numbers, add_if_any, search, was_found};
+use crate::{Fault, Graph, ObjNo, ObjectReach, Reach, Strength};
+use indexmap::IndexSet;
+use std::alloc::{AllocError, Allocator};
+
+// The referent of the object of this number, if it is a phantom reference.
+fn phantom_referent<A: Allocator + Copy>(graph: &Graph<A>, no: ObjNo) -> Option<ObjNo>
+    ensures { if_any result ≡ phantom_referent_at (object_at (graph_of graph.now).objects no) }
+{
+    match graph.stored(no)?.link {
+        Some(link) if link.strength == Strength::Phantom => link.referent,
+        _ => None,
+    }
+}
+
+// The referents of those of these objects that are phantom references. What lies behind such a referent is not among
+// them: it is phantom reachable only where a phantom reference refers to it too.
+fn hung_on<A: Allocator + Copy, B: Allocator + Copy>(
+    alloc: B,
+    graph: &Graph<A>,
+    reached: &Numbers<B>,
+) -> Result<Numbers<B>, AllocError>
+    ensures { IfOk result (λ hung. hung.keys
+        ≡ added_all (graph_of graph.now).objects [] (phantom_referents (graph_of graph.now).objects reached.now.keys)) }
+{
+    let mut hung = IndexSet::new(alloc);
+    for no in reached.as_slice() {
+        add_if_any(&mut hung, graph, phantom_referent(graph, *no))?;
+    }
+    Ok(hung)
+}
+
+// What three searches found: the numbers that paths lead to which go through no references, through soft ones, and
+// through soft and weak ones; and the numbers of what hangs on a phantom reference among the last.
+#[derive(Drop)]
+struct Found<B: Allocator> {
+    strong: Numbers<B>,
+    soft: Numbers<B>,
+    weak: Numbers<B>,
+    hung: Numbers<B>,
+}
+
+// What the three searches find.
+fn find<A: Allocator + Copy, B: Allocator + Copy>(
+    alloc: B,
+    graph: &Graph<A>,
+) -> Result<Found<B>, AllocError>
+    ensures { IfOk result (λ f. AreFound (graph_of graph.now) f.strong.keys f.soft.keys f.weak.keys f.hung.keys) }
+{
+    let strong = search(alloc, graph, Allow::NoReferents)?;
+    let soft = search(alloc, graph, Allow::Soft)?;
+    let weak = search(alloc, graph, Allow::SoftAndWeak)?;
+    let hung = hung_on(alloc, graph, &weak)?;
+    Ok(Found {
+        strong,
+        soft,
+        weak,
+        hung,
+    })
+}
+
+impl<B: Allocator> Found<B> {
+    // The first search that found the number tells its strength.
+    fn reach_of(&self, no: ObjNo) -> Reach
+        ensures { result ≡ found_reach self.now.strong.keys self.now.soft.keys self.now.weak.keys
+            self.now.hung.keys no }
+    {
+        if was_found(&self.strong, no) {
+            return Reach::Strong;
+        }
+        if was_found(&self.soft, no) {
+            return Reach::Soft;
+        }
+        if was_found(&self.weak, no) {
+            return Reach::Weak;
+        }
+        if was_found(&self.hung, no) {
+            return Reach::Phantom;
+        }
+        Reach::Unreachable
+    }
+
+    // The strength of each object of the graph that was searched.
+    fn reach_of_all<A: Allocator + Copy>(
+        &self,
+        alloc: B,
+        graph: &Graph<A>,
+    ) -> Result<Vec<ObjectReach, B>, AllocError>
+        ensures ok { IfOk result (λ listed. listed.items ≡ found_reaches self.now.strong.keys self.now.soft.keys
+            self.now.weak.keys self.now.hung.keys (keys_of graph.now.objects.entries)) }
+        ensures sorted { IsOrdered nat_cmp graph.now.objects }
+    {
+        graph
+            .numbers()
+            .map(|no| ObjectReach {
+                object: *no,
+                reach: self.reach_of(*no),
+            })
+            .collect(alloc)
+    }
+}
+
+/// How strongly the object of this number is reachable (package `java.lang.ref` of Java SE 17). This project's profile
+/// is that the referent of a phantom reference is phantom reachable only where that reference is itself reachable by
+/// strong, soft and weak steps, and that what lies behind such a referent isn't by that.
+///
+/// `NoSuchObject` exactly where there is no such object, which takes no memory to tell; else `NoMemory` where a growth
+/// is refused. In expected time of the number of objects, fields and roots, times a logarithm for look-ups.
+pub fn strength_of<A: Allocator + Copy, B: Allocator + Copy>(
+    alloc: B,
+    graph: &Graph<A>,
+    no: ObjNo,
+) -> Result<Reach, Fault>
+    ensures { AnswersStrength (graph_of graph.now) no result }
+{
+    if !graph.has_object(no) {
+        return Err(Fault::NoSuchObject);
+    }
+    match find(alloc, graph) {
+        Ok(found) => Ok(found.reach_of(no)),
+        Err(_) => Err(Fault::NoMemory),
+    }
+}
+
+/// How strongly each object is reachable, by number. The one error is `NoMemory`. All of them in expected time of the
+/// number of objects, fields and roots, times a logarithm for look-ups: three searches serve them all.
+pub fn strengths<A: Allocator + Copy, B: Allocator + Copy>(
+    alloc: B,
+    graph: &Graph<A>,
+) -> Result<Vec<ObjectReach, B>, Fault>
+    ensures ok { IfOk result (λ listed. AreStrengths (graph_of graph.now) listed.items) }
+    ensures err { OnErr result (result ≡ Err Fault.NoMemory) }
+{
+    match list(alloc, graph) {
+        Ok(listed) => Ok(listed),
+        Err(_) => Err(Fault::NoMemory),
+    }
+}
+
+// The same, with the allocator's error.
+fn list<A: Allocator + Copy, B: Allocator + Copy>(
+    alloc: B,
+    graph: &Graph<A>,
+) -> Result<Vec<ObjectReach, B>, AllocError>
+    ensures { IfOk result (λ listed. AreStrengths (graph_of graph.now) listed.items) }
+{
+    let found = find(alloc, graph)?;
+    let listed = found.reach_of_all(alloc, graph)?;
+    Ok(listed)
+}

@@ -1,0 +1,153 @@
+//! The search for all objects that paths from the roots lead to. The list of what it has seen is also its list of
+//! work: it goes on from one number after the other, and puts what it finds at the end.
+
+ghost use Rattle.std.specs.Prelude.{◌≡◌, OnOk, IfOk};
+ghost use Rattle.ref_base.specs.GraphViews.{graph_of, reference_of};
+ghost use Rattle.ref_base.specs.Members.{has};
+ghost use Rattle.ref_base.specs.Paths.{allowed_referent, if_any, present, targets_at};
+ghost use Rattle.ref_base.specs.Searches.{allows, allowed, added, added_all, IsReached};
+
+use crate::stored::Link;
+use crate::{Graph, ObjNo, Strength};
+use indexmap::IndexSet;
+use std::alloc::{AllocError, Allocator};
+use std::hash::{BuildHasherDefault, FoldHasher};
+
+/// Which references a path may go through.
+#[derive(Clone, Copy)]
+pub(crate) enum Allow {
+    /// None: a path goes over fields alone.
+    NoReferents,
+    /// Soft references.
+    Soft,
+    /// Soft and weak references.
+    SoftAndWeak,
+}
+
+impl Allow {
+    /// Whether a path may go through a reference of this strength.
+    fn allows(self, strength: Strength) -> bool
+        ensures { result ≡ allows self strength }
+    {
+        match (self, strength) {
+            (Allow::NoReferents, _) => false,
+            (Allow::Soft, Strength::Soft) => true,
+            (Allow::SoftAndWeak, Strength::Soft | Strength::Weak) => true,
+            _ => false,
+        }
+    }
+
+    // The referent, where a path may go through to it.
+    fn referent(self, link: Option<Link>) -> Option<ObjNo>
+        ensures { if_any result ≡ allowed_referent (allowed self) (reference_of link) }
+    {
+        match link {
+            Some(link) if self.allows(link.strength) => link.referent,
+            _ => None,
+        }
+    }
+}
+
+/// Numbers in the order in which they were found, each once.
+pub(crate) type Numbers<B> = IndexSet<ObjNo, BuildHasherDefault<FoldHasher>, B>;
+
+/// Whether this number was found.
+pub(crate) fn was_found<B: Allocator>(found: &Numbers<B>, no: ObjNo) -> bool
+    ensures { result ≡ has found.now.keys no }
+{
+    found.contains(&no)
+}
+
+// One more number, where it is an object's.
+fn add<A: Allocator + Copy, B: Allocator + Copy>(
+    seen: &mut Numbers<B>,
+    graph: &Graph<A>,
+    no: ObjNo,
+) -> Result<(), AllocError>
+    ensures { OnOk result (seen.new.keys ≡ added (graph_of graph.now).objects seen.old.keys no) }
+{
+    if graph.has_object(no) {
+        seen.insert(no)?;
+    }
+    Ok(())
+}
+
+/// One more number, if any, where it is an object's.
+pub(crate) fn add_if_any<A: Allocator + Copy, B: Allocator + Copy>(
+    seen: &mut Numbers<B>,
+    graph: &Graph<A>,
+    value: Option<ObjNo>,
+) -> Result<(), AllocError>
+    ensures { OnOk result (seen.new.keys ≡ added_all (graph_of graph.now).objects seen.old.keys (if_any value)) }
+{
+    match value {
+        Some(no) => add(seen, graph, no),
+        None => Ok(()),
+    }
+}
+
+// What these fields hold.
+fn add_fields<A: Allocator + Copy, B: Allocator + Copy>(
+    seen: &mut Numbers<B>,
+    graph: &Graph<A>,
+    fields: &[Option<ObjNo>],
+) -> Result<(), AllocError>
+    ensures { OnOk result (seen.new.keys ≡ added_all (graph_of graph.now).objects seen.old.keys (present fields.now)) }
+{
+    for field in fields {
+        add_if_any(seen, graph, *field)?;
+    }
+    Ok(())
+}
+
+// Where paths begin.
+fn add_roots<A: Allocator + Copy, B: Allocator + Copy>(
+    seen: &mut Numbers<B>,
+    graph: &Graph<A>,
+    roots: &[ObjNo],
+) -> Result<(), AllocError>
+    ensures { OnOk result (seen.new.keys ≡ added_all (graph_of graph.now).objects seen.old.keys roots.now) }
+{
+    for root in roots {
+        add(seen, graph, *root)?;
+    }
+    Ok(())
+}
+
+// Where a path may go on to from the object of this number.
+fn add_targets<A: Allocator + Copy, B: Allocator + Copy>(
+    seen: &mut Numbers<B>,
+    graph: &Graph<A>,
+    no: ObjNo,
+    allow: Allow,
+) -> Result<(), AllocError>
+    ensures { OnOk result (seen.new.keys
+        ≡ added_all (graph_of graph.now).objects seen.old.keys
+        (targets_at (allowed allow) (graph_of graph.now).objects no)) }
+{
+    if let Some(stored) = graph.stored(no) {
+        add_fields(seen, graph, stored.fields.as_slice())?;
+        add_if_any(seen, graph, allow.referent(stored.link))?;
+    }
+    Ok(())
+}
+
+/// The numbers of all objects that paths lead to, where they go through no other references than these. Each object and
+/// each field is looked at once: in expected time of their number, times a logarithm for look-ups.
+pub(crate) fn search<A: Allocator + Copy, B: Allocator + Copy>(
+    alloc: B,
+    graph: &Graph<A>,
+    allow: Allow,
+) -> Result<Numbers<B>, AllocError>
+    ensures { IfOk result (λ seen. IsReached (allowed allow) (graph_of graph.now) seen.keys) }
+{
+    let mut seen = IndexSet::new(alloc);
+    add_roots(&mut seen, graph, graph.roots())?;
+    let mut next = 0;
+    while next < seen.len() {
+        let no = seen.as_slice()[next];
+        add_targets(&mut seen, graph, no, allow)?;
+        next += 1;
+    }
+    Ok(seen)
+}

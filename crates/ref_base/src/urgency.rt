@@ -1,0 +1,28 @@
+//! How urgently a cycle wants memory.
+
+ghost use Rattle.std.specs.Prelude.{Some};
+
+use std::fmt;
+
+/// Whether a cycle keeps soft references (this project's profile: Java leaves it to the collector). It prints as `normal`
+/// or `urgent`.
+#[derive(Clone, Copy, Debug, PartialEq, Eq)]
+pub enum Urgency {
+    /// The cycle keeps the soft references that were made or got lately.
+    Normal,
+    /// It keeps none.
+    Urgent,
+}
+
+impl fmt::Display for Urgency {
+    ghost use Rattle.ref_base.specs.Steps.{urgency_name};
+
+    ghost output = { λ urgency. Some (urgency_name urgency) };
+
+    fn fmt<W: fmt::Write>(&self, f: &mut fmt::Formatter<W>) -> fmt::Result {
+        match *self {
+            Urgency::Normal => write!(f, "normal"),
+            Urgency::Urgent => write!(f, "urgent"),
+        }
+    }
+}

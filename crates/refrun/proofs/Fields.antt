@@ -1,0 +1,125 @@
+-- The fields of a line of a graph text, word by word.
+use Rattle.std.proofs.Common.{◌≡◌, ℕ, zero, suc, ◌+◌, ◌≤◌, ◌<◌, true, false, List, [], ◌∷◌, ◌++◌, length, take}
+use Rattle.std.proofs.Common.{nat_lt, Option, Some, None, refl, sym, ap, ◌∙◌, append_assoc, inl, inr, arith, ◌⊎◌}
+use Rattle.std.specs.List.{list_all}
+use Rattle.std.proofs.lemmas.Bool.{cases_Bool, lt-ltb, le-ltb, or_right}
+use Rattle.std.proofs.Math.Seq.{take-append_seam}
+use Rattle.std.proofs.lemmas.List.{append-nil, length-append}
+use Rattle.refrun.specs.DeclarationFaults.{is_object, is_object_or_none, are_operands, words_fault}
+use Rattle.refrun.specs.Declarations.{SpellsObject, SpellsObjectOrNone, SpellFields}
+use Rattle.refrun.specs.DeclarationViews.{ReadsFields}
+use Rattle.refrun.specs.declared.fault.LineFault.TheVariants.{ExtraWord}
+
+-- a word that spells a number is of its form
+pub object_fits : (word : List ℕ) (n : ℕ) → SpellsObject word n → is_object word ≡ true
+object_fits word n h = rw h.0 (lt-ltb 0 n (omega (arith, h.1)))
+
+pub object_or_none_fits : (word : List ℕ) (field : Option ℕ) → SpellsObjectOrNone word field
+    → is_object_or_none word ≡ true
+object_or_none_fits word (Some n) h = or_right _ _ (object_fits word n h)
+object_or_none_fits word None h = rw h refl
+
+pub fields_fit : (words : List (List ℕ)) (fields : List (Option ℕ)) → SpellFields words fields
+    → list_all is_object_or_none words ≡ true
+fields_fit [] [] h = refl
+fields_fit [] (field ∷ fields) h = absurd h
+fields_fit (word ∷ words) [] h = absurd h
+fields_fit (word ∷ words) (field ∷ fields) h =
+    simp (object_or_none_fits word field h.0) (fields_fit words fields h.1)
+
+-- each field has its word
+pub fields_length : (words : List (List ℕ)) (fields : List (Option ℕ)) → SpellFields words fields
+    → length words ≡ length fields
+fields_length [] [] h = refl
+fields_length [] (field ∷ fields) h = absurd h
+fields_length (word ∷ words) [] h = absurd h
+fields_length (word ∷ words) (field ∷ fields) h = ap suc (fields_length words fields h.1)
+
+-- a word more
+spell_push : (words : List (List ℕ)) (fields : List (Option ℕ)) (word : List ℕ) (field : Option ℕ)
+    → SpellFields words fields → SpellsObjectOrNone word field → SpellFields (words ++ word ∷ []) (fields ++ field ∷ [])
+spell_push [] [] word field h k = (k, tt)
+spell_push [] (f ∷ fields) word field h k = absurd h
+spell_push (w ∷ words) [] word field h k = absurd h
+spell_push (w ∷ words) (f ∷ fields) word field h k = (h.0, spell_push words fields word field h.1 k)
+
+-- a bad word among the first n
+bad_among : (n : ℕ) (read : List (List ℕ)) (word : List ℕ) (more : List (List ℕ)) → length read < n
+    → is_object_or_none word ≡ false → list_all is_object_or_none (take n (read ++ word ∷ more)) ≡ false
+bad_among zero read word more less bad = absurd (omega (arith, less))
+bad_among (suc n) [] word more less bad = simp bad refl
+bad_among (suc n) (w ∷ read) word more less bad =
+    let rest = bad_among n read word more (omega (arith, less)) bad in
+    elim (cases_Bool (is_object_or_none w)) [
+      | inl good ↦ simp good rest
+      | inr other ↦ simp other refl
+    ]
+
+-- the words so far spell the fields so far
+pub record HasFields (words : List (List ℕ)) (fields : List (Option ℕ)) (rest : List (List ℕ)) : Type 0 where
+  pub read : List (List ℕ)
+  pub parts : words ≡ read ++ rest
+  pub spelt : SpellFields read fields
+  pub most : length fields ≤ 8
+
+pub has_no_fields : (words : List (List ℕ)) → HasFields words [] words
+has_no_fields words = record { read = []; parts = refl; spelt = tt; most = omega arith }
+
+pub has_field_more : (words rest behind : List (List ℕ)) (fields more : List (Option ℕ)) (word : List ℕ)
+    (field : Option ℕ) → HasFields words fields rest → rest ≡ word ∷ behind → length fields < 8
+    → SpellsObjectOrNone word field → more ≡ fields ++ field ∷ [] → HasFields words more behind
+has_field_more words rest behind fields more word field h cut less spells more_is = record {
+  read = h.read ++ word ∷ [];
+  parts = h.parts ∙ ap (λ (r : List (List ℕ)). h.read ++ r) cut ∙ sym (append_assoc h.read (word ∷ []) behind);
+  spelt = rw more_is (spell_push h.read fields word field h.spelt spells);
+  most = rw more_is (omega (arith, less, length-append fields (field ∷ [])));
+}
+
+-- no word is left, or there are 8 fields
+pub reads_fields : (words rest : List (List ℕ)) (fields : List (Option ℕ)) → HasFields words fields rest
+    → (rest ≡ []) ⊎ (8 ≤ length fields) → ReadsFields words fields rest
+reads_fields words rest fields h end = record {
+  read = h.read;
+  parts = h.parts;
+  spelt = h.spelt;
+  most = omega (arith, h.most, fields_length h.read fields h.spelt);
+  whole = elim end [
+    | inl none ↦ inl none
+    | inr full ↦ inr (omega (arith, h.most, full, fields_length h.read fields h.spelt))
+  ];
+}
+
+-- the next word is a bad one
+pub has_bad_field : (words rest behind : List (List ℕ)) (fields : List (Option ℕ)) (word : List ℕ)
+    → HasFields words fields rest → rest ≡ word ∷ behind → length fields < 8 → is_object_or_none word ≡ false
+    → list_all is_object_or_none (take 8 words) ≡ false
+has_bad_field words rest behind fields word h cut less bad =
+    rw (h.parts, cut) (bad_among 8 h.read word behind (omega (arith, less, fields_length h.read fields h.spelt)) bad)
+
+-- where no word is left the words spell the fields
+pub all_fields : (words rest : List (List ℕ)) (fields : List (Option ℕ)) → ReadsFields words fields rest → rest ≡ []
+    → SpellFields words fields × (length fields ≤ 8)
+all_fields words rest fields h none =
+    let whole : words ≡ h.read = h.parts ∙ rw none (append-nil h.read) in
+    (rw whole h.spelt, omega (arith, h.most, fields_length h.read fields h.spelt))
+
+-- where a word is left behind the fields it is one too many
+pub extra_words : (front words rest more : List (List ℕ)) (word : List ℕ) (fields : List (Option ℕ))
+    → ((read : List (List ℕ)) → list_all is_object_or_none read ≡ true → are_operands (front ++ read) ≡ true)
+    → ReadsFields words fields rest → rest ≡ word ∷ more → words_fault (length front) 8 (front ++ words) ≡ Some ExtraWord
+extra_words front words rest more word fields fit h left =
+    let full : length h.read ≡ 8 = elim h.whole [
+      | inl none ↦ let clash : (word ∷ more) ≡ [] = sym left ∙ none in absurd cc
+      | inr all ↦ all
+    ] in
+    let taken : List (List ℕ) = front ++ h.read in
+    let parts : front ++ words ≡ taken ++ rest =
+    ap (λ (ws : List (List ℕ)). front ++ ws) h.parts ∙ sym (append_assoc front h.read rest) in
+    let count : length front + 8 ≡ length taken = omega (arith, full, length-append front h.read) in
+    let many : length (taken ++ rest) ≡ length taken + suc (length more) =
+    length-append taken rest ∙ ap (λ (ws : List (List ℕ)). length taken + length ws) left in
+    let good : are_operands taken ≡ true = fit h.read (fields_fit h.read fields h.spelt) in
+    let cut : take (length taken) (taken ++ rest) ≡ taken = take-append_seam taken rest in
+    let enough : nat_lt (length (taken ++ rest)) (length front) ≡ false = le-ltb _ _ (omega (arith, many, count)) in
+    let over : nat_lt (length taken) (length (taken ++ rest)) ≡ true = lt-ltb _ _ (omega (arith, many)) in
+    rw (parts, count) (simp (enough, cut, good, over) refl)

@@ -1,0 +1,267 @@
+-- How the reading of a graph text goes on by one line.
+use Rattle.std.proofs.Common.{◌≡◌, ℕ, ◌+◌, ◌≤◌, ◌||◌, ◌==◌, Bool, true, false, List, [], ◌∷◌, ◌++◌, length, Option}
+use Rattle.std.proofs.Common.{nat_lt, Some, None, OnSome, IfNone, refl, sym, ap, ◌∙◌, append_assoc, inl, inr}
+use Rattle.std.specs.Borrow.{Bor}
+use Rattle.std.specs.List.{list_all}
+use Rattle.std.proofs.lemmas.Bool.{cases_Bool, eqb-true}
+use Rattle.std.proofs.lemmas.List.{append-nil}
+use Rattle.ref_base.specs.Graphs.{Graph, Object, empty_graph, is_there, with_object, plain_object, reference_object}
+use Rattle.refrun.specs.DeclarationFaults.{declaration_fault, number_in}
+use Rattle.refrun.specs.Declarations.{Declared, Root, Plain, Reference, SpellsDeclared, declared_no, is_declared}
+use Rattle.refrun.specs.Declarations.{with_declared_no, NoneTwice, with_declared, with_all, declared_graph}
+use Rattle.refrun.specs.GraphReading.{AreNumbersOf, has_object, Adds, AddsDeclared, AddsAll, FailsAfter}
+use Rattle.refrun.specs.GraphTexts.{SpellAll, is_graph_header, DeclareGraph}
+use Rattle.refrun.specs.LineReading.{FailsFor, in_front, fault_from, Finds}
+use Rattle.refrun.specs.Lines.{lines_of, words_of}
+use Rattle.refrun.specs.TextFaults.{Place, GraphHeader, Declarations, place_fault, fault_or, first_fault}
+use Rattle.refrun.specs.ToldLines.{is_plain, told}
+use Rattle.refrun.specs.declared.fault.LineFault.{LineFault}
+use Rattle.refrun.specs.declared.fault.LineFault.TheVariants.{DoubleObject}
+use Rattle.refrun.specs.declared.fault.TextFault.{TextFault}
+use Rattle.refrun.specs.declared.fault.TextFault.TheVariants as texts
+use Rattle.refrun.specs.declared.told.Told.{Told}
+use Rattle.refrun.proofs.DeclaredSpelt.{declared_without_fault, number_of_words}
+use Rattle.refrun.proofs.LineLemmas.{first_of_two, onsome_before}
+
+-- ---- the numbers of a graph's objects
+
+-- an object is there where it was, or is the one that was added
+there_after : (os : List Object) (o : Object) (n : ℕ) → is_there (with_object os o) n ≡ ((o.no == n) || is_there os n)
+there_after [] o n =
+    elim (cases_Bool (o.no == n)) [
+      | inl same ↦ simp same refl
+      | inr other ↦ simp other refl
+    ]
+there_after (p ∷ ps) o n =
+    elim (cases_Bool (nat_lt o.no p.no)) [
+      | inl before ↦
+          elim (cases_Bool (o.no == n)) [
+            | inl same ↦ simp (before, same) refl
+            | inr other ↦ simp (before, other) refl
+          ]
+      | inr behind ↦
+          elim (cases_Bool (p.no == o.no)) [
+            | inl twin ↦
+                let twin_is : p.no ≡ o.no = eqb-true _ _ twin in
+                elim (cases_Bool (p.no == n)) [
+                  | inl same ↦
+                      let also : (o.no == n) ≡ true = rw twin_is at same in
+                      simp (behind, twin, same, also) refl
+                  | inr other ↦
+                      let also : (o.no == n) ≡ false = rw twin_is at other in
+                      simp (behind, twin, other, also) refl
+                ]
+            | inr apart ↦
+                elim (cases_Bool (p.no == n)) [
+                  | inl same ↦
+                      elim (cases_Bool (o.no == n)) [
+                        | inl both ↦ simp (behind, apart, same, both) refl
+                        | inr one ↦ simp (behind, apart, same, one) refl
+                      ]
+                  | inr other ↦ simp (behind, apart, other) (there_after ps o n)
+                ]
+          ]
+    ]
+
+-- the numbers that are declared behind a line are those of the graph behind it
+numbers_after : (seen : List ℕ) (g : Graph) (d : Declared) → AreNumbersOf seen g
+    → AreNumbersOf (with_declared_no seen (declared_no d)) (with_declared g d)
+numbers_after seen g (Root m) h n = h n
+numbers_after seen g (Plain m fields) h n =
+    ap (λ (b : Bool). (m == n) || b) (h n) ∙ sym (there_after g.objects (plain_object m fields) n)
+numbers_after seen g (Reference m s r fields) h n =
+    ap (λ (b : Bool). (m == n) || b) (h n) ∙ sym (there_after g.objects (reference_object m s r fields) n)
+
+-- a number is declared where its object is there
+seen_there : (seen : List ℕ) (g : Graph) (no : Option ℕ) → AreNumbersOf seen g
+    → is_declared seen no ≡ has_object g no
+seen_there seen g None h = refl
+seen_there seen g (Some n) h = h n
+
+-- ---- one line
+
+-- a line with a fault of its own
+pub fails_by_words : (words : List (List ℕ)) (k : ℕ) (g : Graph) (fault : LineFault)
+    → declaration_fault words ≡ Some fault → FailsAfter words k g (texts.Line k fault)
+fails_by_words words k g fault h seen numbers = rw h refl
+
+-- a line that says what can't be said a second time
+pub fails_by_double : (words : List (List ℕ)) (k : ℕ) (g h : Graph) (d : Declared) (added : Bool)
+    → SpellsDeclared words d → Adds g h d added → added ≡ false → FailsAfter words k g (texts.Line k DoubleObject)
+fails_by_double words k g h d added spelt adds refused seen numbers =
+    let there : has_object g (declared_no d) ≡ true = elim (cases_Bool (has_object g (declared_no d))) [
+      | inl is ↦ is
+      | inr isnt ↦
+          let yes : added ≡ true = adds.answer ∙ simp isnt refl in
+          absurd cc
+    ] in
+    let double : is_declared seen (number_in words) ≡ true =
+    ap (is_declared seen) (number_of_words d words spelt) ∙ seen_there seen g (declared_no d) numbers ∙ there in
+    rw (declared_without_fault d words spelt, double) refl
+
+-- a line that says something new
+pub adds_declared : (words : List (List ℕ)) (g h : Graph) (d : Declared) (added : Bool) → SpellsDeclared words d
+    → Adds g h d added → added ≡ true → AddsDeclared words g h
+adds_declared words g h d added spelt adds done = record {
+  declared = d;
+  spelt = spelt;
+  is_new = elim (cases_Bool (has_object g (declared_no d))) [
+    | inl is ↦
+        let none : added ≡ false = adds.answer ∙ simp is refl in
+        absurd cc
+    | inr isnt ↦ isnt
+  ];
+  after = adds.after;
+}
+
+-- ---- line by line
+
+with_all_push : (g : Graph) (ds : List Declared) (d : Declared)
+    → with_all g (ds ++ d ∷ []) ≡ with_declared (with_all g ds) d
+with_all_push g [] d = refl
+with_all_push g (e ∷ ds) d = with_all_push (with_declared g e) ds d
+
+-- the graph so far, whatever spells what is left
+pub record HasDeclared (text : List ℕ) (number : ℕ) (found : Told) (g : Graph) : Type 0 where
+  pub seen : List ℕ
+  pub declared : List Declared
+  pub graph_is : g ≡ declared_graph declared
+  pub numbers : AreNumbersOf seen g
+  pub spelt : (more : List Declared) → SpellAll (in_front found.content (told (lines_of found.rest.now))) more
+      → SpellAll (told (lines_of text)) (declared ++ more)
+  pub none_twice : (more : List Declared) → NoneTwice seen more → NoneTwice [] (declared ++ more)
+  pub plain : list_all is_plain (lines_of text) ≡ list_all is_plain (lines_of found.rest.now)
+  pub fault : first_fault (Declarations []) (number + 1) (lines_of text) ≡ fault_from (Declarations seen)
+      found.content found.number (lines_of found.rest.now)
+  pub behind : OnSome found.content (found.number + length found.rest.now ≤ number + length text)
+  pub done : IfNone found.content (lines_of found.rest.now ≡ [])
+
+pub has_declared_none : (text : List ℕ) (number : ℕ) (found : Told) (g : Graph) → g ≡ empty_graph
+    → Finds text number found
+    → OnSome found.content (found.number + length found.rest.now ≤ number + length text)
+    → HasDeclared text number found g
+has_declared_none text number found g empty f behind = record {
+  seen = [];
+  declared = [];
+  graph_is = empty;
+  numbers = λ n. rw empty refl;
+  spelt = λ more spelt. rw f.told spelt;
+  none_twice = λ more twice. twice;
+  plain = f.plain;
+  fault = f.fault (Declarations []);
+  behind = behind;
+  done = f.done;
+}
+
+-- one line more
+pub has_declared_more : (text : List ℕ) (number : ℕ) (found next : Told) (g h : Graph) (c : Bor (List ℕ))
+    → HasDeclared text number found g → found.content ≡ Some c → AddsDeclared (words_of c.now) g h
+    → Finds found.rest.now found.number next → OnSome next.content
+    (next.number + length next.rest.now ≤ found.number + length found.rest.now) → HasDeclared text number next h
+has_declared_more text number found next g h c r found_is a f behind =
+    let words : List (List ℕ) = words_of c.now in
+    let d : Declared = a.declared in
+    let no : number_in words ≡ declared_no d = number_of_words d words a.spelt in
+    let is_new : is_declared r.seen (declared_no d) ≡ false = seen_there r.seen g (declared_no d) r.numbers ∙ a.is_new in
+    let new_words : is_declared r.seen (number_in words) ≡ false = ap (is_declared r.seen) no ∙ is_new in
+    let sound : place_fault (Declarations r.seen) words ≡ None =
+    rw (declared_without_fault d words a.spelt, new_words) refl in
+    let here : found.number + length found.rest.now ≤ number + length text = rw found_is at r.behind in
+    let far : (more : List Declared) → SpellAll (in_front (Some c) (told (lines_of found.rest.now))) more
+    → SpellAll (told (lines_of text)) (r.declared ++ more) = rw found_is at r.spelt in
+    let fault_is : first_fault (Declarations []) (number + 1) (lines_of text) ≡ fault_from (Declarations r.seen)
+    (Some c) found.number (lines_of found.rest.now) = r.fault ∙ rw found_is refl in
+    let seen : List ℕ = with_declared_no r.seen (declared_no d) in
+    let later : first_fault (Declarations (with_declared_no r.seen (number_in words))) (found.number + 1)
+    (lines_of found.rest.now) ≡ first_fault (Declarations seen) (found.number + 1) (lines_of found.rest.now) =
+    ap (λ (no : Option ℕ). first_fault (Declarations (with_declared_no r.seen no)) (found.number + 1)
+    (lines_of found.rest.now)) no in
+    record {
+      seen = seen;
+      declared = r.declared ++ d ∷ [];
+      graph_is = a.after ∙ ap (λ (x : Graph). with_declared x d) r.graph_is ∙ sym (with_all_push empty_graph r.declared d);
+      numbers = rw a.after (numbers_after r.seen g d r.numbers);
+      spelt = λ more spelt. rw append_assoc (far (d ∷ more) (a.spelt, rw f.told spelt));
+      none_twice = λ more twice. rw append_assoc (r.none_twice (d ∷ more) (is_new, twice));
+      plain = r.plain ∙ f.plain;
+      fault = fault_is ∙ ap (λ (o : Option LineFault). fault_or found.number o (first_fault (Declarations
+          (with_declared_no r.seen (number_in words))) (found.number + 1) (lines_of found.rest.now))) sound
+          ∙ later ∙ f.fault (Declarations seen);
+      behind = onsome_before next.content _ _ _ behind here;
+      done = f.done;
+    }
+
+-- nothing is left
+pub has_declared_all : (text : List ℕ) (number : ℕ) (found : Told) (g : Graph)
+    → HasDeclared text number found g → found.content ≡ None
+    → AddsAll (told (lines_of text)) g × (list_all is_plain (lines_of text) ≡ true)
+has_declared_all text number found g r found_is =
+    let none : lines_of found.rest.now ≡ [] = rw found_is at r.done in
+    let whole : SpellAll (told (lines_of text)) (r.declared ++ []) = r.spelt [] (rw (found_is, none) tt) in
+    let twice : NoneTwice [] (r.declared ++ []) = r.none_twice [] tt in (
+      record {
+        declared = r.declared;
+        spelt = rw append-nil at whole;
+        none_twice = rw append-nil at twice;
+        graph_is = r.graph_is;
+      },
+      r.plain ∙ rw none refl,
+    )
+
+-- the fault of a line that adds nothing is that of the text
+pub has_declared_fault : (text : List ℕ) (number : ℕ) (found : Told) (g : Graph) (c : Bor (List ℕ)) (e : TextFault)
+    → HasDeclared text number found g → found.content ≡ Some c → FailsAfter (words_of c.now) found.number g e
+    → FailsFor e (first_fault (Declarations []) (number + 1) (lines_of text))
+has_declared_fault text number found g c e r found_is fails =
+    let fault_is : first_fault (Declarations []) (number + 1) (lines_of text) ≡ fault_from (Declarations r.seen)
+    (Some c) found.number (lines_of found.rest.now) = r.fault ∙ rw found_is refl in
+    rw fault_is (first_of_two e found.number (place_fault (Declarations r.seen) (words_of c.now)) _
+    (fails r.seen r.numbers))
+
+-- a fault behind it is that of the text too
+pub has_declared_later_fault : (text : List ℕ) (number : ℕ) (found : Told) (g h : Graph) (c : Bor (List ℕ))
+    (e : TextFault) → HasDeclared text number found g → found.content ≡ Some c → AddsDeclared (words_of c.now) g h
+    → ((place : Place) → first_fault place (found.number + 1) (lines_of found.rest.now) ≡ Some e)
+    → first_fault (Declarations []) (number + 1) (lines_of text) ≡ Some e
+has_declared_later_fault text number found g h c e r found_is a later =
+    let words : List (List ℕ) = words_of c.now in
+    let d : Declared = a.declared in
+    let no : number_in words ≡ declared_no d = number_of_words d words a.spelt in
+    let new_words : is_declared r.seen (number_in words) ≡ false =
+    ap (is_declared r.seen) no ∙ seen_there r.seen g (declared_no d) r.numbers ∙ a.is_new in
+    let sound : place_fault (Declarations r.seen) words ≡ None =
+    rw (declared_without_fault d words a.spelt, new_words) refl in
+    let fault_is : first_fault (Declarations []) (number + 1) (lines_of text) ≡ fault_from (Declarations r.seen)
+    (Some c) found.number (lines_of found.rest.now) = r.fault ∙ rw found_is refl in
+    fault_is ∙ ap (λ (o : Option LineFault). fault_or found.number o (first_fault (Declarations
+    (with_declared_no r.seen (number_in words))) (found.number + 1) (lines_of found.rest.now))) sound
+    ∙ later (Declarations (with_declared_no r.seen (number_in words)))
+
+-- ---- behind the header
+
+-- the fault of the lines that follow is that of the text
+pub behind_graph_header : (text : List ℕ) (found : Told) (c : Bor (List ℕ)) (e : TextFault) → Finds text 0 found
+    → found.content ≡ Some c → is_graph_header (words_of c.now) ≡ true
+    → FailsFor e (first_fault (Declarations []) (found.number + 1) (lines_of found.rest.now))
+    → FailsFor e (first_fault GraphHeader 1 (lines_of text))
+behind_graph_header text found c e f found_is header fails =
+    let same : first_fault GraphHeader 1 (lines_of text) ≡ first_fault (Declarations []) (found.number + 1)
+    (lines_of found.rest.now) = f.fault GraphHeader ∙ rw found_is (simp header refl) in
+    rw same fails
+
+-- what the lines that follow declare is what the text declares
+pub declares_behind : (text : List ℕ) (found : Told) (c : Bor (List ℕ)) (g : Graph) → Finds text 0 found
+    → found.content ≡ Some c → is_graph_header (words_of c.now) ≡ true → AddsAll (told (lines_of found.rest.now)) g
+    → list_all is_plain (lines_of found.rest.now) ≡ true → DeclareGraph (lines_of text) g
+declares_behind text found c g f found_is header adds plain =
+    let lines : told (lines_of text) ≡ words_of c.now ∷ told (lines_of found.rest.now) =
+    f.told ∙ rw found_is refl in
+    record {
+      declared = adds.declared;
+      said = record {
+        plain = f.plain ∙ plain;
+        told = rw lines (header, adds.spelt);
+        none_twice = adds.none_twice;
+      };
+      graph_is = adds.graph_is;
+    }

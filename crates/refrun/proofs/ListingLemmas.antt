@@ -1,0 +1,54 @@
+-- The listing so far, and the listing of a whole graph text.
+use Rattle.std.proofs.Common.{◌≡◌, ℕ, ◌+◌, ◌<◌, List, [], ◌∷◌, ◌++◌, length, take, get_or, sym, ap, ◌∙◌}
+use Rattle.std.proofs.Common.{append_assoc, ◌≤◌, subst, None}
+use Rattle.std.proofs.lemmas.Bool.{le-leb}
+use Rattle.ref_base.specs.Graphs.{Graph}
+use Rattle.refrun.specs.GraphTexts.{DeclareGraph, DeclaresGraph}
+use Rattle.refrun.specs.Lines.{lines_of}
+use Rattle.refrun.specs.Listings.{ListsStrengths, PrintsStrengths}
+use Rattle.refrun.specs.TextFaults.{graph_fault}
+use Rattle.refrun.proofs.FaultLaws.{graph_without_fault}
+use Rattle.std.proofs.lemmas.List.{append-nil, take_more}
+use Rattle.ref_base.specs.declared.reach.ObjectReach.{ObjectReach}
+use Rattle.refrun.specs.Listings.{listing_line, listing_text}
+
+listing_push : (ls : List ObjectReach) (l : ObjectReach) → listing_text (ls ++ l ∷ []) ≡ listing_text ls ++ listing_line l
+listing_push [] l = append-nil (listing_line l)
+listing_push (k ∷ ls) l =
+    ap (λ (t : List ℕ). listing_line k ++ t) (listing_push ls l)
+    ∙ sym (append_assoc (listing_line k) (listing_text ls) (listing_line l))
+
+-- one object more
+pub listed_more : (listed : List ObjectReach) (i : ℕ) (next : ObjectReach) (text more : List ℕ)
+    → text ≡ listing_text (take i listed) → i < length listed → next ≡ get_or listed i next
+    → more ≡ text ++ listing_line next → more ≡ listing_text (take (i + 1) listed)
+listed_more listed i next text more text_is within next_is more_is =
+    let longer : take (i + 1) listed ≡ take i listed ++ next ∷ [] =
+    take_more listed i next within ∙ ap (λ (l : ObjectReach). take i listed ++ l ∷ []) (sym next_is) in
+    more_is ∙ ap (λ (t : List ℕ). t ++ listing_line next) text_is
+    ∙ sym (listing_push (take i listed) next) ∙ ap listing_text (sym longer)
+
+-- ---- the answer
+
+-- a short enough slice whose lines declare a graph declares it
+declares_graph : (items slice : List ℕ) (g : Graph) → length items ≤ 4194304 → slice ≡ items
+    → DeclareGraph (lines_of slice) g → DeclaresGraph items g
+declares_graph items slice g short same lines = record {
+  short = le-leb _ _ short;
+  lines = subst (λ (t : List ℕ). DeclareGraph (lines_of t) g) same lines;
+}
+
+-- the slice prints the strengths of the graph that it declares
+pub slice_prints_strengths : (items slice printed : List ℕ) (g : Graph) → length items ≤ 4194304 → slice ≡ items
+    → DeclareGraph (lines_of slice) g → ListsStrengths g printed → PrintsStrengths items printed
+slice_prints_strengths items slice printed g short same lines lists = record {
+  graph = g;
+  declares = declares_graph items slice g short same lines;
+  lists = lists;
+}
+
+-- a slice that declares a graph has no fault
+pub slice_without_fault : (items slice : List ℕ) (g : Graph) → length items ≤ 4194304 → slice ≡ items
+    → DeclareGraph (lines_of slice) g → graph_fault items ≡ None
+slice_without_fault items slice g short same lines =
+    graph_without_fault items g (declares_graph items slice g short same lines)

@@ -1,0 +1,29 @@
+use Rattle.std.proofs.Common.{inl, inr, arith}
+use Rattle.std.proofs.lemmas.Result.{err_from_is_err_and}
+use Rattle.refrun.specs.Lines.{words_of}
+use Rattle.refrun.proofs.Fields.{has_bad_field, has_field_more, reads_fields}
+use Rattle.refrun.proofs.declarations.fields_of.Goals.{else-loop-rest-test, then-loop-rest-test+in_default}
+use Rattle.refrun.proofs.declarations.fields_of.Goals as goal
+
+pub returns-in_err-object_or_none_of-clause-fault : goal.returns-in_err-object_or_none_of-clause-fault
+returns-in_err-object_or_none_of-clause-fault g c =
+    let p = err_from_is_err_and c.from_residual.result c.from_residual.ensures.1 in
+    let bad = c.in_err-object_or_none_of.ensures in
+    rw (p.1, p.2) (
+      has_bad_field (words_of c.args.operands.now) (words_of c.loop-rest.rest.now) _ c.loop-rest.fields.items _
+          c.loop-rest.invariant c.in-Some.ensures (omega arith) bad.0,
+      bad.1,
+    )
+
+pub loop-rest-preserved : goal.loop-rest-preserved
+loop-rest-preserved g c =
+    has_field_more (words_of c.args.operands.now) (words_of c.loop-rest.rest.now) _ c.loop-rest.fields.items _ _ _
+    c.loop-rest.invariant c.in-Some.ensures (omega arith) c.in_ok-object_or_none_of.ensures c.in_ok-push.ensures.items
+
+pub returns-clause-found : goal.returns-clause-found
+returns-clause-found g c =
+    reads_fields (words_of c.args.operands.now) (words_of c.loop-rest.rest.now) c.loop-rest.fields.items
+    c.loop-rest.invariant (elim c.loop-rest-test.branch [
+      | else-loop-rest-test w ↦ inr (omega arith)
+      | then-loop-rest-test+in_default w ↦ inl w.in_default.ensures
+    ])

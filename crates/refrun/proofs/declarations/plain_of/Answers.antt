@@ -1,0 +1,18 @@
+use Rattle.std.proofs.Common.{◌∷◌, [], refl}
+use Rattle.std.proofs.lemmas.Result.{err_from_is_err_and}
+use Rattle.refrun.specs.Lines.{words_of}
+use Rattle.refrun.proofs.Fields.{object_fits, all_fields, extra_words}
+use Rattle.refrun.proofs.declarations.plain_of.Goals as goal
+
+pub returns-in_err-ends-clause-fault : goal.returns-in_err-ends-clause-fault
+returns-in_err-ends-clause-fault g c =
+    let p = err_from_is_err_and c.from_residual-in_err-ends.result c.from_residual-in_err-ends.ensures.1 in
+    let left = c.in_err-ends.ensures in
+    rw (p.1, p.2, left.3, c.in_ok-no.ensures)
+    (extra_words (c.in_ok-no.no.now ∷ []) (words_of c.in_ok-no.rest.now) _ left.1 left.0 _
+    (λ read good. simp (object_fits c.in_ok-no.no.now _ c.in_ok-no-2.ensures) good) c.in_ok-fields.ensures.found left.2)
+
+pub returns-clause-found : goal.returns-clause-found
+returns-clause-found g c =
+    let fields = all_fields (words_of c.in_ok-no.rest.now) _ _ c.in_ok-fields.ensures.found c.in_ok-ends.ensures in
+    rw c.in_ok-no.ensures (refl, c.in_ok-no-2.ensures, fields.0, fields.1)

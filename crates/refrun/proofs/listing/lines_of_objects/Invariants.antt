@@ -1,0 +1,6 @@
+use Rattle.std.proofs.Common.{◌≡◌, string_bytes, take}
+use Rattle.refrun.specs.Listings.{listing_text}
+use Rattle.refrun.proofs.listing.lines_of_objects.Given as goal
+
+abbrev pub invariant-loop-object : goal.invariant-loop-object
+invariant-loop-object g l = string_bytes l.text ≡ listing_text (take l.object-index l.listed)

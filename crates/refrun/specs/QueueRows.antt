@@ -1,0 +1,85 @@
+-- The lists of a queue, read off the rows of a trace alone: what was put in and what was taken, in order, and whether
+-- the queue was closed (this project's profile; Java SE 17 `java.lang.ref` has the queue without its order and end).
+use Rattle.std.specs.Prelude.{◌≡◌, ℕ, Bool, true, false, ◌||◌, if◌then◌else◌, ◌==◌, nat_eq}
+use Rattle.std.specs.Prelude.{List, [], ◌∷◌, ◌++◌, Option, Some, None}
+use Rattle.std.specs.List.{IsDistinct}
+use Rattle.refrun.specs.declared.rows.Step.{Step}
+use Rattle.refrun.specs.declared.rows.Step.TheVariants.{Unhook, Put, Release, Poll, Close}
+use Rattle.refrun.specs.declared.rows.Reply.{Reply}
+use Rattle.refrun.specs.declared.rows.Reply.TheVariants as replies
+use Rattle.refrun.specs.declared.rows.Row.{Row}
+
+-- a notice in a hand: the reference that it reports, and the queue that it is for
+pub record Held : Type 0 where
+  pub object : ℕ
+  pub queue : ℕ
+
+-- what the hand of each mutator holds
+abbrev pub Hands : Type 0
+Hands = ℕ → Option Held
+
+-- the hands at first: each is empty
+abbrev pub empty_hands : Hands
+empty_hands m = None
+
+-- the hands with what mutator m's hand holds replaced
+abbrev pub with_held : Hands → ℕ → Option Held → Hands
+with_held hands m held k = if k == m then held else hands k
+
+-- the hands after one more row: an unhook or a poll that gave a notice fills one, an added put or a release empties it
+abbrev pub held_after : Hands → Step → Reply → Hands
+held_after hands (Unhook m slot) (replies.Notice n q) = with_held hands m (Some (record { object = n; queue = q }))
+held_after hands (Poll m q) (replies.Took n) = with_held hands m (Some (record { object = n; queue = q }))
+held_after hands (Put m) (replies.Added position) = with_held hands m None
+held_after hands (Release m) replies.Done = with_held hands m None
+held_after hands step reply = hands
+
+-- the reference that the held notice reports, where there is one and it is for queue q
+abbrev pub if_for : ℕ → Option Held → List ℕ
+if_for q None = []
+if_for q (Some held) = if held.queue == q then held.object ∷ [] else []
+
+-- what one row puts into queue q: the reference that the hand's notice reports
+abbrev pub put_by : Hands → ℕ → Step → Reply → List ℕ
+put_by hands q (Put m) (replies.Added position) = if_for q (hands m)
+put_by hands q step reply = []
+
+-- what one row takes from queue q
+abbrev pub taken_by : ℕ → Step → Reply → List ℕ
+taken_by q (Poll m k) (replies.Took n) = if k == q then n ∷ [] else []
+taken_by q step reply = []
+
+-- whether one row closes queue q
+abbrev pub closed_by : ℕ → Step → Reply → Bool
+closed_by q (Close m k) replies.Done = k == q
+closed_by q step reply = false
+
+-- the references of the added rows of queue q, in order, where the hands hold this at first
+abbrev pub put_from : Hands → ℕ → List Row → List ℕ
+put_from hands q [] = []
+put_from hands q (row ∷ rows) =
+    put_by hands q row.step row.reply ++ put_from (held_after hands row.step row.reply) q rows
+
+-- the references of the added rows of queue q, in order, over a whole trace
+abbrev pub put_into : ℕ → List Row → List ℕ
+put_into q rows = put_from empty_hands q rows
+
+-- the references of the rows that took from queue q, in order
+abbrev pub taken_from : ℕ → List Row → List ℕ
+taken_from q [] = []
+taken_from q (row ∷ rows) = taken_by q row.step row.reply ++ taken_from q rows
+
+-- whether one of the rows closed queue q
+abbrev pub was_closed : ℕ → List Row → Bool
+was_closed q [] = false
+was_closed q (row ∷ rows) = closed_by q row.step row.reply || was_closed q rows
+
+-- what holds of queue q in a trace: what was taken, followed by what stands, is what was put in; nothing is put in
+-- twice; nothing is put in after a close that was accepted
+pub record KeepsQueue (q : ℕ) (rows : List Row) : Type 0 where
+  pub stands : List ℕ
+  pub taken_then_standing : taken_from q rows ++ stands ≡ put_into q rows
+  pub at_most_once : IsDistinct nat_eq (put_into q rows)
+  pub nothing_after_close :
+      (before after : List Row) →
+      before ++ after ≡ rows → was_closed q before ≡ true → put_into q before ≡ put_into q rows

@@ -1,0 +1,181 @@
+//! A line of a graph text, read as a root or as an object and what it refers to.
+
+ghost use Rattle.std.specs.Prelude.{◌≡◌, ◌∷◌, ◌+◌, ◌≤◌, [], false, take, drop, length, IfOk, IfErr, MatchResult};
+ghost use Rattle.std.specs.Prelude.{codes};
+ghost use Rattle.std.specs.List.{list_all};
+ghost use Rattle.refrun.specs.Declarations.{SpellsObject, SpellsObjectOrNone, SpellFields, SpellsDeclared};
+ghost use Rattle.refrun.specs.Declarations.{strength_name};
+ghost use Rattle.refrun.specs.DeclarationFaults.{is_object, is_object_or_none, words_fault, declaration_fault};
+ghost use Rattle.refrun.specs.DeclarationViews.{declared_by, FailsBy, ReadsFields, IsBadField};
+ghost use Rattle.refrun.specs.Lines.{words_of};
+
+use crate::fault::LineFault;
+use crate::lines::next_word;
+use crate::numerals::short_number;
+use crate::operands::{ends, operand};
+use ref_base::{ObjNo, Strength};
+use std::alloc::{AllocFailed, Allocator};
+
+/// The most fields that an object may have.
+const MOST_FIELDS: usize = 8;
+
+/// What a line of a graph text says.
+#[derive(Drop)]
+pub enum Declaration<A: Allocator> {
+    /// A program reaches the object of this number by itself.
+    Root {
+        no: ObjNo,
+    },
+    /// A plain object.
+    Plain {
+        no: ObjNo,
+        fields: Vec<Option<ObjNo>, A>,
+    },
+    /// A soft, weak or phantom reference.
+    Reference {
+        no: ObjNo,
+        strength: Strength,
+        referent: Option<ObjNo>,
+        fields: Vec<Option<ObjNo>, A>,
+    },
+}
+
+/// Why a line wasn't read.
+#[derive(Clone, Copy)]
+pub enum Unread {
+    /// It has this fault.
+    Faulty(LineFault),
+    /// Memory ran out.
+    NoMemory,
+}
+
+impl From<LineFault> for Unread {
+    ghost use Rattle.std.specs.Prelude.{◌≡◌};
+    ghost use Rattle.refrun.specs.declared.declarations.Unread.TheVariants.{Faulty};
+
+    ghost from_gives = { λ fault e. e ≡ Faulty fault };
+
+    fn from(fault: LineFault) -> Unread {
+        Unread::Faulty(fault)
+    }
+}
+
+impl<T: Drop> From<AllocFailed<T>> for Unread {
+    ghost use Rattle.std.specs.Prelude.{◌≡◌};
+    ghost use Rattle.refrun.specs.declared.declarations.Unread.TheVariants.{NoMemory};
+
+    ghost from_gives = { λ _ e. e ≡ NoMemory };
+
+    fn from(_error: AllocFailed<T>) -> Unread {
+        Unread::NoMemory
+    }
+}
+
+/// What a line says, or the first of its faults by kind.
+pub fn declaration_of<A: Allocator>(alloc: A, line: &[u8]) -> Result<Declaration<A>, Unread>
+    ensures found { IfOk result (λ d. SpellsDeclared (words_of line.now) (declared_by d)) }
+    ensures fault { IfErr result (FailsBy (declaration_fault (words_of line.now))) }
+{
+    let (name, operands) = next_word(line).ok_or(LineFault::UnknownLine)?;
+    if name == b"root".as_slice() {
+        return Ok(root_of(operands)?);
+    }
+    if name == b"plain".as_slice() {
+        return plain_of(alloc, operands);
+    }
+    if name == b"soft".as_slice() {
+        return reference_of(alloc, Strength::Soft, operands);
+    }
+    if name == b"weak".as_slice() {
+        return reference_of(alloc, Strength::Weak, operands);
+    }
+    if name == b"phantom".as_slice() {
+        return reference_of(alloc, Strength::Phantom, operands);
+    }
+    Err(Unread::Faulty(LineFault::UnknownLine))
+}
+
+fn root_of<A: Allocator>(operands: &[u8]) -> Result<Declaration<A>, LineFault>
+    ensures found { IfOk result (λ d. SpellsDeclared (codes "root" ∷ words_of operands.now) (declared_by d)) }
+    ensures fault { IfErr result (λ fault. words_fault 1 0 (words_of operands.now) ≡ Some fault) }
+{
+    let (no, rest) = operand(operands)?;
+    let no = object_of(no)?;
+    ends(rest)?;
+    Ok(Declaration::Root { no })
+}
+
+fn plain_of<A: Allocator>(alloc: A, operands: &[u8]) -> Result<Declaration<A>, Unread>
+    ensures found { IfOk result (λ d. SpellsDeclared (codes "plain" ∷ words_of operands.now) (declared_by d)) }
+    ensures fault { IfErr result (FailsBy (words_fault 1 8 (words_of operands.now))) }
+{
+    let (no, rest) = operand(operands)?;
+    let no = object_of(no)?;
+    let (fields, rest) = fields_of(alloc, rest)?;
+    ends(rest)?;
+    Ok(Declaration::Plain { no, fields })
+}
+
+fn reference_of<A: Allocator>(
+    alloc: A,
+    strength: Strength,
+    operands: &[u8],
+) -> Result<Declaration<A>, Unread>
+    ensures found { IfOk result (λ d. SpellsDeclared (strength_name strength ∷ words_of operands.now) (declared_by d)) }
+    ensures fault { IfErr result (FailsBy (words_fault 2 8 (words_of operands.now))) }
+{
+    let (no, rest) = operand(operands)?;
+    let (referent, rest) = operand(rest)?;
+    let no = object_of(no)?;
+    let referent = object_or_none_of(referent)?;
+    let (fields, rest) = fields_of(alloc, rest)?;
+    ends(rest)?;
+    Ok(Declaration::Reference {
+        no,
+        strength,
+        referent,
+        fields,
+    })
+}
+
+/// The fields that the first words spell, at most 8 of them, and the line behind them.
+fn fields_of<A: Allocator>(
+    alloc: A,
+    operands: &[u8],
+) -> Result<(Vec<Option<ObjNo>, A>, &[u8]), Unread>
+    ensures found { IfOk result (λ r. ReadsFields (words_of operands.now) r.0.items (words_of r.1.now)) }
+    ensures fault { IfErr result (IsBadField (words_of operands.now)) }
+{
+    let mut fields = Vec::new(alloc);
+    let mut rest = operands;
+    while fields.len() < MOST_FIELDS {
+        let Some((word, behind)) = next_word(rest) else {
+            break;
+        };
+        fields.push(object_or_none_of(word)?)?;
+        rest = behind;
+    }
+    Ok((fields, rest))
+}
+
+/// The object's number that a word spells.
+fn object_of(word: &[u8]) -> Result<ObjNo, LineFault>
+    ensures { MatchResult result (λ n. SpellsObject word.now n)
+        (λ fault. (is_object word.now ≡ false) × (fault ≡ LineFault.BadWord)) }
+{
+    match short_number(word) {
+        Some(number) if number > 0 => Ok(ObjNo(number)),
+        _ => Err(LineFault::BadWord),
+    }
+}
+
+/// The object's number that a word spells, or `None` where it is `-`.
+fn object_or_none_of(word: &[u8]) -> Result<Option<ObjNo>, LineFault>
+    ensures { MatchResult result (λ n. SpellsObjectOrNone word.now n)
+        (λ fault. (is_object_or_none word.now ≡ false) × (fault ≡ LineFault.BadWord)) }
+{
+    match word {
+        b"-" => Ok(None),
+        _ => Ok(Some(object_of(word)?)),
+    }
+}

@@ -1,0 +1,76 @@
+//! How strongly the objects of a graph text are reachable, and the text that says so.
+
+ghost use Rattle.std.specs.Prelude.{◌≡◌, ◌++◌, ◌||◌, [], length, string_bytes, IfOk, OnOk, OnErr, IfSome, take};
+ghost use Rattle.ref_base.specs.GraphViews.{graph_of};
+ghost use Rattle.refrun.specs.Answers.{KeepsUnlessDone, TellsFault, is_cannot_read, is_cannot_write};
+ghost use Rattle.refrun.specs.Listings.{AnswersStrengths, ListsStrengths, listing_line, listing_text};
+ghost use Rattle.refrun.specs.TextFaults.{graph_fault};
+
+use crate::fault::TextFault;
+use crate::graph_text::declared_graph;
+use crate::reading::text_of;
+use crate::sink::{TextSink, WriteFailed};
+use crate::source::TextSource;
+use ref_base::{Graph, ObjectReach, strengths};
+use std::alloc::{AllocError, Allocator};
+
+/// Reads a graph text, and writes how strongly each of its objects is reachable.
+///
+/// The whole text is read and all the output is made before anything is written. The answer is `Ok` where the output has
+/// gone out, and else the first of: `CannotRead` where a read failed; `TooLong`, or the fault of the first faulty line;
+/// `CannotWrite` where a write failed, and then a prefix of the output may have gone out. `NoMemory` may come in place of
+/// each but the last.
+///
+/// All its memory is of this allocator.
+pub fn strength_text<R: TextSource, W: TextSink, A: Allocator + Copy>(
+    alloc: A,
+    reader: &mut R,
+    writer: &mut W,
+) -> Result<(), TextFault>
+    ensures answer { IfSome (R.remaining reader.old) (λ text.
+        AnswersStrengths text (W.contents writer.old) (W.contents writer.new) result) }
+    ensures refused { IfSome (R.remaining reader.old) (λ text.
+        IfSome (graph_fault text) (λ fault. TellsFault fault result)) }
+
+    // Whatever is known of the text.
+    ensures kept { KeepsUnlessDone (W.contents writer.old) (W.contents writer.new) result }
+    ensures cannot_read { R.has_failed reader.new ≡ (R.has_failed reader.old || is_cannot_read result) }
+    ensures cannot_write { W.has_failed writer.new ≡ (W.has_failed writer.old || is_cannot_write result) }
+{
+    let text = text_of(alloc, reader)?;
+    let graph = declared_graph(alloc, text.as_slice())?;
+    let listing = listing_of(alloc, &graph)?;
+    match writer.write_text(listing.as_bytes()) {
+        Ok(()) => Ok(()),
+        Err(WriteFailed) => Err(TextFault::CannotWrite),
+    }
+}
+
+/// The listing of the strengths of a graph's objects.
+fn listing_of<A: Allocator + Copy>(alloc: A, graph: &Graph<A>) -> Result<String<A>, TextFault>
+    ensures text { IfOk result (λ text. ListsStrengths (graph_of graph.now) (string_bytes text)) }
+    ensures err { OnErr result (result ≡ Err TextFault.NoMemory) }
+{
+    let listed = strengths(alloc, graph).map_err(|_| TextFault::NoMemory)?;
+    Ok(lines_of_objects(alloc, listed.as_slice())?)
+}
+
+/// A line for each object.
+fn lines_of_objects<A: Allocator>(alloc: A, listed: &[ObjectReach]) -> Result<String<A>, AllocError>
+    ensures { IfOk result (λ text. string_bytes text ≡ listing_text listed.now) }
+{
+    let mut text = String::new(alloc);
+    for object in listed {
+        add_object(&mut text, object)?;
+    }
+    Ok(text)
+}
+
+/// Adds the line of an object.
+fn add_object<A: Allocator>(text: &mut String<A>, listed: &ObjectReach) -> Result<(), AllocError>
+    ensures { OnOk result (string_bytes text.new ≡ string_bytes text.old ++ listing_line listed.now) }
+{
+    let object = listed.object;
+    let reach = listed.reach;
+    writeln!(text, "{object} {reach}")
+}
