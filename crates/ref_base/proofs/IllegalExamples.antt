@@ -1,6 +1,7 @@
 -- Traces that differ from worked ones in one reply, and are not legal.
 use Rattle.std.proofs.Common.{◌≡◌, ℕ, Bool, refl, subst, List, [], ◌∷◌, drop, replicate, Option, Some, None, inl, inr}
 use Rattle.ref_base.specs.Graphs.{Graph, Object, plain_object}
+use Rattle.ref_base.specs.Heaps.{first_heap}
 use Rattle.ref_base.specs.Worlds.{first_world}
 use Rattle.ref_base.specs.Collectors.{State}
 use Rattle.ref_base.specs.CollectorRows.{IsRun}
@@ -48,6 +49,9 @@ taken_twice =
     row (steps.Poll 0 0) (replies.Took 2) ∷
     []
 
+took_is_not_empty : (n : ℕ) → replies.Took n ≡ replies.Empty → ⊥
+took_is_not_empty n same = absurd cc
+
 taken_twice_is_not_legal : ¬ (IsLegal (config_of 1) taken_twice)
 taken_twice_is_not_legal legal =
     let r1 = subst (λ s. IsRun s (drop 1 taken_twice) legal.0) legal.1.1.1 legal.1.2 in
@@ -58,7 +62,7 @@ taken_twice_is_not_legal legal =
           let r4 = subst (λ s. IsRun s (drop 4 taken_twice) legal.0) added.1 r3.2 in
           let r5 = subst (λ s. IsRun s (drop 5 taken_twice) legal.0) r4.1.1 r4.2 in
           let r6 = subst (λ s. IsRun s (drop 6 taken_twice) legal.0) r5.1.1 r5.2 in
-          let e = r6.1.0 in absurd cc
+          took_is_not_empty 2 r6.1.0
       | inr wanted ↦ let e = wanted.0 in absurd cc
     ]
 
@@ -76,9 +80,7 @@ objects = plain_object 1 [] ∷ reference_to_1 ∷ []
 abbrev marked : List (Option ℕ) → List Graph → Bool → State
 marked slots moments left = record {
   world = record (first_world (config_of 1)) {
-    objects = objects;
-    slots = slots;
-    clock = 5;
+    heap = record (first_heap (config_of 1)) { objects = objects; slots = slots; clock = 5 };
     cycle = 1;
     phase = Marking;
   };

@@ -5,7 +5,7 @@ use Rattle.ref_base.proofs.DoomChecks.{may_doom}
 use Rattle.ref_base.proofs.ClosedSets.{are_in-has}
 use Rattle.ref_base.proofs.LegalSteps.{none_left, mark_ends, legal, stop, ◌⨾◌}
 use Rattle.ref_base.proofs.WorkedTraces.{config_of, two_enqueued_in_order, death_reported_after_a_cycle}
-use Rattle.ref_base.proofs.WorkedTraces.{order_of_refusals}
+use Rattle.ref_base.proofs.WorkedTraces.{order_of_refusals, first_leaving_edge}
 use Rattle.ref_base.proofs.WorkedTraces.{soft_kept_within_the_span, cleared_for_every_mutator_at_once}
 use Rattle.ref_base.proofs.WorkedTraces.{get_keeps_the_referent, two_workers_in_clearing_order}
 use Rattle.std.proofs.lemmas.Bool.{false≢true, ltb-true as below}
@@ -127,4 +127,18 @@ order_of_refusals_is_legal = legal (config_of 1) order_of_refusals (
     (refl, refl) ⨾ (refl, refl) ⨾ (refl, refl) ⨾ (refl, refl) ⨾ (refl, refl) ⨾ (refl, refl)
     ⨾ (refl, refl) ⨾ (refl, refl) ⨾ (refl, refl) ⨾ (refl, refl) ⨾ (refl, refl) ⨾ (refl, refl)
     ⨾ (refl, refl)
+    ⨾ stop)
+
+first_leaving_edge_is_legal : IsLegal (config_of 1) first_leaving_edge
+first_leaving_edge_is_legal = legal (config_of 1) first_leaving_edge (
+    (refl, refl) ⨾ (refl, refl) ⨾ (refl, refl) ⨾ (refl, refl) ⨾ (refl, refl)
+    ⨾ (refl, (true, refl, λ _. (3, (inl ([], (refl, refl)), below _ _ refl, refl))))
+    ⨾ (refl, (inl ([], (refl, refl)), below _ _ refl, refl), (false, refl, none_left))
+    ⨾ (refl, (refl, refl))
+    ⨾ mark_ends _ ((3 ∷ []) ∷ [])
+    (may_doom _ _ _ (1 ∷ 2 ∷ []) (3 ∷ []) refl refl
+    (inl refl, (inl refl, (inr (inl ([], (refl, refl))), tt))) refl)
+    (refl, tt) (λ n h. h)
+    ⨾ (refl, refl) ⨾ (refl, refl) ⨾ (refl, refl) ⨾ (refl, refl) ⨾ (refl, refl)
+    ⨾ inl (refl, refl) ⨾ (refl, refl)
     ⨾ stop)

@@ -24,8 +24,8 @@ none_left said = absurd (false≢true said)
 -- a mark ends, and the workers found these
 pub mark_ends : (a : State) (found : List (List ℕ))
     → MayDoom (policy_of a.world) (graph_of a.world) a.moments (doomed_at a)
-    → AreFound a.world.objects a.scanned found
-    → ((n : ℕ) → has (new_clears a.world.objects (doomed_at a)) n ≡ true → has (joined found) n ≡ true)
+    → AreFound a.world.heap.objects a.scanned found
+    → ((n : ℕ) → has (new_clears a.world.heap.objects (doomed_at a)) n ≡ true → has (joined found) n ≡ true)
     → EndsMark a (Doomed (length (doomed_at a))) (mark_ended a (doomed_at a) found)
 mark_ends a found may are all = record {
   answer = refl;

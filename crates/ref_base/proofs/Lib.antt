@@ -8,7 +8,13 @@ pub mod StoreLaws
 pub mod SearchLaws
 pub mod StrengthLaws
 pub mod KeptLaws
+pub mod Places
+pub mod QueueMoves
+pub mod SoundWorlds
+pub mod QueueLaws
+pub mod RowLaws
 pub mod RunLaws
+pub mod LegalQueues
 mod ReplayExamples
 mod LegalExamples
 mod IllegalExamples

@@ -1,7 +1,11 @@
 -- What the replay of worked traces gives, as one reads it off their rows.
-use Rattle.std.proofs.Common.{◌≡◌, ℕ, [], ◌∷◌, take, Option, Some, None, refl}
-use Rattle.ref_base.specs.Graphs.{Object, plain_object}
-use Rattle.ref_base.specs.Worlds.{World, graph_of, slot_at, hand_of, pending_numbers}
+use Rattle.std.proofs.Common.{◌≡◌, ℕ, List, [], ◌∷◌, take, Option, Some, None, inl, inr, refl}
+use Rattle.ref_base.specs.Graphs.{Graph, Object, plain_object}
+use Rattle.ref_base.specs.Paths.{IsPath, soft_and_weak_referents}
+use Rattle.ref_base.specs.DoomedSets.{new_clears}
+use Rattle.ref_base.specs.LeavingEdges.{FirstLeaves}
+use Rattle.ref_base.specs.Heaps.{slot_at}
+use Rattle.ref_base.specs.Worlds.{World, graph_of, hand_of, pending_numbers}
 use Rattle.ref_base.specs.Replay.{replayed}
 use Rattle.ref_base.specs.QueueRows.{put_into, taken_from}
 use Rattle.ref_base.specs.WorkerOrder.{clearing_order}
@@ -13,6 +17,7 @@ use Rattle.ref_base.specs.declared.phase.Phase.TheVariants.{Sweeping}
 use Rattle.ref_base.proofs.WorkedTraces.{config_of, two_enqueued_in_order, death_reported_after_a_cycle}
 use Rattle.ref_base.proofs.WorkedTraces.{get_keeps_the_referent, two_workers_in_clearing_order}
 use Rattle.ref_base.proofs.WorkedTraces.{soft_kept_within_the_span, cleared_for_every_mutator_at_once}
+use Rattle.ref_base.proofs.WorkedTraces.{first_leaving_edge}
 
 -- a reference with no fields, registered with queue 0
 abbrev reference : ℕ → Strength → Option ℕ → ℕ → Object
@@ -56,7 +61,7 @@ the_reference_is_in_two_slots = refl
 its_notice_was_put_in : put_into 0 death_reported_after_a_cycle ≡ 2 ∷ []
 its_notice_was_put_in = refl
 
-it_was_adopted : slot_at reported 0 2 ≡ Some 2
+it_was_adopted : slot_at reported.heap 0 2 ≡ Some 2
 it_was_adopted = refl
 
 the_cycle_is_being_swept : reported.phase ≡ Sweeping
@@ -129,3 +134,20 @@ the_workers_notice_was_put_in = refl
 
 one_is_pending_still : pending_numbers cleared_at_once.pending ≡ 2 ∷ []
 one_is_pending_still = refl
+
+-- ---- the first leaving edge: weak reference 3 to soft reference 2 to object 1, and only 3 is in a slot
+
+abbrev at_the_marks_end : Graph
+at_the_marks_end = graph_of (replayed (config_of 1) (take 8 first_leaving_edge))
+
+abbrev doomed : List ℕ
+doomed = 1 ∷ 2 ∷ []
+
+a_path_leads_to_the_doomed : IsPath soft_and_weak_referents at_the_marks_end 1 (2 ∷ 3 ∷ [])
+a_path_leads_to_the_doomed = (refl, refl, (refl, refl, (refl, refl)))
+
+its_first_leaving_edge_is_from_3_to_2 : FirstLeaves doomed 1 (2 ∷ 3 ∷ []) 3 2
+its_first_leaving_edge_is_from_3_to_2 = inr (inl (refl, refl, refl, refl))
+
+and_3_is_the_one_that_is_cleared : new_clears at_the_marks_end.objects doomed ≡ 3 ∷ []
+and_3_is_the_one_that_is_cleared = refl

@@ -164,3 +164,24 @@ order_of_refusals =
     row (steps.Poll 0 0) (replies.Refused HandFull) ∷
     row (steps.Scan 0) (replies.Refused WrongPhase) ∷
     []
+
+-- config 1 1 1 8 10
+abbrev pub first_leaving_edge : List Row
+first_leaving_edge =
+    row (steps.New 0 0 0) (replies.Object 1) ∷
+    row (steps.Refer 0 Soft 1 0 (Some 0) 0) (replies.Object 2) ∷
+    row (steps.Refer 0 Weak 2 1 (Some 0) 0) (replies.Object 3) ∷
+    row (steps.Drop 0 0) replies.Done ∷
+    row (steps.Drop 0 1) replies.Done ∷
+    row (steps.Begin 11 Normal) (replies.Cycle 1) ∷
+    row (steps.Scan 0) (replies.Scanned 3) ∷
+    row (steps.Scan 0) replies.Nothing ∷
+    row (steps.EndMark) (replies.Doomed 2) ∷
+    row (steps.ClearNext 0) (replies.Cleared 3) ∷
+    row (steps.ClearNext 0) replies.Nothing ∷
+    row (steps.EndClear) replies.Done ∷
+    row (steps.Hand 0) (replies.Notice 3 0 (Cycle 1 0)) ∷
+    row (steps.Sweep 0) (replies.Swept 2) ∷
+    row (steps.Put (Worker 0)) (replies.Added 0) ∷
+    row (steps.Hand 0) replies.Nothing ∷
+    []

@@ -1,18 +1,20 @@
 -- The rows of the abstract collector: which step may be answered how in a state, and what state that leaves (package
 -- `java.lang.ref` of Java SE 17 for what the calls of a reference answer and for clearing at one instant; cycles,
 -- workers and queues: this project's profile).
-use Rattle.std.specs.Prelude.{◌≡◌, ℕ, ◌+◌, ◌<◌, Bool, true, false, not, ◌&&◌, ◌==◌, if◌then◌else◌, min}
+use Rattle.std.specs.Prelude.{◌≡◌, ℕ, ◌+◌, ◌<◌, Bool, true, false, ◌==◌, if◌then◌else◌, min}
 use Rattle.std.specs.Prelude.{List, [], ◌∷◌, ◌++◌, map, length, take, drop, Option, Some, None, slice_index_or, slice_set, ◌⊎◌}
 use Rattle.std.specs.Prelude.{is_some}
 use Rattle.ref_base.specs.Members.{has}
 use Rattle.ref_base.specs.Graphs.{Object, Reference, object_at, plain_object}
 use Rattle.ref_base.specs.Paths.{is_phantom}
 use Rattle.ref_base.specs.KeptPaths.{EverKept}
-use Rattle.ref_base.specs.DoomedSets.{unscanned, MayDoom, refers_into, new_clears}
-use Rattle.ref_base.specs.Worlds.{World, Notice, Pending, Queue, policy_of, graph_of, slot_at, hand_of, queue_at, standing}
-use Rattle.ref_base.specs.Worlds.{pending_of, reference_at, reference_in, with_slot, with_reference, with_field, cleared}
-use Rattle.ref_base.specs.Replay.{made, nulls, new_reference, changed_in, got, cut, minted, spent, put_in, took, pended}
-use Rattle.ref_base.specs.Replay.{registered_in, handed, begun, with_phase, closed_queue}
+use Rattle.ref_base.specs.DoomedSets.{unscanned, MayDoom, is_new_clear, new_clears}
+use Rattle.ref_base.specs.Heaps.{Heap, slot_at, reference_at, reference_in, registered_in, with_slot, with_reference}
+use Rattle.ref_base.specs.Heaps.{cleared, nulls, new_reference, made, stored, got, cut}
+use Rattle.ref_base.specs.QueueLists.{enqueued, was_put}
+use Rattle.ref_base.specs.Worlds.{World, Notice, Pending, policy_of, graph_of, object_of, hand_of, queue_at, pending_of}
+use Rattle.ref_base.specs.Worlds.{with_heap}
+use Rattle.ref_base.specs.Replay.{minted, spent, put_in, took, adopted, pended, handed, begun, with_phase, closed_queue}
 use Rattle.ref_base.specs.Collectors.{State, joined}
 use Rattle.ref_base.specs.Refusals.{refusal, is_in}
 use Rattle.ref_base.specs.declared.cause.Cause.TheVariants.{Own, Cycle}
@@ -31,6 +33,9 @@ use Rattle.ref_base.specs.declared.row.Row.{Row}
 
 abbrev pub with_world : State → World → State
 with_world a w = record a { world = w }
+
+abbrev pub on_heap : State → Heap → State
+on_heap a h = with_world a (with_heap a.world h)
 
 -- in a mark, the graph of this moment joins those of the mark
 abbrev pub ticked : State → State
@@ -66,26 +71,27 @@ value_reply (Some n) = replies.Object n
 
 -- one more object
 abbrev pub Makes : State → ℕ → ℕ → Object → Reply → State → Type 0
-Makes a m d o = Gives (replies.Object a.next) (record a { world = made a.world m d o; next = a.next + 1 })
+Makes a m d o =
+    Gives (replies.Object a.next) (record a { world = with_heap a.world (made a.world.heap m d o); next = a.next + 1 })
 
 -- what the field of the object holds
 abbrev pub field_of : Option Object → ℕ → Option ℕ
 field_of None i = None
 field_of (Some o) i = slice_index_or o.fields i None
 
-abbrev pub field_in : World → Option ℕ → ℕ → Option ℕ
-field_in w None i = None
-field_in w (Some n) i = field_of (object_at w.objects n) i
+abbrev pub field_in : Heap → Option ℕ → ℕ → Option ℕ
+field_in h None i = None
+field_in h (Some n) i = field_of (object_at h.objects n) i
 
 -- a load answers what the field holds
 abbrev pub Loads : State → ℕ → ℕ → Option ℕ → Reply → State → Type 0
-Loads a m d None = Gives replies.Null (with_world a (with_slot a.world m d None))
-Loads a m d (Some n) = GivesAnew (replies.Object n) (with_world a (with_slot a.world m d (Some n)))
+Loads a m d None = Gives replies.Null (on_heap a (with_slot a.world.heap m d None))
+Loads a m d (Some n) = GivesAnew (replies.Object n) (on_heap a (with_slot a.world.heap m d (Some n)))
 
 -- what the reference in the slot is
-abbrev pub reference_of : World → Option ℕ → Option Reference
-reference_of w None = None
-reference_of w (Some n) = reference_at w n
+abbrev pub reference_of : Heap → Option ℕ → Option Reference
+reference_of h None = None
+reference_of h (Some n) = reference_at h n
 
 -- what a get answers: nothing of a phantom reference, and else the referent
 abbrev pub referent_got : Option Reference → Option ℕ
@@ -94,8 +100,8 @@ referent_got (Some r) = if is_phantom r.strength then None else r.referent
 
 -- a get answers the referent, if any
 abbrev pub Gets : State → ℕ → ℕ → ℕ → Option ℕ → Reply → State → Type 0
-Gets a m d s None = Gives replies.Null (with_world a (got a.world m d s None))
-Gets a m d s (Some n) = GivesAnew (replies.Object n) (with_world a (got a.world m d s (Some n)))
+Gets a m d s None = Gives replies.Null (on_heap a (got a.world.heap m d s None))
+Gets a m d s (Some n) = GivesAnew (replies.Object n) (on_heap a (got a.world.heap m d s (Some n)))
 
 -- whether two values are the same object, or both null
 abbrev pub is_same : Option ℕ → Option ℕ → Bool
@@ -111,17 +117,14 @@ referent_of (Some r) = r.referent
 
 -- an unhook clears the reference, and gives a notice where it is registered
 abbrev pub Unhooks : State → ℕ → ℕ → Option ℕ → Option ℕ → Reply → State → Type 0
-Unhooks a m s None queue = Gives replies.Nothing (with_world a (cut a.world m s))
-Unhooks a m s (Some n) None = Gives replies.Nothing (with_world a (cut a.world m s))
+Unhooks a m s None queue = Gives replies.Nothing (on_heap a (cut a.world.heap m s))
+Unhooks a m s (Some n) None = Gives replies.Nothing (on_heap a (cut a.world.heap m s))
 Unhooks a m s (Some n) (Some q) =
     Gives (replies.Notice n q Own)
-    (with_world a (minted (cut a.world m s) (Mutator m) (record { object = n; queue = q; cause = Own })))
+    (with_world a
+    (minted (with_heap a.world (cut a.world.heap m s)) (Mutator m) (record { object = n; queue = q; cause = Own })))
 
 -- ---- queues
-
--- whether a reference was ever put in
-abbrev pub was_put : Queue → ℕ → Bool
-was_put q n = has (map (λ notice. notice.object) q.put_in) n
 
 -- a put is Already where the reference was ever put in, else Closed where the queue is closed, else Added; only then
 -- it may be refused for want of memory
@@ -129,16 +132,16 @@ abbrev pub PutsInto : Bool → Bool → State → Actor → Notice → Reply →
 PutsInto true closed a who notice reply b = Gives replies.Already a reply b
 PutsInto false true a who notice reply b = Gives replies.Closed a reply b
 PutsInto false false a who notice reply b =
-    Gives (replies.Added (length (queue_at a.world notice.queue).put_in))
+    Gives (replies.Added (length (enqueued object_of (queue_at a.world notice.queue))))
     (with_world a (put_in a.world who (Some notice))) reply b
-    ⊎ Gives (replies.Refused NoMemory) a reply b
+    ⊎ ((reply ≡ replies.Refused NoMemory) × (b ≡ a))
 
 -- a put of the hand's notice
 abbrev pub Puts : State → Actor → Option Notice → Reply → State → Type 0
 Puts a who None reply b = ⊥
 Puts a who (Some notice) reply b =
     let q = queue_at a.world notice.queue in
-    PutsInto (was_put q notice.object) q.closed a who notice reply b
+    PutsInto (was_put object_of q notice) q.closed a who notice reply b
 
 -- a poll takes the first that stands
 abbrev pub Polls : State → ℕ → ℕ → List Notice → Reply → State → Type 0
@@ -149,10 +152,9 @@ Polls a m q (notice ∷ rest) = Gives (replies.Took notice.object) (with_world a
 abbrev pub Adopts : State → ℕ → ℕ → Option Notice → Reply → State → Type 0
 Adopts a m d None reply b = ⊥
 Adopts a m d (Some notice) reply b =
-    Gives (replies.Object notice.object)
-    (with_world a (with_slot (spent a.world (Mutator m) (Some notice)) m d (Some notice.object))) reply b
+    Gives (replies.Object notice.object) (with_world a (adopted a.world m d (Some notice) notice.object)) reply b
 
--- a close is accepted where the queue is open
+-- a close answers ok where the queue is open, and else that it is closed
 abbrev pub Closes : State → ℕ → Bool → Reply → State → Type 0
 Closes a q true = Gives replies.Closed a
 Closes a q false = Gives replies.Done (with_world a (closed_queue a.world q))
@@ -207,49 +209,50 @@ AreFound os (ss ∷ scanned) [] = ⊥
 AreFound os (ss ∷ scanned) (fs ∷ found) =
     (is_subsequence fs (references_among os ss) ≡ true) × AreFound os scanned found
 
--- the object, cleared if it lives and refers to one of the doomed
+-- the object, cleared if it is a new clear
 abbrev pub shown : List ℕ → Object → Object
-shown d o = if not (has d o.no) && refers_into d o.reference then with_reference cleared o else o
+shown d o = if is_new_clear d o then with_reference cleared o else o
 
 -- the mark ends: all new clears are cleared at once
 abbrev pub mark_ended : State → List ℕ → List (List ℕ) → State
 mark_ended a d found = record {
-  world = with_phase (record a.world { objects = map (λ o. shown d o) a.world.objects }) Clearing;
+  world = with_phase
+      (with_heap a.world (record a.world.heap { objects = map (λ o. shown d o) a.world.heap.objects })) Clearing;
   next = a.next;
   born = a.born;
   moments = a.moments;
   scanned = a.scanned;
   left = a.left;
   doomed = d;
-  cleared = new_clears a.world.objects d;
+  cleared = new_clears a.world.heap.objects d;
   found = found;
 }
 
 -- what a mark's end dooms: what was made before the cycle and never scanned
 abbrev pub doomed_at : State → List ℕ
-doomed_at a = unscanned a.world.objects a.born (joined a.scanned)
+doomed_at a = unscanned a.world.heap.objects a.born (joined a.scanned)
 
 -- A mark's end answers how many it dooms, and it may doom them. Each worker has found some of the references that it
--- scanned, and each new clear among them.
+-- scanned, and some worker has found each new clear.
 pub record EndsMark (a : State) (reply : Reply) (b : State) : Type 0 where
   pub answer : reply ≡ replies.Doomed (length (doomed_at a))
   pub may_doom : MayDoom (policy_of a.world) (graph_of a.world) a.moments (doomed_at a)
   pub found : List (List ℕ)
-  pub are_found : AreFound a.world.objects a.scanned found
-  pub all_found : (n : ℕ) → has (new_clears a.world.objects (doomed_at a)) n ≡ true → has (joined found) n ≡ true
+  pub are_found : AreFound a.world.heap.objects a.scanned found
+  pub all_found : (n : ℕ) → has (new_clears a.world.heap.objects (doomed_at a)) n ≡ true → has (joined found) n ≡ true
   pub after : b ≡ mark_ended a (doomed_at a) found
 
 -- the first that a worker found is Cleared if the mark's end cleared it, else Skipped if it has no referent, else Kept
 abbrev pub looked_at : State → ℕ → ℕ → Reply
 looked_at a k n =
     if has a.cleared n then replies.Cleared n else
-    (if is_some (referent_of (reference_at a.world n)) then replies.Kept n else replies.Skipped n)
+    (if is_some (referent_of (reference_at a.world.heap n)) then replies.Kept n else replies.Skipped n)
 
 -- and it goes last in the worker's pending list if it was cleared and is registered
 abbrev pub looked : State → ℕ → ℕ → List ℕ → State
 looked a k n rest = record a {
   world =
-      if has a.cleared n then pended a.world k n (registered_in (reference_at a.world n)) else a.world;
+      if has a.cleared n then pended a.world k n (registered_in (reference_at a.world.heap n)) else a.world;
   found = slice_set a.found k rest;
 }
 
@@ -276,7 +279,8 @@ Sweeps a [] = Gives replies.Nothing a
 Sweeps a (n ∷ ns) =
     Gives (replies.Swept (min 64 (length (n ∷ ns))))
     (record a {
-      world = record a.world { objects = without (take 64 (n ∷ ns)) a.world.objects };
+      world = with_heap a.world
+          (record a.world.heap { objects = without (take 64 (n ∷ ns)) a.world.heap.objects });
       doomed = drop 64 (n ∷ ns);
     })
 
@@ -286,24 +290,23 @@ Sweeps a (n ∷ ns) =
 abbrev pub Accepts : State → Step → Reply → State → Type 0
 Accepts a (steps.New m d k) = Makes a m d (plain_object a.next (nulls k))
 Accepts a (steps.Refer m strength d s q k) =
-    Makes a m d (new_reference a.world a.next strength (slot_at a.world m s) q k)
-Accepts a (steps.Store m s i v) =
-    Gives replies.Done
-    (with_world a (changed_in a.world (slot_at a.world m s) (with_field i (slot_at a.world m v))))
-Accepts a (steps.Load m d s i) = Loads a m d (field_in a.world (slot_at a.world m s) i)
+    Makes a m d (new_reference a.world.heap a.next strength (slot_at a.world.heap m s) q k)
+Accepts a (steps.Store m s i v) = Gives replies.Done (on_heap a (stored a.world.heap m s i v))
+Accepts a (steps.Load m d s i) = Loads a m d (field_in a.world.heap (slot_at a.world.heap m s) i)
 Accepts a (steps.Copy m d s) =
-    Gives (value_reply (slot_at a.world m s)) (with_world a (with_slot a.world m d (slot_at a.world m s)))
-Accepts a (steps.Drop m s) = Gives replies.Done (with_world a (with_slot a.world m s None))
+    Gives (value_reply (slot_at a.world.heap m s)) (on_heap a (with_slot a.world.heap m d (slot_at a.world.heap m s)))
+Accepts a (steps.Drop m s) = Gives replies.Done (on_heap a (with_slot a.world.heap m s None))
 Accepts a (steps.Get m d s) =
-    Gets a m d s (referent_got (reference_of a.world (slot_at a.world m s)))
-Accepts a (steps.Clear m s) = Gives replies.Done (with_world a (cut a.world m s))
+    Gets a m d s (referent_got (reference_of a.world.heap (slot_at a.world.heap m s)))
+Accepts a (steps.Clear m s) = Gives replies.Done (on_heap a (cut a.world.heap m s))
 Accepts a (steps.RefersTo m s v) =
-    Gives
-    (replies.Refers (is_same (referent_of (reference_of a.world (slot_at a.world m s))) (slot_at a.world m v))) a
+    let reference = reference_of a.world.heap (slot_at a.world.heap m s) in
+    Gives (replies.Refers (is_same (referent_of reference) (slot_at a.world.heap m v))) a
 Accepts a (steps.Unhook m s) =
-    Unhooks a m s (slot_at a.world m s) (registered_in (reference_of a.world (slot_at a.world m s)))
+    let held = slot_at a.world.heap m s in
+    Unhooks a m s held (registered_in (reference_of a.world.heap held))
 Accepts a (steps.Put who) = Puts a who (hand_of a.world who)
-Accepts a (steps.Poll m q) = Polls a m q (standing (queue_at a.world q))
+Accepts a (steps.Poll m q) = Polls a m q (queue_at a.world q).stands
 Accepts a (steps.Adopt m d) = Adopts a m d (hand_of a.world (Mutator m))
 Accepts a (steps.Release who) = Gives replies.Done (with_world a (spent a.world who (hand_of a.world who)))
 Accepts a (steps.Close m q) = Closes a q (queue_at a.world q).closed

@@ -32,8 +32,12 @@ abbrev pub refers_into : List ℕ → Option Reference → Bool
 refers_into d None = false
 refers_into d (Some r) = is_among d r.referent
 
--- the new clears: the references outside the doomed whose referent is doomed
+-- whether the object is a reference outside the doomed whose referent is doomed
+abbrev pub is_new_clear : List ℕ → Object → Bool
+is_new_clear d o = not (has d o.no) && refers_into d o.reference
+
+-- the numbers of these
 abbrev pub new_clears : List Object → List ℕ → List ℕ
 new_clears [] d = []
 new_clears (o ∷ os) d =
-    if not (has d o.no) && refers_into d o.reference then o.no ∷ new_clears os d else new_clears os d
+    if is_new_clear d o then o.no ∷ new_clears os d else new_clears os d

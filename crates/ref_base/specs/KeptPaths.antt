@@ -16,7 +16,7 @@ abbrev pub is_normal : Urgency → Bool
 is_normal Normal = true
 is_normal Urgent = false
 
--- the reference is soft, the cycle is normal, and the reference was made or last got at most the span before
+-- the reference is soft, the cycle is normal, and the reference was made or last got at most the span before its clock
 abbrev pub is_kept : Policy → Allowed
 is_kept p r = is_soft r.strength && (is_normal p.urgency && nat_le (p.clock - r.stamp) p.span)
 

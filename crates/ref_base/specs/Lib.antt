@@ -17,6 +17,8 @@ pub mod WorkerOrder
 pub mod KeptPaths
 pub mod DoomedSets
 pub mod LeavingEdges
+pub mod QueueLists
+pub mod Heaps
 pub mod Worlds
 pub mod Told
 pub mod Replay

@@ -3,8 +3,9 @@
 use Rattle.std.specs.Prelude.{ℕ, ◌^◌, ◌-◌, Bool, true, false, ◌&&◌, not, if◌then◌else◌, nat_lt, nat_le}
 use Rattle.std.specs.Prelude.{List, [], ◌∷◌, length, Option, Some, None, is_some}
 use Rattle.ref_base.specs.Graphs.{Object, Reference, object_at}
-use Rattle.ref_base.specs.Worlds.{World, Pending, slot_at, hand_of, pending_of, reference_at}
-use Rattle.ref_base.specs.Collectors.{State}
+use Rattle.ref_base.specs.Heaps.{Heap, slot_at, reference_at}
+use Rattle.ref_base.specs.Worlds.{Notice, Pending, hand_of, pending_of}
+use Rattle.ref_base.specs.Collectors.{State, joined}
 use Rattle.ref_base.specs.declared.actor.Actor.{Actor}
 use Rattle.ref_base.specs.declared.actor.Actor.TheVariants.{Mutator, Worker}
 use Rattle.ref_base.specs.declared.phase.Phase.{Phase}
@@ -21,37 +22,115 @@ abbrev pub unless : Bool → Fault → Option Fault → Option Fault
 unless true fault later = later
 unless false fault later = Some fault
 
-abbrev pub is_mutator : World → ℕ → Bool
-is_mutator w m = nat_lt m w.config.mutators
+-- ---- what a heap refuses: the next object number is given beside it where one is needed
 
-abbrev pub is_worker : World → ℕ → Bool
-is_worker w k = nat_lt k w.config.workers
+abbrev pub is_mutator : Heap → ℕ → Bool
+is_mutator h m = nat_lt m h.config.mutators
 
-abbrev pub is_actor : World → Actor → Bool
-is_actor w (Mutator m) = is_mutator w m
-is_actor w (Worker k) = is_worker w k
+abbrev pub is_worker : Heap → ℕ → Bool
+is_worker h k = nat_lt k h.config.workers
 
-abbrev pub is_queue : World → ℕ → Bool
-is_queue w q = nat_lt q w.config.queues
+abbrev pub is_queue : Heap → ℕ → Bool
+is_queue h q = nat_lt q h.config.queues
 
-abbrev pub is_queue_or_none : World → Option ℕ → Bool
-is_queue_or_none w None = true
-is_queue_or_none w (Some q) = is_queue w q
+abbrev pub is_queue_or_none : Heap → Option ℕ → Bool
+is_queue_or_none h None = true
+is_queue_or_none h (Some q) = is_queue h q
 
--- the mutator is there, and has such slots
-abbrev pub has_slot : World → ℕ → ℕ → Bool
-has_slot w m s = is_mutator w m && nat_lt s 16
+-- the mutator is there, and has slots of these numbers
+abbrev pub has_slot : Heap → ℕ → ℕ → Bool
+has_slot h m s = is_mutator h m && nat_lt s 16
 
-abbrev pub has_slots : World → ℕ → ℕ → ℕ → Bool
-has_slots w m s r = has_slot w m s && nat_lt r 16
+abbrev pub has_slots : Heap → ℕ → ℕ → ℕ → Bool
+has_slots h m s r = has_slot h m s && nat_lt r 16
 
-abbrev pub is_empty : {T : Type 0} → List T → Bool
-is_empty [] = true
-is_empty (x ∷ xs) = false
+-- how many fields the object has: none where there is no object
+abbrev pub field_count : Option Object → ℕ
+field_count None = 0
+field_count (Some o) = length o.fields
 
-abbrev pub all_empty : List (List ℕ) → Bool
-all_empty [] = true
-all_empty (ns ∷ rest) = is_empty ns && all_empty rest
+-- EmptySlot where the slot is empty, and else what comes later
+abbrev pub unless_empty : Option ℕ → Option Fault → Option Fault
+unless_empty None later = Some EmptySlot
+unless_empty (Some n) later = later
+
+-- of an object with so many fields: BadField above 8, then NumbersSpent and NoCell where there is none for it
+abbrev pub object_refusal : Heap → ℕ → ℕ → Option Fault
+object_refusal h next k =
+    unless (nat_le k 8) BadField
+    (unless (nat_lt next (2 ^ 32)) NumbersSpent
+    (unless (nat_lt (length h.objects) h.config.cells) NoCell None))
+
+abbrev pub new_refusal : Heap → ℕ → ℕ → ℕ → ℕ → Option Fault
+new_refusal h next m d k = unless (has_slot h m d) NoSuchActor (object_refusal h next k)
+
+abbrev pub refer_refusal : Heap → ℕ → ℕ → ℕ → ℕ → Option ℕ → ℕ → Option Fault
+refer_refusal h next m d s q k =
+    unless (has_slots h m d s) NoSuchActor
+    (unless (is_queue_or_none h q) BadQueue (unless_empty (slot_at h m s) (object_refusal h next k)))
+
+-- EmptySlot where the slot is empty, BadField where its object hasn't this field
+abbrev pub field_refusal : Heap → Option ℕ → ℕ → Option Fault
+field_refusal h None i = Some EmptySlot
+field_refusal h (Some n) i = unless (nat_lt i (field_count (object_at h.objects n))) BadField None
+
+abbrev pub store_refusal : Heap → ℕ → ℕ → ℕ → ℕ → Option Fault
+store_refusal h m s i v = unless (has_slots h m s v) NoSuchActor (field_refusal h (slot_at h m s) i)
+
+abbrev pub load_refusal : Heap → ℕ → ℕ → ℕ → ℕ → Option Fault
+load_refusal h m d s i = unless (has_slots h m d s) NoSuchActor (field_refusal h (slot_at h m s) i)
+
+abbrev pub copy_refusal : Heap → ℕ → ℕ → ℕ → Option Fault
+copy_refusal h m d s = unless (has_slots h m d s) NoSuchActor None
+
+abbrev pub drop_refusal : Heap → ℕ → ℕ → Option Fault
+drop_refusal h m s = unless (has_slot h m s) NoSuchActor None
+
+-- EmptySlot where the slot is empty, NotAReference where its object is none
+abbrev pub reference_refusal : Heap → Option ℕ → Option Fault
+reference_refusal h None = Some EmptySlot
+reference_refusal h (Some n) = unless (is_some (reference_at h n)) NotAReference None
+
+-- the reference's slot is s, and the other one is t
+abbrev pub get_refusal : Heap → ℕ → ℕ → ℕ → Option Fault
+get_refusal h m s t = unless (has_slots h m s t) NoSuchActor (reference_refusal h (slot_at h m s))
+
+abbrev pub clear_refusal : Heap → ℕ → ℕ → Option Fault
+clear_refusal h m s = unless (has_slot h m s) NoSuchActor (reference_refusal h (slot_at h m s))
+
+-- NumbersSpent where no more holds can be counted
+abbrev pub holds_refusal : Heap → Option Fault
+holds_refusal h = unless (nat_lt (length h.holds) (2 ^ 64 - 1)) NumbersSpent None
+
+-- NotAReference where it is none; where it has a queue it gets one more hold, which must be counted
+abbrev pub minting_refusal : Heap → Option Reference → Option Fault
+minting_refusal h None = Some NotAReference
+minting_refusal h (Some r) = if is_some r.queue then holds_refusal h else None
+
+-- of an unhook, by what its slot holds
+abbrev pub unhook_refusal : Heap → Option ℕ → Option Fault
+unhook_refusal h None = Some EmptySlot
+unhook_refusal h (Some n) = minting_refusal h (reference_at h n)
+
+-- ---- hands
+
+abbrev pub is_actor : Heap → Actor → Bool
+is_actor h (Mutator m) = is_mutator h m
+is_actor h (Worker k) = is_worker h k
+
+abbrev pub unless_full : Option Notice → Option Fault → Option Fault
+unless_full None later = later
+unless_full (Some notice) later = Some HandFull
+
+abbrev pub empty_hand_refusal : Option Notice → Option Fault
+empty_hand_refusal None = Some HandEmpty
+empty_hand_refusal (Some notice) = None
+
+abbrev pub hand_refusal : List Pending → Heap → Option Fault
+hand_refusal [] h = None
+hand_refusal (p ∷ ps) h = holds_refusal h
+
+-- ---- phases
 
 abbrev pub is_in : Phase → Phase → Bool
 is_in Idle Idle = true
@@ -60,95 +139,47 @@ is_in Clearing Clearing = true
 is_in Sweeping Sweeping = true
 is_in phase other = false
 
--- how many fields the object has: none where there is no object
-abbrev pub field_count : Option Object → ℕ
-field_count None = 0
-field_count (Some o) = length o.fields
-
--- one more object has a number, and a cell
-abbrev pub room_refusal : State → Option Fault
-room_refusal a =
-    unless (nat_lt a.next (2 ^ 32)) NumbersSpent
-    (unless (nat_lt (length a.world.objects) a.world.config.cells) NoCell None)
-
--- the slot holds an object, and the object has this field
-abbrev pub field_refusal : World → Option ℕ → ℕ → Option Fault
-field_refusal w None i = Some EmptySlot
-field_refusal w (Some n) i = unless (nat_lt i (field_count (object_at w.objects n))) BadField None
-
--- the slot holds a reference
-abbrev pub reference_refusal : World → Option ℕ → Option Fault
-reference_refusal w None = Some EmptySlot
-reference_refusal w (Some n) = unless (is_some (reference_at w n)) NotAReference None
-
--- one more hold can be counted
-abbrev pub holds_refusal : World → Option Fault
-holds_refusal w = unless (nat_lt (length w.holds) (2 ^ 64 - 1)) NumbersSpent None
-
--- one more hold can be counted where the reference has a queue, and none is needed where it has none
-abbrev pub minting_refusal : World → Option Reference → Option Fault
-minting_refusal w None = None
-minting_refusal w (Some r) = if is_some r.queue then holds_refusal w else None
-
--- as above, of what a slot holds
-abbrev pub unhook_refusal : World → Option ℕ → Option Fault
-unhook_refusal w None = Some EmptySlot
-unhook_refusal w (Some n) =
-    unless (is_some (reference_at w n)) NotAReference (minting_refusal w (reference_at w n))
-
-abbrev pub source_refusal : Option ℕ → Option Fault → Option Fault
-source_refusal None later = Some EmptySlot
-source_refusal (Some n) later = later
-
 abbrev pub in_phase : State → Phase → Option Fault → Option Fault
 in_phase a phase later = unless (is_in a.world.phase phase) WrongPhase later
 
-abbrev pub hand_refusal : List Pending → World → Option Fault
-hand_refusal [] w = None
-hand_refusal (p ∷ ps) w = holds_refusal w
+abbrev pub is_empty : {T : Type 0} → List T → Bool
+is_empty [] = true
+is_empty (x ∷ xs) = false
+
+-- ---- the steps
 
 -- the fault of a step, or none where it is accepted
 abbrev pub refusal : State → Step → Option Fault
-refusal a (steps.New m d k) =
-    unless (has_slot a.world m d) NoSuchActor (unless (nat_le k 8) BadField (room_refusal a))
-refusal a (steps.Refer m strength d s q k) =
-    unless (has_slots a.world m d s) NoSuchActor (unless (is_queue_or_none a.world q) BadQueue
-    (source_refusal (slot_at a.world m s) (unless (nat_le k 8) BadField (room_refusal a))))
-refusal a (steps.Store m s i v) =
-    unless (has_slots a.world m s v) NoSuchActor (field_refusal a.world (slot_at a.world m s) i)
-refusal a (steps.Load m d s i) =
-    unless (has_slots a.world m d s) NoSuchActor (field_refusal a.world (slot_at a.world m s) i)
-refusal a (steps.Copy m d s) = unless (has_slots a.world m d s) NoSuchActor None
-refusal a (steps.Drop m s) = unless (has_slot a.world m s) NoSuchActor None
-refusal a (steps.Get m d s) =
-    unless (has_slots a.world m d s) NoSuchActor (reference_refusal a.world (slot_at a.world m s))
-refusal a (steps.Clear m s) =
-    unless (has_slot a.world m s) NoSuchActor (reference_refusal a.world (slot_at a.world m s))
-refusal a (steps.RefersTo m s v) =
-    unless (has_slots a.world m s v) NoSuchActor (reference_refusal a.world (slot_at a.world m s))
+refusal a (steps.New m d k) = new_refusal a.world.heap a.next m d k
+refusal a (steps.Refer m strength d s q k) = refer_refusal a.world.heap a.next m d s q k
+refusal a (steps.Store m s i v) = store_refusal a.world.heap m s i v
+refusal a (steps.Load m d s i) = load_refusal a.world.heap m d s i
+refusal a (steps.Copy m d s) = copy_refusal a.world.heap m d s
+refusal a (steps.Drop m s) = drop_refusal a.world.heap m s
+refusal a (steps.Get m d s) = get_refusal a.world.heap m s d
+refusal a (steps.Clear m s) = clear_refusal a.world.heap m s
+refusal a (steps.RefersTo m s v) = get_refusal a.world.heap m s v
 refusal a (steps.Unhook m s) =
-    unless (has_slot a.world m s) NoSuchActor
-    (unless (not (is_some (hand_of a.world (Mutator m)))) HandFull (unhook_refusal a.world (slot_at a.world m s)))
-refusal a (steps.Put who) =
-    unless (is_actor a.world who) NoSuchActor (unless (is_some (hand_of a.world who)) HandEmpty None)
+    unless (has_slot a.world.heap m s) NoSuchActor
+    (unless_full (hand_of a.world (Mutator m)) (unhook_refusal a.world.heap (slot_at a.world.heap m s)))
+refusal a (steps.Put who) = unless (is_actor a.world.heap who) NoSuchActor (empty_hand_refusal (hand_of a.world who))
 refusal a (steps.Poll m q) =
-    unless (is_mutator a.world m) NoSuchActor (unless (is_queue a.world q) BadQueue
-    (unless (not (is_some (hand_of a.world (Mutator m)))) HandFull None))
+    unless (is_mutator a.world.heap m) NoSuchActor
+    (unless (is_queue a.world.heap q) BadQueue (unless_full (hand_of a.world (Mutator m)) None))
 refusal a (steps.Adopt m d) =
-    unless (has_slot a.world m d) NoSuchActor (unless (is_some (hand_of a.world (Mutator m))) HandEmpty None)
-refusal a (steps.Release who) =
-    unless (is_actor a.world who) NoSuchActor (unless (is_some (hand_of a.world who)) HandEmpty None)
+    unless (has_slot a.world.heap m d) NoSuchActor (empty_hand_refusal (hand_of a.world (Mutator m)))
+refusal a (steps.Release who) = unless (is_actor a.world.heap who) NoSuchActor (empty_hand_refusal (hand_of a.world who))
 refusal a (steps.Close m q) =
-    unless (is_mutator a.world m) NoSuchActor (unless (is_queue a.world q) BadQueue None)
+    unless (is_mutator a.world.heap m) NoSuchActor (unless (is_queue a.world.heap q) BadQueue None)
 refusal a (steps.Begin now _) =
-    in_phase a Idle (unless (nat_le a.world.clock now) ClockBack
+    in_phase a Idle (unless (nat_le a.world.heap.clock now) ClockBack
     (unless (nat_lt a.world.cycle (2 ^ 64 - 1)) NumbersSpent None))
-refusal a (steps.Scan k) = unless (is_worker a.world k) NoSuchActor (in_phase a Marking None)
+refusal a (steps.Scan k) = unless (is_worker a.world.heap k) NoSuchActor (in_phase a Marking None)
 refusal a steps.EndMark = in_phase a Marking (unless (not a.left) GreyLeft None)
-refusal a (steps.ClearNext k) = unless (is_worker a.world k) NoSuchActor (in_phase a Clearing None)
-refusal a steps.EndClear = in_phase a Clearing (unless (all_empty a.found) ClearingLeft None)
+refusal a (steps.ClearNext k) = unless (is_worker a.world.heap k) NoSuchActor (in_phase a Clearing None)
+refusal a steps.EndClear = in_phase a Clearing (unless (is_empty (joined a.found)) ClearingLeft None)
 refusal a (steps.Hand k) =
-    unless (is_worker a.world k) NoSuchActor
-    (unless (not (is_some (hand_of a.world (Worker k)))) HandFull (hand_refusal (pending_of a.world k) a.world))
-refusal a (steps.Sweep k) = unless (is_worker a.world k) NoSuchActor (in_phase a Sweeping None)
+    unless (is_worker a.world.heap k) NoSuchActor
+    (unless_full (hand_of a.world (Worker k)) (hand_refusal (pending_of a.world k) a.world.heap))
+refusal a (steps.Sweep k) = unless (is_worker a.world.heap k) NoSuchActor (in_phase a Sweeping None)
 refusal a steps.EndSweep = in_phase a Sweeping (unless (is_empty a.doomed) SweepLeft None)

@@ -1,17 +1,16 @@
 -- Replay: the world after a trace, from its rows alone. Only what a row answered is looked at: a refusal, and any answer
 -- that isn't named here, changes nothing (package `java.lang.ref` of Java SE 17 for what the calls of a reference do;
 -- the rest is this project's profile).
-use Rattle.std.specs.Prelude.{ℕ, ◌+◌, true, ◌==◌, if◌then◌else◌}
-use Rattle.std.specs.Prelude.{List, [], ◌∷◌, ◌++◌, replicate, Option, Some, None}
-use Rattle.ref_base.specs.Graphs.{Object, Reference, plain_object}
-use Rattle.ref_base.specs.Paths.{is_soft}
-use Rattle.ref_base.specs.Worlds.{World, Notice, Pending, first_world, slot_at, hand_of, queue_at, pending_of, reference_at}
-use Rattle.ref_base.specs.Worlds.{with_slot, with_hand, with_queue, with_pending, with_changed, with_reference, with_field}
-use Rattle.ref_base.specs.Worlds.{without_hold, cleared, got_at}
+use Rattle.std.specs.Prelude.{ℕ, true, ◌==◌, if◌then◌else◌, List, [], ◌∷◌, ◌++◌, Option, Some, None}
+use Rattle.ref_base.specs.Graphs.{plain_object}
+use Rattle.ref_base.specs.Heaps.{slot_at, reference_at, registered_in, with_slot, with_hold, without_hold, with_changed}
+use Rattle.ref_base.specs.Heaps.{with_reference, cleared, nulls, new_reference, made, stored, got, cut}
+use Rattle.ref_base.specs.QueueLists.{Lists, with_parcel}
+use Rattle.ref_base.specs.Worlds.{World, Notice, Pending, first_world, hand_of, queue_at, pending_of}
+use Rattle.ref_base.specs.Worlds.{with_heap, with_hand, with_queue, with_pending}
 use Rattle.ref_base.specs.Told.{told_object, told_value, is_done, told_notice, is_nothing, is_added, told_taken}
 use Rattle.ref_base.specs.Told.{told_cycle, is_doomed, told_cleared}
 use Rattle.ref_base.specs.declared.config.Config.{Config}
-use Rattle.ref_base.specs.declared.strength.Strength.{Strength}
 use Rattle.ref_base.specs.declared.actor.Actor.{Actor}
 use Rattle.ref_base.specs.declared.actor.Actor.TheVariants.{Mutator, Worker}
 use Rattle.ref_base.specs.declared.urgency.Urgency.{Urgency}
@@ -22,85 +21,57 @@ use Rattle.ref_base.specs.declared.step.Step.TheVariants as steps
 use Rattle.ref_base.specs.declared.reply.Reply.{Reply}
 use Rattle.ref_base.specs.declared.row.Row.{Row}
 
--- the world after what was told, and the same where nothing was
-abbrev pub if_told : {T : Type 0} → Option T → (T → World) → World → World
-if_told None change w = w
-if_told (Some told) change w = change told
+-- what comes of what was told, and the same as before where nothing was
+abbrev pub if_told : {T R : Type 0} → Option T → (T → R) → R → R
+if_told None change before = before
+if_told (Some told) change before = change told
 
 -- ---- what each kind of row changes
 
--- an object of number n is there, all fields null, and the slot holds it
-abbrev pub made : World → ℕ → ℕ → Object → World
-made w m s o = with_slot (record w { objects = w.objects ++ o ∷ [] }) m s (Some o.no)
-
--- so many fields, all of them null
-abbrev pub nulls : ℕ → List (Option ℕ)
-nulls k = replicate k None
-
--- a reference made now: its stamp is the clock if it is soft, and else 0
-abbrev pub new_reference : World → ℕ → Strength → Option ℕ → Option ℕ → ℕ → Object
-new_reference w n strength referent queue k = record {
-  no = n;
-  fields = nulls k;
-  reference = Some (record {
-    strength = strength;
-    referent = referent;
-    stamp = if is_soft strength then w.clock else 0;
-    queue = queue;
-  });
-}
-
--- the object in the slot is changed, if there is one
-abbrev pub changed_in : World → Option ℕ → (Object → Object) → World
-changed_in w None f = w
-changed_in w (Some n) f = with_changed w n f
-
--- the slot holds what was got, which renews the stamp of a soft reference
-abbrev pub got : World → ℕ → ℕ → ℕ → Option ℕ → World
-got w m d s None = with_slot w m d None
-got w m d s (Some n) =
-    with_slot (changed_in w (slot_at w m s) (with_reference (got_at w.clock))) m d (Some n)
-
--- the reference in the slot is cleared
-abbrev pub cut : World → ℕ → ℕ → World
-cut w m s = changed_in w (slot_at w m s) (with_reference cleared)
-
 -- a hand holds the notice, and there is one more hold of its reference
 abbrev pub minted : World → Actor → Notice → World
-minted w a notice = with_hand (record w { holds = w.holds ++ notice.object ∷ [] }) a (Some notice)
+minted w a notice = with_hand (with_heap w (with_hold w.heap notice.object)) a (Some notice)
 
 -- the hand is empty, and there is one hold fewer of what its notice reported
 abbrev pub spent : World → Actor → Option Notice → World
 spent w a None = w
-spent w a (Some notice) = with_hand (record w { holds = without_hold w.holds notice.object }) a None
+spent w a (Some notice) = with_hand (with_heap w (without_hold w.heap notice.object)) a None
 
 -- the hand's notice stands last in its queue
 abbrev pub put_in : World → Actor → Option Notice → World
 put_in w a None = w
 put_in w a (Some notice) =
-    with_queue (with_hand w a None) notice.queue
-    (let q = queue_at w notice.queue in record q { put_in = q.put_in ++ notice ∷ [] })
+    with_queue (with_hand w a None) notice.queue (with_parcel (queue_at w notice.queue) notice)
 
 -- the notice of n among these
 abbrev pub notice_of : List Notice → ℕ → Option Notice
 notice_of [] n = None
 notice_of (notice ∷ rest) n = if notice.object == n then Some notice else notice_of rest n
 
--- the hand holds the notice of n that was put in
+-- these without the notice of n
+abbrev pub without_notice : List Notice → ℕ → List Notice
+without_notice [] n = []
+without_notice (notice ∷ rest) n = if notice.object == n then rest else notice ∷ without_notice rest n
+
+-- the notice of n was taken from the queue
+abbrev pub taken_out : Lists Notice → ℕ → Lists Notice
+taken_out q n = record q { taken = q.taken ++ n ∷ []; stands = without_notice q.stands n }
+
+-- the hand holds the notice of n, which stood in the queue
 abbrev pub took : World → ℕ → ℕ → ℕ → World
 took w m q n =
-    with_hand (with_queue w q (let k = queue_at w q in record k { taken = k.taken + 1 })) (Mutator m)
-    (notice_of (queue_at w q).put_in n)
+    with_hand (with_queue w q (taken_out (queue_at w q) n)) (Mutator m) (notice_of (queue_at w q).stands n)
+
+-- the slot holds n, the hand is empty, and there is one hold fewer of what its notice reported
+abbrev pub adopted : World → ℕ → ℕ → Option Notice → ℕ → World
+adopted w m d hand n =
+    let after_spending = spent w (Mutator m) hand in
+    with_heap after_spending (with_slot after_spending.heap m d (Some n))
 
 -- the list without the first entry of n
 abbrev pub without_pending : List Pending → ℕ → List Pending
 without_pending [] n = []
 without_pending (p ∷ ps) n = if p.object == n then ps else p ∷ without_pending ps n
-
--- the reference of number n is registered with a queue
-abbrev pub registered_in : Option Reference → Option ℕ
-registered_in None = None
-registered_in (Some r) = r.queue
 
 -- a worker cleared n: it goes last in the worker's pending list if it is registered
 abbrev pub pended : World → ℕ → ℕ → Option ℕ → World
@@ -110,7 +81,8 @@ pended w k n (Some q) =
 
 -- a reference is cleared for its worker, and goes last in the worker's pending list if it is registered
 abbrev pub cleared_for : World → ℕ → ℕ → World
-cleared_for w k n = pended (with_changed w n (with_reference cleared)) k n (registered_in (reference_at w n))
+cleared_for w k n =
+    pended (with_heap w (with_changed w.heap n (with_reference cleared))) k n (registered_in (reference_at w.heap n))
 
 -- the notice is in the worker's hand, and no longer pending
 abbrev pub handed : World → ℕ → Notice → World
@@ -118,7 +90,8 @@ handed w k notice = minted (with_pending w k (without_pending (pending_of w k) n
 
 -- a cycle began: the clock, its urgency and its number
 abbrev pub begun : World → ℕ → Urgency → ℕ → World
-begun w now urgency n = record w { clock = now; urgency = urgency; cycle = n; phase = Marking }
+begun w now urgency n =
+    record w { heap = record w.heap { clock = now }; urgency = urgency; cycle = n; phase = Marking }
 
 abbrev pub with_phase : World → Phase → World
 with_phase w phase = record w { phase = phase }
@@ -130,23 +103,24 @@ closed_queue w q = with_queue w q (let k = queue_at w q in record k { closed = t
 
 -- the world after one more row
 abbrev pub after : World → Step → Reply → World
-after w (steps.New m d k) r = if_told (told_object r) (λ n. made w m d (plain_object n (nulls k))) w
+after w (steps.New m d k) r =
+    if_told (told_object r) (λ n. with_heap w (made w.heap m d (plain_object n (nulls k)))) w
 after w (steps.Refer m strength d s q k) r =
-    if_told (told_object r) (λ n. made w m d (new_reference w n strength (slot_at w m s) q k)) w
-after w (steps.Store m s i v) r =
-    if is_done r then changed_in w (slot_at w m s) (with_field i (slot_at w m v)) else w
-after w (steps.Load m d s i) r = if_told (told_value r) (λ value. with_slot w m d value) w
-after w (steps.Copy m d s) r = if_told (told_value r) (λ value. with_slot w m d value) w
-after w (steps.Drop m s) r = if is_done r then with_slot w m s None else w
-after w (steps.Get m d s) r = if_told (told_value r) (λ value. got w m d s value) w
-after w (steps.Clear m s) r = if is_done r then cut w m s else w
+    if_told (told_object r)
+    (λ n. with_heap w (made w.heap m d (new_reference w.heap n strength (slot_at w.heap m s) q k))) w
+after w (steps.Store m s i v) r = if is_done r then with_heap w (stored w.heap m s i v) else w
+after w (steps.Load m d s i) r = if_told (told_value r) (λ value. with_heap w (with_slot w.heap m d value)) w
+after w (steps.Copy m d s) r = if_told (told_value r) (λ value. with_heap w (with_slot w.heap m d value)) w
+after w (steps.Drop m s) r = if is_done r then with_heap w (with_slot w.heap m s None) else w
+after w (steps.Get m d s) r = if_told (told_value r) (λ value. with_heap w (got w.heap m d s value)) w
+after w (steps.Clear m s) r = if is_done r then with_heap w (cut w.heap m s) else w
 after w (steps.RefersTo m s v) r = w
 after w (steps.Unhook m s) r =
-    if is_nothing r then cut w m s else if_told (told_notice r) (λ notice. minted (cut w m s) (Mutator m) notice) w
+    let unhooked = with_heap w (cut w.heap m s) in
+    if is_nothing r then unhooked else if_told (told_notice r) (λ notice. minted unhooked (Mutator m) notice) w
 after w (steps.Put a) r = if is_added r then put_in w a (hand_of w a) else w
 after w (steps.Poll m q) r = if_told (told_taken r) (λ n. took w m q n) w
-after w (steps.Adopt m d) r =
-    if_told (told_object r) (λ n. with_slot (spent w (Mutator m) (hand_of w (Mutator m))) m d (Some n)) w
+after w (steps.Adopt m d) r = if_told (told_object r) (λ n. adopted w m d (hand_of w (Mutator m)) n) w
 after w (steps.Release a) r = if is_done r then spent w a (hand_of w a) else w
 after w (steps.Close m q) r = if is_done r then closed_queue w q else w
 after w (steps.Begin now urgency) r = if_told (told_cycle r) (λ n. begun w now urgency n) w

@@ -4,7 +4,7 @@ use Rattle.ref_base.specs.Worlds.{Notice}
 use Rattle.ref_base.specs.declared.reply.Reply.{Reply}
 use Rattle.ref_base.specs.declared.reply.Reply.TheVariants as replies
 
--- the object that it names
+-- the object of the answer `object n`
 abbrev pub told_object : Reply → Option ℕ
 told_object (replies.Object n) = Some n
 told_object r = None

@@ -11,7 +11,7 @@ ghost use Rattle.ref_base.specs.GraphAnswers.{AnswersObject, after_object, Answe
 ghost use Rattle.ref_base.specs.Graphs.{empty_graph, is_there, object_at, plain_object, reference_object};
 
 use crate::stored::{Fields, Link, Stored};
-use crate::{Fault, ObjNo, Strength};
+use crate::{Fault, MOST_FIELDS, ObjNo, Strength};
 use indexmap::IndexSet;
 use std::alloc::{Allocator, Global};
 use std::collections::BTreeMap;
@@ -81,7 +81,7 @@ impl<A: Allocator + Copy> Graph<A> {
         ensures after { graph_of self.new ≡ after_object (graph_of self.old)
             (record { no = no; fields = fields.now; reference = reference_of link }) result }
     {
-        if fields.len() > 8 {
+        if fields.len() > MOST_FIELDS {
             return Err(Fault::BadField);
         }
         // Gives the proof that the numbers rise.

@@ -4,6 +4,7 @@ ghost use Rattle.std.specs.Prelude.{◌≡◌, ℕ, false, List, ◌∷◌, ◌+
 ghost use Rattle.ref_base.specs.Graphs.{Graph};
 ghost use Rattle.ref_base.specs.KeptPaths.{Policy, is_normal, IsKept, EverKept};
 ghost use Rattle.ref_base.specs.LegalTraces.{IsLegal};
+ghost use Rattle.ref_base.specs.QueueRows.{KeepsQueue};
 ghost use Rattle.ref_base.specs.Strengths.{HasStrength};
 ghost use Rattle.ref_base.specs.declared.config.Config.{Config};
 ghost use Rattle.ref_base.specs.declared.reach.Reach.{Reach};
@@ -40,4 +41,10 @@ pub fn what_is_kept_was_ever_kept()
 /// The front of a legal trace is legal: what is answered later changes no answer before.
 pub fn the_front_of_a_legal_trace_is_legal()
     ensures { (config : Config) (front back : List Row) → IsLegal config (front ++ back) → IsLegal config front }
+{}
+
+/// In a legal trace, of each queue: what was taken, followed by what stands, is what was put in; nothing is put in
+/// twice; and nothing is put in after a close that was accepted.
+pub fn a_legal_trace_keeps_each_queue()
+    ensures { (config : Config) (rows : List Row) (q : ℕ) → IsLegal config rows → KeepsQueue q rows }
 {}

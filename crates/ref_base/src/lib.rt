@@ -1,5 +1,6 @@
-//! The plain data that every other crate speaks of: numbers, limits, faults, parcels, and the rows of a trace
-//! with their texts.
+//! What every other crate speaks of: numbers, limits, faults, parcels; the rows of a trace with their texts; object graphs
+//! and how strongly their objects are reachable. Its `specs` have the definitions of the whole model: what a cycle keeps
+//! and dooms, and which traces are legal.
 #![tactic(auto)]
 
 mod actor;
@@ -8,6 +9,7 @@ mod config;
 mod fault;
 mod graph;
 pub mod laws;
+mod limits;
 mod numbers;
 mod parcel;
 mod phase;
@@ -26,6 +28,7 @@ pub use cause::Cause;
 pub use config::Config;
 pub use fault::Fault;
 pub use graph::Graph;
+pub use limits::{MOST_FIELDS, SLOTS};
 pub use numbers::{MutNo, ObjNo, QueueNo, SlotNo, WorkerNo};
 pub use parcel::Parcel;
 pub use phase::Phase;

@@ -5,7 +5,7 @@ use Rattle.std.proofs.lemmas.List.{take_at, length-map}
 use Rattle.std.specs.List.{list_any}
 use Rattle.ref_base.specs.Members.{has}
 use Rattle.ref_base.proofs.HasLaws.{has-list_any}
-use Rattle.ref_queue.specs.QueueLists.{front, seen, IsSound}
+use Rattle.ref_queue.specs.QueueViews.{front, seen, IsSound}
 use Rattle.ref_queue.specs.QueueAnswers.{Polls}
 use Rattle.ref_queue.specs.declared.queue.Polled.TheVariants.{Took, Empty, Closed}
 

@@ -1,2 +1,2 @@
-pub mod QueueLists
+pub mod QueueViews
 pub mod QueueAnswers

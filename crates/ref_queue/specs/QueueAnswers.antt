@@ -6,7 +6,7 @@ use Rattle.ref_queue.specs.declared.queue.Put.{Put}
 use Rattle.ref_queue.specs.declared.queue.Put.TheVariants.{Added, Already, Closed}
 use Rattle.ref_queue.specs.declared.queue.Polled.{Polled}
 use Rattle.ref_queue.specs.declared.queue.Polled.TheVariants.{Took, Empty, Closed as Ended}
-use Rattle.ref_queue.specs.QueueLists.{Lists, enqueued, was_put, with_parcel, with_taken}
+use Rattle.ref_base.specs.QueueLists.{Lists, enqueued, was_put, with_parcel, with_taken}
 
 module _ {T : Type 0} (object_of queue_of : T → ℕ) (q : Lists T) (x : T) where
   -- x is for this queue

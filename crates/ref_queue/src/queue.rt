@@ -43,7 +43,8 @@ pub struct Queue<T: Parcel, A: Allocator = Global> {
 }
 
 impl<T: Parcel, A: Allocator> Model for Queue<T, A> {
-    ghost use Rattle.ref_queue.specs.QueueLists.{Lists, lists_code, seen, IsSound};
+    ghost use Rattle.ref_base.specs.QueueLists.{Lists};
+    ghost use Rattle.ref_queue.specs.QueueViews.{lists_code, seen, IsSound};
 
     ghost Value = { Lists T };
 
@@ -56,7 +57,7 @@ impl<T: Parcel, A: Allocator> Model for Queue<T, A> {
 
 impl<T: Parcel, A: Allocator + Copy> Queue<T, A> {
     ghost use Rattle.std.specs.List.{IsDistinct};
-    ghost use Rattle.ref_queue.specs.QueueLists.{enqueued};
+    ghost use Rattle.ref_base.specs.QueueLists.{enqueued};
     ghost use Rattle.ref_queue.specs.QueueAnswers.{AnswersPut, after_put, IfTook, Polls};
 
     /// The queue of this number, open, with nothing ever put in. Takes no memory.

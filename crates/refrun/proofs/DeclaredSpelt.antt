@@ -8,7 +8,8 @@ use Rattle.ref_base.specs.declared.strength.Strength.TheVariants.{Soft, Weak, Ph
 use Rattle.refrun.specs.DeclarationFaults.{words_fault, declaration_fault}
 use Rattle.refrun.specs.DeclarationFaults.{number_in, are_operands}
 use Rattle.refrun.specs.Declarations.{Declared, Root, Plain, Reference, SpellsDeclared}
-use Rattle.refrun.specs.Declarations.{strength_name, declared_no}
+use Rattle.ref_base.specs.Steps.{strength_name}
+use Rattle.refrun.specs.Declarations.{declared_no}
 use Rattle.refrun.specs.Numerals.{number_below}
 use Rattle.refrun.proofs.Fields.{object_fits, object_or_none_fits, fields_fit, fields_length}
 

@@ -4,7 +4,8 @@ use Rattle.ref_base.specs.Graphs.{Graph}
 use Rattle.ref_base.specs.declared.strength.Strength.{Strength}
 use Rattle.ref_base.specs.declared.strength.Strength.TheVariants.{Soft, Weak, Phantom}
 use Rattle.refrun.specs.Declarations.{Declared, Root, Plain, Reference, SpellsObject, SpellsObjectOrNone, SpellFields}
-use Rattle.refrun.specs.Declarations.{SpellsDeclared, strength_name, declared_graph}
+use Rattle.ref_base.specs.Steps.{strength_name}
+use Rattle.refrun.specs.Declarations.{SpellsDeclared, declared_graph}
 use Rattle.refrun.specs.GraphTexts.{SpellAll, SpellGraph, DeclaresGraph}
 use Rattle.refrun.specs.Lines.{lines_of}
 use Rattle.refrun.specs.Numerals.{number_below}

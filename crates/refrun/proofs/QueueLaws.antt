@@ -1,13 +1,11 @@
 -- What one row does to each queue and each hand: what the row says that it does.
-use Rattle.std.proofs.Common.{◌≡◌, ℕ, zero, suc, ◌-◌, ◌<◌, Bool, true, false, ◌||◌, if◌then◌else◌, ◌==◌}
-use Rattle.std.proofs.Common.{List, [], ◌∷◌, ◌++◌, length, map, Option, Some, None, ◌⊎◌, inl, inr}
-use Rattle.std.proofs.Common.{refl, sym, ap, ◌∙◌, subst, append_assoc, arith}
-use Rattle.std.specs.Prelude.{nat_eq, slice_index_or, slice_set}
-use Rattle.std.specs.List.{AllByRecursion, IsDistinct}
-use Rattle.std.specs.Cmp.{nat_eq_equiv}
-use Rattle.std.proofs.lemmas.Bool.{cases_Bool, cases_eq, ltb-true, eq-eqb, ne_eqb, and_parts, both_ways}
-use Rattle.std.proofs.lemmas.List.{append-nil, map-append, length-set, get_or-set_same, get_or-set_other}
-use Rattle.std.proofs.lemmas.Map.Keys.{IsDistinct-push}
+use Rattle.std.proofs.Common.{◌≡◌, ℕ, ◌-◌, ◌<◌, Bool, true, false, ◌||◌, if◌then◌else◌, ◌==◌}
+use Rattle.std.proofs.Common.{List, [], ◌∷◌, length, Option, Some, None, ◌⊎◌, inl, inr}
+use Rattle.std.proofs.Common.{refl, sym, ap, ◌∙◌, subst, arith}
+use Rattle.std.specs.Prelude.{slice_index_or, slice_set}
+use Rattle.std.specs.List.{AllByRecursion}
+use Rattle.std.proofs.lemmas.Bool.{cases_Bool, ltb-true, eq-eqb, ne_eqb, and_parts}
+use Rattle.std.proofs.lemmas.List.{length-set}
 use Rattle.ref_base.specs.declared.fault.Fault.{Fault}
 use Rattle.ref_base.specs.declared.fault.Fault.TheVariants.{NoMemory}
 use Rattle.refrun.specs.declared.rows.Step.{Step}
@@ -16,95 +14,16 @@ use Rattle.refrun.specs.declared.rows.Reply.{Reply}
 use Rattle.refrun.specs.declared.rows.Reply.TheVariants as replies
 use Rattle.refrun.specs.declared.rows.Row.{Row}
 use Rattle.refrun.specs.QueueRows.{Held, Hands, with_held, held_after, put_by, taken_by, closed_by}
-use Rattle.ref_base.proofs.HasLaws.{has-list_any}
-use Rattle.ref_queue.specs.QueueLists.{Lists, enqueued, was_put, with_parcel, with_taken}
-use Rattle.refrun.specs.Tables.{State, new_queue, object_of, slot_at, hand_at, object_at, queue_at}
+use Rattle.ref_base.proofs.Places.{set_at, push_at, all_push}
+use Rattle.ref_base.proofs.QueueMoves.{QueueMoves, moves_nothing, moves_added, moves_took, moves_closed}
+use Rattle.ref_base.specs.QueueLists.{Lists, new_queue, was_put, with_parcel, with_taken}
+use Rattle.refrun.specs.Tables.{State, object_of, slot_at, hand_at, object_at, queue_at}
 use Rattle.refrun.specs.Tables.{with_object, with_hand, with_queue, IsAnswer, IsRow}
 use Rattle.refrun.specs.Tables.{unless, is_mutator, is_queue, is_queue_or_none, unless_empty, refusal}
 use Rattle.refrun.specs.Tables.{Outcome, leads, unhook_outcome, unhook_slot, put_hand, poll_outcome, outcome}
 use Rattle.refrun.specs.declared.table.Object.{Object}
 use Rattle.refrun.specs.declared.table.Object.TheVariants.{Plain, Reference}
 use Rattle.refrun.specs.declared.table.Notice.{Notice}
-
--- ---- one queue
-
--- how a queue's lists change where this is put in and that taken, and where it is closed or not
-pub record QueueMoves (old new : Lists Notice) (ins outs : List ℕ) (closes : Bool) : Type 0 where
-  pub put : enqueued object_of new ≡ enqueued object_of old ++ ins
-  pub taken : new.taken ≡ old.taken ++ outs
-  pub closed : new.closed ≡ (old.closed || closes)
-  pub distinct : IsDistinct nat_eq (enqueued object_of old) → IsDistinct nat_eq (enqueued object_of new)
-  pub shut : old.closed ≡ true → ins ≡ []
-
-or_false : (b : Bool) → b ≡ (b || false)
-or_false true = refl
-or_false false = refl
-
-or_or : (b c d : Bool) → ((b || c) || d) ≡ (b || (c || d))
-or_or true c d = refl
-or_or false c d = refl
-
-pub moves_nothing : (lists : Lists Notice) → QueueMoves lists lists [] [] false
-moves_nothing lists = record {
-  put = sym (append-nil (enqueued object_of lists));
-  taken = sym (append-nil lists.taken);
-  closed = or_false lists.closed;
-  distinct = λ d. d;
-  shut = λ _. refl;
-}
-
--- one change after another
-pub moves_more : (old mid new : Lists Notice) (ins more_ins outs more_outs : List ℕ) (closes closes_later : Bool)
-    → QueueMoves old mid ins outs closes → QueueMoves mid new more_ins more_outs closes_later
-    → QueueMoves old new (ins ++ more_ins) (outs ++ more_outs) (closes || closes_later)
-moves_more old mid new ins more_ins outs more_outs closes closes_later first later = record {
-  put = later.put ∙ ap (λ ns. ns ++ more_ins) first.put ∙ append_assoc (enqueued object_of old) ins more_ins;
-  taken = later.taken ∙ ap (λ ns. ns ++ more_outs) first.taken ∙ append_assoc old.taken outs more_outs;
-  closed = later.closed ∙ ap (λ c. c || closes_later) first.closed ∙ or_or old.closed closes closes_later;
-  distinct = λ d. later.distinct (first.distinct d);
-  shut = λ is. ap (λ ns. ns ++ more_ins) (first.shut is) ∙ later.shut (first.closed ∙ ap (λ c. c || closes) is);
-}
-
-moves_added : (lists : Lists Notice) (notice : Notice) → was_put object_of lists notice ≡ false → lists.closed ≡ false
-    → QueueMoves lists (with_parcel lists notice) (notice.object ∷ []) [] false
-moves_added lists notice fresh open_yet =
-    let all : List ℕ = enqueued object_of lists in
-    let longer : enqueued object_of (with_parcel lists notice) ≡ all ++ notice.object ∷ [] =
-    ap (λ ns. lists.taken ++ ns) (map-append object_of lists.stands (notice ∷ []))
-    ∙ sym (append_assoc lists.taken (map object_of lists.stands) (notice.object ∷ [])) in
-    record {
-      put = longer;
-      taken = sym (append-nil lists.taken);
-      closed = or_false lists.closed;
-      distinct = λ d.
-          rw longer (IsDistinct-push nat_eq_equiv all notice.object d (sym (has-list_any all notice.object) ∙ fresh));
-      shut = λ is. absurd (both_ways lists.closed open_yet is);
-    }
-
-moves_took : (lists : Lists Notice) (notice : Notice) (rest : List Notice) → lists.stands ≡ notice ∷ rest
-    → QueueMoves lists (with_taken object_of lists notice rest) [] (notice.object ∷ []) false
-moves_took lists notice rest first =
-    let same : enqueued object_of (with_taken object_of lists notice rest) ≡ enqueued object_of lists =
-    append_assoc lists.taken (notice.object ∷ []) (map object_of rest)
-    ∙ ap (λ xs. lists.taken ++ map object_of xs) (sym first) in
-    record {
-      put = same ∙ sym (append-nil (enqueued object_of lists));
-      taken = refl;
-      closed = or_false lists.closed;
-      distinct = λ d. rw same d;
-      shut = λ _. refl;
-    }
-
--- a queue may be closed again, and then nothing changes
-moves_closed : (lists : Lists Notice) (closes : Bool) → true ≡ (lists.closed || closes)
-    → QueueMoves lists (record lists { closed = true }) [] [] closes
-moves_closed lists closes is = record {
-  put = sym (append-nil (enqueued object_of lists));
-  taken = sym (append-nil lists.taken);
-  closed = is;
-  distinct = λ d. d;
-  shut = λ _. refl;
-}
 
 -- ---- sound states
 
@@ -126,29 +45,6 @@ pub record IsSoundState (s : State) : Type 0 where
   pub objects_below : (k : ℕ) → ObjectBelow s.config.queues (slice_index_or s.objects k Plain)
   pub hands_below : (m : ℕ) → NoticeBelow s.config.queues (hand_at s m)
   pub own : (q : ℕ) → AllByRecursion (λ (x : Notice). x.queue ≡ q) (queue_at s q).stands
-
--- what holds of the place that is set, and of each other one before, holds of each place after
-set_at : {X : Type 0} (P : ℕ → X → Type 0) (xs : List X) (m : ℕ) (x : X) (d : ℕ → X) → m < length xs → P m x
-    → ((k : ℕ) → (k ≡ m → ⊥) → P k (slice_index_or xs k (d k)))
-    → (k : ℕ) → P k (slice_index_or (slice_set xs m x) k (d k))
-set_at P xs m x d within here others k =
-    elim (cases_eq k m) [
-      | inl is ↦ subst (λ j. P j (slice_index_or (slice_set xs m x) j (d j))) (sym is)
-          (subst (P m) (sym (get_or-set_same xs m x (d m) within)) here)
-      | inr isnt ↦ subst (P k) (sym (get_or-set_other xs m k x (d k) isnt)) (others k isnt)
-    ]
-
-push_at : {X : Type 0} (P : X → Type 0) (xs : List X) (x d : X) → P x → ((k : ℕ) → P (slice_index_or xs k d))
-    → (k : ℕ) → P (slice_index_or (xs ++ x ∷ []) k d)
-push_at P [] x d here others zero = here
-push_at P [] x d here others (suc k) = others k
-push_at P (y ∷ ys) x d here others zero = others zero
-push_at P (y ∷ ys) x d here others (suc k) = push_at P ys x d here (λ j. others (suc j)) k
-
-all_push : {X : Type 0} (P : X → Type 0) (xs : List X) (x : X) → AllByRecursion P xs → P x
-    → AllByRecursion P (xs ++ x ∷ [])
-all_push P [] x all here = (here, tt)
-all_push P (y ∷ ys) x all here = (all.0, all_push P ys x all.1 here)
 
 sound_object : (a : State) (m n : ℕ) (object : Object) → IsSoundState a → ObjectBelow a.config.queues object
     → IsSoundState (with_object a m n object)
@@ -197,7 +93,7 @@ held_of s m = as_held (hand_at s m)
 pub record Goes (a : State) (step : Step) (done : Outcome) : Type 0 where
   pub sound : IsSoundState done.state
   pub held : (m : ℕ) → held_of done.state m ≡ held_after (held_of a) step done.reply m
-  pub queue : (q : ℕ) → QueueMoves (queue_at a q) (queue_at done.state q)
+  pub queue : (q : ℕ) → QueueMoves object_of (queue_at a q) (queue_at done.state q)
       (put_by (held_of a) q step done.reply) (taken_by q step done.reply) (closed_by q step done.reply)
 
 goes_if : (a : State) (step : Step) (test : Bool) (x y : Outcome) → (test ≡ true → Goes a step x)
@@ -226,8 +122,8 @@ stays a b step reply still hands queues sound = record {
   held = λ m. ap (λ (hs : List (Option Notice)). as_held (slice_index_or hs m None)) hands
       ∙ ap (λ (c : Change). c.0 m) (sym (still (held_of a) 0));
   queue = λ q. rw queues
-      (subst (λ (c : Change). QueueMoves (queue_at a q) (queue_at a q) c.1 c.2 c.3)
-      (sym (still (held_of a) q)) (moves_nothing (queue_at a q)));
+      (subst (λ (c : Change). QueueMoves object_of (queue_at a q) (queue_at a q) c.1 c.2 c.3)
+      (sym (still (held_of a) q)) (moves_nothing object_of (queue_at a q)));
 }
 
 stands_still : (a : State) (step : Step) (reply : Reply) → IsStill step reply → IsSoundState a
@@ -243,12 +139,12 @@ hand_set hands m hand within =
 
 -- what a change of queue q does to each queue
 queue_set : (a : State) (q : ℕ) (new : Lists Notice) (ins outs : ℕ → List ℕ) (closes : ℕ → Bool) → q < length a.queues
-    → QueueMoves (queue_at a q) new (ins q) (outs q) (closes q)
-    → ((k : ℕ) → (q == k) ≡ false → QueueMoves (queue_at a k) (queue_at a k) (ins k) (outs k) (closes k))
-    → (k : ℕ) → QueueMoves (queue_at a k) (slice_index_or (slice_set a.queues q new) k (new_queue k))
+    → QueueMoves object_of (queue_at a q) new (ins q) (outs q) (closes q)
+    → ((k : ℕ) → (q == k) ≡ false → QueueMoves object_of (queue_at a k) (queue_at a k) (ins k) (outs k) (closes k))
+    → (k : ℕ) → QueueMoves object_of (queue_at a k) (slice_index_or (slice_set a.queues q new) k (new_queue k))
     (ins k) (outs k) (closes k)
 queue_set a q new ins outs closes within here others =
-    set_at (λ k l. QueueMoves (queue_at a k) l (ins k) (outs k) (closes k)) a.queues q new new_queue within here
+    set_at (λ k l. QueueMoves object_of (queue_at a k) l (ins k) (outs k) (closes k)) a.queues q new new_queue within here
     (λ k isnt. others k (ne_eqb q k (λ is. isnt (sym is))))
 
 object_goes : (a : State) (step : Step) (m n number : ℕ) (object : Object) → IsStill step (replies.Object number)
@@ -266,7 +162,7 @@ unhook_object a m n k (Reference None) sound within below =
 unhook_object a m n k (Reference (Some q)) sound within below = record {
   sound = sound_hand a m _ sound within below;
   held = hand_set a.hands m _ within;
-  queue = λ j. moves_nothing (queue_at a j);
+  queue = λ j. moves_nothing object_of (queue_at a j);
 }
 
 unhook_goes : (a : State) (m n : ℕ) (held : Option ℕ) → IsSoundState a → m < length a.hands
@@ -289,8 +185,8 @@ put_added a m position notice lists sound within hand below is fresh open_yet =
       held = hand_set a.hands m None within;
       queue = λ k. rw hand (queue_set a q new
           (λ j. if q == j then notice.object ∷ [] else []) (λ _. []) (λ _. false) below
-          (rw (eq-eqb q q refl, ← is) (moves_added lists notice fresh open_yet))
-          (λ j isnt. rw isnt (moves_nothing (queue_at a j))) k);
+          (rw (eq-eqb q q refl, ← is) (moves_added object_of lists notice fresh open_yet))
+          (λ j isnt. rw isnt (moves_nothing object_of (queue_at a j))) k);
     }
 
 put_goes : (a : State) (m : ℕ) (hand : Option Notice) → IsSoundState a → m < length a.hands → hand_at a m ≡ hand
@@ -308,7 +204,7 @@ release_goes : (a : State) (m : ℕ) → IsSoundState a → m < length a.hands �
 release_goes a m sound within = record {
   sound = sound_hand a m None sound within tt;
   held = hand_set a.hands m None within;
-  queue = λ k. moves_nothing (queue_at a k);
+  queue = λ k. moves_nothing object_of (queue_at a k);
 }
 
 poll_goes : (a : State) (m q : ℕ) (stands : List Notice) → IsSoundState a → m < length a.hands → q < length a.queues
@@ -328,8 +224,8 @@ poll_goes a m q (notice ∷ rest) sound within below first =
       held = λ k. hand_set a.hands m (Some notice) within k
           ∙ ap (λ j. with_held (held_of a) m (Some (record { object = notice.object; queue = j })) k) all.0;
       queue = queue_set a q new (λ _. []) (λ j. if q == j then notice.object ∷ [] else []) (λ _. false) below
-          (rw (eq-eqb q q refl) (moves_took (queue_at a q) notice rest first))
-          (λ j isnt. rw isnt (moves_nothing (queue_at a j)));
+          (rw (eq-eqb q q refl) (moves_took object_of (queue_at a q) notice rest first))
+          (λ j isnt. rw isnt (moves_nothing object_of (queue_at a j)));
     }
 
 close_with : (a : State) (m q : ℕ) (reply : Reply) → IsSoundState a → q < length a.queues
@@ -342,7 +238,7 @@ close_with a m q reply sound below here others =
       sound = sound_queue a q new sound below (sound.own q);
       held = λ k. refl;
       queue = queue_set a q new (λ _. []) (λ _. []) (λ k. closed_by k (Close m q) reply) below
-          (moves_closed (queue_at a q) _ here) (λ k isnt. rw (others k isnt) (moves_nothing (queue_at a k)));
+          (moves_closed object_of (queue_at a q) _ here) (λ k isnt. rw (others k isnt) (moves_nothing object_of (queue_at a k)));
     }
 
 close_goes : (a : State) (m q : ℕ) → IsSoundState a → q < length a.queues → Goes a (Close m q) (outcome a (Close m q))

@@ -1,5 +1,5 @@
 -- What a run does: the lists of each queue are those that its rows say.
-use Rattle.std.proofs.Common.{◌≡◌, ℕ, zero, suc, ◌+◌, true, false, List, [], ◌∷◌, ◌++◌, length, map, Option, None}
+use Rattle.std.proofs.Common.{◌≡◌, ℕ, zero, suc, true, false, List, [], ◌∷◌, ◌++◌, map, Option, None}
 use Rattle.std.proofs.Common.{refl, sym, ap, ◌∙◌, subst, arith}
 use Rattle.std.specs.Prelude.{nat_eq, slice_index_or, replicate}
 use Rattle.std.specs.List.{IsDistinct}
@@ -8,10 +8,11 @@ use Rattle.ref_base.specs.declared.config.Config.{Config}
 use Rattle.refrun.specs.declared.rows.Row.{Row}
 use Rattle.refrun.specs.QueueRows.{Hands, empty_hands, held_after, put_from, put_into, taken_from, was_closed}
 use Rattle.refrun.specs.QueueRows.{KeepsQueue}
-use Rattle.ref_queue.specs.QueueLists.{Lists, enqueued}
-use Rattle.refrun.specs.Tables.{State, new_queue, new_queues, first_state, object_of, queue_at, IsRow, IsRun}
+use Rattle.ref_base.specs.QueueLists.{Lists, new_queue, enqueued}
+use Rattle.ref_base.proofs.QueueMoves.{QueueMoves, moves_nothing, moves_more, length-new_queues, new_queues_at}
+use Rattle.refrun.specs.Tables.{State, first_state, object_of, queue_at, IsRow, IsRun}
 use Rattle.refrun.specs.declared.table.Notice.{Notice}
-use Rattle.refrun.proofs.QueueLaws.{QueueMoves, moves_nothing, moves_more, NoticeBelow, IsSoundState}
+use Rattle.refrun.proofs.QueueLaws.{NoticeBelow, IsSoundState}
 use Rattle.refrun.proofs.QueueLaws.{as_held, held_of, row_goes}
 
 -- one row more, at the end
@@ -38,33 +39,23 @@ run_sound a (row ∷ rows) b sound run =
 
 -- a queue changes as the rows say, where the hands at first hold what they do
 abbrev pub MovesBy : Lists Notice → Lists Notice → ℕ → Hands → List Row → Type 0
-MovesBy old new q hands rows = QueueMoves old new (put_from hands q rows) (taken_from q rows) (was_closed q rows)
+MovesBy old new q hands rows = QueueMoves object_of old new (put_from hands q rows) (taken_from q rows) (was_closed q rows)
 
 pub run_moves : (a : State) (rows : List Row) (b : State) → IsSoundState a → IsRun a rows b
     → (q : ℕ) → MovesBy (queue_at a q) (queue_at b q) q (held_of a) rows
 run_moves a [] b sound run q =
-    subst (λ (s : State). QueueMoves (queue_at a q) (queue_at s q) [] [] false) (sym run) (moves_nothing (queue_at a q))
+    subst (λ (s : State). QueueMoves object_of (queue_at a q) (queue_at s q) [] [] false) (sym run) (moves_nothing object_of (queue_at a q))
 run_moves a (row ∷ rows) b sound run q =
     let mid : State = run.0 in
     let goes = row_goes a row mid sound run.1 in
     let hands : held_of mid ≡ held_after (held_of a) row.step row.reply = λ i m. goes.held m i in
-    moves_more (queue_at a q) (queue_at mid q) (queue_at b q) _ _ _ _ _ _ (goes.queue q)
+    moves_more object_of (queue_at a q) (queue_at mid q) (queue_at b q) _ _ _ _ _ _ (goes.queue q)
     (subst (λ hs. MovesBy (queue_at mid q) (queue_at b q) q hs rows) hands (run_moves mid rows b goes.sound run.2 q))
 
 -- ---- from the first state
 
-length-new_queues : (first count : ℕ) → length (new_queues first count) ≡ count
-length-new_queues first zero = refl
-length-new_queues first (suc count) = ap suc (length-new_queues (first + 1) count)
-
-new_queues_at : (first count k q : ℕ) → first + k ≡ q
-    → slice_index_or (new_queues first count) k (new_queue q) ≡ new_queue q
-new_queues_at first zero k q is = refl
-new_queues_at first (suc count) zero q is = ap new_queue (omega arith)
-new_queues_at first (suc count) (suc k) q is = new_queues_at (first + 1) count k q (omega arith)
-
 first_queue : (config : Config) (q : ℕ) → queue_at (first_state config) q ≡ new_queue q
-first_queue config q = new_queues_at 0 config.queues q q (omega arith)
+first_queue config q = new_queues_at Notice 0 config.queues q q (omega arith)
 
 abbrev pub no_notice : Option Notice
 no_notice = None
@@ -77,7 +68,7 @@ no_notice_at (suc count) (suc m) = no_notice_at count m
 pub first_sound : (config : Config) → IsSoundState (first_state config)
 first_sound config = record {
   hands = length-replicate config.mutators None;
-  queues = length-new_queues 0 config.queues;
+  queues = length-new_queues Notice 0 config.queues;
   objects_below = λ k. tt;
   hands_below = λ m. subst (NoticeBelow config.queues) (sym (no_notice_at config.mutators m)) tt;
   own = λ q. rw (first_queue config q) tt;

@@ -2,7 +2,7 @@
 use Rattle.std.proofs.Common.{◌≡◌, ℕ, refl, ap, ◌∙◌}
 use Rattle.std.proofs.Common.{None, get_or}
 use Rattle.std.proofs.Common.{Bool, true, false, if◌then◌else◌, not, inl}
-use Rattle.ref_queue.specs.QueueLists.{Lists}
+use Rattle.ref_base.specs.QueueLists.{Lists}
 use Rattle.refrun.specs.Tables.{State, queue_at, hand_at, with_queue, is_mutator, is_queue, IsRow, Outcome, leads, poll_outcome}
 use Rattle.refrun.specs.declared.rows.Step.TheVariants as steps
 use Rattle.refrun.specs.declared.rows.Reply.{Reply}

@@ -1,11 +1,12 @@
 -- A table's parts stay sound.
-use Rattle.std.proofs.Common.{◌≡◌, ℕ, zero, suc, ◌+◌, ◌*◌, ◌<◌, ◌≤◌, refl, ap, ◌∙◌, arith}
+use Rattle.std.proofs.Common.{◌≡◌, ℕ, zero, suc, ◌+◌, ◌*◌, ◌<◌, ◌≤◌, ◌∙◌, arith}
 use Rattle.std.proofs.Common.{Option, Some, None, List, [], ◌∷◌, ◌++◌, length, get_or, set, replicate}
 use Rattle.std.proofs.lemmas.List.{length-set, length-replicate}
 use Rattle.std.proofs.Common.{length-append, ◌-◌}
-use Rattle.ref_queue.specs.QueueLists.{Lists}
+use Rattle.ref_base.specs.QueueLists.{Lists, new_queue, new_queues}
+use Rattle.ref_base.proofs.QueueMoves.{length-new_queues}
 use Rattle.ref_base.specs.declared.config.Config.{Config}
-use Rattle.refrun.specs.Tables.{State, first_state, new_queue, new_queues, with_hand, with_queue, with_object}
+use Rattle.refrun.specs.Tables.{State, first_state, with_hand, with_queue, with_object}
 use Rattle.refrun.specs.SoundTables.{IsSound, IsHanded, IsHeld, IsRegistered}
 use Rattle.refrun.specs.declared.table.Object.{Object}
 use Rattle.refrun.specs.declared.table.Object.TheVariants.{Plain}
@@ -133,16 +134,12 @@ new_numbered first (suc count) (suc k) d same =
     let later = new_numbered (first + 1) count k d (omega (arith, same)) in
     omega (arith, later)
 
-length-new_queues : (first count : ℕ) → length (new_queues first count) ≡ count
-length-new_queues first zero = refl
-length-new_queues first (suc count) = ap suc (length-new_queues (first + 1) count)
-
 -- at first a table is sound
 sound_first : (config : Config) (capacity : ℕ) → config.cells ≤ capacity → IsSound (first_state config) capacity
 sound_first config capacity room = record {
   slot_count = length-replicate (16 * config.mutators) None;
   hand_count = length-replicate config.mutators None;
-  queue_count = length-new_queues 0 config.queues;
+  queue_count = length-new_queues Notice 0 config.queues;
   object_count = omega arith;
   room = room;
   held = each_replicate (IsHeld 0) (16 * config.mutators) None tt;

@@ -4,14 +4,14 @@ use Rattle.std.proofs.Common.{Option, Some, None, [], ◌∷◌, ◌++◌, lengt
 use Rattle.std.proofs.lemmas.List.{get_or_read}
 use Rattle.std.proofs.Common.{true, false, ◌&&◌, is_some}
 use Rattle.std.proofs.lemmas.Grind.{common_steps}
-use Rattle.ref_queue.specs.QueueLists.{Lists}
-use Rattle.refrun.specs.Tables.{State, new_queue, new_queues, queue_at, hand_at, is_mutator, is_slot, is_queue}
+use Rattle.ref_base.specs.QueueLists.{Lists, new_queue, new_queues}
+use Rattle.refrun.specs.Tables.{State, queue_at, hand_at, is_mutator, is_slot, is_queue}
 use Rattle.refrun.specs.SoundTables.{IsSound}
 use Rattle.refrun.specs.declared.table.Notice.{Notice}
 
 -- one queue more stands last
 pub new_queues_more : (first count next : ℕ) → next ≡ first + count
-    → new_queues first (count + 1) ≡ new_queues first count ++ new_queue next ∷ []
+    → new_queues {T = Notice} first (count + 1) ≡ new_queues first count ++ new_queue next ∷ []
 new_queues_more first zero next is = ap (λ q. new_queue q ∷ []) (omega (arith, is))
 new_queues_more first (suc count) next is =
     let later = new_queues_more (first + 1) count next (omega (arith, is)) in

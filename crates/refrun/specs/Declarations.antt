@@ -4,7 +4,7 @@ use Rattle.std.specs.Prelude.{◌≡◌, ℕ, ◌^◌, ◌≤◌, Bool, false, L
 use Rattle.ref_base.specs.Members.{has}
 use Rattle.ref_base.specs.Graphs.{Graph, empty_graph, with_object, with_root, plain_object, reference_object}
 use Rattle.ref_base.specs.declared.strength.Strength.{Strength}
-use Rattle.ref_base.specs.declared.strength.Strength.TheVariants.{Soft, Weak, Phantom}
+use Rattle.ref_base.specs.Steps.{strength_name}
 use Rattle.refrun.specs.Numerals.{number_below}
 
 -- what a line says: a root; a plain object, by its number and fields; or a reference, by its number, its strength, its
@@ -15,12 +15,6 @@ pub data Declared : Type 0 where
   Reference : ℕ → Strength → Option ℕ → List (Option ℕ) → Declared
 
 -- ---- the words
-
--- the word that a line begins with which declares a reference
-abbrev pub strength_name : Strength → List ℕ
-strength_name Soft = codes "soft"
-strength_name Weak = codes "weak"
-strength_name Phantom = codes "phantom"
 
 -- a word spells an object's number, with any leading zeros
 abbrev pub SpellsObject : List ℕ → ℕ → Type 0

@@ -1,6 +1,6 @@
 -- The private table that runs a script: its plain data, what each step is refused, what it answers, and what it leaves
 -- (this project's profile: refusals, their order and the limits are those of the heap and the queues).
-use Rattle.std.specs.Prelude.{◌≡◌, ℕ, zero, suc, ◌+◌, ◌-◌, ◌*◌, Bool, true, false, ◌&&◌, if◌then◌else◌, nat_lt}
+use Rattle.std.specs.Prelude.{◌≡◌, ℕ, ◌+◌, ◌-◌, ◌*◌, Bool, true, false, ◌&&◌, if◌then◌else◌, nat_lt}
 use Rattle.std.specs.Prelude.{nat_le, List, [], ◌∷◌, ◌++◌, length, slice_index_or, slice_set, replicate, Option, Some}
 use Rattle.std.specs.Prelude.{None, ◌⊎◌}
 use Rattle.ref_base.specs.declared.config.Config.{Config}
@@ -12,7 +12,7 @@ use Rattle.refrun.specs.declared.rows.Step.TheVariants.{New, Weak, Unhook, Put, 
 use Rattle.refrun.specs.declared.rows.Reply.{Reply}
 use Rattle.refrun.specs.declared.rows.Reply.TheVariants as replies
 use Rattle.refrun.specs.declared.rows.Row.{Row}
-use Rattle.ref_queue.specs.QueueLists.{Lists, enqueued, was_put, with_parcel, with_taken}
+use Rattle.ref_base.specs.QueueLists.{Lists, new_queue, new_queues, enqueued, was_put, with_parcel, with_taken}
 use Rattle.refrun.specs.declared.table.Object.{Object}
 use Rattle.refrun.specs.declared.table.Object.TheVariants.{Plain, Reference}
 use Rattle.refrun.specs.declared.table.Notice.{Notice}
@@ -26,14 +26,6 @@ pub record State : Type 0 where
   pub queues : List (Lists Notice)
 
 -- ---- what is read
-
--- a queue of a number that was never used
-abbrev pub new_queue : ℕ → Lists Notice
-new_queue q = record { queue = q; taken = []; stands = []; closed = false }
-
-abbrev pub new_queues : ℕ → ℕ → List (Lists Notice)
-new_queues first zero = []
-new_queues first (suc count) = new_queue first ∷ new_queues (first + 1) count
 
 -- at first there is no object, each slot and each hand is empty, and nothing was ever put into a queue
 abbrev pub first_state : Config → State

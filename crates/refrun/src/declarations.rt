@@ -4,7 +4,7 @@ ghost use Rattle.std.specs.Prelude.{◌≡◌, ◌∷◌, ◌+◌, ◌≤◌, []
 ghost use Rattle.std.specs.Prelude.{codes};
 ghost use Rattle.std.specs.List.{list_all};
 ghost use Rattle.refrun.specs.Declarations.{SpellsObject, SpellsObjectOrNone, SpellFields, SpellsDeclared};
-ghost use Rattle.refrun.specs.Declarations.{strength_name};
+ghost use Rattle.ref_base.specs.Steps.{strength_name};
 ghost use Rattle.refrun.specs.DeclarationFaults.{is_object, is_object_or_none, words_fault, declaration_fault};
 ghost use Rattle.refrun.specs.DeclarationViews.{declared_by, FailsBy, ReadsFields, IsBadField};
 ghost use Rattle.refrun.specs.Lines.{words_of};
@@ -13,11 +13,8 @@ use crate::fault::LineFault;
 use crate::lines::next_word;
 use crate::numerals::short_number;
 use crate::operands::{ends, operand};
-use ref_base::{ObjNo, Strength};
+use ref_base::{MOST_FIELDS, ObjNo, Strength};
 use std::alloc::{AllocFailed, Allocator};
-
-/// The most fields that an object may have.
-const MOST_FIELDS: usize = 8;
 
 /// What a line of a graph text says.
 #[derive(Drop)]

@@ -3,7 +3,8 @@
 ghost use Rattle.std.specs.Prelude.{◌≡◌, ◌+◌, ◌*◌, ◌<◌, ◌&&◌, ℕ, true, false, length, replicate, is_some};
 ghost use Rattle.std.specs.Prelude.{IfOk, OnOk, MatchResult};
 ghost use Rattle.ref_base.specs.Limits.{is_within_limits};
-ghost use Rattle.refrun.specs.Tables.{State, IsRow, IsOutcome, leads, first_state, new_queues};
+ghost use Rattle.refrun.specs.Tables.{State, IsRow, IsOutcome, leads, first_state};
+ghost use Rattle.ref_base.specs.QueueLists.{new_queues};
 ghost use Rattle.refrun.specs.Tables.{slot_at, hand_at, object_at, queue_at, with_object, with_hand, with_queue};
 ghost use Rattle.refrun.specs.Tables.{is_mutator, is_slot, is_queue, is_queue_or_none, cell_refusal};
 ghost use Rattle.refrun.specs.Tables.{put_outcome, poll_outcome};
@@ -11,16 +12,13 @@ ghost use Rattle.refrun.specs.TableAnswers.{reply_of, Does};
 ghost use Rattle.refrun.specs.SoundTables.{IsHeld, IsRegistered, IsHanded};
 
 use crate::rows::{Reply, Step};
-use ref_base::{Config, Fault, MutNo, ObjNo, Parcel, QueueNo, SlotNo};
+use ref_base::{Config, Fault, MOST_FIELDS, MutNo, ObjNo, Parcel, QueueNo, SlotNo};
 use ref_queue::{Polled, Put, Queue};
 use std::alloc::{AllocError, Allocator};
 use std::marker::Model;
 
 /// How many slots a mutator has.
 const SLOTS: u32 = 16;
-
-/// How many fields an object has at most.
-const MOST_FIELDS: u32 = 8;
 
 /// An object: plain, or a reference with the queue that it is registered with, if any.
 #[derive(Clone, Copy, Debug, PartialEq, Eq)]
@@ -314,7 +312,7 @@ impl<A: Allocator + Copy> Table<A> {
             (λ fault. cell_refusal self.now fields ≡ Some fault) }
         ensures room { OnOk result (length self.now.objects < self.now.config.cells) }
     {
-        if fields > MOST_FIELDS {
+        if fields as usize > MOST_FIELDS {
             return Err(Fault::BadField);
         }
         if self.objects.len() >= self.config.cells as usize {

@@ -1,5 +1,5 @@
 use Rattle.std.proofs.Common.{◌∙◌, ap, arith}
-use Rattle.refrun.specs.Tables.{new_queues}
+use Rattle.ref_base.specs.QueueLists.{new_queues}
 use Rattle.refrun.proofs.Tables.{new_queues_more}
 use Rattle.refrun.proofs.table.empty_queues.Goals as goal
 

@@ -1,5 +1,5 @@
 use Rattle.std.proofs.Common.{◌≡◌}
-use Rattle.refrun.specs.Tables.{new_queues}
+use Rattle.ref_base.specs.QueueLists.{new_queues}
 use Rattle.refrun.proofs.table.empty_queues.Given as goal
 
 abbrev pub invariant-loop-queue : goal.invariant-loop-queue

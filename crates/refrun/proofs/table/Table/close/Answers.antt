@@ -2,7 +2,7 @@ use Rattle.std.proofs.Common.{◌<◌, ◌∙◌, sym, ap, arith, Bool, if◌the
 use Rattle.refrun.specs.declared.rows.Reply.{Reply}
 use Rattle.refrun.specs.declared.rows.Reply.TheVariants.{Done, Closed}
 use Rattle.std.proofs.lemmas.Grind.{common_steps}
-use Rattle.ref_queue.specs.QueueLists.{Lists}
+use Rattle.ref_base.specs.QueueLists.{Lists}
 use Rattle.refrun.specs.declared.table.Notice.{Notice}
 use Rattle.refrun.proofs.Tables.{own_number}
 use Rattle.refrun.proofs.TableSoundness.{sound_with_queue}

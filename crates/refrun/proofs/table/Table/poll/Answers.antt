@@ -1,6 +1,6 @@
 use Rattle.std.proofs.Common.{◌∙◌, sym, ap}
 use Rattle.std.proofs.lemmas.Bool.{ltb-true}
-use Rattle.ref_queue.specs.QueueLists.{Lists}
+use Rattle.ref_base.specs.QueueLists.{Lists}
 use Rattle.refrun.specs.TableFields.{state_of}
 use Rattle.refrun.specs.declared.table.Notice.{Notice}
 use Rattle.refrun.proofs.TableSoundness.{sound_with_both}

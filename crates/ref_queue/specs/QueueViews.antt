@@ -1,16 +1,8 @@
--- What a reference queue is, as plain data.
-use Rattle.std.specs.Prelude.{◌≡◌, ℕ, ◌-◌, Bool, nat_eq, refl}
-use Rattle.std.specs.Prelude.{List, [], ◌∷◌, ◌++◌, length, map, take}
+-- What a contract sees of a queue's fields, and what holds of them.
+use Rattle.std.specs.Prelude.{◌≡◌, ℕ, ◌-◌, Bool, nat_eq, refl, List, ◌++◌, length, map, take}
 use Rattle.std.specs.Coded.{Coded, code_by, coded×, coded_ℕ, coded_bool, coded_list}
 use Rattle.std.specs.List.{AllByRecursion, IsDistinct}
-use Rattle.ref_base.specs.Members.{has}
-
--- a queue: its number, the numbers of what was taken from it, what stands in it, first first, and whether it is closed
-pub record Lists (T : Type 0) : Type 0 where
-  pub queue : ℕ
-  pub taken : List ℕ
-  pub stands : List T
-  pub closed : Bool
+use Rattle.ref_base.specs.QueueLists.{Lists}
 
 -- the lists are stored as the tuple of their fields
 abbrev pub lists_code : {T : Type 0} → Coded T → Coded (Lists T)
@@ -30,23 +22,6 @@ module _ {T : Type 0} where
   -- what a contract sees of a queue's fields: its number, all numbers put in, what stands, whether it is closed
   abbrev pub seen : ℕ → List ℕ → List T → Bool → Lists T
   seen queue ns xs closed = record { queue = queue; taken = front ns xs; stands = xs; closed = closed }
-
-  -- the queue with one more parcel, at the end
-  abbrev pub with_parcel : Lists T → T → Lists T
-  with_parcel q x = record q { stands = q.stands ++ x ∷ [] }
-
-  module _ (object_of : T → ℕ) where
-    -- the queue after x was taken, where rest still stands
-    abbrev pub with_taken : Lists T → T → List T → Lists T
-    with_taken q x rest = record q { taken = q.taken ++ object_of x ∷ []; stands = rest }
-
-    -- the numbers of everything that was ever put in, in order
-    abbrev pub enqueued : Lists T → List ℕ
-    enqueued q = q.taken ++ map object_of q.stands
-
-    -- whether the number of x was ever put in
-    abbrev pub was_put : Lists T → T → Bool
-    was_put q x = has (enqueued q) (object_of x)
 
   module _ (object_of queue_of : T → ℕ) where
     -- what holds of a queue's fields: its number, the numbers of everything that was put in, and what stands

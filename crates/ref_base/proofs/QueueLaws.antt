@@ -1,0 +1,225 @@
+-- What a row of the abstract collector does to each queue and each hand: what the row says that it does.
+use Rattle.std.proofs.Common.{◌≡◌, ℕ, ◌<◌, Bool, true, false, if◌then◌else◌, ◌==◌}
+use Rattle.std.proofs.Common.{List, [], ◌∷◌, length, Option, Some, None}
+use Rattle.std.proofs.Common.{refl, sym, ap, ◌∙◌, subst, arith}
+use Rattle.std.specs.Prelude.{slice_index_or, slice_set}
+use Rattle.std.specs.List.{AllByRecursion}
+use Rattle.std.proofs.lemmas.Bool.{eq-eqb, ne_eqb}
+use Rattle.ref_base.specs.QueueLists.{Lists, new_queue, was_put, with_parcel, with_taken}
+use Rattle.ref_base.specs.QueueRows.{Held, Hands, with_held, held_after, put_by, taken_by, closed_by}
+use Rattle.ref_base.specs.Worlds.{World, Notice, object_of, hand_of, queue_at, with_hand}
+use Rattle.ref_base.specs.Worlds.{with_queue}
+use Rattle.ref_base.specs.Replay.{notice_of, taken_out, took, put_in}
+use Rattle.ref_base.specs.declared.actor.Actor.{Actor}
+use Rattle.ref_base.specs.declared.actor.Actor.TheVariants.{Mutator, Worker}
+use Rattle.ref_base.specs.declared.step.Step.{Step}
+use Rattle.ref_base.specs.declared.step.Step.TheVariants as steps
+use Rattle.ref_base.specs.declared.reply.Reply.{Reply}
+use Rattle.ref_base.specs.declared.reply.Reply.TheVariants as replies
+use Rattle.ref_base.proofs.Places.{set_at, all_push}
+use Rattle.ref_base.proofs.QueueMoves.{QueueMoves, moves_nothing, moves_added, moves_took, moves_closed}
+use Rattle.ref_base.proofs.SoundWorlds.{NoticeBelow, IsOwn, HasHand, IsSound}
+use Rattle.ref_base.proofs.SoundWorlds.{sound_hand, sound_queue}
+
+-- the hands as rows see them
+abbrev pub as_held : Option Notice → Option Held
+as_held None = None
+as_held (Some notice) = Some (record { object = notice.object; queue = notice.queue })
+
+abbrev pub held_of : World → Hands
+held_of w who = as_held (hand_of w who)
+
+-- the row leaves a sound world, and changes the hands and the queues as it says
+pub record Goes (a b : World) (step : Step) (reply : Reply) : Type 0 where
+  pub sound : IsSound b
+  pub held : (who : Actor) → held_of b who ≡ held_after (held_of a) step reply who
+  pub queue : (q : ℕ) → QueueMoves object_of (queue_at a q) (queue_at b q)
+      (put_by (held_of a) q step reply) (taken_by q step reply) (closed_by q step reply)
+
+-- ---- rows that touch neither hands nor queues
+
+-- the hands after a row, and what it puts into queue q, takes from it, and whether it closes it
+abbrev Change : Type 0
+Change = Hands × List ℕ × List ℕ × Bool
+
+abbrev change_by : Hands → ℕ → Step → Reply → Change
+change_by hands q step reply =
+    (held_after hands step reply, put_by hands q step reply, taken_by q step reply, closed_by q step reply)
+
+abbrev no_change : Hands → Change
+no_change hands = (hands, [], [], false)
+
+abbrev pub IsStill : Step → Reply → Type 0
+IsStill step reply = (hands : Hands) (q : ℕ) → change_by hands q step reply ≡ no_change hands
+
+-- the two have the same hands and queues
+pub record SameHands (a b : World) : Type 0 where
+  pub mutators : b.mutator_hands ≡ a.mutator_hands
+  pub workers : b.worker_hands ≡ a.worker_hands
+  pub queues : b.queues ≡ a.queues
+
+pub same : (w : World) → SameHands w w
+same w = record { mutators = refl; workers = refl; queues = refl }
+
+same_held : (a b : World) → SameHands a b → (who : Actor) → held_of b who ≡ held_of a who
+same_held a b is (Mutator m) = ap (λ (hs : List (Option Notice)). as_held (slice_index_or hs m None)) is.mutators
+same_held a b is (Worker k) = ap (λ (hs : List (Option Notice)). as_held (slice_index_or hs k None)) is.workers
+
+pub stays : (a b : World) (step : Step) (reply : Reply) → IsStill step reply → SameHands a b → IsSound b
+    → Goes a b step reply
+stays a b step reply still is sound = record {
+  sound = sound;
+  held = λ who. same_held a b is who ∙ ap (λ (c : Change). c.0 who) (sym (still (held_of a) 0));
+  queue = λ q. rw is.queues
+      (subst (λ (c : Change). QueueMoves object_of (queue_at a q) (queue_at a q) c.1 c.2 c.3)
+      (sym (still (held_of a) q)) (moves_nothing object_of (queue_at a q)));
+}
+
+-- ---- rows that set a hand
+
+hand_at_set : (hands : List (Option Notice)) (m : ℕ) (hand : Option Notice) → m < length hands → (k : ℕ)
+    → as_held (slice_index_or (slice_set hands m hand) k None)
+    ≡ (if k == m then as_held hand else as_held (slice_index_or hands k None))
+hand_at_set hands m hand within =
+    set_at (λ k h. as_held h ≡ (if k == m then as_held hand else as_held (slice_index_or hands k None)))
+    hands m hand (λ _. None) within (rw (eq-eqb m m refl) refl) (λ k isnt. rw (ne_eqb k m isnt) refl)
+
+hand_set : (w : World) (who : Actor) (hand : Option Notice) → HasHand w who → (other : Actor)
+    → held_of (with_hand w who hand) other ≡ with_held (held_of w) who (as_held hand) other
+hand_set w (Mutator m) hand has (Mutator k) = hand_at_set w.mutator_hands m hand has k
+hand_set w (Mutator m) hand has (Worker k) = refl
+hand_set w (Worker m) hand has (Mutator k) = refl
+hand_set w (Worker m) hand has (Worker k) = hand_at_set w.worker_hands m hand has k
+
+hand_keeps_queues : (w : World) (who : Actor) (hand : Option Notice) → (with_hand w who hand).queues ≡ w.queues
+hand_keeps_queues w (Mutator m) hand = refl
+hand_keeps_queues w (Worker k) hand = refl
+
+-- what a row puts into queue q, takes from it, and whether it closes it
+abbrev pub Move : Type 0
+Move = List ℕ × List ℕ × Bool
+
+abbrev pub move_by : Hands → ℕ → Step → Reply → Move
+move_by hands q step reply = (put_by hands q step reply, taken_by q step reply, closed_by q step reply)
+
+abbrev pub no_move : Move
+no_move = ([], [], false)
+
+-- a row that sets a hand and moves no queue
+pub sets_hand : (w : World) (who : Actor) (hand : Option Notice) (step : Step) (reply : Reply) → IsSound w
+    → HasHand w who → NoticeBelow w.heap.config.queues hand
+    → ((hands : Hands) → held_after hands step reply ≡ with_held hands who (as_held hand))
+    → ((hands : Hands) (q : ℕ) → move_by hands q step reply ≡ no_move)
+    → Goes w (with_hand w who hand) step reply
+sets_hand w who hand step reply sound has below held still = record {
+  sound = sound_hand w who hand sound has below;
+  held = λ other. hand_set w who hand has other ∙ ap (λ (hs : Hands). hs other) (sym (held (held_of w)));
+  queue = λ q. rw (hand_keeps_queues w who hand)
+      (subst (λ (c : Move). QueueMoves object_of (queue_at w q) (queue_at w q) c.0 c.1 c.2)
+      (sym (still (held_of w) q)) (moves_nothing object_of (queue_at w q)));
+}
+
+-- ---- what comes before or after and touches neither hands nor queues
+
+pub goes_after : (a mid b : World) (step : Step) (reply : Reply) → SameHands a mid → Goes mid b step reply
+    → Goes a b step reply
+goes_after a mid b step reply is goes =
+    let hands : held_of mid ≡ held_of a = λ i who. same_held a mid is who i in
+    record {
+      sound = goes.sound;
+      held = λ who. subst (λ (hs : Hands). held_of b who ≡ held_after hs step reply who) hands (goes.held who);
+      queue = λ q. subst
+          (λ (hs : Hands). QueueMoves object_of (queue_at a q) (queue_at b q)
+          (put_by hs q step reply) (taken_by q step reply) (closed_by q step reply)) hands
+          (subst
+          (λ (qs : List (Lists Notice)). QueueMoves object_of (slice_index_or qs q (new_queue q)) (queue_at b q)
+          (put_by (held_of mid) q step reply) (taken_by q step reply) (closed_by q step reply)) is.queues
+          (goes.queue q));
+    }
+
+pub goes_then : (a mid b : World) (step : Step) (reply : Reply) → Goes a mid step reply → SameHands mid b → IsSound b
+    → Goes a b step reply
+goes_then a mid b step reply goes is sound = record {
+  sound = sound;
+  held = λ who. same_held mid b is who ∙ goes.held who;
+  queue = λ q. subst
+      (λ (qs : List (Lists Notice)). QueueMoves object_of (queue_at a q) (slice_index_or qs q (new_queue q))
+      (put_by (held_of a) q step reply) (taken_by q step reply) (closed_by q step reply)) (sym is.queues)
+      (goes.queue q);
+}
+
+-- ---- rows that change a queue
+
+-- what a change of queue q does to each queue
+queue_set : (queues : List (Lists Notice)) (q : ℕ) (new : Lists Notice) (ins outs : ℕ → List ℕ) (closes : ℕ → Bool)
+    → q < length queues
+    → QueueMoves object_of (slice_index_or queues q (new_queue q)) new (ins q) (outs q) (closes q)
+    → ((k : ℕ) → (q == k) ≡ false
+    → QueueMoves object_of (slice_index_or queues k (new_queue k)) (slice_index_or queues k (new_queue k))
+    (ins k) (outs k) (closes k))
+    → (k : ℕ) → QueueMoves object_of (slice_index_or queues k (new_queue k))
+    (slice_index_or (slice_set queues q new) k (new_queue k)) (ins k) (outs k) (closes k)
+queue_set queues q new ins outs closes within here others =
+    set_at (λ k l. QueueMoves object_of (slice_index_or queues k (new_queue k)) l (ins k) (outs k) (closes k))
+    queues q new new_queue within here (λ k isnt. others k (ne_eqb q k (λ is. isnt (sym is))))
+
+pub put_goes : (w : World) (who : Actor) (position : ℕ) (notice : Notice) → IsSound w → HasHand w who
+    → hand_of w who ≡ Some notice → was_put object_of (queue_at w notice.queue) notice ≡ false
+    → (queue_at w notice.queue).closed ≡ false
+    → Goes w (put_in w who (Some notice)) (steps.Put who) (replies.Added position)
+put_goes w who position notice sound has hand fresh open_yet =
+    let q : ℕ = notice.queue in
+    let lists : Lists Notice = queue_at w q in
+    let mid : World = with_hand w who None in
+    let keeps = hand_keeps_queues w who None in
+    let empty : Goes w mid (steps.Release who) replies.Done =
+    sets_hand w who None (steps.Release who) replies.Done sound has tt (λ _. refl) (λ _ _. refl) in
+    let within : q < length w.queues =
+    rw sound.queues (subst (NoticeBelow w.heap.config.queues) hand (sound.hands_below who)) in
+    let own = all_push (IsOwn q) lists.stands notice (sound.own q) refl in
+    record {
+      sound = sound_queue mid q (with_parcel lists notice) empty.sound (rw keeps within) own;
+      held = λ other. hand_set w who None has other;
+      queue = λ k. rw (keeps, ap as_held hand) (queue_set w.queues q (with_parcel lists notice)
+          (λ j. if q == j then notice.object ∷ [] else []) (λ _. []) (λ _. false) within
+          (rw (eq-eqb q q refl) (moves_added object_of lists notice fresh open_yet))
+          (λ j isnt. rw isnt (moves_nothing object_of (queue_at w j))) k);
+    }
+
+pub close_goes : (w : World) (m q : ℕ) → IsSound w → q < length w.queues → (queue_at w q).closed ≡ false
+    → Goes w (with_queue w q (record (queue_at w q) { closed = true })) (steps.Close m q) replies.Done
+close_goes w m q sound within open_yet =
+    let new : Lists Notice = record (queue_at w q) { closed = true } in
+    record {
+      sound = sound_queue w q new sound within (sound.own q);
+      held = λ who. refl;
+      queue = queue_set w.queues q new (λ _. []) (λ _. []) (λ k. q == k) within
+          (moves_closed object_of (queue_at w q) (q == q) (rw (open_yet, eq-eqb q q refl) refl))
+          (λ k isnt. rw isnt (moves_nothing object_of (queue_at w k)));
+    }
+
+-- the first that stands is the one that is taken out
+took_first : (lists : Lists Notice) (notice : Notice) (rest : List Notice) → lists.stands ≡ notice ∷ rest
+    → taken_out lists notice.object ≡ with_taken object_of lists notice rest
+took_first lists notice rest first = rw (first, eq-eqb notice.object notice.object refl) refl
+
+pub poll_goes : (w : World) (m q : ℕ) (notice : Notice) (rest : List Notice) → IsSound w → m < length w.mutator_hands
+    → q < length w.queues → (queue_at w q).stands ≡ notice ∷ rest
+    → Goes w (took w m q notice.object) (steps.Poll m q) (replies.Took notice.object)
+poll_goes w m q notice rest sound has within first =
+    let new : Lists Notice = with_taken object_of (queue_at w q) notice rest in
+    let all = subst (AllByRecursion (IsOwn q)) first (sound.own q) in
+    let bound : NoticeBelow w.heap.config.queues (Some notice) = omega (arith, all.0, sound.queues, within) in
+    let shorter = sound_queue w q new sound within all.1 in
+    let goes : Goes w (with_hand (with_queue w q new) (Mutator m) (Some notice)) (steps.Poll m q)
+    (replies.Took notice.object) = record {
+      sound = sound_hand (with_queue w q new) (Mutator m) (Some notice) shorter has bound;
+      held = λ who. hand_set w (Mutator m) (Some notice) has who
+          ∙ ap (λ j. with_held (held_of w) (Mutator m) (Some (record { object = notice.object; queue = j })) who) all.0;
+      queue = queue_set w.queues q new (λ _. []) (λ j. if q == j then notice.object ∷ [] else []) (λ _. false) within
+          (rw (eq-eqb q q refl) (moves_took object_of (queue_at w q) notice rest first))
+          (λ j isnt. rw isnt (moves_nothing object_of (queue_at w j)));
+    } in
+    let found : notice_of (queue_at w q).stands notice.object ≡ Some notice =
+    rw (first, eq-eqb notice.object notice.object refl) refl in
+    rw (took_first (queue_at w q) notice rest first, found) goes

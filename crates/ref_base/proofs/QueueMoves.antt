@@ -1,0 +1,103 @@
+-- How a queue's lists change, whatever stands in it.
+use Rattle.std.proofs.Common.{◌≡◌, ℕ, zero, suc, ◌+◌, Bool, true, false, ◌||◌, List, [], ◌∷◌, ◌++◌, length, map}
+use Rattle.std.proofs.Common.{refl, sym, ap, ◌∙◌, append_assoc, arith}
+use Rattle.std.specs.Prelude.{nat_eq, slice_index_or}
+use Rattle.std.specs.List.{IsDistinct}
+use Rattle.std.specs.Cmp.{nat_eq_equiv}
+use Rattle.std.proofs.lemmas.Bool.{both_ways}
+use Rattle.std.proofs.lemmas.List.{append-nil, map-append}
+use Rattle.std.proofs.lemmas.Map.Keys.{IsDistinct-push}
+use Rattle.ref_base.proofs.HasLaws.{has-list_any}
+use Rattle.ref_base.specs.QueueLists.{Lists, new_queue, new_queues, enqueued, was_put, with_parcel, with_taken}
+
+module _ {T : Type 0} (object_of : T → ℕ) where
+  -- how a queue's lists change where this is put in and that taken, and where it is closed or not
+  pub record QueueMoves (old new : Lists T) (ins outs : List ℕ) (closes : Bool) : Type 0 where
+    pub put : enqueued object_of new ≡ enqueued object_of old ++ ins
+    pub taken : new.taken ≡ old.taken ++ outs
+    pub closed : new.closed ≡ (old.closed || closes)
+    pub distinct : IsDistinct nat_eq (enqueued object_of old) → IsDistinct nat_eq (enqueued object_of new)
+    pub shut : old.closed ≡ true → ins ≡ []
+
+  or_false : (b : Bool) → b ≡ (b || false)
+  or_false true = refl
+  or_false false = refl
+
+  or_or : (b c d : Bool) → ((b || c) || d) ≡ (b || (c || d))
+  or_or true c d = refl
+  or_or false c d = refl
+
+  pub moves_nothing : (lists : Lists T) → QueueMoves lists lists [] [] false
+  moves_nothing lists = record {
+    put = sym (append-nil (enqueued object_of lists));
+    taken = sym (append-nil lists.taken);
+    closed = or_false lists.closed;
+    distinct = λ d. d;
+    shut = λ _. refl;
+  }
+
+  -- one change after another
+  pub moves_more : (old mid new : Lists T) (ins more_ins outs more_outs : List ℕ) (closes closes_later : Bool)
+      → QueueMoves old mid ins outs closes → QueueMoves mid new more_ins more_outs closes_later
+      → QueueMoves old new (ins ++ more_ins) (outs ++ more_outs) (closes || closes_later)
+  moves_more old mid new ins more_ins outs more_outs closes closes_later first later = record {
+    put = later.put ∙ ap (λ ns. ns ++ more_ins) first.put ∙ append_assoc (enqueued object_of old) ins more_ins;
+    taken = later.taken ∙ ap (λ ns. ns ++ more_outs) first.taken ∙ append_assoc old.taken outs more_outs;
+    closed = later.closed ∙ ap (λ c. c || closes_later) first.closed ∙ or_or old.closed closes closes_later;
+    distinct = λ d. later.distinct (first.distinct d);
+    shut = λ is. ap (λ ns. ns ++ more_ins) (first.shut is) ∙ later.shut (first.closed ∙ ap (λ c. c || closes) is);
+  }
+
+  pub moves_added : (lists : Lists T) (notice : T) → was_put object_of lists notice ≡ false → lists.closed ≡ false
+      → QueueMoves lists (with_parcel lists notice) (object_of notice ∷ []) [] false
+  moves_added lists notice fresh open_yet =
+      let all : List ℕ = enqueued object_of lists in
+      let longer : enqueued object_of (with_parcel lists notice) ≡ all ++ object_of notice ∷ [] =
+      ap (λ ns. lists.taken ++ ns) (map-append object_of lists.stands (notice ∷ []))
+      ∙ sym (append_assoc lists.taken (map object_of lists.stands) (object_of notice ∷ [])) in
+      record {
+        put = longer;
+        taken = sym (append-nil lists.taken);
+        closed = or_false lists.closed;
+        distinct = λ d.
+            rw longer
+            (IsDistinct-push nat_eq_equiv all (object_of notice) d (sym (has-list_any all (object_of notice)) ∙ fresh));
+        shut = λ is. absurd (both_ways lists.closed open_yet is);
+      }
+
+  pub moves_took : (lists : Lists T) (notice : T) (rest : List T) → lists.stands ≡ notice ∷ rest
+      → QueueMoves lists (with_taken object_of lists notice rest) [] (object_of notice ∷ []) false
+  moves_took lists notice rest first =
+      let same : enqueued object_of (with_taken object_of lists notice rest) ≡ enqueued object_of lists =
+      append_assoc lists.taken (object_of notice ∷ []) (map object_of rest)
+      ∙ ap (λ xs. lists.taken ++ map object_of xs) (sym first) in
+      record {
+        put = same ∙ sym (append-nil (enqueued object_of lists));
+        taken = refl;
+        closed = or_false lists.closed;
+        distinct = λ d. rw same d;
+        shut = λ _. refl;
+      }
+
+  -- a queue may be closed again, and then nothing changes
+  pub moves_closed : (lists : Lists T) (closes : Bool) → true ≡ (lists.closed || closes)
+      → QueueMoves lists (record lists { closed = true }) [] [] closes
+  moves_closed lists closes is = record {
+    put = sym (append-nil (enqueued object_of lists));
+    taken = sym (append-nil lists.taken);
+    closed = is;
+    distinct = λ d. d;
+    shut = λ _. refl;
+  }
+
+-- ---- queues into which nothing was ever put
+
+pub length-new_queues : (T : Type 0) (first count : ℕ) → length (new_queues {T = T} first count) ≡ count
+length-new_queues T first zero = refl
+length-new_queues T first (suc count) = ap suc (length-new_queues T (first + 1) count)
+
+pub new_queues_at : (T : Type 0) (first count k q : ℕ) → first + k ≡ q
+    → slice_index_or (new_queues {T = T} first count) k (new_queue q) ≡ new_queue q
+new_queues_at T first zero k q is = refl
+new_queues_at T first (suc count) zero q is = ap new_queue (omega arith)
+new_queues_at T first (suc count) (suc k) q is = new_queues_at T (first + 1) count k q (omega arith)
