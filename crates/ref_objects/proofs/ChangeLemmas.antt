@@ -1,0 +1,174 @@
+-- What a change of one object, or its end, does to a table's fields.
+use Rattle.std.proofs.Common.{◌≡◌, ℕ, ◌+◌, ◌<◌, true, false, ◌==◌, refl, sym, ◌∙◌, ap, subst}
+use Rattle.std.proofs.Common.{List, [], ◌∷◌, ◌++◌, length, get_or, set, Option, Some, None, suc, inl, inr, arith}
+use Rattle.std.proofs.lemmas.Bool.{cases_Bool}
+use Rattle.std.proofs.lemmas.List.{get_or-set_same, get_or_read, length-set, length_push}
+use Rattle.std.specs.Option.{option_map, is_some}
+use Rattle.ref_base.specs.Members.{has}
+use Rattle.ref_objects.specs.Places.{cell_at, kept_by, place_in, place_if_live, seen, AreFree, IsPlaced}
+use Rattle.ref_objects.specs.Tables.{Kept, kept_at, changed_kept, without_kept, changed, without}
+use Rattle.ref_objects.specs.declared.index.Entry.{Entry}
+use Rattle.ref_objects.proofs.FreeLemmas.{AreFree-apart, AreFree-set, AreFree-push}
+use Rattle.ref_objects.proofs.PlaceLemmas.{at_place, kept_at-place, kept_by-replaced, replaced, replaced-none}
+use Rattle.ref_objects.proofs.PlaceLemmas.{replaced-changed}
+use Rattle.ref_objects.proofs.PlaceLemmas.{is_of-some, IsOwn, IsPlaceOf, IsPlaceOf-live, IsPlaceOf-lent, IsMissing}
+use Rattle.ref_objects.proofs.PlaceLemmas.{IsMissing-lent}
+
+-- ---- the objects that are listed
+
+pub length-changed_kept : (ks : List Kept) (n : ℕ) (f : Kept → Kept) → length (changed_kept ks n f) ≡ length ks
+length-changed_kept [] n f = refl
+length-changed_kept (k ∷ ks) n f =
+    elim (cases_Bool (k.object.no == n)) [
+      | inl same ↦ simp same refl
+      | inr other ↦ simp other (ap suc (length-changed_kept ks n f))
+    ]
+
+pub length-without_kept : (ks : List Kept) (n : ℕ) (k : Kept) → kept_at ks n ≡ Some k
+    → suc (length (without_kept ks n)) ≡ length ks
+length-without_kept [] n k at = absurd (cc)
+length-without_kept (l ∷ ls) n k at =
+    elim (cases_Bool (l.object.no == n)) [
+      | inl same ↦ simp same refl
+      | inr other ↦
+          let later : kept_at ls n ≡ Some k = simp other at at in
+          simp other (ap suc (length-without_kept ls n k later))
+    ]
+
+-- a change of an object that isn't there is none
+pub changed_kept-none : (ks : List Kept) (n : ℕ) (f : Kept → Kept) → kept_at ks n ≡ None → changed_kept ks n f ≡ ks
+changed_kept-none [] n f none = refl
+changed_kept-none (k ∷ ks) n f none =
+    elim (cases_Bool (k.object.no == n)) [
+      | inl same ↦ absurd (let wrong : Some k ≡ None = simp same at none in cc)
+      | inr other ↦
+          let later : kept_at ks n ≡ None = simp other at none in
+          simp other (ap (λ ls. k ∷ ls) (changed_kept-none ks n f later))
+    ]
+
+pub without_kept-none : (ks : List Kept) (n : ℕ) → kept_at ks n ≡ None → without_kept ks n ≡ ks
+without_kept-none [] n none = refl
+without_kept-none (k ∷ ks) n none =
+    elim (cases_Bool (k.object.no == n)) [
+      | inl same ↦ absurd (let wrong : Some k ≡ None = simp same at none in cc)
+      | inr other ↦
+          let later : kept_at ks n ≡ None = simp other at none in
+          simp other (ap (λ ls. k ∷ ls) (without_kept-none ks n later))
+    ]
+
+-- ---- a change of one object
+
+module _ {cells : List (Option Kept)} {es : List Entry} {ps : List ℕ} {last : ℕ} (placed : IsPlaced cells es ps last)
+    {n p : ℕ} (place : IsPlaceOf cells es n p) where
+  -- the object that was found
+  found_kept : (k : Kept) × (cell_at cells p ≡ Some k) × (k.object.no ≡ n)
+  found_kept = is_of-some (cell_at cells p) n place.own
+
+  -- which is that of the number
+  found_at : (k : Kept) → cell_at cells p ≡ Some k → kept_at (kept_by cells es) n ≡ Some k
+  found_at k is = kept_at-place cells es n placed.rises ∙ ap (at_place cells) (IsPlaceOf-live place) ∙ is
+
+  -- a write of that object's cell
+  kept_by-written : (c : Option Kept) → IsOwn n c → kept_by (set cells p c) es ≡ replaced (kept_by cells es) n c
+  kept_by-written c own =
+      kept_by-replaced cells es n p c placed.rises place.listed place.within place.own own
+
+  found_apart : has ps p ≡ false
+  found_apart = AreFree-apart cells ps p n placed.free place.own
+
+  pub there : true ≡ is_some (kept_at (kept_by cells es) n)
+  there = let k = found_kept in sym (ap is_some (found_at k.0 k.1))
+
+  -- not every cell is free, since that object has one
+  pub room_to_free : length ps < length cells
+  room_to_free =
+      let k = found_kept in
+      let one : suc (length (without_kept (kept_by cells es) n)) ≡ length (kept_by cells es) =
+      length-without_kept (kept_by cells es) n k.0 (found_at k.0 k.1) in
+      omega (arith, placed.counted, one)
+
+  module _ (f : Kept → Kept) (keeps : (k : Kept) → (f k).object.no ≡ k.object.no) {old new : Option Kept}
+      (was : old ≡ get_or cells p old) (is : new ≡ option_map f old) where
+    kept_by-changed : kept_by (set cells p new) es ≡ changed_kept (kept_by cells es) n f
+    kept_by-changed =
+        let k = found_kept in
+        let before_it : old ≡ Some k.0 = get_or_read cells p old place.within was None ∙ k.1 in
+        let after_it : new ≡ Some (f k.0) = is ∙ ap (option_map f) before_it in
+        let own : (f k.0).object.no ≡ n = keeps k.0 ∙ k.2 in
+        ap (λ c. kept_by (set cells p c) es) after_it ∙ kept_by-written (Some (f k.0)) own
+        ∙ replaced-changed (kept_by cells es) n f k.0 (found_at k.0 k.1) own
+
+    pub seen_changed : seen (set cells p new) es last ≡ changed (seen cells es last) n f
+    seen_changed =
+        λ i. record { kept = kept_by-changed i; room = length-set cells p new i; last = last }
+
+    pub placed_changed : IsPlaced (set cells p new) es ps last
+    placed_changed =
+        let size : length (set cells p new) ≡ length cells = length-set cells p new in
+        let count : length (kept_by (set cells p new) es) ≡ length (kept_by cells es) =
+        ap length kept_by-changed ∙ length-changed_kept (kept_by cells es) n f in
+        record {
+          rises = placed.rises;
+          given = placed.given;
+          free = AreFree-set cells ps p new placed.free found_apart;
+          counted = omega (arith, placed.counted, size, count);
+          small = omega (arith, placed.small, size);
+          few = omega (arith, placed.few, size);
+        }
+
+  module _ {new : Option Kept} (is : new ≡ None) {free : List ℕ} (more : free ≡ ps ++ p ∷ []) where
+    kept_by-freed : kept_by (set cells p new) es ≡ without_kept (kept_by cells es) n
+    kept_by-freed =
+        ap (λ c. kept_by (set cells p c) es) is ∙ kept_by-written None tt ∙ replaced-none (kept_by cells es) n
+
+    pub seen_freed : seen (set cells p new) es last ≡ without (seen cells es last) n
+    seen_freed = λ i. record { kept = kept_by-freed i; room = length-set cells p new i; last = last }
+
+    pub placed_freed : IsPlaced (set cells p new) es free last
+    placed_freed =
+        let size : length (set cells p new) ≡ length cells = length-set cells p new in
+        let within : p < length (set cells p new) = omega (arith, place.within, size) in
+        let none : cell_at (set cells p new) p ≡ None = get_or-set_same cells p new None place.within ∙ is in
+        let k = found_kept in
+        let one : suc (length (without_kept (kept_by cells es) n)) ≡ length (kept_by cells es) =
+        length-without_kept (kept_by cells es) n k.0 (found_at k.0 k.1) in
+        let count : length (kept_by (set cells p new) es) ≡ length (without_kept (kept_by cells es) n) =
+        ap length kept_by-freed in
+        let places : length free ≡ length ps + 1 = ap length more ∙ length_push ps p in
+        record {
+          rises = placed.rises;
+          given = placed.given;
+          free = subst (AreFree (set cells p new)) (sym more)
+              (AreFree-push (set cells p new) ps p (AreFree-set cells ps p new placed.free found_apart) within none
+              found_apart);
+          counted = omega (arith, placed.counted, size, count, one, places);
+          small = omega (arith, placed.small, size);
+          few = omega (arith, placed.few, size);
+        }
+
+module _ {cells : List (Option Kept)} {es : List Entry} {ps : List ℕ} {last : ℕ} (placed : IsPlaced cells es ps last)
+    {n : ℕ} (missing : IsMissing cells es n) where
+  -- a number that has no place has no object
+  missing_at : kept_at (kept_by cells es) n ≡ None
+  missing_at = kept_at-place cells es n placed.rises ∙ ap (at_place cells) missing.none
+
+  pub not_there : false ≡ is_some (kept_at (kept_by cells es) n)
+  not_there = sym (ap is_some missing_at)
+
+  -- and a change of it is none
+  pub seen_missing_changed : (f : Kept → Kept) → seen cells es last ≡ changed (seen cells es last) n f
+  seen_missing_changed f =
+      ap (λ ks. record { kept = ks; room = length cells; last = last })
+      (sym (changed_kept-none (kept_by cells es) n f missing_at))
+
+  pub seen_missing_freed : seen cells es last ≡ without (seen cells es last) n
+  seen_missing_freed =
+      ap (λ ks. record { kept = ks; room = length cells; last = last })
+      (sym (without_kept-none (kept_by cells es) n missing_at))
+
+-- a search finds a place exactly where there is an object
+pub found_where_there : {cells borrowed : List (Option Kept)} {es lent : List Entry} {ps : List ℕ} {last : ℕ} (n : ℕ)
+    (place : Option ℕ) → IsPlaced cells es ps last → borrowed ≡ cells → lent ≡ es
+    → place ≡ place_if_live borrowed (place_in lent n) n → is_some place ≡ is_some (kept_at (kept_by cells es) n)
+found_where_there n None placed same_cells same_index is = not_there placed (IsMissing-lent n same_cells same_index is)
+found_where_there n (Some p) placed same_cells same_index is = there placed (IsPlaceOf-lent n same_cells same_index is)

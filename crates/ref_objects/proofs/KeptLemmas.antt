@@ -1,0 +1,274 @@
+-- What the table's objects say as the list of a world's objects, and their counts of holds as its list of holds.
+use Rattle.std.proofs.Common.{◌≡◌, ℕ, ◌+◌, ◌<◌, ◌≤◌, Bool, true, false, ◌==◌, ◌||◌, if◌then◌else◌, nat_lt}
+use Rattle.std.proofs.Common.{refl, sym, ◌∙◌, ap}
+use Rattle.std.proofs.Common.{List, [], ◌∷◌, ◌++◌, length, replicate, Option, Some, None, zero, suc, inl, inr}
+use Rattle.std.proofs.Common.{arith, append_assoc, length-append}
+use Rattle.std.proofs.lemmas.Bool.{cases_Bool, eq-eqb, eqb-true, ne_eqb, lt-ltb}
+use Rattle.std.proofs.lemmas.Bool.{false≢true}
+use Rattle.std.proofs.lemmas.List.{length-replicate}
+use Rattle.std.specs.Option.{option_map, is_some}
+use Rattle.ref_base.specs.Graphs.{Object, object_at, is_there, numbers}
+use Rattle.ref_base.specs.Members.{has}
+use Rattle.ref_base.specs.Strengths.{IsRising}
+use Rattle.ref_base.specs.Heaps.{changed_at, one_more, one_fewer}
+use Rattle.ref_base.specs.CollectorRows.{without as without_numbers}
+use Rattle.ref_base.proofs.HasLaws.{has-append}
+use Rattle.ref_objects.specs.Tables.{Kept, kept_at, objects_of, holds_of, object_in, holds_in, on_object}
+use Rattle.ref_objects.specs.Tables.{with_holds, changed_kept, without_kept}
+
+-- ---- the objects
+
+-- a look-up among the objects is that of the table
+pub object_at-objects_of : (ks : List Kept) (n : ℕ) → object_at (objects_of ks) n ≡ object_in (kept_at ks n)
+object_at-objects_of [] n = refl
+object_at-objects_of (k ∷ ks) n =
+    elim (cases_Bool (k.object.no == n)) [
+      | inl same ↦ simp same refl
+      | inr other ↦ simp other (object_at-objects_of ks n)
+    ]
+
+pub is_some-object_in : (k : Option Kept) → is_some (object_in k) ≡ is_some k
+is_some-object_in None = refl
+is_some-object_in (Some k) = refl
+
+pub is_there-objects_of : (ks : List Kept) (n : ℕ) → is_there (objects_of ks) n ≡ is_some (kept_at ks n)
+is_there-objects_of ks n = ap is_some (object_at-objects_of ks n) ∙ is_some-object_in (kept_at ks n)
+
+-- a change of an object is a change among the objects
+pub objects_of-changed : (ks : List Kept) (n : ℕ) (f : Object → Object)
+    → objects_of (changed_kept ks n (on_object f)) ≡ changed_at (objects_of ks) n f
+objects_of-changed [] n f = refl
+objects_of-changed (k ∷ ks) n f =
+    elim (cases_Bool (k.object.no == n)) [
+      | inl same ↦ simp same refl
+      | inr other ↦ simp other (ap (λ os. k.object ∷ os) (objects_of-changed ks n f))
+    ]
+
+-- a change of a count of holds is none among the objects
+pub objects_of-with_holds : (ks : List Kept) (n count : ℕ)
+    → objects_of (changed_kept ks n (with_holds count)) ≡ objects_of ks
+objects_of-with_holds [] n count = refl
+objects_of-with_holds (k ∷ ks) n count =
+    elim (cases_Bool (k.object.no == n)) [
+      | inl same ↦ simp same refl
+      | inr other ↦ simp other (ap (λ os. k.object ∷ os) (objects_of-with_holds ks n count))
+    ]
+
+pub objects_of-append : (ks ls : List Kept) → objects_of (ks ++ ls) ≡ objects_of ks ++ objects_of ls
+objects_of-append [] ls = refl
+objects_of-append (k ∷ ks) ls = ap (λ os. k.object ∷ os) (objects_of-append ks ls)
+
+-- numbers that rise from one on don't have it again
+without_numbers-above : (os : List Object) (n m : ℕ) → n ≤ m → IsRising (m ∷ numbers os)
+    → without_numbers (n ∷ []) os ≡ os
+without_numbers-above [] n m order rising = refl
+without_numbers-above (o ∷ os) n m order rising =
+    let over : m < o.no = rising.0 in
+    let other : (n == o.no) ≡ false = ne_eqb n o.no (λ same. omega arith) in
+    simp other (ap (λ ps. o ∷ ps) (without_numbers-above os n o.no (omega arith) rising.1))
+
+pub IsRising-tail : (n : ℕ) (ns : List ℕ) → IsRising (n ∷ ns) → IsRising ns
+IsRising-tail n [] rising = tt
+IsRising-tail n (m ∷ ms) rising = rising.1
+
+-- an object that goes is gone from among the objects
+pub objects_of-without : (ks : List Kept) (n : ℕ) → IsRising (numbers (objects_of ks))
+    → objects_of (without_kept ks n) ≡ without_numbers (n ∷ []) (objects_of ks)
+objects_of-without [] n rising = refl
+objects_of-without (k ∷ ks) n rising =
+    elim (cases_Bool (k.object.no == n)) [
+      | inl same ↦
+          let number : k.object.no ≡ n = eqb-true k.object.no n same in
+          let turned : (n == k.object.no) ≡ true = eq-eqb n k.object.no (sym number) in
+          simp (same, turned)
+          (sym (without_numbers-above (objects_of ks) n k.object.no (omega arith) rising))
+      | inr other ↦
+          let turned : (n == k.object.no) ≡ false =
+          ne_eqb n k.object.no (λ same. false≢true (sym other ∙ eq-eqb k.object.no n (sym same))) in
+          simp (other, turned)
+          (ap (λ os. k.object ∷ os)
+          (objects_of-without ks n (IsRising-tail k.object.no (numbers (objects_of ks)) rising)))
+    ]
+
+-- several that go may go one after another
+pub without_numbers-cons : (os : List Object) (n : ℕ) (ns : List ℕ)
+    → without_numbers (n ∷ ns) os ≡ without_numbers ns (without_numbers (n ∷ []) os)
+without_numbers-cons [] n ns = refl
+without_numbers-cons (o ∷ os) n ns =
+    elim (cases_Bool (n == o.no)) [
+      | inl same ↦ simp same (without_numbers-cons os n ns)
+      | inr other ↦ elim (cases_Bool (has ns o.no)) [
+        | inl gone ↦ simp (other, gone) (without_numbers-cons os n ns)
+        | inr stays ↦ simp (other, stays) (ap (λ ps. o ∷ ps) (without_numbers-cons os n ns))
+      ]
+    ]
+
+-- ---- a look-up after a change
+
+pub kept_at-changed : (ks : List Kept) (n : ℕ) (f : Kept → Kept) → ((k : Kept) → (f k).object.no ≡ k.object.no)
+    → kept_at (changed_kept ks n f) n ≡ option_map f (kept_at ks n)
+kept_at-changed [] n f keeps = refl
+kept_at-changed (k ∷ ks) n f keeps =
+    elim (cases_Bool (k.object.no == n)) [
+      | inl same ↦
+          let now : ((f k).object.no == n) ≡ true = ap (λ i. i == n) (keeps k) ∙ same in simp (same, now) refl
+      | inr other ↦ simp other (kept_at-changed ks n f keeps)
+    ]
+
+pub kept_at-changed_other : (ks : List Kept) (n m : ℕ) (f : Kept → Kept)
+    → ((k : Kept) → (f k).object.no ≡ k.object.no) → (n == m) ≡ false → kept_at (changed_kept ks n f) m ≡ kept_at ks m
+kept_at-changed_other [] n m f keeps apart = refl
+kept_at-changed_other (k ∷ ks) n m f keeps apart =
+    elim (cases_Bool (k.object.no == n)) [
+      | inl same ↦
+          let was : (k.object.no == m) ≡ false = ap (λ i. i == m) (eqb-true k.object.no n same) ∙ apart in
+          let now : ((f k).object.no == m) ≡ false = ap (λ i. i == m) (keeps k) ∙ was in
+          simp (same, was, now) refl
+      | inr other ↦
+          simp other
+          (ap (λ (l : Option Kept). if k.object.no == m then Some k else l)
+          (kept_at-changed_other ks n m f keeps apart))
+    ]
+
+-- ---- holds
+
+-- a change of an object is none of holds
+pub holds_of-changed : (ks : List Kept) (n : ℕ) (f : Object → Object) → ((o : Object) → (f o).no ≡ o.no)
+    → holds_of (changed_kept ks n (on_object f)) ≡ holds_of ks
+holds_of-changed [] n f keeps = refl
+holds_of-changed (k ∷ ks) n f keeps =
+    elim (cases_Bool (k.object.no == n)) [
+      | inl same ↦ simp same (ap (λ m. replicate k.holds m ++ holds_of ks) (keeps k.object))
+      | inr other ↦ simp other (ap (λ ms. replicate k.holds k.object.no ++ ms) (holds_of-changed ks n f keeps))
+    ]
+
+pub holds_of-append : (ks ls : List Kept) → holds_of (ks ++ ls) ≡ holds_of ks ++ holds_of ls
+holds_of-append [] ls = refl
+holds_of-append (k ∷ ks) ls =
+    ap (λ ms. replicate k.holds k.object.no ++ ms) (holds_of-append ks ls)
+    ∙ sym (append_assoc (replicate k.holds k.object.no) (holds_of ks) (holds_of ls))
+
+-- a new object brings no hold
+pub holds_of-made : (ks : List Kept) (k : Kept) → k.holds ≡ 0 → holds_of (ks ++ k ∷ []) ≡ holds_of ks
+holds_of-made [] k none = ap (λ count. replicate count k.object.no ++ []) none
+holds_of-made (l ∷ ls) k none = ap (λ ms. replicate l.holds l.object.no ++ ms) (holds_of-made ls k none)
+
+-- nor does an object that nobody holds take one with it
+pub holds_of-without : (ks : List Kept) (n : ℕ) → holds_in (kept_at ks n) ≡ Some 0
+    → holds_of (without_kept ks n) ≡ holds_of ks
+holds_of-without [] n none = refl
+holds_of-without (k ∷ ks) n none =
+    elim (cases_Bool (k.object.no == n)) [
+      | inl same ↦
+          let count : Some k.holds ≡ Some 0 = simp same at none in
+          let zeros : k.holds ≡ 0 = cc in
+          simp same (sym (ap (λ i. replicate i k.object.no ++ holds_of ks) zeros))
+      | inr other ↦
+          let later : holds_in (kept_at ks n) ≡ Some 0 = simp other at none in
+          simp other (ap (λ ms. replicate k.holds k.object.no ++ ms) (holds_of-without ks n later))
+    ]
+
+-- how a count of holds changes how many holds there are
+pub length-holds_of : (ks : List Kept) (n count before : ℕ) → holds_in (kept_at ks n) ≡ Some before
+    → length (holds_of (changed_kept ks n (with_holds count))) + before ≡ length (holds_of ks) + count
+length-holds_of [] n count before was = absurd (cc)
+length-holds_of (k ∷ ks) n count before was =
+    elim (cases_Bool (k.object.no == n)) [
+      | inl same ↦
+          let own : Some k.holds ≡ Some before = simp same at was in
+          let holds : k.holds ≡ before = cc in
+          simp (same, length-append, length-replicate) (omega (arith, holds))
+      | inr other ↦
+          let later : holds_in (kept_at ks n) ≡ Some before = simp other at was in
+          let rest : length (holds_of (changed_kept ks n (with_holds count))) + before ≡ length (holds_of ks) + count =
+          length-holds_of ks n count before later in
+          simp (other, length-append) (omega (arith, rest))
+    ]
+
+-- no object is held oftener than there are holds
+pub holds_in-le : (ks : List Kept) (n count : ℕ) → holds_in (kept_at ks n) ≡ Some count → count ≤ length (holds_of ks)
+holds_in-le [] n count was = absurd (cc)
+holds_in-le (k ∷ ks) n count was =
+    elim (cases_Bool (k.object.no == n)) [
+      | inl same ↦
+          let own : Some k.holds ≡ Some count = simp same at was in
+          let holds : k.holds ≡ count = cc in
+          simp (length-append, length-replicate) (omega (arith, holds))
+      | inr other ↦
+          let later : holds_in (kept_at ks n) ≡ Some count = simp other at was in
+          let rest : count ≤ length (holds_of ks) = holds_in-le ks n count later in
+          simp (length-append) (omega (arith, rest))
+    ]
+
+one_fewer-other : (count m n : ℕ) (ms : List ℕ) → (m == n) ≡ false
+    → one_fewer (replicate count m ++ ms) n ≡ replicate count m ++ one_fewer ms n
+one_fewer-other zero m n ms other = refl
+one_fewer-other (suc count) m n ms other = simp other (ap (λ ns. m ∷ ns) (one_fewer-other count m n ms other))
+
+-- one hold less of an object is one fewer among the holds
+pub holds_of-dropped : (ks : List Kept) (n count : ℕ) → holds_in (kept_at ks n) ≡ Some (suc count)
+    → holds_of (changed_kept ks n (with_holds count)) ≡ one_fewer (holds_of ks) n
+holds_of-dropped [] n count was = absurd (cc)
+holds_of-dropped (k ∷ ks) n count was =
+    elim (cases_Bool (k.object.no == n)) [
+      | inl same ↦
+          let own : Some k.holds ≡ Some (suc count) = simp same at was in
+          let holds : k.holds ≡ suc count = cc in
+          let first : one_fewer (k.object.no ∷ replicate count k.object.no ++ holds_of ks) n
+          ≡ replicate count k.object.no ++ holds_of ks = simp same refl in
+          simp same
+          (sym (ap (λ i. one_fewer (replicate i k.object.no ++ holds_of ks) n) holds ∙ first))
+      | inr other ↦
+          let later : holds_in (kept_at ks n) ≡ Some (suc count) = simp other at was in
+          simp other
+          (ap (λ ms. replicate k.holds k.object.no ++ ms) (holds_of-dropped ks n count later)
+          ∙ sym (one_fewer-other k.holds k.object.no n (holds_of ks) other))
+    ]
+
+-- whether the object is held
+abbrev pub is_held_in : Option Kept → Bool
+is_held_in None = false
+is_held_in (Some k) = nat_lt 0 k.holds
+
+has-replicate : (count n : ℕ) → has (replicate count n) n ≡ nat_lt 0 count
+has-replicate zero n = refl
+has-replicate (suc count) n =
+    let own : (n == n) ≡ true = eq-eqb n n refl in simp own (sym (lt-ltb 0 (suc count) (omega arith)))
+
+has-replicate_other : (count m n : ℕ) → (m == n) ≡ false → has (replicate count m) n ≡ false
+has-replicate_other zero m n other = refl
+has-replicate_other (suc count) m n other = simp other (has-replicate_other count m n other)
+
+has-holds_above : (ks : List Kept) (n m : ℕ) → n ≤ m → IsRising (m ∷ numbers (objects_of ks))
+    → has (holds_of ks) n ≡ false
+has-holds_above [] n m order rising = refl
+has-holds_above (k ∷ ks) n m order rising =
+    let over : m < k.object.no = rising.0 in
+    let other : (k.object.no == n) ≡ false = ne_eqb k.object.no n (λ same. omega arith) in
+    has-append (replicate k.holds k.object.no) (holds_of ks) n
+    ∙ simp (has-replicate_other k.holds k.object.no n other)
+    (has-holds_above ks n k.object.no (omega arith) rising.1)
+
+or-false : (b : Bool) → (b || false) ≡ b
+or-false true = refl
+or-false false = refl
+
+-- a number is among the holds exactly where its object is held
+pub has-holds_of : (ks : List Kept) (n : ℕ) → IsRising (numbers (objects_of ks))
+    → has (holds_of ks) n ≡ is_held_in (kept_at ks n)
+has-holds_of [] n rising = refl
+has-holds_of (k ∷ ks) n rising =
+    elim (cases_Bool (k.object.no == n)) [
+      | inl same ↦
+          let number : k.object.no ≡ n = eqb-true k.object.no n same in
+          let own : has (replicate k.holds k.object.no) n ≡ nat_lt 0 k.holds =
+          ap (λ m. has (replicate k.holds m) n) number ∙ has-replicate k.holds n in
+          let others : has (holds_of ks) n ≡ false = has-holds_above ks n k.object.no (omega arith) rising in
+          has-append (replicate k.holds k.object.no) (holds_of ks) n
+          ∙ ap (λ b. has (replicate k.holds k.object.no) n || b) others
+          ∙ or-false (has (replicate k.holds k.object.no) n) ∙ own ∙ simp same refl
+      | inr other ↦
+          has-append (replicate k.holds k.object.no) (holds_of ks) n
+          ∙ ap (λ b. b || has (holds_of ks) n) (has-replicate_other k.holds k.object.no n other)
+          ∙ has-holds_of ks n (IsRising-tail k.object.no (numbers (objects_of ks)) rising) ∙ simp other refl
+    ]

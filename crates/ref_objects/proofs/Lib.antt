@@ -1,0 +1,9 @@
+pub mod IndexLemmas
+pub mod PlaceLemmas
+pub mod FreeLemmas
+pub mod ChangeLemmas
+pub mod PushLemmas
+pub mod TableLemmas
+pub mod KeptLemmas
+pub mod WalkLemmas
+pub mod GroundLemmas

@@ -1,0 +1,7 @@
+use Rattle.std.proofs.Common.{sym, ◌∙◌}
+use Rattle.ref_objects.proofs.GroundLemmas.{length-objects_of}
+use Rattle.ref_objects.proofs.objects.Objects.object_count.Goals as goal
+
+pub returns-clause-count : goal.returns-clause-count
+returns-clause-count g c =
+    rw (← c.self.view_is) (c.len.ensures.count ∙ sym (length-objects_of c.self.inside.table.kept))

@@ -1,0 +1,16 @@
+use Rattle.std.proofs.Common.{◌∙◌, arith}
+use Rattle.ref_objects.proofs.PushLemmas.{seen_closed, placed_closed}
+use Rattle.ref_objects.proofs.table.Table.close_gaps.Goals as goal
+
+pub invariant_of-self : goal.invariant_of-self
+invariant_of-self g c =
+    record {
+      placed = placed_closed c.self.invariant.placed c.deref.ensures.value c.close_gaps.ensures.entries;
+      index_fits = omega (arith, c.self.invariant.index_fits, c.close_gaps.ensures.capacity);
+      places_fit = c.self.invariant.places_fit;
+    }
+
+pub returns : goal.returns
+returns g c =
+    seen_closed c.self.inside.index.items c.self.inside.last c.deref.ensures.value c.close_gaps.ensures.entries
+    ∙ c.self.view_is

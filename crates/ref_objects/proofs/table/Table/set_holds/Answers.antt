@@ -1,0 +1,31 @@
+use Rattle.std.proofs.Common.{◌∙◌, ap, refl, arith}
+use Rattle.std.proofs.lemmas.List.{length-set}
+use Rattle.ref_objects.specs.Tables.{with_holds}
+use Rattle.ref_objects.specs.Tables.{Table, changed}
+use Rattle.ref_objects.proofs.PlaceLemmas.{IsPlaceOf-lent, IsMissing-lent}
+use Rattle.ref_objects.proofs.ChangeLemmas.{seen_changed, placed_changed, seen_missing_changed}
+use Rattle.ref_objects.proofs.table.Table.set_holds.Goals as goal
+
+pub invariant_of-self : goal.invariant_of-self
+invariant_of-self g c =
+    let place = IsPlaceOf-lent c.args.no c.deref.ensures.value c.deref-2.ensures.value c.in-Some.ensures in
+    let size = length-set c.self.inside.cells.items c.in-Some.place c.set_holds.new.self in
+    record {
+      placed = placed_changed c.self.invariant.placed place (with_holds c.args.count) (λ k. refl)
+          c.index_mut.ensures.value c.set_holds.ensures;
+      index_fits = omega (arith, c.self.invariant.index_fits, size);
+      places_fit = omega (arith, c.self.invariant.places_fit, size);
+    }
+
+pub returns-in-Some : goal.returns-in-Some
+returns-in-Some g c =
+    let place = IsPlaceOf-lent c.args.no c.deref.ensures.value c.deref-2.ensures.value c.in-Some.ensures in
+    seen_changed c.self.invariant.placed place (with_holds c.args.count) (λ k. refl)
+    c.index_mut.ensures.value c.set_holds.ensures
+    ∙ ap (λ (t : Table). changed t c.args.no (with_holds c.args.count)) c.self.view_is
+
+pub returns-in_default : goal.returns-in_default
+returns-in_default g c =
+    let missing = IsMissing-lent c.args.no c.deref.ensures.value c.deref-2.ensures.value c.in_default.ensures in
+    rw (← c.self.view_is)
+    (seen_missing_changed c.self.invariant.placed missing (with_holds c.args.count))

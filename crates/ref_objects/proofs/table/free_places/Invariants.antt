@@ -1,0 +1,11 @@
+use Rattle.std.proofs.Common.{◌≡◌, vec_len}
+use Rattle.std.specs.Vec.{vec_capacity}
+use Rattle.ref_objects.specs.Places.{places_below}
+use Rattle.ref_objects.proofs.table.free_places.Given as goal
+
+abbrev pub invariant-loop-given : goal.invariant-loop-given
+invariant-loop-given g l = record {
+  are : l.places.items ≡ places_below l.room l.given;
+  count : vec_len l.places ≡ l.given;
+  room : vec_capacity l.places ≡ l.room;
+}

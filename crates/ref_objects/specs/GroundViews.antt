@@ -1,0 +1,58 @@
+-- What a contract sees of the fields of a heap's objects, and what holds of them.
+use Rattle.std.specs.Prelude.{◌≡◌, ℕ, ◌+◌, ◌*◌, ◌^◌, ◌<◌, ◌≤◌, true, List, [], ◌∷◌, ◌++◌, length, Option, Some, slice_set, if◌then◌else◌}
+use Rattle.ref_base.specs.Graphs.{Object, Reference}
+use Rattle.ref_base.specs.Heaps.{Heap, nulls}
+use Rattle.ref_base.specs.Paths.{is_soft}
+use Rattle.ref_base.specs.Limits.{is_within_limits}
+use Rattle.ref_base.specs.declared.config.Config.{Config}
+use Rattle.ref_base.specs.declared.strength.Strength.{Strength}
+use Rattle.ref_objects.specs.Tables.{Table, objects_of, holds_of}
+use Rattle.ref_objects.specs.Grounds.{Ground}
+
+-- the heap that a table, slots and the clock are
+abbrev pub heap_of : Config → Table → List (Option ℕ) → ℕ → Heap
+heap_of config table slots clock = record {
+  config = config;
+  objects = objects_of table.kept;
+  slots = slots;
+  holds = holds_of table.kept;
+  clock = clock;
+}
+
+abbrev pub seen : Config → ℕ → Table → List (Option ℕ) → ℕ → ℕ → Ground
+seen config heap_no table slots clock next = record {
+  heap = heap_of config table slots clock;
+  heap_no = heap_no;
+  next = next;
+}
+
+-- The configuration is within its limits; there is a cell for each object that it allows, and a slot for each; holds are
+-- counted; and each number that was given is below the next, which is at most 2^32.
+pub record IsSound (config : Config) (table : Table) (slots : List (Option ℕ)) (holds next : ℕ) : Type 0 where
+  pub within : is_within_limits config ≡ true
+  pub room : table.room ≡ config.cells
+  pub slot_count : length slots ≡ 16 * config.mutators
+  pub counted : holds ≡ length (holds_of table.kept)
+  pub given : table.last < next
+  pub bounded : next ≤ 2 ^ 32
+
+-- a reference that is made now: its stamp is the clock if it is soft, and else 0
+abbrev pub reference_to : Heap → Strength → ℕ → Option ℕ → Reference
+reference_to h strength referent queue = record {
+  strength = strength;
+  referent = Some referent;
+  stamp = if is_soft strength then h.clock else 0;
+  queue = queue;
+}
+
+-- an object of so many null fields is made, and the slot at this place holds it
+abbrev pub made_at : Ground → ℕ → ℕ → Option Reference → Ground
+made_at g place fields reference =
+    let o : Object = record { no = g.next; fields = nulls fields; reference = reference } in
+    record g {
+      heap = record g.heap {
+        objects = g.heap.objects ++ o ∷ [];
+        slots = slice_set g.heap.slots place (Some g.next);
+      };
+      next = g.next + 1;
+    }

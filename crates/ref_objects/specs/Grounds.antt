@@ -1,0 +1,147 @@
+-- What one sees of the objects of a heap: the heap as plain data, what refuses its calls, and what they leave (package
+-- `java.lang.ref` of Java SE 17 for what making a reference does; numbers, slots, holds and cells: this project's
+-- profile). The functions of a heap are those of the model of the whole collector.
+use Rattle.std.specs.Prelude.{◌≡◌, ℕ, ◌+◌, ◌*◌, ◌/◌, ◌^◌, Bool, true, false, ◌&&◌, ◌==◌, not, if◌then◌else◌, nat_le, is_some}
+use Rattle.std.specs.Prelude.{List, [], ◌∷◌, length, Option, Some, None, Result, Ok, Err, slice_index_or}
+use Rattle.ref_base.specs.Members.{has}
+use Rattle.ref_base.specs.Graphs.{Object, Reference, is_there, object_at}
+use Rattle.ref_base.specs.Limits.{is_within_limits}
+use Rattle.ref_base.specs.Heaps.{Heap, first_heap, slot_at, reference_at, with_slot, with_hold, without_hold, with_changed}
+use Rattle.ref_base.specs.Heaps.{with_reference, made}
+use Rattle.ref_base.specs.CollectorRows.{without}
+use Rattle.ref_base.specs.Refusals.{unless, has_slot, unless_empty, holds_refusal}
+use Rattle.ref_base.specs.declared.config.Config.{Config}
+use Rattle.ref_base.specs.declared.fault.Fault.{Fault}
+use Rattle.ref_base.specs.declared.fault.Fault.TheVariants.{BadConfig, NoSuchObject, NoMemory, NoSuchActor, ForeignHold}
+use Rattle.ref_objects.specs.declared.start.Start.{Start}
+use Rattle.ref_objects.specs.declared.kind.Kind.{Kind}
+use Rattle.ref_objects.specs.declared.kind.Kind.TheVariants as kind
+
+-- a heap, its number among the heaps of a program, and the number of its next object
+pub record Ground : Type 0 where
+  pub heap : Heap
+  pub heap_no : ℕ
+  pub next : ℕ
+
+-- a hold: the heap that it is of, and the object that it holds
+pub record Held : Type 0 where
+  pub heap_no : ℕ
+  pub object : ℕ
+
+-- ---- a new heap
+
+-- pages of 64 cells, twice as many as the cells fill
+abbrev pub page_count : ℕ → ℕ
+page_count cells = 2 * ((cells + 63) / 64)
+
+-- numbers begin at 1, and the addresses of the first pages are below 2^32
+abbrev pub may_start : Config → Start → Bool
+may_start config start =
+    nat_le 1 start.obj && (nat_le 1 start.page && nat_le (start.page + page_count config.cells) (2 ^ 32))
+
+abbrev pub starting_refusal : Config → Start → Option Fault
+starting_refusal config start =
+    if is_within_limits config && may_start config start then None else Some BadConfig
+
+-- a heap in which nothing was made yet
+abbrev pub first_ground : Config → ℕ → ℕ → Ground
+first_ground config heap_no next = record { heap = first_heap config; heap_no = heap_no; next = next }
+
+-- a new heap is made, unless the configuration or the start is refused, or memory isn't there
+abbrev pub IsMade : Option Fault → Ground → Result Ground Fault → Type 0
+IsMade refusal new (Ok g) = (refusal ≡ None) × (g ≡ new)
+IsMade None new (Err fault) = fault ≡ NoMemory
+IsMade (Some first) new (Err fault) = fault ≡ first
+
+-- ---- refusals
+
+-- a call is refused with just this fault, or not at all
+abbrev pub IsRefused : {T : Type 0} → Option Fault → Result T Fault → Type 0
+IsRefused refusal (Ok answer) = refusal ≡ None
+IsRefused refusal (Err fault) = refusal ≡ Some fault
+
+-- the same of a call that takes a hold: it comes back
+abbrev pub GivesBack : {T : Type 0} → Option Fault → Held → Result T (Fault × Held) → Type 0
+GivesBack refusal hold (Ok answer) = refusal ≡ None
+GivesBack refusal hold (Err back) = (refusal ≡ Some back.0) × (back.1 ≡ hold)
+
+-- there is such an object, and its hold can be counted
+abbrev pub mint_refusal : Ground → ℕ → Option Fault
+mint_refusal g n = unless (is_there g.heap.objects n) NoSuchObject (holds_refusal g.heap)
+
+abbrev pub held_refusal : Ground → Option ℕ → Option Fault
+held_refusal g None = unless_empty None None
+held_refusal g (Some n) = mint_refusal g n
+
+abbrev pub hold_refusal : Ground → ℕ → ℕ → Option Fault
+hold_refusal g m s = unless (has_slot g.heap m s) NoSuchActor (held_refusal g (slot_at g.heap m s))
+
+-- the hold is one of this heap, which counts it
+abbrev pub is_own : Ground → Held → Bool
+is_own g hold = (hold.heap_no == g.heap_no) && has g.heap.holds hold.object
+
+abbrev pub release_refusal : Ground → Held → Option Fault
+release_refusal g hold = unless (is_own g hold) ForeignHold None
+
+abbrev pub adopt_refusal : Ground → ℕ → ℕ → Held → Option Fault
+adopt_refusal g m d hold = unless (has_slot g.heap m d) NoSuchActor (release_refusal g hold)
+
+-- a hold of this heap, and of the object that is named
+abbrev pub IsHoldOf : Ground → Option ℕ → Held → Type 0
+IsHoldOf g named hold = (hold.heap_no ≡ g.heap_no) × (Some hold.object ≡ named)
+
+-- ---- what is read
+
+-- what an object is, by what it has as a reference
+abbrev pub kind_by : Option Reference → Kind
+kind_by None = kind.Plain
+kind_by (Some r) = kind.Reference r.strength
+
+-- what an object is, if there is one
+abbrev pub kind_in : Option Object → Option Kind
+kind_in None = None
+kind_in (Some o) = Some (kind_by o.reference)
+
+-- the clock at which a reference was made or last got, or 0
+abbrev pub stamp_in : Option Reference → ℕ
+stamp_in None = 0
+stamp_in (Some r) = r.stamp
+
+-- the first of these numbers that is at least n: the least, where they are in order
+abbrev pub least_from : List ℕ → ℕ → Option ℕ
+least_from [] n = None
+least_from (m ∷ ms) n = if nat_le n m then Some m else least_from ms n
+
+-- ---- what calls leave
+
+-- this where the call was accepted, and else what was there
+abbrev pub if_done : {T E S : Type 0} → Result T E → S → S → S
+if_done (Ok answer) after before = after
+if_done (Err fault) after before = before
+
+abbrev pub with_heap : Ground → Heap → Ground
+with_heap g heap = record g { heap = heap }
+
+-- one more object, in the slot
+abbrev pub with_object : Ground → ℕ → ℕ → Object → Ground
+with_object g m d o = record g { heap = made g.heap m d o; next = g.next + 1 }
+
+-- one more hold of what was minted
+abbrev pub after_minting : Ground → Result Held Fault → Ground
+after_minting g (Ok hold) = with_heap g (with_hold g.heap hold.object)
+after_minting g (Err fault) = g
+
+abbrev pub with_clock : Heap → ℕ → Heap
+with_clock h now = record h { clock = now }
+
+-- there is such an object, and nobody holds it
+abbrev pub is_free : Heap → ℕ → Bool
+is_free h n = is_there h.objects n && not (has h.holds n)
+
+-- an object goes that nobody holds
+abbrev pub freed : Heap → ℕ → Heap
+freed h n = if is_free h n then record h { objects = without (n ∷ []) h.objects } else h
+
+-- the clock at which a reference was made or last got
+abbrev pub with_stamp : ℕ → Reference → Reference
+with_stamp stamp r = record r { stamp = stamp }

@@ -1,0 +1,4 @@
+pub mod Tables
+pub mod Places
+pub mod Grounds
+pub mod GroundViews

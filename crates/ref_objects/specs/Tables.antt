@@ -1,0 +1,132 @@
+-- The heap's table of objects, as plain data, and the changes that calls make to it (package `java.lang.ref` of Java SE
+-- 17; numbers, holds and a heap's room: this project's profile).
+use Rattle.std.specs.Prelude.{ℕ, ◌≤◌, ◌==◌, ◌&&◌, if◌then◌else◌, nat_le, nat_lt}
+use Rattle.std.specs.Prelude.{List, [], ◌∷◌, ◌++◌, length, replicate, Option, Some, None, slice_index_or}
+use Rattle.ref_base.specs.Graphs.{Object, Reference, numbers}
+use Rattle.ref_base.specs.Strengths.{IsRising}
+use Rattle.ref_base.specs.Heaps.{reference_in}
+
+-- an object of the table, and how many holds of it are out
+pub record Kept : Type 0 where
+  pub object : Object
+  pub holds : ℕ
+
+-- the objects that there are, in order of number, how many there may be, and the greatest number that was ever given
+pub record Table : Type 0 where
+  pub kept : List Kept
+  pub room : ℕ
+  pub last : ℕ
+
+-- a table of no objects
+abbrev pub empty_table : ℕ → Table
+empty_table room = record { kept = []; room = room; last = 0 }
+
+-- ---- what is read
+
+-- the object of number n
+abbrev pub kept_at : List Kept → ℕ → Option Kept
+kept_at [] n = None
+kept_at (k ∷ ks) n = if k.object.no == n then Some k else kept_at ks n
+
+-- the objects without their holds
+abbrev pub objects_of : List Kept → List Object
+objects_of [] = []
+objects_of (k ∷ ks) = k.object ∷ objects_of ks
+
+-- each object's number as often as it is held, in order of number
+abbrev pub holds_of : List Kept → List ℕ
+holds_of [] = []
+holds_of (k ∷ ks) = replicate k.holds k.object.no ++ holds_of ks
+
+-- an object of the table as a graph has it
+abbrev pub object_in : Option Kept → Option Object
+object_in None = None
+object_in (Some k) = Some k.object
+
+-- how many fields the object has, if there is one
+abbrev pub field_count_in : Option Kept → Option ℕ
+field_count_in None = None
+field_count_in (Some k) = Some (length k.object.fields)
+
+-- what field i holds: null also where there is no object or no such field
+abbrev pub field_in : Option Kept → ℕ → Option ℕ
+field_in None i = None
+field_in (Some k) i = slice_index_or k.object.fields i None
+
+-- what the object has as a reference, if there is one and it is a reference
+abbrev pub kept_reference : Option Kept → Option Reference
+kept_reference k = reference_in (object_in k)
+
+-- how often the object is held, if there is one
+abbrev pub holds_in : Option Kept → Option ℕ
+holds_in None = None
+holds_in (Some k) = Some k.holds
+
+-- the first number from n on
+abbrev pub first_from : List Kept → ℕ → Option ℕ
+first_from [] n = None
+first_from (k ∷ ks) n = if nat_le n k.object.no then Some k.object.no else first_from ks n
+
+-- the first number from n on of an object that is held
+abbrev pub held_from : List Kept → ℕ → Option ℕ
+held_from [] n = None
+held_from (k ∷ ks) n =
+    if nat_le n k.object.no && nat_lt 0 k.holds then Some k.object.no else held_from ks n
+
+-- no number is above the last
+abbrev pub AllUpTo : ℕ → List ℕ → Type 0
+AllUpTo last [] = Unit {0}
+AllUpTo last (n ∷ ns) = (n ≤ last) × AllUpTo last ns
+
+-- what holds of every table: the numbers rise, none is above the last that was given, and the objects have room
+pub record IsOrderly (t : Table) : Type 0 where
+  pub rising : IsRising (numbers (objects_of t.kept))
+  pub given : AllUpTo t.last (numbers (objects_of t.kept))
+  pub few : length t.kept ≤ t.room
+
+-- ---- what is changed
+
+-- the objects with the one of number n changed
+abbrev pub changed_kept : List Kept → ℕ → (Kept → Kept) → List Kept
+changed_kept [] n f = []
+changed_kept (k ∷ ks) n f = if k.object.no == n then f k ∷ ks else k ∷ changed_kept ks n f
+
+-- the objects but the one of number n
+abbrev pub without_kept : List Kept → ℕ → List Kept
+without_kept [] n = []
+without_kept (k ∷ ks) n = if k.object.no == n then ks else k ∷ without_kept ks n
+
+-- a change of the object, and not of its holds
+abbrev pub on_object : (Object → Object) → Kept → Kept
+on_object f k = record k { object = f k.object }
+
+-- so many holds
+abbrev pub with_holds : ℕ → Kept → Kept
+with_holds count k = record k { holds = count }
+
+-- the referent is this, or null
+abbrev pub with_referent : Option ℕ → Reference → Reference
+with_referent value r = record r { referent = value }
+
+-- the clock at which it was made or last got
+abbrev pub with_stamp : ℕ → Reference → Reference
+with_stamp stamp r = record r { stamp = stamp }
+
+-- the table with the object of number n changed
+abbrev pub changed : Table → ℕ → (Kept → Kept) → Table
+changed t n f = record t { kept = changed_kept t.kept n f }
+
+-- the table without the object of number n
+abbrev pub without : Table → ℕ → Table
+without t n = record t { kept = without_kept t.kept n }
+
+-- an object that nobody holds, of so many null fields
+abbrev pub made : ℕ → ℕ → Option Reference → Kept
+made n count reference = record {
+  object = record { no = n; fields = replicate count None; reference = reference };
+  holds = 0;
+}
+
+-- the table with one more object, whose number is the greatest
+abbrev pub with_kept : Table → Kept → Table
+with_kept t k = record { kept = t.kept ++ k ∷ []; room = t.room; last = k.object.no }

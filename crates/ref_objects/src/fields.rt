@@ -1,0 +1,64 @@
+//! An object's fields.
+
+ghost use Rattle.std.specs.Prelude.{◌≡◌, ◌≤◌, length, replicate, slice_index_or, slice_set};
+
+use ref_base::ObjNo;
+use std::marker::Model;
+
+/// At most 8 fields, each an object's number or null, kept in place. In a clause they are their list.
+#[derive(Drop)]
+pub(crate) struct Fields {
+    held: [Option<ObjNo>; 8],
+    count: usize,
+}
+
+impl Model for Fields {
+    ghost use Rattle.std.specs.Prelude.{◌≡◌, ◌≤◌, ℕ, List, Option, length, take};
+
+    ghost Value = { List (Option ℕ) };
+
+    ghost view = { λ f. take f.count f.held };
+
+    ghost invariant = { λ f. (f.count ≤ 8) × (length f.held ≡ 8) };
+}
+
+impl Fields {
+    /// So many fields, each null.
+    pub(crate) fn nulls(count: usize) -> Self
+        requires { count ≤ 8 }
+        ensures { result ≡ replicate count None }
+    {
+        Fields {
+            held: [None; 8],
+            count,
+        }
+    }
+
+    /// How many fields there are.
+    pub(crate) fn len(&self) -> usize
+        ensures { result ≡ length self.now }
+    {
+        self.count
+    }
+
+    /// What a field holds: null also where there is no such field.
+    pub(crate) fn get(&self, field: usize) -> Option<ObjNo>
+        ensures { result ≡ slice_index_or self.now field None }
+    {
+        let held = &self.held;
+        if field < self.count {
+            held[field]
+        } else {
+            None
+        }
+    }
+
+    /// Writes a field. Nothing changes where there is no such field.
+    pub(crate) fn set(&mut self, field: usize, value: Option<ObjNo>)
+        ensures { self.new ≡ slice_set self.old field value }
+    {
+        if field < self.count {
+            self.held[field] = value;
+        }
+    }
+}

@@ -1,0 +1,20 @@
+//! The objects of a heap, found by number in logarithmic time, in memory that is all taken as the heap is made.
+#![tactic(auto)]
+
+mod cell;
+mod fields;
+mod hold;
+mod index;
+mod kind;
+mod objects;
+mod reference;
+mod start;
+mod table;
+#[cfg(test)]
+mod tests;
+
+pub use hold::Hold;
+pub use kind::Kind;
+pub use objects::Objects;
+pub use reference::Reference;
+pub use start::Start;

@@ -1,0 +1,251 @@
+//! The table of a heap's objects.
+
+ghost use Rattle.std.specs.Prelude.{◌≡◌, ◌==◌, ◌≤◌, ◌<◌, ◌^◌, IfOk, OnErr, length, is_some, replicate};
+ghost use Rattle.std.specs.Bool.{OnFalse};
+ghost use Rattle.std.specs.Vec.{vec_capacity};
+ghost use Rattle.ref_objects.specs.Places.{places_below};
+ghost use Rattle.ref_base.specs.Heaps.{with_field, with_reference};
+
+use crate::cell::Cell;
+use crate::index::{Entry, cell_of, close_gaps, first_from, held_from, make_room, place_of};
+use crate::reference::Reference;
+use ref_base::{Fault, ObjNo};
+use std::alloc::{AllocError, Allocator, Global};
+use std::marker::Model;
+
+/// The objects of a heap, each with a count of holds. All memory is taken by `new`: for each cell 128 bytes of its own,
+/// 16 of the index and 4 of the free places.
+#[derive(Drop)]
+pub(crate) struct Table<A: Allocator = Global> {
+    cells: Vec<Cell, A>,
+    // In order of number. It has room for two entries a cell, so gaps are closed at most once in as many new objects as
+    // there are cells.
+    index: Vec<Entry, A>,
+    // The places of the free cells. The last is given to the next new object.
+    free: Vec<u32, A>,
+    // The greatest number that was ever given, or 0.
+    last: ObjNo,
+}
+
+impl<A: Allocator> Model for Table<A> {
+    ghost use Rattle.std.specs.Vec.{vec_capacity};
+    ghost use Rattle.ref_objects.specs.Tables.{Table as Data};
+
+    ghost Value = { Data };
+
+    ghost use Rattle.ref_objects.specs.Places.{IsSound, seen};
+
+    ghost view = { λ t. seen t.cells.items t.index.items t.last };
+
+    ghost invariant = { λ t. IsSound t.cells.items t.index.items t.free.items t.last
+        (vec_capacity t.index) (vec_capacity t.free) };
+}
+
+impl<A: Allocator + Copy> Table<A> {
+    ghost use Rattle.ref_objects.specs.Tables.{IsOrderly, empty_table};
+    ghost use Rattle.ref_objects.specs.Tables.{kept_at, kept_reference, field_count_in, field_in, holds_in};
+    ghost use Rattle.ref_objects.specs.Tables.{first_from, held_from};
+    ghost use Rattle.ref_objects.specs.Tables.{on_object, with_referent, with_stamp, with_holds};
+    ghost use Rattle.ref_objects.specs.Tables.{changed, without, made, with_kept};
+
+    /// A table of no objects, with so many free cells. The one error is `NoMemory`.
+    pub(crate) fn new(alloc: A, room: usize) -> Result<Self, Fault>
+        requires { room ≤ 2 ^ 16 }
+        ensures ok { IfOk result (λ t. t ≡ empty_table room) }
+        ensures err { OnErr result (result ≡ Err Fault.NoMemory) }
+    {
+        Self::with_room(alloc, room).map_err(|_| Fault::NoMemory)
+    }
+
+    // A table of no objects, with so many free cells.
+    fn with_room(alloc: A, room: usize) -> Result<Self, AllocError>
+        requires { room ≤ 2 ^ 16 }
+        ensures { IfOk result (λ t. t ≡ empty_table room) }
+    {
+        let cells = free_cells(alloc, room)?;
+        let index = Vec::with_capacity(alloc, 2 * room)?;
+        let free = free_places(alloc, room)?;
+        Ok(Table {
+            cells,
+            index,
+            free,
+            last: ObjNo(0),
+        })
+    }
+
+    /// How many objects there are.
+    pub(crate) fn len(&self) -> usize
+        ensures count { result ≡ length self.now.kept }
+        ensures orderly { IsOrderly self.now }
+    {
+        self.cells.len() - self.free.len()
+    }
+
+    /// Whether there is no room for one more object.
+    pub(crate) fn is_full(&self) -> bool
+        ensures full { result ≡ (length self.now.kept == self.now.room) }
+        ensures spare { OnFalse result (length self.now.kept < self.now.room) }
+    {
+        self.free.is_empty()
+    }
+
+    /// How many objects there may be.
+    pub(crate) fn room(&self) -> usize
+        ensures { result ≡ self.now.room }
+    {
+        self.cells.len()
+    }
+
+    /// The greatest number that was ever given, or 0.
+    pub(crate) fn last(&self) -> ObjNo
+        ensures { result ≡ self.now.last }
+    {
+        self.last
+    }
+
+    /// Whether there is an object of this number.
+    pub(crate) fn has(&self, no: ObjNo) -> bool
+        ensures { result ≡ is_some (kept_at self.now.kept no) }
+    {
+        place_of(&self.cells, &self.index, no).is_some()
+    }
+
+    /// How many fields the object of this number has.
+    pub(crate) fn field_count(&self, no: ObjNo) -> Option<usize>
+        ensures { result ≡ field_count_in (kept_at self.now.kept no) }
+    {
+        cell_of(&self.cells, &self.index, no)?.field_count()
+    }
+
+    /// What a field of the object of this number holds: null also where there is no such object or field.
+    pub(crate) fn field(&self, no: ObjNo, field: usize) -> Option<ObjNo>
+        ensures { result ≡ field_in (kept_at self.now.kept no) field }
+    {
+        cell_of(&self.cells, &self.index, no)?.field(field)
+    }
+
+    /// What the object of this number has as a reference.
+    pub(crate) fn reference(&self, no: ObjNo) -> Option<Reference>
+        ensures { result ≡ kept_reference (kept_at self.now.kept no) }
+    {
+        cell_of(&self.cells, &self.index, no)?.reference()
+    }
+
+    /// How often the object of this number is held.
+    pub(crate) fn holds(&self, no: ObjNo) -> Option<u64>
+        ensures { result ≡ holds_in (kept_at self.now.kept no) }
+    {
+        cell_of(&self.cells, &self.index, no)?.holds()
+    }
+
+    /// The first number from this one on.
+    pub(crate) fn first_from(&self, no: ObjNo) -> Option<ObjNo>
+        ensures { result ≡ first_from self.now.kept no }
+    {
+        first_from(&self.cells, &self.index, no)
+    }
+
+    /// The first number from this one on of an object that is held.
+    pub(crate) fn held_from(&self, no: ObjNo) -> Option<ObjNo>
+        ensures { result ≡ held_from self.now.kept no }
+    {
+        held_from(&self.cells, &self.index, no)
+    }
+
+    /// Writes a field of the object of this number. Nothing changes where there is no such object or field.
+    pub(crate) fn set_field(&mut self, no: ObjNo, field: usize, value: Option<ObjNo>)
+        ensures { self.new ≡ changed self.old no (on_object (with_field field value)) }
+    {
+        if let Some(place) = place_of(&self.cells, &self.index, no) {
+            self.cells[place].set_field(field, value);
+        }
+    }
+
+    /// Writes the referent of the object of this number. Nothing changes where there is no such reference.
+    pub(crate) fn set_referent(&mut self, no: ObjNo, value: Option<ObjNo>)
+        ensures { self.new ≡ changed self.old no (on_object (with_reference (with_referent value))) }
+    {
+        if let Some(place) = place_of(&self.cells, &self.index, no) {
+            self.cells[place].set_referent(value);
+        }
+    }
+
+    /// Writes the stamp of the object of this number. Nothing changes where there is no such reference.
+    pub(crate) fn set_stamp(&mut self, no: ObjNo, stamp: u64)
+        ensures { self.new ≡ changed self.old no (on_object (with_reference (with_stamp stamp))) }
+    {
+        if let Some(place) = place_of(&self.cells, &self.index, no) {
+            self.cells[place].set_stamp(stamp);
+        }
+    }
+
+    /// Writes how often the object of this number is held. Nothing changes where there is no such object.
+    pub(crate) fn set_holds(&mut self, no: ObjNo, count: u64)
+        ensures { self.new ≡ changed self.old no (with_holds count) }
+    {
+        if let Some(place) = place_of(&self.cells, &self.index, no) {
+            self.cells[place].set_holds(count);
+        }
+    }
+
+    /// A new object that nobody holds, with so many null fields.
+    pub(crate) fn push(&mut self, no: ObjNo, count: usize, reference: Option<Reference>)
+        requires fields { count ≤ 8 }
+        requires rises { self.old.last < no }
+        requires room { length self.old.kept < self.old.room }
+        ensures { self.new ≡ with_kept self.old (made no count reference) }
+    {
+        make_room(&mut self.index, &self.cells, 2 * self.cells.len());
+        let place = self.free.pop().unwrap();
+        self.cells[place as usize] = Cell::of(no, count, reference);
+        self.index.push_reserved(Entry { no, place });
+        self.last = no;
+    }
+
+    /// Frees the object of this number. True where there was one.
+    pub(crate) fn free(&mut self, no: ObjNo) -> bool
+        ensures there { result ≡ is_some (kept_at self.old.kept no) }
+        ensures after { self.new ≡ without self.old no }
+    {
+        match place_of(&self.cells, &self.index, no) {
+            Some(place) => {
+                self.cells[place].clear();
+                self.free.push_reserved(place as u32);
+                true
+            }
+            None => false,
+        }
+    }
+
+    /// Takes the gaps out of the index, so that none are left to pass over. In time of the objects that were made since
+    /// it was done last, and of those that are there.
+    pub(crate) fn close_gaps(&mut self)
+        ensures { self.new ≡ self.old }
+    {
+        close_gaps(&mut self.index, &self.cells);
+    }
+}
+
+// So many free cells.
+fn free_cells<A: Allocator>(alloc: A, room: usize) -> Result<Vec<Cell, A>, AllocError>
+    ensures { IfOk result (λ v. v.items ≡ replicate room None) }
+{
+    let mut cells = Vec::with_capacity(alloc, room)?;
+    for _place in 0..room {
+        cells.push_reserved(Cell::free());
+    }
+    Ok(cells)
+}
+
+// The places below this one, the lowest last.
+fn free_places<A: Allocator>(alloc: A, room: usize) -> Result<Vec<u32, A>, AllocError>
+    requires { room ≤ 2 ^ 16 }
+    ensures places { IfOk result (λ v. v.items ≡ places_below room room) }
+    ensures capacity { IfOk result (λ v. vec_capacity v ≡ room) }
+{
+    let mut places = Vec::with_capacity(alloc, room)?;
+    for given in 0..room {
+        places.push_reserved((room - 1 - given) as u32);
+    }
+    Ok(places)
+}
