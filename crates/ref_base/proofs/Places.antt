@@ -16,6 +16,15 @@ set_at P xs m x d within here others k =
       | inr isnt ↦ subst (P k) (sym (get_or-set_other xs m k x (d k) isnt)) (others k isnt)
     ]
 
+-- the same of what holds at every place alike, also where the place that is set is none
+pub set_all : {X : Type 0} (P : X → Type 0) (xs : List X) (m : ℕ) (x d : X) → P x
+    → ((k : ℕ) → P (slice_index_or xs k d)) → (k : ℕ) → P (slice_index_or (slice_set xs m x) k d)
+set_all P [] m x d here others k = others k
+set_all P (_ ∷ xs) zero x d here others zero = here
+set_all P (_ ∷ xs) zero x d here others (suc k) = others (suc k)
+set_all P (_ ∷ xs) (suc m) x d here others zero = others zero
+set_all P (_ ∷ xs) (suc m) x d here others (suc k) = set_all P xs m x d here (λ j. others (suc j)) k
+
 pub push_at : {X : Type 0} (P : X → Type 0) (xs : List X) (x d : X) → P x → ((k : ℕ) → P (slice_index_or xs k d))
     → (k : ℕ) → P (slice_index_or (xs ++ x ∷ []) k d)
 push_at P [] x d here others zero = here

@@ -2,7 +2,7 @@
 use Rattle.std.proofs.Common.{◌≡◌, ℕ, zero, suc, ◌<◌, not, ◌&&◌, ◌==◌}
 use Rattle.std.proofs.Common.{List, [], ◌∷◌, ◌++◌, length, map, Option, Some, None, inl, inr}
 use Rattle.std.proofs.Common.{refl, sym, ◌∙◌, subst, arith}
-use Rattle.std.specs.Prelude.{slice_index_or, slice_set, replicate}
+use Rattle.std.specs.Prelude.{slice_index_or, replicate}
 use Rattle.std.specs.List.{AllByRecursion}
 use Rattle.std.proofs.lemmas.Bool.{cases_Bool}
 use Rattle.std.proofs.lemmas.List.{length-set, length-replicate}
@@ -20,7 +20,7 @@ use Rattle.ref_base.specs.CollectorRows.{shown, without, reference_of}
 use Rattle.ref_base.specs.declared.config.Config.{Config}
 use Rattle.ref_base.specs.declared.actor.Actor.{Actor}
 use Rattle.ref_base.specs.declared.actor.Actor.TheVariants.{Mutator, Worker}
-use Rattle.ref_base.proofs.Places.{set_at, all_push}
+use Rattle.ref_base.proofs.Places.{set_at, set_all, all_push}
 use Rattle.ref_base.proofs.QueueMoves.{length-new_queues, new_queues_at}
 
 -- ---- what is asked of each part, where there are so many queues
@@ -240,18 +240,6 @@ sound_queue w q lists sound within own = record {
       (λ k _. sound.own k);
 }
 
--- what is set is below, and each other place was
-pending_set : (count : ℕ) (lists : List (List Pending)) (k : ℕ) (ps : List Pending)
-    → AllByRecursion (PendingBelow count) ps
-    → ((j : ℕ) → AllByRecursion (PendingBelow count) (slice_index_or lists j []))
-    → (j : ℕ) → AllByRecursion (PendingBelow count) (slice_index_or (slice_set lists k ps) j [])
-pending_set count [] k ps here others j = others j
-pending_set count (_ ∷ lists) zero ps here others zero = here
-pending_set count (_ ∷ lists) zero ps here others (suc j) = others (suc j)
-pending_set count (_ ∷ lists) (suc k) ps here others zero = others zero
-pending_set count (_ ∷ lists) (suc k) ps here others (suc j) =
-    pending_set count lists k ps here (λ i. others (suc i)) j
-
 pub sound_pending : (w : World) (k : ℕ) (ps : List Pending) → IsSound w
     → AllByRecursion (PendingBelow w.heap.config.queues) ps → IsSound (with_pending w k ps)
 sound_pending w k ps sound below = record {
@@ -260,7 +248,8 @@ sound_pending w k ps sound below = record {
   queues = sound.queues;
   objects_below = sound.objects_below;
   hands_below = sound.hands_below;
-  pending_below = pending_set w.heap.config.queues w.pending k ps below sound.pending_below;
+  pending_below = set_all (AllByRecursion (PendingBelow w.heap.config.queues)) w.pending k ps [] below
+      sound.pending_below;
   own = sound.own;
 }
 

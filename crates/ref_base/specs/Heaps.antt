@@ -2,6 +2,7 @@
 -- Java SE 17 for what the calls of a reference do; slots, holds and the clock: this project's profile).
 use Rattle.std.specs.Prelude.{ℕ, ◌+◌, ◌*◌, ◌==◌, if◌then◌else◌, nat_lt}
 use Rattle.std.specs.Prelude.{List, [], ◌∷◌, ◌++◌, replicate, Option, Some, None, slice_index_or, slice_set}
+use Rattle.ref_base.specs.Members.{without_first}
 use Rattle.ref_base.specs.Graphs.{Object, Reference, object_at}
 use Rattle.ref_base.specs.Paths.{is_soft}
 use Rattle.ref_base.specs.declared.config.Config.{Config}
@@ -56,8 +57,7 @@ one_more (m ∷ ms) n = if nat_lt m n then m ∷ one_more ms n else n ∷ m ∷ 
 
 -- one hold fewer of n, where there is one
 abbrev pub one_fewer : List ℕ → ℕ → List ℕ
-one_fewer [] n = []
-one_fewer (m ∷ ms) n = if m == n then ms else m ∷ one_fewer ms n
+one_fewer ns n = without_first (λ m. m) ns n
 
 abbrev pub with_hold : Heap → ℕ → Heap
 with_hold h n = record h { holds = one_more h.holds n }
@@ -96,28 +96,36 @@ with_reference f o = record o { reference = changed_reference f o.reference }
 abbrev pub cleared : Reference → Reference
 cleared r = record r { referent = None }
 
+-- the clock at which the reference was made or last got
+abbrev pub with_stamp : ℕ → Reference → Reference
+with_stamp stamp r = record r { stamp = stamp }
+
 -- the reference, if soft, was got at this clock
 abbrev pub got_at : ℕ → Reference → Reference
-got_at clock r = if is_soft r.strength then record r { stamp = clock } else r
+got_at clock r = if is_soft r.strength then with_stamp clock r else r
 
 -- ---- what calls change
+
+abbrev pub with_clock : Heap → ℕ → Heap
+with_clock h now = record h { clock = now }
 
 -- so many fields, all of them null
 abbrev pub nulls : ℕ → List (Option ℕ)
 nulls k = replicate k None
 
 -- a reference made now: its stamp is the clock if it is soft, and else 0
-abbrev pub new_reference : Heap → ℕ → Strength → Option ℕ → Option ℕ → ℕ → Object
-new_reference h n strength referent queue k = record {
-  no = n;
-  fields = nulls k;
-  reference = Some (record {
-    strength = strength;
-    referent = referent;
-    stamp = if is_soft strength then h.clock else 0;
-    queue = queue;
-  });
+abbrev pub reference_made : Heap → Strength → Option ℕ → Option ℕ → Reference
+reference_made h strength referent queue = record {
+  strength = strength;
+  referent = referent;
+  stamp = if is_soft strength then h.clock else 0;
+  queue = queue;
 }
+
+-- an object of so many null fields that is a reference made now
+abbrev pub new_reference : Heap → ℕ → Strength → Option ℕ → Option ℕ → ℕ → Object
+new_reference h n strength referent queue k =
+    record { no = n; fields = nulls k; reference = Some (reference_made h strength referent queue) }
 
 -- the object is there, and the slot holds it
 abbrev pub made : Heap → ℕ → ℕ → Object → Heap

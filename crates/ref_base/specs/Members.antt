@@ -1,7 +1,12 @@
--- Whether a number is in a list.
-use Rattle.std.specs.Prelude.{ℕ, Bool, false, ◌||◌, ◌==◌, List, [], ◌∷◌}
+-- Whether a number is in a list, and a list without the first entry of a number.
+use Rattle.std.specs.Prelude.{ℕ, Bool, false, ◌||◌, ◌==◌, if◌then◌else◌, List, [], ◌∷◌}
 
 -- whether n is among the numbers
 abbrev pub has : List ℕ → ℕ → Bool
 has [] n = false
 has (m ∷ ms) n = (m == n) || has ms n
+
+-- the list without the first entry whose number is n, where there is one
+abbrev pub without_first : {T : Type 0} → (T → ℕ) → List T → ℕ → List T
+without_first number [] n = []
+without_first number (x ∷ xs) n = if number x == n then xs else x ∷ without_first number xs n

@@ -142,6 +142,20 @@ is_in phase other = false
 abbrev pub in_phase : State → Phase → Option Fault → Option Fault
 in_phase a phase later = unless (is_in a.world.phase phase) WrongPhase later
 
+-- of a cycle that is to begin, in this phase, at this clock and after so many cycles
+abbrev pub begin_refusal : Phase → ℕ → ℕ → ℕ → Option Fault
+begin_refusal phase clock cycle now =
+    unless (is_in phase Idle) WrongPhase
+    (unless (nat_le clock now) ClockBack (unless (nat_lt cycle (2 ^ 64 - 1)) NumbersSpent None))
+
+-- of a worker's step that this phase has
+abbrev pub work_refusal : Heap → Phase → Phase → ℕ → Option Fault
+work_refusal h now phase k = unless (is_worker h k) NoSuchActor (unless (is_in now phase) WrongPhase None)
+
+-- of a mark's end, where it is said whether an object is left to scan
+abbrev pub end_mark_refusal : Phase → Bool → Option Fault
+end_mark_refusal phase left = unless (is_in phase Marking) WrongPhase (unless (not left) GreyLeft None)
+
 abbrev pub is_empty : {T : Type 0} → List T → Bool
 is_empty [] = true
 is_empty (x ∷ xs) = false
@@ -171,15 +185,13 @@ refusal a (steps.Adopt m d) =
 refusal a (steps.Release who) = unless (is_actor a.world.heap who) NoSuchActor (empty_hand_refusal (hand_of a.world who))
 refusal a (steps.Close m q) =
     unless (is_mutator a.world.heap m) NoSuchActor (unless (is_queue a.world.heap q) BadQueue None)
-refusal a (steps.Begin now _) =
-    in_phase a Idle (unless (nat_le a.world.heap.clock now) ClockBack
-    (unless (nat_lt a.world.cycle (2 ^ 64 - 1)) NumbersSpent None))
-refusal a (steps.Scan k) = unless (is_worker a.world.heap k) NoSuchActor (in_phase a Marking None)
-refusal a steps.EndMark = in_phase a Marking (unless (not a.left) GreyLeft None)
-refusal a (steps.ClearNext k) = unless (is_worker a.world.heap k) NoSuchActor (in_phase a Clearing None)
+refusal a (steps.Begin now _) = begin_refusal a.world.phase a.world.heap.clock a.world.cycle now
+refusal a (steps.Scan k) = work_refusal a.world.heap a.world.phase Marking k
+refusal a steps.EndMark = end_mark_refusal a.world.phase a.left
+refusal a (steps.ClearNext k) = work_refusal a.world.heap a.world.phase Clearing k
 refusal a steps.EndClear = in_phase a Clearing (unless (is_empty (joined a.found)) ClearingLeft None)
 refusal a (steps.Hand k) =
     unless (is_worker a.world.heap k) NoSuchActor
     (unless_full (hand_of a.world (Worker k)) (hand_refusal (pending_of a.world k) a.world.heap))
-refusal a (steps.Sweep k) = unless (is_worker a.world.heap k) NoSuchActor (in_phase a Sweeping None)
+refusal a (steps.Sweep k) = work_refusal a.world.heap a.world.phase Sweeping k
 refusal a steps.EndSweep = in_phase a Sweeping (unless (is_empty a.doomed) SweepLeft None)

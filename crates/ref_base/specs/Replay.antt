@@ -2,11 +2,12 @@
 -- that isn't named here, changes nothing (package `java.lang.ref` of Java SE 17 for what the calls of a reference do;
 -- the rest is this project's profile).
 use Rattle.std.specs.Prelude.{ℕ, true, ◌==◌, if◌then◌else◌, List, [], ◌∷◌, ◌++◌, Option, Some, None}
+use Rattle.ref_base.specs.Members.{without_first}
 use Rattle.ref_base.specs.Graphs.{plain_object}
 use Rattle.ref_base.specs.Heaps.{slot_at, reference_at, registered_in, with_slot, with_hold, without_hold, with_changed}
-use Rattle.ref_base.specs.Heaps.{with_reference, cleared, nulls, new_reference, made, stored, got, cut}
+use Rattle.ref_base.specs.Heaps.{with_reference, cleared, nulls, with_clock, new_reference, made, stored, got, cut}
 use Rattle.ref_base.specs.QueueLists.{Lists, with_parcel}
-use Rattle.ref_base.specs.Worlds.{World, Notice, Pending, first_world, hand_of, queue_at, pending_of}
+use Rattle.ref_base.specs.Worlds.{World, Notice, Pending, first_world, object_of, hand_of, queue_at, pending_of}
 use Rattle.ref_base.specs.Worlds.{with_heap, with_hand, with_queue, with_pending}
 use Rattle.ref_base.specs.Told.{told_object, told_value, is_done, told_notice, is_nothing, is_added, told_taken}
 use Rattle.ref_base.specs.Told.{told_cycle, is_doomed, told_cleared}
@@ -50,8 +51,7 @@ notice_of (notice ∷ rest) n = if notice.object == n then Some notice else noti
 
 -- these without the notice of n
 abbrev pub without_notice : List Notice → ℕ → List Notice
-without_notice [] n = []
-without_notice (notice ∷ rest) n = if notice.object == n then rest else notice ∷ without_notice rest n
+without_notice = without_first object_of
 
 -- the notice of n was taken from the queue
 abbrev pub taken_out : Lists Notice → ℕ → Lists Notice
@@ -68,10 +68,9 @@ adopted w m d hand n =
     let after_spending = spent w (Mutator m) hand in
     with_heap after_spending (with_slot after_spending.heap m d (Some n))
 
--- the list without the first entry of n
+-- these without the first entry of n
 abbrev pub without_pending : List Pending → ℕ → List Pending
-without_pending [] n = []
-without_pending (p ∷ ps) n = if p.object == n then ps else p ∷ without_pending ps n
+without_pending = without_first (λ p. p.object)
 
 -- a worker cleared n: it goes last in the worker's pending list if it is registered
 abbrev pub pended : World → ℕ → ℕ → Option ℕ → World
@@ -91,7 +90,7 @@ handed w k notice = minted (with_pending w k (without_pending (pending_of w k) n
 -- a cycle began: the clock, its urgency and its number
 abbrev pub begun : World → ℕ → Urgency → ℕ → World
 begun w now urgency n =
-    record w { heap = record w.heap { clock = now }; urgency = urgency; cycle = n; phase = Marking }
+    record w { heap = with_clock w.heap now; urgency = urgency; cycle = n; phase = Marking }
 
 abbrev pub with_phase : World → Phase → World
 with_phase w phase = record w { phase = phase }

@@ -3,7 +3,7 @@
 mod graphs;
 mod rows;
 
-use crate::{Config, Fault, MutNo, ObjNo, QueueNo, SlotNo, WorkerNo};
+use crate::{Config, Fault, MutNo, ObjNo, QueueNo, SlotNo, WorkerNo, keeps};
 use std::alloc::Global;
 use std::process::Abort;
 use std::test::Fail;
@@ -113,4 +113,13 @@ fn a_config_fits_exactly_within_its_limits(rt: HostRuntime) {
     for refused in too_many {
         assert_eq!(rt; refused.check(), Err(Fault::BadConfig), "{refused:?}");
     }
+}
+
+#[test]
+fn a_soft_reference_is_kept_within_the_span(rt: HostRuntime) {
+    assert!(rt; keeps(10, 0, 10));
+    assert!(rt; !keeps(11, 0, 10));
+    assert!(rt; keeps(11, 11, 0));
+    assert!(rt; !keeps(u64::MAX, 0, u64::MAX - 1));
+    assert!(rt; keeps(u64::MAX, 0, u64::MAX));
 }

@@ -6,7 +6,12 @@ use Rattle.std.proofs.lemmas.List.{get_or-set_same, get_or_read, length-set, len
 use Rattle.std.specs.Option.{option_map, is_some}
 use Rattle.ref_base.specs.Members.{has}
 use Rattle.ref_objects.specs.Places.{cell_at, kept_by, place_in, place_if_live, seen, AreFree, IsPlaced}
-use Rattle.ref_objects.specs.Tables.{Kept, kept_at, changed_kept, without_kept, changed, without}
+use Rattle.ref_objects.specs.Tables.{Kept, Table, kept_at, has_field, holds_in, is_unheld, changed_kept, without_kept}
+use Rattle.ref_objects.specs.Tables.{on_object, less_held, changed, without, freed}
+use Rattle.ref_base.specs.Heaps.{with_field}
+use Rattle.std.proofs.Common.{◌-◌, ◌≤◌, nat_lt, not}
+use Rattle.std.proofs.lemmas.Bool.{ltb-false, false≢true}
+use Rattle.std.proofs.lemmas.List.{set_past}
 use Rattle.ref_objects.specs.declared.index.Entry.{Entry}
 use Rattle.ref_objects.proofs.FreeLemmas.{AreFree-apart, AreFree-set, AreFree-push}
 use Rattle.ref_objects.proofs.PlaceLemmas.{at_place, kept_at-place, kept_by-replaced, replaced, replaced-none}
@@ -35,6 +40,10 @@ length-without_kept (l ∷ ls) n k at =
           simp other (ap suc (length-without_kept ls n k later))
     ]
 
+is_none : (k : Option Kept) → is_some k ≡ false → k ≡ None
+is_none None none = refl
+is_none (Some k) none = absurd (false≢true (sym none))
+
 -- a change of an object that isn't there is none
 pub changed_kept-none : (ks : List Kept) (n : ℕ) (f : Kept → Kept) → kept_at ks n ≡ None → changed_kept ks n f ≡ ks
 changed_kept-none [] n f none = refl
@@ -46,15 +55,53 @@ changed_kept-none (k ∷ ks) n f none =
           simp other (ap (λ ls. k ∷ ls) (changed_kept-none ks n f later))
     ]
 
-pub without_kept-none : (ks : List Kept) (n : ℕ) → kept_at ks n ≡ None → without_kept ks n ≡ ks
-without_kept-none [] n none = refl
-without_kept-none (k ∷ ks) n none =
+pub changed-none : (t : Table) (n : ℕ) (f : Kept → Kept) → is_some (kept_at t.kept n) ≡ false → changed t n f ≡ t
+changed-none t n f none =
+    ap (λ ks. record t { kept = ks }) (changed_kept-none t.kept n f (is_none (kept_at t.kept n) none))
+
+-- so is one hold fewer of an object that nobody holds
+changed_kept-unheld : (ks : List Kept) (n : ℕ) → holds_in (kept_at ks n) ≡ 0 → changed_kept ks n less_held ≡ ks
+changed_kept-unheld [] n none = refl
+changed_kept-unheld (k ∷ ks) n none =
     elim (cases_Bool (k.object.no == n)) [
-      | inl same ↦ absurd (let wrong : Some k ≡ None = simp same at none in cc)
-      | inr other ↦
-          let later : kept_at ks n ≡ None = simp other at none in
-          simp other (ap (λ ls. k ∷ ls) (without_kept-none ks n later))
+      | inl same ↦
+          let own : k.holds ≡ 0 = simp same at none in
+          let less : k.holds - 1 ≡ k.holds = omega (arith, own) in
+          simp same (ap (λ count. record k { holds = count } ∷ ks) less)
+      | inr other ↦ simp other (ap (λ ls. k ∷ ls) (changed_kept-unheld ks n (simp other at none)))
     ]
+
+pub changed-unheld : (t : Table) (n : ℕ) → nat_lt 0 (holds_in (kept_at t.kept n)) ≡ false → changed t n less_held ≡ t
+changed-unheld t n unheld =
+    let most : holds_in (kept_at t.kept n) ≤ 0 = ltb-false 0 (holds_in (kept_at t.kept n)) unheld in
+    ap (λ ks. record t { kept = ks }) (changed_kept-unheld t.kept n (omega (arith, most)))
+
+-- and a write to a field that isn't there
+changed_kept-past : (ks : List Kept) (n i : ℕ) (value : Option ℕ) → has_field (kept_at ks n) i ≡ false
+    → changed_kept ks n (on_object (with_field i value)) ≡ ks
+changed_kept-past [] n i value past = refl
+changed_kept-past (k ∷ ks) n i value past =
+    elim (cases_Bool (k.object.no == n)) [
+      | inl same ↦
+          let own : nat_lt i (length k.object.fields) ≡ false = simp same at past in
+          let kept : set k.object.fields i value ≡ k.object.fields =
+          set_past k.object.fields i value (ltb-false i (length k.object.fields) own) in
+          simp same (ap (λ fields. record k { object = record k.object { fields = fields } } ∷ ks) kept)
+      | inr other ↦ simp other (ap (λ ls. k ∷ ls) (changed_kept-past ks n i value (simp other at past)))
+    ]
+
+pub changed-past : (t : Table) (n i : ℕ) (value : Option ℕ) → has_field (kept_at t.kept n) i ≡ false
+    → changed t n (on_object (with_field i value)) ≡ t
+changed-past t n i value past = ap (λ ks. record t { kept = ks }) (changed_kept-past t.kept n i value past)
+
+-- an object goes where it is there and nobody holds it
+goes : (k : Option Kept) → is_some k ≡ true → nat_lt 0 (holds_in k) ≡ false → is_unheld k ≡ true
+goes None there unheld = absurd (false≢true there)
+goes (Some k) there unheld = ap not unheld
+
+stays : (k : Option Kept) → nat_lt 0 (holds_in k) ≡ true → is_unheld k ≡ false
+stays None held = refl
+stays (Some k) held = ap not held
 
 -- ---- a change of one object
 
@@ -67,6 +114,12 @@ module _ {cells : List (Option Kept)} {es : List Entry} {ps : List ℕ} {last : 
   -- which is that of the number
   found_at : (k : Kept) → cell_at cells p ≡ Some k → kept_at (kept_by cells es) n ≡ Some k
   found_at k is = kept_at-place cells es n placed.rises ∙ ap (at_place cells) (IsPlaceOf-live place) ∙ is
+
+  -- what is said of its cell is said of it
+  pub told_of : {X : Type 0} (f : Option Kept → X) {cell : Option Kept} → cell ≡ get_or cells p cell
+      → f cell ≡ f (kept_at (kept_by cells es) n)
+  told_of f {cell} was =
+      let k = found_kept in ap f (get_or_read cells p cell place.within was None ∙ k.1 ∙ sym (found_at k.0 k.1))
 
   -- a write of that object's cell
   kept_by-written : (c : Option Kept) → IsOwn n c → kept_by (set cells p c) es ≡ replaced (kept_by cells es) n c
@@ -89,7 +142,7 @@ module _ {cells : List (Option Kept)} {es : List Entry} {ps : List ℕ} {last : 
 
   module _ (f : Kept → Kept) (keeps : (k : Kept) → (f k).object.no ≡ k.object.no) {old new : Option Kept}
       (was : old ≡ get_or cells p old) (is : new ≡ option_map f old) where
-    kept_by-changed : kept_by (set cells p new) es ≡ changed_kept (kept_by cells es) n f
+    pub kept_by-changed : kept_by (set cells p new) es ≡ changed_kept (kept_by cells es) n f
     kept_by-changed =
         let k = found_kept in
         let before_it : old ≡ Some k.0 = get_or_read cells p old place.within was None ∙ k.1 in
@@ -116,13 +169,30 @@ module _ {cells : List (Option Kept)} {es : List Entry} {ps : List ℕ} {last : 
           few = omega (arith, placed.few, size);
         }
 
+  pub unheld_here : {cell : Option Kept} → cell ≡ get_or cells p cell → nat_lt 0 (holds_in cell) ≡ false
+      → is_unheld (kept_at (kept_by cells es) n) ≡ true
+  unheld_here was unheld =
+      goes (kept_at (kept_by cells es) n) (sym there) (sym (told_of (λ k. nat_lt 0 (holds_in k)) was) ∙ unheld)
+
+  pub held_here : {cell : Option Kept} → cell ≡ get_or cells p cell → nat_lt 0 (holds_in cell) ≡ true
+      → is_unheld (kept_at (kept_by cells es) n) ≡ false
+  held_here was held =
+      stays (kept_at (kept_by cells es) n) (sym (told_of (λ k. nat_lt 0 (holds_in k)) was) ∙ held)
+
+  pub seen_kept : is_unheld (kept_at (kept_by cells es) n) ≡ false → seen cells es last ≡ freed (seen cells es last) n
+  seen_kept held = simp held refl
+
   module _ {new : Option Kept} (is : new ≡ None) {free : List ℕ} (more : free ≡ ps ++ p ∷ []) where
-    kept_by-freed : kept_by (set cells p new) es ≡ without_kept (kept_by cells es) n
+    pub kept_by-freed : kept_by (set cells p new) es ≡ without_kept (kept_by cells es) n
     kept_by-freed =
         ap (λ c. kept_by (set cells p c) es) is ∙ kept_by-written None tt ∙ replaced-none (kept_by cells es) n
 
-    pub seen_freed : seen (set cells p new) es last ≡ without (seen cells es last) n
-    seen_freed = λ i. record { kept = kept_by-freed i; room = length-set cells p new i; last = last }
+    pub seen_freed : is_unheld (kept_at (kept_by cells es) n) ≡ true
+        → seen (set cells p new) es last ≡ freed (seen cells es last) n
+    seen_freed unheld =
+        let gone : seen (set cells p new) es last ≡ without (seen cells es last) n =
+        λ i. record { kept = kept_by-freed i; room = length-set cells p new i; last = last } in
+        gone ∙ simp unheld refl
 
     pub placed_freed : IsPlaced (set cells p new) es free last
     placed_freed =
@@ -152,8 +222,9 @@ module _ {cells : List (Option Kept)} {es : List Entry} {ps : List ℕ} {last : 
   missing_at : kept_at (kept_by cells es) n ≡ None
   missing_at = kept_at-place cells es n placed.rises ∙ ap (at_place cells) missing.none
 
-  pub not_there : false ≡ is_some (kept_at (kept_by cells es) n)
-  not_there = sym (ap is_some missing_at)
+  -- what is said of no object is said of it
+  pub told_of_none : {X : Type 0} (f : Option Kept → X) → f None ≡ f (kept_at (kept_by cells es) n)
+  told_of_none f = sym (ap f missing_at)
 
   -- and a change of it is none
   pub seen_missing_changed : (f : Kept → Kept) → seen cells es last ≡ changed (seen cells es last) n f
@@ -161,14 +232,14 @@ module _ {cells : List (Option Kept)} {es : List Entry} {ps : List ℕ} {last : 
       ap (λ ks. record { kept = ks; room = length cells; last = last })
       (sym (changed_kept-none (kept_by cells es) n f missing_at))
 
-  pub seen_missing_freed : seen cells es last ≡ without (seen cells es last) n
+  pub seen_missing_freed : seen cells es last ≡ freed (seen cells es last) n
   seen_missing_freed =
-      ap (λ ks. record { kept = ks; room = length cells; last = last })
-      (sym (without_kept-none (kept_by cells es) n missing_at))
+      let stays : is_unheld (kept_at (kept_by cells es) n) ≡ false = ap is_unheld missing_at in simp stays refl
 
 -- a search finds a place exactly where there is an object
 pub found_where_there : {cells borrowed : List (Option Kept)} {es lent : List Entry} {ps : List ℕ} {last : ℕ} (n : ℕ)
     (place : Option ℕ) → IsPlaced cells es ps last → borrowed ≡ cells → lent ≡ es
     → place ≡ place_if_live borrowed (place_in lent n) n → is_some place ≡ is_some (kept_at (kept_by cells es) n)
-found_where_there n None placed same_cells same_index is = not_there placed (IsMissing-lent n same_cells same_index is)
+found_where_there n None placed same_cells same_index is =
+    told_of_none placed (IsMissing-lent n same_cells same_index is) is_some
 found_where_there n (Some p) placed same_cells same_index is = there placed (IsPlaceOf-lent n same_cells same_index is)

@@ -1,30 +1,31 @@
 -- What the fields of a heap's objects say as a heap, and what keeps them sound.
-use Rattle.std.proofs.Common.{◌≡◌, ℕ, zero, suc, ◌+◌, ◌-◌, ◌^◌, ◌<◌, ◌≤◌, Bool, true, false, ◌==◌, ◌&&◌, if◌then◌else◌}
-use Rattle.std.proofs.Common.{nat_lt, nat_le, refl, sym, ◌∙◌, ap, subst, arith}
-use Rattle.std.proofs.Common.{List, [], ◌∷◌, ◌++◌, length, replicate, Option, Some, None, ◌⊎◌, inl, inr}
+use Rattle.std.proofs.Common.{◌≡◌, ℕ, zero, suc, ◌+◌, ◌-◌, ◌^◌, ◌<◌, ◌≤◌, true, false, not, ◌==◌, ◌&&◌}
+use Rattle.std.proofs.Common.{nat_lt, nat_le, refl, sym, ◌∙◌, ap, arith}
+use Rattle.std.proofs.Common.{List, [], ◌∷◌, ◌++◌, length, replicate, Option, Some, None, inl, inr}
 use Rattle.std.specs.Prelude.{slice_set}
 use Rattle.std.specs.Option.{is_some, unwrap_or}
-use Rattle.std.proofs.lemmas.Bool.{cases_Bool, eq-eqb, eqb-true, ne_eqb, lt-ltb, le-ltb, le-leb, lt-leb, ltb-true, false≢true}
+use Rattle.std.proofs.lemmas.Bool.{cases_Bool, eqb-true, lt-ltb, le-ltb, le-leb, lt-leb, ltb-false, not-true, false≢true}
 use Rattle.std.proofs.lemmas.List.{length-set}
 use Rattle.ref_base.specs.Members.{has}
 use Rattle.ref_base.specs.Graphs.{Object, Reference, object_at, is_there, numbers}
 use Rattle.ref_base.specs.Strengths.{IsRising}
-use Rattle.ref_base.specs.Heaps.{Heap, reference_in, one_more, with_changed, with_hold, without_hold}
+use Rattle.ref_base.specs.Heaps.{reference_in, one_more, with_changed, with_hold, without_hold}
 use Rattle.ref_base.specs.CollectorRows.{field_of}
 use Rattle.ref_base.specs.Refusals.{field_count, object_refusal}
 use Rattle.ref_base.specs.declared.config.Config.{Config}
-use Rattle.ref_base.specs.declared.fault.Fault.{Fault}
 use Rattle.ref_base.specs.declared.fault.Fault.TheVariants.{NoCell}
-use Rattle.ref_objects.specs.declared.kind.Kind.{Kind}
 use Rattle.ref_objects.specs.Tables.{Kept, Table, kept_at, objects_of, holds_of, object_in, holds_in, field_in}
-use Rattle.ref_objects.specs.Tables.{field_count_in, kept_reference, first_from, held_from, on_object, with_holds}
-use Rattle.ref_objects.specs.Tables.{changed, changed_kept, made, with_kept, without}
-use Rattle.ref_objects.specs.Grounds.{Ground, kind_by, kind_in, least_from, with_heap, is_free, freed}
+use Rattle.ref_objects.specs.Tables.{field_count_in, has_field, is_unheld, kept_reference, first_from, held_from}
+use Rattle.ref_objects.specs.Tables.{on_object, more_held, less_held, changed, changed_kept, made, with_kept, AllUpTo}
+use Rattle.ref_objects.specs.Tables as table
+use Rattle.ref_objects.specs.Grounds.{kind_by, kind_in, least_from, with_heap, is_free, after_freeing}
+use Rattle.ref_objects.specs.Grounds.{AllFrom, IsInOrder}
 use Rattle.ref_objects.specs.GroundViews.{heap_of, seen, IsSound, made_at}
 use Rattle.ref_objects.proofs.KeptLemmas.{object_at-objects_of, is_there-objects_of, objects_of-changed}
-use Rattle.ref_objects.proofs.KeptLemmas.{objects_of-with_holds, objects_of-append, objects_of-without, IsRising-tail}
-use Rattle.ref_objects.proofs.KeptLemmas.{holds_of-changed, holds_of-made, holds_of-without, length-holds_of, holds_in-le}
-use Rattle.ref_objects.proofs.KeptLemmas.{holds_of-dropped, is_held_in, has-holds_of}
+use Rattle.ref_objects.proofs.KeptLemmas.{objects_of-same, objects_of-append, objects_of-without, IsRising-tail}
+use Rattle.ref_objects.proofs.KeptLemmas.{holds_of-changed, holds_of-made, holds_of-without, holds_of-dropped}
+use Rattle.ref_objects.proofs.KeptLemmas.{has-holds_of, length-one_more, length-one_fewer}
+use Rattle.ref_objects.proofs.MarkLemmas.{marked_of-changed, marked_of-made, marked_of-without}
 
 -- ---- what is read
 
@@ -43,6 +44,14 @@ pub field_count-kept : (ks : List Kept) (n : ℕ)
     → unwrap_or (field_count_in (kept_at ks n)) 0 ≡ field_count (object_at (objects_of ks) n)
 field_count-kept ks n = rw (object_at-objects_of ks n) (field_count-object (kept_at ks n))
 
+has_field-object : (k : Option Kept) (i : ℕ) → has_field k i ≡ nat_lt i (field_count (object_in k))
+has_field-object None i = sym (le-ltb i 0 (omega arith))
+has_field-object (Some k) i = refl
+
+pub has_field-kept : (ks : List Kept) (n i : ℕ)
+    → has_field (kept_at ks n) i ≡ nat_lt i (field_count (object_at (objects_of ks) n))
+has_field-kept ks n i = rw (object_at-objects_of ks n) (has_field-object (kept_at ks n) i)
+
 pub reference-kept : (ks : List Kept) (n : ℕ) → kept_reference (kept_at ks n) ≡ reference_in (object_at (objects_of ks) n)
 reference-kept ks n = ap reference_in (sym (object_at-objects_of ks n))
 
@@ -50,13 +59,6 @@ reference-kept ks n = ap reference_in (sym (object_at-objects_of ks n))
 pub kind_of-there : (o : Option Object) → is_some o ≡ true → Some (kind_by (reference_in o)) ≡ kind_in o
 kind_of-there None there = absurd (false≢true there)
 kind_of-there (Some o) there = refl
-
-kind_none : (o : Option Object) → is_some o ≡ false → None ≡ kind_in o
-kind_none None gone = refl
-kind_none (Some o) gone = absurd (false≢true (sym gone))
-
-pub kind_of-none : (os : List Object) (n : ℕ) → is_there os n ≡ false → None ≡ kind_in (object_at os n)
-kind_of-none os n gone = kind_none (object_at os n) gone
 
 pub first_from-kept : (ks : List Kept) (n : ℕ) → first_from ks n ≡ least_from (numbers (objects_of ks)) n
 first_from-kept [] n = refl
@@ -91,13 +93,42 @@ pub held_from-kept : (ks : List Kept) (n : ℕ) → held_from ks n ≡ least_fro
 held_from-kept [] n = refl
 held_from-kept (k ∷ ks) n = held_count k ks n k.holds refl (held_from-kept ks n)
 
+-- above the last number there is no hold
+pub least_from-past : (ks : List Kept) (last n : ℕ) → AllUpTo last (numbers (objects_of ks)) → last < n
+    → least_from (holds_of ks) n ≡ None
+least_from-past [] last n given past = refl
+least_from-past (k ∷ ks) last n given past =
+    let below : nat_le n k.object.no ≡ false = lt-leb n k.object.no (omega (arith, given.0, past)) in
+    least_from-below k.holds k.object.no n (holds_of ks) below ∙ least_from-past ks last n given.1 past
+
+-- ---- the order of the holds
+
+AllFrom-replicate : (count n m : ℕ) (ms : List ℕ) → n ≤ m → AllFrom n ms → AllFrom n (replicate count m ++ ms)
+AllFrom-replicate zero n m ms order all = all
+AllFrom-replicate (suc count) n m ms order all = (order, AllFrom-replicate count n m ms order all)
+
+AllFrom-holds_of : (ks : List Kept) (n m : ℕ) → n ≤ m → IsRising (m ∷ numbers (objects_of ks)) → AllFrom n (holds_of ks)
+AllFrom-holds_of [] n m order rising = tt
+AllFrom-holds_of (k ∷ ks) n m order rising =
+    let over : n ≤ k.object.no = omega (arith, order, rising.0) in
+    AllFrom-replicate k.holds n k.object.no (holds_of ks) over (AllFrom-holds_of ks n k.object.no over rising.1)
+
+IsInOrder-replicate : (count n : ℕ) (ms : List ℕ) → AllFrom n ms → IsInOrder ms → IsInOrder (replicate count n ++ ms)
+IsInOrder-replicate zero n ms all ordered = ordered
+IsInOrder-replicate (suc count) n ms all ordered =
+    (AllFrom-replicate count n n ms (omega arith) all, IsInOrder-replicate count n ms all ordered)
+
+-- numbers that rise give holds in order
+pub holds_in_order : (ks : List Kept) → IsRising (numbers (objects_of ks)) → IsInOrder (holds_of ks)
+holds_in_order [] rising = tt
+holds_in_order (k ∷ ks) rising =
+    IsInOrder-replicate k.holds k.object.no (holds_of ks)
+    (AllFrom-holds_of ks k.object.no k.object.no (omega arith) rising)
+    (holds_in_order ks (IsRising-tail k.object.no (numbers (objects_of ks)) rising))
+
 pub length-objects_of : (ks : List Kept) → length (objects_of ks) ≡ length ks
 length-objects_of [] = refl
 length-objects_of (k ∷ ks) = ap suc (length-objects_of ks)
-
-cases_zero : (n : ℕ) → (n ≡ 0) ⊎ (0 < n)
-cases_zero zero = inl refl
-cases_zero (suc n) = inr (omega arith)
 
 -- ---- a new object
 
@@ -137,7 +168,11 @@ pub seen_made : (config : Config) (heap_no : ℕ) (t : Table) (slots : List (Opt
     → seen config heap_no (with_kept t (made next k r)) (slice_set slots place (Some next)) clock (next + 1)
     ≡ made_at (seen config heap_no t slots clock next) place k r
 seen_made config heap_no t slots clock next place k r =
-    rw (objects_of-append t.kept (made next k r ∷ []), holds_of-made t.kept (made next k r) refl) refl
+    rw (
+      objects_of-append t.kept (made next k r ∷ []),
+      holds_of-made t.kept (made next k r) refl,
+      marked_of-made t.kept (made next k r) refl,
+    ) refl
 
 -- ---- an object changed
 
@@ -158,7 +193,11 @@ pub seen_changed : (config : Config) (heap_no : ℕ) (t : Table) (slots : List (
     → seen config heap_no (changed t n (on_object f)) slots clock next
     ≡ with_heap (seen config heap_no t slots clock next) (with_changed (heap_of config t slots clock) n f)
 seen_changed config heap_no t slots clock next n f keeps =
-    rw (objects_of-changed t.kept n f, holds_of-changed t.kept n f keeps) refl
+    rw (
+      objects_of-changed t.kept n f,
+      holds_of-changed t.kept n f keeps,
+      marked_of-changed t.kept n (on_object f) (λ k. keeps k.object) (λ k. refl),
+    ) refl
 
 -- ---- holds
 
@@ -204,135 +243,135 @@ below_found (k ∷ ks) m n rising there =
           omega (arith, over, later)
     ]
 
-some_held : (k : Option Kept) (count : ℕ) → holds_in k ≡ Some count → is_some k ≡ true
-some_held None count is = absurd cc
-some_held (Some k) count is = refl
-
 -- one hold more of an object is one more among the holds
-pub holds_of-added : (ks : List Kept) (n count more : ℕ) → IsRising (numbers (objects_of ks))
-    → holds_in (kept_at ks n) ≡ Some count → more ≡ suc count
-    → holds_of (changed_kept ks n (with_holds more)) ≡ one_more (holds_of ks) n
-holds_of-added [] n count more rising was is = absurd cc
-holds_of-added (k ∷ ks) n count more rising was is =
+pub holds_of-added : (ks : List Kept) (n : ℕ) → IsRising (numbers (objects_of ks)) → is_some (kept_at ks n) ≡ true
+    → holds_of (changed_kept ks n more_held) ≡ one_more (holds_of ks) n
+holds_of-added [] n rising there = absurd (false≢true there)
+holds_of-added (k ∷ ks) n rising there =
     elim (cases_Bool (k.object.no == n)) [
       | inl same ↦
-          let own : Some k.holds ≡ Some count = simp same at was in
-          let holds : k.holds ≡ count = cc in
           let number : k.object.no ≡ n = eqb-true k.object.no n same in
+          let up : k.holds + 1 ≡ suc k.holds = omega arith in
           let first : one_more (holds_of ks) k.object.no ≡ k.object.no ∷ holds_of ks =
           one_more-above ks k.object.no k.object.no (omega arith) rising in
           simp same
-          (ap (λ i. replicate i k.object.no ++ holds_of ks) (is ∙ ap suc (sym holds))
+          (ap (λ i. replicate i k.object.no ++ holds_of ks) up
           ∙ sym (one_more-same k.holds k.object.no (holds_of ks) first)
           ∙ ap (λ m. one_more (replicate k.holds k.object.no ++ holds_of ks) m) number)
       | inr other ↦
-          let later : holds_in (kept_at ks n) ≡ Some count = simp other at was in
-          let under : k.object.no < n =
-          below_found ks k.object.no n rising (some_held (kept_at ks n) count later) in
+          let later : is_some (kept_at ks n) ≡ true = simp other at there in
+          let under : k.object.no < n = below_found ks k.object.no n rising later in
           let tail = IsRising-tail k.object.no (numbers (objects_of ks)) rising in
           simp other
-          (ap (λ ms. replicate k.holds k.object.no ++ ms) (holds_of-added ks n count more tail later is)
+          (ap (λ ms. replicate k.holds k.object.no ++ ms) (holds_of-added ks n tail later)
           ∙ sym (one_more-past k.holds k.object.no n (holds_of ks) under))
     ]
 
-pub sound_holds : (config : Config) (t : Table) (slots : List (Option ℕ)) (holds next n before count after : ℕ)
-    → holds_in (kept_at t.kept n) ≡ Some before → after + before ≡ holds + count → IsSound config t slots holds next
-    → IsSound config (changed t n (with_holds count)) slots after next
-sound_holds config t slots holds next n before count after was sums sound =
-    let longer = length-holds_of t.kept n count before was in
-    record {
-      within = sound.within;
-      room = sound.room;
-      slot_count = sound.slot_count;
-      counted = omega (arith, longer, sums, sound.counted);
-      given = sound.given;
-      bounded = sound.bounded;
-    }
+module _ (config : Config) (t : Table) (slots : List (Option ℕ)) (holds next n : ℕ)
+    (sound : IsSound config t slots holds next) where
+  -- a change of an object's holds that is counted
+  sound_counted : (f : Kept → Kept) (count : ℕ) → count ≡ length (holds_of (changed_kept t.kept n f))
+      → IsSound config (changed t n f) slots count next
+  sound_counted f count counted = record {
+    within = sound.within;
+    room = sound.room;
+    slot_count = sound.slot_count;
+    counted = counted;
+    given = sound.given;
+    bounded = sound.bounded;
+  }
 
--- the holds that are counted of an object that is there
-there_count : (k : Option Kept) → is_some k ≡ true → holds_in k ≡ Some (unwrap_or (holds_in k) 0)
-there_count None there = absurd (false≢true there)
-there_count (Some k) there = refl
+  pub sound_added : IsRising (numbers (objects_of t.kept)) → is_some (kept_at t.kept n) ≡ true
+      → IsSound config (changed t n more_held) slots (holds + 1) next
+  sound_added rising there =
+      let one : length (holds_of (changed_kept t.kept n more_held)) ≡ length (holds_of t.kept) + 1 =
+      ap length (holds_of-added t.kept n rising there) ∙ length-one_more (holds_of t.kept) n in
+      sound_counted more_held (holds + 1) (omega (arith, one, sound.counted))
 
-pub count_there : (ks : List Kept) (n : ℕ) → is_there (objects_of ks) n ≡ true
-    → holds_in (kept_at ks n) ≡ Some (unwrap_or (holds_in (kept_at ks n)) 0)
-count_there ks n there = there_count (kept_at ks n) (sym (is_there-objects_of ks n) ∙ there)
-
-held_count_is : (k : Option Kept) → is_held_in k ≡ true
-    → (holds_in k ≡ Some (unwrap_or (holds_in k) 0)) × (0 < unwrap_or (holds_in k) 0)
-held_count_is None held = absurd (false≢true held)
-held_count_is (Some k) held = (refl, ltb-true 0 k.holds held)
-
--- and of one that is held: at least one
-pub count_held : (ks : List Kept) (n : ℕ) → IsRising (numbers (objects_of ks)) → has (holds_of ks) n ≡ true
-    → (holds_in (kept_at ks n) ≡ Some (unwrap_or (holds_in (kept_at ks n)) 0))
-    × (0 < unwrap_or (holds_in (kept_at ks n)) 0)
-count_held ks n rising held = held_count_is (kept_at ks n) (sym (has-holds_of ks n rising) ∙ held)
-
--- the test by which one sees whether an object is held
-held_by_count : (k : Option Kept) (count : ℕ) → holds_in k ≡ Some count → nat_lt 0 count ≡ is_held_in k
-held_by_count None count is = absurd cc
-held_by_count (Some k) count is = let own : k.holds ≡ count = cc in ap (nat_lt 0) (sym own)
-
-pub is_held-some : (ks : List Kept) (n count : ℕ) → IsRising (numbers (objects_of ks))
-    → holds_in (kept_at ks n) ≡ Some count → nat_lt 0 count ≡ has (holds_of ks) n
-is_held-some ks n count rising is = held_by_count (kept_at ks n) count is ∙ sym (has-holds_of ks n rising)
-
-unheld_where_gone : (k : Option Kept) → holds_in k ≡ None → false ≡ is_held_in k
-unheld_where_gone None is = refl
-unheld_where_gone (Some k) is = absurd cc
-
-pub is_held-none : (ks : List Kept) (n : ℕ) → IsRising (numbers (objects_of ks)) → holds_in (kept_at ks n) ≡ None
-    → false ≡ has (holds_of ks) n
-is_held-none ks n rising is = unheld_where_gone (kept_at ks n) is ∙ sym (has-holds_of ks n rising)
+  pub sound_dropped : IsRising (numbers (objects_of t.kept)) → 0 < holds_in (kept_at t.kept n)
+      → IsSound config (changed t n less_held) slots (holds - 1) next
+  sound_dropped rising held =
+      let listed : has (holds_of t.kept) n ≡ true =
+      has-holds_of t.kept n rising ∙ lt-ltb 0 (holds_in (kept_at t.kept n)) held in
+      let one : length (holds_of (changed_kept t.kept n less_held)) + 1 ≡ length (holds_of t.kept) =
+      ap (λ ns. length ns + 1) (holds_of-dropped t.kept n held) ∙ length-one_fewer (holds_of t.kept) n listed in
+      sound_counted less_held (holds - 1) (omega (arith, one, sound.counted))
 
 -- ---- an object goes
 
-unheld_count : (k : Option Kept) → is_some k ≡ true → is_held_in k ≡ false → holds_in k ≡ Some 0
-unheld_count None there unheld = absurd (false≢true there)
-unheld_count (Some k) there unheld =
-    elim (cases_zero k.holds) [
-      | inl none ↦ ap Some none
-      | inr some ↦ absurd (false≢true (sym unheld ∙ lt-ltb 0 k.holds some))
+unheld_count : (k : Option Kept) → is_unheld k ≡ true → holds_in k ≡ 0
+unheld_count None unheld = absurd (false≢true unheld)
+unheld_count (Some k) unheld =
+    let none : nat_lt 0 k.holds ≡ false = not-true (nat_lt 0 k.holds) unheld in
+    let most : k.holds ≤ 0 = ltb-false 0 k.holds none in
+    omega (arith, most)
+
+unheld_in : (k : Option Kept) → is_unheld k ≡ (is_some k && not (nat_lt 0 (holds_in k)))
+unheld_in None = refl
+unheld_in (Some k) = refl
+
+-- an object may go where it is there and nobody holds it
+pub is_unheld-kept : (ks : List Kept) (n : ℕ) → IsRising (numbers (objects_of ks))
+    → is_unheld (kept_at ks n) ≡ (is_there (objects_of ks) n && not (has (holds_of ks) n))
+is_unheld-kept ks n rising =
+    unheld_in (kept_at ks n) ∙ ap (λ b. b && not (nat_lt 0 (holds_in (kept_at ks n)))) (sym (is_there-objects_of ks n))
+    ∙ ap (λ b. is_there (objects_of ks) n && not b) (sym (has-holds_of ks n rising))
+
+pub sound_freed : (config : Config) (t : Table) (slots : List (Option ℕ)) (holds next n : ℕ)
+    → IsSound config t slots holds next → IsSound config (table.freed t n) slots holds next
+sound_freed config t slots holds next n sound =
+    elim (cases_Bool (is_unheld (kept_at t.kept n))) [
+      | inl unheld ↦
+          simp unheld
+          (record {
+            within = sound.within;
+            room = sound.room;
+            slot_count = sound.slot_count;
+            counted = sound.counted ∙ ap length (sym (holds_of-without t.kept n (unheld_count (kept_at t.kept n) unheld)));
+            given = sound.given;
+            bounded = sound.bounded;
+          })
+      | inr held ↦ simp held sound
     ]
 
-pub count_unheld : (ks : List Kept) (n : ℕ) → IsRising (numbers (objects_of ks)) → is_there (objects_of ks) n ≡ true
-    → has (holds_of ks) n ≡ false → holds_in (kept_at ks n) ≡ Some 0
-count_unheld ks n rising there unheld =
-    unheld_count (kept_at ks n) (sym (is_there-objects_of ks n) ∙ there) (sym (has-holds_of ks n rising) ∙ unheld)
+module _ (config : Config) (heap_no : ℕ) (t : Table) (slots : List (Option ℕ)) (clock next n : ℕ)
+    (rising : IsRising (numbers (objects_of t.kept))) where
+  pub seen_added : is_some (kept_at t.kept n) ≡ true
+      → seen config heap_no (changed t n more_held) slots clock next
+      ≡ with_heap (seen config heap_no t slots clock next) (with_hold (heap_of config t slots clock) n)
+  seen_added there =
+      rw (
+        objects_of-same t.kept n more_held (λ k. refl),
+        holds_of-added t.kept n rising there,
+        marked_of-changed t.kept n more_held (λ k. refl) (λ k. refl),
+      ) refl
 
-pub sound_without : (config : Config) (t : Table) (slots : List (Option ℕ)) (holds next n : ℕ)
-    → holds_in (kept_at t.kept n) ≡ Some 0 → IsSound config t slots holds next
-    → IsSound config (without t n) slots holds next
-sound_without config t slots holds next n unheld sound = record {
-  within = sound.within;
-  room = sound.room;
-  slot_count = sound.slot_count;
-  counted = sound.counted ∙ ap length (sym (holds_of-without t.kept n unheld));
-  given = sound.given;
-  bounded = sound.bounded;
-}
+  pub seen_dropped : 0 < holds_in (kept_at t.kept n)
+      → seen config heap_no (changed t n less_held) slots clock next
+      ≡ with_heap (seen config heap_no t slots clock next) (without_hold (heap_of config t slots clock) n)
+  seen_dropped held =
+      rw (
+        objects_of-same t.kept n less_held (λ k. refl),
+        holds_of-dropped t.kept n held,
+        marked_of-changed t.kept n less_held (λ k. refl) (λ k. refl),
+      ) refl
 
-pub seen_added : (config : Config) (heap_no : ℕ) (t : Table) (slots : List (Option ℕ)) (clock next n count : ℕ)
-    → IsRising (numbers (objects_of t.kept)) → holds_in (kept_at t.kept n) ≡ Some count
-    → seen config heap_no (changed t n (with_holds (count + 1))) slots clock next
-    ≡ with_heap (seen config heap_no t slots clock next) (with_hold (heap_of config t slots clock) n)
-seen_added config heap_no t slots clock next n count rising was =
-    rw (objects_of-with_holds t.kept n (count + 1), holds_of-added t.kept n count (count + 1) rising was (omega arith))
-    refl
-
-pub seen_dropped : (config : Config) (heap_no : ℕ) (t : Table) (slots : List (Option ℕ)) (clock next n count : ℕ)
-    → holds_in (kept_at t.kept n) ≡ Some count → 0 < count
-    → seen config heap_no (changed t n (with_holds (count - 1))) slots clock next
-    ≡ with_heap (seen config heap_no t slots clock next) (without_hold (heap_of config t slots clock) n)
-seen_dropped config heap_no t slots clock next n count was some =
-    let more : count ≡ suc (count - 1) = omega (arith, some) in
-    rw (objects_of-with_holds t.kept n (count - 1), holds_of-dropped t.kept n (count - 1) (was ∙ ap Some more)) refl
-
-pub seen_freed : (config : Config) (heap_no : ℕ) (t : Table) (slots : List (Option ℕ)) (clock next n : ℕ)
-    → IsRising (numbers (objects_of t.kept)) → is_free (heap_of config t slots clock) n ≡ true
-    → holds_in (kept_at t.kept n) ≡ Some 0
-    → seen config heap_no (without t n) slots clock next
-    ≡ with_heap (seen config heap_no t slots clock next) (freed (heap_of config t slots clock) n)
-seen_freed config heap_no t slots clock next n rising free unheld =
-    simp free (rw (objects_of-without t.kept n rising, holds_of-without t.kept n unheld) refl)
+  pub seen_freed : seen config heap_no (table.freed t n) slots clock next
+      ≡ after_freeing (seen config heap_no t slots clock next) n
+  seen_freed =
+      elim (cases_Bool (is_unheld (kept_at t.kept n))) [
+        | inl unheld ↦
+            let free : is_free (heap_of config t slots clock) n ≡ true =
+            sym (is_unheld-kept t.kept n rising) ∙ unheld in
+            let none : holds_in (kept_at t.kept n) ≡ 0 = unheld_count (kept_at t.kept n) unheld in
+            simp (unheld, free)
+            (rw (
+              objects_of-without t.kept n rising,
+              holds_of-without t.kept n none,
+              marked_of-without t.kept n rising,
+            ) refl)
+        | inr held ↦
+            let stays : is_free (heap_of config t slots clock) n ≡ false =
+            sym (is_unheld-kept t.kept n rising) ∙ held in
+            simp (held, stays) refl
+      ]

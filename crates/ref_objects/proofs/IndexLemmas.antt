@@ -1,9 +1,9 @@
 -- What the index says of a number, and how it changes.
 use Rattle.std.proofs.Common.{◌≡◌, ℕ, ◌<◌, ◌≤◌, Bool, true, false, ◌==◌, if◌then◌else◌, nat_lt, refl}
-use Rattle.std.proofs.Common.{ap}
+use Rattle.std.proofs.Common.{ap, sym, ◌∙◌}
 use Rattle.std.proofs.Common.{List, [], ◌∷◌, ◌++◌, length, get_or, Some, None, zero, suc, inl, inr}
 use Rattle.std.proofs.Common.{arith}
-use Rattle.std.proofs.lemmas.Bool.{cases_Bool, ltb-true, ltb-false, lt-ltb, ne_eqb}
+use Rattle.std.proofs.lemmas.Bool.{cases_Bool, ltb-true, ltb-false, lt-ltb, le-ltb, ne_eqb}
 use Rattle.std.specs.List.{filter}
 use Rattle.std.specs.List.Sorted.{IsPartitionedBy, IsPartitionPoint}
 use Rattle.ref_objects.specs.Places.{place_in, count_below, AllAbove, NoneAbove, Rises}
@@ -44,6 +44,20 @@ count_below-point (e ∷ es) n (suc i) h point =
       λ k d low high. point.0 (suc k) d (omega arith) (omega arith),
       λ k d low high. point.1 (suc k) d (omega arith) (omega arith),
     )))
+
+-- and so is where an entry of the number itself stands
+pub count_below-at : (es : List Entry) (n i : ℕ) (e : Entry) → Rises es → i < length es → e ≡ get_or es i e → e.no ≡ n
+    → i ≡ count_below es n
+count_below-at [] n i e rises h at is = absurd (omega arith)
+count_below-at (x ∷ xs) n zero e rises h at is =
+    let same : x.no ≡ n = ap (λ (d : Entry). d.no) (sym at) ∙ is in
+    let above : nat_lt x.no n ≡ false = le-ltb x.no n (omega (arith, same)) in
+    simp above refl
+count_below-at (x ∷ xs) n (suc i) e rises h at is =
+    let over : x.no < (get_or xs i e).no = above-at x.no xs rises.0 i e (omega arith) in
+    let same : (get_or xs i e).no ≡ n = ap (λ (d : Entry). d.no) (sym at) ∙ is in
+    let below : nat_lt x.no n ≡ true = lt-ltb x.no n (omega (arith, over, same)) in
+    simp below (ap suc (count_below-at xs n i e rises.1 (omega arith) at is))
 
 -- ---- a number's place
 

@@ -1,12 +1,13 @@
 -- What the table's objects say as the list of a world's objects, and their counts of holds as its list of holds.
-use Rattle.std.proofs.Common.{◌≡◌, ℕ, ◌+◌, ◌<◌, ◌≤◌, Bool, true, false, ◌==◌, ◌||◌, if◌then◌else◌, nat_lt}
+use Rattle.std.proofs.Common.{◌≡◌, ℕ, ◌+◌, ◌<◌, ◌≤◌, Bool, true, false, ◌==◌, ◌||◌, nat_lt}
 use Rattle.std.proofs.Common.{refl, sym, ◌∙◌, ap}
 use Rattle.std.proofs.Common.{List, [], ◌∷◌, ◌++◌, length, replicate, Option, Some, None, zero, suc, inl, inr}
-use Rattle.std.proofs.Common.{arith, append_assoc, length-append}
+use Rattle.std.proofs.Common.{arith, length-append}
 use Rattle.std.proofs.lemmas.Bool.{cases_Bool, eq-eqb, eqb-true, ne_eqb, lt-ltb}
 use Rattle.std.proofs.lemmas.Bool.{false≢true}
 use Rattle.std.proofs.lemmas.List.{length-replicate}
-use Rattle.std.specs.Option.{option_map, is_some}
+use Rattle.std.specs.Prelude.{◌-◌}
+use Rattle.std.specs.Option.{is_some}
 use Rattle.ref_base.specs.Graphs.{Object, object_at, is_there, numbers}
 use Rattle.ref_base.specs.Members.{has}
 use Rattle.ref_base.specs.Strengths.{IsRising}
@@ -14,7 +15,7 @@ use Rattle.ref_base.specs.Heaps.{changed_at, one_more, one_fewer}
 use Rattle.ref_base.specs.CollectorRows.{without as without_numbers}
 use Rattle.ref_base.proofs.HasLaws.{has-append}
 use Rattle.ref_objects.specs.Tables.{Kept, kept_at, objects_of, holds_of, object_in, holds_in, on_object}
-use Rattle.ref_objects.specs.Tables.{with_holds, changed_kept, without_kept}
+use Rattle.ref_objects.specs.Tables.{less_held, changed_kept, without_kept}
 
 -- ---- the objects
 
@@ -44,14 +45,14 @@ objects_of-changed (k ∷ ks) n f =
       | inr other ↦ simp other (ap (λ os. k.object ∷ os) (objects_of-changed ks n f))
     ]
 
--- a change of a count of holds is none among the objects
-pub objects_of-with_holds : (ks : List Kept) (n count : ℕ)
-    → objects_of (changed_kept ks n (with_holds count)) ≡ objects_of ks
-objects_of-with_holds [] n count = refl
-objects_of-with_holds (k ∷ ks) n count =
+-- a change that keeps the object, as of its holds, is none among the objects
+pub objects_of-same : (ks : List Kept) (n : ℕ) (f : Kept → Kept) → ((k : Kept) → (f k).object ≡ k.object)
+    → objects_of (changed_kept ks n f) ≡ objects_of ks
+objects_of-same [] n f keeps = refl
+objects_of-same (k ∷ ks) n f keeps =
     elim (cases_Bool (k.object.no == n)) [
-      | inl same ↦ simp same refl
-      | inr other ↦ simp other (ap (λ os. k.object ∷ os) (objects_of-with_holds ks n count))
+      | inl same ↦ simp same (ap (λ o. o ∷ objects_of ks) (keeps k))
+      | inr other ↦ simp other (ap (λ os. k.object ∷ os) (objects_of-same ks n f keeps))
     ]
 
 pub objects_of-append : (ks ls : List Kept) → objects_of (ks ++ ls) ≡ objects_of ks ++ objects_of ls
@@ -103,33 +104,6 @@ without_numbers-cons (o ∷ os) n ns =
       ]
     ]
 
--- ---- a look-up after a change
-
-pub kept_at-changed : (ks : List Kept) (n : ℕ) (f : Kept → Kept) → ((k : Kept) → (f k).object.no ≡ k.object.no)
-    → kept_at (changed_kept ks n f) n ≡ option_map f (kept_at ks n)
-kept_at-changed [] n f keeps = refl
-kept_at-changed (k ∷ ks) n f keeps =
-    elim (cases_Bool (k.object.no == n)) [
-      | inl same ↦
-          let now : ((f k).object.no == n) ≡ true = ap (λ i. i == n) (keeps k) ∙ same in simp (same, now) refl
-      | inr other ↦ simp other (kept_at-changed ks n f keeps)
-    ]
-
-pub kept_at-changed_other : (ks : List Kept) (n m : ℕ) (f : Kept → Kept)
-    → ((k : Kept) → (f k).object.no ≡ k.object.no) → (n == m) ≡ false → kept_at (changed_kept ks n f) m ≡ kept_at ks m
-kept_at-changed_other [] n m f keeps apart = refl
-kept_at-changed_other (k ∷ ks) n m f keeps apart =
-    elim (cases_Bool (k.object.no == n)) [
-      | inl same ↦
-          let was : (k.object.no == m) ≡ false = ap (λ i. i == m) (eqb-true k.object.no n same) ∙ apart in
-          let now : ((f k).object.no == m) ≡ false = ap (λ i. i == m) (keeps k) ∙ was in
-          simp (same, was, now) refl
-      | inr other ↦
-          simp other
-          (ap (λ (l : Option Kept). if k.object.no == m then Some k else l)
-          (kept_at-changed_other ks n m f keeps apart))
-    ]
-
 -- ---- holds
 
 -- a change of an object is none of holds
@@ -142,62 +116,34 @@ holds_of-changed (k ∷ ks) n f keeps =
       | inr other ↦ simp other (ap (λ ms. replicate k.holds k.object.no ++ ms) (holds_of-changed ks n f keeps))
     ]
 
-pub holds_of-append : (ks ls : List Kept) → holds_of (ks ++ ls) ≡ holds_of ks ++ holds_of ls
-holds_of-append [] ls = refl
-holds_of-append (k ∷ ks) ls =
-    ap (λ ms. replicate k.holds k.object.no ++ ms) (holds_of-append ks ls)
-    ∙ sym (append_assoc (replicate k.holds k.object.no) (holds_of ks) (holds_of ls))
-
 -- a new object brings no hold
 pub holds_of-made : (ks : List Kept) (k : Kept) → k.holds ≡ 0 → holds_of (ks ++ k ∷ []) ≡ holds_of ks
 holds_of-made [] k none = ap (λ count. replicate count k.object.no ++ []) none
 holds_of-made (l ∷ ls) k none = ap (λ ms. replicate l.holds l.object.no ++ ms) (holds_of-made ls k none)
 
 -- nor does an object that nobody holds take one with it
-pub holds_of-without : (ks : List Kept) (n : ℕ) → holds_in (kept_at ks n) ≡ Some 0
+pub holds_of-without : (ks : List Kept) (n : ℕ) → holds_in (kept_at ks n) ≡ 0
     → holds_of (without_kept ks n) ≡ holds_of ks
 holds_of-without [] n none = refl
 holds_of-without (k ∷ ks) n none =
     elim (cases_Bool (k.object.no == n)) [
       | inl same ↦
-          let count : Some k.holds ≡ Some 0 = simp same at none in
-          let zeros : k.holds ≡ 0 = cc in
+          let zeros : k.holds ≡ 0 = simp same at none in
           simp same (sym (ap (λ i. replicate i k.object.no ++ holds_of ks) zeros))
       | inr other ↦
-          let later : holds_in (kept_at ks n) ≡ Some 0 = simp other at none in
+          let later : holds_in (kept_at ks n) ≡ 0 = simp other at none in
           simp other (ap (λ ms. replicate k.holds k.object.no ++ ms) (holds_of-without ks n later))
     ]
 
--- how a count of holds changes how many holds there are
-pub length-holds_of : (ks : List Kept) (n count before : ℕ) → holds_in (kept_at ks n) ≡ Some before
-    → length (holds_of (changed_kept ks n (with_holds count))) + before ≡ length (holds_of ks) + count
-length-holds_of [] n count before was = absurd (cc)
-length-holds_of (k ∷ ks) n count before was =
-    elim (cases_Bool (k.object.no == n)) [
-      | inl same ↦
-          let own : Some k.holds ≡ Some before = simp same at was in
-          let holds : k.holds ≡ before = cc in
-          simp (same, length-append, length-replicate) (omega (arith, holds))
-      | inr other ↦
-          let later : holds_in (kept_at ks n) ≡ Some before = simp other at was in
-          let rest : length (holds_of (changed_kept ks n (with_holds count))) + before ≡ length (holds_of ks) + count =
-          length-holds_of ks n count before later in
-          simp (other, length-append) (omega (arith, rest))
-    ]
-
 -- no object is held oftener than there are holds
-pub holds_in-le : (ks : List Kept) (n count : ℕ) → holds_in (kept_at ks n) ≡ Some count → count ≤ length (holds_of ks)
-holds_in-le [] n count was = absurd (cc)
-holds_in-le (k ∷ ks) n count was =
+pub holds_in-le : (ks : List Kept) (n : ℕ) → holds_in (kept_at ks n) ≤ length (holds_of ks)
+holds_in-le [] n = omega arith
+holds_in-le (k ∷ ks) n =
     elim (cases_Bool (k.object.no == n)) [
-      | inl same ↦
-          let own : Some k.holds ≡ Some count = simp same at was in
-          let holds : k.holds ≡ count = cc in
-          simp (length-append, length-replicate) (omega (arith, holds))
+      | inl same ↦ simp (same, length-append, length-replicate) (omega arith)
       | inr other ↦
-          let later : holds_in (kept_at ks n) ≡ Some count = simp other at was in
-          let rest : count ≤ length (holds_of ks) = holds_in-le ks n count later in
-          simp (length-append) (omega (arith, rest))
+          let rest : holds_in (kept_at ks n) ≤ length (holds_of ks) = holds_in-le ks n in
+          simp (other, length-append, length-replicate) (omega (arith, rest))
     ]
 
 one_fewer-other : (count m n : ℕ) (ms : List ℕ) → (m == n) ≡ false
@@ -205,30 +151,46 @@ one_fewer-other : (count m n : ℕ) (ms : List ℕ) → (m == n) ≡ false
 one_fewer-other zero m n ms other = refl
 one_fewer-other (suc count) m n ms other = simp other (ap (λ ns. m ∷ ns) (one_fewer-other count m n ms other))
 
--- one hold less of an object is one fewer among the holds
-pub holds_of-dropped : (ks : List Kept) (n count : ℕ) → holds_in (kept_at ks n) ≡ Some (suc count)
-    → holds_of (changed_kept ks n (with_holds count)) ≡ one_fewer (holds_of ks) n
-holds_of-dropped [] n count was = absurd (cc)
-holds_of-dropped (k ∷ ks) n count was =
+-- one hold less of an object that is held is one fewer among the holds
+pub holds_of-dropped : (ks : List Kept) (n : ℕ) → 0 < holds_in (kept_at ks n)
+    → holds_of (changed_kept ks n less_held) ≡ one_fewer (holds_of ks) n
+holds_of-dropped [] n held = absurd (omega (arith, held))
+holds_of-dropped (k ∷ ks) n held =
     elim (cases_Bool (k.object.no == n)) [
       | inl same ↦
-          let own : Some k.holds ≡ Some (suc count) = simp same at was in
-          let holds : k.holds ≡ suc count = cc in
-          let first : one_fewer (k.object.no ∷ replicate count k.object.no ++ holds_of ks) n
-          ≡ replicate count k.object.no ++ holds_of ks = simp same refl in
+          let own : 0 < k.holds = simp same at held in
+          let holds : k.holds ≡ suc (k.holds - 1) = omega (arith, own) in
+          let first : one_fewer (k.object.no ∷ replicate (k.holds - 1) k.object.no ++ holds_of ks) n
+          ≡ replicate (k.holds - 1) k.object.no ++ holds_of ks = simp same refl in
           simp same
           (sym (ap (λ i. one_fewer (replicate i k.object.no ++ holds_of ks) n) holds ∙ first))
       | inr other ↦
-          let later : holds_in (kept_at ks n) ≡ Some (suc count) = simp other at was in
+          let later : 0 < holds_in (kept_at ks n) = simp other at held in
           simp other
-          (ap (λ ms. replicate k.holds k.object.no ++ ms) (holds_of-dropped ks n count later)
+          (ap (λ ms. replicate k.holds k.object.no ++ ms) (holds_of-dropped ks n later)
           ∙ sym (one_fewer-other k.holds k.object.no n (holds_of ks) other))
     ]
 
--- whether the object is held
-abbrev pub is_held_in : Option Kept → Bool
-is_held_in None = false
-is_held_in (Some k) = nat_lt 0 k.holds
+pub length-one_more : (ns : List ℕ) (n : ℕ) → length (one_more ns n) ≡ length ns + 1
+length-one_more [] n = refl
+length-one_more (m ∷ ms) n =
+    elim (cases_Bool (nat_lt m n)) [
+      | inl below ↦
+          let rest : length (one_more ms n) ≡ length ms + 1 = length-one_more ms n in
+          simp below (omega (arith, rest))
+      | inr above ↦ simp above (omega arith)
+    ]
+
+pub length-one_fewer : (ns : List ℕ) (n : ℕ) → has ns n ≡ true → length (one_fewer ns n) + 1 ≡ length ns
+length-one_fewer [] n is = absurd (false≢true is)
+length-one_fewer (m ∷ ms) n is =
+    elim (cases_Bool (m == n)) [
+      | inl same ↦ simp same (omega arith)
+      | inr other ↦
+          let later : has ms n ≡ true = simp other at is in
+          let rest : length (one_fewer ms n) + 1 ≡ length ms = length-one_fewer ms n later in
+          simp other (omega (arith, rest))
+    ]
 
 has-replicate : (count n : ℕ) → has (replicate count n) n ≡ nat_lt 0 count
 has-replicate zero n = refl
@@ -255,7 +217,7 @@ or-false false = refl
 
 -- a number is among the holds exactly where its object is held
 pub has-holds_of : (ks : List Kept) (n : ℕ) → IsRising (numbers (objects_of ks))
-    → has (holds_of ks) n ≡ is_held_in (kept_at ks n)
+    → has (holds_of ks) n ≡ nat_lt 0 (holds_in (kept_at ks n))
 has-holds_of [] n rising = refl
 has-holds_of (k ∷ ks) n rising =
     elim (cases_Bool (k.object.no == n)) [

@@ -5,5 +5,7 @@ pub mod ChangeLemmas
 pub mod PushLemmas
 pub mod TableLemmas
 pub mod KeptLemmas
-pub mod WalkLemmas
 pub mod GroundLemmas
+pub mod UnmarkedLemmas
+pub mod MarkLemmas
+pub mod MarkedLemmas

@@ -95,7 +95,7 @@ module _ {cells : List (Option Kept)} {es fs : List Entry} {ps rest : List ℕ} 
     (placed : IsPlaced cells es ps last) (can : CanMake cells es fs ps rest last p) where
   module _ {n : ℕ} (rises : last < n) {k : Kept} (number : k.object.no ≡ n) {c : Option Kept} (is : c ≡ Some k)
       {gs : List Entry} (pushed : gs ≡ fs ++ record { no = n; place = p } ∷ []) where
-    kept_by-made : kept_by (set cells p c) gs ≡ kept_by cells es ++ k ∷ []
+    pub kept_by-made : kept_by (set cells p c) gs ≡ kept_by cells es ++ k ∷ []
     kept_by-made =
         let e : Entry = record { no = n; place = p } in
         let absent : IsAbsent fs c =

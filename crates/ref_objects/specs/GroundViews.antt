@@ -1,12 +1,11 @@
 -- What a contract sees of the fields of a heap's objects, and what holds of them.
-use Rattle.std.specs.Prelude.{◌≡◌, ℕ, ◌+◌, ◌*◌, ◌^◌, ◌<◌, ◌≤◌, true, List, [], ◌∷◌, ◌++◌, length, Option, Some, slice_set, if◌then◌else◌}
+use Rattle.std.specs.Prelude.{◌≡◌, ℕ, ◌+◌, ◌*◌, ◌^◌, ◌<◌, ◌≤◌, true}
+use Rattle.std.specs.Prelude.{List, [], ◌∷◌, ◌++◌, length, Option, Some, slice_set}
 use Rattle.ref_base.specs.Graphs.{Object, Reference}
 use Rattle.ref_base.specs.Heaps.{Heap, nulls}
-use Rattle.ref_base.specs.Paths.{is_soft}
 use Rattle.ref_base.specs.Limits.{is_within_limits}
 use Rattle.ref_base.specs.declared.config.Config.{Config}
-use Rattle.ref_base.specs.declared.strength.Strength.{Strength}
-use Rattle.ref_objects.specs.Tables.{Table, objects_of, holds_of}
+use Rattle.ref_objects.specs.Tables.{Table, objects_of, holds_of, marked_of}
 use Rattle.ref_objects.specs.Grounds.{Ground}
 
 -- the heap that a table, slots and the clock are
@@ -24,6 +23,7 @@ seen config heap_no table slots clock next = record {
   heap = heap_of config table slots clock;
   heap_no = heap_no;
   next = next;
+  marked = marked_of table.kept;
 }
 
 -- The configuration is within its limits; there is a cell for each object that it allows, and a slot for each; holds are
@@ -35,15 +35,6 @@ pub record IsSound (config : Config) (table : Table) (slots : List (Option ℕ))
   pub counted : holds ≡ length (holds_of table.kept)
   pub given : table.last < next
   pub bounded : next ≤ 2 ^ 32
-
--- a reference that is made now: its stamp is the clock if it is soft, and else 0
-abbrev pub reference_to : Heap → Strength → ℕ → Option ℕ → Reference
-reference_to h strength referent queue = record {
-  strength = strength;
-  referent = Some referent;
-  stamp = if is_soft strength then h.clock else 0;
-  queue = queue;
-}
 
 -- an object of so many null fields is made, and the slot at this place holds it
 abbrev pub made_at : Ground → ℕ → ℕ → Option Reference → Ground

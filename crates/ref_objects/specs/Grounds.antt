@@ -1,27 +1,29 @@
 -- What one sees of the objects of a heap: the heap as plain data, what refuses its calls, and what they leave (package
 -- `java.lang.ref` of Java SE 17 for what making a reference does; numbers, slots, holds and cells: this project's
 -- profile). The functions of a heap are those of the model of the whole collector.
-use Rattle.std.specs.Prelude.{◌≡◌, ℕ, ◌+◌, ◌*◌, ◌/◌, ◌^◌, Bool, true, false, ◌&&◌, ◌==◌, not, if◌then◌else◌, nat_le, is_some}
-use Rattle.std.specs.Prelude.{List, [], ◌∷◌, length, Option, Some, None, Result, Ok, Err, slice_index_or}
+use Rattle.std.specs.Prelude.{◌≡◌, ℕ, ◌+◌, ◌*◌, ◌/◌, ◌^◌, ◌<◌, ◌≤◌, Bool, ◌&&◌, ◌==◌, not, if◌then◌else◌, nat_le}
+use Rattle.std.specs.Prelude.{List, [], ◌∷◌, Option, Some, None, Result, Ok, Err}
 use Rattle.ref_base.specs.Members.{has}
-use Rattle.ref_base.specs.Graphs.{Object, Reference, is_there, object_at}
+use Rattle.ref_base.specs.Graphs.{Object, Reference, is_there}
 use Rattle.ref_base.specs.Limits.{is_within_limits}
-use Rattle.ref_base.specs.Heaps.{Heap, first_heap, slot_at, reference_at, with_slot, with_hold, without_hold, with_changed}
-use Rattle.ref_base.specs.Heaps.{with_reference, made}
+use Rattle.ref_base.specs.Heaps.{Heap, first_heap, slot_at, with_hold, made, one_more, one_fewer}
 use Rattle.ref_base.specs.CollectorRows.{without}
-use Rattle.ref_base.specs.Refusals.{unless, has_slot, unless_empty, holds_refusal}
+use Rattle.ref_base.specs.Refusals.{unless, has_slot, holds_refusal}
 use Rattle.ref_base.specs.declared.config.Config.{Config}
 use Rattle.ref_base.specs.declared.fault.Fault.{Fault}
-use Rattle.ref_base.specs.declared.fault.Fault.TheVariants.{BadConfig, NoSuchObject, NoMemory, NoSuchActor, ForeignHold}
+use Rattle.ref_base.specs.declared.fault.Fault.TheVariants.{BadConfig, EmptySlot, NoSuchObject, NoMemory, NoSuchActor}
+use Rattle.ref_base.specs.declared.fault.Fault.TheVariants.{ForeignHold}
 use Rattle.ref_objects.specs.declared.start.Start.{Start}
 use Rattle.ref_objects.specs.declared.kind.Kind.{Kind}
 use Rattle.ref_objects.specs.declared.kind.Kind.TheVariants as kind
 
--- a heap, its number among the heaps of a program, and the number of its next object
+-- a heap, its number among the heaps of a program, the number of its next object, and the numbers of the objects that are
+-- marked, in order
 pub record Ground : Type 0 where
   pub heap : Heap
   pub heap_no : ℕ
   pub next : ℕ
+  pub marked : List ℕ
 
 -- a hold: the heap that it is of, and the object that it holds
 pub record Held : Type 0 where
@@ -45,11 +47,12 @@ starting_refusal config start =
 
 -- a heap in which nothing was made yet
 abbrev pub first_ground : Config → ℕ → ℕ → Ground
-first_ground config heap_no next = record { heap = first_heap config; heap_no = heap_no; next = next }
+first_ground config heap_no next =
+    record { heap = first_heap config; heap_no = heap_no; next = next; marked = [] }
 
--- a new heap is made, unless the configuration or the start is refused, or memory isn't there
-abbrev pub IsMade : Option Fault → Ground → Result Ground Fault → Type 0
-IsMade refusal new (Ok g) = (refusal ≡ None) × (g ≡ new)
+-- this is made, unless it is refused with just this fault, or memory isn't there
+abbrev pub IsMade : {T : Type 0} → Option Fault → T → Result T Fault → Type 0
+IsMade refusal new (Ok answer) = (refusal ≡ None) × (answer ≡ new)
 IsMade None new (Err fault) = fault ≡ NoMemory
 IsMade (Some first) new (Err fault) = fault ≡ first
 
@@ -70,7 +73,7 @@ abbrev pub mint_refusal : Ground → ℕ → Option Fault
 mint_refusal g n = unless (is_there g.heap.objects n) NoSuchObject (holds_refusal g.heap)
 
 abbrev pub held_refusal : Ground → Option ℕ → Option Fault
-held_refusal g None = unless_empty None None
+held_refusal g None = Some EmptySlot
 held_refusal g (Some n) = mint_refusal g n
 
 abbrev pub hold_refusal : Ground → ℕ → ℕ → Option Fault
@@ -112,6 +115,16 @@ abbrev pub least_from : List ℕ → ℕ → Option ℕ
 least_from [] n = None
 least_from (m ∷ ms) n = if nat_le n m then Some m else least_from ms n
 
+-- every number is at least n
+abbrev pub AllFrom : ℕ → List ℕ → Type 0
+AllFrom n [] = Unit {0}
+AllFrom n (m ∷ ms) = (n ≤ m) × AllFrom n ms
+
+-- no number is less than one before it
+abbrev pub IsInOrder : List ℕ → Type 0
+IsInOrder [] = Unit {0}
+IsInOrder (n ∷ ns) = AllFrom n ns × IsInOrder ns
+
 -- ---- what calls leave
 
 -- this where the call was accepted, and else what was there
@@ -131,9 +144,6 @@ abbrev pub after_minting : Ground → Result Held Fault → Ground
 after_minting g (Ok hold) = with_heap g (with_hold g.heap hold.object)
 after_minting g (Err fault) = g
 
-abbrev pub with_clock : Heap → ℕ → Heap
-with_clock h now = record h { clock = now }
-
 -- there is such an object, and nobody holds it
 abbrev pub is_free : Heap → ℕ → Bool
 is_free h n = is_there h.objects n && not (has h.holds n)
@@ -142,6 +152,31 @@ is_free h n = is_there h.objects n && not (has h.holds n)
 abbrev pub freed : Heap → ℕ → Heap
 freed h n = if is_free h n then record h { objects = without (n ∷ []) h.objects } else h
 
--- the clock at which a reference was made or last got
-abbrev pub with_stamp : ℕ → Reference → Reference
-with_stamp stamp r = record r { stamp = stamp }
+-- ---- marks
+
+-- whether there is such an object, and it isn't marked
+abbrev pub is_unmarked : Ground → ℕ → Bool
+is_unmarked g n = is_there g.heap.objects n && not (has g.marked n)
+
+-- the object of this number is marked, if there is one
+abbrev pub with_mark : Ground → ℕ → Ground
+with_mark g n = if is_unmarked g n then record g { marked = one_more g.marked n } else g
+
+-- no object is marked
+abbrev pub without_marks : Ground → Ground
+without_marks g = record g { marked = [] }
+
+-- the numbers of the objects that aren't marked, in order
+abbrev pub unmarked : List Object → List ℕ → List ℕ
+unmarked [] marked = []
+unmarked (o ∷ os) marked = if has marked o.no then unmarked os marked else o.no ∷ unmarked os marked
+
+-- an object goes that nobody holds, and its mark with it
+abbrev pub after_freeing : Ground → ℕ → Ground
+after_freeing g n =
+    if is_free g.heap n then record g { heap = freed g.heap n; marked = one_fewer g.marked n } else g
+
+-- every number is below n
+abbrev pub AllBelow : ℕ → List ℕ → Type 0
+AllBelow n [] = Unit {0}
+AllBelow n (m ∷ ms) = (m < n) × AllBelow n ms

@@ -1,20 +1,21 @@
 -- How the table lies in memory: cells by place, an index of places by number, and the places that are free.
 use Rattle.std.specs.Prelude.{◌≡◌, ℕ, zero, suc, ◌+◌, ◌-◌, ◌*◌, ◌<◌, ◌≤◌, ◌^◌}
-use Rattle.std.specs.Prelude.{Bool, false, ◌==◌, ◌&&◌, if◌then◌else◌, nat_lt}
+use Rattle.std.specs.Prelude.{Bool, false, ◌==◌, ◌&&◌, not, if◌then◌else◌, nat_lt}
 use Rattle.std.specs.Prelude.{List, [], ◌∷◌, length, Option, Some, None, slice_index_or, ◌++◌}
 use Rattle.std.specs.List.{filter}
 use Rattle.std.specs.Borrow.{Bor}
 use Rattle.ref_base.specs.Graphs.{Reference}
 use Rattle.ref_base.specs.Members.{has}
-use Rattle.ref_objects.specs.Tables.{Kept, Table}
+use Rattle.ref_objects.specs.Tables.{Kept, Table, marked_of, with_marked}
 use Rattle.ref_objects.specs.declared.index.Entry.{Entry}
 
 -- what a cell holds: an object, or nothing where it has no number
-abbrev pub kept_in : Option ℕ → List (Option ℕ) → Option Reference → ℕ → Option Kept
-kept_in None fields reference holds = None
-kept_in (Some n) fields reference holds = Some (record {
+abbrev pub kept_in : Option ℕ → List (Option ℕ) → Option Reference → ℕ → Bool → Option Kept
+kept_in None fields reference holds marked = None
+kept_in (Some n) fields reference holds marked = Some (record {
   object = record { no = n; fields = fields; reference = reference };
   holds = holds;
+  marked = marked;
 })
 
 -- what the cell at a place holds: nothing where there is no such place
@@ -112,12 +113,14 @@ pub record IsPlaced (cells : List (Option Kept)) (index : List Entry) (places : 
   pub small : length cells ≤ 2 ^ 16
   pub few : length index ≤ 2 * length cells
 
--- what holds of a table's fields: that, and no push to the index or to the free places ever takes memory
+-- what holds of a table's fields: that, no push to the index or to the free places ever takes memory, and the marked
+-- objects are counted
 pub record IsSound (cells : List (Option Kept)) (index : List Entry) (places : List ℕ)
-    (last index_room places_room : ℕ) : Type 0 where
+    (last index_room places_room marked : ℕ) : Type 0 where
   pub placed : IsPlaced cells index places last
   pub index_fits : 2 * length cells ≤ index_room
   pub places_fit : length cells ≤ places_room
+  pub marks_counted : marked ≡ length (marked_of (kept_by cells index))
 
 -- what a contract sees of a table's fields
 abbrev pub seen : List (Option Kept) → List Entry → ℕ → Table
@@ -127,3 +130,24 @@ seen cells index last = record { kept = kept_by cells index; room = length cells
 abbrev pub places_below : ℕ → ℕ → List ℕ
 places_below room zero = []
 places_below room (suc count) = places_below room count ++ (room - 1 - count) ∷ []
+
+-- ---- marks
+
+-- whether a cell holds the object of number n, and that isn't marked
+abbrev pub is_unmarked_as : Option Kept → ℕ → Bool
+is_unmarked_as None n = false
+is_unmarked_as (Some k) n = k.object.no == n && not k.marked
+
+-- whether the cell that an entry names still holds the entry's object, and that isn't marked
+abbrev pub is_unmarked : List (Option Kept) → Entry → Bool
+is_unmarked cells e = is_unmarked_as (cell_at cells e.place) e.no
+
+-- the number of the first entry whose object isn't marked
+abbrev pub first_unmarked : List (Option Kept) → List Entry → Option ℕ
+first_unmarked cells [] = None
+first_unmarked cells (e ∷ es) = if is_unmarked cells e then Some e.no else first_unmarked cells es
+
+-- what a cell holds, unmarked
+abbrev pub unmarked_cell : Option Kept → Option Kept
+unmarked_cell None = None
+unmarked_cell (Some k) = Some (with_marked false k)

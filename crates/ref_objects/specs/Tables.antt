@@ -1,15 +1,17 @@
 -- The heap's table of objects, as plain data, and the changes that calls make to it (package `java.lang.ref` of Java SE
 -- 17; numbers, holds and a heap's room: this project's profile).
-use Rattle.std.specs.Prelude.{ℕ, ◌≤◌, ◌==◌, ◌&&◌, if◌then◌else◌, nat_le, nat_lt}
+use Rattle.std.specs.Prelude.{ℕ, ◌+◌, ◌-◌, ◌≤◌, Bool, false, not, ◌==◌, ◌&&◌, if◌then◌else◌, nat_le, nat_lt}
 use Rattle.std.specs.Prelude.{List, [], ◌∷◌, ◌++◌, length, replicate, Option, Some, None, slice_index_or}
+use Rattle.ref_base.specs.Members.{without_first}
 use Rattle.ref_base.specs.Graphs.{Object, Reference, numbers}
 use Rattle.ref_base.specs.Strengths.{IsRising}
 use Rattle.ref_base.specs.Heaps.{reference_in}
 
--- an object of the table, and how many holds of it are out
+-- an object of the table, how many holds of it are out, and whether it is marked
 pub record Kept : Type 0 where
   pub object : Object
   pub holds : ℕ
+  pub marked : Bool
 
 -- the objects that there are, in order of number, how many there may be, and the greatest number that was ever given
 pub record Table : Type 0 where
@@ -57,10 +59,20 @@ field_in (Some k) i = slice_index_or k.object.fields i None
 abbrev pub kept_reference : Option Kept → Option Reference
 kept_reference k = reference_in (object_in k)
 
--- how often the object is held, if there is one
-abbrev pub holds_in : Option Kept → Option ℕ
-holds_in None = None
-holds_in (Some k) = Some k.holds
+-- whether there is an object that has field i
+abbrev pub has_field : Option Kept → ℕ → Bool
+has_field None i = false
+has_field (Some k) i = nat_lt i (length k.object.fields)
+
+-- how often the object is held: 0 where there is none
+abbrev pub holds_in : Option Kept → ℕ
+holds_in None = 0
+holds_in (Some k) = k.holds
+
+-- whether there is an object, and nobody holds it
+abbrev pub is_unheld : Option Kept → Bool
+is_unheld None = false
+is_unheld (Some k) = not (nat_lt 0 k.holds)
 
 -- the first number from n on
 abbrev pub first_from : List Kept → ℕ → Option ℕ
@@ -93,24 +105,19 @@ changed_kept (k ∷ ks) n f = if k.object.no == n then f k ∷ ks else k ∷ cha
 
 -- the objects but the one of number n
 abbrev pub without_kept : List Kept → ℕ → List Kept
-without_kept [] n = []
-without_kept (k ∷ ks) n = if k.object.no == n then ks else k ∷ without_kept ks n
+without_kept = without_first (λ k. k.object.no)
 
 -- a change of the object, and not of its holds
 abbrev pub on_object : (Object → Object) → Kept → Kept
 on_object f k = record k { object = f k.object }
 
--- so many holds
-abbrev pub with_holds : ℕ → Kept → Kept
-with_holds count k = record k { holds = count }
+-- one more hold
+abbrev pub more_held : Kept → Kept
+more_held k = record k { holds = k.holds + 1 }
 
--- the referent is this, or null
-abbrev pub with_referent : Option ℕ → Reference → Reference
-with_referent value r = record r { referent = value }
-
--- the clock at which it was made or last got
-abbrev pub with_stamp : ℕ → Reference → Reference
-with_stamp stamp r = record r { stamp = stamp }
+-- one hold fewer, where there is one
+abbrev pub less_held : Kept → Kept
+less_held k = record k { holds = k.holds - 1 }
 
 -- the table with the object of number n changed
 abbrev pub changed : Table → ℕ → (Kept → Kept) → Table
@@ -120,13 +127,58 @@ changed t n f = record t { kept = changed_kept t.kept n f }
 abbrev pub without : Table → ℕ → Table
 without t n = record t { kept = without_kept t.kept n }
 
--- an object that nobody holds, of so many null fields
+-- the table without the object of number n, where nobody holds it
+abbrev pub freed : Table → ℕ → Table
+freed t n = if is_unheld (kept_at t.kept n) then without t n else t
+
+-- an object that nobody holds, unmarked and of so many null fields
 abbrev pub made : ℕ → ℕ → Option Reference → Kept
 made n count reference = record {
   object = record { no = n; fields = replicate count None; reference = reference };
   holds = 0;
+  marked = false;
 }
 
 -- the table with one more object, whose number is the greatest
 abbrev pub with_kept : Table → Kept → Table
 with_kept t k = record { kept = t.kept ++ k ∷ []; room = t.room; last = k.object.no }
+
+-- ---- marks
+
+-- whether there is an object, and it is marked
+abbrev pub is_marked_in : Option Kept → Bool
+is_marked_in None = false
+is_marked_in (Some k) = k.marked
+
+-- whether there is an object, and it isn't marked
+abbrev pub is_unmarked_in : Option Kept → Bool
+is_unmarked_in None = false
+is_unmarked_in (Some k) = not k.marked
+
+-- the numbers of the objects that are marked, in order
+abbrev pub marked_of : List Kept → List ℕ
+marked_of [] = []
+marked_of (k ∷ ks) = if k.marked then k.object.no ∷ marked_of ks else marked_of ks
+
+-- and of those that aren't
+abbrev pub unmarked_of : List Kept → List ℕ
+unmarked_of [] = []
+unmarked_of (k ∷ ks) = if k.marked then unmarked_of ks else k.object.no ∷ unmarked_of ks
+
+-- the first number from n on of an object that isn't marked
+abbrev pub unmarked_from : List Kept → ℕ → Option ℕ
+unmarked_from [] n = None
+unmarked_from (k ∷ ks) n = if nat_le n k.object.no && not k.marked then Some k.object.no else unmarked_from ks n
+
+-- marked, or not
+abbrev pub with_marked : Bool → Kept → Kept
+with_marked marked k = record k { marked = marked }
+
+-- the objects, none of them marked
+abbrev pub unmarked_kept : List Kept → List Kept
+unmarked_kept [] = []
+unmarked_kept (k ∷ ks) = with_marked false k ∷ unmarked_kept ks
+
+-- the table with none of its objects marked
+abbrev pub without_marks : Table → Table
+without_marks t = record t { kept = unmarked_kept t.kept }

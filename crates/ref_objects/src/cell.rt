@@ -1,11 +1,12 @@
 //! A place for one object.
 
-ghost use Rattle.std.specs.Prelude.{◌≡◌, ◌≤◌};
+ghost use Rattle.std.specs.Prelude.{◌≡◌, ◌-◌, ◌^◌, ◌<◌, ◌≤◌, nat_lt, true};
 ghost use Rattle.std.specs.Option.{option_map};
-ghost use Rattle.ref_base.specs.Heaps.{with_field, with_reference};
-ghost use Rattle.ref_objects.specs.Places.{is_of, is_held_as};
-ghost use Rattle.ref_objects.specs.Tables.{made, field_count_in, field_in, kept_reference, holds_in};
-ghost use Rattle.ref_objects.specs.Tables.{on_object, with_holds, with_referent, with_stamp};
+ghost use Rattle.ref_base.specs.Heaps.{with_field, with_reference, with_stamp, cleared};
+ghost use Rattle.ref_objects.specs.Places.{is_of, is_held_as, is_unmarked_as, unmarked_cell};
+ghost use Rattle.ref_objects.specs.Tables.{made, field_count_in, field_in, has_field, kept_reference, holds_in};
+ghost use Rattle.ref_objects.specs.Tables.{on_object, more_held, less_held};
+ghost use Rattle.ref_objects.specs.Tables.{is_marked_in, is_unmarked_in, with_marked};
 
 use crate::fields::Fields;
 use crate::reference::Reference;
@@ -20,6 +21,7 @@ pub(crate) struct Cell {
     fields: Fields,
     reference: Option<Reference>,
     holds: u64,
+    marked: bool,
 }
 
 impl Model for Cell {
@@ -30,7 +32,7 @@ impl Model for Cell {
 
     ghost use Rattle.ref_objects.specs.Places.{kept_in};
 
-    ghost view = { λ c. kept_in c.no c.fields c.reference c.holds };
+    ghost view = { λ c. kept_in c.no c.fields c.reference c.holds c.marked };
 }
 
 impl Cell {
@@ -43,10 +45,11 @@ impl Cell {
             fields: Fields::nulls(0),
             reference: None,
             holds: 0,
+            marked: false,
         }
     }
 
-    /// The cell of a new object that nobody holds, with so many null fields.
+    /// The cell of a new object that nobody holds, unmarked, with so many null fields.
     pub(crate) fn of(no: ObjNo, count: usize, reference: Option<Reference>) -> Self
         requires { count ≤ 8 }
         ensures { result ≡ Some (made no count reference) }
@@ -56,6 +59,7 @@ impl Cell {
             fields: Fields::nulls(count),
             reference,
             holds: 0,
+            marked: false,
         }
     }
 
@@ -109,30 +113,34 @@ impl Cell {
         }
     }
 
-    /// How often the object is held.
-    pub(crate) fn holds(&self) -> Option<u64>
-        ensures { result ≡ holds_in self.now }
+    /// Whether the object is held.
+    pub(crate) fn is_held(&self) -> bool
+        ensures { result ≡ nat_lt 0 (holds_in self.now) }
     {
         match self.no {
-            Some(_) => Some(self.holds),
-            None => None,
+            Some(_) => self.holds > 0,
+            None => false,
         }
     }
 
-    /// Writes a field of the object.
-    pub(crate) fn set_field(&mut self, field: usize, value: Option<ObjNo>)
-        ensures { self.new ≡ option_map (on_object (with_field field value)) self.old }
+    /// Writes a field of the object. False where there is no such field: then nothing changes.
+    pub(crate) fn set_field(&mut self, field: usize, value: Option<ObjNo>) -> bool
+        ensures there { result ≡ has_field self.old field }
+        ensures after { self.new ≡ option_map (on_object (with_field field value)) self.old }
     {
-        self.fields.set(field, value);
+        match self.no {
+            Some(_) => self.fields.set(field, value),
+            None => false,
+        }
     }
 
-    /// Writes the referent, where the object is a reference.
-    pub(crate) fn set_referent(&mut self, value: Option<ObjNo>)
-        ensures { self.new ≡ option_map (on_object (with_reference (with_referent value))) self.old }
+    /// Clears the reference, where the object is one.
+    pub(crate) fn cut(&mut self)
+        ensures { self.new ≡ option_map (on_object (with_reference cleared)) self.old }
     {
         if let Some(reference) = self.reference {
             self.reference = Some(Reference {
-                referent: value,
+                referent: None,
                 ..reference
             });
         }
@@ -147,11 +155,26 @@ impl Cell {
         }
     }
 
-    /// Writes how often the object is held.
-    pub(crate) fn set_holds(&mut self, count: u64)
-        ensures { self.new ≡ option_map (with_holds count) self.old }
+    /// Counts one more hold of the object.
+    pub(crate) fn add_hold(&mut self)
+        requires { holds_in self.old < 2 ^ 64 - 1 }
+        ensures { self.new ≡ option_map more_held self.old }
     {
-        self.holds = count;
+        if self.no.is_some() {
+            self.holds += 1;
+        }
+    }
+
+    /// Counts one hold of the object fewer. False where nobody holds it: then nothing changes.
+    pub(crate) fn drop_hold(&mut self) -> bool
+        ensures held { result ≡ nat_lt 0 (holds_in self.old) }
+        ensures after { self.new ≡ option_map less_held self.old }
+    {
+        let is_held = self.is_held();
+        if is_held {
+            self.holds -= 1;
+        }
+        is_held
     }
 
     /// Frees the cell.
@@ -159,5 +182,52 @@ impl Cell {
         ensures { self.new ≡ None }
     {
         self.no = None;
+    }
+
+    /// Whether there is an object, and it is marked.
+    pub(crate) fn is_marked(&self) -> bool
+        ensures { result ≡ is_marked_in self.now }
+    {
+        match self.no {
+            Some(_) => self.marked,
+            None => false,
+        }
+    }
+
+    /// Whether there is an object, and it isn't marked.
+    pub(crate) fn is_unmarked(&self) -> bool
+        ensures { result ≡ is_unmarked_in self.now }
+    {
+        match self.no {
+            Some(_) => !self.marked,
+            None => false,
+        }
+    }
+
+    /// Whether this is the cell of the object of this number, and that isn't marked.
+    pub(crate) fn is_unmarked_as(&self, no: ObjNo) -> bool
+        ensures { result ≡ is_unmarked_as self.now no }
+    {
+        match self.no {
+            Some(own) => own == no && !self.marked,
+            None => false,
+        }
+    }
+
+    /// Marks the object. True where there is one and it wasn't marked.
+    pub(crate) fn mark(&mut self) -> bool
+        ensures answer { result ≡ is_unmarked_in self.old }
+        ensures after { self.new ≡ option_map (with_marked true) self.old }
+    {
+        let is_new = self.no.is_some() && !self.marked;
+        self.marked = true;
+        is_new
+    }
+
+    /// Takes the object's mark away.
+    pub(crate) fn unmark(&mut self)
+        ensures { self.new ≡ unmarked_cell self.old }
+    {
+        self.marked = false;
     }
 }

@@ -1,6 +1,6 @@
 //! An object's fields.
 
-ghost use Rattle.std.specs.Prelude.{◌≡◌, ◌≤◌, length, replicate, slice_index_or, slice_set};
+ghost use Rattle.std.specs.Prelude.{◌≡◌, ◌≤◌, nat_lt, length, replicate, slice_index_or, slice_set};
 
 use ref_base::ObjNo;
 use std::marker::Model;
@@ -53,12 +53,15 @@ impl Fields {
         }
     }
 
-    /// Writes a field. Nothing changes where there is no such field.
-    pub(crate) fn set(&mut self, field: usize, value: Option<ObjNo>)
-        ensures { self.new ≡ slice_set self.old field value }
+    /// Writes a field. False where there is no such field: then nothing changes.
+    pub(crate) fn set(&mut self, field: usize, value: Option<ObjNo>) -> bool
+        ensures there { result ≡ nat_lt field (length self.old) }
+        ensures after { self.new ≡ slice_set self.old field value }
     {
-        if field < self.count {
-            self.held[field] = value;
+        if field >= self.count {
+            return false;
         }
+        self.held[field] = value;
+        true
     }
 }

@@ -43,6 +43,12 @@ impl Hold {
         self.heap_no
     }
 
+    /// Gives the hold up without its heap, which goes on counting it: its object is a root for good. For a hold whose heap
+    /// is gone. Takes no memory.
+    pub fn leak(self) {
+        self.spend();
+    }
+
     // Its heap no longer counts it.
     pub(crate) fn spend(self) {
         let Hold {

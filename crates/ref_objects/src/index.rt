@@ -6,7 +6,8 @@ ghost use Rattle.std.specs.List.{filter};
 ghost use Rattle.std.specs.Vec.{vec_capacity};
 ghost use Rattle.ref_objects.specs.Places.{is_live, is_held, kept_by, place_in, place_if_live, lent};
 ghost use Rattle.ref_objects.specs.Places.{count_below, first_live, first_held, with_room, Rises};
-ghost use Rattle.ref_objects.specs.Tables.{first_from, held_from, kept_at};
+ghost use Rattle.ref_objects.specs.Places.{is_unmarked, first_unmarked};
+ghost use Rattle.ref_objects.specs.Tables.{first_from, held_from, unmarked_from, kept_at};
 
 use crate::cell::Cell;
 use ref_base::ObjNo;
@@ -39,16 +40,33 @@ fn is_held(cells: &[Cell], entry: Entry) -> bool
     }
 }
 
-// How many entries are of numbers below this. In logarithmic time.
+// Where the entry of this number stands if each number from it on has one. So it is where no gap behind it was closed: of
+// every object that was made since `close_gaps`.
+fn likely_place(index: &[Entry], no: ObjNo) -> usize {
+    match index.last() {
+        Some(last) => {
+            let behind = last.no.0.saturating_sub(no.0) as usize;
+            index.len().saturating_sub(1 + behind)
+        }
+        None => 0,
+    }
+}
+
+// How many entries are of numbers below this. In constant time where its entry stands in its likely place, and else in
+// logarithmic time.
 fn count_below(index: &[Entry], no: ObjNo) -> usize
     requires { Rises index.now }
     ensures count { result ≡ count_below index.now no }
     ensures within { result ≤ length index.now }
 {
-    index.partition_point(|entry| entry.no < no)
+    let likely = likely_place(index, no);
+    match index.get(likely) {
+        Some(entry) if entry.no == no => likely,
+        _ => index.partition_point(|entry| entry.no < no),
+    }
 }
 
-/// The place of the object of this number. In logarithmic time.
+/// The place of the object of this number. In time as for `count_below`.
 pub(crate) fn place_of(cells: &[Cell], index: &[Entry], no: ObjNo) -> Option<usize>
     requires { Rises index.now }
     ensures { result ≡ place_if_live cells.now (place_in index.now no) no }
@@ -59,7 +77,7 @@ pub(crate) fn place_of(cells: &[Cell], index: &[Entry], no: ObjNo) -> Option<usi
     }
 }
 
-/// The cell of the object of this number. In logarithmic time.
+/// The cell of the object of this number. In time as for `count_below`.
 pub(crate) fn cell_of<'a>(cells: &'a [Cell], index: &[Entry], no: ObjNo) -> Option<&'a Cell>
     requires { Rises index.now }
     ensures { lent result ≡ kept_at (kept_by cells.entry.now index.now) no }
@@ -126,4 +144,34 @@ pub(crate) fn make_room<A: Allocator>(index: &mut Vec<Entry, A>, cells: &[Cell],
     if index.len() == most {
         close_gaps(index, cells);
     }
+}
+
+// Whether the entry's object is still there, and isn't marked.
+fn is_unmarked(cells: &[Cell], entry: Entry) -> bool
+    ensures { result ≡ is_unmarked cells.now entry }
+{
+    match cells.get(entry.place as usize) {
+        Some(cell) => cell.is_unmarked_as(entry.no),
+        None => false,
+    }
+}
+
+// The number of the first of these entries whose object isn't marked.
+fn first_unmarked(cells: &[Cell], entries: &[Entry]) -> Option<ObjNo>
+    ensures { result ≡ first_unmarked cells.now entries.now }
+{
+    for entry in entries {
+        if is_unmarked(cells, *entry) {
+            return Some(entry.no);
+        }
+    }
+    None
+}
+
+/// The first number from this one on of an object that isn't marked. In time of the entries up to there.
+pub(crate) fn unmarked_from(cells: &[Cell], index: &[Entry], no: ObjNo) -> Option<ObjNo>
+    requires { Rises index.now }
+    ensures { result ≡ unmarked_from (kept_by cells.now index.now) no }
+{
+    first_unmarked(cells, &index[count_below(index, no)..])
 }

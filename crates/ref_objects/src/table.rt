@@ -1,20 +1,23 @@
 //! The table of a heap's objects.
 
-ghost use Rattle.std.specs.Prelude.{◌≡◌, ◌==◌, ◌≤◌, ◌<◌, ◌^◌, IfOk, OnErr, length, is_some, replicate};
+ghost use Rattle.std.specs.Prelude.{◌≡◌, ◌-◌, ◌^◌, ◌==◌, ◌≤◌, ◌<◌, nat_lt, IfOk, OnErr, true, length, map, is_some};
+ghost use Rattle.std.specs.Prelude.{replicate};
 ghost use Rattle.std.specs.Bool.{OnFalse};
 ghost use Rattle.std.specs.Vec.{vec_capacity};
-ghost use Rattle.ref_objects.specs.Places.{places_below};
-ghost use Rattle.ref_base.specs.Heaps.{with_field, with_reference};
+ghost use Rattle.ref_objects.specs.Places.{places_below, unmarked_cell};
+ghost use Rattle.ref_base.specs.Heaps.{with_field, with_reference, with_stamp, cleared};
 
 use crate::cell::Cell;
-use crate::index::{Entry, cell_of, close_gaps, first_from, held_from, make_room, place_of};
+use crate::index::{
+    Entry, cell_of, close_gaps, first_from, held_from, make_room, place_of, unmarked_from,
+};
 use crate::reference::Reference;
 use ref_base::{Fault, ObjNo};
 use std::alloc::{AllocError, Allocator, Global};
 use std::marker::Model;
 
-/// The objects of a heap, each with a count of holds. All memory is taken by `new`: for each cell 128 bytes of its own,
-/// 16 of the index and 4 of the free places.
+/// The objects of a heap, each with a count of holds and a mark. All memory is taken by `new`: for each cell 136 bytes
+/// of its own, 16 of the index and 4 of the free places.
 #[derive(Drop)]
 pub(crate) struct Table<A: Allocator = Global> {
     cells: Vec<Cell, A>,
@@ -25,6 +28,8 @@ pub(crate) struct Table<A: Allocator = Global> {
     free: Vec<u32, A>,
     // The greatest number that was ever given, or 0.
     last: ObjNo,
+    // How many of the objects are marked.
+    marked: usize,
 }
 
 impl<A: Allocator> Model for Table<A> {
@@ -38,15 +43,18 @@ impl<A: Allocator> Model for Table<A> {
     ghost view = { λ t. seen t.cells.items t.index.items t.last };
 
     ghost invariant = { λ t. IsSound t.cells.items t.index.items t.free.items t.last
-        (vec_capacity t.index) (vec_capacity t.free) };
+        (vec_capacity t.index) (vec_capacity t.free) t.marked };
 }
 
 impl<A: Allocator + Copy> Table<A> {
     ghost use Rattle.ref_objects.specs.Tables.{IsOrderly, empty_table};
-    ghost use Rattle.ref_objects.specs.Tables.{kept_at, kept_reference, field_count_in, field_in, holds_in};
+    ghost use Rattle.ref_objects.specs.Tables.{kept_at, kept_reference, field_count_in, field_in, has_field};
+    ghost use Rattle.ref_objects.specs.Tables.{holds_in, holds_of, is_unheld};
     ghost use Rattle.ref_objects.specs.Tables.{first_from, held_from};
-    ghost use Rattle.ref_objects.specs.Tables.{on_object, with_referent, with_stamp, with_holds};
-    ghost use Rattle.ref_objects.specs.Tables.{changed, without, made, with_kept};
+    ghost use Rattle.ref_objects.specs.Tables.{on_object, more_held, less_held};
+    ghost use Rattle.ref_objects.specs.Tables.{changed, freed, made, with_kept};
+    ghost use Rattle.ref_objects.specs.Tables.{is_marked_in, is_unmarked_in, marked_of, unmarked_from, with_marked};
+    ghost use Rattle.ref_objects.specs.Tables.{without_marks};
 
     /// A table of no objects, with so many free cells. The one error is `NoMemory`.
     pub(crate) fn new(alloc: A, room: usize) -> Result<Self, Fault>
@@ -70,6 +78,7 @@ impl<A: Allocator + Copy> Table<A> {
             index,
             free,
             last: ObjNo(0),
+            marked: 0,
         })
     }
 
@@ -87,13 +96,6 @@ impl<A: Allocator + Copy> Table<A> {
         ensures spare { OnFalse result (length self.now.kept < self.now.room) }
     {
         self.free.is_empty()
-    }
-
-    /// How many objects there may be.
-    pub(crate) fn room(&self) -> usize
-        ensures { result ≡ self.now.room }
-    {
-        self.cells.len()
     }
 
     /// The greatest number that was ever given, or 0.
@@ -131,11 +133,14 @@ impl<A: Allocator + Copy> Table<A> {
         cell_of(&self.cells, &self.index, no)?.reference()
     }
 
-    /// How often the object of this number is held.
-    pub(crate) fn holds(&self, no: ObjNo) -> Option<u64>
-        ensures { result ≡ holds_in (kept_at self.now.kept no) }
+    /// Whether the object of this number is held.
+    pub(crate) fn is_held(&self, no: ObjNo) -> bool
+        ensures { result ≡ nat_lt 0 (holds_in (kept_at self.now.kept no)) }
     {
-        cell_of(&self.cells, &self.index, no)?.holds()
+        match cell_of(&self.cells, &self.index, no) {
+            Some(cell) => cell.is_held(),
+            None => false,
+        }
     }
 
     /// The first number from this one on.
@@ -152,21 +157,23 @@ impl<A: Allocator + Copy> Table<A> {
         held_from(&self.cells, &self.index, no)
     }
 
-    /// Writes a field of the object of this number. Nothing changes where there is no such object or field.
-    pub(crate) fn set_field(&mut self, no: ObjNo, field: usize, value: Option<ObjNo>)
-        ensures { self.new ≡ changed self.old no (on_object (with_field field value)) }
+    /// Writes a field of the object of this number. False where there is no such object or field: then nothing changes.
+    pub(crate) fn set_field(&mut self, no: ObjNo, field: usize, value: Option<ObjNo>) -> bool
+        ensures there { result ≡ has_field (kept_at self.old.kept no) field }
+        ensures after { self.new ≡ changed self.old no (on_object (with_field field value)) }
     {
-        if let Some(place) = place_of(&self.cells, &self.index, no) {
-            self.cells[place].set_field(field, value);
+        match place_of(&self.cells, &self.index, no) {
+            Some(place) => self.cells[place].set_field(field, value),
+            None => false,
         }
     }
 
-    /// Writes the referent of the object of this number. Nothing changes where there is no such reference.
-    pub(crate) fn set_referent(&mut self, no: ObjNo, value: Option<ObjNo>)
-        ensures { self.new ≡ changed self.old no (on_object (with_reference (with_referent value))) }
+    /// Clears the reference of this number. Nothing changes where there is none.
+    pub(crate) fn cut(&mut self, no: ObjNo)
+        ensures { self.new ≡ changed self.old no (on_object (with_reference cleared)) }
     {
         if let Some(place) = place_of(&self.cells, &self.index, no) {
-            self.cells[place].set_referent(value);
+            self.cells[place].cut();
         }
     }
 
@@ -179,12 +186,29 @@ impl<A: Allocator + Copy> Table<A> {
         }
     }
 
-    /// Writes how often the object of this number is held. Nothing changes where there is no such object.
-    pub(crate) fn set_holds(&mut self, no: ObjNo, count: u64)
-        ensures { self.new ≡ changed self.old no (with_holds count) }
+    /// Counts one more hold of the object of this number. False where there is none: then nothing changes.
+    pub(crate) fn add_hold(&mut self, no: ObjNo) -> bool
+        requires { length (holds_of self.old.kept) < 2 ^ 64 - 1 }
+        ensures there { result ≡ is_some (kept_at self.old.kept no) }
+        ensures after { self.new ≡ changed self.old no more_held }
     {
-        if let Some(place) = place_of(&self.cells, &self.index, no) {
-            self.cells[place].set_holds(count);
+        match place_of(&self.cells, &self.index, no) {
+            Some(place) => {
+                self.cells[place].add_hold();
+                true
+            }
+            None => false,
+        }
+    }
+
+    /// Counts one hold of the object of this number fewer. False where nobody holds it: then nothing changes.
+    pub(crate) fn drop_hold(&mut self, no: ObjNo) -> bool
+        ensures held { result ≡ nat_lt 0 (holds_in (kept_at self.old.kept no)) }
+        ensures after { self.new ≡ changed self.old no less_held }
+    {
+        match place_of(&self.cells, &self.index, no) {
+            Some(place) => self.cells[place].drop_hold(),
+            None => false,
         }
     }
 
@@ -202,19 +226,22 @@ impl<A: Allocator + Copy> Table<A> {
         self.last = no;
     }
 
-    /// Frees the object of this number. True where there was one.
+    /// Frees the object of this number. False where there is none, or it is held: then nothing changes.
     pub(crate) fn free(&mut self, no: ObjNo) -> bool
-        ensures there { result ≡ is_some (kept_at self.old.kept no) }
-        ensures after { self.new ≡ without self.old no }
+        ensures answer { result ≡ is_unheld (kept_at self.old.kept no) }
+        ensures after { self.new ≡ freed self.old no }
     {
-        match place_of(&self.cells, &self.index, no) {
-            Some(place) => {
-                self.cells[place].clear();
-                self.free.push_reserved(place as u32);
-                true
-            }
-            None => false,
+        let Some(place) = place_of(&self.cells, &self.index, no) else {
+            return false;
+        };
+        if self.cells[place].is_held() {
+            return false;
         }
+        let was_marked = self.cells[place].is_marked();
+        self.cells[place].clear();
+        self.free.push_reserved(place as u32);
+        self.marked -= usize::from(was_marked);
+        true
     }
 
     /// Takes the gaps out of the index, so that none are left to pass over. In time of the objects that were made since
@@ -223,6 +250,72 @@ impl<A: Allocator + Copy> Table<A> {
         ensures { self.new ≡ self.old }
     {
         close_gaps(&mut self.index, &self.cells);
+    }
+
+    /// How many of the objects are marked.
+    pub(crate) fn marked_count(&self) -> usize
+        ensures { result ≡ length (marked_of self.now.kept) }
+    {
+        self.marked
+    }
+
+    /// Whether there is an object of this number, and it is marked.
+    pub(crate) fn is_marked(&self, no: ObjNo) -> bool
+        ensures { result ≡ is_marked_in (kept_at self.now.kept no) }
+    {
+        match cell_of(&self.cells, &self.index, no) {
+            Some(cell) => cell.is_marked(),
+            None => false,
+        }
+    }
+
+    /// Whether there is an object of this number, and it isn't marked.
+    pub(crate) fn is_unmarked(&self, no: ObjNo) -> bool
+        ensures { result ≡ is_unmarked_in (kept_at self.now.kept no) }
+    {
+        match cell_of(&self.cells, &self.index, no) {
+            Some(cell) => cell.is_unmarked(),
+            None => false,
+        }
+    }
+
+    /// The first number from this one on of an object that isn't marked.
+    pub(crate) fn unmarked_from(&self, no: ObjNo) -> Option<ObjNo>
+        ensures { result ≡ unmarked_from self.now.kept no }
+    {
+        unmarked_from(&self.cells, &self.index, no)
+    }
+
+    /// Marks the object of this number. True where there is one and it wasn't marked.
+    pub(crate) fn mark(&mut self, no: ObjNo) -> bool
+        ensures answer { result ≡ is_unmarked_in (kept_at self.old.kept no) }
+        ensures after { self.new ≡ changed self.old no (with_marked true) }
+    {
+        match place_of(&self.cells, &self.index, no) {
+            Some(place) => {
+                let is_new = self.cells[place].mark();
+                self.marked += usize::from(is_new);
+                is_new
+            }
+            None => false,
+        }
+    }
+
+    /// Takes every mark away. In time of the cells.
+    pub(crate) fn unmark_all(&mut self)
+        ensures { self.new ≡ without_marks self.old }
+    {
+        unmark(&mut self.cells);
+        self.marked = 0;
+    }
+}
+
+// Takes the marks of these cells away.
+fn unmark(cells: &mut [Cell])
+    ensures { cells.new ≡ map unmarked_cell cells.old }
+{
+    for cell in cells.iter_mut() {
+        cell.unmark();
     }
 }
 

@@ -161,6 +161,9 @@ fn slots_are_copied_dropped_and_set(rt: HostRuntime) -> Result<(), Fail> {
     heap.set_slot(M, SlotNo(2), Some(ObjNo(1)))?;
     assert_eq!(rt; heap.slot_of(M, SlotNo(2)), Ok(Some(ObjNo(1))));
     assert_eq!(rt; heap.slot_of(M, SlotNo(16)), Err(Fault::NoSuchActor));
+    assert_eq!(rt; heap.slots().len(), 16);
+    assert_eq!(rt; heap.slots().get(1).copied(), Some(Some(ObjNo(1))));
+    assert_eq!(rt; heap.slots().get(3).copied(), Some(None));
     Ok(())
 }
 
@@ -234,6 +237,84 @@ fn each_hold_is_counted(rt: HostRuntime) -> Result<(), Fail> {
     Ok(())
 }
 
+#[test]
+fn what_is_held_is_walked_in_order(rt: HostRuntime) -> Result<(), Fail> {
+    let mut heap = heap(rt.alloc(), 8)?;
+    for _object in 0..8 {
+        heap.alloc_obj(M, SlotNo(0), 0)?;
+    }
+    heap.mint(ObjNo(2))?.leak();
+    heap.mint(ObjNo(6))?.leak();
+    heap.mint(ObjNo(6))?.leak();
+    assert_eq!(rt; heap.hold_count(), 3, "a leaked hold is counted on");
+    assert_eq!(rt; heap.held_from(ObjNo(0)), Some(ObjNo(2)));
+    assert_eq!(rt; heap.held_from(ObjNo(2)), Some(ObjNo(2)));
+    assert_eq!(rt; heap.held_from(ObjNo(3)), Some(ObjNo(6)));
+    assert_eq!(rt; heap.held_from(ObjNo(7)), None);
+    assert_eq!(rt; heap.held_after(ObjNo(1)), Some(ObjNo(2)));
+    assert_eq!(rt; heap.held_after(ObjNo(2)), Some(ObjNo(6)));
+    assert_eq!(rt; heap.held_after(ObjNo(6)), None);
+    assert_eq!(rt; heap.held_after(ObjNo(u32::MAX)), None);
+    Ok(())
+}
+
+#[test]
+fn what_a_cycle_reaches_is_marked_and_the_rest_is_white(rt: HostRuntime) -> Result<(), Fail> {
+    let mut heap = heap(rt.alloc(), 8)?;
+    heap.alloc_obj(M, SlotNo(0), 0)?;
+    heap.alloc_obj(M, SlotNo(1), 0)?;
+    heap.alloc_obj(M, SlotNo(2), 0)?;
+    assert_eq!(rt; heap.unmarked_count(), 3);
+    assert_eq!(rt; heap.unmarked_from(ObjNo(1)), Some(ObjNo(1)));
+    assert!(rt; heap.mark(ObjNo(1)));
+    assert!(rt; heap.mark(ObjNo(2)));
+    assert!(rt; !heap.mark(ObjNo(2)), "it is marked already");
+    assert!(rt; !heap.mark(ObjNo(4)), "there is none");
+    assert!(rt; heap.is_marked(ObjNo(2)));
+    assert!(rt; !heap.is_marked(ObjNo(3)));
+    assert!(rt; !heap.is_unmarked(ObjNo(2)));
+    assert!(rt; heap.is_unmarked(ObjNo(3)));
+    assert!(rt; !heap.is_unmarked(ObjNo(4)), "there is none");
+    assert_eq!(rt; heap.unmarked_count(), 1);
+    assert_eq!(rt; heap.unmarked_from(ObjNo(1)), Some(ObjNo(3)));
+    assert_eq!(rt; heap.unmarked_from(ObjNo(4)), None);
+    Ok(())
+}
+
+#[test]
+fn a_freed_object_takes_its_mark_along(rt: HostRuntime) -> Result<(), Fail> {
+    let mut heap = heap(rt.alloc(), 8)?;
+    heap.alloc_obj(M, SlotNo(0), 0)?;
+    heap.alloc_obj(M, SlotNo(1), 0)?;
+    heap.mark(ObjNo(1));
+    assert!(rt; heap.free(ObjNo(1)));
+    assert!(rt; !heap.is_marked(ObjNo(1)));
+    assert_eq!(rt; heap.unmarked_count(), 1);
+    // A new object is white, whatever cell it lies in.
+    heap.alloc_obj(M, SlotNo(0), 0)?;
+    assert!(rt; !heap.is_marked(ObjNo(3)));
+    assert_eq!(rt; heap.unmarked_count(), 2);
+    Ok(())
+}
+
+#[test]
+fn a_new_cycle_begins_with_no_mark(rt: HostRuntime) -> Result<(), Fail> {
+    let mut heap = heap(rt.alloc(), 2)?;
+    heap.alloc_obj(M, SlotNo(0), 0)?;
+    heap.alloc_obj(M, SlotNo(1), 0)?;
+    heap.mint(ObjNo(2))?.leak();
+    heap.mark(ObjNo(1));
+    heap.mark(ObjNo(2));
+    assert_eq!(rt; heap.unmarked_count(), 0);
+    assert_eq!(rt; heap.unmarked_from(ObjNo(1)), None);
+    heap.unmark_all();
+    assert_eq!(rt; heap.unmarked_count(), 2);
+    assert_eq!(rt; heap.unmarked_from(ObjNo(2)), Some(ObjNo(2)));
+    assert!(rt; heap.is_held(ObjNo(2)), "only marks are taken away");
+    assert!(rt; heap.mark(ObjNo(2)));
+    Ok(())
+}
+
 /// An arena of so many bytes, rounded up, that takes no more.
 fn limited(alloc: Global, size: usize) -> Result<Bump, AllocError> {
     let memory = Bump::try_with_capacity(alloc, size)?;
@@ -256,7 +337,9 @@ fn run_each_call<A: Allocator + Copy>(heap: &mut Objects<A>) -> Result<(), Fault
     heap.adopt(M, SlotNo(4), hold).map_err(|back| told(back))?;
     let minted = heap.mint(ObjNo(1))?;
     heap.release(minted).map_err(|back| told(back))?;
+    heap.mark(ObjNo(1));
     heap.free(ObjNo(1));
+    heap.unmark_all();
     heap.close_gaps();
     Ok(())
 }

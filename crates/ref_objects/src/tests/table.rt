@@ -45,7 +45,6 @@ fn what_is_made_is_found_by_its_number(rt: HostRuntime) -> Result<(), Fail> {
     assert!(rt; !table.has(ObjNo(2)));
     assert!(rt; table.has(ObjNo(4)));
     assert_eq!(rt; table.len(), 2);
-    assert_eq!(rt; table.room(), 3);
     assert_eq!(rt; table.last(), ObjNo(4));
     Ok(())
 }
@@ -57,7 +56,7 @@ fn a_new_object_has_null_fields_and_no_hold(rt: HostRuntime) -> Result<(), Fail>
     make(&rt, &mut table, 1, None);
     assert_eq!(rt; table.field_count(ObjNo(1)), Some(2));
     assert_eq!(rt; table.field(ObjNo(1), 1), None);
-    assert_eq!(rt; table.holds(ObjNo(1)), Some(0));
+    assert!(rt; !table.is_held(ObjNo(1)));
     assert_eq!(rt; table.reference(ObjNo(1)), None);
     Ok(())
 }
@@ -66,8 +65,8 @@ fn a_new_object_has_null_fields_and_no_hold(rt: HostRuntime) -> Result<(), Fail>
 fn a_field_is_written_alone(rt: HostRuntime) -> Result<(), Fail> {
     let mut table = Table::new(rt.alloc(), 2)?;
     fill(&rt, &mut table);
-    table.set_field(ObjNo(1), 1, Some(ObjNo(2)));
-    table.set_field(ObjNo(1), 2, Some(ObjNo(2)));
+    assert!(rt; table.set_field(ObjNo(1), 1, Some(ObjNo(2))));
+    assert!(rt; !table.set_field(ObjNo(1), 2, Some(ObjNo(2))));
     assert_eq!(rt; table.field(ObjNo(1), 0), None);
     assert_eq!(rt; table.field(ObjNo(1), 1), Some(ObjNo(2)));
     assert_eq!(rt; table.field(ObjNo(1), 2), None);
@@ -93,27 +92,13 @@ fn referent_and_stamp_are_those_of_a_reference(rt: HostRuntime) -> Result<(), Fa
         table.reference(ObjNo(2)),
         Some(Reference { stamp: 9, ..soft })
     );
-    table.set_referent(ObjNo(2), None);
+    table.cut(ObjNo(2));
     let cut = Reference {
         stamp: 9,
         referent: None,
         ..soft
     };
     assert_eq!(rt; table.reference(ObjNo(2)), Some(cut));
-    Ok(())
-}
-
-#[test]
-fn what_is_held_is_walked_in_order(rt: HostRuntime) -> Result<(), Fail> {
-    let mut table = Table::new(rt.alloc(), 8)?;
-    fill(&rt, &mut table);
-    table.set_holds(ObjNo(2), 1);
-    table.set_holds(ObjNo(6), 2);
-    assert_eq!(rt; table.holds(ObjNo(6)), Some(2));
-    assert_eq!(rt; table.held_from(ObjNo(0)), Some(ObjNo(2)));
-    assert_eq!(rt; table.held_from(ObjNo(2)), Some(ObjNo(2)));
-    assert_eq!(rt; table.held_from(ObjNo(3)), Some(ObjNo(6)));
-    assert_eq!(rt; table.held_from(ObjNo(7)), None);
     Ok(())
 }
 
@@ -137,12 +122,58 @@ fn a_cell_is_used_again_and_holds_nothing_of_before(rt: HostRuntime) -> Result<(
     let mut table = Table::new(rt.alloc(), 1)?;
     make(&rt, &mut table, 1, None);
     table.set_field(ObjNo(1), 0, Some(ObjNo(1)));
-    table.set_holds(ObjNo(1), 3);
     table.free(ObjNo(1));
     make(&rt, &mut table, 2, None);
     assert!(rt; !table.has(ObjNo(1)));
     assert_eq!(rt; table.field(ObjNo(2), 0), None);
-    assert_eq!(rt; table.holds(ObjNo(2)), Some(0));
+    Ok(())
+}
+
+#[test]
+fn what_is_marked_is_counted_and_passed_over(rt: HostRuntime) -> Result<(), Fail> {
+    let mut table = Table::new(rt.alloc(), 5)?;
+    fill(&rt, &mut table);
+    assert_eq!(rt; table.unmarked_from(ObjNo(0)), Some(ObjNo(1)));
+    assert!(rt; table.mark(ObjNo(2)));
+    assert!(rt; table.mark(ObjNo(3)));
+    assert!(rt; !table.mark(ObjNo(3)), "it is marked already");
+    assert!(rt; !table.mark(ObjNo(6)), "there is none");
+    assert!(rt; table.is_marked(ObjNo(3)));
+    assert!(rt; !table.is_marked(ObjNo(1)));
+    assert!(rt; !table.is_marked(ObjNo(6)));
+    assert_eq!(rt; table.marked_count(), 2);
+    assert_eq!(rt; table.unmarked_from(ObjNo(2)), Some(ObjNo(4)));
+    assert_eq!(rt; table.unmarked_from(ObjNo(6)), None);
+    Ok(())
+}
+
+#[test]
+fn a_mark_goes_with_its_object(rt: HostRuntime) -> Result<(), Fail> {
+    let mut table = Table::new(rt.alloc(), 2)?;
+    fill(&rt, &mut table);
+    table.mark(ObjNo(1));
+    assert!(rt; table.free(ObjNo(1)));
+    assert!(rt; !table.is_marked(ObjNo(1)));
+    assert_eq!(rt; table.marked_count(), 0);
+    // The cell is used again.
+    make(&rt, &mut table, 3, None);
+    assert!(rt; !table.is_marked(ObjNo(3)));
+    assert!(rt; table.free(ObjNo(3)));
+    assert_eq!(rt; table.marked_count(), 0);
+    Ok(())
+}
+
+#[test]
+fn every_mark_is_taken_away(rt: HostRuntime) -> Result<(), Fail> {
+    let mut table = Table::new(rt.alloc(), 4)?;
+    fill(&rt, &mut table);
+    table.mark(ObjNo(1));
+    table.mark(ObjNo(4));
+    table.unmark_all();
+    assert_eq!(rt; table.marked_count(), 0);
+    assert!(rt; !table.is_marked(ObjNo(1)));
+    assert!(rt; !table.is_marked(ObjNo(4)));
+    assert_eq!(rt; table.len(), 4);
     Ok(())
 }
 

@@ -1,18 +1,16 @@
-use Rattle.std.proofs.Common.{refl, sym, ◌∙◌, ap, subst}
-use Rattle.ref_base.specs.Heaps.{with_changed, with_reference, cleared}
-use Rattle.ref_objects.specs.Tables.{Table}
-use Rattle.ref_objects.specs.GroundViews.{IsSound, seen}
+use Rattle.std.proofs.Common.{refl}
+use Rattle.ref_base.specs.Heaps.{with_reference, cleared}
 use Rattle.ref_objects.proofs.GroundLemmas.{sound_changed, seen_changed}
 use Rattle.ref_objects.proofs.objects.Objects.cut.Goals as goal
 
 pub invariant_of-self : goal.invariant_of-self
 invariant_of-self g c =
-    rw c.set_referent.ensures
+    rw c.cut.ensures
     (sound_changed c.self.inside.config c.self.inside.table c.self.inside.slots.items c.self.inside.holds
     c.self.inside.next c.args.no (with_reference cleared) (λ o. refl) c.self.invariant)
 
 pub returns : goal.returns
 returns g c =
-    rw (← c.self.view_is, c.set_referent.ensures)
+    rw (← c.self.view_is, c.cut.ensures)
     (seen_changed c.self.inside.config c.self.inside.heap_no c.self.inside.table c.self.inside.slots.items
     c.self.inside.clock c.self.inside.next c.args.no (with_reference cleared) (λ o. refl))

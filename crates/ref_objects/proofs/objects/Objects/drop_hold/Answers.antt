@@ -1,63 +1,64 @@
-use Rattle.std.proofs.Common.{◌≡◌, ◌+◌, ◌-◌, ◌^◌, ◌<◌, true, Some, length, refl, sym, ◌∙◌, ap, subst, arith}
-use Rattle.std.specs.Option.{unwrap_or}
+use Rattle.std.proofs.Common.{◌≡◌, ◌<◌, true, false, nat_lt, refl, sym, ◌∙◌, arith}
+use Rattle.std.proofs.lemmas.Bool.{ltb-true}
 use Rattle.ref_base.specs.Members.{has}
-use Rattle.ref_base.specs.Graphs.{is_there}
-use Rattle.ref_objects.specs.Tables.{Table, kept_at, objects_of, holds_of, holds_in}
-use Rattle.ref_objects.specs.Grounds.{Ground}
-use Rattle.ref_objects.proofs.KeptLemmas.{holds_in-le}
-use Rattle.ref_objects.proofs.GroundLemmas.{count_held, sound_holds, seen_dropped}
+use Rattle.ref_objects.specs.Tables.{Table, kept_at, holds_of, holds_in}
+use Rattle.ref_objects.proofs.KeptLemmas.{holds_in-le, has-holds_of}
+use Rattle.ref_objects.proofs.ChangeLemmas.{changed-unheld}
+use Rattle.ref_objects.proofs.GroundLemmas.{sound_dropped, seen_dropped}
 use Rattle.ref_objects.proofs.objects.Objects.drop_hold.Goals as goal
-
-pub overflow_sub-count : goal.overflow_sub-count
-overflow_sub-count g c =
-    let t : Table = c.self.inside.table in
-    let held : has (holds_of t.kept) c.args.no ≡ true =
-    subst (λ (g : Ground). has g.heap.holds c.args.no ≡ true) (sym c.self.view_is) c.requires in
-    let count : c.unwrap_or-count.result ≡ unwrap_or (holds_in (kept_at t.kept c.args.no)) 0 =
-    c.unwrap_or-count.ensures ∙ ap (λ h. unwrap_or h 0) c.holds.ensures in
-    let both = count_held t.kept c.args.no c.len-count.ensures.orderly.rising held in
-    let was : holds_in (kept_at t.kept c.args.no) ≡ Some c.unwrap_or-count.result = both.0 ∙ ap Some (sym count) in
-    let some : 0 < c.unwrap_or-count.result = omega (arith, both.1, count) in
-    some
 
 pub overflow_sub-self : goal.overflow_sub-self
 overflow_sub-self g c =
     let t : Table = c.self.inside.table in
-    let held : has (holds_of t.kept) c.args.no ≡ true =
-    subst (λ (g : Ground). has g.heap.holds c.args.no ≡ true) (sym c.self.view_is) c.requires in
-    let count : c.unwrap_or-count.result ≡ unwrap_or (holds_in (kept_at t.kept c.args.no)) 0 =
-    c.unwrap_or-count.ensures ∙ ap (λ h. unwrap_or h 0) c.holds.ensures in
-    let both = count_held t.kept c.args.no c.len-count.ensures.orderly.rising held in
-    let was : holds_in (kept_at t.kept c.args.no) ≡ Some c.unwrap_or-count.result = both.0 ∙ ap Some (sym count) in
-    let some : 0 < c.unwrap_or-count.result = omega (arith, both.1, count) in
-    omega (arith, some, holds_in-le t.kept c.args.no c.unwrap_or-count.result was, c.self.invariant.counted)
+    let held : 0 < holds_in (kept_at t.kept c.args.no) =
+    ltb-true 0 (holds_in (kept_at t.kept c.args.no)) (sym c.drop_hold-was_held.ensures.held ∙ c.if-was_held.true) in
+    omega (arith, held, holds_in-le t.kept c.args.no, c.self.invariant.counted)
 
 pub invariant_of-self : goal.invariant_of-self
 invariant_of-self g c =
     let t : Table = c.self.inside.table in
-    let held : has (holds_of t.kept) c.args.no ≡ true =
-    subst (λ (g : Ground). has g.heap.holds c.args.no ≡ true) (sym c.self.view_is) c.requires in
-    let count : c.unwrap_or-count.result ≡ unwrap_or (holds_in (kept_at t.kept c.args.no)) 0 =
-    c.unwrap_or-count.ensures ∙ ap (λ h. unwrap_or h 0) c.holds.ensures in
-    let both = count_held t.kept c.args.no c.len-count.ensures.orderly.rising held in
-    let was : holds_in (kept_at t.kept c.args.no) ≡ Some c.unwrap_or-count.result = both.0 ∙ ap Some (sym count) in
-    let some : 0 < c.unwrap_or-count.result = omega (arith, both.1, count) in
-    let within = holds_in-le t.kept c.args.no c.unwrap_or-count.result was in
-    rw c.set_holds.ensures
-    (sound_holds c.self.inside.config t c.self.inside.slots.items c.self.inside.holds c.self.inside.next c.args.no
-    c.unwrap_or-count.result (c.unwrap_or-count.result - 1) (c.self.inside.holds - 1) was
-    (omega (arith, some, within, c.self.invariant.counted)) c.self.invariant)
+    let held : 0 < holds_in (kept_at t.kept c.args.no) =
+    ltb-true 0 (holds_in (kept_at t.kept c.args.no)) (sym c.drop_hold-was_held.ensures.held ∙ c.if-was_held.true) in
+    rw c.drop_hold-was_held.ensures.after
+    (sound_dropped c.self.inside.config t c.self.inside.slots.items c.self.inside.holds c.self.inside.next c.args.no
+    c.self.invariant c.len-count.ensures.orderly.rising held)
 
-pub returns : goal.returns
-returns g c =
+pub invariant_of-self-else-was_held : goal.invariant_of-self-else-was_held
+invariant_of-self-else-was_held g c =
     let t : Table = c.self.inside.table in
-    let held : has (holds_of t.kept) c.args.no ≡ true =
-    subst (λ (g : Ground). has g.heap.holds c.args.no ≡ true) (sym c.self.view_is) c.requires in
-    let count : c.unwrap_or-count.result ≡ unwrap_or (holds_in (kept_at t.kept c.args.no)) 0 =
-    c.unwrap_or-count.ensures ∙ ap (λ h. unwrap_or h 0) c.holds.ensures in
-    let both = count_held t.kept c.args.no c.len-count.ensures.orderly.rising held in
-    let was : holds_in (kept_at t.kept c.args.no) ≡ Some c.unwrap_or-count.result = both.0 ∙ ap Some (sym count) in
-    let some : 0 < c.unwrap_or-count.result = omega (arith, both.1, count) in
-    rw (← c.self.view_is, c.set_holds.ensures)
+    let unheld : nat_lt 0 (holds_in (kept_at t.kept c.args.no)) ≡ false =
+    sym c.drop_hold-was_held.ensures.held ∙ c.if-was_held.false in
+    rw (c.drop_hold-was_held.ensures.after ∙ changed-unheld t c.args.no unheld) c.self.invariant
+
+pub returns-then-was_held-clause-held : goal.returns-then-was_held-clause-held
+returns-then-was_held-clause-held g c =
+    rw (← c.self.view_is)
+    (c.drop_hold-was_held.ensures.held
+    ∙ sym (has-holds_of c.self.inside.table.kept c.args.no c.len-count.ensures.orderly.rising))
+
+pub returns-then-was_held-clause-after : goal.returns-then-was_held-clause-after
+returns-then-was_held-clause-after g c =
+    let t : Table = c.self.inside.table in
+    let rising = c.len-count.ensures.orderly.rising in
+    let is : nat_lt 0 (holds_in (kept_at t.kept c.args.no)) ≡ true =
+    sym c.drop_hold-was_held.ensures.held ∙ c.if-was_held.true in
+    let listed : has (holds_of t.kept) c.args.no ≡ true = has-holds_of t.kept c.args.no rising ∙ is in
+    rw (← c.self.view_is, c.drop_hold-was_held.ensures.after)
+    (simp listed
     (seen_dropped c.self.inside.config c.self.inside.heap_no t c.self.inside.slots.items c.self.inside.clock
-    c.self.inside.next c.args.no c.unwrap_or-count.result was some)
+    c.self.inside.next c.args.no rising (ltb-true 0 (holds_in (kept_at t.kept c.args.no)) is)))
+
+pub returns-else-was_held-clause-held : goal.returns-else-was_held-clause-held
+returns-else-was_held-clause-held g c =
+    rw (← c.self.view_is)
+    (c.drop_hold-was_held.ensures.held
+    ∙ sym (has-holds_of c.self.inside.table.kept c.args.no c.len-count.ensures.orderly.rising))
+
+pub returns-else-was_held-clause-after : goal.returns-else-was_held-clause-after
+returns-else-was_held-clause-after g c =
+    let t : Table = c.self.inside.table in
+    let unheld : nat_lt 0 (holds_in (kept_at t.kept c.args.no)) ≡ false =
+    sym c.drop_hold-was_held.ensures.held ∙ c.if-was_held.false in
+    let absent : has (holds_of t.kept) c.args.no ≡ false =
+    has-holds_of t.kept c.args.no c.len-count.ensures.orderly.rising ∙ unheld in
+    rw (← c.self.view_is, c.drop_hold-was_held.ensures.after ∙ changed-unheld t c.args.no unheld) (simp absent refl)

@@ -1,4 +1,4 @@
-use Rattle.std.proofs.Common.{sym, ◌∙◌, ap, arith}
+use Rattle.std.proofs.Common.{sym, ◌∙◌, arith}
 use Rattle.ref_objects.proofs.GroundLemmas.{no_cell, has_cell, sound_made, seen_made}
 use Rattle.ref_objects.proofs.objects.Objects.make.Goals as goal
 

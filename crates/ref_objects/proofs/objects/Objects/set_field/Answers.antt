@@ -1,16 +1,48 @@
-use Rattle.std.proofs.Common.{refl, sym, ◌∙◌, ap, subst}
+use Rattle.std.proofs.Common.{Bool, refl, sym, ◌∙◌, ap, None}
 use Rattle.ref_base.specs.Heaps.{with_field}
-use Rattle.ref_objects.proofs.GroundLemmas.{sound_changed, seen_changed}
+use Rattle.ref_base.specs.Refusals.{unless}
+use Rattle.ref_base.specs.declared.fault.Fault.TheVariants.{BadField}
+use Rattle.ref_objects.proofs.ChangeLemmas.{changed-past}
+use Rattle.ref_objects.proofs.GroundLemmas.{has_field-kept, sound_changed, seen_changed}
 use Rattle.ref_objects.proofs.objects.Objects.set_field.Goals as goal
 
 pub invariant_of-self : goal.invariant_of-self
 invariant_of-self g c =
-    rw c.set_field.ensures
+    rw c.set_field.ensures.after
     (sound_changed c.self.inside.config c.self.inside.table c.self.inside.slots.items c.self.inside.holds
     c.self.inside.next c.args.no (with_field c.args.field c.args.value) (λ o. refl) c.self.invariant)
 
+pub invariant_of-self-2 : goal.invariant_of-self-2
+invariant_of-self-2 g c =
+    rw c.set_field.ensures.after
+    (sound_changed c.self.inside.config c.self.inside.table c.self.inside.slots.items c.self.inside.holds
+    c.self.inside.next c.args.no (with_field c.args.field c.args.value) (λ o. refl) c.self.invariant)
+
+pub returns-then-not-set_field-clause-refused : goal.returns-then-not-set_field-clause-refused
+returns-then-not-set_field-clause-refused g c =
+    rw (← c.self.view_is)
+    (ap (λ (has : Bool). unless has BadField None)
+    (sym (has_field-kept c.self.inside.table.kept c.args.no c.args.field) ∙ sym c.set_field.ensures.there
+    ∙ c.if-not-set_field.true))
+
+pub returns-then-not-set_field-clause-after : goal.returns-then-not-set_field-clause-after
+returns-then-not-set_field-clause-after g c =
+    rw (
+      ← c.self.view_is,
+      c.set_field.ensures.after
+          ∙ changed-past c.self.inside.table c.args.no c.args.field c.args.value
+          (sym c.set_field.ensures.there ∙ c.if-not-set_field.true),
+    ) refl
+
+pub returns-clause-refused : goal.returns-clause-refused
+returns-clause-refused g c =
+    rw (← c.self.view_is)
+    (ap (λ (has : Bool). unless has BadField None)
+    (sym (has_field-kept c.self.inside.table.kept c.args.no c.args.field) ∙ sym c.set_field.ensures.there
+    ∙ c.if-not-set_field.false))
+
 pub returns-clause-after : goal.returns-clause-after
 returns-clause-after g c =
-    rw (← c.self.view_is, c.set_field.ensures)
+    rw (← c.self.view_is, c.set_field.ensures.after)
     (seen_changed c.self.inside.config c.self.inside.heap_no c.self.inside.table c.self.inside.slots.items
     c.self.inside.clock c.self.inside.next c.args.no (with_field c.args.field c.args.value) (λ o. refl))

@@ -1,7 +1,9 @@
 use Rattle.std.proofs.Common.{◌≡◌, ◌∙◌, ◌<◌, ap, sym, subst, refl, arith}
 use Rattle.std.proofs.lemmas.List.{length-set}
+use Rattle.ref_objects.specs.Places.{kept_by}
 use Rattle.ref_objects.specs.Tables.{Table, made, with_kept}
-use Rattle.ref_objects.proofs.PushLemmas.{can_make, seen_made, placed_made}
+use Rattle.ref_objects.proofs.PushLemmas.{can_make, kept_by-made, seen_made, placed_made}
+use Rattle.ref_objects.proofs.MarkLemmas.{marks_made}
 use Rattle.ref_objects.proofs.table.Table.push.Goals as goal
 
 pub index_mut-requires : goal.index_mut-requires
@@ -33,6 +35,10 @@ invariant_of-self g c =
         size,
       );
       places_fit = omega (arith, c.self.invariant.places_fit, c.pop.ensures.capacity, size);
+      marks_counted = marks_made (kept_by c.self.inside.cells.items c.self.inside.index.items)
+          (made c.args.no c.args.count c.args.reference) refl
+          (kept_by-made c.self.invariant.placed can rises number c.of.ensures c.push_reserved.ensures.items)
+          c.self.invariant.marks_counted;
     }
 
 pub returns : goal.returns

@@ -1,0 +1,11 @@
+use Rattle.std.proofs.Common.{◌∙◌, ap, sym}
+use Rattle.ref_objects.specs.Grounds.{least_from}
+use Rattle.ref_objects.proofs.MarkLemmas.{unmarked-kept, unmarked_from-kept}
+use Rattle.ref_objects.proofs.objects.Objects.unmarked_from.Goals as goal
+
+pub returns : goal.returns
+returns g c =
+    rw (← c.self.view_is)
+    (c.unmarked_from.ensures ∙ unmarked_from-kept c.self.inside.table.kept c.args.no
+    ∙ ap (λ ns. least_from ns c.args.no)
+    (sym (unmarked-kept c.self.inside.table.kept c.len-count.ensures.orderly.rising)))

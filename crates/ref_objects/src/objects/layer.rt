@@ -1,0 +1,62 @@
+//! What the layers above change of a heap's objects: slots, stamps, referents, the clock, and which objects there are.
+
+ghost use Rattle.std.specs.Prelude.{◌≡◌, true};
+ghost use Rattle.ref_base.specs.Heaps.{with_slot, with_changed, with_reference, with_stamp, cleared, with_clock};
+ghost use Rattle.ref_base.specs.Refusals.{drop_refusal};
+ghost use Rattle.ref_objects.specs.Grounds.{IsRefused, if_done, with_heap, is_free, after_freeing};
+
+use super::Objects;
+use ref_base::{Fault, MutNo, ObjNo, SlotNo};
+use std::alloc::Allocator;
+
+impl<A: Allocator + Copy> Objects<A> {
+    /// Writes a slot. The one error is `NoSuchActor`. In constant time.
+    pub fn set_slot(&mut self, m: MutNo, slot: SlotNo, value: Option<ObjNo>) -> Result<(), Fault>
+        ensures refused { IsRefused (drop_refusal self.old.heap m slot) result }
+        ensures after { self.new ≡ if_done result (with_heap self.old (with_slot self.old.heap m slot value)) self.old }
+    {
+        let place = self.place(m, slot)?;
+        self.slots[place] = value;
+        Ok(())
+    }
+
+    /// Sets the clock. In constant time.
+    pub fn set_clock(&mut self, now: u64)
+        ensures { self.new ≡ with_heap self.old (with_clock self.old.heap now) }
+    {
+        self.clock = now;
+    }
+
+    /// Stamps the reference of this number; nothing changes where there is none. In logarithmic time.
+    pub fn set_stamp(&mut self, no: ObjNo, stamp: u64)
+        ensures { self.new ≡ with_heap self.old (with_changed self.old.heap no (with_reference (with_stamp stamp))) }
+    {
+        self.table.set_stamp(no, stamp);
+    }
+
+    /// Clears the reference of this number; nothing changes where there is none. In logarithmic time.
+    pub fn cut(&mut self, no: ObjNo)
+        ensures { self.new ≡ with_heap self.old (with_changed self.old.heap no (with_reference cleared)) }
+    {
+        self.table.cut(no);
+    }
+
+    /// Frees the object of this number, and its cell; its mark goes. True exactly where there is one and nobody holds it;
+    /// else nothing changes. Slots and fields that hold its number do so still, and lead nowhere. In logarithmic time.
+    pub fn free(&mut self, no: ObjNo) -> bool
+        ensures answer { result ≡ is_free self.old.heap no }
+        ensures after { self.new ≡ after_freeing self.old no }
+    {
+        // Gives the proof that the numbers rise.
+        let _count = self.table.len();
+        self.table.free(no)
+    }
+
+    /// Closes the gaps that freed objects left in the index; nothing that is seen changes. To be called once in a cycle.
+    /// In time of the objects that are there and of those freed since the last time.
+    pub fn close_gaps(&mut self)
+        ensures { self.new ≡ self.old }
+    {
+        self.table.close_gaps();
+    }
+}

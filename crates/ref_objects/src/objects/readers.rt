@@ -1,0 +1,183 @@
+//! What one reads of a heap's objects.
+
+ghost use Rattle.std.specs.Prelude.{◌≡◌, ◌+◌, ◌≤◌, IfOk, length};
+ghost use Rattle.ref_base.specs.Members.{has};
+ghost use Rattle.ref_base.specs.Graphs.{object_at, is_there, numbers};
+ghost use Rattle.ref_base.specs.Strengths.{IsRising};
+ghost use Rattle.ref_base.specs.Heaps.{slot_at, reference_at, registered_in};
+ghost use Rattle.ref_base.specs.CollectorRows.{field_of, referent_of};
+ghost use Rattle.ref_base.specs.Refusals.{field_count, drop_refusal};
+ghost use Rattle.ref_objects.specs.Grounds.{IsRefused, kind_in, stamp_in, least_from, AllBelow, IsInOrder};
+
+use super::Objects;
+use crate::kind::Kind;
+use crate::reference::Reference;
+use ref_base::{Config, Fault, MutNo, ObjNo, QueueNo, SlotNo};
+use std::alloc::Allocator;
+
+impl<A: Allocator + Copy> Objects<A> {
+    /// How large the heap is, as it was made. In constant time, as are the other readers that name no object.
+    pub fn config(&self) -> Config
+        ensures { result ≡ self.now.heap.config }
+    {
+        self.config
+    }
+
+    /// The number of the heap.
+    pub fn heap_no(&self) -> u64
+        ensures { result ≡ self.now.heap_no }
+    {
+        self.heap_no
+    }
+
+    /// The clock: 0 at first.
+    pub fn clock(&self) -> u64
+        ensures { result ≡ self.now.heap.clock }
+    {
+        self.clock
+    }
+
+    /// The number of the next object, or 2^32 where none is left.
+    pub fn next_no(&self) -> u64
+        ensures { result ≡ self.now.next }
+    {
+        self.next
+    }
+
+    /// How many objects there are. Their numbers rise, and are below the next.
+    pub fn object_count(&self) -> usize
+        ensures count { result ≡ length self.now.heap.objects }
+        ensures few { result ≤ self.now.heap.config.cells }
+        ensures orderly { IsRising (numbers self.now.heap.objects) }
+        ensures given { AllBelow self.now.next (numbers self.now.heap.objects) }
+    {
+        self.table.len()
+    }
+
+    /// How many holds are out. What they hold is listed in order of number.
+    pub fn hold_count(&self) -> u64
+        ensures count { result ≡ length self.now.heap.holds }
+        ensures in_order { IsInOrder self.now.heap.holds }
+    {
+        // Gives the proof that the numbers rise.
+        let _count = self.table.len();
+        self.holds
+    }
+
+    /// What the slots hold, mutator by mutator.
+    pub fn slots(&self) -> &[Option<ObjNo>]
+        ensures { result.now ≡ self.now.heap.slots }
+    {
+        &self.slots
+    }
+
+    /// What a slot holds: an object or null. The one error is `NoSuchActor`.
+    pub fn slot_of(&self, m: MutNo, slot: SlotNo) -> Result<Option<ObjNo>, Fault>
+        ensures refused { IsRefused (drop_refusal self.now.heap m slot) result }
+        ensures answer { IfOk result (λ value. value ≡ slot_at self.now.heap m slot) }
+    {
+        let place = self.place(m, slot)?;
+        Ok(self.slots[place])
+    }
+
+    /// Whether there is an object of this number. In logarithmic time, as are the other readers of an object.
+    pub fn has_object(&self, no: ObjNo) -> bool
+        ensures { result ≡ is_there self.now.heap.objects no }
+    {
+        self.table.has(no)
+    }
+
+    /// Whether the object of this number is held.
+    pub fn is_held(&self, no: ObjNo) -> bool
+        ensures { result ≡ has self.now.heap.holds no }
+    {
+        // Gives the proof that the numbers rise.
+        let _count = self.table.len();
+        self.table.is_held(no)
+    }
+
+    /// What the object of this number is, if there is one.
+    pub fn kind_of(&self, no: ObjNo) -> Option<Kind>
+        ensures { result ≡ kind_in (object_at self.now.heap.objects no) }
+    {
+        if !self.has_object(no) {
+            return None;
+        }
+        match self.reference_of(no) {
+            Some(reference) => Some(Kind::Reference(reference.strength)),
+            None => Some(Kind::Plain),
+        }
+    }
+
+    /// How many fields the object of this number has: none where there is no such object.
+    pub fn field_count_of(&self, no: ObjNo) -> usize
+        ensures { result ≡ field_count (object_at self.now.heap.objects no) }
+    {
+        self.table.field_count(no).unwrap_or(0)
+    }
+
+    /// What a field of the object of this number holds: null also where there is no such object or field.
+    pub fn field_of(&self, no: ObjNo, field: usize) -> Option<ObjNo>
+        ensures { result ≡ field_of (object_at self.now.heap.objects no) field }
+    {
+        self.table.field(no, field)
+    }
+
+    /// What the object of this number has as a reference: nothing where there is no such object, or it is plain.
+    pub fn reference_of(&self, no: ObjNo) -> Option<Reference>
+        ensures { result ≡ reference_at self.now.heap no }
+    {
+        self.table.reference(no)
+    }
+
+    /// The referent of the reference of this number: null where it is cleared, or there is no such reference.
+    pub fn referent_of(&self, no: ObjNo) -> Option<ObjNo>
+        ensures { result ≡ referent_of (reference_at self.now.heap no) }
+    {
+        self.reference_of(no)?.referent
+    }
+
+    /// The stamp of the reference of this number: 0 where there is no such reference.
+    pub fn stamp_of(&self, no: ObjNo) -> u64
+        ensures { result ≡ stamp_in (reference_at self.now.heap no) }
+    {
+        match self.reference_of(no) {
+            Some(reference) => reference.stamp,
+            None => 0,
+        }
+    }
+
+    /// The queue of the reference of this number: none where it has none, or there is no such reference.
+    pub fn queue_of(&self, no: ObjNo) -> Option<QueueNo>
+        ensures { result ≡ registered_in (reference_at self.now.heap no) }
+    {
+        self.reference_of(no)?.queue
+    }
+
+    /// The least number from this one on of an object that is there. In logarithmic time, and that of the objects freed
+    /// behind it since `close_gaps`.
+    pub fn first_from(&self, no: ObjNo) -> Option<ObjNo>
+        ensures { result ≡ least_from (numbers self.now.heap.objects) no }
+    {
+        self.table.first_from(no)
+    }
+
+    /// The least number from this one on of an object that is held. In logarithmic time, and that of the objects between.
+    pub fn held_from(&self, no: ObjNo) -> Option<ObjNo>
+        ensures { result ≡ least_from self.now.heap.holds no }
+    {
+        self.table.held_from(no)
+    }
+
+    /// The least number above this one of an object that is held. In logarithmic time, and that of the objects between.
+    pub fn held_after(&self, no: ObjNo) -> Option<ObjNo>
+        ensures { result ≡ least_from self.now.heap.holds (no + 1) }
+    {
+        // Gives the proof that no number is above the last.
+        let _count = self.table.len();
+        match no.0.checked_add(1) {
+            Some(next) => self.held_from(ObjNo(next)),
+            None => None,
+        }
+    }
+}
