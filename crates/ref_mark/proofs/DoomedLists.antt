@@ -1,0 +1,203 @@
+-- The list of the doomed: its members are the doomed, and what doesn't change it.
+use Rattle.std.proofs.Common.{◌≡◌, ℕ, ◌+◌, ◌<◌, true, false, ◌&&◌, ◌||◌, not, ◌==◌, if◌then◌else◌}
+use Rattle.std.proofs.Common.{refl, sym, ◌∙◌, ap, arith, inl, inr}
+use Rattle.std.proofs.Common.{List, [], ◌∷◌, ◌++◌, map, Option, Some, None}
+use Rattle.std.proofs.lemmas.Bool.{cases_Bool, false≢true, true≢false, eqb-true, eq-eqb, ne_eqb}
+use Rattle.std.proofs.lemmas.Bool.{and_right, or_left}
+use Rattle.ref_base.specs.Members.{has}
+use Rattle.ref_base.specs.Graphs.{Object, Reference, is_there}
+use Rattle.ref_base.specs.DoomedSets.{is_among, refers_into, is_new_clear}
+use Rattle.ref_base.specs.Heaps.{Heap, changed_at, with_changed, changed_in, one_more, made}
+use Rattle.ref_base.specs.CollectorRows.{shown}
+use Rattle.ref_base.specs.Refusals.{is_in}
+use Rattle.ref_base.specs.declared.phase.Phase.{Phase}
+use Rattle.ref_base.specs.declared.phase.Phase.TheVariants.{Idle, Marking, Clearing, Sweeping}
+use Rattle.ref_mark.specs.Marks.{Mark, is_white, is_past_mark, is_doomed, doomed, young, with_made}
+use Rattle.ref_objects.specs.Grounds.{unmarked}
+use Rattle.ref_mark.specs.Standing.{shown_heap}
+use Rattle.ref_mark.proofs.OneMore.{has-one_more}
+
+-- ---- what isn't marked
+
+-- the list of what isn't marked has the objects that aren't marked
+pub has-unmarked : (os : List Object) (marked : List ℕ) (n : ℕ)
+    → has (unmarked os marked) n ≡ (is_there os n && not (has marked n))
+has-unmarked [] marked n = refl
+has-unmarked (o ∷ os) marked n =
+    elim (cases_Bool (o.no == n)) [
+      | inl same ↦
+          let number : has marked o.no ≡ has marked n = ap (has marked) (eqb-true o.no n same) in
+          elim (cases_Bool (has marked n)) [
+            | inl within ↦
+                let own : has marked o.no ≡ true = number ∙ within in
+                simp (same, own, within)
+                (has-unmarked os marked n ∙ and_right (is_there os n) (not (has marked n)) (ap not within))
+            | inr outside ↦
+                let own : has marked o.no ≡ false = number ∙ outside in simp (same, own, outside) refl
+          ]
+      | inr other ↦ elim (cases_Bool (has marked o.no)) [
+        | inl within ↦ simp (other, within) (has-unmarked os marked n)
+        | inr outside ↦ simp (other, outside) (has-unmarked os marked n)
+      ]
+    ]
+
+-- a changed object that keeps its number changes nothing of it
+pub unmarked-changed : (os : List Object) (marked : List ℕ) (n : ℕ) (f : Object → Object)
+    → ((o : Object) → (f o).no ≡ o.no) → unmarked (changed_at os n f) marked ≡ unmarked os marked
+unmarked-changed [] marked n f keeps = refl
+unmarked-changed (o ∷ os) marked n f keeps =
+    elim (cases_Bool (o.no == n)) [
+      | inl same ↦
+          simp same
+          (ap (λ i. if has marked i then unmarked os marked else i ∷ unmarked os marked) (keeps o))
+      | inr other ↦
+          simp other
+          (ap (λ (ns : List ℕ). if has marked o.no then ns else o.no ∷ ns) (unmarked-changed os marked n f keeps))
+    ]
+
+-- nor does one more object that is marked
+pub unmarked-push : (os : List Object) (o : Object) (marked more : List ℕ) → is_there os o.no ≡ false
+    → has more o.no ≡ true → ((n : ℕ) → (o.no == n) ≡ false → has more n ≡ has marked n)
+    → unmarked (os ++ o ∷ []) more ≡ unmarked os marked
+unmarked-push [] o marked more new within others = simp within refl
+unmarked-push (p ∷ os) o marked more new within others =
+    elim (cases_Bool (p.no == o.no)) [
+      | inl same ↦
+          let there : is_there (p ∷ os) o.no ≡ true = simp same refl in absurd (true≢false (sym there ∙ new))
+      | inr other ↦
+          let later : is_there os o.no ≡ false = simp other at new in
+          let turned : (o.no == p.no) ≡ false =
+          ne_eqb o.no p.no (λ same. false≢true (sym other ∙ eq-eqb p.no o.no (sym same))) in
+          simp (others p.no turned)
+          (ap (λ (ns : List ℕ). if has marked p.no then ns else p.no ∷ ns)
+          (unmarked-push os o marked more later within others))
+    ]
+
+-- ---- the doomed
+
+-- the list of the doomed has the doomed
+pub has-doomed : (k : Mark) (n : ℕ) → has (doomed k) n ≡ is_doomed k n
+has-doomed k n =
+    elim (cases_Bool (is_past_mark k.phase)) [
+      | inl past ↦ simp past (has-unmarked k.heap.objects k.marked n)
+      | inr before ↦ simp before refl
+    ]
+
+-- other slots or holds doom nothing, and no object less
+pub doomed-same_objects : (k : Mark) (h : Heap) → h.objects ≡ k.heap.objects → doomed (record k { heap = h }) ≡ doomed k
+doomed-same_objects k h same =
+    ap (λ (os : List Object). if is_past_mark k.phase then unmarked os k.marked else []) same
+
+-- nor does a changed object that keeps its number
+pub doomed-changed : (k : Mark) (n : ℕ) (f : Object → Object) → ((o : Object) → (f o).no ≡ o.no)
+    → doomed (record k { heap = with_changed k.heap n f }) ≡ doomed k
+doomed-changed k n f keeps =
+    ap (λ (ns : List ℕ). if is_past_mark k.phase then ns else []) (unmarked-changed k.heap.objects k.marked n f keeps)
+
+pub doomed-changed_in : (k : Mark) (held : Option ℕ) (f : Object → Object) → ((o : Object) → (f o).no ≡ o.no)
+    → doomed (record k { heap = changed_in k.heap held f }) ≡ doomed k
+doomed-changed_in k None f keeps = refl
+doomed-changed_in k (Some n) f keeps = doomed-changed k n f keeps
+
+-- past the mark a cycle has begun
+pub past_is_not_idle : (phase : Phase) → is_past_mark phase ≡ true → is_in phase Idle ≡ false
+past_is_not_idle Idle past = sym past
+past_is_not_idle Marking past = refl
+past_is_not_idle Clearing past = refl
+past_is_not_idle Sweeping past = refl
+
+-- and no mark runs
+pub past_is_not_marking : (phase : Phase) → is_past_mark phase ≡ true → is_in phase Marking ≡ false
+past_is_not_marking Idle past = refl
+past_is_not_marking Marking past = sym past
+past_is_not_marking Clearing past = refl
+past_is_not_marking Sweeping past = refl
+
+is_there-push : (os : List Object) (o : Object) → is_there (os ++ o ∷ []) o.no ≡ true
+is_there-push [] o = let own : (o.no == o.no) ≡ true = eq-eqb o.no o.no refl in simp own refl
+is_there-push (p ∷ os) o =
+    elim (cases_Bool (p.no == o.no)) [
+      | inl same ↦ simp same refl
+      | inr other ↦ simp other (is_there-push os o)
+    ]
+
+-- a number that all objects are below is that of none
+pub is_there-above : (os : List Object) (n : ℕ) → ((m : ℕ) → is_there os m ≡ true → m < n) → is_there os n ≡ false
+is_there-above os n below =
+    elim (cases_Bool (is_there os n)) [
+      | inl there ↦ let less : n < n = below n there in absurd (omega (arith, less))
+      | inr absent ↦ absent
+    ]
+
+-- past the mark, what is made is marked
+unmarked-young : (k : Mark) (os : List Object) (o : Object) → is_in k.phase Idle ≡ false → is_there os o.no ≡ false
+    → k.heap.objects ≡ os ++ o ∷ []
+    → unmarked (young k o.no).heap.objects (young k o.no).marked ≡ unmarked os k.marked
+unmarked-young k os o begun new is =
+    let there : is_there k.heap.objects o.no ≡ true = ap (λ ps. is_there ps o.no) is ∙ is_there-push os o in
+    elim (cases_Bool (has k.marked o.no)) [
+      | inl within ↦
+          simp (begun, there, within)
+          (ap (λ ps. unmarked ps k.marked) is
+          ∙ unmarked-push os o k.marked k.marked new within (λ n other. refl))
+      | inr outside ↦
+          let own : (o.no == o.no) ≡ true = eq-eqb o.no o.no refl in
+          simp (begun, there, outside)
+          (ap (λ ps. unmarked ps (one_more k.marked o.no)) is
+          ∙ unmarked-push os o k.marked (one_more k.marked o.no) new
+          (has-one_more k.marked o.no o.no ∙ or_left (o.no == o.no) (has k.marked o.no) own)
+          (λ n other. has-one_more k.marked o.no n ∙ ap (λ b. b || has k.marked n) other))
+    ]
+
+young-phase : (k : Mark) (n : ℕ) → (young k n).phase ≡ k.phase
+young-phase k n =
+    elim (cases_Bool (is_in k.phase Idle)) [
+      | inl idle ↦ simp idle refl
+      | inr begun ↦ elim (cases_Bool (is_white k n)) [
+        | inl white ↦ simp (begun, white) refl
+        | inr marked ↦ simp (begun, marked) refl
+      ]
+    ]
+
+-- what is made is not doomed, and dooms nothing
+pub doomed-made : (k : Mark) (m d : ℕ) (o : Object) → is_there k.heap.objects o.no ≡ false
+    → doomed (with_made k m d o) ≡ doomed k
+doomed-made k m d o new =
+    let more : Mark = record k { heap = made k.heap m d o; next = k.next + 1 } in
+    let phase : (with_made k m d o).phase ≡ k.phase = young-phase more o.no in
+    elim (cases_Bool (is_past_mark k.phase)) [
+      | inl past ↦
+          let still : is_past_mark (with_made k m d o).phase ≡ true = ap is_past_mark phase ∙ past in
+          simp (past, still)
+          (unmarked-young more k.heap.objects o (past_is_not_idle k.phase past) new refl)
+      | inr before ↦
+          let still : is_past_mark (with_made k m d o).phase ≡ false = ap is_past_mark phase ∙ before in
+          simp (before, still) refl
+    ]
+
+-- ---- what is shown where nothing is doomed
+
+is_among-none : (referent : Option ℕ) → is_among [] referent ≡ false
+is_among-none None = refl
+is_among-none (Some n) = refl
+
+refers_into-none : (r : Option Reference) → refers_into [] r ≡ false
+refers_into-none None = refl
+refers_into-none (Some r) = is_among-none r.referent
+
+pub is_new_clear-none : (o : Object) → is_new_clear [] o ≡ false
+is_new_clear-none o = refers_into-none o.reference
+
+pub shown-none : (o : Object) → shown [] o ≡ o
+shown-none o = let none : is_new_clear [] o ≡ false = is_new_clear-none o in simp none refl
+
+pub map-shown_none : (os : List Object) → map (λ o. shown [] o) os ≡ os
+map-shown_none [] = refl
+map-shown_none (o ∷ os) = ap (λ p. p ∷ map (λ q. shown [] q) os) (shown-none o) ∙ ap (λ ps. o ∷ ps) (map-shown_none os)
+
+-- before a mark has ended, mutators read the heap as it is
+pub shown_heap-before : (k : Mark) → is_past_mark k.phase ≡ false → shown_heap k ≡ k.heap
+shown_heap-before k before =
+    let none : doomed k ≡ [] = simp before refl in
+    ap (λ (d : List ℕ). record k.heap { objects = map (λ o. shown d o) k.heap.objects }) none
+    ∙ ap (λ (os : List Object). record k.heap { objects = os }) (map-shown_none k.heap.objects)

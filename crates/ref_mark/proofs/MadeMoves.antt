@@ -1,0 +1,217 @@
+-- A mutator makes an object: it is marked where a cycle has begun, and a slot holds it.
+use Rattle.std.proofs.Common.{◌≡◌, ℕ, ◌+◌, ◌*◌, ◌<◌, true, false, ◌==◌, arith}
+use Rattle.std.proofs.Common.{refl, sym, ap, subst, ◌∙◌}
+use Rattle.std.proofs.Common.{[], ◌∷◌, ◌++◌, Option, Some, None, is_some, ◌⊎◌, inl, inr}
+use Rattle.std.specs.Prelude.{slice_set}
+use Rattle.std.proofs.lemmas.Bool.{cases_Bool, or_cases, or_left, or_right, eqb-true, eq-eqb, false≢true, true≢false}
+use Rattle.std.proofs.lemmas.List.{length-set}
+use Rattle.ref_base.specs.Members.{has}
+use Rattle.ref_base.specs.Graphs.{Object, object_at, is_there}
+use Rattle.ref_base.specs.Paths.{present, targets_of, targets_at}
+use Rattle.ref_base.specs.KeptPaths.{is_kept}
+use Rattle.ref_base.specs.Heaps.{made, one_more, reference_in, reference_at}
+use Rattle.ref_base.specs.Worlds.{pending_numbers}
+use Rattle.ref_base.specs.Refusals.{is_in, has_slot}
+use Rattle.ref_base.specs.Collectors.{State}
+use Rattle.ref_base.specs.declared.phase.Phase.TheVariants.{Idle}
+use Rattle.ref_mark.specs.Marks.{Mark, policy_in, is_white, refers_to, doomed, young, with_made}
+use Rattle.ref_mark.specs.Standing.{Stands}
+use Rattle.ref_mark.proofs.OneMore.{has-one_more}
+use Rattle.ref_mark.proofs.Shading.{not_white_marked}
+use Rattle.ref_mark.proofs.DoomedLists.{doomed-made, is_there-above}
+use Rattle.ref_mark.proofs.Moves.{Change, moved, IsMove, IsNew, MayLead, roots_after}
+use Rattle.ref_mark.proofs.Moves.{referring_is_there}
+use Rattle.ref_mark.proofs.Lookups.{object_at-push, object_at-pushed, rising-push, has-present_here}
+use Rattle.ref_mark.proofs.RootFacts.{slot_root, roots_of_set, slot_within}
+
+-- ---- what is made is marked
+
+young-only : (k : Mark) (n : ℕ) → young k n ≡ record k { marked = (young k n).marked }
+young-only k n =
+    elim (cases_Bool (is_in k.phase Idle)) [
+      | inl idle ↦ simp idle refl
+      | inr begun ↦ elim (cases_Bool (is_white k n)) [
+        | inl white ↦ simp (begun, white) refl
+        | inr other ↦ simp (begun, other) refl
+      ]
+    ]
+
+young-stays : (k : Mark) (n m : ℕ) → has k.marked m ≡ true → has (young k n).marked m ≡ true
+young-stays k n m marked =
+    elim (cases_Bool (is_in k.phase Idle)) [
+      | inl idle ↦ simp idle marked
+      | inr begun ↦ elim (cases_Bool (is_white k n)) [
+        | inl white ↦ simp (begun, white) (has-one_more k.marked n m ∙ or_right (n == m) (has k.marked m) marked)
+        | inr other ↦ simp (begun, other) marked
+      ]
+    ]
+
+young-was : (k : Mark) (n m : ℕ) → has (young k n).marked m ≡ true → (has k.marked m ≡ true) ⊎ (n ≡ m)
+young-was k n m marked =
+    elim (cases_Bool (is_in k.phase Idle)) [
+      | inl idle ↦ inl (simp idle at marked)
+      | inr begun ↦ elim (cases_Bool (is_white k n)) [
+        | inl white ↦
+            let more : has (one_more k.marked n) m ≡ true = simp (begun, white) at marked in
+            elim (or_cases (n == m) (has k.marked m) (sym (has-one_more k.marked n m) ∙ more)) [
+              | inl same ↦ inr (eqb-true n m same)
+              | inr before ↦ inl before
+            ]
+        | inr other ↦ inl (simp (begun, other) at marked)
+      ]
+    ]
+
+young-marked : (k : Mark) (n : ℕ) → is_in k.phase Idle ≡ false → is_there k.heap.objects n ≡ true
+    → has (young k n).marked n ≡ true
+young-marked k n begun there =
+    elim (cases_Bool (is_white k n)) [
+      | inl white ↦
+          simp (begun, white) (has-one_more k.marked n n ∙ or_left (n == n) (has k.marked n) (eq-eqb n n refl))
+      | inr other ↦ simp (begun, other) (not_white_marked k n there other)
+    ]
+
+-- ---- the move
+
+-- the heap with one more object, before that is marked
+abbrev pub grown : Mark → ℕ → ℕ → Object → Mark
+grown k m d o = record k { heap = made k.heap m d o; next = k.next + 1 }
+
+abbrev pub making : Mark → ℕ → ℕ → Object → Change
+making k m d o = record {
+  objects = k.heap.objects ++ o ∷ [];
+  slots = slice_set k.heap.slots (16 * m + d) (Some o.no);
+  holds = k.heap.holds;
+  next = k.next + 1;
+  marked = (young (grown k m d o) o.no).marked;
+}
+
+pub moved-making : (k : Mark) (m d : ℕ) (o : Object) → with_made k m d o ≡ moved k (making k m d o)
+moved-making k m d o = young-only (grown k m d o) o.no
+
+-- the object has the next number, and leads and refers to nothing white
+module _ (k : Mark) (a : State) (m d : ℕ) (o : Object) (stands : Stands k a) (slot : has_slot k.heap m d ≡ true)
+    (number : o.no ≡ k.next)
+    (leads_off : is_in k.phase Idle ≡ false → (n : ℕ)
+    → has (targets_of (is_kept (policy_in k)) (Some o)) n ≡ true → is_white k n ≡ false)
+    (refers_off : is_in k.phase Idle ≡ false → refers_to (is_white k) o.reference ≡ false) where
+  new_is_absent : is_there k.heap.objects o.no ≡ false
+  new_is_absent =
+      subst (λ n. is_there k.heap.objects n ≡ false) (sym number) (is_there-above k.heap.objects k.next stands.below)
+
+  new_is_there : is_there (k.heap.objects ++ o ∷ []) o.no ≡ true
+  new_is_there =
+      let own : (o.no == o.no) ≡ true = eq-eqb o.no o.no refl in
+      ap (λ (p : Option Object). is_some p) (object_at-pushed k.heap.objects o o.no new_is_absent) ∙ simp own refl
+
+  -- what is at a number that wasn't there is the new object
+  only_new : (P : Option Object → Type 0) (n : ℕ) → is_there k.heap.objects n ≡ false
+      → P (object_at (k.heap.objects ++ o ∷ []) n) → P (object_at (o ∷ []) n)
+  only_new P n absent = subst P (object_at-pushed k.heap.objects o n absent)
+
+  same_object : (P : Option Object → Type 0) (n : ℕ) → is_there k.heap.objects n ≡ true
+      → P (object_at (k.heap.objects ++ o ∷ []) n) → P (object_at k.heap.objects n)
+  same_object P n there = subst P (object_at-push k.heap.objects o n there)
+
+  still_object : (P : Option Object → Type 0) (n : ℕ) → is_there k.heap.objects n ≡ true
+      → P (object_at k.heap.objects n) → P (object_at (k.heap.objects ++ o ∷ []) n)
+  still_object P n there = subst P (sym (object_at-push k.heap.objects o n there))
+
+  new_root : has (roots_after (making k m d o) (pending_numbers a.world.pending)) o.no ≡ true
+  new_root =
+      let set = slice_set k.heap.slots (16 * m + d) (Some o.no) in
+      slot_root (present set) k.heap.holds (pending_numbers a.world.pending) o.no
+      (has-present_here k.heap.slots (16 * m + d) o.no (slot_within k a m d stands slot))
+
+  new_one : IsNew k (making k m d o) (pending_numbers a.world.pending) o.no
+  new_one = record {
+    since = omega (arith, number);
+    below = omega (arith, number);
+    root = new_root;
+    marked = λ begun. young-marked (grown k m d o) o.no begun new_is_there;
+  }
+
+  made_was : (n : ℕ) → is_there (k.heap.objects ++ o ∷ []) n ≡ true
+      → (is_there k.heap.objects n ≡ true) ⊎ IsNew k (making k m d o) (pending_numbers a.world.pending) n
+  made_was n there =
+      elim (cases_Bool (is_there k.heap.objects n)) [
+        | inl before ↦ inl before
+        | inr absent ↦
+            let now : is_there (o ∷ []) n ≡ true = only_new (λ p. is_some p ≡ true) n absent there in
+            elim (cases_Bool (o.no == n)) [
+              | inl same ↦
+                  inr
+                  (subst (IsNew k (making k m d o) (pending_numbers a.world.pending)) (eqb-true o.no n same) new_one)
+              | inr other ↦ absurd (false≢true (simp other at now))
+            ]
+      ]
+
+  made_leads : (i n : ℕ) → has (targets_at (is_kept (policy_in k)) (k.heap.objects ++ o ∷ []) i) n ≡ true
+      → MayLead k (making k m d o) (pending_numbers a.world.pending) i n
+  made_leads i n target =
+      let goes_to = is_kept (policy_in k) in
+      elim (cases_Bool (is_there k.heap.objects i)) [
+        | inl there ↦ inl (same_object (λ p. has (targets_of goes_to p) n ≡ true) i there target)
+        | inr absent ↦
+            let own : has (targets_at goes_to (o ∷ []) i) n ≡ true =
+            only_new (λ p. has (targets_of goes_to p) n ≡ true) i absent target in
+            elim (cases_Bool (o.no == i)) [
+              | inl same ↦
+                  let from : has (targets_of goes_to (Some o)) n ≡ true = simp same at own in
+                  let root = subst (λ j. has (roots_after (making k m d o) (pending_numbers a.world.pending)) j ≡ true)
+                  (eqb-true o.no i same) new_root in
+                  inr (inr (root, λ begun. leads_off begun n from))
+              | inr other ↦ absurd (false≢true (simp other at own))
+            ]
+      ]
+
+  made_to_white : is_in k.phase Idle ≡ false → (n : ℕ)
+      → refers_to (is_white k) (reference_in (object_at (k.heap.objects ++ o ∷ []) n)) ≡ true
+      → refers_to (is_white k) (reference_at k.heap n) ≡ true
+  made_to_white begun n refers =
+      elim (cases_Bool (is_there k.heap.objects n)) [
+        | inl there ↦ same_object (λ p. refers_to (is_white k) (reference_in p) ≡ true) n there refers
+        | inr absent ↦
+            let own : refers_to (is_white k) (reference_in (object_at (o ∷ []) n)) ≡ true =
+            only_new (λ p. refers_to (is_white k) (reference_in p) ≡ true) n absent refers in
+            elim (cases_Bool (o.no == n)) [
+              | inl same ↦
+                  let from : refers_to (is_white k) o.reference ≡ true = simp same at own in
+                  absurd (true≢false (sym from ∙ refers_off begun))
+              | inr other ↦ absurd (false≢true (simp other at own))
+            ]
+      ]
+
+  is_reference-there : (p : Option Object) → is_some (reference_in p) ≡ true → is_some p ≡ true
+  is_reference-there None is = is
+  is_reference-there (Some p) is = refl
+
+  pub made_move : IsMove k (making k m d o) (pending_numbers a.world.pending) []
+  made_move = record {
+    next = omega (arith);
+    stays = λ n there. still_object (λ p. is_some p ≡ true) n there there;
+    was = made_was;
+    rising = rising-push k.heap.objects o stands.rising
+        (λ n there. subst (λ i. n < i) (sym number) (stands.below n there));
+    slots = length-set k.heap.slots (16 * m + d) (Some o.no);
+    doomed = ap doomed (sym (moved-making k m d o)) ∙ doomed-made k m d o new_is_absent;
+    marked_stays = λ n marked. young-stays (grown k m d o) o.no n marked;
+    marked_was = λ n marked.
+        elim (young-was (grown k m d o) o.no n marked) [
+          | inl before ↦ inl before
+          | inr same ↦ inr (omega (arith, same, number))
+        ];
+    roots = λ begun.
+        roots_of_set k a stands begun (16 * m + d) (Some o.no) []
+        (λ n is.
+        let same : o.no ≡ n = (let e : Some o.no ≡ Some n = is in cc) in
+        let absent : is_there k.heap.objects n ≡ false =
+        subst (λ i. is_there k.heap.objects i ≡ false) same new_is_absent in
+        inl (simp absent refl));
+    leads = made_leads;
+    references = λ n is.
+        still_object (λ p. is_some (reference_in p) ≡ true) n (is_reference-there (object_at k.heap.objects n) is) is;
+    to_white = made_to_white;
+    white_stays = λ past n refers.
+        still_object (λ p. refers_to (is_white k) (reference_in p) ≡ true) n
+        (referring_is_there (is_white k) k.heap n refers) refers;
+  }

@@ -1,0 +1,147 @@
+-- What a mutator can name isn't white once a cycle has begun, and what a mark has reached leads to nothing white once
+-- the mark has ended.
+use Rattle.std.proofs.Common.{◌≡◌, ℕ, ◌+◌, ◌*◌, ◌<◌, true, false, refl, sym, ap, subst, arith, nat_lt}
+use Rattle.std.proofs.Common.{List, [], ◌++◌, length, Option, Some, None, ◌⊎◌, inl, inr}
+use Rattle.std.specs.Prelude.{slice_set}
+use Rattle.std.proofs.lemmas.Bool.{and_parts, false≢true, true≢false, or_left, or_right, ltb-true}
+use Rattle.ref_base.specs.Members.{has}
+use Rattle.ref_base.specs.Graphs.{is_there}
+use Rattle.ref_base.specs.Paths.{present, targets_at}
+use Rattle.ref_base.specs.KeptPaths.{is_kept}
+use Rattle.ref_base.specs.Heaps.{Heap, slot_at}
+use Rattle.ref_base.specs.Worlds.{pending_numbers}
+use Rattle.ref_base.specs.Refusals.{is_in, has_slot, is_mutator}
+use Rattle.ref_base.specs.Collectors.{State}
+use Rattle.ref_base.specs.declared.phase.Phase.{Phase}
+use Rattle.ref_base.specs.declared.phase.Phase.TheVariants.{Idle, Marking, Clearing, Sweeping}
+use Rattle.ref_base.proofs.HasLaws.{has-left, has-right, has-cases}
+use Rattle.ref_mark.specs.Marks.{Mark, policy_in, is_white, is_black, is_past_mark, any_is}
+use Rattle.ref_mark.specs.Standing.{Stands}
+use Rattle.ref_mark.proofs.Shading.{not_white_marked}
+use Rattle.ref_mark.proofs.Moves.{leading_is_there}
+use Rattle.ref_mark.proofs.Lookups.{has-present_set, has-present_at}
+
+past_cases : (phase : Phase) → is_in phase Idle ≡ false → is_in phase Marking ≡ false
+    → (is_in phase Clearing ≡ true) ⊎ (is_in phase Sweeping ≡ true)
+past_cases Idle begun quiet = absurd (true≢false begun)
+past_cases Marking begun quiet = absurd (true≢false quiet)
+past_cases Clearing begun quiet = inl refl
+past_cases Sweeping begun quiet = inr refl
+
+-- a cycle that has begun and isn't in its mark is past it
+pub past_from : (phase : Phase) → is_in phase Idle ≡ false → is_in phase Marking ≡ false → is_past_mark phase ≡ true
+past_from phase begun quiet =
+    elim (past_cases phase begun quiet) [
+      | inl clearing ↦ or_left (is_in phase Clearing) (is_in phase Sweeping) clearing
+      | inr sweeping ↦ or_right (is_in phase Clearing) (is_in phase Sweeping) sweeping
+    ]
+
+-- ---- three lists of roots
+
+pub slot_root : (slots holds pending : List ℕ) (n : ℕ) → has slots n ≡ true → has (slots ++ holds ++ pending) n ≡ true
+slot_root slots holds pending n h = has-left (slots ++ holds) pending n (has-left slots holds n h)
+
+pub hold_root : (slots holds pending : List ℕ) (n : ℕ) → has holds n ≡ true → has (slots ++ holds ++ pending) n ≡ true
+hold_root slots holds pending n h = has-left (slots ++ holds) pending n (has-right slots holds n h)
+
+pub pending_root : (slots holds pending : List ℕ) (n : ℕ) → has pending n ≡ true
+    → has (slots ++ holds ++ pending) n ≡ true
+pending_root slots holds pending n h = has-right (slots ++ holds) pending n h
+
+pub root_cases : (slots holds pending : List ℕ) (n : ℕ) → has (slots ++ holds ++ pending) n ≡ true
+    → (has slots n ≡ true) ⊎ (has holds n ≡ true) ⊎ (has pending n ≡ true)
+root_cases slots holds pending n h =
+    elim (has-cases (slots ++ holds) pending n h) [
+      | inl before ↦ elim (has-cases slots holds n before) [
+        | inl slot ↦ inl slot
+        | inr hold ↦ inr (inl hold)
+      ]
+      | inr last ↦ inr (inr last)
+    ]
+
+-- ---- slots
+
+-- a slot of a mutator that is there is among the slots
+pub slot_within : (k : Mark) (a : State) (m s : ℕ) → Stands k a → has_slot k.heap m s ≡ true
+    → 16 * m + s < length k.heap.slots
+slot_within k a m s stands there =
+    let parts = and_parts (is_mutator k.heap m) (nat_lt s 16) there in
+    let mutator : m < k.heap.config.mutators = ltb-true m k.heap.config.mutators parts.0 in
+    let slot : s < 16 = ltb-true s 16 parts.1 in
+    let count : length k.heap.slots ≡ 16 * k.heap.config.mutators = stands.slots in
+    omega (arith, mutator, slot, count)
+
+module _ (k : Mark) (a : State) (stands : Stands k a) (begun : is_in k.phase Idle ≡ false) where
+  -- a root isn't white
+  pub root_is_not_white : (n : ℕ)
+      → has (present k.heap.slots ++ k.heap.holds ++ pending_numbers a.world.pending) n ≡ true → is_white k n ≡ false
+  root_is_not_white n root =
+      let was : has (present a.world.heap.slots ++ a.world.heap.holds ++ pending_numbers a.world.pending) n ≡ true =
+      subst (λ (h : Heap). has (present h.slots ++ h.holds ++ pending_numbers a.world.pending) n ≡ true)
+      (sym stands.heap) root in
+      elim ((stands.facts begun).rooted n was) [
+        | inl other ↦ other
+        | inr none ↦ absurd (false≢true none)
+      ]
+
+  -- nor is what a slot holds
+  pub slot_is_not_white : (m s n : ℕ) → slot_at k.heap m s ≡ Some n → is_white k n ≡ false
+  slot_is_not_white m s n is =
+      root_is_not_white n
+      (slot_root (present k.heap.slots) k.heap.holds (pending_numbers a.world.pending) n
+      (has-present_at k.heap.slots (16 * m + s) n is))
+
+  -- where a slot is set to a value, no root is white but for that value
+  pub roots_of_set : (i : ℕ) (value : Option ℕ) (todo : List ℕ)
+      → ((n : ℕ) → value ≡ Some n → (is_white k n ≡ false) ⊎ (has todo n ≡ true)) → (n : ℕ)
+      → has (present (slice_set k.heap.slots i value) ++ k.heap.holds ++ pending_numbers a.world.pending) n ≡ true
+      → (is_white k n ≡ false) ⊎ (has todo n ≡ true)
+  roots_of_set i value todo allowed n root =
+      let pending = pending_numbers a.world.pending in
+      elim (root_cases (present (slice_set k.heap.slots i value)) k.heap.holds pending n root) [
+        | inl slot ↦ elim (has-present_set k.heap.slots i value n slot) [
+          | inl before ↦ inl (root_is_not_white n (slot_root (present k.heap.slots) k.heap.holds pending n before))
+          | inr is ↦ allowed n is
+        ]
+        | inr other ↦ elim other [
+          | inl hold ↦ inl (root_is_not_white n (hold_root (present k.heap.slots) k.heap.holds pending n hold))
+          | inr last ↦ inl (root_is_not_white n (pending_root (present k.heap.slots) k.heap.holds pending n last))
+        ]
+      ]
+
+  -- once the mark has ended nothing is grey
+  pub no_grey_past : is_in k.phase Marking ≡ false → k.grey ≡ []
+  no_grey_past quiet =
+      elim (past_cases k.phase begun quiet) [
+        | inl clearing ↦ (stands.clearing clearing).no_grey
+        | inr sweeping ↦ (stands.sweeping sweeping).no_grey
+      ]
+
+  -- and what isn't white is black
+  pub not_white_is_black : is_in k.phase Marking ≡ false → (n : ℕ) → is_there k.heap.objects n ≡ true
+      → is_white k n ≡ false → is_black k n ≡ true
+  not_white_is_black quiet n there other =
+      let marked : has k.marked n ≡ true = not_white_marked k n there other in
+      let clear : has k.grey n ≡ false = ap (λ ns. has ns n) (no_grey_past quiet) in
+      simp (there, marked, clear) refl
+
+  -- and leads to nothing white
+  pub lead_is_not_white : is_in k.phase Marking ≡ false → (m n : ℕ) → is_white k m ≡ false
+      → has (targets_at (is_kept (policy_in k)) k.heap.objects m) n ≡ true → is_white k n ≡ false
+  lead_is_not_white quiet m n other target =
+      let there = leading_is_there (is_kept (policy_in k)) k.heap.objects m n target in
+      elim ((stands.facts begun).closed m n (not_white_is_black quiet m there other) target) [
+        | inl next ↦ next
+        | inr none ↦ absurd (false≢true none)
+      ]
+
+-- where a cycle has begun, the object isn't white
+held_off : (k : Mark) (a : State) (m s : ℕ) → Stands k a → is_in k.phase Idle ≡ false → (held : Option ℕ)
+    → slot_at k.heap m s ≡ held → any_is (is_white k) held ≡ false
+held_off k a m s stands begun None is = refl
+held_off k a m s stands begun (Some n) is = slot_is_not_white k a stands begun m s n is
+
+-- a slot's object isn't white
+pub slot_off : (k : Mark) (a : State) (m s : ℕ) → Stands k a → is_in k.phase Idle ≡ false
+    → any_is (is_white k) (slot_at k.heap m s) ≡ false
+slot_off k a m s stands begun = held_off k a m s stands begun (slot_at k.heap m s) refl

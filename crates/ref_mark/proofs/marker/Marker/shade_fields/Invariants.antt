@@ -1,0 +1,9 @@
+use Rattle.std.proofs.Common.{◌≡◌, take}
+use Rattle.ref_base.specs.Graphs.{object_at}
+use Rattle.ref_base.specs.Paths.{present}
+use Rattle.ref_mark.specs.Marks.{shaded_all, fields_in}
+use Rattle.ref_mark.proofs.marker.Marker.shade_fields.Given as goal
+
+abbrev pub invariant-loop-field : goal.invariant-loop-field
+invariant-loop-field g l =
+    l.self ≡ shaded_all l.fn.self (present (take l.field (fields_in (object_at l.fn.self.heap.objects l.fn.no))))

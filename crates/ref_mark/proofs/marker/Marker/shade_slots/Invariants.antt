@@ -1,0 +1,7 @@
+use Rattle.std.proofs.Common.{◌≡◌, take}
+use Rattle.ref_base.specs.Paths.{present}
+use Rattle.ref_mark.specs.Marks.{shaded_all}
+use Rattle.ref_mark.proofs.marker.Marker.shade_slots.Given as goal
+
+abbrev pub invariant-loop-place : goal.invariant-loop-place
+invariant-loop-place g l = l.self ≡ shaded_all l.fn.self (present (take l.place l.fn.self.heap.slots))

@@ -1,0 +1,5 @@
+pub mod Worklists
+pub mod Marks
+pub mod Standing
+pub mod MarkRows
+pub mod MarkViews

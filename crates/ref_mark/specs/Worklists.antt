@@ -1,0 +1,27 @@
+-- A list of numbers that is filled at its end and taken from at its front.
+use Rattle.std.specs.Prelude.{ℕ, List, [], ◌∷◌, ◌++◌, Option, Some, None}
+
+-- the numbers that stand in it, first first, and how many it has room for
+pub record Worklist : Type 0 where
+  pub stands : List ℕ
+  pub room : ℕ
+
+abbrev pub empty_worklist : ℕ → Worklist
+empty_worklist room = record { stands = []; room = room }
+
+abbrev pub with_last : Worklist → ℕ → Worklist
+with_last l n = record l { stands = l.stands ++ n ∷ [] }
+
+abbrev pub first_in : List ℕ → Option ℕ
+first_in [] = None
+first_in (n ∷ ns) = Some n
+
+abbrev pub rest_of : List ℕ → List ℕ
+rest_of [] = []
+rest_of (n ∷ ns) = ns
+
+abbrev pub without_first : Worklist → Worklist
+without_first l = record l { stands = rest_of l.stands }
+
+abbrev pub emptied : Worklist → Worklist
+emptied l = record l { stands = [] }

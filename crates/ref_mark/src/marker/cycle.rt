@@ -1,0 +1,234 @@
+//! The cycle: its begin, the scans of its workers, and the mark's end.
+
+ghost use Rattle.std.specs.Prelude.{◌≡◌, ◌+◌, ◌-◌, ◌^◌, ◌<◌, not, nat_le, Some, length, IfOk};
+ghost use Rattle.ref_base.specs.Graphs.{object_at};
+ghost use Rattle.ref_base.specs.Paths.{present, targets_at, allowed_referent, if_any};
+ghost use Rattle.ref_base.specs.KeptPaths.{is_kept};
+ghost use Rattle.ref_base.specs.Heaps.{reference_at};
+ghost use Rattle.ref_base.specs.CollectorRows.{list_at, emptied};
+ghost use Rattle.ref_base.specs.Refusals.{is_empty, begin_refusal, work_refusal, end_mark_refusal};
+ghost use Rattle.ref_objects.specs.Grounds.{IsRefused, if_done, unmarked};
+ghost use Rattle.ref_mark.specs.Worklists.{first_in};
+ghost use Rattle.ref_mark.specs.MarkRows.{IsRowOf, IsBeginOf, reply_of, scan_reply};
+ghost use Rattle.ref_mark.specs.Marks.{shaded_all, whitened, begun, scanned, with_found, in_phase};
+ghost use Rattle.ref_mark.specs.Marks.{is_white, refers_to, policy_in, fields_in};
+
+use super::Marker;
+use ref_base::{Fault, ObjNo, Phase, Reply, Step, Strength, Urgency, WorkerNo, keeps};
+use ref_objects::Reference;
+use std::alloc::Allocator;
+
+impl<A: Allocator + Copy> Marker<A> {
+    /// Begins a cycle at this clock, and answers its number. All objects become white; then what the slots hold
+    /// becomes grey, mutator by mutator, and then what is held, by number. Tried in this order: `WrongPhase` where a
+    /// cycle hasn't ended, `ClockBack` where the clock is later, `NumbersSpent` after 2^64 - 1 cycles. In time of the
+    /// cells.
+    pub fn begin(&mut self, now: u64, urgency: Urgency) -> Result<u64, Fault>
+        ensures refused { IsRefused
+            (begin_refusal self.old.phase self.old.heap.clock self.old.cycle now) result }
+        ensures answer { IfOk result (λ cycle. cycle ≡ self.old.cycle + 1) }
+        ensures after { self.new ≡ if_done result (begun self.old now urgency) self.old }
+        ensures row { IsBeginOf self.old (Step.Begin now urgency) result self.new }
+    {
+        self.check_begin(now)?;
+        self.whiten(now, urgency);
+        self.shade_slots();
+        self.shade_held();
+        Ok(self.cycle)
+    }
+
+    /// Scans the first of the grey list for this worker: what its fields refer to becomes grey, in order, and so does
+    /// the referent of a soft reference that the cycle keeps; another reference whose referent is white is found by
+    /// the worker. Answers the object, or none where the list is empty. Tried in this order: `NoSuchActor`,
+    /// `WrongPhase`. In logarithmic time for each field.
+    pub fn scan(&mut self, w: WorkerNo) -> Result<Option<ObjNo>, Fault>
+        ensures refused { IsRefused (work_refusal self.old.heap self.old.phase Phase.Marking w) result }
+        ensures answer { IfOk result (λ scanned. scanned ≡ first_in self.old.grey) }
+        ensures after { self.new ≡ if_done result (scanned self.old w) self.old }
+        ensures row { IsRowOf self.old (Step.Scan w) (reply_of scan_reply result) self.new }
+    {
+        self.check_work(w, Phase::Marking)?;
+        let Some(no) = self.grey.take_first() else {
+            return Ok(None);
+        };
+        self.shade_targets(no);
+        self.find(w, no);
+        Ok(Some(no))
+    }
+
+    /// Ends the mark: the white objects are doomed now, and it answers how many they are. Tried in this order:
+    /// `WrongPhase`, `GreyLeft` while the grey list has objects. In constant time.
+    pub fn end_mark(&mut self) -> Result<usize, Fault>
+        ensures refused { IsRefused (end_mark_refusal self.old.phase (not (is_empty self.old.grey))) result }
+        ensures answer { IfOk result (λ count. count ≡ length (unmarked self.old.heap.objects self.old.marked)) }
+        ensures after { self.new ≡ if_done result (in_phase self.old Phase.Clearing) self.old }
+        ensures row { IsRowOf self.old Step.EndMark (reply_of Reply.Doomed result) self.new }
+    {
+        self.check_end_mark()?;
+        self.phase = Phase::Clearing;
+        Ok(self.objects.unmarked_count())
+    }
+
+    // ---- parts of a begin
+
+    // Why a begin is refused.
+    fn check_begin(&self, now: u64) -> Result<(), Fault>
+        ensures { IsRefused (begin_refusal self.now.phase self.now.heap.clock self.now.cycle now) result }
+    {
+        if self.phase != Phase::Idle {
+            return Err(Fault::WrongPhase);
+        }
+        if now < self.objects.clock() {
+            return Err(Fault::ClockBack);
+        }
+        if self.cycle == u64::MAX {
+            return Err(Fault::NumbersSpent);
+        }
+        Ok(())
+    }
+
+    // All objects become white.
+    fn whiten(&mut self, now: u64, urgency: Urgency)
+        requires { self.old.cycle < 2 ^ 64 - 1 }
+        ensures { self.new ≡ whitened self.old now urgency }
+    {
+        self.grey.clear();
+        self.forget_found();
+        self.objects.unmark_all();
+        self.objects.set_clock(now);
+        self.phase = Phase::Marking;
+        self.urgency = urgency;
+        self.cycle += 1;
+    }
+
+    // No worker has found anything.
+    fn forget_found(&mut self)
+        ensures { self.new ≡ record self.old { found = emptied self.old.found } }
+    {
+        for worker in 0..self.found.len() {
+            self.found[worker].clear();
+        }
+    }
+
+    // What the slots hold becomes grey.
+    fn shade_slots(&mut self)
+        ensures { self.new ≡ shaded_all self.old (present self.old.heap.slots) }
+    {
+        for place in 0..self.objects.slots().len() {
+            let value = self.objects.slots()[place];
+            self.shade_if_any(value);
+        }
+    }
+
+    // What is held becomes grey.
+    fn shade_held(&mut self)
+        ensures { self.new ≡ shaded_all self.old self.old.heap.holds }
+    {
+        // Gives the proof that holds are in order.
+        let _count = self.objects.hold_count();
+        let mut held = self.objects.held_from(ObjNo(0));
+        while let Some(no) = held {
+            self.shade(no);
+            held = self.objects.held_after(no);
+        }
+    }
+
+    // ---- parts of a scan
+
+    // What an object leads to becomes grey.
+    fn shade_targets(&mut self, no: ObjNo)
+        ensures { self.new ≡ shaded_all self.old
+            (targets_at (is_kept (policy_in self.old)) self.old.heap.objects no) }
+    {
+        self.shade_fields(no);
+        let referent = self.kept_referent(no);
+        self.shade_if_any(referent);
+    }
+
+    // What the fields of an object hold becomes grey.
+    fn shade_fields(&mut self, no: ObjNo)
+        ensures { self.new ≡ shaded_all self.old (present (fields_in (object_at self.old.heap.objects no))) }
+    {
+        for field in 0..self.objects.field_count_of(no) {
+            let value = self.objects.field_of(no, field);
+            self.shade_if_any(value);
+        }
+    }
+
+    // The referent of a reference that the cycle keeps.
+    fn kept_referent(&self, no: ObjNo) -> Option<ObjNo>
+        ensures { if_any result ≡ allowed_referent (is_kept (policy_in self.now)) (reference_at self.now.heap no) }
+    {
+        let reference = self.objects.reference_of(no)?;
+        if self.is_kept(reference) {
+            reference.referent
+        } else {
+            None
+        }
+    }
+
+    // Whether the cycle keeps the referent of this reference.
+    fn is_kept(&self, reference: Reference) -> bool
+        ensures { result ≡ is_kept (policy_in self.now) reference }
+    {
+        match (reference.strength, self.urgency) {
+            (Strength::Soft, Urgency::Normal) => self.is_young_enough(reference.stamp),
+            _ => false,
+        }
+    }
+
+    // Whether a stamp is at most the span before the clock. None is after the clock.
+    fn is_young_enough(&self, stamp: u64) -> bool
+        ensures { result ≡ nat_le (self.now.heap.clock - stamp) self.now.heap.config.span }
+    {
+        let clock = self.objects.clock();
+        stamp > clock || keeps(clock, stamp, self.objects.config().span)
+    }
+
+    // The worker finds a reference whose referent is still white.
+    fn find(&mut self, w: WorkerNo, no: ObjNo)
+        requires worker { w < self.old.heap.config.workers }
+        requires room { length (list_at self.old.found w) + length self.old.grey < length self.old.marked }
+        ensures { self.new ≡ with_found self.old w no }
+    {
+        if self.refers_to_white(no) {
+            self.found[w.0 as usize].push(no);
+        }
+    }
+
+    // Whether the object is a reference whose referent is white.
+    fn refers_to_white(&self, no: ObjNo) -> bool
+        ensures { result ≡ refers_to (is_white self.now) (reference_at self.now.heap no) }
+    {
+        match self.objects.referent_of(no) {
+            Some(referent) => self.objects.is_unmarked(referent),
+            None => false,
+        }
+    }
+
+    // Why a mark's end is refused.
+    fn check_end_mark(&self) -> Result<(), Fault>
+        ensures { IsRefused (end_mark_refusal self.now.phase (not (is_empty self.now.grey))) result }
+    {
+        if self.phase != Phase::Marking {
+            return Err(Fault::WrongPhase);
+        }
+        if !self.grey.is_empty() {
+            return Err(Fault::GreyLeft);
+        }
+        Ok(())
+    }
+
+    // Why a worker's step is refused that this phase has.
+    pub(super) fn check_work(&self, w: WorkerNo, phase: Phase) -> Result<(), Fault>
+        ensures { IsRefused (work_refusal self.now.heap self.now.phase phase w) result }
+    {
+        if w.0 >= self.objects.config().workers {
+            return Err(Fault::NoSuchActor);
+        }
+        if self.phase != phase {
+            return Err(Fault::WrongPhase);
+        }
+        Ok(())
+    }
+}

@@ -1,0 +1,95 @@
+//! What the layer above does to a heap in its cycles.
+
+ghost use Rattle.std.specs.Prelude.{◌≡◌, IfOk, not};
+ghost use Rattle.ref_base.specs.Heaps.{with_changed, with_reference, cleared};
+ghost use Rattle.ref_base.specs.Collectors.{joined};
+ghost use Rattle.ref_base.specs.CollectorRows.{list_at};
+ghost use Rattle.ref_base.specs.Refusals.{is_empty, work_refusal};
+ghost use Rattle.ref_objects.specs.Grounds.{IsRefused, if_done, least_from};
+ghost use Rattle.ref_mark.specs.Worklists.{first_in};
+ghost use Rattle.ref_mark.specs.Marks.{shaded, in_phase, with_taken, doomed, is_swept, swept, is_past_mark};
+
+use super::Marker;
+use ref_base::{Fault, ObjNo, Phase, WorkerNo};
+use std::alloc::Allocator;
+
+impl<A: Allocator + Copy> Marker<A> {
+    /// A root that the layer above has: in a mark a white object becomes grey, and the last of the grey list. In
+    /// logarithmic time.
+    pub fn grey_root(&mut self, no: ObjNo)
+        ensures { self.new ≡ shaded self.old no }
+    {
+        self.shade(no);
+    }
+
+    /// Takes the first reference that a worker found and that wasn't looked at since; none where there is none. Tried
+    /// in this order: `NoSuchActor`, `WrongPhase` but in Clearing. In constant time.
+    pub fn take_found(&mut self, w: WorkerNo) -> Result<Option<ObjNo>, Fault>
+        ensures refused { IsRefused (work_refusal self.old.heap self.old.phase Phase.Clearing w) result }
+        ensures answer { IfOk result (λ taken. taken ≡ first_in (list_at self.old.found w)) }
+        ensures after { self.new ≡ if_done result (with_taken self.old w) self.old }
+    {
+        self.check_work(w, Phase::Clearing)?;
+        Ok(self.found[w.0 as usize].take_first())
+    }
+
+    /// Whether some worker found a reference that wasn't looked at since. In time of the workers.
+    pub fn has_found(&self) -> bool
+        ensures { result ≡ not (is_empty (joined self.now.found)) }
+    {
+        self.found.iter().any(|list| !list.is_empty())
+    }
+
+    /// Clears the reference of this number; nothing changes where there is none. In logarithmic time.
+    pub fn cut(&mut self, no: ObjNo)
+        ensures { self.new ≡ record self.old { heap = with_changed self.old.heap no (with_reference cleared) } }
+    {
+        self.objects.cut(no);
+    }
+
+    /// The least number from this one on of a doomed object. In logarithmic time, and that of the objects between.
+    pub fn doomed_from(&self, no: ObjNo) -> Option<ObjNo>
+        ensures { result ≡ least_from (doomed self.now) no }
+    {
+        if self.is_past_mark() {
+            self.objects.unmarked_from(no)
+        } else {
+            None
+        }
+    }
+
+    /// Frees the doomed object of this number, as `Objects::free` does. True where it was doomed and nobody holds it;
+    /// else nothing changes. In logarithmic time.
+    pub fn free(&mut self, no: ObjNo) -> bool
+        ensures answer { result ≡ is_swept self.old no }
+        ensures after { self.new ≡ swept self.old no }
+    {
+        self.is_doomed(no) && self.objects.free(no)
+    }
+
+    /// Clearing ends. The layer above has looked at all that was found.
+    pub fn to_sweeping(&mut self)
+        ensures { self.new ≡ in_phase self.old Phase.Sweeping }
+    {
+        self.phase = Phase::Sweeping;
+    }
+
+    /// The cycle ends, and the gaps that freed objects left are closed. In time of the objects that are there and of
+    /// those that were freed.
+    pub fn to_idle(&mut self)
+        ensures { self.new ≡ in_phase self.old Phase.Idle }
+    {
+        self.objects.close_gaps();
+        self.phase = Phase::Idle;
+    }
+
+    // Whether a mark has ended, and its cycle hasn't.
+    pub(super) fn is_past_mark(&self) -> bool
+        ensures { result ≡ is_past_mark self.now.phase }
+    {
+        match self.phase {
+            Phase::Clearing | Phase::Sweeping => true,
+            Phase::Idle | Phase::Marking => false,
+        }
+    }
+}
