@@ -4,17 +4,10 @@ use Rattle.std.proofs.Common.{◌∷◌, Option, Some, None, inl, inr, false}
 use Rattle.std.proofs.lemmas.Bool.{cases_Bool, false≢true, true≢false}
 use Rattle.std.specs.Option.{is_some}
 use Rattle.ref_base.specs.Graphs.{Object, Reference, object_at}
-use Rattle.ref_base.specs.Heaps.{slot_at, reference_at, reference_in, with_slot, with_stamp, got_at}
+use Rattle.ref_base.specs.Heaps.{reference_at, reference_in, with_stamp, got_at}
 use Rattle.ref_base.specs.Heaps.{changed_at, changed_reference, with_changed, with_reference}
 use Rattle.ref_base.specs.Paths.{is_soft}
-use Rattle.ref_mark.specs.Marks.{Mark, barred, renewed, with_got}
-
--- what a get leaves, where this is the object in the slot
-pub renewed_got : (k : Mark) (m d s n : ℕ) (value : Option ℕ) → slot_at (barred k value).heap m s ≡ Some n
-    → record (renewed (barred k value) n value) { heap = with_slot (renewed (barred k value) n value).heap m d value }
-    ≡ with_got k m d s value
-renewed_got k m d s n None held = refl
-renewed_got k m d s n (Some value) held = rw held refl
+use Rattle.ref_mark.specs.Marks.{Mark, renewed}
 
 -- ---- a get renews a soft reference alone
 

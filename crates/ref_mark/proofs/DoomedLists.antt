@@ -7,7 +7,7 @@ use Rattle.std.proofs.lemmas.Bool.{and_right, or_left}
 use Rattle.ref_base.specs.Members.{has}
 use Rattle.ref_base.specs.Graphs.{Object, Reference, is_there}
 use Rattle.ref_base.specs.DoomedSets.{is_among, refers_into, is_new_clear}
-use Rattle.ref_base.specs.Heaps.{Heap, changed_at, with_changed, changed_in, one_more, made}
+use Rattle.ref_base.specs.Heaps.{changed_at, with_changed, changed_in, one_more, made}
 use Rattle.ref_base.specs.CollectorRows.{shown}
 use Rattle.ref_base.specs.Refusals.{is_in}
 use Rattle.ref_base.specs.declared.phase.Phase.{Phase}
@@ -82,11 +82,6 @@ has-doomed k n =
       | inl past ↦ simp past (has-unmarked k.heap.objects k.marked n)
       | inr before ↦ simp before refl
     ]
-
--- other slots or holds doom nothing, and no object less
-pub doomed-same_objects : (k : Mark) (h : Heap) → h.objects ≡ k.heap.objects → doomed (record k { heap = h }) ≡ doomed k
-doomed-same_objects k h same =
-    ap (λ (os : List Object). if is_past_mark k.phase then unmarked os k.marked else []) same
 
 -- nor does a changed object that keeps its number
 pub doomed-changed : (k : Mark) (n : ℕ) (f : Object → Object) → ((o : Object) → (f o).no ≡ o.no)

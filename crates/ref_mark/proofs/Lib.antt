@@ -5,6 +5,7 @@ pub mod ShownObjects
 pub mod ShownHeaps
 pub mod ShownReads
 pub mod ShownRefusals
+pub mod RowForms
 pub mod Passed
 pub mod PlainStates
 pub mod FoundLists
@@ -21,9 +22,9 @@ pub mod ShadedMoves
 pub mod Lookups
 pub mod RootFacts
 pub mod MoveKinds
-pub mod RowForms
 pub mod SlotRows
 pub mod HoldMoves
+pub mod HoldCalls
 pub mod MadeMoves
 pub mod ObjectRows
 pub mod ReferenceMoves

@@ -4,16 +4,14 @@ use Rattle.std.proofs.Common.{List, [], ◌∷◌, ◌++◌, length, take, Optio
 use Rattle.std.specs.Prelude.{slice_index_or, if◌then◌else◌}
 use Rattle.std.proofs.lemmas.Bool.{cases_Bool, le-leb, lt-leb, leb-true, leb-false, eq-eqb}
 use Rattle.std.proofs.lemmas.List.{take_more}
-use Rattle.ref_base.specs.Graphs.{Object, object_at}
+use Rattle.ref_base.specs.Graphs.{Object, Reference, object_at}
 use Rattle.ref_base.specs.Paths.{Allowed, present, if_any, targets_of, targets_at, allowed_referent}
 use Rattle.ref_base.specs.KeptPaths.{Policy, is_kept}
 use Rattle.ref_base.specs.Heaps.{Heap, reference_at, reference_in}
 use Rattle.ref_base.specs.declared.urgency.Urgency.{Urgency}
-use Rattle.ref_base.specs.CollectorRows.{field_of}
-use Rattle.ref_base.specs.Refusals.{field_count}
-use Rattle.ref_objects.specs.Grounds.{least_from, AllFrom, IsInOrder}
+use Rattle.ref_objects.specs.Grounds.{fields_in, least_from, AllFrom, IsInOrder}
 use Rattle.ref_mark.specs.Worklists.{first_in}
-use Rattle.ref_mark.specs.Marks.{Mark, is_white, shaded, shaded_all, shaded_if_any, fields_in, policy_in}
+use Rattle.ref_mark.specs.Marks.{Mark, is_white, shaded, shaded_all, shaded_if_any, policy_in}
 use Rattle.ref_mark.specs.Marks.{whitened, begun, roots_of}
 use Rattle.ref_mark.proofs.Shading.{greyed, shaded-only, shaded_all-only, shaded_all-append}
 use Rattle.ref_mark.proofs.Shading.{shaded_other, shaded_white, own-greyed}
@@ -41,14 +39,6 @@ shaded_more start k held place within so_far =
     ∙ ap (shaded_all start)
     (sym (ap present (take_more held place None within) ∙ present-append (take place held) (value ∷ [])))
 
-pub field_of-fields_in : (o : Option Object) (i : ℕ) → field_of o i ≡ slice_index_or (fields_in o) i None
-field_of-fields_in None i = refl
-field_of-fields_in (Some o) i = refl
-
-pub field_count-fields_in : (o : Option Object) → field_count o ≡ length (fields_in o)
-field_count-fields_in None = refl
-field_count-fields_in (Some o) = refl
-
 -- shading leaves the heap as it is
 pub shaded_heap : (start k : Mark) (ns : List ℕ) → k ≡ shaded_all start ns → k.heap ≡ start.heap
 shaded_heap start k ns is = ap (λ (j : Mark). j.heap) (is ∙ shaded_all-only start ns)
@@ -72,18 +62,18 @@ shaded_policy : (start : Mark) (ns : List ℕ) → policy_in (shaded_all start n
 shaded_policy start ns = ap policy_in (shaded_all-only start ns)
 
 -- the fields first, and then the referent that is kept
-pub shaded_targets : (start k : Mark) (n : ℕ) (referent : Option ℕ)
+pub shaded_targets : (start k : Mark) (n : ℕ) (reference : Option Reference) (referent : Option ℕ)
+    → reference_at start.heap n ≡ reference
     → k ≡ shaded_all start (present (fields_in (object_at start.heap.objects n)))
-    → if_any referent ≡ allowed_referent (is_kept (policy_in k)) (reference_at k.heap n)
+    → if_any referent ≡ allowed_referent (is_kept (policy_in k)) reference
     → shaded_if_any k referent ≡ shaded_all start (targets_at (is_kept (policy_in start)) start.heap.objects n)
-shaded_targets start k n referent fields kept =
+shaded_targets start k n reference referent own fields kept =
     let o = object_at start.heap.objects n in
     let front = present (fields_in o) in
     let policy : policy_in k ≡ policy_in start = ap policy_in fields ∙ shaded_policy start front in
-    let heap : k.heap ≡ start.heap = shaded_heap start k front fields in
     let same : if_any referent ≡ allowed_referent (is_kept (policy_in start)) (reference_in o) =
-    kept ∙ ap (λ (p : Policy). allowed_referent (is_kept p) (reference_at k.heap n)) policy
-    ∙ ap (λ (h : Heap). allowed_referent (is_kept (policy_in start)) (reference_at h n)) heap in
+    kept ∙ ap (λ (p : Policy). allowed_referent (is_kept p) reference) policy
+    ∙ ap (allowed_referent (is_kept (policy_in start))) (sym own) in
     shaded_any k referent ∙ ap (shaded_all k) same
     ∙ ap (λ (j : Mark). shaded_all j (allowed_referent (is_kept (policy_in start)) (reference_in o))) fields
     ∙ sym (shaded_all-append start front (allowed_referent (is_kept (policy_in start)) (reference_in o)))
@@ -284,7 +274,3 @@ fewer_after_turn start k n holds so_far =
     let left : still_held (least_from holds (n + 1)) holds ≡ drop_below (n + 1) holds =
     still-least_from (n + 1) holds in
     rw left (fewer n holds (drop_below n holds) refl so_far.first)
-
--- at the end nothing is left
-pub held_to_the_end : (start k : Mark) (holds : List ℕ) → IsHeldFrom start k None holds → k ≡ shaded_all start holds
-held_to_the_end start k holds so_far = so_far.rest

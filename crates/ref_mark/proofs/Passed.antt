@@ -1,13 +1,13 @@
 -- What a step of the cycle that isn't refused has passed.
-use Rattle.std.proofs.Common.{◌≡◌, ℕ, ◌<◌, ◌^◌, ◌-◌, Bool, true, false, not, refl, nat_le, nat_lt}
-use Rattle.std.proofs.Common.{List, [], ◌∷◌, Option, None}
+use Rattle.std.proofs.Common.{◌≡◌, ℕ, ◌<◌, ◌^◌, ◌-◌, true, not, refl, nat_le, nat_lt}
+use Rattle.std.proofs.Common.{List, [], ◌∷◌, None}
 use Rattle.std.proofs.lemmas.Bool.{false≢true, ltb-true}
 use Rattle.ref_base.specs.Refusals.{is_in, is_empty, is_worker, unless, begin_refusal, work_refusal, end_mark_refusal}
 use Rattle.ref_base.specs.declared.phase.Phase.{Phase}
 use Rattle.ref_base.specs.declared.phase.Phase.TheVariants.{Idle, Marking, Clearing, Sweeping}
-use Rattle.ref_base.specs.declared.fault.Fault.{Fault}
 use Rattle.ref_base.specs.declared.fault.Fault.TheVariants.{NoSuchActor, NumbersSpent, WrongPhase, ClockBack, GreyLeft}
 use Rattle.ref_mark.specs.Marks.{Mark}
+use Rattle.ref_mark.proofs.RowForms.{unless_parts}
 
 pub is_idle : (phase : Phase) → is_in phase Idle ≡ true → phase ≡ Idle
 is_idle Idle is = refl
@@ -21,25 +21,19 @@ is_marking Marking is = refl
 is_marking Clearing is = absurd (false≢true is)
 is_marking Sweeping is = absurd (false≢true is)
 
--- what comes after a test that no fault
-pub unless_none : (test : Bool) (fault : Fault) (later : Option Fault) → unless test fault later ≡ None
-    → (test ≡ true) × (later ≡ None)
-unless_none true fault later none = (refl, none)
-unless_none false fault later none = absurd (cc)
-
 -- a cycle begins where none is under way
 pub begin_passed : (k : Mark) (now : ℕ) → begin_refusal k.phase k.heap.clock k.cycle now ≡ None → k.phase ≡ Idle
 begin_passed k now none =
     let later = unless (nat_le k.heap.clock now) ClockBack (unless (nat_lt k.cycle (2 ^ 64 - 1)) NumbersSpent None) in
-    is_idle k.phase (unless_none (is_in k.phase Idle) WrongPhase later none).0
+    is_idle k.phase (unless_parts (is_in k.phase Idle) WrongPhase later none).0
 
 -- what a worker's step asks of the phase and the worker
 pub work_passed : (k : Mark) (phase : Phase) (w : ℕ) → work_refusal k.heap k.phase phase w ≡ None
     → (w < k.heap.config.workers) × (is_in k.phase phase ≡ true)
 work_passed k phase w none =
     let later = unless (is_in k.phase phase) WrongPhase None in
-    let outer = unless_none (is_worker k.heap w) NoSuchActor later none in
-    (ltb-true w k.heap.config.workers outer.0, (unless_none (is_in k.phase phase) WrongPhase None outer.1).0)
+    let outer = unless_parts (is_worker k.heap w) NoSuchActor later none in
+    (ltb-true w k.heap.config.workers outer.0, (unless_parts (is_in k.phase phase) WrongPhase None outer.1).0)
 
 -- no list is empty but that of nothing
 nothing_left : (ns : List ℕ) → not (not (is_empty ns)) ≡ true → ns ≡ []
@@ -51,7 +45,7 @@ pub end_mark_passed : (k : Mark) → end_mark_refusal k.phase (not (is_empty k.g
     → (k.phase ≡ Marking) × (k.grey ≡ [])
 end_mark_passed k none =
     let later = unless (not (not (is_empty k.grey))) GreyLeft None in
-    let outer = unless_none (is_in k.phase Marking) WrongPhase later none in (
+    let outer = unless_parts (is_in k.phase Marking) WrongPhase later none in (
       is_marking k.phase outer.0,
-      nothing_left k.grey (unless_none (not (not (is_empty k.grey))) GreyLeft None outer.1).0,
+      nothing_left k.grey (unless_parts (not (not (is_empty k.grey))) GreyLeft None outer.1).0,
     )

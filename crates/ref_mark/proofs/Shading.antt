@@ -125,24 +125,6 @@ black-greyed k n m black =
       ]
     ]
 
--- and nothing that was black isn't
-pub black-kept : (k : Mark) (n m : ℕ) → is_white k n ≡ true → is_black k m ≡ true → is_black (greyed k n) m ≡ true
-black-kept k n m white black =
-    let parts = and_parts (is_there k.heap.objects m) (has k.marked m && not (has k.grey m)) black in
-    let sides = and_parts (has k.marked m) (not (has k.grey m)) parts.1 in
-    let clear : has k.grey m ≡ false = not-true (has k.grey m) sides.1 in
-    elim (cases_Bool (n == m)) [
-      | inl same ↦
-          let unmarked : has k.marked m ≡ false =
-          subst (λ i. has k.marked i ≡ false) (eqb-true n m same) (white_unmarked k n white) in
-          absurd (true≢false (sym sides.0 ∙ unmarked))
-      | inr other ↦
-          let marked : has (one_more k.marked n) m ≡ true =
-          has-one_more k.marked n m ∙ or_right (n == m) (has k.marked m) sides.0 in
-          let off : has (k.grey ++ n ∷ []) m ≡ false = has-append k.grey (n ∷ []) m ∙ simp (clear, other) refl in
-          simp (parts.0, marked, off) refl
-    ]
-
 -- what refers to something white did so before
 pub any_is-wider : (before after : ℕ → Bool) → ((n : ℕ) → after n ≡ true → before n ≡ true) → (value : Option ℕ)
     → any_is after value ≡ true → any_is before value ≡ true

@@ -6,33 +6,20 @@ use Rattle.ref_base.specs.Members.{has}
 use Rattle.ref_base.specs.Graphs.{Object, Reference, object_at, is_there, plain_object}
 use Rattle.ref_base.specs.DoomedSets.{is_among, refers_into, is_new_clear}
 use Rattle.ref_base.specs.Heaps.{Heap, slot_at, reference_in, reference_at, changed_at, changed_in}
-use Rattle.ref_base.specs.Heaps.{with_slot, with_hold, without_hold, with_field, with_reference}
+use Rattle.ref_base.specs.Heaps.{with_slot, with_field, with_reference}
 use Rattle.ref_base.specs.Heaps.{cleared, got_at, new_reference, made, stored, got, cut}
 use Rattle.ref_base.specs.CollectorRows.{shown, reference_of}
 use Rattle.ref_base.specs.Refusals.{is_in}
 use Rattle.ref_base.specs.declared.strength.Strength.{Strength}
-use Rattle.ref_base.specs.declared.phase.Phase.TheVariants.{Idle, Marking}
+use Rattle.ref_base.specs.declared.phase.Phase.TheVariants.{Idle}
 use Rattle.ref_mark.specs.Marks.{Mark, is_white, is_past_mark, is_doomed, doomed, any_is, refers_to, shaded}
-use Rattle.ref_mark.specs.Marks.{barred, young, with_made, loaded, with_got, with_cleared}
+use Rattle.ref_mark.specs.Marks.{young, with_made, with_cleared}
 use Rattle.ref_mark.specs.Standing.{shown_heap}
 use Rattle.ref_mark.proofs.DoomedLists.{has-doomed, doomed-changed_in, doomed-made, is_there-above}
-use Rattle.ref_mark.proofs.DoomedLists.{past_is_not_marking, shown_heap-before}
 use Rattle.ref_mark.proofs.ShownObjects.{shown-no, map-shown_changed, map-shown_push}
 use Rattle.ref_mark.proofs.ShownObjects.{shown-field, shown-got, shown-cleared, shown-cleared_new}
 
 -- ---- slots and holds
-
-pub shown_heap-slot : (k : Mark) (m d : ℕ) (value : Option ℕ)
-    → shown_heap (record k { heap = with_slot k.heap m d value }) ≡ with_slot (shown_heap k) m d value
-shown_heap-slot k m d value = refl
-
-pub shown_heap-hold : (k : Mark) (n : ℕ)
-    → shown_heap (record k { heap = with_hold k.heap n }) ≡ with_hold (shown_heap k) n
-shown_heap-hold k n = refl
-
-pub shown_heap-without_hold : (k : Mark) (n : ℕ)
-    → shown_heap (record k { heap = without_hold k.heap n }) ≡ without_hold (shown_heap k) n
-shown_heap-without_hold k n = refl
 
 -- ---- changed objects
 
@@ -73,45 +60,6 @@ shaded-heap k n = elim (cases_Bool (is_white k n)) [ inl white ↦ simp white re
 
 shaded-phase : (k : Mark) (n : ℕ) → (shaded k n).phase ≡ k.phase
 shaded-phase k n = elim (cases_Bool (is_white k n)) [ inl white ↦ simp white refl | inr marked ↦ simp marked refl ]
-
--- the barrier changes no object, slot or hold
-pub barred-heap : (k : Mark) (value : Option ℕ) → (barred k value).heap ≡ k.heap
-barred-heap k None =
-    elim (cases_Bool (is_in k.phase Marking)) [ inl now ↦ simp now refl | inr later ↦ simp later refl ]
-barred-heap k (Some n) =
-    elim (cases_Bool (is_in k.phase Marking)) [
-      | inl now ↦ simp now (shaded-heap k n)
-      | inr later ↦ simp later refl
-    ]
-
-pub barred-phase : (k : Mark) (value : Option ℕ) → (barred k value).phase ≡ k.phase
-barred-phase k None =
-    elim (cases_Bool (is_in k.phase Marking)) [ inl now ↦ simp now refl | inr later ↦ simp later refl ]
-barred-phase k (Some n) =
-    elim (cases_Bool (is_in k.phase Marking)) [
-      | inl now ↦ simp now (shaded-phase k n)
-      | inr later ↦ simp later refl
-    ]
-
--- it acts in a mark alone, where nothing is doomed
-pub shown_heap-barred : (k : Mark) (value : Option ℕ) → shown_heap (barred k value) ≡ shown_heap k
-shown_heap-barred k value =
-    elim (cases_Bool (is_past_mark k.phase)) [
-      | inl past ↦ let quiet : is_in k.phase Marking ≡ false = past_is_not_marking k.phase past in simp quiet refl
-      | inr before ↦
-          let still : is_past_mark (barred k value).phase ≡ false =
-          ap is_past_mark (barred-phase k value) ∙ before in
-          shown_heap-before (barred k value) still ∙ barred-heap k value ∙ sym (shown_heap-before k before)
-    ]
-
-pub shown_heap-loaded : (k : Mark) (m d : ℕ) (value : Option ℕ)
-    → shown_heap (loaded k m d value) ≡ with_slot (shown_heap k) m d value
-shown_heap-loaded k m d value = ap (λ (h : Heap). with_slot h m d value) (shown_heap-barred k value)
-
-pub shown_heap-with_got : (k : Mark) (m d s : ℕ) (value : Option ℕ)
-    → shown_heap (with_got k m d s value) ≡ got (shown_heap k) m d s value
-shown_heap-with_got k m d s value =
-    shown_heap-got (barred k value) m d s value ∙ ap (λ (h : Heap). got h m d s value) (shown_heap-barred k value)
 
 -- ---- what is made
 
@@ -161,15 +109,6 @@ pub shown_heap-made_plain : (k : Mark) (m d : ℕ) (fields : List (Option ℕ))
 shown_heap-made_plain k m d fields below =
     shown_heap-made k m d (plain_object k.next fields) (is_there-above k.heap.objects k.next below)
     (is_new_clear-plain (doomed k) k.next fields)
-
-pub shown_heap-made_reference : (k : Mark) (m d : ℕ) (strength : Strength) (referent queue : Option ℕ) (count : ℕ)
-    → ((n : ℕ) → is_there k.heap.objects n ≡ true → n < k.next) → any_is (is_white k) referent ≡ false
-    → let o = new_reference k.heap k.next strength referent queue count in
-    shown_heap (with_made k m d o) ≡ made (shown_heap k) m d o
-shown_heap-made_reference k m d strength referent queue count below unmet =
-    shown_heap-made k m d (new_reference k.heap k.next strength referent queue count)
-    (is_there-above k.heap.objects k.next below)
-    (is_new_clear-reference k k.heap k.next strength referent queue count unmet)
 
 -- ---- clears
 

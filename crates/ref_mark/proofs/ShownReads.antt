@@ -6,23 +6,18 @@ use Rattle.std.specs.Prelude.{slice_index_or}
 use Rattle.std.proofs.lemmas.Bool.{cases_Bool, and_right, eqb-true}
 use Rattle.std.specs.Option.{option_map, is_some}
 use Rattle.ref_base.specs.Members.{has}
-use Rattle.ref_base.specs.Graphs.{Object, Reference, object_at, is_there, numbers}
+use Rattle.ref_base.specs.Graphs.{Object, Reference, object_at, numbers}
 use Rattle.ref_base.specs.Paths.{is_phantom}
 use Rattle.ref_base.specs.DoomedSets.{is_among, refers_into, is_new_clear}
 use Rattle.ref_base.specs.Heaps.{slot_at, reference_in, reference_at, registered_in}
 use Rattle.ref_base.specs.Heaps.{changed_reference, cleared}
 use Rattle.ref_base.specs.Refusals.{field_count}
 use Rattle.ref_base.specs.CollectorRows.{shown, field_of, field_in, reference_of, referent_got, referent_of, is_same}
-use Rattle.ref_base.proofs.StoreLaws.{is_some-option_map}
 use Rattle.ref_mark.specs.Marks.{Mark, is_white, is_past_mark, doomed, any_is, undoomed}
 use Rattle.ref_mark.specs.Marks.{referent_read, value_read, value_got, refers}
 use Rattle.ref_mark.specs.Standing.{shown_heap}
 use Rattle.ref_mark.proofs.DoomedLists.{has-doomed}
 use Rattle.ref_mark.proofs.ShownObjects.{shown-no}
-
--- the slots are those of the heap
-pub slot_at-shown : (k : Mark) (m s : ℕ) → slot_at (shown_heap k) m s ≡ slot_at k.heap m s
-slot_at-shown k m s = refl
 
 -- ---- objects
 
@@ -45,11 +40,6 @@ pub numbers-shown : (d : List ℕ) (os : List Object) → numbers (map (λ o. sh
 numbers-shown d [] = refl
 numbers-shown d (o ∷ os) = ap (λ n. n ∷ numbers (map (λ p. shown d p) os)) (shown-no d o)
     ∙ ap (λ ns. o.no ∷ ns) (numbers-shown d os)
-
-pub is_there-shown : (d : List ℕ) (os : List Object) (n : ℕ)
-    → is_there (map (λ o. shown d o) os) n ≡ is_there os n
-is_there-shown d os n =
-    ap is_some (object_at-shown d os n) ∙ is_some-option_map (λ o. shown d o) (object_at os n)
 
 -- an object is shown with its fields
 pub shown-fields : (d : List ℕ) (o : Object) → (shown d o).fields ≡ o.fields
@@ -118,11 +108,6 @@ pub registered_in-shown : (k : Mark) (n : ℕ)
 registered_in-shown k n =
     ap (λ (o : Option Object). registered_in (reference_in o)) (object_at-shown (doomed k) k.heap.objects n)
     ∙ registered_in-option (doomed k) (object_at k.heap.objects n)
-
-pub registered_of-shown : (k : Mark) (held : Option ℕ)
-    → registered_in (reference_of (shown_heap k) held) ≡ registered_in (reference_of k.heap held)
-registered_of-shown k None = refl
-registered_of-shown k (Some n) = registered_in-shown k n
 
 -- ---- referents
 

@@ -1,21 +1,19 @@
 -- The heap as mutators read it refuses what the heap refuses.
-use Rattle.std.proofs.Common.{◌≡◌, ℕ, ◌^◌, Bool, nat_lt, nat_le, if◌then◌else◌}
-use Rattle.std.proofs.Common.{refl, sym, ap, ◌∙◌, Option, Some, None}
+use Rattle.std.proofs.Common.{◌≡◌, ℕ, ◌^◌, Bool, nat_lt, nat_le}
+use Rattle.std.proofs.Common.{refl, ap, Option, Some, None}
 use Rattle.std.proofs.lemmas.List.{length-map}
-use Rattle.std.specs.Option.{is_some}
-use Rattle.ref_base.specs.Heaps.{Heap, slot_at, reference_at, registered_in}
-use Rattle.ref_base.specs.Graphs.{Reference}
+use Rattle.ref_base.specs.Heaps.{slot_at}
 use Rattle.ref_base.specs.CollectorRows.{shown}
 use Rattle.ref_base.specs.Refusals.{unless, has_slot, has_slots, is_queue_or_none, unless_empty}
 use Rattle.ref_base.specs.Refusals.{object_refusal, new_refusal, refer_refusal, field_refusal, store_refusal}
-use Rattle.ref_base.specs.Refusals.{load_refusal, copy_refusal, drop_refusal, reference_refusal, get_refusal}
-use Rattle.ref_base.specs.Refusals.{clear_refusal, holds_refusal, minting_refusal, unhook_refusal}
+use Rattle.ref_base.specs.Refusals.{load_refusal, reference_refusal, get_refusal}
+use Rattle.ref_base.specs.Refusals.{clear_refusal}
 use Rattle.ref_base.specs.declared.fault.Fault.{Fault}
 use Rattle.ref_base.specs.declared.fault.Fault.TheVariants.{NoCell, NumbersSpent, BadField, BadQueue, NoSuchActor}
 use Rattle.ref_base.specs.declared.fault.Fault.TheVariants.{NotAReference}
 use Rattle.ref_mark.specs.Marks.{Mark, doomed}
 use Rattle.ref_mark.specs.Standing.{shown_heap}
-use Rattle.ref_mark.proofs.ShownReads.{field_count-shown, is_reference-shown, registered_in-shown}
+use Rattle.ref_mark.proofs.ShownReads.{field_count-shown, is_reference-shown}
 
 -- ---- what is made
 
@@ -61,12 +59,6 @@ load_refusal-shown k m d s i =
     ap (λ (later : Option Fault). unless (has_slots k.heap m d s) NoSuchActor later)
     (field_refusal-shown k (slot_at k.heap m s) i)
 
-pub copy_refusal-shown : (k : Mark) (m d s : ℕ) → copy_refusal (shown_heap k) m d s ≡ copy_refusal k.heap m d s
-copy_refusal-shown k m d s = refl
-
-pub drop_refusal-shown : (k : Mark) (m s : ℕ) → drop_refusal (shown_heap k) m s ≡ drop_refusal k.heap m s
-drop_refusal-shown k m s = refl
-
 -- ---- references
 
 pub reference_refusal-shown : (k : Mark) (held : Option ℕ)
@@ -86,26 +78,3 @@ clear_refusal-shown k m s =
     (reference_refusal-shown k (slot_at k.heap m s))
 
 -- ---- holds
-
-pub holds_refusal-shown : (k : Mark) → holds_refusal (shown_heap k) ≡ holds_refusal k.heap
-holds_refusal-shown k = refl
-
--- an unhook mints a notice by whether there is a reference, and whether that has a queue
-minting-by_queue : (h : Heap) (r : Option Reference)
-    → minting_refusal h r
-    ≡ (if is_some r then (if is_some (registered_in r) then holds_refusal h else None) else Some NotAReference)
-minting-by_queue h None = refl
-minting-by_queue h (Some r) = refl
-
-pub unhook_refusal-shown : (k : Mark) (held : Option ℕ)
-    → unhook_refusal (shown_heap k) held ≡ unhook_refusal k.heap held
-unhook_refusal-shown k None = refl
-unhook_refusal-shown k (Some n) =
-    minting-by_queue (shown_heap k) (reference_at (shown_heap k) n)
-    ∙ ap (λ (there : Bool). if there
-    then (if is_some (registered_in (reference_at (shown_heap k) n)) then holds_refusal k.heap else None)
-    else Some NotAReference) (is_reference-shown k n)
-    ∙ ap (λ (queue : Option ℕ). if is_some (reference_at k.heap n)
-    then (if is_some queue then holds_refusal k.heap else None)
-    else Some NotAReference) (registered_in-shown k n)
-    ∙ sym (minting-by_queue k.heap (reference_at k.heap n))

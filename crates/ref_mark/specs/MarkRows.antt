@@ -1,13 +1,16 @@
 -- What the calls of a heap in its cycles answer, and the rows of the abstract collector that they are.
-use Rattle.std.specs.Prelude.{ℕ, Option, Some, None, Result, Ok, Err}
-use Rattle.ref_base.specs.Worlds.{first_world, pending_numbers}
+use Rattle.std.specs.Prelude.{◌≡◌, ℕ, true, Option, Some, None, Result, Ok, Err}
+use Rattle.ref_base.specs.Members.{has}
+use Rattle.ref_base.specs.Heaps.{Heap, with_hold}
+use Rattle.ref_base.specs.Worlds.{first_world, graph_of, pending_numbers}
 use Rattle.ref_base.specs.Collectors.{State, first_state}
-use Rattle.ref_base.specs.CollectorRows.{IsRow}
+use Rattle.ref_base.specs.CollectorRows.{IsRow, ticked, on_heap}
 use Rattle.ref_base.specs.declared.config.Config.{Config}
 use Rattle.ref_base.specs.declared.fault.Fault.{Fault}
 use Rattle.ref_base.specs.declared.step.Step.{Step}
 use Rattle.ref_base.specs.declared.reply.Reply.{Reply}
 use Rattle.ref_base.specs.declared.reply.Reply.TheVariants as replies
+use Rattle.ref_objects.specs.Grounds.{Held}
 use Rattle.ref_mark.specs.Marks.{Mark, shaded_all}
 use Rattle.ref_mark.specs.Standing.{Stands}
 
@@ -54,3 +57,19 @@ IsBeginOf old step (Ok cycle) new =
     → (b : State) × IsRow a (record { step = step; reply = replies.Cycle cycle }) b
     × Stands (shaded_all new (pending_numbers a.world.pending)) b
 IsBeginOf old step (Err fault) new = IsRowOf old step (replies.Refused fault) new
+
+-- ---- holds
+
+-- The collector has no row for a hold. For each state that the one heap stands for, the other stands for the state
+-- whose heap is changed by what was answered, at the next moment; and for the same state where the call is refused.
+abbrev pub ChangesHeap : {T E : Type 0} → Mark → (T → Heap → Heap) → Result T E → Mark → Type 0
+ChangesHeap old change (Ok answer) new =
+    (a : State) → Stands old a → Stands new (ticked (on_heap a (change answer a.world.heap)))
+ChangesHeap old change (Err refusal) new = (a : State) → Stands old a → Stands new a
+
+-- the same of a hold of what a root names
+abbrev pub HoldsRoot : Mark → ℕ → Result Held Fault → Mark → Type 0
+HoldsRoot old n (Ok hold) new =
+    (a : State) → Stands old a → has (graph_of a.world).roots n ≡ true
+    → Stands new (ticked (on_heap a (with_hold a.world.heap hold.object)))
+HoldsRoot old n (Err fault) new = (a : State) → Stands old a → Stands new a

@@ -188,11 +188,6 @@ with_found k w n =
     then record k { found = slice_set k.found w (list_at k.found w ++ n ∷ []) }
     else k
 
--- the fields of an object, if there is one
-abbrev pub fields_in : Option Object → List (Option ℕ)
-fields_in None = []
-fields_in (Some o) = o.fields
-
 -- the first of the grey list becomes black, and what its fields and it, as a kept soft reference, refer to becomes grey
 abbrev pub scanned_from : Mark → ℕ → List ℕ → Mark
 scanned_from k w [] = k

@@ -3,22 +3,21 @@ use Rattle.std.proofs.Common.{◌≡◌, ℕ, zero, suc, ◌+◌, ◌-◌, ◌^�
 use Rattle.std.proofs.Common.{nat_lt, nat_le, refl, sym, ◌∙◌, ap, arith}
 use Rattle.std.proofs.Common.{List, [], ◌∷◌, ◌++◌, length, replicate, Option, Some, None, inl, inr}
 use Rattle.std.specs.Prelude.{slice_set}
-use Rattle.std.specs.Option.{is_some, unwrap_or}
+use Rattle.std.specs.Option.{is_some}
 use Rattle.std.proofs.lemmas.Bool.{cases_Bool, eqb-true, lt-ltb, le-ltb, le-leb, lt-leb, ltb-false, not-true, false≢true}
 use Rattle.std.proofs.lemmas.List.{length-set}
 use Rattle.ref_base.specs.Members.{has}
 use Rattle.ref_base.specs.Graphs.{Object, Reference, object_at, is_there, numbers}
 use Rattle.ref_base.specs.Strengths.{IsRising}
 use Rattle.ref_base.specs.Heaps.{reference_in, one_more, with_changed, with_hold, without_hold}
-use Rattle.ref_base.specs.CollectorRows.{field_of}
 use Rattle.ref_base.specs.Refusals.{field_count, object_refusal}
 use Rattle.ref_base.specs.declared.config.Config.{Config}
 use Rattle.ref_base.specs.declared.fault.Fault.TheVariants.{NoCell}
-use Rattle.ref_objects.specs.Tables.{Kept, Table, kept_at, objects_of, holds_of, object_in, holds_in, field_in}
-use Rattle.ref_objects.specs.Tables.{field_count_in, has_field, is_unheld, kept_reference, first_from, held_from}
+use Rattle.ref_objects.specs.Tables.{Kept, Table, kept_at, objects_of, holds_of, object_in, holds_in, kept_fields}
+use Rattle.ref_objects.specs.Tables.{has_field, is_unheld, kept_reference, first_from, held_from}
 use Rattle.ref_objects.specs.Tables.{on_object, more_held, less_held, changed, changed_kept, made, with_kept, AllUpTo}
 use Rattle.ref_objects.specs.Tables as table
-use Rattle.ref_objects.specs.Grounds.{kind_by, kind_in, least_from, with_heap, is_free, after_freeing}
+use Rattle.ref_objects.specs.Grounds.{fields_in, kind_by, kind_in, least_from, with_heap, is_free, after_freeing}
 use Rattle.ref_objects.specs.Grounds.{AllFrom, IsInOrder}
 use Rattle.ref_objects.specs.GroundViews.{heap_of, seen, IsSound, made_at}
 use Rattle.ref_objects.proofs.KeptLemmas.{object_at-objects_of, is_there-objects_of, objects_of-changed}
@@ -29,20 +28,8 @@ use Rattle.ref_objects.proofs.MarkLemmas.{marked_of-changed, marked_of-made, mar
 
 -- ---- what is read
 
-field_in-object : (k : Option Kept) (i : ℕ) → field_in k i ≡ field_of (object_in k) i
-field_in-object None i = refl
-field_in-object (Some k) i = refl
-
-pub field_of-kept : (ks : List Kept) (n i : ℕ) → field_in (kept_at ks n) i ≡ field_of (object_at (objects_of ks) n) i
-field_of-kept ks n i = rw (object_at-objects_of ks n) (field_in-object (kept_at ks n) i)
-
-field_count-object : (k : Option Kept) → unwrap_or (field_count_in k) 0 ≡ field_count (object_in k)
-field_count-object None = refl
-field_count-object (Some k) = refl
-
-pub field_count-kept : (ks : List Kept) (n : ℕ)
-    → unwrap_or (field_count_in (kept_at ks n)) 0 ≡ field_count (object_at (objects_of ks) n)
-field_count-kept ks n = rw (object_at-objects_of ks n) (field_count-object (kept_at ks n))
+pub fields-kept : (ks : List Kept) (n : ℕ) → kept_fields (kept_at ks n) ≡ fields_in (object_at (objects_of ks) n)
+fields-kept ks n = rw (object_at-objects_of ks n) refl
 
 has_field-object : (k : Option Kept) (i : ℕ) → has_field k i ≡ nat_lt i (field_count (object_in k))
 has_field-object None i = sym (le-ltb i 0 (omega arith))

@@ -91,19 +91,6 @@ objects_of-without (k ∷ ks) n rising =
           (objects_of-without ks n (IsRising-tail k.object.no (numbers (objects_of ks)) rising)))
     ]
 
--- several that go may go one after another
-pub without_numbers-cons : (os : List Object) (n : ℕ) (ns : List ℕ)
-    → without_numbers (n ∷ ns) os ≡ without_numbers ns (without_numbers (n ∷ []) os)
-without_numbers-cons [] n ns = refl
-without_numbers-cons (o ∷ os) n ns =
-    elim (cases_Bool (n == o.no)) [
-      | inl same ↦ simp same (without_numbers-cons os n ns)
-      | inr other ↦ elim (cases_Bool (has ns o.no)) [
-        | inl gone ↦ simp (other, gone) (without_numbers-cons os n ns)
-        | inr stays ↦ simp (other, stays) (ap (λ ps. o ∷ ps) (without_numbers-cons os n ns))
-      ]
-    ]
-
 -- ---- holds
 
 -- a change of an object is none of holds

@@ -8,7 +8,7 @@ use Rattle.ref_base.specs.Graphs.{numbers}
 use Rattle.ref_base.specs.Strengths.{IsRising}
 use Rattle.ref_objects.specs.Places.{cell_at, before, kept_by, places_below, seen, AllAbove, NoneAbove, Rises}
 use Rattle.ref_objects.specs.Places.{AreFree, IsPlaced}
-use Rattle.ref_objects.specs.Tables.{Kept, Table, objects_of, empty_table, AllUpTo, IsOrderly}
+use Rattle.ref_objects.specs.Tables.{Kept, objects_of, AllUpTo, IsOrderly}
 use Rattle.ref_objects.specs.declared.index.Entry.{Entry}
 use Rattle.ref_objects.proofs.FreeLemmas.{length-places_below, AreFree-places_below}
 
@@ -89,11 +89,6 @@ module _ {cells : List (Option Kept)} {es : List Entry} {ps : List ℕ} {room : 
     (are : cells ≡ replicate room None) (none : es ≡ []) (places : ps ≡ places_below room room) where
   pub length_new : length cells ≡ room
   length_new = ap length are ∙ length-replicate room None
-
-  pub seen_new : seen cells es 0 ≡ empty_table room
-  seen_new =
-      ap (λ gs. seen cells gs 0) none
-      ∙ ap (λ (size : ℕ). let t : Table = record { kept = []; room = size; last = 0 } in t) length_new
 
   pub placed_new : IsPlaced cells es ps 0
   placed_new =

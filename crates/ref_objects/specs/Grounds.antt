@@ -100,6 +100,11 @@ abbrev pub kind_by : Option Reference → Kind
 kind_by None = kind.Plain
 kind_by (Some r) = kind.Reference r.strength
 
+-- the fields of an object, if there is one
+abbrev pub fields_in : Option Object → List (Option ℕ)
+fields_in None = []
+fields_in (Some o) = o.fields
+
 -- what an object is, if there is one
 abbrev pub kind_in : Option Object → Option Kind
 kind_in None = None

@@ -1,11 +1,12 @@
 -- The heap's table of objects, as plain data, and the changes that calls make to it (package `java.lang.ref` of Java SE
 -- 17; numbers, holds and a heap's room: this project's profile).
 use Rattle.std.specs.Prelude.{ℕ, ◌+◌, ◌-◌, ◌≤◌, Bool, false, not, ◌==◌, ◌&&◌, if◌then◌else◌, nat_le, nat_lt}
-use Rattle.std.specs.Prelude.{List, [], ◌∷◌, ◌++◌, length, replicate, Option, Some, None, slice_index_or}
+use Rattle.std.specs.Prelude.{List, [], ◌∷◌, ◌++◌, length, replicate, Option, Some, None}
 use Rattle.ref_base.specs.Members.{without_first}
 use Rattle.ref_base.specs.Graphs.{Object, Reference, numbers}
 use Rattle.ref_base.specs.Strengths.{IsRising}
 use Rattle.ref_base.specs.Heaps.{reference_in}
+use Rattle.ref_objects.specs.Grounds.{fields_in}
 
 -- an object of the table, how many holds of it are out, and whether it is marked
 pub record Kept : Type 0 where
@@ -45,15 +46,9 @@ abbrev pub object_in : Option Kept → Option Object
 object_in None = None
 object_in (Some k) = Some k.object
 
--- how many fields the object has, if there is one
-abbrev pub field_count_in : Option Kept → Option ℕ
-field_count_in None = None
-field_count_in (Some k) = Some (length k.object.fields)
-
--- what field i holds: null also where there is no object or no such field
-abbrev pub field_in : Option Kept → ℕ → Option ℕ
-field_in None i = None
-field_in (Some k) i = slice_index_or k.object.fields i None
+-- its fields, if there is one
+abbrev pub kept_fields : Option Kept → List (Option ℕ)
+kept_fields k = fields_in (object_in k)
 
 -- what the object has as a reference, if there is one and it is a reference
 abbrev pub kept_reference : Option Kept → Option Reference

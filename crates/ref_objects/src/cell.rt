@@ -4,7 +4,7 @@ ghost use Rattle.std.specs.Prelude.{◌≡◌, ◌-◌, ◌^◌, ◌<◌, ◌≤
 ghost use Rattle.std.specs.Option.{option_map};
 ghost use Rattle.ref_base.specs.Heaps.{with_field, with_reference, with_stamp, cleared};
 ghost use Rattle.ref_objects.specs.Places.{is_of, is_held_as, is_unmarked_as, unmarked_cell};
-ghost use Rattle.ref_objects.specs.Tables.{made, field_count_in, field_in, has_field, kept_reference, holds_in};
+ghost use Rattle.ref_objects.specs.Tables.{made, kept_fields, has_field, kept_reference, holds_in};
 ghost use Rattle.ref_objects.specs.Tables.{on_object, more_held, less_held};
 ghost use Rattle.ref_objects.specs.Tables.{is_marked_in, is_unmarked_in, with_marked};
 
@@ -83,23 +83,13 @@ impl Cell {
         }
     }
 
-    /// How many fields the object has.
-    pub(crate) fn field_count(&self) -> Option<usize>
-        ensures { result ≡ field_count_in self.now }
+    /// The fields of the object: none where the cell is free.
+    pub(crate) fn fields(&self) -> Fields
+        ensures { result ≡ kept_fields self.now }
     {
         match self.no {
-            Some(_) => Some(self.fields.len()),
-            None => None,
-        }
-    }
-
-    /// What a field of the object holds.
-    pub(crate) fn field(&self, field: usize) -> Option<ObjNo>
-        ensures { result ≡ field_in self.now field }
-    {
-        match self.no {
-            Some(_) => self.fields.get(field),
-            None => None,
+            Some(_) => self.fields.copied(),
+            None => Fields::nulls(0),
         }
     }
 

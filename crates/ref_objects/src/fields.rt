@@ -5,9 +5,10 @@ ghost use Rattle.std.specs.Prelude.{◌≡◌, ◌≤◌, nat_lt, length, replic
 use ref_base::ObjNo;
 use std::marker::Model;
 
-/// At most 8 fields, each an object's number or null, kept in place. In a clause they are their list.
+/// The fields of an object, at most 8, kept in place: each holds an object's number or null. In a clause they are their
+/// list.
 #[derive(Drop)]
-pub(crate) struct Fields {
+pub struct Fields {
     held: [Option<ObjNo>; 8],
     count: usize,
 }
@@ -34,20 +35,32 @@ impl Fields {
         }
     }
 
+    /// The same fields.
+    pub(crate) fn copied(&self) -> Self
+        ensures { result ≡ self.now }
+    {
+        let mut held = [None; 8];
+        held.copy_from_slice(&self.held);
+        Fields {
+            held,
+            count: self.len(),
+        }
+    }
+
     /// How many fields there are.
-    pub(crate) fn len(&self) -> usize
+    pub fn len(&self) -> usize
         ensures { result ≡ length self.now }
     {
         self.count
     }
 
     /// What a field holds: null also where there is no such field.
-    pub(crate) fn get(&self, field: usize) -> Option<ObjNo>
+    pub fn get(&self, field: usize) -> Option<ObjNo>
         ensures { result ≡ slice_index_or self.now field None }
     {
-        let held = &self.held;
-        if field < self.count {
-            held[field]
+        let values = &self.held;
+        if field < self.len() {
+            values[field]
         } else {
             None
         }
@@ -58,7 +71,7 @@ impl Fields {
         ensures there { result ≡ nat_lt field (length self.old) }
         ensures after { self.new ≡ slice_set self.old field value }
     {
-        if field >= self.count {
+        if field >= self.len() {
             return false;
         }
         self.held[field] = value;

@@ -13,6 +13,7 @@ mod table;
 #[cfg(test)]
 mod tests;
 
+pub use fields::Fields;
 pub use hold::Hold;
 pub use kind::Kind;
 pub use objects::Objects;

@@ -8,6 +8,7 @@ ghost use Rattle.ref_objects.specs.Places.{places_below, unmarked_cell};
 ghost use Rattle.ref_base.specs.Heaps.{with_field, with_reference, with_stamp, cleared};
 
 use crate::cell::Cell;
+use crate::fields::Fields;
 use crate::index::{
     Entry, cell_of, close_gaps, first_from, held_from, make_room, place_of, unmarked_from,
 };
@@ -48,7 +49,7 @@ impl<A: Allocator> Model for Table<A> {
 
 impl<A: Allocator + Copy> Table<A> {
     ghost use Rattle.ref_objects.specs.Tables.{IsOrderly, empty_table};
-    ghost use Rattle.ref_objects.specs.Tables.{kept_at, kept_reference, field_count_in, field_in, has_field};
+    ghost use Rattle.ref_objects.specs.Tables.{kept_at, kept_reference, kept_fields, has_field};
     ghost use Rattle.ref_objects.specs.Tables.{holds_in, holds_of, is_unheld};
     ghost use Rattle.ref_objects.specs.Tables.{first_from, held_from};
     ghost use Rattle.ref_objects.specs.Tables.{on_object, more_held, less_held};
@@ -112,18 +113,14 @@ impl<A: Allocator + Copy> Table<A> {
         place_of(&self.cells, &self.index, no).is_some()
     }
 
-    /// How many fields the object of this number has.
-    pub(crate) fn field_count(&self, no: ObjNo) -> Option<usize>
-        ensures { result ≡ field_count_in (kept_at self.now.kept no) }
+    /// The fields of the object of this number: none where there is no such object.
+    pub(crate) fn fields(&self, no: ObjNo) -> Fields
+        ensures { result ≡ kept_fields (kept_at self.now.kept no) }
     {
-        cell_of(&self.cells, &self.index, no)?.field_count()
-    }
-
-    /// What a field of the object of this number holds: null also where there is no such object or field.
-    pub(crate) fn field(&self, no: ObjNo, field: usize) -> Option<ObjNo>
-        ensures { result ≡ field_in (kept_at self.now.kept no) field }
-    {
-        cell_of(&self.cells, &self.index, no)?.field(field)
+        match cell_of(&self.cells, &self.index, no) {
+            Some(cell) => cell.fields(),
+            None => Fields::nulls(0),
+        }
     }
 
     /// What the object of this number has as a reference.

@@ -112,10 +112,11 @@ impl<A: Allocator + Copy> Marker<A> {
     {
         self.objects.slot_of(m, dst)?;
         let no = self.objects.slot_of(m, src)?.ok_or(Fault::EmptySlot)?;
-        if field as usize >= self.objects.field_count_of(no) {
+        let fields = self.objects.fields_of(no);
+        if field as usize >= fields.len() {
             return Err(Fault::BadField);
         }
-        Ok(self.objects.field_of(no, field as usize))
+        Ok(fields.get(field as usize))
     }
 
     // The reference that a get looks at, or why it is refused.

@@ -7,11 +7,11 @@ ghost use Rattle.ref_base.specs.KeptPaths.{is_kept};
 ghost use Rattle.ref_base.specs.Heaps.{reference_at};
 ghost use Rattle.ref_base.specs.CollectorRows.{list_at, emptied};
 ghost use Rattle.ref_base.specs.Refusals.{is_empty, begin_refusal, work_refusal, end_mark_refusal};
-ghost use Rattle.ref_objects.specs.Grounds.{IsRefused, if_done, unmarked};
+ghost use Rattle.ref_objects.specs.Grounds.{IsRefused, if_done, unmarked, fields_in};
 ghost use Rattle.ref_mark.specs.Worklists.{first_in};
 ghost use Rattle.ref_mark.specs.MarkRows.{IsRowOf, IsBeginOf, reply_of, scan_reply};
 ghost use Rattle.ref_mark.specs.Marks.{shaded_all, whitened, begun, scanned, with_found, in_phase};
-ghost use Rattle.ref_mark.specs.Marks.{is_white, refers_to, policy_in, fields_in};
+ghost use Rattle.ref_mark.specs.Marks.{is_white, refers_to, policy_in};
 
 use super::Marker;
 use ref_base::{Fault, ObjNo, Phase, Reply, Step, Strength, Urgency, WorkerNo, keeps};
@@ -51,8 +51,10 @@ impl<A: Allocator + Copy> Marker<A> {
         let Some(no) = self.grey.take_first() else {
             return Ok(None);
         };
-        self.shade_targets(no);
-        self.find(w, no);
+        let reference = self.objects.reference_of(no);
+        let (kept, read) = (reference, reference);
+        self.shade_targets(no, kept);
+        self.find(w, no, read);
         Ok(Some(no))
     }
 
@@ -124,8 +126,10 @@ impl<A: Allocator + Copy> Marker<A> {
     fn shade_held(&mut self)
         ensures { self.new ≡ shaded_all self.old self.old.heap.holds }
     {
-        // Gives the proof that holds are in order.
-        let _count = self.objects.hold_count();
+        // No pass over the objects where nothing is held.
+        if self.objects.hold_count() == 0 {
+            return;
+        }
         let mut held = self.objects.held_from(ObjNo(0));
         while let Some(no) = held {
             self.shade(no);
@@ -135,13 +139,14 @@ impl<A: Allocator + Copy> Marker<A> {
 
     // ---- parts of a scan
 
-    // What an object leads to becomes grey.
-    fn shade_targets(&mut self, no: ObjNo)
+    // What an object leads to becomes grey: what its fields hold, and its referent if it is a reference that is kept.
+    fn shade_targets(&mut self, no: ObjNo, reference: Option<Reference>)
+        requires { reference_at self.old.heap no ≡ reference }
         ensures { self.new ≡ shaded_all self.old
             (targets_at (is_kept (policy_in self.old)) self.old.heap.objects no) }
     {
         self.shade_fields(no);
-        let referent = self.kept_referent(no);
+        let referent = self.kept_referent(reference);
         self.shade_if_any(referent);
     }
 
@@ -149,17 +154,17 @@ impl<A: Allocator + Copy> Marker<A> {
     fn shade_fields(&mut self, no: ObjNo)
         ensures { self.new ≡ shaded_all self.old (present (fields_in (object_at self.old.heap.objects no))) }
     {
-        for field in 0..self.objects.field_count_of(no) {
-            let value = self.objects.field_of(no, field);
-            self.shade_if_any(value);
+        let fields = self.objects.fields_of(no);
+        for field in 0..fields.len() {
+            self.shade_if_any(fields.get(field));
         }
     }
 
     // The referent of a reference that the cycle keeps.
-    fn kept_referent(&self, no: ObjNo) -> Option<ObjNo>
-        ensures { if_any result ≡ allowed_referent (is_kept (policy_in self.now)) (reference_at self.now.heap no) }
+    fn kept_referent(&self, reference: Option<Reference>) -> Option<ObjNo>
+        ensures { if_any result ≡ allowed_referent (is_kept (policy_in self.now)) reference }
     {
-        let reference = self.objects.reference_of(no)?;
+        let reference = reference?;
         if self.is_kept(reference) {
             reference.referent
         } else {
@@ -186,21 +191,22 @@ impl<A: Allocator + Copy> Marker<A> {
     }
 
     // The worker finds a reference whose referent is still white.
-    fn find(&mut self, w: WorkerNo, no: ObjNo)
+    fn find(&mut self, w: WorkerNo, no: ObjNo, reference: Option<Reference>)
+        requires reference { reference_at self.old.heap no ≡ reference }
         requires worker { w < self.old.heap.config.workers }
         requires room { length (list_at self.old.found w) + length self.old.grey < length self.old.marked }
         ensures { self.new ≡ with_found self.old w no }
     {
-        if self.refers_to_white(no) {
+        if self.refers_to_white(reference) {
             self.found[w.0 as usize].push(no);
         }
     }
 
-    // Whether the object is a reference whose referent is white.
-    fn refers_to_white(&self, no: ObjNo) -> bool
-        ensures { result ≡ refers_to (is_white self.now) (reference_at self.now.heap no) }
+    // Whether this is a reference whose referent is white.
+    fn refers_to_white(&self, reference: Option<Reference>) -> bool
+        ensures { result ≡ refers_to (is_white self.now) reference }
     {
-        match self.objects.referent_of(no) {
+        match reference.and_then(|reference| reference.referent) {
             Some(referent) => self.objects.is_unmarked(referent),
             None => false,
         }

@@ -1,10 +1,11 @@
 //! Holds: what is held is a root.
 
 ghost use Rattle.std.specs.Prelude.{◌≡◌, Some, IfOk};
-ghost use Rattle.ref_base.specs.Heaps.{slot_at, with_slot, without_hold};
+ghost use Rattle.ref_base.specs.Heaps.{slot_at, with_slot, with_hold, without_hold};
 ghost use Rattle.ref_objects.specs.Grounds.{IsRefused, GivesBack, IsHoldOf, if_done};
 ghost use Rattle.ref_objects.specs.Grounds.{mint_refusal, hold_refusal, release_refusal, adopt_refusal};
 ghost use Rattle.ref_mark.specs.Marks.{with_minted};
+ghost use Rattle.ref_mark.specs.MarkRows.{ChangesHeap, HoldsRoot};
 ghost use Rattle.ref_mark.specs.MarkViews.{ground_of};
 
 use super::Marker;
@@ -18,6 +19,7 @@ impl<A: Allocator + Copy> Marker<A> {
         ensures refused { IsRefused (hold_refusal (ground_of self.old) m slot) result }
         ensures answer { IfOk result (λ hold. IsHoldOf (ground_of self.old) (slot_at self.old.heap m slot) hold) }
         ensures after { self.new ≡ with_minted self.old result }
+        ensures stands { ChangesHeap self.old (λ hold h. with_hold h hold.object) result self.new }
     {
         self.objects.hold(m, slot)
     }
@@ -30,6 +32,7 @@ impl<A: Allocator + Copy> Marker<A> {
             (record self.old {
               heap = with_slot (without_hold self.old.heap hold.object) m dst (Some hold.object);
             }) self.old }
+        ensures stands { ChangesHeap self.old (λ no h. with_slot (without_hold h no) m dst (Some no)) result self.new }
     {
         self.objects.adopt(m, dst, hold)
     }
@@ -39,6 +42,7 @@ impl<A: Allocator + Copy> Marker<A> {
         ensures refused { GivesBack (release_refusal (ground_of self.old) hold) hold result }
         ensures after { self.new ≡ if_done result
             (record self.old { heap = without_hold self.old.heap hold.object }) self.old }
+        ensures stands { ChangesHeap self.old (λ done h. without_hold h hold.object) result self.new }
     {
         self.objects.release(hold)
     }
@@ -49,6 +53,7 @@ impl<A: Allocator + Copy> Marker<A> {
         ensures refused { IsRefused (mint_refusal (ground_of self.old) no) result }
         ensures answer { IfOk result (λ hold. IsHoldOf (ground_of self.old) (Some no) hold) }
         ensures after { self.new ≡ with_minted self.old result }
+        ensures stands { HoldsRoot self.old no result self.new }
     {
         self.objects.mint(no)
     }

@@ -5,11 +5,12 @@ ghost use Rattle.ref_base.specs.Members.{has};
 ghost use Rattle.ref_base.specs.Graphs.{object_at, is_there, numbers};
 ghost use Rattle.ref_base.specs.Strengths.{IsRising};
 ghost use Rattle.ref_base.specs.Heaps.{slot_at, reference_at, registered_in};
-ghost use Rattle.ref_base.specs.CollectorRows.{field_of, referent_of};
-ghost use Rattle.ref_base.specs.Refusals.{field_count, drop_refusal};
-ghost use Rattle.ref_objects.specs.Grounds.{IsRefused, kind_in, stamp_in, least_from, AllBelow, IsInOrder};
+ghost use Rattle.ref_base.specs.CollectorRows.{referent_of};
+ghost use Rattle.ref_base.specs.Refusals.{drop_refusal};
+ghost use Rattle.ref_objects.specs.Grounds.{IsRefused, fields_in, kind_in, stamp_in, least_from, AllBelow, IsInOrder};
 
 use super::Objects;
+use crate::fields::Fields;
 use crate::kind::Kind;
 use crate::reference::Reference;
 use ref_base::{Config, Fault, MutNo, ObjNo, QueueNo, SlotNo};
@@ -109,18 +110,11 @@ impl<A: Allocator + Copy> Objects<A> {
         }
     }
 
-    /// How many fields the object of this number has: none where there is no such object.
-    pub fn field_count_of(&self, no: ObjNo) -> usize
-        ensures { result ≡ field_count (object_at self.now.heap.objects no) }
+    /// The fields of the object of this number: none where there is no such object.
+    pub fn fields_of(&self, no: ObjNo) -> Fields
+        ensures { result ≡ fields_in (object_at self.now.heap.objects no) }
     {
-        self.table.field_count(no).unwrap_or(0)
-    }
-
-    /// What a field of the object of this number holds: null also where there is no such object or field.
-    pub fn field_of(&self, no: ObjNo, field: usize) -> Option<ObjNo>
-        ensures { result ≡ field_of (object_at self.now.heap.objects no) field }
-    {
-        self.table.field(no, field)
+        self.table.fields(no)
     }
 
     /// What the object of this number has as a reference: nothing where there is no such object, or it is plain.

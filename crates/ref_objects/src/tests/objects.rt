@@ -98,8 +98,8 @@ fn sixteen_slots_eight_fields_and_no_more(rt: HostRuntime) -> Result<(), Fail> {
         heap.store(M, SlotNo(0), 0, SlotNo(15)),
         Err(Fault::EmptySlot)
     );
-    assert_eq!(rt; heap.field_of(ObjNo(1), 7), Some(ObjNo(1)));
-    assert_eq!(rt; heap.field_of(ObjNo(1), 6), None);
+    assert_eq!(rt; heap.fields_of(ObjNo(1)).get(7), Some(ObjNo(1)));
+    assert_eq!(rt; heap.fields_of(ObjNo(1)).get(6), None);
     Ok(())
 }
 
@@ -129,7 +129,7 @@ fn a_reference_is_made_as_it_is_told(rt: HostRuntime) -> Result<(), Fail> {
     assert_eq!(rt; heap.referent_of(ObjNo(2)), Some(ObjNo(1)));
     assert_eq!(rt; heap.stamp_of(ObjNo(2)), 7);
     assert_eq!(rt; heap.queue_of(ObjNo(2)), queue);
-    assert_eq!(rt; heap.field_count_of(ObjNo(2)), 1);
+    assert_eq!(rt; heap.fields_of(ObjNo(2)).len(), 1);
     Ok(())
 }
 

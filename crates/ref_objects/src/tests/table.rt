@@ -52,10 +52,10 @@ fn what_is_made_is_found_by_its_number(rt: HostRuntime) -> Result<(), Fail> {
 #[test]
 fn a_new_object_has_null_fields_and_no_hold(rt: HostRuntime) -> Result<(), Fail> {
     let mut table = Table::new(rt.alloc(), 1)?;
-    assert_eq!(rt; table.field_count(ObjNo(1)), None);
+    assert_eq!(rt; table.fields(ObjNo(1)).len(), 0);
     make(&rt, &mut table, 1, None);
-    assert_eq!(rt; table.field_count(ObjNo(1)), Some(2));
-    assert_eq!(rt; table.field(ObjNo(1), 1), None);
+    assert_eq!(rt; table.fields(ObjNo(1)).len(), 2);
+    assert_eq!(rt; table.fields(ObjNo(1)).get(1), None);
     assert!(rt; !table.is_held(ObjNo(1)));
     assert_eq!(rt; table.reference(ObjNo(1)), None);
     Ok(())
@@ -67,10 +67,10 @@ fn a_field_is_written_alone(rt: HostRuntime) -> Result<(), Fail> {
     fill(&rt, &mut table);
     assert!(rt; table.set_field(ObjNo(1), 1, Some(ObjNo(2))));
     assert!(rt; !table.set_field(ObjNo(1), 2, Some(ObjNo(2))));
-    assert_eq!(rt; table.field(ObjNo(1), 0), None);
-    assert_eq!(rt; table.field(ObjNo(1), 1), Some(ObjNo(2)));
-    assert_eq!(rt; table.field(ObjNo(1), 2), None);
-    assert_eq!(rt; table.field(ObjNo(2), 1), None);
+    assert_eq!(rt; table.fields(ObjNo(1)).get(0), None);
+    assert_eq!(rt; table.fields(ObjNo(1)).get(1), Some(ObjNo(2)));
+    assert_eq!(rt; table.fields(ObjNo(1)).get(2), None);
+    assert_eq!(rt; table.fields(ObjNo(2)).get(1), None);
     Ok(())
 }
 
@@ -125,7 +125,7 @@ fn a_cell_is_used_again_and_holds_nothing_of_before(rt: HostRuntime) -> Result<(
     table.free(ObjNo(1));
     make(&rt, &mut table, 2, None);
     assert!(rt; !table.has(ObjNo(1)));
-    assert_eq!(rt; table.field(ObjNo(2), 0), None);
+    assert_eq!(rt; table.fields(ObjNo(2)).get(0), None);
     Ok(())
 }
 

@@ -1,4 +1,4 @@
-use Rattle.std.proofs.Common.{◌≡◌, ◌+◌, ◌<◌, true, length, sym, ◌∙◌, subst}
+use Rattle.std.proofs.Common.{◌≡◌, ◌+◌, ◌<◌, true, length, sym, ap, ◌∙◌, subst}
 use Rattle.ref_base.specs.CollectorRows.{list_at}
 use Rattle.ref_base.specs.Heaps.{reference_at}
 use Rattle.ref_mark.specs.Marks.{Mark, refers_to, is_white}
@@ -43,7 +43,7 @@ returns-then-refers_to_white g c =
     subst (λ (k : Mark). c.w.inside.0 < k.heap.config.workers) (sym c.self.view_is)
     (subst (λ w. w < c.args.self.now.heap.config.workers) (sym same) c.requires.worker) in
     let now : refers_to (is_white c.args.self.now) (reference_at c.args.self.now.heap c.args.no) ≡ true =
-    sym c.refers_to_white.ensures ∙ c.if-refers_to_white.true in
+    ap (refers_to (is_white c.args.self.now)) c.requires.reference ∙ sym c.refers_to_white.ensures ∙ c.if-refers_to_white.true in
     let white : refers_to (is_white k) (reference_at k.heap c.args.no) ≡ true =
     subst (λ (k : Mark). refers_to (is_white k) (reference_at k.heap c.args.no) ≡ true) (sym c.self.view_is) now in
     let stands : c.index_mut.result.now.stands ≡ list_at k.found c.w.inside.0 =

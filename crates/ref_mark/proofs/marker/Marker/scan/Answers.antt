@@ -1,7 +1,7 @@
-use Rattle.std.proofs.Common.{rules, None, Ok, ◌≡◌, ◌<◌, Some, refl, sym, ◌∙◌, subst}
+use Rattle.std.proofs.Common.{rules, None, Ok, ◌≡◌, ◌<◌, Some, refl, sym, ap, ◌∙◌, subst}
 use Rattle.ref_base.specs.Paths.{targets_at}
 use Rattle.ref_base.specs.KeptPaths.{is_kept}
-use Rattle.ref_base.specs.Heaps.{Heap}
+use Rattle.ref_base.specs.Heaps.{Heap, reference_at}
 use Rattle.ref_base.specs.declared.phase.Phase.TheVariants.{Marking}
 use Rattle.ref_mark.specs.Worklists.{first_in}
 use Rattle.ref_mark.specs.Marks.{Mark, policy_in}
@@ -12,6 +12,15 @@ use Rattle.ref_mark.proofs.marker.Marker.scan.Goals as goal
 
 pub invariant_of-self-2 : goal.invariant_of-self-2
 invariant_of-self-2 g c = roomy_scanned c.take_first.ensures.after c.self.invariant
+
+pub find-requires-clause-reference : goal.find-requires-clause-reference
+find-requires-clause-reference g c =
+    let k : Mark = seen c.self.inside.objects c.take_first.new.self c.self.inside.found.items c.self.inside.phase
+    c.self.inside.urgency c.self.inside.cycle in
+    let grown : Greys k c.shade_targets.new.self =
+    subst (λ (m : Mark). Greys k m) (sym c.shade_targets.ensures)
+    (greys_all k (targets_at (is_kept (policy_in k)) k.heap.objects c.in-Some.no)) in
+    ap (λ (h : Heap). reference_at h c.in-Some.no) grown.heap ∙ sym c.reference_of-reference.ensures
 
 pub find-requires-clause-worker : goal.find-requires-clause-worker
 find-requires-clause-worker g c =

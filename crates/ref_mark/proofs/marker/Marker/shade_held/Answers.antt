@@ -12,7 +12,7 @@ loop-held-init g c =
     let first : c.held_from-held.result ≡ least_from start.heap.holds 0 =
     subst (λ (k : Mark). c.held_from-held.result ≡ least_from k.heap.holds 0) c.self.view_is c.held_from-held.ensures in
     let order : IsInOrder start.heap.holds =
-    subst (λ (k : Mark). IsInOrder k.heap.holds) c.self.view_is c.hold_count-count.ensures.in_order in (
+    subst (λ (k : Mark). IsInOrder k.heap.holds) c.self.view_is c.hold_count.ensures.in_order in (
       subst (λ (next : Option ℕ). IsHeldFrom start start next start.heap.holds) (sym first)
           (held_from_first start start.heap.holds),
       refl,
