@@ -19,7 +19,7 @@ use Rattle.ref_base.specs.declared.reply.Reply.TheVariants as replies
 use Rattle.ref_objects.specs.Grounds.{IsRefused, if_done, unmarked}
 use Rattle.ref_mark.specs.Worklists.{first_in}
 use Rattle.ref_mark.specs.Marks.{Mark, with_made, loaded, value_got, with_got}
-use Rattle.ref_mark.specs.Marks.{with_cleared, refers, begun, scanned, in_phase}
+use Rattle.ref_mark.specs.Marks.{with_cleared, refers, begun, scanned, with_phase}
 use Rattle.ref_mark.specs.Standing.{Stands}
 use Rattle.ref_mark.specs.MarkRows.{IsRowOf, IsBeginOf, reply_of, scan_reply, done_reply}
 use Rattle.ref_mark.proofs.ObjectRows.{new_row, refer_row, store_row, refused_new, refused_refer, refused_store}
@@ -148,10 +148,10 @@ module _ (k : Mark) {new : Mark} where
 
   pub end_mark_call : (result : Result ℕ Fault) → IsRefused (end_mark_refusal k.phase (not (is_empty k.grey))) result
       → IfOk result (λ count. count ≡ length (unmarked k.heap.objects k.marked))
-      → new ≡ if_done result (in_phase k Clearing) k
+      → new ≡ if_done result (with_phase k Clearing) k
       → IsRowOf k steps.EndMark (reply_of replies.Doomed result) new
   end_mark_call result refused is after =
-      answered_row k new (in_phase k Clearing) steps.EndMark replies.Doomed
+      answered_row k new (with_phase k Clearing) steps.EndMark replies.Doomed
       (end_mark_refusal k.phase (not (is_empty k.grey))) (length (unmarked k.heap.objects k.marked)) result refused is
       after (λ none a stands. end_mark_row k a stands none)
       (λ fault some a stands. refused_end_mark k a fault stands some)

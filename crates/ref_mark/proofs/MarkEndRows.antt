@@ -15,7 +15,7 @@ use Rattle.ref_base.specs.declared.phase.Phase.TheVariants.{Marking, Clearing}
 use Rattle.ref_base.specs.declared.fault.Fault.{Fault}
 use Rattle.ref_base.specs.declared.step.Step.TheVariants as steps
 use Rattle.ref_base.specs.declared.reply.Reply.TheVariants as replies
-use Rattle.ref_mark.specs.Marks.{Mark, is_white, is_black, refers_to, in_phase}
+use Rattle.ref_mark.specs.Marks.{Mark, is_white, is_black, refers_to, with_phase}
 use Rattle.ref_objects.specs.Grounds.{unmarked}
 use Rattle.ref_mark.specs.Standing.{Stands, InClearing}
 use Rattle.ref_mark.proofs.Shading.{MarkingBut, not_white_marked}
@@ -94,7 +94,7 @@ ends_mark k a stands phase none =
     }
 
 in_clearing : (k : Mark) (a : State) → Stands k a → k.phase ≡ Marking → k.grey ≡ []
-    → InClearing (in_phase k Clearing) (state_ended k a)
+    → InClearing (with_phase k Clearing) (state_ended k a)
 in_clearing k a stands phase none =
     let s = plain_state k Marking a in
     let os = k.heap.objects in
@@ -119,7 +119,7 @@ in_clearing k a stands phase none =
     }
 
 ended_stands : (k : Mark) (a : State) → Stands k a → k.phase ≡ Marking → k.grey ≡ []
-    → Stands (in_phase k Clearing) (state_ended k a)
+    → Stands (with_phase k Clearing) (state_ended k a)
 ended_stands k a stands phase none =
     let but : MarkingBut k (plain_state k Marking a) [] [] = plain_marking k a stands phase in
     let facts = but.facts in
@@ -147,7 +147,7 @@ pub end_mark_row : (k : Mark) (a : State) → Stands k a → end_mark_refusal k.
     → (b : State)
     × IsRow a
     (record { step = steps.EndMark; reply = replies.Doomed (length (unmarked k.heap.objects k.marked)) }) b
-    × Stands (in_phase k Clearing) b
+    × Stands (with_phase k Clearing) b
 end_mark_row k a stands none =
     let passed = end_mark_passed k none in
     let s = plain_state k Marking a in

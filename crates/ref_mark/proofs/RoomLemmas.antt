@@ -1,5 +1,5 @@
 -- Why no list of a marker is ever full: with the grey ones it has no more than the marked, and they have room.
-use Rattle.std.proofs.Common.{◌≡◌, ℕ, ◌+◌, ◌<◌, ◌≤◌, true, false, ◌==◌, ◌||◌, not, nat_lt}
+use Rattle.std.proofs.Common.{◌≡◌, ℕ, ◌+◌, ◌<◌, ◌≤◌, true, false, ◌==◌, ◌||◌, not}
 use Rattle.std.proofs.Common.{refl, sym, ◌∙◌, ap, subst}
 use Rattle.std.proofs.Common.{List, [], ◌∷◌, ◌++◌, length, map, take, drop, replicate, get_or, set, Some, None}
 use Rattle.std.proofs.Common.{zero, suc, inl, inr, arith}
@@ -21,20 +21,13 @@ use Rattle.ref_base.specs.declared.urgency.Urgency.{Urgency}
 use Rattle.ref_base.specs.declared.phase.Phase.TheVariants.{Idle}
 use Rattle.ref_base.specs.declared.urgency.Urgency.TheVariants.{Normal}
 use Rattle.ref_objects.specs.Grounds.{Ground, first_ground, is_unmarked, with_mark, after_freeing, is_free, freed}
+use Rattle.ref_objects.proofs.KeptLemmas.{length-one_more}
 use Rattle.ref_mark.specs.Worklists.{Worklist, empty_worklist, with_last, without_first, first_in, rest_of, emptied}
 use Rattle.ref_mark.specs.Marks.{Mark, first_mark, is_white, shaded, shaded_all, refers_to, with_taken, with_found}
 use Rattle.ref_mark.specs.Marks.{is_past_mark, is_doomed, swept}
 use Rattle.ref_mark.specs.MarkViews.{seen, lists_of, AreRoomy, IsRoomy}
 
 -- ---- the marked
-
-pub length-one_more : (ns : List ℕ) (n : ℕ) → length (one_more ns n) ≡ suc (length ns)
-length-one_more [] n = refl
-length-one_more (m ∷ ms) n =
-    elim (cases_Bool (nat_lt m n)) [
-      | inl below ↦ simp below (ap suc (length-one_more ms n))
-      | inr here ↦ simp here refl
-    ]
 
 -- nothing goes that isn't there
 pub one_fewer-missing : (ns : List ℕ) (n : ℕ) → has ns n ≡ false → one_fewer ns n ≡ ns
@@ -253,7 +246,7 @@ roomy_marked {g} {after} {grey} {found} n is few roomy =
     elim (cases_Bool (is_unmarked g n)) [
       | inl new ↦
           let now : after ≡ record g { marked = one_more g.marked n } = is ∙ marked_new g n new in
-          let count : length after.marked ≡ suc (length g.marked) =
+          let count : length after.marked ≡ length g.marked + 1 =
           ap (λ (h : Ground). length h.marked) now ∙ length-one_more g.marked n in
           roomy_grown (ap (λ (h : Ground). h.heap.config) now) few refl (omega (arith, count)) roomy
       | inr old ↦
@@ -266,7 +259,7 @@ roomy_marked {g} {after} {grey} {found} n is few roomy =
 module _ {g after : Ground} {grey : Worklist} {found : List Worklist} (n : ℕ) (new : is_unmarked g n ≡ true)
     (is : after ≡ with_mark g n) (few : length after.marked ≤ after.heap.config.cells)
     (roomy : IsRoomy g grey found) where
-  one_marked : length after.marked ≡ suc (length g.marked)
+  one_marked : length after.marked ≡ length g.marked + 1
   one_marked =
       ap (λ (h : Ground). length h.marked) (is ∙ marked_new g n new) ∙ length-one_more g.marked n
 
@@ -420,7 +413,7 @@ greys_one : (k : Mark) (n : ℕ) → Greys k (shaded k n)
 greys_one k n =
     elim (cases_Bool (is_white k n)) [
       | inl white ↦
-          let one : length (one_more k.marked n) ≡ suc (length k.marked) = length-one_more k.marked n in
+          let one : length (one_more k.marked n) ≡ length k.marked + 1 = length-one_more k.marked n in
           let last : length (k.grey ++ n ∷ []) ≡ length k.grey + 1 = length_push k.grey n in
           simp white (record { heap = refl; found = refl; as_many = omega (arith, one, last) })
       | inr other ↦ simp other (record { heap = refl; found = refl; as_many = omega arith })

@@ -198,8 +198,8 @@ abbrev pub scanned : Mark → ℕ → Mark
 scanned k w = scanned_from k w k.grey
 
 -- a phase begins
-abbrev pub in_phase : Mark → Phase → Mark
-in_phase k phase = record k { phase = phase }
+abbrev pub with_phase : Mark → Phase → Mark
+with_phase k phase = record k { phase = phase }
 
 -- the first that the worker found is looked at
 abbrev pub with_taken : Mark → ℕ → Mark

@@ -10,7 +10,7 @@ ghost use Rattle.ref_base.specs.Refusals.{is_empty, begin_refusal, work_refusal,
 ghost use Rattle.ref_objects.specs.Grounds.{IsRefused, if_done, unmarked, fields_in};
 ghost use Rattle.ref_mark.specs.Worklists.{first_in};
 ghost use Rattle.ref_mark.specs.MarkRows.{IsRowOf, IsBeginOf, reply_of, scan_reply};
-ghost use Rattle.ref_mark.specs.Marks.{shaded_all, whitened, begun, scanned, with_found, in_phase};
+ghost use Rattle.ref_mark.specs.Marks.{shaded_all, whitened, begun, scanned, with_found, with_phase};
 ghost use Rattle.ref_mark.specs.Marks.{is_white, refers_to, policy_in};
 
 use super::Marker;
@@ -63,7 +63,7 @@ impl<A: Allocator + Copy> Marker<A> {
     pub fn end_mark(&mut self) -> Result<usize, Fault>
         ensures refused { IsRefused (end_mark_refusal self.old.phase (not (is_empty self.old.grey))) result }
         ensures answer { IfOk result (λ count. count ≡ length (unmarked self.old.heap.objects self.old.marked)) }
-        ensures after { self.new ≡ if_done result (in_phase self.old Phase.Clearing) self.old }
+        ensures after { self.new ≡ if_done result (with_phase self.old Phase.Clearing) self.old }
         ensures row { IsRowOf self.old Step.EndMark (reply_of Reply.Doomed result) self.new }
     {
         self.check_end_mark()?;

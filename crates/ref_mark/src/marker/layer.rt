@@ -7,7 +7,7 @@ ghost use Rattle.ref_base.specs.CollectorRows.{list_at};
 ghost use Rattle.ref_base.specs.Refusals.{is_empty, work_refusal};
 ghost use Rattle.ref_objects.specs.Grounds.{IsRefused, if_done, least_from};
 ghost use Rattle.ref_mark.specs.Worklists.{first_in};
-ghost use Rattle.ref_mark.specs.Marks.{shaded, in_phase, with_taken, doomed, is_swept, swept, is_past_mark};
+ghost use Rattle.ref_mark.specs.Marks.{shaded, with_phase, with_taken, doomed, is_swept, swept, is_past_mark};
 
 use super::Marker;
 use ref_base::{Fault, ObjNo, Phase, WorkerNo};
@@ -69,7 +69,7 @@ impl<A: Allocator + Copy> Marker<A> {
 
     /// Clearing ends. The layer above has looked at all that was found.
     pub fn to_sweeping(&mut self)
-        ensures { self.new ≡ in_phase self.old Phase.Sweeping }
+        ensures { self.new ≡ with_phase self.old Phase.Sweeping }
     {
         self.phase = Phase::Sweeping;
     }
@@ -77,7 +77,7 @@ impl<A: Allocator + Copy> Marker<A> {
     /// The cycle ends, and the gaps that freed objects left are closed. In time of the objects that are there and of
     /// those that were freed.
     pub fn to_idle(&mut self)
-        ensures { self.new ≡ in_phase self.old Phase.Idle }
+        ensures { self.new ≡ with_phase self.old Phase.Idle }
     {
         self.objects.close_gaps();
         self.phase = Phase::Idle;
