@@ -26,3 +26,4 @@ pub mod Collectors
 pub mod Refusals
 pub mod CollectorRows
 pub mod LegalTraces
+pub mod Words

@@ -23,6 +23,7 @@ mod step;
 mod stored;
 mod strength;
 mod urgency;
+mod words;
 
 pub use actor::Actor;
 pub use cause::Cause;

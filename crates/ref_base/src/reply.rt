@@ -1,13 +1,17 @@
 //! What a step is answered.
 
-ghost use Rattle.std.specs.Prelude.{Some};
-ghost use Rattle.ref_base.specs.Texts.{text_of};
+ghost use Rattle.std.specs.Prelude.{◌≡◌, [], ◌∷◌, Some};
+ghost use Rattle.ref_base.specs.Texts.{Letters, Long, number, text_of};
+ghost use Rattle.ref_base.specs.Replies.{reply_words};
+ghost use Rattle.ref_base.specs.Words.{spelt};
 
+use crate::words::Word::{End, Long, Name, Number, Queue, Worker};
+use crate::words::{Word, alone, say};
 use crate::{Cause, Fault, ObjNo, QueueNo};
 use std::fmt;
 
 /// The answer to one step. It prints as it stands in a trace.
-#[derive(Clone, Copy, Debug, PartialEq, Eq)]
+#[derive(Clone, Copy, PartialEq, Eq)]
 pub enum Reply {
     /// `object 1`: the object that was made, or that a slot holds now.
     Object(ObjNo),
@@ -56,46 +60,87 @@ pub enum Reply {
     Refused(Fault),
 }
 
-impl fmt::Display for Reply {
-    ghost use Rattle.ref_base.specs.Replies.{reply_words};
+impl Reply {
+    // The words that it is spelled with.
+    fn words(&self) -> [Word; 6]
+        ensures { spelt result ≡ reply_words self.now }
+    {
+        match *self {
+            Reply::Object(object) => with_number("object", object.0),
+            Reply::Null => alone("null"),
+            Reply::Done => alone("ok"),
+            Reply::Refers(true) => alone("true"),
+            Reply::Refers(false) => alone("false"),
+            Reply::Notice {
+                object,
+                queue,
+                cause,
+            } => notice_words(object, queue, cause),
+            Reply::Nothing => alone("none"),
+            Reply::Added(position) => with_long("added", position),
+            Reply::Already => alone("already"),
+            Reply::Closed => alone("closed"),
+            Reply::Took(object) => with_number("took", object.0),
+            Reply::Empty => alone("empty"),
+            Reply::Cycle(cycle) => with_long("cycle", cycle),
+            Reply::Scanned(object) => with_number("scanned", object.0),
+            Reply::Doomed(count) => with_number("doomed", count),
+            Reply::Cleared(object) => with_number("cleared", object.0),
+            Reply::Kept(object) => with_number("kept", object.0),
+            Reply::Skipped(object) => with_number("skipped", object.0),
+            Reply::Swept(count) => with_number("swept", count),
+            Reply::Refused(fault) => refusal_words(fault),
+        }
+    }
+}
 
+// As `object 1`.
+fn with_number(name: &'static str, count: u32) -> [Word; 6]
+    ensures { spelt result ≡ Letters name.now ∷ number count ∷ [] }
+{
+    [Name(name), Number(count), End, End, End, End]
+}
+
+// As `cycle 1`.
+fn with_long(name: &'static str, count: u64) -> [Word; 6]
+    ensures { spelt result ≡ Letters name.now ∷ Long count ∷ [] }
+{
+    [Name(name), Long(count), End, End, End, End]
+}
+
+// As `notice 2 q0 own`.
+fn notice_words(object: ObjNo, queue: QueueNo, cause: Cause) -> [Word; 6]
+    ensures { spelt result ≡ reply_words (Reply.Notice object queue cause) }
+{
+    let (notice, object, queue) = (Name("notice"), Number(object.0), Queue(queue));
+    match cause {
+        Cause::Own => [notice, object, queue, Name("own"), End, End],
+        Cause::Cycle(cycle, worker) => {
+            let (cycle, worker) = (Long(cycle), Worker(worker));
+            [notice, object, queue, Name("cycle"), cycle, worker]
+        }
+    }
+}
+
+// As `refused 9 NoSuchActor`.
+fn refusal_words(fault: Fault) -> [Word; 6]
+    ensures { spelt result ≡ reply_words (Reply.Refused fault) }
+{
+    let (number, name) = (fault.number(), fault.name());
+    [Name("refused"), Number(number), Name(name), End, End, End]
+}
+
+impl fmt::Display for Reply {
     ghost output = { λ reply. Some (text_of (reply_words reply)) };
 
     fn fmt<W: fmt::Write>(&self, f: &mut fmt::Formatter<W>) -> fmt::Result {
-        match *self {
-            Reply::Object(object) => write!(f, "object {object}"),
-            Reply::Null => write!(f, "null"),
-            Reply::Done => write!(f, "ok"),
-            Reply::Refers(true) => write!(f, "true"),
-            Reply::Refers(false) => write!(f, "false"),
-            Reply::Notice {
-                object,
-                queue,
-                cause: Cause::Own,
-            } => write!(f, "notice {object} {queue} own"),
-            Reply::Notice {
-                object,
-                queue,
-                cause: Cause::Cycle(cycle, worker),
-            } => write!(f, "notice {object} {queue} cycle {cycle} {worker}"),
-            Reply::Nothing => write!(f, "none"),
-            Reply::Added(position) => write!(f, "added {position}"),
-            Reply::Already => write!(f, "already"),
-            Reply::Closed => write!(f, "closed"),
-            Reply::Took(object) => write!(f, "took {object}"),
-            Reply::Empty => write!(f, "empty"),
-            Reply::Cycle(cycle) => write!(f, "cycle {cycle}"),
-            Reply::Scanned(object) => write!(f, "scanned {object}"),
-            Reply::Doomed(count) => write!(f, "doomed {count}"),
-            Reply::Cleared(object) => write!(f, "cleared {object}"),
-            Reply::Kept(object) => write!(f, "kept {object}"),
-            Reply::Skipped(object) => write!(f, "skipped {object}"),
-            Reply::Swept(count) => write!(f, "swept {count}"),
-            Reply::Refused(fault) => {
-                let number = fault.number();
-                let name = fault.name();
-                write!(f, "refused {number} {name}")
-            }
-        }
+        say(f, &self.words())
+    }
+}
+
+// As in a trace: what a failed test prints reads as the trace does.
+impl fmt::Debug for Reply {
+    fn fmt<W: fmt::Write>(&self, f: &mut fmt::Formatter<W>) -> fmt::Result {
+        fmt::Display::fmt(self, f)
     }
 }

@@ -15,16 +15,28 @@ pub enum Strength {
     Phantom,
 }
 
+impl Strength {
+    ghost use Rattle.std.specs.Prelude.{◌≡◌};
+    ghost use Rattle.ref_base.specs.Steps.{strength_name};
+
+    /// The word that it prints as.
+    pub(crate) fn name(self) -> &'static str
+        ensures { result.now ≡ strength_name self }
+    {
+        match self {
+            Strength::Soft => "soft",
+            Strength::Weak => "weak",
+            Strength::Phantom => "phantom",
+        }
+    }
+}
+
 impl fmt::Display for Strength {
     ghost use Rattle.ref_base.specs.Steps.{strength_name};
 
     ghost output = { λ strength. Some (strength_name strength) };
 
     fn fmt<W: fmt::Write>(&self, f: &mut fmt::Formatter<W>) -> fmt::Result {
-        match *self {
-            Strength::Soft => write!(f, "soft"),
-            Strength::Weak => write!(f, "weak"),
-            Strength::Phantom => write!(f, "phantom"),
-        }
+        f.write_str(self.name())
     }
 }

@@ -14,15 +14,27 @@ pub enum Urgency {
     Urgent,
 }
 
+impl Urgency {
+    ghost use Rattle.std.specs.Prelude.{◌≡◌};
+    ghost use Rattle.ref_base.specs.Steps.{urgency_name};
+
+    /// The word that it prints as.
+    pub(crate) fn name(self) -> &'static str
+        ensures { result.now ≡ urgency_name self }
+    {
+        match self {
+            Urgency::Normal => "normal",
+            Urgency::Urgent => "urgent",
+        }
+    }
+}
+
 impl fmt::Display for Urgency {
     ghost use Rattle.ref_base.specs.Steps.{urgency_name};
 
     ghost output = { λ urgency. Some (urgency_name urgency) };
 
     fn fmt<W: fmt::Write>(&self, f: &mut fmt::Formatter<W>) -> fmt::Result {
-        match *self {
-            Urgency::Normal => write!(f, "normal"),
-            Urgency::Urgent => write!(f, "urgent"),
-        }
+        f.write_str(self.name())
     }
 }
