@@ -66,6 +66,54 @@ taken_twice_is_not_legal legal =
       | inr wanted ↦ let e = wanted.0 in absurd cc
     ]
 
+added_is_not_closed : (n : ℕ) → replies.Added n ≡ replies.Closed → ⊥
+added_is_not_closed n same = absurd cc
+
+added_is_not_already : (n : ℕ) → replies.Added n ≡ replies.Already → ⊥
+added_is_not_already n same = absurd cc
+
+-- a queue that is closed takes a notice
+abbrev put_after_close : List Row
+put_after_close =
+    row (steps.New 0 0 0) (replies.Object 1) ∷
+    row (steps.Refer 0 Weak 1 0 (Some 0) 0) (replies.Object 2) ∷
+    row (steps.Unhook 0 1) (replies.Notice 2 0 Own) ∷
+    row (steps.Close 0 0) replies.Done ∷
+    row (steps.Put (Mutator 0)) (replies.Added 0) ∷
+    []
+
+put_after_close_is_not_legal : ¬ (IsLegal (config_of 1) put_after_close)
+put_after_close_is_not_legal legal =
+    let r1 = subst (λ s. IsRun s (drop 1 put_after_close) legal.0) legal.1.1.1 legal.1.2 in
+    let r2 = subst (λ s. IsRun s (drop 2 put_after_close) legal.0) r1.1.1 r1.2 in
+    let r3 = subst (λ s. IsRun s (drop 3 put_after_close) legal.0) r2.1.1 r2.2 in
+    let r4 = subst (λ s. IsRun s (drop 4 put_after_close) legal.0) r3.1.1 r3.2 in
+    added_is_not_closed 0 r4.1.0
+
+-- a reference that was put in is put in a second time
+abbrev put_twice : List Row
+put_twice =
+    row (steps.New 0 0 0) (replies.Object 1) ∷
+    row (steps.Refer 0 Weak 1 0 (Some 0) 0) (replies.Object 2) ∷
+    row (steps.Unhook 0 1) (replies.Notice 2 0 Own) ∷
+    row (steps.Put (Mutator 0)) (replies.Added 0) ∷
+    row (steps.Unhook 0 1) (replies.Notice 2 0 Own) ∷
+    row (steps.Put (Mutator 0)) (replies.Added 1) ∷
+    []
+
+put_twice_is_not_legal : ¬ (IsLegal (config_of 1) put_twice)
+put_twice_is_not_legal legal =
+    let r1 = subst (λ s. IsRun s (drop 1 put_twice) legal.0) legal.1.1.1 legal.1.2 in
+    let r2 = subst (λ s. IsRun s (drop 2 put_twice) legal.0) r1.1.1 r1.2 in
+    let r3 = subst (λ s. IsRun s (drop 3 put_twice) legal.0) r2.1.1 r2.2 in
+    elim r3.1 [
+      | inl added ↦
+          let r4 = subst (λ s. IsRun s (drop 4 put_twice) legal.0) added.1 r3.2 in
+          let r5 = subst (λ s. IsRun s (drop 5 put_twice) legal.0) r4.1.1 r4.2 in
+          added_is_not_already 1 r5.1.0
+      | inr wanted ↦ let e = wanted.0 in absurd cc
+    ]
+
 abbrev reference_to_1 : Object
 reference_to_1 = record {
   no = 2;
