@@ -42,6 +42,3 @@ pub use soft::keeps;
 pub use step::Step;
 pub use strength::Strength;
 pub use urgency::Urgency;
-
-#[cfg(test)]
-mod tests;

@@ -14,8 +14,6 @@
 #![tactic(auto)]
 
 mod marker;
-#[cfg(test)]
-mod tests;
 mod worklist;
 
 pub use marker::Marker;

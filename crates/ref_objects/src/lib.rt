@@ -10,8 +10,6 @@ mod objects;
 mod reference;
 mod start;
 mod table;
-#[cfg(test)]
-mod tests;
 
 pub use fields::Fields;
 pub use hold::Hold;

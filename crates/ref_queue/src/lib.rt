@@ -5,7 +5,5 @@
 #![tactic(auto)]
 
 mod queue;
-#[cfg(test)]
-mod tests;
 
 pub use queue::{Polled, Put, Queue};

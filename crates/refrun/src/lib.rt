@@ -25,6 +25,3 @@ pub use listing::strength_text;
 pub use sink::{TextSink, ToWriter, WriteFailed};
 pub use source::{FromReader, ReadError, TextSource};
 pub use trace::run_script;
-
-#[cfg(test)]
-mod tests;

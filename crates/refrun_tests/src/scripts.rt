@@ -1,18 +1,14 @@
-mod cases;
-mod fakes;
-mod graph_cases;
-mod graphs;
-mod memory;
+//! Scripts and their traces.
 
-use crate::{FromReader, TextFault, ToWriter, run_script};
-use cases::CASES;
-use fakes::{Failure, Interrupted, ReadsThenFails, WritesThenFails};
+use crate::cases::CASES;
+use crate::fakes::{Failure, Interrupted, ReadsThenFails, WritesThenFails};
+use refrun::{FromReader, TextFault, ToWriter, run_script};
 use std::alloc::{AllocError, Allocator, Global};
 use std::io::ErrorKind;
 use std::test::Fail;
 
 /// What a script's run answers, with memory of this allocator, and what it prints.
-fn printed<A: Allocator + Copy>(
+pub fn printed<A: Allocator + Copy>(
     memory: A,
     alloc: Global,
     script: &[u8],
@@ -39,7 +35,7 @@ fn printed_until(
 }
 
 /// What the program says of a fault.
-fn message(alloc: Global, fault: TextFault) -> Result<String, AllocError> {
+pub fn message(alloc: Global, fault: TextFault) -> Result<String, AllocError> {
     format!(in alloc; "refrun: {fault}\n")
 }
 

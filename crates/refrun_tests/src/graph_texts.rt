@@ -1,10 +1,10 @@
 //! Graph texts and their listings.
 
-use super::fakes::{Failure, ReadsThenFails, WritesThenFails};
-use super::graph_cases::GRAPHS;
-use super::message;
-use crate::{FromReader, LineFault, TextFault, ToWriter, strength_text};
+use crate::fakes::{Failure, ReadsThenFails, WritesThenFails};
+use crate::graph_cases::GRAPHS;
+use crate::scripts::message;
 use bumpalo::Bump;
+use refrun::{FromReader, LineFault, TextFault, ToWriter, strength_text};
 use std::alloc::{Allocator, Global};
 use std::io::ErrorKind;
 use std::test::Fail;

@@ -1,8 +1,8 @@
 //! Runs with so little memory that an allocation is refused: at one size or another, each that a run makes.
 
-use super::{message, printed};
-use crate::TextFault;
+use crate::scripts::{message, printed};
 use bumpalo::Bump;
+use refrun::TextFault;
 use std::alloc::{AllocError, Global};
 use std::test::Fail;
 

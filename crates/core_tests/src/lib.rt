@@ -1,0 +1,22 @@
+//! The tests of the crates below the programs, against values that were worked out by hand: graphs and strengths,
+//! limits and the soft policy, the objects of a heap, its cycles, and queues.
+//!
+//! A story is a table, whose rows are calls, each with its answer, and each subject has one runner, which makes a
+//! story's calls in turn. A failure prints the row, counted from 0. Where memory runs out, a loop goes over sizes of an
+//! arena.
+#![tactic(auto)]
+
+#[cfg(test)]
+mod arena;
+#[cfg(test)]
+mod graphs;
+#[cfg(test)]
+mod hand;
+#[cfg(test)]
+mod limits;
+#[cfg(test)]
+mod marking;
+#[cfg(test)]
+mod objects;
+#[cfg(test)]
+mod queues;

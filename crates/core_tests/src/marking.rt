@@ -1,0 +1,346 @@
+//! A heap in its cycles, call by call.
+
+mod cycles;
+mod refusals;
+
+use crate::hand::{keep, leak};
+use ref_base::{Config, Fault, MutNo, ObjNo, Phase, QueueNo, SlotNo, Strength, Urgency, WorkerNo};
+use ref_mark::Marker;
+use ref_objects::{Hold, Start};
+use std::alloc::Global;
+use std::process::Abort;
+use std::test::Fail;
+
+/// The mutator of these tests.
+const M: MutNo = MutNo(0);
+
+/// A call of a heap. Slots, fields and objects are told by their numbers.
+#[derive(Clone, Copy)]
+enum Call {
+    Mutate(Mutate),
+    Collect(Collect),
+    Ask(Ask),
+    Keep(Keep),
+}
+
+/// A call that a mutator makes.
+#[derive(Clone, Copy)]
+enum Mutate {
+    /// Makes an object, in this slot and with so many fields.
+    New(u32, u32),
+    /// Makes a reference: of this strength, in this slot, to what this slot holds, for this queue.
+    Refer(Strength, u32, u32, Option<u32>),
+    /// Into the object in this slot, into this field, what this slot holds.
+    Store(u32, u32, u32),
+    /// Into this slot, of the object in this slot, what this field holds.
+    Load(u32, u32, u32),
+    /// The same, by this mutator.
+    LoadOf(u32, u32, u32, u32),
+    /// Into this slot what this one holds.
+    CopySlot(u32, u32),
+    DropSlot(u32),
+    /// Into this slot the referent of the reference in this one.
+    Get(u32, u32),
+    Clear(u32),
+    /// Whether the reference in this slot refers to what this one holds.
+    RefersTo(u32, u32),
+}
+
+/// A call that a worker makes, or the layer above.
+#[derive(Clone, Copy)]
+enum Collect {
+    Begin(u64, Urgency),
+    /// By this worker.
+    Scan(u32),
+    EndMark,
+    /// Of this worker.
+    TakeFound(u32),
+    GreyRoot(u32),
+    Cut(u32),
+    Free(u32),
+    ToSweeping,
+    ToIdle,
+}
+
+/// A call that reads a heap.
+#[derive(Clone, Copy)]
+enum Ask {
+    InPhase,
+    Cycle,
+    IsDoomed(u32),
+    DoomedFrom(u32),
+    HasFound,
+    SlotOf(u32),
+    ReferentOf(u32),
+    StampOf(u32),
+    HoldCount,
+}
+
+/// A call that takes a hold or gives one back.
+#[derive(Clone, Copy)]
+enum Keep {
+    /// Takes a hold of what this slot holds into the hand.
+    Hold(u32),
+    /// Takes a hold of this object into the hand.
+    Mint(u32),
+    /// Takes the hand's hold back, into this slot.
+    Adopt(u32),
+    Release,
+    Leak,
+}
+
+/// What a call answers.
+#[derive(Clone, Copy, Debug, PartialEq, Eq)]
+enum Told {
+    Done,
+    Refused(Fault),
+    /// This object was made, or is in a slot or a field now, or is a referent.
+    Object(u32),
+    /// A slot, a field or a referent is null.
+    Null,
+    Yes,
+    No,
+    /// This cycle began.
+    Began(u64),
+    /// This object was scanned.
+    Scanned(u32),
+    /// So many are doomed.
+    Doomed(usize),
+    /// This object was found, or is the first that was sought.
+    Found(u32),
+    /// There is nothing to scan, or none that is sought.
+    Nothing,
+    In(Phase),
+    /// So many cycles, or holds.
+    Count(u64),
+    /// A stamp.
+    Time(u64),
+    /// A hold of this object.
+    Held(u32),
+    EmptyHand,
+}
+
+fn done(answer: Result<(), Fault>) -> Told {
+    match answer {
+        Ok(()) => Told::Done,
+        Err(fault) => Told::Refused(fault),
+    }
+}
+
+fn made(answer: Result<ObjNo, Fault>) -> Told {
+    match answer {
+        Ok(no) => Told::Object(no.0),
+        Err(fault) => Told::Refused(fault),
+    }
+}
+
+fn is(answer: bool) -> Told {
+    if answer { Told::Yes } else { Told::No }
+}
+
+fn is_or_fault(answer: Result<bool, Fault>) -> Told {
+    match answer {
+        Ok(answer) => is(answer),
+        Err(fault) => Told::Refused(fault),
+    }
+}
+
+/// What a slot, a field or a referent is.
+fn value(answer: Option<ObjNo>) -> Told {
+    match answer {
+        Some(no) => Told::Object(no.0),
+        None => Told::Null,
+    }
+}
+
+fn value_or_fault(answer: Result<Option<ObjNo>, Fault>) -> Told {
+    match answer {
+        Ok(answer) => value(answer),
+        Err(fault) => Told::Refused(fault),
+    }
+}
+
+fn began(answer: Result<u64, Fault>) -> Told {
+    match answer {
+        Ok(cycle) => Told::Began(cycle),
+        Err(fault) => Told::Refused(fault),
+    }
+}
+
+fn scanned(answer: Result<Option<ObjNo>, Fault>) -> Told {
+    match answer {
+        Ok(Some(no)) => Told::Scanned(no.0),
+        Ok(None) => Told::Nothing,
+        Err(fault) => Told::Refused(fault),
+    }
+}
+
+fn doomed(answer: Result<usize, Fault>) -> Told {
+    match answer {
+        Ok(count) => Told::Doomed(count),
+        Err(fault) => Told::Refused(fault),
+    }
+}
+
+fn found(answer: Option<ObjNo>) -> Told {
+    match answer {
+        Some(no) => Told::Found(no.0),
+        None => Told::Nothing,
+    }
+}
+
+fn found_or_fault(answer: Result<Option<ObjNo>, Fault>) -> Told {
+    match answer {
+        Ok(answer) => found(answer),
+        Err(fault) => Told::Refused(fault),
+    }
+}
+
+fn mutated(heap: &mut Marker, call: Mutate) -> Told {
+    match call {
+        Mutate::New(slot, fields) => made(heap.alloc_obj(M, SlotNo(slot), fields)),
+        Mutate::Refer(strength, slot, source, queue) => {
+            let queue = queue.map(|queue| QueueNo(queue));
+            made(heap.alloc_ref(M, SlotNo(slot), strength, SlotNo(source), queue, 0))
+        }
+        Mutate::Store(slot, field, source) => {
+            done(heap.store(M, SlotNo(slot), field, SlotNo(source)))
+        }
+        Mutate::Load(slot, object, field) => {
+            value_or_fault(heap.load(M, SlotNo(slot), SlotNo(object), field))
+        }
+        Mutate::LoadOf(m, slot, object, field) => {
+            value_or_fault(heap.load(MutNo(m), SlotNo(slot), SlotNo(object), field))
+        }
+        Mutate::CopySlot(slot, source) => {
+            value_or_fault(heap.copy(M, SlotNo(slot), SlotNo(source)))
+        }
+        Mutate::DropSlot(slot) => done(heap.drop_slot(M, SlotNo(slot))),
+        Mutate::Get(slot, reference) => {
+            value_or_fault(heap.get(M, SlotNo(slot), SlotNo(reference)))
+        }
+        Mutate::Clear(reference) => done(heap.clear(M, SlotNo(reference))),
+        Mutate::RefersTo(reference, other) => {
+            is_or_fault(heap.refers_to(M, SlotNo(reference), SlotNo(other)))
+        }
+    }
+}
+
+fn collected(heap: &mut Marker, call: Collect) -> Told {
+    match call {
+        Collect::Begin(now, urgency) => return began(heap.begin(now, urgency)),
+        Collect::Scan(worker) => return scanned(heap.scan(WorkerNo(worker))),
+        Collect::EndMark => return doomed(heap.end_mark()),
+        Collect::TakeFound(worker) => return found_or_fault(heap.take_found(WorkerNo(worker))),
+        Collect::Free(no) => return is(heap.free(ObjNo(no))),
+        Collect::GreyRoot(no) => heap.grey_root(ObjNo(no)),
+        Collect::Cut(no) => heap.cut(ObjNo(no)),
+        Collect::ToSweeping => heap.to_sweeping(),
+        Collect::ToIdle => heap.to_idle(),
+    }
+    Told::Done
+}
+
+fn asked(heap: &Marker, call: Ask) -> Told {
+    match call {
+        Ask::InPhase => Told::In(heap.phase()),
+        Ask::Cycle => Told::Count(heap.cycle()),
+        Ask::IsDoomed(no) => is(heap.is_doomed(ObjNo(no))),
+        Ask::DoomedFrom(no) => found(heap.doomed_from(ObjNo(no))),
+        Ask::HasFound => is(heap.has_found()),
+        Ask::SlotOf(slot) => value_or_fault(heap.objects().slot_of(M, SlotNo(slot))),
+        Ask::ReferentOf(no) => value(heap.objects().referent_of(ObjNo(no))),
+        Ask::StampOf(no) => Told::Time(heap.objects().stamp_of(ObjNo(no))),
+        Ask::HoldCount => Told::Count(heap.objects().hold_count()),
+    }
+}
+
+/// Takes a hold into the hand.
+fn taken(hand: &mut Option<Hold>, answer: Result<Hold, Fault>) -> Told {
+    match answer {
+        Ok(hold) => {
+            let no = hold.obj();
+            keep(hand, hold);
+            Told::Held(no.0)
+        }
+        Err(fault) => Told::Refused(fault),
+    }
+}
+
+fn adopted(heap: &mut Marker, hand: &mut Option<Hold>, slot: u32) -> Told {
+    let Some(hold) = hand.take() else {
+        return Told::EmptyHand;
+    };
+    match heap.adopt(M, SlotNo(slot), hold) {
+        Ok(no) => Told::Object(no.0),
+        Err((fault, back)) => {
+            keep(hand, back);
+            Told::Refused(fault)
+        }
+    }
+}
+
+fn released(heap: &mut Marker, hand: &mut Option<Hold>) -> Told {
+    let Some(hold) = hand.take() else {
+        return Told::EmptyHand;
+    };
+    match heap.release(hold) {
+        Ok(()) => Told::Done,
+        Err((fault, back)) => {
+            keep(hand, back);
+            Told::Refused(fault)
+        }
+    }
+}
+
+fn kept(heap: &mut Marker, hand: &mut Option<Hold>, call: Keep) -> Told {
+    match call {
+        Keep::Hold(slot) => taken(hand, heap.hold(M, SlotNo(slot))),
+        Keep::Mint(no) => taken(hand, heap.mint(ObjNo(no))),
+        Keep::Adopt(slot) => adopted(heap, hand, slot),
+        Keep::Release => released(heap, hand),
+        Keep::Leak => {
+            leak(hand.take());
+            Told::Done
+        }
+    }
+}
+
+fn answer(heap: &mut Marker, hand: &mut Option<Hold>, call: Call) -> Told {
+    match call {
+        Call::Mutate(call) => mutated(heap, call),
+        Call::Collect(call) => collected(heap, call),
+        Call::Ask(call) => asked(heap, call),
+        Call::Keep(call) => kept(heap, hand, call),
+    }
+}
+
+/// One mutator, one worker, one queue, 8 cells, and a span of 10.
+const CONFIG: Config = Config {
+    mutators: 1,
+    workers: 1,
+    queues: 1,
+    cells: 8,
+    span: 10,
+};
+
+/// Makes a story's calls in turn, on a heap that begins so: each has its answer.
+fn agree_from(
+    rt: &impl Abort,
+    alloc: Global,
+    start: Start,
+    story: &[(Call, Told)],
+) -> Result<(), Fail> {
+    let mut heap = Marker::starting(alloc, CONFIG, 1, start)?;
+    let mut hand = None;
+    for (row, &(call, want)) in story.iter().enumerate() {
+        assert_eq!(rt; answer(&mut heap, &mut hand, call), want, "row {row}");
+    }
+    leak(hand);
+    Ok(())
+}
+
+/// The same, where numbers begin at one.
+fn agree(rt: &impl Abort, alloc: Global, story: &[(Call, Told)]) -> Result<(), Fail> {
+    agree_from(rt, alloc, Start::FIRST, story)
+}

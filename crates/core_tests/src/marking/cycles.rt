@@ -1,0 +1,251 @@
+//! Cycles from their begin to the mark's end.
+
+use super::Ask::{DoomedFrom, HasFound, HoldCount, InPhase, IsDoomed, ReferentOf, StampOf};
+use super::Call::{Ask, Collect, Keep, Mutate};
+use super::Collect::{Begin, Cut, EndMark, Free, GreyRoot, Scan, TakeFound, ToIdle, ToSweeping};
+use super::Keep::{Adopt, Hold, Leak, Mint, Release};
+use super::Mutate::{Clear, CopySlot, DropSlot, Get, Load, New, Refer, RefersTo, Store};
+use super::{Told, agree};
+use ref_base::{Fault, Phase, Strength, Urgency};
+use std::test::Fail;
+
+const NORMAL: Urgency = Urgency::Normal;
+
+const SOFT: Strength = Strength::Soft;
+
+const WEAK: Strength = Strength::Weak;
+
+const PHANTOM: Strength = Strength::Phantom;
+
+#[test]
+fn death_is_told_after_a_cycle(rt: HostRuntime) -> Result<(), Fail> {
+    let story = [
+        // Nothing but reference 2 holds object 1.
+        (Mutate(New(0, 0)), Told::Object(1)),
+        (Mutate(Refer(WEAK, 1, 0, Some(0))), Told::Object(2)),
+        (Mutate(DropSlot(0)), Told::Done),
+        (Collect(Begin(5, NORMAL)), Told::Began(1)),
+        (Collect(Scan(0)), Told::Scanned(2)),
+        (Collect(Scan(0)), Told::Nothing),
+        (Ask(IsDoomed(1)), Told::No),
+        (Collect(EndMark), Told::Doomed(1)),
+        (Ask(IsDoomed(1)), Told::Yes),
+        (Ask(IsDoomed(2)), Told::No),
+        (Ask(DoomedFrom(0)), Told::Found(1)),
+        (Ask(DoomedFrom(2)), Told::Nothing),
+        // It reads as cleared at once, while the worker still has it to look at.
+        (Mutate(Get(3, 1)), Told::Null),
+        (Mutate(RefersTo(1, 0)), Told::Yes),
+        (Mutate(Clear(1)), Told::Done),
+        (Ask(ReferentOf(2)), Told::Object(1)),
+        (Ask(HasFound), Told::Yes),
+        (Collect(TakeFound(0)), Told::Found(2)),
+        (Ask(HasFound), Told::No),
+        (Collect(Cut(2)), Told::Done),
+        (Ask(ReferentOf(2)), Told::Null),
+        (Collect(TakeFound(0)), Told::Nothing),
+        (Collect(ToSweeping), Told::Done),
+        (Ask(IsDoomed(1)), Told::Yes),
+        (Collect(Free(2)), Told::No),
+        (Collect(Free(1)), Told::Yes),
+        (Ask(IsDoomed(1)), Told::No),
+        (Collect(ToIdle), Told::Done),
+        (Ask(InPhase), Told::In(Phase::Idle)),
+        (Collect(Begin(4, NORMAL)), Told::Refused(Fault::ClockBack)),
+    ];
+    agree(&rt, rt.alloc(), &story)
+}
+
+#[test]
+fn get_keeps_the_referent(rt: HostRuntime) -> Result<(), Fail> {
+    let story = [
+        (Mutate(New(0, 0)), Told::Object(1)),
+        (Mutate(Refer(WEAK, 1, 0, Some(0))), Told::Object(2)),
+        (Mutate(DropSlot(0)), Told::Done),
+        (Collect(Begin(5, NORMAL)), Told::Began(1)),
+        (Collect(Scan(0)), Told::Scanned(2)),
+        (Mutate(Get(3, 1)), Told::Object(1)),
+        (Collect(EndMark), Told::Refused(Fault::GreyLeft)),
+        (Collect(Scan(0)), Told::Scanned(1)),
+        (Collect(Scan(0)), Told::Nothing),
+        (Collect(EndMark), Told::Doomed(0)),
+    ];
+    agree(&rt, rt.alloc(), &story)
+}
+
+#[test]
+fn a_soft_reference_is_kept_within_the_span(rt: HostRuntime) -> Result<(), Fail> {
+    let story = [
+        (Collect(Begin(90, NORMAL)), Told::Began(1)),
+        (Collect(EndMark), Told::Doomed(0)),
+        (Collect(ToSweeping), Told::Done),
+        (Collect(ToIdle), Told::Done),
+        (Mutate(New(0, 0)), Told::Object(1)),
+        (Mutate(Refer(SOFT, 1, 0, Some(0))), Told::Object(2)),
+        (Mutate(DropSlot(0)), Told::Done),
+        (Collect(Begin(100, NORMAL)), Told::Began(2)),
+        (Collect(Scan(0)), Told::Scanned(2)),
+        (Collect(Scan(0)), Told::Scanned(1)),
+        (Collect(EndMark), Told::Doomed(0)),
+        (Collect(ToSweeping), Told::Done),
+        (Collect(ToIdle), Told::Done),
+        (Collect(Begin(101, NORMAL)), Told::Began(3)),
+        (Collect(Scan(0)), Told::Scanned(2)),
+        (Collect(EndMark), Told::Doomed(1)),
+    ];
+    agree(&rt, rt.alloc(), &story)
+}
+
+#[test]
+fn an_urgent_cycle_keeps_no_soft_reference(rt: HostRuntime) -> Result<(), Fail> {
+    let story = [
+        (Collect(Begin(90, NORMAL)), Told::Began(1)),
+        (Collect(EndMark), Told::Doomed(0)),
+        (Collect(ToSweeping), Told::Done),
+        (Collect(ToIdle), Told::Done),
+        (Mutate(New(0, 0)), Told::Object(1)),
+        (Mutate(Refer(SOFT, 1, 0, Some(0))), Told::Object(2)),
+        (Mutate(DropSlot(0)), Told::Done),
+        (Collect(Begin(100, Urgency::Urgent)), Told::Began(2)),
+        (Collect(Scan(0)), Told::Scanned(2)),
+        (Collect(Scan(0)), Told::Nothing),
+        (Collect(EndMark), Told::Doomed(1)),
+    ];
+    agree(&rt, rt.alloc(), &story)
+}
+
+#[test]
+fn the_stamp_of_a_soft_reference_is_the_clock(rt: HostRuntime) -> Result<(), Fail> {
+    let story = [
+        (Mutate(New(0, 0)), Told::Object(1)),
+        (Mutate(Refer(SOFT, 1, 0, Some(0))), Told::Object(2)),
+        (Collect(Begin(20, NORMAL)), Told::Began(1)),
+        (Collect(Scan(0)), Told::Scanned(1)),
+        (Collect(Scan(0)), Told::Scanned(2)),
+        (Collect(EndMark), Told::Doomed(0)),
+        (Collect(ToSweeping), Told::Done),
+        (Collect(ToIdle), Told::Done),
+        (Mutate(Refer(SOFT, 2, 0, Some(0))), Told::Object(3)),
+        (Ask(StampOf(3)), Told::Time(20)),
+        (Mutate(DropSlot(0)), Told::Done),
+        (Collect(Begin(25, NORMAL)), Told::Began(2)),
+        (Collect(Scan(0)), Told::Scanned(2)),
+        (Collect(Scan(0)), Told::Scanned(3)),
+        (Collect(Scan(0)), Told::Scanned(1)),
+        (Collect(EndMark), Told::Doomed(0)),
+    ];
+    agree(&rt, rt.alloc(), &story)
+}
+
+#[test]
+fn get_renews_a_soft_reference(rt: HostRuntime) -> Result<(), Fail> {
+    let story = [
+        (Mutate(New(0, 0)), Told::Object(1)),
+        (Mutate(Refer(SOFT, 1, 0, None)), Told::Object(2)),
+        (Mutate(DropSlot(0)), Told::Done),
+        (Collect(Begin(11, NORMAL)), Told::Began(1)),
+        (Collect(Scan(0)), Told::Scanned(2)),
+        (Mutate(Get(3, 1)), Told::Object(1)),
+        (Mutate(DropSlot(3)), Told::Done),
+        (Collect(Scan(0)), Told::Scanned(1)),
+        (Collect(EndMark), Told::Doomed(0)),
+        (Collect(ToSweeping), Told::Done),
+        (Collect(ToIdle), Told::Done),
+        (Collect(Begin(21, NORMAL)), Told::Began(2)),
+        (Collect(Scan(0)), Told::Scanned(2)),
+        (Collect(Scan(0)), Told::Scanned(1)),
+        (Collect(EndMark), Told::Doomed(0)),
+    ];
+    agree(&rt, rt.alloc(), &story)
+}
+
+#[test]
+fn the_clock_may_be_the_greatest(rt: HostRuntime) -> Result<(), Fail> {
+    let story = [
+        (Mutate(New(0, 0)), Told::Object(1)),
+        (Mutate(Refer(SOFT, 1, 0, Some(0))), Told::Object(2)),
+        (Mutate(DropSlot(0)), Told::Done),
+        (Collect(Begin(u64::MAX, NORMAL)), Told::Began(1)),
+        (Collect(Scan(0)), Told::Scanned(2)),
+        (Collect(EndMark), Told::Doomed(1)),
+    ];
+    agree(&rt, rt.alloc(), &story)
+}
+
+#[test]
+fn the_load_barrier_keeps_what_is_moved_behind_the_scan(rt: HostRuntime) -> Result<(), Fail> {
+    let story = [
+        (Mutate(New(0, 1)), Told::Object(1)),
+        (Mutate(New(1, 0)), Told::Object(2)),
+        (Mutate(New(2, 1)), Told::Object(3)),
+        (Mutate(Store(2, 0, 1)), Told::Done),
+        (Mutate(DropSlot(1)), Told::Done),
+        (Collect(Begin(1, NORMAL)), Told::Began(1)),
+        (Collect(Scan(0)), Told::Scanned(1)),
+        (Mutate(Load(1, 2, 0)), Told::Object(2)),
+        (Mutate(Store(0, 0, 1)), Told::Done),
+        (Mutate(DropSlot(1)), Told::Done),
+        (Mutate(Store(2, 0, 5)), Told::Done),
+        (Collect(Scan(0)), Told::Scanned(3)),
+        (Collect(Scan(0)), Told::Scanned(2)),
+        (Collect(EndMark), Told::Doomed(0)),
+    ];
+    agree(&rt, rt.alloc(), &story)
+}
+
+#[test]
+fn a_phantom_reference_gives_nothing_and_tells_what_it_refers_to(
+    rt: HostRuntime,
+) -> Result<(), Fail> {
+    let story = [
+        (Mutate(New(0, 0)), Told::Object(1)),
+        (Mutate(Refer(PHANTOM, 1, 0, Some(0))), Told::Object(2)),
+        (Mutate(Get(3, 1)), Told::Null),
+        (Mutate(RefersTo(1, 0)), Told::Yes),
+        (Mutate(RefersTo(1, 3)), Told::No),
+    ];
+    agree(&rt, rt.alloc(), &story)
+}
+
+#[test]
+fn what_is_held_or_told_as_a_root_is_kept(rt: HostRuntime) -> Result<(), Fail> {
+    let story = [
+        (Mutate(New(0, 0)), Told::Object(1)),
+        (Mutate(New(0, 0)), Told::Object(2)),
+        (Mutate(New(0, 0)), Told::Object(3)),
+        (Mutate(New(0, 0)), Told::Object(4)),
+        (Mutate(CopySlot(1, 0)), Told::Object(4)),
+        (Keep(Hold(1)), Told::Held(4)),
+        (Keep(Leak), Told::Done),
+        (Keep(Mint(2)), Told::Held(2)),
+        (Keep(Leak), Told::Done),
+        (Mutate(DropSlot(0)), Told::Done),
+        (Mutate(DropSlot(1)), Told::Done),
+        (Collect(Begin(0, NORMAL)), Told::Began(1)),
+        (Collect(GreyRoot(1)), Told::Done),
+        (Collect(GreyRoot(4)), Told::Done),
+        // What is made in the cycle is never scanned, and never doomed.
+        (Mutate(New(0, 0)), Told::Object(5)),
+        (Collect(Scan(0)), Told::Scanned(2)),
+        (Collect(Scan(0)), Told::Scanned(4)),
+        (Collect(Scan(0)), Told::Scanned(1)),
+        (Collect(Scan(0)), Told::Nothing),
+        (Collect(EndMark), Told::Doomed(1)),
+        (Ask(IsDoomed(3)), Told::Yes),
+    ];
+    agree(&rt, rt.alloc(), &story)
+}
+
+#[test]
+fn a_hold_is_taken_back(rt: HostRuntime) -> Result<(), Fail> {
+    let story = [
+        (Mutate(New(0, 0)), Told::Object(1)),
+        (Keep(Hold(0)), Told::Held(1)),
+        (Keep(Adopt(2)), Told::Object(1)),
+        (Ask(HoldCount), Told::Count(0)),
+        (Keep(Hold(2)), Told::Held(1)),
+        (Keep(Release), Told::Done),
+        (Ask(HoldCount), Told::Count(0)),
+    ];
+    agree(&rt, rt.alloc(), &story)
+}

@@ -1,0 +1,390 @@
+//! The objects of a heap, call by call.
+
+mod cells;
+mod memory;
+mod stories;
+
+use crate::hand::{keep, leak};
+use ref_base::{Config, Fault, MutNo, ObjNo, QueueNo, SlotNo, Strength};
+use ref_objects::{Hold, Kind, Objects, Reference, Start};
+use std::alloc::{Allocator, Global};
+use std::mem;
+use std::process::Abort;
+use std::test::Fail;
+
+/// The mutator of these tests.
+const M: MutNo = MutNo(0);
+
+/// A call of a heap. Slots, fields and objects are told by their numbers.
+#[derive(Clone, Copy)]
+enum Call {
+    Do(Do),
+    Set(Set),
+    Ask(Ask),
+    Keep(Keep),
+    /// From here on the calls are the other heap's.
+    TurnToOther,
+}
+
+/// A call that changes a heap, and has an answer.
+#[derive(Clone, Copy)]
+enum Do {
+    /// Makes an object, in this slot and with so many fields.
+    New(u32, u32),
+    /// The same, by this mutator.
+    NewOf(u32, u32, u32),
+    /// Makes a reference: of this strength, in this slot, to what this slot holds, for this queue, with so many fields.
+    Refer(Strength, u32, u32, Option<u32>, u32),
+    /// Into the object in this slot, into this field, what this slot holds.
+    Store(u32, u32, u32),
+    /// Into this slot what this one holds.
+    CopySlot(u32, u32),
+    DropSlot(u32),
+    SetSlot(u32, Option<u32>),
+    Free(u32),
+    Mark(u32),
+}
+
+/// A call that changes a heap, and has no answer.
+#[derive(Clone, Copy)]
+enum Set {
+    ClockTo(u64),
+    Stamp(u32, u64),
+    Cut(u32),
+    UnmarkAll,
+    CloseGaps,
+}
+
+/// A call that reads a heap.
+#[derive(Clone, Copy)]
+enum Ask {
+    Size,
+    HeapNo,
+    Clock,
+    NextNo,
+    ObjectCount,
+    HoldCount,
+    SlotCount,
+    SlotAt(usize),
+    SlotOf(u32),
+    HasObject(u32),
+    KindOf(u32),
+    FieldCount(u32),
+    /// What the object of this number has in this field.
+    FieldOf(u32, usize),
+    ReferenceOf(u32),
+    ReferentOf(u32),
+    StampOf(u32),
+    QueueOf(u32),
+    FirstFrom(u32),
+    IsHeld(u32),
+    HeldFrom(u32),
+    HeldAfter(u32),
+    IsMarked(u32),
+    IsUnmarked(u32),
+    UnmarkedCount,
+    UnmarkedFrom(u32),
+}
+
+/// A call that takes a hold or gives one back. A story has a hand, which holds one at most.
+#[derive(Clone, Copy)]
+enum Keep {
+    /// Takes a hold of what this slot holds into the hand.
+    Hold(u32),
+    /// Takes a hold of this object into the hand.
+    Mint(u32),
+    /// Takes the hand's hold back, into this slot.
+    Adopt(u32),
+    Release,
+    Leak,
+    /// What the hand holds.
+    Hand,
+}
+
+/// What a call answers.
+#[derive(Clone, Copy, Debug, PartialEq, Eq)]
+enum Told {
+    Done,
+    Refused(Fault),
+    /// This object was made, found or held.
+    Object(u32),
+    /// A slot, a field or a referent is null.
+    Null,
+    /// There is no such thing.
+    Nothing,
+    Yes,
+    No,
+    /// So many.
+    Count(u64),
+    /// The number of the next object.
+    Next(u64),
+    /// The number of the heap.
+    Heap(u64),
+    /// A clock or a stamp.
+    Time(u64),
+    Queue(u32),
+    Kind(Kind),
+    Reference(Reference),
+    Size(Config),
+    /// A hold of this object, of the heap of this number.
+    Held(u32, u64),
+    EmptyHand,
+}
+
+fn done(answer: Result<(), Fault>) -> Told {
+    match answer {
+        Ok(()) => Told::Done,
+        Err(fault) => Told::Refused(fault),
+    }
+}
+
+fn made(answer: Result<ObjNo, Fault>) -> Told {
+    match answer {
+        Ok(no) => Told::Object(no.0),
+        Err(fault) => Told::Refused(fault),
+    }
+}
+
+fn is(answer: bool) -> Told {
+    if answer { Told::Yes } else { Told::No }
+}
+
+/// What a slot, a field or a referent is.
+fn value(answer: Option<ObjNo>) -> Told {
+    match answer {
+        Some(no) => Told::Object(no.0),
+        None => Told::Null,
+    }
+}
+
+fn value_or_fault(answer: Result<Option<ObjNo>, Fault>) -> Told {
+    match answer {
+        Ok(answer) => value(answer),
+        Err(fault) => Told::Refused(fault),
+    }
+}
+
+/// What was sought.
+fn found(answer: Option<ObjNo>) -> Told {
+    match answer {
+        Some(no) => Told::Object(no.0),
+        None => Told::Nothing,
+    }
+}
+
+fn slot_at<A: Allocator + Copy>(heap: &Objects<A>, place: usize) -> Told {
+    match heap.slots().get(place) {
+        Some(slot) => value(*slot),
+        None => Told::Nothing,
+    }
+}
+
+fn kind(answer: Option<Kind>) -> Told {
+    match answer {
+        Some(kind) => Told::Kind(kind),
+        None => Told::Nothing,
+    }
+}
+
+fn reference(answer: Option<Reference>) -> Told {
+    match answer {
+        Some(reference) => Told::Reference(reference),
+        None => Told::Nothing,
+    }
+}
+
+fn queue(answer: Option<QueueNo>) -> Told {
+    match answer {
+        Some(queue) => Told::Queue(queue.0),
+        None => Told::Nothing,
+    }
+}
+
+fn changed<A: Allocator + Copy>(heap: &mut Objects<A>, call: Do) -> Told {
+    match call {
+        Do::New(slot, fields) => made(heap.alloc_obj(M, SlotNo(slot), fields)),
+        Do::NewOf(m, slot, fields) => made(heap.alloc_obj(MutNo(m), SlotNo(slot), fields)),
+        Do::Refer(strength, slot, source, queue, fields) => {
+            let queue = queue.map(|queue| QueueNo(queue));
+            made(heap.alloc_ref(M, SlotNo(slot), strength, SlotNo(source), queue, fields))
+        }
+        Do::Store(slot, field, source) => done(heap.store(M, SlotNo(slot), field, SlotNo(source))),
+        Do::CopySlot(slot, source) => value_or_fault(heap.copy(M, SlotNo(slot), SlotNo(source))),
+        Do::DropSlot(slot) => done(heap.drop_slot(M, SlotNo(slot))),
+        Do::SetSlot(slot, no) => done(heap.set_slot(M, SlotNo(slot), no.map(|no| ObjNo(no)))),
+        Do::Free(no) => is(heap.free(ObjNo(no))),
+        Do::Mark(no) => is(heap.mark(ObjNo(no))),
+    }
+}
+
+fn after_setting<A: Allocator + Copy>(heap: &mut Objects<A>, call: Set) -> Told {
+    match call {
+        Set::ClockTo(now) => heap.set_clock(now),
+        Set::Stamp(no, stamp) => heap.set_stamp(ObjNo(no), stamp),
+        Set::Cut(no) => heap.cut(ObjNo(no)),
+        Set::UnmarkAll => heap.unmark_all(),
+        Set::CloseGaps => heap.close_gaps(),
+    }
+    Told::Done
+}
+
+fn asked<A: Allocator + Copy>(heap: &Objects<A>, call: Ask) -> Told {
+    match call {
+        Ask::Size => Told::Size(heap.config()),
+        Ask::HeapNo => Told::Heap(heap.heap_no()),
+        Ask::Clock => Told::Time(heap.clock()),
+        Ask::NextNo => Told::Next(heap.next_no()),
+        Ask::ObjectCount => Told::Count(heap.object_count() as u64),
+        Ask::HoldCount => Told::Count(heap.hold_count()),
+        Ask::SlotCount => Told::Count(heap.slots().len() as u64),
+        Ask::SlotAt(place) => slot_at(heap, place),
+        Ask::SlotOf(slot) => value_or_fault(heap.slot_of(M, SlotNo(slot))),
+        Ask::HasObject(no) => is(heap.has_object(ObjNo(no))),
+        Ask::KindOf(no) => kind(heap.kind_of(ObjNo(no))),
+        Ask::FieldCount(no) => Told::Count(heap.fields_of(ObjNo(no)).len() as u64),
+        Ask::FieldOf(no, field) => value(heap.fields_of(ObjNo(no)).get(field)),
+        Ask::ReferenceOf(no) => reference(heap.reference_of(ObjNo(no))),
+        Ask::ReferentOf(no) => value(heap.referent_of(ObjNo(no))),
+        Ask::StampOf(no) => Told::Time(heap.stamp_of(ObjNo(no))),
+        Ask::QueueOf(no) => queue(heap.queue_of(ObjNo(no))),
+        Ask::FirstFrom(no) => found(heap.first_from(ObjNo(no))),
+        Ask::IsHeld(no) => is(heap.is_held(ObjNo(no))),
+        Ask::HeldFrom(no) => found(heap.held_from(ObjNo(no))),
+        Ask::HeldAfter(no) => found(heap.held_after(ObjNo(no))),
+        Ask::IsMarked(no) => is(heap.is_marked(ObjNo(no))),
+        Ask::IsUnmarked(no) => is(heap.is_unmarked(ObjNo(no))),
+        Ask::UnmarkedCount => Told::Count(heap.unmarked_count() as u64),
+        Ask::UnmarkedFrom(no) => found(heap.unmarked_from(ObjNo(no))),
+    }
+}
+
+fn shown(hand: &Option<Hold>) -> Told {
+    match hand {
+        Some(hold) => Told::Held(hold.obj().0, hold.heap_no()),
+        None => Told::EmptyHand,
+    }
+}
+
+/// Takes a hold into the hand.
+fn taken(hand: &mut Option<Hold>, answer: Result<Hold, Fault>) -> Told {
+    match answer {
+        Ok(hold) => {
+            keep(hand, hold);
+            shown(hand)
+        }
+        Err(fault) => Told::Refused(fault),
+    }
+}
+
+fn adopted<A: Allocator + Copy>(heap: &mut Objects<A>, hand: &mut Option<Hold>, slot: u32) -> Told {
+    let Some(hold) = hand.take() else {
+        return Told::EmptyHand;
+    };
+    match heap.adopt(M, SlotNo(slot), hold) {
+        Ok(no) => Told::Object(no.0),
+        Err((fault, back)) => {
+            keep(hand, back);
+            Told::Refused(fault)
+        }
+    }
+}
+
+fn released<A: Allocator + Copy>(heap: &mut Objects<A>, hand: &mut Option<Hold>) -> Told {
+    let Some(hold) = hand.take() else {
+        return Told::EmptyHand;
+    };
+    match heap.release(hold) {
+        Ok(()) => Told::Done,
+        Err((fault, back)) => {
+            keep(hand, back);
+            Told::Refused(fault)
+        }
+    }
+}
+
+fn kept<A: Allocator + Copy>(heap: &mut Objects<A>, hand: &mut Option<Hold>, call: Keep) -> Told {
+    match call {
+        Keep::Hold(slot) => taken(hand, heap.hold(M, SlotNo(slot))),
+        Keep::Mint(no) => taken(hand, heap.mint(ObjNo(no))),
+        Keep::Adopt(slot) => adopted(heap, hand, slot),
+        Keep::Release => released(heap, hand),
+        Keep::Leak => {
+            leak(hand.take());
+            Told::Done
+        }
+        Keep::Hand => shown(hand),
+    }
+}
+
+/// The two heaps of a story, and its hand.
+struct Bench<A: Allocator> {
+    heap: Objects<A>,
+    other: Objects<A>,
+    hand: Option<Hold>,
+}
+
+fn answer<A: Allocator + Copy>(bench: &mut Bench<A>, call: Call) -> Told {
+    match call {
+        Call::Do(call) => changed(&mut bench.heap, call),
+        Call::Set(call) => after_setting(&mut bench.heap, call),
+        Call::Ask(call) => asked(&bench.heap, call),
+        Call::Keep(call) => kept(&mut bench.heap, &mut bench.hand, call),
+        Call::TurnToOther => {
+            mem::swap(&mut bench.heap, &mut bench.other);
+            Told::Done
+        }
+    }
+}
+
+/// One mutator, one worker, one queue, so many cells.
+const fn config(cells: u32) -> Config {
+    Config {
+        mutators: 1,
+        workers: 1,
+        queues: 1,
+        cells,
+        span: 10,
+    }
+}
+
+/// Makes a story's calls in turn, each of which has its answer. They go to the first heap, where they don't turn.
+fn make_calls<A: Allocator + Copy>(
+    rt: &impl Abort,
+    heap: Objects<A>,
+    other: Objects<A>,
+    story: &[(Call, Told)],
+) {
+    let mut bench = Bench {
+        heap,
+        other,
+        hand: None,
+    };
+    for (row, &(call, want)) in story.iter().enumerate() {
+        assert_eq!(rt; answer(&mut bench, call), want, "row {row}");
+    }
+    let Bench {
+        heap: _heap,
+        other: _other,
+        hand,
+    } = bench;
+    leak(hand);
+}
+
+/// The same, on heap 1, which is so large and begins so; the other heap is number 2.
+fn agree_from(
+    rt: &impl Abort,
+    alloc: Global,
+    config: Config,
+    start: Start,
+    story: &[(Call, Told)],
+) -> Result<(), Fail> {
+    let heap = Objects::starting(alloc, config, 1, start)?;
+    let other = Objects::new(alloc, config, 2)?;
+    make_calls(rt, heap, other, story);
+    Ok(())
+}
+
+/// The same, with so many cells, where numbers begin at one.
+fn agree(rt: &impl Abort, alloc: Global, cells: u32, story: &[(Call, Told)]) -> Result<(), Fail> {
+    agree_from(rt, alloc, config(cells), Start::FIRST, story)
+}

@@ -1,0 +1,190 @@
+//! What lies in the cells of a heap: objects found by number, their fields and references, gaps, cells used again.
+
+use super::Ask::{
+    FieldCount, FieldOf, FirstFrom, HasObject, IsHeld, IsMarked, NextNo, ObjectCount, ReferenceOf,
+    UnmarkedCount, UnmarkedFrom,
+};
+use super::Call::{Ask, Do, Set};
+use super::Do::{Free, Mark, New, Refer, Store};
+use super::Set::{ClockTo, CloseGaps, Cut, Stamp, UnmarkAll};
+use super::{Told, agree, agree_from, config};
+use ref_base::{Config, Fault, ObjNo, QueueNo, Strength};
+use ref_objects::{Reference, Start};
+use std::test::Fail;
+
+#[test]
+fn what_is_made_is_found_by_its_number(rt: HostRuntime) -> Result<(), Fail> {
+    let story = [
+        (Do(New(0, 2)), Told::Object(1)),
+        (Do(New(1, 2)), Told::Object(2)),
+        (Do(New(1, 2)), Told::Object(3)),
+        (Do(Free(2)), Told::Yes),
+        (Do(Free(3)), Told::Yes),
+        (Do(New(1, 2)), Told::Object(4)),
+        (Ask(HasObject(1)), Told::Yes),
+        (Ask(HasObject(2)), Told::No),
+        (Ask(HasObject(4)), Told::Yes),
+        (Ask(ObjectCount), Told::Count(2)),
+        (Ask(NextNo), Told::Next(5)),
+    ];
+    agree(&rt, rt.alloc(), 3, &story)
+}
+
+#[test]
+fn a_new_object_has_null_fields_and_no_hold(rt: HostRuntime) -> Result<(), Fail> {
+    let story = [
+        (Ask(FieldCount(1)), Told::Count(0)),
+        (Do(New(0, 2)), Told::Object(1)),
+        (Ask(FieldCount(1)), Told::Count(2)),
+        (Ask(FieldOf(1, 1)), Told::Null),
+        (Ask(IsHeld(1)), Told::No),
+        (Ask(ReferenceOf(1)), Told::Nothing),
+    ];
+    agree(&rt, rt.alloc(), 1, &story)
+}
+
+#[test]
+fn a_field_is_written_alone(rt: HostRuntime) -> Result<(), Fail> {
+    let story = [
+        (Do(New(0, 2)), Told::Object(1)),
+        (Do(New(1, 2)), Told::Object(2)),
+        (Do(Store(0, 1, 1)), Told::Done),
+        (Do(Store(0, 2, 1)), Told::Refused(Fault::BadField)),
+        (Ask(FieldOf(1, 0)), Told::Null),
+        (Ask(FieldOf(1, 1)), Told::Object(2)),
+        (Ask(FieldOf(1, 2)), Told::Null),
+        (Ask(FieldOf(2, 1)), Told::Null),
+    ];
+    agree(&rt, rt.alloc(), 2, &story)
+}
+
+#[test]
+fn referent_and_stamp_are_those_of_a_reference(rt: HostRuntime) -> Result<(), Fail> {
+    let four_queues = Config {
+        queues: 4,
+        ..config(2)
+    };
+    let soft = Reference {
+        strength: Strength::Soft,
+        referent: Some(ObjNo(1)),
+        stamp: 7,
+        queue: Some(QueueNo(3)),
+    };
+    let cut = Reference {
+        stamp: 9,
+        referent: None,
+        ..soft
+    };
+    let story = [
+        (Do(New(0, 2)), Told::Object(1)),
+        (Set(ClockTo(7)), Told::Done),
+        (Do(Refer(Strength::Soft, 1, 0, Some(3), 2)), Told::Object(2)),
+        (Ask(ReferenceOf(2)), Told::Reference(soft)),
+        (Set(Stamp(1, 8)), Told::Done),
+        (Set(Stamp(2, 9)), Told::Done),
+        (Ask(ReferenceOf(1)), Told::Nothing),
+        (
+            Ask(ReferenceOf(2)),
+            Told::Reference(Reference { stamp: 9, ..soft }),
+        ),
+        (Set(Cut(2)), Told::Done),
+        (Ask(ReferenceOf(2)), Told::Reference(cut)),
+    ];
+    agree_from(&rt, rt.alloc(), four_queues, Start::FIRST, &story)
+}
+
+#[test]
+fn gaps_are_passed_over_and_closed(rt: HostRuntime) -> Result<(), Fail> {
+    let story = [
+        (Do(New(0, 2)), Told::Object(1)),
+        (Do(New(0, 2)), Told::Object(2)),
+        (Do(New(0, 2)), Told::Object(3)),
+        (Do(New(0, 2)), Told::Object(4)),
+        (Do(New(0, 2)), Told::Object(5)),
+        (Do(Free(3)), Told::Yes),
+        (Do(Free(4)), Told::Yes),
+        (Do(Free(4)), Told::No),
+        (Ask(FirstFrom(3)), Told::Object(5)),
+        (Set(CloseGaps), Told::Done),
+        (Ask(FirstFrom(3)), Told::Object(5)),
+        (Ask(FirstFrom(6)), Told::Nothing),
+        (Ask(ObjectCount), Told::Count(3)),
+    ];
+    agree(&rt, rt.alloc(), 5, &story)
+}
+
+#[test]
+fn a_cell_is_used_again_and_holds_nothing_of_before(rt: HostRuntime) -> Result<(), Fail> {
+    let story = [
+        (Do(New(0, 2)), Told::Object(1)),
+        (Do(Store(0, 0, 0)), Told::Done),
+        (Do(Free(1)), Told::Yes),
+        (Do(New(0, 2)), Told::Object(2)),
+        (Ask(HasObject(1)), Told::No),
+        (Ask(FieldOf(2, 0)), Told::Null),
+    ];
+    agree(&rt, rt.alloc(), 1, &story)
+}
+
+#[test]
+fn what_is_marked_is_counted_and_passed_over(rt: HostRuntime) -> Result<(), Fail> {
+    let story = [
+        (Do(New(0, 2)), Told::Object(1)),
+        (Do(New(0, 2)), Told::Object(2)),
+        (Do(New(0, 2)), Told::Object(3)),
+        (Do(New(0, 2)), Told::Object(4)),
+        (Do(New(0, 2)), Told::Object(5)),
+        (Ask(UnmarkedFrom(0)), Told::Object(1)),
+        (Do(Mark(2)), Told::Yes),
+        (Do(Mark(3)), Told::Yes),
+        // It is marked already, and there is none.
+        (Do(Mark(3)), Told::No),
+        (Do(Mark(6)), Told::No),
+        (Ask(IsMarked(3)), Told::Yes),
+        (Ask(IsMarked(1)), Told::No),
+        (Ask(IsMarked(6)), Told::No),
+        // Two of five are marked.
+        (Ask(UnmarkedCount), Told::Count(3)),
+        (Ask(UnmarkedFrom(2)), Told::Object(4)),
+        (Ask(UnmarkedFrom(6)), Told::Nothing),
+    ];
+    agree(&rt, rt.alloc(), 5, &story)
+}
+
+#[test]
+fn a_mark_goes_with_its_object(rt: HostRuntime) -> Result<(), Fail> {
+    let story = [
+        (Do(New(0, 2)), Told::Object(1)),
+        (Do(New(1, 2)), Told::Object(2)),
+        (Do(Mark(1)), Told::Yes),
+        (Do(Free(1)), Told::Yes),
+        (Ask(IsMarked(1)), Told::No),
+        // None of one is marked.
+        (Ask(UnmarkedCount), Told::Count(1)),
+        // The cell is used again.
+        (Do(New(0, 2)), Told::Object(3)),
+        (Ask(IsMarked(3)), Told::No),
+        (Do(Free(3)), Told::Yes),
+        (Ask(UnmarkedCount), Told::Count(1)),
+    ];
+    agree(&rt, rt.alloc(), 2, &story)
+}
+
+#[test]
+fn every_mark_is_taken_away(rt: HostRuntime) -> Result<(), Fail> {
+    let story = [
+        (Do(New(0, 2)), Told::Object(1)),
+        (Do(New(0, 2)), Told::Object(2)),
+        (Do(New(0, 2)), Told::Object(3)),
+        (Do(New(0, 2)), Told::Object(4)),
+        (Do(Mark(1)), Told::Yes),
+        (Do(Mark(4)), Told::Yes),
+        (Set(UnmarkAll), Told::Done),
+        // None of four is marked.
+        (Ask(UnmarkedCount), Told::Count(4)),
+        (Ask(IsMarked(1)), Told::No),
+        (Ask(IsMarked(4)), Told::No),
+        (Ask(ObjectCount), Told::Count(4)),
+    ];
+    agree(&rt, rt.alloc(), 4, &story)
+}

@@ -1,0 +1,100 @@
+//! Heaps whose memory runs out.
+
+use super::Ask::ObjectCount;
+use super::Call::{Ask, Do, Keep, Set};
+use super::Do::{CopySlot, DropSlot, Free, Mark, New, Refer, SetSlot, Store};
+use super::Keep::{Adopt, Hold, Mint, Release};
+use super::Set::{ClockTo, CloseGaps, Cut, Stamp, UnmarkAll};
+use super::{Call, M, Told, config, make_calls};
+use crate::arena::limited;
+use bumpalo::Bump;
+use ref_base::{Fault, ObjNo, SlotNo, Strength};
+use ref_objects::Objects;
+use std::alloc::Allocator;
+use std::process::Abort;
+use std::test::Fail;
+
+/// Each call once.
+const EACH_CALL: [(Call, Told); 18] = [
+    (Do(New(0, 8)), Told::Object(1)),
+    (Do(Refer(Strength::Soft, 1, 0, Some(0), 8)), Told::Object(2)),
+    (Do(Store(0, 7, 1)), Told::Done),
+    (Do(CopySlot(2, 1)), Told::Object(2)),
+    (Do(DropSlot(2)), Told::Done),
+    (Do(SetSlot(3, Some(1))), Told::Done),
+    (Set(ClockTo(5)), Told::Done),
+    (Set(Stamp(2, 5)), Told::Done),
+    (Set(Cut(2)), Told::Done),
+    (Keep(Hold(1)), Told::Held(2, 1)),
+    (Keep(Adopt(4)), Told::Object(2)),
+    (Keep(Mint(1)), Told::Held(1, 1)),
+    (Keep(Release), Told::Done),
+    (Do(Mark(1)), Told::Yes),
+    (Do(Free(1)), Told::Yes),
+    (Set(UnmarkAll), Told::Done),
+    (Set(CloseGaps), Told::Done),
+    (Ask(ObjectCount), Told::Count(1)),
+];
+
+#[test]
+fn after_new_no_call_takes_memory(rt: HostRuntime) -> Result<(), Fail> {
+    let memory = limited(rt.alloc(), 4_096)?;
+    let heap = Objects::new(&memory, config(3), 1)?;
+    let other = Objects::new(&memory, config(3), 2)?;
+    let _rest: Vec<u8, &Bump> = Vec::with_capacity(&memory, memory.chunk_capacity())?;
+    assert_eq!(rt; memory.chunk_capacity(), 0, "nothing is left");
+    make_calls(&rt, heap, other, &EACH_CALL);
+    assert_eq!(rt;
+        Objects::new(&memory, config(3), 2).err(),
+        Some(Fault::NoMemory)
+    );
+    Ok(())
+}
+
+/// Makes plain objects in slot 0 until no cell is free.
+fn fill<A: Allocator + Copy>(rt: &impl Abort, heap: &mut Objects<A>, cells: u32) {
+    for _object in 0..=cells {
+        if let Err(fault) = heap.alloc_obj(M, SlotNo(0), 2) {
+            assert_eq!(rt; fault, Fault::NoCell);
+            return;
+        }
+    }
+    assert!(rt; false, "it is never full");
+}
+
+/// Frees all objects but the first.
+fn free_all_but_one<A: Allocator + Copy>(heap: &mut Objects<A>) {
+    // No number is greater than the last of 32 bits.
+    for no in 2..heap.next_no().min(1 << 32) {
+        heap.free(ObjNo(no as u32));
+    }
+}
+
+#[test]
+fn after_new_no_memory_is_taken(rt: HostRuntime) -> Result<(), Fail> {
+    for cells in 1..60 {
+        let memory = limited(rt.alloc(), 192 * cells as usize + 256)?;
+        let mut heap = Objects::new(&memory, config(cells), 1)?;
+        let _rest: Vec<u8, &Bump> = Vec::with_capacity(&memory, memory.chunk_capacity())?;
+        assert_eq!(rt; memory.chunk_capacity(), 0, "nothing is left");
+        fill(&rt, &mut heap, cells);
+        // As the first object stays, the index fills with gaps again and again.
+        for _round in 0..20 {
+            free_all_but_one(&mut heap);
+            fill(&rt, &mut heap, cells);
+            assert_eq!(rt; heap.object_count(), cells as usize);
+            assert!(rt; heap.has_object(ObjNo(1)));
+        }
+    }
+    Ok(())
+}
+
+#[test]
+fn want_of_memory_is_told_by_new(rt: HostRuntime) -> Result<(), Fail> {
+    let memory = limited(rt.alloc(), 4_096)?;
+    assert_eq!(rt;
+        Objects::new(&memory, config(1_000), 1).err(),
+        Some(Fault::NoMemory)
+    );
+    Ok(())
+}

@@ -1,0 +1,291 @@
+//! What the calls of a heap answer.
+
+use super::Ask::{
+    Clock, FieldCount, FieldOf, FirstFrom, HasObject, HeapNo, HeldAfter, HeldFrom, HoldCount,
+    IsHeld, IsMarked, IsUnmarked, KindOf, NextNo, ObjectCount, QueueOf, ReferenceOf, ReferentOf,
+    Size, SlotAt, SlotCount, SlotOf, StampOf, UnmarkedCount, UnmarkedFrom,
+};
+use super::Call::{Ask, Do, Keep, Set, TurnToOther};
+use super::Do::{CopySlot, DropSlot, Free, Mark, New, NewOf, Refer, SetSlot, Store};
+use super::Keep::{Adopt, Hand, Hold, Leak, Mint, Release};
+use super::Set::{ClockTo, Cut, Stamp, UnmarkAll};
+use super::{Told, agree, agree_from, config};
+use ref_base::{Fault, Strength};
+use ref_objects::{Kind, Objects, Start};
+use std::test::Fail;
+
+/// A start at this object and this page.
+const fn start(obj: u32, page: u32) -> Start {
+    Start {
+        obj,
+        cycle: 0,
+        page,
+    }
+}
+
+#[test]
+fn no_cell_is_told_at_the_last_cell(rt: HostRuntime) -> Result<(), Fail> {
+    let story = [
+        (Do(New(0, 0)), Told::Object(1)),
+        (Do(New(1, 0)), Told::Object(2)),
+        (Do(New(2, 0)), Told::Refused(Fault::NoCell)),
+        (Do(DropSlot(1)), Told::Done),
+        (Do(Free(2)), Told::Yes),
+        (Do(New(2, 0)), Told::Object(3)),
+        (Ask(ObjectCount), Told::Count(2)),
+    ];
+    agree(&rt, rt.alloc(), 2, &story)
+}
+
+#[test]
+fn the_last_number_is_given_once(rt: HostRuntime) -> Result<(), Fail> {
+    let story = [
+        (Ask(NextNo), Told::Next(4_294_967_295)),
+        (Do(New(0, 0)), Told::Object(4_294_967_295)),
+        (Do(New(1, 0)), Told::Refused(Fault::NumbersSpent)),
+    ];
+    agree_from(&rt, rt.alloc(), config(8), start(u32::MAX, 1), &story)
+}
+
+#[test]
+fn numbers_begin_at_one_and_pages_end_below_two_to_the_32nd(rt: HostRuntime) {
+    // The cells, where it starts, and what it is refused. Cells 1 to 64 fill one page, and twice as many pages are
+    // there.
+    let table = [
+        (64, start(0, 1), Some(Fault::BadConfig)),
+        (64, start(1, 0), Some(Fault::BadConfig)),
+        (64, start(1, u32::MAX - 1), None),
+        (64, start(1, u32::MAX), Some(Fault::BadConfig)),
+        (65, start(1, u32::MAX - 1), Some(Fault::BadConfig)),
+        (0, Start::FIRST, Some(Fault::BadConfig)),
+    ];
+    for (row, &(cells, start, want)) in table.iter().enumerate() {
+        let made = Objects::starting(rt.alloc(), config(cells), 1, start);
+        assert_eq!(rt; made.err(), want, "row {row}");
+    }
+}
+
+#[test]
+fn sixteen_slots_eight_fields_and_no_more(rt: HostRuntime) -> Result<(), Fail> {
+    let story = [
+        (Do(New(15, 8)), Told::Object(1)),
+        (Do(New(0, 9)), Told::Refused(Fault::BadField)),
+        (Do(New(16, 9)), Told::Refused(Fault::NoSuchActor)),
+        (Do(NewOf(1, 0, 0)), Told::Refused(Fault::NoSuchActor)),
+        (Do(Store(15, 7, 15)), Told::Done),
+        (Do(Store(15, 8, 15)), Told::Refused(Fault::BadField)),
+        (Do(Store(0, 0, 15)), Told::Refused(Fault::EmptySlot)),
+        (Ask(FieldOf(1, 7)), Told::Object(1)),
+        (Ask(FieldOf(1, 6)), Told::Null),
+    ];
+    agree(&rt, rt.alloc(), 8, &story)
+}
+
+#[test]
+fn a_reference_is_made_as_it_is_told(rt: HostRuntime) -> Result<(), Fail> {
+    let soft = Strength::Soft;
+    let story = [
+        (Set(ClockTo(7)), Told::Done),
+        (
+            Do(Refer(soft, 1, 0, Some(0), 0)),
+            Told::Refused(Fault::EmptySlot),
+        ),
+        (Do(New(0, 0)), Told::Object(1)),
+        (
+            Do(Refer(soft, 1, 0, Some(1), 0)),
+            Told::Refused(Fault::BadQueue),
+        ),
+        (Do(Refer(soft, 1, 0, Some(0), 1)), Told::Object(2)),
+        (Ask(KindOf(2)), Told::Kind(Kind::Reference(soft))),
+        (Ask(ReferentOf(2)), Told::Object(1)),
+        (Ask(StampOf(2)), Told::Time(7)),
+        (Ask(QueueOf(2)), Told::Queue(0)),
+        (Ask(FieldCount(2)), Told::Count(1)),
+    ];
+    agree(&rt, rt.alloc(), 8, &story)
+}
+
+#[test]
+fn a_reference_is_stamped_and_cut(rt: HostRuntime) -> Result<(), Fail> {
+    let story = [
+        (Do(New(0, 0)), Told::Object(1)),
+        (Do(Refer(Strength::Weak, 1, 0, None, 0)), Told::Object(2)),
+        (Ask(StampOf(2)), Told::Time(0)),
+        (Set(Stamp(2, 9)), Told::Done),
+        (Set(Cut(2)), Told::Done),
+        (Set(Cut(1)), Told::Done),
+        (Ask(StampOf(2)), Told::Time(9)),
+        (Ask(ReferentOf(2)), Told::Null),
+        (Ask(KindOf(1)), Told::Kind(Kind::Plain)),
+        (Ask(KindOf(3)), Told::Nothing),
+    ];
+    agree(&rt, rt.alloc(), 8, &story)
+}
+
+#[test]
+fn slots_are_copied_dropped_and_set(rt: HostRuntime) -> Result<(), Fail> {
+    let story = [
+        (Do(New(0, 0)), Told::Object(1)),
+        (Do(CopySlot(1, 0)), Told::Object(1)),
+        (Ask(SlotOf(0)), Told::Object(1)),
+        (Do(DropSlot(0)), Told::Done),
+        (Ask(SlotOf(0)), Told::Null),
+        (Do(CopySlot(2, 0)), Told::Null),
+        (Do(SetSlot(2, Some(1))), Told::Done),
+        (Ask(SlotOf(2)), Told::Object(1)),
+        (Ask(SlotOf(16)), Told::Refused(Fault::NoSuchActor)),
+        (Ask(SlotCount), Told::Count(16)),
+        (Ask(SlotAt(1)), Told::Object(1)),
+        (Ask(SlotAt(3)), Told::Null),
+    ];
+    agree(&rt, rt.alloc(), 8, &story)
+}
+
+#[test]
+fn a_heap_tells_what_it_is(rt: HostRuntime) -> Result<(), Fail> {
+    let story = [
+        (Do(New(0, 0)), Told::Object(1)),
+        (Set(ClockTo(3)), Told::Done),
+        (Ask(Size), Told::Size(config(4))),
+        (Ask(HeapNo), Told::Heap(1)),
+        (Ask(Clock), Told::Time(3)),
+        (Ask(HasObject(1)), Told::Yes),
+        (Ask(IsHeld(1)), Told::No),
+        (Ask(ReferenceOf(1)), Told::Nothing),
+        (Ask(FirstFrom(1)), Told::Object(1)),
+        (Ask(FirstFrom(2)), Told::Nothing),
+    ];
+    agree(&rt, rt.alloc(), 4, &story)
+}
+
+#[test]
+fn a_hold_goes_back_to_its_own_heap(rt: HostRuntime) -> Result<(), Fail> {
+    let story = [
+        (Do(New(0, 0)), Told::Object(1)),
+        (TurnToOther, Told::Done),
+        (Do(New(0, 0)), Told::Object(1)),
+        (Keep(Hold(0)), Told::Held(1, 2)),
+        (TurnToOther, Told::Done),
+        (Keep(Release), Told::Refused(Fault::ForeignHold)),
+        // It came back.
+        (Keep(Hand), Told::Held(1, 2)),
+        (TurnToOther, Told::Done),
+        (Keep(Adopt(1)), Told::Object(1)),
+        (Ask(SlotOf(1)), Told::Object(1)),
+        (Ask(HoldCount), Told::Count(0)),
+    ];
+    agree(&rt, rt.alloc(), 8, &story)
+}
+
+#[test]
+fn each_hold_is_counted(rt: HostRuntime) -> Result<(), Fail> {
+    let story = [
+        (Do(New(0, 0)), Told::Object(1)),
+        (Do(New(1, 0)), Told::Object(2)),
+        (Keep(Hold(2)), Told::Refused(Fault::EmptySlot)),
+        (Keep(Mint(3)), Told::Refused(Fault::NoSuchObject)),
+        (Keep(Mint(2)), Told::Held(2, 1)),
+        (Ask(HoldCount), Told::Count(1)),
+        (Ask(HeldFrom(1)), Told::Object(2)),
+        (Do(Free(2)), Told::No),
+        (Keep(Release), Told::Done),
+        (Ask(HeldFrom(1)), Told::Nothing),
+        (Do(Free(2)), Told::Yes),
+    ];
+    agree(&rt, rt.alloc(), 8, &story)
+}
+
+#[test]
+fn what_is_held_is_walked_in_order(rt: HostRuntime) -> Result<(), Fail> {
+    let story = [
+        (Do(New(0, 0)), Told::Object(1)),
+        (Do(New(0, 0)), Told::Object(2)),
+        (Do(New(0, 0)), Told::Object(3)),
+        (Do(New(0, 0)), Told::Object(4)),
+        (Do(New(0, 0)), Told::Object(5)),
+        (Do(New(0, 0)), Told::Object(6)),
+        (Do(New(0, 0)), Told::Object(7)),
+        (Do(New(0, 0)), Told::Object(8)),
+        (Keep(Mint(2)), Told::Held(2, 1)),
+        (Keep(Leak), Told::Done),
+        (Keep(Mint(6)), Told::Held(6, 1)),
+        (Keep(Leak), Told::Done),
+        (Keep(Mint(6)), Told::Held(6, 1)),
+        (Keep(Leak), Told::Done),
+        // A leaked hold is counted on.
+        (Ask(HoldCount), Told::Count(3)),
+        (Ask(HeldFrom(0)), Told::Object(2)),
+        (Ask(HeldFrom(2)), Told::Object(2)),
+        (Ask(HeldFrom(3)), Told::Object(6)),
+        (Ask(HeldFrom(7)), Told::Nothing),
+        (Ask(HeldAfter(1)), Told::Object(2)),
+        (Ask(HeldAfter(2)), Told::Object(6)),
+        (Ask(HeldAfter(6)), Told::Nothing),
+        (Ask(HeldAfter(u32::MAX)), Told::Nothing),
+    ];
+    agree(&rt, rt.alloc(), 8, &story)
+}
+
+#[test]
+fn what_a_cycle_reaches_is_marked_and_the_rest_is_white(rt: HostRuntime) -> Result<(), Fail> {
+    let story = [
+        (Do(New(0, 0)), Told::Object(1)),
+        (Do(New(1, 0)), Told::Object(2)),
+        (Do(New(2, 0)), Told::Object(3)),
+        (Ask(UnmarkedCount), Told::Count(3)),
+        (Ask(UnmarkedFrom(1)), Told::Object(1)),
+        (Do(Mark(1)), Told::Yes),
+        (Do(Mark(2)), Told::Yes),
+        // It is marked already, and there is none.
+        (Do(Mark(2)), Told::No),
+        (Do(Mark(4)), Told::No),
+        (Ask(IsMarked(2)), Told::Yes),
+        (Ask(IsMarked(3)), Told::No),
+        (Ask(IsUnmarked(2)), Told::No),
+        (Ask(IsUnmarked(3)), Told::Yes),
+        // There is none.
+        (Ask(IsUnmarked(4)), Told::No),
+        (Ask(UnmarkedCount), Told::Count(1)),
+        (Ask(UnmarkedFrom(1)), Told::Object(3)),
+        (Ask(UnmarkedFrom(4)), Told::Nothing),
+    ];
+    agree(&rt, rt.alloc(), 8, &story)
+}
+
+#[test]
+fn a_freed_object_takes_its_mark_along(rt: HostRuntime) -> Result<(), Fail> {
+    let story = [
+        (Do(New(0, 0)), Told::Object(1)),
+        (Do(New(1, 0)), Told::Object(2)),
+        (Do(Mark(1)), Told::Yes),
+        (Do(Free(1)), Told::Yes),
+        (Ask(IsMarked(1)), Told::No),
+        (Ask(UnmarkedCount), Told::Count(1)),
+        // A new object is white, whatever cell it lies in.
+        (Do(New(0, 0)), Told::Object(3)),
+        (Ask(IsMarked(3)), Told::No),
+        (Ask(UnmarkedCount), Told::Count(2)),
+    ];
+    agree(&rt, rt.alloc(), 8, &story)
+}
+
+#[test]
+fn a_new_cycle_begins_with_no_mark(rt: HostRuntime) -> Result<(), Fail> {
+    let story = [
+        (Do(New(0, 0)), Told::Object(1)),
+        (Do(New(1, 0)), Told::Object(2)),
+        (Keep(Mint(2)), Told::Held(2, 1)),
+        (Keep(Leak), Told::Done),
+        (Do(Mark(1)), Told::Yes),
+        (Do(Mark(2)), Told::Yes),
+        (Ask(UnmarkedCount), Told::Count(0)),
+        (Ask(UnmarkedFrom(1)), Told::Nothing),
+        (Set(UnmarkAll), Told::Done),
+        (Ask(UnmarkedCount), Told::Count(2)),
+        (Ask(UnmarkedFrom(2)), Told::Object(2)),
+        // Only marks are taken away.
+        (Ask(IsHeld(2)), Told::Yes),
+        (Do(Mark(2)), Told::Yes),
+    ];
+    agree(&rt, rt.alloc(), 2, &story)
+}

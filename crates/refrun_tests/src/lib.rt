@@ -1,0 +1,21 @@
+//! The tests of what is printed, against texts that were worked out by hand: numbers, faults, strengths, steps, replies
+//! and rows; scripts and their traces; graph texts and their listings.
+//!
+//! A case is a row of a table: what is printed and its text, or an input and what it must print. Readers, writers and
+//! memory that fail are loops over such cases.
+#![tactic(auto)]
+
+#[cfg(test)]
+mod cases;
+#[cfg(test)]
+mod fakes;
+#[cfg(test)]
+mod graph_cases;
+#[cfg(test)]
+mod graph_texts;
+#[cfg(test)]
+mod memory;
+#[cfg(test)]
+mod printed;
+#[cfg(test)]
+mod scripts;
