@@ -236,7 +236,12 @@ fn collected(heap: &mut Marker, call: Collect) -> Told {
         Collect::GreyRoot(no) => heap.grey_root(ObjNo(no)),
         Collect::Cut(no) => heap.cut(ObjNo(no)),
         Collect::ToSweeping => heap.to_sweeping(),
-        Collect::ToIdle => heap.to_idle(),
+        Collect::ToIdle => {
+            if heap.has_doomed() {
+                return Told::No;
+            }
+            heap.to_idle();
+        }
     }
     Told::Done
 }

@@ -15,6 +15,15 @@ pub mod QueueLaws
 pub mod RowLaws
 pub mod RunLaws
 pub mod LegalQueues
+pub mod OneMore
+pub mod RowForms
+pub mod Lookups
+pub mod Reshaping
+pub mod ShownObjects
+pub mod Forgetting
+pub mod StillFound
+pub mod FoundLists
+pub mod NewClears
 mod ReplayExamples
 mod LegalExamples
 mod IllegalExamples

@@ -6,7 +6,7 @@ use Rattle.std.specs.Prelude.{slice_index_or, slice_set}
 use Rattle.std.specs.List.{AllByRecursion}
 use Rattle.std.proofs.lemmas.Bool.{eq-eqb, ne_eqb}
 use Rattle.ref_base.specs.QueueLists.{Lists, new_queue, was_put, with_parcel, with_taken}
-use Rattle.ref_base.specs.QueueRows.{Held, Hands, with_held, held_after, put_by, taken_by, closed_by}
+use Rattle.ref_base.specs.QueueRows.{HeldNotice, Hands, with_held, held_after, put_by, taken_by, closed_by}
 use Rattle.ref_base.specs.Worlds.{World, Notice, object_of, hand_of, queue_at, with_hand}
 use Rattle.ref_base.specs.Worlds.{with_queue}
 use Rattle.ref_base.specs.Replay.{notice_of, taken_out, took, put_in}
@@ -22,7 +22,7 @@ use Rattle.ref_base.proofs.SoundWorlds.{NoticeBelow, IsOwn, HasHand, IsSound}
 use Rattle.ref_base.proofs.SoundWorlds.{sound_hand, sound_queue}
 
 -- the hands as rows see them
-abbrev pub as_held : Option Notice → Option Held
+abbrev pub as_held : Option Notice → Option HeldNotice
 as_held None = None
 as_held (Some notice) = Some (record { object = notice.object; queue = notice.queue })
 

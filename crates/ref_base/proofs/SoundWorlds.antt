@@ -96,7 +96,7 @@ got_below count clock (Some r) below =
 
 shown_below : (count : ℕ) (d : List ℕ) (o : Object) → ObjectBelow count o → ObjectBelow count (shown d o)
 shown_below count d o below =
-    elim (cases_Bool (not (has d o.no) && refers_into d o.reference)) [
+    elim (cases_Bool (not (has d o.no) && refers_into (has d) o.reference)) [
       | inl clears ↦ simp clears (cleared_below count o.reference below)
       | inr keeps ↦ simp keeps below
     ]

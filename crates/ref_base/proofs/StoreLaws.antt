@@ -103,6 +103,11 @@ rising_from_sorted (n ∷ []) sorted = tt
 rising_from_sorted (n ∷ m ∷ ms) sorted =
     (less_from_cmp n m sorted.0.0, rising_from_sorted (m ∷ ms) sorted.1)
 
+-- so do those of the objects
+pub rising-objects_in : (es : List (ℕ × Stored)) → IsStrictlySortedBy nat_cmp (keys_of es)
+    → IsRising (numbers (objects_in es))
+rising-objects_in es sorted = rw (numbers-objects_in es) (rising_from_sorted (keys_of es) sorted)
+
 pub is_some-option_map : {X Y : Type 0} (f : X → Y) (o : Option X) → is_some (option_map f o) ≡ is_some o
 is_some-option_map f None = refl
 is_some-option_map f (Some x) = refl

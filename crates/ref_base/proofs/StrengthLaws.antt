@@ -3,8 +3,6 @@ use Rattle.std.proofs.Common.{◌≡◌, ℕ, true, false, refl, sym, ap, subst,
 use Rattle.std.proofs.Common.{List, [], ◌∷◌, map, Option, Some, None, inl, inr}
 use Rattle.std.proofs.lemmas.Bool.{cases_Bool, true≢false, false≢true}
 use Rattle.std.specs.List.{AllByRecursion}
-use Rattle.std.specs.List.Sorted.{IsStrictlySortedBy}
-use Rattle.std.specs.Ordering.{nat_cmp}
 use Rattle.ref_base.specs.Members.{has}
 use Rattle.ref_base.specs.Graphs.{Graph, Object, Reference, object_at, is_there, numbers}
 use Rattle.ref_base.specs.Paths.{Allowed, EndsPath, no_referents}
@@ -19,7 +17,6 @@ use Rattle.ref_base.specs.declared.reach.ObjectReach.{ObjectReach}
 use Rattle.ref_base.proofs.HasLaws.{has-cases, has-left, has-right, has-first, has-single}
 use Rattle.ref_base.proofs.PathLaws.{ends-wider}
 use Rattle.ref_base.proofs.SearchLaws.{reached, added_all-only, added_all-has}
-use Rattle.ref_base.proofs.StoreLaws.{rising_from_sorted}
 
 -- ---- what hangs on phantom references
 
@@ -238,15 +235,14 @@ module _ (g : Graph) (strong soft weak hung : List ℕ) where
     )
 
     -- the strengths that are read off what was found, by number, are those of all objects
-    pub AreStrengths_from : (ns : List ℕ) (listed : List ObjectReach) → numbers g.objects ≡ ns
-        → IsStrictlySortedBy nat_cmp ns → listed ≡ found_reaches strong soft weak hung ns → AreStrengths g listed
-    AreStrengths_from ns listed all sorted is =
-        let objects : map (λ l. l.object) listed ≡ ns =
-        ap (map (λ l. l.object)) is ∙ found_reaches-objects ns in
+    pub AreStrengths_from : (listed : List ObjectReach) → IsRising (numbers g.objects)
+        → listed ≡ found_reaches strong soft weak hung (numbers g.objects) → AreStrengths g listed
+    AreStrengths_from listed rising is =
+        let objects : map (λ l. l.object) listed ≡ numbers g.objects =
+        ap (map (λ l. l.object)) is ∙ found_reaches-objects (numbers g.objects) in
         record {
-          all = objects ∙ sym all;
-          by_number = subst IsRising (sym objects) (rising_from_sorted ns sorted);
+          all = objects;
+          by_number = subst IsRising (sym objects) rising;
           each = subst (AllByRecursion (λ l. HasStrength g l.object l.reach)) (sym is)
-              (found_reaches-each ns
-              (λ n h. there_from_numbers g.objects n (subst (λ ms. has ms n ≡ true) (sym all) h)));
+              (found_reaches-each (numbers g.objects) (there_from_numbers g.objects));
         }

@@ -167,13 +167,11 @@ emptied lists = map (λ ns. []) lists
 
 -- a cycle begins: nothing is scanned, and what is kept now is ever kept
 abbrev pub begun_state : State → World → State
-begun_state a w = record {
+begun_state a w = record a {
   world = w;
-  next = a.next;
   born = a.next;
   moments = [];
   scanned = emptied a.scanned;
-  left = a.left;
   doomed = [];
   cleared = [];
   found = emptied a.found;
@@ -215,14 +213,9 @@ shown d o = if is_new_clear d o then with_reference cleared o else o
 
 -- the mark ends: all new clears are cleared at once
 abbrev pub mark_ended : State → List ℕ → List (List ℕ) → State
-mark_ended a d found = record {
+mark_ended a d found = record a {
   world = with_phase
       (with_heap a.world (record a.world.heap { objects = map (λ o. shown d o) a.world.heap.objects })) Clearing;
-  next = a.next;
-  born = a.born;
-  moments = a.moments;
-  scanned = a.scanned;
-  left = a.left;
   doomed = d;
   cleared = new_clears a.world.heap.objects d;
   found = found;

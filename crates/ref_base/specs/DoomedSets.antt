@@ -22,19 +22,19 @@ pub record MayDoom (p : Policy) (g : Graph) (moments : List Graph) (d : List ℕ
       (m n : ℕ) → is_there g.objects m ≡ true → has d m ≡ false → has (targets_at (is_kept p) g.objects m) n ≡ true
       → has d n ≡ false
 
--- whether there is a number and it is among these
-abbrev pub is_among : List ℕ → Option ℕ → Bool
-is_among d None = false
-is_among d (Some n) = has d n
+-- whether there is a number, and it passes the test
+abbrev pub any_is : (ℕ → Bool) → Option ℕ → Bool
+any_is test None = false
+any_is test (Some n) = test n
 
--- whether this is a reference whose referent is one of these objects
-abbrev pub refers_into : List ℕ → Option Reference → Bool
-refers_into d None = false
-refers_into d (Some r) = is_among d r.referent
+-- whether this is a reference, it has a referent, and that passes the test
+abbrev pub refers_into : (ℕ → Bool) → Option Reference → Bool
+refers_into test None = false
+refers_into test (Some r) = any_is test r.referent
 
 -- whether the object is a reference outside the doomed whose referent is doomed
 abbrev pub is_new_clear : List ℕ → Object → Bool
-is_new_clear d o = not (has d o.no) && refers_into d o.reference
+is_new_clear d o = not (has d o.no) && refers_into (has d) o.reference
 
 -- the numbers of these
 abbrev pub new_clears : List Object → List ℕ → List ℕ

@@ -1,7 +1,6 @@
 -- What a contract sees of a graph's fields.
 use Rattle.std.specs.Prelude.{ℕ, List, map, Option, Some, None}
-use Rattle.ref_base.specs.Graphs.{Graph, Object, Reference}
-use Rattle.ref_base.specs.declared.graph.Graph.{Graph as Fields}
+use Rattle.ref_base.specs.Graphs.{Object, Reference}
 use Rattle.ref_base.specs.declared.stored.Link.{Link}
 use Rattle.ref_base.specs.declared.stored.Stored.{Stored}
 
@@ -17,7 +16,3 @@ object_of e = record { no = e.0; fields = e.1.fields; reference = reference_of e
 -- the objects that are stored
 abbrev pub objects_in : List (ℕ × Stored) → List Object
 objects_in es = map object_of es
-
--- the graph that the fields hold
-abbrev pub graph_of : {A : Type 0} → Fields A → Graph
-graph_of g = record { objects = objects_in g.objects.entries; roots = g.roots.keys }

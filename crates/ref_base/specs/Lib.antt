@@ -19,11 +19,13 @@ pub mod DoomedSets
 pub mod LeavingEdges
 pub mod QueueLists
 pub mod Heaps
+pub mod Orderly
 pub mod Worlds
 pub mod Told
 pub mod Replay
 pub mod Collectors
 pub mod Refusals
 pub mod CollectorRows
+pub mod Forgetting
 pub mod LegalTraces
 pub mod Words

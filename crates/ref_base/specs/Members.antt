@@ -1,10 +1,15 @@
 -- Whether a number is in a list, and a list without the first entry of a number.
-use Rattle.std.specs.Prelude.{ℕ, Bool, false, ◌||◌, ◌==◌, if◌then◌else◌, List, [], ◌∷◌}
+use Rattle.std.specs.Prelude.{◌≡◌, ℕ, Bool, false, ◌||◌, ◌==◌, if◌then◌else◌, List, [], ◌∷◌}
 
 -- whether n is among the numbers
 abbrev pub has : List ℕ → ℕ → Bool
 has [] n = false
 has (m ∷ ms) n = (m == n) || has ms n
+
+-- no number stands twice
+abbrev pub AreDistinct : List ℕ → Type 0
+AreDistinct [] = Unit {0}
+AreDistinct (n ∷ ns) = (has ns n ≡ false) × AreDistinct ns
 
 -- the list without the first entry whose number is n, where there is one
 abbrev pub without_first : {T : Type 0} → (T → ℕ) → List T → ℕ → List T

@@ -12,13 +12,13 @@ use Rattle.ref_base.specs.declared.reply.Reply.TheVariants as replies
 use Rattle.ref_base.specs.declared.row.Row.{Row}
 
 -- a notice in a hand: the reference that it reports, and the queue that it is for
-pub record Held : Type 0 where
+pub record HeldNotice : Type 0 where
   pub object : ℕ
   pub queue : ℕ
 
 -- what the hand of each mutator and worker holds
 abbrev pub Hands : Type 0
-Hands = Actor → Option Held
+Hands = Actor → Option HeldNotice
 
 abbrev pub is_same_actor : Actor → Actor → Bool
 is_same_actor (Mutator m) (Mutator k) = m == k
@@ -30,7 +30,7 @@ abbrev pub empty_hands : Hands
 empty_hands who = None
 
 -- the hands with what one of them holds replaced
-abbrev pub with_held : Hands → Actor → Option Held → Hands
+abbrev pub with_held : Hands → Actor → Option HeldNotice → Hands
 with_held hands who held other = if is_same_actor other who then held else hands other
 
 -- the hands after one more row: an unhook, a hand or a poll that gave a notice fills one; an added put, an adopt or a
@@ -47,7 +47,7 @@ held_after hands (Release who) replies.Done = with_held hands who None
 held_after hands step reply = hands
 
 -- the reference that the held notice reports, where there is one and it is for queue q
-abbrev pub if_for : ℕ → Option Held → List ℕ
+abbrev pub if_for : ℕ → Option HeldNotice → List ℕ
 if_for q None = []
 if_for q (Some held) = if held.queue == q then held.object ∷ [] else []
 

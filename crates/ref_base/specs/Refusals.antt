@@ -91,9 +91,9 @@ abbrev pub reference_refusal : Heap → Option ℕ → Option Fault
 reference_refusal h None = Some EmptySlot
 reference_refusal h (Some n) = unless (is_some (reference_at h n)) NotAReference None
 
--- the reference's slot is s, and the other one is t
+-- of a get into slot d, or a comparison with it, of the reference in slot s
 abbrev pub get_refusal : Heap → ℕ → ℕ → ℕ → Option Fault
-get_refusal h m s t = unless (has_slots h m s t) NoSuchActor (reference_refusal h (slot_at h m s))
+get_refusal h m d s = unless (has_slots h m d s) NoSuchActor (reference_refusal h (slot_at h m s))
 
 abbrev pub clear_refusal : Heap → ℕ → ℕ → Option Fault
 clear_refusal h m s = unless (has_slot h m s) NoSuchActor (reference_refusal h (slot_at h m s))
@@ -170,9 +170,9 @@ refusal a (steps.Store m s i v) = store_refusal a.world.heap m s i v
 refusal a (steps.Load m d s i) = load_refusal a.world.heap m d s i
 refusal a (steps.Copy m d s) = copy_refusal a.world.heap m d s
 refusal a (steps.Drop m s) = drop_refusal a.world.heap m s
-refusal a (steps.Get m d s) = get_refusal a.world.heap m s d
+refusal a (steps.Get m d s) = get_refusal a.world.heap m d s
 refusal a (steps.Clear m s) = clear_refusal a.world.heap m s
-refusal a (steps.RefersTo m s v) = get_refusal a.world.heap m s v
+refusal a (steps.RefersTo m s v) = get_refusal a.world.heap m v s
 refusal a (steps.Unhook m s) =
     unless (has_slot a.world.heap m s) NoSuchActor
     (unless_full (hand_of a.world (Mutator m)) (unhook_refusal a.world.heap (slot_at a.world.heap m s)))

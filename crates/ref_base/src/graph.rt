@@ -1,14 +1,12 @@
 //! Object graphs.
 
 ghost use Rattle.std.specs.Prelude.{◌≡◌, ◌≤◌, length, ℕ};
-ghost use Rattle.std.specs.BTreeMap.{IsOrdered};
-ghost use Rattle.std.specs.Map.{keys_of};
 ghost use Rattle.std.specs.Map.Iter.{ShowsInOrder, deref};
-ghost use Rattle.std.specs.Ordering.{nat_cmp};
 ghost use Rattle.std.specs.Option.{option_map};
-ghost use Rattle.ref_base.specs.GraphViews.{graph_of, object_of, reference_of};
+ghost use Rattle.ref_base.specs.GraphViews.{object_of, reference_of};
 ghost use Rattle.ref_base.specs.GraphAnswers.{AnswersObject, after_object, AnswersRoot, after_root};
-ghost use Rattle.ref_base.specs.Graphs.{empty_graph, is_there, object_at, plain_object, reference_object};
+ghost use Rattle.ref_base.specs.Graphs.{empty_graph, is_there, numbers, object_at, plain_object, reference_object};
+ghost use Rattle.ref_base.specs.Strengths.{IsRising};
 
 use crate::stored::{Fields, Link, Stored};
 use crate::{Fault, MOST_FIELDS, ObjNo, Strength};
@@ -17,6 +15,7 @@ use std::alloc::{Allocator, Global};
 use std::collections::BTreeMap;
 use std::collections::btree_map::Keys;
 use std::hash::{BuildHasherDefault, FoldHasher};
+use std::marker::Model;
 
 /// An object graph: objects, what they refer to, and roots, the numbers that a program reaches by itself (package
 /// `java.lang.ref` of Java SE 17). That objects have numbers and at most 8 fields is this project's profile. All its
@@ -28,10 +27,19 @@ pub struct Graph<A: Allocator = Global> {
     roots: IndexSet<ObjNo, BuildHasherDefault<FoldHasher>, A>,
 }
 
+impl<A: Allocator> Model for Graph<A> {
+    ghost use Rattle.ref_base.specs.GraphViews.{objects_in};
+    ghost use Rattle.ref_base.specs.Graphs.{Graph as Data};
+
+    ghost Value = { Data };
+
+    ghost view = { λ g. record { objects = objects_in g.objects.entries; roots = g.roots.keys } };
+}
+
 impl<A: Allocator + Copy> Graph<A> {
     /// No object and no root. Takes no memory.
     pub fn new(alloc: A) -> Self
-        ensures { graph_of result ≡ empty_graph }
+        ensures { result ≡ empty_graph }
     {
         Graph {
             objects: BTreeMap::new(alloc),
@@ -46,8 +54,8 @@ impl<A: Allocator + Copy> Graph<A> {
     /// Tried in this order: `BadField` where there are more than 8 fields, false where the number is there, `NoMemory`
     /// where a growth is refused. In each of these nothing has changed. Only true takes memory. In logarithmic time.
     pub fn add_object(&mut self, no: ObjNo, fields: &[Option<ObjNo>]) -> Result<bool, Fault>
-        ensures answer { AnswersObject (graph_of self.old) (plain_object no fields.now) result }
-        ensures after { graph_of self.new ≡ after_object (graph_of self.old) (plain_object no fields.now) result }
+        ensures answer { AnswersObject self.old (plain_object no fields.now) result }
+        ensures after { self.new ≡ after_object self.old (plain_object no fields.now) result }
     {
         self.add(no, fields, None)
     }
@@ -61,9 +69,8 @@ impl<A: Allocator + Copy> Graph<A> {
         referent: Option<ObjNo>,
         fields: &[Option<ObjNo>],
     ) -> Result<bool, Fault>
-        ensures answer { AnswersObject (graph_of self.old) (reference_object no strength referent fields.now) result }
-        ensures after { graph_of self.new
-            ≡ after_object (graph_of self.old) (reference_object no strength referent fields.now) result }
+        ensures answer { AnswersObject self.old (reference_object no strength referent fields.now) result }
+        ensures after { self.new ≡ after_object self.old (reference_object no strength referent fields.now) result }
     {
         let link = Link { strength, referent };
         self.add(no, fields, Some(link))
@@ -76,9 +83,9 @@ impl<A: Allocator + Copy> Graph<A> {
         fields: &[Option<ObjNo>],
         link: Option<Link>,
     ) -> Result<bool, Fault>
-        ensures answer { AnswersObject (graph_of self.old)
+        ensures answer { AnswersObject self.old
             (record { no = no; fields = fields.now; reference = reference_of link }) result }
-        ensures after { graph_of self.new ≡ after_object (graph_of self.old)
+        ensures after { self.new ≡ after_object self.old
             (record { no = no; fields = fields.now; reference = reference_of link }) result }
     {
         if fields.len() > MOST_FIELDS {
@@ -103,8 +110,8 @@ impl<A: Allocator + Copy> Graph<A> {
     /// begins there. The one error is `NoMemory`, where a growth is refused: then nothing has changed, and it was no
     /// root. In expected constant time, amortized.
     pub fn add_root(&mut self, no: ObjNo) -> Result<bool, Fault>
-        ensures answer { AnswersRoot (graph_of self.old) no result }
-        ensures after { graph_of self.new ≡ after_root (graph_of self.old) no result }
+        ensures answer { AnswersRoot self.old no result }
+        ensures after { self.new ≡ after_root self.old no result }
     {
         match self.roots.insert(no) {
             Ok(is_new) => Ok(is_new),
@@ -114,28 +121,29 @@ impl<A: Allocator + Copy> Graph<A> {
 
     /// Whether there is an object of this number.
     pub(crate) fn has_object(&self, no: ObjNo) -> bool
-        ensures { result ≡ is_there (graph_of self.now).objects no }
+        ensures { result ≡ is_there self.now.objects no }
     {
         self.objects.contains_key(&no)
     }
 
     /// What is stored of the object of this number.
     pub(crate) fn stored(&self, no: ObjNo) -> Option<&Stored>
-        ensures { option_map (λ s. object_of (no, s.now)) result ≡ object_at (graph_of self.now).objects no }
+        ensures { option_map (λ s. object_of (no, s.now)) result ≡ object_at self.now.objects no }
     {
         self.objects.get(&no)
     }
 
     /// The roots, in the order in which they were added.
     pub(crate) fn roots(&self) -> &[ObjNo]
-        ensures { result.now ≡ (graph_of self.now).roots }
+        ensures { result.now ≡ self.now.roots }
     {
         self.roots.as_slice()
     }
+
     /// The numbers of the objects, which rise.
     pub(crate) fn numbers(&self) -> Keys<'_, ObjNo, Stored>
-        ensures rest { result ≡ keys_of self.now.objects.entries }
-        ensures sorted { IsOrdered nat_cmp self.now.objects }
+        ensures rest { result ≡ numbers self.now.objects }
+        ensures sorted { IsRising (numbers self.now.objects) }
         ensures runs { ShowsInOrder (deref {X = ℕ}) }
     {
         self.objects.keys()

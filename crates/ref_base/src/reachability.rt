@@ -1,16 +1,12 @@
 //! How strongly the objects of a graph are reachable.
 
 ghost use Rattle.std.specs.Prelude.{◌≡◌, IfOk, OnErr, []};
-ghost use Rattle.std.specs.BTreeMap.{IsOrdered};
-ghost use Rattle.std.specs.Map.{keys_of};
-ghost use Rattle.std.specs.Ordering.{nat_cmp};
-ghost use Rattle.ref_base.specs.Graphs.{object_at};
-ghost use Rattle.ref_base.specs.GraphViews.{graph_of};
+ghost use Rattle.ref_base.specs.Graphs.{numbers, object_at};
 ghost use Rattle.ref_base.specs.GraphAnswers.{AnswersStrength};
 ghost use Rattle.ref_base.specs.Paths.{if_any};
 ghost use Rattle.ref_base.specs.Searches.{added_all, phantom_referents, phantom_referent_at, AreFound};
 ghost use Rattle.ref_base.specs.Searches.{found_reach, found_reaches};
-ghost use Rattle.ref_base.specs.Strengths.{AreStrengths};
+ghost use Rattle.ref_base.specs.Strengths.{AreStrengths, IsRising};
 
 use crate::search::{Allow, Numbers, add_if_any, search, was_found};
 use crate::{Fault, Graph, ObjNo, ObjectReach, Reach, Strength};
@@ -19,7 +15,7 @@ use std::alloc::{AllocError, Allocator};
 
 // The referent of the object of this number, if it is a phantom reference.
 fn phantom_referent<A: Allocator + Copy>(graph: &Graph<A>, no: ObjNo) -> Option<ObjNo>
-    ensures { if_any result ≡ phantom_referent_at (object_at (graph_of graph.now).objects no) }
+    ensures { if_any result ≡ phantom_referent_at (object_at graph.now.objects no) }
 {
     match graph.stored(no)?.link {
         Some(link) if link.strength == Strength::Phantom => link.referent,
@@ -35,7 +31,7 @@ fn hung_on<A: Allocator + Copy, B: Allocator + Copy>(
     reached: &Numbers<B>,
 ) -> Result<Numbers<B>, AllocError>
     ensures { IfOk result (λ hung. hung.keys
-        ≡ added_all (graph_of graph.now).objects [] (phantom_referents (graph_of graph.now).objects reached.now.keys)) }
+        ≡ added_all graph.now.objects [] (phantom_referents graph.now.objects reached.now.keys)) }
 {
     let mut hung = IndexSet::new(alloc);
     for no in reached.as_slice() {
@@ -59,7 +55,7 @@ fn find<A: Allocator + Copy, B: Allocator + Copy>(
     alloc: B,
     graph: &Graph<A>,
 ) -> Result<Found<B>, AllocError>
-    ensures { IfOk result (λ f. AreFound (graph_of graph.now) f.strong.keys f.soft.keys f.weak.keys f.hung.keys) }
+    ensures { IfOk result (λ f. AreFound graph.now f.strong.keys f.soft.keys f.weak.keys f.hung.keys) }
 {
     let strong = search(alloc, graph, Allow::NoReferents)?;
     let soft = search(alloc, graph, Allow::Soft)?;
@@ -101,8 +97,8 @@ impl<B: Allocator> Found<B> {
         graph: &Graph<A>,
     ) -> Result<Vec<ObjectReach, B>, AllocError>
         ensures ok { IfOk result (λ listed. listed.items ≡ found_reaches self.now.strong.keys self.now.soft.keys
-            self.now.weak.keys self.now.hung.keys (keys_of graph.now.objects.entries)) }
-        ensures sorted { IsOrdered nat_cmp graph.now.objects }
+            self.now.weak.keys self.now.hung.keys (numbers graph.now.objects)) }
+        ensures sorted { IsRising (numbers graph.now.objects) }
     {
         graph
             .numbers()
@@ -125,7 +121,7 @@ pub fn strength_of<A: Allocator + Copy, B: Allocator + Copy>(
     graph: &Graph<A>,
     no: ObjNo,
 ) -> Result<Reach, Fault>
-    ensures { AnswersStrength (graph_of graph.now) no result }
+    ensures { AnswersStrength graph.now no result }
 {
     if !graph.has_object(no) {
         return Err(Fault::NoSuchObject);
@@ -142,7 +138,7 @@ pub fn strengths<A: Allocator + Copy, B: Allocator + Copy>(
     alloc: B,
     graph: &Graph<A>,
 ) -> Result<Vec<ObjectReach, B>, Fault>
-    ensures ok { IfOk result (λ listed. AreStrengths (graph_of graph.now) listed.items) }
+    ensures ok { IfOk result (λ listed. AreStrengths graph.now listed.items) }
     ensures err { OnErr result (result ≡ Err Fault.NoMemory) }
 {
     match list(alloc, graph) {
@@ -156,7 +152,7 @@ fn list<A: Allocator + Copy, B: Allocator + Copy>(
     alloc: B,
     graph: &Graph<A>,
 ) -> Result<Vec<ObjectReach, B>, AllocError>
-    ensures { IfOk result (λ listed. AreStrengths (graph_of graph.now) listed.items) }
+    ensures { IfOk result (λ listed. AreStrengths graph.now listed.items) }
 {
     let found = find(alloc, graph)?;
     let listed = found.reach_of_all(alloc, graph)?;

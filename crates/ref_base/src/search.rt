@@ -2,7 +2,7 @@
 //! work: it goes on from one number after the other, and puts what it finds at the end.
 
 ghost use Rattle.std.specs.Prelude.{◌≡◌, OnOk, IfOk};
-ghost use Rattle.ref_base.specs.GraphViews.{graph_of, reference_of};
+ghost use Rattle.ref_base.specs.GraphViews.{reference_of};
 ghost use Rattle.ref_base.specs.Members.{has};
 ghost use Rattle.ref_base.specs.Paths.{allowed_referent, if_any, present, targets_at};
 ghost use Rattle.ref_base.specs.Searches.{allows, allowed, added, added_all, IsReached};
@@ -64,7 +64,7 @@ fn add<A: Allocator + Copy, B: Allocator + Copy>(
     graph: &Graph<A>,
     no: ObjNo,
 ) -> Result<(), AllocError>
-    ensures { OnOk result (seen.new.keys ≡ added (graph_of graph.now).objects seen.old.keys no) }
+    ensures { OnOk result (seen.new.keys ≡ added graph.now.objects seen.old.keys no) }
 {
     if graph.has_object(no) {
         seen.insert(no)?;
@@ -78,7 +78,7 @@ pub(crate) fn add_if_any<A: Allocator + Copy, B: Allocator + Copy>(
     graph: &Graph<A>,
     value: Option<ObjNo>,
 ) -> Result<(), AllocError>
-    ensures { OnOk result (seen.new.keys ≡ added_all (graph_of graph.now).objects seen.old.keys (if_any value)) }
+    ensures { OnOk result (seen.new.keys ≡ added_all graph.now.objects seen.old.keys (if_any value)) }
 {
     match value {
         Some(no) => add(seen, graph, no),
@@ -92,7 +92,7 @@ fn add_fields<A: Allocator + Copy, B: Allocator + Copy>(
     graph: &Graph<A>,
     fields: &[Option<ObjNo>],
 ) -> Result<(), AllocError>
-    ensures { OnOk result (seen.new.keys ≡ added_all (graph_of graph.now).objects seen.old.keys (present fields.now)) }
+    ensures { OnOk result (seen.new.keys ≡ added_all graph.now.objects seen.old.keys (present fields.now)) }
 {
     for field in fields {
         add_if_any(seen, graph, *field)?;
@@ -106,7 +106,7 @@ fn add_roots<A: Allocator + Copy, B: Allocator + Copy>(
     graph: &Graph<A>,
     roots: &[ObjNo],
 ) -> Result<(), AllocError>
-    ensures { OnOk result (seen.new.keys ≡ added_all (graph_of graph.now).objects seen.old.keys roots.now) }
+    ensures { OnOk result (seen.new.keys ≡ added_all graph.now.objects seen.old.keys roots.now) }
 {
     for root in roots {
         add(seen, graph, *root)?;
@@ -122,8 +122,7 @@ fn add_targets<A: Allocator + Copy, B: Allocator + Copy>(
     allow: Allow,
 ) -> Result<(), AllocError>
     ensures { OnOk result (seen.new.keys
-        ≡ added_all (graph_of graph.now).objects seen.old.keys
-        (targets_at (allowed allow) (graph_of graph.now).objects no)) }
+        ≡ added_all graph.now.objects seen.old.keys (targets_at (allowed allow) graph.now.objects no)) }
 {
     if let Some(stored) = graph.stored(no) {
         add_fields(seen, graph, stored.fields.as_slice())?;
@@ -139,7 +138,7 @@ pub(crate) fn search<A: Allocator + Copy, B: Allocator + Copy>(
     graph: &Graph<A>,
     allow: Allow,
 ) -> Result<Numbers<B>, AllocError>
-    ensures { IfOk result (λ seen. IsReached (allowed allow) (graph_of graph.now) seen.keys) }
+    ensures { IfOk result (λ seen. IsReached (allowed allow) graph.now seen.keys) }
 {
     let mut seen = IndexSet::new(alloc);
     add_roots(&mut seen, graph, graph.roots())?;

@@ -7,7 +7,7 @@ use Rattle.ref_base.specs.Graphs.{Object, Reference, object_at}
 use Rattle.ref_base.specs.Heaps.{reference_at, reference_in, with_stamp, got_at}
 use Rattle.ref_base.specs.Heaps.{changed_at, changed_reference, with_changed, with_reference}
 use Rattle.ref_base.specs.Paths.{is_soft}
-use Rattle.ref_mark.specs.Marks.{Mark, renewed}
+use Rattle.ref_mark.specs.CycleHeaps.{CycleHeap, renewed}
 
 -- ---- a get renews a soft reference alone
 
@@ -45,7 +45,7 @@ changed_same (o ∷ os) n f r found same_reference =
     ]
 
 -- a stamp at the clock renews a soft reference
-pub stamped_renewed : (k : Mark) (n : ℕ) (r : Reference) (value : Option ℕ) → reference_at k.heap n ≡ Some r
+pub stamped_renewed : (k : CycleHeap) (n : ℕ) (r : Reference) (value : Option ℕ) → reference_at k.heap n ≡ Some r
     → is_soft r.strength ≡ true → is_some value ≡ true
     → record k { heap = with_changed k.heap n (with_reference (with_stamp k.heap.clock)) } ≡ renewed k n value
 stamped_renewed k n r None found soft some = absurd (false≢true some)
@@ -55,7 +55,7 @@ stamped_renewed k n r (Some value) found soft some =
     (changed_alike k.heap.objects n (with_stamp k.heap.clock) (got_at k.heap.clock) r found alike)
 
 -- another reference isn't renewed
-pub unstamped_renewed : (k : Mark) (n : ℕ) (r : Reference) (value : Option ℕ) → reference_at k.heap n ≡ Some r
+pub unstamped_renewed : (k : CycleHeap) (n : ℕ) (r : Reference) (value : Option ℕ) → reference_at k.heap n ≡ Some r
     → is_soft r.strength ≡ false → k ≡ renewed k n value
 unstamped_renewed k n r None found other = refl
 unstamped_renewed k n r (Some value) found other =
@@ -64,6 +64,6 @@ unstamped_renewed k n r (Some value) found other =
     (sym (changed_same k.heap.objects n (got_at k.heap.clock) r found as_it_was))
 
 -- nor is one that answered null
-pub unrenewed : (k : Mark) (n : ℕ) (value : Option ℕ) → is_some value ≡ false → k ≡ renewed k n value
+pub unrenewed : (k : CycleHeap) (n : ℕ) (value : Option ℕ) → is_some value ≡ false → k ≡ renewed k n value
 unrenewed k n None none = refl
 unrenewed k n (Some value) none = absurd (true≢false none)

@@ -1,39 +1,38 @@
 -- A cycle's begin: nothing is marked, then all roots become grey.
 use Rattle.std.proofs.Common.{◌≡◌, ℕ, ◌+◌, ◌<◌, Bool, true, false, not, refl, sym, ap, subst, ◌∙◌, arith}
-use Rattle.std.proofs.Common.{[], ◌∷◌, ◌++◌, length, Some, None, inl, inr}
+use Rattle.std.proofs.Common.{[], ◌∷◌, ◌++◌, length, None, inl, inr}
 use Rattle.std.proofs.lemmas.Bool.{and_parts, false≢true}
+use Rattle.ref_base.specs.Members.{AreDistinct}
 use Rattle.ref_base.specs.Members.{has}
 use Rattle.ref_base.specs.Graphs.{Graph, is_there}
 use Rattle.ref_base.specs.KeptPaths.{is_kept}
-use Rattle.ref_base.specs.Heaps.{Heap}
 use Rattle.ref_base.specs.Worlds.{graph_of, policy_of, pending_numbers}
 use Rattle.ref_base.specs.Refusals.{is_empty, begin_refusal}
 use Rattle.ref_base.specs.Replay.{begun as world_begun}
 use Rattle.ref_base.specs.Collectors.{State}
-use Rattle.ref_base.specs.CollectorRows.{IsRow, IsAnswer, begun_state}
+use Rattle.ref_base.specs.CollectorRows.{Accepts, begun_state}
 use Rattle.ref_base.specs.declared.urgency.Urgency.{Urgency}
 use Rattle.ref_base.specs.declared.phase.Phase.TheVariants.{Idle}
-use Rattle.ref_base.specs.declared.fault.Fault.{Fault}
 use Rattle.ref_base.specs.declared.step.Step.TheVariants as steps
 use Rattle.ref_base.specs.declared.reply.Reply.TheVariants as replies
 use Rattle.ref_base.proofs.HasLaws.{has-left}
 use Rattle.ref_base.proofs.PathLaws.{root_ends, target_ends}
-use Rattle.ref_mark.specs.Marks.{Mark, policy_in, is_black, shaded_all, roots_of, whitened, begun}
-use Rattle.ref_mark.specs.Standing.{AreDistinct, Stands}
+use Rattle.ref_mark.specs.CycleHeaps.{CycleHeap, policy_in, is_black, shaded_all, roots_of, whitened, begun}
+use Rattle.ref_mark.specs.Standing.{Stands}
 use Rattle.ref_mark.proofs.Shading.{MarkingBut, shaded_all-only, shaded_all-append, shaded_all_marking, some_left}
 use Rattle.ref_mark.proofs.Passed.{begin_passed}
 use Rattle.ref_mark.proofs.PlainStates.{plain_state, plain_state-is, marking_stands}
-use Rattle.ref_mark.proofs.FoundLists.{joined-emptied, length-emptied, AreFound-emptied}
+use Rattle.ref_base.proofs.FoundLists.{joined-emptied, length-emptied, AreFound-emptied}
 
 -- the state that begins, in which it is said so whether an object is left
-abbrev pub state_begun : Mark → State → ℕ → Urgency → Bool → State
+abbrev pub state_begun : CycleHeap → State → ℕ → Urgency → Bool → State
 state_begun k a now urgent left =
     let s = plain_state k Idle a in
     let c = begun_state s (world_begun s.world now urgent (k.cycle + 1)) in
     record c { moments = graph_of c.world ∷ []; left = left }
 
 -- all roots are still to be shaded
-whitened_marking : (k : Mark) (a : State) (now : ℕ) (urgent : Urgency) (left : Bool)
+whitened_marking : (k : CycleHeap) (a : State) (now : ℕ) (urgent : Urgency) (left : Bool)
     → ((n : ℕ) → is_there k.heap.objects n ≡ true → n < k.next) → length a.scanned ≡ length k.found
     → MarkingBut (whitened k now urgent) (state_begun k a now urgent left)
     ((graph_of (state_begun k a now urgent left).world).roots ++ []) []
@@ -74,16 +73,16 @@ whitened_marking k a now urgent left below same =
     }
 
 -- the mark that begins, once all roots are shaded
-abbrev mark_begun : Mark → State → ℕ → Urgency → Mark
+abbrev mark_begun : CycleHeap → State → ℕ → Urgency → CycleHeap
 mark_begun k a now urgent =
     shaded_all (whitened k now urgent) (roots_of k.heap ++ pending_numbers a.world.pending)
 
-mark_begun-is : (k : Mark) (a : State) (now : ℕ) (urgent : Urgency)
+mark_begun-is : (k : CycleHeap) (a : State) (now : ℕ) (urgent : Urgency)
     → mark_begun k a now urgent ≡ shaded_all (begun k now urgent) (pending_numbers a.world.pending)
 mark_begun-is k a now urgent =
     shaded_all-append (whitened k now urgent) (roots_of k.heap) (pending_numbers a.world.pending)
 
-mark_begun-only : (k : Mark) (a : State) (now : ℕ) (urgent : Urgency)
+mark_begun-only : (k : CycleHeap) (a : State) (now : ℕ) (urgent : Urgency)
     → mark_begun k a now urgent
     ≡ record (whitened k now urgent) {
       marked = (mark_begun k a now urgent).marked;
@@ -93,68 +92,55 @@ mark_begun-only k a now urgent =
     shaded_all-only (whitened k now urgent) (roots_of k.heap ++ pending_numbers a.world.pending)
 
 -- then what holds in a mark holds
-begun_marking : (k : Mark) (a : State) (now : ℕ) (urgent : Urgency) (left : Bool) → Stands k a
+begun_marking : (k : CycleHeap) (a : State) (now : ℕ) (urgent : Urgency) (left : Bool) → Stands k a
     → MarkingBut (mark_begun k a now urgent) (state_begun k a now urgent left) [] []
 begun_marking k a now urgent left stands =
     let w = whitened k now urgent in
     let b = state_begun k a now urgent left in
     let g : Graph = graph_of b.world in
     shaded_all_marking w b g.roots [] [] (λ n root there. inl (root_ends (is_kept (policy_in w)) g n there root))
-    (whitened_marking k a now urgent left stands.below (stands.scanners ∙ sym stands.finders))
+    (whitened_marking k a now urgent left stands.orderly.below (stands.scanners ∙ sym stands.finders))
 
-begun_stands : (k : Mark) (a : State) (now : ℕ) (urgent : Urgency) → Stands k a
+begun_stands : (k : CycleHeap) (a : State) (now : ℕ) (urgent : Urgency) → Stands k a
     → Stands (mark_begun k a now urgent)
     (state_begun k a now urgent (not (is_empty (mark_begun k a now urgent).grey)))
 begun_stands k a now urgent stands =
-    let j : Mark = mark_begun k a now urgent in
+    let j : CycleHeap = mark_begun k a now urgent in
     let b = state_begun k a now urgent (not (is_empty j.grey)) in
     let only = mark_begun-only k a now urgent in
-    subst (λ (i : Mark). Stands i b) (sym only)
+    subst (λ (i : CycleHeap). Stands i b) (sym only)
     (marking_stands (record (whitened k now urgent) { marked = j.marked; grey = j.grey }) b refl refl refl (omega arith)
-    stands.rising stands.below stands.slots (length-emptied a.scanned ∙ stands.scanners)
+    (record {
+      rising = stands.orderly.rising;
+      below = stands.orderly.below;
+      slots = stands.orderly.slots;
+    }) (length-emptied a.scanned ∙ stands.scanners)
     (length-emptied k.found ∙ stands.finders)
-    (subst (λ (i : Mark). MarkingBut i b [] []) only
+    (subst (λ (i : CycleHeap). MarkingBut i b [] []) only
     (begun_marking k a now urgent (not (is_empty j.grey)) stands)))
 
-begun_is_row : (k : Mark) (a : State) (now : ℕ) (urgent : Urgency) → Stands k a
-    → begin_refusal Idle k.heap.clock k.cycle now ≡ None
-    → IsRow (plain_state k Idle a)
-    (record { step = steps.Begin now urgent; reply = replies.Cycle (k.cycle + 1) })
+begun_is_row : (k : CycleHeap) (a : State) (now : ℕ) (urgent : Urgency) → Stands k a
+    → Accepts (plain_state k Idle a) (steps.Begin now urgent) (replies.Cycle (k.cycle + 1))
     (state_begun k a now urgent (not (is_empty (mark_begun k a now urgent).grey)))
-begun_is_row k a now urgent stands none =
-    let j : Mark = mark_begun k a now urgent in
+begun_is_row k a now urgent stands =
+    let j : CycleHeap = mark_begun k a now urgent in
     let left : Bool = not (is_empty j.grey) in
     let b = state_begun k a now urgent left in
     let but : MarkingBut j b [] [] = begun_marking k a now urgent left stands in
     let policy : policy_of b.world ≡ policy_in j =
-    sym (ap (λ (i : Mark). policy_in i) (mark_begun-only k a now urgent)) in
-    subst (λ f. IsAnswer (plain_state k Idle a) f (steps.Begin now urgent) (replies.Cycle (k.cycle + 1)) b) (sym none)
+    sym (ap (λ (i : CycleHeap). policy_in i) (mark_begun-only k a now urgent)) in
     (refl, (left, refl, λ some. some_left j b but.coloured but.reached policy some))
 
 -- a begin that isn't refused
-pub begin_row : (k : Mark) (a : State) (now : ℕ) (urgent : Urgency) → Stands k a
+pub begin_row : (k : CycleHeap) (a : State) (now : ℕ) (urgent : Urgency) → Stands k a
     → begin_refusal k.phase k.heap.clock k.cycle now ≡ None
-    → (b : State) × IsRow a (record { step = steps.Begin now urgent; reply = replies.Cycle (k.cycle + 1) }) b
+    → (b : State) × Accepts a (steps.Begin now urgent) (replies.Cycle (k.cycle + 1)) b
     × Stands (shaded_all (begun k now urgent) (pending_numbers a.world.pending)) b
 begin_row k a now urgent stands none =
     let idle : k.phase ≡ Idle = begin_passed k now none in
-    let early : begin_refusal Idle k.heap.clock k.cycle now ≡ None =
-    subst (λ p. begin_refusal p k.heap.clock k.cycle now ≡ None) idle none in
     let b = state_begun k a now urgent (not (is_empty (mark_begun k a now urgent).grey)) in (
       b,
-      subst (λ (s : State). IsRow s (record { step = steps.Begin now urgent; reply = replies.Cycle (k.cycle + 1) }) b)
-          (sym (plain_state-is k a Idle stands idle refl)) (begun_is_row k a now urgent stands early),
-      subst (λ (j : Mark). Stands j b) (mark_begun-is k a now urgent) (begun_stands k a now urgent stands),
+      subst (λ (s : State). Accepts s (steps.Begin now urgent) (replies.Cycle (k.cycle + 1)) b)
+          (sym (plain_state-is k a Idle stands idle refl)) (begun_is_row k a now urgent stands),
+      subst (λ (j : CycleHeap). Stands j b) (mark_begun-is k a now urgent) (begun_stands k a now urgent stands),
     )
-
--- a begin that is refused
-pub refused_begin : (k : Mark) (a : State) (now : ℕ) (urgent : Urgency) (fault : Fault) → Stands k a
-    → begin_refusal k.phase k.heap.clock k.cycle now ≡ Some fault
-    → IsRow a (record { step = steps.Begin now urgent; reply = replies.Refused fault }) a
-refused_begin k a now urgent fault stands some =
-    let same : begin_refusal a.world.phase a.world.heap.clock a.world.cycle now
-    ≡ begin_refusal k.phase k.heap.clock k.cycle now =
-    ap (λ p. begin_refusal p a.world.heap.clock a.world.cycle now) stands.phase
-    ∙ ap (λ (h : Heap). begin_refusal k.phase h.clock a.world.cycle now) stands.heap
-    ∙ ap (λ c. begin_refusal k.phase k.heap.clock c now) stands.cycle in
-    subst (λ f. IsAnswer a f (steps.Begin now urgent) (replies.Refused fault) a) (sym (same ∙ some)) (refl, refl)

@@ -5,17 +5,18 @@ use Rattle.std.proofs.Common.{List, [], ◌∷◌, ◌++◌, map, Option, Some, 
 use Rattle.std.proofs.lemmas.Bool.{cases_Bool, false≢true, true≢false, eqb-true, eq-eqb, ne_eqb}
 use Rattle.std.proofs.lemmas.Bool.{and_right, or_left}
 use Rattle.ref_base.specs.Members.{has}
-use Rattle.ref_base.specs.Graphs.{Object, Reference, is_there}
-use Rattle.ref_base.specs.DoomedSets.{is_among, refers_into, is_new_clear}
+use Rattle.ref_base.specs.Graphs.{Object, is_there}
 use Rattle.ref_base.specs.Heaps.{changed_at, with_changed, changed_in, one_more, made}
 use Rattle.ref_base.specs.CollectorRows.{shown}
 use Rattle.ref_base.specs.Refusals.{is_in}
 use Rattle.ref_base.specs.declared.phase.Phase.{Phase}
 use Rattle.ref_base.specs.declared.phase.Phase.TheVariants.{Idle, Marking, Clearing, Sweeping}
-use Rattle.ref_mark.specs.Marks.{Mark, is_white, is_past_mark, is_doomed, doomed, young, with_made}
+use Rattle.ref_mark.specs.CycleHeaps.{is_in_cycle, CycleHeap, is_white, is_past_mark, is_doomed, doomed, young}
+use Rattle.ref_mark.specs.CycleHeaps.{with_made}
 use Rattle.ref_objects.specs.Grounds.{unmarked}
 use Rattle.ref_mark.specs.Standing.{shown_heap}
-use Rattle.ref_mark.proofs.OneMore.{has-one_more}
+use Rattle.ref_base.proofs.OneMore.{has-one_more}
+use Rattle.ref_base.proofs.ShownObjects.{map-shown_none}
 
 -- ---- what isn't marked
 
@@ -76,7 +77,7 @@ unmarked-push (p ∷ os) o marked more new within others =
 -- ---- the doomed
 
 -- the list of the doomed has the doomed
-pub has-doomed : (k : Mark) (n : ℕ) → has (doomed k) n ≡ is_doomed k n
+pub has-doomed : (k : CycleHeap) (n : ℕ) → has (doomed k) n ≡ is_doomed k n
 has-doomed k n =
     elim (cases_Bool (is_past_mark k.phase)) [
       | inl past ↦ simp past (has-unmarked k.heap.objects k.marked n)
@@ -84,22 +85,22 @@ has-doomed k n =
     ]
 
 -- nor does a changed object that keeps its number
-pub doomed-changed : (k : Mark) (n : ℕ) (f : Object → Object) → ((o : Object) → (f o).no ≡ o.no)
+pub doomed-changed : (k : CycleHeap) (n : ℕ) (f : Object → Object) → ((o : Object) → (f o).no ≡ o.no)
     → doomed (record k { heap = with_changed k.heap n f }) ≡ doomed k
 doomed-changed k n f keeps =
     ap (λ (ns : List ℕ). if is_past_mark k.phase then ns else []) (unmarked-changed k.heap.objects k.marked n f keeps)
 
-pub doomed-changed_in : (k : Mark) (held : Option ℕ) (f : Object → Object) → ((o : Object) → (f o).no ≡ o.no)
+pub doomed-changed_in : (k : CycleHeap) (held : Option ℕ) (f : Object → Object) → ((o : Object) → (f o).no ≡ o.no)
     → doomed (record k { heap = changed_in k.heap held f }) ≡ doomed k
 doomed-changed_in k None f keeps = refl
 doomed-changed_in k (Some n) f keeps = doomed-changed k n f keeps
 
 -- past the mark a cycle has begun
-pub past_is_not_idle : (phase : Phase) → is_past_mark phase ≡ true → is_in phase Idle ≡ false
-past_is_not_idle Idle past = sym past
-past_is_not_idle Marking past = refl
-past_is_not_idle Clearing past = refl
-past_is_not_idle Sweeping past = refl
+pub past_is_in_cycle : (phase : Phase) → is_past_mark phase ≡ true → is_in_cycle phase ≡ true
+past_is_in_cycle Idle past = past
+past_is_in_cycle Marking past = refl
+past_is_in_cycle Clearing past = refl
+past_is_in_cycle Sweeping past = refl
 
 -- and no mark runs
 pub past_is_not_marking : (phase : Phase) → is_past_mark phase ≡ true → is_in phase Marking ≡ false
@@ -125,7 +126,7 @@ is_there-above os n below =
     ]
 
 -- past the mark, what is made is marked
-unmarked-young : (k : Mark) (os : List Object) (o : Object) → is_in k.phase Idle ≡ false → is_there os o.no ≡ false
+unmarked-young : (k : CycleHeap) (os : List Object) (o : Object) → is_in_cycle k.phase ≡ true → is_there os o.no ≡ false
     → k.heap.objects ≡ os ++ o ∷ []
     → unmarked (young k o.no).heap.objects (young k o.no).marked ≡ unmarked os k.marked
 unmarked-young k os o begun new is =
@@ -144,54 +145,34 @@ unmarked-young k os o begun new is =
           (λ n other. has-one_more k.marked o.no n ∙ ap (λ b. b || has k.marked n) other))
     ]
 
-young-phase : (k : Mark) (n : ℕ) → (young k n).phase ≡ k.phase
+pub young-phase : (k : CycleHeap) (n : ℕ) → (young k n).phase ≡ k.phase
 young-phase k n =
-    elim (cases_Bool (is_in k.phase Idle)) [
-      | inl idle ↦ simp idle refl
-      | inr begun ↦ elim (cases_Bool (is_white k n)) [
+    elim (cases_Bool (is_in_cycle k.phase)) [
+      | inl begun ↦ elim (cases_Bool (is_white k n)) [
         | inl white ↦ simp (begun, white) refl
         | inr marked ↦ simp (begun, marked) refl
       ]
+      | inr idle ↦ simp idle refl
     ]
 
 -- what is made is not doomed, and dooms nothing
-pub doomed-made : (k : Mark) (m d : ℕ) (o : Object) → is_there k.heap.objects o.no ≡ false
+pub doomed-made : (k : CycleHeap) (m d : ℕ) (o : Object) → is_there k.heap.objects o.no ≡ false
     → doomed (with_made k m d o) ≡ doomed k
 doomed-made k m d o new =
-    let more : Mark = record k { heap = made k.heap m d o; next = k.next + 1 } in
+    let more : CycleHeap = record k { heap = made k.heap m d o; next = k.next + 1 } in
     let phase : (with_made k m d o).phase ≡ k.phase = young-phase more o.no in
     elim (cases_Bool (is_past_mark k.phase)) [
       | inl past ↦
           let still : is_past_mark (with_made k m d o).phase ≡ true = ap is_past_mark phase ∙ past in
           simp (past, still)
-          (unmarked-young more k.heap.objects o (past_is_not_idle k.phase past) new refl)
+          (unmarked-young more k.heap.objects o (past_is_in_cycle k.phase past) new refl)
       | inr before ↦
           let still : is_past_mark (with_made k m d o).phase ≡ false = ap is_past_mark phase ∙ before in
           simp (before, still) refl
     ]
 
--- ---- what is shown where nothing is doomed
-
-is_among-none : (referent : Option ℕ) → is_among [] referent ≡ false
-is_among-none None = refl
-is_among-none (Some n) = refl
-
-refers_into-none : (r : Option Reference) → refers_into [] r ≡ false
-refers_into-none None = refl
-refers_into-none (Some r) = is_among-none r.referent
-
-pub is_new_clear-none : (o : Object) → is_new_clear [] o ≡ false
-is_new_clear-none o = refers_into-none o.reference
-
-pub shown-none : (o : Object) → shown [] o ≡ o
-shown-none o = let none : is_new_clear [] o ≡ false = is_new_clear-none o in simp none refl
-
-pub map-shown_none : (os : List Object) → map (λ o. shown [] o) os ≡ os
-map-shown_none [] = refl
-map-shown_none (o ∷ os) = ap (λ p. p ∷ map (λ q. shown [] q) os) (shown-none o) ∙ ap (λ ps. o ∷ ps) (map-shown_none os)
-
 -- before a mark has ended, mutators read the heap as it is
-pub shown_heap-before : (k : Mark) → is_past_mark k.phase ≡ false → shown_heap k ≡ k.heap
+pub shown_heap-before : (k : CycleHeap) → is_past_mark k.phase ≡ false → shown_heap k ≡ k.heap
 shown_heap-before k before =
     let none : doomed k ≡ [] = simp before refl in
     ap (λ (d : List ℕ). record k.heap { objects = map (λ o. shown d o) k.heap.objects }) none

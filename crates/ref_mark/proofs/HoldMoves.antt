@@ -1,21 +1,30 @@
 -- Holds come and go, and what is held comes into a slot.
 use Rattle.std.proofs.Common.{◌≡◌, ℕ, ◌+◌, ◌*◌, true, false, ◌==◌, ◌||◌, refl, sym, ap, subst, ◌∙◌}
-use Rattle.std.proofs.Common.{List, [], ◌∷◌, ◌++◌, length, Option, Some, ◌⊎◌, inl, inr}
+use Rattle.std.proofs.Common.{List, [], ◌∷◌, ◌++◌, length, Option, Some, None, ◌⊎◌, inl, inr}
 use Rattle.std.specs.Prelude.{slice_set}
-use Rattle.std.proofs.lemmas.Bool.{cases_Bool, or_cases, or_left, or_right, eqb-true}
+use Rattle.std.proofs.lemmas.Bool.{cases_Bool, and_parts, or_cases, or_left, or_right, eqb-true}
 use Rattle.std.proofs.lemmas.List.{length-set}
 use Rattle.ref_base.specs.Members.{has}
 use Rattle.ref_base.specs.Paths.{present}
 use Rattle.ref_base.specs.Heaps.{Heap, slot_at, with_slot, with_hold, without_hold, one_more, one_fewer}
 use Rattle.ref_base.specs.Worlds.{graph_of, pending_numbers}
+use Rattle.ref_base.specs.Refusals.{has_slot}
 use Rattle.ref_base.specs.Collectors.{State}
+use Rattle.ref_base.specs.declared.fault.Fault.{Fault}
+use Rattle.ref_base.specs.declared.fault.Fault.TheVariants.{NoSuchActor, ForeignHold}
 use Rattle.ref_base.specs.CollectorRows.{ticked, on_heap}
-use Rattle.ref_mark.specs.Marks.{Mark, is_white}
+use Rattle.ref_objects.specs.Grounds.{is_own, held_refusal, release_refusal}
+use Rattle.ref_mark.specs.CycleHeaps.{CycleHeap, is_white}
+use Rattle.ref_mark.specs.MarkCalls.{HoldStep, Take, Mint, Adopt, Release, hold_refusal_in, heap_after, with_hold_of}
+use Rattle.ref_mark.specs.MarkCalls.{unless_refused}
+use Rattle.ref_mark.specs.MarkRows.{IsNamed, KeepsStanding}
+use Rattle.ref_mark.specs.MarkViews.{ground_of}
 use Rattle.ref_mark.specs.Standing.{Stands}
-use Rattle.ref_mark.proofs.OneMore.{has-one_more}
+use Rattle.ref_base.proofs.OneMore.{has-one_more}
+use Rattle.ref_base.proofs.RowForms.{unless_parts}
 use Rattle.ref_mark.proofs.Moves.{IsMove}
 use Rattle.ref_mark.proofs.MovedStates.{moved_stands}
-use Rattle.ref_mark.proofs.Lookups.{has-present_at, has-present_set}
+use Rattle.ref_base.proofs.Lookups.{has-present_at, has-present_set}
 use Rattle.ref_mark.proofs.RootFacts.{slot_root, hold_root, pending_root, root_cases, root_is_not_white}
 use Rattle.ref_mark.proofs.MoveKinds.{rooted, rooted_move}
 
@@ -33,7 +42,7 @@ has-one_fewer (i ∷ is) n m held =
           ]
     ]
 
-module _ (k : Mark) (a : State) (stands : Stands k a) where
+module _ (k : CycleHeap) (a : State) (stands : Stands k a) where
   -- the roots are the heap's, and the pending references
   roots_are : (graph_of a.world).roots ≡ present k.heap.slots ++ k.heap.holds ++ pending_numbers a.world.pending
   roots_are = ap (λ (h : Heap). present h.slots ++ h.holds ++ pending_numbers a.world.pending) stands.heap
@@ -72,9 +81,11 @@ module _ (k : Mark) (a : State) (stands : Stands k a) where
       (with_hold a.world.heap n) a.next (ap (λ (h : Heap). with_hold h n) stands.heap) stands.next
 
   -- one of what a slot holds
-  pub slot_hold_stands : (m s n : ℕ) → slot_at k.heap m s ≡ Some n
-      → Stands (record k { heap = with_hold k.heap n }) (ticked (on_heap a (with_hold a.world.heap n)))
-  slot_hold_stands m s n is =
+  pub slot_hold_stands : (m s : ℕ) (held : Option ℕ) → slot_at k.heap m s ≡ held
+      → held_refusal (ground_of k) held ≡ None
+      → Stands (record k { heap = with_hold_of k.heap held }) (ticked (on_heap a (with_hold_of a.world.heap held)))
+  slot_hold_stands m s None is accepted = absurd (cc)
+  slot_hold_stands m s (Some n) is accepted =
       hold_stands n
       (subst (λ ns. has ns n ≡ true) (sym roots_are)
       (slot_root (present k.heap.slots) k.heap.holds (pending_numbers a.world.pending) n
@@ -130,3 +141,33 @@ module _ (k : Mark) (a : State) (stands : Stands k a) where
       ]))
       (with_slot (without_hold a.world.heap n) m d (Some n)) a.next
       (ap (λ (h : Heap). with_slot (without_hold h n) m d (Some n)) stands.heap) stands.next
+
+-- what isn't refused leaves a heap that stands for the state with that hold more or fewer
+held_stands : (k : CycleHeap) (a : State) (step : HoldStep) → Stands k a → IsNamed a step
+    → hold_refusal_in k step ≡ None
+    → Stands (record k { heap = heap_after k.heap step }) (ticked (on_heap a (heap_after a.world.heap step)))
+held_stands k a (Take m s) stands named accepted =
+    let held = slot_at k.heap m s in
+    let same : slot_at a.world.heap m s ≡ held = ap (λ (h : Heap). slot_at h m s) stands.heap in
+    subst
+    (λ (v : Option ℕ).
+    Stands (record k { heap = with_hold_of k.heap held }) (ticked (on_heap a (with_hold_of a.world.heap v)))) (sym same)
+    (slot_hold_stands k a stands m s held refl
+    (unless_parts (has_slot k.heap m s) NoSuchActor (held_refusal (ground_of k) held) accepted).1)
+held_stands k a (Mint n) stands named accepted = hold_stands k a stands n named
+held_stands k a (Adopt m d hold) stands named accepted =
+    let later = (unless_parts (has_slot k.heap m d) NoSuchActor (release_refusal (ground_of k) hold) accepted).1 in
+    let own = (unless_parts (is_own (ground_of k) hold) ForeignHold None later).0 in
+    adopted_stands k a stands m d hold.object
+    (and_parts (hold.heap_no == k.heap_no) (has k.heap.holds hold.object) own).1
+held_stands k a (Release hold) stands named accepted = without_hold_stands k a stands hold.object
+
+held_by : (k : CycleHeap) (step : HoldStep) (refused : Option Fault) → hold_refusal_in k step ≡ refused → (a : State)
+    → Stands k a → IsNamed a step
+    → Stands (unless_refused refused (λ fault. k) (record k { heap = heap_after k.heap step }))
+    (unless_refused refused (λ fault. a) (ticked (on_heap a (heap_after a.world.heap step))))
+held_by k step None is a stands named = held_stands k a step stands named is
+held_by k step (Some fault) is a stands named = stands
+
+pub each_hold : (k : CycleHeap) (step : HoldStep) → KeepsStanding k step
+each_hold k step = held_by k step (hold_refusal_in k step) refl

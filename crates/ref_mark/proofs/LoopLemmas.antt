@@ -11,8 +11,8 @@ use Rattle.ref_base.specs.Heaps.{Heap, reference_at, reference_in}
 use Rattle.ref_base.specs.declared.urgency.Urgency.{Urgency}
 use Rattle.ref_objects.specs.Grounds.{fields_in, least_from, AllFrom, IsInOrder}
 use Rattle.ref_mark.specs.Worklists.{first_in}
-use Rattle.ref_mark.specs.Marks.{Mark, is_white, shaded, shaded_all, shaded_if_any, policy_in}
-use Rattle.ref_mark.specs.Marks.{whitened, begun, roots_of}
+use Rattle.ref_mark.specs.CycleHeaps.{CycleHeap, is_white, shaded, shaded_all, shaded_if_any, policy_in}
+use Rattle.ref_mark.specs.CycleHeaps.{whitened, begun, roots_of}
 use Rattle.ref_mark.proofs.Shading.{greyed, shaded-only, shaded_all-only, shaded_all-append}
 use Rattle.ref_mark.proofs.Shading.{shaded_other, shaded_white, own-greyed}
 
@@ -23,32 +23,32 @@ present-append [] ys = refl
 present-append (Some n ∷ xs) ys = ap (λ ns. n ∷ ns) (present-append xs ys)
 present-append (None ∷ xs) ys = present-append xs ys
 
-shaded_one : (k : Mark) (value : Option ℕ) → shaded_all k (present (value ∷ [])) ≡ shaded_if_any k value
+shaded_one : (k : CycleHeap) (value : Option ℕ) → shaded_all k (present (value ∷ [])) ≡ shaded_if_any k value
 shaded_one k None = refl
 shaded_one k (Some n) = refl
 
 -- what is held at one place more is shaded
-pub shaded_more : (start k : Mark) (held : List (Option ℕ)) (place : ℕ) → place < length held
+pub shaded_more : (start k : CycleHeap) (held : List (Option ℕ)) (place : ℕ) → place < length held
     → k ≡ shaded_all start (present (take place held))
     → shaded_if_any k (slice_index_or held place None) ≡ shaded_all start (present (take (place + 1) held))
 shaded_more start k held place within so_far =
     let value = slice_index_or held place None in
-    ap (λ (j : Mark). shaded_if_any j value) so_far
+    ap (λ (j : CycleHeap). shaded_if_any j value) so_far
     ∙ sym (shaded_one (shaded_all start (present (take place held))) value)
     ∙ sym (shaded_all-append start (present (take place held)) (present (value ∷ [])))
     ∙ ap (shaded_all start)
     (sym (ap present (take_more held place None within) ∙ present-append (take place held) (value ∷ [])))
 
 -- shading leaves the heap as it is
-pub shaded_heap : (start k : Mark) (ns : List ℕ) → k ≡ shaded_all start ns → k.heap ≡ start.heap
-shaded_heap start k ns is = ap (λ (j : Mark). j.heap) (is ∙ shaded_all-only start ns)
+pub shaded_heap : (start k : CycleHeap) (ns : List ℕ) → k ≡ shaded_all start ns → k.heap ≡ start.heap
+shaded_heap start k ns is = ap (λ (j : CycleHeap). j.heap) (is ∙ shaded_all-only start ns)
 
-pub shaded_once-heap : (k : Mark) (n : ℕ) → (shaded k n).heap ≡ k.heap
-shaded_once-heap k n = ap (λ (j : Mark). j.heap) (shaded-only k n)
+pub shaded_once-heap : (k : CycleHeap) (n : ℕ) → (shaded k n).heap ≡ k.heap
+shaded_once-heap k n = ap (λ (j : CycleHeap). j.heap) (shaded-only k n)
 
 -- ---- the parts of a scan and of a begin
 
-shaded_any : (k : Mark) (value : Option ℕ) → shaded_if_any k value ≡ shaded_all k (if_any value)
+shaded_any : (k : CycleHeap) (value : Option ℕ) → shaded_if_any k value ≡ shaded_all k (if_any value)
 shaded_any k None = refl
 shaded_any k (Some n) = refl
 
@@ -58,11 +58,11 @@ targets_of-parts allow None = refl
 targets_of-parts allow (Some o) = refl
 
 -- shading keeps what the cycle goes by
-shaded_policy : (start : Mark) (ns : List ℕ) → policy_in (shaded_all start ns) ≡ policy_in start
+shaded_policy : (start : CycleHeap) (ns : List ℕ) → policy_in (shaded_all start ns) ≡ policy_in start
 shaded_policy start ns = ap policy_in (shaded_all-only start ns)
 
 -- the fields first, and then the referent that is kept
-pub shaded_targets : (start k : Mark) (n : ℕ) (reference : Option Reference) (referent : Option ℕ)
+pub shaded_targets : (start k : CycleHeap) (n : ℕ) (reference : Option Reference) (referent : Option ℕ)
     → reference_at start.heap n ≡ reference
     → k ≡ shaded_all start (present (fields_in (object_at start.heap.objects n)))
     → if_any referent ≡ allowed_referent (is_kept (policy_in k)) reference
@@ -75,24 +75,24 @@ shaded_targets start k n reference referent own fields kept =
     kept ∙ ap (λ (p : Policy). allowed_referent (is_kept p) reference) policy
     ∙ ap (allowed_referent (is_kept (policy_in start))) (sym own) in
     shaded_any k referent ∙ ap (shaded_all k) same
-    ∙ ap (λ (j : Mark). shaded_all j (allowed_referent (is_kept (policy_in start)) (reference_in o))) fields
+    ∙ ap (λ (j : CycleHeap). shaded_all j (allowed_referent (is_kept (policy_in start)) (reference_in o))) fields
     ∙ sym (shaded_all-append start front (allowed_referent (is_kept (policy_in start)) (reference_in o)))
     ∙ sym (ap (shaded_all start) (targets_of-parts (is_kept (policy_in start)) o))
 
 -- all objects become white, then the slots are shaded, and then the holds
-pub begun_by_parts : (k white slots held : Mark) (now : ℕ) (how : Urgency) → white ≡ whitened k now how
+pub begun_by_parts : (k white slots held : CycleHeap) (now : ℕ) (how : Urgency) → white ≡ whitened k now how
     → slots ≡ shaded_all white (present white.heap.slots) → held ≡ shaded_all slots slots.heap.holds
     → held ≡ begun k now how
 begun_by_parts k white slots held now how whitened_is slots_is held_is =
     let heap : slots.heap ≡ white.heap = shaded_heap white slots (present white.heap.slots) slots_is in
     held_is ∙ ap (λ (h : Heap). shaded_all slots h.holds) heap
-    ∙ ap (λ (j : Mark). shaded_all j white.heap.holds) slots_is
+    ∙ ap (λ (j : CycleHeap). shaded_all j white.heap.holds) slots_is
     ∙ sym (shaded_all-append white (present white.heap.slots) white.heap.holds)
-    ∙ ap (λ (j : Mark). shaded_all j (roots_of j.heap)) whitened_is
+    ∙ ap (λ (j : CycleHeap). shaded_all j (roots_of j.heap)) whitened_is
 
-pub begun_cycle : (k : Mark) (now : ℕ) (how : Urgency) → (begun k now how).cycle ≡ k.cycle + 1
+pub begun_cycle : (k : CycleHeap) (now : ℕ) (how : Urgency) → (begun k now how).cycle ≡ k.cycle + 1
 begun_cycle k now how =
-    ap (λ (j : Mark). j.cycle) (shaded_all-only (whitened k now how) (roots_of k.heap))
+    ap (λ (j : CycleHeap). j.cycle) (shaded_all-only (whitened k now how) (roots_of k.heap))
 
 -- ---- hold by hold
 
@@ -107,7 +107,7 @@ still_held None ns = []
 still_held (Some n) ns = drop_below n ns
 
 -- What holds as the loop goes on: what is still to be shaded begins with the next, and then all will be shaded.
-pub record IsHeldFrom (start k : Mark) (next : Option ℕ) (holds : List ℕ) : Type 0 where
+pub record IsHeldFrom (start k : CycleHeap) (next : Option ℕ) (holds : List ℕ) : Type 0 where
   pub first : first_in (still_held next holds) ≡ next
   pub rest : shaded_all k (still_held next holds) ≡ shaded_all start holds
 
@@ -196,18 +196,18 @@ none_is_some : {n : ℕ} → None ≡ Some n → ⊥
 none_is_some is = absurd (cc)
 
 -- an object that is shaded already isn't shaded again
-shaded_again : (k : Mark) (n : ℕ) → shaded (shaded k n) n ≡ shaded k n
+shaded_again : (k : CycleHeap) (n : ℕ) → shaded (shaded k n) n ≡ shaded k n
 shaded_again k n =
     elim (cases_Bool (is_white k n)) [
       | inl white ↦
           let once = shaded_white k n white in
           let own : (n == n) ≡ true = eq-eqb n n refl in
-          ap (λ (j : Mark). shaded j n) once ∙ shaded_other (greyed k n) n (own-greyed k n n own) ∙ sym once
-      | inr other ↦ ap (λ (j : Mark). shaded j n) (shaded_other k n other)
+          ap (λ (j : CycleHeap). shaded j n) once ∙ shaded_other (greyed k n) n (own-greyed k n n own) ∙ sym once
+      | inr other ↦ ap (λ (j : CycleHeap). shaded j n) (shaded_other k n other)
     ]
 
 -- where the numbers are in order, further holds of an object that is shaded may be passed over
-passed_over : (k : Mark) (n : ℕ) (ns : List ℕ) → AllFrom n ns
+passed_over : (k : CycleHeap) (n : ℕ) (ns : List ℕ) → AllFrom n ns
     → shaded_all (shaded k n) (drop_below (n + 1) ns) ≡ shaded_all (shaded k n) ns
 passed_over k n [] all = refl
 passed_over k n (m ∷ ms) all =
@@ -219,11 +219,11 @@ passed_over k n (m ∷ ms) all =
           let same : n ≡ m = omega (arith, under, from) in
           let again : shaded (shaded k n) m ≡ shaded k n =
           subst (λ i. shaded (shaded k n) i ≡ shaded k n) same (shaded_again k n) in
-          simp not_over (passed_over k n ms all.1 ∙ ap (λ (j : Mark). shaded_all j ms) (sym again))
+          simp not_over (passed_over k n ms all.1 ∙ ap (λ (j : CycleHeap). shaded_all j ms) (sym again))
     ]
 
 -- one turn, of what is left and begins with n
-turn : (k : Mark) (n : ℕ) (holds left : List ℕ) → IsInOrder holds → drop_below n holds ≡ left
+turn : (k : CycleHeap) (n : ℕ) (holds left : List ℕ) → IsInOrder holds → drop_below n holds ≡ left
     → first_in (drop_below n holds) ≡ Some n
     → shaded_all (shaded k n) (drop_below (n + 1) holds) ≡ shaded_all k (drop_below n holds)
 turn k n holds [] order is first = absurd (none_is_some (sym (ap first_in is) ∙ first))
@@ -249,14 +249,15 @@ fewer n holds (m ∷ rest) is first =
     rw (later, left) (omega (arith, most))
 
 -- at first all is still to be shaded
-pub held_from_first : (k : Mark) (holds : List ℕ) → IsHeldFrom k k (least_from holds 0) holds
+pub held_from_first : (k : CycleHeap) (holds : List ℕ) → IsHeldFrom k k (least_from holds 0) holds
 held_from_first k holds = record {
   first = ap first_in (still-least_from 0 holds) ∙ sym (first-drop_below 0 holds);
   rest = ap (shaded_all k) (still-least_from 0 holds ∙ drop_below-all holds);
 }
 
 -- a turn shades the next
-pub held_after_turn : (start k : Mark) (n : ℕ) (holds : List ℕ) → IsInOrder holds → IsHeldFrom start k (Some n) holds
+pub held_after_turn : (start k : CycleHeap) (n : ℕ) (holds : List ℕ) → IsInOrder holds
+    → IsHeldFrom start k (Some n) holds
     → IsHeldFrom start (shaded k n) (least_from holds (n + 1)) holds
 held_after_turn start k n holds order so_far =
     let left : still_held (least_from holds (n + 1)) holds ≡ drop_below (n + 1) holds =
@@ -268,7 +269,7 @@ held_after_turn start k n holds order so_far =
     }
 
 -- and leaves fewer
-pub fewer_after_turn : (start k : Mark) (n : ℕ) (holds : List ℕ) → IsHeldFrom start k (Some n) holds
+pub fewer_after_turn : (start k : CycleHeap) (n : ℕ) (holds : List ℕ) → IsHeldFrom start k (Some n) holds
     → length (still_held (least_from holds (n + 1)) holds) < length (still_held (Some n) holds)
 fewer_after_turn start k n holds so_far =
     let left : still_held (least_from holds (n + 1)) holds ≡ drop_below (n + 1) holds =

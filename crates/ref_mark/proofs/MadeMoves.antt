@@ -5,52 +5,51 @@ use Rattle.std.proofs.Common.{[], ◌∷◌, ◌++◌, Option, Some, None, is_so
 use Rattle.std.specs.Prelude.{slice_set}
 use Rattle.std.proofs.lemmas.Bool.{cases_Bool, or_cases, or_left, or_right, eqb-true, eq-eqb, false≢true, true≢false}
 use Rattle.std.proofs.lemmas.List.{length-set}
+use Rattle.ref_base.specs.DoomedSets.{refers_into}
 use Rattle.ref_base.specs.Members.{has}
 use Rattle.ref_base.specs.Graphs.{Object, object_at, is_there}
 use Rattle.ref_base.specs.Paths.{present, targets_of, targets_at}
 use Rattle.ref_base.specs.KeptPaths.{is_kept}
 use Rattle.ref_base.specs.Heaps.{made, one_more, reference_in, reference_at}
 use Rattle.ref_base.specs.Worlds.{pending_numbers}
-use Rattle.ref_base.specs.Refusals.{is_in, has_slot}
+use Rattle.ref_base.specs.Refusals.{has_slot}
 use Rattle.ref_base.specs.Collectors.{State}
-use Rattle.ref_base.specs.declared.phase.Phase.TheVariants.{Idle}
-use Rattle.ref_mark.specs.Marks.{Mark, policy_in, is_white, refers_to, doomed, young, with_made}
+use Rattle.ref_mark.specs.CycleHeaps.{is_in_cycle, CycleHeap, policy_in, is_white, doomed, young, with_made}
 use Rattle.ref_mark.specs.Standing.{Stands}
-use Rattle.ref_mark.proofs.OneMore.{has-one_more}
+use Rattle.ref_base.proofs.OneMore.{has-one_more}
 use Rattle.ref_mark.proofs.Shading.{not_white_marked}
 use Rattle.ref_mark.proofs.DoomedLists.{doomed-made, is_there-above}
 use Rattle.ref_mark.proofs.Moves.{Change, moved, IsMove, IsNew, MayLead, roots_after}
 use Rattle.ref_mark.proofs.Moves.{referring_is_there}
-use Rattle.ref_mark.proofs.Lookups.{object_at-push, object_at-pushed, rising-push, has-present_here}
+use Rattle.ref_base.proofs.Lookups.{object_at-push, object_at-pushed, rising-push, has-present_here}
 use Rattle.ref_mark.proofs.RootFacts.{slot_root, roots_of_set, slot_within}
 
 -- ---- what is made is marked
 
-young-only : (k : Mark) (n : ℕ) → young k n ≡ record k { marked = (young k n).marked }
+young-only : (k : CycleHeap) (n : ℕ) → young k n ≡ record k { marked = (young k n).marked }
 young-only k n =
-    elim (cases_Bool (is_in k.phase Idle)) [
-      | inl idle ↦ simp idle refl
-      | inr begun ↦ elim (cases_Bool (is_white k n)) [
+    elim (cases_Bool (is_in_cycle k.phase)) [
+      | inl begun ↦ elim (cases_Bool (is_white k n)) [
         | inl white ↦ simp (begun, white) refl
         | inr other ↦ simp (begun, other) refl
       ]
+      | inr idle ↦ simp idle refl
     ]
 
-young-stays : (k : Mark) (n m : ℕ) → has k.marked m ≡ true → has (young k n).marked m ≡ true
+young-stays : (k : CycleHeap) (n m : ℕ) → has k.marked m ≡ true → has (young k n).marked m ≡ true
 young-stays k n m marked =
-    elim (cases_Bool (is_in k.phase Idle)) [
-      | inl idle ↦ simp idle marked
-      | inr begun ↦ elim (cases_Bool (is_white k n)) [
+    elim (cases_Bool (is_in_cycle k.phase)) [
+      | inl begun ↦ elim (cases_Bool (is_white k n)) [
         | inl white ↦ simp (begun, white) (has-one_more k.marked n m ∙ or_right (n == m) (has k.marked m) marked)
         | inr other ↦ simp (begun, other) marked
       ]
+      | inr idle ↦ simp idle marked
     ]
 
-young-was : (k : Mark) (n m : ℕ) → has (young k n).marked m ≡ true → (has k.marked m ≡ true) ⊎ (n ≡ m)
+young-was : (k : CycleHeap) (n m : ℕ) → has (young k n).marked m ≡ true → (has k.marked m ≡ true) ⊎ (n ≡ m)
 young-was k n m marked =
-    elim (cases_Bool (is_in k.phase Idle)) [
-      | inl idle ↦ inl (simp idle at marked)
-      | inr begun ↦ elim (cases_Bool (is_white k n)) [
+    elim (cases_Bool (is_in_cycle k.phase)) [
+      | inl begun ↦ elim (cases_Bool (is_white k n)) [
         | inl white ↦
             let more : has (one_more k.marked n) m ≡ true = simp (begun, white) at marked in
             elim (or_cases (n == m) (has k.marked m) (sym (has-one_more k.marked n m) ∙ more)) [
@@ -59,9 +58,10 @@ young-was k n m marked =
             ]
         | inr other ↦ inl (simp (begun, other) at marked)
       ]
+      | inr idle ↦ inl (simp idle at marked)
     ]
 
-young-marked : (k : Mark) (n : ℕ) → is_in k.phase Idle ≡ false → is_there k.heap.objects n ≡ true
+young-marked : (k : CycleHeap) (n : ℕ) → is_in_cycle k.phase ≡ true → is_there k.heap.objects n ≡ true
     → has (young k n).marked n ≡ true
 young-marked k n begun there =
     elim (cases_Bool (is_white k n)) [
@@ -73,10 +73,10 @@ young-marked k n begun there =
 -- ---- the move
 
 -- the heap with one more object, before that is marked
-abbrev pub grown : Mark → ℕ → ℕ → Object → Mark
+abbrev pub grown : CycleHeap → ℕ → ℕ → Object → CycleHeap
 grown k m d o = record k { heap = made k.heap m d o; next = k.next + 1 }
 
-abbrev pub making : Mark → ℕ → ℕ → Object → Change
+abbrev pub making : CycleHeap → ℕ → ℕ → Object → Change
 making k m d o = record {
   objects = k.heap.objects ++ o ∷ [];
   slots = slice_set k.heap.slots (16 * m + d) (Some o.no);
@@ -85,18 +85,19 @@ making k m d o = record {
   marked = (young (grown k m d o) o.no).marked;
 }
 
-pub moved-making : (k : Mark) (m d : ℕ) (o : Object) → with_made k m d o ≡ moved k (making k m d o)
+pub moved-making : (k : CycleHeap) (m d : ℕ) (o : Object) → with_made k m d o ≡ moved k (making k m d o)
 moved-making k m d o = young-only (grown k m d o) o.no
 
 -- the object has the next number, and leads and refers to nothing white
-module _ (k : Mark) (a : State) (m d : ℕ) (o : Object) (stands : Stands k a) (slot : has_slot k.heap m d ≡ true)
+module _ (k : CycleHeap) (a : State) (m d : ℕ) (o : Object) (stands : Stands k a) (slot : has_slot k.heap m d ≡ true)
     (number : o.no ≡ k.next)
-    (leads_off : is_in k.phase Idle ≡ false → (n : ℕ)
+    (leads_off : is_in_cycle k.phase ≡ true → (n : ℕ)
     → has (targets_of (is_kept (policy_in k)) (Some o)) n ≡ true → is_white k n ≡ false)
-    (refers_off : is_in k.phase Idle ≡ false → refers_to (is_white k) o.reference ≡ false) where
+    (refers_off : is_in_cycle k.phase ≡ true → refers_into (is_white k) o.reference ≡ false) where
   new_is_absent : is_there k.heap.objects o.no ≡ false
   new_is_absent =
-      subst (λ n. is_there k.heap.objects n ≡ false) (sym number) (is_there-above k.heap.objects k.next stands.below)
+      subst (λ n. is_there k.heap.objects n ≡ false) (sym number)
+      (is_there-above k.heap.objects k.next stands.orderly.below)
 
   new_is_there : is_there (k.heap.objects ++ o ∷ []) o.no ≡ true
   new_is_there =
@@ -164,18 +165,18 @@ module _ (k : Mark) (a : State) (m d : ℕ) (o : Object) (stands : Stands k a) (
             ]
       ]
 
-  made_to_white : is_in k.phase Idle ≡ false → (n : ℕ)
-      → refers_to (is_white k) (reference_in (object_at (k.heap.objects ++ o ∷ []) n)) ≡ true
-      → refers_to (is_white k) (reference_at k.heap n) ≡ true
+  made_to_white : is_in_cycle k.phase ≡ true → (n : ℕ)
+      → refers_into (is_white k) (reference_in (object_at (k.heap.objects ++ o ∷ []) n)) ≡ true
+      → refers_into (is_white k) (reference_at k.heap n) ≡ true
   made_to_white begun n refers =
       elim (cases_Bool (is_there k.heap.objects n)) [
-        | inl there ↦ same_object (λ p. refers_to (is_white k) (reference_in p) ≡ true) n there refers
+        | inl there ↦ same_object (λ p. refers_into (is_white k) (reference_in p) ≡ true) n there refers
         | inr absent ↦
-            let own : refers_to (is_white k) (reference_in (object_at (o ∷ []) n)) ≡ true =
-            only_new (λ p. refers_to (is_white k) (reference_in p) ≡ true) n absent refers in
+            let own : refers_into (is_white k) (reference_in (object_at (o ∷ []) n)) ≡ true =
+            only_new (λ p. refers_into (is_white k) (reference_in p) ≡ true) n absent refers in
             elim (cases_Bool (o.no == n)) [
               | inl same ↦
-                  let from : refers_to (is_white k) o.reference ≡ true = simp same at own in
+                  let from : refers_into (is_white k) o.reference ≡ true = simp same at own in
                   absurd (true≢false (sym from ∙ refers_off begun))
               | inr other ↦ absurd (false≢true (simp other at own))
             ]
@@ -190,8 +191,8 @@ module _ (k : Mark) (a : State) (m d : ℕ) (o : Object) (stands : Stands k a) (
     next = omega (arith);
     stays = λ n there. still_object (λ p. is_some p ≡ true) n there there;
     was = made_was;
-    rising = rising-push k.heap.objects o stands.rising
-        (λ n there. subst (λ i. n < i) (sym number) (stands.below n there));
+    rising = rising-push k.heap.objects o stands.orderly.rising
+        (λ n there. subst (λ i. n < i) (sym number) (stands.orderly.below n there));
     slots = length-set k.heap.slots (16 * m + d) (Some o.no);
     doomed = ap doomed (sym (moved-making k m d o)) ∙ doomed-made k m d o new_is_absent;
     marked_stays = λ n marked. young-stays (grown k m d o) o.no n marked;
@@ -212,6 +213,6 @@ module _ (k : Mark) (a : State) (m d : ℕ) (o : Object) (stands : Stands k a) (
         still_object (λ p. is_some (reference_in p) ≡ true) n (is_reference-there (object_at k.heap.objects n) is) is;
     to_white = made_to_white;
     white_stays = λ past n refers.
-        still_object (λ p. refers_to (is_white k) (reference_in p) ≡ true) n
+        still_object (λ p. refers_into (is_white k) (reference_in p) ≡ true) n
         (referring_is_there (is_white k) k.heap n refers) refers;
   }

@@ -1,6 +1,6 @@
 -- A mark's end, where nothing is grey: what isn't marked is doomed, and all references to it are cleared at once.
 use Rattle.std.proofs.Common.{◌≡◌, ℕ, Bool, true, false, not, ◌&&◌, ◌==◌, refl, sym, ap, subst, ◌∙◌}
-use Rattle.std.proofs.Common.{List, [], ◌∷◌, length, Some, None, inl, inr}
+use Rattle.std.proofs.Common.{List, [], ◌∷◌, length, None, inl, inr}
 use Rattle.std.specs.Prelude.{is_some}
 use Rattle.std.proofs.lemmas.Bool.{cases_Bool, and_parts, false≢true, not-true}
 use Rattle.ref_base.specs.Members.{has}
@@ -10,20 +10,18 @@ use Rattle.ref_base.specs.Heaps.{reference_at, reference_in}
 use Rattle.ref_base.specs.Worlds.{graph_of, policy_of}
 use Rattle.ref_base.specs.Refusals.{is_in, is_empty, end_mark_refusal}
 use Rattle.ref_base.specs.Collectors.{State, joined}
-use Rattle.ref_base.specs.CollectorRows.{IsRow, IsAnswer, EndsMark, doomed_at, mark_ended}
+use Rattle.ref_base.specs.CollectorRows.{EndsMark, doomed_at, mark_ended}
 use Rattle.ref_base.specs.declared.phase.Phase.TheVariants.{Marking, Clearing}
-use Rattle.ref_base.specs.declared.fault.Fault.{Fault}
-use Rattle.ref_base.specs.declared.step.Step.TheVariants as steps
 use Rattle.ref_base.specs.declared.reply.Reply.TheVariants as replies
-use Rattle.ref_mark.specs.Marks.{Mark, is_white, is_black, refers_to, with_phase}
+use Rattle.ref_mark.specs.CycleHeaps.{CycleHeap, is_white, is_black, with_phase}
 use Rattle.ref_objects.specs.Grounds.{unmarked}
 use Rattle.ref_mark.specs.Standing.{Stands, InClearing}
 use Rattle.ref_mark.proofs.Shading.{MarkingBut, not_white_marked}
 use Rattle.ref_mark.proofs.Passed.{end_mark_passed}
 use Rattle.ref_mark.proofs.PlainStates.{plain_state, plain_state-is, plain_marking}
-use Rattle.ref_mark.proofs.FoundLists.{AreFound-scanned, AreFound-some}
+use Rattle.ref_base.proofs.FoundLists.{AreFound-scanned, AreFound-some}
 use Rattle.ref_mark.proofs.DoomedLists.{has-unmarked}
-use Rattle.ref_mark.proofs.NewClears.{has-new_clears, refers_into-refers_to}
+use Rattle.ref_base.proofs.NewClears.{has-new_clears, refers_into-same}
 use Rattle.ref_mark.proofs.SafeMarks.{marked_is_black, unmarked_may_be_doomed, unscanned_is_unmarked}
 
 -- what refers to something is there
@@ -37,39 +35,39 @@ reference_there (o ∷ os) n some =
     ]
 
 -- what isn't marked is doomed
-abbrev dooms : Mark → List ℕ
+abbrev dooms : CycleHeap → List ℕ
 dooms k = unmarked k.heap.objects k.marked
 
 -- whether a black reference is a new clear
-black_cleared : (k : Mark) (a : State) → Stands k a → (n : ℕ) → is_black k n ≡ true
-    → has (new_clears k.heap.objects (dooms k)) n ≡ refers_to (is_white k) (reference_at k.heap n)
+black_cleared : (k : CycleHeap) (a : State) → Stands k a → (n : ℕ) → is_black k n ≡ true
+    → has (new_clears k.heap.objects (dooms k)) n ≡ refers_into (is_white k) (reference_at k.heap n)
 black_cleared k a stands n black =
     let os = k.heap.objects in
     let parts = and_parts (is_there os n) (has k.marked n && not (has k.grey n)) black in
     let marked : has k.marked n ≡ true = (and_parts (has k.marked n) (not (has k.grey n)) parts.1).0 in
     let out : has (dooms k) n ≡ false = has-unmarked os k.marked n ∙ simp (parts.0, marked) refl in
-    has-new_clears os (dooms k) n stands.rising ∙ simp (parts.0, out) refl
-    ∙ refers_into-refers_to (dooms k) (is_white k) (has-unmarked os k.marked) (reference_at k.heap n)
+    has-new_clears os (dooms k) n stands.orderly.rising ∙ simp (parts.0, out) refl
+    ∙ refers_into-same (has (dooms k)) (is_white k) (has-unmarked os k.marked) (reference_at k.heap n)
 
 -- the new clears are black references to white objects
-new_clear_parts : (k : Mark) (a : State) → Stands k a → k.grey ≡ [] → (n : ℕ)
+new_clear_parts : (k : CycleHeap) (a : State) → Stands k a → k.grey ≡ [] → (n : ℕ)
     → has (new_clears k.heap.objects (dooms k)) n ≡ true
-    → (is_black k n ≡ true) × (refers_to (is_white k) (reference_at k.heap n) ≡ true)
+    → (is_black k n ≡ true) × (refers_into (is_white k) (reference_at k.heap n) ≡ true)
 new_clear_parts k a stands none n h =
     let os = k.heap.objects in
-    let new : Bool = not (has (dooms k) n) && refers_into (dooms k) (reference_in (object_at os n)) in
-    let parts = and_parts (is_there os n) new (sym (has-new_clears os (dooms k) n stands.rising) ∙ h) in
+    let new : Bool = not (has (dooms k) n) && refers_into (has (dooms k)) (reference_in (object_at os n)) in
+    let parts = and_parts (is_there os n) new (sym (has-new_clears os (dooms k) n stands.orderly.rising) ∙ h) in
     let sides =
-    and_parts (not (has (dooms k) n)) (refers_into (dooms k) (reference_in (object_at os n))) parts.1 in
+    and_parts (not (has (dooms k) n)) (refers_into (has (dooms k)) (reference_in (object_at os n))) parts.1 in
     let out : is_white k n ≡ false = sym (has-unmarked os k.marked n) ∙ not-true (has (dooms k) n) sides.0 in
     let black : is_black k n ≡ true = marked_is_black k none n parts.0 (not_white_marked k n parts.0 out) in
     (black, sym (black_cleared k a stands n black) ∙ h)
 
 -- the state that the mark's end leaves
-abbrev state_ended : Mark → State → State
+abbrev state_ended : CycleHeap → State → State
 state_ended k a = mark_ended (plain_state k Marking a) (dooms k) k.found
 
-ends_mark : (k : Mark) (a : State) → Stands k a → k.phase ≡ Marking → k.grey ≡ []
+ends_mark : (k : CycleHeap) (a : State) → Stands k a → k.phase ≡ Marking → k.grey ≡ []
     → EndsMark (plain_state k Marking a) (replies.Doomed (length (dooms k))) (state_ended k a)
 ends_mark k a stands phase none =
     let s = plain_state k Marking a in
@@ -93,8 +91,8 @@ ends_mark k a stands phase none =
       after = ap (λ d. mark_ended s d k.found) (sym same);
     }
 
-in_clearing : (k : Mark) (a : State) → Stands k a → k.phase ≡ Marking → k.grey ≡ []
-    → InClearing (with_phase k Clearing) (state_ended k a)
+in_clearing : (k : CycleHeap) (a : State) → Stands k a → k.phase ≡ Marking → k.grey ≡ []
+    → InClearing (with_phase k Clearing) k.found (new_clears k.heap.objects (dooms k))
 in_clearing k a stands phase none =
     let s = plain_state k Marking a in
     let os = k.heap.objects in
@@ -118,7 +116,7 @@ in_clearing k a stands phase none =
           ];
     }
 
-ended_stands : (k : Mark) (a : State) → Stands k a → k.phase ≡ Marking → k.grey ≡ []
+ended_stands : (k : CycleHeap) (a : State) → Stands k a → k.phase ≡ Marking → k.grey ≡ []
     → Stands (with_phase k Clearing) (state_ended k a)
 ended_stands k a stands phase none =
     let but : MarkingBut k (plain_state k Marking a) [] [] = plain_marking k a stands phase in
@@ -131,9 +129,7 @@ ended_stands k a stands phase none =
       phase = refl;
       doomed = refl;
       born = stands.born;
-      rising = stands.rising;
-      below = stands.below;
-      slots = stands.slots;
+      orderly = stands.orderly;
       scanners = stands.scanners;
       finders = stands.finders;
       facts = λ begun. record { rooted = facts.rooted; closed = facts.closed };
@@ -143,40 +139,24 @@ ended_stands k a stands phase none =
     }
 
 -- a mark's end that isn't refused
-pub end_mark_row : (k : Mark) (a : State) → Stands k a → end_mark_refusal k.phase (not (is_empty k.grey)) ≡ None
-    → (b : State)
-    × IsRow a
-    (record { step = steps.EndMark; reply = replies.Doomed (length (unmarked k.heap.objects k.marked)) }) b
+pub end_mark_row : (k : CycleHeap) (a : State) → Stands k a → end_mark_refusal k.phase (not (is_empty k.grey)) ≡ None
+    → (b : State) × EndsMark a (replies.Doomed (length (unmarked k.heap.objects k.marked))) b
     × Stands (with_phase k Clearing) b
 end_mark_row k a stands none =
     let passed = end_mark_passed k none in
-    let s = plain_state k Marking a in
-    let b = state_ended k a in
-    let reply = replies.Doomed (length (dooms k)) in
-    let now : is_in k.phase Marking ≡ true = ap (λ p. is_in p Marking) passed.0 in
-    let early : end_mark_refusal Marking a.left ≡ None =
-    ap (λ left. end_mark_refusal Marking left) (stands.marking now).left
-    ∙ ap (λ p. end_mark_refusal p (not (is_empty k.grey))) (sym passed.0) ∙ none in (
+    let b = state_ended k a in (
       b,
-      subst (λ (r : State). IsRow r (record { step = steps.EndMark; reply = reply }) b)
-          (sym (plain_state-is k a Marking stands passed.0 refl))
-          (subst (λ f. IsAnswer s f steps.EndMark reply b) (sym early) (ends_mark k a stands passed.0 passed.1)),
+      subst (λ (s : State). EndsMark s (replies.Doomed (length (dooms k))) b)
+          (sym (plain_state-is k a Marking stands passed.0 refl)) (ends_mark k a stands passed.0 passed.1),
       ended_stands k a stands passed.0 passed.1,
     )
 
--- a mark's end that is refused: outside a mark it doesn't matter what is grey
-refused_as : (k : Mark) (a : State) → Stands k a
-    → end_mark_refusal k.phase a.left ≡ end_mark_refusal k.phase (not (is_empty k.grey))
-refused_as k a stands =
-    elim (cases_Bool (is_in k.phase Marking)) [
+-- outside a mark it doesn't matter what is grey
+pub same_end_mark : (k : CycleHeap) (a : State) → Stands k a
+    → end_mark_refusal a.world.phase a.left ≡ end_mark_refusal k.phase (not (is_empty k.grey))
+same_end_mark k a stands =
+    ap (λ p. end_mark_refusal p a.left) stands.phase
+    ∙ elim (cases_Bool (is_in k.phase Marking)) [
       | inl now ↦ ap (λ left. end_mark_refusal k.phase left) (stands.marking now).left
       | inr before ↦ simp before refl
     ]
-
-pub refused_end_mark : (k : Mark) (a : State) (fault : Fault) → Stands k a
-    → end_mark_refusal k.phase (not (is_empty k.grey)) ≡ Some fault
-    → IsRow a (record { step = steps.EndMark; reply = replies.Refused fault }) a
-refused_end_mark k a fault stands some =
-    let same : end_mark_refusal a.world.phase a.left ≡ Some fault =
-    ap (λ p. end_mark_refusal p a.left) stands.phase ∙ refused_as k a stands ∙ some in
-    subst (λ f. IsAnswer a f steps.EndMark (replies.Refused fault) a) (sym same) (refl, refl)

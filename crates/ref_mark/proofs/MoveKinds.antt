@@ -1,23 +1,22 @@
 -- The kinds of moves: of slots and holds alone, of one object, and of one more object.
 use Rattle.std.proofs.Common.{◌≡◌, ℕ, true, false, refl, sym, subst, arith}
 use Rattle.std.proofs.Common.{List, length, Option, Some, is_some, ◌⊎◌, inl, inr}
+use Rattle.ref_base.specs.DoomedSets.{refers_into}
 use Rattle.ref_base.specs.Members.{has}
 use Rattle.ref_base.specs.Graphs.{Object, object_at}
 use Rattle.ref_base.specs.Paths.{targets_of}
 use Rattle.ref_base.specs.Strengths.{IsRising}
 use Rattle.ref_base.specs.KeptPaths.{is_kept}
 use Rattle.ref_base.specs.Heaps.{changed_at, reference_in}
-use Rattle.ref_base.specs.Refusals.{is_in}
 use Rattle.ref_base.specs.Collectors.{State}
-use Rattle.ref_base.specs.declared.phase.Phase.TheVariants.{Idle}
-use Rattle.ref_mark.specs.Marks.{Mark, policy_in, is_white, is_past_mark, refers_to}
+use Rattle.ref_mark.specs.CycleHeaps.{is_in_cycle, CycleHeap, policy_in, is_white, is_past_mark}
 use Rattle.ref_mark.specs.Standing.{Stands}
 use Rattle.ref_mark.proofs.DoomedLists.{doomed-changed}
 use Rattle.ref_mark.proofs.Moves.{Change, IsMove, roots_after}
-use Rattle.ref_mark.proofs.Lookups.{lookup-changed, numbers-changed}
+use Rattle.ref_base.proofs.Lookups.{lookup-changed, numbers-changed}
 
 -- slots and holds change
-abbrev pub rooted : Mark → List (Option ℕ) → List ℕ → Change
+abbrev pub rooted : CycleHeap → List (Option ℕ) → List ℕ → Change
 rooted k slots holds = record {
   objects = k.heap.objects;
   slots = slots;
@@ -26,16 +25,16 @@ rooted k slots holds = record {
   marked = k.marked;
 }
 
-pub rooted_move : (k : Mark) (a : State) (slots : List (Option ℕ)) (holds pending todo : List ℕ) → Stands k a
+pub rooted_move : (k : CycleHeap) (a : State) (slots : List (Option ℕ)) (holds pending todo : List ℕ) → Stands k a
     → length slots ≡ length k.heap.slots
-    → (is_in k.phase Idle ≡ false → (n : ℕ) → has (roots_after (rooted k slots holds) pending) n ≡ true
+    → (is_in_cycle k.phase ≡ true → (n : ℕ) → has (roots_after (rooted k slots holds) pending) n ≡ true
     → (is_white k n ≡ false) ⊎ (has todo n ≡ true))
     → IsMove k (rooted k slots holds) pending todo
 rooted_move k a slots holds pending todo stands count roots = record {
   next = omega (arith);
   stays = λ n there. there;
   was = λ n there. inl there;
-  rising = stands.rising;
+  rising = stands.orderly.rising;
   slots = count;
   doomed = refl;
   marked_stays = λ n marked. marked;
@@ -48,7 +47,7 @@ rooted_move k a slots holds pending todo stands count roots = record {
 }
 
 -- slots and holds change, and the object of one number
-abbrev pub altered : Mark → List (Option ℕ) → List ℕ → ℕ → (Object → Object) → Change
+abbrev pub altered : CycleHeap → List (Option ℕ) → List ℕ → ℕ → (Object → Object) → Change
 altered k slots holds n f = record {
   objects = changed_at k.heap.objects n f;
   slots = slots;
@@ -59,17 +58,17 @@ altered k slots holds n f = record {
 
 -- An object may change so: it leads where it did or to roots; it stays a reference if it is one; it
 -- refers to a white object only where it did, and once a mark has ended it goes on doing so.
-pub record MayBecome (k : Mark) (roots : List ℕ) (o p : Object) : Type 0 where
+pub record MayBecome (k : CycleHeap) (roots : List ℕ) (o p : Object) : Type 0 where
   pub leads : (n : ℕ) → has (targets_of (is_kept (policy_in k)) (Some p)) n ≡ true
       → (has (targets_of (is_kept (policy_in k)) (Some o)) n ≡ true) ⊎ (has roots n ≡ true)
   pub references : is_some o.reference ≡ true → is_some p.reference ≡ true
-  pub to_white : refers_to (is_white k) p.reference ≡ true → refers_to (is_white k) o.reference ≡ true
-  pub white_stays : is_past_mark k.phase ≡ true → refers_to (is_white k) o.reference ≡ true
-      → refers_to (is_white k) p.reference ≡ true
+  pub to_white : refers_into (is_white k) p.reference ≡ true → refers_into (is_white k) o.reference ≡ true
+  pub white_stays : is_past_mark k.phase ≡ true → refers_into (is_white k) o.reference ≡ true
+      → refers_into (is_white k) p.reference ≡ true
 
-pub altered_move : (k : Mark) (a : State) (slots : List (Option ℕ)) (holds : List ℕ) (i : ℕ) (f : Object → Object)
+pub altered_move : (k : CycleHeap) (a : State) (slots : List (Option ℕ)) (holds : List ℕ) (i : ℕ) (f : Object → Object)
     (pending todo : List ℕ) → Stands k a → ((o : Object) → (f o).no ≡ o.no) → length slots ≡ length k.heap.slots
-    → (is_in k.phase Idle ≡ false → (n : ℕ) → has (roots_after (altered k slots holds i f) pending) n ≡ true
+    → (is_in_cycle k.phase ≡ true → (n : ℕ) → has (roots_after (altered k slots holds i f) pending) n ≡ true
     → (is_white k n ≡ false) ⊎ (has todo n ≡ true))
     → ((o : Object) → object_at k.heap.objects i ≡ Some o
     → MayBecome k (roots_after (altered k slots holds i f) pending) o (f o))
@@ -86,7 +85,7 @@ altered_move k a slots holds i f pending todo stands keeps count roots become =
           inl
           (lookup-changed (λ o p. is_some p ≡ true → is_some o ≡ true) os i f keeps (λ o now. now)
           (λ o found now. refl) n there);
-      rising = subst IsRising (sym (numbers-changed os i f keeps)) stands.rising;
+      rising = subst IsRising (sym (numbers-changed os i f keeps)) stands.orderly.rising;
       slots = count;
       doomed = doomed-changed k i f keeps;
       marked_stays = λ n marked. marked;
@@ -104,11 +103,11 @@ altered_move k a slots holds i f pending todo stands keeps count roots become =
           lookup-changed (λ o p. is_some (reference_in o) ≡ true → is_some (reference_in p) ≡ true) os i f keeps
           (λ o now. now) (λ o found. (become o found).references);
       to_white = λ begun.
-          lookup-changed (λ o p. refers_to (is_white k) (reference_in p) ≡ true
-          → refers_to (is_white k) (reference_in o) ≡ true) os i f keeps (λ o now. now)
+          lookup-changed (λ o p. refers_into (is_white k) (reference_in p) ≡ true
+          → refers_into (is_white k) (reference_in o) ≡ true) os i f keeps (λ o now. now)
           (λ o found. (become o found).to_white);
       white_stays = λ past.
-          lookup-changed (λ o p. refers_to (is_white k) (reference_in o) ≡ true
-          → refers_to (is_white k) (reference_in p) ≡ true) os i f keeps (λ o now. now)
+          lookup-changed (λ o p. refers_into (is_white k) (reference_in o) ≡ true
+          → refers_into (is_white k) (reference_in p) ≡ true) os i f keeps (λ o now. now)
           (λ o found. (become o found).white_stays past);
     }

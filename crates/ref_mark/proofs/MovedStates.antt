@@ -2,28 +2,29 @@
 use Rattle.std.proofs.Common.{◌≡◌, ℕ, ◌<◌, ◌≤◌, Bool, true, false, not, refl, sym, ap, subst, ◌∙◌, arith}
 use Rattle.std.proofs.Common.{List, [], ◌∷◌, inl, inr}
 use Rattle.std.proofs.lemmas.Bool.{cases_Bool, true≢false, or_left, or_right}
-use Rattle.ref_base.specs.Graphs.{is_there}
 use Rattle.ref_base.specs.Heaps.{Heap}
-use Rattle.ref_base.specs.Worlds.{with_heap, graph_of, pending_numbers}
+use Rattle.ref_base.specs.Orderly.{IsOrderly}
+use Rattle.ref_base.specs.Worlds.{World, with_heap, graph_of, pending_numbers}
 use Rattle.ref_base.specs.Refusals.{is_in, is_empty}
 use Rattle.ref_base.specs.Collectors.{State}
 use Rattle.ref_base.specs.CollectorRows.{ticked}
 use Rattle.ref_base.specs.declared.phase.Phase.{Phase}
 use Rattle.ref_base.specs.declared.phase.Phase.TheVariants.{Idle, Marking, Clearing, Sweeping}
-use Rattle.ref_mark.specs.Marks.{Mark, is_past_mark}
-use Rattle.ref_mark.specs.Standing.{FactsBut, InMarking, Stands, shown_heap}
+use Rattle.ref_mark.specs.CycleHeaps.{is_in_cycle, CycleHeap, is_past_mark}
+use Rattle.ref_mark.specs.Standing.{FactsBut, Stands, Agrees}
+use Rattle.ref_mark.proofs.Agreeing.{agrees_same, same_before}
 use Rattle.ref_mark.proofs.Shading.{MarkingBut}
-use Rattle.ref_mark.proofs.DoomedLists.{past_is_not_idle, shown_heap-before}
+use Rattle.ref_mark.proofs.DoomedLists.{past_is_in_cycle, shown_heap-before}
 use Rattle.ref_mark.proofs.Moves.{Change, moved, IsMove, graph_after, moved_state, moved_marking}
 use Rattle.ref_mark.proofs.Moves.{moved_facts, moved_clearing, moved_sweeping}
 
 -- ---- phases
 
-pub marking_is_not_idle : (phase : Phase) → is_in phase Marking ≡ true → is_in phase Idle ≡ false
-marking_is_not_idle Idle marking = sym marking
-marking_is_not_idle Marking marking = refl
-marking_is_not_idle Clearing marking = refl
-marking_is_not_idle Sweeping marking = refl
+pub marking_is_in_cycle : (phase : Phase) → is_in phase Marking ≡ true → is_in_cycle phase ≡ true
+marking_is_in_cycle Idle marking = marking
+marking_is_in_cycle Marking marking = refl
+marking_is_in_cycle Clearing marking = refl
+marking_is_in_cycle Sweeping marking = refl
 
 pub marking_is_not_past : (phase : Phase) → is_in phase Marking ≡ true → is_past_mark phase ≡ false
 marking_is_not_past Idle marking = refl
@@ -55,40 +56,53 @@ ticked_other a other = simp other refl
 
 -- ---- in a mark
 
-module _ (k : Mark) (c : Change) (a : State) (todo : List ℕ) (stands : Stands k a)
-    (move : IsMove k c (pending_numbers a.world.pending) todo) where
-  below_after : (n : ℕ) → is_there c.objects n ≡ true → n < c.next
-  below_after n there =
-      elim (move.was n there) [
-        | inl before ↦
-            let early : n < k.next = stands.below n before in
-            let more : k.next ≤ c.next = move.next in
-            omega (arith, early, more)
-        | inr new ↦ new.below
-      ]
+-- the one world is in the other's cycle and phase; their hands, queues and pending references may differ
+pub record IsAlongside (v w : World) : Type 0 where
+  pub urgency : w.urgency ≡ v.urgency
+  pub cycle : w.cycle ≡ v.cycle
+  pub phase : w.phase ≡ v.phase
+
+pub alongside_itself : (w : World) → IsAlongside w w
+alongside_itself w = record { urgency = refl; cycle = refl; phase = refl }
+
+module _ (k : CycleHeap) (c : Change) (a : State) (w : World) (beside : IsAlongside a.world w) (todo : List ℕ)
+    (stands : Stands k a) (move : IsMove k c (pending_numbers w.pending) todo) where
+  orderly_after : IsOrderly (moved k c).heap c.next
+  orderly_after = record {
+    rising = move.rising;
+    below = λ n there.
+        elim (move.was n there) [
+          | inl before ↦
+              let early : n < k.next = stands.orderly.below n before in
+              let more : k.next ≤ c.next = move.next in
+              omega (arith, early, more)
+          | inr new ↦ new.below
+        ];
+    slots = move.slots ∙ stands.orderly.slots;
+  }
+
+  born_after : a.born ≤ c.next
+  born_after = let born : a.born ≤ k.next = stands.born in let more : k.next ≤ c.next = move.next in
+      omega (arith, born, more)
 
   -- what holds in a mark makes a state that the moved heap stands for, also where more of it is marked and grey
   pub marking_stands : (marked grey : List ℕ) (left : Bool) → is_in k.phase Marking ≡ true
-      → MarkingBut (record (moved k c) { marked = marked; grey = grey })
-      (moved_state a (moved k c).heap c.next (graph_after c (pending_numbers a.world.pending) ∷ a.moments) left) [] []
-      → left ≡ not (is_empty grey)
-      → Stands (record (moved k c) { marked = marked; grey = grey })
-      (moved_state a (moved k c).heap c.next (graph_after c (pending_numbers a.world.pending) ∷ a.moments) left)
+      → let b = moved_state a (with_heap w (moved k c).heap) c.next
+      (graph_after c (pending_numbers w.pending) ∷ a.moments) left in
+      MarkingBut (record (moved k c) { marked = marked; grey = grey }) b [] []
+      → left ≡ not (is_empty grey) → Stands (record (moved k c) { marked = marked; grey = grey }) b
   marking_stands marked grey left marking but left_is =
+      let j : CycleHeap = record (moved k c) { marked = marked; grey = grey } in
       let before : is_past_mark k.phase ≡ false = marking_is_not_past k.phase marking in
-      let born : a.born ≤ k.next = stands.born in
-      let more : k.next ≤ c.next = move.next in
       record {
-        heap = sym (shown_heap-before (record (moved k c) { marked = marked; grey = grey }) before);
+        heap = agrees_same j (moved k c).heap (sym (shown_heap-before j before));
         next = refl;
-        urgency = stands.urgency;
-        cycle = stands.cycle;
-        phase = stands.phase;
+        urgency = beside.urgency ∙ stands.urgency;
+        cycle = beside.cycle ∙ stands.cycle;
+        phase = beside.phase ∙ stands.phase;
         doomed = stands.doomed ∙ simp before refl;
-        born = omega (arith, born, more);
-        rising = move.rising;
-        below = below_after;
-        slots = move.slots ∙ stands.slots;
+        born = born_after;
+        orderly = record { rising = move.rising; below = orderly_after.below; slots = orderly_after.slots };
         scanners = stands.scanners;
         finders = stands.finders;
         facts = λ begun. but.facts;
@@ -97,78 +111,83 @@ module _ (k : Mark) (c : Change) (a : State) (todo : List ℕ) (stands : Stands 
         sweeping = λ sweeping. absurd (true≢false (sym sweeping ∙ (marking_is_not k.phase marking).1));
       }
 
+-- what holds in a mark
+pub in_mark : (k : CycleHeap) (a : State) → Stands k a → is_in k.phase Marking ≡ true → MarkingBut k a [] []
+in_mark k a stands marking =
+    let holds = stands.marking marking in
+    record {
+      facts = stands.facts (marking_is_in_cycle k.phase marking);
+      coloured = holds.coloured;
+      reached = holds.reached;
+      found = holds.found;
+    }
+
 -- ---- before a mark and after it
 
-module _ (k : Mark) (c : Change) (a : State) (stands : Stands k a)
-    (move : IsMove k c (pending_numbers a.world.pending) []) where
-  quiet_stands : (h : Heap) → is_in k.phase Marking ≡ false → h ≡ shown_heap (moved k c)
-      → Stands (moved k c) (record a { world = with_heap a.world h; next = c.next })
+module _ (k : CycleHeap) (c : Change) (a : State) (w : World) (beside : IsAlongside a.world w) (stands : Stands k a)
+    (move : IsMove k c (pending_numbers w.pending) []) where
+  quiet_stands : (h : Heap) → is_in k.phase Marking ≡ false → Agrees (moved k c) h
+      → Stands (moved k c) (record a { world = with_heap w h; next = c.next })
   quiet_stands h quiet heap =
-      let b : State = record a { world = with_heap a.world h; next = c.next } in
-      let born : a.born ≤ k.next = stands.born in
-      let more : k.next ≤ c.next = move.next in
-      let pending = pending_numbers a.world.pending in
+      let below = stands.orderly.below in
       record {
         heap = heap;
         next = refl;
-        urgency = stands.urgency;
-        cycle = stands.cycle;
-        phase = stands.phase;
+        urgency = beside.urgency ∙ stands.urgency;
+        cycle = beside.cycle ∙ stands.cycle;
+        phase = beside.phase ∙ stands.phase;
         doomed = stands.doomed ∙ sym move.doomed;
-        born = omega (arith, born, more);
-        rising = move.rising;
-        below = below_after k c a [] stands move;
-        slots = move.slots ∙ stands.slots;
+        born = born_after k c a w beside [] stands move;
+        orderly = orderly_after k c a w beside [] stands move;
         scanners = stands.scanners;
         finders = stands.finders;
         facts = λ begun.
-            subst (λ (g : Heap). FactsBut (moved k c) (graph_of (with_heap a.world g)).roots []) (sym heap)
-            (moved_facts k c pending [] move begun stands.below (graph_of a.world).roots (stands.facts begun));
+            subst (λ (g : Heap). FactsBut (moved k c) (graph_of (with_heap w g)).roots []) (sym heap)
+            (moved_facts k c (pending_numbers w.pending) [] move begun below (graph_of a.world).roots
+            (stands.facts begun));
         marking = λ marking. absurd (true≢false (sym marking ∙ quiet));
         clearing = λ clearing.
             let past : is_past_mark k.phase ≡ true = clearing_is_past k.phase clearing in
-            moved_clearing k c pending [] move (past_is_not_idle k.phase past) stands.below a b refl refl past
-            (stands.clearing clearing);
+            moved_clearing k c (pending_numbers w.pending) [] move (past_is_in_cycle k.phase past) below a.found
+            a.cleared past (stands.clearing clearing);
         sweeping = λ sweeping.
             let past : is_past_mark k.phase ≡ true = sweeping_is_past k.phase sweeping in
-            moved_sweeping k c pending [] move (past_is_not_idle k.phase past) stands.below (stands.sweeping sweeping);
+            moved_sweeping k c (pending_numbers w.pending) [] move (past_is_in_cycle k.phase past) below
+            (stands.sweeping sweeping);
       }
 
   marked_stands : (h : Heap) → is_in k.phase Marking ≡ true → h ≡ (moved k c).heap
-      → Stands (moved k c)
-      (moved_state a h c.next (graph_of (with_heap a.world h) ∷ a.moments) a.left)
+      → Stands (moved k c) (moved_state a (with_heap w h) c.next (graph_of (with_heap w h) ∷ a.moments) a.left)
   marked_stands h marking heap =
-      let begun : is_in k.phase Idle ≡ false = marking_is_not_idle k.phase marking in
-      let in_mark : InMarking k a = stands.marking marking in
-      let but : MarkingBut k a [] [] =
-      record {
-        facts = stands.facts begun;
-        coloured = in_mark.coloured;
-        reached = in_mark.reached;
-        found = in_mark.found;
-      } in
       subst
-      (λ (g : Heap). Stands (moved k c) (moved_state a g c.next (graph_of (with_heap a.world g) ∷ a.moments) a.left))
+      (λ (g : Heap).
+      Stands (moved k c) (moved_state a (with_heap w g) c.next (graph_of (with_heap w g) ∷ a.moments) a.left))
       (sym heap)
-      (marking_stands k c a [] stands move c.marked k.grey a.left marking
-      (moved_marking k c a [] a.left move begun stands.below stands.born but) in_mark.left)
+      (marking_stands k c a w beside [] stands move c.marked k.grey a.left marking
+      (moved_marking k c a w [] a.left move (marking_is_in_cycle k.phase marking) stands.orderly.below stands.born
+      (in_mark k a stands marking)) (stands.marking marking).left)
 
   -- the row says nothing anew
-  pub moved_stands : (h : Heap) (next : ℕ) → h ≡ shown_heap (moved k c) → next ≡ c.next
-      → Stands (moved k c) (ticked (record a { world = with_heap a.world h; next = next }))
-  moved_stands h next heap same =
-      let goal : Stands (moved k c) (ticked (record a { world = with_heap a.world h; next = c.next })) =
+  pub moved_beside : (h : Heap) (next : ℕ) → Agrees (moved k c) h → next ≡ c.next
+      → Stands (moved k c) (ticked (record a { world = with_heap w h; next = next }))
+  moved_beside h next heap same =
+      let b : State = record a { world = with_heap w h; next = c.next } in
+      let phase : w.phase ≡ k.phase = beside.phase ∙ stands.phase in
+      let goal : Stands (moved k c) (ticked b) =
       elim (cases_Bool (is_in k.phase Marking)) [
         | inl marking ↦
-            let now : is_in a.world.phase Marking ≡ true = ap (λ p. is_in p Marking) stands.phase ∙ marking in
-            subst (Stands (moved k c))
-            (sym (ticked_marking (record a { world = with_heap a.world h; next = c.next }) now))
-            (marked_stands h marking
-            (heap ∙ shown_heap-before (moved k c) (marking_is_not_past k.phase marking)))
+            let now : is_in w.phase Marking ≡ true = ap (λ p. is_in p Marking) phase ∙ marking in
+            let early : is_past_mark k.phase ≡ false = marking_is_not_past k.phase marking in
+            subst (Stands (moved k c)) (sym (ticked_marking b now))
+            (marked_stands h marking (same_before (moved k c) h early heap ∙ shown_heap-before (moved k c) early))
         | inr quiet ↦
-            let still : is_in a.world.phase Marking ≡ false = ap (λ p. is_in p Marking) stands.phase ∙ quiet in
-            subst (Stands (moved k c))
-            (sym (ticked_other (record a { world = with_heap a.world h; next = c.next }) still))
-            (quiet_stands h quiet heap)
+            let still : is_in w.phase Marking ≡ false = ap (λ p. is_in p Marking) phase ∙ quiet in
+            subst (Stands (moved k c)) (sym (ticked_other b still)) (quiet_stands h quiet heap)
       ] in
-      subst (λ n. Stands (moved k c) (ticked (record a { world = with_heap a.world h; next = n }))) (sym same) goal
+      subst (λ n. Stands (moved k c) (ticked (record a { world = with_heap w h; next = n }))) (sym same) goal
+
+-- where hands, queues and pending references stay as they are
+pub moved_stands : (k : CycleHeap) (c : Change) (a : State) → Stands k a
+    → IsMove k c (pending_numbers a.world.pending) [] → (h : Heap) (next : ℕ) → Agrees (moved k c) h → next ≡ c.next
+    → Stands (moved k c) (ticked (record a { world = with_heap a.world h; next = next }))
+moved_stands k c a stands move = moved_beside k c a a.world (alongside_itself a.world) stands move

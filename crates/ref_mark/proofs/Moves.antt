@@ -1,22 +1,21 @@
 -- What holds of a heap in its cycles goes on holding where a mutator moves.
-use Rattle.std.proofs.Common.{◌≡◌, ℕ, ◌<◌, ◌≤◌, Bool, true, false, not, ◌&&◌, refl, sym, ap, ◌∙◌, arith}
+use Rattle.std.proofs.Common.{◌≡◌, ℕ, ◌<◌, ◌≤◌, Bool, true, false, not, ◌&&◌, refl, sym, ◌∙◌, arith}
 use Rattle.std.proofs.Common.{List, [], ◌∷◌, ◌++◌, length, Option, Some, None, is_some, ◌⊎◌, inl, inr}
 use Rattle.std.proofs.lemmas.Bool.{cases_Bool, and_parts, false≢true, true≢false, false_from_ne_true}
+use Rattle.ref_base.specs.DoomedSets.{refers_into}
 use Rattle.ref_base.specs.Members.{has}
 use Rattle.ref_base.specs.Graphs.{Graph, Object, Reference, object_at, is_there, numbers}
 use Rattle.ref_base.specs.Paths.{Allowed, present, targets_of, targets_at}
 use Rattle.ref_base.specs.Strengths.{IsRising}
 use Rattle.ref_base.specs.KeptPaths.{is_kept}
 use Rattle.ref_base.specs.Heaps.{Heap, reference_in, reference_at}
-use Rattle.ref_base.specs.Worlds.{with_heap, graph_of, pending_numbers}
-use Rattle.ref_base.specs.Refusals.{is_in}
+use Rattle.ref_base.specs.Worlds.{World, with_heap, graph_of, pending_numbers}
 use Rattle.ref_base.specs.Collectors.{State}
-use Rattle.ref_base.specs.declared.phase.Phase.TheVariants.{Idle}
 use Rattle.ref_base.proofs.PathLaws.{root_ends, target_ends}
-use Rattle.ref_mark.specs.Marks.{Mark, policy_in, is_white, is_black, is_past_mark, refers_to, doomed}
+use Rattle.ref_mark.specs.CycleHeaps.{is_in_cycle, CycleHeap, policy_in, is_white, is_black, is_past_mark, doomed}
 use Rattle.ref_mark.specs.Standing.{FactsBut, Coloured, Reached, FoundBut, InClearing, InSweeping}
-use Rattle.ref_mark.proofs.Shading.{MarkingBut, refers_to-wider}
-use Rattle.ref_mark.proofs.StillFound.{are_found-still}
+use Rattle.ref_mark.proofs.Shading.{MarkingBut, refers_into-wider}
+use Rattle.ref_base.proofs.StillFound.{are_found-still}
 
 -- ---- moves
 
@@ -28,7 +27,7 @@ pub record Change : Type 0 where
   pub next : ℕ
   pub marked : List ℕ
 
-abbrev pub moved : Mark → Change → Mark
+abbrev pub moved : CycleHeap → Change → CycleHeap
 moved k c = record k {
   heap = record k.heap { objects = c.objects; slots = c.slots; holds = c.holds };
   next = c.next;
@@ -43,23 +42,23 @@ abbrev pub graph_after : Change → List ℕ → Graph
 graph_after c pending = record { objects = c.objects; roots = roots_after c pending }
 
 -- an object is new: a root leads to it, and it is marked once a cycle has begun
-pub record IsNew (k : Mark) (c : Change) (pending : List ℕ) (n : ℕ) : Type 0 where
+pub record IsNew (k : CycleHeap) (c : Change) (pending : List ℕ) (n : ℕ) : Type 0 where
   pub since : k.next ≤ n
   pub below : n < c.next
   pub root : has (roots_after c pending) n ≡ true
-  pub marked : is_in k.phase Idle ≡ false → has c.marked n ≡ true
+  pub marked : is_in_cycle k.phase ≡ true → has c.marked n ≡ true
 
 -- An object leads to another where it did so before, or the other is a root now, or it is a root itself and the other
 -- isn't white.
-abbrev pub MayLead : Mark → Change → List ℕ → ℕ → ℕ → Type 0
+abbrev pub MayLead : CycleHeap → Change → List ℕ → ℕ → ℕ → Type 0
 MayLead k c pending m n =
     (has (targets_at (is_kept (policy_in k)) k.heap.objects m) n ≡ true) ⊎ (has (roots_after c pending) n ≡ true)
-    ⊎ ((has (roots_after c pending) m ≡ true) × (is_in k.phase Idle ≡ false → is_white k n ≡ false))
+    ⊎ ((has (roots_after c pending) m ≡ true) × (is_in_cycle k.phase ≡ true → is_white k n ≡ false))
 
 -- A mutator moves: no object goes, and what comes is new; nothing else is doomed than before; no root is white but for
 -- some numbers that are still to be shaded; where an object leads to another, this is allowed; references stay
 -- references, and none refers to a white object that didn't before; and once a mark has ended none stops to.
-pub record IsMove (k : Mark) (c : Change) (pending todo : List ℕ) : Type 0 where
+pub record IsMove (k : CycleHeap) (c : Change) (pending todo : List ℕ) : Type 0 where
   pub next : k.next ≤ c.next
   pub stays : (n : ℕ) → is_there k.heap.objects n ≡ true → is_there c.objects n ≡ true
   pub was : (n : ℕ) → is_there c.objects n ≡ true → (is_there k.heap.objects n ≡ true) ⊎ IsNew k c pending n
@@ -68,21 +67,20 @@ pub record IsMove (k : Mark) (c : Change) (pending todo : List ℕ) : Type 0 whe
   pub doomed : doomed (moved k c) ≡ doomed k
   pub marked_stays : (n : ℕ) → has k.marked n ≡ true → has c.marked n ≡ true
   pub marked_was : (n : ℕ) → has c.marked n ≡ true → (has k.marked n ≡ true) ⊎ (k.next ≤ n)
-  pub roots : is_in k.phase Idle ≡ false → (n : ℕ) → has (roots_after c pending) n ≡ true
+  pub roots : is_in_cycle k.phase ≡ true → (n : ℕ) → has (roots_after c pending) n ≡ true
       → (is_white k n ≡ false) ⊎ (has todo n ≡ true)
   pub leads : (m n : ℕ) → has (targets_at (is_kept (policy_in k)) c.objects m) n ≡ true → MayLead k c pending m n
   pub references : (n : ℕ) → is_some (reference_at k.heap n) ≡ true
       → is_some (reference_in (object_at c.objects n)) ≡ true
-  pub to_white : is_in k.phase Idle ≡ false → (n : ℕ)
-      → refers_to (is_white k) (reference_in (object_at c.objects n)) ≡ true
-      → refers_to (is_white k) (reference_at k.heap n) ≡ true
-  pub white_stays : is_past_mark k.phase ≡ true → (n : ℕ) → refers_to (is_white k) (reference_at k.heap n) ≡ true
-      → refers_to (is_white k) (reference_in (object_at c.objects n)) ≡ true
+  pub to_white : is_in_cycle k.phase ≡ true → (n : ℕ)
+      → refers_into (is_white k) (reference_in (object_at c.objects n)) ≡ true
+      → refers_into (is_white k) (reference_at k.heap n) ≡ true
+  pub white_stays : is_past_mark k.phase ≡ true → (n : ℕ) → refers_into (is_white k) (reference_at k.heap n) ≡ true
+      → refers_into (is_white k) (reference_in (object_at c.objects n)) ≡ true
 
--- the state after it
-abbrev pub moved_state : State → Heap → ℕ → List Graph → Bool → State
-moved_state a h next moments left =
-    record a { world = with_heap a.world h; next = next; moments = moments; left = left }
+-- the state after it, in which hands, queues and pending references may be others
+abbrev pub moved_state : State → World → ℕ → List Graph → Bool → State
+moved_state a w next moments left = record a { world = w; next = next; moments = moments; left = left }
 
 -- ---- small facts
 
@@ -95,12 +93,12 @@ pub leading_is_there : (allow : Allowed) (os : List Object) (m n : ℕ) → has 
     → is_there os m ≡ true
 leading_is_there allow os m n target = targets_of-some allow (object_at os m) n target
 
-reference_in-some : (test : ℕ → Bool) (o : Option Object) → refers_to test (reference_in o) ≡ true → is_some o ≡ true
+reference_in-some : (test : ℕ → Bool) (o : Option Object) → refers_into test (reference_in o) ≡ true → is_some o ≡ true
 reference_in-some test None refers = refers
 reference_in-some test (Some o) refers = refl
 
 -- and so is what refers to something
-pub referring_is_there : (test : ℕ → Bool) (h : Heap) (n : ℕ) → refers_to test (reference_at h n) ≡ true
+pub referring_is_there : (test : ℕ → Bool) (h : Heap) (n : ℕ) → refers_into test (reference_at h n) ≡ true
     → is_there h.objects n ≡ true
 referring_is_there test h n refers = reference_in-some test (object_at h.objects n) refers
 
@@ -114,8 +112,8 @@ same_Bool x y over back =
 -- ---- colours and facts
 
 -- in a cycle that has begun
-module _ (k : Mark) (c : Change) (pending todo : List ℕ) (move : IsMove k c pending todo)
-    (begun : is_in k.phase Idle ≡ false) (below : (n : ℕ) → is_there k.heap.objects n ≡ true → n < k.next) where
+module _ (k : CycleHeap) (c : Change) (pending todo : List ℕ) (move : IsMove k c pending todo)
+    (begun : is_in_cycle k.phase ≡ true) (below : (n : ℕ) → is_there k.heap.objects n ≡ true → n < k.next) where
   -- what was there is marked if it was
   marked-was : (n : ℕ) → is_there k.heap.objects n ≡ true → has c.marked n ≡ true → has k.marked n ≡ true
   marked-was n there marked =
@@ -158,17 +156,17 @@ module _ (k : Mark) (c : Change) (pending todo : List ℕ) (move : IsMove k c pe
         ]
       ]
 
-  refers_to-same : (r : Option Reference) → refers_to (is_white (moved k c)) r ≡ refers_to (is_white k) r
-  refers_to-same r =
-      same_Bool (refers_to (is_white (moved k c)) r) (refers_to (is_white k) r)
-      (refers_to-wider (is_white k) (is_white (moved k c)) (λ n white. sym (same_white n) ∙ white) r)
-      (refers_to-wider (is_white (moved k c)) (is_white k) (λ n white. same_white n ∙ white) r)
+  refers_into-still : (r : Option Reference) → refers_into (is_white (moved k c)) r ≡ refers_into (is_white k) r
+  refers_into-still r =
+      same_Bool (refers_into (is_white (moved k c)) r) (refers_into (is_white k) r)
+      (refers_into-wider (is_white k) (is_white (moved k c)) (λ n white. sym (same_white n) ∙ white) r)
+      (refers_into-wider (is_white (moved k c)) (is_white k) (λ n white. same_white n ∙ white) r)
 
   -- a black reference to a white object was one
-  white_was : (n : ℕ) → refers_to (is_white (moved k c)) (reference_at (moved k c).heap n) ≡ true
-      → refers_to (is_white k) (reference_at k.heap n) ≡ true
+  white_was : (n : ℕ) → refers_into (is_white (moved k c)) (reference_at (moved k c).heap n) ≡ true
+      → refers_into (is_white k) (reference_at k.heap n) ≡ true
   white_was n refers =
-      move.to_white begun n (sym (refers_to-same (reference_in (object_at c.objects n))) ∙ refers)
+      move.to_white begun n (sym (refers_into-still (reference_in (object_at c.objects n))) ∙ refers)
 
   pub moved_facts : (roots : List ℕ) → FactsBut k roots [] → FactsBut (moved k c) (roots_after c pending) todo
   moved_facts roots facts =
@@ -198,86 +196,83 @@ module _ (k : Mark) (c : Change) (pending todo : List ℕ) (move : IsMove k c pe
 
   -- ---- a mark
 
-  module _ (a : State) (h : Heap) (next : ℕ) (left : Bool) (born : a.born ≤ k.next) where
-    pub moved_coloured : (moments : List Graph) → Coloured k a
-        → Coloured (moved k c) (moved_state a h next moments left)
-    moved_coloured moments coloured = record {
-      distinct = coloured.distinct;
-      grey_there = λ n grey. move.stays n (coloured.grey_there n grey);
-      grey_marked = λ n grey. move.marked_stays n (coloured.grey_marked n grey);
-      grey_old = coloured.grey_old;
-      scanned_black = λ n scanned.
-          let before = coloured.scanned_black n scanned in (move.marked_stays n before.0, before.1);
-      black_scanned = λ n old black.
-          let parts = and_parts (is_there c.objects n) (has c.marked n && not (has k.grey n)) black in
-          elim (move.was n parts.0) [
-            | inl there ↦ coloured.black_scanned n old (black-was n there black)
-            | inr new ↦ let late : k.next ≤ n = new.since in absurd (omega (arith, old, late, born))
-          ];
-      since = λ n there late.
-          elim (move.was n there) [
-            | inl before ↦ move.marked_stays n (coloured.since n before late)
-            | inr new ↦ new.marked begun
-          ];
-    }
+  pub moved_coloured : (born : ℕ) (scanned : List (List ℕ)) → born ≤ k.next → Coloured k born scanned
+      → Coloured (moved k c) born scanned
+  moved_coloured born scanned early coloured = record {
+    distinct = coloured.distinct;
+    grey_there = λ n grey. move.stays n (coloured.grey_there n grey);
+    grey_marked = λ n grey. move.marked_stays n (coloured.grey_marked n grey);
+    grey_old = coloured.grey_old;
+    scanned_black = λ n was.
+        let before = coloured.scanned_black n was in (move.marked_stays n before.0, before.1);
+    black_scanned = λ n old black.
+        let parts = and_parts (is_there c.objects n) (has c.marked n && not (has k.grey n)) black in
+        elim (move.was n parts.0) [
+          | inl there ↦ coloured.black_scanned n old (black-was n there black)
+          | inr new ↦ let late : k.next ≤ n = new.since in absurd (omega (arith, old, late, early))
+        ];
+    since = λ n there late.
+        elim (move.was n there) [
+          | inl before ↦ move.marked_stays n (coloured.since n before late)
+          | inr new ↦ new.marked begun
+        ];
+  }
 
-    pub moved_reached : Reached k a
-        → Reached (moved k c) (moved_state a h next (graph_after c pending ∷ a.moments) left)
-    moved_reached reached = record {
-      marked_ever = λ n there marked.
-          elim (move.was n there) [
-            | inl before ↦ inr (reached.marked_ever n before (marked-was n before marked))
-            | inr new ↦ inl (root_ends (is_kept (policy_in k)) (graph_after c pending) n there new.root)
-          ];
-      goes_on = λ m n ever target there.
-          elim (move.leads m n target) [
-            | inl before ↦ elim ever [
-              | inl kept ↦ inl (target_ends (is_kept (policy_in k)) (graph_after c pending) m n kept target there)
-              | inr earlier ↦ elim (move.was n there) [
-                | inl old ↦ inr (reached.goes_on m n earlier before old)
-                | inr new ↦ inl (root_ends (is_kept (policy_in k)) (graph_after c pending) n there new.root)
-              ]
+  pub moved_reached : (moments : List Graph) → Reached k moments → Reached (moved k c) (graph_after c pending ∷ moments)
+  moved_reached moments reached = record {
+    marked_ever = λ n there marked.
+        elim (move.was n there) [
+          | inl before ↦ inr (reached.marked_ever n before (marked-was n before marked))
+          | inr new ↦ inl (root_ends (is_kept (policy_in k)) (graph_after c pending) n there new.root)
+        ];
+    goes_on = λ m n ever target there.
+        elim (move.leads m n target) [
+          | inl before ↦ elim ever [
+            | inl kept ↦ inl (target_ends (is_kept (policy_in k)) (graph_after c pending) m n kept target there)
+            | inr earlier ↦ elim (move.was n there) [
+              | inl old ↦ inr (reached.goes_on m n earlier before old)
+              | inr new ↦ inl (root_ends (is_kept (policy_in k)) (graph_after c pending) n there new.root)
             ]
-            | inr now ↦ elim now [
-              | inl root ↦ inl (root_ends (is_kept (policy_in k)) (graph_after c pending) n there root)
-              | inr own ↦
-                  let leads : is_there c.objects m ≡ true =
-                  leading_is_there (is_kept (policy_in k)) c.objects m n target in
-                  inl
-                  (target_ends (is_kept (policy_in k)) (graph_after c pending) m n
-                  (root_ends (is_kept (policy_in k)) (graph_after c pending) m leads own.0) target there)
-            ]
-          ];
-    }
+          ]
+          | inr now ↦ elim now [
+            | inl root ↦ inl (root_ends (is_kept (policy_in k)) (graph_after c pending) n there root)
+            | inr own ↦
+                let leads : is_there c.objects m ≡ true =
+                leading_is_there (is_kept (policy_in k)) c.objects m n target in
+                inl
+                (target_ends (is_kept (policy_in k)) (graph_after c pending) m n
+                (root_ends (is_kept (policy_in k)) (graph_after c pending) m leads own.0) target there)
+          ]
+        ];
+  }
 
-    pub moved_found : (moments : List Graph) → FoundBut k a []
-        → FoundBut (moved k c) (moved_state a h next moments left) []
-    moved_found moments found = record {
-      are_found = are_found-still k.heap.objects c.objects move.references a.scanned k.found found.are_found;
-      once = found.once;
-      all_found = λ n black refers.
-          let before : refers_to (is_white k) (reference_at k.heap n) ≡ true = white_was n refers in
-          let there : is_there k.heap.objects n ≡ true = referring_is_there (is_white k) k.heap n before in
-          found.all_found n (black-was n there black) before;
-    }
+  pub moved_found : (scanned : List (List ℕ)) → FoundBut k scanned [] → FoundBut (moved k c) scanned []
+  moved_found scanned found = record {
+    are_found = are_found-still k.heap.objects c.objects move.references scanned k.found found.are_found;
+    once = found.once;
+    all_found = λ n black refers.
+        let before : refers_into (is_white k) (reference_at k.heap n) ≡ true = white_was n refers in
+        let there : is_there k.heap.objects n ≡ true = referring_is_there (is_white k) k.heap n before in
+        found.all_found n (black-was n there black) before;
+  }
 
   -- ---- later phases
 
-  pub moved_clearing : (a b : State) → b.found ≡ a.found → b.cleared ≡ a.cleared → is_past_mark k.phase ≡ true
-      → InClearing k a → InClearing (moved k c) b
-  moved_clearing a b same_found same_cleared past holds = record {
+  pub moved_clearing : (lists : List (List ℕ)) (clears : List ℕ) → is_past_mark k.phase ≡ true
+      → InClearing k lists clears → InClearing (moved k c) lists clears
+  moved_clearing lists clears past holds = record {
     no_grey = holds.no_grey;
-    same = same_found ∙ holds.same;
+    same = holds.same;
     once = holds.once;
     black = λ n found. black-stays n (holds.black n found);
     cleared = λ n found.
-        ap (λ ns. has ns n) same_cleared ∙ holds.cleared n found
-        ∙ same_Bool (refers_to (is_white k) (reference_at k.heap n))
-        (refers_to (is_white (moved k c)) (reference_at (moved k c).heap n))
-        (λ refers. refers_to-same (reference_in (object_at c.objects n)) ∙ move.white_stays past n refers)
+        holds.cleared n found
+        ∙ same_Bool (refers_into (is_white k) (reference_at k.heap n))
+        (refers_into (is_white (moved k c)) (reference_at (moved k c).heap n))
+        (λ refers. refers_into-still (reference_in (object_at c.objects n)) ∙ move.white_stays past n refers)
         (white_was n);
     all_found = λ n black refers.
-        let before : refers_to (is_white k) (reference_at k.heap n) ≡ true = white_was n refers in
+        let before : refers_into (is_white k) (reference_at k.heap n) ≡ true = white_was n refers in
         let there : is_there k.heap.objects n ≡ true = referring_is_there (is_white k) k.heap n before in
         holds.all_found n (black-was n there black) before;
   }
@@ -286,9 +281,9 @@ module _ (k : Mark) (c : Change) (pending todo : List ℕ) (move : IsMove k c pe
   moved_sweeping holds = record {
     no_grey = holds.no_grey;
     none_left = λ n black.
-        false_from_ne_true (refers_to (is_white (moved k c)) (reference_at (moved k c).heap n))
+        false_from_ne_true (refers_into (is_white (moved k c)) (reference_at (moved k c).heap n))
         (λ refers.
-        let before : refers_to (is_white k) (reference_at k.heap n) ≡ true = white_was n refers in
+        let before : refers_into (is_white k) (reference_at k.heap n) ≡ true = white_was n refers in
         let there : is_there k.heap.objects n ≡ true = referring_is_there (is_white k) k.heap n before in
         true≢false (sym before ∙ holds.none_left n (black-was n there black)));
   }
@@ -296,18 +291,17 @@ module _ (k : Mark) (c : Change) (pending todo : List ℕ) (move : IsMove k c pe
 -- ---- states
 
 -- in a mark, what holds goes on holding, but for what is still to be shaded
-pub moved_marking : (k : Mark) (c : Change) (a : State) (todo : List ℕ) (left : Bool)
-    → IsMove k c (pending_numbers a.world.pending) todo → is_in k.phase Idle ≡ false
+pub moved_marking : (k : CycleHeap) (c : Change) (a : State) (w : World) (todo : List ℕ) (left : Bool)
+    → IsMove k c (pending_numbers w.pending) todo → is_in_cycle k.phase ≡ true
     → ((n : ℕ) → is_there k.heap.objects n ≡ true → n < k.next) → a.born ≤ k.next → MarkingBut k a [] []
     → MarkingBut (moved k c)
-    (moved_state a (moved k c).heap c.next (graph_after c (pending_numbers a.world.pending) ∷ a.moments) left) todo []
-moved_marking k c a todo left move begun below born but =
-    let pending = pending_numbers a.world.pending in
-    let moments = graph_after c pending ∷ a.moments in
-    let heap = (moved k c).heap in
+    (moved_state a (with_heap w (moved k c).heap) c.next (graph_after c (pending_numbers w.pending) ∷ a.moments) left)
+    todo []
+moved_marking k c a w todo left move begun below born but =
+    let pending = pending_numbers w.pending in
     record {
       facts = moved_facts k c pending todo move begun below (graph_of a.world).roots but.facts;
-      coloured = moved_coloured k c pending todo move begun below a heap c.next left born moments but.coloured;
-      reached = moved_reached k c pending todo move begun below a heap c.next left born but.reached;
-      found = moved_found k c pending todo move begun below a heap c.next left born moments but.found;
+      coloured = moved_coloured k c pending todo move begun below a.born a.scanned born but.coloured;
+      reached = moved_reached k c pending todo move begun below a.moments but.reached;
+      found = moved_found k c pending todo move begun below a.scanned but.found;
     }

@@ -6,8 +6,8 @@ use Rattle.ref_base.specs.Refusals.{is_in, is_empty, is_worker, unless, begin_re
 use Rattle.ref_base.specs.declared.phase.Phase.{Phase}
 use Rattle.ref_base.specs.declared.phase.Phase.TheVariants.{Idle, Marking, Clearing, Sweeping}
 use Rattle.ref_base.specs.declared.fault.Fault.TheVariants.{NoSuchActor, NumbersSpent, WrongPhase, ClockBack, GreyLeft}
-use Rattle.ref_mark.specs.Marks.{Mark}
-use Rattle.ref_mark.proofs.RowForms.{unless_parts}
+use Rattle.ref_mark.specs.CycleHeaps.{CycleHeap}
+use Rattle.ref_base.proofs.RowForms.{unless_parts}
 
 pub is_idle : (phase : Phase) → is_in phase Idle ≡ true → phase ≡ Idle
 is_idle Idle is = refl
@@ -22,13 +22,13 @@ is_marking Clearing is = absurd (false≢true is)
 is_marking Sweeping is = absurd (false≢true is)
 
 -- a cycle begins where none is under way
-pub begin_passed : (k : Mark) (now : ℕ) → begin_refusal k.phase k.heap.clock k.cycle now ≡ None → k.phase ≡ Idle
+pub begin_passed : (k : CycleHeap) (now : ℕ) → begin_refusal k.phase k.heap.clock k.cycle now ≡ None → k.phase ≡ Idle
 begin_passed k now none =
     let later = unless (nat_le k.heap.clock now) ClockBack (unless (nat_lt k.cycle (2 ^ 64 - 1)) NumbersSpent None) in
     is_idle k.phase (unless_parts (is_in k.phase Idle) WrongPhase later none).0
 
 -- what a worker's step asks of the phase and the worker
-pub work_passed : (k : Mark) (phase : Phase) (w : ℕ) → work_refusal k.heap k.phase phase w ≡ None
+pub work_passed : (k : CycleHeap) (phase : Phase) (w : ℕ) → work_refusal k.heap k.phase phase w ≡ None
     → (w < k.heap.config.workers) × (is_in k.phase phase ≡ true)
 work_passed k phase w none =
     let later = unless (is_in k.phase phase) WrongPhase None in
@@ -41,7 +41,7 @@ nothing_left [] empty = refl
 nothing_left (n ∷ ns) empty = absurd (false≢true empty)
 
 -- where a mark's end isn't refused it is in a mark, and nothing is grey
-pub end_mark_passed : (k : Mark) → end_mark_refusal k.phase (not (is_empty k.grey)) ≡ None
+pub end_mark_passed : (k : CycleHeap) → end_mark_refusal k.phase (not (is_empty k.grey)) ≡ None
     → (k.phase ≡ Marking) × (k.grey ≡ [])
 end_mark_passed k none =
     let later = unless (not (not (is_empty k.grey))) GreyLeft None in

@@ -1,16 +1,16 @@
 -- Before a mark has ended mutators read the heap as it is, and a state that it stands for has the heap's own parts.
-use Rattle.std.proofs.Common.{◌≡◌, ℕ, ◌*◌, ◌<◌, ◌≤◌, true, false, not, refl, sym, ap, subst, ◌∙◌}
+use Rattle.std.proofs.Common.{◌≡◌, ℕ, ◌≤◌, true, false, not, refl, sym, ap, subst, ◌∙◌}
 use Rattle.std.proofs.Common.{List, [], length}
 use Rattle.std.proofs.lemmas.Bool.{false≢true}
-use Rattle.ref_base.specs.Graphs.{is_there, numbers}
-use Rattle.ref_base.specs.Strengths.{IsRising}
 use Rattle.ref_base.specs.Heaps.{Heap}
+use Rattle.ref_base.specs.Orderly.{IsOrderly}
 use Rattle.ref_base.specs.Refusals.{is_in, is_empty}
 use Rattle.ref_base.specs.Collectors.{State}
 use Rattle.ref_base.specs.declared.urgency.Urgency.{Urgency}
 use Rattle.ref_base.specs.declared.phase.Phase.{Phase}
-use Rattle.ref_base.specs.declared.phase.Phase.TheVariants.{Idle, Marking, Clearing, Sweeping}
-use Rattle.ref_mark.specs.Marks.{Mark, is_past_mark, doomed}
+use Rattle.ref_base.specs.declared.phase.Phase.TheVariants.{Marking, Clearing, Sweeping}
+use Rattle.ref_mark.specs.CycleHeaps.{CycleHeap, is_past_mark, is_in_cycle, doomed}
+use Rattle.ref_mark.proofs.Agreeing.{same_before, agrees_same}
 use Rattle.ref_mark.specs.Standing.{Stands}
 use Rattle.ref_mark.proofs.Shading.{MarkingBut}
 use Rattle.ref_mark.proofs.DoomedLists.{shown_heap-before}
@@ -25,18 +25,18 @@ state_from a h urgency cycle phase next doomed_ones = record a {
 }
 
 -- the state in this phase, with the heap's parts
-abbrev pub plain_state : Mark → Phase → State → State
+abbrev pub plain_state : CycleHeap → Phase → State → State
 plain_state k phase a = state_from a k.heap k.urgency k.cycle phase k.next []
 
-pub doomed-before : (k : Mark) → is_past_mark k.phase ≡ false → doomed k ≡ []
+pub doomed-before : (k : CycleHeap) → is_past_mark k.phase ≡ false → doomed k ≡ []
 doomed-before k before = simp before refl
 
-pub plain_state-is : (k : Mark) (a : State) (phase : Phase) → Stands k a → k.phase ≡ phase
+pub plain_state-is : (k : CycleHeap) (a : State) (phase : Phase) → Stands k a → k.phase ≡ phase
     → is_past_mark phase ≡ false → a ≡ plain_state k phase a
 plain_state-is k a phase stands is before =
     let w = a.world in
     let early : is_past_mark k.phase ≡ false = ap is_past_mark is ∙ before in
-    let heap : w.heap ≡ k.heap = stands.heap ∙ shown_heap-before k early in
+    let heap : w.heap ≡ k.heap = same_before k w.heap early stands.heap ∙ shown_heap-before k early in
     ap (λ h. state_from a h w.urgency w.cycle w.phase a.next a.doomed) heap
     ∙ ap (λ u. state_from a k.heap u w.cycle w.phase a.next a.doomed) stands.urgency
     ∙ ap (λ c. state_from a k.heap k.urgency c w.phase a.next a.doomed) stands.cycle
@@ -48,25 +48,21 @@ plain_state-is k a phase stands is before =
 
 -- In a mark the heap stands for a state with its parts, where what holds in a mark does, and where it is said that an
 -- object is left exactly where one is grey.
-pub marking_stands : (k : Mark) (a : State) → k.phase ≡ Marking → a ≡ plain_state k Marking a
-    → a.left ≡ not (is_empty k.grey) → a.born ≤ k.next → IsRising (numbers k.heap.objects)
-    → ((n : ℕ) → is_there k.heap.objects n ≡ true → n < k.next)
-    → length k.heap.slots ≡ 16 * k.heap.config.mutators → length a.scanned ≡ k.heap.config.workers
-    → length k.found ≡ k.heap.config.workers
+pub marking_stands : (k : CycleHeap) (a : State) → k.phase ≡ Marking → a ≡ plain_state k Marking a
+    → a.left ≡ not (is_empty k.grey) → a.born ≤ k.next → IsOrderly k.heap k.next
+    → length a.scanned ≡ k.heap.config.workers → length k.found ≡ k.heap.config.workers
     → MarkingBut k a [] [] → Stands k a
-marking_stands k a phase plain left born rising below slots scanners finders but =
+marking_stands k a phase plain left born orderly scanners finders but =
     let early : is_past_mark k.phase ≡ false = ap is_past_mark phase in
     record {
-      heap = ap (λ (s : State). s.world.heap) plain ∙ sym (shown_heap-before k early);
+      heap = agrees_same k a.world.heap (ap (λ (s : State). s.world.heap) plain ∙ sym (shown_heap-before k early));
       next = ap (λ (s : State). s.next) plain;
       urgency = ap (λ (s : State). s.world.urgency) plain;
       cycle = ap (λ (s : State). s.world.cycle) plain;
       phase = ap (λ (s : State). s.world.phase) plain ∙ sym phase;
       doomed = ap (λ (s : State). s.doomed) plain ∙ sym (doomed-before k early);
       born = born;
-      rising = rising;
-      below = below;
-      slots = slots;
+      orderly = orderly;
       scanners = scanners;
       finders = finders;
       facts = λ begun. but.facts;
@@ -76,19 +72,19 @@ marking_stands k a phase plain left born rising below slots scanners finders but
     }
 
 -- and where it stands for a state, what holds in a mark does
-pub stands_marking : (k : Mark) (a : State) → Stands k a → k.phase ≡ Marking → MarkingBut k a [] []
+pub stands_marking : (k : CycleHeap) (a : State) → Stands k a → k.phase ≡ Marking → MarkingBut k a [] []
 stands_marking k a stands phase =
     let now : is_in k.phase Marking ≡ true = ap (λ p. is_in p Marking) phase in
     let in_mark = stands.marking now in
     record {
-      facts = stands.facts (ap (λ p. is_in p Idle) phase);
+      facts = stands.facts (ap is_in_cycle phase);
       coloured = in_mark.coloured;
       reached = in_mark.reached;
       found = in_mark.found;
     }
 
 -- a mark that is under way is so in its plain state
-pub plain_marking : (k : Mark) (a : State) → Stands k a → k.phase ≡ Marking
+pub plain_marking : (k : CycleHeap) (a : State) → Stands k a → k.phase ≡ Marking
     → MarkingBut k (plain_state k Marking a) [] []
 plain_marking k a stands phase =
     let s = plain_state k Marking a in

@@ -2,6 +2,8 @@
 use Rattle.std.proofs.Common.{◌≡◌, ℕ, Bool, true, false, not, ◌&&◌, refl, sym, ap, subst, ◌∙◌}
 use Rattle.std.proofs.Common.{List, Option, Some, None, is_some, inl, inr}
 use Rattle.std.proofs.lemmas.Bool.{cases_Bool, and_parts, false≢true, true≢false}
+use Rattle.ref_base.specs.DoomedSets.{refers_into}
+use Rattle.ref_base.specs.DoomedSets.{any_is}
 use Rattle.ref_base.specs.Members.{has}
 use Rattle.ref_base.specs.Graphs.{Object, Reference, is_there}
 use Rattle.ref_base.specs.Paths.{Allowed, present, allowed_referent, is_phantom, is_soft}
@@ -10,13 +12,12 @@ use Rattle.ref_base.specs.Heaps.{Heap, slot_at, changed_in}
 use Rattle.ref_base.specs.Heaps.{changed_reference, with_reference, cleared, got_at, got}
 use Rattle.ref_base.specs.Refusals.{is_in, reference_refusal}
 use Rattle.ref_base.specs.CollectorRows.{reference_of, referent_got}
-use Rattle.ref_base.specs.CollectorRows.{referent_of}
 use Rattle.ref_base.specs.declared.phase.Phase.TheVariants.{Marking}
 use Rattle.ref_base.proofs.HasLaws.{has-left, has-cases}
-use Rattle.ref_mark.specs.Marks.{Mark, policy_in, is_white, is_past_mark, is_doomed, any_is, refers_to, undoomed}
-use Rattle.ref_mark.specs.Marks.{referent_read, value_read, barred, with_got}
-use Rattle.ref_mark.proofs.Shading.{refers_to-wider}
-use Rattle.ref_mark.proofs.Lookups.{allowed_referent-cases, lookup-changed}
+use Rattle.ref_mark.specs.CycleHeaps.{CycleHeap, policy_in, is_white, is_past_mark, is_doomed, undoomed}
+use Rattle.ref_mark.specs.CycleHeaps.{barred, with_got}
+use Rattle.ref_mark.proofs.Shading.{refers_into-wider}
+use Rattle.ref_base.proofs.Lookups.{allowed_referent-cases, lookup-changed}
 use Rattle.ref_mark.proofs.MoveKinds.{MayBecome}
 
 -- ---- what is read
@@ -24,25 +25,6 @@ use Rattle.ref_mark.proofs.MoveKinds.{MayBecome}
 pub reference_refusal-there : (h : Heap) (held : Option ℕ) → reference_refusal h held ≡ None → (n : ℕ) × (held ≡ Some n)
 reference_refusal-there h None none = absurd (cc)
 reference_refusal-there h (Some n) none = (n, refl)
-
--- before a mark has ended nothing reads as cleared that isn't
-undoomed-before : (k : Mark) (value : Option ℕ) → is_past_mark k.phase ≡ false → undoomed k value ≡ value
-undoomed-before k None before = refl
-undoomed-before k (Some n) before = simp before refl
-
-pub referent_read-before : (k : Mark) (r : Option Reference) → is_past_mark k.phase ≡ false
-    → referent_of r ≡ referent_read k r
-referent_read-before k None before = refl
-referent_read-before k (Some r) before = sym (undoomed-before k r.referent before)
-
-pub value_read-before : (k : Mark) (r : Option Reference) → is_past_mark k.phase ≡ false
-    → referent_got r ≡ value_read k r
-value_read-before k None before = refl
-value_read-before k (Some r) before =
-    elim (cases_Bool (is_phantom r.strength)) [
-      | inl phantom ↦ simp phantom refl
-      | inr other ↦ simp other (sym (undoomed-before k r.referent before))
-    ]
 
 -- ---- clears
 
@@ -57,22 +39,22 @@ still_some : (f : Reference → Reference) (r : Option Reference) → is_some r 
 still_some f None is = is
 still_some f (Some r) is = refl
 
-cleared_refers : (test : ℕ → Bool) (r : Option Reference) → refers_to test (changed_reference cleared r) ≡ false
+cleared_refers : (test : ℕ → Bool) (r : Option Reference) → refers_into test (changed_reference cleared r) ≡ false
 cleared_refers test None = refl
 cleared_refers test (Some r) = refl
 
-any_doomed-past : (k : Mark) (value : Option ℕ) → any_is (is_doomed k) value ≡ true → is_past_mark k.phase ≡ true
+any_doomed-past : (k : CycleHeap) (value : Option ℕ) → any_is (is_doomed k) value ≡ true → is_past_mark k.phase ≡ true
 any_doomed-past k None met = absurd (false≢true met)
 any_doomed-past k (Some n) met = (and_parts (is_past_mark k.phase) (is_white k n) met).0
 
 -- nothing is doomed before a mark has ended
-pub refers_to_doomed-past : (k : Mark) (r : Option Reference) → refers_to (is_doomed k) r ≡ true
+pub refers_into_doomed-past : (k : CycleHeap) (r : Option Reference) → refers_into (is_doomed k) r ≡ true
     → is_past_mark k.phase ≡ true
-refers_to_doomed-past k None met = absurd (false≢true met)
-refers_to_doomed-past k (Some r) met = any_doomed-past k r.referent met
+refers_into_doomed-past k None met = absurd (false≢true met)
+refers_into_doomed-past k (Some r) met = any_doomed-past k r.referent met
 
 -- a reference may be cleared but where it refers to the doomed
-pub cleared_becomes : (k : Mark) (roots : List ℕ) (o : Object) → refers_to (is_doomed k) o.reference ≡ false
+pub cleared_becomes : (k : CycleHeap) (roots : List ℕ) (o : Object) → refers_into (is_doomed k) o.reference ≡ false
     → MayBecome k roots o (with_reference cleared o)
 cleared_becomes k roots o keeps =
     let referents = allowed_referent (is_kept (policy_in k)) o.reference in
@@ -87,8 +69,8 @@ cleared_becomes k roots o keeps =
       references = still_some cleared o.reference;
       to_white = λ meets. absurd (true≢false (sym meets ∙ cleared_refers (is_white k) o.reference));
       white_stays = λ past meets.
-          let doomed_too : refers_to (is_doomed k) o.reference ≡ true =
-          refers_to-wider (is_doomed k) (is_white k) (λ n white. simp (past, white) refl) o.reference meets in
+          let doomed_too : refers_into (is_doomed k) o.reference ≡ true =
+          refers_into-wider (is_doomed k) (is_white k) (λ n white. simp (past, white) refl) o.reference meets in
           absurd (true≢false (sym doomed_too ∙ keeps));
     }
 
@@ -99,12 +81,12 @@ got_referent clock r =
     elim (cases_Bool (is_soft r.strength)) [ inl soft ↦ simp soft refl | inr other ↦ simp other refl ]
 
 got_refers : (test : ℕ → Bool) (clock : ℕ) (r : Option Reference)
-    → refers_to test (changed_reference (got_at clock) r) ≡ refers_to test r
+    → refers_into test (changed_reference (got_at clock) r) ≡ refers_into test r
 got_refers test clock None = refl
 got_refers test clock (Some r) = ap (λ value. any_is test value) (got_referent clock r)
 
 -- what is undoomed is what was asked for, and isn't doomed
-undoomed-some : (k : Mark) (value : Option ℕ) (n : ℕ) → undoomed k value ≡ Some n
+pub undoomed-some : (k : CycleHeap) (value : Option ℕ) (n : ℕ) → undoomed k value ≡ Some n
     → (value ≡ Some n) × (is_doomed k n ≡ false)
 undoomed-some k None n is = absurd (cc)
 undoomed-some k (Some i) n is =
@@ -116,27 +98,28 @@ undoomed-some k (Some i) n is =
           (same, subst (λ j. is_doomed k j ≡ false) number stays)
     ]
 
-value_read-some : (k : Mark) (r : Reference) (n : ℕ) → value_read k (Some r) ≡ Some n
-    → (r.referent ≡ Some n) × (is_doomed k n ≡ false)
-value_read-some k r n is =
+referent_got-some : (r : Reference) (n : ℕ) → referent_got (Some r) ≡ Some n → r.referent ≡ Some n
+referent_got-some r n is =
     elim (cases_Bool (is_phantom r.strength)) [
       | inl phantom ↦ let nothing : None ≡ Some n = simp phantom at is in absurd (cc)
-      | inr other ↦ undoomed-some k r.referent n (simp other at is)
+      | inr other ↦ simp other at is
     ]
 
 -- what a reference that was got leads to is what it gave
-got_leads : (k : Mark) (allow : Allowed) (clock : ℕ) (r : Option Reference) (n i : ℕ) → value_read k r ≡ Some n
+got_leads : (k : CycleHeap) (allow : Allowed) (clock : ℕ) (r : Option Reference) (n i : ℕ)
+    → undoomed k (referent_got r) ≡ Some n
     → has (allowed_referent allow (changed_reference (got_at clock) r)) i ≡ true → n ≡ i
 got_leads k allow clock None n i is target = absurd (false≢true target)
 got_leads k allow clock (Some r) n i is target =
     let goes : r.referent ≡ Some i =
     sym (got_referent clock r) ∙ allowed_referent-cases allow (got_at clock r) i target in
-    let gave : r.referent ≡ Some n = (value_read-some k r n is).0 in
+    let gave : r.referent ≡ Some n = referent_got-some r n (undoomed-some k (referent_got (Some r)) n is).0 in
     let same : Some n ≡ Some i = sym gave ∙ goes in
     cc
 
 -- a reference that gave what is a root may be got
-pub got_becomes : (k : Mark) (clock : ℕ) (roots : List ℕ) (o : Object) (n : ℕ) → value_read k o.reference ≡ Some n
+pub got_becomes : (k : CycleHeap) (clock : ℕ) (roots : List ℕ) (o : Object) (n : ℕ)
+    → undoomed k (referent_got o.reference) ≡ Some n
     → has roots n ≡ true → MayBecome k roots o (with_reference (got_at clock) o)
 got_becomes k clock roots o n is root =
     let goes_to = is_kept (policy_in k) in
@@ -153,10 +136,6 @@ got_becomes k clock roots o n is root =
       white_stays = λ past meets. got_refers (is_white k) clock o.reference ∙ meets;
     }
 
-pub value_read-doomed : (k : Mark) (r : Option Reference) (n : ℕ) → value_read k r ≡ Some n → is_doomed k n ≡ false
-value_read-doomed k None n is = absurd (cc)
-value_read-doomed k (Some r) n is = (value_read-some k r n is).1
-
 is_there-changed_in : (h : Heap) (held : Option ℕ) (f : Object → Object) (n : ℕ) → ((o : Object) → (f o).no ≡ o.no)
     → is_there (changed_in h held f).objects n ≡ is_there h.objects n
 is_there-changed_in h None f n keeps = refl
@@ -164,10 +143,10 @@ is_there-changed_in h (Some i) f n keeps =
     lookup-changed (λ o p. is_some p ≡ is_some o) h.objects i f keeps (λ o. refl) (λ o found. refl) n
 
 -- the barrier may as well come after what is got
-pub with_got-barred : (k : Mark) (m d s n : ℕ)
+pub with_got-barred : (k : CycleHeap) (m d s n : ℕ)
     → with_got k m d s (Some n) ≡ barred (record k { heap = got k.heap m d s (Some n) }) (Some n)
 with_got-barred k m d s n =
-    let after : Mark = record k { heap = got k.heap m d s (Some n) } in
+    let after : CycleHeap = record k { heap = got k.heap m d s (Some n) } in
     let there : is_there after.heap.objects n ≡ is_there k.heap.objects n =
     is_there-changed_in k.heap (slot_at k.heap m s) (with_reference (got_at k.heap.clock)) n (λ o. refl) in
     let same : is_white after n ≡ is_white k n = ap (λ b. b && not (has k.marked n)) there in
@@ -179,7 +158,8 @@ with_got-barred k m d s n =
       | inr quiet ↦ simp quiet refl
     ]
 
-pub reference_of-held : (k : Mark) (held : Option ℕ) (n : ℕ) → value_read k (reference_of k.heap held) ≡ Some n
+pub reference_of-held : (k : CycleHeap) (held : Option ℕ) (n : ℕ)
+    → undoomed k (referent_got (reference_of k.heap held)) ≡ Some n
     → (i : ℕ) × (held ≡ Some i)
 reference_of-held k None n is = absurd (cc)
 reference_of-held k (Some i) n is = (i, refl)

@@ -2,64 +2,61 @@
 use Rattle.std.proofs.Common.{◌≡◌, ℕ, ◌+◌, ◌*◌, true, false, ◌==◌, nat_lt, refl, sym, ap, subst, ◌∙◌}
 use Rattle.std.proofs.Common.{List, [], ◌∷◌, ◌++◌, Option, Some, None, ◌⊎◌, inl, inr}
 use Rattle.std.specs.Prelude.{slice_set}
-use Rattle.std.proofs.lemmas.Bool.{cases_Bool, and_parts, and_from, or_left, eq-eqb}
+use Rattle.std.proofs.lemmas.Bool.{cases_Bool, and_parts, or_left, eq-eqb}
 use Rattle.std.proofs.lemmas.List.{length-set}
 use Rattle.ref_base.specs.Members.{has}
-use Rattle.ref_base.specs.Graphs.{Object}
+use Rattle.ref_base.specs.Graphs.{Object, Reference}
 use Rattle.ref_base.specs.Paths.{present}
+use Rattle.ref_base.specs.DoomedSets.{refers_into}
 use Rattle.ref_base.specs.Heaps.{Heap, slot_at, with_slot, reference_in, changed_in}
 use Rattle.ref_base.specs.Heaps.{with_reference, cleared, got_at, got, cut}
 use Rattle.ref_base.specs.Worlds.{pending_numbers}
-use Rattle.ref_base.specs.Refusals.{is_in, has_slot, has_slots, is_mutator, reference_refusal}
-use Rattle.ref_base.specs.Refusals.{get_refusal, clear_refusal}
+use Rattle.ref_base.specs.Refusals.{is_in, has_slot, has_slots, reference_refusal, get_refusal, clear_refusal}
 use Rattle.ref_base.specs.Collectors.{State}
-use Rattle.ref_base.specs.CollectorRows.{ticked, on_heap, value_reply, Gets, IsRow, reference_of, referent_got}
+use Rattle.ref_base.specs.CollectorRows.{ticked, on_heap, value_reply, Gets, Accepts, reference_of, referent_got}
 use Rattle.ref_base.specs.CollectorRows.{referent_of, is_same}
-use Rattle.ref_base.specs.declared.phase.Phase.TheVariants.{Idle, Marking}
-use Rattle.ref_base.specs.declared.fault.Fault.{Fault}
+use Rattle.ref_base.specs.Forgetting.{heap_but}
+use Rattle.ref_base.specs.declared.phase.Phase.TheVariants.{Marking}
 use Rattle.ref_base.specs.declared.fault.Fault.TheVariants.{NoSuchActor}
 use Rattle.ref_base.specs.declared.step.Step.TheVariants as steps
 use Rattle.ref_base.specs.declared.reply.Reply.TheVariants as replies
-use Rattle.ref_mark.specs.Marks.{Mark, is_white, is_past_mark, is_doomed, refers_to}
-use Rattle.ref_mark.specs.Marks.{value_read, value_got, barred, with_got, with_cleared, refers}
-use Rattle.ref_mark.specs.Standing.{Stands, shown_heap}
-use Rattle.ref_mark.proofs.DoomedLists.{past_is_not_idle, shown_heap-before}
-use Rattle.ref_mark.proofs.ShownHeaps.{shown_heap-got, shown_heap-cut, shown_heap-cleared}
-use Rattle.ref_mark.proofs.ShownReads.{value_got-shown, refers-shown}
-use Rattle.ref_mark.proofs.ShownRefusals.{get_refusal-shown, clear_refusal-shown}
+use Rattle.ref_base.proofs.Lookups.{has-present_here}
+use Rattle.ref_base.proofs.RowForms.{unless_parts}
+use Rattle.ref_base.proofs.ShownObjects.{shown_reference, unless_among, referent_of-shown, referent_got-shown}
+use Rattle.ref_base.proofs.ShownObjects.{shown-cleared, shown-got}
+use Rattle.ref_mark.specs.CycleHeaps.{CycleHeap, is_white, is_past_mark, is_in_cycle, is_doomed, doomed, undoomed}
+use Rattle.ref_mark.specs.CycleHeaps.{value_got, barred, with_got, with_cleared, reads_same}
+use Rattle.ref_mark.specs.Standing.{Stands, Agrees, unsaid}
+use Rattle.ref_mark.proofs.Agreeing.{reference_of-agrees, changed_in-agrees, agrees_changed, said_slot}
+use Rattle.ref_mark.proofs.DoomedLists.{past_is_in_cycle, shown_heap-before}
+use Rattle.ref_mark.proofs.ShownHeaps.{cut-shown}
+use Rattle.ref_mark.proofs.ShownReads.{reference_of-shown, undoomed-among, undoomed-before}
 use Rattle.ref_mark.proofs.Moves.{Change, moved, IsMove}
-use Rattle.ref_mark.proofs.MovedStates.{moved_stands}
+use Rattle.ref_mark.proofs.MovedStates.{moved_stands, alongside_itself}
 use Rattle.ref_mark.proofs.ShadedMoves.{barred_row}
-use Rattle.ref_mark.proofs.Lookups.{has-present_here}
 use Rattle.ref_mark.proofs.RootFacts.{slot_off, slot_root, root_is_not_white, roots_of_set, slot_within, past_from}
 use Rattle.ref_mark.proofs.MoveKinds.{rooted, rooted_move, altered, altered_move}
-use Rattle.ref_mark.proofs.RowForms.{accepted_row, refused_row, unless_parts}
 use Rattle.ref_mark.proofs.SlotRows.{set_stands}
-use Rattle.ref_mark.proofs.ReferenceMoves.{reference_refusal-there, referent_read-before, value_read-before}
-use Rattle.ref_mark.proofs.ReferenceMoves.{refers_to_doomed-past, cleared_becomes, got_becomes, value_read-doomed}
-use Rattle.ref_mark.proofs.ReferenceMoves.{with_got-barred, reference_of-held}
+use Rattle.ref_mark.proofs.ReferenceMoves.{reference_refusal-there, refers_into_doomed-past, cleared_becomes}
+use Rattle.ref_mark.proofs.ReferenceMoves.{got_becomes, undoomed-some, with_got-barred, reference_of-held}
 
-module _ (k : Mark) (a : State) (stands : Stands k a) where
-  refers_same : (m s v : ℕ)
-      → is_same (referent_of (reference_of (shown_heap k) (slot_at k.heap m s))) (slot_at k.heap m v) ≡ refers k m s v
-  refers_same m s v =
-      elim (cases_Bool (is_past_mark k.phase)) [
-        | inl past ↦ refers-shown k m s v (slot_off k a m s stands (past_is_not_idle k.phase past))
+module _ (k : CycleHeap) (a : State) (stands : Stands k a) where
+  -- what is told of a reference in a slot, told so of what is shown, is told of it as it reads
+  read_same : (tell : Option Reference → Option ℕ)
+      → ((d : List ℕ) (r : Option Reference) → tell (shown_reference d r) ≡ unless_among d (tell r)) → (m s : ℕ)
+      → tell (reference_of a.world.heap (slot_at a.world.heap m s))
+      ≡ undoomed k (tell (reference_of k.heap (slot_at k.heap m s)))
+  read_same tell shows m s =
+      let held = slot_at k.heap m s in
+      let r = reference_of k.heap held in
+      ap tell (reference_of-agrees k a.world.heap stands.heap m s (said_slot k a m s stands))
+      ∙ elim (cases_Bool (is_past_mark k.phase)) [
+        | inl past ↦
+            ap tell (reference_of-shown k held (slot_off k a m s stands (past_is_in_cycle k.phase past)))
+            ∙ shows (doomed k) r ∙ undoomed-among k (tell r)
         | inr before ↦
-            ap (λ (h : Heap). is_same (referent_of (reference_of h (slot_at k.heap m s))) (slot_at k.heap m v))
-            (shown_heap-before k before)
-            ∙ ap (λ (value : Option ℕ). is_same value (slot_at k.heap m v))
-            (referent_read-before k (reference_of k.heap (slot_at k.heap m s)) before)
-      ]
-
-  value_same : (m s : ℕ)
-      → referent_got (reference_of (shown_heap k) (slot_at k.heap m s)) ≡ value_got k m s
-  value_same m s =
-      elim (cases_Bool (is_past_mark k.phase)) [
-        | inl past ↦ value_got-shown k m s (slot_off k a m s stands (past_is_not_idle k.phase past))
-        | inr before ↦
-            ap (λ (h : Heap). referent_got (reference_of h (slot_at k.heap m s))) (shown_heap-before k before)
-            ∙ value_read-before k (reference_of k.heap (slot_at k.heap m s)) before
+            ap (λ (h : Heap). tell (reference_of h held)) (shown_heap-before k before)
+            ∙ sym (undoomed-before k (tell r) before)
       ]
 
   -- ---- where the heap stays as it is
@@ -70,74 +67,70 @@ module _ (k : Mark) (a : State) (stands : Stands k a) where
       (λ begun n root. inl (root_is_not_white k a stands begun n root))
 
   -- what mutators read stays as it is
-  pub unmoved_stands : (h : Heap) → h ≡ shown_heap k → Stands k (ticked (on_heap a h))
+  pub unmoved_stands : (h : Heap) → Agrees k h → Stands k (ticked (on_heap a h))
   unmoved_stands h heap =
       moved_stands k (rooted k k.heap.slots k.heap.holds) a stands unmoved h a.next heap stands.next
 
-  pub refers_to_row : (m s v : ℕ) → get_refusal k.heap m s v ≡ None
-      → (b : State)
-      × IsRow a (record { step = steps.RefersTo m s v; reply = replies.Refers (refers k m s v) }) b
-      × Stands k b
-  refers_to_row m s v accepted =
-      let none : get_refusal a.world.heap m s v ≡ None =
-      ap (λ (h : Heap). get_refusal h m s v) stands.heap ∙ get_refusal-shown k m s v ∙ accepted in
+  pub refers_to_row : (m s v : ℕ)
+      → (b : State) × Accepts a (steps.RefersTo m s v) (replies.Refers (reads_same k m s v)) b × Stands k b
+  refers_to_row m s v =
       let same : is_same (referent_of (reference_of a.world.heap (slot_at a.world.heap m s))) (slot_at a.world.heap m v)
-      ≡ refers k m s v =
-      ap (λ (h : Heap). is_same (referent_of (reference_of h (slot_at h m s))) (slot_at h m v)) stands.heap
-      ∙ refers_same m s v in (
-        ticked a,
-        accepted_row a (steps.RefersTo m s v) (replies.Refers (refers k m s v)) (ticked a) none
-            (ap (λ b. replies.Refers b) (sym same), refl),
-        unmoved_stands a.world.heap stands.heap,
-      )
+      ≡ reads_same k m s v =
+      ap (λ (value : Option ℕ). is_same value (slot_at a.world.heap m v)) (read_same referent_of referent_of-shown m s)
+      ∙ ap (λ (h : Heap).
+      is_same (undoomed k (referent_of (reference_of k.heap (slot_at k.heap m s)))) (slot_at h m v)) stands.heap in
+      (ticked a, (ap (λ b. replies.Refers b) (sym same), refl), unmoved_stands a.world.heap stands.heap)
 
 -- ---- clears
 
-pub clear_row : (k : Mark) (a : State) (m s : ℕ) → Stands k a → clear_refusal k.heap m s ≡ None
-    → (b : State)
-    × IsRow a (record { step = steps.Clear m s; reply = replies.Done }) b
-    × Stands (with_cleared k m s) b
+pub clear_row : (k : CycleHeap) (a : State) (m s : ℕ) → Stands k a → clear_refusal k.heap m s ≡ None
+    → (b : State) × Accepts a (steps.Clear m s) replies.Done b × Stands (with_cleared k m s) b
 clear_row k a m s stands accepted =
     let pending = pending_numbers a.world.pending in
-    let none : clear_refusal a.world.heap m s ≡ None =
-    ap (λ (h : Heap). clear_refusal h m s) stands.heap ∙ clear_refusal-shown k m s ∙ accepted in
-    let holder = reference_refusal-there k.heap (slot_at k.heap m s)
-    (unless_parts (has_slot k.heap m s) NoSuchActor (reference_refusal k.heap (slot_at k.heap m s)) accepted).1 in
-    let b : State = ticked (on_heap a (cut a.world.heap m s)) in
-    let was : cut a.world.heap m s ≡ cut (shown_heap k) m s = ap (λ (h : Heap). cut h m s) stands.heap in
+    let h = a.world.heap in
+    let held = slot_at k.heap m s in
+    let f : Object → Object = with_reference cleared in
+    let holder = reference_refusal-there k.heap held
+    (unless_parts (has_slot k.heap m s) NoSuchActor (reference_refusal k.heap held) accepted).1 in
+    let b : State = ticked (on_heap a (cut h m s)) in
+    let said = said_slot k a m s stands in
+    let same : changed_in h held f ≡ cut h m s =
+    sym (ap (λ (g : Heap). changed_in h (slot_at g m s) f) stands.heap) in
     let goal : Stands (with_cleared k m s) b =
-    elim (cases_Bool (refers_to (is_doomed k) (reference_of k.heap (slot_at k.heap m s)))) [
+    elim (cases_Bool (refers_into (is_doomed k) (reference_of k.heap held))) [
       | inl met ↦
-          let past = refers_to_doomed-past k (reference_of k.heap (slot_at k.heap m s)) met in
+          let past = refers_into_doomed-past k (reference_of k.heap held) met in
+          let off = slot_off k a m s stands (past_is_in_cycle k.phase past) in
           let stays : with_cleared k m s ≡ k = simp met refl in
-          let heap : cut a.world.heap m s ≡ shown_heap k =
-          was ∙ sym (shown_heap-cleared k m s (slot_off k a m s stands (past_is_not_idle k.phase past)))
-          ∙ ap shown_heap stays in
-          subst (λ (j : Mark). Stands j b) (sym stays) (unmoved_stands k a stands (cut a.world.heap m s) heap)
+          let heap : Agrees k (cut h m s) =
+          ap (heap_but (unsaid k)) (sym same) ∙ changed_in-agrees k h stands.heap held f said (λ o. refl)
+          ∙ ap (heap_but (unsaid k)) (cut-shown k held off met) in
+          subst (λ (j : CycleHeap). Stands j b) (sym stays) (unmoved_stands k a stands (cut h m s) heap)
       | inr keeps ↦
-          let c : Change = altered k k.heap.slots k.heap.holds holder.0 (with_reference cleared) in
+          let c : Change = altered k k.heap.slots k.heap.holds holder.0 f in
           let is : record k { heap = cut k.heap m s } ≡ moved k c =
-          ap (λ (held : Option ℕ). record k { heap = changed_in k.heap held (with_reference cleared) }) holder.1 in
+          ap (λ (held : Option ℕ). record k { heap = changed_in k.heap held f }) holder.1 in
           let cuts : with_cleared k m s ≡ record k { heap = cut k.heap m s } = simp keeps refl in
-          let f : Object → Object = with_reference cleared in
           let move : IsMove k c pending [] =
           altered_move k a k.heap.slots k.heap.holds holder.0 f pending [] stands (λ o. refl) refl
           (λ begun n root. inl (root_is_not_white k a stands begun n root))
           (λ o found.
-          let own : refers_to (is_doomed k) o.reference ≡ false =
-          ap (λ (p : Option Object). refers_to (is_doomed k) (reference_in p)) (sym found)
-          ∙ ap (λ (held : Option ℕ). refers_to (is_doomed k) (reference_of k.heap held)) (sym holder.1) ∙ keeps in
+          let own : refers_into (is_doomed k) o.reference ≡ false =
+          ap (λ (p : Option Object). refers_into (is_doomed k) (reference_in p)) (sym found)
+          ∙ ap (λ (held : Option ℕ). refers_into (is_doomed k) (reference_of k.heap held)) (sym holder.1) ∙ keeps in
           cleared_becomes k (present k.heap.slots ++ k.heap.holds ++ pending) o own) in
-          let heap : cut a.world.heap m s ≡ shown_heap (moved k c) =
-          was ∙ sym (shown_heap-cut k m s) ∙ ap shown_heap is in
-          subst (λ (j : Mark). Stands j b) (sym (cuts ∙ is))
-          (moved_stands k c a stands move (cut a.world.heap m s) a.next heap stands.next)
+          let heap : Agrees (moved k c) (cut h m s) =
+          subst (λ (j : CycleHeap). Agrees j (cut h m s)) is
+          (subst (λ (g : Heap). Agrees (record k { heap = cut k.heap m s }) g) same
+          (agrees_changed k h stands.heap held f said (λ o. refl) shown-cleared)) in
+          subst (λ (j : CycleHeap). Stands j b) (sym (cuts ∙ is))
+          (moved_stands k c a stands move (cut h m s) a.next heap stands.next)
     ] in
-    (b, accepted_row a (steps.Clear m s) replies.Done b none (refl, refl), goal)
+    (b, (refl, refl), goal)
 
 -- ---- gets
 
-get_values : (k : Mark) (a : State) (m d s : ℕ) (value : Option ℕ) → Stands k a → value_got k m s ≡ value
+get_values : (k : CycleHeap) (a : State) (m d s : ℕ) (value : Option ℕ) → Stands k a → value_got k m s ≡ value
     → has_slot k.heap m d ≡ true
     → (b : State) × Gets a m d s value (value_reply value) b × Stands (with_got k m d s value) b
 get_values k a m d s None stands is there =
@@ -145,7 +138,7 @@ get_values k a m d s None stands is there =
     elim (cases_Bool (is_in k.phase Marking)) [ inl marking ↦ simp marking refl | inr quiet ↦ simp quiet refl ] in (
       ticked (on_heap a (with_slot a.world.heap m d None)),
       (refl, refl),
-      subst (λ (j : Mark). Stands j (ticked (on_heap a (with_slot a.world.heap m d None)))) (sym same)
+      subst (λ (j : CycleHeap). Stands j (ticked (on_heap a (with_slot a.world.heap m d None)))) (sym same)
           (set_stands k a m d None stands (λ begun n none. absurd (cc))),
     )
 get_values k a m d s (Some n) stands is there =
@@ -160,78 +153,54 @@ get_values k a m d s (Some n) stands is there =
     slot_root (present set) k.heap.holds pending n
     (has-present_here k.heap.slots (16 * m + d) n (slot_within k a m d stands there)) in
     let move : (todo : List ℕ)
-    → (is_in k.phase Idle ≡ false → (i : ℕ) → Some n ≡ Some i → (is_white k i ≡ false) ⊎ (has todo i ≡ true))
+    → (is_in_cycle k.phase ≡ true → (i : ℕ) → Some n ≡ Some i → (is_white k i ≡ false) ⊎ (has todo i ≡ true))
     → IsMove k c pending todo = λ todo allowed.
     altered_move k a set k.heap.holds holder.0 f pending todo stands (λ o. refl)
     (length-set k.heap.slots (16 * m + d) (Some n))
     (λ begun. roots_of_set k a stands begun (16 * m + d) (Some n) todo (allowed begun))
     (λ o found.
-    let gave : value_read k o.reference ≡ Some n =
-    ap (λ (p : Option Object). value_read k (reference_in p)) (sym found)
-    ∙ ap (λ (held : Option ℕ). value_read k (reference_of k.heap held)) (sym holder.1) ∙ is in
+    let gave : undoomed k (referent_got o.reference) ≡ Some n =
+    ap (λ (p : Option Object). undoomed k (referent_got (reference_in p))) (sym found)
+    ∙ ap (λ (held : Option ℕ). undoomed k (referent_got (reference_of k.heap held))) (sym holder.1) ∙ is in
     got_becomes k k.heap.clock (present set ++ k.heap.holds ++ pending) o n gave root) in
-    let heap : got a.world.heap m d s (Some n) ≡ shown_heap (moved k c) =
-    ap (λ (h : Heap). got h m d s (Some n)) stands.heap ∙ sym (shown_heap-got k m d s (Some n))
-    ∙ ap shown_heap same in
-    let row = barred_row k c a n (got a.world.heap m d s (Some n)) (replies.Object n) stands
+    let h = a.world.heap in
+    let at_slot : changed_in h (slot_at k.heap m s) f ≡ changed_in h (slot_at h m s) (with_reference (got_at h.clock)) =
+    sym (ap (λ (g : Heap). changed_in h (slot_at g m s) (with_reference (got_at g.clock))) stands.heap) in
+    let changes :
+    Agrees (record k { heap = changed_in k.heap (slot_at k.heap m s) f }) (changed_in h (slot_at k.heap m s) f) =
+    agrees_changed k h stands.heap (slot_at k.heap m s) f (said_slot k a m s stands) (λ o. refl)
+    (λ e o. shown-got e k.heap.clock o) in
+    let heap : Agrees (moved k c) (got h m d s (Some n)) =
+    subst (λ (j : CycleHeap). Agrees j (got h m d s (Some n))) same
+    (subst (λ (g : Heap). Agrees (record k { heap = got k.heap m d s (Some n) }) (with_slot g m d (Some n))) at_slot
+    (ap (λ (g : Heap). with_slot g m d (Some n)) changes)) in
+    let row = barred_row k c a a.world (alongside_itself a.world) n stands root (got h m d s (Some n))
+    (replies.Object n)
     (λ marking. move (n ∷ [])
     (λ begun j own. inr (or_left (n == j) false (eq-eqb n j (let e : Some n ≡ Some j = own in cc)))))
     (λ quiet. move []
     (λ begun j own.
     let past : is_past_mark k.phase ≡ true = past_from k.phase begun quiet in
     let stays : is_doomed k n ≡ false =
-    value_read-doomed k (reference_of k.heap (slot_at k.heap m s)) n is in
+    (undoomed-some k (referent_got (reference_of k.heap (slot_at k.heap m s))) n is).1 in
     let other : is_white k n ≡ false = simp past at stays in
     inl (subst (λ i. is_white k i ≡ false) (let e : Some n ≡ Some j = own in cc) other)))
-    root refl heap in (
+    refl heap in (
       row.0,
       row.1,
-      subst (λ (j : Mark). Stands j row.0)
-          (sym (with_got-barred k m d s n ∙ ap (λ (j : Mark). barred j (Some n)) same)) row.2,
+      subst (λ (j : CycleHeap). Stands j row.0)
+          (sym (with_got-barred k m d s n ∙ ap (λ (j : CycleHeap). barred j (Some n)) same)) row.2,
     )
 
-pub get_row : (k : Mark) (a : State) (m d s : ℕ) → Stands k a → get_refusal k.heap m s d ≡ None
+pub get_row : (k : CycleHeap) (a : State) (m d s : ℕ) → Stands k a → get_refusal k.heap m d s ≡ None
     → let value = value_got k m s in
-    (b : State)
-    × IsRow a (record { step = steps.Get m d s; reply = value_reply value }) b
-    × Stands (with_got k m d s value) b
+    (b : State) × Accepts a (steps.Get m d s) (value_reply value) b × Stands (with_got k m d s value) b
 get_row k a m d s stands accepted =
     let value = value_got k m s in
-    let none : get_refusal a.world.heap m s d ≡ None =
-    ap (λ (h : Heap). get_refusal h m s d) stands.heap ∙ get_refusal-shown k m s d ∙ accepted in
     let same : referent_got (reference_of a.world.heap (slot_at a.world.heap m s)) ≡ value =
-    ap (λ (h : Heap). referent_got (reference_of h (slot_at h m s))) stands.heap ∙ value_same k a stands m s in
-    let slots : has_slots k.heap m s d ≡ true =
-    (unless_parts (has_slots k.heap m s d) NoSuchActor (reference_refusal k.heap (slot_at k.heap m s)) accepted).0 in
-    let both = and_parts (has_slot k.heap m s) (nat_lt d 16) slots in
-    let mutator = (and_parts (is_mutator k.heap m) (nat_lt s 16) both.0).0 in
-    let there : has_slot k.heap m d ≡ true = and_from (is_mutator k.heap m) (nat_lt d 16) mutator both.1 in
-    let row = get_values k a m d s value stands refl there in (
-      row.0,
-      accepted_row a (steps.Get m d s) (value_reply value) row.0 none
-          (subst (λ (v : Option ℕ). Gets a m d s v (value_reply value) row.0) (sym same) row.1),
-      row.2,
-    )
-
--- ---- refused rows
-
-pub refused_get : (k : Mark) (a : State) (m d s : ℕ) (fault : Fault) → Stands k a
-    → get_refusal k.heap m s d ≡ Some fault
-    → IsRow a (record { step = steps.Get m d s; reply = replies.Refused fault }) a
-refused_get k a m d s fault stands refused =
-    refused_row a (steps.Get m d s) fault
-    (ap (λ (h : Heap). get_refusal h m s d) stands.heap ∙ get_refusal-shown k m s d ∙ refused)
-
-pub refused_clear : (k : Mark) (a : State) (m s : ℕ) (fault : Fault) → Stands k a
-    → clear_refusal k.heap m s ≡ Some fault
-    → IsRow a (record { step = steps.Clear m s; reply = replies.Refused fault }) a
-refused_clear k a m s fault stands refused =
-    refused_row a (steps.Clear m s) fault
-    (ap (λ (h : Heap). clear_refusal h m s) stands.heap ∙ clear_refusal-shown k m s ∙ refused)
-
-pub refused_refers_to : (k : Mark) (a : State) (m s v : ℕ) (fault : Fault) → Stands k a
-    → get_refusal k.heap m s v ≡ Some fault
-    → IsRow a (record { step = steps.RefersTo m s v; reply = replies.Refused fault }) a
-refused_refers_to k a m s v fault stands refused =
-    refused_row a (steps.RefersTo m s v) fault
-    (ap (λ (h : Heap). get_refusal h m s v) stands.heap ∙ get_refusal-shown k m s v ∙ refused)
+    read_same k a stands referent_got referent_got-shown m s in
+    let slots : has_slots k.heap m d s ≡ true =
+    (unless_parts (has_slots k.heap m d s) NoSuchActor (reference_refusal k.heap (slot_at k.heap m s)) accepted).0 in
+    let there : has_slot k.heap m d ≡ true = (and_parts (has_slot k.heap m d) (nat_lt s 16) slots).0 in
+    let row = get_values k a m d s value stands refl there in
+    (row.0, subst (λ (v : Option ℕ). Gets a m d s v (value_reply value) row.0) (sym same) row.1, row.2)

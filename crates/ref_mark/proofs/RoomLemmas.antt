@@ -8,23 +8,25 @@ use Rattle.std.proofs.lemmas.Bool.{cases_Bool, ltb-true, and_parts, not-true, fa
 use Rattle.std.proofs.lemmas.List.{append-nil, drop_all, take_all, length_push, length-map, length-set, map-set}
 use Rattle.std.proofs.lemmas.List.{length-replicate, get_or_read}
 use Rattle.std.proofs.Math.ListN.{get_or-map}
+use Rattle.ref_base.specs.DoomedSets.{refers_into}
 use Rattle.ref_base.specs.Members.{has}
 use Rattle.ref_base.specs.Graphs.{is_there}
 use Rattle.ref_base.specs.Heaps.{Heap, reference_at, one_more, one_fewer}
 use Rattle.ref_base.specs.Collectors.{joined}
 use Rattle.ref_base.specs.CollectorRows.{list_at, emptied as none_found}
-use Rattle.ref_base.specs.Refusals.{is_empty, is_worker, work_refusal}
+use Rattle.ref_base.specs.Refusals.{is_in, is_empty, is_worker, work_refusal}
 use Rattle.ref_base.specs.declared.fault.Fault.TheVariants.{NoSuchActor}
 use Rattle.ref_base.specs.declared.config.Config.{Config}
 use Rattle.ref_base.specs.declared.phase.Phase.{Phase}
 use Rattle.ref_base.specs.declared.urgency.Urgency.{Urgency}
-use Rattle.ref_base.specs.declared.phase.Phase.TheVariants.{Idle}
+use Rattle.ref_base.specs.declared.phase.Phase.TheVariants.{Idle, Marking, Sweeping}
 use Rattle.ref_base.specs.declared.urgency.Urgency.TheVariants.{Normal}
 use Rattle.ref_objects.specs.Grounds.{Ground, first_ground, is_unmarked, with_mark, after_freeing, is_free, freed}
-use Rattle.ref_objects.proofs.KeptLemmas.{length-one_more}
+use Rattle.ref_objects.specs.Grounds.{IsWellFormed}
+use Rattle.ref_objects.proofs.TabledLemmas.{length-one_more}
 use Rattle.ref_mark.specs.Worklists.{Worklist, empty_worklist, with_last, without_first, first_in, rest_of, emptied}
-use Rattle.ref_mark.specs.Marks.{Mark, first_mark, is_white, shaded, shaded_all, refers_to, with_taken, with_found}
-use Rattle.ref_mark.specs.Marks.{is_past_mark, is_doomed, swept}
+use Rattle.ref_mark.specs.CycleHeaps.{CycleHeap, first_cycle_heap, is_white, shaded, shaded_all, with_taken, with_found}
+use Rattle.ref_mark.specs.CycleHeaps.{is_due, swept}
 use Rattle.ref_mark.specs.MarkViews.{seen, lists_of, AreRoomy, IsRoomy}
 
 -- ---- the marked
@@ -241,8 +243,9 @@ roomy_freed {g} {after} {grey} {found} n plain is roomy =
 
 -- one more object is marked, or none
 pub roomy_marked : {g after : Ground} {grey : Worklist} {found : List Worklist} (n : ℕ) → after ≡ with_mark g n
-    → length after.marked ≤ after.heap.config.cells → IsRoomy g grey found → IsRoomy after grey found
-roomy_marked {g} {after} {grey} {found} n is few roomy =
+    → IsWellFormed after → IsRoomy g grey found → IsRoomy after grey found
+roomy_marked {g} {after} {grey} {found} n is formed roomy =
+    let few : length after.marked ≤ after.heap.config.cells = omega (arith, formed.marks, formed.few) in
     elim (cases_Bool (is_unmarked g n)) [
       | inl new ↦
           let now : after ≡ record g { marked = one_more g.marked n } = is ∙ marked_new g n new in
@@ -257,8 +260,10 @@ roomy_marked {g} {after} {grey} {found} n is few roomy =
 
 -- one more is marked and grey
 module _ {g after : Ground} {grey : Worklist} {found : List Worklist} (n : ℕ) (new : is_unmarked g n ≡ true)
-    (is : after ≡ with_mark g n) (few : length after.marked ≤ after.heap.config.cells)
-    (roomy : IsRoomy g grey found) where
+    (is : after ≡ with_mark g n) (formed : IsWellFormed after) (roomy : IsRoomy g grey found) where
+  few : length after.marked ≤ after.heap.config.cells
+  few = omega (arith, formed.marks, formed.few)
+
   one_marked : length after.marked ≡ length g.marked + 1
   one_marked =
       ap (λ (h : Ground). length h.marked) (is ∙ marked_new g n new) ∙ length-one_more g.marked n
@@ -333,12 +338,12 @@ roomy_first config heap_no next = record {
 
 -- a doomed object goes, unless somebody holds it
 module _ (g : Ground) (grey : Worklist) (found : List Worklist) (phase : Phase) (how : Urgency) (cycle n : ℕ)
-    (doomed : is_doomed (seen g grey found phase how cycle) n ≡ true) where
+    (due : is_due (seen g grey found phase how cycle) n ≡ true) where
   white : is_unmarked g n ≡ true
-  white = (and_parts (is_past_mark phase) (is_unmarked g n) doomed).1
+  white = (and_parts (is_in phase Sweeping) (is_unmarked g n) due).1
 
-  pub doomed_unmarked : has g.marked n ≡ false
-  doomed_unmarked =
+  pub due_unmarked : has g.marked n ≡ false
+  due_unmarked =
       not-true (has g.marked n) (and_parts (is_there g.heap.objects n) (not (has g.marked n)) white).1
 
   pub seen_swept : seen (after_freeing g n) grey found phase how cycle
@@ -346,12 +351,12 @@ module _ (g : Ground) (grey : Worklist) (found : List Worklist) (phase : Phase) 
   seen_swept =
       let there : is_there g.heap.objects n ≡ true =
       (and_parts (is_there g.heap.objects n) (not (has g.marked n)) white).0 in
-      let past : is_past_mark phase ≡ true = (and_parts (is_past_mark phase) (is_unmarked g n) doomed).0 in
+      let past : is_in phase Sweeping ≡ true = (and_parts (is_in phase Sweeping) (is_unmarked g n) due).0 in
       elim (cases_Bool (has g.heap.holds n)) [
-        | inl held ↦ simp (there, held, past, doomed_unmarked) refl
+        | inl held ↦ simp (there, held, past, due_unmarked) refl
         | inr unheld ↦
-            simp (there, unheld, past, doomed_unmarked)
-            (rw (one_fewer-missing g.marked n doomed_unmarked) refl)
+            simp (there, unheld, past, due_unmarked)
+            (rw (one_fewer-missing g.marked n due_unmarked) refl)
       ]
 
 -- a worker's list is replaced
@@ -370,14 +375,14 @@ seen_taken g grey found phase how cycle w l m stands taken =
     ∙ ap (λ (ns : List ℕ). record (seen g grey found phase how cycle) { found = set (lists_of found) w ns })
     (ap (λ (k : Worklist). k.stands) taken ∙ ap rest_of stands)
 
-found_white : (k : Mark) (w n : ℕ) → refers_to (is_white k) (reference_at k.heap n) ≡ true
+found_white : (k : CycleHeap) (w n : ℕ) → refers_into (is_white k) (reference_at k.heap n) ≡ true
     → with_found k w n ≡ record k { found = set k.found w (list_at k.found w ++ n ∷ []) }
 found_white k w n white = simp white refl
 
 -- a reference is found whose referent is white
 pub seen_found : (g : Ground) (grey : Worklist) (found : List Worklist) (phase : Phase) (how : Urgency)
     (cycle w n : ℕ) (l m : Worklist)
-    → refers_to (is_white (seen g grey found phase how cycle)) (reference_at g.heap n) ≡ true
+    → refers_into (is_white (seen g grey found phase how cycle)) (reference_at g.heap n) ≡ true
     → l.stands ≡ list_at (lists_of found) w → m ≡ with_last l n
     → seen g grey (set found w m) phase how cycle ≡ with_found (seen g grey found phase how cycle) w n
 seen_found g grey found phase how cycle w n l m white stands pushed =
@@ -395,7 +400,7 @@ seen_emptied g grey found phase how cycle = rw (lists_of-emptied found) refl
 pub seen_first : (config : Config) (heap_no next cycle : ℕ) {g : Ground} {grey : Worklist} {found : List Worklist}
     → g ≡ first_ground config heap_no next → grey ≡ empty_worklist config.cells
     → found ≡ replicate config.workers (empty_worklist config.cells)
-    → seen g grey found Idle Normal cycle ≡ first_mark config heap_no next cycle
+    → seen g grey found Idle Normal cycle ≡ first_cycle_heap config heap_no next cycle
 seen_first config heap_no next cycle {g} {grey} {found} objects greys lists =
     let none : lists_of found ≡ replicate config.workers [] =
     ap lists_of lists ∙ lists_of-replicate config.workers config.cells in
@@ -404,12 +409,12 @@ seen_first config heap_no next cycle {g} {grey} {found} objects greys lists =
 -- ---- a scan
 
 -- what grows as objects become grey: the marked by as many as the grey
-pub record Greys (k l : Mark) : Type 0 where
+pub record Greys (k l : CycleHeap) : Type 0 where
   pub heap : l.heap ≡ k.heap
   pub found : l.found ≡ k.found
   pub as_many : length l.grey + length k.marked ≡ length k.grey + length l.marked
 
-greys_one : (k : Mark) (n : ℕ) → Greys k (shaded k n)
+greys_one : (k : CycleHeap) (n : ℕ) → Greys k (shaded k n)
 greys_one k n =
     elim (cases_Bool (is_white k n)) [
       | inl white ↦
@@ -419,7 +424,7 @@ greys_one k n =
       | inr other ↦ simp other (record { heap = refl; found = refl; as_many = omega arith })
     ]
 
-pub greys_all : (k : Mark) (ns : List ℕ) → Greys k (shaded_all k ns)
+pub greys_all : (k : CycleHeap) (ns : List ℕ) → Greys k (shaded_all k ns)
 greys_all k [] = record { heap = refl; found = refl; as_many = omega arith }
 greys_all k (n ∷ ns) =
     let first : Greys k (shaded k n) = greys_one k n in
@@ -443,7 +448,7 @@ roomy_scanned {g} {grey} {l} {found} taken roomy =
     roomy_grown refl roomy.few (ap (λ (n : Worklist). n.room) taken) (omega (arith, stands)) roomy
 
 -- then each worker's list has room for it, also once its targets are grey
-pub scan_has_room : {g : Ground} {grey l : Worklist} {found : List Worklist} (k after : Mark) (w n : ℕ)
+pub scan_has_room : {g : Ground} {grey l : Worklist} {found : List Worklist} (k after : CycleHeap) (w n : ℕ)
     → w < g.heap.config.workers → IsRoomy g grey found → l ≡ without_first grey → first_in grey.stands ≡ Some n
     → k.marked ≡ g.marked → k.grey ≡ l.stands → k.found ≡ lists_of found → Greys k after
     → length (list_at after.found w) + length after.grey < length after.marked
@@ -457,3 +462,21 @@ scan_has_room {g} {grey} {l} {found} k after w n within roomy taken first marked
     ap (λ (ls : List (List ℕ)). length (list_at ls w)) (grown.found ∙ lists) ∙ ap length (list_at-lists_of found w) in
     let marks : length k.marked ≡ length g.marked = ap length marked in
     omega (arith, few, one, rest, own, marks, grown.as_many)
+
+-- ---- what calls know of the heap as it is seen
+
+-- of the worker and the room that listing a found reference asks for
+pub listing_asks : (k now : CycleHeap) (i w : ℕ) → k ≡ now → i ≡ w → w < now.heap.config.workers
+    → length (list_at now.found w) + length now.grey < length now.marked
+    → (i < k.heap.config.workers) × (length (list_at k.found i) + length k.grey < length k.marked)
+listing_asks k now i w is same worker room = rw (is, same) (worker, room)
+
+-- of the worker that scans
+pub scanner_within : (k now : CycleHeap) (w : ℕ) → k.heap ≡ now.heap → work_refusal now.heap now.phase Marking w ≡ None
+    → w < k.heap.config.workers
+scanner_within k now w same none =
+    subst (λ (h : Heap). w < h.config.workers) (sym same) (worker_within now.heap now.phase Marking w none)
+
+-- of what was shaded
+pub shaded_greys : (k j : CycleHeap) (ns : List ℕ) → j ≡ shaded_all k ns → Greys k j
+shaded_greys k j ns is = subst (λ (m : CycleHeap). Greys k m) (sym is) (greys_all k ns)

@@ -4,6 +4,7 @@ use Rattle.std.proofs.Common.{◌≡◌, ℕ, ◌+◌, ◌*◌, ◌<◌, true, f
 use Rattle.std.proofs.Common.{List, [], ◌++◌, length, Option, Some, None, ◌⊎◌, inl, inr}
 use Rattle.std.specs.Prelude.{slice_set}
 use Rattle.std.proofs.lemmas.Bool.{and_parts, false≢true, true≢false, or_left, or_right, ltb-true}
+use Rattle.ref_base.specs.DoomedSets.{any_is}
 use Rattle.ref_base.specs.Members.{has}
 use Rattle.ref_base.specs.Graphs.{is_there}
 use Rattle.ref_base.specs.Paths.{present, targets_at}
@@ -15,21 +16,21 @@ use Rattle.ref_base.specs.Collectors.{State}
 use Rattle.ref_base.specs.declared.phase.Phase.{Phase}
 use Rattle.ref_base.specs.declared.phase.Phase.TheVariants.{Idle, Marking, Clearing, Sweeping}
 use Rattle.ref_base.proofs.HasLaws.{has-left, has-right, has-cases}
-use Rattle.ref_mark.specs.Marks.{Mark, policy_in, is_white, is_black, is_past_mark, any_is}
+use Rattle.ref_mark.specs.CycleHeaps.{is_in_cycle, CycleHeap, policy_in, is_white, is_black, is_past_mark}
 use Rattle.ref_mark.specs.Standing.{Stands}
 use Rattle.ref_mark.proofs.Shading.{not_white_marked}
 use Rattle.ref_mark.proofs.Moves.{leading_is_there}
-use Rattle.ref_mark.proofs.Lookups.{has-present_set, has-present_at}
+use Rattle.ref_base.proofs.Lookups.{has-present_set, has-present_at}
 
-past_cases : (phase : Phase) → is_in phase Idle ≡ false → is_in phase Marking ≡ false
+past_cases : (phase : Phase) → is_in_cycle phase ≡ true → is_in phase Marking ≡ false
     → (is_in phase Clearing ≡ true) ⊎ (is_in phase Sweeping ≡ true)
-past_cases Idle begun quiet = absurd (true≢false begun)
+past_cases Idle begun quiet = absurd (false≢true begun)
 past_cases Marking begun quiet = absurd (true≢false quiet)
 past_cases Clearing begun quiet = inl refl
 past_cases Sweeping begun quiet = inr refl
 
 -- a cycle that has begun and isn't in its mark is past it
-pub past_from : (phase : Phase) → is_in phase Idle ≡ false → is_in phase Marking ≡ false → is_past_mark phase ≡ true
+pub past_from : (phase : Phase) → is_in_cycle phase ≡ true → is_in phase Marking ≡ false → is_past_mark phase ≡ true
 past_from phase begun quiet =
     elim (past_cases phase begun quiet) [
       | inl clearing ↦ or_left (is_in phase Clearing) (is_in phase Sweeping) clearing
@@ -62,16 +63,16 @@ root_cases slots holds pending n h =
 -- ---- slots
 
 -- a slot of a mutator that is there is among the slots
-pub slot_within : (k : Mark) (a : State) (m s : ℕ) → Stands k a → has_slot k.heap m s ≡ true
+pub slot_within : (k : CycleHeap) (a : State) (m s : ℕ) → Stands k a → has_slot k.heap m s ≡ true
     → 16 * m + s < length k.heap.slots
 slot_within k a m s stands there =
     let parts = and_parts (is_mutator k.heap m) (nat_lt s 16) there in
     let mutator : m < k.heap.config.mutators = ltb-true m k.heap.config.mutators parts.0 in
     let slot : s < 16 = ltb-true s 16 parts.1 in
-    let count : length k.heap.slots ≡ 16 * k.heap.config.mutators = stands.slots in
+    let count : length k.heap.slots ≡ 16 * k.heap.config.mutators = stands.orderly.slots in
     omega (arith, mutator, slot, count)
 
-module _ (k : Mark) (a : State) (stands : Stands k a) (begun : is_in k.phase Idle ≡ false) where
+module _ (k : CycleHeap) (a : State) (stands : Stands k a) (begun : is_in_cycle k.phase ≡ true) where
   -- a root isn't white
   pub root_is_not_white : (n : ℕ)
       → has (present k.heap.slots ++ k.heap.holds ++ pending_numbers a.world.pending) n ≡ true → is_white k n ≡ false
@@ -136,12 +137,12 @@ module _ (k : Mark) (a : State) (stands : Stands k a) (begun : is_in k.phase Idl
       ]
 
 -- where a cycle has begun, the object isn't white
-held_off : (k : Mark) (a : State) (m s : ℕ) → Stands k a → is_in k.phase Idle ≡ false → (held : Option ℕ)
+held_off : (k : CycleHeap) (a : State) (m s : ℕ) → Stands k a → is_in_cycle k.phase ≡ true → (held : Option ℕ)
     → slot_at k.heap m s ≡ held → any_is (is_white k) held ≡ false
 held_off k a m s stands begun None is = refl
 held_off k a m s stands begun (Some n) is = slot_is_not_white k a stands begun m s n is
 
 -- a slot's object isn't white
-pub slot_off : (k : Mark) (a : State) (m s : ℕ) → Stands k a → is_in k.phase Idle ≡ false
+pub slot_off : (k : CycleHeap) (a : State) (m s : ℕ) → Stands k a → is_in_cycle k.phase ≡ true
     → any_is (is_white k) (slot_at k.heap m s) ≡ false
 slot_off k a m s stands begun = held_off k a m s stands begun (slot_at k.heap m s) refl

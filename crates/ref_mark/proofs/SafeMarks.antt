@@ -11,20 +11,20 @@ use Rattle.ref_base.specs.KeptPaths.{is_kept, IsKept}
 use Rattle.ref_base.specs.DoomedSets.{unscanned, MayDoom}
 use Rattle.ref_base.specs.Collectors.{State, joined}
 use Rattle.ref_base.proofs.PathLaws.{path_within}
-use Rattle.ref_mark.specs.Marks.{Mark, policy_in, is_white, is_black}
+use Rattle.ref_mark.specs.CycleHeaps.{CycleHeap, policy_in, is_white, is_black}
 use Rattle.ref_objects.specs.Grounds.{unmarked}
 use Rattle.ref_mark.specs.Standing.{FactsBut, Coloured, Reached}
 use Rattle.ref_mark.proofs.Shading.{not_white_marked}
 use Rattle.ref_mark.proofs.DoomedLists.{has-unmarked}
 
 -- where nothing is grey, what is there and marked is black
-pub marked_is_black : (k : Mark) → k.grey ≡ [] → (n : ℕ) → is_there k.heap.objects n ≡ true → has k.marked n ≡ true
+pub marked_is_black : (k : CycleHeap) → k.grey ≡ [] → (n : ℕ) → is_there k.heap.objects n ≡ true → has k.marked n ≡ true
     → is_black k n ≡ true
 marked_is_black k none n there marked =
     let clear : has k.grey n ≡ false = ap (λ ns. has ns n) none in simp (there, marked, clear) refl
 
 -- what an object leads to that is there and isn't white isn't white either
-pub not_white_goes_on : (k : Mark) (roots : List ℕ) → FactsBut k roots [] → k.grey ≡ [] → (m n : ℕ)
+pub not_white_goes_on : (k : CycleHeap) (roots : List ℕ) → FactsBut k roots [] → k.grey ≡ [] → (m n : ℕ)
     → is_there k.heap.objects m ≡ true → is_white k m ≡ false
     → has (targets_at (is_kept (policy_in k)) k.heap.objects m) n ≡ true → is_white k n ≡ false
 not_white_goes_on k roots facts none m n there other target =
@@ -34,7 +34,7 @@ not_white_goes_on k roots facts none m n there other target =
     ]
 
 -- no kept path ends at a white object
-pub kept_is_not_white : (k : Mark) (roots : List ℕ) → FactsBut k roots [] → k.grey ≡ [] → (n : ℕ)
+pub kept_is_not_white : (k : CycleHeap) (roots : List ℕ) → FactsBut k roots [] → k.grey ≡ [] → (n : ℕ)
     → IsKept (policy_in k) (record { objects = k.heap.objects; roots = roots }) n → is_white k n ≡ false
 kept_is_not_white k roots facts none n kept =
     let g : Graph = record { objects = k.heap.objects; roots = roots } in
@@ -45,7 +45,7 @@ kept_is_not_white k roots facts none n kept =
     n kept.0 kept.1).1
 
 -- no object outside the unmarked leads to one of them
-pub unmarked_is_closed : (k : Mark) (roots : List ℕ) → FactsBut k roots [] → k.grey ≡ [] → (m n : ℕ)
+pub unmarked_is_closed : (k : CycleHeap) (roots : List ℕ) → FactsBut k roots [] → k.grey ≡ [] → (m n : ℕ)
     → is_there k.heap.objects m ≡ true → has (unmarked k.heap.objects k.marked) m ≡ false
     → has (targets_at (is_kept (policy_in k)) k.heap.objects m) n ≡ true
     → has (unmarked k.heap.objects k.marked) n ≡ false
@@ -54,7 +54,7 @@ unmarked_is_closed k roots facts none m n there out target =
     ∙ not_white_goes_on k roots facts none m n there (sym (has-unmarked k.heap.objects k.marked m) ∙ out) target
 
 -- so the unmarked may be doomed
-pub unmarked_may_be_doomed : (k : Mark) (a : State) (roots : List ℕ) → FactsBut k roots [] → Reached k a
+pub unmarked_may_be_doomed : (k : CycleHeap) (a : State) (roots : List ℕ) → FactsBut k roots [] → Reached k a.moments
     → k.grey ≡ []
     → MayDoom (policy_in k) (record { objects = k.heap.objects; roots = roots }) a.moments
     (unmarked k.heap.objects k.marked)
@@ -100,7 +100,7 @@ unscanned-unmarked (o ∷ os) born scanned marked same =
     ]
 
 -- where nothing is grey, what was made before the cycle and never scanned is what isn't marked
-pub unscanned_is_unmarked : (k : Mark) (a : State) → Coloured k a → k.grey ≡ []
+pub unscanned_is_unmarked : (k : CycleHeap) (a : State) → Coloured k a.born a.scanned → k.grey ≡ []
     → unscanned k.heap.objects a.born (joined a.scanned) ≡ unmarked k.heap.objects k.marked
 unscanned_is_unmarked k a coloured none =
     unscanned-unmarked k.heap.objects a.born (joined a.scanned) k.marked

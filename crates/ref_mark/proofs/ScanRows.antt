@@ -1,80 +1,61 @@
 -- A scan: the first of the grey list becomes black, what it leads to becomes grey, and a reference to what is still
 -- white is found.
 use Rattle.std.proofs.Common.{◌≡◌, ℕ, ◌<◌, Bool, true, false, not, refl, sym, ap, subst, ◌∙◌}
-use Rattle.std.proofs.Common.{List, [], ◌∷◌, ◌++◌, length, Some, None}
+use Rattle.std.proofs.Common.{List, [], ◌∷◌, ◌++◌, length, None}
 use Rattle.std.proofs.lemmas.Bool.{true≢false, false_from_ne_true}
 use Rattle.std.proofs.lemmas.List.{length-set}
 use Rattle.ref_base.specs.Members.{has}
 use Rattle.ref_base.specs.Paths.{targets_at}
 use Rattle.ref_base.specs.KeptPaths.{is_kept, EverKept}
-use Rattle.ref_base.specs.Heaps.{Heap}
 use Rattle.ref_base.specs.Worlds.{graph_of, policy_of}
 use Rattle.ref_base.specs.Refusals.{is_in, is_empty, work_refusal}
 use Rattle.ref_base.specs.Collectors.{State, joined}
-use Rattle.ref_base.specs.CollectorRows.{IsRow, IsAnswer, list_at}
+use Rattle.ref_base.specs.CollectorRows.{Scans, list_at}
 use Rattle.ref_base.specs.declared.phase.Phase.TheVariants.{Marking}
-use Rattle.ref_base.specs.declared.fault.Fault.{Fault}
-use Rattle.ref_base.specs.declared.step.Step.TheVariants as steps
 use Rattle.ref_base.specs.declared.reply.Reply.TheVariants as replies
 use Rattle.ref_base.proofs.HasLaws.{has-first}
-use Rattle.ref_mark.specs.Marks.{Mark, policy_in, shaded_all, with_found, scanned_from, scanned}
+use Rattle.ref_mark.specs.CycleHeaps.{CycleHeap, policy_in, shaded_all, with_found, scanned_from, scanned}
 use Rattle.ref_mark.specs.Standing.{Stands}
 use Rattle.ref_mark.specs.Worklists.{first_in}
-use Rattle.ref_mark.specs.MarkRows.{scan_reply}
+use Rattle.ref_mark.specs.MarkCalls.{scan_reply}
 use Rattle.ref_mark.proofs.Shading.{MarkingBut, shaded_all-only, shaded_all_marking, some_left, grey_is_left}
 use Rattle.ref_mark.proofs.Passed.{is_marking, work_passed}
 use Rattle.ref_mark.proofs.PlainStates.{plain_state, plain_state-is, marking_stands, plain_marking}
-use Rattle.ref_mark.proofs.FoundLists.{AreFound-scanned, AreFound-more_found}
+use Rattle.ref_base.proofs.FoundLists.{AreFound-scanned, AreFound-more_found}
 use Rattle.ref_mark.proofs.Scanning.{reached_later, without_first, state_scanned, without_first_marking}
 use Rattle.ref_mark.proofs.Scanning.{with_found-only, length-with_found, with_found_marking}
 
 -- a scan where nothing is grey
-scan_none : (k : Mark) (a : State) (w : ℕ) → Stands k a → k.phase ≡ Marking
-    → work_refusal k.heap Marking Marking w ≡ None → k.grey ≡ []
-    → (b : State) × IsRow (plain_state k Marking a) (record { step = steps.Scan w; reply = replies.Nothing }) b
-    × Stands k b
-scan_none k a w stands phase none is =
+scan_none : (k : CycleHeap) (a : State) (w : ℕ) → Stands k a → k.phase ≡ Marking → k.grey ≡ []
+    → (b : State) × Scans (plain_state k Marking a) w replies.Nothing b × Stands k b
+scan_none k a w stands phase is =
     let s = plain_state k Marking a in
     let b : State = record s { moments = graph_of s.world ∷ a.moments } in
     let but : MarkingBut k s [] [] = plain_marking k a stands phase in
-    let facts = but.facts in
-    let coloured = but.coloured in
-    let found = but.found in
     let now : is_in k.phase Marking ≡ true = ap (λ p. is_in p Marking) phase in
     let left : a.left ≡ not (is_empty k.grey) = (stands.marking now).left in
-    let none_left : a.left ≡ false = left ∙ ap (λ ns. not (is_empty ns)) is in
     let later : MarkingBut k b [] [] = record {
-      facts = facts;
-      coloured = record {
-        distinct = coloured.distinct;
-        grey_there = coloured.grey_there;
-        grey_marked = coloured.grey_marked;
-        grey_old = coloured.grey_old;
-        scanned_black = coloured.scanned_black;
-        black_scanned = coloured.black_scanned;
-        since = coloured.since;
-      };
-      reached = reached_later k s b (graph_of s.world) refl refl but.reached;
-      found = record { are_found = found.are_found; once = found.once; all_found = found.all_found };
+      facts = but.facts;
+      coloured = but.coloured;
+      reached = reached_later k a.moments (graph_of s.world) refl but.reached;
+      found = but.found;
     } in (
       b,
-      subst (λ f. IsAnswer s f (steps.Scan w) replies.Nothing b) (sym none) (none_left, (refl, refl)),
-      marking_stands k b phase refl left stands.born stands.rising stands.below stands.slots stands.scanners
-          stands.finders later,
+      (left ∙ ap (λ ns. not (is_empty ns)) is, (refl, refl)),
+      marking_stands k b phase refl left stands.born stands.orderly stands.scanners stands.finders later,
     )
 
 -- a scan of the first of the grey list
-scan_some : (k : Mark) (a : State) (w n : ℕ) (rest : List ℕ) → Stands k a → k.phase ≡ Marking
-    → work_refusal k.heap Marking Marking w ≡ None → w < k.heap.config.workers → k.grey ≡ n ∷ rest
-    → (b : State) × IsRow (plain_state k Marking a) (record { step = steps.Scan w; reply = replies.Scanned n }) b
-    × Stands (scanned_from k w (n ∷ rest)) b
-scan_some k a w n rest stands phase none within is =
+scan_some : (k : CycleHeap) (a : State) (w n : ℕ) (rest : List ℕ) → Stands k a → k.phase ≡ Marking
+    → w < k.heap.config.workers → k.grey ≡ n ∷ rest
+    → (b : State) × Scans (plain_state k Marking a) w (replies.Scanned n) b × Stands (scanned_from k w (n ∷ rest)) b
+scan_some k a w n rest stands phase within is =
     let s = plain_state k Marking a in
     let but : MarkingBut k s [] [] = plain_marking k a stands phase in
     let first : has k.grey n ≡ true = ap (λ ns. has ns n) is ∙ has-first n rest in
     let targets : List ℕ = targets_at (is_kept (policy_in k)) k.heap.objects n in
-    let one : Mark = without_first k rest in
-    let j : Mark = shaded_all one targets in
+    let one : CycleHeap = without_first k rest in
+    let j : CycleHeap = shaded_all one targets in
     let left : Bool = not (is_empty j.grey) in
     let b : State = state_scanned k a w n left in
     let scanner : w < length a.scanned = subst (λ i. w < i) (sym stands.scanners) within in
@@ -86,7 +67,7 @@ scan_some k a w n rest stands phase none within is =
     shaded_all_marking one b targets [] (n ∷ [])
     (λ m target there. taken.reached.goes_on n m ever target there) taken in
     let only : j ≡ record one { marked = j.marked; grey = j.grey } = shaded_all-only one targets in
-    let i : Mark = record one { marked = j.marked; grey = j.grey } in
+    let i : CycleHeap = record one { marked = j.marked; grey = j.grey } in
     let new : has (joined k.found) n ≡ false =
     false_from_ne_true (has (joined k.found) n)
     (λ old.
@@ -97,56 +78,39 @@ scan_some k a w n rest stands phase none within is =
     let done : MarkingBut (with_found i w n) b [] [] =
     with_found_marking i b w n finder new
     (λ some. AreFound-more_found k.heap.objects a.scanned k.found w n some but.found.are_found)
-    (subst (λ (l : Mark). MarkingBut l b [] (n ∷ [])) only all_shaded) in
+    (subst (λ (l : CycleHeap). MarkingBut l b [] (n ∷ [])) only all_shaded) in
     let found : List (List ℕ) = (with_found i w n).found in
     let found_only : with_found i w n ≡ record i { found = found } = with_found-only i w n in
     let scanners : length b.scanned ≡ k.heap.config.workers =
     length-set a.scanned w (list_at a.scanned w ++ n ∷ []) ∙ stands.scanners in
     let finders : length found ≡ k.heap.config.workers = length-with_found i w n ∙ stands.finders in
     let stands_then : Stands (record i { found = found }) b =
-    marking_stands (record i { found = found }) b phase refl refl stands.born stands.rising stands.below stands.slots
-    scanners finders (subst (λ (l : Mark). MarkingBut l b [] []) found_only done) in
+    marking_stands (record i { found = found }) b phase refl refl stands.born stands.orderly scanners finders
+    (subst (λ (l : CycleHeap). MarkingBut l b [] []) found_only done) in
     let now : is_in k.phase Marking ≡ true = ap (λ p. is_in p Marking) phase in
     let was_left : a.left ≡ true = (stands.marking now).left ∙ ap (λ ns. not (is_empty ns)) is in
-    let policy : policy_of b.world ≡ policy_in j = sym (ap (λ (l : Mark). policy_in l) only) in (
+    let policy : policy_of b.world ≡ policy_in j = sym (ap (λ (l : CycleHeap). policy_in l) only) in (
       b,
-      subst (λ f. IsAnswer s f (steps.Scan w) (replies.Scanned n) b) (sym none) (
+      (
         was_left,
         grey_is_left k s n but.coloured but.reached refl first,
         (left, refl, λ some. some_left j b all_shaded.coloured all_shaded.reached policy some),
       ),
-      subst (λ (l : Mark). Stands (with_found l w n) b) (sym only)
-          (subst (λ (l : Mark). Stands l b) (sym found_only) stands_then),
+      subst (λ (l : CycleHeap). Stands (with_found l w n) b) (sym only)
+          (subst (λ (l : CycleHeap). Stands l b) (sym found_only) stands_then),
     )
 
-scan_row_from : (k : Mark) (a : State) (w : ℕ) (ns : List ℕ) → Stands k a → k.phase ≡ Marking
-    → work_refusal k.heap Marking Marking w ≡ None → w < k.heap.config.workers → k.grey ≡ ns
-    → (b : State) × IsRow (plain_state k Marking a) (record { step = steps.Scan w; reply = scan_reply (first_in ns) }) b
-    × Stands (scanned_from k w ns) b
-scan_row_from k a w [] stands phase none within is = scan_none k a w stands phase none is
-scan_row_from k a w (n ∷ rest) stands phase none within is = scan_some k a w n rest stands phase none within is
+scan_row_from : (k : CycleHeap) (a : State) (w : ℕ) (ns : List ℕ) → Stands k a → k.phase ≡ Marking
+    → w < k.heap.config.workers → k.grey ≡ ns
+    → (b : State) × Scans (plain_state k Marking a) w (scan_reply (first_in ns)) b × Stands (scanned_from k w ns) b
+scan_row_from k a w [] stands phase within is = scan_none k a w stands phase is
+scan_row_from k a w (n ∷ rest) stands phase within is = scan_some k a w n rest stands phase within is
 
 -- a scan that isn't refused
-pub scan_row : (k : Mark) (a : State) (w : ℕ) → Stands k a → work_refusal k.heap k.phase Marking w ≡ None
-    → (b : State) × IsRow a (record { step = steps.Scan w; reply = scan_reply (first_in k.grey) }) b × Stands
-    (scanned k w) b
+pub scan_row : (k : CycleHeap) (a : State) (w : ℕ) → Stands k a → work_refusal k.heap k.phase Marking w ≡ None
+    → (b : State) × Scans a w (scan_reply (first_in k.grey)) b × Stands (scanned k w) b
 scan_row k a w stands none =
     let passed = work_passed k Marking w none in
     let phase : k.phase ≡ Marking = is_marking k.phase passed.1 in
-    let early : work_refusal k.heap Marking Marking w ≡ None =
-    subst (λ p. work_refusal k.heap p Marking w ≡ None) phase none in
-    subst
-    (λ (s : State).
-    (b : State) × IsRow s (record { step = steps.Scan w; reply = scan_reply (first_in k.grey) }) b × Stands
-    (scanned k w) b)
-    (sym (plain_state-is k a Marking stands phase refl)) (scan_row_from k a w k.grey stands phase early passed.0 refl)
-
--- a scan that is refused
-pub refused_scan : (k : Mark) (a : State) (w : ℕ) (fault : Fault) → Stands k a
-    → work_refusal k.heap k.phase Marking w ≡ Some fault
-    → IsRow a (record { step = steps.Scan w; reply = replies.Refused fault }) a
-refused_scan k a w fault stands some =
-    let same : work_refusal a.world.heap a.world.phase Marking w ≡ work_refusal k.heap k.phase Marking w =
-    ap (λ p. work_refusal a.world.heap p Marking w) stands.phase
-    ∙ ap (λ (h : Heap). work_refusal h k.phase Marking w) stands.heap in
-    subst (λ f. IsAnswer a f (steps.Scan w) (replies.Refused fault) a) (sym (same ∙ some)) (refl, refl)
+    subst (λ (s : State). (b : State) × Scans s w (scan_reply (first_in k.grey)) b × Stands (scanned k w) b)
+    (sym (plain_state-is k a Marking stands phase refl)) (scan_row_from k a w k.grey stands phase passed.0 refl)

@@ -6,10 +6,12 @@ use Rattle.std.specs.Prelude.{is_some}
 use Rattle.std.proofs.lemmas.Bool.{cases_Bool, and_parts, or_cases, or_left, or_right, false≢true, true≢false}
 use Rattle.std.proofs.lemmas.Bool.{eqb-true, eq-eqb, not-true, false_from_ne_true}
 use Rattle.std.proofs.lemmas.List.{length-set}
+use Rattle.ref_base.specs.DoomedSets.{refers_into}
+use Rattle.ref_base.specs.Members.{AreDistinct}
 use Rattle.ref_base.specs.Members.{has}
 use Rattle.ref_base.specs.Graphs.{Object, Reference, Graph, is_there}
 use Rattle.ref_base.specs.Paths.{targets_at}
-use Rattle.ref_base.specs.KeptPaths.{Policy, is_kept, EverKept}
+use Rattle.ref_base.specs.KeptPaths.{Policy, is_kept}
 use Rattle.ref_base.specs.Heaps.{reference_at}
 use Rattle.ref_base.specs.Worlds.{graph_of}
 use Rattle.ref_base.specs.Collectors.{State, joined}
@@ -17,41 +19,38 @@ use Rattle.ref_base.specs.CollectorRows.{AreFound, list_at}
 use Rattle.ref_base.specs.declared.phase.Phase.TheVariants.{Marking}
 use Rattle.ref_base.proofs.HasLaws.{has-left, has-first, has-single}
 use Rattle.ref_base.proofs.PathLaws.{target_ends}
-use Rattle.ref_mark.specs.Marks.{Mark, policy_in, is_white, is_black, refers_to, with_found}
-use Rattle.ref_mark.specs.Standing.{AreDistinct, FactsBut, Coloured, Reached, FoundBut}
+use Rattle.ref_mark.specs.CycleHeaps.{CycleHeap, policy_in, is_white, is_black, with_found}
+use Rattle.ref_mark.specs.Standing.{FactsBut, Coloured, Reached, FoundBut}
 use Rattle.ref_mark.proofs.Shading.{MarkingBut}
 use Rattle.ref_mark.proofs.PlainStates.{plain_state}
-use Rattle.ref_mark.proofs.FoundLists.{with_last, has-with_last, AreDistinct-with_last, AreFound-more_scanned}
+use Rattle.ref_base.proofs.FoundLists.{with_last, has-with_last, AreDistinct-with_last, AreFound-more_scanned}
 
 -- ---- a moment more
 
 -- one more moment at which the objects are the heap's changes nothing of what was reached
-pub reached_later : (k : Mark) (a b : State) (g : Graph) → b.moments ≡ g ∷ a.moments
-    → g.objects ≡ k.heap.objects → Reached k a → Reached k b
-reached_later k a b g moments same reached =
+pub reached_later : (k : CycleHeap) (moments : List Graph) (g : Graph) → g.objects ≡ k.heap.objects → Reached k moments
+    → Reached k (g ∷ moments)
+reached_later k moments g same reached =
     let p : Policy = policy_in k in
     record {
-      marked_ever = λ n there marked.
-          subst (λ (gs : List Graph). EverKept p gs n) (sym moments) (inr (reached.marked_ever n there marked));
+      marked_ever = λ n there marked. inr (reached.marked_ever n there marked);
       goes_on = λ m n ever target there.
-          let before : EverKept p (g ∷ a.moments) m = subst (λ (gs : List Graph). EverKept p gs m) moments ever in
-          subst (λ (gs : List Graph). EverKept p gs n) (sym moments)
-          (elim before [
+          elim ever [
             | inl kept ↦ inl
                 (target_ends (is_kept p) g m n kept
                 (subst (λ (os : List Object). has (targets_at (is_kept p) os m) n ≡ true) (sym same) target)
                 (subst (λ (os : List Object). is_there os n ≡ true) (sym same) there))
             | inr earlier ↦ inr (reached.goes_on m n earlier target there)
-          ]);
+          ];
     }
 
 -- ---- the first of the grey list becomes black
 
 -- the first is off the grey list
-abbrev pub without_first : Mark → List ℕ → Mark
+abbrev pub without_first : CycleHeap → List ℕ → CycleHeap
 without_first k rest = record k { grey = rest }
 
-black-without_first : (k : Mark) (n m : ℕ) (rest : List ℕ) → k.grey ≡ n ∷ rest
+black-without_first : (k : CycleHeap) (n m : ℕ) (rest : List ℕ) → k.grey ≡ n ∷ rest
     → is_black (without_first k rest) m ≡ true → ((n == m) ≡ true) ⊎ (is_black k m ≡ true)
 black-without_first k n m rest is black =
     let parts = and_parts (is_there k.heap.objects m) (has k.marked m && not (has rest m)) black in
@@ -64,7 +63,7 @@ black-without_first k n m rest is black =
           inr (simp (parts.0, sides.0, off) refl)
     ]
 
-facts-without_first : (k : Mark) (n : ℕ) (rest roots : List ℕ) → k.grey ≡ n ∷ rest → FactsBut k roots []
+facts-without_first : (k : CycleHeap) (n : ℕ) (rest roots : List ℕ) → k.grey ≡ n ∷ rest → FactsBut k roots []
     → FactsBut (without_first k rest) roots (targets_at (is_kept (policy_in k)) k.heap.objects n ++ [])
 facts-without_first k n rest roots is facts =
     let targets = targets_at (is_kept (policy_in k)) k.heap.objects n in
@@ -88,15 +87,15 @@ facts-without_first k n rest roots is facts =
     }
 
 -- the state in which worker w scanned n in one more moment
-abbrev pub state_scanned : Mark → State → ℕ → ℕ → Bool → State
+abbrev pub state_scanned : CycleHeap → State → ℕ → ℕ → Bool → State
 state_scanned k a w n left =
     let s = plain_state k Marking a in
     record s { moments = graph_of s.world ∷ a.moments; scanned = with_last a.scanned w n; left = left }
 
-coloured-without_first : (k : Mark) (a : State) (w n : ℕ) (rest : List ℕ) (left : Bool) → k.grey ≡ n ∷ rest
-    → w < length a.scanned → Coloured k (plain_state k Marking a)
-    → Coloured (without_first k rest) (state_scanned k a w n left)
-coloured-without_first k a w n rest left is within coloured =
+coloured-without_first : (k : CycleHeap) (born : ℕ) (lists : List (List ℕ)) (w n : ℕ) (rest : List ℕ)
+    → k.grey ≡ n ∷ rest
+    → w < length lists → Coloured k born lists → Coloured (without_first k rest) born (with_last lists w n)
+coloured-without_first k born lists w n rest is within coloured =
     let grey : (m : ℕ) → has rest m ≡ true → has k.grey m ≡ true =
     λ m h. ap (λ ns. has ns m) is ∙ or_right (n == m) (has rest m) h in
     let first : has k.grey n ≡ true = ap (λ ns. has ns n) is ∙ has-first n rest in
@@ -107,7 +106,7 @@ coloured-without_first k a w n rest left is within coloured =
       grey_marked = λ m h. coloured.grey_marked m (grey m h);
       grey_old = λ m h. coloured.grey_old m (grey m h);
       scanned_black = λ m h.
-          elim (or_cases (n == m) (has (joined a.scanned) m) (sym (has-with_last a.scanned w n m within) ∙ h)) [
+          elim (or_cases (n == m) (has (joined lists) m) (sym (has-with_last lists w n m within) ∙ h)) [
             | inl same ↦
                 subst (λ i. (has k.marked i ≡ true) × (has rest i ≡ false)) (eqb-true n m same)
                 (coloured.grey_marked n first, distinct.0)
@@ -118,19 +117,18 @@ coloured-without_first k a w n rest left is within coloured =
             )
           ];
       black_scanned = λ m old black.
-          has-with_last a.scanned w n m within ∙
+          has-with_last lists w n m within ∙
           (elim (black-without_first k n m rest is black) [
-            | inl same ↦ or_left (n == m) (has (joined a.scanned) m) same
-            | inr before ↦ or_right (n == m) (has (joined a.scanned) m) (coloured.black_scanned m old before)
+            | inl same ↦ or_left (n == m) (has (joined lists) m) same
+            | inr before ↦ or_right (n == m) (has (joined lists) m) (coloured.black_scanned m old before)
           ]);
       since = coloured.since;
     }
 
-found-without_first : (k : Mark) (a : State) (w n : ℕ) (rest : List ℕ) (left : Bool) → k.grey ≡ n ∷ rest
-    → FoundBut k (plain_state k Marking a) []
-    → FoundBut (without_first k rest) (state_scanned k a w n left) (n ∷ [])
-found-without_first k a w n rest left is found = record {
-  are_found = AreFound-more_scanned k.heap.objects a.scanned k.found w n found.are_found;
+found-without_first : (k : CycleHeap) (lists : List (List ℕ)) (w n : ℕ) (rest : List ℕ) → k.grey ≡ n ∷ rest
+    → FoundBut k lists [] → FoundBut (without_first k rest) (with_last lists w n) (n ∷ [])
+found-without_first k lists w n rest is found = record {
+  are_found = AreFound-more_scanned k.heap.objects lists k.found w n found.are_found;
   once = found.once;
   all_found = λ m black refers.
       elim (black-without_first k n m rest is black) [
@@ -143,60 +141,59 @@ found-without_first k a w n rest left is found = record {
 }
 
 -- what it leads to is still to be shaded, and it may be found late
-pub without_first_marking : (k : Mark) (a : State) (w n : ℕ) (rest : List ℕ) (left : Bool) → k.grey ≡ n ∷ rest
+pub without_first_marking : (k : CycleHeap) (a : State) (w n : ℕ) (rest : List ℕ) (left : Bool) → k.grey ≡ n ∷ rest
     → w < length a.scanned → MarkingBut k (plain_state k Marking a) [] []
     → MarkingBut (without_first k rest) (state_scanned k a w n left)
     (targets_at (is_kept (policy_in k)) k.heap.objects n ++ []) (n ∷ [])
 without_first_marking k a w n rest left is within but =
     let s = plain_state k Marking a in
-    let b = state_scanned k a w n left in
-    let reached : Reached k b = reached_later k s b (graph_of s.world) refl refl but.reached in
+    let reached = reached_later k a.moments (graph_of s.world) refl but.reached in
     record {
-      facts = facts-without_first k n rest (graph_of b.world).roots is but.facts;
-      coloured = coloured-without_first k a w n rest left is within but.coloured;
+      facts = facts-without_first k n rest (graph_of s.world).roots is but.facts;
+      coloured = coloured-without_first k a.born a.scanned w n rest is within but.coloured;
       reached = record { marked_ever = reached.marked_ever; goes_on = reached.goes_on };
-      found = found-without_first k a w n rest left is but.found;
+      found = found-without_first k a.scanned w n rest is but.found;
     }
 
 -- ---- what is found
 
 -- worker w found n
-abbrev with_one_found : Mark → ℕ → ℕ → Mark
+abbrev with_one_found : CycleHeap → ℕ → ℕ → CycleHeap
 with_one_found j w n = record j { found = with_last j.found w n }
 
-with_found_one : (j : Mark) (w n : ℕ) → refers_to (is_white j) (reference_at j.heap n) ≡ true
+with_found_one : (j : CycleHeap) (w n : ℕ) → refers_into (is_white j) (reference_at j.heap n) ≡ true
     → with_found j w n ≡ with_one_found j w n
 with_found_one j w n refers = simp refers refl
 
-with_found_none : (j : Mark) (w n : ℕ) → refers_to (is_white j) (reference_at j.heap n) ≡ false
+with_found_none : (j : CycleHeap) (w n : ℕ) → refers_into (is_white j) (reference_at j.heap n) ≡ false
     → with_found j w n ≡ j
 with_found_none j w n refers = simp refers refl
 
 -- only what is found changes, and no worker comes or goes
-pub with_found-only : (j : Mark) (w n : ℕ) → with_found j w n ≡ record j { found = (with_found j w n).found }
+pub with_found-only : (j : CycleHeap) (w n : ℕ) → with_found j w n ≡ record j { found = (with_found j w n).found }
 with_found-only j w n =
-    elim (cases_Bool (refers_to (is_white j) (reference_at j.heap n))) [
+    elim (cases_Bool (refers_into (is_white j) (reference_at j.heap n))) [
       | inl refers ↦
-          subst (λ (i : Mark). i ≡ record j { found = i.found }) (sym (with_found_one j w n refers)) refl
+          subst (λ (i : CycleHeap). i ≡ record j { found = i.found }) (sym (with_found_one j w n refers)) refl
       | inr other ↦
-          subst (λ (i : Mark). i ≡ record j { found = i.found }) (sym (with_found_none j w n other)) refl
+          subst (λ (i : CycleHeap). i ≡ record j { found = i.found }) (sym (with_found_none j w n other)) refl
     ]
 
-pub length-with_found : (j : Mark) (w n : ℕ) → length (with_found j w n).found ≡ length j.found
+pub length-with_found : (j : CycleHeap) (w n : ℕ) → length (with_found j w n).found ≡ length j.found
 length-with_found j w n =
-    elim (cases_Bool (refers_to (is_white j) (reference_at j.heap n))) [
+    elim (cases_Bool (refers_into (is_white j) (reference_at j.heap n))) [
       | inl refers ↦
-          ap (λ (i : Mark). length i.found) (with_found_one j w n refers)
+          ap (λ (i : CycleHeap). length i.found) (with_found_one j w n refers)
           ∙ length-set j.found w (list_at j.found w ++ n ∷ [])
-      | inr other ↦ ap (λ (i : Mark). length i.found) (with_found_none j w n other)
+      | inr other ↦ ap (λ (i : CycleHeap). length i.found) (with_found_none j w n other)
     ]
 
 -- what refers to anything is a reference
-pub refers_to_some : (test : ℕ → Bool) (r : Option Reference) → refers_to test r ≡ true → is_some r ≡ true
-refers_to_some test None refers = refers
-refers_to_some test (Some r) refers = refl
+pub refers_into-some : (test : ℕ → Bool) (r : Option Reference) → refers_into test r ≡ true → is_some r ≡ true
+refers_into-some test None refers = refers
+refers_into-some test (Some r) refers = refl
 
-one_found_marking : (j : Mark) (b : State) (w n : ℕ) → w < length j.found → has (joined j.found) n ≡ false
+one_found_marking : (j : CycleHeap) (b : State) (w n : ℕ) → w < length j.found → has (joined j.found) n ≡ false
     → AreFound j.heap.objects b.scanned (with_last j.found w n)
     → MarkingBut j b [] (n ∷ []) → MarkingBut (with_one_found j w n) b [] []
 one_found_marking j b w n within new are but =
@@ -229,7 +226,7 @@ one_found_marking j b w n within new are but =
       };
     }
 
-none_found_marking : (j : Mark) (b : State) (n : ℕ) → refers_to (is_white j) (reference_at j.heap n) ≡ false
+none_found_marking : (j : CycleHeap) (b : State) (n : ℕ) → refers_into (is_white j) (reference_at j.heap n) ≡ false
     → MarkingBut j b [] (n ∷ []) → MarkingBut j b [] []
 none_found_marking j b n other but = record {
   facts = but.facts;
@@ -242,24 +239,24 @@ none_found_marking j b n other but = record {
         elim (but.found.all_found m black refers) [
           | inl already ↦ inl already
           | inr late ↦
-              let own : refers_to (is_white j) (reference_at j.heap n) ≡ true =
-              subst (λ i. refers_to (is_white j) (reference_at j.heap i) ≡ true) (sym (has-single n m late)) refers in
+              let own : refers_into (is_white j) (reference_at j.heap n) ≡ true =
+              subst (λ i. refers_into (is_white j) (reference_at j.heap i) ≡ true) (sym (has-single n m late)) refers in
               absurd (true≢false (sym own ∙ other))
         ];
   };
 }
 
 -- then nothing is found late any more
-pub with_found_marking : (j : Mark) (b : State) (w n : ℕ) → w < length j.found → has (joined j.found) n ≡ false
+pub with_found_marking : (j : CycleHeap) (b : State) (w n : ℕ) → w < length j.found → has (joined j.found) n ≡ false
     → (is_some (reference_at j.heap n) ≡ true → AreFound j.heap.objects b.scanned (with_last j.found w n))
     → MarkingBut j b [] (n ∷ []) → MarkingBut (with_found j w n) b [] []
 with_found_marking j b w n within new are but =
-    elim (cases_Bool (refers_to (is_white j) (reference_at j.heap n))) [
+    elim (cases_Bool (refers_into (is_white j) (reference_at j.heap n))) [
       | inl refers ↦
-          subst (λ (i : Mark). MarkingBut i b [] []) (sym (with_found_one j w n refers))
+          subst (λ (i : CycleHeap). MarkingBut i b [] []) (sym (with_found_one j w n refers))
           (one_found_marking j b w n within new
-          (are (refers_to_some (is_white j) (reference_at j.heap n) refers)) but)
+          (are (refers_into-some (is_white j) (reference_at j.heap n) refers)) but)
       | inr other ↦
-          subst (λ (i : Mark). MarkingBut i b [] []) (sym (with_found_none j w n other))
+          subst (λ (i : CycleHeap). MarkingBut i b [] []) (sym (with_found_none j w n other))
           (none_found_marking j b n other but)
     ]

@@ -6,104 +6,100 @@ use Rattle.ref_base.specs.Members.{has}
 use Rattle.ref_base.specs.Graphs.{is_there}
 use Rattle.ref_base.specs.KeptPaths.{is_kept, EverKept}
 use Rattle.ref_base.specs.Heaps.{Heap}
-use Rattle.ref_base.specs.Worlds.{pending_numbers}
+use Rattle.ref_base.specs.Worlds.{World, with_heap, pending_numbers}
 use Rattle.ref_base.specs.Refusals.{is_in, is_empty}
 use Rattle.ref_base.specs.Collectors.{State}
-use Rattle.ref_base.specs.CollectorRows.{ticked, on_heap, IsBut, GivesAnew, GivesAnewIf}
+use Rattle.ref_base.specs.CollectorRows.{ticked, with_world, IsBut, GivesAnew, GivesAnewIf}
 use Rattle.ref_base.specs.declared.phase.Phase.TheVariants.{Marking}
 use Rattle.ref_base.specs.declared.reply.Reply.{Reply}
 use Rattle.ref_base.proofs.PathLaws.{root_ends}
-use Rattle.ref_mark.specs.Marks.{Mark, policy_in, shaded, barred}
-use Rattle.ref_mark.specs.Standing.{InMarking, Stands, shown_heap}
+use Rattle.ref_mark.specs.CycleHeaps.{CycleHeap, policy_in, shaded, barred}
+use Rattle.ref_mark.specs.Standing.{Agrees, Stands}
+use Rattle.ref_mark.proofs.Agreeing.{same_before}
 use Rattle.ref_mark.proofs.Shading.{MarkingBut, shaded_marking, shaded-only, some_left, policy_of_stands}
 use Rattle.ref_mark.proofs.DoomedLists.{shown_heap-before}
 use Rattle.ref_mark.proofs.Moves.{Change, moved, IsMove, roots_after, graph_after, moved_state, moved_marking}
-use Rattle.ref_mark.proofs.MovedStates.{marking_stands, moved_stands, ticked_marking}
-use Rattle.ref_mark.proofs.MovedStates.{marking_is_not_idle, marking_is_not_past}
+use Rattle.ref_mark.proofs.MovedStates.{IsAlongside, in_mark, marking_stands, moved_beside, ticked_marking}
+use Rattle.ref_mark.proofs.MovedStates.{marking_is_in_cycle, marking_is_not_past}
 
--- in a mark: the object is a root after the move, and becomes grey if it is white
-shaded_stands : (k : Mark) (c : Change) (a : State) (n : ℕ) → Stands k a
-    → IsMove k c (pending_numbers a.world.pending) (n ∷ [])
-    → has (roots_after c (pending_numbers a.world.pending)) n ≡ true → is_in k.phase Marking ≡ true
-    → let left = not (is_empty (shaded (moved k c) n).grey) in
-    let moments = graph_after c (pending_numbers a.world.pending) ∷ a.moments in
-    Stands (shaded (moved k c) n) (moved_state a (moved k c).heap c.next moments left)
-shaded_stands k c a n stands move root marking =
-    let pending = pending_numbers a.world.pending in
-    let new : Mark = shaded (moved k c) n in
-    let left = not (is_empty new.grey) in
-    let moments = graph_after c pending ∷ a.moments in
-    let b : State = moved_state a (moved k c).heap c.next moments left in
-    let begun = marking_is_not_idle k.phase marking in
-    let in_mark : InMarking k a = stands.marking marking in
-    let but : MarkingBut k a [] [] =
-    record {
-      facts = stands.facts begun;
-      coloured = in_mark.coloured;
-      reached = in_mark.reached;
-      found = in_mark.found;
-    } in
-    let ever : is_there c.objects n ≡ true → EverKept (policy_in k) moments n =
-    λ there. inl (root_ends (is_kept (policy_in k)) (graph_after c pending) n there root) in
-    let after : MarkingBut new b [] [] =
-    shaded_marking (moved k c) b n [] [] ever
-    (moved_marking k c a (n ∷ []) left move begun stands.below stands.born but) in
-    let only = shaded-only (moved k c) n in
-    subst (λ (j : Mark). Stands j b) (sym only)
-    (marking_stands k c a (n ∷ []) stands move new.marked new.grey left marking
-    (subst (λ (j : Mark). MarkingBut j b [] []) only after) refl)
+module _ (k : CycleHeap) (c : Change) (a : State) (w : World) (beside : IsAlongside a.world w) (n : ℕ)
+    (stands : Stands k a)
+    (root : has (roots_after c (pending_numbers w.pending)) n ≡ true) where
+  -- the state that says anew whether an object is left
+  abbrev state_anew : State
+  state_anew =
+      moved_state a (with_heap w (moved k c).heap) c.next (graph_after c (pending_numbers w.pending) ∷ a.moments)
+      (not (is_empty (shaded (moved k c) n).grey))
 
--- b is the state that says anew whether an object is left
-anew_in_mark : (k : Mark) (c : Change) (a : State) (n : ℕ) → Stands k a
-    → IsMove k c (pending_numbers a.world.pending) (n ∷ [])
-    → has (roots_after c (pending_numbers a.world.pending)) n ≡ true → is_in k.phase Marking ≡ true → a.next ≡ c.next
-    → (b : State) × IsBut (ticked (on_heap a (moved k c).heap)) b × Stands (shaded (moved k c) n) b
-anew_in_mark k c a n stands move root marking next =
-    let left = not (is_empty (shaded (moved k c) n).grey) in
-    let moments = graph_after c (pending_numbers a.world.pending) ∷ a.moments in
-    let b : State = moved_state a (moved k c).heap c.next moments left in
-    let after : Stands (shaded (moved k c) n) b = shaded_stands k c a n stands move root marking in
-    let now : is_in a.world.phase Marking ≡ true = ap (λ p. is_in p Marking) stands.phase ∙ marking in
-    let same : (shaded (moved k c) n).phase ≡ k.phase = ap (λ (j : Mark). j.phase) (shaded-only (moved k c) n) in
-    let in_mark : InMarking (shaded (moved k c) n) b = after.marking (ap (λ p. is_in p Marking) same ∙ marking) in
-    let is : b ≡ record (ticked (on_heap a (moved k c).heap)) { left = left } =
-    ap (λ i. moved_state a (moved k c).heap i moments left) (sym next)
-    ∙ ap (λ (s : State). record s { left = left }) (sym (ticked_marking (on_heap a (moved k c).heap) now)) in (
-      b,
-      (
-        left,
-        is,
-        λ some. some_left (shaded (moved k c) n) b in_mark.coloured in_mark.reached
-            (policy_of_stands (shaded (moved k c) n) b after) some,
-      ),
-      after,
-    )
+  -- in a mark: the object is a root after the move, and becomes grey if it is white
+  shaded_stands : IsMove k c (pending_numbers w.pending) (n ∷ []) → is_in k.phase Marking ≡ true
+      → Stands (shaded (moved k c) n) state_anew
+  shaded_stands move marking =
+      let g = graph_after c (pending_numbers w.pending) in
+      let new : CycleHeap = shaded (moved k c) n in
+      let left = not (is_empty new.grey) in
+      let ever : is_there c.objects n ≡ true → EverKept (policy_in k) (g ∷ a.moments) n =
+      λ there. inl (root_ends (is_kept (policy_in k)) g n there root) in
+      let after : MarkingBut new state_anew [] [] =
+      shaded_marking (moved k c) state_anew n [] [] ever
+      (moved_marking k c a w (n ∷ []) left move (marking_is_in_cycle k.phase marking) stands.orderly.below stands.born
+      (in_mark k a stands marking)) in
+      let only = shaded-only (moved k c) n in
+      subst (λ (j : CycleHeap). Stands j state_anew) (sym only)
+      (marking_stands k c a w beside (n ∷ []) stands move new.marked new.grey left marking
+      (subst (λ (j : CycleHeap). MarkingBut j state_anew [] []) only after) refl)
 
--- The row gives out n, which is a root after the move: in a mark it may be white until it is shaded.
-pub barred_row : (k : Mark) (c : Change) (a : State) (n : ℕ) (h : Heap) (answer : Reply) → Stands k a
-    → (is_in k.phase Marking ≡ true → IsMove k c (pending_numbers a.world.pending) (n ∷ []))
-    → (is_in k.phase Marking ≡ false → IsMove k c (pending_numbers a.world.pending) [])
-    → has (roots_after c (pending_numbers a.world.pending)) n ≡ true → c.next ≡ k.next → h ≡ shown_heap (moved k c)
-    → (b : State) × GivesAnew answer (on_heap a h) answer b × Stands (barred (moved k c) (Some n)) b
-barred_row k c a n h answer stands move_in_mark move_else root next heap =
-    elim (cases_Bool (is_in k.phase Marking)) [
-      | inl marking ↦
-          let now : is_in a.world.phase Marking ≡ true = ap (λ p. is_in p Marking) stands.phase ∙ marking in
-          let shades : barred (moved k c) (Some n) ≡ shaded (moved k c) n = simp marking refl in
-          let is : h ≡ (moved k c).heap =
-          heap ∙ shown_heap-before (moved k c) (marking_is_not_past k.phase marking) in
-          let row = anew_in_mark k c a n stands (move_in_mark marking) root marking (stands.next ∙ sym next) in (
-            row.0,
-            subst (λ x. GivesAnewIf x answer (on_heap a h) answer row.0) (sym now)
-                (refl, subst (λ (g : Heap). IsBut (ticked (on_heap a g)) row.0) (sym is) row.1),
-            subst (λ (j : Mark). Stands j row.0) (sym shades) row.2,
-          )
-      | inr quiet ↦
-          let now : is_in a.world.phase Marking ≡ false = ap (λ p. is_in p Marking) stands.phase ∙ quiet in
-          let rests : barred (moved k c) (Some n) ≡ moved k c = simp quiet refl in (
-            ticked (on_heap a h),
-            subst (λ x. GivesAnewIf x answer (on_heap a h) answer (ticked (on_heap a h))) (sym now) (refl, refl),
-            subst (λ (j : Mark). Stands j (ticked (on_heap a h))) (sym rests)
-                (moved_stands k c a stands (move_else quiet) h a.next heap (stands.next ∙ sym next)),
-          )
-    ]
+  anew_in_mark : IsMove k c (pending_numbers w.pending) (n ∷ []) → is_in k.phase Marking ≡ true → a.next ≡ c.next
+      → (b : State) × IsBut (ticked (with_world a (with_heap w (moved k c).heap))) b × Stands (shaded (moved k c) n) b
+  anew_in_mark move marking next =
+      let b : State = state_anew in
+      let moments = graph_after c (pending_numbers w.pending) ∷ a.moments in
+      let base : State = with_world a (with_heap w (moved k c).heap) in
+      let after : Stands (shaded (moved k c) n) b = shaded_stands move marking in
+      let now : is_in w.phase Marking ≡ true = ap (λ p. is_in p Marking) (beside.phase ∙ stands.phase) ∙ marking in
+      let same : (shaded (moved k c) n).phase ≡ k.phase = ap (λ (j : CycleHeap). j.phase) (shaded-only (moved k c) n) in
+      let holds = after.marking (ap (λ p. is_in p Marking) same ∙ marking) in
+      let is : b ≡ record (ticked base) { left = b.left } =
+      ap (λ i. moved_state a (with_heap w (moved k c).heap) i moments b.left) (sym next)
+      ∙ ap (λ (s : State). record s { left = b.left }) (sym (ticked_marking base now)) in (
+        b,
+        (
+          b.left,
+          is,
+          λ some. some_left (shaded (moved k c) n) b holds.coloured holds.reached
+              (policy_of_stands (shaded (moved k c) n) b after) some,
+        ),
+        after,
+      )
+
+  -- The row gives out n, which is a root after the move: in a mark it may be white until it is shaded.
+  pub barred_row : (h : Heap) (answer : Reply)
+      → (is_in k.phase Marking ≡ true → IsMove k c (pending_numbers w.pending) (n ∷ []))
+      → (is_in k.phase Marking ≡ false → IsMove k c (pending_numbers w.pending) [])
+      → c.next ≡ k.next → Agrees (moved k c) h
+      → (b : State) × GivesAnew answer (with_world a (with_heap w h)) answer b × Stands (barred (moved k c) (Some n)) b
+  barred_row h answer move_in_mark move_else next heap =
+      let base : State = with_world a (with_heap w h) in
+      elim (cases_Bool (is_in k.phase Marking)) [
+        | inl marking ↦
+            let now : is_in w.phase Marking ≡ true = ap (λ p. is_in p Marking) (beside.phase ∙ stands.phase)
+            ∙ marking in
+            let shades : barred (moved k c) (Some n) ≡ shaded (moved k c) n = simp marking refl in
+            let early = marking_is_not_past k.phase marking in
+            let is : h ≡ (moved k c).heap =
+            same_before (moved k c) h early heap ∙ shown_heap-before (moved k c) early in
+            let row = anew_in_mark (move_in_mark marking) marking (stands.next ∙ sym next) in (
+              row.0,
+              subst (λ x. GivesAnewIf x answer base answer row.0) (sym now)
+                  (refl, subst (λ (g : Heap). IsBut (ticked (with_world a (with_heap w g))) row.0) (sym is) row.1),
+              subst (λ (j : CycleHeap). Stands j row.0) (sym shades) row.2,
+            )
+        | inr quiet ↦
+            let now : is_in w.phase Marking ≡ false = ap (λ p. is_in p Marking) (beside.phase ∙ stands.phase) ∙ quiet in
+            let rests : barred (moved k c) (Some n) ≡ moved k c = simp quiet refl in (
+              ticked base,
+              subst (λ x. GivesAnewIf x answer base answer (ticked base)) (sym now) (refl, refl),
+              subst (λ (j : CycleHeap). Stands j (ticked base)) (sym rests)
+                  (moved_beside k c a w beside stands (move_else quiet) h a.next heap (stands.next ∙ sym next)),
+            )
+      ]

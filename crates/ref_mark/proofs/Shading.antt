@@ -3,6 +3,9 @@ use Rattle.std.proofs.Common.{◌≡◌, ℕ, ◌<◌, Bool, true, false, not, �
 use Rattle.std.proofs.Common.{List, [], ◌∷◌, ◌++◌, Option, Some, None, ◌⊎◌, inl, inr}
 use Rattle.std.proofs.lemmas.Bool.{cases_Bool, and_parts, or_cases, or_left, or_right, false≢true, true≢false}
 use Rattle.std.proofs.lemmas.Bool.{eqb-true, eq-eqb, ne_eqb, not-true, or_parts, false_from_ne_true, cases_lt}
+use Rattle.ref_base.specs.DoomedSets.{refers_into}
+use Rattle.ref_base.specs.DoomedSets.{any_is}
+use Rattle.ref_base.specs.Members.{AreDistinct}
 use Rattle.ref_base.specs.Members.{has}
 use Rattle.ref_base.specs.Graphs.{Reference, is_there}
 use Rattle.ref_base.specs.KeptPaths.{Policy, EverKept}
@@ -13,57 +16,59 @@ use Rattle.ref_base.specs.Collectors.{State, joined}
 use Rattle.ref_base.specs.CollectorRows.{IsLeft}
 use Rattle.ref_base.specs.declared.urgency.Urgency.{Urgency}
 use Rattle.ref_base.proofs.HasLaws.{has-append, has-cases, has-single, has-first}
-use Rattle.ref_mark.specs.Marks.{Mark, policy_in, is_white, is_black, shaded, shaded_all, any_is, refers_to}
-use Rattle.ref_mark.specs.Standing.{AreDistinct, FactsBut, Coloured, Reached, FoundBut, Stands, shown_heap}
-use Rattle.ref_mark.proofs.OneMore.{has-one_more}
+use Rattle.ref_mark.specs.CycleHeaps.{CycleHeap, policy_in, is_white, is_black, shaded, shaded_all}
+use Rattle.ref_mark.specs.Standing.{FactsBut, Coloured, Reached, FoundBut, Stands, shown_heap}
+use Rattle.ref_base.proofs.OneMore.{has-one_more}
 
 -- what holds in a mark, but for some numbers that are still to be shaded, and some references that are found late
-pub record MarkingBut (k : Mark) (a : State) (todo late : List ℕ) : Type 0 where
+pub record MarkingBut (k : CycleHeap) (a : State) (todo late : List ℕ) : Type 0 where
   pub facts : FactsBut k (graph_of a.world).roots todo
-  pub coloured : Coloured k a
-  pub reached : Reached k a
-  pub found : FoundBut k a late
+  pub coloured : Coloured k a.born a.scanned
+  pub reached : Reached k a.moments
+  pub found : FoundBut k a.scanned late
 
 -- ---- what shading changes
 
 -- the object is marked, and the last of the grey list
-abbrev pub greyed : Mark → ℕ → Mark
+abbrev pub greyed : CycleHeap → ℕ → CycleHeap
 greyed k n = record k { marked = one_more k.marked n; grey = k.grey ++ n ∷ [] }
 
-pub shaded_white : (k : Mark) (n : ℕ) → is_white k n ≡ true → shaded k n ≡ greyed k n
+pub shaded_white : (k : CycleHeap) (n : ℕ) → is_white k n ≡ true → shaded k n ≡ greyed k n
 shaded_white k n white = simp white refl
 
-pub shaded_other : (k : Mark) (n : ℕ) → is_white k n ≡ false → shaded k n ≡ k
+pub shaded_other : (k : CycleHeap) (n : ℕ) → is_white k n ≡ false → shaded k n ≡ k
 shaded_other k n other = simp other refl
 
 -- shading changes what is marked and grey, and nothing else
-pub shaded-only : (k : Mark) (n : ℕ)
+pub shaded-only : (k : CycleHeap) (n : ℕ)
     → shaded k n ≡ record k { marked = (shaded k n).marked; grey = (shaded k n).grey }
 shaded-only k n =
     elim (cases_Bool (is_white k n)) [
       | inl white ↦
-          subst (λ (j : Mark). j ≡ record k { marked = j.marked; grey = j.grey }) (sym (shaded_white k n white)) refl
+          subst (λ (j : CycleHeap). j ≡ record k { marked = j.marked; grey = j.grey })
+          (sym (shaded_white k n white)) refl
       | inr other ↦
-          subst (λ (j : Mark). j ≡ record k { marked = j.marked; grey = j.grey }) (sym (shaded_other k n other)) refl
+          subst (λ (j : CycleHeap). j ≡ record k { marked = j.marked; grey = j.grey })
+          (sym (shaded_other k n other)) refl
     ]
 
-pub shaded_all-only : (k : Mark) (ns : List ℕ)
+pub shaded_all-only : (k : CycleHeap) (ns : List ℕ)
     → shaded_all k ns ≡ record k { marked = (shaded_all k ns).marked; grey = (shaded_all k ns).grey }
 shaded_all-only k [] = refl
 shaded_all-only k (n ∷ ns) =
     let j = shaded_all (shaded k n) ns in
     shaded_all-only (shaded k n) ns
-    ∙ ap (λ (i : Mark). record i { marked = j.marked; grey = j.grey }) (shaded-only k n)
+    ∙ ap (λ (i : CycleHeap). record i { marked = j.marked; grey = j.grey }) (shaded-only k n)
 
 -- one list may be shaded after another
-pub shaded_all-append : (k : Mark) (ms ns : List ℕ) → shaded_all k (ms ++ ns) ≡ shaded_all (shaded_all k ms) ns
+pub shaded_all-append : (k : CycleHeap) (ms ns : List ℕ) → shaded_all k (ms ++ ns) ≡ shaded_all (shaded_all k ms) ns
 shaded_all-append k [] ns = refl
 shaded_all-append k (m ∷ ms) ns = shaded_all-append (shaded k m) ms ns
 
 -- ---- colours
 
 -- the object isn't white any more, and each other one is as white as it was
-pub white-greyed : (k : Mark) (n m : ℕ) → is_white (greyed k n) m ≡ true
+pub white-greyed : (k : CycleHeap) (n m : ℕ) → is_white (greyed k n) m ≡ true
     → ((n == m) ≡ false) × (is_white k m ≡ true)
 white-greyed k n m white =
     let parts = and_parts (is_there k.heap.objects m) (not (has (one_more k.marked n) m)) white in
@@ -75,14 +80,14 @@ white-greyed k n m white =
           (other, simp (parts.0, unmarked) refl)
     ]
 
-pub not_white-greyed : (k : Mark) (n m : ℕ) → is_white k m ≡ false → is_white (greyed k n) m ≡ false
+pub not_white-greyed : (k : CycleHeap) (n m : ℕ) → is_white k m ≡ false → is_white (greyed k n) m ≡ false
 not_white-greyed k n m other =
     elim (cases_Bool (is_white (greyed k n) m)) [
       | inl white ↦ absurd (false≢true (sym other ∙ (white-greyed k n m white).1))
       | inr not_white ↦ not_white
     ]
 
-pub own-greyed : (k : Mark) (n m : ℕ) → (n == m) ≡ true → is_white (greyed k n) m ≡ false
+pub own-greyed : (k : CycleHeap) (n m : ℕ) → (n == m) ≡ true → is_white (greyed k n) m ≡ false
 own-greyed k n m same =
     elim (cases_Bool (is_white (greyed k n) m)) [
       | inl white ↦ absurd (true≢false (sym same ∙ (white-greyed k n m white).0))
@@ -90,7 +95,7 @@ own-greyed k n m same =
     ]
 
 -- what isn't white is marked, where it is there
-pub not_white_marked : (k : Mark) (n : ℕ) → is_there k.heap.objects n ≡ true → is_white k n ≡ false
+pub not_white_marked : (k : CycleHeap) (n : ℕ) → is_there k.heap.objects n ≡ true → is_white k n ≡ false
     → has k.marked n ≡ true
 not_white_marked k n there other =
     elim (cases_Bool (has k.marked n)) [
@@ -98,16 +103,16 @@ not_white_marked k n there other =
       | inr unmarked ↦ absurd (true≢false (simp (there, unmarked) at other))
     ]
 
-pub white_there : (k : Mark) (n : ℕ) → is_white k n ≡ true → is_there k.heap.objects n ≡ true
+pub white_there : (k : CycleHeap) (n : ℕ) → is_white k n ≡ true → is_there k.heap.objects n ≡ true
 white_there k n white = (and_parts (is_there k.heap.objects n) (not (has k.marked n)) white).0
 
-pub white_unmarked : (k : Mark) (n : ℕ) → is_white k n ≡ true → has k.marked n ≡ false
+pub white_unmarked : (k : CycleHeap) (n : ℕ) → is_white k n ≡ true → has k.marked n ≡ false
 white_unmarked k n white =
     let parts = and_parts (is_there k.heap.objects n) (not (has k.marked n)) white in
     not-true (has k.marked n) parts.1
 
 -- nothing becomes black
-pub black-greyed : (k : Mark) (n m : ℕ) → is_black (greyed k n) m ≡ true → is_black k m ≡ true
+pub black-greyed : (k : CycleHeap) (n m : ℕ) → is_black (greyed k n) m ≡ true → is_black k m ≡ true
 black-greyed k n m black =
     let parts = and_parts (is_there k.heap.objects m)
     (has (one_more k.marked n) m && not (has (k.grey ++ n ∷ []) m)) black in
@@ -131,10 +136,10 @@ pub any_is-wider : (before after : ℕ → Bool) → ((n : ℕ) → after n ≡ 
 any_is-wider before after wider None some = some
 any_is-wider before after wider (Some n) some = wider n some
 
-pub refers_to-wider : (before after : ℕ → Bool) → ((n : ℕ) → after n ≡ true → before n ≡ true)
-    → (r : Option Reference) → refers_to after r ≡ true → refers_to before r ≡ true
-refers_to-wider before after wider None some = some
-refers_to-wider before after wider (Some r) some = any_is-wider before after wider r.referent some
+pub refers_into-wider : (before after : ℕ → Bool) → ((n : ℕ) → after n ≡ true → before n ≡ true)
+    → (r : Option Reference) → refers_into after r ≡ true → refers_into before r ≡ true
+refers_into-wider before after wider None some = some
+refers_into-wider before after wider (Some r) some = any_is-wider before after wider r.referent some
 
 -- ---- lists
 
@@ -150,7 +155,7 @@ AreDistinct-push (m ∷ ms) n distinct new =
 
 -- ---- the marking
 
-facts-greyed : (k : Mark) (n : ℕ) (roots todo : List ℕ) → FactsBut k roots (n ∷ todo)
+facts-greyed : (k : CycleHeap) (n : ℕ) (roots todo : List ℕ) → FactsBut k roots (n ∷ todo)
     → FactsBut (greyed k n) roots todo
 facts-greyed k n roots todo facts =
     let next : (m : ℕ) → (is_white k m ≡ false) ⊎ (has (n ∷ todo) m ≡ true)
@@ -167,7 +172,8 @@ facts-greyed k n roots todo facts =
       closed = λ l m black target. next m (facts.closed l m (black-greyed k n l black) target);
     }
 
-coloured-greyed : (k : Mark) (a : State) (n : ℕ) → is_white k n ≡ true → Coloured k a → Coloured (greyed k n) a
+coloured-greyed : (k : CycleHeap) (a : State) (n : ℕ) → is_white k n ≡ true → Coloured k a.born a.scanned
+    → Coloured (greyed k n) a.born a.scanned
 coloured-greyed k a n white coloured =
     let there : is_there k.heap.objects n ≡ true = white_there k n white in
     let unmarked : has k.marked n ≡ false = white_unmarked k n white in
@@ -213,8 +219,8 @@ coloured-greyed k a n white coloured =
           has-one_more k.marked n m ∙ or_right (n == m) (has k.marked m) (coloured.since m there_too late);
     }
 
-reached-greyed : (k : Mark) (a : State) (n : ℕ) → EverKept (policy_in k) a.moments n → Reached k a
-    → Reached (greyed k n) a
+reached-greyed : (k : CycleHeap) (a : State) (n : ℕ) → EverKept (policy_in k) a.moments n → Reached k a.moments
+    → Reached (greyed k n) a.moments
 reached-greyed k a n ever reached = record {
   marked_ever = λ m there marked.
       elim (or_cases (n == m) (has k.marked m) (sym (has-one_more k.marked n m) ∙ marked)) [
@@ -224,17 +230,18 @@ reached-greyed k a n ever reached = record {
   goes_on = reached.goes_on;
 }
 
-found-greyed : (k : Mark) (a : State) (n : ℕ) (late : List ℕ) → FoundBut k a late → FoundBut (greyed k n) a late
+found-greyed : (k : CycleHeap) (a : State) (n : ℕ) (late : List ℕ) → FoundBut k a.scanned late
+    → FoundBut (greyed k n) a.scanned late
 found-greyed k a n late found = record {
   are_found = found.are_found;
   once = found.once;
   all_found = λ m black refers.
       found.all_found m (black-greyed k n m black)
-      (refers_to-wider (is_white k) (is_white (greyed k n)) (λ i white. (white-greyed k n i white).1)
+      (refers_into-wider (is_white k) (is_white (greyed k n)) (λ i white. (white-greyed k n i white).1)
       (reference_at k.heap m) refers);
 }
 
-greyed_marking : (k : Mark) (a : State) (n : ℕ) (todo late : List ℕ) → is_white k n ≡ true
+greyed_marking : (k : CycleHeap) (a : State) (n : ℕ) (todo late : List ℕ) → is_white k n ≡ true
     → EverKept (policy_in k) a.moments n → MarkingBut k a (n ∷ todo) late → MarkingBut (greyed k n) a todo late
 greyed_marking k a n todo late white ever but = record {
   facts = facts-greyed k n (graph_of a.world).roots todo but.facts;
@@ -244,7 +251,7 @@ greyed_marking k a n todo late white ever but = record {
 }
 
 -- a number that isn't white needs no shading
-facts-other : (k : Mark) (n : ℕ) (roots todo : List ℕ) → is_white k n ≡ false → FactsBut k roots (n ∷ todo)
+facts-other : (k : CycleHeap) (n : ℕ) (roots todo : List ℕ) → is_white k n ≡ false → FactsBut k roots (n ∷ todo)
     → FactsBut k roots todo
 facts-other k n roots todo other facts =
     let next : (m : ℕ) → (is_white k m ≡ false) ⊎ (has (n ∷ todo) m ≡ true)
@@ -261,7 +268,7 @@ facts-other k n roots todo other facts =
       closed = λ l m black target. next m (facts.closed l m black target);
     }
 
-other_marking : (k : Mark) (a : State) (n : ℕ) (todo late : List ℕ) → is_white k n ≡ false
+other_marking : (k : CycleHeap) (a : State) (n : ℕ) (todo late : List ℕ) → is_white k n ≡ false
     → MarkingBut k a (n ∷ todo) late → MarkingBut k a todo late
 other_marking k a n todo late other but = record {
   facts = facts-other k n (graph_of a.world).roots todo other but.facts;
@@ -271,20 +278,20 @@ other_marking k a n todo late other but = record {
 }
 
 -- a number that was to be shaded is shaded, if it was ever kept
-pub shaded_marking : (k : Mark) (a : State) (n : ℕ) (todo late : List ℕ)
+pub shaded_marking : (k : CycleHeap) (a : State) (n : ℕ) (todo late : List ℕ)
     → (is_there k.heap.objects n ≡ true → EverKept (policy_in k) a.moments n) → MarkingBut k a (n ∷ todo) late
     → MarkingBut (shaded k n) a todo late
 shaded_marking k a n todo late ever but =
     elim (cases_Bool (is_white k n)) [
       | inl white ↦
-          subst (λ (j : Mark). MarkingBut j a todo late) (sym (shaded_white k n white))
+          subst (λ (j : CycleHeap). MarkingBut j a todo late) (sym (shaded_white k n white))
           (greyed_marking k a n todo late white (ever (white_there k n white)) but)
       | inr other ↦
-          subst (λ (j : Mark). MarkingBut j a todo late) (sym (shaded_other k n other))
+          subst (λ (j : CycleHeap). MarkingBut j a todo late) (sym (shaded_other k n other))
           (other_marking k a n todo late other but)
     ]
 
-pub shaded_all_marking : (k : Mark) (a : State) (ns todo late : List ℕ)
+pub shaded_all_marking : (k : CycleHeap) (a : State) (ns todo late : List ℕ)
     → ((n : ℕ) → has ns n ≡ true → is_there k.heap.objects n ≡ true → EverKept (policy_in k) a.moments n)
     → MarkingBut k a (ns ++ todo) late → MarkingBut (shaded_all k ns) a todo late
 shaded_all_marking k a [] todo late ever but = but
@@ -294,11 +301,11 @@ shaded_all_marking k a (n ∷ ns) todo late ever but =
     λ m listed. ever m (or_right (n == m) (has ns m) listed) in
     elim (cases_Bool (is_white k n)) [
       | inl white ↦
-          subst (λ (j : Mark). MarkingBut (shaded_all j ns) a todo late) (sym (shaded_white k n white))
+          subst (λ (j : CycleHeap). MarkingBut (shaded_all j ns) a todo late) (sym (shaded_white k n white))
           (shaded_all_marking (greyed k n) a ns todo late rest
           (greyed_marking k a n (ns ++ todo) late white (first (white_there k n white)) but))
       | inr other ↦
-          subst (λ (j : Mark). MarkingBut (shaded_all j ns) a todo late) (sym (shaded_other k n other))
+          subst (λ (j : CycleHeap). MarkingBut (shaded_all j ns) a todo late) (sym (shaded_other k n other))
           (shaded_all_marking k a ns todo late rest (other_marking k a n (ns ++ todo) late other but))
     ]
 
@@ -308,12 +315,13 @@ abbrev policy_from : Heap → Urgency → Policy
 policy_from h urgency = record { clock = h.clock; urgency = urgency; span = h.config.span }
 
 -- the heap goes by the policy of the state that it stands for
-pub policy_of_stands : (k : Mark) (a : State) → Stands k a → policy_of a.world ≡ policy_in k
+pub policy_of_stands : (k : CycleHeap) (a : State) → Stands k a → policy_of a.world ≡ policy_in k
 policy_of_stands k a stands =
     ap (λ h. policy_from h a.world.urgency) stands.heap ∙ ap (λ u. policy_from (shown_heap k) u) stands.urgency
 
 -- what is grey is left
-pub grey_is_left : (k : Mark) (a : State) (n : ℕ) → Coloured k a → Reached k a → policy_of a.world ≡ policy_in k
+pub grey_is_left : (k : CycleHeap) (a : State) (n : ℕ) → Coloured k a.born a.scanned → Reached k a.moments
+    → policy_of a.world ≡ policy_in k
     → has k.grey n ≡ true → IsLeft a n
 grey_is_left k a n coloured reached same grey =
     let ever : EverKept (policy_in k) a.moments n =
@@ -329,7 +337,8 @@ some_grey [] some = absurd (false≢true some)
 some_grey (n ∷ ns) some = (n, has-first n ns)
 
 -- the first of the grey list is left
-pub some_left : (k : Mark) (a : State) → Coloured k a → Reached k a → policy_of a.world ≡ policy_in k
+pub some_left : (k : CycleHeap) (a : State) → Coloured k a.born a.scanned → Reached k a.moments
+    → policy_of a.world ≡ policy_in k
     → not (is_empty k.grey) ≡ true → (n : ℕ) × IsLeft a n
 some_left k a coloured reached same some =
     let first = some_grey k.grey some in (first.0, grey_is_left k a first.0 coloured reached same first.1)

@@ -1,5 +1,5 @@
 -- The rows of copies, drops and loads, and what holds change.
-use Rattle.std.proofs.Common.{◌≡◌, ℕ, ◌+◌, ◌*◌, true, false, ◌==◌, refl, sym, ap, subst, ◌∙◌, nat_lt}
+use Rattle.std.proofs.Common.{◌≡◌, ℕ, ◌+◌, ◌*◌, true, false, ◌==◌, refl, sym, ap, subst, nat_lt}
 use Rattle.std.proofs.Common.{List, [], ◌∷◌, ◌++◌, Option, Some, None, ◌⊎◌, inl, inr}
 use Rattle.std.specs.Prelude.{slice_set}
 use Rattle.std.proofs.lemmas.Bool.{cases_Bool, and_parts, or_left, eq-eqb}
@@ -11,41 +11,39 @@ use Rattle.ref_base.specs.KeptPaths.{is_kept}
 use Rattle.ref_base.specs.Heaps.{Heap, slot_at, with_slot}
 use Rattle.ref_base.specs.Worlds.{pending_numbers}
 use Rattle.ref_base.specs.Refusals.{is_in, has_slot, has_slots, field_refusal}
-use Rattle.ref_base.specs.Refusals.{copy_refusal, drop_refusal, load_refusal}
+use Rattle.ref_base.specs.Refusals.{load_refusal}
 use Rattle.ref_base.specs.Collectors.{State}
-use Rattle.ref_base.specs.CollectorRows.{ticked, on_heap, field_of, field_in, value_reply, Loads, IsRow}
-use Rattle.ref_base.specs.declared.phase.Phase.TheVariants.{Idle, Marking}
-use Rattle.ref_base.specs.declared.fault.Fault.{Fault}
+use Rattle.ref_base.specs.CollectorRows.{ticked, on_heap, field_of, field_in, value_reply, Loads, Accepts}
+use Rattle.ref_base.specs.declared.phase.Phase.TheVariants.{Marking}
 use Rattle.ref_base.specs.declared.fault.Fault.TheVariants.{NoSuchActor}
 use Rattle.ref_base.specs.declared.step.Step.TheVariants as steps
 use Rattle.ref_base.specs.declared.reply.Reply.TheVariants as replies
 use Rattle.ref_base.proofs.HasLaws.{has-left}
-use Rattle.ref_mark.specs.Marks.{Mark, policy_in, is_white, barred, loaded}
+use Rattle.ref_mark.specs.CycleHeaps.{is_in_cycle, CycleHeap, policy_in, is_white, barred, loaded}
+use Rattle.ref_mark.proofs.Agreeing.{field_in-agrees, said_slot}
 use Rattle.ref_mark.specs.Standing.{Stands}
-use Rattle.ref_mark.proofs.ShownReads.{field_in-shown}
-use Rattle.ref_mark.proofs.ShownRefusals.{load_refusal-shown}
 use Rattle.ref_mark.proofs.Moves.{Change, moved, IsMove}
-use Rattle.ref_mark.proofs.MovedStates.{moved_stands}
+use Rattle.ref_mark.proofs.MovedStates.{moved_stands, alongside_itself}
 use Rattle.ref_mark.proofs.ShadedMoves.{barred_row}
-use Rattle.ref_mark.proofs.Lookups.{has-present_here, has-present_at}
+use Rattle.ref_base.proofs.Lookups.{has-present_here, has-present_at}
 use Rattle.ref_mark.proofs.RootFacts.{slot_root, slot_is_not_white, roots_of_set, lead_is_not_white}
 use Rattle.ref_mark.proofs.RootFacts.{slot_within}
 use Rattle.ref_mark.proofs.MoveKinds.{rooted, rooted_move}
-use Rattle.ref_mark.proofs.RowForms.{accepted_row, refused_row, unless_parts}
+use Rattle.ref_base.proofs.RowForms.{unless_parts}
 
 -- ---- slots
 
 -- a slot is set to a value that isn't white, but for what is still to be shaded
-pub slot_move : (k : Mark) (a : State) (i : ℕ) (value : Option ℕ) (todo : List ℕ) → Stands k a
-    → (is_in k.phase Idle ≡ false → (n : ℕ) → value ≡ Some n → (is_white k n ≡ false) ⊎ (has todo n ≡ true))
+pub slot_move : (k : CycleHeap) (a : State) (i : ℕ) (value : Option ℕ) (todo : List ℕ) → Stands k a
+    → (is_in_cycle k.phase ≡ true → (n : ℕ) → value ≡ Some n → (is_white k n ≡ false) ⊎ (has todo n ≡ true))
     → IsMove k (rooted k (slice_set k.heap.slots i value) k.heap.holds) (pending_numbers a.world.pending) todo
 slot_move k a i value todo stands allowed =
     rooted_move k a (slice_set k.heap.slots i value) k.heap.holds (pending_numbers a.world.pending) todo stands
     (length-set k.heap.slots i value)
     (λ begun. roots_of_set k a stands begun i value todo (allowed begun))
 
-pub set_stands : (k : Mark) (a : State) (m d : ℕ) (value : Option ℕ) → Stands k a
-    → (is_in k.phase Idle ≡ false → (n : ℕ) → value ≡ Some n → is_white k n ≡ false)
+pub set_stands : (k : CycleHeap) (a : State) (m d : ℕ) (value : Option ℕ) → Stands k a
+    → (is_in_cycle k.phase ≡ true → (n : ℕ) → value ≡ Some n → is_white k n ≡ false)
     → Stands (record k { heap = with_slot k.heap m d value }) (ticked (on_heap a (with_slot a.world.heap m d value)))
 set_stands k a m d value stands allowed =
     let c : Change = rooted k (slice_set k.heap.slots (16 * m + d) value) k.heap.holds in
@@ -54,36 +52,27 @@ set_stands k a m d value stands allowed =
 
 -- ---- copies and drops
 
-pub copy_row : (k : Mark) (a : State) (m d s : ℕ) → Stands k a → copy_refusal k.heap m d s ≡ None
-    → (b : State)
-    × IsRow a (record { step = steps.Copy m d s; reply = value_reply (slot_at k.heap m s) }) b
+pub copy_row : (k : CycleHeap) (a : State) (m d s : ℕ) → Stands k a
+    → (b : State) × Accepts a (steps.Copy m d s) (value_reply (slot_at k.heap m s)) b
     × Stands (record k { heap = with_slot k.heap m d (slot_at k.heap m s) }) b
-copy_row k a m d s stands accepted =
+copy_row k a m d s stands =
     let value = slot_at k.heap m s in
-    let same : slot_at a.world.heap m s ≡ value = ap (λ (h : Heap). slot_at h m s) stands.heap in
-    let none : copy_refusal a.world.heap m d s ≡ None =
-    ap (λ (h : Heap). copy_refusal h m d s) stands.heap ∙ accepted in
-    let b : State = ticked (on_heap a (with_slot a.world.heap m d value)) in (
-      b,
-      accepted_row a (steps.Copy m d s) (value_reply value) b none (
+    let same : slot_at a.world.heap m s ≡ value = ap (λ (h : Heap). slot_at h m s) stands.heap in (
+      ticked (on_heap a (with_slot a.world.heap m d value)),
+      (
         ap value_reply (sym same),
         ap (λ (v : Option ℕ). ticked (on_heap a (with_slot a.world.heap m d v))) (sym same),
       ),
       set_stands k a m d value stands (λ begun n is. slot_is_not_white k a stands begun m s n is),
     )
 
-pub drop_row : (k : Mark) (a : State) (m s : ℕ) → Stands k a → drop_refusal k.heap m s ≡ None
-    → (b : State)
-    × IsRow a (record { step = steps.Drop m s; reply = replies.Done }) b
-    × Stands (record k { heap = with_slot k.heap m s None }) b
-drop_row k a m s stands accepted =
-    let none : drop_refusal a.world.heap m s ≡ None =
-    ap (λ (h : Heap). drop_refusal h m s) stands.heap ∙ accepted in
-    let b : State = ticked (on_heap a (with_slot a.world.heap m s None)) in (
-      b,
-      accepted_row a (steps.Drop m s) replies.Done b none (refl, refl),
-      set_stands k a m s None stands (λ begun n is. absurd (cc)),
-    )
+pub drop_row : (k : CycleHeap) (a : State) (m s : ℕ) → Stands k a
+    → (b : State) × Accepts a (steps.Drop m s) replies.Done b × Stands (record k { heap = with_slot k.heap m s None }) b
+drop_row k a m s stands = (
+  ticked (on_heap a (with_slot a.world.heap m s None)),
+  (refl, refl),
+  set_stands k a m s None stands (λ begun n is. absurd (cc)),
+)
 
 -- ---- loads
 
@@ -99,7 +88,7 @@ field_of-leads : (allow : Allowed) (h : Heap) (held : Option ℕ) (i n : ℕ) �
 field_of-leads allow h None i n is = absurd (cc)
 field_of-leads allow h (Some m) i n is = (m, refl, field_of-target allow (object_at h.objects m) i n is)
 
-load_values : (k : Mark) (a : State) (m d s i : ℕ) (value : Option ℕ) → Stands k a
+load_values : (k : CycleHeap) (a : State) (m d s i : ℕ) (value : Option ℕ) → Stands k a
     → field_in k.heap (slot_at k.heap m s) i ≡ value → has_slot k.heap m d ≡ true
     → (b : State) × Loads a m d value (value_reply value) b × Stands (loaded k m d value) b
 load_values k a m d s i None stands is there =
@@ -107,7 +96,7 @@ load_values k a m d s i None stands is there =
     elim (cases_Bool (is_in k.phase Marking)) [ inl marking ↦ simp marking refl | inr quiet ↦ simp quiet refl ] in (
       ticked (on_heap a (with_slot a.world.heap m d None)),
       (refl, refl),
-      subst (λ (j : Mark). Stands j (ticked (on_heap a (with_slot a.world.heap m d None)))) (sym same)
+      subst (λ (j : CycleHeap). Stands j (ticked (on_heap a (with_slot a.world.heap m d None)))) (sym same)
           (set_stands k a m d None stands (λ begun n none. absurd (cc))),
     )
 load_values k a m d s i (Some n) stands is there =
@@ -126,7 +115,8 @@ load_values k a m d s i (Some n) stands is there =
       | inr quiet ↦ simp quiet refl
     ] in
     let source = field_of-leads (is_kept (policy_in k)) k.heap (slot_at k.heap m s) i n is in
-    let row = barred_row k c a n (with_slot a.world.heap m d (Some n)) (replies.Object n) stands
+    let row = barred_row k c a a.world (alongside_itself a.world) n stands root
+    (with_slot a.world.heap m d (Some n)) (replies.Object n)
     (λ marking. slot_move k a (16 * m + d) (Some n) (n ∷ []) stands
     (λ begun j own. inr (or_left (n == j) false (eq-eqb n j (let e : Some n ≡ Some j = own in cc)))))
     (λ quiet. slot_move k a (16 * m + d) (Some n) [] stands
@@ -135,46 +125,18 @@ load_values k a m d s i (Some n) stands is there =
     (subst (λ o. is_white k o ≡ false) (let e : Some n ≡ Some j = own in cc)
     (lead_is_not_white k a stands begun quiet source.0 n
     (slot_is_not_white k a stands begun m s source.0 source.1) source.2))))
-    root refl (ap (λ (h : Heap). with_slot h m d (Some n)) stands.heap) in
-    (row.0, row.1, subst (λ (j : Mark). Stands j row.0) (sym same) row.2)
+    refl (ap (λ (h : Heap). with_slot h m d (Some n)) stands.heap) in
+    (row.0, row.1, subst (λ (j : CycleHeap). Stands j row.0) (sym same) row.2)
 
-pub load_row : (k : Mark) (a : State) (m d s i : ℕ) → Stands k a → load_refusal k.heap m d s i ≡ None
+pub load_row : (k : CycleHeap) (a : State) (m d s i : ℕ) → Stands k a → load_refusal k.heap m d s i ≡ None
     → let value = field_in k.heap (slot_at k.heap m s) i in
-    (b : State)
-    × IsRow a (record { step = steps.Load m d s i; reply = value_reply value }) b
-    × Stands (loaded k m d value) b
+    (b : State) × Accepts a (steps.Load m d s i) (value_reply value) b × Stands (loaded k m d value) b
 load_row k a m d s i stands accepted =
     let value = field_in k.heap (slot_at k.heap m s) i in
-    let none : load_refusal a.world.heap m d s i ≡ None =
-    ap (λ (h : Heap). load_refusal h m d s i) stands.heap ∙ load_refusal-shown k m d s i ∙ accepted in
     let same : field_in a.world.heap (slot_at a.world.heap m s) i ≡ value =
-    ap (λ (h : Heap). field_in h (slot_at h m s) i) stands.heap ∙ field_in-shown k (slot_at k.heap m s) i in
+    field_in-agrees k a.world.heap stands.heap m s i (said_slot k a m s stands) in
     let slots : has_slots k.heap m d s ≡ true =
     (unless_parts (has_slots k.heap m d s) NoSuchActor (field_refusal k.heap (slot_at k.heap m s) i) accepted).0 in
     let there : has_slot k.heap m d ≡ true = (and_parts (has_slot k.heap m d) (nat_lt s 16) slots).0 in
-    let row = load_values k a m d s i value stands refl there in (
-      row.0,
-      accepted_row a (steps.Load m d s i) (value_reply value) row.0 none
-          (subst (λ (v : Option ℕ). Loads a m d v (value_reply value) row.0) (sym same) row.1),
-      row.2,
-    )
-
--- ---- refused rows
-
-pub refused_copy : (k : Mark) (a : State) (m d s : ℕ) (fault : Fault) → Stands k a
-    → copy_refusal k.heap m d s ≡ Some fault
-    → IsRow a (record { step = steps.Copy m d s; reply = replies.Refused fault }) a
-refused_copy k a m d s fault stands refused =
-    refused_row a (steps.Copy m d s) fault (ap (λ (h : Heap). copy_refusal h m d s) stands.heap ∙ refused)
-
-pub refused_drop : (k : Mark) (a : State) (m s : ℕ) (fault : Fault) → Stands k a → drop_refusal k.heap m s ≡ Some fault
-    → IsRow a (record { step = steps.Drop m s; reply = replies.Refused fault }) a
-refused_drop k a m s fault stands refused =
-    refused_row a (steps.Drop m s) fault (ap (λ (h : Heap). drop_refusal h m s) stands.heap ∙ refused)
-
-pub refused_load : (k : Mark) (a : State) (m d s i : ℕ) (fault : Fault) → Stands k a
-    → load_refusal k.heap m d s i ≡ Some fault
-    → IsRow a (record { step = steps.Load m d s i; reply = replies.Refused fault }) a
-refused_load k a m d s i fault stands refused =
-    refused_row a (steps.Load m d s i) fault
-    (ap (λ (h : Heap). load_refusal h m d s i) stands.heap ∙ load_refusal-shown k m d s i ∙ refused)
+    let row = load_values k a m d s i value stands refl there in
+    (row.0, subst (λ (v : Option ℕ). Loads a m d v (value_reply value) row.0) (sym same) row.1, row.2)

@@ -1,5 +1,6 @@
 pub mod Worklists
-pub mod Marks
+pub mod CycleHeaps
 pub mod Standing
+pub mod MarkCalls
 pub mod MarkRows
 pub mod MarkViews

@@ -4,14 +4,14 @@ use Rattle.ref_base.specs.declared.phase.Phase.{Phase}
 use Rattle.ref_base.specs.declared.urgency.Urgency.{Urgency}
 use Rattle.ref_objects.specs.Grounds.{Ground}
 use Rattle.ref_mark.specs.Worklists.{Worklist}
-use Rattle.ref_mark.specs.Marks.{Mark}
+use Rattle.ref_mark.specs.CycleHeaps.{CycleHeap}
 
 -- what stands in each of the lists
 abbrev pub lists_of : List Worklist → List (List ℕ)
 lists_of [] = []
 lists_of (l ∷ ls) = l.stands ∷ lists_of ls
 
-abbrev pub seen : Ground → Worklist → List Worklist → Phase → Urgency → ℕ → Mark
+abbrev pub seen : Ground → Worklist → List Worklist → Phase → Urgency → ℕ → CycleHeap
 seen g grey found phase urgency cycle = record {
   heap = g.heap;
   heap_no = g.heap_no;
@@ -25,7 +25,7 @@ seen g grey found phase urgency cycle = record {
 }
 
 -- the objects, slots and holds of the heap, with the marks
-abbrev pub ground_of : Mark → Ground
+abbrev pub ground_of : CycleHeap → Ground
 ground_of k = record { heap = k.heap; heap_no = k.heap_no; next = k.next; marked = k.marked }
 
 -- in each list there is room for as many as there are cells, and with the grey ones it has no more than the marked

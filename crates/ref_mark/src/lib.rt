@@ -9,10 +9,11 @@
 //! from the start. Once nothing is grey the mark may end: what is white then is doomed, and each reference to it reads
 //! as cleared from that moment on. Each worker has found those of them that it scanned, for the layer above to clear.
 //!
-//! `Stands` of `specs/Standing.antt` says which states of the abstract collector a heap stands for, and every call that
-//! a mutator or worker makes is proved to be a row of that collector.
+//! `Stands` of `specs/Standing.antt` says which states of the abstract collector a heap stands for. What the calls
+//! answer and leave stands in one table, `specs/MarkCalls.antt`; by `laws` each of them is a row of that collector.
 #![tactic(auto)]
 
+pub mod laws;
 mod marker;
 mod worklist;
 

@@ -1,17 +1,15 @@
 //! The marker: a heap in its cycles, and the calls of mutators that make and change objects.
 
-ghost use Rattle.std.specs.Prelude.{◌≡◌, ◌≤◌, Some, None, IfOk, OnErr, replicate};
-ghost use Rattle.ref_base.specs.Graphs.{plain_object};
-ghost use Rattle.ref_base.specs.Heaps.{slot_at, with_slot, nulls, stored, new_reference};
+ghost use Rattle.std.specs.Prelude.{◌≡◌, IfOk, replicate};
 ghost use Rattle.ref_base.specs.Collectors.{first_state};
 ghost use Rattle.ref_base.specs.CollectorRows.{value_reply};
-ghost use Rattle.ref_base.specs.Refusals.{new_refusal, refer_refusal, store_refusal, drop_refusal, copy_refusal};
-ghost use Rattle.ref_objects.specs.Grounds.{starting_refusal, IsMade, IsRefused, if_done};
+ghost use Rattle.ref_objects.specs.Grounds.{starting_refusal, IsMade};
 ghost use Rattle.ref_mark.specs.Worklists.{empty_worklist};
-ghost use Rattle.ref_mark.specs.Marks.{first_mark, shaded, shaded_if_any, young, with_made};
+ghost use Rattle.ref_mark.specs.CycleHeaps.{first_cycle_heap, is_in_cycle, shaded, shaded_if_any, young};
+ghost use Rattle.ref_mark.specs.MarkCalls.{answer_in, after_in, reply_of, done_reply};
 ghost use Rattle.ref_mark.specs.MarkViews.{ground_of};
 ghost use Rattle.ref_mark.specs.Standing.{Stands};
-ghost use Rattle.ref_mark.specs.MarkRows.{starting_state, IsRowOf, reply_of, done_reply};
+ghost use Rattle.ref_mark.specs.MarkRows.{starting_state};
 
 mod barriers;
 mod cycle;
@@ -44,10 +42,10 @@ pub struct Marker<A: Allocator = Global> {
 }
 
 impl<A: Allocator> Model for Marker<A> {
-    ghost use Rattle.ref_mark.specs.Marks.{Mark};
+    ghost use Rattle.ref_mark.specs.CycleHeaps.{CycleHeap};
     ghost use Rattle.ref_mark.specs.MarkViews.{seen, IsRoomy};
 
-    ghost Value = { Mark };
+    ghost Value = { CycleHeap };
 
     ghost view = { λ m. seen m.objects m.grey m.found.items m.phase m.urgency m.cycle };
 
@@ -59,7 +57,7 @@ impl<A: Allocator + Copy> Marker<A> {
     /// have distinct numbers, by the caller. Tried in this order: `BadConfig`, `NoMemory`.
     pub fn new(alloc: A, config: Config, heap_no: u64) -> Result<Self, Fault>
         ensures made { IsMade (starting_refusal config (record { obj = 1; cycle = 0; page = 1 }))
-            (first_mark config heap_no 1 0) result }
+            (first_cycle_heap config heap_no 1 0) result }
         ensures stands { IfOk result (λ heap. Stands heap (first_state config)) }
     {
         Self::starting(alloc, config, heap_no, Start::FIRST)
@@ -68,7 +66,7 @@ impl<A: Allocator + Copy> Marker<A> {
     /// The same, where numbers begin as they are told. `BadConfig` also where they can't begin so.
     pub fn starting(alloc: A, config: Config, heap_no: u64, start: Start) -> Result<Self, Fault>
         ensures made { IsMade (starting_refusal config start)
-            (first_mark config heap_no start.obj start.cycle) result }
+            (first_cycle_heap config heap_no start.obj start.cycle) result }
         ensures stands { IfOk result (λ heap. Stands heap (starting_state config start.obj start.cycle)) }
     {
         let objects = Objects::starting(alloc, config, heap_no, start)?;
@@ -106,73 +104,73 @@ impl<A: Allocator + Copy> Marker<A> {
         self.cycle
     }
 
-    /// Makes a plain object, as `Objects::alloc_obj` does. It is black from the start once a cycle has begun.
-    pub fn alloc_obj(&mut self, m: MutNo, dst: SlotNo, fields: u32) -> Result<ObjNo, Fault>
-        ensures refused { IsRefused (new_refusal self.old.heap self.old.next m dst fields) result }
-        ensures answer { IfOk result (λ no. no ≡ self.old.next) }
-        ensures after { self.new ≡ if_done result
-            (with_made self.old m dst (plain_object self.old.next (nulls fields))) self.old }
-        ensures row { IsRowOf self.old (Step.New m dst fields) (reply_of Reply.Object result) self.new }
+    /// Makes a plain object, as `Objects::alloc_obj` does: `NoSuchActor`, `BadField`, `NumbersSpent`, `NoCell`. It is
+    /// black from the start once a cycle has begun.
+    pub fn alloc_obj(&mut self, mutator: MutNo, into: SlotNo, fields: u32) -> Result<ObjNo, Fault>
+        ensures answer { reply_of Reply.Object result ≡ answer_in self.old (Step.New mutator into fields) }
+        ensures after { self.new ≡ after_in self.old (Step.New mutator into fields) }
     {
-        let no = self.objects.alloc_obj(m, dst, fields)?;
+        let no = self.objects.alloc_obj(mutator, into, fields)?;
         self.make_young(no);
         Ok(no)
     }
 
-    /// Makes a reference, as `Objects::alloc_ref` does. It is black from the start once a cycle has begun.
+    /// Makes a reference to the object in slot `from`, as `Objects::alloc_ref` does: `NoSuchActor`, `BadQueue`,
+    /// `EmptySlot`, `BadField`, `NumbersSpent`, `NoCell`. It is black from the start once a cycle has begun.
     pub fn alloc_ref(
         &mut self,
-        m: MutNo,
-        dst: SlotNo,
+        mutator: MutNo,
+        into: SlotNo,
         strength: Strength,
-        src: SlotNo,
+        from: SlotNo,
         queue: Option<QueueNo>,
         fields: u32,
     ) -> Result<ObjNo, Fault>
-        ensures refused { IsRefused (refer_refusal self.old.heap self.old.next m dst src queue fields) result }
-        ensures answer { IfOk result (λ no. no ≡ self.old.next) }
-        ensures after { self.new ≡ if_done result
-            (with_made self.old m dst
-            (new_reference self.old.heap self.old.next strength (slot_at self.old.heap m src) queue fields)) self.old }
-        ensures row { IsRowOf self.old (Step.Refer m strength dst src queue fields) (reply_of Reply.Object result)
-            self.new }
+        ensures answer { reply_of Reply.Object result
+            ≡ answer_in self.old (Step.Refer mutator strength into from queue fields) }
+        ensures after { self.new ≡ after_in self.old (Step.Refer mutator strength into from queue fields) }
     {
         let no = self
             .objects
-            .alloc_ref(m, dst, strength, src, queue, fields)?;
+            .alloc_ref(mutator, into, strength, from, queue, fields)?;
         self.make_young(no);
         Ok(no)
     }
 
-    /// Stores what a slot holds into a field, as `Objects::store` does.
-    pub fn store(&mut self, m: MutNo, obj: SlotNo, field: u32, src: SlotNo) -> Result<(), Fault>
-        ensures refused { IsRefused (store_refusal self.old.heap m obj field src) result }
-        ensures after { self.new ≡ if_done result
-            (record self.old { heap = stored self.old.heap m obj field src }) self.old }
-        ensures row { IsRowOf self.old (Step.Store m obj field src) (reply_of done_reply result) self.new }
+    /// Stores what slot `from` holds into a field of the object in slot `into`, as `Objects::store` does:
+    /// `NoSuchActor`, `EmptySlot`, `BadField`.
+    pub fn store(
+        &mut self,
+        mutator: MutNo,
+        into: SlotNo,
+        field: u32,
+        from: SlotNo,
+    ) -> Result<(), Fault>
+        ensures answer { reply_of done_reply result ≡ answer_in self.old (Step.Store mutator into field from) }
+        ensures after { self.new ≡ after_in self.old (Step.Store mutator into field from) }
     {
-        self.objects.store(m, obj, field, src)
+        self.objects.store(mutator, into, field, from)
     }
 
-    /// Copies a slot, as `Objects::copy` does.
-    pub fn copy(&mut self, m: MutNo, dst: SlotNo, src: SlotNo) -> Result<Option<ObjNo>, Fault>
-        ensures refused { IsRefused (copy_refusal self.old.heap m dst src) result }
-        ensures answer { IfOk result (λ value. value ≡ slot_at self.old.heap m src) }
-        ensures after { self.new ≡ if_done result
-            (record self.old { heap = with_slot self.old.heap m dst (slot_at self.old.heap m src) }) self.old }
-        ensures row { IsRowOf self.old (Step.Copy m dst src) (reply_of value_reply result) self.new }
+    /// Copies slot `from` into slot `into`, and answers what it holds: `NoSuchActor`.
+    pub fn copy(
+        &mut self,
+        mutator: MutNo,
+        into: SlotNo,
+        from: SlotNo,
+    ) -> Result<Option<ObjNo>, Fault>
+        ensures answer { reply_of value_reply result ≡ answer_in self.old (Step.Copy mutator into from) }
+        ensures after { self.new ≡ after_in self.old (Step.Copy mutator into from) }
     {
-        self.objects.copy(m, dst, src)
+        self.objects.copy(mutator, into, from)
     }
 
-    /// Empties a slot, as `Objects::drop_slot` does.
-    pub fn drop_slot(&mut self, m: MutNo, slot: SlotNo) -> Result<(), Fault>
-        ensures refused { IsRefused (drop_refusal self.old.heap m slot) result }
-        ensures after { self.new ≡ if_done result
-            (record self.old { heap = with_slot self.old.heap m slot None }) self.old }
-        ensures row { IsRowOf self.old (Step.Drop m slot) (reply_of done_reply result) self.new }
+    /// Empties a slot: `NoSuchActor`.
+    pub fn drop_slot(&mut self, mutator: MutNo, slot: SlotNo) -> Result<(), Fault>
+        ensures answer { reply_of done_reply result ≡ answer_in self.old (Step.Drop mutator slot) }
+        ensures after { self.new ≡ after_in self.old (Step.Drop mutator slot) }
     {
-        self.objects.drop_slot(m, slot)
+        self.objects.drop_slot(mutator, slot)
     }
 
     // ---- parts of calls
@@ -181,8 +179,19 @@ impl<A: Allocator + Copy> Marker<A> {
     fn make_young(&mut self, no: ObjNo)
         ensures { self.new ≡ young self.old no }
     {
-        if self.phase != Phase::Idle {
+        if self.is_in_cycle() {
             self.objects.mark(no);
+            self.objects.facts();
+        }
+    }
+
+    // Whether a cycle has begun, and has not ended.
+    fn is_in_cycle(&self) -> bool
+        ensures { result ≡ is_in_cycle self.now.phase }
+    {
+        match self.phase {
+            Phase::Marking | Phase::Clearing | Phase::Sweeping => true,
+            Phase::Idle => false,
         }
     }
 
@@ -191,6 +200,7 @@ impl<A: Allocator + Copy> Marker<A> {
         ensures { self.new ≡ shaded self.old no }
     {
         if self.objects.mark(no) {
+            self.objects.facts();
             self.grey.push(no);
         }
     }

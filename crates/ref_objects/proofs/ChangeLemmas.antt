@@ -5,8 +5,9 @@ use Rattle.std.proofs.lemmas.Bool.{cases_Bool}
 use Rattle.std.proofs.lemmas.List.{get_or-set_same, get_or_read, length-set, length_push}
 use Rattle.std.specs.Option.{option_map, is_some}
 use Rattle.ref_base.specs.Members.{has}
-use Rattle.ref_objects.specs.Places.{cell_at, kept_by, place_in, place_if_live, seen, AreFree, IsPlaced}
-use Rattle.ref_objects.specs.Tables.{Kept, Table, kept_at, has_field, holds_in, is_unheld, changed_kept, without_kept}
+use Rattle.ref_objects.specs.Places.{cell_at, tabled_by, place_in, place_if_live, seen, AreFree, IsPlaced}
+use Rattle.ref_objects.specs.Tables.{Tabled, Table, tabled_at, has_field, holds_in, is_unheld, changed_tabled}
+use Rattle.ref_objects.specs.Tables.{without_tabled}
 use Rattle.ref_objects.specs.Tables.{on_object, less_held, changed, without, freed}
 use Rattle.ref_base.specs.Heaps.{with_field}
 use Rattle.std.proofs.Common.{◌-◌, ◌≤◌, nat_lt, not}
@@ -14,152 +15,156 @@ use Rattle.std.proofs.lemmas.Bool.{ltb-false, false≢true}
 use Rattle.std.proofs.lemmas.List.{set_past}
 use Rattle.ref_objects.specs.declared.index.Entry.{Entry}
 use Rattle.ref_objects.proofs.FreeLemmas.{AreFree-apart, AreFree-set, AreFree-push}
-use Rattle.ref_objects.proofs.PlaceLemmas.{at_place, kept_at-place, kept_by-replaced, replaced, replaced-none}
+use Rattle.ref_objects.proofs.PlaceLemmas.{at_place, tabled_at-place, tabled_by-replaced, replaced, replaced-none}
 use Rattle.ref_objects.proofs.PlaceLemmas.{replaced-changed}
 use Rattle.ref_objects.proofs.PlaceLemmas.{is_of-some, IsOwn, IsPlaceOf, IsPlaceOf-live, IsPlaceOf-lent, IsMissing}
 use Rattle.ref_objects.proofs.PlaceLemmas.{IsMissing-lent}
 
 -- ---- the objects that are listed
 
-pub length-changed_kept : (ks : List Kept) (n : ℕ) (f : Kept → Kept) → length (changed_kept ks n f) ≡ length ks
-length-changed_kept [] n f = refl
-length-changed_kept (k ∷ ks) n f =
+pub length-changed_tabled : (ks : List Tabled) (n : ℕ) (f : Tabled → Tabled)
+    → length (changed_tabled ks n f) ≡ length ks
+length-changed_tabled [] n f = refl
+length-changed_tabled (k ∷ ks) n f =
     elim (cases_Bool (k.object.no == n)) [
       | inl same ↦ simp same refl
-      | inr other ↦ simp other (ap suc (length-changed_kept ks n f))
+      | inr other ↦ simp other (ap suc (length-changed_tabled ks n f))
     ]
 
-pub length-without_kept : (ks : List Kept) (n : ℕ) (k : Kept) → kept_at ks n ≡ Some k
-    → suc (length (without_kept ks n)) ≡ length ks
-length-without_kept [] n k at = absurd (cc)
-length-without_kept (l ∷ ls) n k at =
+pub length-without_tabled : (ks : List Tabled) (n : ℕ) (k : Tabled) → tabled_at ks n ≡ Some k
+    → suc (length (without_tabled ks n)) ≡ length ks
+length-without_tabled [] n k at = absurd (cc)
+length-without_tabled (l ∷ ls) n k at =
     elim (cases_Bool (l.object.no == n)) [
       | inl same ↦ simp same refl
       | inr other ↦
-          let later : kept_at ls n ≡ Some k = simp other at at in
-          simp other (ap suc (length-without_kept ls n k later))
+          let later : tabled_at ls n ≡ Some k = simp other at at in
+          simp other (ap suc (length-without_tabled ls n k later))
     ]
 
-is_none : (k : Option Kept) → is_some k ≡ false → k ≡ None
+is_none : (k : Option Tabled) → is_some k ≡ false → k ≡ None
 is_none None none = refl
 is_none (Some k) none = absurd (false≢true (sym none))
 
 -- a change of an object that isn't there is none
-pub changed_kept-none : (ks : List Kept) (n : ℕ) (f : Kept → Kept) → kept_at ks n ≡ None → changed_kept ks n f ≡ ks
-changed_kept-none [] n f none = refl
-changed_kept-none (k ∷ ks) n f none =
+pub changed_tabled-none : (ks : List Tabled) (n : ℕ) (f : Tabled → Tabled) → tabled_at ks n ≡ None
+    → changed_tabled ks n f ≡ ks
+changed_tabled-none [] n f none = refl
+changed_tabled-none (k ∷ ks) n f none =
     elim (cases_Bool (k.object.no == n)) [
       | inl same ↦ absurd (let wrong : Some k ≡ None = simp same at none in cc)
       | inr other ↦
-          let later : kept_at ks n ≡ None = simp other at none in
-          simp other (ap (λ ls. k ∷ ls) (changed_kept-none ks n f later))
+          let later : tabled_at ks n ≡ None = simp other at none in
+          simp other (ap (λ ls. k ∷ ls) (changed_tabled-none ks n f later))
     ]
 
-pub changed-none : (t : Table) (n : ℕ) (f : Kept → Kept) → is_some (kept_at t.kept n) ≡ false → changed t n f ≡ t
+pub changed-none : (t : Table) (n : ℕ) (f : Tabled → Tabled) → is_some (tabled_at t.tabled n) ≡ false
+    → changed t n f ≡ t
 changed-none t n f none =
-    ap (λ ks. record t { kept = ks }) (changed_kept-none t.kept n f (is_none (kept_at t.kept n) none))
+    ap (λ ks. record t { tabled = ks }) (changed_tabled-none t.tabled n f (is_none (tabled_at t.tabled n) none))
 
 -- so is one hold fewer of an object that nobody holds
-changed_kept-unheld : (ks : List Kept) (n : ℕ) → holds_in (kept_at ks n) ≡ 0 → changed_kept ks n less_held ≡ ks
-changed_kept-unheld [] n none = refl
-changed_kept-unheld (k ∷ ks) n none =
+changed_tabled-unheld : (ks : List Tabled) (n : ℕ) → holds_in (tabled_at ks n) ≡ 0 → changed_tabled ks n less_held ≡ ks
+changed_tabled-unheld [] n none = refl
+changed_tabled-unheld (k ∷ ks) n none =
     elim (cases_Bool (k.object.no == n)) [
       | inl same ↦
           let own : k.holds ≡ 0 = simp same at none in
           let less : k.holds - 1 ≡ k.holds = omega (arith, own) in
           simp same (ap (λ count. record k { holds = count } ∷ ks) less)
-      | inr other ↦ simp other (ap (λ ls. k ∷ ls) (changed_kept-unheld ks n (simp other at none)))
+      | inr other ↦ simp other (ap (λ ls. k ∷ ls) (changed_tabled-unheld ks n (simp other at none)))
     ]
 
-pub changed-unheld : (t : Table) (n : ℕ) → nat_lt 0 (holds_in (kept_at t.kept n)) ≡ false → changed t n less_held ≡ t
+pub changed-unheld : (t : Table) (n : ℕ) → nat_lt 0 (holds_in (tabled_at t.tabled n)) ≡ false
+    → changed t n less_held ≡ t
 changed-unheld t n unheld =
-    let most : holds_in (kept_at t.kept n) ≤ 0 = ltb-false 0 (holds_in (kept_at t.kept n)) unheld in
-    ap (λ ks. record t { kept = ks }) (changed_kept-unheld t.kept n (omega (arith, most)))
+    let most : holds_in (tabled_at t.tabled n) ≤ 0 = ltb-false 0 (holds_in (tabled_at t.tabled n)) unheld in
+    ap (λ ks. record t { tabled = ks }) (changed_tabled-unheld t.tabled n (omega (arith, most)))
 
 -- and a write to a field that isn't there
-changed_kept-past : (ks : List Kept) (n i : ℕ) (value : Option ℕ) → has_field (kept_at ks n) i ≡ false
-    → changed_kept ks n (on_object (with_field i value)) ≡ ks
-changed_kept-past [] n i value past = refl
-changed_kept-past (k ∷ ks) n i value past =
+changed_tabled-past : (ks : List Tabled) (n i : ℕ) (value : Option ℕ) → has_field (tabled_at ks n) i ≡ false
+    → changed_tabled ks n (on_object (with_field i value)) ≡ ks
+changed_tabled-past [] n i value past = refl
+changed_tabled-past (k ∷ ks) n i value past =
     elim (cases_Bool (k.object.no == n)) [
       | inl same ↦
           let own : nat_lt i (length k.object.fields) ≡ false = simp same at past in
-          let kept : set k.object.fields i value ≡ k.object.fields =
+          let tabled : set k.object.fields i value ≡ k.object.fields =
           set_past k.object.fields i value (ltb-false i (length k.object.fields) own) in
-          simp same (ap (λ fields. record k { object = record k.object { fields = fields } } ∷ ks) kept)
-      | inr other ↦ simp other (ap (λ ls. k ∷ ls) (changed_kept-past ks n i value (simp other at past)))
+          simp same (ap (λ fields. record k { object = record k.object { fields = fields } } ∷ ks) tabled)
+      | inr other ↦ simp other (ap (λ ls. k ∷ ls) (changed_tabled-past ks n i value (simp other at past)))
     ]
 
-pub changed-past : (t : Table) (n i : ℕ) (value : Option ℕ) → has_field (kept_at t.kept n) i ≡ false
+pub changed-past : (t : Table) (n i : ℕ) (value : Option ℕ) → has_field (tabled_at t.tabled n) i ≡ false
     → changed t n (on_object (with_field i value)) ≡ t
-changed-past t n i value past = ap (λ ks. record t { kept = ks }) (changed_kept-past t.kept n i value past)
+changed-past t n i value past = ap (λ ks. record t { tabled = ks }) (changed_tabled-past t.tabled n i value past)
 
 -- an object goes where it is there and nobody holds it
-goes : (k : Option Kept) → is_some k ≡ true → nat_lt 0 (holds_in k) ≡ false → is_unheld k ≡ true
+goes : (k : Option Tabled) → is_some k ≡ true → nat_lt 0 (holds_in k) ≡ false → is_unheld k ≡ true
 goes None there unheld = absurd (false≢true there)
 goes (Some k) there unheld = ap not unheld
 
-stays : (k : Option Kept) → nat_lt 0 (holds_in k) ≡ true → is_unheld k ≡ false
+stays : (k : Option Tabled) → nat_lt 0 (holds_in k) ≡ true → is_unheld k ≡ false
 stays None held = refl
 stays (Some k) held = ap not held
 
 -- ---- a change of one object
 
-module _ {cells : List (Option Kept)} {es : List Entry} {ps : List ℕ} {last : ℕ} (placed : IsPlaced cells es ps last)
+module _ {cells : List (Option Tabled)} {es : List Entry} {ps : List ℕ} {last : ℕ} (placed : IsPlaced cells es ps last)
     {n p : ℕ} (place : IsPlaceOf cells es n p) where
   -- the object that was found
-  found_kept : (k : Kept) × (cell_at cells p ≡ Some k) × (k.object.no ≡ n)
-  found_kept = is_of-some (cell_at cells p) n place.own
+  found_tabled : (k : Tabled) × (cell_at cells p ≡ Some k) × (k.object.no ≡ n)
+  found_tabled = is_of-some (cell_at cells p) n place.own
 
   -- which is that of the number
-  found_at : (k : Kept) → cell_at cells p ≡ Some k → kept_at (kept_by cells es) n ≡ Some k
-  found_at k is = kept_at-place cells es n placed.rises ∙ ap (at_place cells) (IsPlaceOf-live place) ∙ is
+  found_at : (k : Tabled) → cell_at cells p ≡ Some k → tabled_at (tabled_by cells es) n ≡ Some k
+  found_at k is = tabled_at-place cells es n placed.rises ∙ ap (at_place cells) (IsPlaceOf-live place) ∙ is
 
   -- what is said of its cell is said of it
-  pub told_of : {X : Type 0} (f : Option Kept → X) {cell : Option Kept} → cell ≡ get_or cells p cell
-      → f cell ≡ f (kept_at (kept_by cells es) n)
+  pub told_of : {X : Type 0} (f : Option Tabled → X) {cell : Option Tabled} → cell ≡ get_or cells p cell
+      → f cell ≡ f (tabled_at (tabled_by cells es) n)
   told_of f {cell} was =
-      let k = found_kept in ap f (get_or_read cells p cell place.within was None ∙ k.1 ∙ sym (found_at k.0 k.1))
+      let k = found_tabled in ap f (get_or_read cells p cell place.within was None ∙ k.1 ∙ sym (found_at k.0 k.1))
 
   -- a write of that object's cell
-  kept_by-written : (c : Option Kept) → IsOwn n c → kept_by (set cells p c) es ≡ replaced (kept_by cells es) n c
-  kept_by-written c own =
-      kept_by-replaced cells es n p c placed.rises place.listed place.within place.own own
+  tabled_by-written : (c : Option Tabled) → IsOwn n c → tabled_by (set cells p c) es ≡ replaced (tabled_by cells es) n c
+  tabled_by-written c own =
+      tabled_by-replaced cells es n p c placed.rises place.listed place.within place.own own
 
   found_apart : has ps p ≡ false
   found_apart = AreFree-apart cells ps p n placed.free place.own
 
-  pub there : true ≡ is_some (kept_at (kept_by cells es) n)
-  there = let k = found_kept in sym (ap is_some (found_at k.0 k.1))
+  pub there : true ≡ is_some (tabled_at (tabled_by cells es) n)
+  there = let k = found_tabled in sym (ap is_some (found_at k.0 k.1))
 
   -- not every cell is free, since that object has one
   pub room_to_free : length ps < length cells
   room_to_free =
-      let k = found_kept in
-      let one : suc (length (without_kept (kept_by cells es) n)) ≡ length (kept_by cells es) =
-      length-without_kept (kept_by cells es) n k.0 (found_at k.0 k.1) in
+      let k = found_tabled in
+      let one : suc (length (without_tabled (tabled_by cells es) n)) ≡ length (tabled_by cells es) =
+      length-without_tabled (tabled_by cells es) n k.0 (found_at k.0 k.1) in
       omega (arith, placed.counted, one)
 
-  module _ (f : Kept → Kept) (keeps : (k : Kept) → (f k).object.no ≡ k.object.no) {old new : Option Kept}
+  module _ (f : Tabled → Tabled) (keeps : (k : Tabled) → (f k).object.no ≡ k.object.no) {old new : Option Tabled}
       (was : old ≡ get_or cells p old) (is : new ≡ option_map f old) where
-    pub kept_by-changed : kept_by (set cells p new) es ≡ changed_kept (kept_by cells es) n f
-    kept_by-changed =
-        let k = found_kept in
+    pub tabled_by-changed : tabled_by (set cells p new) es ≡ changed_tabled (tabled_by cells es) n f
+    tabled_by-changed =
+        let k = found_tabled in
         let before_it : old ≡ Some k.0 = get_or_read cells p old place.within was None ∙ k.1 in
         let after_it : new ≡ Some (f k.0) = is ∙ ap (option_map f) before_it in
         let own : (f k.0).object.no ≡ n = keeps k.0 ∙ k.2 in
-        ap (λ c. kept_by (set cells p c) es) after_it ∙ kept_by-written (Some (f k.0)) own
-        ∙ replaced-changed (kept_by cells es) n f k.0 (found_at k.0 k.1) own
+        ap (λ c. tabled_by (set cells p c) es) after_it ∙ tabled_by-written (Some (f k.0)) own
+        ∙ replaced-changed (tabled_by cells es) n f k.0 (found_at k.0 k.1) own
 
     pub seen_changed : seen (set cells p new) es last ≡ changed (seen cells es last) n f
     seen_changed =
-        λ i. record { kept = kept_by-changed i; room = length-set cells p new i; last = last }
+        λ i. record { tabled = tabled_by-changed i; room = length-set cells p new i; last = last }
 
     pub placed_changed : IsPlaced (set cells p new) es ps last
     placed_changed =
         let size : length (set cells p new) ≡ length cells = length-set cells p new in
-        let count : length (kept_by (set cells p new) es) ≡ length (kept_by cells es) =
-        ap length kept_by-changed ∙ length-changed_kept (kept_by cells es) n f in
+        let count : length (tabled_by (set cells p new) es) ≡ length (tabled_by cells es) =
+        ap length tabled_by-changed ∙ length-changed_tabled (tabled_by cells es) n f in
         record {
           rises = placed.rises;
           given = placed.given;
@@ -169,29 +174,30 @@ module _ {cells : List (Option Kept)} {es : List Entry} {ps : List ℕ} {last : 
           few = omega (arith, placed.few, size);
         }
 
-  pub unheld_here : {cell : Option Kept} → cell ≡ get_or cells p cell → nat_lt 0 (holds_in cell) ≡ false
-      → is_unheld (kept_at (kept_by cells es) n) ≡ true
+  pub unheld_here : {cell : Option Tabled} → cell ≡ get_or cells p cell → nat_lt 0 (holds_in cell) ≡ false
+      → is_unheld (tabled_at (tabled_by cells es) n) ≡ true
   unheld_here was unheld =
-      goes (kept_at (kept_by cells es) n) (sym there) (sym (told_of (λ k. nat_lt 0 (holds_in k)) was) ∙ unheld)
+      goes (tabled_at (tabled_by cells es) n) (sym there) (sym (told_of (λ k. nat_lt 0 (holds_in k)) was) ∙ unheld)
 
-  pub held_here : {cell : Option Kept} → cell ≡ get_or cells p cell → nat_lt 0 (holds_in cell) ≡ true
-      → is_unheld (kept_at (kept_by cells es) n) ≡ false
+  pub held_here : {cell : Option Tabled} → cell ≡ get_or cells p cell → nat_lt 0 (holds_in cell) ≡ true
+      → is_unheld (tabled_at (tabled_by cells es) n) ≡ false
   held_here was held =
-      stays (kept_at (kept_by cells es) n) (sym (told_of (λ k. nat_lt 0 (holds_in k)) was) ∙ held)
+      stays (tabled_at (tabled_by cells es) n) (sym (told_of (λ k. nat_lt 0 (holds_in k)) was) ∙ held)
 
-  pub seen_kept : is_unheld (kept_at (kept_by cells es) n) ≡ false → seen cells es last ≡ freed (seen cells es last) n
-  seen_kept held = simp held refl
+  pub seen_tabled : is_unheld (tabled_at (tabled_by cells es) n) ≡ false
+      → seen cells es last ≡ freed (seen cells es last) n
+  seen_tabled held = simp held refl
 
-  module _ {new : Option Kept} (is : new ≡ None) {free : List ℕ} (more : free ≡ ps ++ p ∷ []) where
-    pub kept_by-freed : kept_by (set cells p new) es ≡ without_kept (kept_by cells es) n
-    kept_by-freed =
-        ap (λ c. kept_by (set cells p c) es) is ∙ kept_by-written None tt ∙ replaced-none (kept_by cells es) n
+  module _ {new : Option Tabled} (is : new ≡ None) {free : List ℕ} (more : free ≡ ps ++ p ∷ []) where
+    pub tabled_by-freed : tabled_by (set cells p new) es ≡ without_tabled (tabled_by cells es) n
+    tabled_by-freed =
+        ap (λ c. tabled_by (set cells p c) es) is ∙ tabled_by-written None tt ∙ replaced-none (tabled_by cells es) n
 
-    pub seen_freed : is_unheld (kept_at (kept_by cells es) n) ≡ true
+    pub seen_freed : is_unheld (tabled_at (tabled_by cells es) n) ≡ true
         → seen (set cells p new) es last ≡ freed (seen cells es last) n
     seen_freed unheld =
         let gone : seen (set cells p new) es last ≡ without (seen cells es last) n =
-        λ i. record { kept = kept_by-freed i; room = length-set cells p new i; last = last } in
+        λ i. record { tabled = tabled_by-freed i; room = length-set cells p new i; last = last } in
         gone ∙ simp unheld refl
 
     pub placed_freed : IsPlaced (set cells p new) es free last
@@ -199,11 +205,11 @@ module _ {cells : List (Option Kept)} {es : List Entry} {ps : List ℕ} {last : 
         let size : length (set cells p new) ≡ length cells = length-set cells p new in
         let within : p < length (set cells p new) = omega (arith, place.within, size) in
         let none : cell_at (set cells p new) p ≡ None = get_or-set_same cells p new None place.within ∙ is in
-        let k = found_kept in
-        let one : suc (length (without_kept (kept_by cells es) n)) ≡ length (kept_by cells es) =
-        length-without_kept (kept_by cells es) n k.0 (found_at k.0 k.1) in
-        let count : length (kept_by (set cells p new) es) ≡ length (without_kept (kept_by cells es) n) =
-        ap length kept_by-freed in
+        let k = found_tabled in
+        let one : suc (length (without_tabled (tabled_by cells es) n)) ≡ length (tabled_by cells es) =
+        length-without_tabled (tabled_by cells es) n k.0 (found_at k.0 k.1) in
+        let count : length (tabled_by (set cells p new) es) ≡ length (without_tabled (tabled_by cells es) n) =
+        ap length tabled_by-freed in
         let places : length free ≡ length ps + 1 = ap length more ∙ length_push ps p in
         record {
           rises = placed.rises;
@@ -216,30 +222,30 @@ module _ {cells : List (Option Kept)} {es : List Entry} {ps : List ℕ} {last : 
           few = omega (arith, placed.few, size);
         }
 
-module _ {cells : List (Option Kept)} {es : List Entry} {ps : List ℕ} {last : ℕ} (placed : IsPlaced cells es ps last)
+module _ {cells : List (Option Tabled)} {es : List Entry} {ps : List ℕ} {last : ℕ} (placed : IsPlaced cells es ps last)
     {n : ℕ} (missing : IsMissing cells es n) where
   -- a number that has no place has no object
-  missing_at : kept_at (kept_by cells es) n ≡ None
-  missing_at = kept_at-place cells es n placed.rises ∙ ap (at_place cells) missing.none
+  missing_at : tabled_at (tabled_by cells es) n ≡ None
+  missing_at = tabled_at-place cells es n placed.rises ∙ ap (at_place cells) missing.none
 
   -- what is said of no object is said of it
-  pub told_of_none : {X : Type 0} (f : Option Kept → X) → f None ≡ f (kept_at (kept_by cells es) n)
+  pub told_of_none : {X : Type 0} (f : Option Tabled → X) → f None ≡ f (tabled_at (tabled_by cells es) n)
   told_of_none f = sym (ap f missing_at)
 
   -- and a change of it is none
-  pub seen_missing_changed : (f : Kept → Kept) → seen cells es last ≡ changed (seen cells es last) n f
+  pub seen_missing_changed : (f : Tabled → Tabled) → seen cells es last ≡ changed (seen cells es last) n f
   seen_missing_changed f =
-      ap (λ ks. record { kept = ks; room = length cells; last = last })
-      (sym (changed_kept-none (kept_by cells es) n f missing_at))
+      ap (λ ks. record { tabled = ks; room = length cells; last = last })
+      (sym (changed_tabled-none (tabled_by cells es) n f missing_at))
 
   pub seen_missing_freed : seen cells es last ≡ freed (seen cells es last) n
   seen_missing_freed =
-      let stays : is_unheld (kept_at (kept_by cells es) n) ≡ false = ap is_unheld missing_at in simp stays refl
+      let stays : is_unheld (tabled_at (tabled_by cells es) n) ≡ false = ap is_unheld missing_at in simp stays refl
 
 -- a search finds a place exactly where there is an object
-pub found_where_there : {cells borrowed : List (Option Kept)} {es lent : List Entry} {ps : List ℕ} {last : ℕ} (n : ℕ)
+pub found_where_there : {cells borrowed : List (Option Tabled)} {es lent : List Entry} {ps : List ℕ} {last : ℕ} (n : ℕ)
     (place : Option ℕ) → IsPlaced cells es ps last → borrowed ≡ cells → lent ≡ es
-    → place ≡ place_if_live borrowed (place_in lent n) n → is_some place ≡ is_some (kept_at (kept_by cells es) n)
+    → place ≡ place_if_live borrowed (place_in lent n) n → is_some place ≡ is_some (tabled_at (tabled_by cells es) n)
 found_where_there n None placed same_cells same_index is =
     told_of_none placed (IsMissing-lent n same_cells same_index is) is_some
 found_where_there n (Some p) placed same_cells same_index is = there placed (IsPlaceOf-lent n same_cells same_index is)

@@ -7,10 +7,10 @@ use Rattle.std.proofs.lemmas.List.{get_or-set_other, length-set, get_or-replicat
 use Rattle.ref_base.specs.Members.{has}
 use Rattle.ref_base.proofs.HasLaws.{has-append}
 use Rattle.ref_objects.specs.Places.{cell_at, is_of, places_below, AreFree}
-use Rattle.ref_objects.specs.Tables.{Kept}
+use Rattle.ref_objects.specs.Tables.{Tabled}
 
 -- a place whose cell holds something isn't free
-pub AreFree-apart : (cells : List (Option Kept)) (ps : List ℕ) (p n : ℕ) → AreFree cells ps
+pub AreFree-apart : (cells : List (Option Tabled)) (ps : List ℕ) (p n : ℕ) → AreFree cells ps
     → is_of (cell_at cells p) n ≡ true → has ps p ≡ false
 AreFree-apart cells [] p n free own = refl
 AreFree-apart cells (q ∷ qs) p n free own =
@@ -22,7 +22,7 @@ AreFree-apart cells (q ∷ qs) p n free own =
     ]
 
 -- the others stay free after a write to a cell
-pub AreFree-set : (cells : List (Option Kept)) (ps : List ℕ) (p : ℕ) (c : Option Kept) → AreFree cells ps
+pub AreFree-set : (cells : List (Option Tabled)) (ps : List ℕ) (p : ℕ) (c : Option Tabled) → AreFree cells ps
     → has ps p ≡ false → AreFree (set cells p c) ps
 AreFree-set cells [] p c free apart = tt
 AreFree-set cells (q ∷ qs) p c free apart =
@@ -39,7 +39,7 @@ AreFree-set cells (q ∷ qs) p c free apart =
     ]
 
 -- one more free place
-pub AreFree-push : (cells : List (Option Kept)) (ps : List ℕ) (p : ℕ) → AreFree cells ps → p < length cells
+pub AreFree-push : (cells : List (Option Tabled)) (ps : List ℕ) (p : ℕ) → AreFree cells ps → p < length cells
     → cell_at cells p ≡ None → has ps p ≡ false → AreFree cells (ps ++ p ∷ [])
 AreFree-push cells [] p free within none apart = (within, none, refl, tt)
 AreFree-push cells (q ∷ qs) p free within none apart =
@@ -54,13 +54,13 @@ AreFree-push cells (q ∷ qs) p free within none apart =
     ]
 
 -- what a free place says that stands last
-pub record PopsFree (cells : List (Option Kept)) (ps : List ℕ) (p : ℕ) : Type 0 where
+pub record PopsFree (cells : List (Option Tabled)) (ps : List ℕ) (p : ℕ) : Type 0 where
   pub within : p < length cells
   pub none : cell_at cells p ≡ None
   pub apart : has ps p ≡ false
   pub rest : AreFree cells ps
 
-pub AreFree-pop : (cells : List (Option Kept)) (ps : List ℕ) (p : ℕ) → AreFree cells (ps ++ p ∷ [])
+pub AreFree-pop : (cells : List (Option Tabled)) (ps : List ℕ) (p : ℕ) → AreFree cells (ps ++ p ∷ [])
     → PopsFree cells ps p
 AreFree-pop cells [] p free = record { within = free.0; none = free.1; apart = refl; rest = tt }
 AreFree-pop cells (q ∷ qs) p free =
@@ -101,7 +101,7 @@ has-places_below room (suc count) p fits low =
 pub AreFree-places_below : (room count : ℕ) → count ≤ room → AreFree (replicate room None) (places_below room count)
 AreFree-places_below room zero fits = tt
 AreFree-places_below room (suc count) fits =
-    let size : length (replicate {A = Option Kept} room None) ≡ room = length-replicate room None in
+    let size : length (replicate {A = Option Tabled} room None) ≡ room = length-replicate room None in
     AreFree-push (replicate room None) (places_below room count) (room - 1 - count)
     (AreFree-places_below room count (omega arith)) (omega (arith, size))
     (get_or-replicate room (room - 1 - count) None None (omega arith))

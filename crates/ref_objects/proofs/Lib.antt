@@ -4,7 +4,7 @@ pub mod FreeLemmas
 pub mod ChangeLemmas
 pub mod PushLemmas
 pub mod TableLemmas
-pub mod KeptLemmas
+pub mod TabledLemmas
 pub mod GroundLemmas
 pub mod UnmarkedLemmas
 pub mod MarkLemmas

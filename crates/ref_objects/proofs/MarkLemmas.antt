@@ -10,19 +10,19 @@ use Rattle.ref_base.specs.Graphs.{Object, is_there, numbers}
 use Rattle.ref_base.specs.Members.{has}
 use Rattle.ref_base.specs.Strengths.{IsRising}
 use Rattle.ref_base.specs.Heaps.{one_more, one_fewer}
-use Rattle.ref_objects.specs.Tables.{Kept, kept_at, objects_of, holds_of, changed_kept, without_kept}
+use Rattle.ref_objects.specs.Tables.{Tabled, tabled_at, objects_of, holds_of, changed_tabled, without_tabled}
 use Rattle.ref_objects.specs.Tables.{is_marked_in, is_unmarked_in, marked_of, unmarked_of, unmarked_from}
-use Rattle.ref_objects.specs.Tables.{with_marked, unmarked_kept}
+use Rattle.ref_objects.specs.Tables.{with_marked, unmarked_tabled}
 use Rattle.ref_objects.specs.Grounds.{least_from, unmarked}
-use Rattle.ref_objects.specs.Places.{kept_by, IsPlaced}
+use Rattle.ref_objects.specs.Places.{tabled_by, IsPlaced}
 use Rattle.ref_objects.specs.declared.index.Entry.{Entry}
-use Rattle.ref_objects.proofs.KeptLemmas.{is_there-objects_of, objects_of-same, IsRising-tail}
-use Rattle.ref_objects.proofs.PlaceLemmas.{at_place, kept_at-place, IsPlaceOf, IsPlaceOf-live, IsMissing}
+use Rattle.ref_objects.proofs.TabledLemmas.{is_there-objects_of, objects_of-same, IsRising-tail}
+use Rattle.ref_objects.proofs.PlaceLemmas.{at_place, tabled_at-place, IsPlaceOf, IsPlaceOf-live, IsMissing}
 
 -- ---- which are marked
 
 -- no number is marked that is below those of the objects
-has-marked_above : (ks : List Kept) (n m : ℕ) → n ≤ m → IsRising (m ∷ numbers (objects_of ks))
+has-marked_above : (ks : List Tabled) (n m : ℕ) → n ≤ m → IsRising (m ∷ numbers (objects_of ks))
     → has (marked_of ks) n ≡ false
 has-marked_above [] n m order rising = refl
 has-marked_above (k ∷ ks) n m order rising =
@@ -32,8 +32,8 @@ has-marked_above (k ∷ ks) n m order rising =
     elim (cases_Bool k.marked) [ inl marked ↦ simp (marked, other) rest | inr plain ↦ simp plain rest ]
 
 -- a number is among the marked exactly where its object is
-pub has-marked_of : (ks : List Kept) (n : ℕ) → IsRising (numbers (objects_of ks))
-    → has (marked_of ks) n ≡ is_marked_in (kept_at ks n)
+pub has-marked_of : (ks : List Tabled) (n : ℕ) → IsRising (numbers (objects_of ks))
+    → has (marked_of ks) n ≡ is_marked_in (tabled_at ks n)
 has-marked_of [] n rising = refl
 has-marked_of (k ∷ ks) n rising =
     elim (cases_Bool (k.object.no == n)) [
@@ -44,21 +44,21 @@ has-marked_of (k ∷ ks) n rising =
             | inr plain ↦ simp (same, plain) (has-marked_above ks n k.object.no (omega arith) rising)
           ]
       | inr other ↦
-          let rest : has (marked_of ks) n ≡ is_marked_in (kept_at ks n) =
+          let rest : has (marked_of ks) n ≡ is_marked_in (tabled_at ks n) =
           has-marked_of ks n (IsRising-tail k.object.no (numbers (objects_of ks)) rising) in
           elim (cases_Bool k.marked) [ inl marked ↦ simp (other, marked) rest | inr plain ↦ simp (other, plain) rest ]
     ]
 
-there_unmarked : (k : Option Kept) → (is_some k && not (is_marked_in k)) ≡ is_unmarked_in k
+there_unmarked : (k : Option Tabled) → (is_some k && not (is_marked_in k)) ≡ is_unmarked_in k
 there_unmarked None = refl
 there_unmarked (Some k) = refl
 
 -- and is unmarked where there is an object that isn't among them
-pub is_unmarked-kept : (ks : List Kept) (n : ℕ) → IsRising (numbers (objects_of ks))
-    → (is_there (objects_of ks) n && not (has (marked_of ks) n)) ≡ is_unmarked_in (kept_at ks n)
-is_unmarked-kept ks n rising =
+pub is_unmarked-tabled : (ks : List Tabled) (n : ℕ) → IsRising (numbers (objects_of ks))
+    → (is_there (objects_of ks) n && not (has (marked_of ks) n)) ≡ is_unmarked_in (tabled_at ks n)
+is_unmarked-tabled ks n rising =
     ap (λ b. b && not (has (marked_of ks) n)) (is_there-objects_of ks n)
-    ∙ ap (λ b. is_some (kept_at ks n) && not b) (has-marked_of ks n rising) ∙ there_unmarked (kept_at ks n)
+    ∙ ap (λ b. is_some (tabled_at ks n) && not b) (has-marked_of ks n rising) ∙ there_unmarked (tabled_at ks n)
 
 -- ---- the others
 
@@ -78,13 +78,13 @@ unmarked-above (o ∷ os) m ms rising =
     IsRising-skip m n (l ∷ ls) rising = (omega (arith, rising.0, rising.1.0), rising.1.1)
 
 -- the objects that aren't among the marked are those that aren't marked
-pub unmarked-kept : (ks : List Kept) → IsRising (numbers (objects_of ks))
+pub unmarked-tabled : (ks : List Tabled) → IsRising (numbers (objects_of ks))
     → unmarked (objects_of ks) (marked_of ks) ≡ unmarked_of ks
-unmarked-kept [] rising = refl
-unmarked-kept (k ∷ ks) rising =
+unmarked-tabled [] rising = refl
+unmarked-tabled (k ∷ ks) rising =
     let own : (k.object.no == k.object.no) ≡ true = eq-eqb k.object.no k.object.no refl in
     let rest : unmarked (objects_of ks) (marked_of ks) ≡ unmarked_of ks =
-    unmarked-kept ks (IsRising-tail k.object.no (numbers (objects_of ks)) rising) in
+    unmarked-tabled ks (IsRising-tail k.object.no (numbers (objects_of ks)) rising) in
     elim (cases_Bool k.marked) [
       | inl marked ↦
           simp (marked, own) (unmarked-above (objects_of ks) k.object.no (marked_of ks) rising ∙ rest)
@@ -94,7 +94,7 @@ unmarked-kept (k ∷ ks) rising =
           simp (plain, none) (ap (λ ns. k.object.no ∷ ns) rest)
     ]
 
-pub length-unmarked_of : (ks : List Kept) → length (unmarked_of ks) + length (marked_of ks) ≡ length ks
+pub length-unmarked_of : (ks : List Tabled) → length (unmarked_of ks) + length (marked_of ks) ≡ length ks
 length-unmarked_of [] = refl
 length-unmarked_of (k ∷ ks) =
     let rest : length (unmarked_of ks) + length (marked_of ks) ≡ length ks = length-unmarked_of ks in
@@ -103,10 +103,10 @@ length-unmarked_of (k ∷ ks) =
       | inr plain ↦ simp plain (omega (arith, rest))
     ]
 
-pub unmarked_from-kept : (ks : List Kept) (n : ℕ) → unmarked_from ks n ≡ least_from (unmarked_of ks) n
-unmarked_from-kept [] n = refl
-unmarked_from-kept (k ∷ ks) n =
-    let rest : unmarked_from ks n ≡ least_from (unmarked_of ks) n = unmarked_from-kept ks n in
+pub unmarked_from-tabled : (ks : List Tabled) (n : ℕ) → unmarked_from ks n ≡ least_from (unmarked_of ks) n
+unmarked_from-tabled [] n = refl
+unmarked_from-tabled (k ∷ ks) n =
+    let rest : unmarked_from ks n ≡ least_from (unmarked_of ks) n = unmarked_from-tabled ks n in
     elim (cases_Bool (nat_le n k.object.no)) [
       | inl here ↦ elim (cases_Bool k.marked) [
         | inl marked ↦ simp (here, marked) rest
@@ -120,8 +120,9 @@ unmarked_from-kept (k ∷ ks) n =
 
 -- ---- changes that leave the marks
 
-pub marked_of-changed : (ks : List Kept) (n : ℕ) (f : Kept → Kept) → ((k : Kept) → (f k).object.no ≡ k.object.no)
-    → ((k : Kept) → (f k).marked ≡ k.marked) → marked_of (changed_kept ks n f) ≡ marked_of ks
+pub marked_of-changed : (ks : List Tabled) (n : ℕ) (f : Tabled → Tabled)
+    → ((k : Tabled) → (f k).object.no ≡ k.object.no)
+    → ((k : Tabled) → (f k).marked ≡ k.marked) → marked_of (changed_tabled ks n f) ≡ marked_of ks
 marked_of-changed [] n f keeps leaves = refl
 marked_of-changed (k ∷ ks) n f keeps leaves =
     elim (cases_Bool (k.object.no == n)) [
@@ -135,7 +136,7 @@ marked_of-changed (k ∷ ks) n f keeps leaves =
     ]
 
 -- a new object isn't marked
-pub marked_of-made : (ks : List Kept) (k : Kept) → k.marked ≡ false → marked_of (ks ++ k ∷ []) ≡ marked_of ks
+pub marked_of-made : (ks : List Tabled) (k : Tabled) → k.marked ≡ false → marked_of (ks ++ k ∷ []) ≡ marked_of ks
 marked_of-made [] k plain = simp plain refl
 marked_of-made (l ∷ ls) k plain =
     ap (λ (ms : List ℕ). if l.marked then l.object.no ∷ ms else ms) (marked_of-made ls k plain)
@@ -146,23 +147,23 @@ pub from_bool-le : (b : Bool) → from_bool b ≤ 1
 from_bool-le true = omega arith
 from_bool-le false = omega arith
 
-pub marks_same : {ks ls : List Kept} {count : ℕ} → ls ≡ ks → count ≡ length (marked_of ks)
+pub marks_same : {ks ls : List Tabled} {count : ℕ} → ls ≡ ks → count ≡ length (marked_of ks)
     → count ≡ length (marked_of ls)
 marks_same same counted = counted ∙ sym (ap (λ ms. length (marked_of ms)) same)
 
-pub marks_changed : (ks : List Kept) (n : ℕ) (f : Kept → Kept) → ((k : Kept) → (f k).object.no ≡ k.object.no)
-    → ((k : Kept) → (f k).marked ≡ k.marked) → {ls : List Kept} {count : ℕ} → ls ≡ changed_kept ks n f
+pub marks_changed : (ks : List Tabled) (n : ℕ) (f : Tabled → Tabled) → ((k : Tabled) → (f k).object.no ≡ k.object.no)
+    → ((k : Tabled) → (f k).marked ≡ k.marked) → {ls : List Tabled} {count : ℕ} → ls ≡ changed_tabled ks n f
     → count ≡ length (marked_of ks) → count ≡ length (marked_of ls)
 marks_changed ks n f keeps leaves is counted =
     marks_same is (counted ∙ ap length (sym (marked_of-changed ks n f keeps leaves)))
 
-pub marks_made : (ks : List Kept) (k : Kept) → k.marked ≡ false → {ls : List Kept} {count : ℕ} → ls ≡ ks ++ k ∷ []
+pub marks_made : (ks : List Tabled) (k : Tabled) → k.marked ≡ false → {ls : List Tabled} {count : ℕ} → ls ≡ ks ++ k ∷ []
     → count ≡ length (marked_of ks) → count ≡ length (marked_of ls)
 marks_made ks k plain is counted = marks_same is (counted ∙ ap length (sym (marked_of-made ks k plain)))
 
 -- ---- an object is marked
 
-one_more-marked_above : (ks : List Kept) (n m : ℕ) → n ≤ m → IsRising (m ∷ numbers (objects_of ks))
+one_more-marked_above : (ks : List Tabled) (n m : ℕ) → n ≤ m → IsRising (m ∷ numbers (objects_of ks))
     → one_more (marked_of ks) n ≡ n ∷ marked_of ks
 one_more-marked_above [] n m order rising = refl
 one_more-marked_above (k ∷ ks) n m order rising =
@@ -174,7 +175,8 @@ one_more-marked_above (k ∷ ks) n m order rising =
     ]
 
 -- what is found among rising numbers is above the first
-above_found : (ks : List Kept) (m n : ℕ) → IsRising (m ∷ numbers (objects_of ks)) → is_unmarked_in (kept_at ks n) ≡ true
+above_found : (ks : List Tabled) (m n : ℕ) → IsRising (m ∷ numbers (objects_of ks))
+    → is_unmarked_in (tabled_at ks n) ≡ true
     → m < n
 above_found [] m n rising there = absurd (false≢true there)
 above_found (k ∷ ks) m n rising there =
@@ -186,9 +188,9 @@ above_found (k ∷ ks) m n rising there =
     ]
 
 -- one that wasn't: its number is one more among the marked
-pub marked_of-marked : (ks : List Kept) (n : ℕ) → IsRising (numbers (objects_of ks))
-    → is_unmarked_in (kept_at ks n) ≡ true
-    → marked_of (changed_kept ks n (with_marked true)) ≡ one_more (marked_of ks) n
+pub marked_of-marked : (ks : List Tabled) (n : ℕ) → IsRising (numbers (objects_of ks))
+    → is_unmarked_in (tabled_at ks n) ≡ true
+    → marked_of (changed_tabled ks n (with_marked true)) ≡ one_more (marked_of ks) n
 marked_of-marked [] n rising there = absurd (false≢true there)
 marked_of-marked (k ∷ ks) n rising there =
     elim (cases_Bool (k.object.no == n)) [
@@ -201,9 +203,9 @@ marked_of-marked (k ∷ ks) n rising there =
             | inr plain ↦ simp (same, plain) (sym first ∙ ap (one_more (marked_of ks)) number)
           ]
       | inr other ↦
-          let later : is_unmarked_in (kept_at ks n) ≡ true = simp other at there in
+          let later : is_unmarked_in (tabled_at ks n) ≡ true = simp other at there in
           let under : nat_lt k.object.no n ≡ true = lt-ltb k.object.no n (above_found ks k.object.no n rising later) in
-          let rest : marked_of (changed_kept ks n (with_marked true)) ≡ one_more (marked_of ks) n =
+          let rest : marked_of (changed_tabled ks n (with_marked true)) ≡ one_more (marked_of ks) n =
           marked_of-marked ks n (IsRising-tail k.object.no (numbers (objects_of ks)) rising) later in
           elim (cases_Bool k.marked) [
             | inl marked ↦ simp (other, marked, under) (ap (λ ms. k.object.no ∷ ms) rest)
@@ -212,8 +214,8 @@ marked_of-marked (k ∷ ks) n rising there =
     ]
 
 -- one that was, or isn't there: nothing changes among them
-pub marked_of-marked_again : (ks : List Kept) (n : ℕ) → is_unmarked_in (kept_at ks n) ≡ false
-    → marked_of (changed_kept ks n (with_marked true)) ≡ marked_of ks
+pub marked_of-marked_again : (ks : List Tabled) (n : ℕ) → is_unmarked_in (tabled_at ks n) ≡ false
+    → marked_of (changed_tabled ks n (with_marked true)) ≡ marked_of ks
 marked_of-marked_again [] n was = refl
 marked_of-marked_again (k ∷ ks) n was =
     elim (cases_Bool (k.object.no == n)) [
@@ -222,15 +224,15 @@ marked_of-marked_again (k ∷ ks) n was =
         | inr plain ↦ absurd (let wrong : true ≡ false = simp (same, plain) at was in false≢true (sym wrong))
       ]
       | inr other ↦
-          let later : is_unmarked_in (kept_at ks n) ≡ false = simp other at was in
+          let later : is_unmarked_in (tabled_at ks n) ≡ false = simp other at was in
           simp other
           (ap (λ (ms : List ℕ). if k.marked then k.object.no ∷ ms else ms) (marked_of-marked_again ks n later))
     ]
 
 -- how many are marked then
-length-marked_of-marked : (ks : List Kept) (n : ℕ)
-    → length (marked_of (changed_kept ks n (with_marked true)))
-    ≡ length (marked_of ks) + from_bool (is_unmarked_in (kept_at ks n))
+length-marked_of-marked : (ks : List Tabled) (n : ℕ)
+    → length (marked_of (changed_tabled ks n (with_marked true)))
+    ≡ length (marked_of ks) + from_bool (is_unmarked_in (tabled_at ks n))
 length-marked_of-marked [] n = refl
 length-marked_of-marked (k ∷ ks) n =
     elim (cases_Bool (k.object.no == n)) [
@@ -239,8 +241,8 @@ length-marked_of-marked (k ∷ ks) n =
         | inr plain ↦ simp (same, plain) (omega arith)
       ]
       | inr other ↦
-          let rest : length (marked_of (changed_kept ks n (with_marked true)))
-          ≡ length (marked_of ks) + from_bool (is_unmarked_in (kept_at ks n)) =
+          let rest : length (marked_of (changed_tabled ks n (with_marked true)))
+          ≡ length (marked_of ks) + from_bool (is_unmarked_in (tabled_at ks n)) =
           length-marked_of-marked ks n in
           elim (cases_Bool k.marked) [
             | inl marked ↦ simp (other, marked) (omega (arith, rest))
@@ -248,21 +250,21 @@ length-marked_of-marked (k ∷ ks) n =
           ]
     ]
 
-pub marks_more : (ks : List Kept) (n : ℕ) {ls : List Kept} {count more : ℕ}
-    → ls ≡ changed_kept ks n (with_marked true) → more ≡ from_bool (is_unmarked_in (kept_at ks n))
+pub marks_more : (ks : List Tabled) (n : ℕ) {ls : List Tabled} {count more : ℕ}
+    → ls ≡ changed_tabled ks n (with_marked true) → more ≡ from_bool (is_unmarked_in (tabled_at ks n))
     → count ≡ length (marked_of ks) → count + more ≡ length (marked_of ls)
 marks_more ks n {ls} {count} {more} is one counted =
-    let now : length (marked_of ls) ≡ length (marked_of (changed_kept ks n (with_marked true))) =
+    let now : length (marked_of ls) ≡ length (marked_of (changed_tabled ks n (with_marked true))) =
     ap (λ ms. length (marked_of ms)) is in
     omega (arith, length-marked_of-marked ks n, one, counted, now)
 
 -- a mark is none among the objects and the holds
-pub objects_of-with_marked : (ks : List Kept) (n : ℕ) (b : Bool)
-    → objects_of (changed_kept ks n (with_marked b)) ≡ objects_of ks
+pub objects_of-with_marked : (ks : List Tabled) (n : ℕ) (b : Bool)
+    → objects_of (changed_tabled ks n (with_marked b)) ≡ objects_of ks
 objects_of-with_marked ks n b = objects_of-same ks n (with_marked b) (λ k. refl)
 
-pub holds_of-with_marked : (ks : List Kept) (n : ℕ) (b : Bool)
-    → holds_of (changed_kept ks n (with_marked b)) ≡ holds_of ks
+pub holds_of-with_marked : (ks : List Tabled) (n : ℕ) (b : Bool)
+    → holds_of (changed_tabled ks n (with_marked b)) ≡ holds_of ks
 holds_of-with_marked [] n b = refl
 holds_of-with_marked (k ∷ ks) n b =
     elim (cases_Bool (k.object.no == n)) [
@@ -271,17 +273,17 @@ holds_of-with_marked (k ∷ ks) n b =
     ]
 
 -- nor are the marks that are taken away
-pub objects_of-unmarked_kept : (ks : List Kept) → objects_of (unmarked_kept ks) ≡ objects_of ks
-objects_of-unmarked_kept [] = refl
-objects_of-unmarked_kept (k ∷ ks) = ap (λ os. k.object ∷ os) (objects_of-unmarked_kept ks)
+pub objects_of-unmarked_tabled : (ks : List Tabled) → objects_of (unmarked_tabled ks) ≡ objects_of ks
+objects_of-unmarked_tabled [] = refl
+objects_of-unmarked_tabled (k ∷ ks) = ap (λ os. k.object ∷ os) (objects_of-unmarked_tabled ks)
 
-pub holds_of-unmarked_kept : (ks : List Kept) → holds_of (unmarked_kept ks) ≡ holds_of ks
-holds_of-unmarked_kept [] = refl
-holds_of-unmarked_kept (k ∷ ks) = ap (λ ms. replicate k.holds k.object.no ++ ms) (holds_of-unmarked_kept ks)
+pub holds_of-unmarked_tabled : (ks : List Tabled) → holds_of (unmarked_tabled ks) ≡ holds_of ks
+holds_of-unmarked_tabled [] = refl
+holds_of-unmarked_tabled (k ∷ ks) = ap (λ ms. replicate k.holds k.object.no ++ ms) (holds_of-unmarked_tabled ks)
 
 -- ---- an object goes
 
-one_fewer-marked_above : (ks : List Kept) (n m : ℕ) → n ≤ m → IsRising (m ∷ numbers (objects_of ks))
+one_fewer-marked_above : (ks : List Tabled) (n m : ℕ) → n ≤ m → IsRising (m ∷ numbers (objects_of ks))
     → one_fewer (marked_of ks) n ≡ marked_of ks
 one_fewer-marked_above [] n m order rising = refl
 one_fewer-marked_above (k ∷ ks) n m order rising =
@@ -295,8 +297,8 @@ one_fewer-marked_above (k ∷ ks) n m order rising =
     ]
 
 -- its mark goes with it
-pub marked_of-without : (ks : List Kept) (n : ℕ) → IsRising (numbers (objects_of ks))
-    → marked_of (without_kept ks n) ≡ one_fewer (marked_of ks) n
+pub marked_of-without : (ks : List Tabled) (n : ℕ) → IsRising (numbers (objects_of ks))
+    → marked_of (without_tabled ks n) ≡ one_fewer (marked_of ks) n
 marked_of-without [] n rising = refl
 marked_of-without (k ∷ ks) n rising =
     elim (cases_Bool (k.object.no == n)) [
@@ -308,7 +310,7 @@ marked_of-without (k ∷ ks) n rising =
                 simp (same, plain) (sym (one_fewer-marked_above ks n k.object.no (omega arith) rising))
           ]
       | inr other ↦
-          let rest : marked_of (without_kept ks n) ≡ one_fewer (marked_of ks) n =
+          let rest : marked_of (without_tabled ks n) ≡ one_fewer (marked_of ks) n =
           marked_of-without ks n (IsRising-tail k.object.no (numbers (objects_of ks)) rising) in
           elim (cases_Bool k.marked) [
             | inl marked ↦ simp (other, marked) (ap (λ ms. k.object.no ∷ ms) rest)
@@ -317,8 +319,8 @@ marked_of-without (k ∷ ks) n rising =
     ]
 
 -- how many were marked, by how many are once it is gone
-pub length-marked_of-without : (ks : List Kept) (n : ℕ)
-    → length (marked_of ks) ≡ from_bool (is_marked_in (kept_at ks n)) + length (marked_of (without_kept ks n))
+pub length-marked_of-without : (ks : List Tabled) (n : ℕ)
+    → length (marked_of ks) ≡ from_bool (is_marked_in (tabled_at ks n)) + length (marked_of (without_tabled ks n))
 length-marked_of-without [] n = refl
 length-marked_of-without (k ∷ ks) n =
     elim (cases_Bool (k.object.no == n)) [
@@ -328,7 +330,7 @@ length-marked_of-without (k ∷ ks) n =
       ]
       | inr other ↦
           let rest : length (marked_of ks)
-          ≡ from_bool (is_marked_in (kept_at ks n)) + length (marked_of (without_kept ks n)) =
+          ≡ from_bool (is_marked_in (tabled_at ks n)) + length (marked_of (without_tabled ks n)) =
           length-marked_of-without ks n in
           elim (cases_Bool k.marked) [
             | inl marked ↦ simp (other, marked) (omega (arith, rest))
@@ -336,28 +338,28 @@ length-marked_of-without (k ∷ ks) n =
           ]
     ]
 
-pub marks_le : (ks : List Kept) (n : ℕ) {count less : ℕ} → less ≡ from_bool (is_marked_in (kept_at ks n))
+pub marks_le : (ks : List Tabled) (n : ℕ) {count less : ℕ} → less ≡ from_bool (is_marked_in (tabled_at ks n))
     → count ≡ length (marked_of ks) → less ≤ count
 marks_le ks n {count} {less} one counted = omega (arith, length-marked_of-without ks n, one, counted)
 
-pub marks_fewer : (ks : List Kept) (n : ℕ) {ls : List Kept} {count less : ℕ} → ls ≡ without_kept ks n
-    → less ≡ from_bool (is_marked_in (kept_at ks n)) → count ≡ length (marked_of ks)
+pub marks_fewer : (ks : List Tabled) (n : ℕ) {ls : List Tabled} {count less : ℕ} → ls ≡ without_tabled ks n
+    → less ≡ from_bool (is_marked_in (tabled_at ks n)) → count ≡ length (marked_of ks)
     → count - less ≡ length (marked_of ls)
 marks_fewer ks n {ls} {count} {less} is one counted =
-    let now : length (marked_of ls) ≡ length (marked_of (without_kept ks n)) = ap (λ ms. length (marked_of ms)) is in
+    let now : length (marked_of ls) ≡ length (marked_of (without_tabled ks n)) = ap (λ ms. length (marked_of ms)) is in
     omega (arith, length-marked_of-without ks n, one, counted, now)
 
 -- ---- a search's answer
 
 -- what the cell at a number's place holds is the object of that number
-pub kept_at-found : {cells : List (Option Kept)} {es : List Entry} {ps : List ℕ} {last n p : ℕ}
-    → IsPlaced cells es ps last → IsPlaceOf cells es n p → (old : Option Kept) → old ≡ get_or cells p old
-    → kept_at (kept_by cells es) n ≡ old
-kept_at-found {cells} {es} {ps} {last} {n} {p} placed place old was =
-    kept_at-place cells es n placed.rises ∙ ap (at_place cells) (IsPlaceOf-live place)
+pub tabled_at-found : {cells : List (Option Tabled)} {es : List Entry} {ps : List ℕ} {last n p : ℕ}
+    → IsPlaced cells es ps last → IsPlaceOf cells es n p → (old : Option Tabled) → old ≡ get_or cells p old
+    → tabled_at (tabled_by cells es) n ≡ old
+tabled_at-found {cells} {es} {ps} {last} {n} {p} placed place old was =
+    tabled_at-place cells es n placed.rises ∙ ap (at_place cells) (IsPlaceOf-live place)
     ∙ sym (get_or_read cells p old place.within was None)
 
-pub kept_at-missing : {cells : List (Option Kept)} {es : List Entry} {ps : List ℕ} {last n : ℕ}
-    → IsPlaced cells es ps last → IsMissing cells es n → kept_at (kept_by cells es) n ≡ None
-kept_at-missing {cells} {es} {ps} {last} {n} placed missing =
-    kept_at-place cells es n placed.rises ∙ ap (at_place cells) missing.none
+pub tabled_at-missing : {cells : List (Option Tabled)} {es : List Entry} {ps : List ℕ} {last n : ℕ}
+    → IsPlaced cells es ps last → IsMissing cells es n → tabled_at (tabled_by cells es) n ≡ None
+tabled_at-missing {cells} {es} {ps} {last} {n} placed missing =
+    tabled_at-place cells es n placed.rises ∙ ap (at_place cells) missing.none

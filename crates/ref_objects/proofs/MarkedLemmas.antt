@@ -1,17 +1,18 @@
 -- What a contract sees of a heap's objects as one is marked, and as no mark is left.
-use Rattle.std.proofs.Common.{◌≡◌, ℕ, ◌<◌, true, refl, sym, ◌∙◌, ap, length, List, [], ◌∷◌, Option, inl, inr, arith}
-use Rattle.std.proofs.lemmas.Bool.{cases_Bool}
-use Rattle.ref_base.specs.Graphs.{numbers}
+use Rattle.std.proofs.Common.{◌≡◌, ℕ, ◌<◌, true, ◌==◌, refl, sym, ◌∙◌, ap, length, List, [], ◌∷◌, Option, inl, inr}
+use Rattle.std.proofs.Common.{arith}
+use Rattle.std.proofs.lemmas.Bool.{cases_Bool, eqb-true, false≢true}
+use Rattle.ref_base.specs.Graphs.{Object, is_there, numbers}
 use Rattle.ref_base.specs.Strengths.{IsRising}
 use Rattle.ref_base.specs.declared.config.Config.{Config}
-use Rattle.ref_objects.specs.Tables.{Table, kept_at, objects_of, changed, is_unmarked_in, with_marked, AllUpTo}
+use Rattle.ref_objects.specs.Tables.{Table, tabled_at, objects_of, changed, is_unmarked_in, with_marked, AllUpTo}
 use Rattle.ref_objects.specs.Tables.{without_marks as without_table_marks}
-use Rattle.ref_objects.specs.Grounds.{with_mark, without_marks, AllBelow}
+use Rattle.ref_objects.specs.Grounds.{with_mark, without_marks}
 use Rattle.ref_objects.specs.GroundViews.{seen, IsSound}
-use Rattle.ref_objects.proofs.MarkLemmas.{is_unmarked-kept, marked_of-marked, marked_of-marked_again}
+use Rattle.ref_objects.proofs.MarkLemmas.{is_unmarked-tabled, marked_of-marked, marked_of-marked_again}
 use Rattle.ref_objects.proofs.MarkLemmas.{objects_of-with_marked, holds_of-with_marked}
-use Rattle.ref_objects.proofs.MarkLemmas.{objects_of-unmarked_kept, holds_of-unmarked_kept}
-use Rattle.ref_objects.proofs.UnmarkedLemmas.{marked_of-unmarked_kept}
+use Rattle.ref_objects.proofs.MarkLemmas.{objects_of-unmarked_tabled, holds_of-unmarked_tabled}
+use Rattle.ref_objects.proofs.UnmarkedLemmas.{marked_of-unmarked_tabled}
 
 pub sound_marked : (config : Config) (t : Table) (slots : List (Option ℕ)) (holds next n : ℕ)
     → IsSound config t slots holds next → IsSound config (changed t n (with_marked true)) slots holds next
@@ -19,31 +20,31 @@ sound_marked config t slots holds next n sound = record {
   within = sound.within;
   room = sound.room;
   slot_count = sound.slot_count;
-  counted = sound.counted ∙ ap length (sym (holds_of-with_marked t.kept n true));
+  counted = sound.counted ∙ ap length (sym (holds_of-with_marked t.tabled n true));
   given = sound.given;
   bounded = sound.bounded;
 }
 
 pub seen_marked : (config : Config) (heap_no : ℕ) (t : Table) (slots : List (Option ℕ)) (clock next n : ℕ)
-    → IsRising (numbers (objects_of t.kept))
+    → IsRising (numbers (objects_of t.tabled))
     → seen config heap_no (changed t n (with_marked true)) slots clock next
     ≡ with_mark (seen config heap_no t slots clock next) n
 seen_marked config heap_no t slots clock next n rising =
-    let same = is_unmarked-kept t.kept n rising in
-    elim (cases_Bool (is_unmarked_in (kept_at t.kept n))) [
+    let same = is_unmarked-tabled t.tabled n rising in
+    elim (cases_Bool (is_unmarked_in (tabled_at t.tabled n))) [
       | inl new ↦
           simp (same, new)
           (rw (
-            objects_of-with_marked t.kept n true,
-            holds_of-with_marked t.kept n true,
-            marked_of-marked t.kept n rising new,
+            objects_of-with_marked t.tabled n true,
+            holds_of-with_marked t.tabled n true,
+            marked_of-marked t.tabled n rising new,
           ) refl)
       | inr old ↦
           simp (same, old)
           (rw (
-            objects_of-with_marked t.kept n true,
-            holds_of-with_marked t.kept n true,
-            marked_of-marked_again t.kept n old,
+            objects_of-with_marked t.tabled n true,
+            holds_of-with_marked t.tabled n true,
+            marked_of-marked_again t.tabled n old,
           ) refl)
     ]
 
@@ -53,7 +54,7 @@ sound_without_marks config t slots holds next sound = record {
   within = sound.within;
   room = sound.room;
   slot_count = sound.slot_count;
-  counted = sound.counted ∙ ap length (sym (holds_of-unmarked_kept t.kept));
+  counted = sound.counted ∙ ap length (sym (holds_of-unmarked_tabled t.tabled));
   given = sound.given;
   bounded = sound.bounded;
 }
@@ -62,10 +63,14 @@ pub seen_without_marks : (config : Config) (heap_no : ℕ) (t : Table) (slots : 
     → seen config heap_no (without_table_marks t) slots clock next
     ≡ without_marks (seen config heap_no t slots clock next)
 seen_without_marks config heap_no t slots clock next =
-    rw (objects_of-unmarked_kept t.kept, holds_of-unmarked_kept t.kept, marked_of-unmarked_kept t.kept) refl
+    rw (objects_of-unmarked_tabled t.tabled, holds_of-unmarked_tabled t.tabled, marked_of-unmarked_tabled t.tabled) refl
 
 -- numbers up to the last are below the next
-pub AllBelow-AllUpTo : (ns : List ℕ) (last next : ℕ) → last < next → AllUpTo last ns → AllBelow next ns
-AllBelow-AllUpTo [] last next under all = tt
-AllBelow-AllUpTo (n ∷ ns) last next under all =
-    (omega (arith, all.0, under), AllBelow-AllUpTo ns last next under all.1)
+pub there_below : (os : List Object) (last next : ℕ) → last < next → AllUpTo last (numbers os) → (n : ℕ)
+    → is_there os n ≡ true → n < next
+there_below [] last next under all n there = absurd (false≢true there)
+there_below (o ∷ os) last next under all n there =
+    elim (cases_Bool (o.no == n)) [
+      | inl same ↦ let number : o.no ≡ n = eqb-true o.no n same in omega (arith, all.0, under, number)
+      | inr other ↦ there_below os last next under all.1 n (simp other at there)
+    ]

@@ -8,35 +8,35 @@ use Rattle.std.proofs.lemmas.Bool.{eq-eqb, eqb-true, false≢true}
 use Rattle.std.proofs.lemmas.List.{get_or-set_same, get_or-set_other, get_or_past}
 use Rattle.std.specs.List.{filter}
 use Rattle.std.specs.Cmp.{nat_eq_equiv}
-use Rattle.ref_objects.specs.Places.{cell_at, is_of, is_live, is_held, is_held_as, before, kept_by, place_in}
+use Rattle.ref_objects.specs.Places.{cell_at, is_of, is_live, is_held, is_held_as, before, tabled_by, place_in}
 use Rattle.ref_objects.specs.Places.{place_if_live, count_below}
 use Rattle.ref_objects.specs.Places.{first_live, first_held, AllAbove, Rises}
-use Rattle.ref_objects.specs.Tables.{Kept, kept_at, first_from, held_from, changed_kept, without_kept}
+use Rattle.ref_objects.specs.Tables.{Tabled, tabled_at, first_from, held_from, changed_tabled, without_tabled}
 use Rattle.ref_objects.specs.declared.index.Entry.{Entry}
 use Rattle.ref_objects.proofs.IndexLemmas.{place_in-none, place_in-at, place_in-past}
 
 -- ---- one cell
 
 -- a cell that is of a number holds an object of that number
-pub is_of-some : (c : Option Kept) (n : ℕ) → is_of c n ≡ true → (k : Kept) × (c ≡ Some k) × (k.object.no ≡ n)
+pub is_of-some : (c : Option Tabled) (n : ℕ) → is_of c n ≡ true → (k : Tabled) × (c ≡ Some k) × (k.object.no ≡ n)
 is_of-some None n own = absurd (false≢true own)
 is_of-some (Some k) n own = (k, refl, eqb-true k.object.no n own)
 
 -- a cell that is of another number puts nothing in front
-before-none : (c : Option Kept) (n : ℕ) (ks : List Kept) → is_of c n ≡ false → before c n ks ≡ ks
+before-none : (c : Option Tabled) (n : ℕ) (ks : List Tabled) → is_of c n ≡ false → before c n ks ≡ ks
 before-none None n ks other = refl
 before-none (Some k) n ks other = simp other refl
 
-before-append : (c : Option Kept) (n : ℕ) (ks ls : List Kept) → before c n ks ++ ls ≡ before c n (ks ++ ls)
+before-append : (c : Option Tabled) (n : ℕ) (ks ls : List Tabled) → before c n ks ++ ls ≡ before c n (ks ++ ls)
 before-append None n ks ls = refl
 before-append (Some k) n ks ls =
     elim (cases_Bool (k.object.no == n)) [ inl own ↦ simp own refl | inr other ↦ simp other refl ]
 
 -- what is put in front for one number is passed over by a look-up of another
-kept_at-before : (c : Option Kept) (m n : ℕ) (ks : List Kept) → (m == n) ≡ false
-    → kept_at (before c m ks) n ≡ kept_at ks n
-kept_at-before None m n ks other = refl
-kept_at-before (Some k) m n ks other =
+tabled_at-before : (c : Option Tabled) (m n : ℕ) (ks : List Tabled) → (m == n) ≡ false
+    → tabled_at (before c m ks) n ≡ tabled_at ks n
+tabled_at-before None m n ks other = refl
+tabled_at-before (Some k) m n ks other =
     elim (cases_Bool (k.object.no == m)) [
       | inl own ↦
           let number : k.object.no ≡ m = eqb-true k.object.no m own in
@@ -48,15 +48,15 @@ kept_at-before (Some k) m n ks other =
 -- ---- a look-up
 
 -- what the cell at a place holds, if there is a place
-abbrev pub at_place : List (Option Kept) → Option ℕ → Option Kept
+abbrev pub at_place : List (Option Tabled) → Option ℕ → Option Tabled
 at_place cells None = None
 at_place cells (Some place) = cell_at cells place
 
 -- the object of a number is what the cell at its place holds
-pub kept_at-place : (cells : List (Option Kept)) (es : List Entry) (n : ℕ) → Rises es
-    → kept_at (kept_by cells es) n ≡ at_place cells (place_if_live cells (place_in es n) n)
-kept_at-place cells [] n rises = refl
-kept_at-place cells (e ∷ es) n rises =
+pub tabled_at-place : (cells : List (Option Tabled)) (es : List Entry) (n : ℕ) → Rises es
+    → tabled_at (tabled_by cells es) n ≡ at_place cells (place_if_live cells (place_in es n) n)
+tabled_at-place cells [] n rises = refl
+tabled_at-place cells (e ∷ es) n rises =
     elim (cases_Bool (e.no == n)) [
       | inl same ↦
           let number : e.no ≡ n = eqb-true e.no n same in
@@ -66,30 +66,31 @@ kept_at-place cells (e ∷ es) n rises =
                 let passes : (found.0.object.no == n) ≡ true = eq-eqb found.0.object.no n found.2 in
                 let fits : (found.0.object.no == e.no) ≡ true =
                 eq-eqb found.0.object.no e.no (found.2 ∙ sym number) in
-                let first : kept_at (before (Some found.0) e.no (kept_by cells es)) n ≡ Some found.0 =
+                let first : tabled_at (before (Some found.0) e.no (tabled_by cells es)) n ≡ Some found.0 =
                 simp (fits, passes) refl in
                 let place : at_place cells (place_if_live cells (place_in (e ∷ es) n) n) ≡ cell_at cells e.place =
                 simp (same, own) refl in
-                ap (λ c. kept_at (before c e.no (kept_by cells es)) n) found.1 ∙ first ∙ sym (place ∙ found.1)
+                ap (λ c. tabled_at (before c e.no (tabled_by cells es)) n) found.1 ∙ first ∙ sym (place ∙ found.1)
             | inr stale ↦
                 let gap : is_of (cell_at cells e.place) e.no ≡ false =
                 ap (is_of (cell_at cells e.place)) number ∙ stale in
                 let none : place_in es n ≡ None = place_in-none es n e.no (omega arith) rises.0 in
-                let absent : kept_at (kept_by cells es) n ≡ None =
-                kept_at-place cells es n rises.1 ∙ ap (λ p. at_place cells (place_if_live cells p n)) none in
+                let absent : tabled_at (tabled_by cells es) n ≡ None =
+                tabled_at-place cells es n rises.1 ∙ ap (λ p. at_place cells (place_if_live cells p n)) none in
                 let place : at_place cells (place_if_live cells (place_in (e ∷ es) n) n) ≡ None =
                 simp (same, stale) refl in
-                ap (λ ks. kept_at ks n) (before-none (cell_at cells e.place) e.no (kept_by cells es) gap) ∙ absent
+                ap (λ ks. tabled_at ks n) (before-none (cell_at cells e.place) e.no (tabled_by cells es) gap) ∙ absent
                 ∙ sym place
           ]
       | inr other ↦
           simp other
-          (kept_at-before (cell_at cells e.place) e.no n (kept_by cells es) other ∙ kept_at-place cells es n rises.1)
+          (tabled_at-before (cell_at cells e.place) e.no n (tabled_by cells es) other
+          ∙ tabled_at-place cells es n rises.1)
     ]
 
 -- ---- the first number from one on
 
-first_from-before : (c : Option Kept) (m n : ℕ) (ks : List Kept) → m < n
+first_from-before : (c : Option Tabled) (m n : ℕ) (ks : List Tabled) → m < n
     → first_from (before c m ks) n ≡ first_from ks n
 first_from-before None m n ks below = refl
 first_from-before (Some k) m n ks below =
@@ -102,7 +103,7 @@ first_from-before (Some k) m n ks below =
       | inr stale ↦ simp stale refl
     ]
 
-first_from-own : (c : Option Kept) (m n : ℕ) (ks : List Kept) → n ≤ m
+first_from-own : (c : Option Tabled) (m n : ℕ) (ks : List Tabled) → n ≤ m
     → first_from (before c m ks) n ≡ (if is_of c m then Some m else first_from ks n)
 first_from-own None m n ks above = refl
 first_from-own (Some k) m n ks above =
@@ -114,33 +115,33 @@ first_from-own (Some k) m n ks above =
       | inr stale ↦ simp stale refl
     ]
 
-first_from-above : (cells : List (Option Kept)) (es : List Entry) (n m : ℕ) → n ≤ m → AllAbove m es
-    → first_from (kept_by cells es) n ≡ first_live cells es
+first_from-above : (cells : List (Option Tabled)) (es : List Entry) (n m : ℕ) → n ≤ m → AllAbove m es
+    → first_from (tabled_by cells es) n ≡ first_live cells es
 first_from-above cells [] n m order above = refl
 first_from-above cells (e ∷ es) n m order above =
     let over : m < e.no = above.0 in
-    first_from-own (cell_at cells e.place) e.no n (kept_by cells es) (omega arith)
+    first_from-own (cell_at cells e.place) e.no n (tabled_by cells es) (omega arith)
     ∙ ap (λ (o : Option ℕ). if is_live cells e then Some e.no else o) (first_from-above cells es n m order above.1)
 
 -- it is that of the first live entry after those below it
-pub first_from-live : (cells : List (Option Kept)) (es : List Entry) (n : ℕ) → Rises es
-    → first_from (kept_by cells es) n ≡ first_live cells (drop (count_below es n) es)
+pub first_from-live : (cells : List (Option Tabled)) (es : List Entry) (n : ℕ) → Rises es
+    → first_from (tabled_by cells es) n ≡ first_live cells (drop (count_below es n) es)
 first_from-live cells [] n rises = refl
 first_from-live cells (e ∷ es) n rises =
     elim (cases_Bool (nat_lt e.no n)) [
       | inl below ↦
           simp below
-          (first_from-before (cell_at cells e.place) e.no n (kept_by cells es) (ltb-true e.no n below)
+          (first_from-before (cell_at cells e.place) e.no n (tabled_by cells es) (ltb-true e.no n below)
           ∙ first_from-live cells es n rises.1)
       | inr above ↦
           let no_less : n ≤ e.no = ltb-false e.no n above in
           simp above
-          (first_from-own (cell_at cells e.place) e.no n (kept_by cells es) no_less
+          (first_from-own (cell_at cells e.place) e.no n (tabled_by cells es) no_less
           ∙ ap (λ (o : Option ℕ). if is_live cells e then Some e.no else o)
           (first_from-above cells es n e.no no_less rises.0))
     ]
 
-held_from-before : (c : Option Kept) (m n : ℕ) (ks : List Kept) → m < n
+held_from-before : (c : Option Tabled) (m n : ℕ) (ks : List Tabled) → m < n
     → held_from (before c m ks) n ≡ held_from ks n
 held_from-before None m n ks below = refl
 held_from-before (Some k) m n ks below =
@@ -152,7 +153,7 @@ held_from-before (Some k) m n ks below =
       | inr stale ↦ simp stale refl
     ]
 
-held_from-own : (c : Option Kept) (m n : ℕ) (ks : List Kept) → n ≤ m
+held_from-own : (c : Option Tabled) (m n : ℕ) (ks : List Tabled) → n ≤ m
     → held_from (before c m ks) n ≡ (if is_held_as c m then Some m else held_from ks n)
 held_from-own None m n ks above = refl
 held_from-own (Some k) m n ks above =
@@ -164,28 +165,28 @@ held_from-own (Some k) m n ks above =
       | inr stale ↦ simp stale refl
     ]
 
-held_from-above : (cells : List (Option Kept)) (es : List Entry) (n m : ℕ) → n ≤ m → AllAbove m es
-    → held_from (kept_by cells es) n ≡ first_held cells es
+held_from-above : (cells : List (Option Tabled)) (es : List Entry) (n m : ℕ) → n ≤ m → AllAbove m es
+    → held_from (tabled_by cells es) n ≡ first_held cells es
 held_from-above cells [] n m order above = refl
 held_from-above cells (e ∷ es) n m order above =
     let over : m < e.no = above.0 in
-    held_from-own (cell_at cells e.place) e.no n (kept_by cells es) (omega arith)
+    held_from-own (cell_at cells e.place) e.no n (tabled_by cells es) (omega arith)
     ∙ ap (λ (o : Option ℕ). if is_held cells e then Some e.no else o) (held_from-above cells es n m order above.1)
 
 -- and of an object that is held, that of the first entry there whose object is held
-pub held_from-held : (cells : List (Option Kept)) (es : List Entry) (n : ℕ) → Rises es
-    → held_from (kept_by cells es) n ≡ first_held cells (drop (count_below es n) es)
+pub held_from-held : (cells : List (Option Tabled)) (es : List Entry) (n : ℕ) → Rises es
+    → held_from (tabled_by cells es) n ≡ first_held cells (drop (count_below es n) es)
 held_from-held cells [] n rises = refl
 held_from-held cells (e ∷ es) n rises =
     elim (cases_Bool (nat_lt e.no n)) [
       | inl below ↦
           simp below
-          (held_from-before (cell_at cells e.place) e.no n (kept_by cells es) (ltb-true e.no n below)
+          (held_from-before (cell_at cells e.place) e.no n (tabled_by cells es) (ltb-true e.no n below)
           ∙ held_from-held cells es n rises.1)
       | inr above ↦
           let no_less : n ≤ e.no = ltb-false e.no n above in
           simp above
-          (held_from-own (cell_at cells e.place) e.no n (kept_by cells es) no_less
+          (held_from-own (cell_at cells e.place) e.no n (tabled_by cells es) no_less
           ∙ ap (λ (o : Option ℕ). if is_held cells e then Some e.no else o)
           (held_from-above cells es n e.no no_less rises.0))
     ]
@@ -193,43 +194,43 @@ held_from-held cells (e ∷ es) n rises =
 -- ---- gaps
 
 -- without its gaps the index leads to the same objects
-pub kept_by-filter : (cells : List (Option Kept)) (es : List Entry)
-    → kept_by cells (filter (is_live cells) es) ≡ kept_by cells es
-kept_by-filter cells [] = refl
-kept_by-filter cells (e ∷ es) =
+pub tabled_by-filter : (cells : List (Option Tabled)) (es : List Entry)
+    → tabled_by cells (filter (is_live cells) es) ≡ tabled_by cells es
+tabled_by-filter cells [] = refl
+tabled_by-filter cells (e ∷ es) =
     elim (cases_Bool (is_live cells e)) [
-      | inl live ↦ simp live (ap (before (cell_at cells e.place) e.no) (kept_by-filter cells es))
+      | inl live ↦ simp live (ap (before (cell_at cells e.place) e.no) (tabled_by-filter cells es))
       | inr gap ↦
           simp gap
-          (kept_by-filter cells es ∙ sym (before-none (cell_at cells e.place) e.no (kept_by cells es) gap))
+          (tabled_by-filter cells es ∙ sym (before-none (cell_at cells e.place) e.no (tabled_by cells es) gap))
     ]
 
 -- and has as many entries as there are objects
-pub length-filter_live : (cells : List (Option Kept)) (es : List Entry)
-    → length (filter (is_live cells) es) ≡ length (kept_by cells es)
+pub length-filter_live : (cells : List (Option Tabled)) (es : List Entry)
+    → length (filter (is_live cells) es) ≡ length (tabled_by cells es)
 length-filter_live cells [] = refl
 length-filter_live cells (e ∷ es) =
     elim (cases_Bool (is_live cells e)) [
       | inl live ↦
           let found = is_of-some (cell_at cells e.place) e.no live in
           let own : (found.0.object.no == e.no) ≡ true = eq-eqb found.0.object.no e.no found.2 in
-          let front : before (cell_at cells e.place) e.no (kept_by cells es) ≡ found.0 ∷ kept_by cells es =
-          ap (λ c. before c e.no (kept_by cells es)) found.1 ∙ simp own refl in
+          let front : before (cell_at cells e.place) e.no (tabled_by cells es) ≡ found.0 ∷ tabled_by cells es =
+          ap (λ c. before c e.no (tabled_by cells es)) found.1 ∙ simp own refl in
           simp live (ap suc (length-filter_live cells es) ∙ sym (ap length front))
       | inr gap ↦
           simp gap
           (length-filter_live cells es
-          ∙ sym (ap length (before-none (cell_at cells e.place) e.no (kept_by cells es) gap)))
+          ∙ sym (ap length (before-none (cell_at cells e.place) e.no (tabled_by cells es) gap)))
     ]
 
 -- ---- a write to a cell
 
 -- the index has no place for what the cell holds
-abbrev pub IsAbsent : List Entry → Option Kept → Type 0
+abbrev pub IsAbsent : List Entry → Option Tabled → Type 0
 IsAbsent es None = Unit {0}
 IsAbsent es (Some k) = place_in es k.object.no ≡ None
 
-IsAbsent-other : (e : Entry) (es : List Entry) (c : Option Kept) → IsAbsent (e ∷ es) c → is_of c e.no ≡ false
+IsAbsent-other : (e : Entry) (es : List Entry) (c : Option Tabled) → IsAbsent (e ∷ es) c → is_of c e.no ≡ false
 IsAbsent-other e es None absent = refl
 IsAbsent-other e es (Some k) absent =
     elim (cases_Bool (e.no == k.object.no)) [
@@ -237,7 +238,7 @@ IsAbsent-other e es (Some k) absent =
       | inr other ↦ nat_eq_equiv.symm k.object.no e.no ∙ other
     ]
 
-IsAbsent-rest : (e : Entry) (es : List Entry) (c : Option Kept) → IsAbsent (e ∷ es) c → IsAbsent es c
+IsAbsent-rest : (e : Entry) (es : List Entry) (c : Option Tabled) → IsAbsent (e ∷ es) c → IsAbsent es c
 IsAbsent-rest e es None absent = tt
 IsAbsent-rest e es (Some k) absent =
     elim (cases_Bool (e.no == k.object.no)) [
@@ -246,50 +247,50 @@ IsAbsent-rest e es (Some k) absent =
     ]
 
 -- a cell that holds nothing that the index has, before and after, doesn't count
-pub kept_by-set : (cells : List (Option Kept)) (es : List Entry) (p : ℕ) (c : Option Kept) → p < length cells
-    → IsAbsent es (cell_at cells p) → IsAbsent es c → kept_by (set cells p c) es ≡ kept_by cells es
-kept_by-set cells [] p c within absent new = refl
-kept_by-set cells (e ∷ es) p c within absent new =
-    let rest : kept_by (set cells p c) es ≡ kept_by cells es =
-    kept_by-set cells es p c within (IsAbsent-rest e es (cell_at cells p) absent) (IsAbsent-rest e es c new) in
+pub tabled_by-set : (cells : List (Option Tabled)) (es : List Entry) (p : ℕ) (c : Option Tabled) → p < length cells
+    → IsAbsent es (cell_at cells p) → IsAbsent es c → tabled_by (set cells p c) es ≡ tabled_by cells es
+tabled_by-set cells [] p c within absent new = refl
+tabled_by-set cells (e ∷ es) p c within absent new =
+    let rest : tabled_by (set cells p c) es ≡ tabled_by cells es =
+    tabled_by-set cells es p c within (IsAbsent-rest e es (cell_at cells p) absent) (IsAbsent-rest e es c new) in
     elim (cases_eq e.place p) [
       | inl same ↦
           let now : cell_at (set cells p c) e.place ≡ c =
           ap (cell_at (set cells p c)) same ∙ get_or-set_same cells p c None within in
           let was : is_of (cell_at cells e.place) e.no ≡ false =
           ap (λ q. is_of (cell_at cells q) e.no) same ∙ IsAbsent-other e es (cell_at cells p) absent in
-          ap (λ d. before d e.no (kept_by (set cells p c) es)) now
-          ∙ before-none c e.no (kept_by (set cells p c) es) (IsAbsent-other e es c new) ∙ rest
-          ∙ sym (before-none (cell_at cells e.place) e.no (kept_by cells es) was)
+          ap (λ d. before d e.no (tabled_by (set cells p c) es)) now
+          ∙ before-none c e.no (tabled_by (set cells p c) es) (IsAbsent-other e es c new) ∙ rest
+          ∙ sym (before-none (cell_at cells e.place) e.no (tabled_by cells es) was)
       | inr other ↦
-          let kept : cell_at (set cells p c) e.place ≡ cell_at cells e.place =
+          let tabled : cell_at (set cells p c) e.place ≡ cell_at cells e.place =
           get_or-set_other cells p e.place c None other in
-          ap (λ d. before d e.no (kept_by (set cells p c) es)) kept ∙ ap (before (cell_at cells e.place) e.no) rest
+          ap (λ d. before d e.no (tabled_by (set cells p c) es)) tabled ∙ ap (before (cell_at cells e.place) e.no) rest
     ]
 
 -- the object of number n, gone or in another form
-abbrev pub replaced : List Kept → ℕ → Option Kept → List Kept
+abbrev pub replaced : List Tabled → ℕ → Option Tabled → List Tabled
 replaced [] n c = []
 replaced (k ∷ ks) n c = if k.object.no == n then before c n ks else k ∷ replaced ks n c
 
 -- the cell is free, or holds the object of number n
-abbrev pub IsOwn : ℕ → Option Kept → Type 0
+abbrev pub IsOwn : ℕ → Option Tabled → Type 0
 IsOwn n None = Unit {0}
 IsOwn n (Some k) = k.object.no ≡ n
 
-pub IsAbsent-own : (es : List Entry) (n : ℕ) (c : Option Kept) → IsOwn n c → place_in es n ≡ None → IsAbsent es c
+pub IsAbsent-own : (es : List Entry) (n : ℕ) (c : Option Tabled) → IsOwn n c → place_in es n ≡ None → IsAbsent es c
 IsAbsent-own es n None own none = tt
 IsAbsent-own es n (Some k) own none = ap (place_in es) own ∙ none
 
-is_of-other : (c : Option Kept) (n m : ℕ) → IsOwn n c → (m == n) ≡ false → is_of c m ≡ false
+is_of-other : (c : Option Tabled) (n m : ℕ) → IsOwn n c → (m == n) ≡ false → is_of c m ≡ false
 is_of-other None n m own other = refl
 is_of-other (Some k) n m own other = ap (λ i. i == m) own ∙ nat_eq_equiv.symm n m ∙ other
 
-IsOwn-is_of : (c : Option Kept) (n : ℕ) → is_of c n ≡ true → IsOwn n c
+IsOwn-is_of : (c : Option Tabled) (n : ℕ) → is_of c n ≡ true → IsOwn n c
 IsOwn-is_of None n own = tt
 IsOwn-is_of (Some k) n own = eqb-true k.object.no n own
 
-replaced-before : (d : Option Kept) (m n : ℕ) (c : Option Kept) (ks : List Kept) → (m == n) ≡ false
+replaced-before : (d : Option Tabled) (m n : ℕ) (c : Option Tabled) (ks : List Tabled) → (m == n) ≡ false
     → replaced (before d m ks) n c ≡ before d m (replaced ks n c)
 replaced-before None m n c ks other = refl
 replaced-before (Some k) m n c ks other =
@@ -302,11 +303,11 @@ replaced-before (Some k) m n c ks other =
     ]
 
 -- a write to the cell of number n is a change of that object alone
-pub kept_by-replaced : (cells : List (Option Kept)) (es : List Entry) (n p : ℕ) (c : Option Kept) → Rises es
+pub tabled_by-replaced : (cells : List (Option Tabled)) (es : List Entry) (n p : ℕ) (c : Option Tabled) → Rises es
     → place_in es n ≡ Some p → p < length cells → is_of (cell_at cells p) n ≡ true → IsOwn n c
-    → kept_by (set cells p c) es ≡ replaced (kept_by cells es) n c
-kept_by-replaced cells [] n p c rises at within own new = absurd (cc)
-kept_by-replaced cells (e ∷ es) n p c rises at within own new =
+    → tabled_by (set cells p c) es ≡ replaced (tabled_by cells es) n c
+tabled_by-replaced cells [] n p c rises at within own new = absurd (cc)
+tabled_by-replaced cells (e ∷ es) n p c rises at within own new =
     elim (cases_Bool (e.no == n)) [
       | inl same ↦
           let number : e.no ≡ n = eqb-true e.no n same in
@@ -315,25 +316,26 @@ kept_by-replaced cells (e ∷ es) n p c rises at within own new =
           let none : place_in es n ≡ None = place_in-none es n e.no (omega arith) rises.0 in
           let found = is_of-some (cell_at cells p) n own in
           let passes : (found.0.object.no == n) ≡ true = eq-eqb found.0.object.no n found.2 in
-          let rest : kept_by (set cells p c) es ≡ kept_by cells es =
-          kept_by-set cells es p c within
+          let rest : tabled_by (set cells p c) es ≡ tabled_by cells es =
+          tabled_by-set cells es p c within
           (IsAbsent-own es n (cell_at cells p) (IsOwn-is_of (cell_at cells p) n own) none)
           (IsAbsent-own es n c new none) in
           let now : cell_at (set cells p c) e.place ≡ c =
           ap (cell_at (set cells p c)) place ∙ get_or-set_same cells p c None within in
-          let was : before (cell_at cells e.place) e.no (kept_by cells es) ≡ found.0 ∷ kept_by cells es =
-          ap (λ q. before (cell_at cells q) e.no (kept_by cells es)) place
-          ∙ ap (λ i. before (cell_at cells p) i (kept_by cells es)) number
-          ∙ ap (λ d. before d n (kept_by cells es)) found.1 ∙ simp passes refl in
-          let after : replaced (found.0 ∷ kept_by cells es) n c ≡ before c n (kept_by cells es) = simp passes refl in
-          ap (λ d. before d e.no (kept_by (set cells p c) es)) now
-          ∙ ap (λ i. before c i (kept_by (set cells p c) es)) number ∙ ap (before c n) rest ∙ sym after
+          let was : before (cell_at cells e.place) e.no (tabled_by cells es) ≡ found.0 ∷ tabled_by cells es =
+          ap (λ q. before (cell_at cells q) e.no (tabled_by cells es)) place
+          ∙ ap (λ i. before (cell_at cells p) i (tabled_by cells es)) number
+          ∙ ap (λ d. before d n (tabled_by cells es)) found.1 ∙ simp passes refl in
+          let after : replaced (found.0 ∷ tabled_by cells es) n c ≡ before c n
+          (tabled_by cells es) = simp passes refl in
+          ap (λ d. before d e.no (tabled_by (set cells p c) es)) now
+          ∙ ap (λ i. before c i (tabled_by (set cells p c) es)) number ∙ ap (before c n) rest ∙ sym after
           ∙ sym (ap (λ ks. replaced ks n c) was)
       | inr other ↦
           let later : place_in es n ≡ Some p = simp other at at in
-          let rest : kept_by (set cells p c) es ≡ replaced (kept_by cells es) n c =
-          kept_by-replaced cells es n p c rises.1 later within own new in
-          sym (replaced-before (cell_at cells e.place) e.no n c (kept_by cells es) other
+          let rest : tabled_by (set cells p c) es ≡ replaced (tabled_by cells es) n c =
+          tabled_by-replaced cells es n p c rises.1 later within own new in
+          sym (replaced-before (cell_at cells e.place) e.no n c (tabled_by cells es) other
           ∙ ap (before (cell_at cells e.place) e.no) (sym rest)
           ∙ elim (cases_eq e.place p) [
             | inl same ↦
@@ -343,15 +345,15 @@ kept_by-replaced cells (e ∷ es) n p c rises at within own new =
                 let now : is_of (cell_at (set cells p c) e.place) e.no ≡ false =
                 ap (λ q. is_of (cell_at (set cells p c) q) e.no) same
                 ∙ ap (λ d. is_of d e.no) (get_or-set_same cells p c None within) ∙ is_of-other c n e.no new other in
-                before-none (cell_at cells e.place) e.no (kept_by (set cells p c) es) was
-                ∙ sym (before-none (cell_at (set cells p c) e.place) e.no (kept_by (set cells p c) es) now)
+                before-none (cell_at cells e.place) e.no (tabled_by (set cells p c) es) was
+                ∙ sym (before-none (cell_at (set cells p c) e.place) e.no (tabled_by (set cells p c) es) now)
             | inr apart ↦
-                ap (λ d. before d e.no (kept_by (set cells p c) es))
+                ap (λ d. before d e.no (tabled_by (set cells p c) es))
                 (sym (get_or-set_other cells p e.place c None apart))
           ])
     ]
 
-pub replaced-none : (ks : List Kept) (n : ℕ) → replaced ks n None ≡ without_kept ks n
+pub replaced-none : (ks : List Tabled) (n : ℕ) → replaced ks n None ≡ without_tabled ks n
 replaced-none [] n = refl
 replaced-none (k ∷ ks) n =
     elim (cases_Bool (k.object.no == n)) [
@@ -359,8 +361,8 @@ replaced-none (k ∷ ks) n =
       | inr other ↦ simp other (ap (λ ls. k ∷ ls) (replaced-none ks n))
     ]
 
-pub replaced-changed : (ks : List Kept) (n : ℕ) (f : Kept → Kept) (k : Kept) → kept_at ks n ≡ Some k
-    → (f k).object.no ≡ n → replaced ks n (Some (f k)) ≡ changed_kept ks n f
+pub replaced-changed : (ks : List Tabled) (n : ℕ) (f : Tabled → Tabled) (k : Tabled) → tabled_at ks n ≡ Some k
+    → (f k).object.no ≡ n → replaced ks n (Some (f k)) ≡ changed_tabled ks n f
 replaced-changed [] n f k at own = refl
 replaced-changed (l ∷ ls) n f k at own =
     elim (cases_Bool (l.object.no == n)) [
@@ -370,24 +372,24 @@ replaced-changed (l ∷ ls) n f k at own =
           let passes : ((f k).object.no == n) ≡ true = eq-eqb (f k).object.no n own in
           simp (same, passes) (ap (λ m. f m ∷ ls) (sym is))
       | inr other ↦
-          let later : kept_at ls n ≡ Some k = simp other at at in
+          let later : tabled_at ls n ≡ Some k = simp other at at in
           simp other (ap (λ ms. l ∷ ms) (replaced-changed ls n f k later own))
     ]
 
 -- ---- one more entry
 
 -- the object of a new entry comes last
-pub kept_by-push : (cells : List (Option Kept)) (es : List Entry) (e : Entry)
-    → kept_by cells (es ++ e ∷ []) ≡ kept_by cells es ++ before (cell_at cells e.place) e.no []
-kept_by-push cells [] e = refl
-kept_by-push cells (x ∷ xs) e =
-    ap (before (cell_at cells x.place) x.no) (kept_by-push cells xs e)
-    ∙ sym (before-append (cell_at cells x.place) x.no (kept_by cells xs) (before (cell_at cells e.place) e.no []))
+pub tabled_by-push : (cells : List (Option Tabled)) (es : List Entry) (e : Entry)
+    → tabled_by cells (es ++ e ∷ []) ≡ tabled_by cells es ++ before (cell_at cells e.place) e.no []
+tabled_by-push cells [] e = refl
+tabled_by-push cells (x ∷ xs) e =
+    ap (before (cell_at cells x.place) x.no) (tabled_by-push cells xs e)
+    ∙ sym (before-append (cell_at cells x.place) x.no (tabled_by cells xs) (before (cell_at cells e.place) e.no []))
 
 -- ---- the place that a binary search finds
 
 -- a place whose cell is of some number is a place
-pub live_within : (cells : List (Option Kept)) (p n : ℕ) → is_of (cell_at cells p) n ≡ true → p < length cells
+pub live_within : (cells : List (Option Tabled)) (p n : ℕ) → is_of (cell_at cells p) n ≡ true → p < length cells
 live_within cells p n own =
     elim (cases_lt p (length cells)) [
       | inl within ↦ within
@@ -395,12 +397,13 @@ live_within cells p n own =
     ]
 
 -- the index has place p for number n, and the cell there is of that number
-pub record IsPlaceOf (cells : List (Option Kept)) (es : List Entry) (n p : ℕ) : Type 0 where
+pub record IsPlaceOf (cells : List (Option Tabled)) (es : List Entry) (n p : ℕ) : Type 0 where
   pub listed : place_in es n ≡ Some p
   pub own : is_of (cell_at cells p) n ≡ true
   pub within : p < length cells
 
-IsPlaceOf-place : (cells : List (Option Kept)) (es : List Entry) (n p : ℕ) (listed : Option ℕ) → place_in es n ≡ listed
+IsPlaceOf-place : (cells : List (Option Tabled)) (es : List Entry) (n p : ℕ) (listed : Option ℕ)
+    → place_in es n ≡ listed
     → Some p ≡ place_if_live cells listed n → IsPlaceOf cells es n p
 IsPlaceOf-place cells es n p None is found = absurd (cc)
 IsPlaceOf-place cells es n p (Some q) is found =
@@ -414,7 +417,7 @@ IsPlaceOf-place cells es n p (Some q) is found =
     ]
 
 -- what `place_of` finds in the slices that it is lent
-pub IsPlaceOf-lent : {cells borrowed : List (Option Kept)} {es lent : List Entry} {p : ℕ} (n : ℕ) → borrowed ≡ cells
+pub IsPlaceOf-lent : {cells borrowed : List (Option Tabled)} {es lent : List Entry} {p : ℕ} (n : ℕ) → borrowed ≡ cells
     → lent ≡ es → Some p ≡ place_if_live borrowed (place_in lent n) n → IsPlaceOf cells es n p
 IsPlaceOf-lent {cells} {borrowed} {es} {lent} {p} n same_cells same_index found =
     IsPlaceOf-place cells es n p (place_in es n) refl
@@ -422,24 +425,24 @@ IsPlaceOf-lent {cells} {borrowed} {es} {lent} {p} n same_cells same_index found 
     ∙ ap (λ fs. place_if_live cells (place_in fs n) n) same_index)
 
 -- it is the place that the cells and the index give
-pub IsPlaceOf-live : {cells : List (Option Kept)} {es : List Entry} {n p : ℕ} → IsPlaceOf cells es n p
+pub IsPlaceOf-live : {cells : List (Option Tabled)} {es : List Entry} {n p : ℕ} → IsPlaceOf cells es n p
     → place_if_live cells (place_in es n) n ≡ Some p
 IsPlaceOf-live {cells} {es} {n} {p} place =
     let own : is_of (cell_at cells p) n ≡ true = place.own in
     ap (λ o. place_if_live cells o n) place.listed ∙ simp own refl
 
 -- the cells and the index give no place for number n
-pub record IsMissing (cells : List (Option Kept)) (es : List Entry) (n : ℕ) : Type 0 where
+pub record IsMissing (cells : List (Option Tabled)) (es : List Entry) (n : ℕ) : Type 0 where
   pub none : place_if_live cells (place_in es n) n ≡ None
 
-pub IsMissing-lent : {cells borrowed : List (Option Kept)} {es lent : List Entry} (n : ℕ) → borrowed ≡ cells
+pub IsMissing-lent : {cells borrowed : List (Option Tabled)} {es lent : List Entry} (n : ℕ) → borrowed ≡ cells
     → lent ≡ es → None ≡ place_if_live borrowed (place_in lent n) n → IsMissing cells es n
 IsMissing-lent {cells} {borrowed} {es} {lent} n same_cells same_index found = record {
   none = sym (found ∙ ap (λ ds. place_if_live ds (place_in lent n) n) same_cells
       ∙ ap (λ fs. place_if_live cells (place_in fs n) n) same_index);
 }
 
-module _ (cells : List (Option Kept)) (es : List Entry) (n i : ℕ) (rises : Rises es)
+module _ (cells : List (Option Tabled)) (es : List Entry) (n i : ℕ) (rises : Rises es)
     (count : i ≡ count_below es n) where
   place_at : (e : Entry) → true ≡ nat_lt i (length es) → e ≡ get_or es i e
       → place_in es n ≡ (if e.no == n then Some e.place else None)

@@ -6,30 +6,31 @@ use Rattle.std.proofs.lemmas.Bool.{cases_Bool, eq-eqb, false≢true}
 use Rattle.std.proofs.lemmas.List.{get_or-set_same, length-set, length_push}
 use Rattle.std.specs.List.{filter}
 use Rattle.std.specs.Option.{option_to_list}
-use Rattle.ref_objects.specs.Places.{cell_at, is_live, before, kept_by, with_room, seen, NoneAbove, Rises, AreFree}
+use Rattle.ref_objects.specs.Places.{cell_at, is_live, before, tabled_by, with_room, seen, NoneAbove, Rises, AreFree}
 use Rattle.ref_objects.specs.Places.{IsPlaced}
-use Rattle.ref_objects.specs.Tables.{Kept, with_kept}
+use Rattle.ref_objects.specs.Tables.{Tabled, with_tabled}
 use Rattle.ref_objects.specs.declared.index.Entry.{Entry}
 use Rattle.ref_objects.proofs.FreeLemmas.{AreFree-set, AreFree-pop, PopsFree}
 use Rattle.ref_objects.proofs.IndexLemmas.{place_in-new, Rises-push, NoneAbove-push, Rises-filter, NoneAbove-filter}
-use Rattle.ref_objects.proofs.PlaceLemmas.{IsAbsent, IsAbsent-own, IsOwn, kept_by-set, kept_by-push, kept_by-filter}
+use Rattle.ref_objects.proofs.PlaceLemmas.{IsAbsent, IsAbsent-own, IsOwn, tabled_by-set, tabled_by-push}
+use Rattle.ref_objects.proofs.PlaceLemmas.{tabled_by-filter}
 use Rattle.ref_objects.proofs.PlaceLemmas.{length-filter_live}
 
 -- ---- gaps
 
 -- closed gaps change nothing that is seen; the cells are looked at through a slice that was lent
-pub seen_closed : {cells borrowed : List (Option Kept)} {fs : List Entry} (es : List Entry) (last : ℕ)
+pub seen_closed : {cells borrowed : List (Option Tabled)} {fs : List Entry} (es : List Entry) (last : ℕ)
     → borrowed ≡ cells → fs ≡ filter (is_live borrowed) es → seen cells fs last ≡ seen cells es last
 seen_closed {cells} {borrowed} {fs} es last same is =
     ap (λ gs. seen cells gs last) (is ∙ ap (λ ds. filter (is_live ds) es) same)
-    ∙ ap (λ ks. record { kept = ks; room = length cells; last = last }) (kept_by-filter cells es)
+    ∙ ap (λ ks. record { tabled = ks; room = length cells; last = last }) (tabled_by-filter cells es)
 
-pub placed_closed : {cells borrowed : List (Option Kept)} {es fs : List Entry} {ps : List ℕ} {last : ℕ}
+pub placed_closed : {cells borrowed : List (Option Tabled)} {es fs : List Entry} {ps : List ℕ} {last : ℕ}
     → IsPlaced cells es ps last → borrowed ≡ cells → fs ≡ filter (is_live borrowed) es → IsPlaced cells fs ps last
 placed_closed {cells} {borrowed} {es} {fs} {ps} {last} placed same is =
-    let size : length (filter (is_live cells) es) ≡ length (kept_by cells es) = length-filter_live cells es in
-    let count : length (kept_by cells (filter (is_live cells) es)) ≡ length (kept_by cells es) =
-    ap length (kept_by-filter cells es) in
+    let size : length (filter (is_live cells) es) ≡ length (tabled_by cells es) = length-filter_live cells es in
+    let count : length (tabled_by cells (filter (is_live cells) es)) ≡ length (tabled_by cells es) =
+    ap length (tabled_by-filter cells es) in
     subst (λ gs. IsPlaced cells gs ps last) (sym (is ∙ ap (λ ds. filter (is_live ds) es) same))
     (record {
       rises = Rises-filter (is_live cells) es placed.rises;
@@ -41,21 +42,21 @@ placed_closed {cells} {borrowed} {es} {fs} {ps} {last} placed same is =
     })
 
 -- where a place is free, the index has room for one more entry once its gaps are closed
-pub record HasRoom (cells : List (Option Kept)) (es fs : List Entry) (ps : List ℕ) (last : ℕ) : Type 0 where
+pub record HasRoom (cells : List (Option Tabled)) (es fs : List Entry) (ps : List ℕ) (last : ℕ) : Type 0 where
   pub placed : IsPlaced cells fs ps last
-  pub same : kept_by cells fs ≡ kept_by cells es
+  pub same : tabled_by cells fs ≡ tabled_by cells es
   pub room : length fs < 2 * length cells
 
-has_room : (cells : List (Option Kept)) (es fs : List Entry) (ps : List ℕ) (last most : ℕ) → most ≡ 2 * length cells
+has_room : (cells : List (Option Tabled)) (es fs : List Entry) (ps : List ℕ) (last most : ℕ) → most ≡ 2 * length cells
     → fs ≡ with_room most cells es → 0 < length ps → IsPlaced cells es ps last → HasRoom cells es fs ps last
 has_room cells es fs ps last most limit is free placed =
     elim (cases_Bool (length es == most)) [
       | inl full ↦
           let closed : fs ≡ filter (is_live cells) es = is ∙ simp full refl in
-          let size : length fs ≡ length (kept_by cells es) = ap length closed ∙ length-filter_live cells es in
+          let size : length fs ≡ length (tabled_by cells es) = ap length closed ∙ length-filter_live cells es in
           record {
             placed = placed_closed placed refl closed;
-            same = ap (kept_by cells) closed ∙ kept_by-filter cells es;
+            same = ap (tabled_by cells) closed ∙ tabled_by-filter cells es;
             room = omega (arith, placed.counted, size);
           }
       | inr spare ↦
@@ -64,7 +65,7 @@ has_room cells es fs ps last most limit is free placed =
           let ne : length es ≡ most → ⊥ = λ same. false≢true (sym spare ∙ eq-eqb (length es) most same) in
           record {
             placed = subst (λ gs. IsPlaced cells gs ps last) (sym unchanged) placed;
-            same = ap (kept_by cells) unchanged;
+            same = ap (tabled_by cells) unchanged;
             room = omega (arith, placed.few, size, ne, limit);
           }
     ]
@@ -72,12 +73,12 @@ has_room cells es fs ps last most limit is free placed =
 -- ---- a new object
 
 -- a cell may be given: its place was taken from the free ones, and the index has room
-pub record CanMake (cells : List (Option Kept)) (es fs : List Entry) (ps rest : List ℕ) (last p : ℕ) : Type 0 where
+pub record CanMake (cells : List (Option Tabled)) (es fs : List Entry) (ps rest : List ℕ) (last p : ℕ) : Type 0 where
   pub room : HasRoom cells es fs ps last
   pub freed : PopsFree cells rest p
   pub places : length ps ≡ length rest + 1
 
-pub can_make : {cells borrowed : List (Option Kept)} {es fs : List Entry} {ps : List ℕ} {last size p : ℕ}
+pub can_make : {cells borrowed : List (Option Tabled)} {es fs : List Entry} {ps : List ℕ} {last size p : ℕ}
     {popped : Option ℕ} (rest : List ℕ) → IsPlaced cells es ps last → borrowed ≡ cells → size ≡ length cells
     → fs ≡ with_room (2 * size) borrowed es → ps ≡ rest ++ option_to_list popped → popped ≡ Some p
     → CanMake cells es fs ps rest last p
@@ -91,32 +92,32 @@ can_make {cells} {borrowed} {es} {fs} {ps} {last} {size} {p} {popped} rest place
       places = places;
     }
 
-module _ {cells : List (Option Kept)} {es fs : List Entry} {ps rest : List ℕ} {last p : ℕ}
+module _ {cells : List (Option Tabled)} {es fs : List Entry} {ps rest : List ℕ} {last p : ℕ}
     (placed : IsPlaced cells es ps last) (can : CanMake cells es fs ps rest last p) where
-  module _ {n : ℕ} (rises : last < n) {k : Kept} (number : k.object.no ≡ n) {c : Option Kept} (is : c ≡ Some k)
+  module _ {n : ℕ} (rises : last < n) {k : Tabled} (number : k.object.no ≡ n) {c : Option Tabled} (is : c ≡ Some k)
       {gs : List Entry} (pushed : gs ≡ fs ++ record { no = n; place = p } ∷ []) where
-    pub kept_by-made : kept_by (set cells p c) gs ≡ kept_by cells es ++ k ∷ []
-    kept_by-made =
+    pub tabled_by-made : tabled_by (set cells p c) gs ≡ tabled_by cells es ++ k ∷ []
+    tabled_by-made =
         let e : Entry = record { no = n; place = p } in
         let absent : IsAbsent fs c =
         IsAbsent-own fs n c (subst (IsOwn n) (sym is) number) (place_in-new fs n last can.room.placed.given rises) in
         let old : IsAbsent fs (cell_at cells p) = subst (IsAbsent fs) (sym can.freed.none) tt in
         let now : cell_at (set cells p c) p ≡ Some k = get_or-set_same cells p c None can.freed.within ∙ is in
         let own : (k.object.no == n) ≡ true = eq-eqb k.object.no n number in
-        ap (kept_by (set cells p c)) pushed ∙ kept_by-push (set cells p c) fs e
+        ap (tabled_by (set cells p c)) pushed ∙ tabled_by-push (set cells p c) fs e
         ∙ ap (λ ks. ks ++ before (cell_at (set cells p c) p) n [])
-        (kept_by-set cells fs p c can.freed.within old absent ∙ can.room.same)
-        ∙ ap (λ d. kept_by cells es ++ before d n []) now ∙ simp own refl
+        (tabled_by-set cells fs p c can.freed.within old absent ∙ can.room.same)
+        ∙ ap (λ d. tabled_by cells es ++ before d n []) now ∙ simp own refl
 
-    pub seen_made : seen (set cells p c) gs n ≡ with_kept (seen cells es last) k
-    seen_made = λ i. record { kept = kept_by-made i; room = length-set cells p c i; last = (sym number) i }
+    pub seen_made : seen (set cells p c) gs n ≡ with_tabled (seen cells es last) k
+    seen_made = λ i. record { tabled = tabled_by-made i; room = length-set cells p c i; last = (sym number) i }
 
     pub placed_made : IsPlaced (set cells p c) gs rest n
     placed_made =
         let e : Entry = record { no = n; place = p } in
         let size : length (set cells p c) ≡ length cells = length-set cells p c in
-        let count : length (kept_by (set cells p c) gs) ≡ length (kept_by cells es) + 1 =
-        ap length kept_by-made ∙ length_push (kept_by cells es) k in
+        let count : length (tabled_by (set cells p c) gs) ≡ length (tabled_by cells es) + 1 =
+        ap length tabled_by-made ∙ length_push (tabled_by cells es) k in
         let entries : length gs ≡ length fs + 1 = ap length pushed ∙ length_push fs e in
         record {
           rises = subst Rises (sym pushed) (Rises-push fs e last can.room.placed.rises can.room.placed.given rises);

@@ -6,20 +6,20 @@ use Rattle.std.proofs.lemmas.Bool.{cases_Bool, eqb-true}
 use Rattle.std.proofs.lemmas.List.{length-replicate}
 use Rattle.ref_base.specs.Graphs.{numbers}
 use Rattle.ref_base.specs.Strengths.{IsRising}
-use Rattle.ref_objects.specs.Places.{cell_at, before, kept_by, places_below, seen, AllAbove, NoneAbove, Rises}
+use Rattle.ref_objects.specs.Places.{cell_at, before, tabled_by, places_below, seen, AllAbove, NoneAbove, Rises}
 use Rattle.ref_objects.specs.Places.{AreFree, IsPlaced}
-use Rattle.ref_objects.specs.Tables.{Kept, objects_of, AllUpTo, IsOrderly}
+use Rattle.ref_objects.specs.Tables.{Tabled, objects_of, AllUpTo, IsOrderly}
 use Rattle.ref_objects.specs.declared.index.Entry.{Entry}
 use Rattle.ref_objects.proofs.FreeLemmas.{length-places_below, AreFree-places_below}
 
 -- ---- numbers that rise
 
 -- every number is above n
-abbrev AllOver : ℕ → List Kept → Type 0
+abbrev AllOver : ℕ → List Tabled → Type 0
 AllOver n [] = Unit {0}
 AllOver n (k ∷ ks) = (n < k.object.no) × AllOver n ks
 
-AllOver-before : (n m : ℕ) (c : Option Kept) (ks : List Kept) → n < m → AllOver n ks → AllOver n (before c m ks)
+AllOver-before : (n m : ℕ) (c : Option Tabled) (ks : List Tabled) → n < m → AllOver n ks → AllOver n (before c m ks)
 AllOver-before n m None ks over all = all
 AllOver-before n m (Some k) ks over all =
     elim (cases_Bool (k.object.no == m)) [
@@ -29,17 +29,18 @@ AllOver-before n m (Some k) ks over all =
       | inr stale ↦ simp stale all
     ]
 
-AllOver-kept_by : (cells : List (Option Kept)) (es : List Entry) (n : ℕ) → AllAbove n es → AllOver n (kept_by cells es)
-AllOver-kept_by cells [] n above = tt
-AllOver-kept_by cells (e ∷ es) n above =
-    AllOver-before n e.no (cell_at cells e.place) (kept_by cells es) above.0 (AllOver-kept_by cells es n above.1)
+AllOver-tabled_by : (cells : List (Option Tabled)) (es : List Entry) (n : ℕ) → AllAbove n es
+    → AllOver n (tabled_by cells es)
+AllOver-tabled_by cells [] n above = tt
+AllOver-tabled_by cells (e ∷ es) n above =
+    AllOver-before n e.no (cell_at cells e.place) (tabled_by cells es) above.0 (AllOver-tabled_by cells es n above.1)
 
-IsRising-cons : (k : Kept) (ks : List Kept) → AllOver k.object.no ks → IsRising (numbers (objects_of ks))
+IsRising-cons : (k : Tabled) (ks : List Tabled) → AllOver k.object.no ks → IsRising (numbers (objects_of ks))
     → IsRising (numbers (objects_of (k ∷ ks)))
 IsRising-cons k [] over rising = tt
 IsRising-cons k (l ∷ ls) over rising = (over.0, rising)
 
-IsRising-before : (c : Option Kept) (n : ℕ) (ks : List Kept) → AllOver n ks → IsRising (numbers (objects_of ks))
+IsRising-before : (c : Option Tabled) (n : ℕ) (ks : List Tabled) → AllOver n ks → IsRising (numbers (objects_of ks))
     → IsRising (numbers (objects_of (before c n ks)))
 IsRising-before None n ks over rising = rising
 IsRising-before (Some k) n ks over rising =
@@ -50,14 +51,14 @@ IsRising-before (Some k) n ks over rising =
       | inr stale ↦ simp stale rising
     ]
 
-IsRising-kept_by : (cells : List (Option Kept)) (es : List Entry) → Rises es
-    → IsRising (numbers (objects_of (kept_by cells es)))
-IsRising-kept_by cells [] rises = tt
-IsRising-kept_by cells (e ∷ es) rises =
-    IsRising-before (cell_at cells e.place) e.no (kept_by cells es) (AllOver-kept_by cells es e.no rises.0)
-    (IsRising-kept_by cells es rises.1)
+IsRising-tabled_by : (cells : List (Option Tabled)) (es : List Entry) → Rises es
+    → IsRising (numbers (objects_of (tabled_by cells es)))
+IsRising-tabled_by cells [] rises = tt
+IsRising-tabled_by cells (e ∷ es) rises =
+    IsRising-before (cell_at cells e.place) e.no (tabled_by cells es) (AllOver-tabled_by cells es e.no rises.0)
+    (IsRising-tabled_by cells es rises.1)
 
-AllUpTo-before : (last : ℕ) (c : Option Kept) (n : ℕ) (ks : List Kept) → n ≤ last
+AllUpTo-before : (last : ℕ) (c : Option Tabled) (n : ℕ) (ks : List Tabled) → n ≤ last
     → AllUpTo last (numbers (objects_of ks)) → AllUpTo last (numbers (objects_of (before c n ks)))
 AllUpTo-before last None n ks order all = all
 AllUpTo-before last (Some k) n ks order all =
@@ -68,24 +69,24 @@ AllUpTo-before last (Some k) n ks order all =
       | inr stale ↦ simp stale all
     ]
 
-AllUpTo-kept_by : (cells : List (Option Kept)) (es : List Entry) (last : ℕ) → NoneAbove last es
-    → AllUpTo last (numbers (objects_of (kept_by cells es)))
-AllUpTo-kept_by cells [] last given = tt
-AllUpTo-kept_by cells (e ∷ es) last given =
-    AllUpTo-before last (cell_at cells e.place) e.no (kept_by cells es) given.0
-    (AllUpTo-kept_by cells es last given.1)
+AllUpTo-tabled_by : (cells : List (Option Tabled)) (es : List Entry) (last : ℕ) → NoneAbove last es
+    → AllUpTo last (numbers (objects_of (tabled_by cells es)))
+AllUpTo-tabled_by cells [] last given = tt
+AllUpTo-tabled_by cells (e ∷ es) last given =
+    AllUpTo-before last (cell_at cells e.place) e.no (tabled_by cells es) given.0
+    (AllUpTo-tabled_by cells es last given.1)
 
-pub orderly : {cells : List (Option Kept)} {es : List Entry} {ps : List ℕ} {last : ℕ} → IsPlaced cells es ps last
+pub orderly : {cells : List (Option Tabled)} {es : List Entry} {ps : List ℕ} {last : ℕ} → IsPlaced cells es ps last
     → IsOrderly (seen cells es last)
 orderly {cells} {es} {ps} {last} placed = record {
-  rising = IsRising-kept_by cells es placed.rises;
-  given = AllUpTo-kept_by cells es last placed.given;
+  rising = IsRising-tabled_by cells es placed.rises;
+  given = AllUpTo-tabled_by cells es last placed.given;
   few = omega (arith, placed.counted);
 }
 
 -- ---- a new table
 
-module _ {cells : List (Option Kept)} {es : List Entry} {ps : List ℕ} {room : ℕ} (small : room ≤ 2 ^ 16)
+module _ {cells : List (Option Tabled)} {es : List Entry} {ps : List ℕ} {room : ℕ} (small : room ≤ 2 ^ 16)
     (are : cells ≡ replicate room None) (none : es ≡ []) (places : ps ≡ places_below room room) where
   pub length_new : length cells ≡ room
   length_new = ap length are ∙ length-replicate room None
@@ -93,7 +94,7 @@ module _ {cells : List (Option Kept)} {es : List Entry} {ps : List ℕ} {room : 
   pub placed_new : IsPlaced cells es ps 0
   placed_new =
       let count : length ps ≡ room = ap length places ∙ length-places_below room room in
-      let listed : length (kept_by cells es) ≡ 0 = ap (λ gs. length (kept_by cells gs)) none in
+      let listed : length (tabled_by cells es) ≡ 0 = ap (λ gs. length (tabled_by cells gs)) none in
       let entries : length es ≡ 0 = ap length none in
       record {
         rises = subst Rises (sym none) tt;

@@ -12,9 +12,9 @@ use Rattle.ref_objects.specs.Grounds.{Ground}
 abbrev pub heap_of : Config → Table → List (Option ℕ) → ℕ → Heap
 heap_of config table slots clock = record {
   config = config;
-  objects = objects_of table.kept;
+  objects = objects_of table.tabled;
   slots = slots;
-  holds = holds_of table.kept;
+  holds = holds_of table.tabled;
   clock = clock;
 }
 
@@ -23,7 +23,7 @@ seen config heap_no table slots clock next = record {
   heap = heap_of config table slots clock;
   heap_no = heap_no;
   next = next;
-  marked = marked_of table.kept;
+  marked = marked_of table.tabled;
 }
 
 -- The configuration is within its limits; there is a cell for each object that it allows, and a slot for each; holds are
@@ -32,7 +32,7 @@ pub record IsSound (config : Config) (table : Table) (slots : List (Option ℕ))
   pub within : is_within_limits config ≡ true
   pub room : table.room ≡ config.cells
   pub slot_count : length slots ≡ 16 * config.mutators
-  pub counted : holds ≡ length (holds_of table.kept)
+  pub counted : holds ≡ length (holds_of table.tabled)
   pub given : table.last < next
   pub bounded : next ≤ 2 ^ 32
 

@@ -1,11 +1,12 @@
 -- What one sees of the objects of a heap: the heap as plain data, what refuses its calls, and what they leave (package
 -- `java.lang.ref` of Java SE 17 for what making a reference does; numbers, slots, holds and cells: this project's
 -- profile). The functions of a heap are those of the model of the whole collector.
-use Rattle.std.specs.Prelude.{◌≡◌, ℕ, ◌+◌, ◌*◌, ◌/◌, ◌^◌, ◌<◌, ◌≤◌, Bool, ◌&&◌, ◌==◌, not, if◌then◌else◌, nat_le}
-use Rattle.std.specs.Prelude.{List, [], ◌∷◌, Option, Some, None, Result, Ok, Err}
+use Rattle.std.specs.Prelude.{◌≡◌, ℕ, ◌+◌, ◌*◌, ◌/◌, ◌^◌, ◌≤◌, Bool, ◌&&◌, ◌==◌, not, if◌then◌else◌, nat_le}
+use Rattle.std.specs.Prelude.{List, [], ◌∷◌, length, Option, Some, None, Result, Ok, Err}
 use Rattle.ref_base.specs.Members.{has}
 use Rattle.ref_base.specs.Graphs.{Object, Reference, is_there}
 use Rattle.ref_base.specs.Limits.{is_within_limits}
+use Rattle.ref_base.specs.Orderly.{IsOrderly}
 use Rattle.ref_base.specs.Heaps.{Heap, first_heap, slot_at, with_hold, made, one_more, one_fewer}
 use Rattle.ref_base.specs.CollectorRows.{without}
 use Rattle.ref_base.specs.Refusals.{unless, has_slot, holds_refusal}
@@ -26,7 +27,7 @@ pub record Ground : Type 0 where
   pub marked : List ℕ
 
 -- a hold: the heap that it is of, and the object that it holds
-pub record Held : Type 0 where
+pub record HeapHold : Type 0 where
   pub heap_no : ℕ
   pub object : ℕ
 
@@ -64,7 +65,7 @@ IsRefused refusal (Ok answer) = refusal ≡ None
 IsRefused refusal (Err fault) = refusal ≡ Some fault
 
 -- the same of a call that takes a hold: it comes back
-abbrev pub GivesBack : {T : Type 0} → Option Fault → Held → Result T (Fault × Held) → Type 0
+abbrev pub GivesBack : {T : Type 0} → Option Fault → HeapHold → Result T (Fault × HeapHold) → Type 0
 GivesBack refusal hold (Ok answer) = refusal ≡ None
 GivesBack refusal hold (Err back) = (refusal ≡ Some back.0) × (back.1 ≡ hold)
 
@@ -80,17 +81,17 @@ abbrev pub hold_refusal : Ground → ℕ → ℕ → Option Fault
 hold_refusal g m s = unless (has_slot g.heap m s) NoSuchActor (held_refusal g (slot_at g.heap m s))
 
 -- the hold is one of this heap, which counts it
-abbrev pub is_own : Ground → Held → Bool
+abbrev pub is_own : Ground → HeapHold → Bool
 is_own g hold = (hold.heap_no == g.heap_no) && has g.heap.holds hold.object
 
-abbrev pub release_refusal : Ground → Held → Option Fault
+abbrev pub release_refusal : Ground → HeapHold → Option Fault
 release_refusal g hold = unless (is_own g hold) ForeignHold None
 
-abbrev pub adopt_refusal : Ground → ℕ → ℕ → Held → Option Fault
+abbrev pub adopt_refusal : Ground → ℕ → ℕ → HeapHold → Option Fault
 adopt_refusal g m d hold = unless (has_slot g.heap m d) NoSuchActor (release_refusal g hold)
 
 -- a hold of this heap, and of the object that is named
-abbrev pub IsHoldOf : Ground → Option ℕ → Held → Type 0
+abbrev pub IsHoldOf : Ground → Option ℕ → HeapHold → Type 0
 IsHoldOf g named hold = (hold.heap_no ≡ g.heap_no) × (Some hold.object ≡ named)
 
 -- ---- what is read
@@ -145,7 +146,7 @@ abbrev pub with_object : Ground → ℕ → ℕ → Object → Ground
 with_object g m d o = record g { heap = made g.heap m d o; next = g.next + 1 }
 
 -- one more hold of what was minted
-abbrev pub after_minting : Ground → Result Held Fault → Ground
+abbrev pub after_minting : Ground → Result HeapHold Fault → Ground
 after_minting g (Ok hold) = with_heap g (with_hold g.heap hold.object)
 after_minting g (Err fault) = g
 
@@ -181,7 +182,11 @@ abbrev pub after_freeing : Ground → ℕ → Ground
 after_freeing g n =
     if is_free g.heap n then record g { heap = freed g.heap n; marked = one_fewer g.marked n } else g
 
--- every number is below n
-abbrev pub AllBelow : ℕ → List ℕ → Type 0
-AllBelow n [] = Unit {0}
-AllBelow n (m ∷ ms) = (m < n) × AllBelow n ms
+-- ---- what holds at all times
+
+-- objects and slots are in order, and so are the holds; there are at most as many objects as cells, and marks as objects
+pub record IsWellFormed (g : Ground) : Type 0 where
+  pub orderly : IsOrderly g.heap g.next
+  pub held : IsInOrder g.heap.holds
+  pub few : length g.heap.objects ≤ g.heap.config.cells
+  pub marks : length g.marked ≤ length g.heap.objects

@@ -6,49 +6,49 @@ use Rattle.std.specs.List.{filter}
 use Rattle.std.specs.Borrow.{Bor}
 use Rattle.ref_base.specs.Graphs.{Reference}
 use Rattle.ref_base.specs.Members.{has}
-use Rattle.ref_objects.specs.Tables.{Kept, Table, marked_of, with_marked}
+use Rattle.ref_objects.specs.Tables.{Tabled, Table, marked_of, with_marked}
 use Rattle.ref_objects.specs.declared.index.Entry.{Entry}
 
 -- what a cell holds: an object, or nothing where it has no number
-abbrev pub kept_in : Option ℕ → List (Option ℕ) → Option Reference → ℕ → Bool → Option Kept
-kept_in None fields reference holds marked = None
-kept_in (Some n) fields reference holds marked = Some (record {
+abbrev pub tabled_in : Option ℕ → List (Option ℕ) → Option Reference → ℕ → Bool → Option Tabled
+tabled_in None fields reference holds marked = None
+tabled_in (Some n) fields reference holds marked = Some (record {
   object = record { no = n; fields = fields; reference = reference };
   holds = holds;
   marked = marked;
 })
 
 -- what the cell at a place holds: nothing where there is no such place
-abbrev pub cell_at : List (Option Kept) → ℕ → Option Kept
+abbrev pub cell_at : List (Option Tabled) → ℕ → Option Tabled
 cell_at cells place = slice_index_or cells place None
 
 -- whether a cell holds the object of number n
-abbrev pub is_of : Option Kept → ℕ → Bool
+abbrev pub is_of : Option Tabled → ℕ → Bool
 is_of None n = false
 is_of (Some k) n = k.object.no == n
 
 -- whether a cell holds the object of number n, and that is held
-abbrev pub is_held_as : Option Kept → ℕ → Bool
+abbrev pub is_held_as : Option Tabled → ℕ → Bool
 is_held_as None n = false
 is_held_as (Some k) n = k.object.no == n && nat_lt 0 k.holds
 
 -- whether the cell that an entry names still holds the entry's object: if not, the entry is a gap
-abbrev pub is_live : List (Option Kept) → Entry → Bool
+abbrev pub is_live : List (Option Tabled) → Entry → Bool
 is_live cells e = is_of (cell_at cells e.place) e.no
 
 -- whether it does, and the object is held
-abbrev pub is_held : List (Option Kept) → Entry → Bool
+abbrev pub is_held : List (Option Tabled) → Entry → Bool
 is_held cells e = is_held_as (cell_at cells e.place) e.no
 
 -- the object in front, if the cell holds that of number n
-abbrev pub before : Option Kept → ℕ → List Kept → List Kept
+abbrev pub before : Option Tabled → ℕ → List Tabled → List Tabled
 before None n ks = ks
 before (Some k) n ks = if k.object.no == n then k ∷ ks else ks
 
 -- the objects that the index leads to, in its order
-abbrev pub kept_by : List (Option Kept) → List Entry → List Kept
-kept_by cells [] = []
-kept_by cells (e ∷ es) = before (cell_at cells e.place) e.no (kept_by cells es)
+abbrev pub tabled_by : List (Option Tabled) → List Entry → List Tabled
+tabled_by cells [] = []
+tabled_by cells (e ∷ es) = before (cell_at cells e.place) e.no (tabled_by cells es)
 
 -- the place that the index has for number n
 abbrev pub place_in : List Entry → ℕ → Option ℕ
@@ -56,12 +56,12 @@ place_in [] n = None
 place_in (e ∷ es) n = if e.no == n then Some e.place else place_in es n
 
 -- that place, if its cell holds the object of number n
-abbrev pub place_if_live : List (Option Kept) → Option ℕ → ℕ → Option ℕ
+abbrev pub place_if_live : List (Option Tabled) → Option ℕ → ℕ → Option ℕ
 place_if_live cells None n = None
 place_if_live cells (Some place) n = if is_of (cell_at cells place) n then Some place else None
 
 -- what a borrowed cell holds, if there is one
-abbrev pub lent : Option (Bor (Option Kept)) → Option Kept
+abbrev pub lent : Option (Bor (Option Tabled)) → Option Tabled
 lent None = None
 lent (Some cell) = cell.now
 
@@ -71,12 +71,12 @@ count_below [] n = 0
 count_below (e ∷ es) n = if nat_lt e.no n then suc (count_below es n) else 0
 
 -- the number of the first entry that is no gap
-abbrev pub first_live : List (Option Kept) → List Entry → Option ℕ
+abbrev pub first_live : List (Option Tabled) → List Entry → Option ℕ
 first_live cells [] = None
 first_live cells (e ∷ es) = if is_live cells e then Some e.no else first_live cells es
 
 -- the number of the first entry whose object is held
-abbrev pub first_held : List (Option Kept) → List Entry → Option ℕ
+abbrev pub first_held : List (Option Tabled) → List Entry → Option ℕ
 first_held cells [] = None
 first_held cells (e ∷ es) = if is_held cells e then Some e.no else first_held cells es
 
@@ -96,35 +96,35 @@ Rises [] = Unit {0}
 Rises (e ∷ es) = AllAbove e.no es × Rises es
 
 -- the free places are places of cells that hold nothing, and none of them stands twice
-abbrev pub AreFree : List (Option Kept) → List ℕ → Type 0
+abbrev pub AreFree : List (Option Tabled) → List ℕ → Type 0
 AreFree cells [] = Unit {0}
 AreFree cells (p ∷ ps) = (p < length cells) × (cell_at cells p ≡ None) × (has ps p ≡ false) × AreFree cells ps
 
 -- the index as it is before one more entry: where it has this many already, its gaps are closed
-abbrev pub with_room : ℕ → List (Option Kept) → List Entry → List Entry
+abbrev pub with_room : ℕ → List (Option Tabled) → List Entry → List Entry
 with_room most cells es = if length es == most then filter (is_live cells) es else es
 
 -- what holds of a table's cells, index and free places: each object has its entry, and each cell without one is free
-pub record IsPlaced (cells : List (Option Kept)) (index : List Entry) (places : List ℕ) (last : ℕ) : Type 0 where
+pub record IsPlaced (cells : List (Option Tabled)) (index : List Entry) (places : List ℕ) (last : ℕ) : Type 0 where
   pub rises : Rises index
   pub given : NoneAbove last index
   pub free : AreFree cells places
-  pub counted : length (kept_by cells index) + length places ≡ length cells
+  pub counted : length (tabled_by cells index) + length places ≡ length cells
   pub small : length cells ≤ 2 ^ 16
   pub few : length index ≤ 2 * length cells
 
 -- what holds of a table's fields: that, no push to the index or to the free places ever takes memory, and the marked
 -- objects are counted
-pub record IsSound (cells : List (Option Kept)) (index : List Entry) (places : List ℕ)
+pub record IsSound (cells : List (Option Tabled)) (index : List Entry) (places : List ℕ)
     (last index_room places_room marked : ℕ) : Type 0 where
   pub placed : IsPlaced cells index places last
   pub index_fits : 2 * length cells ≤ index_room
   pub places_fit : length cells ≤ places_room
-  pub marks_counted : marked ≡ length (marked_of (kept_by cells index))
+  pub marks_counted : marked ≡ length (marked_of (tabled_by cells index))
 
 -- what a contract sees of a table's fields
-abbrev pub seen : List (Option Kept) → List Entry → ℕ → Table
-seen cells index last = record { kept = kept_by cells index; room = length cells; last = last }
+abbrev pub seen : List (Option Tabled) → List Entry → ℕ → Table
+seen cells index last = record { tabled = tabled_by cells index; room = length cells; last = last }
 
 -- so many of the places below room, from the highest down
 abbrev pub places_below : ℕ → ℕ → List ℕ
@@ -134,20 +134,20 @@ places_below room (suc count) = places_below room count ++ (room - 1 - count) �
 -- ---- marks
 
 -- whether a cell holds the object of number n, and that isn't marked
-abbrev pub is_unmarked_as : Option Kept → ℕ → Bool
+abbrev pub is_unmarked_as : Option Tabled → ℕ → Bool
 is_unmarked_as None n = false
 is_unmarked_as (Some k) n = k.object.no == n && not k.marked
 
 -- whether the cell that an entry names still holds the entry's object, and that isn't marked
-abbrev pub is_unmarked : List (Option Kept) → Entry → Bool
+abbrev pub is_unmarked : List (Option Tabled) → Entry → Bool
 is_unmarked cells e = is_unmarked_as (cell_at cells e.place) e.no
 
 -- the number of the first entry whose object isn't marked
-abbrev pub first_unmarked : List (Option Kept) → List Entry → Option ℕ
+abbrev pub first_unmarked : List (Option Tabled) → List Entry → Option ℕ
 first_unmarked cells [] = None
 first_unmarked cells (e ∷ es) = if is_unmarked cells e then Some e.no else first_unmarked cells es
 
 -- what a cell holds, unmarked
-abbrev pub unmarked_cell : Option Kept → Option Kept
+abbrev pub unmarked_cell : Option Tabled → Option Tabled
 unmarked_cell None = None
 unmarked_cell (Some k) = Some (with_marked false k)

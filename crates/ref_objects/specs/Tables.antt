@@ -9,73 +9,73 @@ use Rattle.ref_base.specs.Heaps.{reference_in}
 use Rattle.ref_objects.specs.Grounds.{fields_in}
 
 -- an object of the table, how many holds of it are out, and whether it is marked
-pub record Kept : Type 0 where
+pub record Tabled : Type 0 where
   pub object : Object
   pub holds : ℕ
   pub marked : Bool
 
 -- the objects that there are, in order of number, how many there may be, and the greatest number that was ever given
 pub record Table : Type 0 where
-  pub kept : List Kept
+  pub tabled : List Tabled
   pub room : ℕ
   pub last : ℕ
 
 -- a table of no objects
 abbrev pub empty_table : ℕ → Table
-empty_table room = record { kept = []; room = room; last = 0 }
+empty_table room = record { tabled = []; room = room; last = 0 }
 
 -- ---- what is read
 
 -- the object of number n
-abbrev pub kept_at : List Kept → ℕ → Option Kept
-kept_at [] n = None
-kept_at (k ∷ ks) n = if k.object.no == n then Some k else kept_at ks n
+abbrev pub tabled_at : List Tabled → ℕ → Option Tabled
+tabled_at [] n = None
+tabled_at (k ∷ ks) n = if k.object.no == n then Some k else tabled_at ks n
 
 -- the objects without their holds
-abbrev pub objects_of : List Kept → List Object
+abbrev pub objects_of : List Tabled → List Object
 objects_of [] = []
 objects_of (k ∷ ks) = k.object ∷ objects_of ks
 
 -- each object's number as often as it is held, in order of number
-abbrev pub holds_of : List Kept → List ℕ
+abbrev pub holds_of : List Tabled → List ℕ
 holds_of [] = []
 holds_of (k ∷ ks) = replicate k.holds k.object.no ++ holds_of ks
 
 -- an object of the table as a graph has it
-abbrev pub object_in : Option Kept → Option Object
+abbrev pub object_in : Option Tabled → Option Object
 object_in None = None
 object_in (Some k) = Some k.object
 
 -- its fields, if there is one
-abbrev pub kept_fields : Option Kept → List (Option ℕ)
-kept_fields k = fields_in (object_in k)
+abbrev pub tabled_fields : Option Tabled → List (Option ℕ)
+tabled_fields k = fields_in (object_in k)
 
 -- what the object has as a reference, if there is one and it is a reference
-abbrev pub kept_reference : Option Kept → Option Reference
-kept_reference k = reference_in (object_in k)
+abbrev pub tabled_reference : Option Tabled → Option Reference
+tabled_reference k = reference_in (object_in k)
 
 -- whether there is an object that has field i
-abbrev pub has_field : Option Kept → ℕ → Bool
+abbrev pub has_field : Option Tabled → ℕ → Bool
 has_field None i = false
 has_field (Some k) i = nat_lt i (length k.object.fields)
 
 -- how often the object is held: 0 where there is none
-abbrev pub holds_in : Option Kept → ℕ
+abbrev pub holds_in : Option Tabled → ℕ
 holds_in None = 0
 holds_in (Some k) = k.holds
 
 -- whether there is an object, and nobody holds it
-abbrev pub is_unheld : Option Kept → Bool
+abbrev pub is_unheld : Option Tabled → Bool
 is_unheld None = false
 is_unheld (Some k) = not (nat_lt 0 k.holds)
 
 -- the first number from n on
-abbrev pub first_from : List Kept → ℕ → Option ℕ
+abbrev pub first_from : List Tabled → ℕ → Option ℕ
 first_from [] n = None
 first_from (k ∷ ks) n = if nat_le n k.object.no then Some k.object.no else first_from ks n
 
 -- the first number from n on of an object that is held
-abbrev pub held_from : List Kept → ℕ → Option ℕ
+abbrev pub held_from : List Tabled → ℕ → Option ℕ
 held_from [] n = None
 held_from (k ∷ ks) n =
     if nat_le n k.object.no && nat_lt 0 k.holds then Some k.object.no else held_from ks n
@@ -87,47 +87,47 @@ AllUpTo last (n ∷ ns) = (n ≤ last) × AllUpTo last ns
 
 -- what holds of every table: the numbers rise, none is above the last that was given, and the objects have room
 pub record IsOrderly (t : Table) : Type 0 where
-  pub rising : IsRising (numbers (objects_of t.kept))
-  pub given : AllUpTo t.last (numbers (objects_of t.kept))
-  pub few : length t.kept ≤ t.room
+  pub rising : IsRising (numbers (objects_of t.tabled))
+  pub given : AllUpTo t.last (numbers (objects_of t.tabled))
+  pub few : length t.tabled ≤ t.room
 
 -- ---- what is changed
 
 -- the objects with the one of number n changed
-abbrev pub changed_kept : List Kept → ℕ → (Kept → Kept) → List Kept
-changed_kept [] n f = []
-changed_kept (k ∷ ks) n f = if k.object.no == n then f k ∷ ks else k ∷ changed_kept ks n f
+abbrev pub changed_tabled : List Tabled → ℕ → (Tabled → Tabled) → List Tabled
+changed_tabled [] n f = []
+changed_tabled (k ∷ ks) n f = if k.object.no == n then f k ∷ ks else k ∷ changed_tabled ks n f
 
 -- the objects but the one of number n
-abbrev pub without_kept : List Kept → ℕ → List Kept
-without_kept = without_first (λ k. k.object.no)
+abbrev pub without_tabled : List Tabled → ℕ → List Tabled
+without_tabled = without_first (λ k. k.object.no)
 
 -- a change of the object, and not of its holds
-abbrev pub on_object : (Object → Object) → Kept → Kept
+abbrev pub on_object : (Object → Object) → Tabled → Tabled
 on_object f k = record k { object = f k.object }
 
 -- one more hold
-abbrev pub more_held : Kept → Kept
+abbrev pub more_held : Tabled → Tabled
 more_held k = record k { holds = k.holds + 1 }
 
 -- one hold fewer, where there is one
-abbrev pub less_held : Kept → Kept
+abbrev pub less_held : Tabled → Tabled
 less_held k = record k { holds = k.holds - 1 }
 
 -- the table with the object of number n changed
-abbrev pub changed : Table → ℕ → (Kept → Kept) → Table
-changed t n f = record t { kept = changed_kept t.kept n f }
+abbrev pub changed : Table → ℕ → (Tabled → Tabled) → Table
+changed t n f = record t { tabled = changed_tabled t.tabled n f }
 
 -- the table without the object of number n
 abbrev pub without : Table → ℕ → Table
-without t n = record t { kept = without_kept t.kept n }
+without t n = record t { tabled = without_tabled t.tabled n }
 
 -- the table without the object of number n, where nobody holds it
 abbrev pub freed : Table → ℕ → Table
-freed t n = if is_unheld (kept_at t.kept n) then without t n else t
+freed t n = if is_unheld (tabled_at t.tabled n) then without t n else t
 
 -- an object that nobody holds, unmarked and of so many null fields
-abbrev pub made : ℕ → ℕ → Option Reference → Kept
+abbrev pub made : ℕ → ℕ → Option Reference → Tabled
 made n count reference = record {
   object = record { no = n; fields = replicate count None; reference = reference };
   holds = 0;
@@ -135,45 +135,45 @@ made n count reference = record {
 }
 
 -- the table with one more object, whose number is the greatest
-abbrev pub with_kept : Table → Kept → Table
-with_kept t k = record { kept = t.kept ++ k ∷ []; room = t.room; last = k.object.no }
+abbrev pub with_tabled : Table → Tabled → Table
+with_tabled t k = record { tabled = t.tabled ++ k ∷ []; room = t.room; last = k.object.no }
 
 -- ---- marks
 
 -- whether there is an object, and it is marked
-abbrev pub is_marked_in : Option Kept → Bool
+abbrev pub is_marked_in : Option Tabled → Bool
 is_marked_in None = false
 is_marked_in (Some k) = k.marked
 
 -- whether there is an object, and it isn't marked
-abbrev pub is_unmarked_in : Option Kept → Bool
+abbrev pub is_unmarked_in : Option Tabled → Bool
 is_unmarked_in None = false
 is_unmarked_in (Some k) = not k.marked
 
 -- the numbers of the objects that are marked, in order
-abbrev pub marked_of : List Kept → List ℕ
+abbrev pub marked_of : List Tabled → List ℕ
 marked_of [] = []
 marked_of (k ∷ ks) = if k.marked then k.object.no ∷ marked_of ks else marked_of ks
 
 -- and of those that aren't
-abbrev pub unmarked_of : List Kept → List ℕ
+abbrev pub unmarked_of : List Tabled → List ℕ
 unmarked_of [] = []
 unmarked_of (k ∷ ks) = if k.marked then unmarked_of ks else k.object.no ∷ unmarked_of ks
 
 -- the first number from n on of an object that isn't marked
-abbrev pub unmarked_from : List Kept → ℕ → Option ℕ
+abbrev pub unmarked_from : List Tabled → ℕ → Option ℕ
 unmarked_from [] n = None
 unmarked_from (k ∷ ks) n = if nat_le n k.object.no && not k.marked then Some k.object.no else unmarked_from ks n
 
 -- marked, or not
-abbrev pub with_marked : Bool → Kept → Kept
+abbrev pub with_marked : Bool → Tabled → Tabled
 with_marked marked k = record k { marked = marked }
 
 -- the objects, none of them marked
-abbrev pub unmarked_kept : List Kept → List Kept
-unmarked_kept [] = []
-unmarked_kept (k ∷ ks) = with_marked false k ∷ unmarked_kept ks
+abbrev pub unmarked_tabled : List Tabled → List Tabled
+unmarked_tabled [] = []
+unmarked_tabled (k ∷ ks) = with_marked false k ∷ unmarked_tabled ks
 
 -- the table with none of its objects marked
 abbrev pub without_marks : Table → Table
-without_marks t = record t { kept = unmarked_kept t.kept }
+without_marks t = record t { tabled = unmarked_tabled t.tabled }

@@ -4,7 +4,7 @@ ghost use Rattle.std.specs.Prelude.{◌≡◌, ◌-◌, ◌^◌, ◌<◌, ◌≤
 ghost use Rattle.std.specs.Option.{option_map};
 ghost use Rattle.ref_base.specs.Heaps.{with_field, with_reference, with_stamp, cleared};
 ghost use Rattle.ref_objects.specs.Places.{is_of, is_held_as, is_unmarked_as, unmarked_cell};
-ghost use Rattle.ref_objects.specs.Tables.{made, kept_fields, has_field, kept_reference, holds_in};
+ghost use Rattle.ref_objects.specs.Tables.{made, tabled_fields, has_field, tabled_reference, holds_in};
 ghost use Rattle.ref_objects.specs.Tables.{on_object, more_held, less_held};
 ghost use Rattle.ref_objects.specs.Tables.{is_marked_in, is_unmarked_in, with_marked};
 
@@ -26,18 +26,18 @@ pub(crate) struct Cell {
 
 impl Model for Cell {
     ghost use Rattle.std.specs.Prelude.{Option};
-    ghost use Rattle.ref_objects.specs.Tables.{Kept};
+    ghost use Rattle.ref_objects.specs.Tables.{Tabled};
 
-    ghost Value = { Option Kept };
+    ghost Value = { Option Tabled };
 
-    ghost use Rattle.ref_objects.specs.Places.{kept_in};
+    ghost use Rattle.ref_objects.specs.Places.{tabled_in};
 
-    ghost view = { λ c. kept_in c.no c.fields c.reference c.holds c.marked };
+    ghost view = { λ c. tabled_in c.no c.fields c.reference c.holds c.marked };
 }
 
 impl Cell {
-    /// A free cell.
-    pub(crate) fn free() -> Self
+    /// A cell that has no object.
+    pub(crate) fn vacant() -> Self
         ensures { result ≡ None }
     {
         Cell {
@@ -85,7 +85,7 @@ impl Cell {
 
     /// The fields of the object: none where the cell is free.
     pub(crate) fn fields(&self) -> Fields
-        ensures { result ≡ kept_fields self.now }
+        ensures { result ≡ tabled_fields self.now }
     {
         match self.no {
             Some(_) => self.fields.copied(),
@@ -95,7 +95,7 @@ impl Cell {
 
     /// What the object has as a reference.
     pub(crate) fn reference(&self) -> Option<Reference>
-        ensures { result ≡ kept_reference self.now }
+        ensures { result ≡ tabled_reference self.now }
     {
         match self.no {
             Some(_) => self.reference,
@@ -167,8 +167,8 @@ impl Cell {
         is_held
     }
 
-    /// Frees the cell.
-    pub(crate) fn clear(&mut self)
+    /// The cell has no object any more.
+    pub(crate) fn vacate(&mut self)
         ensures { self.new ≡ None }
     {
         self.no = None;

@@ -2,14 +2,14 @@
 
 ghost use Rattle.std.specs.Prelude.{◌≡◌, ◌≤◌, nat_lt, length, replicate, slice_index_or, slice_set};
 
-use ref_base::ObjNo;
+use ref_base::{MOST_FIELDS, ObjNo};
 use std::marker::Model;
 
 /// The fields of an object, at most 8, kept in place: each holds an object's number or null. In a clause they are their
 /// list.
 #[derive(Drop)]
 pub struct Fields {
-    held: [Option<ObjNo>; 8],
+    held: [Option<ObjNo>; MOST_FIELDS],
     count: usize,
 }
 
@@ -30,7 +30,7 @@ impl Fields {
         ensures { result ≡ replicate count None }
     {
         Fields {
-            held: [None; 8],
+            held: [None; MOST_FIELDS],
             count,
         }
     }
@@ -39,7 +39,7 @@ impl Fields {
     pub(crate) fn copied(&self) -> Self
         ensures { result ≡ self.now }
     {
-        let mut held = [None; 8];
+        let mut held = [None; MOST_FIELDS];
         held.copy_from_slice(&self.held);
         Fields {
             held,

@@ -12,9 +12,9 @@ pub struct Hold {
 }
 
 impl Model for Hold {
-    ghost use Rattle.ref_objects.specs.Grounds.{Held};
+    ghost use Rattle.ref_objects.specs.Grounds.{HeapHold};
 
-    ghost Value = { Held };
+    ghost Value = { HeapHold };
 
     ghost view = { λ h. record { heap_no = h.heap_no; object = h.object } };
 }

@@ -4,10 +4,10 @@
 ghost use Rattle.std.specs.Prelude.{◌≡◌, ◌≤◌, length};
 ghost use Rattle.std.specs.List.{filter};
 ghost use Rattle.std.specs.Vec.{vec_capacity};
-ghost use Rattle.ref_objects.specs.Places.{is_live, is_held, kept_by, place_in, place_if_live, lent};
+ghost use Rattle.ref_objects.specs.Places.{is_live, is_held, tabled_by, place_in, place_if_live, lent};
 ghost use Rattle.ref_objects.specs.Places.{count_below, first_live, first_held, with_room, Rises};
 ghost use Rattle.ref_objects.specs.Places.{is_unmarked, first_unmarked};
-ghost use Rattle.ref_objects.specs.Tables.{first_from, held_from, unmarked_from, kept_at};
+ghost use Rattle.ref_objects.specs.Tables.{first_from, held_from, unmarked_from, tabled_at};
 
 use crate::cell::Cell;
 use ref_base::ObjNo;
@@ -80,7 +80,7 @@ pub(crate) fn place_of(cells: &[Cell], index: &[Entry], no: ObjNo) -> Option<usi
 /// The cell of the object of this number. In time as for `count_below`.
 pub(crate) fn cell_of<'a>(cells: &'a [Cell], index: &[Entry], no: ObjNo) -> Option<&'a Cell>
     requires { Rises index.now }
-    ensures { lent result ≡ kept_at (kept_by cells.entry.now index.now) no }
+    ensures { lent result ≡ tabled_at (tabled_by cells.entry.now index.now) no }
 {
     match place_of(cells, index, no) {
         Some(place) => Some(&cells[place]),
@@ -115,7 +115,7 @@ fn first_held(cells: &[Cell], entries: &[Entry]) -> Option<ObjNo>
 /// The first number from this one on. In logarithmic time, and that of the gaps there.
 pub(crate) fn first_from(cells: &[Cell], index: &[Entry], no: ObjNo) -> Option<ObjNo>
     requires { Rises index.now }
-    ensures { result ≡ first_from (kept_by cells.now index.now) no }
+    ensures { result ≡ first_from (tabled_by cells.now index.now) no }
 {
     first_live(cells, &index[count_below(index, no)..])
 }
@@ -123,7 +123,7 @@ pub(crate) fn first_from(cells: &[Cell], index: &[Entry], no: ObjNo) -> Option<O
 /// The first number from this one on of an object that is held. In time of the entries up to there.
 pub(crate) fn held_from(cells: &[Cell], index: &[Entry], no: ObjNo) -> Option<ObjNo>
     requires { Rises index.now }
-    ensures { result ≡ held_from (kept_by cells.now index.now) no }
+    ensures { result ≡ held_from (tabled_by cells.now index.now) no }
 {
     first_held(cells, &index[count_below(index, no)..])
 }
@@ -171,7 +171,7 @@ fn first_unmarked(cells: &[Cell], entries: &[Entry]) -> Option<ObjNo>
 /// The first number from this one on of an object that isn't marked. In time of the entries up to there.
 pub(crate) fn unmarked_from(cells: &[Cell], index: &[Entry], no: ObjNo) -> Option<ObjNo>
     requires { Rises index.now }
-    ensures { result ≡ unmarked_from (kept_by cells.now index.now) no }
+    ensures { result ≡ unmarked_from (tabled_by cells.now index.now) no }
 {
     first_unmarked(cells, &index[count_below(index, no)..])
 }

@@ -28,8 +28,8 @@ use std::marker::Model;
 /// The objects of a heap: their fields and references, the slots of the mutators, and the holds that are out.
 ///
 /// All its memory is taken as it is made: 156 bytes for each cell, 128 for each mutator's slots, and none by any other
-/// call. An object is found by its number in logarithmic time, and in constant time where none with a greater number was
-/// freed before the gaps were last closed: so is each that was made since.
+/// call. An object is found by its number in logarithmic time, and in constant time where none with a greater number
+/// was freed before the gaps were last closed: so is each that was made since.
 #[derive(Drop)]
 pub struct Objects<A: Allocator = Global> {
     config: Config,
@@ -88,38 +88,39 @@ impl<A: Allocator + Copy> Objects<A> {
     }
 
     /// Makes a plain object with so many null fields; the slot holds it. Tried in this order: `NoSuchActor`, `BadField`
-    /// above 8 fields, `NumbersSpent`, `NoCell` where every cell is taken. In constant time, but that one call in as many
-    /// as there are cells passes over them where `close_gaps` wasn't called for so long.
-    pub fn alloc_obj(&mut self, m: MutNo, dst: SlotNo, fields: u32) -> Result<ObjNo, Fault>
-        ensures refused { IsRefused (new_refusal self.old.heap self.old.next m dst fields) result }
+    /// above 8 fields, `NumbersSpent`, `NoCell` where every cell is taken. In constant time, but that one call in as
+    /// many as there are cells passes over them where `close_gaps` wasn't called for so long.
+    pub fn alloc_obj(&mut self, mutator: MutNo, into: SlotNo, fields: u32) -> Result<ObjNo, Fault>
+        ensures refused { IsRefused (new_refusal self.old.heap self.old.next mutator into fields) result }
         ensures answer { IfOk result (λ no. no ≡ self.old.next) }
         ensures after { self.new ≡ if_done result
-            (with_object self.old m dst (plain_object self.old.next (nulls fields))) self.old }
+            (with_object self.old mutator into (plain_object self.old.next (nulls fields))) self.old }
     {
-        let place = self.place(m, dst)?;
+        let place = self.place(mutator, into)?;
         self.make(place, fields, None)
     }
 
-    /// Makes a reference to the object in slot `src`, with so many null fields; slot `dst` holds it. A soft one is stamped
-    /// with the clock. Tried in this order: `NoSuchActor`, `BadQueue`, `EmptySlot`, then as for `alloc_obj`, whose costs
-    /// it has.
+    /// Makes a reference to the object in slot `from`, with so many null fields; slot `into` holds it. A soft one is
+    /// stamped with the clock. Tried in this order: `NoSuchActor`, `BadQueue`, `EmptySlot`, then as for `alloc_obj`,
+    /// whose costs it has.
     pub fn alloc_ref(
         &mut self,
-        m: MutNo,
-        dst: SlotNo,
+        mutator: MutNo,
+        into: SlotNo,
         strength: Strength,
-        src: SlotNo,
+        from: SlotNo,
         queue: Option<QueueNo>,
         fields: u32,
     ) -> Result<ObjNo, Fault>
-        ensures refused { IsRefused (refer_refusal self.old.heap self.old.next m dst src queue fields) result }
+        ensures refused { IsRefused (refer_refusal self.old.heap self.old.next mutator into from queue fields) result }
         ensures answer { IfOk result (λ no. no ≡ self.old.next) }
         ensures after { self.new ≡ if_done result
-            (with_object self.old m dst
-            (new_reference self.old.heap self.old.next strength (slot_at self.old.heap m src) queue fields)) self.old }
+            (with_object self.old mutator into
+            (new_reference self.old.heap self.old.next strength (slot_at self.old.heap mutator from)
+            queue fields)) self.old }
     {
-        let place = self.place(m, dst)?;
-        let source = self.place(m, src)?;
+        let place = self.place(mutator, into)?;
+        let source = self.place(mutator, from)?;
         let registered = queue;
         if !self.is_queue(queue) {
             return Err(Fault::BadQueue);
@@ -128,37 +129,50 @@ impl<A: Allocator + Copy> Objects<A> {
         self.make_reference(place, fields, strength, no, registered)
     }
 
-    /// Writes what slot `src` holds, an object or null, into a field of the object in `slot`. Tried in this order:
-    /// `NoSuchActor`, `EmptySlot` of `slot`, `BadField`. In logarithmic time.
-    pub fn store(&mut self, m: MutNo, slot: SlotNo, field: u32, src: SlotNo) -> Result<(), Fault>
-        ensures refused { IsRefused (store_refusal self.old.heap m slot field src) result }
-        ensures after { self.new ≡ if_done result (with_heap self.old (stored self.old.heap m slot field src)) self.old }
+    /// Writes what slot `from` holds, an object or null, into a field of the object in slot `into`. Tried in this
+    /// order: `NoSuchActor`, `EmptySlot` of `into`, `BadField`. In logarithmic time.
+    pub fn store(
+        &mut self,
+        mutator: MutNo,
+        into: SlotNo,
+        field: u32,
+        from: SlotNo,
+    ) -> Result<(), Fault>
+        ensures refused { IsRefused (store_refusal self.old.heap mutator into field from) result }
+        ensures after { self.new ≡ if_done result
+            (with_heap self.old (stored self.old.heap mutator into field from)) self.old }
     {
-        let target = self.place(m, slot)?;
-        let source = self.place(m, src)?;
+        let target = self.place(mutator, into)?;
+        let source = self.place(mutator, from)?;
         let no = self.slots[target].ok_or(Fault::EmptySlot)?;
         let value = self.slots[source];
         self.set_field(no, field, value)
     }
 
     /// Empties a slot. The one error is `NoSuchActor`. In constant time.
-    pub fn drop_slot(&mut self, m: MutNo, slot: SlotNo) -> Result<(), Fault>
-        ensures refused { IsRefused (drop_refusal self.old.heap m slot) result }
-        ensures after { self.new ≡ if_done result (with_heap self.old (with_slot self.old.heap m slot None)) self.old }
+    pub fn drop_slot(&mut self, mutator: MutNo, slot: SlotNo) -> Result<(), Fault>
+        ensures refused { IsRefused (drop_refusal self.old.heap mutator slot) result }
+        ensures after { self.new ≡ if_done result
+            (with_heap self.old (with_slot self.old.heap mutator slot None)) self.old }
     {
-        self.set_slot(m, slot, None)
+        self.set_slot(mutator, slot, None)
     }
 
-    /// Copies what slot `src` holds, an object or null, into slot `dst`, and answers it. The one error is `NoSuchActor`.
-    /// In constant time.
-    pub fn copy(&mut self, m: MutNo, dst: SlotNo, src: SlotNo) -> Result<Option<ObjNo>, Fault>
-        ensures refused { IsRefused (copy_refusal self.old.heap m dst src) result }
-        ensures answer { IfOk result (λ value. value ≡ slot_at self.old.heap m src) }
+    /// Copies what slot `from` holds, an object or null, into slot `into`, and answers it. The one error is
+    /// `NoSuchActor`. In constant time.
+    pub fn copy(
+        &mut self,
+        mutator: MutNo,
+        into: SlotNo,
+        from: SlotNo,
+    ) -> Result<Option<ObjNo>, Fault>
+        ensures refused { IsRefused (copy_refusal self.old.heap mutator into from) result }
+        ensures answer { IfOk result (λ value. value ≡ slot_at self.old.heap mutator from) }
         ensures after { self.new ≡ if_done result
-            (with_heap self.old (with_slot self.old.heap m dst (slot_at self.old.heap m src))) self.old }
+            (with_heap self.old (with_slot self.old.heap mutator into (slot_at self.old.heap mutator from))) self.old }
     {
-        let place = self.place(m, dst)?;
-        let source = self.place(m, src)?;
+        let place = self.place(mutator, into)?;
+        let source = self.place(mutator, from)?;
         let value = self.slots[source];
         let answer = value;
         self.slots[place] = value;
@@ -168,16 +182,16 @@ impl<A: Allocator + Copy> Objects<A> {
     // ---- parts of calls
 
     // Where a slot lies.
-    fn place(&self, m: MutNo, slot: SlotNo) -> Result<usize, Fault>
+    fn place(&self, mutator: MutNo, slot: SlotNo) -> Result<usize, Fault>
         ensures place { MatchResult result
-            (λ place. (has_slot self.now.heap m slot ≡ true) × (place ≡ 16 * m + slot)
+            (λ place. (has_slot self.now.heap mutator slot ≡ true) × (place ≡ 16 * mutator + slot)
             × (place < length self.now.heap.slots))
-            (λ fault. (has_slot self.now.heap m slot ≡ false) × (fault ≡ Fault.NoSuchActor)) }
+            (λ fault. (has_slot self.now.heap mutator slot ≡ false) × (fault ≡ Fault.NoSuchActor)) }
     {
-        if m.0 >= self.config.mutators || slot.0 as usize >= SLOTS {
+        if mutator.0 >= self.config.mutators || slot.0 as usize >= SLOTS {
             return Err(Fault::NoSuchActor);
         }
-        Ok(SLOTS * m.0 as usize + slot.0 as usize)
+        Ok(SLOTS * mutator.0 as usize + slot.0 as usize)
     }
 
     // Whether there is this queue, if it is one.
@@ -241,7 +255,8 @@ impl<A: Allocator + Copy> Objects<A> {
         ensures refused { IsRefused (object_refusal self.old.heap self.old.next fields) result }
         ensures answer { IfOk result (λ no. no ≡ self.old.next) }
         ensures after { self.new ≡ if_done result
-            (made_at self.old place fields (Some (reference_made self.old.heap strength (Some referent) queue))) self.old }
+            (made_at self.old place fields
+            (Some (reference_made self.old.heap strength (Some referent) queue))) self.old }
     {
         let reference = Reference {
             strength,

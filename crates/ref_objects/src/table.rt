@@ -49,11 +49,11 @@ impl<A: Allocator> Model for Table<A> {
 
 impl<A: Allocator + Copy> Table<A> {
     ghost use Rattle.ref_objects.specs.Tables.{IsOrderly, empty_table};
-    ghost use Rattle.ref_objects.specs.Tables.{kept_at, kept_reference, kept_fields, has_field};
+    ghost use Rattle.ref_objects.specs.Tables.{tabled_at, tabled_reference, tabled_fields, has_field};
     ghost use Rattle.ref_objects.specs.Tables.{holds_in, holds_of, is_unheld};
     ghost use Rattle.ref_objects.specs.Tables.{first_from, held_from};
     ghost use Rattle.ref_objects.specs.Tables.{on_object, more_held, less_held};
-    ghost use Rattle.ref_objects.specs.Tables.{changed, freed, made, with_kept};
+    ghost use Rattle.ref_objects.specs.Tables.{changed, freed, made, with_tabled};
     ghost use Rattle.ref_objects.specs.Tables.{is_marked_in, is_unmarked_in, marked_of, unmarked_from, with_marked};
     ghost use Rattle.ref_objects.specs.Tables.{without_marks};
 
@@ -85,7 +85,7 @@ impl<A: Allocator + Copy> Table<A> {
 
     /// How many objects there are.
     pub(crate) fn len(&self) -> usize
-        ensures count { result ≡ length self.now.kept }
+        ensures count { result ≡ length self.now.tabled }
         ensures orderly { IsOrderly self.now }
     {
         self.cells.len() - self.free.len()
@@ -93,8 +93,8 @@ impl<A: Allocator + Copy> Table<A> {
 
     /// Whether there is no room for one more object.
     pub(crate) fn is_full(&self) -> bool
-        ensures full { result ≡ (length self.now.kept == self.now.room) }
-        ensures spare { OnFalse result (length self.now.kept < self.now.room) }
+        ensures full { result ≡ (length self.now.tabled == self.now.room) }
+        ensures spare { OnFalse result (length self.now.tabled < self.now.room) }
     {
         self.free.is_empty()
     }
@@ -108,14 +108,14 @@ impl<A: Allocator + Copy> Table<A> {
 
     /// Whether there is an object of this number.
     pub(crate) fn has(&self, no: ObjNo) -> bool
-        ensures { result ≡ is_some (kept_at self.now.kept no) }
+        ensures { result ≡ is_some (tabled_at self.now.tabled no) }
     {
         place_of(&self.cells, &self.index, no).is_some()
     }
 
     /// The fields of the object of this number: none where there is no such object.
     pub(crate) fn fields(&self, no: ObjNo) -> Fields
-        ensures { result ≡ kept_fields (kept_at self.now.kept no) }
+        ensures { result ≡ tabled_fields (tabled_at self.now.tabled no) }
     {
         match cell_of(&self.cells, &self.index, no) {
             Some(cell) => cell.fields(),
@@ -125,14 +125,14 @@ impl<A: Allocator + Copy> Table<A> {
 
     /// What the object of this number has as a reference.
     pub(crate) fn reference(&self, no: ObjNo) -> Option<Reference>
-        ensures { result ≡ kept_reference (kept_at self.now.kept no) }
+        ensures { result ≡ tabled_reference (tabled_at self.now.tabled no) }
     {
         cell_of(&self.cells, &self.index, no)?.reference()
     }
 
     /// Whether the object of this number is held.
     pub(crate) fn is_held(&self, no: ObjNo) -> bool
-        ensures { result ≡ nat_lt 0 (holds_in (kept_at self.now.kept no)) }
+        ensures { result ≡ nat_lt 0 (holds_in (tabled_at self.now.tabled no)) }
     {
         match cell_of(&self.cells, &self.index, no) {
             Some(cell) => cell.is_held(),
@@ -142,21 +142,21 @@ impl<A: Allocator + Copy> Table<A> {
 
     /// The first number from this one on.
     pub(crate) fn first_from(&self, no: ObjNo) -> Option<ObjNo>
-        ensures { result ≡ first_from self.now.kept no }
+        ensures { result ≡ first_from self.now.tabled no }
     {
         first_from(&self.cells, &self.index, no)
     }
 
     /// The first number from this one on of an object that is held.
     pub(crate) fn held_from(&self, no: ObjNo) -> Option<ObjNo>
-        ensures { result ≡ held_from self.now.kept no }
+        ensures { result ≡ held_from self.now.tabled no }
     {
         held_from(&self.cells, &self.index, no)
     }
 
     /// Writes a field of the object of this number. False where there is no such object or field: then nothing changes.
     pub(crate) fn set_field(&mut self, no: ObjNo, field: usize, value: Option<ObjNo>) -> bool
-        ensures there { result ≡ has_field (kept_at self.old.kept no) field }
+        ensures there { result ≡ has_field (tabled_at self.old.tabled no) field }
         ensures after { self.new ≡ changed self.old no (on_object (with_field field value)) }
     {
         match place_of(&self.cells, &self.index, no) {
@@ -185,8 +185,8 @@ impl<A: Allocator + Copy> Table<A> {
 
     /// Counts one more hold of the object of this number. False where there is none: then nothing changes.
     pub(crate) fn add_hold(&mut self, no: ObjNo) -> bool
-        requires { length (holds_of self.old.kept) < 2 ^ 64 - 1 }
-        ensures there { result ≡ is_some (kept_at self.old.kept no) }
+        requires { length (holds_of self.old.tabled) < 2 ^ 64 - 1 }
+        ensures there { result ≡ is_some (tabled_at self.old.tabled no) }
         ensures after { self.new ≡ changed self.old no more_held }
     {
         match place_of(&self.cells, &self.index, no) {
@@ -200,7 +200,7 @@ impl<A: Allocator + Copy> Table<A> {
 
     /// Counts one hold of the object of this number fewer. False where nobody holds it: then nothing changes.
     pub(crate) fn drop_hold(&mut self, no: ObjNo) -> bool
-        ensures held { result ≡ nat_lt 0 (holds_in (kept_at self.old.kept no)) }
+        ensures held { result ≡ nat_lt 0 (holds_in (tabled_at self.old.tabled no)) }
         ensures after { self.new ≡ changed self.old no less_held }
     {
         match place_of(&self.cells, &self.index, no) {
@@ -213,8 +213,8 @@ impl<A: Allocator + Copy> Table<A> {
     pub(crate) fn push(&mut self, no: ObjNo, count: usize, reference: Option<Reference>)
         requires fields { count ≤ 8 }
         requires rises { self.old.last < no }
-        requires room { length self.old.kept < self.old.room }
-        ensures { self.new ≡ with_kept self.old (made no count reference) }
+        requires room { length self.old.tabled < self.old.room }
+        ensures { self.new ≡ with_tabled self.old (made no count reference) }
     {
         make_room(&mut self.index, &self.cells, 2 * self.cells.len());
         let place = self.free.pop().unwrap();
@@ -225,7 +225,7 @@ impl<A: Allocator + Copy> Table<A> {
 
     /// Frees the object of this number. False where there is none, or it is held: then nothing changes.
     pub(crate) fn free(&mut self, no: ObjNo) -> bool
-        ensures answer { result ≡ is_unheld (kept_at self.old.kept no) }
+        ensures answer { result ≡ is_unheld (tabled_at self.old.tabled no) }
         ensures after { self.new ≡ freed self.old no }
     {
         let Some(place) = place_of(&self.cells, &self.index, no) else {
@@ -235,7 +235,7 @@ impl<A: Allocator + Copy> Table<A> {
             return false;
         }
         let was_marked = self.cells[place].is_marked();
-        self.cells[place].clear();
+        self.cells[place].vacate();
         self.free.push_reserved(place as u32);
         self.marked -= usize::from(was_marked);
         true
@@ -251,14 +251,14 @@ impl<A: Allocator + Copy> Table<A> {
 
     /// How many of the objects are marked.
     pub(crate) fn marked_count(&self) -> usize
-        ensures { result ≡ length (marked_of self.now.kept) }
+        ensures { result ≡ length (marked_of self.now.tabled) }
     {
         self.marked
     }
 
     /// Whether there is an object of this number, and it is marked.
     pub(crate) fn is_marked(&self, no: ObjNo) -> bool
-        ensures { result ≡ is_marked_in (kept_at self.now.kept no) }
+        ensures { result ≡ is_marked_in (tabled_at self.now.tabled no) }
     {
         match cell_of(&self.cells, &self.index, no) {
             Some(cell) => cell.is_marked(),
@@ -268,7 +268,7 @@ impl<A: Allocator + Copy> Table<A> {
 
     /// Whether there is an object of this number, and it isn't marked.
     pub(crate) fn is_unmarked(&self, no: ObjNo) -> bool
-        ensures { result ≡ is_unmarked_in (kept_at self.now.kept no) }
+        ensures { result ≡ is_unmarked_in (tabled_at self.now.tabled no) }
     {
         match cell_of(&self.cells, &self.index, no) {
             Some(cell) => cell.is_unmarked(),
@@ -278,14 +278,14 @@ impl<A: Allocator + Copy> Table<A> {
 
     /// The first number from this one on of an object that isn't marked.
     pub(crate) fn unmarked_from(&self, no: ObjNo) -> Option<ObjNo>
-        ensures { result ≡ unmarked_from self.now.kept no }
+        ensures { result ≡ unmarked_from self.now.tabled no }
     {
         unmarked_from(&self.cells, &self.index, no)
     }
 
     /// Marks the object of this number. True where there is one and it wasn't marked.
     pub(crate) fn mark(&mut self, no: ObjNo) -> bool
-        ensures answer { result ≡ is_unmarked_in (kept_at self.old.kept no) }
+        ensures answer { result ≡ is_unmarked_in (tabled_at self.old.tabled no) }
         ensures after { self.new ≡ changed self.old no (with_marked true) }
     {
         match place_of(&self.cells, &self.index, no) {
@@ -322,7 +322,7 @@ fn free_cells<A: Allocator>(alloc: A, room: usize) -> Result<Vec<Cell, A>, Alloc
 {
     let mut cells = Vec::with_capacity(alloc, room)?;
     for _place in 0..room {
-        cells.push_reserved(Cell::free());
+        cells.push_reserved(Cell::vacant());
     }
     Ok(cells)
 }

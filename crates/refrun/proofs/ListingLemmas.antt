@@ -4,7 +4,7 @@ use Rattle.std.proofs.Common.{append_assoc, ◌≤◌, subst, None}
 use Rattle.std.proofs.lemmas.Bool.{le-leb}
 use Rattle.ref_base.specs.Graphs.{Graph}
 use Rattle.refrun.specs.GraphTexts.{DeclareGraph, DeclaresGraph}
-use Rattle.refrun.specs.Lines.{lines_of}
+use Rattle.refrun.specs.Lines.{lines_of, most_bytes}
 use Rattle.refrun.specs.Listings.{ListsStrengths, PrintsStrengths}
 use Rattle.refrun.specs.TextFaults.{graph_fault}
 use Rattle.refrun.proofs.FaultLaws.{graph_without_fault}
@@ -31,7 +31,7 @@ listed_more listed i next text more text_is within next_is more_is =
 -- ---- the answer
 
 -- a short enough slice whose lines declare a graph declares it
-declares_graph : (items slice : List ℕ) (g : Graph) → length items ≤ 4194304 → slice ≡ items
+declares_graph : (items slice : List ℕ) (g : Graph) → length items ≤ most_bytes → slice ≡ items
     → DeclareGraph (lines_of slice) g → DeclaresGraph items g
 declares_graph items slice g short same lines = record {
   short = le-leb _ _ short;
@@ -39,7 +39,7 @@ declares_graph items slice g short same lines = record {
 }
 
 -- the slice prints the strengths of the graph that it declares
-pub slice_prints_strengths : (items slice printed : List ℕ) (g : Graph) → length items ≤ 4194304 → slice ≡ items
+pub slice_prints_strengths : (items slice printed : List ℕ) (g : Graph) → length items ≤ most_bytes → slice ≡ items
     → DeclareGraph (lines_of slice) g → ListsStrengths g printed → PrintsStrengths items printed
 slice_prints_strengths items slice printed g short same lines lists = record {
   graph = g;
@@ -48,7 +48,7 @@ slice_prints_strengths items slice printed g short same lines lists = record {
 }
 
 -- a slice that declares a graph has no fault
-pub slice_without_fault : (items slice : List ℕ) (g : Graph) → length items ≤ 4194304 → slice ≡ items
+pub slice_without_fault : (items slice : List ℕ) (g : Graph) → length items ≤ most_bytes → slice ≡ items
     → DeclareGraph (lines_of slice) g → graph_fault items ≡ None
 slice_without_fault items slice g short same lines =
     graph_without_fault items g (declares_graph items slice g short same lines)

@@ -13,7 +13,7 @@ use Rattle.refrun.specs.declared.rows.Step.TheVariants.{New, Weak, Unhook, Put, 
 use Rattle.refrun.specs.declared.rows.Reply.{Reply}
 use Rattle.refrun.specs.declared.rows.Reply.TheVariants as replies
 use Rattle.refrun.specs.declared.rows.Row.{Row}
-use Rattle.refrun.specs.QueueRows.{Held, Hands, with_held, held_after, put_by, taken_by, closed_by}
+use Rattle.refrun.specs.QueueRows.{HeldNotice, Hands, with_held, held_after, put_by, taken_by, closed_by}
 use Rattle.ref_base.proofs.Places.{set_at, push_at, all_push}
 use Rattle.ref_base.proofs.QueueMoves.{QueueMoves, moves_nothing, moves_added, moves_took, moves_closed}
 use Rattle.ref_base.specs.QueueLists.{Lists, new_queue, was_put, with_parcel, with_taken}
@@ -82,7 +82,7 @@ sound_queue a q lists sound within own = record {
 -- ---- the steps
 
 -- the hands as rows see them
-abbrev pub as_held : Option Notice → Option Held
+abbrev pub as_held : Option Notice → Option HeldNotice
 as_held None = None
 as_held (Some notice) = Some (record { object = notice.object; queue = notice.queue })
 

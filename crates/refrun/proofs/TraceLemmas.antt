@@ -9,7 +9,7 @@ use Rattle.refrun.specs.declared.rows.Step.{Step}
 use Rattle.refrun.specs.declared.rows.Row.{Row}
 use Rattle.refrun.specs.Scripts.{IsScript, AreScript}
 use Rattle.refrun.specs.TextFaults.{script_fault}
-use Rattle.refrun.specs.Lines.{lines_of}
+use Rattle.refrun.specs.Lines.{lines_of, most_bytes}
 use Rattle.refrun.specs.Tables.{State, first_state, IsRow, IsRun}
 use Rattle.refrun.specs.Traces.{numbered, trace_text, steps_of, AddsRow, TracesSteps, PrintsTrace}
 use Rattle.refrun.proofs.FaultLaws.{script_without_fault}
@@ -92,7 +92,7 @@ step_taken items seen i next taken seen_is within next_is taken_is =
     (xs : List Step). get_or xs i next) (sym seen_is) ∙ sym next_is ∙ sym taken_is)
 
 -- a short enough slice that spells a script is a script
-pub is_script : (items slice : List ℕ) (config : Config) (steps : List Step) → length items ≤ 4194304
+pub is_script : (items slice : List ℕ) (config : Config) (steps : List Step) → length items ≤ most_bytes
     → slice ≡ items → AreScript (lines_of slice) config steps → IsScript items config steps
 is_script items slice config steps short same lines = record {
   short = le-leb _ _ short;
@@ -101,13 +101,13 @@ is_script items slice config steps short same lines = record {
 
 -- the slice prints the trace of the steps that it spells
 pub slice_prints_trace : (items slice printed : List ℕ) (config : Config) (steps : List Step)
-    → length items ≤ 4194304 → slice ≡ items → AreScript (lines_of slice) config steps
+    → length items ≤ most_bytes → slice ≡ items → AreScript (lines_of slice) config steps
     → TracesSteps config steps printed → PrintsTrace items printed
 slice_prints_trace items slice printed config steps short same lines traced =
     prints_trace items printed config steps (is_script items slice config steps short same lines) traced
 
 -- a slice that spells a script has no fault
-pub slice_without_fault : (items slice : List ℕ) (config : Config) (steps : List Step) → length items ≤ 4194304
+pub slice_without_fault : (items slice : List ℕ) (config : Config) (steps : List Step) → length items ≤ most_bytes
     → slice ≡ items → AreScript (lines_of slice) config steps → script_fault items ≡ None
 slice_without_fault items slice config steps short same lines =
     script_without_fault items config steps (is_script items slice config steps short same lines)

@@ -3,7 +3,7 @@ use Rattle.std.specs.Prelude.{◌≡◌, ℕ, Bool, true, nat_le, List, [], ◌�
 use Rattle.std.specs.List.{list_all}
 use Rattle.ref_base.specs.Graphs.{Graph}
 use Rattle.refrun.specs.Declarations.{Declared, SpellsDeclared, NoneTwice, declared_graph}
-use Rattle.refrun.specs.Lines.{TextLine, lines_of}
+use Rattle.refrun.specs.Lines.{TextLine, lines_of, most_bytes}
 use Rattle.refrun.specs.ToldLines.{is_plain, told, is_titled}
 
 -- the words of the header
@@ -36,5 +36,5 @@ pub record DeclareGraph (lines : List TextLine) (graph : Graph) : Type 0 where
 
 -- the text declares this graph
 pub record DeclaresGraph (text : List ℕ) (graph : Graph) : Type 0 where
-  pub short : nat_le (length text) 4194304 ≡ true
+  pub short : nat_le (length text) most_bytes ≡ true
   pub lines : DeclareGraph (lines_of text) graph

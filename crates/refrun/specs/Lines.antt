@@ -1,6 +1,10 @@
 -- How a text falls into lines, and a line into words (this project's profile).
 use Rattle.std.specs.Prelude.{ℕ, Bool, true, false, not, if◌then◌else◌, ◌==◌, List, [], ◌∷◌}
 
+-- how many bytes a text has at most
+abbrev pub most_bytes : ℕ
+most_bytes = 4194304
+
 -- a line: the bytes before its LF, and whether an LF ends it
 pub record TextLine : Type 0 where
   pub bytes : List ℕ

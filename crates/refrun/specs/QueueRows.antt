@@ -10,20 +10,20 @@ use Rattle.refrun.specs.declared.rows.Reply.TheVariants as replies
 use Rattle.refrun.specs.declared.rows.Row.{Row}
 
 -- a notice in a hand: the reference that it reports, and the queue that it is for
-pub record Held : Type 0 where
+pub record HeldNotice : Type 0 where
   pub object : ℕ
   pub queue : ℕ
 
 -- what the hand of each mutator holds
 abbrev pub Hands : Type 0
-Hands = ℕ → Option Held
+Hands = ℕ → Option HeldNotice
 
 -- the hands at first: each is empty
 abbrev pub empty_hands : Hands
 empty_hands m = None
 
 -- the hands with what mutator m's hand holds replaced
-abbrev pub with_held : Hands → ℕ → Option Held → Hands
+abbrev pub with_held : Hands → ℕ → Option HeldNotice → Hands
 with_held hands m held k = if k == m then held else hands k
 
 -- the hands after one more row: an unhook or a poll that gave a notice fills one, an added put or a release empties it
@@ -35,7 +35,7 @@ held_after hands (Release m) replies.Done = with_held hands m None
 held_after hands step reply = hands
 
 -- the reference that the held notice reports, where there is one and it is for queue q
-abbrev pub if_for : ℕ → Option Held → List ℕ
+abbrev pub if_for : ℕ → Option HeldNotice → List ℕ
 if_for q None = []
 if_for q (Some held) = if held.queue == q then held.object ∷ [] else []
 

@@ -6,7 +6,7 @@ use Rattle.std.specs.Str.{bytes_eq}
 use Rattle.ref_base.specs.Limits.{is_within_limits}
 use Rattle.ref_base.specs.declared.config.Config.{Config}
 use Rattle.refrun.specs.declared.rows.Step.{Step}
-use Rattle.refrun.specs.Lines.{TextLine, lines_of}
+use Rattle.refrun.specs.Lines.{TextLine, lines_of, most_bytes}
 use Rattle.refrun.specs.Numerals.{number_below}
 use Rattle.refrun.specs.Spelling.{SpellsStep}
 use Rattle.refrun.specs.ToldLines.{is_plain, told, is_titled}
@@ -51,5 +51,5 @@ pub record AreScript (lines : List TextLine) (config : Config) (steps : List Ste
 
 -- the text is such a script
 pub record IsScript (text : List ℕ) (config : Config) (steps : List Step) : Type 0 where
-  pub short : nat_le (length text) 4194304 ≡ true
+  pub short : nat_le (length text) most_bytes ≡ true
   pub lines : AreScript (lines_of text) config steps

@@ -8,7 +8,7 @@ use Rattle.ref_base.specs.declared.config.Config.{Config}
 use Rattle.refrun.specs.DeclarationFaults.{declaration_fault, number_in, unless_double}
 use Rattle.refrun.specs.Declarations.{is_declared, with_declared_no}
 use Rattle.refrun.specs.GraphTexts.{is_graph_header}
-use Rattle.refrun.specs.Lines.{TextLine, lines_of}
+use Rattle.refrun.specs.Lines.{TextLine, lines_of, most_bytes}
 use Rattle.refrun.specs.Scripts.{is_header, config_of}
 use Rattle.refrun.specs.StepFaults.{step_fault}
 use Rattle.refrun.specs.ToldLines.{is_short, says_nothing, line_words}
@@ -79,7 +79,7 @@ first_fault place k (line ∷ lines) =
 
 -- the fault of a text of which this is wanted first, if it has one
 abbrev pub fault_at : Place → List ℕ → Option TextFault
-fault_at place text = if nat_le (length text) 4194304 then first_fault place 1 (lines_of text) else Some texts.TooLong
+fault_at place text = if nat_le (length text) most_bytes then first_fault place 1 (lines_of text) else Some texts.TooLong
 
 -- the fault of a text as a script
 abbrev pub script_fault : List ℕ → Option TextFault

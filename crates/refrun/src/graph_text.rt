@@ -2,11 +2,10 @@
 
 ghost use Rattle.std.specs.Prelude.{◌≡◌, ◌+◌, ◌≤◌, [], true, length, IfOk, IfErr, OnOk, OnErr};
 ghost use Rattle.std.specs.List.{list_all};
-ghost use Rattle.ref_base.specs.GraphViews.{graph_of};
 ghost use Rattle.refrun.specs.DeclarationViews.{declared_by};
 ghost use Rattle.refrun.specs.GraphReading.{Adds, AddsDeclared, AddsAll, FailsAfter};
 ghost use Rattle.refrun.specs.GraphTexts.{is_graph_header, DeclareGraph};
-ghost use Rattle.refrun.specs.Lines.{lines_of, words_of};
+ghost use Rattle.refrun.specs.Lines.{lines_of, words_of, most_bytes};
 ghost use Rattle.refrun.specs.LineReading.{FailsFor};
 ghost use Rattle.refrun.specs.TextFaults.{GraphHeader, Declarations, first_fault};
 ghost use Rattle.refrun.specs.ToldLines.{is_plain, told};
@@ -19,8 +18,8 @@ use std::alloc::Allocator;
 
 /// The graph that a text declares, or the fault of its first faulty line.
 pub fn declared_graph<A: Allocator + Copy>(alloc: A, text: &[u8]) -> Result<Graph<A>, TextFault>
-    requires { length text.now ≤ 4194304 }
-    ensures found { IfOk result (λ graph. DeclareGraph (lines_of text.now) (graph_of graph)) }
+    requires { length text.now ≤ most_bytes }
+    ensures found { IfOk result (λ graph. DeclareGraph (lines_of text.now) graph) }
     ensures fault { IfErr result (λ e. FailsFor e (first_fault GraphHeader 1 (lines_of text.now))) }
 {
     let header = next_told(text, 0)?;
@@ -39,8 +38,8 @@ fn graph_behind<A: Allocator + Copy>(
     text: &[u8],
     number: u64,
 ) -> Result<Graph<A>, TextFault>
-    requires { number + length text.now ≤ 4194305 }
-    ensures spelt { IfOk result (λ graph. AddsAll (told (lines_of text.now)) (graph_of graph)) }
+    requires { number + length text.now ≤ most_bytes + 1 }
+    ensures spelt { IfOk result (λ graph. AddsAll (told (lines_of text.now)) graph) }
     ensures plain { IfOk result (λ graph. list_all is_plain (lines_of text.now) ≡ true) }
     ensures fault { IfErr result (λ e. FailsFor e (first_fault (Declarations []) (number + 1) (lines_of text.now))) }
 {
@@ -60,8 +59,8 @@ fn add_line<A: Allocator + Copy>(
     content: &[u8],
     number: u64,
 ) -> Result<(), TextFault>
-    ensures ok { OnOk result (AddsDeclared (words_of content.now) (graph_of graph.old) (graph_of graph.new)) }
-    ensures fault { IfErr result (FailsAfter (words_of content.now) number (graph_of graph.old)) }
+    ensures ok { OnOk result (AddsDeclared (words_of content.now) graph.old graph.new) }
+    ensures fault { IfErr result (FailsAfter (words_of content.now) number graph.old) }
 {
     let declaration = match declaration_of(alloc, content) {
         Ok(declaration) => declaration,
@@ -80,7 +79,7 @@ fn add_declaration<A: Allocator + Copy>(
     graph: &mut Graph<A>,
     declaration: &Declaration<A>,
 ) -> Result<bool, TextFault>
-    ensures ok { IfOk result (Adds (graph_of graph.old) (graph_of graph.new) (declared_by declaration.now)) }
+    ensures ok { IfOk result (Adds graph.old graph.new (declared_by declaration.now)) }
     ensures err { OnErr result (result ≡ Err TextFault.NoMemory) }
 {
     let added = match declaration {

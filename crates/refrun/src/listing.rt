@@ -1,7 +1,6 @@
 //! How strongly the objects of a graph text are reachable, and the text that says so.
 
 ghost use Rattle.std.specs.Prelude.{◌≡◌, ◌++◌, ◌||◌, [], length, string_bytes, IfOk, OnOk, OnErr, IfSome, take};
-ghost use Rattle.ref_base.specs.GraphViews.{graph_of};
 ghost use Rattle.refrun.specs.Answers.{KeepsUnlessDone, TellsFault, is_cannot_read, is_cannot_write};
 ghost use Rattle.refrun.specs.Listings.{AnswersStrengths, ListsStrengths, listing_line, listing_text};
 ghost use Rattle.refrun.specs.TextFaults.{graph_fault};
@@ -48,7 +47,7 @@ pub fn strength_text<R: TextSource, W: TextSink, A: Allocator + Copy>(
 
 /// The listing of the strengths of a graph's objects.
 fn listing_of<A: Allocator + Copy>(alloc: A, graph: &Graph<A>) -> Result<String<A>, TextFault>
-    ensures text { IfOk result (λ text. ListsStrengths (graph_of graph.now) (string_bytes text)) }
+    ensures text { IfOk result (λ text. ListsStrengths graph.now (string_bytes text)) }
     ensures err { OnErr result (result ≡ Err TextFault.NoMemory) }
 {
     let listed = strengths(alloc, graph).map_err(|_| TextFault::NoMemory)?;

@@ -2,6 +2,7 @@
 
 ghost use Rattle.std.specs.Prelude.{◌≡◌, ◌<◌, ◌≤◌, ◌||◌, length, Ok, IfOk, IfErr, IfSome, vec_len};
 ghost use Rattle.refrun.specs.Answers.{is_cannot_read};
+ghost use Rattle.refrun.specs.Lines.{most_bytes};
 ghost use Rattle.refrun.specs.TextReading.{ReadsText, ReadsMore, IsReadingFault, IsReadingFailure};
 
 use crate::fault::TextFault;
@@ -47,7 +48,7 @@ pub fn text_of<R: TextSource, A: Allocator + Copy>(
     reader: &mut R,
 ) -> Result<Vec<u8, A>, TextFault>
     ensures text { IfSome (R.remaining reader.old) (λ text. ReadsText text result) }
-    ensures short { IfOk result (λ v. length v.items ≤ 4194304) }
+    ensures short { IfOk result (λ v. length v.items ≤ most_bytes) }
     ensures kinds { IfErr result IsReadingFault }
     ensures failed { R.has_failed reader.new ≡ (R.has_failed reader.old || is_cannot_read result) }
 {

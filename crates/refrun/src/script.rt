@@ -3,7 +3,7 @@
 ghost use Rattle.std.specs.Prelude.{◌≡◌, ◌+◌, ◌≤◌, ◌^◌, true, [], ◌∷◌, ◌++◌, Some, None, OnOk, OnSome, length};
 ghost use Rattle.std.specs.Prelude.{IfOk, IfErr};
 ghost use Rattle.std.specs.List.{list_all};
-ghost use Rattle.refrun.specs.Lines.{lines_of, words_of};
+ghost use Rattle.refrun.specs.Lines.{lines_of, words_of, most_bytes};
 ghost use Rattle.refrun.specs.LineReading.{FailsFor};
 ghost use Rattle.refrun.specs.Scripts.{is_header, config_of, SpellSteps, AreScript};
 ghost use Rattle.refrun.specs.Spelling.{SpellsStep};
@@ -30,7 +30,7 @@ pub struct Script<A: Allocator> {
 
 /// The script that a text spells, or the fault of its first faulty line.
 pub fn script_of<A: Allocator>(alloc: A, text: &[u8]) -> Result<Script<A>, TextFault>
-    requires { length text.now ≤ 4194304 }
+    requires { length text.now ≤ most_bytes }
     ensures found { IfOk result (λ script. AreScript (lines_of text.now) script.config script.steps.items) }
     ensures fault { IfErr result (λ e. FailsFor e (first_fault ScriptHeader 1 (lines_of text.now))) }
 {
@@ -57,7 +57,7 @@ pub fn script_of<A: Allocator>(alloc: A, text: &[u8]) -> Result<Script<A>, TextF
 
 /// The steps of the lines behind the line of this number.
 fn steps_of<A: Allocator>(alloc: A, text: &[u8], number: u64) -> Result<Vec<Step, A>, TextFault>
-    requires { number + length text.now ≤ 4194305 }
+    requires { number + length text.now ≤ most_bytes + 1 }
     ensures spelt { IfOk result (λ steps. SpellSteps (told (lines_of text.now)) steps.items) }
     ensures plain { IfOk result (λ steps. list_all is_plain (lines_of text.now) ≡ true) }
     ensures fault { IfErr result (λ e. FailsFor e (first_fault Steps (number + 1) (lines_of text.now))) }

@@ -3,7 +3,7 @@
 ghost use Rattle.std.specs.Prelude.{◌≡◌, ◌+◌, ◌≤◌, ◌<◌, Some, None, OnSome, length, IfOk, IfErr, MatchResult};
 ghost use Rattle.std.specs.Char.{is_ascii};
 ghost use Rattle.std.specs.List.{list_all};
-ghost use Rattle.refrun.specs.Lines.{lines_of, content_of, words_of};
+ghost use Rattle.refrun.specs.Lines.{lines_of, content_of, words_of, most_bytes};
 ghost use Rattle.refrun.specs.LineReading.{Finds};
 ghost use Rattle.refrun.specs.LineViews.{line_of};
 ghost use Rattle.refrun.specs.TextFaults.{Place, plain_fault, first_fault};
@@ -22,7 +22,7 @@ pub struct Told<'a> {
 
 /// The first line behind the line of this number that says something. Each line up to it is short enough and ASCII.
 pub fn next_told(text: &[u8], number: u64) -> Result<Told<'_>, TextFault>
-    requires { number + length text.now ≤ 4194305 }
+    requires { number + length text.now ≤ most_bytes + 1 }
     ensures found { IfOk result (Finds text.now number) }
     ensures behind { IfOk result (λ t. OnSome t.content (t.number + length t.rest.now ≤ number + length text.now)) }
     ensures shorter { IfOk result (λ t. OnSome t.content (length t.rest.now < length text.now)) }

@@ -1,14 +1,14 @@
 //! Loads and the calls of references.
 
 ghost use Rattle.std.specs.Prelude.{◌≡◌, true, Some, IfOk};
+ghost use Rattle.ref_base.specs.DoomedSets.{any_is};
 ghost use Rattle.ref_base.specs.Paths.{is_soft};
 ghost use Rattle.ref_base.specs.Heaps.{slot_at, reference_at, with_slot};
-ghost use Rattle.ref_base.specs.CollectorRows.{field_in, value_reply};
+ghost use Rattle.ref_base.specs.CollectorRows.{field_in, referent_got, value_reply};
 ghost use Rattle.ref_base.specs.Refusals.{has_slot, load_refusal, get_refusal, clear_refusal};
-ghost use Rattle.ref_objects.specs.Grounds.{IsRefused, if_done};
-ghost use Rattle.ref_mark.specs.Marks.{barred, loaded, value_got, with_got, with_cleared, refers};
-ghost use Rattle.ref_mark.specs.MarkRows.{IsRowOf, reply_of, done_reply};
-ghost use Rattle.ref_mark.specs.Marks.{is_doomed, value_read, undoomed, any_is, renewed};
+ghost use Rattle.ref_objects.specs.Grounds.{IsRefused};
+ghost use Rattle.ref_mark.specs.CycleHeaps.{barred, is_white, is_doomed, undoomed, renewed};
+ghost use Rattle.ref_mark.specs.MarkCalls.{answer_in, after_in, reply_of, done_reply};
 
 use super::Marker;
 use ref_base::{Fault, MutNo, ObjNo, Phase, Reply, SlotNo, Step, Strength};
@@ -16,59 +16,57 @@ use ref_objects::Reference;
 use std::alloc::Allocator;
 
 impl<A: Allocator + Copy> Marker<A> {
-    /// Loads a field of the object in slot `src` into slot `dst`: an object or null. Tried in this order:
+    /// Loads a field of the object in slot `from` into slot `into`: an object or null. Tried in this order:
     /// `NoSuchActor`, `EmptySlot`, `BadField`. In a mark, a white object that is loaded becomes grey. In logarithmic
     /// time.
     pub fn load(
         &mut self,
-        m: MutNo,
-        dst: SlotNo,
-        src: SlotNo,
+        mutator: MutNo,
+        into: SlotNo,
+        from: SlotNo,
         field: u32,
     ) -> Result<Option<ObjNo>, Fault>
-        ensures refused { IsRefused (load_refusal self.old.heap m dst src field) result }
-        ensures answer { IfOk result
-            (λ value. value ≡ field_in self.old.heap (slot_at self.old.heap m src) field) }
-        ensures after { self.new ≡ if_done result
-            (loaded self.old m dst (field_in self.old.heap (slot_at self.old.heap m src) field)) self.old }
-        ensures row { IsRowOf self.old (Step.Load m dst src field) (reply_of value_reply result) self.new }
+        ensures answer { reply_of value_reply result ≡ answer_in self.old (Step.Load mutator into from field) }
+        ensures after { self.new ≡ after_in self.old (Step.Load mutator into from field) }
     {
-        let value = self.loadable(m, dst, src, field)?;
+        let value = self.loadable(mutator, into, from, field)?;
+        // The prover takes an Option that is passed on by value as spent.
         let (filled, answer) = (value, value);
         self.bar(value);
-        self.fill_slot(m, dst, filled);
+        self.fill_slot(mutator, into, filled);
         Ok(answer)
     }
 
-    /// Gets the referent of the reference in slot `reference` into slot `dst`: null where it is cleared, where the
+    /// Gets the referent of the reference in slot `reference` into slot `into`: null where it is cleared, where the
     /// referent is doomed, and of a phantom reference. Tried in this order: `NoSuchActor`, `EmptySlot`,
     /// `NotAReference`. In a mark, a white referent becomes grey; a soft reference that answers an object is stamped
     /// with the clock. In logarithmic time.
-    pub fn get(&mut self, m: MutNo, dst: SlotNo, reference: SlotNo) -> Result<Option<ObjNo>, Fault>
-        ensures refused { IsRefused (get_refusal self.old.heap m reference dst) result }
-        ensures answer { IfOk result (λ value. value ≡ value_got self.old m reference) }
-        ensures after { self.new ≡ if_done result
-            (with_got self.old m dst reference (value_got self.old m reference)) self.old }
-        ensures row { IsRowOf self.old (Step.Get m dst reference) (reply_of value_reply result) self.new }
+    pub fn get(
+        &mut self,
+        mutator: MutNo,
+        into: SlotNo,
+        reference: SlotNo,
+    ) -> Result<Option<ObjNo>, Fault>
+        ensures answer { reply_of value_reply result ≡ answer_in self.old (Step.Get mutator into reference) }
+        ensures after { self.new ≡ after_in self.old (Step.Get mutator into reference) }
     {
-        let (no, got) = self.gettable(m, dst, reference)?;
+        let (no, got) = self.gettable(mutator, into, reference)?;
         let value = self.read(got);
         let (renewing, filled, answer) = (value, value, value);
         self.bar(value);
         self.renew(no, got, renewing);
-        self.fill_slot(m, dst, filled);
+        self.fill_slot(mutator, into, filled);
         Ok(answer)
     }
 
     /// Clears the reference in a slot, and doesn't enqueue it. Nothing is left to clear where its referent is doomed:
     /// that is left to a worker. Tried in this order: `NoSuchActor`, `EmptySlot`, `NotAReference`. In logarithmic
     /// time.
-    pub fn clear(&mut self, m: MutNo, reference: SlotNo) -> Result<(), Fault>
-        ensures refused { IsRefused (clear_refusal self.old.heap m reference) result }
-        ensures after { self.new ≡ if_done result (with_cleared self.old m reference) self.old }
-        ensures row { IsRowOf self.old (Step.Clear m reference) (reply_of done_reply result) self.new }
+    pub fn clear(&mut self, mutator: MutNo, reference: SlotNo) -> Result<(), Fault>
+        ensures answer { reply_of done_reply result ≡ answer_in self.old (Step.Clear mutator reference) }
+        ensures after { self.new ≡ after_in self.old (Step.Clear mutator reference) }
     {
-        let (no, cleared) = self.clearable(m, reference)?;
+        let (no, cleared) = self.clearable(mutator, reference)?;
         if !self.is_any_doomed(cleared.referent) {
             self.objects.cut(no);
         }
@@ -78,13 +76,11 @@ impl<A: Allocator + Copy> Marker<A> {
     /// Whether the reference in a slot refers to what slot `other` holds: to null where it is cleared, or its referent
     /// is doomed. It makes nothing grey. Tried in this order: `NoSuchActor`, `EmptySlot`, `NotAReference`. In
     /// logarithmic time.
-    pub fn refers_to(&self, m: MutNo, reference: SlotNo, other: SlotNo) -> Result<bool, Fault>
-        ensures refused { IsRefused (get_refusal self.now.heap m reference other) result }
-        ensures answer { IfOk result (λ is. is ≡ refers self.now m reference other) }
-        ensures row { IsRowOf self.now (Step.RefersTo m reference other) (reply_of Reply.Refers result) self.now }
+    pub fn refers_to(&self, mutator: MutNo, reference: SlotNo, other: SlotNo) -> Result<bool, Fault>
+        ensures answer { reply_of Reply.Refers result ≡ answer_in self.now (Step.RefersTo mutator reference other) }
     {
-        let (_no, read) = self.gettable(m, other, reference)?;
-        let value = self.objects.slot_of(m, other)?;
+        let (_no, read) = self.gettable(mutator, other, reference)?;
+        let value = self.objects.slot_of(mutator, other)?;
         Ok(self.if_not_doomed(read.referent) == value)
     }
 
@@ -101,17 +97,20 @@ impl<A: Allocator + Copy> Marker<A> {
     // What a load answers, or why it is refused.
     fn loadable(
         &self,
-        m: MutNo,
-        dst: SlotNo,
-        src: SlotNo,
+        mutator: MutNo,
+        into: SlotNo,
+        from: SlotNo,
         field: u32,
     ) -> Result<Option<ObjNo>, Fault>
-        ensures refused { IsRefused (load_refusal self.now.heap m dst src field) result }
+        ensures refused { IsRefused (load_refusal self.now.heap mutator into from field) result }
         ensures answer { IfOk result
-            (λ value. value ≡ field_in self.now.heap (slot_at self.now.heap m src) field) }
+            (λ value. value ≡ field_in self.now.heap (slot_at self.now.heap mutator from) field) }
     {
-        self.objects.slot_of(m, dst)?;
-        let no = self.objects.slot_of(m, src)?.ok_or(Fault::EmptySlot)?;
+        self.objects.slot_of(mutator, into)?;
+        let no = self
+            .objects
+            .slot_of(mutator, from)?
+            .ok_or(Fault::EmptySlot)?;
         let fields = self.objects.fields_of(no);
         if field as usize >= fields.len() {
             return Err(Fault::BadField);
@@ -122,37 +121,40 @@ impl<A: Allocator + Copy> Marker<A> {
     // The reference that a get looks at, or why it is refused.
     fn gettable(
         &self,
-        m: MutNo,
-        dst: SlotNo,
+        mutator: MutNo,
+        into: SlotNo,
         reference: SlotNo,
     ) -> Result<(ObjNo, Reference), Fault>
-        ensures refused { IsRefused (get_refusal self.now.heap m reference dst) result }
+        ensures refused { IsRefused (get_refusal self.now.heap mutator into reference) result }
         ensures answer { IfOk result
-            (λ got. (slot_at self.now.heap m reference ≡ Some got.0)
+            (λ got. (slot_at self.now.heap mutator reference ≡ Some got.0)
             × (reference_at self.now.heap got.0 ≡ Some got.1)) }
     {
-        self.objects.slot_of(m, dst)?;
-        let no = self.objects.slot_of(m, reference)?.ok_or(Fault::EmptySlot)?;
+        self.objects.slot_of(mutator, into)?;
+        let no = self
+            .objects
+            .slot_of(mutator, reference)?
+            .ok_or(Fault::EmptySlot)?;
         let got = self.objects.reference_of(no).ok_or(Fault::NotAReference)?;
         Ok((no, got))
     }
 
     // The reference that a clear looks at, or why it is refused.
-    fn clearable(&self, m: MutNo, reference: SlotNo) -> Result<(ObjNo, Reference), Fault>
-        ensures refused { IsRefused (clear_refusal self.now.heap m reference) result }
+    fn clearable(&self, mutator: MutNo, reference: SlotNo) -> Result<(ObjNo, Reference), Fault>
+        ensures refused { IsRefused (clear_refusal self.now.heap mutator reference) result }
         ensures answer { IfOk result
-            (λ cleared. (slot_at self.now.heap m reference ≡ Some cleared.0)
+            (λ cleared. (slot_at self.now.heap mutator reference ≡ Some cleared.0)
             × (reference_at self.now.heap cleared.0 ≡ Some cleared.1)) }
     {
-        self.gettable(m, reference, reference)
+        self.gettable(mutator, reference, reference)
     }
 
     // A slot that is there holds the value.
-    fn fill_slot(&mut self, m: MutNo, slot: SlotNo, value: Option<ObjNo>)
-        requires { has_slot self.old.heap m slot ≡ true }
-        ensures { self.new ≡ record self.old { heap = with_slot self.old.heap m slot value } }
+    fn fill_slot(&mut self, mutator: MutNo, slot: SlotNo, value: Option<ObjNo>)
+        requires { has_slot self.old.heap mutator slot ≡ true }
+        ensures { self.new ≡ record self.old { heap = with_slot self.old.heap mutator slot value } }
     {
-        let _filled = self.objects.set_slot(m, slot, value);
+        let _filled = self.objects.set_slot(mutator, slot, value);
     }
 
     // The load barrier: in a mark, a white object that is loaded becomes grey.
@@ -166,7 +168,7 @@ impl<A: Allocator + Copy> Marker<A> {
 
     // What a get of this reference answers.
     fn read(&self, reference: Reference) -> Option<ObjNo>
-        ensures { result ≡ value_read self.now (Some reference) }
+        ensures { result ≡ undoomed self.now (referent_got (Some reference)) }
     {
         match reference.strength {
             Strength::Phantom => None,
@@ -186,8 +188,15 @@ impl<A: Allocator + Copy> Marker<A> {
     fn is_any_doomed(&self, referent: Option<ObjNo>) -> bool
         ensures { result ≡ any_is (is_doomed self.now) referent }
     {
+        self.is_past_mark() && self.is_any_white(referent)
+    }
+
+    // Whether there is a referent and it is white.
+    pub(super) fn is_any_white(&self, referent: Option<ObjNo>) -> bool
+        ensures { result ≡ any_is (is_white self.now) referent }
+    {
         match referent {
-            Some(no) => self.is_doomed(no),
+            Some(no) => self.objects.is_unmarked(no),
             None => false,
         }
     }

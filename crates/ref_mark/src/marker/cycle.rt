@@ -1,17 +1,16 @@
 //! The cycle: its begin, the scans of its workers, and the mark's end.
 
-ghost use Rattle.std.specs.Prelude.{◌≡◌, ◌+◌, ◌-◌, ◌^◌, ◌<◌, not, nat_le, Some, length, IfOk};
+ghost use Rattle.std.specs.Prelude.{◌≡◌, ◌+◌, ◌-◌, ◌^◌, ◌<◌, not, nat_le, Some, length};
 ghost use Rattle.ref_base.specs.Graphs.{object_at};
 ghost use Rattle.ref_base.specs.Paths.{present, targets_at, allowed_referent, if_any};
 ghost use Rattle.ref_base.specs.KeptPaths.{is_kept};
+ghost use Rattle.ref_base.specs.DoomedSets.{refers_into};
 ghost use Rattle.ref_base.specs.Heaps.{reference_at};
 ghost use Rattle.ref_base.specs.CollectorRows.{list_at, emptied};
 ghost use Rattle.ref_base.specs.Refusals.{is_empty, begin_refusal, work_refusal, end_mark_refusal};
-ghost use Rattle.ref_objects.specs.Grounds.{IsRefused, if_done, unmarked, fields_in};
-ghost use Rattle.ref_mark.specs.Worklists.{first_in};
-ghost use Rattle.ref_mark.specs.MarkRows.{IsRowOf, IsBeginOf, reply_of, scan_reply};
-ghost use Rattle.ref_mark.specs.Marks.{shaded_all, whitened, begun, scanned, with_found, with_phase};
-ghost use Rattle.ref_mark.specs.Marks.{is_white, refers_to, policy_in};
+ghost use Rattle.ref_objects.specs.Grounds.{IsRefused, fields_in};
+ghost use Rattle.ref_mark.specs.MarkCalls.{answer_in, after_in, reply_of, scan_reply};
+ghost use Rattle.ref_mark.specs.CycleHeaps.{shaded_all, whitened, with_found, is_white, policy_in};
 
 use super::Marker;
 use ref_base::{Fault, ObjNo, Phase, Reply, Step, Strength, Urgency, WorkerNo, keeps};
@@ -24,11 +23,8 @@ impl<A: Allocator + Copy> Marker<A> {
     /// cycle hasn't ended, `ClockBack` where the clock is later, `NumbersSpent` after 2^64 - 1 cycles. In time of the
     /// cells.
     pub fn begin(&mut self, now: u64, urgency: Urgency) -> Result<u64, Fault>
-        ensures refused { IsRefused
-            (begin_refusal self.old.phase self.old.heap.clock self.old.cycle now) result }
-        ensures answer { IfOk result (λ cycle. cycle ≡ self.old.cycle + 1) }
-        ensures after { self.new ≡ if_done result (begun self.old now urgency) self.old }
-        ensures row { IsBeginOf self.old (Step.Begin now urgency) result self.new }
+        ensures answer { reply_of Reply.Cycle result ≡ answer_in self.old (Step.Begin now urgency) }
+        ensures after { self.new ≡ after_in self.old (Step.Begin now urgency) }
     {
         self.check_begin(now)?;
         self.whiten(now, urgency);
@@ -41,30 +37,27 @@ impl<A: Allocator + Copy> Marker<A> {
     /// the referent of a soft reference that the cycle keeps; another reference whose referent is white is found by
     /// the worker. Answers the object, or none where the list is empty. Tried in this order: `NoSuchActor`,
     /// `WrongPhase`. In logarithmic time for each field.
-    pub fn scan(&mut self, w: WorkerNo) -> Result<Option<ObjNo>, Fault>
-        ensures refused { IsRefused (work_refusal self.old.heap self.old.phase Phase.Marking w) result }
-        ensures answer { IfOk result (λ scanned. scanned ≡ first_in self.old.grey) }
-        ensures after { self.new ≡ if_done result (scanned self.old w) self.old }
-        ensures row { IsRowOf self.old (Step.Scan w) (reply_of scan_reply result) self.new }
+    pub fn scan(&mut self, worker: WorkerNo) -> Result<Option<ObjNo>, Fault>
+        ensures answer { reply_of scan_reply result ≡ answer_in self.old (Step.Scan worker) }
+        ensures after { self.new ≡ after_in self.old (Step.Scan worker) }
     {
-        self.check_work(w, Phase::Marking)?;
+        self.check_work(worker, Phase::Marking)?;
         let Some(no) = self.grey.take_first() else {
             return Ok(None);
         };
         let reference = self.objects.reference_of(no);
-        let (kept, read) = (reference, reference);
-        self.shade_targets(no, kept);
-        self.find(w, no, read);
+        // The prover takes an Option that is passed on by value as spent.
+        let (shading, finding) = (reference, reference);
+        self.shade_targets(no, shading);
+        self.list_found(worker, no, finding);
         Ok(Some(no))
     }
 
     /// Ends the mark: the white objects are doomed now, and it answers how many they are. Tried in this order:
     /// `WrongPhase`, `GreyLeft` while the grey list has objects. In constant time.
     pub fn end_mark(&mut self) -> Result<usize, Fault>
-        ensures refused { IsRefused (end_mark_refusal self.old.phase (not (is_empty self.old.grey))) result }
-        ensures answer { IfOk result (λ count. count ≡ length (unmarked self.old.heap.objects self.old.marked)) }
-        ensures after { self.new ≡ if_done result (with_phase self.old Phase.Clearing) self.old }
-        ensures row { IsRowOf self.old Step.EndMark (reply_of Reply.Doomed result) self.new }
+        ensures answer { reply_of Reply.Doomed result ≡ answer_in self.old Step.EndMark }
+        ensures after { self.new ≡ after_in self.old Step.EndMark }
     {
         self.check_end_mark()?;
         self.phase = Phase::Clearing;
@@ -130,6 +123,7 @@ impl<A: Allocator + Copy> Marker<A> {
         if self.objects.hold_count() == 0 {
             return;
         }
+        self.objects.facts();
         let mut held = self.objects.held_from(ObjNo(0));
         while let Some(no) = held {
             self.shade(no);
@@ -191,23 +185,23 @@ impl<A: Allocator + Copy> Marker<A> {
     }
 
     // The worker finds a reference whose referent is still white.
-    fn find(&mut self, w: WorkerNo, no: ObjNo, reference: Option<Reference>)
+    fn list_found(&mut self, worker: WorkerNo, no: ObjNo, reference: Option<Reference>)
         requires reference { reference_at self.old.heap no ≡ reference }
-        requires worker { w < self.old.heap.config.workers }
-        requires room { length (list_at self.old.found w) + length self.old.grey < length self.old.marked }
-        ensures { self.new ≡ with_found self.old w no }
+        requires worker { worker < self.old.heap.config.workers }
+        requires room { length (list_at self.old.found worker) + length self.old.grey < length self.old.marked }
+        ensures { self.new ≡ with_found self.old worker no }
     {
         if self.refers_to_white(reference) {
-            self.found[w.0 as usize].push(no);
+            self.found[worker.0 as usize].push(no);
         }
     }
 
     // Whether this is a reference whose referent is white.
     fn refers_to_white(&self, reference: Option<Reference>) -> bool
-        ensures { result ≡ refers_to (is_white self.now) reference }
+        ensures { result ≡ refers_into (is_white self.now) reference }
     {
-        match reference.and_then(|reference| reference.referent) {
-            Some(referent) => self.objects.is_unmarked(referent),
+        match reference {
+            Some(reference) => self.is_any_white(reference.referent),
             None => false,
         }
     }
@@ -226,10 +220,10 @@ impl<A: Allocator + Copy> Marker<A> {
     }
 
     // Why a worker's step is refused that this phase has.
-    pub(super) fn check_work(&self, w: WorkerNo, phase: Phase) -> Result<(), Fault>
-        ensures { IsRefused (work_refusal self.now.heap self.now.phase phase w) result }
+    pub(super) fn check_work(&self, worker: WorkerNo, phase: Phase) -> Result<(), Fault>
+        ensures { IsRefused (work_refusal self.now.heap self.now.phase phase worker) result }
     {
-        if w.0 >= self.objects.config().workers {
+        if worker.0 >= self.objects.config().workers {
             return Err(Fault::NoSuchActor);
         }
         if self.phase != phase {

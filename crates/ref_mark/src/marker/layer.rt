@@ -1,13 +1,14 @@
 //! What the layer above does to a heap in its cycles.
 
-ghost use Rattle.std.specs.Prelude.{◌≡◌, IfOk, not};
+ghost use Rattle.std.specs.Prelude.{◌≡◌, IfOk, not, true};
 ghost use Rattle.ref_base.specs.Heaps.{with_changed, with_reference, cleared};
 ghost use Rattle.ref_base.specs.Collectors.{joined};
 ghost use Rattle.ref_base.specs.CollectorRows.{list_at};
 ghost use Rattle.ref_base.specs.Refusals.{is_empty, work_refusal};
 ghost use Rattle.ref_objects.specs.Grounds.{IsRefused, if_done, least_from};
 ghost use Rattle.ref_mark.specs.Worklists.{first_in};
-ghost use Rattle.ref_mark.specs.Marks.{shaded, with_phase, with_taken, doomed, is_swept, swept, is_past_mark};
+ghost use Rattle.ref_mark.specs.CycleHeaps.{shaded, with_phase, with_taken, doomed, is_due};
+ghost use Rattle.ref_mark.specs.CycleHeaps.{is_swept, swept, is_past_mark};
 
 use super::Marker;
 use ref_base::{Fault, ObjNo, Phase, WorkerNo};
@@ -24,13 +25,13 @@ impl<A: Allocator + Copy> Marker<A> {
 
     /// Takes the first reference that a worker found and that wasn't looked at since; none where there is none. Tried
     /// in this order: `NoSuchActor`, `WrongPhase` but in Clearing. In constant time.
-    pub fn take_found(&mut self, w: WorkerNo) -> Result<Option<ObjNo>, Fault>
-        ensures refused { IsRefused (work_refusal self.old.heap self.old.phase Phase.Clearing w) result }
-        ensures answer { IfOk result (λ taken. taken ≡ first_in (list_at self.old.found w)) }
-        ensures after { self.new ≡ if_done result (with_taken self.old w) self.old }
+    pub fn take_found(&mut self, worker: WorkerNo) -> Result<Option<ObjNo>, Fault>
+        ensures refused { IsRefused (work_refusal self.old.heap self.old.phase Phase.Clearing worker) result }
+        ensures answer { IfOk result (λ taken. taken ≡ first_in (list_at self.old.found worker)) }
+        ensures after { self.new ≡ if_done result (with_taken self.old worker) self.old }
     {
-        self.check_work(w, Phase::Clearing)?;
-        Ok(self.found[w.0 as usize].take_first())
+        self.check_work(worker, Phase::Clearing)?;
+        Ok(self.found[worker.0 as usize].take_first())
     }
 
     /// Whether some worker found a reference that wasn't looked at since. In time of the workers.
@@ -58,13 +59,27 @@ impl<A: Allocator + Copy> Marker<A> {
         }
     }
 
-    /// Frees the doomed object of this number, as `Objects::free` does. True where it was doomed and nobody holds it;
-    /// else nothing changes. In logarithmic time.
+    /// Whether an object is doomed that isn't swept. In constant time.
+    pub fn has_doomed(&self) -> bool
+        ensures { result ≡ not (is_empty (doomed self.now)) }
+    {
+        self.is_past_mark() && self.objects.unmarked_count() > 0
+    }
+
+    /// In Sweeping, frees the doomed object of this number, as `Objects::free` does. True where it was doomed and
+    /// nobody holds it; else nothing changes. In logarithmic time.
     pub fn free(&mut self, no: ObjNo) -> bool
         ensures answer { result ≡ is_swept self.old no }
         ensures after { self.new ≡ swept self.old no }
     {
-        self.is_doomed(no) && self.objects.free(no)
+        self.is_due(no) && self.objects.free(no)
+    }
+
+    // Whether a sweep has begun, and the object of this number is doomed.
+    fn is_due(&self, no: ObjNo) -> bool
+        ensures { result ≡ is_due self.now no }
+    {
+        self.phase == Phase::Sweeping && self.objects.is_unmarked(no)
     }
 
     /// Clearing ends. The layer above has looked at all that was found.
@@ -74,9 +89,10 @@ impl<A: Allocator + Copy> Marker<A> {
         self.phase = Phase::Sweeping;
     }
 
-    /// The cycle ends, and the gaps that freed objects left are closed. In time of the objects that are there and of
-    /// those that were freed.
+    /// The cycle ends, and the gaps that freed objects left are closed. Nothing that is doomed is left. In time of the
+    /// objects that are there and of those that were freed.
     pub fn to_idle(&mut self)
+        requires { is_empty (doomed self.old) ≡ true }
         ensures { self.new ≡ with_phase self.old Phase.Idle }
     {
         self.objects.close_gaps();

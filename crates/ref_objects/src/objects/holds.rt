@@ -15,25 +15,31 @@ use std::alloc::Allocator;
 impl<A: Allocator + Copy> Objects<A> {
     /// Takes a hold of the object in a slot. Tried in this order: `NoSuchActor`, `EmptySlot`, `NoSuchObject` where the
     /// object was freed, `NumbersSpent` where 2^64 - 1 holds are out. In logarithmic time.
-    pub fn hold(&mut self, m: MutNo, slot: SlotNo) -> Result<Hold, Fault>
-        ensures refused { IsRefused (hold_refusal self.old m slot) result }
-        ensures answer { IfOk result (λ hold. IsHoldOf self.old (slot_at self.old.heap m slot) hold) }
+    pub fn hold(&mut self, mutator: MutNo, slot: SlotNo) -> Result<Hold, Fault>
+        ensures refused { IsRefused (hold_refusal self.old mutator slot) result }
+        ensures answer { IfOk result (λ hold. IsHoldOf self.old (slot_at self.old.heap mutator slot) hold) }
         ensures after { self.new ≡ after_minting self.old result }
     {
-        let place = self.place(m, slot)?;
+        let place = self.place(mutator, slot)?;
         let no = self.slots[place].ok_or(Fault::EmptySlot)?;
         self.mint(no)
     }
 
-    /// Takes a hold back; the slot holds its object. Tried in this order: `NoSuchActor`, `ForeignHold` where the hold is of
-    /// another heap, or this one counts no hold of the object. The hold then comes back. In logarithmic time.
-    pub fn adopt(&mut self, m: MutNo, dst: SlotNo, hold: Hold) -> Result<ObjNo, (Fault, Hold)>
-        ensures refused { GivesBack (adopt_refusal self.old m dst hold) hold result }
+    /// Takes a hold back; the slot holds its object. Tried in this order: `NoSuchActor`, `ForeignHold` where the hold
+    /// is of another heap, or this one counts no hold of the object. The hold then comes back. In logarithmic time.
+    pub fn adopt(
+        &mut self,
+        mutator: MutNo,
+        into: SlotNo,
+        hold: Hold,
+    ) -> Result<ObjNo, (Fault, Hold)>
+        ensures refused { GivesBack (adopt_refusal self.old mutator into hold) hold result }
         ensures answer { IfOk result (λ no. no ≡ hold.object) }
         ensures after { self.new ≡ if_done result
-            (with_heap self.old (with_slot (without_hold self.old.heap hold.object) m dst (Some hold.object))) self.old }
+            (with_heap self.old (with_slot (without_hold self.old.heap hold.object) mutator into
+            (Some hold.object))) self.old }
     {
-        match self.place(m, dst) {
+        match self.place(mutator, into) {
             Ok(place) => {
                 let no = self.take_back(hold)?;
                 self.slots[place] = Some(no);
@@ -46,14 +52,15 @@ impl<A: Allocator + Copy> Objects<A> {
     /// Takes a hold back. The one error is `ForeignHold`, as for `adopt`. In logarithmic time.
     pub fn release(&mut self, hold: Hold) -> Result<(), (Fault, Hold)>
         ensures refused { GivesBack (release_refusal self.old hold) hold result }
-        ensures after { self.new ≡ if_done result (with_heap self.old (without_hold self.old.heap hold.object)) self.old }
+        ensures after { self.new ≡ if_done result
+            (with_heap self.old (without_hold self.old.heap hold.object)) self.old }
     {
         self.take_back(hold)?;
         Ok(())
     }
 
-    /// Takes a hold of the object of this number. Tried in this order: `NoSuchObject`, `NumbersSpent` where 2^64 - 1 holds
-    /// are out. In logarithmic time.
+    /// Takes a hold of the object of this number. Tried in this order: `NoSuchObject`, `NumbersSpent` where 2^64 - 1
+    /// holds are out. In logarithmic time.
     pub fn mint(&mut self, no: ObjNo) -> Result<Hold, Fault>
         ensures refused { IsRefused (mint_refusal self.old no) result }
         ensures answer { IfOk result (λ hold. IsHoldOf self.old (Some no) hold) }
@@ -104,7 +111,8 @@ impl<A: Allocator + Copy> Objects<A> {
     fn take_back(&mut self, hold: Hold) -> Result<ObjNo, (Fault, Hold)>
         ensures refused { GivesBack (release_refusal self.old hold) hold result }
         ensures answer { IfOk result (λ no. no ≡ hold.object) }
-        ensures after { self.new ≡ if_done result (with_heap self.old (without_hold self.old.heap hold.object)) self.old }
+        ensures after { self.new ≡ if_done result
+            (with_heap self.old (without_hold self.old.heap hold.object)) self.old }
     {
         let no = hold.obj();
         if hold.heap_no() != self.heap_no || !self.drop_hold(no) {

@@ -11,11 +11,17 @@ use std::alloc::Allocator;
 
 impl<A: Allocator + Copy> Objects<A> {
     /// Writes a slot. The one error is `NoSuchActor`. In constant time.
-    pub fn set_slot(&mut self, m: MutNo, slot: SlotNo, value: Option<ObjNo>) -> Result<(), Fault>
-        ensures refused { IsRefused (drop_refusal self.old.heap m slot) result }
-        ensures after { self.new ≡ if_done result (with_heap self.old (with_slot self.old.heap m slot value)) self.old }
+    pub fn set_slot(
+        &mut self,
+        mutator: MutNo,
+        slot: SlotNo,
+        value: Option<ObjNo>,
+    ) -> Result<(), Fault>
+        ensures refused { IsRefused (drop_refusal self.old.heap mutator slot) result }
+        ensures after { self.new ≡ if_done result
+            (with_heap self.old (with_slot self.old.heap mutator slot value)) self.old }
     {
-        let place = self.place(m, slot)?;
+        let place = self.place(mutator, slot)?;
         self.slots[place] = value;
         Ok(())
     }
@@ -41,8 +47,9 @@ impl<A: Allocator + Copy> Objects<A> {
         self.table.cut(no);
     }
 
-    /// Frees the object of this number, and its cell; its mark goes. True exactly where there is one and nobody holds it;
-    /// else nothing changes. Slots and fields that hold its number do so still, and lead nowhere. In logarithmic time.
+    /// Frees the object of this number, and its cell; its mark goes. True exactly where there is one and nobody holds
+    /// it; else nothing changes. Slots and fields that hold its number do so still, and lead nowhere. In logarithmic
+    /// time.
     pub fn free(&mut self, no: ObjNo) -> bool
         ensures answer { result ≡ is_free self.old.heap no }
         ensures after { self.new ≡ after_freeing self.old no }
@@ -52,8 +59,8 @@ impl<A: Allocator + Copy> Objects<A> {
         self.table.free(no)
     }
 
-    /// Closes the gaps that freed objects left in the index; nothing that is seen changes. To be called once in a cycle.
-    /// In time of the objects that are there and of those freed since the last time.
+    /// Closes the gaps that freed objects left in the index; nothing that is seen changes. To be called once in a
+    /// cycle. In time of the objects that are there and of those freed since the last time.
     pub fn close_gaps(&mut self)
         ensures { self.new ≡ self.old }
     {

@@ -1,6 +1,6 @@
 //! Marks of a heap's objects, for the layer that marks what a cycle reaches.
 
-ghost use Rattle.std.specs.Prelude.{◌≡◌, ◌≤◌, length};
+ghost use Rattle.std.specs.Prelude.{◌≡◌, length};
 ghost use Rattle.ref_base.specs.Members.{has};
 ghost use Rattle.ref_objects.specs.Grounds.{is_unmarked, with_mark, without_marks, unmarked, least_from};
 
@@ -32,7 +32,6 @@ impl<A: Allocator + Copy> Objects<A> {
     pub fn mark(&mut self, no: ObjNo) -> bool
         ensures answer { result ≡ is_unmarked self.old no }
         ensures after { self.new ≡ with_mark self.old no }
-        ensures few { length self.new.marked ≤ self.new.heap.config.cells }
     {
         // Gives the proof that the numbers rise.
         let _count = self.table.len();
@@ -48,9 +47,7 @@ impl<A: Allocator + Copy> Objects<A> {
 
     /// How many objects aren't marked. In constant time.
     pub fn unmarked_count(&self) -> usize
-        ensures count { result ≡ length (unmarked self.now.heap.objects self.now.marked) }
-        ensures few { result ≤ self.now.heap.config.cells }
-        ensures marked_few { length self.now.marked ≤ length self.now.heap.objects }
+        ensures { result ≡ length (unmarked self.now.heap.objects self.now.marked) }
     {
         self.table.len() - self.table.marked_count()
     }

@@ -1,13 +1,12 @@
 //! What one reads of a heap's objects.
 
-ghost use Rattle.std.specs.Prelude.{◌≡◌, ◌+◌, ◌≤◌, IfOk, length};
+ghost use Rattle.std.specs.Prelude.{◌≡◌, ◌+◌, IfOk, length};
 ghost use Rattle.ref_base.specs.Members.{has};
 ghost use Rattle.ref_base.specs.Graphs.{object_at, is_there, numbers};
-ghost use Rattle.ref_base.specs.Strengths.{IsRising};
 ghost use Rattle.ref_base.specs.Heaps.{slot_at, reference_at, registered_in};
 ghost use Rattle.ref_base.specs.CollectorRows.{referent_of};
 ghost use Rattle.ref_base.specs.Refusals.{drop_refusal};
-ghost use Rattle.ref_objects.specs.Grounds.{IsRefused, fields_in, kind_in, stamp_in, least_from, AllBelow, IsInOrder};
+ghost use Rattle.ref_objects.specs.Grounds.{IsRefused, fields_in, kind_in, stamp_in, least_from, IsWellFormed};
 
 use super::Objects;
 use crate::fields::Fields;
@@ -45,23 +44,25 @@ impl<A: Allocator + Copy> Objects<A> {
         self.next
     }
 
-    /// How many objects there are. Their numbers rise, and are below the next.
+    /// What holds of every heap, for whoever proves something of one: that it is well formed. It does nothing.
+    pub fn facts(&self)
+        ensures { IsWellFormed self.now }
+    {
+        // Gives the proof that the numbers rise.
+        let _count = self.table.len();
+    }
+
+    /// How many objects there are.
     pub fn object_count(&self) -> usize
-        ensures count { result ≡ length self.now.heap.objects }
-        ensures few { result ≤ self.now.heap.config.cells }
-        ensures orderly { IsRising (numbers self.now.heap.objects) }
-        ensures given { AllBelow self.now.next (numbers self.now.heap.objects) }
+        ensures { result ≡ length self.now.heap.objects }
     {
         self.table.len()
     }
 
-    /// How many holds are out. What they hold is listed in order of number.
+    /// How many holds are out.
     pub fn hold_count(&self) -> u64
-        ensures count { result ≡ length self.now.heap.holds }
-        ensures in_order { IsInOrder self.now.heap.holds }
+        ensures { result ≡ length self.now.heap.holds }
     {
-        // Gives the proof that the numbers rise.
-        let _count = self.table.len();
         self.holds
     }
 
@@ -73,11 +74,11 @@ impl<A: Allocator + Copy> Objects<A> {
     }
 
     /// What a slot holds: an object or null. The one error is `NoSuchActor`.
-    pub fn slot_of(&self, m: MutNo, slot: SlotNo) -> Result<Option<ObjNo>, Fault>
-        ensures refused { IsRefused (drop_refusal self.now.heap m slot) result }
-        ensures answer { IfOk result (λ value. value ≡ slot_at self.now.heap m slot) }
+    pub fn slot_of(&self, mutator: MutNo, slot: SlotNo) -> Result<Option<ObjNo>, Fault>
+        ensures refused { IsRefused (drop_refusal self.now.heap mutator slot) result }
+        ensures answer { IfOk result (λ value. value ≡ slot_at self.now.heap mutator slot) }
     {
-        let place = self.place(m, slot)?;
+        let place = self.place(mutator, slot)?;
         Ok(self.slots[place])
     }
 
@@ -156,7 +157,8 @@ impl<A: Allocator + Copy> Objects<A> {
         self.table.first_from(no)
     }
 
-    /// The least number from this one on of an object that is held. In logarithmic time, and that of the objects between.
+    /// The least number from this one on of an object that is held. In logarithmic time, and that of the objects
+    /// between.
     pub fn held_from(&self, no: ObjNo) -> Option<ObjNo>
         ensures { result ≡ least_from self.now.heap.holds no }
     {

@@ -1,11 +1,10 @@
 use Rattle.std.proofs.Common.{◌≡◌, drop, []}
-use Rattle.ref_base.specs.GraphViews.{graph_of}
 use Rattle.ref_base.specs.Searches.{added_all, phantom_referents}
 use Rattle.ref_base.proofs.reachability.hung_on.Given as goal
 
 -- adding what hangs on the objects that are left ends as adding what hangs on any of them does
 abbrev pub invariant-loop-no : goal.invariant-loop-no
 invariant-loop-no g l =
-    added_all (graph_of l.graph).objects l.hung.keys
-    (phantom_referents (graph_of l.graph).objects (drop l.no-index l.reached.keys))
-    ≡ added_all (graph_of l.graph).objects [] (phantom_referents (graph_of l.graph).objects l.reached.keys)
+    added_all l.graph.objects l.hung.keys
+    (phantom_referents l.graph.objects (drop l.no-index l.reached.keys))
+    ≡ added_all l.graph.objects [] (phantom_referents l.graph.objects l.reached.keys)

@@ -1,15 +1,14 @@
 use Rattle.std.proofs.Common.{◌≡◌, true, sym, ◌∙◌}
 use Rattle.ref_base.specs.Graphs.{is_there}
-use Rattle.ref_base.specs.GraphViews.{graph_of}
 use Rattle.ref_base.proofs.StrengthLaws.{AreFound-reach}
 use Rattle.ref_base.proofs.reachability.strength_of.Goals as goal
 
 pub returns-in-Ok : goal.returns-in-Ok
 returns-in-Ok g c =
-    let there : is_there (graph_of c.args.graph.now).objects c.args.no ≡ true =
+    let there : is_there c.args.graph.now.objects c.args.no ≡ true =
     sym c.has_object.ensures ∙ c.if-not-has_object.false in (
       there,
-      AreFound-reach (graph_of c.args.graph.now) c.in-Ok.found.strong.keys c.in-Ok.found.soft.keys
+      AreFound-reach c.args.graph.now c.in-Ok.found.strong.keys c.in-Ok.found.soft.keys
           c.in-Ok.found.weak.keys c.in-Ok.found.hung.keys c.in-Ok.ensures c.args.no there c.reach_of.result
           c.reach_of.ensures,
     )

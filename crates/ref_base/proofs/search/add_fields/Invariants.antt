@@ -1,5 +1,4 @@
 use Rattle.std.proofs.Common.{◌≡◌, drop}
-use Rattle.ref_base.specs.GraphViews.{graph_of}
 use Rattle.ref_base.specs.Paths.{present}
 use Rattle.ref_base.specs.Searches.{added_all}
 use Rattle.ref_base.proofs.search.add_fields.Given as goal
@@ -7,5 +6,5 @@ use Rattle.ref_base.proofs.search.add_fields.Given as goal
 -- adding what is left of the fields ends as adding all of them does
 abbrev pub invariant-loop-field : goal.invariant-loop-field
 invariant-loop-field g l =
-    added_all (graph_of l.graph).objects l.seen.keys (present (drop l.field-index l.fields))
-    ≡ added_all (graph_of l.graph).objects l.initial.seen.keys (present l.fields)
+    added_all l.graph.objects l.seen.keys (present (drop l.field-index l.fields))
+    ≡ added_all l.graph.objects l.initial.seen.keys (present l.fields)

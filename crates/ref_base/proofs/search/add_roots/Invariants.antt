@@ -1,10 +1,9 @@
 use Rattle.std.proofs.Common.{◌≡◌, drop}
-use Rattle.ref_base.specs.GraphViews.{graph_of}
 use Rattle.ref_base.specs.Searches.{added_all}
 use Rattle.ref_base.proofs.search.add_roots.Given as goal
 
 -- adding what is left of the roots ends as adding all of them does
 abbrev pub invariant-loop-root : goal.invariant-loop-root
 invariant-loop-root g l =
-    added_all (graph_of l.graph).objects l.seen.keys (drop l.root-index l.roots)
-    ≡ added_all (graph_of l.graph).objects l.initial.seen.keys l.roots
+    added_all l.graph.objects l.seen.keys (drop l.root-index l.roots)
+    ≡ added_all l.graph.objects l.initial.seen.keys l.roots

@@ -1,4 +1,3 @@
-use Rattle.ref_base.specs.GraphViews.{graph_of}
 use Rattle.refrun.specs.DeclarationViews.{declared_by}
 use Rattle.refrun.specs.Lines.{words_of}
 use Rattle.refrun.proofs.GraphLines.{fails_by_double}
@@ -6,6 +5,6 @@ use Rattle.refrun.proofs.graph_text.add_line.Goals as goal
 
 pub returns-then-not-branch-clause-fault : goal.returns-then-not-branch-clause-fault
 returns-then-not-branch-clause-fault g c =
-    fails_by_double (words_of c.args.content.now) c.args.number (graph_of c.args.graph.now)
-    (graph_of c.add_declaration.new.graph) (declared_by c.in-Ok.declaration) c.in_ok-add_declaration.field-0
+    fails_by_double (words_of c.args.content.now) c.args.number c.args.graph.now
+    c.add_declaration.new.graph (declared_by c.in-Ok.declaration) c.in_ok-add_declaration.field-0
     c.in-Ok.ensures.found c.in_ok-add_declaration.ensures.ok c.if-not-branch.true

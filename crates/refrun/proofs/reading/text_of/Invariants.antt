@@ -1,4 +1,5 @@
-use Rattle.std.proofs.Common.{◌-◌, vec_len}
+use Rattle.std.proofs.Common.{◌+◌, ◌-◌, vec_len}
+use Rattle.refrun.specs.Lines.{most_bytes}
 use Rattle.refrun.proofs.ReadLemmas.{IsReading}
 use Rattle.refrun.proofs.reading.text_of.Given as goal
 
@@ -8,4 +9,4 @@ invariant-loop-reader g l =
     (g.R.TextSource.has_failed l.fn.reader) (g.R.TextSource.has_failed l.reader) l.text.items (vec_len l.chunk)
 
 abbrev pub decreases-loop-reader : goal.decreases-loop-reader
-decreases-loop-reader g l = 4194305 - vec_len l.text
+decreases-loop-reader g l = most_bytes + 1 - vec_len l.text

@@ -2,45 +2,48 @@ use Rattle.std.proofs.Common.{refl, sym, ◌∙◌, true, false, arith, ◌≡�
 use Rattle.ref_base.proofs.StoreLaws.{is_there-objects_in, with_object-same, stored-new}
 use Rattle.ref_base.specs.Graphs.{is_there}
 use Rattle.ref_base.specs.GraphViews.{objects_in, reference_of}
+use Rattle.ref_base.proofs.graph.Graph.add.Goals.{in-Ok, in-Err}
 use Rattle.ref_base.proofs.graph.Graph.add.Goals as goal
 
 pub returns-then-contains_key-clause-answer : goal.returns-then-contains_key-clause-answer
 returns-then-contains_key-clause-answer g c =
-    let there : is_there (objects_in c.args.self.now.objects.entries) c.args.no ≡ true =
-    sym (is_there-objects_in c.args.self.now.objects.entries c.args.no) ∙ sym c.contains_key.ensures
+    let there : is_there (objects_in c.self.inside.objects.entries) c.args.no ≡ true =
+    sym (is_there-objects_in c.self.inside.objects.entries c.args.no) ∙ sym c.contains_key.ensures
     ∙ c.if-contains_key.true in
-    (omega arith, rw there refl)
+    rw (← c.self.view_is) (omega arith, rw there refl)
 
 pub returns-then-contains_key-clause-after : goal.returns-then-contains_key-clause-after
 returns-then-contains_key-clause-after g c =
-    let there : is_there (objects_in c.args.self.now.objects.entries) c.args.no ≡ true =
-    sym (is_there-objects_in c.args.self.now.objects.entries c.args.no) ∙ sym c.contains_key.ensures
+    let there : is_there (objects_in c.self.inside.objects.entries) c.args.no ≡ true =
+    sym (is_there-objects_in c.self.inside.objects.entries c.args.no) ∙ sym c.contains_key.ensures
     ∙ c.if-contains_key.true in
-    let same = with_object-same c.args.self.now.objects.entries
+    let same = with_object-same c.self.inside.objects.entries
     (record { no = c.args.no; fields = c.args.fields.now; reference = reference_of c.args.link })
     c.len-count.ensures.ordered there in
-    rw same refl
+    rw (← c.self.view_is, same) refl
 
-pub returns-in-Err-clause-answer : goal.returns-in-Err-clause-answer
-returns-in-Err-clause-answer g c = (
-  omega arith,
-  sym (is_there-objects_in c.args.self.now.objects.entries c.args.no) ∙ sym c.contains_key.ensures
-      ∙ c.if-contains_key.false,
-)
-
-pub returns-in-Ok-clause-answer : goal.returns-in-Ok-clause-answer
-returns-in-Ok-clause-answer g c =
-    let absent : is_there (objects_in c.args.self.now.objects.entries) c.args.no ≡ false =
-    sym (is_there-objects_in c.args.self.now.objects.entries c.args.no) ∙ sym c.contains_key.ensures
+pub returns-clause-answer : goal.returns-clause-answer
+returns-clause-answer g c =
+    let absent : is_there (objects_in c.self.inside.objects.entries) c.args.no ≡ false =
+    sym (is_there-objects_in c.self.inside.objects.entries c.args.no) ∙ sym c.contains_key.ensures
     ∙ c.if-contains_key.false in
-    (omega arith, rw absent refl)
+    rw (← c.self.view_is)
+    (elim c.match-insert.branch [
+      | in-Ok w ↦ rw w.result-is (omega arith, rw absent refl)
+      | in-Err w ↦ rw w.result-is (omega arith, absent)
+    ])
 
-pub returns-in-Ok-clause-after : goal.returns-in-Ok-clause-after
-returns-in-Ok-clause-after g c =
-    let absent : is_there (objects_in c.args.self.now.objects.entries) c.args.no ≡ false =
-    sym (is_there-objects_in c.args.self.now.objects.entries c.args.no) ∙ sym c.contains_key.ensures
+pub returns-clause-after : goal.returns-clause-after
+returns-clause-after g c =
+    let absent : is_there (objects_in c.self.inside.objects.entries) c.args.no ≡ false =
+    sym (is_there-objects_in c.self.inside.objects.entries c.args.no) ∙ sym c.contains_key.ensures
     ∙ c.if-contains_key.false in
-    let is = stored-new c.args.self.now.objects.entries c.insert.new.self.entries c.args.no
-    (record { fields = c.new.result; link = c.args.link }) c.args.fields.now absent c.new.ensures
-    c.in-Ok.ensures.entries in
-    rw is refl
+    rw (← c.self.view_is)
+    (elim c.match-insert.branch [
+      | in-Ok w ↦
+          let is = stored-new c.self.inside.objects.entries c.insert.new.self.entries c.args.no
+          (record { fields = c.new.result; link = c.args.link }) c.args.fields.now absent c.new.ensures
+          w.in-Ok.ensures.entries in
+          rw (w.result-is, is) refl
+      | in-Err w ↦ rw (w.result-is, w.in-Err.ensures.err) refl
+    ])

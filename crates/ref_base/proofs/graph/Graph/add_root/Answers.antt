@@ -1,14 +1,21 @@
 use Rattle.std.proofs.Common.{◌∙◌, refl}
 use Rattle.ref_base.proofs.HasLaws.{has-list_any}
+use Rattle.ref_base.proofs.graph.Graph.add_root.Goals.{in-Ok, in-Err}
 use Rattle.ref_base.proofs.graph.Graph.add_root.Goals as goal
 
-pub returns-in-Ok-clause-answer : goal.returns-in-Ok-clause-answer
-returns-in-Ok-clause-answer g c = rw (has-list_any c.args.self.now.roots.keys c.args.no) c.in-Ok.ensures.added
+pub returns-clause-answer : goal.returns-clause-answer
+returns-clause-answer g c =
+    rw (← c.self.view_is)
+    (elim c.match-insert.branch [
+      | in-Ok w ↦ rw (w.result-is, has-list_any c.self.inside.roots.keys c.args.no) w.in-Ok.ensures.added
+      | in-Err w ↦ rw w.result-is
+          (refl, has-list_any c.self.inside.roots.keys c.args.no ∙ w.in-Err.ensures.absent)
+    ])
 
-pub returns-in-Ok-clause-after : goal.returns-in-Ok-clause-after
-returns-in-Ok-clause-after g c =
-    rw (has-list_any c.args.self.now.roots.keys c.args.no, c.in-Ok.ensures.keys) refl
-
-pub returns-in-Err-clause-answer : goal.returns-in-Err-clause-answer
-returns-in-Err-clause-answer g c =
-    (refl, has-list_any c.args.self.now.roots.keys c.args.no ∙ c.in-Err.ensures.absent)
+pub returns-clause-after : goal.returns-clause-after
+returns-clause-after g c =
+    rw (← c.self.view_is)
+    (elim c.match-insert.branch [
+      | in-Ok w ↦ rw (w.result-is, has-list_any c.self.inside.roots.keys c.args.no, w.in-Ok.ensures.keys) refl
+      | in-Err w ↦ rw (w.result-is, w.in-Err.ensures.err) refl
+    ])

@@ -2,7 +2,7 @@ use Rattle.std.proofs.Common.{◌≡◌, true, Some, sym, ap, subst, ◌∙◌}
 use Rattle.ref_base.specs.Graphs.{Reference}
 use Rattle.ref_base.specs.Paths.{is_soft}
 use Rattle.ref_base.specs.Heaps.{reference_at}
-use Rattle.ref_mark.specs.Marks.{Mark}
+use Rattle.ref_mark.specs.CycleHeaps.{CycleHeap}
 use Rattle.ref_mark.specs.MarkViews.{seen}
 use Rattle.ref_mark.proofs.BarrierLemmas.{stamped_renewed, unstamped_renewed, unrenewed}
 use Rattle.ref_mark.proofs.marker.Marker.renew.Goals.{else-is_soft-via-then-is_soft+else-is_some}
@@ -12,9 +12,9 @@ use Rattle.ref_mark.proofs.marker.Marker.renew.Goals as goal
 pub returns-then-is_some : goal.returns-then-is_some
 returns-then-is_some g c =
     let m = c.self.inside in
-    let k : Mark = seen m.objects m.grey m.found.items m.phase m.urgency m.cycle in
+    let k : CycleHeap = seen m.objects m.grey m.found.items m.phase m.urgency m.cycle in
     let found : reference_at k.heap c.args.no ≡ Some c.args.reference =
-    subst (λ (j : Mark). reference_at j.heap c.args.no ≡ Some c.args.reference) (sym c.self.view_is) c.requires in
+    subst (λ (j : CycleHeap). reference_at j.heap c.args.no ≡ Some c.args.reference) (sym c.self.view_is) c.requires in
     let soft : is_soft c.args.reference.strength ≡ true =
     ap (λ (r : Reference). is_soft r.strength) (sym c.reference.view_is) ∙ sym c.is_soft.ensures
     ∙ c.if-is_soft.true in

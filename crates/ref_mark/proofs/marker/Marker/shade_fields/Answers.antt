@@ -2,17 +2,17 @@ use Rattle.std.proofs.Common.{◌≡◌, ◌<◌, List, length, Option, ap, subs
 use Rattle.std.specs.Prelude.{slice_index_or, None, ℕ}
 use Rattle.ref_base.specs.Graphs.{object_at}
 use Rattle.ref_objects.specs.Grounds.{fields_in}
-use Rattle.ref_mark.specs.Marks.{Mark, shaded_if_any}
+use Rattle.ref_mark.specs.CycleHeaps.{CycleHeap, shaded_if_any}
 use Rattle.ref_mark.proofs.LoopLemmas.{shaded_more}
 use Rattle.ref_mark.proofs.marker.Marker.shade_fields.Goals as goal
 
 pub loop-field-preserved : goal.loop-field-preserved
 loop-field-preserved g c =
-    let start : Mark = c.args.self.now in
-    let k : Mark = c.loop-field.self in
+    let start : CycleHeap = c.args.self.now in
+    let k : CycleHeap = c.loop-field.self in
     let fields : List (Option ℕ) = fields_in (object_at start.heap.objects c.args.no) in
     let own : c.fields_of-fields.result ≡ fields =
-    subst (λ (j : Mark). c.fields_of-fields.result ≡ fields_in (object_at j.heap.objects c.args.no)) c.self.view_is
+    subst (λ (j : CycleHeap). c.fields_of-fields.result ≡ fields_in (object_at j.heap.objects c.args.no)) c.self.view_is
     c.fields_of-fields.ensures in
     let within : c.loop-field.field < length fields =
     subst (λ n. c.loop-field.field < n) (c.len-field-end.ensures ∙ ap length own) c.loop-field-test.true in

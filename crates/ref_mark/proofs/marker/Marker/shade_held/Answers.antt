@@ -1,18 +1,19 @@
 use Rattle.std.proofs.Common.{◌≡◌, ℕ, ◌+◌, ◌<◌, length, Option, Some, sym, ap, refl, subst, ◌∙◌}
 use Rattle.ref_base.specs.Heaps.{Heap}
 use Rattle.ref_objects.specs.Grounds.{least_from, IsInOrder}
-use Rattle.ref_mark.specs.Marks.{Mark, shaded}
+use Rattle.ref_mark.specs.CycleHeaps.{CycleHeap, shaded}
 use Rattle.ref_mark.proofs.LoopLemmas.{IsHeldFrom, still_held, held_from_first, held_after_turn, fewer_after_turn}
 use Rattle.ref_mark.proofs.LoopLemmas.{shaded_once-heap}
 use Rattle.ref_mark.proofs.marker.Marker.shade_held.Goals as goal
 
 pub loop-held-init : goal.loop-held-init
 loop-held-init g c =
-    let start : Mark = c.args.self.now in
+    let start : CycleHeap = c.args.self.now in
     let first : c.held_from-held.result ≡ least_from start.heap.holds 0 =
-    subst (λ (k : Mark). c.held_from-held.result ≡ least_from k.heap.holds 0) c.self.view_is c.held_from-held.ensures in
+    subst (λ (k : CycleHeap). c.held_from-held.result ≡ least_from k.heap.holds 0) c.self.view_is
+    c.held_from-held.ensures in
     let order : IsInOrder start.heap.holds =
-    subst (λ (k : Mark). IsInOrder k.heap.holds) c.self.view_is c.hold_count.ensures.in_order in (
+    subst (λ (k : CycleHeap). IsInOrder k.heap.holds) c.self.view_is c.facts.ensures.held in (
       subst (λ (next : Option ℕ). IsHeldFrom start start next start.heap.holds) (sym first)
           (held_from_first start start.heap.holds),
       refl,
@@ -21,16 +22,17 @@ loop-held-init g c =
 
 pub loop-held-smaller : goal.loop-held-smaller
 loop-held-smaller g c =
-    let start : Mark = c.args.self.now in
-    let k : Mark = c.loop-held.self in
+    let start : CycleHeap = c.args.self.now in
+    let k : CycleHeap = c.loop-held.self in
     let holds = start.heap.holds in
     let now : IsHeldFrom start k (Some c.in-Some.no) holds =
     subst (λ (next : Option ℕ). IsHeldFrom start k next holds) c.in-Some.is c.loop-held.invariant.0 in
     let next : c.held_after-held.result ≡ least_from holds (c.in-Some.no + 1) =
-    subst (λ (j : Mark). c.held_after-held.result ≡ least_from j.heap.holds (c.in-Some.no + 1)) c.self-in-Some.view_is
+    subst (λ (j : CycleHeap). c.held_after-held.result ≡ least_from j.heap.holds
+    (c.in-Some.no + 1)) c.self-in-Some.view_is
     c.held_after-held.ensures
     ∙ ap (λ (h : Heap). least_from h.holds (c.in-Some.no + 1))
-    (ap (λ (j : Mark). j.heap) c.shade.ensures ∙ shaded_once-heap k c.in-Some.no ∙ c.loop-held.invariant.1) in
+    (ap (λ (j : CycleHeap). j.heap) c.shade.ensures ∙ shaded_once-heap k c.in-Some.no ∙ c.loop-held.invariant.1) in
     subst (λ (n : Option ℕ). length (still_held n holds) < length (still_held c.loop-held.held holds)) (sym next)
     (subst (λ (n : Option ℕ). length (still_held (least_from holds (c.in-Some.no + 1)) holds) < length
     (still_held n holds))
@@ -38,17 +40,18 @@ loop-held-smaller g c =
 
 pub loop-held-preserved : goal.loop-held-preserved
 loop-held-preserved g c =
-    let start : Mark = c.args.self.now in
-    let k : Mark = c.loop-held.self in
+    let start : CycleHeap = c.args.self.now in
+    let k : CycleHeap = c.loop-held.self in
     let holds = start.heap.holds in
     let now : IsHeldFrom start k (Some c.in-Some.no) holds =
     subst (λ (next : Option ℕ). IsHeldFrom start k next holds) c.in-Some.is c.loop-held.invariant.0 in
     let heap : c.shade.new.self.heap ≡ start.heap =
-    ap (λ (j : Mark). j.heap) c.shade.ensures ∙ shaded_once-heap k c.in-Some.no ∙ c.loop-held.invariant.1 in
+    ap (λ (j : CycleHeap). j.heap) c.shade.ensures ∙ shaded_once-heap k c.in-Some.no ∙ c.loop-held.invariant.1 in
     let next : c.held_after-held.result ≡ least_from holds (c.in-Some.no + 1) =
-    subst (λ (j : Mark). c.held_after-held.result ≡ least_from j.heap.holds (c.in-Some.no + 1)) c.self-in-Some.view_is
+    subst (λ (j : CycleHeap). c.held_after-held.result ≡ least_from j.heap.holds
+    (c.in-Some.no + 1)) c.self-in-Some.view_is
     c.held_after-held.ensures ∙ ap (λ (h : Heap). least_from h.holds (c.in-Some.no + 1)) heap in (
-      subst (λ (j : Mark). IsHeldFrom start j c.held_after-held.result holds) (sym c.shade.ensures)
+      subst (λ (j : CycleHeap). IsHeldFrom start j c.held_after-held.result holds) (sym c.shade.ensures)
           (subst (λ (n : Option ℕ). IsHeldFrom start (shaded k c.in-Some.no) n holds) (sym next)
           (held_after_turn start k c.in-Some.no holds c.loop-held.invariant.2 now)),
       heap,

@@ -2,44 +2,44 @@ use Rattle.std.proofs.Common.{◌≡◌, ◌<◌, sym, ◌∙◌, ap, subst}
 use Rattle.ref_base.specs.CollectorRows.{list_at}
 use Rattle.ref_base.specs.declared.phase.Phase.TheVariants.{Clearing}
 use Rattle.ref_mark.specs.Worklists.{first_in}
-use Rattle.ref_mark.specs.Marks.{Mark}
+use Rattle.ref_mark.specs.CycleHeaps.{CycleHeap}
 use Rattle.ref_mark.specs.MarkViews.{lists_of}
 use Rattle.ref_mark.proofs.RoomLemmas.{worker_within, stands_as_seen, roomy_taken, seen_taken}
 use Rattle.ref_mark.proofs.marker.Marker.take_found.Goals as goal
 
 pub invariant_of-self : goal.invariant_of-self
 invariant_of-self g c =
-    let same : c.w.inside.0 ≡ c.args.w = c.w.view_is in
-    let now : c.args.w < c.args.self.now.heap.config.workers =
-    worker_within c.args.self.now.heap c.args.self.now.phase Clearing c.args.w c.in_ok-check_work.ensures in
-    let worker : c.w.inside.0 < c.self.inside.objects.heap.config.workers =
-    subst (λ (k : Mark). c.w.inside.0 < k.heap.config.workers) (sym c.self.view_is)
+    let same : c.worker.inside.0 ≡ c.args.worker = c.worker.view_is in
+    let now : c.args.worker < c.args.self.now.heap.config.workers =
+    worker_within c.args.self.now.heap c.args.self.now.phase Clearing c.args.worker c.in_ok-check_work.ensures in
+    let worker : c.worker.inside.0 < c.self.inside.objects.heap.config.workers =
+    subst (λ (k : CycleHeap). c.worker.inside.0 < k.heap.config.workers) (sym c.self.view_is)
     (subst (λ w. w < c.args.self.now.heap.config.workers) (sym same) now) in
-    roomy_taken c.w.inside.0 worker c.index_mut.ensures.value c.self.invariant c.take_first.ensures.after
+    roomy_taken c.worker.inside.0 worker c.index_mut.ensures.value c.self.invariant c.take_first.ensures.after
 
 pub returns-clause-answer : goal.returns-clause-answer
 returns-clause-answer g c =
-    let same : c.w.inside.0 ≡ c.args.w = c.w.view_is in
-    let now : c.args.w < c.args.self.now.heap.config.workers =
-    worker_within c.args.self.now.heap c.args.self.now.phase Clearing c.args.w c.in_ok-check_work.ensures in
-    let worker : c.w.inside.0 < c.self.inside.objects.heap.config.workers =
-    subst (λ (k : Mark). c.w.inside.0 < k.heap.config.workers) (sym c.self.view_is)
+    let same : c.worker.inside.0 ≡ c.args.worker = c.worker.view_is in
+    let now : c.args.worker < c.args.self.now.heap.config.workers =
+    worker_within c.args.self.now.heap c.args.self.now.phase Clearing c.args.worker c.in_ok-check_work.ensures in
+    let worker : c.worker.inside.0 < c.self.inside.objects.heap.config.workers =
+    subst (λ (k : CycleHeap). c.worker.inside.0 < k.heap.config.workers) (sym c.self.view_is)
     (subst (λ w. w < c.args.self.now.heap.config.workers) (sym same) now) in
-    let stands : c.index_mut.result.now.stands ≡ list_at (lists_of c.self.inside.found.items) c.w.inside.0 =
-    stands_as_seen c.w.inside.0 worker c.index_mut.ensures.value c.self.invariant in
+    let stands : c.index_mut.result.now.stands ≡ list_at (lists_of c.self.inside.found.items) c.worker.inside.0 =
+    stands_as_seen c.worker.inside.0 worker c.index_mut.ensures.value c.self.invariant in
     rw (← c.self.view_is, ← same) (c.take_first.ensures.answer ∙ ap first_in stands)
 
 pub returns-clause-after : goal.returns-clause-after
 returns-clause-after g c =
-    let same : c.w.inside.0 ≡ c.args.w = c.w.view_is in
-    let now : c.args.w < c.args.self.now.heap.config.workers =
-    worker_within c.args.self.now.heap c.args.self.now.phase Clearing c.args.w c.in_ok-check_work.ensures in
-    let worker : c.w.inside.0 < c.self.inside.objects.heap.config.workers =
-    subst (λ (k : Mark). c.w.inside.0 < k.heap.config.workers) (sym c.self.view_is)
+    let same : c.worker.inside.0 ≡ c.args.worker = c.worker.view_is in
+    let now : c.args.worker < c.args.self.now.heap.config.workers =
+    worker_within c.args.self.now.heap c.args.self.now.phase Clearing c.args.worker c.in_ok-check_work.ensures in
+    let worker : c.worker.inside.0 < c.self.inside.objects.heap.config.workers =
+    subst (λ (k : CycleHeap). c.worker.inside.0 < k.heap.config.workers) (sym c.self.view_is)
     (subst (λ w. w < c.args.self.now.heap.config.workers) (sym same) now) in
-    let stands : c.index_mut.result.now.stands ≡ list_at (lists_of c.self.inside.found.items) c.w.inside.0 =
-    stands_as_seen c.w.inside.0 worker c.index_mut.ensures.value c.self.invariant in
+    let stands : c.index_mut.result.now.stands ≡ list_at (lists_of c.self.inside.found.items) c.worker.inside.0 =
+    stands_as_seen c.worker.inside.0 worker c.index_mut.ensures.value c.self.invariant in
     rw (← c.self.view_is, ← same)
     (seen_taken c.self.inside.objects c.self.inside.grey c.self.inside.found.items c.self.inside.phase
-    c.self.inside.urgency c.self.inside.cycle c.w.inside.0 c.index_mut.result.now c.take_first.new.self stands
+    c.self.inside.urgency c.self.inside.cycle c.worker.inside.0 c.index_mut.result.now c.take_first.new.self stands
     c.take_first.ensures.after)

@@ -1,7 +1,7 @@
 use Rattle.std.proofs.Common.{◌≡◌, [], ◌∙◌, ap}
 use Rattle.ref_base.specs.CollectorRows.{emptied as none_found}
 use Rattle.ref_objects.specs.Grounds.{Ground}
-use Rattle.ref_mark.specs.Marks.{Mark}
+use Rattle.ref_mark.specs.CycleHeaps.{CycleHeap}
 use Rattle.ref_mark.specs.MarkViews.{lists_of}
 use Rattle.ref_mark.proofs.RoomLemmas.{roomy_cleared, roomy_whitened}
 use Rattle.ref_mark.proofs.marker.Marker.whiten.Goals as goal
@@ -17,8 +17,8 @@ invariant_of-self-2 g c =
     let unmarked : c.set_clock.new.self.marked ≡ [] =
     ap (λ (h : Ground). h.marked) c.set_clock.ensures ∙ ap (λ (h : Ground). h.marked) c.unmark_all.ensures in
     let white : c.self-2.inside.grey.stands ≡ [] =
-    ap (λ (k : Mark). k.grey) c.self-2.view_is ∙ ap (λ (k : Mark). k.grey) c.forget_found.ensures
+    ap (λ (k : CycleHeap). k.grey) c.self-2.view_is ∙ ap (λ (k : CycleHeap). k.grey) c.forget_found.ensures
     ∙ ap (λ l. l.stands) c.clear.ensures in
     let none : lists_of c.self-2.inside.found.items ≡ none_found (lists_of c.self.inside.found.items) =
-    ap (λ (k : Mark). k.found) c.self-2.view_is ∙ ap (λ (k : Mark). k.found) c.forget_found.ensures in
+    ap (λ (k : CycleHeap). k.found) c.self-2.view_is ∙ ap (λ (k : CycleHeap). k.found) c.forget_found.ensures in
     roomy_whitened (lists_of c.self.inside.found.items) config unmarked white none c.self-2.invariant

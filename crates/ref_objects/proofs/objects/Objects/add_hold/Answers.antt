@@ -1,8 +1,8 @@
 use Rattle.std.proofs.Common.{◌≡◌, true, false, refl, sym, ◌∙◌}
 use Rattle.std.specs.Option.{is_some}
 use Rattle.ref_base.specs.Graphs.{is_there}
-use Rattle.ref_objects.specs.Tables.{Table, kept_at, objects_of, more_held}
-use Rattle.ref_objects.proofs.KeptLemmas.{is_there-objects_of}
+use Rattle.ref_objects.specs.Tables.{Table, tabled_at, objects_of, more_held}
+use Rattle.ref_objects.proofs.TabledLemmas.{is_there-objects_of}
 use Rattle.ref_objects.proofs.ChangeLemmas.{changed-none}
 use Rattle.ref_objects.proofs.GroundLemmas.{sound_added, seen_added}
 use Rattle.ref_objects.proofs.objects.Objects.add_hold.Goals as goal
@@ -10,44 +10,44 @@ use Rattle.ref_objects.proofs.objects.Objects.add_hold.Goals as goal
 pub invariant_of-self : goal.invariant_of-self
 invariant_of-self g c =
     let t : Table = c.self.inside.table in
-    let kept : is_some (kept_at t.kept c.args.no) ≡ true =
+    let tabled : is_some (tabled_at t.tabled c.args.no) ≡ true =
     sym c.add_hold-is_there.ensures.there ∙ c.if-is_there.true in
     rw c.add_hold-is_there.ensures.after
     (sound_added c.self.inside.config t c.self.inside.slots.items c.self.inside.holds c.self.inside.next c.args.no
-    c.self.invariant c.len-count.ensures.orderly.rising kept)
+    c.self.invariant c.len-count.ensures.orderly.rising tabled)
 
 pub invariant_of-self-else-is_there : goal.invariant_of-self-else-is_there
 invariant_of-self-else-is_there g c =
     let t : Table = c.self.inside.table in
-    let gone : is_some (kept_at t.kept c.args.no) ≡ false =
+    let gone : is_some (tabled_at t.tabled c.args.no) ≡ false =
     sym c.add_hold-is_there.ensures.there ∙ c.if-is_there.false in
     rw (c.add_hold-is_there.ensures.after ∙ changed-none t c.args.no more_held gone) c.self.invariant
 
 pub returns-then-is_there-clause-there : goal.returns-then-is_there-clause-there
 returns-then-is_there-clause-there g c =
     rw (← c.self.view_is)
-    (c.add_hold-is_there.ensures.there ∙ sym (is_there-objects_of c.self.inside.table.kept c.args.no))
+    (c.add_hold-is_there.ensures.there ∙ sym (is_there-objects_of c.self.inside.table.tabled c.args.no))
 
 pub returns-then-is_there-clause-after : goal.returns-then-is_there-clause-after
 returns-then-is_there-clause-after g c =
     let t : Table = c.self.inside.table in
-    let kept : is_some (kept_at t.kept c.args.no) ≡ true =
+    let tabled : is_some (tabled_at t.tabled c.args.no) ≡ true =
     sym c.add_hold-is_there.ensures.there ∙ c.if-is_there.true in
-    let there : is_there (objects_of t.kept) c.args.no ≡ true = is_there-objects_of t.kept c.args.no ∙ kept in
+    let there : is_there (objects_of t.tabled) c.args.no ≡ true = is_there-objects_of t.tabled c.args.no ∙ tabled in
     rw (← c.self.view_is, c.add_hold-is_there.ensures.after)
     (simp there
     (seen_added c.self.inside.config c.self.inside.heap_no t c.self.inside.slots.items c.self.inside.clock
-    c.self.inside.next c.args.no c.len-count.ensures.orderly.rising kept))
+    c.self.inside.next c.args.no c.len-count.ensures.orderly.rising tabled))
 
 pub returns-else-is_there-clause-there : goal.returns-else-is_there-clause-there
 returns-else-is_there-clause-there g c =
     rw (← c.self.view_is)
-    (c.add_hold-is_there.ensures.there ∙ sym (is_there-objects_of c.self.inside.table.kept c.args.no))
+    (c.add_hold-is_there.ensures.there ∙ sym (is_there-objects_of c.self.inside.table.tabled c.args.no))
 
 pub returns-else-is_there-clause-after : goal.returns-else-is_there-clause-after
 returns-else-is_there-clause-after g c =
     let t : Table = c.self.inside.table in
-    let gone : is_some (kept_at t.kept c.args.no) ≡ false =
+    let gone : is_some (tabled_at t.tabled c.args.no) ≡ false =
     sym c.add_hold-is_there.ensures.there ∙ c.if-is_there.false in
-    let none : is_there (objects_of t.kept) c.args.no ≡ false = is_there-objects_of t.kept c.args.no ∙ gone in
+    let none : is_there (objects_of t.tabled) c.args.no ≡ false = is_there-objects_of t.tabled c.args.no ∙ gone in
     rw (← c.self.view_is, c.add_hold-is_there.ensures.after ∙ changed-none t c.args.no more_held gone) (simp none refl)

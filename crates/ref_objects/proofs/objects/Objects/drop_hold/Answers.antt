@@ -1,8 +1,8 @@
 use Rattle.std.proofs.Common.{◌≡◌, ◌<◌, true, false, nat_lt, refl, sym, ◌∙◌, arith}
 use Rattle.std.proofs.lemmas.Bool.{ltb-true}
 use Rattle.ref_base.specs.Members.{has}
-use Rattle.ref_objects.specs.Tables.{Table, kept_at, holds_of, holds_in}
-use Rattle.ref_objects.proofs.KeptLemmas.{holds_in-le, has-holds_of}
+use Rattle.ref_objects.specs.Tables.{Table, tabled_at, holds_of, holds_in}
+use Rattle.ref_objects.proofs.TabledLemmas.{holds_in-le, has-holds_of}
 use Rattle.ref_objects.proofs.ChangeLemmas.{changed-unheld}
 use Rattle.ref_objects.proofs.GroundLemmas.{sound_dropped, seen_dropped}
 use Rattle.ref_objects.proofs.objects.Objects.drop_hold.Goals as goal
@@ -10,15 +10,15 @@ use Rattle.ref_objects.proofs.objects.Objects.drop_hold.Goals as goal
 pub overflow_sub-self : goal.overflow_sub-self
 overflow_sub-self g c =
     let t : Table = c.self.inside.table in
-    let held : 0 < holds_in (kept_at t.kept c.args.no) =
-    ltb-true 0 (holds_in (kept_at t.kept c.args.no)) (sym c.drop_hold-was_held.ensures.held ∙ c.if-was_held.true) in
-    omega (arith, held, holds_in-le t.kept c.args.no, c.self.invariant.counted)
+    let held : 0 < holds_in (tabled_at t.tabled c.args.no) =
+    ltb-true 0 (holds_in (tabled_at t.tabled c.args.no)) (sym c.drop_hold-was_held.ensures.held ∙ c.if-was_held.true) in
+    omega (arith, held, holds_in-le t.tabled c.args.no, c.self.invariant.counted)
 
 pub invariant_of-self : goal.invariant_of-self
 invariant_of-self g c =
     let t : Table = c.self.inside.table in
-    let held : 0 < holds_in (kept_at t.kept c.args.no) =
-    ltb-true 0 (holds_in (kept_at t.kept c.args.no)) (sym c.drop_hold-was_held.ensures.held ∙ c.if-was_held.true) in
+    let held : 0 < holds_in (tabled_at t.tabled c.args.no) =
+    ltb-true 0 (holds_in (tabled_at t.tabled c.args.no)) (sym c.drop_hold-was_held.ensures.held ∙ c.if-was_held.true) in
     rw c.drop_hold-was_held.ensures.after
     (sound_dropped c.self.inside.config t c.self.inside.slots.items c.self.inside.holds c.self.inside.next c.args.no
     c.self.invariant c.len-count.ensures.orderly.rising held)
@@ -26,7 +26,7 @@ invariant_of-self g c =
 pub invariant_of-self-else-was_held : goal.invariant_of-self-else-was_held
 invariant_of-self-else-was_held g c =
     let t : Table = c.self.inside.table in
-    let unheld : nat_lt 0 (holds_in (kept_at t.kept c.args.no)) ≡ false =
+    let unheld : nat_lt 0 (holds_in (tabled_at t.tabled c.args.no)) ≡ false =
     sym c.drop_hold-was_held.ensures.held ∙ c.if-was_held.false in
     rw (c.drop_hold-was_held.ensures.after ∙ changed-unheld t c.args.no unheld) c.self.invariant
 
@@ -34,31 +34,31 @@ pub returns-then-was_held-clause-held : goal.returns-then-was_held-clause-held
 returns-then-was_held-clause-held g c =
     rw (← c.self.view_is)
     (c.drop_hold-was_held.ensures.held
-    ∙ sym (has-holds_of c.self.inside.table.kept c.args.no c.len-count.ensures.orderly.rising))
+    ∙ sym (has-holds_of c.self.inside.table.tabled c.args.no c.len-count.ensures.orderly.rising))
 
 pub returns-then-was_held-clause-after : goal.returns-then-was_held-clause-after
 returns-then-was_held-clause-after g c =
     let t : Table = c.self.inside.table in
     let rising = c.len-count.ensures.orderly.rising in
-    let is : nat_lt 0 (holds_in (kept_at t.kept c.args.no)) ≡ true =
+    let is : nat_lt 0 (holds_in (tabled_at t.tabled c.args.no)) ≡ true =
     sym c.drop_hold-was_held.ensures.held ∙ c.if-was_held.true in
-    let listed : has (holds_of t.kept) c.args.no ≡ true = has-holds_of t.kept c.args.no rising ∙ is in
+    let listed : has (holds_of t.tabled) c.args.no ≡ true = has-holds_of t.tabled c.args.no rising ∙ is in
     rw (← c.self.view_is, c.drop_hold-was_held.ensures.after)
     (simp listed
     (seen_dropped c.self.inside.config c.self.inside.heap_no t c.self.inside.slots.items c.self.inside.clock
-    c.self.inside.next c.args.no rising (ltb-true 0 (holds_in (kept_at t.kept c.args.no)) is)))
+    c.self.inside.next c.args.no rising (ltb-true 0 (holds_in (tabled_at t.tabled c.args.no)) is)))
 
 pub returns-else-was_held-clause-held : goal.returns-else-was_held-clause-held
 returns-else-was_held-clause-held g c =
     rw (← c.self.view_is)
     (c.drop_hold-was_held.ensures.held
-    ∙ sym (has-holds_of c.self.inside.table.kept c.args.no c.len-count.ensures.orderly.rising))
+    ∙ sym (has-holds_of c.self.inside.table.tabled c.args.no c.len-count.ensures.orderly.rising))
 
 pub returns-else-was_held-clause-after : goal.returns-else-was_held-clause-after
 returns-else-was_held-clause-after g c =
     let t : Table = c.self.inside.table in
-    let unheld : nat_lt 0 (holds_in (kept_at t.kept c.args.no)) ≡ false =
+    let unheld : nat_lt 0 (holds_in (tabled_at t.tabled c.args.no)) ≡ false =
     sym c.drop_hold-was_held.ensures.held ∙ c.if-was_held.false in
-    let absent : has (holds_of t.kept) c.args.no ≡ false =
-    has-holds_of t.kept c.args.no c.len-count.ensures.orderly.rising ∙ unheld in
+    let absent : has (holds_of t.tabled) c.args.no ≡ false =
+    has-holds_of t.tabled c.args.no c.len-count.ensures.orderly.rising ∙ unheld in
     rw (← c.self.view_is, c.drop_hold-was_held.ensures.after ∙ changed-unheld t c.args.no unheld) (simp absent refl)

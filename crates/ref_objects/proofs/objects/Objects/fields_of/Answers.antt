@@ -1,6 +1,6 @@
 use Rattle.std.proofs.Common.{◌∙◌}
-use Rattle.ref_objects.proofs.GroundLemmas.{fields-kept}
+use Rattle.ref_objects.proofs.GroundLemmas.{fields-tabled}
 use Rattle.ref_objects.proofs.objects.Objects.fields_of.Goals as goal
 
 pub returns : goal.returns
-returns g c = rw (← c.self.view_is) (c.fields.ensures ∙ fields-kept c.self.inside.table.kept c.args.no)
+returns g c = rw (← c.self.view_is) (c.fields.ensures ∙ fields-tabled c.self.inside.table.tabled c.args.no)

@@ -1,5 +1,5 @@
 use Rattle.std.proofs.Common.{◌∙◌}
-use Rattle.ref_objects.proofs.GroundLemmas.{is_unheld-kept, sound_freed, seen_freed}
+use Rattle.ref_objects.proofs.GroundLemmas.{is_unheld-tabled, sound_freed, seen_freed}
 use Rattle.ref_objects.proofs.objects.Objects.free.Goals as goal
 
 pub invariant_of-self : goal.invariant_of-self
@@ -11,7 +11,7 @@ invariant_of-self g c =
 pub returns-clause-answer : goal.returns-clause-answer
 returns-clause-answer g c =
     rw (← c.self.view_is)
-    (c.free.ensures.answer ∙ is_unheld-kept c.self.inside.table.kept c.args.no c.len-count.ensures.orderly.rising)
+    (c.free.ensures.answer ∙ is_unheld-tabled c.self.inside.table.tabled c.args.no c.len-count.ensures.orderly.rising)
 
 pub returns-clause-after : goal.returns-clause-after
 returns-clause-after g c =

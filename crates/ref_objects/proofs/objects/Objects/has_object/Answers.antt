@@ -1,6 +1,6 @@
 use Rattle.std.proofs.Common.{sym, ◌∙◌}
-use Rattle.ref_objects.proofs.KeptLemmas.{is_there-objects_of}
+use Rattle.ref_objects.proofs.TabledLemmas.{is_there-objects_of}
 use Rattle.ref_objects.proofs.objects.Objects.has_object.Goals as goal
 
 pub returns : goal.returns
-returns g c = rw (← c.self.view_is) (c.has.ensures ∙ sym (is_there-objects_of c.self.inside.table.kept c.args.no))
+returns g c = rw (← c.self.view_is) (c.has.ensures ∙ sym (is_there-objects_of c.self.inside.table.tabled c.args.no))

@@ -5,5 +5,5 @@ use Rattle.ref_objects.proofs.objects.Objects.held_after.Goals as goal
 pub returns-in-None : goal.returns-in-None
 returns-in-None g c =
     rw (← c.self.view_is)
-    (sym (least_from-past c.self.inside.table.kept c.self.inside.table.last (c.args.no + 1)
+    (sym (least_from-past c.self.inside.table.tabled c.self.inside.table.last (c.args.no + 1)
     c.len-count.ensures.orderly.given (omega (arith, c.self.invariant.given, c.self.invariant.bounded))))

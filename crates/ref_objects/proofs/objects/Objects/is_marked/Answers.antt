@@ -7,4 +7,4 @@ pub returns : goal.returns
 returns g c =
     rw (← c.self.view_is)
     (c.is_marked.ensures
-    ∙ sym (has-marked_of c.self.inside.table.kept c.args.no c.len-count.ensures.orderly.rising))
+    ∙ sym (has-marked_of c.self.inside.table.tabled c.args.no c.len-count.ensures.orderly.rising))

@@ -3,7 +3,7 @@ use Rattle.ref_base.specs.Heaps.{with_field}
 use Rattle.ref_base.specs.Refusals.{unless}
 use Rattle.ref_base.specs.declared.fault.Fault.TheVariants.{BadField}
 use Rattle.ref_objects.proofs.ChangeLemmas.{changed-past}
-use Rattle.ref_objects.proofs.GroundLemmas.{has_field-kept, sound_changed, seen_changed}
+use Rattle.ref_objects.proofs.GroundLemmas.{has_field-tabled, sound_changed, seen_changed}
 use Rattle.ref_objects.proofs.objects.Objects.set_field.Goals as goal
 
 pub invariant_of-self : goal.invariant_of-self
@@ -22,7 +22,7 @@ pub returns-then-not-set_field-clause-refused : goal.returns-then-not-set_field-
 returns-then-not-set_field-clause-refused g c =
     rw (← c.self.view_is)
     (ap (λ (has : Bool). unless has BadField None)
-    (sym (has_field-kept c.self.inside.table.kept c.args.no c.args.field) ∙ sym c.set_field.ensures.there
+    (sym (has_field-tabled c.self.inside.table.tabled c.args.no c.args.field) ∙ sym c.set_field.ensures.there
     ∙ c.if-not-set_field.true))
 
 pub returns-then-not-set_field-clause-after : goal.returns-then-not-set_field-clause-after
@@ -38,7 +38,7 @@ pub returns-clause-refused : goal.returns-clause-refused
 returns-clause-refused g c =
     rw (← c.self.view_is)
     (ap (λ (has : Bool). unless has BadField None)
-    (sym (has_field-kept c.self.inside.table.kept c.args.no c.args.field) ∙ sym c.set_field.ensures.there
+    (sym (has_field-tabled c.self.inside.table.tabled c.args.no c.args.field) ∙ sym c.set_field.ensures.there
     ∙ c.if-not-set_field.false))
 
 pub returns-clause-after : goal.returns-clause-after

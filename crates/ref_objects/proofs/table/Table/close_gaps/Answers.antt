@@ -11,7 +11,7 @@ invariant_of-self g c =
       index_fits = omega (arith, c.self.invariant.index_fits, c.close_gaps.ensures.capacity);
       places_fit = c.self.invariant.places_fit;
       marks_counted = marks_same
-          (ap (λ (t : Table). t.kept)
+          (ap (λ (t : Table). t.tabled)
           (seen_closed c.self.inside.index.items c.self.inside.last c.deref.ensures.value c.close_gaps.ensures.entries))
           c.self.invariant.marks_counted;
     }

@@ -3,9 +3,9 @@ use Rattle.std.proofs.lemmas.List.{length-set}
 use Rattle.ref_base.specs.Heaps.{with_reference, cleared}
 use Rattle.ref_objects.specs.Tables.{on_object}
 use Rattle.ref_objects.specs.Tables.{Table, changed}
-use Rattle.ref_objects.specs.Places.{kept_by}
+use Rattle.ref_objects.specs.Places.{tabled_by}
 use Rattle.ref_objects.proofs.PlaceLemmas.{IsPlaceOf-lent, IsMissing-lent}
-use Rattle.ref_objects.proofs.ChangeLemmas.{kept_by-changed, seen_changed, placed_changed, seen_missing_changed}
+use Rattle.ref_objects.proofs.ChangeLemmas.{tabled_by-changed, seen_changed, placed_changed, seen_missing_changed}
 use Rattle.ref_objects.proofs.MarkLemmas.{marks_changed}
 use Rattle.ref_objects.proofs.table.Table.cut.Goals as goal
 
@@ -19,9 +19,9 @@ invariant_of-self g c =
           c.index_mut.ensures.value c.cut.ensures;
       index_fits = omega (arith, c.self.invariant.index_fits, size);
       places_fit = omega (arith, c.self.invariant.places_fit, size);
-      marks_counted = marks_changed (kept_by c.self.inside.cells.items c.self.inside.index.items) c.args.no
+      marks_counted = marks_changed (tabled_by c.self.inside.cells.items c.self.inside.index.items) c.args.no
           (on_object (with_reference cleared)) (λ k. refl) (λ k. refl)
-          (kept_by-changed c.self.invariant.placed place (on_object (with_reference cleared))
+          (tabled_by-changed c.self.invariant.placed place (on_object (with_reference cleared))
           (λ k. refl) c.index_mut.ensures.value c.cut.ensures) c.self.invariant.marks_counted;
     }
 

@@ -1,8 +1,8 @@
 use Rattle.std.proofs.Common.{◌≡◌, ◌∙◌, ◌<◌, ap, sym, subst, refl, arith}
 use Rattle.std.proofs.lemmas.List.{length-set}
-use Rattle.ref_objects.specs.Places.{kept_by}
-use Rattle.ref_objects.specs.Tables.{Table, made, with_kept}
-use Rattle.ref_objects.proofs.PushLemmas.{can_make, kept_by-made, seen_made, placed_made}
+use Rattle.ref_objects.specs.Places.{tabled_by}
+use Rattle.ref_objects.specs.Tables.{Table, made, with_tabled}
+use Rattle.ref_objects.proofs.PushLemmas.{can_make, tabled_by-made, seen_made, placed_made}
 use Rattle.ref_objects.proofs.MarkLemmas.{marks_made}
 use Rattle.ref_objects.proofs.table.Table.push.Goals as goal
 
@@ -35,9 +35,9 @@ invariant_of-self g c =
         size,
       );
       places_fit = omega (arith, c.self.invariant.places_fit, c.pop.ensures.capacity, size);
-      marks_counted = marks_made (kept_by c.self.inside.cells.items c.self.inside.index.items)
+      marks_counted = marks_made (tabled_by c.self.inside.cells.items c.self.inside.index.items)
           (made c.args.no c.args.count c.args.reference) refl
-          (kept_by-made c.self.invariant.placed can rises number c.of.ensures c.push_reserved.ensures.items)
+          (tabled_by-made c.self.invariant.placed can rises number c.of.ensures c.push_reserved.ensures.items)
           c.self.invariant.marks_counted;
     }
 
@@ -48,4 +48,4 @@ returns g c =
     let rises = subst (λ (t : Table). t.last < c.args.no) (sym c.self.view_is) c.requires.rises in
     let number : (made c.args.no c.args.count c.args.reference).object.no ≡ c.args.no = refl in
     seen_made c.self.invariant.placed can rises number c.of.ensures c.push_reserved.ensures.items
-    ∙ ap (λ (t : Table). with_kept t (made c.args.no c.args.count c.args.reference)) c.self.view_is
+    ∙ ap (λ (t : Table). with_tabled t (made c.args.no c.args.count c.args.reference)) c.self.view_is

@@ -5,10 +5,13 @@ use Rattle.std.proofs.lemmas.Bool.{cases_Bool, eqb-true, ne_eqb, and_left}
 use Rattle.ref_base.specs.Members.{has}
 use Rattle.ref_base.specs.Graphs.{Object, Reference, object_at, is_there, numbers}
 use Rattle.ref_base.specs.Strengths.{IsRising}
-use Rattle.ref_base.specs.DoomedSets.{is_among, refers_into, is_new_clear, new_clears}
+use Rattle.ref_base.specs.DoomedSets.{any_is, refers_into, is_new_clear, new_clears}
 use Rattle.ref_base.specs.Heaps.{reference_in}
-use Rattle.ref_mark.specs.Marks.{any_is, refers_to}
-use Rattle.ref_objects.proofs.KeptLemmas.{IsRising-tail}
+
+-- numbers that rise do so behind the first
+pub IsRising-tail : (n : ℕ) (ns : List ℕ) → IsRising (n ∷ ns) → IsRising ns
+IsRising-tail n [] rising = tt
+IsRising-tail n (m ∷ ms) rising = rising.1
 
 -- numbers that rise from one on don't have it again
 pub is_there-rising : (os : List Object) (n m : ℕ) → n ≤ m → IsRising (m ∷ numbers os) → is_there os n ≡ false
@@ -21,20 +24,21 @@ is_there-rising (o ∷ os) n m order rising =
 -- a number is a new clear where its object is a reference outside the doomed whose referent is doomed
 pub has-new_clears : (os : List Object) (d : List ℕ) (n : ℕ) → IsRising (numbers os)
     → has (new_clears os d) n
-    ≡ (is_there os n && (not (has d n) && refers_into d (reference_in (object_at os n))))
+    ≡ (is_there os n && (not (has d n) && refers_into (has d) (reference_in (object_at os n))))
 has-new_clears [] d n rising = refl
 has-new_clears (o ∷ os) d n rising =
     let later : has (new_clears os d) n
-    ≡ (is_there os n && (not (has d n) && refers_into d (reference_in (object_at os n)))) =
+    ≡ (is_there os n && (not (has d n) && refers_into (has d) (reference_in (object_at os n)))) =
     has-new_clears os d n (IsRising-tail o.no (numbers os) rising) in
     elim (cases_Bool (o.no == n)) [
       | inl same ↦
           let number : o.no ≡ n = eqb-true o.no n same in
           let gone : is_there os n ≡ false = is_there-rising os n o.no (omega (arith, number)) rising in
           let none : has (new_clears os d) n ≡ false =
-          later ∙ and_left (is_there os n) (not (has d n) && refers_into d (reference_in (object_at os n))) gone in
-          let here : is_new_clear d o ≡ (not (has d n) && refers_into d o.reference) =
-          ap (λ i. not (has d i) && refers_into d o.reference) number in
+          later
+          ∙ and_left (is_there os n) (not (has d n) && refers_into (has d) (reference_in (object_at os n))) gone in
+          let here : is_new_clear d o ≡ (not (has d n) && refers_into (has d) o.reference) =
+          ap (λ i. not (has d i) && refers_into (has d) o.reference) number in
           elim (cases_Bool (is_new_clear d o)) [
             | inl new ↦ simp (same, new) (sym (sym here ∙ new))
             | inr old ↦ simp (same, old) (none ∙ sym (sym here ∙ old))
@@ -45,13 +49,13 @@ has-new_clears (o ∷ os) d n rising =
       ]
     ]
 
-is_among-any : (d : List ℕ) (test : ℕ → Bool) → ((n : ℕ) → has d n ≡ test n) → (value : Option ℕ)
-    → is_among d value ≡ any_is test value
-is_among-any d test same None = refl
-is_among-any d test same (Some n) = same n
+any_is-same : (test other : ℕ → Bool) → ((n : ℕ) → test n ≡ other n) → (value : Option ℕ)
+    → any_is test value ≡ any_is other value
+any_is-same test other same None = refl
+any_is-same test other same (Some n) = same n
 
--- a reference refers into the doomed where its referent is one
-pub refers_into-refers_to : (d : List ℕ) (test : ℕ → Bool) → ((n : ℕ) → has d n ≡ test n) → (r : Option Reference)
-    → refers_into d r ≡ refers_to test r
-refers_into-refers_to d test same None = refl
-refers_into-refers_to d test same (Some r) = is_among-any d test same r.referent
+-- tests that agree answer alike of a referent
+pub refers_into-same : (test other : ℕ → Bool) → ((n : ℕ) → test n ≡ other n) → (r : Option Reference)
+    → refers_into test r ≡ refers_into other r
+refers_into-same test other same None = refl
+refers_into-same test other same (Some r) = any_is-same test other same r.referent

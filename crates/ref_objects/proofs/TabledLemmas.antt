@@ -14,13 +14,13 @@ use Rattle.ref_base.specs.Strengths.{IsRising}
 use Rattle.ref_base.specs.Heaps.{changed_at, one_more, one_fewer}
 use Rattle.ref_base.specs.CollectorRows.{without as without_numbers}
 use Rattle.ref_base.proofs.HasLaws.{has-append}
-use Rattle.ref_objects.specs.Tables.{Kept, kept_at, objects_of, holds_of, object_in, holds_in, on_object}
-use Rattle.ref_objects.specs.Tables.{less_held, changed_kept, without_kept}
+use Rattle.ref_objects.specs.Tables.{Tabled, tabled_at, objects_of, holds_of, object_in, holds_in, on_object}
+use Rattle.ref_objects.specs.Tables.{less_held, changed_tabled, without_tabled}
 
 -- ---- the objects
 
 -- a look-up among the objects is that of the table
-pub object_at-objects_of : (ks : List Kept) (n : ℕ) → object_at (objects_of ks) n ≡ object_in (kept_at ks n)
+pub object_at-objects_of : (ks : List Tabled) (n : ℕ) → object_at (objects_of ks) n ≡ object_in (tabled_at ks n)
 object_at-objects_of [] n = refl
 object_at-objects_of (k ∷ ks) n =
     elim (cases_Bool (k.object.no == n)) [
@@ -28,16 +28,16 @@ object_at-objects_of (k ∷ ks) n =
       | inr other ↦ simp other (object_at-objects_of ks n)
     ]
 
-pub is_some-object_in : (k : Option Kept) → is_some (object_in k) ≡ is_some k
+pub is_some-object_in : (k : Option Tabled) → is_some (object_in k) ≡ is_some k
 is_some-object_in None = refl
 is_some-object_in (Some k) = refl
 
-pub is_there-objects_of : (ks : List Kept) (n : ℕ) → is_there (objects_of ks) n ≡ is_some (kept_at ks n)
-is_there-objects_of ks n = ap is_some (object_at-objects_of ks n) ∙ is_some-object_in (kept_at ks n)
+pub is_there-objects_of : (ks : List Tabled) (n : ℕ) → is_there (objects_of ks) n ≡ is_some (tabled_at ks n)
+is_there-objects_of ks n = ap is_some (object_at-objects_of ks n) ∙ is_some-object_in (tabled_at ks n)
 
 -- a change of an object is a change among the objects
-pub objects_of-changed : (ks : List Kept) (n : ℕ) (f : Object → Object)
-    → objects_of (changed_kept ks n (on_object f)) ≡ changed_at (objects_of ks) n f
+pub objects_of-changed : (ks : List Tabled) (n : ℕ) (f : Object → Object)
+    → objects_of (changed_tabled ks n (on_object f)) ≡ changed_at (objects_of ks) n f
 objects_of-changed [] n f = refl
 objects_of-changed (k ∷ ks) n f =
     elim (cases_Bool (k.object.no == n)) [
@@ -46,8 +46,8 @@ objects_of-changed (k ∷ ks) n f =
     ]
 
 -- a change that keeps the object, as of its holds, is none among the objects
-pub objects_of-same : (ks : List Kept) (n : ℕ) (f : Kept → Kept) → ((k : Kept) → (f k).object ≡ k.object)
-    → objects_of (changed_kept ks n f) ≡ objects_of ks
+pub objects_of-same : (ks : List Tabled) (n : ℕ) (f : Tabled → Tabled) → ((k : Tabled) → (f k).object ≡ k.object)
+    → objects_of (changed_tabled ks n f) ≡ objects_of ks
 objects_of-same [] n f keeps = refl
 objects_of-same (k ∷ ks) n f keeps =
     elim (cases_Bool (k.object.no == n)) [
@@ -55,7 +55,7 @@ objects_of-same (k ∷ ks) n f keeps =
       | inr other ↦ simp other (ap (λ os. k.object ∷ os) (objects_of-same ks n f keeps))
     ]
 
-pub objects_of-append : (ks ls : List Kept) → objects_of (ks ++ ls) ≡ objects_of ks ++ objects_of ls
+pub objects_of-append : (ks ls : List Tabled) → objects_of (ks ++ ls) ≡ objects_of ks ++ objects_of ls
 objects_of-append [] ls = refl
 objects_of-append (k ∷ ks) ls = ap (λ os. k.object ∷ os) (objects_of-append ks ls)
 
@@ -73,8 +73,8 @@ IsRising-tail n [] rising = tt
 IsRising-tail n (m ∷ ms) rising = rising.1
 
 -- an object that goes is gone from among the objects
-pub objects_of-without : (ks : List Kept) (n : ℕ) → IsRising (numbers (objects_of ks))
-    → objects_of (without_kept ks n) ≡ without_numbers (n ∷ []) (objects_of ks)
+pub objects_of-without : (ks : List Tabled) (n : ℕ) → IsRising (numbers (objects_of ks))
+    → objects_of (without_tabled ks n) ≡ without_numbers (n ∷ []) (objects_of ks)
 objects_of-without [] n rising = refl
 objects_of-without (k ∷ ks) n rising =
     elim (cases_Bool (k.object.no == n)) [
@@ -94,8 +94,8 @@ objects_of-without (k ∷ ks) n rising =
 -- ---- holds
 
 -- a change of an object is none of holds
-pub holds_of-changed : (ks : List Kept) (n : ℕ) (f : Object → Object) → ((o : Object) → (f o).no ≡ o.no)
-    → holds_of (changed_kept ks n (on_object f)) ≡ holds_of ks
+pub holds_of-changed : (ks : List Tabled) (n : ℕ) (f : Object → Object) → ((o : Object) → (f o).no ≡ o.no)
+    → holds_of (changed_tabled ks n (on_object f)) ≡ holds_of ks
 holds_of-changed [] n f keeps = refl
 holds_of-changed (k ∷ ks) n f keeps =
     elim (cases_Bool (k.object.no == n)) [
@@ -104,13 +104,13 @@ holds_of-changed (k ∷ ks) n f keeps =
     ]
 
 -- a new object brings no hold
-pub holds_of-made : (ks : List Kept) (k : Kept) → k.holds ≡ 0 → holds_of (ks ++ k ∷ []) ≡ holds_of ks
+pub holds_of-made : (ks : List Tabled) (k : Tabled) → k.holds ≡ 0 → holds_of (ks ++ k ∷ []) ≡ holds_of ks
 holds_of-made [] k none = ap (λ count. replicate count k.object.no ++ []) none
 holds_of-made (l ∷ ls) k none = ap (λ ms. replicate l.holds l.object.no ++ ms) (holds_of-made ls k none)
 
 -- nor does an object that nobody holds take one with it
-pub holds_of-without : (ks : List Kept) (n : ℕ) → holds_in (kept_at ks n) ≡ 0
-    → holds_of (without_kept ks n) ≡ holds_of ks
+pub holds_of-without : (ks : List Tabled) (n : ℕ) → holds_in (tabled_at ks n) ≡ 0
+    → holds_of (without_tabled ks n) ≡ holds_of ks
 holds_of-without [] n none = refl
 holds_of-without (k ∷ ks) n none =
     elim (cases_Bool (k.object.no == n)) [
@@ -118,18 +118,18 @@ holds_of-without (k ∷ ks) n none =
           let zeros : k.holds ≡ 0 = simp same at none in
           simp same (sym (ap (λ i. replicate i k.object.no ++ holds_of ks) zeros))
       | inr other ↦
-          let later : holds_in (kept_at ks n) ≡ 0 = simp other at none in
+          let later : holds_in (tabled_at ks n) ≡ 0 = simp other at none in
           simp other (ap (λ ms. replicate k.holds k.object.no ++ ms) (holds_of-without ks n later))
     ]
 
 -- no object is held oftener than there are holds
-pub holds_in-le : (ks : List Kept) (n : ℕ) → holds_in (kept_at ks n) ≤ length (holds_of ks)
+pub holds_in-le : (ks : List Tabled) (n : ℕ) → holds_in (tabled_at ks n) ≤ length (holds_of ks)
 holds_in-le [] n = omega arith
 holds_in-le (k ∷ ks) n =
     elim (cases_Bool (k.object.no == n)) [
       | inl same ↦ simp (same, length-append, length-replicate) (omega arith)
       | inr other ↦
-          let rest : holds_in (kept_at ks n) ≤ length (holds_of ks) = holds_in-le ks n in
+          let rest : holds_in (tabled_at ks n) ≤ length (holds_of ks) = holds_in-le ks n in
           simp (other, length-append, length-replicate) (omega (arith, rest))
     ]
 
@@ -139,8 +139,8 @@ one_fewer-other zero m n ms other = refl
 one_fewer-other (suc count) m n ms other = simp other (ap (λ ns. m ∷ ns) (one_fewer-other count m n ms other))
 
 -- one hold less of an object that is held is one fewer among the holds
-pub holds_of-dropped : (ks : List Kept) (n : ℕ) → 0 < holds_in (kept_at ks n)
-    → holds_of (changed_kept ks n less_held) ≡ one_fewer (holds_of ks) n
+pub holds_of-dropped : (ks : List Tabled) (n : ℕ) → 0 < holds_in (tabled_at ks n)
+    → holds_of (changed_tabled ks n less_held) ≡ one_fewer (holds_of ks) n
 holds_of-dropped [] n held = absurd (omega (arith, held))
 holds_of-dropped (k ∷ ks) n held =
     elim (cases_Bool (k.object.no == n)) [
@@ -152,7 +152,7 @@ holds_of-dropped (k ∷ ks) n held =
           simp same
           (sym (ap (λ i. one_fewer (replicate i k.object.no ++ holds_of ks) n) holds ∙ first))
       | inr other ↦
-          let later : 0 < holds_in (kept_at ks n) = simp other at held in
+          let later : 0 < holds_in (tabled_at ks n) = simp other at held in
           simp other
           (ap (λ ms. replicate k.holds k.object.no ++ ms) (holds_of-dropped ks n later)
           ∙ sym (one_fewer-other k.holds k.object.no n (holds_of ks) other))
@@ -188,7 +188,7 @@ has-replicate_other : (count m n : ℕ) → (m == n) ≡ false → has (replicat
 has-replicate_other zero m n other = refl
 has-replicate_other (suc count) m n other = simp other (has-replicate_other count m n other)
 
-has-holds_above : (ks : List Kept) (n m : ℕ) → n ≤ m → IsRising (m ∷ numbers (objects_of ks))
+has-holds_above : (ks : List Tabled) (n m : ℕ) → n ≤ m → IsRising (m ∷ numbers (objects_of ks))
     → has (holds_of ks) n ≡ false
 has-holds_above [] n m order rising = refl
 has-holds_above (k ∷ ks) n m order rising =
@@ -203,8 +203,8 @@ or-false true = refl
 or-false false = refl
 
 -- a number is among the holds exactly where its object is held
-pub has-holds_of : (ks : List Kept) (n : ℕ) → IsRising (numbers (objects_of ks))
-    → has (holds_of ks) n ≡ nat_lt 0 (holds_in (kept_at ks n))
+pub has-holds_of : (ks : List Tabled) (n : ℕ) → IsRising (numbers (objects_of ks))
+    → has (holds_of ks) n ≡ nat_lt 0 (holds_in (tabled_at ks n))
 has-holds_of [] n rising = refl
 has-holds_of (k ∷ ks) n rising =
     elim (cases_Bool (k.object.no == n)) [

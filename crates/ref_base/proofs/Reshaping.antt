@@ -1,0 +1,165 @@
+-- A change of all objects that keeps their shape changes no refusal.
+use Rattle.std.proofs.Common.{◌≡◌, ℕ, ◌^◌, Bool, true, false, ◌==◌, if◌then◌else◌, nat_lt, nat_le, refl, sym, ap, ◌∙◌}
+use Rattle.std.proofs.Common.{List, [], ◌∷◌, map, length, Option, Some, None, is_some, inl, inr}
+use Rattle.std.proofs.lemmas.Bool.{cases_Bool, true≢false, eqb-true}
+use Rattle.std.proofs.lemmas.List.{length-map}
+use Rattle.ref_base.specs.Graphs.{Object, Reference, object_at, is_there}
+use Rattle.ref_base.specs.Heaps.{Heap, slot_at, reference_in, registered_in, changed_at}
+use Rattle.ref_base.specs.Heaps.{changed_reference, cleared}
+use Rattle.ref_base.specs.Worlds.{Pending, hand_of, pending_of}
+use Rattle.ref_base.specs.Collectors.{State}
+use Rattle.ref_base.specs.CollectorRows.{on_heap}
+use Rattle.ref_base.specs.Refusals.{unless, unless_empty, unless_full, empty_hand_refusal, has_slot, has_slots}
+use Rattle.ref_base.specs.Refusals.{is_actor}
+use Rattle.ref_base.specs.Refusals.{is_queue_or_none, field_count, object_refusal, new_refusal, refer_refusal}
+use Rattle.ref_base.specs.Refusals.{field_refusal, reference_refusal, holds_refusal, minting_refusal, unhook_refusal}
+use Rattle.ref_base.specs.Refusals.{hand_refusal, refusal}
+use Rattle.ref_base.specs.declared.actor.Actor.{Actor}
+use Rattle.ref_base.specs.declared.actor.Actor.TheVariants.{Mutator, Worker}
+use Rattle.ref_base.specs.declared.fault.Fault.{Fault}
+use Rattle.ref_base.specs.declared.fault.Fault.TheVariants.{NoCell, NumbersSpent, BadField, BadQueue, NoSuchActor}
+use Rattle.ref_base.specs.declared.fault.Fault.TheVariants.{NotAReference}
+use Rattle.ref_base.specs.declared.step.Step.{Step}
+use Rattle.ref_base.specs.declared.step.Step.TheVariants as steps
+
+-- each object keeps its number, how many fields it has, whether it is a reference, and that one's queue
+pub record KeepsShape (g : Object → Object) : Type 0 where
+  pub number : (o : Object) → (g o).no ≡ o.no
+  pub fields : (o : Object) → length (g o).fields ≡ length o.fields
+  pub is_reference : (o : Object) → is_some (g o).reference ≡ is_some o.reference
+  pub queue : (o : Object) → registered_in (g o).reference ≡ registered_in o.reference
+
+abbrev pub reshaped : (Object → Object) → Heap → Heap
+reshaped g h = record h { objects = map g h.objects }
+
+-- what is cleared is a reference if it was one, of its queue
+pub is_reference-cleared : (r : Option Reference) → is_some (changed_reference cleared r) ≡ is_some r
+is_reference-cleared None = refl
+is_reference-cleared (Some r) = refl
+
+pub queue-cleared : (r : Option Reference) → registered_in (changed_reference cleared r) ≡ registered_in r
+queue-cleared None = refl
+queue-cleared (Some r) = refl
+
+-- a change of one object goes through, if it does so at that object
+pub map-changed_at : (g f : Object → Object) (os : List Object) (n : ℕ) → ((o : Object) → (g o).no ≡ o.no)
+    → ((o : Object) → o.no ≡ n → g (f o) ≡ f (g o)) → map g (changed_at os n f) ≡ changed_at (map g os) n f
+map-changed_at g f [] n keeps through = refl
+map-changed_at g f (o ∷ os) n keeps through =
+    elim (cases_Bool (o.no == n)) [
+      | inl here ↦
+          let still : ((g o).no == n) ≡ true = ap (λ i. i == n) (keeps o) ∙ here in
+          simp (here, still) (ap (λ p. p ∷ map g os) (through o (eqb-true o.no n here)))
+      | inr later ↦
+          let still : ((g o).no == n) ≡ false = ap (λ i. i == n) (keeps o) ∙ later in
+          simp (later, still) (ap (λ ps. g o ∷ ps) (map-changed_at g f os n keeps through))
+    ]
+
+minting-same : (h : Heap) (r q : Option Reference) → is_some r ≡ is_some q → registered_in r ≡ registered_in q
+    → minting_refusal h r ≡ minting_refusal h q
+minting-same h None None same queue = refl
+minting-same h None (Some q) same queue = absurd (true≢false (sym same))
+minting-same h (Some r) None same queue = absurd (true≢false same)
+minting-same h (Some r) (Some q) same queue = ap (λ v. if is_some v then holds_refusal h else None) queue
+
+later_same : (there : Bool) {later other : Option Fault} → later ≡ other
+    → unless there NoSuchActor later ≡ unless there NoSuchActor other
+later_same there same = ap (unless there NoSuchActor) same
+
+module _ (g : Object → Object) (keeps : KeepsShape g) where
+  -- what F tells of an object it tells of that object changed
+  pub at-reshaped : {T : Type 0} (F : Option Object → T) (os : List Object) (n : ℕ)
+      → ((o : Object) → F (Some (g o)) ≡ F (Some o)) → F (object_at (map g os) n) ≡ F (object_at os n)
+  at-reshaped F [] n same = refl
+  at-reshaped F (o ∷ os) n same =
+      elim (cases_Bool (o.no == n)) [
+        | inl here ↦
+            let still : ((g o).no == n) ≡ true = ap (λ i. i == n) (keeps.number o) ∙ here in
+            let new : object_at (map g (o ∷ os)) n ≡ Some (g o) = simp still refl in
+            let old : object_at (o ∷ os) n ≡ Some o = simp here refl in
+            ap F new ∙ same o ∙ ap F (sym old)
+        | inr later ↦
+            let still : ((g o).no == n) ≡ false = ap (λ i. i == n) (keeps.number o) ∙ later in
+            let new : object_at (map g (o ∷ os)) n ≡ object_at (map g os) n = simp still refl in
+            let old : object_at (o ∷ os) n ≡ object_at os n = simp later refl in
+            ap F new ∙ at-reshaped F os n same ∙ ap F (sym old)
+      ]
+
+  pub is_there-reshaped : (os : List Object) (n : ℕ) → is_there (map g os) n ≡ is_there os n
+  is_there-reshaped os n = at-reshaped (λ o. is_some o) os n (λ o. refl)
+
+  -- ---- refusals
+
+  module _ (h : Heap) where
+    object-reshaped : (next k : ℕ) → object_refusal (reshaped g h) next k ≡ object_refusal h next k
+    object-reshaped next k =
+        ap (λ (there : ℕ). unless (nat_le k 8) BadField
+        (unless (nat_lt next (2 ^ 32)) NumbersSpent (unless (nat_lt there h.config.cells) NoCell None)))
+        (length-map h.objects g)
+
+    new-reshaped : (next m d k : ℕ) → new_refusal (reshaped g h) next m d k ≡ new_refusal h next m d k
+    new-reshaped next m d k =
+        ap (λ (later : Option Fault). unless (has_slot h m d) NoSuchActor later) (object-reshaped next k)
+
+    refer-reshaped : (next m d s : ℕ) (queue : Option ℕ) (k : ℕ)
+        → refer_refusal (reshaped g h) next m d s queue k ≡ refer_refusal h next m d s queue k
+    refer-reshaped next m d s None k =
+        ap (λ (later : Option Fault). unless (has_slots h m d s) NoSuchActor (unless_empty (slot_at h m s) later))
+        (object-reshaped next k)
+    refer-reshaped next m d s (Some q) k =
+        ap (λ (later : Option Fault). unless (has_slots h m d s) NoSuchActor
+        (unless (is_queue_or_none h (Some q)) BadQueue (unless_empty (slot_at h m s) later)))
+        (object-reshaped next k)
+
+    field-reshaped : (held : Option ℕ) (i : ℕ) → field_refusal (reshaped g h) held i ≡ field_refusal h held i
+    field-reshaped None i = refl
+    field-reshaped (Some n) i =
+        ap (λ (count : ℕ). unless (nat_lt i count) BadField None) (at-reshaped field_count h.objects n keeps.fields)
+
+    reference-reshaped : (held : Option ℕ) → reference_refusal (reshaped g h) held ≡ reference_refusal h held
+    reference-reshaped None = refl
+    reference-reshaped (Some n) =
+        ap (λ (there : Bool). unless there NotAReference None)
+        (at-reshaped (λ o. is_some (reference_in o)) h.objects n keeps.is_reference)
+
+    unhook-reshaped : (held : Option ℕ) → unhook_refusal (reshaped g h) held ≡ unhook_refusal h held
+    unhook-reshaped None = refl
+    unhook-reshaped (Some n) =
+        at-reshaped (λ o. minting_refusal h (reference_in o)) h.objects n
+        (λ o. minting-same h (g o).reference o.reference (keeps.is_reference o) (keeps.queue o))
+
+    actor-reshaped : (who : Actor) → is_actor (reshaped g h) who ≡ is_actor h who
+    actor-reshaped (Mutator m) = refl
+    actor-reshaped (Worker k) = refl
+
+    hand-reshaped : (ps : List Pending) → hand_refusal ps (reshaped g h) ≡ hand_refusal ps h
+    hand-reshaped [] = refl
+    hand-reshaped (p ∷ ps) = refl
+
+  -- no step's refusal changes
+  pub same_refusal : (a : State) (step : Step) → refusal (on_heap a (reshaped g a.world.heap)) step ≡ refusal a step
+  same_refusal a (steps.New m d k) = new-reshaped a.world.heap a.next m d k
+  same_refusal a (steps.Refer m strength d s q k) = refer-reshaped a.world.heap a.next m d s q k
+  same_refusal a (steps.Store m s i v) =
+      later_same (has_slots a.world.heap m s v) (field-reshaped a.world.heap (slot_at a.world.heap m s) i)
+  same_refusal a (steps.Load m d s i) =
+      later_same (has_slots a.world.heap m d s) (field-reshaped a.world.heap (slot_at a.world.heap m s) i)
+  same_refusal a (steps.Get m d s) =
+      later_same (has_slots a.world.heap m d s) (reference-reshaped a.world.heap (slot_at a.world.heap m s))
+  same_refusal a (steps.Clear m s) =
+      later_same (has_slot a.world.heap m s) (reference-reshaped a.world.heap (slot_at a.world.heap m s))
+  same_refusal a (steps.RefersTo m s v) =
+      later_same (has_slots a.world.heap m v s) (reference-reshaped a.world.heap (slot_at a.world.heap m s))
+  same_refusal a (steps.Unhook m s) =
+      later_same (has_slot a.world.heap m s)
+      (ap (unless_full (hand_of a.world (Mutator m))) (unhook-reshaped a.world.heap (slot_at a.world.heap m s)))
+  same_refusal a (steps.Put who) =
+      ap (λ there. unless there NoSuchActor (empty_hand_refusal (hand_of a.world who)))
+      (actor-reshaped a.world.heap who)
+  same_refusal a (steps.Release who) =
+      ap (λ there. unless there NoSuchActor (empty_hand_refusal (hand_of a.world who)))
+      (actor-reshaped a.world.heap who)
+  same_refusal a (steps.Hand k) =
+      later_same (is_actor a.world.heap (Worker k))
+      (ap (unless_full (hand_of a.world (Worker k))) (hand-reshaped a.world.heap (pending_of a.world k)))
+  same_refusal a step = refl

@@ -1,0 +1,160 @@
+-- What the calls of a heap in its cycles answer and leave, step by step: one table for all of them, by the steps and
+-- refusals of the abstract collector.
+use Rattle.std.specs.Prelude.{ℕ, ◌+◌, Bool, true, false, not, List, [], length, Option, Some, None, Result, Ok, Err}
+use Rattle.ref_base.specs.Graphs.{plain_object}
+use Rattle.ref_base.specs.Heaps.{Heap, slot_at, nulls, new_reference, stored, with_slot, with_hold, without_hold}
+use Rattle.ref_base.specs.Worlds.{first_world, pending_numbers}
+use Rattle.ref_base.specs.Collectors.{State, first_state}
+use Rattle.ref_base.specs.CollectorRows.{field_in, value_reply}
+use Rattle.ref_base.specs.Refusals.{refusal, is_empty}
+use Rattle.ref_base.specs.declared.fault.Fault.{Fault}
+use Rattle.ref_base.specs.declared.phase.Phase.TheVariants.{Clearing}
+use Rattle.ref_base.specs.declared.step.Step.{Step}
+use Rattle.ref_base.specs.declared.step.Step.TheVariants as steps
+use Rattle.ref_base.specs.declared.reply.Reply.{Reply}
+use Rattle.ref_base.specs.declared.reply.Reply.TheVariants as replies
+use Rattle.ref_objects.specs.Grounds.{HeapHold, unmarked, mint_refusal, hold_refusal, adopt_refusal, release_refusal}
+use Rattle.ref_mark.specs.Worklists.{first_in}
+use Rattle.ref_mark.specs.CycleHeaps.{CycleHeap, with_made, loaded, value_got, with_got, with_cleared, reads_same}
+use Rattle.ref_mark.specs.CycleHeaps.{begun, scanned}
+use Rattle.ref_mark.specs.CycleHeaps.{with_phase}
+use Rattle.ref_mark.specs.MarkViews.{ground_of}
+
+-- this where nothing is refused, and else what becomes of the fault
+abbrev pub unless_refused : {T : Type 0} → Option Fault → (Fault → T) → T → T
+unless_refused None otherwise accepted = accepted
+unless_refused (Some fault) otherwise accepted = otherwise fault
+
+-- ---- how a result is told as a reply
+
+abbrev pub reply_of : {T : Type 0} → (T → Reply) → Result T Fault → Reply
+reply_of told (Ok answer) = told answer
+reply_of told (Err fault) = replies.Refused fault
+
+-- of a call that gives a hold back where it refuses
+abbrev pub reply_or_back : {T : Type 0} → (T → Reply) → Result T (Fault × HeapHold) → Reply
+reply_or_back told (Ok answer) = told answer
+reply_or_back told (Err back) = replies.Refused back.0
+
+abbrev pub done_reply : Unit {0} → Reply
+done_reply done = replies.Done
+
+-- a scan of this object, or of none
+abbrev pub scan_reply : Option ℕ → Reply
+scan_reply None = replies.Nothing
+scan_reply (Some n) = replies.Scanned n
+
+-- the object of a hold
+abbrev pub hold_reply : HeapHold → Reply
+hold_reply hold = replies.Object hold.object
+
+-- ---- steps
+
+-- the steps that are calls of a heap in its cycles
+abbrev pub is_of_marking : Step → Bool
+is_of_marking (steps.New m d f) = true
+is_of_marking (steps.Refer m strength d s q f) = true
+is_of_marking (steps.Store m d i s) = true
+is_of_marking (steps.Load m d s i) = true
+is_of_marking (steps.Copy m d s) = true
+is_of_marking (steps.Drop m s) = true
+is_of_marking (steps.Get m d s) = true
+is_of_marking (steps.Clear m s) = true
+is_of_marking (steps.RefersTo m s v) = true
+is_of_marking (steps.Begin now how) = true
+is_of_marking (steps.Scan w) = true
+is_of_marking steps.EndMark = true
+is_of_marking step = false
+
+-- a state with all that their refusals depend on
+abbrev pub refusing_state : CycleHeap → State
+refusing_state k = record (first_state k.heap.config) {
+  world = record (first_world k.heap.config) { heap = k.heap; cycle = k.cycle; phase = k.phase };
+  next = k.next;
+  left = not (is_empty k.grey);
+}
+
+-- the fault of a step, or none where it is accepted: the abstract collector's own
+abbrev pub refusal_in : CycleHeap → Step → Option Fault
+refusal_in k step = refusal (refusing_state k) step
+
+-- what a step that isn't refused answers
+abbrev pub reply_in : CycleHeap → Step → Reply
+reply_in k (steps.New m d f) = replies.Object k.next
+reply_in k (steps.Refer m strength d s q f) = replies.Object k.next
+reply_in k (steps.Load m d s i) = value_reply (field_in k.heap (slot_at k.heap m s) i)
+reply_in k (steps.Copy m d s) = value_reply (slot_at k.heap m s)
+reply_in k (steps.Get m d s) = value_reply (value_got k m s)
+reply_in k (steps.RefersTo m s v) = replies.Refers (reads_same k m s v)
+reply_in k (steps.Begin now how) = replies.Cycle (k.cycle + 1)
+reply_in k (steps.Scan w) = scan_reply (first_in k.grey)
+reply_in k steps.EndMark = replies.Doomed (length (unmarked k.heap.objects k.marked))
+reply_in k step = replies.Done
+
+-- and what it leaves
+abbrev pub done_in : CycleHeap → Step → CycleHeap
+done_in k (steps.New m d f) = with_made k m d (plain_object k.next (nulls f))
+done_in k (steps.Refer m strength d s q f) =
+    with_made k m d (new_reference k.heap k.next strength (slot_at k.heap m s) q f)
+done_in k (steps.Store m d i s) = record k { heap = stored k.heap m d i s }
+done_in k (steps.Load m d s i) = loaded k m d (field_in k.heap (slot_at k.heap m s) i)
+done_in k (steps.Copy m d s) = record k { heap = with_slot k.heap m d (slot_at k.heap m s) }
+done_in k (steps.Drop m s) = record k { heap = with_slot k.heap m s None }
+done_in k (steps.Get m d s) = with_got k m d s (value_got k m s)
+done_in k (steps.Clear m s) = with_cleared k m s
+done_in k (steps.Begin now how) = begun k now how
+done_in k (steps.Scan w) = scanned k w
+done_in k steps.EndMark = with_phase k Clearing
+done_in k step = k
+
+-- the reply to a step, refused or not
+abbrev pub answer_in : CycleHeap → Step → Reply
+answer_in k step = unless_refused (refusal_in k step) replies.Refused (reply_in k step)
+
+-- the heap after it
+abbrev pub after_in : CycleHeap → Step → CycleHeap
+after_in k step = unless_refused (refusal_in k step) (λ fault. k) (done_in k step)
+
+-- the roots that the layer above has still to shade: as a cycle begins, the pending references
+abbrev pub late_roots : State → Step → List ℕ
+late_roots a (steps.Begin now how) = pending_numbers a.world.pending
+late_roots a step = []
+
+-- ---- holds
+
+-- a hold is taken of what a slot holds or of an object by its number, taken back into a slot, or given up
+pub data HoldStep : Type 0 where
+  Take : (mutator slot : ℕ) → HoldStep
+  Mint : (object : ℕ) → HoldStep
+  Adopt : (mutator into : ℕ) (hold : HeapHold) → HoldStep
+  Release : (hold : HeapHold) → HoldStep
+
+abbrev pub hold_refusal_in : CycleHeap → HoldStep → Option Fault
+hold_refusal_in k (Take m s) = hold_refusal (ground_of k) m s
+hold_refusal_in k (Mint n) = mint_refusal (ground_of k) n
+hold_refusal_in k (Adopt m d hold) = adopt_refusal (ground_of k) m d hold
+hold_refusal_in k (Release hold) = release_refusal (ground_of k) hold
+
+abbrev pub hold_reply_in : CycleHeap → HoldStep → Reply
+hold_reply_in k (Take m s) = value_reply (slot_at k.heap m s)
+hold_reply_in k (Mint n) = replies.Object n
+hold_reply_in k (Adopt m d hold) = replies.Object hold.object
+hold_reply_in k (Release hold) = replies.Done
+
+-- one more hold of what is there
+abbrev pub with_hold_of : Heap → Option ℕ → Heap
+with_hold_of h None = h
+with_hold_of h (Some n) = with_hold h n
+
+abbrev pub heap_after : Heap → HoldStep → Heap
+heap_after h (Take m s) = with_hold_of h (slot_at h m s)
+heap_after h (Mint n) = with_hold h n
+heap_after h (Adopt m d hold) = with_slot (without_hold h hold.object) m d (Some hold.object)
+heap_after h (Release hold) = without_hold h hold.object
+
+abbrev pub hold_answer_in : CycleHeap → HoldStep → Reply
+hold_answer_in k step = unless_refused (hold_refusal_in k step) replies.Refused (hold_reply_in k step)
+
+abbrev pub after_hold_in : CycleHeap → HoldStep → CycleHeap
+after_hold_in k step =
+    unless_refused (hold_refusal_in k step) (λ fault. k) (record k { heap = heap_after k.heap step })
