@@ -1,6 +1,7 @@
 //! Readers and writers that fail.
 
-use std::io::{Error, ErrorKind, Read, Result, Write};
+use refrun::TextFault;
+use std::io::{self, Error, ErrorKind, Read, Write};
 
 /// Gives its bytes in pieces of at most seven, and fails so where they end.
 #[derive(Drop)]
@@ -10,7 +11,7 @@ pub struct ReadsThenFails<'a> {
 }
 
 impl Read for ReadsThenFails<'_> {
-    fn read(&mut self, buffer: &mut [u8]) -> Result<usize> {
+    fn read(&mut self, buffer: &mut [u8]) -> io::Result<usize> {
         if self.bytes.is_empty() {
             return Err(Error::from(self.failure));
         }
@@ -30,7 +31,7 @@ pub struct Interrupted<'a> {
 }
 
 impl Read for Interrupted<'_> {
-    fn read(&mut self, buffer: &mut [u8]) -> Result<usize> {
+    fn read(&mut self, buffer: &mut [u8]) -> io::Result<usize> {
         if self.times > 0 {
             self.times -= 1;
             return Err(Error::from(ErrorKind::Interrupted));
@@ -52,6 +53,23 @@ pub enum Failure {
     Flush,
 }
 
+/// Each way in which a writer fails.
+pub const FAILURES: [Failure; 4] = [
+    Failure::Broken,
+    Failure::Interrupted,
+    Failure::TakesNothing,
+    Failure::Flush,
+];
+
+/// What is answered where a text of so many bytes is written to a writer with this room.
+pub fn answer_in_room(length: usize, room: usize, failure: Failure) -> Result<(), TextFault> {
+    if room < length || matches!(failure, Failure::Flush) {
+        Err(TextFault::CannotWrite)
+    } else {
+        Ok(())
+    }
+}
+
 /// Takes at most five bytes at a time while there is room, and then fails.
 #[derive(Drop)]
 pub struct WritesThenFails {
@@ -61,7 +79,7 @@ pub struct WritesThenFails {
 }
 
 impl Write for WritesThenFails {
-    fn write(&mut self, bytes: &[u8]) -> Result<usize> {
+    fn write(&mut self, bytes: &[u8]) -> io::Result<usize> {
         let count = bytes.len().min(self.room).min(5);
         if count == 0 {
             return match self.failure {
@@ -75,7 +93,7 @@ impl Write for WritesThenFails {
         Ok(count)
     }
 
-    fn flush(&mut self) -> Result<()> {
+    fn flush(&mut self) -> io::Result<()> {
         match self.failure {
             Failure::Flush => Err(Error::from(ErrorKind::BrokenPipe)),
             _ => Ok(()),

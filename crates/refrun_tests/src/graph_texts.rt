@@ -1,6 +1,6 @@
 //! Graph texts and their listings.
 
-use crate::fakes::{Failure, ReadsThenFails, WritesThenFails};
+use crate::fakes::{FAILURES, ReadsThenFails, WritesThenFails, answer_in_room};
 use crate::graph_cases::GRAPHS;
 use crate::scripts::message;
 use bumpalo::Bump;
@@ -105,13 +105,7 @@ fn a_reader_of_a_graph_text_that_fails_is_told_of(rt: HostRuntime) -> Result<(),
 #[test]
 fn a_writer_that_fails_has_a_prefix_of_the_listing(rt: HostRuntime) -> Result<(), Fail> {
     let alloc = rt.alloc();
-    let failures = [
-        Failure::Broken,
-        Failure::Interrupted,
-        Failure::TakesNothing,
-        Failure::Flush,
-    ];
-    for failure in failures {
+    for failure in FAILURES {
         for room in [0, 1, 5, 12, LISTING.len()] {
             let mut taken = WritesThenFails {
                 taken: Vec::new(alloc),
@@ -120,12 +114,7 @@ fn a_writer_that_fails_has_a_prefix_of_the_listing(rt: HostRuntime) -> Result<()
             };
             let mut reader = FromReader::new(GRAPH);
             let answer = strength_text(alloc, &mut reader, &mut ToWriter::new(&mut taken));
-            let is_whole = room == LISTING.len() && !matches!(failure, Failure::Flush);
-            let want = if is_whole {
-                Ok(())
-            } else {
-                Err(TextFault::CannotWrite)
-            };
+            let want = answer_in_room(LISTING.len(), room, failure);
             assert_eq!(rt; answer, want, "{room}");
             assert_eq!(rt; Some(taken.taken.as_slice()), LISTING.get(..room), "{room}");
         }

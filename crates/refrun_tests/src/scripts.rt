@@ -1,7 +1,7 @@
 //! Scripts and their traces.
 
 use crate::cases::CASES;
-use crate::fakes::{Failure, Interrupted, ReadsThenFails, WritesThenFails};
+use crate::fakes::{FAILURES, Interrupted, ReadsThenFails, WritesThenFails, answer_in_room};
 use refrun::{FromReader, TextFault, ToWriter, run_script};
 use std::alloc::{AllocError, Allocator, Global};
 use std::io::ErrorKind;
@@ -91,13 +91,7 @@ fn a_writer_that_fails_has_a_prefix(rt: HostRuntime) -> Result<(), Fail> {
     let alloc = rt.alloc();
     let script = b"refscript 1\nconfig 1 1 1 8 10\nm0 put\n".as_slice();
     let trace = b"reftrace 1\n1 m0 put : refused 24 HandEmpty\n".as_slice();
-    let failures = [
-        Failure::Broken,
-        Failure::Interrupted,
-        Failure::TakesNothing,
-        Failure::Flush,
-    ];
-    for failure in failures {
+    for failure in FAILURES {
         for room in [0, 1, 5, 12, trace.len()] {
             let mut taken = WritesThenFails {
                 taken: Vec::new(alloc),
@@ -106,12 +100,7 @@ fn a_writer_that_fails_has_a_prefix(rt: HostRuntime) -> Result<(), Fail> {
             };
             let mut reader = FromReader::new(script);
             let answer = run_script(alloc, &mut reader, &mut ToWriter::new(&mut taken));
-            let is_whole = room == trace.len() && !matches!(failure, Failure::Flush);
-            let want = if is_whole {
-                Ok(())
-            } else {
-                Err(TextFault::CannotWrite)
-            };
+            let want = answer_in_room(trace.len(), room, failure);
             assert_eq!(rt; answer, want, "{room}");
             assert_eq!(rt; Some(taken.taken.as_slice()), trace.get(..room), "{room}");
         }
