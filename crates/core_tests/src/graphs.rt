@@ -84,7 +84,7 @@ fn refer<A: Allocator + Copy>(
     graph.add_reference(ObjNo(no), strength, referent.map(|no| ObjNo(no)), &fields)
 }
 
-fn strength<A: Allocator + Copy>(alloc: Global, graph: &Graph<A>, no: u32) -> Told {
+fn strength<A: Allocator + Copy, B: Allocator + Copy>(alloc: B, graph: &Graph<A>, no: u32) -> Told {
     match strength_of(alloc, graph, ObjNo(no)) {
         Ok(reach) => Told::Strength(reach),
         Err(fault) => Told::Refused(fault),

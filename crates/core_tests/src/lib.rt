@@ -20,3 +20,5 @@ mod marking;
 mod objects;
 #[cfg(test)]
 mod queues;
+#[cfg(test)]
+mod told;

@@ -4,7 +4,8 @@ mod cycles;
 mod refusals;
 
 use crate::hand::{keep, leak};
-use ref_base::{Config, Fault, MutNo, ObjNo, Phase, QueueNo, SlotNo, Strength, Urgency, WorkerNo};
+use crate::told::{Told, done, found, is, made, value, value_or_fault};
+use ref_base::{Config, Fault, MutNo, ObjNo, QueueNo, SlotNo, Strength, Urgency, WorkerNo};
 use ref_mark::Marker;
 use ref_objects::{Hold, Start};
 use std::alloc::Global;
@@ -89,73 +90,9 @@ enum Keep {
     Leak,
 }
 
-/// What a call answers.
-#[derive(Clone, Copy, Debug, PartialEq, Eq)]
-enum Told {
-    Done,
-    Refused(Fault),
-    /// This object was made, or is in a slot or a field now, or is a referent.
-    Object(u32),
-    /// A slot, a field or a referent is null.
-    Null,
-    Yes,
-    No,
-    /// This cycle began.
-    Began(u64),
-    /// This object was scanned.
-    Scanned(u32),
-    /// So many are doomed.
-    Doomed(usize),
-    /// This object was found, or is the first that was sought.
-    Found(u32),
-    /// There is nothing to scan, or none that is sought.
-    Nothing,
-    In(Phase),
-    /// So many cycles, or holds.
-    Count(u64),
-    /// A stamp.
-    Time(u64),
-    /// A hold of this object.
-    Held(u32),
-    EmptyHand,
-}
-
-fn done(answer: Result<(), Fault>) -> Told {
-    match answer {
-        Ok(()) => Told::Done,
-        Err(fault) => Told::Refused(fault),
-    }
-}
-
-fn made(answer: Result<ObjNo, Fault>) -> Told {
-    match answer {
-        Ok(no) => Told::Object(no.0),
-        Err(fault) => Told::Refused(fault),
-    }
-}
-
-fn is(answer: bool) -> Told {
-    if answer { Told::Yes } else { Told::No }
-}
-
 fn is_or_fault(answer: Result<bool, Fault>) -> Told {
     match answer {
         Ok(answer) => is(answer),
-        Err(fault) => Told::Refused(fault),
-    }
-}
-
-/// What a slot, a field or a referent is.
-fn value(answer: Option<ObjNo>) -> Told {
-    match answer {
-        Some(no) => Told::Object(no.0),
-        None => Told::Null,
-    }
-}
-
-fn value_or_fault(answer: Result<Option<ObjNo>, Fault>) -> Told {
-    match answer {
-        Ok(answer) => value(answer),
         Err(fault) => Told::Refused(fault),
     }
 }
@@ -179,13 +116,6 @@ fn doomed(answer: Result<usize, Fault>) -> Told {
     match answer {
         Ok(count) => Told::Doomed(count),
         Err(fault) => Told::Refused(fault),
-    }
-}
-
-fn found(answer: Option<ObjNo>) -> Told {
-    match answer {
-        Some(no) => Told::Found(no.0),
-        None => Told::Nothing,
     }
 }
 
@@ -264,9 +194,9 @@ fn asked(heap: &Marker, call: Ask) -> Told {
 fn taken(hand: &mut Option<Hold>, answer: Result<Hold, Fault>) -> Told {
     match answer {
         Ok(hold) => {
-            let no = hold.obj();
+            let told = Told::Held(hold.obj().0, hold.heap_no());
             keep(hand, hold);
-            Told::Held(no.0)
+            told
         }
         Err(fault) => Told::Refused(fault),
     }

@@ -5,6 +5,7 @@ mod memory;
 mod stories;
 
 use crate::hand::{keep, leak};
+use crate::told::{Told, done, found, is, made, value, value_or_fault};
 use ref_base::{Config, Fault, MutNo, ObjNo, QueueNo, SlotNo, Strength};
 use ref_objects::{Hold, Kind, Objects, Reference, Start};
 use std::alloc::{Allocator, Global};
@@ -99,77 +100,6 @@ enum Keep {
     Leak,
     /// What the hand holds.
     Hand,
-}
-
-/// What a call answers.
-#[derive(Clone, Copy, Debug, PartialEq, Eq)]
-enum Told {
-    Done,
-    Refused(Fault),
-    /// This object was made, found or held.
-    Object(u32),
-    /// A slot, a field or a referent is null.
-    Null,
-    /// There is no such thing.
-    Nothing,
-    Yes,
-    No,
-    /// So many.
-    Count(u64),
-    /// The number of the next object.
-    Next(u64),
-    /// The number of the heap.
-    Heap(u64),
-    /// A clock or a stamp.
-    Time(u64),
-    Queue(u32),
-    Kind(Kind),
-    Reference(Reference),
-    Size(Config),
-    /// A hold of this object, of the heap of this number.
-    Held(u32, u64),
-    EmptyHand,
-}
-
-fn done(answer: Result<(), Fault>) -> Told {
-    match answer {
-        Ok(()) => Told::Done,
-        Err(fault) => Told::Refused(fault),
-    }
-}
-
-fn made(answer: Result<ObjNo, Fault>) -> Told {
-    match answer {
-        Ok(no) => Told::Object(no.0),
-        Err(fault) => Told::Refused(fault),
-    }
-}
-
-fn is(answer: bool) -> Told {
-    if answer { Told::Yes } else { Told::No }
-}
-
-/// What a slot, a field or a referent is.
-fn value(answer: Option<ObjNo>) -> Told {
-    match answer {
-        Some(no) => Told::Object(no.0),
-        None => Told::Null,
-    }
-}
-
-fn value_or_fault(answer: Result<Option<ObjNo>, Fault>) -> Told {
-    match answer {
-        Ok(answer) => value(answer),
-        Err(fault) => Told::Refused(fault),
-    }
-}
-
-/// What was sought.
-fn found(answer: Option<ObjNo>) -> Told {
-    match answer {
-        Some(no) => Told::Object(no.0),
-        None => Told::Nothing,
-    }
 }
 
 fn slot_at<A: Allocator + Copy>(heap: &Objects<A>, place: usize) -> Told {

@@ -102,7 +102,7 @@ fn closed(was_open: bool) -> Told {
     }
 }
 
-fn listed(answer: Result<Vec<ObjNo>, Fault>, place: usize) -> Told {
+fn listed<B: Allocator>(answer: Result<Vec<ObjNo, B>, Fault>, place: usize) -> Told {
     match answer {
         Ok(list) => match list.get(place) {
             Some(no) => Told::Object(no.0),
@@ -112,7 +112,11 @@ fn listed(answer: Result<Vec<ObjNo>, Fault>, place: usize) -> Told {
     }
 }
 
-fn answer<A: Allocator + Copy>(alloc: Global, queue: &mut Queue<Slip, A>, call: Call) -> Told {
+fn answer<A: Allocator + Copy, B: Allocator + Copy>(
+    alloc: B,
+    queue: &mut Queue<Slip, A>,
+    call: Call,
+) -> Told {
     match call {
         Call::Put(slip) => put(queue.put(slip)),
         Call::Poll => polled(queue.poll()),
@@ -123,10 +127,10 @@ fn answer<A: Allocator + Copy>(alloc: Global, queue: &mut Queue<Slip, A>, call: 
     }
 }
 
-/// Makes a story's calls in turn, each of which has its answer.
-fn make_calls<A: Allocator + Copy>(
+/// Makes a story's calls in turn, each of which has its answer. Lists take this memory.
+fn make_calls<A: Allocator + Copy, B: Allocator + Copy>(
     rt: &impl Abort,
-    alloc: Global,
+    alloc: B,
     queue: &mut Queue<Slip, A>,
     story: &[(Call, Told)],
 ) {

@@ -1,13 +1,10 @@
 -- The listing so far, and the listing of a whole graph text.
 use Rattle.std.proofs.Common.{◌≡◌, ℕ, ◌+◌, ◌<◌, List, [], ◌∷◌, ◌++◌, length, take, get_or, sym, ap, ◌∙◌}
-use Rattle.std.proofs.Common.{append_assoc, ◌≤◌, subst, None}
+use Rattle.std.proofs.Common.{append_assoc, ◌≤◌}
 use Rattle.std.proofs.lemmas.Bool.{le-leb}
 use Rattle.ref_base.specs.Graphs.{Graph}
 use Rattle.refrun.specs.GraphTexts.{DeclareGraph, DeclaresGraph}
 use Rattle.refrun.specs.Lines.{lines_of, most_bytes}
-use Rattle.refrun.specs.Listings.{ListsStrengths, PrintsStrengths}
-use Rattle.refrun.specs.TextFaults.{graph_fault}
-use Rattle.refrun.proofs.FaultLaws.{graph_without_fault}
 use Rattle.std.proofs.lemmas.List.{append-nil, take_more}
 use Rattle.ref_base.specs.declared.reach.ObjectReach.{ObjectReach}
 use Rattle.refrun.specs.Listings.{listing_line, listing_text}
@@ -30,25 +27,7 @@ listed_more listed i next text more text_is within next_is more_is =
 
 -- ---- the answer
 
--- a short enough slice whose lines declare a graph declares it
-declares_graph : (items slice : List ℕ) (g : Graph) → length items ≤ most_bytes → slice ≡ items
-    → DeclareGraph (lines_of slice) g → DeclaresGraph items g
-declares_graph items slice g short same lines = record {
-  short = le-leb _ _ short;
-  lines = subst (λ (t : List ℕ). DeclareGraph (lines_of t) g) same lines;
-}
-
--- the slice prints the strengths of the graph that it declares
-pub slice_prints_strengths : (items slice printed : List ℕ) (g : Graph) → length items ≤ most_bytes → slice ≡ items
-    → DeclareGraph (lines_of slice) g → ListsStrengths g printed → PrintsStrengths items printed
-slice_prints_strengths items slice printed g short same lines lists = record {
-  graph = g;
-  declares = declares_graph items slice g short same lines;
-  lists = lists;
-}
-
--- a slice that declares a graph has no fault
-pub slice_without_fault : (items slice : List ℕ) (g : Graph) → length items ≤ most_bytes → slice ≡ items
-    → DeclareGraph (lines_of slice) g → graph_fault items ≡ None
-slice_without_fault items slice g short same lines =
-    graph_without_fault items g (declares_graph items slice g short same lines)
+-- a short enough text whose lines declare a graph declares it
+pub declares_graph : (text : List ℕ) (g : Graph) → length text ≤ most_bytes → DeclareGraph (lines_of text) g
+    → DeclaresGraph text g
+declares_graph text g short lines = record { short = le-leb _ _ short; lines = lines }

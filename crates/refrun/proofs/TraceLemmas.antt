@@ -1,6 +1,6 @@
 -- The trace so far, and the trace of a whole script.
-use Rattle.std.proofs.Common.{◌≡◌, ℕ, ◌+◌, ◌<◌, ◌≤◌, List, [], ◌∷◌, ◌++◌, length, take, get_or, subst}
-use Rattle.std.proofs.Common.{None, codes, decimal, refl, sym, ap, ◌∙◌, append_assoc, arith}
+use Rattle.std.proofs.Common.{◌≡◌, ℕ, ◌+◌, ◌<◌, ◌≤◌, List, [], ◌∷◌, ◌++◌, length, take, get_or}
+use Rattle.std.proofs.Common.{codes, decimal, refl, sym, ap, ◌∙◌, append_assoc, arith}
 use Rattle.std.proofs.lemmas.List.{length-append, map_push, take_more}
 use Rattle.std.proofs.lemmas.Bool.{le-leb}
 use Rattle.refrun.specs.Rows.{row_text}
@@ -8,11 +8,9 @@ use Rattle.ref_base.specs.declared.config.Config.{Config}
 use Rattle.refrun.specs.declared.rows.Step.{Step}
 use Rattle.refrun.specs.declared.rows.Row.{Row}
 use Rattle.refrun.specs.Scripts.{IsScript, AreScript}
-use Rattle.refrun.specs.TextFaults.{script_fault}
 use Rattle.refrun.specs.Lines.{lines_of, most_bytes}
 use Rattle.refrun.specs.Tables.{State, first_state, IsRow, IsRun}
 use Rattle.refrun.specs.Traces.{numbered, trace_text, steps_of, AddsRow, TracesSteps, PrintsTrace}
-use Rattle.refrun.proofs.FaultLaws.{script_without_fault}
 use Rattle.refrun.proofs.RunLemmas.{run_push, run_keeps_queue}
 
 -- one line of a trace
@@ -91,23 +89,9 @@ step_taken items seen i next taken seen_is within next_is taken_is =
     take_more items i next here ∙ ap (λ (s : Step). take i items ++ s ∷ []) (ap (λ
     (xs : List Step). get_or xs i next) (sym seen_is) ∙ sym next_is ∙ sym taken_is)
 
--- a short enough slice that spells a script is a script
-pub is_script : (items slice : List ℕ) (config : Config) (steps : List Step) → length items ≤ most_bytes
-    → slice ≡ items → AreScript (lines_of slice) config steps → IsScript items config steps
-is_script items slice config steps short same lines = record {
-  short = le-leb _ _ short;
-  lines = subst (λ (t : List ℕ). AreScript (lines_of t) config steps) same lines;
-}
+-- ---- the answer
 
--- the slice prints the trace of the steps that it spells
-pub slice_prints_trace : (items slice printed : List ℕ) (config : Config) (steps : List Step)
-    → length items ≤ most_bytes → slice ≡ items → AreScript (lines_of slice) config steps
-    → TracesSteps config steps printed → PrintsTrace items printed
-slice_prints_trace items slice printed config steps short same lines traced =
-    prints_trace items printed config steps (is_script items slice config steps short same lines) traced
-
--- a slice that spells a script has no fault
-pub slice_without_fault : (items slice : List ℕ) (config : Config) (steps : List Step) → length items ≤ most_bytes
-    → slice ≡ items → AreScript (lines_of slice) config steps → script_fault items ≡ None
-slice_without_fault items slice config steps short same lines =
-    script_without_fault items config steps (is_script items slice config steps short same lines)
+-- a short enough text whose lines are a script spells it
+pub is_script : (text : List ℕ) (config : Config) (steps : List Step) → length text ≤ most_bytes
+    → AreScript (lines_of text) config steps → IsScript text config steps
+is_script text config steps short lines = record { short = le-leb _ _ short; lines = lines }

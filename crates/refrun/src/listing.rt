@@ -1,9 +1,12 @@
 //! How strongly the objects of a graph text are reachable, and the text that says so.
 
-ghost use Rattle.std.specs.Prelude.{◌≡◌, ◌++◌, ◌||◌, [], length, string_bytes, IfOk, OnOk, OnErr, IfSome, take};
+ghost use Rattle.std.specs.Prelude.{◌≡◌, ◌≤◌, ◌++◌, ◌||◌, [], length, string_bytes, take, None};
+ghost use Rattle.std.specs.Prelude.{IfOk, IfErr, OnOk, OnErr, IfSome};
 ghost use Rattle.refrun.specs.Answers.{KeepsUnlessDone, TellsFault, is_cannot_read, is_cannot_write};
-ghost use Rattle.refrun.specs.Listings.{AnswersStrengths, ListsStrengths, listing_line, listing_text};
-ghost use Rattle.refrun.specs.TextFaults.{graph_fault};
+ghost use Rattle.refrun.specs.LineReading.{FailsFor};
+ghost use Rattle.refrun.specs.Lines.{lines_of, most_bytes};
+ghost use Rattle.refrun.specs.Listings.{AnswersStrengths, ListsStrengths, PrintsStrengths, listing_line, listing_text};
+ghost use Rattle.refrun.specs.TextFaults.{GraphHeader, first_fault, graph_fault};
 
 use crate::fault::TextFault;
 use crate::graph_text::declared_graph;
@@ -37,12 +40,23 @@ pub fn strength_text<R: TextSource, W: TextSink, A: Allocator + Copy>(
     ensures cannot_write { W.has_failed writer.new ≡ (W.has_failed writer.old || is_cannot_write result) }
 {
     let text = text_of(alloc, reader)?;
-    let graph = declared_graph(alloc, text.as_slice())?;
-    let listing = listing_of(alloc, &graph)?;
+    let listing = listing_behind(alloc, text.as_slice())?;
     match writer.write_text(listing.as_bytes()) {
         Ok(()) => Ok(()),
         Err(WriteFailed) => Err(TextFault::CannotWrite),
     }
+}
+
+/// The listing of the graph that a text declares, or the fault of the text's first faulty line.
+fn listing_behind<A: Allocator + Copy>(alloc: A, text: &[u8]) -> Result<String<A>, TextFault>
+    requires { length text.now ≤ most_bytes }
+    ensures prints { IfOk result (λ listing. PrintsStrengths text.now (string_bytes listing)) }
+    ensures sound { IfOk result (λ listing. graph_fault text.now ≡ None) }
+    ensures fault { IfErr result (λ e. FailsFor e (first_fault GraphHeader 1 (lines_of text.now))) }
+{
+    let graph = declared_graph(alloc, text)?;
+    let listing = listing_of(alloc, &graph)?;
+    Ok(listing)
 }
 
 /// The listing of the strengths of a graph's objects.

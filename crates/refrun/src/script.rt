@@ -5,7 +5,8 @@ ghost use Rattle.std.specs.Prelude.{IfOk, IfErr};
 ghost use Rattle.std.specs.List.{list_all};
 ghost use Rattle.refrun.specs.Lines.{lines_of, words_of, most_bytes};
 ghost use Rattle.refrun.specs.LineReading.{FailsFor};
-ghost use Rattle.refrun.specs.Scripts.{is_header, config_of, SpellSteps, AreScript};
+ghost use Rattle.refrun.specs.Numerals.{number_below};
+ghost use Rattle.refrun.specs.Scripts.{is_header, config_of, config_from, SpellSteps, AreScript};
 ghost use Rattle.refrun.specs.Spelling.{SpellsStep};
 ghost use Rattle.refrun.specs.StepFaults.{step_fault};
 ghost use Rattle.refrun.specs.TextFaults.{ScriptHeader, Steps, fault_or, first_fault};
@@ -108,6 +109,20 @@ fn config_of(line: &[u8]) -> Option<Config>
     if next_word(rest).is_some() || name != b"config".as_slice() {
         return None;
     }
+    config_from(mutators, workers, queues, cells, span)
+}
+
+/// The configuration of the numbers that these words spell.
+fn config_from(
+    mutators: &[u8],
+    workers: &[u8],
+    queues: &[u8],
+    cells: &[u8],
+    span: &[u8],
+) -> Option<Config>
+    ensures { result ≡ config_from (number_below (2 ^ 32) mutators.now) (number_below (2 ^ 32) workers.now)
+        (number_below (2 ^ 32) queues.now) (number_below (2 ^ 32) cells.now) (number_below (2 ^ 64) span.now) }
+{
     Some(Config {
         mutators: short_number(mutators)?,
         workers: short_number(workers)?,

@@ -1,11 +1,13 @@
 //! Running a script, and the text of its trace.
 
-ghost use Rattle.std.specs.Prelude.{◌≡◌, ◌++◌, ◌∷◌, [], ◌||◌, true, decimal, string_bytes, length, IfOk, OnOk, OnErr};
-ghost use Rattle.std.specs.Prelude.{IfSome};
+ghost use Rattle.std.specs.Prelude.{◌≡◌, ◌≤◌, ◌++◌, ◌∷◌, [], ◌||◌, true, decimal, string_bytes, length, None};
+ghost use Rattle.std.specs.Prelude.{IfOk, IfErr, OnOk, OnErr, IfSome};
 ghost use Rattle.ref_base.specs.Limits.{is_within_limits};
 ghost use Rattle.refrun.specs.Rows.{row_text};
-ghost use Rattle.refrun.specs.TextFaults.{script_fault};
-ghost use Rattle.refrun.specs.Traces.{TracesSteps, AddsRow, AnswersRun};
+ghost use Rattle.refrun.specs.LineReading.{FailsFor};
+ghost use Rattle.refrun.specs.Lines.{lines_of, most_bytes};
+ghost use Rattle.refrun.specs.TextFaults.{ScriptHeader, first_fault, script_fault};
+ghost use Rattle.refrun.specs.Traces.{TracesSteps, PrintsTrace, AddsRow, AnswersRun};
 ghost use Rattle.refrun.specs.Answers.{KeepsUnlessDone, TellsFault, is_cannot_read, is_cannot_write};
 
 use crate::fault::TextFault;
@@ -43,12 +45,23 @@ pub fn run_script<R: TextSource, W: TextSink, A: Allocator + Copy>(
     ensures cannot_write { W.has_failed writer.new ≡ (W.has_failed writer.old || is_cannot_write result) }
 {
     let text = text_of(alloc, reader)?;
-    let script = script_of(alloc, text.as_slice())?;
-    let trace = trace_of(alloc, &script)?;
+    let trace = trace_behind(alloc, text.as_slice())?;
     match writer.write_text(trace.as_bytes()) {
         Ok(()) => Ok(()),
         Err(WriteFailed) => Err(TextFault::CannotWrite),
     }
+}
+
+/// The text of the trace of the script that a text spells, or the fault of the text's first faulty line.
+fn trace_behind<A: Allocator + Copy>(alloc: A, text: &[u8]) -> Result<String<A>, TextFault>
+    requires { length text.now ≤ most_bytes }
+    ensures prints { IfOk result (λ trace. PrintsTrace text.now (string_bytes trace)) }
+    ensures sound { IfOk result (λ trace. script_fault text.now ≡ None) }
+    ensures fault { IfErr result (λ e. FailsFor e (first_fault ScriptHeader 1 (lines_of text.now))) }
+{
+    let script = script_of(alloc, text)?;
+    let trace = trace_of(alloc, &script)?;
+    Ok(trace)
 }
 
 /// The text of the trace of a script.

@@ -1,10 +1,10 @@
 //! Graphs and searches whose memory runs out.
 
-use super::Call::{Count, Plain, Refer, StrengthOf};
-use super::{Call, Told, make_calls};
+use super::Call::{Count, Plain, Refer, Root, StrengthOf};
+use super::{Call, Told, answer, make_calls, strength};
 use crate::arena::limited;
-use ref_base::{Fault, Graph, ObjNo, Reach, Strength, strength_of, strengths};
-use std::alloc::{Allocator, Global};
+use ref_base::{Fault, Graph, ObjNo, Reach, Strength, strengths};
+use std::alloc::{AllocError, Allocator, Global};
 use std::process::Abort;
 use std::test::Fail;
 
@@ -65,26 +65,63 @@ fn an_add_without_memory_changes_nothing(rt: HostRuntime) -> Result<(), Fail> {
     Ok(())
 }
 
+/// Makes numbers roots from 0 on, until there is no memory for one more. Answers how many were added.
+fn add_roots<A: Allocator + Copy>(rt: &impl Abort, alloc: Global, graph: &mut Graph<A>) -> u32 {
+    for no in 0..1_000 {
+        let told = answer(alloc, graph, Root(no));
+        if told != Told::Added {
+            assert_eq!(rt; told, Told::Refused(Fault::NoMemory));
+            return no;
+        }
+    }
+    1_000
+}
+
 #[test]
 fn a_root_without_memory_changes_nothing(rt: HostRuntime) -> Result<(), Fail> {
     for size in [0, 64, 256, 1_024, 4_096] {
         let memory = limited(rt.alloc(), size)?;
         let mut graph = Graph::new(&memory);
-        let mut count = 0;
-        for no in 0..1_000 {
-            match graph.add_root(ObjNo(no)) {
-                Ok(added) => assert!(rt; added),
-                Err(fault) => {
-                    assert_eq!(rt; fault, Fault::NoMemory);
-                    count = no;
-                    break;
-                }
-            }
-        }
+        let count = add_roots(&rt, rt.alloc(), &mut graph);
         for no in 0..count {
-            assert_eq!(rt; graph.add_root(ObjNo(no)), Ok(false));
+            make_calls(&rt, rt.alloc(), &mut graph, &[(Root(no), Told::Before)]);
         }
-        assert_eq!(rt; graph.add_root(ObjNo(count)), Err(Fault::NoMemory));
+        let refused = [(Root(count), Told::Refused(Fault::NoMemory))];
+        make_calls(&rt, rt.alloc(), &mut graph, &refused);
+    }
+    Ok(())
+}
+
+/// In memory of so many bytes it is told that the last of 200 objects is strongly reachable, or refused. Answers whether it
+/// was told.
+fn is_told(
+    rt: &impl Abort,
+    alloc: Global,
+    graph: &Graph<Global>,
+    size: usize,
+) -> Result<bool, AllocError> {
+    let memory = limited(alloc, size)?;
+    let told = strength(&memory, graph, 199);
+    let no_such_object = Told::Refused(Fault::NoSuchObject);
+    assert_eq!(rt; strength(&memory, graph, 200), no_such_object);
+    if told == Told::Strength(Reach::Strong) {
+        return Ok(true);
+    }
+    assert_eq!(rt; told, Told::Refused(Fault::NoMemory));
+    Ok(false)
+}
+
+/// In memory of so many bytes all objects are listed, each of them strongly reachable, or the list is refused.
+fn are_all_told_or_none(
+    rt: &impl Abort,
+    alloc: Global,
+    graph: &Graph<Global>,
+    size: usize,
+) -> Result<(), AllocError> {
+    let memory = limited(alloc, size)?;
+    match strengths(&memory, graph) {
+        Ok(listed) => assert!(rt; listed.iter().all(|of| of.reach == Reach::Strong)),
+        Err(fault) => assert_eq!(rt; fault, Fault::NoMemory),
     }
     Ok(())
 }
@@ -94,30 +131,15 @@ fn a_search_without_memory_is_refused(rt: HostRuntime) -> Result<(), Fail> {
     let mut graph = Graph::new(rt.alloc());
     graph.add_root(ObjNo(0))?;
     assert_eq!(rt; chain(&rt, &mut graph, 200), 200);
-    let last = ObjNo(199);
     let mut was_refused = false;
     let mut was_answered = false;
     for size in 0..300 {
-        let memory = limited(rt.alloc(), size * 256)?;
-        match strength_of(&memory, &graph, last) {
-            Ok(reach) => {
-                assert_eq!(rt; reach, Reach::Strong);
-                was_answered = true;
-            }
-            Err(fault) => {
-                assert_eq!(rt; fault, Fault::NoMemory);
-                was_refused = true;
-            }
+        if is_told(&rt, rt.alloc(), &graph, size * 256)? {
+            was_answered = true;
+        } else {
+            was_refused = true;
         }
-        assert_eq!(rt;
-            strength_of(&memory, &graph, ObjNo(200)),
-            Err(Fault::NoSuchObject)
-        );
-        let memory = limited(rt.alloc(), size * 256)?;
-        match strengths(&memory, &graph) {
-            Ok(listed) => assert!(rt; listed.iter().all(|of| of.reach == Reach::Strong)),
-            Err(fault) => assert_eq!(rt; fault, Fault::NoMemory),
-        }
+        are_all_told_or_none(&rt, rt.alloc(), &graph, size * 256)?;
     }
     assert!(rt; was_refused && was_answered);
     Ok(())

@@ -5,7 +5,8 @@ use super::Call::{Ask, Collect, Keep, Mutate};
 use super::Collect::{Begin, Cut, EndMark, Free, GreyRoot, Scan, TakeFound, ToIdle, ToSweeping};
 use super::Keep::{Adopt, Hold, Leak, Mint, Release};
 use super::Mutate::{Clear, CopySlot, DropSlot, Get, Load, New, Refer, RefersTo, Store};
-use super::{Told, agree};
+use super::agree;
+use crate::told::Told;
 use ref_base::{Fault, Phase, Strength, Urgency};
 use std::test::Fail;
 
@@ -215,9 +216,9 @@ fn what_is_held_or_told_as_a_root_is_kept(rt: HostRuntime) -> Result<(), Fail> {
         (Mutate(New(0, 0)), Told::Object(3)),
         (Mutate(New(0, 0)), Told::Object(4)),
         (Mutate(CopySlot(1, 0)), Told::Object(4)),
-        (Keep(Hold(1)), Told::Held(4)),
+        (Keep(Hold(1)), Told::Held(4, 1)),
         (Keep(Leak), Told::Done),
-        (Keep(Mint(2)), Told::Held(2)),
+        (Keep(Mint(2)), Told::Held(2, 1)),
         (Keep(Leak), Told::Done),
         (Mutate(DropSlot(0)), Told::Done),
         (Mutate(DropSlot(1)), Told::Done),
@@ -240,10 +241,10 @@ fn what_is_held_or_told_as_a_root_is_kept(rt: HostRuntime) -> Result<(), Fail> {
 fn a_hold_is_taken_back(rt: HostRuntime) -> Result<(), Fail> {
     let story = [
         (Mutate(New(0, 0)), Told::Object(1)),
-        (Keep(Hold(0)), Told::Held(1)),
+        (Keep(Hold(0)), Told::Held(1, 1)),
         (Keep(Adopt(2)), Told::Object(1)),
         (Ask(HoldCount), Told::Count(0)),
-        (Keep(Hold(2)), Told::Held(1)),
+        (Keep(Hold(2)), Told::Held(1, 1)),
         (Keep(Release), Told::Done),
         (Ask(HoldCount), Told::Count(0)),
     ];

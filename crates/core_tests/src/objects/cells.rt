@@ -7,7 +7,8 @@ use super::Ask::{
 use super::Call::{Ask, Do, Set};
 use super::Do::{Free, Mark, New, Refer, Store};
 use super::Set::{ClockTo, CloseGaps, Cut, Stamp, UnmarkAll};
-use super::{Told, agree, agree_from, config};
+use super::{agree, agree_from, config};
+use crate::told::Told;
 use ref_base::{Config, Fault, ObjNo, QueueNo, Strength};
 use ref_objects::{Reference, Start};
 use std::test::Fail;
@@ -104,9 +105,9 @@ fn gaps_are_passed_over_and_closed(rt: HostRuntime) -> Result<(), Fail> {
         (Do(Free(3)), Told::Yes),
         (Do(Free(4)), Told::Yes),
         (Do(Free(4)), Told::No),
-        (Ask(FirstFrom(3)), Told::Object(5)),
+        (Ask(FirstFrom(3)), Told::Found(5)),
         (Set(CloseGaps), Told::Done),
-        (Ask(FirstFrom(3)), Told::Object(5)),
+        (Ask(FirstFrom(3)), Told::Found(5)),
         (Ask(FirstFrom(6)), Told::Nothing),
         (Ask(ObjectCount), Told::Count(3)),
     ];
@@ -134,7 +135,7 @@ fn what_is_marked_is_counted_and_passed_over(rt: HostRuntime) -> Result<(), Fail
         (Do(New(0, 2)), Told::Object(3)),
         (Do(New(0, 2)), Told::Object(4)),
         (Do(New(0, 2)), Told::Object(5)),
-        (Ask(UnmarkedFrom(0)), Told::Object(1)),
+        (Ask(UnmarkedFrom(0)), Told::Found(1)),
         (Do(Mark(2)), Told::Yes),
         (Do(Mark(3)), Told::Yes),
         // It is marked already, and there is none.
@@ -145,7 +146,7 @@ fn what_is_marked_is_counted_and_passed_over(rt: HostRuntime) -> Result<(), Fail
         (Ask(IsMarked(6)), Told::No),
         // Two of five are marked.
         (Ask(UnmarkedCount), Told::Count(3)),
-        (Ask(UnmarkedFrom(2)), Told::Object(4)),
+        (Ask(UnmarkedFrom(2)), Told::Found(4)),
         (Ask(UnmarkedFrom(6)), Told::Nothing),
     ];
     agree(&rt, rt.alloc(), 5, &story)

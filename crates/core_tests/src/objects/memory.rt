@@ -5,9 +5,9 @@ use super::Call::{Ask, Do, Keep, Set};
 use super::Do::{CopySlot, DropSlot, Free, Mark, New, Refer, SetSlot, Store};
 use super::Keep::{Adopt, Hold, Mint, Release};
 use super::Set::{ClockTo, CloseGaps, Cut, Stamp, UnmarkAll};
-use super::{Call, M, Told, config, make_calls};
-use crate::arena::limited;
-use bumpalo::Bump;
+use super::{Call, M, config, make_calls};
+use crate::arena::{all_that_is_left, limited};
+use crate::told::Told;
 use ref_base::{Fault, ObjNo, SlotNo, Strength};
 use ref_objects::Objects;
 use std::alloc::Allocator;
@@ -36,18 +36,20 @@ const EACH_CALL: [(Call, Told); 18] = [
     (Ask(ObjectCount), Told::Count(1)),
 ];
 
+/// There is no memory for a heap of so many cells.
+fn no_memory_for<A: Allocator + Copy>(rt: &impl Abort, memory: A, cells: u32) {
+    let refused = Objects::new(memory, config(cells), 1).err();
+    assert_eq!(rt; refused, Some(Fault::NoMemory));
+}
+
 #[test]
 fn after_new_no_call_takes_memory(rt: HostRuntime) -> Result<(), Fail> {
     let memory = limited(rt.alloc(), 4_096)?;
     let heap = Objects::new(&memory, config(3), 1)?;
     let other = Objects::new(&memory, config(3), 2)?;
-    let _rest: Vec<u8, &Bump> = Vec::with_capacity(&memory, memory.chunk_capacity())?;
-    assert_eq!(rt; memory.chunk_capacity(), 0, "nothing is left");
+    let _rest = all_that_is_left(&rt, &memory)?;
     make_calls(&rt, heap, other, &EACH_CALL);
-    assert_eq!(rt;
-        Objects::new(&memory, config(3), 2).err(),
-        Some(Fault::NoMemory)
-    );
+    no_memory_for(&rt, &memory, 3);
     Ok(())
 }
 
@@ -70,21 +72,25 @@ fn free_all_but_one<A: Allocator + Copy>(heap: &mut Objects<A>) {
     }
 }
 
+/// Fills the heap, and again each time that all but the first object were freed. As that one stays, the index fills with
+/// gaps again and again.
+fn fill_again_and_again<A: Allocator + Copy>(rt: &impl Abort, heap: &mut Objects<A>, cells: u32) {
+    fill(rt, heap, cells);
+    for _round in 0..20 {
+        free_all_but_one(heap);
+        fill(rt, heap, cells);
+        assert_eq!(rt; heap.object_count(), cells as usize);
+        assert!(rt; heap.has_object(ObjNo(1)));
+    }
+}
+
 #[test]
 fn after_new_no_memory_is_taken(rt: HostRuntime) -> Result<(), Fail> {
     for cells in 1..60 {
         let memory = limited(rt.alloc(), 192 * cells as usize + 256)?;
         let mut heap = Objects::new(&memory, config(cells), 1)?;
-        let _rest: Vec<u8, &Bump> = Vec::with_capacity(&memory, memory.chunk_capacity())?;
-        assert_eq!(rt; memory.chunk_capacity(), 0, "nothing is left");
-        fill(&rt, &mut heap, cells);
-        // As the first object stays, the index fills with gaps again and again.
-        for _round in 0..20 {
-            free_all_but_one(&mut heap);
-            fill(&rt, &mut heap, cells);
-            assert_eq!(rt; heap.object_count(), cells as usize);
-            assert!(rt; heap.has_object(ObjNo(1)));
-        }
+        let _rest = all_that_is_left(&rt, &memory)?;
+        fill_again_and_again(&rt, &mut heap, cells);
     }
     Ok(())
 }
@@ -92,9 +98,6 @@ fn after_new_no_memory_is_taken(rt: HostRuntime) -> Result<(), Fail> {
 #[test]
 fn want_of_memory_is_told_by_new(rt: HostRuntime) -> Result<(), Fail> {
     let memory = limited(rt.alloc(), 4_096)?;
-    assert_eq!(rt;
-        Objects::new(&memory, config(1_000), 1).err(),
-        Some(Fault::NoMemory)
-    );
+    no_memory_for(&rt, &memory, 1_000);
     Ok(())
 }

@@ -9,7 +9,8 @@ use super::Call::{Ask, Do, Keep, Set, TurnToOther};
 use super::Do::{CopySlot, DropSlot, Free, Mark, New, NewOf, Refer, SetSlot, Store};
 use super::Keep::{Adopt, Hand, Hold, Leak, Mint, Release};
 use super::Set::{ClockTo, Cut, Stamp, UnmarkAll};
-use super::{Told, agree, agree_from, config};
+use super::{agree, agree_from, config};
+use crate::told::Told;
 use ref_base::{Fault, Strength};
 use ref_objects::{Kind, Objects, Start};
 use std::test::Fail;
@@ -152,7 +153,7 @@ fn a_heap_tells_what_it_is(rt: HostRuntime) -> Result<(), Fail> {
         (Ask(HasObject(1)), Told::Yes),
         (Ask(IsHeld(1)), Told::No),
         (Ask(ReferenceOf(1)), Told::Nothing),
-        (Ask(FirstFrom(1)), Told::Object(1)),
+        (Ask(FirstFrom(1)), Told::Found(1)),
         (Ask(FirstFrom(2)), Told::Nothing),
     ];
     agree(&rt, rt.alloc(), 4, &story)
@@ -186,7 +187,7 @@ fn each_hold_is_counted(rt: HostRuntime) -> Result<(), Fail> {
         (Keep(Mint(3)), Told::Refused(Fault::NoSuchObject)),
         (Keep(Mint(2)), Told::Held(2, 1)),
         (Ask(HoldCount), Told::Count(1)),
-        (Ask(HeldFrom(1)), Told::Object(2)),
+        (Ask(HeldFrom(1)), Told::Found(2)),
         (Do(Free(2)), Told::No),
         (Keep(Release), Told::Done),
         (Ask(HeldFrom(1)), Told::Nothing),
@@ -214,12 +215,12 @@ fn what_is_held_is_walked_in_order(rt: HostRuntime) -> Result<(), Fail> {
         (Keep(Leak), Told::Done),
         // A leaked hold is counted on.
         (Ask(HoldCount), Told::Count(3)),
-        (Ask(HeldFrom(0)), Told::Object(2)),
-        (Ask(HeldFrom(2)), Told::Object(2)),
-        (Ask(HeldFrom(3)), Told::Object(6)),
+        (Ask(HeldFrom(0)), Told::Found(2)),
+        (Ask(HeldFrom(2)), Told::Found(2)),
+        (Ask(HeldFrom(3)), Told::Found(6)),
         (Ask(HeldFrom(7)), Told::Nothing),
-        (Ask(HeldAfter(1)), Told::Object(2)),
-        (Ask(HeldAfter(2)), Told::Object(6)),
+        (Ask(HeldAfter(1)), Told::Found(2)),
+        (Ask(HeldAfter(2)), Told::Found(6)),
         (Ask(HeldAfter(6)), Told::Nothing),
         (Ask(HeldAfter(u32::MAX)), Told::Nothing),
     ];
@@ -233,7 +234,7 @@ fn what_a_cycle_reaches_is_marked_and_the_rest_is_white(rt: HostRuntime) -> Resu
         (Do(New(1, 0)), Told::Object(2)),
         (Do(New(2, 0)), Told::Object(3)),
         (Ask(UnmarkedCount), Told::Count(3)),
-        (Ask(UnmarkedFrom(1)), Told::Object(1)),
+        (Ask(UnmarkedFrom(1)), Told::Found(1)),
         (Do(Mark(1)), Told::Yes),
         (Do(Mark(2)), Told::Yes),
         // It is marked already, and there is none.
@@ -246,7 +247,7 @@ fn what_a_cycle_reaches_is_marked_and_the_rest_is_white(rt: HostRuntime) -> Resu
         // There is none.
         (Ask(IsUnmarked(4)), Told::No),
         (Ask(UnmarkedCount), Told::Count(1)),
-        (Ask(UnmarkedFrom(1)), Told::Object(3)),
+        (Ask(UnmarkedFrom(1)), Told::Found(3)),
         (Ask(UnmarkedFrom(4)), Told::Nothing),
     ];
     agree(&rt, rt.alloc(), 8, &story)
@@ -282,7 +283,7 @@ fn a_new_cycle_begins_with_no_mark(rt: HostRuntime) -> Result<(), Fail> {
         (Ask(UnmarkedFrom(1)), Told::Nothing),
         (Set(UnmarkAll), Told::Done),
         (Ask(UnmarkedCount), Told::Count(2)),
-        (Ask(UnmarkedFrom(2)), Told::Object(2)),
+        (Ask(UnmarkedFrom(2)), Told::Found(2)),
         // Only marks are taken away.
         (Ask(IsHeld(2)), Told::Yes),
         (Do(Mark(2)), Told::Yes),

@@ -1,27 +1,49 @@
 //! Queues whose memory runs out.
 
-use super::{Call, Slip, Told, make_calls, of};
+use super::Call::{Close, EnqueuedAt, Poll, Put, StandsAt, TakenAt};
+use super::{Call, Slip, Told, answer, make_calls, of};
 use crate::arena::limited;
-use bumpalo::Bump;
 use ref_base::{Fault, QueueNo};
-use ref_queue::{Polled, Put, Queue};
+use ref_queue::Queue;
+use std::alloc::{Allocator, Global};
 use std::process::Abort;
 use std::test::Fail;
 
 /// Puts slips in, numbered from 0, until there is no memory for one more. Answers how many were added.
-fn fill(rt: &impl Abort, queue: &mut Queue<Slip, &Bump>) -> u32 {
+fn fill<A: Allocator + Copy>(rt: &impl Abort, alloc: Global, queue: &mut Queue<Slip, A>) -> u32 {
     for object in 0..1_000 {
-        match queue.put(of(object)) {
-            Ok(put) => assert!(rt; matches!(&put, Put::Added(at) if *at == object as u64)),
-            Err((fault, back)) => {
-                assert_eq!(rt; fault, Fault::NoMemory);
-                assert_eq!(rt; back, of(object));
-                return object;
-            }
+        let slip = of(object);
+        let told = answer(alloc, queue, Put(slip));
+        if told != Told::Added(object as u64) {
+            assert_eq!(rt; told, Told::Refused(Fault::NoMemory, slip));
+            return object;
         }
     }
     assert!(rt; false, "a thousand were added");
     1_000
+}
+
+/// Just so many slips were put in, numbered from 0, and all of them stand: they are taken one by one.
+fn drain<A: Allocator + Copy>(
+    rt: &impl Abort,
+    alloc: Global,
+    queue: &mut Queue<Slip, A>,
+    count: u32,
+) {
+    let all = [
+        (EnqueuedAt(count as usize), Told::PastTheEnd),
+        (StandsAt(count as usize), Told::PastTheEnd),
+    ];
+    make_calls(rt, alloc, queue, &all);
+    for object in 0..count {
+        let first = [
+            (EnqueuedAt(object as usize), Told::Object(object)),
+            (StandsAt(0), Told::Object(object)),
+            (Poll, Told::Took(of(object))),
+        ];
+        make_calls(rt, alloc, queue, &first);
+    }
+    make_calls(rt, alloc, queue, &[(Poll, Told::Empty)]);
 }
 
 #[test]
@@ -29,16 +51,8 @@ fn a_put_without_memory_changes_nothing(rt: HostRuntime) -> Result<(), Fail> {
     for size in [0, 64, 256, 1_024, 4_096] {
         let mut memory = limited(rt.alloc(), size)?;
         let mut queue = Queue::new(&memory, QueueNo(0));
-        let count = fill(&rt, &mut queue);
-        assert_eq!(rt; queue.enqueued(rt.alloc())?.len(), count as usize);
-        assert_eq!(rt; queue.stands(rt.alloc())?.len(), count as usize);
-        for object in 0..count {
-            match queue.poll() {
-                Polled::Took(first) => assert_eq!(rt; first, of(object)),
-                other => assert!(rt; false, "{other:?}"),
-            }
-        }
-        assert!(rt; matches!(&queue.poll(), Polled::Empty));
+        let count = fill(&rt, rt.alloc(), &mut queue);
+        drain(&rt, rt.alloc(), &mut queue, count);
         drop(queue);
         assert!(rt; memory.reset().is_ok(), "all memory was given back");
     }
@@ -49,11 +63,11 @@ fn a_put_without_memory_changes_nothing(rt: HostRuntime) -> Result<(), Fail> {
 fn told_last(next: Slip) -> [(Call, Told); 5] {
     let stray = Slip { queue: 1, ..next };
     [
-        (Call::Put(next), Told::Refused(Fault::NoMemory, next)),
-        (Call::Put(stray), Told::Refused(Fault::WrongQueue, stray)),
-        (Call::Put(of(0)), Told::Already(of(0))),
-        (Call::Close, Told::ClosesNow),
-        (Call::Put(next), Told::TooLate(next)),
+        (Put(next), Told::Refused(Fault::NoMemory, next)),
+        (Put(stray), Told::Refused(Fault::WrongQueue, stray)),
+        (Put(of(0)), Told::Already(of(0))),
+        (Close, Told::ClosesNow),
+        (Put(next), Told::TooLate(next)),
     ]
 }
 
@@ -61,7 +75,7 @@ fn told_last(next: Slip) -> [(Call, Told); 5] {
 fn want_of_memory_is_told_last(rt: HostRuntime) -> Result<(), Fail> {
     let memory = limited(rt.alloc(), 1_024)?;
     let mut queue = Queue::new(&memory, QueueNo(0));
-    let count = fill(&rt, &mut queue);
+    let count = fill(&rt, rt.alloc(), &mut queue);
     make_calls(&rt, rt.alloc(), &mut queue, &told_last(of(count)));
     Ok(())
 }
@@ -76,8 +90,11 @@ fn lists_without_memory_are_refused(rt: HostRuntime) -> Result<(), Fail> {
         queue.poll();
     }
     let tiny = limited(rt.alloc(), 64)?;
-    assert_eq!(rt; queue.enqueued(&tiny).err(), Some(Fault::NoMemory));
-    assert_eq!(rt; queue.taken(&tiny).err(), Some(Fault::NoMemory));
-    assert_eq!(rt; queue.stands(&tiny).err(), Some(Fault::NoMemory));
+    let refused = [
+        (EnqueuedAt(0), Told::NoList(Fault::NoMemory)),
+        (TakenAt(0), Told::NoList(Fault::NoMemory)),
+        (StandsAt(0), Told::NoList(Fault::NoMemory)),
+    ];
+    make_calls(&rt, &tiny, &mut queue, &refused);
     Ok(())
 }
