@@ -155,6 +155,5 @@ fn list<A: Allocator + Copy, B: Allocator + Copy>(
     ensures { IfOk result (λ listed. AreStrengths graph.now listed.items) }
 {
     let found = find(alloc, graph)?;
-    let listed = found.reach_of_all(alloc, graph)?;
-    Ok(listed)
+    found.reach_of_all(alloc, graph)
 }

@@ -55,8 +55,7 @@ fn listing_behind<A: Allocator + Copy>(alloc: A, text: &[u8]) -> Result<String<A
     ensures fault { IfErr result (λ e. FailsFor e (first_fault GraphHeader 1 (lines_of text.now))) }
 {
     let graph = declared_graph(alloc, text)?;
-    let listing = listing_of(alloc, &graph)?;
-    Ok(listing)
+    listing_of(alloc, &graph)
 }
 
 /// The listing of the strengths of a graph's objects.

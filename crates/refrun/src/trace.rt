@@ -60,8 +60,7 @@ fn trace_behind<A: Allocator + Copy>(alloc: A, text: &[u8]) -> Result<String<A>,
     ensures fault { IfErr result (λ e. FailsFor e (first_fault ScriptHeader 1 (lines_of text.now))) }
 {
     let script = script_of(alloc, text)?;
-    let trace = trace_of(alloc, &script)?;
-    Ok(trace)
+    trace_of(alloc, &script)
 }
 
 /// The text of the trace of a script.

@@ -77,17 +77,27 @@ fn add_roots<A: Allocator + Copy>(rt: &impl Abort, alloc: Global, graph: &mut Gr
     1_000
 }
 
+/// The numbers from 0 on, so many, are roots, and there is no memory for one more.
+fn has_roots<A: Allocator + Copy>(
+    rt: &impl Abort,
+    alloc: Global,
+    graph: &mut Graph<A>,
+    count: u32,
+) {
+    for no in 0..count {
+        make_calls(rt, alloc, graph, &[(Root(no), Told::Before)]);
+    }
+    let refused = [(Root(count), Told::Refused(Fault::NoMemory))];
+    make_calls(rt, alloc, graph, &refused);
+}
+
 #[test]
 fn a_root_without_memory_changes_nothing(rt: HostRuntime) -> Result<(), Fail> {
     for size in [0, 64, 256, 1_024, 4_096] {
         let memory = limited(rt.alloc(), size)?;
         let mut graph = Graph::new(&memory);
         let count = add_roots(&rt, rt.alloc(), &mut graph);
-        for no in 0..count {
-            make_calls(&rt, rt.alloc(), &mut graph, &[(Root(no), Told::Before)]);
-        }
-        let refused = [(Root(count), Told::Refused(Fault::NoMemory))];
-        make_calls(&rt, rt.alloc(), &mut graph, &refused);
+        has_roots(&rt, rt.alloc(), &mut graph, count);
     }
     Ok(())
 }

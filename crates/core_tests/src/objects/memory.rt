@@ -8,6 +8,7 @@ use super::Set::{ClockTo, CloseGaps, Cut, Stamp, UnmarkAll};
 use super::{Call, M, config, make_calls};
 use crate::arena::{all_that_is_left, limited};
 use crate::told::Told;
+use bumpalo::Bump;
 use ref_base::{Fault, ObjNo, SlotNo, Strength};
 use ref_objects::Objects;
 use std::alloc::Allocator;
@@ -42,15 +43,20 @@ fn no_memory_for<A: Allocator + Copy>(rt: &impl Abort, memory: A, cells: u32) {
     assert_eq!(rt; refused, Some(Fault::NoMemory));
 }
 
+/// Makes each call once, where nothing is left of the arena behind the two heaps.
+fn make_each_call(rt: &impl Abort, memory: &Bump) -> Result<(), Fail> {
+    let heap = Objects::new(memory, config(3), 1)?;
+    let other = Objects::new(memory, config(3), 2)?;
+    let _rest = all_that_is_left(rt, memory)?;
+    make_calls(rt, heap, other, &EACH_CALL);
+    no_memory_for(rt, memory, 3);
+    Ok(())
+}
+
 #[test]
 fn after_new_no_call_takes_memory(rt: HostRuntime) -> Result<(), Fail> {
     let memory = limited(rt.alloc(), 4_096)?;
-    let heap = Objects::new(&memory, config(3), 1)?;
-    let other = Objects::new(&memory, config(3), 2)?;
-    let _rest = all_that_is_left(&rt, &memory)?;
-    make_calls(&rt, heap, other, &EACH_CALL);
-    no_memory_for(&rt, &memory, 3);
-    Ok(())
+    make_each_call(&rt, &memory)
 }
 
 /// Makes plain objects in slot 0 until no cell is free.
