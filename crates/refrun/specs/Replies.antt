@@ -1,20 +1,27 @@
 -- How each reply is spelled (this project's profile).
-use Rattle.std.specs.Prelude.{List, [], ◌∷◌, codes}
-use Rattle.ref_base.specs.Texts.{Word, Letters, Long, queue, number}
-use Rattle.ref_base.specs.Faults.{number_of, name_of}
+use Rattle.std.specs.Prelude.{List}
+use Rattle.ref_base.specs.Texts.{Word}
+use Rattle.ref_base.specs.Replies.{reply_words as words_of_world}
+use Rattle.ref_base.specs.declared.cause.Cause.TheVariants.{Own}
+use Rattle.ref_base.specs.declared.reply.Reply.{Reply as WorldReply}
+use Rattle.ref_base.specs.declared.reply.Reply.TheVariants as world
 use Rattle.refrun.specs.declared.rows.Reply.{Reply}
 use Rattle.refrun.specs.declared.rows.Reply.TheVariants.{Object, Notice, Nothing, Added, Already, Closed}
 use Rattle.refrun.specs.declared.rows.Reply.TheVariants.{Took, Empty, Done, Refused}
 
+-- the reply of the whole model that it is
+abbrev pub world_reply : Reply → WorldReply
+world_reply (Object n) = world.Object n
+world_reply (Notice n q) = world.Notice n q Own
+world_reply Nothing = world.Nothing
+world_reply (Added position) = world.Added position
+world_reply Already = world.Already
+world_reply Closed = world.Closed
+world_reply (Took n) = world.Took n
+world_reply Empty = world.Empty
+world_reply Done = world.Done
+world_reply (Refused fault) = world.Refused fault
+
 -- the words of a reply, as a trace has them
 abbrev pub reply_words : Reply → List Word
-reply_words (Object n) = Letters (codes "object") ∷ number n ∷ []
-reply_words (Notice n q) = Letters (codes "notice") ∷ number n ∷ queue q ∷ Letters (codes "own") ∷ []
-reply_words Nothing = Letters (codes "none") ∷ []
-reply_words (Added position) = Letters (codes "added") ∷ Long position ∷ []
-reply_words Already = Letters (codes "already") ∷ []
-reply_words Closed = Letters (codes "closed") ∷ []
-reply_words (Took n) = Letters (codes "took") ∷ number n ∷ []
-reply_words Empty = Letters (codes "empty") ∷ []
-reply_words Done = Letters (codes "ok") ∷ []
-reply_words (Refused fault) = Letters (codes "refused") ∷ number (number_of fault) ∷ Letters (name_of fault) ∷ []
+reply_words reply = words_of_world (world_reply reply)

@@ -1,14 +1,19 @@
 //! The steps that the private table answers, its replies, and rows of both. They go with the table.
 
-ghost use Rattle.std.specs.Prelude.{Some};
+ghost use Rattle.std.specs.Prelude.{◌≡◌, Some};
 ghost use Rattle.ref_base.specs.Texts.{text_of};
+ghost use Rattle.refrun.specs.Steps.{world_step};
+ghost use Rattle.refrun.specs.Replies.{world_reply};
 
-use ref_base::{Fault, MutNo, ObjNo, QueueNo, SlotNo};
+use ref_base::{
+    Actor, Cause, Fault, MutNo, ObjNo, QueueNo, Reply as WorldReply, SlotNo, Step as WorldStep,
+    Strength,
+};
 use std::fmt;
 
 /// One step of one mutator. It prints as it is spelled in a script, with single spaces and no leading zeros. Any number
 /// can be named: a step with one outside the configuration is refused as it runs.
-#[derive(Clone, Copy, Debug, PartialEq, Eq)]
+#[derive(Clone, Copy)]
 pub enum Step {
     /// `m0 new s1 2`: makes a plain object, and the slot then holds it.
     New {
@@ -53,43 +58,63 @@ pub enum Step {
     },
 }
 
+impl Step {
+    // The step of the whole model that it is.
+    fn of_world(self) -> WorldStep
+        ensures { result ≡ world_step self }
+    {
+        match self {
+            Step::New {
+                mutator,
+                slot,
+                fields,
+            } => WorldStep::New {
+                mutator,
+                slot,
+                fields,
+            },
+            Step::Weak {
+                mutator,
+                slot,
+                source,
+                queue,
+                fields,
+            } => WorldStep::Refer {
+                mutator,
+                strength: Strength::Weak,
+                slot,
+                source,
+                queue,
+                fields,
+            },
+            Step::Unhook { mutator, slot } => WorldStep::Unhook {
+                mutator,
+                reference: slot,
+            },
+            Step::Put { mutator } => WorldStep::Put {
+                actor: Actor::Mutator(mutator),
+            },
+            Step::Release { mutator } => WorldStep::Release {
+                actor: Actor::Mutator(mutator),
+            },
+            Step::Poll { mutator, queue } => WorldStep::Poll { mutator, queue },
+            Step::Close { mutator, queue } => WorldStep::Close { mutator, queue },
+        }
+    }
+}
+
 impl fmt::Display for Step {
     ghost use Rattle.refrun.specs.Steps.{step_words};
 
     ghost output = { λ step. Some (text_of (step_words step)) };
 
     fn fmt<W: fmt::Write>(&self, f: &mut fmt::Formatter<W>) -> fmt::Result {
-        match *self {
-            Step::New {
-                mutator,
-                slot,
-                fields,
-            } => write!(f, "{mutator} new {slot} {fields}"),
-            Step::Weak {
-                mutator,
-                slot,
-                source,
-                queue: Some(queue),
-                fields,
-            } => write!(f, "{mutator} weak {slot} {source} {queue} {fields}"),
-            Step::Weak {
-                mutator,
-                slot,
-                source,
-                queue: None,
-                fields,
-            } => write!(f, "{mutator} weak {slot} {source} - {fields}"),
-            Step::Unhook { mutator, slot } => write!(f, "{mutator} unhook {slot}"),
-            Step::Put { mutator } => write!(f, "{mutator} put"),
-            Step::Release { mutator } => write!(f, "{mutator} release"),
-            Step::Poll { mutator, queue } => write!(f, "{mutator} poll {queue}"),
-            Step::Close { mutator, queue } => write!(f, "{mutator} close {queue}"),
-        }
+        fmt::Display::fmt(&self.of_world(), f)
     }
 }
 
 /// The answer to one step. It prints as it stands in a trace.
-#[derive(Clone, Copy, Debug, PartialEq, Eq)]
+#[derive(Clone, Copy)]
 pub enum Reply {
     /// `object 1`: the object that was made.
     Object(ObjNo),
@@ -118,33 +143,42 @@ pub enum Reply {
     Refused(Fault),
 }
 
+impl Reply {
+    // The reply of the whole model that it is.
+    fn of_world(self) -> WorldReply
+        ensures { result ≡ world_reply self }
+    {
+        match self {
+            Reply::Object(object) => WorldReply::Object(object),
+            Reply::Notice { object, queue } => WorldReply::Notice {
+                object,
+                queue,
+                cause: Cause::Own,
+            },
+            Reply::Nothing => WorldReply::Nothing,
+            Reply::Added(position) => WorldReply::Added(position),
+            Reply::Already => WorldReply::Already,
+            Reply::Closed => WorldReply::Closed,
+            Reply::Took(object) => WorldReply::Took(object),
+            Reply::Empty => WorldReply::Empty,
+            Reply::Done => WorldReply::Done,
+            Reply::Refused(fault) => WorldReply::Refused(fault),
+        }
+    }
+}
+
 impl fmt::Display for Reply {
     ghost use Rattle.refrun.specs.Replies.{reply_words};
 
     ghost output = { λ reply. Some (text_of (reply_words reply)) };
 
     fn fmt<W: fmt::Write>(&self, f: &mut fmt::Formatter<W>) -> fmt::Result {
-        match *self {
-            Reply::Object(object) => write!(f, "object {object}"),
-            Reply::Notice { object, queue } => write!(f, "notice {object} {queue} own"),
-            Reply::Nothing => write!(f, "none"),
-            Reply::Added(position) => write!(f, "added {position}"),
-            Reply::Already => write!(f, "already"),
-            Reply::Closed => write!(f, "closed"),
-            Reply::Took(object) => write!(f, "took {object}"),
-            Reply::Empty => write!(f, "empty"),
-            Reply::Done => write!(f, "ok"),
-            Reply::Refused(fault) => {
-                let number = fault.number();
-                let name = fault.name();
-                write!(f, "refused {number} {name}")
-            }
-        }
+        fmt::Display::fmt(&self.of_world(), f)
     }
 }
 
 /// A step and its reply. It prints as `m0 new s0 0 : object 1`.
-#[derive(Clone, Copy, Debug, PartialEq, Eq)]
+#[derive(Clone, Copy)]
 pub struct Row {
     /// What was asked.
     pub step: Step,

@@ -21,14 +21,14 @@ use std::marker::Model;
 const SLOTS: u32 = 16;
 
 /// An object: plain, or a reference with the queue that it is registered with, if any.
-#[derive(Clone, Copy, Debug, PartialEq, Eq)]
+#[derive(Clone, Copy)]
 pub enum Object {
     Plain,
     Reference(Option<QueueNo>),
 }
 
 /// A notice of a reference, on its way to the reference's queue or back from it.
-#[derive(Debug, Drop)]
+#[derive(Drop)]
 pub struct Notice {
     pub object: ObjNo,
     pub queue: QueueNo,

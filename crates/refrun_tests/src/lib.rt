@@ -6,16 +6,14 @@
 #![tactic(auto)]
 
 #[cfg(test)]
-mod cases;
-#[cfg(test)]
 mod fakes;
 #[cfg(test)]
 mod graph_cases;
-#[cfg(test)]
-mod graph_texts;
 #[cfg(test)]
 mod memory;
 #[cfg(test)]
 mod printed;
 #[cfg(test)]
-mod scripts;
+mod script_cases;
+#[cfg(test)]
+mod texts;

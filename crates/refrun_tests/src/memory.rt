@@ -1,9 +1,10 @@
 //! Runs with so little memory that an allocation is refused: at one size or another, each that a run makes.
 
-use crate::scripts::{message, printed};
+use crate::texts::{GRAPH, LISTING, Task, printed};
 use bumpalo::Bump;
 use refrun::TextFault;
 use std::alloc::{AllocError, Global};
+use std::process::Abort;
 use std::test::Fail;
 
 /// Seven mutators unhook a reference each, and then put its notice, each into a queue of its own. The last one gives up
@@ -97,22 +98,34 @@ fn added(alloc: Global, trace: &[u8]) -> Result<Option<u32>, AllocError> {
     Ok(None)
 }
 
+/// What a text answers and prints with so much memory: the greater the size, the more.
+fn printed_in(
+    rt: &impl Abort,
+    alloc: Global,
+    task: Task,
+    text: &[u8],
+    size: usize,
+) -> Result<(Result<(), TextFault>, Vec<u8>), AllocError> {
+    // What is given back to the arena isn't given out again, so a call takes the sum of all that it asks for.
+    let mut memory = Bump::try_with_capacity(alloc, 98_304)?;
+    memory.set_allocation_limit(Some(memory.allocated_bytes()));
+    let taken = memory.chunk_capacity().saturating_sub(64 * size);
+    let filler = Vec::<u8, &Bump>::with_capacity(&memory, taken)?;
+    let printed = printed(task, &memory, alloc, text);
+    drop(filler);
+    assert!(rt; memory.reset().is_ok(), "all memory was given back");
+    Ok(printed)
+}
+
 #[test]
 fn an_allocation_that_fails_is_told_of(rt: HostRuntime) -> Result<(), Fail> {
     let alloc = rt.alloc();
     let (mut without, mut partly, mut wholly) = (false, false, false);
     for size in 0..1_500 {
-        // What is given back to the arena isn't given out again, so a run takes the sum of all that it asks for.
-        let mut memory = Bump::try_with_capacity(alloc, 98_304)?;
-        memory.set_allocation_limit(Some(memory.allocated_bytes()));
-        let taken = memory.chunk_capacity().saturating_sub(64 * size);
-        let filler = Vec::<u8, &Bump>::with_capacity(&memory, taken)?;
-        let (answer, trace) = printed(&memory, alloc, SCRIPT);
+        let (answer, trace) = printed_in(&rt, alloc, Task::Run, SCRIPT, size)?;
         match answer {
             Err(fault) => {
                 assert_eq!(rt; fault, TextFault::NoMemory);
-                assert_eq!(rt; message(alloc, fault)?.as_str(), "refrun: no memory\n");
-                assert_eq!(rt; fault.exit_status(), 5);
                 assert!(rt; trace.is_empty());
                 without = true;
             }
@@ -122,9 +135,28 @@ fn an_allocation_that_fails_is_told_of(rt: HostRuntime) -> Result<(), Fail> {
                 None => assert!(rt; false, "{size}"),
             },
         }
-        drop(filler);
-        assert!(rt; memory.reset().is_ok(), "all memory was given back");
     }
     assert!(rt; without && partly && wholly);
+    Ok(())
+}
+
+#[test]
+fn a_listing_is_whole_or_memory_ran_out(rt: HostRuntime) -> Result<(), Fail> {
+    let (mut without, mut wholly) = (false, false);
+    for size in 0..1_500 {
+        let (answer, listing) = printed_in(&rt, rt.alloc(), Task::List, GRAPH, size)?;
+        match answer {
+            Ok(()) => {
+                assert_eq!(rt; listing.as_slice(), LISTING);
+                wholly = true;
+            }
+            Err(fault) => {
+                assert_eq!(rt; fault, TextFault::NoMemory);
+                assert!(rt; listing.is_empty());
+                without = true;
+            }
+        }
+    }
+    assert!(rt; without && wholly);
     Ok(())
 }

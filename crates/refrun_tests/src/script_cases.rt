@@ -1,24 +1,18 @@
 //! Scripts, and what each must print: the trace on standard output, or the one line on standard error. They were worked
 //! out by hand from the rules.
 
-/// A script and what it must print.
-pub struct Case {
-    pub name: &'static str,
-    pub script: &'static [u8],
-    pub trace: &'static [u8],
-    pub error: &'static str,
-}
+use crate::texts::Case;
 
-pub static CASES: [Case; 23] = [
+pub static SCRIPTS: [Case; 23] = [
     Case {
         name: "empty script",
-        script: b"refscript 1\nconfig 1 1 1 1 0\n",
-        trace: b"reftrace 1\n",
+        text: b"refscript 1\nconfig 1 1 1 1 0\n",
+        prints: b"reftrace 1\n",
         error: "",
     },
     Case {
         name: "two enqueued in order",
-        script: b"refscript 1
+        text: b"refscript 1
 config 1 1 1 8 10
 m0 new s0 0
 m0 weak s1 s0 q0 0
@@ -33,7 +27,7 @@ m0 poll q0
 m0 release
 m0 poll q0
 ",
-        trace: b"reftrace 1
+        prints: b"reftrace 1
 1 m0 new s0 0 : object 1
 2 m0 weak s1 s0 q0 0 : object 2
 3 m0 weak s2 s0 q0 0 : object 3
@@ -51,7 +45,7 @@ m0 poll q0
     },
     Case {
         name: "closed queue",
-        script: b"refscript 1
+        text: b"refscript 1
 config 1 1 1 8 10
 m0 new s0 0
 m0 weak s1 s0 q0 0
@@ -67,7 +61,7 @@ m0 release
 m0 poll q0
 m0 close q0
 ",
-        trace: b"reftrace 1
+        prints: b"reftrace 1
 1 m0 new s0 0 : object 1
 2 m0 weak s1 s0 q0 0 : object 2
 3 m0 weak s2 s0 q0 0 : object 3
@@ -86,7 +80,7 @@ m0 close q0
     },
     Case {
         name: "order of refusals first path",
-        script: b"refscript 1
+        text: b"refscript 1
 config 1 1 1 8 10
 m0 put
 m0 new s0 9
@@ -99,7 +93,7 @@ m0 weak s1 s0 q0 0
 m0 unhook s1
 m0 poll q0
 ",
-        trace: b"reftrace 1
+        prints: b"reftrace 1
 1 m0 put : refused 24 HandEmpty
 2 m0 new s0 9 : refused 7 BadField
 3 m0 new s16 0 : refused 9 NoSuchActor
@@ -115,121 +109,121 @@ m0 poll q0
     },
     Case {
         name: "empty input",
-        script: b"",
-        trace: b"",
+        text: b"",
+        prints: b"",
         error: "refrun: line 1: bad header\n",
     },
     Case {
         name: "header alone",
-        script: b"refscript 1\n",
-        trace: b"",
+        text: b"refscript 1\n",
+        prints: b"",
         error: "refrun: line 2: bad config\n",
     },
     Case {
         name: "config out of limits",
-        script: b"refscript 1\nconfig 0 1 1 1 0\n",
-        trace: b"",
+        text: b"refscript 1\nconfig 0 1 1 1 0\n",
+        prints: b"",
         error: "refrun: line 2: bad config\n",
     },
     Case {
         name: "unknown step",
-        script: b"refscript 1\nconfig 1 1 1 8 10\nm0 fly s0\n",
-        trace: b"",
+        text: b"refscript 1\nconfig 1 1 1 8 10\nm0 fly s0\n",
+        prints: b"",
         error: "refrun: line 3: unknown step\n",
     },
     Case {
         name: "missing word",
-        script: b"refscript 1\nconfig 1 1 1 8 10\nm0 new s0\n",
-        trace: b"",
+        text: b"refscript 1\nconfig 1 1 1 8 10\nm0 new s0\n",
+        prints: b"",
         error: "refrun: line 3: missing word\n",
     },
     Case {
         name: "line of 201 bytes",
-        script: b"refscript 1
+        text: b"refscript 1
 config 1 1 1 8 10
 m0 new s0 0                                                                                                                                                                                              
 ",
-        trace: b"",
+        prints: b"",
         error: "refrun: line 3: line too long\n",
     },
     Case {
         name: "byte above 127",
-        script: b"refscript 1\nconfig 1 1 1 8 10\nm0 new s0 0 \xff\n",
-        trace: b"",
+        text: b"refscript 1\nconfig 1 1 1 8 10\nm0 new s0 0 \xff\n",
+        prints: b"",
         error: "refrun: line 3: not ASCII\n",
     },
     Case {
         name: "actor of another kind",
-        script: b"refscript 1\nconfig 1 1 1 8 10\nm0 scan\n",
-        trace: b"",
+        text: b"refscript 1\nconfig 1 1 1 8 10\nm0 scan\n",
+        prints: b"",
         error: "refrun: line 3: unknown step\n",
     },
     Case {
         name: "actor number too large",
-        script: b"refscript 1\nconfig 1 1 1 8 10\nm4294967296 new s0 0\n",
-        trace: b"",
+        text: b"refscript 1\nconfig 1 1 1 8 10\nm4294967296 new s0 0\n",
+        prints: b"",
         error: "refrun: line 3: bad word\n",
     },
     Case {
         name: "one word too many",
-        script: b"refscript 1\nconfig 1 1 1 8 10\nm0 new s0 0 0\n",
-        trace: b"",
+        text: b"refscript 1\nconfig 1 1 1 8 10\nm0 new s0 0 0\n",
+        prints: b"",
         error: "refrun: line 3: extra word\n",
     },
     Case {
         name: "twenty one digits",
-        script: b"refscript 1\nconfig 1 1 1 8 10\nm0 new s0 000000000000000000000\n",
-        trace: b"",
+        text: b"refscript 1\nconfig 1 1 1 8 10\nm0 new s0 000000000000000000000\n",
+        prints: b"",
         error: "refrun: line 3: bad word\n",
     },
     Case {
         name: "twenty digits",
-        script: b"refscript 1\nconfig 1 1 1 8 10\nm0 new s0 00000000000000000000\n",
-        trace: b"reftrace 1\n1 m0 new s0 0 : object 1\n",
+        text: b"refscript 1\nconfig 1 1 1 8 10\nm0 new s0 00000000000000000000\n",
+        prints: b"reftrace 1\n1 m0 new s0 0 : object 1\n",
         error: "",
     },
     Case {
         name: "actor outside the configuration",
-        script: b"refscript 1\nconfig 1 1 1 8 10\nm9 new s0 0\n",
-        trace: b"reftrace 1\n1 m9 new s0 0 : refused 9 NoSuchActor\n",
+        text: b"refscript 1\nconfig 1 1 1 8 10\nm9 new s0 0\n",
+        prints: b"reftrace 1\n1 m9 new s0 0 : refused 9 NoSuchActor\n",
         error: "",
     },
     Case {
         name: "lines end with cr lf",
-        script: b"refscript 1\r\nconfig 1 1 1 8 10\r\nm0 new s0 0\r\n",
-        trace: b"reftrace 1\n1 m0 new s0 0 : object 1\n",
+        text: b"refscript 1\r\nconfig 1 1 1 8 10\r\nm0 new s0 0\r\n",
+        prints: b"reftrace 1\n1 m0 new s0 0 : object 1\n",
         error: "",
     },
     Case {
         name: "line of 200 bytes",
-        script: b"refscript 1
+        text: b"refscript 1
 config 1 1 1 8 10
 m0 new s0 0                                                                                                                                                                                             
 ",
-        trace: b"reftrace 1\n1 m0 new s0 0 : object 1\n",
+        prints: b"reftrace 1\n1 m0 new s0 0 : object 1\n",
         error: "",
     },
     Case {
         name: "header of version 3",
-        script: b"refscript 3\nconfig 1 1 1 8 10\n",
-        trace: b"",
+        text: b"refscript 3\nconfig 1 1 1 8 10\n",
+        prints: b"",
         error: "refrun: line 1: bad header\n",
     },
     Case {
         name: "version 1 cells above the limit",
-        script: b"refscript 1\nconfig 1 1 1 4097 0\n",
-        trace: b"",
+        text: b"refscript 1\nconfig 1 1 1 4097 0\n",
+        prints: b"",
         error: "refrun: line 2: bad config\n",
     },
     Case {
         name: "version 1 greatest cells",
-        script: b"refscript 1\nconfig 1 1 1 4096 0\n",
-        trace: b"reftrace 1\n",
+        text: b"refscript 1\nconfig 1 1 1 4096 0\n",
+        prints: b"reftrace 1\n",
         error: "",
     },
     Case {
         name: "every refusal",
-        script: b"refscript 1
+        text: b"refscript 1
 config 1 1 1 3 0
 # each step of a mutator, refused and not
 m0 unhook s0
@@ -260,7 +254,7 @@ m0 poll q0
 m0 close q0
 m0 poll q0
 ",
-        trace: b"reftrace 1
+        prints: b"reftrace 1
 1 m0 unhook s0 : refused 6 EmptySlot
 2 m0 new s0 0 : object 1
 3 m0 unhook s0 : refused 8 NotAReference
