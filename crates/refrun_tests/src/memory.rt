@@ -98,18 +98,18 @@ fn added(alloc: Global, trace: &[u8]) -> Result<Option<u32>, AllocError> {
     Ok(None)
 }
 
-/// What a text answers and prints with so much memory: the greater the size, the more.
+/// What a text answers and prints with memory of so many bytes.
 fn printed_in(
     rt: &impl Abort,
     alloc: Global,
     task: Task,
     text: &[u8],
-    size: usize,
+    room: usize,
 ) -> Result<(Result<(), TextFault>, Vec<u8>), AllocError> {
     // What is given back to the arena isn't given out again, so a call takes the sum of all that it asks for.
     let mut memory = Bump::try_with_capacity(alloc, 98_304)?;
     memory.set_allocation_limit(Some(memory.allocated_bytes()));
-    let taken = memory.chunk_capacity().saturating_sub(64 * size);
+    let taken = memory.chunk_capacity().saturating_sub(room);
     let filler = Vec::<u8, &Bump>::with_capacity(&memory, taken)?;
     let printed = printed(task, &memory, alloc, text);
     drop(filler);
@@ -122,7 +122,7 @@ fn an_allocation_that_fails_is_told_of(rt: HostRuntime) -> Result<(), Fail> {
     let alloc = rt.alloc();
     let (mut without, mut partly, mut wholly) = (false, false, false);
     for size in 0..1_500 {
-        let (answer, trace) = printed_in(&rt, alloc, Task::Run, SCRIPT, size)?;
+        let (answer, trace) = printed_in(&rt, alloc, Task::Run, SCRIPT, 64 * size)?;
         match answer {
             Err(fault) => {
                 assert_eq!(rt; fault, TextFault::NoMemory);
@@ -144,7 +144,7 @@ fn an_allocation_that_fails_is_told_of(rt: HostRuntime) -> Result<(), Fail> {
 fn a_listing_is_whole_or_memory_ran_out(rt: HostRuntime) -> Result<(), Fail> {
     let (mut without, mut wholly) = (false, false);
     for size in 0..1_500 {
-        let (answer, listing) = printed_in(&rt, rt.alloc(), Task::List, GRAPH, size)?;
+        let (answer, listing) = printed_in(&rt, rt.alloc(), Task::List, GRAPH, 64 * size)?;
         match answer {
             Ok(()) => {
                 assert_eq!(rt; listing.as_slice(), LISTING);
