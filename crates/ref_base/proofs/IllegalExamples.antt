@@ -1,9 +1,10 @@
 -- Traces that differ from worked ones in one reply, and are not legal.
-use Rattle.std.proofs.Common.{◌≡◌, ℕ, Bool, refl, subst, List, [], ◌∷◌, drop, replicate, Option, Some, None, inl, inr}
+use Rattle.std.proofs.Common.{◌≡◌, ℕ, Bool, false, refl, subst, List, [], ◌∷◌, drop, replicate, Option, Some, None}
+use Rattle.std.proofs.Common.{inl, inr}
 use Rattle.ref_base.specs.Graphs.{Graph, Object, plain_object}
 use Rattle.ref_base.specs.Heaps.{first_heap}
 use Rattle.ref_base.specs.Worlds.{first_world}
-use Rattle.ref_base.specs.Collectors.{State}
+use Rattle.ref_base.specs.Collectors.{State, first_state}
 use Rattle.ref_base.specs.CollectorRows.{IsRun}
 use Rattle.ref_base.specs.LegalTraces.{IsLegal}
 use Rattle.ref_base.specs.declared.row.Row.{Row}
@@ -12,11 +13,93 @@ use Rattle.ref_base.specs.declared.strength.Strength.TheVariants.{Weak}
 use Rattle.ref_base.specs.declared.urgency.Urgency.TheVariants.{Normal}
 use Rattle.ref_base.specs.declared.cause.Cause.TheVariants.{Own}
 use Rattle.ref_base.specs.declared.phase.Phase.TheVariants.{Marking}
-use Rattle.ref_base.specs.declared.fault.Fault.TheVariants.{HandEmpty}
+use Rattle.ref_base.specs.declared.fault.Fault.TheVariants.{HandEmpty, NoMemory}
 use Rattle.ref_base.specs.declared.step.Step.TheVariants as steps
 use Rattle.ref_base.specs.declared.reply.Reply.TheVariants as replies
 use Rattle.ref_base.proofs.WorkedTraces.{row, config_of}
-use Rattle.ref_base.proofs.LegalSteps.{mark_ended_by}
+use Rattle.ref_base.proofs.LegalSteps.{mark_ended_by, lands}
+
+-- ---- replies
+
+refused_is_not_added : (n : ℕ) → replies.Refused HandEmpty ≡ replies.Added n → ⊥
+refused_is_not_added n same = absurd cc
+
+hand_empty_is_not_no_memory : replies.Refused HandEmpty ≡ replies.Refused NoMemory → ⊥
+hand_empty_is_not_no_memory same = absurd cc
+
+added_is_not_refused : (n : ℕ) → replies.Added n ≡ replies.Refused NoMemory → ⊥
+added_is_not_refused n same = absurd cc
+
+added_is_not_closed : (n : ℕ) → replies.Added n ≡ replies.Closed → ⊥
+added_is_not_closed n same = absurd cc
+
+added_is_not_already : (n : ℕ) → replies.Added n ≡ replies.Already → ⊥
+added_is_not_already n same = absurd cc
+
+took_is_not_empty : (n : ℕ) → replies.Took n ≡ replies.Empty → ⊥
+took_is_not_empty n same = absurd cc
+
+object_is_not_null : (n : ℕ) → replies.Object n ≡ replies.Null → ⊥
+object_is_not_null n same = absurd cc
+
+-- ---- a reference that is unhooked
+
+-- an object and a weak reference to it in slot 1, cleared, with a notice of it in the hand
+abbrev unhooked : State
+unhooked = record (first_state (config_of 1)) {
+  world = record (first_world (config_of 1)) {
+    heap = record (first_heap (config_of 1)) {
+      objects = plain_object 1 [] ∷ record {
+        no = 2;
+        fields = [];
+        reference = Some (record { strength = Weak; referent = None; stamp = 0; queue = Some 0 });
+      } ∷ [];
+      slots = Some 1 ∷ Some 2 ∷ replicate 14 None;
+      holds = 2 ∷ [];
+    };
+    mutator_hands = Some (record { object = 2; queue = 0; cause = Own }) ∷ [];
+  };
+  next = 3;
+}
+
+-- the rows that lead there, and others behind
+abbrev after_unhooking : List Row → List Row
+after_unhooking rows =
+    row (steps.New 0 0 0) (replies.Object 1) ∷
+    row (steps.Refer 0 Weak 1 0 (Some 0) 0) (replies.Object 2) ∷
+    row (steps.Unhook 0 1) (replies.Notice 2 0 Own) ∷
+    rows
+
+unhooked_by : (rows : List Row) (last : State) → IsRun (first_state (config_of 1)) (after_unhooking rows) last
+    → IsRun unhooked rows last
+unhooked_by rows last run =
+    let r1 = subst (λ s. IsRun s (drop 1 (after_unhooking rows)) last)
+    (lands (steps.New 0 0 0) (replies.Object 1) run.1.2 run.1.1.1) run.2 in
+    let r2 = subst (λ s. IsRun s (drop 2 (after_unhooking rows)) last)
+    (lands (steps.Refer 0 Weak 1 0 (Some 0) 0) (replies.Object 2) r1.1.2 r1.1.1.1) r1.2 in
+    subst (λ s. IsRun s rows last) (lands (steps.Unhook 0 1) (replies.Notice 2 0 Own) r2.1.2 r2.1.1.1) r2.2
+
+-- the notice is put in, and the hand is empty
+abbrev put_once : State
+put_once = record unhooked {
+  world = record unhooked.world {
+    mutator_hands = None ∷ [];
+    queues = record {
+      queue = 0;
+      taken = [];
+      stands = record { object = 2; queue = 0; cause = Own } ∷ [];
+      closed = false;
+    } ∷ [];
+  };
+}
+
+put_once_by : (rows : List Row) (last : State)
+    → IsRun unhooked (row (steps.Put (Mutator 0)) (replies.Added 0) ∷ rows) last → IsRun put_once rows last
+put_once_by rows last run =
+    elim run.1 [
+      | inl added ↦ subst (λ s. IsRun s rows last) added.1 run.2
+      | inr wanted ↦ absurd (added_is_not_refused 0 wanted.0)
+    ]
 
 -- a refusal where none applies: the hand holds a notice
 abbrev refused_without_cause : List Row
@@ -29,12 +112,10 @@ refused_without_cause =
 
 refused_without_cause_is_not_legal : ¬ (IsLegal (config_of 1) refused_without_cause)
 refused_without_cause_is_not_legal legal =
-    let r1 = subst (λ s. IsRun s (drop 1 refused_without_cause) legal.0) legal.1.1.1 legal.1.2 in
-    let r2 = subst (λ s. IsRun s (drop 2 refused_without_cause) legal.0) r1.1.1 r1.2 in
-    let r3 = subst (λ s. IsRun s (drop 3 refused_without_cause) legal.0) r2.1.1 r2.2 in
-    elim r3.1 [
-      | inl added ↦ let e = added.0 in absurd cc
-      | inr wanted ↦ let e = wanted.0 in absurd cc
+    let run = unhooked_by (drop 3 refused_without_cause) legal.0 legal.1 in
+    elim run.1 [
+      | inl added ↦ refused_is_not_added 0 added.0
+      | inr wanted ↦ hand_empty_is_not_no_memory wanted.0
     ]
 
 -- the one notice that was put in is taken a second time
@@ -49,28 +130,13 @@ taken_twice =
     row (steps.Poll 0 0) (replies.Took 2) ∷
     []
 
-took_is_not_empty : (n : ℕ) → replies.Took n ≡ replies.Empty → ⊥
-took_is_not_empty n same = absurd cc
-
 taken_twice_is_not_legal : ¬ (IsLegal (config_of 1) taken_twice)
 taken_twice_is_not_legal legal =
-    let r1 = subst (λ s. IsRun s (drop 1 taken_twice) legal.0) legal.1.1.1 legal.1.2 in
-    let r2 = subst (λ s. IsRun s (drop 2 taken_twice) legal.0) r1.1.1 r1.2 in
-    let r3 = subst (λ s. IsRun s (drop 3 taken_twice) legal.0) r2.1.1 r2.2 in
-    elim r3.1 [
-      | inl added ↦
-          let r4 = subst (λ s. IsRun s (drop 4 taken_twice) legal.0) added.1 r3.2 in
-          let r5 = subst (λ s. IsRun s (drop 5 taken_twice) legal.0) r4.1.1 r4.2 in
-          let r6 = subst (λ s. IsRun s (drop 6 taken_twice) legal.0) r5.1.1 r5.2 in
-          took_is_not_empty 2 r6.1.0
-      | inr wanted ↦ let e = wanted.0 in absurd cc
-    ]
-
-added_is_not_closed : (n : ℕ) → replies.Added n ≡ replies.Closed → ⊥
-added_is_not_closed n same = absurd cc
-
-added_is_not_already : (n : ℕ) → replies.Added n ≡ replies.Already → ⊥
-added_is_not_already n same = absurd cc
+    let run = put_once_by (drop 4 taken_twice) legal.0 (unhooked_by (drop 3 taken_twice) legal.0 legal.1) in
+    let r1 = subst (λ s. IsRun s (drop 5 taken_twice) legal.0) run.1.1 run.2 in
+    let r2 = subst (λ s. IsRun s (drop 6 taken_twice) legal.0)
+    (lands (steps.Release (Mutator 0)) replies.Done r1.1.2 r1.1.1.1) r1.2 in
+    took_is_not_empty 2 r2.1.0
 
 -- a queue that is closed takes a notice
 abbrev put_after_close : List Row
@@ -84,11 +150,9 @@ put_after_close =
 
 put_after_close_is_not_legal : ¬ (IsLegal (config_of 1) put_after_close)
 put_after_close_is_not_legal legal =
-    let r1 = subst (λ s. IsRun s (drop 1 put_after_close) legal.0) legal.1.1.1 legal.1.2 in
-    let r2 = subst (λ s. IsRun s (drop 2 put_after_close) legal.0) r1.1.1 r1.2 in
-    let r3 = subst (λ s. IsRun s (drop 3 put_after_close) legal.0) r2.1.1 r2.2 in
-    let r4 = subst (λ s. IsRun s (drop 4 put_after_close) legal.0) r3.1.1 r3.2 in
-    added_is_not_closed 0 r4.1.0
+    let run = unhooked_by (drop 3 put_after_close) legal.0 legal.1 in
+    let r1 = subst (λ s. IsRun s (drop 4 put_after_close) legal.0) run.1.1 run.2 in
+    added_is_not_closed 0 r1.1.0
 
 -- a reference that was put in is put in a second time
 abbrev put_twice : List Row
@@ -103,16 +167,12 @@ put_twice =
 
 put_twice_is_not_legal : ¬ (IsLegal (config_of 1) put_twice)
 put_twice_is_not_legal legal =
-    let r1 = subst (λ s. IsRun s (drop 1 put_twice) legal.0) legal.1.1.1 legal.1.2 in
-    let r2 = subst (λ s. IsRun s (drop 2 put_twice) legal.0) r1.1.1 r1.2 in
-    let r3 = subst (λ s. IsRun s (drop 3 put_twice) legal.0) r2.1.1 r2.2 in
-    elim r3.1 [
-      | inl added ↦
-          let r4 = subst (λ s. IsRun s (drop 4 put_twice) legal.0) added.1 r3.2 in
-          let r5 = subst (λ s. IsRun s (drop 5 put_twice) legal.0) r4.1.1 r4.2 in
-          added_is_not_already 1 r5.1.0
-      | inr wanted ↦ let e = wanted.0 in absurd cc
-    ]
+    let run = put_once_by (drop 4 put_twice) legal.0 (unhooked_by (drop 3 put_twice) legal.0 legal.1) in
+    let r1 = subst (λ s. IsRun s (drop 5 put_twice) legal.0)
+    (lands (steps.Unhook 0 1) (replies.Notice 2 0 Own) run.1.2 run.1.1.1) run.2 in
+    added_is_not_already 1 r1.1.0
+
+-- ---- a mark
 
 abbrev reference_to_1 : Object
 reference_to_1 = record {
@@ -148,8 +208,31 @@ slots_with third = None ∷ Some 2 ∷ None ∷ third ∷ replicate 12 None
 abbrev rooted : List ℕ → Graph
 rooted roots = record { objects = objects; roots = roots }
 
-object_is_not_null : (n : ℕ) → replies.Object n ≡ replies.Null → ⊥
-object_is_not_null n same = absurd cc
+-- the rows that lead there, and others behind
+abbrev after_scanning : List Row → List Row
+after_scanning rows =
+    row (steps.New 0 0 0) (replies.Object 1) ∷
+    row (steps.Refer 0 Weak 1 0 (Some 0) 0) (replies.Object 2) ∷
+    row (steps.Drop 0 0) replies.Done ∷
+    row (steps.Begin 5 Normal) (replies.Cycle 1) ∷
+    row (steps.Scan 0) (replies.Scanned 2) ∷
+    rows
+
+-- whether an object is left isn't told
+scanned_by : (rows : List Row) (last : State) → IsRun (first_state (config_of 1)) (after_scanning rows) last
+    → (left : Bool) × IsRun (marked (slots_with None) (rooted (2 ∷ []) ∷ rooted (2 ∷ []) ∷ []) left) rows last
+scanned_by rows last run =
+    let r1 = subst (λ s. IsRun s (drop 1 (after_scanning rows)) last)
+    (lands (steps.New 0 0 0) (replies.Object 1) run.1.2 run.1.1.1) run.2 in
+    let r2 = subst (λ s. IsRun s (drop 2 (after_scanning rows)) last)
+    (lands (steps.Refer 0 Weak 1 0 (Some 0) 0) (replies.Object 2) r1.1.2 r1.1.1.1) r1.2 in
+    let r3 = subst (λ s. IsRun s (drop 3 (after_scanning rows)) last)
+    (lands (steps.Drop 0 0) replies.Done r2.1.2 r2.1.1.1) r2.2 in
+    let r4 = subst (λ s. IsRun s (drop 4 (after_scanning rows)) last)
+    (lands (steps.Begin 5 Normal) (replies.Cycle 1) r3.1.2 r3.1.1.1.1) r3.2 in (
+      r4.1.1.2.0,
+      subst (λ s. IsRun s rows last) (lands (steps.Scan 0) (replies.Scanned 2) r4.1.2 r4.1.1.2.1) r4.2,
+    )
 
 -- a get answers an object that is doomed
 abbrev doomed_got : List Row
@@ -166,19 +249,15 @@ doomed_got =
 
 doomed_got_is_not_legal : ¬ (IsLegal (config_of 1) doomed_got)
 doomed_got_is_not_legal legal =
-    let r1 = subst (λ s. IsRun s (drop 1 doomed_got) legal.0) legal.1.1.1 legal.1.2 in
-    let r2 = subst (λ s. IsRun s (drop 2 doomed_got) legal.0) r1.1.1 r1.2 in
-    let r3 = subst (λ s. IsRun s (drop 3 doomed_got) legal.0) r2.1.1 r2.2 in
-    let r4 = subst (λ s. IsRun s (drop 4 doomed_got) legal.0) r3.1.1.1 r3.2 in
-    let r5 = subst (λ s. IsRun s (drop 5 doomed_got) legal.0) r4.1.2.1 r4.2 in
-    let left : Bool = r4.1.2.0 in
+    let run = scanned_by (drop 5 doomed_got) legal.0 legal.1 in
     let before : State =
-    marked (slots_with None) (rooted (2 ∷ []) ∷ rooted (2 ∷ []) ∷ rooted (2 ∷ []) ∷ []) left in
-    let r6 : IsRun before (drop 6 doomed_got) legal.0 =
-    subst (λ s. IsRun s (drop 6 doomed_got) legal.0) r5.1.1.1 r5.2 in
-    let ended = mark_ended_by before legal.0 (drop 7 doomed_got) 1 refl r6 in
-    let r7 = subst (λ s. IsRun s (drop 7 doomed_got) legal.0) ended.after r6.2 in
-    object_is_not_null 1 r7.1.0
+    marked (slots_with None) (rooted (2 ∷ []) ∷ rooted (2 ∷ []) ∷ rooted (2 ∷ []) ∷ []) run.0 in
+    let r1 : IsRun before (drop 6 doomed_got) legal.0 =
+    subst (λ s. IsRun s (drop 6 doomed_got) legal.0)
+    (lands (steps.Scan 0) replies.Nothing run.1.1.2 run.1.1.1.1.1) run.1.2 in
+    let ended = mark_ended_by before legal.0 (drop 7 doomed_got) 1 refl r1 in
+    let r2 = subst (λ s. IsRun s (drop 7 doomed_got) legal.0) ended.after r1.2 in
+    object_is_not_null 1 r2.1.1.0
 
 -- an object that a slot holds is doomed
 abbrev kept_doomed : List Row
@@ -194,15 +273,11 @@ kept_doomed =
 
 kept_doomed_is_not_legal : ¬ (IsLegal (config_of 1) kept_doomed)
 kept_doomed_is_not_legal legal =
-    let r1 = subst (λ s. IsRun s (drop 1 kept_doomed) legal.0) legal.1.1.1 legal.1.2 in
-    let r2 = subst (λ s. IsRun s (drop 2 kept_doomed) legal.0) r1.1.1 r1.2 in
-    let r3 = subst (λ s. IsRun s (drop 3 kept_doomed) legal.0) r2.1.1 r2.2 in
-    let r4 = subst (λ s. IsRun s (drop 4 kept_doomed) legal.0) r3.1.1.1 r3.2 in
-    let r5 = subst (λ s. IsRun s (drop 5 kept_doomed) legal.0) r4.1.2.1 r4.2 in
-    let left : Bool = r5.1.1.0 in
+    let run = scanned_by (drop 5 kept_doomed) legal.0 legal.1 in
     let before : State =
-    marked (slots_with (Some 1)) (rooted (2 ∷ 1 ∷ []) ∷ rooted (2 ∷ []) ∷ rooted (2 ∷ []) ∷ []) left in
-    let r6 : IsRun before (drop 6 kept_doomed) legal.0 =
-    subst (λ s. IsRun s (drop 6 kept_doomed) legal.0) r5.1.1.1 r5.2 in
-    let ended = mark_ended_by before legal.0 [] 1 refl r6 in
+    marked (slots_with (Some 1)) (rooted (2 ∷ 1 ∷ []) ∷ rooted (2 ∷ []) ∷ rooted (2 ∷ []) ∷ []) run.1.1.1.1.0 in
+    let r1 : IsRun before (drop 6 kept_doomed) legal.0 =
+    subst (λ s. IsRun s (drop 6 kept_doomed) legal.0)
+    (lands (steps.Get 0 3 1) (replies.Object 1) run.1.1.2 run.1.1.1.1.1) run.1.2 in
+    let ended = mark_ended_by before legal.0 [] 1 refl r1 in
     ended.may_doom.none_kept 1 refl ([], (refl, refl))

@@ -12,133 +12,251 @@ use Rattle.std.proofs.lemmas.Bool.{false≢true, ltb-true as below}
 
 two_enqueued_in_order_is_legal : IsLegal (config_of 1) two_enqueued_in_order
 two_enqueued_in_order_is_legal = legal (config_of 1) two_enqueued_in_order (
-    (refl, refl) ⨾ (refl, refl) ⨾ (refl, refl) ⨾ (refl, refl) ⨾ inl (refl, refl) ⨾ (refl, refl)
-    ⨾ inl (refl, refl) ⨾ (refl, refl) ⨾ (refl, refl) ⨾ (refl, refl) ⨾ (refl, refl) ⨾ (refl, refl)
+    (_, (refl, refl), refl)
+    ⨾ (_, (refl, refl), refl)
+    ⨾ (_, (refl, refl), refl)
+    ⨾ (_, (refl, refl), refl)
+    ⨾ inl (refl, refl)
+    ⨾ (_, (refl, refl), refl)
+    ⨾ inl (refl, refl)
+    ⨾ (refl, refl)
+    ⨾ (_, (refl, refl), refl)
+    ⨾ (refl, refl)
+    ⨾ (_, (refl, refl), refl)
+    ⨾ (refl, refl)
     ⨾ stop)
 
 death_reported_after_a_cycle_is_legal : IsLegal (config_of 1) death_reported_after_a_cycle
 death_reported_after_a_cycle_is_legal = legal (config_of 1) death_reported_after_a_cycle (
-    (refl, refl) ⨾ (refl, refl) ⨾ (refl, refl)
-    ⨾ (refl, (true, refl, λ _. (2, (inl ([], (refl, refl)), below _ _ refl, refl))))
-    ⨾ (refl, (inl ([], (refl, refl)), below _ _ refl, refl), (false, refl, none_left))
-    ⨾ (refl, (refl, refl))
-    ⨾ mark_ends _ ((2 ∷ []) ∷ [])
-    (may_doom _ _ _ (1 ∷ []) (2 ∷ []) refl refl (inl refl, (inr (inl ([], (refl, refl))), tt)) refl)
-    (refl, tt) (λ n h. h)
-    ⨾ (refl, refl) ⨾ (refl, refl) ⨾ (refl, refl) ⨾ inl (refl, refl) ⨾ (refl, refl) ⨾ (refl, refl)
+    (_, (refl, refl), refl)
+    ⨾ (_, (refl, refl), refl)
+    ⨾ (_, (refl, refl), refl)
+    ⨾ (_, (refl, (true, refl, λ _. (2, (inl ([], (refl, refl)), below _ _ refl, refl)))), refl)
+    ⨾ (_, (refl, (inl ([], (refl, refl)), below _ _ refl, refl), (false, refl, none_left)), refl)
+    ⨾ (_, (refl, (refl, refl)), refl)
+    ⨾ (
+      _,
+      mark_ends _ ((2 ∷ []) ∷ [])
+          (may_doom _ _ _ (1 ∷ []) (2 ∷ []) refl refl (inl refl, (inr (inl ([], (refl, refl))), tt)) refl)
+          (refl, tt) (λ n h. h),
+      refl,
+    )
+    ⨾ (_, (refl, refl), refl)
+    ⨾ (_, (refl, refl), refl)
+    ⨾ (_, (refl, refl), refl)
+    ⨾ inl (refl, refl)
+    ⨾ (refl, refl)
+    ⨾ (_, (refl, refl), refl)
     ⨾ stop)
 
 get_keeps_the_referent_is_legal : IsLegal (config_of 1) get_keeps_the_referent
 get_keeps_the_referent_is_legal = legal (config_of 1) get_keeps_the_referent (
-    (refl, refl) ⨾ (refl, refl) ⨾ (refl, refl)
-    ⨾ (refl, (true, refl, λ _. (2, (inl ([], (refl, refl)), below _ _ refl, refl))))
-    ⨾ (refl, (inl ([], (refl, refl)), below _ _ refl, refl), (false, refl, none_left))
-    ⨾ (refl, (true, refl, λ _. (1, (inl ([], (refl, refl)), below _ _ refl, refl))))
+    (_, (refl, refl), refl)
+    ⨾ (_, (refl, refl), refl)
+    ⨾ (_, (refl, refl), refl)
+    ⨾ (_, (refl, (true, refl, λ _. (2, (inl ([], (refl, refl)), below _ _ refl, refl)))), refl)
+    ⨾ (_, (refl, (inl ([], (refl, refl)), below _ _ refl, refl), (false, refl, none_left)), refl)
+    ⨾ (_, (refl, (true, refl, λ _. (1, (inl ([], (refl, refl)), below _ _ refl, refl)))), refl)
     ⨾ (refl, refl)
-    ⨾ (refl, (inl ([], (refl, refl)), below _ _ refl, refl), (false, refl, none_left))
-    ⨾ (refl, (refl, refl))
-    ⨾ mark_ends _ ((2 ∷ []) ∷ [])
-    (may_doom _ _ _ [] (2 ∷ 1 ∷ []) refl refl (inr (inl ([], (refl, refl))), (inr (inl ([], (refl, refl))), tt)) refl)
-    (refl, tt) (λ n h. absurd (false≢true h))
-    ⨾ (refl, refl) ⨾ (refl, refl)
+    ⨾ (_, (refl, (inl ([], (refl, refl)), below _ _ refl, refl), (false, refl, none_left)), refl)
+    ⨾ (_, (refl, (refl, refl)), refl)
+    ⨾ (
+      _,
+      mark_ends _ ((2 ∷ []) ∷ [])
+          (may_doom _ _ _ [] (2 ∷ 1 ∷ []) refl refl (inr (inl ([], (refl, refl))), (inr (inl ([], (refl, refl))), tt)) refl)
+          (refl, tt) (λ n h. absurd (false≢true h)),
+      refl,
+    )
+    ⨾ (_, (refl, refl), refl)
+    ⨾ (_, (refl, refl), refl)
     ⨾ stop)
 
 two_workers_in_clearing_order_is_legal : IsLegal (config_of 2) two_workers_in_clearing_order
 two_workers_in_clearing_order_is_legal = legal (config_of 2) two_workers_in_clearing_order (
-    (refl, refl) ⨾ (refl, refl) ⨾ (refl, refl) ⨾ (refl, refl) ⨾ (refl, refl) ⨾ (refl, refl)
-    ⨾ (refl, refl)
-    ⨾ (refl, (true, refl, λ _. (2, (inl ([], (refl, refl)), below _ _ refl, refl))))
+    (_, (refl, refl), refl)
+    ⨾ (_, (refl, refl), refl)
+    ⨾ (_, (refl, refl), refl)
+    ⨾ (_, (refl, refl), refl)
+    ⨾ (_, (refl, refl), refl)
+    ⨾ (_, (refl, refl), refl)
+    ⨾ (_, (refl, refl), refl)
+    ⨾ (_, (refl, (true, refl, λ _. (2, (inl ([], (refl, refl)), below _ _ refl, refl)))), refl)
     ⨾ (
-      refl,
-      (inl ([], (refl, refl)), below _ _ refl, refl),
-      (true, refl, λ _. (4, (inl ([], (refl, refl)), below _ _ refl, refl))),
-    )
-    ⨾ (
-      refl,
-      (inl ([], (refl, refl)), below _ _ refl, refl),
-      (true, refl, λ _. (6, (inl ([], (refl, refl)), below _ _ refl, refl))),
-    )
-    ⨾ (refl, (inl ([], (refl, refl)), below _ _ refl, refl), (false, refl, none_left))
-    ⨾ mark_ends _ ((2 ∷ 6 ∷ []) ∷ (4 ∷ []) ∷ [])
-    (may_doom _ _ _ (1 ∷ 3 ∷ 5 ∷ []) (2 ∷ 4 ∷ 6 ∷ []) refl refl (
-      inl refl,
+      _,
       (
-        inr (inl ([], (refl, refl))),
-        (
-          inl refl,
-          (inr (inl ([], (refl, refl))), (inl refl, (inr (inl ([], (refl, refl))), tt))),
-        ),
+        refl,
+        (inl ([], (refl, refl)), below _ _ refl, refl),
+        (true, refl, λ _. (4, (inl ([], (refl, refl)), below _ _ refl, refl))),
       ),
-    ) refl)
-    (refl, (refl, tt)) (are_in-has (2 ∷ 6 ∷ 4 ∷ []) (2 ∷ 4 ∷ 6 ∷ []) refl)
-    ⨾ (refl, refl) ⨾ (refl, refl) ⨾ (refl, refl) ⨾ (refl, refl) ⨾ (refl, refl) ⨾ (refl, refl)
-    ⨾ inl (refl, refl) ⨾ (refl, refl) ⨾ inl (refl, refl) ⨾ inl (refl, refl) ⨾ (refl, refl)
-    ⨾ (refl, refl) ⨾ (refl, refl) ⨾ (refl, refl) ⨾ (refl, refl)
+      refl,
+    )
+    ⨾ (
+      _,
+      (
+        refl,
+        (inl ([], (refl, refl)), below _ _ refl, refl),
+        (true, refl, λ _. (6, (inl ([], (refl, refl)), below _ _ refl, refl))),
+      ),
+      refl,
+    )
+    ⨾ (_, (refl, (inl ([], (refl, refl)), below _ _ refl, refl), (false, refl, none_left)), refl)
+    ⨾ (
+      _,
+      mark_ends _ ((2 ∷ 6 ∷ []) ∷ (4 ∷ []) ∷ [])
+          (may_doom _ _ _ (1 ∷ 3 ∷ 5 ∷ []) (2 ∷ 4 ∷ 6 ∷ []) refl refl (
+            inl refl,
+            (
+              inr (inl ([], (refl, refl))),
+              (
+                inl refl,
+                (inr (inl ([], (refl, refl))), (inl refl, (inr (inl ([], (refl, refl))), tt))),
+              ),
+            ),
+          ) refl)
+          (refl, (refl, tt)) (are_in-has (2 ∷ 6 ∷ 4 ∷ []) (2 ∷ 4 ∷ 6 ∷ []) refl),
+      refl,
+    )
+    ⨾ (_, (refl, refl), refl)
+    ⨾ (_, (refl, refl), refl)
+    ⨾ (_, (refl, refl), refl)
+    ⨾ (_, (refl, refl), refl)
+    ⨾ (_, (refl, refl), refl)
+    ⨾ (_, (refl, refl), refl)
+    ⨾ inl (refl, refl)
+    ⨾ (_, (refl, refl), refl)
+    ⨾ inl (refl, refl)
+    ⨾ inl (refl, refl)
+    ⨾ (refl, refl)
+    ⨾ (_, (refl, refl), refl)
+    ⨾ (refl, refl)
+    ⨾ (_, (refl, refl), refl)
+    ⨾ (refl, refl)
     ⨾ stop)
 
 soft_kept_within_the_span_is_legal : IsLegal (config_of 1) soft_kept_within_the_span
 soft_kept_within_the_span_is_legal = legal (config_of 1) soft_kept_within_the_span (
-    (refl, (false, refl, none_left))
-    ⨾ mark_ends _ ([] ∷ [])
-    (may_doom _ _ _ [] ([]) refl refl (tt) refl)
-    (refl, tt) (λ n h. absurd (false≢true h))
-    ⨾ (refl, refl) ⨾ (refl, refl) ⨾ (refl, refl) ⨾ (refl, refl) ⨾ (refl, refl)
-    ⨾ (refl, (true, refl, λ _. (2, (inl ([], (refl, refl)), below _ _ refl, refl))))
+    (_, (refl, (false, refl, none_left)), refl)
     ⨾ (
+      _,
+      mark_ends _ ([] ∷ [])
+          (may_doom _ _ _ [] ([]) refl refl (tt) refl)
+          (refl, tt) (λ n h. absurd (false≢true h)),
       refl,
-      (inl ([], (refl, refl)), below _ _ refl, refl),
-      (true, refl, λ _. (1, (inl (2 ∷ [], (refl, refl, (refl, refl))), below _ _ refl, refl))),
     )
-    ⨾ (refl, (inl (2 ∷ [], (refl, refl, (refl, refl))), below _ _ refl, refl), (false, refl, none_left))
-    ⨾ mark_ends _ ([] ∷ [])
-    (may_doom _ _ _ [] (2 ∷ 1 ∷ []) refl refl (
-      inr (inl (2 ∷ [], (refl, refl, (refl, refl)))),
-      (inr (inl ([], (refl, refl))), tt),
-    ) refl)
-    (refl, tt) (λ n h. absurd (false≢true h))
-    ⨾ (refl, refl) ⨾ (refl, refl)
-    ⨾ (refl, (true, refl, λ _. (2, (inl ([], (refl, refl)), below _ _ refl, refl))))
-    ⨾ (refl, (inl ([], (refl, refl)), below _ _ refl, refl), (false, refl, none_left))
-    ⨾ mark_ends _ ((2 ∷ []) ∷ [])
-    (may_doom _ _ _ (1 ∷ []) (2 ∷ []) refl refl (inl refl, (inr (inl ([], (refl, refl))), tt)) refl)
-    (refl, tt) (λ n h. h)
-    ⨾ (refl, refl)
+    ⨾ (_, (refl, refl), refl)
+    ⨾ (_, (refl, refl), refl)
+    ⨾ (_, (refl, refl), refl)
+    ⨾ (_, (refl, refl), refl)
+    ⨾ (_, (refl, refl), refl)
+    ⨾ (_, (refl, (true, refl, λ _. (2, (inl ([], (refl, refl)), below _ _ refl, refl)))), refl)
+    ⨾ (
+      _,
+      (
+        refl,
+        (inl ([], (refl, refl)), below _ _ refl, refl),
+        (true, refl, λ _. (1, (inl (2 ∷ [], (refl, refl, (refl, refl))), below _ _ refl, refl))),
+      ),
+      refl,
+    )
+    ⨾ (_, (refl, (inl (2 ∷ [], (refl, refl, (refl, refl))), below _ _ refl, refl), (false, refl, none_left)), refl)
+    ⨾ (
+      _,
+      mark_ends _ ([] ∷ [])
+          (may_doom _ _ _ [] (2 ∷ 1 ∷ []) refl refl (
+            inr (inl (2 ∷ [], (refl, refl, (refl, refl)))),
+            (inr (inl ([], (refl, refl))), tt),
+          ) refl)
+          (refl, tt) (λ n h. absurd (false≢true h)),
+      refl,
+    )
+    ⨾ (_, (refl, refl), refl)
+    ⨾ (_, (refl, refl), refl)
+    ⨾ (_, (refl, (true, refl, λ _. (2, (inl ([], (refl, refl)), below _ _ refl, refl)))), refl)
+    ⨾ (_, (refl, (inl ([], (refl, refl)), below _ _ refl, refl), (false, refl, none_left)), refl)
+    ⨾ (
+      _,
+      mark_ends _ ((2 ∷ []) ∷ [])
+          (may_doom _ _ _ (1 ∷ []) (2 ∷ []) refl refl (inl refl, (inr (inl ([], (refl, refl))), tt)) refl)
+          (refl, tt) (λ n h. h),
+      refl,
+    )
+    ⨾ (_, (refl, refl), refl)
     ⨾ stop)
 
 cleared_for_every_mutator_at_once_is_legal : IsLegal (config_of 2) cleared_for_every_mutator_at_once
 cleared_for_every_mutator_at_once_is_legal = legal (config_of 2) cleared_for_every_mutator_at_once (
-    (refl, refl) ⨾ (refl, refl) ⨾ (refl, refl) ⨾ (refl, refl)
-    ⨾ (refl, (true, refl, λ _. (2, (inl ([], (refl, refl)), below _ _ refl, refl))))
+    (_, (refl, refl), refl)
+    ⨾ (_, (refl, refl), refl)
+    ⨾ (_, (refl, refl), refl)
+    ⨾ (_, (refl, refl), refl)
+    ⨾ (_, (refl, (true, refl, λ _. (2, (inl ([], (refl, refl)), below _ _ refl, refl)))), refl)
     ⨾ (
+      _,
+      (
+        refl,
+        (inl ([], (refl, refl)), below _ _ refl, refl),
+        (true, refl, λ _. (3, (inl ([], (refl, refl)), below _ _ refl, refl))),
+      ),
       refl,
-      (inl ([], (refl, refl)), below _ _ refl, refl),
-      (true, refl, λ _. (3, (inl ([], (refl, refl)), below _ _ refl, refl))),
     )
-    ⨾ (refl, (inl ([], (refl, refl)), below _ _ refl, refl), (false, refl, none_left))
-    ⨾ mark_ends _ ((2 ∷ []) ∷ (3 ∷ []) ∷ [])
-    (may_doom _ _ _ (1 ∷ []) (2 ∷ 3 ∷ []) refl refl (inl refl, (inr (inl ([], (refl, refl))), (inr (inl ([], (refl, refl))), tt))) refl)
-    (refl, (refl, tt)) (λ n h. h)
-    ⨾ (refl, refl) ⨾ (refl, refl) ⨾ (refl, refl) ⨾ (refl, refl) ⨾ (refl, refl) ⨾ (refl, refl)
-    ⨾ inl (refl, refl) ⨾ (refl, refl)
+    ⨾ (_, (refl, (inl ([], (refl, refl)), below _ _ refl, refl), (false, refl, none_left)), refl)
+    ⨾ (
+      _,
+      mark_ends _ ((2 ∷ []) ∷ (3 ∷ []) ∷ [])
+          (may_doom _ _ _ (1 ∷ []) (2 ∷ 3 ∷ []) refl refl (inl refl, (inr (inl ([], (refl, refl))), (inr (inl ([], (refl, refl))), tt))) refl)
+          (refl, (refl, tt)) (λ n h. h),
+      refl,
+    )
+    ⨾ (_, (refl, refl), refl)
+    ⨾ (_, (refl, refl), refl)
+    ⨾ (_, (refl, refl), refl)
+    ⨾ (_, (refl, refl), refl)
+    ⨾ (_, (refl, refl), refl)
+    ⨾ (_, (refl, refl), refl)
+    ⨾ inl (refl, refl)
+    ⨾ (refl, refl)
     ⨾ stop)
 
 order_of_refusals_is_legal : IsLegal (config_of 1) order_of_refusals
 order_of_refusals_is_legal = legal (config_of 1) order_of_refusals (
-    (refl, refl) ⨾ (refl, refl) ⨾ (refl, refl) ⨾ (refl, refl) ⨾ (refl, refl) ⨾ (refl, refl)
-    ⨾ (refl, refl) ⨾ (refl, refl) ⨾ (refl, refl) ⨾ (refl, refl) ⨾ (refl, refl) ⨾ (refl, refl)
+    (refl, refl)
+    ⨾ (refl, refl)
+    ⨾ (refl, refl)
+    ⨾ (refl, refl)
+    ⨾ (refl, refl)
+    ⨾ (_, (refl, refl), refl)
+    ⨾ (refl, refl)
+    ⨾ (refl, refl)
+    ⨾ (refl, refl)
+    ⨾ (_, (refl, refl), refl)
+    ⨾ (_, (refl, refl), refl)
+    ⨾ (refl, refl)
     ⨾ (refl, refl)
     ⨾ stop)
 
 first_leaving_edge_is_legal : IsLegal (config_of 1) first_leaving_edge
 first_leaving_edge_is_legal = legal (config_of 1) first_leaving_edge (
-    (refl, refl) ⨾ (refl, refl) ⨾ (refl, refl) ⨾ (refl, refl) ⨾ (refl, refl)
-    ⨾ (refl, (true, refl, λ _. (3, (inl ([], (refl, refl)), below _ _ refl, refl))))
-    ⨾ (refl, (inl ([], (refl, refl)), below _ _ refl, refl), (false, refl, none_left))
-    ⨾ (refl, (refl, refl))
-    ⨾ mark_ends _ ((3 ∷ []) ∷ [])
-    (may_doom _ _ _ (1 ∷ 2 ∷ []) (3 ∷ []) refl refl
-    (inl refl, (inl refl, (inr (inl ([], (refl, refl))), tt))) refl)
-    (refl, tt) (λ n h. h)
-    ⨾ (refl, refl) ⨾ (refl, refl) ⨾ (refl, refl) ⨾ (refl, refl) ⨾ (refl, refl)
-    ⨾ inl (refl, refl) ⨾ (refl, refl)
+    (_, (refl, refl), refl)
+    ⨾ (_, (refl, refl), refl)
+    ⨾ (_, (refl, refl), refl)
+    ⨾ (_, (refl, refl), refl)
+    ⨾ (_, (refl, refl), refl)
+    ⨾ (_, (refl, (true, refl, λ _. (3, (inl ([], (refl, refl)), below _ _ refl, refl)))), refl)
+    ⨾ (_, (refl, (inl ([], (refl, refl)), below _ _ refl, refl), (false, refl, none_left)), refl)
+    ⨾ (_, (refl, (refl, refl)), refl)
+    ⨾ (
+      _,
+      mark_ends _ ((3 ∷ []) ∷ [])
+          (may_doom _ _ _ (1 ∷ 2 ∷ []) (3 ∷ []) refl refl
+          (inl refl, (inl refl, (inr (inl ([], (refl, refl))), tt))) refl)
+          (refl, tt) (λ n h. h),
+      refl,
+    )
+    ⨾ (_, (refl, refl), refl)
+    ⨾ (_, (refl, refl), refl)
+    ⨾ (_, (refl, refl), refl)
+    ⨾ (_, (refl, refl), refl)
+    ⨾ (_, (refl, refl), refl)
+    ⨾ inl (refl, refl)
+    ⨾ (_, (refl, refl), refl)
     ⨾ stop)

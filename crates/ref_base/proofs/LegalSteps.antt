@@ -1,5 +1,5 @@
 -- How one shows of a concrete trace that it is legal, row by row.
-use Rattle.std.proofs.Common.{◌≡◌, ℕ, Bool, true, false, not, refl, ap, subst, List, [], ◌∷◌, length, Option, None}
+use Rattle.std.proofs.Common.{◌≡◌, ℕ, Bool, true, false, not, refl, sym, ap, ◌∙◌, subst, List, [], ◌∷◌, length, Option, None}
 use Rattle.std.proofs.lemmas.Bool.{false≢true}
 use Rattle.ref_base.specs.Collectors.{State, first_state}
 use Rattle.ref_base.specs.LegalTraces.{IsLegal}
@@ -8,13 +8,16 @@ use Rattle.ref_base.specs.Members.{has}
 use Rattle.ref_base.specs.DoomedSets.{new_clears, MayDoom}
 use Rattle.ref_base.specs.Worlds.{policy_of, graph_of}
 use Rattle.ref_base.specs.Collectors.{joined}
-use Rattle.ref_base.specs.CollectorRows.{EndsMark, AreFound, mark_ended, doomed_at, IsRow, IsRun, IsAnswer}
+use Rattle.ref_base.specs.HeapSteps.{handed}
+use Rattle.ref_base.specs.CollectorRows.{with_world, EndsMark, AreFound, mark_ended, doomed_at, IsRow, IsRun, IsAnswer}
 use Rattle.ref_base.specs.declared.row.Row.{Row}
 use Rattle.ref_base.specs.Refusals.{is_in, refusal, unless}
 use Rattle.ref_base.specs.declared.fault.Fault.{Fault}
 use Rattle.ref_base.specs.declared.fault.Fault.TheVariants.{GreyLeft, WrongPhase}
 use Rattle.ref_base.specs.declared.phase.Phase.TheVariants.{Marking}
+use Rattle.ref_base.specs.declared.step.Step.{Step}
 use Rattle.ref_base.specs.declared.step.Step.TheVariants.{EndMark}
+use Rattle.ref_base.specs.declared.reply.Reply.{Reply}
 use Rattle.ref_base.specs.declared.reply.Reply.TheVariants.{Doomed}
 
 -- where none is said to be left
@@ -46,7 +49,7 @@ refused_at a marking = ap (λ b. unless b WrongPhase (end_refusal a.left)) marki
 ended_unless : (a b : State) (count : ℕ) (left : Bool) → IsAnswer a (end_refusal left) EndMark (Doomed count) b
     → EndsMark a (Doomed count) b
 ended_unless a b count true refused = let e = refused.0 in absurd cc
-ended_unless a b count false ended = ended
+ended_unless a b count false ended = subst (λ (s : State). EndsMark a (Doomed count) s) (sym ended.2) ended.1
 
 -- a row that ended a mark ended it as it must
 pub mark_ended_by : (a last : State) (rows : List Row) (count : ℕ) → is_in a.world.phase Marking ≡ true
@@ -54,6 +57,11 @@ pub mark_ended_by : (a last : State) (rows : List Row) (count : ℕ) → is_in a
 mark_ended_by a last rows count marking run =
     ended_unless a run.0 count a.left
     (subst (λ f. IsAnswer a f EndMark (Doomed count) run.0) (refused_at a marking) run.1)
+
+-- where the state of the heap's row is known, so is the state that the row leaves
+pub lands : (step : Step) (reply : Reply) {b c d : State} → b ≡ with_world c (handed c.world step reply) → c ≡ d
+    → b ≡ with_world d (handed d.world step reply)
+lands step reply left is = left ∙ ap (λ (s : State). with_world s (handed s.world step reply)) is
 
 infixr 20 ◌⨾◌
 -- rows, one after the other

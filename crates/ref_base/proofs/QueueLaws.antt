@@ -137,17 +137,6 @@ goes_after a mid b step reply is goes =
           (goes.queue q));
     }
 
-pub goes_then : (a mid b : World) (step : Step) (reply : Reply) → Goes a mid step reply → SameHands mid b → IsSound b
-    → Goes a b step reply
-goes_then a mid b step reply goes is sound = record {
-  sound = sound;
-  held = λ who. same_held mid b is who ∙ goes.held who;
-  queue = λ q. subst
-      (λ (qs : List (Lists Notice)). QueueMoves object_of (queue_at a q) (slice_index_or qs q (new_queue q))
-      (put_by (held_of a) q step reply) (taken_by q step reply) (closed_by q step reply)) (sym is.queues)
-      (goes.queue q);
-}
-
 -- ---- rows that change a queue
 
 -- what a change of queue q does to each queue

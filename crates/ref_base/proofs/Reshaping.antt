@@ -6,21 +6,18 @@ use Rattle.std.proofs.lemmas.List.{length-map}
 use Rattle.ref_base.specs.Graphs.{Object, Reference, object_at, is_there}
 use Rattle.ref_base.specs.Heaps.{Heap, slot_at, reference_in, registered_in, changed_at}
 use Rattle.ref_base.specs.Heaps.{changed_reference, cleared}
-use Rattle.ref_base.specs.Worlds.{Pending, hand_of, pending_of}
+use Rattle.ref_base.specs.Worlds.{Pending, pending_of}
+use Rattle.ref_base.specs.HeapSteps.{NamedStep}
 use Rattle.ref_base.specs.Collectors.{State}
 use Rattle.ref_base.specs.CollectorRows.{on_heap}
-use Rattle.ref_base.specs.Refusals.{unless, unless_empty, unless_full, empty_hand_refusal, has_slot, has_slots}
-use Rattle.ref_base.specs.Refusals.{is_actor}
+use Rattle.ref_base.specs.Refusals.{unless, unless_empty, is_worker, has_slot, has_slots}
 use Rattle.ref_base.specs.Refusals.{is_queue_or_none, field_count, object_refusal, new_refusal, refer_refusal}
 use Rattle.ref_base.specs.Refusals.{field_refusal, reference_refusal, holds_refusal, minting_refusal, unhook_refusal}
-use Rattle.ref_base.specs.Refusals.{hand_refusal, refusal}
-use Rattle.ref_base.specs.declared.actor.Actor.{Actor}
-use Rattle.ref_base.specs.declared.actor.Actor.TheVariants.{Mutator, Worker}
+use Rattle.ref_base.specs.Refusals.{held_refusal, hand_refusal, heap_refusal}
 use Rattle.ref_base.specs.declared.fault.Fault.{Fault}
 use Rattle.ref_base.specs.declared.fault.Fault.TheVariants.{NoCell, NumbersSpent, BadField, BadQueue, NoSuchActor}
 use Rattle.ref_base.specs.declared.fault.Fault.TheVariants.{NotAReference}
-use Rattle.ref_base.specs.declared.step.Step.{Step}
-use Rattle.ref_base.specs.declared.step.Step.TheVariants as steps
+use Rattle.ref_base.specs.declared.heap_step.HeapStep.TheVariants as heap
 
 -- each object keeps its number, how many fields it has, whether it is a reference, and that one's queue
 pub record KeepsShape (g : Object → Object) : Type 0 where
@@ -128,38 +125,33 @@ module _ (g : Object → Object) (keeps : KeepsShape g) where
         at-reshaped (λ o. minting_refusal h (reference_in o)) h.objects n
         (λ o. minting-same h (g o).reference o.reference (keeps.is_reference o) (keeps.queue o))
 
-    actor-reshaped : (who : Actor) → is_actor (reshaped g h) who ≡ is_actor h who
-    actor-reshaped (Mutator m) = refl
-    actor-reshaped (Worker k) = refl
+    held-reshaped : (held : Option ℕ) → held_refusal (reshaped g h) held ≡ held_refusal h held
+    held-reshaped None = refl
+    held-reshaped (Some n) = refl
 
     hand-reshaped : (ps : List Pending) → hand_refusal ps (reshaped g h) ≡ hand_refusal ps h
     hand-reshaped [] = refl
     hand-reshaped (p ∷ ps) = refl
 
   -- no step's refusal changes
-  pub same_refusal : (a : State) (step : Step) → refusal (on_heap a (reshaped g a.world.heap)) step ≡ refusal a step
-  same_refusal a (steps.New m d k) = new-reshaped a.world.heap a.next m d k
-  same_refusal a (steps.Refer m strength d s q k) = refer-reshaped a.world.heap a.next m d s q k
-  same_refusal a (steps.Store m s i v) =
+  pub same_refusal : (heap_no : ℕ) (a : State) (step : NamedStep)
+      → heap_refusal heap_no (on_heap a (reshaped g a.world.heap)) step ≡ heap_refusal heap_no a step
+  same_refusal heap_no a (heap.New m d k) = new-reshaped a.world.heap a.next m d k
+  same_refusal heap_no a (heap.Refer m strength d s q k) = refer-reshaped a.world.heap a.next m d s q k
+  same_refusal heap_no a (heap.Store m s i v) =
       later_same (has_slots a.world.heap m s v) (field-reshaped a.world.heap (slot_at a.world.heap m s) i)
-  same_refusal a (steps.Load m d s i) =
+  same_refusal heap_no a (heap.Load m d s i) =
       later_same (has_slots a.world.heap m d s) (field-reshaped a.world.heap (slot_at a.world.heap m s) i)
-  same_refusal a (steps.Get m d s) =
+  same_refusal heap_no a (heap.Get m d s) =
       later_same (has_slots a.world.heap m d s) (reference-reshaped a.world.heap (slot_at a.world.heap m s))
-  same_refusal a (steps.Clear m s) =
+  same_refusal heap_no a (heap.Clear m s) =
       later_same (has_slot a.world.heap m s) (reference-reshaped a.world.heap (slot_at a.world.heap m s))
-  same_refusal a (steps.RefersTo m s v) =
+  same_refusal heap_no a (heap.RefersTo m s v) =
       later_same (has_slots a.world.heap m v s) (reference-reshaped a.world.heap (slot_at a.world.heap m s))
-  same_refusal a (steps.Unhook m s) =
-      later_same (has_slot a.world.heap m s)
-      (ap (unless_full (hand_of a.world (Mutator m))) (unhook-reshaped a.world.heap (slot_at a.world.heap m s)))
-  same_refusal a (steps.Put who) =
-      ap (λ there. unless there NoSuchActor (empty_hand_refusal (hand_of a.world who)))
-      (actor-reshaped a.world.heap who)
-  same_refusal a (steps.Release who) =
-      ap (λ there. unless there NoSuchActor (empty_hand_refusal (hand_of a.world who)))
-      (actor-reshaped a.world.heap who)
-  same_refusal a (steps.Hand k) =
-      later_same (is_actor a.world.heap (Worker k))
-      (ap (unless_full (hand_of a.world (Worker k))) (hand-reshaped a.world.heap (pending_of a.world k)))
-  same_refusal a step = refl
+  same_refusal heap_no a (heap.Unhook m s) =
+      later_same (has_slot a.world.heap m s) (unhook-reshaped a.world.heap (slot_at a.world.heap m s))
+  same_refusal heap_no a (heap.Hold m s) =
+      later_same (has_slot a.world.heap m s) (held-reshaped a.world.heap (slot_at a.world.heap m s))
+  same_refusal heap_no a (heap.Hand k) =
+      later_same (is_worker a.world.heap k) (hand-reshaped a.world.heap (pending_of a.world k))
+  same_refusal heap_no a step = refl

@@ -1,21 +1,21 @@
--- How a row is accepted or refused.
-use Rattle.std.proofs.Common.{◌≡◌, Bool, true, false, refl, sym, subst, Option, Some, None}
-use Rattle.ref_base.specs.Refusals.{refusal, unless}
+-- How a row of a heap is accepted or refused.
+use Rattle.std.proofs.Common.{◌≡◌, ℕ, Bool, true, false, refl, sym, subst, Option, Some, None}
+use Rattle.ref_base.specs.Refusals.{heap_refusal, unless}
+use Rattle.ref_base.specs.HeapSteps.{NamedStep}
 use Rattle.ref_base.specs.Collectors.{State}
-use Rattle.ref_base.specs.CollectorRows.{IsRow, IsAnswer, Accepts}
+use Rattle.ref_base.specs.CollectorRows.{IsHeapRow, IsHeapAnswer, HeapAccepts}
 use Rattle.ref_base.specs.declared.fault.Fault.{Fault}
-use Rattle.ref_base.specs.declared.step.Step.{Step}
 use Rattle.ref_base.specs.declared.reply.Reply.{Reply}
 use Rattle.ref_base.specs.declared.reply.Reply.TheVariants as replies
 
-pub accepted_row : (a : State) (step : Step) (reply : Reply) (b : State) → refusal a step ≡ None
-    → Accepts a step reply b → IsRow a (record { step = step; reply = reply }) b
-accepted_row a step reply b none accepted = subst (λ o. IsAnswer a o step reply b) (sym none) accepted
+pub accepted_row : (heap_no : ℕ) (a : State) (step : NamedStep) (reply : Reply) (b : State)
+    → heap_refusal heap_no a step ≡ None → HeapAccepts a step reply b → IsHeapRow heap_no a step reply b
+accepted_row heap_no a step reply b none accepted = subst (λ o. IsHeapAnswer a o step reply b) (sym none) accepted
 
-pub refused_row : (a : State) (step : Step) (fault : Fault) → refusal a step ≡ Some fault
-    → IsRow a (record { step = step; reply = replies.Refused fault }) a
-refused_row a step fault refused =
-    subst (λ o. IsAnswer a o step (replies.Refused fault) a) (sym refused) (refl, refl)
+pub refused_row : (heap_no : ℕ) (a : State) (step : NamedStep) (fault : Fault)
+    → heap_refusal heap_no a step ≡ Some fault → IsHeapRow heap_no a step (replies.Refused fault) a
+refused_row heap_no a step fault refused =
+    subst (λ o. IsHeapAnswer a o step (replies.Refused fault) a) (sym refused) (refl, refl)
 
 -- where nothing is refused, the test holds, and what comes later isn't refused either
 pub unless_parts : (test : Bool) (fault : Fault) (later : Option Fault) → unless test fault later ≡ None

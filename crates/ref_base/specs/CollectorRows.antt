@@ -10,19 +10,20 @@ use Rattle.ref_base.specs.Paths.{is_phantom}
 use Rattle.ref_base.specs.KeptPaths.{EverKept}
 use Rattle.ref_base.specs.DoomedSets.{unscanned, MayDoom, is_new_clear, new_clears}
 use Rattle.ref_base.specs.Heaps.{Heap, slot_at, reference_at, reference_in, registered_in, with_slot, with_reference}
-use Rattle.ref_base.specs.Heaps.{cleared, nulls, new_reference, made, stored, got, cut}
+use Rattle.ref_base.specs.Heaps.{cleared, nulls, new_reference, made, stored, got, cut, with_hold, without_hold}
 use Rattle.ref_base.specs.QueueLists.{enqueued, was_put}
 use Rattle.ref_base.specs.Worlds.{World, Notice, Pending, policy_of, graph_of, object_of, hand_of, queue_at, pending_of}
 use Rattle.ref_base.specs.Worlds.{with_heap}
-use Rattle.ref_base.specs.Replay.{minted, spent, put_in, took, adopted, pended, handed, begun, with_phase, closed_queue}
+use Rattle.ref_base.specs.HeapSteps.{NamedStep, heap_step, handed}
+use Rattle.ref_base.specs.Replay.{put_in, took, adopted, pended, handed_on, begun, with_phase, closed_queue}
 use Rattle.ref_base.specs.Collectors.{State, joined}
-use Rattle.ref_base.specs.Refusals.{refusal, is_in}
+use Rattle.ref_base.specs.Refusals.{heap_refusal, refusal, is_in}
 use Rattle.ref_base.specs.declared.cause.Cause.TheVariants.{Own, Cycle}
 use Rattle.ref_base.specs.declared.actor.Actor.{Actor}
-use Rattle.ref_base.specs.declared.actor.Actor.TheVariants.{Mutator}
 use Rattle.ref_base.specs.declared.phase.Phase.TheVariants.{Idle, Marking, Clearing, Sweeping}
 use Rattle.ref_base.specs.declared.fault.Fault.{Fault}
 use Rattle.ref_base.specs.declared.fault.Fault.TheVariants.{NoMemory}
+use Rattle.ref_base.specs.declared.heap_step.HeapStep.TheVariants as heap
 use Rattle.ref_base.specs.declared.step.Step.{Step}
 use Rattle.ref_base.specs.declared.step.Step.TheVariants as steps
 use Rattle.ref_base.specs.declared.reply.Reply.{Reply}
@@ -115,14 +116,16 @@ abbrev pub referent_of : Option Reference → Option ℕ
 referent_of None = None
 referent_of (Some r) = r.referent
 
--- an unhook clears the reference, and gives a notice where it is registered
+-- an unhook clears the reference, and gives a notice where it is registered, which is a hold of the reference
 abbrev pub Unhooks : State → ℕ → ℕ → Option ℕ → Option ℕ → Reply → State → Type 0
 Unhooks a m s None queue = Gives replies.Nothing (on_heap a (cut a.world.heap m s))
 Unhooks a m s (Some n) None = Gives replies.Nothing (on_heap a (cut a.world.heap m s))
-Unhooks a m s (Some n) (Some q) =
-    Gives (replies.Notice n q Own)
-    (with_world a
-    (minted (with_heap a.world (cut a.world.heap m s)) (Mutator m) (record { object = n; queue = q; cause = Own })))
+Unhooks a m s (Some n) (Some q) = Gives (replies.Notice n q Own) (on_heap a (with_hold (cut a.world.heap m s) n))
+
+-- one hold more of what a slot holds
+abbrev pub Holds : State → Option ℕ → Reply → State → Type 0
+Holds a None reply b = ⊥
+Holds a (Some n) reply b = Gives (replies.Object n) (on_heap a (with_hold a.world.heap n)) reply b
 
 -- ---- queues
 
@@ -147,12 +150,6 @@ Puts a who (Some notice) reply b =
 abbrev pub Polls : State → ℕ → ℕ → List Notice → Reply → State → Type 0
 Polls a m q [] = Gives (if (queue_at a.world q).closed then replies.Closed else replies.Empty) a
 Polls a m q (notice ∷ rest) = Gives (replies.Took notice.object) (with_world a (took a.world m q notice.object))
-
--- the slot holds what the hand's notice reports
-abbrev pub Adopts : State → ℕ → ℕ → Option Notice → Reply → State → Type 0
-Adopts a m d None reply b = ⊥
-Adopts a m d (Some notice) reply b =
-    Gives (replies.Object notice.object) (with_world a (adopted a.world m d (Some notice) notice.object)) reply b
 
 -- a close answers ok where the queue is open, and else that it is closed
 abbrev pub Closes : State → ℕ → Bool → Reply → State → Type 0
@@ -253,13 +250,11 @@ abbrev pub ClearsNext : State → ℕ → List ℕ → Reply → State → Type 
 ClearsNext a k [] = Gives replies.Nothing a
 ClearsNext a k (n ∷ rest) = Gives (looked_at a k n) (looked a k n rest)
 
--- the first pending reference's notice comes into the worker's hand
+-- the notice of the first pending reference is given, which is a hold of it
 abbrev pub HandsOn : State → ℕ → List Pending → Reply → State → Type 0
 HandsOn a k [] = Gives replies.Nothing a
 HandsOn a k (p ∷ ps) =
-    let cause = Cycle p.cycle k in
-    Gives (replies.Notice p.object p.queue cause)
-    (with_world a (handed a.world k (record { object = p.object; queue = p.queue; cause = cause })))
+    Gives (replies.Notice p.object p.queue (Cycle p.cycle k)) (with_world a (handed_on a.world k p.object))
 
 -- the objects without those of these numbers
 abbrev pub without : List ℕ → List Object → List Object
@@ -277,42 +272,69 @@ Sweeps a (n ∷ ns) =
       doomed = drop 64 (n ∷ ns);
     })
 
+-- ---- the rows of a heap
+
+-- a step that isn't refused may be answered so, and leaves this state
+abbrev pub HeapAccepts : State → NamedStep → Reply → State → Type 0
+HeapAccepts a (heap.New m d k) = Makes a m d (plain_object a.next (nulls k))
+HeapAccepts a (heap.Refer m strength d s q k) =
+    Makes a m d (new_reference a.world.heap a.next strength (slot_at a.world.heap m s) q k)
+HeapAccepts a (heap.Store m s i v) = Gives replies.Done (on_heap a (stored a.world.heap m s i v))
+HeapAccepts a (heap.Load m d s i) = Loads a m d (field_in a.world.heap (slot_at a.world.heap m s) i)
+HeapAccepts a (heap.Copy m d s) =
+    Gives (value_reply (slot_at a.world.heap m s)) (on_heap a (with_slot a.world.heap m d (slot_at a.world.heap m s)))
+HeapAccepts a (heap.Drop m s) = Gives replies.Done (on_heap a (with_slot a.world.heap m s None))
+HeapAccepts a (heap.Get m d s) =
+    Gets a m d s (referent_got (reference_of a.world.heap (slot_at a.world.heap m s)))
+HeapAccepts a (heap.Clear m s) = Gives replies.Done (on_heap a (cut a.world.heap m s))
+HeapAccepts a (heap.RefersTo m s v) =
+    let reference = reference_of a.world.heap (slot_at a.world.heap m s) in
+    Gives (replies.Refers (is_same (referent_of reference) (slot_at a.world.heap m v))) a
+HeapAccepts a (heap.Unhook m s) =
+    let held = slot_at a.world.heap m s in
+    Unhooks a m s held (registered_in (reference_of a.world.heap held))
+HeapAccepts a (heap.Hold m s) = Holds a (slot_at a.world.heap m s)
+HeapAccepts a (heap.Adopt m d hold) =
+    Gives (replies.Object hold.object) (on_heap a (adopted a.world.heap m d hold.object))
+HeapAccepts a (heap.Release hold) = Gives replies.Done (on_heap a (without_hold a.world.heap hold.object))
+HeapAccepts a (heap.Begin now urgency) =
+    let n = a.world.cycle + 1 in
+    GivesAnew (replies.Cycle n) (begun_state a (begun a.world now urgency n))
+HeapAccepts a (heap.Scan k) = Scans a k
+HeapAccepts a heap.EndMark = EndsMark a
+HeapAccepts a (heap.ClearNext k) = ClearsNext a k (list_at a.found k)
+HeapAccepts a heap.EndClear = Gives replies.Done (with_world a (with_phase a.world Sweeping))
+HeapAccepts a (heap.Hand k) = HandsOn a k (pending_of a.world k)
+HeapAccepts a (heap.Sweep k) = Sweeps a a.doomed
+HeapAccepts a heap.EndSweep = Gives replies.Done (with_world a (with_phase a.world Idle))
+
+-- the row of a step that is refused or not
+abbrev pub IsHeapAnswer : State → Option Fault → NamedStep → Reply → State → Type 0
+IsHeapAnswer a (Some fault) step reply b = (reply ≡ replies.Refused fault) × (b ≡ a)
+IsHeapAnswer a None step reply b = HeapAccepts a step reply b
+
+-- from this state, the step of the heap of this number may be answered so, and then leaves the state b
+abbrev pub IsHeapRow : (heap_no : ℕ) → State → NamedStep → Reply → State → Type 0
+IsHeapRow heap_no a step reply b = IsHeapAnswer a (heap_refusal heap_no a step) step reply b
+
 -- ---- the rows
+
+-- what a step of queues may be answered
+abbrev pub QueuesAccept : State → Step → Reply → State → Type 0
+QueuesAccept a (steps.Put who) reply b = Puts a who (hand_of a.world who) reply b
+QueuesAccept a (steps.Poll m q) reply b = Polls a m q (queue_at a.world q).stands reply b
+QueuesAccept a (steps.Close m q) reply b = Closes a q (queue_at a.world q).closed reply b
+QueuesAccept a step reply b = ⊥
+
+-- what a step asks of its heap is a row of it, and then come the hands; what asks nothing is a step of queues
+abbrev pub AcceptsAsking : State → Option NamedStep → Step → Reply → State → Type 0
+AcceptsAsking a None step reply b = QueuesAccept a step reply b
+AcceptsAsking a (Some asked) step reply b =
+    (c : State) × HeapAccepts a asked reply c × (b ≡ with_world c (handed c.world step reply))
 
 -- a step that isn't refused may be answered so, and leaves this state
 abbrev pub Accepts : State → Step → Reply → State → Type 0
-Accepts a (steps.New m d k) = Makes a m d (plain_object a.next (nulls k))
-Accepts a (steps.Refer m strength d s q k) =
-    Makes a m d (new_reference a.world.heap a.next strength (slot_at a.world.heap m s) q k)
-Accepts a (steps.Store m s i v) = Gives replies.Done (on_heap a (stored a.world.heap m s i v))
-Accepts a (steps.Load m d s i) = Loads a m d (field_in a.world.heap (slot_at a.world.heap m s) i)
-Accepts a (steps.Copy m d s) =
-    Gives (value_reply (slot_at a.world.heap m s)) (on_heap a (with_slot a.world.heap m d (slot_at a.world.heap m s)))
-Accepts a (steps.Drop m s) = Gives replies.Done (on_heap a (with_slot a.world.heap m s None))
-Accepts a (steps.Get m d s) =
-    Gets a m d s (referent_got (reference_of a.world.heap (slot_at a.world.heap m s)))
-Accepts a (steps.Clear m s) = Gives replies.Done (on_heap a (cut a.world.heap m s))
-Accepts a (steps.RefersTo m s v) =
-    let reference = reference_of a.world.heap (slot_at a.world.heap m s) in
-    Gives (replies.Refers (is_same (referent_of reference) (slot_at a.world.heap m v))) a
-Accepts a (steps.Unhook m s) =
-    let held = slot_at a.world.heap m s in
-    Unhooks a m s held (registered_in (reference_of a.world.heap held))
-Accepts a (steps.Put who) = Puts a who (hand_of a.world who)
-Accepts a (steps.Poll m q) = Polls a m q (queue_at a.world q).stands
-Accepts a (steps.Adopt m d) = Adopts a m d (hand_of a.world (Mutator m))
-Accepts a (steps.Release who) = Gives replies.Done (with_world a (spent a.world who (hand_of a.world who)))
-Accepts a (steps.Close m q) = Closes a q (queue_at a.world q).closed
-Accepts a (steps.Begin now urgency) =
-    let n = a.world.cycle + 1 in
-    GivesAnew (replies.Cycle n) (begun_state a (begun a.world now urgency n))
-Accepts a (steps.Scan k) = Scans a k
-Accepts a steps.EndMark = EndsMark a
-Accepts a (steps.ClearNext k) = ClearsNext a k (list_at a.found k)
-Accepts a steps.EndClear = Gives replies.Done (with_world a (with_phase a.world Sweeping))
-Accepts a (steps.Hand k) = HandsOn a k (pending_of a.world k)
-Accepts a (steps.Sweep k) = Sweeps a a.doomed
-Accepts a steps.EndSweep = Gives replies.Done (with_world a (with_phase a.world Idle))
+Accepts a step reply b = AcceptsAsking a (heap_step a.world step) step reply b
 
 -- the row of a step that is refused or not
 abbrev pub IsAnswer : State → Option Fault → Step → Reply → State → Type 0

@@ -22,6 +22,7 @@ pub mod Heaps
 pub mod Orderly
 pub mod Worlds
 pub mod Told
+pub mod HeapSteps
 pub mod Replay
 pub mod Collectors
 pub mod Refusals

@@ -1,11 +1,13 @@
 -- Which step is refused, and with which fault: the first that applies (this project's profile). A number of an actor or
 -- slot outside the configuration comes first.
-use Rattle.std.specs.Prelude.{ℕ, ◌^◌, ◌-◌, Bool, true, false, ◌&&◌, not, if◌then◌else◌, nat_lt, nat_le}
+use Rattle.std.specs.Prelude.{ℕ, ◌^◌, ◌-◌, Bool, true, false, ◌&&◌, not, ◌==◌, if◌then◌else◌, nat_lt, nat_le}
 use Rattle.std.specs.Prelude.{List, [], ◌∷◌, length, Option, Some, None, is_some}
+use Rattle.ref_base.specs.Members.{has}
 use Rattle.ref_base.specs.Graphs.{Object, Reference, object_at}
 use Rattle.ref_base.specs.Heaps.{Heap, slot_at, reference_at}
 use Rattle.ref_base.specs.Worlds.{Notice, Pending, hand_of, pending_of}
 use Rattle.ref_base.specs.Collectors.{State, joined}
+use Rattle.ref_base.specs.HeapSteps.{NamedStep, heap_step}
 use Rattle.ref_base.specs.declared.actor.Actor.{Actor}
 use Rattle.ref_base.specs.declared.actor.Actor.TheVariants.{Mutator, Worker}
 use Rattle.ref_base.specs.declared.phase.Phase.{Phase}
@@ -13,7 +15,9 @@ use Rattle.ref_base.specs.declared.phase.Phase.TheVariants.{Idle, Marking, Clear
 use Rattle.ref_base.specs.declared.fault.Fault.{Fault}
 use Rattle.ref_base.specs.declared.fault.Fault.TheVariants.{NoCell, NumbersSpent, EmptySlot, BadField, NotAReference}
 use Rattle.ref_base.specs.declared.fault.Fault.TheVariants.{NoSuchActor, BadQueue, WrongPhase, ClockBack, GreyLeft}
-use Rattle.ref_base.specs.declared.fault.Fault.TheVariants.{ClearingLeft, SweepLeft, HandFull, HandEmpty}
+use Rattle.ref_base.specs.declared.fault.Fault.TheVariants.{ClearingLeft, SweepLeft, HandFull, HandEmpty, ForeignHold}
+use Rattle.ref_base.specs.declared.heap_step.HoldName.{HoldName}
+use Rattle.ref_base.specs.declared.heap_step.HeapStep.TheVariants as heap
 use Rattle.ref_base.specs.declared.step.Step.{Step}
 use Rattle.ref_base.specs.declared.step.Step.TheVariants as steps
 
@@ -160,22 +164,68 @@ abbrev pub is_empty : {T : Type 0} → List T → Bool
 is_empty [] = true
 is_empty (x ∷ xs) = false
 
+-- ---- holds
+
+-- of a hold of what a slot holds
+abbrev pub held_refusal : Heap → Option ℕ → Option Fault
+held_refusal h None = Some EmptySlot
+held_refusal h (Some n) = holds_refusal h
+
+-- whether the heap of this number counts the hold
+abbrev pub is_counted : ℕ → Heap → HoldName → Bool
+is_counted heap_no h hold = (hold.heap_no == heap_no) && has h.holds hold.object
+
+-- of a hold that comes back
+abbrev pub hold_refusal : ℕ → Heap → HoldName → Option Fault
+hold_refusal heap_no h hold = unless (is_counted heap_no h hold) ForeignHold None
+
+-- ---- the steps of a heap
+
+-- the fault of a step of the heap of this number, or none where it is accepted
+abbrev pub heap_refusal : (heap_no : ℕ) → State → NamedStep → Option Fault
+heap_refusal heap_no a (heap.New m d k) = new_refusal a.world.heap a.next m d k
+heap_refusal heap_no a (heap.Refer m strength d s q k) = refer_refusal a.world.heap a.next m d s q k
+heap_refusal heap_no a (heap.Store m s i v) = store_refusal a.world.heap m s i v
+heap_refusal heap_no a (heap.Load m d s i) = load_refusal a.world.heap m d s i
+heap_refusal heap_no a (heap.Copy m d s) = copy_refusal a.world.heap m d s
+heap_refusal heap_no a (heap.Drop m s) = drop_refusal a.world.heap m s
+heap_refusal heap_no a (heap.Get m d s) = get_refusal a.world.heap m d s
+heap_refusal heap_no a (heap.Clear m s) = clear_refusal a.world.heap m s
+heap_refusal heap_no a (heap.RefersTo m s v) = get_refusal a.world.heap m v s
+heap_refusal heap_no a (heap.Unhook m s) =
+    unless (has_slot a.world.heap m s) NoSuchActor (unhook_refusal a.world.heap (slot_at a.world.heap m s))
+heap_refusal heap_no a (heap.Hold m s) =
+    unless (has_slot a.world.heap m s) NoSuchActor (held_refusal a.world.heap (slot_at a.world.heap m s))
+heap_refusal heap_no a (heap.Adopt m d hold) =
+    unless (has_slot a.world.heap m d) NoSuchActor (hold_refusal heap_no a.world.heap hold)
+heap_refusal heap_no a (heap.Release hold) = hold_refusal heap_no a.world.heap hold
+heap_refusal heap_no a (heap.Begin now how) = begin_refusal a.world.phase a.world.heap.clock a.world.cycle now
+heap_refusal heap_no a (heap.Scan k) = work_refusal a.world.heap a.world.phase Marking k
+heap_refusal heap_no a heap.EndMark = end_mark_refusal a.world.phase a.left
+heap_refusal heap_no a (heap.ClearNext k) = work_refusal a.world.heap a.world.phase Clearing k
+heap_refusal heap_no a heap.EndClear = in_phase a Clearing (unless (is_empty (joined a.found)) ClearingLeft None)
+heap_refusal heap_no a (heap.Hand k) =
+    unless (is_worker a.world.heap k) NoSuchActor (hand_refusal (pending_of a.world k) a.world.heap)
+heap_refusal heap_no a (heap.Sweep k) = work_refusal a.world.heap a.world.phase Sweeping k
+heap_refusal heap_no a heap.EndSweep = in_phase a Sweeping (unless (is_empty a.doomed) SweepLeft None)
+
 -- ---- the steps
 
--- the fault of a step, or none where it is accepted
+-- what a step of the world asks of its heap may be refused there
+abbrev pub asked_refusal : State → Option NamedStep → Option Fault
+asked_refusal a None = None
+asked_refusal a (Some asked) = heap_refusal 0 a asked
+
+-- The fault of a step, or none where it is accepted. That a hand is full or empty comes behind the actor and in front of
+-- what the heap refuses. A hand's notice is a hold that the heap counts, so an adopt and a release are refused for their
+-- hands alone.
 abbrev pub refusal : State → Step → Option Fault
-refusal a (steps.New m d k) = new_refusal a.world.heap a.next m d k
-refusal a (steps.Refer m strength d s q k) = refer_refusal a.world.heap a.next m d s q k
-refusal a (steps.Store m s i v) = store_refusal a.world.heap m s i v
-refusal a (steps.Load m d s i) = load_refusal a.world.heap m d s i
-refusal a (steps.Copy m d s) = copy_refusal a.world.heap m d s
-refusal a (steps.Drop m s) = drop_refusal a.world.heap m s
-refusal a (steps.Get m d s) = get_refusal a.world.heap m d s
-refusal a (steps.Clear m s) = clear_refusal a.world.heap m s
-refusal a (steps.RefersTo m s v) = get_refusal a.world.heap m v s
 refusal a (steps.Unhook m s) =
     unless (has_slot a.world.heap m s) NoSuchActor
-    (unless_full (hand_of a.world (Mutator m)) (unhook_refusal a.world.heap (slot_at a.world.heap m s)))
+    (unless_full (hand_of a.world (Mutator m)) (heap_refusal 0 a (heap.Unhook m s)))
+refusal a (steps.Hand k) =
+    unless (is_worker a.world.heap k) NoSuchActor
+    (unless_full (hand_of a.world (Worker k)) (heap_refusal 0 a (heap.Hand k)))
 refusal a (steps.Put who) = unless (is_actor a.world.heap who) NoSuchActor (empty_hand_refusal (hand_of a.world who))
 refusal a (steps.Poll m q) =
     unless (is_mutator a.world.heap m) NoSuchActor
@@ -185,13 +235,4 @@ refusal a (steps.Adopt m d) =
 refusal a (steps.Release who) = unless (is_actor a.world.heap who) NoSuchActor (empty_hand_refusal (hand_of a.world who))
 refusal a (steps.Close m q) =
     unless (is_mutator a.world.heap m) NoSuchActor (unless (is_queue a.world.heap q) BadQueue None)
-refusal a (steps.Begin now _) = begin_refusal a.world.phase a.world.heap.clock a.world.cycle now
-refusal a (steps.Scan k) = work_refusal a.world.heap a.world.phase Marking k
-refusal a steps.EndMark = end_mark_refusal a.world.phase a.left
-refusal a (steps.ClearNext k) = work_refusal a.world.heap a.world.phase Clearing k
-refusal a steps.EndClear = in_phase a Clearing (unless (is_empty (joined a.found)) ClearingLeft None)
-refusal a (steps.Hand k) =
-    unless (is_worker a.world.heap k) NoSuchActor
-    (unless_full (hand_of a.world (Worker k)) (hand_refusal (pending_of a.world k) a.world.heap))
-refusal a (steps.Sweep k) = work_refusal a.world.heap a.world.phase Sweeping k
-refusal a steps.EndSweep = in_phase a Sweeping (unless (is_empty a.doomed) SweepLeft None)
+refusal a step = asked_refusal a (heap_step a.world step)

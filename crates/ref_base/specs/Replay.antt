@@ -4,19 +4,21 @@
 use Rattle.std.specs.Prelude.{ℕ, true, ◌==◌, if◌then◌else◌, List, [], ◌∷◌, ◌++◌, Option, Some, None}
 use Rattle.ref_base.specs.Members.{without_first}
 use Rattle.ref_base.specs.Graphs.{plain_object}
-use Rattle.ref_base.specs.Heaps.{slot_at, reference_at, registered_in, with_slot, with_hold, without_hold, with_changed}
+use Rattle.ref_base.specs.Heaps.{Heap, slot_at, reference_at, registered_in, with_slot, with_hold, without_hold, with_changed}
 use Rattle.ref_base.specs.Heaps.{with_reference, cleared, nulls, with_clock, new_reference, made, stored, got, cut}
 use Rattle.ref_base.specs.QueueLists.{Lists, with_parcel}
 use Rattle.ref_base.specs.Worlds.{World, Notice, Pending, first_world, object_of, hand_of, queue_at, pending_of}
 use Rattle.ref_base.specs.Worlds.{with_heap, with_hand, with_queue, with_pending}
 use Rattle.ref_base.specs.Told.{told_object, told_value, is_done, told_notice, is_nothing, is_added, told_taken}
 use Rattle.ref_base.specs.Told.{told_cycle, is_doomed, told_cleared}
+use Rattle.ref_base.specs.HeapSteps.{NamedStep, heap_step, handed}
 use Rattle.ref_base.specs.declared.config.Config.{Config}
 use Rattle.ref_base.specs.declared.actor.Actor.{Actor}
-use Rattle.ref_base.specs.declared.actor.Actor.TheVariants.{Mutator, Worker}
+use Rattle.ref_base.specs.declared.actor.Actor.TheVariants.{Mutator}
 use Rattle.ref_base.specs.declared.urgency.Urgency.{Urgency}
 use Rattle.ref_base.specs.declared.phase.Phase.{Phase}
 use Rattle.ref_base.specs.declared.phase.Phase.TheVariants.{Idle, Marking, Clearing, Sweeping}
+use Rattle.ref_base.specs.declared.heap_step.HeapStep.TheVariants as heap
 use Rattle.ref_base.specs.declared.step.Step.{Step}
 use Rattle.ref_base.specs.declared.step.Step.TheVariants as steps
 use Rattle.ref_base.specs.declared.reply.Reply.{Reply}
@@ -28,15 +30,6 @@ if_told None change before = before
 if_told (Some told) change before = change told
 
 -- ---- what each kind of row changes
-
--- a hand holds the notice, and there is one more hold of its reference
-abbrev pub minted : World → Actor → Notice → World
-minted w a notice = with_hand (with_heap w (with_hold w.heap notice.object)) a (Some notice)
-
--- the hand is empty, and there is one hold fewer of what its notice reported
-abbrev pub spent : World → Actor → Option Notice → World
-spent w a None = w
-spent w a (Some notice) = with_hand (with_heap w (without_hold w.heap notice.object)) a None
 
 -- the hand's notice stands last in its queue
 abbrev pub put_in : World → Actor → Option Notice → World
@@ -62,11 +55,9 @@ abbrev pub took : World → ℕ → ℕ → ℕ → World
 took w m q n =
     with_hand (with_queue w q (taken_out (queue_at w q) n)) (Mutator m) (notice_of (queue_at w q).stands n)
 
--- the slot holds n, the hand is empty, and there is one hold fewer of what its notice reported
-abbrev pub adopted : World → ℕ → ℕ → Option Notice → ℕ → World
-adopted w m d hand n =
-    let after_spending = spent w (Mutator m) hand in
-    with_heap after_spending (with_slot after_spending.heap m d (Some n))
+-- the slot holds n, of which there is one hold fewer
+abbrev pub adopted : Heap → ℕ → ℕ → ℕ → Heap
+adopted h m d n = with_slot (without_hold h n) m d (Some n)
 
 -- these without the first entry of n
 abbrev pub without_pending : List Pending → ℕ → List Pending
@@ -83,9 +74,11 @@ abbrev pub cleared_for : World → ℕ → ℕ → World
 cleared_for w k n =
     pended (with_heap w (with_changed w.heap n (with_reference cleared))) k n (registered_in (reference_at w.heap n))
 
--- the notice is in the worker's hand, and no longer pending
-abbrev pub handed : World → ℕ → Notice → World
-handed w k notice = minted (with_pending w k (without_pending (pending_of w k) notice.object)) (Worker k) notice
+-- n is no longer pending, and there is one hold more of it
+abbrev pub handed_on : World → ℕ → ℕ → World
+handed_on w k n =
+    let fewer = with_pending w k (without_pending (pending_of w k) n) in
+    with_heap fewer (with_hold fewer.heap n)
 
 -- a cycle began: the clock, its urgency and its number
 abbrev pub begun : World → ℕ → Urgency → ℕ → World
@@ -100,36 +93,51 @@ closed_queue w q = with_queue w q (let k = queue_at w q in record k { closed = t
 
 -- ---- the replay
 
--- the world after one more row
-abbrev pub after : World → Step → Reply → World
-after w (steps.New m d k) r =
+-- the world after one more row of its heap, but for its hands
+abbrev pub after_heap : World → NamedStep → Reply → World
+after_heap w (heap.New m d k) r =
     if_told (told_object r) (λ n. with_heap w (made w.heap m d (plain_object n (nulls k)))) w
-after w (steps.Refer m strength d s q k) r =
+after_heap w (heap.Refer m strength d s q k) r =
     if_told (told_object r)
     (λ n. with_heap w (made w.heap m d (new_reference w.heap n strength (slot_at w.heap m s) q k))) w
-after w (steps.Store m s i v) r = if is_done r then with_heap w (stored w.heap m s i v) else w
-after w (steps.Load m d s i) r = if_told (told_value r) (λ value. with_heap w (with_slot w.heap m d value)) w
-after w (steps.Copy m d s) r = if_told (told_value r) (λ value. with_heap w (with_slot w.heap m d value)) w
-after w (steps.Drop m s) r = if is_done r then with_heap w (with_slot w.heap m s None) else w
-after w (steps.Get m d s) r = if_told (told_value r) (λ value. with_heap w (got w.heap m d s value)) w
-after w (steps.Clear m s) r = if is_done r then with_heap w (cut w.heap m s) else w
-after w (steps.RefersTo m s v) r = w
-after w (steps.Unhook m s) r =
+after_heap w (heap.Store m s i v) r = if is_done r then with_heap w (stored w.heap m s i v) else w
+after_heap w (heap.Load m d s i) r = if_told (told_value r) (λ value. with_heap w (with_slot w.heap m d value)) w
+after_heap w (heap.Copy m d s) r = if_told (told_value r) (λ value. with_heap w (with_slot w.heap m d value)) w
+after_heap w (heap.Drop m s) r = if is_done r then with_heap w (with_slot w.heap m s None) else w
+after_heap w (heap.Get m d s) r = if_told (told_value r) (λ value. with_heap w (got w.heap m d s value)) w
+after_heap w (heap.Clear m s) r = if is_done r then with_heap w (cut w.heap m s) else w
+after_heap w (heap.RefersTo m s v) r = w
+after_heap w (heap.Unhook m s) r =
     let unhooked = with_heap w (cut w.heap m s) in
-    if is_nothing r then unhooked else if_told (told_notice r) (λ notice. minted unhooked (Mutator m) notice) w
-after w (steps.Put a) r = if is_added r then put_in w a (hand_of w a) else w
-after w (steps.Poll m q) r = if_told (told_taken r) (λ n. took w m q n) w
-after w (steps.Adopt m d) r = if_told (told_object r) (λ n. adopted w m d (hand_of w (Mutator m)) n) w
-after w (steps.Release a) r = if is_done r then spent w a (hand_of w a) else w
-after w (steps.Close m q) r = if is_done r then closed_queue w q else w
-after w (steps.Begin now urgency) r = if_told (told_cycle r) (λ n. begun w now urgency n) w
-after w (steps.Scan k) r = w
-after w steps.EndMark r = if is_doomed r then with_phase w Clearing else w
-after w (steps.ClearNext k) r = if_told (told_cleared r) (λ n. cleared_for w k n) w
-after w steps.EndClear r = if is_done r then with_phase w Sweeping else w
-after w (steps.Hand k) r = if_told (told_notice r) (λ notice. handed w k notice) w
-after w (steps.Sweep k) r = w
-after w steps.EndSweep r = if is_done r then with_phase w Idle else w
+    if is_nothing r then unhooked
+    else if_told (told_notice r) (λ notice. with_heap unhooked (with_hold unhooked.heap notice.object)) w
+after_heap w (heap.Hold m s) r = if_told (told_object r) (λ n. with_heap w (with_hold w.heap n)) w
+after_heap w (heap.Adopt m d hold) r = if_told (told_object r) (λ n. with_heap w (adopted w.heap m d n)) w
+after_heap w (heap.Release hold) r = if is_done r then with_heap w (without_hold w.heap hold.object) else w
+after_heap w (heap.Begin now urgency) r = if_told (told_cycle r) (λ n. begun w now urgency n) w
+after_heap w (heap.Scan k) r = w
+after_heap w heap.EndMark r = if is_doomed r then with_phase w Clearing else w
+after_heap w (heap.ClearNext k) r = if_told (told_cleared r) (λ n. cleared_for w k n) w
+after_heap w heap.EndClear r = if is_done r then with_phase w Sweeping else w
+after_heap w (heap.Hand k) r = if_told (told_notice r) (λ notice. handed_on w k notice.object) w
+after_heap w (heap.Sweep k) r = w
+after_heap w heap.EndSweep r = if is_done r then with_phase w Idle else w
+
+-- the world after one more row of its queues
+abbrev pub after_queues : World → Step → Reply → World
+after_queues w (steps.Put who) r = if is_added r then put_in w who (hand_of w who) else w
+after_queues w (steps.Poll m q) r = if_told (told_taken r) (λ n. took w m q n) w
+after_queues w (steps.Close m q) r = if is_done r then closed_queue w q else w
+after_queues w step r = w
+
+-- the world after a row that asked this of its heap, if anything
+abbrev pub after_asking : World → Option NamedStep → Step → Reply → World
+after_asking w None step r = after_queues w step r
+after_asking w (Some asked) step r = handed (after_heap w asked r) step r
+
+-- the world after one more row
+abbrev pub after : World → Step → Reply → World
+after w step r = after_asking w (heap_step w step) step r
 
 -- the world after some rows
 abbrev pub replayed_from : World → List Row → World
