@@ -63,7 +63,8 @@ get_keeps_the_referent_is_legal = legal (config_of 1) get_keeps_the_referent (
     ⨾ (
       _,
       mark_ends _ ((2 ∷ []) ∷ [])
-          (may_doom _ _ _ [] (2 ∷ 1 ∷ []) refl refl (inr (inl ([], (refl, refl))), (inr (inl ([], (refl, refl))), tt)) refl)
+          (may_doom _ _ _ [] (2 ∷ 1 ∷ []) refl refl
+          (inr (inl ([], (refl, refl))), (inr (inl ([], (refl, refl))), tt)) refl)
           (refl, tt) (λ n h. absurd (false≢true h)),
       refl,
     )
@@ -203,7 +204,8 @@ cleared_for_every_mutator_at_once_is_legal = legal (config_of 2) cleared_for_eve
     ⨾ (
       _,
       mark_ends _ ((2 ∷ []) ∷ (3 ∷ []) ∷ [])
-          (may_doom _ _ _ (1 ∷ []) (2 ∷ 3 ∷ []) refl refl (inl refl, (inr (inl ([], (refl, refl))), (inr (inl ([], (refl, refl))), tt))) refl)
+          (may_doom _ _ _ (1 ∷ []) (2 ∷ 3 ∷ []) refl refl
+          (inl refl, (inr (inl ([], (refl, refl))), (inr (inl ([], (refl, refl))), tt))) refl)
           (refl, (refl, tt)) (λ n h. h),
       refl,
     )

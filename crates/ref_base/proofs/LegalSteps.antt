@@ -1,5 +1,6 @@
 -- How one shows of a concrete trace that it is legal, row by row.
-use Rattle.std.proofs.Common.{◌≡◌, ℕ, Bool, true, false, not, refl, sym, ap, ◌∙◌, subst, List, [], ◌∷◌, length, Option, None}
+use Rattle.std.proofs.Common.{◌≡◌, ℕ, Bool, true, false, not, refl, sym, ap, ◌∙◌, subst}
+use Rattle.std.proofs.Common.{List, [], ◌∷◌, length, Option, None}
 use Rattle.std.proofs.lemmas.Bool.{false≢true}
 use Rattle.ref_base.specs.Collectors.{State, first_state}
 use Rattle.ref_base.specs.LegalTraces.{IsLegal}
@@ -8,8 +9,7 @@ use Rattle.ref_base.specs.Members.{has}
 use Rattle.ref_base.specs.DoomedSets.{new_clears, MayDoom}
 use Rattle.ref_base.specs.Worlds.{policy_of, graph_of}
 use Rattle.ref_base.specs.Collectors.{joined}
-use Rattle.ref_base.specs.HeapSteps.{handed}
-use Rattle.ref_base.specs.CollectorRows.{with_world, EndsMark, AreFound, mark_ended, doomed_at, IsRow, IsRun, IsAnswer}
+use Rattle.ref_base.specs.CollectorRows.{with_handed, EndsMark, AreFound, mark_ended, doomed_at, IsRow, IsRun, IsAnswer}
 use Rattle.ref_base.specs.declared.row.Row.{Row}
 use Rattle.ref_base.specs.Refusals.{is_in, refusal, unless}
 use Rattle.ref_base.specs.declared.fault.Fault.{Fault}
@@ -59,9 +59,9 @@ mark_ended_by a last rows count marking run =
     (subst (λ f. IsAnswer a f EndMark (Doomed count) run.0) (refused_at a marking) run.1)
 
 -- where the state of the heap's row is known, so is the state that the row leaves
-pub lands : (step : Step) (reply : Reply) {b c d : State} → b ≡ with_world c (handed c.world step reply) → c ≡ d
-    → b ≡ with_world d (handed d.world step reply)
-lands step reply left is = left ∙ ap (λ (s : State). with_world s (handed s.world step reply)) is
+pub lands : (step : Step) (reply : Reply) {b c d : State} → b ≡ with_handed c step reply → c ≡ d
+    → b ≡ with_handed d step reply
+lands step reply left is = left ∙ ap (λ (s : State). with_handed s step reply) is
 
 infixr 20 ◌⨾◌
 -- rows, one after the other

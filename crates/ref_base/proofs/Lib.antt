@@ -13,6 +13,7 @@ pub mod QueueMoves
 pub mod SoundWorlds
 pub mod QueueLaws
 pub mod RowLaws
+pub mod HeapRowLaws
 pub mod RunLaws
 pub mod LegalQueues
 pub mod OneMore

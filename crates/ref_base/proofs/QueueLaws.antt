@@ -7,7 +7,7 @@ use Rattle.std.specs.List.{AllByRecursion}
 use Rattle.std.proofs.lemmas.Bool.{eq-eqb, ne_eqb}
 use Rattle.ref_base.specs.QueueLists.{Lists, new_queue, was_put, with_parcel, with_taken}
 use Rattle.ref_base.specs.QueueRows.{HeldNotice, Hands, with_held, held_after, put_by, taken_by, closed_by}
-use Rattle.ref_base.specs.Worlds.{World, Notice, object_of, hand_of, queue_at, with_hand}
+use Rattle.ref_base.specs.Worlds.{World, Notice, SameOthers, object_of, hand_of, queue_at, with_hand}
 use Rattle.ref_base.specs.Worlds.{with_queue}
 use Rattle.ref_base.specs.Replay.{notice_of, taken_out, took, put_in}
 use Rattle.ref_base.specs.declared.actor.Actor.{Actor}
@@ -52,20 +52,14 @@ no_change hands = (hands, [], [], false)
 abbrev pub IsStill : Step → Reply → Type 0
 IsStill step reply = (hands : Hands) (q : ℕ) → change_by hands q step reply ≡ no_change hands
 
--- the two have the same hands and queues
-pub record SameHands (a b : World) : Type 0 where
-  pub mutators : b.mutator_hands ≡ a.mutator_hands
-  pub workers : b.worker_hands ≡ a.worker_hands
-  pub queues : b.queues ≡ a.queues
-
-pub same : (w : World) → SameHands w w
+pub same : (w : World) → SameOthers w w
 same w = record { mutators = refl; workers = refl; queues = refl }
 
-same_held : (a b : World) → SameHands a b → (who : Actor) → held_of b who ≡ held_of a who
+same_held : (a b : World) → SameOthers a b → (who : Actor) → held_of b who ≡ held_of a who
 same_held a b is (Mutator m) = ap (λ (hs : List (Option Notice)). as_held (slice_index_or hs m None)) is.mutators
 same_held a b is (Worker k) = ap (λ (hs : List (Option Notice)). as_held (slice_index_or hs k None)) is.workers
 
-pub stays : (a b : World) (step : Step) (reply : Reply) → IsStill step reply → SameHands a b → IsSound b
+pub stays : (a b : World) (step : Step) (reply : Reply) → IsStill step reply → SameOthers a b → IsSound b
     → Goes a b step reply
 stays a b step reply still is sound = record {
   sound = sound;
@@ -121,7 +115,7 @@ sets_hand w who hand step reply sound has below held still = record {
 
 -- ---- what comes before or after and touches neither hands nor queues
 
-pub goes_after : (a mid b : World) (step : Step) (reply : Reply) → SameHands a mid → Goes mid b step reply
+pub goes_after : (a mid b : World) (step : Step) (reply : Reply) → SameOthers a mid → Goes mid b step reply
     → Goes a b step reply
 goes_after a mid b step reply is goes =
     let hands : held_of mid ≡ held_of a = λ i who. same_held a mid is who i in

@@ -10,17 +10,17 @@ use Rattle.ref_base.specs.Heaps.{Heap, slot_at, with_slot, with_hold, without_ho
 use Rattle.ref_base.specs.Heaps.{reference_at, got, nulls, new_reference, made, cut, stored}
 use Rattle.ref_base.specs.QueueLists.{was_put}
 use Rattle.ref_base.specs.QueueRows.{Hands, with_held, held_after}
-use Rattle.ref_base.specs.Worlds.{World, Notice, Pending, object_of, hand_of, queue_at, pending_of, with_heap, with_hand}
-use Rattle.ref_base.specs.Worlds.{with_pending}
+use Rattle.ref_base.specs.Worlds.{World, Notice, Pending, SameOthers, object_of, hand_of, queue_at, pending_of}
+use Rattle.ref_base.specs.Worlds.{with_heap, with_hand, with_pending}
 use Rattle.ref_base.specs.HeapSteps.{NamedStep, hold_of, spending, handed}
 use Rattle.ref_base.specs.Replay.{adopted, pended, without_pending, handed_on, begun, with_phase}
 use Rattle.ref_base.specs.Collectors.{State}
-use Rattle.ref_base.specs.Refusals.{unless, refusal, is_in, is_mutator, is_worker, is_queue, is_queue_or_none, is_actor}
-use Rattle.ref_base.specs.Refusals.{has_slot, has_slots}
-use Rattle.ref_base.specs.CollectorRows.{with_world, Gives, GivesAnewIf, IsBut, ticked, HeapAccepts, Accepts, AcceptsAsking}
-use Rattle.ref_base.specs.CollectorRows.{IsAnswer, IsRow, Loads, Gets, Unhooks, Holds, PutsInto, Puts, Polls, Closes, Scans}
-use Rattle.ref_base.specs.CollectorRows.{ClearsNext, HandsOn, Sweeps, looked, EndsMark, doomed_at, shown, without}
-use Rattle.ref_base.specs.CollectorRows.{list_at, begun_state}
+use Rattle.ref_base.specs.Refusals.{unless, refusal, heap_refusal, is_in, is_mutator, is_worker, is_queue, is_actor}
+use Rattle.ref_base.specs.Refusals.{is_queue_or_none, has_slot, has_slots}
+use Rattle.ref_base.specs.CollectorRows.{with_handed, Gives, GivesAnewIf, IsBut, ticked, HeapAccepts, Accepts}
+use Rattle.ref_base.specs.CollectorRows.{AcceptsAsking, IsAnswer, IsRow, Loads, Gets, Unhooks, Holds, PutsInto, Puts}
+use Rattle.ref_base.specs.CollectorRows.{Polls, Closes, Scans, ClearsNext, HandsOn, Sweeps, looked, EndsMark}
+use Rattle.ref_base.specs.CollectorRows.{doomed_at, shown, without, list_at, begun_state}
 use Rattle.ref_base.specs.declared.fault.Fault.{Fault}
 use Rattle.ref_base.specs.declared.fault.Fault.TheVariants.{NoMemory}
 use Rattle.ref_base.specs.declared.cause.Cause.TheVariants.{Own, Cycle}
@@ -39,7 +39,7 @@ use Rattle.ref_base.proofs.Places.{all_push}
 use Rattle.ref_base.proofs.SoundWorlds.{QueueBelow, ObjectBelow, PendingBelow, HasHand, IsSound, sound_rest, sound_stored}
 use Rattle.ref_base.proofs.SoundWorlds.{sound_cut, sound_got, sound_made, sound_shown, sound_swept, sound_pending}
 use Rattle.ref_base.proofs.SoundWorlds.{held_below, registered_below, without_pending_below}
-use Rattle.ref_base.proofs.QueueLaws.{as_held, move_by, no_move, Goes, IsStill, SameHands, same, stays, sets_hand, goes_after}
+use Rattle.ref_base.proofs.QueueLaws.{as_held, move_by, no_move, Goes, IsStill, same, stays, sets_hand, goes_after}
 use Rattle.ref_base.proofs.QueueLaws.{put_goes, close_goes, poll_goes}
 
 -- ---- the forms of a row
@@ -51,10 +51,10 @@ ticked_world c =
 but_world : (c b : State) → IsBut c b → b.world ≡ c.world
 but_world c b but = ap (λ (s : State). s.world) but.1
 
--- a row of a heap keeps hands and queues as they are, and leaves a sound world
+-- a row of a heap keeps hands and queues as they are, and leaves a sound world where there was one
 pub record Keeps (a b : World) : Type 0 where
-  pub hands : SameHands a b
-  pub sound : IsSound b
+  pub others : SameOthers a b
+  pub sound : IsSound a → IsSound b
 
 given_keeps : (a c b : State) (answer reply : Reply) → Gives answer c reply b → Keeps a.world c.world
     → Keeps a.world b.world
@@ -69,12 +69,12 @@ anew_keeps a c b true answer reply gives keeps =
     subst (λ (w : World). Keeps a.world w) (sym world) keeps
 anew_keeps a c b false answer reply gives keeps = given_keeps a c b answer reply gives keeps
 
-still : (w : World) → IsSound w → Keeps w w
-still w sound = record { hands = same w; sound = sound }
+still : (w : World) → Keeps w w
+still w = record { others = same w; sound = λ sound. sound }
 
-on_heap_keeps : (w : World) (h : Heap) → IsSound (with_heap w h) → Keeps w (with_heap w h)
+on_heap_keeps : (w : World) (h : Heap) → (IsSound w → IsSound (with_heap w h)) → Keeps w (with_heap w h)
 on_heap_keeps w h sound = record {
-  hands = record { mutators = refl; workers = refl; queues = refl };
+  others = record { mutators = refl; workers = refl; queues = refl };
   sound = sound;
 }
 
@@ -82,8 +82,8 @@ sound_slot : (w : World) (m s : ℕ) (value : Option ℕ) → IsSound w → IsSo
 sound_slot w m s value sound =
     sound_rest w (slice_set w.heap.slots (16 * m + s) value) w.heap.holds w.heap.clock sound
 
-slot_keeps : (w : World) (m s : ℕ) (value : Option ℕ) → IsSound w → Keeps w (with_heap w (with_slot w.heap m s value))
-slot_keeps w m s value sound = on_heap_keeps w (with_slot w.heap m s value) (sound_slot w m s value sound)
+slot_keeps : (w : World) (m s : ℕ) (value : Option ℕ) → Keeps w (with_heap w (with_slot w.heap m s value))
+slot_keeps w m s value = on_heap_keeps w (with_slot w.heap m s value) (λ sound. sound_slot w m s value sound)
 
 sound_hold : (w : World) (n : ℕ) → IsSound w → IsSound (with_heap w (with_hold w.heap n))
 sound_hold w n sound = sound_rest w w.heap.slots (one_more w.heap.holds n) w.heap.clock sound
@@ -93,54 +93,53 @@ sound_without w n sound = sound_rest w w.heap.slots (one_fewer w.heap.holds n) w
 
 -- ---- objects, slots, references and holds
 
-sound_after_making : (w : World) (m d : ℕ) (o : Object) → IsSound w → ObjectBelow w.heap.config.queues o
-    → IsSound (with_heap w (made w.heap m d o))
-sound_after_making w m d o sound below =
+made_keeps : (w : World) (m d : ℕ) (o : Object) → ObjectBelow w.heap.config.queues o
+    → Keeps w (with_heap w (made w.heap m d o))
+made_keeps w m d o below =
+    on_heap_keeps w (made w.heap m d o)
+    (λ sound.
     sound_slot (with_heap w (record w.heap { objects = w.heap.objects ++ o ∷ [] })) m d (Some o.no)
-    (sound_made w o sound below)
+    (sound_made w o sound below))
 
-load_keeps : (a b : State) (m d : ℕ) (value : Option ℕ) (reply : Reply) → IsSound a.world
-    → Loads a m d value reply b → Keeps a.world b.world
-load_keeps a b m d None reply sound gives =
-    given_keeps a _ b replies.Null reply gives (slot_keeps a.world m d None sound)
-load_keeps a b m d (Some n) reply sound gives =
-    anew_keeps a _ b _ (replies.Object n) reply gives (slot_keeps a.world m d (Some n) sound)
+load_keeps : (a b : State) (m d : ℕ) (value : Option ℕ) (reply : Reply) → Loads a m d value reply b
+    → Keeps a.world b.world
+load_keeps a b m d None reply gives = given_keeps a _ b replies.Null reply gives (slot_keeps a.world m d None)
+load_keeps a b m d (Some n) reply gives =
+    anew_keeps a _ b _ (replies.Object n) reply gives (slot_keeps a.world m d (Some n))
 
-get_keeps : (a b : State) (m d s : ℕ) (value : Option ℕ) (reply : Reply) → IsSound a.world
-    → Gets a m d s value reply b → Keeps a.world b.world
-get_keeps a b m d s None reply sound gives =
-    given_keeps a _ b replies.Null reply gives (slot_keeps a.world m d None sound)
-get_keeps a b m d s (Some n) reply sound gives =
+get_keeps : (a b : State) (m d s : ℕ) (value : Option ℕ) (reply : Reply) → Gets a m d s value reply b
+    → Keeps a.world b.world
+get_keeps a b m d s None reply gives = given_keeps a _ b replies.Null reply gives (slot_keeps a.world m d None)
+get_keeps a b m d s (Some n) reply gives =
     anew_keeps a _ b _ (replies.Object n) reply gives
     (on_heap_keeps a.world (got a.world.heap m d s (Some n))
-    (sound_slot _ m d (Some n) (sound_got a.world (slot_at a.world.heap m s) a.world.heap.clock sound)))
+    (λ sound. sound_slot _ m d (Some n) (sound_got a.world (slot_at a.world.heap m s) a.world.heap.clock sound)))
 
-cut_keeps : (w : World) (m s : ℕ) → IsSound w → Keeps w (with_heap w (cut w.heap m s))
-cut_keeps w m s sound = on_heap_keeps w (cut w.heap m s) (sound_cut w (slot_at w.heap m s) sound)
+cut_keeps : (w : World) (m s : ℕ) → Keeps w (with_heap w (cut w.heap m s))
+cut_keeps w m s = on_heap_keeps w (cut w.heap m s) (λ sound. sound_cut w (slot_at w.heap m s) sound)
 
-unhook_keeps : (a b : State) (m s : ℕ) (held queue : Option ℕ) (reply : Reply) → IsSound a.world
-    → Unhooks a m s held queue reply b → Keeps a.world b.world
-unhook_keeps a b m s None queue reply sound gives =
-    given_keeps a _ b replies.Nothing reply gives (cut_keeps a.world m s sound)
-unhook_keeps a b m s (Some n) None reply sound gives =
-    given_keeps a _ b replies.Nothing reply gives (cut_keeps a.world m s sound)
-unhook_keeps a b m s (Some n) (Some q) reply sound gives =
+unhook_keeps : (a b : State) (m s : ℕ) (held queue : Option ℕ) (reply : Reply) → Unhooks a m s held queue reply b
+    → Keeps a.world b.world
+unhook_keeps a b m s None queue reply gives =
+    given_keeps a _ b replies.Nothing reply gives (cut_keeps a.world m s)
+unhook_keeps a b m s (Some n) None reply gives =
+    given_keeps a _ b replies.Nothing reply gives (cut_keeps a.world m s)
+unhook_keeps a b m s (Some n) (Some q) reply gives =
     let mid : World = with_heap a.world (cut a.world.heap m s) in
     given_keeps a _ b (replies.Notice n q Own) reply gives
     (on_heap_keeps a.world (with_hold (cut a.world.heap m s) n)
-    (sound_hold mid n (sound_cut a.world (slot_at a.world.heap m s) sound)))
+    (λ sound. sound_hold mid n (sound_cut a.world (slot_at a.world.heap m s) sound)))
 
-hold_keeps : (a b : State) (held : Option ℕ) (reply : Reply) → IsSound a.world → Holds a held reply b
-    → Keeps a.world b.world
-hold_keeps a b None reply sound gives = absurd gives
-hold_keeps a b (Some n) reply sound gives =
+hold_keeps : (a b : State) (held : Option ℕ) (reply : Reply) → Holds a held reply b → Keeps a.world b.world
+hold_keeps a b None reply gives = absurd gives
+hold_keeps a b (Some n) reply gives =
     given_keeps a _ b (replies.Object n) reply gives
-    (on_heap_keeps a.world (with_hold a.world.heap n) (sound_hold a.world n sound))
+    (on_heap_keeps a.world (with_hold a.world.heap n) (λ sound. sound_hold a.world n sound))
 
-adopted_keeps : (w : World) (m d n : ℕ) → IsSound w → Keeps w (with_heap w (adopted w.heap m d n))
-adopted_keeps w m d n sound =
+adopted_keeps : (w : World) (m d n : ℕ) → Keeps w (with_heap w (adopted w.heap m d n))
+adopted_keeps w m d n =
     on_heap_keeps w (adopted w.heap m d n)
-    (sound_slot (with_heap w (without_hold w.heap n)) m d (Some n) (sound_without w n sound))
+    (λ sound. sound_slot (with_heap w (without_hold w.heap n)) m d (Some n) (sound_without w n sound))
 
 -- ---- the cycle
 
@@ -156,85 +155,84 @@ sound_cycle w how cycle phase sound = record {
   own = sound.own;
 }
 
-phase_keeps : (w : World) (phase : Phase) → IsSound w → Keeps w (with_phase w phase)
-phase_keeps w phase sound = record {
-  hands = record { mutators = refl; workers = refl; queues = refl };
-  sound = sound_cycle w w.urgency w.cycle phase sound;
+phase_keeps : (w : World) (phase : Phase) → Keeps w (with_phase w phase)
+phase_keeps w phase = record {
+  others = record { mutators = refl; workers = refl; queues = refl };
+  sound = λ sound. sound_cycle w w.urgency w.cycle phase sound;
 }
 
-begin_keeps : (w : World) (now : ℕ) (how : Urgency) (n : ℕ) → IsSound w → Keeps w (begun w now how n)
-begin_keeps w now how n sound = record {
-  hands = record { mutators = refl; workers = refl; queues = refl };
-  sound = sound_cycle (with_heap w (record w.heap { clock = now })) how n Marking
+begin_keeps : (w : World) (now : ℕ) (how : Urgency) (n : ℕ) → Keeps w (begun w now how n)
+begin_keeps w now how n = record {
+  others = record { mutators = refl; workers = refl; queues = refl };
+  sound = λ sound. sound_cycle (with_heap w (record w.heap { clock = now })) how n Marking
       (sound_rest w w.heap.slots w.heap.holds now sound);
 }
 
-nothing_keeps : (a b : State) (reply : Reply) → IsSound a.world → Gives replies.Nothing a reply b
-    → Keeps a.world b.world
-nothing_keeps a b reply sound gives = given_keeps a a b replies.Nothing reply gives (still a.world sound)
+nothing_keeps : (a b : State) (reply : Reply) → Gives replies.Nothing a reply b → Keeps a.world b.world
+nothing_keeps a b reply gives = given_keeps a a b replies.Nothing reply gives (still a.world)
 
-scan_keeps : (a b : State) (k : ℕ) (reply : Reply) → IsSound a.world → Scans a k reply b → Keeps a.world b.world
-scan_keeps a b k (replies.Scanned n) sound scans =
+scan_keeps : (a b : State) (k : ℕ) (reply : Reply) → Scans a k reply b → Keeps a.world b.world
+scan_keeps a b k (replies.Scanned n) scans =
     let after_scan : State = record a { scanned = slice_set a.scanned k (list_at a.scanned k ++ n ∷ []) } in
     let world : b.world ≡ a.world = but_world (ticked after_scan) b scans.2 ∙ ticked_world after_scan in
-    subst (λ (w : World). Keeps a.world w) (sym world) (still a.world sound)
-scan_keeps a b k reply sound scans = nothing_keeps a b reply sound scans.1
+    subst (λ (w : World). Keeps a.world w) (sym world) (still a.world)
+scan_keeps a b k reply scans = nothing_keeps a b reply scans.1
 
-end_mark_keeps : (a b : State) (reply : Reply) → IsSound a.world → EndsMark a reply b → Keeps a.world b.world
-end_mark_keeps a b reply sound ends =
+end_mark_keeps : (a b : State) (reply : Reply) → EndsMark a reply b → Keeps a.world b.world
+end_mark_keeps a b reply ends =
     let d : List ℕ = doomed_at a in
     let mid : World = with_heap a.world (record a.world.heap { objects = map (λ o. shown d o) a.world.heap.objects }) in
     subst (λ (s : State). Keeps a.world s.world) (sym ends.after) (record {
-      hands = record { mutators = refl; workers = refl; queues = refl };
-      sound = sound_cycle mid mid.urgency mid.cycle Clearing (sound_shown a.world d sound);
+      others = record { mutators = refl; workers = refl; queues = refl };
+      sound = λ sound. sound_cycle mid mid.urgency mid.cycle Clearing (sound_shown a.world d sound);
     })
 
-pended_keeps : (w : World) (k n : ℕ) (queue : Option ℕ) → IsSound w → QueueBelow w.heap.config.queues queue
+pended_keeps : (w : World) (k n : ℕ) (queue : Option ℕ) → (IsSound w → QueueBelow w.heap.config.queues queue)
     → Keeps w (pended w k n queue)
-pended_keeps w k n None sound below = still w sound
-pended_keeps w k n (Some q) sound below =
+pended_keeps w k n None below = still w
+pended_keeps w k n (Some q) below =
     let p : Pending = record { object = n; queue = q; cycle = w.cycle } in
-    let longer = all_push (PendingBelow w.heap.config.queues) (pending_of w k) p (sound.pending_below k) below in
     record {
-      hands = record { mutators = refl; workers = refl; queues = refl };
-      sound = sound_pending w k (pending_of w k ++ p ∷ []) sound longer;
+      others = record { mutators = refl; workers = refl; queues = refl };
+      sound = λ sound. sound_pending w k (pending_of w k ++ p ∷ []) sound
+          (all_push (PendingBelow w.heap.config.queues) (pending_of w k) p (sound.pending_below k) (below sound));
     }
 
-looked_keeps : (a : State) (k n : ℕ) (rest : List ℕ) → IsSound a.world → Keeps a.world (looked a k n rest).world
-looked_keeps a k n rest sound =
+looked_keeps : (a : State) (k n : ℕ) (rest : List ℕ) → Keeps a.world (looked a k n rest).world
+looked_keeps a k n rest =
     elim (cases_Bool (has a.cleared n)) [
       | inl clears ↦ simp clears
-          (pended_keeps a.world k n (registered_in (reference_at a.world.heap n)) sound (registered_below a.world n sound))
-      | inr stands ↦ simp stands (still a.world sound)
+          (pended_keeps a.world k n (registered_in (reference_at a.world.heap n))
+          (λ sound. registered_below a.world n sound))
+      | inr stands ↦ simp stands (still a.world)
     ]
 
-clear_next_keeps : (a b : State) (k : ℕ) (found : List ℕ) (reply : Reply) → IsSound a.world
-    → ClearsNext a k found reply b → Keeps a.world b.world
-clear_next_keeps a b k [] reply sound gives = nothing_keeps a b reply sound gives
-clear_next_keeps a b k (n ∷ rest) reply sound gives = given_keeps a _ b _ reply gives (looked_keeps a k n rest sound)
+clear_next_keeps : (a b : State) (k : ℕ) (found : List ℕ) (reply : Reply) → ClearsNext a k found reply b
+    → Keeps a.world b.world
+clear_next_keeps a b k [] reply gives = nothing_keeps a b reply gives
+clear_next_keeps a b k (n ∷ rest) reply gives = given_keeps a _ b _ reply gives (looked_keeps a k n rest)
 
-handed_on_keeps : (w : World) (k n : ℕ) → IsSound w → Keeps w (handed_on w k n)
-handed_on_keeps w k n sound =
+handed_on_keeps : (w : World) (k n : ℕ) → Keeps w (handed_on w k n)
+handed_on_keeps w k n =
     let fewer : List Pending = without_pending (pending_of w k) n in
-    let below = without_pending_below w.heap.config.queues (pending_of w k) n (sound.pending_below k) in
     record {
-      hands = record { mutators = refl; workers = refl; queues = refl };
-      sound = sound_hold (with_pending w k fewer) n (sound_pending w k fewer sound below);
+      others = record { mutators = refl; workers = refl; queues = refl };
+      sound = λ sound. sound_hold (with_pending w k fewer) n
+          (sound_pending w k fewer sound
+          (without_pending_below w.heap.config.queues (pending_of w k) n (sound.pending_below k)));
     }
 
-hand_keeps : (a b : State) (k : ℕ) (ps : List Pending) (reply : Reply) → IsSound a.world → HandsOn a k ps reply b
+hand_keeps : (a b : State) (k : ℕ) (ps : List Pending) (reply : Reply) → HandsOn a k ps reply b
     → Keeps a.world b.world
-hand_keeps a b k [] reply sound gives = nothing_keeps a b reply sound gives
-hand_keeps a b k (p ∷ ps) reply sound gives =
-    given_keeps a _ b _ reply gives (handed_on_keeps a.world k p.object sound)
+hand_keeps a b k [] reply gives = nothing_keeps a b reply gives
+hand_keeps a b k (p ∷ ps) reply gives = given_keeps a _ b _ reply gives (handed_on_keeps a.world k p.object)
 
-sweep_keeps : (a b : State) (doomed : List ℕ) (reply : Reply) → IsSound a.world → Sweeps a doomed reply b
-    → Keeps a.world b.world
-sweep_keeps a b [] reply sound gives = nothing_keeps a b reply sound gives
-sweep_keeps a b (n ∷ ns) reply sound gives =
+sweep_keeps : (a b : State) (doomed : List ℕ) (reply : Reply) → Sweeps a doomed reply b → Keeps a.world b.world
+sweep_keeps a b [] reply gives = nothing_keeps a b reply gives
+sweep_keeps a b (n ∷ ns) reply gives =
     given_keeps a _ b _ reply gives
     (on_heap_keeps a.world (record a.world.heap { objects = without (take 64 (n ∷ ns)) a.world.heap.objects })
-    (sound_swept a.world (take 64 (n ∷ ns)) sound))
+    (λ sound. sound_swept a.world (take 64 (n ∷ ns)) sound))
 
 -- ---- the rows of a heap
 
@@ -243,50 +241,46 @@ abbrev pub IsRegistered : State → NamedStep → Type 0
 IsRegistered a (heap.Refer m strength d s q k) = QueueBelow a.world.heap.config.queues q
 IsRegistered a step = Unit {0}
 
-pub heap_keeps : (a b : State) (step : NamedStep) (reply : Reply) → IsSound a.world → IsRegistered a step
+pub heap_keeps : (a b : State) (step : NamedStep) (reply : Reply) → IsRegistered a step
     → HeapAccepts a step reply b → Keeps a.world b.world
-heap_keeps a b (heap.New m d k) reply sound is gives =
+heap_keeps a b (heap.New m d k) reply is gives =
     given_keeps a _ b (replies.Object a.next) reply gives
-    (on_heap_keeps a.world (made a.world.heap m d (plain_object a.next (nulls k)))
-    (sound_after_making a.world m d (plain_object a.next (nulls k)) sound tt))
-heap_keeps a b (heap.Refer m strength d s q k) reply sound is gives =
-    let o : Object = new_reference a.world.heap a.next strength (slot_at a.world.heap m s) q k in
+    (made_keeps a.world m d (plain_object a.next (nulls k)) tt)
+heap_keeps a b (heap.Refer m strength d s q k) reply is gives =
     given_keeps a _ b (replies.Object a.next) reply gives
-    (on_heap_keeps a.world (made a.world.heap m d o) (sound_after_making a.world m d o sound is))
-heap_keeps a b (heap.Store m s i v) reply sound is gives =
+    (made_keeps a.world m d (new_reference a.world.heap a.next strength (slot_at a.world.heap m s) q k) is)
+heap_keeps a b (heap.Store m s i v) reply is gives =
     given_keeps a _ b replies.Done reply gives
     (on_heap_keeps a.world (stored a.world.heap m s i v)
-    (sound_stored a.world (slot_at a.world.heap m s) i (slot_at a.world.heap m v) sound))
-heap_keeps a b (heap.Load m d s i) reply sound is gives = load_keeps a b m d _ reply sound gives
-heap_keeps a b (heap.Copy m d s) reply sound is gives =
-    given_keeps a _ b _ reply gives (slot_keeps a.world m d (slot_at a.world.heap m s) sound)
-heap_keeps a b (heap.Drop m s) reply sound is gives =
-    given_keeps a _ b replies.Done reply gives (slot_keeps a.world m s None sound)
-heap_keeps a b (heap.Get m d s) reply sound is gives = get_keeps a b m d s _ reply sound gives
-heap_keeps a b (heap.Clear m s) reply sound is gives =
-    given_keeps a _ b replies.Done reply gives (cut_keeps a.world m s sound)
-heap_keeps a b (heap.RefersTo m s v) reply sound is gives =
-    given_keeps a a b _ reply gives (still a.world sound)
-heap_keeps a b (heap.Unhook m s) reply sound is gives = unhook_keeps a b m s _ _ reply sound gives
-heap_keeps a b (heap.Hold m s) reply sound is gives = hold_keeps a b _ reply sound gives
-heap_keeps a b (heap.Adopt m d hold) reply sound is gives =
-    given_keeps a _ b _ reply gives (adopted_keeps a.world m d hold.object sound)
-heap_keeps a b (heap.Release hold) reply sound is gives =
+    (λ sound. sound_stored a.world (slot_at a.world.heap m s) i (slot_at a.world.heap m v) sound))
+heap_keeps a b (heap.Load m d s i) reply is gives = load_keeps a b m d _ reply gives
+heap_keeps a b (heap.Copy m d s) reply is gives =
+    given_keeps a _ b _ reply gives (slot_keeps a.world m d (slot_at a.world.heap m s))
+heap_keeps a b (heap.Drop m s) reply is gives =
+    given_keeps a _ b replies.Done reply gives (slot_keeps a.world m s None)
+heap_keeps a b (heap.Get m d s) reply is gives = get_keeps a b m d s _ reply gives
+heap_keeps a b (heap.Clear m s) reply is gives =
+    given_keeps a _ b replies.Done reply gives (cut_keeps a.world m s)
+heap_keeps a b (heap.RefersTo m s v) reply is gives = given_keeps a a b _ reply gives (still a.world)
+heap_keeps a b (heap.Unhook m s) reply is gives = unhook_keeps a b m s _ _ reply gives
+heap_keeps a b (heap.Hold m s) reply is gives = hold_keeps a b _ reply gives
+heap_keeps a b (heap.Adopt m d hold) reply is gives =
+    given_keeps a _ b _ reply gives (adopted_keeps a.world m d hold.object)
+heap_keeps a b (heap.Release hold) reply is gives =
     given_keeps a _ b replies.Done reply gives
-    (on_heap_keeps a.world (without_hold a.world.heap hold.object) (sound_without a.world hold.object sound))
-heap_keeps a b (heap.Begin now how) reply sound is gives =
+    (on_heap_keeps a.world (without_hold a.world.heap hold.object)
+    (λ sound. sound_without a.world hold.object sound))
+heap_keeps a b (heap.Begin now how) reply is gives =
     let n : ℕ = a.world.cycle + 1 in
     anew_keeps a (begun_state a (begun a.world now how n)) b true (replies.Cycle n) reply gives
-    (begin_keeps a.world now how n sound)
-heap_keeps a b (heap.Scan k) reply sound is scans = scan_keeps a b k reply sound scans
-heap_keeps a b heap.EndMark reply sound is ends = end_mark_keeps a b reply sound ends
-heap_keeps a b (heap.ClearNext k) reply sound is gives = clear_next_keeps a b k _ reply sound gives
-heap_keeps a b heap.EndClear reply sound is gives =
-    given_keeps a _ b replies.Done reply gives (phase_keeps a.world Sweeping sound)
-heap_keeps a b (heap.Hand k) reply sound is gives = hand_keeps a b k _ reply sound gives
-heap_keeps a b (heap.Sweep k) reply sound is gives = sweep_keeps a b a.doomed reply sound gives
-heap_keeps a b heap.EndSweep reply sound is gives =
-    given_keeps a _ b replies.Done reply gives (phase_keeps a.world Idle sound)
+    (begin_keeps a.world now how n)
+heap_keeps a b (heap.Scan k) reply is scans = scan_keeps a b k reply scans
+heap_keeps a b heap.EndMark reply is ends = end_mark_keeps a b reply ends
+heap_keeps a b (heap.ClearNext k) reply is gives = clear_next_keeps a b k _ reply gives
+heap_keeps a b heap.EndClear reply is gives = given_keeps a _ b replies.Done reply gives (phase_keeps a.world Sweeping)
+heap_keeps a b (heap.Hand k) reply is gives = hand_keeps a b k _ reply gives
+heap_keeps a b (heap.Sweep k) reply is gives = sweep_keeps a b a.doomed reply gives
+heap_keeps a b heap.EndSweep reply is gives = given_keeps a _ b replies.Done reply gives (phase_keeps a.world Idle)
 
 -- ---- refusals
 
@@ -383,7 +377,7 @@ close_any_goes a b m q false reply sound within is gives =
 
 -- the row goes where its answer does, in the world that it leaves
 handled : (a c b : State) (step : Step) (answer reply : Reply) → reply ≡ answer
-    → b ≡ with_world c (handed c.world step reply) → Goes a.world (handed c.world step answer) step answer
+    → b ≡ with_handed c step reply → Goes a.world (handed c.world step answer) step answer
     → Goes a.world b.world step reply
 handled a c b step answer reply is left goes =
     let world : b.world ≡ handed c.world step answer =
@@ -396,31 +390,32 @@ quiet : (a b : State) (asked : NamedStep) (step : Step) (reply : Reply) → IsSo
     → AcceptsAsking a (Some asked) step reply b → IsStill step reply → ((w : World) → handed w step reply ≡ w)
     → Goes a.world b.world step reply
 quiet a b asked step reply sound is row stands same_hands =
-    let keeps = heap_keeps a row.0 asked reply sound is row.1 in
+    let keeps = heap_keeps a row.0 asked reply is row.1 in
     handled a row.0 b step reply reply refl row.2
     (subst (λ (w : World). Goes a.world w step reply) (sym (same_hands row.0.world))
-    (stays a.world row.0.world step reply stands keeps.hands keeps.sound))
+    (stays a.world row.0.world step reply stands keeps.others (keeps.sound sound)))
 
 -- nothing is given into a hand
-gives_nothing : (a c b : State) (step : Step) (reply : Reply) → Keeps a.world c.world → reply ≡ replies.Nothing
-    → b ≡ with_world c (handed c.world step reply) → IsStill step replies.Nothing
+gives_nothing : (a c b : State) (step : Step) (reply : Reply) → IsSound a.world → Keeps a.world c.world
+    → reply ≡ replies.Nothing
+    → b ≡ with_handed c step reply → IsStill step replies.Nothing
     → handed c.world step replies.Nothing ≡ c.world → Goes a.world b.world step reply
-gives_nothing a c b step reply keeps is left stands same_hands =
+gives_nothing a c b step reply sound keeps is left stands same_hands =
     handled a c b step replies.Nothing reply is left
     (subst (λ (w : World). Goes a.world w step replies.Nothing) (sym same_hands)
-    (stays a.world c.world step replies.Nothing stands keeps.hands keeps.sound))
+    (stays a.world c.world step replies.Nothing stands keeps.others (keeps.sound sound)))
 
-same_has : (a b : World) (who : Actor) → SameHands a b → HasHand a who → HasHand b who
-same_has a b (Mutator m) hands has = rw hands.mutators has
-same_has a b (Worker k) hands has = rw hands.workers has
+same_has : (a b : World) (who : Actor) → SameOthers a b → HasHand a who → HasHand b who
+same_has a b (Mutator m) others has = rw others.mutators has
+same_has a b (Worker k) others has = rw others.workers has
 
 same_queues : (a b : World) → IsSound a → Keeps a b → b.heap.config.queues ≡ a.heap.config.queues
-same_queues a b sound keeps = sym keeps.sound.queues ∙ ap length keeps.hands.queues ∙ sound.queues
+same_queues a b sound keeps = sym (keeps.sound sound).queues ∙ ap length keeps.others.queues ∙ sound.queues
 
 -- a notice is given into a hand
 gives_notice : (a c b : State) (who : Actor) (notice : Notice) (step : Step) (answer reply : Reply) → IsSound a.world
     → Keeps a.world c.world → HasHand a.world who → notice.queue < a.world.heap.config.queues → reply ≡ answer
-    → b ≡ with_world c (handed c.world step reply)
+    → b ≡ with_handed c step reply
     → handed c.world step answer ≡ with_hand c.world who (Some notice)
     → ((hands : Hands) → held_after hands step answer ≡ with_held hands who (as_held (Some notice)))
     → ((hands : Hands) (q : ℕ) → move_by hands q step answer ≡ no_move)
@@ -429,41 +424,42 @@ gives_notice a c b who notice step answer reply sound keeps has below is left gi
     let bound : notice.queue < c.world.heap.config.queues = rw (same_queues a.world c.world sound keeps) below in
     handled a c b step answer reply is left
     (subst (λ (w : World). Goes a.world w step answer) (sym gives)
-    (goes_after a.world c.world (with_hand c.world who (Some notice)) step answer keeps.hands
-    (sets_hand c.world who (Some notice) step answer keeps.sound (same_has a.world c.world who keeps.hands has) bound
-    held stands)))
+    (goes_after a.world c.world (with_hand c.world who (Some notice)) step answer keeps.others
+    (sets_hand c.world who (Some notice) step answer (keeps.sound sound)
+    (same_has a.world c.world who keeps.others has) bound held stands)))
 
 -- a hand's notice is spent
-spends : (a c b : State) (who : Actor) (step : Step) (answer reply : Reply) → Keeps a.world c.world
-    → HasHand a.world who → reply ≡ answer → b ≡ with_world c (handed c.world step reply)
+spends : (a c b : State) (who : Actor) (step : Step) (answer reply : Reply) → IsSound a.world → Keeps a.world c.world
+    → HasHand a.world who → reply ≡ answer → b ≡ with_handed c step reply
     → handed c.world step answer ≡ with_hand c.world who None
     → ((hands : Hands) → held_after hands step answer ≡ with_held hands who None)
     → ((hands : Hands) (q : ℕ) → move_by hands q step answer ≡ no_move)
     → Goes a.world b.world step reply
-spends a c b who step answer reply keeps has is left empty held stands =
+spends a c b who step answer reply sound keeps has is left empty held stands =
     handled a c b step answer reply is left
     (subst (λ (w : World). Goes a.world w step answer) (sym empty)
-    (goes_after a.world c.world (with_hand c.world who None) step answer keeps.hands
-    (sets_hand c.world who None step answer keeps.sound (same_has a.world c.world who keeps.hands has) tt held stands)))
+    (goes_after a.world c.world (with_hand c.world who None) step answer keeps.others
+    (sets_hand c.world who None step answer (keeps.sound sound) (same_has a.world c.world who keeps.others has) tt held
+    stands)))
 
 unhook_goes : (a c b : State) (m s : ℕ) (held queue : Option ℕ) (reply : Reply) → IsSound a.world
     → Keeps a.world c.world → m < length a.world.mutator_hands → QueueBelow a.world.heap.config.queues queue
-    → Unhooks a m s held queue reply c → b ≡ with_world c (handed c.world (steps.Unhook m s) reply)
+    → Unhooks a m s held queue reply c → b ≡ with_handed c (steps.Unhook m s) reply
     → Goes a.world b.world (steps.Unhook m s) reply
 unhook_goes a c b m s None queue reply sound keeps has below gives left =
-    gives_nothing a c b (steps.Unhook m s) reply keeps gives.0 left (λ _ _. refl) refl
+    gives_nothing a c b (steps.Unhook m s) reply sound keeps gives.0 left (λ _ _. refl) refl
 unhook_goes a c b m s (Some n) None reply sound keeps has below gives left =
-    gives_nothing a c b (steps.Unhook m s) reply keeps gives.0 left (λ _ _. refl) refl
+    gives_nothing a c b (steps.Unhook m s) reply sound keeps gives.0 left (λ _ _. refl) refl
 unhook_goes a c b m s (Some n) (Some q) reply sound keeps has below gives left =
     gives_notice a c b (Mutator m) (record { object = n; queue = q; cause = Own }) (steps.Unhook m s)
     (replies.Notice n q Own) reply sound keeps has below gives.0 left refl (λ _. refl) (λ _ _. refl)
 
 hand_goes : (a c b : State) (k : ℕ) (ps : List Pending) (reply : Reply) → IsSound a.world → Keeps a.world c.world
     → k < length a.world.worker_hands → AllByRecursion (PendingBelow a.world.heap.config.queues) ps
-    → HandsOn a k ps reply c → b ≡ with_world c (handed c.world (steps.Hand k) reply)
+    → HandsOn a k ps reply c → b ≡ with_handed c (steps.Hand k) reply
     → Goes a.world b.world (steps.Hand k) reply
 hand_goes a c b k [] reply sound keeps has below gives left =
-    gives_nothing a c b (steps.Hand k) reply keeps gives.0 left (λ _ _. refl) refl
+    gives_nothing a c b (steps.Hand k) reply sound keeps gives.0 left (λ _ _. refl) refl
 hand_goes a c b k (p ∷ ps) reply sound keeps has below gives left =
     gives_notice a c b (Worker k) (record { object = p.object; queue = p.queue; cause = Cycle p.cycle k })
     (steps.Hand k) (replies.Notice p.object p.queue (Cycle p.cycle k)) reply sound keeps has below.0 gives.0 left refl
@@ -475,17 +471,18 @@ adopt_goes : (a b : State) (m d : ℕ) (hand : Option Notice) (reply : Reply) �
     → Goes a.world b.world (steps.Adopt m d) reply
 adopt_goes a b m d None reply sound has row = absurd row
 adopt_goes a b m d (Some notice) reply sound has row =
-    let keeps = heap_keeps a row.0 (heap.Adopt m d (hold_of notice)) reply sound tt row.1 in
-    spends a row.0 b (Mutator m) (steps.Adopt m d) (replies.Object notice.object) reply keeps has row.1.0 row.2 refl
-    (λ _. refl) (λ _ _. refl)
+    let keeps = heap_keeps a row.0 (heap.Adopt m d (hold_of notice)) reply tt row.1 in
+    spends a row.0 b (Mutator m) (steps.Adopt m d) (replies.Object notice.object) reply sound keeps has row.1.0 row.2
+    refl (λ _. refl) (λ _ _. refl)
 
 release_goes : (a b : State) (who : Actor) (hand : Option Notice) (reply : Reply) → IsSound a.world
     → HasHand a.world who → AcceptsAsking a (spending (λ hold. heap.Release hold) hand) (steps.Release who) reply b
     → Goes a.world b.world (steps.Release who) reply
 release_goes a b who None reply sound has row = absurd row
 release_goes a b who (Some notice) reply sound has row =
-    let keeps = heap_keeps a row.0 (heap.Release (hold_of notice)) reply sound tt row.1 in
-    spends a row.0 b who (steps.Release who) replies.Done reply keeps has row.1.0 row.2 refl (λ _. refl) (λ _ _. refl)
+    let keeps = heap_keeps a row.0 (heap.Release (hold_of notice)) reply tt row.1 in
+    spends a row.0 b who (steps.Release who) replies.Done reply sound keeps has row.1.0 row.2 refl (λ _. refl)
+    (λ _ _. refl)
 
 -- ---- who and what is there
 
@@ -497,6 +494,15 @@ unless_passes false fault later h = absurd cc
 queue_below : (h : Heap) (queue : Option ℕ) → is_queue_or_none h queue ≡ true → QueueBelow h.config.queues queue
 queue_below h None is = tt
 queue_below h (Some q) is = ltb-true q h.config.queues is
+
+-- a step that isn't refused names a queue of the configuration
+pub registered : (heap_no : ℕ) (a : State) (step : NamedStep) → heap_refusal heap_no a step ≡ None
+    → IsRegistered a step
+registered heap_no a (heap.Refer m strength d s q k) none =
+    let first = unless_passes (has_slots a.world.heap m d s) _ _ none in
+    let second = unless_passes (is_queue_or_none a.world.heap q) _ _ first.1 in
+    queue_below a.world.heap q second.0
+registered heap_no a step none = tt
 
 mutator_within : (w : World) (m : ℕ) → IsSound w → is_mutator w.heap m ≡ true → m < length w.mutator_hands
 mutator_within w m sound is = rw sound.mutator_hands (ltb-true m w.heap.config.mutators is)
@@ -518,10 +524,8 @@ accepted_goes : (a b : State) (step : Step) (reply : Reply) → IsSound a.world 
 accepted_goes a b (steps.New m d k) reply sound h row =
     quiet a b (heap.New m d k) (steps.New m d k) reply sound tt row (λ _ _. refl) (λ _. refl)
 accepted_goes a b (steps.Refer m strength d s q k) reply sound h row =
-    let first = unless_passes (has_slots a.world.heap m d s) _ _ h in
-    let second = unless_passes (is_queue_or_none a.world.heap q) _ _ first.1 in
     quiet a b (heap.Refer m strength d s q k) (steps.Refer m strength d s q k) reply sound
-    (queue_below a.world.heap q second.0) row (λ _ _. refl) (λ _. refl)
+    (registered 0 a (heap.Refer m strength d s q k) h) row (λ _ _. refl) (λ _. refl)
 accepted_goes a b (steps.Store m s i v) reply sound h row =
     quiet a b (heap.Store m s i v) (steps.Store m s i v) reply sound tt row (λ _ _. refl) (λ _. refl)
 accepted_goes a b (steps.Load m d s i) reply sound h row =
@@ -539,7 +543,7 @@ accepted_goes a b (steps.RefersTo m s v) reply sound h row =
 accepted_goes a b (steps.Unhook m s) reply sound h row =
     let first = unless_passes (has_slot a.world.heap m s) _ _ h in
     let both = and_parts (is_mutator a.world.heap m) _ first.0 in
-    unhook_goes a row.0 b m s _ _ reply sound (heap_keeps a row.0 (heap.Unhook m s) reply sound tt row.1)
+    unhook_goes a row.0 b m s _ _ reply sound (heap_keeps a row.0 (heap.Unhook m s) reply tt row.1)
     (mutator_within a.world m sound both.0) (held_below a.world (slot_at a.world.heap m s) sound) row.1 row.2
 accepted_goes a b (steps.Put who) reply sound h gives =
     let first = unless_passes (is_actor a.world.heap who) _ _ h in
@@ -572,7 +576,7 @@ accepted_goes a b steps.EndClear reply sound h row =
     quiet a b heap.EndClear steps.EndClear reply sound tt row (λ _ _. refl) (λ _. refl)
 accepted_goes a b (steps.Hand k) reply sound h row =
     let first = unless_passes (is_worker a.world.heap k) _ _ h in
-    hand_goes a row.0 b k _ reply sound (heap_keeps a row.0 (heap.Hand k) reply sound tt row.1)
+    hand_goes a row.0 b k _ reply sound (heap_keeps a row.0 (heap.Hand k) reply tt row.1)
     (worker_within a.world k sound first.0) (sound.pending_below k) row.1 row.2
 accepted_goes a b (steps.Sweep k) reply sound h row =
     quiet a b (heap.Sweep k) (steps.Sweep k) reply sound tt row (λ _ _. refl) (λ _. refl)

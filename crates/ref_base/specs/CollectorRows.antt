@@ -326,11 +326,15 @@ QueuesAccept a (steps.Poll m q) reply b = Polls a m q (queue_at a.world q).stand
 QueuesAccept a (steps.Close m q) reply b = Closes a q (queue_at a.world q).closed reply b
 QueuesAccept a step reply b = ⊥
 
+-- the state that a row of the heap leaves, with what the step leaves in the hands
+abbrev pub with_handed : State → Step → Reply → State
+with_handed c step reply = with_world c (handed c.world step reply)
+
 -- what a step asks of its heap is a row of it, and then come the hands; what asks nothing is a step of queues
 abbrev pub AcceptsAsking : State → Option NamedStep → Step → Reply → State → Type 0
 AcceptsAsking a None step reply b = QueuesAccept a step reply b
 AcceptsAsking a (Some asked) step reply b =
-    (c : State) × HeapAccepts a asked reply c × (b ≡ with_world c (handed c.world step reply))
+    (c : State) × HeapAccepts a asked reply c × (b ≡ with_handed c step reply)
 
 -- a step that isn't refused may be answered so, and leaves this state
 abbrev pub Accepts : State → Step → Reply → State → Type 0

@@ -216,9 +216,9 @@ abbrev pub asked_refusal : State → Option NamedStep → Option Fault
 asked_refusal a None = None
 asked_refusal a (Some asked) = heap_refusal 0 a asked
 
--- The fault of a step, or none where it is accepted. That a hand is full or empty comes behind the actor and in front of
--- what the heap refuses. A hand's notice is a hold that the heap counts, so an adopt and a release are refused for their
--- hands alone.
+-- The fault of a step, or none where it is accepted. That a hand is full or empty comes behind the actor and in front
+-- of what the heap refuses. A hand's notice is a hold that the heap counts, so an adopt and a release are refused for
+-- their hands alone.
 abbrev pub refusal : State → Step → Option Fault
 refusal a (steps.Unhook m s) =
     unless (has_slot a.world.heap m s) NoSuchActor

@@ -1,6 +1,6 @@
 -- A heap, its queues and everybody's hands, as plain data, and the changes that steps make to them (hands, pending
 -- references, cycles and the order of queues: this project's profile).
-use Rattle.std.specs.Prelude.{ℕ, List, [], ◌∷◌, ◌++◌, map, replicate, Option, None, slice_index_or, slice_set}
+use Rattle.std.specs.Prelude.{◌≡◌, ℕ, List, [], ◌∷◌, ◌++◌, map, replicate, Option, None, slice_index_or, slice_set}
 use Rattle.ref_base.specs.Graphs.{Graph}
 use Rattle.ref_base.specs.Paths.{present}
 use Rattle.ref_base.specs.KeptPaths.{Policy}
@@ -68,6 +68,12 @@ graph_of w = record {
   objects = w.heap.objects;
   roots = present w.heap.slots ++ w.heap.holds ++ pending_numbers w.pending;
 }
+
+-- the two have the same hands and queues
+pub record SameOthers (a b : World) : Type 0 where
+  pub mutators : b.mutator_hands ≡ a.mutator_hands
+  pub workers : b.worker_hands ≡ a.worker_hands
+  pub queues : b.queues ≡ a.queues
 
 -- the reference that a notice reports
 abbrev pub object_of : Notice → ℕ

@@ -1,14 +1,21 @@
 //! What the definitions say together, beside any code.
 
-ghost use Rattle.std.specs.Prelude.{◌≡◌, ℕ, false, List, ◌∷◌, ◌++◌, ◌⊎◌};
+ghost use Rattle.std.specs.Prelude.{◌≡◌, ℕ, false, List, ◌∷◌, ◌++◌, Some, ◌⊎◌};
 ghost use Rattle.ref_base.specs.Graphs.{Graph};
 ghost use Rattle.ref_base.specs.KeptPaths.{Policy, is_normal, IsKept, EverKept};
 ghost use Rattle.ref_base.specs.LegalTraces.{IsLegal};
 ghost use Rattle.ref_base.specs.QueueRows.{KeepsQueue};
 ghost use Rattle.ref_base.specs.Strengths.{HasStrength};
+ghost use Rattle.ref_base.specs.Worlds.{SameOthers};
+ghost use Rattle.ref_base.specs.HeapSteps.{NamedStep, heap_step};
+ghost use Rattle.ref_base.specs.Collectors.{State};
+ghost use Rattle.ref_base.specs.Refusals.{heap_refusal, refusal};
+ghost use Rattle.ref_base.specs.CollectorRows.{IsHeapRow, IsRow, with_handed};
 ghost use Rattle.ref_base.specs.declared.config.Config.{Config};
 ghost use Rattle.ref_base.specs.declared.reach.Reach.{Reach};
 ghost use Rattle.ref_base.specs.declared.row.Row.{Row};
+ghost use Rattle.ref_base.specs.declared.reply.Reply.{Reply};
+ghost use Rattle.ref_base.specs.declared.step.Step.{Step};
 
 /// Whatever the graph and the number, it is reachable in one of the five ways.
 pub fn each_number_has_a_strength()
@@ -47,4 +54,19 @@ pub fn the_front_of_a_legal_trace_is_legal()
 /// twice; and nothing is put in after a close that was accepted.
 pub fn a_legal_trace_keeps_each_queue()
     ensures { (config : Config) (rows : List Row) (q : ℕ) → IsLegal config rows → KeepsQueue q rows }
+{}
+
+/// A row of a heap is a row of the world in which a step asks for it, with what that step leaves in the hands, where
+/// the world refuses the step just as its heap does.
+pub fn a_row_of_a_heap_is_a_row_of_its_world()
+    ensures { (a c : State) (asked : NamedStep) (step : Step) (reply : Reply)
+        → heap_step a.world step ≡ Some asked → refusal a step ≡ heap_refusal 0 a asked
+        → IsHeapRow 0 a asked reply c
+        → IsRow a (record { step = step; reply = reply }) (with_handed c step reply) }
+{}
+
+/// No row of a heap touches hands and queues.
+pub fn no_row_of_a_heap_touches_hands_and_queues()
+    ensures { (heap_no : ℕ) (a b : State) (step : NamedStep) (reply : Reply) → IsHeapRow heap_no a step reply b
+        → SameOthers a.world b.world }
 {}
