@@ -10,10 +10,10 @@ use Rattle.ref_base.specs.Worlds.{graph_of, policy_of, pending_numbers}
 use Rattle.ref_base.specs.Refusals.{is_empty, begin_refusal}
 use Rattle.ref_base.specs.Replay.{begun as world_begun}
 use Rattle.ref_base.specs.Collectors.{State}
-use Rattle.ref_base.specs.CollectorRows.{Accepts, begun_state}
+use Rattle.ref_base.specs.CollectorRows.{HeapAccepts, begun_state}
 use Rattle.ref_base.specs.declared.urgency.Urgency.{Urgency}
 use Rattle.ref_base.specs.declared.phase.Phase.TheVariants.{Idle}
-use Rattle.ref_base.specs.declared.step.Step.TheVariants as steps
+use Rattle.ref_base.specs.declared.heap_step.HeapStep.TheVariants as heap
 use Rattle.ref_base.specs.declared.reply.Reply.TheVariants as replies
 use Rattle.ref_base.proofs.HasLaws.{has-left}
 use Rattle.ref_base.proofs.PathLaws.{root_ends, target_ends}
@@ -120,7 +120,7 @@ begun_stands k a now urgent stands =
     (begun_marking k a now urgent (not (is_empty j.grey)) stands)))
 
 begun_is_row : (k : CycleHeap) (a : State) (now : ℕ) (urgent : Urgency) → Stands k a
-    → Accepts (plain_state k Idle a) (steps.Begin now urgent) (replies.Cycle (k.cycle + 1))
+    → HeapAccepts (plain_state k Idle a) (heap.Begin now urgent) (replies.Cycle (k.cycle + 1))
     (state_begun k a now urgent (not (is_empty (mark_begun k a now urgent).grey)))
 begun_is_row k a now urgent stands =
     let j : CycleHeap = mark_begun k a now urgent in
@@ -134,13 +134,13 @@ begun_is_row k a now urgent stands =
 -- a begin that isn't refused
 pub begin_row : (k : CycleHeap) (a : State) (now : ℕ) (urgent : Urgency) → Stands k a
     → begin_refusal k.phase k.heap.clock k.cycle now ≡ None
-    → (b : State) × Accepts a (steps.Begin now urgent) (replies.Cycle (k.cycle + 1)) b
+    → (b : State) × HeapAccepts a (heap.Begin now urgent) (replies.Cycle (k.cycle + 1)) b
     × Stands (shaded_all (begun k now urgent) (pending_numbers a.world.pending)) b
 begin_row k a now urgent stands none =
     let idle : k.phase ≡ Idle = begin_passed k now none in
     let b = state_begun k a now urgent (not (is_empty (mark_begun k a now urgent).grey)) in (
       b,
-      subst (λ (s : State). Accepts s (steps.Begin now urgent) (replies.Cycle (k.cycle + 1)) b)
+      subst (λ (s : State). HeapAccepts s (heap.Begin now urgent) (replies.Cycle (k.cycle + 1)) b)
           (sym (plain_state-is k a Idle stands idle refl)) (begun_is_row k a now urgent stands),
       subst (λ (j : CycleHeap). Stands j b) (mark_begun-is k a now urgent) (begun_stands k a now urgent stands),
     )

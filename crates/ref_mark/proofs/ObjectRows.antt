@@ -14,10 +14,10 @@ use Rattle.ref_base.specs.Worlds.{with_heap, pending_numbers}
 use Rattle.ref_base.specs.Refusals.{has_slot, has_slots, is_queue_or_none, unless, unless_empty, object_refusal}
 use Rattle.ref_base.specs.Refusals.{field_refusal, new_refusal, refer_refusal, store_refusal}
 use Rattle.ref_base.specs.Collectors.{State}
-use Rattle.ref_base.specs.CollectorRows.{ticked, on_heap, Accepts}
+use Rattle.ref_base.specs.CollectorRows.{ticked, on_heap, HeapAccepts}
 use Rattle.ref_base.specs.declared.strength.Strength.{Strength}
 use Rattle.ref_base.specs.declared.fault.Fault.TheVariants.{NoSuchActor, BadQueue}
-use Rattle.ref_base.specs.declared.step.Step.TheVariants as steps
+use Rattle.ref_base.specs.declared.heap_step.HeapStep.TheVariants as heap
 use Rattle.ref_base.specs.declared.reply.Reply.TheVariants as replies
 use Rattle.ref_base.proofs.HasLaws.{has-left, has-right, has-cases}
 use Rattle.ref_mark.specs.CycleHeaps.{is_in_cycle, CycleHeap, policy_in, is_white, is_past_mark, doomed, with_made}
@@ -74,7 +74,7 @@ has-present_nulls zero n = refl
 has-present_nulls (suc count) n = has-present_nulls count n
 
 pub new_row : (k : CycleHeap) (a : State) (m d f : ℕ) → Stands k a → new_refusal k.heap k.next m d f ≡ None
-    → (b : State) × Accepts a (steps.New m d f) (replies.Object k.next) b
+    → (b : State) × HeapAccepts a (heap.New m d f) (replies.Object k.next) b
     × Stands (with_made k m d (plain_object k.next (nulls f))) b
 new_row k a m d f stands accepted =
     let o : Object = plain_object k.next (nulls f) in
@@ -124,7 +124,7 @@ reference_shows k a m d s f strength q stands =
 
 pub refer_row : (k : CycleHeap) (a : State) (m : ℕ) (strength : Strength) (d s : ℕ) (q : Option ℕ) (f : ℕ) → Stands k a
     → refer_refusal k.heap k.next m d s q f ≡ None
-    → (b : State) × Accepts a (steps.Refer m strength d s q f) (replies.Object k.next) b
+    → (b : State) × HeapAccepts a (heap.Refer m strength d s q f) (replies.Object k.next) b
     × Stands (with_made k m d (new_reference k.heap k.next strength (slot_at k.heap m s) q f)) b
 refer_row k a m strength d s q f stands accepted =
     let o : Object = new_reference k.heap k.next strength (slot_at k.heap m s) q f in
@@ -177,7 +177,7 @@ stored_becomes k i value roots o rooted =
     }
 
 pub store_row : (k : CycleHeap) (a : State) (m s i v : ℕ) → Stands k a → store_refusal k.heap m s i v ≡ None
-    → (b : State) × Accepts a (steps.Store m s i v) replies.Done b
+    → (b : State) × HeapAccepts a (heap.Store m s i v) replies.Done b
     × Stands (record k { heap = stored k.heap m s i v }) b
 store_row k a m s i v stands accepted =
     let pending = pending_numbers a.world.pending in

@@ -13,12 +13,12 @@ use Rattle.ref_base.specs.Heaps.{with_reference, cleared, got_at, got, cut}
 use Rattle.ref_base.specs.Worlds.{pending_numbers}
 use Rattle.ref_base.specs.Refusals.{is_in, has_slot, has_slots, reference_refusal, get_refusal, clear_refusal}
 use Rattle.ref_base.specs.Collectors.{State}
-use Rattle.ref_base.specs.CollectorRows.{ticked, on_heap, value_reply, Gets, Accepts, reference_of, referent_got}
+use Rattle.ref_base.specs.CollectorRows.{ticked, on_heap, value_reply, Gets, HeapAccepts, reference_of, referent_got}
 use Rattle.ref_base.specs.CollectorRows.{referent_of, is_same}
 use Rattle.ref_base.specs.Forgetting.{heap_but}
 use Rattle.ref_base.specs.declared.phase.Phase.TheVariants.{Marking}
 use Rattle.ref_base.specs.declared.fault.Fault.TheVariants.{NoSuchActor}
-use Rattle.ref_base.specs.declared.step.Step.TheVariants as steps
+use Rattle.ref_base.specs.declared.heap_step.HeapStep.TheVariants as heap
 use Rattle.ref_base.specs.declared.reply.Reply.TheVariants as replies
 use Rattle.ref_base.proofs.Lookups.{has-present_here}
 use Rattle.ref_base.proofs.RowForms.{unless_parts}
@@ -72,7 +72,7 @@ module _ (k : CycleHeap) (a : State) (stands : Stands k a) where
       moved_stands k (rooted k k.heap.slots k.heap.holds) a stands unmoved h a.next heap stands.next
 
   pub refers_to_row : (m s v : ℕ)
-      → (b : State) × Accepts a (steps.RefersTo m s v) (replies.Refers (reads_same k m s v)) b × Stands k b
+      → (b : State) × HeapAccepts a (heap.RefersTo m s v) (replies.Refers (reads_same k m s v)) b × Stands k b
   refers_to_row m s v =
       let same : is_same (referent_of (reference_of a.world.heap (slot_at a.world.heap m s))) (slot_at a.world.heap m v)
       ≡ reads_same k m s v =
@@ -84,7 +84,7 @@ module _ (k : CycleHeap) (a : State) (stands : Stands k a) where
 -- ---- clears
 
 pub clear_row : (k : CycleHeap) (a : State) (m s : ℕ) → Stands k a → clear_refusal k.heap m s ≡ None
-    → (b : State) × Accepts a (steps.Clear m s) replies.Done b × Stands (with_cleared k m s) b
+    → (b : State) × HeapAccepts a (heap.Clear m s) replies.Done b × Stands (with_cleared k m s) b
 clear_row k a m s stands accepted =
     let pending = pending_numbers a.world.pending in
     let h = a.world.heap in
@@ -194,7 +194,7 @@ get_values k a m d s (Some n) stands is there =
 
 pub get_row : (k : CycleHeap) (a : State) (m d s : ℕ) → Stands k a → get_refusal k.heap m d s ≡ None
     → let value = value_got k m s in
-    (b : State) × Accepts a (steps.Get m d s) (value_reply value) b × Stands (with_got k m d s value) b
+    (b : State) × HeapAccepts a (heap.Get m d s) (value_reply value) b × Stands (with_got k m d s value) b
 get_row k a m d s stands accepted =
     let value = value_got k m s in
     let same : referent_got (reference_of a.world.heap (slot_at a.world.heap m s)) ≡ value =

@@ -13,10 +13,10 @@ use Rattle.ref_base.specs.Worlds.{pending_numbers}
 use Rattle.ref_base.specs.Refusals.{is_in, has_slot, has_slots, field_refusal}
 use Rattle.ref_base.specs.Refusals.{load_refusal}
 use Rattle.ref_base.specs.Collectors.{State}
-use Rattle.ref_base.specs.CollectorRows.{ticked, on_heap, field_of, field_in, value_reply, Loads, Accepts}
+use Rattle.ref_base.specs.CollectorRows.{ticked, on_heap, field_of, field_in, value_reply, Loads, HeapAccepts}
 use Rattle.ref_base.specs.declared.phase.Phase.TheVariants.{Marking}
 use Rattle.ref_base.specs.declared.fault.Fault.TheVariants.{NoSuchActor}
-use Rattle.ref_base.specs.declared.step.Step.TheVariants as steps
+use Rattle.ref_base.specs.declared.heap_step.HeapStep.TheVariants as heap
 use Rattle.ref_base.specs.declared.reply.Reply.TheVariants as replies
 use Rattle.ref_base.proofs.HasLaws.{has-left}
 use Rattle.ref_mark.specs.CycleHeaps.{is_in_cycle, CycleHeap, policy_in, is_white, barred, loaded}
@@ -53,7 +53,7 @@ set_stands k a m d value stands allowed =
 -- ---- copies and drops
 
 pub copy_row : (k : CycleHeap) (a : State) (m d s : ℕ) → Stands k a
-    → (b : State) × Accepts a (steps.Copy m d s) (value_reply (slot_at k.heap m s)) b
+    → (b : State) × HeapAccepts a (heap.Copy m d s) (value_reply (slot_at k.heap m s)) b
     × Stands (record k { heap = with_slot k.heap m d (slot_at k.heap m s) }) b
 copy_row k a m d s stands =
     let value = slot_at k.heap m s in
@@ -67,7 +67,8 @@ copy_row k a m d s stands =
     )
 
 pub drop_row : (k : CycleHeap) (a : State) (m s : ℕ) → Stands k a
-    → (b : State) × Accepts a (steps.Drop m s) replies.Done b × Stands (record k { heap = with_slot k.heap m s None }) b
+    → (b : State) × HeapAccepts a (heap.Drop m s) replies.Done b
+    × Stands (record k { heap = with_slot k.heap m s None }) b
 drop_row k a m s stands = (
   ticked (on_heap a (with_slot a.world.heap m s None)),
   (refl, refl),
@@ -130,7 +131,7 @@ load_values k a m d s i (Some n) stands is there =
 
 pub load_row : (k : CycleHeap) (a : State) (m d s i : ℕ) → Stands k a → load_refusal k.heap m d s i ≡ None
     → let value = field_in k.heap (slot_at k.heap m s) i in
-    (b : State) × Accepts a (steps.Load m d s i) (value_reply value) b × Stands (loaded k m d value) b
+    (b : State) × HeapAccepts a (heap.Load m d s i) (value_reply value) b × Stands (loaded k m d value) b
 load_row k a m d s i stands accepted =
     let value = field_in k.heap (slot_at k.heap m s) i in
     let same : field_in a.world.heap (slot_at a.world.heap m s) i ≡ value =

@@ -2,15 +2,15 @@
 -- refusals of the abstract collector.
 use Rattle.std.specs.Prelude.{ℕ, ◌+◌, Bool, true, false, not, List, [], length, Option, Some, None, Result, Ok, Err}
 use Rattle.ref_base.specs.Graphs.{plain_object}
+use Rattle.ref_base.specs.HeapSteps.{NamedStep}
 use Rattle.ref_base.specs.Heaps.{Heap, slot_at, nulls, new_reference, stored, with_slot, with_hold, without_hold}
 use Rattle.ref_base.specs.Worlds.{first_world, pending_numbers}
 use Rattle.ref_base.specs.Collectors.{State, first_state}
 use Rattle.ref_base.specs.CollectorRows.{field_in, value_reply}
-use Rattle.ref_base.specs.Refusals.{refusal, is_empty}
+use Rattle.ref_base.specs.Refusals.{heap_refusal, is_empty}
 use Rattle.ref_base.specs.declared.fault.Fault.{Fault}
 use Rattle.ref_base.specs.declared.phase.Phase.TheVariants.{Clearing}
-use Rattle.ref_base.specs.declared.step.Step.{Step}
-use Rattle.ref_base.specs.declared.step.Step.TheVariants as steps
+use Rattle.ref_base.specs.declared.heap_step.HeapStep.TheVariants as heap
 use Rattle.ref_base.specs.declared.reply.Reply.{Reply}
 use Rattle.ref_base.specs.declared.reply.Reply.TheVariants as replies
 use Rattle.ref_objects.specs.Grounds.{HeapHold, unmarked, mint_refusal, hold_refusal, adopt_refusal, release_refusal}
@@ -51,19 +51,19 @@ hold_reply hold = replies.Object hold.object
 -- ---- steps
 
 -- the steps that are calls of a heap in its cycles
-abbrev pub is_of_marking : Step → Bool
-is_of_marking (steps.New m d f) = true
-is_of_marking (steps.Refer m strength d s q f) = true
-is_of_marking (steps.Store m d i s) = true
-is_of_marking (steps.Load m d s i) = true
-is_of_marking (steps.Copy m d s) = true
-is_of_marking (steps.Drop m s) = true
-is_of_marking (steps.Get m d s) = true
-is_of_marking (steps.Clear m s) = true
-is_of_marking (steps.RefersTo m s v) = true
-is_of_marking (steps.Begin now how) = true
-is_of_marking (steps.Scan w) = true
-is_of_marking steps.EndMark = true
+abbrev pub is_of_marking : NamedStep → Bool
+is_of_marking (heap.New m d f) = true
+is_of_marking (heap.Refer m strength d s q f) = true
+is_of_marking (heap.Store m d i s) = true
+is_of_marking (heap.Load m d s i) = true
+is_of_marking (heap.Copy m d s) = true
+is_of_marking (heap.Drop m s) = true
+is_of_marking (heap.Get m d s) = true
+is_of_marking (heap.Clear m s) = true
+is_of_marking (heap.RefersTo m s v) = true
+is_of_marking (heap.Begin now how) = true
+is_of_marking (heap.Scan w) = true
+is_of_marking heap.EndMark = true
 is_of_marking step = false
 
 -- a state with all that their refusals depend on
@@ -75,49 +75,49 @@ refusing_state k = record (first_state k.heap.config) {
 }
 
 -- the fault of a step, or none where it is accepted: the abstract collector's own
-abbrev pub refusal_in : CycleHeap → Step → Option Fault
-refusal_in k step = refusal (refusing_state k) step
+abbrev pub refusal_in : CycleHeap → NamedStep → Option Fault
+refusal_in k step = heap_refusal k.heap_no (refusing_state k) step
 
 -- what a step that isn't refused answers
-abbrev pub reply_in : CycleHeap → Step → Reply
-reply_in k (steps.New m d f) = replies.Object k.next
-reply_in k (steps.Refer m strength d s q f) = replies.Object k.next
-reply_in k (steps.Load m d s i) = value_reply (field_in k.heap (slot_at k.heap m s) i)
-reply_in k (steps.Copy m d s) = value_reply (slot_at k.heap m s)
-reply_in k (steps.Get m d s) = value_reply (value_got k m s)
-reply_in k (steps.RefersTo m s v) = replies.Refers (reads_same k m s v)
-reply_in k (steps.Begin now how) = replies.Cycle (k.cycle + 1)
-reply_in k (steps.Scan w) = scan_reply (first_in k.grey)
-reply_in k steps.EndMark = replies.Doomed (length (unmarked k.heap.objects k.marked))
+abbrev pub reply_in : CycleHeap → NamedStep → Reply
+reply_in k (heap.New m d f) = replies.Object k.next
+reply_in k (heap.Refer m strength d s q f) = replies.Object k.next
+reply_in k (heap.Load m d s i) = value_reply (field_in k.heap (slot_at k.heap m s) i)
+reply_in k (heap.Copy m d s) = value_reply (slot_at k.heap m s)
+reply_in k (heap.Get m d s) = value_reply (value_got k m s)
+reply_in k (heap.RefersTo m s v) = replies.Refers (reads_same k m s v)
+reply_in k (heap.Begin now how) = replies.Cycle (k.cycle + 1)
+reply_in k (heap.Scan w) = scan_reply (first_in k.grey)
+reply_in k heap.EndMark = replies.Doomed (length (unmarked k.heap.objects k.marked))
 reply_in k step = replies.Done
 
 -- and what it leaves
-abbrev pub done_in : CycleHeap → Step → CycleHeap
-done_in k (steps.New m d f) = with_made k m d (plain_object k.next (nulls f))
-done_in k (steps.Refer m strength d s q f) =
+abbrev pub done_in : CycleHeap → NamedStep → CycleHeap
+done_in k (heap.New m d f) = with_made k m d (plain_object k.next (nulls f))
+done_in k (heap.Refer m strength d s q f) =
     with_made k m d (new_reference k.heap k.next strength (slot_at k.heap m s) q f)
-done_in k (steps.Store m d i s) = record k { heap = stored k.heap m d i s }
-done_in k (steps.Load m d s i) = loaded k m d (field_in k.heap (slot_at k.heap m s) i)
-done_in k (steps.Copy m d s) = record k { heap = with_slot k.heap m d (slot_at k.heap m s) }
-done_in k (steps.Drop m s) = record k { heap = with_slot k.heap m s None }
-done_in k (steps.Get m d s) = with_got k m d s (value_got k m s)
-done_in k (steps.Clear m s) = with_cleared k m s
-done_in k (steps.Begin now how) = begun k now how
-done_in k (steps.Scan w) = scanned k w
-done_in k steps.EndMark = with_phase k Clearing
+done_in k (heap.Store m d i s) = record k { heap = stored k.heap m d i s }
+done_in k (heap.Load m d s i) = loaded k m d (field_in k.heap (slot_at k.heap m s) i)
+done_in k (heap.Copy m d s) = record k { heap = with_slot k.heap m d (slot_at k.heap m s) }
+done_in k (heap.Drop m s) = record k { heap = with_slot k.heap m s None }
+done_in k (heap.Get m d s) = with_got k m d s (value_got k m s)
+done_in k (heap.Clear m s) = with_cleared k m s
+done_in k (heap.Begin now how) = begun k now how
+done_in k (heap.Scan w) = scanned k w
+done_in k heap.EndMark = with_phase k Clearing
 done_in k step = k
 
 -- the reply to a step, refused or not
-abbrev pub answer_in : CycleHeap → Step → Reply
+abbrev pub answer_in : CycleHeap → NamedStep → Reply
 answer_in k step = unless_refused (refusal_in k step) replies.Refused (reply_in k step)
 
 -- the heap after it
-abbrev pub after_in : CycleHeap → Step → CycleHeap
+abbrev pub after_in : CycleHeap → NamedStep → CycleHeap
 after_in k step = unless_refused (refusal_in k step) (λ fault. k) (done_in k step)
 
 -- the roots that the layer above has still to shade: as a cycle begins, the pending references
-abbrev pub late_roots : State → Step → List ℕ
-late_roots a (steps.Begin now how) = pending_numbers a.world.pending
+abbrev pub late_roots : State → NamedStep → List ℕ
+late_roots a (heap.Begin now how) = pending_numbers a.world.pending
 late_roots a step = []
 
 -- ---- holds

@@ -3,9 +3,9 @@ use Rattle.std.specs.Prelude.{◌≡◌, ℕ, true, []}
 use Rattle.ref_base.specs.Members.{has}
 use Rattle.ref_base.specs.Worlds.{first_world, graph_of}
 use Rattle.ref_base.specs.Collectors.{State, first_state}
-use Rattle.ref_base.specs.CollectorRows.{IsRow, ticked, on_heap}
+use Rattle.ref_base.specs.HeapSteps.{NamedStep}
+use Rattle.ref_base.specs.CollectorRows.{IsHeapRow, ticked, on_heap}
 use Rattle.ref_base.specs.declared.config.Config.{Config}
-use Rattle.ref_base.specs.declared.step.Step.{Step}
 use Rattle.ref_mark.specs.CycleHeaps.{CycleHeap, shaded_all}
 use Rattle.ref_mark.specs.MarkCalls.{refusal_in, answer_in, after_in, late_roots, unless_refused}
 use Rattle.ref_mark.specs.MarkCalls.{HoldStep, Mint, hold_refusal_in, after_hold_in, heap_after}
@@ -21,10 +21,10 @@ starting_state config obj cycle = record (first_state config) {
 
 -- For each state that the heap stands for, the answered step is a row of the abstract collector, to a state that the
 -- heap then stands for, once the roots are shaded too that the layer above has.
-abbrev pub IsRowOf : CycleHeap → Step → Type 0
+abbrev pub IsRowOf : CycleHeap → NamedStep → Type 0
 IsRowOf k step =
     (a : State) → Stands k a
-    → (b : State) × IsRow a (record { step = step; reply = answer_in k step }) b
+    → (b : State) × IsHeapRow k.heap_no a step (answer_in k step) b
     × Stands (shaded_all (after_in k step) (unless_refused (refusal_in k step) (λ fault. []) (late_roots a step))) b
 
 -- what is minted is to be named by a root

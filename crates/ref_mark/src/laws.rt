@@ -1,7 +1,7 @@
 //! What the calls of a heap in its cycles say together of the abstract collector.
 
 ghost use Rattle.std.specs.Prelude.{◌≡◌, true};
-ghost use Rattle.ref_base.specs.declared.step.Step.{Step};
+ghost use Rattle.ref_base.specs.HeapSteps.{NamedStep};
 ghost use Rattle.ref_mark.specs.CycleHeaps.{CycleHeap};
 ghost use Rattle.ref_mark.specs.MarkCalls.{is_of_marking, HoldStep};
 ghost use Rattle.ref_mark.specs.MarkRows.{IsRowOf, KeepsStanding};
@@ -9,7 +9,7 @@ ghost use Rattle.ref_mark.specs.MarkRows.{IsRowOf, KeepsStanding};
 /// Each step that is a call of a heap in its cycles, answered as it is and leaving what it leaves, is a row of the
 /// abstract collector, from each state that the heap stands for to one that it then stands for.
 pub fn each_step_of_marking_is_a_row()
-    ensures { (k : CycleHeap) (step : Step) → is_of_marking step ≡ true → IsRowOf k step }
+    ensures { (k : CycleHeap) (step : NamedStep) → is_of_marking step ≡ true → IsRowOf k step }
 {}
 
 /// A hold that is taken or taken back leaves a heap that stands for the state with that hold more or fewer.

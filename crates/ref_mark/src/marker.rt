@@ -18,7 +18,7 @@ mod layer;
 
 use crate::worklist::Worklist;
 use ref_base::{
-    Config, Fault, MutNo, ObjNo, Phase, QueueNo, Reply, SlotNo, Step, Strength, Urgency,
+    Config, Fault, HeapStep, MutNo, ObjNo, Phase, QueueNo, Reply, SlotNo, Strength, Urgency,
 };
 use ref_objects::{Objects, Start};
 use std::alloc::{AllocError, Allocator, Global};
@@ -107,8 +107,8 @@ impl<A: Allocator + Copy> Marker<A> {
     /// Makes a plain object, as `Objects::alloc_obj` does: `NoSuchActor`, `BadField`, `NumbersSpent`, `NoCell`. It is
     /// black from the start once a cycle has begun.
     pub fn alloc_obj(&mut self, mutator: MutNo, into: SlotNo, fields: u32) -> Result<ObjNo, Fault>
-        ensures answer { reply_of Reply.Object result ≡ answer_in self.old (Step.New mutator into fields) }
-        ensures after { self.new ≡ after_in self.old (Step.New mutator into fields) }
+        ensures answer { reply_of Reply.Object result ≡ answer_in self.old (HeapStep.New mutator into fields) }
+        ensures after { self.new ≡ after_in self.old (HeapStep.New mutator into fields) }
     {
         let no = self.objects.alloc_obj(mutator, into, fields)?;
         self.make_young(no);
@@ -127,8 +127,8 @@ impl<A: Allocator + Copy> Marker<A> {
         fields: u32,
     ) -> Result<ObjNo, Fault>
         ensures answer { reply_of Reply.Object result
-            ≡ answer_in self.old (Step.Refer mutator strength into from queue fields) }
-        ensures after { self.new ≡ after_in self.old (Step.Refer mutator strength into from queue fields) }
+            ≡ answer_in self.old (HeapStep.Refer mutator strength into from queue fields) }
+        ensures after { self.new ≡ after_in self.old (HeapStep.Refer mutator strength into from queue fields) }
     {
         let no = self
             .objects
@@ -146,8 +146,8 @@ impl<A: Allocator + Copy> Marker<A> {
         field: u32,
         from: SlotNo,
     ) -> Result<(), Fault>
-        ensures answer { reply_of done_reply result ≡ answer_in self.old (Step.Store mutator into field from) }
-        ensures after { self.new ≡ after_in self.old (Step.Store mutator into field from) }
+        ensures answer { reply_of done_reply result ≡ answer_in self.old (HeapStep.Store mutator into field from) }
+        ensures after { self.new ≡ after_in self.old (HeapStep.Store mutator into field from) }
     {
         self.objects.store(mutator, into, field, from)
     }
@@ -159,16 +159,16 @@ impl<A: Allocator + Copy> Marker<A> {
         into: SlotNo,
         from: SlotNo,
     ) -> Result<Option<ObjNo>, Fault>
-        ensures answer { reply_of value_reply result ≡ answer_in self.old (Step.Copy mutator into from) }
-        ensures after { self.new ≡ after_in self.old (Step.Copy mutator into from) }
+        ensures answer { reply_of value_reply result ≡ answer_in self.old (HeapStep.Copy mutator into from) }
+        ensures after { self.new ≡ after_in self.old (HeapStep.Copy mutator into from) }
     {
         self.objects.copy(mutator, into, from)
     }
 
     /// Empties a slot: `NoSuchActor`.
     pub fn drop_slot(&mut self, mutator: MutNo, slot: SlotNo) -> Result<(), Fault>
-        ensures answer { reply_of done_reply result ≡ answer_in self.old (Step.Drop mutator slot) }
-        ensures after { self.new ≡ after_in self.old (Step.Drop mutator slot) }
+        ensures answer { reply_of done_reply result ≡ answer_in self.old (HeapStep.Drop mutator slot) }
+        ensures after { self.new ≡ after_in self.old (HeapStep.Drop mutator slot) }
     {
         self.objects.drop_slot(mutator, slot)
     }

@@ -13,7 +13,7 @@ ghost use Rattle.ref_mark.specs.MarkCalls.{answer_in, after_in, reply_of, scan_r
 ghost use Rattle.ref_mark.specs.CycleHeaps.{shaded_all, whitened, with_found, is_white, policy_in};
 
 use super::Marker;
-use ref_base::{Fault, ObjNo, Phase, Reply, Step, Strength, Urgency, WorkerNo, keeps};
+use ref_base::{Fault, HeapStep, ObjNo, Phase, Reply, Strength, Urgency, WorkerNo, keeps};
 use ref_objects::Reference;
 use std::alloc::Allocator;
 
@@ -23,8 +23,8 @@ impl<A: Allocator + Copy> Marker<A> {
     /// cycle hasn't ended, `ClockBack` where the clock is later, `NumbersSpent` after 2^64 - 1 cycles. In time of the
     /// cells.
     pub fn begin(&mut self, now: u64, urgency: Urgency) -> Result<u64, Fault>
-        ensures answer { reply_of Reply.Cycle result ≡ answer_in self.old (Step.Begin now urgency) }
-        ensures after { self.new ≡ after_in self.old (Step.Begin now urgency) }
+        ensures answer { reply_of Reply.Cycle result ≡ answer_in self.old (HeapStep.Begin now urgency) }
+        ensures after { self.new ≡ after_in self.old (HeapStep.Begin now urgency) }
     {
         self.check_begin(now)?;
         self.whiten(now, urgency);
@@ -38,8 +38,8 @@ impl<A: Allocator + Copy> Marker<A> {
     /// the worker. Answers the object, or none where the list is empty. Tried in this order: `NoSuchActor`,
     /// `WrongPhase`. In logarithmic time for each field.
     pub fn scan(&mut self, worker: WorkerNo) -> Result<Option<ObjNo>, Fault>
-        ensures answer { reply_of scan_reply result ≡ answer_in self.old (Step.Scan worker) }
-        ensures after { self.new ≡ after_in self.old (Step.Scan worker) }
+        ensures answer { reply_of scan_reply result ≡ answer_in self.old (HeapStep.Scan worker) }
+        ensures after { self.new ≡ after_in self.old (HeapStep.Scan worker) }
     {
         self.check_work(worker, Phase::Marking)?;
         let Some(no) = self.grey.take_first() else {
@@ -56,8 +56,8 @@ impl<A: Allocator + Copy> Marker<A> {
     /// Ends the mark: the white objects are doomed now, and it answers how many they are. Tried in this order:
     /// `WrongPhase`, `GreyLeft` while the grey list has objects. In constant time.
     pub fn end_mark(&mut self) -> Result<usize, Fault>
-        ensures answer { reply_of Reply.Doomed result ≡ answer_in self.old Step.EndMark }
-        ensures after { self.new ≡ after_in self.old Step.EndMark }
+        ensures answer { reply_of Reply.Doomed result ≡ answer_in self.old HeapStep.EndMark }
+        ensures after { self.new ≡ after_in self.old HeapStep.EndMark }
     {
         self.check_end_mark()?;
         self.phase = Phase::Clearing;
