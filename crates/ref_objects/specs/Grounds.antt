@@ -1,7 +1,7 @@
 -- What one sees of the objects of a heap: the heap as plain data, what refuses its calls, and what they leave (package
 -- `java.lang.ref` of Java SE 17 for what making a reference does; numbers, slots, holds and cells: this project's
 -- profile). The functions of a heap are those of the model of the whole collector.
-use Rattle.std.specs.Prelude.{◌≡◌, ℕ, ◌+◌, ◌*◌, ◌/◌, ◌^◌, ◌≤◌, Bool, ◌&&◌, ◌==◌, not, if◌then◌else◌, nat_le}
+use Rattle.std.specs.Prelude.{◌≡◌, ℕ, ◌+◌, ◌*◌, ◌/◌, ◌^◌, ◌≤◌, Bool, ◌&&◌, not, if◌then◌else◌, nat_le}
 use Rattle.std.specs.Prelude.{List, [], ◌∷◌, length, Option, Some, None, Result, Ok, Err}
 use Rattle.ref_base.specs.Members.{has}
 use Rattle.ref_base.specs.Graphs.{Object, Reference, is_there}
@@ -9,11 +9,11 @@ use Rattle.ref_base.specs.Limits.{is_within_limits}
 use Rattle.ref_base.specs.Orderly.{IsOrderly}
 use Rattle.ref_base.specs.Heaps.{Heap, first_heap, slot_at, with_hold, made, one_more, one_fewer}
 use Rattle.ref_base.specs.CollectorRows.{without}
-use Rattle.ref_base.specs.Refusals.{unless, has_slot, holds_refusal}
+use Rattle.ref_base.specs.Refusals.{unless, has_slot, holds_refusal, hold_refusal as returned_refusal}
 use Rattle.ref_base.specs.declared.config.Config.{Config}
 use Rattle.ref_base.specs.declared.fault.Fault.{Fault}
 use Rattle.ref_base.specs.declared.fault.Fault.TheVariants.{BadConfig, EmptySlot, NoSuchObject, NoMemory, NoSuchActor}
-use Rattle.ref_base.specs.declared.fault.Fault.TheVariants.{ForeignHold}
+use Rattle.ref_base.specs.declared.heap_step.HoldName.{HoldName}
 use Rattle.ref_objects.specs.declared.start.Start.{Start}
 use Rattle.ref_objects.specs.declared.kind.Kind.{Kind}
 use Rattle.ref_objects.specs.declared.kind.Kind.TheVariants as kind
@@ -25,11 +25,6 @@ pub record Ground : Type 0 where
   pub heap_no : ℕ
   pub next : ℕ
   pub marked : List ℕ
-
--- a hold: the heap that it is of, and the object that it holds
-pub record HeapHold : Type 0 where
-  pub heap_no : ℕ
-  pub object : ℕ
 
 -- ---- a new heap
 
@@ -65,7 +60,7 @@ IsRefused refusal (Ok answer) = refusal ≡ None
 IsRefused refusal (Err fault) = refusal ≡ Some fault
 
 -- the same of a call that takes a hold: it comes back
-abbrev pub GivesBack : {T : Type 0} → Option Fault → HeapHold → Result T (Fault × HeapHold) → Type 0
+abbrev pub GivesBack : {T : Type 0} → Option Fault → HoldName → Result T (Fault × HoldName) → Type 0
 GivesBack refusal hold (Ok answer) = refusal ≡ None
 GivesBack refusal hold (Err back) = (refusal ≡ Some back.0) × (back.1 ≡ hold)
 
@@ -81,17 +76,14 @@ abbrev pub hold_refusal : Ground → ℕ → ℕ → Option Fault
 hold_refusal g m s = unless (has_slot g.heap m s) NoSuchActor (held_refusal g (slot_at g.heap m s))
 
 -- the hold is one of this heap, which counts it
-abbrev pub is_own : Ground → HeapHold → Bool
-is_own g hold = (hold.heap_no == g.heap_no) && has g.heap.holds hold.object
+abbrev pub release_refusal : Ground → HoldName → Option Fault
+release_refusal g hold = returned_refusal g.heap_no g.heap hold
 
-abbrev pub release_refusal : Ground → HeapHold → Option Fault
-release_refusal g hold = unless (is_own g hold) ForeignHold None
-
-abbrev pub adopt_refusal : Ground → ℕ → ℕ → HeapHold → Option Fault
+abbrev pub adopt_refusal : Ground → ℕ → ℕ → HoldName → Option Fault
 adopt_refusal g m d hold = unless (has_slot g.heap m d) NoSuchActor (release_refusal g hold)
 
 -- a hold of this heap, and of the object that is named
-abbrev pub IsHoldOf : Ground → Option ℕ → HeapHold → Type 0
+abbrev pub IsHoldOf : Ground → Option ℕ → HoldName → Type 0
 IsHoldOf g named hold = (hold.heap_no ≡ g.heap_no) × (Some hold.object ≡ named)
 
 -- ---- what is read
@@ -146,7 +138,7 @@ abbrev pub with_object : Ground → ℕ → ℕ → Object → Ground
 with_object g m d o = record g { heap = made g.heap m d o; next = g.next + 1 }
 
 -- one more hold of what was minted
-abbrev pub after_minting : Ground → Result HeapHold Fault → Ground
+abbrev pub after_minting : Ground → Result HoldName Fault → Ground
 after_minting g (Ok hold) = with_heap g (with_hold g.heap hold.object)
 after_minting g (Err fault) = g
 

@@ -12,9 +12,9 @@ pub struct Hold {
 }
 
 impl Model for Hold {
-    ghost use Rattle.ref_objects.specs.Grounds.{HeapHold};
+    ghost use Rattle.ref_base.specs.declared.heap_step.HoldName.{HoldName};
 
-    ghost Value = { HeapHold };
+    ghost Value = { HoldName };
 
     ghost view = { λ h. record { heap_no = h.heap_no; object = h.object } };
 }
