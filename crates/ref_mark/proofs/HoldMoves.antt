@@ -1,4 +1,4 @@
--- Holds come and go, and what is held comes into a slot.
+-- The rows of holds: they come and go, and what is held comes into a slot.
 use Rattle.std.proofs.Common.{◌≡◌, ℕ, ◌+◌, ◌*◌, true, false, ◌==◌, ◌||◌, refl, sym, ap, subst, ◌∙◌}
 use Rattle.std.proofs.Common.{List, [], ◌∷◌, ◌++◌, length, Option, Some, None, ◌⊎◌, inl, inr}
 use Rattle.std.specs.Prelude.{slice_set}
@@ -8,16 +8,19 @@ use Rattle.ref_base.specs.Members.{has}
 use Rattle.ref_base.specs.Paths.{present}
 use Rattle.ref_base.specs.Heaps.{Heap, slot_at, with_slot, with_hold, without_hold, one_more, one_fewer}
 use Rattle.ref_base.specs.Worlds.{graph_of, pending_numbers}
-use Rattle.ref_base.specs.Refusals.{has_slot}
+use Rattle.ref_base.specs.Refusals.{unless, has_slot, held_refusal, is_counted, hold_refusal}
+use Rattle.ref_base.specs.Replay.{adopted}
 use Rattle.ref_base.specs.Collectors.{State}
 use Rattle.ref_base.specs.declared.fault.Fault.{Fault}
 use Rattle.ref_base.specs.declared.fault.Fault.TheVariants.{NoSuchActor, ForeignHold}
-use Rattle.ref_base.specs.CollectorRows.{ticked, on_heap}
-use Rattle.ref_objects.specs.Grounds.{is_own, held_refusal, release_refusal}
+use Rattle.ref_base.specs.CollectorRows.{ticked, on_heap, value_reply, Holds, HeapAccepts}
+use Rattle.ref_base.specs.declared.heap_step.HoldName.{HoldName}
+use Rattle.ref_base.specs.declared.heap_step.HeapStep.TheVariants as heap
+use Rattle.ref_base.specs.declared.reply.Reply.TheVariants as replies
+use Rattle.ref_objects.specs.Grounds.{mint_refusal}
 use Rattle.ref_mark.specs.CycleHeaps.{CycleHeap, is_white}
-use Rattle.ref_mark.specs.MarkCalls.{HoldStep, Take, Mint, Adopt, Release, hold_refusal_in, heap_after, with_hold_of}
-use Rattle.ref_mark.specs.MarkCalls.{unless_refused}
-use Rattle.ref_mark.specs.MarkRows.{IsNamed, KeepsStanding}
+use Rattle.ref_mark.specs.MarkCalls.{with_hold_of, unless_refused}
+use Rattle.ref_mark.specs.MarkRows.{KeepsStanding}
 use Rattle.ref_mark.specs.MarkViews.{ground_of}
 use Rattle.ref_mark.specs.Standing.{Stands}
 use Rattle.ref_base.proofs.OneMore.{has-one_more}
@@ -81,15 +84,17 @@ module _ (k : CycleHeap) (a : State) (stands : Stands k a) where
       (with_hold a.world.heap n) a.next (ap (λ (h : Heap). with_hold h n) stands.heap) stands.next
 
   -- one of what a slot holds
-  pub slot_hold_stands : (m s : ℕ) (held : Option ℕ) → slot_at k.heap m s ≡ held
-      → held_refusal (ground_of k) held ≡ None
-      → Stands (record k { heap = with_hold_of k.heap held }) (ticked (on_heap a (with_hold_of a.world.heap held)))
-  slot_hold_stands m s None is accepted = absurd (cc)
-  slot_hold_stands m s (Some n) is accepted =
-      hold_stands n
-      (subst (λ ns. has ns n ≡ true) (sym roots_are)
-      (slot_root (present k.heap.slots) k.heap.holds (pending_numbers a.world.pending) n
-      (has-present_at k.heap.slots (16 * m + s) n is)))
+  slot_hold_row : (m s : ℕ) (held : Option ℕ) → slot_at k.heap m s ≡ held → held_refusal k.heap held ≡ None
+      → (b : State) × Holds a held (value_reply held) b × Stands (record k { heap = with_hold_of k.heap held }) b
+  slot_hold_row m s None is accepted = absurd (cc)
+  slot_hold_row m s (Some n) is accepted = (
+    ticked (on_heap a (with_hold a.world.heap n)),
+    (refl, refl),
+    hold_stands n
+        (subst (λ ns. has ns n ≡ true) (sym roots_are)
+        (slot_root (present k.heap.slots) k.heap.holds (pending_numbers a.world.pending) n
+        (has-present_at k.heap.slots (16 * m + s) n is))),
+  )
 
   -- no slot that is set comes to hold what wasn't held, and one hold goes
   fewer_move : (slots : List (Option ℕ)) (n : ℕ) → length slots ≡ length k.heap.slots
@@ -142,32 +147,51 @@ module _ (k : CycleHeap) (a : State) (stands : Stands k a) where
       (with_slot (without_hold a.world.heap n) m d (Some n)) a.next
       (ap (λ (h : Heap). with_slot (without_hold h n) m d (Some n)) stands.heap) stands.next
 
--- what isn't refused leaves a heap that stands for the state with that hold more or fewer
-held_stands : (k : CycleHeap) (a : State) (step : HoldStep) → Stands k a → IsNamed a step
-    → hold_refusal_in k step ≡ None
-    → Stands (record k { heap = heap_after k.heap step }) (ticked (on_heap a (heap_after a.world.heap step)))
-held_stands k a (Take m s) stands named accepted =
+-- ---- rows
+
+pub hold_row : (k : CycleHeap) (a : State) (m s : ℕ) → Stands k a
+    → unless (has_slot k.heap m s) NoSuchActor (held_refusal k.heap (slot_at k.heap m s)) ≡ None
+    → (b : State) × HeapAccepts a (heap.Hold m s) (value_reply (slot_at k.heap m s)) b
+    × Stands (record k { heap = with_hold_of k.heap (slot_at k.heap m s) }) b
+hold_row k a m s stands accepted =
     let held = slot_at k.heap m s in
     let same : slot_at a.world.heap m s ≡ held = ap (λ (h : Heap). slot_at h m s) stands.heap in
-    subst
-    (λ (v : Option ℕ).
-    Stands (record k { heap = with_hold_of k.heap held }) (ticked (on_heap a (with_hold_of a.world.heap v)))) (sym same)
-    (slot_hold_stands k a stands m s held refl
-    (unless_parts (has_slot k.heap m s) NoSuchActor (held_refusal (ground_of k) held) accepted).1)
-held_stands k a (Mint n) stands named accepted = hold_stands k a stands n named
-held_stands k a (Adopt m d hold) stands named accepted =
-    let later = (unless_parts (has_slot k.heap m d) NoSuchActor (release_refusal (ground_of k) hold) accepted).1 in
-    let own = (unless_parts (is_own (ground_of k) hold) ForeignHold None later).0 in
-    adopted_stands k a stands m d hold.object
-    (and_parts (hold.heap_no == k.heap_no) (has k.heap.holds hold.object) own).1
-held_stands k a (Release hold) stands named accepted = without_hold_stands k a stands hold.object
+    let row =
+    slot_hold_row k a stands m s held refl
+    (unless_parts (has_slot k.heap m s) NoSuchActor (held_refusal k.heap held) accepted).1 in
+    (row.0, subst (λ (v : Option ℕ). Holds a v (value_reply held) row.0) (sym same) row.1, row.2)
 
-held_by : (k : CycleHeap) (step : HoldStep) (refused : Option Fault) → hold_refusal_in k step ≡ refused → (a : State)
-    → Stands k a → IsNamed a step
-    → Stands (unless_refused refused (λ fault. k) (record k { heap = heap_after k.heap step }))
-    (unless_refused refused (λ fault. a) (ticked (on_heap a (heap_after a.world.heap step))))
-held_by k step None is a stands named = held_stands k a step stands named is
-held_by k step (Some fault) is a stands named = stands
+pub adopt_row : (k : CycleHeap) (a : State) (m d : ℕ) (hold : HoldName) → Stands k a
+    → unless (has_slot k.heap m d) NoSuchActor (hold_refusal k.heap_no k.heap hold) ≡ None
+    → (b : State) × HeapAccepts a (heap.Adopt m d hold) (replies.Object hold.object) b
+    × Stands (record k { heap = adopted k.heap m d hold.object }) b
+adopt_row k a m d hold stands accepted =
+    let later = (unless_parts (has_slot k.heap m d) NoSuchActor (hold_refusal k.heap_no k.heap hold) accepted).1 in
+    let own = (unless_parts (is_counted k.heap_no k.heap hold) ForeignHold None later).0 in (
+      ticked (on_heap a (adopted a.world.heap m d hold.object)),
+      (refl, refl),
+      adopted_stands k a stands m d hold.object
+          (and_parts (hold.heap_no == k.heap_no) (has k.heap.holds hold.object) own).1,
+    )
 
-pub each_hold : (k : CycleHeap) (step : HoldStep) → KeepsStanding k step
-each_hold k step = held_by k step (hold_refusal_in k step) refl
+pub release_row : (k : CycleHeap) (a : State) (hold : HoldName) → Stands k a
+    → (b : State) × HeapAccepts a (heap.Release hold) replies.Done b
+    × Stands (record k { heap = without_hold k.heap hold.object }) b
+release_row k a hold stands = (
+  ticked (on_heap a (without_hold a.world.heap hold.object)),
+  (refl, refl),
+  without_hold_stands k a stands hold.object,
+)
+
+-- ---- mints
+
+minted_by : (k : CycleHeap) (n : ℕ) (refused : Option Fault) (a : State) → Stands k a
+    → has (graph_of a.world).roots n ≡ true
+    → Stands (unless_refused refused (λ fault. k) (record k { heap = with_hold k.heap n }))
+    (unless_refused refused (λ fault. a) (ticked (on_heap a (with_hold a.world.heap n))))
+minted_by k n None a stands root = hold_stands k a stands n root
+minted_by k n (Some fault) a stands root = stands
+
+-- a hold of what a root names
+pub each_mint : (k : CycleHeap) (n : ℕ) → KeepsStanding k n
+each_mint k n = minted_by k n (mint_refusal (ground_of k) n)

@@ -23,6 +23,7 @@ use Rattle.ref_mark.specs.Standing.{Stands, unsaid, shown_heap}
 use Rattle.ref_mark.proofs.ObjectRows.{new_row, refer_row, store_row}
 use Rattle.ref_mark.proofs.SlotRows.{copy_row, drop_row, load_row}
 use Rattle.ref_mark.proofs.ReferenceRows.{get_row, clear_row, refers_to_row}
+use Rattle.ref_mark.proofs.HoldMoves.{hold_row, adopt_row, release_row}
 use Rattle.ref_mark.proofs.BeginRows.{begin_row}
 use Rattle.ref_mark.proofs.ScanRows.{scan_row}
 use Rattle.ref_mark.proofs.MarkEndRows.{end_mark_row, same_end_mark}
@@ -51,6 +52,9 @@ module _ (k : CycleHeap) (a : State) (stands : Stands k a) where
   own_refusal (heap.Get m d s) own = refl
   own_refusal (heap.Clear m s) own = refl
   own_refusal (heap.RefersTo m s v) own = refl
+  own_refusal (heap.Hold m s) own = refl
+  own_refusal (heap.Adopt m d hold) own = refl
+  own_refusal (heap.Release hold) own = refl
   own_refusal (heap.Begin now how) own =
       ap (λ p. begin_refusal p k.heap.clock a.world.cycle now) stands.phase
       ∙ ap (λ c. begin_refusal k.phase k.heap.clock c now) stands.cycle
@@ -72,6 +76,9 @@ module _ (k : CycleHeap) (a : State) (stands : Stands k a) where
   accepted (heap.Get m d s) own none = get_row k a m d s stands none
   accepted (heap.Clear m s) own none = clear_row k a m s stands none
   accepted (heap.RefersTo m s v) own none = refers_to_row k a stands m s v
+  accepted (heap.Hold m s) own none = hold_row k a m s stands none
+  accepted (heap.Adopt m d hold) own none = adopt_row k a m d hold stands none
+  accepted (heap.Release hold) own none = release_row k a hold stands
   accepted (heap.Begin now how) own none = begin_row k a now how stands none
   accepted (heap.Scan w) own none = scan_row k a w stands none
   accepted heap.EndMark own none = end_mark_row k a stands none

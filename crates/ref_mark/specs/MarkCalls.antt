@@ -1,19 +1,22 @@
 -- What the calls of a heap in its cycles answer and leave, step by step: one table for all of them, by the steps and
 -- refusals of the abstract collector.
-use Rattle.std.specs.Prelude.{ℕ, ◌+◌, Bool, true, false, not, List, [], length, Option, Some, None, Result, Ok, Err}
-use Rattle.ref_base.specs.Graphs.{plain_object}
+use Rattle.std.specs.Prelude.{ℕ, ◌+◌, Bool, true, false, ◌&&◌, not, List, [], length, Option, Some, None}
+use Rattle.std.specs.Prelude.{Result, Ok, Err}
+use Rattle.ref_base.specs.Graphs.{plain_object, is_there}
 use Rattle.ref_base.specs.HeapSteps.{NamedStep}
 use Rattle.ref_base.specs.Heaps.{Heap, slot_at, nulls, new_reference, stored, with_slot, with_hold, without_hold}
 use Rattle.ref_base.specs.Worlds.{first_world, pending_numbers}
 use Rattle.ref_base.specs.Collectors.{State, first_state}
 use Rattle.ref_base.specs.CollectorRows.{field_in, value_reply}
-use Rattle.ref_base.specs.Refusals.{heap_refusal, is_empty}
+use Rattle.ref_base.specs.Refusals.{heap_refusal, has_slot, is_empty}
+use Rattle.ref_base.specs.Replay.{adopted}
 use Rattle.ref_base.specs.declared.fault.Fault.{Fault}
 use Rattle.ref_base.specs.declared.phase.Phase.TheVariants.{Clearing}
+use Rattle.ref_base.specs.declared.heap_step.HoldName.{HoldName}
 use Rattle.ref_base.specs.declared.heap_step.HeapStep.TheVariants as heap
 use Rattle.ref_base.specs.declared.reply.Reply.{Reply}
 use Rattle.ref_base.specs.declared.reply.Reply.TheVariants as replies
-use Rattle.ref_objects.specs.Grounds.{HeapHold, unmarked, mint_refusal, hold_refusal, adopt_refusal, release_refusal}
+use Rattle.ref_objects.specs.Grounds.{unmarked, mint_refusal}
 use Rattle.ref_mark.specs.Worklists.{first_in}
 use Rattle.ref_mark.specs.CycleHeaps.{CycleHeap, with_made, loaded, value_got, with_got, with_cleared, reads_same}
 use Rattle.ref_mark.specs.CycleHeaps.{begun, scanned}
@@ -32,7 +35,7 @@ reply_of told (Ok answer) = told answer
 reply_of told (Err fault) = replies.Refused fault
 
 -- of a call that gives a hold back where it refuses
-abbrev pub reply_or_back : {T : Type 0} → (T → Reply) → Result T (Fault × HeapHold) → Reply
+abbrev pub reply_or_back : {T : Type 0} → (T → Reply) → Result T (Fault × HoldName) → Reply
 reply_or_back told (Ok answer) = told answer
 reply_or_back told (Err back) = replies.Refused back.0
 
@@ -45,7 +48,7 @@ scan_reply None = replies.Nothing
 scan_reply (Some n) = replies.Scanned n
 
 -- the object of a hold
-abbrev pub hold_reply : HeapHold → Reply
+abbrev pub hold_reply : HoldName → Reply
 hold_reply hold = replies.Object hold.object
 
 -- ---- steps
@@ -61,6 +64,9 @@ is_of_marking (heap.Drop m s) = true
 is_of_marking (heap.Get m d s) = true
 is_of_marking (heap.Clear m s) = true
 is_of_marking (heap.RefersTo m s v) = true
+is_of_marking (heap.Hold m s) = true
+is_of_marking (heap.Adopt m d hold) = true
+is_of_marking (heap.Release hold) = true
 is_of_marking (heap.Begin now how) = true
 is_of_marking (heap.Scan w) = true
 is_of_marking heap.EndMark = true
@@ -86,10 +92,17 @@ reply_in k (heap.Load m d s i) = value_reply (field_in k.heap (slot_at k.heap m 
 reply_in k (heap.Copy m d s) = value_reply (slot_at k.heap m s)
 reply_in k (heap.Get m d s) = value_reply (value_got k m s)
 reply_in k (heap.RefersTo m s v) = replies.Refers (reads_same k m s v)
+reply_in k (heap.Hold m s) = value_reply (slot_at k.heap m s)
+reply_in k (heap.Adopt m d hold) = replies.Object hold.object
 reply_in k (heap.Begin now how) = replies.Cycle (k.cycle + 1)
 reply_in k (heap.Scan w) = scan_reply (first_in k.grey)
 reply_in k heap.EndMark = replies.Doomed (length (unmarked k.heap.objects k.marked))
 reply_in k step = replies.Done
+
+-- one more hold of what is there
+abbrev pub with_hold_of : Heap → Option ℕ → Heap
+with_hold_of h None = h
+with_hold_of h (Some n) = with_hold h n
 
 -- and what it leaves
 abbrev pub done_in : CycleHeap → NamedStep → CycleHeap
@@ -102,6 +115,9 @@ done_in k (heap.Copy m d s) = record k { heap = with_slot k.heap m d (slot_at k.
 done_in k (heap.Drop m s) = record k { heap = with_slot k.heap m s None }
 done_in k (heap.Get m d s) = with_got k m d s (value_got k m s)
 done_in k (heap.Clear m s) = with_cleared k m s
+done_in k (heap.Hold m s) = record k { heap = with_hold_of k.heap (slot_at k.heap m s) }
+done_in k (heap.Adopt m d hold) = record k { heap = adopted k.heap m d hold.object }
+done_in k (heap.Release hold) = record k { heap = without_hold k.heap hold.object }
 done_in k (heap.Begin now how) = begun k now how
 done_in k (heap.Scan w) = scanned k w
 done_in k heap.EndMark = with_phase k Clearing
@@ -122,39 +138,20 @@ late_roots a step = []
 
 -- ---- holds
 
--- a hold is taken of what a slot holds or of an object by its number, taken back into a slot, or given up
-pub data HoldStep : Type 0 where
-  Take : (mutator slot : ℕ) → HoldStep
-  Mint : (object : ℕ) → HoldStep
-  Adopt : (mutator into : ℕ) (hold : HeapHold) → HoldStep
-  Release : (hold : HeapHold) → HoldStep
+-- whether this is an object that was freed
+abbrev pub is_freed : Heap → Option ℕ → Bool
+is_freed h None = false
+is_freed h (Some n) = not (is_there h.objects n)
 
-abbrev pub hold_refusal_in : CycleHeap → HoldStep → Option Fault
-hold_refusal_in k (Take m s) = hold_refusal (ground_of k) m s
-hold_refusal_in k (Mint n) = mint_refusal (ground_of k) n
-hold_refusal_in k (Adopt m d hold) = adopt_refusal (ground_of k) m d hold
-hold_refusal_in k (Release hold) = release_refusal (ground_of k) hold
+-- whether a slot that is there names an object that was freed
+abbrev pub names_freed : CycleHeap → ℕ → ℕ → Bool
+names_freed k m s = has_slot k.heap m s && is_freed k.heap (slot_at k.heap m s)
 
-abbrev pub hold_reply_in : CycleHeap → HoldStep → Reply
-hold_reply_in k (Take m s) = value_reply (slot_at k.heap m s)
-hold_reply_in k (Mint n) = replies.Object n
-hold_reply_in k (Adopt m d hold) = replies.Object hold.object
-hold_reply_in k (Release hold) = replies.Done
+-- a hold is minted of the object of a number, for the layer above
+abbrev pub mint_answer_in : CycleHeap → ℕ → Reply
+mint_answer_in k n = unless_refused (mint_refusal (ground_of k) n) replies.Refused (replies.Object n)
 
--- one more hold of what is there
-abbrev pub with_hold_of : Heap → Option ℕ → Heap
-with_hold_of h None = h
-with_hold_of h (Some n) = with_hold h n
-
-abbrev pub heap_after : Heap → HoldStep → Heap
-heap_after h (Take m s) = with_hold_of h (slot_at h m s)
-heap_after h (Mint n) = with_hold h n
-heap_after h (Adopt m d hold) = with_slot (without_hold h hold.object) m d (Some hold.object)
-heap_after h (Release hold) = without_hold h hold.object
-
-abbrev pub hold_answer_in : CycleHeap → HoldStep → Reply
-hold_answer_in k step = unless_refused (hold_refusal_in k step) replies.Refused (hold_reply_in k step)
-
-abbrev pub after_hold_in : CycleHeap → HoldStep → CycleHeap
-after_hold_in k step =
-    unless_refused (hold_refusal_in k step) (λ fault. k) (record k { heap = heap_after k.heap step })
+-- and what that leaves
+abbrev pub after_mint_in : CycleHeap → ℕ → CycleHeap
+after_mint_in k n =
+    unless_refused (mint_refusal (ground_of k) n) (λ fault. k) (record k { heap = with_hold k.heap n })

@@ -1,14 +1,17 @@
 -- That the calls of a heap in its cycles are rows of the abstract collector.
 use Rattle.std.specs.Prelude.{◌≡◌, ℕ, true, []}
 use Rattle.ref_base.specs.Members.{has}
+use Rattle.ref_base.specs.Heaps.{with_hold}
 use Rattle.ref_base.specs.Worlds.{first_world, graph_of}
 use Rattle.ref_base.specs.Collectors.{State, first_state}
 use Rattle.ref_base.specs.HeapSteps.{NamedStep}
 use Rattle.ref_base.specs.CollectorRows.{IsHeapRow, ticked, on_heap}
 use Rattle.ref_base.specs.declared.config.Config.{Config}
+use Rattle.ref_objects.specs.Grounds.{mint_refusal}
 use Rattle.ref_mark.specs.CycleHeaps.{CycleHeap, shaded_all}
 use Rattle.ref_mark.specs.MarkCalls.{refusal_in, answer_in, after_in, late_roots, unless_refused}
-use Rattle.ref_mark.specs.MarkCalls.{HoldStep, Mint, hold_refusal_in, after_hold_in, heap_after}
+use Rattle.ref_mark.specs.MarkCalls.{after_mint_in}
+use Rattle.ref_mark.specs.MarkViews.{ground_of}
 use Rattle.ref_mark.specs.Standing.{Stands}
 
 -- the first state, where objects and cycles are numbered from these on
@@ -27,15 +30,10 @@ IsRowOf k step =
     → (b : State) × IsHeapRow k.heap_no a step (answer_in k step) b
     × Stands (shaded_all (after_in k step) (unless_refused (refusal_in k step) (λ fault. []) (late_roots a step))) b
 
--- what is minted is to be named by a root
-abbrev pub IsNamed : State → HoldStep → Type 0
-IsNamed a (Mint n) = has (graph_of a.world).roots n ≡ true
-IsNamed a step = Unit {0}
-
--- The collector has no row for a hold. For each state that the heap stands for, it then stands for the state with that
--- hold more or fewer, at the next moment; and for the same state where the call is refused.
-abbrev pub KeepsStanding : CycleHeap → HoldStep → Type 0
-KeepsStanding k step =
-    (a : State) → Stands k a → IsNamed a step
-    → Stands (after_hold_in k step)
-    (unless_refused (hold_refusal_in k step) (λ fault. a) (ticked (on_heap a (heap_after a.world.heap step))))
+-- The collector has no row for a mint. For each state that the heap stands for, in which a root names the object, it
+-- then stands for the state with one more hold of it, at the next moment; and for the same state where it is refused.
+abbrev pub KeepsStanding : CycleHeap → ℕ → Type 0
+KeepsStanding k n =
+    (a : State) → Stands k a → has (graph_of a.world).roots n ≡ true
+    → Stands (after_mint_in k n)
+    (unless_refused (mint_refusal (ground_of k) n) (λ fault. a) (ticked (on_heap a (with_hold a.world.heap n))))

@@ -1,9 +1,9 @@
 //! What the calls of a heap in its cycles say together of the abstract collector.
 
-ghost use Rattle.std.specs.Prelude.{◌≡◌, true};
+ghost use Rattle.std.specs.Prelude.{◌≡◌, ℕ, true};
 ghost use Rattle.ref_base.specs.HeapSteps.{NamedStep};
 ghost use Rattle.ref_mark.specs.CycleHeaps.{CycleHeap};
-ghost use Rattle.ref_mark.specs.MarkCalls.{is_of_marking, HoldStep};
+ghost use Rattle.ref_mark.specs.MarkCalls.{is_of_marking};
 ghost use Rattle.ref_mark.specs.MarkRows.{IsRowOf, KeepsStanding};
 
 /// Each step that is a call of a heap in its cycles, answered as it is and leaving what it leaves, is a row of the
@@ -12,7 +12,7 @@ pub fn each_step_of_marking_is_a_row()
     ensures { (k : CycleHeap) (step : NamedStep) → is_of_marking step ≡ true → IsRowOf k step }
 {}
 
-/// A hold that is taken or taken back leaves a heap that stands for the state with that hold more or fewer.
-pub fn each_hold_keeps_standing()
-    ensures { (k : CycleHeap) (step : HoldStep) → KeepsStanding k step }
+/// A hold that is minted of what a root names leaves a heap that stands for the state with that hold more.
+pub fn each_mint_keeps_standing()
+    ensures { (k : CycleHeap) (n : ℕ) → KeepsStanding k n }
 {}

@@ -1,11 +1,11 @@
 //! Holds: what is held is a root.
 
-ghost use Rattle.std.specs.Prelude.{◌≡◌, IfOk, IfErr};
-ghost use Rattle.ref_mark.specs.MarkCalls.{HoldStep, Take, Mint, Adopt, Release, hold_answer_in, after_hold_in};
+ghost use Rattle.std.specs.Prelude.{◌≡◌, if◌then◌else◌, IfOk, IfErr};
+ghost use Rattle.ref_mark.specs.MarkCalls.{answer_in, after_in, names_freed, mint_answer_in, after_mint_in};
 ghost use Rattle.ref_mark.specs.MarkCalls.{reply_of, reply_or_back, hold_reply, done_reply};
 
 use super::Marker;
-use ref_base::{Fault, MutNo, ObjNo, Reply, SlotNo};
+use ref_base::{Fault, HeapStep, MutNo, ObjNo, Reply, SlotNo};
 use ref_objects::Hold;
 use std::alloc::Allocator;
 
@@ -13,9 +13,13 @@ impl<A: Allocator + Copy> Marker<A> {
     /// Takes a hold of the object in a slot, as `Objects::hold` does: `NoSuchActor`, `EmptySlot`, `NoSuchObject`,
     /// `NumbersSpent`.
     pub fn hold(&mut self, mutator: MutNo, slot: SlotNo) -> Result<Hold, Fault>
-        ensures answer { reply_of hold_reply result ≡ hold_answer_in self.old (Take mutator slot) }
+        ensures answer { reply_of hold_reply result
+            ≡ (if names_freed self.old mutator slot then Reply.Refused Fault.NoSuchObject
+            else answer_in self.old (HeapStep.Hold mutator slot)) }
         ensures own { IfOk result (λ hold. hold.heap_no ≡ self.old.heap_no) }
-        ensures after { self.new ≡ after_hold_in self.old (Take mutator slot) }
+        ensures after { self.new
+            ≡ (if names_freed self.old mutator slot then self.old
+            else after_in self.old (HeapStep.Hold mutator slot)) }
     {
         self.objects.hold(mutator, slot)
     }
@@ -27,18 +31,18 @@ impl<A: Allocator + Copy> Marker<A> {
         into: SlotNo,
         hold: Hold,
     ) -> Result<ObjNo, (Fault, Hold)>
-        ensures answer { reply_or_back Reply.Object result ≡ hold_answer_in self.old (Adopt mutator into hold) }
+        ensures answer { reply_or_back Reply.Object result ≡ answer_in self.old (HeapStep.Adopt mutator into hold) }
         ensures back { IfErr result (λ refused. refused.1 ≡ hold) }
-        ensures after { self.new ≡ after_hold_in self.old (Adopt mutator into hold) }
+        ensures after { self.new ≡ after_in self.old (HeapStep.Adopt mutator into hold) }
     {
         self.objects.adopt(mutator, into, hold)
     }
 
     /// Takes a hold back, as `Objects::release` does: `ForeignHold`. The hold then comes back.
     pub fn release(&mut self, hold: Hold) -> Result<(), (Fault, Hold)>
-        ensures answer { reply_or_back done_reply result ≡ hold_answer_in self.old (Release hold) }
+        ensures answer { reply_or_back done_reply result ≡ answer_in self.old (HeapStep.Release hold) }
         ensures back { IfErr result (λ refused. refused.1 ≡ hold) }
-        ensures after { self.new ≡ after_hold_in self.old (Release hold) }
+        ensures after { self.new ≡ after_in self.old (HeapStep.Release hold) }
     {
         self.objects.release(hold)
     }
@@ -46,9 +50,9 @@ impl<A: Allocator + Copy> Marker<A> {
     /// Takes a hold of the object of this number, as `Objects::mint` does: `NoSuchObject`, `NumbersSpent`. For the
     /// layer above, of an object that a root names.
     pub fn mint(&mut self, no: ObjNo) -> Result<Hold, Fault>
-        ensures answer { reply_of hold_reply result ≡ hold_answer_in self.old (Mint no) }
+        ensures answer { reply_of hold_reply result ≡ mint_answer_in self.old no }
         ensures own { IfOk result (λ hold. hold.heap_no ≡ self.old.heap_no) }
-        ensures after { self.new ≡ after_hold_in self.old (Mint no) }
+        ensures after { self.new ≡ after_mint_in self.old no }
     {
         self.objects.mint(no)
     }

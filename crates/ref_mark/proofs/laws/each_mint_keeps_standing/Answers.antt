@@ -1,0 +1,5 @@
+use Rattle.ref_mark.proofs.HoldMoves.{each_mint}
+use Rattle.ref_mark.proofs.laws.each_mint_keeps_standing.Goals as goal
+
+pub returns : goal.returns
+returns c = each_mint
