@@ -1,14 +1,15 @@
--- A row of a heap, with what its step leaves in the hands, is a row of the world; and no row of a heap touches hands and
--- queues.
+-- A row of a heap, with what its step leaves in the hands, is a row of the world; and no row of a heap touches hands
+-- and queues.
 use Rattle.std.proofs.Common.{◌≡◌, ℕ, Bool, true, false, Option, Some, None, refl, sym, ap, ◌∙◌, subst}
 use Rattle.ref_base.specs.Members.{has}
 use Rattle.ref_base.specs.Worlds.{World, Notice, SameOthers, hand_of, pending_of}
 use Rattle.ref_base.specs.Heaps.{slot_at}
 use Rattle.ref_base.specs.HeapSteps.{NamedStep, hold_of, heap_step, handed}
 use Rattle.ref_base.specs.Collectors.{State}
-use Rattle.ref_base.specs.Refusals.{unless, has_slot, is_worker, is_actor, unless_full, empty_hand_refusal, unhook_refusal}
-use Rattle.ref_base.specs.Refusals.{hand_refusal, heap_refusal, refusal}
-use Rattle.ref_base.specs.CollectorRows.{with_world, with_handed, AcceptsAsking, IsHeapAnswer, IsHeapRow, IsAnswer, IsRow}
+use Rattle.ref_base.specs.Refusals.{unless, has_slot, is_worker, is_actor, unless_full, empty_hand_refusal}
+use Rattle.ref_base.specs.Refusals.{unhook_refusal, hand_refusal, heap_refusal, refusal}
+use Rattle.ref_base.specs.CollectorRows.{with_world, with_handed, AcceptsAsking, IsHeapAnswer, IsHeapRow}
+use Rattle.ref_base.specs.CollectorRows.{IsAnswer, IsRow}
 use Rattle.ref_base.specs.declared.fault.Fault.{Fault}
 use Rattle.ref_base.specs.declared.fault.Fault.TheVariants.{NoSuchActor, ForeignHold}
 use Rattle.ref_base.specs.declared.actor.Actor.{Actor}
