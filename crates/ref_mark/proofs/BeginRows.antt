@@ -7,12 +7,12 @@ use Rattle.ref_base.specs.Members.{has}
 use Rattle.ref_base.specs.Graphs.{Graph, is_there}
 use Rattle.ref_base.specs.KeptPaths.{is_kept}
 use Rattle.ref_base.specs.Worlds.{graph_of, policy_of, pending_numbers}
-use Rattle.ref_base.specs.Refusals.{is_empty, begin_refusal}
+use Rattle.ref_base.specs.Refusals.{is_in, is_empty, begin_refusal}
 use Rattle.ref_base.specs.Replay.{begun as world_begun}
 use Rattle.ref_base.specs.Collectors.{State}
 use Rattle.ref_base.specs.CollectorRows.{HeapAccepts, begun_state}
 use Rattle.ref_base.specs.declared.urgency.Urgency.{Urgency}
-use Rattle.ref_base.specs.declared.phase.Phase.TheVariants.{Idle}
+use Rattle.ref_base.specs.declared.phase.Phase.TheVariants.{Idle, Sweeping}
 use Rattle.ref_base.specs.declared.heap_step.HeapStep.TheVariants as heap
 use Rattle.ref_base.specs.declared.reply.Reply.TheVariants as replies
 use Rattle.ref_base.proofs.HasLaws.{has-left}
@@ -21,6 +21,7 @@ use Rattle.ref_mark.specs.CycleHeaps.{CycleHeap, policy_in, is_black, shaded_all
 use Rattle.ref_mark.specs.Standing.{Stands}
 use Rattle.ref_mark.proofs.Shading.{MarkingBut, shaded_all-only, shaded_all-append, shaded_all_marking, some_left}
 use Rattle.ref_mark.proofs.Passed.{begin_passed}
+use Rattle.ref_mark.proofs.RootFacts.{plain_there}
 use Rattle.ref_mark.proofs.PlainStates.{plain_state, plain_state-is, marking_stands}
 use Rattle.ref_base.proofs.FoundLists.{joined-emptied, length-emptied, AreFound-emptied}
 
@@ -101,10 +102,10 @@ begun_marking k a now urgent left stands =
     shaded_all_marking w b g.roots [] [] (λ n root there. inl (root_ends (is_kept (policy_in w)) g n there root))
     (whitened_marking k a now urgent left stands.orderly.below (stands.scanners ∙ sym stands.finders))
 
-begun_stands : (k : CycleHeap) (a : State) (now : ℕ) (urgent : Urgency) → Stands k a
+begun_stands : (k : CycleHeap) (a : State) (now : ℕ) (urgent : Urgency) → Stands k a → k.phase ≡ Idle
     → Stands (mark_begun k a now urgent)
     (state_begun k a now urgent (not (is_empty (mark_begun k a now urgent).grey)))
-begun_stands k a now urgent stands =
+begun_stands k a now urgent stands idle =
     let j : CycleHeap = mark_begun k a now urgent in
     let b = state_begun k a now urgent (not (is_empty j.grey)) in
     let only = mark_begun-only k a now urgent in
@@ -116,6 +117,8 @@ begun_stands k a now urgent stands =
       slots = stands.orderly.slots;
     }) (length-emptied a.scanned ∙ stands.scanners)
     (length-emptied k.found ∙ stands.finders)
+    (plain_there k a stands (ap (λ p. is_in p Sweeping) idle)
+    (record (whitened k now urgent) { marked = j.marked; grey = j.grey }) refl)
     (subst (λ (i : CycleHeap). MarkingBut i b [] []) only
     (begun_marking k a now urgent (not (is_empty j.grey)) stands)))
 
@@ -142,5 +145,5 @@ begin_row k a now urgent stands none =
       b,
       subst (λ (s : State). HeapAccepts s (heap.Begin now urgent) (replies.Cycle (k.cycle + 1)) b)
           (sym (plain_state-is k a Idle stands idle refl)) (begun_is_row k a now urgent stands),
-      subst (λ (j : CycleHeap). Stands j b) (mark_begun-is k a now urgent) (begun_stands k a now urgent stands),
+      subst (λ (j : CycleHeap). Stands j b) (mark_begun-is k a now urgent) (begun_stands k a now urgent stands idle),
     )

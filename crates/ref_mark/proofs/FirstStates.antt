@@ -1,12 +1,22 @@
 -- A new heap stands for the first state.
-use Rattle.std.proofs.Common.{ℕ, ◌*◌, refl, arith}
-use Rattle.std.specs.Prelude.{None, []}
-use Rattle.std.proofs.lemmas.Bool.{false≢true}
+use Rattle.std.proofs.Common.{◌≡◌, ℕ, zero, suc, ◌*◌, refl, sym, ap, ◌∙◌, inl, inr, arith}
+use Rattle.std.specs.Prelude.{None, [], replicate}
+use Rattle.std.proofs.lemmas.Bool.{false≢true, true≢false}
 use Rattle.std.proofs.lemmas.List.{length-replicate}
+use Rattle.ref_base.specs.Members.{has}
+use Rattle.ref_base.specs.Paths.{present}
+use Rattle.ref_base.specs.Heaps.{nulls}
+use Rattle.ref_base.specs.Worlds.{pending_numbers}
 use Rattle.ref_base.specs.declared.config.Config.{Config}
 use Rattle.ref_mark.specs.CycleHeaps.{first_cycle_heap}
 use Rattle.ref_mark.specs.Standing.{Stands}
 use Rattle.ref_mark.specs.MarkRows.{starting_state}
+use Rattle.ref_mark.proofs.RootFacts.{root_cases}
+use Rattle.ref_mark.proofs.ObjectRows.{has-present_nulls}
+
+none_pending : (workers : ℕ) → pending_numbers (replicate workers []) ≡ []
+none_pending zero = refl
+none_pending (suc workers) = none_pending workers
 
 pub first_stands : (config : Config) (heap_no obj cycle : ℕ)
     → Stands (first_cycle_heap config heap_no obj cycle) (starting_state config obj cycle)
@@ -25,6 +35,19 @@ first_stands config heap_no obj cycle = record {
   };
   scanners = length-replicate config.workers [];
   finders = length-replicate config.workers [];
+  there = record {
+    named = λ n root.
+        elim
+        (root_cases (present (nulls (16 * config.mutators))) [] (pending_numbers (replicate config.workers [])) n
+        root) [
+          | inl slot ↦ absurd (true≢false (sym slot ∙ has-present_nulls (16 * config.mutators) n))
+          | inr other ↦ elim other [
+            | inl hold ↦ absurd (false≢true hold)
+            | inr last ↦ absurd (false≢true (sym (ap (λ ns. has ns n) (none_pending config.workers)) ∙ last))
+          ]
+        ];
+    led = λ m n due target. absurd (false≢true target);
+  };
   facts = λ begun. absurd (false≢true begun);
   marking = λ here. absurd (false≢true here);
   clearing = λ here. absurd (false≢true here);

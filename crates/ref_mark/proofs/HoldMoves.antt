@@ -18,8 +18,8 @@ use Rattle.ref_base.specs.declared.heap_step.HoldName.{HoldName}
 use Rattle.ref_base.specs.declared.heap_step.HeapStep.TheVariants as heap
 use Rattle.ref_base.specs.declared.reply.Reply.TheVariants as replies
 use Rattle.ref_objects.specs.Grounds.{mint_refusal}
-use Rattle.ref_mark.specs.CycleHeaps.{CycleHeap, is_white}
-use Rattle.ref_mark.specs.MarkCalls.{with_hold_of, unless_refused}
+use Rattle.ref_mark.specs.CycleHeaps.{CycleHeap}
+use Rattle.ref_mark.specs.MarkCalls.{with_hold_of, is_freed, names_freed, unless_refused}
 use Rattle.ref_mark.specs.MarkRows.{KeepsStanding}
 use Rattle.ref_mark.specs.MarkViews.{ground_of}
 use Rattle.ref_mark.specs.Standing.{Stands}
@@ -29,6 +29,7 @@ use Rattle.ref_mark.proofs.Moves.{IsMove}
 use Rattle.ref_mark.proofs.MovedStates.{moved_stands}
 use Rattle.ref_base.proofs.Lookups.{has-present_at, has-present_set}
 use Rattle.ref_mark.proofs.RootFacts.{slot_root, hold_root, pending_root, root_cases, root_is_not_white}
+use Rattle.ref_mark.proofs.RootFacts.{root_is_there, slot_is_there}
 use Rattle.ref_mark.proofs.MoveKinds.{rooted, rooted_move}
 
 -- what is held after a hold goes was held
@@ -54,27 +55,24 @@ module _ (k : CycleHeap) (a : State) (stands : Stands k a) where
       → IsMove k (rooted k k.heap.slots (one_more k.heap.holds n)) (pending_numbers a.world.pending) []
   hold_move n root =
       let pending = pending_numbers a.world.pending in
-      rooted_move k a k.heap.slots (one_more k.heap.holds n) pending [] stands refl
-      (λ begun m after.
+      let was : (m : ℕ) → has (present k.heap.slots ++ one_more k.heap.holds n ++ pending) m ≡ true
+      → has (present k.heap.slots ++ k.heap.holds ++ pending) m ≡ true = λ m after.
       elim (root_cases (present k.heap.slots) (one_more k.heap.holds n) pending m after) [
-        | inl slot ↦
-            inl (root_is_not_white k a stands begun m (slot_root (present k.heap.slots) k.heap.holds pending m slot))
+        | inl slot ↦ slot_root (present k.heap.slots) k.heap.holds pending m slot
         | inr other ↦ elim other [
           | inl hold ↦ elim (or_cases (n == m) (has k.heap.holds m) (sym (has-one_more k.heap.holds n m) ∙ hold)) [
             | inl same ↦
-                let was : has (present k.heap.slots ++ k.heap.holds ++ pending) n ≡ true =
+                let own : has (present k.heap.slots ++ k.heap.holds ++ pending) n ≡ true =
                 subst (λ ns. has ns n ≡ true) roots_are root in
-                inl
-                (subst (λ i. is_white k i ≡ false) (eqb-true n m same) (root_is_not_white k a stands begun n was))
-            | inr before ↦
-                inl
-                (root_is_not_white k a stands begun m (hold_root (present k.heap.slots) k.heap.holds pending m before))
+                subst (λ i. has (present k.heap.slots ++ k.heap.holds ++ pending) i ≡ true) (eqb-true n m same) own
+            | inr before ↦ hold_root (present k.heap.slots) k.heap.holds pending m before
           ]
-          | inr last ↦
-              inl
-              (root_is_not_white k a stands begun m (pending_root (present k.heap.slots) k.heap.holds pending m last))
+          | inr last ↦ pending_root (present k.heap.slots) k.heap.holds pending m last
         ]
-      ])
+      ] in
+      rooted_move k a k.heap.slots (one_more k.heap.holds n) pending [] stands refl
+      (λ begun m after. inl (root_is_not_white k a stands begun m (was m after)))
+      (λ m after. root_is_there k a stands m (was m after))
 
   -- one hold more of a root
   pub hold_stands : (n : ℕ) → has (graph_of a.world).roots n ≡ true
@@ -102,26 +100,22 @@ module _ (k : CycleHeap) (a : State) (stands : Stands k a) where
       → IsMove k (rooted k slots (one_fewer k.heap.holds n)) (pending_numbers a.world.pending) []
   fewer_move slots n count held =
       let pending = pending_numbers a.world.pending in
-      rooted_move k a slots (one_fewer k.heap.holds n) pending [] stands count
-      (λ begun m after.
+      let was : (m : ℕ) → has (present slots ++ one_fewer k.heap.holds n ++ pending) m ≡ true
+      → has (present k.heap.slots ++ k.heap.holds ++ pending) m ≡ true = λ m after.
       elim (root_cases (present slots) (one_fewer k.heap.holds n) pending m after) [
         | inl slot ↦ elim (held m slot) [
-          | inl before ↦
-              inl
-              (root_is_not_white k a stands begun m (slot_root (present k.heap.slots) k.heap.holds pending m before))
-          | inr hold ↦
-              inl (root_is_not_white k a stands begun m (hold_root (present k.heap.slots) k.heap.holds pending m hold))
+          | inl before ↦ slot_root (present k.heap.slots) k.heap.holds pending m before
+          | inr hold ↦ hold_root (present k.heap.slots) k.heap.holds pending m hold
         ]
         | inr other ↦ elim other [
           | inl hold ↦
-              inl
-              (root_is_not_white k a stands begun m
-              (hold_root (present k.heap.slots) k.heap.holds pending m (has-one_fewer k.heap.holds n m hold)))
-          | inr last ↦
-              inl
-              (root_is_not_white k a stands begun m (pending_root (present k.heap.slots) k.heap.holds pending m last))
+              hold_root (present k.heap.slots) k.heap.holds pending m (has-one_fewer k.heap.holds n m hold)
+          | inr last ↦ pending_root (present k.heap.slots) k.heap.holds pending m last
         ]
-      ])
+      ] in
+      rooted_move k a slots (one_fewer k.heap.holds n) pending [] stands count
+      (λ begun m after. inl (root_is_not_white k a stands begun m (was m after)))
+      (λ m after. root_is_there k a stands m (was m after))
 
   -- one hold fewer
   pub without_hold_stands : (n : ℕ)
@@ -182,6 +176,20 @@ release_row k a hold stands = (
   (refl, refl),
   without_hold_stands k a stands hold.object,
 )
+
+freed_none : (k : CycleHeap) (a : State) (m s : ℕ) (held : Option ℕ) → Stands k a → slot_at k.heap m s ≡ held
+    → is_freed k.heap held ≡ false
+freed_none k a m s None stands is = refl
+freed_none k a m s (Some n) stands is = let there = slot_is_there k a stands m s n is in simp there refl
+
+-- no slot names an object that was freed
+pub names_none_freed : (k : CycleHeap) (a : State) (m s : ℕ) → Stands k a → names_freed k m s ≡ false
+names_none_freed k a m s stands =
+    let none : is_freed k.heap (slot_at k.heap m s) ≡ false = freed_none k a m s (slot_at k.heap m s) stands refl in
+    elim (cases_Bool (has_slot k.heap m s)) [
+      | inl there ↦ simp there none
+      | inr other ↦ simp other refl
+    ]
 
 -- ---- mints
 

@@ -8,13 +8,13 @@ use Rattle.std.proofs.lemmas.List.{length-set}
 use Rattle.ref_base.specs.DoomedSets.{refers_into}
 use Rattle.ref_base.specs.Members.{has}
 use Rattle.ref_base.specs.Graphs.{Object, object_at, is_there}
-use Rattle.ref_base.specs.Paths.{present, targets_of, targets_at}
+use Rattle.ref_base.specs.Paths.{present, targets_of, targets_at, soft_and_weak_referents}
 use Rattle.ref_base.specs.KeptPaths.{is_kept}
 use Rattle.ref_base.specs.Heaps.{made, one_more, reference_in, reference_at}
 use Rattle.ref_base.specs.Worlds.{pending_numbers}
 use Rattle.ref_base.specs.Refusals.{has_slot}
 use Rattle.ref_base.specs.Collectors.{State}
-use Rattle.ref_mark.specs.CycleHeaps.{is_in_cycle, CycleHeap, policy_in, is_white, doomed, young, with_made}
+use Rattle.ref_mark.specs.CycleHeaps.{is_in_cycle, CycleHeap, policy_in, is_white, is_due, doomed, young, with_made}
 use Rattle.ref_mark.specs.Standing.{Stands}
 use Rattle.ref_base.proofs.OneMore.{has-one_more}
 use Rattle.ref_mark.proofs.Shading.{not_white_marked}
@@ -22,7 +22,7 @@ use Rattle.ref_mark.proofs.DoomedLists.{doomed-made, is_there-above}
 use Rattle.ref_mark.proofs.Moves.{Change, moved, IsMove, IsNew, MayLead, roots_after}
 use Rattle.ref_mark.proofs.Moves.{referring_is_there}
 use Rattle.ref_base.proofs.Lookups.{object_at-push, object_at-pushed, rising-push, has-present_here}
-use Rattle.ref_mark.proofs.RootFacts.{slot_root, roots_of_set, slot_within}
+use Rattle.ref_mark.proofs.RootFacts.{slot_root, roots_of_set, each_root_of_set, root_is_there, slot_within}
 
 -- ---- what is made is marked
 
@@ -93,7 +93,9 @@ module _ (k : CycleHeap) (a : State) (m d : ℕ) (o : Object) (stands : Stands k
     (number : o.no ≡ k.next)
     (leads_off : is_in_cycle k.phase ≡ true → (n : ℕ)
     → has (targets_of (is_kept (policy_in k)) (Some o)) n ≡ true → is_white k n ≡ false)
-    (refers_off : is_in_cycle k.phase ≡ true → refers_into (is_white k) o.reference ≡ false) where
+    (refers_off : is_in_cycle k.phase ≡ true → refers_into (is_white k) o.reference ≡ false)
+    (led_there : (n : ℕ) → has (targets_of soft_and_weak_referents (Some o)) n ≡ true
+    → is_there k.heap.objects n ≡ true) where
   new_is_absent : is_there k.heap.objects o.no ≡ false
   new_is_absent =
       subst (λ n. is_there k.heap.objects n ≡ false) (sym number)
@@ -182,6 +184,38 @@ module _ (k : CycleHeap) (a : State) (m d : ℕ) (o : Object) (stands : Stands k
             ]
       ]
 
+  was_there : (n : ℕ) → is_there k.heap.objects n ≡ true → is_there (k.heap.objects ++ o ∷ []) n ≡ true
+  was_there n there = still_object (λ p. is_some p ≡ true) n there there
+
+  made_named : (n : ℕ) → has (roots_after (making k m d o) (pending_numbers a.world.pending)) n ≡ true
+      → is_there (k.heap.objects ++ o ∷ []) n ≡ true
+  made_named =
+      each_root_of_set k a stands (λ n. is_there (k.heap.objects ++ o ∷ []) n ≡ true) (16 * m + d) (Some o.no)
+      (λ n root. was_there n (root_is_there k a stands n root))
+      (λ n is.
+      let same : o.no ≡ n = (let e : Some o.no ≡ Some n = is in cc) in
+      subst (λ i. is_there (k.heap.objects ++ o ∷ []) i ≡ true) same new_is_there)
+
+  made_led : (i n : ℕ) → is_due k i ≡ false
+      → has (targets_at soft_and_weak_referents (k.heap.objects ++ o ∷ []) i) n ≡ true
+      → is_there (k.heap.objects ++ o ∷ []) n ≡ true
+  made_led i n due target =
+      elim (cases_Bool (is_there k.heap.objects i)) [
+        | inl there ↦
+            was_there n
+            (stands.there.led i n due
+            (same_object (λ p. has (targets_of soft_and_weak_referents p) n ≡ true) i there target))
+        | inr absent ↦
+            let own : has (targets_at soft_and_weak_referents (o ∷ []) i) n ≡ true =
+            only_new (λ p. has (targets_of soft_and_weak_referents p) n ≡ true) i absent target in
+            elim (cases_Bool (o.no == i)) [
+              | inl same ↦
+                  let from : has (targets_of soft_and_weak_referents (Some o)) n ≡ true = simp same at own in
+                  was_there n (led_there n from)
+              | inr other ↦ absurd (false≢true (simp other at own))
+            ]
+      ]
+
   is_reference-there : (p : Option Object) → is_some (reference_in p) ≡ true → is_some p ≡ true
   is_reference-there None is = is
   is_reference-there (Some p) is = refl
@@ -189,7 +223,7 @@ module _ (k : CycleHeap) (a : State) (m d : ℕ) (o : Object) (stands : Stands k
   pub made_move : IsMove k (making k m d o) (pending_numbers a.world.pending) []
   made_move = record {
     next = omega (arith);
-    stays = λ n there. still_object (λ p. is_some p ≡ true) n there there;
+    stays = was_there;
     was = made_was;
     rising = rising-push k.heap.objects o stands.orderly.rising
         (λ n there. subst (λ i. n < i) (sym number) (stands.orderly.below n there));
@@ -208,6 +242,8 @@ module _ (k : CycleHeap) (a : State) (m d : ℕ) (o : Object) (stands : Stands k
         let absent : is_there k.heap.objects n ≡ false =
         subst (λ i. is_there k.heap.objects i ≡ false) same new_is_absent in
         inl (simp absent refl));
+    named = made_named;
+    led = made_led;
     leads = made_leads;
     references = λ n is.
         still_object (λ p. is_some (reference_in p) ≡ true) n (is_reference-there (object_at k.heap.objects n) is) is;

@@ -11,13 +11,14 @@ use Rattle.ref_base.specs.Worlds.{graph_of, policy_of}
 use Rattle.ref_base.specs.Refusals.{is_in, is_empty, end_mark_refusal}
 use Rattle.ref_base.specs.Collectors.{State, joined}
 use Rattle.ref_base.specs.CollectorRows.{EndsMark, doomed_at, mark_ended}
-use Rattle.ref_base.specs.declared.phase.Phase.TheVariants.{Marking, Clearing}
+use Rattle.ref_base.specs.declared.phase.Phase.TheVariants.{Marking, Clearing, Sweeping}
 use Rattle.ref_base.specs.declared.reply.Reply.TheVariants as replies
 use Rattle.ref_mark.specs.CycleHeaps.{CycleHeap, is_white, is_black, with_phase}
 use Rattle.ref_objects.specs.Grounds.{unmarked}
 use Rattle.ref_mark.specs.Standing.{Stands, InClearing}
 use Rattle.ref_mark.proofs.Shading.{MarkingBut, not_white_marked}
 use Rattle.ref_mark.proofs.Passed.{end_mark_passed}
+use Rattle.ref_mark.proofs.RootFacts.{plain_there}
 use Rattle.ref_mark.proofs.PlainStates.{plain_state, plain_state-is, plain_marking}
 use Rattle.ref_base.proofs.FoundLists.{AreFound-scanned, AreFound-some}
 use Rattle.ref_mark.proofs.DoomedLists.{has-unmarked}
@@ -132,6 +133,7 @@ ended_stands k a stands phase none =
       orderly = stands.orderly;
       scanners = stands.scanners;
       finders = stands.finders;
+      there = plain_there k a stands (ap (λ p. is_in p Sweeping) phase) (with_phase k Clearing) refl;
       facts = λ begun. record { rooted = facts.rooted; closed = facts.closed };
       marking = λ now. absurd (false≢true now);
       clearing = λ now. in_clearing k a stands phase none;

@@ -3,8 +3,8 @@ use Rattle.std.proofs.Common.{◌≡◌, ℕ, true, false, refl, sym, subst, ari
 use Rattle.std.proofs.Common.{List, length, Option, Some, is_some, ◌⊎◌, inl, inr}
 use Rattle.ref_base.specs.DoomedSets.{refers_into}
 use Rattle.ref_base.specs.Members.{has}
-use Rattle.ref_base.specs.Graphs.{Object, object_at}
-use Rattle.ref_base.specs.Paths.{targets_of}
+use Rattle.ref_base.specs.Graphs.{Object, object_at, is_there}
+use Rattle.ref_base.specs.Paths.{Allowed, targets_of, soft_and_weak_referents}
 use Rattle.ref_base.specs.Strengths.{IsRising}
 use Rattle.ref_base.specs.KeptPaths.{is_kept}
 use Rattle.ref_base.specs.Heaps.{changed_at, reference_in}
@@ -29,8 +29,9 @@ pub rooted_move : (k : CycleHeap) (a : State) (slots : List (Option ℕ)) (holds
     → length slots ≡ length k.heap.slots
     → (is_in_cycle k.phase ≡ true → (n : ℕ) → has (roots_after (rooted k slots holds) pending) n ≡ true
     → (is_white k n ≡ false) ⊎ (has todo n ≡ true))
+    → ((n : ℕ) → has (roots_after (rooted k slots holds) pending) n ≡ true → is_there k.heap.objects n ≡ true)
     → IsMove k (rooted k slots holds) pending todo
-rooted_move k a slots holds pending todo stands count roots = record {
+rooted_move k a slots holds pending todo stands count roots named = record {
   next = omega (arith);
   stays = λ n there. there;
   was = λ n there. inl there;
@@ -40,6 +41,8 @@ rooted_move k a slots holds pending todo stands count roots = record {
   marked_stays = λ n marked. marked;
   marked_was = λ n marked. inl marked;
   roots = roots;
+  named = named;
+  led = stands.there.led;
   leads = λ m n target. inl target;
   references = λ n is. is;
   to_white = λ begun n refers. refers;
@@ -59,8 +62,8 @@ altered k slots holds n f = record {
 -- An object may change so: it leads where it did or to roots; it stays a reference if it is one; it
 -- refers to a white object only where it did, and once a mark has ended it goes on doing so.
 pub record MayBecome (k : CycleHeap) (roots : List ℕ) (o p : Object) : Type 0 where
-  pub leads : (n : ℕ) → has (targets_of (is_kept (policy_in k)) (Some p)) n ≡ true
-      → (has (targets_of (is_kept (policy_in k)) (Some o)) n ≡ true) ⊎ (has roots n ≡ true)
+  pub leads : (allow : Allowed) (n : ℕ) → has (targets_of allow (Some p)) n ≡ true
+      → (has (targets_of allow (Some o)) n ≡ true) ⊎ (has roots n ≡ true)
   pub references : is_some o.reference ≡ true → is_some p.reference ≡ true
   pub to_white : refers_into (is_white k) p.reference ≡ true → refers_into (is_white k) o.reference ≡ true
   pub white_stays : is_past_mark k.phase ≡ true → refers_into (is_white k) o.reference ≡ true
@@ -70,17 +73,20 @@ pub altered_move : (k : CycleHeap) (a : State) (slots : List (Option ℕ)) (hold
     (pending todo : List ℕ) → Stands k a → ((o : Object) → (f o).no ≡ o.no) → length slots ≡ length k.heap.slots
     → (is_in_cycle k.phase ≡ true → (n : ℕ) → has (roots_after (altered k slots holds i f) pending) n ≡ true
     → (is_white k n ≡ false) ⊎ (has todo n ≡ true))
+    → ((n : ℕ) → has (roots_after (altered k slots holds i f) pending) n ≡ true → is_there k.heap.objects n ≡ true)
     → ((o : Object) → object_at k.heap.objects i ≡ Some o
     → MayBecome k (roots_after (altered k slots holds i f) pending) o (f o))
     → IsMove k (altered k slots holds i f) pending todo
-altered_move k a slots holds i f pending todo stands keeps count roots become =
+altered_move k a slots holds i f pending todo stands keeps count roots named become =
     let os = k.heap.objects in
     let after = roots_after (altered k slots holds i f) pending in
     let goes_to = is_kept (policy_in k) in
+    let stays : (n : ℕ) → is_there os n ≡ true → is_there (changed_at os i f) n ≡ true =
+    lookup-changed (λ o p. is_some o ≡ true → is_some p ≡ true) os i f keeps (λ o there. there)
+    (λ o found there. refl) in
     record {
       next = omega (arith);
-      stays = lookup-changed (λ o p. is_some o ≡ true → is_some p ≡ true) os i f keeps (λ o there. there)
-          (λ o found there. refl);
+      stays = stays;
       was = λ n there.
           inl
           (lookup-changed (λ o p. is_some p ≡ true → is_some o ≡ true) os i f keeps (λ o now. now)
@@ -91,11 +97,21 @@ altered_move k a slots holds i f pending todo stands keeps count roots become =
       marked_stays = λ n marked. marked;
       marked_was = λ n marked. inl marked;
       roots = roots;
+      named = λ n root. stays n (named n root);
+      led = λ m n due target.
+          stays n
+          (elim
+          (lookup-changed (λ o p. has (targets_of soft_and_weak_referents p) n ≡ true
+          → (has (targets_of soft_and_weak_referents o) n ≡ true) ⊎ (has after n ≡ true)) os i f keeps
+          (λ o now. inl now) (λ o found. (become o found).leads soft_and_weak_referents n) m target) [
+            | inl before ↦ stands.there.led m n due before
+            | inr root ↦ named n root
+          ]);
       leads = λ m n target.
           elim
           (lookup-changed (λ o p. has (targets_of goes_to p) n ≡ true
           → (has (targets_of goes_to o) n ≡ true) ⊎ (has after n ≡ true)) os i f keeps (λ o now. inl now)
-          (λ o found. (become o found).leads n) m target) [
+          (λ o found. (become o found).leads goes_to n) m target) [
             | inl before ↦ inl before
             | inr root ↦ inr (inl root)
           ];

@@ -10,13 +10,13 @@ use Rattle.ref_base.specs.Collectors.{State}
 use Rattle.ref_base.specs.CollectorRows.{ticked}
 use Rattle.ref_base.specs.declared.phase.Phase.{Phase}
 use Rattle.ref_base.specs.declared.phase.Phase.TheVariants.{Idle, Marking, Clearing, Sweeping}
-use Rattle.ref_mark.specs.CycleHeaps.{is_in_cycle, CycleHeap, is_past_mark}
-use Rattle.ref_mark.specs.Standing.{FactsBut, Stands, Agrees}
+use Rattle.ref_mark.specs.CycleHeaps.{is_in_cycle, CycleHeap, is_white, is_past_mark, is_due}
+use Rattle.ref_mark.specs.Standing.{FactsBut, AreThere, Stands, Agrees}
 use Rattle.ref_mark.proofs.Agreeing.{agrees_same, same_before}
 use Rattle.ref_mark.proofs.Shading.{MarkingBut}
 use Rattle.ref_mark.proofs.DoomedLists.{past_is_in_cycle, shown_heap-before}
 use Rattle.ref_mark.proofs.Moves.{Change, moved, IsMove, graph_after, moved_state, moved_marking}
-use Rattle.ref_mark.proofs.Moves.{moved_facts, moved_clearing, moved_sweeping}
+use Rattle.ref_mark.proofs.Moves.{same_white, moved_facts, moved_clearing, moved_sweeping}
 
 -- ---- phases
 
@@ -105,6 +105,12 @@ module _ (k : CycleHeap) (c : Change) (a : State) (w : World) (beside : IsAlongs
         orderly = record { rising = move.rising; below = orderly_after.below; slots = orderly_after.slots };
         scanners = stands.scanners;
         finders = stands.finders;
+        there = record {
+          named = move.named;
+          led = λ m n due target.
+              let quiet : is_in k.phase Sweeping ≡ false = (marking_is_not k.phase marking).1 in
+              move.led m n (simp quiet refl) target;
+        };
         facts = λ begun. but.facts;
         marking = λ again. record { coloured = but.coloured; reached = but.reached; found = but.found; left = left_is };
         clearing = λ clearing. absurd (true≢false (sym clearing ∙ (marking_is_not k.phase marking).0));
@@ -126,6 +132,19 @@ in_mark k a stands marking =
 
 module _ (k : CycleHeap) (c : Change) (a : State) (w : World) (beside : IsAlongside a.world w) (stands : Stands k a)
     (move : IsMove k c (pending_numbers w.pending) []) where
+  -- what wasn't due to be swept isn't now
+  due_was : (m : ℕ) → is_due (moved k c) m ≡ false → is_due k m ≡ false
+  due_was m due =
+      elim (cases_Bool (is_in k.phase Sweeping)) [
+        | inl sweeping ↦
+            let begun : is_in_cycle k.phase ≡ true = past_is_in_cycle k.phase (sweeping_is_past k.phase sweeping) in
+            let same : is_white (moved k c) m ≡ is_white k m =
+            same_white k c (pending_numbers w.pending) [] move begun stands.orderly.below m in
+            let other : is_white (moved k c) m ≡ false = simp sweeping at due in
+            simp sweeping (sym same ∙ other)
+        | inr other ↦ simp other refl
+      ]
+
   quiet_stands : (h : Heap) → is_in k.phase Marking ≡ false → Agrees (moved k c) h
       → Stands (moved k c) (record a { world = with_heap w h; next = c.next })
   quiet_stands h quiet heap =
@@ -141,6 +160,9 @@ module _ (k : CycleHeap) (c : Change) (a : State) (w : World) (beside : IsAlongs
         orderly = orderly_after k c a w beside [] stands move;
         scanners = stands.scanners;
         finders = stands.finders;
+        there =
+            subst (λ (g : Heap). AreThere (moved k c) (graph_of (with_heap w g)).roots) (sym heap)
+            (record { named = move.named; led = λ m n due target. move.led m n (due_was m due) target });
         facts = λ begun.
             subst (λ (g : Heap). FactsBut (moved k c) (graph_of (with_heap w g)).roots []) (sym heap)
             (moved_facts k c (pending_numbers w.pending) [] move begun below (graph_of a.world).roots

@@ -5,14 +5,15 @@ use Rattle.std.proofs.lemmas.Bool.{cases_Bool, and_parts, false≢true, true≢f
 use Rattle.ref_base.specs.DoomedSets.{refers_into}
 use Rattle.ref_base.specs.Members.{has}
 use Rattle.ref_base.specs.Graphs.{Graph, Object, Reference, object_at, is_there, numbers}
-use Rattle.ref_base.specs.Paths.{Allowed, present, targets_of, targets_at}
+use Rattle.ref_base.specs.Paths.{Allowed, present, targets_of, targets_at, soft_and_weak_referents}
 use Rattle.ref_base.specs.Strengths.{IsRising}
 use Rattle.ref_base.specs.KeptPaths.{is_kept}
 use Rattle.ref_base.specs.Heaps.{Heap, reference_in, reference_at}
 use Rattle.ref_base.specs.Worlds.{World, with_heap, graph_of, pending_numbers}
 use Rattle.ref_base.specs.Collectors.{State}
 use Rattle.ref_base.proofs.PathLaws.{root_ends, target_ends}
-use Rattle.ref_mark.specs.CycleHeaps.{is_in_cycle, CycleHeap, policy_in, is_white, is_black, is_past_mark, doomed}
+use Rattle.ref_mark.specs.CycleHeaps.{is_in_cycle, CycleHeap, policy_in, is_white, is_black, is_past_mark, is_due}
+use Rattle.ref_mark.specs.CycleHeaps.{doomed}
 use Rattle.ref_mark.specs.Standing.{FactsBut, Coloured, Reached, FoundBut, InClearing, InSweeping}
 use Rattle.ref_mark.proofs.Shading.{MarkingBut, refers_into-wider}
 use Rattle.ref_base.proofs.StillFound.{are_found-still}
@@ -56,8 +57,9 @@ MayLead k c pending m n =
     ⊎ ((has (roots_after c pending) m ≡ true) × (is_in_cycle k.phase ≡ true → is_white k n ≡ false))
 
 -- A mutator moves: no object goes, and what comes is new; nothing else is doomed than before; no root is white but for
--- some numbers that are still to be shaded; where an object leads to another, this is allowed; references stay
--- references, and none refers to a white object that didn't before; and once a mark has ended none stops to.
+-- some numbers that are still to be shaded; what is named is there; where an object leads to another, this is allowed;
+-- references stay references, and none refers to a white object that didn't before; and once a mark has ended
+-- none stops to.
 pub record IsMove (k : CycleHeap) (c : Change) (pending todo : List ℕ) : Type 0 where
   pub next : k.next ≤ c.next
   pub stays : (n : ℕ) → is_there k.heap.objects n ≡ true → is_there c.objects n ≡ true
@@ -69,6 +71,9 @@ pub record IsMove (k : CycleHeap) (c : Change) (pending todo : List ℕ) : Type 
   pub marked_was : (n : ℕ) → has c.marked n ≡ true → (has k.marked n ≡ true) ⊎ (k.next ≤ n)
   pub roots : is_in_cycle k.phase ≡ true → (n : ℕ) → has (roots_after c pending) n ≡ true
       → (is_white k n ≡ false) ⊎ (has todo n ≡ true)
+  pub named : (n : ℕ) → has (roots_after c pending) n ≡ true → is_there c.objects n ≡ true
+  pub led : (m n : ℕ) → is_due k m ≡ false → has (targets_at soft_and_weak_referents c.objects m) n ≡ true
+      → is_there c.objects n ≡ true
   pub leads : (m n : ℕ) → has (targets_at (is_kept (policy_in k)) c.objects m) n ≡ true → MayLead k c pending m n
   pub references : (n : ℕ) → is_some (reference_at k.heap n) ≡ true
       → is_some (reference_in (object_at c.objects n)) ≡ true

@@ -6,7 +6,7 @@ use Rattle.std.proofs.lemmas.Bool.{cases_Bool, and_parts, false≢true, true≢f
 use Rattle.ref_base.specs.DoomedSets.{refers_into}
 use Rattle.ref_base.specs.Members.{has}
 use Rattle.ref_base.specs.Graphs.{Object, plain_object}
-use Rattle.ref_base.specs.Paths.{present, targets_of, allowed_referent, is_soft}
+use Rattle.ref_base.specs.Paths.{Allowed, present, targets_of, allowed_referent, is_soft, soft_and_weak_referents}
 use Rattle.ref_base.specs.KeptPaths.{is_kept}
 use Rattle.ref_base.specs.DoomedSets.{is_new_clear}
 use Rattle.ref_base.specs.Heaps.{Heap, slot_at, nulls, new_reference, made, stored, with_field, changed_in}
@@ -33,7 +33,8 @@ use Rattle.ref_mark.proofs.ShownHeaps.{is_new_clear-reference}
 use Rattle.ref_mark.proofs.Moves.{Change, moved}
 use Rattle.ref_mark.proofs.MovedStates.{moved_stands}
 use Rattle.ref_base.proofs.Lookups.{allowed_referent-cases, has-present_set, has-present_at}
-use Rattle.ref_mark.proofs.RootFacts.{slot_off, slot_root, root_is_not_white, slot_is_not_white}
+use Rattle.ref_mark.proofs.RootFacts.{slot_off, slot_root, root_is_not_white, slot_is_not_white, root_is_there}
+use Rattle.ref_mark.proofs.RootFacts.{slot_is_there}
 use Rattle.ref_mark.proofs.MoveKinds.{altered, MayBecome, altered_move}
 use Rattle.ref_mark.proofs.MadeMoves.{making, moved-making, made_move}
 use Rattle.ref_base.proofs.RowForms.{unless_parts}
@@ -46,10 +47,11 @@ pub made_stands : (k : CycleHeap) (a : State) (m d : ℕ) (o p : Object) → Sta
     → (is_in_cycle k.phase ≡ true → (n : ℕ)
     → has (targets_of (is_kept (policy_in k)) (Some o)) n ≡ true → is_white k n ≡ false)
     → (is_in_cycle k.phase ≡ true → refers_into (is_white k) o.reference ≡ false)
+    → ((n : ℕ) → has (targets_of soft_and_weak_referents (Some o)) n ≡ true → is_there k.heap.objects n ≡ true)
     → shown_heap (with_made k m d o) ≡ made (shown_heap k) m d o → p ≡ o
     → Stands (with_made k m d o)
     (ticked (record a { world = with_heap a.world (made a.world.heap m d p); next = a.next + 1 }))
-made_stands k a m d o p stands slot number leads_off refers_off shows same =
+made_stands k a m d o p stands slot number leads_off refers_off led shows same =
     let c : Change = making k m d o in
     let is = moved-making k m d o in
     let new : is_there k.heap.objects o.no ≡ false =
@@ -65,11 +67,11 @@ made_stands k a m d o p stands slot number leads_off refers_off shows same =
     subst
     (λ (j : CycleHeap). Stands j
     (ticked (record a { world = with_heap a.world (made a.world.heap m d p); next = a.next + 1 }))) (sym is)
-    (moved_stands k c a stands (made_move k a m d o stands slot number leads_off refers_off)
+    (moved_stands k c a stands (made_move k a m d o stands slot number leads_off refers_off led)
     (made a.world.heap m d p) (a.next + 1) heap (ap (λ n. n + 1) stands.next))
 
 -- a plain object leads nowhere
-has-present_nulls : (count n : ℕ) → has (present (nulls count)) n ≡ false
+pub has-present_nulls : (count n : ℕ) → has (present (nulls count)) n ≡ false
 has-present_nulls zero n = refl
 has-present_nulls (suc count) n = has-present_nulls count n
 
@@ -89,17 +91,23 @@ new_row k a m d f stands accepted =
             | inl field ↦ absurd (true≢false (sym field ∙ has-present_nulls f n))
             | inr referent ↦ absurd (false≢true referent)
           ])
-          (λ begun. refl) (shown_heap-made_plain k m d (nulls f) stands.orderly.below)
+          (λ begun. refl)
+          (λ n target.
+          elim (has-cases (present (nulls f)) [] n target) [
+            | inl field ↦ absurd (true≢false (sym field ∙ has-present_nulls f n))
+            | inr referent ↦ absurd (false≢true referent)
+          ])
+          (shown_heap-made_plain k m d (nulls f) stands.orderly.below)
           (ap (λ n. plain_object n (nulls f)) stands.next),
     )
 
 -- ---- what refers
 
-reference_goes_to : (k : CycleHeap) (strength : Strength) (held q : Option ℕ) (n : ℕ)
-    → has (allowed_referent (is_kept (policy_in k)) (new_reference k.heap k.next strength held q 0).reference) n ≡ true
+reference_goes_to : (k : CycleHeap) (allow : Allowed) (strength : Strength) (held q : Option ℕ) (n : ℕ)
+    → has (allowed_referent allow (new_reference k.heap k.next strength held q 0).reference) n ≡ true
     → held ≡ Some n
-reference_goes_to k strength held q n within =
-    allowed_referent-cases (is_kept (policy_in k)) (record {
+reference_goes_to k allow strength held q n within =
+    allowed_referent-cases allow (record {
       strength = strength;
       referent = held;
       stamp = if is_soft strength then k.heap.clock else 0;
@@ -145,9 +153,17 @@ refer_row k a m strength d s q f stands accepted =
             | inl field ↦ absurd (true≢false (sym field ∙ has-present_nulls f n))
             | inr referent ↦
                 slot_is_not_white k a stands begun m s n
-                (reference_goes_to k strength (slot_at k.heap m s) q n referent)
+                (reference_goes_to k (is_kept (policy_in k)) strength (slot_at k.heap m s) q n referent)
           ])
-          (λ begun. slot_off k a m s stands begun) (reference_shows k a m d s f strength q stands) same,
+          (λ begun. slot_off k a m s stands begun)
+          (λ n target.
+          elim (has-cases (present (nulls f)) (allowed_referent soft_and_weak_referents o.reference) n target) [
+            | inl field ↦ absurd (true≢false (sym field ∙ has-present_nulls f n))
+            | inr referent ↦
+                slot_is_there k a stands m s n
+                (reference_goes_to k soft_and_weak_referents strength (slot_at k.heap m s) q n referent)
+          ])
+          (reference_shows k a m d s f strength q stands) same,
     )
 
 -- ---- stores
@@ -161,15 +177,14 @@ field_refusal-there h (Some n) i none = (n, refl)
 stored_becomes : (k : CycleHeap) (i : ℕ) (value : Option ℕ) (roots : List ℕ) (o : Object)
     → ((n : ℕ) → value ≡ Some n → has roots n ≡ true) → MayBecome k roots o (with_field i value o)
 stored_becomes k i value roots o rooted =
-    let referents = allowed_referent (is_kept (policy_in k)) o.reference in
     record {
-      leads = λ n target.
-          elim (has-cases (present (slice_set o.fields i value)) referents n target) [
+      leads = λ allow n target.
+          elim (has-cases (present (slice_set o.fields i value)) (allowed_referent allow o.reference) n target) [
             | inl field ↦ elim (has-present_set o.fields i value n field) [
-              | inl before ↦ inl (has-left (present o.fields) referents n before)
+              | inl before ↦ inl (has-left (present o.fields) (allowed_referent allow o.reference) n before)
               | inr is ↦ inr (rooted n is)
             ]
-            | inr referent ↦ inl (has-right (present o.fields) referents n referent)
+            | inr referent ↦ inl (has-right (present o.fields) (allowed_referent allow o.reference) n referent)
           ];
       references = λ is. is;
       to_white = λ refers. refers;
@@ -190,7 +205,7 @@ store_row k a m s i v stands accepted =
     ap (λ (held : Option ℕ). record k { heap = changed_in k.heap held (with_field i value) }) holder.1 in
     let move =
     altered_move k a k.heap.slots k.heap.holds holder.0 (with_field i value) pending [] stands (λ o. refl) refl
-    (λ begun n root. inl (root_is_not_white k a stands begun n root))
+    (λ begun n root. inl (root_is_not_white k a stands begun n root)) (root_is_there k a stands)
     (λ o found.
     stored_becomes k i value (present k.heap.slots ++ k.heap.holds ++ pending) o
     (λ n own.

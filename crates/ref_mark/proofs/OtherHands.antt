@@ -34,6 +34,7 @@ stands-with_others k a mutators workers queues moments over back stands = record
   orderly = stands.orderly;
   scanners = stands.scanners;
   finders = stands.finders;
+  there = stands.there;
   facts = stands.facts;
   marking = λ marking.
       let holds = stands.marking marking in

@@ -4,6 +4,7 @@ use Rattle.std.proofs.Common.{List, [], length}
 use Rattle.std.proofs.lemmas.Bool.{false≢true}
 use Rattle.ref_base.specs.Heaps.{Heap}
 use Rattle.ref_base.specs.Orderly.{IsOrderly}
+use Rattle.ref_base.specs.Worlds.{graph_of}
 use Rattle.ref_base.specs.Refusals.{is_in, is_empty}
 use Rattle.ref_base.specs.Collectors.{State}
 use Rattle.ref_base.specs.declared.urgency.Urgency.{Urgency}
@@ -11,7 +12,7 @@ use Rattle.ref_base.specs.declared.phase.Phase.{Phase}
 use Rattle.ref_base.specs.declared.phase.Phase.TheVariants.{Marking, Clearing, Sweeping}
 use Rattle.ref_mark.specs.CycleHeaps.{CycleHeap, is_past_mark, is_in_cycle, doomed}
 use Rattle.ref_mark.proofs.Agreeing.{same_before, agrees_same}
-use Rattle.ref_mark.specs.Standing.{Stands}
+use Rattle.ref_mark.specs.Standing.{AreThere, Stands}
 use Rattle.ref_mark.proofs.Shading.{MarkingBut}
 use Rattle.ref_mark.proofs.DoomedLists.{shown_heap-before}
 
@@ -51,8 +52,8 @@ plain_state-is k a phase stands is before =
 pub marking_stands : (k : CycleHeap) (a : State) → k.phase ≡ Marking → a ≡ plain_state k Marking a
     → a.left ≡ not (is_empty k.grey) → a.born ≤ k.next → IsOrderly k.heap k.next
     → length a.scanned ≡ k.heap.config.workers → length k.found ≡ k.heap.config.workers
-    → MarkingBut k a [] [] → Stands k a
-marking_stands k a phase plain left born orderly scanners finders but =
+    → AreThere k (graph_of a.world).roots → MarkingBut k a [] [] → Stands k a
+marking_stands k a phase plain left born orderly scanners finders there but =
     let early : is_past_mark k.phase ≡ false = ap is_past_mark phase in
     record {
       heap = agrees_same k a.world.heap (ap (λ (s : State). s.world.heap) plain ∙ sym (shown_heap-before k early));
@@ -65,6 +66,7 @@ marking_stands k a phase plain left born orderly scanners finders but =
       orderly = orderly;
       scanners = scanners;
       finders = finders;
+      there = there;
       facts = λ begun. but.facts;
       marking = λ now. record { coloured = but.coloured; reached = but.reached; found = but.found; left = left };
       clearing = λ now. absurd (false≢true (sym (ap (λ p. is_in p Clearing) phase) ∙ now));

@@ -1,20 +1,22 @@
 -- How references change as they are got or cleared, and what their referents read as.
-use Rattle.std.proofs.Common.{◌≡◌, ℕ, Bool, true, false, not, ◌&&◌, refl, sym, ap, subst, ◌∙◌}
-use Rattle.std.proofs.Common.{List, Option, Some, None, is_some, inl, inr}
+use Rattle.std.proofs.Common.{◌≡◌, ℕ, Bool, true, false, not, ◌&&◌, if◌then◌else◌, refl, sym, ap, subst, ◌∙◌}
+use Rattle.std.proofs.Common.{List, [], Option, Some, None, is_some, inl, inr}
 use Rattle.std.proofs.lemmas.Bool.{cases_Bool, and_parts, false≢true, true≢false}
 use Rattle.ref_base.specs.DoomedSets.{refers_into}
 use Rattle.ref_base.specs.DoomedSets.{any_is}
 use Rattle.ref_base.specs.Members.{has}
-use Rattle.ref_base.specs.Graphs.{Object, Reference, is_there}
-use Rattle.ref_base.specs.Paths.{Allowed, present, allowed_referent, is_phantom, is_soft}
-use Rattle.ref_base.specs.KeptPaths.{is_kept}
-use Rattle.ref_base.specs.Heaps.{Heap, slot_at, changed_in}
+use Rattle.ref_base.specs.Graphs.{Object, Reference, object_at, is_there}
+use Rattle.ref_base.specs.Paths.{Allowed, present, allowed_referent, targets_of, targets_at, is_phantom, is_soft}
+use Rattle.ref_base.specs.Paths.{is_weak, soft_and_weak_referents}
+use Rattle.ref_base.specs.Heaps.{Heap, slot_at, reference_in, changed_in}
 use Rattle.ref_base.specs.Heaps.{changed_reference, with_reference, cleared, got_at, got}
 use Rattle.ref_base.specs.Refusals.{is_in, reference_refusal}
 use Rattle.ref_base.specs.CollectorRows.{reference_of, referent_got}
 use Rattle.ref_base.specs.declared.phase.Phase.TheVariants.{Marking}
-use Rattle.ref_base.proofs.HasLaws.{has-left, has-cases}
-use Rattle.ref_mark.specs.CycleHeaps.{CycleHeap, policy_in, is_white, is_past_mark, is_doomed, undoomed}
+use Rattle.ref_base.specs.declared.strength.Strength.{Strength}
+use Rattle.ref_base.specs.declared.strength.Strength.TheVariants.{Soft, Weak, Phantom}
+use Rattle.ref_base.proofs.HasLaws.{has-first, has-left, has-right, has-cases}
+use Rattle.ref_mark.specs.CycleHeaps.{CycleHeap, is_white, is_past_mark, is_doomed, undoomed}
 use Rattle.ref_mark.specs.CycleHeaps.{barred, with_got}
 use Rattle.ref_mark.proofs.Shading.{refers_into-wider}
 use Rattle.ref_base.proofs.Lookups.{allowed_referent-cases, lookup-changed}
@@ -57,14 +59,12 @@ refers_into_doomed-past k (Some r) met = any_doomed-past k r.referent met
 pub cleared_becomes : (k : CycleHeap) (roots : List ℕ) (o : Object) → refers_into (is_doomed k) o.reference ≡ false
     → MayBecome k roots o (with_reference cleared o)
 cleared_becomes k roots o keeps =
-    let referents = allowed_referent (is_kept (policy_in k)) o.reference in
-    let after = allowed_referent (is_kept (policy_in k)) (changed_reference cleared o.reference) in
     record {
-      leads = λ n target.
-          elim (has-cases (present o.fields) after n target) [
-            | inl field ↦ inl (has-left (present o.fields) referents n field)
-            | inr referent ↦
-                absurd (true≢false (sym referent ∙ cleared_leads (is_kept (policy_in k)) o.reference n))
+      leads = λ allow n target.
+          elim
+          (has-cases (present o.fields) (allowed_referent allow (changed_reference cleared o.reference)) n target) [
+            | inl field ↦ inl (has-left (present o.fields) (allowed_referent allow o.reference) n field)
+            | inr referent ↦ absurd (true≢false (sym referent ∙ cleared_leads allow o.reference n))
           ];
       references = still_some cleared o.reference;
       to_white = λ meets. absurd (true≢false (sym meets ∙ cleared_refers (is_white k) o.reference));
@@ -105,6 +105,35 @@ referent_got-some r n is =
       | inr other ↦ simp other at is
     ]
 
+not_phantom : (s : Strength) → is_phantom s ≡ false → (if is_soft s then true else is_weak s) ≡ true
+not_phantom Soft other = refl
+not_phantom Weak other = refl
+not_phantom Phantom other = sym other
+
+got_allowed : (r : Option Reference) (n : ℕ) → referent_got r ≡ Some n
+    → has (allowed_referent soft_and_weak_referents r) n ≡ true
+got_allowed None n is = absurd (cc)
+got_allowed (Some r) n is =
+    let gave : r.referent ≡ Some n = referent_got-some r n is in
+    elim (cases_Bool (is_phantom r.strength)) [
+      | inl phantom ↦ let nothing : None ≡ Some n = simp phantom at is in absurd (cc)
+      | inr other ↦
+          let may : (if is_soft r.strength then true else is_weak r.strength) ≡ true = not_phantom r.strength other in
+          simp (may, gave) (has-first n [])
+    ]
+
+got_target : (o : Option Object) (n : ℕ) → referent_got (reference_in o) ≡ Some n
+    → has (targets_of soft_and_weak_referents o) n ≡ true
+got_target None n is = absurd (cc)
+got_target (Some o) n is =
+    has-right (present o.fields) (allowed_referent soft_and_weak_referents o.reference) n
+    (got_allowed o.reference n is)
+
+-- a reference leads to what it gives
+pub gives_target : (h : Heap) (i n : ℕ) → referent_got (reference_of h (Some i)) ≡ Some n
+    → has (targets_at soft_and_weak_referents h.objects i) n ≡ true
+gives_target h i n is = got_target (object_at h.objects i) n is
+
 -- what a reference that was got leads to is what it gave
 got_leads : (k : CycleHeap) (allow : Allowed) (clock : ℕ) (r : Option Reference) (n i : ℕ)
     → undoomed k (referent_got r) ≡ Some n
@@ -122,14 +151,14 @@ pub got_becomes : (k : CycleHeap) (clock : ℕ) (roots : List ℕ) (o : Object) 
     → undoomed k (referent_got o.reference) ≡ Some n
     → has roots n ≡ true → MayBecome k roots o (with_reference (got_at clock) o)
 got_becomes k clock roots o n is root =
-    let goes_to = is_kept (policy_in k) in
-    let after = allowed_referent goes_to (changed_reference (got_at clock) o.reference) in
     record {
-      leads = λ i target.
-          elim (has-cases (present o.fields) after i target) [
-            | inl field ↦ inl (has-left (present o.fields) (allowed_referent goes_to o.reference) i field)
+      leads = λ allow i target.
+          elim
+          (has-cases (present o.fields) (allowed_referent allow (changed_reference (got_at clock) o.reference)) i
+          target) [
+            | inl field ↦ inl (has-left (present o.fields) (allowed_referent allow o.reference) i field)
             | inr referent ↦
-                inr (subst (λ j. has roots j ≡ true) (got_leads k goes_to clock o.reference n i is referent) root)
+                inr (subst (λ j. has roots j ≡ true) (got_leads k allow clock o.reference n i is referent) root)
           ];
       references = still_some (got_at clock) o.reference;
       to_white = λ meets. sym (got_refers (is_white k) clock o.reference) ∙ meets;

@@ -5,7 +5,7 @@ use Rattle.std.specs.Prelude.{slice_set}
 use Rattle.std.proofs.lemmas.Bool.{cases_Bool, and_parts, or_left, eq-eqb}
 use Rattle.std.proofs.lemmas.List.{length-set}
 use Rattle.ref_base.specs.Members.{has}
-use Rattle.ref_base.specs.Graphs.{Object, Reference}
+use Rattle.ref_base.specs.Graphs.{Object, Reference, is_there}
 use Rattle.ref_base.specs.Paths.{present}
 use Rattle.ref_base.specs.DoomedSets.{refers_into}
 use Rattle.ref_base.specs.Heaps.{Heap, slot_at, with_slot, reference_in, changed_in}
@@ -34,11 +34,12 @@ use Rattle.ref_mark.proofs.ShownReads.{reference_of-shown, undoomed-among, undoo
 use Rattle.ref_mark.proofs.Moves.{Change, moved, IsMove}
 use Rattle.ref_mark.proofs.MovedStates.{moved_stands, alongside_itself}
 use Rattle.ref_mark.proofs.ShadedMoves.{barred_row}
-use Rattle.ref_mark.proofs.RootFacts.{slot_off, slot_root, root_is_not_white, roots_of_set, slot_within, past_from}
+use Rattle.ref_mark.proofs.RootFacts.{slot_off, slot_root, root_is_not_white, root_is_there, roots_of_set, named_of_set}
+use Rattle.ref_mark.proofs.RootFacts.{slot_is_not_due, slot_within, past_from}
 use Rattle.ref_mark.proofs.MoveKinds.{rooted, rooted_move, altered, altered_move}
 use Rattle.ref_mark.proofs.SlotRows.{set_stands}
 use Rattle.ref_mark.proofs.ReferenceMoves.{reference_refusal-there, refers_into_doomed-past, cleared_becomes}
-use Rattle.ref_mark.proofs.ReferenceMoves.{got_becomes, undoomed-some, with_got-barred, reference_of-held}
+use Rattle.ref_mark.proofs.ReferenceMoves.{got_becomes, gives_target, undoomed-some, with_got-barred, reference_of-held}
 
 module _ (k : CycleHeap) (a : State) (stands : Stands k a) where
   -- what is told of a reference in a slot, told so of what is shown, is told of it as it reads
@@ -64,7 +65,7 @@ module _ (k : CycleHeap) (a : State) (stands : Stands k a) where
   unmoved : IsMove k (rooted k k.heap.slots k.heap.holds) (pending_numbers a.world.pending) []
   unmoved =
       rooted_move k a k.heap.slots k.heap.holds (pending_numbers a.world.pending) [] stands refl
-      (λ begun n root. inl (root_is_not_white k a stands begun n root))
+      (λ begun n root. inl (root_is_not_white k a stands begun n root)) (root_is_there k a stands)
 
   -- what mutators read stays as it is
   pub unmoved_stands : (h : Heap) → Agrees k h → Stands k (ticked (on_heap a h))
@@ -113,7 +114,7 @@ clear_row k a m s stands accepted =
           let cuts : with_cleared k m s ≡ record k { heap = cut k.heap m s } = simp keeps refl in
           let move : IsMove k c pending [] =
           altered_move k a k.heap.slots k.heap.holds holder.0 f pending [] stands (λ o. refl) refl
-          (λ begun n root. inl (root_is_not_white k a stands begun n root))
+          (λ begun n root. inl (root_is_not_white k a stands begun n root)) (root_is_there k a stands)
           (λ o found.
           let own : refers_into (is_doomed k) o.reference ≡ false =
           ap (λ (p : Option Object). refers_into (is_doomed k) (reference_in p)) (sym found)
@@ -139,7 +140,7 @@ get_values k a m d s None stands is there =
       ticked (on_heap a (with_slot a.world.heap m d None)),
       (refl, refl),
       subst (λ (j : CycleHeap). Stands j (ticked (on_heap a (with_slot a.world.heap m d None)))) (sym same)
-          (set_stands k a m d None stands (λ begun n none. absurd (cc))),
+          (set_stands k a m d None stands (λ begun n none. absurd (cc)) (λ n none. absurd (cc))),
     )
 get_values k a m d s (Some n) stands is there =
     let pending = pending_numbers a.world.pending in
@@ -152,12 +153,20 @@ get_values k a m d s (Some n) stands is there =
     let root : has (present set ++ k.heap.holds ++ pending) n ≡ true =
     slot_root (present set) k.heap.holds pending n
     (has-present_here k.heap.slots (16 * m + d) n (slot_within k a m d stands there)) in
+    let gives : referent_got (reference_of k.heap (slot_at k.heap m s)) ≡ Some n =
+    (undoomed-some k (referent_got (reference_of k.heap (slot_at k.heap m s))) n is).0 in
+    let given : is_there k.heap.objects n ≡ true =
+    stands.there.led holder.0 n (slot_is_not_due k a m s holder.0 stands holder.1)
+    (gives_target k.heap holder.0 n
+    (ap (λ (held : Option ℕ). referent_got (reference_of k.heap held)) (sym holder.1) ∙ gives)) in
     let move : (todo : List ℕ)
     → (is_in_cycle k.phase ≡ true → (i : ℕ) → Some n ≡ Some i → (is_white k i ≡ false) ⊎ (has todo i ≡ true))
     → IsMove k c pending todo = λ todo allowed.
     altered_move k a set k.heap.holds holder.0 f pending todo stands (λ o. refl)
     (length-set k.heap.slots (16 * m + d) (Some n))
     (λ begun. roots_of_set k a stands begun (16 * m + d) (Some n) todo (allowed begun))
+    (named_of_set k a stands (16 * m + d) (Some n)
+    (λ i own. subst (λ j. is_there k.heap.objects j ≡ true) (let e : Some n ≡ Some i = own in cc) given))
     (λ o found.
     let gave : undoomed k (referent_got o.reference) ≡ Some n =
     ap (λ (p : Option Object). undoomed k (referent_got (reference_in p))) (sym found)

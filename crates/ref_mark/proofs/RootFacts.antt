@@ -3,11 +3,11 @@
 use Rattle.std.proofs.Common.{◌≡◌, ℕ, ◌+◌, ◌*◌, ◌<◌, true, false, refl, sym, ap, subst, arith, nat_lt}
 use Rattle.std.proofs.Common.{List, [], ◌++◌, length, Option, Some, None, ◌⊎◌, inl, inr}
 use Rattle.std.specs.Prelude.{slice_set}
-use Rattle.std.proofs.lemmas.Bool.{and_parts, false≢true, true≢false, or_left, or_right, ltb-true}
+use Rattle.std.proofs.lemmas.Bool.{cases_Bool, and_parts, false≢true, true≢false, or_left, or_right, ltb-true}
 use Rattle.ref_base.specs.DoomedSets.{any_is}
 use Rattle.ref_base.specs.Members.{has}
 use Rattle.ref_base.specs.Graphs.{is_there}
-use Rattle.ref_base.specs.Paths.{present, targets_at}
+use Rattle.ref_base.specs.Paths.{present, targets_at, soft_and_weak_referents}
 use Rattle.ref_base.specs.KeptPaths.{is_kept}
 use Rattle.ref_base.specs.Heaps.{Heap, slot_at}
 use Rattle.ref_base.specs.Worlds.{pending_numbers}
@@ -16,8 +16,8 @@ use Rattle.ref_base.specs.Collectors.{State}
 use Rattle.ref_base.specs.declared.phase.Phase.{Phase}
 use Rattle.ref_base.specs.declared.phase.Phase.TheVariants.{Idle, Marking, Clearing, Sweeping}
 use Rattle.ref_base.proofs.HasLaws.{has-left, has-right, has-cases}
-use Rattle.ref_mark.specs.CycleHeaps.{is_in_cycle, CycleHeap, policy_in, is_white, is_black, is_past_mark}
-use Rattle.ref_mark.specs.Standing.{Stands}
+use Rattle.ref_mark.specs.CycleHeaps.{is_in_cycle, CycleHeap, policy_in, is_white, is_black, is_past_mark, is_due}
+use Rattle.ref_mark.specs.Standing.{AreThere, Stands}
 use Rattle.ref_mark.proofs.Shading.{not_white_marked}
 use Rattle.ref_mark.proofs.Moves.{leading_is_there}
 use Rattle.ref_base.proofs.Lookups.{has-present_set, has-present_at}
@@ -72,6 +72,60 @@ slot_within k a m s stands there =
     let count : length k.heap.slots ≡ 16 * k.heap.config.mutators = stands.orderly.slots in
     omega (arith, mutator, slot, count)
 
+module _ (k : CycleHeap) (a : State) (stands : Stands k a) where
+  -- what a root names is there
+  pub root_is_there : (n : ℕ)
+      → has (present k.heap.slots ++ k.heap.holds ++ pending_numbers a.world.pending) n ≡ true
+      → is_there k.heap.objects n ≡ true
+  root_is_there n root =
+      stands.there.named n
+      (subst (λ (h : Heap). has (present h.slots ++ h.holds ++ pending_numbers a.world.pending) n ≡ true)
+      (sym stands.heap) root)
+
+  pub slot_is_there : (m s n : ℕ) → slot_at k.heap m s ≡ Some n → is_there k.heap.objects n ≡ true
+  slot_is_there m s n is =
+      root_is_there n
+      (slot_root (present k.heap.slots) k.heap.holds (pending_numbers a.world.pending) n
+      (has-present_at k.heap.slots (16 * m + s) n is))
+
+  -- out of Sweeping nothing is due, and all stays there where the objects do
+  pub plain_there : is_in k.phase Sweeping ≡ false → (j : CycleHeap) → j.heap.objects ≡ k.heap.objects
+      → AreThere j (present k.heap.slots ++ k.heap.holds ++ pending_numbers a.world.pending)
+  plain_there quiet j same = record {
+    named = λ n root. subst (λ os. is_there os n ≡ true) (sym same) (root_is_there n root);
+    led = λ m n due target.
+        subst (λ os. is_there os n ≡ true) (sym same)
+        (stands.there.led m n (simp quiet refl)
+        (subst (λ os. has (targets_at soft_and_weak_referents os m) n ≡ true) same target));
+  }
+
+  -- where a slot is set to a value, what holds of all roots and of that value holds of all roots then
+  pub each_root_of_set : (P : ℕ → Type 0) (i : ℕ) (value : Option ℕ)
+      → ((n : ℕ) → has (present k.heap.slots ++ k.heap.holds ++ pending_numbers a.world.pending) n ≡ true → P n)
+      → ((n : ℕ) → value ≡ Some n → P n) → (n : ℕ)
+      → has (present (slice_set k.heap.slots i value) ++ k.heap.holds ++ pending_numbers a.world.pending) n ≡ true
+      → P n
+  each_root_of_set P i value before now n root =
+      let pending = pending_numbers a.world.pending in
+      elim (root_cases (present (slice_set k.heap.slots i value)) k.heap.holds pending n root) [
+        | inl slot ↦ elim (has-present_set k.heap.slots i value n slot) [
+          | inl old ↦ before n (slot_root (present k.heap.slots) k.heap.holds pending n old)
+          | inr is ↦ now n is
+        ]
+        | inr other ↦ elim other [
+          | inl hold ↦ before n (hold_root (present k.heap.slots) k.heap.holds pending n hold)
+          | inr last ↦ before n (pending_root (present k.heap.slots) k.heap.holds pending n last)
+        ]
+      ]
+
+  -- so all of them are there, if that value is
+  pub named_of_set : (i : ℕ) (value : Option ℕ) → ((n : ℕ) → value ≡ Some n → is_there k.heap.objects n ≡ true)
+      → (n : ℕ)
+      → has (present (slice_set k.heap.slots i value) ++ k.heap.holds ++ pending_numbers a.world.pending) n ≡ true
+      → is_there k.heap.objects n ≡ true
+  named_of_set i value there =
+      each_root_of_set (λ n. is_there k.heap.objects n ≡ true) i value root_is_there there
+
 module _ (k : CycleHeap) (a : State) (stands : Stands k a) (begun : is_in_cycle k.phase ≡ true) where
   -- a root isn't white
   pub root_is_not_white : (n : ℕ)
@@ -97,18 +151,9 @@ module _ (k : CycleHeap) (a : State) (stands : Stands k a) (begun : is_in_cycle 
       → ((n : ℕ) → value ≡ Some n → (is_white k n ≡ false) ⊎ (has todo n ≡ true)) → (n : ℕ)
       → has (present (slice_set k.heap.slots i value) ++ k.heap.holds ++ pending_numbers a.world.pending) n ≡ true
       → (is_white k n ≡ false) ⊎ (has todo n ≡ true)
-  roots_of_set i value todo allowed n root =
-      let pending = pending_numbers a.world.pending in
-      elim (root_cases (present (slice_set k.heap.slots i value)) k.heap.holds pending n root) [
-        | inl slot ↦ elim (has-present_set k.heap.slots i value n slot) [
-          | inl before ↦ inl (root_is_not_white n (slot_root (present k.heap.slots) k.heap.holds pending n before))
-          | inr is ↦ allowed n is
-        ]
-        | inr other ↦ elim other [
-          | inl hold ↦ inl (root_is_not_white n (hold_root (present k.heap.slots) k.heap.holds pending n hold))
-          | inr last ↦ inl (root_is_not_white n (pending_root (present k.heap.slots) k.heap.holds pending n last))
-        ]
-      ]
+  roots_of_set i value todo allowed =
+      each_root_of_set k a stands (λ n. (is_white k n ≡ false) ⊎ (has todo n ≡ true)) i value
+      (λ n root. inl (root_is_not_white n root)) allowed
 
   -- once the mark has ended nothing is grey
   pub no_grey_past : is_in k.phase Marking ≡ false → k.grey ≡ []
@@ -135,6 +180,24 @@ module _ (k : CycleHeap) (a : State) (stands : Stands k a) (begun : is_in_cycle 
         | inl next ↦ next
         | inr none ↦ absurd (false≢true none)
       ]
+
+sweeping_has_begun : (phase : Phase) → is_in phase Sweeping ≡ true → is_in_cycle phase ≡ true
+sweeping_has_begun Idle sweeping = sweeping
+sweeping_has_begun Marking sweeping = refl
+sweeping_has_begun Clearing sweeping = refl
+sweeping_has_begun Sweeping sweeping = refl
+
+-- what a slot holds isn't due to be swept
+pub slot_is_not_due : (k : CycleHeap) (a : State) (m s n : ℕ) → Stands k a → slot_at k.heap m s ≡ Some n
+    → is_due k n ≡ false
+slot_is_not_due k a m s n stands is =
+    elim (cases_Bool (is_in k.phase Sweeping)) [
+      | inl sweeping ↦
+          let other : is_white k n ≡ false =
+          slot_is_not_white k a stands (sweeping_has_begun k.phase sweeping) m s n is in
+          simp (sweeping, other) refl
+      | inr other ↦ simp other refl
+    ]
 
 -- where a cycle has begun, the object isn't white
 held_off : (k : CycleHeap) (a : State) (m s : ℕ) → Stands k a → is_in_cycle k.phase ≡ true → (held : Option ℕ)

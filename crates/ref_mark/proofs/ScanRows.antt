@@ -11,7 +11,7 @@ use Rattle.ref_base.specs.Worlds.{graph_of, policy_of}
 use Rattle.ref_base.specs.Refusals.{is_in, is_empty, work_refusal}
 use Rattle.ref_base.specs.Collectors.{State, joined}
 use Rattle.ref_base.specs.CollectorRows.{Scans, list_at}
-use Rattle.ref_base.specs.declared.phase.Phase.TheVariants.{Marking}
+use Rattle.ref_base.specs.declared.phase.Phase.TheVariants.{Marking, Sweeping}
 use Rattle.ref_base.specs.declared.reply.Reply.TheVariants as replies
 use Rattle.ref_base.proofs.HasLaws.{has-first}
 use Rattle.ref_mark.specs.CycleHeaps.{CycleHeap, policy_in, shaded_all, with_found, scanned_from, scanned}
@@ -20,6 +20,7 @@ use Rattle.ref_mark.specs.Worklists.{first_in}
 use Rattle.ref_mark.specs.MarkCalls.{scan_reply}
 use Rattle.ref_mark.proofs.Shading.{MarkingBut, shaded_all-only, shaded_all_marking, some_left, grey_is_left}
 use Rattle.ref_mark.proofs.Passed.{is_marking, work_passed}
+use Rattle.ref_mark.proofs.RootFacts.{plain_there}
 use Rattle.ref_mark.proofs.PlainStates.{plain_state, plain_state-is, marking_stands, plain_marking}
 use Rattle.ref_base.proofs.FoundLists.{AreFound-scanned, AreFound-more_found}
 use Rattle.ref_mark.proofs.Scanning.{reached_later, without_first, state_scanned, without_first_marking}
@@ -42,7 +43,8 @@ scan_none k a w stands phase is =
     } in (
       b,
       (left ∙ ap (λ ns. not (is_empty ns)) is, (refl, refl)),
-      marking_stands k b phase refl left stands.born stands.orderly stands.scanners stands.finders later,
+      marking_stands k b phase refl left stands.born stands.orderly stands.scanners stands.finders
+          (plain_there k a stands (ap (λ p. is_in p Sweeping) phase) k refl) later,
     )
 
 -- a scan of the first of the grey list
@@ -86,6 +88,7 @@ scan_some k a w n rest stands phase within is =
     let finders : length found ≡ k.heap.config.workers = length-with_found i w n ∙ stands.finders in
     let stands_then : Stands (record i { found = found }) b =
     marking_stands (record i { found = found }) b phase refl refl stands.born stands.orderly scanners finders
+    (plain_there k a stands (ap (λ p. is_in p Sweeping) phase) (record i { found = found }) refl)
     (subst (λ (l : CycleHeap). MarkingBut l b [] []) found_only done) in
     let now : is_in k.phase Marking ≡ true = ap (λ p. is_in p Marking) phase in
     let was_left : a.left ≡ true = (stands.marking now).left ∙ ap (λ ns. not (is_empty ns)) is in

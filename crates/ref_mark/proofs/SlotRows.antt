@@ -5,8 +5,9 @@ use Rattle.std.specs.Prelude.{slice_set}
 use Rattle.std.proofs.lemmas.Bool.{cases_Bool, and_parts, or_left, eq-eqb}
 use Rattle.std.proofs.lemmas.List.{length-set}
 use Rattle.ref_base.specs.Members.{has}
-use Rattle.ref_base.specs.Graphs.{Object, object_at}
+use Rattle.ref_base.specs.Graphs.{Object, object_at, is_there}
 use Rattle.ref_base.specs.Paths.{Allowed, present, targets_of, targets_at, allowed_referent}
+use Rattle.ref_base.specs.Paths.{soft_and_weak_referents}
 use Rattle.ref_base.specs.KeptPaths.{is_kept}
 use Rattle.ref_base.specs.Heaps.{Heap, slot_at, with_slot}
 use Rattle.ref_base.specs.Worlds.{pending_numbers}
@@ -27,7 +28,7 @@ use Rattle.ref_mark.proofs.MovedStates.{moved_stands, alongside_itself}
 use Rattle.ref_mark.proofs.ShadedMoves.{barred_row}
 use Rattle.ref_base.proofs.Lookups.{has-present_here, has-present_at}
 use Rattle.ref_mark.proofs.RootFacts.{slot_root, slot_is_not_white, roots_of_set, lead_is_not_white}
-use Rattle.ref_mark.proofs.RootFacts.{slot_within}
+use Rattle.ref_mark.proofs.RootFacts.{slot_within, named_of_set, slot_is_there, slot_is_not_due}
 use Rattle.ref_mark.proofs.MoveKinds.{rooted, rooted_move}
 use Rattle.ref_base.proofs.RowForms.{unless_parts}
 
@@ -36,18 +37,21 @@ use Rattle.ref_base.proofs.RowForms.{unless_parts}
 -- a slot is set to a value that isn't white, but for what is still to be shaded
 pub slot_move : (k : CycleHeap) (a : State) (i : ℕ) (value : Option ℕ) (todo : List ℕ) → Stands k a
     → (is_in_cycle k.phase ≡ true → (n : ℕ) → value ≡ Some n → (is_white k n ≡ false) ⊎ (has todo n ≡ true))
+    → ((n : ℕ) → value ≡ Some n → is_there k.heap.objects n ≡ true)
     → IsMove k (rooted k (slice_set k.heap.slots i value) k.heap.holds) (pending_numbers a.world.pending) todo
-slot_move k a i value todo stands allowed =
+slot_move k a i value todo stands allowed there =
     rooted_move k a (slice_set k.heap.slots i value) k.heap.holds (pending_numbers a.world.pending) todo stands
     (length-set k.heap.slots i value)
-    (λ begun. roots_of_set k a stands begun i value todo (allowed begun))
+    (λ begun. roots_of_set k a stands begun i value todo (allowed begun)) (named_of_set k a stands i value there)
 
 pub set_stands : (k : CycleHeap) (a : State) (m d : ℕ) (value : Option ℕ) → Stands k a
     → (is_in_cycle k.phase ≡ true → (n : ℕ) → value ≡ Some n → is_white k n ≡ false)
+    → ((n : ℕ) → value ≡ Some n → is_there k.heap.objects n ≡ true)
     → Stands (record k { heap = with_slot k.heap m d value }) (ticked (on_heap a (with_slot a.world.heap m d value)))
-set_stands k a m d value stands allowed =
+set_stands k a m d value stands allowed there =
     let c : Change = rooted k (slice_set k.heap.slots (16 * m + d) value) k.heap.holds in
-    moved_stands k c a stands (slot_move k a (16 * m + d) value [] stands (λ begun n is. inl (allowed begun n is)))
+    moved_stands k c a stands
+    (slot_move k a (16 * m + d) value [] stands (λ begun n is. inl (allowed begun n is)) there)
     (with_slot a.world.heap m d value) a.next (ap (λ (h : Heap). with_slot h m d value) stands.heap) stands.next
 
 -- ---- copies and drops
@@ -63,7 +67,8 @@ copy_row k a m d s stands =
         ap value_reply (sym same),
         ap (λ (v : Option ℕ). ticked (on_heap a (with_slot a.world.heap m d v))) (sym same),
       ),
-      set_stands k a m d value stands (λ begun n is. slot_is_not_white k a stands begun m s n is),
+      set_stands k a m d value stands (λ begun n is. slot_is_not_white k a stands begun m s n is)
+          (λ n is. slot_is_there k a stands m s n is),
     )
 
 pub drop_row : (k : CycleHeap) (a : State) (m s : ℕ) → Stands k a
@@ -72,7 +77,7 @@ pub drop_row : (k : CycleHeap) (a : State) (m s : ℕ) → Stands k a
 drop_row k a m s stands = (
   ticked (on_heap a (with_slot a.world.heap m s None)),
   (refl, refl),
-  set_stands k a m s None stands (λ begun n is. absurd (cc)),
+  set_stands k a m s None stands (λ begun n is. absurd (cc)) (λ n is. absurd (cc)),
 )
 
 -- ---- loads
@@ -98,7 +103,7 @@ load_values k a m d s i None stands is there =
       ticked (on_heap a (with_slot a.world.heap m d None)),
       (refl, refl),
       subst (λ (j : CycleHeap). Stands j (ticked (on_heap a (with_slot a.world.heap m d None)))) (sym same)
-          (set_stands k a m d None stands (λ begun n none. absurd (cc))),
+          (set_stands k a m d None stands (λ begun n none. absurd (cc)) (λ n none. absurd (cc))),
     )
 load_values k a m d s i (Some n) stands is there =
     let pending = pending_numbers a.world.pending in
@@ -116,16 +121,21 @@ load_values k a m d s i (Some n) stands is there =
       | inr quiet ↦ simp quiet refl
     ] in
     let source = field_of-leads (is_kept (policy_in k)) k.heap (slot_at k.heap m s) i n is in
+    let by_any = field_of-leads soft_and_weak_referents k.heap (slot_at k.heap m s) i n is in
+    let given : is_there k.heap.objects n ≡ true =
+    stands.there.led by_any.0 n (slot_is_not_due k a m s by_any.0 stands by_any.1) by_any.2 in
+    let own_there : (j : ℕ) → Some n ≡ Some j → is_there k.heap.objects j ≡ true =
+    λ j own. subst (λ o. is_there k.heap.objects o ≡ true) (let e : Some n ≡ Some j = own in cc) given in
     let row = barred_row k c a a.world (alongside_itself a.world) n stands root
     (with_slot a.world.heap m d (Some n)) (replies.Object n)
     (λ marking. slot_move k a (16 * m + d) (Some n) (n ∷ []) stands
-    (λ begun j own. inr (or_left (n == j) false (eq-eqb n j (let e : Some n ≡ Some j = own in cc)))))
+    (λ begun j own. inr (or_left (n == j) false (eq-eqb n j (let e : Some n ≡ Some j = own in cc)))) own_there)
     (λ quiet. slot_move k a (16 * m + d) (Some n) [] stands
     (λ begun j own.
     inl
     (subst (λ o. is_white k o ≡ false) (let e : Some n ≡ Some j = own in cc)
     (lead_is_not_white k a stands begun quiet source.0 n
-    (slot_is_not_white k a stands begun m s source.0 source.1) source.2))))
+    (slot_is_not_white k a stands begun m s source.0 source.1) source.2))) own_there)
     refl (ap (λ (h : Heap). with_slot h m d (Some n)) stands.heap) in
     (row.0, row.1, subst (λ (j : CycleHeap). Stands j row.0) (sym same) row.2)
 

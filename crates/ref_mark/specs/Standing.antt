@@ -4,7 +4,7 @@ use Rattle.std.specs.Prelude.{◌≡◌, ℕ, ◌<◌, ◌≤◌, Bool, true, fa
 use Rattle.std.specs.Prelude.{List, [], length, map}
 use Rattle.ref_base.specs.Members.{has, AreDistinct}
 use Rattle.ref_base.specs.Graphs.{Graph, is_there}
-use Rattle.ref_base.specs.Paths.{targets_at}
+use Rattle.ref_base.specs.Paths.{targets_at, soft_and_weak_referents}
 use Rattle.ref_base.specs.KeptPaths.{is_kept, EverKept}
 use Rattle.ref_base.specs.DoomedSets.{refers_into}
 use Rattle.ref_base.specs.Heaps.{Heap, reference_at}
@@ -15,7 +15,7 @@ use Rattle.ref_base.specs.Collectors.{State, joined}
 use Rattle.ref_base.specs.CollectorRows.{shown, AreFound}
 use Rattle.ref_base.specs.Forgetting.{heap_but}
 use Rattle.ref_base.specs.declared.phase.Phase.TheVariants.{Marking, Clearing, Sweeping}
-use Rattle.ref_mark.specs.CycleHeaps.{CycleHeap, policy_in, is_white, is_black, is_in_cycle, doomed}
+use Rattle.ref_mark.specs.CycleHeaps.{CycleHeap, policy_in, is_white, is_black, is_in_cycle, is_due, doomed}
 
 -- ---- the heap as it is read
 
@@ -99,6 +99,16 @@ pub record InSweeping (k : CycleHeap) : Type 0 where
   pub no_grey : k.grey ≡ []
   pub none_left : (n : ℕ) → is_black k n ≡ true → refers_into (is_white k) (reference_at k.heap n) ≡ false
 
+-- ---- what is there
+
+-- What a root names is there; and so is what an object leads to that isn't due to be swept, by its fields or as a soft
+-- or weak reference.
+pub record AreThere (k : CycleHeap) (roots : List ℕ) : Type 0 where
+  pub named : (n : ℕ) → has roots n ≡ true → is_there k.heap.objects n ≡ true
+  pub led :
+      (m n : ℕ) → is_due k m ≡ false → has (targets_at soft_and_weak_referents k.heap.objects m) n ≡ true
+      → is_there k.heap.objects n ≡ true
+
 -- ---- standing
 
 -- The heap stands for the state: they agree in what they both have, the heap's as mutators read it, and each phase has
@@ -114,6 +124,7 @@ pub record Stands (k : CycleHeap) (a : State) : Type 0 where
   pub orderly : IsOrderly k.heap k.next
   pub scanners : length a.scanned ≡ k.heap.config.workers
   pub finders : length k.found ≡ k.heap.config.workers
+  pub there : AreThere k (graph_of a.world).roots
   pub facts : is_in_cycle k.phase ≡ true → FactsBut k (graph_of a.world).roots []
   pub marking : is_in k.phase Marking ≡ true → InMarking k a.born a.moments a.scanned a.left
   pub clearing : is_in k.phase Clearing ≡ true → InClearing k a.found a.cleared
