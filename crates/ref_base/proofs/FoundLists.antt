@@ -33,7 +33,7 @@ joined-with_last (ns ∷ rest) (suc w) n within =
       ap (λ ms. ns ++ ms) later.3 ∙ sym (append_assoc ns later.0 (n ∷ later.1)),
     )
 
-has-between : (front back : List ℕ) (n m : ℕ) → has (front ++ (n ∷ back)) m ≡ ((n == m) || has (front ++ back) m)
+pub has-between : (front back : List ℕ) (n m : ℕ) → has (front ++ (n ∷ back)) m ≡ ((n == m) || has (front ++ back) m)
 has-between front back n m =
     has-append front (n ∷ back) m ∙ or-swap (has front m) (n == m) (has back m)
     ∙ ap (λ b. (n == m) || b) (sym (has-append front back m))

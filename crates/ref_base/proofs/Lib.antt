@@ -25,6 +25,7 @@ pub mod Forgetting
 pub mod StillFound
 pub mod FoundLists
 pub mod NewClears
+pub mod LeavingLaws
 mod ReplayExamples
 mod LegalExamples
 mod IllegalExamples
