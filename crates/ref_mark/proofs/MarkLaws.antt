@@ -32,7 +32,7 @@ module _ (k : CycleHeap) (a : State) (stands : Stands k a) where
   -- ---- refusals
 
   -- what is forgotten or reads as cleared changes no refusal
-  on_own_heap : (step : NamedStep) → heap_refusal k.heap_no a step ≡ heap_refusal k.heap_no (on_heap a k.heap) step
+  pub on_own_heap : (step : NamedStep) → heap_refusal k.heap_no a step ≡ heap_refusal k.heap_no (on_heap a k.heap) step
   on_own_heap step =
       sym (same_refusal (λ o. forgotten (unsaid k) o) (forgotten-shape (unsaid k)) k.heap_no a step)
       ∙ ap (λ (h : Heap). heap_refusal k.heap_no (on_heap a h) step) stands.heap

@@ -42,7 +42,7 @@ marking_is_not Sweeping marking = (refl, sym marking)
 clearing_is_past : (phase : Phase) → is_in phase Clearing ≡ true → is_past_mark phase ≡ true
 clearing_is_past phase clearing = or_left (is_in phase Clearing) (is_in phase Sweeping) clearing
 
-sweeping_is_past : (phase : Phase) → is_in phase Sweeping ≡ true → is_past_mark phase ≡ true
+pub sweeping_is_past : (phase : Phase) → is_in phase Sweeping ≡ true → is_past_mark phase ≡ true
 sweeping_is_past phase sweeping = or_right (is_in phase Clearing) (is_in phase Sweeping) sweeping
 
 -- ---- what a tick leaves

@@ -21,6 +21,18 @@ is_marking Marking is = refl
 is_marking Clearing is = absurd (false≢true is)
 is_marking Sweeping is = absurd (false≢true is)
 
+pub is_clearing : (phase : Phase) → is_in phase Clearing ≡ true → phase ≡ Clearing
+is_clearing Idle is = absurd (false≢true is)
+is_clearing Marking is = absurd (false≢true is)
+is_clearing Clearing is = refl
+is_clearing Sweeping is = absurd (false≢true is)
+
+pub is_sweeping : (phase : Phase) → is_in phase Sweeping ≡ true → phase ≡ Sweeping
+is_sweeping Idle is = absurd (false≢true is)
+is_sweeping Marking is = absurd (false≢true is)
+is_sweeping Clearing is = absurd (false≢true is)
+is_sweeping Sweeping is = refl
+
 -- a cycle begins where none is under way
 pub begin_passed : (k : CycleHeap) (now : ℕ) → begin_refusal k.phase k.heap.clock k.cycle now ≡ None → k.phase ≡ Idle
 begin_passed k now none =

@@ -49,7 +49,7 @@ pub is_new_clear-reference : (k : CycleHeap) (h : Heap) (n : ℕ) (strength : St
 is_new_clear-reference k h n strength referent queue count unmet =
     and_right (not (has (doomed k) n)) (any_is (has (doomed k)) referent) (any_doomed k referent unmet)
 
-young-heap : (k : CycleHeap) (n : ℕ) → (young k n).heap ≡ k.heap
+pub young-heap : (k : CycleHeap) (n : ℕ) → (young k n).heap ≡ k.heap
 young-heap k n =
     elim (cases_Bool (is_in_cycle k.phase)) [
       | inl begun ↦ elim (cases_Bool (is_white k n)) [

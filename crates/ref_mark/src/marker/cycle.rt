@@ -218,17 +218,4 @@ impl<A: Allocator + Copy> Marker<A> {
         }
         Ok(())
     }
-
-    // Why a worker's step is refused that this phase has.
-    pub(super) fn check_work(&self, worker: WorkerNo, phase: Phase) -> Result<(), Fault>
-        ensures { IsRefused (work_refusal self.now.heap self.now.phase phase worker) result }
-    {
-        if worker.0 >= self.objects.config().workers {
-            return Err(Fault::NoSuchActor);
-        }
-        if self.phase != phase {
-            return Err(Fault::WrongPhase);
-        }
-        Ok(())
-    }
 }

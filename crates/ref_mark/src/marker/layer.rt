@@ -23,6 +23,20 @@ impl<A: Allocator + Copy> Marker<A> {
         self.shade(no);
     }
 
+    /// Whether this worker may take a step that this phase has. Tried in this order: `NoSuchActor`, `WrongPhase`. In
+    /// constant time.
+    pub fn check_work(&self, worker: WorkerNo, phase: Phase) -> Result<(), Fault>
+        ensures { IsRefused (work_refusal self.now.heap self.now.phase phase worker) result }
+    {
+        if worker.0 >= self.objects.config().workers {
+            return Err(Fault::NoSuchActor);
+        }
+        if self.phase != phase {
+            return Err(Fault::WrongPhase);
+        }
+        Ok(())
+    }
+
     /// Takes the first reference that a worker found and that wasn't looked at since; none where there is none. Tried
     /// in this order: `NoSuchActor`, `WrongPhase` but in Clearing. In constant time.
     pub fn take_found(&mut self, worker: WorkerNo) -> Result<Option<ObjNo>, Fault>
