@@ -1,5 +1,7 @@
 //! The hand of a story, which has one hold at most: a hold can't stand in a table.
 
+use crate::told::Told;
+use ref_base::{Fault, ObjNo};
 use ref_objects::Hold;
 
 /// Gives up what the hand had.
@@ -13,4 +15,45 @@ pub fn leak(hand: Option<Hold>) {
 /// Puts a hold into the hand; what it had before is given up.
 pub fn keep(hand: &mut Option<Hold>, hold: Hold) {
     leak(hand.replace(hold));
+}
+
+/// What the hand has.
+pub fn shown(hand: &Option<Hold>) -> Told {
+    match hand {
+        Some(hold) => Told::Held(hold.obj().0, hold.heap_no()),
+        None => Told::EmptyHand,
+    }
+}
+
+/// Takes a hold into the hand.
+pub fn taken(hand: &mut Option<Hold>, answer: Result<Hold, Fault>) -> Told {
+    match answer {
+        Ok(hold) => {
+            keep(hand, hold);
+            shown(hand)
+        }
+        Err(fault) => Told::Refused(fault),
+    }
+}
+
+/// What a heap answers that was to take the hand's hold back into a slot: one that it refuses is in the hand again.
+pub fn adopted(hand: &mut Option<Hold>, answer: Result<ObjNo, (Fault, Hold)>) -> Told {
+    match answer {
+        Ok(no) => Told::Object(no.0),
+        Err((fault, back)) => {
+            keep(hand, back);
+            Told::Refused(fault)
+        }
+    }
+}
+
+/// What a heap answers that was to take the hand's hold back: one that it refuses is in the hand again.
+pub fn released(hand: &mut Option<Hold>, answer: Result<(), (Fault, Hold)>) -> Told {
+    match answer {
+        Ok(()) => Told::Done,
+        Err((fault, back)) => {
+            keep(hand, back);
+            Told::Refused(fault)
+        }
+    }
 }

@@ -3,8 +3,10 @@
 mod cycles;
 mod refusals;
 
-use crate::hand::{keep, leak};
-use crate::told::{Told, done, found, is, made, value, value_or_fault};
+use crate::hand::{adopted, leak, released, taken};
+use crate::told::{
+    Told, began, done, doomed, found, is, is_or_fault, made, scanned, value, value_or_fault,
+};
 use ref_base::{Config, Fault, MutNo, ObjNo, QueueNo, SlotNo, Strength, Urgency, WorkerNo};
 use ref_mark::Marker;
 use ref_objects::{Hold, Start};
@@ -90,35 +92,6 @@ enum Keep {
     Leak,
 }
 
-fn is_or_fault(answer: Result<bool, Fault>) -> Told {
-    match answer {
-        Ok(answer) => is(answer),
-        Err(fault) => Told::Refused(fault),
-    }
-}
-
-fn began(answer: Result<u64, Fault>) -> Told {
-    match answer {
-        Ok(cycle) => Told::Began(cycle),
-        Err(fault) => Told::Refused(fault),
-    }
-}
-
-fn scanned(answer: Result<Option<ObjNo>, Fault>) -> Told {
-    match answer {
-        Ok(Some(no)) => Told::Scanned(no.0),
-        Ok(None) => Told::Nothing,
-        Err(fault) => Told::Refused(fault),
-    }
-}
-
-fn doomed(answer: Result<usize, Fault>) -> Told {
-    match answer {
-        Ok(count) => Told::Doomed(count),
-        Err(fault) => Told::Refused(fault),
-    }
-}
-
 fn found_or_fault(answer: Result<Option<ObjNo>, Fault>) -> Told {
     match answer {
         Ok(answer) => found(answer),
@@ -190,50 +163,22 @@ fn asked(heap: &Marker, call: Ask) -> Told {
     }
 }
 
-/// Takes a hold into the hand.
-fn taken(hand: &mut Option<Hold>, answer: Result<Hold, Fault>) -> Told {
-    match answer {
-        Ok(hold) => {
-            let told = Told::Held(hold.obj().0, hold.heap_no());
-            keep(hand, hold);
-            told
-        }
-        Err(fault) => Told::Refused(fault),
-    }
-}
-
-fn adopted(heap: &mut Marker, hand: &mut Option<Hold>, slot: u32) -> Told {
-    let Some(hold) = hand.take() else {
-        return Told::EmptyHand;
-    };
-    match heap.adopt(M, SlotNo(slot), hold) {
-        Ok(no) => Told::Object(no.0),
-        Err((fault, back)) => {
-            keep(hand, back);
-            Told::Refused(fault)
-        }
-    }
-}
-
-fn released(heap: &mut Marker, hand: &mut Option<Hold>) -> Told {
-    let Some(hold) = hand.take() else {
-        return Told::EmptyHand;
-    };
-    match heap.release(hold) {
-        Ok(()) => Told::Done,
-        Err((fault, back)) => {
-            keep(hand, back);
-            Told::Refused(fault)
-        }
-    }
-}
-
 fn kept(heap: &mut Marker, hand: &mut Option<Hold>, call: Keep) -> Told {
     match call {
         Keep::Hold(slot) => taken(hand, heap.hold(M, SlotNo(slot))),
         Keep::Mint(no) => taken(hand, heap.mint(ObjNo(no))),
-        Keep::Adopt(slot) => adopted(heap, hand, slot),
-        Keep::Release => released(heap, hand),
+        Keep::Adopt(slot) => {
+            let Some(hold) = hand.take() else {
+                return Told::EmptyHand;
+            };
+            adopted(hand, heap.adopt(M, SlotNo(slot), hold))
+        }
+        Keep::Release => {
+            let Some(hold) = hand.take() else {
+                return Told::EmptyHand;
+            };
+            released(hand, heap.release(hold))
+        }
         Keep::Leak => {
             leak(hand.take());
             Told::Done

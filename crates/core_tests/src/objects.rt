@@ -4,10 +4,10 @@ mod cells;
 mod memory;
 mod stories;
 
-use crate::hand::{keep, leak};
-use crate::told::{Told, done, found, is, made, value, value_or_fault};
-use ref_base::{Config, Fault, MutNo, ObjNo, QueueNo, SlotNo, Strength};
-use ref_objects::{Hold, Kind, Objects, Reference, Start};
+use crate::hand::{adopted, leak, released, shown, taken};
+use crate::told::{Told, done, found, is, kind, made, queue, value, value_or_fault};
+use ref_base::{Config, MutNo, ObjNo, QueueNo, SlotNo, Strength};
+use ref_objects::{Hold, Objects, Reference, Start};
 use std::alloc::{Allocator, Global};
 use std::mem;
 use std::process::Abort;
@@ -109,23 +109,9 @@ fn slot_at<A: Allocator + Copy>(heap: &Objects<A>, place: usize) -> Told {
     }
 }
 
-fn kind(answer: Option<Kind>) -> Told {
-    match answer {
-        Some(kind) => Told::Kind(kind),
-        None => Told::Nothing,
-    }
-}
-
 fn reference(answer: Option<Reference>) -> Told {
     match answer {
         Some(reference) => Told::Reference(reference),
-        None => Told::Nothing,
-    }
-}
-
-fn queue(answer: Option<QueueNo>) -> Told {
-    match answer {
-        Some(queue) => Told::Queue(queue.0),
         None => Told::Nothing,
     }
 }
@@ -188,56 +174,22 @@ fn asked<A: Allocator + Copy>(heap: &Objects<A>, call: Ask) -> Told {
     }
 }
 
-fn shown(hand: &Option<Hold>) -> Told {
-    match hand {
-        Some(hold) => Told::Held(hold.obj().0, hold.heap_no()),
-        None => Told::EmptyHand,
-    }
-}
-
-/// Takes a hold into the hand.
-fn taken(hand: &mut Option<Hold>, answer: Result<Hold, Fault>) -> Told {
-    match answer {
-        Ok(hold) => {
-            keep(hand, hold);
-            shown(hand)
-        }
-        Err(fault) => Told::Refused(fault),
-    }
-}
-
-fn adopted<A: Allocator + Copy>(heap: &mut Objects<A>, hand: &mut Option<Hold>, slot: u32) -> Told {
-    let Some(hold) = hand.take() else {
-        return Told::EmptyHand;
-    };
-    match heap.adopt(M, SlotNo(slot), hold) {
-        Ok(no) => Told::Object(no.0),
-        Err((fault, back)) => {
-            keep(hand, back);
-            Told::Refused(fault)
-        }
-    }
-}
-
-fn released<A: Allocator + Copy>(heap: &mut Objects<A>, hand: &mut Option<Hold>) -> Told {
-    let Some(hold) = hand.take() else {
-        return Told::EmptyHand;
-    };
-    match heap.release(hold) {
-        Ok(()) => Told::Done,
-        Err((fault, back)) => {
-            keep(hand, back);
-            Told::Refused(fault)
-        }
-    }
-}
-
 fn kept<A: Allocator + Copy>(heap: &mut Objects<A>, hand: &mut Option<Hold>, call: Keep) -> Told {
     match call {
         Keep::Hold(slot) => taken(hand, heap.hold(M, SlotNo(slot))),
         Keep::Mint(no) => taken(hand, heap.mint(ObjNo(no))),
-        Keep::Adopt(slot) => adopted(heap, hand, slot),
-        Keep::Release => released(heap, hand),
+        Keep::Adopt(slot) => {
+            let Some(hold) = hand.take() else {
+                return Told::EmptyHand;
+            };
+            adopted(hand, heap.adopt(M, SlotNo(slot), hold))
+        }
+        Keep::Release => {
+            let Some(hold) = hand.take() else {
+                return Told::EmptyHand;
+            };
+            released(hand, heap.release(hold))
+        }
         Keep::Leak => {
             leak(hand.take());
             Told::Done

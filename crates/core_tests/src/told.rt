@@ -1,6 +1,6 @@
 //! What a call of a heap answers.
 
-use ref_base::{Config, Fault, ObjNo, Phase};
+use ref_base::{Cause, Config, Fault, ObjNo, Phase, QueueNo};
 use ref_objects::{Kind, Reference};
 
 /// What a call of a heap's layers answers.
@@ -40,6 +40,18 @@ pub enum Told {
     /// So many are doomed.
     Doomed(usize),
     In(Phase),
+    /// This reference was cleared.
+    Cleared(u32),
+    /// This reference was looked at, and its referent lives.
+    Kept(u32),
+    /// This reference was looked at, and the program had cleared it.
+    Skipped(u32),
+    /// So many were freed.
+    Swept(u32),
+    /// A notice of this reference, for this queue, and why there is one.
+    Notice(u32, u32, Cause),
+    /// This reference is pending, for this queue, since this cycle.
+    Pending(u32, u32, u64),
 }
 
 pub fn done(answer: Result<(), Fault>) -> Told {
@@ -58,6 +70,13 @@ pub fn made(answer: Result<ObjNo, Fault>) -> Told {
 
 pub fn is(answer: bool) -> Told {
     if answer { Told::Yes } else { Told::No }
+}
+
+pub fn is_or_fault(answer: Result<bool, Fault>) -> Told {
+    match answer {
+        Ok(answer) => is(answer),
+        Err(fault) => Told::Refused(fault),
+    }
 }
 
 /// What a slot, a field or a referent is.
@@ -80,5 +99,41 @@ pub fn found(answer: Option<ObjNo>) -> Told {
     match answer {
         Some(no) => Told::Found(no.0),
         None => Told::Nothing,
+    }
+}
+
+pub fn kind(answer: Option<Kind>) -> Told {
+    match answer {
+        Some(kind) => Told::Kind(kind),
+        None => Told::Nothing,
+    }
+}
+
+pub fn queue(answer: Option<QueueNo>) -> Told {
+    match answer {
+        Some(queue) => Told::Queue(queue.0),
+        None => Told::Nothing,
+    }
+}
+
+pub fn began(answer: Result<u64, Fault>) -> Told {
+    match answer {
+        Ok(cycle) => Told::Began(cycle),
+        Err(fault) => Told::Refused(fault),
+    }
+}
+
+pub fn scanned(answer: Result<Option<ObjNo>, Fault>) -> Told {
+    match answer {
+        Ok(Some(no)) => Told::Scanned(no.0),
+        Ok(None) => Told::Nothing,
+        Err(fault) => Told::Refused(fault),
+    }
+}
+
+pub fn doomed(answer: Result<usize, Fault>) -> Told {
+    match answer {
+        Ok(count) => Told::Doomed(count),
+        Err(fault) => Told::Refused(fault),
     }
 }

@@ -1,0 +1,149 @@
+//! Heaps whose memory runs out.
+
+use super::Ask::{
+    Clock, CycleNo, HeapNo, HoldCount, InPhase, KindOf, ObjectCount, PendingOf, QueueOf, Size,
+    SlotOf,
+};
+use super::Call::{Ask, Collect, Give, Keep, Mutate};
+use super::Collect::{Begin, ClearNext, EndClear, EndMark, EndSweep, Scan, Sweep};
+use super::Give::{Hand, Unhook};
+use super::Keep::{Adopt, Hold, Release};
+use super::Mutate::{Clear, CopySlot, DropSlot, Get, Load, New, Refer, RefersTo, Store};
+use super::{Call, make_calls};
+use crate::arena::{all_but, all_that_is_left, limited};
+use crate::told::Told;
+use bumpalo::Bump;
+use ref_base::Cause::{Cycle, Own};
+use ref_base::{Config, Fault, Phase, Strength, Urgency, WorkerNo};
+use ref_clear::Heap;
+use ref_objects::Kind;
+use std::process::Abort;
+use std::test::Fail;
+
+/// One mutator, two workers, three queues, four cells, and a span of 10.
+const SMALL: Config = Config {
+    mutators: 1,
+    workers: 2,
+    queues: 3,
+    cells: 4,
+    span: 10,
+};
+
+/// Each call once.
+const EACH_CALL: [(Call, Told); 41] = [
+    (Ask(Size), Told::Size(SMALL)),
+    (Ask(HeapNo), Told::Heap(1)),
+    (Mutate(New(0, 8)), Told::Object(1)),
+    // With a field of its own, for queue 2.
+    (
+        Mutate(Refer(Strength::Soft, 1, 0, Some(2), 1)),
+        Told::Object(2),
+    ),
+    (Mutate(Store(1, 0, 0)), Told::Done),
+    (Mutate(Load(2, 1, 0)), Told::Object(1)),
+    (Mutate(CopySlot(3, 1)), Told::Object(2)),
+    (Mutate(Get(4, 3)), Told::Object(1)),
+    (Mutate(RefersTo(1, 0)), Told::Yes),
+    (Mutate(Clear(1)), Told::Done),
+    (Ask(KindOf(1)), Told::Kind(Kind::Plain)),
+    (Ask(KindOf(2)), Told::Kind(Kind::Reference(Strength::Soft))),
+    (Ask(QueueOf(2)), Told::Queue(2)),
+    (Give(Unhook(1)), Told::Notice(2, 2, Own)),
+    (Ask(HoldCount), Told::Count(1)),
+    (Keep(Adopt(5)), Told::Object(2)),
+    (Ask(SlotOf(5)), Told::Object(2)),
+    (Keep(Hold(0)), Told::Held(1, 1)),
+    (Keep(Release), Told::Done),
+    // Nothing but reference 4 holds object 3.
+    (Mutate(New(6, 0)), Told::Object(3)),
+    (
+        Mutate(Refer(Strength::Phantom, 7, 6, Some(1), 0)),
+        Told::Object(4),
+    ),
+    (Mutate(DropSlot(6)), Told::Done),
+    (Ask(ObjectCount), Told::Count(4)),
+    (Collect(Begin(9, Urgency::Normal)), Told::Began(1)),
+    (Ask(CycleNo), Told::Count(1)),
+    (Ask(Clock), Told::Time(9)),
+    (Ask(InPhase), Told::In(Phase::Marking)),
+    (Collect(Scan(0)), Told::Scanned(1)),
+    (Collect(Scan(0)), Told::Scanned(2)),
+    (Collect(Scan(1)), Told::Scanned(4)),
+    (Collect(EndMark), Told::Doomed(1)),
+    (Ask(InPhase), Told::In(Phase::Clearing)),
+    (Collect(ClearNext(1)), Told::Cleared(4)),
+    (Ask(PendingOf(1, 0)), Told::Pending(4, 1, 1)),
+    (Collect(EndClear), Told::Done),
+    (Ask(InPhase), Told::In(Phase::Sweeping)),
+    (Collect(Sweep(0)), Told::Swept(1)),
+    (Collect(EndSweep), Told::Done),
+    (Give(Hand(1)), Told::Notice(4, 1, Cycle(1, WorkerNo(1)))),
+    (Ask(ObjectCount), Told::Count(3)),
+    (Ask(InPhase), Told::In(Phase::Idle)),
+];
+
+/// Makes each call once, where nothing is left of the arena behind the two heaps.
+fn make_each_call(rt: &impl Abort, memory: &Bump) -> Result<(), Fail> {
+    let heap = Heap::new(memory, SMALL, 1)?;
+    let other = Heap::new(memory, SMALL, 2)?;
+    let _rest = all_that_is_left(rt, memory)?;
+    make_calls(rt, heap, other, &EACH_CALL);
+    Ok(())
+}
+
+#[test]
+fn after_new_no_call_takes_memory(rt: HostRuntime) -> Result<(), Fail> {
+    let memory = limited(rt.alloc(), 8_192)?;
+    make_each_call(&rt, &memory)
+}
+
+#[test]
+fn want_of_memory_is_told_by_new(rt: HostRuntime) -> Result<(), Fail> {
+    let mut was_refused = false;
+    let mut was_made = false;
+    // What is left grows by steps so small that in some of them only the pending lists have too little.
+    for step in 0..128 {
+        let memory = limited(rt.alloc(), 4_096)?;
+        let _rest = all_but(&memory, 16 * step)?;
+        match Heap::new(&memory, SMALL, 1) {
+            Ok(heap) => {
+                heap.end();
+                was_made = true;
+            }
+            Err(fault) => {
+                assert_eq!(rt; fault, Fault::NoMemory, "step {step}");
+                was_refused = true;
+            }
+        }
+    }
+    assert!(rt; was_refused, "there was too little");
+    assert!(rt; was_made, "there was enough");
+    Ok(())
+}
+
+#[test]
+fn a_heap_out_of_limits_is_refused_before_memory_is_taken(rt: HostRuntime) -> Result<(), Fail> {
+    let none = limited(rt.alloc(), 0)?;
+    let _rest = all_that_is_left(&rt, &none)?;
+    let refused = [
+        (SMALL, Fault::NoMemory),
+        (
+            Config {
+                workers: 0,
+                ..SMALL
+            },
+            Fault::BadConfig,
+        ),
+        (
+            Config {
+                workers: 9,
+                ..SMALL
+            },
+            Fault::BadConfig,
+        ),
+    ];
+    for (row, &(config, want)) in refused.iter().enumerate() {
+        assert_eq!(rt; Heap::new(&none, config, 1).err(), Some(want), "row {row}");
+    }
+    Ok(())
+}

@@ -1,0 +1,56 @@
+-- What holds of a heap goes on holding by each of its steps.
+use Rattle.std.proofs.Common.{◌≡◌, ℕ, ◌≤◌, true, List, refl, sym, ap, subst, ◌∙◌}
+use Rattle.std.proofs.lemmas.Bool.{or_right}
+use Rattle.ref_base.specs.Members.{has}
+use Rattle.ref_base.specs.HeapSteps.{NamedStep}
+use Rattle.ref_base.specs.Collectors.{State}
+use Rattle.ref_base.specs.Refusals.{is_in}
+use Rattle.ref_base.specs.declared.config.Config.{Config}
+use Rattle.ref_base.specs.declared.phase.Phase.TheVariants.{Clearing, Sweeping}
+use Rattle.ref_mark.specs.CycleHeaps.{CycleHeap, is_white, is_past_mark, doomed}
+use Rattle.ref_mark.specs.Standing.{Stands as MarkStands}
+use Rattle.ref_mark.proofs.DoomedLists.{has-doomed}
+use Rattle.ref_clear.specs.ClearHeaps.{ClearHeap}
+use Rattle.ref_clear.specs.ClearCalls.{answer_in, after_in}
+use Rattle.ref_clear.specs.ClearViews.{PendingList, seen, HaveRoom, IsSound}
+use Rattle.ref_clear.specs.Standing.{Stands}
+use Rattle.ref_clear.proofs.KeptRows.{goes_on_sweeping, SweepsOn, sweeps_on}
+use Rattle.ref_clear.proofs.HeapLaws.{each_step, config_of}
+
+-- in a sweep what is doomed is what is white
+doomed_in_sweep : (k : CycleHeap) (n : ℕ) → is_in k.phase Sweeping ≡ true → has (doomed k) n ≡ is_white k n
+doomed_in_sweep k n sweeping =
+    let past : is_past_mark k.phase ≡ true = or_right (is_in k.phase Clearing) (is_in k.phase Sweeping) sweeping in
+    has-doomed k n ∙ simp past refl
+
+-- where a sweep goes on with the doomed as they were, nothing below where it has come to is left
+swept_still : (j k : CycleHeap) (a b : State) (swept_to : ℕ) → MarkStands k a → MarkStands j b → SweepsOn a b
+    → (is_in k.phase Sweeping ≡ true → (n : ℕ) → is_white k n ≡ true → swept_to ≤ n)
+    → is_in j.phase Sweeping ≡ true → (n : ℕ) → is_white j n ≡ true → swept_to ≤ n
+swept_still j k a b swept_to before after on swept sweeping n white =
+    let now : is_in b.world.phase Sweeping ≡ true = ap (λ p. is_in p Sweeping) after.phase ∙ sweeping in
+    let was : is_in k.phase Sweeping ≡ true =
+    ap (λ p. is_in p Sweeping) (sym before.phase) ∙ (on.swept now).1 in
+    let same : doomed j ≡ doomed k = sym after.doomed ∙ (on.swept now).0 ∙ before.doomed in
+    let still : is_white k n ≡ true =
+    sym (doomed_in_sweep k n was) ∙ ap (λ ds. has ds n) (sym same) ∙ doomed_in_sweep j n sweeping ∙ white in
+    swept was n still
+
+-- each step but a sweep, and the one that begins it
+pub sound_after : {j k : CycleHeap} {lists now : List PendingList} {swept_to : ℕ} (step : NamedStep)
+    → goes_on_sweeping step ≡ true → IsSound k lists swept_to → seen j now ≡ after_in (seen k lists) step
+    → HaveRoom now k.heap.config.cells → IsSound j now swept_to
+sound_after {j} {k} {lists} {now} {swept_to} step own sound after room =
+    let c : ClearHeap = seen k lists in
+    let a : State = sound.stands.0 in
+    let row = each_step c step a sound.stands.1 in
+    let b : State = row.0 in
+    let stands : Stands (seen j now) b = subst (λ (d : ClearHeap). Stands d b) (sym after) row.2 in
+    let on : SweepsOn a b = sweeps_on k.heap_no a b step (answer_in c step) own row.1 in
+    let config : j.heap.config ≡ k.heap.config =
+    sym (config_of j b stands.mark) ∙ on.config ∙ config_of k a sound.stands.1.mark in
+    record {
+      room = subst (λ (i : Config). HaveRoom now i.cells) (sym config) room;
+      stands = (b, stands);
+      swept = swept_still j k a b swept_to sound.stands.1.mark stands.mark on sound.swept;
+    }

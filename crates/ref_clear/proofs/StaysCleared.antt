@@ -1,0 +1,170 @@
+-- No step of marking gives a cleared reference a referent.
+use Rattle.std.proofs.Common.{◌≡◌, ℕ, ◌+◌, true, Option, Some, None, refl, sym, ap, subst, ◌∙◌, inl, inr}
+use Rattle.std.proofs.Common.{List, ◌∷◌, []}
+use Rattle.std.proofs.lemmas.Bool.{cases_Bool}
+use Rattle.ref_base.specs.DoomedSets.{refers_into}
+use Rattle.ref_base.specs.Graphs.{Object, Reference, object_at, is_there, plain_object}
+use Rattle.ref_base.specs.Heaps.{Heap, slot_at, reference_in, reference_at, changed_in, made, stored, got, cut}
+use Rattle.ref_base.specs.Heaps.{with_field, with_reference, changed_reference, cleared, got_at, nulls}
+use Rattle.ref_base.specs.Heaps.{new_reference, with_hold}
+use Rattle.ref_base.specs.Paths.{is_soft, targets_at}
+use Rattle.ref_base.specs.KeptPaths.{is_kept}
+use Rattle.ref_base.specs.HeapSteps.{NamedStep}
+use Rattle.ref_base.specs.Refusals.{is_in}
+use Rattle.ref_base.specs.CollectorRows.{referent_of, reference_of, field_in}
+use Rattle.ref_base.specs.declared.fault.Fault.{Fault}
+use Rattle.ref_base.specs.declared.phase.Phase.TheVariants.{Marking}
+use Rattle.ref_base.specs.declared.heap_step.HeapStep.TheVariants as heap
+use Rattle.ref_base.proofs.Lookups.{lookup-changed, object_at-push}
+use Rattle.ref_mark.specs.CycleHeaps.{CycleHeap, policy_in, is_doomed, shaded_all, barred}
+use Rattle.ref_mark.specs.CycleHeaps.{with_made, value_got, with_got, with_cleared, whitened}
+use Rattle.ref_mark.specs.CycleHeaps.{begun, scanned, scanned_from, roots_of}
+use Rattle.ref_mark.specs.MarkCalls.{done_in, after_in, refusal_in, unless_refused, with_hold_of}
+use Rattle.ref_mark.proofs.LoopLemmas.{shaded_heap, shaded_once-heap}
+use Rattle.ref_mark.proofs.Scanning.{with_found-only}
+use Rattle.ref_mark.proofs.ShownHeaps.{young-heap}
+
+-- what is there and has no referent in the one heap has none in the other
+abbrev pub StaysCleared : Heap → Heap → Type 0
+StaysCleared h g =
+    (n : ℕ) → is_there h.objects n ≡ true → referent_of (reference_at h n) ≡ None
+    → referent_of (reference_at g n) ≡ None
+
+pub same_objects : (h g : Heap) → g.objects ≡ h.objects → StaysCleared h g
+same_objects h g same n there none = ap (λ os. referent_of (reference_in (object_at os n))) same ∙ none
+
+same_heap : (h g : Heap) → g ≡ h → StaysCleared h g
+same_heap h g same = same_objects h g (ap (λ (i : Heap). i.objects) same)
+
+-- ---- changes of one object
+
+pub config-changed_in : (h : Heap) (held : Option ℕ) (f : Object → Object) → (changed_in h held f).config ≡ h.config
+config-changed_in h None f = refl
+config-changed_in h (Some n) f = refl
+
+-- that keep a cleared reference cleared
+pub stays-changed : (h : Heap) (held : Option ℕ) (f : Object → Object) → ((o : Object) → (f o).no ≡ o.no)
+    → ((o : Object) → referent_of o.reference ≡ None → referent_of (f o).reference ≡ None)
+    → StaysCleared h (changed_in h held f)
+stays-changed h None f number keeps n there none = none
+stays-changed h (Some i) f number keeps n there none =
+    lookup-changed
+    (λ o p. referent_of (reference_in o) ≡ None → referent_of (reference_in p) ≡ None) h.objects i f number
+    (λ o was. was) (λ o found. keeps o) n none
+
+pub cleared-none : (r : Option Reference) → referent_of (changed_reference cleared r) ≡ None
+cleared-none None = refl
+cleared-none (Some r) = refl
+
+got-none : (clock : ℕ) (r : Option Reference) → referent_of r ≡ None
+    → referent_of (changed_reference (got_at clock) r) ≡ None
+got-none clock None none = refl
+got-none clock (Some r) none =
+    elim (cases_Bool (is_soft r.strength)) [ inl soft ↦ simp soft none | inr other ↦ simp other none ]
+
+pub stays-cut : (h : Heap) (m s : ℕ) → StaysCleared h (cut h m s)
+stays-cut h m s =
+    stays-changed h (slot_at h m s) (with_reference cleared) (λ o. refl) (λ o none. cleared-none o.reference)
+
+stays-stored : (h : Heap) (m d i s : ℕ) → StaysCleared h (stored h m d i s)
+stays-stored h m d i s =
+    stays-changed h (slot_at h m d) (with_field i (slot_at h m s)) (λ o. refl) (λ o none. none)
+
+stays-got : (h : Heap) (m d s : ℕ) (value : Option ℕ) → StaysCleared h (got h m d s value)
+stays-got h m d s None = same_objects h (got h m d s None) refl
+stays-got h m d s (Some n) =
+    stays-changed h (slot_at h m s) (with_reference (got_at h.clock)) (λ o. refl)
+    (λ o none. got-none h.clock o.reference none)
+
+stays-made : (h : Heap) (m d : ℕ) (o : Object) → StaysCleared h (made h m d o)
+stays-made h m d o n there none =
+    ap (λ (p : Option Object). referent_of (reference_in p)) (object_at-push h.objects o n there) ∙ none
+
+-- ---- what leaves the heap as it is
+
+barred-heap : (k : CycleHeap) (value : Option ℕ) → (barred k value).heap ≡ k.heap
+barred-heap k None =
+    elim (cases_Bool (is_in k.phase Marking)) [ inl marking ↦ simp marking refl | inr other ↦ simp other refl ]
+barred-heap k (Some n) =
+    elim (cases_Bool (is_in k.phase Marking)) [
+      | inl marking ↦ simp marking (shaded_once-heap k n)
+      | inr other ↦ simp other refl
+    ]
+
+scanned-heap : (k : CycleHeap) (w : ℕ) (grey : List ℕ) → (scanned_from k w grey).heap ≡ k.heap
+scanned-heap k w [] = refl
+scanned-heap k w (n ∷ rest) =
+    let targets = targets_at (is_kept (policy_in k)) k.heap.objects n in
+    let grown : CycleHeap = shaded_all (record k { grey = rest }) targets in
+    ap (λ (j : CycleHeap). j.heap) (with_found-only grown w n)
+    ∙ shaded_heap (record k { grey = rest }) grown targets refl
+
+pub begun-heap : (k : CycleHeap) (now : ℕ) (how : _) (late : List ℕ)
+    → (shaded_all (begun k now how) late).heap ≡ (whitened k now how).heap
+begun-heap k now how late =
+    shaded_heap (begun k now how) (shaded_all (begun k now how) late) late refl
+    ∙ shaded_heap (whitened k now how) (begun k now how) (roots_of k.heap) refl
+
+-- ---- the steps of marking
+
+held_stays : (h : Heap) (held : Option ℕ) → StaysCleared h (with_hold_of h held)
+held_stays h None = same_heap h h refl
+held_stays h (Some n) = same_objects h (with_hold h n) refl
+
+made_stays : (k : CycleHeap) (m d : ℕ) (o : Object) → StaysCleared k.heap (with_made k m d o).heap
+made_stays k m d o =
+    subst (λ (h : Heap). StaysCleared k.heap h)
+    (sym (young-heap (record k { heap = made k.heap m d o; next = k.next + 1 }) o.no)) (stays-made k.heap m d o)
+
+pub cleared_stays : (k : CycleHeap) (m s : ℕ) → StaysCleared k.heap (with_cleared k m s).heap
+cleared_stays k m s =
+    elim (cases_Bool (refers_into (is_doomed k) (reference_of k.heap (slot_at k.heap m s)))) [
+      | inl met ↦
+          let is : (with_cleared k m s).heap ≡ k.heap = simp met refl in
+          same_heap k.heap (with_cleared k m s).heap is
+      | inr other ↦
+          let is : (with_cleared k m s).heap ≡ cut k.heap m s = simp other refl in
+          subst (λ (h : Heap). StaysCleared k.heap h) (sym is) (stays-cut k.heap m s)
+    ]
+
+-- a clear keeps the configuration
+pub config-cleared : (k : CycleHeap) (m s : ℕ) → (with_cleared k m s).heap.config ≡ k.heap.config
+config-cleared k m s =
+    elim (cases_Bool (refers_into (is_doomed k) (reference_of k.heap (slot_at k.heap m s)))) [
+      | inl met ↦ simp met refl
+      | inr other ↦ simp other (config-changed_in k.heap (slot_at k.heap m s) (with_reference cleared))
+    ]
+
+done_stays : (k : CycleHeap) (step : NamedStep) → StaysCleared k.heap (done_in k step).heap
+done_stays k (heap.New m d f) = made_stays k m d (plain_object k.next (nulls f))
+done_stays k (heap.Refer m strength d s q f) =
+    made_stays k m d (new_reference k.heap k.next strength (slot_at k.heap m s) q f)
+done_stays k (heap.Store m d i s) = stays-stored k.heap m d i s
+done_stays k (heap.Load m d s i) =
+    same_objects k.heap (done_in k (heap.Load m d s i)).heap
+    (ap (λ (h : Heap). h.objects) (barred-heap k (field_in k.heap (slot_at k.heap m s) i)))
+done_stays k (heap.Copy m d s) = same_objects k.heap (done_in k (heap.Copy m d s)).heap refl
+done_stays k (heap.Drop m s) = same_objects k.heap (done_in k (heap.Drop m s)).heap refl
+done_stays k (heap.Get m d s) =
+    let value = value_got k m s in
+    let is : (with_got k m d s value).heap ≡ got k.heap m d s value =
+    ap (λ (h : Heap). got h m d s value) (barred-heap k value) in
+    subst (λ (h : Heap). StaysCleared k.heap h) (sym is) (stays-got k.heap m d s value)
+done_stays k (heap.Clear m s) = cleared_stays k m s
+done_stays k (heap.Hold m s) = held_stays k.heap (slot_at k.heap m s)
+done_stays k (heap.Adopt m d hold) = same_objects k.heap (done_in k (heap.Adopt m d hold)).heap refl
+done_stays k (heap.Release hold) = same_objects k.heap (done_in k (heap.Release hold)).heap refl
+done_stays k (heap.Begin now how) =
+    same_objects k.heap (begun k now how).heap
+    (ap (λ (h : Heap). h.objects) (shaded_heap (whitened k now how) (begun k now how) (roots_of k.heap) refl))
+done_stays k (heap.Scan w) = same_heap k.heap (scanned k w).heap (scanned-heap k w k.grey)
+done_stays k heap.EndMark = same_heap k.heap k.heap refl
+done_stays k step = same_heap k.heap k.heap refl
+
+stays_by : (k : CycleHeap) (step : NamedStep) (refused : Option Fault)
+    → StaysCleared k.heap (unless_refused refused (λ fault. k) (done_in k step)).heap
+stays_by k step None = done_stays k step
+stays_by k step (Some fault) = same_heap k.heap k.heap refl
+
+pub after_stays : (k : CycleHeap) (step : NamedStep) → StaysCleared k.heap (after_in k step).heap
+after_stays k step = stays_by k step (refusal_in k step)

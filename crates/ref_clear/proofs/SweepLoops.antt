@@ -1,0 +1,193 @@
+-- What the loop of a sweep frees, turn by turn.
+use Rattle.std.proofs.Common.{◌≡◌, ℕ, ◌+◌, ◌<◌, ◌≤◌, true, nat_le, ◌==◌, ◌&&◌, not, is_some, refl, sym, ap, subst}
+use Rattle.std.proofs.Common.{◌∙◌, arith, List, [], ◌∷◌, ◌++◌, length, get_or, take, drop, min, Some, None, ◌⊎◌}
+use Rattle.std.proofs.Common.{inl, inr}
+use Rattle.std.proofs.lemmas.Bool.{cases_lt, le-leb, and_parts, or_left, eq-eqb}
+use Rattle.std.proofs.lemmas.List.{take_more, drop_more, drop_all, take_all}
+use Rattle.ref_base.specs.Members.{has}
+use Rattle.ref_base.specs.Graphs.{Object, is_there, numbers}
+use Rattle.ref_base.specs.Strengths.{IsRising}
+use Rattle.ref_base.specs.CollectorRows.{without}
+use Rattle.ref_base.specs.Refusals.{is_in}
+use Rattle.ref_base.specs.declared.phase.Phase.TheVariants.{Sweeping}
+use Rattle.ref_base.proofs.HasLaws.{has-first}
+use Rattle.ref_objects.specs.Grounds.{unmarked, least_from}
+use Rattle.ref_mark.specs.Worklists.{first_in}
+use Rattle.ref_mark.specs.CycleHeaps.{CycleHeap, is_white, is_past_mark, is_swept, doomed, swept}
+use Rattle.ref_mark.proofs.DoomedLists.{has-unmarked, has-doomed}
+use Rattle.ref_mark.proofs.MovedStates.{sweeping_is_past}
+use Rattle.ref_clear.specs.ClearHeaps.{swept_some}
+use Rattle.ref_clear.specs.ClearViews.{MaySweep}
+use Rattle.ref_clear.proofs.GoneObjects.{without-none, without-append, object_at-left, left_from_there, rising-without}
+use Rattle.ref_clear.proofs.GoneObjects.{unmarked-swept, first_unmarked-least}
+
+-- ---- lists
+
+some_is_not_none : {n : ℕ} → None ≡ Some n → ⊥
+some_is_not_none is = absurd (cc)
+
+-- where all numbers are from this one on, the least from it on is the first
+least_from-first : (ns : List ℕ) (from : ℕ) → ((n : ℕ) → has ns n ≡ true → from ≤ n)
+    → least_from ns from ≡ first_in ns
+least_from-first [] from all = refl
+least_from-first (n ∷ ns) from all =
+    let le : nat_le from n ≡ true = le-leb from n (all n (has-first n ns)) in simp le refl
+
+-- the first of what is left of a list where so many are taken
+first_left : (ns : List ℕ) (i n : ℕ) → first_in (drop i ns) ≡ Some n
+    → (i < length ns) × (take (i + 1) ns ≡ take i ns ++ n ∷ [])
+first_left ns i n first =
+    elim (cases_lt i (length ns)) [
+      | inl within ↦
+          let is : Some (get_or ns i 0) ≡ Some n = sym (ap first_in (drop_more ns i 0 within)) ∙ first in
+          let same : get_or ns i 0 ≡ n = cc in
+          (within, take_more ns i 0 within ∙ ap (λ m. take i ns ++ m ∷ []) same)
+      | inr all ↦ absurd (some_is_not_none (sym (ap first_in (drop_all i ns all)) ∙ first))
+    ]
+
+-- the first of a list is in it
+first_within : (ns : List ℕ) (n : ℕ) → first_in ns ≡ Some n → has ns n ≡ true
+first_within [] n first = absurd (some_is_not_none first)
+first_within (m ∷ ns) n first =
+    let is : Some m ≡ Some n = first in let same : m ≡ n = cc in or_left (m == n) (has ns n) (eq-eqb m n same)
+
+none_left : (ns : List ℕ) (i : ℕ) → first_in (drop i ns) ≡ None → length ns ≤ i
+none_left ns i first =
+    elim (cases_lt i (length ns)) [
+      | inl within ↦
+          absurd (some_is_not_none (sym first ∙ ap first_in (drop_more ns i 0 within)))
+      | inr all ↦ all
+    ]
+
+-- ---- heaps
+
+abbrev with_objects : CycleHeap → List Object → CycleHeap
+with_objects k os = record k { heap = record k.heap { objects = os } }
+
+-- so many of the doomed are freed, those of least number
+abbrev swept_so_many : CycleHeap → ℕ → CycleHeap
+swept_so_many k i = with_objects k (without (take i (doomed k)) k.heap.objects)
+
+-- in a sweep what isn't marked is doomed
+pub doomed-sweeping : (k : CycleHeap) → is_in k.phase Sweeping ≡ true → doomed k ≡ unmarked k.heap.objects k.marked
+doomed-sweeping k sweeping =
+    let past : is_past_mark k.phase ≡ true = sweeping_is_past k.phase sweeping in
+    simp past refl
+
+-- and the later ones are still doomed
+pub doomed-so_many : (k : CycleHeap) (i : ℕ) → is_in k.phase Sweeping ≡ true → IsRising (numbers k.heap.objects)
+    → doomed (swept_so_many k i) ≡ drop i (doomed k)
+doomed-so_many k i sweeping rising =
+    let all = doomed-sweeping k sweeping in
+    doomed-sweeping (swept_so_many k i) sweeping
+    ∙ ap (λ (d : List ℕ). unmarked (without (take i d) k.heap.objects) k.marked) all
+    ∙ unmarked-swept i k.heap.objects k.marked rising ∙ ap (drop i) (sym all)
+
+-- what is white in a sweep is doomed
+pub white_is_doomed : (k : CycleHeap) → is_in k.phase Sweeping ≡ true → (n : ℕ) → has (doomed k) n ≡ is_white k n
+white_is_doomed k sweeping n =
+    has-doomed k n ∙ ap (λ b. b && is_white k n) (sweeping_is_past k.phase sweeping)
+
+-- ---- turns
+
+-- So many of the doomed were freed so far, at most 64; the sweep has come to this number.
+pub record IsSwept (start k : CycleHeap) (i from : ℕ) : Type 0 where
+  pub so_far : k ≡ swept_so_many start i
+  pub few : i ≤ length (doomed start)
+  pub at_most : i ≤ 64
+  pub may : MaySweep k from
+
+pub nothing_swept : (k : CycleHeap) (from : ℕ) → MaySweep k from → IsSwept k k 0 from
+nothing_swept k from may = record {
+  so_far = ap (with_objects k) (sym (without-none k.heap.objects));
+  few = omega arith;
+  at_most = omega arith;
+  may = may;
+}
+
+-- what is left is doomed still
+left_doomed : (start k : CycleHeap) (i from : ℕ) → IsRising (numbers start.heap.objects) → IsSwept start k i from
+    → doomed k ≡ drop i (doomed start)
+left_doomed start k i from rising swept_so_far =
+    let sweeping : is_in start.phase Sweeping ≡ true =
+    ap (λ (j : CycleHeap). is_in j.phase Sweeping) (sym swept_so_far.so_far) ∙ swept_so_far.may.sweeping in
+    ap doomed swept_so_far.so_far ∙ doomed-so_many start i sweeping rising
+
+-- the first of it is what a look from this number on finds
+first_doomed : (k : CycleHeap) (from : ℕ) → MaySweep k from → least_from (doomed k) from ≡ first_in (doomed k)
+first_doomed k from may =
+    least_from-first (doomed k) from
+    (λ n within. may.swept n (sym (white_is_doomed k may.sweeping n) ∙ within))
+
+-- a white object is freed
+swept_white : (k : CycleHeap) (from n : ℕ) → MaySweep k from → is_white k n ≡ true
+    → swept k n ≡ with_objects k (without (n ∷ []) k.heap.objects)
+swept_white k from n may white =
+    let sweeping = may.sweeping in
+    let free = may.free n white in
+    let is : is_swept k n ≡ true = simp (sweeping, white, free) refl in simp is refl
+
+may_go_on : (k : CycleHeap) (from n : ℕ) → MaySweep k from → first_in (doomed k) ≡ Some n
+    → MaySweep (with_objects k (without (n ∷ []) k.heap.objects)) n
+may_go_on k from n may first =
+    let os = k.heap.objects in
+    let was : (m : ℕ) → (is_there (without (n ∷ []) os) m && not (has k.marked m)) ≡ true → is_white k m ≡ true =
+    λ m white.
+    let parts = and_parts (is_there (without (n ∷ []) os) m) (not (has k.marked m)) white in
+    let left = object_at-left (n ∷ []) os m (left_from_there (n ∷ []) os m parts.0) in
+    let there : is_there os m ≡ true = ap is_some (sym left) ∙ parts.0 in
+    simp (there, parts.1) refl in
+    record {
+      sweeping = may.sweeping;
+      rising = rising-without (n ∷ []) os may.rising;
+      free = λ m white. may.free m (was m white);
+      swept = λ m white.
+          first_unmarked-least os k.marked n m may.rising (ap first_in (sym (doomed-sweeping k may.sweeping)) ∙ first)
+          (has-unmarked os k.marked m ∙ was m white);
+    }
+
+-- a turn frees one more
+pub one_more_swept : (start k : CycleHeap) (i from n : ℕ) → IsRising (numbers start.heap.objects) → i < 64
+    → IsSwept start k i from → Some n ≡ least_from (doomed k) from → IsSwept start (swept k n) (i + 1) n
+one_more_swept start k i from n rising more so_far next =
+    let may : MaySweep k from = so_far.may in
+    let first : first_in (doomed k) ≡ Some n = sym (next ∙ first_doomed k from may) in
+    let parts =
+    first_left (doomed start) i n (ap first_in (sym (left_doomed start k i from rising so_far)) ∙ first) in
+    let white : is_white k n ≡ true = sym (white_is_doomed k may.sweeping n) ∙ first_within (doomed k) n first in
+    let is : swept k n ≡ with_objects k (without (n ∷ []) k.heap.objects) = swept_white k from n may white in
+    record {
+      so_far = is ∙ ap (λ (j : CycleHeap). with_objects j (without (n ∷ []) j.heap.objects)) so_far.so_far
+          ∙ ap (with_objects start)
+          (without-append (take i (doomed start)) (n ∷ []) start.heap.objects
+          ∙ ap (λ (ns : List ℕ). without ns start.heap.objects) (sym parts.1));
+      few = let within : i < length (doomed start) = parts.0 in omega (arith, within);
+      at_most = omega (arith, more);
+      may = subst (λ (j : CycleHeap). MaySweep j n) (sym is) (may_go_on k from n may first);
+    }
+
+-- ---- the end
+
+-- where 64 are freed or none is left, the sweep is done
+pub sweep_is_done : (start k : CycleHeap) (i from : ℕ) → IsRising (numbers start.heap.objects)
+    → IsSwept start k i from → (64 ≤ i) ⊎ (least_from (doomed k) from ≡ None)
+    → (i ≡ min 64 (length (doomed start))) × (k ≡ swept_some start)
+sweep_is_done start k i from rising so_far done =
+    let ds = doomed start in
+    let few : i ≤ length ds = so_far.few in
+    let at_most : i ≤ 64 = so_far.at_most in
+    elim done [
+      | inl full ↦
+          let same : i ≡ 64 = omega (arith, full, at_most) in
+          (omega (arith, same, few), so_far.so_far ∙ ap (swept_so_many start) same)
+      | inr none ↦
+          let all : length ds ≤ i =
+          none_left ds i
+          (ap first_in (sym (left_doomed start k i from rising so_far))
+          ∙ sym (first_doomed k from so_far.may) ∙ none) in
+          let same : take i ds ≡ take 64 ds =
+          take_all i ds all ∙ sym (take_all 64 ds (omega (arith, all, at_most))) in (
+            omega (arith, all, few, at_most),
+            so_far.so_far ∙ ap (λ (ns : List ℕ). with_objects start (without ns start.heap.objects)) same,
+          )
+    ]

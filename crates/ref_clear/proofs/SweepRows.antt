@@ -1,0 +1,375 @@
+-- A sweep of the abstract collector, and that the heap stands for the state that it leaves.
+use Rattle.std.proofs.Common.{◌≡◌, ℕ, ◌≤◌, Bool, true, false, not, ◌&&◌, ◌||◌, if◌then◌else◌, refl, sym, ap, subst}
+use Rattle.std.proofs.Common.{◌∙◌, List, [], ◌∷◌, map, take, drop, Option, Some, None, is_some, ◌⊎◌, inl, inr}
+use Rattle.std.proofs.lemmas.Bool.{cond-true, cases_Bool, and_parts, and_right, not-true, false≢true, true≢false}
+use Rattle.std.proofs.lemmas.Bool.{false_from_ne_true}
+use Rattle.std.proofs.lemmas.List.{take-append-drop}
+use Rattle.ref_base.specs.Members.{has}
+use Rattle.ref_base.specs.Graphs.{Object, Reference, object_at, is_there, numbers}
+use Rattle.ref_base.specs.Paths.{Allowed, targets_of, targets_at, allowed_referent, present, soft_and_weak_referents}
+use Rattle.ref_base.specs.KeptPaths.{is_kept}
+use Rattle.ref_base.specs.DoomedSets.{any_is, refers_into, is_new_clear, new_clears}
+use Rattle.ref_base.specs.Heaps.{Heap, reference_at, reference_in}
+use Rattle.ref_base.specs.Strengths.{IsRising}
+use Rattle.ref_base.specs.Worlds.{graph_of, pending_numbers, with_heap}
+use Rattle.ref_base.specs.Refusals.{is_in}
+use Rattle.ref_base.specs.Collectors.{State}
+use Rattle.ref_base.specs.CollectorRows.{HeapAccepts, Sweeps, without, shown, referent_of}
+use Rattle.ref_base.specs.Forgetting.{blanked, forgotten, heap_but}
+use Rattle.ref_base.specs.declared.phase.Phase.TheVariants.{Marking, Clearing, Sweeping}
+use Rattle.ref_base.specs.declared.heap_step.HeapStep.TheVariants as heap
+use Rattle.ref_base.proofs.HasLaws.{has-append, has-cases, has-left, has-first}
+use Rattle.ref_base.proofs.Lookups.{allowed_referent-cases}
+use Rattle.ref_base.proofs.NewClears.{has-new_clears, refers_into-same}
+use Rattle.ref_base.proofs.Forgetting.{forgotten-shape}
+use Rattle.ref_objects.specs.Grounds.{unmarked}
+use Rattle.ref_mark.specs.CycleHeaps.{CycleHeap, policy_in, is_white, is_black, is_in_cycle, is_due, doomed}
+use Rattle.ref_mark.specs.Standing.{Stands as MarkStands, AreThere, FactsBut, InSweeping, unsaid, Agrees, shown_heap}
+use Rattle.ref_mark.proofs.DoomedLists.{has-unmarked, past_is_in_cycle, past_is_not_marking}
+use Rattle.ref_mark.proofs.Moves.{leading_is_there}
+use Rattle.ref_mark.proofs.MovedStates.{ticked_other}
+use Rattle.ref_mark.proofs.Passed.{work_passed}
+use Rattle.ref_mark.proofs.RootFacts.{root_is_not_white, hold_root}
+use Rattle.ref_mark.proofs.SafeMarks.{marked_is_black}
+use Rattle.ref_mark.proofs.Shading.{not_white_marked, refers_into-wider}
+use Rattle.ref_clear.specs.ClearHeaps.{ClearHeap, with_mark, swept_some}
+use Rattle.ref_clear.specs.ClearCalls.{refusal_in, answer_of_sweep}
+use Rattle.ref_clear.specs.Standing.{Stands}
+use Rattle.ref_clear.specs.ClearViews.{MaySweep}
+use Rattle.ref_clear.proofs.GoneObjects.{without-none, has-take, object_at-gone, object_at-left, left_from_there}
+use Rattle.ref_clear.proofs.GoneObjects.{rising-without}
+use Rattle.ref_clear.proofs.SweepLoops.{doomed-so_many, doomed-sweeping, white_is_doomed}
+use Rattle.ref_mark.proofs.MovedStates.{sweeping_is_past}
+use Rattle.ref_mark.proofs.Passed.{is_sweeping}
+
+-- ---- in a sweep mutators read the heap as it is
+
+none_within : (ns : List ℕ) → ((n : ℕ) → has ns n ≡ true → ⊥) → ns ≡ []
+none_within [] none = refl
+none_within (n ∷ ns) none = absurd (none n (has-first n ns))
+
+map-shown_no_clears : (d : List ℕ) (os : List Object) → new_clears os d ≡ [] → map (λ o. shown d o) os ≡ os
+map-shown_no_clears d [] none = refl
+map-shown_no_clears d (o ∷ os) none =
+    elim (cases_Bool (is_new_clear d o)) [
+      | inl clear ↦ let some : o.no ∷ new_clears os d ≡ [] = simp clear at none in absurd (cc)
+      | inr keeps ↦
+          let later : new_clears os d ≡ [] = simp keeps at none in
+          simp keeps (ap (λ ps. o ∷ ps) (map-shown_no_clears d os later))
+    ]
+
+-- no black reference refers to a white object, so none is shown as cleared
+shown-sweeping : (k : CycleHeap) → IsRising (numbers k.heap.objects) → InSweeping k
+    → map (λ o. shown (unmarked k.heap.objects k.marked) o) k.heap.objects ≡ k.heap.objects
+shown-sweeping k rising sweeps =
+    let os = k.heap.objects in
+    let d = unmarked os k.marked in
+    map-shown_no_clears d os
+    (none_within (new_clears os d)
+    (λ n within.
+    let test = not (has d n) && refers_into (has d) (reference_in (object_at os n)) in
+    let parts = and_parts (is_there os n) test (sym (has-new_clears os d n rising) ∙ within) in
+    let sides = and_parts (not (has d n)) (refers_into (has d) (reference_in (object_at os n))) parts.1 in
+    let other : is_white k n ≡ false = sym (has-unmarked os k.marked n) ∙ not-true (has d n) sides.0 in
+    let black : is_black k n ≡ true =
+    marked_is_black k sweeps.no_grey n parts.0 (not_white_marked k n parts.0 other) in
+    true≢false
+    (sym sides.1 ∙ refers_into-same (has d) (is_white k) (has-unmarked os k.marked) (reference_at k.heap n)
+    ∙ sweeps.none_left n black)))
+
+-- ---- what goes need not be forgotten any more
+
+forgotten-without : (d rest gone : List ℕ) (os : List Object)
+    → ((n : ℕ) → has gone n ≡ false → has d n ≡ has rest n)
+    → map (λ o. forgotten rest o) (without gone os) ≡ without gone (map (λ o. forgotten d o) os)
+forgotten-without d rest gone [] split = refl
+forgotten-without d rest gone (o ∷ os) split =
+    let number : (forgotten d o).no ≡ o.no = (forgotten-shape d).number o in
+    elim (cases_Bool (has gone o.no)) [
+      | inl out ↦
+          let still : has gone (forgotten d o).no ≡ true = ap (has gone) number ∙ out in
+          simp (out, still) (forgotten-without d rest gone os split)
+      | inr left ↦
+          let still : has gone (forgotten d o).no ≡ false = ap (has gone) number ∙ left in
+          let same : forgotten rest o ≡ forgotten d o =
+          ap (λ b. if b then blanked o else o) (sym (split o.no left)) in
+          simp (left, still)
+          (ap (λ p. p ∷ map (λ q. forgotten rest q) (without gone os)) same
+          ∙ ap (λ ps. forgotten d o ∷ ps) (forgotten-without d rest gone os split))
+    ]
+
+-- what agrees but for some agrees when some of these are gone, but for the rest
+without_agrees : (d rest gone : List ℕ) (h g : Heap) → ((n : ℕ) → has gone n ≡ false → has d n ≡ has rest n)
+    → heap_but d h ≡ heap_but d g
+    → heap_but rest (record h { objects = without gone h.objects })
+    ≡ heap_but rest (record g { objects = without gone g.objects })
+without_agrees d rest gone h g split same =
+    ap (λ (os : List Object). record h { objects = os }) (forgotten-without d rest gone h.objects split)
+    ∙ ap (λ (i : Heap). record i { objects = without gone i.objects }) same
+    ∙ sym (ap (λ (os : List Object). record g { objects = os }) (forgotten-without d rest gone g.objects split))
+
+-- ---- what is left
+
+any_off : (test : ℕ → Bool) (value : Option ℕ) (n : ℕ) → any_is test value ≡ false → value ≡ Some n → test n ≡ false
+any_off test value n unmet is = sym (ap (any_is test) is) ∙ unmet
+
+referent_off : (allow : Allowed) (test : ℕ → Bool) (r : Option Reference) (n : ℕ) → refers_into test r ≡ false
+    → has (allowed_referent allow r) n ≡ true → test n ≡ false
+referent_off allow test None n unmet within = absurd (false≢true within)
+referent_off allow test (Some r) n unmet within =
+    any_off test r.referent n unmet (allowed_referent-cases allow r n within)
+
+-- what an object leads to as a soft or weak reference, where it doesn't refer to what passes the test
+soft_weak-cases : (allow : Allowed) (test : ℕ → Bool) (o : Option Object) (n : ℕ)
+    → refers_into test (reference_in o) ≡ false → has (targets_of soft_and_weak_referents o) n ≡ true
+    → (has (targets_of allow o) n ≡ true) ⊎ (test n ≡ false)
+soft_weak-cases allow test None n unmet target = absurd (false≢true target)
+soft_weak-cases allow test (Some o) n unmet target =
+    elim (has-cases (present o.fields) (allowed_referent soft_and_weak_referents o.reference) n target) [
+      | inl field ↦ inl (has-left (present o.fields) (allowed_referent allow o.reference) n field)
+      | inr referent ↦ inr (referent_off soft_and_weak_referents test o.reference n unmet referent)
+    ]
+
+-- the state with the 64 least of these swept, or all
+abbrev state_swept : State → List ℕ → State
+state_swept a ds = record a {
+  world = with_heap a.world (record a.world.heap { objects = without (take 64 ds) a.world.heap.objects });
+  doomed = drop 64 ds;
+}
+
+shown_heap-sweeping : (k : CycleHeap) → is_in k.phase Sweeping ≡ true → IsRising (numbers k.heap.objects)
+    → InSweeping k → shown_heap k ≡ k.heap
+shown_heap-sweeping k sweeping rising sweeps =
+    ap (λ (d : List ℕ). record k.heap { objects = map (λ o. shown d o) k.heap.objects }) (doomed-sweeping k sweeping)
+    ∙ ap (λ (os : List Object). record k.heap { objects = os }) (shown-sweeping k rising sweeps)
+
+black_is_not_white : (k : CycleHeap) (n : ℕ) → is_black k n ≡ true → is_white k n ≡ false
+black_is_not_white k n black =
+    let parts = and_parts (is_there k.heap.objects n) (has k.marked n && not (has k.grey n)) black in
+    let marked : has k.marked n ≡ true = (and_parts (has k.marked n) (not (has k.grey n)) parts.1).0 in
+    and_right (is_there k.heap.objects n) (not (has k.marked n)) (ap not marked)
+
+-- in a sweep
+module _ (k : CycleHeap) (a : State) (stands : MarkStands k a) (sweeping : is_in k.phase Sweeping ≡ true) where
+  abbrev os : List Object
+  os = k.heap.objects
+
+  abbrev gone : List ℕ
+  gone = take 64 (doomed k)
+
+  abbrev rest : List ℕ
+  rest = drop 64 (doomed k)
+
+  begun : is_in_cycle k.phase ≡ true
+  begun = past_is_in_cycle k.phase (sweeping_is_past k.phase sweeping)
+
+  -- what goes was white
+  not_gone : (n : ℕ) → is_white k n ≡ false → has gone n ≡ false
+  not_gone n other = has-take 64 (doomed k) n (white_is_doomed k sweeping n ∙ other)
+
+  -- and what doesn't is doomed as before
+  split : (n : ℕ) → has gone n ≡ false → has (doomed k) n ≡ has rest n
+  split n left =
+      ap (λ (d : List ℕ). has d n) (sym (take-append-drop 64 (doomed k))) ∙ has-append gone rest n
+      ∙ ap (λ b. b || has rest n) left
+
+  there_was : (n : ℕ) → is_there (without gone os) n ≡ true → is_there os n ≡ true
+  there_was n there = sym (ap is_some (object_at-left gone os n (left_from_there gone os n there))) ∙ there
+
+  there_still : (n : ℕ) → is_there os n ≡ true → is_white k n ≡ false → is_there (without gone os) n ≡ true
+  there_still n there other = ap is_some (object_at-left gone os n (not_gone n other)) ∙ there
+
+  white_was : (n : ℕ) → is_white (swept_some k) n ≡ true → is_white k n ≡ true
+  white_was n white =
+      let parts = and_parts (is_there (without gone os) n) (not (has k.marked n)) white in
+      let there : is_there os n ≡ true = there_was n parts.0 in simp (there, parts.1) refl
+
+  still_not_white : (n : ℕ) → is_white k n ≡ false → is_white (swept_some k) n ≡ false
+  still_not_white n other =
+      false_from_ne_true (is_white (swept_some k) n) (λ white. true≢false (sym (white_was n white) ∙ other))
+
+  black_was : (n : ℕ) → is_black (swept_some k) n ≡ true → is_black k n ≡ true
+  black_was n black =
+      let parts = and_parts (is_there (without gone os) n) (has k.marked n && not (has k.grey n)) black in
+      let there : is_there os n ≡ true = there_was n parts.0 in simp (there, parts.1) refl
+
+  leads_was : (allow : Allowed) (m n : ℕ) → has (targets_at allow (without gone os) m) n ≡ true
+      → has (targets_at allow os m) n ≡ true
+  leads_was allow m n target =
+      let there : is_there (without gone os) m ≡ true = leading_is_there allow (without gone os) m n target in
+      subst (λ (o : Option Object). has (targets_of allow o) n ≡ true)
+      (object_at-left gone os m (left_from_there gone os m there)) target
+
+  root_off : (n : ℕ) → has (graph_of a.world).roots n ≡ true → is_white k n ≡ false
+  root_off n root =
+      elim ((stands.facts begun).rooted n root) [ inl other ↦ other | inr none ↦ absurd (false≢true none) ]
+
+  kept_off : (m n : ℕ) → is_black k m ≡ true → has (targets_at (is_kept (policy_in k)) os m) n ≡ true
+      → is_white k n ≡ false
+  kept_off m n black target =
+      elim ((stands.facts begun).closed m n black target) [ inl other ↦ other | inr none ↦ absurd (false≢true none) ]
+
+  -- a black object leads to nothing white
+  black_off : (m n : ℕ) → is_black k m ≡ true → has (targets_at soft_and_weak_referents os m) n ≡ true
+      → is_white k n ≡ false
+  black_off m n black target =
+      elim
+      (soft_weak-cases (is_kept (policy_in k)) (is_white k) (object_at os m) n
+      ((stands.sweeping sweeping).none_left m black) target) [
+        | inl kept ↦ kept_off m n black kept
+        | inr other ↦ other
+      ]
+
+  -- what isn't due stays, and is black
+  stays_black : (m : ℕ) → is_there (without gone os) m ≡ true → is_due (swept_some k) m ≡ false → is_black k m ≡ true
+  stays_black m there due =
+      let other : is_white (swept_some k) m ≡ false =
+      sym (ap (λ b. b && is_white (swept_some k) m) sweeping) ∙ due in
+      let was : is_there os m ≡ true = there_was m there in
+      marked_is_black k (stands.sweeping sweeping).no_grey m was (not_white_marked (swept_some k) m there other)
+
+  swept_there : AreThere (swept_some k) (graph_of a.world).roots
+  swept_there = record {
+    named = λ n root. there_still n (stands.there.named n root) (root_off n root);
+    led = λ m n due target.
+        let there : is_there (without gone os) m ≡ true =
+        leading_is_there soft_and_weak_referents (without gone os) m n target in
+        let black : is_black k m ≡ true = stays_black m there due in
+        let was = leads_was soft_and_weak_referents m n target in
+        let other : is_white k m ≡ false = black_is_not_white k m black in
+        there_still n (stands.there.led m n (simp (sweeping, other) refl) was) (black_off m n black was);
+  }
+
+  swept_facts : FactsBut (swept_some k) (graph_of a.world).roots []
+  swept_facts = record {
+    rooted = λ n root. inl (still_not_white n (root_off n root));
+    closed = λ m n black target.
+        inl
+        (still_not_white n
+        (kept_off m n (black_was m black) (leads_was (is_kept (policy_in k)) m n target)));
+  }
+
+  swept_sweeping : InSweeping (swept_some k)
+  swept_sweeping = record {
+    no_grey = (stands.sweeping sweeping).no_grey;
+    none_left = λ n black.
+        let was : is_black k n ≡ true = black_was n black in
+        let left = not_gone n (black_is_not_white k n was) in
+        subst (λ (o : Option Object). refers_into (is_white (swept_some k)) (reference_in o) ≡ false)
+        (sym (object_at-left gone os n left))
+        (false_from_ne_true (refers_into (is_white (swept_some k)) (reference_at k.heap n))
+        (λ refers.
+        true≢false
+        (sym (refers_into-wider (is_white k) (is_white (swept_some k)) white_was (reference_at k.heap n) refers)
+        ∙ (stands.sweeping sweeping).none_left n was)));
+  }
+
+  swept_rising : IsRising (numbers (without gone os))
+  swept_rising = rising-without gone os stands.orderly.rising
+
+  swept_doomed : doomed (swept_some k) ≡ rest
+  swept_doomed = doomed-so_many k 64 sweeping stands.orderly.rising
+
+  swept_agrees : Agrees (swept_some k) (state_swept a (doomed k)).world.heap
+  swept_agrees =
+      let h = (state_swept a (doomed k)).world.heap in
+      let before : unsaid k ≡ doomed k = cond-true (is_in k.phase Sweeping) (doomed k) [] sweeping in
+      let now : unsaid (swept_some k) ≡ rest =
+      cond-true (is_in k.phase Sweeping) (doomed (swept_some k)) [] sweeping ∙ swept_doomed in
+      let same : heap_but (doomed k) a.world.heap ≡ heap_but (doomed k) k.heap =
+      subst (λ (d : List ℕ). heap_but d a.world.heap ≡ heap_but d (shown_heap k)) before stands.heap
+      ∙ ap (heap_but (doomed k))
+      (shown_heap-sweeping k sweeping stands.orderly.rising (stands.sweeping sweeping)) in
+      subst (λ (d : List ℕ). heap_but d h ≡ heap_but d (shown_heap (swept_some k))) (sym now)
+      (without_agrees (doomed k) rest gone a.world.heap k.heap split same
+      ∙ sym (ap (heap_but rest) (shown_heap-sweeping (swept_some k) sweeping swept_rising swept_sweeping)))
+
+  swept_stands : MarkStands (swept_some k) (state_swept a (doomed k))
+  swept_stands =
+      let past = sweeping_is_past k.phase sweeping in
+      record {
+        heap = swept_agrees;
+        next = stands.next;
+        urgency = stands.urgency;
+        cycle = stands.cycle;
+        phase = stands.phase;
+        doomed = sym swept_doomed;
+        born = stands.born;
+        orderly = record {
+          rising = swept_rising;
+          below = λ n there. stands.orderly.below n (there_was n there);
+          slots = stands.orderly.slots;
+        };
+        scanners = stands.scanners;
+        finders = stands.finders;
+        there = swept_there;
+        facts = λ now. swept_facts;
+        marking = λ now. absurd (true≢false (sym now ∙ past_is_not_marking k.phase past));
+        clearing = λ now. absurd (true≢false (sym now ∙ ap (λ p. is_in p Clearing) (is_sweeping k.phase sweeping)));
+        sweeping = λ now. swept_sweeping;
+      }
+
+-- ---- rows
+
+sweeps : (a : State) (ds : List ℕ) → a.doomed ≡ ds → is_in a.world.phase Marking ≡ false
+    → Sweeps a ds (answer_of_sweep ds) (state_swept a ds)
+sweeps a [] same quiet = (
+  refl,
+  ap (λ (os : List Object). record a { world = with_heap a.world (record a.world.heap { objects = os }); doomed = [] })
+      (without-none a.world.heap.objects)
+      ∙ ap (λ (d : List ℕ). record a { doomed = d }) (sym same) ∙ sym (ticked_other a quiet),
+)
+sweeps a (n ∷ ns) same quiet = (refl, sym (ticked_other (state_swept a (n ∷ ns)) quiet))
+
+-- a reference without a referent has none once it is gone
+referent-without : (gone : List ℕ) (os : List Object) (n : ℕ) → referent_of (reference_in (object_at os n)) ≡ None
+    → referent_of (reference_in (object_at (without gone os) n)) ≡ None
+referent-without gone os n none =
+    elim (cases_Bool (has gone n)) [
+      | inl out ↦ ap (λ (o : Option Object). referent_of (reference_in o)) (object_at-gone gone os n out)
+      | inr left ↦ ap (λ (o : Option Object). referent_of (reference_in o)) (object_at-left gone os n left) ∙ none
+    ]
+
+pub sweep_row : (c : ClearHeap) (a : State) (w : ℕ) → Stands c a → refusal_in c (heap.Sweep w) ≡ None
+    → (b : State) × HeapAccepts a (heap.Sweep w) (answer_of_sweep (doomed c.mark)) b
+    × Stands (with_mark c (swept_some c.mark)) b
+sweep_row c a w stands none =
+    let k = c.mark in
+    let ds = doomed k in
+    let sweeping : is_in k.phase Sweeping ≡ true = (work_passed k Sweeping w none).1 in
+    let quiet : is_in a.world.phase Marking ≡ false =
+    ap (λ p. is_in p Marking) stands.mark.phase
+    ∙ past_is_not_marking k.phase (sweeping_is_past k.phase sweeping) in
+    let waiting = stands.waiting in (
+      state_swept a ds,
+      subst (λ (d : List ℕ). Sweeps a d (answer_of_sweep ds) (state_swept a ds)) (sym stands.mark.doomed)
+          (sweeps a ds stands.mark.doomed quiet),
+      record {
+        mark = swept_stands k a stands.mark sweeping;
+        pending = stands.pending;
+        waiting = record {
+          workers = waiting.workers;
+          once = waiting.once;
+          cleared = λ n within. referent-without (take 64 ds) k.heap.objects n (waiting.cleared n within);
+        };
+      },
+    )
+
+-- what is held is a root, so nothing white is
+pub may_sweep : (c : ClearHeap) (a : State) (from : ℕ) → Stands c a → is_in c.mark.phase Sweeping ≡ true
+    → ((n : ℕ) → is_white c.mark n ≡ true → from ≤ n) → MaySweep c.mark from
+may_sweep c a from stands sweeping swept =
+    let k = c.mark in
+    let begun : is_in_cycle k.phase ≡ true = past_is_in_cycle k.phase (sweeping_is_past k.phase sweeping) in
+    record {
+      sweeping = sweeping;
+      rising = stands.mark.orderly.rising;
+      free = λ n white.
+          false_from_ne_true (has k.heap.holds n)
+          (λ held.
+          true≢false
+          (sym white
+          ∙ root_is_not_white k a stands.mark begun n
+          (hold_root (present k.heap.slots) k.heap.holds (pending_numbers a.world.pending) n held)));
+      swept = swept;
+    }

@@ -1,0 +1,137 @@
+-- How the lists of all workers change as the first of one is taken, or as a pending reference goes last in one.
+use Rattle.std.proofs.Common.{◌≡◌, ℕ, ◌<◌, true, false, ◌||◌, ◌==◌, refl, sym, ap, subst, ◌∙◌}
+use Rattle.std.proofs.Common.{List, [], ◌∷◌, ◌++◌, map, length, zero, suc, append_assoc}
+use Rattle.std.proofs.Common.{Option, Some, None, ◌⊎◌, inl, inr}
+use Rattle.std.specs.Prelude.{slice_index_or, slice_set}
+use Rattle.std.proofs.Math.ListN.{get_or-map}
+use Rattle.std.proofs.lemmas.Bool.{or_cases, or_parts, or_from, or_left, eqb-true, eq-eqb, ne_eqb, true≢false}
+use Rattle.std.proofs.lemmas.List.{length-map, length-set, map-append, map-set}
+use Rattle.ref_base.specs.Members.{has, AreDistinct}
+use Rattle.ref_base.specs.Worlds.{World, Pending, pending_numbers}
+use Rattle.ref_base.specs.Replay.{pended as world_pended}
+use Rattle.ref_base.specs.Collectors.{joined}
+use Rattle.ref_base.specs.CollectorRows.{list_at}
+use Rattle.ref_base.proofs.FoundLists.{with_last, has-between, has-with_last, AreDistinct-with_last}
+use Rattle.ref_clear.specs.ClearHeaps.{ClearHeap, pended as heap_pended}
+use Rattle.ref_clear.specs.ClearViews.{numbers_in}
+
+-- ---- the first of a list is taken
+
+-- where one list loses its first, so do all as one, somewhere
+joined-taken : (lists : List (List ℕ)) (w n : ℕ) (rest : List ℕ) → list_at lists w ≡ n ∷ rest
+    → (front : List ℕ) × (back : List ℕ) × (joined lists ≡ front ++ (n ∷ back))
+    × (joined (slice_set lists w rest) ≡ front ++ back)
+joined-taken [] w n rest is = absurd (cc)
+joined-taken (ns ∷ lists) zero n rest is = ([], rest ++ joined lists, ap (λ ms. ms ++ joined lists) is, refl)
+joined-taken (ns ∷ lists) (suc w) n rest is =
+    let later = joined-taken lists w n rest is in (
+      ns ++ later.0,
+      later.1,
+      ap (λ ms. ns ++ ms) later.2 ∙ sym (append_assoc ns later.0 (n ∷ later.1)),
+      ap (λ ms. ns ++ ms) later.3 ∙ sym (append_assoc ns later.0 later.1),
+    )
+
+-- one of them goes
+AreDistinct-less : (front back : List ℕ) (n : ℕ) → AreDistinct (front ++ (n ∷ back))
+    → (has (front ++ back) n ≡ false) × AreDistinct (front ++ back)
+AreDistinct-less [] back n distinct = distinct
+AreDistinct-less (m ∷ ms) back n distinct =
+    let parts = or_parts (n == m) (has (ms ++ back) m) (sym (has-between ms back n m) ∙ distinct.0) in
+    let turned : (m == n) ≡ false = ne_eqb m n (λ same. true≢false (sym (eq-eqb n m (sym same)) ∙ parts.0)) in
+    let later = AreDistinct-less ms back n distinct.1 in
+    (or_from (m == n) (has (ms ++ back) n) turned later.0, (parts.1, later.1))
+
+-- all lists had that one, and what they have still
+pub has-taken : (lists : List (List ℕ)) (w n : ℕ) (rest : List ℕ) → list_at lists w ≡ n ∷ rest → (m : ℕ)
+    → has (joined lists) m ≡ ((n == m) || has (joined (slice_set lists w rest)) m)
+has-taken lists w n rest is m =
+    let parts = joined-taken lists w n rest is in
+    ap (λ ns. has ns m) parts.2 ∙ has-between parts.0 parts.1 n m
+    ∙ ap (λ ns. (n == m) || has ns m) (sym parts.3)
+
+pub has-first_taken : (lists : List (List ℕ)) (w n : ℕ) (rest : List ℕ) → list_at lists w ≡ n ∷ rest
+    → has (joined lists) n ≡ true
+has-first_taken lists w n rest is =
+    has-taken lists w n rest is n ∙ or_left (n == n) (has (joined (slice_set lists w rest)) n) (eq-eqb n n refl)
+
+-- and where none stood twice, they don't have that one any more
+pub AreDistinct-taken : (lists : List (List ℕ)) (w n : ℕ) (rest : List ℕ) → list_at lists w ≡ n ∷ rest
+    → AreDistinct (joined lists)
+    → (has (joined (slice_set lists w rest)) n ≡ false) × AreDistinct (joined (slice_set lists w rest))
+AreDistinct-taken lists w n rest is distinct =
+    let parts = joined-taken lists w n rest is in
+    subst (λ ns. (has ns n ≡ false) × AreDistinct ns) (sym parts.3)
+    (AreDistinct-less parts.0 parts.1 n (subst AreDistinct parts.2 distinct))
+
+-- ---- a pending reference goes last
+
+-- pending references are those of all lists as one
+pending_numbers-joined : (pss : List (List Pending)) → pending_numbers pss ≡ joined (map numbers_in pss)
+pending_numbers-joined [] = refl
+pending_numbers-joined (ps ∷ pss) = ap (λ ns. numbers_in ps ++ ns) (pending_numbers-joined pss)
+
+-- the list of worker w gets a last one, and so does the list of its numbers
+abbrev pended_last : List (List Pending) → ℕ → Pending → List (List Pending)
+pended_last pss w p = slice_set pss w (slice_index_or pss w [] ++ p ∷ [])
+
+pended-joined : (pss : List (List Pending)) (w : ℕ) (p : Pending)
+    → pending_numbers (pended_last pss w p) ≡ joined (with_last (map numbers_in pss) w p.object)
+pended-joined pss w p =
+    pending_numbers-joined (pended_last pss w p)
+    ∙ ap joined
+    (map-set numbers_in pss w (slice_index_or pss w [] ++ p ∷ [])
+    ∙ ap (λ ns. slice_set (map numbers_in pss) w ns)
+    (map-append (λ (q : Pending). q.object) (slice_index_or pss w []) (p ∷ [])
+    ∙ ap (λ ns. ns ++ p.object ∷ []) (sym (get_or-map numbers_in pss w []))))
+
+-- n goes last in the list of worker w, if it is registered with a queue
+abbrev pub pended_lists : List (List Pending) → (w n : ℕ) → Option ℕ → ℕ → List (List Pending)
+pended_lists pss w n None cycle = pss
+pended_lists pss w n (Some q) cycle = pended_last pss w (record { object = n; queue = q; cycle = cycle })
+
+-- there are as many lists
+pub length-pended : (pss : List (List Pending)) (w n : ℕ) (queue : Option ℕ) (cycle : ℕ)
+    → length (pended_lists pss w n queue cycle) ≡ length pss
+length-pended pss w n None cycle = refl
+length-pended pss w n (Some q) cycle =
+    length-set pss w (slice_index_or pss w [] ++ record { object = n; queue = q; cycle = cycle } ∷ [])
+
+module _ (pss : List (List Pending)) (w : ℕ) (within : w < length pss) where
+  worker_has_list : w < length (map numbers_in pss)
+  worker_has_list = subst (λ count. w < count) (sym (length-map pss numbers_in)) within
+
+  -- what is pending then was pending, or is that one
+  pub has-pended : (n : ℕ) (queue : Option ℕ) (cycle m : ℕ)
+      → has (pending_numbers (pended_lists pss w n queue cycle)) m ≡ true
+      → (n ≡ m) ⊎ (has (pending_numbers pss) m ≡ true)
+  has-pended n None cycle m pending = inr pending
+  has-pended n (Some q) cycle m pending =
+      let p : Pending = record { object = n; queue = q; cycle = cycle } in
+      elim
+      (or_cases (n == m) (has (joined (map numbers_in pss)) m)
+      (sym (ap (λ ns. has ns m) (pended-joined pss w p) ∙ has-with_last (map numbers_in pss) w n m worker_has_list)
+      ∙ pending)) [
+        | inl same ↦ inl (eqb-true n m same)
+        | inr before ↦ inr (ap (λ ns. has ns m) (pending_numbers-joined pss) ∙ before)
+      ]
+
+  -- and none stands twice where that one is new
+  pub AreDistinct-pended : (n : ℕ) (queue : Option ℕ) (cycle : ℕ) → AreDistinct (pending_numbers pss)
+      → has (pending_numbers pss) n ≡ false → AreDistinct (pending_numbers (pended_lists pss w n queue cycle))
+  AreDistinct-pended n None cycle distinct new = distinct
+  AreDistinct-pended n (Some q) cycle distinct new =
+      subst AreDistinct (sym (pended-joined pss w (record { object = n; queue = q; cycle = cycle })))
+      (AreDistinct-with_last (map numbers_in pss) w n worker_has_list
+      (subst AreDistinct (pending_numbers-joined pss) distinct)
+      (ap (λ ns. has ns n) (sym (pending_numbers-joined pss)) ∙ new))
+
+-- the changes of a world and of a heap have these lists
+pub world-pended : (v : World) (w n : ℕ) (queue : Option ℕ)
+    → world_pended v w n queue ≡ record v { pending = pended_lists v.pending w n queue v.cycle }
+world-pended v w n None = refl
+world-pended v w n (Some q) = refl
+
+pub heap-pended : (c : ClearHeap) (w n : ℕ) (queue : Option ℕ)
+    → heap_pended c w n queue ≡ record c { pending = pended_lists c.pending w n queue c.mark.cycle }
+heap-pended c w n None = refl
+heap-pended c w n (Some q) = refl

@@ -1,0 +1,71 @@
+-- What the code of an unhook answers and leaves where the reference is registered: the hold comes first, then the cut.
+use Rattle.std.proofs.Common.{◌≡◌, ℕ, true, refl, sym, ap, subst, ◌∙◌, List, Option, Some, None}
+use Rattle.ref_base.specs.Graphs.{Reference, is_there}
+use Rattle.ref_base.specs.Heaps.{slot_at, reference_at, registered_in}
+use Rattle.ref_base.specs.CollectorRows.{reference_of}
+use Rattle.ref_base.specs.Refusals.{has_slot, drop_refusal, holds_refusal}
+use Rattle.ref_base.specs.declared.cause.Cause.TheVariants.{Own}
+use Rattle.ref_base.specs.declared.fault.Fault.TheVariants.{NoSuchActor, NoSuchObject}
+use Rattle.ref_base.specs.declared.heap_step.HeapStep.TheVariants as heap
+use Rattle.ref_base.specs.declared.reply.Reply.TheVariants as replies
+use Rattle.ref_base.proofs.RowForms.{unless_parts}
+use Rattle.ref_objects.specs.Grounds.{Ground}
+use Rattle.ref_mark.specs.CycleHeaps.{CycleHeap, with_cleared}
+use Rattle.ref_mark.specs.MarkCalls as marks
+use Rattle.ref_mark.specs.MarkCalls.{mint_answer_in, after_mint_in}
+use Rattle.ref_mark.specs.MarkViews.{ground_of}
+use Rattle.ref_clear.specs.ClearHeaps.{holding, unhooked}
+use Rattle.ref_clear.specs.ClearCalls.{refusal_in, queue_in, answer_in, after_in, answer_of_unhook}
+use Rattle.ref_clear.specs.ClearViews.{PendingList, seen}
+use Rattle.ref_clear.proofs.NoticeAnswers.{minted, clear_holding}
+
+-- ---- what is read through the view of the objects
+
+module _ (k : CycleHeap) (m s : ℕ) {g : Ground} (view : g ≡ ground_of k) where
+  pub slot_is_there : drop_refusal g.heap m s ≡ None → has_slot k.heap m s ≡ true
+  slot_is_there none =
+      (unless_parts (has_slot k.heap m s) NoSuchActor None
+      (subst (λ (h : Ground). drop_refusal h.heap m s ≡ None) view none)).0
+
+  pub slot_holds : {value : Option ℕ} {n : ℕ} → value ≡ slot_at g.heap m s → value ≡ Some n
+      → slot_at k.heap m s ≡ Some n
+  slot_holds reads is = sym (reads ∙ ap (λ (h : Ground). slot_at h.heap m s) view) ∙ is
+
+pub reference_is : (k : CycleHeap) (n : ℕ) {g : Ground} {value : Option Reference} {r : Reference} → g ≡ ground_of k
+    → value ≡ reference_at g.heap n → value ≡ Some r → reference_at k.heap n ≡ Some r
+reference_is k n view reads is = sym (reads ∙ ap (λ (h : Ground). reference_at h.heap n) view) ∙ is
+
+-- ---- the hold and the cut
+
+-- of the reference r in a slot, that has a queue
+module _ (k : CycleHeap) (lists : List PendingList) (m s : ℕ) {n q : ℕ} {r : Reference}
+    (has : has_slot k.heap m s ≡ true) (held : slot_at k.heap m s ≡ Some n) (found : reference_at k.heap n ≡ Some r)
+    (queue : r.queue ≡ Some q) where
+  registered : queue_in k m s ≡ Some q
+  registered = ap (λ v. registered_in (reference_of k.heap v)) held ∙ ap registered_in found ∙ queue
+
+  refusal : refusal_in (seen k lists) (heap.Unhook m s) ≡ holds_refusal k.heap
+  refusal = simp (has, held, found, queue) refl
+
+  clears : marks.refusal_in (holding k n) (heap.Clear m s) ≡ None
+  clears = simp (has, held, found) refl
+
+  pub unhook_done : {i j : CycleHeap} {object : ℕ} → replies.Object object ≡ mint_answer_in k n
+      → i ≡ after_mint_in k n → j ≡ marks.after_in i (heap.Clear m s)
+      → (replies.Notice object q Own ≡ answer_in (seen k lists) (heap.Unhook m s))
+      × (seen j lists ≡ after_in (seen k lists) (heap.Unhook m s))
+  unhook_done {i} {j} {object} answer after cut =
+      let mint = minted k n object answer after in
+      let counted : holds_refusal k.heap ≡ None =
+      (unless_parts (is_there k.heap.objects n) NoSuchObject (holds_refusal k.heap) mint.0).1 in
+      let none : refusal_in (seen k lists) (heap.Unhook m s) ≡ None = refusal ∙ counted in
+      let reply : answer_of_unhook (slot_at k.heap m s) (queue_in k m s) ≡ replies.Notice n q Own =
+      ap (λ v. answer_of_unhook v (queue_in k m s)) held ∙ ap (answer_of_unhook (Some n)) registered in
+      let left : unhooked k m s (slot_at k.heap m s) (queue_in k m s) ≡ holding (with_cleared k m s) n =
+      ap (λ v. unhooked k m s v (queue_in k m s)) held ∙ ap (unhooked k m s (Some n)) registered in
+      let now : j ≡ holding (with_cleared k m s) n =
+      cut ∙ ap (λ (h : CycleHeap). marks.after_in h (heap.Clear m s)) mint.2 ∙ simp clears refl
+      ∙ clear_holding k m s n in (
+        ap (λ (o : ℕ). replies.Notice o q Own) mint.1 ∙ sym reply ∙ simp none refl,
+        ap (λ (h : CycleHeap). seen h lists) (now ∙ sym left) ∙ simp none refl,
+      )

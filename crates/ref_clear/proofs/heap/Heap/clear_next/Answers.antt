@@ -1,0 +1,119 @@
+use Rattle.std.proofs.Common.{◌≡◌, true, false, Some, None, set, sym, ap, ◌∙◌}
+use Rattle.ref_base.specs.Graphs.{Reference}
+use Rattle.ref_base.specs.Heaps.{reference_at, registered_in}
+use Rattle.ref_clear.specs.ClearHeaps.{is_to_clear}
+use Rattle.ref_clear.specs.ClearViews.{seen}
+use Rattle.ref_clear.proofs.LookAnswers.{sound_none, sound_passed, seen_cut, sound_cut, seen_pended, sound_pended}
+use Rattle.ref_clear.proofs.LookAnswers.{look_within, look_has_room, few_taken}
+use Rattle.ref_clear.proofs.LookAnswers.{no_reference, no_referent, clears_by, queue_read}
+use Rattle.ref_clear.proofs.heap.Heap.clear_next.Goals as goal
+use Rattle.ref_clear.proofs.heap.Heap.clear_next.Goals.{in-Some-queue, in_default-queue}
+
+pub invariant_of-self-in_default : goal.invariant_of-self-in_default
+invariant_of-self-in_default g c =
+    sound_none c.args.worker c.in_ok-no.ensures.refused c.self.invariant
+    (sym c.in_ok-no.ensures.answer ∙ c.in_default.is) c.in_ok-no.ensures.after
+
+pub invariant_of-self-in_default-reference_of : goal.invariant_of-self-in_default-reference_of
+invariant_of-self-in_default-reference_of g c =
+    let stays : is_to_clear c.self.inside.marker c.in-Some.no ≡ false =
+    no_reference c.self.inside.marker c.args.worker c.in_ok-no.ensures.after c.objects.ensures c.in-Some.no
+    c.reference_of.ensures c.in_default-reference_of.is in
+    sound_passed c.args.worker c.in_ok-no.ensures.refused c.self.invariant c.in-Some.no
+    (sym c.in_ok-no.ensures.answer ∙ c.in-Some.is) stays c.in_ok-no.ensures.after
+
+pub invariant_of-self-in_default-referent : goal.invariant_of-self-in_default-referent
+invariant_of-self-in_default-referent g c =
+    let stays : is_to_clear c.self.inside.marker c.in-Some.no ≡ false =
+    no_referent c.self.inside.marker c.args.worker c.in_ok-no.ensures.after c.objects.ensures c.in-Some.no
+    c.reference_of.ensures c.in-Some-reference_of.is
+    (ap (λ (r : Reference). r.referent) (sym c.reference.view_is) ∙ c.in_default-referent.is) in
+    sound_passed c.args.worker c.in_ok-no.ensures.refused c.self.invariant c.in-Some.no
+    (sym c.in_ok-no.ensures.answer ∙ c.in-Some.is) stays c.in_ok-no.ensures.after
+
+pub invariant_of-self-then-not-is_doomed : goal.invariant_of-self-then-not-is_doomed
+invariant_of-self-then-not-is_doomed g c =
+    let stays : is_to_clear c.self.inside.marker c.in-Some.no ≡ false =
+    clears_by c.self.inside.marker c.args.worker c.in_ok-no.ensures.after c.objects.ensures c.in-Some.no
+    c.reference_of.ensures c.in-Some-reference_of.is
+    (ap (λ (r : Reference). r.referent) (sym c.reference.view_is) ∙ c.in-Some-referent.is)
+    (sym c.is_doomed.ensures ∙ c.if-not-is_doomed.true) in
+    sound_passed c.args.worker c.in_ok-no.ensures.refused c.self.invariant c.in-Some.no
+    (sym c.in_ok-no.ensures.answer ∙ c.in-Some.is) stays c.in_ok-no.ensures.after
+
+pub index_mut-requires : goal.index_mut-requires
+index_mut-requires g c =
+    rw (c.worker.view_is, c.self.inside.pending.ok.0)
+    (look_within c.args.worker c.in_ok-no.ensures.refused c.self.invariant)
+
+pub push-requires : goal.push-requires
+push-requires g c =
+    let goes : is_to_clear c.self.inside.marker c.in-Some.no ≡ true =
+    clears_by c.self.inside.marker c.args.worker c.in_ok-no.ensures.after c.objects.ensures c.in-Some.no
+    c.reference_of.ensures c.in-Some-reference_of.is
+    (ap (λ (r : Reference). r.referent) (sym c.reference.view_is) ∙ c.in-Some-referent.is)
+    (sym c.is_doomed.ensures ∙ c.if-not-is_doomed.false) in
+    look_has_room c.args.worker c.in_ok-no.ensures.refused c.self.invariant c.in-Some.no
+    (sym c.in_ok-no.ensures.answer ∙ c.in-Some.is) goes (rw c.worker.view_is at c.index_mut.ensures.value)
+    (few_taken c.self.inside.marker c.args.worker c.in_ok-no.ensures.after c.objects-2.ensures c.facts.ensures)
+
+pub invariant_of-self-in-Some-queue : goal.invariant_of-self-in-Some-queue
+invariant_of-self-in-Some-queue g c =
+    let goes : is_to_clear c.self.inside.marker c.in-Some.no ≡ true =
+    clears_by c.self.inside.marker c.args.worker c.in_ok-no.ensures.after c.objects.ensures c.in-Some.no
+    c.reference_of.ensures c.in-Some-reference_of.is
+    (ap (λ (r : Reference). r.referent) (sym c.reference.view_is) ∙ c.in-Some-referent.is)
+    (sym c.is_doomed.ensures ∙ c.if-not-is_doomed.false) in
+    let queue : registered_in (reference_at c.self.inside.marker.heap c.in-Some.no) ≡ Some c.in-Some-queue.queue =
+    queue_read c.self.inside.marker c.args.worker c.in_ok-no.ensures.after c.objects.ensures c.in-Some.no
+    c.reference_of.ensures c.in-Some-reference_of.is
+    (ap (λ (r : Reference). r.queue) (sym c.reference.view_is) ∙ c.in-Some-queue.is) in
+    rw c.worker.view_is
+    (sound_pended c.args.worker c.in_ok-no.ensures.refused c.self.invariant c.in-Some.no
+    (sym c.in_ok-no.ensures.answer ∙ c.in-Some.is) goes (rw c.worker.view_is at c.index_mut.ensures.value)
+    c.in-Some-queue.queue queue c.in_ok-no.ensures.after c.cut.ensures (rw c.cycle-cycle.ensures at c.push.ensures))
+
+pub invariant_of-self-in_default-queue : goal.invariant_of-self-in_default-queue
+invariant_of-self-in_default-queue g c =
+    let goes : is_to_clear c.self.inside.marker c.in-Some.no ≡ true =
+    clears_by c.self.inside.marker c.args.worker c.in_ok-no.ensures.after c.objects.ensures c.in-Some.no
+    c.reference_of.ensures c.in-Some-reference_of.is
+    (ap (λ (r : Reference). r.referent) (sym c.reference.view_is) ∙ c.in-Some-referent.is)
+    (sym c.is_doomed.ensures ∙ c.if-not-is_doomed.false) in
+    let none : registered_in (reference_at c.self.inside.marker.heap c.in-Some.no) ≡ None =
+    queue_read c.self.inside.marker c.args.worker c.in_ok-no.ensures.after c.objects.ensures c.in-Some.no
+    c.reference_of.ensures c.in-Some-reference_of.is
+    (ap (λ (r : Reference). r.queue) (sym c.reference.view_is) ∙ c.in_default-queue.is) in
+    sound_cut c.args.worker c.in_ok-no.ensures.refused c.self.invariant c.in-Some.no
+    (sym c.in_ok-no.ensures.answer ∙ c.in-Some.is) goes none c.in_ok-no.ensures.after c.cut.ensures
+
+pub returns-clause-after : goal.returns-clause-after
+returns-clause-after g c =
+    let goes : is_to_clear c.self.inside.marker c.in-Some.no ≡ true =
+    clears_by c.self.inside.marker c.args.worker c.in_ok-no.ensures.after c.objects.ensures c.in-Some.no
+    c.reference_of.ensures c.in-Some-reference_of.is
+    (ap (λ (r : Reference). r.referent) (sym c.reference.view_is) ∙ c.in-Some-referent.is)
+    (sym c.is_doomed.ensures ∙ c.if-not-is_doomed.false) in
+    rw (← c.self.view_is)
+    (elim c.match-reference-2.branch [
+      | in-Some-queue w ↦
+          let queue : registered_in (reference_at c.self.inside.marker.heap c.in-Some.no)
+          ≡ Some w.in-Some-queue.queue =
+          queue_read c.self.inside.marker c.args.worker c.in_ok-no.ensures.after c.objects.ensures c.in-Some.no
+          c.reference_of.ensures c.in-Some-reference_of.is
+          (ap (λ (r : Reference). r.queue) (sym c.reference.view_is) ∙ w.in-Some-queue.is) in
+          w.self-is
+          ∙ ap (λ i. seen c.cut.new.self (set c.self.inside.pending.items i w.push.new.self)) c.worker.view_is
+          ∙ seen_pended c.args.worker c.in_ok-no.ensures.refused c.self.invariant c.in-Some.no
+          (sym c.in_ok-no.ensures.answer ∙ c.in-Some.is) goes (rw c.worker.view_is at w.index_mut.ensures.value)
+          w.in-Some-queue.queue queue c.in_ok-no.ensures.after c.cut.ensures
+          (rw w.cycle-cycle.ensures at w.push.ensures)
+      | in_default-queue w ↦
+          let none : registered_in (reference_at c.self.inside.marker.heap c.in-Some.no) ≡ None =
+          queue_read c.self.inside.marker c.args.worker c.in_ok-no.ensures.after c.objects.ensures c.in-Some.no
+          c.reference_of.ensures c.in-Some-reference_of.is
+          (ap (λ (r : Reference). r.queue) (sym c.reference.view_is) ∙ w.in_default-queue.is) in
+          w.self-is
+          ∙ seen_cut c.args.worker c.in_ok-no.ensures.refused c.self.invariant c.in-Some.no
+          (sym c.in_ok-no.ensures.answer ∙ c.in-Some.is) goes none c.in_ok-no.ensures.after c.cut.ensures
+    ])

@@ -1,0 +1,10 @@
+use Rattle.std.proofs.Common.{◌≡◌, true, sym, ◌∙◌, rules}
+use Rattle.ref_base.specs.Refusals.{is_in}
+use Rattle.ref_base.specs.declared.phase.Phase.TheVariants.{Sweeping}
+use Rattle.ref_clear.proofs.SoundEnds.{sound_sweep_ended}
+use Rattle.ref_clear.proofs.heap.Heap.end_sweep.Goals as goal
+
+pub invariant_of-self : goal.invariant_of-self
+invariant_of-self g c =
+    let sweeping : is_in c.self.inside.marker.phase Sweeping ≡ true = search rules in
+    sound_sweep_ended sweeping (sym c.has_doomed.ensures ∙ c.if-has_doomed.false) c.to_idle.ensures c.self.invariant

@@ -1,0 +1,15 @@
+use Rattle.ref_clear.proofs.SoundEnds.{may_free, sound_swept}
+use Rattle.ref_clear.proofs.heap.Heap.sweep.Goals as goal
+
+pub free_some-freed-requires : goal.free_some-freed-requires
+free_some-freed-requires g c = may_free c.args.worker c.in_ok-check_work.ensures c.self.invariant
+
+pub invariant_of-self : goal.invariant_of-self
+invariant_of-self g c =
+    sound_swept c.args.worker c.in_ok-check_work.ensures c.free_some-freed.ensures.after
+    c.free_some-freed.ensures.reached c.self.invariant
+
+pub invariant_of-self-2 : goal.invariant_of-self-2
+invariant_of-self-2 g c =
+    sound_swept c.args.worker c.in_ok-check_work.ensures c.free_some-freed.ensures.after
+    c.free_some-freed.ensures.reached c.self.invariant

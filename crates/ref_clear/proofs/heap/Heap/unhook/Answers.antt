@@ -1,0 +1,62 @@
+use Rattle.std.proofs.Common.{◌≡◌, Some, refl, sym, ap, ◌∙◌, subst}
+use Rattle.ref_base.specs.Graphs.{Reference}
+use Rattle.ref_base.specs.declared.heap_step.HeapStep.TheVariants as heap
+use Rattle.ref_mark.specs.CycleHeaps.{CycleHeap}
+use Rattle.ref_clear.specs.ClearViews.{seen, IsSound}
+use Rattle.ref_clear.proofs.NoticeAnswers.{mint_refused}
+use Rattle.ref_clear.proofs.SoundHeaps.{sound_after}
+use Rattle.ref_clear.proofs.UnhookAnswers.{slot_is_there, slot_holds, reference_is, unhook_done}
+use Rattle.ref_clear.proofs.heap.Heap.unhook.Goals as goal
+
+pub invariant_of-self-in_default : goal.invariant_of-self-in_default
+invariant_of-self-in_default g c =
+    sound_after (heap.Clear c.args.mutator c.args.reference) refl c.self.invariant
+    (ap (λ (k : CycleHeap). seen k c.self.inside.pending.items) c.clear.ensures.after) c.self.invariant.room
+
+pub invariant_of-self-in_err-hold : goal.invariant_of-self-in_err-hold
+invariant_of-self-in_err-hold g c =
+    let mint = mint_refused c.self.inside.marker _ _ c.in_err-hold.ensures.answer c.in_err-hold.ensures.after in
+    subst (λ (k : CycleHeap). IsSound k c.self.inside.pending.items c.self.inside.swept_to) (sym mint.1)
+    c.self.invariant
+
+pub invariant_of-self-2 : goal.invariant_of-self-2
+invariant_of-self-2 g c =
+    let k : CycleHeap = c.self.inside.marker in
+    let queue : c.in_ok-unhooked.unhooked.queue ≡ Some c.in-Some.queue =
+    ap (λ (r : Reference). r.queue) (sym c.unhooked.view_is) ∙ c.in-Some.is in
+    let step =
+    unhook_done k c.self.inside.pending.items c.args.mutator c.args.reference
+    (slot_is_there k c.args.mutator c.args.reference c.objects.ensures c.in_ok-slot_of.ensures.refused)
+    (slot_holds k c.args.mutator c.args.reference c.objects.ensures c.in_ok-slot_of.ensures.answer
+    c.in_ok-no.ensures.ok_part)
+    (reference_is k c.in_ok-no.no c.objects-2.ensures c.reference_of.ensures c.in_ok-unhooked.ensures.ok_part) queue
+    c.in_ok-hold.ensures.answer c.in_ok-hold.ensures.after c.clear-cleared.ensures.after in
+    sound_after (heap.Unhook c.args.mutator c.args.reference) refl c.self.invariant step.1 c.self.invariant.room
+
+pub returns-clause-answer : goal.returns-clause-answer
+returns-clause-answer g c =
+    let k : CycleHeap = c.self.inside.marker in
+    let queue : c.in_ok-unhooked.unhooked.queue ≡ Some c.in-Some.queue =
+    ap (λ (r : Reference). r.queue) (sym c.unhooked.view_is) ∙ c.in-Some.is in
+    let step =
+    unhook_done k c.self.inside.pending.items c.args.mutator c.args.reference
+    (slot_is_there k c.args.mutator c.args.reference c.objects.ensures c.in_ok-slot_of.ensures.refused)
+    (slot_holds k c.args.mutator c.args.reference c.objects.ensures c.in_ok-slot_of.ensures.answer
+    c.in_ok-no.ensures.ok_part)
+    (reference_is k c.in_ok-no.no c.objects-2.ensures c.reference_of.ensures c.in_ok-unhooked.ensures.ok_part) queue
+    c.in_ok-hold.ensures.answer c.in_ok-hold.ensures.after c.clear-cleared.ensures.after in
+    rw (c.new.ensures, ← c.self.view_is) step.0
+
+pub returns-clause-after : goal.returns-clause-after
+returns-clause-after g c =
+    let k : CycleHeap = c.self.inside.marker in
+    let queue : c.in_ok-unhooked.unhooked.queue ≡ Some c.in-Some.queue =
+    ap (λ (r : Reference). r.queue) (sym c.unhooked.view_is) ∙ c.in-Some.is in
+    let step =
+    unhook_done k c.self.inside.pending.items c.args.mutator c.args.reference
+    (slot_is_there k c.args.mutator c.args.reference c.objects.ensures c.in_ok-slot_of.ensures.refused)
+    (slot_holds k c.args.mutator c.args.reference c.objects.ensures c.in_ok-slot_of.ensures.answer
+    c.in_ok-no.ensures.ok_part)
+    (reference_is k c.in_ok-no.no c.objects-2.ensures c.reference_of.ensures c.in_ok-unhooked.ensures.ok_part) queue
+    c.in_ok-hold.ensures.answer c.in_ok-hold.ensures.after c.clear-cleared.ensures.after in
+    rw (← c.self.view_is) step.1

@@ -1,0 +1,8 @@
+use Rattle.ref_clear.proofs.PendingFacts.{pending_is_there, pending_is_not_doomed}
+use Rattle.ref_clear.proofs.laws.what_is_pending_is_there_and_not_doomed.Goals as goal
+
+pub returns-clause-there : goal.returns-clause-there
+returns-clause-there c = pending_is_there
+
+pub returns-clause-lives : goal.returns-clause-lives
+returns-clause-lives c = pending_is_not_doomed

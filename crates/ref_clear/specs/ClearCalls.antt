@@ -1,0 +1,117 @@
+-- What the calls of a heap answer and leave, step by step. The steps of marking are as they are below; the others are
+-- told here.
+use Rattle.std.specs.Prelude.{◌≡◌, ℕ, if◌then◌else◌, List, [], ◌∷◌, length, min, Option, Some, None, is_some}
+use Rattle.ref_base.specs.HeapSteps.{NamedStep}
+use Rattle.ref_base.specs.Heaps.{slot_at, reference_at, registered_in}
+use Rattle.ref_base.specs.Worlds.{Pending}
+use Rattle.ref_base.specs.Collectors.{State}
+use Rattle.ref_base.specs.CollectorRows.{reference_of, referent_of, list_at}
+use Rattle.ref_base.specs.Refusals.{heap_refusal}
+use Rattle.ref_base.specs.declared.fault.Fault.{Fault}
+use Rattle.ref_base.specs.declared.cause.Cause.TheVariants.{Own, Cycle}
+use Rattle.ref_base.specs.declared.phase.Phase.TheVariants.{Idle, Sweeping}
+use Rattle.ref_base.specs.declared.heap_step.HeapStep.TheVariants as heap
+use Rattle.ref_base.specs.declared.reply.Reply.{Reply}
+use Rattle.ref_base.specs.declared.reply.Reply.TheVariants as replies
+use Rattle.ref_mark.specs.CycleHeaps.{CycleHeap, doomed, with_phase}
+use Rattle.ref_mark.specs.MarkCalls as marks
+use Rattle.ref_mark.specs.MarkCalls.{unless_refused}
+use Rattle.ref_clear.specs.ClearHeaps.{ClearHeap, HeldNotice, with_mark, pending_at, begun_with, is_to_clear}
+use Rattle.ref_clear.specs.ClearHeaps.{looked_from, handed_from, unhooked, swept_some}
+use Rattle.ref_clear.specs.declared.looked.Looked.{Looked}
+use Rattle.ref_clear.specs.declared.looked.Looked.TheVariants as looked
+
+-- ---- how a result is told as a reply
+
+-- of a look at a reference, or at none
+abbrev pub looked_reply : Option Looked → Reply
+looked_reply None = replies.Nothing
+looked_reply (Some (looked.Cleared n)) = replies.Cleared n
+looked_reply (Some (looked.Kept n)) = replies.Kept n
+looked_reply (Some (looked.Skipped n)) = replies.Skipped n
+
+-- of a notice, or of none
+abbrev pub notice_reply : Option HeldNotice → Reply
+notice_reply None = replies.Nothing
+notice_reply (Some notice) = replies.Notice notice.hold.object notice.queue notice.cause
+
+-- of a sweep of so many, or of none
+abbrev pub swept_reply : Option ℕ → Reply
+swept_reply None = replies.Nothing
+swept_reply (Some count) = replies.Swept count
+
+-- a notice, if one is given, holds its reference in the heap of this number
+abbrev pub IsOfHeap : ℕ → Option HeldNotice → Type 0
+IsOfHeap heap_no None = Unit {0}
+IsOfHeap heap_no (Some notice) = notice.hold.heap_no ≡ heap_no
+
+-- ---- refusals
+
+-- a state with all that refusals depend on
+abbrev pub refusing_state : ClearHeap → State
+refusing_state c =
+    let a = marks.refusing_state c.mark in
+    record a { world = record a.world { pending = c.pending }; doomed = doomed c.mark; found = c.mark.found }
+
+-- the fault of a step, or none where it is accepted: the abstract collector's own
+abbrev pub refusal_in : ClearHeap → NamedStep → Option Fault
+refusal_in c step = heap_refusal c.mark.heap_no (refusing_state c) step
+
+-- ---- answers
+
+-- the reference that a worker looks at first is cleared if its referent is doomed, kept if it has another, else skipped
+abbrev pub answer_of_look : CycleHeap → List ℕ → Reply
+answer_of_look k [] = replies.Nothing
+answer_of_look k (n ∷ rest) =
+    if is_to_clear k n then replies.Cleared n else
+    (if is_some (referent_of (reference_at k.heap n)) then replies.Kept n else replies.Skipped n)
+
+-- the notice of the first pending reference names the cycle in which it was cleared
+abbrev pub answer_of_hand : ℕ → List Pending → Reply
+answer_of_hand w [] = replies.Nothing
+answer_of_hand w (p ∷ ps) = replies.Notice p.object p.queue (Cycle p.cycle w)
+
+-- an unhook of the reference that the slot holds gives its notice where it is registered
+abbrev pub answer_of_unhook : Option ℕ → Option ℕ → Reply
+answer_of_unhook None queue = replies.Nothing
+answer_of_unhook (Some n) None = replies.Nothing
+answer_of_unhook (Some n) (Some q) = replies.Notice n q Own
+
+abbrev pub answer_of_sweep : List ℕ → Reply
+answer_of_sweep [] = replies.Nothing
+answer_of_sweep (n ∷ ns) = replies.Swept (min 64 (length (n ∷ ns)))
+
+-- the queue of the reference in the slot, if it is registered
+abbrev pub queue_in : CycleHeap → ℕ → ℕ → Option ℕ
+queue_in k m s = registered_in (reference_of k.heap (slot_at k.heap m s))
+
+-- ---- steps
+
+abbrev pub told : ClearHeap → NamedStep → Reply → Reply
+told c step reply = unless_refused (refusal_in c step) replies.Refused reply
+
+abbrev pub left : ClearHeap → NamedStep → ClearHeap → ClearHeap
+left c step after = unless_refused (refusal_in c step) (λ fault. c) after
+
+-- the reply to a step, refused or not
+abbrev pub answer_in : ClearHeap → NamedStep → Reply
+answer_in c (heap.Unhook m s) =
+    told c (heap.Unhook m s) (answer_of_unhook (slot_at c.mark.heap m s) (queue_in c.mark m s))
+answer_in c (heap.ClearNext w) = told c (heap.ClearNext w) (answer_of_look c.mark (list_at c.mark.found w))
+answer_in c heap.EndClear = told c heap.EndClear replies.Done
+answer_in c (heap.Hand w) = told c (heap.Hand w) (answer_of_hand w (pending_at c w))
+answer_in c (heap.Sweep w) = told c (heap.Sweep w) (answer_of_sweep (doomed c.mark))
+answer_in c heap.EndSweep = told c heap.EndSweep replies.Done
+answer_in c step = marks.answer_in c.mark step
+
+-- the heap after it
+abbrev pub after_in : ClearHeap → NamedStep → ClearHeap
+after_in c (heap.Unhook m s) =
+    left c (heap.Unhook m s) (with_mark c (unhooked c.mark m s (slot_at c.mark.heap m s) (queue_in c.mark m s)))
+after_in c (heap.Begin now how) = left c (heap.Begin now how) (begun_with c now how)
+after_in c (heap.ClearNext w) = left c (heap.ClearNext w) (looked_from c w (list_at c.mark.found w))
+after_in c heap.EndClear = left c heap.EndClear (with_mark c (with_phase c.mark Sweeping))
+after_in c (heap.Hand w) = left c (heap.Hand w) (handed_from c w (pending_at c w))
+after_in c (heap.Sweep w) = left c (heap.Sweep w) (with_mark c (swept_some c.mark))
+after_in c heap.EndSweep = left c heap.EndSweep (with_mark c (with_phase c.mark Idle))
+after_in c step = with_mark c (marks.after_in c.mark step)

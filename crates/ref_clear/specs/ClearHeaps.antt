@@ -1,0 +1,100 @@
+-- A whole heap, as plain data: a heap in its cycles, and the references that its workers cleared and haven't handed on;
+-- and the changes that calls make to it (package `java.lang.ref` of Java SE 17 for what clears a reference and what
+-- comes of it; pending lists, notices and sweeps by 64: this project's profile).
+use Rattle.std.specs.Prelude.{ℕ, if◌then◌else◌, Bool, List, [], ◌∷◌, ◌++◌, take, replicate, Option, Some, None}
+use Rattle.std.specs.Prelude.{slice_index_or, slice_set}
+use Rattle.ref_base.specs.DoomedSets.{refers_into}
+use Rattle.ref_base.specs.Heaps.{reference_at, registered_in, with_hold, with_changed, with_reference, cleared}
+use Rattle.ref_base.specs.Worlds.{Pending, pending_numbers}
+use Rattle.ref_base.specs.CollectorRows.{without}
+use Rattle.ref_base.specs.declared.cause.Cause.{Cause}
+use Rattle.ref_base.specs.declared.config.Config.{Config}
+use Rattle.ref_base.specs.declared.heap_step.HoldName.{HoldName}
+use Rattle.ref_base.specs.declared.urgency.Urgency.{Urgency}
+use Rattle.ref_mark.specs.CycleHeaps.{CycleHeap, first_cycle_heap, is_doomed, doomed, with_cleared, with_taken}
+use Rattle.ref_mark.specs.CycleHeaps.{begun, shaded_all}
+
+-- a heap in its cycles, and for each worker the references that it cleared and hasn't handed on, first first
+pub record ClearHeap : Type 0 where
+  pub mark : CycleHeap
+  pub pending : List (List Pending)
+
+-- a notice that is out: the hold of the reference that it reports, the queue that it is for, and why there is one
+pub record HeldNotice : Type 0 where
+  pub hold : HoldName
+  pub queue : ℕ
+  pub cause : Cause
+
+-- at first nothing is pending
+abbrev pub first_clear_heap : Config → ℕ → ℕ → ℕ → ClearHeap
+first_clear_heap config heap_no next cycle = record {
+  mark = first_cycle_heap config heap_no next cycle;
+  pending = replicate config.workers [];
+}
+
+abbrev pub with_mark : ClearHeap → CycleHeap → ClearHeap
+with_mark c k = record c { mark = k }
+
+abbrev pub pending_at : ClearHeap → ℕ → List Pending
+pending_at c w = slice_index_or c.pending w []
+
+abbrev pub with_pending_at : ClearHeap → ℕ → List Pending → ClearHeap
+with_pending_at c w ps = record c { pending = slice_set c.pending w ps }
+
+-- there is one hold more of n
+abbrev pub holding : CycleHeap → ℕ → CycleHeap
+holding k n = record k { heap = with_hold k.heap n }
+
+-- ---- a cycle's begin
+
+-- a cycle begins: the pending references become grey last, worker by worker in list order
+abbrev pub begun_with : ClearHeap → ℕ → Urgency → ClearHeap
+begun_with c now urgency = with_mark c (shaded_all (begun c.mark now urgency) (pending_numbers c.pending))
+
+-- ---- clearing
+
+-- whether n is a reference to the doomed
+abbrev pub is_to_clear : CycleHeap → ℕ → Bool
+is_to_clear k n = refers_into (is_doomed k) (reference_at k.heap n)
+
+-- reference n is cleared
+abbrev pub cut_at : CycleHeap → ℕ → CycleHeap
+cut_at k n = record k { heap = with_changed k.heap n (with_reference cleared) }
+
+-- it goes last in the worker's pending list, if it is registered with a queue
+abbrev pub pended : ClearHeap → ℕ → ℕ → Option ℕ → ClearHeap
+pended c w n None = c
+pended c w n (Some q) =
+    with_pending_at c w (pending_at c w ++ record { object = n; queue = q; cycle = c.mark.cycle } ∷ [])
+
+-- the worker looks at reference n, and clears it where its referent is doomed
+abbrev pub looked_at : ClearHeap → ℕ → ℕ → ClearHeap
+looked_at c w n =
+    if is_to_clear c.mark n
+    then pended (with_mark c (cut_at c.mark n)) w n (registered_in (reference_at c.mark.heap n))
+    else c
+
+-- it takes the first of what it found, and looks at it
+abbrev pub looked_from : ClearHeap → ℕ → List ℕ → ClearHeap
+looked_from c w [] = c
+looked_from c w (n ∷ rest) = looked_at (with_mark c (with_taken c.mark w)) w n
+
+-- ---- notices
+
+-- the first pending reference is handed on: its notice is a hold of it
+abbrev pub handed_from : ClearHeap → ℕ → List Pending → ClearHeap
+handed_from c w [] = c
+handed_from c w (p ∷ ps) = with_pending_at (with_mark c (holding c.mark p.object)) w ps
+
+-- what an unhook does to the reference that the slot holds, by its queue: it clears it, and where it is registered its
+-- notice is a hold of it
+abbrev pub unhooked : CycleHeap → ℕ → ℕ → Option ℕ → Option ℕ → CycleHeap
+unhooked k m s None queue = with_cleared k m s
+unhooked k m s (Some n) None = with_cleared k m s
+unhooked k m s (Some n) (Some q) = holding (with_cleared k m s) n
+
+-- ---- the sweep
+
+-- the 64 doomed of least number are freed, or all
+abbrev pub swept_some : CycleHeap → CycleHeap
+swept_some k = record k { heap = record k.heap { objects = without (take 64 (doomed k)) k.heap.objects } }

@@ -1,0 +1,14 @@
+-- That the calls of a heap are rows of the abstract collector, in every phase.
+use Rattle.ref_base.specs.Collectors.{State}
+use Rattle.ref_base.specs.HeapSteps.{NamedStep}
+use Rattle.ref_base.specs.CollectorRows.{IsHeapRow}
+use Rattle.ref_clear.specs.ClearHeaps.{ClearHeap}
+use Rattle.ref_clear.specs.ClearCalls.{answer_in, after_in}
+use Rattle.ref_clear.specs.Standing.{Stands}
+
+-- For each state that the heap stands for, the answered step is a row of the abstract collector, to a state that the
+-- heap then stands for.
+abbrev pub IsRowOf : ClearHeap → NamedStep → Type 0
+IsRowOf c step =
+    (a : State) → Stands c a
+    → (b : State) × IsHeapRow c.mark.heap_no a step (answer_in c step) b × Stands (after_in c step) b

@@ -1,0 +1,179 @@
+//! The heap.
+
+ghost use Rattle.std.specs.Prelude.{◌≡◌, IfOk, length, replicate};
+ghost use Rattle.ref_base.specs.Collectors.{first_state};
+ghost use Rattle.ref_base.specs.Graphs.{object_at};
+ghost use Rattle.ref_base.specs.Heaps.{slot_at, reference_at, registered_in};
+ghost use Rattle.ref_base.specs.Refusals.{drop_refusal};
+ghost use Rattle.ref_objects.specs.Grounds.{starting_refusal, IsMade, IsRefused, kind_in};
+ghost use Rattle.ref_mark.specs.MarkRows.{starting_state};
+ghost use Rattle.ref_clear.specs.ClearHeaps.{first_clear_heap, pending_at};
+ghost use Rattle.ref_clear.specs.ClearViews.{empty_pending, pending_from};
+ghost use Rattle.ref_clear.specs.Standing.{Stands};
+
+mod clearing;
+mod cycle;
+mod holds;
+mod notices;
+mod objects;
+mod sweep;
+
+use crate::Pending;
+use crate::pending::PendingList;
+use ref_base::{Config, Fault, MutNo, ObjNo, Phase, QueueNo, SlotNo, WorkerNo};
+use ref_mark::Marker;
+use ref_objects::{Kind, Start};
+use std::alloc::{AllocError, Allocator, Global};
+use std::marker::Model;
+
+/// A heap.
+///
+/// All its memory is taken as it is made: that of its `Marker`, and 16 bytes for each cell and worker, which are the
+/// workers' pending lists. No other call takes any.
+#[derive(Drop)]
+pub struct Heap<A: Allocator = Global> {
+    marker: Marker<A>,
+    // For each worker, the references that it cleared and hasn't handed on.
+    pending: Vec<PendingList<A>, A>,
+    // Once a sweep has begun, what is below this number isn't doomed.
+    swept_to: ObjNo,
+}
+
+impl<A: Allocator> Model for Heap<A> {
+    ghost use Rattle.ref_clear.specs.ClearHeaps.{ClearHeap};
+    ghost use Rattle.ref_clear.specs.ClearViews.{seen, IsSound};
+
+    ghost Value = { ClearHeap };
+
+    ghost view = { λ h. seen h.marker h.pending.items };
+
+    ghost invariant = { λ h. IsSound h.marker h.pending.items h.swept_to };
+}
+
+impl<A: Allocator + Copy> Heap<A> {
+    /// A heap without objects, between cycles, whose first object and first cycle have number 1. Heaps of one program
+    /// have distinct numbers, by the caller. Tried in this order: `BadConfig`, `NoMemory`.
+    pub fn new(alloc: A, config: Config, heap_no: u64) -> Result<Self, Fault>
+        ensures made { IsMade (starting_refusal config (record { obj = 1; cycle = 0; page = 1 }))
+            (first_clear_heap config heap_no 1 0) result }
+        ensures stands { IfOk result (λ heap. Stands heap (first_state config)) }
+    {
+        Self::starting(alloc, config, heap_no, Start::FIRST)
+    }
+
+    /// The same, where numbers begin as they are told. `BadConfig` also where they can't begin so.
+    pub fn starting(alloc: A, config: Config, heap_no: u64, start: Start) -> Result<Self, Fault>
+        ensures made { IsMade (starting_refusal config start)
+            (first_clear_heap config heap_no start.obj start.cycle) result }
+        ensures stands { IfOk result (λ heap. Stands heap (starting_state config start.obj start.cycle)) }
+    {
+        let marker = Marker::starting(alloc, config, heap_no, start)?;
+        match pending_lists(alloc, config) {
+            Ok(pending) => Ok(Heap {
+                marker,
+                pending,
+                swept_to: ObjNo(0),
+            }),
+            Err(_) => Err(Fault::NoMemory),
+        }
+    }
+
+    /// Gives the heap up, with all its objects. Holds and notices of it that are out are then for `Hold::leak`.
+    pub fn end(self) {}
+
+    /// The phase.
+    pub fn phase(&self) -> Phase
+        ensures { result ≡ self.now.mark.phase }
+    {
+        self.marker.phase()
+    }
+
+    /// How many cycles have begun.
+    pub fn cycle(&self) -> u64
+        ensures { result ≡ self.now.mark.cycle }
+    {
+        self.marker.cycle()
+    }
+
+    /// The configuration that it was made with.
+    pub fn config(&self) -> Config
+        ensures { result ≡ self.now.mark.heap.config }
+    {
+        self.marker.objects().config()
+    }
+
+    /// Its number among the heaps of its program.
+    pub fn heap_no(&self) -> u64
+        ensures { result ≡ self.now.mark.heap_no }
+    {
+        self.marker.objects().heap_no()
+    }
+
+    /// The clock.
+    pub fn clock(&self) -> u64
+        ensures { result ≡ self.now.mark.heap.clock }
+    {
+        self.marker.objects().clock()
+    }
+
+    /// How many objects there are, doomed ones among them.
+    pub fn object_count(&self) -> usize
+        ensures { result ≡ length self.now.mark.heap.objects }
+    {
+        self.marker.objects().object_count()
+    }
+
+    /// How many holds are out.
+    pub fn hold_count(&self) -> u64
+        ensures { result ≡ length self.now.mark.heap.holds }
+    {
+        self.marker.objects().hold_count()
+    }
+
+    /// What a slot holds: an object or null. The one error is `NoSuchActor`.
+    pub fn slot_of(&self, mutator: MutNo, slot: SlotNo) -> Result<Option<ObjNo>, Fault>
+        ensures refused { IsRefused (drop_refusal self.now.mark.heap mutator slot) result }
+        ensures answer { IfOk result (λ value. value ≡ slot_at self.now.mark.heap mutator slot) }
+    {
+        self.marker.objects().slot_of(mutator, slot)
+    }
+
+    /// What the object of this number is, if there is one. In logarithmic time.
+    pub fn kind_of(&self, no: ObjNo) -> Option<Kind>
+        ensures { result ≡ kind_in (object_at self.now.mark.heap.objects no) }
+    {
+        self.marker.objects().kind_of(no)
+    }
+
+    /// The queue of the reference of this number: none where it has none, or there is no such reference. In logarithmic
+    /// time.
+    pub fn queue_of(&self, no: ObjNo) -> Option<QueueNo>
+        ensures { result ≡ registered_in (reference_at self.now.mark.heap no) }
+    {
+        self.marker.objects().queue_of(no)
+    }
+
+    /// That of this worker's pending references which stands at this place, from 0 on: none behind the last, and of a
+    /// worker that isn't there.
+    pub fn pending_of(&self, worker: WorkerNo, place: usize) -> Option<Pending>
+        ensures { result ≡ pending_from (pending_at self.now worker) place }
+    {
+        self.pending.get(worker.0 as usize)?.get(place)
+    }
+}
+
+// An empty list for each worker.
+fn pending_lists<A: Allocator + Copy>(
+    alloc: A,
+    config: Config,
+) -> Result<Vec<PendingList<A>, A>, AllocError>
+    ensures { IfOk result (λ made. made.items ≡ replicate config.workers (empty_pending config.cells)) }
+{
+    let room = config.cells as usize;
+    let workers = config.workers as usize;
+    let mut pending = Vec::with_capacity(alloc, workers)?;
+    for _worker in 0..workers {
+        pending.push_reserved(PendingList::new(alloc, room)?);
+    }
+    Ok(pending)
+}

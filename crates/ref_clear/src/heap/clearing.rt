@@ -1,0 +1,64 @@
+//! Clearing: each worker looks at the references that it found.
+
+ghost use Rattle.std.specs.Prelude.{◌≡◌};
+ghost use Rattle.ref_mark.specs.MarkCalls.{reply_of, done_reply};
+ghost use Rattle.ref_clear.specs.ClearCalls.{answer_in, after_in, looked_reply};
+
+use super::Heap;
+use crate::{Looked, Pending};
+use ref_base::{Fault, HeapStep, ObjNo, Phase, Reply, WorkerNo};
+use ref_objects::Reference;
+use std::alloc::Allocator;
+
+impl<A: Allocator + Copy> Heap<A> {
+    /// Looks at the first reference that this worker found, and that it didn't look at since. Where its referent is
+    /// doomed it is cleared, and goes last in the worker's pending list if it is registered with a queue; where it has
+    /// another referent it is kept; where it has none it is skipped. None where nothing is left. Tried in this order:
+    /// `NoSuchActor`, `WrongPhase`. In logarithmic time.
+    pub fn clear_next(&mut self, worker: WorkerNo) -> Result<Option<Looked>, Fault>
+        ensures answer { reply_of looked_reply result ≡ answer_in self.old (HeapStep.ClearNext worker) }
+        ensures after { self.new ≡ after_in self.old (HeapStep.ClearNext worker) }
+    {
+        let Some(no) = self.marker.take_found(worker)? else {
+            return Ok(None);
+        };
+        let Some(reference) = self.marker.objects().reference_of(no) else {
+            return Ok(Some(Looked::Skipped(no)));
+        };
+        let Some(referent) = reference.referent else {
+            return Ok(Some(Looked::Skipped(no)));
+        };
+        if !self.marker.is_doomed(referent) {
+            return Ok(Some(Looked::Kept(no)));
+        }
+        // Gives the proof that no more are pending than there is room for.
+        self.marker.objects().facts();
+        self.marker.cut(no);
+        if let Some(queue) = reference.queue {
+            let cycle = self.marker.cycle();
+            self.pending[worker.0 as usize].push(Pending {
+                object: no,
+                queue,
+                cycle,
+            });
+        }
+        Ok(Some(Looked::Cleared(no)))
+    }
+
+    /// Ends clearing: the sweep may begin. Tried in this order: `WrongPhase`, `ClearingLeft` while a worker has found a
+    /// reference that it didn't look at. In time of the workers.
+    pub fn end_clear(&mut self) -> Result<(), Fault>
+        ensures answer { reply_of done_reply result ≡ answer_in self.old HeapStep.EndClear }
+        ensures after { self.new ≡ after_in self.old HeapStep.EndClear }
+    {
+        if self.marker.phase() != Phase::Clearing {
+            return Err(Fault::WrongPhase);
+        }
+        if self.marker.has_found() {
+            return Err(Fault::ClearingLeft);
+        }
+        self.marker.to_sweeping();
+        self.swept_to = ObjNo(0);
+        Ok(())
+    }
+}

@@ -1,0 +1,65 @@
+//! The cycle, from its begin to the mark's end.
+
+ghost use Rattle.std.specs.Prelude.{◌≡◌};
+ghost use Rattle.ref_base.specs.Worlds.{pending_numbers};
+ghost use Rattle.ref_mark.specs.CycleHeaps.{shaded_all};
+ghost use Rattle.ref_mark.specs.MarkCalls.{reply_of, scan_reply};
+ghost use Rattle.ref_clear.specs.ClearCalls.{answer_in, after_in};
+ghost use Rattle.ref_clear.specs.ClearViews.{lists_of, numbers_in};
+
+use super::Heap;
+use crate::pending::PendingList;
+use ref_base::{Fault, HeapStep, ObjNo, Reply, Urgency, WorkerNo};
+use ref_mark::Marker;
+use std::alloc::Allocator;
+
+impl<A: Allocator + Copy> Heap<A> {
+    /// Begins a cycle at this clock, and answers its number. All objects become white; then the roots become grey: what
+    /// the slots hold, mutator by mutator, what is held, by number, and the pending references, worker by worker in
+    /// list order. Tried in this order: `WrongPhase` where a cycle hasn't ended, `ClockBack` where the clock is later,
+    /// `NumbersSpent` after 2^64 - 1 cycles. In time of the cells.
+    pub fn begin(&mut self, now: u64, urgency: Urgency) -> Result<u64, Fault>
+        ensures answer { reply_of Reply.Cycle result ≡ answer_in self.old (HeapStep.Begin now urgency) }
+        ensures after { self.new ≡ after_in self.old (HeapStep.Begin now urgency) }
+    {
+        let cycle = self.marker.begin(now, urgency)?;
+        shade_pending(&mut self.marker, &self.pending);
+        Ok(cycle)
+    }
+
+    /// Scans the first of the grey list for this worker, as `Marker::scan` does: `NoSuchActor`, `WrongPhase`.
+    pub fn scan(&mut self, worker: WorkerNo) -> Result<Option<ObjNo>, Fault>
+        ensures answer { reply_of scan_reply result ≡ answer_in self.old (HeapStep.Scan worker) }
+        ensures after { self.new ≡ after_in self.old (HeapStep.Scan worker) }
+    {
+        self.marker.scan(worker)
+    }
+
+    /// Ends the mark, and answers how many objects are doomed, as `Marker::end_mark` does: `WrongPhase`, `GreyLeft`.
+    pub fn end_mark(&mut self) -> Result<usize, Fault>
+        ensures answer { reply_of Reply.Doomed result ≡ answer_in self.old HeapStep.EndMark }
+        ensures after { self.new ≡ after_in self.old HeapStep.EndMark }
+    {
+        self.marker.end_mark()
+    }
+}
+
+// The pending references become grey, worker by worker.
+fn shade_pending<A: Allocator + Copy>(marker: &mut Marker<A>, pending: &[PendingList<A>])
+    ensures { marker.new ≡ shaded_all marker.old (pending_numbers (lists_of pending.now)) }
+{
+    for worker in 0..pending.len() {
+        shade_listed(marker, &pending[worker]);
+    }
+}
+
+// What is pending of one worker becomes grey.
+fn shade_listed<A: Allocator + Copy>(marker: &mut Marker<A>, list: &PendingList<A>)
+    ensures { marker.new ≡ shaded_all marker.old (numbers_in list.now.stands) }
+{
+    for place in 0..list.len() {
+        if let Some(reference) = list.get(place) {
+            marker.grey_root(reference.object);
+        }
+    }
+}

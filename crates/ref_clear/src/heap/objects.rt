@@ -1,0 +1,122 @@
+//! What mutators do to objects, slots and references, as below.
+
+ghost use Rattle.std.specs.Prelude.{◌≡◌};
+ghost use Rattle.ref_base.specs.CollectorRows.{value_reply};
+ghost use Rattle.ref_mark.specs.MarkCalls.{reply_of, done_reply};
+ghost use Rattle.ref_clear.specs.ClearCalls.{answer_in, after_in};
+
+use super::Heap;
+use ref_base::{Fault, HeapStep, MutNo, ObjNo, QueueNo, Reply, SlotNo, Strength};
+use std::alloc::Allocator;
+
+impl<A: Allocator + Copy> Heap<A> {
+    /// Makes a plain object, as `Marker::alloc_obj` does: `NoSuchActor`, `BadField`, `NumbersSpent`, `NoCell`. A doomed
+    /// object takes its cell until it is swept.
+    pub fn alloc_obj(&mut self, mutator: MutNo, into: SlotNo, fields: u32) -> Result<ObjNo, Fault>
+        ensures answer { reply_of Reply.Object result ≡ answer_in self.old (HeapStep.New mutator into fields) }
+        ensures after { self.new ≡ after_in self.old (HeapStep.New mutator into fields) }
+    {
+        self.marker.alloc_obj(mutator, into, fields)
+    }
+
+    /// Makes a reference to the object in slot `from`, as `Marker::alloc_ref` does: `NoSuchActor`, `BadQueue`,
+    /// `EmptySlot`, `BadField`, `NumbersSpent`, `NoCell`.
+    pub fn alloc_ref(
+        &mut self,
+        mutator: MutNo,
+        into: SlotNo,
+        strength: Strength,
+        from: SlotNo,
+        queue: Option<QueueNo>,
+        fields: u32,
+    ) -> Result<ObjNo, Fault>
+        ensures answer { reply_of Reply.Object result
+            ≡ answer_in self.old (HeapStep.Refer mutator strength into from queue fields) }
+        ensures after { self.new ≡ after_in self.old (HeapStep.Refer mutator strength into from queue fields) }
+    {
+        self.marker
+            .alloc_ref(mutator, into, strength, from, queue, fields)
+    }
+
+    /// Stores what slot `from` holds into a field of the object in slot `into`, as `Marker::store` does: `NoSuchActor`,
+    /// `EmptySlot`, `BadField`.
+    pub fn store(
+        &mut self,
+        mutator: MutNo,
+        into: SlotNo,
+        field: u32,
+        from: SlotNo,
+    ) -> Result<(), Fault>
+        ensures answer { reply_of done_reply result ≡ answer_in self.old (HeapStep.Store mutator into field from) }
+        ensures after { self.new ≡ after_in self.old (HeapStep.Store mutator into field from) }
+    {
+        self.marker.store(mutator, into, field, from)
+    }
+
+    /// Loads a field of the object in slot `from` into slot `into`, as `Marker::load` does: `NoSuchActor`, `EmptySlot`,
+    /// `BadField`.
+    pub fn load(
+        &mut self,
+        mutator: MutNo,
+        into: SlotNo,
+        from: SlotNo,
+        field: u32,
+    ) -> Result<Option<ObjNo>, Fault>
+        ensures answer { reply_of value_reply result ≡ answer_in self.old (HeapStep.Load mutator into from field) }
+        ensures after { self.new ≡ after_in self.old (HeapStep.Load mutator into from field) }
+    {
+        self.marker.load(mutator, into, from, field)
+    }
+
+    /// Copies slot `from` into slot `into`, and answers what it holds: `NoSuchActor`.
+    pub fn copy(
+        &mut self,
+        mutator: MutNo,
+        into: SlotNo,
+        from: SlotNo,
+    ) -> Result<Option<ObjNo>, Fault>
+        ensures answer { reply_of value_reply result ≡ answer_in self.old (HeapStep.Copy mutator into from) }
+        ensures after { self.new ≡ after_in self.old (HeapStep.Copy mutator into from) }
+    {
+        self.marker.copy(mutator, into, from)
+    }
+
+    /// Empties a slot: `NoSuchActor`.
+    pub fn drop_slot(&mut self, mutator: MutNo, slot: SlotNo) -> Result<(), Fault>
+        ensures answer { reply_of done_reply result ≡ answer_in self.old (HeapStep.Drop mutator slot) }
+        ensures after { self.new ≡ after_in self.old (HeapStep.Drop mutator slot) }
+    {
+        self.marker.drop_slot(mutator, slot)
+    }
+
+    /// Gets the referent of the reference in slot `reference` into slot `into`, as `Marker::get` does: null once it is
+    /// cleared, or its referent doomed. `NoSuchActor`, `EmptySlot`, `NotAReference`.
+    pub fn get(
+        &mut self,
+        mutator: MutNo,
+        into: SlotNo,
+        reference: SlotNo,
+    ) -> Result<Option<ObjNo>, Fault>
+        ensures answer { reply_of value_reply result ≡ answer_in self.old (HeapStep.Get mutator into reference) }
+        ensures after { self.new ≡ after_in self.old (HeapStep.Get mutator into reference) }
+    {
+        self.marker.get(mutator, into, reference)
+    }
+
+    /// Clears the reference in a slot, and gives no notice, as `Marker::clear` does: `NoSuchActor`, `EmptySlot`,
+    /// `NotAReference`.
+    pub fn clear(&mut self, mutator: MutNo, reference: SlotNo) -> Result<(), Fault>
+        ensures answer { reply_of done_reply result ≡ answer_in self.old (HeapStep.Clear mutator reference) }
+        ensures after { self.new ≡ after_in self.old (HeapStep.Clear mutator reference) }
+    {
+        self.marker.clear(mutator, reference)
+    }
+
+    /// Whether the reference in a slot refers to what slot `other` holds, as `Marker::refers_to` does: to null once it is
+    /// cleared, or its referent doomed. `NoSuchActor`, `EmptySlot`, `NotAReference`.
+    pub fn refers_to(&self, mutator: MutNo, reference: SlotNo, other: SlotNo) -> Result<bool, Fault>
+        ensures answer { reply_of Reply.Refers result ≡ answer_in self.now (HeapStep.RefersTo mutator reference other) }
+    {
+        self.marker.refers_to(mutator, reference, other)
+    }
+}

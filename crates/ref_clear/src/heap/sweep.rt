@@ -1,0 +1,70 @@
+//! The sweep: what is doomed is freed.
+
+ghost use Rattle.std.specs.Prelude.{◌≡◌, min, length};
+ghost use Rattle.ref_mark.specs.MarkCalls.{reply_of, done_reply};
+ghost use Rattle.ref_mark.specs.CycleHeaps.{doomed};
+ghost use Rattle.ref_clear.specs.ClearHeaps.{swept_some};
+ghost use Rattle.ref_clear.specs.ClearCalls.{answer_in, after_in, swept_reply};
+ghost use Rattle.ref_clear.specs.ClearViews.{MaySweep};
+
+use super::Heap;
+use ref_base::{Fault, HeapStep, ObjNo, Phase, Reply, WorkerNo};
+use ref_mark::Marker;
+use std::alloc::Allocator;
+
+/// How many objects a sweep frees, or fewer where fewer are left.
+const SWEPT_AT_ONCE: u32 = 64;
+
+impl<A: Allocator + Copy> Heap<A> {
+    /// Frees the 64 doomed objects of least number, or all where fewer are left, and answers how many; none where none
+    /// is left. Tried in this order: `NoSuchActor`, `WrongPhase`. In logarithmic time for each that it frees, and all
+    /// sweeps of a cycle together in time of the objects that are there.
+    pub fn sweep(&mut self, worker: WorkerNo) -> Result<Option<u32>, Fault>
+        ensures answer { reply_of swept_reply result ≡ answer_in self.old (HeapStep.Sweep worker) }
+        ensures after { self.new ≡ after_in self.old (HeapStep.Sweep worker) }
+    {
+        self.marker.check_work(worker, Phase::Sweeping)?;
+        let (freed, reached) = free_some(&mut self.marker, self.swept_to);
+        self.swept_to = reached;
+        if freed == 0 {
+            return Ok(None);
+        }
+        Ok(Some(freed))
+    }
+
+    /// Ends the sweep, and the cycle with it. Tried in this order: `WrongPhase`, `SweepLeft` while an object is doomed.
+    /// In time of the objects that are there and of those that were freed.
+    pub fn end_sweep(&mut self) -> Result<(), Fault>
+        ensures answer { reply_of done_reply result ≡ answer_in self.old HeapStep.EndSweep }
+        ensures after { self.new ≡ after_in self.old HeapStep.EndSweep }
+    {
+        if self.marker.phase() != Phase::Sweeping {
+            return Err(Fault::WrongPhase);
+        }
+        if self.marker.has_doomed() {
+            return Err(Fault::SweepLeft);
+        }
+        self.marker.to_idle();
+        Ok(())
+    }
+}
+
+// Frees the doomed of least number, 64 or all: how many these are, and the number that it has come to.
+fn free_some<A: Allocator + Copy>(marker: &mut Marker<A>, from: ObjNo) -> (u32, ObjNo)
+    requires { MaySweep marker.old from }
+    ensures count { result.0 ≡ min 64 (length (doomed marker.old)) }
+    ensures after { marker.new ≡ swept_some marker.old }
+    ensures reached { MaySweep marker.new result.1 }
+{
+    let mut freed = 0;
+    let mut reached = from;
+    while freed < SWEPT_AT_ONCE {
+        let Some(no) = marker.doomed_from(reached) else {
+            break;
+        };
+        let _gone = marker.free(no);
+        reached = no;
+        freed += 1;
+    }
+    (freed, reached)
+}
