@@ -26,6 +26,10 @@ pub mod StillFound
 pub mod FoundLists
 pub mod NewClears
 pub mod LeavingLaws
+pub mod HoldCounts
+pub mod CountedRows
+pub mod CountedWorlds
+pub mod CountedTraces
 mod ReplayExamples
 mod LegalExamples
 mod IllegalExamples

@@ -48,7 +48,7 @@ pub ticked_world : (c : State) → (ticked c).world ≡ c.world
 ticked_world c =
     elim (cases_Bool (is_in c.world.phase Marking)) [ inl marks ↦ simp marks refl | inr other ↦ simp other refl ]
 
-but_world : (c b : State) → IsBut c b → b.world ≡ c.world
+pub but_world : (c b : State) → IsBut c b → b.world ≡ c.world
 but_world c b but = ap (λ (s : State). s.world) but.1
 
 -- a row of a heap keeps hands and queues as they are, and leaves a sound world where there was one
@@ -486,7 +486,7 @@ release_goes a b who (Some notice) reply sound has row =
 
 -- ---- who and what is there
 
-unless_passes : (test : Bool) (fault : Fault) (later : Option Fault) → unless test fault later ≡ None
+pub unless_passes : (test : Bool) (fault : Fault) (later : Option Fault) → unless test fault later ≡ None
     → (test ≡ true) × (later ≡ None)
 unless_passes true fault later h = (refl, h)
 unless_passes false fault later h = absurd cc
@@ -504,17 +504,17 @@ registered heap_no a (heap.Refer m strength d s q k) none =
     queue_below a.world.heap q second.0
 registered heap_no a step none = tt
 
-mutator_within : (w : World) (m : ℕ) → IsSound w → is_mutator w.heap m ≡ true → m < length w.mutator_hands
+pub mutator_within : (w : World) (m : ℕ) → IsSound w → is_mutator w.heap m ≡ true → m < length w.mutator_hands
 mutator_within w m sound is = rw sound.mutator_hands (ltb-true m w.heap.config.mutators is)
 
-worker_within : (w : World) (k : ℕ) → IsSound w → is_worker w.heap k ≡ true → k < length w.worker_hands
+pub worker_within : (w : World) (k : ℕ) → IsSound w → is_worker w.heap k ≡ true → k < length w.worker_hands
 worker_within w k sound is = rw sound.worker_hands (ltb-true k w.heap.config.workers is)
 
-actor_has : (w : World) (who : Actor) → IsSound w → is_actor w.heap who ≡ true → HasHand w who
+pub actor_has : (w : World) (who : Actor) → IsSound w → is_actor w.heap who ≡ true → HasHand w who
 actor_has w (Mutator m) sound is = mutator_within w m sound is
 actor_has w (Worker k) sound is = worker_within w k sound is
 
-queue_within : (w : World) (q : ℕ) → IsSound w → is_queue w.heap q ≡ true → q < length w.queues
+pub queue_within : (w : World) (q : ℕ) → IsSound w → is_queue w.heap q ≡ true → q < length w.queues
 queue_within w q sound is = rw sound.queues (ltb-true q w.heap.config.queues is)
 
 -- ---- rows

@@ -12,9 +12,10 @@ ghost use Rattle.ref_base.specs.QueueRows.{KeepsQueue};
 ghost use Rattle.ref_base.specs.Strengths.{HasStrength};
 ghost use Rattle.ref_base.specs.Worlds.{SameOthers};
 ghost use Rattle.ref_base.specs.HeapSteps.{NamedStep, heap_step};
-ghost use Rattle.ref_base.specs.Collectors.{State};
+ghost use Rattle.ref_base.specs.Collectors.{State, first_state};
+ghost use Rattle.ref_base.specs.CountedHolds.{AreCounted};
 ghost use Rattle.ref_base.specs.Refusals.{heap_refusal, refusal};
-ghost use Rattle.ref_base.specs.CollectorRows.{IsHeapRow, IsRow, with_handed};
+ghost use Rattle.ref_base.specs.CollectorRows.{IsHeapRow, IsRow, IsRun, with_handed};
 ghost use Rattle.ref_base.specs.declared.config.Config.{Config};
 ghost use Rattle.ref_base.specs.declared.reach.Reach.{Reach};
 ghost use Rattle.ref_base.specs.declared.row.Row.{Row};
@@ -88,4 +89,11 @@ pub fn a_row_of_a_heap_is_a_row_of_its_world()
 pub fn no_row_of_a_heap_touches_hands_and_queues()
     ensures { (heap_no : ℕ) (a b : State) (step : NamedStep) (reply : Reply) → IsHeapRow heap_no a step reply b
         → SameOthers a.world b.world }
+{}
+
+/// After every legal trace each notice that is out, in a hand or in a queue, is a hold that the heap counts: none is out
+/// more often than its reference is held.
+pub fn each_notice_that_is_out_is_a_counted_hold()
+    ensures { (config : Config) (rows : List Row) (b : State) → IsRun (first_state config) rows b
+        → AreCounted b.world }
 {}

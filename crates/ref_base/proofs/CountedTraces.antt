@@ -1,0 +1,279 @@
+-- In every legal trace each notice that is out is a hold that the heap counts, row by row.
+use Rattle.std.proofs.Common.{◌≡◌, ℕ, ◌<◌, Bool, true, false, List, [], ◌∷◌, length, Option, Some, None, refl, sym, ap, ◌∙◌}
+use Rattle.std.proofs.Common.{subst, inl, inr}
+use Rattle.std.proofs.lemmas.Bool.{and_parts}
+use Rattle.ref_base.specs.Heaps.{one_more, one_fewer, slot_at, registered_in}
+use Rattle.ref_base.specs.Worlds.{World, Notice, Pending, SameOthers, hand_of, queue_at, pending_of, with_hand}
+use Rattle.ref_base.specs.HeapSteps.{NamedStep, hold_of, spending, handed}
+use Rattle.ref_base.specs.Collectors.{State, first_state}
+use Rattle.ref_base.specs.CollectorRows.{Gives, with_handed, AcceptsAsking, Unhooks, HandsOn, PutsInto, Puts, Polls, Closes}
+use Rattle.ref_base.specs.QueueLists.{enqueued}
+use Rattle.ref_base.specs.Worlds.{object_of}
+use Rattle.ref_base.specs.Replay.{put_in, took, closed_queue}
+use Rattle.ref_base.specs.CollectorRows.{with_world, Accepts, IsAnswer, IsRow, IsRun, reference_of}
+use Rattle.ref_base.specs.Refusals.{unless_full, refusal, is_mutator, is_worker, is_queue, is_actor, has_slot}
+use Rattle.ref_base.specs.CountedHolds.{AreCounted, holds_after}
+use Rattle.ref_base.specs.declared.config.Config.{Config}
+use Rattle.ref_base.specs.declared.actor.Actor.{Actor}
+use Rattle.ref_base.specs.declared.actor.Actor.TheVariants.{Mutator, Worker}
+use Rattle.ref_base.specs.declared.cause.Cause.TheVariants.{Own, Cycle}
+use Rattle.ref_base.specs.declared.fault.Fault.{Fault}
+use Rattle.ref_base.specs.declared.heap_step.HeapStep.TheVariants as heap
+use Rattle.ref_base.specs.declared.step.Step.{Step}
+use Rattle.ref_base.specs.declared.step.Step.TheVariants as steps
+use Rattle.ref_base.specs.declared.reply.Reply.{Reply}
+use Rattle.ref_base.specs.declared.reply.Reply.TheVariants as replies
+use Rattle.ref_base.specs.declared.row.Row.{Row}
+use Rattle.ref_base.proofs.CountedRows.{heap_holds}
+use Rattle.ref_base.proofs.CountedWorlds.{counted_still, counted_given, counted_spent, counted_put, counted_took}
+use Rattle.ref_base.proofs.CountedWorlds.{counted_closed, first_counted}
+use Rattle.ref_base.proofs.QueueLaws.{same}
+use Rattle.ref_base.proofs.RowLaws.{ticked_world, heap_keeps, registered, IsRegistered, row_goes, unless_passes}
+use Rattle.ref_base.proofs.RowLaws.{mutator_within, worker_within, actor_has, queue_within}
+use Rattle.ref_base.proofs.SoundWorlds.{HasHand, IsSound, NoticeBelow, first_sound}
+
+-- ---- the forms of a row
+
+in_world : (b : State) (w : World) → b.world ≡ w → AreCounted w → AreCounted b.world
+in_world b w is counted = subst AreCounted (sym is) counted
+
+given : (c b : State) (answer reply : Reply) → Gives answer c reply b → AreCounted c.world → AreCounted b.world
+given c b answer reply gives counted =
+    in_world b c.world (ap (λ (s : State). s.world) gives.1 ∙ ticked_world c) counted
+
+left_by : (c b : State) (step : Step) (answer reply : Reply) → reply ≡ answer → b ≡ with_handed c step reply
+    → b.world ≡ handed c.world step answer
+left_by c b step answer reply is left =
+    ap (λ (s : State). s.world) left ∙ ap (λ (r : Reply). handed c.world step r) is
+
+-- a row of the heap that has nothing to do with hands and holds
+quiet : (a b : State) (asked : NamedStep) (step : Step) (reply : Reply) → IsRegistered a asked → AreCounted a.world
+    → AcceptsAsking a (Some asked) step reply b
+    → ((hs : List ℕ) → holds_after hs asked reply ≡ hs) → ((w : World) → handed w step reply ≡ w)
+    → AreCounted b.world
+quiet a b asked step reply is counted row still same_hands =
+    let c : State = row.0 in
+    let keeps = heap_keeps a c asked reply is row.1 in
+    in_world b c.world (left_by c b step reply reply refl row.2 ∙ same_hands c.world)
+    (counted_still a.world c.world keeps.others
+    (heap_holds a c asked reply row.1 ∙ still a.world.heap.holds) counted)
+
+-- one that gives nothing
+gives_nothing : (a c b : State) (asked : NamedStep) (step : Step) (reply : Reply) → SameOthers a.world c.world
+    → c.world.heap.holds ≡ holds_after a.world.heap.holds asked reply → reply ≡ replies.Nothing
+    → holds_after a.world.heap.holds asked replies.Nothing ≡ a.world.heap.holds
+    → handed c.world step replies.Nothing ≡ c.world → b ≡ with_handed c step reply → AreCounted a.world
+    → AreCounted b.world
+gives_nothing a c b asked step reply others held is still same_hands left counted =
+    in_world b c.world (left_by c b step replies.Nothing reply is left ∙ same_hands)
+    (counted_still a.world c.world others
+    (held ∙ ap (λ (r : Reply). holds_after a.world.heap.holds asked r) is ∙ still) counted)
+
+-- one that gives a notice into an empty hand
+gives_notice : (a c b : State) (who : Actor) (notice : Notice) (asked : NamedStep) (step : Step) (answer reply : Reply)
+    → SameOthers a.world c.world → HasHand a.world who → hand_of a.world who ≡ None
+    → c.world.heap.holds ≡ holds_after a.world.heap.holds asked reply → reply ≡ answer
+    → holds_after a.world.heap.holds asked answer ≡ one_more a.world.heap.holds notice.object
+    → handed c.world step answer ≡ with_hand c.world who (Some notice) → b ≡ with_handed c step reply
+    → AreCounted a.world → AreCounted b.world
+gives_notice a c b who notice asked step answer reply others has free held is more into left counted =
+    in_world b (with_hand c.world who (Some notice)) (left_by c b step answer reply is left ∙ into)
+    (counted_given a.world c.world who notice others has free
+    (held ∙ ap (λ (r : Reply). holds_after a.world.heap.holds asked r) is ∙ more) counted)
+
+-- one that spends a hand's notice
+spends : (a c b : State) (who : Actor) (notice : Notice) (asked : NamedStep) (step : Step) (answer reply : Reply)
+    → SameOthers a.world c.world → HasHand a.world who → hand_of a.world who ≡ Some notice
+    → c.world.heap.holds ≡ holds_after a.world.heap.holds asked reply → reply ≡ answer
+    → holds_after a.world.heap.holds asked answer ≡ one_fewer a.world.heap.holds notice.object
+    → handed c.world step answer ≡ with_hand c.world who None → b ≡ with_handed c step reply
+    → AreCounted a.world → AreCounted b.world
+spends a c b who notice asked step answer reply others has full held is fewer empties left counted =
+    in_world b (with_hand c.world who None) (left_by c b step answer reply is left ∙ empties)
+    (counted_spent a.world c.world who notice others has full
+    (held ∙ ap (λ (r : Reply). holds_after a.world.heap.holds asked r) is ∙ fewer) counted)
+
+-- ---- hands
+
+unhooks : (a c b : State) (m s : ℕ) (held queue : Option ℕ) (reply : Reply) → SameOthers a.world c.world
+    → m < length a.world.mutator_hands → hand_of a.world (Mutator m) ≡ None
+    → c.world.heap.holds ≡ holds_after a.world.heap.holds (heap.Unhook m s) reply
+    → Unhooks a m s held queue reply c → b ≡ with_handed c (steps.Unhook m s) reply → AreCounted a.world
+    → AreCounted b.world
+unhooks a c b m s None queue reply others has free holds row left counted =
+    gives_nothing a c b (heap.Unhook m s) (steps.Unhook m s) reply others holds row.0 refl refl left counted
+unhooks a c b m s (Some n) None reply others has free holds row left counted =
+    gives_nothing a c b (heap.Unhook m s) (steps.Unhook m s) reply others holds row.0 refl refl left counted
+unhooks a c b m s (Some n) (Some q) reply others has free holds row left counted =
+    gives_notice a c b (Mutator m) (record { object = n; queue = q; cause = Own }) (heap.Unhook m s) (steps.Unhook m s)
+    (replies.Notice n q Own) reply others has free holds row.0 refl refl left counted
+
+hands : (a c b : State) (k : ℕ) (ps : List Pending) (reply : Reply) → SameOthers a.world c.world
+    → k < length a.world.worker_hands → hand_of a.world (Worker k) ≡ None
+    → c.world.heap.holds ≡ holds_after a.world.heap.holds (heap.Hand k) reply
+    → HandsOn a k ps reply c → b ≡ with_handed c (steps.Hand k) reply → AreCounted a.world
+    → AreCounted b.world
+hands a c b k [] reply others has free holds row left counted =
+    gives_nothing a c b (heap.Hand k) (steps.Hand k) reply others holds row.0 refl refl left counted
+hands a c b k (p ∷ ps) reply others has free holds row left counted =
+    gives_notice a c b (Worker k) (record { object = p.object; queue = p.queue; cause = Cycle p.cycle k })
+    (heap.Hand k) (steps.Hand k) (replies.Notice p.object p.queue (Cycle p.cycle k)) reply others has free holds row.0
+    refl refl left counted
+
+adopts : (a b : State) (m d : ℕ) (hand : Option Notice) (reply : Reply) → m < length a.world.mutator_hands
+    → hand_of a.world (Mutator m) ≡ hand
+    → AcceptsAsking a (spending (λ hold. heap.Adopt m d hold) hand) (steps.Adopt m d) reply b → AreCounted a.world
+    → AreCounted b.world
+adopts a b m d None reply has is row counted = absurd row
+adopts a b m d (Some notice) reply has is row counted =
+    let asked : NamedStep = heap.Adopt m d (hold_of notice) in
+    let keeps = heap_keeps a row.0 asked reply tt row.1 in
+    spends a row.0 b (Mutator m) notice asked (steps.Adopt m d) (replies.Object notice.object) reply keeps.others has is
+    (heap_holds a row.0 asked reply row.1) row.1.0 refl refl row.2 counted
+
+releases : (a b : State) (who : Actor) (hand : Option Notice) (reply : Reply) → HasHand a.world who
+    → hand_of a.world who ≡ hand
+    → AcceptsAsking a (spending (λ hold. heap.Release hold) hand) (steps.Release who) reply b → AreCounted a.world
+    → AreCounted b.world
+releases a b who None reply has is row counted = absurd row
+releases a b who (Some notice) reply has is row counted =
+    let asked : NamedStep = heap.Release (hold_of notice) in
+    let keeps = heap_keeps a row.0 asked reply tt row.1 in
+    spends a row.0 b who notice asked (steps.Release who) replies.Done reply keeps.others has is
+    (heap_holds a row.0 asked reply row.1) row.1.0 refl refl row.2 counted
+
+-- ---- queues
+
+puts_into : (a b : State) (who : Actor) (notice : Notice) (again shut : Bool) (reply : Reply) → HasHand a.world who
+    → hand_of a.world who ≡ Some notice → notice.queue < length a.world.queues
+    → PutsInto again shut a who notice reply b → AreCounted a.world → AreCounted b.world
+puts_into a b who notice true shut reply has is within row counted = given a b replies.Already reply row counted
+puts_into a b who notice false true reply has is within row counted = given a b replies.Closed reply row counted
+puts_into a b who notice false false reply has is within row counted =
+    elim row [
+      | inl added ↦
+          given (with_world a (put_in a.world who (Some notice))) b
+          (replies.Added (length (enqueued object_of (queue_at a.world notice.queue)))) reply added
+          (counted_put a.world who notice has is within counted)
+      | inr refused ↦ in_world b a.world (ap (λ (s : State). s.world) refused.1) counted
+    ]
+
+puts : (a b : State) (who : Actor) (hand : Option Notice) (reply : Reply) → IsSound a.world → HasHand a.world who
+    → hand_of a.world who ≡ hand → Puts a who hand reply b → AreCounted a.world → AreCounted b.world
+puts a b who None reply sound has is row counted = absurd row
+puts a b who (Some notice) reply sound has is row counted =
+    let within : notice.queue < length a.world.queues =
+    rw sound.queues (subst (NoticeBelow a.world.heap.config.queues) is (sound.hands_below who)) in
+    puts_into a b who notice _ _ reply has is within row counted
+
+polls : (a b : State) (m q : ℕ) (stands : List Notice) (reply : Reply) → m < length a.world.mutator_hands
+    → hand_of a.world (Mutator m) ≡ None → q < length a.world.queues → (queue_at a.world q).stands ≡ stands
+    → Polls a m q stands reply b → AreCounted a.world → AreCounted b.world
+polls a b m q [] reply has free within is row counted = given a b _ reply row counted
+polls a b m q (notice ∷ rest) reply has free within is row counted =
+    given (with_world a (took a.world m q notice.object)) b (replies.Took notice.object) reply row
+    (counted_took a.world m q notice rest has free within is counted)
+
+closes : (a b : State) (q : ℕ) (shut : Bool) (reply : Reply) → q < length a.world.queues → Closes a q shut reply b
+    → AreCounted a.world → AreCounted b.world
+closes a b q true reply within row counted = given a b _ reply row counted
+closes a b q false reply within row counted =
+    given (with_world a (closed_queue a.world q)) b replies.Done reply row (counted_closed a.world q within counted)
+
+-- ---- rows
+
+empty_hand : (hand : Option Notice) (later : Option Fault) → unless_full hand later ≡ None → hand ≡ None
+empty_hand None later none = refl
+empty_hand (Some notice) later none = absurd cc
+
+accepted : (a b : State) (step : Step) (reply : Reply) → IsSound a.world → AreCounted a.world → refusal a step ≡ None
+    → Accepts a step reply b → AreCounted b.world
+accepted a b (steps.New m d k) reply sound counted h row =
+    quiet a b (heap.New m d k) (steps.New m d k) reply tt counted row (λ _. refl) (λ _. refl)
+accepted a b (steps.Refer m strength d s q k) reply sound counted h row =
+    quiet a b (heap.Refer m strength d s q k) (steps.Refer m strength d s q k) reply
+    (registered 0 a (heap.Refer m strength d s q k) h) counted row (λ _. refl) (λ _. refl)
+accepted a b (steps.Store m s i v) reply sound counted h row =
+    quiet a b (heap.Store m s i v) (steps.Store m s i v) reply tt counted row (λ _. refl) (λ _. refl)
+accepted a b (steps.Load m d s i) reply sound counted h row =
+    quiet a b (heap.Load m d s i) (steps.Load m d s i) reply tt counted row (λ _. refl) (λ _. refl)
+accepted a b (steps.Copy m d s) reply sound counted h row =
+    quiet a b (heap.Copy m d s) (steps.Copy m d s) reply tt counted row (λ _. refl) (λ _. refl)
+accepted a b (steps.Drop m s) reply sound counted h row =
+    quiet a b (heap.Drop m s) (steps.Drop m s) reply tt counted row (λ _. refl) (λ _. refl)
+accepted a b (steps.Get m d s) reply sound counted h row =
+    quiet a b (heap.Get m d s) (steps.Get m d s) reply tt counted row (λ _. refl) (λ _. refl)
+accepted a b (steps.Clear m s) reply sound counted h row =
+    quiet a b (heap.Clear m s) (steps.Clear m s) reply tt counted row (λ _. refl) (λ _. refl)
+accepted a b (steps.RefersTo m s v) reply sound counted h row =
+    quiet a b (heap.RefersTo m s v) (steps.RefersTo m s v) reply tt counted row (λ _. refl) (λ _. refl)
+accepted a b (steps.Unhook m s) reply sound counted h row =
+    let first = unless_passes (has_slot a.world.heap m s) _ _ h in
+    let both = and_parts (is_mutator a.world.heap m) _ first.0 in
+    let keeps = heap_keeps a row.0 (heap.Unhook m s) reply tt row.1 in
+    unhooks a row.0 b m s _ _ reply keeps.others (mutator_within a.world m sound both.0)
+    (empty_hand (hand_of a.world (Mutator m)) _ first.1) (heap_holds a row.0 (heap.Unhook m s) reply row.1) row.1 row.2
+    counted
+accepted a b (steps.Put who) reply sound counted h row =
+    let first = unless_passes (is_actor a.world.heap who) _ _ h in
+    puts a b who (hand_of a.world who) reply sound (actor_has a.world who sound first.0) refl row counted
+accepted a b (steps.Poll m q) reply sound counted h row =
+    let first = unless_passes (is_mutator a.world.heap m) _ _ h in
+    let second = unless_passes (is_queue a.world.heap q) _ _ first.1 in
+    polls a b m q (queue_at a.world q).stands reply (mutator_within a.world m sound first.0)
+    (empty_hand (hand_of a.world (Mutator m)) _ second.1) (queue_within a.world q sound second.0) refl row counted
+accepted a b (steps.Adopt m d) reply sound counted h row =
+    let first = unless_passes (has_slot a.world.heap m d) _ _ h in
+    let both = and_parts (is_mutator a.world.heap m) _ first.0 in
+    adopts a b m d (hand_of a.world (Mutator m)) reply (mutator_within a.world m sound both.0) refl row counted
+accepted a b (steps.Release who) reply sound counted h row =
+    let first = unless_passes (is_actor a.world.heap who) _ _ h in
+    releases a b who (hand_of a.world who) reply (actor_has a.world who sound first.0) refl row counted
+accepted a b (steps.Close m q) reply sound counted h row =
+    let first = unless_passes (is_mutator a.world.heap m) _ _ h in
+    let second = unless_passes (is_queue a.world.heap q) _ _ first.1 in
+    closes a b q (queue_at a.world q).closed reply (queue_within a.world q sound second.0) row counted
+accepted a b (steps.Begin now how) reply sound counted h row =
+    quiet a b (heap.Begin now how) (steps.Begin now how) reply tt counted row (λ _. refl) (λ _. refl)
+accepted a b (steps.Scan k) reply sound counted h row =
+    quiet a b (heap.Scan k) (steps.Scan k) reply tt counted row (λ _. refl) (λ _. refl)
+accepted a b steps.EndMark reply sound counted h row =
+    quiet a b heap.EndMark steps.EndMark reply tt counted row (λ _. refl) (λ _. refl)
+accepted a b (steps.ClearNext k) reply sound counted h row =
+    quiet a b (heap.ClearNext k) (steps.ClearNext k) reply tt counted row (λ _. refl) (λ _. refl)
+accepted a b steps.EndClear reply sound counted h row =
+    quiet a b heap.EndClear steps.EndClear reply tt counted row (λ _. refl) (λ _. refl)
+accepted a b (steps.Hand k) reply sound counted h row =
+    let first = unless_passes (is_worker a.world.heap k) _ _ h in
+    let keeps = heap_keeps a row.0 (heap.Hand k) reply tt row.1 in
+    hands a row.0 b k _ reply keeps.others (worker_within a.world k sound first.0)
+    (empty_hand (hand_of a.world (Worker k)) _ first.1) (heap_holds a row.0 (heap.Hand k) reply row.1) row.1 row.2
+    counted
+accepted a b (steps.Sweep k) reply sound counted h row =
+    quiet a b (heap.Sweep k) (steps.Sweep k) reply tt counted row (λ _. refl) (λ _. refl)
+accepted a b steps.EndSweep reply sound counted h row =
+    quiet a b heap.EndSweep steps.EndSweep reply tt counted row (λ _. refl) (λ _. refl)
+
+answered : (a b : State) (step : Step) (reply : Reply) (fault : Option Fault) → IsSound a.world → AreCounted a.world
+    → refusal a step ≡ fault → IsAnswer a fault step reply b → AreCounted b.world
+answered a b step reply (Some fault) sound counted is row =
+    in_world b a.world (ap (λ (s : State). s.world) row.1) counted
+answered a b step reply None sound counted is row = accepted a b step reply sound counted is row
+
+-- a row keeps it
+pub row_counted : (a : State) (row : Row) (b : State) → IsSound a.world → AreCounted a.world → IsRow a row b
+    → AreCounted b.world
+row_counted a row b sound counted h = answered a b row.step row.reply (refusal a row.step) sound counted refl h
+
+run_counted : (a : State) (rows : List Row) (b : State) → IsSound a.world → AreCounted a.world → IsRun a rows b
+    → AreCounted b.world
+run_counted a [] b sound counted run = in_world b a.world (ap (λ (s : State). s.world) run) counted
+run_counted a (row ∷ rows) b sound counted run =
+    let goes = row_goes a row run.0 sound run.1 in
+    run_counted run.0 rows b goes.sound (row_counted a row run.0 sound counted run.1) run.2
+
+-- and so it holds after every legal trace
+pub legal_counted : (config : Config) (rows : List Row) (b : State) → IsRun (first_state config) rows b
+    → AreCounted b.world
+legal_counted config rows b run =
+    run_counted (first_state config) rows b (first_sound config) (first_counted config) run

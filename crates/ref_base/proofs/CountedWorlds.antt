@@ -1,0 +1,191 @@
+-- In every legal trace each notice that is out is a hold that the heap counts.
+use Rattle.std.proofs.Common.{◌≡◌, ℕ, ◌+◌, ◌<◌, ◌≤◌, zero, suc, true, false, List, [], ◌∷◌, ◌++◌, map, length, replicate}
+use Rattle.std.proofs.Common.{Option, Some, None, refl, sym, ap, ◌∙◌, subst, inl, inr, arith}
+use Rattle.std.specs.Prelude.{slice_index_or, slice_set}
+use Rattle.std.proofs.lemmas.Bool.{and_parts, eq-eqb, ltb-true}
+use Rattle.std.proofs.lemmas.List.{map-append}
+use Rattle.ref_base.specs.Heaps.{Heap, one_more, one_fewer}
+use Rattle.ref_base.specs.QueueLists.{Lists, new_queue, new_queues, with_parcel, was_put}
+use Rattle.ref_base.specs.Worlds.{World, Notice, SameOthers, first_world, object_of, hand_of, queue_at, with_hand}
+use Rattle.ref_base.specs.Worlds.{with_queue}
+use Rattle.ref_base.specs.HeapSteps.{NamedStep, hold_of, spending, handed}
+use Rattle.ref_base.specs.Replay.{put_in, took, taken_out, notice_of, closed_queue}
+use Rattle.ref_base.specs.Collectors.{State, first_state}
+use Rattle.ref_base.specs.CollectorRows.{Gives, ticked, with_handed, AcceptsAsking, HeapAccepts, Unhooks, HandsOn, PutsInto}
+use Rattle.ref_base.specs.CollectorRows.{Puts, Polls, Closes, Accepts, IsAnswer, IsRow, IsRun}
+use Rattle.ref_base.specs.Refusals.{unless_full, refusal}
+use Rattle.ref_base.specs.CountedHolds.{tally, in_hand, in_hands, in_queues, reported, AreCounted, holds_after}
+use Rattle.ref_base.specs.declared.config.Config.{Config}
+use Rattle.ref_base.specs.declared.actor.Actor.{Actor}
+use Rattle.ref_base.specs.declared.actor.Actor.TheVariants.{Mutator, Worker}
+use Rattle.ref_base.specs.declared.fault.Fault.{Fault}
+use Rattle.ref_base.specs.declared.reply.Reply.{Reply}
+use Rattle.ref_base.specs.declared.reply.Reply.TheVariants as replies
+use Rattle.ref_base.proofs.HoldCounts.{one_if, tally-first, tally-append, tally-one_more, tally-one_fewer, tally-hand_set}
+use Rattle.ref_base.proofs.HoldCounts.{tally-queue_set}
+use Rattle.ref_base.proofs.RowLaws.{ticked_world}
+use Rattle.ref_base.proofs.SoundWorlds.{HasHand}
+
+-- ---- in sums
+
+abbrev total : World → ℕ → ℕ
+total w n = tally (in_hands w.mutator_hands) n + tally (in_hands w.worker_hands) n + tally (in_queues w.queues) n
+
+tally-reported : (w : World) (n : ℕ) → tally (reported w) n ≡ total w n
+tally-reported w n =
+    let both = tally-append (in_hands w.mutator_hands) (in_hands w.worker_hands) n in
+    let all = tally-append (in_hands w.mutator_hands ++ in_hands w.worker_hands) (in_queues w.queues) n in
+    omega (arith, both, all)
+
+counted_by : (w : World) → ((n : ℕ) → total w n ≤ tally w.heap.holds n) → AreCounted w
+counted_by w few n = let is = tally-reported w n in let own = few n in omega (arith, is, own)
+
+few_of : (w : World) → AreCounted w → (n : ℕ) → total w n ≤ tally w.heap.holds n
+few_of w counted n = let is = tally-reported w n in let own = counted n in omega (arith, is, own)
+
+-- ---- what changes
+
+total-same : (v w : World) → SameOthers v w → (n : ℕ) → total w n ≡ total v n
+total-same v w others n =
+    let mutators = ap (λ (hs : List (Option Notice)). tally (in_hands hs) n) others.mutators in
+    let workers = ap (λ (hs : List (Option Notice)). tally (in_hands hs) n) others.workers in
+    let queues = ap (λ (qs : List (Lists Notice)). tally (in_queues qs) n) others.queues in
+    omega (arith, mutators, workers, queues)
+
+total-hand : (w : World) (who : Actor) (hand : Option Notice) (n : ℕ) → HasHand w who
+    → total (with_hand w who hand) n + tally (in_hand (hand_of w who)) n ≡ total w n + tally (in_hand hand) n
+total-hand w (Mutator m) hand n has = let set = tally-hand_set w.mutator_hands m hand n has in omega (arith, set)
+total-hand w (Worker k) hand n has = let set = tally-hand_set w.worker_hands k hand n has in omega (arith, set)
+
+total-queue : (w : World) (q : ℕ) (new : Lists Notice) (n : ℕ) → q < length w.queues
+    → total (with_queue w q new) n + tally (map object_of (queue_at w q).stands) n
+    ≡ total w n + tally (map object_of new.stands) n
+total-queue w q new n within =
+    let set = tally-queue_set w.queues q new (new_queue q) n within in omega (arith, set)
+
+heap-hand : (w : World) (who : Actor) (hand : Option Notice) → (with_hand w who hand).heap ≡ w.heap
+heap-hand w (Mutator m) hand = refl
+heap-hand w (Worker k) hand = refl
+
+queues-hand : (w : World) (who : Actor) (hand : Option Notice) → (with_hand w who hand).queues ≡ w.queues
+queues-hand w (Mutator m) hand = refl
+queues-hand w (Worker k) hand = refl
+
+same_hand : (v w : World) (who : Actor) → SameOthers v w → hand_of w who ≡ hand_of v who
+same_hand v w (Mutator m) others = ap (λ (hs : List (Option Notice)). slice_index_or hs m None) others.mutators
+same_hand v w (Worker k) others = ap (λ (hs : List (Option Notice)). slice_index_or hs k None) others.workers
+
+same_has : (v w : World) (who : Actor) → SameOthers v w → HasHand v who → HasHand w who
+same_has v w (Mutator m) others has = rw others.mutators has
+same_has v w (Worker k) others has = rw others.workers has
+
+-- ---- the kinds of rows
+
+-- hands, queues and holds are as they were
+pub counted_still : (v w : World) → SameOthers v w → w.heap.holds ≡ v.heap.holds → AreCounted v → AreCounted w
+counted_still v w others held counted =
+    counted_by w (λ n.
+    let same = total-same v w others n in
+    let own = few_of v counted n in
+    let holds = ap (λ hs. tally hs n) held in
+    omega (arith, same, own, holds))
+
+-- a notice is given into an empty hand, with one hold more of what it reports
+pub counted_given : (v w : World) (who : Actor) (notice : Notice) → SameOthers v w → HasHand v who
+    → hand_of v who ≡ None → w.heap.holds ≡ one_more v.heap.holds notice.object → AreCounted v
+    → AreCounted (with_hand w who (Some notice))
+counted_given v w who notice others has free held counted =
+    counted_by (with_hand w who (Some notice)) (λ n.
+    let same = total-same v w others n in
+    let own = few_of v counted n in
+    let was = ap (λ (h : Option Notice). tally (in_hand h) n) (same_hand v w who others ∙ free) in
+    let set = total-hand w who (Some notice) n (same_has v w who others has) in
+    let one = tally-first notice.object [] n in
+    let heap = ap (λ (h : Heap). tally h.holds n) (heap-hand w who (Some notice)) in
+    let holds = ap (λ hs. tally hs n) held ∙ tally-one_more v.heap.holds notice.object n in
+    omega (arith, same, own, was, set, one, heap, holds))
+
+-- a hand's notice is spent, with one hold fewer of what it reported
+pub counted_spent : (v w : World) (who : Actor) (notice : Notice) → SameOthers v w → HasHand v who
+    → hand_of v who ≡ Some notice → w.heap.holds ≡ one_fewer v.heap.holds notice.object → AreCounted v
+    → AreCounted (with_hand w who None)
+counted_spent v w who notice others has full held counted =
+    counted_by (with_hand w who None) (λ n.
+    let same = total-same v w others n in
+    let own = few_of v counted n in
+    let was = ap (λ (h : Option Notice). tally (in_hand h) n) (same_hand v w who others ∙ full) in
+    let set = total-hand w who None n (same_has v w who others has) in
+    let one = tally-first notice.object [] n in
+    let heap = ap (λ (h : Heap). tally h.holds n) (heap-hand w who None) in
+    let holds = ap (λ hs. tally hs n) held in
+    let fewer = tally-one_fewer v.heap.holds notice.object n in
+    omega (arith, same, own, was, set, one, heap, holds, fewer))
+
+-- a hand's notice goes into a queue
+pub counted_put : (v : World) (who : Actor) (notice : Notice) → HasHand v who → hand_of v who ≡ Some notice
+    → notice.queue < length v.queues → AreCounted v → AreCounted (put_in v who (Some notice))
+counted_put v who notice has full within counted =
+    let w : World = with_hand v who None in
+    let lists : Lists Notice = queue_at v notice.queue in
+    let queues = queues-hand v who None in
+    let there : notice.queue < length w.queues = rw queues within in
+    counted_by (with_queue w notice.queue (with_parcel lists notice)) (λ n.
+    let own = few_of v counted n in
+    let was = ap (λ (h : Option Notice). tally (in_hand h) n) full in
+    let set = total-hand v who None n has in
+    let one = tally-first notice.object [] n in
+    let stood = ap (λ (qs : List (Lists Notice)).
+    tally (map object_of (slice_index_or qs notice.queue (new_queue notice.queue)).stands) n) queues in
+    let placed = total-queue w notice.queue (with_parcel lists notice) n there in
+    let longer = ap (λ ns. tally ns n) (map-append object_of lists.stands (notice ∷ []))
+    ∙ tally-append (map object_of lists.stands) (notice.object ∷ []) n in
+    let heap = ap (λ (h : Heap). tally h.holds n) (heap-hand v who None) in
+    omega (arith, own, was, set, one, stood, placed, longer, heap))
+
+-- the first of a queue goes into an empty hand
+pub counted_took : (v : World) (m q : ℕ) (notice : Notice) (rest : List Notice) → m < length v.mutator_hands
+    → hand_of v (Mutator m) ≡ None → q < length v.queues → (queue_at v q).stands ≡ notice ∷ rest → AreCounted v
+    → AreCounted (took v m q notice.object)
+counted_took v m q notice rest has free within first counted =
+    let lists : Lists Notice = queue_at v q in
+    let own_number = eq-eqb notice.object notice.object refl in
+    let found : notice_of lists.stands notice.object ≡ Some notice = rw (first, own_number) refl in
+    let left : (taken_out lists notice.object).stands ≡ rest = rw (first, own_number) refl in
+    let w : World = with_queue v q (taken_out lists notice.object) in
+    counted_by (took v m q notice.object) (λ n.
+    let own = few_of v counted n in
+    let was = ap (λ (h : Option Notice). tally (in_hand h) n) free in
+    let is = ap (λ (h : Option Notice). tally (in_hand h) n) found in
+    let set = tally-hand_set v.mutator_hands m (notice_of lists.stands notice.object) n has in
+    let one = tally-first notice.object [] n in
+    let placed = total-queue v q (taken_out lists notice.object) n within in
+    let before = ap (λ (ns : List Notice). tally (map object_of ns) n) first in
+    let shorter = ap (λ (ns : List Notice). tally (map object_of ns) n) left in
+    let split = tally-first notice.object (map object_of rest) n in
+    omega (arith, own, was, is, set, one, placed, before, shorter, split))
+
+-- a queue is closed
+pub counted_closed : (v : World) (q : ℕ) → q < length v.queues → AreCounted v → AreCounted (closed_queue v q)
+counted_closed v q within counted =
+    counted_by (closed_queue v q) (λ n.
+    let own = few_of v counted n in
+    let placed = total-queue v q (record (queue_at v q) { closed = true }) n within in
+    omega (arith, own, placed))
+
+-- ---- at first
+
+no_hands : (count : ℕ) → in_hands (replicate count None) ≡ []
+no_hands zero = refl
+no_hands (suc count) = no_hands count
+
+no_queues : (first count : ℕ) → in_queues (new_queues first count) ≡ []
+no_queues first zero = refl
+no_queues first (suc count) = no_queues (first + 1) count
+
+pub first_counted : (config : Config) → AreCounted (first_world config)
+first_counted config =
+    counted_by (first_world config) (λ n.
+    let mutators = ap (λ ns. tally ns n) (no_hands config.mutators) in
+    let workers = ap (λ ns. tally ns n) (no_hands config.workers) in
+    let queues = ap (λ ns. tally ns n) (no_queues 0 config.queues) in
+    omega (arith, mutators, workers, queues))
