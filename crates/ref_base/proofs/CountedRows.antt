@@ -1,31 +1,27 @@
 -- In every legal trace each notice that is out is a hold that the heap counts.
-use Rattle.std.proofs.Common.{◌≡◌, ℕ, ◌+◌, ◌<◌, ◌≤◌, Bool, true, false, List, [], ◌∷◌, ◌++◌, map, length, take, drop, min}
+use Rattle.std.proofs.Common.{◌≡◌, ℕ, ◌+◌, Bool, true, false, List, [], ◌∷◌, ◌++◌, length, take, drop, min}
 use Rattle.std.proofs.Common.{Option, Some, None}
-use Rattle.std.proofs.Common.{refl, sym, ap, ◌∙◌, subst, inl, inr, arith}
-use Rattle.std.specs.Prelude.{slice_index_or, slice_set}
-use Rattle.std.specs.List.{AllByRecursion}
-use Rattle.std.proofs.lemmas.Bool.{cases_Bool, and_parts, eq-eqb}
-use Rattle.std.proofs.lemmas.List.{map-append}
+use Rattle.std.proofs.Common.{refl, sym, ap, ◌∙◌, subst, inl, inr}
+use Rattle.std.specs.Prelude.{slice_set}
+use Rattle.std.proofs.lemmas.Bool.{cases_Bool}
 use Rattle.ref_base.specs.Members.{has}
 use Rattle.ref_base.specs.Graphs.{Object, plain_object}
 use Rattle.ref_base.specs.Heaps.{Heap, slot_at, reference_at, registered_in, changed_in, with_slot, with_reference}
 use Rattle.ref_base.specs.Heaps.{cleared, got_at, with_field, got, cut, stored, made, nulls, new_reference, with_hold}
 use Rattle.ref_base.specs.Heaps.{without_hold, one_more, one_fewer}
-use Rattle.ref_base.specs.QueueLists.{Lists, new_queue, with_parcel, with_taken, was_put}
-use Rattle.ref_base.specs.Worlds.{World, Notice, Pending, SameOthers, object_of, hand_of, queue_at, pending_of, with_hand}
-use Rattle.ref_base.specs.Worlds.{with_heap, with_queue}
-use Rattle.ref_base.specs.HeapSteps.{NamedStep, hold_of, spending, handed}
-use Rattle.ref_base.specs.Replay.{adopted, pended, handed_on, begun, with_phase, put_in, took, taken_out, notice_of}
-use Rattle.ref_base.specs.Replay.{closed_queue}
+use Rattle.ref_base.specs.Worlds.{World, Pending}
+use Rattle.ref_base.specs.Worlds.{with_heap}
+use Rattle.ref_base.specs.HeapSteps.{NamedStep}
+use Rattle.ref_base.specs.Replay.{adopted, pended, handed_on, begun, with_phase}
 use Rattle.ref_base.specs.Collectors.{State}
-use Rattle.ref_base.specs.CollectorRows.{Gives, GivesAnewIf, IsBut, ticked, on_heap, with_world, with_handed, Loads}
+use Rattle.ref_base.specs.CollectorRows.{Gives, GivesAnewIf, ticked, on_heap, with_world, Loads}
 use Rattle.ref_base.specs.CollectorRows.{Gets, Unhooks, Holds, Scans, ClearsNext, HandsOn, Sweeps, HeapAccepts}
-use Rattle.ref_base.specs.CollectorRows.{Makes, looked_at, value_reply, referent_of, is_same, reference_of, mark_ended, doomed_at, looked, list_at, begun_state, without}
+use Rattle.ref_base.specs.CollectorRows.{Makes, looked_at, value_reply, referent_of, is_same, reference_of, looked}
+use Rattle.ref_base.specs.CollectorRows.{list_at, begun_state, without}
 use Rattle.ref_base.specs.Refusals.{is_in}
 use Rattle.ref_base.specs.CountedHolds.{holds_after}
 use Rattle.ref_base.specs.declared.cause.Cause.TheVariants.{Own, Cycle}
-use Rattle.ref_base.specs.declared.phase.Phase.TheVariants.{Idle, Marking, Clearing, Sweeping}
-use Rattle.ref_base.specs.declared.urgency.Urgency.{Urgency}
+use Rattle.ref_base.specs.declared.phase.Phase.TheVariants.{Idle, Marking, Sweeping}
 use Rattle.ref_base.specs.declared.heap_step.HeapStep.TheVariants as heap
 use Rattle.ref_base.specs.declared.reply.Reply.{Reply}
 use Rattle.ref_base.specs.declared.reply.Reply.TheVariants as replies
@@ -165,7 +161,8 @@ heap_holds a b (heap.Store m s i v) reply row =
     gives (on_heap a (stored h m s i v)) b replies.Done reply h.holds row
     (holds-changed_in h (slot_at h m s) (with_field i (slot_at h m v)))
 heap_holds a b (heap.Load m d s i) reply row = loads a b m d _ reply row
-heap_holds a b (heap.Copy m d s) reply row = sets a b m d (slot_at a.world.heap m s) (value_reply (slot_at a.world.heap m s)) reply row
+heap_holds a b (heap.Copy m d s) reply row =
+    let value = slot_at a.world.heap m s in sets a b m d value (value_reply value) reply row
 heap_holds a b (heap.Drop m s) reply row = sets a b m s None replies.Done reply row
 heap_holds a b (heap.Get m d s) reply row = gets a b m d s _ reply row
 heap_holds a b (heap.Clear m s) reply row = cuts a b m s replies.Done reply row

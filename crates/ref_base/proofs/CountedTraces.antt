@@ -1,16 +1,18 @@
 -- In every legal trace each notice that is out is a hold that the heap counts, row by row.
-use Rattle.std.proofs.Common.{◌≡◌, ℕ, ◌<◌, Bool, true, false, List, [], ◌∷◌, length, Option, Some, None, refl, sym, ap, ◌∙◌}
+use Rattle.std.proofs.Common.{◌≡◌, ℕ, ◌<◌, Bool, true, false, List, [], ◌∷◌, length, Option, Some, None, refl, sym, ap}
+use Rattle.std.proofs.Common.{◌∙◌}
 use Rattle.std.proofs.Common.{subst, inl, inr}
 use Rattle.std.proofs.lemmas.Bool.{and_parts}
-use Rattle.ref_base.specs.Heaps.{one_more, one_fewer, slot_at, registered_in}
-use Rattle.ref_base.specs.Worlds.{World, Notice, Pending, SameOthers, hand_of, queue_at, pending_of, with_hand}
+use Rattle.ref_base.specs.Heaps.{one_more, one_fewer}
+use Rattle.ref_base.specs.Worlds.{World, Notice, Pending, SameOthers, hand_of, queue_at, with_hand}
 use Rattle.ref_base.specs.HeapSteps.{NamedStep, hold_of, spending, handed}
 use Rattle.ref_base.specs.Collectors.{State, first_state}
-use Rattle.ref_base.specs.CollectorRows.{Gives, with_handed, AcceptsAsking, Unhooks, HandsOn, PutsInto, Puts, Polls, Closes}
+use Rattle.ref_base.specs.CollectorRows.{Gives, with_handed, AcceptsAsking, Unhooks, HandsOn, PutsInto, Puts, Polls}
+use Rattle.ref_base.specs.CollectorRows.{Closes}
 use Rattle.ref_base.specs.QueueLists.{enqueued}
 use Rattle.ref_base.specs.Worlds.{object_of}
 use Rattle.ref_base.specs.Replay.{put_in, took, closed_queue}
-use Rattle.ref_base.specs.CollectorRows.{with_world, Accepts, IsAnswer, IsRow, IsRun, reference_of}
+use Rattle.ref_base.specs.CollectorRows.{with_world, Accepts, IsAnswer, IsRow, IsRun}
 use Rattle.ref_base.specs.Refusals.{unless_full, refusal, is_mutator, is_worker, is_queue, is_actor, has_slot}
 use Rattle.ref_base.specs.CountedHolds.{AreCounted, holds_after}
 use Rattle.ref_base.specs.declared.config.Config.{Config}
@@ -27,7 +29,6 @@ use Rattle.ref_base.specs.declared.row.Row.{Row}
 use Rattle.ref_base.proofs.CountedRows.{heap_holds}
 use Rattle.ref_base.proofs.CountedWorlds.{counted_still, counted_given, counted_spent, counted_put, counted_took}
 use Rattle.ref_base.proofs.CountedWorlds.{counted_closed, first_counted}
-use Rattle.ref_base.proofs.QueueLaws.{same}
 use Rattle.ref_base.proofs.RowLaws.{ticked_world, heap_keeps, registered, IsRegistered, row_goes, unless_passes}
 use Rattle.ref_base.proofs.RowLaws.{mutator_within, worker_within, actor_has, queue_within}
 use Rattle.ref_base.proofs.SoundWorlds.{HasHand, IsSound, NoticeBelow, first_sound}

@@ -1,29 +1,20 @@
 -- In every legal trace each notice that is out is a hold that the heap counts.
-use Rattle.std.proofs.Common.{◌≡◌, ℕ, ◌+◌, ◌<◌, ◌≤◌, zero, suc, true, false, List, [], ◌∷◌, ◌++◌, map, length, replicate}
-use Rattle.std.proofs.Common.{Option, Some, None, refl, sym, ap, ◌∙◌, subst, inl, inr, arith}
-use Rattle.std.specs.Prelude.{slice_index_or, slice_set}
-use Rattle.std.proofs.lemmas.Bool.{and_parts, eq-eqb, ltb-true}
+use Rattle.std.proofs.Common.{◌≡◌, ℕ, ◌+◌, ◌<◌, ◌≤◌, zero, suc, true, List, [], ◌∷◌, ◌++◌, map, length, replicate}
+use Rattle.std.proofs.Common.{Option, Some, None, refl, ap, ◌∙◌, arith}
+use Rattle.std.specs.Prelude.{slice_index_or}
+use Rattle.std.proofs.lemmas.Bool.{eq-eqb}
 use Rattle.std.proofs.lemmas.List.{map-append}
 use Rattle.ref_base.specs.Heaps.{Heap, one_more, one_fewer}
-use Rattle.ref_base.specs.QueueLists.{Lists, new_queue, new_queues, with_parcel, was_put}
+use Rattle.ref_base.specs.QueueLists.{Lists, new_queue, new_queues, with_parcel}
 use Rattle.ref_base.specs.Worlds.{World, Notice, SameOthers, first_world, object_of, hand_of, queue_at, with_hand}
 use Rattle.ref_base.specs.Worlds.{with_queue}
-use Rattle.ref_base.specs.HeapSteps.{NamedStep, hold_of, spending, handed}
 use Rattle.ref_base.specs.Replay.{put_in, took, taken_out, notice_of, closed_queue}
-use Rattle.ref_base.specs.Collectors.{State, first_state}
-use Rattle.ref_base.specs.CollectorRows.{Gives, ticked, with_handed, AcceptsAsking, HeapAccepts, Unhooks, HandsOn, PutsInto}
-use Rattle.ref_base.specs.CollectorRows.{Puts, Polls, Closes, Accepts, IsAnswer, IsRow, IsRun}
-use Rattle.ref_base.specs.Refusals.{unless_full, refusal}
-use Rattle.ref_base.specs.CountedHolds.{tally, in_hand, in_hands, in_queues, reported, AreCounted, holds_after}
+use Rattle.ref_base.specs.CountedHolds.{tally, in_hand, in_hands, in_queues, reported, AreCounted}
 use Rattle.ref_base.specs.declared.config.Config.{Config}
 use Rattle.ref_base.specs.declared.actor.Actor.{Actor}
 use Rattle.ref_base.specs.declared.actor.Actor.TheVariants.{Mutator, Worker}
-use Rattle.ref_base.specs.declared.fault.Fault.{Fault}
-use Rattle.ref_base.specs.declared.reply.Reply.{Reply}
-use Rattle.ref_base.specs.declared.reply.Reply.TheVariants as replies
-use Rattle.ref_base.proofs.HoldCounts.{one_if, tally-first, tally-append, tally-one_more, tally-one_fewer, tally-hand_set}
+use Rattle.ref_base.proofs.HoldCounts.{tally-first, tally-append, tally-one_more, tally-one_fewer, tally-hand_set}
 use Rattle.ref_base.proofs.HoldCounts.{tally-queue_set}
-use Rattle.ref_base.proofs.RowLaws.{ticked_world}
 use Rattle.ref_base.proofs.SoundWorlds.{HasHand}
 
 -- ---- in sums

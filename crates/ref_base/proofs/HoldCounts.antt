@@ -1,11 +1,11 @@
 -- How often each number stands in the lists of holds, hands and queues as these change.
-use Rattle.std.proofs.Common.{◌≡◌, ℕ, ◌+◌, ◌<◌, ◌≤◌, zero, suc, true, false, ◌==◌, if◌then◌else◌, nat_lt, refl, ap}
-use Rattle.std.proofs.Common.{List, [], ◌∷◌, ◌++◌, length, map, Option, Some, None, inl, inr, arith}
+use Rattle.std.proofs.Common.{◌≡◌, ℕ, ◌+◌, ◌<◌, ◌≤◌, zero, suc, true, ◌==◌, if◌then◌else◌, nat_lt, refl, ap}
+use Rattle.std.proofs.Common.{List, [], ◌∷◌, ◌++◌, length, map, Option, None, inl, inr, arith}
 use Rattle.std.specs.Prelude.{slice_index_or, slice_set}
 use Rattle.std.proofs.lemmas.Bool.{cases_Bool, eqb-true}
 use Rattle.ref_base.specs.Members.{has}
 use Rattle.ref_base.specs.Heaps.{one_more, one_fewer}
-use Rattle.ref_base.specs.QueueLists.{Lists, new_queue}
+use Rattle.ref_base.specs.QueueLists.{Lists}
 use Rattle.ref_base.specs.Worlds.{Notice, object_of}
 use Rattle.ref_base.specs.CountedHolds.{tally, in_hand, in_hands, in_queues}
 

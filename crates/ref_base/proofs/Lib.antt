@@ -30,6 +30,11 @@ pub mod HoldCounts
 pub mod CountedRows
 pub mod CountedWorlds
 pub mod CountedTraces
+pub mod CarryLaws
+pub mod CarryHeaps
+pub mod CarryRows
+pub mod ProvenTraces
+pub mod GivenNotices
 mod ReplayExamples
 mod LegalExamples
 mod IllegalExamples

@@ -36,3 +36,13 @@ pub all_push : {X : Type 0} (P : X → Type 0) (xs : List X) (x : X) → AllByRe
     → AllByRecursion P (xs ++ x ∷ [])
 all_push P [] x all here = (here, tt)
 all_push P (y ∷ ys) x all here = (all.0, all_push P ys x all.1 here)
+
+-- the same of what holds at each place in its own way
+pub set_each : {X : Type 0} (P : ℕ → X → Type 0) (xs : List X) (m : ℕ) (x : X) (d : ℕ → X) → P m x
+    → ((k : ℕ) → P k (slice_index_or xs k (d k))) → (k : ℕ) → P k (slice_index_or (slice_set xs m x) k (d k))
+set_each P [] m x d here others k = others k
+set_each P (_ ∷ xs) zero x d here others zero = here
+set_each P (_ ∷ xs) zero x d here others (suc k) = others (suc k)
+set_each P (_ ∷ xs) (suc m) x d here others zero = others zero
+set_each P (_ ∷ xs) (suc m) x d here others (suc k) =
+    set_each (λ j. P (suc j)) xs m x (λ j. d (suc j)) here (λ j. others (suc j)) k

@@ -60,7 +60,7 @@ pub record IsSound (w : World) : Type 0 where
 
 -- ---- objects
 
-all_changed : {P : Object → Type 0} (os : List Object) (n : ℕ) (f : Object → Object) → ((o : Object) → P o → P (f o))
+pub all_changed : {P : Object → Type 0} (os : List Object) (n : ℕ) (f : Object → Object) → ((o : Object) → P o → P (f o))
     → AllByRecursion P os → AllByRecursion P (changed_at os n f)
 all_changed [] n f keeps all = tt
 all_changed (o ∷ os) n f keeps all =
@@ -69,12 +69,12 @@ all_changed (o ∷ os) n f keeps all =
       | inr other ↦ simp other (all.0, all_changed os n f keeps all.1)
     ]
 
-all_map : {P : Object → Type 0} (os : List Object) (f : Object → Object) → ((o : Object) → P o → P (f o))
+pub all_map : {P : Object → Type 0} (os : List Object) (f : Object → Object) → ((o : Object) → P o → P (f o))
     → AllByRecursion P os → AllByRecursion P (map f os)
 all_map [] f keeps all = tt
 all_map (o ∷ os) f keeps all = (keeps o all.0, all_map os f keeps all.1)
 
-all_without : (P : Object → Type 0) (ns : List ℕ) (os : List Object) → AllByRecursion P os
+pub all_without : (P : Object → Type 0) (ns : List ℕ) (os : List Object) → AllByRecursion P os
     → AllByRecursion P (without ns os)
 all_without P ns [] all = tt
 all_without P ns (o ∷ os) all =

@@ -30,4 +30,5 @@ pub mod Refusals
 pub mod CollectorRows
 pub mod Forgetting
 pub mod LegalTraces
+pub mod Provenance
 pub mod Words

@@ -1,6 +1,6 @@
 //! What the definitions say together, beside any code.
 
-ghost use Rattle.std.specs.Prelude.{◌≡◌, ℕ, true, false, List, ◌∷◌, ◌++◌, Some, ◌⊎◌};
+ghost use Rattle.std.specs.Prelude.{◌≡◌, ℕ, true, false, List, [], ◌∷◌, ◌++◌, Some, ◌⊎◌};
 ghost use Rattle.ref_base.specs.Graphs.{Graph};
 ghost use Rattle.ref_base.specs.Paths.{IsPath, soft_and_weak_referents};
 ghost use Rattle.ref_base.specs.Members.{has};
@@ -14,8 +14,10 @@ ghost use Rattle.ref_base.specs.Worlds.{SameOthers};
 ghost use Rattle.ref_base.specs.HeapSteps.{NamedStep, heap_step};
 ghost use Rattle.ref_base.specs.Collectors.{State, first_state};
 ghost use Rattle.ref_base.specs.CountedHolds.{AreCounted};
+ghost use Rattle.ref_base.specs.Provenance.{IsProven, AreProven, gives_notices};
 ghost use Rattle.ref_base.specs.Refusals.{heap_refusal, refusal};
 ghost use Rattle.ref_base.specs.CollectorRows.{IsHeapRow, IsRow, IsRun, with_handed};
+ghost use Rattle.ref_base.specs.declared.cause.Cause.{Cause};
 ghost use Rattle.ref_base.specs.declared.config.Config.{Config};
 ghost use Rattle.ref_base.specs.declared.reach.Reach.{Reach};
 ghost use Rattle.ref_base.specs.declared.row.Row.{Row};
@@ -91,9 +93,27 @@ pub fn no_row_of_a_heap_touches_hands_and_queues()
         → SameOthers a.world b.world }
 {}
 
-/// After every legal trace each notice that is out, in a hand or in a queue, is a hold that the heap counts: none is out
-/// more often than its reference is held.
+/// After every legal trace each notice that is out, in a hand or in a queue, is a hold that the heap counts: none is
+/// out more often than its reference is held.
 pub fn each_notice_that_is_out_is_a_counted_hold()
     ensures { (config : Config) (rows : List Row) (b : State) → IsRun (first_state config) rows b
         → AreCounted b.world }
+{}
+
+/// After every legal trace each notice that is out, in a hand or in a queue, comes from the rows: one of them made its
+/// reference, registered with the notice's queue; and one is its cause, an unhook that gave a notice of the reference,
+/// or its clearing, in the cycle and by the worker that the cause names.
+pub fn each_notice_has_its_own_queue_and_cause()
+    ensures { (config : Config) (rows : List Row) (b : State) → IsRun (first_state config) rows b
+        → AreProven rows b.world }
+{}
+
+/// And so does each notice that a row of a legal trace gives, an unhook's or one that a worker hands on: from the rows
+/// up to that one.
+pub fn each_notice_that_is_given_has_its_own_queue_and_cause()
+    ensures { (config : Config) (front back : List Row) (step : Step) (n q : ℕ) (cause : Cause) (b : State)
+        → gives_notices step ≡ true
+        → IsRun (first_state config) (front ++ record { step = step; reply = Reply.Notice n q cause } ∷ back) b
+        → IsProven (front ++ record { step = step; reply = Reply.Notice n q cause } ∷ [])
+        (record { object = n; queue = q; cause = cause }) }
 {}

@@ -1,0 +1,163 @@
+-- What changes of a world carry on: whatever holds of each object, of each notice, in hands, in queues and still to be
+-- handed on, and of the cycle.
+use Rattle.std.proofs.Common.{◌≡◌, ℕ, Bool, true, false, not, ◌&&◌, ◌==◌}
+use Rattle.std.proofs.Common.{List, [], ◌∷◌, Option, Some, None}
+use Rattle.std.proofs.Common.{sym, ap, ◌∙◌, subst, inl, inr}
+use Rattle.std.specs.Prelude.{slice_index_or, slice_set}
+use Rattle.std.specs.List.{AllByRecursion}
+use Rattle.std.proofs.lemmas.Bool.{cases_Bool}
+use Rattle.ref_base.specs.Members.{has, without_first}
+use Rattle.ref_base.specs.Graphs.{Object}
+use Rattle.ref_base.specs.DoomedSets.{refers_into}
+use Rattle.ref_base.specs.Heaps.{changed_at, changed_in}
+use Rattle.ref_base.specs.Heaps.{with_reference, cleared, got_at, with_field}
+use Rattle.ref_base.specs.QueueLists.{Lists, new_queue}
+use Rattle.ref_base.specs.Worlds.{World, Notice, Pending, with_heap, with_hand, with_queue}
+use Rattle.ref_base.specs.Replay.{begun}
+use Rattle.ref_base.specs.Collectors.{State}
+use Rattle.ref_base.specs.CollectorRows.{Gives, GivesAnewIf, ticked}
+use Rattle.ref_base.specs.CollectorRows.{shown}
+use Rattle.ref_base.specs.declared.actor.Actor.{Actor}
+use Rattle.ref_base.specs.declared.actor.Actor.TheVariants.{Mutator, Worker}
+use Rattle.ref_base.specs.declared.cause.Cause.TheVariants.{Cycle}
+use Rattle.ref_base.specs.declared.urgency.Urgency.{Urgency}
+use Rattle.ref_base.specs.declared.reply.Reply.{Reply}
+use Rattle.ref_base.proofs.Places.{set_each}
+use Rattle.ref_base.proofs.SoundWorlds.{all_changed}
+use Rattle.ref_base.proofs.RowLaws.{ticked_world, but_world}
+
+-- ---- what is carried
+
+-- the notice that a worker gives of what is pending
+abbrev pub notice_from : ℕ → Pending → Notice
+notice_from k p = record { object = p.object; queue = p.queue; cause = Cycle p.cycle k }
+
+abbrev pub OfHand : (Notice → Type 0) → Option Notice → Type 0
+OfHand P None = Unit {0}
+OfHand P (Some notice) = P notice
+
+-- O holds of each object, P of each notice that is out or that a worker will give, and C of the cycle that goes on
+pub record CarriesIn (O : Object → Type 0) (P : Notice → Type 0) (C : ℕ → Type 0) (os : List Object)
+    (pending : List (List Pending)) (mutator_hands worker_hands : List (Option Notice)) (queues : List (Lists Notice))
+    (cycle : ℕ) : Type 0 where
+  pub objects : AllByRecursion O os
+  pub pendings : (k : ℕ) → AllByRecursion (λ p. P (notice_from k p)) (slice_index_or pending k [])
+  pub of_mutators : (m : ℕ) → OfHand P (slice_index_or mutator_hands m None)
+  pub of_workers : (k : ℕ) → OfHand P (slice_index_or worker_hands k None)
+  pub stands : (q : ℕ) → AllByRecursion P (slice_index_or queues q (new_queue q)).stands
+  pub goes_on : C cycle
+
+abbrev pub Carries : (Object → Type 0) → (Notice → Type 0) → (ℕ → Type 0) → World → Type 0
+Carries O P C w = CarriesIn O P C w.heap.objects w.pending w.mutator_hands w.worker_hands w.queues w.cycle
+
+-- O lasts through each change of an object
+pub record Lasts (O : Object → Type 0) : Type 0 where
+  pub stores : (o : Object) (i : ℕ) (value : Option ℕ) → O o → O (with_field i value o)
+  pub clears : (o : Object) → O o → O (with_reference cleared o)
+  pub gets : (o : Object) (clock : ℕ) → O o → O (with_reference (got_at clock) o)
+
+pub all_without_first : {X : Type 0} (P : X → Type 0) (number : X → ℕ) (xs : List X) (n : ℕ) → AllByRecursion P xs
+    → AllByRecursion P (without_first number xs n)
+all_without_first P number [] n all = tt
+all_without_first P number (x ∷ xs) n all =
+    elim (cases_Bool (number x == n)) [
+      | inl same ↦ simp same all.1
+      | inr other ↦ simp other (all.0, all_without_first P number xs n all.1)
+    ]
+
+pub shown_lasts : (O : Object → Type 0) (d : List ℕ) (o : Object) → Lasts O → O o → O (shown d o)
+shown_lasts O d o lasts is =
+    elim (cases_Bool (not (has d o.no) && refers_into (has d) o.reference)) [
+      | inl clears ↦ simp clears (lasts.clears o is)
+      | inr keeps ↦ simp keeps is
+    ]
+
+module _ (O : Object → Type 0) (P : Notice → Type 0) (C : ℕ → Type 0) where
+  -- ---- the changes of a world
+
+  pub carries_objects : (w : World) (os : List Object) → AllByRecursion O os → Carries O P C w
+      → Carries O P C (with_heap w (record w.heap { objects = os }))
+  carries_objects w os all carries = record {
+    objects = all;
+    pendings = carries.pendings;
+    of_mutators = carries.of_mutators;
+    of_workers = carries.of_workers;
+    stands = carries.stands;
+    goes_on = carries.goes_on;
+  }
+
+  pub carries_changed : (w : World) (held : Option ℕ) (f : Object → Object) → ((o : Object) → O o → O (f o))
+      → Carries O P C w → Carries O P C (with_heap w (changed_in w.heap held f))
+  carries_changed w None f keeps carries = carries
+  carries_changed w (Some n) f keeps carries =
+      carries_objects w (changed_at w.heap.objects n f) (all_changed w.heap.objects n f keeps carries.objects) carries
+
+  pub carries_pending : (w : World) (k : ℕ) (ps : List Pending) → AllByRecursion (λ p. P (notice_from k p)) ps
+      → Carries O P C w → Carries O P C (record w { pending = slice_set w.pending k ps })
+  carries_pending w k ps all carries = record {
+    objects = carries.objects;
+    pendings = set_each (λ j qs. AllByRecursion (λ p. P (notice_from j p)) qs) w.pending k ps (λ _. []) all
+        carries.pendings;
+    of_mutators = carries.of_mutators;
+    of_workers = carries.of_workers;
+    stands = carries.stands;
+    goes_on = carries.goes_on;
+  }
+
+  pub carries_hand : (w : World) (who : Actor) (hand : Option Notice) → OfHand P hand → Carries O P C w
+      → Carries O P C (with_hand w who hand)
+  carries_hand w (Mutator m) hand is carries = record {
+    objects = carries.objects;
+    pendings = carries.pendings;
+    of_mutators = set_each (λ _ h. OfHand P h) w.mutator_hands m hand (λ _. None) is carries.of_mutators;
+    of_workers = carries.of_workers;
+    stands = carries.stands;
+    goes_on = carries.goes_on;
+  }
+  carries_hand w (Worker k) hand is carries = record {
+    objects = carries.objects;
+    pendings = carries.pendings;
+    of_mutators = carries.of_mutators;
+    of_workers = set_each (λ _ h. OfHand P h) w.worker_hands k hand (λ _. None) is carries.of_workers;
+    stands = carries.stands;
+    goes_on = carries.goes_on;
+  }
+
+  pub carries_queue : (w : World) (q : ℕ) (lists : Lists Notice) → AllByRecursion P lists.stands → Carries O P C w
+      → Carries O P C (with_queue w q lists)
+  carries_queue w q lists all carries = record {
+    objects = carries.objects;
+    pendings = carries.pendings;
+    of_mutators = carries.of_mutators;
+    of_workers = carries.of_workers;
+    stands = set_each (λ _ (l : Lists Notice). AllByRecursion P l.stands) w.queues q lists new_queue all
+        carries.stands;
+    goes_on = carries.goes_on;
+  }
+
+  pub carries_begun : (w : World) (now : ℕ) (how : Urgency) (n : ℕ) → C n → Carries O P C w
+      → Carries O P C (begun w now how n)
+  carries_begun w now how n is carries = record {
+    objects = carries.objects;
+    pendings = carries.pendings;
+    of_mutators = carries.of_mutators;
+    of_workers = carries.of_workers;
+    stands = carries.stands;
+    goes_on = is;
+  }
+
+  -- ---- the forms of a row
+
+  pub in_world : (b : State) (w : World) → b.world ≡ w → Carries O P C w → Carries O P C b.world
+  in_world b w is carries = subst (λ (v : World). Carries O P C v) (sym is) carries
+
+  pub given : (c b : State) (answer reply : Reply) → Gives answer c reply b → Carries O P C c.world
+      → Carries O P C b.world
+  given c b answer reply gives carries =
+      in_world b c.world (ap (λ (s : State). s.world) gives.1 ∙ ticked_world c) carries
+
+  pub given_anew : (c b : State) (marks : Bool) (answer reply : Reply) → GivesAnewIf marks answer c reply b
+      → Carries O P C c.world → Carries O P C b.world
+  given_anew c b true answer reply gives carries =
+      in_world b c.world (but_world (ticked c) b gives.1 ∙ ticked_world c) carries
+  given_anew c b false answer reply gives carries = given c b answer reply gives carries

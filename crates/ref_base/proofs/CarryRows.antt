@@ -1,0 +1,277 @@
+-- What a row of the world carries on: whatever holds of each object, of each notice that is out or will be given, and
+-- of the cycle holds afterwards where it holds of what the row makes anew.
+use Rattle.std.proofs.Common.{◌≡◌, ℕ, Bool, true, false, ◌==◌}
+use Rattle.std.proofs.Common.{List, [], ◌∷◌, length, replicate, zero, suc, Option, Some, None}
+use Rattle.std.proofs.Common.{refl, sym, ap, ◌∙◌, subst, inl, inr}
+use Rattle.std.specs.Prelude.{slice_index_or}
+use Rattle.std.specs.List.{AllByRecursion}
+use Rattle.std.proofs.lemmas.Bool.{cases_Bool}
+use Rattle.ref_base.specs.Graphs.{Object}
+use Rattle.ref_base.specs.Heaps.{slot_at, reference_at, registered_in}
+use Rattle.ref_base.specs.QueueLists.{Lists, enqueued, with_parcel}
+use Rattle.ref_base.specs.Worlds.{World, Notice, Pending, first_world, object_of, hand_of, queue_at, pending_of}
+use Rattle.ref_base.specs.Worlds.{with_hand, with_queue}
+use Rattle.ref_base.specs.HeapSteps.{NamedStep, hold_of, spending, handed}
+use Rattle.ref_base.specs.Replay.{put_in, took, taken_out, notice_of, closed_queue}
+use Rattle.ref_base.specs.Collectors.{State}
+use Rattle.ref_base.specs.CollectorRows.{with_world, with_handed, AcceptsAsking, Unhooks, HandsOn, PutsInto, Puts}
+use Rattle.ref_base.specs.CollectorRows.{Polls, Closes, Accepts, IsAnswer, IsRow, reference_of}
+use Rattle.ref_base.specs.Refusals.{refusal}
+use Rattle.ref_base.specs.declared.config.Config.{Config}
+use Rattle.ref_base.specs.declared.actor.Actor.{Actor}
+use Rattle.ref_base.specs.declared.actor.Actor.TheVariants.{Mutator, Worker}
+use Rattle.ref_base.specs.declared.cause.Cause.TheVariants.{Own, Cycle}
+use Rattle.ref_base.specs.declared.fault.Fault.{Fault}
+use Rattle.ref_base.specs.declared.heap_step.HeapStep.TheVariants as heap
+use Rattle.ref_base.specs.declared.step.Step.{Step}
+use Rattle.ref_base.specs.declared.step.Step.TheVariants as steps
+use Rattle.ref_base.specs.declared.reply.Reply.{Reply}
+use Rattle.ref_base.specs.declared.reply.Reply.TheVariants as replies
+use Rattle.ref_base.specs.declared.row.Row.{Row}
+use Rattle.ref_base.proofs.Places.{all_push}
+use Rattle.ref_base.proofs.SoundWorlds.{first_queue, first_hand}
+use Rattle.ref_base.proofs.CarryLaws.{OfHand, Carries, Lasts, notice_from, all_without_first, carries_hand}
+use Rattle.ref_base.proofs.CarryLaws.{carries_queue, in_world, given}
+use Rattle.ref_base.proofs.CarryHeaps.{Anew, heap_carries}
+
+-- the notice of that number among these is one of them
+all_notice_of : (P : Notice → Type 0) (notices : List Notice) (n : ℕ) → AllByRecursion P notices
+    → OfHand P (notice_of notices n)
+all_notice_of P [] n all = tt
+all_notice_of P (notice ∷ rest) n all =
+    elim (cases_Bool (notice.object == n)) [
+      | inl same ↦ simp same all.0
+      | inr other ↦ simp other (all_notice_of P rest n all.1)
+    ]
+
+left_by : (c b : State) (step : Step) (answer reply : Reply) → reply ≡ answer → b ≡ with_handed c step reply
+    → b.world ≡ handed c.world step answer
+left_by c b step answer reply is left =
+    ap (λ (s : State). s.world) left ∙ ap (λ (r : Reply). handed c.world step r) is
+
+module _ (O : Object → Type 0) (P : Notice → Type 0) (C : ℕ → Type 0) where
+  -- what a row makes anew: an object, a pending reference, or a notice of a reference that was unhooked
+  abbrev pub Mints : State → Step → Reply → Type 0
+  Mints a (steps.New m d k) reply = Anew O P C a (heap.New m d k) reply
+  Mints a (steps.Refer m strength d s q k) reply = Anew O P C a (heap.Refer m strength d s q k) reply
+  Mints a (steps.Begin now how) reply = Anew O P C a (heap.Begin now how) reply
+  Mints a (steps.ClearNext k) reply = Anew O P C a (heap.ClearNext k) reply
+  Mints a (steps.Unhook m s) reply =
+      (n q : ℕ) → reply ≡ replies.Notice n q Own → registered_in (reference_at a.world.heap n) ≡ Some q
+      → P (record { object = n; queue = q; cause = Own })
+  Mints a step reply = Unit {0}
+
+  -- ---- queues
+
+  puts_into : (a b : State) (who : Actor) (notice : Notice) (again shut : Bool) (reply : Reply) → P notice
+      → Carries O P C a.world → PutsInto again shut a who notice reply b → Carries O P C b.world
+  puts_into a b who notice true shut reply is carries row = given O P C a b replies.Already reply row carries
+  puts_into a b who notice false true reply is carries row = given O P C a b replies.Closed reply row carries
+  puts_into a b who notice false false reply is carries row =
+      let lists : Lists Notice = queue_at a.world notice.queue in
+      elim row [
+        | inl added ↦
+            given O P C (with_world a (put_in a.world who (Some notice))) b
+            (replies.Added (length (enqueued object_of lists))) reply added
+            (carries_queue O P C (with_hand a.world who None) notice.queue (with_parcel lists notice)
+            (all_push P lists.stands notice (carries.stands notice.queue) is)
+            (carries_hand O P C a.world who None tt carries))
+        | inr refused ↦ in_world O P C b a.world (ap (λ (s : State). s.world) refused.1) carries
+      ]
+
+  hand_carries : (w : World) (who : Actor) → Carries O P C w → OfHand P (hand_of w who)
+  hand_carries w (Mutator m) carries = carries.of_mutators m
+  hand_carries w (Worker k) carries = carries.of_workers k
+
+  puts : (a b : State) (who : Actor) (hand : Option Notice) (reply : Reply) → OfHand P hand → Carries O P C a.world
+      → Puts a who hand reply b → Carries O P C b.world
+  puts a b who None reply is carries row = absurd row
+  puts a b who (Some notice) reply is carries row = puts_into a b who notice _ _ reply is carries row
+
+  polls : (a b : State) (m q : ℕ) (stands : List Notice) (reply : Reply) → Carries O P C a.world
+      → Polls a m q stands reply b → Carries O P C b.world
+  polls a b m q [] reply carries row = given O P C a b _ reply row carries
+  polls a b m q (notice ∷ rest) reply carries row =
+      let lists : Lists Notice = queue_at a.world q in
+      let n : ℕ = notice.object in
+      given O P C (with_world a (took a.world m q n)) b (replies.Took n) reply row
+      (carries_hand O P C (with_queue a.world q (taken_out lists n)) (Mutator m) (notice_of lists.stands n)
+      (all_notice_of P lists.stands n (carries.stands q))
+      (carries_queue O P C a.world q (taken_out lists n)
+      (all_without_first P object_of lists.stands n (carries.stands q)) carries))
+
+  closes : (a b : State) (q : ℕ) (shut : Bool) (reply : Reply) → Carries O P C a.world → Closes a q shut reply b
+      → Carries O P C b.world
+  closes a b q true reply carries row = given O P C a b replies.Closed reply row carries
+  closes a b q false reply carries row =
+      given O P C (with_world a (closed_queue a.world q)) b replies.Done reply row
+      (carries_queue O P C a.world q (record (queue_at a.world q) { closed = true }) (carries.stands q) carries)
+
+  -- ---- hands
+
+  -- a row that gives this to a hand
+  hands_over : (c b : State) (who : Actor) (hand : Option Notice) (step : Step) (answer reply : Reply)
+      → handed c.world step answer ≡ with_hand c.world who hand → OfHand P hand → reply ≡ answer
+      → b ≡ with_handed c step reply → Carries O P C c.world → Carries O P C b.world
+  hands_over c b who hand step answer reply into is told left carries =
+      in_world O P C b (with_hand c.world who hand) (left_by c b step answer reply told left ∙ into)
+      (carries_hand O P C c.world who hand is carries)
+
+  -- and one that leaves the hands
+  hands_none : (c b : State) (step : Step) (answer reply : Reply) → handed c.world step answer ≡ c.world
+      → reply ≡ answer → b ≡ with_handed c step reply → Carries O P C c.world → Carries O P C b.world
+  hands_none c b step answer reply still told left carries =
+      in_world O P C b c.world (left_by c b step answer reply told left ∙ still) carries
+
+  unhooks : (a c b : State) (m s : ℕ) (held queue : Option ℕ) (reply : Reply) → Mints a (steps.Unhook m s) reply
+      → registered_in (reference_of a.world.heap held) ≡ queue → Unhooks a m s held queue reply c
+      → b ≡ with_handed c (steps.Unhook m s) reply → Carries O P C c.world → Carries O P C b.world
+  unhooks a c b m s None queue reply mints is row left carries =
+      hands_none c b (steps.Unhook m s) replies.Nothing reply refl row.0 left carries
+  unhooks a c b m s (Some n) None reply mints is row left carries =
+      hands_none c b (steps.Unhook m s) replies.Nothing reply refl row.0 left carries
+  unhooks a c b m s (Some n) (Some q) reply mints is row left carries =
+      hands_over c b (Mutator m) (Some (record { object = n; queue = q; cause = Own })) (steps.Unhook m s)
+      (replies.Notice n q Own) reply refl (mints n q row.0 is) row.0 left carries
+
+  hands : (a c b : State) (k : ℕ) (ps : List Pending) (reply : Reply)
+      → AllByRecursion (λ p. P (notice_from k p)) ps → HandsOn a k ps reply c
+      → b ≡ with_handed c (steps.Hand k) reply → Carries O P C c.world → Carries O P C b.world
+  hands a c b k [] reply all row left carries =
+      hands_none c b (steps.Hand k) replies.Nothing reply refl row.0 left carries
+  hands a c b k (p ∷ ps) reply all row left carries =
+      hands_over c b (Worker k) (Some (notice_from k p)) (steps.Hand k)
+      (replies.Notice p.object p.queue (Cycle p.cycle k)) reply refl all.0 row.0 left carries
+
+  -- ---- rows
+
+  module _ (lasts : Lasts O) where
+    adopts : (a b : State) (m d : ℕ) (hand : Option Notice) (reply : Reply) → Carries O P C a.world
+        → AcceptsAsking a (spending (λ hold. heap.Adopt m d hold) hand) (steps.Adopt m d) reply b
+        → Carries O P C b.world
+    adopts a b m d None reply carries row = absurd row
+    adopts a b m d (Some notice) reply carries row =
+        hands_over row.0 b (Mutator m) None (steps.Adopt m d) (replies.Object notice.object) reply refl tt row.1.0 row.2
+        (heap_carries O P C lasts a row.0 (heap.Adopt m d (hold_of notice)) reply tt carries row.1)
+
+    releases : (a b : State) (who : Actor) (hand : Option Notice) (reply : Reply) → Carries O P C a.world
+        → AcceptsAsking a (spending (λ hold. heap.Release hold) hand) (steps.Release who) reply b
+        → Carries O P C b.world
+    releases a b who None reply carries row = absurd row
+    releases a b who (Some notice) reply carries row =
+        hands_over row.0 b who None (steps.Release who) replies.Done reply refl tt row.1.0 row.2
+        (heap_carries O P C lasts a row.0 (heap.Release (hold_of notice)) reply tt carries row.1)
+
+    -- a row of the heap that leaves the hands
+    quiet : (a b : State) (asked : NamedStep) (step : Step) (reply : Reply) → Anew O P C a asked reply
+        → Carries O P C a.world → AcceptsAsking a (Some asked) step reply b
+        → ((w : World) → handed w step reply ≡ w) → Carries O P C b.world
+    quiet a b asked step reply anew carries row still =
+        hands_none row.0 b step reply reply (still row.0.world) refl row.2
+        (heap_carries O P C lasts a row.0 asked reply anew carries row.1)
+
+    accepted : (a b : State) (step : Step) (reply : Reply) → Mints a step reply → Carries O P C a.world
+        → Accepts a step reply b → Carries O P C b.world
+    accepted a b (steps.New m d k) reply mints carries row =
+        quiet a b (heap.New m d k) (steps.New m d k) reply mints carries row (λ _. refl)
+    accepted a b (steps.Refer m strength d s q k) reply mints carries row =
+        quiet a b (heap.Refer m strength d s q k) (steps.Refer m strength d s q k) reply mints carries row (λ _. refl)
+    accepted a b (steps.Store m s i v) reply mints carries row =
+        quiet a b (heap.Store m s i v) (steps.Store m s i v) reply tt carries row (λ _. refl)
+    accepted a b (steps.Load m d s i) reply mints carries row =
+        quiet a b (heap.Load m d s i) (steps.Load m d s i) reply tt carries row (λ _. refl)
+    accepted a b (steps.Copy m d s) reply mints carries row =
+        quiet a b (heap.Copy m d s) (steps.Copy m d s) reply tt carries row (λ _. refl)
+    accepted a b (steps.Drop m s) reply mints carries row =
+        quiet a b (heap.Drop m s) (steps.Drop m s) reply tt carries row (λ _. refl)
+    accepted a b (steps.Get m d s) reply mints carries row =
+        quiet a b (heap.Get m d s) (steps.Get m d s) reply tt carries row (λ _. refl)
+    accepted a b (steps.Clear m s) reply mints carries row =
+        quiet a b (heap.Clear m s) (steps.Clear m s) reply tt carries row (λ _. refl)
+    accepted a b (steps.RefersTo m s v) reply mints carries row =
+        quiet a b (heap.RefersTo m s v) (steps.RefersTo m s v) reply tt carries row (λ _. refl)
+    accepted a b (steps.Unhook m s) reply mints carries row =
+        unhooks a row.0 b m s (slot_at a.world.heap m s) _ reply mints refl row.1 row.2
+        (heap_carries O P C lasts a row.0 (heap.Unhook m s) reply tt carries row.1)
+    accepted a b (steps.Put who) reply mints carries row =
+        puts a b who (hand_of a.world who) reply (hand_carries a.world who carries) carries row
+    accepted a b (steps.Poll m q) reply mints carries row =
+        polls a b m q (queue_at a.world q).stands reply carries row
+    accepted a b (steps.Adopt m d) reply mints carries row =
+        adopts a b m d (hand_of a.world (Mutator m)) reply carries row
+    accepted a b (steps.Release who) reply mints carries row =
+        releases a b who (hand_of a.world who) reply carries row
+    accepted a b (steps.Close m q) reply mints carries row =
+        closes a b q (queue_at a.world q).closed reply carries row
+    accepted a b (steps.Begin now how) reply mints carries row =
+        quiet a b (heap.Begin now how) (steps.Begin now how) reply mints carries row (λ _. refl)
+    accepted a b (steps.Scan k) reply mints carries row =
+        quiet a b (heap.Scan k) (steps.Scan k) reply tt carries row (λ _. refl)
+    accepted a b steps.EndMark reply mints carries row =
+        quiet a b heap.EndMark steps.EndMark reply tt carries row (λ _. refl)
+    accepted a b (steps.ClearNext k) reply mints carries row =
+        quiet a b (heap.ClearNext k) (steps.ClearNext k) reply mints carries row (λ _. refl)
+    accepted a b steps.EndClear reply mints carries row =
+        quiet a b heap.EndClear steps.EndClear reply tt carries row (λ _. refl)
+    accepted a b (steps.Hand k) reply mints carries row =
+        hands a row.0 b k (pending_of a.world k) reply (carries.pendings k) row.1 row.2
+        (heap_carries O P C lasts a row.0 (heap.Hand k) reply tt carries row.1)
+    accepted a b (steps.Sweep k) reply mints carries row =
+        quiet a b (heap.Sweep k) (steps.Sweep k) reply tt carries row (λ _. refl)
+    accepted a b steps.EndSweep reply mints carries row =
+        quiet a b heap.EndSweep steps.EndSweep reply tt carries row (λ _. refl)
+
+    answered : (a b : State) (step : Step) (reply : Reply) (fault : Option Fault) → Mints a step reply
+        → Carries O P C a.world → IsAnswer a fault step reply b → Carries O P C b.world
+    answered a b step reply (Some fault) mints carries row =
+        in_world O P C b a.world (ap (λ (s : State). s.world) row.1) carries
+    answered a b step reply None mints carries row = accepted a b step reply mints carries row
+
+    -- a row carries on what holds of all
+    pub row_carries : (a : State) (row : Row) (b : State) → Mints a row.step row.reply → Carries O P C a.world
+        → IsRow a row b → Carries O P C b.world
+    row_carries a row b mints carries h = answered a b row.step row.reply (refusal a row.step) mints carries h
+
+-- ---- at first
+
+nothing_pending : (P : Pending → Type 0) (count k : ℕ)
+    → AllByRecursion P (slice_index_or (replicate count []) k [])
+nothing_pending P zero k = tt
+nothing_pending P (suc count) zero = tt
+nothing_pending P (suc count) (suc k) = nothing_pending P count k
+
+pub first_carries : (O : Object → Type 0) (P : Notice → Type 0) (C : ℕ → Type 0) (config : Config) → C 0
+    → Carries O P C (first_world config)
+first_carries O P C config is = record {
+  objects = tt;
+  pendings = λ k. nothing_pending (λ p. P (notice_from k p)) config.workers k;
+  of_mutators = λ m. subst (OfHand P) (sym (first_hand config (Mutator m))) tt;
+  of_workers = λ k. subst (OfHand P) (sym (first_hand config (Worker k))) tt;
+  stands = λ q. rw (first_queue config q) tt;
+  goes_on = is;
+}
+
+-- ---- what holds of less holds of more
+
+pub all_more : {X : Type 0} (P R : X → Type 0) (xs : List X) → ((x : X) → P x → R x) → AllByRecursion P xs
+    → AllByRecursion R xs
+all_more P R [] more all = tt
+all_more P R (x ∷ xs) more all = (more x all.0, all_more P R xs more all.1)
+
+hand_more : (P R : Notice → Type 0) (hand : Option Notice) → ((notice : Notice) → P notice → R notice)
+    → OfHand P hand → OfHand R hand
+hand_more P R None more is = tt
+hand_more P R (Some notice) more is = more notice is
+
+pub carries_more : (O Q : Object → Type 0) (P R : Notice → Type 0) (C D : ℕ → Type 0) (w : World)
+    → ((o : Object) → O o → Q o) → ((notice : Notice) → P notice → R notice) → D w.cycle → Carries O P C w
+    → Carries Q R D w
+carries_more O Q P R C D w of_objects of_notices of_cycle carries = record {
+  objects = all_more O Q w.heap.objects of_objects carries.objects;
+  pendings = λ k. all_more (λ p. P (notice_from k p)) (λ p. R (notice_from k p)) (pending_of w k)
+      (λ p is. of_notices (notice_from k p) is) (carries.pendings k);
+  of_mutators = λ m. hand_more P R (hand_of w (Mutator m)) of_notices (carries.of_mutators m);
+  of_workers = λ k. hand_more P R (hand_of w (Worker k)) of_notices (carries.of_workers k);
+  stands = λ q. all_more P R (queue_at w q).stands of_notices (carries.stands q);
+  goes_on = of_cycle;
+}

@@ -1,0 +1,277 @@
+-- In every legal trace each notice that is out comes from the rows: one made its reference, registered with the
+-- notice's queue, and one is its cause.
+use Rattle.std.proofs.Common.{◌≡◌, ℕ, ◌+◌, Bool, true, ◌==◌, ◌&&◌, if◌then◌else◌, List, [], ◌∷◌, ◌++◌}
+use Rattle.std.proofs.Common.{Option, Some, None, refl, sym, ap, ◌∙◌, subst, inl, inr}
+use Rattle.std.specs.List.{AllByRecursion}
+use Rattle.std.proofs.lemmas.Bool.{cases_Bool, eq-eqb, eqb-true, and_from}
+use Rattle.std.proofs.lemmas.List.{append-nil, append_assoc}
+use Rattle.ref_base.specs.Graphs.{Object, Reference, object_at}
+use Rattle.ref_base.specs.Paths.{is_soft}
+use Rattle.ref_base.specs.Heaps.{registered_in, reference_in, changed_reference, cleared, got_at}
+use Rattle.ref_base.specs.Worlds.{World, Notice, hand_of}
+use Rattle.ref_base.specs.Collectors.{State, first_state}
+use Rattle.ref_base.specs.Replay.{begun}
+use Rattle.ref_base.specs.Refusals.{refusal}
+use Rattle.ref_base.specs.CollectorRows.{ticked, begun_state, IsAnswer, IsRow, IsRun}
+use Rattle.ref_base.specs.WorkerOrder.{registers, is_registered}
+use Rattle.ref_base.specs.Provenance.{has_row, unhooks, clears, cycle_after, cleared_from, IsCause, IsProven}
+use Rattle.ref_base.specs.Provenance.{IsProvenIn, AreProven}
+use Rattle.ref_base.specs.declared.config.Config.{Config}
+use Rattle.ref_base.specs.declared.actor.Actor.{Actor}
+use Rattle.ref_base.specs.declared.actor.Actor.TheVariants.{Mutator, Worker}
+use Rattle.ref_base.specs.declared.cause.Cause.{Cause}
+use Rattle.ref_base.specs.declared.cause.Cause.TheVariants.{Own, Cycle}
+use Rattle.ref_base.specs.declared.urgency.Urgency.{Urgency}
+use Rattle.ref_base.specs.declared.fault.Fault.{Fault}
+use Rattle.ref_base.specs.declared.step.Step.{Step}
+use Rattle.ref_base.specs.declared.step.Step.TheVariants as steps
+use Rattle.ref_base.specs.declared.reply.Reply.{Reply}
+use Rattle.ref_base.specs.declared.reply.Reply.TheVariants as replies
+use Rattle.ref_base.specs.declared.row.Row.{Row}
+use Rattle.ref_base.proofs.RowLaws.{ticked_world, but_world}
+use Rattle.ref_base.proofs.CarryLaws.{OfHand, Carries, Lasts}
+use Rattle.ref_base.proofs.CarryRows.{Mints, row_carries, first_carries, carries_more}
+
+-- ---- what rows have, more rows have
+
+has_more : (is : Step → Reply → Bool) (rows more : List Row) → has_row is rows ≡ true
+    → has_row is (rows ++ more) ≡ true
+has_more is [] more has = absurd cc
+has_more is (row ∷ rows) more has =
+    elim (cases_Bool (is row.step row.reply)) [
+      | inl fits ↦ simp fits refl
+      | inr other ↦ simp other
+          (has_more is rows more (subst (λ (t : Bool). (if t then true else has_row is rows) ≡ true) other has))
+    ]
+
+-- and so has the last
+has_last : (is : Step → Reply → Bool) (rows : List Row) (row : Row) → is row.step row.reply ≡ true
+    → has_row is (rows ++ row ∷ []) ≡ true
+has_last is [] row fits = simp fits refl
+has_last is (other ∷ rows) row fits =
+    elim (cases_Bool (is other.step other.reply)) [
+      | inl first ↦ simp first refl
+      | inr later ↦ simp later (has_last is rows row fits)
+    ]
+
+-- the cycle after some rows
+abbrev pub cycle_from : ℕ → List Row → ℕ
+cycle_from now [] = now
+cycle_from now (row ∷ rows) = cycle_from (cycle_after now row.step row.reply) rows
+
+cycle_last : (now : ℕ) (rows : List Row) (row : Row)
+    → cycle_from now (rows ++ row ∷ []) ≡ cycle_after (cycle_from now rows) row.step row.reply
+cycle_last now [] row = refl
+cycle_last now (other ∷ rows) row = cycle_last (cycle_after now other.step other.reply) rows row
+
+cleared_more : (now cycle k n : ℕ) (rows more : List Row) → cleared_from now cycle k n rows ≡ true
+    → cleared_from now cycle k n (rows ++ more) ≡ true
+cleared_more now cycle k n [] more has = absurd cc
+cleared_more now cycle k n (row ∷ rows) more has =
+    let next : ℕ = cycle_after now row.step row.reply in
+    elim (cases_Bool ((now == cycle) && clears k n row.step row.reply)) [
+      | inl fits ↦ simp fits refl
+      | inr other ↦ simp other
+          (cleared_more next cycle k n rows more
+          (subst (λ (t : Bool). (if t then true else cleared_from next cycle k n rows) ≡ true) other has))
+    ]
+
+-- the last clears in the cycle after those before it
+cleared_last : (now cycle k n : ℕ) (rows : List Row) (row : Row) → cycle_from now rows ≡ cycle
+    → clears k n row.step row.reply ≡ true → cleared_from now cycle k n (rows ++ row ∷ []) ≡ true
+cleared_last now cycle k n [] row is fits =
+    simp (and_from (now == cycle) (clears k n row.step row.reply) (eq-eqb now cycle is) fits) refl
+cleared_last now cycle k n (other ∷ rows) row is fits =
+    let next : ℕ = cycle_after now other.step other.reply in
+    elim (cases_Bool ((now == cycle) && clears k n other.step other.reply)) [
+      | inl first ↦ simp first refl
+      | inr later ↦ simp later (cleared_last next cycle k n rows row is fits)
+    ]
+
+registered_is : (rows : List Row) (n q : ℕ) → is_registered rows n q ≡ has_row (registers n q) rows
+registered_is [] n q = refl
+registered_is (row ∷ rows) n q =
+    ap (λ (later : Bool). if registers n q row.step row.reply then true else later) (registered_is rows n q)
+
+registered_more : (rows more : List Row) (n q : ℕ) → is_registered rows n q ≡ true
+    → is_registered (rows ++ more) n q ≡ true
+registered_more rows more n q has =
+    registered_is (rows ++ more) n q ∙ has_more (registers n q) rows more (sym (registered_is rows n q) ∙ has)
+
+cause_more : (rows more : List Row) (n : ℕ) (cause : Cause) → IsCause rows n cause → IsCause (rows ++ more) n cause
+cause_more rows more n Own is = has_more (unhooks n) rows more is
+cause_more rows more n (Cycle cycle k) is = cleared_more 0 cycle k n rows more is
+
+proven_more : (rows more : List Row) (notice : Notice) → IsProven rows notice → IsProven (rows ++ more) notice
+proven_more rows more notice is = record {
+  own_queue = registered_more rows more notice.object notice.queue is.own_queue;
+  own_cause = cause_more rows more notice.object notice.cause is.own_cause;
+}
+
+-- ---- objects
+
+-- an object that is a registered reference was made so by a row
+abbrev pub IsMade : List Row → Object → Type 0
+IsMade rows o = (q : ℕ) → registered_in o.reference ≡ Some q → is_registered rows o.no q ≡ true
+
+queue_cleared : (r : Option Reference) → registered_in (changed_reference cleared r) ≡ registered_in r
+queue_cleared None = refl
+queue_cleared (Some r) = refl
+
+queue_got : (clock : ℕ) (r : Option Reference) → registered_in (changed_reference (got_at clock) r) ≡ registered_in r
+queue_got clock None = refl
+queue_got clock (Some r) =
+    elim (cases_Bool (is_soft r.strength)) [ inl soft ↦ simp soft refl | inr other ↦ simp other refl ]
+
+made_lasts : (rows : List Row) → Lasts (IsMade rows)
+made_lasts rows = record {
+  stores = λ o i value is. is;
+  clears = λ o is q there. is q (sym (queue_cleared o.reference) ∙ there);
+  gets = λ o clock is q there. is q (sym (queue_got clock o.reference) ∙ there);
+}
+
+made_at : (rows : List Row) (os : List Object) (n q : ℕ) → AllByRecursion (IsMade rows) os
+    → registered_in (reference_in (object_at os n)) ≡ Some q → is_registered rows n q ≡ true
+made_at rows [] n q all there = absurd cc
+made_at rows (o ∷ os) n q all there =
+    let by : Bool → Type 0 =
+    λ (t : Bool). registered_in (reference_in (if t then Some o else object_at os n)) ≡ Some q in
+    elim (cases_Bool (o.no == n)) [
+      | inl same ↦
+          subst (λ k. is_registered rows k q ≡ true) (eqb-true o.no n same) (all.0 q (subst by same there))
+      | inr other ↦ made_at rows os n q all.1 (subst by other there)
+    ]
+
+-- ---- rows
+
+-- each object and each notice comes from the rows, and C holds of the cycle
+abbrev pub KnownBut : (ℕ → Type 0) → List Row → World → Type 0
+KnownBut C rows w = Carries (IsMade rows) (IsProven rows) C w
+
+-- and they tell the cycle
+abbrev pub Known : List Row → World → Type 0
+Known rows w = KnownBut (λ c. cycle_from 0 rows ≡ c) rows w
+
+-- no row but a begin changes the cycle
+abbrev pub Stays : ℕ → Step → ℕ → Type 0
+Stays before (steps.Begin now how) c = Unit {0}
+Stays before step c = c ≡ before
+
+stays_at : (before : ℕ) (step : Step) → Stays before step before
+stays_at before (steps.Begin now how) = tt
+stays_at before step = refl
+
+-- what the last row makes anew comes from it
+pub mints : (past : List Row) (a : State) (step : Step) (reply : Reply) → cycle_from 0 past ≡ a.world.cycle
+    → KnownBut (Stays a.world.cycle step) (past ++ record { step = step; reply = reply } ∷ []) a.world
+    → Mints (IsMade (past ++ record { step = step; reply = reply } ∷ []))
+    (IsProven (past ++ record { step = step; reply = reply } ∷ [])) (Stays a.world.cycle step) a step reply
+mints past a (steps.New m d k) reply cycle known = λ is q there. absurd cc
+mints past a (steps.Refer m strength d s queue k) reply cycle known =
+    λ is q there.
+    let row : Row = record { step = steps.Refer m strength d s queue k; reply = reply } in
+    let made : registers a.next q (steps.Refer m strength d s (Some q) k) (replies.Object a.next) ≡ true =
+    and_from (a.next == a.next) (q == q) (eq-eqb a.next a.next refl) (eq-eqb q q refl) in
+    let makes : registers a.next q (steps.Refer m strength d s queue k) reply ≡ true =
+    ap (λ (r : Reply). registers a.next q (steps.Refer m strength d s queue k) r) is
+    ∙ ap (λ (o : Option ℕ). registers a.next q (steps.Refer m strength d s o k) (replies.Object a.next)) there
+    ∙ made in
+    registered_is (past ++ row ∷ []) a.next q ∙ has_last (registers a.next q) past row makes
+mints past a (steps.Unhook m s) reply cycle known =
+    λ n q is there.
+    let row : Row = record { step = steps.Unhook m s; reply = reply } in
+    record {
+      own_queue = made_at (past ++ row ∷ []) a.world.heap.objects n q known.objects there;
+      own_cause = has_last (unhooks n) past row
+          (ap (λ (r : Reply). unhooks n (steps.Unhook m s) r) is ∙ eq-eqb n n refl);
+    }
+mints past a (steps.Begin now how) reply cycle known = λ is. tt
+mints past a (steps.ClearNext k) reply cycle known =
+    λ n q is there.
+    let row : Row = record { step = steps.ClearNext k; reply = reply } in
+    record {
+      own_queue = made_at (past ++ row ∷ []) a.world.heap.objects n q known.objects there;
+      own_cause = cleared_last 0 a.world.cycle k n past row cycle
+          (ap (λ (r : Reply). clears k n (steps.ClearNext k) r) is
+          ∙ and_from (k == k) (n == n) (eq-eqb k k refl) (eq-eqb n n refl));
+    }
+mints past a step reply cycle known = tt
+
+-- a begin changes the cycle as it says
+begun_cycle : (a b : State) (now : ℕ) (how : Urgency) (reply : Reply) (fault : Option Fault)
+    → IsAnswer a fault (steps.Begin now how) reply b
+    → b.world.cycle ≡ cycle_after a.world.cycle (steps.Begin now how) reply
+begun_cycle a b now how reply (Some fault) row =
+    ap (λ (s : State). s.world.cycle) row.1
+    ∙ sym (ap (λ (r : Reply). cycle_after a.world.cycle (steps.Begin now how) r) row.0)
+begun_cycle a b now how reply None row =
+    let c : State = begun_state a (begun a.world now how (a.world.cycle + 1)) in
+    ap (λ (s : State). s.world.cycle) row.2
+    ∙ ap (λ (w : World). w.cycle) (but_world (ticked c) row.0 row.1.1 ∙ ticked_world c)
+    ∙ sym (ap (λ (r : Reply). cycle_after a.world.cycle (steps.Begin now how) r) row.1.0)
+
+-- and so each row does
+step_cycle : (a b : State) (step : Step) (reply : Reply) → IsAnswer a (refusal a step) step reply b
+    → Stays a.world.cycle step b.world.cycle → b.world.cycle ≡ cycle_after a.world.cycle step reply
+step_cycle a b (steps.Begin now how) reply row stays =
+    begun_cycle a b now how reply (refusal a (steps.Begin now how)) row
+step_cycle a b step reply row stays = stays
+
+pub lifted : (past : List Row) (a : State) (row : Row) → Known past a.world
+    → KnownBut (Stays a.world.cycle row.step) (past ++ row ∷ []) a.world
+lifted past a row known =
+    let more : List Row = past ++ row ∷ [] in
+    let Stay : ℕ → Type 0 = Stays a.world.cycle row.step in
+    carries_more (IsMade past) (IsMade more) (IsProven past) (IsProven more) (λ c. cycle_from 0 past ≡ c) Stay a.world
+    (λ o is q there. registered_more past (row ∷ []) o.no q (is q there))
+    (λ notice is. proven_more past (row ∷ []) notice is) (stays_at a.world.cycle row.step) known
+
+row_known : (past : List Row) (a : State) (row : Row) (b : State) → Known past a.world → IsRow a row b
+    → Known (past ++ row ∷ []) b.world
+row_known past a row b known h =
+    let more : List Row = past ++ row ∷ [] in
+    let Stay : ℕ → Type 0 = Stays a.world.cycle row.step in
+    let before : KnownBut Stay more a.world = lifted past a row known in
+    let next : KnownBut Stay more b.world =
+    row_carries (IsMade more) (IsProven more) Stay (made_lasts more) a row b
+    (mints past a row.step row.reply known.goes_on before) before h in
+    let cycle : cycle_from 0 more ≡ b.world.cycle =
+    cycle_last 0 past row ∙ ap (λ c. cycle_after c row.step row.reply) known.goes_on
+    ∙ sym (step_cycle a b row.step row.reply h next.goes_on) in
+    carries_more (IsMade more) (IsMade more) (IsProven more) (IsProven more) Stay (λ c. cycle_from 0 more ≡ c) b.world
+    (λ o is. is) (λ notice is. is) cycle next
+
+run_known : (past : List Row) (a : State) (rows : List Row) (b : State) → Known past a.world → IsRun a rows b
+    → Known (past ++ rows) b.world
+run_known past a [] b known run =
+    subst (λ (rs : List Row). Known rs b.world) (sym (append-nil past))
+    (subst (λ (s : State). Known past s.world) (sym run) known)
+run_known past a (row ∷ rows) b known run =
+    subst (λ (rs : List Row). Known rs b.world) (append_assoc past (row ∷ []) rows)
+    (run_known (past ++ row ∷ []) run.0 rows b (row_known past a row run.0 known run.1) run.2)
+
+-- ---- from the first state
+
+in_hand : (rows : List Row) (hand : Option Notice) → OfHand (IsProven rows) hand → IsProvenIn rows hand
+in_hand rows None is = tt
+in_hand rows (Some notice) is = is
+
+hand_known : (rows : List Row) (w : World) (who : Actor) → Known rows w → IsProvenIn rows (hand_of w who)
+hand_known rows w (Mutator m) known = in_hand rows (hand_of w (Mutator m)) (known.of_mutators m)
+hand_known rows w (Worker k) known = in_hand rows (hand_of w (Worker k)) (known.of_workers k)
+
+pub legal_known : (config : Config) (rows : List Row) (b : State) → IsRun (first_state config) rows b
+    → Known rows b.world
+legal_known config rows b run =
+    run_known [] (first_state config) rows b
+    (first_carries (IsMade []) (IsProven []) (λ c. cycle_from 0 [] ≡ c) config refl) run
+
+-- what is out after a legal trace comes from its rows
+pub legal_proven : (config : Config) (rows : List Row) (b : State) → IsRun (first_state config) rows b
+    → AreProven rows b.world
+legal_proven config rows b run =
+    let known = legal_known config rows b run in
+    record {
+      hands = λ who. hand_known rows b.world who known;
+      queues = known.stands;
+    }
