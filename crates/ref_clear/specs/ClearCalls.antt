@@ -77,6 +77,7 @@ answer_of_unhook None queue = replies.Nothing
 answer_of_unhook (Some n) None = replies.Nothing
 answer_of_unhook (Some n) (Some q) = replies.Notice n q Own
 
+-- a sweep tells how many it frees of these
 abbrev pub answer_of_sweep : List ℕ → Reply
 answer_of_sweep [] = replies.Nothing
 answer_of_sweep (n ∷ ns) = replies.Swept (min 64 (length (n ∷ ns)))
@@ -87,9 +88,11 @@ queue_in k m s = registered_in (reference_of k.heap (slot_at k.heap m s))
 
 -- ---- steps
 
+-- this reply, or the fault where the step is refused
 abbrev pub told : ClearHeap → NamedStep → Reply → Reply
 told c step reply = unless_refused (refusal_in c step) replies.Refused reply
 
+-- this heap, or the one before where the step is refused
 abbrev pub left : ClearHeap → NamedStep → ClearHeap → ClearHeap
 left c step after = unless_refused (refusal_in c step) (λ fault. c) after
 

@@ -18,9 +18,9 @@ const SOFT: Strength = Strength::Soft;
 
 const WEAK: Strength = Strength::Weak;
 
-const W0: WorkerNo = WorkerNo(0);
+const FIRST_WORKER: WorkerNo = WorkerNo(0);
 
-const W1: WorkerNo = WorkerNo(1);
+const SECOND_WORKER: WorkerNo = WorkerNo(1);
 
 #[test]
 fn an_unregistered_reference_has_no_notice(rt: HostRuntime) -> Result<(), Fail> {
@@ -69,7 +69,7 @@ fn death_is_reported_after_a_cycle(rt: HostRuntime) -> Result<(), Fail> {
         (Collect(EndMark), Told::Doomed(1)),
         (Collect(ClearNext(0)), Told::Cleared(2)),
         (Collect(EndClear), Told::Done),
-        (Give(Hand(0)), Told::Notice(2, 0, Cycle(1, W0))),
+        (Give(Hand(0)), Told::Notice(2, 0, Cycle(1, FIRST_WORKER))),
         (Ask(HoldCount), Told::Count(1)),
         (Keep(Adopt(2)), Told::Object(2)),
         (Ask(HoldCount), Told::Count(0)),
@@ -129,7 +129,7 @@ fn the_collector_and_the_program_give_a_notice_each(rt: HostRuntime) -> Result<(
         (Collect(EndMark), Told::Doomed(1)),
         (Collect(ClearNext(0)), Told::Cleared(2)),
         (Collect(EndClear), Told::Done),
-        (Give(Hand(0)), Told::Notice(2, 0, Cycle(1, W0))),
+        (Give(Hand(0)), Told::Notice(2, 0, Cycle(1, FIRST_WORKER))),
         (Keep(FirstPocket), Told::EmptyHand),
         (Give(Unhook(1)), Told::Notice(2, 0, Own)),
         (Ask(HoldCount), Told::Count(2)),
@@ -209,7 +209,7 @@ fn what_a_mark_dooms_is_cleared_for_everybody_at_once(rt: HostRuntime) -> Result
         (Collect(ClearNext(1)), Told::Cleared(3)),
         (Collect(EndClear), Told::Done),
         (Keep(FirstPocket), Told::EmptyHand),
-        (Give(Hand(1)), Told::Notice(3, 0, Cycle(1, W1))),
+        (Give(Hand(1)), Told::Notice(3, 0, Cycle(1, SECOND_WORKER))),
         (Ask(HoldCount), Told::Count(2)),
     ];
     agree(&rt, rt.alloc(), TWO_WORKERS, &story)
@@ -233,7 +233,7 @@ fn only_the_first_reference_that_leads_to_the_dead_is_reported(
         (Collect(ClearNext(0)), Told::Cleared(3)),
         (Collect(ClearNext(0)), Told::Nothing),
         (Collect(EndClear), Told::Done),
-        (Give(Hand(0)), Told::Notice(3, 0, Cycle(1, W0))),
+        (Give(Hand(0)), Told::Notice(3, 0, Cycle(1, FIRST_WORKER))),
         (Collect(Sweep(0)), Told::Swept(2)),
         (Give(Hand(0)), Told::Nothing),
     ];
@@ -266,7 +266,7 @@ fn a_pending_reference_lives_until_it_is_handed_on(rt: HostRuntime) -> Result<()
         (Collect(Sweep(0)), Told::Nothing),
         (Collect(EndSweep), Told::Done),
         // It was cleared in cycle 1.
-        (Give(Hand(0)), Told::Notice(2, 0, Cycle(1, W0))),
+        (Give(Hand(0)), Told::Notice(2, 0, Cycle(1, FIRST_WORKER))),
         (Ask(PendingOf(0, 0)), Told::Nothing),
         (Give(Hand(0)), Told::Nothing),
         // Once its notice is given up, nothing holds it.

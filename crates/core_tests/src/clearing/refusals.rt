@@ -19,7 +19,7 @@ const NORMAL: Urgency = Urgency::Normal;
 
 const WEAK: Strength = Strength::Weak;
 
-const W0: WorkerNo = WorkerNo(0);
+const FIRST_WORKER: WorkerNo = WorkerNo(0);
 
 const NO_ACTOR: Told = Told::Refused(Fault::NoSuchActor);
 
@@ -90,7 +90,7 @@ fn no_cycle_goes_on_while_work_is_left(rt: HostRuntime) -> Result<(), Fail> {
         (Ask(KindOf(1)), Told::Kind(Kind::Plain)),
         (Collect(Sweep(0)), Told::Swept(1)),
         (Collect(EndSweep), Told::Done),
-        (Give(Hand(0)), Told::Notice(2, 0, Cycle(1, W0))),
+        (Give(Hand(0)), Told::Notice(2, 0, Cycle(1, FIRST_WORKER))),
     ];
     agree(&rt, rt.alloc(), CONFIG, &story)
 }
@@ -120,7 +120,7 @@ fn a_worker_that_is_not_there_does_nothing(rt: HostRuntime) -> Result<(), Fail> 
         (Give(Hand(1)), NO_ACTOR),
         (Ask(HoldCount), Told::Count(0)),
         (Ask(PendingOf(0, 0)), Told::Pending(2, 0, 1)),
-        (Give(Hand(0)), Told::Notice(2, 0, Cycle(1, W0))),
+        (Give(Hand(0)), Told::Notice(2, 0, Cycle(1, FIRST_WORKER))),
     ];
     agree(&rt, rt.alloc(), CONFIG, &story)
 }
@@ -222,7 +222,10 @@ fn a_notice_tells_the_last_cycle(rt: HostRuntime) -> Result<(), Fail> {
         (Collect(Begin(4, NORMAL)), CLOCK_BACK),
         (Collect(Begin(5, NORMAL)), SPENT),
         (Ask(PendingOf(0, 0)), Told::Pending(2, 0, u64::MAX)),
-        (Give(Hand(0)), Told::Notice(2, 0, Cycle(u64::MAX, W0))),
+        (
+            Give(Hand(0)),
+            Told::Notice(2, 0, Cycle(u64::MAX, FIRST_WORKER)),
+        ),
     ];
     agree_from(&rt, rt.alloc(), CONFIG, start, &story)
 }

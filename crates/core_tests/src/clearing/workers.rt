@@ -17,9 +17,9 @@ const NORMAL: Urgency = Urgency::Normal;
 
 const WEAK: Strength = Strength::Weak;
 
-const W0: WorkerNo = WorkerNo(0);
+const FIRST_WORKER: WorkerNo = WorkerNo(0);
 
-const W1: WorkerNo = WorkerNo(1);
+const SECOND_WORKER: WorkerNo = WorkerNo(1);
 
 #[test]
 fn each_worker_hands_on_in_its_order_of_clearing(rt: HostRuntime) -> Result<(), Fail> {
@@ -40,11 +40,11 @@ fn each_worker_hands_on_in_its_order_of_clearing(rt: HostRuntime) -> Result<(), 
         (Collect(ClearNext(0)), Told::Cleared(2)),
         (Collect(ClearNext(0)), Told::Cleared(6)),
         (Collect(EndClear), Told::Done),
-        (Give(Hand(0)), Told::Notice(2, 0, Cycle(1, W0))),
+        (Give(Hand(0)), Told::Notice(2, 0, Cycle(1, FIRST_WORKER))),
         (Keep(FirstPocket), Told::EmptyHand),
-        (Give(Hand(1)), Told::Notice(4, 0, Cycle(1, W1))),
+        (Give(Hand(1)), Told::Notice(4, 0, Cycle(1, SECOND_WORKER))),
         (Keep(SecondPocket), Told::EmptyHand),
-        (Give(Hand(0)), Told::Notice(6, 0, Cycle(1, W0))),
+        (Give(Hand(0)), Told::Notice(6, 0, Cycle(1, FIRST_WORKER))),
         (Keep(FirstPocket), Told::Held(2, 1)),
         (Keep(Release), Told::Done),
         (Keep(FirstPocket), Told::Held(6, 1)),
@@ -94,12 +94,12 @@ fn the_roots_of_a_cycle_are_slots_then_holds_then_what_is_pending(
         (Ask(PendingOf(1, 0)), Told::Pending(3, 0, 1)),
         (Ask(PendingOf(2, 0)), Told::Nothing),
         // Each worker hands on its own, in every phase.
-        (Give(Hand(1)), Told::Notice(3, 0, Cycle(1, W1))),
+        (Give(Hand(1)), Told::Notice(3, 0, Cycle(1, SECOND_WORKER))),
         (Give(Hand(1)), Told::Nothing),
         (Collect(EndMark), Told::Doomed(0)),
-        (Give(Hand(0)), Told::Notice(4, 0, Cycle(1, W0))),
+        (Give(Hand(0)), Told::Notice(4, 0, Cycle(1, FIRST_WORKER))),
         (Ask(PendingOf(0, 0)), Told::Pending(2, 0, 1)),
-        (Give(Hand(0)), Told::Notice(2, 0, Cycle(1, W0))),
+        (Give(Hand(0)), Told::Notice(2, 0, Cycle(1, FIRST_WORKER))),
     ];
     agree(&rt, rt.alloc(), TWO_WORKERS, &story)
 }
