@@ -1,0 +1,187 @@
+-- What a step of the world asks of its heap is a row of the world, with what it leaves in the hands.
+use Rattle.std.proofs.Common.{◌≡◌, Bool, true, false, if◌then◌else◌, List, Option, Some, None, refl, sym, ap, subst, ◌∙◌}
+use Rattle.std.specs.Prelude.{is_some}
+use Rattle.ref_base.specs.HeapSteps.{NamedStep, heap_step, handed, taking}
+use Rattle.ref_base.specs.Told.{told_notice, told_object, is_done}
+use Rattle.ref_base.specs.Worlds.{World, Notice, with_hand}
+use Rattle.ref_base.specs.Refusals.{heap_refusal, asked_refusal, refusal}
+use Rattle.ref_base.specs.Collectors.{State}
+use Rattle.ref_base.specs.CollectorRows.{with_world, IsHeapRow, IsRow}
+use Rattle.ref_base.specs.declared.actor.Actor.{Actor}
+use Rattle.ref_base.specs.declared.actor.Actor.TheVariants.{Mutator, Worker}
+use Rattle.ref_base.specs.declared.reply.Reply.{Reply}
+use Rattle.ref_base.specs.declared.step.Step.{Step}
+use Rattle.ref_base.specs.declared.step.Step.TheVariants as steps
+use Rattle.ref_base.proofs.HeapRowLaws.{carried_row, row_others}
+use Rattle.ref_mark.proofs.OtherHands.{stands-with_others}
+use Rattle.ref_clear.specs.ClearHeaps.{ClearHeap}
+use Rattle.ref_clear.specs.ClearCalls.{answer_in, after_in}
+use Rattle.ref_clear.specs.Standing.{Stands as HeapStands}
+use Rattle.ref_clear.proofs.HeapLaws.{each_step}
+use Rattle.ref_clear.proofs.OwnNumbers.{number_after}
+use Rattle.ref_world.specs.AskedSteps.{is_quiet, Asks, received}
+use Rattle.ref_world.specs.Cores.{Core, Hands, with_hand_in}
+use Rattle.ref_world.specs.Standing.{Stands, IsRowOf}
+
+-- ---- hands
+
+abbrev pub hands_of : World → Hands
+hands_of w = record { mutators = w.mutator_hands; workers = w.worker_hands }
+
+-- those of the state are the core's
+pub hands_are : (c : Core) (a : State) → Stands c a → hands_of a.world ≡ c.hands
+hands_are c a stands =
+    ap (λ (hs : List (Option Notice)). record { mutators = hs; workers = a.world.worker_hands }) stands.mutator_hands
+    ∙ ap (λ (hs : List (Option Notice)). record { mutators = c.hands.mutators; workers = hs }) stands.worker_hands
+
+-- what a row of the heap leaves in the hands
+abbrev pub handed_in : Hands → Step → Reply → Hands
+handed_in hands (steps.Unhook m s) reply = received hands (Mutator m) (told_notice reply)
+handed_in hands (steps.Hand k) reply = received hands (Worker k) (told_notice reply)
+handed_in hands (steps.Adopt m d) reply =
+    if is_some (told_object reply) then with_hand_in hands (Mutator m) None else hands
+handed_in hands (steps.Release who) reply = if is_done reply then with_hand_in hands who None else hands
+handed_in hands step reply = hands
+
+hands-with : (w : World) (who : Actor) (hand : Option Notice)
+    → hands_of (with_hand w who hand) ≡ with_hand_in (hands_of w) who hand
+hands-with w (Mutator m) hand = refl
+hands-with w (Worker k) hand = refl
+
+hands-taking : (w : World) (who : Actor) (given : Option Notice)
+    → hands_of (taking w who given) ≡ received (hands_of w) who given
+hands-taking w who None = refl
+hands-taking w who (Some notice) = hands-with w who (Some notice)
+
+hands-if : (spent : Bool) (w : World) (who : Actor)
+    → hands_of (if spent then with_hand w who None else w)
+    ≡ (if spent then with_hand_in (hands_of w) who None else hands_of w)
+hands-if true w who = hands-with w who None
+hands-if false w who = refl
+
+hands-handed : (w : World) (step : Step) (reply : Reply) → hands_of (handed w step reply) ≡ handed_in (hands_of w) step reply
+hands-handed w (steps.Unhook m s) reply = hands-taking w (Mutator m) (told_notice reply)
+hands-handed w (steps.Hand k) reply = hands-taking w (Worker k) (told_notice reply)
+hands-handed w (steps.Adopt m d) reply = hands-if (is_some (told_object reply)) w (Mutator m)
+hands-handed w (steps.Release who) reply = hands-if (is_done reply) w who
+hands-handed w step reply = refl
+
+-- nothing else is touched
+abbrev with_hands_of : World → Hands → World
+with_hands_of w hands = record w { mutator_hands = hands.mutators; worker_hands = hands.workers }
+
+only-with : (w : World) (who : Actor) (hand : Option Notice)
+    → with_hand w who hand ≡ with_hands_of w (with_hand_in (hands_of w) who hand)
+only-with w (Mutator m) hand = refl
+only-with w (Worker k) hand = refl
+
+only-taking : (w : World) (who : Actor) (given : Option Notice)
+    → taking w who given ≡ with_hands_of w (received (hands_of w) who given)
+only-taking w who None = refl
+only-taking w who (Some notice) = only-with w who (Some notice)
+
+only-if : (spent : Bool) (w : World) (who : Actor)
+    → (if spent then with_hand w who None else w)
+    ≡ with_hands_of w (if spent then with_hand_in (hands_of w) who None else hands_of w)
+only-if true w who = only-with w who None
+only-if false w who = refl
+
+handed-only : (w : World) (step : Step) (reply : Reply)
+    → handed w step reply ≡ with_hands_of w (handed_in (hands_of w) step reply)
+handed-only w (steps.Unhook m s) reply = only-taking w (Mutator m) (told_notice reply)
+handed-only w (steps.Hand k) reply = only-taking w (Worker k) (told_notice reply)
+handed-only w (steps.Adopt m d) reply = only-if (is_some (told_object reply)) w (Mutator m)
+handed-only w (steps.Release who) reply = only-if (is_done reply) w who
+handed-only w step reply = refl
+
+-- ---- rows
+
+-- whatever is in the hands and queues, the heap stands for the state
+pub heap_stands-with : (k : ClearHeap) (a : State) (hands : Hands) → HeapStands k a
+    → HeapStands k (with_world a (with_hands_of a.world hands))
+heap_stands-with k a hands stands = record {
+  mark = stands-with_others k.mark a hands.mutators hands.workers a.world.queues a.moments (λ marking n ever. ever)
+      (λ marking n ever. ever) stands.mark;
+  pending = stands.pending;
+  waiting = stands.waiting;
+}
+
+abbrev pub asked_core : Core → NamedStep → Hands → Core
+asked_core c asked hands = record { heap = after_in c.heap asked; hands = hands; queues = c.queues }
+
+abbrev pub row_to : State → Step → Reply → Core → Type 0
+row_to a step reply new =
+    (b : State) × IsRow a (record { step = step; reply = reply }) b × Stands new b
+
+-- where the world refuses the step as its heap does, it is a row
+pub asked_row : (c : Core) (a : State) (step : Step) (asked : NamedStep) → Stands c a
+    → heap_step a.world step ≡ Some asked → refusal a step ≡ heap_refusal 0 a asked
+    → row_to a step (answer_in c.heap asked) (asked_core c asked (handed_in c.hands step (answer_in c.heap asked)))
+asked_row c a step asked stands asks refuses =
+    let reply : Reply = answer_in c.heap asked in
+    let row = each_step c.heap asked a stands.heap in
+    let d : State = row.0 in
+    let own : IsHeapRow 0 a asked reply d =
+    subst (λ n. IsHeapRow n a asked reply d) stands.number row.1 in
+    let others = row_others 0 a d asked reply own in
+    let same_hands : hands_of d.world ≡ c.hands =
+    ap (λ (hs : List (Option Notice)). record { mutators = hs; workers = d.world.worker_hands })
+    (others.mutators ∙ stands.mutator_hands)
+    ∙ ap (λ (hs : List (Option Notice)). record { mutators = c.hands.mutators; workers = hs })
+    (others.workers ∙ stands.worker_hands) in
+    let left : Hands = handed_in c.hands step reply in
+    let is : handed d.world step reply ≡ with_hands_of d.world left =
+    handed-only d.world step reply
+    ∙ ap (λ (hs : Hands). with_hands_of d.world (handed_in hs step reply)) same_hands in
+    let after : State = with_world d (with_hands_of d.world left) in (
+      after,
+      subst (λ (w : World). IsRow a (record { step = step; reply = reply }) (with_world d w)) is
+          (carried_row a d asked step reply asks refuses own),
+      record {
+        heap = heap_stands-with (after_in c.heap asked) d left row.2;
+        number = number_after c.heap asked ∙ stands.number;
+        mutator_hands = refl;
+        worker_hands = refl;
+        queues = others.queues ∙ stands.queues;
+      },
+    )
+
+-- ---- the steps that are the heap's alone
+
+quiet_refusal : (a : State) (step : Step) → is_quiet step ≡ true
+    → refusal a step ≡ asked_refusal a (heap_step a.world step)
+quiet_refusal a (steps.Unhook m s) quiet = absurd cc
+quiet_refusal a (steps.Hand k) quiet = absurd cc
+quiet_refusal a (steps.Put who) quiet = absurd cc
+quiet_refusal a (steps.Poll m q) quiet = absurd cc
+quiet_refusal a (steps.Adopt m d) quiet = absurd cc
+quiet_refusal a (steps.Release who) quiet = absurd cc
+quiet_refusal a (steps.Close m q) quiet = absurd cc
+quiet_refusal a step quiet = refl
+
+quiet_hands : (hands : Hands) (step : Step) (reply : Reply) → is_quiet step ≡ true → handed_in hands step reply ≡ hands
+quiet_hands hands (steps.Unhook m s) reply quiet = absurd cc
+quiet_hands hands (steps.Hand k) reply quiet = absurd cc
+quiet_hands hands (steps.Adopt m d) reply quiet = absurd cc
+quiet_hands hands (steps.Release who) reply quiet = absurd cc
+quiet_hands hands step reply quiet = refl
+
+pub quiet_row : (c : Core) (step : Step) (asked : NamedStep) → is_quiet step ≡ true → Asks step asked
+    → IsRowOf c step (answer_in c.heap asked) (asked_core c asked c.hands)
+quiet_row c step asked quiet asks a stands =
+    subst (λ (hands : Hands). row_to a step (answer_in c.heap asked) (asked_core c asked hands))
+    (quiet_hands c.hands step (answer_in c.heap asked) quiet)
+    (asked_row c a step asked stands (asks a.world)
+    (quiet_refusal a step quiet ∙ ap (asked_refusal a) (asks a.world)))
+
+-- ---- what is answered and left is what a row says
+
+pub as_told : (c : Core) (step : Step) (asked : NamedStep) (hands : Hands) {reply : Reply} {heap : ClearHeap}
+    → reply ≡ answer_in c.heap asked → heap ≡ after_in c.heap asked
+    → IsRowOf c step (answer_in c.heap asked) (asked_core c asked hands)
+    → IsRowOf c step reply (record { heap = heap; hands = hands; queues = c.queues })
+as_told c step asked hands {reply} {heap} answers leaves row =
+    subst (λ (r : Reply). IsRowOf c step r (record { heap = heap; hands = hands; queues = c.queues })) (sym answers)
+    (subst
+    (λ (k : ClearHeap). IsRowOf c step (answer_in c.heap asked) (record { heap = k; hands = hands; queues = c.queues }))
+    (sym leaves) row)

@@ -1,0 +1,36 @@
+-- The world at first.
+use Rattle.std.proofs.Common.{◌≡◌, ℕ, ◌+◌, zero, suc, List, [], ◌∷◌, ◌++◌, refl, ap, arith}
+use Rattle.ref_base.specs.QueueLists.{Lists, new_queue, new_queues}
+use Rattle.ref_base.specs.Worlds.{Notice}
+use Rattle.ref_base.specs.Collectors.{first_state}
+use Rattle.ref_base.specs.declared.config.Config.{Config}
+use Rattle.ref_base.proofs.SoundWorlds.{first_queue}
+use Rattle.ref_clear.specs.ClearHeaps.{ClearHeap, first_clear_heap}
+use Rattle.ref_clear.specs.Standing.{Stands as HeapStands}
+use Rattle.ref_world.specs.Cores.{Hands, first_hands, first_core}
+use Rattle.ref_world.specs.Standing.{Stands, IsSound}
+
+-- one more new queue, last
+pub new_queues_more : (first count next : ℕ) → next ≡ first + count
+    → new_queues {T = Notice} first (count + 1) ≡ new_queues first count ++ new_queue next ∷ []
+new_queues_more first zero next is = ap (λ q. new_queue q ∷ []) (omega (arith, is))
+new_queues_more first (suc count) next is =
+    let later = new_queues_more (first + 1) count next (omega (arith, is)) in
+    let counted : suc count + 1 ≡ suc (count + 1) = omega arith in
+    rw counted (ap (λ queues. new_queue first ∷ queues) later)
+
+module _ (config : Config) (stands : HeapStands (first_clear_heap config 0 1 0) (first_state config)) where
+  pub first_stands : Stands (first_core config) (first_state config)
+  first_stands = record { heap = stands; number = refl; mutator_hands = refl; worker_hands = refl; queues = refl }
+
+  pub first_sound : IsSound (first_core config)
+  first_sound = record {
+    reached = record { config = config; rows = []; state = first_state config; run = refl; stands = first_stands };
+    numbered = λ q. ap (λ (l : Lists Notice). l.queue) (first_queue config q);
+  }
+
+-- what is made of new parts is the world at first
+pub made_core : (config : Config) {heap : ClearHeap} {hands : Hands} {queues : List (Lists Notice)}
+    → heap ≡ first_clear_heap config 0 1 0 → hands ≡ first_hands config → queues ≡ new_queues 0 config.queues
+    → record { heap = heap; hands = hands; queues = queues } ≡ first_core config
+made_core config {heap} {hands} {queues} heap_is hands_are queues_are = rw (heap_is, hands_are, queues_are) refl

@@ -1,0 +1,159 @@
+-- Rows of the steps that fill or empty a hand by way of the heap.
+use Rattle.std.proofs.Common.{◌≡◌, ℕ, true, ◌==◌, ◌&&◌, Some, None, refl, sym, ap, subst, ◌∙◌}
+use Rattle.ref_base.specs.Members.{has}
+use Rattle.ref_base.specs.HeapSteps.{hold_of, spending}
+use Rattle.ref_base.specs.Told.{told_notice}
+use Rattle.ref_base.specs.Worlds.{Notice, hand_of}
+use Rattle.ref_base.specs.Refusals.{unless, unless_full, empty_hand_refusal, has_slot, drop_refusal}
+use Rattle.ref_base.specs.declared.actor.Actor.{Actor}
+use Rattle.ref_base.specs.declared.actor.Actor.TheVariants.{Mutator, Worker}
+use Rattle.ref_base.specs.declared.fault.Fault.TheVariants.{NoSuchActor, ForeignHold}
+use Rattle.ref_base.specs.declared.heap_step.HoldName.{HoldName}
+use Rattle.ref_base.specs.declared.heap_step.HeapStep.TheVariants as heap
+use Rattle.ref_base.specs.declared.reply.Reply.{Reply}
+use Rattle.ref_base.specs.declared.reply.Reply.TheVariants as replies
+use Rattle.ref_base.specs.declared.step.Step.TheVariants as steps
+use Rattle.ref_base.proofs.HeapRowLaws.{free_unhook, free_hand, full_adopt, full_release}
+use Rattle.ref_mark.specs.MarkCalls.{unless_refused}
+use Rattle.ref_clear.specs.ClearHeaps.{ClearHeap}
+use Rattle.ref_clear.specs.ClearCalls.{answer_in, after_in}
+use Rattle.ref_world.specs.AskedSteps.{received}
+use Rattle.ref_world.specs.Cores.{Core, Hands, hand_in, with_hand_in, is_there, filling_refusal, emptying_refusal}
+use Rattle.ref_world.specs.HeapReplies.{told_reply, Gives, IsTold}
+use Rattle.ref_world.specs.Standing.{IsReached, IsRowOf}
+use Rattle.ref_world.specs.declared.heap_machine.HeapReply.{HeapReply}
+use Rattle.ref_world.specs.declared.heap_machine.HeapReply.TheVariants.{Told, Notice as Given, Held, Back}
+use Rattle.ref_world.proofs.AskedRows.{handed_in, asked_core, row_to, asked_row}
+use Rattle.ref_world.proofs.ReachedCores.{same_hand, same_holds, same_actors, hand_is_counted}
+use Rattle.ref_world.proofs.Refusals.{same_actor, unless_passed, empty_from}
+
+-- ---- an empty hand
+
+pub free_from : (hands : Hands) (who : Actor) → filling_refusal hands who ≡ None → hand_in hands who ≡ None
+free_from hands who accepted =
+    empty_from (hand_in hands who)
+    (unless_passed (is_there hands who) NoSuchActor (unless_full (hand_in hands who) None) accepted).1
+
+-- the hand that an unhook's notice goes to
+pub unhook_row : (c : Core) (m s : ℕ) → hand_in c.hands (Mutator m) ≡ None
+    → IsRowOf c (steps.Unhook m s) (answer_in c.heap (heap.Unhook m s))
+    (asked_core c (heap.Unhook m s) (received c.hands (Mutator m) (told_notice (answer_in c.heap (heap.Unhook m s)))))
+unhook_row c m s free a stands =
+    asked_row c a (steps.Unhook m s) (heap.Unhook m s) stands refl
+    (free_unhook a m s (same_hand c a stands (Mutator m) ∙ free))
+
+pub hand_row : (c : Core) (k : ℕ) → hand_in c.hands (Worker k) ≡ None
+    → IsRowOf c (steps.Hand k) (answer_in c.heap (heap.Hand k))
+    (asked_core c (heap.Hand k) (received c.hands (Worker k) (told_notice (answer_in c.heap (heap.Hand k)))))
+hand_row c k free a stands =
+    asked_row c a (steps.Hand k) (heap.Hand k) stands refl
+    (free_hand a k (same_hand c a stands (Worker k) ∙ free))
+
+-- ---- a full hand: its notice is a hold that the heap counts, so an adopt and a release are accepted
+
+-- a hand that is emptied is there
+pub there_from : (hands : Hands) (who : Actor) → emptying_refusal hands who ≡ None → is_there hands who ≡ true
+there_from hands who accepted =
+    (unless_passed (is_there hands who) NoSuchActor (empty_hand_refusal (hand_in hands who)) accepted).0
+
+-- what is accepted gives no hold back
+pub adopted_told : (number m d : ℕ) (hold : HoldName) (reply : HeapReply) (n : ℕ)
+    → Gives number (heap.Adopt m d hold) reply → told_reply reply ≡ replies.Object n → IsTold reply
+adopted_told number m d hold (Told told) n gives is = tt
+adopted_told number m d hold (Given notice) n gives is = absurd gives
+adopted_told number m d hold (Held held) n gives is = absurd gives
+adopted_told number m d hold (Back fault back) n gives is = absurd cc
+
+pub released_told : (number : ℕ) (hold : HoldName) (reply : HeapReply) → Gives number (heap.Release hold) reply
+    → told_reply reply ≡ replies.Done → IsTold reply
+released_told number hold (Told told) gives is = tt
+released_told number hold (Given notice) gives is = absurd gives
+released_told number hold (Held held) gives is = absurd gives
+released_told number hold (Back fault back) gives is = absurd cc
+
+module _ (c : Core) (reached : IsReached c) where
+  zero_no : c.heap.mark.heap_no ≡ 0
+  zero_no = reached.stands.number
+
+  counted : (who : Actor) (notice : Notice) → is_there c.hands who ≡ true → hand_in c.hands who ≡ Some notice
+      → ((0 == c.heap.mark.heap_no) && has c.heap.mark.heap.holds notice.object) ≡ true
+  counted who notice there full = rw (zero_no, hand_is_counted c reached who notice there full) refl
+
+  pub adopted_reply : (m d : ℕ) (notice : Notice) → drop_refusal c.heap.mark.heap m d ≡ None
+      → is_there c.hands (Mutator m) ≡ true → hand_in c.hands (Mutator m) ≡ Some notice
+      → answer_in c.heap (heap.Adopt m d (hold_of notice)) ≡ replies.Object notice.object
+  adopted_reply m d notice slot there full =
+      let within = unless_passed (has_slot c.heap.mark.heap m d) NoSuchActor None slot in
+      ap (λ refused. unless_refused refused replies.Refused (replies.Object notice.object))
+      (ap (λ test. unless test NoSuchActor
+      (unless ((0 == c.heap.mark.heap_no) && has c.heap.mark.heap.holds notice.object) ForeignHold None)) within.0
+      ∙ ap (λ test. unless test ForeignHold None) (counted (Mutator m) notice there full))
+
+  pub released_reply : (who : Actor) (notice : Notice)
+      → is_there c.hands who ≡ true → hand_in c.hands who ≡ Some notice
+      → answer_in c.heap (heap.Release (hold_of notice)) ≡ replies.Done
+  released_reply who notice there full =
+      ap (λ refused. unless_refused refused replies.Refused replies.Done)
+      (ap (λ test. unless test ForeignHold None) (counted who notice there full))
+
+  adopt_row : (m d : ℕ) (notice : Notice) → drop_refusal c.heap.mark.heap m d ≡ None
+      → is_there c.hands (Mutator m) ≡ true → hand_in c.hands (Mutator m) ≡ Some notice
+      → IsRowOf c (steps.Adopt m d) (replies.Object notice.object)
+      (asked_core c (heap.Adopt m d (hold_of notice)) (with_hand_in c.hands (Mutator m) None))
+  adopt_row m d notice slot there full a stands =
+      let asked = heap.Adopt m d (hold_of notice) in
+      let hand : hand_of a.world (Mutator m) ≡ Some notice = same_hand c a stands (Mutator m) ∙ full in
+      let held : has a.world.heap.holds notice.object ≡ true =
+      ap (λ ns. has ns notice.object) (same_holds c a stands) ∙ hand_is_counted c reached (Mutator m) notice there full in
+      subst (λ (r : Reply). row_to a (steps.Adopt m d) r (asked_core c asked (handed_in c.hands (steps.Adopt m d) r)))
+      (adopted_reply m d notice slot there full)
+      (asked_row c a (steps.Adopt m d) asked stands (ap (spending (λ hold. heap.Adopt m d hold)) hand)
+      (full_adopt a m d notice hand held))
+
+  release_row : (who : Actor) (notice : Notice) → is_there c.hands who ≡ true → hand_in c.hands who ≡ Some notice
+      → IsRowOf c (steps.Release who) replies.Done
+      (asked_core c (heap.Release (hold_of notice)) (with_hand_in c.hands who None))
+  release_row who notice there full a stands =
+      let asked = heap.Release (hold_of notice) in
+      let hand : hand_of a.world who ≡ Some notice = same_hand c a stands who ∙ full in
+      let held : has a.world.heap.holds notice.object ≡ true =
+      ap (λ ns. has ns notice.object) (same_holds c a stands) ∙ hand_is_counted c reached who notice there full in
+      subst (λ (r : Reply). row_to a (steps.Release who) r (asked_core c asked (handed_in c.hands (steps.Release who) r)))
+      (released_reply who notice there full)
+      (asked_row c a (steps.Release who) asked stands (ap (spending (λ hold. heap.Release hold)) hand)
+      (full_release a who notice (same_actor c a stands who ∙ sym (same_actors c reached who) ∙ there) hand held))
+
+  -- ---- as the calls tell it
+
+  pub adopt_reply : (m d : ℕ) (notice : Notice) (hold : HoldName) (reply : Reply) → drop_refusal c.heap.mark.heap m d ≡ None
+      → emptying_refusal c.hands (Mutator m) ≡ None → hand_in c.hands (Mutator m) ≡ Some notice → hold ≡ hold_of notice
+      → reply ≡ answer_in c.heap (heap.Adopt m d hold) → reply ≡ replies.Object notice.object
+  adopt_reply m d notice hold reply slot accepted full is answers =
+      answers ∙ ap (λ (h : HoldName). answer_in c.heap (heap.Adopt m d h)) is
+      ∙ adopted_reply m d notice slot (there_from c.hands (Mutator m) accepted) full
+
+  pub adopt_done : (m d : ℕ) (notice : Notice) (hold : HoldName) {reply : Reply} {k : ClearHeap} {hands : Hands}
+      → drop_refusal c.heap.mark.heap m d ≡ None
+      → emptying_refusal c.hands (Mutator m) ≡ None → hand_in c.hands (Mutator m) ≡ Some notice → hold ≡ hold_of notice
+      → reply ≡ answer_in c.heap (heap.Adopt m d hold) → k ≡ after_in c.heap (heap.Adopt m d hold)
+      → hands ≡ with_hand_in c.hands (Mutator m) None
+      → IsRowOf c (steps.Adopt m d) reply (record { heap = k; hands = hands; queues = c.queues })
+  adopt_done m d notice hold {reply} {k} {hands} slot accepted full is answers leaves emptied =
+      rw (adopt_reply m d notice hold reply slot accepted full is answers, leaves, is, emptied)
+      (adopt_row m d notice slot (there_from c.hands (Mutator m) accepted) full)
+
+  pub release_reply : (who : Actor) (notice : Notice) (hold : HoldName) (reply : Reply)
+      → emptying_refusal c.hands who ≡ None → hand_in c.hands who ≡ Some notice → hold ≡ hold_of notice
+      → reply ≡ answer_in c.heap (heap.Release hold) → reply ≡ replies.Done
+  release_reply who notice hold reply accepted full is answers =
+      answers ∙ ap (λ (h : HoldName). answer_in c.heap (heap.Release h)) is
+      ∙ released_reply who notice (there_from c.hands who accepted) full
+
+  pub release_done : (who : Actor) (notice : Notice) (hold : HoldName) {reply : Reply} {k : ClearHeap} {hands : Hands}
+      → emptying_refusal c.hands who ≡ None → hand_in c.hands who ≡ Some notice → hold ≡ hold_of notice
+      → reply ≡ answer_in c.heap (heap.Release hold) → k ≡ after_in c.heap (heap.Release hold)
+      → hands ≡ with_hand_in c.hands who None
+      → IsRowOf c (steps.Release who) reply (record { heap = k; hands = hands; queues = c.queues })
+  release_done who notice hold {reply} {k} {hands} accepted full is answers leaves emptied =
+      rw (release_reply who notice hold reply accepted full is answers, leaves, is, emptied)
+      (release_row who notice (there_from c.hands who accepted) full)

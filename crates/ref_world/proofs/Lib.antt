@@ -1,0 +1,9 @@
+pub mod HeapSteps
+pub mod ReachedCores
+pub mod AskedRows
+pub mod Refusals
+pub mod HandRows
+pub mod QueueRows
+pub mod SoundCores
+pub mod FirstCores
+pub mod RunLemmas

@@ -1,0 +1,285 @@
+-- Rows of the steps of queues.
+use Rattle.std.proofs.Common.{◌≡◌, ℕ, ◌<◌, Bool, true, false, List, [], ◌∷◌, ◌++◌, not, length, Option, Some, None}
+use Rattle.std.proofs.Common.{refl, sym, ap, subst, ◌∙◌, inl, inr}
+use Rattle.std.specs.Prelude.{slice_index_or, slice_set}
+use Rattle.std.proofs.lemmas.Bool.{eq-eqb}
+use Rattle.std.proofs.lemmas.List.{set-set, set-get_or, get_or_read}
+use Rattle.ref_base.specs.QueueLists.{Lists, enqueued, was_put, with_parcel, with_taken, new_queue}
+use Rattle.ref_base.specs.Worlds.{World, Notice, object_of, hand_of, queue_at, with_hand, with_queue}
+use Rattle.ref_base.specs.Replay.{put_in, took, taken_out, notice_of, without_notice, closed_queue}
+use Rattle.ref_base.specs.Refusals.{refusal, is_mutator, is_queue, is_actor}
+use Rattle.ref_base.specs.Collectors.{State}
+use Rattle.ref_base.specs.CollectorRows.{with_world, ticked, PutsInto, Puts, Polls, Closes, IsAnswer, IsRow}
+use Rattle.ref_base.specs.declared.actor.Actor.{Actor}
+use Rattle.ref_base.specs.declared.actor.Actor.TheVariants.{Mutator, Worker}
+use Rattle.ref_base.specs.declared.fault.Fault.{Fault}
+use Rattle.ref_base.specs.declared.fault.Fault.TheVariants.{NoMemory, NoSuchActor, BadQueue, WrongQueue}
+use Rattle.ref_base.specs.declared.reply.Reply.{Reply}
+use Rattle.ref_base.specs.declared.reply.Reply.TheVariants as replies
+use Rattle.ref_base.specs.declared.step.Step.{Step}
+use Rattle.ref_base.specs.declared.step.Step.TheVariants as steps
+use Rattle.ref_base.proofs.RowLaws.{ticked_world}
+use Rattle.ref_mark.proofs.OtherHands.{with_others, stands-with_others}
+use Rattle.ref_mark.proofs.ReferenceRows.{unmoved_stands}
+use Rattle.ref_clear.specs.ClearHeaps.{ClearHeap}
+use Rattle.ref_clear.specs.Standing.{Stands as HeapStands}
+use Rattle.ref_queue.specs.QueueAnswers.{RefusesPut}
+use Rattle.ref_world.specs.Cores.{Core, Hands, hand_in, with_hand_in, emptying_refusal, calling_refusal, queue_refusal}
+use Rattle.ref_world.specs.Cores.{queue_at as queue_in}
+use Rattle.ref_world.specs.Standing.{Stands, IsReached, IsRowOf}
+use Rattle.ref_world.proofs.AskedRows.{hands_of, hands_are, row_to}
+use Rattle.ref_world.proofs.HandRows.{there_from}
+use Rattle.ref_world.proofs.ReachedCores.{same_hand, same_actors}
+use Rattle.ref_world.proofs.Refusals.{same_actor, same_mutators, same_queues, unless_passed}
+
+-- ---- hands and queues
+
+-- what was taken out of a hand and put back
+pub put_back : (hands : Hands) (who : Actor) (notice : Notice) → hand_in hands who ≡ Some notice
+    → with_hand_in (with_hand_in hands who None) who (Some notice) ≡ hands
+put_back hands (Mutator m) notice full =
+    ap (λ (hs : List (Option Notice)). record hands { mutators = hs })
+    (set-set hands.mutators m None (Some notice) ∙ ap (slice_set hands.mutators m) (sym full)
+    ∙ set-get_or hands.mutators m None)
+put_back hands (Worker k) notice full =
+    ap (λ (hs : List (Option Notice)). record hands { workers = hs })
+    (set-set hands.workers k None (Some notice) ∙ ap (slice_set hands.workers k) (sym full)
+    ∙ set-get_or hands.workers k None)
+
+-- a queue as it is read, and as the core has it
+pub read_here : (qs : List (Lists Notice)) (q : ℕ) (lists : Lists Notice) → q < length qs
+    → lists ≡ slice_index_or qs q lists → lists ≡ slice_index_or qs q (new_queue q)
+read_here qs q lists within read = get_or_read qs q lists within read (new_queue q)
+
+-- a queue put back as it was
+pub queue_back : (qs : List (Lists Notice)) (q : ℕ) (old new : Lists Notice) → old ≡ slice_index_or qs q (new_queue q)
+    → new ≡ old → slice_set qs q new ≡ qs
+queue_back qs q old new here same =
+    ap (λ (l : Lists Notice). slice_set qs q l) (same ∙ here) ∙ set-get_or qs q (new_queue q)
+
+pub open_from : (closed : Bool) → true ≡ not closed → closed ≡ false
+open_from true is = absurd cc
+open_from false is = refl
+
+pub closed_from : (closed : Bool) → false ≡ not closed → closed ≡ true
+closed_from true is = refl
+closed_from false is = absurd cc
+
+-- ---- nothing that the heap is asked
+
+-- the heap stands for the state as it was, with other hands and queues, one moment later
+pub heap_stands_on : (k : ClearHeap) (a : State) (mutators workers : List (Option Notice)) (queues : List (Lists Notice))
+    → HeapStands k a → HeapStands k (ticked (with_others a mutators workers queues))
+heap_stands_on k a mutators workers queues stands =
+    let b : State = with_others a mutators workers queues in
+    let mark =
+    stands-with_others k.mark a mutators workers queues a.moments (λ marking n ever. ever) (λ marking n ever. ever)
+    stands.mark in
+    record {
+      mark = unmoved_stands k.mark b mark b.world.heap mark.heap;
+      pending = ap (λ (w : World). w.pending) (ticked_world b) ∙ stands.pending;
+      waiting = stands.waiting;
+    }
+
+abbrev core_with : Core → Hands → List (Lists Notice) → Core
+core_with c hands queues = record c { hands = hands; queues = queues }
+
+-- the core with other hands and queues stands for the state with them
+stands_on : (c : Core) (a : State) (hands : Hands) (queues : List (Lists Notice)) → Stands c a
+    → Stands (core_with c hands queues) (ticked (with_others a hands.mutators hands.workers queues))
+stands_on c a hands queues stands =
+    let is = ticked_world (with_others a hands.mutators hands.workers queues) in
+    record {
+      heap = heap_stands_on c.heap a hands.mutators hands.workers queues stands.heap;
+      number = stands.number;
+      mutator_hands = ap (λ (w : World). w.mutator_hands) is;
+      worker_hands = ap (λ (w : World). w.worker_hands) is;
+      queues = ap (λ (w : World). w.queues) is;
+    }
+
+-- a row that changes hands and queues so, and nothing else
+others_row : (c : Core) (a : State) (step : Step) (reply : Reply) (hold : Hands → Hands)
+    (line : List (Lists Notice) → List (Lists Notice)) (b : State) → Stands c a
+    → b ≡ with_others a (hold (hands_of a.world)).mutators (hold (hands_of a.world)).workers (line a.world.queues)
+    → IsRow a (record { step = step; reply = reply }) (ticked b)
+    → row_to a step reply (core_with c (hold c.hands) (line c.queues))
+others_row c a step reply hold line b stands is row = (
+  ticked b,
+  row,
+  subst (λ (s : State). Stands (core_with c (hold c.hands) (line c.queues)) (ticked s)) (sym is)
+      (subst
+      (λ (hs : Hands). Stands (core_with c (hold hs) (line c.queues))
+      (ticked (with_others a (hold (hands_of a.world)).mutators (hold (hands_of a.world)).workers (line a.world.queues))))
+      (hands_are c a stands)
+      (subst
+      (λ (qs : List (Lists Notice)). Stands (core_with c (hold (hands_of a.world)) (line qs))
+      (ticked (with_others a (hold (hands_of a.world)).mutators (hold (hands_of a.world)).workers (line a.world.queues))))
+      stands.queues
+      (stands_on c a (hold (hands_of a.world)) (line a.world.queues) stands))),
+)
+
+-- a row that changes nothing
+still_row : (c : Core) (a : State) (step : Step) (reply : Reply) → Stands c a
+    → IsRow a (record { step = step; reply = reply }) (ticked a) → row_to a step reply c
+still_row c a step reply stands row =
+    others_row c a step reply (λ hands. hands) (λ queues. queues) a stands refl row
+
+queue_is : (c : Core) (a : State) (q : ℕ) → Stands c a → queue_at a.world q ≡ queue_in c q
+queue_is c a q stands = ap (λ (qs : List (Lists Notice)). slice_index_or qs q (new_queue q)) stands.queues
+
+-- ---- puts
+
+module _ (c : Core) (reached : IsReached c) (who : Actor) (notice : Notice) (lists : Lists Notice)
+    (accepted : emptying_refusal c.hands who ≡ None) (full : hand_in c.hands who ≡ Some notice)
+    (here : lists ≡ queue_in c notice.queue) where
+  -- what a put of the hand's notice may answer, it answers
+  put_answer : (a : State) (reply : Reply) (b : State) → Stands c a
+      → PutsInto (was_put object_of lists notice) lists.closed a who notice reply b
+      → IsRow a (record { step = steps.Put who; reply = reply }) b
+  put_answer a reply b stands puts =
+      let there : is_actor a.world.heap who ≡ true =
+      same_actor c a stands who ∙ sym (same_actors c reached who) ∙ there_from c.hands who accepted in
+      let hand : hand_of a.world who ≡ Some notice = same_hand c a stands who ∙ full in
+      let accepts : refusal a (steps.Put who) ≡ None = rw (there, hand) refl in
+      subst (λ (o : Option Fault). IsAnswer a o (steps.Put who) reply b) (sym accepts)
+      (subst (λ (h : Option Notice). Puts a who h reply b) (sym hand)
+      (subst (λ (l : Lists Notice). PutsInto (was_put object_of l notice) l.closed a who notice reply b)
+      (here ∙ sym (queue_is c a notice.queue stands)) puts))
+
+  put_in_is : (a : State) (actor : Actor) → with_world a (put_in a.world actor (Some notice))
+      ≡ with_others a (with_hand_in (hands_of a.world) actor None).mutators
+      (with_hand_in (hands_of a.world) actor None).workers
+      (slice_set a.world.queues notice.queue (with_parcel (queue_at a.world notice.queue) notice))
+  put_in_is a (Mutator m) = refl
+  put_in_is a (Worker k) = refl
+
+  pub added_row : (position : ℕ) → was_put object_of lists notice ≡ false → lists.closed ≡ false
+      → position ≡ length (enqueued object_of lists)
+      → IsRowOf c (steps.Put who) (replies.Added position)
+      (core_with c (with_hand_in c.hands who None) (slice_set c.queues notice.queue (with_parcel lists notice)))
+  added_row position fresh open_yet is a stands =
+      let b : State = with_world a (put_in a.world who (Some notice)) in
+      rw here
+      (others_row c a (steps.Put who) (replies.Added position) (λ hands. with_hand_in hands who None)
+      (λ qs. slice_set qs notice.queue (with_parcel (slice_index_or qs notice.queue (new_queue notice.queue)) notice)) b
+      stands (put_in_is a who)
+      (put_answer a (replies.Added position) (ticked b) stands
+      (rw (fresh, open_yet)
+      (inl (
+        ap replies.Added
+            (is ∙ ap (λ (l : Lists Notice). length (enqueued object_of l)) (here ∙ sym (queue_is c a notice.queue stands))),
+        refl,
+      )))))
+
+  pub already_row : was_put object_of lists notice ≡ true → IsRowOf c (steps.Put who) replies.Already c
+  already_row put a stands =
+      still_row c a (steps.Put who) replies.Already stands
+      (put_answer a replies.Already (ticked a) stands (rw put (refl, refl)))
+
+  pub closed_row : was_put object_of lists notice ≡ false → lists.closed ≡ true
+      → IsRowOf c (steps.Put who) replies.Closed c
+  closed_row fresh closed a stands =
+      still_row c a (steps.Put who) replies.Closed stands
+      (put_answer a replies.Closed (ticked a) stands (rw (fresh, closed) (refl, refl)))
+
+  pub no_memory_row : was_put object_of lists notice ≡ false → lists.closed ≡ false
+      → IsRowOf c (steps.Put who) (replies.Refused NoMemory) c
+  no_memory_row fresh open_yet a stands =
+      (a, put_answer a (replies.Refused NoMemory) a stands (rw (fresh, open_yet) (inr (refl, refl))), stands)
+
+  -- a put into the notice's own queue is refused for want of memory alone
+  pub refused_put_row : (fault : Fault) → lists.queue ≡ notice.queue
+      → RefusesPut object_of (λ n. n.queue) lists notice fault → IsRowOf c (steps.Put who) (replies.Refused fault) c
+  refused_put_row WrongQueue own refuses = absurd (refuses (sym own))
+  refused_put_row NoMemory own refuses = no_memory_row refuses.1 refuses.2
+  refused_put_row fault own refuses = absurd refuses
+
+-- ---- polls and closes
+
+module _ (c : Core) (m q : ℕ) (lists : Lists Notice) (accepted : calling_refusal c m q ≡ None)
+    (here : lists ≡ queue_in c q) where
+  called : (a : State) → Stands c a → (is_mutator a.world.heap m ≡ true) × (is_queue a.world.heap q ≡ true)
+  called a stands =
+      let mutator = unless_passed (is_mutator c.heap.mark.heap m) NoSuchActor (queue_refusal c q) accepted in
+      let queue = unless_passed (is_queue c.heap.mark.heap q) BadQueue None mutator.1 in
+      (same_mutators c a stands m ∙ mutator.0, same_queues c a stands q ∙ queue.0)
+
+  poll_answer : (a : State) (reply : Reply) (b : State) → Stands c a → hand_in c.hands (Mutator m) ≡ None
+      → Polls a m q lists.stands reply b → IsRow a (record { step = steps.Poll m q; reply = reply }) b
+  poll_answer a reply b stands free polls =
+      let there = called a stands in
+      let hand : hand_of a.world (Mutator m) ≡ None = same_hand c a stands (Mutator m) ∙ free in
+      let accepts : refusal a (steps.Poll m q) ≡ None = rw (there.0, there.1, hand) refl in
+      subst (λ (o : Option Fault). IsAnswer a o (steps.Poll m q) reply b) (sym accepts)
+      (subst (λ (l : Lists Notice). Polls a m q l.stands reply b) (here ∙ sym (queue_is c a q stands)) polls)
+
+  -- what a poll takes
+  took_is : (a : State) (notice : Notice) (rest : List Notice) → Stands c a → lists.stands ≡ notice ∷ rest
+      → with_world a (took a.world m q notice.object)
+      ≡ with_others a (with_hand_in (hands_of a.world) (Mutator m) (Some notice)).mutators a.world.worker_hands
+      (slice_set a.world.queues q (with_taken object_of (queue_at a.world q) notice rest))
+  took_is a notice rest stands first =
+      let stood : (queue_at a.world q).stands ≡ notice ∷ rest =
+      ap (λ (l : Lists Notice). l.stands) (queue_is c a q stands ∙ sym here) ∙ first in
+      let own = eq-eqb notice.object notice.object refl in
+      let found : notice_of (queue_at a.world q).stands notice.object ≡ Some notice = rw (stood, own) refl in
+      let left : without_notice (queue_at a.world q).stands notice.object ≡ rest = rw (stood, own) refl in
+      ap (λ (h : Option Notice). with_world a
+      (with_hand (with_queue a.world q (taken_out (queue_at a.world q) notice.object)) (Mutator m) h)) found
+      ∙ ap (λ (ns : List Notice). with_world a
+      (with_hand (with_queue a.world q
+      (record (queue_at a.world q) { taken = (queue_at a.world q).taken ++ notice.object ∷ []; stands = ns }))
+      (Mutator m) (Some notice))) left
+
+  pub took_row : (notice : Notice) (rest : List Notice) → hand_in c.hands (Mutator m) ≡ None
+      → lists.stands ≡ notice ∷ rest
+      → IsRowOf c (steps.Poll m q) (replies.Took notice.object)
+      (core_with c (with_hand_in c.hands (Mutator m) (Some notice))
+      (slice_set c.queues q (with_taken object_of lists notice rest)))
+  took_row notice rest free first a stands =
+      let b : State = with_world a (took a.world m q notice.object) in
+      rw here
+      (others_row c a (steps.Poll m q) (replies.Took notice.object)
+      (λ hands. with_hand_in hands (Mutator m) (Some notice))
+      (λ qs. slice_set qs q (with_taken object_of (slice_index_or qs q (new_queue q)) notice rest)) b stands
+      (took_is a notice rest stands first)
+      (poll_answer a (replies.Took notice.object) (ticked b) stands free (rw first (refl, refl))))
+
+  pub empty_row : hand_in c.hands (Mutator m) ≡ None → lists.stands ≡ [] → lists.closed ≡ false
+      → IsRowOf c (steps.Poll m q) replies.Empty c
+  empty_row free none open_yet a stands =
+      let shut : (queue_at a.world q).closed ≡ false =
+      ap (λ (l : Lists Notice). l.closed) (queue_is c a q stands ∙ sym here) ∙ open_yet in
+      still_row c a (steps.Poll m q) replies.Empty stands
+      (poll_answer a replies.Empty (ticked a) stands free (rw (none, shut) (refl, refl)))
+
+  pub ended_row : hand_in c.hands (Mutator m) ≡ None → lists.stands ≡ [] → lists.closed ≡ true
+      → IsRowOf c (steps.Poll m q) replies.Closed c
+  ended_row free none closed a stands =
+      let shut : (queue_at a.world q).closed ≡ true =
+      ap (λ (l : Lists Notice). l.closed) (queue_is c a q stands ∙ sym here) ∙ closed in
+      still_row c a (steps.Poll m q) replies.Closed stands
+      (poll_answer a replies.Closed (ticked a) stands free (rw (none, shut) (refl, refl)))
+
+  close_answer : (a : State) (reply : Reply) (b : State) → Stands c a → Closes a q lists.closed reply b
+      → IsRow a (record { step = steps.Close m q; reply = reply }) b
+  close_answer a reply b stands closes =
+      let there = called a stands in
+      let accepts : refusal a (steps.Close m q) ≡ None = rw (there.0, there.1) refl in
+      subst (λ (o : Option Fault). IsAnswer a o (steps.Close m q) reply b) (sym accepts)
+      (subst (λ (l : Lists Notice). Closes a q l.closed reply b) (here ∙ sym (queue_is c a q stands)) closes)
+
+  pub close_row : lists.closed ≡ false
+      → IsRowOf c (steps.Close m q) replies.Done
+      (core_with c c.hands (slice_set c.queues q (record lists { closed = true })))
+  close_row open_yet a stands =
+      let b : State = with_world a (closed_queue a.world q) in
+      rw here
+      (others_row c a (steps.Close m q) replies.Done (λ hands. hands)
+      (λ qs. slice_set qs q (let k : Lists Notice = slice_index_or qs q (new_queue q) in record k { closed = true })) b
+      stands refl (close_answer a replies.Done (ticked b) stands (rw open_yet (refl, refl))))
+
+  pub shut_row : lists.closed ≡ true → IsRowOf c (steps.Close m q) replies.Closed c
+  shut_row closed a stands =
+      still_row c a (steps.Close m q) replies.Closed stands
+      (close_answer a replies.Closed (ticked a) stands (rw closed (refl, refl)))

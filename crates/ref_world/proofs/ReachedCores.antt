@@ -1,0 +1,90 @@
+-- What holds of every world to which a legal trace leads.
+use Rattle.std.proofs.Common.{◌≡◌, ◌<◌, true, List, [], ◌∷◌, ◌++◌, length, Option, Some, None, ap, sym, subst, ◌∙◌}
+use Rattle.std.specs.Prelude.{slice_index_or, nat_lt}
+use Rattle.ref_base.specs.Members.{has}
+use Rattle.ref_base.specs.Heaps.{Heap}
+use Rattle.ref_base.specs.QueueLists.{Lists}
+use Rattle.ref_base.specs.Worlds.{Notice, hand_of}
+use Rattle.ref_base.specs.Refusals.{is_actor}
+use Rattle.ref_base.specs.Collectors.{State, first_state}
+use Rattle.ref_base.specs.CountedHolds.{AreCounted}
+use Rattle.ref_base.specs.declared.actor.Actor.{Actor}
+use Rattle.ref_base.specs.declared.actor.Actor.TheVariants.{Mutator, Worker}
+use Rattle.ref_base.specs.declared.config.Config.{Config}
+use Rattle.ref_base.specs.declared.reply.Reply.{Reply}
+use Rattle.ref_base.specs.declared.step.Step.{Step}
+use Rattle.ref_base.proofs.CountedTraces.{legal_counted}
+use Rattle.ref_base.proofs.CountedWorlds.{counted_hand}
+use Rattle.ref_base.proofs.LegalQueues.{run_sound}
+use Rattle.ref_base.proofs.RowLaws.{actor_has}
+use Rattle.ref_base.proofs.RunLaws.{run_more}
+use Rattle.ref_base.proofs.SoundWorlds.{IsSound, NoticeBelow, first_sound}
+use Rattle.ref_world.specs.Cores.{Core, is_there, hand_in}
+use Rattle.ref_world.specs.Standing.{Stands, IsRowOf, IsReached}
+
+-- the heap as the state has it has the core's configuration and holds
+pub same_config : (c : Core) (a : State) → Stands c a → a.world.heap.config ≡ c.heap.mark.heap.config
+same_config c a stands = ap (λ (h : Heap). h.config) stands.heap.mark.heap
+
+pub same_holds : (c : Core) (a : State) → Stands c a → a.world.heap.holds ≡ c.heap.mark.heap.holds
+same_holds c a stands = ap (λ (h : Heap). h.holds) stands.heap.mark.heap
+
+pub same_hand : (c : Core) (a : State) → Stands c a → (who : Actor) → hand_of a.world who ≡ hand_in c.hands who
+same_hand c a stands (Mutator m) = ap (λ (hs : List (Option Notice)). slice_index_or hs m None) stands.mutator_hands
+same_hand c a stands (Worker k) = ap (λ (hs : List (Option Notice)). slice_index_or hs k None) stands.worker_hands
+
+-- one more row leads further
+pub reached_after : (old new : Core) (step : Step) (reply : Reply) → IsReached old → IsRowOf old step reply new
+    → IsReached new
+reached_after old new step reply reached row =
+    let next = row reached.state reached.stands in
+    record {
+      config = reached.config;
+      rows = reached.rows ++ record { step = step; reply = reply } ∷ [];
+      state = next.0;
+      run = run_more (first_state reached.config) reached.rows reached.state next.0 _ reached.run next.1;
+      stands = next.2;
+    }
+
+module _ (c : Core) (reached : IsReached c) where
+  sound : IsSound reached.state.world
+  sound =
+      run_sound (first_state reached.config) reached.rows reached.state (first_sound reached.config) reached.run
+
+  counted : AreCounted reached.state.world
+  counted = legal_counted reached.config reached.rows reached.state reached.run
+
+  config : reached.state.world.heap.config ≡ c.heap.mark.heap.config
+  config = same_config c reached.state reached.stands
+
+  -- there is a hand for each actor, and no other
+  pub same_actors : (who : Actor) → is_there c.hands who ≡ is_actor c.heap.mark.heap who
+  same_actors (Mutator m) =
+      ap (λ (hs : List (Option Notice)). nat_lt m (length hs)) (sym reached.stands.mutator_hands)
+      ∙ ap (nat_lt m) sound.mutator_hands ∙ ap (λ (f : Config). nat_lt m f.mutators) config
+  same_actors (Worker k) =
+      ap (λ (hs : List (Option Notice)). nat_lt k (length hs)) (sym reached.stands.worker_hands)
+      ∙ ap (nat_lt k) sound.worker_hands ∙ ap (λ (f : Config). nat_lt k f.workers) config
+
+  -- and each queue of the configuration
+  pub queue_count : length c.queues ≡ c.heap.mark.heap.config.queues
+  queue_count =
+      ap (λ (qs : List (Lists Notice)). length qs) (sym reached.stands.queues) ∙ sound.queues
+      ∙ ap (λ (f : Config). f.queues) config
+
+  -- a notice in a hand is a hold that the heap counts, and is for a queue that is there
+  pub hand_is_counted : (who : Actor) (notice : Notice) → is_there c.hands who ≡ true
+      → hand_in c.hands who ≡ Some notice → has c.heap.mark.heap.holds notice.object ≡ true
+  hand_is_counted who notice there full =
+      subst (λ ns. has ns notice.object ≡ true) (same_holds c reached.state reached.stands)
+      (counted_hand reached.state.world who notice
+      (actor_has reached.state.world who sound (rw config (sym (same_actors who) ∙ there)))
+      (same_hand c reached.state reached.stands who ∙ full) counted)
+
+  pub hand_has_queue : (who : Actor) (notice : Notice) → hand_in c.hands who ≡ Some notice
+      → notice.queue < length c.queues
+  hand_has_queue who notice full =
+      let below =
+      subst (NoticeBelow reached.state.world.heap.config.queues) (same_hand c reached.state reached.stands who ∙ full)
+      (sound.hands_below who) in
+      subst (λ (qs : List (Lists Notice)). notice.queue < length qs) reached.stands.queues (rw sound.queues below)

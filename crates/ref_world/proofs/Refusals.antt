@@ -1,0 +1,189 @@
+-- Where a step of the world is refused before its heap or a queue is asked.
+use Rattle.std.proofs.Common.{◌≡◌, ℕ, ◌<◌, length, Bool, true, false, ◌&&◌, Option, Some, None, refl, sym, ap, subst, ◌∙◌}
+use Rattle.std.specs.Prelude.{nat_lt}
+use Rattle.std.proofs.lemmas.Bool.{and_parts, ltb-true}
+use Rattle.ref_base.specs.Worlds.{Notice, hand_of}
+use Rattle.ref_base.specs.Refusals.{unless, unless_full, empty_hand_refusal, has_slot, is_actor, is_mutator, is_queue}
+use Rattle.ref_base.specs.Refusals.{drop_refusal, heap_refusal, refusal}
+use Rattle.ref_base.specs.Collectors.{State}
+use Rattle.ref_base.specs.declared.actor.Actor.{Actor}
+use Rattle.ref_base.specs.declared.actor.Actor.TheVariants.{Mutator, Worker}
+use Rattle.ref_base.specs.declared.config.Config.{Config}
+use Rattle.ref_base.specs.declared.fault.Fault.{Fault}
+use Rattle.ref_base.specs.declared.fault.Fault.TheVariants.{NoSuchActor, BadQueue}
+use Rattle.ref_base.specs.declared.heap_step.HeapStep.TheVariants as heap
+use Rattle.ref_base.specs.declared.reply.Reply.TheVariants as replies
+use Rattle.ref_base.specs.declared.step.Step.{Step}
+use Rattle.ref_base.specs.declared.step.Step.TheVariants as steps
+use Rattle.ref_world.specs.Cores.{Core, hand_in, is_there, filling_refusal, emptying_refusal, calling_refusal, queue_refusal}
+use Rattle.ref_world.specs.Standing.{Stands, IsReached, IsRowOf}
+use Rattle.ref_world.proofs.ReachedCores.{same_config, same_hand, same_actors, queue_count}
+
+-- ---- tests
+
+pub unless_fails : (test : Bool) (fault told : Fault) → unless test fault None ≡ Some told
+    → (test ≡ false) × (Some fault ≡ Some told)
+unless_fails true fault told is = absurd cc
+unless_fails false fault told is = (refl, is)
+
+pub unless_passed : (test : Bool) (fault : Fault) (later : Option Fault) → unless test fault later ≡ None
+    → (test ≡ true) × (later ≡ None)
+unless_passed true fault later is = (refl, is)
+unless_passed false fault later is = absurd cc
+
+pub empty_from : (hand : Option Notice) → unless_full hand None ≡ None → hand ≡ None
+empty_from None is = refl
+empty_from (Some notice) is = absurd cc
+
+-- a hand that is there and full is refused before what comes later
+full_first : (hand : Option Notice) (told : Fault) (later : Option Fault) → unless_full hand None ≡ Some told
+    → unless_full hand later ≡ Some told
+full_first None told later is = absurd cc
+full_first (Some notice) told later is = is
+
+-- so is an actor that isn't there
+full_or_none : (there : Bool) (hand : Option Notice) (told : Fault) (later : Option Fault)
+    → unless there NoSuchActor (unless_full hand None) ≡ Some told
+    → unless there NoSuchActor (unless_full hand later) ≡ Some told
+full_or_none true hand told later is = full_first hand told later is
+full_or_none false hand told later is = is
+
+-- a mutator and a queue come before what is later
+called : (mutator queue : Bool) (told : Fault) (later : Option Fault)
+    → unless mutator NoSuchActor (unless queue BadQueue None) ≡ Some told
+    → unless mutator NoSuchActor (unless queue BadQueue later) ≡ Some told
+called true true told later is = absurd cc
+called true false told later is = is
+called false queue told later is = is
+
+-- ---- what the state refuses as the core does
+
+module _ (c : Core) (a : State) (stands : Stands c a) where
+  pub same_slots : (m s : ℕ) → has_slot a.world.heap m s ≡ has_slot c.heap.mark.heap m s
+  same_slots m s = ap (λ (f : Config). nat_lt m f.mutators && nat_lt s 16) (same_config c a stands)
+
+  pub same_mutators : (m : ℕ) → is_mutator a.world.heap m ≡ is_mutator c.heap.mark.heap m
+  same_mutators m = ap (λ (f : Config). nat_lt m f.mutators) (same_config c a stands)
+
+  pub same_queues : (q : ℕ) → is_queue a.world.heap q ≡ is_queue c.heap.mark.heap q
+  same_queues q = ap (λ (f : Config). nat_lt q f.queues) (same_config c a stands)
+
+  pub same_actor : (who : Actor) → is_actor a.world.heap who ≡ is_actor c.heap.mark.heap who
+  same_actor (Mutator m) = same_mutators m
+  same_actor (Worker k) = ap (λ (f : Config). nat_lt k f.workers) (same_config c a stands)
+
+-- ---- rows of refused steps
+
+-- a step that each state refuses is a row that changes nothing
+pub refused_row : (c : Core) (step : Step) (fault : Fault)
+    → ((a : State) → Stands c a → refusal a step ≡ Some fault) → IsRowOf c step (replies.Refused fault) c
+refused_row c step fault refuses a stands = (a, rw (refuses a stands) (refl, refl), stands)
+
+-- by a slot that isn't there
+no_slot : (c : Core) (m s : ℕ) (fault : Fault) → drop_refusal c.heap.mark.heap m s ≡ Some fault
+    → (later : Option Fault) (a : State) → Stands c a → unless (has_slot a.world.heap m s) NoSuchActor later ≡ Some fault
+no_slot c m s fault refused later a stands =
+    let fails = unless_fails (has_slot c.heap.mark.heap m s) NoSuchActor fault refused in
+    ap (λ test. unless test NoSuchActor later) (same_slots c a stands m s ∙ fails.0) ∙ fails.1
+
+pub no_slot_of_unhook : (c : Core) (m s : ℕ) (fault : Fault) → drop_refusal c.heap.mark.heap m s ≡ Some fault
+    → IsRowOf c (steps.Unhook m s) (replies.Refused fault) c
+no_slot_of_unhook c m s fault refused =
+    refused_row c (steps.Unhook m s) fault (λ a stands.
+    no_slot c m s fault refused (unless_full (hand_of a.world (Mutator m)) (heap_refusal 0 a (heap.Unhook m s))) a stands)
+
+pub no_slot_of_adopt : (c : Core) (m d : ℕ) (fault : Fault) → drop_refusal c.heap.mark.heap m d ≡ Some fault
+    → IsRowOf c (steps.Adopt m d) (replies.Refused fault) c
+no_slot_of_adopt c m d fault refused =
+    refused_row c (steps.Adopt m d) fault (λ a stands.
+    no_slot c m d fault refused (empty_hand_refusal (hand_of a.world (Mutator m))) a stands)
+
+module _ (c : Core) (m q : ℕ) where
+  -- by a mutator or a queue that isn't there
+  pub no_queue_of_poll : (fault : Fault) → calling_refusal c m q ≡ Some fault
+      → IsRowOf c (steps.Poll m q) (replies.Refused fault) c
+  no_queue_of_poll fault refused =
+      refused_row c (steps.Poll m q) fault (λ a stands.
+      rw (same_mutators c a stands m, same_queues c a stands q)
+      (called (is_mutator c.heap.mark.heap m) (is_queue c.heap.mark.heap q) fault
+      (unless_full (hand_of a.world (Mutator m)) None) refused))
+
+  pub no_queue_of_close : (fault : Fault) → calling_refusal c m q ≡ Some fault
+      → IsRowOf c (steps.Close m q) (replies.Refused fault) c
+  no_queue_of_close fault refused =
+      refused_row c (steps.Close m q) fault (λ a stands.
+      rw (same_mutators c a stands m, same_queues c a stands q) refused)
+
+module _ (c : Core) (reached : IsReached c) where
+  -- by an actor that isn't there, or a hand that is full
+  filling : (who : Actor) (fault : Fault) → filling_refusal c.hands who ≡ Some fault → (later : Option Fault)
+      → (a : State) → Stands c a
+      → unless (is_actor a.world.heap who) NoSuchActor (unless_full (hand_of a.world who) later) ≡ Some fault
+  filling who fault refused later a stands =
+      rw (same_actor c a stands who ∙ sym (same_actors c reached who), same_hand c a stands who)
+      (full_or_none (is_there c.hands who) (hand_in c.hands who) fault later refused)
+
+  emptying : (who : Actor) (fault : Fault) → emptying_refusal c.hands who ≡ Some fault → (a : State) → Stands c a
+      → unless (is_actor a.world.heap who) NoSuchActor (empty_hand_refusal (hand_of a.world who)) ≡ Some fault
+  emptying who fault refused a stands =
+      rw (same_actor c a stands who ∙ sym (same_actors c reached who), same_hand c a stands who) refused
+
+  -- the mutator of a slot that is there
+  with_slot : (m s : ℕ) → drop_refusal c.heap.mark.heap m s ≡ None → (a : State) → Stands c a
+      → (has_slot a.world.heap m s ≡ true) × (is_mutator a.world.heap m ≡ true)
+  with_slot m s slot a stands =
+      let there = (unless_passed (has_slot c.heap.mark.heap m s) NoSuchActor None slot).0 in (
+        same_slots c a stands m s ∙ there,
+        same_mutators c a stands m ∙ (and_parts (is_mutator c.heap.mark.heap m) (nat_lt s 16) there).0,
+      )
+
+  pub full_at_unhook : (m s : ℕ) (fault : Fault) → drop_refusal c.heap.mark.heap m s ≡ None
+      → filling_refusal c.hands (Mutator m) ≡ Some fault → IsRowOf c (steps.Unhook m s) (replies.Refused fault) c
+  full_at_unhook m s fault slot refused =
+      refused_row c (steps.Unhook m s) fault (λ a stands.
+      let there = with_slot m s slot a stands in
+      let later = heap_refusal 0 a (heap.Unhook m s) in
+      ap (λ test. unless test NoSuchActor (unless_full (hand_of a.world (Mutator m)) later)) there.0
+      ∙ subst (λ test. unless test NoSuchActor (unless_full (hand_of a.world (Mutator m)) later) ≡ Some fault) there.1
+      (filling (Mutator m) fault refused later a stands))
+
+  pub full_at_hand : (k : ℕ) (fault : Fault) → filling_refusal c.hands (Worker k) ≡ Some fault
+      → IsRowOf c (steps.Hand k) (replies.Refused fault) c
+  full_at_hand k fault refused =
+      refused_row c (steps.Hand k) fault (λ a stands.
+      filling (Worker k) fault refused (heap_refusal 0 a (heap.Hand k)) a stands)
+
+  pub full_at_poll : (m q : ℕ) (fault : Fault) → calling_refusal c m q ≡ None
+      → filling_refusal c.hands (Mutator m) ≡ Some fault → IsRowOf c (steps.Poll m q) (replies.Refused fault) c
+  full_at_poll m q fault called refused =
+      refused_row c (steps.Poll m q) fault (λ a stands.
+      let mutator = unless_passed (is_mutator c.heap.mark.heap m) NoSuchActor (queue_refusal c q) called in
+      let queue = unless_passed (is_queue c.heap.mark.heap q) BadQueue None mutator.1 in
+      let there : is_mutator a.world.heap m ≡ true = same_mutators c a stands m ∙ mutator.0 in
+      rw (there, same_queues c a stands q ∙ queue.0)
+      (subst (λ test. unless test NoSuchActor (unless_full (hand_of a.world (Mutator m)) None) ≡ Some fault) there
+      (filling (Mutator m) fault refused None a stands)))
+
+  -- the queue of an accepted call is there
+  pub queue_within : (m q : ℕ) → calling_refusal c m q ≡ None → q < length c.queues
+  queue_within m q called =
+      let mutator = unless_passed (is_mutator c.heap.mark.heap m) NoSuchActor (queue_refusal c q) called in
+      let queue = unless_passed (is_queue c.heap.mark.heap q) BadQueue None mutator.1 in
+      rw (queue_count c reached) (ltb-true q c.heap.mark.heap.config.queues queue.0)
+
+  pub empty_at_adopt : (m d : ℕ) (fault : Fault) → drop_refusal c.heap.mark.heap m d ≡ None
+      → emptying_refusal c.hands (Mutator m) ≡ Some fault → IsRowOf c (steps.Adopt m d) (replies.Refused fault) c
+  empty_at_adopt m d fault slot refused =
+      refused_row c (steps.Adopt m d) fault (λ a stands.
+      let there = with_slot m d slot a stands in
+      rw there.0
+      (subst (λ test. unless test NoSuchActor (empty_hand_refusal (hand_of a.world (Mutator m))) ≡ Some fault) there.1
+      (emptying (Mutator m) fault refused a stands)))
+
+  pub empty_at_release : (who : Actor) (fault : Fault) → emptying_refusal c.hands who ≡ Some fault
+      → IsRowOf c (steps.Release who) (replies.Refused fault) c
+  empty_at_release who fault refused = refused_row c (steps.Release who) fault (emptying who fault refused)
+
+  pub empty_at_put : (who : Actor) (fault : Fault) → emptying_refusal c.hands who ≡ Some fault
+      → IsRowOf c (steps.Put who) (replies.Refused fault) c
+  empty_at_put who fault refused = refused_row c (steps.Put who) fault (emptying who fault refused)

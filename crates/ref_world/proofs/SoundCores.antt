@@ -1,0 +1,30 @@
+-- What holds of every world still holds after a row.
+use Rattle.std.proofs.Common.{◌≡◌, ℕ, List, ap, ◌∙◌}
+use Rattle.std.specs.Prelude.{slice_index_or, slice_set}
+use Rattle.ref_base.specs.QueueLists.{Lists, new_queue}
+use Rattle.ref_base.specs.Worlds.{Notice}
+use Rattle.ref_base.specs.declared.reply.Reply.{Reply}
+use Rattle.ref_base.specs.declared.step.Step.{Step}
+use Rattle.ref_base.proofs.Places.{set_each}
+use Rattle.ref_world.specs.Cores.{Core}
+use Rattle.ref_world.specs.Standing.{IsRowOf, IsSound}
+use Rattle.ref_world.proofs.ReachedCores.{reached_after}
+
+-- where the queues stay
+pub sound_after : (old new : Core) (step : Step) (reply : Reply) → new.queues ≡ old.queues → IsSound old
+    → IsRowOf old step reply new → IsSound new
+sound_after old new step reply same sound row = record {
+  reached = reached_after old new step reply sound.reached row;
+  numbered = λ q. ap (λ (qs : List (Lists Notice)). (slice_index_or qs q (new_queue q)).queue) same ∙ sound.numbered q;
+}
+
+-- where one of them changes, and keeps its number
+pub sound_queue_after : (old new : Core) (step : Step) (reply : Reply) (i : ℕ) (queue : Lists Notice)
+    → new.queues ≡ slice_set old.queues i queue → queue.queue ≡ i → IsSound old → IsRowOf old step reply new
+    → IsSound new
+sound_queue_after old new step reply i queue is own sound row = record {
+  reached = reached_after old new step reply sound.reached row;
+  numbered = λ q.
+      ap (λ (qs : List (Lists Notice)). (slice_index_or qs q (new_queue q)).queue) is
+      ∙ set_each (λ k (l : Lists Notice). l.queue ≡ k) old.queues i queue (λ k. new_queue k) own sound.numbered q;
+}

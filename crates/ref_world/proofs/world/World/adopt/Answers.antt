@@ -1,0 +1,65 @@
+use Rattle.std.proofs.Common.{◌≡◌, None, refl, sym, subst, ◌∙◌}
+use Rattle.std.proofs.lemmas.Result.{err_from_is_err_and}
+use Rattle.ref_base.specs.Refusals.{drop_refusal}
+use Rattle.ref_base.specs.declared.step.Step.TheVariants as steps
+use Rattle.ref_world.specs.Cores.{Core}
+use Rattle.ref_world.proofs.HandRows.{adopt_reply, adopt_done, adopted_told}
+use Rattle.ref_world.proofs.Refusals.{empty_at_adopt}
+use Rattle.ref_world.proofs.SoundCores.{sound_after}
+use Rattle.ref_world.proofs.world.World.adopt.Goals as goal
+
+pub returns-in_err-take : goal.returns-in_err-take
+returns-in_err-take g c =
+    let old : Core =
+    record { heap = c.self.inside.heap; hands = c.self.inside.hands; queues = c.self.inside.queues.items } in
+    let slot =
+    subst (λ (o : Core). drop_refusal o.heap.mark.heap c.args.mutator c.args.slot ≡ None) (sym c.self.view_is)
+    c.in_ok-check_slot.ensures in
+    let p = err_from_is_err_and c.from_residual-in_err-take.result c.from_residual-in_err-take.ensures.1 in
+    rw (p.1, p.2, ← c.self.view_is, c.in_err-take.ensures.kept)
+    (empty_at_adopt old c.self.invariant.reached c.args.mutator c.args.slot c.in_err-take.field-0.0 slot
+    c.in_err-take.ensures.refused)
+
+pub told-requires : goal.told-requires
+told-requires g c =
+    let old : Core =
+    record { heap = c.self.inside.heap; hands = c.self.inside.hands; queues = c.self.inside.queues.items } in
+    let slot =
+    subst (λ (o : Core). drop_refusal o.heap.mark.heap c.args.mutator c.args.slot ≡ None) (sym c.self.view_is)
+    c.in_ok-check_slot.ensures in
+    let notice = c.in_ok-take.field-0 in
+    let reply =
+    adopt_reply old c.self.invariant.reached c.args.mutator c.args.slot notice c.into_hold-hold.result _ slot
+    c.in_ok-take.ensures.refused c.in_ok-take.ensures.answer c.into_hold-hold.ensures c.apply_heap.ensures.answer in
+    adopted_told old.heap.mark.heap_no c.args.mutator c.args.slot c.into_hold-hold.result c.apply_heap.result notice.object
+    c.apply_heap.ensures.gives reply
+
+pub invariant_of-self : goal.invariant_of-self
+invariant_of-self g c = rw c.in_err-take.ensures.kept c.self.invariant
+
+pub invariant_of-self-2 : goal.invariant_of-self-2
+invariant_of-self-2 g c =
+    let old : Core =
+    record { heap = c.self.inside.heap; hands = c.self.inside.hands; queues = c.self.inside.queues.items } in
+    let slot =
+    subst (λ (o : Core). drop_refusal o.heap.mark.heap c.args.mutator c.args.slot ≡ None) (sym c.self.view_is)
+    c.in_ok-check_slot.ensures in
+    let notice = c.in_ok-take.field-0 in
+    sound_after old (record old { heap = c.apply_heap.new.heap; hands = c.take.new.self })
+    (steps.Adopt c.args.mutator c.args.slot) c.told.result refl c.self.invariant
+    (adopt_done old c.self.invariant.reached c.args.mutator c.args.slot notice c.into_hold-hold.result slot
+    c.in_ok-take.ensures.refused c.in_ok-take.ensures.answer c.into_hold-hold.ensures
+    (c.told.ensures ∙ c.apply_heap.ensures.answer) c.apply_heap.ensures.after c.in_ok-take.ensures.taken)
+
+pub returns : goal.returns
+returns g c =
+    let old : Core =
+    record { heap = c.self.inside.heap; hands = c.self.inside.hands; queues = c.self.inside.queues.items } in
+    let slot =
+    subst (λ (o : Core). drop_refusal o.heap.mark.heap c.args.mutator c.args.slot ≡ None) (sym c.self.view_is)
+    c.in_ok-check_slot.ensures in
+    let notice = c.in_ok-take.field-0 in
+    rw (← c.self.view_is)
+    (adopt_done old c.self.invariant.reached c.args.mutator c.args.slot notice c.into_hold-hold.result slot
+    c.in_ok-take.ensures.refused c.in_ok-take.ensures.answer c.into_hold-hold.ensures
+    (c.told.ensures ∙ c.apply_heap.ensures.answer) c.apply_heap.ensures.after c.in_ok-take.ensures.taken)

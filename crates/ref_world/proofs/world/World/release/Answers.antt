@@ -1,0 +1,50 @@
+use Rattle.std.proofs.Common.{refl, ◌∙◌}
+use Rattle.std.proofs.lemmas.Result.{err_from_is_err_and}
+use Rattle.ref_base.specs.declared.step.Step.TheVariants as steps
+use Rattle.ref_world.specs.Cores.{Core}
+use Rattle.ref_world.proofs.HandRows.{release_reply, release_done, released_told}
+use Rattle.ref_world.proofs.Refusals.{empty_at_release}
+use Rattle.ref_world.proofs.SoundCores.{sound_after}
+use Rattle.ref_world.proofs.world.World.release.Goals as goal
+
+pub returns-in_err-take : goal.returns-in_err-take
+returns-in_err-take g c =
+    let old : Core =
+    record { heap = c.self.inside.heap; hands = c.self.inside.hands; queues = c.self.inside.queues.items } in
+    let p = err_from_is_err_and c.from_residual.result c.from_residual.ensures.1 in
+    rw (p.1, p.2, ← c.self.view_is, c.in_err-take.ensures.kept)
+    (empty_at_release old c.self.invariant.reached c.args.actor c.in_err-take.field-0.0 c.in_err-take.ensures.refused)
+
+pub told-requires : goal.told-requires
+told-requires g c =
+    let old : Core =
+    record { heap = c.self.inside.heap; hands = c.self.inside.hands; queues = c.self.inside.queues.items } in
+    let notice = c.in_ok-take.field-0 in
+    let reply =
+    release_reply old c.self.invariant.reached c.args.actor notice c.into_hold-hold.result _
+    c.in_ok-take.ensures.refused c.in_ok-take.ensures.answer c.into_hold-hold.ensures c.apply_heap.ensures.answer in
+    released_told old.heap.mark.heap_no c.into_hold-hold.result c.apply_heap.result c.apply_heap.ensures.gives reply
+
+pub invariant_of-self : goal.invariant_of-self
+invariant_of-self g c = rw c.in_err-take.ensures.kept c.self.invariant
+
+pub invariant_of-self-2 : goal.invariant_of-self-2
+invariant_of-self-2 g c =
+    let old : Core =
+    record { heap = c.self.inside.heap; hands = c.self.inside.hands; queues = c.self.inside.queues.items } in
+    let notice = c.in_ok-take.field-0 in
+    sound_after old (record old { heap = c.apply_heap.new.heap; hands = c.take.new.self })
+    (steps.Release c.args.actor) c.told.result refl c.self.invariant
+    (release_done old c.self.invariant.reached c.args.actor notice c.into_hold-hold.result
+    c.in_ok-take.ensures.refused c.in_ok-take.ensures.answer c.into_hold-hold.ensures
+    (c.told.ensures ∙ c.apply_heap.ensures.answer) c.apply_heap.ensures.after c.in_ok-take.ensures.taken)
+
+pub returns : goal.returns
+returns g c =
+    let old : Core =
+    record { heap = c.self.inside.heap; hands = c.self.inside.hands; queues = c.self.inside.queues.items } in
+    let notice = c.in_ok-take.field-0 in
+    rw (← c.self.view_is)
+    (release_done old c.self.invariant.reached c.args.actor notice c.into_hold-hold.result
+    c.in_ok-take.ensures.refused c.in_ok-take.ensures.answer c.into_hold-hold.ensures
+    (c.told.ensures ∙ c.apply_heap.ensures.answer) c.apply_heap.ensures.after c.in_ok-take.ensures.taken)

@@ -1,0 +1,73 @@
+-- The core, as plain data: the heap, everybody's hands and the queues (this project's profile).
+use Rattle.std.specs.Prelude.{ℕ, Bool, nat_lt, List, Option, None, length, replicate, slice_index_or, slice_set}
+use Rattle.ref_base.specs.QueueLists.{Lists, new_queue, new_queues}
+use Rattle.ref_base.specs.Worlds.{Notice}
+use Rattle.ref_base.specs.declared.actor.Actor.{Actor}
+use Rattle.ref_base.specs.declared.actor.Actor.TheVariants.{Mutator, Worker}
+use Rattle.ref_base.specs.declared.config.Config.{Config}
+use Rattle.ref_base.specs.declared.fault.Fault.{Fault}
+use Rattle.ref_base.specs.declared.fault.Fault.TheVariants.{NoSuchActor, BadQueue}
+use Rattle.ref_base.specs.Refusals.{unless, unless_full, empty_hand_refusal, is_mutator, is_queue}
+use Rattle.ref_clear.specs.ClearHeaps.{ClearHeap, HeldNotice, first_clear_heap}
+
+-- the hands of mutators and of workers, each in the order of their numbers
+pub record Hands : Type 0 where
+  pub mutators : List (Option Notice)
+  pub workers : List (Option Notice)
+
+-- a heap, the hands, and the queues in the order of their numbers
+pub record Core : Type 0 where
+  pub heap : ClearHeap
+  pub hands : Hands
+  pub queues : List (Lists Notice)
+
+-- a notice, but for its heap
+abbrev pub as_notice : HeldNotice → Notice
+as_notice held = record { object = held.hold.object; queue = held.queue; cause = held.cause }
+
+-- ---- at first there is nothing anywhere
+
+abbrev pub first_hands : Config → Hands
+first_hands config = record { mutators = replicate config.mutators None; workers = replicate config.workers None }
+
+-- the heap has number 0
+abbrev pub first_core : Config → Core
+first_core config = record {
+  heap = first_clear_heap config 0 1 0;
+  hands = first_hands config;
+  queues = new_queues 0 config.queues;
+}
+
+-- ---- hands and queues
+
+-- whether there is such a hand
+abbrev pub is_there : Hands → Actor → Bool
+is_there hands (Mutator m) = nat_lt m (length hands.mutators)
+is_there hands (Worker k) = nat_lt k (length hands.workers)
+
+abbrev pub hand_in : Hands → Actor → Option Notice
+hand_in hands (Mutator m) = slice_index_or hands.mutators m None
+hand_in hands (Worker k) = slice_index_or hands.workers k None
+
+abbrev pub with_hand_in : Hands → Actor → Option Notice → Hands
+with_hand_in hands (Mutator m) hand = record hands { mutators = slice_set hands.mutators m hand }
+with_hand_in hands (Worker k) hand = record hands { workers = slice_set hands.workers k hand }
+
+-- of a step that fills a hand: NoSuchActor, then HandFull
+abbrev pub filling_refusal : Hands → Actor → Option Fault
+filling_refusal hands who = unless (is_there hands who) NoSuchActor (unless_full (hand_in hands who) None)
+
+-- and of one that empties it: NoSuchActor, then HandEmpty
+abbrev pub emptying_refusal : Hands → Actor → Option Fault
+emptying_refusal hands who = unless (is_there hands who) NoSuchActor (empty_hand_refusal (hand_in hands who))
+
+abbrev pub queue_at : Core → ℕ → Lists Notice
+queue_at c q = slice_index_or c.queues q (new_queue q)
+
+-- BadQueue where there is no queue of this number
+abbrev pub queue_refusal : Core → ℕ → Option Fault
+queue_refusal c q = unless (is_queue c.heap.mark.heap q) BadQueue None
+
+-- of a mutator that names a queue: NoSuchActor, then BadQueue
+abbrev pub calling_refusal : Core → ℕ → ℕ → Option Fault
+calling_refusal c m q = unless (is_mutator c.heap.mark.heap m) NoSuchActor (queue_refusal c q)

@@ -1,0 +1,55 @@
+-- What the heap's machine answers, told as the rows of a trace tell it (this project's profile).
+use Rattle.std.specs.Prelude.{◌≡◌, ℕ, Option, Some, None, Result, Ok, Err}
+use Rattle.ref_base.specs.HeapSteps.{NamedStep}
+use Rattle.ref_base.specs.Told.{told_notice}
+use Rattle.ref_base.specs.declared.fault.Fault.{Fault}
+use Rattle.ref_base.specs.declared.heap_step.HeapStep.TheVariants as heap
+use Rattle.ref_base.specs.declared.heap_step.HoldName.{HoldName}
+use Rattle.ref_base.specs.declared.reply.Reply.{Reply}
+use Rattle.ref_base.specs.declared.reply.Reply.TheVariants as replies
+use Rattle.ref_clear.specs.ClearHeaps.{HeldNotice}
+use Rattle.ref_world.specs.declared.heap_machine.HeapReply.{HeapReply}
+use Rattle.ref_world.specs.declared.heap_machine.HeapReply.TheVariants.{Told, Notice, Held, Back}
+
+-- the reply as plain data
+abbrev pub told_reply : HeapReply → Reply
+told_reply (Told reply) = reply
+told_reply (Notice notice) = replies.Notice notice.hold.object notice.queue notice.cause
+told_reply (Held hold) = replies.Object hold.object
+told_reply (Back fault hold) = replies.Refused fault
+
+-- What a step gives out: only an unhook and a hand give notices, and tell of none that they don't give; only a hold
+-- gives a hold, and each is of its own heap; and only an adopt and a release give a hold back, which is theirs.
+abbrev pub Gives : (heap_no : ℕ) → NamedStep → HeapReply → Type 0
+Gives heap_no (heap.Unhook m s) (Told reply) = told_notice reply ≡ None
+Gives heap_no (heap.Hand k) (Told reply) = told_notice reply ≡ None
+Gives heap_no step (Told reply) = Unit {0}
+Gives heap_no (heap.Unhook m s) (Notice notice) = notice.hold.heap_no ≡ heap_no
+Gives heap_no (heap.Hand k) (Notice notice) = notice.hold.heap_no ≡ heap_no
+Gives heap_no (heap.Hold m s) (Held hold) = hold.heap_no ≡ heap_no
+Gives heap_no (heap.Adopt m d hold) (Back fault back) = back ≡ hold
+Gives heap_no (heap.Release hold) (Back fault back) = back ≡ hold
+Gives heap_no step reply = ⊥
+
+-- nothing is given out
+abbrev pub IsTold : HeapReply → Type 0
+IsTold (Told reply) = Unit {0}
+IsTold reply = ⊥
+
+-- ---- what calls of a heap give, as replies of its machine
+
+-- the notice that a call gave, if it gave one
+abbrev pub IsGiven : Result (Option HeldNotice) Fault → HeapReply → Type 0
+IsGiven (Ok (Some notice)) reply = reply ≡ Notice notice
+IsGiven (Ok None) reply = reply ≡ Told replies.Nothing
+IsGiven (Err fault) reply = reply ≡ Told (replies.Refused fault)
+
+-- the hold that a call gave
+abbrev pub IsHeld : Result HoldName Fault → HeapReply → Type 0
+IsHeld (Ok hold) reply = reply ≡ Held hold
+IsHeld (Err fault) reply = reply ≡ Told (replies.Refused fault)
+
+-- the hold that a call gave back, if it did
+abbrev pub IsBack : {T : Type 0} → Result T (Fault × HoldName) → HeapReply → Type 0
+IsBack (Ok answer) reply = IsTold reply
+IsBack (Err back) reply = reply ≡ Back back.0 back.1

@@ -1,0 +1,5 @@
+pub mod AskedSteps
+pub mod Cores
+pub mod HeapReplies
+pub mod Runs
+pub mod Standing

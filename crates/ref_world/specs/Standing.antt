@@ -1,0 +1,44 @@
+-- Which states of the abstract collector a world stands for, and its rows (this project's profile).
+use Rattle.std.specs.Prelude.{◌≡◌, ℕ, List, Result, Ok, Err}
+use Rattle.ref_base.specs.Collectors.{State, first_state}
+use Rattle.ref_base.specs.CollectorRows.{IsRow, IsRun}
+use Rattle.ref_base.specs.declared.config.Config.{Config}
+use Rattle.ref_base.specs.declared.fault.Fault.{Fault}
+use Rattle.ref_base.specs.declared.reply.Reply.{Reply}
+use Rattle.ref_base.specs.declared.reply.Reply.TheVariants.{Refused}
+use Rattle.ref_base.specs.declared.row.Row.{Row}
+use Rattle.ref_base.specs.declared.step.Step.{Step}
+use Rattle.ref_clear.specs.Standing.{Stands as HeapStands}
+use Rattle.ref_world.specs.Cores.{Core, queue_at}
+
+-- its heap, which has number 0, stands for the state, and hands and queues are the state's
+pub record Stands (c : Core) (a : State) : Type 0 where
+  pub heap : HeapStands c.heap a
+  pub number : c.heap.mark.heap_no ≡ 0
+  pub mutator_hands : a.world.mutator_hands ≡ c.hands.mutators
+  pub worker_hands : a.world.worker_hands ≡ c.hands.workers
+  pub queues : a.world.queues ≡ c.queues
+
+-- the step, answered so, is one row of the abstract collector, from each state that the world stands for to one for
+-- which what is left stands
+abbrev pub IsRowOf : Core → Step → Reply → Core → Type 0
+IsRowOf old step reply new =
+    (a : State) → Stands old a → (b : State) × IsRow a (record { step = step; reply = reply }) b × Stands new b
+
+-- the same of a call that does the step, or refuses it
+abbrev pub Does : Core → Step → Result Reply Fault → Core → Type 0
+Does old step (Ok reply) new = IsRowOf old step reply new
+Does old step (Err fault) new = IsRowOf old step (Refused fault) new
+
+-- a legal trace leads to a state for which the world stands
+pub record IsReached (c : Core) : Type 0 where
+  pub config : Config
+  pub rows : List Row
+  pub state : State
+  pub run : IsRun (first_state config) rows state
+  pub stands : Stands c state
+
+-- and each queue knows its number
+pub record IsSound (c : Core) : Type 0 where
+  pub reached : IsReached c
+  pub numbered : (q : ℕ) → (queue_at c q).queue ≡ q

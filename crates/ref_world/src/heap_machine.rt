@@ -1,0 +1,171 @@
+//! The heap's own machine: one step in, one reply out, with the holds and notices that go with them.
+
+ghost use Rattle.std.specs.Prelude.{◌≡◌, true};
+ghost use Rattle.ref_base.specs.Collectors.{State};
+ghost use Rattle.ref_base.specs.CollectorRows.{IsHeapRow};
+ghost use Rattle.ref_mark.specs.MarkCalls.{reply_of, reply_or_back, hold_reply, done_reply};
+ghost use Rattle.ref_clear.specs.ClearCalls.{answer_in, after_in, notice_reply, IsOfHeap};
+ghost use Rattle.ref_clear.specs.Standing.{Stands};
+ghost use Rattle.ref_world.specs.HeapReplies.{told_reply, Gives, IsGiven, IsHeld, IsBack, IsTold};
+
+use crate::replies::{began, done, doomed, looked, made, refers, scanned, swept, value};
+use ref_base::{Fault, HeapStep, ObjNo, Reply};
+use ref_clear::{Heap, Notice};
+use ref_objects::Hold;
+use std::alloc::{Allocator, Global};
+
+/// The heap that a world has.
+pub type WorldHeap<A = Global> = Heap<A>;
+
+/// What a step of a heap answers, with what it gives out.
+#[derive(Debug)]
+pub enum HeapReply {
+    /// The reply, and nothing is given out.
+    Told(Reply),
+    /// The notice that an unhook or a hand gives.
+    Notice(Notice),
+    /// The hold that a hold gives.
+    Held(Hold),
+    /// An adopt or a release is refused with this fault, and its hold comes back.
+    Back(Fault, Hold),
+}
+
+/// Does one step of a heap, and answers it. Refused, with the first fault that applies, it has changed nothing, and the
+/// hold of an adopt or a release comes back. Costs are those of the heap's calls. Takes no memory.
+pub fn apply_heap<A: Allocator + Copy>(heap: &mut WorldHeap<A>, step: HeapStep<Hold>) -> HeapReply
+    ensures answer { told_reply result ≡ answer_in heap.old step }
+    ensures gives { Gives heap.old.mark.heap_no step result }
+    ensures after { heap.new ≡ after_in heap.old step }
+
+    // One row of the heap's machine, from each state that the heap stands for to one that it then stands for.
+    ensures row { (a : State) → Stands heap.old a
+        → (b : State) × IsHeapRow heap.old.mark.heap_no a step (told_reply result) b × Stands heap.new b }
+{
+    called(heap, step)
+}
+
+// The call of the heap that does the step. That it is a row follows from these clauses, once for all steps.
+fn called<A: Allocator + Copy>(heap: &mut WorldHeap<A>, step: HeapStep<Hold>) -> HeapReply
+    ensures answer { told_reply result ≡ answer_in heap.old step }
+    ensures gives { Gives heap.old.mark.heap_no step result }
+    ensures after { heap.new ≡ after_in heap.old step }
+{
+    match step {
+        HeapStep::Hold { mutator, slot } => held(heap.hold(mutator, slot)),
+        HeapStep::Adopt {
+            mutator,
+            slot,
+            hold,
+        } => adopted(heap.adopt(mutator, slot, hold)),
+        HeapStep::Release { hold } => released(heap.release(hold)),
+        HeapStep::Unhook { mutator, reference } => given(heap.unhook(mutator, reference)),
+        HeapStep::Hand { worker } => given(heap.hand(worker)),
+        HeapStep::New {
+            mutator,
+            slot,
+            fields,
+        } => HeapReply::Told(made(heap.alloc_obj(mutator, slot, fields))),
+        HeapStep::Refer {
+            mutator,
+            strength,
+            slot,
+            source,
+            queue,
+            fields,
+        } => HeapReply::Told(made(heap.alloc_ref(mutator, slot, strength, source, queue, fields))),
+        HeapStep::Store {
+            mutator,
+            object,
+            field,
+            value,
+        } => HeapReply::Told(done(heap.store(mutator, object, field, value))),
+        HeapStep::Load {
+            mutator,
+            slot,
+            object,
+            field,
+        } => HeapReply::Told(value(heap.load(mutator, slot, object, field))),
+        HeapStep::Copy {
+            mutator,
+            slot,
+            source,
+        } => HeapReply::Told(value(heap.copy(mutator, slot, source))),
+        HeapStep::Drop { mutator, slot } => HeapReply::Told(done(heap.drop_slot(mutator, slot))),
+        HeapStep::Get {
+            mutator,
+            slot,
+            reference,
+        } => HeapReply::Told(value(heap.get(mutator, slot, reference))),
+        HeapStep::Clear { mutator, reference } => {
+            HeapReply::Told(done(heap.clear(mutator, reference)))
+        }
+        HeapStep::RefersTo {
+            mutator,
+            reference,
+            other,
+        } => HeapReply::Told(refers(heap.refers_to(mutator, reference, other))),
+        HeapStep::Begin { now, urgency } => HeapReply::Told(began(heap.begin(now, urgency))),
+        HeapStep::Scan { worker } => HeapReply::Told(scanned(heap.scan(worker))),
+        HeapStep::EndMark => HeapReply::Told(doomed(heap.end_mark())),
+        HeapStep::ClearNext { worker } => HeapReply::Told(looked(heap.clear_next(worker))),
+        HeapStep::EndClear => HeapReply::Told(done(heap.end_clear())),
+        HeapStep::Sweep { worker } => HeapReply::Told(swept(heap.sweep(worker))),
+        HeapStep::EndSweep => HeapReply::Told(done(heap.end_sweep())),
+    }
+}
+
+// A hold, or the fault.
+fn held(answer: Result<Hold, Fault>) -> HeapReply
+    ensures answer { told_reply result ≡ reply_of hold_reply answer }
+    ensures held { IsHeld answer result }
+{
+    match answer {
+        Ok(hold) => HeapReply::Held(hold),
+        Err(fault) => HeapReply::Told(Reply::Refused(fault)),
+    }
+}
+
+// A notice, none, or the fault.
+fn given(answer: Result<Option<Notice>, Fault>) -> HeapReply
+    ensures answer { told_reply result ≡ reply_of notice_reply answer }
+    ensures given { IsGiven answer result }
+{
+    match answer {
+        Ok(Some(notice)) => HeapReply::Notice(notice),
+        Ok(None) => HeapReply::Told(Reply::Nothing),
+        Err(fault) => HeapReply::Told(Reply::Refused(fault)),
+    }
+}
+
+// The object of the hold that was taken back, or the fault with the hold.
+fn adopted(answer: Result<ObjNo, (Fault, Hold)>) -> HeapReply
+    ensures answer { told_reply result ≡ reply_or_back Reply.Object answer }
+    ensures back { IsBack answer result }
+{
+    match answer {
+        Ok(object) => HeapReply::Told(Reply::Object(object)),
+        Err((fault, hold)) => HeapReply::Back(fault, hold),
+    }
+}
+
+// That the hold was taken back, or the fault with the hold.
+fn released(answer: Result<(), (Fault, Hold)>) -> HeapReply
+    ensures answer { told_reply result ≡ reply_or_back done_reply answer }
+    ensures back { IsBack answer result }
+{
+    match answer {
+        Ok(()) => HeapReply::Told(Reply::Done),
+        Err((fault, hold)) => HeapReply::Back(fault, hold),
+    }
+}
+
+// The reply of a step that gives nothing out.
+pub(crate) fn told(reply: HeapReply) -> Reply
+    requires { IsTold reply }
+    ensures { result ≡ told_reply reply }
+{
+    match reply {
+        HeapReply::Told(reply) => reply,
+        _ => unreachable!(),
+    }
+}

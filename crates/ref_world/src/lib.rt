@@ -1,0 +1,15 @@
+//! The core: one heap, its queues and everybody's hands. Steps of mutators, workers and pollers go in, one by one or as
+//! a list, and each is answered by a row of the abstract collector.
+#![tactic(auto)]
+
+mod hands;
+mod heap_machine;
+mod notice;
+mod replies;
+mod trace;
+mod world;
+
+pub use heap_machine::{HeapReply, WorldHeap, apply_heap};
+pub use notice::WorldNotice;
+pub use trace::{Trace, run};
+pub use world::World;

@@ -1,0 +1,106 @@
+//! What the calls of a heap answer, told as replies.
+
+ghost use Rattle.std.specs.Prelude.{◌≡◌};
+ghost use Rattle.ref_base.specs.CollectorRows.{value_reply};
+ghost use Rattle.ref_mark.specs.MarkCalls.{reply_of, done_reply, scan_reply};
+ghost use Rattle.ref_clear.specs.ClearCalls.{looked_reply, swept_reply};
+
+use ref_base::{Fault, ObjNo, Reply};
+use ref_clear::Looked;
+
+// The object that was made.
+pub(crate) fn made(answer: Result<ObjNo, Fault>) -> Reply
+    ensures { result ≡ reply_of Reply.Object answer }
+{
+    match answer {
+        Ok(object) => Reply::Object(object),
+        Err(fault) => Reply::Refused(fault),
+    }
+}
+
+pub(crate) fn done(answer: Result<(), Fault>) -> Reply
+    ensures { result ≡ reply_of done_reply answer }
+{
+    match answer {
+        Ok(()) => Reply::Done,
+        Err(fault) => Reply::Refused(fault),
+    }
+}
+
+// What a slot holds now.
+pub(crate) fn value(answer: Result<Option<ObjNo>, Fault>) -> Reply
+    ensures { result ≡ reply_of value_reply answer }
+{
+    match answer {
+        Ok(Some(object)) => Reply::Object(object),
+        Ok(None) => Reply::Null,
+        Err(fault) => Reply::Refused(fault),
+    }
+}
+
+pub(crate) fn refers(answer: Result<bool, Fault>) -> Reply
+    ensures { result ≡ reply_of Reply.Refers answer }
+{
+    match answer {
+        Ok(refers) => Reply::Refers(refers),
+        Err(fault) => Reply::Refused(fault),
+    }
+}
+
+pub(crate) fn began(answer: Result<u64, Fault>) -> Reply
+    ensures { result ≡ reply_of Reply.Cycle answer }
+{
+    match answer {
+        Ok(cycle) => Reply::Cycle(cycle),
+        Err(fault) => Reply::Refused(fault),
+    }
+}
+
+pub(crate) fn scanned(answer: Result<Option<ObjNo>, Fault>) -> Reply
+    ensures { result ≡ reply_of scan_reply answer }
+{
+    match answer {
+        Ok(Some(object)) => Reply::Scanned(object),
+        Ok(None) => Reply::Nothing,
+        Err(fault) => Reply::Refused(fault),
+    }
+}
+
+pub(crate) fn doomed(answer: Result<u32, Fault>) -> Reply
+    ensures { result ≡ reply_of Reply.Doomed answer }
+{
+    match answer {
+        Ok(count) => Reply::Doomed(count),
+        Err(fault) => Reply::Refused(fault),
+    }
+}
+
+pub(crate) fn looked(answer: Result<Option<Looked>, Fault>) -> Reply
+    ensures { result ≡ reply_of looked_reply answer }
+{
+    match answer {
+        Ok(Some(looked)) => looked_at(looked),
+        Ok(None) => Reply::Nothing,
+        Err(fault) => Reply::Refused(fault),
+    }
+}
+
+fn looked_at(looked: Looked) -> Reply
+    ensures { result ≡ looked_reply (Some looked) }
+{
+    match looked {
+        Looked::Cleared(reference) => Reply::Cleared(reference),
+        Looked::Kept(reference) => Reply::Kept(reference),
+        Looked::Skipped(reference) => Reply::Skipped(reference),
+    }
+}
+
+pub(crate) fn swept(answer: Result<Option<u32>, Fault>) -> Reply
+    ensures { result ≡ reply_of swept_reply answer }
+{
+    match answer {
+        Ok(Some(count)) => Reply::Swept(count),
+        Ok(None) => Reply::Nothing,
+        Err(fault) => Reply::Refused(fault),
+    }
+}

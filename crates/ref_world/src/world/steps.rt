@@ -1,0 +1,234 @@
+//! One step of a world.
+
+ghost use Rattle.std.specs.Prelude.{◌≡◌, true, None};
+ghost use Rattle.ref_base.specs.Told.{told_notice};
+ghost use Rattle.ref_base.specs.Refusals.{drop_refusal};
+ghost use Rattle.ref_objects.specs.Grounds.{IsRefused};
+ghost use Rattle.ref_clear.specs.ClearCalls.{answer_in, after_in};
+ghost use Rattle.ref_world.specs.AskedSteps.{is_quiet, is_plain, Asks, may_give_notice, received};
+ghost use Rattle.ref_world.specs.Cores.{filling_refusal};
+ghost use Rattle.ref_world.specs.Standing.{IsRowOf, Does};
+
+use super::World;
+use crate::hands::Hands;
+use crate::heap_machine::told;
+use crate::{HeapReply, WorldHeap, WorldNotice, apply_heap};
+use ref_base::{Actor, Fault, HeapStep, MutNo, QueueNo, Reply, SlotNo, Step, WorkerNo};
+use ref_objects::Hold;
+use std::alloc::Allocator;
+
+/// How many slots a mutator has.
+const SLOTS: u32 = 16;
+
+impl<A: Allocator + Copy> World<A> {
+    /// Does one step, and answers it. Refused, with the first fault that applies, it has changed nothing. A put is in
+    /// expected constant time, amortized, and takes memory where its notice is added; where that is refused, the notice
+    /// is in the hand again. A poll and a close are in constant time. Any other step costs what the heap's call costs,
+    /// and takes no memory.
+    pub fn step(&mut self, step: Step) -> Reply
+        ensures row { IsRowOf self.old step result self.new }
+    {
+        match self.perform(step) {
+            Ok(reply) => reply,
+            Err(fault) => Reply::Refused(fault),
+        }
+    }
+
+    // The reply to a step, or why it is refused.
+    fn perform(&mut self, step: Step) -> Result<Reply, Fault>
+        ensures { Does self.old step result self.new }
+    {
+        match step {
+            Step::Unhook { mutator, reference } => self.unhook(mutator, reference),
+            Step::Hand { worker } => self.hand(worker),
+            Step::Put { actor } => self.put(actor),
+            Step::Poll { mutator, queue } => self.poll(mutator, queue),
+            Step::Adopt { mutator, slot } => self.adopt(mutator, slot),
+            Step::Release { actor } => self.release(actor),
+            Step::Close { mutator, queue } => self.close(mutator, queue),
+            _ => Ok(self.ask(step)),
+        }
+    }
+
+    // A step that is the heap's alone.
+    fn ask(&mut self, step: Step) -> Reply
+        requires { is_quiet step ≡ true }
+        ensures { IsRowOf self.old step result self.new }
+    {
+        told(apply_heap(&mut self.heap, asked_by(step)))
+    }
+
+    // Clears the reference in a slot, and takes its notice into the hand if it has a queue.
+    fn unhook(&mut self, mutator: MutNo, reference: SlotNo) -> Result<Reply, Fault>
+        ensures { Does self.old (Step.Unhook mutator reference) result self.new }
+    {
+        self.check_slot(mutator, reference)?;
+        self.hands.check_empty(Actor::Mutator(mutator))?;
+        let asked = HeapStep::Unhook { mutator, reference };
+        let actor = Actor::Mutator(mutator);
+        Ok(receive(&mut self.heap, &mut self.hands, actor, asked))
+    }
+
+    // Takes the notice of the next reference that the worker cleared into its hand.
+    fn hand(&mut self, worker: WorkerNo) -> Result<Reply, Fault>
+        ensures { Does self.old (Step.Hand worker) result self.new }
+    {
+        self.hands.check_empty(Actor::Worker(worker))?;
+        let asked = HeapStep::Hand { worker };
+        let actor = Actor::Worker(worker);
+        Ok(receive(&mut self.heap, &mut self.hands, actor, asked))
+    }
+
+    // The slot then holds what the hand's notice reports.
+    fn adopt(&mut self, mutator: MutNo, slot: SlotNo) -> Result<Reply, Fault>
+        ensures { Does self.old (Step.Adopt mutator slot) result self.new }
+    {
+        self.check_slot(mutator, slot)?;
+        let hold = self.hands.take(Actor::Mutator(mutator))?.into_hold();
+        let asked = HeapStep::Adopt {
+            mutator,
+            slot,
+            hold,
+        };
+        Ok(told(apply_heap(&mut self.heap, asked)))
+    }
+
+    // Gives the hand's notice up.
+    fn release(&mut self, actor: Actor) -> Result<Reply, Fault>
+        ensures { Does self.old (Step.Release actor) result self.new }
+    {
+        let hold = self.hands.take(actor)?.into_hold();
+        let asked = HeapStep::Release { hold };
+        Ok(told(apply_heap(&mut self.heap, asked)))
+    }
+
+    // That there is such a mutator, and it has such a slot: NoSuchActor.
+    fn check_slot(&self, mutator: MutNo, slot: SlotNo) -> Result<(), Fault>
+        ensures { IsRefused (drop_refusal self.now.heap.mark.heap mutator slot) result }
+    {
+        if mutator.0 < self.heap.config().mutators && slot.0 < SLOTS {
+            Ok(())
+        } else {
+            Err(Fault::NoSuchActor)
+        }
+    }
+}
+
+// Asks a step of the heap that may give a notice. The hand, which is empty, then holds it.
+fn receive<A: Allocator + Copy>(
+    heap: &mut WorldHeap<A>,
+    hands: &mut Hands<A>,
+    actor: Actor,
+    asked: HeapStep<Hold>,
+) -> Reply
+    requires own { heap.old.mark.heap_no ≡ 0 }
+    requires gives { may_give_notice asked ≡ true }
+    requires empty { filling_refusal hands.old actor ≡ None }
+    ensures answer { result ≡ answer_in heap.old asked }
+    ensures heap { heap.new ≡ after_in heap.old asked }
+    ensures hands { hands.new ≡ received hands.old actor (told_notice result) }
+{
+    match apply_heap(heap, asked) {
+        HeapReply::Told(reply) => reply,
+        HeapReply::Notice(notice) => {
+            let notice = WorldNotice::new(notice);
+            let reply = notice.reply();
+            hands.fill(actor, notice);
+            reply
+        }
+        _ => unreachable!(),
+    }
+}
+
+// What a step that is the heap's alone asks of it.
+fn asked_by(step: Step) -> HeapStep<Hold>
+    requires { is_quiet step ≡ true }
+    ensures asked { Asks step result }
+    ensures plain { is_plain result ≡ true }
+{
+    match step {
+        Step::New {
+            mutator,
+            slot,
+            fields,
+        } => HeapStep::New {
+            mutator,
+            slot,
+            fields,
+        },
+        Step::Refer {
+            mutator,
+            strength,
+            slot,
+            source,
+            queue,
+            fields,
+        } => HeapStep::Refer {
+            mutator,
+            strength,
+            slot,
+            source,
+            queue,
+            fields,
+        },
+        Step::Store {
+            mutator,
+            object,
+            field,
+            value,
+        } => HeapStep::Store {
+            mutator,
+            object,
+            field,
+            value,
+        },
+        Step::Load {
+            mutator,
+            slot,
+            object,
+            field,
+        } => HeapStep::Load {
+            mutator,
+            slot,
+            object,
+            field,
+        },
+        Step::Copy {
+            mutator,
+            slot,
+            source,
+        } => HeapStep::Copy {
+            mutator,
+            slot,
+            source,
+        },
+        Step::Drop { mutator, slot } => HeapStep::Drop { mutator, slot },
+        Step::Get {
+            mutator,
+            slot,
+            reference,
+        } => HeapStep::Get {
+            mutator,
+            slot,
+            reference,
+        },
+        Step::Clear { mutator, reference } => HeapStep::Clear { mutator, reference },
+        Step::RefersTo {
+            mutator,
+            reference,
+            other,
+        } => HeapStep::RefersTo {
+            mutator,
+            reference,
+            other,
+        },
+        Step::Begin { now, urgency } => HeapStep::Begin { now, urgency },
+        Step::Scan { worker } => HeapStep::Scan { worker },
+        Step::EndMark => HeapStep::EndMark,
+        Step::ClearNext { worker } => HeapStep::ClearNext { worker },
+        Step::EndClear => HeapStep::EndClear,
+        Step::Sweep { worker } => HeapStep::Sweep { worker },
+        Step::EndSweep => HeapStep::EndSweep,
+        _ => unreachable!(),
+    }
+}
