@@ -12,7 +12,6 @@ pub mod Rebuilding
 pub mod OneReading
 pub mod OneGraph
 pub mod FaultLaws
-pub mod Pushes
 pub mod AnswerLemmas
 pub mod TraceLemmas
 pub mod ListingLemmas

@@ -26,8 +26,8 @@ use std::alloc::{AllocError, Allocator};
 /// out. `NoMemory` may come in place of each but the last. A growth that is refused inside a put is a row of the trace,
 /// and the script goes on.
 ///
-/// Beside the text and its trace, the run takes at most 96 bytes a step, and what the world takes. All its memory is of
-/// this allocator.
+/// Beside the text and its trace, the run takes at most 104 bytes a step, 32 for the step and 72 for its row, and what the
+/// world takes. All its memory is of this allocator.
 pub fn run_script<R: TextSource, W: TextSink, A: Allocator + Copy>(
     alloc: A,
     reader: &mut R,
@@ -70,7 +70,7 @@ fn rows_of<A: Allocator + Copy>(alloc: A, script: Script<A>) -> Result<Vec<Row, 
     ensures err { OnErr result (result ≡ Err TextFault.NoMemory) }
 {
     let Script { config, mut steps } = script;
-    // So that steps and rows together take no more than 96 bytes a step.
+    // Rows come beside the steps, so the room that no step uses is given back before.
     steps.shrink_to_fit();
     // A script's configuration is within its limits, so that only memory can be wanting.
     let Ok(world) = World::new(alloc, config) else {
