@@ -1,17 +1,13 @@
 -- The definitions at work on what one can read off by hand.
-use Rattle.std.proofs.Common.{◌≡◌, ◌^◌, true, false, List, [], ◌∷◌, ◌++◌, Some, None, codes, inl, inr, refl, arith}
-use Rattle.refrun.specs.QueueRows.{put_into, taken_from, was_closed}
-use Rattle.ref_base.specs.declared.config.Config.{Config}
-use Rattle.ref_base.specs.declared.fault.Fault.TheVariants.{HandEmpty, NoMemory}
-use Rattle.refrun.specs.declared.rows.Reply.TheVariants as replies
-use Rattle.refrun.specs.declared.rows.Row.{Row}
-use Rattle.refrun.specs.declared.rows.Step.TheVariants.{New, Weak, Unhook, Put, Poll, Close}
+use Rattle.std.proofs.Common.{◌≡◌, ◌^◌, true, false, [], ◌∷◌, ◌++◌, Some, None, codes, refl, arith}
+use Rattle.ref_base.specs.declared.actor.Actor.TheVariants.{Worker}
+use Rattle.ref_base.specs.declared.urgency.Urgency.TheVariants.{Urgent}
+use Rattle.ref_base.specs.declared.step.Step.TheVariants.{Refer, Put, Begin}
 use Rattle.refrun.specs.Lines.{lines_of, content_of, words_of}
 use Rattle.refrun.specs.Numerals.{number_below, number_behind}
 use Rattle.refrun.specs.TextFaults.{script_fault, graph_fault}
 use Rattle.refrun.specs.Spelling.{SpellsStep}
 use Rattle.refrun.specs.StepFaults.{step_fault}
-use Rattle.refrun.specs.Tables.{State, first_state, IsRun}
 use Rattle.refrun.specs.DeclarationFaults.{declaration_fault}
 use Rattle.refrun.specs.Declarations.{Root, Plain, Reference, SpellsDeclared}
 use Rattle.refrun.specs.GraphTexts.{DeclaresGraph}
@@ -43,11 +39,31 @@ twenty_digits_at_most = refl
 
 -- ---- faults go by kind and not by place
 
-a_step_is_spelt : SpellsStep (words_of (codes "m0 weak s1 s00 - 2")) (Weak 0 1 0 None 2)
+a_step_is_spelt : SpellsStep (words_of (codes "m0 weak s1 s00 - 2")) (Refer 0 strengths.Weak 1 0 None 2)
 a_step_is_spelt = (refl, (refl, (refl, (refl, (refl, (refl, tt))))))
 
-the_letter_comes_first : step_fault (words_of (codes "w0 new s0 0")) ≡ Some UnknownStep
-the_letter_comes_first = refl
+a_worker_puts : SpellsStep (words_of (codes "w03 put")) (Put (Worker 3))
+a_worker_puts = (refl, (refl, tt))
+
+the_clock_is_below_two_to_the_64 : SpellsStep (words_of (codes "begin 18446744073709551615 urgent"))
+    (Begin 18446744073709551615 Urgent)
+the_clock_is_below_two_to_the_64 = (refl, (refl, (refl, tt)))
+
+a_greater_clock_is_a_bad_word : step_fault (words_of (codes "begin 18446744073709551616 urgent")) ≡ Some BadWord
+a_greater_clock_is_a_bad_word = refl
+
+an_urgency_has_two_names : step_fault (words_of (codes "begin 5 Normal")) ≡ Some BadWord
+an_urgency_has_two_names = refl
+
+a_step_is_of_its_actors : (step_fault (words_of (codes "w0 new s0 0")) ≡ Some UnknownStep) ×
+    (step_fault (words_of (codes "m0 scan")) ≡ Some UnknownStep)
+a_step_is_of_its_actors = (refl, refl)
+
+a_turn_has_no_actor : step_fault (words_of (codes "w0 endmark")) ≡ Some UnknownStep
+a_turn_has_no_actor = refl
+
+a_name_may_be_missing : step_fault (words_of (codes "w0")) ≡ Some UnknownStep
+a_name_may_be_missing = refl
 
 the_rest_of_the_first_word_is_a_number : step_fault (words_of (codes "move put")) ≡ Some BadWord
 the_rest_of_the_first_word_is_a_number = refl
@@ -63,79 +79,6 @@ an_extra_word_is_no_bad_one = refl
 
 a_header_that_never_comes : script_fault [] ≡ Some (Line 1 BadHeader)
 a_header_that_never_comes = refl
-
--- ---- a run that puts, closes and takes
-
-two_queues : Config
-two_queues = record { mutators = 1; workers = 1; queues = 2; cells = 4; span = 0 }
-
-rows : List Row
-rows = record { step = New 0 0 0; reply = replies.Object 1 }
-    ∷ record { step = Weak 0 1 0 (Some 1) 0; reply = replies.Object 2 }
-    ∷ record { step = Unhook 0 1; reply = replies.Notice 2 1 }
-    ∷ record { step = Put 0; reply = replies.Refused NoMemory }
-    ∷ record { step = Put 0; reply = replies.Added 0 }
-    ∷ record { step = Put 0; reply = replies.Refused HandEmpty }
-    ∷ record { step = Close 0 1; reply = replies.Done }
-    ∷ record { step = Poll 0 1; reply = replies.Took 2 }
-    ∷ record { step = Put 0; reply = replies.Already }
-    ∷ []
-
--- the rows are a run of the table, one of them refused for want of memory and one because the hand is empty
-they_run : (last : State) × IsRun (first_state two_queues) rows last
-unfolding two_queues rows
-they_run = (
-  _,
-  (
-    _,
-    inl (refl, refl),
-    (
-      _,
-      inl (refl, refl),
-      (
-        _,
-        inl (refl, refl),
-        (
-          _,
-          inr (tt, refl, refl),
-          (
-            _,
-            inl (refl, refl),
-            (
-              _,
-              (refl, refl),
-              (
-                _,
-                inl (refl, refl),
-                (
-                  _,
-                  inl (refl, refl),
-                  (
-                    _,
-                    inl (refl, refl),
-                    refl,
-                  ),
-                ),
-              ),
-            ),
-          ),
-        ),
-      ),
-    ),
-  ),
-)
-
-reference_2_is_put_in : put_into 1 rows ≡ 2 ∷ []
-unfolding rows
-reference_2_is_put_in = refl
-
-reference_2_is_taken : taken_from 1 rows ≡ 2 ∷ []
-unfolding rows
-reference_2_is_taken = refl
-
-queue_1_is_closed_and_queue_0_is_not : (was_closed 1 rows ≡ true) × (was_closed 0 rows ≡ false)
-unfolding rows
-queue_1_is_closed_and_queue_0_is_not = (refl, refl)
 
 -- ---- graph texts
 

@@ -10,7 +10,7 @@ use Rattle.std.specs.List.{list_all}
 use Rattle.std.proofs.lemmas.Bool.{cases_Bool, and_parts}
 use Rattle.ref_base.specs.Limits.{is_within_limits}
 use Rattle.ref_base.specs.declared.config.Config.{Config}
-use Rattle.refrun.specs.declared.rows.Step.{Step}
+use Rattle.ref_base.specs.declared.step.Step.{Step}
 use Rattle.refrun.specs.Lines.{TextLine, lines_of}
 use Rattle.refrun.specs.StepFaults.{step_fault}
 use Rattle.refrun.specs.TextFaults.{ScriptHeader, Configuration, Steps, plain_fault, first_fault, script_fault}

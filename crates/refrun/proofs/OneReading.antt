@@ -1,20 +1,22 @@
 -- A text spells at most one script.
-use Rattle.std.proofs.Common.{◌≡◌, ℕ, false, List, [], ◌∷◌, length, Option, Some, None, codes, refl}
-use Rattle.std.proofs.Common.{sym, ap, ◌∙◌, arith}
+use Rattle.std.proofs.Common.{◌≡◌, ℕ, ◌^◌, false, List, [], ◌∷◌, Option, Some, None, codes, refl, sym, ap, ◌∙◌, subst}
 use Rattle.std.specs.Str.{bytes_eq}
 use Rattle.std.proofs.lemmas.Bool.{false≢true}
 use Rattle.std.proofs.lemmas.Slice.Eq.{bytes_eq-Decides}
-use Rattle.ref_base.specs.Texts.{queue_or_none}
-use Rattle.refrun.specs.Steps.{step_words}
+use Rattle.ref_base.specs.Texts.{Word, Letters, Long, slot, queue, queue_or_none, number}
+use Rattle.ref_base.specs.Steps.{step_words, urgency_name}
 use Rattle.ref_base.specs.declared.config.Config.{Config}
-use Rattle.refrun.specs.declared.rows.Step.{Step}
-use Rattle.refrun.specs.declared.rows.Step.TheVariants.{New, Weak, Unhook, Put, Release, Poll, Close}
+use Rattle.ref_base.specs.declared.step.Step.{Step}
 use Rattle.refrun.specs.Lines.{lines_of}
-use Rattle.refrun.specs.Numerals.{number_behind}
-use Rattle.refrun.specs.Spelling.{IsSpelt, SpellsStep}
+use Rattle.refrun.specs.Numerals.{number_below, number_behind}
+use Rattle.refrun.specs.Spelling.{IsSpelt, AreSpelt, SpellsStep}
+use Rattle.refrun.specs.StepForms.{Operand, Slot, Queue, QueueOrNone, Number, Clock, UrgencyName}
+use Rattle.refrun.specs.StepForms.{operands_in, forms_of_letter, turn_forms}
 use Rattle.refrun.specs.ToldLines.{told}
 use Rattle.refrun.specs.Scripts.{config_of, SpellSteps, SpellScript, IsScript}
-use Rattle.refrun.proofs.Spelt.{same_length}
+use Rattle.refrun.proofs.Rebuilding.{rebuild, rebuilt}
+use Rattle.refrun.proofs.Spelt.{actor_number, no_turn}
+use Rattle.refrun.proofs.StepForms.{IsOf, AreOf, Lead, By, Turn, words_behind, forms_of, form_of_step}
 
 pub some_is : {A : Type 0} (o : Option A) (x y : A) → o ≡ Some x → o ≡ Some y → x ≡ y
 some_is o x y h k = let same : some x ≡ some y = sym h ∙ k in cc
@@ -22,101 +24,120 @@ some_is o x y h k = let same : some x ≡ some y = sym h ∙ k in cc
     some : {B : Type 0} → B → Option B
     some z = Some z
 
--- words of two steps are as many as both have
-other_length : (words : List (List ℕ)) (s t : Step) → SpellsStep words s → SpellsStep words t
-    → length (step_words s) ≡ length (step_words t)
-other_length words s t h k = sym (same_length words (step_words s) h) ∙ same_length words (step_words t) k
+not_both : {A : Type 0} (o : Option A) (x : A) → o ≡ None → o ≡ Some x → ⊥
+not_both o x h k = let same : none ≡ some x = sym h ∙ k in cc
+  where
+    some : {B : Type 0} → B → Option B
+    some z = Some z
+
+    none : {B : Type 0} → Option B
+    none = None
 
 -- a word is not two names
 pub other_name : (word name other : List ℕ) → word ≡ name → word ≡ other → bytes_eq name other ≡ false → ⊥
 other_name word name other h k differ = let same = (bytes_eq-Decides name other).1 (sym h
     ∙ k) in absurd (false≢true (sym differ ∙ same))
 
-abbrev none_of : Option ℕ
-none_of = None
-
 -- the queue that a word spells, or none
 one_queue : (w : List ℕ) (q r : Option ℕ) → IsSpelt w (queue_or_none q) → IsSpelt w (queue_or_none r) → q ≡ r
 one_queue w None None h k = refl
-one_queue w (Some q) (Some r) h k = let same : q ≡ r = some_is (number_behind (codes "q") w) q r h k in ap
-    (λ x. Some x) same
-one_queue w None (Some r) h k = let none : number_behind (codes "q") w ≡ None = ap (number_behind
-    (codes "q")) h in absurd (let e : none_of ≡ Some r = sym none ∙ k in cc)
-one_queue w (Some q) None h k = let none : number_behind (codes "q") w ≡ None = ap (number_behind
-    (codes "q")) k in absurd (let e : none_of ≡ Some q = sym none ∙ h in cc)
+one_queue w (Some q) (Some r) h k = ap (λ x. Some x) (some_is (number_behind (codes "q") w) q r h k)
+one_queue w None (Some r) h k = absurd (not_both _ r (ap (number_behind (codes "q")) h) k)
+one_queue w (Some q) None h k = absurd (not_both _ q (ap (number_behind (codes "q")) k) h)
+
+-- a word spells at most one of an operand
+one_word : (operand : Operand) (w : List ℕ) (u v : Word) → IsOf operand u → IsOf operand v → IsSpelt w u → IsSpelt w v
+    → u ≡ v
+one_word Slot w u v of og h k =
+    let hs : IsSpelt w (slot of.0) = subst (IsSpelt w) of.1 h in
+    let ks : IsSpelt w (slot og.0) = subst (IsSpelt w) og.1 k in
+    of.1 ∙ ap slot (some_is _ of.0 og.0 hs ks) ∙ sym og.1
+one_word Queue w u v of og h k =
+    let hs : IsSpelt w (queue of.0) = subst (IsSpelt w) of.1 h in
+    let ks : IsSpelt w (queue og.0) = subst (IsSpelt w) og.1 k in
+    of.1 ∙ ap queue (some_is _ of.0 og.0 hs ks) ∙ sym og.1
+one_word QueueOrNone w u v of og h k =
+    of.1 ∙ ap queue_or_none (one_queue w of.0 og.0 (subst (IsSpelt w) of.1 h) (subst (IsSpelt w) og.1 k)) ∙ sym og.1
+one_word Number w u v of og h k =
+    let hs : IsSpelt w (number of.0) = subst (IsSpelt w) of.1 h in
+    let ks : IsSpelt w (number og.0) = subst (IsSpelt w) og.1 k in
+    of.1 ∙ ap number (some_is _ of.0 og.0 hs ks) ∙ sym og.1
+one_word Clock w u v of og h k =
+    let hs : IsSpelt w (Long of.0) = subst (IsSpelt w) of.1 h in
+    let ks : IsSpelt w (Long og.0) = subst (IsSpelt w) og.1 k in
+    of.1 ∙ ap (λ n. Long n) (some_is _ of.0 og.0 hs ks) ∙ sym og.1
+one_word UrgencyName w u v of og h k =
+    let hs : w ≡ urgency_name of.0 = subst (IsSpelt w) of.1 h in
+    let ks : w ≡ urgency_name og.0 = subst (IsSpelt w) og.1 k in
+    of.1 ∙ ap (λ (name : List ℕ). Letters name) (sym hs ∙ ks) ∙ sym og.1
+
+one_spelling : (operands : List Operand) (words : List (List ℕ)) (us vs : List Word) → AreOf operands us
+    → AreOf operands vs → AreSpelt words us → AreSpelt words vs → us ≡ vs
+one_spelling [] words [] [] of og h k = refl
+one_spelling [] words [] (v ∷ vs) of og h k = absurd og
+one_spelling [] words (u ∷ us) vs of og h k = absurd of
+one_spelling (o ∷ operands) words [] vs of og h k = absurd of
+one_spelling (o ∷ operands) words (u ∷ us) [] of og h k = absurd og
+one_spelling (o ∷ operands) [] (u ∷ us) (v ∷ vs) of og h k = absurd h
+one_spelling (o ∷ operands) (w ∷ ws) (u ∷ us) (v ∷ vs) of og h k =
+    let first : u ≡ v = one_word o w u v of.0 og.0 h.0 k.0 in
+    let others : us ≡ vs = one_spelling operands ws us vs of.1 og.1 h.1 k.1 in
+    cc
+
+-- the operands behind one name are the same, and so are the words that are spelt by the same
+behind_one_name : (o p : Option (List Operand)) (operands others : List Operand) (words : List (List ℕ))
+    (us vs : List Word) → o ≡ p → o ≡ Some operands → p ≡ Some others → AreOf operands us → AreOf others vs
+    → AreSpelt words us → AreSpelt words vs → us ≡ vs
+behind_one_name o p operands others words us vs same known also of og h k =
+    let same_operands : operands ≡ others = some_is o operands others known (same ∙ also) in
+    one_spelling operands words us vs of (subst (λ (os : List Operand). AreOf os vs) (sym same_operands) og) h k
+
+-- words that are spelt by forms of the table are spelt by one
+one_form : (l r : Lead) (x y : List ℕ) (operands others : List Operand) (us vs : List Word) (words : List (List ℕ))
+    → operands_in (forms_of l) x ≡ Some operands → operands_in (forms_of r) y ≡ Some others → AreOf operands us
+    → AreOf others vs → AreSpelt words (words_behind l x us) → AreSpelt words (words_behind r y vs)
+    → words_behind l x us ≡ words_behind r y vs
+one_form (By b m) r x y operands others us vs [] known also of og h k = absurd h
+one_form (By b m) Turn x y operands others us vs (a ∷ ws) known also of og h k =
+    let actor = actor_number b a m h.0 in
+    let none : operands_in turn_forms a ≡ None = rw actor.1 (no_turn b actor.0 x operands known) in
+    absurd (not_both (operands_in turn_forms a) others none (rw k.0 also))
+one_form (By b m) (By c n) x y operands others us vs (a ∷ []) known also of og h k = absurd h.1
+one_form (By b m) (By c n) x y operands others us vs (a ∷ w ∷ ws) known also of og h k =
+    let actor = actor_number b a m h.0 in
+    let other = actor_number c a n k.0 in
+    let same : (b ∷ actor.0) ≡ (c ∷ other.0) = sym actor.1 ∙ other.1 in
+    let same_letter : b ≡ c = cc in
+    let same_number : actor.0 ≡ other.0 = cc in
+    let same_m : m ≡ n =
+    some_is (number_below (2 ^ 32) actor.0) m n actor.2 (ap (number_below (2 ^ 32)) same_number ∙ other.2) in
+    let same_name : x ≡ y = sym h.1.0 ∙ k.1.0 in
+    let same_known : operands_in (forms_of_letter b) x ≡ operands_in (forms_of_letter c) y =
+    rw (same_letter, same_name) refl in
+    let same_words : us ≡ vs =
+    behind_one_name _ _ operands others ws us vs same_known known also of og h.1.1 k.1.1 in
+    cc
+one_form Turn r x y operands others us vs [] known also of og h k = absurd h
+one_form Turn (By c n) x y operands others us vs (a ∷ ws) known also of og h k =
+    let actor = actor_number c a n k.0 in
+    let none : operands_in turn_forms a ≡ None = rw actor.1 (no_turn c actor.0 y others also) in
+    absurd (not_both (operands_in turn_forms a) operands none (rw h.0 known))
+one_form Turn Turn x y operands others us vs (a ∷ ws) known also of og h k =
+    let same_name : x ≡ y = sym h.0 ∙ k.0 in
+    let same_words : us ≡ vs =
+    behind_one_name _ _ operands others ws us vs (ap (operands_in turn_forms) same_name) known also of og h.1 k.1 in
+    cc
 
 -- words spell at most one step
 one_step : (s t : Step) (words : List (List ℕ)) → SpellsStep words s → SpellsStep words t → s ≡ t
-one_step (New m d f) (New m' d' f') (a ∷ n ∷ w ∷ v ∷ []) h k =
-    let same_m : m ≡ m' = some_is _ m m' h.0 k.0 in
-    let same_d : d ≡ d' = some_is _ d d' h.1.1.0 k.1.1.0 in
-    let same_f : f ≡ f' = some_is _ f f' h.1.1.1.0 k.1.1.1.0 in
-    cc
-one_step (New m d f) (New m' d' f') words h k = absurd (omega (arith, same_length words (step_words (New m d f)) h))
-one_step (New m d f) t words h k = absurd (omega (arith, other_length words (New m d f) t h k))
-one_step (Weak m d e q f) (Weak m' d' e' q' f') (a ∷ n ∷ w ∷ v ∷ u ∷ z ∷ []) h k =
-    let same_m : m ≡ m' = some_is _ m m' h.0 k.0 in
-    let same_d : d ≡ d' = some_is _ d d' h.1.1.0 k.1.1.0 in
-    let same_e : e ≡ e' = some_is _ e e' h.1.1.1.0 k.1.1.1.0 in
-    let same_q : q ≡ q' = one_queue u q q' h.1.1.1.1.0 k.1.1.1.1.0 in
-    let same_f : f ≡ f' = some_is _ f f' h.1.1.1.1.1.0 k.1.1.1.1.1.0 in
-    cc
-one_step (Weak m d e q f) (Weak m' d' e' q' f') words h k = absurd (omega (
-  arith,
-  same_length words (step_words
-      (Weak m d e q f)) h,
-))
-one_step (Weak m d e q f) t words h k = absurd (omega (arith, other_length words (Weak m d e q f) t h k))
-one_step (Unhook m d) (Unhook m' d') (a ∷ n ∷ w ∷ []) h k =
-    let same_m : m ≡ m' = some_is _ m m' h.0 k.0 in
-    let same_d : d ≡ d' = some_is _ d d' h.1.1.0 k.1.1.0 in
-    cc
-one_step (Unhook m d) (Unhook m' d') words h k = absurd (omega (arith, same_length words (step_words (Unhook m d)) h))
-one_step (Unhook m d) (Poll m' q') (a ∷ n ∷ w ∷ []) h k = absurd (other_name n (codes "unhook")
-    (codes "poll") h.1.0 k.1.0 refl)
-one_step (Unhook m d) (Poll m' q') words h k = absurd (omega (arith, same_length words (step_words (Unhook m d)) h))
-one_step (Unhook m d) (Close m' q') (a ∷ n ∷ w ∷ []) h k = absurd (other_name n (codes "unhook")
-    (codes "close") h.1.0 k.1.0 refl)
-one_step (Unhook m d) (Close m' q') words h k = absurd (omega (arith, same_length words (step_words (Unhook m d)) h))
-one_step (Unhook m d) t words h k = absurd (omega (arith, other_length words (Unhook m d) t h k))
-one_step (Put m) (Put m') (a ∷ n ∷ []) h k =
-    let same_m : m ≡ m' = some_is _ m m' h.0 k.0 in
-    cc
-one_step (Put m) (Put m') words h k = absurd (omega (arith, same_length words (step_words (Put m)) h))
-one_step (Put m) (Release m') (a ∷ n ∷ []) h k = absurd (other_name n (codes "put") (codes "release") h.1.0 k.1.0 refl)
-one_step (Put m) (Release m') words h k = absurd (omega (arith, same_length words (step_words (Put m)) h))
-one_step (Put m) t words h k = absurd (omega (arith, other_length words (Put m) t h k))
-one_step (Release m) (Release m') (a ∷ n ∷ []) h k =
-    let same_m : m ≡ m' = some_is _ m m' h.0 k.0 in
-    cc
-one_step (Release m) (Release m') words h k = absurd (omega (arith, same_length words (step_words (Release m)) h))
-one_step (Release m) (Put m') (a ∷ n ∷ []) h k = absurd (other_name n (codes "release") (codes "put") h.1.0 k.1.0 refl)
-one_step (Release m) (Put m') words h k = absurd (omega (arith, same_length words (step_words (Release m)) h))
-one_step (Release m) t words h k = absurd (omega (arith, other_length words (Release m) t h k))
-one_step (Poll m q) (Poll m' q') (a ∷ n ∷ w ∷ []) h k =
-    let same_m : m ≡ m' = some_is _ m m' h.0 k.0 in
-    let same_q : q ≡ q' = some_is _ q q' h.1.1.0 k.1.1.0 in
-    cc
-one_step (Poll m q) (Poll m' q') words h k = absurd (omega (arith, same_length words (step_words (Poll m q)) h))
-one_step (Poll m q) (Unhook m' d') (a ∷ n ∷ w ∷ []) h k = absurd (other_name n (codes "poll")
-    (codes "unhook") h.1.0 k.1.0 refl)
-one_step (Poll m q) (Unhook m' d') words h k = absurd (omega (arith, same_length words (step_words (Poll m q)) h))
-one_step (Poll m q) (Close m' q') (a ∷ n ∷ w ∷ []) h k = absurd (other_name n (codes "poll")
-    (codes "close") h.1.0 k.1.0 refl)
-one_step (Poll m q) (Close m' q') words h k = absurd (omega (arith, same_length words (step_words (Poll m q)) h))
-one_step (Poll m q) t words h k = absurd (omega (arith, other_length words (Poll m q) t h k))
-one_step (Close m q) (Close m' q') (a ∷ n ∷ w ∷ []) h k =
-    let same_m : m ≡ m' = some_is _ m m' h.0 k.0 in
-    let same_q : q ≡ q' = some_is _ q q' h.1.1.0 k.1.1.0 in
-    cc
-one_step (Close m q) (Close m' q') words h k = absurd (omega (arith, same_length words (step_words (Close m q)) h))
-one_step (Close m q) (Unhook m' d') (a ∷ n ∷ w ∷ []) h k = absurd (other_name n (codes "close")
-    (codes "unhook") h.1.0 k.1.0 refl)
-one_step (Close m q) (Unhook m' d') words h k = absurd (omega (arith, same_length words (step_words (Close m q)) h))
-one_step (Close m q) (Poll m' q') (a ∷ n ∷ w ∷ []) h k = absurd (other_name n (codes "close")
-    (codes "poll") h.1.0 k.1.0 refl)
-one_step (Close m q) (Poll m' q') words h k = absurd (omega (arith, same_length words (step_words (Close m q)) h))
-one_step (Close m q) t words h k = absurd (omega (arith, other_length words (Close m q) t h k))
+one_step s t words h k =
+    let f = form_of_step s in
+    let g = form_of_step t in
+    let same : words_behind f.lead f.name f.words ≡ words_behind g.lead g.name g.words =
+    one_form f.lead g.lead f.name g.name f.operands g.operands f.words g.words words f.is_known g.is_known f.are_of
+    g.are_of (subst (AreSpelt words) f.spelling_is h) (subst (AreSpelt words) g.spelling_is k) in
+    let same_words : step_words s ≡ step_words t = f.spelling_is ∙ same ∙ sym g.spelling_is in
+    sym (rebuilt s) ∙ ap rebuild same_words ∙ rebuilt t
 
 one_list : (lines : List (List (List ℕ))) (r s : List Step) → SpellSteps lines r → SpellSteps lines s → r ≡ s
 one_list [] [] [] h k = refl

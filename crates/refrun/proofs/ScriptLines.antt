@@ -4,7 +4,7 @@ use Rattle.std.proofs.Common.{Some, None, OnSome, IfNone, refl, ◌∙◌, appen
 use Rattle.std.specs.Borrow.{Bor}
 use Rattle.std.specs.List.{list_all}
 use Rattle.std.proofs.lemmas.List.{append-nil}
-use Rattle.refrun.specs.declared.rows.Step.{Step}
+use Rattle.ref_base.specs.declared.step.Step.{Step}
 use Rattle.refrun.specs.Lines.{lines_of, words_of}
 use Rattle.refrun.specs.Spelling.{SpellsStep}
 use Rattle.refrun.specs.TextFaults.{Place, ScriptHeader, Configuration, Steps, fault_or}

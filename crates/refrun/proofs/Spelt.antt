@@ -1,88 +1,99 @@
 -- Words that spell a step have no fault.
 use Rattle.std.proofs.Common.{◌≡◌, ℕ, suc, ◌^◌, true, false, ◌==◌, nat_lt, List, [], ◌∷◌, length, Option, Some, None}
-use Rattle.std.proofs.Common.{is_some, codes, refl, ap, inl, inr, arith}
+use Rattle.std.proofs.Common.{is_some, codes, refl, ap, subst, inl, inr, arith}
 use Rattle.std.proofs.lemmas.Bool.{cases_Bool, le-ltb, eqb-true, or_right}
-use Rattle.ref_base.specs.Texts.{Word, slot, queue, queue_or_none, number}
-use Rattle.refrun.specs.Steps.{step_words}
-use Rattle.refrun.specs.declared.rows.Step.{Step}
-use Rattle.refrun.specs.declared.rows.Step.TheVariants.{New, Weak, Unhook, Put, Release, Poll, Close}
+use Rattle.ref_base.specs.Texts.{Word, Long, slot, queue, number, queue_or_none}
+use Rattle.ref_base.specs.Steps.{urgency_name}
+use Rattle.ref_base.specs.declared.step.Step.{Step}
+use Rattle.ref_base.specs.declared.urgency.Urgency.{Urgency}
+use Rattle.ref_base.specs.declared.urgency.Urgency.TheVariants.{Normal, Urgent}
 use Rattle.refrun.specs.Numerals.{number_below, number_behind}
 use Rattle.refrun.specs.Spelling.{IsSpelt, AreSpelt, SpellsStep}
-use Rattle.refrun.specs.StepFaults.{Operand, Slot, Queue, QueueOrNone, Number, operands_of, fits, all_fit}
-use Rattle.refrun.specs.StepFaults.{operand_fault, step_fault}
+use Rattle.refrun.specs.StepForms.{Operand, Slot, Queue, QueueOrNone, Number, Clock, UrgencyName}
+use Rattle.refrun.specs.StepForms.{operands_in, forms_of_letter, turn_forms}
+use Rattle.refrun.specs.StepFaults.{fits, all_fit, operand_fault, step_fault}
+use Rattle.refrun.proofs.StepForms.{IsOf, AreOf, Lead, By, Turn, words_behind, forms_of, form_of_step}
 
 -- the number of an actor stands behind its letter
-actor_number : (actor : List ℕ) (m : ℕ) → number_behind (codes "m") actor ≡ Some m
-    → (number : List ℕ) × (actor ≡ 109 ∷ number) × (number_below (2 ^ 32) number ≡ Some m)
-actor_number [] m h = absurd cc
-actor_number (b ∷ number) m h =
-    elim (cases_Bool (b == 109)) [
+pub actor_number : (letter : ℕ) (actor : List ℕ) (n : ℕ) → number_behind (letter ∷ []) actor ≡ Some n
+    → (number : List ℕ) × (actor ≡ letter ∷ number) × (number_below (2 ^ 32) number ≡ Some n)
+actor_number letter [] n h = absurd cc
+actor_number letter (b ∷ number) n h =
+    elim (cases_Bool (b == letter)) [
       | inl is ↦ (number, ap (λ x. x ∷ number) (eqb-true _ _ is), simp is at h)
-      | inr isnt ↦ let none : number_behind (codes "m") (b ∷ number) ≡ None = simp isnt refl in absurd cc
+      | inr isnt ↦ let none : number_behind (letter ∷ []) (b ∷ number) ≡ None = simp isnt refl in absurd cc
     ]
 
-fits_slot : (word : List ℕ) (n : ℕ) → IsSpelt word (slot n) → fits Slot word ≡ true
-fits_slot word n h = ap is_some h
+-- an actor that has steps isn't the name of a turn
+pub no_turn : (letter : ℕ) (number name : List ℕ) (operands : List Operand)
+    → operands_in (forms_of_letter letter) name ≡ Some operands → operands_in turn_forms (letter ∷ number) ≡ None
+no_turn letter number name operands known =
+    elim (cases_Bool (letter == 109)) [
+      | inl is ↦ rw (eqb-true _ _ is) refl
+      | inr isnt ↦ elim (cases_Bool (letter == 119)) [
+        | inl is ↦ rw (eqb-true _ _ is) refl
+        | inr other ↦ let none : operands_in (forms_of_letter letter) name ≡ None = simp (isnt, other) refl in absurd cc
+      ]
+    ]
 
-fits_queue : (word : List ℕ) (n : ℕ) → IsSpelt word (queue n) → fits Queue word ≡ true
-fits_queue word n h = ap is_some h
+urgency_fits : (urgency : Urgency) → fits UrgencyName (urgency_name urgency) ≡ true
+urgency_fits Normal = refl
+urgency_fits Urgent = refl
 
-fits_queue_or_none : (word : List ℕ) (q : Option ℕ) → IsSpelt word (queue_or_none q) → fits QueueOrNone word ≡ true
-fits_queue_or_none word (Some n) h = let number : is_some (number_behind (codes "q") word) ≡ true =
+queue_or_none_fits : (word : List ℕ) (q : Option ℕ) → IsSpelt word (queue_or_none q) → fits QueueOrNone word ≡ true
+queue_or_none_fits word (Some n) h = let number : is_some (number_behind (codes "q") word) ≡ true =
     ap is_some h in or_right _ _ number
-fits_queue_or_none word None h = rw h refl
+queue_or_none_fits word None h = rw h refl
 
-fits_number : (word : List ℕ) (n : ℕ) → IsSpelt word (number n) → fits Number word ≡ true
-fits_number word n h = ap is_some h
+-- a word that spells one of the operand is of its form
+operand_fits : (operand : Operand) (word : List ℕ) (v : Word) → IsOf operand v → IsSpelt word v
+    → fits operand word ≡ true
+operand_fits Slot word v of h = let same : IsSpelt word (slot of.0) = subst (IsSpelt word) of.1 h in ap is_some same
+operand_fits Queue word v of h = let same : IsSpelt word (queue of.0) = subst (IsSpelt word) of.1 h in ap is_some same
+operand_fits QueueOrNone word v of h = queue_or_none_fits word of.0 (subst (IsSpelt word) of.1 h)
+operand_fits Number word v of h = let same : IsSpelt word (number of.0) = subst (IsSpelt word) of.1 h in ap is_some same
+operand_fits Clock word v of h = let same : IsSpelt word (Long of.0) = subst (IsSpelt word) of.1 h in ap is_some same
+operand_fits UrgencyName word v of h =
+    let same : word ≡ urgency_name of.0 = subst (IsSpelt word) of.1 h in rw same (urgency_fits of.0)
 
--- where the actor has its letter and its number, only the operands are left to look at
-known_step : (actor name : List ℕ) (operands : List Operand) (words : List (List ℕ)) (m : ℕ)
-    → number_behind (codes "m") actor ≡ Some m → operands_of name ≡ Some operands
-    → length words ≡ length operands → all_fit operands words ≡ true → step_fault (actor ∷ name ∷ words) ≡ None
-known_step actor name operands words m actor_is known same fit =
-    let n = actor_number actor m actor_is in
-    let number : is_some (number_below (2 ^ 32) n.0) ≡ true = ap is_some n.2 in
-    let enough : nat_lt (length words) (length operands) ≡ false = le-ltb _ _ (omega (arith, same)) in
-    let no_more : nat_lt (length operands) (length words) ≡ false = le-ltb _ _ (omega (arith, same)) in
-    let whole : operand_fault operands n.0 words ≡ None = simp (enough, number, fit, no_more) refl in
-    rw (n.1, known) whole
+operands_fit : (operands : List Operand) (words : List (List ℕ)) (vs : List Word) → AreOf operands vs
+    → AreSpelt words vs → (length words ≡ length operands) × (all_fit operands words ≡ true)
+operands_fit [] [] [] of h = (refl, refl)
+operands_fit [] (w ∷ ws) [] of h = absurd h
+operands_fit [] words (v ∷ vs) of h = absurd of
+operands_fit (o ∷ operands) words [] of h = absurd of
+operands_fit (o ∷ operands) [] (v ∷ vs) of h = absurd h
+operands_fit (o ∷ operands) (w ∷ ws) (v ∷ vs) of h =
+    let rest = operands_fit operands ws vs of.1 h.1 in
+    (ap suc rest.0, simp (operand_fits o w v of.0 h.0) rest.1)
 
-pub same_length : (words : List (List ℕ)) (spelling : List Word) → AreSpelt words spelling
-    → length words ≡ length spelling
-same_length [] [] h = refl
-same_length [] (v ∷ vs) h = absurd h
-same_length (w ∷ ws) [] h = absurd h
-same_length (w ∷ ws) (v ∷ vs) h = ap suc (same_length ws vs h.1)
+operands_without_fault : (operands : List Operand) (words : List (List ℕ)) (vs : List Word) → AreOf operands vs
+    → AreSpelt words vs → operand_fault operands words ≡ None
+operands_without_fault operands words vs of h =
+    let fit = operands_fit operands words vs of h in
+    let enough : nat_lt (length words) (length operands) ≡ false = le-ltb _ _ (omega (arith, fit.0)) in
+    let no_more : nat_lt (length operands) (length words) ≡ false = le-ltb _ _ (omega (arith, fit.0)) in
+    simp (enough, fit.1, no_more) refl
 
-without_fault : (step : Step) (words : List (List ℕ)) → SpellsStep words step → step_fault words ≡ None
-without_fault (New m d k) (a ∷ n ∷ s ∷ f ∷ []) h =
-    known_step a n (Slot ∷ Number ∷ []) (s ∷ f ∷ []) m h.0 (ap operands_of h.1.0) refl (simp
-    (fits_slot s d h.1.1.0, fits_number f k h.1.1.1.0) refl)
-without_fault (New m d k) words h = absurd (omega (arith, same_length words (step_words (New m d k)) h))
-without_fault (Weak m d e w k) (a ∷ n ∷ s ∷ r ∷ q ∷ f ∷ []) h =
-    known_step a n (Slot ∷ Slot ∷ QueueOrNone ∷ Number ∷ []) (s ∷ r ∷ q ∷ f ∷ []) m h.0 (ap operands_of h.1.0) refl
-    (simp (
-      fits_slot s d h.1.1.0,
-      fits_slot r e h.1.1.1.0,
-      fits_queue_or_none q w h.1.1.1.1.0,
-      fits_number f k
-          h.1.1.1.1.1.0,
-    ) refl)
-without_fault (Weak m d e w k) words h = absurd (omega (arith, same_length words (step_words (Weak m d e w k)) h))
-without_fault (Unhook m d) (a ∷ n ∷ s ∷ []) h = known_step a n (Slot ∷ []) (s ∷ []) m h.0
-    (ap operands_of h.1.0) refl (simp (fits_slot s d h.1.1.0) refl)
-without_fault (Unhook m d) words h = absurd (omega (arith, same_length words (step_words (Unhook m d)) h))
-without_fault (Put m) (a ∷ n ∷ []) h = known_step a n [] [] m h.0 (ap operands_of h.1.0) refl refl
-without_fault (Put m) words h = absurd (omega (arith, same_length words (step_words (Put m)) h))
-without_fault (Release m) (a ∷ n ∷ []) h = known_step a n [] [] m h.0 (ap operands_of h.1.0) refl refl
-without_fault (Release m) words h = absurd (omega (arith, same_length words (step_words (Release m)) h))
-without_fault (Poll m k) (a ∷ n ∷ q ∷ []) h = known_step a n (Queue ∷ []) (q ∷ []) m h.0 (ap operands_of h.1.0) refl
-    (simp (fits_queue q k h.1.1.0) refl)
-without_fault (Poll m k) words h = absurd (omega (arith, same_length words (step_words (Poll m k)) h))
-without_fault (Close m k) (a ∷ n ∷ q ∷ []) h = known_step a n (Queue ∷ []) (q ∷ []) m h.0
-    (ap operands_of h.1.0) refl (simp (fits_queue q k h.1.1.0) refl)
-without_fault (Close m k) words h = absurd (omega (arith, same_length words (step_words (Close m k)) h))
+form_without_fault : (lead : Lead) (name : List ℕ) (operands : List Operand) (vs : List Word) (words : List (List ℕ))
+    → operands_in (forms_of lead) name ≡ Some operands → AreOf operands vs
+    → AreSpelt words (words_behind lead name vs) → step_fault words ≡ None
+form_without_fault (By letter n) name operands vs [] known of h = absurd h
+form_without_fault (By letter n) name operands vs (a ∷ []) known of h = absurd h.1
+form_without_fault (By letter n) name operands vs (a ∷ w ∷ ws) known of h =
+    let actor = actor_number letter a n h.0 in
+    let known_name : operands_in (forms_of_letter letter) w ≡ Some operands = rw h.1.0 known in
+    let whole : operand_fault (Number ∷ operands) (actor.0 ∷ ws) ≡ None =
+    operands_without_fault (Number ∷ operands) (actor.0 ∷ ws) (number n ∷ vs) ((n, refl), of) (actor.2, h.1.1) in
+    rw (actor.1, no_turn letter actor.0 name operands known, known_name) whole
+form_without_fault Turn name operands vs [] known of h = absurd h
+form_without_fault Turn name operands vs (w ∷ ws) known of h =
+    let known_name : operands_in turn_forms w ≡ Some operands = rw h.0 known in
+    rw known_name (operands_without_fault operands ws vs of h.1)
 
 -- words that spell a step have no fault
 pub spelt_without_fault : (words : List (List ℕ)) (step : Step) → SpellsStep words step → step_fault words ≡ None
-spelt_without_fault words step h = without_fault step words h
+spelt_without_fault words step h =
+    let form = form_of_step step in
+    form_without_fault form.lead form.name form.operands form.words words form.is_known form.are_of
+    (subst (AreSpelt words) form.spelling_is h)

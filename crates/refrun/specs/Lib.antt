@@ -1,12 +1,9 @@
-pub mod Steps
-pub mod Replies
-pub mod Rows
-pub mod QueueRows
 pub mod ExitStatuses
 pub mod Lines
 pub mod LineViews
 pub mod Numerals
 pub mod Spelling
+pub mod StepForms
 pub mod StepFaults
 pub mod ToldLines
 pub mod Scripts
@@ -15,10 +12,6 @@ pub mod DeclarationFaults
 pub mod GraphTexts
 pub mod TextFaults
 pub mod LineReading
-pub mod Tables
-pub mod SoundTables
-pub mod TableFields
-pub mod TableAnswers
 pub mod Streams
 pub mod Reads
 pub mod Answers

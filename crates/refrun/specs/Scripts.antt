@@ -5,7 +5,7 @@ use Rattle.std.specs.List.{list_all}
 use Rattle.std.specs.Str.{bytes_eq}
 use Rattle.ref_base.specs.Limits.{is_within_limits}
 use Rattle.ref_base.specs.declared.config.Config.{Config}
-use Rattle.refrun.specs.declared.rows.Step.{Step}
+use Rattle.ref_base.specs.declared.step.Step.{Step}
 use Rattle.refrun.specs.Lines.{TextLine, lines_of, most_bytes}
 use Rattle.refrun.specs.Numerals.{number_below}
 use Rattle.refrun.specs.Spelling.{SpellsStep}

@@ -1,8 +1,8 @@
 -- The grammar of a line: which words spell which step.
 use Rattle.std.specs.Prelude.{◌≡◌, ℕ, ◌^◌, List, [], ◌∷◌, Some}
 use Rattle.ref_base.specs.Texts.{Word, Letters, Numbered, Long}
-use Rattle.refrun.specs.Steps.{step_words}
-use Rattle.refrun.specs.declared.rows.Step.{Step}
+use Rattle.ref_base.specs.Steps.{step_words}
+use Rattle.ref_base.specs.declared.step.Step.{Step}
 use Rattle.refrun.specs.Numerals.{number_below, number_behind}
 
 -- a word of a line spells a word of a step: the same letters, or the same number with any leading zeros

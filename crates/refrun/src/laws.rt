@@ -1,26 +1,17 @@
 //! What the definitions say together, beside any code.
 
 ghost use Rattle.std.specs.Prelude.{◌≡◌, ℕ, List, None};
-ghost use Rattle.refrun.specs.QueueRows.{KeepsQueue};
 ghost use Rattle.ref_base.specs.declared.config.Config.{Config};
-ghost use Rattle.refrun.specs.declared.rows.Row.{Row};
-ghost use Rattle.refrun.specs.declared.rows.Step.{Step};
+ghost use Rattle.ref_base.specs.declared.step.Step.{Step};
 ghost use Rattle.refrun.specs.Scripts.{IsScript};
 ghost use Rattle.ref_base.specs.Graphs.{Graph};
 ghost use Rattle.refrun.specs.GraphTexts.{DeclaresGraph};
 ghost use Rattle.refrun.specs.TextFaults.{script_fault, graph_fault};
-ghost use Rattle.refrun.specs.Tables.{State, first_state, IsRun};
 
 /// A text that spells a script has no fault: nothing in the grammar is refused.
 pub fn a_script_has_no_fault()
     ensures { (text : List ℕ) (config : Config) (steps : List Step) → IsScript text config steps
         → script_fault text ≡ None }
-{}
-
-/// Whatever steps are run, each queue keeps its lists.
-pub fn queues_are_kept()
-    ensures { (config : Config) (rows : List Row) (last : State) (q : ℕ) → IsRun (first_state config) rows last
-        → KeepsQueue q rows }
 {}
 
 /// A text spells at most one script.

@@ -1,5 +1,4 @@
-//! Scripts and graph texts in, traces and strengths out: what `refrun` reads and prints, and the private table that runs
-//! the steps.
+//! Scripts and graph texts in, traces and strengths out: what `refrun` reads and prints.
 #![tactic(auto)]
 
 mod declarations;
@@ -8,15 +7,15 @@ mod graph_text;
 pub mod laws;
 mod lines;
 mod listing;
+mod mutator_steps;
 mod numerals;
 mod operands;
 mod reading;
-mod rows;
 mod script;
+mod shapes;
 mod sink;
 mod source;
 mod steps;
-mod table;
 mod told;
 mod trace;
 

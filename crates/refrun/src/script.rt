@@ -11,15 +11,14 @@ ghost use Rattle.refrun.specs.Spelling.{SpellsStep};
 ghost use Rattle.refrun.specs.StepFaults.{step_fault};
 ghost use Rattle.refrun.specs.TextFaults.{ScriptHeader, Steps, fault_or, first_fault};
 ghost use Rattle.refrun.specs.ToldLines.{is_plain, told};
-ghost use Rattle.refrun.specs.declared.rows.Step.{Step};
+ghost use Rattle.ref_base.specs.declared.step.Step.{Step};
 
 use crate::fault::{LineFault, TextFault};
 use crate::lines::next_word;
 use crate::numerals::{long_number, short_number};
-use crate::rows::Step;
 use crate::steps::step_of;
 use crate::told::{is_titled, next_told};
-use ref_base::{Config, QueueNo};
+use ref_base::{Config, Step};
 use std::alloc::Allocator;
 
 /// What a script says.
@@ -82,8 +81,6 @@ fn add_step<A: Allocator>(
         (steps.new.items ≡ steps.old.items ++ step ∷ [])) }
     ensures fault { IfErr result (λ e. FailsFor e (fault_or number (step_fault (words_of content.now)) None)) }
 {
-    // A function that carries a step on has to name the types inside it, or its proof isn't made.
-    let _queue: Option<QueueNo> = None;
     let step = step_of(content).map_err(|fault| TextFault::Line(number, fault))?;
     steps.push(step)?;
     Ok(())

@@ -1,23 +1,21 @@
 //! Running a script, and the text of its trace.
 
-ghost use Rattle.std.specs.Prelude.{◌≡◌, ◌≤◌, ◌++◌, ◌∷◌, [], ◌||◌, true, decimal, string_bytes, length, None};
-ghost use Rattle.std.specs.Prelude.{IfOk, IfErr, OnOk, OnErr, IfSome};
-ghost use Rattle.ref_base.specs.Limits.{is_within_limits};
-ghost use Rattle.refrun.specs.Rows.{row_text};
+ghost use Rattle.std.specs.Prelude.{◌≡◌, ◌≤◌, ◌||◌, true, string_bytes, length, None};
+ghost use Rattle.std.specs.Prelude.{IfOk, IfErr, OnErr, IfSome};
+ghost use Rattle.ref_base.specs.LegalTraces.{IsLegal};
 ghost use Rattle.refrun.specs.LineReading.{FailsFor};
 ghost use Rattle.refrun.specs.Lines.{lines_of, most_bytes};
 ghost use Rattle.refrun.specs.TextFaults.{ScriptHeader, first_fault, script_fault};
-ghost use Rattle.refrun.specs.Traces.{TracesSteps, PrintsTrace, AddsRow, AnswersRun};
+ghost use Rattle.refrun.specs.Traces.{AnswersRun, PrintsTrace, steps_of, trace_text};
 ghost use Rattle.refrun.specs.Answers.{KeepsUnlessDone, TellsFault, is_cannot_read, is_cannot_write};
 
 use crate::fault::TextFault;
 use crate::reading::text_of;
-use crate::rows::{Row, Step};
 use crate::script::{Script, script_of};
 use crate::sink::{TextSink, WriteFailed};
 use crate::source::TextSource;
-use crate::table::Table;
-use ref_base::QueueNo;
+use ref_base::Row;
+use ref_world::{Trace, World, run};
 use std::alloc::{AllocError, Allocator};
 
 /// Reads a script, runs it, and writes its trace.
@@ -28,7 +26,8 @@ use std::alloc::{AllocError, Allocator};
 /// out. `NoMemory` may come in place of each but the last. A growth that is refused inside a put is a row of the trace,
 /// and the script goes on.
 ///
-/// Takes time and memory by the lengths of the text and the trace. All its memory is of this allocator.
+/// Beside the text and its trace, the run takes at most 104 bytes a step, 32 for the step and 72 for its row, and what the
+/// world takes. All its memory is of this allocator.
 pub fn run_script<R: TextSource, W: TextSink, A: Allocator + Copy>(
     alloc: A,
     reader: &mut R,
@@ -60,38 +59,44 @@ fn trace_behind<A: Allocator + Copy>(alloc: A, text: &[u8]) -> Result<String<A>,
     ensures fault { IfErr result (λ e. FailsFor e (first_fault ScriptHeader 1 (lines_of text.now))) }
 {
     let script = script_of(alloc, text)?;
-    trace_of(alloc, &script)
+    let rows = rows_of(alloc, script)?;
+    Ok(trace_text(alloc, rows.as_slice())?)
 }
 
-/// The text of the trace of a script.
-fn trace_of<A: Allocator + Copy>(alloc: A, script: &Script<A>) -> Result<String<A>, TextFault>
-    requires { is_within_limits script.now.config ≡ true }
-    ensures text { IfOk result (λ text. TracesSteps script.now.config script.now.steps.items (string_bytes text)) }
+/// The rows of a legal trace of the script's steps. The world that answered them has ended.
+fn rows_of<A: Allocator + Copy>(alloc: A, script: Script<A>) -> Result<Vec<Row, A>, TextFault>
+    ensures steps { IfOk result (λ rows. steps_of rows.items ≡ script.steps.items) }
+    ensures legal { IfOk result (λ rows. IsLegal script.config rows.items) }
     ensures err { OnErr result (result ≡ Err TextFault.NoMemory) }
 {
-    let mut table = Table::new(alloc, script.config)?;
-    let mut text = String::from_str(alloc, "reftrace 1\n")?;
-    let mut number = 0u64;
-    for step in &script.steps {
-        number += 1;
-        add_row(&mut text, number, &mut table, step)?;
+    let Script { config, mut steps } = script;
+    // Rows come beside the steps, so the room that no step uses is given back before.
+    steps.shrink_to_fit();
+    // A script's configuration is within its limits, so that only memory can be wanting.
+    let Ok(world) = World::new(alloc, config) else {
+        return Err(TextFault::NoMemory);
+    };
+    match run(alloc, world, steps) {
+        Ok(Trace { rows, world }) => {
+            world.end();
+            Ok(rows)
+        }
+        Err((_, world, _)) => {
+            world.end();
+            Err(TextFault::NoMemory)
+        }
     }
-    Ok(text)
 }
 
-/// Does one step, and adds its row to the text.
-fn add_row<A: Allocator + Copy>(
-    text: &mut String<A>,
-    number: u64,
-    table: &mut Table<A>,
-    step: &Step,
-) -> Result<(), AllocError>
-    ensures { OnOk result (AddsRow table.old table.new number step.now (string_bytes text.old)
-        (string_bytes text.new)) }
+/// The text of a trace: its header, and its rows numbered from 1.
+fn trace_text<A: Allocator>(alloc: A, rows: &[Row]) -> Result<String<A>, AllocError>
+    ensures { IfOk result (λ text. string_bytes text ≡ trace_text rows.now) }
 {
-    // A function that carries a step on has to name the types inside it, or its proof isn't made.
-    let _queue: Option<QueueNo> = None;
-    let reply = table.answer(*step);
-    let row = Row { step: *step, reply };
-    writeln!(text, "{number} {row}")
+    let mut text = String::from_str(alloc, "reftrace 1\n")?;
+    let mut number = 0u64;
+    for row in rows {
+        number += 1;
+        writeln!(text, "{number} {row}")?;
+    }
+    Ok(text)
 }

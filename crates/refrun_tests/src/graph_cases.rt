@@ -1,7 +1,7 @@
 //! Graph texts, and what each must print: the listing on standard output, or the one line on standard error. They were
 //! worked out by hand from the rules.
 
-use crate::texts::Case;
+use crate::cases::Case;
 
 pub static GRAPHS: [Case; 40] = [
     Case {

@@ -6,14 +6,26 @@
 #![tactic(auto)]
 
 #[cfg(test)]
+mod cases;
+#[cfg(test)]
+mod death_cases;
+#[cfg(test)]
 mod fakes;
 #[cfg(test)]
 mod graph_cases;
 #[cfg(test)]
 mod memory;
 #[cfg(test)]
+mod notice_cases;
+#[cfg(test)]
 mod printed;
 #[cfg(test)]
+mod refusal_cases;
+#[cfg(test)]
 mod script_cases;
+#[cfg(test)]
+mod soft_cases;
+#[cfg(test)]
+mod step_lines;
 #[cfg(test)]
 mod texts;

@@ -1,6 +1,7 @@
 //! Runs with so little memory that an allocation is refused: at one size or another, each that a run makes.
 
-use crate::texts::{GRAPH, LISTING, Task, printed};
+use crate::cases::Task;
+use crate::texts::{GRAPH, LISTING, printed};
 use bumpalo::Bump;
 use refrun::TextFault;
 use std::alloc::{AllocError, Global};

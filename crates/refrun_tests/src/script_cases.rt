@@ -1,7 +1,7 @@
 //! Scripts, and what each must print: the trace on standard output, or the one line on standard error. They were worked
 //! out by hand from the rules.
 
-use crate::texts::Case;
+use crate::cases::Case;
 
 pub static SCRIPTS: [Case; 23] = [
     Case {
@@ -225,7 +225,7 @@ m0 new s0 0
         name: "every refusal",
         text: b"refscript 1
 config 1 1 1 3 0
-# each step of a mutator, refused and not
+# the steps of a registered weak reference, refused and not
 m0 unhook s0
 m0 new s0 0
 m0 unhook s0

@@ -1,10 +1,9 @@
 //! Scripts and their traces, graph texts and their listings.
 
+use crate::cases::{Case, Task, tables};
 use crate::fakes::{
     FAILURES, Failure, Interrupted, ReadsThenFails, WritesThenFails, answer_in_room,
 };
-use crate::graph_cases::GRAPHS;
-use crate::script_cases::SCRIPTS;
 use refrun::{
     FromReader, LineFault, TextFault, TextSink, TextSource, ToWriter, run_script, strength_text,
 };
@@ -12,33 +11,6 @@ use std::alloc::{AllocError, Allocator, Global};
 use std::io::ErrorKind;
 use std::process::Abort;
 use std::test::Fail;
-
-/// What is done with a text.
-#[derive(Clone, Copy)]
-pub enum Task {
-    /// A script is run.
-    Run,
-    /// The strengths of a graph's objects are listed.
-    List,
-}
-
-/// A text and what it must print.
-pub struct Case {
-    pub name: &'static str,
-    pub text: &'static [u8],
-    pub prints: &'static [u8],
-    pub error: &'static str,
-}
-
-/// All cases of each task.
-fn cases(task: Task) -> &'static [Case] {
-    match task {
-        Task::Run => SCRIPTS.as_slice(),
-        Task::List => GRAPHS.as_slice(),
-    }
-}
-
-const TASKS: [Task; 2] = [Task::Run, Task::List];
 
 /// A graph with each kind of line.
 pub const GRAPH: &[u8] =
@@ -95,12 +67,18 @@ fn agree(rt: &impl Abort, alloc: Global, task: Task, case: &Case) -> Result<(), 
     Ok(())
 }
 
+/// The same of each case of a table.
+fn all_agree(rt: &impl Abort, alloc: Global, task: Task, cases: &[Case]) -> Result<(), AllocError> {
+    for case in cases {
+        agree(rt, alloc, task, case)?;
+    }
+    Ok(())
+}
+
 #[test]
 fn each_text_prints_what_it_must_or_its_fault(rt: HostRuntime) -> Result<(), Fail> {
-    for task in TASKS {
-        for case in cases(task) {
-            agree(&rt, rt.alloc(), task, case)?;
-        }
+    for (task, cases) in tables() {
+        all_agree(&rt, rt.alloc(), task, cases)?;
     }
     Ok(())
 }
@@ -120,20 +98,23 @@ fn each_fault_of_no_line_has_its_message_and_its_status(rt: HostRuntime) -> Resu
     Ok(())
 }
 
-/// A reader that fails so at the text's end is told of by this, and nothing is printed.
-fn tells_failure(
+/// A reader that fails so at the end of the text of a case is told of by this, and nothing is printed.
+fn tell_failure(
     rt: &impl Abort,
     alloc: Global,
     task: Task,
-    bytes: &[u8],
+    cases: &[Case],
     failure: ErrorKind,
     want: TextFault,
 ) {
-    let mut output = Vec::new(alloc);
-    let mut reader = FromReader::new(ReadsThenFails { bytes, failure });
-    let answer = answer(task, alloc, &mut reader, &mut ToWriter::new(&mut output));
-    assert_eq!(rt; answer, Err(want));
-    assert!(rt; output.is_empty());
+    for case in cases {
+        let bytes = case.text;
+        let mut output = Vec::new(alloc);
+        let mut reader = FromReader::new(ReadsThenFails { bytes, failure });
+        let answer = answer(task, alloc, &mut reader, &mut ToWriter::new(&mut output));
+        assert_eq!(rt; answer, Err(want));
+        assert!(rt; output.is_empty());
+    }
 }
 
 #[test]
@@ -143,10 +124,8 @@ fn a_reader_that_fails_or_finds_no_memory_is_told_of(rt: HostRuntime) {
         (ErrorKind::OutOfMemory, TextFault::NoMemory),
     ];
     for (failure, want) in failures {
-        for task in TASKS {
-            for case in cases(task) {
-                tells_failure(&rt, rt.alloc(), task, case.text, failure, want);
-            }
+        for (task, cases) in tables() {
+            tell_failure(&rt, rt.alloc(), task, cases, failure, want);
         }
     }
 }

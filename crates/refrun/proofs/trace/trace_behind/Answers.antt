@@ -1,16 +1,14 @@
-use Rattle.std.proofs.lemmas.Result.{IfOk-weaker}
+use Rattle.std.proofs.Common.{◌∙◌, ap}
+use Rattle.refrun.specs.Traces.{trace_text}
 use Rattle.refrun.proofs.FaultLaws.{script_without_fault}
 use Rattle.refrun.proofs.TraceLemmas.{is_script, prints_trace}
 use Rattle.refrun.proofs.trace.trace_behind.Goals as goal
 
 pub returns-clause-prints : goal.returns-clause-prints
 returns-clause-prints g c =
-    IfOk-weaker c.trace_of.result _ _
-    (λ trace traces. prints_trace _ _ _ _ (is_script _ _ _ c.requires c.in_ok-script.ensures.found) traces)
-    c.trace_of.ensures.text
+    prints_trace _ _ c.in_ok-script.script.config c.in_ok-script.script.steps.items c.in_ok-rows.rows.items
+    (is_script _ _ _ c.requires c.in_ok-script.ensures.found) c.in_ok-rows.ensures.steps c.in_ok-rows.ensures.legal
+    (c.in_ok-trace_text.ensures ∙ ap trace_text c.as_slice.ensures.value)
 
 pub returns-clause-sound : goal.returns-clause-sound
-returns-clause-sound g c =
-    IfOk-weaker c.trace_of.result _ _
-    (λ trace traces. script_without_fault _ _ _ (is_script _ _ _ c.requires c.in_ok-script.ensures.found))
-    c.trace_of.ensures.text
+returns-clause-sound g c = script_without_fault _ _ _ (is_script _ _ _ c.requires c.in_ok-script.ensures.found)

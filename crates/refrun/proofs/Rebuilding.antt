@@ -1,0 +1,118 @@
+-- The words of a step determine it.
+use Rattle.std.proofs.Common.{◌≡◌, ℕ, if◌then◌else◌, List, [], ◌∷◌, get_or, Option, Some, None, codes, refl}
+use Rattle.std.specs.Str.{bytes_eq}
+use Rattle.ref_base.specs.Texts.{Word, Letters, Numbered, Long}
+use Rattle.ref_base.specs.Steps.{step_words}
+use Rattle.ref_base.specs.declared.actor.Actor.TheVariants.{Mutator, Worker}
+use Rattle.ref_base.specs.declared.strength.Strength.TheVariants.{Soft, Weak, Phantom}
+use Rattle.ref_base.specs.declared.urgency.Urgency.{Urgency}
+use Rattle.ref_base.specs.declared.urgency.Urgency.TheVariants.{Normal, Urgent}
+use Rattle.ref_base.specs.declared.step.Step.{Step}
+use Rattle.ref_base.specs.declared.step.Step.TheVariants.{New, Refer, Store, Load, Copy, Drop, Get, Clear, RefersTo}
+use Rattle.ref_base.specs.declared.step.Step.TheVariants.{Unhook, Put, Poll, Adopt, Release, Close}
+use Rattle.ref_base.specs.declared.step.Step.TheVariants.{Begin, Scan, EndMark, ClearNext, EndClear, Hand, Sweep}
+use Rattle.ref_base.specs.declared.step.Step.TheVariants.{EndSweep}
+
+-- what a word says: its number, its queue if it isn't a dash, or its urgency
+number_in : Word → ℕ
+number_in (Letters letters) = 0
+number_in (Numbered letters n) = n
+number_in (Long n) = n
+
+queue_in : Word → Option ℕ
+queue_in (Letters letters) = None
+queue_in (Numbered letters n) = Some n
+queue_in (Long n) = None
+
+urgency_in : Word → Urgency
+urgency_in (Letters letters) = if bytes_eq letters (codes "normal") then Normal else Urgent
+urgency_in (Numbered letters n) = Normal
+urgency_in (Long n) = Normal
+
+-- the number at a place behind the name
+at : ℕ → List Word → ℕ
+at i words = number_in (get_or words i (Letters []))
+
+-- the queue that a reference is registered with
+queue_of : List Word → Option ℕ
+queue_of words = queue_in (get_or words 2 (Letters []))
+
+-- the step of a mutator, of a worker, or of neither, with this name and these words behind it
+by_mutator : ℕ → List ℕ → List Word → Step
+by_mutator m name ws =
+    if bytes_eq name (codes "new") then New m (at 0 ws) (at 1 ws) else
+    (if bytes_eq name (codes "soft") then Refer m Soft (at 0 ws) (at 1 ws) (queue_of ws) (at 3 ws) else
+    (if bytes_eq name (codes "weak") then Refer m Weak (at 0 ws) (at 1 ws) (queue_of ws) (at 3 ws) else
+    (if bytes_eq name (codes "phantom") then Refer m Phantom (at 0 ws) (at 1 ws) (queue_of ws) (at 3 ws) else
+    (if bytes_eq name (codes "store") then Store m (at 0 ws) (at 1 ws) (at 2 ws) else
+    (if bytes_eq name (codes "load") then Load m (at 0 ws) (at 1 ws) (at 2 ws) else
+    (if bytes_eq name (codes "copy") then Copy m (at 0 ws) (at 1 ws) else
+    (if bytes_eq name (codes "drop") then Drop m (at 0 ws) else
+    (if bytes_eq name (codes "get") then Get m (at 0 ws) (at 1 ws) else
+    (if bytes_eq name (codes "clear") then Clear m (at 0 ws) else
+    (if bytes_eq name (codes "refers") then RefersTo m (at 0 ws) (at 1 ws) else
+    (if bytes_eq name (codes "unhook") then Unhook m (at 0 ws) else
+    (if bytes_eq name (codes "put") then Put (Mutator m) else
+    (if bytes_eq name (codes "poll") then Poll m (at 0 ws) else
+    (if bytes_eq name (codes "adopt") then Adopt m (at 0 ws) else
+    (if bytes_eq name (codes "release") then Release (Mutator m) else
+    Close m (at 0 ws))))))))))))))))
+
+by_worker : ℕ → List ℕ → Step
+by_worker w name =
+    if bytes_eq name (codes "scan") then Scan w else
+    (if bytes_eq name (codes "clearnext") then ClearNext w else
+    (if bytes_eq name (codes "hand") then Hand w else
+    (if bytes_eq name (codes "sweep") then Sweep w else
+    (if bytes_eq name (codes "put") then Put (Worker w) else Release (Worker w)))))
+
+turn : List ℕ → List Word → Step
+turn name ws =
+    if bytes_eq name (codes "begin") then Begin (at 0 ws) (urgency_in (get_or ws 1 (Letters []))) else
+    (if bytes_eq name (codes "endmark") then EndMark else
+    (if bytes_eq name (codes "endclear") then EndClear else EndSweep))
+
+behind_actor : List ℕ → ℕ → List Word → Step
+behind_actor letters n (Letters name ∷ ws) =
+    if bytes_eq letters (codes "m") then by_mutator n name ws else by_worker n name
+behind_actor letters n ws = EndMark
+
+-- the step of these words
+pub rebuild : List Word → Step
+rebuild (Numbered letters n ∷ ws) = behind_actor letters n ws
+rebuild (Letters name ∷ ws) = turn name ws
+rebuild ws = EndMark
+
+pub rebuilt : (step : Step) → rebuild (step_words step) ≡ step
+unfolding rebuild behind_actor by_mutator by_worker turn number_in queue_in urgency_in at queue_of
+rebuilt (New m s n) = refl
+rebuilt (Refer m Soft s r None n) = refl
+rebuilt (Refer m Soft s r (Some q) n) = refl
+rebuilt (Refer m Weak s r None n) = refl
+rebuilt (Refer m Weak s r (Some q) n) = refl
+rebuilt (Refer m Phantom s r None n) = refl
+rebuilt (Refer m Phantom s r (Some q) n) = refl
+rebuilt (Store m s i v) = refl
+rebuilt (Load m d s i) = refl
+rebuilt (Copy m d s) = refl
+rebuilt (Drop m s) = refl
+rebuilt (Get m d r) = refl
+rebuilt (Clear m r) = refl
+rebuilt (RefersTo m r s) = refl
+rebuilt (Unhook m r) = refl
+rebuilt (Put (Mutator m)) = refl
+rebuilt (Put (Worker w)) = refl
+rebuilt (Poll m q) = refl
+rebuilt (Adopt m s) = refl
+rebuilt (Release (Mutator m)) = refl
+rebuilt (Release (Worker w)) = refl
+rebuilt (Close m q) = refl
+rebuilt (Begin now Normal) = refl
+rebuilt (Begin now Urgent) = refl
+rebuilt (Scan w) = refl
+rebuilt EndMark = refl
+rebuilt (ClearNext w) = refl
+rebuilt EndClear = refl
+rebuilt (Hand w) = refl
+rebuilt (Sweep w) = refl
+rebuilt EndSweep = refl

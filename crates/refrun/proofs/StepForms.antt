@@ -1,0 +1,133 @@
+-- Each step has a form of the table: an actor or none, a name, and operands behind it.
+use Rattle.std.proofs.Common.{◌≡◌, ℕ, List, [], ◌∷◌, Option, Some, codes, refl}
+use Rattle.ref_base.specs.Texts.{Word, Letters, Numbered, Long, slot, queue, queue_or_none, number}
+use Rattle.ref_base.specs.Steps.{step_words, strength_name, urgency_name}
+use Rattle.ref_base.specs.declared.actor.Actor.TheVariants.{Mutator, Worker}
+use Rattle.ref_base.specs.declared.strength.Strength.{Strength}
+use Rattle.ref_base.specs.declared.strength.Strength.TheVariants.{Soft, Weak, Phantom}
+use Rattle.ref_base.specs.declared.urgency.Urgency.{Urgency}
+use Rattle.ref_base.specs.declared.step.Step.{Step}
+use Rattle.ref_base.specs.declared.step.Step.TheVariants.{New, Refer, Store, Load, Copy, Drop, Get, Clear, RefersTo}
+use Rattle.ref_base.specs.declared.step.Step.TheVariants.{Unhook, Put, Poll, Adopt, Release, Close}
+use Rattle.ref_base.specs.declared.step.Step.TheVariants.{Begin, Scan, EndMark, ClearNext, EndClear, Hand, Sweep}
+use Rattle.ref_base.specs.declared.step.Step.TheVariants.{EndSweep}
+use Rattle.refrun.specs.StepForms.{Operand, Slot, Queue, QueueOrNone, Number, Clock, UrgencyName, Form}
+use Rattle.refrun.specs.StepForms.{operands_in, forms_of_letter, turn_forms}
+
+-- the word is one of the operand
+abbrev pub IsOf : Operand → Word → Type 0
+IsOf Slot word = (n : ℕ) × (word ≡ slot n)
+IsOf Queue word = (n : ℕ) × (word ≡ queue n)
+IsOf QueueOrNone word = (q : Option ℕ) × (word ≡ queue_or_none q)
+IsOf Number word = (n : ℕ) × (word ≡ number n)
+IsOf Clock word = (n : ℕ) × (word ≡ Long n)
+IsOf UrgencyName word = (urgency : Urgency) × (word ≡ Letters (urgency_name urgency))
+
+-- word by word
+abbrev pub AreOf : List Operand → List Word → Type 0
+AreOf [] [] = Unit {0}
+AreOf [] (v ∷ vs) = ⊥
+AreOf (o ∷ operands) [] = ⊥
+AreOf (o ∷ operands) (v ∷ vs) = IsOf o v × AreOf operands vs
+
+-- what stands before the name of a step: an actor's letter and number, or nothing
+pub data Lead : Type 0 where
+  By : ℕ → ℕ → Lead
+  Turn : Lead
+
+abbrev pub words_behind : Lead → List ℕ → List Word → List Word
+words_behind (By letter n) name words = Numbered (letter ∷ []) n ∷ Letters name ∷ words
+words_behind Turn name words = Letters name ∷ words
+
+abbrev pub forms_of : Lead → List Form
+forms_of (By letter n) = forms_of_letter letter
+forms_of Turn = turn_forms
+
+-- these words are those of a form of the table
+pub record HasForm (spelling : List Word) : Type 0 where
+  pub lead : Lead
+  pub name : List ℕ
+  pub operands : List Operand
+  pub words : List Word
+  pub spelling_is : spelling ≡ words_behind lead name words
+  pub is_known : operands_in (forms_of lead) name ≡ Some operands
+  pub are_of : AreOf operands words
+
+has_form : (lead : Lead) (name : List ℕ) (operands : List Operand) (words : List Word)
+    → operands_in (forms_of lead) name ≡ Some operands → AreOf operands words → HasForm (words_behind lead name words)
+has_form lead name operands words known of = record {
+  lead = lead;
+  name = name;
+  operands = operands;
+  words = words;
+  spelling_is = refl;
+  is_known = known;
+  are_of = of;
+}
+
+-- the forms of mutators and workers
+alone : (letter n : ℕ) (name : List ℕ) → operands_in (forms_of_letter letter) name ≡ Some []
+    → HasForm (Numbered (letter ∷ []) n ∷ Letters name ∷ [])
+alone letter n name known = has_form (By letter n) name [] [] known tt
+
+at_slot : (m s : ℕ) (name : List ℕ) → operands_in (forms_of_letter 109) name ≡ Some (Slot ∷ [])
+    → HasForm (Numbered (codes "m") m ∷ Letters name ∷ slot s ∷ [])
+at_slot m s name known = has_form (By 109 m) name (Slot ∷ []) (slot s ∷ []) known ((s, refl), tt)
+
+at_slots : (m s r : ℕ) (name : List ℕ) → operands_in (forms_of_letter 109) name ≡ Some (Slot ∷ Slot ∷ [])
+    → HasForm (Numbered (codes "m") m ∷ Letters name ∷ slot s ∷ slot r ∷ [])
+at_slots m s r name known =
+    has_form (By 109 m) name (Slot ∷ Slot ∷ []) (slot s ∷ slot r ∷ []) known ((s, refl), ((r, refl), tt))
+
+at_queue : (m q : ℕ) (name : List ℕ) → operands_in (forms_of_letter 109) name ≡ Some (Queue ∷ [])
+    → HasForm (Numbered (codes "m") m ∷ Letters name ∷ queue q ∷ [])
+at_queue m q name known = has_form (By 109 m) name (Queue ∷ []) (queue q ∷ []) known ((q, refl), tt)
+
+-- a reference's strength is its name
+refers : (m s r : ℕ) (q : Option ℕ) (n : ℕ) (strength : Strength)
+    → HasForm (Numbered (codes "m") m ∷ Letters (strength_name strength) ∷ slot s ∷ slot r ∷ queue_or_none q
+    ∷ number n ∷ [])
+refers m s r q n strength =
+    has_form (By 109 m) (strength_name strength) (Slot ∷ Slot ∷ QueueOrNone ∷ Number ∷ [])
+    (slot s ∷ slot r ∷ queue_or_none q ∷ number n ∷ []) (known strength)
+    ((s, refl), ((r, refl), ((q, refl), ((n, refl), tt))))
+  where
+    known : (t : Strength) → operands_in (forms_of_letter 109) (strength_name t)
+        ≡ Some (Slot ∷ Slot ∷ QueueOrNone ∷ Number ∷ [])
+    known Soft = refl
+    known Weak = refl
+    known Phantom = refl
+
+pub form_of_step : (step : Step) → HasForm (step_words step)
+form_of_step (New m s n) =
+    has_form (By 109 m) (codes "new") (Slot ∷ Number ∷ []) (slot s ∷ number n ∷ []) refl ((s, refl), ((n, refl), tt))
+form_of_step (Refer m strength s r q n) = refers m s r q n strength
+form_of_step (Store m s i v) =
+    has_form (By 109 m) (codes "store") (Slot ∷ Number ∷ Slot ∷ []) (slot s ∷ number i ∷ slot v ∷ []) refl
+    ((s, refl), ((i, refl), ((v, refl), tt)))
+form_of_step (Load m d s i) =
+    has_form (By 109 m) (codes "load") (Slot ∷ Slot ∷ Number ∷ []) (slot d ∷ slot s ∷ number i ∷ []) refl
+    ((d, refl), ((s, refl), ((i, refl), tt)))
+form_of_step (Copy m d s) = at_slots m d s (codes "copy") refl
+form_of_step (Drop m s) = at_slot m s (codes "drop") refl
+form_of_step (Get m d r) = at_slots m d r (codes "get") refl
+form_of_step (Clear m r) = at_slot m r (codes "clear") refl
+form_of_step (RefersTo m r s) = at_slots m r s (codes "refers") refl
+form_of_step (Unhook m r) = at_slot m r (codes "unhook") refl
+form_of_step (Put (Mutator m)) = alone 109 m (codes "put") refl
+form_of_step (Put (Worker w)) = alone 119 w (codes "put") refl
+form_of_step (Poll m q) = at_queue m q (codes "poll") refl
+form_of_step (Adopt m s) = at_slot m s (codes "adopt") refl
+form_of_step (Release (Mutator m)) = alone 109 m (codes "release") refl
+form_of_step (Release (Worker w)) = alone 119 w (codes "release") refl
+form_of_step (Close m q) = at_queue m q (codes "close") refl
+form_of_step (Begin now urgency) =
+    has_form Turn (codes "begin") (Clock ∷ UrgencyName ∷ []) (Long now ∷ Letters (urgency_name urgency) ∷ []) refl
+    ((now, refl), ((urgency, refl), tt))
+form_of_step (Scan w) = alone 119 w (codes "scan") refl
+form_of_step EndMark = has_form Turn (codes "endmark") [] [] refl tt
+form_of_step (ClearNext w) = alone 119 w (codes "clearnext") refl
+form_of_step EndClear = has_form Turn (codes "endclear") [] [] refl tt
+form_of_step (Hand w) = alone 119 w (codes "hand") refl
+form_of_step (Sweep w) = alone 119 w (codes "sweep") refl
+form_of_step EndSweep = has_form Turn (codes "endsweep") [] [] refl tt
