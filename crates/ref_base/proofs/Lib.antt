@@ -35,6 +35,11 @@ pub mod CarryHeaps
 pub mod CarryRows
 pub mod ProvenTraces
 pub mod GivenNotices
+pub mod HeapMoves
+pub mod CountedLists
+pub mod RowKinds
+pub mod RunFronts
+pub mod OneQueue
 mod ReplayExamples
 mod LegalExamples
 mod IllegalExamples

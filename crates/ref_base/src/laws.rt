@@ -9,6 +9,7 @@ ghost use Rattle.ref_base.specs.DoomedSets.{MayDoom};
 ghost use Rattle.ref_base.specs.LeavingEdges.{FirstLeaves, LeavesBy};
 ghost use Rattle.ref_base.specs.LegalTraces.{IsLegal};
 ghost use Rattle.ref_base.specs.QueueRows.{KeepsQueue};
+ghost use Rattle.ref_base.specs.WorkerOrder.{is_registered};
 ghost use Rattle.ref_base.specs.Strengths.{HasStrength};
 ghost use Rattle.ref_base.specs.Worlds.{SameOthers};
 ghost use Rattle.ref_base.specs.HeapSteps.{NamedStep, heap_step};
@@ -116,4 +117,10 @@ pub fn each_notice_that_is_given_has_its_own_queue_and_cause()
         → IsRun (first_state config) (front ++ record { step = step; reply = Reply.Notice n q cause } ∷ back) b
         → IsProven (front ++ record { step = step; reply = Reply.Notice n q cause } ∷ [])
         (record { object = n; queue = q; cause = cause }) }
+{}
+
+/// In a legal trace a reference is registered with one queue: each number is given once.
+pub fn a_reference_is_registered_with_one_queue()
+    ensures { (config : Config) (rows : List Row) (n q r : ℕ) → IsLegal config rows
+        → is_registered rows n q ≡ true → is_registered rows n r ≡ true → q ≡ r }
 {}
