@@ -40,6 +40,14 @@ pub mod CountedLists
 pub mod RowKinds
 pub mod RunFronts
 pub mod OneQueue
+pub mod SeenObjects
+pub mod ReplayUnder
+pub mod ReplayKeeps
+pub mod WaitingClears
+pub mod PhaseLaws
+pub mod AgreeHeaps
+pub mod AgreeEnds
+pub mod AgreeRuns
 mod ReplayExamples
 mod LegalExamples
 mod IllegalExamples

@@ -28,6 +28,7 @@ pub mod CountedHolds
 pub mod Collectors
 pub mod Refusals
 pub mod CollectorRows
+pub mod AgreeingWorlds
 pub mod Forgetting
 pub mod LegalTraces
 pub mod Provenance

@@ -15,6 +15,8 @@ ghost use Rattle.ref_base.specs.Worlds.{SameOthers};
 ghost use Rattle.ref_base.specs.HeapSteps.{NamedStep, heap_step};
 ghost use Rattle.ref_base.specs.Collectors.{State, first_state};
 ghost use Rattle.ref_base.specs.CountedHolds.{AreCounted};
+ghost use Rattle.ref_base.specs.Replay.{replayed};
+ghost use Rattle.ref_base.specs.AgreeingWorlds.{Agrees};
 ghost use Rattle.ref_base.specs.Provenance.{IsProven, AreProven, gives_notices};
 ghost use Rattle.ref_base.specs.Refusals.{heap_refusal, refusal};
 ghost use Rattle.ref_base.specs.CollectorRows.{IsHeapRow, IsRow, IsRun, with_handed};
@@ -123,4 +125,12 @@ pub fn each_notice_that_is_given_has_its_own_queue_and_cause()
 pub fn a_reference_is_registered_with_one_queue()
     ensures { (config : Config) (rows : List Row) (n q r : ℕ) → IsLegal config rows
         → is_registered rows n q ≡ true → is_registered rows n r ≡ true → q ≡ r }
+{}
+
+/// After every legal trace the collector has the world that its rows give by replay, slots, holds, hands, queues and
+/// pending references alike, but for two things: some objects are gone, and a reference that the mark's end cleared reads
+/// as cleared also before a worker has looked at it.
+pub fn the_collector_has_the_graph_of_the_replay_less_what_was_swept()
+    ensures { (config : Config) (rows : List Row) (b : State) → IsRun (first_state config) rows b
+        → (gone : List ℕ) × Agrees gone (replayed config rows) b }
 {}
