@@ -1,5 +1,4 @@
--- After every legal trace the collector has the world of the replay, but for what was swept and for what waits to be
--- cleared.
+-- Each row keeps that the collector has the world of the replay, but for what was swept and for what waits to be cleared.
 use Rattle.std.proofs.Common.{◌≡◌, ℕ, Bool, true, false, ◌&&◌, List, [], ◌∷◌, ◌++◌, take, Option, Some, None, refl, sym}
 use Rattle.std.proofs.Common.{ap, ◌∙◌, subst, inl, inr, ◌⊎◌}
 use Rattle.std.proofs.lemmas.Bool.{false≢true}
@@ -32,8 +31,6 @@ use Rattle.ref_base.proofs.RowKinds.{IsRefused, IsOfQueues, IsOfHeap, row_kind}
 use Rattle.ref_base.proofs.WaitingClears.{look_tells}
 use Rattle.ref_base.proofs.AgreeHeaps.{Agreeing, AreBelow, gone_after, none_waits, same_waits, still, makes, ends}
 use Rattle.ref_base.proofs.AgreeEnds.{end_agrees, cleared_agrees, passed_agrees, swept_agrees}
-use Rattle.ref_base.proofs.CountedTraces.{legal_counted}
-use Rattle.ref_base.proofs.RunFronts.{legal_holds, replayed_last}
 
 -- ---- rows of a heap
 
@@ -156,7 +153,7 @@ abbrev pub gone_next : State → List ℕ → Option NamedStep → Reply → Lis
 gone_next a gone None reply = gone
 gone_next a gone (Some asked) reply = gone_after a gone asked reply
 
-gone_refused : (a : State) (gone : List ℕ) (asked : Option NamedStep) (fault : Fault)
+pub gone_refused : (a : State) (gone : List ℕ) (asked : Option NamedStep) (fault : Fault)
     → gone_next a gone asked (replies.Refused fault) ≡ gone
 gone_refused a gone None fault = refl
 gone_refused a gone (Some (heap.Sweep k)) fault = refl
@@ -249,18 +246,3 @@ first_agrees config = record {
   cleared_below = none_below 1 [] refl;
   cleared_stay = λ clearing n cleared. refl;
 }
-
-pub legal_agrees : (config : Config) (rows : List Row) (b : State) → IsRun (first_state config) rows b
-    → (gone : List ℕ) × Agrees gone (replayed config rows) b
-legal_agrees config rows b run =
-    let all =
-    legal_holds config (λ past a. (gone : List ℕ) × Agreeing gone (replayed config past) a)
-    (λ past a row b run known h.
-    (
-      gone_next a known.0 (heap_step a.world row.step) row.reply,
-      subst (λ (w : World). Agreeing (gone_next a known.0 (heap_step a.world row.step) row.reply) w b)
-          (sym (replayed_last (first_world config) past row))
-          (row_agrees known.0 (replayed config past) a row b known.1 (legal_counted config past a run) h),
-    ))
-    ([], first_agrees config) rows b run in
-    (all.0, all.1.agrees)

@@ -234,7 +234,7 @@ module _ (O : Object → Type 0) (P : Notice → Type 0) (C : ℕ → Type 0) wh
 
 -- ---- at first
 
-nothing_pending : (P : Pending → Type 0) (count k : ℕ)
+pub nothing_pending : (P : Pending → Type 0) (count k : ℕ)
     → AllByRecursion P (slice_index_or (replicate count []) k [])
 nothing_pending P zero k = tt
 nothing_pending P (suc count) zero = tt

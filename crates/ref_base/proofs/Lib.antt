@@ -48,6 +48,13 @@ pub mod PhaseLaws
 pub mod AgreeHeaps
 pub mod AgreeEnds
 pub mod AgreeRuns
+pub mod ApartWorlds
+pub mod ClosedRows
+pub mod OffSets
+pub mod MarkShows
+pub mod OutHeaps
+pub mod OutRuns
+pub mod MarkedTraces
 mod ReplayExamples
 mod LegalExamples
 mod IllegalExamples

@@ -1,4 +1,4 @@
--- What a row of the replay leaves as it was: the phase, but at the ends of phases; the numbers of objects, but where one is
+-- What a row of the replay leaves as it was: phase and cycle, but at the ends of phases; the numbers of objects, but where one is
 -- made; and all but hands and queues, where no heap is asked.
 use Rattle.std.proofs.Common.{◌≡◌, ℕ, Bool, true, false, if◌then◌else◌, List, [], ◌∷◌, ◌++◌, Option, Some, None}
 use Rattle.std.proofs.Common.{refl, sym, ap, ◌∙◌, is_some}
@@ -14,6 +14,7 @@ use Rattle.ref_base.specs.HeapSteps.{NamedStep, handed, taking}
 use Rattle.ref_base.specs.Replay.{if_told, after_heap, after_queues, pended, put_in}
 use Rattle.ref_base.specs.declared.actor.Actor.{Actor}
 use Rattle.ref_base.specs.declared.actor.Actor.TheVariants.{Mutator, Worker}
+use Rattle.ref_base.specs.declared.phase.Phase.{Phase}
 use Rattle.ref_base.specs.declared.heap_step.HeapStep.TheVariants as heap
 use Rattle.ref_base.specs.declared.step.Step.{Step}
 use Rattle.ref_base.specs.declared.step.Step.TheVariants as steps
@@ -31,7 +32,10 @@ module _ {R : Type 0} (get : World → R) where
   done_keeps true change w keeps = keeps
   done_keeps false change w keeps = refl
 
--- ---- the phase
+-- ---- the phase and the cycle
+
+abbrev stage_of : World → Phase × ℕ
+stage_of w = (w.phase, w.cycle)
 
 -- the step ends no phase
 abbrev pub EndsNoPhase : NamedStep → Type 0
@@ -41,43 +45,57 @@ EndsNoPhase heap.EndClear = ⊥
 EndsNoPhase heap.EndSweep = ⊥
 EndsNoPhase step = Unit {0}
 
-pub phase_pended : (w : World) (k n : ℕ) (queue : Option ℕ) → (pended w k n queue).phase ≡ w.phase
-phase_pended w k n None = refl
-phase_pended w k n (Some q) = refl
+pub stage_pended : (w : World) (k n : ℕ) (queue : Option ℕ) → stage_of (pended w k n queue) ≡ stage_of w
+stage_pended w k n None = refl
+stage_pended w k n (Some q) = refl
 
-unhooked_phase : (v w : World) (nothing : Bool) (told : Option Notice) (change : Notice → World) → v.phase ≡ w.phase
-    → ((notice : Notice) → (change notice).phase ≡ w.phase)
-    → (if nothing then v else if_told told change w).phase ≡ w.phase
-unhooked_phase v w true told change same keeps = same
-unhooked_phase v w false told change same keeps = told_keeps (λ w. w.phase) told change w keeps
+unhooked_stage : (v w : World) (nothing : Bool) (told : Option Notice) (change : Notice → World)
+    → stage_of v ≡ stage_of w → ((notice : Notice) → stage_of (change notice) ≡ stage_of w)
+    → stage_of (if nothing then v else if_told told change w) ≡ stage_of w
+unhooked_stage v w true told change same keeps = same
+unhooked_stage v w false told change same keeps = told_keeps stage_of told change w keeps
+
+same_stage : (w : World) (step : NamedStep) (reply : Reply) → EndsNoPhase step
+    → stage_of (after_heap w step reply) ≡ stage_of w
+same_stage w (heap.New m d k) reply plain = told_keeps stage_of (told_object reply) _ w (λ n. refl)
+same_stage w (heap.Refer m strength d s q k) reply plain =
+    told_keeps stage_of (told_object reply) _ w (λ n. refl)
+same_stage w (heap.Store m s i v) reply plain = done_keeps stage_of (is_done reply) _ w refl
+same_stage w (heap.Load m d s i) reply plain = told_keeps stage_of (told_value reply) _ w (λ value. refl)
+same_stage w (heap.Copy m d s) reply plain = told_keeps stage_of (told_value reply) _ w (λ value. refl)
+same_stage w (heap.Drop m s) reply plain = done_keeps stage_of (is_done reply) _ w refl
+same_stage w (heap.Get m d s) reply plain = told_keeps stage_of (told_value reply) _ w (λ value. refl)
+same_stage w (heap.Clear m s) reply plain = done_keeps stage_of (is_done reply) _ w refl
+same_stage w (heap.RefersTo m s v) reply plain = refl
+same_stage w (heap.Unhook m s) reply plain =
+    unhooked_stage _ w (is_nothing reply) (told_notice reply) _ refl (λ notice. refl)
+same_stage w (heap.Hold m s) reply plain = told_keeps stage_of (told_object reply) _ w (λ n. refl)
+same_stage w (heap.Adopt m d hold) reply plain = told_keeps stage_of (told_object reply) _ w (λ n. refl)
+same_stage w (heap.Release hold) reply plain = done_keeps stage_of (is_done reply) _ w refl
+same_stage w (heap.Begin now how) reply plain = absurd plain
+same_stage w (heap.Scan k) reply plain = refl
+same_stage w heap.EndMark reply plain = absurd plain
+same_stage w (heap.ClearNext k) reply plain =
+    told_keeps stage_of (told_cleared reply) _ w
+    (λ n. stage_pended _ k n (registered_in (reference_at w.heap n)))
+same_stage w heap.EndClear reply plain = absurd plain
+same_stage w (heap.Hand k) reply plain = told_keeps stage_of (told_notice reply) _ w (λ notice. refl)
+same_stage w (heap.Sweep k) reply plain = refl
+same_stage w heap.EndSweep reply plain = absurd plain
 
 pub same_phase : (w : World) (step : NamedStep) (reply : Reply) → EndsNoPhase step
     → (after_heap w step reply).phase ≡ w.phase
-same_phase w (heap.New m d k) reply plain = told_keeps (λ w. w.phase) (told_object reply) _ w (λ n. refl)
-same_phase w (heap.Refer m strength d s q k) reply plain =
-    told_keeps (λ w. w.phase) (told_object reply) _ w (λ n. refl)
-same_phase w (heap.Store m s i v) reply plain = done_keeps (λ w. w.phase) (is_done reply) _ w refl
-same_phase w (heap.Load m d s i) reply plain = told_keeps (λ w. w.phase) (told_value reply) _ w (λ value. refl)
-same_phase w (heap.Copy m d s) reply plain = told_keeps (λ w. w.phase) (told_value reply) _ w (λ value. refl)
-same_phase w (heap.Drop m s) reply plain = done_keeps (λ w. w.phase) (is_done reply) _ w refl
-same_phase w (heap.Get m d s) reply plain = told_keeps (λ w. w.phase) (told_value reply) _ w (λ value. refl)
-same_phase w (heap.Clear m s) reply plain = done_keeps (λ w. w.phase) (is_done reply) _ w refl
-same_phase w (heap.RefersTo m s v) reply plain = refl
-same_phase w (heap.Unhook m s) reply plain =
-    unhooked_phase _ w (is_nothing reply) (told_notice reply) _ refl (λ notice. refl)
-same_phase w (heap.Hold m s) reply plain = told_keeps (λ w. w.phase) (told_object reply) _ w (λ n. refl)
-same_phase w (heap.Adopt m d hold) reply plain = told_keeps (λ w. w.phase) (told_object reply) _ w (λ n. refl)
-same_phase w (heap.Release hold) reply plain = done_keeps (λ w. w.phase) (is_done reply) _ w refl
-same_phase w (heap.Begin now how) reply plain = absurd plain
-same_phase w (heap.Scan k) reply plain = refl
-same_phase w heap.EndMark reply plain = absurd plain
-same_phase w (heap.ClearNext k) reply plain =
-    told_keeps (λ w. w.phase) (told_cleared reply) _ w
-    (λ n. phase_pended _ k n (registered_in (reference_at w.heap n)))
-same_phase w heap.EndClear reply plain = absurd plain
-same_phase w (heap.Hand k) reply plain = told_keeps (λ w. w.phase) (told_notice reply) _ w (λ notice. refl)
-same_phase w (heap.Sweep k) reply plain = refl
-same_phase w heap.EndSweep reply plain = absurd plain
+same_phase w step reply plain = ap (λ (stage : Phase × ℕ). stage.0) (same_stage w step reply plain)
+
+pub same_cycle : (w : World) (step : NamedStep) (reply : Reply) → EndsNoPhase step
+    → (after_heap w step reply).cycle ≡ w.cycle
+same_cycle w step reply plain = ap (λ (stage : Phase × ℕ). stage.1) (same_stage w step reply plain)
+
+pub phase_pended : (w : World) (k n : ℕ) (queue : Option ℕ) → (pended w k n queue).phase ≡ w.phase
+phase_pended w k n queue = ap (λ (stage : Phase × ℕ). stage.0) (stage_pended w k n queue)
+
+pub cycle_pended : (w : World) (k n : ℕ) (queue : Option ℕ) → (pended w k n queue).cycle ≡ w.cycle
+cycle_pended w k n queue = ap (λ (stage : Phase × ℕ). stage.1) (stage_pended w k n queue)
 
 -- ---- the numbers of objects
 

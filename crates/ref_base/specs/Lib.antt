@@ -29,6 +29,7 @@ pub mod Collectors
 pub mod Refusals
 pub mod CollectorRows
 pub mod AgreeingWorlds
+pub mod MarkEnds
 pub mod Forgetting
 pub mod LegalTraces
 pub mod Provenance

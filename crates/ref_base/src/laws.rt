@@ -17,6 +17,7 @@ ghost use Rattle.ref_base.specs.Collectors.{State, first_state};
 ghost use Rattle.ref_base.specs.CountedHolds.{AreCounted};
 ghost use Rattle.ref_base.specs.Replay.{replayed};
 ghost use Rattle.ref_base.specs.AgreeingWorlds.{Agrees};
+ghost use Rattle.ref_base.specs.MarkEnds.{MarkEnded, AreAfterMarks};
 ghost use Rattle.ref_base.specs.Provenance.{IsProven, AreProven, gives_notices};
 ghost use Rattle.ref_base.specs.Refusals.{heap_refusal, refusal};
 ghost use Rattle.ref_base.specs.CollectorRows.{IsHeapRow, IsRow, IsRun, with_handed};
@@ -133,4 +134,19 @@ pub fn a_reference_is_registered_with_one_queue()
 pub fn the_collector_has_the_graph_of_the_replay_less_what_was_swept()
     ensures { (config : Config) (rows : List Row) (b : State) → IsRun (first_state config) rows b
         → (gone : List ℕ) × Agrees gone (replayed config rows) b }
+{}
+
+/// After every legal trace each notice that is out, in a hand or in a queue, and whose cause is a cycle, comes after the
+/// end of that cycle's mark: and in the world that the rows before that end give by replay, the notice's reference has a
+/// referent, an object to which no kept path leads.
+pub fn each_notice_of_a_cycle_comes_after_its_mark_ended()
+    ensures { (config : Config) (rows : List Row) (b : State) → IsRun (first_state config) rows b
+        → AreAfterMarks config rows b.world }
+{}
+
+/// And so does each row of a legal trace in which a worker clears a reference.
+pub fn what_a_worker_clears_was_shown_by_its_mark_end()
+    ensures { (config : Config) (front back : List Row) (k n : ℕ) (b : State)
+        → IsRun (first_state config) (front ++ record { step = Step.ClearNext k; reply = Reply.Cleared n } ∷ back) b
+        → MarkEnded config front (replayed config front).cycle n }
 {}
