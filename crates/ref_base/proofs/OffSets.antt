@@ -52,7 +52,7 @@ path_but V gone w allow kept closed n ends =
 
 -- ---- at a mark's end
 
-target_there : (allow : Allowed) (o : Option Object) (n : ℕ) → has (targets_of allow o) n ≡ true → is_some o ≡ true
+pub target_there : (allow : Allowed) (o : Option Object) (n : ℕ) → has (targets_of allow o) n ≡ true → is_some o ≡ true
 target_there allow None n target = absurd (false≢true target)
 target_there allow (Some o) n target = refl
 

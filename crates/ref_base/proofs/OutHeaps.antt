@@ -12,7 +12,7 @@ use Rattle.ref_base.specs.Replay.{after_heap, replayed}
 use Rattle.ref_base.specs.Collectors.{State, joined}
 use Rattle.ref_base.specs.Refusals.{heap_refusal, is_in}
 use Rattle.ref_base.specs.CollectorRows.{HeapAccepts, EndsMark, mark_ended, doomed_at}
-use Rattle.ref_base.specs.MarkEnds.{MarkEnded}
+use Rattle.ref_base.specs.MarkEnds.{MarkEnded, WasDoomed}
 use Rattle.ref_base.specs.declared.config.Config.{Config}
 use Rattle.ref_base.specs.declared.phase.Phase.{Phase}
 use Rattle.ref_base.specs.declared.phase.Phase.TheVariants.{Idle, Marking, Clearing, Sweeping}
@@ -21,7 +21,7 @@ use Rattle.ref_base.specs.declared.step.Step.TheVariants as steps
 use Rattle.ref_base.specs.declared.reply.Reply.{Reply}
 use Rattle.ref_base.specs.declared.reply.Reply.TheVariants as replies
 use Rattle.ref_base.specs.declared.row.Row.{Row}
-use Rattle.ref_base.proofs.HasLaws.{has-append}
+use Rattle.ref_base.proofs.HasLaws.{has-append, has-cases}
 use Rattle.ref_base.proofs.HeapMoves.{settled, moved, heap_moves, IsNoEnd}
 use Rattle.ref_base.proofs.PhaseLaws.{of_phase}
 use Rattle.ref_base.proofs.ReplayKeeps.{EndsNoPhase, same_phase, same_cycle, phase_pended, cycle_pended}
@@ -29,7 +29,7 @@ use Rattle.ref_base.proofs.AgreeHeaps.{Agreeing, AreBelow, gone_after, fresh, no
 use Rattle.ref_base.proofs.ApartWorlds.{IsClosed}
 use Rattle.ref_base.proofs.ClosedRows.{closed_same, heap_closed}
 use Rattle.ref_base.proofs.OffSets.{ended_closed}
-use Rattle.ref_base.proofs.MarkShows.{mark_shows, ended_more}
+use Rattle.ref_base.proofs.MarkShows.{mark_shows, doomed_was, ended_more, doomed_more}
 
 -- what is doomed and not swept yet
 abbrev pub doomed_in : Phase → List ℕ → List ℕ
@@ -42,10 +42,11 @@ doomed_in Sweeping doomed = doomed
 abbrev pub off : List ℕ → State → List ℕ
 off gone a = gone ++ doomed_in a.world.phase a.doomed
 
--- Nothing that is gone or doomed is in reach; and while references are cleared, each that the mark's end cleared isn't
--- among these, and the mark's end has shown of it what it shows.
+-- Nothing that is gone or doomed is in reach, and a mark's end found it dead; and while references are cleared, each that
+-- the mark's end cleared isn't among these, and the mark's end has shown of it what it shows.
 pub record AreOut (config : Config) (rows : List Row) (gone : List ℕ) (a : State) : Type 0 where
   pub closed : IsClosed (λ n. has (off gone a) n ≡ false) a.world
+  pub dead : (n : ℕ) → has (off gone a) n ≡ true → WasDoomed config rows n
   pub spared : a.world.phase ≡ Clearing → (n : ℕ) → has a.cleared n ≡ true → has (off gone a) n ≡ false
   pub shown : a.world.phase ≡ Clearing → (n : ℕ) → has a.cleared n ≡ true → MarkEnded config rows a.world.cycle n
 
@@ -99,7 +100,7 @@ cleared_moved a (heap.Begin now how) reply plain = absurd plain
 cleared_moved a step reply plain = refl
 
 -- what is off goes by the phase and what is doomed
-off_is : (gone doomed : List ℕ) (c : State) (phase : Phase) → c.world.phase ≡ phase → c.doomed ≡ doomed
+pub off_is : (gone doomed : List ℕ) (c : State) (phase : Phase) → c.world.phase ≡ phase → c.doomed ≡ doomed
     → off gone c ≡ gone ++ doomed_in phase doomed
 off_is gone doomed c phase is same =
     ap (λ (p : Phase). gone ++ doomed_in p c.doomed) is ∙ ap (λ ds. gone ++ doomed_in phase ds) same
@@ -189,6 +190,7 @@ module _ (config : Config) (past : List Row) (gone : List ℕ) (a c : State)
         closed = subst (λ ns. IsClosed (λ n. has ns n ≡ false) c.world) (sym same)
             (heap_closed (λ n. has (off gone a) n ≡ false) a c out.closed step reply plain none
             (next_out gone (replayed config past) a is) out.spared row);
+        dead = λ n is_off. out.dead n (ap (λ ns. has ns n) (sym same) ∙ is_off);
         spared = λ clearing n cleared.
             let before = still clearing in
             ap (λ ns. has ns n) same ∙ out.spared before.0 n (ap (λ ns. has ns n) (sym before.1) ∙ cleared);
@@ -208,10 +210,17 @@ module _ (config : Config) (past : List Row) (gone : List ℕ) (a c : State)
       let closed : IsClosed (λ n. has gone n ≡ false) a.world =
       subst (λ ns. IsClosed (λ n. has ns n ≡ false) a.world) none out.closed in
       let shows = mark_shows config past count gone a is marking closed row.may_doom in
+      let was = doomed_was config past count gone a is marking closed row.may_doom in
       subst (λ (s : State). AreOut config more gone s) (sym row.after) (record {
         closed = closed_same (λ n. has (gone ++ d) n ≡ false) _ _ refl refl refl refl
             (ended_closed gone d a.world a.moments row.may_doom
             (λ n doomed. unscanned-there a.world.heap.objects a.born (joined a.scanned) n doomed) closed);
+        dead = λ n is_off. elim (has-cases gone d n is_off) [
+          | inl before ↦
+              doomed_more config past (record { step = steps.EndMark; reply = replies.Doomed count } ∷ []) n
+              (out.dead n (ap (λ ns. has ns n) none ∙ before))
+          | inr doomed ↦ was n doomed
+        ];
         spared = λ clearing n new.
             let told = shows n new in
             has-append gone d n ∙ or_from (has gone n) (has d n) told.0 told.1;

@@ -3,21 +3,21 @@
 use Rattle.std.proofs.Common.{◌≡◌, ℕ, zero, suc, ◌+◌, ◌*◌, true, false, List, [], ◌∷◌, ◌++◌, replicate, Option, Some, None, refl, sym}
 use Rattle.std.proofs.Common.{ap, ◌∙◌, subst, inl, inr, ◌⊎◌}
 use Rattle.std.specs.Prelude.{slice_index_or}
-use Rattle.std.proofs.lemmas.Bool.{false≢true}
+use Rattle.std.proofs.lemmas.Bool.{false≢true, or_parts, or_from}
 use Rattle.std.specs.List.{AllByRecursion}
 use Rattle.ref_base.specs.Members.{has}
-use Rattle.ref_base.specs.Graphs.{is_there}
-use Rattle.ref_base.specs.Paths.{any_referent, targets_at}
+use Rattle.ref_base.specs.Graphs.{Object, object_at, is_there}
+use Rattle.ref_base.specs.Paths.{any_referent}
 use Rattle.ref_base.specs.Heaps.{Heap}
-use Rattle.ref_base.specs.Worlds.{World, Notice, first_world, hand_of}
+use Rattle.ref_base.specs.Worlds.{World, Notice, first_world, hand_of, graph_of}
 use Rattle.ref_base.specs.HeapSteps.{NamedStep, heap_step, spending, handed}
 use Rattle.ref_base.specs.Replay.{after_heap, after_queues, replayed}
 use Rattle.ref_base.specs.Collectors.{State, first_state}
 use Rattle.ref_base.specs.Refusals.{heap_refusal}
-use Rattle.ref_base.specs.CollectorRows.{HeapAccepts, with_world, with_handed, IsRow, IsRun, EndsMark}
+use Rattle.ref_base.specs.CollectorRows.{HeapAccepts, without, with_world, with_handed, IsRow, IsRun, EndsMark}
 use Rattle.ref_base.specs.CountedHolds.{AreCounted}
-use Rattle.ref_base.specs.AgreeingWorlds.{Agrees}
-use Rattle.ref_base.specs.MarkEnds.{MarkEnded}
+use Rattle.ref_base.specs.AgreeingWorlds.{Agrees, cleared_if, is_waiting}
+use Rattle.ref_base.specs.MarkEnds.{MarkEnded, WasDoomed, AreOutOfReach}
 use Rattle.ref_base.specs.declared.config.Config.{Config}
 use Rattle.ref_base.specs.declared.actor.Actor.{Actor}
 use Rattle.ref_base.specs.declared.actor.Actor.TheVariants.{Mutator, Worker}
@@ -36,13 +36,17 @@ use Rattle.ref_base.proofs.HeapMoves.{settled, moved, heap_moves, IsNoEnd}
 use Rattle.ref_base.proofs.PhaseLaws.{of_phase}
 use Rattle.ref_base.proofs.RowKinds.{IsRefused, IsOfQueues, IsOfHeap, row_kind}
 use Rattle.ref_base.proofs.ReplayKeeps.{EndsNoPhase, but_hands, handed_keeps, queues_keep}
-use Rattle.ref_base.proofs.AgreeHeaps.{Agreeing, gone_after, not_in}
+use Rattle.ref_base.proofs.AgreeHeaps.{Agreeing, gone_after, not_in, there-without}
+use Rattle.ref_base.proofs.HasLaws.{has-left, has-append}
+use Rattle.ref_base.proofs.OffSets.{target_there}
+use Rattle.ref_base.proofs.Reshaping.{is_there-reshaped}
+use Rattle.ref_base.proofs.SeenObjects.{cleared_if-shape}
 use Rattle.ref_base.proofs.AgreeRuns.{gone_next, gone_refused, row_agrees, first_agrees}
-use Rattle.ref_base.proofs.ApartWorlds.{OfValue, IsClosed}
+use Rattle.ref_base.proofs.ApartWorlds.{OfValue, IsClosed, closed_roots}
 use Rattle.ref_base.proofs.CarryRows.{nothing_pending}
 use Rattle.ref_base.proofs.ClosedRows.{closed_same}
-use Rattle.ref_base.proofs.MarkShows.{ended_more}
-use Rattle.ref_base.proofs.OutHeaps.{AreOut, off, doomed_in, phase_moved, cycle_moved, cleared_moved, plain_out, end_out}
+use Rattle.ref_base.proofs.MarkShows.{ended_more, doomed_more}
+use Rattle.ref_base.proofs.OutHeaps.{AreOut, off, off_is, doomed_in, phase_moved, cycle_moved, cleared_moved, plain_out, end_out}
 
 -- ---- more rows, and other states that are the same
 
@@ -50,6 +54,7 @@ more_out : (config : Config) (rows more : List Row) (gone : List ℕ) (a : State
     → AreOut config (rows ++ more) gone a
 more_out config rows more gone a out = record {
   closed = out.closed;
+  dead = λ n is_off. doomed_more config rows more n (out.dead n is_off);
   spared = out.spared;
   shown = λ clearing n cleared. ended_more config rows more a.world.cycle n (out.shown clearing n cleared);
 }
@@ -67,6 +72,7 @@ same_out config rows gone a b out others doomed clears =
           (closed_same (λ n. has (off gone a) n ≡ false) a.world b.world (ap (λ (w : World). w.heap.slots) others)
           (ap (λ (w : World). w.heap.holds) others) (ap (λ (w : World). w.pending) others)
           (ap (λ (w : World). w.heap.objects) others) out.closed);
+      dead = λ n is_off. out.dead n (ap (λ ns. has ns n) (sym offs) ∙ is_off);
       spared = λ clearing n cleared.
           ap (λ ns. has ns n) offs
           ∙ out.spared (sym phase ∙ clearing) n (ap (λ ns. has ns n) (sym clears) ∙ cleared);
@@ -195,6 +201,7 @@ first_out config = record {
     pendings = λ k. nothing_pending (λ p. has [] p.object ≡ false) config.workers k;
     targets = λ m n is target. refl;
   };
+  dead = λ n is_off. absurd (false≢true is_off);
   spared = λ clearing n cleared. refl;
   shown = λ clearing n cleared. absurd (false≢true cleared);
 }
@@ -214,7 +221,42 @@ legal_out config rows b run =
     ))
     ([], first_agrees config, first_out config) rows b run
 
--- the collector has the world of the replay, but for what is gone and what waits
+-- the collector has the world of the replay, but for what waits and what is gone, which a mark's end found dead
 pub legal_agrees : (config : Config) (rows : List Row) (b : State) → IsRun (first_state config) rows b
     → (gone : List ℕ) × Agrees gone (replayed config rows) b
-legal_agrees config rows b run = let known = legal_out config rows b run in (known.0, known.1.agrees)
+    × ((n : ℕ) → has gone n ≡ true → WasDoomed config rows n)
+legal_agrees config rows b run =
+    let known = legal_out config rows b run in
+    let later : List ℕ = doomed_in b.world.phase b.doomed in
+    (known.0, known.1.agrees, λ n out. known.2.dead n (has-left known.0 later n out))
+
+-- what is doomed, and not swept yet, is out of reach
+pub doomed_out : (config : Config) (rows : List Row) (b : State) → IsRun (first_state config) rows b
+    → (b.world.phase ≡ Clearing) ⊎ (b.world.phase ≡ Sweeping) → AreOutOfReach b.doomed (graph_of b.world)
+doomed_out config rows b run phase =
+    let known = legal_out config rows b run in
+    let gone : List ℕ = known.0 in
+    let os : List Object = (replayed config rows).heap.objects in
+    let offs : off gone b ≡ gone ++ b.doomed =
+    elim phase [
+      | inl clearing ↦ off_is gone b.doomed b Clearing clearing refl
+      | inr sweeping ↦ off_is gone b.doomed b Sweeping sweeping refl
+    ] in
+    let closed : IsClosed (λ n. has (gone ++ b.doomed) n ≡ false) b.world =
+    subst (λ ns. IsClosed (λ n. has ns n ≡ false) b.world) offs known.2.closed in
+    let spared : (n : ℕ) → has (gone ++ b.doomed) n ≡ false → has b.doomed n ≡ false =
+    λ n out. (or_parts (has gone n) (has b.doomed n) (sym (has-append gone b.doomed n) ∙ out)).1 in
+    let kept : (m : ℕ) → is_there b.world.heap.objects m ≡ true → has gone m ≡ false =
+    λ m there.
+    (there-without gone os m
+    (sym (is_there-reshaped (λ o. cleared_if (is_waiting b) o) (cleared_if-shape (is_waiting b)) (without gone os) m)
+    ∙ ap (λ (w : World). is_there w.heap.objects m) (sym known.1.agrees) ∙ there)).0 in
+    record {
+      roots = λ n root. spared n (closed_roots (λ n. has (gone ++ b.doomed) n ≡ false) b.world n closed root);
+      others = λ m n out target.
+          spared n
+          (closed.targets m n
+          (has-append gone b.doomed m
+          ∙ or_from (has gone m) (has b.doomed m)
+          (kept m (target_there any_referent (object_at b.world.heap.objects m) n target)) out) target);
+    }

@@ -1,8 +1,10 @@
 -- What a mark's end has shown of a reference that a cycle clears (package `java.lang.ref` of Java SE 17: a reference is
 -- cleared, and enqueued, once its referent is no longer reachable; cycles and kept paths: this project's profile).
-use Rattle.std.specs.Prelude.{◌≡◌, ℕ, true, List, [], ◌∷◌, ◌++◌, Option, Some, None}
+use Rattle.std.specs.Prelude.{◌≡◌, ℕ, true, false, List, [], ◌∷◌, ◌++◌, Option, Some, None}
 use Rattle.std.specs.List.{AllByRecursion}
-use Rattle.ref_base.specs.Graphs.{is_there}
+use Rattle.ref_base.specs.Members.{has}
+use Rattle.ref_base.specs.Graphs.{Graph, is_there}
+use Rattle.ref_base.specs.Paths.{any_referent, targets_at}
 use Rattle.ref_base.specs.KeptPaths.{IsKept}
 use Rattle.ref_base.specs.Heaps.{reference_at}
 use Rattle.ref_base.specs.Worlds.{World, Notice, policy_of, graph_of, hand_of, queue_at}
@@ -16,8 +18,13 @@ use Rattle.ref_base.specs.declared.step.Step.TheVariants as steps
 use Rattle.ref_base.specs.declared.reply.Reply.TheVariants as replies
 use Rattle.ref_base.specs.declared.row.Row.{Row}
 
+-- n is an object to which no kept path leads
+pub record IsDead (w : World) (n : ℕ) : Type 0 where
+  pub there : is_there w.heap.objects n ≡ true
+  pub not_kept : ¬ (IsKept (policy_of w) (graph_of w) n)
+
 -- One of the rows is the end of this cycle's mark; and in the world that the rows before it give by replay, n is a
--- reference with a referent, an object to which no kept path leads.
+-- reference, and its referent is dead.
 pub record MarkEnded (config : Config) (rows : List Row) (cycle n : ℕ) : Type 0 where
   pub before : List Row
   pub count : ℕ
@@ -26,8 +33,21 @@ pub record MarkEnded (config : Config) (rows : List Row) (cycle n : ℕ) : Type 
   pub of_cycle : (replayed config before).cycle ≡ cycle
   pub referent : ℕ
   pub referred : referent_of (reference_at (replayed config before).heap n) ≡ Some referent
-  pub there : is_there (replayed config before).heap.objects referent ≡ true
-  pub not_kept : ¬ (IsKept (policy_of (replayed config before)) (graph_of (replayed config before)) referent)
+  pub dead : IsDead (replayed config before) referent
+
+-- One of the rows is a mark's end; and in the world that the rows before it give by replay, n is dead.
+pub record WasDoomed (config : Config) (rows : List Row) (n : ℕ) : Type 0 where
+  pub before : List Row
+  pub count : ℕ
+  pub behind : List Row
+  pub is_earlier : before ++ record { step = steps.EndMark; reply = replies.Doomed count } ∷ behind ≡ rows
+  pub dead : IsDead (replayed config before) n
+
+-- no root is one of these, and no other object refers to one of them, by a field or as a reference
+pub record AreOutOfReach (these : List ℕ) (g : Graph) : Type 0 where
+  pub roots : (n : ℕ) → has g.roots n ≡ true → has these n ≡ false
+  pub others :
+      (m n : ℕ) → has these m ≡ false → has (targets_at any_referent g.objects m) n ≡ true → has these n ≡ false
 
 -- where the cause of a notice of reference n is a cycle, that cycle's mark ended before, and showed this of n
 abbrev pub IsAfterMark : Config → List Row → ℕ → Cause → Type 0
