@@ -1,24 +1,23 @@
 -- A mark's end, a worker's look at a reference and a sweep keep that the collector has the world of the replay, but for
 -- what was swept and for what waits to be cleared.
-use Rattle.std.proofs.Common.{◌≡◌, ℕ, ◌+◌, ◌<◌, ◌≤◌, Bool, true, false, ◌&&◌, ◌==◌, ◌||◌, List, [], ◌∷◌, ◌++◌, map}
-use Rattle.std.proofs.Common.{take, drop, Option, Some, None, is_some, refl, sym, ap, ◌∙◌, subst, arith, inl, inr}
+use Rattle.std.proofs.Common.{◌≡◌, ℕ, ◌<◌, Bool, true, false, ◌&&◌, ◌==◌, List, ◌++◌, map}
+use Rattle.std.proofs.Common.{take, drop, Option, Some, None, refl, sym, ap, ◌∙◌, subst, inl, inr}
 use Rattle.std.specs.Prelude.{slice_set}
-use Rattle.std.proofs.lemmas.Bool.{cases_Bool, and_right, true≢false, false≢true, eq-eqb, eqb-true}
+use Rattle.std.proofs.lemmas.Bool.{cases_Bool, and_right, eq-eqb, eqb-true}
 use Rattle.std.proofs.lemmas.List.{map-id, take-append-drop}
 use Rattle.ref_base.specs.Members.{has}
-use Rattle.ref_base.specs.Graphs.{Object, object_at, is_there, numbers}
+use Rattle.ref_base.specs.Graphs.{Object, is_there, numbers}
 use Rattle.ref_base.specs.Strengths.{IsRising}
-use Rattle.ref_base.specs.DoomedSets.{unscanned, new_clears}
-use Rattle.ref_base.specs.Heaps.{Heap, reference_at, reference_in, registered_in, with_changed, with_reference, cleared, changed_at}
+use Rattle.ref_base.specs.DoomedSets.{new_clears}
+use Rattle.ref_base.specs.Heaps.{reference_at, registered_in, with_changed, with_reference, cleared, changed_at}
 use Rattle.ref_base.specs.Worlds.{World, with_heap}
-use Rattle.ref_base.specs.HeapSteps.{NamedStep}
 use Rattle.ref_base.specs.Replay.{after_heap, with_phase, pended, cleared_for}
 use Rattle.ref_base.specs.Collectors.{State, joined}
 use Rattle.ref_base.specs.Refusals.{is_in}
-use Rattle.ref_base.specs.CollectorRows.{HeapAccepts, with_world, without, shown, mark_ended, doomed_at, EndsMark, list_at}
-use Rattle.ref_base.specs.AgreeingWorlds.{under, objects_under, heap_under, is_waiting, Agrees, cleared_if}
+use Rattle.ref_base.specs.CollectorRows.{with_world, without, mark_ended, doomed_at, EndsMark}
+use Rattle.ref_base.specs.AgreeingWorlds.{under, objects_under, is_waiting, Agrees, cleared_if}
 use Rattle.ref_base.specs.declared.phase.Phase.{Phase}
-use Rattle.ref_base.specs.declared.phase.Phase.TheVariants.{Idle, Marking, Clearing, Sweeping}
+use Rattle.ref_base.specs.declared.phase.Phase.TheVariants.{Marking, Clearing, Sweeping}
 use Rattle.ref_base.specs.declared.heap_step.HeapStep.TheVariants as heap
 use Rattle.ref_base.specs.declared.reply.Reply.{Reply}
 use Rattle.ref_base.specs.declared.reply.Reply.TheVariants as replies
@@ -67,7 +66,8 @@ marks gone w a found is marking all =
       agrees = ap (λ (ps : List Object). with_phase (with_heap a.world (record a.world.heap { objects = ps })) Clearing)
           (shown-waiting os d (is_waiting c) rising waits)
           ∙ ap (λ (v : World). with_phase (with_heap v (record v.heap {
-            objects = map (λ o. cleared_if (is_waiting c) o) v.heap.objects })) Clearing) there;
+            objects = map (λ o. cleared_if (is_waiting c) o) v.heap.objects;
+          })) Clearing) there;
       rising = is.rising;
       below = is.below;
       gone_below = is.gone_below;

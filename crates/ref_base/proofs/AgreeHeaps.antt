@@ -1,36 +1,30 @@
--- Each row of a heap keeps that the collector has the world of the replay, but for what was swept and for what waits to be
--- cleared.
-use Rattle.std.proofs.Common.{◌≡◌, ℕ, ◌+◌, ◌<◌, ◌≤◌, Bool, true, false, ◌&&◌, ◌==◌, ◌||◌, not, nat_lt, List, [], ◌∷◌, ◌++◌, map}
-use Rattle.std.proofs.Common.{take, drop, Option, Some, None, is_some, refl, sym, ap, ◌∙◌, subst, arith, inl, inr}
-use Rattle.std.specs.Prelude.{slice_set}
-use Rattle.std.proofs.lemmas.Bool.{cases_Bool, and_right, false_from_ne_true, true≢false, false≢true, eq-eqb, eqb-true}
-use Rattle.std.proofs.lemmas.Bool.{or_cases}
-use Rattle.std.proofs.lemmas.List.{map-id}
+-- A row of a heap keeps that the collector has the world of the replay, but for what was swept and for what waits to be
+-- cleared: a row that ends no phase, one that makes an object, and one that ends a phase in which nothing waits.
+use Rattle.std.proofs.Common.{◌≡◌, ℕ, ◌+◌, ◌<◌, ◌≤◌, Bool, true, false, ◌&&◌, ◌==◌, not, nat_lt, List, [], ◌∷◌, ◌++◌}
+use Rattle.std.proofs.Common.{take, Some, is_some, refl, sym, ap, ◌∙◌, subst, arith, inl, inr}
+use Rattle.std.proofs.lemmas.Bool.{cases_Bool, and_right, false_from_ne_true, true≢false, false≢true, eq-eqb}
 use Rattle.ref_base.specs.Members.{has}
-use Rattle.ref_base.specs.Graphs.{Object, object_at, is_there, numbers}
+use Rattle.ref_base.specs.Graphs.{Object, is_there, numbers}
 use Rattle.ref_base.specs.Strengths.{IsRising}
 use Rattle.ref_base.specs.Paths.{if_any}
-use Rattle.ref_base.specs.DoomedSets.{unscanned, new_clears}
-use Rattle.ref_base.specs.Heaps.{Heap, reference_at, reference_in, registered_in, with_changed, with_reference, cleared}
-use Rattle.ref_base.specs.Worlds.{World, with_heap}
+use Rattle.ref_base.specs.DoomedSets.{unscanned}
+use Rattle.ref_base.specs.Worlds.{World}
 use Rattle.ref_base.specs.HeapSteps.{NamedStep}
-use Rattle.ref_base.specs.Replay.{after_heap, with_phase, pended, cleared_for}
+use Rattle.ref_base.specs.Replay.{after_heap}
 use Rattle.ref_base.specs.Collectors.{State, joined}
-use Rattle.ref_base.specs.Refusals.{heap_refusal, is_in}
-use Rattle.ref_base.specs.CollectorRows.{HeapAccepts, with_world, without, shown, mark_ended, doomed_at, EndsMark, list_at}
-use Rattle.ref_base.specs.AgreeingWorlds.{under, objects_under, heap_under, is_waiting, Agrees, cleared_if}
+use Rattle.ref_base.specs.Refusals.{is_in}
+use Rattle.ref_base.specs.CollectorRows.{with_world, without}
+use Rattle.ref_base.specs.AgreeingWorlds.{under, is_waiting, Agrees}
 use Rattle.ref_base.specs.declared.phase.Phase.{Phase}
-use Rattle.ref_base.specs.declared.phase.Phase.TheVariants.{Idle, Marking, Clearing, Sweeping}
+use Rattle.ref_base.specs.declared.phase.Phase.TheVariants.{Clearing}
 use Rattle.ref_base.specs.declared.heap_step.HeapStep.TheVariants as heap
 use Rattle.ref_base.specs.declared.reply.Reply.{Reply}
 use Rattle.ref_base.specs.declared.reply.Reply.TheVariants as replies
-use Rattle.ref_base.proofs.HasLaws.{has-append, has-cases, has-single}
-use Rattle.ref_base.proofs.HeapMoves.{settled, moved, heap_moves}
-use Rattle.ref_base.proofs.PhaseLaws.{of_phase}
+use Rattle.ref_base.proofs.HasLaws.{has-cases, has-single}
+use Rattle.ref_base.proofs.HeapMoves.{settled}
 use Rattle.ref_base.proofs.ReplayUnder.{made_number, IsNoLook, IsApart, heap_through}
 use Rattle.ref_base.proofs.ReplayKeeps.{numbers_of, numbers_same, numbers_after, same_phase, EndsNoPhase, MakesNone}
-use Rattle.ref_base.proofs.SeenObjects.{object_at-without, object_at-gone, rising-without, seen_queue, seen_swept}
-use Rattle.ref_base.proofs.WaitingClears.{shown-waiting, looked-waiting, has-found, look_tells, Looks, new_clears-there}
+use Rattle.ref_base.proofs.SeenObjects.{object_at-without, object_at-gone}
 
 abbrev pub AreBelow : ℕ → List ℕ → Type 0
 AreBelow next ns = (n : ℕ) → has ns n ≡ true → n < next

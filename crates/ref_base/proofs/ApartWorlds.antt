@@ -1,17 +1,17 @@
 -- What no root names and nothing else refers to: changes of a world keep it so.
-use Rattle.std.proofs.Common.{◌≡◌, ℕ, zero, suc, ◌+◌, ◌*◌, Bool, true, false, ◌==◌, ◌||◌, List, [], ◌∷◌, ◌++◌, map, take}
-use Rattle.std.proofs.Common.{Option, Some, None, refl, sym, ap, ◌∙◌, subst, inl, inr, ◌⊎◌}
+use Rattle.std.proofs.Common.{◌≡◌, ℕ, suc, ◌+◌, ◌*◌, true, ◌==◌, ◌||◌, List, [], ◌∷◌, ◌++◌, map}
+use Rattle.std.proofs.Common.{Option, Some, None, refl, sym, ◌∙◌, subst, inl, inr, ◌⊎◌}
 use Rattle.std.specs.Prelude.{slice_index_or, slice_set}
 use Rattle.std.specs.List.{AllByRecursion}
-use Rattle.std.proofs.lemmas.Bool.{cases_Bool, or_cases, eqb-true, false≢true, or_right, true≢false}
-use Rattle.ref_base.specs.Members.{has, without_first}
-use Rattle.ref_base.specs.Graphs.{Graph, Object, Reference, object_at, is_there}
-use Rattle.ref_base.specs.Paths.{Allowed, any_referent, present, if_any, allowed_referent, targets_of, targets_at, is_soft}
-use Rattle.ref_base.specs.Heaps.{Heap, slot_at, with_slot, with_hold, without_hold, one_more, one_fewer, changed_in}
+use Rattle.std.proofs.lemmas.Bool.{cases_Bool, or_cases, eqb-true, false≢true, or_right}
+use Rattle.ref_base.specs.Members.{has}
+use Rattle.ref_base.specs.Graphs.{Object, Reference, object_at, is_there}
+use Rattle.ref_base.specs.Paths.{any_referent, present, allowed_referent, targets_of, targets_at, is_soft}
+use Rattle.ref_base.specs.Heaps.{with_slot, with_hold, without_hold, one_fewer, changed_in}
 use Rattle.ref_base.specs.Heaps.{changed_at, with_field, with_reference, cleared, got_at, changed_reference}
 use Rattle.ref_base.specs.Worlds.{World, Pending, pending_of, pending_numbers, graph_of, with_heap, with_pending}
-use Rattle.ref_base.specs.CollectorRows.{shown, without}
-use Rattle.ref_base.proofs.HasLaws.{has-cases, has-left, has-right, has-single}
+use Rattle.ref_base.specs.CollectorRows.{without}
+use Rattle.ref_base.proofs.HasLaws.{has-cases, has-left, has-right}
 use Rattle.ref_base.proofs.Lookups.{lookup-changed, object_at-push, object_at-pushed, has-present_set}
 use Rattle.ref_base.proofs.OneMore.{has-one_more}
 use Rattle.ref_base.proofs.Places.{set_all}

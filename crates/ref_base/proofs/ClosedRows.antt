@@ -1,14 +1,14 @@
 -- No row of a heap but a mark's end changes of what holds of whatever a root names, and whatever that refers to.
-use Rattle.std.proofs.Common.{◌≡◌, ℕ, zero, suc, ◌+◌, ◌*◌, Bool, true, false, ◌==◌, List, [], ◌∷◌, ◌++◌, length, take, drop, min}
+use Rattle.std.proofs.Common.{◌≡◌, ℕ, ◌+◌, ◌*◌, Bool, true, false, ◌==◌, List, [], ◌∷◌, ◌++◌, length, take, drop, min}
 use Rattle.std.proofs.Common.{Option, Some, None, refl, sym, ap, ◌∙◌, subst, inl, inr}
 use Rattle.std.specs.Prelude.{slice_index_or, slice_set}
 use Rattle.std.specs.List.{AllByRecursion}
-use Rattle.std.proofs.lemmas.Bool.{cases_Bool, or_left, and_parts, false≢true, eq-eqb}
+use Rattle.std.proofs.lemmas.Bool.{cases_Bool, and_parts, false≢true}
 use Rattle.ref_base.specs.Members.{has}
-use Rattle.ref_base.specs.Graphs.{Object, Reference, object_at, plain_object}
-use Rattle.ref_base.specs.Paths.{any_referent, present, if_any, allowed_referent, targets_of, targets_at, is_phantom}
-use Rattle.ref_base.specs.Heaps.{Heap, slot_at, reference_at, reference_in, registered_in, with_slot, with_reference}
-use Rattle.ref_base.specs.Heaps.{got_at, with_field, got, cut, stored, made, nulls, new_reference, changed_in, with_hold}
+use Rattle.ref_base.specs.Graphs.{Object, object_at, plain_object}
+use Rattle.ref_base.specs.Paths.{any_referent, present, if_any, targets_of, targets_at}
+use Rattle.ref_base.specs.Heaps.{Heap, slot_at, reference_at, registered_in, with_slot, with_reference}
+use Rattle.ref_base.specs.Heaps.{got_at, got, cut, stored, made, nulls, new_reference, changed_in, with_hold}
 use Rattle.ref_base.specs.Heaps.{without_hold}
 use Rattle.ref_base.specs.Worlds.{World, Pending, pending_of, with_heap, with_pending}
 use Rattle.ref_base.specs.HeapSteps.{NamedStep}
@@ -16,7 +16,7 @@ use Rattle.ref_base.specs.Replay.{adopted, pended, handed_on, begun, with_phase,
 use Rattle.ref_base.specs.Collectors.{State}
 use Rattle.ref_base.specs.CollectorRows.{Gives, GivesAnewIf, ticked, on_heap, with_world, Makes, Loads, Gets, Unhooks}
 use Rattle.ref_base.specs.CollectorRows.{Holds, Scans, ClearsNext, HandsOn, Sweeps, HeapAccepts, value_reply}
-use Rattle.ref_base.specs.CollectorRows.{looked_at, looked, list_at, begun_state, without, field_of, field_in, referent_got}
+use Rattle.ref_base.specs.CollectorRows.{looked_at, looked, list_at, begun_state, without, field_in, referent_got}
 use Rattle.ref_base.specs.CollectorRows.{reference_of}
 use Rattle.ref_base.specs.Refusals.{is_in, heap_refusal, is_counted, has_slot}
 use Rattle.ref_base.specs.declared.cause.Cause.TheVariants.{Own, Cycle}
@@ -27,12 +27,12 @@ use Rattle.ref_base.specs.declared.reply.Reply.{Reply}
 use Rattle.ref_base.specs.declared.reply.Reply.TheVariants as replies
 use Rattle.ref_base.proofs.Places.{all_push}
 use Rattle.ref_base.proofs.CarryLaws.{all_without_first}
-use Rattle.ref_base.proofs.HasLaws.{has-left, has-right, has-cases, has-first}
-use Rattle.ref_base.proofs.Lookups.{has-present_at}
+use Rattle.ref_base.proofs.HasLaws.{has-cases}
 use Rattle.ref_base.proofs.StrengthLaws.{if_any-has}
 use Rattle.ref_base.proofs.RowLaws.{ticked_world, but_world, unless_passes}
 use Rattle.ref_base.proofs.HeapMoves.{IsNoEnd}
 use Rattle.ref_base.proofs.PhaseLaws.{of_phase}
+use Rattle.ref_base.proofs.ObjectTargets.{field_target, got_target, no_nulls}
 use Rattle.ref_base.proofs.ApartWorlds.{OfValue, IsClosed, closed_slot, closed_hold, closed_fewer, closed_pending}
 use Rattle.ref_base.proofs.ApartWorlds.{closed_stored, closed_cut, closed_got, closed_push, closed_swept}
 
@@ -49,34 +49,6 @@ closed_same V v w slots holds pending objects closed = record {
       closed.targets m n is
       (ap (λ (os : List Object). has (targets_at any_referent os m) n) (sym objects) ∙ target);
 }
-
--- ---- what an object refers to
-
-field_target : (o : Option Object) (i n : ℕ) → field_of o i ≡ Some n → has (targets_of any_referent o) n ≡ true
-field_target None i n is = absurd cc
-field_target (Some o) i n is =
-    has-left (present o.fields) (allowed_referent any_referent o.reference) n (has-present_at o.fields i n is)
-
-got_target : (o : Option Object) (n : ℕ) → referent_got (reference_in o) ≡ Some n
-    → has (targets_of any_referent o) n ≡ true
-got_target None n is = absurd cc
-got_target (Some o) n is =
-    has-right (present o.fields) (allowed_referent any_referent o.reference) n (by_reference o.reference n is)
-  where
-    referent_has : (referent : Option ℕ) (n : ℕ) → referent ≡ Some n → has (if_any referent) n ≡ true
-    referent_has referent n is = ap (λ o. has (if_any o) n) is ∙ has-first n []
-    by_reference : (r : Option Reference) (n : ℕ) → referent_got r ≡ Some n
-        → has (allowed_referent any_referent r) n ≡ true
-    by_reference None n is = absurd cc
-    by_reference (Some r) n is =
-        elim (cases_Bool (is_phantom r.strength)) [
-          | inl phantom ↦ let none : None ≡ Some n = simp phantom at is in absurd cc
-          | inr other ↦ referent_has r.referent n (simp other at is)
-        ]
-
-no_nulls : (count n : ℕ) → has (present (nulls count)) n ≡ true → ⊥
-no_nulls zero n h = false≢true h
-no_nulls (suc count) n h = no_nulls count n h
 
 module _ (V : ℕ → Type 0) where
   in_world : (b : State) (w : World) → b.world ≡ w → IsClosed V w → IsClosed V b.world
@@ -203,7 +175,8 @@ module _ (V : ℕ → Type 0) where
               (record a.world.heap { objects = without (take 64 (n ∷ ns)) a.world.heap.objects });
           doomed = drop 64 (n ∷ ns);
         } in
-        given c b (replies.Swept (min 64 (length (n ∷ ns)))) reply row (closed_swept V a.world (take 64 (n ∷ ns)) closed)
+        given c b (replies.Swept (min 64 (length (n ∷ ns)))) reply row
+        (closed_swept V a.world (take 64 (n ∷ ns)) closed)
 
     slot_is : (m s : ℕ) → OfValue V (slot_at a.world.heap m s)
     slot_is m s = closed.slots (16 * m + s)
@@ -212,7 +185,8 @@ module _ (V : ℕ → Type 0) where
         → Gives (replies.Object n) (on_heap a (adopted a.world.heap m d n)) reply b → IsClosed V b.world
     adopts m d n reply is row =
         given (on_heap a (adopted a.world.heap m d n)) b (replies.Object n) reply row
-        (closed_slot V (with_heap a.world (without_hold a.world.heap n)) m d (Some n) is (closed_fewer V a.world n closed))
+        (closed_slot V (with_heap a.world (without_hold a.world.heap n)) m d (Some n) is
+        (closed_fewer V a.world n closed))
 
     phases : (phase : Phase) (answer reply : Reply) → Gives answer (with_world a (with_phase a.world phase)) reply b
         → IsClosed V b.world

@@ -1,18 +1,17 @@
 -- Where a row of a heap leads, in one equation: to the world that its replay gives, but for what a worker looks at in
 -- Clearing and what a sweep frees. A mark's end says itself where it leads.
-use Rattle.std.proofs.Common.{◌≡◌, ℕ, ◌+◌, ◌≤◌, Bool, true, false, List, [], ◌∷◌, ◌++◌, length, take, drop, min}
-use Rattle.std.proofs.Common.{Option, Some, None, is_some, refl, sym, ap, ◌∙◌, inl, inr, arith}
+use Rattle.std.proofs.Common.{◌≡◌, ℕ, ◌+◌, Bool, true, false, List, [], ◌∷◌, ◌++◌, length, take, drop, min}
+use Rattle.std.proofs.Common.{Option, Some, None, is_some, refl, sym, ap, ◌∙◌, inl, inr}
 use Rattle.std.specs.Prelude.{slice_set}
 use Rattle.std.proofs.lemmas.Bool.{cases_Bool}
 use Rattle.ref_base.specs.Members.{has}
-use Rattle.ref_base.specs.Graphs.{Object, plain_object}
-use Rattle.ref_base.specs.Heaps.{Heap, slot_at, reference_at, registered_in, with_slot, got, cut, stored, made, nulls}
-use Rattle.ref_base.specs.Heaps.{new_reference, with_hold, without_hold}
-use Rattle.ref_base.specs.Worlds.{World, Pending, pending_of, with_heap}
+use Rattle.ref_base.specs.Heaps.{Heap, slot_at, reference_at, registered_in, with_slot, got, cut, stored}
+use Rattle.ref_base.specs.Heaps.{with_hold, without_hold}
+use Rattle.ref_base.specs.Worlds.{World, Pending, with_heap}
 use Rattle.ref_base.specs.HeapSteps.{NamedStep}
 use Rattle.ref_base.specs.Replay.{adopted, pended, handed_on, begun, with_phase, after_heap}
 use Rattle.ref_base.specs.Collectors.{State}
-use Rattle.ref_base.specs.CollectorRows.{Gives, GivesAnewIf, IsBut, ticked, on_heap, with_world, Makes, Loads, Gets}
+use Rattle.ref_base.specs.CollectorRows.{Gives, GivesAnewIf, IsBut, ticked, on_heap, with_world, Loads, Gets}
 use Rattle.ref_base.specs.CollectorRows.{Unhooks, Holds, Scans, ClearsNext, HandsOn, Sweeps, HeapAccepts, value_reply}
 use Rattle.ref_base.specs.CollectorRows.{looked_at, looked, list_at, begun_state, emptied, without, referent_of}
 use Rattle.ref_base.specs.CollectorRows.{is_same, reference_of}

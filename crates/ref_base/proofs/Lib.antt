@@ -49,11 +49,13 @@ pub mod AgreeHeaps
 pub mod AgreeEnds
 pub mod AgreeRuns
 pub mod ApartWorlds
+pub mod ObjectTargets
 pub mod ClosedRows
 pub mod OffSets
 pub mod MarkShows
 pub mod OutHeaps
 pub mod OutRuns
+pub mod OutTraces
 pub mod MarkedTraces
 mod ReplayExamples
 mod LegalExamples

@@ -1,15 +1,15 @@
 -- What a mark's end shows of each reference that it clears, in the world of the replay; and what stands after it.
-use Rattle.std.proofs.Common.{◌≡◌, ℕ, Bool, true, false, not, ◌&&◌, List, [], ◌∷◌, ◌++◌, map, Option, Some, None}
-use Rattle.std.proofs.Common.{is_some, refl, sym, ap, ◌∙◌, subst}
+use Rattle.std.proofs.Common.{◌≡◌, ℕ, Bool, true, false, not, ◌&&◌, List, [], ◌∷◌, ◌++◌, Option, Some, None}
+use Rattle.std.proofs.Common.{refl, sym, ap, ◌∙◌, subst}
 use Rattle.std.proofs.lemmas.Bool.{and_parts, false≢true, not-true}
 use Rattle.std.proofs.lemmas.List.{append_assoc}
 use Rattle.ref_base.specs.Members.{has}
-use Rattle.ref_base.specs.Graphs.{Graph, Object, Reference, object_at, is_there, numbers}
+use Rattle.ref_base.specs.Graphs.{Object, Reference, object_at, is_there, numbers}
 use Rattle.ref_base.specs.Strengths.{IsRising}
 use Rattle.ref_base.specs.KeptPaths.{IsKept, is_kept}
 use Rattle.ref_base.specs.DoomedSets.{MayDoom, any_is, refers_into, new_clears}
-use Rattle.ref_base.specs.Heaps.{reference_at, reference_in}
-use Rattle.ref_base.specs.Worlds.{World, policy_of, graph_of, with_heap}
+use Rattle.ref_base.specs.Heaps.{reference_in}
+use Rattle.ref_base.specs.Worlds.{World, policy_of, graph_of}
 use Rattle.ref_base.specs.Replay.{replayed}
 use Rattle.ref_base.specs.Collectors.{State, joined}
 use Rattle.ref_base.specs.CollectorRows.{without, referent_of, doomed_at}
@@ -75,15 +75,15 @@ module _ (config : Config) (past : List Row) (count : ℕ) (gone : List ℕ) (a 
       let os : List Object = a.world.heap.objects in
       let d : List ℕ = doomed_at a in
       let rising : IsRising (numbers os) =
-      subst (λ (ps : List Object). IsRising (numbers ps)) (sym objects) (rising-without gone w.heap.objects is.rising) in
+      subst (λ (ps : List Object). IsRising (numbers ps)) (sym objects)
+      (rising-without gone w.heap.objects is.rising) in
       let into : Bool = refers_into (has d) (reference_in (object_at os n)) in
       let parts = and_parts (is_there os n) (not (has d n) && into) (sym (has-new_clears os d n rising) ∙ new) in
       let both = and_parts (not (has d n)) into parts.1 in
       let referent = referent_into d (reference_in (object_at os n)) both.1 in
       let here = known n parts.0 in
       let same : object_at os n ≡ object_at w.heap.objects n =
-      ap (λ (ps : List Object). object_at ps n) objects ∙ object_at-without gone w.heap.objects n here.0 in
-      (
+      ap (λ (ps : List Object). object_at ps n) objects ∙ object_at-without gone w.heap.objects n here.0 in (
         here.0,
         not-true (has d n) both.0,
         record {

@@ -1,17 +1,11 @@
 -- In every legal trace a notice of a cycle comes after the end of that cycle's mark, which showed what it had to.
-use Rattle.std.proofs.Common.{◌≡◌, ℕ, true, false, List, [], ◌∷◌, ◌++◌, Option, Some, None, refl, sym, ap, ◌∙◌, subst}
-use Rattle.std.proofs.Common.{◌⊎◌, inl, inr, is_some}
-use Rattle.std.specs.List.{AllByRecursion}
-use Rattle.std.proofs.lemmas.Bool.{or_parts, or_from}
+use Rattle.std.proofs.Common.{◌≡◌, ℕ, true, List, [], ◌∷◌, ◌++◌, Option, Some, None, refl, ap, subst}
 use Rattle.ref_base.specs.Members.{has}
-use Rattle.ref_base.specs.Graphs.{Object, object_at, is_there}
-use Rattle.ref_base.specs.Paths.{any_referent, targets_at, targets_of}
 use Rattle.ref_base.specs.Worlds.{World, Notice, hand_of}
 use Rattle.ref_base.specs.Replay.{replayed}
 use Rattle.ref_base.specs.Collectors.{State, first_state}
 use Rattle.ref_base.specs.Refusals.{refusal, heap_refusal}
-use Rattle.ref_base.specs.CollectorRows.{IsAnswer, IsRow, IsRun, list_at, without}
-use Rattle.ref_base.specs.AgreeingWorlds.{is_waiting, objects_under}
+use Rattle.ref_base.specs.CollectorRows.{IsAnswer, IsRow, IsRun, list_at}
 use Rattle.ref_base.specs.MarkEnds.{MarkEnded, IsAfterMark, IsAfterMarkIn, AreAfterMarks}
 use Rattle.ref_base.specs.declared.config.Config.{Config}
 use Rattle.ref_base.specs.declared.actor.Actor.{Actor}
@@ -19,8 +13,7 @@ use Rattle.ref_base.specs.declared.actor.Actor.TheVariants.{Mutator, Worker}
 use Rattle.ref_base.specs.declared.cause.Cause.{Cause}
 use Rattle.ref_base.specs.declared.cause.Cause.TheVariants.{Own, Cycle}
 use Rattle.ref_base.specs.declared.fault.Fault.{Fault}
-use Rattle.ref_base.specs.declared.phase.Phase.{Phase}
-use Rattle.ref_base.specs.declared.phase.Phase.TheVariants.{Clearing, Sweeping}
+use Rattle.ref_base.specs.declared.phase.Phase.TheVariants.{Clearing}
 use Rattle.ref_base.specs.declared.heap_step.HeapStep.TheVariants as heap
 use Rattle.ref_base.specs.declared.step.Step.{Step}
 use Rattle.ref_base.specs.declared.step.Step.TheVariants as steps
@@ -34,7 +27,7 @@ use Rattle.ref_base.proofs.CarryRows.{Mints, row_carries, first_carries, carries
 use Rattle.ref_base.proofs.PhaseLaws.{of_phase}
 use Rattle.ref_base.proofs.WaitingClears.{look_tells, Tells}
 use Rattle.ref_base.proofs.MarkShows.{ended_more}
-use Rattle.ref_base.proofs.OutRuns.{legal_out}
+use Rattle.ref_base.proofs.OutTraces.{legal_out}
 
 -- ---- what a worker clears
 
@@ -44,7 +37,8 @@ cleared_row : (a b : State) (k n : ℕ) (fault : Option Fault) → heap_refusal 
     → (a.world.phase ≡ Clearing) × (has a.cleared n ≡ true)
 cleared_row a b k n (Some fault) is row = let answer = row.0 in absurd cc
 cleared_row a b k n None is row =
-    let tells : Tells a k (replies.Cleared n) = look_tells a row.0 k (list_at a.found k) (replies.Cleared n) refl row.1 in
+    let tells : Tells a k (replies.Cleared n) =
+    look_tells a row.0 k (list_at a.found k) (replies.Cleared n) refl row.1 in
     (of_phase 0 a (heap.ClearNext k) is, tells.0)
 
 row_shows : (config : Config) (past : List Row) (a b : State) (k n : ℕ) → IsRun (first_state config) past a

@@ -1,21 +1,21 @@
 -- What is gone or doomed is out of reach: no root names it, and nothing else refers to it. A mark's end makes it so.
-use Rattle.std.proofs.Common.{◌≡◌, ℕ, zero, suc, Bool, true, false, not, ◌&&◌, ◌||◌, ◌==◌, List, [], ◌∷◌, ◌++◌, map}
-use Rattle.std.proofs.Common.{Option, Some, None, is_some, refl, sym, ap, ◌∙◌, subst, inl, inr, ◌⊎◌}
+use Rattle.std.proofs.Common.{◌≡◌, ℕ, zero, suc, true, false, ◌==◌, List, [], ◌∷◌, ◌++◌, map}
+use Rattle.std.proofs.Common.{Option, Some, None, is_some, refl, sym, ap, ◌∙◌, inl, inr, ◌⊎◌}
 use Rattle.std.specs.Prelude.{slice_index_or}
 use Rattle.std.specs.List.{AllByRecursion}
-use Rattle.std.proofs.lemmas.Bool.{cases_Bool, or_parts, or_from, or_left, or_right, and_cases, and_parts, eqb-true, eq-eqb}
-use Rattle.std.proofs.lemmas.Bool.{true≢false, false≢true, false_from_ne_true}
+use Rattle.std.proofs.lemmas.Bool.{cases_Bool, or_parts, or_from, or_left, or_right, eqb-true, eq-eqb}
+use Rattle.std.proofs.lemmas.Bool.{false≢true, false_from_ne_true}
 use Rattle.ref_base.specs.Members.{has}
 use Rattle.ref_base.specs.Graphs.{Graph, Object, Reference, object_at, is_there}
-use Rattle.ref_base.specs.Paths.{Allowed, EndsPath, any_referent, no_referents, present, if_any, allowed_referent}
+use Rattle.ref_base.specs.Paths.{Allowed, EndsPath, any_referent, no_referents, present, allowed_referent}
 use Rattle.ref_base.specs.Paths.{targets_of, targets_at}
 use Rattle.ref_base.specs.KeptPaths.{is_kept}
-use Rattle.ref_base.specs.DoomedSets.{MayDoom, any_is, refers_into, is_new_clear}
-use Rattle.ref_base.specs.Heaps.{with_reference, cleared, changed_reference}
+use Rattle.ref_base.specs.DoomedSets.{MayDoom, any_is, refers_into}
+use Rattle.ref_base.specs.Heaps.{cleared, changed_reference}
 use Rattle.ref_base.specs.Worlds.{World, Pending, policy_of, graph_of, pending_of, pending_numbers, with_heap}
 use Rattle.ref_base.specs.CollectorRows.{without, shown}
 use Rattle.ref_base.proofs.CarryRows.{all_more}
-use Rattle.ref_base.proofs.HasLaws.{has-append, has-cases, has-left, has-right, has-first, has-single}
+use Rattle.ref_base.proofs.HasLaws.{has-append, has-cases, has-left, has-right}
 use Rattle.ref_base.proofs.Lookups.{has-present_at, allowed_referent-cases}
 use Rattle.ref_base.proofs.PathLaws.{root_ends, path_within, targets_of-wider, target_ends}
 use Rattle.ref_base.proofs.SeenObjects.{object_at-without}
@@ -72,7 +72,8 @@ object_shown d o n out target =
       | inl met ↦
           let now : has (present o.fields ++ allowed_referent any_referent (changed_reference cleared o.reference)) n
           ≡ true = simp (out, met) at target in
-          elim (has-cases (present o.fields) (allowed_referent any_referent (changed_reference cleared o.reference)) n now) [
+          let old : List ℕ = allowed_referent any_referent (changed_reference cleared o.reference) in
+          elim (has-cases (present o.fields) old n now) [
             | inl field ↦ inl (has-left (present o.fields) (allowed_referent no_referents o.reference) n field)
             | inr referent ↦ absurd (no_referent o.reference referent)
           ]
@@ -135,7 +136,8 @@ all_both P Q R (p ∷ ps) both all also = (both p all.0 also.0, all_both P Q R p
 
 -- where nothing that is gone is in reach, a mark's end leaves nothing in reach that is gone or doomed
 module _ (gone d : List ℕ) (w : World) (moments : List Graph)
-    (may : MayDoom (policy_of w) (graph_of w) moments d) (there : (n : ℕ) → has d n ≡ true → is_there w.heap.objects n ≡ true)
+    (may : MayDoom (policy_of w) (graph_of w) moments d)
+    (there : (n : ℕ) → has d n ≡ true → is_there w.heap.objects n ≡ true)
     (closed : IsClosed (λ n. has gone n ≡ false) w) where
   abbrev IsOut : ℕ → Type 0
   IsOut n = has (gone ++ d) n ≡ false

@@ -1,12 +1,11 @@
 -- Each number is given once, so in every legal trace a reference is registered with one queue.
-use Rattle.std.proofs.Common.{◌≡◌, ℕ, ◌+◌, ◌<◌, ◌≤◌, Bool, true, ◌==◌, ◌&&◌, if◌then◌else◌, List, [], ◌∷◌, ◌++◌}
-use Rattle.std.proofs.Common.{Option, Some, None, refl, sym, ap, ◌∙◌, subst, arith, inl, inr, ◌⊎◌}
+use Rattle.std.proofs.Common.{◌≡◌, ℕ, ◌+◌, ◌<◌, ◌≤◌, true, ◌==◌, List, [], ◌∷◌, ◌++◌}
+use Rattle.std.proofs.Common.{Option, Some, None, refl, sym, ap, ◌∙◌, arith, inl, inr, ◌⊎◌}
 use Rattle.std.proofs.lemmas.Bool.{cases_Bool, and_parts, eqb-true, false≢true}
-use Rattle.ref_base.specs.Worlds.{World}
 use Rattle.ref_base.specs.HeapSteps.{NamedStep}
 use Rattle.ref_base.specs.Collectors.{State, first_state}
 use Rattle.ref_base.specs.Refusals.{refusal}
-use Rattle.ref_base.specs.CollectorRows.{ticked, HeapAccepts, IsAnswer, IsRow, IsRun}
+use Rattle.ref_base.specs.CollectorRows.{HeapAccepts, IsAnswer, IsRow, IsRun}
 use Rattle.ref_base.specs.WorkerOrder.{registers, is_registered}
 use Rattle.ref_base.specs.LegalTraces.{IsLegal}
 use Rattle.ref_base.specs.declared.config.Config.{Config}
@@ -60,8 +59,7 @@ registers_next a b (steps.Refer m strength d s (Some k) fields) (replies.Object 
 registers_next a b (steps.Refer m strength d s (Some k) fields) (replies.Object o) None n q h makes =
     let answer = h.1.0 in
     let number : o ≡ a.next = cc in
-    let same = and_parts (o == n) (k == q) makes in
-    (
+    let same = and_parts (o == n) (k == q) makes in (
       sym (eqb-true o n same.0) ∙ number,
       ap (λ (s : State). s.next) h.2 ∙ ap (λ (s : State). s.next) (ap settled h.1.1 ∙ settled_ticked _),
     )

@@ -1,17 +1,17 @@
--- Each row of a heap keeps that what is gone or doomed is out of reach, and that a mark's end has shown what it cleared.
-use Rattle.std.proofs.Common.{◌≡◌, ℕ, ◌<◌, Bool, true, false, List, [], ◌∷◌, ◌++◌, take, drop, Option, Some, None, refl}
-use Rattle.std.proofs.Common.{sym, ap, ◌∙◌, subst, arith, inl, inr}
+-- Each row of a heap keeps that what is gone or doomed is out of reach, and that a mark's end has shown what it
+-- cleared.
+use Rattle.std.proofs.Common.{◌≡◌, ℕ, true, false, List, [], ◌∷◌, ◌++◌, take, drop, None, refl}
+use Rattle.std.proofs.Common.{sym, ap, ◌∙◌, subst, inl, inr}
 use Rattle.std.proofs.lemmas.Bool.{or_from, false≢true}
 use Rattle.std.proofs.lemmas.List.{append-nil, append_assoc, take-append-drop}
 use Rattle.ref_base.specs.Members.{has}
-use Rattle.ref_base.specs.DoomedSets.{MayDoom, new_clears}
 use Rattle.ref_base.specs.Heaps.{reference_at, registered_in}
-use Rattle.ref_base.specs.Worlds.{World, policy_of, graph_of}
+use Rattle.ref_base.specs.Worlds.{World}
 use Rattle.ref_base.specs.HeapSteps.{NamedStep}
 use Rattle.ref_base.specs.Replay.{after_heap, replayed}
 use Rattle.ref_base.specs.Collectors.{State, joined}
-use Rattle.ref_base.specs.Refusals.{heap_refusal, is_in}
-use Rattle.ref_base.specs.CollectorRows.{HeapAccepts, EndsMark, mark_ended, doomed_at}
+use Rattle.ref_base.specs.Refusals.{heap_refusal}
+use Rattle.ref_base.specs.CollectorRows.{HeapAccepts, EndsMark, doomed_at}
 use Rattle.ref_base.specs.MarkEnds.{MarkEnded, WasDoomed}
 use Rattle.ref_base.specs.declared.config.Config.{Config}
 use Rattle.ref_base.specs.declared.phase.Phase.{Phase}
@@ -22,14 +22,14 @@ use Rattle.ref_base.specs.declared.reply.Reply.{Reply}
 use Rattle.ref_base.specs.declared.reply.Reply.TheVariants as replies
 use Rattle.ref_base.specs.declared.row.Row.{Row}
 use Rattle.ref_base.proofs.HasLaws.{has-append, has-cases}
-use Rattle.ref_base.proofs.HeapMoves.{settled, moved, heap_moves, IsNoEnd}
+use Rattle.ref_base.proofs.HeapMoves.{moved, heap_moves, IsNoEnd}
 use Rattle.ref_base.proofs.PhaseLaws.{of_phase}
 use Rattle.ref_base.proofs.ReplayKeeps.{EndsNoPhase, same_phase, same_cycle, phase_pended, cycle_pended}
-use Rattle.ref_base.proofs.AgreeHeaps.{Agreeing, AreBelow, gone_after, fresh, not_in, unscanned-there}
+use Rattle.ref_base.proofs.AgreeHeaps.{Agreeing, gone_after, fresh, unscanned-there}
 use Rattle.ref_base.proofs.ApartWorlds.{IsClosed}
 use Rattle.ref_base.proofs.ClosedRows.{closed_same, heap_closed}
 use Rattle.ref_base.proofs.OffSets.{ended_closed}
-use Rattle.ref_base.proofs.MarkShows.{mark_shows, doomed_was, ended_more, doomed_more}
+use Rattle.ref_base.proofs.MarkShows.{mark_shows, doomed_was, doomed_more}
 
 -- what is doomed and not swept yet
 abbrev pub doomed_in : Phase → List ℕ → List ℕ
@@ -42,8 +42,8 @@ doomed_in Sweeping doomed = doomed
 abbrev pub off : List ℕ → State → List ℕ
 off gone a = gone ++ doomed_in a.world.phase a.doomed
 
--- Nothing that is gone or doomed is in reach, and a mark's end found it dead; and while references are cleared, each that
--- the mark's end cleared isn't among these, and the mark's end has shown of it what it shows.
+-- Nothing that is gone or doomed is in reach, and a mark's end found it dead; and while references are cleared, each
+-- that the mark's end cleared isn't among these, and the mark's end has shown of it what it shows.
 pub record AreOut (config : Config) (rows : List Row) (gone : List ℕ) (a : State) : Type 0 where
   pub closed : IsClosed (λ n. has (off gone a) n ≡ false) a.world
   pub dead : (n : ℕ) → has (off gone a) n ≡ true → WasDoomed config rows n

@@ -1,26 +1,17 @@
--- After every legal trace the collector has the world of the replay, but for what was swept and for what waits to be
--- cleared; what is gone or doomed is out of reach; and a mark's end has shown what it cleared.
-use Rattle.std.proofs.Common.{◌≡◌, ℕ, zero, suc, ◌+◌, ◌*◌, true, false, List, [], ◌∷◌, ◌++◌, replicate, Option, Some, None, refl, sym}
-use Rattle.std.proofs.Common.{ap, ◌∙◌, subst, inl, inr, ◌⊎◌}
-use Rattle.std.specs.Prelude.{slice_index_or}
-use Rattle.std.proofs.lemmas.Bool.{false≢true, or_parts, or_from}
-use Rattle.std.specs.List.{AllByRecursion}
+-- Each row keeps that what is gone or doomed is out of reach, and that a mark's end has shown what it cleared.
+use Rattle.std.proofs.Common.{◌≡◌, ℕ, ◌+◌, false, List, [], ◌∷◌, ◌++◌, Option, Some, None, refl, sym}
+use Rattle.std.proofs.Common.{ap, ◌∙◌, subst, inl, inr}
 use Rattle.ref_base.specs.Members.{has}
-use Rattle.ref_base.specs.Graphs.{Object, object_at, is_there}
-use Rattle.ref_base.specs.Paths.{any_referent}
-use Rattle.ref_base.specs.Heaps.{Heap}
-use Rattle.ref_base.specs.Worlds.{World, Notice, first_world, hand_of, graph_of}
-use Rattle.ref_base.specs.HeapSteps.{NamedStep, heap_step, spending, handed}
-use Rattle.ref_base.specs.Replay.{after_heap, after_queues, replayed}
-use Rattle.ref_base.specs.Collectors.{State, first_state}
+use Rattle.ref_base.specs.Worlds.{World, Notice, hand_of}
+use Rattle.ref_base.specs.HeapSteps.{NamedStep, heap_step, spending}
+use Rattle.ref_base.specs.Replay.{replayed}
+use Rattle.ref_base.specs.Collectors.{State}
 use Rattle.ref_base.specs.Refusals.{heap_refusal}
-use Rattle.ref_base.specs.CollectorRows.{HeapAccepts, without, with_world, with_handed, IsRow, IsRun, EndsMark}
+use Rattle.ref_base.specs.CollectorRows.{HeapAccepts, IsRow, EndsMark}
 use Rattle.ref_base.specs.CountedHolds.{AreCounted}
-use Rattle.ref_base.specs.AgreeingWorlds.{Agrees, cleared_if, is_waiting}
-use Rattle.ref_base.specs.MarkEnds.{MarkEnded, WasDoomed, AreOutOfReach}
+use Rattle.ref_base.specs.MarkEnds.{MarkEnded}
 use Rattle.ref_base.specs.declared.config.Config.{Config}
-use Rattle.ref_base.specs.declared.actor.Actor.{Actor}
-use Rattle.ref_base.specs.declared.actor.Actor.TheVariants.{Mutator, Worker}
+use Rattle.ref_base.specs.declared.actor.Actor.TheVariants.{Mutator}
 use Rattle.ref_base.specs.declared.phase.Phase.{Phase}
 use Rattle.ref_base.specs.declared.phase.Phase.TheVariants.{Idle, Marking, Clearing, Sweeping}
 use Rattle.ref_base.specs.declared.heap_step.HoldName.{HoldName}
@@ -30,23 +21,16 @@ use Rattle.ref_base.specs.declared.step.Step.TheVariants as steps
 use Rattle.ref_base.specs.declared.reply.Reply.{Reply}
 use Rattle.ref_base.specs.declared.reply.Reply.TheVariants as replies
 use Rattle.ref_base.specs.declared.row.Row.{Row}
-use Rattle.ref_base.proofs.CountedTraces.{legal_counted}
-use Rattle.ref_base.proofs.RunFronts.{legal_holds, replayed_last}
 use Rattle.ref_base.proofs.HeapMoves.{settled, moved, heap_moves, IsNoEnd}
 use Rattle.ref_base.proofs.PhaseLaws.{of_phase}
-use Rattle.ref_base.proofs.RowKinds.{IsRefused, IsOfQueues, IsOfHeap, row_kind}
+use Rattle.ref_base.proofs.RowKinds.{row_kind}
 use Rattle.ref_base.proofs.ReplayKeeps.{EndsNoPhase, but_hands, handed_keeps, queues_keep}
-use Rattle.ref_base.proofs.AgreeHeaps.{Agreeing, gone_after, not_in, there-without}
-use Rattle.ref_base.proofs.HasLaws.{has-left, has-append}
-use Rattle.ref_base.proofs.OffSets.{target_there}
-use Rattle.ref_base.proofs.Reshaping.{is_there-reshaped}
-use Rattle.ref_base.proofs.SeenObjects.{cleared_if-shape}
-use Rattle.ref_base.proofs.AgreeRuns.{gone_next, gone_refused, row_agrees, first_agrees}
-use Rattle.ref_base.proofs.ApartWorlds.{OfValue, IsClosed, closed_roots}
-use Rattle.ref_base.proofs.CarryRows.{nothing_pending}
+use Rattle.ref_base.proofs.AgreeHeaps.{Agreeing, gone_after, not_in}
+use Rattle.ref_base.proofs.AgreeRuns.{gone_next, gone_refused}
+use Rattle.ref_base.proofs.ApartWorlds.{IsClosed}
 use Rattle.ref_base.proofs.ClosedRows.{closed_same}
 use Rattle.ref_base.proofs.MarkShows.{ended_more, doomed_more}
-use Rattle.ref_base.proofs.OutHeaps.{AreOut, off, off_is, doomed_in, phase_moved, cycle_moved, cleared_moved, plain_out, end_out}
+use Rattle.ref_base.proofs.OutHeaps.{AreOut, off, doomed_in, phase_moved, cycle_moved, cleared_moved, plain_out, end_out}
 
 -- ---- more rows, and other states that are the same
 
@@ -107,8 +91,7 @@ module _ (config : Config) (past : List Row) (gone : List ℕ) (a c : State)
       let phase : c.world.phase ≡ a.world.phase =
       ap (λ (s : State). s.world.phase) leads ∙ phase_moved a step reply ends in
       plain_out config past gone a c is out step reply plain none row
-      (λ clearing.
-      (
+      (λ clearing. (
         sym phase ∙ clearing,
         ap (λ (s : State). s.cleared) leads ∙ cleared_moved a step reply ends,
         ap (λ (s : State). s.world.cycle) leads ∙ cycle_moved a step reply ends,
@@ -156,7 +139,7 @@ module _ (config : Config) (past : List Row) (gone : List ℕ) (a c : State)
 
 module _ (config : Config) (past : List Row) (gone : List ℕ) (a : State) (row : Row) (b : State)
     (is : Agreeing gone (replayed config past) a) (out : AreOut config past gone a) where
-  row_out : AreCounted a.world → IsRow a row b
+  pub row_out : AreCounted a.world → IsRow a row b
       → AreOut config (past ++ row ∷ []) (gone_next a gone (heap_step a.world row.step) row.reply) b
   row_out counted h =
       elim (row_kind a row b counted h) [
@@ -185,78 +168,3 @@ module _ (config : Config) (past : List Row) (gone : List ℕ) (a : State) (row 
               (ap (λ (s : State). s.doomed) of.after) (ap (λ (s : State). s.cleared) of.after))
         ]
       ]
-
--- ---- after every legal trace
-
-no_slot : (count i : ℕ) → OfValue (λ n. has [] n ≡ false) (slice_index_or (replicate count None) i None)
-no_slot zero i = tt
-no_slot (suc count) zero = tt
-no_slot (suc count) (suc i) = no_slot count i
-
-first_out : (config : Config) → AreOut config [] [] (first_state config)
-first_out config = record {
-  closed = record {
-    slots = no_slot (16 * config.mutators);
-    holds = λ n held. refl;
-    pendings = λ k. nothing_pending (λ p. has [] p.object ≡ false) config.workers k;
-    targets = λ m n is target. refl;
-  };
-  dead = λ n is_off. absurd (false≢true is_off);
-  spared = λ clearing n cleared. refl;
-  shown = λ clearing n cleared. absurd (false≢true cleared);
-}
-
-pub legal_out : (config : Config) (rows : List Row) (b : State) → IsRun (first_state config) rows b
-    → (gone : List ℕ) × Agreeing gone (replayed config rows) b × AreOut config rows gone b
-legal_out config rows b run =
-    legal_holds config (λ past a. (gone : List ℕ) × Agreeing gone (replayed config past) a × AreOut config past gone a)
-    (λ past a row b run known h.
-    let counted = legal_counted config past a run in
-    let now = gone_next a known.0 (heap_step a.world row.step) row.reply in
-    (
-      now,
-      subst (λ (w : World). Agreeing now w b) (sym (replayed_last (first_world config) past row))
-          (row_agrees known.0 (replayed config past) a row b known.1 counted h),
-      row_out config past known.0 a row b known.1 known.2 counted h,
-    ))
-    ([], first_agrees config, first_out config) rows b run
-
--- the collector has the world of the replay, but for what waits and what is gone, which a mark's end found dead
-pub legal_agrees : (config : Config) (rows : List Row) (b : State) → IsRun (first_state config) rows b
-    → (gone : List ℕ) × Agrees gone (replayed config rows) b
-    × ((n : ℕ) → has gone n ≡ true → WasDoomed config rows n)
-legal_agrees config rows b run =
-    let known = legal_out config rows b run in
-    let later : List ℕ = doomed_in b.world.phase b.doomed in
-    (known.0, known.1.agrees, λ n out. known.2.dead n (has-left known.0 later n out))
-
--- what is doomed, and not swept yet, is out of reach
-pub doomed_out : (config : Config) (rows : List Row) (b : State) → IsRun (first_state config) rows b
-    → (b.world.phase ≡ Clearing) ⊎ (b.world.phase ≡ Sweeping) → AreOutOfReach b.doomed (graph_of b.world)
-doomed_out config rows b run phase =
-    let known = legal_out config rows b run in
-    let gone : List ℕ = known.0 in
-    let os : List Object = (replayed config rows).heap.objects in
-    let offs : off gone b ≡ gone ++ b.doomed =
-    elim phase [
-      | inl clearing ↦ off_is gone b.doomed b Clearing clearing refl
-      | inr sweeping ↦ off_is gone b.doomed b Sweeping sweeping refl
-    ] in
-    let closed : IsClosed (λ n. has (gone ++ b.doomed) n ≡ false) b.world =
-    subst (λ ns. IsClosed (λ n. has ns n ≡ false) b.world) offs known.2.closed in
-    let spared : (n : ℕ) → has (gone ++ b.doomed) n ≡ false → has b.doomed n ≡ false =
-    λ n out. (or_parts (has gone n) (has b.doomed n) (sym (has-append gone b.doomed n) ∙ out)).1 in
-    let kept : (m : ℕ) → is_there b.world.heap.objects m ≡ true → has gone m ≡ false =
-    λ m there.
-    (there-without gone os m
-    (sym (is_there-reshaped (λ o. cleared_if (is_waiting b) o) (cleared_if-shape (is_waiting b)) (without gone os) m)
-    ∙ ap (λ (w : World). is_there w.heap.objects m) (sym known.1.agrees) ∙ there)).0 in
-    record {
-      roots = λ n root. spared n (closed_roots (λ n. has (gone ++ b.doomed) n ≡ false) b.world n closed root);
-      others = λ m n out target.
-          spared n
-          (closed.targets m n
-          (has-append gone b.doomed m
-          ∙ or_from (has gone m) (has b.doomed m)
-          (kept m (target_there any_referent (object_at b.world.heap.objects m) n target)) out) target);
-    }

@@ -1,5 +1,5 @@
 -- In which phase a row of a heap is accepted.
-use Rattle.std.proofs.Common.{◌≡◌, ℕ, Bool, true, false, List, [], ◌∷◌, Option, None, refl, ap, ◌∙◌}
+use Rattle.std.proofs.Common.{◌≡◌, ℕ, true, List, [], ◌∷◌, None, refl}
 use Rattle.std.proofs.lemmas.Bool.{false≢true}
 use Rattle.ref_base.specs.HeapSteps.{NamedStep}
 use Rattle.ref_base.specs.Collectors.{State, joined}
@@ -43,8 +43,7 @@ of_phase heap_no a (heap.ClearNext k) none =
     let worker = unless_passes (is_worker a.world.heap k) _ _ none in
     is_phase a.world.phase Clearing (unless_passes (is_in a.world.phase Clearing) _ _ worker.1).0
 of_phase heap_no a heap.EndClear none =
-    let phase = unless_passes (is_in a.world.phase Clearing) _ _ none in
-    (
+    let phase = unless_passes (is_in a.world.phase Clearing) _ _ none in (
       is_phase a.world.phase Clearing phase.0,
       empty_is (joined a.found) (unless_passes (is_empty (joined a.found)) _ _ phase.1).0,
     )
@@ -52,8 +51,7 @@ of_phase heap_no a (heap.Sweep k) none =
     let worker = unless_passes (is_worker a.world.heap k) _ _ none in
     is_phase a.world.phase Sweeping (unless_passes (is_in a.world.phase Sweeping) _ _ worker.1).0
 of_phase heap_no a heap.EndSweep none =
-    let phase = unless_passes (is_in a.world.phase Sweeping) _ _ none in
-    (
+    let phase = unless_passes (is_in a.world.phase Sweeping) _ _ none in (
       is_phase a.world.phase Sweeping phase.0,
       empty_is a.doomed (unless_passes (is_empty a.doomed) _ _ phase.1).0,
     )

@@ -1,13 +1,13 @@
--- What a row of the replay leaves as it was: phase and cycle, but at the ends of phases; the numbers of objects, but where one is
--- made; and all but hands and queues, where no heap is asked.
+-- What a row of the replay leaves as it was: phase and cycle, but at the ends of phases; the numbers of objects, but
+-- where one is made; and all but hands and queues, where no heap is asked.
 use Rattle.std.proofs.Common.{◌≡◌, ℕ, Bool, true, false, if◌then◌else◌, List, [], ◌∷◌, ◌++◌, Option, Some, None}
 use Rattle.std.proofs.Common.{refl, sym, ap, ◌∙◌, is_some}
 use Rattle.std.proofs.lemmas.List.{map-append, append-nil}
 use Rattle.ref_base.specs.Graphs.{Object, numbers, plain_object}
 use Rattle.ref_base.specs.Paths.{if_any}
-use Rattle.ref_base.specs.Heaps.{Heap, slot_at, reference_at, registered_in, changed_in, with_reference, cleared, got_at}
+use Rattle.ref_base.specs.Heaps.{slot_at, reference_at, registered_in, changed_in, with_reference, cleared, got_at}
 use Rattle.ref_base.specs.Heaps.{with_field, got, cut, nulls, new_reference}
-use Rattle.ref_base.specs.Worlds.{World, Notice, hand_of, with_heap, with_hand}
+use Rattle.ref_base.specs.Worlds.{World, Notice, hand_of, with_hand}
 use Rattle.ref_base.specs.Told.{told_object, told_value, is_done, told_notice, is_nothing, told_cycle, is_doomed}
 use Rattle.ref_base.specs.Told.{told_cleared, told_taken, is_added}
 use Rattle.ref_base.specs.HeapSteps.{NamedStep, handed, taking}

@@ -1,30 +1,25 @@
--- Each row of the replay goes through where some objects are gone and some references read as cleared; and what a row of
--- a heap leaves as it was.
-use Rattle.std.proofs.Common.{◌≡◌, ℕ, Bool, true, false, if◌then◌else◌, List, [], ◌∷◌, ◌++◌, Option, Some, None}
+-- Each row of the replay goes through where some objects are gone and some references read as cleared.
+use Rattle.std.proofs.Common.{◌≡◌, ℕ, Bool, true, false, if◌then◌else◌, List, Option, Some, None}
 use Rattle.std.proofs.Common.{refl, sym, ap, ◌∙◌, inl, inr, is_some}
 use Rattle.std.proofs.lemmas.Bool.{cases_Bool}
-use Rattle.std.proofs.lemmas.List.{map-append, append-nil}
 use Rattle.ref_base.specs.Members.{has}
-use Rattle.ref_base.specs.Graphs.{Object, Reference, plain_object, numbers}
-use Rattle.ref_base.specs.Paths.{is_soft, if_any}
-use Rattle.ref_base.specs.Heaps.{Heap, slot_at, reference_at, registered_in, with_slot, got, cut, stored, made, nulls}
+use Rattle.ref_base.specs.Graphs.{Object, Reference, plain_object}
+use Rattle.ref_base.specs.Paths.{is_soft}
+use Rattle.ref_base.specs.Heaps.{Heap, slot_at, with_slot, got, cut, made, nulls}
 use Rattle.ref_base.specs.Heaps.{new_reference, with_hold, changed_in, changed_reference, with_reference, cleared, got_at}
 use Rattle.ref_base.specs.Heaps.{with_field}
 use Rattle.ref_base.specs.Worlds.{World, Notice, hand_of, with_heap, with_hand}
 use Rattle.ref_base.specs.Told.{told_object, told_value, is_done, told_notice, is_nothing, told_cycle, is_doomed}
-use Rattle.ref_base.specs.Told.{told_cleared, told_taken, is_added}
+use Rattle.ref_base.specs.Told.{told_taken, is_added}
 use Rattle.ref_base.specs.HeapSteps.{NamedStep, heap_step, handed, taking}
-use Rattle.ref_base.specs.Replay.{if_told, after_heap, after_queues, begun, handed_on, adopted, with_phase, put_in, took}
-use Rattle.ref_base.specs.Replay.{closed_queue, pended, cleared_for}
-use Rattle.ref_base.specs.AgreeingWorlds.{under, heap_under, objects_under}
+use Rattle.ref_base.specs.Replay.{if_told, after_heap, after_queues, put_in}
+use Rattle.ref_base.specs.AgreeingWorlds.{under, heap_under}
 use Rattle.ref_base.specs.declared.actor.Actor.{Actor}
 use Rattle.ref_base.specs.declared.actor.Actor.TheVariants.{Mutator, Worker}
 use Rattle.ref_base.specs.declared.heap_step.HeapStep.TheVariants as heap
 use Rattle.ref_base.specs.declared.step.Step.{Step}
 use Rattle.ref_base.specs.declared.step.Step.TheVariants as steps
 use Rattle.ref_base.specs.declared.reply.Reply.{Reply}
-use Rattle.ref_base.specs.declared.reply.Reply.TheVariants as replies
-use Rattle.ref_base.proofs.Lookups.{numbers-changed}
 use Rattle.ref_base.proofs.SeenObjects.{heap_changed, seen_push}
 
 -- the number of what a row made

@@ -1,18 +1,17 @@
 -- A row is refused, or one of queues, or one of its heap with what the step leaves in the hands.
 use Rattle.std.proofs.Common.{◌≡◌, ℕ, ◌==◌, if◌then◌else◌, Bool, true, false, List, [], ◌∷◌, length, Option, Some, None}
-use Rattle.std.proofs.Common.{refl, sym, ap, ◌∙◌, inl, inr, arith, ◌⊎◌, is_some}
-use Rattle.std.proofs.lemmas.Bool.{cases_Bool, and_from, eq-eqb}
+use Rattle.std.proofs.Common.{refl, sym, ap, ◌∙◌, inl, inr, ◌⊎◌}
+use Rattle.std.proofs.lemmas.Bool.{and_from}
 use Rattle.ref_base.specs.Members.{has}
-use Rattle.ref_base.specs.Heaps.{Heap}
 use Rattle.ref_base.specs.QueueLists.{enqueued}
-use Rattle.ref_base.specs.Worlds.{World, Notice, hand_of, queue_at, object_of}
+use Rattle.ref_base.specs.Worlds.{Notice, hand_of, queue_at, object_of}
 use Rattle.ref_base.specs.HeapSteps.{NamedStep, heap_step, hold_of, spending}
 use Rattle.ref_base.specs.Replay.{after_queues, put_in, took, closed_queue}
 use Rattle.ref_base.specs.Collectors.{State}
-use Rattle.ref_base.specs.Refusals.{refusal, heap_refusal, asked_refusal, unless, unless_full, has_slot, is_worker}
-use Rattle.ref_base.specs.Refusals.{is_actor, hold_refusal, is_counted}
+use Rattle.ref_base.specs.Refusals.{refusal, heap_refusal, asked_refusal, unless_full, has_slot, is_worker}
+use Rattle.ref_base.specs.Refusals.{is_counted}
 use Rattle.ref_base.specs.CollectorRows.{with_world, with_handed, HeapAccepts, QueuesAccept, AcceptsAsking, IsAnswer}
-use Rattle.ref_base.specs.CollectorRows.{IsRow, Puts, PutsInto, Polls, Closes, Gives, ticked}
+use Rattle.ref_base.specs.CollectorRows.{IsRow, Puts, PutsInto, Polls, Closes, Gives}
 use Rattle.ref_base.specs.CountedHolds.{AreCounted}
 use Rattle.ref_base.specs.declared.actor.Actor.{Actor}
 use Rattle.ref_base.specs.declared.actor.Actor.TheVariants.{Mutator, Worker}

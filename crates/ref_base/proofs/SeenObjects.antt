@@ -1,23 +1,23 @@
 -- How objects read where some are gone and some references read as cleared: changes of objects go through.
-use Rattle.std.proofs.Common.{◌≡◌, ℕ, ◌<◌, ◌≤◌, Bool, true, false, ◌==◌, ◌&&◌, ◌||◌, not, if◌then◌else◌, refl, sym, ap}
-use Rattle.std.proofs.Common.{◌∙◌, subst, arith, List, [], ◌∷◌, ◌++◌, map, length, Option, Some, None, is_some, inl, inr}
+use Rattle.std.proofs.Common.{◌≡◌, ℕ, Bool, true, false, ◌==◌, ◌||◌, refl, sym, ap}
+use Rattle.std.proofs.Common.{◌∙◌, arith, List, [], ◌∷◌, ◌++◌, map, Option, Some, None, inl, inr}
 use Rattle.std.proofs.lemmas.Bool.{cases_Bool, eqb-true, ne_eqb, true≢false, or_left, or_from}
 use Rattle.std.proofs.lemmas.List.{map-append}
 use Rattle.ref_base.specs.Members.{has}
-use Rattle.ref_base.specs.Graphs.{Object, Reference, object_at, is_there, numbers}
+use Rattle.ref_base.specs.Graphs.{Object, object_at, numbers}
 use Rattle.ref_base.specs.Strengths.{IsRising}
-use Rattle.ref_base.specs.Heaps.{Heap, reference_in, registered_in, changed_at, changed_in, with_field, with_reference}
-use Rattle.ref_base.specs.Heaps.{cleared, got_at, changed_reference, with_changed}
+use Rattle.ref_base.specs.Heaps.{Heap, reference_in, registered_in, changed_at, changed_in, with_reference}
+use Rattle.ref_base.specs.Heaps.{cleared}
 use Rattle.ref_base.specs.CollectorRows.{without}
 use Rattle.ref_base.specs.AgreeingWorlds.{cleared_if, objects_under, heap_under}
 use Rattle.ref_base.proofs.HasLaws.{has-append}
-use Rattle.ref_base.proofs.NewClears.{IsRising-tail, is_there-rising}
+use Rattle.ref_base.proofs.NewClears.{IsRising-tail}
 use Rattle.ref_base.proofs.Reshaping.{KeepsShape, map-changed_at, at-reshaped, is_reference-cleared, queue-cleared}
 
 -- ---- objects that are gone
 
-pub without-changed_at : (gone : List ℕ) (os : List Object) (n : ℕ) (f : Object → Object) → ((o : Object) → (f o).no ≡ o.no)
-    → without gone (changed_at os n f) ≡ changed_at (without gone os) n f
+pub without-changed_at : (gone : List ℕ) (os : List Object) (n : ℕ) (f : Object → Object)
+    → ((o : Object) → (f o).no ≡ o.no) → without gone (changed_at os n f) ≡ changed_at (without gone os) n f
 without-changed_at gone [] n f keeps = refl
 without-changed_at gone (o ∷ os) n f keeps =
     elim (cases_Bool (o.no == n)) [
@@ -149,6 +149,12 @@ module _ (these : ℕ → Bool) where
           | inr keeps ↦ simp keeps refl
         ];
   }
+
+  pub numbers-cleared_if : (os : List Object) → numbers (map (λ o. cleared_if these o) os) ≡ numbers os
+  numbers-cleared_if [] = refl
+  numbers-cleared_if (o ∷ os) =
+      ap (λ n. n ∷ numbers (map (λ p. cleared_if these p) os)) (cleared_if-no o)
+      ∙ ap (λ ns. o.no ∷ ns) (numbers-cleared_if os)
 
   -- a change of an object that leaves its number goes through, if it does so for what is cleared
   through : (f : Object → Object) (o : Object) → (f o).no ≡ o.no

@@ -30,6 +30,7 @@ pub mod Refusals
 pub mod CollectorRows
 pub mod AgreeingWorlds
 pub mod MarkEnds
+pub mod OldNumbers
 pub mod Forgetting
 pub mod LegalTraces
 pub mod Provenance

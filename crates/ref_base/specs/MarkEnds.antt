@@ -1,6 +1,6 @@
 -- What a mark's end has shown of a reference that a cycle clears (package `java.lang.ref` of Java SE 17: a reference is
 -- cleared, and enqueued, once its referent is no longer reachable; cycles and kept paths: this project's profile).
-use Rattle.std.specs.Prelude.{◌≡◌, ℕ, true, false, List, [], ◌∷◌, ◌++◌, Option, Some, None}
+use Rattle.std.specs.Prelude.{◌≡◌, ℕ, true, false, List, ◌∷◌, ◌++◌, Option, Some, None}
 use Rattle.std.specs.List.{AllByRecursion}
 use Rattle.ref_base.specs.Members.{has}
 use Rattle.ref_base.specs.Graphs.{Graph, is_there}

@@ -17,6 +17,7 @@ ghost use Rattle.ref_base.specs.Collectors.{State, first_state};
 ghost use Rattle.ref_base.specs.CountedHolds.{AreCounted};
 ghost use Rattle.ref_base.specs.Replay.{replayed};
 ghost use Rattle.ref_base.specs.AgreeingWorlds.{Agrees};
+ghost use Rattle.ref_base.specs.OldNumbers.{HasOldNumbers};
 ghost use Rattle.ref_base.specs.MarkEnds.{MarkEnded, WasDoomed, AreOutOfReach, AreAfterMarks};
 ghost use Rattle.ref_base.specs.Provenance.{IsProven, AreProven, gives_notices};
 ghost use Rattle.ref_base.specs.Refusals.{heap_refusal, refusal};
@@ -123,30 +124,37 @@ pub fn each_notice_that_is_given_has_its_own_queue_and_cause()
         (record { object = n; queue = q; cause = cause }) }
 {}
 
-/// In a legal trace a reference is registered with one queue: each number is given once.
+/// After every legal trace the objects stand in order of number, and each number of an object, of what is doomed and of
+/// what a mark's end cleared is below the next that is given: each number is given once.
+pub fn each_number_is_given_once()
+    ensures { (config : Config) (rows : List Row) (b : State) → IsRun (first_state config) rows b → HasOldNumbers b }
+{}
+
+/// So in a legal trace a reference is registered with one queue.
 pub fn a_reference_is_registered_with_one_queue()
     ensures { (config : Config) (rows : List Row) (n q r : ℕ) → IsLegal config rows
         → is_registered rows n q ≡ true → is_registered rows n r ≡ true → q ≡ r }
 {}
 
 /// After every legal trace the collector has the world that its rows give by replay, slots, holds, hands, queues and
-/// pending references alike, but for two things: some objects are gone, each of which an earlier mark's end found dead; and
-/// a reference that the mark's end cleared reads as cleared also before a worker has looked at it.
+/// pending references alike, but for two things: some objects are gone, each of which an earlier mark's end found dead;
+/// and a reference that the mark's end cleared reads as cleared also before a worker has looked at it.
 pub fn the_collector_has_the_graph_of_the_replay_less_what_was_swept()
     ensures { (config : Config) (rows : List Row) (b : State) → IsRun (first_state config) rows b
         → (gone : List ℕ) × Agrees gone (replayed config rows) b
         × ((n : ℕ) → has gone n ≡ true → WasDoomed config rows n) }
 {}
 
-/// After every legal trace each notice that is out, in a hand or in a queue, and whose cause is a cycle, comes after the
-/// end of that cycle's mark: and in the world that the rows before that end give by replay, the notice's reference has a
-/// referent, an object to which no kept path leads.
+/// After every legal trace each notice that is out, in a hand or in a queue, and whose cause is a cycle, comes after
+/// the end of that cycle's mark: and in the world that the rows before that end give by replay, the notice's reference
+/// has a referent, an object to which no kept path leads.
 pub fn each_notice_of_a_cycle_comes_after_its_mark_ended()
     ensures { (config : Config) (rows : List Row) (b : State) → IsRun (first_state config) rows b
         → AreAfterMarks config rows b.world }
 {}
 
-/// And so does each row of a legal trace in which a worker clears a reference.
+/// And so does each row of a legal trace in which a worker clears a reference: after the end of the mark of the cycle
+/// that goes on there.
 pub fn what_a_worker_clears_was_shown_by_its_mark_end()
     ensures { (config : Config) (front back : List Row) (k n : ℕ) (b : State)
         → IsRun (first_state config) (front ++ record { step = Step.ClearNext k; reply = Reply.Cleared n } ∷ back) b

@@ -1,4 +1,4 @@
-use Rattle.ref_base.proofs.OutRuns.{doomed_out}
+use Rattle.ref_base.proofs.OutTraces.{doomed_out}
 use Rattle.ref_base.proofs.laws.nothing_else_refers_to_the_doomed.Goals as goal
 
 pub returns : goal.returns
