@@ -11,6 +11,7 @@ use Rattle.ref_base.specs.Heaps.{Heap, slot_at, reference_at, registered_in, wit
 use Rattle.ref_base.specs.Heaps.{got_at, got, cut, stored, made, nulls, new_reference, changed_in, with_hold}
 use Rattle.ref_base.specs.Heaps.{without_hold}
 use Rattle.ref_base.specs.Worlds.{World, Pending, pending_of, with_heap, with_pending}
+use Rattle.ref_base.specs.Told.{told_object}
 use Rattle.ref_base.specs.HeapSteps.{NamedStep}
 use Rattle.ref_base.specs.Replay.{adopted, pended, handed_on, begun, with_phase, without_pending}
 use Rattle.ref_base.specs.Collectors.{State}
@@ -31,6 +32,7 @@ use Rattle.ref_base.proofs.HasLaws.{has-cases}
 use Rattle.ref_base.proofs.StrengthLaws.{if_any-has}
 use Rattle.ref_base.proofs.RowLaws.{ticked_world, but_world, unless_passes}
 use Rattle.ref_base.proofs.HeapMoves.{IsNoEnd}
+use Rattle.ref_base.proofs.ReplayUnder.{made_number}
 use Rattle.ref_base.proofs.PhaseLaws.{of_phase}
 use Rattle.ref_base.proofs.ObjectTargets.{field_target, got_target, no_nulls}
 use Rattle.ref_base.proofs.ApartWorlds.{OfValue, IsClosed, closed_slot, closed_hold, closed_fewer, closed_pending}
@@ -195,18 +197,19 @@ module _ (V : ℕ → Type 0) where
         (closed_same V a.world (with_phase a.world phase) refl refl refl refl closed)
 
     -- a row keeps it, where it holds of the next number, and of what the mark's end cleared
-    pub heap_closed : (step : NamedStep) (reply : Reply) → IsNoEnd step → heap_refusal 0 a step ≡ None → V a.next
+    pub heap_closed : (step : NamedStep) (reply : Reply) → IsNoEnd step → heap_refusal 0 a step ≡ None
+        → (made_number step reply ≡ Some a.next → V a.next)
         → (a.world.phase ≡ Clearing → (n : ℕ) → has a.cleared n ≡ true → V n) → HeapAccepts a step reply b
         → IsClosed V b.world
     heap_closed (heap.New m d k) reply plain none next clears row =
-        makes m d (plain_object a.next (nulls k)) reply next
+        makes m d (plain_object a.next (nulls k)) reply (next (ap told_object row.0))
         (λ n target. elim (has-cases (present (nulls k)) [] n target) [
           | inl field ↦ absurd (no_nulls k n field)
           | inr nothing ↦ absurd (false≢true nothing)
         ]) row
     heap_closed (heap.Refer m strength d s q k) reply plain none next clears row =
         let referent : Option ℕ = slot_at a.world.heap m s in
-        makes m d (new_reference a.world.heap a.next strength referent q k) reply next
+        makes m d (new_reference a.world.heap a.next strength referent q k) reply (next (ap told_object row.0))
         (λ n target. elim (has-cases (present (nulls k)) (if_any referent) n target) [
           | inl field ↦ absurd (no_nulls k n field)
           | inr refers ↦ subst (OfValue V) (if_any-has referent n refers) (slot_is m s)

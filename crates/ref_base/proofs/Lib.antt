@@ -56,6 +56,7 @@ pub mod MarkShows
 pub mod OutHeaps
 pub mod OutRuns
 pub mod OutTraces
+pub mod OldNames
 pub mod MarkedTraces
 mod ReplayExamples
 mod LegalExamples

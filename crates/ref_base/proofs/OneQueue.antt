@@ -35,7 +35,7 @@ next_moved a step reply = omega arith
 next_by : (a b c : State) → settled b ≡ settled c → a.next ≤ c.next → a.next ≤ b.next
 next_by a b c leads grows = let same = ap (λ (s : State). s.next) leads in omega (arith, same, grows)
 
-next_heap : (a b : State) (step : NamedStep) (reply : Reply) → HeapAccepts a step reply b → a.next ≤ b.next
+pub next_heap : (a b : State) (step : NamedStep) (reply : Reply) → HeapAccepts a step reply b → a.next ≤ b.next
 next_heap a b heap.EndMark reply row = let same = ap (λ (s : State). s.next) row.after in omega (arith, same)
 next_heap a b step reply row =
     next_by a b (moved a step reply) (heap_moves a b step reply tt row) (next_moved a step reply)

@@ -189,7 +189,7 @@ module _ (config : Config) (past : List Row) (gone : List ℕ) (a c : State)
       record {
         closed = subst (λ ns. IsClosed (λ n. has ns n ≡ false) c.world) (sym same)
             (heap_closed (λ n. has (off gone a) n ≡ false) a c out.closed step reply plain none
-            (next_out gone (replayed config past) a is) out.spared row);
+            (λ made. next_out gone (replayed config past) a is) out.spared row);
         dead = λ n is_off. out.dead n (ap (λ ns. has ns n) (sym same) ∙ is_off);
         spared = λ clearing n cleared.
             let before = still clearing in

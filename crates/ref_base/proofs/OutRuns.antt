@@ -30,7 +30,8 @@ use Rattle.ref_base.proofs.AgreeRuns.{gone_next, gone_refused}
 use Rattle.ref_base.proofs.ApartWorlds.{IsClosed}
 use Rattle.ref_base.proofs.ClosedRows.{closed_same}
 use Rattle.ref_base.proofs.MarkShows.{ended_more, doomed_more}
-use Rattle.ref_base.proofs.OutHeaps.{AreOut, off, doomed_in, phase_moved, cycle_moved, cleared_moved, plain_out, end_out}
+use Rattle.ref_base.proofs.OutHeaps.{AreOut, off, doomed_in, phase_moved, cycle_moved, cleared_moved}
+use Rattle.ref_base.proofs.OutHeaps.{plain_out, end_out}
 
 -- ---- more rows, and other states that are the same
 
@@ -152,7 +153,8 @@ module _ (config : Config) (past : List Row) (gone : List ℕ) (a : State) (row 
             (more_out config past (row ∷ []) gone a out)))
         | inr others ↦ elim others [
           | inl of ↦
-              subst (λ (asked : Option NamedStep). AreOut config (past ++ row ∷ []) (gone_next a gone asked row.reply) b)
+              subst
+              (λ (asked : Option NamedStep). AreOut config (past ++ row ∷ []) (gone_next a gone asked row.reply) b)
               (sym of.asks)
               (more_out config past (row ∷ []) gone b
               (same_out config past gone a b out
@@ -160,7 +162,8 @@ module _ (config : Config) (past : List Row) (gone : List ℕ) (a : State) (row 
               (ap (λ (s : State). s.doomed) of.leads) (ap (λ (s : State). s.cleared) of.leads)))
           | inr of ↦
               let now : List ℕ = gone_after a gone of.asked row.reply in
-              subst (λ (asked : Option NamedStep). AreOut config (past ++ row ∷ []) (gone_next a gone asked row.reply) b)
+              subst
+              (λ (asked : Option NamedStep). AreOut config (past ++ row ∷ []) (gone_next a gone asked row.reply) b)
               (sym of.asks)
               (same_out config (past ++ row ∷ []) now of.left b
               (heap_out config past gone a of.left is out row.step of.asked row.reply of.asks of.passes of.accepts)

@@ -5,7 +5,7 @@ use Rattle.std.proofs.Common.{ap, ◌∙◌, subst, inl, inr, ◌⊎◌}
 use Rattle.std.specs.Prelude.{slice_index_or}
 use Rattle.std.proofs.lemmas.Bool.{false≢true, or_parts, or_from}
 use Rattle.ref_base.specs.Members.{has}
-use Rattle.ref_base.specs.Graphs.{Object, object_at, is_there, numbers}
+use Rattle.ref_base.specs.Graphs.{object_at, is_there}
 use Rattle.ref_base.specs.Paths.{any_referent}
 use Rattle.ref_base.specs.Worlds.{World, first_world, graph_of}
 use Rattle.ref_base.specs.HeapSteps.{heap_step}
@@ -13,19 +13,17 @@ use Rattle.ref_base.specs.Replay.{replayed}
 use Rattle.ref_base.specs.Collectors.{State, first_state}
 use Rattle.ref_base.specs.CollectorRows.{without, IsRun}
 use Rattle.ref_base.specs.AgreeingWorlds.{Agrees, cleared_if, is_waiting}
-use Rattle.ref_base.specs.OldNumbers.{HasOldNumbers}
-use Rattle.ref_base.specs.Strengths.{IsRising}
 use Rattle.ref_base.specs.MarkEnds.{WasDoomed, AreOutOfReach}
 use Rattle.ref_base.specs.declared.config.Config.{Config}
 use Rattle.ref_base.specs.declared.phase.Phase.TheVariants.{Clearing, Sweeping}
 use Rattle.ref_base.specs.declared.row.Row.{Row}
 use Rattle.ref_base.proofs.CountedTraces.{legal_counted}
 use Rattle.ref_base.proofs.RunFronts.{legal_holds, replayed_last}
-use Rattle.ref_base.proofs.AgreeHeaps.{Agreeing, there-without, there-numbers}
+use Rattle.ref_base.proofs.AgreeHeaps.{Agreeing, there-without}
 use Rattle.ref_base.proofs.HasLaws.{has-left, has-append}
 use Rattle.ref_base.proofs.OffSets.{target_there}
 use Rattle.ref_base.proofs.Reshaping.{is_there-reshaped}
-use Rattle.ref_base.proofs.SeenObjects.{cleared_if-shape, numbers-cleared_if, rising-without}
+use Rattle.ref_base.proofs.SeenObjects.{cleared_if-shape}
 use Rattle.ref_base.proofs.AgreeRuns.{gone_next, row_agrees, first_agrees}
 use Rattle.ref_base.proofs.ApartWorlds.{OfValue, IsClosed, closed_roots}
 use Rattle.ref_base.proofs.CarryRows.{nothing_pending}
@@ -74,30 +72,13 @@ legal_agrees config rows b run =
     (known.0, known.1.agrees, λ n out. known.2.dead n (has-left known.0 later n out))
 
 -- an object of the collector is one of the replay that isn't gone
-there_in : (gone : List ℕ) (w : World) (b : State) → Agrees gone w b → (n : ℕ)
+pub there_in : (gone : List ℕ) (w : World) (b : State) → Agrees gone w b → (n : ℕ)
     → is_there b.world.heap.objects n ≡ true → (has gone n ≡ false) × (is_there w.heap.objects n ≡ true)
 there_in gone w b agrees n there =
     there-without gone w.heap.objects n
     (sym (is_there-reshaped (λ o. cleared_if (is_waiting b) o) (cleared_if-shape (is_waiting b))
     (without gone w.heap.objects) n)
     ∙ ap (λ (v : World). is_there v.heap.objects n) (sym agrees) ∙ there)
-
--- numbers are given once
-pub legal_numbers : (config : Config) (rows : List Row) (b : State) → IsRun (first_state config) rows b
-    → HasOldNumbers b
-legal_numbers config rows b run =
-    let known = legal_out config rows b run in
-    let w : World = replayed config rows in
-    let os : List Object = without known.0 w.heap.objects in
-    record {
-      rising = subst (λ (v : World). IsRising (numbers v.heap.objects)) (sym known.1.agrees)
-          (subst IsRising (sym (numbers-cleared_if (is_waiting b) os))
-          (rising-without known.0 w.heap.objects known.1.rising));
-      objects = λ n there.
-          known.1.below n (there-numbers w.heap.objects n (there_in known.0 w b known.1.agrees n there).1);
-      doomed = known.1.doomed_below;
-      cleared = known.1.cleared_below;
-    }
 
 -- what is doomed, and not swept yet, is out of reach
 pub doomed_out : (config : Config) (rows : List Row) (b : State) → IsRun (first_state config) rows b

@@ -6,7 +6,8 @@ use Rattle.ref_base.specs.Members.{has}
 use Rattle.ref_base.specs.Graphs.{Object, Reference, plain_object}
 use Rattle.ref_base.specs.Paths.{is_soft}
 use Rattle.ref_base.specs.Heaps.{Heap, slot_at, with_slot, got, cut, made, nulls}
-use Rattle.ref_base.specs.Heaps.{new_reference, with_hold, changed_in, changed_reference, with_reference, cleared, got_at}
+use Rattle.ref_base.specs.Heaps.{new_reference, with_hold, changed_in, changed_reference, with_reference}
+use Rattle.ref_base.specs.Heaps.{cleared, got_at}
 use Rattle.ref_base.specs.Heaps.{with_field}
 use Rattle.ref_base.specs.Worlds.{World, Notice, hand_of, with_heap, with_hand}
 use Rattle.ref_base.specs.Told.{told_object, told_value, is_done, told_notice, is_nothing, told_cycle, is_doomed}

@@ -124,13 +124,13 @@ pub fn each_notice_that_is_given_has_its_own_queue_and_cause()
         (record { object = n; queue = q; cause = cause }) }
 {}
 
-/// After every legal trace the objects stand in order of number, and each number of an object, of what is doomed and of
-/// what a mark's end cleared is below the next that is given: each number is given once.
+/// After every legal trace the objects stand in order of number, and each number that is named, of an object, a root, a
+/// field or a referent, or as doomed or cleared, is below the next that is given. So each number is given once.
 pub fn each_number_is_given_once()
     ensures { (config : Config) (rows : List Row) (b : State) → IsRun (first_state config) rows b → HasOldNumbers b }
 {}
 
-/// So in a legal trace a reference is registered with one queue.
+/// And in a legal trace a reference is registered with one queue.
 pub fn a_reference_is_registered_with_one_queue()
     ensures { (config : Config) (rows : List Row) (n q r : ℕ) → IsLegal config rows
         → is_registered rows n q ≡ true → is_registered rows n r ≡ true → q ≡ r }

@@ -1,4 +1,4 @@
-use Rattle.ref_base.proofs.OutTraces.{legal_numbers}
+use Rattle.ref_base.proofs.OldNames.{legal_numbers}
 use Rattle.ref_base.proofs.laws.each_number_is_given_once.Goals as goal
 
 pub returns : goal.returns
