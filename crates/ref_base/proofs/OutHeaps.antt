@@ -42,11 +42,13 @@ doomed_in Sweeping doomed = doomed
 abbrev pub off : List ℕ → State → List ℕ
 off gone a = gone ++ doomed_in a.world.phase a.doomed
 
--- Nothing that is gone or doomed is in reach, and a mark's end found it dead; and while references are cleared, each
+-- Nothing that is gone or doomed is in reach, and a mark's end found it dead; nothing is doomed but from a mark's end
+-- until the sweep has ended; and while references are cleared, each
 -- that the mark's end cleared isn't among these, and the mark's end has shown of it what it shows.
 pub record AreOut (config : Config) (rows : List Row) (gone : List ℕ) (a : State) : Type 0 where
   pub closed : IsClosed (λ n. has (off gone a) n ≡ false) a.world
   pub dead : (n : ℕ) → has (off gone a) n ≡ true → WasDoomed config rows n
+  pub whole : doomed_in a.world.phase a.doomed ≡ a.doomed
   pub spared : a.world.phase ≡ Clearing → (n : ℕ) → has a.cleared n ≡ true → has (off gone a) n ≡ false
   pub shown : a.world.phase ≡ Clearing → (n : ℕ) → has a.cleared n ≡ true → MarkEnded config rows a.world.cycle n
 
@@ -98,6 +100,21 @@ cleared_moved a (heap.Sweep k) (replies.Swept count) plain = refl
 cleared_moved a (heap.Sweep k) reply plain = refl
 cleared_moved a (heap.Begin now how) reply plain = absurd plain
 cleared_moved a step reply plain = refl
+
+-- the step frees nothing
+abbrev pub FreesNone : NamedStep → Type 0
+FreesNone (heap.Sweep k) = ⊥
+FreesNone step = Unit {0}
+
+pub doomed_moved : (a : State) (step : NamedStep) (reply : Reply) → EndsNoPhase step → FreesNone step
+    → (moved a step reply).doomed ≡ a.doomed
+doomed_moved a (heap.ClearNext k) (replies.Cleared n) plain frees = refl
+doomed_moved a (heap.ClearNext k) (replies.Kept n) plain frees = refl
+doomed_moved a (heap.ClearNext k) (replies.Skipped n) plain frees = refl
+doomed_moved a (heap.ClearNext k) reply plain frees = refl
+doomed_moved a (heap.Sweep k) reply plain frees = absurd frees
+doomed_moved a (heap.Begin now how) reply plain frees = absurd plain
+doomed_moved a step reply plain frees = refl
 
 -- what is off goes by the phase and what is doomed
 pub off_is : (gone doomed : List ℕ) (c : State) (phase : Phase) → c.world.phase ≡ phase → c.doomed ≡ doomed
@@ -182,8 +199,8 @@ module _ (config : Config) (past : List Row) (gone : List ℕ) (a c : State)
       → HeapAccepts a step reply c
       → (c.world.phase ≡ Clearing
       → (a.world.phase ≡ Clearing) × (c.cleared ≡ a.cleared) × (c.world.cycle ≡ a.world.cycle))
-      → AreOut config past (gone_after a gone step reply) c
-  plain_out step reply plain none row still =
+      → doomed_in c.world.phase c.doomed ≡ c.doomed → AreOut config past (gone_after a gone step reply) c
+  plain_out step reply plain none row still whole =
       let now : List ℕ = gone_after a gone step reply in
       let same : off now c ≡ off gone a = off_same gone a c step reply plain none row in
       record {
@@ -191,6 +208,7 @@ module _ (config : Config) (past : List Row) (gone : List ℕ) (a c : State)
             (heap_closed (λ n. has (off gone a) n ≡ false) a c out.closed step reply plain none
             (λ made. next_out gone (replayed config past) a is) out.spared row);
         dead = λ n is_off. out.dead n (ap (λ ns. has ns n) (sym same) ∙ is_off);
+        whole = whole;
         spared = λ clearing n cleared.
             let before = still clearing in
             ap (λ ns. has ns n) same ∙ out.spared before.0 n (ap (λ ns. has ns n) (sym before.1) ∙ cleared);
@@ -221,6 +239,7 @@ module _ (config : Config) (past : List Row) (gone : List ℕ) (a c : State)
               (out.dead n (ap (λ ns. has ns n) none ∙ before))
           | inr doomed ↦ was n doomed
         ];
+        whole = refl;
         spared = λ clearing n new.
             let told = shows n new in
             has-append gone d n ∙ or_from (has gone n) (has d n) told.0 told.1;

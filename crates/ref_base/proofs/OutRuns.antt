@@ -31,7 +31,7 @@ use Rattle.ref_base.proofs.ApartWorlds.{IsClosed}
 use Rattle.ref_base.proofs.ClosedRows.{closed_same}
 use Rattle.ref_base.proofs.MarkShows.{ended_more, doomed_more}
 use Rattle.ref_base.proofs.OutHeaps.{AreOut, off, doomed_in, phase_moved, cycle_moved, cleared_moved}
-use Rattle.ref_base.proofs.OutHeaps.{plain_out, end_out}
+use Rattle.ref_base.proofs.OutHeaps.{plain_out, end_out, FreesNone, doomed_moved}
 
 -- ---- more rows, and other states that are the same
 
@@ -40,6 +40,7 @@ more_out : (config : Config) (rows more : List Row) (gone : List ℕ) (a : State
 more_out config rows more gone a out = record {
   closed = out.closed;
   dead = λ n is_off. doomed_more config rows more n (out.dead n is_off);
+  whole = out.whole;
   spared = out.spared;
   shown = λ clearing n cleared. ended_more config rows more a.world.cycle n (out.shown clearing n cleared);
 }
@@ -58,6 +59,8 @@ same_out config rows gone a b out others doomed clears =
           (ap (λ (w : World). w.heap.holds) others) (ap (λ (w : World). w.pending) others)
           (ap (λ (w : World). w.heap.objects) others) out.closed);
       dead = λ n is_off. out.dead n (ap (λ ns. has ns n) (sym offs) ∙ is_off);
+      whole = ap (λ (p : Phase). doomed_in p b.doomed) phase ∙ ap (doomed_in a.world.phase) doomed ∙ out.whole
+          ∙ sym doomed;
       spared = λ clearing n cleared.
           ap (λ ns. has ns n) offs
           ∙ out.spared (sym phase ∙ clearing) n (ap (λ ns. has ns n) (sym clears) ∙ cleared);
@@ -86,8 +89,10 @@ module _ (config : Config) (past : List Row) (gone : List ℕ) (a c : State)
     (is : Agreeing gone (replayed config past) a) (out : AreOut config past gone a) where
   -- a row that ends no phase
   calm : (step : NamedStep) (reply : Reply) → IsNoEnd step → EndsNoPhase step → heap_refusal 0 a step ≡ None
-      → HeapAccepts a step reply c → AreOut config past (gone_after a gone step reply) c
-  calm step reply plain ends none row =
+      → HeapAccepts a step reply c
+      → (c.world.phase ≡ a.world.phase → doomed_in c.world.phase c.doomed ≡ c.doomed)
+      → AreOut config past (gone_after a gone step reply) c
+  calm step reply plain ends none row whole =
       let leads : settled c ≡ settled (moved a step reply) = heap_moves a c step reply plain row in
       let phase : c.world.phase ≡ a.world.phase =
       ap (λ (s : State). s.world.phase) leads ∙ phase_moved a step reply ends in
@@ -96,19 +101,27 @@ module _ (config : Config) (past : List Row) (gone : List ℕ) (a c : State)
         sym phase ∙ clearing,
         ap (λ (s : State). s.cleared) leads ∙ cleared_moved a step reply ends,
         ap (λ (s : State). s.world.cycle) leads ∙ cycle_moved a step reply ends,
-      ))
+      )) (whole phase)
+
+  -- and one that doesn't free either
+  calm_whole : (step : NamedStep) (reply : Reply) → IsNoEnd step → EndsNoPhase step → FreesNone step
+      → HeapAccepts a step reply c → c.world.phase ≡ a.world.phase → doomed_in c.world.phase c.doomed ≡ c.doomed
+  calm_whole step reply plain ends frees row phase =
+      let doomed : c.doomed ≡ a.doomed =
+      ap (λ (s : State). s.doomed) (heap_moves a c step reply plain row) ∙ doomed_moved a step reply ends frees in
+      ap (λ (p : Phase). doomed_in p c.doomed) phase ∙ ap (doomed_in a.world.phase) doomed ∙ out.whole ∙ sym doomed
 
   -- a row that ends a phase, into one in which no reference is cleared
   turns : (step : NamedStep) (reply answer : Reply) (phase : Phase) → IsNoEnd step → heap_refusal 0 a step ≡ None
       → HeapAccepts a step reply c → reply ≡ answer → (moved a step answer).world.phase ≡ phase
-      → (c.world.phase ≡ phase → c.world.phase ≡ Clearing → ⊥) → AreOut config past (gone_after a gone step reply) c
-  turns step reply answer phase plain none row is_answer into other =
+      → (c.world.phase ≡ phase → c.world.phase ≡ Clearing → ⊥) → doomed_in phase c.doomed ≡ c.doomed
+      → AreOut config past (gone_after a gone step reply) c
+  turns step reply answer phase plain none row is_answer into other whole =
       let leads : settled c ≡ settled (moved a step reply) = heap_moves a c step reply plain row in
-      plain_out config past gone a c is out step reply plain none row
-      (λ clearing.
-      absurd (other
-      (ap (λ (s : State). s.world.phase) leads ∙ ap (λ (r : Reply). (moved a step r).world.phase) is_answer ∙ into)
-      clearing))
+      let now : c.world.phase ≡ phase =
+      ap (λ (s : State). s.world.phase) leads ∙ ap (λ (r : Reply). (moved a step r).world.phase) is_answer ∙ into in
+      plain_out config past gone a c is out step reply plain none row (λ clearing. absurd (other now clearing))
+      (ap (λ (p : Phase). doomed_in p c.doomed) now ∙ whole)
 
   heap_out : (step : Step) (asked : NamedStep) (reply : Reply) → heap_step a.world step ≡ Some asked
       → heap_refusal 0 a asked ≡ None → HeapAccepts a asked reply c
@@ -116,7 +129,8 @@ module _ (config : Config) (past : List Row) (gone : List ℕ) (a c : State)
   heap_out step (heap.Begin now how) reply asks none row =
       more_out config past (record { step = step; reply = reply } ∷ []) gone c
       (turns (heap.Begin now how) reply (replies.Cycle (a.world.cycle + 1)) Marking tt none row row.0 refl
-      (λ into. not_in c Marking into refl))
+      (λ into. not_in c Marking into refl)
+      (sym (ap (λ (s : State). s.doomed) (heap_moves a c (heap.Begin now how) reply tt row))))
   heap_out step heap.EndMark reply asks none row =
       let rows : Step → Reply → List Row = λ s r. past ++ record { step = s; reply = r } ∷ [] in
       subst (λ (s : Step). AreOut config (rows s reply) gone c) (sym (is_end a.world step asks))
@@ -128,13 +142,21 @@ module _ (config : Config) (past : List Row) (gone : List ℕ) (a c : State)
       ended reply row = let answer = row.answer in absurd cc
   heap_out step heap.EndClear reply asks none row =
       more_out config past (record { step = step; reply = reply } ∷ []) gone c
-      (turns heap.EndClear reply replies.Done Sweeping tt none row row.0 refl (λ into. not_in c Sweeping into refl))
+      (turns heap.EndClear reply replies.Done Sweeping tt none row row.0 refl
+      (λ into. not_in c Sweeping into refl) refl)
   heap_out step heap.EndSweep reply asks none row =
       more_out config past (record { step = step; reply = reply } ∷ []) gone c
-      (turns heap.EndSweep reply replies.Done Idle tt none row row.0 refl (λ into. not_in c Idle into refl))
+      (turns heap.EndSweep reply replies.Done Idle tt none row row.0 refl (λ into. not_in c Idle into refl)
+      (sym (ap (λ (s : State). s.doomed) (heap_moves a c heap.EndSweep reply tt row)
+      ∙ (of_phase 0 a heap.EndSweep none).1)))
+  heap_out step (heap.Sweep k) reply asks none row =
+      let sweeping : a.world.phase ≡ Sweeping = of_phase 0 a (heap.Sweep k) none in
+      more_out config past (record { step = step; reply = reply } ∷ []) (gone_after a gone (heap.Sweep k) reply) c
+      (calm (heap.Sweep k) reply tt tt none row
+      (λ phase. ap (λ (p : Phase). doomed_in p c.doomed) (phase ∙ sweeping)))
   heap_out step asked reply asks none row =
       more_out config past (record { step = step; reply = reply } ∷ []) (gone_after a gone asked reply) c
-      (calm asked reply tt tt none row)
+      (calm asked reply tt tt none row (calm_whole asked reply tt tt tt row))
 
 -- ---- rows
 

@@ -1,7 +1,7 @@
 -- After every legal trace the collector has the world of the replay, but for what was swept and for what waits to be
 -- cleared; what is gone or doomed is out of reach; and a mark's end has shown what it cleared.
 use Rattle.std.proofs.Common.{◌≡◌, ℕ, zero, suc, ◌*◌, true, false, List, [], ◌++◌, replicate, None, refl, sym}
-use Rattle.std.proofs.Common.{ap, ◌∙◌, subst, inl, inr, ◌⊎◌}
+use Rattle.std.proofs.Common.{ap, ◌∙◌, subst}
 use Rattle.std.specs.Prelude.{slice_index_or}
 use Rattle.std.proofs.lemmas.Bool.{false≢true, or_parts, or_from}
 use Rattle.ref_base.specs.Members.{has}
@@ -15,7 +15,6 @@ use Rattle.ref_base.specs.CollectorRows.{without, IsRun}
 use Rattle.ref_base.specs.AgreeingWorlds.{Agrees, cleared_if, is_waiting}
 use Rattle.ref_base.specs.MarkEnds.{WasDoomed, AreOutOfReach}
 use Rattle.ref_base.specs.declared.config.Config.{Config}
-use Rattle.ref_base.specs.declared.phase.Phase.TheVariants.{Clearing, Sweeping}
 use Rattle.ref_base.specs.declared.row.Row.{Row}
 use Rattle.ref_base.proofs.CountedTraces.{legal_counted}
 use Rattle.ref_base.proofs.RunFronts.{legal_holds, replayed_last}
@@ -27,7 +26,7 @@ use Rattle.ref_base.proofs.SeenObjects.{cleared_if-shape}
 use Rattle.ref_base.proofs.AgreeRuns.{gone_next, row_agrees, first_agrees}
 use Rattle.ref_base.proofs.ApartWorlds.{OfValue, IsClosed, closed_roots}
 use Rattle.ref_base.proofs.CarryRows.{nothing_pending}
-use Rattle.ref_base.proofs.OutHeaps.{AreOut, off, off_is, doomed_in}
+use Rattle.ref_base.proofs.OutHeaps.{AreOut, doomed_in}
 use Rattle.ref_base.proofs.OutRuns.{row_out}
 
 no_slot : (count i : ℕ) → OfValue (λ n. has [] n ≡ false) (slice_index_or (replicate count None) i None)
@@ -44,6 +43,7 @@ first_out config = record {
     targets = λ m n is target. refl;
   };
   dead = λ n is_off. absurd (false≢true is_off);
+  whole = refl;
   spared = λ clearing n cleared. refl;
   shown = λ clearing n cleared. absurd (false≢true cleared);
 }
@@ -62,15 +62,6 @@ legal_out config rows b run =
     ))
     ([], first_agrees config, first_out config) rows b run
 
--- the collector has the world of the replay, but for what waits and what is gone, which a mark's end found dead
-pub legal_agrees : (config : Config) (rows : List Row) (b : State) → IsRun (first_state config) rows b
-    → (gone : List ℕ) × Agrees gone (replayed config rows) b
-    × ((n : ℕ) → has gone n ≡ true → WasDoomed config rows n)
-legal_agrees config rows b run =
-    let known = legal_out config rows b run in
-    let later : List ℕ = doomed_in b.world.phase b.doomed in
-    (known.0, known.1.agrees, λ n out. known.2.dead n (has-left known.0 later n out))
-
 -- an object of the collector is one of the replay that isn't gone
 pub there_in : (gone : List ℕ) (w : World) (b : State) → Agrees gone w b → (n : ℕ)
     → is_there b.world.heap.objects n ≡ true → (has gone n ≡ false) × (is_there w.heap.objects n ≡ true)
@@ -80,29 +71,46 @@ there_in gone w b agrees n there =
     (without gone w.heap.objects) n)
     ∙ ap (λ (v : World). is_there v.heap.objects n) (sym agrees) ∙ there)
 
--- what is doomed, and not swept yet, is out of reach
+-- what is gone or doomed is out of reach
+all_out : (config : Config) (rows : List Row) (gone : List ℕ) (b : State) → AreOut config rows gone b
+    → AreOutOfReach (gone ++ b.doomed) (graph_of b.world)
+all_out config rows gone b out =
+    let closed : IsClosed (λ n. has (gone ++ b.doomed) n ≡ false) b.world =
+    subst (λ ds. IsClosed (λ n. has (gone ++ ds) n ≡ false) b.world) out.whole out.closed in
+    record {
+      roots = λ n root. closed_roots (λ n. has (gone ++ b.doomed) n ≡ false) b.world n closed root;
+      others = closed.targets;
+    }
+
+-- the collector has the world of the replay, but for what waits and what is gone: a mark's end found it dead, and it is
+-- out of reach
+pub legal_agrees : (config : Config) (rows : List Row) (b : State) → IsRun (first_state config) rows b
+    → (gone : List ℕ) × Agrees gone (replayed config rows) b
+    × ((n : ℕ) → has gone n ≡ true → WasDoomed config rows n) × AreOutOfReach (gone ++ b.doomed) (graph_of b.world)
+legal_agrees config rows b run =
+    let known = legal_out config rows b run in
+    let later : List ℕ = doomed_in b.world.phase b.doomed in (
+      known.0,
+      known.1.agrees,
+      λ n out. known.2.dead n (has-left known.0 later n out),
+      all_out config rows known.0 b known.2,
+    )
+
+-- what is doomed, and not swept yet, is out of reach of all else that is there
 pub doomed_out : (config : Config) (rows : List Row) (b : State) → IsRun (first_state config) rows b
-    → (b.world.phase ≡ Clearing) ⊎ (b.world.phase ≡ Sweeping) → AreOutOfReach b.doomed (graph_of b.world)
-doomed_out config rows b run phase =
+    → AreOutOfReach b.doomed (graph_of b.world)
+doomed_out config rows b run =
     let known = legal_out config rows b run in
     let gone : List ℕ = known.0 in
-    let offs : off gone b ≡ gone ++ b.doomed =
-    elim phase [
-      | inl clearing ↦ off_is gone b.doomed b Clearing clearing refl
-      | inr sweeping ↦ off_is gone b.doomed b Sweeping sweeping refl
-    ] in
-    let closed : IsClosed (λ n. has (gone ++ b.doomed) n ≡ false) b.world =
-    subst (λ ns. IsClosed (λ n. has ns n ≡ false) b.world) offs known.2.closed in
+    let all : AreOutOfReach (gone ++ b.doomed) (graph_of b.world) = all_out config rows gone b known.2 in
     let spared : (n : ℕ) → has (gone ++ b.doomed) n ≡ false → has b.doomed n ≡ false =
     λ n out. (or_parts (has gone n) (has b.doomed n) (sym (has-append gone b.doomed n) ∙ out)).1 in
-    let kept : (m : ℕ) → is_there b.world.heap.objects m ≡ true → has gone m ≡ false =
-    λ m there. (there_in gone (replayed config rows) b known.1.agrees m there).0 in
     record {
-      roots = λ n root. spared n (closed_roots (λ n. has (gone ++ b.doomed) n ≡ false) b.world n closed root);
+      roots = λ n root. spared n (all.roots n root);
       others = λ m n out target.
+          let there : is_there b.world.heap.objects m ≡ true =
+          target_there any_referent (object_at b.world.heap.objects m) n target in
+          let kept : has gone m ≡ false = (there_in gone (replayed config rows) b known.1.agrees m there).0 in
           spared n
-          (closed.targets m n
-          (has-append gone b.doomed m
-          ∙ or_from (has gone m) (has b.doomed m)
-          (kept m (target_there any_referent (object_at b.world.heap.objects m) n target)) out) target);
+          (all.others m n (has-append gone b.doomed m ∙ or_from (has gone m) (has b.doomed m) kept out) target);
     }

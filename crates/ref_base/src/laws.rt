@@ -24,7 +24,6 @@ ghost use Rattle.ref_base.specs.Refusals.{heap_refusal, refusal};
 ghost use Rattle.ref_base.specs.CollectorRows.{IsHeapRow, IsRow, IsRun, with_handed};
 ghost use Rattle.ref_base.specs.declared.cause.Cause.{Cause};
 ghost use Rattle.ref_base.specs.declared.config.Config.{Config};
-ghost use Rattle.ref_base.specs.declared.phase.Phase.{Phase};
 ghost use Rattle.ref_base.specs.declared.reach.Reach.{Reach};
 ghost use Rattle.ref_base.specs.declared.row.Row.{Row};
 ghost use Rattle.ref_base.specs.declared.reply.Reply.{Reply};
@@ -137,12 +136,14 @@ pub fn a_reference_is_registered_with_one_queue()
 {}
 
 /// After every legal trace the collector has the world that its rows give by replay, slots, holds, hands, queues and
-/// pending references alike, but for two things: some objects are gone, each of which an earlier mark's end found dead;
-/// and a reference that the mark's end cleared reads as cleared also before a worker has looked at it.
+/// pending references alike, but for two things: some objects are gone; and a reference that the mark's end cleared
+/// reads as cleared also before a worker has looked at it. An earlier mark's end found dead whatever is gone. No slot,
+/// hold or pending reference names that, nor does an object that isn't doomed, as a field or as its referent.
 pub fn the_collector_has_the_graph_of_the_replay_less_what_was_swept()
     ensures { (config : Config) (rows : List Row) (b : State) → IsRun (first_state config) rows b
         → (gone : List ℕ) × Agrees gone (replayed config rows) b
-        × ((n : ℕ) → has gone n ≡ true → WasDoomed config rows n) }
+        × ((n : ℕ) → has gone n ≡ true → WasDoomed config rows n)
+        × AreOutOfReach (gone ++ b.doomed) (graph_of b.world) }
 {}
 
 /// After every legal trace each notice that is out, in a hand or in a queue, and whose cause is a cycle, comes after
@@ -161,10 +162,10 @@ pub fn what_a_worker_clears_was_shown_by_its_mark_end()
         → MarkEnded config front (replayed config front).cycle n }
 {}
 
-/// From each mark's end until the sweep has ended nothing reaches what is doomed and not swept yet: no slot, hold or
-/// pending reference names it, and no other object has it as a field or as a referent.
+/// After every legal trace, also while references are cleared and while the sweep goes on, nothing reaches what is
+/// doomed and not swept yet: no slot, hold or pending reference names it, and no other object has it as a field or as
+/// its referent.
 pub fn nothing_else_refers_to_the_doomed()
     ensures { (config : Config) (rows : List Row) (b : State) → IsRun (first_state config) rows b
-        → (b.world.phase ≡ Phase.Clearing) ⊎ (b.world.phase ≡ Phase.Sweeping)
         → AreOutOfReach b.doomed (graph_of b.world) }
 {}
