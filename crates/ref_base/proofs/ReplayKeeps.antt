@@ -23,12 +23,12 @@ use Rattle.ref_base.proofs.Lookups.{numbers-changed}
 use Rattle.ref_base.proofs.ReplayUnder.{made_number}
 
 module _ {R : Type 0} (get : World → R) where
-  told_keeps : {T : Type 0} (told : Option T) (change : T → World) (w : World) → ((x : T) → get (change x) ≡ get w)
+  pub told_keeps : {T : Type 0} (told : Option T) (change : T → World) (w : World) → ((x : T) → get (change x) ≡ get w)
       → get (if_told told change w) ≡ get w
   told_keeps None change w keeps = refl
   told_keeps (Some x) change w keeps = keeps x
 
-  done_keeps : (done : Bool) (change w : World) → get change ≡ get w → get (if done then change else w) ≡ get w
+  pub done_keeps : (done : Bool) (change w : World) → get change ≡ get w → get (if done then change else w) ≡ get w
   done_keeps true change w keeps = keeps
   done_keeps false change w keeps = refl
 
