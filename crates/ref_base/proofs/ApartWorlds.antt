@@ -1,7 +1,7 @@
 -- What no root names and nothing else refers to: changes of a world keep it so.
-use Rattle.std.proofs.Common.{◌≡◌, ℕ, suc, ◌+◌, ◌*◌, true, ◌==◌, ◌||◌, List, [], ◌∷◌, ◌++◌, map}
+use Rattle.std.proofs.Common.{◌≡◌, ℕ, zero, suc, ◌+◌, ◌*◌, true, ◌==◌, ◌||◌, List, [], ◌∷◌, ◌++◌, map}
 use Rattle.std.proofs.Common.{Option, Some, None, refl, sym, ◌∙◌, subst, inl, inr, ◌⊎◌}
-use Rattle.std.specs.Prelude.{slice_index_or, slice_set}
+use Rattle.std.specs.Prelude.{slice_index_or, slice_set, replicate}
 use Rattle.std.specs.List.{AllByRecursion}
 use Rattle.std.proofs.lemmas.Bool.{cases_Bool, or_cases, eqb-true, false≢true, or_right}
 use Rattle.ref_base.specs.Members.{has}
@@ -28,6 +28,12 @@ pub record IsClosed (V : ℕ → Type 0) (w : World) : Type 0 where
   pub holds : (n : ℕ) → has w.heap.holds n ≡ true → V n
   pub pendings : (k : ℕ) → AllByRecursion (λ p. V p.object) (pending_of w k)
   pub targets : (m n : ℕ) → V m → has (targets_at any_referent w.heap.objects m) n ≡ true → V n
+
+-- at first no slot holds anything
+pub no_slot : (V : ℕ → Type 0) (count i : ℕ) → OfValue V (slice_index_or (replicate count None) i None)
+no_slot V zero i = tt
+no_slot V (suc count) zero = tt
+no_slot V (suc count) (suc i) = no_slot V count i
 
 -- what an object refers to after a change, it referred to, or V holds of it
 abbrev pub Refers : (ℕ → Type 0) → Option Object → Option Object → Type 0

@@ -1,5 +1,5 @@
 -- In every legal trace each number is given once: whatever is named has a number below the next.
-use Rattle.std.proofs.Common.{◌≡◌, ℕ, zero, suc, ◌+◌, ◌*◌, ◌<◌, ◌≤◌, true, false, ◌==◌, List, [], ◌∷◌, map, replicate}
+use Rattle.std.proofs.Common.{◌≡◌, ℕ, ◌+◌, ◌*◌, ◌<◌, ◌≤◌, true, false, ◌==◌, List, [], ◌∷◌, map}
 use Rattle.std.proofs.Common.{Option, Some, None, refl, sym, ap, ◌∙◌, subst, arith, inl, inr, ◌⊎◌}
 use Rattle.std.specs.Prelude.{slice_index_or}
 use Rattle.std.proofs.lemmas.Bool.{cases_Bool, false≢true}
@@ -30,7 +30,7 @@ use Rattle.ref_base.proofs.RowKinds.{IsRefused, IsOfQueues, IsOfHeap, row_kind}
 use Rattle.ref_base.proofs.RunFronts.{legal_holds}
 use Rattle.ref_base.proofs.OneQueue.{next_heap}
 use Rattle.ref_base.proofs.AgreeHeaps.{Agreeing, there-numbers}
-use Rattle.ref_base.proofs.ApartWorlds.{OfValue, IsClosed, Refers, closed_objects, closed_roots, refers_cleared}
+use Rattle.ref_base.proofs.ApartWorlds.{no_slot, OfValue, IsClosed, Refers, closed_objects, closed_roots, refers_cleared}
 use Rattle.ref_base.proofs.ClosedRows.{closed_same, heap_closed}
 use Rattle.ref_base.proofs.OffSets.{target_there}
 use Rattle.ref_base.proofs.OutTraces.{legal_out, there_in}
@@ -145,11 +145,6 @@ row_old gone w a row b is (inr (inr of)) closed =
 
 -- ---- after every legal trace
 
-no_slot : (count i : ℕ) → OfValue (λ n. n < 1) (slice_index_or (replicate count None) i None)
-no_slot zero i = tt
-no_slot (suc count) zero = tt
-no_slot (suc count) (suc i) = no_slot count i
-
 legal_old : (config : Config) (rows : List Row) (b : State) → IsRun (first_state config) rows b
     → IsClosed (λ n. n < b.next) b.world
 legal_old config rows b run =
@@ -159,7 +154,7 @@ legal_old config rows b run =
     row_old known.0 (replayed config past) a row c known.1
     (row_kind a row c (legal_counted config past a run) h) closed)
     (record {
-      slots = no_slot (16 * config.mutators);
+      slots = no_slot (λ n. n < 1) (16 * config.mutators);
       holds = λ n held. absurd (false≢true held);
       pendings = λ k. nothing_pending (λ p. p.object < 1) config.workers k;
       targets = λ m n is target. absurd (false≢true target);

@@ -1,8 +1,7 @@
 -- After every legal trace the collector has the world of the replay, but for what was swept and for what waits to be
 -- cleared; what is gone or doomed is out of reach; and a mark's end has shown what it cleared.
-use Rattle.std.proofs.Common.{◌≡◌, ℕ, zero, suc, ◌*◌, true, false, List, [], ◌++◌, replicate, None, refl, sym}
+use Rattle.std.proofs.Common.{◌≡◌, ℕ, ◌*◌, true, false, List, [], ◌++◌, refl, sym}
 use Rattle.std.proofs.Common.{ap, ◌∙◌, subst}
-use Rattle.std.specs.Prelude.{slice_index_or}
 use Rattle.std.proofs.lemmas.Bool.{false≢true, or_parts, or_from}
 use Rattle.ref_base.specs.Members.{has}
 use Rattle.ref_base.specs.Graphs.{object_at, is_there}
@@ -24,20 +23,15 @@ use Rattle.ref_base.proofs.OffSets.{target_there}
 use Rattle.ref_base.proofs.Reshaping.{is_there-reshaped}
 use Rattle.ref_base.proofs.SeenObjects.{cleared_if-shape}
 use Rattle.ref_base.proofs.AgreeRuns.{gone_next, row_agrees, first_agrees}
-use Rattle.ref_base.proofs.ApartWorlds.{OfValue, IsClosed, closed_roots}
+use Rattle.ref_base.proofs.ApartWorlds.{no_slot, IsClosed, closed_roots}
 use Rattle.ref_base.proofs.CarryRows.{nothing_pending}
 use Rattle.ref_base.proofs.OutHeaps.{AreOut, doomed_in}
 use Rattle.ref_base.proofs.OutRuns.{row_out}
 
-no_slot : (count i : ℕ) → OfValue (λ n. has [] n ≡ false) (slice_index_or (replicate count None) i None)
-no_slot zero i = tt
-no_slot (suc count) zero = tt
-no_slot (suc count) (suc i) = no_slot count i
-
 first_out : (config : Config) → AreOut config [] [] (first_state config)
 first_out config = record {
   closed = record {
-    slots = no_slot (16 * config.mutators);
+    slots = no_slot (λ n. has [] n ≡ false) (16 * config.mutators);
     holds = λ n held. refl;
     pendings = λ k. nothing_pending (λ p. has [] p.object ≡ false) config.workers k;
     targets = λ m n is target. refl;

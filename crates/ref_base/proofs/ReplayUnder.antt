@@ -1,12 +1,10 @@
 -- Each row of the replay goes through where some objects are gone and some references read as cleared.
 use Rattle.std.proofs.Common.{◌≡◌, ℕ, Bool, true, false, if◌then◌else◌, List, Option, Some, None}
-use Rattle.std.proofs.Common.{refl, sym, ap, ◌∙◌, inl, inr, is_some}
-use Rattle.std.proofs.lemmas.Bool.{cases_Bool}
+use Rattle.std.proofs.Common.{refl, sym, ap, ◌∙◌, is_some}
 use Rattle.ref_base.specs.Members.{has}
 use Rattle.ref_base.specs.Graphs.{Object, Reference, plain_object}
-use Rattle.ref_base.specs.Paths.{is_soft}
 use Rattle.ref_base.specs.Heaps.{Heap, slot_at, with_slot, got, cut, made, nulls}
-use Rattle.ref_base.specs.Heaps.{new_reference, with_hold, changed_in, changed_reference, with_reference}
+use Rattle.ref_base.specs.Heaps.{new_reference, with_hold, changed_in, with_reference}
 use Rattle.ref_base.specs.Heaps.{cleared, got_at}
 use Rattle.ref_base.specs.Heaps.{with_field}
 use Rattle.ref_base.specs.Worlds.{World, Notice, hand_of, with_heap, with_hand}
@@ -21,6 +19,7 @@ use Rattle.ref_base.specs.declared.heap_step.HeapStep.TheVariants as heap
 use Rattle.ref_base.specs.declared.step.Step.{Step}
 use Rattle.ref_base.specs.declared.step.Step.TheVariants as steps
 use Rattle.ref_base.specs.declared.reply.Reply.{Reply}
+use Rattle.ref_base.proofs.ShownObjects.{cleared_got}
 use Rattle.ref_base.proofs.SeenObjects.{heap_changed, seen_push}
 
 -- the number of what a row made
@@ -28,13 +27,6 @@ abbrev pub made_number : NamedStep → Reply → Option ℕ
 made_number (heap.New m d k) reply = told_object reply
 made_number (heap.Refer m strength d s q k) reply = told_object reply
 made_number step reply = None
-
-clears_got : (clock : ℕ) (r : Option Reference)
-    → changed_reference cleared (changed_reference (got_at clock) r)
-    ≡ changed_reference (got_at clock) (changed_reference cleared r)
-clears_got clock None = refl
-clears_got clock (Some r) =
-    elim (cases_Bool (is_soft r.strength)) [ inl soft ↦ simp soft refl | inr other ↦ simp other refl ]
 
 -- ---- where some objects are gone and some references read as cleared
 
@@ -69,7 +61,7 @@ module _ (gone : List ℕ) (these : ℕ → Bool) where
   got_under w m d s (Some n) =
       ap (λ (h : Heap). with_slot h m d (Some n))
       (changes w (slot_at w.heap m s) (with_reference (got_at w.heap.clock)) (λ o. refl)
-      (λ o. ap (λ (r : Option Reference). record o { reference = r }) (clears_got w.heap.clock o.reference)))
+      (λ o. ap (λ (r : Option Reference). record o { reference = r }) (cleared_got w.heap.clock o.reference)))
 
   made_under : (w : World) (m d : ℕ) (o : Object) → has gone o.no ≡ false → these o.no ≡ false
       → with_heap (under gone these w) (made (heap_under gone these w.heap) m d o)

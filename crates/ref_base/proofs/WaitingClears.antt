@@ -1,20 +1,21 @@
 -- The references that the mark's end cleared and that no worker has looked at since: at the mark's end these are all
 -- new clears, and a look at one takes it away.
 use Rattle.std.proofs.Common.{◌≡◌, ℕ, zero, suc, Bool, true, false, ◌==◌, ◌||◌, List, [], ◌∷◌, ◌++◌, map, is_some}
-use Rattle.std.proofs.Common.{refl, sym, ap, ◌∙◌, subst, inl, inr, Option, Some, None, arith}
+use Rattle.std.proofs.Common.{refl, sym, ap, ◌∙◌, subst, inl, inr, Option, arith}
 use Rattle.std.specs.Prelude.{slice_set}
 use Rattle.std.proofs.lemmas.Bool.{cases_Bool, eqb-true, eq-eqb, ne_eqb, true≢false, false≢true}
 use Rattle.ref_base.specs.Members.{has}
 use Rattle.ref_base.specs.Graphs.{Object, Reference, is_there, numbers}
 use Rattle.ref_base.specs.Strengths.{IsRising}
 use Rattle.ref_base.specs.DoomedSets.{is_new_clear, new_clears}
-use Rattle.ref_base.specs.Heaps.{with_reference, cleared, changed_reference, changed_at, reference_at}
+use Rattle.ref_base.specs.Heaps.{with_reference, cleared, changed_at, reference_at}
 use Rattle.ref_base.specs.Collectors.{State, joined}
 use Rattle.ref_base.specs.CollectorRows.{shown, list_at, ClearsNext, looked_at, referent_of}
 use Rattle.ref_base.specs.AgreeingWorlds.{cleared_if}
 use Rattle.ref_base.specs.declared.reply.Reply.{Reply}
 use Rattle.ref_base.specs.declared.reply.Reply.TheVariants as replies
 use Rattle.ref_base.proofs.HasLaws.{has-append}
+use Rattle.ref_base.proofs.ShownObjects.{cleared_twice}
 use Rattle.ref_base.proofs.OneMore.{or-swap}
 use Rattle.ref_base.proofs.NewClears.{IsRising-tail, is_there-rising}
 
@@ -76,16 +77,11 @@ shown-waiting (o ∷ os) d these rising are =
 
 -- ---- where a worker looks
 
-clears_twice : (r : Option Reference)
-    → changed_reference cleared (changed_reference cleared r) ≡ changed_reference cleared r
-clears_twice None = refl
-clears_twice (Some r) = refl
-
 cleared_either : (these : ℕ → Bool) (o : Object)
     → cleared_if these (with_reference cleared o) ≡ with_reference cleared o
 cleared_either these o =
     elim (cases_Bool (these o.no)) [
-      | inl clear ↦ simp clear (ap (λ (r : Option Reference). record o { reference = r }) (clears_twice o.reference))
+      | inl clear ↦ simp clear (ap (λ (r : Option Reference). record o { reference = r }) (cleared_twice o.reference))
       | inr keeps ↦ simp keeps refl
     ]
 
