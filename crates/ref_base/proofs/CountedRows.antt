@@ -1,7 +1,8 @@
 -- The holds that a row of a heap leaves are those that its answer tells.
 use Rattle.std.proofs.Common.{◌≡◌, ℕ, List, Option, Some, None, refl, ap, ◌∙◌}
 use Rattle.ref_base.specs.Graphs.{Object}
-use Rattle.ref_base.specs.Heaps.{Heap, slot_at, reference_at, registered_in, changed_in, with_reference, cleared, got_at}
+use Rattle.ref_base.specs.Heaps.{Heap, slot_at, reference_at, registered_in, changed_in, with_reference}
+use Rattle.ref_base.specs.Heaps.{cleared, got_at}
 use Rattle.ref_base.specs.Heaps.{with_field, got, cut, one_more}
 use Rattle.ref_base.specs.Worlds.{World}
 use Rattle.ref_base.specs.Told.{told_object, told_value, is_done, told_cycle, is_doomed}

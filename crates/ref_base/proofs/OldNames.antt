@@ -30,7 +30,8 @@ use Rattle.ref_base.proofs.RowKinds.{IsRefused, IsOfQueues, IsOfHeap, row_kind}
 use Rattle.ref_base.proofs.RunFronts.{legal_holds}
 use Rattle.ref_base.proofs.OneQueue.{next_heap}
 use Rattle.ref_base.proofs.AgreeHeaps.{Agreeing, there-numbers}
-use Rattle.ref_base.proofs.ApartWorlds.{no_slot, OfValue, IsClosed, Refers, closed_objects, closed_roots, refers_cleared}
+use Rattle.ref_base.proofs.ApartWorlds.{no_slot, OfValue, IsClosed, Refers, closed_objects, closed_roots}
+use Rattle.ref_base.proofs.ApartWorlds.{refers_cleared}
 use Rattle.ref_base.proofs.ClosedRows.{closed_same, heap_closed}
 use Rattle.ref_base.proofs.OffSets.{target_there}
 use Rattle.ref_base.proofs.OutTraces.{legal_out, there_in}
