@@ -45,7 +45,7 @@ run_moves a (row ∷ rows) b sound run q =
 
 -- ---- from the first state
 
-first_run_moves : (config : Config) (rows : List Row) (b : State) → IsRun (first_state config) rows b
+pub first_run_moves : (config : Config) (rows : List Row) (b : State) → IsRun (first_state config) rows b
     → (q : ℕ) → MovesBy (new_queue q) (queue_at b.world q) q empty_hands rows
 first_run_moves config rows b run q =
     let first : World = first_world config in

@@ -35,6 +35,8 @@ pub mod CarryHeaps
 pub mod CarryRows
 pub mod ProvenTraces
 pub mod GivenNotices
+pub mod ReplayOthers
+pub mod AddedRows
 mod ReplayExamples
 mod LegalExamples
 mod IllegalExamples

@@ -17,6 +17,12 @@ ghost use Rattle.ref_base.specs.CountedHolds.{AreCounted};
 ghost use Rattle.ref_base.specs.Provenance.{IsProven, AreProven, gives_notices};
 ghost use Rattle.ref_base.specs.Refusals.{heap_refusal, refusal};
 ghost use Rattle.ref_base.specs.CollectorRows.{IsHeapRow, IsRow, IsRun, with_handed};
+ghost use Rattle.std.specs.Prelude.{length};
+ghost use Rattle.ref_base.specs.QueueLists.{enqueued};
+ghost use Rattle.ref_base.specs.QueueRows.{put_into, taken_from, was_closed};
+ghost use Rattle.ref_base.specs.Replay.{replayed};
+ghost use Rattle.ref_base.specs.Worlds.{Notice, object_of, hand_of, queue_at};
+ghost use Rattle.ref_base.specs.declared.actor.Actor.{Actor};
 ghost use Rattle.ref_base.specs.declared.cause.Cause.{Cause};
 ghost use Rattle.ref_base.specs.declared.config.Config.{Config};
 ghost use Rattle.ref_base.specs.declared.reach.Reach.{Reach};
@@ -116,4 +122,36 @@ pub fn each_notice_that_is_given_has_its_own_queue_and_cause()
         → IsRun (first_state config) (front ++ record { step = step; reply = Reply.Notice n q cause } ∷ back) b
         → IsProven (front ++ record { step = step; reply = Reply.Notice n q cause } ∷ [])
         (record { object = n; queue = q; cause = cause }) }
+{}
+
+/// After every legal trace the lists of each queue are those of the rows: what was taken from it and what was put in,
+/// in order, and whether it was closed.
+pub fn the_lists_of_a_queue_are_those_of_the_rows()
+    ensures { (config : Config) (rows : List Row) (b : State) (q : ℕ) → IsRun (first_state config) rows b
+        → ((queue_at b.world q).taken ≡ taken_from q rows)
+        × (enqueued object_of (queue_at b.world q) ≡ put_into q rows)
+        × ((queue_at b.world q).closed ≡ was_closed q rows) }
+{}
+
+/// In a legal trace a put that was added answers how many references its queue got before, where the queue is that of
+/// the notice which the hand holds in the replay.
+pub fn added_answers_the_position()
+    ensures { (config : Config) (front back : List Row) (who : Actor) (position : ℕ)
+        → IsLegal config (front ++ record { step = Step.Put who; reply = Reply.Added position } ∷ back)
+        → (notice : Notice) × (hand_of (replayed config front) who ≡ Some notice)
+        × (position ≡ length (put_into notice.queue front)) }
+{}
+
+/// After every legal trace the replay has the hands and queues of the collector's state.
+pub fn the_hands_and_queues_of_the_replay_are_those_of_the_state()
+    ensures { (config : Config) (rows : List Row) (b : State) → IsRun (first_state config) rows b
+        → SameOthers (replayed config rows) b.world }
+{}
+
+/// In a legal trace each notice that was put in, which is what the hand holds in the replay, comes from the rows before:
+/// one of them made its reference, registered with the notice's queue; and one is its cause.
+pub fn each_notice_that_is_put_in_has_its_own_queue_and_cause()
+    ensures { (config : Config) (front back : List Row) (who : Actor) (position : ℕ)
+        → IsLegal config (front ++ record { step = Step.Put who; reply = Reply.Added position } ∷ back)
+        → (notice : Notice) × (hand_of (replayed config front) who ≡ Some notice) × IsProven front notice }
 {}
