@@ -37,6 +37,9 @@ pub mod ProvenTraces
 pub mod GivenNotices
 pub mod ReplayOthers
 pub mod AddedRows
+pub mod HeapMoves
+pub mod RowMoves
+pub mod ScannedOnce
 mod ReplayExamples
 mod LegalExamples
 mod IllegalExamples

@@ -32,3 +32,4 @@ pub mod Forgetting
 pub mod LegalTraces
 pub mod Provenance
 pub mod Words
+pub mod ScannedRows

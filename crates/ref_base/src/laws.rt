@@ -17,7 +17,11 @@ ghost use Rattle.ref_base.specs.CountedHolds.{AreCounted};
 ghost use Rattle.ref_base.specs.Provenance.{IsProven, AreProven, gives_notices};
 ghost use Rattle.ref_base.specs.Refusals.{heap_refusal, refusal};
 ghost use Rattle.ref_base.specs.CollectorRows.{IsHeapRow, IsRow, IsRun, with_handed};
-ghost use Rattle.std.specs.Prelude.{length};
+ghost use Rattle.std.specs.Prelude.{length, nat_eq};
+ghost use Rattle.std.specs.List.{IsDistinct};
+ghost use Rattle.ref_base.specs.CollectorRows.{IsLeft};
+ghost use Rattle.ref_base.specs.ScannedRows.{scanned_in_cycle};
+ghost use Rattle.ref_base.specs.declared.fault.Fault.{Fault};
 ghost use Rattle.ref_base.specs.QueueLists.{enqueued};
 ghost use Rattle.ref_base.specs.QueueRows.{put_into, taken_from, was_closed};
 ghost use Rattle.ref_base.specs.Replay.{replayed};
@@ -148,10 +152,23 @@ pub fn the_hands_and_queues_of_the_replay_are_those_of_the_state()
         → SameOthers (replayed config rows) b.world }
 {}
 
-/// In a legal trace each notice that was put in, which is what the hand holds in the replay, comes from the rows before:
-/// one of them made its reference, registered with the notice's queue; and one is its cause.
+/// In a legal trace each notice that was put in, which is what the hand holds in the replay, comes from the rows
+/// before: one of them made its reference, registered with the notice's queue; and one is its cause.
 pub fn each_notice_that_is_put_in_has_its_own_queue_and_cause()
     ensures { (config : Config) (front back : List Row) (who : Actor) (position : ℕ)
         → IsLegal config (front ++ record { step = Step.Put who; reply = Reply.Added position } ∷ back)
         → (notice : Notice) × (hand_of (replayed config front) who ≡ Some notice) × IsProven front notice }
+{}
+
+/// In a legal trace no object is scanned twice in a cycle.
+pub fn no_object_is_scanned_twice_in_a_cycle()
+    ensures { (config : Config) (rows : List Row) → IsLegal config rows → IsDistinct nat_eq (scanned_in_cycle rows) }
+{}
+
+/// In a legal trace, where a mark's end is refused because an object is left to scan, one is: it was ever kept in the
+/// mark, it was made before the cycle began, and no row of the cycle scanned it.
+pub fn a_mark_goes_on_only_while_an_object_is_left()
+    ensures { (config : Config) (front : List Row) (a b : State) → IsRun (first_state config) front a
+        → IsRow a (record { step = Step.EndMark; reply = Reply.Refused Fault.GreyLeft }) b
+        → (n : ℕ) × IsLeft a n }
 {}
