@@ -40,6 +40,11 @@ pub mod AddedRows
 pub mod HeapMoves
 pub mod RowMoves
 pub mod ScannedOnce
+pub mod Subsequences
+pub mod RowHands
+pub mod HandCauses
+pub mod ClearingShifts
+pub mod ClearingTraces
 mod ReplayExamples
 mod LegalExamples
 mod IllegalExamples

@@ -127,7 +127,7 @@ after_heap_others w heap.EndSweep r =
     if_others w _ (is_done r) (record { mutators = refl; workers = refl; queues = refl })
 
 -- and so does the row
-heap_others : (a b : State) (step : NamedStep) (reply : Reply) → HeapAccepts a step reply b
+pub heap_others : (a b : State) (step : NamedStep) (reply : Reply) → HeapAccepts a step reply b
     → SameOthers a.world b.world
 heap_others a b (heap.Refer m strength d s q k) reply row =
     subst (λ (w : World). SameOthers a.world w) (sym (ap (λ (s : State). s.world) row.1 ∙ ticked_world _))
@@ -146,7 +146,7 @@ emptied_others : (v w : World) (who : Actor) (told : Bool) → SameOthers v w
 emptied_others v w who true is = same_with_hand v w who None is
 emptied_others v w who false is = is
 
-handed_others : (v w : World) (step : Step) (reply : Reply) → SameOthers v w
+pub handed_others : (v w : World) (step : Step) (reply : Reply) → SameOthers v w
     → SameOthers (handed v step reply) (handed w step reply)
 handed_others v w (steps.Unhook m s) reply is = taking_others v w (Mutator m) (told_notice reply) is
 handed_others v w (steps.Hand k) reply is = taking_others v w (Worker k) (told_notice reply) is
@@ -228,7 +228,7 @@ closes_others v a b m q false reply is row =
     (same_with_queue v a.world q (record (queue_at a.world q) { closed = true })
     (record (queue_at v q) { closed = true }) (ap (λ (l : Lists Notice). record l { closed = true }) lists) is)
 
-queues_others : (v : World) (a b : State) (step : Step) (reply : Reply) → SameOthers v a.world
+pub queues_others : (v : World) (a b : State) (step : Step) (reply : Reply) → SameOthers v a.world
     → QueuesAccept a step reply b → SameOthers (after_queues v step reply) b.world
 queues_others v a b (steps.Put who) reply is row =
     puts_others v a b who (hand_of a.world who) reply is (sym (same_hand v a.world who is)) row
@@ -263,7 +263,7 @@ refused_heap : (w : World) (step : NamedStep) (fault : Fault) → after_heap w s
 refused_heap w (heap.RefersTo m s v) fault = refl
 refused_heap w step fault = refl
 
-refused_queues : (w : World) (step : Step) (fault : Fault) → after_queues w step (replies.Refused fault) ≡ w
+pub refused_queues : (w : World) (step : Step) (fault : Fault) → after_queues w step (replies.Refused fault) ≡ w
 refused_queues w (steps.Put who) fault = refl
 refused_queues w step fault = refl
 
@@ -273,7 +273,7 @@ refused_after w None step fault = refused_queues w step fault
 refused_after w (Some asked) step fault =
     refused_hands (after_heap w asked (replies.Refused fault)) step fault ∙ refused_heap w asked fault
 
-answered_others : (v : World) (a b : State) (step : Step) (reply : Reply) (fault : Option Fault)
+pub answered_others : (v : World) (a b : State) (step : Step) (reply : Reply) (fault : Option Fault)
     → SameOthers v a.world → IsAnswer a fault step reply b → SameOthers (after v step reply) b.world
 answered_others v a b step reply (Some fault) is row =
     subst (λ (r : Reply). SameOthers (after v step r) b.world) (sym row.0)

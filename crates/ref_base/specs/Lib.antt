@@ -33,3 +33,4 @@ pub mod LegalTraces
 pub mod Provenance
 pub mod Words
 pub mod ScannedRows
+pub mod ClearingOrder

@@ -19,7 +19,9 @@ ghost use Rattle.ref_base.specs.Refusals.{heap_refusal, refusal};
 ghost use Rattle.ref_base.specs.CollectorRows.{IsHeapRow, IsRow, IsRun, with_handed};
 ghost use Rattle.std.specs.Prelude.{length, nat_eq};
 ghost use Rattle.std.specs.List.{IsDistinct};
-ghost use Rattle.ref_base.specs.CollectorRows.{IsLeft};
+ghost use Rattle.ref_base.specs.CollectorRows.{IsLeft, is_subsequence};
+ghost use Rattle.ref_base.specs.ClearingOrder.{added_of};
+ghost use Rattle.ref_base.specs.WorkerOrder.{clearing_order};
 ghost use Rattle.ref_base.specs.ScannedRows.{scanned_in_cycle};
 ghost use Rattle.ref_base.specs.declared.fault.Fault.{Fault};
 ghost use Rattle.ref_base.specs.QueueLists.{enqueued};
@@ -171,4 +173,11 @@ pub fn a_mark_goes_on_only_while_an_object_is_left()
     ensures { (config : Config) (front : List Row) (a b : State) → IsRun (first_state config) front a
         → IsRow a (record { step = Step.EndMark; reply = Reply.Refused Fault.GreyLeft }) b
         → (n : ℕ) × IsLeft a n }
+{}
+
+/// In a legal trace, of what a worker cleared, a queue gets the references in the order in which the worker cleared
+/// those that are registered with it: none comes before one that was cleared earlier, though some may never come.
+pub fn each_queue_has_a_workers_references_in_its_clearing_order()
+    ensures { (config : Config) (rows : List Row) (k q : ℕ) → IsLegal config rows
+        → is_subsequence (added_of config k q rows) (clearing_order rows k q) ≡ true }
 {}
