@@ -1,11 +1,12 @@
 -- What a row of a heap does to the pending lists, to what was scanned and to the next number; and that, where it says
 -- in a mark that an object is left, one is.
-use Rattle.std.proofs.Common.{◌≡◌, ℕ, ◌+◌, Bool, true, false, if◌then◌else◌, List, [], ◌∷◌, ◌++◌, length, take, drop, min}
+use Rattle.std.proofs.Common.{◌≡◌, ℕ, ◌+◌, Bool, true, false, if◌then◌else◌, List, [], ◌∷◌, ◌++◌, length, map, take, drop, min}
 use Rattle.std.proofs.Common.{Option, Some, None, inl, inr, refl, sym, ap, ◌∙◌, subst}
 use Rattle.std.specs.Prelude.{slice_set, is_some}
 use Rattle.std.proofs.lemmas.Bool.{cases_Bool, true≢false, false≢true}
+use Rattle.std.proofs.lemmas.List.{map-append}
 use Rattle.ref_base.specs.Members.{has}
-use Rattle.ref_base.specs.Graphs.{Object}
+use Rattle.ref_base.specs.Graphs.{Object, numbers}
 use Rattle.ref_base.specs.KeptPaths.{Policy}
 use Rattle.ref_base.specs.Heaps.{Heap, slot_at, reference_at, registered_in, with_slot, with_hold, without_hold, changed_in}
 use Rattle.ref_base.specs.Heaps.{with_reference, with_field, cleared, got_at, made, stored, got, cut}
@@ -17,13 +18,15 @@ use Rattle.ref_base.specs.Refusals.{is_in}
 use Rattle.ref_base.specs.CollectorRows.{with_world, on_heap, ticked, Gives, IsLeft, IsBut, GivesAnewIf, Makes, Loads, Gets}
 use Rattle.ref_base.specs.CollectorRows.{Unhooks, Holds, Scans, ClearsNext, HandsOn, Sweeps, HeapAccepts, begun_state}
 use Rattle.ref_base.specs.CollectorRows.{emptied, list_at, looked, looked_at, value_reply, without, doomed_at}
-use Rattle.ref_base.specs.CollectorRows.{mark_ended, referent_of}
+use Rattle.ref_base.specs.CollectorRows.{mark_ended, referent_of, shown}
 use Rattle.ref_base.specs.declared.config.Config.{Config}
 use Rattle.ref_base.specs.declared.cause.Cause.TheVariants.{Own, Cycle}
 use Rattle.ref_base.specs.declared.phase.Phase.TheVariants.{Idle, Marking, Sweeping}
 use Rattle.ref_base.specs.declared.heap_step.HeapStep.TheVariants as heap
 use Rattle.ref_base.specs.declared.reply.Reply.{Reply}
 use Rattle.ref_base.specs.declared.reply.Reply.TheVariants as replies
+use Rattle.ref_base.proofs.Lookups.{numbers-changed}
+use Rattle.ref_base.proofs.ShownObjects.{shown-no}
 use Rattle.ref_base.proofs.RowLaws.{ticked_world}
 
 -- ---- what a row tells
@@ -48,6 +51,13 @@ next_by next (heap.New m d k) (replies.Object n) = next + 1
 next_by next (heap.Refer m strength d s q k) (replies.Object n) = next + 1
 next_by next step reply = next
 
+-- the numbers of the objects
+abbrev pub numbers_by : State → NamedStep → Reply → List ℕ
+numbers_by a (heap.New m d k) (replies.Object n) = numbers a.world.heap.objects ++ a.next ∷ []
+numbers_by a (heap.Refer m strength d s q k) (replies.Object n) = numbers a.world.heap.objects ++ a.next ∷ []
+numbers_by a (heap.Sweep k) (replies.Swept count) = numbers (without (take 64 a.doomed) a.world.heap.objects)
+numbers_by a step reply = numbers a.world.heap.objects
+
 -- where it is said in a mark that an object is left, one is
 abbrev pub LeftMeans : State → Type 0
 LeftMeans a = is_in a.world.phase Marking ≡ true → a.left ≡ true → (n : ℕ) × IsLeft a n
@@ -58,6 +68,7 @@ pub record HeapMoves (a : State) (step : NamedStep) (reply : Reply) (b : State) 
   pub scanned : b.scanned ≡ scanned_by a.scanned step reply
   pub next : b.next ≡ next_by a.next step reply
   pub config : b.world.heap.config ≡ a.world.heap.config
+  pub numbered : numbers b.world.heap.objects ≡ numbers_by a step reply
   pub left : LeftMeans a → LeftMeans b
 
 -- ---- a mark that goes on
@@ -117,6 +128,14 @@ pub record Parts (a : State) (step : NamedStep) (answer : Reply) (c : State) : T
   pub scanned : c.scanned ≡ scanned_by a.scanned step answer
   pub next : c.next ≡ next_by a.next step answer
   pub config : c.world.heap.config ≡ a.world.heap.config
+  pub numbered : numbers c.world.heap.objects ≡ numbers_by a step answer
+
+parts : {a : State} {step : NamedStep} {answer : Reply} {c : State}
+    → c.world.pending ≡ pending_by a.world step answer → c.scanned ≡ scanned_by a.scanned step answer
+    → c.next ≡ next_by a.next step answer → c.world.heap.config ≡ a.world.heap.config
+    → numbers c.world.heap.objects ≡ numbers_by a step answer → Parts a step answer c
+parts pending scanned next config numbered =
+    record { pending = pending; scanned = scanned; next = next; config = config; numbered = numbered }
 
 pub ticked_scanned : (c : State) → (ticked c).scanned ≡ c.scanned
 ticked_scanned c =
@@ -129,39 +148,49 @@ ticked_next c =
 moves : (a c b : State) (step : NamedStep) (answer reply : Reply) → reply ≡ answer → Parts a step answer c
     → b.world ≡ (ticked c).world → b.scanned ≡ (ticked c).scanned → b.next ≡ (ticked c).next
     → (LeftMeans a → LeftMeans b) → HeapMoves a step reply b
-moves a c b step answer reply is parts world scanned next left =
+moves a c b step answer reply is does world scanned next left =
     subst (λ (r : Reply). HeapMoves a step r b) (sym is) (record {
-      pending = ap (λ (w : World). w.pending) (world ∙ ticked_world c) ∙ parts.pending;
-      scanned = scanned ∙ ticked_scanned c ∙ parts.scanned;
-      next = next ∙ ticked_next c ∙ parts.next;
-      config = ap (λ (w : World). w.heap.config) (world ∙ ticked_world c) ∙ parts.config;
+      pending = ap (λ (w : World). w.pending) (world ∙ ticked_world c) ∙ does.pending;
+      scanned = scanned ∙ ticked_scanned c ∙ does.scanned;
+      next = next ∙ ticked_next c ∙ does.next;
+      config = ap (λ (w : World). w.heap.config) (world ∙ ticked_world c) ∙ does.config;
+      numbered = ap (λ (w : World). numbers w.heap.objects) (world ∙ ticked_world c) ∙ does.numbered;
       left = left;
     })
 
 pub given : (a c b : State) (step : NamedStep) (answer reply : Reply) → Parts a step answer c → GoesOn a c
     → Gives answer c reply b → HeapMoves a step reply b
-given a c b step answer reply parts goes row =
-    moves a c b step answer reply row.0 parts (ap (λ (s : State). s.world) row.1) (ap (λ (s : State). s.scanned) row.1)
+given a c b step answer reply does goes row =
+    moves a c b step answer reply row.0 does (ap (λ (s : State). s.world) row.1) (ap (λ (s : State). s.scanned) row.1)
     (ap (λ (s : State). s.next) row.1) (λ means. subst LeftMeans (sym row.1) (left_ticked a c goes means))
 
 said_anew : (a c b : State) (step : NamedStep) (answer reply : Reply) → Parts a step answer c → reply ≡ answer
     → IsBut (ticked c) b → HeapMoves a step reply b
-said_anew a c b step answer reply parts is but =
-    moves a c b step answer reply is parts (ap (λ (s : State). s.world) but.1) (ap (λ (s : State). s.scanned) but.1)
+said_anew a c b step answer reply does is but =
+    moves a c b step answer reply is does (ap (λ (s : State). s.world) but.1) (ap (λ (s : State). s.scanned) but.1)
     (ap (λ (s : State). s.next) but.1) (λ _ _ said. but.2 (sym (ap (λ (s : State). s.left) but.1) ∙ said))
 
 given_anew : (a c b : State) (step : NamedStep) (answer reply : Reply) (marks : Bool) → Parts a step answer c
     → GoesOn a c → GivesAnewIf marks answer c reply b → HeapMoves a step reply b
-given_anew a c b step answer reply true parts goes row = said_anew a c b step answer reply parts row.0 row.1
-given_anew a c b step answer reply false parts goes row = given a c b step answer reply parts goes row
+given_anew a c b step answer reply true does goes row = said_anew a c b step answer reply does row.0 row.1
+given_anew a c b step answer reply false does goes row = given a c b step answer reply does goes row
 
 -- the step changes neither what is pending nor what was scanned, and makes nothing
 abbrev IsQuiet : State → NamedStep → Reply → Type 0
 IsQuiet a step answer = Parts a step answer a
 
--- what the cycle goes by, and the configuration
-abbrev settings_of : World → Policy × Config
-settings_of w = (policy_of w, w.heap.config)
+-- what the cycle goes by, the configuration, and the numbers of the objects
+abbrev settings_of : World → Policy × Config × List ℕ
+settings_of w = (policy_of w, w.heap.config, numbers w.heap.objects)
+
+abbrev policy_in : Policy × Config × List ℕ → Policy
+policy_in settings = settings.0
+
+with_settings : (a : State) (h : Heap) (step : NamedStep) (answer : Reply) → IsQuiet a step answer
+    → settings_of (with_heap a.world h) ≡ settings_of a.world → Parts a step answer (on_heap a h)
+with_settings a h step answer quiet settings =
+    parts quiet.pending quiet.scanned quiet.next (ap (λ (all : Policy × Config × List ℕ). all.1) settings)
+    (ap (λ (all : Policy × Config × List ℕ). all.2) settings ∙ quiet.numbered)
 
 -- a row that changes the heap alone
 on_the_heap : (a : State) (h : Heap) (b : State) (step : NamedStep) (answer reply : Reply) → IsQuiet a step answer
@@ -169,26 +198,16 @@ on_the_heap : (a : State) (h : Heap) (b : State) (step : NamedStep) (answer repl
     → HeapMoves a step reply b
 on_the_heap a h b step answer reply quiet settings row =
     given a (on_heap a h) b step answer reply
-    (record {
-      pending = quiet.pending;
-      scanned = quiet.scanned;
-      next = quiet.next;
-      config = ap (λ (both : Policy × Config). both.1) settings;
-    })
-    (goes_on a (with_heap a.world h) refl (ap (λ (both : Policy × Config). both.0) settings)) row
+    (with_settings a h step answer quiet settings)
+    (goes_on a (with_heap a.world h) refl (ap policy_in settings)) row
 
 on_the_heap_anew : (a : State) (h : Heap) (b : State) (step : NamedStep) (answer reply : Reply) (marks : Bool)
     → IsQuiet a step answer → settings_of (with_heap a.world h) ≡ settings_of a.world
     → GivesAnewIf marks answer (on_heap a h) reply b → HeapMoves a step reply b
 on_the_heap_anew a h b step answer reply marks quiet settings row =
     given_anew a (on_heap a h) b step answer reply marks
-    (record {
-      pending = quiet.pending;
-      scanned = quiet.scanned;
-      next = quiet.next;
-      config = ap (λ (both : Policy × Config). both.1) settings;
-    })
-    (goes_on a (with_heap a.world h) refl (ap (λ (both : Policy × Config). both.0) settings)) row
+    (with_settings a h step answer quiet settings)
+    (goes_on a (with_heap a.world h) refl (ap policy_in settings)) row
 
 -- a row that changes nothing
 nothing : (a b : State) (step : NamedStep) (answer reply : Reply) → IsQuiet a step answer → Gives answer a reply b
@@ -197,75 +216,80 @@ nothing a b step answer reply quiet row = given a a b step answer reply quiet (g
 
 -- ---- rows
 
-settings_changed : (w : World) (held : Option ℕ) (f : Object → Object)
+settings_changed : (w : World) (held : Option ℕ) (f : Object → Object) → ((o : Object) → (f o).no ≡ o.no)
     → settings_of (with_heap w (changed_in w.heap held f)) ≡ settings_of w
-settings_changed w None f = refl
-settings_changed w (Some n) f = refl
+settings_changed w None f keeps = refl
+settings_changed w (Some n) f keeps =
+    ap (λ ns. (policy_of w, w.heap.config, ns)) (numbers-changed w.heap.objects n f keeps)
 
-quiet_parts : (a : State) (step : NamedStep) (answer : Reply) → pending_by a.world step answer ≡ a.world.pending
-    → scanned_by a.scanned step answer ≡ a.scanned → next_by a.next step answer ≡ a.next → IsQuiet a step answer
-quiet_parts a step answer pending scanned next =
-    record { pending = sym pending; scanned = sym scanned; next = sym next; config = refl }
+-- one more object, which no slot holds yet
+abbrev with_made : State → Object → State
+with_made a o = record a {
+  world = with_heap a.world (record a.world.heap { objects = a.world.heap.objects ++ o ∷ [] });
+  next = a.next + 1;
+}
+
+pushed : (os : List Object) (o : Object) → numbers (os ++ o ∷ []) ≡ numbers os ++ o.no ∷ []
+pushed os o = map-append (λ (p : Object). p.no) os (o ∷ [])
 
 makes : (a b : State) (m d : ℕ) (o : Object) (step : NamedStep) (reply : Reply)
-    → Parts a step (replies.Object a.next) (record a { next = a.next + 1 }) → Makes a m d o reply b
-    → HeapMoves a step reply b
-makes a b m d o step reply parts row =
+    → Parts a step (replies.Object a.next) (with_made a o) → Makes a m d o reply b → HeapMoves a step reply b
+makes a b m d o step reply does row =
     let c : State = record a { world = with_heap a.world (made a.world.heap m d o); next = a.next + 1 } in
     given a c b step (replies.Object a.next) reply
-    (record { pending = parts.pending; scanned = parts.scanned; next = parts.next; config = refl })
+    (parts does.pending does.scanned does.next does.config does.numbered)
     (λ marks. record { marks = marks; policy = refl; moments = refl; born = refl; scanned = refl; left = refl }) row
 
 loads : (a b : State) (m d s i : ℕ) (value : Option ℕ) (reply : Reply) → Loads a m d value reply b
     → HeapMoves a (heap.Load m d s i) reply b
 loads a b m d s i None reply row =
     on_the_heap a (with_slot a.world.heap m d None) b (heap.Load m d s i) replies.Null reply
-    (quiet_parts a _ _ refl refl refl) refl row
+    (parts refl refl refl refl refl) refl row
 loads a b m d s i (Some n) reply row =
     on_the_heap_anew a (with_slot a.world.heap m d (Some n)) b (heap.Load m d s i) (replies.Object n) reply _
-    (quiet_parts a _ _ refl refl refl) refl row
+    (parts refl refl refl refl refl) refl row
 
 gets : (a b : State) (m d s : ℕ) (value : Option ℕ) (reply : Reply) → Gets a m d s value reply b
     → HeapMoves a (heap.Get m d s) reply b
 gets a b m d s None reply row =
     on_the_heap a (with_slot a.world.heap m d None) b (heap.Get m d s) replies.Null reply
-    (quiet_parts a _ _ refl refl refl) refl row
+    (parts refl refl refl refl refl) refl row
 gets a b m d s (Some n) reply row =
     on_the_heap_anew a (got a.world.heap m d s (Some n)) b (heap.Get m d s) (replies.Object n) reply _
-    (quiet_parts a _ _ refl refl refl)
-    (settings_changed a.world (slot_at a.world.heap m s) (with_reference (got_at a.world.heap.clock))) row
+    (parts refl refl refl refl refl)
+    (settings_changed a.world (slot_at a.world.heap m s) (with_reference (got_at a.world.heap.clock)) (λ o. refl)) row
 
 cut_settings : (w : World) (m s : ℕ) → settings_of (with_heap w (cut w.heap m s)) ≡ settings_of w
-cut_settings w m s = settings_changed w (slot_at w.heap m s) (with_reference cleared)
+cut_settings w m s = settings_changed w (slot_at w.heap m s) (with_reference cleared) (λ o. refl)
 
 unhooks : (a b : State) (m s : ℕ) (held queue : Option ℕ) (reply : Reply) → Unhooks a m s held queue reply b
     → HeapMoves a (heap.Unhook m s) reply b
 unhooks a b m s None queue reply row =
-    on_the_heap a (cut a.world.heap m s) b (heap.Unhook m s) replies.Nothing reply (quiet_parts a _ _ refl refl refl)
+    on_the_heap a (cut a.world.heap m s) b (heap.Unhook m s) replies.Nothing reply (parts refl refl refl refl refl)
     (cut_settings a.world m s) row
 unhooks a b m s (Some n) None reply row =
-    on_the_heap a (cut a.world.heap m s) b (heap.Unhook m s) replies.Nothing reply (quiet_parts a _ _ refl refl refl)
+    on_the_heap a (cut a.world.heap m s) b (heap.Unhook m s) replies.Nothing reply (parts refl refl refl refl refl)
     (cut_settings a.world m s) row
 unhooks a b m s (Some n) (Some q) reply row =
     on_the_heap a (with_hold (cut a.world.heap m s) n) b (heap.Unhook m s) (replies.Notice n q Own) reply
-    (quiet_parts a _ _ refl refl refl) (cut_settings a.world m s) row
+    (parts refl refl refl refl refl) (cut_settings a.world m s) row
 
 holds : (a b : State) (m s : ℕ) (held : Option ℕ) (reply : Reply) → Holds a held reply b
     → HeapMoves a (heap.Hold m s) reply b
 holds a b m s None reply row = absurd row
 holds a b m s (Some n) reply row =
     on_the_heap a (with_hold a.world.heap n) b (heap.Hold m s) (replies.Object n) reply
-    (quiet_parts a _ _ refl refl refl) refl row
+    (parts refl refl refl refl refl) refl row
 
 scans : (a b : State) (k : ℕ) (reply : Reply) → Scans a k reply b → HeapMoves a (heap.Scan k) reply b
 scans a b k (replies.Scanned n) row =
     said_anew a (record a { scanned = slice_set a.scanned k (list_at a.scanned k ++ n ∷ []) }) b (heap.Scan k)
-    (replies.Scanned n) (replies.Scanned n) (record { pending = refl; scanned = refl; next = refl; config = refl }) refl row.2
-scans a b k reply row = nothing a b (heap.Scan k) replies.Nothing reply (quiet_parts a _ _ refl refl refl) row.1
+    (replies.Scanned n) (replies.Scanned n) (parts refl refl refl refl refl) refl row.2
+scans a b k reply row = nothing a b (heap.Scan k) replies.Nothing reply (parts refl refl refl refl refl) row.1
 
-pended_config : (w : World) (k n : ℕ) (queue : Option ℕ) → (pended w k n queue).heap.config ≡ w.heap.config
-pended_config w k n None = refl
-pended_config w k n (Some q) = refl
+pended_heap : (w : World) (k n : ℕ) (queue : Option ℕ) → (pended w k n queue).heap ≡ w.heap
+pended_heap w k n None = refl
+pended_heap w k n (Some q) = refl
 
 pended_goes : (a : State) (k n : ℕ) (queue : Option ℕ) (found : List (List ℕ))
     → GoesOn a (record a { world = pended a.world k n queue; found = found })
@@ -279,11 +303,11 @@ passes : (a b : State) (k n : ℕ) (has_referent : Bool) (found : List (List ℕ
     → HeapMoves a (heap.ClearNext k) reply b
 passes a b k n true found reply row =
     given a (record a { found = found }) b (heap.ClearNext k) (replies.Kept n) reply
-    (record { pending = refl; scanned = refl; next = refl; config = refl })
+    (parts refl refl refl refl refl)
     (λ marks. record { marks = marks; policy = refl; moments = refl; born = refl; scanned = refl; left = refl }) row
 passes a b k n false found reply row =
     given a (record a { found = found }) b (heap.ClearNext k) (replies.Skipped n) reply
-    (record { pending = refl; scanned = refl; next = refl; config = refl })
+    (parts refl refl refl refl refl)
     (λ marks. record { marks = marks; policy = refl; moments = refl; born = refl; scanned = refl; left = refl }) row
 
 looks : (a b : State) (k n : ℕ) (rest : List ℕ) (reply : Reply) → Gives (looked_at a k n) (looked a k n rest) reply b
@@ -298,13 +322,9 @@ looks a b k n rest reply row =
           } in
           let answer : looked_at a k n ≡ replies.Cleared n = simp clears refl in
           let leaves : looked a k n rest ≡ c = simp clears refl in
+          let same = pended_heap a.world k n (registered_in (reference_at a.world.heap n)) in
           given a c b (heap.ClearNext k) (replies.Cleared n) reply
-          (record {
-            pending = refl;
-            scanned = refl;
-            next = refl;
-            config = pended_config a.world k n (registered_in (reference_at a.world.heap n));
-          })
+          (parts refl refl refl (ap (λ (h : Heap). h.config) same) (ap (λ (h : Heap). numbers h.objects) same))
           (pended_goes a k n (registered_in (reference_at a.world.heap n)) found)
           (row.0 ∙ answer, row.1 ∙ ap (λ (s : State). ticked s) leaves)
       | inr stands ↦
@@ -317,77 +337,84 @@ looks a b k n rest reply row =
 clears_next : (a b : State) (k : ℕ) (found : List ℕ) (reply : Reply) → ClearsNext a k found reply b
     → HeapMoves a (heap.ClearNext k) reply b
 clears_next a b k [] reply row =
-    nothing a b (heap.ClearNext k) replies.Nothing reply (quiet_parts a _ _ refl refl refl) row
+    nothing a b (heap.ClearNext k) replies.Nothing reply (parts refl refl refl refl refl) row
 clears_next a b k (n ∷ rest) reply row = looks a b k n rest reply row
 
 hands_on : (a b : State) (k : ℕ) (ps : List Pending) (reply : Reply) → HandsOn a k ps reply b
     → HeapMoves a (heap.Hand k) reply b
-hands_on a b k [] reply row = nothing a b (heap.Hand k) replies.Nothing reply (quiet_parts a _ _ refl refl refl) row
+hands_on a b k [] reply row = nothing a b (heap.Hand k) replies.Nothing reply (parts refl refl refl refl refl) row
 hands_on a b k (p ∷ ps) reply row =
     given a (with_world a (handed_on a.world k p.object)) b (heap.Hand k)
-    (replies.Notice p.object p.queue (Cycle p.cycle k)) reply (record { pending = refl; scanned = refl; next = refl; config = refl })
+    (replies.Notice p.object p.queue (Cycle p.cycle k)) reply (parts refl refl refl refl refl)
     (goes_on a (handed_on a.world k p.object) refl refl) row
 
-sweeps : (a b : State) (k : ℕ) (doomed : List ℕ) (reply : Reply) → Sweeps a doomed reply b
+sweeps : (a b : State) (k : ℕ) (doomed : List ℕ) (reply : Reply) → a.doomed ≡ doomed → Sweeps a doomed reply b
     → HeapMoves a (heap.Sweep k) reply b
-sweeps a b k [] reply row = nothing a b (heap.Sweep k) replies.Nothing reply (quiet_parts a _ _ refl refl refl) row
-sweeps a b k (n ∷ ns) reply row =
+sweeps a b k [] reply are row = nothing a b (heap.Sweep k) replies.Nothing reply (parts refl refl refl refl refl) row
+sweeps a b k (n ∷ ns) reply are row =
     let os : List Object = without (take 64 (n ∷ ns)) a.world.heap.objects in
     let c : State = record a {
       world = with_heap a.world (record a.world.heap { objects = os });
       doomed = drop 64 (n ∷ ns);
     } in
     given a c b (heap.Sweep k) (replies.Swept (min 64 (length (n ∷ ns)))) reply
-    (record { pending = refl; scanned = refl; next = refl; config = refl })
+    (parts refl refl refl refl
+    (ap (λ gone. numbers (without (take 64 gone) a.world.heap.objects)) (sym are)))
     (λ marks. record { marks = marks; policy = refl; moments = refl; born = refl; scanned = refl; left = refl }) row
+
+numbers_shown : (d : List ℕ) (os : List Object) → numbers (map (λ o. shown d o) os) ≡ numbers os
+numbers_shown d [] = refl
+numbers_shown d (o ∷ os) =
+    ap (λ n. n ∷ numbers (map (λ p. shown d p) os)) (shown-no d o) ∙ ap (λ ns. o.no ∷ ns) (numbers_shown d os)
 
 -- a row of a heap does what it tells
 pub heap_moves : (a b : State) (step : NamedStep) (reply : Reply) → HeapAccepts a step reply b
     → HeapMoves a step reply b
 heap_moves a b (heap.New m d k) reply row =
-    makes a b m d _ (heap.New m d k) reply (record { pending = refl; scanned = refl; next = refl; config = refl }) row
+    makes a b m d _ (heap.New m d k) reply (parts refl refl refl refl (pushed a.world.heap.objects _)) row
 heap_moves a b (heap.Refer m strength d s q k) reply row =
-    makes a b m d _ (heap.Refer m strength d s q k) reply (record { pending = refl; scanned = refl; next = refl; config = refl }) row
+    makes a b m d _ (heap.Refer m strength d s q k) reply
+    (parts refl refl refl refl (pushed a.world.heap.objects _)) row
 heap_moves a b (heap.Store m s i v) reply row =
     on_the_heap a (stored a.world.heap m s i v) b (heap.Store m s i v) replies.Done reply
-    (quiet_parts a _ _ refl refl refl)
-    (settings_changed a.world (slot_at a.world.heap m s) (with_field i (slot_at a.world.heap m v))) row
+    (parts refl refl refl refl refl)
+    (settings_changed a.world (slot_at a.world.heap m s) (with_field i (slot_at a.world.heap m v)) (λ o. refl)) row
 heap_moves a b (heap.Load m d s i) reply row = loads a b m d s i _ reply row
 heap_moves a b (heap.Copy m d s) reply row =
     let value : Option ℕ = slot_at a.world.heap m s in
     on_the_heap a (with_slot a.world.heap m d value) b (heap.Copy m d s) (value_reply value) reply
-    (quiet_parts a _ _ refl refl refl) refl row
+    (parts refl refl refl refl refl) refl row
 heap_moves a b (heap.Drop m s) reply row =
     on_the_heap a (with_slot a.world.heap m s None) b (heap.Drop m s) replies.Done reply
-    (quiet_parts a _ _ refl refl refl) refl row
+    (parts refl refl refl refl refl) refl row
 heap_moves a b (heap.Get m d s) reply row = gets a b m d s _ reply row
 heap_moves a b (heap.Clear m s) reply row =
-    on_the_heap a (cut a.world.heap m s) b (heap.Clear m s) replies.Done reply (quiet_parts a _ _ refl refl refl)
+    on_the_heap a (cut a.world.heap m s) b (heap.Clear m s) replies.Done reply (parts refl refl refl refl refl)
     (cut_settings a.world m s) row
 heap_moves a b (heap.RefersTo m s v) reply row =
-    nothing a b (heap.RefersTo m s v) _ reply (quiet_parts a _ _ refl refl refl) row
+    nothing a b (heap.RefersTo m s v) _ reply (parts refl refl refl refl refl) row
 heap_moves a b (heap.Unhook m s) reply row = unhooks a b m s _ _ reply row
 heap_moves a b (heap.Hold m s) reply row = holds a b m s _ reply row
 heap_moves a b (heap.Adopt m d hold) reply row =
     on_the_heap a (adopted a.world.heap m d hold.object) b (heap.Adopt m d hold) (replies.Object hold.object) reply
-    (quiet_parts a _ _ refl refl refl) refl row
+    (parts refl refl refl refl refl) refl row
 heap_moves a b (heap.Release hold) reply row =
     on_the_heap a (without_hold a.world.heap hold.object) b (heap.Release hold) replies.Done reply
-    (quiet_parts a _ _ refl refl refl) refl row
+    (parts refl refl refl refl refl) refl row
 heap_moves a b (heap.Begin now how) reply row =
     said_anew a (begun_state a (begun a.world now how (a.world.cycle + 1))) b (heap.Begin now how)
-    (replies.Cycle (a.world.cycle + 1)) reply (record { pending = refl; scanned = refl; next = refl; config = refl }) row.0 row.1
+    (replies.Cycle (a.world.cycle + 1)) reply (parts refl refl refl refl refl) row.0 row.1
 heap_moves a b (heap.Scan k) reply row = scans a b k reply row
 heap_moves a b heap.EndMark reply row =
     given a (mark_ended a (doomed_at a) row.found) b heap.EndMark (replies.Doomed (length (doomed_at a))) reply
-    (record { pending = refl; scanned = refl; next = refl; config = refl }) (λ marks. absurd (false≢true marks))
+    (parts refl refl refl refl (numbers_shown (doomed_at a) a.world.heap.objects)) (λ marks. absurd (false≢true marks))
     (row.answer, row.after)
 heap_moves a b (heap.ClearNext k) reply row = clears_next a b k _ reply row
 heap_moves a b heap.EndClear reply row =
     given a (with_world a (with_phase a.world Sweeping)) b heap.EndClear replies.Done reply
-    (record { pending = refl; scanned = refl; next = refl; config = refl }) (λ marks. absurd (false≢true marks)) row
+    (parts refl refl refl refl refl) (λ marks. absurd (false≢true marks)) row
 heap_moves a b (heap.Hand k) reply row = hands_on a b k _ reply row
-heap_moves a b (heap.Sweep k) reply row = sweeps a b k a.doomed reply row
+heap_moves a b (heap.Sweep k) reply row = sweeps a b k a.doomed reply refl row
 heap_moves a b heap.EndSweep reply row =
     given a (with_world a (with_phase a.world Idle)) b heap.EndSweep replies.Done reply
-    (record { pending = refl; scanned = refl; next = refl; config = refl }) (λ marks. absurd (false≢true marks)) row
+    (parts refl refl refl refl refl) (λ marks. absurd (false≢true marks)) row

@@ -45,6 +45,8 @@ pub mod RowHands
 pub mod HandCauses
 pub mod ClearingShifts
 pub mod ClearingTraces
+pub mod NumberedObjects
+pub mod ClearedOnwards
 mod ReplayExamples
 mod LegalExamples
 mod IllegalExamples

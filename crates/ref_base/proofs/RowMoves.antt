@@ -3,6 +3,8 @@
 use Rattle.std.proofs.Common.{◌≡◌, ℕ, Bool, true, false, if◌then◌else◌, List, [], ◌∷◌, Option, Some, None, inl, inr}
 use Rattle.std.proofs.Common.{refl, sym, ap, ◌∙◌, subst}
 use Rattle.std.specs.Prelude.{is_some}
+use Rattle.ref_base.specs.Graphs.{numbers}
+use Rattle.ref_base.specs.Heaps.{Heap}
 use Rattle.ref_base.specs.Worlds.{World, Notice, Pending, policy_of, hand_of, with_hand}
 use Rattle.ref_base.specs.Told.{told_object, told_notice, is_done}
 use Rattle.ref_base.specs.HeapSteps.{NamedStep, heap_step, taking, handed}
@@ -21,7 +23,7 @@ use Rattle.ref_base.specs.declared.step.Step.TheVariants as steps
 use Rattle.ref_base.specs.declared.reply.Reply.{Reply}
 use Rattle.ref_base.specs.declared.reply.Reply.TheVariants as replies
 use Rattle.ref_base.specs.declared.row.Row.{Row}
-use Rattle.ref_base.proofs.HeapMoves.{pending_by, scanned_by, next_by, LeftMeans, goes_on, left_ticked, heap_moves}
+use Rattle.ref_base.proofs.HeapMoves.{pending_by, scanned_by, next_by, numbers_by, LeftMeans, HeapMoves, goes_on, left_ticked, heap_moves}
 use Rattle.ref_base.proofs.HeapMoves.{ticked_scanned, ticked_next}
 use Rattle.ref_base.proofs.RowLaws.{ticked_world}
 
@@ -39,11 +41,16 @@ abbrev pub next_after : ℕ → Option NamedStep → Reply → ℕ
 next_after next None reply = next
 next_after next (Some asked) reply = next_by next asked reply
 
+abbrev pub numbers_after : State → Option NamedStep → Reply → List ℕ
+numbers_after a None reply = numbers a.world.heap.objects
+numbers_after a (Some asked) reply = numbers_by a asked reply
+
 pub record Moves (a : State) (asked : Option NamedStep) (reply : Reply) (b : State) : Type 0 where
   pub pending : b.world.pending ≡ pending_after a.world asked reply
   pub scanned : b.scanned ≡ scanned_after a.scanned asked reply
   pub next : b.next ≡ next_after a.next asked reply
   pub config : b.world.heap.config ≡ a.world.heap.config
+  pub numbered : numbers b.world.heap.objects ≡ numbers_after a asked reply
   pub left : LeftMeans a → LeftMeans b
 
 -- ---- hands and queues have no say in them
@@ -51,15 +58,15 @@ pub record Moves (a : State) (asked : Option NamedStep) (reply : Reply) (b : Sta
 record IsBeside (v w : World) : Type 0 where
   pending : w.pending ≡ v.pending
   policy : policy_of w ≡ policy_of v
-  config : w.heap.config ≡ v.heap.config
+  heap : w.heap ≡ v.heap
   phase : w.phase ≡ v.phase
 
 beside_itself : (w : World) → IsBeside w w
-beside_itself w = record { pending = refl; policy = refl; config = refl; phase = refl }
+beside_itself w = record { pending = refl; policy = refl; heap = refl; phase = refl }
 
 hand_beside : (w : World) (who : Actor) (hand : Option Notice) → IsBeside w (with_hand w who hand)
-hand_beside w (Mutator m) hand = record { pending = refl; policy = refl; config = refl; phase = refl }
-hand_beside w (Worker k) hand = record { pending = refl; policy = refl; config = refl; phase = refl }
+hand_beside w (Mutator m) hand = record { pending = refl; policy = refl; heap = refl; phase = refl }
+hand_beside w (Worker k) hand = record { pending = refl; policy = refl; heap = refl; phase = refl }
 
 taking_beside : (w : World) (who : Actor) (told : Option Notice) → IsBeside w (taking w who told)
 taking_beside w who None = beside_itself w
@@ -92,15 +99,25 @@ stays a w b answer reply beside row =
           ∙ beside.pending;
       scanned = ap (λ (s : State). s.scanned) row.1 ∙ ticked_scanned c;
       next = ap (λ (s : State). s.next) row.1 ∙ ticked_next c;
-      config = ap (λ (s : State). s.world.heap.config) row.1 ∙ ap (λ (v : World). v.heap.config) (ticked_world c)
-          ∙ beside.config;
+      config = ap (λ (s : State). s.world.heap.config) row.1
+          ∙ ap (λ (v : World). v.heap.config) (ticked_world c) ∙ ap (λ (h : Heap). h.config) beside.heap;
+      numbered = ap (λ (s : State). numbers s.world.heap.objects) row.1
+          ∙ ap (λ (v : World). numbers v.heap.objects) (ticked_world c)
+          ∙ ap (λ (h : Heap). numbers h.objects) beside.heap;
       left = λ means. subst LeftMeans (sym row.1) (left_ticked a c (goes_on a w beside.phase beside.policy) means);
     }
 
 unchanged : (a b : State) (reply : Reply) → b ≡ a → Moves a None reply b
 unchanged a b reply is =
     subst (λ (s : State). Moves a None reply s) (sym is)
-    (record { pending = refl; scanned = refl; next = refl; config = refl; left = λ means. means })
+    (record {
+      pending = refl;
+      scanned = refl;
+      next = refl;
+      config = refl;
+      numbered = refl;
+      left = λ means. means;
+    })
 
 puts_into : (a b : State) (who : Actor) (notice : Notice) (again shut : Bool) (reply : Reply)
     → PutsInto again shut a who notice reply b → Moves a None reply b
@@ -116,7 +133,7 @@ puts_into a b who notice false false reply row =
           (record {
             pending = empty.pending;
             policy = empty.policy;
-            config = empty.config;
+            heap = empty.heap;
             phase = empty.phase;
           }) added
       | inr refused ↦ unchanged a b reply refused.1
@@ -132,12 +149,12 @@ polls : (a b : State) (m q : ℕ) (stands : List Notice) (reply : Reply) → Pol
 polls a b m q [] reply row = stays a a.world b _ reply (beside_itself a.world) row
 polls a b m q (notice ∷ rest) reply row =
     stays a (took a.world m q notice.object) b (replies.Took notice.object) reply
-    (record { pending = refl; policy = refl; config = refl; phase = refl }) row
+    (record { pending = refl; policy = refl; heap = refl; phase = refl }) row
 
 closes : (a b : State) (q : ℕ) (shut : Bool) (reply : Reply) → Closes a q shut reply b → Moves a None reply b
 closes a b q true reply row = stays a a.world b replies.Closed reply (beside_itself a.world) row
 closes a b q false reply row =
-    stays a (closed_queue a.world q) b replies.Done reply (record { pending = refl; policy = refl; config = refl; phase = refl }) row
+    stays a (closed_queue a.world q) b replies.Done reply (record { pending = refl; policy = refl; heap = refl; phase = refl }) row
 
 queues_move : (a b : State) (step : Step) (reply : Reply) → QueuesAccept a step reply b → Moves a None reply b
 queues_move a b (steps.Put who) reply row = puts a b who (hand_of a.world who) reply row
@@ -156,17 +173,39 @@ asked_moves a b (Some asked) step reply row =
       pending = beside.pending ∙ moves.pending;
       scanned = moves.scanned;
       next = moves.next;
-      config = beside.config ∙ moves.config;
+      config = ap (λ (h : Heap). h.config) beside.heap ∙ moves.config;
+      numbered = ap (λ (h : Heap). numbers h.objects) beside.heap ∙ moves.numbered;
       left = λ means. left_beside c (handed c.world step reply) beside (moves.left means);
     })
 
 -- a refusal tells nothing of these
 refused_moves : (a : State) (asked : Option NamedStep) (fault : Fault) → Moves a asked (replies.Refused fault) a
-refused_moves a None fault = record { pending = refl; scanned = refl; next = refl; config = refl; left = λ means. means }
+refused_moves a None fault = record {
+      pending = refl;
+      scanned = refl;
+      next = refl;
+      config = refl;
+      numbered = refl;
+      left = λ means. means;
+    }
 refused_moves a (Some (heap.RefersTo m s v)) fault =
-    record { pending = refl; scanned = refl; next = refl; config = refl; left = λ means. means }
+    record {
+      pending = refl;
+      scanned = refl;
+      next = refl;
+      config = refl;
+      numbered = refl;
+      left = λ means. means;
+    }
 refused_moves a (Some asked) fault =
-    record { pending = refl; scanned = refl; next = refl; config = refl; left = λ means. means }
+    record {
+      pending = refl;
+      scanned = refl;
+      next = refl;
+      config = refl;
+      numbered = refl;
+      left = λ means. means;
+    }
 
 answer_moves : (a b : State) (step : Step) (reply : Reply) (fault : Option Fault) → IsAnswer a fault step reply b
     → Moves a (heap_step a.world step) reply b

@@ -19,7 +19,10 @@ ghost use Rattle.ref_base.specs.Refusals.{heap_refusal, refusal};
 ghost use Rattle.ref_base.specs.CollectorRows.{IsHeapRow, IsRow, IsRun, with_handed};
 ghost use Rattle.std.specs.Prelude.{length, nat_eq};
 ghost use Rattle.std.specs.List.{IsDistinct};
-ghost use Rattle.ref_base.specs.CollectorRows.{IsLeft, is_subsequence};
+ghost use Rattle.std.specs.Prelude.{None};
+ghost use Rattle.ref_base.specs.CollectorRows.{IsLeft, is_subsequence, doomed_at, referent_of};
+ghost use Rattle.ref_base.specs.DoomedSets.{new_clears};
+ghost use Rattle.ref_base.specs.Heaps.{reference_at};
 ghost use Rattle.ref_base.specs.ClearingOrder.{added_of};
 ghost use Rattle.ref_base.specs.WorkerOrder.{clearing_order};
 ghost use Rattle.ref_base.specs.ScannedRows.{scanned_in_cycle};
@@ -180,4 +183,14 @@ pub fn a_mark_goes_on_only_while_an_object_is_left()
 pub fn each_queue_has_a_workers_references_in_its_clearing_order()
     ensures { (config : Config) (rows : List Row) (k q : ℕ) → IsLegal config rows
         → is_subsequence (added_of config k q rows) (clearing_order rows k q) ≡ true }
+{}
+
+/// What a mark's end clears in a legal trace, it clears at one instant and for good: each new clear reads as cleared in
+/// every state from then on, or it is no longer there.
+pub fn what_a_marks_end_clears_reads_as_cleared_from_then_on()
+    ensures { (config : Config) (front : List Row) (a b : State) (count : ℕ) (rows : List Row) (c : State) (n : ℕ)
+        → IsRun (first_state config) front a
+        → IsRow a (record { step = Step.EndMark; reply = Reply.Doomed count }) b → IsRun b rows c
+        → has (new_clears a.world.heap.objects (doomed_at a)) n ≡ true
+        → referent_of (reference_at c.world.heap n) ≡ None }
 {}
