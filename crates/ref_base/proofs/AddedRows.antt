@@ -18,7 +18,8 @@ use Rattle.ref_base.specs.declared.reply.Reply.TheVariants as replies
 use Rattle.ref_base.specs.declared.row.Row.{Row}
 use Rattle.ref_base.proofs.LegalQueues.{first_run_moves}
 use Rattle.ref_base.proofs.ProvenTraces.{legal_proven}
-use Rattle.ref_base.proofs.ReplayOthers.{same_hand, legal_others}
+use Rattle.ref_base.proofs.ReplayOthers.{legal_others}
+use Rattle.ref_base.proofs.SameOthers.{same_hand}
 use Rattle.ref_base.proofs.RunLaws.{cut}
 
 -- after a legal trace the lists of each queue are those of the rows

@@ -2,16 +2,17 @@
 use Rattle.std.proofs.Common.{◌≡◌, ℕ, ◌<◌, true, false, ◌==◌, List, [], ◌∷◌, map, Option, Some, None}
 use Rattle.std.proofs.Common.{inl, inr, refl, sym, ap, ◌∙◌, subst, arith}
 use Rattle.std.specs.List.{AllByRecursion}
-use Rattle.std.proofs.lemmas.Bool.{cases_Bool, or_cases, or_left, or_right, eqb-true, eq-eqb, both_ways, false≢true}
+use Rattle.std.proofs.lemmas.Bool.{cases_Bool, or_cases, or_left, or_right, eqb-true, eq-eqb, both_ways}
 use Rattle.ref_base.specs.Members.{has, AreDistinct}
 use Rattle.ref_base.specs.Graphs.{Object, Reference, object_at, numbers}
-use Rattle.ref_base.specs.Paths.{is_soft}
+use Rattle.ref_base.specs.Paths.{is_soft, is_phantom}
 use Rattle.ref_base.specs.DoomedSets.{is_new_clear, new_clears}
-use Rattle.ref_base.specs.Heaps.{reference_in, reference_at, changed_reference, cleared, got_at}
+use Rattle.ref_base.specs.Heaps.{slot_at, reference_in, reference_at, changed_reference, cleared, got_at}
 use Rattle.ref_base.specs.Worlds.{World, Notice, Pending, hand_of, queue_at, pending_of}
 use Rattle.ref_base.specs.Collectors.{State, first_state}
 use Rattle.ref_base.specs.Refusals.{refusal}
-use Rattle.ref_base.specs.CollectorRows.{IsAnswer, IsRow, IsRun, doomed_at, shown, referent_of}
+use Rattle.ref_base.specs.CollectorRows.{IsAnswer, IsRow, IsRun, doomed_at, shown, referent_of, Gets, referent_got}
+use Rattle.ref_base.specs.CollectorRows.{reference_of}
 use Rattle.ref_base.specs.declared.actor.Actor.TheVariants.{Mutator, Worker}
 use Rattle.ref_base.specs.declared.config.Config.{Config}
 use Rattle.ref_base.specs.declared.fault.Fault.{Fault}
@@ -187,3 +188,36 @@ stays_cleared config front a b count rows c n first ends later new =
     cleared_at c.world.heap.objects n
     (run_cleared n b rows c
     (row_next a (record { step = steps.EndMark; reply = replies.Doomed count }) b n ends under) all later)
+
+-- ---- gets
+
+got_of : (r : Option Reference) → referent_of r ≡ None → referent_got r ≡ None
+got_of None none = refl
+got_of (Some r) none =
+    elim (cases_Bool (is_phantom r.strength)) [
+      | inl phantom ↦ simp phantom refl
+      | inr other ↦ simp other none
+    ]
+
+get_none : (c e : State) (m d s k : ℕ) (value : Option ℕ) → value ≡ None → Gets c m d s value (replies.Object k) e → ⊥
+get_none c e m d s k None is row = let no = row.0 in absurd cc
+get_none c e m d s k (Some n) is row = absurd cc
+
+get_answers : (c e : State) (m d s n k : ℕ) (fault : Option Fault) → slot_at c.world.heap m s ≡ Some n
+    → referent_of (reference_at c.world.heap n) ≡ None
+    → IsAnswer c fault (steps.Get m d s) (replies.Object k) e → ⊥
+get_answers c e m d s n k (Some fault) holds none row = let no = row.0 in absurd cc
+get_answers c e m d s n k None holds none row =
+    get_none c row.0 m d s k (referent_got (reference_of c.world.heap (slot_at c.world.heap m s)))
+    (ap (λ (held : Option ℕ). referent_got (reference_of c.world.heap held)) holds
+    ∙ got_of (reference_at c.world.heap n) none) row.1
+
+-- and no get of it answers an object
+pub never_got : (config : Config) (front : List Row) (a b : State) (count : ℕ) (rows : List Row) (c : State) (n : ℕ)
+    (m d s k : ℕ) (e : State) → IsRun (first_state config) front a
+    → IsRow a (record { step = steps.EndMark; reply = replies.Doomed count }) b → IsRun b rows c
+    → has (new_clears a.world.heap.objects (doomed_at a)) n ≡ true → slot_at c.world.heap m s ≡ Some n
+    → ¬ (IsRow c (record { step = steps.Get m d s; reply = replies.Object k }) e)
+never_got config front a b count rows c n m d s k e first ends later new holds row =
+    get_answers c e m d s n k (refusal c (steps.Get m d s)) holds
+    (stays_cleared config front a b count rows c n first ends later new) row

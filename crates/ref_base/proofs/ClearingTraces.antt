@@ -31,7 +31,8 @@ use Rattle.ref_base.proofs.QueueLaws.{same}
 use Rattle.ref_base.proofs.RowLaws.{unless_passes, worker_within, row_goes}
 use Rattle.ref_base.proofs.CarryLaws.{OfHand}
 use Rattle.ref_base.proofs.ProvenTraces.{Known, made_at, registered_more, row_known, first_known}
-use Rattle.ref_base.proofs.ReplayOthers.{same_hand, answered_others}
+use Rattle.ref_base.proofs.ReplayOthers.{answered_others}
+use Rattle.ref_base.proofs.SameOthers.{same_hand}
 use Rattle.ref_base.proofs.AddedRows.{TellsAdded, answer_tells_added}
 use Rattle.ref_base.proofs.RowMoves.{Moves, row_moves}
 use Rattle.ref_base.proofs.RowHands.{IsBy, others_after, row_hands, hand_tells, hand_given}

@@ -1,5 +1,5 @@
--- Why there is a notice in a hand: a worker's comes from its own clearing; a mutator's from the reference's own call, or
--- it was put in its queue before.
+-- Why there is a notice in a hand: a worker's comes from its own clearing; a mutator's from the reference's own call,
+-- or it was put in its queue before.
 use Rattle.std.proofs.Common.{◌≡◌, ℕ, Bool, true, false, if◌then◌else◌, List, [], ◌∷◌, map, Option, Some, None}
 use Rattle.std.proofs.Common.{◌⊎◌, inl, inr, sym, ap, ◌∙◌, subst}
 use Rattle.std.specs.Prelude.{is_some}
@@ -27,7 +27,7 @@ use Rattle.ref_base.proofs.SoundWorlds.{IsOwn as IsFor}
 use Rattle.ref_base.proofs.CarryLaws.{OfHand}
 use Rattle.ref_base.proofs.CarryRows.{all_notice_of}
 use Rattle.ref_base.proofs.RowLaws.{row_goes}
-use Rattle.ref_base.proofs.ReplayOthers.{same_hand}
+use Rattle.ref_base.proofs.SameOthers.{same_hand}
 use Rattle.ref_base.proofs.RowHands.{others_after, row_hands, IsOwn, IsBy, unhook_tells, hand_tells}
 
 -- ---- what holds of each hand's notice in its own way
@@ -111,7 +111,8 @@ HaveCauses w = OfHands (HasCause w) w
 
 -- what was put stays so
 abbrev Grows : World → World → Type 0
-Grows v w = (q n : ℕ) → has (enqueued object_of (queue_at v q)) n ≡ true → has (enqueued object_of (queue_at w q)) n ≡ true
+Grows v w =
+    (q n : ℕ) → has (enqueued object_of (queue_at v q)) n ≡ true → has (enqueued object_of (queue_at w q)) n ≡ true
 
 row_grows : (a : State) (row : Row) (b : State) → IsSound a.world → IsRow a row b → Grows a.world b.world
 row_grows a row b sound h q n put =

@@ -35,9 +35,11 @@ pub mod CarryHeaps
 pub mod CarryRows
 pub mod ProvenTraces
 pub mod GivenNotices
+pub mod SameOthers
 pub mod ReplayOthers
 pub mod AddedRows
 pub mod HeapMoves
+pub mod HeapRowMoves
 pub mod RowMoves
 pub mod ScannedOnce
 pub mod Subsequences

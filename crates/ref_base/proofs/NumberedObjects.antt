@@ -1,6 +1,6 @@
 -- In every legal trace the numbers of objects are distinct, and each is below the next that is given.
 use Rattle.std.proofs.Common.{◌≡◌, ℕ, ◌+◌, ◌<◌, true, false, ◌==◌, List, [], ◌∷◌, ◌++◌, take, Option, Some, None}
-use Rattle.std.proofs.Common.{inl, inr, refl, sym, ap, ◌∙◌, subst, arith}
+use Rattle.std.proofs.Common.{inl, inr, refl, sym, ◌∙◌, subst, arith}
 use Rattle.std.proofs.lemmas.Bool.{cases_Bool, or_cases, or_left, or_right, or_parts, or_from, false≢true, both_ways}
 use Rattle.std.proofs.lemmas.Bool.{eq-eqb, ne_eqb}
 use Rattle.ref_base.specs.Members.{has, AreDistinct}
@@ -15,7 +15,7 @@ use Rattle.ref_base.specs.declared.reply.Reply.TheVariants as replies
 use Rattle.ref_base.specs.declared.row.Row.{Row}
 use Rattle.ref_base.proofs.HasLaws.{has-append, has-cases, has-single}
 use Rattle.ref_base.proofs.HeapMoves.{next_by, numbers_by}
-use Rattle.ref_base.proofs.RowMoves.{next_after, numbers_after, Moves, row_moves}
+use Rattle.ref_base.proofs.RowMoves.{next_after, numbers_after, row_moves}
 
 -- none stands twice, and each is below the next
 pub record AreNumbered (next : ℕ) (ns : List ℕ) : Type 0 where

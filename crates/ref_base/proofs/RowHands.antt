@@ -1,4 +1,4 @@
--- What a row does to hands and queues, in the state before it, and what an unhook, a hand and a poll tell of that state.
+-- What a row does to hands and queues, and what the notices that an unhook and a hand give tell of the state before.
 use Rattle.std.proofs.Common.{◌≡◌, ℕ, true, List, [], ◌∷◌, Option, Some, None, refl, sym, ◌∙◌, subst}
 use Rattle.std.proofs.lemmas.Bool.{eq-eqb}
 use Rattle.ref_base.specs.Worlds.{World, Notice, Pending, SameOthers, hand_of, pending_of}
@@ -20,7 +20,8 @@ use Rattle.ref_base.specs.declared.reply.Reply.TheVariants as replies
 use Rattle.ref_base.proofs.QueueLaws.{same}
 use Rattle.ref_base.proofs.HeapRowLaws.{refused_hands}
 use Rattle.ref_base.proofs.CarryLaws.{OfHand}
-use Rattle.ref_base.proofs.ReplayOthers.{heap_others, handed_others, queues_others, refused_queues}
+use Rattle.ref_base.proofs.ReplayOthers.{queues_others, refused_queues}
+use Rattle.ref_base.proofs.SameOthers.{heap_others, handed_others}
 use Rattle.ref_base.proofs.RowLaws.{unless_passes}
 
 -- the world with the hands and queues that the row leaves

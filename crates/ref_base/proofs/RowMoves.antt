@@ -1,5 +1,5 @@
--- What a row does to the pending lists, to what was scanned and to the next number; and that, where it says in a mark
--- that an object is left, one is.
+-- What a row of the world does to the pending lists, to what was scanned and to the numbers of objects; and that,
+-- where it says in a mark that an object is left, one is.
 use Rattle.std.proofs.Common.{◌≡◌, ℕ, Bool, true, false, if◌then◌else◌, List, [], ◌∷◌, Option, Some, None, inl, inr}
 use Rattle.std.proofs.Common.{refl, sym, ap, ◌∙◌, subst}
 use Rattle.std.specs.Prelude.{is_some}
@@ -23,8 +23,9 @@ use Rattle.ref_base.specs.declared.step.Step.TheVariants as steps
 use Rattle.ref_base.specs.declared.reply.Reply.{Reply}
 use Rattle.ref_base.specs.declared.reply.Reply.TheVariants as replies
 use Rattle.ref_base.specs.declared.row.Row.{Row}
-use Rattle.ref_base.proofs.HeapMoves.{pending_by, scanned_by, next_by, numbers_by, LeftMeans, HeapMoves, goes_on, left_ticked, heap_moves}
+use Rattle.ref_base.proofs.HeapMoves.{pending_by, scanned_by, next_by, numbers_by, LeftMeans, keeps_mark, left_ticked}
 use Rattle.ref_base.proofs.HeapMoves.{ticked_scanned, ticked_next}
+use Rattle.ref_base.proofs.HeapRowMoves.{heap_moves}
 use Rattle.ref_base.proofs.RowLaws.{ticked_world}
 
 -- ---- what a row tells, by what it asks of its heap
@@ -104,7 +105,9 @@ stays a w b answer reply beside row =
       numbered = ap (λ (s : State). numbers s.world.heap.objects) row.1
           ∙ ap (λ (v : World). numbers v.heap.objects) (ticked_world c)
           ∙ ap (λ (h : Heap). numbers h.objects) beside.heap;
-      left = λ means. subst LeftMeans (sym row.1) (left_ticked a c (goes_on a w beside.phase beside.policy) means);
+      left = λ means.
+          subst LeftMeans (sym row.1)
+          (left_ticked a c (keeps_mark beside.phase beside.policy refl refl refl refl) means);
     }
 
 unchanged : (a b : State) (reply : Reply) → b ≡ a → Moves a None reply b
@@ -154,7 +157,8 @@ polls a b m q (notice ∷ rest) reply row =
 closes : (a b : State) (q : ℕ) (shut : Bool) (reply : Reply) → Closes a q shut reply b → Moves a None reply b
 closes a b q true reply row = stays a a.world b replies.Closed reply (beside_itself a.world) row
 closes a b q false reply row =
-    stays a (closed_queue a.world q) b replies.Done reply (record { pending = refl; policy = refl; heap = refl; phase = refl }) row
+    stays a (closed_queue a.world q) b replies.Done reply
+    (record { pending = refl; policy = refl; heap = refl; phase = refl }) row
 
 queues_move : (a b : State) (step : Step) (reply : Reply) → QueuesAccept a step reply b → Moves a None reply b
 queues_move a b (steps.Put who) reply row = puts a b who (hand_of a.world who) reply row
@@ -181,13 +185,13 @@ asked_moves a b (Some asked) step reply row =
 -- a refusal tells nothing of these
 refused_moves : (a : State) (asked : Option NamedStep) (fault : Fault) → Moves a asked (replies.Refused fault) a
 refused_moves a None fault = record {
-      pending = refl;
-      scanned = refl;
-      next = refl;
-      config = refl;
-      numbered = refl;
-      left = λ means. means;
-    }
+  pending = refl;
+  scanned = refl;
+  next = refl;
+  config = refl;
+  numbered = refl;
+  left = λ means. means;
+}
 refused_moves a (Some (heap.RefersTo m s v)) fault =
     record {
       pending = refl;

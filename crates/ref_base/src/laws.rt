@@ -22,7 +22,7 @@ ghost use Rattle.std.specs.List.{IsDistinct};
 ghost use Rattle.std.specs.Prelude.{None};
 ghost use Rattle.ref_base.specs.CollectorRows.{IsLeft, is_subsequence, doomed_at, referent_of};
 ghost use Rattle.ref_base.specs.DoomedSets.{new_clears};
-ghost use Rattle.ref_base.specs.Heaps.{reference_at};
+ghost use Rattle.ref_base.specs.Heaps.{slot_at, reference_at};
 ghost use Rattle.ref_base.specs.ClearingOrder.{added_of};
 ghost use Rattle.ref_base.specs.WorkerOrder.{clearing_order};
 ghost use Rattle.ref_base.specs.ScannedRows.{scanned_in_cycle};
@@ -193,4 +193,13 @@ pub fn what_a_marks_end_clears_reads_as_cleared_from_then_on()
         → IsRow a (record { step = Step.EndMark; reply = Reply.Doomed count }) b → IsRun b rows c
         → has (new_clears a.world.heap.objects (doomed_at a)) n ≡ true
         → referent_of (reference_at c.world.heap n) ≡ None }
+{}
+
+/// And no get of it answers an object from then on, whoever holds it.
+pub fn no_get_answers_what_a_marks_end_cleared()
+    ensures { (config : Config) (front : List Row) (a b : State) (count : ℕ) (rows : List Row) (c : State) (n : ℕ)
+        (m d s k : ℕ) (e : State) → IsRun (first_state config) front a
+        → IsRow a (record { step = Step.EndMark; reply = Reply.Doomed count }) b → IsRun b rows c
+        → has (new_clears a.world.heap.objects (doomed_at a)) n ≡ true → slot_at c.world.heap m s ≡ Some n
+        → ¬ (IsRow c (record { step = Step.Get m d s; reply = Reply.Object k }) e) }
 {}
