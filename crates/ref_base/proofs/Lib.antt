@@ -50,6 +50,7 @@ pub mod ClearingTraces
 pub mod NumberedObjects
 pub mod ClearedOnwards
 mod ReplayExamples
+mod OrderExamples
 mod LegalExamples
 mod IllegalExamples
 mod Examples
