@@ -69,7 +69,7 @@ nothing_more config front rest b q run shut =
     sym first.put ∙ sym (append-nil all) ∙ ap (λ ns. all ++ ns) (sym (later.shut (first.closed ∙ shut)))
     ∙ sym later.put ∙ whole.put
 
-distinct_nil : IsDistinct nat_eq []
+pub distinct_nil : IsDistinct nat_eq []
 unfolding IsDistinct
 distinct_nil = tt
 

@@ -1,8 +1,8 @@
 -- In every legal trace the numbers of objects are distinct, and each is below the next that is given.
 use Rattle.std.proofs.Common.{◌≡◌, ℕ, ◌+◌, ◌<◌, true, false, ◌==◌, List, [], ◌∷◌, ◌++◌, take, Option, Some, None}
-use Rattle.std.proofs.Common.{inl, inr, refl, sym, ◌∙◌, subst, arith}
-use Rattle.std.proofs.lemmas.Bool.{cases_Bool, or_cases, or_left, or_right, or_parts, or_from, false≢true, both_ways}
-use Rattle.std.proofs.lemmas.Bool.{eq-eqb, ne_eqb}
+use Rattle.std.proofs.Common.{ap, inl, inr, sym, ◌∙◌, subst, arith}
+use Rattle.std.proofs.lemmas.Bool.{cases_Bool, or_cases, or_left, or_right, false≢true, both_ways}
+use Rattle.std.proofs.lemmas.List.{append-nil}
 use Rattle.ref_base.specs.Members.{has, AreDistinct}
 use Rattle.ref_base.specs.Graphs.{Object, numbers}
 use Rattle.ref_base.specs.HeapSteps.{NamedStep, heap_step}
@@ -13,7 +13,8 @@ use Rattle.ref_base.specs.declared.heap_step.HeapStep.TheVariants as heap
 use Rattle.ref_base.specs.declared.reply.Reply.{Reply}
 use Rattle.ref_base.specs.declared.reply.Reply.TheVariants as replies
 use Rattle.ref_base.specs.declared.row.Row.{Row}
-use Rattle.ref_base.proofs.HasLaws.{has-append, has-cases, has-single}
+use Rattle.ref_base.proofs.FoundLists.{AreDistinct-between}
+use Rattle.ref_base.proofs.HasLaws.{has-cases, has-single}
 use Rattle.ref_base.proofs.HeapMoves.{next_by, numbers_by}
 use Rattle.ref_base.proofs.RowMoves.{next_after, numbers_after, row_moves}
 
@@ -23,13 +24,9 @@ pub record AreNumbered (next : ℕ) (ns : List ℕ) : Type 0 where
   pub below : (n : ℕ) → has ns n ≡ true → n < next
 
 distinct_push : (ns : List ℕ) (n : ℕ) → AreDistinct ns → has ns n ≡ false → AreDistinct (ns ++ n ∷ [])
-distinct_push [] n distinct new = (refl, tt)
-distinct_push (m ∷ ms) n distinct new =
-    let parts = or_parts (m == n) (has ms n) new in
-    let turned : (n == m) ≡ false = ne_eqb n m (λ same. both_ways (m == n) parts.0 (eq-eqb m n (sym same))) in (
-      has-append ms (n ∷ []) m ∙ or_from (has ms m) (has (n ∷ []) m) distinct.0 (or_from (n == m) false turned refl),
-      distinct_push ms n distinct.1 parts.1,
-    )
+distinct_push ns n distinct new =
+    let same : ns ≡ ns ++ [] = sym (append-nil ns) in
+    AreDistinct-between ns [] n (subst AreDistinct same distinct) (ap (λ ms. has ms n) (sym same) ∙ new)
 
 numbered_push : (next : ℕ) (ns : List ℕ) → AreNumbered next ns → AreNumbered (next + 1) (ns ++ next ∷ [])
 numbered_push next ns are =

@@ -1,5 +1,5 @@
 -- What the rows of worked traces say of the order of clearing and of what a cycle scanned.
-use Rattle.std.proofs.Common.{◌≡◌, false, List, [], ◌∷◌, take, refl}
+use Rattle.std.proofs.Common.{◌≡◌, false, [], ◌∷◌, take, refl}
 use Rattle.ref_base.specs.CollectorRows.{is_subsequence}
 use Rattle.ref_base.specs.ClearingOrder.{added_of}
 use Rattle.ref_base.specs.ScannedRows.{scanned_in_cycle}

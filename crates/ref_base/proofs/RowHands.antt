@@ -6,7 +6,7 @@ use Rattle.ref_base.specs.Told.{told_notice}
 use Rattle.ref_base.specs.HeapSteps.{NamedStep, heap_step, handed}
 use Rattle.ref_base.specs.Replay.{after_queues}
 use Rattle.ref_base.specs.Collectors.{State}
-use Rattle.ref_base.specs.Refusals.{refusal, unless_full, is_worker}
+use Rattle.ref_base.specs.Refusals.{refusal, is_worker}
 use Rattle.ref_base.specs.CollectorRows.{QueuesAccept, AcceptsAsking, Accepts, IsAnswer, Unhooks, HandsOn}
 use Rattle.ref_base.specs.ClearingOrder.{is_by}
 use Rattle.ref_base.specs.declared.actor.Actor.TheVariants.{Worker}
@@ -22,6 +22,7 @@ use Rattle.ref_base.proofs.HeapRowLaws.{refused_hands}
 use Rattle.ref_base.proofs.CarryLaws.{OfHand}
 use Rattle.ref_base.proofs.ReplayOthers.{queues_others, refused_queues}
 use Rattle.ref_base.proofs.SameOthers.{heap_others, handed_others}
+use Rattle.ref_base.proofs.CountedTraces.{empty_hand}
 use Rattle.ref_base.proofs.RowLaws.{unless_passes}
 
 -- the world with the hands and queues that the row leaves
@@ -105,10 +106,6 @@ first_pending a c k n q cause [] are empty row = let no = row.0 in absurd cc
 first_pending a c k n q cause (p ∷ ps) are empty row =
     let told : replies.Notice n q cause ≡ replies.Notice p.object p.queue (Cycle p.cycle k) = row.0 in
     record { first = p; rest = ps; pending = are; object = cc; queue = cc; empty = empty }
-
-empty_hand : (hand : Option Notice) (later : Option Fault) → unless_full hand later ≡ None → hand ≡ None
-empty_hand None later none = refl
-empty_hand (Some notice) later none = absurd cc
 
 pub hand_given : (a b : State) (k n q : ℕ) (cause : Cause) (fault : Option Fault) → refusal a (steps.Hand k) ≡ fault
     → IsAnswer a fault (steps.Hand k) (replies.Notice n q cause) b → TellsHanded a k n q

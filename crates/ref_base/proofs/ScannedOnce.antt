@@ -29,6 +29,7 @@ use Rattle.ref_base.specs.declared.row.Row.{Row}
 use Rattle.ref_base.proofs.HasLaws.{has-list_any, has-cases, has-single}
 use Rattle.ref_base.proofs.FoundLists.{has-with_last, length-emptied}
 use Rattle.ref_base.proofs.HeapMoves.{LeftMeans}
+use Rattle.ref_base.proofs.LegalQueues.{distinct_nil}
 use Rattle.ref_base.proofs.RowLaws.{unless_passes}
 use Rattle.ref_base.proofs.RowMoves.{scanned_after, Moves, row_moves}
 
@@ -60,10 +61,6 @@ record HasScanned (ns : List ℕ) (a : State) : Type 0 where
   distinct : IsDistinct nat_eq ns
   there : (n : ℕ) → has ns n ≡ true → has (joined a.scanned) n ≡ true
   workers : length a.scanned ≡ a.world.heap.config.workers
-
-distinct_nil : IsDistinct nat_eq []
-unfolding IsDistinct
-distinct_nil = tt
 
 still_scanned : (ns : List ℕ) (a b : State) → HasScanned ns a → b.scanned ≡ a.scanned
     → b.world.heap.config ≡ a.world.heap.config → HasScanned ns b
