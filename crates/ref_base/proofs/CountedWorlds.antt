@@ -15,6 +15,7 @@ use Rattle.ref_base.specs.declared.actor.Actor.{Actor}
 use Rattle.ref_base.specs.declared.actor.Actor.TheVariants.{Mutator, Worker}
 use Rattle.ref_base.proofs.HoldCounts.{tally-first, tally-append, tally-one_more, tally-one_fewer, tally-hand_set}
 use Rattle.ref_base.proofs.HoldCounts.{tally-queue_set}
+use Rattle.ref_base.proofs.SameOthers.{same_hand}
 use Rattle.ref_base.proofs.SoundWorlds.{HasHand}
 
 -- ---- in sums
@@ -61,10 +62,6 @@ heap-hand w (Worker k) hand = refl
 queues-hand : (w : World) (who : Actor) (hand : Option Notice) → (with_hand w who hand).queues ≡ w.queues
 queues-hand w (Mutator m) hand = refl
 queues-hand w (Worker k) hand = refl
-
-same_hand : (v w : World) (who : Actor) → SameOthers v w → hand_of w who ≡ hand_of v who
-same_hand v w (Mutator m) others = ap (λ (hs : List (Option Notice)). slice_index_or hs m None) others.mutators
-same_hand v w (Worker k) others = ap (λ (hs : List (Option Notice)). slice_index_or hs k None) others.workers
 
 same_has : (v w : World) (who : Actor) → SameOthers v w → HasHand v who → HasHand w who
 same_has v w (Mutator m) others has = rw others.mutators has

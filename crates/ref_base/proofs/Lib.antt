@@ -58,7 +58,22 @@ pub mod OutRuns
 pub mod OutTraces
 pub mod OldNames
 pub mod MarkedTraces
+pub mod SameOthers
+pub mod ReplayOthers
+pub mod AddedRows
+pub mod ToldMoves
+pub mod HeapRowMoves
+pub mod RowMoves
+pub mod ScannedOnce
+pub mod Subsequences
+pub mod RowHands
+pub mod HandCauses
+pub mod ClearingShifts
+pub mod ClearingTraces
+pub mod NumberedObjects
+pub mod ClearedOnwards
 mod ReplayExamples
+mod OrderExamples
 mod LegalExamples
 mod IllegalExamples
 mod Examples

@@ -35,3 +35,5 @@ pub mod Forgetting
 pub mod LegalTraces
 pub mod Provenance
 pub mod Words
+pub mod ScannedRows
+pub mod ClearingOrder
