@@ -38,7 +38,7 @@ pub enum Told {
     /// This object was scanned.
     Scanned(u32),
     /// So many are doomed.
-    Doomed(usize),
+    Doomed(u32),
     In(Phase),
     /// This reference was cleared.
     Cleared(u32),
@@ -131,7 +131,7 @@ pub fn scanned(answer: Result<Option<ObjNo>, Fault>) -> Told {
     }
 }
 
-pub fn doomed(answer: Result<usize, Fault>) -> Told {
+pub fn doomed(answer: Result<u32, Fault>) -> Told {
     match answer {
         Ok(count) => Told::Doomed(count),
         Err(fault) => Told::Refused(fault),

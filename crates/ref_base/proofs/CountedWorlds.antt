@@ -4,6 +4,7 @@ use Rattle.std.proofs.Common.{Option, Some, None, refl, ap, ◌∙◌, arith}
 use Rattle.std.specs.Prelude.{slice_index_or}
 use Rattle.std.proofs.lemmas.Bool.{eq-eqb}
 use Rattle.std.proofs.lemmas.List.{map-append}
+use Rattle.ref_base.specs.Members.{has}
 use Rattle.ref_base.specs.Heaps.{Heap, one_more, one_fewer}
 use Rattle.ref_base.specs.QueueLists.{Lists, new_queue, new_queues, with_parcel}
 use Rattle.ref_base.specs.Worlds.{World, Notice, SameOthers, first_world, object_of, hand_of, queue_at, with_hand}
@@ -13,7 +14,7 @@ use Rattle.ref_base.specs.CountedHolds.{tally, in_hand, in_hands, in_queues, rep
 use Rattle.ref_base.specs.declared.config.Config.{Config}
 use Rattle.ref_base.specs.declared.actor.Actor.{Actor}
 use Rattle.ref_base.specs.declared.actor.Actor.TheVariants.{Mutator, Worker}
-use Rattle.ref_base.proofs.HoldCounts.{tally-first, tally-append, tally-one_more, tally-one_fewer, tally-hand_set}
+use Rattle.ref_base.proofs.HoldCounts.{tally-has, tally-first, tally-append, tally-one_more, tally-one_fewer, tally-hand_set}
 use Rattle.ref_base.proofs.HoldCounts.{tally-queue_set}
 use Rattle.ref_base.proofs.SameOthers.{same_hand}
 use Rattle.ref_base.proofs.SoundWorlds.{HasHand}
@@ -169,6 +170,17 @@ no_hands (suc count) = no_hands count
 no_queues : (first count : ℕ) → in_queues (new_queues first count) ≡ []
 no_queues first zero = refl
 no_queues first (suc count) = no_queues (first + 1) count
+
+-- a notice in a hand is a hold that the heap counts
+pub counted_hand : (w : World) (who : Actor) (notice : Notice) → HasHand w who → hand_of w who ≡ Some notice
+    → AreCounted w → has w.heap.holds notice.object ≡ true
+counted_hand w who notice there full counted =
+    let n = notice.object in
+    let held = ap (λ (hand : Option Notice). tally (in_hand hand) n) full in
+    let one : tally (n ∷ []) n ≡ 1 = simp (eq-eqb n n refl) refl in
+    let out = total-hand w who None n there in
+    let few = few_of w counted n in
+    tally-has w.heap.holds n (omega (arith, held, one, out, few))
 
 pub first_counted : (config : Config) → AreCounted (first_world config)
 first_counted config =

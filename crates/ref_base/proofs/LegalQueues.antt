@@ -19,7 +19,7 @@ use Rattle.ref_base.proofs.RunLaws.{cut}
 
 -- ---- from any sound world
 
-run_sound : (a : State) (rows : List Row) (b : State) → IsSound a.world → IsRun a rows b → IsSound b.world
+pub run_sound : (a : State) (rows : List Row) (b : State) → IsSound a.world → IsRun a rows b → IsSound b.world
 run_sound a [] b sound run = subst (λ (s : State). IsSound s.world) (sym run) sound
 run_sound a (row ∷ rows) b sound run =
     let goes = row_goes a row run.0 sound run.1 in

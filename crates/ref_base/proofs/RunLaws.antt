@@ -1,7 +1,7 @@
--- A run of the abstract collector can be cut at any row.
-use Rattle.std.proofs.Common.{List, [], ◌∷◌, ◌++◌, refl}
+-- A run of the abstract collector can be cut at any row, and goes on row by row.
+use Rattle.std.proofs.Common.{List, [], ◌∷◌, ◌++◌, refl, subst}
 use Rattle.ref_base.specs.Collectors.{State, first_state}
-use Rattle.ref_base.specs.CollectorRows.{IsRun}
+use Rattle.ref_base.specs.CollectorRows.{IsRow, IsRun}
 use Rattle.ref_base.specs.LegalTraces.{IsLegal}
 use Rattle.ref_base.specs.declared.config.Config.{Config}
 use Rattle.ref_base.specs.declared.row.Row.{Row}
@@ -13,6 +13,12 @@ cut a [] back b run = (a, refl, run)
 cut a (row ∷ rows) back b run =
     let rest = cut run.0 rows back b run.2 in
     (rest.0, (run.0, run.1, rest.1), rest.2)
+
+-- a run goes on by one more row
+pub run_more : (a : State) (rows : List Row) (b c : State) (row : Row) → IsRun a rows b → IsRow b row c
+    → IsRun a (rows ++ row ∷ []) c
+run_more a [] b c row run next = (c, subst (λ (s : State). IsRow s row c) run next, refl)
+run_more a (first ∷ rows) b c row run next = (run.0, run.1, run_more run.0 rows b c row run.2 next)
 
 -- the front of a legal trace is legal
 pub front_is_legal : (config : Config) (front back : List Row) → IsLegal config (front ++ back) → IsLegal config front

@@ -23,3 +23,4 @@ pub mod NoticeAnswers
 pub mod HandAnswers
 pub mod UnhookAnswers
 pub mod SweepLoops
+pub mod OwnNumbers

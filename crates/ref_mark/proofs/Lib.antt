@@ -27,3 +27,4 @@ pub mod BarrierLemmas
 pub mod RoomLemmas
 pub mod LoopLemmas
 pub mod FirstStates
+pub mod OwnNumbers

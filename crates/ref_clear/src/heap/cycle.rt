@@ -36,7 +36,7 @@ impl<A: Allocator + Copy> Heap<A> {
     }
 
     /// Ends the mark, and answers how many objects are doomed, as `Marker::end_mark` does: `WrongPhase`, `GreyLeft`.
-    pub fn end_mark(&mut self) -> Result<usize, Fault>
+    pub fn end_mark(&mut self) -> Result<u32, Fault>
         ensures answer { reply_of Reply.Doomed result ≡ answer_in self.old HeapStep.EndMark }
         ensures after { self.new ≡ after_in self.old HeapStep.EndMark }
     {

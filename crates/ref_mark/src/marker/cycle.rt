@@ -55,7 +55,7 @@ impl<A: Allocator + Copy> Marker<A> {
 
     /// Ends the mark: the white objects are doomed now, and it answers how many they are. Tried in this order:
     /// `WrongPhase`, `GreyLeft` while the grey list has objects. In constant time.
-    pub fn end_mark(&mut self) -> Result<usize, Fault>
+    pub fn end_mark(&mut self) -> Result<u32, Fault>
         ensures answer { reply_of Reply.Doomed result ≡ answer_in self.old HeapStep.EndMark }
         ensures after { self.new ≡ after_in self.old HeapStep.EndMark }
     {

@@ -46,10 +46,10 @@ impl<A: Allocator + Copy> Objects<A> {
     }
 
     /// How many objects aren't marked. In constant time.
-    pub fn unmarked_count(&self) -> usize
+    pub fn unmarked_count(&self) -> u32
         ensures { result ≡ length (unmarked self.now.heap.objects self.now.marked) }
     {
-        self.table.len() - self.table.marked_count()
+        (self.table.len() - self.table.marked_count()) as u32
     }
 
     /// The least number from this one on of an object that isn't marked. In logarithmic time, and that of the objects

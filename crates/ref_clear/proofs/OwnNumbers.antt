@@ -1,0 +1,63 @@
+-- No step changes the number of a heap.
+use Rattle.std.proofs.Common.{◌≡◌, ℕ, List, Option, Some, None, refl, ap, ◌∙◌, inl, inr, [], ◌∷◌}
+use Rattle.std.proofs.lemmas.Bool.{cases_Bool}
+use Rattle.ref_base.specs.Heaps.{slot_at, reference_at, registered_in}
+use Rattle.ref_base.specs.Worlds.{Pending, pending_numbers}
+use Rattle.ref_base.specs.HeapSteps.{NamedStep}
+use Rattle.ref_base.specs.CollectorRows.{list_at}
+use Rattle.ref_base.specs.declared.fault.Fault.{Fault}
+use Rattle.ref_base.specs.declared.heap_step.HeapStep.TheVariants as heap
+use Rattle.ref_base.specs.declared.phase.Phase.TheVariants.{Idle, Sweeping}
+use Rattle.ref_mark.specs.CycleHeaps.{CycleHeap, with_phase, with_taken}
+use Rattle.ref_mark.specs.MarkCalls.{unless_refused}
+use Rattle.ref_mark.proofs.OwnNumbers.{cleared-number, begun-number, number_after as number_after_marking}
+use Rattle.ref_clear.specs.ClearHeaps.{ClearHeap, with_mark, pending_at, begun_with, is_to_clear, pended, looked_from}
+use Rattle.ref_clear.specs.ClearHeaps.{cut_at, handed_from, unhooked, swept_some}
+use Rattle.ref_clear.specs.ClearCalls.{refusal_in, after_in, queue_in, left}
+
+unhooked-number : (k : CycleHeap) (m s : ℕ) (held queue : Option ℕ) → (unhooked k m s held queue).heap_no ≡ k.heap_no
+unhooked-number k m s None queue = cleared-number k m s
+unhooked-number k m s (Some n) None = cleared-number k m s
+unhooked-number k m s (Some n) (Some q) = cleared-number k m s
+
+pended-number : (c : ClearHeap) (w n : ℕ) (queue : Option ℕ) → (pended c w n queue).mark.heap_no ≡ c.mark.heap_no
+pended-number c w n None = refl
+pended-number c w n (Some q) = refl
+
+looked-number : (c : ClearHeap) (w : ℕ) (found : List ℕ) → (looked_from c w found).mark.heap_no ≡ c.mark.heap_no
+looked-number c w [] = refl
+looked-number c w (n ∷ rest) =
+    elim (cases_Bool (is_to_clear c.mark n)) [
+      | inl dead ↦
+          simp dead
+          (pended-number (with_mark c (cut_at (with_taken c.mark w) n)) w n (registered_in (reference_at c.mark.heap n)))
+      | inr other ↦ simp other refl
+    ]
+
+handed-number : (c : ClearHeap) (w : ℕ) (ps : List Pending) → (handed_from c w ps).mark.heap_no ≡ c.mark.heap_no
+handed-number c w [] = refl
+handed-number c w (p ∷ ps) = refl
+
+number-left : (c after : ClearHeap) (refused : Option Fault) → after.mark.heap_no ≡ c.mark.heap_no
+    → (unless_refused refused (λ fault. c) after).mark.heap_no ≡ c.mark.heap_no
+number-left c after None same = same
+number-left c after (Some fault) same = refl
+
+pub number_after : (c : ClearHeap) (step : NamedStep) → (after_in c step).mark.heap_no ≡ c.mark.heap_no
+number_after c (heap.Unhook m s) =
+    let held = slot_at c.mark.heap m s in
+    let queue = queue_in c.mark m s in
+    number-left c (with_mark c (unhooked c.mark m s held queue)) (refusal_in c (heap.Unhook m s))
+    (unhooked-number c.mark m s held queue)
+number_after c (heap.Begin now how) =
+    number-left c (begun_with c now how) (refusal_in c (heap.Begin now how)) (begun-number c.mark now how (pending_numbers c.pending))
+number_after c (heap.ClearNext w) =
+    let found = list_at c.mark.found w in
+    number-left c (looked_from c w found) (refusal_in c (heap.ClearNext w)) (looked-number c w found)
+number_after c heap.EndClear = number-left c (with_mark c (with_phase c.mark Sweeping)) (refusal_in c heap.EndClear) refl
+number_after c (heap.Hand w) =
+    let waiting = pending_at c w in
+    number-left c (handed_from c w waiting) (refusal_in c (heap.Hand w)) (handed-number c w waiting)
+number_after c (heap.Sweep w) = number-left c (with_mark c (swept_some c.mark)) (refusal_in c (heap.Sweep w)) refl
+number_after c heap.EndSweep = number-left c (with_mark c (with_phase c.mark Idle)) (refusal_in c heap.EndSweep) refl
+number_after c step = number_after_marking c.mark step
