@@ -1,10 +1,11 @@
 -- What a mark's end clears reads as cleared from then on, in every state after it.
-use Rattle.std.proofs.Common.{◌≡◌, ℕ, ◌<◌, true, false, ◌==◌, List, [], ◌∷◌, map, Option, Some, None}
+use Rattle.std.proofs.Common.{◌≡◌, ℕ, ◌<◌, true, false, ◌==◌, List, [], ◌∷◌, ◌++◌, map, Option, Some, None}
 use Rattle.std.proofs.Common.{inl, inr, refl, sym, ap, ◌∙◌, subst, arith}
 use Rattle.std.specs.List.{AllByRecursion}
-use Rattle.std.proofs.lemmas.Bool.{cases_Bool, or_cases, or_left, or_right, eqb-true, eq-eqb, both_ways}
-use Rattle.ref_base.specs.Members.{has, AreDistinct}
-use Rattle.ref_base.specs.Graphs.{Object, Reference, object_at, numbers}
+use Rattle.std.proofs.lemmas.Bool.{cases_Bool, or_cases, and_parts, eqb-true, eq-eqb, both_ways, true≢false}
+use Rattle.ref_base.specs.Members.{has}
+use Rattle.ref_base.specs.Graphs.{Object, Reference, object_at, is_there, numbers}
+use Rattle.ref_base.specs.Strengths.{IsRising}
 use Rattle.ref_base.specs.Paths.{is_soft, is_phantom}
 use Rattle.ref_base.specs.DoomedSets.{is_new_clear, new_clears}
 use Rattle.ref_base.specs.Heaps.{slot_at, reference_in, reference_at, changed_reference, cleared, got_at}
@@ -23,7 +24,13 @@ use Rattle.ref_base.specs.declared.reply.Reply.TheVariants as replies
 use Rattle.ref_base.specs.declared.row.Row.{Row}
 use Rattle.ref_base.proofs.CarryLaws.{OfHand, Carries, Lasts, notice_from}
 use Rattle.ref_base.proofs.CarryRows.{Mints, row_carries}
-use Rattle.ref_base.proofs.NumberedObjects.{legal_numbered, row_next}
+use Rattle.ref_base.proofs.CountedTraces.{legal_counted}
+use Rattle.ref_base.proofs.NewClears.{IsRising-tail, is_there-rising, has-new_clears}
+use Rattle.ref_base.proofs.OldNames.{legal_numbers}
+use Rattle.ref_base.proofs.OneQueue.{next_grows}
+use Rattle.ref_base.proofs.RowKinds.{row_kind}
+use Rattle.ref_base.proofs.RunFronts.{goes_on}
+use Rattle.ref_base.proofs.RunLaws.{run_more}
 use Rattle.ref_base.proofs.ShownObjects.{shown-no}
 
 -- ---- a reference that has no referent
@@ -59,27 +66,17 @@ cleared_at (o ∷ os) n all =
 
 -- ---- at the mark's end
 
-new_clears_there : (os : List Object) (d : List ℕ) (n : ℕ) → has (new_clears os d) n ≡ true → has (numbers os) n ≡ true
-new_clears_there [] d n within = within
-new_clears_there (o ∷ os) d n within =
-    elim (cases_Bool (is_new_clear d o)) [
-      | inl new ↦
-          let either : has (o.no ∷ new_clears os d) n ≡ true = simp new at within in
-          elim (or_cases (o.no == n) (has (new_clears os d) n) either) [
-            | inl first ↦ or_left (o.no == n) (has (numbers os) n) first
-            | inr later ↦ or_right (o.no == n) (has (numbers os) n) (new_clears_there os d n later)
-          ]
-      | inr old ↦ or_right (o.no == n) (has (numbers os) n) (new_clears_there os d n (simp old at within))
-    ]
+new_clear_there : (os : List Object) (d : List ℕ) (n : ℕ) → IsRising (numbers os) → has (new_clears os d) n ≡ true
+    → is_there os n ≡ true
+new_clear_there os d n rising new = (and_parts (is_there os n) _ (sym (has-new_clears os d n rising) ∙ new)).0
 
 -- objects of other numbers are none of it
-others_shown : (os : List Object) (d : List ℕ) (n : ℕ) → has (numbers os) n ≡ false
+others_shown : (os : List Object) (d : List ℕ) (n : ℕ) → is_there os n ≡ false
     → AllByRecursion (IsCleared n) (map (λ o. shown d o) os)
 others_shown [] d n absent = tt
 others_shown (o ∷ os) d n absent =
     elim (cases_Bool (o.no == n)) [
-      | inl same ↦
-          absurd (both_ways (has (numbers (o ∷ os)) n) absent (or_left (o.no == n) (has (numbers os) n) same))
+      | inl same ↦ absurd (true≢false (simp same at absent))
       | inr other ↦ (
         λ same. absurd (both_ways (o.no == n) other (eq-eqb o.no n (sym (shown-no d o) ∙ same))),
         others_shown os d n (simp other at absent),
@@ -89,27 +86,30 @@ others_shown (o ∷ os) d n absent =
 new_clear_shown : (d : List ℕ) (o : Object) → is_new_clear d o ≡ true → referent_of (shown d o).reference ≡ None
 new_clear_shown d o new = simp new (cut_has_none o.reference)
 
-all_shown : (os : List Object) (d : List ℕ) (n : ℕ) → AreDistinct (numbers os) → has (new_clears os d) n ≡ true
+all_shown : (os : List Object) (d : List ℕ) (n : ℕ) → IsRising (numbers os) → has (new_clears os d) n ≡ true
     → AllByRecursion (IsCleared n) (map (λ o. shown d o) os)
-all_shown [] d n distinct within = tt
-all_shown (o ∷ os) d n distinct within =
+all_shown [] d n rising within = tt
+all_shown (o ∷ os) d n rising within =
+    let behind : IsRising (numbers os) = IsRising-tail o.no (numbers os) rising in
     elim (cases_Bool (is_new_clear d o)) [
       | inl new ↦
           let either : has (o.no ∷ new_clears os d) n ≡ true = simp new at within in
           elim (or_cases (o.no == n) (has (new_clears os d) n) either) [
-            | inl first ↦ (
-              λ _. new_clear_shown d o new,
-              others_shown os d n (ap (has (numbers os)) (sym (eqb-true o.no n first)) ∙ distinct.0),
-            )
-            | inr later ↦ (λ _. new_clear_shown d o new, all_shown os d n distinct.1 later)
+            | inl first ↦
+                let same : o.no ≡ n = eqb-true o.no n first in (
+                  λ _. new_clear_shown d o new,
+                  others_shown os d n (is_there-rising os n o.no (omega (arith, same)) rising),
+                )
+            | inr later ↦ (λ _. new_clear_shown d o new, all_shown os d n behind later)
           ]
       | inr old ↦
           let later : has (new_clears os d) n ≡ true = simp old at within in (
-            λ same.
+            λ is.
+                let same : o.no ≡ n = sym (shown-no d o) ∙ is in
                 absurd
-                (both_ways (has (numbers os) o.no) distinct.0
-                (ap (has (numbers os)) (sym (shown-no d o) ∙ same) ∙ new_clears_there os d n later)),
-            all_shown os d n distinct.1 later,
+                (both_ways (is_there os n) (is_there-rising os n o.no (omega (arith, same)) rising)
+                (new_clear_there os d n behind later)),
+            all_shown os d n behind later,
           )
     ]
 
@@ -161,16 +161,15 @@ makes_another n a (steps.Begin now how) reply under = λ is. tt
 makes_another n a (steps.ClearNext k) reply under = λ o q is there. tt
 makes_another n a step reply under = tt
 
-run_cleared : (n : ℕ) (a : State) (rows : List Row) (b : State) → n < a.next
-    → AllByRecursion (IsCleared n) a.world.heap.objects → IsRun a rows b
-    → AllByRecursion (IsCleared n) b.world.heap.objects
-run_cleared n a [] b under all run =
-    subst (λ (s : State). AllByRecursion (IsCleared n) s.world.heap.objects) (sym run) all
-run_cleared n a (row ∷ rows) b under all run =
-    let mid : State = run.0 in
-    let carries = row_carries (IsCleared n) Anything AnyCycle (cleared_lasts n) a row mid
-    (makes_another n a row.step row.reply under) (carries_objects_alone (IsCleared n) a.world all) run.1 in
-    run_cleared n mid rows b (row_next a row mid n run.1 under) carries.objects run.2
+row_cleared : (config : Config) (n : ℕ) (past : List Row) (a : State) (row : Row) (b : State)
+    → IsRun (first_state config) past a → (n < a.next) × AllByRecursion (IsCleared n) a.world.heap.objects
+    → IsRow a row b → (n < b.next) × AllByRecursion (IsCleared n) b.world.heap.objects
+row_cleared config n past a row b run is h =
+    let under = is.0 in
+    let grows = next_grows a row b (row_kind a row b (legal_counted config past a run) h) in
+    let carries = row_carries (IsCleared n) Anything AnyCycle (cleared_lasts n) a row b
+    (makes_another n a row.step row.reply under) (carries_objects_alone (IsCleared n) a.world is.1) h in
+    (omega (arith, under, grows), carries.objects)
 
 -- what a mark's end clears reads as cleared from then on
 pub stays_cleared : (config : Config) (front : List Row) (a b : State) (count : ℕ) (rows : List Row) (c : State) (n : ℕ)
@@ -180,14 +179,17 @@ pub stays_cleared : (config : Config) (front : List Row) (a b : State) (count : 
     → referent_of (reference_at c.world.heap n) ≡ None
 stays_cleared config front a b count rows c n first ends later new =
     let d : List ℕ = doomed_at a in
-    let are = legal_numbered config front a first in
-    let under : n < a.next = are.below n (new_clears_there a.world.heap.objects d n new) in
+    let row : Row = record { step = steps.EndMark; reply = replies.Doomed count } in
+    let old = legal_numbers config front a first in
+    let under = old.objects n (new_clear_there a.world.heap.objects d n old.rising new) in
+    let grows = next_grows a row b (row_kind a row b (legal_counted config front a first) ends) in
     let all : AllByRecursion (IsCleared n) b.world.heap.objects =
     rw (ended_objects a b count (refusal a steps.EndMark) ends)
-    (all_shown a.world.heap.objects d n are.distinct new) in
+    (all_shown a.world.heap.objects d n old.rising new) in
     cleared_at c.world.heap.objects n
-    (run_cleared n b rows c
-    (row_next a (record { step = steps.EndMark; reply = replies.Doomed count }) b n ends under) all later)
+    (goes_on config (λ past s. (n < s.next) × AllByRecursion (IsCleared n) s.world.heap.objects) (row_cleared config n)
+    (front ++ row ∷ []) b rows c (run_more (first_state config) front a b row first ends)
+    (omega (arith, under, grows), all) later).1
 
 -- ---- gets
 

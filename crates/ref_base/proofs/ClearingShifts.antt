@@ -17,7 +17,7 @@ use Rattle.ref_base.specs.declared.cause.Cause.{Cause}
 use Rattle.ref_base.specs.declared.heap_step.HeapStep.TheVariants as heap
 use Rattle.ref_base.specs.declared.reply.Reply.{Reply}
 use Rattle.ref_base.specs.declared.row.Row.{Row}
-use Rattle.ref_base.proofs.Places.{set_each}
+use Rattle.ref_base.proofs.Places.{set_each, place_there}
 use Rattle.ref_base.proofs.RowMoves.{pending_after}
 use Rattle.ref_base.proofs.Subsequences.{Sub, sub_none, sub_all, sub_through, sub_behind, sub_before, sub_longer}
 
@@ -85,12 +85,6 @@ place_set : {X : Type 0} (xs : List X) (j k : ℕ) (x d : X)
 place_set xs j k x d =
     set_each (λ i y. (y ≡ slice_index_or xs i d) ⊎ ((i ≡ j) × (y ≡ x))) xs j x (λ _. d) (inr (refl, refl))
     (λ i. inl refl) k
-
--- a place that has another than the default is there
-pub place_there : {X : Type 0} (xs : List X) (k : ℕ) (d : X) → (slice_index_or xs k d ≡ d → ⊥) → k < length xs
-place_there [] k d other = absurd (other refl)
-place_there (x ∷ xs) zero d other = omega arith
-place_there (x ∷ xs) (suc k) d other = let later = place_there xs k d other in omega (arith, later)
 
 -- ---- hands
 

@@ -27,6 +27,7 @@ use Rattle.ref_base.specs.declared.reply.Reply.{Reply}
 use Rattle.ref_base.specs.declared.reply.Reply.TheVariants as replies
 use Rattle.ref_base.specs.declared.row.Row.{Row}
 use Rattle.ref_base.proofs.SoundWorlds.{IsSound, first_hand, first_sound}
+use Rattle.ref_base.proofs.Places.{place_there}
 use Rattle.ref_base.proofs.QueueLaws.{same}
 use Rattle.ref_base.proofs.RowLaws.{unless_passes, worker_within, row_goes}
 use Rattle.ref_base.proofs.CarryLaws.{OfHand}
@@ -38,7 +39,7 @@ use Rattle.ref_base.proofs.RowMoves.{Moves, row_moves}
 use Rattle.ref_base.proofs.RowHands.{IsBy, others_after, row_hands, hand_tells, hand_given}
 use Rattle.ref_base.proofs.HandCauses.{IsOwnOrPut, HaveCauses, row_causes, first_causes}
 use Rattle.ref_base.proofs.Subsequences.{Sub, sub_none, sub_through, sub_behind, sub_before, sub_is}
-use Rattle.ref_base.proofs.ClearingShifts.{waiting_in, Shifts, still, emptied, put, passes, place_there}
+use Rattle.ref_base.proofs.ClearingShifts.{waiting_in, Shifts, still, emptied, put, passes}
 use Rattle.ref_base.proofs.ClearingShifts.{mutator_taking, mutator_emptied, mutator_polled, queue_closed, released}
 use Rattle.ref_base.proofs.ClearingShifts.{adopt_pends, release_pends, at, clears_for, hands_to}
 

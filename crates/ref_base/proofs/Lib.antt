@@ -36,7 +36,6 @@ pub mod CarryRows
 pub mod ProvenTraces
 pub mod GivenNotices
 pub mod HeapMoves
-pub mod CountedLists
 pub mod RowKinds
 pub mod RunFronts
 pub mod OneQueue
@@ -70,7 +69,6 @@ pub mod RowHands
 pub mod HandCauses
 pub mod ClearingShifts
 pub mod ClearingTraces
-pub mod NumberedObjects
 pub mod ClearedOnwards
 mod ReplayExamples
 mod OrderExamples

@@ -24,7 +24,7 @@ use Rattle.ref_base.specs.declared.reply.Reply.{Reply}
 use Rattle.ref_base.specs.declared.reply.Reply.TheVariants as replies
 use Rattle.ref_base.specs.declared.row.Row.{Row}
 use Rattle.ref_base.proofs.RowLaws.{unless_passes}
-use Rattle.ref_base.proofs.CountedLists.{hand_counted}
+use Rattle.ref_base.proofs.CountedWorlds.{holding_hand, counted_hand}
 use Rattle.ref_base.proofs.HeapMoves.{settled, settled_ticked}
 
 pub record IsRefused (a : State) (row : Row) (b : State) : Type 0 where
@@ -58,7 +58,8 @@ spent_passes : (a : State) (who : Actor) (step : HoldName → NamedStep) (hand :
 spent_passes a who step None asked counted is asks passes = absurd cc
 spent_passes a who step (Some notice) asked counted is asks passes =
     let counts : is_counted 0 a.world.heap (hold_of notice) ≡ true =
-    and_from (0 == 0) (has a.world.heap.holds notice.object) refl (hand_counted a.world who notice counted is) in
+    and_from (0 == 0) (has a.world.heap.holds notice.object) refl
+    (counted_hand a.world who notice (holding_hand a.world who notice is) is counted) in
     sym (ap (asked_refusal a) asks) ∙ passes (hold_of notice) counts
 
 heap_passes : (a : State) (step : Step) (asked : NamedStep) → AreCounted a.world → heap_step a.world step ≡ Some asked

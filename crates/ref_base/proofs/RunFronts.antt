@@ -7,14 +7,9 @@ use Rattle.ref_base.specs.Replay.{after, replayed_from}
 use Rattle.ref_base.specs.Worlds.{World}
 use Rattle.ref_base.specs.declared.config.Config.{Config}
 use Rattle.ref_base.specs.declared.row.Row.{Row}
+use Rattle.ref_base.proofs.RunLaws.{run_more}
 
--- a run goes on by a row
-run_last : (s : State) (past : List Row) (a : State) (row : Row) (b : State) → IsRun s past a → IsRow a row b
-    → IsRun s (past ++ row ∷ []) b
-run_last s [] a row b run h = (b, subst (λ (c : State). IsRow c row b) run h, refl)
-run_last s (other ∷ past) a row b run h = (run.0, run.1, run_last run.0 past a row b run.2 h)
-
--- and so does the replay
+-- the replay goes on row by row
 pub replayed_last : (w : World) (past : List Row) (row : Row)
     → replayed_from w (past ++ row ∷ []) ≡ after (replayed_from w past) row.step row.reply
 replayed_last w [] row = refl
@@ -23,13 +18,14 @@ replayed_last w (other ∷ past) row = replayed_last (after w other.step other.r
 module _ (config : Config) (Q : List Row → State → Type 0)
     (step : (past : List Row) (a : State) (row : Row) (b : State) → IsRun (first_state config) past a → Q past a
     → IsRow a row b → Q (past ++ row ∷ []) b) where
-  goes_on : (past : List Row) (a : State) (rows : List Row) (b : State) → IsRun (first_state config) past a → Q past a
+  -- what holds after a run's front and is kept by each row holds after the run
+  pub goes_on : (past : List Row) (a : State) (rows : List Row) (b : State) → IsRun (first_state config) past a → Q past a
       → IsRun a rows b → Q (past ++ rows) b
   goes_on past a [] b run holds more =
       subst (λ rs. Q rs b) (sym (append-nil past)) (subst (λ (s : State). Q past s) (sym more) holds)
   goes_on past a (row ∷ rows) b run holds more =
       subst (λ rs. Q rs b) (append_assoc past (row ∷ []) rows)
-      (goes_on (past ++ row ∷ []) more.0 rows b (run_last (first_state config) past a row more.0 run more.1)
+      (goes_on (past ++ row ∷ []) more.0 rows b (run_more (first_state config) past a more.0 row run more.1)
       (step past a row more.0 run holds more.1) more.2)
 
   pub legal_holds : Q [] (first_state config) → (rows : List Row) (b : State) → IsRun (first_state config) rows b
