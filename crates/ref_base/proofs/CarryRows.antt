@@ -35,7 +35,7 @@ use Rattle.ref_base.proofs.CarryLaws.{carries_queue, in_world, given}
 use Rattle.ref_base.proofs.CarryHeaps.{Anew, heap_carries}
 
 -- the notice of that number among these is one of them
-all_notice_of : (P : Notice → Type 0) (notices : List Notice) (n : ℕ) → AllByRecursion P notices
+pub all_notice_of : (P : Notice → Type 0) (notices : List Notice) (n : ℕ) → AllByRecursion P notices
     → OfHand P (notice_of notices n)
 all_notice_of P [] n all = tt
 all_notice_of P (notice ∷ rest) n all =
@@ -234,7 +234,7 @@ module _ (O : Object → Type 0) (P : Notice → Type 0) (C : ℕ → Type 0) wh
 
 -- ---- at first
 
-nothing_pending : (P : Pending → Type 0) (count k : ℕ)
+pub nothing_pending : (P : Pending → Type 0) (count k : ℕ)
     → AllByRecursion P (slice_index_or (replicate count []) k [])
 nothing_pending P zero k = tt
 nothing_pending P (suc count) zero = tt

@@ -183,7 +183,7 @@ closes a b q false reply within row counted =
 
 -- ---- rows
 
-empty_hand : (hand : Option Notice) (later : Option Fault) → unless_full hand later ≡ None → hand ≡ None
+pub empty_hand : (hand : Option Notice) (later : Option Fault) → unless_full hand later ≡ None → hand ≡ None
 empty_hand None later none = refl
 empty_hand (Some notice) later none = absurd cc
 

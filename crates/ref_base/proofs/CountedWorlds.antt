@@ -1,6 +1,6 @@
 -- In every legal trace each notice that is out is a hold that the heap counts.
 use Rattle.std.proofs.Common.{◌≡◌, ℕ, ◌+◌, ◌<◌, ◌≤◌, zero, suc, true, List, [], ◌∷◌, ◌++◌, map, length, replicate}
-use Rattle.std.proofs.Common.{Option, Some, None, refl, ap, ◌∙◌, arith}
+use Rattle.std.proofs.Common.{Option, Some, None, refl, sym, ap, ◌∙◌, arith}
 use Rattle.std.specs.Prelude.{slice_index_or}
 use Rattle.std.proofs.lemmas.Bool.{eq-eqb}
 use Rattle.std.proofs.lemmas.List.{map-append}
@@ -16,6 +16,8 @@ use Rattle.ref_base.specs.declared.actor.Actor.{Actor}
 use Rattle.ref_base.specs.declared.actor.Actor.TheVariants.{Mutator, Worker}
 use Rattle.ref_base.proofs.HoldCounts.{tally-has, tally-first, tally-append, tally-one_more, tally-one_fewer, tally-hand_set}
 use Rattle.ref_base.proofs.HoldCounts.{tally-queue_set}
+use Rattle.ref_base.proofs.SameOthers.{same_hand}
+use Rattle.ref_base.proofs.Places.{place_there}
 use Rattle.ref_base.proofs.SoundWorlds.{HasHand}
 
 -- ---- in sums
@@ -62,10 +64,6 @@ heap-hand w (Worker k) hand = refl
 queues-hand : (w : World) (who : Actor) (hand : Option Notice) → (with_hand w who hand).queues ≡ w.queues
 queues-hand w (Mutator m) hand = refl
 queues-hand w (Worker k) hand = refl
-
-same_hand : (v w : World) (who : Actor) → SameOthers v w → hand_of w who ≡ hand_of v who
-same_hand v w (Mutator m) others = ap (λ (hs : List (Option Notice)). slice_index_or hs m None) others.mutators
-same_hand v w (Worker k) others = ap (λ (hs : List (Option Notice)). slice_index_or hs k None) others.workers
 
 same_has : (v w : World) (who : Actor) → SameOthers v w → HasHand v who → HasHand w who
 same_has v w (Mutator m) others has = rw others.mutators has
@@ -173,6 +171,13 @@ no_hands (suc count) = no_hands count
 no_queues : (first count : ℕ) → in_queues (new_queues first count) ≡ []
 no_queues first zero = refl
 no_queues first (suc count) = no_queues (first + 1) count
+
+-- a hand that holds a notice is there
+pub holding_hand : (w : World) (who : Actor) (notice : Notice) → hand_of w who ≡ Some notice → HasHand w who
+holding_hand w (Mutator m) notice full =
+    place_there w.mutator_hands m None (λ none. let no = sym full ∙ none in absurd cc)
+holding_hand w (Worker k) notice full =
+    place_there w.worker_hands k None (λ none. let no = sym full ∙ none in absurd cc)
 
 -- a notice in a hand is a hold that the heap counts
 pub counted_hand : (w : World) (who : Actor) (notice : Notice) → HasHand w who → hand_of w who ≡ Some notice

@@ -45,7 +45,7 @@ run_moves a (row ∷ rows) b sound run q =
 
 -- ---- from the first state
 
-first_run_moves : (config : Config) (rows : List Row) (b : State) → IsRun (first_state config) rows b
+pub first_run_moves : (config : Config) (rows : List Row) (b : State) → IsRun (first_state config) rows b
     → (q : ℕ) → MovesBy (new_queue q) (queue_at b.world q) q empty_hands rows
 first_run_moves config rows b run q =
     let first : World = first_world config in
@@ -69,7 +69,7 @@ nothing_more config front rest b q run shut =
     sym first.put ∙ sym (append-nil all) ∙ ap (λ ns. all ++ ns) (sym (later.shut (first.closed ∙ shut)))
     ∙ sym later.put ∙ whole.put
 
-distinct_nil : IsDistinct nat_eq []
+pub distinct_nil : IsDistinct nat_eq []
 unfolding IsDistinct
 distinct_nil = tt
 

@@ -35,7 +35,43 @@ pub mod CarryHeaps
 pub mod CarryRows
 pub mod ProvenTraces
 pub mod GivenNotices
+pub mod HeapMoves
+pub mod RowKinds
+pub mod RunFronts
+pub mod OneQueue
+pub mod SeenObjects
+pub mod ReplayUnder
+pub mod ReplayKeeps
+pub mod WaitingClears
+pub mod PhaseLaws
+pub mod AgreeHeaps
+pub mod AgreeEnds
+pub mod AgreeRuns
+pub mod ApartWorlds
+pub mod ObjectTargets
+pub mod ClosedRows
+pub mod OffSets
+pub mod MarkShows
+pub mod OutHeaps
+pub mod OutRuns
+pub mod OutTraces
+pub mod OldNames
+pub mod MarkedTraces
+pub mod SameOthers
+pub mod ReplayOthers
+pub mod AddedRows
+pub mod ToldMoves
+pub mod HeapRowMoves
+pub mod RowMoves
+pub mod ScannedOnce
+pub mod Subsequences
+pub mod RowHands
+pub mod HandCauses
+pub mod ClearingShifts
+pub mod ClearingTraces
+pub mod ClearedOnwards
 mod ReplayExamples
+mod OrderExamples
 mod LegalExamples
 mod IllegalExamples
 mod Examples

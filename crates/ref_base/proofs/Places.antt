@@ -1,5 +1,5 @@
 -- What holds at each place of a list, after one place is set or the list has grown.
-use Rattle.std.proofs.Common.{◌≡◌, ℕ, zero, suc, ◌<◌, List, [], ◌∷◌, ◌++◌, length, inl, inr, sym, subst}
+use Rattle.std.proofs.Common.{◌≡◌, ℕ, zero, suc, ◌<◌, List, [], ◌∷◌, ◌++◌, length, inl, inr, refl, sym, subst, arith}
 use Rattle.std.specs.Prelude.{slice_index_or, slice_set}
 use Rattle.std.specs.List.{AllByRecursion}
 use Rattle.std.proofs.lemmas.Bool.{cases_eq}
@@ -46,3 +46,9 @@ set_each P (_ ∷ xs) zero x d here others (suc k) = others (suc k)
 set_each P (_ ∷ xs) (suc m) x d here others zero = others zero
 set_each P (_ ∷ xs) (suc m) x d here others (suc k) =
     set_each (λ j. P (suc j)) xs m x (λ j. d (suc j)) here (λ j. others (suc j)) k
+
+-- a place that has another than the default is there
+pub place_there : {X : Type 0} (xs : List X) (k : ℕ) (d : X) → (slice_index_or xs k d ≡ d → ⊥) → k < length xs
+place_there [] k d other = absurd (other refl)
+place_there (x ∷ xs) zero d other = omega arith
+place_there (x ∷ xs) (suc k) d other = let later = place_there xs k d other in omega (arith, later)

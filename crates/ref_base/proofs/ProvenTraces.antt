@@ -93,7 +93,7 @@ registered_is [] n q = refl
 registered_is (row ∷ rows) n q =
     ap (λ (later : Bool). if registers n q row.step row.reply then true else later) (registered_is rows n q)
 
-registered_more : (rows more : List Row) (n q : ℕ) → is_registered rows n q ≡ true
+pub registered_more : (rows more : List Row) (n q : ℕ) → is_registered rows n q ≡ true
     → is_registered (rows ++ more) n q ≡ true
 registered_more rows more n q has =
     registered_is (rows ++ more) n q ∙ has_more (registers n q) rows more (sym (registered_is rows n q) ∙ has)
@@ -130,7 +130,7 @@ made_lasts rows = record {
   gets = λ o clock is q there. is q (sym (queue_got clock o.reference) ∙ there);
 }
 
-made_at : (rows : List Row) (os : List Object) (n q : ℕ) → AllByRecursion (IsMade rows) os
+pub made_at : (rows : List Row) (os : List Object) (n q : ℕ) → AllByRecursion (IsMade rows) os
     → registered_in (reference_in (object_at os n)) ≡ Some q → is_registered rows n q ≡ true
 made_at rows [] n q all there = absurd cc
 made_at rows (o ∷ os) n q all there =
@@ -226,7 +226,7 @@ lifted past a row known =
     (λ o is q there. registered_more past (row ∷ []) o.no q (is q there))
     (λ notice is. proven_more past (row ∷ []) notice is) (stays_at a.world.cycle row.step) known
 
-row_known : (past : List Row) (a : State) (row : Row) (b : State) → Known past a.world → IsRow a row b
+pub row_known : (past : List Row) (a : State) (row : Row) (b : State) → Known past a.world → IsRow a row b
     → Known (past ++ row ∷ []) b.world
 row_known past a row b known h =
     let more : List Row = past ++ row ∷ [] in
@@ -260,11 +260,13 @@ hand_known : (rows : List Row) (w : World) (who : Actor) → Known rows w → Is
 hand_known rows w (Mutator m) known = in_hand rows (hand_of w (Mutator m)) (known.of_mutators m)
 hand_known rows w (Worker k) known = in_hand rows (hand_of w (Worker k)) (known.of_workers k)
 
+pub first_known : (config : Config) → Known [] (first_state config).world
+first_known config = first_carries (IsMade []) (IsProven []) (λ c. cycle_from 0 [] ≡ c) config refl
+
 pub legal_known : (config : Config) (rows : List Row) (b : State) → IsRun (first_state config) rows b
     → Known rows b.world
 legal_known config rows b run =
-    run_known [] (first_state config) rows b
-    (first_carries (IsMade []) (IsProven []) (λ c. cycle_from 0 [] ≡ c) config refl) run
+    run_known [] (first_state config) rows b (first_known config) run
 
 -- what is out after a legal trace comes from its rows
 pub legal_proven : (config : Config) (rows : List Row) (b : State) → IsRun (first_state config) rows b

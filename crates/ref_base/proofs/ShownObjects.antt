@@ -66,7 +66,7 @@ refers_into-got d clock None = refl
 refers_into-got d clock (Some r) =
     elim (cases_Bool (is_soft r.strength)) [ inl soft ↦ simp soft refl | inr other ↦ simp other refl ]
 
-cleared_got : (clock : ℕ) (r : Option Reference)
+pub cleared_got : (clock : ℕ) (r : Option Reference)
     → changed_reference cleared (changed_reference (got_at clock) r)
     ≡ changed_reference (got_at clock) (changed_reference cleared r)
 cleared_got clock None = refl
@@ -93,7 +93,7 @@ refers_into-cleared : (d : List ℕ) (r : Option Reference) → refers_into (has
 refers_into-cleared d None = refl
 refers_into-cleared d (Some r) = refl
 
-cleared_twice : (r : Option Reference)
+pub cleared_twice : (r : Option Reference)
     → changed_reference cleared (changed_reference cleared r) ≡ changed_reference cleared r
 cleared_twice None = refl
 cleared_twice (Some r) = refl

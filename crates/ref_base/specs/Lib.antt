@@ -28,7 +28,12 @@ pub mod CountedHolds
 pub mod Collectors
 pub mod Refusals
 pub mod CollectorRows
+pub mod AgreeingWorlds
+pub mod MarkEnds
+pub mod OldNumbers
 pub mod Forgetting
 pub mod LegalTraces
 pub mod Provenance
 pub mod Words
+pub mod ScannedRows
+pub mod ClearingOrder

@@ -37,6 +37,10 @@ soft_referents r = is_soft r.strength
 abbrev pub soft_and_weak_referents : Allowed
 soft_and_weak_referents r = if is_soft r.strength then true else is_weak r.strength
 
+-- a path goes over strong fields and the referents of all references
+abbrev pub any_referent : Allowed
+any_referent r = true
+
 -- the numbers that some fields or slots hold
 abbrev pub present : List (Option ℕ) → List ℕ
 present [] = []

@@ -1,0 +1,91 @@
+-- What a put that was added tells: whose notice it was, that it is new in its queue, and at which position it stands.
+use Rattle.std.proofs.Common.{◌≡◌, ℕ, Bool, true, false, List, ◌∷◌, ◌++◌, length, Option, Some, None, inl, inr}
+use Rattle.std.proofs.Common.{refl, sym, ap, ◌∙◌, subst}
+use Rattle.ref_base.specs.QueueLists.{enqueued, was_put}
+use Rattle.ref_base.specs.QueueRows.{put_into, taken_from, was_closed}
+use Rattle.ref_base.specs.Worlds.{Notice, object_of, hand_of, queue_at}
+use Rattle.ref_base.specs.Replay.{replayed}
+use Rattle.ref_base.specs.Collectors.{State, first_state}
+use Rattle.ref_base.specs.Refusals.{refusal}
+use Rattle.ref_base.specs.CollectorRows.{PutsInto, Puts, IsAnswer, IsRun}
+use Rattle.ref_base.specs.LegalTraces.{IsLegal}
+use Rattle.ref_base.specs.Provenance.{IsProven, IsProvenIn}
+use Rattle.ref_base.specs.declared.config.Config.{Config}
+use Rattle.ref_base.specs.declared.actor.Actor.{Actor}
+use Rattle.ref_base.specs.declared.fault.Fault.{Fault}
+use Rattle.ref_base.specs.declared.step.Step.TheVariants as steps
+use Rattle.ref_base.specs.declared.reply.Reply.TheVariants as replies
+use Rattle.ref_base.specs.declared.row.Row.{Row}
+use Rattle.ref_base.proofs.LegalQueues.{first_run_moves}
+use Rattle.ref_base.proofs.ProvenTraces.{legal_proven}
+use Rattle.ref_base.proofs.ReplayOthers.{legal_others}
+use Rattle.ref_base.proofs.SameOthers.{same_hand}
+use Rattle.ref_base.proofs.RunLaws.{cut}
+
+-- after a legal trace the lists of each queue are those of the rows
+pub legal_lists : (config : Config) (rows : List Row) (b : State) (q : ℕ) → IsRun (first_state config) rows b
+    → ((queue_at b.world q).taken ≡ taken_from q rows)
+    × (enqueued object_of (queue_at b.world q) ≡ put_into q rows)
+    × ((queue_at b.world q).closed ≡ was_closed q rows)
+legal_lists config rows b q run =
+    let moves = first_run_moves config rows b run q in (moves.taken, moves.put, moves.closed)
+
+-- what a put that was added at this position tells of the state before it
+pub record TellsAdded (a : State) (who : Actor) (position : ℕ) : Type 0 where
+  pub notice : Notice
+  pub hand : hand_of a.world who ≡ Some notice
+  pub fresh : was_put object_of (queue_at a.world notice.queue) notice ≡ false
+  pub position_is : position ≡ length (enqueued object_of (queue_at a.world notice.queue))
+
+of_put : (a b : State) (who : Actor) (notice : Notice) (again shut : Bool) (position : ℕ)
+    → hand_of a.world who ≡ Some notice → was_put object_of (queue_at a.world notice.queue) notice ≡ again
+    → PutsInto again shut a who notice (replies.Added position) b → TellsAdded a who position
+of_put a b who notice true shut position hand was row = let no = row.0 in absurd cc
+of_put a b who notice false true position hand was row = let no = row.0 in absurd cc
+of_put a b who notice false false position hand was row =
+    elim row [
+      | inl added ↦
+          let told = added.0 in record { notice = notice; hand = hand; fresh = was; position_is = cc }
+      | inr refused ↦ let no = refused.0 in absurd cc
+    ]
+
+of_hand : (a b : State) (who : Actor) (hand : Option Notice) (position : ℕ) → hand_of a.world who ≡ hand
+    → Puts a who hand (replies.Added position) b → TellsAdded a who position
+of_hand a b who None position is row = absurd row
+of_hand a b who (Some notice) position is row = of_put a b who notice _ _ position is refl row
+
+pub answer_tells_added : (a b : State) (who : Actor) (position : ℕ) (fault : Option Fault)
+    → IsAnswer a fault (steps.Put who) (replies.Added position) b → TellsAdded a who position
+answer_tells_added a b who position (Some fault) row = let no = row.0 in absurd cc
+answer_tells_added a b who position None row = of_hand a b who (hand_of a.world who) position refl row
+
+-- ---- in a legal trace
+
+abbrev added : Actor → ℕ → Row
+added who position = record { step = steps.Put who; reply = replies.Added position }
+
+-- the hand held a notice, and what its queue had got before says its position
+pub added_position : (config : Config) (front back : List Row) (who : Actor) (position : ℕ)
+    → IsLegal config (front ++ record { step = steps.Put who; reply = replies.Added position } ∷ back)
+    → (notice : Notice) × (hand_of (replayed config front) who ≡ Some notice)
+    × (position ≡ length (put_into notice.queue front))
+added_position config front back who position legal =
+    let parts = cut (first_state config) front (added who position ∷ back) legal.0 legal.1 in
+    let a : State = parts.0 in
+    let tells = answer_tells_added a parts.2.0 who position (refusal a (steps.Put who)) parts.2.1 in
+    let notice : Notice = tells.notice in
+    let replay = same_hand (replayed config front) a.world who (legal_others config front a parts.1) in
+    let lists = legal_lists config front a notice.queue parts.1 in
+    (notice, sym replay ∙ tells.hand, tells.position_is ∙ ap (λ ns. length ns) lists.1)
+
+-- and it comes from the rows
+pub added_proven : (config : Config) (front back : List Row) (who : Actor) (position : ℕ)
+    → IsLegal config (front ++ record { step = steps.Put who; reply = replies.Added position } ∷ back)
+    → (notice : Notice) × (hand_of (replayed config front) who ≡ Some notice) × IsProven front notice
+added_proven config front back who position legal =
+    let parts = cut (first_state config) front (added who position ∷ back) legal.0 legal.1 in
+    let a : State = parts.0 in
+    let tells = answer_tells_added a parts.2.0 who position (refusal a (steps.Put who)) parts.2.1 in
+    let replay = same_hand (replayed config front) a.world who (legal_others config front a parts.1) in
+    let proven = (legal_proven config front a parts.1).hands who in
+    (tells.notice, sym replay ∙ tells.hand, subst (λ (h : Option Notice). IsProvenIn front h) tells.hand proven)

@@ -1,0 +1,220 @@
+-- A mark's end, a worker's look at a reference and a sweep keep that the collector has the world of the replay, but for
+-- what was swept and for what waits to be cleared.
+use Rattle.std.proofs.Common.{◌≡◌, ℕ, ◌<◌, Bool, true, false, ◌&&◌, ◌==◌, List, ◌++◌, map}
+use Rattle.std.proofs.Common.{take, drop, Option, Some, None, refl, sym, ap, ◌∙◌, subst, inl, inr}
+use Rattle.std.specs.Prelude.{slice_set}
+use Rattle.std.proofs.lemmas.Bool.{cases_Bool, and_right, eq-eqb, eqb-true}
+use Rattle.std.proofs.lemmas.List.{map-id, take-append-drop}
+use Rattle.ref_base.specs.Members.{has}
+use Rattle.ref_base.specs.Graphs.{Object, is_there, numbers}
+use Rattle.ref_base.specs.Strengths.{IsRising}
+use Rattle.ref_base.specs.DoomedSets.{new_clears}
+use Rattle.ref_base.specs.Heaps.{reference_at, registered_in, with_changed, with_reference, cleared, changed_at}
+use Rattle.ref_base.specs.Worlds.{World, with_heap}
+use Rattle.ref_base.specs.Replay.{after_heap, with_phase, pended, cleared_for}
+use Rattle.ref_base.specs.Collectors.{State, joined}
+use Rattle.ref_base.specs.Refusals.{is_in}
+use Rattle.ref_base.specs.CollectorRows.{with_world, without, mark_ended, doomed_at, EndsMark}
+use Rattle.ref_base.specs.AgreeingWorlds.{under, objects_under, is_waiting, Agrees, cleared_if}
+use Rattle.ref_base.specs.declared.phase.Phase.{Phase}
+use Rattle.ref_base.specs.declared.phase.Phase.TheVariants.{Marking, Clearing, Sweeping}
+use Rattle.ref_base.specs.declared.heap_step.HeapStep.TheVariants as heap
+use Rattle.ref_base.specs.declared.reply.Reply.{Reply}
+use Rattle.ref_base.specs.declared.reply.Reply.TheVariants as replies
+use Rattle.ref_base.proofs.HasLaws.{has-left, has-right, has-cases}
+use Rattle.ref_base.proofs.HeapMoves.{settled, moved, found_less}
+use Rattle.ref_base.proofs.ReplayKeeps.{numbers_of, numbers_same, phase_pended}
+use Rattle.ref_base.proofs.SeenObjects.{without-changed_at, rising-without, seen_queue, seen_swept}
+use Rattle.ref_base.proofs.WaitingClears.{shown-waiting, looked-waiting, has-found, Looks, new_clears-there}
+use Rattle.ref_base.proofs.AgreeHeaps.{Agreeing, AreBelow, there-numbers, there-without, unscanned-there, none_waits}
+use Rattle.ref_base.proofs.AgreeHeaps.{not_in}
+
+-- ---- a mark's end
+
+-- where nothing waits, the collector has the objects that aren't gone
+pub as_there : (gone : List ℕ) (w : World) (a : State) (phase : Phase) → Agrees gone w a → a.world.phase ≡ phase
+    → is_in phase Clearing ≡ false
+    → a.world ≡ with_heap w (record w.heap { objects = without gone w.heap.objects })
+as_there gone w a phase agrees is other =
+    agrees ∙ ap (λ (these : ℕ → Bool). under gone these w) (none_waits a phase is other)
+    ∙ ap (λ (os : List Object). with_heap w (record w.heap { objects = os })) (map-id (without gone w.heap.objects))
+
+marks : (gone : List ℕ) (w : World) (a : State) (found : List (List ℕ)) → Agreeing gone w a
+    → a.world.phase ≡ Marking
+    → ((n : ℕ) → has (new_clears a.world.heap.objects (doomed_at a)) n ≡ true → has (joined found) n ≡ true)
+    → Agreeing gone (with_phase w Clearing) (mark_ended a (doomed_at a) found)
+marks gone w a found is marking all =
+    let os : List Object = a.world.heap.objects in
+    let d : List ℕ = doomed_at a in
+    let c : State = mark_ended a d found in
+    let there : a.world ≡ with_heap w (record w.heap { objects = without gone w.heap.objects }) =
+    as_there gone w a Marking is.agrees marking refl in
+    let objects : os ≡ without gone w.heap.objects = ap (λ (v : World). v.heap.objects) there in
+    let rising : IsRising (numbers os) =
+    subst (λ (ps : List Object). IsRising (numbers ps)) (sym objects) (rising-without gone w.heap.objects is.rising) in
+    let known : (n : ℕ) → is_there os n ≡ true → (has gone n ≡ false) × (n < a.next) =
+    λ n at.
+    let both = there-without gone w.heap.objects n (subst (λ (ps : List Object). is_there ps n ≡ true) objects at) in
+    (both.0, is.below n (there-numbers w.heap.objects n both.1)) in
+    let waits : (n : ℕ) → is_there os n ≡ true → is_waiting c n ≡ has (new_clears os d) n =
+    λ n at.
+    elim (cases_Bool (has (new_clears os d) n)) [
+      | inl new ↦ simp (new, all n new) refl
+      | inr old ↦ and_right (has (joined found) n) (has (new_clears os d) n) old ∙ sym old
+    ] in
+    record {
+      agrees = ap (λ (ps : List Object). with_phase (with_heap a.world (record a.world.heap { objects = ps })) Clearing)
+          (shown-waiting os d (is_waiting c) rising waits)
+          ∙ ap (λ (v : World). with_phase (with_heap v (record v.heap {
+            objects = map (λ o. cleared_if (is_waiting c) o) v.heap.objects;
+          })) Clearing) there;
+      rising = is.rising;
+      below = is.below;
+      gone_below = is.gone_below;
+      doomed_below = λ n in_d. (known n (unscanned-there os a.born (joined a.scanned) n in_d)).1;
+      cleared_below = λ n new. (known n (new_clears-there os d n new)).1;
+      cleared_stay = λ clearing n new. (known n (new_clears-there os d n new)).0;
+    }
+
+pub end_agrees : (gone : List ℕ) (w : World) (a c : State) (reply : Reply) → Agreeing gone w a
+    → a.world.phase ≡ Marking → EndsMark a reply c → Agreeing gone (after_heap w heap.EndMark reply) c
+end_agrees gone w a c reply is marking row =
+    subst (λ (r : Reply). Agreeing gone (after_heap w heap.EndMark r) c) (sym row.answer)
+    (subst (Agreeing gone (with_phase w Clearing)) (sym row.after) (marks gone w a row.found is marking row.all_found))
+
+-- ---- a worker's look
+
+-- it goes last in the pending list where it is registered
+pended_under : (gone : List ℕ) (these : ℕ → Bool) (w : World) (k n : ℕ) (queue : Option ℕ)
+    → pended (under gone these w) k n queue ≡ under gone these (pended w k n queue)
+pended_under gone these w k n None = refl
+pended_under gone these w k n (Some q) = refl
+
+-- a row that takes the first off what a worker found, and leaves this world
+module _ (gone : List ℕ) (w v : World) (a c : State) (k n : ℕ) (is : Agreeing gone w a)
+    (clearing : a.world.phase ≡ Clearing) (phase : v.phase ≡ a.world.phase) (looks : Looks a k n)
+    (leads : settled c ≡ settled (with_world (found_less a k) v)) where
+  now_clearing : c.world.phase ≡ a.world.phase
+  now_clearing = ap (λ (s : State). s.world.phase) leads ∙ phase
+
+  -- the same waits but for n
+  others_wait : (m : ℕ) → (n == m) ≡ false → is_waiting a m ≡ is_waiting c m
+  others_wait m other =
+      let left : c.found ≡ slice_set a.found k looks.rest =
+      ap (λ (s : State). s.found) leads ∙ ap (λ (ns : List ℕ). slice_set a.found k (drop 1 ns)) looks.first in
+      let found : has (joined a.found) m ≡ has (joined c.found) m =
+      has-found a.found k n looks.rest m looks.first ∙ simp other refl
+      ∙ ap (λ (ls : List (List ℕ)). has (joined ls) m) (sym left) in
+      ap (λ (b : Bool). is_in a.world.phase Clearing && (b && has a.cleared m)) found
+      ∙ ap (λ (ns : List ℕ). is_in a.world.phase Clearing && (has (joined c.found) m && has ns m))
+      (ap (λ (s : State). s.cleared) (sym leads))
+      ∙ ap (λ (p : Phase). is_in p Clearing && (has (joined c.found) m && has c.cleared m)) (sym now_clearing)
+
+  -- and so it is kept, where the world agrees with one that has the same numbers
+  looked_agrees : (next : World) → numbers_of next ≡ numbers_of w → Agrees gone next c → Agreeing gone next c
+  looked_agrees next numbers agrees =
+      let after : a.next ≡ c.next = ap (λ (s : State). s.next) (sym leads) in
+      record {
+        agrees = agrees;
+        rising = subst IsRising (sym numbers) is.rising;
+        below = subst (λ j. AreBelow j (numbers_of next)) after (subst (AreBelow a.next) (sym numbers) is.below);
+        gone_below = subst (λ j. AreBelow j gone) after is.gone_below;
+        doomed_below = subst (λ j. AreBelow j c.doomed) after
+            (subst (AreBelow a.next) (ap (λ (s : State). s.doomed) (sym leads)) is.doomed_below);
+        cleared_below = subst (λ j. AreBelow j c.cleared) after
+            (subst (AreBelow a.next) (ap (λ (s : State). s.cleared) (sym leads)) is.cleared_below);
+        cleared_stay = λ still m cleared.
+            is.cleared_stay clearing m (ap (λ (s : State). has s.cleared m) (sym leads) ∙ cleared);
+      }
+
+-- a worker cleared n, which the mark's end had cleared
+pub cleared_agrees : (gone : List ℕ) (w : World) (a c : State) (k n : ℕ) → Agreeing gone w a
+    → a.world.phase ≡ Clearing → has a.cleared n ≡ true → Looks a k n
+    → settled c ≡ settled (moved a (heap.ClearNext k) (replies.Cleared n)) → Agreeing gone (cleared_for w k n) c
+cleared_agrees gone w a c k n is clearing clears looks leads =
+    let os : List Object = w.heap.objects in
+    let mine : Option ℕ = registered_in (reference_at a.world.heap n) in
+    let queue : Option ℕ = registered_in (reference_at w.heap n) in
+    let v : World = pended a.world k n mine in
+    let phase : v.phase ≡ a.world.phase = phase_pended a.world k n mine in
+    let own : (n == n) ≡ true = eq-eqb n n refl in
+    let found : has (joined a.found) n ≡ true =
+    has-found a.found k n looks.rest n looks.first ∙ simp own refl in
+    let waits : is_waiting a n ≡ true =
+    ap (λ (p : Phase). is_in p Clearing && (has (joined a.found) n && has a.cleared n)) clearing
+    ∙ simp (found, clears) refl in
+    let these : ℕ → Bool = is_waiting c in
+    let objects : objects_under gone (is_waiting a) os
+    ≡ objects_under gone these (changed_at os n (with_reference cleared)) =
+    looked-waiting (is_waiting a) these n (others_wait gone w v a c k n is clearing phase looks leads)
+    (without gone os) (rising-without gone os is.rising) waits
+    ∙ ap (map (λ o. cleared_if these o)) (sym (without-changed_at gone os n (with_reference cleared) (λ o. refl))) in
+    let next : World = with_heap w (with_changed w.heap n (with_reference cleared)) in
+    let same_queue : mine ≡ queue =
+    ap (λ (u : World). registered_in (reference_at u.heap n)) is.agrees
+    ∙ seen_queue (is_waiting a) gone os n (is.cleared_stay clearing n clears) in
+    looked_agrees gone w v a c k n is clearing phase looks leads (cleared_for w k n)
+    (numbers_same w (heap.ClearNext k) (replies.Cleared n) tt)
+    (ap (λ (s : State). s.world) leads ∙ ap (pended a.world k n) same_queue
+    ∙ ap (λ (u : World). pended u k n queue)
+    (is.agrees ∙ ap (λ (ps : List Object). with_heap w (record w.heap { objects = ps })) objects)
+    ∙ pended_under gone these next k n queue)
+
+-- a worker kept n or skipped it, which the mark's end hadn't cleared
+pub passed_agrees : (gone : List ℕ) (w : World) (a c : State) (k n : ℕ) → Agreeing gone w a
+    → a.world.phase ≡ Clearing → has a.cleared n ≡ false → Looks a k n
+    → settled c ≡ settled (found_less a k) → Agreeing gone w c
+passed_agrees gone w a c k n is clearing keeps looks leads =
+    let still : (m : ℕ) → is_waiting a m ≡ is_waiting c m =
+    λ m. elim (cases_Bool (n == m)) [
+      | inl same ↦
+          let number : n ≡ m = eqb-true n m same in
+          let none : has a.cleared m ≡ false = ap (has a.cleared) (sym number) ∙ keeps in
+          let after : has c.cleared m ≡ false = ap (λ (s : State). has s.cleared m) leads ∙ none in
+          and_right (is_in a.world.phase Clearing) _ (and_right (has (joined a.found) m) _ none)
+          ∙ sym (and_right (is_in c.world.phase Clearing) _ (and_right (has (joined c.found) m) _ after))
+      | inr other ↦ others_wait gone w a.world a c k n is clearing refl looks leads m other
+    ] in
+    looked_agrees gone w a.world a c k n is clearing refl looks leads w refl
+    (ap (λ (s : State). s.world) leads ∙ is.agrees
+    ∙ ap (λ (these : ℕ → Bool). under gone these w) (λ i m. still m i))
+
+-- ---- a sweep
+
+has-taken : (i : ℕ) (ns : List ℕ) (n : ℕ) → has (take i ns) n ≡ true → has ns n ≡ true
+has-taken i ns n h =
+    subst (λ ms. has ms n ≡ true) (take-append-drop i ns) (has-left (take i ns) (drop i ns) n h)
+
+has-dropped : (i : ℕ) (ns : List ℕ) (n : ℕ) → has (drop i ns) n ≡ true → has ns n ≡ true
+has-dropped i ns n h =
+    subst (λ ms. has ms n ≡ true) (take-append-drop i ns) (has-right (take i ns) (drop i ns) n h)
+
+pub swept_agrees : (gone : List ℕ) (w : World) (a c : State) (k count : ℕ) → Agreeing gone w a
+    → a.world.phase ≡ Sweeping → settled c ≡ settled (moved a (heap.Sweep k) (replies.Swept count))
+    → Agreeing (gone ++ take 64 a.doomed) w c
+swept_agrees gone w a c k count is sweeping leads =
+    let ns : List ℕ = take 64 a.doomed in
+    let after : a.next ≡ c.next = ap (λ (s : State). s.next) (sym leads) in
+    let phase : c.world.phase ≡ Sweeping = ap (λ (s : State). s.world.phase) leads ∙ sweeping in
+    let still : is_waiting a ≡ is_waiting c =
+    none_waits a Sweeping sweeping refl ∙ sym (none_waits c Sweeping phase refl) in
+    record {
+      agrees = ap (λ (s : State). s.world) leads
+          ∙ ap (λ (v : World). with_heap v (record v.heap { objects = without ns v.heap.objects })) is.agrees
+          ∙ ap (λ (os : List Object). with_heap w (record w.heap { objects = os }))
+          (seen_swept (is_waiting a) gone ns w.heap.objects)
+          ∙ ap (λ (these : ℕ → Bool). under (gone ++ ns) these w) still;
+      rising = is.rising;
+      below = subst (λ j. AreBelow j (numbers_of w)) after is.below;
+      gone_below = subst (λ j. AreBelow j (gone ++ ns)) after
+          (λ n out. elim (has-cases gone ns n out) [
+            | inl before ↦ is.gone_below n before
+            | inr swept ↦ is.doomed_below n (has-taken 64 a.doomed n swept)
+          ]);
+      doomed_below = subst (λ j. AreBelow j c.doomed) after
+          (subst (AreBelow a.next) (ap (λ (s : State). s.doomed) (sym leads))
+          (λ n doomed. is.doomed_below n (has-dropped 64 a.doomed n doomed)));
+      cleared_below = subst (λ j. AreBelow j c.cleared) after
+          (subst (AreBelow a.next) (ap (λ (s : State). s.cleared) (sym leads)) is.cleared_below);
+      cleared_stay = λ clearing n cleared. absurd (not_in c Sweeping phase refl clearing);
+    }

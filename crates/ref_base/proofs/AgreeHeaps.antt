@@ -1,0 +1,217 @@
+-- A row of a heap keeps that the collector has the world of the replay, but for what was swept and for what waits to be
+-- cleared: a row that ends no phase, one that makes an object, and one that ends a phase in which nothing waits.
+use Rattle.std.proofs.Common.{◌≡◌, ℕ, ◌+◌, ◌<◌, ◌≤◌, Bool, true, false, ◌&&◌, ◌==◌, not, nat_lt, List, [], ◌∷◌, ◌++◌}
+use Rattle.std.proofs.Common.{take, Some, is_some, refl, sym, ap, ◌∙◌, subst, arith, inl, inr}
+use Rattle.std.proofs.lemmas.Bool.{cases_Bool, and_right, false_from_ne_true, true≢false, false≢true, eq-eqb}
+use Rattle.ref_base.specs.Members.{has}
+use Rattle.ref_base.specs.Graphs.{Object, is_there, numbers}
+use Rattle.ref_base.specs.Strengths.{IsRising}
+use Rattle.ref_base.specs.Paths.{if_any}
+use Rattle.ref_base.specs.DoomedSets.{unscanned}
+use Rattle.ref_base.specs.Worlds.{World}
+use Rattle.ref_base.specs.HeapSteps.{NamedStep}
+use Rattle.ref_base.specs.Replay.{after_heap}
+use Rattle.ref_base.specs.Collectors.{State, joined}
+use Rattle.ref_base.specs.Refusals.{is_in}
+use Rattle.ref_base.specs.CollectorRows.{with_world, without}
+use Rattle.ref_base.specs.AgreeingWorlds.{under, is_waiting, Agrees}
+use Rattle.ref_base.specs.declared.phase.Phase.{Phase}
+use Rattle.ref_base.specs.declared.phase.Phase.TheVariants.{Clearing}
+use Rattle.ref_base.specs.declared.heap_step.HeapStep.TheVariants as heap
+use Rattle.ref_base.specs.declared.reply.Reply.{Reply}
+use Rattle.ref_base.specs.declared.reply.Reply.TheVariants as replies
+use Rattle.ref_base.proofs.HasLaws.{has-cases, has-single}
+use Rattle.ref_base.proofs.HeapMoves.{settled}
+use Rattle.ref_base.proofs.ReplayUnder.{made_number, IsNoLook, IsApart, heap_through}
+use Rattle.ref_base.proofs.ReplayKeeps.{numbers_of, numbers_same, numbers_after, same_phase, EndsNoPhase, MakesNone}
+use Rattle.ref_base.proofs.SeenObjects.{object_at-without, object_at-gone}
+
+abbrev pub AreBelow : ℕ → List ℕ → Type 0
+AreBelow next ns = (n : ℕ) → has ns n ≡ true → n < next
+
+-- The collector has the replay's world, but for what is gone and what waits; the replay's objects stand in order of
+-- number; each number that is there, gone, doomed or cleared is below the next; and while references are cleared, those
+-- that the mark's end cleared aren't gone.
+pub record Agreeing (gone : List ℕ) (w : World) (a : State) : Type 0 where
+  pub agrees : Agrees gone w a
+  pub rising : IsRising (numbers_of w)
+  pub below : AreBelow a.next (numbers_of w)
+  pub gone_below : AreBelow a.next gone
+  pub doomed_below : AreBelow a.next a.doomed
+  pub cleared_below : AreBelow a.next a.cleared
+  pub cleared_stay : a.world.phase ≡ Clearing → (n : ℕ) → has a.cleared n ≡ true → has gone n ≡ false
+
+-- what is gone after a row of a heap
+abbrev pub gone_after : State → List ℕ → NamedStep → Reply → List ℕ
+gone_after a gone (heap.Sweep k) (replies.Swept count) = gone ++ take 64 a.doomed
+gone_after a gone step reply = gone
+
+-- ---- numbers
+
+pub rising_last : (ns : List ℕ) (n : ℕ) → IsRising ns → AreBelow n ns → IsRising (ns ++ n ∷ [])
+rising_last [] n rising below = tt
+rising_last (m ∷ []) n rising below = let own : (m == m) ≡ true = eq-eqb m m refl in (below m (simp own refl), tt)
+rising_last (m ∷ k ∷ ns) n rising below = (
+  rising.0,
+  rising_last (k ∷ ns) n rising.1
+      (λ i there. below i (elim (cases_Bool (m == i)) [ inl same ↦ simp same refl | inr other ↦ simp other there ])),
+)
+
+below_more : (next more : ℕ) (ns : List ℕ) → next ≤ more → AreBelow next ns → AreBelow more ns
+below_more next more ns grows below n there = let old = below n there in omega (arith, old, grows)
+
+below_last : (next : ℕ) (ns : List ℕ) → AreBelow next ns → AreBelow (next + 1) (ns ++ next ∷ [])
+below_last next ns below n there =
+    elim (has-cases ns (next ∷ []) n there) [
+      | inl old ↦ let small = below n old in omega (arith, small)
+      | inr new ↦ let same = has-single next n new in omega (arith, same)
+    ]
+
+-- a number that isn't below isn't there
+pub fresh : (next : ℕ) (ns : List ℕ) → AreBelow next ns → has ns next ≡ false
+fresh next ns below =
+    false_from_ne_true (has ns next) (λ there. let less = below next there in absurd (omega (arith, less)))
+
+pub there-numbers : (os : List Object) (n : ℕ) → is_there os n ≡ true → has (numbers os) n ≡ true
+there-numbers [] n there = absurd (false≢true there)
+there-numbers (o ∷ os) n there =
+    elim (cases_Bool (o.no == n)) [
+      | inl same ↦ simp same refl
+      | inr other ↦ simp other (there-numbers os n (simp other at there))
+    ]
+
+pub unscanned-there : (os : List Object) (born : ℕ) (scanned : List ℕ) (n : ℕ)
+    → has (unscanned os born scanned) n ≡ true → is_there os n ≡ true
+unscanned-there [] born scanned n h = absurd (false≢true h)
+unscanned-there (o ∷ os) born scanned n h =
+    elim (cases_Bool (o.no == n)) [
+      | inl same ↦ simp same refl
+      | inr other ↦
+          elim (cases_Bool (nat_lt o.no born && not (has scanned o.no))) [
+            | inl left ↦
+                let later : has (unscanned os born scanned) n ≡ true = simp (left, other) at h in
+                simp other (unscanned-there os born scanned n later)
+            | inr scans ↦
+                let later : has (unscanned os born scanned) n ≡ true = simp scans at h in
+                simp other (unscanned-there os born scanned n later)
+          ]
+    ]
+
+-- what is there still isn't gone
+pub there-without : (gone : List ℕ) (os : List Object) (n : ℕ) → is_there (without gone os) n ≡ true
+    → (has gone n ≡ false) × (is_there os n ≡ true)
+there-without gone os n there =
+    elim (cases_Bool (has gone n)) [
+      | inl out ↦ absurd (false≢true (ap is_some (sym (object_at-gone gone os n out)) ∙ there))
+      | inr kept ↦ (kept, ap is_some (sym (object_at-without gone os n kept)) ∙ there)
+    ]
+
+-- ---- what waits
+
+-- nothing waits in another phase
+pub none_waits : (a : State) (phase : Phase) → a.world.phase ≡ phase → is_in phase Clearing ≡ false
+    → is_waiting a ≡ (λ n. false)
+none_waits a phase is other =
+    ap {B = ℕ → Bool} (λ b n. b && (has (joined a.found) n && has a.cleared n))
+    (ap (λ (p : Phase). is_in p Clearing) is ∙ other)
+
+pub same_waits : (a : State) (w : World) → w.phase ≡ a.world.phase → is_waiting (with_world a w) ≡ is_waiting a
+same_waits a w same =
+    ap {B = ℕ → Bool} (λ p n. is_in p Clearing && (has (joined a.found) n && has a.cleared n)) same
+
+pub not_in : (a : State) (phase : Phase) → a.world.phase ≡ phase → is_in phase Clearing ≡ false
+    → a.world.phase ≡ Clearing → ⊥
+not_in a phase is other clearing =
+    true≢false (sym (ap (λ (p : Phase). is_in p Clearing) clearing)
+    ∙ ap (λ (p : Phase). is_in p Clearing) is ∙ other)
+
+module _ (gone : List ℕ) (w : World) (a c : State) (reply : Reply) (is : Agreeing gone w a) where
+  -- the worlds agree after a row that is none of a worker's looks, where what waits is the same
+  lands : (step : NamedStep) → IsNoLook gone (is_waiting a) step
+      → IsApart gone (is_waiting a) (made_number step reply) → c.world ≡ after_heap a.world step reply
+      → is_waiting c ≡ is_waiting a → Agrees gone (after_heap w step reply) c
+  lands step plain apart leads same =
+      leads ∙ ap (λ (v : World). after_heap v step reply) is.agrees
+      ∙ heap_through gone (is_waiting a) w step reply plain apart
+      ∙ ap (λ (these : ℕ → Bool). under gone these (after_heap w step reply)) (sym same)
+
+  -- a row that ends no phase and makes nothing
+  pub still : (step : NamedStep) → IsNoLook gone (is_waiting a) step → EndsNoPhase step → MakesNone step
+      → IsApart gone (is_waiting a) (made_number step reply)
+      → settled c ≡ settled (with_world a (after_heap a.world step reply))
+      → Agreeing gone (after_heap w step reply) c
+  still step plain ends makes apart leads =
+      let next : a.next ≡ c.next = ap (λ (s : State). s.next) (sym leads) in
+      let phase : c.world.phase ≡ a.world.phase =
+      ap (λ (s : State). s.world.phase) leads ∙ same_phase a.world step reply ends in
+      let old : numbers_of w ≡ numbers_of (after_heap w step reply) = sym (numbers_same w step reply makes) in
+      record {
+        agrees = lands step plain apart (ap (λ (s : State). s.world) leads)
+            (ap (λ (s : State). is_waiting s) leads ∙ same_waits a (after_heap a.world step reply)
+            (same_phase a.world step reply ends));
+        rising = subst IsRising old is.rising;
+        below = subst (λ k. AreBelow k (numbers_of (after_heap w step reply))) next
+            (subst (AreBelow a.next) old is.below);
+        gone_below = subst (λ k. AreBelow k gone) next is.gone_below;
+        doomed_below = subst (λ k. AreBelow k c.doomed) next
+            (subst (AreBelow a.next) (ap (λ (s : State). s.doomed) (sym leads)) is.doomed_below);
+        cleared_below = subst (λ k. AreBelow k c.cleared) next
+            (subst (AreBelow a.next) (ap (λ (s : State). s.cleared) (sym leads)) is.cleared_below);
+        cleared_stay = λ clearing n cleared.
+            is.cleared_stay (sym phase ∙ clearing) n
+            (ap (λ (s : State). has s.cleared n) (sym leads) ∙ cleared);
+      }
+
+  -- a row that makes an object
+  pub makes : (step : NamedStep) → IsNoLook gone (is_waiting a) step → EndsNoPhase step
+      → made_number step reply ≡ Some a.next
+      → settled c ≡ settled (record a { world = after_heap a.world step reply; next = a.next + 1 })
+      → Agreeing gone (after_heap w step reply) c
+  makes step plain ends number leads =
+      let next : a.next + 1 ≡ c.next = ap (λ (s : State). s.next) (sym leads) in
+      let grows : a.next ≤ c.next = omega (arith, next) in
+      let phase : c.world.phase ≡ a.world.phase =
+      ap (λ (s : State). s.world.phase) leads ∙ same_phase a.world step reply ends in
+      let apart : IsApart gone (is_waiting a) (Some a.next) = (
+        fresh a.next gone is.gone_below,
+        and_right (is_in a.world.phase Clearing) _
+            (and_right (has (joined a.found) a.next) _ (fresh a.next a.cleared is.cleared_below)),
+      ) in
+      let more : numbers_of w ++ a.next ∷ [] ≡ numbers_of (after_heap w step reply) =
+      sym (numbers_after w step reply ∙ ap (λ o. numbers_of w ++ if_any o) number) in
+      record {
+        agrees = lands step plain (subst (IsApart gone (is_waiting a)) (sym number) apart)
+            (ap (λ (s : State). s.world) leads)
+            (ap (λ (s : State). is_waiting s) leads ∙ same_waits a (after_heap a.world step reply)
+            (same_phase a.world step reply ends));
+        rising = subst IsRising more (rising_last (numbers_of w) a.next is.rising is.below);
+        below = subst (λ k. AreBelow k (numbers_of (after_heap w step reply))) next
+            (subst (AreBelow (a.next + 1)) more (below_last a.next (numbers_of w) is.below));
+        gone_below = below_more a.next c.next gone grows is.gone_below;
+        doomed_below = below_more a.next c.next c.doomed grows
+            (subst (AreBelow a.next) (ap (λ (s : State). s.doomed) (sym leads)) is.doomed_below);
+        cleared_below = below_more a.next c.next c.cleared grows
+            (subst (AreBelow a.next) (ap (λ (s : State). s.cleared) (sym leads)) is.cleared_below);
+        cleared_stay = λ clearing n cleared.
+            is.cleared_stay (sym phase ∙ clearing) n
+            (ap (λ (s : State). has s.cleared n) (sym leads) ∙ cleared);
+      }
+
+  -- a row that ends a phase in which nothing waits, into another
+  pub ends : (step : NamedStep) (phase : Phase) → IsNoLook gone (is_waiting a) step → MakesNone step
+      → IsApart gone (is_waiting a) (made_number step reply) → is_waiting a ≡ (λ n. false)
+      → c.world ≡ after_heap a.world step reply → c.world.phase ≡ phase → is_in phase Clearing ≡ false
+      → c.next ≡ a.next → AreBelow a.next c.doomed → AreBelow a.next c.cleared
+      → Agreeing gone (after_heap w step reply) c
+  ends step phase plain makes apart none leads into other next doomed clears =
+      let old : numbers_of w ≡ numbers_of (after_heap w step reply) = sym (numbers_same w step reply makes) in
+      record {
+        agrees = lands step plain apart leads (none_waits c phase into other ∙ sym none);
+        rising = subst IsRising old is.rising;
+        below = subst (λ k. AreBelow k (numbers_of (after_heap w step reply))) (sym next)
+            (subst (AreBelow a.next) old is.below);
+        gone_below = subst (λ k. AreBelow k gone) (sym next) is.gone_below;
+        doomed_below = subst (λ k. AreBelow k c.doomed) (sym next) doomed;
+        cleared_below = subst (λ k. AreBelow k c.cleared) (sym next) clears;
+        cleared_stay = λ clearing n cleared. absurd (not_in c phase into other clearing);
+      }

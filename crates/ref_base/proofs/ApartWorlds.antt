@@ -1,0 +1,249 @@
+-- What no root names and nothing else refers to: changes of a world keep it so.
+use Rattle.std.proofs.Common.{◌≡◌, ℕ, zero, suc, ◌+◌, ◌*◌, true, ◌==◌, ◌||◌, List, [], ◌∷◌, ◌++◌, map}
+use Rattle.std.proofs.Common.{Option, Some, None, refl, sym, ◌∙◌, subst, inl, inr, ◌⊎◌}
+use Rattle.std.specs.Prelude.{slice_index_or, slice_set, replicate}
+use Rattle.std.specs.List.{AllByRecursion}
+use Rattle.std.proofs.lemmas.Bool.{cases_Bool, or_cases, eqb-true, false≢true, or_right}
+use Rattle.ref_base.specs.Members.{has}
+use Rattle.ref_base.specs.Graphs.{Object, Reference, object_at, is_there}
+use Rattle.ref_base.specs.Paths.{any_referent, present, allowed_referent, targets_of, targets_at, is_soft}
+use Rattle.ref_base.specs.Heaps.{with_slot, with_hold, without_hold, one_fewer, changed_in}
+use Rattle.ref_base.specs.Heaps.{changed_at, with_field, with_reference, cleared, got_at, changed_reference}
+use Rattle.ref_base.specs.Worlds.{World, Pending, pending_of, pending_numbers, graph_of, with_heap, with_pending}
+use Rattle.ref_base.specs.CollectorRows.{without}
+use Rattle.ref_base.proofs.HasLaws.{has-cases, has-left, has-right}
+use Rattle.ref_base.proofs.Lookups.{lookup-changed, object_at-push, object_at-pushed, has-present_set}
+use Rattle.ref_base.proofs.OneMore.{has-one_more}
+use Rattle.ref_base.proofs.Places.{set_all}
+use Rattle.ref_base.proofs.SeenObjects.{object_at-without, object_at-gone}
+
+-- it holds of what a slot holds, if anything
+abbrev pub OfValue : (ℕ → Type 0) → Option ℕ → Type 0
+OfValue V None = Unit {0}
+OfValue V (Some n) = V n
+
+-- V holds of whatever a root names, and of whatever an object that it holds of refers to
+pub record IsClosed (V : ℕ → Type 0) (w : World) : Type 0 where
+  pub slots : (i : ℕ) → OfValue V (slice_index_or w.heap.slots i None)
+  pub holds : (n : ℕ) → has w.heap.holds n ≡ true → V n
+  pub pendings : (k : ℕ) → AllByRecursion (λ p. V p.object) (pending_of w k)
+  pub targets : (m n : ℕ) → V m → has (targets_at any_referent w.heap.objects m) n ≡ true → V n
+
+-- at first no slot holds anything
+pub no_slot : (V : ℕ → Type 0) (count i : ℕ) → OfValue V (slice_index_or (replicate count None) i None)
+no_slot V zero i = tt
+no_slot V (suc count) zero = tt
+no_slot V (suc count) (suc i) = no_slot V count i
+
+-- what an object refers to after a change, it referred to, or V holds of it
+abbrev pub Refers : (ℕ → Type 0) → Option Object → Option Object → Type 0
+Refers V o next =
+    (n : ℕ) → has (targets_of any_referent next) n ≡ true → (has (targets_of any_referent o) n ≡ true) ⊎ V n
+
+module _ (V : ℕ → Type 0) where
+  -- ---- slots, holds and pending references
+
+  pub closed_slot : (w : World) (m d : ℕ) (value : Option ℕ) → OfValue V value → IsClosed V w
+      → IsClosed V (with_heap w (with_slot w.heap m d value))
+  closed_slot w m d value is closed = record {
+    slots = set_all (OfValue V) w.heap.slots (16 * m + d) value None is closed.slots;
+    holds = closed.holds;
+    pendings = closed.pendings;
+    targets = closed.targets;
+  }
+
+  pub closed_hold : (w : World) (n : ℕ) → V n → IsClosed V w → IsClosed V (with_heap w (with_hold w.heap n))
+  closed_hold w n is closed = record {
+    slots = closed.slots;
+    holds = λ m held.
+        elim (or_cases (n == m) (has w.heap.holds m) (sym (has-one_more w.heap.holds n m) ∙ held)) [
+          | inl same ↦ subst V (eqb-true n m same) is
+          | inr before ↦ closed.holds m before
+        ];
+    pendings = closed.pendings;
+    targets = closed.targets;
+  }
+
+  has-fewer : (ns : List ℕ) (n m : ℕ) → has (one_fewer ns n) m ≡ true → has ns m ≡ true
+  has-fewer [] n m held = held
+  has-fewer (i ∷ is) n m held =
+      elim (cases_Bool (i == n)) [
+        | inl same ↦ or_right (i == m) (has is m) (simp same at held)
+        | inr other ↦
+            let kept : ((i == m) || has (one_fewer is n) m) ≡ true = simp other at held in
+            elim (or_cases (i == m) (has (one_fewer is n) m) kept) [
+              | inl here ↦ simp here refl
+              | inr later ↦ or_right (i == m) (has is m) (has-fewer is n m later)
+            ]
+      ]
+
+  pub closed_fewer : (w : World) (n : ℕ) → IsClosed V w → IsClosed V (with_heap w (without_hold w.heap n))
+  closed_fewer w n closed = record {
+    slots = closed.slots;
+    holds = λ m held. closed.holds m (has-fewer w.heap.holds n m held);
+    pendings = closed.pendings;
+    targets = closed.targets;
+  }
+
+  pub closed_pending : (w : World) (k : ℕ) (ps : List Pending) → AllByRecursion (λ p. V p.object) ps → IsClosed V w
+      → IsClosed V (with_pending w k ps)
+  closed_pending w k ps all closed = record {
+    slots = closed.slots;
+    holds = closed.holds;
+    pendings = set_all (AllByRecursion (λ p. V p.object)) w.pending k ps [] all closed.pendings;
+    targets = closed.targets;
+  }
+
+  -- ---- objects
+
+  -- other objects, of which each that V holds of refers to no more
+  pub closed_objects : (w : World) (os : List Object)
+      → ((m : ℕ) → V m → Refers V (object_at w.heap.objects m) (object_at os m)) → IsClosed V w
+      → IsClosed V (with_heap w (record w.heap { objects = os }))
+  closed_objects w os fewer closed = record {
+    slots = closed.slots;
+    holds = closed.holds;
+    pendings = closed.pendings;
+    targets = λ m n is target.
+        elim (fewer m is n target) [
+          | inl before ↦ closed.targets m n is before
+          | inr new ↦ new
+        ];
+  }
+
+  pub closed_changed : (w : World) (held : Option ℕ) (f : Object → Object) → ((o : Object) → (f o).no ≡ o.no)
+      → ((o : Object) → Refers V (Some o) (Some (f o))) → IsClosed V w
+      → IsClosed V (with_heap w (changed_in w.heap held f))
+  closed_changed w None f keeps refers closed = closed
+  closed_changed w (Some n) f keeps refers closed =
+      closed_objects w (changed_at w.heap.objects n f)
+      (λ m is. lookup-changed (Refers V) w.heap.objects n f keeps (λ o i target. inl target) (λ o at. refers o) m)
+      closed
+
+  refers_field : (i : ℕ) (value : Option ℕ) (o : Object) → OfValue V value
+      → Refers V (Some o) (Some (with_field i value o))
+  refers_field i value o is n target =
+      elim (has-cases (present (slice_set o.fields i value)) (allowed_referent any_referent o.reference) n target) [
+        | inl field ↦
+            elim (has-present_set o.fields i value n field) [
+              | inl before ↦ inl (has-left (present o.fields) (allowed_referent any_referent o.reference) n before)
+              | inr new ↦ inr (subst (OfValue V) new is)
+            ]
+        | inr referent ↦ inl (has-right (present o.fields) (allowed_referent any_referent o.reference) n referent)
+      ]
+
+  -- a change of what an object is as a reference leaves its fields
+  refers_reference : (f : Reference → Reference) (o : Object)
+      → ((n : ℕ) → has (allowed_referent any_referent (changed_reference f o.reference)) n ≡ true
+      → has (allowed_referent any_referent o.reference) n ≡ true)
+      → Refers V (Some o) (Some (with_reference f o))
+  refers_reference f o fewer n target =
+      elim (has-cases (present o.fields) (allowed_referent any_referent (changed_reference f o.reference)) n target) [
+        | inl field ↦ inl (has-left (present o.fields) (allowed_referent any_referent o.reference) n field)
+        | inr referent ↦
+            inl (has-right (present o.fields) (allowed_referent any_referent o.reference) n (fewer n referent))
+      ]
+
+  clears_referent : (r : Option Reference) (n : ℕ)
+      → has (allowed_referent any_referent (changed_reference cleared r)) n ≡ true
+      → has (allowed_referent any_referent r) n ≡ true
+  clears_referent None n h = h
+  clears_referent (Some r) n h = absurd (false≢true h)
+
+  pub refers_cleared : (o : Object) → Refers V (Some o) (Some (with_reference cleared o))
+  refers_cleared o = refers_reference cleared o (clears_referent o.reference)
+
+  got_referent : (clock : ℕ) (r : Option Reference) (n : ℕ)
+      → has (allowed_referent any_referent (changed_reference (got_at clock) r)) n ≡ true
+      → has (allowed_referent any_referent r) n ≡ true
+  got_referent clock None n h = h
+  got_referent clock (Some r) n h =
+      elim (cases_Bool (is_soft r.strength)) [ inl soft ↦ simp soft at h | inr other ↦ simp other at h ]
+
+  pub closed_stored : (w : World) (held : Option ℕ) (i : ℕ) (value : Option ℕ) → OfValue V value → IsClosed V w
+      → IsClosed V (with_heap w (changed_in w.heap held (with_field i value)))
+  closed_stored w held i value is closed =
+      closed_changed w held (with_field i value) (λ o. refl) (λ o. refers_field i value o is) closed
+
+  pub closed_cut : (w : World) (held : Option ℕ) → IsClosed V w
+      → IsClosed V (with_heap w (changed_in w.heap held (with_reference cleared)))
+  closed_cut w held closed = closed_changed w held (with_reference cleared) (λ o. refl) refers_cleared closed
+
+  pub closed_got : (w : World) (held : Option ℕ) (clock : ℕ) → IsClosed V w
+      → IsClosed V (with_heap w (changed_in w.heap held (with_reference (got_at clock))))
+  closed_got w held clock closed =
+      closed_changed w held (with_reference (got_at clock)) (λ o. refl)
+      (λ o. refers_reference (got_at clock) o (got_referent clock o.reference)) closed
+
+  -- one object more, which refers to what V holds of
+  pub closed_push : (w : World) (o : Object)
+      → ((n : ℕ) → has (targets_of any_referent (Some o)) n ≡ true → V n) → IsClosed V w
+      → IsClosed V (with_heap w (record w.heap { objects = w.heap.objects ++ o ∷ [] }))
+  closed_push w o fresh closed =
+      let os : List Object = w.heap.objects in
+      closed_objects w (os ++ o ∷ [])
+      (λ m is. elim (cases_Bool (is_there os m)) [
+        | inl there ↦
+            subst (Refers V (object_at os m)) (sym (object_at-push os o m there)) (λ n target. inl target)
+        | inr absent ↦
+            subst (Refers V (object_at os m)) (sym (object_at-pushed os o m absent))
+            (elim (cases_Bool (o.no == m)) [
+              | inl own ↦ simp own (λ n target. inr (fresh n target))
+              | inr other ↦ simp other (λ n target. absurd (false≢true target))
+            ])
+      ]) closed
+
+  pub closed_swept : (w : World) (ns : List ℕ) → IsClosed V w
+      → IsClosed V (with_heap w (record w.heap { objects = without ns w.heap.objects }))
+  closed_swept w ns closed =
+      let os : List Object = w.heap.objects in
+      closed_objects w (without ns os)
+      (λ m is. elim (cases_Bool (has ns m)) [
+        | inl out ↦
+            subst (Refers V (object_at os m)) (sym (object_at-gone ns os m out))
+            (λ n target. absurd (false≢true target))
+        | inr kept ↦
+            subst (Refers V (object_at os m)) (sym (object_at-without ns os m kept)) (λ n target. inl target)
+      ]) closed
+
+  -- ---- roots
+
+  present_of : (vs : List (Option ℕ)) (n : ℕ) → ((i : ℕ) → OfValue V (slice_index_or vs i None))
+      → has (present vs) n ≡ true → V n
+  present_of [] n all h = absurd (false≢true h)
+  present_of (None ∷ vs) n all h = present_of vs n (λ i. all (suc i)) h
+  present_of (Some m ∷ vs) n all h =
+      elim (or_cases (m == n) (has (present vs) n) h) [
+        | inl same ↦ subst V (eqb-true m n same) (all 0)
+        | inr later ↦ present_of vs n (λ i. all (suc i)) later
+      ]
+
+  objects_of : (ps : List Pending) (n : ℕ) → AllByRecursion (λ p. V p.object) ps
+      → has (map (λ p. p.object) ps) n ≡ true → V n
+  objects_of [] n all h = absurd (false≢true h)
+  objects_of (p ∷ ps) n all h =
+      elim (or_cases (p.object == n) (has (map (λ p. p.object) ps) n) h) [
+        | inl same ↦ subst V (eqb-true p.object n same) all.0
+        | inr later ↦ objects_of ps n all.1 later
+      ]
+
+  pending_all : (lists : List (List Pending)) (n : ℕ)
+      → ((k : ℕ) → AllByRecursion (λ p. V p.object) (slice_index_or lists k []))
+      → has (pending_numbers lists) n ≡ true → V n
+  pending_all [] n all h = absurd (false≢true h)
+  pending_all (ps ∷ lists) n all h =
+      elim (has-cases (map (λ p. p.object) ps) (pending_numbers lists) n h) [
+        | inl here ↦ objects_of ps n (all 0) here
+        | inr later ↦ pending_all lists n (λ k. all (suc k)) later
+      ]
+
+  -- V holds of each root
+  pub closed_roots : (w : World) (n : ℕ) → IsClosed V w → has (graph_of w).roots n ≡ true → V n
+  closed_roots w n closed root =
+      elim (has-cases (present w.heap.slots ++ w.heap.holds) (pending_numbers w.pending) n root) [
+        | inl first ↦ elim (has-cases (present w.heap.slots) w.heap.holds n first) [
+          | inl slot ↦ present_of w.heap.slots n closed.slots slot
+          | inr held ↦ closed.holds n held
+        ]
+        | inr pending ↦ pending_all w.pending n closed.pendings pending
+      ]

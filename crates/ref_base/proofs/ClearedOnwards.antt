@@ -1,0 +1,225 @@
+-- What a mark's end clears reads as cleared from then on, in every state after it.
+use Rattle.std.proofs.Common.{◌≡◌, ℕ, ◌<◌, true, false, ◌==◌, List, [], ◌∷◌, ◌++◌, map, Option, Some, None}
+use Rattle.std.proofs.Common.{inl, inr, refl, sym, ap, ◌∙◌, subst, arith}
+use Rattle.std.specs.List.{AllByRecursion}
+use Rattle.std.proofs.lemmas.Bool.{cases_Bool, or_cases, and_parts, eqb-true, eq-eqb, both_ways, true≢false}
+use Rattle.ref_base.specs.Members.{has}
+use Rattle.ref_base.specs.Graphs.{Object, Reference, object_at, is_there, numbers}
+use Rattle.ref_base.specs.Strengths.{IsRising}
+use Rattle.ref_base.specs.Paths.{is_soft, is_phantom}
+use Rattle.ref_base.specs.DoomedSets.{is_new_clear, new_clears}
+use Rattle.ref_base.specs.Heaps.{slot_at, reference_in, reference_at, changed_reference, cleared, got_at}
+use Rattle.ref_base.specs.Worlds.{World, Notice, Pending, hand_of, queue_at, pending_of}
+use Rattle.ref_base.specs.Collectors.{State, first_state}
+use Rattle.ref_base.specs.Refusals.{refusal}
+use Rattle.ref_base.specs.CollectorRows.{IsAnswer, IsRow, IsRun, doomed_at, shown, referent_of, Gets, referent_got}
+use Rattle.ref_base.specs.CollectorRows.{reference_of}
+use Rattle.ref_base.specs.declared.actor.Actor.TheVariants.{Mutator, Worker}
+use Rattle.ref_base.specs.declared.config.Config.{Config}
+use Rattle.ref_base.specs.declared.fault.Fault.{Fault}
+use Rattle.ref_base.specs.declared.step.Step.{Step}
+use Rattle.ref_base.specs.declared.step.Step.TheVariants as steps
+use Rattle.ref_base.specs.declared.reply.Reply.{Reply}
+use Rattle.ref_base.specs.declared.reply.Reply.TheVariants as replies
+use Rattle.ref_base.specs.declared.row.Row.{Row}
+use Rattle.ref_base.proofs.CarryLaws.{OfHand, Carries, Lasts, notice_from}
+use Rattle.ref_base.proofs.CarryRows.{Mints, row_carries}
+use Rattle.ref_base.proofs.CountedTraces.{legal_counted}
+use Rattle.ref_base.proofs.NewClears.{IsRising-tail, is_there-rising, has-new_clears}
+use Rattle.ref_base.proofs.OldNames.{legal_numbers}
+use Rattle.ref_base.proofs.OneQueue.{next_grows}
+use Rattle.ref_base.proofs.RowKinds.{row_kind}
+use Rattle.ref_base.proofs.RunFronts.{goes_on}
+use Rattle.ref_base.proofs.RunLaws.{run_more}
+use Rattle.ref_base.proofs.ShownObjects.{shown-no}
+
+-- ---- a reference that has no referent
+
+-- the object, where it has this number, has no referent
+abbrev IsCleared : ℕ → Object → Type 0
+IsCleared n o = o.no ≡ n → referent_of o.reference ≡ None
+
+cut_has_none : (r : Option Reference) → referent_of (changed_reference cleared r) ≡ None
+cut_has_none None = refl
+cut_has_none (Some r) = refl
+
+got_has_same : (clock : ℕ) (r : Option Reference) → referent_of (changed_reference (got_at clock) r) ≡ referent_of r
+got_has_same clock None = refl
+got_has_same clock (Some r) =
+    elim (cases_Bool (is_soft r.strength)) [ inl soft ↦ simp soft refl | inr other ↦ simp other refl ]
+
+cleared_lasts : (n : ℕ) → Lasts (IsCleared n)
+cleared_lasts n = record {
+  stores = λ o i value is. is;
+  clears = λ o is same. cut_has_none o.reference;
+  gets = λ o clock is same. got_has_same clock o.reference ∙ is same;
+}
+
+cleared_at : (os : List Object) (n : ℕ) → AllByRecursion (IsCleared n) os
+    → referent_of (reference_in (object_at os n)) ≡ None
+cleared_at [] n all = refl
+cleared_at (o ∷ os) n all =
+    elim (cases_Bool (o.no == n)) [
+      | inl same ↦ simp same (all.0 (eqb-true o.no n same))
+      | inr other ↦ simp other (cleared_at os n all.1)
+    ]
+
+-- ---- at the mark's end
+
+new_clear_there : (os : List Object) (d : List ℕ) (n : ℕ) → IsRising (numbers os) → has (new_clears os d) n ≡ true
+    → is_there os n ≡ true
+new_clear_there os d n rising new = (and_parts (is_there os n) _ (sym (has-new_clears os d n rising) ∙ new)).0
+
+-- objects of other numbers are none of it
+others_shown : (os : List Object) (d : List ℕ) (n : ℕ) → is_there os n ≡ false
+    → AllByRecursion (IsCleared n) (map (λ o. shown d o) os)
+others_shown [] d n absent = tt
+others_shown (o ∷ os) d n absent =
+    elim (cases_Bool (o.no == n)) [
+      | inl same ↦ absurd (true≢false (simp same at absent))
+      | inr other ↦ (
+        λ same. absurd (both_ways (o.no == n) other (eq-eqb o.no n (sym (shown-no d o) ∙ same))),
+        others_shown os d n (simp other at absent),
+      )
+    ]
+
+new_clear_shown : (d : List ℕ) (o : Object) → is_new_clear d o ≡ true → referent_of (shown d o).reference ≡ None
+new_clear_shown d o new = simp new (cut_has_none o.reference)
+
+all_shown : (os : List Object) (d : List ℕ) (n : ℕ) → IsRising (numbers os) → has (new_clears os d) n ≡ true
+    → AllByRecursion (IsCleared n) (map (λ o. shown d o) os)
+all_shown [] d n rising within = tt
+all_shown (o ∷ os) d n rising within =
+    let behind : IsRising (numbers os) = IsRising-tail o.no (numbers os) rising in
+    elim (cases_Bool (is_new_clear d o)) [
+      | inl new ↦
+          let either : has (o.no ∷ new_clears os d) n ≡ true = simp new at within in
+          elim (or_cases (o.no == n) (has (new_clears os d) n) either) [
+            | inl first ↦
+                let same : o.no ≡ n = eqb-true o.no n first in (
+                  λ _. new_clear_shown d o new,
+                  others_shown os d n (is_there-rising os n o.no (omega (arith, same)) rising),
+                )
+            | inr later ↦ (λ _. new_clear_shown d o new, all_shown os d n behind later)
+          ]
+      | inr old ↦
+          let later : has (new_clears os d) n ≡ true = simp old at within in (
+            λ is.
+                let same : o.no ≡ n = sym (shown-no d o) ∙ is in
+                absurd
+                (both_ways (is_there os n) (is_there-rising os n o.no (omega (arith, same)) rising)
+                (new_clear_there os d n behind later)),
+            all_shown os d n behind later,
+          )
+    ]
+
+ended_objects : (a b : State) (count : ℕ) (fault : Option Fault)
+    → IsAnswer a fault steps.EndMark (replies.Doomed count) b
+    → b.world.heap.objects ≡ map (λ o. shown (doomed_at a) o) a.world.heap.objects
+ended_objects a b count (Some fault) row = let no = row.0 in absurd cc
+ended_objects a b count None row =
+    ap (λ (s : State). s.world.heap.objects) row.2 ∙ ap (λ (s : State). s.world.heap.objects) row.1.after
+
+-- ---- from then on
+
+abbrev Anything : Notice → Type 0
+Anything notice = Unit {0}
+
+abbrev AnyCycle : ℕ → Type 0
+AnyCycle cycle = Unit {0}
+
+all_anything : (k : ℕ) (ps : List Pending) → AllByRecursion (λ p. Anything (notice_from k p)) ps
+all_anything k [] = tt
+all_anything k (p ∷ ps) = (tt, all_anything k ps)
+
+each_anything : (notices : List Notice) → AllByRecursion Anything notices
+each_anything [] = tt
+each_anything (notice ∷ rest) = (tt, each_anything rest)
+
+hand_anything : (hand : Option Notice) → OfHand Anything hand
+hand_anything None = tt
+hand_anything (Some notice) = tt
+
+carries_objects_alone : (O : Object → Type 0) (w : World) → AllByRecursion O w.heap.objects
+    → Carries O Anything AnyCycle w
+carries_objects_alone O w all = record {
+  objects = all;
+  pendings = λ k. all_anything k (pending_of w k);
+  of_mutators = λ m. hand_anything (hand_of w (Mutator m));
+  of_workers = λ k. hand_anything (hand_of w (Worker k));
+  stands = λ q. each_anything (queue_at w q).stands;
+  goes_on = tt;
+}
+
+-- what is made anew has another number
+makes_another : (n : ℕ) (a : State) (step : Step) (reply : Reply) → n < a.next
+    → Mints (IsCleared n) Anything AnyCycle a step reply
+makes_another n a (steps.New m d k) reply under = λ is same. refl
+makes_another n a (steps.Refer m strength d s q k) reply under = λ is same. absurd (omega (arith, same, under))
+makes_another n a (steps.Unhook m s) reply under = λ o q is there. tt
+makes_another n a (steps.Begin now how) reply under = λ is. tt
+makes_another n a (steps.ClearNext k) reply under = λ o q is there. tt
+makes_another n a step reply under = tt
+
+row_cleared : (config : Config) (n : ℕ) (past : List Row) (a : State) (row : Row) (b : State)
+    → IsRun (first_state config) past a → (n < a.next) × AllByRecursion (IsCleared n) a.world.heap.objects
+    → IsRow a row b → (n < b.next) × AllByRecursion (IsCleared n) b.world.heap.objects
+row_cleared config n past a row b run is h =
+    let under = is.0 in
+    let grows = next_grows a row b (row_kind a row b (legal_counted config past a run) h) in
+    let carries = row_carries (IsCleared n) Anything AnyCycle (cleared_lasts n) a row b
+    (makes_another n a row.step row.reply under) (carries_objects_alone (IsCleared n) a.world is.1) h in
+    (omega (arith, under, grows), carries.objects)
+
+-- what a mark's end clears reads as cleared from then on
+pub stays_cleared : (config : Config) (front : List Row) (a b : State) (count : ℕ) (rows : List Row) (c : State) (n : ℕ)
+    → IsRun (first_state config) front a
+    → IsRow a (record { step = steps.EndMark; reply = replies.Doomed count }) b → IsRun b rows c
+    → has (new_clears a.world.heap.objects (doomed_at a)) n ≡ true
+    → referent_of (reference_at c.world.heap n) ≡ None
+stays_cleared config front a b count rows c n first ends later new =
+    let d : List ℕ = doomed_at a in
+    let row : Row = record { step = steps.EndMark; reply = replies.Doomed count } in
+    let old = legal_numbers config front a first in
+    let under = old.objects n (new_clear_there a.world.heap.objects d n old.rising new) in
+    let grows = next_grows a row b (row_kind a row b (legal_counted config front a first) ends) in
+    let all : AllByRecursion (IsCleared n) b.world.heap.objects =
+    rw (ended_objects a b count (refusal a steps.EndMark) ends)
+    (all_shown a.world.heap.objects d n old.rising new) in
+    cleared_at c.world.heap.objects n
+    (goes_on config (λ past s. (n < s.next) × AllByRecursion (IsCleared n) s.world.heap.objects) (row_cleared config n)
+    (front ++ row ∷ []) b rows c (run_more (first_state config) front a b row first ends)
+    (omega (arith, under, grows), all) later).1
+
+-- ---- gets
+
+got_of : (r : Option Reference) → referent_of r ≡ None → referent_got r ≡ None
+got_of None none = refl
+got_of (Some r) none =
+    elim (cases_Bool (is_phantom r.strength)) [
+      | inl phantom ↦ simp phantom refl
+      | inr other ↦ simp other none
+    ]
+
+get_none : (c e : State) (m d s k : ℕ) (value : Option ℕ) → value ≡ None → Gets c m d s value (replies.Object k) e → ⊥
+get_none c e m d s k None is row = let no = row.0 in absurd cc
+get_none c e m d s k (Some n) is row = absurd cc
+
+get_answers : (c e : State) (m d s n k : ℕ) (fault : Option Fault) → slot_at c.world.heap m s ≡ Some n
+    → referent_of (reference_at c.world.heap n) ≡ None
+    → IsAnswer c fault (steps.Get m d s) (replies.Object k) e → ⊥
+get_answers c e m d s n k (Some fault) holds none row = let no = row.0 in absurd cc
+get_answers c e m d s n k None holds none row =
+    get_none c row.0 m d s k (referent_got (reference_of c.world.heap (slot_at c.world.heap m s)))
+    (ap (λ (held : Option ℕ). referent_got (reference_of c.world.heap held)) holds
+    ∙ got_of (reference_at c.world.heap n) none) row.1
+
+-- and no get of it answers an object
+pub never_got : (config : Config) (front : List Row) (a b : State) (count : ℕ) (rows : List Row) (c : State) (n : ℕ)
+    (m d s k : ℕ) (e : State) → IsRun (first_state config) front a
+    → IsRow a (record { step = steps.EndMark; reply = replies.Doomed count }) b → IsRun b rows c
+    → has (new_clears a.world.heap.objects (doomed_at a)) n ≡ true → slot_at c.world.heap m s ≡ Some n
+    → ¬ (IsRow c (record { step = steps.Get m d s; reply = replies.Object k }) e)
+never_got config front a b count rows c n m d s k e first ends later new holds row =
+    get_answers c e m d s n k (refusal c (steps.Get m d s)) holds
+    (stays_cleared config front a b count rows c n first ends later new) row

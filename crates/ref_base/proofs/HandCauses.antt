@@ -1,0 +1,171 @@
+-- Why there is a notice in a hand: a worker's comes from its own clearing; a mutator's from the reference's own call,
+-- or it was put in its queue before.
+use Rattle.std.proofs.Common.{◌≡◌, ℕ, Bool, true, false, if◌then◌else◌, List, [], ◌∷◌, map, Option, Some, None}
+use Rattle.std.proofs.Common.{◌⊎◌, inl, inr, sym, ap, ◌∙◌, subst}
+use Rattle.std.specs.Prelude.{is_some}
+use Rattle.std.specs.List.{AllByRecursion}
+use Rattle.ref_base.specs.Members.{has}
+use Rattle.ref_base.specs.QueueLists.{Lists, enqueued, was_put, with_parcel}
+use Rattle.ref_base.specs.Worlds.{World, Notice, first_world, object_of, hand_of, queue_at, with_hand, with_queue}
+use Rattle.ref_base.specs.Told.{told_object, told_notice, is_done, is_added, told_taken}
+use Rattle.ref_base.specs.HeapSteps.{taking}
+use Rattle.ref_base.specs.Replay.{if_told, put_in, notice_of, took, taken_out, closed_queue}
+use Rattle.ref_base.specs.Collectors.{State}
+use Rattle.ref_base.specs.Refusals.{refusal}
+use Rattle.ref_base.specs.CollectorRows.{IsAnswer, IsRow}
+use Rattle.ref_base.specs.declared.config.Config.{Config}
+use Rattle.ref_base.specs.declared.actor.Actor.{Actor}
+use Rattle.ref_base.specs.declared.actor.Actor.TheVariants.{Mutator, Worker}
+use Rattle.ref_base.specs.declared.step.Step.{Step}
+use Rattle.ref_base.specs.declared.step.Step.TheVariants as steps
+use Rattle.ref_base.specs.declared.reply.Reply.{Reply}
+use Rattle.ref_base.specs.declared.row.Row.{Row}
+use Rattle.ref_base.proofs.HasLaws.{has-left, has-right, has-first}
+use Rattle.ref_base.proofs.Places.{set_each}
+use Rattle.ref_base.proofs.SoundWorlds.{IsSound, first_hand}
+use Rattle.ref_base.proofs.SoundWorlds.{IsOwn as IsFor}
+use Rattle.ref_base.proofs.CarryLaws.{OfHand}
+use Rattle.ref_base.proofs.CarryRows.{all_notice_of}
+use Rattle.ref_base.proofs.RowLaws.{row_goes}
+use Rattle.ref_base.proofs.SameOthers.{same_hand}
+use Rattle.ref_base.proofs.RowHands.{others_after, row_hands, IsOwn, IsBy, unhook_tells, hand_tells}
+
+-- ---- what holds of each hand's notice in its own way
+
+module _ (P : Actor → Notice → Type 0) where
+  abbrev pub OfHands : World → Type 0
+  OfHands w = (who : Actor) → OfHand (P who) (hand_of w who)
+
+  set_hand : (w : World) (who : Actor) (hand : Option Notice) → OfHand (P who) hand → OfHands w
+      → OfHands (with_hand w who hand)
+  set_hand w (Mutator m) hand is all (Mutator k) =
+      set_each (λ i h. OfHand (P (Mutator i)) h) w.mutator_hands m hand (λ _. None) is (λ i. all (Mutator i)) k
+  set_hand w (Mutator m) hand is all (Worker k) = all (Worker k)
+  set_hand w (Worker m) hand is all (Mutator k) = all (Mutator k)
+  set_hand w (Worker m) hand is all (Worker k) =
+      set_each (λ i h. OfHand (P (Worker i)) h) w.worker_hands m hand (λ _. None) is (λ i. all (Worker i)) k
+
+  set_queue : (w : World) (q : ℕ) (lists : Lists Notice) → OfHands w → OfHands (with_queue w q lists)
+  set_queue w q lists all (Mutator m) = all (Mutator m)
+  set_queue w q lists all (Worker k) = all (Worker k)
+
+  takes : (w : World) (who : Actor) (told : Option Notice) → OfHand (P who) told → OfHands w
+      → OfHands (taking w who told)
+  takes w who None is all = all
+  takes w who (Some notice) is all = set_hand w who (Some notice) is all
+
+  empties : (w : World) (who : Actor) (told : Bool) → OfHands w → OfHands (if told then with_hand w who None else w)
+  empties w who true all = set_hand w who None tt all
+  empties w who false all = all
+
+  puts : (w : World) (who : Actor) (hand : Option Notice) (told : Bool) → OfHands w
+      → OfHands (if told then put_in w who hand else w)
+  puts w who hand false all = all
+  puts w who None true all = all
+  puts w who (Some notice) true all =
+      set_queue (with_hand w who None) notice.queue (with_parcel (queue_at w notice.queue) notice)
+      (set_hand w who None tt all)
+
+  polls : (w : World) (m q : ℕ) (told : Option ℕ)
+      → ((n : ℕ) → OfHand (P (Mutator m)) (notice_of (queue_at w q).stands n)) → OfHands w
+      → OfHands (if_told told (λ n. took w m q n) w)
+  polls w m q None found all = all
+  polls w m q (Some n) found all =
+      set_hand (with_queue w q (taken_out (queue_at w q) n)) (Mutator m) (notice_of (queue_at w q).stands n) (found n)
+      (set_queue w q (taken_out (queue_at w q) n) all)
+
+  closes : (w : World) (q : ℕ) (told : Bool) → OfHands w → OfHands (if told then closed_queue w q else w)
+  closes w q true all = set_queue w q (record (queue_at w q) { closed = true }) all
+  closes w q false all = all
+
+  -- what a row gives into a hand
+  abbrev IsGiven : World → Step → Reply → Type 0
+  IsGiven w (steps.Unhook m s) reply = OfHand (P (Mutator m)) (told_notice reply)
+  IsGiven w (steps.Hand k) reply = OfHand (P (Worker k)) (told_notice reply)
+  IsGiven w (steps.Poll m q) reply = (n : ℕ) → OfHand (P (Mutator m)) (notice_of (queue_at w q).stands n)
+  IsGiven w step reply = Unit {0}
+
+  row_of_hands : (w : World) (step : Step) (reply : Reply) → IsGiven w step reply → OfHands w
+      → OfHands (others_after w step reply)
+  row_of_hands w (steps.Unhook m s) reply is all = takes w (Mutator m) (told_notice reply) is all
+  row_of_hands w (steps.Hand k) reply is all = takes w (Worker k) (told_notice reply) is all
+  row_of_hands w (steps.Adopt m d) reply is all = empties w (Mutator m) (is_some (told_object reply)) all
+  row_of_hands w (steps.Release who) reply is all = empties w who (is_done reply) all
+  row_of_hands w (steps.Put who) reply is all = puts w who (hand_of w who) (is_added reply) all
+  row_of_hands w (steps.Poll m q) reply is all = polls w m q (told_taken reply) is all
+  row_of_hands w (steps.Close m q) reply is all = closes w q (is_done reply) all
+  row_of_hands w step reply is all = all
+
+-- ---- causes
+
+-- the notice is of its reference's own call, or it was put in its queue before
+abbrev pub IsOwnOrPut : World → Notice → Type 0
+IsOwnOrPut w notice = IsOwn notice ⊎ (was_put object_of (queue_at w notice.queue) notice ≡ true)
+
+abbrev pub HasCause : World → Actor → Notice → Type 0
+HasCause w (Mutator m) notice = IsOwnOrPut w notice
+HasCause w (Worker k) notice = IsBy k notice
+
+abbrev pub HaveCauses : World → Type 0
+HaveCauses w = OfHands (HasCause w) w
+
+-- what was put stays so
+abbrev Grows : World → World → Type 0
+Grows v w =
+    (q n : ℕ) → has (enqueued object_of (queue_at v q)) n ≡ true → has (enqueued object_of (queue_at w q)) n ≡ true
+
+row_grows : (a : State) (row : Row) (b : State) → IsSound a.world → IsRow a row b → Grows a.world b.world
+row_grows a row b sound h q n put =
+    let goes = row_goes a row b sound h in
+    ap (λ ns. has ns n) (goes.queue q).put ∙ has-left (enqueued object_of (queue_at a.world q)) _ n put
+
+cause_grows : (v w : World) (who : Actor) (hand : Option Notice) → Grows v w → OfHand (HasCause v who) hand
+    → OfHand (HasCause w who) hand
+cause_grows v w (Mutator m) None grows is = tt
+cause_grows v w (Mutator m) (Some notice) grows is =
+    elim is [ inl own ↦ inl own | inr put ↦ inr (grows notice.queue notice.object put) ]
+cause_grows v w (Worker k) None grows is = tt
+cause_grows v w (Worker k) (Some notice) grows is = is
+
+-- what stands in a queue was put in it
+stands_put : (w : World) (q : ℕ) (notices : List Notice) → AllByRecursion (IsFor q) notices
+    → ((n : ℕ) → has (map object_of notices) n ≡ true → has (enqueued object_of (queue_at w q)) n ≡ true)
+    → AllByRecursion (IsOwnOrPut w) notices
+stands_put w q [] all put = tt
+stands_put w q (notice ∷ rest) all put = (
+  inr (subst (λ j. has (enqueued object_of (queue_at w j)) notice.object ≡ true) (sym all.0)
+      (put notice.object (has-first notice.object (map object_of rest)))),
+  stands_put w q rest all.1 (λ n later. put n (has-right (notice.object ∷ []) (map object_of rest) n later)),
+)
+
+own_given : (w : World) (told : Option Notice) → OfHand IsOwn told → OfHand (IsOwnOrPut w) told
+own_given w None is = tt
+own_given w (Some notice) is = inl is
+
+gives_cause : (a b : State) (step : Step) (reply : Reply) → IsSound a.world → Grows a.world b.world
+    → IsAnswer a (refusal a step) step reply b → IsGiven (HasCause b.world) a.world step reply
+gives_cause a b (steps.Unhook m s) reply sound grows row =
+    own_given b.world (told_notice reply) (unhook_tells a b m s reply (refusal a (steps.Unhook m s)) row)
+gives_cause a b (steps.Hand k) reply sound grows row = hand_tells a b k reply (refusal a (steps.Hand k)) row
+gives_cause a b (steps.Poll m q) reply sound grows row =
+    λ n.
+    let lists : Lists Notice = queue_at a.world q in
+    all_notice_of (IsOwnOrPut b.world) lists.stands n
+    (stands_put b.world q lists.stands (sound.own q)
+    (λ k stands. grows q k (has-right lists.taken (map object_of lists.stands) k stands)))
+gives_cause a b step reply sound grows row = tt
+
+pub row_causes : (a : State) (row : Row) (b : State) → IsSound a.world → HaveCauses a.world → IsRow a row b
+    → HaveCauses b.world
+row_causes a row b sound have h who =
+    let grows = row_grows a row b sound h in
+    let next : World = others_after a.world row.step row.reply in
+    let all = row_of_hands (HasCause b.world) a.world row.step row.reply
+    (gives_cause a b row.step row.reply sound grows h)
+    (λ other. cause_grows a.world b.world other (hand_of a.world other) grows (have other)) in
+    subst (λ (hand : Option Notice). OfHand (HasCause b.world who) hand)
+    (sym (same_hand next b.world who (row_hands a b row.step row.reply (refusal a row.step) h))) (all who)
+
+pub first_causes : (config : Config) → HaveCauses (first_world config)
+first_causes config who =
+    subst (λ (hand : Option Notice). OfHand (HasCause (first_world config) who) hand) (sym (first_hand config who)) tt

@@ -1,0 +1,220 @@
+-- Where a row of a heap leads, in one equation: to the world that its replay gives, but for what a worker looks at in
+-- Clearing and what a sweep frees. A mark's end says itself where it leads.
+use Rattle.std.proofs.Common.{◌≡◌, ℕ, ◌+◌, Bool, true, false, List, [], ◌∷◌, ◌++◌, length, take, drop, min}
+use Rattle.std.proofs.Common.{Option, Some, None, is_some, refl, sym, ap, ◌∙◌, inl, inr}
+use Rattle.std.specs.Prelude.{slice_set}
+use Rattle.std.proofs.lemmas.Bool.{cases_Bool}
+use Rattle.ref_base.specs.Members.{has}
+use Rattle.ref_base.specs.Heaps.{Heap, slot_at, reference_at, registered_in, with_slot, got, cut, stored}
+use Rattle.ref_base.specs.Heaps.{with_hold, without_hold}
+use Rattle.ref_base.specs.Worlds.{World, Pending, with_heap}
+use Rattle.ref_base.specs.HeapSteps.{NamedStep}
+use Rattle.ref_base.specs.Replay.{adopted, pended, handed_on, begun, with_phase, after_heap}
+use Rattle.ref_base.specs.Collectors.{State}
+use Rattle.ref_base.specs.CollectorRows.{Gives, GivesAnewIf, IsBut, ticked, on_heap, with_world, Loads, Gets}
+use Rattle.ref_base.specs.CollectorRows.{Unhooks, Holds, Scans, ClearsNext, HandsOn, Sweeps, HeapAccepts, value_reply}
+use Rattle.ref_base.specs.CollectorRows.{looked_at, looked, list_at, begun_state, emptied, without, referent_of}
+use Rattle.ref_base.specs.CollectorRows.{is_same, reference_of}
+use Rattle.ref_base.specs.Refusals.{is_in}
+use Rattle.ref_base.specs.declared.cause.Cause.TheVariants.{Own, Cycle}
+use Rattle.ref_base.specs.declared.phase.Phase.TheVariants.{Idle, Marking, Sweeping}
+use Rattle.ref_base.specs.declared.heap_step.HeapStep.TheVariants as heap
+use Rattle.ref_base.specs.declared.reply.Reply.{Reply}
+use Rattle.ref_base.specs.declared.reply.Reply.TheVariants as replies
+
+-- a state but for what marking alone looks at
+abbrev pub settled : State → State
+settled a = record a { born = 0; moments = []; scanned = []; left = false }
+
+-- the state with the first that a worker found taken off
+abbrev pub found_less : State → ℕ → State
+found_less a k = record a { found = slice_set a.found k (drop 1 (list_at a.found k)) }
+
+-- where a step of a heap with this answer leads
+abbrev pub moved : State → NamedStep → Reply → State
+moved a (heap.New m d k) reply =
+    record a { world = after_heap a.world (heap.New m d k) reply; next = a.next + 1 }
+moved a (heap.Refer m strength d s q k) reply =
+    record a { world = after_heap a.world (heap.Refer m strength d s q k) reply; next = a.next + 1 }
+moved a (heap.Begin now how) reply = record a {
+  world = after_heap a.world (heap.Begin now how) reply;
+  doomed = [];
+  cleared = [];
+  found = emptied a.found;
+}
+moved a (heap.ClearNext k) (replies.Cleared n) =
+    with_world (found_less a k) (pended a.world k n (registered_in (reference_at a.world.heap n)))
+moved a (heap.ClearNext k) (replies.Kept n) = found_less a k
+moved a (heap.ClearNext k) (replies.Skipped n) = found_less a k
+moved a (heap.ClearNext k) reply = a
+moved a (heap.Sweep k) (replies.Swept count) = record a {
+  world = with_heap a.world (record a.world.heap { objects = without (take 64 a.doomed) a.world.heap.objects });
+  doomed = drop 64 a.doomed;
+}
+moved a (heap.Sweep k) reply = a
+moved a step reply = with_world a (after_heap a.world step reply)
+
+-- the step isn't a mark's end
+abbrev pub IsNoEnd : NamedStep → Type 0
+IsNoEnd heap.EndMark = ⊥
+IsNoEnd step = Unit {0}
+
+-- ---- the forms of a row
+
+pub settled_ticked : (c : State) → settled (ticked c) ≡ settled c
+settled_ticked c =
+    elim (cases_Bool (is_in c.world.phase Marking)) [ inl marks ↦ simp marks refl | inr other ↦ simp other refl ]
+
+settled_but : (c b : State) → IsBut (ticked c) b → settled b ≡ settled c
+settled_but c b but = ap settled but.1 ∙ settled_ticked c
+
+-- b is where this answer to the step leads
+abbrev Leads : State → NamedStep → Reply → State → Type 0
+Leads a step reply b = settled b ≡ settled (moved a step reply)
+
+answered : (a b : State) (step : NamedStep) (answer reply : Reply) → reply ≡ answer → Leads a step answer b
+    → Leads a step reply b
+answered a b step answer reply is leads = leads ∙ ap (λ (r : Reply). settled (moved a step r)) (sym is)
+
+given : (a c b : State) (step : NamedStep) (answer reply : Reply) → Gives answer c reply b → Leads a step answer c
+    → Leads a step reply b
+given a c b step answer reply row leads =
+    answered a b step answer reply row.0 (ap settled row.1 ∙ settled_ticked c ∙ leads)
+
+given_anew : (a c b : State) (step : NamedStep) (marks : Bool) (answer reply : Reply)
+    → GivesAnewIf marks answer c reply b → Leads a step answer c → Leads a step reply b
+given_anew a c b step true answer reply row leads =
+    answered a b step answer reply row.0 (settled_but c b row.1 ∙ leads)
+given_anew a c b step false answer reply row leads = given a c b step answer reply row leads
+
+-- ---- rows
+
+loads : (a b : State) (m d s i : ℕ) (value : Option ℕ) (reply : Reply) → Loads a m d value reply b
+    → Leads a (heap.Load m d s i) reply b
+loads a b m d s i None reply row =
+    given a (on_heap a (with_slot a.world.heap m d None)) b (heap.Load m d s i) replies.Null reply row refl
+loads a b m d s i (Some n) reply row =
+    given_anew a (on_heap a (with_slot a.world.heap m d (Some n))) b (heap.Load m d s i) (is_in a.world.phase Marking)
+    (replies.Object n) reply row refl
+
+copies : (a b : State) (m d s : ℕ) (value : Option ℕ) (reply : Reply)
+    → Gives (value_reply value) (on_heap a (with_slot a.world.heap m d value)) reply b
+    → Leads a (heap.Copy m d s) reply b
+copies a b m d s None reply row =
+    given a (on_heap a (with_slot a.world.heap m d None)) b (heap.Copy m d s) replies.Null reply row refl
+copies a b m d s (Some n) reply row =
+    given a (on_heap a (with_slot a.world.heap m d (Some n))) b (heap.Copy m d s) (replies.Object n) reply row refl
+
+gets : (a b : State) (m d s : ℕ) (value : Option ℕ) (reply : Reply) → Gets a m d s value reply b
+    → Leads a (heap.Get m d s) reply b
+gets a b m d s None reply row =
+    given a (on_heap a (got a.world.heap m d s None)) b (heap.Get m d s) replies.Null reply row refl
+gets a b m d s (Some n) reply row =
+    given_anew a (on_heap a (got a.world.heap m d s (Some n))) b (heap.Get m d s) (is_in a.world.phase Marking)
+    (replies.Object n) reply row refl
+
+unhooks : (a b : State) (m s : ℕ) (held queue : Option ℕ) (reply : Reply) → Unhooks a m s held queue reply b
+    → Leads a (heap.Unhook m s) reply b
+unhooks a b m s None queue reply row =
+    given a (on_heap a (cut a.world.heap m s)) b (heap.Unhook m s) replies.Nothing reply row refl
+unhooks a b m s (Some n) None reply row =
+    given a (on_heap a (cut a.world.heap m s)) b (heap.Unhook m s) replies.Nothing reply row refl
+unhooks a b m s (Some n) (Some q) reply row =
+    given a (on_heap a (with_hold (cut a.world.heap m s) n)) b (heap.Unhook m s) (replies.Notice n q Own) reply row refl
+
+holds : (a b : State) (m s : ℕ) (held : Option ℕ) (reply : Reply) → Holds a held reply b
+    → Leads a (heap.Hold m s) reply b
+holds a b m s None reply row = absurd row
+holds a b m s (Some n) reply row =
+    given a (on_heap a (with_hold a.world.heap n)) b (heap.Hold m s) (replies.Object n) reply row refl
+
+scans : (a b : State) (k : ℕ) (reply : Reply) → Scans a k reply b → Leads a (heap.Scan k) reply b
+scans a b k (replies.Scanned n) row =
+    settled_but (record a { scanned = slice_set a.scanned k (list_at a.scanned k ++ n ∷ []) }) b row.2
+scans a b k reply row = given a a b (heap.Scan k) replies.Nothing reply row.1 refl
+
+looks : (a b : State) (k n : ℕ) (rest : List ℕ) (reply : Reply) → list_at a.found k ≡ n ∷ rest
+    → Gives (looked_at a k n) (looked a k n rest) reply b → Leads a (heap.ClearNext k) reply b
+looks a b k n rest reply is row =
+    let c : State = looked a k n rest in
+    let left : settled b ≡ settled c = ap settled row.1 ∙ settled_ticked c in
+    let less : settled (record a { found = slice_set a.found k rest }) ≡ settled (found_less a k) =
+    ap (λ (ns : List ℕ). settled (record a { found = slice_set a.found k (drop 1 ns) })) (sym is) in
+    elim (cases_Bool (has a.cleared n)) [
+      | inl clears ↦
+          let w : World = pended a.world k n (registered_in (reference_at a.world.heap n)) in
+          let told : looked_at a k n ≡ replies.Cleared n = simp clears refl in
+          answered a b (heap.ClearNext k) (replies.Cleared n) reply (row.0 ∙ told)
+          (left ∙ simp clears (ap (λ (s : State). with_world s w) less))
+      | inr other ↦
+          elim (cases_Bool (is_some (referent_of (reference_at a.world.heap n)))) [
+            | inl some ↦
+                let told : looked_at a k n ≡ replies.Kept n = simp (other, some) refl in
+                answered a b (heap.ClearNext k) (replies.Kept n) reply (row.0 ∙ told) (left ∙ simp other less)
+            | inr none ↦
+                let told : looked_at a k n ≡ replies.Skipped n = simp (other, none) refl in
+                answered a b (heap.ClearNext k) (replies.Skipped n) reply (row.0 ∙ told) (left ∙ simp other less)
+          ]
+    ]
+
+looks_at : (a b : State) (k : ℕ) (found : List ℕ) (reply : Reply) → list_at a.found k ≡ found
+    → ClearsNext a k found reply b → Leads a (heap.ClearNext k) reply b
+looks_at a b k [] reply is row = given a a b (heap.ClearNext k) replies.Nothing reply row refl
+looks_at a b k (n ∷ rest) reply is row = looks a b k n rest reply is row
+
+hands_on : (a b : State) (k : ℕ) (ps : List Pending) (reply : Reply) → HandsOn a k ps reply b
+    → Leads a (heap.Hand k) reply b
+hands_on a b k [] reply row = given a a b (heap.Hand k) replies.Nothing reply row refl
+hands_on a b k (p ∷ ps) reply row =
+    given a (with_world a (handed_on a.world k p.object)) b (heap.Hand k)
+    (replies.Notice p.object p.queue (Cycle p.cycle k)) reply row refl
+
+sweeps : (a b : State) (k : ℕ) (doomed : List ℕ) (reply : Reply) → a.doomed ≡ doomed → Sweeps a doomed reply b
+    → Leads a (heap.Sweep k) reply b
+sweeps a b k [] reply is row = given a a b (heap.Sweep k) replies.Nothing reply row refl
+sweeps a b k (n ∷ ns) reply is row =
+    let freed : List ℕ → State = λ ds. record a {
+      world = with_heap a.world (record a.world.heap { objects = without (take 64 ds) a.world.heap.objects });
+      doomed = drop 64 ds;
+    } in
+    given a (freed (n ∷ ns)) b (heap.Sweep k) (replies.Swept (min 64 (length (n ∷ ns)))) reply row
+    (ap (λ ds. settled (freed ds)) (sym is))
+
+-- a row of a heap that isn't a mark's end leads where its answer says
+pub heap_moves : (a b : State) (step : NamedStep) (reply : Reply) → IsNoEnd step → HeapAccepts a step reply b
+    → settled b ≡ settled (moved a step reply)
+heap_moves a b (heap.New m d k) reply plain row = given a _ b (heap.New m d k) (replies.Object a.next) reply row refl
+heap_moves a b (heap.Refer m strength d s q k) reply plain row =
+    given a _ b (heap.Refer m strength d s q k) (replies.Object a.next) reply row refl
+heap_moves a b (heap.Store m s i v) reply plain row =
+    given a (on_heap a (stored a.world.heap m s i v)) b (heap.Store m s i v) replies.Done reply row refl
+heap_moves a b (heap.Load m d s i) reply plain row = loads a b m d s i _ reply row
+heap_moves a b (heap.Copy m d s) reply plain row = copies a b m d s (slot_at a.world.heap m s) reply row
+heap_moves a b (heap.Drop m s) reply plain row =
+    given a (on_heap a (with_slot a.world.heap m s None)) b (heap.Drop m s) replies.Done reply row refl
+heap_moves a b (heap.Get m d s) reply plain row = gets a b m d s _ reply row
+heap_moves a b (heap.Clear m s) reply plain row =
+    given a (on_heap a (cut a.world.heap m s)) b (heap.Clear m s) replies.Done reply row refl
+heap_moves a b (heap.RefersTo m s v) reply plain row =
+    let h : Heap = a.world.heap in
+    given a a b (heap.RefersTo m s v)
+    (replies.Refers (is_same (referent_of (reference_of h (slot_at h m s))) (slot_at h m v))) reply row refl
+heap_moves a b (heap.Unhook m s) reply plain row = unhooks a b m s _ _ reply row
+heap_moves a b (heap.Hold m s) reply plain row = holds a b m s _ reply row
+heap_moves a b (heap.Adopt m d hold) reply plain row =
+    given a (on_heap a (adopted a.world.heap m d hold.object)) b (heap.Adopt m d hold) (replies.Object hold.object)
+    reply row refl
+heap_moves a b (heap.Release hold) reply plain row =
+    given a (on_heap a (without_hold a.world.heap hold.object)) b (heap.Release hold) replies.Done reply row refl
+heap_moves a b (heap.Begin now how) reply plain row =
+    given_anew a (begun_state a (begun a.world now how (a.world.cycle + 1))) b (heap.Begin now how) true
+    (replies.Cycle (a.world.cycle + 1)) reply row refl
+heap_moves a b (heap.Scan k) reply plain row = scans a b k reply row
+heap_moves a b heap.EndMark reply plain row = absurd plain
+heap_moves a b (heap.ClearNext k) reply plain row = looks_at a b k (list_at a.found k) reply refl row
+heap_moves a b heap.EndClear reply plain row =
+    given a (with_world a (with_phase a.world Sweeping)) b heap.EndClear replies.Done reply row refl
+heap_moves a b (heap.Hand k) reply plain row = hands_on a b k _ reply row
+heap_moves a b (heap.Sweep k) reply plain row = sweeps a b k a.doomed reply refl row
+heap_moves a b heap.EndSweep reply plain row =
+    given a (with_world a (with_phase a.world Idle)) b heap.EndSweep replies.Done reply row refl

@@ -1,0 +1,137 @@
+-- What a mark's end shows of each reference that it clears, in the world of the replay; and what stands after it.
+use Rattle.std.proofs.Common.{◌≡◌, ℕ, Bool, true, false, not, ◌&&◌, List, [], ◌∷◌, ◌++◌, Option, Some, None}
+use Rattle.std.proofs.Common.{refl, sym, ap, ◌∙◌, subst}
+use Rattle.std.proofs.lemmas.Bool.{and_parts, false≢true, not-true}
+use Rattle.std.proofs.lemmas.List.{append_assoc}
+use Rattle.ref_base.specs.Members.{has}
+use Rattle.ref_base.specs.Graphs.{Object, Reference, object_at, is_there, numbers}
+use Rattle.ref_base.specs.Strengths.{IsRising}
+use Rattle.ref_base.specs.KeptPaths.{IsKept, is_kept}
+use Rattle.ref_base.specs.DoomedSets.{MayDoom, any_is, refers_into, new_clears}
+use Rattle.ref_base.specs.Heaps.{reference_in}
+use Rattle.ref_base.specs.Worlds.{World, policy_of, graph_of}
+use Rattle.ref_base.specs.Replay.{replayed}
+use Rattle.ref_base.specs.Collectors.{State, joined}
+use Rattle.ref_base.specs.CollectorRows.{without, referent_of, doomed_at}
+use Rattle.ref_base.specs.MarkEnds.{IsDead, MarkEnded, WasDoomed}
+use Rattle.ref_base.specs.declared.config.Config.{Config}
+use Rattle.ref_base.specs.declared.phase.Phase.TheVariants.{Marking}
+use Rattle.ref_base.specs.declared.step.Step.TheVariants as steps
+use Rattle.ref_base.specs.declared.reply.Reply.TheVariants as replies
+use Rattle.ref_base.specs.declared.row.Row.{Row}
+use Rattle.ref_base.proofs.NewClears.{has-new_clears}
+use Rattle.ref_base.proofs.SeenObjects.{object_at-without, rising-without}
+use Rattle.ref_base.proofs.AgreeHeaps.{Agreeing, there-without, unscanned-there}
+use Rattle.ref_base.proofs.AgreeEnds.{as_there}
+use Rattle.ref_base.proofs.ApartWorlds.{IsClosed}
+use Rattle.ref_base.proofs.OffSets.{world_but, path_but}
+
+referent_into : (d : List ℕ) (r : Option Reference) → refers_into (has d) r ≡ true
+    → (n : ℕ) × (referent_of r ≡ Some n) × (has d n ≡ true)
+referent_into d None into = absurd (false≢true into)
+referent_into d (Some r) into = of_value r.referent into
+  where
+    of_value : (referent : Option ℕ) → any_is (has d) referent ≡ true
+        → (n : ℕ) × (referent ≡ Some n) × (has d n ≡ true)
+    of_value None into = absurd (false≢true into)
+    of_value (Some n) into = (n, refl, into)
+
+-- what a mark's end says, in the world that the rows before it give by replay
+module _ (config : Config) (past : List Row) (count : ℕ) (gone : List ℕ) (a : State)
+    (is : Agreeing gone (replayed config past) a) (marking : a.world.phase ≡ Marking)
+    (closed : IsClosed (λ n. has gone n ≡ false) a.world)
+    (may : MayDoom (policy_of a.world) (graph_of a.world) a.moments (doomed_at a)) where
+  there : a.world ≡ world_but gone (replayed config past)
+  there = as_there gone (replayed config past) a Marking is.agrees marking refl
+
+  objects : a.world.heap.objects ≡ without gone (replayed config past).heap.objects
+  objects = ap (λ (v : World). v.heap.objects) there
+
+  known : (n : ℕ) → is_there a.world.heap.objects n ≡ true
+      → (has gone n ≡ false) × (is_there (replayed config past).heap.objects n ≡ true)
+  known n at =
+      there-without gone (replayed config past).heap.objects n
+      (subst (λ (os : List Object). is_there os n ≡ true) objects at)
+
+  -- what it dooms is dead, also by paths among what was swept
+  pub doomed_dead : (n : ℕ) → has (doomed_at a) n ≡ true → IsDead (replayed config past) n
+  doomed_dead n doomed =
+      let w : World = replayed config past in
+      record {
+        there = (known n (unscanned-there a.world.heap.objects a.born (joined a.scanned) n doomed)).1;
+        not_kept = λ kept.
+            may.none_kept n doomed
+            (subst (λ (v : World). IsKept (policy_of v) (graph_of v) n) (sym there)
+            (path_but (λ k. has gone k ≡ false) gone w (is_kept (policy_of w)) (λ k out. out)
+            (subst (λ (v : World). IsClosed (λ k. has gone k ≡ false) v) there closed) n kept).1);
+      }
+
+  -- a reference that it clears has one of these as its referent
+  pub mark_shows : (n : ℕ) → has (new_clears a.world.heap.objects (doomed_at a)) n ≡ true
+      → (has gone n ≡ false) × (has (doomed_at a) n ≡ false)
+      × MarkEnded config (past ++ record { step = steps.EndMark; reply = replies.Doomed count } ∷ []) a.world.cycle n
+  mark_shows n new =
+      let w : World = replayed config past in
+      let os : List Object = a.world.heap.objects in
+      let d : List ℕ = doomed_at a in
+      let rising : IsRising (numbers os) =
+      subst (λ (ps : List Object). IsRising (numbers ps)) (sym objects)
+      (rising-without gone w.heap.objects is.rising) in
+      let into : Bool = refers_into (has d) (reference_in (object_at os n)) in
+      let parts = and_parts (is_there os n) (not (has d n) && into) (sym (has-new_clears os d n rising) ∙ new) in
+      let both = and_parts (not (has d n)) into parts.1 in
+      let referent = referent_into d (reference_in (object_at os n)) both.1 in
+      let here = known n parts.0 in
+      let same : object_at os n ≡ object_at w.heap.objects n =
+      ap (λ (ps : List Object). object_at ps n) objects ∙ object_at-without gone w.heap.objects n here.0 in (
+        here.0,
+        not-true (has d n) both.0,
+        record {
+          before = past;
+          count = count;
+          behind = [];
+          is_earlier = refl;
+          of_cycle = ap (λ (v : World). v.cycle) (sym is.agrees);
+          referent = referent.0;
+          referred = ap (λ (o : Option Object). referent_of (reference_in o)) (sym same) ∙ referent.1;
+          dead = doomed_dead referent.0 referent.2;
+        },
+      )
+
+  pub doomed_was : (n : ℕ) → has (doomed_at a) n ≡ true
+      → WasDoomed config (past ++ record { step = steps.EndMark; reply = replies.Doomed count } ∷ []) n
+  doomed_was n doomed = record {
+    before = past;
+    count = count;
+    behind = [];
+    is_earlier = refl;
+    dead = doomed_dead n doomed;
+  }
+
+-- what a mark's end showed stays shown
+pub ended_more : (config : Config) (rows more : List Row) (cycle n : ℕ) → MarkEnded config rows cycle n
+    → MarkEnded config (rows ++ more) cycle n
+ended_more config rows more cycle n is = record {
+  before = is.before;
+  count = is.count;
+  behind = is.behind ++ more;
+  is_earlier = sym (append_assoc is.before
+      (record { step = steps.EndMark; reply = replies.Doomed is.count } ∷ is.behind) more)
+      ∙ ap (λ rs. rs ++ more) is.is_earlier;
+  of_cycle = is.of_cycle;
+  referent = is.referent;
+  referred = is.referred;
+  dead = is.dead;
+}
+
+pub doomed_more : (config : Config) (rows more : List Row) (n : ℕ) → WasDoomed config rows n
+    → WasDoomed config (rows ++ more) n
+doomed_more config rows more n is = record {
+  before = is.before;
+  count = is.count;
+  behind = is.behind ++ more;
+  is_earlier = sym (append_assoc is.before
+      (record { step = steps.EndMark; reply = replies.Doomed is.count } ∷ is.behind) more)
+      ∙ ap (λ rs. rs ++ more) is.is_earlier;
+  dead = is.dead;
+}

@@ -1,0 +1,185 @@
+-- In every legal trace each number is given once: whatever is named has a number below the next.
+use Rattle.std.proofs.Common.{◌≡◌, ℕ, ◌+◌, ◌*◌, ◌<◌, ◌≤◌, true, false, ◌==◌, List, [], ◌∷◌, map}
+use Rattle.std.proofs.Common.{Option, Some, None, refl, sym, ap, ◌∙◌, subst, arith, inl, inr, ◌⊎◌}
+use Rattle.std.specs.Prelude.{slice_index_or}
+use Rattle.std.proofs.lemmas.Bool.{cases_Bool, false≢true}
+use Rattle.ref_base.specs.Graphs.{Object, object_at, is_there, numbers}
+use Rattle.ref_base.specs.Strengths.{IsRising}
+use Rattle.ref_base.specs.Paths.{any_referent}
+use Rattle.ref_base.specs.DoomedSets.{is_new_clear}
+use Rattle.ref_base.specs.Worlds.{World, pending_of, with_heap}
+use Rattle.ref_base.specs.HeapSteps.{NamedStep}
+use Rattle.ref_base.specs.Replay.{replayed}
+use Rattle.ref_base.specs.Collectors.{State, first_state}
+use Rattle.ref_base.specs.Refusals.{heap_refusal}
+use Rattle.ref_base.specs.CollectorRows.{HeapAccepts, without, shown, mark_ended, doomed_at, IsRun}
+use Rattle.ref_base.specs.AgreeingWorlds.{is_waiting}
+use Rattle.ref_base.specs.OldNumbers.{HasOldNumbers}
+use Rattle.ref_base.specs.declared.config.Config.{Config}
+use Rattle.ref_base.specs.declared.heap_step.HeapStep.TheVariants as heap
+use Rattle.ref_base.specs.declared.reply.Reply.{Reply}
+use Rattle.ref_base.specs.declared.row.Row.{Row}
+use Rattle.ref_base.proofs.CarryRows.{all_more, nothing_pending}
+use Rattle.ref_base.proofs.CountedTraces.{legal_counted}
+use Rattle.ref_base.proofs.HeapMoves.{moved, heap_moves, IsNoEnd}
+use Rattle.ref_base.proofs.ShownObjects.{shown-no}
+use Rattle.ref_base.proofs.SeenObjects.{numbers-cleared_if, rising-without}
+use Rattle.ref_base.proofs.ReplayUnder.{made_number}
+use Rattle.ref_base.proofs.ReplayKeeps.{but_hands, handed_keeps, queues_keep}
+use Rattle.ref_base.proofs.RowKinds.{IsRefused, IsOfQueues, IsOfHeap, row_kind}
+use Rattle.ref_base.proofs.RunFronts.{legal_holds}
+use Rattle.ref_base.proofs.OneQueue.{next_heap}
+use Rattle.ref_base.proofs.AgreeHeaps.{Agreeing, there-numbers}
+use Rattle.ref_base.proofs.ApartWorlds.{no_slot, OfValue, IsClosed, Refers, closed_objects, closed_roots}
+use Rattle.ref_base.proofs.ApartWorlds.{refers_cleared}
+use Rattle.ref_base.proofs.ClosedRows.{closed_same, heap_closed}
+use Rattle.ref_base.proofs.OffSets.{target_there}
+use Rattle.ref_base.proofs.OutTraces.{legal_out, there_in}
+
+-- ---- a mark's end
+
+-- an object refers to no more once the mark has ended
+shown_refers : (V : ℕ → Type 0) (d : List ℕ) (os : List Object) (m : ℕ)
+    → Refers V (object_at os m) (object_at (map (λ o. shown d o) os) m)
+shown_refers V d [] m = λ n target. inl target
+shown_refers V d (o ∷ os) m =
+    elim (cases_Bool (o.no == m)) [
+      | inl same ↦
+          let shows : ((shown d o).no == m) ≡ true = ap (λ i. i == m) (shown-no d o) ∙ same in
+          let own : Refers V (Some o) (Some (shown d o)) =
+          elim (cases_Bool (is_new_clear d o)) [
+            | inl new ↦ simp new (refers_cleared V o)
+            | inr old ↦ simp old (λ n target. inl target)
+          ] in
+          simp (same, shows) own
+      | inr other ↦
+          let shows : ((shown d o).no == m) ≡ false = ap (λ i. i == m) (shown-no d o) ∙ other in
+          simp (other, shows) (shown_refers V d os m)
+    ]
+
+ended_old : (V : ℕ → Type 0) (a : State) (found : List (List ℕ)) → IsClosed V a.world
+    → IsClosed V (mark_ended a (doomed_at a) found).world
+ended_old V a found closed =
+    let os : List Object = a.world.heap.objects in
+    let d : List ℕ = doomed_at a in
+    closed_same V (with_heap a.world (record a.world.heap { objects = map (λ o. shown d o) os }))
+    (mark_ended a d found).world refl refl refl refl
+    (closed_objects V a.world (map (λ o. shown d o) os) (λ m is. shown_refers V d os m) closed)
+
+-- ---- rows
+
+-- each object of the collector has a number below the next
+old_objects : (gone : List ℕ) (w : World) (a : State) → Agreeing gone w a → (n : ℕ)
+    → is_there a.world.heap.objects n ≡ true → n < a.next
+old_objects gone w a is n there =
+    is.below n (there-numbers w.heap.objects n (there_in gone w a is.agrees n there).1)
+
+-- what is below the next is below a greater one
+old_more : (a : State) (next : ℕ) → ((n : ℕ) → is_there a.world.heap.objects n ≡ true → n < a.next) → a.next ≤ next
+    → IsClosed (λ n. n < a.next) a.world → IsClosed (λ n. n < next) a.world
+old_more a next objects grows closed =
+    let more : (n : ℕ) → n < a.next → n < next = λ n less. omega (arith, less, grows) in
+    record {
+      slots = λ i. of_more more (slice_index_or a.world.heap.slots i None) (closed.slots i);
+      holds = λ n held. more n (closed.holds n held);
+      pendings = λ k.
+          all_more (λ p. p.object < a.next) (λ p. p.object < next) (pending_of a.world k) (λ p less. more p.object less)
+          (closed.pendings k);
+      targets = λ m n less target.
+          more n
+          (closed.targets m n
+          (objects m (target_there any_referent (object_at a.world.heap.objects m) n target)) target);
+    }
+  where
+    of_more : ((n : ℕ) → n < a.next → n < next) → (value : Option ℕ) → OfValue (λ n. n < a.next) value
+        → OfValue (λ n. n < next) value
+    of_more more None is = tt
+    of_more more (Some n) is = more n is
+
+-- what is made has the next number, and then comes one more
+made_next : (a : State) (step : NamedStep) (reply : Reply) → made_number step reply ≡ Some a.next
+    → (moved a step reply).next ≡ a.next + 1
+made_next a (heap.New m d k) reply made = refl
+made_next a (heap.Refer m strength d s q k) reply made = refl
+made_next a step reply made = absurd cc
+
+plain_old : (gone : List ℕ) (w : World) (a c : State) (step : NamedStep) (reply : Reply) → Agreeing gone w a
+    → IsNoEnd step → heap_refusal 0 a step ≡ None → HeapAccepts a step reply c → IsClosed (λ n. n < a.next) a.world
+    → IsClosed (λ n. n < c.next) c.world
+plain_old gone w a c step reply is plain none row closed =
+    let grows : a.next ≤ c.next = next_heap a c step reply row in
+    let leads : c.next ≡ (moved a step reply).next = ap (λ (s : State). s.next) (heap_moves a c step reply plain row) in
+    heap_closed (λ n. n < c.next) a c (old_more a c.next (old_objects gone w a is) grows closed) step reply plain none
+    (λ made. let next = made_next a step reply made in omega (arith, leads, next))
+    (λ clearing n cleared. let less = is.cleared_below n cleared in omega (arith, less, grows)) row
+
+heap_old : (gone : List ℕ) (w : World) (a c : State) (step : NamedStep) (reply : Reply) → Agreeing gone w a
+    → heap_refusal 0 a step ≡ None → HeapAccepts a step reply c → IsClosed (λ n. n < a.next) a.world
+    → IsClosed (λ n. n < c.next) c.world
+heap_old gone w a c heap.EndMark reply is none row closed =
+    subst (λ (s : State). IsClosed (λ n. n < s.next) s.world) (sym row.after)
+    (ended_old (λ n. n < a.next) a row.found closed)
+heap_old gone w a c step reply is none row closed = plain_old gone w a c step reply is tt none row closed
+
+-- other hands and queues
+same_old : (a b : State) → but_hands b.world ≡ but_hands a.world → b.next ≡ a.next
+    → IsClosed (λ n. n < a.next) a.world → IsClosed (λ n. n < b.next) b.world
+same_old a b others next closed =
+    subst (λ (k : ℕ). IsClosed (λ n. n < k) b.world) (sym next)
+    (closed_same (λ n. n < a.next) a.world b.world (ap (λ (w : World). w.heap.slots) others)
+    (ap (λ (w : World). w.heap.holds) others) (ap (λ (w : World). w.pending) others)
+    (ap (λ (w : World). w.heap.objects) others) closed)
+
+row_old : (gone : List ℕ) (w : World) (a : State) (row : Row) (b : State) → Agreeing gone w a
+    → IsRefused a row b ⊎ (IsOfQueues a row b ⊎ IsOfHeap a row b) → IsClosed (λ n. n < a.next) a.world
+    → IsClosed (λ n. n < b.next) b.world
+row_old gone w a row b is (inl of) closed =
+    subst (λ (s : State). IsClosed (λ n. n < s.next) s.world) (sym of.same) closed
+row_old gone w a row b is (inr (inl of)) closed =
+    same_old a b (ap (λ (s : State). but_hands s.world) of.leads ∙ queues_keep a.world row.step row.reply)
+    (ap (λ (s : State). s.next) of.leads) closed
+row_old gone w a row b is (inr (inr of)) closed =
+    same_old of.left b
+    (ap (λ (s : State). but_hands s.world) of.after ∙ handed_keeps of.left.world row.step row.reply)
+    (ap (λ (s : State). s.next) of.after)
+    (heap_old gone w a of.left of.asked row.reply is of.passes of.accepts closed)
+
+-- ---- after every legal trace
+
+legal_old : (config : Config) (rows : List Row) (b : State) → IsRun (first_state config) rows b
+    → IsClosed (λ n. n < b.next) b.world
+legal_old config rows b run =
+    legal_holds config (λ past a. IsClosed (λ n. n < a.next) a.world)
+    (λ past a row c run closed h.
+    let known = legal_out config past a run in
+    row_old known.0 (replayed config past) a row c known.1
+    (row_kind a row c (legal_counted config past a run) h) closed)
+    (record {
+      slots = no_slot (λ n. n < 1) (16 * config.mutators);
+      holds = λ n held. absurd (false≢true held);
+      pendings = λ k. nothing_pending (λ p. p.object < 1) config.workers k;
+      targets = λ m n is target. absurd (false≢true target);
+    }) rows b run
+
+-- numbers are given once
+pub legal_numbers : (config : Config) (rows : List Row) (b : State) → IsRun (first_state config) rows b
+    → HasOldNumbers b
+legal_numbers config rows b run =
+    let known = legal_out config rows b run in
+    let w : World = replayed config rows in
+    let os : List Object = without known.0 w.heap.objects in
+    let here : (n : ℕ) → is_there b.world.heap.objects n ≡ true → n < b.next =
+    old_objects known.0 w b known.1 in
+    let old : IsClosed (λ n. n < b.next) b.world = legal_old config rows b run in
+    record {
+      rising = subst (λ (v : World). IsRising (numbers v.heap.objects)) (sym known.1.agrees)
+          (subst IsRising (sym (numbers-cleared_if (is_waiting b) os))
+          (rising-without known.0 w.heap.objects known.1.rising));
+      objects = here;
+      roots = λ n root. closed_roots (λ n. n < b.next) b.world n old root;
+      targets = λ m n target.
+          old.targets m n
+          (here m (target_there any_referent (object_at b.world.heap.objects m) n target)) target;
+      doomed = known.1.doomed_below;
+      cleared = known.1.cleared_below;
+    }

@@ -1,0 +1,134 @@
+-- Each number is given once, so in every legal trace a reference is registered with one queue.
+use Rattle.std.proofs.Common.{◌≡◌, ℕ, ◌+◌, ◌<◌, ◌≤◌, true, ◌==◌, List, [], ◌∷◌, ◌++◌}
+use Rattle.std.proofs.Common.{Option, Some, None, refl, sym, ap, ◌∙◌, arith, inl, inr, ◌⊎◌}
+use Rattle.std.proofs.lemmas.Bool.{cases_Bool, and_parts, eqb-true, false≢true}
+use Rattle.ref_base.specs.HeapSteps.{NamedStep}
+use Rattle.ref_base.specs.Collectors.{State, first_state}
+use Rattle.ref_base.specs.Refusals.{refusal}
+use Rattle.ref_base.specs.CollectorRows.{HeapAccepts, IsAnswer, IsRow, IsRun}
+use Rattle.ref_base.specs.WorkerOrder.{registers, is_registered}
+use Rattle.ref_base.specs.LegalTraces.{IsLegal}
+use Rattle.ref_base.specs.declared.config.Config.{Config}
+use Rattle.ref_base.specs.declared.fault.Fault.{Fault}
+use Rattle.ref_base.specs.declared.heap_step.HeapStep.TheVariants as heap
+use Rattle.ref_base.specs.declared.step.Step.{Step}
+use Rattle.ref_base.specs.declared.step.Step.TheVariants as steps
+use Rattle.ref_base.specs.declared.reply.Reply.{Reply}
+use Rattle.ref_base.specs.declared.reply.Reply.TheVariants as replies
+use Rattle.ref_base.specs.declared.row.Row.{Row}
+use Rattle.ref_base.proofs.CountedTraces.{legal_counted}
+use Rattle.ref_base.proofs.HeapMoves.{settled, settled_ticked, moved, heap_moves}
+use Rattle.ref_base.proofs.RowKinds.{IsRefused, IsOfQueues, IsOfHeap, row_kind}
+use Rattle.ref_base.proofs.RunFronts.{legal_holds}
+
+-- ---- the next number grows
+
+next_moved : (a : State) (step : NamedStep) (reply : Reply) → a.next ≤ (moved a step reply).next
+next_moved a (heap.New m d k) reply = omega arith
+next_moved a (heap.Refer m strength d s q k) reply = omega arith
+next_moved a (heap.ClearNext k) (replies.Cleared n) = omega arith
+next_moved a (heap.ClearNext k) reply = omega arith
+next_moved a (heap.Sweep k) (replies.Swept count) = omega arith
+next_moved a (heap.Sweep k) reply = omega arith
+next_moved a step reply = omega arith
+
+next_by : (a b c : State) → settled b ≡ settled c → a.next ≤ c.next → a.next ≤ b.next
+next_by a b c leads grows = let same = ap (λ (s : State). s.next) leads in omega (arith, same, grows)
+
+pub next_heap : (a b : State) (step : NamedStep) (reply : Reply) → HeapAccepts a step reply b → a.next ≤ b.next
+next_heap a b heap.EndMark reply row = let same = ap (λ (s : State). s.next) row.after in omega (arith, same)
+next_heap a b step reply row =
+    next_by a b (moved a step reply) (heap_moves a b step reply tt row) (next_moved a step reply)
+
+pub next_grows : (a : State) (row : Row) (b : State)
+    → IsRefused a row b ⊎ (IsOfQueues a row b ⊎ IsOfHeap a row b) → a.next ≤ b.next
+next_grows a row b (inl refused) = let same = ap (λ (s : State). s.next) refused.same in omega (arith, same)
+next_grows a row b (inr (inl of)) = let same = ap (λ (s : State). s.next) of.leads in omega (arith, same)
+next_grows a row b (inr (inr of)) =
+    let left = ap (λ (s : State). s.next) of.after in
+    let grows = next_heap a of.left of.asked row.reply of.accepts in
+    omega (arith, left, grows)
+
+-- ---- what is made has the next number
+
+-- a row that made a reference gave it the next number, and the one after comes next
+registers_next : (a b : State) (step : Step) (reply : Reply) (fault : Option Fault) (n q : ℕ)
+    → IsAnswer a fault step reply b → registers n q step reply ≡ true → (n ≡ a.next) × (b.next ≡ a.next + 1)
+registers_next a b (steps.Refer m strength d s (Some k) fields) (replies.Object o) (Some fault) n q h makes =
+    let no_fault = h.0 in absurd cc
+registers_next a b (steps.Refer m strength d s (Some k) fields) (replies.Object o) None n q h makes =
+    let answer = h.1.0 in
+    let number : o ≡ a.next = cc in
+    let same = and_parts (o == n) (k == q) makes in (
+      sym (eqb-true o n same.0) ∙ number,
+      ap (λ (s : State). s.next) h.2 ∙ ap (λ (s : State). s.next) (ap settled h.1.1 ∙ settled_ticked _),
+    )
+registers_next a b step reply fault n q h makes = absurd (false≢true makes)
+
+-- with one queue: the row says which
+registers_one : (n q r : ℕ) (step : Step) (reply : Reply) → registers n q step reply ≡ true
+    → registers n r step reply ≡ true → q ≡ r
+registers_one n q r (steps.Refer m strength d s (Some k) fields) (replies.Object o) first second =
+    sym (eqb-true k q (and_parts (o == n) (k == q) first).1) ∙ eqb-true k r (and_parts (o == n) (k == r) second).1
+registers_one n q r step reply first second = absurd (false≢true first)
+
+-- ---- rows
+
+-- what is registered after one row more was so before, or that row registers it
+registered_cases : (rows : List Row) (row : Row) (n q : ℕ) → is_registered (rows ++ row ∷ []) n q ≡ true
+    → (is_registered rows n q ≡ true) ⊎ (registers n q row.step row.reply ≡ true)
+registered_cases [] row n q h =
+    elim (cases_Bool (registers n q row.step row.reply)) [
+      | inl makes ↦ inr makes
+      | inr other ↦ absurd (false≢true (simp other at h))
+    ]
+registered_cases (first ∷ rows) row n q h =
+    elim (cases_Bool (registers n q first.step first.reply)) [
+      | inl makes ↦ inl (simp makes refl)
+      | inr other ↦
+          elim (registered_cases rows row n q (simp other at h)) [
+            | inl before ↦ inl (simp other before)
+            | inr makes ↦ inr makes
+          ]
+    ]
+
+-- each registered reference has a number below the next, and one queue
+pub record AreRegistered (rows : List Row) (a : State) : Type 0 where
+  pub below : (n q : ℕ) → is_registered rows n q ≡ true → n < a.next
+  pub one : (n q r : ℕ) → is_registered rows n q ≡ true → is_registered rows n r ≡ true → q ≡ r
+
+registered_last : (config : Config) (past : List Row) (a : State) (row : Row) (b : State)
+    → IsRun (first_state config) past a → AreRegistered past a → IsRow a row b
+    → AreRegistered (past ++ row ∷ []) b
+registered_last config past a row b run are h =
+    let grows = next_grows a row b (row_kind a row b (legal_counted config past a run) h) in
+    let makes = λ (n q : ℕ). registers_next a b row.step row.reply (refusal a row.step) n q h in
+    record {
+      below = λ n q there.
+          elim (registered_cases past row n q there) [
+            | inl before ↦ let old = are.below n q before in omega (arith, old, grows)
+            | inr new ↦ let is = (makes n q new).0 in let next = (makes n q new).1 in omega (arith, is, next)
+          ];
+      one = λ n q r first second.
+          elim (registered_cases past row n q first) [
+            | inl before ↦ elim (registered_cases past row n r second) [
+              | inl also ↦ are.one n q r before also
+              | inr new ↦
+                  let old = are.below n q before in let is = (makes n r new).0 in absurd (omega (arith, old, is))
+            ]
+            | inr new ↦ elim (registered_cases past row n r second) [
+              | inl before ↦
+                  let old = are.below n r before in let is = (makes n q new).0 in absurd (omega (arith, old, is))
+              | inr also ↦ registers_one n q r row.step row.reply new also
+            ]
+          ];
+    }
+
+pub one_queue : (config : Config) (rows : List Row) (n q r : ℕ) → IsLegal config rows
+    → is_registered rows n q ≡ true → is_registered rows n r ≡ true → q ≡ r
+one_queue config rows n q r legal first second =
+    let none : AreRegistered [] (first_state config) = record {
+      below = λ i j there. absurd (false≢true there);
+      one = λ i j k there also. absurd (false≢true there);
+    } in
+    (legal_holds config AreRegistered (registered_last config) none rows legal.0 legal.1).one n q r first second

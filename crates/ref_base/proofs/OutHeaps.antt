@@ -1,0 +1,247 @@
+-- Each row of a heap keeps that what is gone or doomed is out of reach, and that a mark's end has shown what it
+-- cleared.
+use Rattle.std.proofs.Common.{◌≡◌, ℕ, true, false, List, [], ◌∷◌, ◌++◌, take, drop, None, refl}
+use Rattle.std.proofs.Common.{sym, ap, ◌∙◌, subst, inl, inr}
+use Rattle.std.proofs.lemmas.Bool.{or_from, false≢true}
+use Rattle.std.proofs.lemmas.List.{append-nil, append_assoc, take-append-drop}
+use Rattle.ref_base.specs.Members.{has}
+use Rattle.ref_base.specs.Heaps.{reference_at, registered_in}
+use Rattle.ref_base.specs.Worlds.{World}
+use Rattle.ref_base.specs.HeapSteps.{NamedStep}
+use Rattle.ref_base.specs.Replay.{after_heap, replayed}
+use Rattle.ref_base.specs.Collectors.{State, joined}
+use Rattle.ref_base.specs.Refusals.{heap_refusal}
+use Rattle.ref_base.specs.CollectorRows.{HeapAccepts, EndsMark, doomed_at}
+use Rattle.ref_base.specs.MarkEnds.{MarkEnded, WasDoomed}
+use Rattle.ref_base.specs.declared.config.Config.{Config}
+use Rattle.ref_base.specs.declared.phase.Phase.{Phase}
+use Rattle.ref_base.specs.declared.phase.Phase.TheVariants.{Idle, Marking, Clearing, Sweeping}
+use Rattle.ref_base.specs.declared.heap_step.HeapStep.TheVariants as heap
+use Rattle.ref_base.specs.declared.step.Step.TheVariants as steps
+use Rattle.ref_base.specs.declared.reply.Reply.{Reply}
+use Rattle.ref_base.specs.declared.reply.Reply.TheVariants as replies
+use Rattle.ref_base.specs.declared.row.Row.{Row}
+use Rattle.ref_base.proofs.HasLaws.{has-append, has-cases}
+use Rattle.ref_base.proofs.HeapMoves.{moved, heap_moves, IsNoEnd}
+use Rattle.ref_base.proofs.PhaseLaws.{of_phase}
+use Rattle.ref_base.proofs.ReplayKeeps.{EndsNoPhase, same_phase, same_cycle, phase_pended, cycle_pended}
+use Rattle.ref_base.proofs.AgreeHeaps.{Agreeing, gone_after, fresh, unscanned-there}
+use Rattle.ref_base.proofs.ApartWorlds.{IsClosed}
+use Rattle.ref_base.proofs.ClosedRows.{closed_same, heap_closed}
+use Rattle.ref_base.proofs.OffSets.{ended_closed}
+use Rattle.ref_base.proofs.MarkShows.{mark_shows, doomed_was, doomed_more}
+
+-- what is doomed and not swept yet
+abbrev pub doomed_in : Phase → List ℕ → List ℕ
+doomed_in Idle doomed = []
+doomed_in Marking doomed = []
+doomed_in Clearing doomed = doomed
+doomed_in Sweeping doomed = doomed
+
+-- what is gone, or doomed
+abbrev pub off : List ℕ → State → List ℕ
+off gone a = gone ++ doomed_in a.world.phase a.doomed
+
+-- Nothing that is gone or doomed is in reach, and a mark's end found it dead; nothing is doomed but from a mark's end
+-- until the sweep has ended; and while references are cleared, each
+-- that the mark's end cleared isn't among these, and the mark's end has shown of it what it shows.
+pub record AreOut (config : Config) (rows : List Row) (gone : List ℕ) (a : State) : Type 0 where
+  pub closed : IsClosed (λ n. has (off gone a) n ≡ false) a.world
+  pub dead : (n : ℕ) → has (off gone a) n ≡ true → WasDoomed config rows n
+  pub whole : doomed_in a.world.phase a.doomed ≡ a.doomed
+  pub spared : a.world.phase ≡ Clearing → (n : ℕ) → has a.cleared n ≡ true → has (off gone a) n ≡ false
+  pub shown : a.world.phase ≡ Clearing → (n : ℕ) → has a.cleared n ≡ true → MarkEnded config rows a.world.cycle n
+
+-- ---- what stays
+
+pub phase_moved : (a : State) (step : NamedStep) (reply : Reply) → EndsNoPhase step
+    → (moved a step reply).world.phase ≡ a.world.phase
+phase_moved a (heap.ClearNext k) (replies.Cleared n) plain =
+    phase_pended a.world k n (registered_in (reference_at a.world.heap n))
+phase_moved a (heap.ClearNext k) (replies.Kept n) plain = refl
+phase_moved a (heap.ClearNext k) (replies.Skipped n) plain = refl
+phase_moved a (heap.ClearNext k) reply plain = refl
+phase_moved a (heap.Sweep k) (replies.Swept count) plain = refl
+phase_moved a (heap.Sweep k) reply plain = refl
+phase_moved a (heap.Begin now how) reply plain = absurd plain
+phase_moved a heap.EndMark reply plain = absurd plain
+phase_moved a heap.EndClear reply plain = absurd plain
+phase_moved a heap.EndSweep reply plain = absurd plain
+phase_moved a (heap.New m d k) reply plain = same_phase a.world (heap.New m d k) reply tt
+phase_moved a (heap.Refer m strength d s q k) reply plain =
+    same_phase a.world (heap.Refer m strength d s q k) reply tt
+phase_moved a step reply plain = same_phase a.world step reply tt
+
+pub cycle_moved : (a : State) (step : NamedStep) (reply : Reply) → EndsNoPhase step
+    → (moved a step reply).world.cycle ≡ a.world.cycle
+cycle_moved a (heap.ClearNext k) (replies.Cleared n) plain =
+    cycle_pended a.world k n (registered_in (reference_at a.world.heap n))
+cycle_moved a (heap.ClearNext k) (replies.Kept n) plain = refl
+cycle_moved a (heap.ClearNext k) (replies.Skipped n) plain = refl
+cycle_moved a (heap.ClearNext k) reply plain = refl
+cycle_moved a (heap.Sweep k) (replies.Swept count) plain = refl
+cycle_moved a (heap.Sweep k) reply plain = refl
+cycle_moved a (heap.Begin now how) reply plain = absurd plain
+cycle_moved a heap.EndMark reply plain = absurd plain
+cycle_moved a heap.EndClear reply plain = absurd plain
+cycle_moved a heap.EndSweep reply plain = absurd plain
+cycle_moved a (heap.New m d k) reply plain = same_cycle a.world (heap.New m d k) reply tt
+cycle_moved a (heap.Refer m strength d s q k) reply plain =
+    same_cycle a.world (heap.Refer m strength d s q k) reply tt
+cycle_moved a step reply plain = same_cycle a.world step reply tt
+
+pub cleared_moved : (a : State) (step : NamedStep) (reply : Reply) → EndsNoPhase step
+    → (moved a step reply).cleared ≡ a.cleared
+cleared_moved a (heap.ClearNext k) (replies.Cleared n) plain = refl
+cleared_moved a (heap.ClearNext k) (replies.Kept n) plain = refl
+cleared_moved a (heap.ClearNext k) (replies.Skipped n) plain = refl
+cleared_moved a (heap.ClearNext k) reply plain = refl
+cleared_moved a (heap.Sweep k) (replies.Swept count) plain = refl
+cleared_moved a (heap.Sweep k) reply plain = refl
+cleared_moved a (heap.Begin now how) reply plain = absurd plain
+cleared_moved a step reply plain = refl
+
+-- the step frees nothing
+abbrev pub FreesNone : NamedStep → Type 0
+FreesNone (heap.Sweep k) = ⊥
+FreesNone step = Unit {0}
+
+pub doomed_moved : (a : State) (step : NamedStep) (reply : Reply) → EndsNoPhase step → FreesNone step
+    → (moved a step reply).doomed ≡ a.doomed
+doomed_moved a (heap.ClearNext k) (replies.Cleared n) plain frees = refl
+doomed_moved a (heap.ClearNext k) (replies.Kept n) plain frees = refl
+doomed_moved a (heap.ClearNext k) (replies.Skipped n) plain frees = refl
+doomed_moved a (heap.ClearNext k) reply plain frees = refl
+doomed_moved a (heap.Sweep k) reply plain frees = absurd frees
+doomed_moved a (heap.Begin now how) reply plain frees = absurd plain
+doomed_moved a step reply plain frees = refl
+
+-- what is off goes by the phase and what is doomed
+pub off_is : (gone doomed : List ℕ) (c : State) (phase : Phase) → c.world.phase ≡ phase → c.doomed ≡ doomed
+    → off gone c ≡ gone ++ doomed_in phase doomed
+off_is gone doomed c phase is same =
+    ap (λ (p : Phase). gone ++ doomed_in p c.doomed) is ∙ ap (λ ds. gone ++ doomed_in phase ds) same
+
+-- no row but a mark's end changes what is off
+off_same : (gone : List ℕ) (a c : State) (step : NamedStep) (reply : Reply) → IsNoEnd step
+    → heap_refusal 0 a step ≡ None → HeapAccepts a step reply c
+    → off (gone_after a gone step reply) c ≡ off gone a
+off_same gone a c (heap.Begin now how) reply plain none row =
+    let leads = heap_moves a c (heap.Begin now how) reply tt row in
+    off_is gone c.doomed c Marking
+    (ap (λ (s : State). s.world.phase) leads
+    ∙ ap (λ (r : Reply). (after_heap a.world (heap.Begin now how) r).phase) row.0) refl
+    ∙ sym (off_is gone a.doomed a Idle (of_phase 0 a (heap.Begin now how) none) refl)
+off_same gone a c heap.EndMark reply plain none row = absurd plain
+off_same gone a c heap.EndClear reply plain none row =
+    let leads = heap_moves a c heap.EndClear reply tt row in
+    off_is gone a.doomed c Sweeping
+    (ap (λ (s : State). s.world.phase) leads
+    ∙ ap (λ (r : Reply). (after_heap a.world heap.EndClear r).phase) row.0) (ap (λ (s : State). s.doomed) leads)
+    ∙ sym (off_is gone a.doomed a Clearing (of_phase 0 a heap.EndClear none).0 refl)
+off_same gone a c heap.EndSweep reply plain none row =
+    let leads = heap_moves a c heap.EndSweep reply tt row in
+    let phase = of_phase 0 a heap.EndSweep none in
+    off_is gone c.doomed c Idle
+    (ap (λ (s : State). s.world.phase) leads
+    ∙ ap (λ (r : Reply). (after_heap a.world heap.EndSweep r).phase) row.0) refl
+    ∙ sym (off_is gone [] a Sweeping phase.0 phase.1)
+off_same gone a c (heap.Sweep k) (replies.Swept count) plain none row =
+    let leads = heap_moves a c (heap.Sweep k) (replies.Swept count) tt row in
+    let sweeping : a.world.phase ≡ Sweeping = of_phase 0 a (heap.Sweep k) none in
+    off_is (gone ++ take 64 a.doomed) (drop 64 a.doomed) c Sweeping
+    (ap (λ (s : State). s.world.phase) leads ∙ sweeping) (ap (λ (s : State). s.doomed) leads)
+    ∙ append_assoc gone (take 64 a.doomed) (drop 64 a.doomed)
+    ∙ ap (λ ns. gone ++ ns) (take-append-drop 64 a.doomed)
+    ∙ sym (off_is gone a.doomed a Sweeping sweeping refl)
+off_same gone a c (heap.Sweep k) reply plain none row =
+    let leads = heap_moves a c (heap.Sweep k) reply tt row in
+    off_is gone a.doomed c a.world.phase (ap (λ (s : State). s.world.phase) leads) (ap (λ (s : State). s.doomed) leads)
+off_same gone a c (heap.ClearNext k) (replies.Cleared n) plain none row =
+    let leads = heap_moves a c (heap.ClearNext k) (replies.Cleared n) tt row in
+    off_is gone a.doomed c a.world.phase
+    (ap (λ (s : State). s.world.phase) leads ∙ phase_moved a (heap.ClearNext k) (replies.Cleared n) tt)
+    (ap (λ (s : State). s.doomed) leads)
+off_same gone a c (heap.ClearNext k) (replies.Kept n) plain none row =
+    let leads = heap_moves a c (heap.ClearNext k) (replies.Kept n) tt row in
+    off_is gone a.doomed c a.world.phase (ap (λ (s : State). s.world.phase) leads) (ap (λ (s : State). s.doomed) leads)
+off_same gone a c (heap.ClearNext k) (replies.Skipped n) plain none row =
+    let leads = heap_moves a c (heap.ClearNext k) (replies.Skipped n) tt row in
+    off_is gone a.doomed c a.world.phase (ap (λ (s : State). s.world.phase) leads) (ap (λ (s : State). s.doomed) leads)
+off_same gone a c (heap.ClearNext k) reply plain none row =
+    let leads = heap_moves a c (heap.ClearNext k) reply tt row in
+    off_is gone a.doomed c a.world.phase (ap (λ (s : State). s.world.phase) leads) (ap (λ (s : State). s.doomed) leads)
+off_same gone a c step reply plain none row =
+    let leads = heap_moves a c step reply tt row in
+    off_is gone a.doomed c a.world.phase (ap (λ (s : State). s.world.phase) leads ∙ phase_moved a step reply tt)
+    (ap (λ (s : State). s.doomed) leads)
+
+doomed_all : (phase : Phase) (doomed : List ℕ) (n : ℕ) → has (doomed_in phase doomed) n ≡ true → has doomed n ≡ true
+doomed_all Idle doomed n h = absurd (false≢true h)
+doomed_all Marking doomed n h = absurd (false≢true h)
+doomed_all Clearing doomed n h = h
+doomed_all Sweeping doomed n h = h
+
+-- the next number isn't off
+next_out : (gone : List ℕ) (w : World) (a : State) → Agreeing gone w a → has (off gone a) a.next ≡ false
+next_out gone w a is =
+    has-append gone (doomed_in a.world.phase a.doomed) a.next
+    ∙ or_from (has gone a.next) (has (doomed_in a.world.phase a.doomed) a.next) (fresh a.next gone is.gone_below)
+    (fresh a.next (doomed_in a.world.phase a.doomed)
+    (λ n in_d. is.doomed_below n (doomed_all a.world.phase a.doomed n in_d)))
+
+-- ---- rows of a heap
+
+module _ (config : Config) (past : List Row) (gone : List ℕ) (a c : State)
+    (is : Agreeing gone (replayed config past) a) (out : AreOut config past gone a) where
+  -- a row that isn't a mark's end
+  pub plain_out : (step : NamedStep) (reply : Reply) → IsNoEnd step → heap_refusal 0 a step ≡ None
+      → HeapAccepts a step reply c
+      → (c.world.phase ≡ Clearing
+      → (a.world.phase ≡ Clearing) × (c.cleared ≡ a.cleared) × (c.world.cycle ≡ a.world.cycle))
+      → doomed_in c.world.phase c.doomed ≡ c.doomed → AreOut config past (gone_after a gone step reply) c
+  plain_out step reply plain none row still whole =
+      let now : List ℕ = gone_after a gone step reply in
+      let same : off now c ≡ off gone a = off_same gone a c step reply plain none row in
+      record {
+        closed = subst (λ ns. IsClosed (λ n. has ns n ≡ false) c.world) (sym same)
+            (heap_closed (λ n. has (off gone a) n ≡ false) a c out.closed step reply plain none
+            (λ made. next_out gone (replayed config past) a is) out.spared row);
+        dead = λ n is_off. out.dead n (ap (λ ns. has ns n) (sym same) ∙ is_off);
+        whole = whole;
+        spared = λ clearing n cleared.
+            let before = still clearing in
+            ap (λ ns. has ns n) same ∙ out.spared before.0 n (ap (λ ns. has ns n) (sym before.1) ∙ cleared);
+        shown = λ clearing n cleared.
+            let before = still clearing in
+            subst (λ (k : ℕ). MarkEnded config past k n) (sym before.2)
+            (out.shown before.0 n (ap (λ ns. has ns n) (sym before.1) ∙ cleared));
+      }
+
+  -- a mark's end
+  pub end_out : (count : ℕ) → a.world.phase ≡ Marking → EndsMark a (replies.Doomed count) c
+      → AreOut config (past ++ record { step = steps.EndMark; reply = replies.Doomed count } ∷ []) gone c
+  end_out count marking row =
+      let d : List ℕ = doomed_at a in
+      let more : List Row = past ++ record { step = steps.EndMark; reply = replies.Doomed count } ∷ [] in
+      let none : off gone a ≡ gone = off_is gone a.doomed a Marking marking refl ∙ append-nil gone in
+      let closed : IsClosed (λ n. has gone n ≡ false) a.world =
+      subst (λ ns. IsClosed (λ n. has ns n ≡ false) a.world) none out.closed in
+      let shows = mark_shows config past count gone a is marking closed row.may_doom in
+      let was = doomed_was config past count gone a is marking closed row.may_doom in
+      subst (λ (s : State). AreOut config more gone s) (sym row.after) (record {
+        closed = closed_same (λ n. has (gone ++ d) n ≡ false) _ _ refl refl refl refl
+            (ended_closed gone d a.world a.moments row.may_doom
+            (λ n doomed. unscanned-there a.world.heap.objects a.born (joined a.scanned) n doomed) closed);
+        dead = λ n is_off. elim (has-cases gone d n is_off) [
+          | inl before ↦
+              doomed_more config past (record { step = steps.EndMark; reply = replies.Doomed count } ∷ []) n
+              (out.dead n (ap (λ ns. has ns n) none ∙ before))
+          | inr doomed ↦ was n doomed
+        ];
+        whole = refl;
+        spared = λ clearing n new.
+            let told = shows n new in
+            has-append gone d n ∙ or_from (has gone n) (has d n) told.0 told.1;
+        shown = λ clearing n new. (shows n new).2;
+      })

@@ -1,0 +1,195 @@
+-- Each row keeps that what is gone or doomed is out of reach, and that a mark's end has shown what it cleared.
+use Rattle.std.proofs.Common.{◌≡◌, ℕ, ◌+◌, false, List, [], ◌∷◌, ◌++◌, Option, Some, None, refl, sym}
+use Rattle.std.proofs.Common.{ap, ◌∙◌, subst, inl, inr}
+use Rattle.ref_base.specs.Members.{has}
+use Rattle.ref_base.specs.Worlds.{World, Notice, hand_of}
+use Rattle.ref_base.specs.HeapSteps.{NamedStep, heap_step, spending}
+use Rattle.ref_base.specs.Replay.{replayed}
+use Rattle.ref_base.specs.Collectors.{State}
+use Rattle.ref_base.specs.Refusals.{heap_refusal}
+use Rattle.ref_base.specs.CollectorRows.{HeapAccepts, IsRow, EndsMark}
+use Rattle.ref_base.specs.CountedHolds.{AreCounted}
+use Rattle.ref_base.specs.MarkEnds.{MarkEnded}
+use Rattle.ref_base.specs.declared.config.Config.{Config}
+use Rattle.ref_base.specs.declared.actor.Actor.TheVariants.{Mutator}
+use Rattle.ref_base.specs.declared.phase.Phase.{Phase}
+use Rattle.ref_base.specs.declared.phase.Phase.TheVariants.{Idle, Marking, Clearing, Sweeping}
+use Rattle.ref_base.specs.declared.heap_step.HoldName.{HoldName}
+use Rattle.ref_base.specs.declared.heap_step.HeapStep.TheVariants as heap
+use Rattle.ref_base.specs.declared.step.Step.{Step}
+use Rattle.ref_base.specs.declared.step.Step.TheVariants as steps
+use Rattle.ref_base.specs.declared.reply.Reply.{Reply}
+use Rattle.ref_base.specs.declared.reply.Reply.TheVariants as replies
+use Rattle.ref_base.specs.declared.row.Row.{Row}
+use Rattle.ref_base.proofs.HeapMoves.{settled, moved, heap_moves, IsNoEnd}
+use Rattle.ref_base.proofs.PhaseLaws.{of_phase}
+use Rattle.ref_base.proofs.RowKinds.{row_kind}
+use Rattle.ref_base.proofs.ReplayKeeps.{EndsNoPhase, but_hands, handed_keeps, queues_keep}
+use Rattle.ref_base.proofs.AgreeHeaps.{Agreeing, gone_after, not_in}
+use Rattle.ref_base.proofs.AgreeRuns.{gone_next, gone_refused}
+use Rattle.ref_base.proofs.ApartWorlds.{IsClosed}
+use Rattle.ref_base.proofs.ClosedRows.{closed_same}
+use Rattle.ref_base.proofs.MarkShows.{ended_more, doomed_more}
+use Rattle.ref_base.proofs.OutHeaps.{AreOut, off, doomed_in, phase_moved, cycle_moved, cleared_moved}
+use Rattle.ref_base.proofs.OutHeaps.{plain_out, end_out, FreesNone, doomed_moved}
+
+-- ---- more rows, and other states that are the same
+
+more_out : (config : Config) (rows more : List Row) (gone : List ℕ) (a : State) → AreOut config rows gone a
+    → AreOut config (rows ++ more) gone a
+more_out config rows more gone a out = record {
+  closed = out.closed;
+  dead = λ n is_off. doomed_more config rows more n (out.dead n is_off);
+  whole = out.whole;
+  spared = out.spared;
+  shown = λ clearing n cleared. ended_more config rows more a.world.cycle n (out.shown clearing n cleared);
+}
+
+-- a state of which only hands, queues and what marking looks at are other
+same_out : (config : Config) (rows : List Row) (gone : List ℕ) (a b : State) → AreOut config rows gone a
+    → but_hands b.world ≡ but_hands a.world → b.doomed ≡ a.doomed → b.cleared ≡ a.cleared
+    → AreOut config rows gone b
+same_out config rows gone a b out others doomed clears =
+    let phase : b.world.phase ≡ a.world.phase = ap (λ (w : World). w.phase) others in
+    let offs : off gone b ≡ off gone a =
+    ap (λ (p : Phase). gone ++ doomed_in p b.doomed) phase ∙ ap (λ ds. gone ++ doomed_in a.world.phase ds) doomed in
+    record {
+      closed = subst (λ ns. IsClosed (λ n. has ns n ≡ false) b.world) (sym offs)
+          (closed_same (λ n. has (off gone a) n ≡ false) a.world b.world (ap (λ (w : World). w.heap.slots) others)
+          (ap (λ (w : World). w.heap.holds) others) (ap (λ (w : World). w.pending) others)
+          (ap (λ (w : World). w.heap.objects) others) out.closed);
+      dead = λ n is_off. out.dead n (ap (λ ns. has ns n) (sym offs) ∙ is_off);
+      whole = ap (λ (p : Phase). doomed_in p b.doomed) phase ∙ ap (doomed_in a.world.phase) doomed ∙ out.whole
+          ∙ sym doomed;
+      spared = λ clearing n cleared.
+          ap (λ ns. has ns n) offs
+          ∙ out.spared (sym phase ∙ clearing) n (ap (λ ns. has ns n) (sym clears) ∙ cleared);
+      shown = λ clearing n cleared.
+          subst (λ (k : ℕ). MarkEnded config rows k n) (ap (λ (w : World). w.cycle) (sym others))
+          (out.shown (sym phase ∙ clearing) n (ap (λ ns. has ns n) (sym clears) ∙ cleared));
+    }
+
+-- ---- rows of a heap
+
+spends_no_end : (step : HoldName → NamedStep) (hand : Option Notice)
+    → ((hold : HoldName) → Some (step hold) ≡ Some heap.EndMark → ⊥) → spending step hand ≡ Some heap.EndMark → ⊥
+spends_no_end step None never asks = cc
+spends_no_end step (Some notice) never asks = never (record { heap_no = 0; object = notice.object }) asks
+
+-- only a mark's end asks its heap for one
+is_end : (w : World) (step : Step) → heap_step w step ≡ Some heap.EndMark → step ≡ steps.EndMark
+is_end w steps.EndMark asks = refl
+is_end w (steps.Adopt m d) asks =
+    absurd (spends_no_end (λ hold. heap.Adopt m d hold) (hand_of w (Mutator m)) (λ hold is. cc) asks)
+is_end w (steps.Release who) asks =
+    absurd (spends_no_end (λ hold. heap.Release hold) (hand_of w who) (λ hold is. cc) asks)
+is_end w step asks = absurd cc
+
+module _ (config : Config) (past : List Row) (gone : List ℕ) (a c : State)
+    (is : Agreeing gone (replayed config past) a) (out : AreOut config past gone a) where
+  -- a row that ends no phase
+  calm : (step : NamedStep) (reply : Reply) → IsNoEnd step → EndsNoPhase step → heap_refusal 0 a step ≡ None
+      → HeapAccepts a step reply c
+      → (c.world.phase ≡ a.world.phase → doomed_in c.world.phase c.doomed ≡ c.doomed)
+      → AreOut config past (gone_after a gone step reply) c
+  calm step reply plain ends none row whole =
+      let leads : settled c ≡ settled (moved a step reply) = heap_moves a c step reply plain row in
+      let phase : c.world.phase ≡ a.world.phase =
+      ap (λ (s : State). s.world.phase) leads ∙ phase_moved a step reply ends in
+      plain_out config past gone a c is out step reply plain none row
+      (λ clearing. (
+        sym phase ∙ clearing,
+        ap (λ (s : State). s.cleared) leads ∙ cleared_moved a step reply ends,
+        ap (λ (s : State). s.world.cycle) leads ∙ cycle_moved a step reply ends,
+      )) (whole phase)
+
+  -- and one that doesn't free either
+  calm_whole : (step : NamedStep) (reply : Reply) → IsNoEnd step → EndsNoPhase step → FreesNone step
+      → HeapAccepts a step reply c → c.world.phase ≡ a.world.phase → doomed_in c.world.phase c.doomed ≡ c.doomed
+  calm_whole step reply plain ends frees row phase =
+      let doomed : c.doomed ≡ a.doomed =
+      ap (λ (s : State). s.doomed) (heap_moves a c step reply plain row) ∙ doomed_moved a step reply ends frees in
+      ap (λ (p : Phase). doomed_in p c.doomed) phase ∙ ap (doomed_in a.world.phase) doomed ∙ out.whole ∙ sym doomed
+
+  -- a row that ends a phase, into one in which no reference is cleared
+  turns : (step : NamedStep) (reply answer : Reply) (phase : Phase) → IsNoEnd step → heap_refusal 0 a step ≡ None
+      → HeapAccepts a step reply c → reply ≡ answer → (moved a step answer).world.phase ≡ phase
+      → (c.world.phase ≡ phase → c.world.phase ≡ Clearing → ⊥) → doomed_in phase c.doomed ≡ c.doomed
+      → AreOut config past (gone_after a gone step reply) c
+  turns step reply answer phase plain none row is_answer into other whole =
+      let leads : settled c ≡ settled (moved a step reply) = heap_moves a c step reply plain row in
+      let now : c.world.phase ≡ phase =
+      ap (λ (s : State). s.world.phase) leads ∙ ap (λ (r : Reply). (moved a step r).world.phase) is_answer ∙ into in
+      plain_out config past gone a c is out step reply plain none row (λ clearing. absurd (other now clearing))
+      (ap (λ (p : Phase). doomed_in p c.doomed) now ∙ whole)
+
+  heap_out : (step : Step) (asked : NamedStep) (reply : Reply) → heap_step a.world step ≡ Some asked
+      → heap_refusal 0 a asked ≡ None → HeapAccepts a asked reply c
+      → AreOut config (past ++ record { step = step; reply = reply } ∷ []) (gone_after a gone asked reply) c
+  heap_out step (heap.Begin now how) reply asks none row =
+      more_out config past (record { step = step; reply = reply } ∷ []) gone c
+      (turns (heap.Begin now how) reply (replies.Cycle (a.world.cycle + 1)) Marking tt none row row.0 refl
+      (λ into. not_in c Marking into refl)
+      (sym (ap (λ (s : State). s.doomed) (heap_moves a c (heap.Begin now how) reply tt row))))
+  heap_out step heap.EndMark reply asks none row =
+      let rows : Step → Reply → List Row = λ s r. past ++ record { step = s; reply = r } ∷ [] in
+      subst (λ (s : Step). AreOut config (rows s reply) gone c) (sym (is_end a.world step asks))
+      (ended reply row)
+    where
+      ended : (reply : Reply) → EndsMark a reply c
+          → AreOut config (past ++ record { step = steps.EndMark; reply = reply } ∷ []) gone c
+      ended (replies.Doomed count) row = end_out config past gone a c is out count (of_phase 0 a heap.EndMark none) row
+      ended reply row = let answer = row.answer in absurd cc
+  heap_out step heap.EndClear reply asks none row =
+      more_out config past (record { step = step; reply = reply } ∷ []) gone c
+      (turns heap.EndClear reply replies.Done Sweeping tt none row row.0 refl
+      (λ into. not_in c Sweeping into refl) refl)
+  heap_out step heap.EndSweep reply asks none row =
+      more_out config past (record { step = step; reply = reply } ∷ []) gone c
+      (turns heap.EndSweep reply replies.Done Idle tt none row row.0 refl (λ into. not_in c Idle into refl)
+      (sym (ap (λ (s : State). s.doomed) (heap_moves a c heap.EndSweep reply tt row)
+      ∙ (of_phase 0 a heap.EndSweep none).1)))
+  heap_out step (heap.Sweep k) reply asks none row =
+      let sweeping : a.world.phase ≡ Sweeping = of_phase 0 a (heap.Sweep k) none in
+      more_out config past (record { step = step; reply = reply } ∷ []) (gone_after a gone (heap.Sweep k) reply) c
+      (calm (heap.Sweep k) reply tt tt none row
+      (λ phase. ap (λ (p : Phase). doomed_in p c.doomed) (phase ∙ sweeping)))
+  heap_out step asked reply asks none row =
+      more_out config past (record { step = step; reply = reply } ∷ []) (gone_after a gone asked reply) c
+      (calm asked reply tt tt none row (calm_whole asked reply tt tt tt row))
+
+-- ---- rows
+
+module _ (config : Config) (past : List Row) (gone : List ℕ) (a : State) (row : Row) (b : State)
+    (is : Agreeing gone (replayed config past) a) (out : AreOut config past gone a) where
+  pub row_out : AreCounted a.world → IsRow a row b
+      → AreOut config (past ++ row ∷ []) (gone_next a gone (heap_step a.world row.step) row.reply) b
+  row_out counted h =
+      elim (row_kind a row b counted h) [
+        | inl of ↦
+            subst (λ (r : Reply). AreOut config (past ++ row ∷ []) (gone_next a gone (heap_step a.world row.step) r) b)
+            (sym of.answer)
+            (subst (λ ns. AreOut config (past ++ row ∷ []) ns b)
+            (sym (gone_refused a gone (heap_step a.world row.step) of.fault))
+            (subst (λ (s : State). AreOut config (past ++ row ∷ []) gone s) (sym of.same)
+            (more_out config past (row ∷ []) gone a out)))
+        | inr others ↦ elim others [
+          | inl of ↦
+              subst
+              (λ (asked : Option NamedStep). AreOut config (past ++ row ∷ []) (gone_next a gone asked row.reply) b)
+              (sym of.asks)
+              (more_out config past (row ∷ []) gone b
+              (same_out config past gone a b out
+              (ap (λ (s : State). but_hands s.world) of.leads ∙ queues_keep a.world row.step row.reply)
+              (ap (λ (s : State). s.doomed) of.leads) (ap (λ (s : State). s.cleared) of.leads)))
+          | inr of ↦
+              let now : List ℕ = gone_after a gone of.asked row.reply in
+              subst
+              (λ (asked : Option NamedStep). AreOut config (past ++ row ∷ []) (gone_next a gone asked row.reply) b)
+              (sym of.asks)
+              (same_out config (past ++ row ∷ []) now of.left b
+              (heap_out config past gone a of.left is out row.step of.asked row.reply of.asks of.passes of.accepts)
+              (ap (λ (s : State). but_hands s.world) of.after ∙ handed_keeps of.left.world row.step row.reply)
+              (ap (λ (s : State). s.doomed) of.after) (ap (λ (s : State). s.cleared) of.after))
+        ]
+      ]

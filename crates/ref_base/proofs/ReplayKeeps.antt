@@ -1,0 +1,211 @@
+-- What a row of the replay leaves as it was: phase and cycle, but at the ends of phases; the numbers of objects, but
+-- where one is made; and all but hands and queues, where no heap is asked.
+use Rattle.std.proofs.Common.{◌≡◌, ℕ, Bool, true, false, if◌then◌else◌, List, [], ◌∷◌, ◌++◌, Option, Some, None}
+use Rattle.std.proofs.Common.{refl, sym, ap, ◌∙◌, is_some}
+use Rattle.std.proofs.lemmas.List.{map-append, append-nil}
+use Rattle.ref_base.specs.Graphs.{Object, numbers, plain_object}
+use Rattle.ref_base.specs.Paths.{if_any}
+use Rattle.ref_base.specs.Heaps.{slot_at, reference_at, registered_in, changed_in, with_reference, cleared, got_at}
+use Rattle.ref_base.specs.Heaps.{with_field, got, cut, nulls, new_reference}
+use Rattle.ref_base.specs.Worlds.{World, Notice, hand_of, with_hand}
+use Rattle.ref_base.specs.Told.{told_object, told_value, is_done, told_notice, is_nothing, told_cycle, is_doomed}
+use Rattle.ref_base.specs.Told.{told_cleared, told_taken, is_added}
+use Rattle.ref_base.specs.HeapSteps.{NamedStep, handed, taking}
+use Rattle.ref_base.specs.Replay.{if_told, after_heap, after_queues, pended, put_in}
+use Rattle.ref_base.specs.declared.actor.Actor.{Actor}
+use Rattle.ref_base.specs.declared.actor.Actor.TheVariants.{Mutator, Worker}
+use Rattle.ref_base.specs.declared.phase.Phase.{Phase}
+use Rattle.ref_base.specs.declared.heap_step.HeapStep.TheVariants as heap
+use Rattle.ref_base.specs.declared.step.Step.{Step}
+use Rattle.ref_base.specs.declared.step.Step.TheVariants as steps
+use Rattle.ref_base.specs.declared.reply.Reply.{Reply}
+use Rattle.ref_base.proofs.Lookups.{numbers-changed}
+use Rattle.ref_base.proofs.ReplayUnder.{made_number}
+
+module _ {R : Type 0} (get : World → R) where
+  pub told_keeps : {T : Type 0} (told : Option T) (change : T → World) (w : World) → ((x : T) → get (change x) ≡ get w)
+      → get (if_told told change w) ≡ get w
+  told_keeps None change w keeps = refl
+  told_keeps (Some x) change w keeps = keeps x
+
+  pub done_keeps : (done : Bool) (change w : World) → get change ≡ get w → get (if done then change else w) ≡ get w
+  done_keeps true change w keeps = keeps
+  done_keeps false change w keeps = refl
+
+-- ---- the phase and the cycle
+
+abbrev stage_of : World → Phase × ℕ
+stage_of w = (w.phase, w.cycle)
+
+-- the step ends no phase
+abbrev pub EndsNoPhase : NamedStep → Type 0
+EndsNoPhase (heap.Begin now how) = ⊥
+EndsNoPhase heap.EndMark = ⊥
+EndsNoPhase heap.EndClear = ⊥
+EndsNoPhase heap.EndSweep = ⊥
+EndsNoPhase step = Unit {0}
+
+pub stage_pended : (w : World) (k n : ℕ) (queue : Option ℕ) → stage_of (pended w k n queue) ≡ stage_of w
+stage_pended w k n None = refl
+stage_pended w k n (Some q) = refl
+
+unhooked_stage : (v w : World) (nothing : Bool) (told : Option Notice) (change : Notice → World)
+    → stage_of v ≡ stage_of w → ((notice : Notice) → stage_of (change notice) ≡ stage_of w)
+    → stage_of (if nothing then v else if_told told change w) ≡ stage_of w
+unhooked_stage v w true told change same keeps = same
+unhooked_stage v w false told change same keeps = told_keeps stage_of told change w keeps
+
+same_stage : (w : World) (step : NamedStep) (reply : Reply) → EndsNoPhase step
+    → stage_of (after_heap w step reply) ≡ stage_of w
+same_stage w (heap.New m d k) reply plain = told_keeps stage_of (told_object reply) _ w (λ n. refl)
+same_stage w (heap.Refer m strength d s q k) reply plain =
+    told_keeps stage_of (told_object reply) _ w (λ n. refl)
+same_stage w (heap.Store m s i v) reply plain = done_keeps stage_of (is_done reply) _ w refl
+same_stage w (heap.Load m d s i) reply plain = told_keeps stage_of (told_value reply) _ w (λ value. refl)
+same_stage w (heap.Copy m d s) reply plain = told_keeps stage_of (told_value reply) _ w (λ value. refl)
+same_stage w (heap.Drop m s) reply plain = done_keeps stage_of (is_done reply) _ w refl
+same_stage w (heap.Get m d s) reply plain = told_keeps stage_of (told_value reply) _ w (λ value. refl)
+same_stage w (heap.Clear m s) reply plain = done_keeps stage_of (is_done reply) _ w refl
+same_stage w (heap.RefersTo m s v) reply plain = refl
+same_stage w (heap.Unhook m s) reply plain =
+    unhooked_stage _ w (is_nothing reply) (told_notice reply) _ refl (λ notice. refl)
+same_stage w (heap.Hold m s) reply plain = told_keeps stage_of (told_object reply) _ w (λ n. refl)
+same_stage w (heap.Adopt m d hold) reply plain = told_keeps stage_of (told_object reply) _ w (λ n. refl)
+same_stage w (heap.Release hold) reply plain = done_keeps stage_of (is_done reply) _ w refl
+same_stage w (heap.Begin now how) reply plain = absurd plain
+same_stage w (heap.Scan k) reply plain = refl
+same_stage w heap.EndMark reply plain = absurd plain
+same_stage w (heap.ClearNext k) reply plain =
+    told_keeps stage_of (told_cleared reply) _ w
+    (λ n. stage_pended _ k n (registered_in (reference_at w.heap n)))
+same_stage w heap.EndClear reply plain = absurd plain
+same_stage w (heap.Hand k) reply plain = told_keeps stage_of (told_notice reply) _ w (λ notice. refl)
+same_stage w (heap.Sweep k) reply plain = refl
+same_stage w heap.EndSweep reply plain = absurd plain
+
+pub same_phase : (w : World) (step : NamedStep) (reply : Reply) → EndsNoPhase step
+    → (after_heap w step reply).phase ≡ w.phase
+same_phase w step reply plain = ap (λ (stage : Phase × ℕ). stage.0) (same_stage w step reply plain)
+
+pub same_cycle : (w : World) (step : NamedStep) (reply : Reply) → EndsNoPhase step
+    → (after_heap w step reply).cycle ≡ w.cycle
+same_cycle w step reply plain = ap (λ (stage : Phase × ℕ). stage.1) (same_stage w step reply plain)
+
+pub phase_pended : (w : World) (k n : ℕ) (queue : Option ℕ) → (pended w k n queue).phase ≡ w.phase
+phase_pended w k n queue = ap (λ (stage : Phase × ℕ). stage.0) (stage_pended w k n queue)
+
+pub cycle_pended : (w : World) (k n : ℕ) (queue : Option ℕ) → (pended w k n queue).cycle ≡ w.cycle
+cycle_pended w k n queue = ap (λ (stage : Phase × ℕ). stage.1) (stage_pended w k n queue)
+
+-- ---- the numbers of objects
+
+abbrev pub numbers_of : World → List ℕ
+numbers_of w = numbers w.heap.objects
+
+numbers_in : (w : World) (held : Option ℕ) (f : Object → Object) → ((o : Object) → (f o).no ≡ o.no)
+    → numbers (changed_in w.heap held f).objects ≡ numbers_of w
+numbers_in w None f keeps = refl
+numbers_in w (Some n) f keeps = numbers-changed w.heap.objects n f keeps
+
+numbers_cut : (w : World) (m s : ℕ) → numbers (cut w.heap m s).objects ≡ numbers_of w
+numbers_cut w m s = numbers_in w (slot_at w.heap m s) (with_reference cleared) (λ o. refl)
+
+numbers_got : (w : World) (m d s : ℕ) (value : Option ℕ) → numbers (got w.heap m d s value).objects ≡ numbers_of w
+numbers_got w m d s None = refl
+numbers_got w m d s (Some n) = numbers_in w (slot_at w.heap m s) (with_reference (got_at w.heap.clock)) (λ o. refl)
+
+numbers_pended : (w : World) (k n : ℕ) (queue : Option ℕ) → numbers_of (pended w k n queue) ≡ numbers_of w
+numbers_pended w k n None = refl
+numbers_pended w k n (Some q) = refl
+
+numbers_unhooked : (v w : World) (nothing : Bool) (told : Option Notice) (change : Notice → World)
+    → numbers_of v ≡ numbers_of w → ((notice : Notice) → numbers_of (change notice) ≡ numbers_of w)
+    → numbers_of (if nothing then v else if_told told change w) ≡ numbers_of w
+numbers_unhooked v w true told change same keeps = same
+numbers_unhooked v w false told change same keeps = told_keeps numbers_of told change w keeps
+
+numbers_made : (w : World) (told : Option ℕ) (change : ℕ → World)
+    → ((n : ℕ) → numbers_of (change n) ≡ numbers_of w ++ n ∷ [])
+    → numbers_of (if_told told change w) ≡ numbers_of w ++ if_any told
+numbers_made w None change pushes = sym (append-nil (numbers_of w))
+numbers_made w (Some n) change pushes = pushes n
+
+-- the step makes no object
+abbrev pub MakesNone : NamedStep → Type 0
+MakesNone (heap.New m d k) = ⊥
+MakesNone (heap.Refer m strength d s q k) = ⊥
+MakesNone step = Unit {0}
+
+pub numbers_same : (w : World) (step : NamedStep) (reply : Reply) → MakesNone step
+    → numbers_of (after_heap w step reply) ≡ numbers_of w
+numbers_same w (heap.New m d k) reply plain = absurd plain
+numbers_same w (heap.Refer m strength d s q k) reply plain = absurd plain
+numbers_same w (heap.Store m s i v) reply plain =
+    done_keeps numbers_of (is_done reply) _ w
+    (numbers_in w (slot_at w.heap m s) (with_field i (slot_at w.heap m v)) (λ o. refl))
+numbers_same w (heap.Load m d s i) reply plain = told_keeps numbers_of (told_value reply) _ w (λ value. refl)
+numbers_same w (heap.Copy m d s) reply plain = told_keeps numbers_of (told_value reply) _ w (λ value. refl)
+numbers_same w (heap.Drop m s) reply plain = done_keeps numbers_of (is_done reply) _ w refl
+numbers_same w (heap.Get m d s) reply plain =
+    told_keeps numbers_of (told_value reply) _ w (λ value. numbers_got w m d s value)
+numbers_same w (heap.Clear m s) reply plain =
+    done_keeps numbers_of (is_done reply) _ w (numbers_cut w m s)
+numbers_same w (heap.RefersTo m s v) reply plain = refl
+numbers_same w (heap.Unhook m s) reply plain =
+    numbers_unhooked _ w (is_nothing reply) (told_notice reply) _ (numbers_cut w m s)
+    (λ notice. numbers_cut w m s)
+numbers_same w (heap.Hold m s) reply plain = told_keeps numbers_of (told_object reply) _ w (λ n. refl)
+numbers_same w (heap.Adopt m d hold) reply plain = told_keeps numbers_of (told_object reply) _ w (λ n. refl)
+numbers_same w (heap.Release hold) reply plain = done_keeps numbers_of (is_done reply) _ w refl
+numbers_same w (heap.Begin now how) reply plain = told_keeps numbers_of (told_cycle reply) _ w (λ n. refl)
+numbers_same w (heap.Scan k) reply plain = refl
+numbers_same w heap.EndMark reply plain = done_keeps numbers_of (is_doomed reply) _ w refl
+numbers_same w (heap.ClearNext k) reply plain =
+    told_keeps numbers_of (told_cleared reply) _ w
+    (λ n. numbers_pended _ k n (registered_in (reference_at w.heap n))
+    ∙ numbers_in w (Some n) (with_reference cleared) (λ o. refl))
+numbers_same w heap.EndClear reply plain = done_keeps numbers_of (is_done reply) _ w refl
+numbers_same w (heap.Hand k) reply plain = told_keeps numbers_of (told_notice reply) _ w (λ notice. refl)
+numbers_same w (heap.Sweep k) reply plain = refl
+numbers_same w heap.EndSweep reply plain = done_keeps numbers_of (is_done reply) _ w refl
+
+pub numbers_after : (w : World) (step : NamedStep) (reply : Reply)
+    → numbers_of (after_heap w step reply) ≡ numbers_of w ++ if_any (made_number step reply)
+numbers_after w (heap.New m d k) reply =
+    numbers_made w (told_object reply) _ (λ n. map-append (λ o. o.no) w.heap.objects (plain_object n (nulls k) ∷ []))
+numbers_after w (heap.Refer m strength d s q k) reply =
+    numbers_made w (told_object reply) _
+    (λ n. map-append (λ o. o.no) w.heap.objects (new_reference w.heap n strength (slot_at w.heap m s) q k ∷ []))
+numbers_after w step reply = numbers_same w step reply tt ∙ sym (append-nil (numbers_of w))
+
+-- ---- hands and queues
+
+-- a world without its hands and queues
+abbrev pub but_hands : World → World
+but_hands w = record w { mutator_hands = []; worker_hands = []; queues = [] }
+
+hand_keeps : (w : World) (who : Actor) (hand : Option Notice) → but_hands (with_hand w who hand) ≡ but_hands w
+hand_keeps w (Mutator m) hand = refl
+hand_keeps w (Worker k) hand = refl
+
+taking_keeps : (w : World) (who : Actor) (told : Option Notice) → but_hands (taking w who told) ≡ but_hands w
+taking_keeps w who None = refl
+taking_keeps w who (Some notice) = hand_keeps w who (Some notice)
+
+pub handed_keeps : (w : World) (step : Step) (reply : Reply) → but_hands (handed w step reply) ≡ but_hands w
+handed_keeps w (steps.Unhook m s) reply = taking_keeps w (Mutator m) (told_notice reply)
+handed_keeps w (steps.Hand k) reply = taking_keeps w (Worker k) (told_notice reply)
+handed_keeps w (steps.Adopt m d) reply = done_keeps but_hands (is_some (told_object reply)) _ w refl
+handed_keeps w (steps.Release who) reply = done_keeps but_hands (is_done reply) _ w (hand_keeps w who None)
+handed_keeps w step reply = refl
+
+put_keeps : (w : World) (who : Actor) (hand : Option Notice) → but_hands (put_in w who hand) ≡ but_hands w
+put_keeps w who None = refl
+put_keeps w (Mutator m) (Some notice) = refl
+put_keeps w (Worker k) (Some notice) = refl
+
+pub queues_keep : (w : World) (step : Step) (reply : Reply) → but_hands (after_queues w step reply) ≡ but_hands w
+queues_keep w (steps.Put who) reply = done_keeps but_hands (is_added reply) _ w (put_keeps w who (hand_of w who))
+queues_keep w (steps.Poll m q) reply = told_keeps but_hands (told_taken reply) _ w (λ n. refl)
+queues_keep w (steps.Close m q) reply = done_keeps but_hands (is_done reply) _ w refl
+queues_keep w step reply = refl

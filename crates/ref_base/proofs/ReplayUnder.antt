@@ -1,0 +1,181 @@
+-- Each row of the replay goes through where some objects are gone and some references read as cleared.
+use Rattle.std.proofs.Common.{◌≡◌, ℕ, Bool, true, false, if◌then◌else◌, List, Option, Some, None}
+use Rattle.std.proofs.Common.{refl, sym, ap, ◌∙◌, is_some}
+use Rattle.ref_base.specs.Members.{has}
+use Rattle.ref_base.specs.Graphs.{Object, Reference, plain_object}
+use Rattle.ref_base.specs.Heaps.{Heap, slot_at, with_slot, got, cut, made, nulls}
+use Rattle.ref_base.specs.Heaps.{new_reference, with_hold, changed_in, with_reference}
+use Rattle.ref_base.specs.Heaps.{cleared, got_at}
+use Rattle.ref_base.specs.Heaps.{with_field}
+use Rattle.ref_base.specs.Worlds.{World, Notice, hand_of, with_heap, with_hand}
+use Rattle.ref_base.specs.Told.{told_object, told_value, is_done, told_notice, is_nothing, told_cycle, is_doomed}
+use Rattle.ref_base.specs.Told.{told_taken, is_added}
+use Rattle.ref_base.specs.HeapSteps.{NamedStep, heap_step, handed, taking}
+use Rattle.ref_base.specs.Replay.{if_told, after_heap, after_queues, put_in}
+use Rattle.ref_base.specs.AgreeingWorlds.{under, heap_under}
+use Rattle.ref_base.specs.declared.actor.Actor.{Actor}
+use Rattle.ref_base.specs.declared.actor.Actor.TheVariants.{Mutator, Worker}
+use Rattle.ref_base.specs.declared.heap_step.HeapStep.TheVariants as heap
+use Rattle.ref_base.specs.declared.step.Step.{Step}
+use Rattle.ref_base.specs.declared.step.Step.TheVariants as steps
+use Rattle.ref_base.specs.declared.reply.Reply.{Reply}
+use Rattle.ref_base.proofs.ShownObjects.{cleared_got}
+use Rattle.ref_base.proofs.SeenObjects.{heap_changed, seen_push}
+
+-- the number of what a row made
+abbrev pub made_number : NamedStep → Reply → Option ℕ
+made_number (heap.New m d k) reply = told_object reply
+made_number (heap.Refer m strength d s q k) reply = told_object reply
+made_number step reply = None
+
+-- ---- where some objects are gone and some references read as cleared
+
+module _ (gone : List ℕ) (these : ℕ → Bool) where
+  -- it is neither gone nor one of these
+  abbrev pub IsApart : Option ℕ → Type 0
+  IsApart None = Unit {0}
+  IsApart (Some n) = (has gone n ≡ false) × (these n ≡ false)
+
+  told_under : {T : Type 0} (told : Option T) (change seen : T → World) (w : World)
+      → ((x : T) → told ≡ Some x → seen x ≡ under gone these (change x))
+      → if_told told seen (under gone these w) ≡ under gone these (if_told told change w)
+  told_under None change seen w through = refl
+  told_under (Some x) change seen w through = through x refl
+
+  done_under : (done : Bool) (change seen w : World) → seen ≡ under gone these change
+      → (if done then seen else under gone these w) ≡ under gone these (if done then change else w)
+  done_under true change seen w through = through
+  done_under false change seen w through = refl
+
+  changes : (w : World) (held : Option ℕ) (f : Object → Object) → ((o : Object) → (f o).no ≡ o.no)
+      → ((o : Object) → with_reference cleared (f o) ≡ f (with_reference cleared o))
+      → changed_in (heap_under gone these w.heap) held f ≡ heap_under gone these (changed_in w.heap held f)
+  changes w held f keeps clears = heap_changed these gone w.heap held f keeps clears
+
+  cuts : (w : World) (m s : ℕ) → cut (heap_under gone these w.heap) m s ≡ heap_under gone these (cut w.heap m s)
+  cuts w m s = changes w (slot_at w.heap m s) (with_reference cleared) (λ o. refl) (λ o. refl)
+
+  got_under : (w : World) (m d s : ℕ) (value : Option ℕ)
+      → got (heap_under gone these w.heap) m d s value ≡ heap_under gone these (got w.heap m d s value)
+  got_under w m d s None = refl
+  got_under w m d s (Some n) =
+      ap (λ (h : Heap). with_slot h m d (Some n))
+      (changes w (slot_at w.heap m s) (with_reference (got_at w.heap.clock)) (λ o. refl)
+      (λ o. ap (λ (r : Option Reference). record o { reference = r }) (cleared_got w.heap.clock o.reference)))
+
+  made_under : (w : World) (m d : ℕ) (o : Object) → has gone o.no ≡ false → these o.no ≡ false
+      → with_heap (under gone these w) (made (heap_under gone these w.heap) m d o)
+      ≡ under gone these (with_heap w (made w.heap m d o))
+  made_under w m d o kept stays =
+      ap (λ (os : List Object). with_heap w (with_slot (record w.heap { objects = os }) m d (Some o.no)))
+      (sym (seen_push these gone w.heap.objects o kept stays))
+
+  unhooked_under : (w : World) (m s : ℕ) (nothing : Bool) (told : Option Notice)
+      → (let unhooked = with_heap (under gone these w) (cut (heap_under gone these w.heap) m s) in
+      if nothing then unhooked
+      else if_told told (λ notice. with_heap unhooked (with_hold unhooked.heap notice.object)) (under gone these w))
+      ≡ under gone these (let unhooked = with_heap w (cut w.heap m s) in
+      if nothing then unhooked
+      else if_told told (λ notice. with_heap unhooked (with_hold unhooked.heap notice.object)) w)
+  unhooked_under w m s true told = ap (with_heap w) (cuts w m s)
+  unhooked_under w m s false told =
+      told_under told (λ notice. with_heap w (with_hold (cut w.heap m s) notice.object))
+      (λ notice. with_heap w (with_hold (cut (heap_under gone these w.heap) m s) notice.object)) w
+      (λ notice is. ap (λ (h : Heap). with_heap w (with_hold h notice.object)) (cuts w m s))
+
+  -- the step isn't a worker's look at a reference
+  abbrev pub IsNoLook : NamedStep → Type 0
+  IsNoLook (heap.ClearNext k) = ⊥
+  IsNoLook step = Unit {0}
+
+  apart_at : (told : Option ℕ) (n : ℕ) → IsApart told → told ≡ Some n → (has gone n ≡ false) × (these n ≡ false)
+  apart_at None n apart is = absurd cc
+  apart_at (Some m) n apart is = let same : m ≡ n = cc in subst_apart m n same apart
+    where
+      subst_apart : (m n : ℕ) → m ≡ n → IsApart (Some m) → IsApart (Some n)
+      subst_apart m n same apart = (ap (has gone) (sym same) ∙ apart.0, ap these (sym same) ∙ apart.1)
+
+  -- a row of a heap goes through, where what it makes is neither gone nor one of these
+  pub heap_through : (w : World) (step : NamedStep) (reply : Reply) → IsNoLook step → IsApart (made_number step reply)
+      → after_heap (under gone these w) step reply ≡ under gone these (after_heap w step reply)
+  heap_through w (heap.New m d k) reply plain apart =
+      told_under (told_object reply) _ _ w
+      (λ n is. let off = apart_at (told_object reply) n apart is in
+      made_under w m d (plain_object n (nulls k)) off.0 off.1)
+  heap_through w (heap.Refer m strength d s q k) reply plain apart =
+      told_under (told_object reply) _ _ w
+      (λ n is. let off = apart_at (told_object reply) n apart is in
+      made_under w m d (new_reference w.heap n strength (slot_at w.heap m s) q k) off.0 off.1)
+  heap_through w (heap.Store m s i v) reply plain apart =
+      done_under (is_done reply) _ _ w
+      (ap (with_heap w)
+      (changes w (slot_at w.heap m s) (with_field i (slot_at w.heap m v)) (λ o. refl) (λ o. refl)))
+  heap_through w (heap.Load m d s i) reply plain apart = told_under (told_value reply) _ _ w (λ value is. refl)
+  heap_through w (heap.Copy m d s) reply plain apart = told_under (told_value reply) _ _ w (λ value is. refl)
+  heap_through w (heap.Drop m s) reply plain apart = done_under (is_done reply) _ _ w refl
+  heap_through w (heap.Get m d s) reply plain apart =
+      told_under (told_value reply) _ _ w (λ value is. ap (with_heap w) (got_under w m d s value))
+  heap_through w (heap.Clear m s) reply plain apart =
+      done_under (is_done reply) _ _ w (ap (with_heap w) (cuts w m s))
+  heap_through w (heap.RefersTo m s v) reply plain apart = refl
+  heap_through w (heap.Unhook m s) reply plain apart =
+      unhooked_under w m s (is_nothing reply) (told_notice reply)
+  heap_through w (heap.Hold m s) reply plain apart = told_under (told_object reply) _ _ w (λ n is. refl)
+  heap_through w (heap.Adopt m d hold) reply plain apart = told_under (told_object reply) _ _ w (λ n is. refl)
+  heap_through w (heap.Release hold) reply plain apart = done_under (is_done reply) _ _ w refl
+  heap_through w (heap.Begin now how) reply plain apart = told_under (told_cycle reply) _ _ w (λ n is. refl)
+  heap_through w (heap.Scan k) reply plain apart = refl
+  heap_through w heap.EndMark reply plain apart = done_under (is_doomed reply) _ _ w refl
+  heap_through w (heap.ClearNext k) reply plain apart = absurd plain
+  heap_through w heap.EndClear reply plain apart = done_under (is_done reply) _ _ w refl
+  heap_through w (heap.Hand k) reply plain apart = told_under (told_notice reply) _ _ w (λ notice is. refl)
+  heap_through w (heap.Sweep k) reply plain apart = refl
+  heap_through w heap.EndSweep reply plain apart = done_under (is_done reply) _ _ w refl
+
+  -- ---- hands and queues
+
+  hand_under : (w : World) (who : Actor) (hand : Option Notice)
+      → with_hand (under gone these w) who hand ≡ under gone these (with_hand w who hand)
+  hand_under w (Mutator m) hand = refl
+  hand_under w (Worker k) hand = refl
+
+  pub hand_same : (w : World) (who : Actor) → hand_of (under gone these w) who ≡ hand_of w who
+  hand_same w (Mutator m) = refl
+  hand_same w (Worker k) = refl
+
+  taking_under : (w : World) (who : Actor) (told : Option Notice)
+      → taking (under gone these w) who told ≡ under gone these (taking w who told)
+  taking_under w who None = refl
+  taking_under w who (Some notice) = hand_under w who (Some notice)
+
+  -- what a row leaves in the hands goes through
+  pub handed_through : (w : World) (step : Step) (reply : Reply)
+      → handed (under gone these w) step reply ≡ under gone these (handed w step reply)
+  handed_through w (steps.Unhook m s) reply = taking_under w (Mutator m) (told_notice reply)
+  handed_through w (steps.Hand k) reply = taking_under w (Worker k) (told_notice reply)
+  handed_through w (steps.Adopt m d) reply = done_under (is_some (told_object reply)) _ _ w refl
+  handed_through w (steps.Release who) reply = done_under (is_done reply) _ _ w (hand_under w who None)
+  handed_through w step reply = refl
+
+  put_under : (w : World) (who : Actor) (hand : Option Notice)
+      → put_in (under gone these w) who hand ≡ under gone these (put_in w who hand)
+  put_under w who None = refl
+  put_under w (Mutator m) (Some notice) = refl
+  put_under w (Worker k) (Some notice) = refl
+
+  -- so does a row of queues
+  pub queues_through : (w : World) (step : Step) (reply : Reply)
+      → after_queues (under gone these w) step reply ≡ under gone these (after_queues w step reply)
+  queues_through w (steps.Put who) reply =
+      done_under (is_added reply) _ _ w
+      (ap (put_in (under gone these w) who) (hand_same w who) ∙ put_under w who (hand_of w who))
+  queues_through w (steps.Poll m q) reply = told_under (told_taken reply) _ _ w (λ n is. refl)
+  queues_through w (steps.Close m q) reply = done_under (is_done reply) _ _ w refl
+  queues_through w step reply = refl
+
+  -- and what a step asks of its heap is the same
+  pub asks_same : (w : World) (step : Step) → heap_step (under gone these w) step ≡ heap_step w step
+  asks_same w (steps.Release (Mutator m)) = refl
+  asks_same w (steps.Release (Worker k)) = refl
+  asks_same w (steps.New m d k) = refl
+  asks_same w step = refl

@@ -1,0 +1,116 @@
+-- What a row does to hands and queues, and what the notices that an unhook and a hand give tell of the state before.
+use Rattle.std.proofs.Common.{◌≡◌, ℕ, true, List, [], ◌∷◌, Option, Some, None, refl, sym, ◌∙◌, subst}
+use Rattle.std.proofs.lemmas.Bool.{eq-eqb}
+use Rattle.ref_base.specs.Worlds.{World, Notice, Pending, SameOthers, hand_of, pending_of}
+use Rattle.ref_base.specs.Told.{told_notice}
+use Rattle.ref_base.specs.HeapSteps.{NamedStep, heap_step, handed}
+use Rattle.ref_base.specs.Replay.{after_queues}
+use Rattle.ref_base.specs.Collectors.{State}
+use Rattle.ref_base.specs.Refusals.{refusal, is_worker}
+use Rattle.ref_base.specs.CollectorRows.{QueuesAccept, AcceptsAsking, Accepts, IsAnswer, Unhooks, HandsOn}
+use Rattle.ref_base.specs.ClearingOrder.{is_by}
+use Rattle.ref_base.specs.declared.actor.Actor.TheVariants.{Worker}
+use Rattle.ref_base.specs.declared.cause.Cause.{Cause}
+use Rattle.ref_base.specs.declared.cause.Cause.TheVariants.{Own, Cycle}
+use Rattle.ref_base.specs.declared.fault.Fault.{Fault}
+use Rattle.ref_base.specs.declared.step.Step.{Step}
+use Rattle.ref_base.specs.declared.step.Step.TheVariants as steps
+use Rattle.ref_base.specs.declared.reply.Reply.{Reply}
+use Rattle.ref_base.specs.declared.reply.Reply.TheVariants as replies
+use Rattle.ref_base.proofs.QueueLaws.{same}
+use Rattle.ref_base.proofs.HeapRowLaws.{refused_hands}
+use Rattle.ref_base.proofs.CarryLaws.{OfHand}
+use Rattle.ref_base.proofs.ReplayOthers.{queues_others, refused_queues}
+use Rattle.ref_base.proofs.SameOthers.{heap_others, handed_others}
+use Rattle.ref_base.proofs.CountedTraces.{empty_hand}
+use Rattle.ref_base.proofs.RowLaws.{unless_passes}
+
+-- the world with the hands and queues that the row leaves
+abbrev pub others_after : World → Step → Reply → World
+others_after w step reply = after_queues (handed w step reply) step reply
+
+asked_hands : (a b : State) (asked : Option NamedStep) (step : Step) (reply : Reply)
+    → AcceptsAsking a asked step reply b → (QueuesAccept a step reply b → ⊥)
+    → SameOthers (handed a.world step reply) b.world
+asked_hands a b None step reply row never = absurd (never row)
+asked_hands a b (Some asked) step reply row never =
+    subst (λ (s : State). SameOthers (handed a.world step reply) s.world) (sym row.2)
+    (handed_others a.world row.0.world step reply (heap_others a row.0 asked reply row.1))
+
+accepted_hands : (a b : State) (step : Step) (reply : Reply) → Accepts a step reply b
+    → SameOthers (others_after a.world step reply) b.world
+accepted_hands a b (steps.Put who) reply row = queues_others a.world a b (steps.Put who) reply (same a.world) row
+accepted_hands a b (steps.Poll m q) reply row = queues_others a.world a b (steps.Poll m q) reply (same a.world) row
+accepted_hands a b (steps.Close m q) reply row = queues_others a.world a b (steps.Close m q) reply (same a.world) row
+accepted_hands a b step reply row = asked_hands a b (heap_step a.world step) step reply row (λ no. no)
+
+pub row_hands : (a b : State) (step : Step) (reply : Reply) (fault : Option Fault) → IsAnswer a fault step reply b
+    → SameOthers (others_after a.world step reply) b.world
+row_hands a b step reply (Some fault) row =
+    let still : others_after a.world step (replies.Refused fault) ≡ a.world =
+    refused_queues (handed a.world step (replies.Refused fault)) step fault ∙ refused_hands a.world step fault in
+    subst (λ (r : Reply). SameOthers (others_after a.world step r) b.world) (sym row.0)
+    (subst (λ (w : World). SameOthers w b.world) (sym still)
+    (subst (λ (s : State). SameOthers a.world s.world) (sym row.1) (same a.world)))
+row_hands a b step reply None row = accepted_hands a b step reply row
+
+-- ---- what a row gives
+
+-- what holds of what an answer tells holds of what the reply tells
+told_by : (P : Notice → Type 0) (answer reply : Reply) → reply ≡ answer → OfHand P (told_notice answer)
+    → OfHand P (told_notice reply)
+told_by P answer reply is holds = subst (λ (r : Reply). OfHand P (told_notice r)) (sym is) holds
+
+abbrev pub IsOwn : Notice → Type 0
+IsOwn notice = notice.cause ≡ Own
+
+unhooked : (a c : State) (m s : ℕ) (held queue : Option ℕ) (reply : Reply) → Unhooks a m s held queue reply c
+    → OfHand IsOwn (told_notice reply)
+unhooked a c m s None queue reply row = told_by IsOwn replies.Nothing reply row.0 tt
+unhooked a c m s (Some n) None reply row = told_by IsOwn replies.Nothing reply row.0 tt
+unhooked a c m s (Some n) (Some q) reply row = told_by IsOwn (replies.Notice n q Own) reply row.0 refl
+
+-- what an unhook gives is of the reference's own call
+pub unhook_tells : (a b : State) (m s : ℕ) (reply : Reply) (fault : Option Fault)
+    → IsAnswer a fault (steps.Unhook m s) reply b → OfHand IsOwn (told_notice reply)
+unhook_tells a b m s reply (Some fault) row = told_by IsOwn (replies.Refused fault) reply row.0 tt
+unhook_tells a b m s reply None row = unhooked a row.0 m s _ _ reply row.1
+
+abbrev pub IsBy : ℕ → Notice → Type 0
+IsBy k notice = is_by k notice.cause ≡ true
+
+handed_on : (a c : State) (k : ℕ) (ps : List Pending) (reply : Reply) → HandsOn a k ps reply c
+    → OfHand (IsBy k) (told_notice reply)
+handed_on a c k [] reply row = told_by (IsBy k) replies.Nothing reply row.0 tt
+handed_on a c k (p ∷ ps) reply row =
+    told_by (IsBy k) (replies.Notice p.object p.queue (Cycle p.cycle k)) reply row.0 (eq-eqb k k refl)
+
+-- what a worker hands on is of its own clearing
+pub hand_tells : (a b : State) (k : ℕ) (reply : Reply) (fault : Option Fault)
+    → IsAnswer a fault (steps.Hand k) reply b → OfHand (IsBy k) (told_notice reply)
+hand_tells a b k reply (Some fault) row = told_by (IsBy k) (replies.Refused fault) reply row.0 tt
+hand_tells a b k reply None row = handed_on a row.0 k (pending_of a.world k) reply row.1
+
+-- a notice that is handed on is that of the first that was pending, and it comes into an empty hand
+pub record TellsHanded (a : State) (k n q : ℕ) : Type 0 where
+  pub first : Pending
+  pub rest : List Pending
+  pub pending : pending_of a.world k ≡ first ∷ rest
+  pub object : n ≡ first.object
+  pub queue : q ≡ first.queue
+  pub empty : hand_of a.world (Worker k) ≡ None
+
+first_pending : (a c : State) (k n q : ℕ) (cause : Cause) (ps : List Pending) → pending_of a.world k ≡ ps
+    → hand_of a.world (Worker k) ≡ None → HandsOn a k ps (replies.Notice n q cause) c → TellsHanded a k n q
+first_pending a c k n q cause [] are empty row = let no = row.0 in absurd cc
+first_pending a c k n q cause (p ∷ ps) are empty row =
+    let told : replies.Notice n q cause ≡ replies.Notice p.object p.queue (Cycle p.cycle k) = row.0 in
+    record { first = p; rest = ps; pending = are; object = cc; queue = cc; empty = empty }
+
+pub hand_given : (a b : State) (k n q : ℕ) (cause : Cause) (fault : Option Fault) → refusal a (steps.Hand k) ≡ fault
+    → IsAnswer a fault (steps.Hand k) (replies.Notice n q cause) b → TellsHanded a k n q
+hand_given a b k n q cause (Some fault) is row = let no = row.0 in absurd cc
+hand_given a b k n q cause None is row =
+    let first = unless_passes (is_worker a.world.heap k) _ _ is in
+    first_pending a row.0 k n q cause (pending_of a.world k) refl
+    (empty_hand (hand_of a.world (Worker k)) _ first.1) row.1

@@ -1,0 +1,33 @@
+-- What holds at first and is kept by each row holds after every legal trace.
+use Rattle.std.proofs.Common.{List, [], ◌∷◌, ◌++◌, refl, sym, subst, ◌≡◌}
+use Rattle.std.proofs.lemmas.List.{append-nil, append_assoc}
+use Rattle.ref_base.specs.Collectors.{State, first_state}
+use Rattle.ref_base.specs.CollectorRows.{IsRow, IsRun}
+use Rattle.ref_base.specs.Replay.{after, replayed_from}
+use Rattle.ref_base.specs.Worlds.{World}
+use Rattle.ref_base.specs.declared.config.Config.{Config}
+use Rattle.ref_base.specs.declared.row.Row.{Row}
+use Rattle.ref_base.proofs.RunLaws.{run_more}
+
+-- the replay goes on row by row
+pub replayed_last : (w : World) (past : List Row) (row : Row)
+    → replayed_from w (past ++ row ∷ []) ≡ after (replayed_from w past) row.step row.reply
+replayed_last w [] row = refl
+replayed_last w (other ∷ past) row = replayed_last (after w other.step other.reply) past row
+
+module _ (config : Config) (Q : List Row → State → Type 0)
+    (step : (past : List Row) (a : State) (row : Row) (b : State) → IsRun (first_state config) past a → Q past a
+    → IsRow a row b → Q (past ++ row ∷ []) b) where
+  -- what holds after a run's front and is kept by each row holds after the run
+  pub goes_on : (past : List Row) (a : State) (rows : List Row) (b : State) → IsRun (first_state config) past a → Q past a
+      → IsRun a rows b → Q (past ++ rows) b
+  goes_on past a [] b run holds more =
+      subst (λ rs. Q rs b) (sym (append-nil past)) (subst (λ (s : State). Q past s) (sym more) holds)
+  goes_on past a (row ∷ rows) b run holds more =
+      subst (λ rs. Q rs b) (append_assoc past (row ∷ []) rows)
+      (goes_on (past ++ row ∷ []) more.0 rows b (run_more (first_state config) past a more.0 row run more.1)
+      (step past a row more.0 run holds more.1) more.2)
+
+  pub legal_holds : Q [] (first_state config) → (rows : List Row) (b : State) → IsRun (first_state config) rows b
+      → Q rows b
+  legal_holds first rows b run = goes_on [] (first_state config) rows b refl first run

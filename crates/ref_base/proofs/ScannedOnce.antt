@@ -1,0 +1,159 @@
+-- In every legal trace no object is scanned twice in a cycle, and a mark goes on only while an object is left to scan.
+use Rattle.std.proofs.Common.{◌≡◌, ℕ, ◌<◌, Bool, true, false, not, ◌||◌, ◌==◌, List, [], ◌∷◌, ◌++◌, length}
+use Rattle.std.proofs.Common.{Option, Some, None, refl, sym, ap, ◌∙◌, subst, inl, inr}
+use Rattle.std.specs.Prelude.{nat_eq}
+use Rattle.std.specs.List.{IsDistinct}
+use Rattle.std.specs.Cmp.{nat_eq_equiv}
+use Rattle.std.proofs.lemmas.Bool.{cases_Bool, both_ways, or_right, or_left, eq-eqb, ltb-true, false≢true}
+use Rattle.std.proofs.lemmas.List.{length-set, length-replicate}
+use Rattle.std.proofs.lemmas.Map.Keys.{IsDistinct-push}
+use Rattle.ref_base.specs.Members.{has}
+use Rattle.ref_base.specs.Worlds.{Notice, hand_of}
+use Rattle.ref_base.specs.HeapSteps.{heap_step, spending}
+use Rattle.ref_base.specs.Collectors.{State, first_state, joined}
+use Rattle.ref_base.specs.Refusals.{unless, refusal, is_in, is_worker}
+use Rattle.ref_base.specs.CollectorRows.{IsLeft, list_at, emptied, IsAnswer, IsRow, IsRun}
+use Rattle.ref_base.specs.LegalTraces.{IsLegal}
+use Rattle.ref_base.specs.ScannedRows.{scanned_with, scanned_from, scanned_in_cycle}
+use Rattle.ref_base.specs.declared.config.Config.{Config}
+use Rattle.ref_base.specs.declared.actor.Actor.TheVariants.{Mutator}
+use Rattle.ref_base.specs.declared.fault.Fault.{Fault}
+use Rattle.ref_base.specs.declared.fault.Fault.TheVariants.{WrongPhase, GreyLeft}
+use Rattle.ref_base.specs.declared.phase.Phase.TheVariants.{Marking}
+use Rattle.ref_base.specs.declared.heap_step.HeapStep.TheVariants as heap
+use Rattle.ref_base.specs.declared.step.Step.{Step}
+use Rattle.ref_base.specs.declared.step.Step.TheVariants as steps
+use Rattle.ref_base.specs.declared.reply.Reply.{Reply}
+use Rattle.ref_base.specs.declared.reply.Reply.TheVariants as replies
+use Rattle.ref_base.specs.declared.row.Row.{Row}
+use Rattle.ref_base.proofs.HasLaws.{has-list_any, has-cases, has-single}
+use Rattle.ref_base.proofs.FoundLists.{has-with_last, length-emptied}
+use Rattle.ref_base.proofs.ToldMoves.{LeftMeans}
+use Rattle.ref_base.proofs.LegalQueues.{distinct_nil}
+use Rattle.ref_base.proofs.RowLaws.{unless_passes}
+use Rattle.ref_base.proofs.RowMoves.{scanned_after, Moves, row_moves}
+
+-- ---- a mark goes on only while an object is left
+
+run_left : (a : State) (rows : List Row) (b : State) → LeftMeans a → IsRun a rows b → LeftMeans b
+run_left a [] b means run = subst LeftMeans (sym run) means
+run_left a (row ∷ rows) b means run =
+    let moves = row_moves a row run.0 run.1 in run_left run.0 rows b (moves.left means) run.2
+
+grey : (a b : State) (marks left : Bool)
+    → IsAnswer a (unless marks WrongPhase (unless (not left) GreyLeft None)) steps.EndMark (replies.Refused GreyLeft) b
+    → (marks ≡ true) × (left ≡ true)
+grey a b true true row = (refl, refl)
+grey a b true false row = let no = row.1.answer in absurd cc
+grey a b false left row = let no = row.0 in absurd cc
+
+-- a mark's end that is refused since an object is left is refused rightly
+pub refused_left : (config : Config) (front : List Row) (a b : State) → IsRun (first_state config) front a
+    → IsRow a (record { step = steps.EndMark; reply = replies.Refused GreyLeft }) b → (n : ℕ) × IsLeft a n
+refused_left config front a b run row =
+    let both = grey a b (is_in a.world.phase Marking) a.left row in
+    run_left (first_state config) front a (λ _ said. absurd (false≢true said)) run both.0 both.1
+
+-- ---- no object is scanned twice
+
+-- the rows tell of no object twice, and the state has each; and it has a list for each worker
+record HasScanned (ns : List ℕ) (a : State) : Type 0 where
+  distinct : IsDistinct nat_eq ns
+  there : (n : ℕ) → has ns n ≡ true → has (joined a.scanned) n ≡ true
+  workers : length a.scanned ≡ a.world.heap.config.workers
+
+still_scanned : (ns : List ℕ) (a b : State) → HasScanned ns a → b.scanned ≡ a.scanned
+    → b.world.heap.config ≡ a.world.heap.config → HasScanned ns b
+still_scanned ns a b scanned same config = record {
+  distinct = scanned.distinct;
+  there = λ n has_it. rw same (scanned.there n has_it);
+  workers = rw (same, config) scanned.workers;
+}
+
+-- what a scan's row tells: the worker is there, and what it scanned wasn't scanned before
+scan_tells : (a b : State) (k n : ℕ) (fault : Option Fault) → refusal a (steps.Scan k) ≡ fault
+    → IsAnswer a fault (steps.Scan k) (replies.Scanned n) b
+    → (k < a.world.heap.config.workers) × (has (joined a.scanned) n ≡ false)
+scan_tells a b k n (Some fault) is row = let no = row.0 in absurd cc
+scan_tells a b k n None is row =
+    let first = unless_passes (is_worker a.world.heap k) _ _ is in
+    (ltb-true k a.world.heap.config.workers first.0, row.1.1.2)
+
+one_more : (ns : List ℕ) (a b : State) (k n : ℕ) → HasScanned ns a
+    → (k < a.world.heap.config.workers) × (has (joined a.scanned) n ≡ false)
+    → b.scanned ≡ scanned_after a.scanned (Some (heap.Scan k)) (replies.Scanned n)
+    → b.world.heap.config ≡ a.world.heap.config → HasScanned (ns ++ n ∷ []) b
+one_more ns a b k n scanned tells is config =
+    let within : k < length a.scanned = rw scanned.workers tells.0 in
+    let new : has ns n ≡ false =
+    elim (cases_Bool (has ns n)) [
+      | inl old ↦ absurd (both_ways (has (joined a.scanned) n) tells.1 (scanned.there n old))
+      | inr other ↦ other
+    ] in
+    let all : (m : ℕ) → has (joined b.scanned) m ≡ ((n == m) || has (joined a.scanned) m) =
+    λ m. ap (λ lists. has (joined lists) m) is ∙ has-with_last a.scanned k n m within in
+    record {
+      distinct = IsDistinct-push nat_eq_equiv ns n scanned.distinct (sym (has-list_any ns n) ∙ new);
+      there = λ m has_it.
+          elim (has-cases ns (n ∷ []) m has_it) [
+            | inl before ↦
+                all m ∙ or_right (n == m) (has (joined a.scanned) m) (scanned.there m before)
+            | inr last ↦
+                all m ∙ or_left (n == m) (has (joined a.scanned) m) (eq-eqb n m (has-single n m last))
+          ];
+      workers = ap (λ lists. length lists) is
+          ∙ length-set a.scanned k (list_at a.scanned k ++ n ∷ [])
+          ∙ scanned.workers ∙ ap (λ (c : Config). c.workers) (sym config);
+    }
+
+begins : (ns : List ℕ) (a b : State) → HasScanned ns a → b.scanned ≡ emptied a.scanned
+    → b.world.heap.config ≡ a.world.heap.config → HasScanned [] b
+begins ns a b scanned is config = record {
+  distinct = distinct_nil;
+  there = λ n has_it. absurd (false≢true has_it);
+  workers = ap (λ lists. length lists) is ∙ length-emptied a.scanned ∙ scanned.workers
+      ∙ ap (λ (c : Config). c.workers) (sym config);
+}
+
+-- what spends a hold scans nothing
+adopt_scans : (hand : Option Notice) (lists : List (List ℕ)) (m d : ℕ) (reply : Reply)
+    → scanned_after lists (spending (λ hold. heap.Adopt m d hold) hand) reply ≡ lists
+adopt_scans None lists m d reply = refl
+adopt_scans (Some notice) lists m d reply = refl
+
+release_scans : (hand : Option Notice) (lists : List (List ℕ)) (reply : Reply)
+    → scanned_after lists (spending (λ hold. heap.Release hold) hand) reply ≡ lists
+release_scans None lists reply = refl
+release_scans (Some notice) lists reply = refl
+
+step_scanned : (ns : List ℕ) (a b : State) (step : Step) (reply : Reply) → HasScanned ns a
+    → IsAnswer a (refusal a step) step reply b → Moves a (heap_step a.world step) reply b
+    → HasScanned (scanned_with ns step reply) b
+step_scanned ns a b (steps.Scan k) (replies.Scanned n) scanned row moves =
+    one_more ns a b k n scanned (scan_tells a b k n (refusal a (steps.Scan k)) refl row) moves.scanned moves.config
+step_scanned ns a b (steps.Begin now how) (replies.Cycle n) scanned row moves =
+    begins ns a b scanned moves.scanned moves.config
+step_scanned ns a b (steps.Adopt m d) reply scanned row moves =
+    still_scanned ns a b scanned
+    (moves.scanned ∙ adopt_scans (hand_of a.world (Mutator m)) a.scanned m d reply) moves.config
+step_scanned ns a b (steps.Release who) reply scanned row moves =
+    still_scanned ns a b scanned (moves.scanned ∙ release_scans (hand_of a.world who) a.scanned reply) moves.config
+step_scanned ns a b step reply scanned row moves = still_scanned ns a b scanned moves.scanned moves.config
+
+run_scanned : (ns : List ℕ) (a : State) (rows : List Row) (b : State) → HasScanned ns a → IsRun a rows b
+    → HasScanned (scanned_from ns rows) b
+run_scanned ns a [] b scanned run = subst (λ (s : State). HasScanned ns s) (sym run) scanned
+run_scanned ns a (row ∷ rows) b scanned run =
+    run_scanned (scanned_with ns row.step row.reply) run.0 rows b
+    (step_scanned ns a run.0 row.step row.reply scanned run.1 (row_moves a row run.0 run.1)) run.2
+
+-- no object is scanned twice in a cycle
+pub legal_scanned_once : (config : Config) (rows : List Row) → IsLegal config rows
+    → IsDistinct nat_eq (scanned_in_cycle rows)
+legal_scanned_once config rows legal =
+    let scanned = run_scanned [] (first_state config) rows legal.0 (record {
+      distinct = distinct_nil;
+      there = λ n has_it. absurd (false≢true has_it);
+      workers = length-replicate config.workers [];
+    }) legal.1 in
+    scanned.distinct
