@@ -7,3 +7,4 @@ pub mod QueueRows
 pub mod SoundCores
 pub mod FirstCores
 pub mod RunLemmas
+pub mod HeadlineLemmas

@@ -124,7 +124,7 @@ still_row : (c : Core) (a : State) (step : Step) (reply : Reply) → Stands c a
 still_row c a step reply stands row =
     others_row c a step reply (λ hands. hands) (λ queues. queues) a stands refl row
 
-queue_is : (c : Core) (a : State) (q : ℕ) → Stands c a → queue_at a.world q ≡ queue_in c q
+pub queue_is : (c : Core) (a : State) (q : ℕ) → Stands c a → queue_at a.world q ≡ queue_in c q
 queue_is c a q stands = ap (λ (qs : List (Lists Notice)). slice_index_or qs q (new_queue q)) stands.queues
 
 -- ---- puts

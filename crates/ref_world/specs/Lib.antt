@@ -1,5 +1,6 @@
 pub mod AskedSteps
 pub mod Cores
 pub mod HeapReplies
+pub mod Headline
 pub mod Runs
 pub mod Standing

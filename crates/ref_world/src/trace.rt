@@ -1,9 +1,13 @@
 //! A run: a list of steps in, a trace out.
 
-ghost use Rattle.std.specs.Prelude.{◌≡◌, map, IfOk, IfErr};
-ghost use Rattle.ref_base.specs.Collectors.{State};
-ghost use Rattle.ref_base.specs.CollectorRows.{IsRun};
+ghost use Rattle.std.specs.Prelude.{◌≡◌, IfOk, IfErr};
+ghost use Rattle.ref_base.specs.Collectors.{first_state};
+ghost use Rattle.ref_base.specs.LegalTraces.{IsLegal};
+ghost use Rattle.ref_base.specs.declared.config.Config.{Config};
+ghost use Rattle.ref_world.specs.Headline.{TakenThenStanding, QueuesTell, Positions, InClearingOrder, AtMostOnce};
+ghost use Rattle.ref_world.specs.Headline.{OwnQueue, OwnEnqueueCall, AfterAMarkEnded, NothingAfterClose};
 ghost use Rattle.ref_world.specs.Runs.{RunsFrom, steps_of};
+ghost use Rattle.ref_world.specs.Standing.{Stands};
 
 use crate::World;
 use ref_base::{Fault, Reply, Row, Step};
@@ -19,6 +23,10 @@ pub struct Trace<A: Allocator = Global> {
 
 /// Does these steps, in order, and answers each. The one error is `NoMemory`, where there is no room for the rows: no
 /// step was done then, and world and steps come back. Takes that room at once, and else what the puts take.
+///
+/// Of a new world the rows are a legal trace, and what was taken from a queue, followed by what stands in it, is what
+/// was put in, in each worker's clearing order; a reference is put in at most once, only into its own queue, after its
+/// own enqueue call or after a mark ended with its referent outside every kept path; and nothing is put in after close.
 pub fn run<A: Allocator + Copy>(
     alloc: A,
     world: World<A>,
@@ -28,7 +36,46 @@ pub fn run<A: Allocator + Copy>(
     ensures steps { IfOk result (λ trace. steps_of trace.rows.items ≡ steps.items) }
 
     // From each state that the world stands for, the rows are a run of the abstract collector.
-    ensures legal { IfOk result (λ trace. RunsFrom world trace.rows.items trace.world) }
+    ensures run { IfOk result (λ trace. RunsFrom world trace.rows.items trace.world) }
+    ensures refused { IfErr result (λ refused. refused.0 ≡ Fault.NoMemory) }
+    ensures back { IfErr result (λ refused. (refused.1 ≡ world) × (refused.2 ≡ steps)) }
+
+    // Of a new world.
+    ensures legal { (config : Config) → Stands world (first_state config)
+        → IfOk result (λ trace. IsLegal config trace.rows.items) }
+    ensures taken_then_standing { (config : Config) → Stands world (first_state config)
+        → IfOk result (λ trace. TakenThenStanding trace.rows.items trace.world) }
+    ensures queues { (config : Config) → Stands world (first_state config)
+        → IfOk result (λ trace. QueuesTell trace.rows.items trace.world) }
+    ensures positions { (config : Config) → Stands world (first_state config)
+        → IfOk result (λ trace. Positions config trace.rows.items) }
+    ensures clearing_order { (config : Config) → Stands world (first_state config)
+        → IfOk result (λ trace. InClearingOrder config trace.rows.items) }
+    ensures at_most_once { (config : Config) → Stands world (first_state config)
+        → IfOk result (λ trace. AtMostOnce trace.rows.items) }
+    ensures own_queue { (config : Config) → Stands world (first_state config)
+        → IfOk result (λ trace. OwnQueue config trace.rows.items) }
+    ensures own_enqueue_call { (config : Config) → Stands world (first_state config)
+        → IfOk result (λ trace. OwnEnqueueCall config trace.rows.items) }
+    ensures after_a_mark_ended { (config : Config) → Stands world (first_state config)
+        → IfOk result (λ trace. AfterAMarkEnded config trace.rows.items) }
+    ensures nothing_after_close { (config : Config) → Stands world (first_state config)
+        → IfOk result (λ trace. NothingAfterClose trace.rows.items) }
+{
+    match answered(alloc, world, steps) {
+        Ok(trace) => Ok(trace),
+        Err(refused) => Err(refused),
+    }
+}
+
+// The rows of the steps. What holds of them for a new world follows from these clauses.
+fn answered<A: Allocator + Copy>(
+    alloc: A,
+    world: World<A>,
+    steps: Vec<Step, A>,
+) -> Result<Trace<A>, (Fault, World<A>, Vec<Step, A>)>
+    ensures steps { IfOk result (λ trace. steps_of trace.rows.items ≡ steps.items) }
+    ensures run { IfOk result (λ trace. RunsFrom world trace.rows.items trace.world) }
     ensures refused { IfErr result (λ refused. refused.0 ≡ Fault.NoMemory) }
     ensures back { IfErr result (λ refused. (refused.1 ≡ world) × (refused.2 ≡ steps)) }
 {

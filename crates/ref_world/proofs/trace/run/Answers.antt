@@ -1,28 +1,47 @@
-use Rattle.std.proofs.Common.{refl, arith}
-use Rattle.ref_world.proofs.RunLemmas.{step_taken, runs_more}
+use Rattle.ref_base.specs.Collectors.{first_state}
+use Rattle.ref_world.proofs.HeadlineLemmas.{queues_tell, taken_then_standing, in_clearing_order, at_most_once}
+use Rattle.ref_world.proofs.HeadlineLemmas.{nothing_after_close, positions, own_queue, own_enqueue_call}
+use Rattle.ref_world.proofs.HeadlineLemmas.{after_a_mark_ended}
 use Rattle.ref_world.proofs.trace.run.Goals as goal
 
-pub loop-step-init : goal.loop-step-init
-loop-step-init g c = record {
-  steps = rw c.in-Ok.ensures.items refl;
-  legal = rw c.in-Ok.ensures.items (λ a stands. (a, refl, stands));
-  count = c.in-Ok.ensures.len;
-  room = omega (arith, c.in-Ok.ensures.capacity, c.len.ensures);
-}
+pub returns-in-Ok-clause-legal : goal.returns-in-Ok-clause-legal
+returns-in-Ok-clause-legal g c config stands =
+    let run = c.in-Ok.ensures.run (first_state config) stands in (run.0, run.1)
 
-pub loop-step-preserved : goal.loop-step-preserved
-loop-step-preserved g c =
-    let done = c.loop-step.invariant in
-    record {
-      steps =
-          rw c.push_reserved.ensures.items
-          (step_taken c.args.steps.items c.deref-step-items.result.now c.loop-step.step-index c.step-item.result
-          c.loop-step.rows.items c.step-reply.result c.deref-step-items.ensures.value c.loop-step-test.true
-          c.step-item.is done.steps);
-      legal =
-          rw c.push_reserved.ensures.items
-          (runs_more c.args.world c.loop-step.world c.step-reply.new.self c.loop-step.rows.items c.step-item.result
-          c.step-reply.result done.legal c.step-reply.ensures.row);
-      count = omega (arith, c.push_reserved.ensures.len, done.count);
-      room = omega (arith, c.push_reserved.ensures.capacity, done.room);
-    }
+pub returns-in-Ok-clause-taken_then_standing : goal.returns-in-Ok-clause-taken_then_standing
+returns-in-Ok-clause-taken_then_standing g c config stands =
+    let run = c.in-Ok.ensures.run (first_state config) stands in
+    taken_then_standing config c.in-Ok.trace.rows.items c.in-Ok.trace.world run.0 run.1 run.2
+
+pub returns-in-Ok-clause-queues : goal.returns-in-Ok-clause-queues
+returns-in-Ok-clause-queues g c config stands =
+    let run = c.in-Ok.ensures.run (first_state config) stands in
+    queues_tell config c.in-Ok.trace.rows.items c.in-Ok.trace.world run.0 run.1 run.2
+
+pub returns-in-Ok-clause-positions : goal.returns-in-Ok-clause-positions
+returns-in-Ok-clause-positions g c config stands =
+    positions config c.in-Ok.trace.rows.items (returns-in-Ok-clause-legal g c config stands)
+
+pub returns-in-Ok-clause-clearing_order : goal.returns-in-Ok-clause-clearing_order
+returns-in-Ok-clause-clearing_order g c config stands =
+    in_clearing_order config c.in-Ok.trace.rows.items (returns-in-Ok-clause-legal g c config stands)
+
+pub returns-in-Ok-clause-at_most_once : goal.returns-in-Ok-clause-at_most_once
+returns-in-Ok-clause-at_most_once g c config stands =
+    at_most_once config c.in-Ok.trace.rows.items (returns-in-Ok-clause-legal g c config stands)
+
+pub returns-in-Ok-clause-own_queue : goal.returns-in-Ok-clause-own_queue
+returns-in-Ok-clause-own_queue g c config stands =
+    own_queue config c.in-Ok.trace.rows.items (returns-in-Ok-clause-legal g c config stands)
+
+pub returns-in-Ok-clause-own_enqueue_call : goal.returns-in-Ok-clause-own_enqueue_call
+returns-in-Ok-clause-own_enqueue_call g c config stands =
+    own_enqueue_call config c.in-Ok.trace.rows.items (returns-in-Ok-clause-legal g c config stands)
+
+pub returns-in-Ok-clause-after_a_mark_ended : goal.returns-in-Ok-clause-after_a_mark_ended
+returns-in-Ok-clause-after_a_mark_ended g c config stands =
+    after_a_mark_ended config c.in-Ok.trace.rows.items (returns-in-Ok-clause-legal g c config stands)
+
+pub returns-in-Ok-clause-nothing_after_close : goal.returns-in-Ok-clause-nothing_after_close
+returns-in-Ok-clause-nothing_after_close g c config stands =
+    nothing_after_close config c.in-Ok.trace.rows.items (returns-in-Ok-clause-legal g c config stands)
