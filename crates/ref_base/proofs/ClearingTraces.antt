@@ -15,6 +15,7 @@ use Rattle.ref_base.specs.CollectorRows.{IsAnswer, IsRun, is_subsequence}
 use Rattle.ref_base.specs.LegalTraces.{IsLegal}
 use Rattle.ref_base.specs.WorkerOrder.{is_registered, cleared_by, if_registered, cleared_in, clearing_order}
 use Rattle.ref_base.specs.ClearingOrder.{is_by, if_worked, added_by, added_from, added_of}
+use Rattle.ref_base.specs.CountedHolds.{AreCounted}
 use Rattle.ref_base.specs.declared.actor.Actor.{Actor}
 use Rattle.ref_base.specs.declared.actor.Actor.TheVariants.{Mutator, Worker}
 use Rattle.ref_base.specs.declared.cause.Cause.{Cause}
@@ -30,6 +31,8 @@ use Rattle.ref_base.proofs.SoundWorlds.{IsSound, first_hand, first_sound}
 use Rattle.ref_base.proofs.Places.{place_there}
 use Rattle.ref_base.proofs.QueueLaws.{same}
 use Rattle.ref_base.proofs.RowLaws.{unless_passes, worker_within, row_goes}
+use Rattle.ref_base.proofs.CountedWorlds.{first_counted}
+use Rattle.ref_base.proofs.CountedTraces.{row_counted}
 use Rattle.ref_base.proofs.CarryLaws.{OfHand}
 use Rattle.ref_base.proofs.ProvenTraces.{Known, made_at, registered_more, row_known, first_known}
 use Rattle.ref_base.proofs.ReplayOthers.{answered_others}
@@ -187,6 +190,7 @@ nothing_waits config k q = rw (first_hand config (Worker k), no_pending_at confi
 record IsReady (past : List Row) (v : World) (a : State) : Type 0 where
   known : Known past a.world
   sound : IsSound a.world
+  counted : AreCounted a.world
   causes : HaveCauses a.world
   replay : SameOthers v a.world
 
@@ -208,7 +212,7 @@ run_in_order whole past v a (row ∷ rows) b k q added cleared is ready before r
     subst (λ (rs : List Row). is_registered rs n i ≡ true) is
     (registered_more past (row ∷ rows) n i (made_at past a.world.heap.objects n i ready.known.objects there)) in
     let shifts = step_shifts whole k q a mid row.step row.reply ready.sound ready.causes made run.1
-    (row_moves a row mid run.1)
+    (row_moves a row mid ready.counted run.1)
     (same_hand (others_after a.world row.step row.reply) mid.world (Worker k)
     (row_hands a mid row.step row.reply (refusal a row.step) run.1)) in
     let goes = row_goes a row mid ready.sound run.1 in
@@ -219,6 +223,7 @@ run_in_order whole past v a (row ∷ rows) b k q added cleared is ready before r
     (record {
       known = row_known past a row mid ready.known run.1;
       sound = goes.sound;
+      counted = row_counted a row mid ready.sound ready.counted run.1;
       causes = row_causes a row mid ready.sound ready.causes run.1;
       replay = answered_others v a mid row.step row.reply (refusal a row.step) ready.replay run.1;
     })
@@ -240,6 +245,7 @@ legal_in_order config rows k q legal =
     (record {
       known = first_known config;
       sound = first_sound config;
+      counted = first_counted config;
       causes = first_causes config;
       replay = same (first_world config);
     }) (nothing_waits config k q) legal.1)

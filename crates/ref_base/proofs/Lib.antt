@@ -52,6 +52,7 @@ pub mod ObjectTargets
 pub mod ClosedRows
 pub mod OffSets
 pub mod MarkShows
+pub mod MovedParts
 pub mod OutHeaps
 pub mod OutRuns
 pub mod OutTraces
@@ -60,8 +61,7 @@ pub mod MarkedTraces
 pub mod SameOthers
 pub mod ReplayOthers
 pub mod AddedRows
-pub mod ToldMoves
-pub mod HeapRowMoves
+pub mod LeftObjects
 pub mod RowMoves
 pub mod ScannedOnce
 pub mod Subsequences
