@@ -27,6 +27,7 @@ use Rattle.ref_base.proofs.HeapMoves.{settled, scanned_by, heap_moves}
 use Rattle.ref_base.proofs.PhaseLaws.{of_phase}
 use Rattle.ref_base.proofs.ReplayUnder.{handed_through, queues_through, asks_same}
 use Rattle.ref_base.proofs.ReplayKeeps.{numbers_of, but_hands, handed_keeps, queues_keep}
+use Rattle.ref_base.proofs.HeapRowLaws.{refused_hands, refused_queues}
 use Rattle.ref_base.proofs.RowKinds.{queues_lead, IsRefused, IsOfQueues, IsOfHeap, row_kind}
 use Rattle.ref_base.proofs.WaitingClears.{look_tells}
 use Rattle.ref_base.proofs.AgreeHeaps.{Agreeing, AreBelow, gone_after, none_waits, same_waits, still, makes, ends}
@@ -166,19 +167,11 @@ heap_refused : (w : World) (step : NamedStep) (fault : Fault) → after_heap w s
 heap_refused w heap.EndMark fault = refl
 heap_refused w step fault = refl
 
-handed_refused : (w : World) (step : Step) (fault : Fault) → handed w step (replies.Refused fault) ≡ w
-handed_refused w steps.EndMark fault = refl
-handed_refused w step fault = refl
-
-queues_refused : (w : World) (step : Step) (fault : Fault) → after_queues w step (replies.Refused fault) ≡ w
-queues_refused w steps.EndMark fault = refl
-queues_refused w step fault = refl
-
 after_refused : (w : World) (asked : Option NamedStep) (step : Step) (fault : Fault)
     → after_asking w asked step (replies.Refused fault) ≡ w
-after_refused w None step fault = queues_refused w step fault
+after_refused w None step fault = refused_queues w step fault
 after_refused w (Some asked) step fault =
-    ap (λ (v : World). handed v step (replies.Refused fault)) (heap_refused w asked fault) ∙ handed_refused w step fault
+    ap (λ (v : World). handed v step (replies.Refused fault)) (heap_refused w asked fault) ∙ refused_hands w step fault
 
 module _ (gone : List ℕ) (w : World) (a : State) (row : Row) (b : State) (is : Agreeing gone w a) where
   -- the replay asks its heap for the same

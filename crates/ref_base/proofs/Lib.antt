@@ -59,7 +59,6 @@ pub mod OutTraces
 pub mod OldNames
 pub mod MarkedTraces
 pub mod SameOthers
-pub mod ReplayOthers
 pub mod AddedRows
 pub mod LeftObjects
 pub mod RowMoves

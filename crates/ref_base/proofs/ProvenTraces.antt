@@ -226,7 +226,7 @@ lifted past a row known =
     (λ o is q there. registered_more past (row ∷ []) o.no q (is q there))
     (λ notice is. proven_more past (row ∷ []) notice is) (stays_at a.world.cycle row.step) known
 
-pub row_known : (past : List Row) (a : State) (row : Row) (b : State) → Known past a.world → IsRow a row b
+row_known : (past : List Row) (a : State) (row : Row) (b : State) → Known past a.world → IsRow a row b
     → Known (past ++ row ∷ []) b.world
 row_known past a row b known h =
     let more : List Row = past ++ row ∷ [] in
@@ -260,13 +260,11 @@ hand_known : (rows : List Row) (w : World) (who : Actor) → Known rows w → Is
 hand_known rows w (Mutator m) known = in_hand rows (hand_of w (Mutator m)) (known.of_mutators m)
 hand_known rows w (Worker k) known = in_hand rows (hand_of w (Worker k)) (known.of_workers k)
 
-pub first_known : (config : Config) → Known [] (first_state config).world
-first_known config = first_carries (IsMade []) (IsProven []) (λ c. cycle_from 0 [] ≡ c) config refl
-
 pub legal_known : (config : Config) (rows : List Row) (b : State) → IsRun (first_state config) rows b
     → Known rows b.world
 legal_known config rows b run =
-    run_known [] (first_state config) rows b (first_known config) run
+    run_known [] (first_state config) rows b
+    (first_carries (IsMade []) (IsProven []) (λ c. cycle_from 0 [] ≡ c) config refl) run
 
 -- what is out after a legal trace comes from its rows
 pub legal_proven : (config : Config) (rows : List Row) (b : State) → IsRun (first_state config) rows b

@@ -139,7 +139,8 @@ closes a b m q true reply row = given a a b (steps.Close m q) replies.Closed rep
 closes a b m q false reply row =
     given a (with_world a (closed_queue a.world q)) b (steps.Close m q) replies.Done reply row refl
 
-queues_become : (a b : State) (step : Step) (reply : Reply) → QueuesAccept a step reply b → LeadsQueues a step reply b
+-- a row of queues leaves the queues that its answer says
+pub queues_become : (a b : State) (step : Step) (reply : Reply) → QueuesAccept a step reply b → LeadsQueues a step reply b
 queues_become a b (steps.Put who) reply row = puts a b who (hand_of a.world who) reply refl row
 queues_become a b (steps.Poll m q) reply row = polls a b m q (queue_at a.world q).stands reply row
 queues_become a b (steps.Close m q) reply row = closes a b m q (queue_at a.world q).closed reply row
