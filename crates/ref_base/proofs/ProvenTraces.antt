@@ -28,6 +28,7 @@ use Rattle.ref_base.specs.declared.step.Step.TheVariants as steps
 use Rattle.ref_base.specs.declared.reply.Reply.{Reply}
 use Rattle.ref_base.specs.declared.reply.Reply.TheVariants as replies
 use Rattle.ref_base.specs.declared.row.Row.{Row}
+use Rattle.ref_base.proofs.Reshaping.{queue-cleared}
 use Rattle.ref_base.proofs.RowLaws.{ticked_world, but_world}
 use Rattle.ref_base.proofs.CarryLaws.{OfHand, Carries, Lasts}
 use Rattle.ref_base.proofs.CarryRows.{Mints, row_carries, first_carries, carries_more}
@@ -114,10 +115,6 @@ proven_more rows more notice is = record {
 abbrev pub IsMade : List Row → Object → Type 0
 IsMade rows o = (q : ℕ) → registered_in o.reference ≡ Some q → is_registered rows o.no q ≡ true
 
-queue_cleared : (r : Option Reference) → registered_in (changed_reference cleared r) ≡ registered_in r
-queue_cleared None = refl
-queue_cleared (Some r) = refl
-
 queue_got : (clock : ℕ) (r : Option Reference) → registered_in (changed_reference (got_at clock) r) ≡ registered_in r
 queue_got clock None = refl
 queue_got clock (Some r) =
@@ -126,7 +123,7 @@ queue_got clock (Some r) =
 made_lasts : (rows : List Row) → Lasts (IsMade rows)
 made_lasts rows = record {
   stores = λ o i value is. is;
-  clears = λ o is q there. is q (sym (queue_cleared o.reference) ∙ there);
+  clears = λ o is q there. is q (sym (queue-cleared o.reference) ∙ there);
   gets = λ o clock is q there. is q (sym (queue_got clock o.reference) ∙ there);
 }
 
