@@ -5,7 +5,6 @@ use Rattle.std.proofs.Common.{sym, ap, ◌∙◌, subst, inl, inr}
 use Rattle.std.proofs.lemmas.Bool.{or_from, false≢true}
 use Rattle.std.proofs.lemmas.List.{append-nil, append_assoc, take-append-drop}
 use Rattle.ref_base.specs.Members.{has}
-use Rattle.ref_base.specs.Heaps.{reference_at, registered_in}
 use Rattle.ref_base.specs.Worlds.{World}
 use Rattle.ref_base.specs.HeapSteps.{NamedStep}
 use Rattle.ref_base.specs.Replay.{after_heap, replayed}
@@ -22,10 +21,9 @@ use Rattle.ref_base.specs.declared.reply.Reply.{Reply}
 use Rattle.ref_base.specs.declared.reply.Reply.TheVariants as replies
 use Rattle.ref_base.specs.declared.row.Row.{Row}
 use Rattle.ref_base.proofs.HasLaws.{has-append, has-cases}
-use Rattle.ref_base.proofs.HeapMoves.{moved, heap_moves, IsNoEnd}
+use Rattle.ref_base.proofs.HeapMoves.{heap_moves, IsNoEnd}
 use Rattle.ref_base.proofs.PhaseLaws.{of_phase}
-use Rattle.ref_base.proofs.MovedParts.{phase_moved, FreesNone, doomed_moved}
-use Rattle.ref_base.proofs.ReplayKeeps.{EndsNoPhase}
+use Rattle.ref_base.proofs.MovedParts.{phase_moved}
 use Rattle.ref_base.proofs.AgreeHeaps.{Agreeing, gone_after, fresh, unscanned-there}
 use Rattle.ref_base.proofs.ApartWorlds.{IsClosed}
 use Rattle.ref_base.proofs.ClosedRows.{closed_same, heap_closed}

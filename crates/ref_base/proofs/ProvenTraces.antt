@@ -7,7 +7,7 @@ use Rattle.std.proofs.lemmas.Bool.{cases_Bool, eq-eqb, eqb-true, and_from}
 use Rattle.std.proofs.lemmas.List.{append-nil, append_assoc}
 use Rattle.ref_base.specs.Graphs.{Object, Reference, object_at}
 use Rattle.ref_base.specs.Paths.{is_soft}
-use Rattle.ref_base.specs.Heaps.{registered_in, reference_in, changed_reference, cleared, got_at}
+use Rattle.ref_base.specs.Heaps.{registered_in, reference_in, changed_reference, got_at}
 use Rattle.ref_base.specs.Worlds.{World, Notice, hand_of}
 use Rattle.ref_base.specs.Collectors.{State, first_state}
 use Rattle.ref_base.specs.Replay.{begun}

@@ -9,7 +9,6 @@ use Rattle.ref_base.specs.Replay.{pended, without_pending, after_queues}
 use Rattle.ref_base.specs.Collectors.{State}
 use Rattle.ref_base.specs.CollectorRows.{emptied, with_world, with_handed, HeapAccepts, IsRow}
 use Rattle.ref_base.specs.CountedHolds.{AreCounted}
-use Rattle.ref_base.specs.declared.config.Config.{Config}
 use Rattle.ref_base.specs.declared.fault.Fault.{Fault}
 use Rattle.ref_base.specs.declared.heap_step.HeapStep.TheVariants as heap
 use Rattle.ref_base.specs.declared.reply.Reply.{Reply}

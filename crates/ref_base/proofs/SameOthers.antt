@@ -1,15 +1,11 @@
 -- What leaves hands and queues the same: the heap has no say in them.
-use Rattle.std.proofs.Common.{◌≡◌, ℕ, Bool, true, false, if◌then◌else◌, List, Option, Some, None}
+use Rattle.std.proofs.Common.{◌≡◌, Bool, true, false, if◌then◌else◌, List, Option, Some, None}
 use Rattle.std.proofs.Common.{refl, sym, ap, ◌∙◌, subst}
 use Rattle.std.specs.Prelude.{slice_index_or, slice_set, is_some}
-use Rattle.ref_base.specs.Heaps.{Heap, reference_at, registered_in}
-use Rattle.ref_base.specs.QueueLists.{Lists, new_queue}
-use Rattle.ref_base.specs.Worlds.{World, Notice, SameOthers, hand_of, queue_at, with_heap, with_hand}
-use Rattle.ref_base.specs.Worlds.{with_queue}
-use Rattle.ref_base.specs.Told.{told_object, told_value, is_done, told_notice, is_nothing, told_cycle, told_cleared}
-use Rattle.ref_base.specs.Told.{is_doomed}
+use Rattle.ref_base.specs.Heaps.{Heap}
+use Rattle.ref_base.specs.Worlds.{World, Notice, SameOthers, hand_of, with_heap, with_hand}
+use Rattle.ref_base.specs.Told.{told_object, is_done, told_notice}
 use Rattle.ref_base.specs.HeapSteps.{NamedStep, taking, handed}
-use Rattle.ref_base.specs.Replay.{if_told, pended, after_heap}
 use Rattle.ref_base.specs.Collectors.{State}
 use Rattle.ref_base.specs.CollectorRows.{HeapAccepts}
 use Rattle.ref_base.specs.declared.actor.Actor.{Actor}
@@ -18,7 +14,6 @@ use Rattle.ref_base.specs.declared.heap_step.HeapStep.TheVariants as heap
 use Rattle.ref_base.specs.declared.step.Step.{Step}
 use Rattle.ref_base.specs.declared.step.Step.TheVariants as steps
 use Rattle.ref_base.specs.declared.reply.Reply.{Reply}
-use Rattle.ref_base.proofs.QueueLaws.{same}
 use Rattle.ref_base.proofs.RowLaws.{ticked_world, heap_keeps}
 
 -- ---- the same hands and queues
