@@ -18,7 +18,7 @@ use Rattle.ref_base.specs.declared.reply.Reply.TheVariants as replies
 use Rattle.ref_base.specs.declared.row.Row.{Row}
 use Rattle.ref_base.proofs.LegalQueues.{first_run_moves}
 use Rattle.ref_base.proofs.ProvenTraces.{legal_proven}
-use Rattle.ref_base.proofs.ReplayOthers.{legal_others}
+use Rattle.ref_base.proofs.OutTraces.{legal_others}
 use Rattle.ref_base.proofs.SameOthers.{same_hand}
 use Rattle.ref_base.proofs.RunLaws.{cut}
 

@@ -23,7 +23,7 @@ use Rattle.ref_base.specs.declared.reply.Reply.{Reply}
 use Rattle.ref_base.specs.declared.reply.Reply.TheVariants as replies
 use Rattle.ref_base.proofs.HasLaws.{has-left, has-right, has-cases}
 use Rattle.ref_base.proofs.HeapMoves.{settled, moved, found_less}
-use Rattle.ref_base.proofs.ReplayKeeps.{numbers_of, numbers_same, phase_pended}
+use Rattle.ref_base.proofs.ReplayKeeps.{numbers_of, numbers_same, stage_pended}
 use Rattle.ref_base.proofs.SeenObjects.{without-changed_at, rising-without, seen_queue, seen_swept}
 use Rattle.ref_base.proofs.WaitingClears.{shown-waiting, looked-waiting, has-found, Looks, new_clears-there}
 use Rattle.ref_base.proofs.AgreeHeaps.{Agreeing, AreBelow, there-numbers, there-without, unscanned-there, none_waits}
@@ -136,7 +136,7 @@ cleared_agrees gone w a c k n is clearing clears looks leads =
     let mine : Option ℕ = registered_in (reference_at a.world.heap n) in
     let queue : Option ℕ = registered_in (reference_at w.heap n) in
     let v : World = pended a.world k n mine in
-    let phase : v.phase ≡ a.world.phase = phase_pended a.world k n mine in
+    let phase : v.phase ≡ a.world.phase = ap (λ (u : World). u.phase) (stage_pended a.world k n mine) in
     let own : (n == n) ≡ true = eq-eqb n n refl in
     let found : has (joined a.found) n ≡ true =
     has-found a.found k n looks.rest n looks.first ∙ simp own refl in

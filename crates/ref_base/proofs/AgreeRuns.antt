@@ -19,15 +19,15 @@ use Rattle.ref_base.specs.declared.fault.Fault.{Fault}
 use Rattle.ref_base.specs.declared.phase.Phase.TheVariants.{Idle, Marking, Clearing, Sweeping}
 use Rattle.ref_base.specs.declared.heap_step.HeapStep.TheVariants as heap
 use Rattle.ref_base.specs.declared.step.Step.{Step}
-use Rattle.ref_base.specs.declared.step.Step.TheVariants as steps
 use Rattle.ref_base.specs.declared.reply.Reply.{Reply}
 use Rattle.ref_base.specs.declared.reply.Reply.TheVariants as replies
 use Rattle.ref_base.specs.declared.row.Row.{Row}
-use Rattle.ref_base.proofs.HeapMoves.{settled, heap_moves}
+use Rattle.ref_base.proofs.HeapMoves.{settled, scanned_by, heap_moves}
 use Rattle.ref_base.proofs.PhaseLaws.{of_phase}
 use Rattle.ref_base.proofs.ReplayUnder.{handed_through, queues_through, asks_same}
 use Rattle.ref_base.proofs.ReplayKeeps.{numbers_of, but_hands, handed_keeps, queues_keep}
-use Rattle.ref_base.proofs.RowKinds.{IsRefused, IsOfQueues, IsOfHeap, row_kind}
+use Rattle.ref_base.proofs.HeapRowLaws.{refused_hands, refused_queues}
+use Rattle.ref_base.proofs.RowKinds.{queues_lead, IsRefused, IsOfQueues, IsOfHeap, row_kind}
 use Rattle.ref_base.proofs.WaitingClears.{look_tells}
 use Rattle.ref_base.proofs.AgreeHeaps.{Agreeing, AreBelow, gone_after, none_waits, same_waits, still, makes, ends}
 use Rattle.ref_base.proofs.AgreeEnds.{end_agrees, cleared_agrees, passed_agrees, swept_agrees}
@@ -35,9 +35,10 @@ use Rattle.ref_base.proofs.AgreeEnds.{end_agrees, cleared_agrees, passed_agrees,
 -- ---- rows of a heap
 
 -- it is kept where a state stays but for what marking alone looks at
-settles : (gone : List ℕ) (w : World) (a c : State) → Agreeing gone w a → settled c ≡ settled a → Agreeing gone w c
-settles gone w a c is same =
-    let own : Agreeing gone w (settled a) = record {
+settles : (gone : List ℕ) (w : World) (a c : State) (scanned : List (List ℕ)) → Agreeing gone w a
+    → settled c ≡ settled (record a { scanned = scanned }) → Agreeing gone w c
+settles gone w a c scanned is same =
+    let own : Agreeing gone w (settled (record a { scanned = scanned })) = record {
       agrees = is.agrees;
       rising = is.rising;
       below = is.below;
@@ -84,6 +85,8 @@ heap_agrees gone w a c (heap.Begin now how) reply is none row =
     (ap (λ (s : State). s.world.phase) leads ∙ ap (λ (r : Reply). (after_heap a.world step r).phase) row.0) refl
     (ap (λ (s : State). s.next) leads) (none_below a.next c.doomed (ap (λ (s : State). s.doomed) leads))
     (none_below a.next c.cleared (ap (λ (s : State). s.cleared) leads))
+heap_agrees gone w a c (heap.Scan k) reply is none row =
+    settles gone w a c (scanned_by a.scanned k reply) is (heap_moves a c (heap.Scan k) reply tt row)
 heap_agrees gone w a c heap.EndMark reply is none row =
     end_agrees gone w a c reply is (of_phase 0 a heap.EndMark none) row
 heap_agrees gone w a c (heap.ClearNext k) (replies.Cleared n) is none row =
@@ -99,7 +102,7 @@ heap_agrees gone w a c (heap.ClearNext k) (replies.Skipped n) is none row =
     passed_agrees gone w a c k n is (of_phase 0 a (heap.ClearNext k) none) tells.0 tells.1
     (heap_moves a c (heap.ClearNext k) (replies.Skipped n) tt row)
 heap_agrees gone w a c (heap.ClearNext k) reply is none row =
-    settles gone w a c is (heap_moves a c (heap.ClearNext k) reply tt row)
+    settles gone w a c a.scanned is (heap_moves a c (heap.ClearNext k) reply tt row)
 heap_agrees gone w a c heap.EndClear reply is none row =
     let phase = of_phase 0 a heap.EndClear none in
     let leads = heap_moves a c heap.EndClear reply tt row in
@@ -114,7 +117,7 @@ heap_agrees gone w a c (heap.Sweep k) (replies.Swept count) is none row =
     swept_agrees gone w a c k count is (of_phase 0 a (heap.Sweep k) none)
     (heap_moves a c (heap.Sweep k) (replies.Swept count) tt row)
 heap_agrees gone w a c (heap.Sweep k) reply is none row =
-    settles gone w a c is (heap_moves a c (heap.Sweep k) reply tt row)
+    settles gone w a c a.scanned is (heap_moves a c (heap.Sweep k) reply tt row)
 heap_agrees gone w a c heap.EndSweep reply is none row =
     let phase = of_phase 0 a heap.EndSweep none in
     let leads = heap_moves a c heap.EndSweep reply tt row in
@@ -163,19 +166,11 @@ heap_refused : (w : World) (step : NamedStep) (fault : Fault) → after_heap w s
 heap_refused w heap.EndMark fault = refl
 heap_refused w step fault = refl
 
-handed_refused : (w : World) (step : Step) (fault : Fault) → handed w step (replies.Refused fault) ≡ w
-handed_refused w steps.EndMark fault = refl
-handed_refused w step fault = refl
-
-queues_refused : (w : World) (step : Step) (fault : Fault) → after_queues w step (replies.Refused fault) ≡ w
-queues_refused w steps.EndMark fault = refl
-queues_refused w step fault = refl
-
 after_refused : (w : World) (asked : Option NamedStep) (step : Step) (fault : Fault)
     → after_asking w asked step (replies.Refused fault) ≡ w
-after_refused w None step fault = queues_refused w step fault
+after_refused w None step fault = refused_queues w step fault
 after_refused w (Some asked) step fault =
-    ap (λ (v : World). handed v step (replies.Refused fault)) (heap_refused w asked fault) ∙ handed_refused w step fault
+    ap (λ (v : World). handed v step (replies.Refused fault)) (heap_refused w asked fault) ∙ refused_hands w step fault
 
 module _ (gone : List ℕ) (w : World) (a : State) (row : Row) (b : State) (is : Agreeing gone w a) where
   -- the replay asks its heap for the same
@@ -205,8 +200,8 @@ module _ (gone : List ℕ) (w : World) (a : State) (row : Row) (b : State) (is :
       (sym of.asks)
       (subst (λ (asked : Option NamedStep). Agreeing gone (after_asking w asked row.step row.reply) b)
       (sym (asks ∙ of.asks))
-      (settles gone next (with_world a v) b
-      (with_others gone w a v next is agrees (queues_keep w row.step row.reply)) of.leads))
+      (settles gone next (with_world a v) b a.scanned
+      (with_others gone w a v next is agrees (queues_keep w row.step row.reply)) (queues_lead of)))
 
   of_heap : IsOfHeap a row b
       → Agreeing (gone_next a gone (heap_step a.world row.step) row.reply) (after w row.step row.reply) b

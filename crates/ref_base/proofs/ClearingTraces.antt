@@ -8,7 +8,7 @@ use Rattle.ref_base.specs.Heaps.{reference_at, registered_in}
 use Rattle.ref_base.specs.Worlds.{World, Notice, Pending, SameOthers, first_world, hand_of}
 use Rattle.ref_base.specs.Told.{told_object, told_notice, is_done, told_taken}
 use Rattle.ref_base.specs.HeapSteps.{heap_step}
-use Rattle.ref_base.specs.Replay.{put_in, after}
+use Rattle.ref_base.specs.Replay.{put_in, after, replayed}
 use Rattle.ref_base.specs.Collectors.{State, first_state}
 use Rattle.ref_base.specs.Refusals.{refusal, is_worker}
 use Rattle.ref_base.specs.CollectorRows.{IsAnswer, IsRun, is_subsequence}
@@ -28,16 +28,19 @@ use Rattle.ref_base.specs.declared.reply.Reply.TheVariants as replies
 use Rattle.ref_base.specs.declared.row.Row.{Row}
 use Rattle.ref_base.proofs.SoundWorlds.{IsSound, first_hand, first_sound}
 use Rattle.ref_base.proofs.Places.{place_there}
-use Rattle.ref_base.proofs.QueueLaws.{same}
-use Rattle.ref_base.proofs.RowLaws.{unless_passes, worker_within, row_goes}
+use Rattle.ref_base.proofs.RowLaws.{unless_passes, worker_within}
+use Rattle.ref_base.proofs.CountedTraces.{legal_counted}
 use Rattle.ref_base.proofs.CarryLaws.{OfHand}
-use Rattle.ref_base.proofs.ProvenTraces.{Known, made_at, registered_more, row_known, first_known}
-use Rattle.ref_base.proofs.ReplayOthers.{answered_others}
+use Rattle.ref_base.proofs.ProvenTraces.{made_at, registered_more, legal_known}
+use Rattle.ref_base.proofs.OutTraces.{legal_others}
+use Rattle.ref_base.proofs.RunFronts.{replayed_last}
+use Rattle.ref_base.proofs.RunLaws.{run_more}
+use Rattle.ref_base.proofs.LegalQueues.{run_sound}
 use Rattle.ref_base.proofs.SameOthers.{same_hand}
 use Rattle.ref_base.proofs.AddedRows.{TellsAdded, answer_tells_added}
 use Rattle.ref_base.proofs.RowMoves.{Moves, row_moves}
 use Rattle.ref_base.proofs.RowHands.{IsBy, others_after, row_hands, hand_tells, hand_given}
-use Rattle.ref_base.proofs.HandCauses.{IsOwnOrPut, HaveCauses, row_causes, first_causes}
+use Rattle.ref_base.proofs.HandCauses.{IsOwnOrPut, HaveCauses, legal_causes}
 use Rattle.ref_base.proofs.Subsequences.{Sub, sub_none, sub_through, sub_behind, sub_before, sub_is}
 use Rattle.ref_base.proofs.ClearingShifts.{waiting_in, Shifts, still, emptied, put, passes}
 use Rattle.ref_base.proofs.ClearingShifts.{mutator_taking, mutator_emptied, mutator_polled, queue_closed, released}
@@ -183,63 +186,49 @@ no_pending_at (suc count) (suc k) = no_pending_at count k
 nothing_waits : (config : Config) (k q : ℕ) → IsInOrder k q (first_world config) [] []
 nothing_waits config k q = rw (first_hand config (Worker k), no_pending_at config.workers k) refl
 
--- what an order needs of the rows before and of the state there
-record IsReady (past : List Row) (v : World) (a : State) : Type 0 where
-  known : Known past a.world
-  sound : IsSound a.world
-  causes : HaveCauses a.world
-  replay : SameOthers v a.world
-
-run_in_order : (whole past : List Row) (v : World) (a : State) (rows : List Row) (b : State) (k q : ℕ)
-    (added cleared : List ℕ) → past ++ rows ≡ whole → IsReady past v a → IsInOrder k q a.world added cleared
-    → IsRun a rows b
-    → Sub (added ++ added_from v k q rows) (cleared ++ cleared_in whole k q rows)
-run_in_order whole past v a [] b k q added cleared is ready before run =
+run_in_order : (config : Config) (whole past : List Row) (a : State) (rows : List Row) (b : State) (k q : ℕ)
+    (added cleared : List ℕ) → past ++ rows ≡ whole → IsRun (first_state config) past a
+    → IsInOrder k q a.world added cleared → IsRun a rows b
+    → Sub (added ++ added_from (replayed config past) k q rows) (cleared ++ cleared_in whole k q rows)
+run_in_order config whole past a [] b k q added cleared is before order run =
     sub_through (added ++ []) (added ++ waiting_in k q a.world) (cleared ++ [])
     (sub_behind added [] (waiting_in k q a.world) (sub_none (waiting_in k q a.world)))
-    (subst (λ ns. Sub (added ++ waiting_in k q a.world) ns) (sym (append-nil cleared)) before)
-run_in_order whole past v a (row ∷ rows) b k q added cleared is ready before run =
+    (subst (λ ns. Sub (added ++ waiting_in k q a.world) ns) (sym (append-nil cleared)) order)
+run_in_order config whole past a (row ∷ rows) b k q added cleared is before order run =
     let mid : State = run.0 in
     let now : List Row = past ++ row ∷ [] in
+    let v : World = replayed config past in
     let adds : List ℕ = added_by v k q row.step row.reply in
     let clears : List ℕ = if_registered whole q (cleared_by k row.step row.reply) in
+    let known = legal_known config past a before in
     let made : (n i : ℕ) → registered_in (reference_at a.world.heap n) ≡ Some i → is_registered whole n i ≡ true =
     λ n i there.
     subst (λ (rs : List Row). is_registered rs n i ≡ true) is
-    (registered_more past (row ∷ rows) n i (made_at past a.world.heap.objects n i ready.known.objects there)) in
-    let shifts = step_shifts whole k q a mid row.step row.reply ready.sound ready.causes made run.1
-    (row_moves a row mid run.1)
+    (registered_more past (row ∷ rows) n i (made_at past a.world.heap.objects n i known.objects there)) in
+    let shifts = step_shifts whole k q a mid row.step row.reply
+    (run_sound (first_state config) past a (first_sound config) before) (legal_causes config past a before) made run.1
+    (row_moves a row mid (legal_counted config past a before) run.1)
     (same_hand (others_after a.world row.step row.reply) mid.world (Worker k)
     (row_hands a mid row.step row.reply (refusal a row.step) run.1)) in
-    let goes = row_goes a row mid ready.sound run.1 in
-    let next : Sub ((added ++ adds) ++ added_from (after v row.step row.reply) k q rows)
+    let next : Sub ((added ++ adds) ++ added_from (replayed config now) k q rows)
     ((cleared ++ clears) ++ cleared_in whole k q rows) =
-    run_in_order whole now (after v row.step row.reply) mid rows b k q (added ++ adds) (cleared ++ clears)
-    (append_assoc past (row ∷ []) rows ∙ is)
-    (record {
-      known = row_known past a row mid ready.known run.1;
-      sound = goes.sound;
-      causes = row_causes a row mid ready.sound ready.causes run.1;
-      replay = answered_others v a mid row.step row.reply (refusal a row.step) ready.replay run.1;
-    })
-    (row_in_order k q a.world mid.world added cleared adds clears before
-    (subst (λ ns. Shifts k q a.world mid.world ns clears) (same_adds v a.world k q row.step row.reply ready.replay)
-    shifts)) run.2 in
+    run_in_order config whole now mid rows b k q (added ++ adds) (cleared ++ clears)
+    (append_assoc past (row ∷ []) rows ∙ is) (run_more (first_state config) past a mid row before run.1)
+    (row_in_order k q a.world mid.world added cleared adds clears order
+    (subst (λ ns. Shifts k q a.world mid.world ns clears)
+    (same_adds v a.world k q row.step row.reply (legal_others config past a before)) shifts)) run.2 in
+    let replayed_on = replayed_last (first_world config) past row in
     subst (λ ns. Sub ns (cleared ++ cleared_in whole k q (row ∷ rows)))
     (append_assoc added adds (added_from (after v row.step row.reply) k q rows))
     (subst (λ ns. Sub ((added ++ adds) ++ added_from (after v row.step row.reply) k q rows) ns)
-    (append_assoc cleared clears (cleared_in whole k q rows)) next)
+    (append_assoc cleared clears (cleared_in whole k q rows))
+    (subst
+    (λ (w : World). Sub ((added ++ adds) ++ added_from w k q rows) ((cleared ++ clears) ++ cleared_in whole k q rows))
+    replayed_on next))
 
 -- each queue has a worker's references in the order in which it cleared them
 pub legal_in_order : (config : Config) (rows : List Row) (k q : ℕ) → IsLegal config rows
     → is_subsequence (added_of config k q rows) (clearing_order rows k q) ≡ true
 legal_in_order config rows k q legal =
-    let a : State = first_state config in
     sub_is (added_of config k q rows) (clearing_order rows k q)
-    (run_in_order rows [] (first_world config) a rows legal.0 k q [] [] refl
-    (record {
-      known = first_known config;
-      sound = first_sound config;
-      causes = first_causes config;
-      replay = same (first_world config);
-    }) (nothing_waits config k q) legal.1)
+    (run_in_order config rows [] (first_state config) rows legal.0 k q [] [] refl refl (nothing_waits config k q) legal.1)

@@ -46,7 +46,7 @@ has-with_last lists w n m within =
     ∙ ap (λ ns. (n == m) || has ns m) (sym parts.2)
 
 -- none stands twice where a new one comes between
-pub AreDistinct-between : (front back : List ℕ) (n : ℕ) → AreDistinct (front ++ back) → has (front ++ back) n ≡ false
+AreDistinct-between : (front back : List ℕ) (n : ℕ) → AreDistinct (front ++ back) → has (front ++ back) n ≡ false
     → AreDistinct (front ++ (n ∷ back))
 AreDistinct-between [] back n distinct new = (new, distinct)
 AreDistinct-between (m ∷ ms) back n distinct new =

@@ -10,9 +10,9 @@ use Rattle.ref_base.specs.Worlds.{World, Notice, first_world, object_of, hand_of
 use Rattle.ref_base.specs.Told.{told_object, told_notice, is_done, is_added, told_taken}
 use Rattle.ref_base.specs.HeapSteps.{taking}
 use Rattle.ref_base.specs.Replay.{if_told, put_in, notice_of, took, taken_out, closed_queue}
-use Rattle.ref_base.specs.Collectors.{State}
+use Rattle.ref_base.specs.Collectors.{State, first_state}
 use Rattle.ref_base.specs.Refusals.{refusal}
-use Rattle.ref_base.specs.CollectorRows.{IsAnswer, IsRow}
+use Rattle.ref_base.specs.CollectorRows.{IsAnswer, IsRow, IsRun}
 use Rattle.ref_base.specs.declared.config.Config.{Config}
 use Rattle.ref_base.specs.declared.actor.Actor.{Actor}
 use Rattle.ref_base.specs.declared.actor.Actor.TheVariants.{Mutator, Worker}
@@ -22,11 +22,13 @@ use Rattle.ref_base.specs.declared.reply.Reply.{Reply}
 use Rattle.ref_base.specs.declared.row.Row.{Row}
 use Rattle.ref_base.proofs.HasLaws.{has-left, has-right, has-first}
 use Rattle.ref_base.proofs.Places.{set_each}
-use Rattle.ref_base.proofs.SoundWorlds.{IsSound, first_hand}
+use Rattle.ref_base.proofs.SoundWorlds.{IsSound, first_hand, first_sound}
 use Rattle.ref_base.proofs.SoundWorlds.{IsOwn as IsFor}
 use Rattle.ref_base.proofs.CarryLaws.{OfHand}
 use Rattle.ref_base.proofs.CarryRows.{all_notice_of}
 use Rattle.ref_base.proofs.RowLaws.{row_goes}
+use Rattle.ref_base.proofs.LegalQueues.{run_sound}
+use Rattle.ref_base.proofs.RunFronts.{legal_holds}
 use Rattle.ref_base.proofs.SameOthers.{same_hand}
 use Rattle.ref_base.proofs.RowHands.{others_after, row_hands, IsOwn, IsBy, unhook_tells, hand_tells}
 
@@ -155,7 +157,7 @@ gives_cause a b (steps.Poll m q) reply sound grows row =
     (λ k stands. grows q k (has-right lists.taken (map object_of lists.stands) k stands)))
 gives_cause a b step reply sound grows row = tt
 
-pub row_causes : (a : State) (row : Row) (b : State) → IsSound a.world → HaveCauses a.world → IsRow a row b
+row_causes : (a : State) (row : Row) (b : State) → IsSound a.world → HaveCauses a.world → IsRow a row b
     → HaveCauses b.world
 row_causes a row b sound have h who =
     let grows = row_grows a row b sound h in
@@ -166,6 +168,15 @@ row_causes a row b sound have h who =
     subst (λ (hand : Option Notice). OfHand (HasCause b.world who) hand)
     (sym (same_hand next b.world who (row_hands a b row.step row.reply (refusal a row.step) h))) (all who)
 
-pub first_causes : (config : Config) → HaveCauses (first_world config)
+first_causes : (config : Config) → HaveCauses (first_world config)
 first_causes config who =
     subst (λ (hand : Option Notice). OfHand (HasCause (first_world config) who) hand) (sym (first_hand config who)) tt
+
+-- and so it is after every legal trace
+pub legal_causes : (config : Config) (rows : List Row) (b : State) → IsRun (first_state config) rows b
+    → HaveCauses b.world
+legal_causes config rows b run =
+    legal_holds config (λ past a. HaveCauses a.world)
+    (λ past a row c before have h.
+    row_causes a row c (run_sound (first_state config) past a (first_sound config) before) have h)
+    (first_causes config) rows b run

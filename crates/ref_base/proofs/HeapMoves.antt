@@ -1,7 +1,7 @@
--- Where a row of a heap leads, in one equation: to the world that its replay gives, but for what a worker looks at in
--- Clearing and what a sweep frees. A mark's end says itself where it leads.
+-- Where a row of a heap leads: to the world that its replay gives, but for what a worker looks at in Clearing and what
+-- a sweep frees; and then a moment of a mark joins the others. A mark's end says itself where it leads.
 use Rattle.std.proofs.Common.{◌≡◌, ℕ, ◌+◌, Bool, true, false, List, [], ◌∷◌, ◌++◌, length, take, drop, min}
-use Rattle.std.proofs.Common.{Option, Some, None, is_some, refl, sym, ap, ◌∙◌, inl, inr}
+use Rattle.std.proofs.Common.{Option, Some, None, is_some, refl, sym, ap, ◌∙◌, subst, inl, inr, ◌⊎◌}
 use Rattle.std.specs.Prelude.{slice_set}
 use Rattle.std.proofs.lemmas.Bool.{cases_Bool}
 use Rattle.ref_base.specs.Members.{has}
@@ -13,7 +13,7 @@ use Rattle.ref_base.specs.Replay.{adopted, pended, handed_on, begun, with_phase,
 use Rattle.ref_base.specs.Collectors.{State}
 use Rattle.ref_base.specs.CollectorRows.{Gives, GivesAnewIf, IsBut, ticked, on_heap, with_world, Loads, Gets}
 use Rattle.ref_base.specs.CollectorRows.{Unhooks, Holds, Scans, ClearsNext, HandsOn, Sweeps, HeapAccepts, value_reply}
-use Rattle.ref_base.specs.CollectorRows.{looked_at, looked, list_at, begun_state, emptied, without, referent_of}
+use Rattle.ref_base.specs.CollectorRows.{looked_at, looked, list_at, begun_state, without, referent_of}
 use Rattle.ref_base.specs.CollectorRows.{is_same, reference_of}
 use Rattle.ref_base.specs.Refusals.{is_in}
 use Rattle.ref_base.specs.declared.cause.Cause.TheVariants.{Own, Cycle}
@@ -22,9 +22,18 @@ use Rattle.ref_base.specs.declared.heap_step.HeapStep.TheVariants as heap
 use Rattle.ref_base.specs.declared.reply.Reply.{Reply}
 use Rattle.ref_base.specs.declared.reply.Reply.TheVariants as replies
 
--- a state but for what marking alone looks at
+-- b is c, or what c is as a moment of its mark, or that but that it says anew whether an object is left
+abbrev pub Becomes : State → State → Type 0
+Becomes c b = (b ≡ c) ⊎ ((b ≡ ticked c) ⊎ IsBut (ticked c) b)
+
+-- a state but for the moments of its mark and whether it says that an object is left
 abbrev pub settled : State → State
-settled a = record a { born = 0; moments = []; scanned = []; left = false }
+settled a = record a { moments = []; left = false }
+
+-- what was scanned, after a scan with this answer
+abbrev pub scanned_by : List (List ℕ) → ℕ → Reply → List (List ℕ)
+scanned_by lists k (replies.Scanned n) = slice_set lists k (list_at lists k ++ n ∷ [])
+scanned_by lists k reply = lists
 
 -- the state with the first that a worker found taken off
 abbrev pub found_less : State → ℕ → State
@@ -36,12 +45,8 @@ moved a (heap.New m d k) reply =
     record a { world = after_heap a.world (heap.New m d k) reply; next = a.next + 1 }
 moved a (heap.Refer m strength d s q k) reply =
     record a { world = after_heap a.world (heap.Refer m strength d s q k) reply; next = a.next + 1 }
-moved a (heap.Begin now how) reply = record a {
-  world = after_heap a.world (heap.Begin now how) reply;
-  doomed = [];
-  cleared = [];
-  found = emptied a.found;
-}
+moved a (heap.Begin now how) reply = begun_state a (after_heap a.world (heap.Begin now how) reply)
+moved a (heap.Scan k) reply = record a { scanned = scanned_by a.scanned k reply }
 moved a (heap.ClearNext k) (replies.Cleared n) =
     with_world (found_less a k) (pended a.world k n (registered_in (reference_at a.world.heap n)))
 moved a (heap.ClearNext k) (replies.Kept n) = found_less a k
@@ -65,26 +70,27 @@ pub settled_ticked : (c : State) → settled (ticked c) ≡ settled c
 settled_ticked c =
     elim (cases_Bool (is_in c.world.phase Marking)) [ inl marks ↦ simp marks refl | inr other ↦ simp other refl ]
 
-settled_but : (c b : State) → IsBut (ticked c) b → settled b ≡ settled c
-settled_but c b but = ap settled but.1 ∙ settled_ticked c
+pub settled_becomes : (c b : State) → Becomes c b → settled b ≡ settled c
+settled_becomes c b (inl same) = ap settled same
+settled_becomes c b (inr (inl tick)) = ap settled tick ∙ settled_ticked c
+settled_becomes c b (inr (inr but)) = ap settled but.1 ∙ settled_ticked c
 
 -- b is where this answer to the step leads
 abbrev Leads : State → NamedStep → Reply → State → Type 0
-Leads a step reply b = settled b ≡ settled (moved a step reply)
+Leads a step reply b = Becomes (moved a step reply) b
 
-answered : (a b : State) (step : NamedStep) (answer reply : Reply) → reply ≡ answer → Leads a step answer b
-    → Leads a step reply b
-answered a b step answer reply is leads = leads ∙ ap (λ (r : Reply). settled (moved a step r)) (sym is)
+answered : (a c b : State) (step : NamedStep) (answer reply : Reply) → reply ≡ answer → c ≡ moved a step answer
+    → Becomes c b → Leads a step reply b
+answered a c b step answer reply is leads becomes =
+    subst (λ (s : State). Becomes s b) (leads ∙ ap (λ (r : Reply). moved a step r) (sym is)) becomes
 
-given : (a c b : State) (step : NamedStep) (answer reply : Reply) → Gives answer c reply b → Leads a step answer c
+given : (a c b : State) (step : NamedStep) (answer reply : Reply) → Gives answer c reply b → c ≡ moved a step answer
     → Leads a step reply b
-given a c b step answer reply row leads =
-    answered a b step answer reply row.0 (ap settled row.1 ∙ settled_ticked c ∙ leads)
+given a c b step answer reply row leads = answered a c b step answer reply row.0 leads (inr (inl row.1))
 
 given_anew : (a c b : State) (step : NamedStep) (marks : Bool) (answer reply : Reply)
-    → GivesAnewIf marks answer c reply b → Leads a step answer c → Leads a step reply b
-given_anew a c b step true answer reply row leads =
-    answered a b step answer reply row.0 (settled_but c b row.1 ∙ leads)
+    → GivesAnewIf marks answer c reply b → c ≡ moved a step answer → Leads a step reply b
+given_anew a c b step true answer reply row leads = answered a c b step answer reply row.0 leads (inr (inr row.1))
 given_anew a c b step false answer reply row leads = given a c b step answer reply row leads
 
 -- ---- rows
@@ -129,31 +135,31 @@ holds a b m s (Some n) reply row =
     given a (on_heap a (with_hold a.world.heap n)) b (heap.Hold m s) (replies.Object n) reply row refl
 
 scans : (a b : State) (k : ℕ) (reply : Reply) → Scans a k reply b → Leads a (heap.Scan k) reply b
-scans a b k (replies.Scanned n) row =
-    settled_but (record a { scanned = slice_set a.scanned k (list_at a.scanned k ++ n ∷ []) }) b row.2
+scans a b k (replies.Scanned n) row = inr (inr row.2)
 scans a b k reply row = given a a b (heap.Scan k) replies.Nothing reply row.1 refl
 
 looks : (a b : State) (k n : ℕ) (rest : List ℕ) (reply : Reply) → list_at a.found k ≡ n ∷ rest
     → Gives (looked_at a k n) (looked a k n rest) reply b → Leads a (heap.ClearNext k) reply b
 looks a b k n rest reply is row =
     let c : State = looked a k n rest in
-    let left : settled b ≡ settled c = ap settled row.1 ∙ settled_ticked c in
-    let less : settled (record a { found = slice_set a.found k rest }) ≡ settled (found_less a k) =
-    ap (λ (ns : List ℕ). settled (record a { found = slice_set a.found k (drop 1 ns) })) (sym is) in
+    let less : record a { found = slice_set a.found k rest } ≡ found_less a k =
+    ap (λ (ns : List ℕ). record a { found = slice_set a.found k (drop 1 ns) }) (sym is) in
     elim (cases_Bool (has a.cleared n)) [
       | inl clears ↦
           let w : World = pended a.world k n (registered_in (reference_at a.world.heap n)) in
           let told : looked_at a k n ≡ replies.Cleared n = simp clears refl in
-          answered a b (heap.ClearNext k) (replies.Cleared n) reply (row.0 ∙ told)
-          (left ∙ simp clears (ap (λ (s : State). with_world s w) less))
+          answered a c b (heap.ClearNext k) (replies.Cleared n) reply (row.0 ∙ told)
+          (simp clears (ap (λ (s : State). with_world s w) less)) (inr (inl row.1))
       | inr other ↦
           elim (cases_Bool (is_some (referent_of (reference_at a.world.heap n)))) [
             | inl some ↦
                 let told : looked_at a k n ≡ replies.Kept n = simp (other, some) refl in
-                answered a b (heap.ClearNext k) (replies.Kept n) reply (row.0 ∙ told) (left ∙ simp other less)
+                answered a c b (heap.ClearNext k) (replies.Kept n) reply (row.0 ∙ told) (simp other less)
+                (inr (inl row.1))
             | inr none ↦
                 let told : looked_at a k n ≡ replies.Skipped n = simp (other, none) refl in
-                answered a b (heap.ClearNext k) (replies.Skipped n) reply (row.0 ∙ told) (left ∙ simp other less)
+                answered a c b (heap.ClearNext k) (replies.Skipped n) reply (row.0 ∙ told) (simp other less)
+                (inr (inl row.1))
           ]
     ]
 
@@ -178,43 +184,48 @@ sweeps a b k (n ∷ ns) reply is row =
       doomed = drop 64 ds;
     } in
     given a (freed (n ∷ ns)) b (heap.Sweep k) (replies.Swept (min 64 (length (n ∷ ns)))) reply row
-    (ap (λ ds. settled (freed ds)) (sym is))
+    (ap freed (sym is))
 
 -- a row of a heap that isn't a mark's end leads where its answer says
-pub heap_moves : (a b : State) (step : NamedStep) (reply : Reply) → IsNoEnd step → HeapAccepts a step reply b
-    → settled b ≡ settled (moved a step reply)
-heap_moves a b (heap.New m d k) reply plain row = given a _ b (heap.New m d k) (replies.Object a.next) reply row refl
-heap_moves a b (heap.Refer m strength d s q k) reply plain row =
+pub heap_becomes : (a b : State) (step : NamedStep) (reply : Reply) → IsNoEnd step → HeapAccepts a step reply b
+    → Becomes (moved a step reply) b
+heap_becomes a b (heap.New m d k) reply plain row = given a _ b (heap.New m d k) (replies.Object a.next) reply row refl
+heap_becomes a b (heap.Refer m strength d s q k) reply plain row =
     given a _ b (heap.Refer m strength d s q k) (replies.Object a.next) reply row refl
-heap_moves a b (heap.Store m s i v) reply plain row =
+heap_becomes a b (heap.Store m s i v) reply plain row =
     given a (on_heap a (stored a.world.heap m s i v)) b (heap.Store m s i v) replies.Done reply row refl
-heap_moves a b (heap.Load m d s i) reply plain row = loads a b m d s i _ reply row
-heap_moves a b (heap.Copy m d s) reply plain row = copies a b m d s (slot_at a.world.heap m s) reply row
-heap_moves a b (heap.Drop m s) reply plain row =
+heap_becomes a b (heap.Load m d s i) reply plain row = loads a b m d s i _ reply row
+heap_becomes a b (heap.Copy m d s) reply plain row = copies a b m d s (slot_at a.world.heap m s) reply row
+heap_becomes a b (heap.Drop m s) reply plain row =
     given a (on_heap a (with_slot a.world.heap m s None)) b (heap.Drop m s) replies.Done reply row refl
-heap_moves a b (heap.Get m d s) reply plain row = gets a b m d s _ reply row
-heap_moves a b (heap.Clear m s) reply plain row =
+heap_becomes a b (heap.Get m d s) reply plain row = gets a b m d s _ reply row
+heap_becomes a b (heap.Clear m s) reply plain row =
     given a (on_heap a (cut a.world.heap m s)) b (heap.Clear m s) replies.Done reply row refl
-heap_moves a b (heap.RefersTo m s v) reply plain row =
+heap_becomes a b (heap.RefersTo m s v) reply plain row =
     let h : Heap = a.world.heap in
     given a a b (heap.RefersTo m s v)
     (replies.Refers (is_same (referent_of (reference_of h (slot_at h m s))) (slot_at h m v))) reply row refl
-heap_moves a b (heap.Unhook m s) reply plain row = unhooks a b m s _ _ reply row
-heap_moves a b (heap.Hold m s) reply plain row = holds a b m s _ reply row
-heap_moves a b (heap.Adopt m d hold) reply plain row =
+heap_becomes a b (heap.Unhook m s) reply plain row = unhooks a b m s _ _ reply row
+heap_becomes a b (heap.Hold m s) reply plain row = holds a b m s _ reply row
+heap_becomes a b (heap.Adopt m d hold) reply plain row =
     given a (on_heap a (adopted a.world.heap m d hold.object)) b (heap.Adopt m d hold) (replies.Object hold.object)
     reply row refl
-heap_moves a b (heap.Release hold) reply plain row =
+heap_becomes a b (heap.Release hold) reply plain row =
     given a (on_heap a (without_hold a.world.heap hold.object)) b (heap.Release hold) replies.Done reply row refl
-heap_moves a b (heap.Begin now how) reply plain row =
+heap_becomes a b (heap.Begin now how) reply plain row =
     given_anew a (begun_state a (begun a.world now how (a.world.cycle + 1))) b (heap.Begin now how) true
     (replies.Cycle (a.world.cycle + 1)) reply row refl
-heap_moves a b (heap.Scan k) reply plain row = scans a b k reply row
-heap_moves a b heap.EndMark reply plain row = absurd plain
-heap_moves a b (heap.ClearNext k) reply plain row = looks_at a b k (list_at a.found k) reply refl row
-heap_moves a b heap.EndClear reply plain row =
+heap_becomes a b (heap.Scan k) reply plain row = scans a b k reply row
+heap_becomes a b heap.EndMark reply plain row = absurd plain
+heap_becomes a b (heap.ClearNext k) reply plain row = looks_at a b k (list_at a.found k) reply refl row
+heap_becomes a b heap.EndClear reply plain row =
     given a (with_world a (with_phase a.world Sweeping)) b heap.EndClear replies.Done reply row refl
-heap_moves a b (heap.Hand k) reply plain row = hands_on a b k _ reply row
-heap_moves a b (heap.Sweep k) reply plain row = sweeps a b k a.doomed reply refl row
-heap_moves a b heap.EndSweep reply plain row =
+heap_becomes a b (heap.Hand k) reply plain row = hands_on a b k _ reply row
+heap_becomes a b (heap.Sweep k) reply plain row = sweeps a b k a.doomed reply refl row
+heap_becomes a b heap.EndSweep reply plain row =
     given a (with_world a (with_phase a.world Idle)) b heap.EndSweep replies.Done reply row refl
+
+-- in one equation
+pub heap_moves : (a b : State) (step : NamedStep) (reply : Reply) → IsNoEnd step → HeapAccepts a step reply b
+    → settled b ≡ settled (moved a step reply)
+heap_moves a b step reply plain row = settled_becomes (moved a step reply) b (heap_becomes a b step reply plain row)

@@ -5,6 +5,7 @@ use Rattle.ref_base.specs.Members.{has}
 use Rattle.ref_base.specs.Worlds.{World, Notice, SameOthers, hand_of, pending_of}
 use Rattle.ref_base.specs.Heaps.{slot_at}
 use Rattle.ref_base.specs.HeapSteps.{NamedStep, hold_of, heap_step, handed}
+use Rattle.ref_base.specs.Replay.{after_queues}
 use Rattle.ref_base.specs.Collectors.{State}
 use Rattle.ref_base.specs.Refusals.{unless, has_slot, is_worker, is_actor, unless_full, empty_hand_refusal}
 use Rattle.ref_base.specs.Refusals.{unhook_refusal, hand_refusal, heap_refusal, refusal}
@@ -31,6 +32,11 @@ refused_hands w (steps.Hand k) fault = refl
 refused_hands w (steps.Adopt m d) fault = refl
 refused_hands w (steps.Release who) fault = refl
 refused_hands w step fault = refl
+
+-- and the queues
+pub refused_queues : (w : World) (step : Step) (fault : Fault) → after_queues w step (replies.Refused fault) ≡ w
+refused_queues w (steps.Put who) fault = refl
+refused_queues w step fault = refl
 
 carried_answer : (a c : State) (asked : NamedStep) (step : Step) (reply : Reply) (fault : Option Fault)
     → heap_step a.world step ≡ Some asked → IsHeapAnswer a fault asked reply c

@@ -108,6 +108,12 @@ module _ (config : Config) (past : List Row) (count : ℕ) (gone : List ℕ) (a 
     dead = doomed_dead n doomed;
   }
 
+-- a row of some rows is one of more
+earlier_more : (rows more before behind : List Row) (row : Row) → before ++ row ∷ behind ≡ rows
+    → before ++ row ∷ (behind ++ more) ≡ rows ++ more
+earlier_more rows more before behind row is =
+    sym (append_assoc before (row ∷ behind) more) ∙ ap (λ rs. rs ++ more) is
+
 -- what a mark's end showed stays shown
 pub ended_more : (config : Config) (rows more : List Row) (cycle n : ℕ) → MarkEnded config rows cycle n
     → MarkEnded config (rows ++ more) cycle n
@@ -115,9 +121,7 @@ ended_more config rows more cycle n is = record {
   before = is.before;
   count = is.count;
   behind = is.behind ++ more;
-  is_earlier = sym (append_assoc is.before
-      (record { step = steps.EndMark; reply = replies.Doomed is.count } ∷ is.behind) more)
-      ∙ ap (λ rs. rs ++ more) is.is_earlier;
+  is_earlier = earlier_more rows more is.before is.behind _ is.is_earlier;
   of_cycle = is.of_cycle;
   referent = is.referent;
   referred = is.referred;
@@ -130,8 +134,6 @@ doomed_more config rows more n is = record {
   before = is.before;
   count = is.count;
   behind = is.behind ++ more;
-  is_earlier = sym (append_assoc is.before
-      (record { step = steps.EndMark; reply = replies.Doomed is.count } ∷ is.behind) more)
-      ∙ ap (λ rs. rs ++ more) is.is_earlier;
+  is_earlier = earlier_more rows more is.before is.behind _ is.is_earlier;
   dead = is.dead;
 }

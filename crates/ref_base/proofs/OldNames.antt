@@ -26,7 +26,7 @@ use Rattle.ref_base.proofs.ShownObjects.{shown-no}
 use Rattle.ref_base.proofs.SeenObjects.{numbers-cleared_if, rising-without}
 use Rattle.ref_base.proofs.ReplayUnder.{made_number}
 use Rattle.ref_base.proofs.ReplayKeeps.{but_hands, handed_keeps, queues_keep}
-use Rattle.ref_base.proofs.RowKinds.{IsRefused, IsOfQueues, IsOfHeap, row_kind}
+use Rattle.ref_base.proofs.RowKinds.{queues_lead, IsRefused, IsOfQueues, IsOfHeap, row_kind}
 use Rattle.ref_base.proofs.RunFronts.{legal_holds}
 use Rattle.ref_base.proofs.OneQueue.{next_heap}
 use Rattle.ref_base.proofs.AgreeHeaps.{Agreeing, there-numbers}
@@ -136,8 +136,8 @@ row_old : (gone : List ℕ) (w : World) (a : State) (row : Row) (b : State) → 
 row_old gone w a row b is (inl of) closed =
     subst (λ (s : State). IsClosed (λ n. n < s.next) s.world) (sym of.same) closed
 row_old gone w a row b is (inr (inl of)) closed =
-    same_old a b (ap (λ (s : State). but_hands s.world) of.leads ∙ queues_keep a.world row.step row.reply)
-    (ap (λ (s : State). s.next) of.leads) closed
+    same_old a b (ap (λ (s : State). but_hands s.world) (queues_lead of) ∙ queues_keep a.world row.step row.reply)
+    (ap (λ (s : State). s.next) (queues_lead of)) closed
 row_old gone w a row b is (inr (inr of)) closed =
     same_old of.left b
     (ap (λ (s : State). but_hands s.world) of.after ∙ handed_keeps of.left.world row.step row.reply)

@@ -18,7 +18,7 @@ use Rattle.ref_base.specs.declared.reply.Reply.TheVariants as replies
 use Rattle.ref_base.specs.declared.row.Row.{Row}
 use Rattle.ref_base.proofs.CountedTraces.{legal_counted}
 use Rattle.ref_base.proofs.HeapMoves.{settled, settled_ticked, moved, heap_moves}
-use Rattle.ref_base.proofs.RowKinds.{IsRefused, IsOfQueues, IsOfHeap, row_kind}
+use Rattle.ref_base.proofs.RowKinds.{queues_lead, IsRefused, IsOfQueues, IsOfHeap, row_kind}
 use Rattle.ref_base.proofs.RunFronts.{legal_holds}
 
 -- ---- the next number grows
@@ -43,7 +43,7 @@ next_heap a b step reply row =
 pub next_grows : (a : State) (row : Row) (b : State)
     → IsRefused a row b ⊎ (IsOfQueues a row b ⊎ IsOfHeap a row b) → a.next ≤ b.next
 next_grows a row b (inl refused) = let same = ap (λ (s : State). s.next) refused.same in omega (arith, same)
-next_grows a row b (inr (inl of)) = let same = ap (λ (s : State). s.next) of.leads in omega (arith, same)
+next_grows a row b (inr (inl of)) = let same = ap (λ (s : State). s.next) (queues_lead of) in omega (arith, same)
 next_grows a row b (inr (inr of)) =
     let left = ap (λ (s : State). s.next) of.after in
     let grows = next_heap a of.left of.asked row.reply of.accepts in

@@ -5,7 +5,6 @@ use Rattle.std.proofs.Common.{sym, ap, ◌∙◌, subst, inl, inr}
 use Rattle.std.proofs.lemmas.Bool.{or_from, false≢true}
 use Rattle.std.proofs.lemmas.List.{append-nil, append_assoc, take-append-drop}
 use Rattle.ref_base.specs.Members.{has}
-use Rattle.ref_base.specs.Heaps.{reference_at, registered_in}
 use Rattle.ref_base.specs.Worlds.{World}
 use Rattle.ref_base.specs.HeapSteps.{NamedStep}
 use Rattle.ref_base.specs.Replay.{after_heap, replayed}
@@ -22,9 +21,9 @@ use Rattle.ref_base.specs.declared.reply.Reply.{Reply}
 use Rattle.ref_base.specs.declared.reply.Reply.TheVariants as replies
 use Rattle.ref_base.specs.declared.row.Row.{Row}
 use Rattle.ref_base.proofs.HasLaws.{has-append, has-cases}
-use Rattle.ref_base.proofs.HeapMoves.{moved, heap_moves, IsNoEnd}
+use Rattle.ref_base.proofs.HeapMoves.{heap_moves, IsNoEnd}
 use Rattle.ref_base.proofs.PhaseLaws.{of_phase}
-use Rattle.ref_base.proofs.ReplayKeeps.{EndsNoPhase, same_phase, same_cycle, phase_pended, cycle_pended}
+use Rattle.ref_base.proofs.MovedParts.{phase_moved}
 use Rattle.ref_base.proofs.AgreeHeaps.{Agreeing, gone_after, fresh, unscanned-there}
 use Rattle.ref_base.proofs.ApartWorlds.{IsClosed}
 use Rattle.ref_base.proofs.ClosedRows.{closed_same, heap_closed}
@@ -52,69 +51,7 @@ pub record AreOut (config : Config) (rows : List Row) (gone : List ℕ) (a : Sta
   pub spared : a.world.phase ≡ Clearing → (n : ℕ) → has a.cleared n ≡ true → has (off gone a) n ≡ false
   pub shown : a.world.phase ≡ Clearing → (n : ℕ) → has a.cleared n ≡ true → MarkEnded config rows a.world.cycle n
 
--- ---- what stays
-
-pub phase_moved : (a : State) (step : NamedStep) (reply : Reply) → EndsNoPhase step
-    → (moved a step reply).world.phase ≡ a.world.phase
-phase_moved a (heap.ClearNext k) (replies.Cleared n) plain =
-    phase_pended a.world k n (registered_in (reference_at a.world.heap n))
-phase_moved a (heap.ClearNext k) (replies.Kept n) plain = refl
-phase_moved a (heap.ClearNext k) (replies.Skipped n) plain = refl
-phase_moved a (heap.ClearNext k) reply plain = refl
-phase_moved a (heap.Sweep k) (replies.Swept count) plain = refl
-phase_moved a (heap.Sweep k) reply plain = refl
-phase_moved a (heap.Begin now how) reply plain = absurd plain
-phase_moved a heap.EndMark reply plain = absurd plain
-phase_moved a heap.EndClear reply plain = absurd plain
-phase_moved a heap.EndSweep reply plain = absurd plain
-phase_moved a (heap.New m d k) reply plain = same_phase a.world (heap.New m d k) reply tt
-phase_moved a (heap.Refer m strength d s q k) reply plain =
-    same_phase a.world (heap.Refer m strength d s q k) reply tt
-phase_moved a step reply plain = same_phase a.world step reply tt
-
-pub cycle_moved : (a : State) (step : NamedStep) (reply : Reply) → EndsNoPhase step
-    → (moved a step reply).world.cycle ≡ a.world.cycle
-cycle_moved a (heap.ClearNext k) (replies.Cleared n) plain =
-    cycle_pended a.world k n (registered_in (reference_at a.world.heap n))
-cycle_moved a (heap.ClearNext k) (replies.Kept n) plain = refl
-cycle_moved a (heap.ClearNext k) (replies.Skipped n) plain = refl
-cycle_moved a (heap.ClearNext k) reply plain = refl
-cycle_moved a (heap.Sweep k) (replies.Swept count) plain = refl
-cycle_moved a (heap.Sweep k) reply plain = refl
-cycle_moved a (heap.Begin now how) reply plain = absurd plain
-cycle_moved a heap.EndMark reply plain = absurd plain
-cycle_moved a heap.EndClear reply plain = absurd plain
-cycle_moved a heap.EndSweep reply plain = absurd plain
-cycle_moved a (heap.New m d k) reply plain = same_cycle a.world (heap.New m d k) reply tt
-cycle_moved a (heap.Refer m strength d s q k) reply plain =
-    same_cycle a.world (heap.Refer m strength d s q k) reply tt
-cycle_moved a step reply plain = same_cycle a.world step reply tt
-
-pub cleared_moved : (a : State) (step : NamedStep) (reply : Reply) → EndsNoPhase step
-    → (moved a step reply).cleared ≡ a.cleared
-cleared_moved a (heap.ClearNext k) (replies.Cleared n) plain = refl
-cleared_moved a (heap.ClearNext k) (replies.Kept n) plain = refl
-cleared_moved a (heap.ClearNext k) (replies.Skipped n) plain = refl
-cleared_moved a (heap.ClearNext k) reply plain = refl
-cleared_moved a (heap.Sweep k) (replies.Swept count) plain = refl
-cleared_moved a (heap.Sweep k) reply plain = refl
-cleared_moved a (heap.Begin now how) reply plain = absurd plain
-cleared_moved a step reply plain = refl
-
--- the step frees nothing
-abbrev pub FreesNone : NamedStep → Type 0
-FreesNone (heap.Sweep k) = ⊥
-FreesNone step = Unit {0}
-
-pub doomed_moved : (a : State) (step : NamedStep) (reply : Reply) → EndsNoPhase step → FreesNone step
-    → (moved a step reply).doomed ≡ a.doomed
-doomed_moved a (heap.ClearNext k) (replies.Cleared n) plain frees = refl
-doomed_moved a (heap.ClearNext k) (replies.Kept n) plain frees = refl
-doomed_moved a (heap.ClearNext k) (replies.Skipped n) plain frees = refl
-doomed_moved a (heap.ClearNext k) reply plain frees = refl
-doomed_moved a (heap.Sweep k) reply plain frees = absurd frees
-doomed_moved a (heap.Begin now how) reply plain frees = absurd plain
-doomed_moved a step reply plain frees = refl
+-- ---- what is off
 
 -- what is off goes by the phase and what is doomed
 pub off_is : (gone doomed : List ℕ) (c : State) (phase : Phase) → c.world.phase ≡ phase → c.doomed ≡ doomed

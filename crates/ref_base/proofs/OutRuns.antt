@@ -23,15 +23,16 @@ use Rattle.ref_base.specs.declared.reply.Reply.TheVariants as replies
 use Rattle.ref_base.specs.declared.row.Row.{Row}
 use Rattle.ref_base.proofs.HeapMoves.{settled, moved, heap_moves, IsNoEnd}
 use Rattle.ref_base.proofs.PhaseLaws.{of_phase}
-use Rattle.ref_base.proofs.RowKinds.{row_kind}
+use Rattle.ref_base.proofs.RowKinds.{queues_lead, row_kind}
 use Rattle.ref_base.proofs.ReplayKeeps.{EndsNoPhase, but_hands, handed_keeps, queues_keep}
 use Rattle.ref_base.proofs.AgreeHeaps.{Agreeing, gone_after, not_in}
 use Rattle.ref_base.proofs.AgreeRuns.{gone_next, gone_refused}
 use Rattle.ref_base.proofs.ApartWorlds.{IsClosed}
 use Rattle.ref_base.proofs.ClosedRows.{closed_same}
 use Rattle.ref_base.proofs.MarkShows.{ended_more, doomed_more}
-use Rattle.ref_base.proofs.OutHeaps.{AreOut, off, doomed_in, phase_moved, cycle_moved, cleared_moved}
-use Rattle.ref_base.proofs.OutHeaps.{plain_out, end_out, FreesNone, doomed_moved}
+use Rattle.ref_base.proofs.OutHeaps.{AreOut, off, doomed_in}
+use Rattle.ref_base.proofs.OutHeaps.{plain_out, end_out}
+use Rattle.ref_base.proofs.MovedParts.{phase_moved, cycle_moved, cleared_moved, FreesNone, doomed_moved}
 
 -- ---- more rows, and other states that are the same
 
@@ -180,8 +181,8 @@ module _ (config : Config) (past : List Row) (gone : List ℕ) (a : State) (row 
               (sym of.asks)
               (more_out config past (row ∷ []) gone b
               (same_out config past gone a b out
-              (ap (λ (s : State). but_hands s.world) of.leads ∙ queues_keep a.world row.step row.reply)
-              (ap (λ (s : State). s.doomed) of.leads) (ap (λ (s : State). s.cleared) of.leads)))
+              (ap (λ (s : State). but_hands s.world) (queues_lead of) ∙ queues_keep a.world row.step row.reply)
+              (ap (λ (s : State). s.doomed) (queues_lead of)) (ap (λ (s : State). s.cleared) (queues_lead of))))
           | inr of ↦
               let now : List ℕ = gone_after a gone of.asked row.reply in
               subst

@@ -6,7 +6,7 @@ use Rattle.std.proofs.lemmas.Bool.{false≢true, or_parts, or_from}
 use Rattle.ref_base.specs.Members.{has}
 use Rattle.ref_base.specs.Graphs.{object_at, is_there}
 use Rattle.ref_base.specs.Paths.{any_referent}
-use Rattle.ref_base.specs.Worlds.{World, first_world, graph_of}
+use Rattle.ref_base.specs.Worlds.{World, SameOthers, first_world, graph_of}
 use Rattle.ref_base.specs.HeapSteps.{heap_step}
 use Rattle.ref_base.specs.Replay.{replayed}
 use Rattle.ref_base.specs.Collectors.{State, first_state}
@@ -89,6 +89,17 @@ legal_agrees config rows b run =
       λ n out. known.2.dead n (has-left known.0 later n out),
       all_out config rows known.0 b known.2,
     )
+
+-- so the replay has its hands and queues
+pub legal_others : (config : Config) (rows : List Row) (b : State) → IsRun (first_state config) rows b
+    → SameOthers (replayed config rows) b.world
+legal_others config rows b run =
+    let agrees = (legal_out config rows b run).1.agrees in
+    record {
+      mutators = ap (λ (w : World). w.mutator_hands) agrees;
+      workers = ap (λ (w : World). w.worker_hands) agrees;
+      queues = ap (λ (w : World). w.queues) agrees;
+    }
 
 -- what is doomed, and not swept yet, is out of reach of all else that is there
 pub doomed_out : (config : Config) (rows : List Row) (b : State) → IsRun (first_state config) rows b

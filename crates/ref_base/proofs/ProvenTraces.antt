@@ -7,7 +7,7 @@ use Rattle.std.proofs.lemmas.Bool.{cases_Bool, eq-eqb, eqb-true, and_from}
 use Rattle.std.proofs.lemmas.List.{append-nil, append_assoc}
 use Rattle.ref_base.specs.Graphs.{Object, Reference, object_at}
 use Rattle.ref_base.specs.Paths.{is_soft}
-use Rattle.ref_base.specs.Heaps.{registered_in, reference_in, changed_reference, cleared, got_at}
+use Rattle.ref_base.specs.Heaps.{registered_in, reference_in, changed_reference, got_at}
 use Rattle.ref_base.specs.Worlds.{World, Notice, hand_of}
 use Rattle.ref_base.specs.Collectors.{State, first_state}
 use Rattle.ref_base.specs.Replay.{begun}
@@ -28,6 +28,7 @@ use Rattle.ref_base.specs.declared.step.Step.TheVariants as steps
 use Rattle.ref_base.specs.declared.reply.Reply.{Reply}
 use Rattle.ref_base.specs.declared.reply.Reply.TheVariants as replies
 use Rattle.ref_base.specs.declared.row.Row.{Row}
+use Rattle.ref_base.proofs.Reshaping.{queue-cleared}
 use Rattle.ref_base.proofs.RowLaws.{ticked_world, but_world}
 use Rattle.ref_base.proofs.CarryLaws.{OfHand, Carries, Lasts}
 use Rattle.ref_base.proofs.CarryRows.{Mints, row_carries, first_carries, carries_more}
@@ -114,10 +115,6 @@ proven_more rows more notice is = record {
 abbrev pub IsMade : List Row → Object → Type 0
 IsMade rows o = (q : ℕ) → registered_in o.reference ≡ Some q → is_registered rows o.no q ≡ true
 
-queue_cleared : (r : Option Reference) → registered_in (changed_reference cleared r) ≡ registered_in r
-queue_cleared None = refl
-queue_cleared (Some r) = refl
-
 queue_got : (clock : ℕ) (r : Option Reference) → registered_in (changed_reference (got_at clock) r) ≡ registered_in r
 queue_got clock None = refl
 queue_got clock (Some r) =
@@ -126,7 +123,7 @@ queue_got clock (Some r) =
 made_lasts : (rows : List Row) → Lasts (IsMade rows)
 made_lasts rows = record {
   stores = λ o i value is. is;
-  clears = λ o is q there. is q (sym (queue_cleared o.reference) ∙ there);
+  clears = λ o is q there. is q (sym (queue-cleared o.reference) ∙ there);
   gets = λ o clock is q there. is q (sym (queue_got clock o.reference) ∙ there);
 }
 
@@ -226,7 +223,7 @@ lifted past a row known =
     (λ o is q there. registered_more past (row ∷ []) o.no q (is q there))
     (λ notice is. proven_more past (row ∷ []) notice is) (stays_at a.world.cycle row.step) known
 
-pub row_known : (past : List Row) (a : State) (row : Row) (b : State) → Known past a.world → IsRow a row b
+row_known : (past : List Row) (a : State) (row : Row) (b : State) → Known past a.world → IsRow a row b
     → Known (past ++ row ∷ []) b.world
 row_known past a row b known h =
     let more : List Row = past ++ row ∷ [] in
@@ -260,13 +257,11 @@ hand_known : (rows : List Row) (w : World) (who : Actor) → Known rows w → Is
 hand_known rows w (Mutator m) known = in_hand rows (hand_of w (Mutator m)) (known.of_mutators m)
 hand_known rows w (Worker k) known = in_hand rows (hand_of w (Worker k)) (known.of_workers k)
 
-pub first_known : (config : Config) → Known [] (first_state config).world
-first_known config = first_carries (IsMade []) (IsProven []) (λ c. cycle_from 0 [] ≡ c) config refl
-
 pub legal_known : (config : Config) (rows : List Row) (b : State) → IsRun (first_state config) rows b
     → Known rows b.world
 legal_known config rows b run =
-    run_known [] (first_state config) rows b (first_known config) run
+    run_known [] (first_state config) rows b
+    (first_carries (IsMade []) (IsProven []) (λ c. cycle_from 0 [] ≡ c) config refl) run
 
 -- what is out after a legal trace comes from its rows
 pub legal_proven : (config : Config) (rows : List Row) (b : State) → IsRun (first_state config) rows b

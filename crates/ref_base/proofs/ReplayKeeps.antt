@@ -1,5 +1,5 @@
--- What a row of the replay leaves as it was: phase and cycle, but at the ends of phases; the numbers of objects, but
--- where one is made; and all but hands and queues, where no heap is asked.
+-- What a row of the replay leaves as it was: all but objects, slots, holds and what is pending, but at the ends of
+-- phases; the numbers of objects, but where one is made; and all but hands and queues, where no heap is asked.
 use Rattle.std.proofs.Common.{◌≡◌, ℕ, Bool, true, false, if◌then◌else◌, List, [], ◌∷◌, ◌++◌, Option, Some, None}
 use Rattle.std.proofs.Common.{refl, sym, ap, ◌∙◌, is_some}
 use Rattle.std.proofs.lemmas.List.{map-append, append-nil}
@@ -7,14 +7,13 @@ use Rattle.ref_base.specs.Graphs.{Object, numbers, plain_object}
 use Rattle.ref_base.specs.Paths.{if_any}
 use Rattle.ref_base.specs.Heaps.{slot_at, reference_at, registered_in, changed_in, with_reference, cleared, got_at}
 use Rattle.ref_base.specs.Heaps.{with_field, got, cut, nulls, new_reference}
-use Rattle.ref_base.specs.Worlds.{World, Notice, hand_of, with_hand}
+use Rattle.ref_base.specs.Worlds.{World, Notice, with_heap, hand_of, with_hand}
 use Rattle.ref_base.specs.Told.{told_object, told_value, is_done, told_notice, is_nothing, told_cycle, is_doomed}
 use Rattle.ref_base.specs.Told.{told_cleared, told_taken, is_added}
 use Rattle.ref_base.specs.HeapSteps.{NamedStep, handed, taking}
 use Rattle.ref_base.specs.Replay.{if_told, after_heap, after_queues, pended, put_in}
 use Rattle.ref_base.specs.declared.actor.Actor.{Actor}
 use Rattle.ref_base.specs.declared.actor.Actor.TheVariants.{Mutator, Worker}
-use Rattle.ref_base.specs.declared.phase.Phase.{Phase}
 use Rattle.ref_base.specs.declared.heap_step.HeapStep.TheVariants as heap
 use Rattle.ref_base.specs.declared.step.Step.{Step}
 use Rattle.ref_base.specs.declared.step.Step.TheVariants as steps
@@ -32,10 +31,17 @@ module _ {R : Type 0} (get : World → R) where
   done_keeps true change w keeps = keeps
   done_keeps false change w keeps = refl
 
--- ---- the phase and the cycle
+  unhooked_keeps : (v w : World) (nothing : Bool) (told : Option Notice) (change : Notice → World) → get v ≡ get w
+      → ((notice : Notice) → get (change notice) ≡ get w)
+      → get (if nothing then v else if_told told change w) ≡ get w
+  unhooked_keeps v w true told change same keeps = same
+  unhooked_keeps v w false told change same keeps = told_keeps told change w keeps
 
-abbrev stage_of : World → Phase × ℕ
-stage_of w = (w.phase, w.cycle)
+-- ---- all but objects, slots, holds and what waits
+
+-- a world but for its objects, slots and holds
+abbrev pub frame_of : World → World
+frame_of w = with_heap w (record w.heap { objects = []; slots = []; holds = [] })
 
 -- the step ends no phase
 abbrev pub EndsNoPhase : NamedStep → Type 0
@@ -45,57 +51,77 @@ EndsNoPhase heap.EndClear = ⊥
 EndsNoPhase heap.EndSweep = ⊥
 EndsNoPhase step = Unit {0}
 
+-- the step neither clears for a worker nor hands on
+abbrev pub PendsNone : NamedStep → Type 0
+PendsNone (heap.ClearNext k) = ⊥
+PendsNone (heap.Hand k) = ⊥
+PendsNone step = Unit {0}
+
+frame_changed : (w : World) (held : Option ℕ) (f : Object → Object)
+    → frame_of (with_heap w (changed_in w.heap held f)) ≡ frame_of w
+frame_changed w None f = refl
+frame_changed w (Some n) f = refl
+
+frame_cut : (w : World) (m s : ℕ) → frame_of (with_heap w (cut w.heap m s)) ≡ frame_of w
+frame_cut w m s = frame_changed w (slot_at w.heap m s) (with_reference cleared)
+
+frame_got : (w : World) (m d s : ℕ) (value : Option ℕ) → frame_of (with_heap w (got w.heap m d s value)) ≡ frame_of w
+frame_got w m d s None = refl
+frame_got w m d s (Some n) = frame_changed w (slot_at w.heap m s) (with_reference (got_at w.heap.clock))
+
+pub same_frame : (w : World) (step : NamedStep) (reply : Reply) → EndsNoPhase step → PendsNone step
+    → frame_of (after_heap w step reply) ≡ frame_of w
+same_frame w (heap.New m d k) reply plain calm = told_keeps frame_of (told_object reply) _ w (λ n. refl)
+same_frame w (heap.Refer m strength d s q k) reply plain calm =
+    told_keeps frame_of (told_object reply) _ w (λ n. refl)
+same_frame w (heap.Store m s i v) reply plain calm =
+    done_keeps frame_of (is_done reply) _ w
+    (frame_changed w (slot_at w.heap m s) (with_field i (slot_at w.heap m v)))
+same_frame w (heap.Load m d s i) reply plain calm = told_keeps frame_of (told_value reply) _ w (λ value. refl)
+same_frame w (heap.Copy m d s) reply plain calm = told_keeps frame_of (told_value reply) _ w (λ value. refl)
+same_frame w (heap.Drop m s) reply plain calm = done_keeps frame_of (is_done reply) _ w refl
+same_frame w (heap.Get m d s) reply plain calm =
+    told_keeps frame_of (told_value reply) _ w (λ value. frame_got w m d s value)
+same_frame w (heap.Clear m s) reply plain calm = done_keeps frame_of (is_done reply) _ w (frame_cut w m s)
+same_frame w (heap.RefersTo m s v) reply plain calm = refl
+same_frame w (heap.Unhook m s) reply plain calm =
+    unhooked_keeps frame_of _ w (is_nothing reply) (told_notice reply) _ (frame_cut w m s) (λ notice. frame_cut w m s)
+same_frame w (heap.Hold m s) reply plain calm = told_keeps frame_of (told_object reply) _ w (λ n. refl)
+same_frame w (heap.Adopt m d hold) reply plain calm = told_keeps frame_of (told_object reply) _ w (λ n. refl)
+same_frame w (heap.Release hold) reply plain calm = done_keeps frame_of (is_done reply) _ w refl
+same_frame w (heap.Begin now how) reply plain calm = absurd plain
+same_frame w (heap.Scan k) reply plain calm = refl
+same_frame w heap.EndMark reply plain calm = absurd plain
+same_frame w (heap.ClearNext k) reply plain calm = absurd calm
+same_frame w heap.EndClear reply plain calm = absurd plain
+same_frame w (heap.Hand k) reply plain calm = absurd calm
+same_frame w (heap.Sweep k) reply plain calm = refl
+same_frame w heap.EndSweep reply plain calm = absurd plain
+
+-- a world but for its objects, slots, holds and what is pending
+abbrev pub stage_of : World → World
+stage_of w = record (frame_of w) { pending = [] }
+
 pub stage_pended : (w : World) (k n : ℕ) (queue : Option ℕ) → stage_of (pended w k n queue) ≡ stage_of w
 stage_pended w k n None = refl
 stage_pended w k n (Some q) = refl
 
-unhooked_stage : (v w : World) (nothing : Bool) (told : Option Notice) (change : Notice → World)
-    → stage_of v ≡ stage_of w → ((notice : Notice) → stage_of (change notice) ≡ stage_of w)
-    → stage_of (if nothing then v else if_told told change w) ≡ stage_of w
-unhooked_stage v w true told change same keeps = same
-unhooked_stage v w false told change same keeps = told_keeps stage_of told change w keeps
-
-same_stage : (w : World) (step : NamedStep) (reply : Reply) → EndsNoPhase step
+pub same_stage : (w : World) (step : NamedStep) (reply : Reply) → EndsNoPhase step
     → stage_of (after_heap w step reply) ≡ stage_of w
-same_stage w (heap.New m d k) reply plain = told_keeps stage_of (told_object reply) _ w (λ n. refl)
-same_stage w (heap.Refer m strength d s q k) reply plain =
-    told_keeps stage_of (told_object reply) _ w (λ n. refl)
-same_stage w (heap.Store m s i v) reply plain = done_keeps stage_of (is_done reply) _ w refl
-same_stage w (heap.Load m d s i) reply plain = told_keeps stage_of (told_value reply) _ w (λ value. refl)
-same_stage w (heap.Copy m d s) reply plain = told_keeps stage_of (told_value reply) _ w (λ value. refl)
-same_stage w (heap.Drop m s) reply plain = done_keeps stage_of (is_done reply) _ w refl
-same_stage w (heap.Get m d s) reply plain = told_keeps stage_of (told_value reply) _ w (λ value. refl)
-same_stage w (heap.Clear m s) reply plain = done_keeps stage_of (is_done reply) _ w refl
-same_stage w (heap.RefersTo m s v) reply plain = refl
-same_stage w (heap.Unhook m s) reply plain =
-    unhooked_stage _ w (is_nothing reply) (told_notice reply) _ refl (λ notice. refl)
-same_stage w (heap.Hold m s) reply plain = told_keeps stage_of (told_object reply) _ w (λ n. refl)
-same_stage w (heap.Adopt m d hold) reply plain = told_keeps stage_of (told_object reply) _ w (λ n. refl)
-same_stage w (heap.Release hold) reply plain = done_keeps stage_of (is_done reply) _ w refl
 same_stage w (heap.Begin now how) reply plain = absurd plain
-same_stage w (heap.Scan k) reply plain = refl
 same_stage w heap.EndMark reply plain = absurd plain
+same_stage w heap.EndClear reply plain = absurd plain
+same_stage w heap.EndSweep reply plain = absurd plain
 same_stage w (heap.ClearNext k) reply plain =
     told_keeps stage_of (told_cleared reply) _ w
     (λ n. stage_pended _ k n (registered_in (reference_at w.heap n)))
-same_stage w heap.EndClear reply plain = absurd plain
 same_stage w (heap.Hand k) reply plain = told_keeps stage_of (told_notice reply) _ w (λ notice. refl)
-same_stage w (heap.Sweep k) reply plain = refl
-same_stage w heap.EndSweep reply plain = absurd plain
+same_stage w step reply plain =
+    ap (λ (v : World). record v { pending = [] }) (same_frame w step reply plain tt)
 
 pub same_phase : (w : World) (step : NamedStep) (reply : Reply) → EndsNoPhase step
     → (after_heap w step reply).phase ≡ w.phase
-same_phase w step reply plain = ap (λ (stage : Phase × ℕ). stage.0) (same_stage w step reply plain)
-
-pub same_cycle : (w : World) (step : NamedStep) (reply : Reply) → EndsNoPhase step
-    → (after_heap w step reply).cycle ≡ w.cycle
-same_cycle w step reply plain = ap (λ (stage : Phase × ℕ). stage.1) (same_stage w step reply plain)
-
-pub phase_pended : (w : World) (k n : ℕ) (queue : Option ℕ) → (pended w k n queue).phase ≡ w.phase
-phase_pended w k n queue = ap (λ (stage : Phase × ℕ). stage.0) (stage_pended w k n queue)
-
-pub cycle_pended : (w : World) (k n : ℕ) (queue : Option ℕ) → (pended w k n queue).cycle ≡ w.cycle
-cycle_pended w k n queue = ap (λ (stage : Phase × ℕ). stage.1) (stage_pended w k n queue)
+same_phase w step reply plain = ap (λ (v : World). v.phase) (same_stage w step reply plain)
 
 -- ---- the numbers of objects
 
@@ -117,12 +143,6 @@ numbers_got w m d s (Some n) = numbers_in w (slot_at w.heap m s) (with_reference
 numbers_pended : (w : World) (k n : ℕ) (queue : Option ℕ) → numbers_of (pended w k n queue) ≡ numbers_of w
 numbers_pended w k n None = refl
 numbers_pended w k n (Some q) = refl
-
-numbers_unhooked : (v w : World) (nothing : Bool) (told : Option Notice) (change : Notice → World)
-    → numbers_of v ≡ numbers_of w → ((notice : Notice) → numbers_of (change notice) ≡ numbers_of w)
-    → numbers_of (if nothing then v else if_told told change w) ≡ numbers_of w
-numbers_unhooked v w true told change same keeps = same
-numbers_unhooked v w false told change same keeps = told_keeps numbers_of told change w keeps
 
 numbers_made : (w : World) (told : Option ℕ) (change : ℕ → World)
     → ((n : ℕ) → numbers_of (change n) ≡ numbers_of w ++ n ∷ [])
@@ -152,7 +172,7 @@ numbers_same w (heap.Clear m s) reply plain =
     done_keeps numbers_of (is_done reply) _ w (numbers_cut w m s)
 numbers_same w (heap.RefersTo m s v) reply plain = refl
 numbers_same w (heap.Unhook m s) reply plain =
-    numbers_unhooked _ w (is_nothing reply) (told_notice reply) _ (numbers_cut w m s)
+    unhooked_keeps numbers_of _ w (is_nothing reply) (told_notice reply) _ (numbers_cut w m s)
     (λ notice. numbers_cut w m s)
 numbers_same w (heap.Hold m s) reply plain = told_keeps numbers_of (told_object reply) _ w (λ n. refl)
 numbers_same w (heap.Adopt m d hold) reply plain = told_keeps numbers_of (told_object reply) _ w (λ n. refl)

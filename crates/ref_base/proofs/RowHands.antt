@@ -1,5 +1,5 @@
 -- What a row does to hands and queues, and what the notices that an unhook and a hand give tell of the state before.
-use Rattle.std.proofs.Common.{◌≡◌, ℕ, true, List, [], ◌∷◌, Option, Some, None, refl, sym, ◌∙◌, subst}
+use Rattle.std.proofs.Common.{◌≡◌, ℕ, true, List, [], ◌∷◌, Option, Some, None, refl, sym, ap, ◌∙◌, subst}
 use Rattle.std.proofs.lemmas.Bool.{eq-eqb}
 use Rattle.ref_base.specs.Worlds.{World, Notice, Pending, SameOthers, hand_of, pending_of}
 use Rattle.ref_base.specs.Told.{told_notice}
@@ -7,7 +7,7 @@ use Rattle.ref_base.specs.HeapSteps.{NamedStep, heap_step, handed}
 use Rattle.ref_base.specs.Replay.{after_queues}
 use Rattle.ref_base.specs.Collectors.{State}
 use Rattle.ref_base.specs.Refusals.{refusal, is_worker}
-use Rattle.ref_base.specs.CollectorRows.{QueuesAccept, AcceptsAsking, Accepts, IsAnswer, Unhooks, HandsOn}
+use Rattle.ref_base.specs.CollectorRows.{with_world, QueuesAccept, AcceptsAsking, Accepts, IsAnswer, Unhooks, HandsOn}
 use Rattle.ref_base.specs.ClearingOrder.{is_by}
 use Rattle.ref_base.specs.declared.actor.Actor.TheVariants.{Worker}
 use Rattle.ref_base.specs.declared.cause.Cause.{Cause}
@@ -18,9 +18,10 @@ use Rattle.ref_base.specs.declared.step.Step.TheVariants as steps
 use Rattle.ref_base.specs.declared.reply.Reply.{Reply}
 use Rattle.ref_base.specs.declared.reply.Reply.TheVariants as replies
 use Rattle.ref_base.proofs.QueueLaws.{same}
-use Rattle.ref_base.proofs.HeapRowLaws.{refused_hands}
+use Rattle.ref_base.proofs.HeapRowLaws.{refused_hands, refused_queues}
 use Rattle.ref_base.proofs.CarryLaws.{OfHand}
-use Rattle.ref_base.proofs.ReplayOthers.{queues_others, refused_queues}
+use Rattle.ref_base.proofs.HeapMoves.{settled_becomes}
+use Rattle.ref_base.proofs.RowKinds.{queues_become}
 use Rattle.ref_base.proofs.SameOthers.{heap_others, handed_others}
 use Rattle.ref_base.proofs.CountedTraces.{empty_hand}
 use Rattle.ref_base.proofs.RowLaws.{unless_passes}
@@ -37,11 +38,18 @@ asked_hands a b (Some asked) step reply row never =
     subst (λ (s : State). SameOthers (handed a.world step reply) s.world) (sym row.2)
     (handed_others a.world row.0.world step reply (heap_others a row.0 asked reply row.1))
 
+queues_hands : (a b : State) (step : Step) (reply : Reply) → QueuesAccept a step reply b
+    → SameOthers (after_queues a.world step reply) b.world
+queues_hands a b step reply row =
+    let c : State = with_world a (after_queues a.world step reply) in
+    let leads = settled_becomes c b (queues_become a b step reply row) in
+    subst (λ (w : World). SameOthers c.world w) (sym (ap (λ (s : State). s.world) leads)) (same c.world)
+
 accepted_hands : (a b : State) (step : Step) (reply : Reply) → Accepts a step reply b
     → SameOthers (others_after a.world step reply) b.world
-accepted_hands a b (steps.Put who) reply row = queues_others a.world a b (steps.Put who) reply (same a.world) row
-accepted_hands a b (steps.Poll m q) reply row = queues_others a.world a b (steps.Poll m q) reply (same a.world) row
-accepted_hands a b (steps.Close m q) reply row = queues_others a.world a b (steps.Close m q) reply (same a.world) row
+accepted_hands a b (steps.Put who) reply row = queues_hands a b (steps.Put who) reply row
+accepted_hands a b (steps.Poll m q) reply row = queues_hands a b (steps.Poll m q) reply row
+accepted_hands a b (steps.Close m q) reply row = queues_hands a b (steps.Close m q) reply row
 accepted_hands a b step reply row = asked_hands a b (heap_step a.world step) step reply row (λ no. no)
 
 pub row_hands : (a b : State) (step : Step) (reply : Reply) (fault : Option Fault) → IsAnswer a fault step reply b

@@ -10,7 +10,7 @@ use Rattle.ref_base.specs.Replay.{after_queues, put_in, took, closed_queue}
 use Rattle.ref_base.specs.Collectors.{State}
 use Rattle.ref_base.specs.Refusals.{refusal, heap_refusal, asked_refusal, unless_full, has_slot, is_worker}
 use Rattle.ref_base.specs.Refusals.{is_counted}
-use Rattle.ref_base.specs.CollectorRows.{with_world, with_handed, HeapAccepts, QueuesAccept, AcceptsAsking, IsAnswer}
+use Rattle.ref_base.specs.CollectorRows.{with_world, with_handed, ticked, HeapAccepts, QueuesAccept, AcceptsAsking, IsAnswer}
 use Rattle.ref_base.specs.CollectorRows.{IsRow, Puts, PutsInto, Polls, Closes, Gives}
 use Rattle.ref_base.specs.CountedHolds.{AreCounted}
 use Rattle.ref_base.specs.declared.actor.Actor.{Actor}
@@ -25,7 +25,7 @@ use Rattle.ref_base.specs.declared.reply.Reply.TheVariants as replies
 use Rattle.ref_base.specs.declared.row.Row.{Row}
 use Rattle.ref_base.proofs.RowLaws.{unless_passes}
 use Rattle.ref_base.proofs.CountedWorlds.{holding_hand, counted_hand}
-use Rattle.ref_base.proofs.HeapMoves.{settled, settled_ticked}
+use Rattle.ref_base.proofs.HeapMoves.{Becomes, settled, settled_becomes}
 
 pub record IsRefused (a : State) (row : Row) (b : State) : Type 0 where
   pub fault : Fault
@@ -34,7 +34,12 @@ pub record IsRefused (a : State) (row : Row) (b : State) : Type 0 where
 
 pub record IsOfQueues (a : State) (row : Row) (b : State) : Type 0 where
   pub asks : heap_step a.world row.step ≡ None
-  pub leads : settled b ≡ settled (with_world a (after_queues a.world row.step row.reply))
+  pub becomes : Becomes (with_world a (after_queues a.world row.step row.reply)) b
+
+-- in one equation
+pub queues_lead : {a : State} {row : Row} {b : State} → IsOfQueues a row b
+    → settled b ≡ settled (with_world a (after_queues a.world row.step row.reply))
+queues_lead of = settled_becomes _ _ of.becomes
 
 pub record IsOfHeap (a : State) (row : Row) (b : State) : Type 0 where
   pub asked : NamedStep
@@ -86,13 +91,14 @@ heap_passes a step asked counted asks none = sym (ap (asked_refusal a) asks) ∙
 -- ---- rows of queues
 
 abbrev LeadsQueues : State → Step → Reply → State → Type 0
-LeadsQueues a step reply b = settled b ≡ settled (with_world a (after_queues a.world step reply))
+LeadsQueues a step reply b = Becomes (with_world a (after_queues a.world step reply)) b
 
 given : (a c b : State) (step : Step) (answer reply : Reply) → Gives answer c reply b
-    → settled c ≡ settled (with_world a (after_queues a.world step answer)) → LeadsQueues a step reply b
+    → c ≡ with_world a (after_queues a.world step answer) → LeadsQueues a step reply b
 given a c b step answer reply row leads =
-    ap settled row.1 ∙ settled_ticked c ∙ leads
-    ∙ ap (λ (r : Reply). settled (with_world a (after_queues a.world step r))) (sym row.0)
+    let now : c ≡ with_world a (after_queues a.world step reply) =
+    leads ∙ ap (λ (r : Reply). with_world a (after_queues a.world step r)) (sym row.0) in
+    inr (inl (row.1 ∙ ap ticked now))
 
 puts_into : (a b : State) (who : Actor) (notice : Notice) (again shut : Bool) (reply : Reply)
     → hand_of a.world who ≡ Some notice → PutsInto again shut a who notice reply b
@@ -104,10 +110,10 @@ puts_into a b who notice false false reply is row =
       | inl added ↦
           given a (with_world a (put_in a.world who (Some notice))) b (steps.Put who)
           (replies.Added (length (enqueued object_of (queue_at a.world notice.queue)))) reply added
-          (ap (λ (hand : Option Notice). settled (with_world a (put_in a.world who hand))) (sym is))
+          (ap (λ (hand : Option Notice). with_world a (put_in a.world who hand)) (sym is))
       | inr refused ↦
-          ap settled refused.1
-          ∙ ap (λ (r : Reply). settled (with_world a (after_queues a.world (steps.Put who) r))) (sym refused.0)
+          inl
+          (refused.1 ∙ ap (λ (r : Reply). with_world a (after_queues a.world (steps.Put who) r)) (sym refused.0))
     ]
 
 puts : (a b : State) (who : Actor) (hand : Option Notice) (reply : Reply) → hand_of a.world who ≡ hand
@@ -133,11 +139,12 @@ closes a b m q true reply row = given a a b (steps.Close m q) replies.Closed rep
 closes a b m q false reply row =
     given a (with_world a (closed_queue a.world q)) b (steps.Close m q) replies.Done reply row refl
 
-queues_lead : (a b : State) (step : Step) (reply : Reply) → QueuesAccept a step reply b → LeadsQueues a step reply b
-queues_lead a b (steps.Put who) reply row = puts a b who (hand_of a.world who) reply refl row
-queues_lead a b (steps.Poll m q) reply row = polls a b m q (queue_at a.world q).stands reply row
-queues_lead a b (steps.Close m q) reply row = closes a b m q (queue_at a.world q).closed reply row
-queues_lead a b step reply row = absurd row
+-- a row of queues leaves the queues that its answer says
+pub queues_become : (a b : State) (step : Step) (reply : Reply) → QueuesAccept a step reply b → LeadsQueues a step reply b
+queues_become a b (steps.Put who) reply row = puts a b who (hand_of a.world who) reply refl row
+queues_become a b (steps.Poll m q) reply row = polls a b m q (queue_at a.world q).stands reply row
+queues_become a b (steps.Close m q) reply row = closes a b m q (queue_at a.world q).closed reply row
+queues_become a b step reply row = absurd row
 
 -- ---- rows
 
@@ -145,7 +152,7 @@ accepted : (a b : State) (row : Row) (asked : Option NamedStep) → AreCounted a
     → heap_step a.world row.step ≡ asked → AcceptsAsking a asked row.step row.reply b
     → IsOfQueues a row b ⊎ IsOfHeap a row b
 accepted a b row None counted none is accepts =
-    inl (record { asks = is; leads = queues_lead a b row.step row.reply accepts })
+    inl (record { asks = is; becomes = queues_become a b row.step row.reply accepts })
 accepted a b row (Some asked) counted none is accepts = inr (record {
   asked = asked;
   asks = is;

@@ -28,17 +28,20 @@ use Rattle.ref_base.specs.declared.reply.Reply.TheVariants as replies
 use Rattle.ref_base.specs.declared.row.Row.{Row}
 use Rattle.ref_base.proofs.HasLaws.{has-list_any, has-cases, has-single}
 use Rattle.ref_base.proofs.FoundLists.{has-with_last, length-emptied}
-use Rattle.ref_base.proofs.ToldMoves.{LeftMeans}
+use Rattle.ref_base.proofs.CountedTraces.{legal_counted}
+use Rattle.ref_base.proofs.LeftObjects.{LeftMeans}
+use Rattle.ref_base.proofs.RunFronts.{legal_holds}
 use Rattle.ref_base.proofs.LegalQueues.{distinct_nil}
 use Rattle.ref_base.proofs.RowLaws.{unless_passes}
 use Rattle.ref_base.proofs.RowMoves.{scanned_after, Moves, row_moves}
 
 -- ---- a mark goes on only while an object is left
 
-run_left : (a : State) (rows : List Row) (b : State) → LeftMeans a → IsRun a rows b → LeftMeans b
-run_left a [] b means run = subst LeftMeans (sym run) means
-run_left a (row ∷ rows) b means run =
-    let moves = row_moves a row run.0 run.1 in run_left run.0 rows b (moves.left means) run.2
+legal_left : (config : Config) (rows : List Row) (b : State) → IsRun (first_state config) rows b → LeftMeans b
+legal_left config rows b run =
+    legal_holds config (λ past a. LeftMeans a)
+    (λ past a row c before means h. (row_moves a row c (legal_counted config past a before) h).left means)
+    (λ _ said. absurd (false≢true said)) rows b run
 
 grey : (a b : State) (marks left : Bool)
     → IsAnswer a (unless marks WrongPhase (unless (not left) GreyLeft None)) steps.EndMark (replies.Refused GreyLeft) b
@@ -52,7 +55,7 @@ pub refused_left : (config : Config) (front : List Row) (a b : State) → IsRun 
     → IsRow a (record { step = steps.EndMark; reply = replies.Refused GreyLeft }) b → (n : ℕ) × IsLeft a n
 refused_left config front a b run row =
     let both = grey a b (is_in a.world.phase Marking) a.left row in
-    run_left (first_state config) front a (λ _ said. absurd (false≢true said)) run both.0 both.1
+    legal_left config front a run both.0 both.1
 
 -- ---- no object is scanned twice
 
@@ -140,20 +143,23 @@ step_scanned ns a b (steps.Release who) reply scanned row moves =
     still_scanned ns a b scanned (moves.scanned ∙ release_scans (hand_of a.world who) a.scanned reply) moves.config
 step_scanned ns a b step reply scanned row moves = still_scanned ns a b scanned moves.scanned moves.config
 
-run_scanned : (ns : List ℕ) (a : State) (rows : List Row) (b : State) → HasScanned ns a → IsRun a rows b
-    → HasScanned (scanned_from ns rows) b
-run_scanned ns a [] b scanned run = subst (λ (s : State). HasScanned ns s) (sym run) scanned
-run_scanned ns a (row ∷ rows) b scanned run =
-    run_scanned (scanned_with ns row.step row.reply) run.0 rows b
-    (step_scanned ns a run.0 row.step row.reply scanned run.1 (row_moves a row run.0 run.1)) run.2
+scanned_last : (ns : List ℕ) (past : List Row) (row : Row)
+    → scanned_from ns (past ++ row ∷ []) ≡ scanned_with (scanned_from ns past) row.step row.reply
+scanned_last ns [] row = refl
+scanned_last ns (other ∷ past) row = scanned_last (scanned_with ns other.step other.reply) past row
 
 -- no object is scanned twice in a cycle
 pub legal_scanned_once : (config : Config) (rows : List Row) → IsLegal config rows
     → IsDistinct nat_eq (scanned_in_cycle rows)
 legal_scanned_once config rows legal =
-    let scanned = run_scanned [] (first_state config) rows legal.0 (record {
+    let scanned = legal_holds config (λ past a. HasScanned (scanned_in_cycle past) a)
+    (λ past a row b before scanned h.
+    subst (λ ns. HasScanned ns b) (sym (scanned_last [] past row))
+    (step_scanned (scanned_in_cycle past) a b row.step row.reply scanned h
+    (row_moves a row b (legal_counted config past a before) h)))
+    (record {
       distinct = distinct_nil;
       there = λ n has_it. absurd (false≢true has_it);
       workers = length-replicate config.workers [];
-    }) legal.1 in
+    }) rows legal.0 legal.1 in
     scanned.distinct

@@ -1,5 +1,5 @@
 -- No step changes the number of a heap.
-use Rattle.std.proofs.Common.{◌≡◌, ℕ, List, Option, Some, None, refl, ap, ◌∙◌, inl, inr, [], ◌∷◌}
+use Rattle.std.proofs.Common.{◌≡◌, ℕ, List, Option, Some, None, refl, inl, inr, [], ◌∷◌}
 use Rattle.std.proofs.lemmas.Bool.{cases_Bool}
 use Rattle.ref_base.specs.Heaps.{slot_at, reference_at, registered_in}
 use Rattle.ref_base.specs.Worlds.{Pending, pending_numbers}
@@ -13,7 +13,7 @@ use Rattle.ref_mark.specs.MarkCalls.{unless_refused}
 use Rattle.ref_mark.proofs.OwnNumbers.{cleared-number, begun-number, number_after as number_after_marking}
 use Rattle.ref_clear.specs.ClearHeaps.{ClearHeap, with_mark, pending_at, begun_with, is_to_clear, pended, looked_from}
 use Rattle.ref_clear.specs.ClearHeaps.{cut_at, handed_from, unhooked, swept_some}
-use Rattle.ref_clear.specs.ClearCalls.{refusal_in, after_in, queue_in, left}
+use Rattle.ref_clear.specs.ClearCalls.{refusal_in, after_in, queue_in}
 
 unhooked-number : (k : CycleHeap) (m s : ℕ) (held queue : Option ℕ) → (unhooked k m s held queue).heap_no ≡ k.heap_no
 unhooked-number k m s None queue = cleared-number k m s

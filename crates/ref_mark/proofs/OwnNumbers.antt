@@ -3,7 +3,7 @@ use Rattle.std.proofs.Common.{◌≡◌, ℕ, ◌+◌, List, Option, Some, None,
 use Rattle.std.proofs.lemmas.Bool.{cases_Bool}
 use Rattle.ref_base.specs.DoomedSets.{refers_into}
 use Rattle.ref_base.specs.Graphs.{Object, plain_object}
-use Rattle.ref_base.specs.Heaps.{slot_at, reference_at, made, nulls, new_reference}
+use Rattle.ref_base.specs.Heaps.{slot_at, made, nulls, new_reference}
 use Rattle.ref_base.specs.Paths.{targets_at}
 use Rattle.ref_base.specs.KeptPaths.{is_kept}
 use Rattle.ref_base.specs.HeapSteps.{NamedStep}
@@ -14,8 +14,8 @@ use Rattle.ref_base.specs.declared.phase.Phase.TheVariants.{Marking}
 use Rattle.ref_base.specs.declared.urgency.Urgency.{Urgency}
 use Rattle.ref_base.specs.declared.heap_step.HeapStep.TheVariants as heap
 use Rattle.ref_mark.specs.CycleHeaps.{CycleHeap, policy_in, is_white, is_in_cycle, is_doomed}
-use Rattle.ref_mark.specs.CycleHeaps.{shaded, shaded_all, shaded_if_any, young, with_made, barred, value_got, with_cleared}
-use Rattle.ref_mark.specs.CycleHeaps.{whitened, roots_of, with_found, scanned_from}
+use Rattle.ref_mark.specs.CycleHeaps.{shaded_all, shaded_if_any, young, with_made, barred, value_got, with_cleared}
+use Rattle.ref_mark.specs.CycleHeaps.{whitened, roots_of, scanned_from}
 use Rattle.ref_mark.specs.MarkCalls.{done_in, after_in, refusal_in, unless_refused}
 use Rattle.ref_mark.proofs.Scanning.{with_found-only}
 use Rattle.ref_mark.proofs.Shading.{shaded-only, shaded_all-only}

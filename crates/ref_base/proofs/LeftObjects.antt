@@ -1,0 +1,78 @@
+-- Where a state says in a mark that an object is left, one is: each row of a heap keeps this.
+use Rattle.std.proofs.Common.{◌≡◌, ℕ, ◌+◌, ◌<◌, Bool, true, false, List, ◌∷◌, inl, inr, refl, sym, ap, ◌∙◌, subst}
+use Rattle.std.proofs.lemmas.Bool.{cases_Bool, true≢false, false≢true}
+use Rattle.ref_base.specs.Members.{has}
+use Rattle.ref_base.specs.Graphs.{Graph}
+use Rattle.ref_base.specs.KeptPaths.{Policy, EverKept}
+use Rattle.ref_base.specs.Worlds.{graph_of}
+use Rattle.ref_base.specs.HeapSteps.{NamedStep}
+use Rattle.ref_base.specs.Replay.{begun}
+use Rattle.ref_base.specs.Collectors.{State, joined}
+use Rattle.ref_base.specs.Refusals.{is_in}
+use Rattle.ref_base.specs.CollectorRows.{HeapAccepts, begun_state, Scans, IsBut, IsLeft, ticked}
+use Rattle.ref_base.specs.declared.phase.Phase.{Phase}
+use Rattle.ref_base.specs.declared.phase.Phase.TheVariants.{Marking}
+use Rattle.ref_base.specs.declared.heap_step.HeapStep.TheVariants as heap
+use Rattle.ref_base.specs.declared.reply.Reply.{Reply}
+use Rattle.ref_base.specs.declared.reply.Reply.TheVariants as replies
+use Rattle.ref_base.proofs.HeapMoves.{Becomes, moved, heap_becomes}
+use Rattle.ref_base.proofs.MovedParts.{mark_of, mark_moved}
+
+-- where it is said in a mark that an object is left, one is
+abbrev pub LeftMeans : State → Type 0
+LeftMeans a = is_in a.world.phase Marking ≡ true → a.left ≡ true → (n : ℕ) × IsLeft a n
+
+-- ---- it goes by the mark alone
+
+abbrev IsLeftIn : Phase × Policy × List Graph × ℕ × List (List ℕ) × Bool → ℕ → Type 0
+IsLeftIn mark n = EverKept mark.1 mark.2 n × (n < mark.3) × (has (joined mark.4) n ≡ false)
+
+abbrev MeansIn : Phase × Policy × List Graph × ℕ × List (List ℕ) × Bool → Type 0
+MeansIn mark = is_in mark.0 Marking ≡ true → mark.5 ≡ true → (n : ℕ) × IsLeftIn mark n
+
+pub left_kept : (a c : State) → mark_of c ≡ mark_of a → LeftMeans a → LeftMeans c
+left_kept a c same means = subst MeansIn (sym same) means
+
+-- ---- the states that a row leaves
+
+-- what is left stays left as the mark goes on, since what was ever kept stays so
+left_ticked : (c : State) → LeftMeans c → LeftMeans (ticked c)
+left_ticked c means =
+    elim (cases_Bool (is_in c.world.phase Marking)) [
+      | inl marks ↦
+          let later : ticked c ≡ record c { moments = graph_of c.world ∷ c.moments } = simp marks refl in
+          subst LeftMeans (sym later)
+          (λ _ said. let one = means marks said in (one.0, (inr one.1.0, one.1.1, one.1.2)))
+      | inr other ↦
+          let still : ticked c ≡ c = simp other refl in
+          subst LeftMeans (sym still) (λ marks _. absurd (true≢false (sym marks ∙ other)))
+    ]
+
+-- what says it anew says it rightly
+left_anew : (c b : State) → IsBut c b → LeftMeans b
+left_anew c b but _ said = but.2 (sym (ap (λ (s : State). s.left) but.1) ∙ said)
+
+pub left_becomes : (c b : State) → LeftMeans c → Becomes c b → LeftMeans b
+left_becomes c b means (inl same) = subst LeftMeans (sym same) means
+left_becomes c b means (inr (inl tick)) = subst LeftMeans (sym tick) (left_ticked c means)
+left_becomes c b means (inr (inr but)) = left_anew (ticked c) b but
+
+-- ---- rows
+
+scan_left : (a b : State) (k : ℕ) (reply : Reply) → Scans a k reply b → LeftMeans a → LeftMeans b
+scan_left a b k (replies.Scanned n) row means =
+    left_anew (ticked (moved a (heap.Scan k) (replies.Scanned n))) b row.2
+scan_left a b k reply row means = left_becomes a b means (inr (inl row.1.1))
+
+pub heap_left : (a b : State) (step : NamedStep) (reply : Reply) → HeapAccepts a step reply b → LeftMeans a
+    → LeftMeans b
+heap_left a b (heap.Begin now how) reply row means =
+    left_anew (ticked (begun_state a (begun a.world now how (a.world.cycle + 1)))) b row.1
+heap_left a b (heap.Scan k) reply row means = scan_left a b k reply row means
+heap_left a b heap.EndMark reply row means =
+    subst LeftMeans (sym row.after) (λ marks _. absurd (false≢true marks))
+heap_left a b heap.EndClear reply row means = subst LeftMeans (sym row.1) (λ marks _. absurd (false≢true marks))
+heap_left a b heap.EndSweep reply row means = subst LeftMeans (sym row.1) (λ marks _. absurd (false≢true marks))
+heap_left a b step reply row means =
+    left_becomes (moved a step reply) b
+    (left_kept a (moved a step reply) (mark_moved a step reply tt tt) means) (heap_becomes a b step reply tt row)

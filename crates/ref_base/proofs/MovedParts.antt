@@ -1,0 +1,138 @@
+-- What stays where a row of a heap leads.
+use Rattle.std.proofs.Common.{◌≡◌, ℕ, Bool, List, refl, ap}
+use Rattle.ref_base.specs.Graphs.{Graph}
+use Rattle.ref_base.specs.KeptPaths.{Policy}
+use Rattle.ref_base.specs.Heaps.{reference_at, registered_in}
+use Rattle.ref_base.specs.Worlds.{World, Pending, policy_of}
+use Rattle.ref_base.specs.Told.{is_done, told_cycle}
+use Rattle.ref_base.specs.HeapSteps.{NamedStep}
+use Rattle.ref_base.specs.Collectors.{State}
+use Rattle.ref_base.specs.declared.config.Config.{Config}
+use Rattle.ref_base.specs.declared.phase.Phase.{Phase}
+use Rattle.ref_base.specs.declared.heap_step.HeapStep.TheVariants as heap
+use Rattle.ref_base.specs.declared.reply.Reply.{Reply}
+use Rattle.ref_base.specs.declared.reply.Reply.TheVariants as replies
+use Rattle.ref_base.proofs.HeapMoves.{moved, IsNoEnd}
+use Rattle.ref_base.proofs.ReplayKeeps.{EndsNoPhase, PendsNone, stage_of, stage_pended, same_frame, same_stage}
+use Rattle.ref_base.proofs.ReplayKeeps.{told_keeps, done_keeps}
+
+-- ---- a row that ends no phase
+
+pub stage_moved : (a : State) (step : NamedStep) (reply : Reply) → EndsNoPhase step
+    → stage_of (moved a step reply).world ≡ stage_of a.world
+stage_moved a (heap.ClearNext k) (replies.Cleared n) plain =
+    stage_pended a.world k n (registered_in (reference_at a.world.heap n))
+stage_moved a (heap.ClearNext k) (replies.Kept n) plain = refl
+stage_moved a (heap.ClearNext k) (replies.Skipped n) plain = refl
+stage_moved a (heap.ClearNext k) reply plain = refl
+stage_moved a (heap.Sweep k) (replies.Swept count) plain = refl
+stage_moved a (heap.Sweep k) reply plain = refl
+stage_moved a (heap.Begin now how) reply plain = absurd plain
+stage_moved a heap.EndMark reply plain = absurd plain
+stage_moved a heap.EndClear reply plain = absurd plain
+stage_moved a heap.EndSweep reply plain = absurd plain
+stage_moved a (heap.New m d k) reply plain = same_stage a.world (heap.New m d k) reply tt
+stage_moved a (heap.Refer m strength d s q k) reply plain =
+    same_stage a.world (heap.Refer m strength d s q k) reply tt
+stage_moved a step reply plain = same_stage a.world step reply tt
+
+pub phase_moved : (a : State) (step : NamedStep) (reply : Reply) → EndsNoPhase step
+    → (moved a step reply).world.phase ≡ a.world.phase
+phase_moved a step reply plain = ap (λ (w : World). w.phase) (stage_moved a step reply plain)
+
+pub cycle_moved : (a : State) (step : NamedStep) (reply : Reply) → EndsNoPhase step
+    → (moved a step reply).world.cycle ≡ a.world.cycle
+cycle_moved a step reply plain = ap (λ (w : World). w.cycle) (stage_moved a step reply plain)
+
+pub cleared_moved : (a : State) (step : NamedStep) (reply : Reply) → EndsNoPhase step
+    → (moved a step reply).cleared ≡ a.cleared
+cleared_moved a (heap.ClearNext k) (replies.Cleared n) plain = refl
+cleared_moved a (heap.ClearNext k) (replies.Kept n) plain = refl
+cleared_moved a (heap.ClearNext k) (replies.Skipped n) plain = refl
+cleared_moved a (heap.ClearNext k) reply plain = refl
+cleared_moved a (heap.Sweep k) (replies.Swept count) plain = refl
+cleared_moved a (heap.Sweep k) reply plain = refl
+cleared_moved a (heap.Begin now how) reply plain = absurd plain
+cleared_moved a step reply plain = refl
+
+-- the step frees nothing
+abbrev pub FreesNone : NamedStep → Type 0
+FreesNone (heap.Sweep k) = ⊥
+FreesNone step = Unit {0}
+
+pub doomed_moved : (a : State) (step : NamedStep) (reply : Reply) → EndsNoPhase step → FreesNone step
+    → (moved a step reply).doomed ≡ a.doomed
+doomed_moved a (heap.ClearNext k) (replies.Cleared n) plain frees = refl
+doomed_moved a (heap.ClearNext k) (replies.Kept n) plain frees = refl
+doomed_moved a (heap.ClearNext k) (replies.Skipped n) plain frees = refl
+doomed_moved a (heap.ClearNext k) reply plain frees = refl
+doomed_moved a (heap.Sweep k) reply plain frees = absurd frees
+doomed_moved a (heap.Begin now how) reply plain frees = absurd plain
+doomed_moved a step reply plain frees = refl
+
+-- ---- what the end of a mark goes by
+
+-- the phase, and what tells which objects are left
+abbrev pub mark_of : State → Phase × Policy × List Graph × ℕ × List (List ℕ) × Bool
+mark_of a = (a.world.phase, policy_of a.world, a.moments, a.born, a.scanned, a.left)
+
+-- that of this state in another world
+abbrev pub mark_in : State → World → Phase × Policy × List Graph × ℕ × List (List ℕ) × Bool
+mark_in a w = (w.phase, policy_of w, a.moments, a.born, a.scanned, a.left)
+
+-- the step scans nothing
+abbrev pub ScansNone : NamedStep → Type 0
+ScansNone (heap.Scan k) = ⊥
+ScansNone step = Unit {0}
+
+pub mark_moved : (a : State) (step : NamedStep) (reply : Reply) → EndsNoPhase step → ScansNone step
+    → mark_of (moved a step reply) ≡ mark_of a
+mark_moved a (heap.ClearNext k) (replies.Cleared n) plain calm =
+    ap (mark_in a) (stage_moved a (heap.ClearNext k) (replies.Cleared n) tt)
+mark_moved a (heap.ClearNext k) (replies.Kept n) plain calm = refl
+mark_moved a (heap.ClearNext k) (replies.Skipped n) plain calm = refl
+mark_moved a (heap.ClearNext k) reply plain calm = refl
+mark_moved a (heap.Sweep k) (replies.Swept count) plain calm = refl
+mark_moved a (heap.Sweep k) reply plain calm = refl
+mark_moved a (heap.Begin now how) reply plain calm = absurd plain
+mark_moved a (heap.Scan k) reply plain calm = absurd calm
+mark_moved a heap.EndMark reply plain calm = absurd plain
+mark_moved a heap.EndClear reply plain calm = absurd plain
+mark_moved a heap.EndSweep reply plain calm = absurd plain
+mark_moved a (heap.New m d k) reply plain calm = ap (mark_in a) (stage_moved a (heap.New m d k) reply tt)
+mark_moved a (heap.Refer m strength d s q k) reply plain calm =
+    ap (mark_in a) (stage_moved a (heap.Refer m strength d s q k) reply tt)
+mark_moved a step reply plain calm = ap (mark_in a) (stage_moved a step reply tt)
+
+-- ---- any row but a mark's end
+
+abbrev config_in : World → Config
+config_in w = w.heap.config
+
+pub config_moved : (a : State) (step : NamedStep) (reply : Reply) → IsNoEnd step
+    → config_in (moved a step reply).world ≡ config_in a.world
+config_moved a (heap.Begin now how) reply plain = told_keeps config_in (told_cycle reply) _ a.world (λ n. refl)
+config_moved a heap.EndMark reply plain = absurd plain
+config_moved a heap.EndClear reply plain = done_keeps config_in (is_done reply) _ a.world refl
+config_moved a heap.EndSweep reply plain = done_keeps config_in (is_done reply) _ a.world refl
+config_moved a step reply plain = ap config_in (stage_moved a step reply tt)
+
+abbrev pending_in : World → List (List Pending)
+pending_in w = w.pending
+
+pub pending_moved : (a : State) (step : NamedStep) (reply : Reply) → IsNoEnd step → PendsNone step
+    → pending_in (moved a step reply).world ≡ pending_in a.world
+pending_moved a (heap.ClearNext k) reply plain calm = absurd calm
+pending_moved a (heap.Hand k) reply plain calm = absurd calm
+pending_moved a (heap.Begin now how) reply plain calm = told_keeps pending_in (told_cycle reply) _ a.world (λ n. refl)
+pending_moved a heap.EndMark reply plain calm = absurd plain
+pending_moved a heap.EndClear reply plain calm = done_keeps pending_in (is_done reply) _ a.world refl
+pending_moved a heap.EndSweep reply plain calm = done_keeps pending_in (is_done reply) _ a.world refl
+pending_moved a (heap.Scan k) reply plain calm = refl
+pending_moved a (heap.Sweep k) (replies.Swept count) plain calm = refl
+pending_moved a (heap.Sweep k) reply plain calm = refl
+pending_moved a (heap.New m d k) reply plain calm =
+    ap pending_in (same_frame a.world (heap.New m d k) reply tt tt)
+pending_moved a (heap.Refer m strength d s q k) reply plain calm =
+    ap pending_in (same_frame a.world (heap.Refer m strength d s q k) reply tt tt)
+pending_moved a step reply plain calm = ap pending_in (same_frame a.world step reply tt tt)

@@ -1,5 +1,0 @@
-use Rattle.ref_base.proofs.ScannedOnce.{refused_left}
-use Rattle.ref_base.proofs.laws.a_mark_goes_on_only_while_an_object_is_left.Goals as goal
-
-pub returns : goal.returns
-returns c = refused_left

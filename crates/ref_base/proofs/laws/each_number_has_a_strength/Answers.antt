@@ -1,5 +1,0 @@
-use Rattle.ref_base.proofs.StrengthLaws.{some_strength}
-use Rattle.ref_base.proofs.laws.each_number_has_a_strength.Goals as goal
-
-pub returns : goal.returns
-returns c = some_strength

@@ -1,5 +1,0 @@
-use Rattle.ref_base.proofs.OldNames.{legal_numbers}
-use Rattle.ref_base.proofs.laws.each_number_is_given_once.Goals as goal
-
-pub returns : goal.returns
-returns c = legal_numbers

@@ -1,5 +1,0 @@
-use Rattle.ref_base.proofs.OutTraces.{doomed_out}
-use Rattle.ref_base.proofs.laws.nothing_else_refers_to_the_doomed.Goals as goal
-
-pub returns : goal.returns
-returns c = doomed_out

@@ -1,5 +1,0 @@
-use Rattle.ref_base.proofs.StrengthLaws.{exclusive}
-use Rattle.ref_base.proofs.laws.strengths_are_exclusive.Goals as goal
-
-pub returns : goal.returns
-returns c = exclusive

@@ -1,5 +1,0 @@
-use Rattle.ref_base.proofs.KeptLaws.{kept_is_reachable}
-use Rattle.ref_base.proofs.laws.what_is_kept_is_reachable.Goals as goal
-
-pub returns : goal.returns
-returns c = kept_is_reachable

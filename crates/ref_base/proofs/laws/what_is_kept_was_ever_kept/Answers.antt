@@ -1,5 +1,0 @@
-use Rattle.ref_base.proofs.KeptLaws.{ever_kept}
-use Rattle.ref_base.proofs.laws.what_is_kept_was_ever_kept.Goals as goal
-
-pub returns : goal.returns
-returns c = ever_kept

@@ -1,0 +1,58 @@
+//! Legal traces: what a cycle scans, clears and sweeps.
+
+ghost use Rattle.std.specs.Prelude.{◌≡◌, ℕ, true, List, Some, nat_eq, None};
+ghost use Rattle.ref_base.specs.Members.{has};
+ghost use Rattle.ref_base.specs.DoomedSets.{new_clears};
+ghost use Rattle.ref_base.specs.LegalTraces.{IsLegal};
+ghost use Rattle.ref_base.specs.Worlds.{graph_of};
+ghost use Rattle.ref_base.specs.Collectors.{State, first_state};
+ghost use Rattle.ref_base.specs.MarkEnds.{AreOutOfReach};
+ghost use Rattle.ref_base.specs.CollectorRows.{IsRow, IsRun, IsLeft, doomed_at, referent_of};
+ghost use Rattle.std.specs.List.{IsDistinct};
+ghost use Rattle.ref_base.specs.Heaps.{slot_at, reference_at};
+ghost use Rattle.ref_base.specs.ScannedRows.{scanned_in_cycle};
+ghost use Rattle.ref_base.specs.declared.fault.Fault.{Fault};
+ghost use Rattle.ref_base.specs.declared.config.Config.{Config};
+ghost use Rattle.ref_base.specs.declared.row.Row.{Row};
+ghost use Rattle.ref_base.specs.declared.reply.Reply.{Reply};
+ghost use Rattle.ref_base.specs.declared.step.Step.{Step};
+
+/// In a legal trace no object is scanned twice in a cycle.
+pub fn no_object_is_scanned_twice_in_a_cycle()
+    ensures { (config : Config) (rows : List Row) → IsLegal config rows → IsDistinct nat_eq (scanned_in_cycle rows) }
+{}
+
+/// In a legal trace, where a mark's end is refused because an object is left to scan, one is: it was ever kept in the
+/// mark, it was made before the cycle began, and no row of the cycle scanned it.
+pub fn a_mark_goes_on_only_while_an_object_is_left()
+    ensures { (config : Config) (front : List Row) (a b : State) → IsRun (first_state config) front a
+        → IsRow a (record { step = Step.EndMark; reply = Reply.Refused Fault.GreyLeft }) b
+        → (n : ℕ) × IsLeft a n }
+{}
+
+/// What a mark's end clears in a legal trace, it clears at one instant and for good: each new clear reads as cleared in
+/// every state from then on, or it is no longer there.
+pub fn what_a_marks_end_clears_reads_as_cleared_from_then_on()
+    ensures { (config : Config) (front : List Row) (a b : State) (count : ℕ) (rows : List Row) (c : State) (n : ℕ)
+        → IsRun (first_state config) front a
+        → IsRow a (record { step = Step.EndMark; reply = Reply.Doomed count }) b → IsRun b rows c
+        → has (new_clears a.world.heap.objects (doomed_at a)) n ≡ true
+        → referent_of (reference_at c.world.heap n) ≡ None }
+{}
+
+/// And no get of it answers an object from then on, whoever holds it.
+pub fn no_get_answers_what_a_marks_end_cleared()
+    ensures { (config : Config) (front : List Row) (a b : State) (count : ℕ) (rows : List Row) (c : State) (n : ℕ)
+        (m d s k : ℕ) (e : State) → IsRun (first_state config) front a
+        → IsRow a (record { step = Step.EndMark; reply = Reply.Doomed count }) b → IsRun b rows c
+        → has (new_clears a.world.heap.objects (doomed_at a)) n ≡ true → slot_at c.world.heap m s ≡ Some n
+        → ¬ (IsRow c (record { step = Step.Get m d s; reply = Reply.Object k }) e) }
+{}
+
+/// After every legal trace, also while references are cleared and while the sweep goes on, nothing reaches what is
+/// doomed and not swept yet: no slot, hold or pending reference names it, and no other object has it as a field or as
+/// its referent.
+pub fn nothing_else_refers_to_the_doomed()
+    ensures { (config : Config) (rows : List Row) (b : State) → IsRun (first_state config) rows b
+        → AreOutOfReach b.doomed (graph_of b.world) }
+{}

@@ -1,0 +1,73 @@
+//! Legal traces: for which queue a notice is, what its cause is, and when it may come.
+
+ghost use Rattle.std.specs.Prelude.{◌≡◌, ℕ, true, List, [], ◌∷◌, ◌++◌, Some};
+ghost use Rattle.ref_base.specs.LegalTraces.{IsLegal};
+ghost use Rattle.ref_base.specs.WorkerOrder.{is_registered};
+ghost use Rattle.ref_base.specs.Worlds.{Notice, hand_of};
+ghost use Rattle.ref_base.specs.Collectors.{State, first_state};
+ghost use Rattle.ref_base.specs.CountedHolds.{AreCounted};
+ghost use Rattle.ref_base.specs.Replay.{replayed};
+ghost use Rattle.ref_base.specs.MarkEnds.{MarkEnded, AreAfterMarks};
+ghost use Rattle.ref_base.specs.Provenance.{IsProven, AreProven, gives_notices};
+ghost use Rattle.ref_base.specs.CollectorRows.{IsRun};
+ghost use Rattle.ref_base.specs.declared.actor.Actor.{Actor};
+ghost use Rattle.ref_base.specs.declared.cause.Cause.{Cause};
+ghost use Rattle.ref_base.specs.declared.config.Config.{Config};
+ghost use Rattle.ref_base.specs.declared.row.Row.{Row};
+ghost use Rattle.ref_base.specs.declared.reply.Reply.{Reply};
+ghost use Rattle.ref_base.specs.declared.step.Step.{Step};
+
+/// In a legal trace a reference is registered with one queue.
+pub fn a_reference_is_registered_with_one_queue()
+    ensures { (config : Config) (rows : List Row) (n q r : ℕ) → IsLegal config rows
+        → is_registered rows n q ≡ true → is_registered rows n r ≡ true → q ≡ r }
+{}
+
+/// In a legal trace each notice that was put in, which is what the hand holds in the replay, comes from the rows
+/// before: one of them made its reference, registered with the notice's queue; and one is its cause.
+pub fn each_notice_that_is_put_in_has_its_own_queue_and_cause()
+    ensures { (config : Config) (front back : List Row) (who : Actor) (position : ℕ)
+        → IsLegal config (front ++ record { step = Step.Put who; reply = Reply.Added position } ∷ back)
+        → (notice : Notice) × (hand_of (replayed config front) who ≡ Some notice) × IsProven front notice }
+{}
+
+/// After every legal trace each notice that is out, in a hand or in a queue, comes from the rows: one of them made its
+/// reference, registered with the notice's queue; and one is its cause, an unhook that gave a notice of the reference,
+/// or its clearing, in the cycle and by the worker that the cause names.
+pub fn each_notice_has_its_own_queue_and_cause()
+    ensures { (config : Config) (rows : List Row) (b : State) → IsRun (first_state config) rows b
+        → AreProven rows b.world }
+{}
+
+/// And so does each notice that a row of a legal trace gives, an unhook's or one that a worker hands on: from the rows
+/// up to that one.
+pub fn each_notice_that_is_given_has_its_own_queue_and_cause()
+    ensures { (config : Config) (front back : List Row) (step : Step) (n q : ℕ) (cause : Cause) (b : State)
+        → gives_notices step ≡ true
+        → IsRun (first_state config) (front ++ record { step = step; reply = Reply.Notice n q cause } ∷ back) b
+        → IsProven (front ++ record { step = step; reply = Reply.Notice n q cause } ∷ [])
+        (record { object = n; queue = q; cause = cause }) }
+{}
+
+/// After every legal trace each notice that is out, in a hand or in a queue, and whose cause is a cycle, comes after
+/// the end of that cycle's mark: and in the world that the rows before that end give by replay, the notice's reference
+/// has a referent, an object to which no kept path leads.
+pub fn each_notice_of_a_cycle_comes_after_its_mark_ended()
+    ensures { (config : Config) (rows : List Row) (b : State) → IsRun (first_state config) rows b
+        → AreAfterMarks config rows b.world }
+{}
+
+/// And so does each row of a legal trace in which a worker clears a reference: after the end of the mark of the cycle
+/// that goes on there.
+pub fn what_a_worker_clears_was_shown_by_its_mark_end()
+    ensures { (config : Config) (front back : List Row) (k n : ℕ) (b : State)
+        → IsRun (first_state config) (front ++ record { step = Step.ClearNext k; reply = Reply.Cleared n } ∷ back) b
+        → MarkEnded config front (replayed config front).cycle n }
+{}
+
+/// After every legal trace each notice that is out, in a hand or in a queue, is a hold that the heap counts: none is
+/// out more often than its reference is held.
+pub fn each_notice_that_is_out_is_a_counted_hold()
+    ensures { (config : Config) (rows : List Row) (b : State) → IsRun (first_state config) rows b
+        → AreCounted b.world }
+{}
