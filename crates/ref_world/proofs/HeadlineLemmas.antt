@@ -1,18 +1,22 @@
 -- The headline's clauses, of every legal trace.
-use Rattle.std.proofs.Common.{◌≡◌, ℕ, List, ◌∷◌, ◌++◌, length, map, Option, Some, None, sym, ap, subst, ◌∙◌}
-use Rattle.ref_base.specs.Collectors.{State, first_state}
+use Rattle.std.proofs.Common.{◌≡◌, ℕ, true, ◌&&◌, List, ◌∷◌, ◌++◌, length, map, Option, Some, None, sym, ap, subst, ◌∙◌}
+use Rattle.std.proofs.lemmas.Bool.{and_parts}
+use Rattle.ref_base.specs.AgreeingWorlds.{is_waiting}
+use Rattle.ref_base.specs.Collectors.{State, first_state, joined}
 use Rattle.ref_base.specs.CollectorRows.{IsRun}
+use Rattle.ref_base.specs.Forgetting.{heap_but}
 use Rattle.ref_base.specs.LegalTraces.{IsLegal}
-use Rattle.ref_base.specs.MarkEnds.{MarkEnded, IsAfterMark, IsAfterMarkIn}
+use Rattle.ref_base.specs.MarkEnds.{IsAfterMark, IsAfterMarkIn}
+use Rattle.ref_base.specs.Members.{has}
 use Rattle.ref_base.specs.Provenance.{IsCause, IsProven}
 use Rattle.ref_base.specs.QueueLists.{Lists, enqueued}
 use Rattle.ref_base.specs.QueueRows.{put_into}
 use Rattle.ref_base.specs.Replay.{replayed}
-use Rattle.ref_base.specs.Worlds.{Notice, object_of}
-use Rattle.ref_base.specs.declared.actor.Actor.{Actor}
+use Rattle.ref_base.specs.Refusals.{is_in}
+use Rattle.ref_base.specs.Worlds.{World, Notice, object_of}
 use Rattle.ref_base.specs.declared.cause.Cause.{Cause}
-use Rattle.ref_base.specs.declared.cause.Cause.TheVariants.{Own, Cycle}
 use Rattle.ref_base.specs.declared.config.Config.{Config}
+use Rattle.ref_base.specs.declared.phase.Phase.TheVariants.{Clearing}
 use Rattle.ref_base.specs.declared.reply.Reply.TheVariants as replies
 use Rattle.ref_base.specs.declared.row.Row.{Row}
 use Rattle.ref_base.specs.declared.step.Step.TheVariants as steps
@@ -21,12 +25,16 @@ use Rattle.ref_base.proofs.ClearingTraces.{legal_in_order}
 use Rattle.ref_base.proofs.LegalQueues.{legal_keeps_queue}
 use Rattle.ref_base.proofs.MarkedTraces.{legal_marked}
 use Rattle.ref_base.proofs.OneQueue.{one_queue}
-use Rattle.ref_base.proofs.ReplayOthers.{legal_others}
+use Rattle.ref_base.proofs.OutTraces.{legal_agrees, legal_others}
+use Rattle.ref_base.proofs.ScannedOnce.{legal_scanned_once}
 use Rattle.ref_base.proofs.RunLaws.{front_is_legal}
 use Rattle.ref_base.proofs.SameOthers.{same_hand}
 use Rattle.ref_world.specs.Cores.{Core, queue_at}
 use Rattle.ref_world.specs.Headline.{Adds, TakenThenStanding, QueuesTell, Positions, InClearingOrder, AtMostOnce}
-use Rattle.ref_world.specs.Headline.{OwnQueue, OwnEnqueueCall, AfterAMarkEnded, NothingAfterClose}
+use Rattle.ref_world.specs.Headline.{OwnQueue, OwnEnqueueCall, AfterAMarkEnded, NothingAfterClose, ScannedOnce}
+use Rattle.ref_mark.specs.CycleHeaps.{CycleHeap}
+use Rattle.ref_mark.specs.Standing.{unsaid}
+use Rattle.ref_world.specs.HeapOfRows.{HeapTells}
 use Rattle.ref_world.specs.Standing.{Stands}
 use Rattle.ref_world.proofs.QueueRows.{queue_is}
 
@@ -47,6 +55,27 @@ module _ (config : Config) (rows : List Row) (last : Core) (b : State) (run : Is
   taken_then_standing q =
       ap (λ ns. ns ++ map object_of (queue_at last q).stands) (sym (queues_tell.taken q)) ∙ queues_tell.enqueued q
 
+  -- the heap as its rows give it
+  pub heap_tells : HeapTells config rows last
+  heap_tells =
+      let agrees = legal_agrees config rows b run in
+      let k : CycleHeap = last.heap.mark in
+      record {
+        gone = agrees.0;
+        waiting = is_waiting b;
+        heap =
+            sym stands.heap.mark.heap ∙ ap (λ (w : World). heap_but (unsaid k) w.heap) agrees.1;
+        were_doomed = agrees.2;
+        are_found = λ n waits.
+            let parts = and_parts (is_in b.world.phase Clearing) (has (joined b.found) n && has b.cleared n) waits in
+            let clearing : is_in k.phase Clearing ≡ true = subst (λ p. is_in p Clearing ≡ true) stands.heap.mark.phase parts.0 in
+            let found = (and_parts (has (joined b.found) n) (has b.cleared n) parts.1).0 in (
+              clearing,
+              subst (λ (lists : List (List ℕ)). has (joined lists) n ≡ true)
+                  (stands.heap.mark.clearing clearing).same found,
+            );
+      }
+
 -- ---- the rows of a legal trace
 
 -- the notice that a hand holds, or another where it holds none
@@ -57,6 +86,10 @@ held other (Some notice) = notice
 module _ (config : Config) (rows : List Row) (legal : IsLegal config rows) where
   pub in_clearing_order : InClearingOrder config rows
   in_clearing_order worker q = legal_in_order config rows worker q legal
+
+  pub scanned_once : ScannedOnce rows
+  scanned_once front behind is =
+      legal_scanned_once config front (front_is_legal config front behind (subst (IsLegal config) (sym is) legal))
 
   pub at_most_once : AtMostOnce rows
   at_most_once q = (legal_keeps_queue config rows q legal).at_most_once

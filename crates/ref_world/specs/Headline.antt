@@ -10,6 +10,7 @@ use Rattle.ref_base.specs.Provenance.{has_row, unhooks}
 use Rattle.ref_base.specs.QueueLists.{enqueued}
 use Rattle.ref_base.specs.QueueRows.{put_into, taken_from, was_closed}
 use Rattle.ref_base.specs.Replay.{replayed}
+use Rattle.ref_base.specs.ScannedRows.{scanned_in_cycle}
 use Rattle.ref_base.specs.WorkerOrder.{is_registered, clearing_order}
 use Rattle.ref_base.specs.Worlds.{Notice, hand_of, object_of}
 use Rattle.ref_base.specs.declared.actor.Actor.{Actor}
@@ -78,3 +79,8 @@ abbrev pub NothingAfterClose : List Row → Type 0
 NothingAfterClose rows =
     (q : ℕ) (front behind : List Row) → front ++ behind ≡ rows → was_closed q front ≡ true
     → put_into q front ≡ put_into q rows
+
+-- no object is scanned twice in a cycle, in whatever front of the rows
+abbrev pub ScannedOnce : List Row → Type 0
+ScannedOnce rows =
+    (front behind : List Row) → front ++ behind ≡ rows → IsDistinct nat_eq (scanned_in_cycle front)

@@ -2,5 +2,6 @@ pub mod AskedSteps
 pub mod Cores
 pub mod HeapReplies
 pub mod Headline
+pub mod HeapOfRows
 pub mod Runs
 pub mod Standing

@@ -5,7 +5,8 @@ ghost use Rattle.ref_base.specs.Collectors.{first_state};
 ghost use Rattle.ref_base.specs.LegalTraces.{IsLegal};
 ghost use Rattle.ref_base.specs.declared.config.Config.{Config};
 ghost use Rattle.ref_world.specs.Headline.{TakenThenStanding, QueuesTell, Positions, InClearingOrder, AtMostOnce};
-ghost use Rattle.ref_world.specs.Headline.{OwnQueue, OwnEnqueueCall, AfterAMarkEnded, NothingAfterClose};
+ghost use Rattle.ref_world.specs.Headline.{OwnQueue, OwnEnqueueCall, AfterAMarkEnded, NothingAfterClose, ScannedOnce};
+ghost use Rattle.ref_world.specs.HeapOfRows.{HeapTells};
 ghost use Rattle.ref_world.specs.Runs.{RunsFrom, steps_of};
 ghost use Rattle.ref_world.specs.Standing.{Stands};
 
@@ -61,6 +62,10 @@ pub fn run<A: Allocator + Copy>(
         → IfOk result (λ trace. AfterAMarkEnded config trace.rows.items) }
     ensures nothing_after_close { (config : Config) → Stands world (first_state config)
         → IfOk result (λ trace. NothingAfterClose trace.rows.items) }
+    ensures scanned_once { (config : Config) → Stands world (first_state config)
+        → IfOk result (λ trace. ScannedOnce trace.rows.items) }
+    ensures heap { (config : Config) → Stands world (first_state config)
+        → IfOk result (λ trace. HeapTells config trace.rows.items trace.world) }
 {
     match answered(alloc, world, steps) {
         Ok(trace) => Ok(trace),

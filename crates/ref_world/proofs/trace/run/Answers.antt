@@ -1,7 +1,7 @@
 use Rattle.ref_base.specs.Collectors.{first_state}
 use Rattle.ref_world.proofs.HeadlineLemmas.{queues_tell, taken_then_standing, in_clearing_order, at_most_once}
 use Rattle.ref_world.proofs.HeadlineLemmas.{nothing_after_close, positions, own_queue, own_enqueue_call}
-use Rattle.ref_world.proofs.HeadlineLemmas.{after_a_mark_ended}
+use Rattle.ref_world.proofs.HeadlineLemmas.{after_a_mark_ended, scanned_once, heap_tells}
 use Rattle.ref_world.proofs.trace.run.Goals as goal
 
 pub returns-in-Ok-clause-legal : goal.returns-in-Ok-clause-legal
@@ -45,3 +45,12 @@ returns-in-Ok-clause-after_a_mark_ended g c config stands =
 pub returns-in-Ok-clause-nothing_after_close : goal.returns-in-Ok-clause-nothing_after_close
 returns-in-Ok-clause-nothing_after_close g c config stands =
     nothing_after_close config c.in-Ok.trace.rows.items (returns-in-Ok-clause-legal g c config stands)
+
+pub returns-in-Ok-clause-scanned_once : goal.returns-in-Ok-clause-scanned_once
+returns-in-Ok-clause-scanned_once g c config stands =
+    scanned_once config c.in-Ok.trace.rows.items (returns-in-Ok-clause-legal g c config stands)
+
+pub returns-in-Ok-clause-heap : goal.returns-in-Ok-clause-heap
+returns-in-Ok-clause-heap g c config stands =
+    let run = c.in-Ok.ensures.run (first_state config) stands in
+    heap_tells config c.in-Ok.trace.rows.items c.in-Ok.trace.world run.0 run.1 run.2
