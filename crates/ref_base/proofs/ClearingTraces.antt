@@ -231,4 +231,5 @@ pub legal_in_order : (config : Config) (rows : List Row) (k q : ℕ) → IsLegal
     → is_subsequence (added_of config k q rows) (clearing_order rows k q) ≡ true
 legal_in_order config rows k q legal =
     sub_is (added_of config k q rows) (clearing_order rows k q)
-    (run_in_order config rows [] (first_state config) rows legal.0 k q [] [] refl refl (nothing_waits config k q) legal.1)
+    (run_in_order config rows [] (first_state config) rows legal.0 k q [] [] refl refl (nothing_waits config k q)
+    legal.1)

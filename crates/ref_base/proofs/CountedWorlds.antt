@@ -14,8 +14,8 @@ use Rattle.ref_base.specs.CountedHolds.{tally, in_hand, in_hands, in_queues, rep
 use Rattle.ref_base.specs.declared.config.Config.{Config}
 use Rattle.ref_base.specs.declared.actor.Actor.{Actor}
 use Rattle.ref_base.specs.declared.actor.Actor.TheVariants.{Mutator, Worker}
-use Rattle.ref_base.proofs.HoldCounts.{tally-has, tally-first, tally-append, tally-one_more, tally-one_fewer, tally-hand_set}
-use Rattle.ref_base.proofs.HoldCounts.{tally-queue_set}
+use Rattle.ref_base.proofs.HoldCounts.{tally-has, tally-first, tally-append, tally-one_more, tally-one_fewer}
+use Rattle.ref_base.proofs.HoldCounts.{tally-hand_set, tally-queue_set}
 use Rattle.ref_base.proofs.SameOthers.{same_hand}
 use Rattle.ref_base.proofs.Places.{place_there}
 use Rattle.ref_base.proofs.SoundWorlds.{HasHand}

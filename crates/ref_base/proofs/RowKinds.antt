@@ -10,8 +10,8 @@ use Rattle.ref_base.specs.Replay.{after_queues, put_in, took, closed_queue}
 use Rattle.ref_base.specs.Collectors.{State}
 use Rattle.ref_base.specs.Refusals.{refusal, heap_refusal, asked_refusal, unless_full, has_slot, is_worker}
 use Rattle.ref_base.specs.Refusals.{is_counted}
-use Rattle.ref_base.specs.CollectorRows.{with_world, with_handed, ticked, HeapAccepts, QueuesAccept, AcceptsAsking, IsAnswer}
-use Rattle.ref_base.specs.CollectorRows.{IsRow, Puts, PutsInto, Polls, Closes, Gives}
+use Rattle.ref_base.specs.CollectorRows.{with_world, with_handed, ticked, HeapAccepts, QueuesAccept, AcceptsAsking}
+use Rattle.ref_base.specs.CollectorRows.{IsAnswer, IsRow, Puts, PutsInto, Polls, Closes, Gives}
 use Rattle.ref_base.specs.CountedHolds.{AreCounted}
 use Rattle.ref_base.specs.declared.actor.Actor.{Actor}
 use Rattle.ref_base.specs.declared.actor.Actor.TheVariants.{Mutator, Worker}
@@ -90,7 +90,7 @@ heap_passes a step asked counted asks none = sym (ap (asked_refusal a) asks) ∙
 
 -- ---- rows of queues
 
-abbrev LeadsQueues : State → Step → Reply → State → Type 0
+abbrev pub LeadsQueues : State → Step → Reply → State → Type 0
 LeadsQueues a step reply b = Becomes (with_world a (after_queues a.world step reply)) b
 
 given : (a c b : State) (step : Step) (answer reply : Reply) → Gives answer c reply b
@@ -140,7 +140,8 @@ closes a b m q false reply row =
     given a (with_world a (closed_queue a.world q)) b (steps.Close m q) replies.Done reply row refl
 
 -- a row of queues leaves the queues that its answer says
-pub queues_become : (a b : State) (step : Step) (reply : Reply) → QueuesAccept a step reply b → LeadsQueues a step reply b
+pub queues_become : (a b : State) (step : Step) (reply : Reply) → QueuesAccept a step reply b
+    → LeadsQueues a step reply b
 queues_become a b (steps.Put who) reply row = puts a b who (hand_of a.world who) reply refl row
 queues_become a b (steps.Poll m q) reply row = polls a b m q (queue_at a.world q).stands reply row
 queues_become a b (steps.Close m q) reply row = closes a b m q (queue_at a.world q).closed reply row

@@ -126,12 +126,14 @@ pub row_moves : (a : State) (row : Row) (b : State) → AreCounted a.world → I
     → Moves a (heap_step a.world row.step) row.reply b
 row_moves a row b counted h =
     let asks : Option NamedStep = heap_step a.world row.step in
+    let asking : Option NamedStep → Type 0 = λ asked. Moves a asked row.reply b in
     elim (row_kind a row b counted h) [
       | inl of ↦
           subst (λ (r : Reply). Moves a asks r b) (sym of.answer)
-          (subst (λ (s : State). Moves a asks (replies.Refused of.fault) s) (sym of.same) (refused_moves a asks of.fault))
+          (subst (λ (s : State). Moves a asks (replies.Refused of.fault) s) (sym of.same)
+          (refused_moves a asks of.fault))
       | inr others ↦ elim others [
-        | inl of ↦ subst (λ (asked : Option NamedStep). Moves a asked row.reply b) (sym of.asks) (queues_tell a row b of)
-        | inr of ↦ subst (λ (asked : Option NamedStep). Moves a asked row.reply b) (sym of.asks) (asked_tells a row b of)
+        | inl of ↦ subst asking (sym of.asks) (queues_tell a row b of)
+        | inr of ↦ subst asking (sym of.asks) (asked_tells a row b of)
       ]
     ]

@@ -19,8 +19,8 @@ module _ (config : Config) (Q : List Row → State → Type 0)
     (step : (past : List Row) (a : State) (row : Row) (b : State) → IsRun (first_state config) past a → Q past a
     → IsRow a row b → Q (past ++ row ∷ []) b) where
   -- what holds after a run's front and is kept by each row holds after the run
-  pub goes_on : (past : List Row) (a : State) (rows : List Row) (b : State) → IsRun (first_state config) past a → Q past a
-      → IsRun a rows b → Q (past ++ rows) b
+  pub goes_on : (past : List Row) (a : State) (rows : List Row) (b : State) → IsRun (first_state config) past a
+      → Q past a → IsRun a rows b → Q (past ++ rows) b
   goes_on past a [] b run holds more =
       subst (λ rs. Q rs b) (sym (append-nil past)) (subst (λ (s : State). Q past s) (sym more) holds)
   goes_on past a (row ∷ rows) b run holds more =

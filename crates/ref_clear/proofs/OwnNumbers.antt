@@ -30,7 +30,8 @@ looked-number c w (n ∷ rest) =
     elim (cases_Bool (is_to_clear c.mark n)) [
       | inl dead ↦
           simp dead
-          (pended-number (with_mark c (cut_at (with_taken c.mark w) n)) w n (registered_in (reference_at c.mark.heap n)))
+          (pended-number (with_mark c (cut_at (with_taken c.mark w) n)) w n
+          (registered_in (reference_at c.mark.heap n)))
       | inr other ↦ simp other refl
     ]
 
@@ -50,11 +51,13 @@ number_after c (heap.Unhook m s) =
     number-left c (with_mark c (unhooked c.mark m s held queue)) (refusal_in c (heap.Unhook m s))
     (unhooked-number c.mark m s held queue)
 number_after c (heap.Begin now how) =
-    number-left c (begun_with c now how) (refusal_in c (heap.Begin now how)) (begun-number c.mark now how (pending_numbers c.pending))
+    number-left c (begun_with c now how) (refusal_in c (heap.Begin now how))
+    (begun-number c.mark now how (pending_numbers c.pending))
 number_after c (heap.ClearNext w) =
     let found = list_at c.mark.found w in
     number-left c (looked_from c w found) (refusal_in c (heap.ClearNext w)) (looked-number c w found)
-number_after c heap.EndClear = number-left c (with_mark c (with_phase c.mark Sweeping)) (refusal_in c heap.EndClear) refl
+number_after c heap.EndClear =
+    number-left c (with_mark c (with_phase c.mark Sweeping)) (refusal_in c heap.EndClear) refl
 number_after c (heap.Hand w) =
     let waiting = pending_at c w in
     number-left c (handed_from c w waiting) (refusal_in c (heap.Hand w)) (handed-number c w waiting)
