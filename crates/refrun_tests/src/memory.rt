@@ -95,7 +95,13 @@ fn printed_in(
 
 /// With memory of one size after another: the text is printed whole, or memory ran out and nothing is printed. Both are
 /// seen.
-fn agree(rt: &impl Abort, alloc: Global, task: Task, text: &[u8], whole: &[u8]) -> Result<(), Fail> {
+fn agree(
+    rt: &impl Abort,
+    alloc: Global,
+    task: Task,
+    text: &[u8],
+    whole: &[u8],
+) -> Result<(), Fail> {
     let (mut without, mut wholly) = (false, false);
     for size in 0..1_500 {
         let (answer, printed) = printed_in(rt, alloc, task, text, 64 * size)?;
