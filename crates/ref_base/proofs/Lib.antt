@@ -74,3 +74,4 @@ mod OrderExamples
 mod LegalExamples
 mod IllegalExamples
 mod Examples
+pub mod WantedMemory

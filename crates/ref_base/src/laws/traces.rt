@@ -12,6 +12,8 @@ ghost use Rattle.ref_base.specs.OldNumbers.{HasOldNumbers};
 ghost use Rattle.ref_base.specs.MarkEnds.{WasDoomed, AreOutOfReach};
 ghost use Rattle.ref_base.specs.Refusals.{heap_refusal, refusal};
 ghost use Rattle.ref_base.specs.CollectorRows.{IsHeapRow, IsRow, IsRun, with_handed};
+ghost use Rattle.ref_base.specs.declared.actor.Actor.{Actor};
+ghost use Rattle.ref_base.specs.declared.fault.Fault.{Fault};
 ghost use Rattle.ref_base.specs.declared.config.Config.{Config};
 ghost use Rattle.ref_base.specs.declared.row.Row.{Row};
 ghost use Rattle.ref_base.specs.declared.reply.Reply.{Reply};
@@ -20,6 +22,13 @@ ghost use Rattle.ref_base.specs.declared.step.Step.{Step};
 /// The front of a legal trace is legal: what is answered later changes no answer before.
 pub fn the_front_of_a_legal_trace_is_legal()
     ensures { (config : Config) (front back : List Row) → IsLegal config (front ++ back) → IsLegal config front }
+{}
+
+/// Want of memory is answered by puts alone.
+pub fn memory_is_wanting_at_puts_alone()
+    ensures { (a : State) (step : Step) (b : State)
+        → IsRow a (record { step = step; reply = Reply.Refused Fault.NoMemory }) b
+        → (who : Actor) × (step ≡ Step.Put who) }
 {}
 
 /// A row of a heap is a row of the world in which a step asks for it, with what that step leaves in the hands, where

@@ -1,0 +1,299 @@
+-- Want of memory is answered by puts alone.
+use Rattle.std.proofs.Common.{◌≡◌, ℕ, Bool, true, false, List, [], ◌∷◌, Option, Some, None, refl, sym, ap, ◌∙◌}
+use Rattle.std.proofs.Common.{inl, inr}
+use Rattle.std.specs.Prelude.{is_some, nat_lt, nat_le, length, not, ◌^◌, ◌-◌}
+use Rattle.std.proofs.lemmas.Bool.{cases_Bool, false≢true}
+use Rattle.ref_base.specs.Members.{has}
+use Rattle.ref_base.specs.Graphs.{Reference, object_at}
+use Rattle.ref_base.specs.Heaps.{Heap, slot_at, reference_at, registered_in}
+use Rattle.ref_base.specs.HeapSteps.{NamedStep, heap_step}
+use Rattle.ref_base.specs.Worlds.{Notice, Pending, hand_of, queue_at, pending_of}
+use Rattle.ref_base.specs.Collectors.{State, joined}
+use Rattle.ref_base.specs.Refusals.{unless, unless_empty, unless_full, has_slot, has_slots, is_queue_or_none, field_count}
+use Rattle.ref_base.specs.Refusals.{object_refusal, field_refusal, reference_refusal, holds_refusal, minting_refusal}
+use Rattle.ref_base.specs.Refusals.{unhook_refusal, hand_refusal, held_refusal, is_counted, is_worker, is_mutator, is_queue}
+use Rattle.ref_base.specs.Refusals.{is_actor, is_in, is_empty, empty_hand_refusal, heap_refusal, asked_refusal, refusal}
+use Rattle.ref_base.specs.CollectorRows.{GivesAnewIf, Loads, Gets, Unhooks, Holds, Polls, Closes, Scans, ClearsNext}
+use Rattle.ref_base.specs.CollectorRows.{HandsOn, Sweeps, field_in, reference_of, referent_got, referent_of, list_at}
+use Rattle.ref_base.specs.CollectorRows.{looked_at, value_reply, HeapAccepts, AcceptsAsking, IsAnswer, IsRow}
+use Rattle.ref_base.specs.declared.fault.Fault.{Fault}
+use Rattle.ref_base.specs.declared.fault.Fault.TheVariants.{NoMemory, NoSuchActor, BadQueue, BadField, NumbersSpent}
+use Rattle.ref_base.specs.declared.fault.Fault.TheVariants.{NoCell, NotAReference, WrongPhase, ClockBack, GreyLeft}
+use Rattle.ref_base.specs.declared.fault.Fault.TheVariants.{ClearingLeft, SweepLeft, ForeignHold}
+use Rattle.ref_base.specs.declared.heap_step.HeapStep.TheVariants as heap
+use Rattle.ref_base.specs.declared.actor.Actor.{Actor}
+use Rattle.ref_base.specs.declared.actor.Actor.TheVariants.{Mutator, Worker}
+use Rattle.ref_base.specs.declared.phase.Phase.TheVariants.{Idle, Marking, Clearing, Sweeping}
+use Rattle.ref_base.specs.declared.reply.Reply.{Reply}
+use Rattle.ref_base.specs.declared.reply.Reply.TheVariants as replies
+use Rattle.ref_base.specs.declared.step.Step.{Step}
+use Rattle.ref_base.specs.declared.step.Step.TheVariants as steps
+
+-- ---- no refusal is for want of memory
+
+abbrev is_memory : Fault → Bool
+is_memory NoMemory = true
+is_memory fault = false
+
+abbrev wants : Option Fault → Bool
+wants None = false
+wants (Some fault) = is_memory fault
+
+no_want : (test : Bool) (fault : Fault) (later : Option Fault) → is_memory fault ≡ false → wants later ≡ false
+    → wants (unless test fault later) ≡ false
+no_want true fault later other none = none
+no_want false fault later other none = other
+
+object_wants : (h : Heap) (next k : ℕ) → wants (object_refusal h next k) ≡ false
+object_wants h next k =
+    no_want (nat_le k 8) BadField _ refl
+    (no_want (nat_lt next (2 ^ 32)) NumbersSpent _ refl
+    (no_want (nat_lt (length h.objects) h.config.cells) NoCell None refl refl))
+
+field_wants : (h : Heap) (held : Option ℕ) (i : ℕ) → wants (field_refusal h held i) ≡ false
+field_wants h None i = refl
+field_wants h (Some n) i = no_want (nat_lt i (field_count (object_at h.objects n))) BadField None refl refl
+
+reference_wants : (h : Heap) (held : Option ℕ) → wants (reference_refusal h held) ≡ false
+reference_wants h None = refl
+reference_wants h (Some n) = no_want (is_some (reference_at h n)) NotAReference None refl refl
+
+holds_wants : (h : Heap) → wants (holds_refusal h) ≡ false
+holds_wants h = no_want (nat_lt (length h.holds) (2 ^ 64 - 1)) NumbersSpent None refl refl
+
+minting_wants : (h : Heap) (r : Option Reference) → wants (minting_refusal h r) ≡ false
+minting_wants h None = refl
+minting_wants h (Some r) =
+    elim (cases_Bool (is_some r.queue)) [
+      | inl registered ↦ simp registered (holds_wants h)
+      | inr other ↦ simp other refl
+    ]
+
+unhook_wants : (h : Heap) (held : Option ℕ) → wants (unhook_refusal h held) ≡ false
+unhook_wants h None = refl
+unhook_wants h (Some n) = minting_wants h (reference_at h n)
+
+held_wants : (h : Heap) (held : Option ℕ) → wants (held_refusal h held) ≡ false
+held_wants h None = refl
+held_wants h (Some n) = holds_wants h
+
+hand_wants : (ps : List Pending) (h : Heap) → wants (hand_refusal ps h) ≡ false
+hand_wants [] h = refl
+hand_wants (p ∷ ps) h = holds_wants h
+
+empty_wants : (held : Option ℕ) (later : Option Fault) → wants later ≡ false → wants (unless_empty held later) ≡ false
+empty_wants None later none = refl
+empty_wants (Some n) later none = none
+
+full_wants : (hand : Option Notice) (later : Option Fault) → wants later ≡ false → wants (unless_full hand later) ≡ false
+full_wants None later none = none
+full_wants (Some notice) later none = refl
+
+empty_hand_wants : (hand : Option Notice) → wants (empty_hand_refusal hand) ≡ false
+empty_hand_wants None = refl
+empty_hand_wants (Some notice) = refl
+
+heap_wants : (a : State) (step : NamedStep) → wants (heap_refusal 0 a step) ≡ false
+heap_wants a (heap.New m d k) = no_want (has_slot a.world.heap m d) NoSuchActor _ refl (object_wants a.world.heap a.next k)
+heap_wants a (heap.Refer m strength d s q k) =
+    no_want (has_slots a.world.heap m d s) NoSuchActor _ refl
+    (no_want (is_queue_or_none a.world.heap q) BadQueue _ refl
+    (empty_wants (slot_at a.world.heap m s) _ (object_wants a.world.heap a.next k)))
+heap_wants a (heap.Store m s i v) =
+    no_want (has_slots a.world.heap m s v) NoSuchActor _ refl (field_wants a.world.heap (slot_at a.world.heap m s) i)
+heap_wants a (heap.Load m d s i) =
+    no_want (has_slots a.world.heap m d s) NoSuchActor _ refl (field_wants a.world.heap (slot_at a.world.heap m s) i)
+heap_wants a (heap.Copy m d s) = no_want (has_slots a.world.heap m d s) NoSuchActor None refl refl
+heap_wants a (heap.Drop m s) = no_want (has_slot a.world.heap m s) NoSuchActor None refl refl
+heap_wants a (heap.Get m d s) =
+    no_want (has_slots a.world.heap m d s) NoSuchActor _ refl (reference_wants a.world.heap (slot_at a.world.heap m s))
+heap_wants a (heap.Clear m s) =
+    no_want (has_slot a.world.heap m s) NoSuchActor _ refl (reference_wants a.world.heap (slot_at a.world.heap m s))
+heap_wants a (heap.RefersTo m s v) =
+    no_want (has_slots a.world.heap m v s) NoSuchActor _ refl (reference_wants a.world.heap (slot_at a.world.heap m s))
+heap_wants a (heap.Unhook m s) =
+    no_want (has_slot a.world.heap m s) NoSuchActor _ refl (unhook_wants a.world.heap (slot_at a.world.heap m s))
+heap_wants a (heap.Hold m s) =
+    no_want (has_slot a.world.heap m s) NoSuchActor _ refl (held_wants a.world.heap (slot_at a.world.heap m s))
+heap_wants a (heap.Adopt m d hold) =
+    no_want (has_slot a.world.heap m d) NoSuchActor _ refl
+    (no_want (is_counted 0 a.world.heap hold) ForeignHold None refl refl)
+heap_wants a (heap.Release hold) = no_want (is_counted 0 a.world.heap hold) ForeignHold None refl refl
+heap_wants a (heap.Begin now how) =
+    no_want (is_in a.world.phase Idle) WrongPhase _ refl
+    (no_want (nat_le a.world.heap.clock now) ClockBack _ refl
+    (no_want (nat_lt a.world.cycle (2 ^ 64 - 1)) NumbersSpent None refl refl))
+heap_wants a (heap.Scan k) =
+    no_want (is_worker a.world.heap k) NoSuchActor _ refl
+    (no_want (is_in a.world.phase Marking) WrongPhase None refl refl)
+heap_wants a heap.EndMark =
+    no_want (is_in a.world.phase Marking) WrongPhase _ refl (no_want (not a.left) GreyLeft None refl refl)
+heap_wants a (heap.ClearNext k) =
+    no_want (is_worker a.world.heap k) NoSuchActor _ refl
+    (no_want (is_in a.world.phase Clearing) WrongPhase None refl refl)
+heap_wants a heap.EndClear =
+    no_want (is_in a.world.phase Clearing) WrongPhase _ refl
+    (no_want (is_empty (joined a.found)) ClearingLeft None refl refl)
+heap_wants a (heap.Hand k) =
+    no_want (is_worker a.world.heap k) NoSuchActor _ refl (hand_wants (pending_of a.world k) a.world.heap)
+heap_wants a (heap.Sweep k) =
+    no_want (is_worker a.world.heap k) NoSuchActor _ refl
+    (no_want (is_in a.world.phase Sweeping) WrongPhase None refl refl)
+heap_wants a heap.EndSweep =
+    no_want (is_in a.world.phase Sweeping) WrongPhase _ refl (no_want (is_empty a.doomed) SweepLeft None refl refl)
+
+asked_wants : (a : State) (asked : Option NamedStep) → wants (asked_refusal a asked) ≡ false
+asked_wants a None = refl
+asked_wants a (Some asked) = heap_wants a asked
+
+step_wants : (a : State) (step : Step) → wants (refusal a step) ≡ false
+step_wants a (steps.Unhook m s) =
+    no_want (has_slot a.world.heap m s) NoSuchActor _ refl
+    (full_wants (hand_of a.world (Mutator m)) _ (heap_wants a (heap.Unhook m s)))
+step_wants a (steps.Hand k) =
+    no_want (is_worker a.world.heap k) NoSuchActor _ refl
+    (full_wants (hand_of a.world (Worker k)) _ (heap_wants a (heap.Hand k)))
+step_wants a (steps.Put who) = no_want (is_actor a.world.heap who) NoSuchActor _ refl (empty_hand_wants (hand_of a.world who))
+step_wants a (steps.Poll m q) =
+    no_want (is_mutator a.world.heap m) NoSuchActor _ refl
+    (no_want (is_queue a.world.heap q) BadQueue _ refl (full_wants (hand_of a.world (Mutator m)) None refl))
+step_wants a (steps.Adopt m d) =
+    no_want (has_slot a.world.heap m d) NoSuchActor _ refl (empty_hand_wants (hand_of a.world (Mutator m)))
+step_wants a (steps.Release who) =
+    no_want (is_actor a.world.heap who) NoSuchActor _ refl (empty_hand_wants (hand_of a.world who))
+step_wants a (steps.Close m q) =
+    no_want (is_mutator a.world.heap m) NoSuchActor _ refl (no_want (is_queue a.world.heap q) BadQueue None refl refl)
+step_wants a step = asked_wants a (heap_step a.world step)
+
+-- ---- no step that is accepted is answered so, but a put
+
+abbrev tells_want : Reply → Bool
+tells_want (replies.Refused fault) = is_memory fault
+tells_want reply = false
+
+told : {reply answer : Reply} → reply ≡ answer → tells_want answer ≡ false → tells_want reply ≡ false
+told is other = ap tells_want is ∙ other
+
+anew_tells : (flag : Bool) (answer : Reply) (c : State) (reply : Reply) (b : State) → GivesAnewIf flag answer c reply b
+    → tells_want answer ≡ false → tells_want reply ≡ false
+anew_tells true answer c reply b gives other = told gives.0 other
+anew_tells false answer c reply b gives other = told gives.0 other
+
+value_tells : (value : Option ℕ) → tells_want (value_reply value) ≡ false
+value_tells None = refl
+value_tells (Some n) = refl
+
+load_tells : (a : State) (m d : ℕ) (value : Option ℕ) (reply : Reply) (b : State) → Loads a m d value reply b
+    → tells_want reply ≡ false
+load_tells a m d None reply b gives = told gives.0 refl
+load_tells a m d (Some n) reply b gives = anew_tells (is_in a.world.phase Marking) (replies.Object n) _ reply b gives refl
+
+get_tells : (a : State) (m d s : ℕ) (value : Option ℕ) (reply : Reply) (b : State) → Gets a m d s value reply b
+    → tells_want reply ≡ false
+get_tells a m d s None reply b gives = told gives.0 refl
+get_tells a m d s (Some n) reply b gives = anew_tells (is_in _ Marking) (replies.Object n) _ reply b gives refl
+
+unhook_tells : (a : State) (m s : ℕ) (held queue : Option ℕ) (reply : Reply) (b : State)
+    → Unhooks a m s held queue reply b → tells_want reply ≡ false
+unhook_tells a m s None queue reply b gives = told gives.0 refl
+unhook_tells a m s (Some n) None reply b gives = told gives.0 refl
+unhook_tells a m s (Some n) (Some q) reply b gives = told gives.0 refl
+
+hold_tells : (a : State) (held : Option ℕ) (reply : Reply) (b : State) → Holds a held reply b → tells_want reply ≡ false
+hold_tells a None reply b holds = absurd holds
+hold_tells a (Some n) reply b gives = told gives.0 refl
+
+look_tells : (a : State) (k n : ℕ) → tells_want (looked_at a k n) ≡ false
+look_tells a k n =
+    elim (cases_Bool (has a.cleared n)) [
+      | inl clears ↦ simp clears refl
+      | inr other ↦ elim (cases_Bool (is_some (referent_of (reference_at a.world.heap n)))) [
+        | inl refers ↦ simp (other, refers) refl
+        | inr none ↦ simp (other, none) refl
+      ]
+    ]
+
+clear_tells : (a : State) (k : ℕ) (found : List ℕ) (reply : Reply) (b : State) → ClearsNext a k found reply b
+    → tells_want reply ≡ false
+clear_tells a k [] reply b gives = told gives.0 refl
+clear_tells a k (n ∷ rest) reply b gives = told gives.0 (look_tells a k n)
+
+handed_tells : (a : State) (k : ℕ) (ps : List Pending) (reply : Reply) (b : State) → HandsOn a k ps reply b
+    → tells_want reply ≡ false
+handed_tells a k [] reply b gives = told gives.0 refl
+handed_tells a k (p ∷ ps) reply b gives = told gives.0 refl
+
+sweep_tells : (a : State) (d : List ℕ) (reply : Reply) (b : State) → Sweeps a d reply b → tells_want reply ≡ false
+sweep_tells a [] reply b gives = told gives.0 refl
+sweep_tells a (n ∷ ns) reply b gives = told gives.0 refl
+
+scan_tells : (a : State) (k : ℕ) (reply : Reply) (b : State) → Scans a k reply b → tells_want reply ≡ false
+scan_tells a k (replies.Refused fault) b scans = told scans.1.0 refl
+scan_tells a k reply b scans = refl
+
+accepted_tells : (a : State) (step : NamedStep) (reply : Reply) (b : State) → HeapAccepts a step reply b
+    → tells_want reply ≡ false
+accepted_tells a (heap.New m d k) reply b gives = told gives.0 refl
+accepted_tells a (heap.Refer m strength d s q k) reply b gives = told gives.0 refl
+accepted_tells a (heap.Store m s i v) reply b gives = told gives.0 refl
+accepted_tells a (heap.Load m d s i) reply b gives =
+    load_tells a m d (field_in a.world.heap (slot_at a.world.heap m s) i) reply b gives
+accepted_tells a (heap.Copy m d s) reply b gives = told gives.0 (value_tells (slot_at a.world.heap m s))
+accepted_tells a (heap.Drop m s) reply b gives = told gives.0 refl
+accepted_tells a (heap.Get m d s) reply b gives =
+    get_tells a m d s (referent_got (reference_of a.world.heap (slot_at a.world.heap m s))) reply b gives
+accepted_tells a (heap.Clear m s) reply b gives = told gives.0 refl
+accepted_tells a (heap.RefersTo m s v) reply b gives = told gives.0 refl
+accepted_tells a (heap.Unhook m s) reply b gives =
+    let held = slot_at a.world.heap m s in
+    unhook_tells a m s held (registered_in (reference_of a.world.heap held)) reply b gives
+accepted_tells a (heap.Hold m s) reply b gives = hold_tells a (slot_at a.world.heap m s) reply b gives
+accepted_tells a (heap.Adopt m d hold) reply b gives = told gives.0 refl
+accepted_tells a (heap.Release hold) reply b gives = told gives.0 refl
+accepted_tells a (heap.Begin now how) reply b gives = told gives.0 refl
+accepted_tells a (heap.Scan k) reply b scans = scan_tells a k reply b scans
+accepted_tells a heap.EndMark reply b ends = told ends.answer refl
+accepted_tells a (heap.ClearNext k) reply b gives = clear_tells a k (list_at a.found k) reply b gives
+accepted_tells a heap.EndClear reply b gives = told gives.0 refl
+accepted_tells a (heap.Hand k) reply b gives = handed_tells a k (pending_of a.world k) reply b gives
+accepted_tells a (heap.Sweep k) reply b gives = sweep_tells a a.doomed reply b gives
+accepted_tells a heap.EndSweep reply b gives = told gives.0 refl
+
+-- ---- rows
+
+poll_tells : (a : State) (m q : ℕ) (stands : List Notice) (reply : Reply) (b : State) → Polls a m q stands reply b
+    → tells_want reply ≡ false
+poll_tells a m q [] reply b gives =
+    elim (cases_Bool (queue_at a.world q).closed) [
+      | inl shut ↦ told (simp shut at gives.0) refl
+      | inr open_yet ↦ told (simp open_yet at gives.0) refl
+    ]
+poll_tells a m q (notice ∷ rest) reply b gives = told gives.0 refl
+
+close_tells : (a : State) (q : ℕ) (closed : Bool) (reply : Reply) (b : State) → Closes a q closed reply b
+    → tells_want reply ≡ false
+close_tells a q true reply b gives = told gives.0 refl
+close_tells a q false reply b gives = told gives.0 refl
+
+asking_tells : (a : State) (asked : Option NamedStep) (step : Step) (reply : Reply) (b : State)
+    → heap_step a.world step ≡ asked → AcceptsAsking a asked step reply b → tells_want reply ≡ true
+    → (who : Actor) × (step ≡ steps.Put who)
+asking_tells a (Some asked) step reply b asks row wants_some =
+    absurd (false≢true (sym (accepted_tells a asked reply row.0 row.1) ∙ wants_some))
+asking_tells a None (steps.Put who) reply b asks row wants_some = (who, refl)
+asking_tells a None (steps.Poll m q) reply b asks row wants_some =
+    absurd (false≢true (sym (poll_tells a m q (queue_at a.world q).stands reply b row) ∙ wants_some))
+asking_tells a None (steps.Close m q) reply b asks row wants_some =
+    absurd (false≢true (sym (close_tells a q (queue_at a.world q).closed reply b row) ∙ wants_some))
+asking_tells a None step reply b asks row wants_some = absurd row
+
+answer_tells : (a : State) (refused : Option Fault) (step : Step) (b : State) → refusal a step ≡ refused
+    → IsAnswer a refused step (replies.Refused NoMemory) b → (who : Actor) × (step ≡ steps.Put who)
+answer_tells a (Some fault) step b is row =
+    absurd (false≢true (sym (step_wants a step) ∙ ap wants is ∙ sym (ap tells_want row.0)))
+answer_tells a None step b is row =
+    asking_tells a (heap_step a.world step) step (replies.Refused NoMemory) b refl row refl
+
+pub wanted_at_puts : (a : State) (step : Step) (b : State)
+    → IsRow a (record { step = step; reply = replies.Refused NoMemory }) b → (who : Actor) × (step ≡ steps.Put who)
+wanted_at_puts a step b row = answer_tells a (refusal a step) step b refl row
