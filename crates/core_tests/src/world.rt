@@ -1,0 +1,90 @@
+//! A world, step by step.
+
+mod asks;
+mod cycles;
+mod heap_steps;
+mod memory;
+mod notices;
+mod random;
+mod refusals;
+mod rows;
+
+use ref_base::{Config, Reply, Row, Step};
+use ref_world::{Trace, World, run};
+use std::alloc::{AllocError, Allocator, Global};
+use std::process::Abort;
+use std::test::Fail;
+
+/// One mutator, one worker, one queue, 8 cells, and a span of 10.
+const CONFIG: Config = Config {
+    mutators: 1,
+    workers: 1,
+    queues: 1,
+    cells: 8,
+    span: 10,
+};
+
+/// The same, with two workers.
+const TWO_WORKERS: Config = Config {
+    workers: 2,
+    ..CONFIG
+};
+
+/// Does a story's steps in turn, each of which has its reply.
+fn do_steps<A: Allocator + Copy>(rt: &impl Abort, world: &mut World<A>, story: &[(Step, Reply)]) {
+    for (row, &(step, want)) in story.iter().enumerate() {
+        assert_eq!(rt; world.step(step), want, "row {row}: {step}");
+    }
+}
+
+/// The same, in a new world of this size.
+fn agree(
+    rt: &impl Abort,
+    alloc: Global,
+    config: Config,
+    story: &[(Step, Reply)],
+) -> Result<(), Fail> {
+    let mut world = World::new(alloc, config)?;
+    do_steps(rt, &mut world, story);
+    world.end();
+    Ok(())
+}
+
+/// The steps of a story.
+fn steps_of<A: Allocator>(alloc: A, story: &[(Step, Reply)]) -> Result<Vec<Step, A>, AllocError> {
+    let mut steps = Vec::with_capacity(alloc, story.len())?;
+    for &(step, _reply) in story {
+        steps.push(step)?;
+    }
+    Ok(steps)
+}
+
+/// These rows are a story's, one for each of its steps.
+fn are_rows(rt: &impl Abort, rows: &[Row], story: &[(Step, Reply)]) {
+    assert_eq!(rt; rows.len(), story.len(), "so many rows");
+    for (place, &(step, reply)) in story.iter().enumerate() {
+        assert_eq!(rt; rows.get(place), Some(&Row { step, reply }), "row {place}");
+    }
+}
+
+/// Has a new world of this size run a story's steps as one list: the trace is the story.
+fn runs_as(
+    rt: &impl Abort,
+    alloc: Global,
+    config: Config,
+    story: &[(Step, Reply)],
+) -> Result<(), Fail> {
+    let steps = steps_of(alloc, story)?;
+    let world = World::new(alloc, config)?;
+    match run(alloc, world, steps) {
+        Ok(Trace { rows, world }) => {
+            world.end();
+            are_rows(rt, &rows, story);
+            Ok(())
+        }
+        Err((fault, world, _steps)) => {
+            world.end();
+            Err(fault)?
+        }
+    }
+}

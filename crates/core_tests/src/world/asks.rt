@@ -1,0 +1,106 @@
+//! What is asked of a world beside its steps: the reference in a slot, and what a queue has.
+
+use super::rows::{M, PUT, RELEASE, new, object, own, poll, took, unhook, weak};
+use super::{CONFIG, do_steps};
+use ref_base::{Config, Fault, MutNo, ObjNo, QueueNo, Reply, SlotNo};
+use ref_world::World;
+use std::alloc::{Allocator, Global};
+use std::process::Abort;
+use std::test::Fail;
+
+/// What a queue has, by the numbers of the references.
+#[derive(Clone, Copy)]
+pub struct Lists<'a> {
+    /// All that was ever put in.
+    pub enqueued: &'a [u32],
+    /// What of it was taken.
+    pub taken: &'a [u32],
+    /// What of it stands.
+    pub stands: &'a [u32],
+}
+
+/// Just these numbers, in this order.
+fn are(rt: &impl Abort, list: &[ObjNo], want: &[u32]) {
+    assert_eq!(rt; list.len(), want.len(), "so many");
+    for (place, &no) in want.iter().enumerate() {
+        assert_eq!(rt; list.get(place), Some(&ObjNo(no)), "place {place}");
+    }
+}
+
+/// The queues have these, in the order of their numbers, and there are no more. Lists take this memory.
+pub fn have_lists<A: Allocator + Copy>(
+    rt: &impl Abort,
+    alloc: Global,
+    world: &World<A>,
+    queues: &[Lists],
+) -> Result<(), Fail> {
+    let mut number = QueueNo(0);
+    for want in queues {
+        let queue = world.queue(number)?;
+        are(rt, &queue.enqueued(alloc)?, want.enqueued);
+        are(rt, &queue.taken(alloc)?, want.taken);
+        are(rt, &queue.stands(alloc)?, want.stands);
+        number = QueueNo(number.0.saturating_add(1));
+    }
+    assert_eq!(rt; world.queue(number).err(), Some(Fault::BadQueue));
+    Ok(())
+}
+
+#[test]
+fn a_slot_tells_its_reference(rt: HostRuntime) -> Result<(), Fail> {
+    let story = [(new(0, 0), object(1)), (weak(1, 0, 0), object(2))];
+    let mut world = World::new(rt.alloc(), CONFIG)?;
+    do_steps(&rt, &mut world, &story);
+    // The mutator, the slot, and what is there.
+    let table = [
+        (M, 1, Ok(ObjNo(2))),
+        (M, 0, Err(Fault::NotAReference)),
+        (M, 2, Err(Fault::EmptySlot)),
+        (M, 16, Err(Fault::NoSuchActor)),
+        (MutNo(1), 1, Err(Fault::NoSuchActor)),
+    ];
+    for (row, &(mutator, slot, want)) in table.iter().enumerate() {
+        assert_eq!(rt; world.ref_in(mutator, SlotNo(slot)), want, "row {row}");
+    }
+    world.end();
+    Ok(())
+}
+
+#[test]
+fn each_queue_has_its_own(rt: HostRuntime) -> Result<(), Fail> {
+    let two_queues = Config {
+        queues: 2,
+        ..CONFIG
+    };
+    let story = [
+        (new(0, 0), object(1)),
+        (weak(1, 0, 1), object(2)),
+        (weak(2, 0, 0), object(3)),
+        (weak(3, 0, 1), object(4)),
+        (unhook(3), own(4, 1)),
+        (PUT, Reply::Added(0)),
+        (unhook(2), own(3, 0)),
+        (PUT, Reply::Added(0)),
+        (unhook(1), own(2, 1)),
+        (PUT, Reply::Added(1)),
+        (poll(1), took(4)),
+        (RELEASE, Reply::Done),
+    ];
+    let mut world = World::new(rt.alloc(), two_queues)?;
+    do_steps(&rt, &mut world, &story);
+    let queues = [
+        Lists {
+            enqueued: &[3],
+            taken: &[],
+            stands: &[3],
+        },
+        Lists {
+            enqueued: &[4, 2],
+            taken: &[4],
+            stands: &[2],
+        },
+    ];
+    let checked = have_lists(&rt, rt.alloc(), &world, &queues);
+    world.end();
+    checked
+}

@@ -1,0 +1,262 @@
+//! The heap's own machine, step by step: the holds and notices that go with its replies.
+
+use super::CONFIG;
+use crate::hand::{keep, leak};
+use ref_base::Cause::{Cycle, Own};
+use ref_base::{
+    Cause, Fault, HeapStep, MutNo, ObjNo, Parcel, QueueNo, Reply, SlotNo, Strength, Urgency,
+    WorkerNo,
+};
+use ref_objects::{Hold, Start};
+use ref_world::{HeapReply, WorldHeap, apply_heap};
+use std::alloc::Allocator;
+use std::mem;
+use std::process::Abort;
+use std::test::Fail;
+
+const M: MutNo = MutNo(0);
+
+const W: WorkerNo = WorkerNo(0);
+
+/// A step of the heap. Slots are told by their numbers, and the hold is the hand's.
+#[derive(Clone, Copy)]
+enum Ask {
+    New(u32),
+    /// A weak reference in this slot to what this one holds, for queue 0.
+    Weak(u32, u32),
+    DropSlot(u32),
+    Hold(u32),
+    Adopt(u32),
+    Release,
+    Unhook(u32),
+    Hand,
+    Begin,
+    Scan,
+    EndMark,
+    ClearNext,
+    /// From here on the steps are the other heap's.
+    TurnToOther,
+}
+
+/// What a step is answered.
+#[derive(Clone, Copy, Debug, PartialEq, Eq)]
+enum Told {
+    /// This reply, and nothing was given out.
+    Only(Reply),
+    /// A notice of this reference, and why there is one. The hand has its hold.
+    Notice(u32, Cause),
+    /// A hold of this object, of the heap of this number. The hand has it.
+    Held(u32, u64),
+    /// A fault. The hold of this object, of the heap of this number, is in the hand again.
+    Back(Fault, u32, u64),
+    EmptyHand,
+    Turned,
+}
+
+/// The two heaps of a story, and its hand, which has one hold at most.
+struct Bench<A: Allocator> {
+    heap: WorldHeap<A>,
+    other: WorldHeap<A>,
+    hand: Option<Hold>,
+}
+
+/// What the heap answers. A hold that it gives goes into the hand.
+fn asked<A: Allocator + Copy>(bench: &mut Bench<A>, step: HeapStep<Hold>) -> Told {
+    match apply_heap(&mut bench.heap, step) {
+        HeapReply::Told(reply) => Told::Only(reply),
+        HeapReply::Notice(notice) => {
+            let told = Told::Notice(notice.obj().0, notice.cause());
+            keep(&mut bench.hand, notice.into_hold());
+            told
+        }
+        HeapReply::Held(hold) => {
+            let told = Told::Held(hold.obj().0, hold.heap_no());
+            keep(&mut bench.hand, hold);
+            told
+        }
+        HeapReply::Back(fault, hold) => {
+            let told = Told::Back(fault, hold.obj().0, hold.heap_no());
+            keep(&mut bench.hand, hold);
+            told
+        }
+    }
+}
+
+fn adopted<A: Allocator + Copy>(bench: &mut Bench<A>, slot: SlotNo) -> Told {
+    match bench.hand.take() {
+        Some(hold) => asked(
+            bench,
+            HeapStep::Adopt {
+                mutator: M,
+                slot,
+                hold,
+            },
+        ),
+        None => Told::EmptyHand,
+    }
+}
+
+fn released<A: Allocator + Copy>(bench: &mut Bench<A>) -> Told {
+    match bench.hand.take() {
+        Some(hold) => asked(bench, HeapStep::Release { hold }),
+        None => Told::EmptyHand,
+    }
+}
+
+fn new(slot: u32) -> HeapStep<Hold> {
+    HeapStep::New {
+        mutator: M,
+        slot: SlotNo(slot),
+        fields: 0,
+    }
+}
+
+fn weak(slot: u32, source: u32) -> HeapStep<Hold> {
+    HeapStep::Refer {
+        mutator: M,
+        strength: Strength::Weak,
+        slot: SlotNo(slot),
+        source: SlotNo(source),
+        queue: Some(QueueNo(0)),
+        fields: 0,
+    }
+}
+
+fn begin() -> HeapStep<Hold> {
+    HeapStep::Begin {
+        now: 5,
+        urgency: Urgency::Normal,
+    }
+}
+
+fn answer<A: Allocator + Copy>(bench: &mut Bench<A>, ask: Ask) -> Told {
+    let (mutator, worker) = (M, W);
+    match ask {
+        Ask::New(slot) => asked(bench, new(slot)),
+        Ask::Weak(slot, source) => asked(bench, weak(slot, source)),
+        Ask::DropSlot(slot) => {
+            let slot = SlotNo(slot);
+            asked(bench, HeapStep::Drop { mutator, slot })
+        }
+        Ask::Hold(slot) => {
+            let slot = SlotNo(slot);
+            asked(bench, HeapStep::Hold { mutator, slot })
+        }
+        Ask::Adopt(slot) => adopted(bench, SlotNo(slot)),
+        Ask::Release => released(bench),
+        Ask::Unhook(slot) => {
+            let reference = SlotNo(slot);
+            asked(bench, HeapStep::Unhook { mutator, reference })
+        }
+        Ask::Hand => asked(bench, HeapStep::Hand { worker }),
+        Ask::Begin => asked(bench, begin()),
+        Ask::Scan => asked(bench, HeapStep::Scan { worker }),
+        Ask::EndMark => asked(bench, HeapStep::EndMark),
+        Ask::ClearNext => asked(bench, HeapStep::ClearNext { worker }),
+        Ask::TurnToOther => {
+            mem::swap(&mut bench.heap, &mut bench.other);
+            Told::Turned
+        }
+    }
+}
+
+/// Does a story's steps in turn, each of which has its answer. They go to the first heap, where they don't turn. Both
+/// heaps end with the story.
+fn agree<A: Allocator + Copy>(
+    rt: &impl Abort,
+    heap: WorldHeap<A>,
+    other: WorldHeap<A>,
+    story: &[(Ask, Told)],
+) {
+    let hand = None;
+    let mut bench = Bench { heap, other, hand };
+    for (row, &(ask, want)) in story.iter().enumerate() {
+        assert_eq!(rt; answer(&mut bench, ask), want, "row {row}");
+    }
+    let Bench { heap, other, hand } = bench;
+    heap.end();
+    other.end();
+    leak(hand);
+}
+
+/// This reply alone.
+const fn only(reply: Reply) -> Told {
+    Told::Only(reply)
+}
+
+/// This object was made, or is in a slot now.
+const fn object(no: u32) -> Told {
+    Told::Only(Reply::Object(ObjNo(no)))
+}
+
+const fn refused(fault: Fault) -> Told {
+    Told::Only(Reply::Refused(fault))
+}
+
+#[test]
+fn holds_and_notices_are_given_and_taken_back(rt: HostRuntime) -> Result<(), Fail> {
+    let story = [
+        (Ask::New(0), object(1)),
+        (Ask::Hold(0), Told::Held(1, 1)),
+        (Ask::Adopt(16), Told::Back(Fault::NoSuchActor, 1, 1)),
+        (Ask::Adopt(2), object(1)),
+        (Ask::Adopt(2), Told::EmptyHand),
+        (Ask::Hold(3), refused(Fault::EmptySlot)),
+        (Ask::Hold(2), Told::Held(1, 1)),
+        (Ask::Release, only(Reply::Done)),
+        (Ask::DropSlot(2), only(Reply::Done)),
+        (Ask::Weak(1, 0), object(2)),
+        (Ask::Unhook(0), refused(Fault::NotAReference)),
+        (Ask::Unhook(1), Told::Notice(2, Own)),
+        (Ask::Release, only(Reply::Done)),
+        (Ask::Weak(1, 0), object(3)),
+        (Ask::DropSlot(0), only(Reply::Done)),
+        (Ask::Begin, only(Reply::Cycle(1))),
+        (Ask::Scan, only(Reply::Scanned(ObjNo(3)))),
+        // Object 1 and reference 2.
+        (Ask::EndMark, only(Reply::Doomed(2))),
+        (Ask::Hand, only(Reply::Nothing)),
+        (Ask::ClearNext, only(Reply::Cleared(ObjNo(3)))),
+        (Ask::Hand, Told::Notice(3, Cycle(1, W))),
+        (Ask::Adopt(0), object(3)),
+    ];
+    let heap = WorldHeap::new(rt.alloc(), CONFIG, 1)?;
+    let other = WorldHeap::new(rt.alloc(), CONFIG, 2)?;
+    agree(&rt, heap, other, &story);
+    Ok(())
+}
+
+#[test]
+fn a_hold_of_another_heap_comes_back(rt: HostRuntime) -> Result<(), Fail> {
+    let story = [
+        (Ask::New(0), object(1)),
+        (Ask::Hold(0), Told::Held(1, 1)),
+        (Ask::TurnToOther, Told::Turned),
+        (Ask::New(0), object(1)),
+        (Ask::Adopt(2), Told::Back(Fault::ForeignHold, 1, 1)),
+        (Ask::Release, Told::Back(Fault::ForeignHold, 1, 1)),
+        (Ask::TurnToOther, Told::Turned),
+        (Ask::Adopt(2), object(1)),
+    ];
+    let heap = WorldHeap::new(rt.alloc(), CONFIG, 1)?;
+    let other = WorldHeap::new(rt.alloc(), CONFIG, 2)?;
+    agree(&rt, heap, other, &story);
+    Ok(())
+}
+
+#[test]
+fn the_last_number_is_the_last_cycle(rt: HostRuntime) -> Result<(), Fail> {
+    let start = Start {
+        obj: 1,
+        cycle: u64::MAX,
+        page: 1,
+    };
+    let story = [
+        (Ask::Begin, refused(Fault::NumbersSpent)),
+        (Ask::New(0), object(1)),
+    ];
+    let heap = WorldHeap::starting(rt.alloc(), CONFIG, 1, start)?;
+    let other = WorldHeap::new(rt.alloc(), CONFIG, 2)?;
+    agree(&rt, heap, other, &story);
+    Ok(())
+}

@@ -1,0 +1,227 @@
+//! Steps that are drawn at random, by a generator whose seed is given.
+
+use ref_base::{Actor, Config, MutNo, QueueNo, SlotNo, Step, Strength, Urgency, WorkerNo};
+
+/// Draws for a world of this size. A few numbers that it draws are outside the size.
+#[derive(Drop)]
+pub struct Draws {
+    size: Config,
+    state: u64,
+    clock: u64,
+}
+
+impl Draws {
+    /// The draws of this seed.
+    pub fn new(size: Config, seed: u64) -> Self {
+        Draws {
+            size,
+            state: seed,
+            clock: 0,
+        }
+    }
+
+    /// A number below this one, or 0 where that is 0: of a linear congruential generator (that of Knuth's MMIX), whose
+    /// high bits are the good ones.
+    fn below(&mut self, limit: u32) -> u32 {
+        self.state = self
+            .state
+            .wrapping_mul(6_364_136_223_846_793_005)
+            .wrapping_add(1_442_695_040_888_963_407);
+        let high = (self.state >> 33) as u32;
+        high.checked_rem(limit).unwrap_or(0)
+    }
+
+    /// A number below this one, or now and then this one, which isn't there.
+    fn number(&mut self, count: u32) -> u32 {
+        if self.below(30) == 0 {
+            count
+        } else {
+            self.below(count)
+        }
+    }
+
+    fn mutator(&mut self) -> MutNo {
+        MutNo(self.number(self.size.mutators))
+    }
+
+    fn worker(&mut self) -> WorkerNo {
+        WorkerNo(self.number(self.size.workers))
+    }
+
+    fn queue(&mut self) -> QueueNo {
+        QueueNo(self.number(self.size.queues))
+    }
+
+    /// One of few slots, so that they are often written over.
+    fn slot(&mut self) -> SlotNo {
+        if self.below(100) == 0 {
+            SlotNo(16)
+        } else {
+            SlotNo(self.below(4))
+        }
+    }
+
+    /// Now and then too many.
+    fn fields(&mut self) -> u32 {
+        if self.below(50) == 0 {
+            9
+        } else {
+            self.below(3)
+        }
+    }
+
+    fn strength(&mut self) -> Strength {
+        match self.below(4) {
+            0 => Strength::Soft,
+            1 => Strength::Phantom,
+            _ => Strength::Weak,
+        }
+    }
+
+    fn queue_or_none(&mut self) -> Option<QueueNo> {
+        if self.below(8) == 0 {
+            None
+        } else {
+            Some(self.queue())
+        }
+    }
+
+    fn actor(&mut self) -> Actor {
+        if self.below(2) == 0 {
+            Actor::Mutator(self.mutator())
+        } else {
+            Actor::Worker(self.worker())
+        }
+    }
+
+    /// A step of a mutator that makes or changes something.
+    fn change(&mut self) -> Step {
+        let mutator = self.mutator();
+        let slot = self.slot();
+        match self.below(16) {
+            0..=4 => Step::Refer {
+                mutator,
+                strength: self.strength(),
+                slot,
+                source: self.slot(),
+                queue: self.queue_or_none(),
+                fields: self.fields(),
+            },
+            5..=6 => Step::Store {
+                mutator,
+                object: slot,
+                field: self.below(3),
+                value: self.slot(),
+            },
+            7 => Step::Copy {
+                mutator,
+                slot,
+                source: self.slot(),
+            },
+            8 => Step::Clear {
+                mutator,
+                reference: slot,
+            },
+            9..=10 => Step::Drop { mutator, slot },
+            _ => Step::New {
+                mutator,
+                slot,
+                fields: self.fields(),
+            },
+        }
+    }
+
+    /// A step of a mutator that reads a field or a reference, or takes it out of use.
+    fn look(&mut self) -> Step {
+        let mutator = self.mutator();
+        let reference = self.slot();
+        match self.below(5) {
+            0 => Step::Load {
+                mutator,
+                slot: self.slot(),
+                object: reference,
+                field: self.below(3),
+            },
+            1 => Step::Get {
+                mutator,
+                slot: self.slot(),
+                reference,
+            },
+            2 => Step::RefersTo {
+                mutator,
+                reference,
+                other: self.slot(),
+            },
+            _ => Step::Unhook { mutator, reference },
+        }
+    }
+
+    /// A step of hands and queues. A queue is seldom closed, since it stays so.
+    fn notice(&mut self) -> Step {
+        let mutator = self.mutator();
+        match self.below(500) {
+            0..=4 => Step::Close {
+                mutator,
+                queue: self.queue(),
+            },
+            5..=200 => Step::Put {
+                actor: self.actor(),
+            },
+            201..=320 => Step::Poll {
+                mutator,
+                queue: self.queue(),
+            },
+            321..=400 => Step::Adopt {
+                mutator,
+                slot: self.slot(),
+            },
+            _ => Step::Release {
+                actor: self.actor(),
+            },
+        }
+    }
+
+    /// A step of the collector that isn't a worker's. The clock of a begin goes on, and now and then back.
+    fn turn(&mut self) -> Step {
+        match self.below(4) {
+            0 => {
+                self.clock = self.clock.saturating_add(self.below(2) as u64);
+                let back = if self.below(3) == 0 { 4 } else { 0 };
+                let urgency = if self.below(8) == 0 {
+                    Urgency::Urgent
+                } else {
+                    Urgency::Normal
+                };
+                Step::Begin {
+                    now: self.clock.saturating_sub(back),
+                    urgency,
+                }
+            }
+            1 => Step::EndMark,
+            2 => Step::EndClear,
+            _ => Step::EndSweep,
+        }
+    }
+
+    /// A step of a worker.
+    fn work(&mut self) -> Step {
+        let worker = self.worker();
+        match self.below(8) {
+            0..=3 => Step::Scan { worker },
+            4..=5 => Step::ClearNext { worker },
+            6 => Step::Hand { worker },
+            _ => Step::Sweep { worker },
+        }
+    }
+
+    /// The next step.
+    pub fn step(&mut self) -> Step {
+        match self.below(16) {
+            0..=3 => self.change(),
+            4..=5 => self.look(),
+            6..=8 => self.notice(),
+            9..=11 => self.turn(),
+            _ => self.work(),
+        }
+    }
+}

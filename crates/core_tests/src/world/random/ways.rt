@@ -1,0 +1,205 @@
+//! The ways in which each kind of step is answered.
+
+use Way::{
+    Added, Already, BadField, BadQueue, Cleared, ClearingLeft, ClockBack, Closed, Cycle, Done,
+    Empty, EmptySlot, GreyLeft, HandEmpty, HandFull, Kept, NoCell, NoSuchActor, NoneDoomed,
+    NotAReference, Nothing, NoticeOfCycle, Null, Object, Otherwise, OwnNotice, RefersElsewhere,
+    RefersToIt, Scanned, Skipped, SomeDoomed, SweepLeft, Swept, Took, WrongPhase,
+};
+use ref_base::{Cause, Fault, Reply, Step};
+
+/// The ways in which steps are answered: each reply, and each refusal that these worlds can meet.
+///
+/// Some can't be met here: no numbers are spent by so few steps, there is memory for each put, a world has no hold of
+/// another heap, and a put is always into the notice's own queue.
+#[derive(Clone, Copy)]
+pub enum Way {
+    Object,
+    Null,
+    Done,
+    RefersToIt,
+    RefersElsewhere,
+    OwnNotice,
+    NoticeOfCycle,
+    Nothing,
+    Added,
+    Already,
+    Closed,
+    Took,
+    Empty,
+    Cycle,
+    Scanned,
+    NoneDoomed,
+    SomeDoomed,
+    Cleared,
+    Kept,
+    Skipped,
+    Swept,
+    NoCell,
+    EmptySlot,
+    BadField,
+    NotAReference,
+    NoSuchActor,
+    BadQueue,
+    WrongPhase,
+    ClockBack,
+    GreyLeft,
+    ClearingLeft,
+    SweepLeft,
+    HandFull,
+    HandEmpty,
+    /// By none of these.
+    Otherwise,
+}
+
+/// How many ways there are.
+pub const WAYS: usize = 35;
+
+/// Each kind of step, by name, and the ways in which it is answered.
+pub static ANSWERS: [(&'static str, &'static [Way]); 23] = [
+    ("new", &[Object, NoSuchActor, BadField, NoCell]),
+    (
+        "refer",
+        &[Object, NoSuchActor, EmptySlot, BadQueue, BadField, NoCell],
+    ),
+    ("store", &[Done, NoSuchActor, EmptySlot, BadField]),
+    ("load", &[Object, Null, NoSuchActor, EmptySlot, BadField]),
+    ("copy", &[Object, Null, NoSuchActor]),
+    ("drop", &[Done, NoSuchActor]),
+    (
+        "get",
+        &[Object, Null, NoSuchActor, EmptySlot, NotAReference],
+    ),
+    ("clear", &[Done, NoSuchActor, EmptySlot, NotAReference]),
+    (
+        "refers",
+        &[
+            RefersToIt,
+            RefersElsewhere,
+            NoSuchActor,
+            EmptySlot,
+            NotAReference,
+        ],
+    ),
+    (
+        "unhook",
+        &[
+            OwnNotice,
+            Nothing,
+            NoSuchActor,
+            HandFull,
+            EmptySlot,
+            NotAReference,
+        ],
+    ),
+    ("put", &[Added, Already, Closed, NoSuchActor, HandEmpty]),
+    (
+        "poll",
+        &[Took, Empty, Closed, NoSuchActor, BadQueue, HandFull],
+    ),
+    ("adopt", &[Object, NoSuchActor, HandEmpty]),
+    ("release", &[Done, NoSuchActor, HandEmpty]),
+    ("close", &[Done, Closed, NoSuchActor, BadQueue]),
+    ("begin", &[Cycle, WrongPhase, ClockBack]),
+    ("scan", &[Scanned, Nothing, NoSuchActor, WrongPhase]),
+    ("endmark", &[NoneDoomed, SomeDoomed, WrongPhase, GreyLeft]),
+    (
+        "clearnext",
+        &[Cleared, Kept, Skipped, Nothing, NoSuchActor, WrongPhase],
+    ),
+    ("endclear", &[Done, WrongPhase, ClearingLeft]),
+    ("hand", &[NoticeOfCycle, Nothing, NoSuchActor, HandFull]),
+    ("sweep", &[Swept, Nothing, NoSuchActor, WrongPhase]),
+    ("endsweep", &[Done, WrongPhase, SweepLeft]),
+];
+
+/// The place of the step's kind in `ANSWERS`.
+pub fn place_of(step: Step) -> usize {
+    match step {
+        Step::New { .. } => 0,
+        Step::Refer { .. } => 1,
+        Step::Store { .. } => 2,
+        Step::Load { .. } => 3,
+        Step::Copy { .. } => 4,
+        Step::Drop { .. } => 5,
+        Step::Get { .. } => 6,
+        Step::Clear { .. } => 7,
+        Step::RefersTo { .. } => 8,
+        Step::Unhook { .. } => 9,
+        Step::Put { .. } => 10,
+        Step::Poll { .. } => 11,
+        Step::Adopt { .. } => 12,
+        Step::Release { .. } => 13,
+        Step::Close { .. } => 14,
+        Step::Begin { .. } => 15,
+        Step::Scan { .. } => 16,
+        Step::EndMark => 17,
+        Step::ClearNext { .. } => 18,
+        Step::EndClear => 19,
+        Step::Hand { .. } => 20,
+        Step::Sweep { .. } => 21,
+        Step::EndSweep => 22,
+    }
+}
+
+fn way_refused(fault: Fault) -> Way {
+    match fault {
+        Fault::NoCell => NoCell,
+        Fault::EmptySlot => EmptySlot,
+        Fault::BadField => BadField,
+        Fault::NotAReference => NotAReference,
+        Fault::NoSuchActor => NoSuchActor,
+        Fault::BadQueue => BadQueue,
+        Fault::WrongPhase => WrongPhase,
+        Fault::ClockBack => ClockBack,
+        Fault::GreyLeft => GreyLeft,
+        Fault::ClearingLeft => ClearingLeft,
+        Fault::SweepLeft => SweepLeft,
+        Fault::HandFull => HandFull,
+        Fault::HandEmpty => HandEmpty,
+        _ => Otherwise,
+    }
+}
+
+pub fn way_of(reply: Reply) -> Way {
+    match reply {
+        Reply::Object(_) => Object,
+        Reply::Null => Null,
+        Reply::Done => Done,
+        Reply::Refers(true) => RefersToIt,
+        Reply::Refers(false) => RefersElsewhere,
+        Reply::Notice {
+            cause: Cause::Own,
+            ..
+        } => OwnNotice,
+        Reply::Notice { .. } => NoticeOfCycle,
+        Reply::Nothing => Nothing,
+        Reply::Added(_) => Added,
+        Reply::Already => Already,
+        Reply::Closed => Closed,
+        Reply::Took(_) => Took,
+        Reply::Empty => Empty,
+        Reply::Cycle(_) => Cycle,
+        Reply::Scanned(_) => Scanned,
+        Reply::Doomed(0) => NoneDoomed,
+        Reply::Doomed(_) => SomeDoomed,
+        Reply::Cleared(_) => Cleared,
+        Reply::Kept(_) => Kept,
+        Reply::Skipped(_) => Skipped,
+        Reply::Swept(_) => Swept,
+        Reply::Refused(fault) => way_refused(fault),
+    }
+}
+
+/// Whether the step has this way.
+pub fn has_way(step: Step, way: Way) -> bool {
+    let Some((_name, ways)) = ANSWERS.get(place_of(step)) else {
+        return false;
+    };
+    for listed in *ways {
+        if *listed as usize == way as usize {
+            return true;
+        }
+    }
+    false
+}

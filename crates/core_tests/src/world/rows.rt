@@ -1,0 +1,227 @@
+//! Steps and replies, spelled shortly. Where a step names no mutator, it is mutator 0, and where it names no number of
+//! fields, there are none.
+
+use ref_base::{
+    Actor, Cause, Fault, MutNo, ObjNo, QueueNo, Reply, SlotNo, Step, Strength, Urgency, WorkerNo,
+};
+
+/// The mutator of these steps.
+pub const M: MutNo = MutNo(0);
+
+/// Mutator 0 puts its notice into its queue.
+pub const PUT: Step = Step::Put {
+    actor: Actor::Mutator(M),
+};
+
+/// Mutator 0 gives its notice up.
+pub const RELEASE: Step = Step::Release {
+    actor: Actor::Mutator(M),
+};
+
+pub const fn new(slot: u32, fields: u32) -> Step {
+    Step::New {
+        mutator: M,
+        slot: SlotNo(slot),
+        fields,
+    }
+}
+
+const fn refer(strength: Strength, slot: u32, source: u32, queue: Option<QueueNo>) -> Step {
+    Step::Refer {
+        mutator: M,
+        strength,
+        slot: SlotNo(slot),
+        source: SlotNo(source),
+        queue,
+        fields: 0,
+    }
+}
+
+/// A weak reference in this slot to what this one holds, for this queue.
+pub const fn weak(slot: u32, source: u32, queue: u32) -> Step {
+    refer(Strength::Weak, slot, source, Some(QueueNo(queue)))
+}
+
+/// The same, for no queue.
+pub const fn unregistered(slot: u32, source: u32) -> Step {
+    refer(Strength::Weak, slot, source, None)
+}
+
+/// A soft reference in this slot to what this one holds, for this queue.
+pub const fn soft(slot: u32, source: u32, queue: u32) -> Step {
+    refer(Strength::Soft, slot, source, Some(QueueNo(queue)))
+}
+
+pub const fn store(object: u32, field: u32, value: u32) -> Step {
+    Step::Store {
+        mutator: M,
+        object: SlotNo(object),
+        field,
+        value: SlotNo(value),
+    }
+}
+
+pub const fn load(slot: u32, object: u32, field: u32) -> Step {
+    Step::Load {
+        mutator: M,
+        slot: SlotNo(slot),
+        object: SlotNo(object),
+        field,
+    }
+}
+
+pub const fn copy(slot: u32, source: u32) -> Step {
+    Step::Copy {
+        mutator: M,
+        slot: SlotNo(slot),
+        source: SlotNo(source),
+    }
+}
+
+pub const fn drop_slot(slot: u32) -> Step {
+    Step::Drop {
+        mutator: M,
+        slot: SlotNo(slot),
+    }
+}
+
+pub const fn get(slot: u32, reference: u32) -> Step {
+    Step::Get {
+        mutator: M,
+        slot: SlotNo(slot),
+        reference: SlotNo(reference),
+    }
+}
+
+pub const fn clear(reference: u32) -> Step {
+    Step::Clear {
+        mutator: M,
+        reference: SlotNo(reference),
+    }
+}
+
+pub const fn refers_to(reference: u32, other: u32) -> Step {
+    Step::RefersTo {
+        mutator: M,
+        reference: SlotNo(reference),
+        other: SlotNo(other),
+    }
+}
+
+pub const fn unhook(reference: u32) -> Step {
+    Step::Unhook {
+        mutator: M,
+        reference: SlotNo(reference),
+    }
+}
+
+pub const fn poll(queue: u32) -> Step {
+    Step::Poll {
+        mutator: M,
+        queue: QueueNo(queue),
+    }
+}
+
+pub const fn adopt(slot: u32) -> Step {
+    Step::Adopt {
+        mutator: M,
+        slot: SlotNo(slot),
+    }
+}
+
+pub const fn close(queue: u32) -> Step {
+    Step::Close {
+        mutator: M,
+        queue: QueueNo(queue),
+    }
+}
+
+/// A normal cycle, at this clock.
+pub const fn begin(now: u64) -> Step {
+    Step::Begin {
+        now,
+        urgency: Urgency::Normal,
+    }
+}
+
+pub const fn scan(worker: u32) -> Step {
+    Step::Scan {
+        worker: WorkerNo(worker),
+    }
+}
+
+pub const fn clear_next(worker: u32) -> Step {
+    Step::ClearNext {
+        worker: WorkerNo(worker),
+    }
+}
+
+pub const fn hand(worker: u32) -> Step {
+    Step::Hand {
+        worker: WorkerNo(worker),
+    }
+}
+
+pub const fn sweep(worker: u32) -> Step {
+    Step::Sweep {
+        worker: WorkerNo(worker),
+    }
+}
+
+pub const fn worker_puts(worker: u32) -> Step {
+    Step::Put {
+        actor: Actor::Worker(WorkerNo(worker)),
+    }
+}
+
+pub const fn worker_releases(worker: u32) -> Step {
+    Step::Release {
+        actor: Actor::Worker(WorkerNo(worker)),
+    }
+}
+
+pub const fn object(no: u32) -> Reply {
+    Reply::Object(ObjNo(no))
+}
+
+pub const fn took(no: u32) -> Reply {
+    Reply::Took(ObjNo(no))
+}
+
+pub const fn scanned(no: u32) -> Reply {
+    Reply::Scanned(ObjNo(no))
+}
+
+pub const fn cleared(no: u32) -> Reply {
+    Reply::Cleared(ObjNo(no))
+}
+
+pub const fn kept(no: u32) -> Reply {
+    Reply::Kept(ObjNo(no))
+}
+
+pub const fn skipped(no: u32) -> Reply {
+    Reply::Skipped(ObjNo(no))
+}
+
+/// The program's own notice of this reference, for this queue.
+pub const fn own(reference: u32, queue: u32) -> Reply {
+    Reply::Notice {
+        object: ObjNo(reference),
+        queue: QueueNo(queue),
+        cause: Cause::Own,
+    }
+}
+
+/// The notice of this reference, for queue 0, that this worker cleared in this cycle.
+pub const fn of_cycle(reference: u32, cycle: u64, worker: u32) -> Reply {
+    Reply::Notice {
+        object: ObjNo(reference),
+        queue: QueueNo(0),
+        cause: Cause::Cycle(cycle, WorkerNo(worker)),
+    }
+}
+
+pub const fn refused(fault: Fault) -> Reply {
+    Reply::Refused(fault)
+}
