@@ -18,6 +18,9 @@ use ref_base::Row;
 use ref_world::{Trace, World, run};
 use std::alloc::{AllocError, Allocator};
 
+/// As many bytes as few rows are longer than.
+const ROW_TEXT: usize = 40;
+
 /// Reads a script, runs it, and writes its trace.
 ///
 /// The whole text is read before the first step runs, and the whole trace is made before anything of it is written. The
@@ -92,7 +95,9 @@ fn rows_of<A: Allocator + Copy>(alloc: A, script: Script<A>) -> Result<Vec<Row, 
 fn trace_text<A: Allocator>(alloc: A, rows: &[Row]) -> Result<String<A>, AllocError>
     ensures { IfOk result (λ text. string_bytes text ≡ trace_text rows.now) }
 {
-    let mut text = String::from_str(alloc, "reftrace 1\n")?;
+    // Room for most traces at once: while it grows, a text is copied, and takes its room more than once.
+    let mut text = String::with_capacity(alloc, rows.len().saturating_mul(ROW_TEXT))?;
+    text.push_str("reftrace 1\n")?;
     let mut number = 0u64;
     for row in rows {
         number += 1;
