@@ -40,8 +40,8 @@ fn is_held(cells: &[Cell], entry: Entry) -> bool
     }
 }
 
-// Where the entry of this number stands if each number from it on has one. So it is where no gap behind it was closed: of
-// every object that was made since `close_gaps`.
+// Where the entry of this number stands if each number from it on has one. So it is of every
+// object that was made since gaps were closed last, and where no gap behind it was closed.
 fn likely_place(index: &[Entry], no: ObjNo) -> usize {
     match index.last() {
         Some(last) => {

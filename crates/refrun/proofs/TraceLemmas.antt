@@ -1,16 +1,20 @@
 -- The text of a trace so far, and the trace that a script's text prints.
 use Rattle.std.proofs.Common.{◌≡◌, ℕ, ◌+◌, ◌<◌, ◌≤◌, List, [], ◌∷◌, ◌++◌, length, take, get_or}
-use Rattle.std.proofs.Common.{codes, decimal, sym, ap, ◌∙◌, append_assoc, arith}
-use Rattle.std.proofs.lemmas.List.{take_more, length-take-le}
+use Rattle.std.proofs.Common.{codes, decimal, refl, sym, ap, ◌∙◌, append_assoc, arith}
+use Rattle.std.proofs.lemmas.List.{length-map, length-take-le}
 use Rattle.std.proofs.lemmas.Bool.{le-leb}
-use Rattle.ref_base.specs.LegalTraces.{IsLegal}
+use Rattle.ref_base.specs.Collectors.{first_state}
 use Rattle.ref_base.specs.Rows.{row_text}
 use Rattle.ref_base.specs.declared.config.Config.{Config}
+use Rattle.ref_base.specs.declared.reply.Reply.{Reply}
 use Rattle.ref_base.specs.declared.row.Row.{Row}
 use Rattle.ref_base.specs.declared.step.Step.{Step}
+use Rattle.ref_world.specs.Cores.{Core}
+use Rattle.ref_world.specs.Standing.{IsRowOf, Stands}
+use Rattle.ref_world.proofs.RunLemmas.{step_taken, runs_more}
 use Rattle.refrun.specs.Scripts.{IsScript, AreScript}
 use Rattle.refrun.specs.Lines.{lines_of, most_bytes}
-use Rattle.refrun.specs.Traces.{numbered, trace_text, steps_of, PrintsTrace}
+use Rattle.refrun.specs.Traces.{numbered, trace_text, PrintsTrace, TellsRun, TellsTrace}
 
 -- one line of a trace
 line_of_row : ℕ → Row → List ℕ
@@ -27,26 +31,42 @@ numbered_push k (r ∷ rows) row =
     ∙ sym (append_assoc begun (10 ∷ numbered (k + 1) rows) (line_of_row (k + 1 + length rows) row))
     ∙ ap (λ n. (begun ++ 10 ∷ numbered (k + 1) rows) ++ line_of_row n row) next
 
--- one row more, which is number k + 1
-pub traced_more : (rows : List Row) (i k : ℕ) (row : Row) (text more : List ℕ)
-    → (text ≡ trace_text (take i rows)) × (k ≡ i) → i < length rows → row ≡ get_or rows i row
-    → more ≡ text ++ (decimal (k + 1) ++ 32 ∷ (row_text row ++ 10 ∷ []))
-    → (more ≡ trace_text (take (i + 1) rows)) × (k + 1 ≡ i + 1)
+-- a run with no step
+pub tells_nothing_yet : (world : Core) → TellsRun world [] (trace_text []) world
+tells_nothing_yet world = ([], refl, (λ a stands. (a, refl, stands)), refl)
+
+-- and with one step more, whose row is number i + 1
+pub tells_more : (old mid new : Core) (steps : List Step) (i k : ℕ) (next : Step) (reply : Reply) (text more : List ℕ)
+    → TellsRun old (take i steps) text mid → k ≡ i → i < length steps → next ≡ get_or steps i next
+    → IsRowOf mid next reply new
+    → more ≡ text ++ (decimal (k + 1) ++ 32 ∷ (row_text (record { step = next; reply = reply }) ++ 10 ∷ []))
+    → TellsRun old (take (i + 1) steps) more new
 unfolding line_of_row
-traced_more rows i k row text more h within row_is more_is =
-    let longer : take (i + 1) rows ≡ take i rows ++ row ∷ [] =
-    take_more rows i row within ∙ ap (λ (r : Row). take i rows ++ r ∷ []) (sym row_is) in
-    let count : k + 1 ≡ 1 + length (take i rows) = omega (arith, h.1, length-take-le i rows (omega (arith, within))) in
-    let line : decimal (k + 1) ++ 32 ∷ (row_text row ++ 10 ∷ []) ≡ line_of_row (k + 1) row =
-    sym (append_assoc (decimal (k + 1)) (32 ∷ row_text row) (10 ∷ [])) in (
-      more_is ∙ ap (λ (t : List ℕ). text ++ t) line ∙ ap (λ (t : List ℕ). t ++ line_of_row (k + 1) row) h.0
+tells_more old mid new steps i k next reply text more told same_k within is row more_is =
+    let row_made : Row = record { step = next; reply = reply } in
+    let rows = told.0 in
+    let counted : length rows ≡ i =
+    sym (length-map rows (λ (r : Row). r.step)) ∙ ap length told.1
+    ∙ length-take-le i steps (omega (arith, within)) in
+    let count : k + 1 ≡ 1 + length rows = omega (arith, same_k, counted) in
+    let line : decimal (k + 1) ++ 32 ∷ (row_text row_made ++ 10 ∷ []) ≡ line_of_row (k + 1) row_made =
+    sym (append_assoc (decimal (k + 1)) (32 ∷ row_text row_made) (10 ∷ [])) in (
+      rows ++ row_made ∷ [],
+      step_taken steps steps i next rows reply refl within is told.1,
+      runs_more old mid new rows next reply told.2 row,
+      more_is ∙ ap (λ (t : List ℕ). text ++ t) line ∙ ap (λ (t : List ℕ). t ++ line_of_row (k + 1) row_made) told.3
           ∙ ap (λ (t : List ℕ). codes "reftrace 1" ++ 10 ∷ t)
-          (ap (λ n. numbered 1 (take i rows) ++ line_of_row n row) count ∙ sym (numbered_push 1 (take i rows) row))
-          ∙ ap trace_text (sym longer),
-      omega (arith, h.1),
+          (ap (λ n. numbered 1 rows ++ line_of_row n row_made) count ∙ sym (numbered_push 1 rows row_made)),
     )
 
 -- ---- the answer
+
+-- a run from a world that stands for the first state is a legal trace
+pub tells_trace : (config : Config) (old new : Core) (steps seen : List Step) (text : List ℕ)
+    → Stands old (first_state config) → seen ≡ steps → TellsRun old seen text new → TellsTrace config steps text
+tells_trace config old new steps seen text stands same told =
+    let ran = told.2 (first_state config) stands in
+    (told.0, told.1 ∙ same, (ran.0, ran.1), told.3)
 
 -- a short enough text whose lines are a script spells it
 pub is_script : (text : List ℕ) (config : Config) (steps : List Step) → length text ≤ most_bytes
@@ -54,13 +74,12 @@ pub is_script : (text : List ℕ) (config : Config) (steps : List Step) → leng
 is_script text config steps short lines = record { short = le-leb _ _ short; lines = lines }
 
 -- the text of a legal trace of a script's steps is what a text that spells the script prints
-pub prints_trace : (text printed : List ℕ) (config : Config) (steps : List Step) (rows : List Row)
-    → IsScript text config steps → steps_of rows ≡ steps → IsLegal config rows → printed ≡ trace_text rows
-    → PrintsTrace text printed
-prints_trace text printed config steps rows script same legal is_text = record {
+pub prints_trace : (text printed : List ℕ) (config : Config) (steps : List Step) → IsScript text config steps
+    → TellsTrace config steps printed → PrintsTrace text printed
+prints_trace text printed config steps script told = record {
   config = config;
-  rows = rows;
-  script = rw same script;
-  legal = legal;
-  is_text = is_text;
+  rows = told.0;
+  script = rw told.1 script;
+  legal = told.2;
+  is_text = told.3;
 }

@@ -5,6 +5,8 @@ use Rattle.ref_base.specs.Rows.{row_text}
 use Rattle.ref_base.specs.declared.config.Config.{Config}
 use Rattle.ref_base.specs.declared.row.Row.{Row}
 use Rattle.ref_base.specs.declared.step.Step.{Step}
+use Rattle.ref_world.specs.Cores.{Core}
+use Rattle.ref_world.specs.Runs.{RunsFrom}
 use Rattle.refrun.specs.Answers.{AnswersText}
 use Rattle.refrun.specs.Scripts.{IsScript}
 use Rattle.refrun.specs.TextFaults.{script_fault}
@@ -21,6 +23,17 @@ trace_text rows = codes "reftrace 1" ++ 10 ∷ numbered 1 rows
 
 abbrev pub steps_of : List Row → List Step
 steps_of rows = map (λ row. row.step) rows
+
+-- the text of rows of these steps, which are a run from each state that the one world stands for to one for which the
+-- other stands
+abbrev pub TellsRun : Core → List Step → List ℕ → Core → Type 0
+TellsRun old steps text new =
+    (rows : List Row) × (steps_of rows ≡ steps) × RunsFrom old rows new × (text ≡ trace_text rows)
+
+-- the text of a legal trace of these steps
+abbrev pub TellsTrace : Config → List Step → List ℕ → Type 0
+TellsTrace config steps text =
+    (rows : List Row) × (steps_of rows ≡ steps) × IsLegal config rows × (text ≡ trace_text rows)
 
 -- what is printed is the text of a legal trace of the steps of the script that the text spells, with one reply each
 pub record PrintsTrace (text printed : List ℕ) : Type 0 where

@@ -2,11 +2,10 @@
 
 ghost use Rattle.std.specs.Prelude.{◌≡◌, ◌≤◌, ◌||◌, true, string_bytes, length, None};
 ghost use Rattle.std.specs.Prelude.{IfOk, IfErr, OnErr, IfSome};
-ghost use Rattle.ref_base.specs.LegalTraces.{IsLegal};
 ghost use Rattle.refrun.specs.LineReading.{FailsFor};
 ghost use Rattle.refrun.specs.Lines.{lines_of, most_bytes};
 ghost use Rattle.refrun.specs.TextFaults.{ScriptHeader, first_fault, script_fault};
-ghost use Rattle.refrun.specs.Traces.{AnswersRun, PrintsTrace, steps_of, trace_text};
+ghost use Rattle.refrun.specs.Traces.{AnswersRun, PrintsTrace, TellsRun, TellsTrace};
 ghost use Rattle.refrun.specs.Answers.{KeepsUnlessDone, TellsFault, is_cannot_read, is_cannot_write};
 
 use crate::fault::TextFault;
@@ -14,9 +13,12 @@ use crate::reading::text_of;
 use crate::script::{Script, script_of};
 use crate::sink::{TextSink, WriteFailed};
 use crate::source::TextSource;
-use ref_base::Row;
-use ref_world::{Trace, World, run};
+use ref_base::{Row, Step};
+use ref_world::World;
 use std::alloc::{AllocError, Allocator};
+
+/// As many bytes as few rows are longer than.
+const ROW_TEXT: usize = 40;
 
 /// Reads a script, runs it, and writes its trace.
 ///
@@ -26,8 +28,8 @@ use std::alloc::{AllocError, Allocator};
 /// out. `NoMemory` may come in place of each but the last. A growth that is refused inside a put is a row of the trace,
 /// and the script goes on.
 ///
-/// Beside the text and its trace, the run takes at most 104 bytes a step, 32 for the step and 72 for its row, and what the
-/// world takes. All its memory is of this allocator.
+/// Beside the text and its trace, the run takes what the world takes, and 32 bytes a step, or at most 96 while the steps
+/// are read. All its memory is of this allocator.
 pub fn run_script<R: TextSource, W: TextSink, A: Allocator + Copy>(
     alloc: A,
     reader: &mut R,
@@ -59,42 +61,41 @@ fn trace_behind<A: Allocator + Copy>(alloc: A, text: &[u8]) -> Result<String<A>,
     ensures fault { IfErr result (λ e. FailsFor e (first_fault ScriptHeader 1 (lines_of text.now))) }
 {
     let script = script_of(alloc, text)?;
-    let rows = rows_of(alloc, script)?;
-    Ok(trace_text(alloc, rows.as_slice())?)
+    let trace = trace_of(alloc, script)?;
+    Ok(trace)
 }
 
-/// The rows of a legal trace of the script's steps. The world that answered them has ended.
-fn rows_of<A: Allocator + Copy>(alloc: A, script: Script<A>) -> Result<Vec<Row, A>, TextFault>
-    ensures steps { IfOk result (λ rows. steps_of rows.items ≡ script.steps.items) }
-    ensures legal { IfOk result (λ rows. IsLegal script.config rows.items) }
+/// The text of a legal trace of the script's steps. The world that answered them has ended.
+fn trace_of<A: Allocator + Copy>(alloc: A, script: Script<A>) -> Result<String<A>, TextFault>
+    ensures told { IfOk result (λ text. TellsTrace script.config script.steps.items (string_bytes text)) }
     ensures err { OnErr result (result ≡ Err TextFault.NoMemory) }
 {
-    let Script { config, mut steps } = script;
-    // Rows come beside the steps, so the room that no step uses is given back before.
-    steps.shrink_to_fit();
+    let Script { config, steps } = script;
     // A script's configuration is within its limits, so that only memory can be wanting.
     let Ok(world) = World::new(alloc, config) else {
         return Err(TextFault::NoMemory);
     };
-    match run(alloc, world, steps) {
-        Ok(Trace { rows, world }) => {
-            world.end();
-            Ok(rows)
-        }
-        Err((_, world, _)) => {
-            world.end();
-            Err(TextFault::NoMemory)
-        }
-    }
+    let mut world = world;
+    let told = told_run(alloc, &mut world, steps.as_slice());
+    world.end();
+    Ok(told?)
 }
 
-/// The text of a trace: its header, and its rows numbered from 1.
-fn trace_text<A: Allocator>(alloc: A, rows: &[Row]) -> Result<String<A>, AllocError>
-    ensures { IfOk result (λ text. string_bytes text ≡ trace_text rows.now) }
+/// Does these steps in the world, and tells them: the header, and their rows numbered from 1.
+fn told_run<A: Allocator + Copy>(
+    alloc: A,
+    world: &mut World<A>,
+    steps: &[Step],
+) -> Result<String<A>, AllocError>
+    ensures { IfOk result (λ text. TellsRun world.old steps.now (string_bytes text) world.new) }
 {
-    let mut text = String::from_str(alloc, "reftrace 1\n")?;
+    // Room for most traces at once: while it grows, a text is copied, and takes its room more than once.
+    let mut text = String::with_capacity(alloc, steps.len().saturating_mul(ROW_TEXT))?;
+    text.push_str("reftrace 1\n")?;
     let mut number = 0u64;
-    for row in rows {
+    for step in steps {
+        let reply = world.step(*step);
+        let row = Row { step: *step, reply };
         number += 1;
         writeln!(text, "{number} {row}")?;
     }

@@ -8,7 +8,8 @@ use std::alloc::{AllocError, Global};
 use std::process::Abort;
 use std::test::Fail;
 
-/// Seven mutators unhook a reference each, and then put its notice, each into a queue of its own.
+/// Seven mutators unhook a reference each, and then put its notice, each into a queue of its own. The last one gives up
+/// what its hand still holds.
 const SCRIPT: &[u8] = b"refscript 1
 config 7 1 16 16 0
 m0 new s0 0
@@ -42,7 +43,8 @@ m6 put
 m6 release
 ";
 
-const TRACE: &[u8] = b"reftrace 1
+/// The trace up to the puts.
+const HEAD: &str = "reftrace 1
 1 m0 new s0 0 : object 1
 2 m0 weak s1 s0 q0 0 : object 2
 3 m0 unhook s1 : notice 2 q0 own
@@ -64,15 +66,38 @@ const TRACE: &[u8] = b"reftrace 1
 19 m6 new s0 0 : object 13
 20 m6 weak s1 s0 q6 0 : object 14
 21 m6 unhook s1 : notice 14 q6 own
-22 m0 put : added 0
-23 m1 put : added 0
-24 m2 put : added 0
-25 m3 put : added 0
-26 m4 put : added 0
-27 m5 put : added 0
-28 m6 put : added 0
-29 m6 release : refused 24 HandEmpty
 ";
+
+/// The trace where so many puts, the first ones, found memory and the others found none.
+fn trace_where(alloc: Global, added: u32) -> Result<String, AllocError> {
+    let mut trace = String::from_str(alloc, HEAD)?;
+    for mutator in 0..7 {
+        let row = 22 + mutator;
+        let reply = if mutator < added {
+            "added 0"
+        } else {
+            "refused 3 NoMemory"
+        };
+        writeln!(trace, "{row} m{mutator} put : {reply}")?;
+    }
+    let reply = if added == 7 {
+        "refused 24 HandEmpty"
+    } else {
+        "ok"
+    };
+    writeln!(trace, "29 m6 release : {reply}")?;
+    Ok(trace)
+}
+
+/// How many puts found memory, where the trace is one of those that may be printed.
+fn added(alloc: Global, trace: &[u8]) -> Result<Option<u32>, AllocError> {
+    for added in 0..=7 {
+        if trace == trace_where(alloc, added)?.as_bytes() {
+            return Ok(Some(added));
+        }
+    }
+    Ok(None)
+}
 
 /// What a text answers and prints with memory of so many bytes.
 fn printed_in(
@@ -93,42 +118,46 @@ fn printed_in(
     Ok(printed)
 }
 
-/// With memory of one size after another: the text is printed whole, or memory ran out and nothing is printed. Both are
-/// seen.
-fn agree(
-    rt: &impl Abort,
-    alloc: Global,
-    task: Task,
-    text: &[u8],
-    whole: &[u8],
-) -> Result<(), Fail> {
+#[test]
+fn an_allocation_that_fails_is_told_of(rt: HostRuntime) -> Result<(), Fail> {
+    let alloc = rt.alloc();
+    let (mut without, mut partly, mut wholly) = (false, false, false);
+    for size in 0..1_500 {
+        let (answer, trace) = printed_in(&rt, alloc, Task::Run, SCRIPT, 64 * size)?;
+        match answer {
+            Err(fault) => {
+                assert_eq!(rt; fault, TextFault::NoMemory);
+                assert!(rt; trace.is_empty());
+                without = true;
+            }
+            Ok(()) => match added(alloc, trace.as_slice())? {
+                Some(7) => wholly = true,
+                Some(_) => partly = true,
+                None => assert!(rt; false, "{size}"),
+            },
+        }
+    }
+    assert!(rt; without && partly && wholly);
+    Ok(())
+}
+
+#[test]
+fn a_listing_is_whole_or_memory_ran_out(rt: HostRuntime) -> Result<(), Fail> {
     let (mut without, mut wholly) = (false, false);
     for size in 0..1_500 {
-        let (answer, printed) = printed_in(rt, alloc, task, text, 64 * size)?;
+        let (answer, listing) = printed_in(&rt, rt.alloc(), Task::List, GRAPH, 64 * size)?;
         match answer {
             Ok(()) => {
-                assert_eq!(rt; printed.as_slice(), whole);
+                assert_eq!(rt; listing.as_slice(), LISTING);
                 wholly = true;
             }
             Err(fault) => {
                 assert_eq!(rt; fault, TextFault::NoMemory);
-                assert!(rt; printed.is_empty());
+                assert!(rt; listing.is_empty());
                 without = true;
             }
         }
     }
     assert!(rt; without && wholly);
     Ok(())
-}
-
-// A growth that is refused inside a put is a row; but the text is made after the run, of more memory than a put takes, so
-// that no trace with such a row is printed here. The tests of worlds have it.
-#[test]
-fn a_trace_is_whole_or_memory_ran_out(rt: HostRuntime) -> Result<(), Fail> {
-    agree(&rt, rt.alloc(), Task::Run, SCRIPT, TRACE)
-}
-
-#[test]
-fn a_listing_is_whole_or_memory_ran_out(rt: HostRuntime) -> Result<(), Fail> {
-    agree(&rt, rt.alloc(), Task::List, GRAPH, LISTING)
 }

@@ -106,10 +106,17 @@ fn gaps_are_passed_over_and_closed(rt: HostRuntime) -> Result<(), Fail> {
         (Do(Free(4)), Told::Yes),
         (Do(Free(4)), Told::No),
         (Ask(FirstFrom(3)), Told::Found(5)),
+        // Fewer gaps than objects stay, and more are closed.
         (Set(CloseGaps), Told::Done),
         (Ask(FirstFrom(3)), Told::Found(5)),
         (Ask(FirstFrom(6)), Told::Nothing),
         (Ask(ObjectCount), Told::Count(3)),
+        (Do(Free(1)), Told::Yes),
+        (Do(Free(2)), Told::Yes),
+        (Set(CloseGaps), Told::Done),
+        (Ask(FirstFrom(1)), Told::Found(5)),
+        (Ask(FirstFrom(6)), Told::Nothing),
+        (Ask(ObjectCount), Told::Count(1)),
     ];
     agree(&rt, rt.alloc(), 5, &story)
 }

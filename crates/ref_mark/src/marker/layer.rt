@@ -103,8 +103,8 @@ impl<A: Allocator + Copy> Marker<A> {
         self.phase = Phase::Sweeping;
     }
 
-    /// The cycle ends, and the gaps that freed objects left are closed. Nothing that is doomed is left. In time of the
-    /// objects that are there and of those that were freed.
+    /// The cycle ends, and the gaps that freed objects left are closed where they are many. Nothing doomed is left. In
+    /// time of the objects that are there and of those that were freed.
     pub fn to_idle(&mut self)
         requires { is_empty (doomed self.old) ≡ true }
         ensures { self.new ≡ with_phase self.old Phase.Idle }

@@ -59,8 +59,9 @@ impl<A: Allocator + Copy> Objects<A> {
         self.table.free(no)
     }
 
-    /// Closes the gaps that freed objects left in the index; nothing that is seen changes. To be called once in a
-    /// cycle. In time of the objects that are there and of those freed since the last time.
+    /// Closes the gaps that freed objects left in the index where they are more than the objects; nothing that is seen
+    /// changes. To be called once in a cycle. In time of the objects that are there and of those freed since the last
+    /// time.
     pub fn close_gaps(&mut self)
         ensures { self.new ≡ self.old }
     {

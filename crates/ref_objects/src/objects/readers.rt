@@ -149,8 +149,8 @@ impl<A: Allocator + Copy> Objects<A> {
         self.reference_of(no)?.queue
     }
 
-    /// The least number from this one on of an object that is there. In logarithmic time, and that of the objects freed
-    /// behind it since `close_gaps`.
+    /// The least number from this one on of an object that is there. In logarithmic time, and that of the gaps that
+    /// freed objects left behind it.
     pub fn first_from(&self, no: ObjNo) -> Option<ObjNo>
         ensures { result ≡ least_from (numbers self.now.heap.objects) no }
     {

@@ -1,14 +1,11 @@
-use Rattle.std.proofs.Common.{◌∙◌, ap}
-use Rattle.refrun.specs.Traces.{trace_text}
 use Rattle.refrun.proofs.FaultLaws.{script_without_fault}
 use Rattle.refrun.proofs.TraceLemmas.{is_script, prints_trace}
 use Rattle.refrun.proofs.trace.trace_behind.Goals as goal
 
 pub returns-clause-prints : goal.returns-clause-prints
 returns-clause-prints g c =
-    prints_trace _ _ c.in_ok-script.script.config c.in_ok-script.script.steps.items c.in_ok-rows.rows.items
-    (is_script _ _ _ c.requires c.in_ok-script.ensures.found) c.in_ok-rows.ensures.steps c.in_ok-rows.ensures.legal
-    (c.in_ok-trace_text.ensures ∙ ap trace_text c.as_slice.ensures.value)
+    prints_trace _ _ c.in_ok-script.script.config c.in_ok-script.script.steps.items
+    (is_script _ _ _ c.requires c.in_ok-script.ensures.found) c.in_ok-trace.ensures.told
 
 pub returns-clause-sound : goal.returns-clause-sound
 returns-clause-sound g c = script_without_fault _ _ _ (is_script _ _ _ c.requires c.in_ok-script.ensures.found)

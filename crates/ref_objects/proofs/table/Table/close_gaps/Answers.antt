@@ -16,7 +16,7 @@ invariant_of-self g c =
           c.self.invariant.marks_counted;
     }
 
-pub returns : goal.returns
-returns g c =
+pub returns-then-len : goal.returns-then-len
+returns-then-len g c =
     seen_closed c.self.inside.index.items c.self.inside.last c.deref.ensures.value c.close_gaps.ensures.entries
     ∙ c.self.view_is
