@@ -23,7 +23,7 @@ module _ {M S R : Type 0} where
   -- the tickets have reached r
   abbrev pub drew : Step (Option M) → Known M S R → ℕ → Known M S R → Type 0
   drew s m r n =
-      (m.0.drawn ≤ r) × (m.0.first + length m.0.seen ≤ r) × (n ≡ (record m.0 { drawn = r }, m.1))
+      (m.0.drawn ≤ r) × (m.0.first + length m.0.seen ≤ r) × (n ≡ (record m.0 { stage = Idle; drawn = r }, m.1))
 
   -- a new seat has a number of its own, under which there is no entry
   abbrev pub named : Step (Option M) → Known M S R → ℕ → Known M S R → Type 0
@@ -77,4 +77,4 @@ module _ {M X S R : Type 0} (stands_for : M → X → Type 0) (moves : X → S �
       → (x : M)
       × Reaches stands_for moves m.0.start m.0.seen x
       × (n ≡ (record m.0 { stage = Open; drawn = r + 1 }, (0, Some x) ∷ m.1)))
-      × (r ≢ s.first → (s.first < r) × (n ≡ (record m.0 { drawn = r }, m.1)))
+      × (r ≢ s.first → (s.first < r) × (n ≡ (record m.0 { stage = Idle; drawn = r }, m.1)))

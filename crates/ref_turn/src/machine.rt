@@ -28,5 +28,6 @@ pub trait Machine {
         ensures { acts self.old step result self.new };
 
     /// Whatever state the value stood for, the relation leads from it to one that the value stands for afterwards.
-    ghost follows: { (m n : Self) (s : Self.Step) (r : Self.Reply) → acts m s r n → (x : State) → stands_for m x → (y : State) × moves x s r y × stands_for n y };
+    ghost follows: { (m n : Self) (s : Self.Step) (r : Self.Reply) → acts m s r n
+        → (x : State) → stands_for m x → (y : State) × moves x s r y × stands_for n y };
 }

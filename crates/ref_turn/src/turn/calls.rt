@@ -65,8 +65,8 @@ impl<M: Machine, A: Allocator + Copy> Turn<M, A> {
 }
 
 impl<M: Machine, A: Allocator> Turn<M, A> {
-    /// Waits for the turn, makes the step, ends the turn, and answers the machine's reply. The condition is that the seat
-    /// is of this turn. Takes no memory but what the step takes.
+    /// Waits for the turn, makes the step, ends the turn, and answers the machine's reply. The seat has to be of this
+    /// turn, here and below. Takes no memory but what the step takes.
     ///
     /// `Spent` where no ticket is left, and never `Busy`: then nothing happened, and the step comes back.
     pub fn call<W: Wait>(
@@ -77,7 +77,8 @@ impl<M: Machine, A: Allocator> Turn<M, A> {
     ) -> Result<M::Reply, TurnFault<M::Step>>
         requires { IsSeatOf self.now seat.old }
         ensures turn { IsBeside seat.old seat.new }
-        ensures ok { IfOk result (λ r. Extends (view seat.old) (entry (view seat.old).number step r) (view seat.new)) }
+        ensures ok { IfOk result (λ r.
+            Extends (view seat.old) (entry (view seat.old).number step r) (view seat.new)) }
         ensures history { IfOk result (λ _. IsHistory M.stands_for M.moves (view seat.new)) }
         ensures acted { IfOk result (λ r. (m n : M) × M.acts m step r n) }
         ensures longer { IfErr result (λ _. Longer (view seat.old) (view seat.new)) }
@@ -101,11 +102,13 @@ impl<M: Machine, A: Allocator> Turn<M, A> {
     ) -> Result<M::Reply, TurnFault<M::Step>>
         requires { IsSeatOf self.now seat.old }
         ensures turn { IsBeside seat.old seat.new }
-        ensures ok { IfOk result (λ r. Extends (view seat.old) (entry (view seat.old).number step r) (view seat.new)) }
+        ensures ok { IfOk result (λ r.
+            Extends (view seat.old) (entry (view seat.old).number step r) (view seat.new)) }
         ensures history { IfOk result (λ _. IsHistory M.stands_for M.moves (view seat.new)) }
         ensures acted { IfOk result (λ r. (m n : M) × M.acts m step r n) }
         ensures longer { IfErr result (λ _. Longer (view seat.old) (view seat.new)) }
-        ensures err { IfErr result (λ e. (e ≡ Busy step × SawBusy (view seat.old) (view seat.new)) ⊎ (e ≡ Spent step × (view seat.new).drawn ≡ 2 ^ 64 - 1)) }
+        ensures err { IfErr result (λ e. (e ≡ Busy step × SawBusy (view seat.old) (view seat.new))
+            ⊎ (e ≡ Spent step × (view seat.new).drawn ≡ 2 ^ 64 - 1)) }
     {
         match self.enter(&mut seat.place) {
             Ok(()) => Ok(self.run(&mut seat.place, step)),
@@ -125,8 +128,8 @@ impl<M: Machine, A: Allocator> Turn<M, A> {
         self.table.shared.load::<Look<M>>(&mut seat.place, SERVED)
     }
 
-    /// A new seat, for another thread. It has seen what this one has, under a number of its own, and made no call. Takes
-    /// no memory.
+    /// A new seat, for another thread. It has seen what this one has, under a number of its own, and made no call.
+    /// Takes no memory.
     pub fn split(&self, seat: &mut TurnSeat<M>) -> TurnSeat<M>
         requires { IsSeatOf self.now seat.old }
         ensures turn { IsBeside seat.old seat.new × IsSeatOf self.now result }
@@ -145,7 +148,8 @@ impl<M: Machine, A: Allocator> Turn<M, A> {
         ensures turn { IsBeside seat.old seat.new }
         ensures longer { Longer (view seat.old) (view seat.new) }
         ensures history { IsHistory M.stands_for M.moves (view seat.new) }
-        ensures other { StartsWith (view seat.new).seen (view other).seen × (calls_by (view other).number (view seat.new).seen ≡ (view other).mine) }
+        ensures other { StartsWith (view seat.new).seen (view other).seen
+            × (calls_by (view other).number (view seat.new).seen ≡ (view other).mine) }
     {
         let words = &self.table.shared;
         words.join_seat::<TakeIn>(&mut seat.place, other.into_place());

@@ -25,7 +25,8 @@ impl<M: Machine, A: Allocator> Turn<M, A> {
         ensures longer { Longer place.old.me.0 place.new.me.0 }
         ensures ok { IfOk result (λ _. HoldsTurn M.stands_for M.moves place.new.me) }
         ensures idle { IfErr result (λ _. IsIdle place.new.me) }
-        ensures err { IfErr result (λ e. (e ≡ Busy tt × SawBusy place.old.me.0 place.new.me.0) ⊎ (e ≡ Spent tt × place.new.me.0.drawn ≡ 2 ^ 64 - 1)) }
+        ensures err { IfErr result (λ e. (e ≡ Busy tt × SawBusy place.old.me.0 place.new.me.0)
+            ⊎ (e ≡ Spent tt × place.new.me.0.drawn ≡ 2 ^ 64 - 1)) }
     {
         let words = &self.table.shared;
         let served = words.load::<Look<M>>(place, SERVED);
@@ -102,11 +103,15 @@ impl<M: Machine, A: Allocator> Turn<M, A> {
     )
         requires place { IsPlaceOf self.now place.old }
         requires said { W.entry ≡ Some (entry place.old.me.0.number asked.now.value reply.now) }
-        requires turn { (m : M) × HoldsMachine place.old.me m × Reaches M.stands_for M.moves place.old.me.0.start (place.old.me.0.seen ++ entry place.old.me.0.number asked.now.value reply.now ∷ []) m }
+        requires turn { (m : M) × HoldsMachine place.old.me m
+            × Reaches M.stands_for M.moves place.old.me.0.start
+            (place.old.me.0.seen ++ entry place.old.me.0.number asked.now.value reply.now ∷ []) m }
         ensures place { IsSamePlace place.old place.new }
         ensures idle { IsIdle place.new.me }
-        ensures extends { Extends place.old.me.0 (entry place.old.me.0.number asked.now.value reply.now) place.new.me.0 }
-        ensures seen { place.new.me.0.seen ≡ place.old.me.0.seen ++ entry place.old.me.0.number asked.now.value reply.now ∷ [] }
+        ensures extends { Extends place.old.me.0
+            (entry place.old.me.0.number asked.now.value reply.now) place.new.me.0 }
+        ensures seen { place.new.me.0.seen
+            ≡ place.old.me.0.seen ++ entry place.old.me.0.number asked.now.value reply.now ∷ [] }
     {
         self.table.shared.fetch_add::<Add<W>>(place, SERVED, 1);
     }
@@ -125,7 +130,7 @@ impl<M: Machine, A: Allocator> Turn<M, A> {
         self.sleepers.leave();
     }
 
-    // After a turn: one of those that sleep goes on. Also after a call that found no ticket left, since it may have been
+    // After a turn: one of those that sleep goes on. Also after a call that found no ticket left, which may have been
     // woken in the place of another.
     pub(super) fn wake_next(&self) {
         if self.sleepers.any() {
