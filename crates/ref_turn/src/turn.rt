@@ -56,11 +56,7 @@ pub struct SeatOf<M, S, R> {
 pub type TurnSeat<M> = SeatOf<M, <M as Machine>::Step, <M as Machine>::Reply>;
 
 /// Why a call made no turn. The step comes back.
-<<<<<<< HEAD
-#[derive(Debug, Drop)]
-=======
 #[derive(Debug, Drop, PartialEq, Eq)]
->>>>>>> 8bca266861120aac6ecf8a3f540f17710b26f282
 pub enum TurnFault<S> {
     /// Another turn was open.
     Busy(S),
