@@ -27,6 +27,29 @@ of_hand : (k : ℕ) (pending : List Pending) → told_notice (answer_of_hand k p
 of_hand k [] none = refl
 of_hand k (p ∷ ps) none = absurd (false≢true (sym (ap is_some none)))
 
+-- ---- an unhook and a hand are refused with faults of the heap alone
+
+are_of_heap : Option Fault → Bool
+are_of_heap None = true
+are_of_heap (Some fault) = is_of_heap fault
+
+unless_of_heap : (may : Bool) (fault : Fault) (later : Option Fault) → is_of_heap fault ≡ true
+    → are_of_heap later ≡ true → are_of_heap (unless may fault later) ≡ true
+unless_of_heap true fault later own rest = rest
+unless_of_heap false fault later own rest = own
+
+holds_of_heap : (h : Heap) → are_of_heap (holds_refusal h) ≡ true
+holds_of_heap h = unless_of_heap _ NumbersSpent None refl refl
+
+unhook_of_heap : (h : Heap) (slot : Option ℕ) → are_of_heap (unhook_refusal h slot) ≡ true
+unhook_of_heap h None = refl
+unhook_of_heap h (Some n) = minting_of_heap h (reference_at h n)
+  where
+
+hand_of_heap : (pending : List Pending) (h : Heap) → are_of_heap (hand_refusal pending h) ≡ true
+hand_of_heap [] h = refl
+hand_of_heap (p ∷ ps) h = holds_of_heap h
+
 -- refused, or not
 told_either_way : (refused : Option Fault) (reply : Reply) → told_notice (unless_refused refused told.Refused reply) ≡ None
     → (told_notice reply ≡ None → gives_no_notice reply ≡ true)
