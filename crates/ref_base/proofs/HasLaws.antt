@@ -1,5 +1,6 @@
 -- What `has` says of lists that are put together.
-use Rattle.std.proofs.Common.{◌≡◌, ℕ, ◌+◌, ◌<◌, ◌≤◌, Bool, not, nat_lt, Some, None, true, false, ◌||◌, ◌==◌, nat_eq, refl, sym, ap, subst, ◌∙◌, arith}
+use Rattle.std.proofs.Common.{◌≡◌, ℕ, ◌+◌, ◌<◌, ◌≤◌, Bool, true, false, not, ◌||◌, ◌==◌, nat_eq, nat_lt, refl, sym}
+use Rattle.std.proofs.Common.{ap, subst, ◌∙◌, arith, Some, None}
 use Rattle.std.proofs.Common.{List, [], ◌∷◌, ◌++◌, length, get_or, take, drop, ◌⊎◌, inl, inr, zero, suc}
 use Rattle.std.proofs.lemmas.Bool.{cases_Bool, or_cases, or_left, or_right, true≢false, eq-eqb, eqb-true, ltb-true}
 use Rattle.std.proofs.lemmas.List.{take_more, take-append-le, take-append-drop, get_or_default}
@@ -93,7 +94,8 @@ has-front ns n place i found beyond =
           let same : place ≡ first = cc in
           let stops : not (nat_eq n (get_or ns first 0)) ≡ false =
           prefix_len_stops (λ m. not (nat_eq n m)) ns 0 within in
-          let number : n ≡ get_or ns first 0 = eqb-true n (get_or ns first 0) (not-false (nat_eq n (get_or ns first 0)) stops) in
+          let number : n ≡ get_or ns first 0 =
+          eqb-true n (get_or ns first 0) (not-false (nat_eq n (get_or ns first 0)) stops) in
           subst (λ m. has (take i ns) m ≡ true) (sym number) (has-take_at ns first i (omega arith) within)
       | inr none ↦ absurd (let wrong : Some place ≡ None = simp none at found in cc)
     ]

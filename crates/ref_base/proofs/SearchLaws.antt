@@ -258,7 +258,8 @@ module _ (allow : Allowed) (g : Graph) where
         ≡ added_all g.objects seen (targets_at allow g.objects m)
     referent_alone first =
         let m : ℕ = get_or seen next 0 in
-        let front : has (take closed seen) m ≡ true = has-take_at seen next closed first (omega (arith, so_far.within)) in
+        let front : has (take closed seen) m ≡ true =
+        has-take_at seen next closed first (omega (arith, so_far.within)) in
         added_all-referent g.objects allow (object_at g.objects m) seen (λ n. so_far.fields_seen m n front)
 
     -- where it has gone on from all that it has seen, that is what paths end at

@@ -75,7 +75,7 @@ fn find<A: Allocator + Copy, B: Allocator + Copy>(
     })
 }
 
-impl<B: Allocator> Found<B> {
+impl<B: Allocator + Copy> Found<B> {
     // Where in the search the number was found tells its strength.
     fn reach_of(&self, no: ObjNo) -> Reach
         ensures { result ≡ found_reach (take self.now.strong self.now.reached.keys)
@@ -101,8 +101,9 @@ impl<B: Allocator> Found<B> {
             (numbers graph.now.objects)) }
         ensures sorted { IsRising (numbers graph.now.objects) }
     {
-        graph
-            .numbers()
+        let numbers = graph.numbers(alloc)?;
+        numbers
+            .iter()
             .map(|no| ObjectReach {
                 object: *no,
                 reach: self.reach_of(*no),
@@ -116,7 +117,7 @@ impl<B: Allocator> Found<B> {
 /// strong, soft and weak steps, and that what lies behind such a referent isn't by that.
 ///
 /// `NoSuchObject` exactly where there is no such object, which takes no memory to tell; else `NoMemory` where a growth
-/// is refused. In expected time of the number of objects, fields and roots, times a logarithm for look-ups.
+/// is refused. In expected time of the number of objects, fields and roots.
 pub fn strength_of<A: Allocator + Copy, B: Allocator + Copy>(
     alloc: B,
     graph: &Graph<A>,
