@@ -259,7 +259,7 @@ pub none_from_is_some : {X : Type 0} (o : Option X) → is_some o ≡ false → 
 none_from_is_some None h = refl
 none_from_is_some (Some x) h = absurd (true≢false h)
 
-is_some-option_map : {X Y : Type 0} (f : X → Y) (o : Option X) → is_some (option_map f o) ≡ is_some o
+pub is_some-option_map : {X Y : Type 0} (f : X → Y) (o : Option X) → is_some (option_map f o) ≡ is_some o
 is_some-option_map f None = refl
 is_some-option_map f (Some x) = refl
 

@@ -119,14 +119,19 @@ impl<A: Allocator + Copy> Graph<A> {
     pub(crate) fn has_object(&self, no: ObjNo) -> bool
         ensures { result ≡ is_there self.now.objects no }
     {
-        self.objects.contains_key(&no)
+        self.stored(no).is_some()
     }
 
-    /// What is stored of the object of this number.
+    /// What is stored of the object of this number. Where objects were added by number from 1 on, as most graphs have
+    /// them, it stands where its number says; elsewhere it is found by hashing, in expected constant time.
     pub(crate) fn stored(&self, no: ObjNo) -> Option<&Stored>
         ensures { option_map (λ s. object_of (no, s.now)) result ≡ object_at self.now.objects no }
     {
-        self.objects.get(&no)
+        let place = no.0.saturating_sub(1) as usize;
+        match self.objects.get_index(place) {
+            Some((found, stored)) if *found == no => Some(stored),
+            _ => self.objects.get(&no),
+        }
     }
 
     /// The roots, in the order in which they were added.
