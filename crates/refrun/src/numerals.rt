@@ -20,8 +20,8 @@ fn is_numeral(word: &[u8]) -> bool
     (1..=20).contains(&word.len()) && are_digits(word)
 }
 
-/// The number below 2^64 that digits write, or `None`. A graph text is mostly numbers: so they are read from their bytes,
-/// with no test for UTF-8.
+/// The number below 2^64 that digits write, or `None`. A graph text is mostly numbers: so they are read from their
+/// bytes, with no test for UTF-8.
 fn value_of(digits: &[u8]) -> Option<u64>
     requires { list_all is_ascii_digit digits.now ≡ true }
     ensures { SomeIff result (digits_value 10 digits.now < 2 ^ 64) (digits_value 10 digits.now) }
