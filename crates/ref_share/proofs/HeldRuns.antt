@@ -1,11 +1,11 @@
 -- The history of a heap: what is held is what was given out and not taken back.
-use Rattle.std.proofs.Common.{◌≡◌, ℕ, zero, suc, ◌+◌, ◌<◌, ◌==◌, Bool, true, false, List, [], ◌∷◌, ◌++◌}
-use Rattle.std.proofs.Common.{Option, Some, None, is_some, refl, sym, ap, ◌∙◌, subst, arith, inl, inr}
+use Rattle.std.proofs.Common.{◌≡◌, ℕ, ◌+◌, ◌<◌, ◌==◌, Bool, true, false, List, [], ◌∷◌, ◌++◌}
+use Rattle.std.proofs.Common.{Option, Some, None, is_some, refl, sym, ap, ◌∙◌, arith, inl, inr}
 use Rattle.std.proofs.lemmas.Bool.{cases_Bool, false≢true, eqb-true, eq-eqb, and_parts}
-use Rattle.ref_base.specs.Collectors.{State, first_state}
+use Rattle.ref_base.specs.Collectors.{State}
 use Rattle.ref_base.specs.CollectorRows.{IsHeapRow, IsHeapAnswer, HeapAccepts}
 use Rattle.ref_base.specs.CountedHolds.{tally, holds_after}
-use Rattle.ref_base.specs.Heaps.{Heap, one_more, one_fewer}
+use Rattle.ref_base.specs.Heaps.{one_more, one_fewer}
 use Rattle.ref_base.specs.HeapSteps.{NamedStep}
 use Rattle.ref_base.specs.Members.{has}
 use Rattle.ref_base.specs.Refusals.{heap_refusal, unless, is_counted, has_slot}
@@ -14,7 +14,6 @@ use Rattle.ref_base.specs.declared.config.Config.{Config}
 use Rattle.ref_base.specs.declared.fault.Fault.{Fault}
 use Rattle.ref_base.specs.declared.fault.Fault.TheVariants.{ForeignHold, NoSuchActor}
 use Rattle.ref_base.specs.declared.heap_step.HeapStep.TheVariants as heap
-use Rattle.ref_base.specs.declared.heap_step.HoldName.{HoldName}
 use Rattle.ref_base.specs.declared.reply.Reply.{Reply}
 use Rattle.ref_base.specs.declared.reply.Reply.TheVariants as told
 use Rattle.ref_base.proofs.CountedRows.{heap_holds}
@@ -39,7 +38,8 @@ row_holds : (a b : State) (refused : Option Fault) (step : NamedStep) (reply : R
 row_holds a b None step reply row = heap_holds a b step reply row
 row_holds a b (Some fault) step reply row =
     ap (λ (s : State). s.world.heap.holds) row.1
-    ∙ sym (ap (λ (r : Reply). holds_after a.world.heap.holds step r) row.0 ∙ refused_holds a.world.heap.holds step fault)
+    ∙ sym (ap (λ (r : Reply). holds_after a.world.heap.holds step r) row.0
+    ∙ refused_holds a.world.heap.holds step fault)
 
 -- a list without the first n that stands in it
 tally-one_fewer_there : (hs : List ℕ) (m n : ℕ) → has hs m ≡ true
@@ -132,14 +132,14 @@ module _ (x y : HeapState) (n : ℕ) where
   after_told (heap.Adopt m d hold) (told.Object k) held row gives =
       let h = x.state.world.heap in
       let counted = adopt_counted x.state y.state (has_slot h m d) (is_counted x.number h hold) (heap.Adopt m d hold)
-          (told.Object k) (λ fault is. absurd cc) row in
+      (told.Object k) (λ fault is. absurd cc) row in
       let there = and_parts _ _ counted.0 in
       one_taken (holds_in x) (holds_in y) hold.object n
-          (held ∙ ap (λ (r : Reply). holds_after (holds_in x) (heap.Adopt m d hold) r) counted.1.0) there.1
+      (held ∙ ap (λ (r : Reply). holds_after (holds_in x) (heap.Adopt m d hold) r) counted.1.0) there.1
   after_told (heap.Adopt m d hold) reply held row gives = absurd cc
   after_told (heap.Release hold) told.Done held row gives =
       let counted = counted_if_told x.state y.state (is_counted x.number x.state.world.heap hold) (heap.Release hold)
-          told.Done (λ fault is. absurd cc) row in
+      told.Done (λ fault is. absurd cc) row in
       let there = and_parts _ _ counted.0 in
       one_taken (holds_in x) (holds_in y) hold.object n held there.1
   after_told (heap.Release hold) reply held row gives = absurd cc

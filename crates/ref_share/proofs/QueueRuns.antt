@@ -1,10 +1,9 @@
 -- The history of a queue: its lists are those of its entries.
-use Rattle.std.proofs.Common.{◌≡◌, ℕ, Bool, true, false, ◌||◌, List, [], ◌∷◌, ◌++◌, length, map, Result, Ok, Err}
+use Rattle.std.proofs.Common.{◌≡◌, ℕ, Bool, true, false, ◌||◌, List, [], ◌∷◌, ◌++◌, length, Ok, Err}
 use Rattle.std.proofs.Common.{refl, sym, ap, ◌∙◌, subst}
 use Rattle.std.specs.List.{IsDistinct}
-use Rattle.std.specs.Prelude.{nat_eq, not}
-use Rattle.std.proofs.lemmas.List.{append-nil}
-use Rattle.ref_base.specs.QueueLists.{Lists, new_queue, enqueued, with_parcel, with_taken}
+use Rattle.std.specs.Prelude.{nat_eq}
+use Rattle.ref_base.specs.QueueLists.{new_queue}
 use Rattle.ref_base.proofs.LegalQueues.{distinct_nil}
 use Rattle.ref_base.proofs.QueueMoves.{QueueMoves, moves_nothing, moves_more, moves_added, moves_took, moves_closed}
 use Rattle.ref_clear.specs.ClearHeaps.{HeldNotice}
@@ -13,7 +12,7 @@ use Rattle.ref_queue.specs.declared.queue.Polled.TheVariants as polls
 use Rattle.ref_turn.specs.History.{Leads}
 use Rattle.ref_turn.specs.Seats.{entry}
 use Rattle.ref_share.specs.QueueHistories.{put_by, taken_by, closed_by, put_in, taken_out, was_closed, KeepsLists}
-use Rattle.ref_share.specs.QueueMachines.{object_of, queue_of, IsQueueMove}
+use Rattle.ref_share.specs.QueueMachines.{object_of, IsQueueMove}
 use Rattle.ref_share.specs.QueueSeats.{QueueEntry, IsQueueRun}
 use Rattle.ref_share.specs.QueueStates.{NoticeLists}
 use Rattle.ref_share.specs.declared.queue_machine.QueueStep.{QueueStep}
@@ -26,7 +25,8 @@ abbrev MovesBy : NoticeLists → NoticeLists → QueueStep → QueueReply → Ty
 MovesBy q r step reply = QueueMoves object_of q r (put_by step reply) (taken_by step reply) (closed_by step reply)
 
 stays : (q r : NoticeLists) → r ≡ q → QueueMoves object_of q r [] [] false
-stays q r same = subst (λ (s : NoticeLists). QueueMoves object_of q s [] [] false) (sym same) (moves_nothing object_of q)
+stays q r same =
+    subst (λ (s : NoticeLists). QueueMoves object_of q s [] [] false) (sym same) (moves_nothing object_of q)
 
 either_true : (b : Bool) → true ≡ (b || true)
 either_true true = refl
@@ -85,21 +85,24 @@ nothing_after_close number front back last run shut =
     let first = keeps_lists number front parts.0 parts.1 in
     (run_moves parts.0 back last parts.2).shut (first.closed_is ∙ shut)
 
+abbrev number_in : NoticeLists → ℕ
+number_in q = q.queue
+
 number_stays : (q r : NoticeLists) (step : QueueStep) (reply : QueueReply) → IsQueueMove q step reply r
     → r.queue ≡ q.queue
-number_stays q r (steps.Put notice) (replies.Put (Ok (puts.Added position))) move = ap (λ (s : NoticeLists). s.queue) move.1
-number_stays q r (steps.Put notice) (replies.Put (Ok (puts.Already back))) move = ap (λ (s : NoticeLists). s.queue) move.1
-number_stays q r (steps.Put notice) (replies.Put (Ok (puts.Closed back))) move = ap (λ (s : NoticeLists). s.queue) move.1
-number_stays q r (steps.Put notice) (replies.Put (Err refused)) move = ap (λ (s : NoticeLists). s.queue) move.1
-number_stays q r steps.Poll (replies.Polled (polls.Took notice)) move = ap (λ (s : NoticeLists). s.queue) move.1
-number_stays q r steps.Poll (replies.Polled polls.Empty) move = ap (λ (s : NoticeLists). s.queue) move.2
-number_stays q r steps.Poll (replies.Polled polls.Closed) move = ap (λ (s : NoticeLists). s.queue) move.2
-number_stays q r steps.Close (replies.Closed was_open) move = ap (λ (s : NoticeLists). s.queue) move.1
+number_stays q r (steps.Put notice) (replies.Put (Ok (puts.Added position))) move = ap number_in move.1
+number_stays q r (steps.Put notice) (replies.Put (Ok (puts.Already back))) move = ap number_in move.1
+number_stays q r (steps.Put notice) (replies.Put (Ok (puts.Closed back))) move = ap number_in move.1
+number_stays q r (steps.Put notice) (replies.Put (Err refused)) move = ap number_in move.1
+number_stays q r steps.Poll (replies.Polled (polls.Took notice)) move = ap number_in move.1
+number_stays q r steps.Poll (replies.Polled polls.Empty) move = ap number_in move.2
+number_stays q r steps.Poll (replies.Polled polls.Closed) move = ap number_in move.2
+number_stays q r steps.Close (replies.Closed was_open) move = ap number_in move.1
 number_stays q r step reply move = absurd move
 
 number_of : (q : NoticeLists) (calls : List QueueEntry) (r : NoticeLists) → Leads IsQueueMove q calls r
     → r.queue ≡ q.queue
-number_of q [] r run = ap (λ (s : NoticeLists). s.queue) (sym run)
+number_of q [] r run = ap number_in (sym run)
 number_of q (call ∷ calls) r run =
     number_of run.0 calls r run.2 ∙ number_stays q run.0 call.step call.reply run.1
 
@@ -107,7 +110,7 @@ number_of q (call ∷ calls) r run =
 pub own_at_the_end : (number by : ℕ) (front back : List QueueEntry) (notice : HeldNotice) (position : ℕ)
     (last : NoticeLists)
     → IsQueueRun number
-        (front ++ entry by (steps.Put notice) (replies.Put (Ok (puts.Added position))) ∷ back) last
+    (front ++ entry by (steps.Put notice) (replies.Put (Ok (puts.Added position))) ∷ back) last
     → (notice.queue ≡ number) × (position ≡ length (put_in front))
 own_at_the_end number by front back notice position last run =
     let call : QueueEntry = entry by (steps.Put notice) (replies.Put (Ok (puts.Added position))) in
