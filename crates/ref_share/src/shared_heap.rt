@@ -23,7 +23,7 @@ use std::sync::Wait;
 /// All its memory is taken as it is made.
 #[derive(Drop)]
 pub struct SharedHeap<A: Allocator + Copy = Global> {
-    pub(crate) turn: Turn<HeapMachine<A>, A>,
+    turn: Turn<HeapMachine<A>, A>,
     config: Config,
     heap_no: u64,
 }
