@@ -1,5 +1,8 @@
 -- What a call of a seat has made, and why it made nothing.
 use Rattle.std.specs.Prelude.{◌≡◌, ◌-◌, ◌^◌, List, ◌++◌}
+use Rattle.std.specs.Prelude.{Option, Some, None, Result, Ok, Err}
+use Rattle.ref_base.specs.declared.fault.Fault.{Fault}
+use Rattle.ref_base.specs.declared.fault.Fault.TheVariants.{NoMemory}
 use Rattle.ref_turn.specs.History.{calls_by, StartsWith}
 use Rattle.ref_turn.specs.Seats.{entry, IsSame, Longer, Extends, SawBusy}
 use Rattle.ref_turn.specs.declared.history.Entry.{Entry}
@@ -32,3 +35,9 @@ module _ {M S R : Type 0} where
   -- the seat has seen what the other had seen, in which the other's calls stand under its number
   abbrev pub TookIn : View M S R → View M S R → View M S R → Type 0
   TookIn v other w = Longer v w × StartsWith w.seen other.seen × (calls_by other.number w.seen ≡ other.mine)
+
+-- what is made anew is refused with just this fault, if there is one, or where memory isn't there
+abbrev pub MakesUnless : {T : Type 0} → Option Fault → Result T Fault → Type 0
+MakesUnless refusal (Ok made) = refusal ≡ None
+MakesUnless None (Err fault) = fault ≡ NoMemory
+MakesUnless (Some first) (Err fault) = fault ≡ first

@@ -6,7 +6,7 @@ ghost use Rattle.ref_clear.specs.ClearHeaps.{ClearHeap};
 ghost use Rattle.ref_turn.specs.Seats.{Longer, Begins};
 ghost use Rattle.ref_turn.specs.declared.turn.TurnFault.TheVariants as faults;
 ghost use Rattle.ref_share.specs.HeapMachines.{Acts};
-ghost use Rattle.ref_share.specs.SeatCalls.{Called, RanOut, IsTryFault, TookIn};
+ghost use Rattle.ref_share.specs.SeatCalls.{Called, RanOut, IsTryFault, MakesUnless, TookIn};
 ghost use Rattle.ref_share.specs.HeapSeats.{heap_view, IsHeapSeat, IsNewHeap, LeavesHeap};
 
 use crate::HeapMachine;
@@ -39,6 +39,7 @@ impl<A: Allocator + Copy> SharedHeap<A> {
     /// caller. Tried in this order: `BadConfig`, `NoMemory`.
     pub fn new(alloc: A, config: Config, heap_no: u64) -> Result<(Self, HeapSeat<A>), Fault>
         ensures made { IfOk result (λ made. IsNewHeap made.0 config heap_no 0 made.1) }
+        ensures refused { MakesUnless (starting_refusal config (record { obj = 1; cycle = 0; page = 1 })) result }
     {
         Self::starting(alloc, config, heap_no, 0)
     }
@@ -51,6 +52,7 @@ impl<A: Allocator + Copy> SharedHeap<A> {
         first: u64,
     ) -> Result<(Self, HeapSeat<A>), Fault>
         ensures made { IfOk result (λ made. IsNewHeap made.0 config heap_no first made.1) }
+        ensures refused { MakesUnless (starting_refusal config (record { obj = 1; cycle = 0; page = 1 })) result }
     {
         let heap = WorldHeap::new(alloc, config, heap_no)?;
         match Turn::starting(alloc, HeapMachine { heap }, first) {

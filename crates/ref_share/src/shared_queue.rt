@@ -1,7 +1,7 @@
 //! The queue that threads share.
 
-ghost use Rattle.std.specs.Prelude.{◌≡◌, ◌+◌, ◌<◌, ◌≤◌, ◌⊎◌, true, IfOk, IfErr, Err, length};
-ghost use Rattle.ref_base.specs.declared.fault.Fault.TheVariants.{BadConfig};
+ghost use Rattle.std.specs.Prelude.{◌≡◌, ◌+◌, ◌<◌, ◌≤◌, ◌⊎◌, true, IfOk, IfErr, OnErr, Err, length};
+ghost use Rattle.ref_base.specs.declared.fault.Fault.TheVariants.{BadConfig, NoMemory};
 ghost use Rattle.ref_turn.specs.Seats.{Longer, Begins};
 ghost use Rattle.ref_share.specs.declared.answers.ShareFault.TheVariants.{Refused, Busy};
 ghost use Rattle.ref_share.specs.SeatCalls.{TookIn};
@@ -42,6 +42,7 @@ impl<A: Allocator + Copy> SharedQueue<A> {
     /// The queue of this number, open, with nothing ever put in, and its first seat. The one refusal is `NoMemory`.
     pub fn new(alloc: A, queue: QueueNo) -> Result<(Self, QueueSeat<A>), Fault>
         ensures made { IfOk result (λ made. IsNewQueue made.0 queue 0 made.1) }
+        ensures err { OnErr result (result ≡ Err NoMemory) }
     {
         Self::starting(alloc, queue, 0)
     }
@@ -49,6 +50,7 @@ impl<A: Allocator + Copy> SharedQueue<A> {
     /// The same, whose turns are counted from `first` on: `u64::MAX - first` of them can be made.
     pub fn starting(alloc: A, queue: QueueNo, first: u64) -> Result<(Self, QueueSeat<A>), Fault>
         ensures made { IfOk result (λ made. IsNewQueue made.0 queue first made.1) }
+        ensures err { OnErr result (result ≡ Err NoMemory) }
     {
         let machine = QueueMachine {
             queue: Queue::new(alloc, queue),
