@@ -73,8 +73,9 @@ hand_of_heap (p ∷ ps) h = holds_of_heap h
 -- ---- what a heap tells
 
 -- refused, or not
-told_either_way : (refused : Option Fault) (reply : Reply) → told_notice (unless_refused refused told.Refused reply) ≡ None
-    → are_of_heap refused ≡ true → (told_notice reply ≡ None → gives_no_notice reply ≡ true)
+told_either_way : (refused : Option Fault) (reply : Reply)
+    → told_notice (unless_refused refused told.Refused reply) ≡ None → are_of_heap refused ≡ true
+    → (told_notice reply ≡ None → gives_no_notice reply ≡ true)
     → gives_no_notice (unless_refused refused told.Refused reply) ≡ true
 told_either_way None reply none own otherwise = otherwise none
 told_either_way (Some fault) reply none own otherwise = own

@@ -1,6 +1,6 @@
 -- Calls of a seat, one after the other; and polls that found nothing, until one answers.
-use Rattle.std.proofs.Common.{◌≡◌, ℕ, ◌+◌, zero, suc, List, [], ◌∷◌, ◌++◌, refl, ap, sym, ◌∙◌, subst, replicate}
-use Rattle.std.proofs.Common.{Result, Ok, Err, Option, Some, None, rules}
+use Rattle.std.proofs.Common.{◌≡◌, ℕ, zero, suc, List, [], ◌∷◌, ◌++◌, refl, ap, ◌∙◌, subst, replicate}
+use Rattle.std.proofs.Common.{Result, Ok, Err, Some, None, rules}
 use Rattle.std.proofs.lemmas.List.{append_assoc}
 use Rattle.ref_base.specs.declared.fault.Fault.TheVariants.{TurnsSpent}
 use Rattle.ref_queue.specs.declared.queue.Polled.TheVariants as answers
@@ -11,7 +11,7 @@ use Rattle.ref_share.specs.QueueCalls.{PollsOnce, PollsTo, polled, empty_polls}
 use Rattle.ref_share.specs.QueueSeats.{QueueView, QueueEntry}
 use Rattle.ref_share.specs.SeatCalls.{Made}
 use Rattle.ref_share.specs.declared.answers.Polled.{Polled}
-use Rattle.ref_share.specs.declared.answers.Polled.TheVariants.{Took, Empty, Closed, TimedOut}
+use Rattle.ref_share.specs.declared.answers.Polled.TheVariants.{Took, Closed}
 use Rattle.ref_share.specs.declared.answers.ShareFault.{ShareFault}
 use Rattle.ref_share.specs.declared.answers.ShareFault.TheVariants.{Refused}
 use Rattle.ref_share.specs.declared.queue_machine.QueueStep.TheVariants as steps
@@ -50,7 +50,7 @@ module _ {M S R : Type 0} where
           in_front v.seen made.1.0 (extends.1.0 ++ e ∷ []) u.seen w.seen made.1.1 seen,
         ),
         in_front v.mine calls (e ∷ []) u.mine w.mine made.2 extends.2
-        ∙ ap (λ (es : List (Entry S R)). v.mine ++ es) own,
+            ∙ ap (λ (es : List (Entry S R)). v.mine ++ es) own,
       )
 
 module _ (v u w : QueueView) (k : ℕ) (made : Made v (empty_polls v k) u) where
@@ -58,7 +58,7 @@ module _ (v u w : QueueView) (k : ℕ) (made : Made v (empty_polls v k) u) where
   pub one_more_empty : PollsOnce u None w → Made v (empty_polls v (suc k)) w
   one_more_empty polls =
       subst (λ (calls : List QueueEntry). Made v calls w) (one_more k (polled v answers.Empty))
-        (made_more v u w (empty_polls v k) steps.Poll (replies.Polled answers.Empty) made polls)
+      (made_more v u w (empty_polls v k) steps.Poll (replies.Polled answers.Empty) made polls)
 
   -- a poll that ends the waiting
   pub last_poll : (MayGo : ℕ → Type 0) (TimesOut : QueueView → Type 0) (result : Result Polled ShareFault) → MayGo k

@@ -1,7 +1,7 @@
 -- The seats of a turn that began with a machine in a known state stay such seats.
-use Rattle.std.proofs.Common.{◌≡◌, ℕ, List, [], Some, refl, sym, ◌∙◌, subst, Result, Ok, Err, IfOk, IfErr}
+use Rattle.std.proofs.Common.{◌≡◌, ℕ, List, Some, refl, sym, ◌∙◌, subst, Result, Ok, Err, IfOk, IfErr}
 use Rattle.ref_turn.specs.History.{Leads, calls_by}
-use Rattle.ref_turn.specs.Seats.{IsSame, IsHistory, Begins, IsFirst, EndsAs, Extends, Longer}
+use Rattle.ref_turn.specs.Seats.{entry, IsSame, IsHistory, Begins, IsFirst, EndsAs, Extends, Longer}
 use Rattle.ref_turn.specs.Turns.{view, IsBeside, IsSeatOf}
 use Rattle.ref_turn.specs.declared.history.Entry.{Entry}
 use Rattle.ref_turn.specs.declared.history.View.{View}
@@ -30,6 +30,16 @@ module _ {M S R X : Type 0} (stands_for : M → X → Type 0) (moves : X → S �
           stands = seat.stands;
           history = record { last = legal.0; run = legal.1; own = history.1 };
         }
+
+    -- a seat after a call, whether it was made or not
+    pub call_stays : {T : Type 0} (s u : SeatOf M S R) (step : S) (result : Result R T)
+        → IsSeatFrom stands_for moves t x s → IsBeside s u
+        → IfOk result (λ r. Extends (view s) (entry (view s).number step r) (view u))
+        → IfErr result (λ _. Longer (view s) (view u)) → IsHistory stands_for moves (view u)
+        → IsSeatFrom stands_for moves t x u
+    call_stays s u step result seat beside extends longer history =
+        let same = same_either_way result (view s) (view u) (λ r. entry (view s).number step r) extends longer in
+        seat_stays s u seat beside same history
 
     -- a seat that has seen and made what another has
     pub same_seat : (s u : SeatOf M S R) → IsSeatFrom stands_for moves t x s → IsBeside s u → view u ≡ view s
@@ -78,7 +88,8 @@ module _ {M S R X : Type 0} (stands_for : M → X → Type 0) (moves : X → S �
             history = record {
               last = x;
               run = subst (λ (log : List (Entry S R)). Leads moves x log x) (sym seen) refl;
-              own = subst (λ (log : List (Entry S R)). calls_by (view s).number log ≡ (view s).mine) (sym seen) (sym mine);
+              own = subst (λ (log : List (Entry S R)). calls_by (view s).number log ≡ (view s).mine) (sym seen)
+                  (sym mine);
             };
           };
           first_is = is_first.1;

@@ -1,6 +1,6 @@
 -- From the heap to a queue: which calls `enqueue` and `deliver_one` have made, and what they answer (this project's
 -- profile; Java SE 17 has `Reference.enqueue`).
-use Rattle.std.specs.Prelude.{◌≡◌, ℕ, ◌≤◌, ◌⊎◌, Bool, true, false, List, length, Result, Ok, Err, Some}
+use Rattle.std.specs.Prelude.{◌≡◌, ℕ, ◌⊎◌, Bool, true, false, List, Result, Ok, Err, Some}
 use Rattle.std.specs.Prelude.{slice_get, slice_set}
 use Rattle.ref_base.specs.HeapSteps.{NamedStep}
 use Rattle.ref_base.specs.declared.fault.Fault.{Fault}
@@ -28,8 +28,8 @@ use Rattle.ref_share.specs.declared.shared_queue.QueueSeat.{QueueSeat}
 -- the seats are those of the queues, place by place
 abbrev pub AreSeats : {A : Type 0} → List (SharedQueue A) → List (QueueSeat A) → Type 0
 AreSeats {A = A} queues seats =
-    (k : ℕ) (queue : SharedQueue A) (seat : QueueSeat A) → slice_get queues k ≡ Some queue → slice_get seats k ≡ Some seat
-    → IsQueueSeat queue seat
+    (k : ℕ) (queue : SharedQueue A) (seat : QueueSeat A)
+    → slice_get queues k ≡ Some queue → slice_get seats k ≡ Some seat → IsQueueSeat queue seat
 
 -- whether the step may give a notice
 abbrev pub asks_for_a_notice : NamedStep → Bool
@@ -87,8 +87,8 @@ module _ {A : Type 0} (notice : HeldNotice) (seats : List (QueueSeat A)) where
   abbrev pub IsNotTaken : List (QueueSeat A) → Type 0
   IsNotTaken after = IsPut (Ok (puts.Already notice)) after ⊎ IsPut (Ok (puts.Closed notice)) after
 
-  -- the notice goes into its queue, and the heap does nothing; or no queue takes it, and its hold goes back to the heap;
-  -- or it could not be put in, and comes back
+  -- the notice goes into its queue, and the heap does nothing; or no queue takes it, and its hold goes back to the
+  -- heap; or it could not be put in, and comes back
   abbrev pub Sends : HeapView → Result Delivery ShareFault → HeapView → List (QueueSeat A) → Type 0
   Sends v (Ok (Added n q position)) w after =
       (n ≡ notice.hold.object) × (q ≡ notice.queue) × (w ≡ v) × IsPut (Ok (puts.Added position)) after

@@ -1,5 +1,5 @@
 -- What a heap does in one turn is a move of its machine.
-use Rattle.std.proofs.Common.{◌≡◌, ℕ, ap, sym, ◌∙◌, subst, refl}
+use Rattle.std.proofs.Common.{ℕ, ap, sym, ◌∙◌, subst, refl}
 use Rattle.ref_base.specs.CollectorRows.{IsHeapRow}
 use Rattle.ref_base.specs.HeapSteps.{NamedStep}
 use Rattle.ref_base.specs.declared.reply.Reply.{Reply}

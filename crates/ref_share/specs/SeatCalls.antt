@@ -1,5 +1,5 @@
 -- What a call of a seat has made, and why it made nothing.
-use Rattle.std.specs.Prelude.{◌≡◌, ℕ, ◌-◌, ◌^◌, List, [], ◌∷◌, ◌++◌, ◌⊎◌}
+use Rattle.std.specs.Prelude.{◌≡◌, ◌-◌, ◌^◌, List, ◌++◌}
 use Rattle.ref_turn.specs.History.{calls_by, StartsWith}
 use Rattle.ref_turn.specs.Seats.{entry, IsSame, Longer, Extends, SawBusy}
 use Rattle.ref_turn.specs.declared.history.Entry.{Entry}

@@ -33,7 +33,9 @@ impl Bell {
 
     /// Sleeps until it was rung more often than that, and listens no more.
     pub(crate) fn wait_past<R: Wait>(&self, rt: &R, heard: u64) {
-        let rings = self.rung.wait_while(rt, self.rings.lock(rt), |rings| *rings == heard);
+        let rings = self
+            .rung
+            .wait_while(rt, self.rings.lock(rt), |rings| *rings == heard);
         drop(rings);
         self.leave();
     }

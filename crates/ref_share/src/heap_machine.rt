@@ -26,11 +26,15 @@ impl<A: Allocator + Copy> Machine for HeapMachine<A> {
     ghost use Rattle.ref_share.specs.HeapMoves.{acts_as_a_row};
 
     type Step = HeapStep<Hold>;
+
     type Reply = HeapReply;
 
     ghost State = { HeapState };
+
     ghost stands_for = { StandsFor };
+
     ghost moves = { IsHeapMove };
+
     ghost acts = { Acts };
 
     fn apply(&mut self, step: HeapStep<Hold>) -> HeapReply {

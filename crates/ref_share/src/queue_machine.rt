@@ -61,11 +61,15 @@ impl<A: Allocator + Copy> Machine for QueueMachine<A> {
     ghost use Rattle.ref_share.specs.QueueMoves.{moves_as_it_acts};
 
     type Step = QueueStep;
+
     type Reply = QueueReply;
 
     ghost State = { NoticeLists };
+
     ghost stands_for = { λ m x. x ≡ m };
+
     ghost moves = { IsQueueMove };
+
     ghost acts = { IsQueueMove };
 
     fn apply(&mut self, step: QueueStep) -> QueueReply {

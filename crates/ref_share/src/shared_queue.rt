@@ -176,7 +176,11 @@ impl<A: Allocator + Copy> SharedQueue<A> {
     /// something may have come. It may never return. `Refused(TurnsSpent)` where no turn is left. Takes no memory.
     ///
     /// As `ReferenceQueue.remove` of Java SE 17, but that it tells a closed queue.
-    pub fn remove_wait<R: Wait>(&self, rt: &R, seat: &mut QueueSeat<A>) -> Result<Polled, ShareFault>
+    pub fn remove_wait<R: Wait>(
+        &self,
+        rt: &R,
+        seat: &mut QueueSeat<A>,
+    ) -> Result<Polled, ShareFault>
         requires { IsQueueSeat self.now seat.old }
         ensures seat { IsQueueSeat self.now seat.new }
         ensures polls { PollsUntil (queue_view seat.old) result (queue_view seat.new) }

@@ -10,4 +10,4 @@ pub returns-in-Ok : goal.returns-in-Ok
 returns-in-Ok g c =
     let ends = subst (λ s. EndsAs IsItself IsQueueMove (view s) c.in-Ok.machine) c.into_seat.ensures c.in-Ok.ensures in
     rw c.into_queue.ensures
-        (left_so IsItself IsQueueMove c.args.self.turn _ c.args.seat.seat c.in-Ok.machine c.requires ends)
+    (left_so IsItself IsQueueMove c.args.self.turn _ c.args.seat.seat c.in-Ok.machine c.requires ends)

@@ -6,4 +6,4 @@ use Rattle.ref_share.proofs.shared_queue.SharedQueue.join.Goals as goal
 pub returns-clause-seat : goal.returns-clause-seat
 returns-clause-seat g c =
     seat_stays IsItself IsQueueMove c.args.self.now.turn _ c.args.seat.now.seat c.join.new.seat c.requires.0
-        c.join.ensures.turn c.join.ensures.longer.0 c.join.ensures.history
+    c.join.ensures.turn c.join.ensures.longer.0 c.join.ensures.history

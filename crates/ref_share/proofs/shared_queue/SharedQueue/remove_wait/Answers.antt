@@ -1,5 +1,5 @@
 use Rattle.std.proofs.Common.{suc}
-use Rattle.ref_share.proofs.Polls.{made_none, one_more_empty, last_poll}
+use Rattle.ref_share.proofs.Polls.{made_none, one_more_empty}
 use Rattle.ref_share.specs.QueueSeats.{queue_view}
 use Rattle.ref_share.proofs.shared_queue.SharedQueue.remove_wait.Goals as goal
 

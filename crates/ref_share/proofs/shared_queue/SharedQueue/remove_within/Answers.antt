@@ -1,4 +1,4 @@
-use Rattle.ref_share.proofs.Polls.{made_none, one_more_empty, last_poll}
+use Rattle.ref_share.proofs.Polls.{made_none}
 use Rattle.ref_share.specs.QueueSeats.{queue_view}
 use Rattle.ref_share.proofs.shared_queue.SharedQueue.remove_within.Goals as goal
 

@@ -1,4 +1,3 @@
-use Rattle.std.proofs.Common.{ℕ}
 use Rattle.ref_share.specs.QueueCalls.{empty_polls}
 use Rattle.ref_share.specs.QueueSeats.{queue_view, IsQueueSeat}
 use Rattle.ref_share.specs.SeatCalls.{Made}
