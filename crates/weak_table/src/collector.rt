@@ -1,0 +1,134 @@
+//! The collector's thread.
+
+ghost use Rattle.std.specs.Prelude.{◌≡◌, true};
+ghost use Rattle.ref_share.specs.QueueSeats.{IsQueueSeat};
+ghost use Rattle.weak_table.specs.Steps.{hands_nothing_over};
+ghost use Rattle.weak_table.specs.Users.{IsUser, IsCollector};
+
+use crate::heap_user::{HeapUser, give_up};
+use ref_base::{Fault, HeapStep, Reply, Urgency, WorkerNo};
+use ref_objects::Hold;
+use ref_share::{Delivery, QueueSeat, SharedQueue, deliver_one};
+use std::slice;
+use std::sync::Wait;
+use std::sync::atomic::{AtomicU64, Ordering};
+
+const WORKER: WorkerNo = WorkerNo(0);
+
+/// Work of a cycle that is done bit by bit, until nothing is left of it.
+#[derive(Clone, Copy)]
+enum Work {
+    Scan,
+    Clear,
+    Sweep,
+}
+
+impl Work {
+    fn step(self) -> HeapStep<Hold>
+        ensures { hands_nothing_over result ≡ true }
+    {
+        let worker = WORKER;
+        match self {
+            Work::Scan => HeapStep::Scan { worker },
+            Work::Clear => HeapStep::ClearNext { worker },
+            Work::Sweep => HeapStep::Sweep { worker },
+        }
+    }
+}
+
+/// The collector's one worker, with the queues that it tells.
+#[derive(Drop)]
+pub struct Collector<'a> {
+    user: HeapUser<'a>,
+    queues: &'a [SharedQueue],
+    seats: [QueueSeat; 1],
+}
+
+impl<'a> Collector<'a> {
+    pub fn new(user: HeapUser<'a>, queue: &'a SharedQueue, seat: QueueSeat) -> Self
+        requires { IsUser user × IsQueueSeat queue.now seat }
+        ensures { IsCollector result }
+    {
+        Collector {
+            user,
+            queues: slice::from_ref(queue),
+            seats: [seat],
+        }
+    }
+
+    /// Runs cycles until one began after the program had ended.
+    pub fn run<R: Wait>(self, rt: &R, has_ended: &AtomicU64) -> Result<(), Fault>
+        requires { IsCollector self }
+    {
+        let mut collector = self;
+        for now in 0..u64::MAX {
+            let is_last = has_ended.load(Ordering::SeqCst) == 1;
+            collector.cycle(rt, now)?;
+            if is_last {
+                break;
+            }
+        }
+        Ok(())
+    }
+
+    // One cycle: what it finds dead is cleared, told to the queue, and freed.
+    fn cycle<R: Wait>(&mut self, rt: &R, now: u64) -> Result<(), Fault>
+        requires { IsCollector self.old }
+        ensures { IsCollector self.new }
+    {
+        let urgency = Urgency::Normal;
+        self.user.ask(rt, HeapStep::Begin { now, urgency })?;
+        self.mark(rt)?;
+        self.finish(rt, Work::Clear)?;
+        self.user.ask(rt, HeapStep::EndClear)?;
+        self.deliver(rt)?;
+        self.finish(rt, Work::Sweep)?;
+        self.user.ask(rt, HeapStep::EndSweep)?;
+        Ok(())
+    }
+
+    // Scans until the mark's end is accepted: what the program reads in between has to be scanned too.
+    fn mark<R: Wait>(&mut self, rt: &R) -> Result<(), Fault>
+        requires { IsCollector self.old }
+        ensures { IsCollector self.new }
+    {
+        for _ in rt.forever() {
+            self.finish(rt, Work::Scan)?;
+            match self.user.ask(rt, HeapStep::EndMark) {
+                Ok(_) => return Ok(()),
+                Err(Fault::GreyLeft) => {}
+                Err(fault) => return Err(fault),
+            }
+        }
+        unreachable!()
+    }
+
+    // Does the work until nothing is left of it.
+    fn finish<R: Wait>(&mut self, rt: &R, work: Work) -> Result<(), Fault>
+        requires { IsCollector self.old }
+        ensures { IsCollector self.new }
+    {
+        for _ in rt.forever() {
+            if self.user.ask(rt, work.step())? == Reply::Nothing {
+                return Ok(());
+            }
+        }
+        unreachable!()
+    }
+
+    // Hands on all that is pending.
+    fn deliver<R: Wait>(&mut self, rt: &R) -> Result<(), Fault>
+        requires { IsCollector self.old }
+        ensures { IsCollector self.new }
+    {
+        for _ in rt.forever() {
+            let HeapUser { heap, seat, .. } = &mut self.user;
+            match deliver_one(rt, heap, seat, self.queues, &mut self.seats, WORKER) {
+                Ok(Delivery::Nothing) => return Ok(()),
+                Ok(_) => {}
+                Err(fault) => give_up(fault)?,
+            }
+        }
+        unreachable!()
+    }
+}

@@ -1,0 +1,107 @@
+//! What a thread uses the heap with.
+
+ghost use Rattle.std.specs.Prelude.{◌≡◌, true};
+ghost use Rattle.weak_table.specs.Steps.{hands_nothing_over};
+ghost use Rattle.weak_table.specs.Users.{IsUser};
+ghost use Rattle.ref_share.specs.HeapSeats.{IsHeapSeat};
+
+use ref_base::{Fault, HeapStep, Reply};
+use ref_objects::Hold;
+use ref_share::{HeapSeat, ShareFault, SharedHeap};
+use ref_turn::TurnFault;
+use ref_world::HeapReply;
+use std::sync::Wait;
+
+/// The heap, with the seat of one thread.
+#[derive(Drop)]
+pub struct HeapUser<'a> {
+    pub heap: &'a SharedHeap,
+    pub seat: HeapSeat,
+}
+
+impl<'a> HeapUser<'a> {
+    pub fn new(heap: &'a SharedHeap, seat: HeapSeat) -> Self
+        requires { IsHeapSeat heap.now seat }
+        ensures { IsUser result }
+    {
+        HeapUser { heap, seat }
+    }
+
+    /// The same for one thread more.
+    pub fn split(&mut self) -> HeapUser<'a>
+        requires { IsUser self.old }
+        ensures { IsUser self.new × IsUser result }
+    {
+        let heap = self.heap;
+        HeapUser::new(heap, heap.split(&mut self.seat))
+    }
+
+    /// One step by which neither a hold nor a notice changes hands. A refusal is told as a fault.
+    pub fn ask<R: Wait>(&mut self, rt: &R, step: HeapStep<Hold>) -> Result<Reply, Fault>
+        requires user { IsUser self.old }
+        requires bare { hands_nothing_over step ≡ true }
+        ensures { IsUser self.new }
+    {
+        match self.heap.call(rt, &mut self.seat, step) {
+            Ok(HeapReply::Told(Reply::Refused(fault))) => Err(fault),
+            Ok(HeapReply::Told(reply)) => Ok(reply),
+            Ok(HeapReply::Notice(_notice)) => unreachable!(),
+            Ok(HeapReply::Held(_hold)) => unreachable!(),
+            Ok(HeapReply::Back(_, _hold)) => unreachable!(),
+            Err(TurnFault::Busy(_step)) => unreachable!(),
+            Err(TurnFault::Spent(step)) => {
+                spend(step);
+                Err(Fault::TurnsSpent)
+            }
+        }
+    }
+
+    /// Gives a hold back: what it holds is no root any more, but for what else leads to it.
+    pub fn release<R: Wait>(&mut self, rt: &R, hold: Hold) -> Result<(), Fault>
+        requires { IsUser self.old }
+        ensures { IsUser self.new }
+    {
+        match self
+            .heap
+            .call(rt, &mut self.seat, HeapStep::Release { hold })
+        {
+            Ok(HeapReply::Told(_)) => Ok(()),
+            Ok(HeapReply::Back(fault, hold)) => give_up(ShareFault::Held(hold, fault)),
+            Ok(HeapReply::Notice(_notice)) => unreachable!(),
+            Ok(HeapReply::Held(_hold)) => unreachable!(),
+            Err(TurnFault::Spent(HeapStep::Release { hold })) => {
+                give_up(ShareFault::Held(hold, Fault::TurnsSpent))
+            }
+            Err(TurnFault::Spent(_step)) => unreachable!(),
+            Err(TurnFault::Busy(_step)) => unreachable!(),
+        }
+    }
+}
+
+// Lets a step go that takes no hold along.
+fn spend(step: HeapStep<Hold>)
+    requires { hands_nothing_over step ≡ true }
+{
+    match step {
+        HeapStep::Adopt { hold: _hold, .. } => unreachable!(),
+        HeapStep::Release { hold: _hold } => unreachable!(),
+        _ => {}
+    }
+}
+
+/// What to do about a fault: nothing where another turn was open, since the call can be made again; else the thread
+/// ends, and what came back is given up.
+pub fn give_up(fault: ShareFault) -> Result<(), Fault> {
+    match fault {
+        ShareFault::Busy => Ok(()),
+        ShareFault::Refused(fault) => Err(fault),
+        ShareFault::Notice(notice, fault) => {
+            notice.into_hold().leak();
+            Err(fault)
+        }
+        ShareFault::Held(hold, fault) => {
+            hold.leak();
+            Err(fault)
+        }
+    }
+}
