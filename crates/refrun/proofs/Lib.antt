@@ -17,3 +17,4 @@ pub mod TraceLemmas
 pub mod ListingLemmas
 pub mod WriteLemmas
 pub mod ReadLemmas
+pub mod ListChecks

@@ -7,6 +7,7 @@ mod graph_text;
 pub mod laws;
 mod lines;
 mod listing;
+mod lists;
 mod mutator_steps;
 mod numerals;
 mod operands;
@@ -21,6 +22,7 @@ mod trace;
 
 pub use fault::{LineFault, TextFault};
 pub use listing::strength_text;
+pub use lists::{Check, check_lists};
 pub use sink::{TextSink, ToWriter, WriteFailed};
 pub use source::{FromReader, ReadError, TextSource};
 pub use trace::run_script;
