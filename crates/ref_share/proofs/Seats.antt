@@ -1,0 +1,94 @@
+-- The seats of a turn that began with a machine in a known state stay such seats.
+use Rattle.std.proofs.Common.{◌≡◌, ℕ, List, [], Some, refl, sym, ◌∙◌, subst}
+use Rattle.ref_turn.specs.History.{Leads, calls_by}
+use Rattle.ref_turn.specs.Seats.{IsSame, IsHistory, Begins, IsFirst, EndsAs}
+use Rattle.ref_turn.specs.Turns.{view, IsBeside, IsSeatOf}
+use Rattle.ref_turn.specs.declared.history.Entry.{Entry}
+use Rattle.ref_turn.specs.declared.history.View.{View}
+use Rattle.ref_turn.specs.declared.turn.SeatOf.{SeatOf}
+use Rattle.ref_turn.specs.declared.turn.Turn.{Turn}
+use Rattle.ref_share.specs.StartedSeats.{IsHistoryFrom, IsSeatFrom, IsFirstFrom, IsLeftFrom}
+
+module _ {M S R X : Type 0} (stands_for : M → X → Type 0) (moves : X → S → R → X → Type 0) where
+  module _ {A : Type 0} (t : Turn M A S R) (x : X) where
+    -- a seat after a call of its turn
+    pub seat_stays : (s u : SeatOf M S R) → IsSeatFrom stands_for moves t x s → IsBeside s u
+        → IsSame (view s) (view u) → IsHistory stands_for moves (view u) → IsSeatFrom stands_for moves t x u
+    seat_stays s u seat beside same history =
+        let start = same.2 ∙ seat.start in
+        let legal = history.0 seat.machine x start seat.stands in
+        record {
+          turn = beside ∙ seat.turn;
+          machine = seat.machine;
+          start = start;
+          stands = seat.stands;
+          history = record { last = legal.0; run = legal.1; own = history.1 };
+        }
+
+    -- a seat that has seen and made what another has
+    pub same_seat : (s u : SeatOf M S R) → IsSeatFrom stands_for moves t x s → IsBeside s u → view u ≡ view s
+        → IsSeatFrom stands_for moves t x u
+    same_seat s u seat beside same =
+        record {
+          turn = beside ∙ seat.turn;
+          machine = seat.machine;
+          start = subst (λ (v : View M S R). v.start ≡ Some seat.machine) (sym same) seat.start;
+          stands = seat.stands;
+          history = subst (λ (v : View M S R). IsHistoryFrom stands_for moves x v) (sym same) seat.history;
+        }
+
+    -- a seat that was cut off another
+    pub seat_begins : (s u : SeatOf M S R) → IsSeatFrom stands_for moves t x s → IsSeatOf t u
+        → Begins (view s) (view u) → IsSeatFrom stands_for moves t x u
+    seat_begins s u seat own begins =
+        let start = begins.2 in
+        let seen = begins.3 in
+        let mine = begins.4 in
+        let none = begins.5 in
+        record {
+          turn = own;
+          machine = seat.machine;
+          start = start ∙ seat.start;
+          stands = seat.stands;
+          history = record {
+            last = seat.history.last;
+            run = subst (λ (log : List (Entry S R)). Leads moves x log seat.history.last) (sym seen) seat.history.run;
+            own = none ∙ sym mine;
+          };
+        }
+
+    -- the first seat of a turn
+    pub first_seat : (s : SeatOf M S R) (first : ℕ) (m : M) → IsSeatOf t s → IsFirst first m (view s)
+        → stands_for m x → IsFirstFrom stands_for moves t x first s
+    first_seat s first m own is_first stands =
+        let seen = is_first.3 in
+        let mine = is_first.4 in
+        record {
+          seat = record {
+            turn = own;
+            machine = m;
+            start = is_first.2;
+            stands = stands;
+            history = record {
+              last = x;
+              run = subst (λ (log : List (Entry S R)). Leads moves x log x) (sym seen) refl;
+              own = subst (λ (log : List (Entry S R)). calls_by (view s).number log ≡ (view s).mine) (sym seen) (sym mine);
+            };
+          };
+          first_is = is_first.1;
+          seen = seen;
+          mine = mine;
+        }
+
+    -- the machine that a turn ends with
+    pub left_so : (s : SeatOf M S R) (m : M) → IsSeatFrom stands_for moves t x s → EndsAs stands_for moves (view s) m
+        → IsLeftFrom stands_for moves x (view s) m
+    left_so s m seat ends =
+        let reached = ends.3 seat.machine x seat.start seat.stands in
+        record {
+          log = ends.0;
+          begins = ends.1;
+          last = reached.0;
+          run = reached.1;
+          stands = reached.2;
+        }

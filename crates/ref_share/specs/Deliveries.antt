@@ -1,0 +1,88 @@
+-- From the heap to a queue: which calls `enqueue` and `deliver_one` have made, and what they answer (this project's
+-- profile; Java SE 17 has `Reference.enqueue`).
+use Rattle.std.specs.Prelude.{◌≡◌, ℕ, ◌≤◌, ◌⊎◌, Bool, true, false, List, length, Result, Ok, Err, Some}
+use Rattle.std.specs.Prelude.{slice_get, slice_set}
+use Rattle.ref_base.specs.HeapSteps.{NamedStep}
+use Rattle.ref_base.specs.declared.fault.Fault.{Fault}
+use Rattle.ref_base.specs.declared.fault.Fault.TheVariants.{BadQueue, TurnsSpent}
+use Rattle.ref_base.specs.declared.heap_step.HeapStep.TheVariants as heap
+use Rattle.ref_base.specs.declared.heap_step.HoldName.{HoldName}
+use Rattle.ref_base.specs.declared.reply.Reply.TheVariants as told
+use Rattle.ref_clear.specs.ClearHeaps.{HeldNotice}
+use Rattle.ref_queue.specs.declared.queue.Put.{Put}
+use Rattle.ref_queue.specs.declared.queue.Put.TheVariants as puts
+use Rattle.ref_world.specs.declared.heap_machine.HeapReply.{HeapReply}
+use Rattle.ref_world.specs.declared.heap_machine.HeapReply.TheVariants as replies
+use Rattle.ref_share.specs.HeapSeats.{HeapView}
+use Rattle.ref_share.specs.QueueCalls.{Puts}
+use Rattle.ref_share.specs.QueueSeats.{queue_view, IsQueueSeat}
+use Rattle.ref_share.specs.SeatCalls.{Called, RanOut}
+use Rattle.ref_share.specs.declared.answers.Delivery.{Delivery}
+use Rattle.ref_share.specs.declared.answers.Delivery.TheVariants.{Nothing, Added, Dropped}
+use Rattle.ref_share.specs.declared.answers.ShareFault.{ShareFault}
+use Rattle.ref_share.specs.declared.answers.ShareFault.TheVariants.{Refused, Notice, Held}
+use Rattle.ref_share.specs.declared.shared_queue.SharedQueue.{SharedQueue}
+use Rattle.ref_share.specs.declared.shared_queue.QueueSeat.{QueueSeat}
+
+-- the seats are those of the queues, place by place
+abbrev pub AreSeats : {A : Type 0} → List (SharedQueue A) → List (QueueSeat A) → Type 0
+AreSeats {A = A} queues seats =
+    (k : ℕ) (queue : SharedQueue A) (seat : QueueSeat A) → slice_get queues k ≡ Some queue → slice_get seats k ≡ Some seat
+    → IsQueueSeat queue seat
+
+-- whether the step may give a notice
+abbrev pub asks_for_a_notice : NamedStep → Bool
+asks_for_a_notice (heap.Unhook m s) = true
+asks_for_a_notice (heap.Hand k) = true
+asks_for_a_notice step = false
+
+-- what an enqueue answers
+abbrev pub was_added : Result Delivery ShareFault → Result Bool ShareFault
+was_added (Ok (Added n q position)) = Ok true
+was_added (Ok delivery) = Ok false
+was_added (Err fault) = Err fault
+
+-- the hold of this object goes back to the heap by a release; or that was refused, or no turn is left for it, and the
+-- hold comes back
+abbrev pub GivesBack : ℕ → HoldName → HeapView → Result Delivery ShareFault → HeapView → Type 0
+GivesBack n hold v (Ok (Dropped m)) w = (m ≡ n) × Called v (heap.Release hold) (replies.Told told.Done) w
+GivesBack n hold v (Err (Held back TurnsSpent)) w = (back ≡ hold) × RanOut v w
+GivesBack n hold v (Err (Held back fault)) w =
+    (back ≡ hold) × Called v (heap.Release hold) (replies.Back fault hold) w
+GivesBack n hold v result w = ⊥
+
+module _ {A : Type 0} (notice : HeldNotice) (v : HeapView) (seats : List (QueueSeat A)) where
+  -- the seat at the place of the notice's queue puts it in, and has this answer; the others do nothing
+  pub record IsPut (answer : Result (Put HeldNotice) (Fault × HeldNotice)) (after : List (QueueSeat A)) : Type 0 where
+    pub old : QueueSeat A
+    pub new : QueueSeat A
+    pub there : slice_get seats notice.queue ≡ Some old
+    pub after_is : after ≡ slice_set seats notice.queue new
+    pub puts : Puts (queue_view old) notice answer (queue_view new)
+
+  -- no queue takes it: it was put in before, or its queue is closed
+  abbrev pub IsNotTaken : List (QueueSeat A) → Type 0
+  IsNotTaken after = IsPut (Ok (puts.Already notice)) after ⊎ IsPut (Ok (puts.Closed notice)) after
+
+  -- the notice goes into its queue, and the heap does nothing; or no queue takes it, and its hold goes back to the heap;
+  -- or it could not be put in, and comes back
+  abbrev pub Sends : Result Delivery ShareFault → HeapView → List (QueueSeat A) → Type 0
+  Sends (Ok (Added n q position)) w after =
+      (n ≡ notice.hold.object) × (q ≡ notice.queue) × (w ≡ v) × IsPut (Ok (puts.Added position)) after
+  Sends (Err (Notice back BadQueue)) w after = (back ≡ notice) × (w ≡ v) × (after ≡ seats)
+  Sends (Err (Notice back fault)) w after = (back ≡ notice) × (w ≡ v) × IsPut (Err (fault, notice)) after
+  Sends result w after = IsNotTaken after × GivesBack notice.hold.object notice.hold v result w
+
+module _ {A : Type 0} (step : NamedStep) (v : HeapView) (seats : List (QueueSeat A)) where
+  -- the step is the heap's one call where it gives no notice
+  abbrev pub IsAlone : HeapReply → HeapView → List (QueueSeat A) → Type 0
+  IsAlone reply w after = Called v step reply w × (after ≡ seats)
+
+  -- the heap's step is called; the notice that it gives, if it gives one, is sent; or no turn is left for the step
+  abbrev pub Delivers : Result Delivery ShareFault → HeapView → List (QueueSeat A) → Type 0
+  Delivers (Ok Nothing) w after = IsAlone (replies.Told told.Nothing) w after
+  Delivers (Err (Refused TurnsSpent)) w after = RanOut v w × (after ≡ seats)
+  Delivers (Err (Refused fault)) w after = IsAlone (replies.Told (told.Refused fault)) w after
+  Delivers result w after =
+      (notice : HeldNotice) × (u : HeapView) × Called v step (replies.Notice notice) u
+      × Sends notice u seats result w after

@@ -1,0 +1,51 @@
+-- The seats of a shared heap (this project's profile).
+use Rattle.std.specs.Prelude.{◌≡◌, ℕ, List}
+use Rattle.ref_base.specs.Collectors.{first_state}
+use Rattle.ref_base.specs.HeapSteps.{NamedStep}
+use Rattle.ref_base.specs.declared.config.Config.{Config}
+use Rattle.ref_clear.specs.ClearHeaps.{ClearHeap}
+use Rattle.ref_turn.specs.History.{Leads}
+use Rattle.ref_turn.specs.Turns.{view}
+use Rattle.ref_turn.specs.declared.history.Entry.{Entry}
+use Rattle.ref_turn.specs.declared.history.View.{View}
+use Rattle.ref_world.specs.declared.heap_machine.HeapReply.{HeapReply}
+use Rattle.ref_share.specs.HeapMachines.{HeapState, StandsFor, IsHeapMove}
+use Rattle.ref_share.specs.StartedSeats.{IsSeatFrom, IsFirstFrom, IsLeftFrom}
+use Rattle.ref_share.specs.declared.shared_heap.SharedHeap.{SharedHeap}
+use Rattle.ref_share.specs.declared.shared_heap.HeapSeat.{HeapSeat}
+
+abbrev pub HeapView : Type 0
+HeapView = View ClearHeap NamedStep HeapReply
+
+-- one call in the history of a heap: the number of the seat that made it, its step and its reply
+abbrev pub HeapEntry : Type 0
+HeapEntry = Entry NamedStep HeapReply
+
+-- what a seat knows
+abbrev pub heap_view : {A : Type 0} → HeapSeat A → HeapView
+heap_view s = view s.seat
+
+-- the first state of a heap of this configuration and number
+abbrev pub first_heap_state : Config → ℕ → HeapState
+first_heap_state config number = record { number = number; state = first_state config }
+
+-- the calls are a run of the heap's machine, from its first state
+abbrev pub IsHeapRun : Config → ℕ → List HeapEntry → HeapState → Type 0
+IsHeapRun config number calls last = Leads IsHeapMove (first_heap_state config number) calls last
+
+module _ {A : Type 0} (heap : SharedHeap A) where
+  -- the seat is one of this heap, and what it has seen is a run of the heap's machine from its first state
+  abbrev pub IsHeapSeat : HeapSeat A → Type 0
+  IsHeapSeat s =
+      IsSeatFrom StandsFor IsHeapMove heap.turn (first_heap_state heap.config heap.heap_no) s.seat
+
+  -- the heap was just made, so, with its first seat
+  pub record IsNewHeap (config : Config) (number first : ℕ) (s : HeapSeat A) : Type 0 where
+    pub config_is : heap.config ≡ config
+    pub number_is : heap.heap_no ≡ number
+    pub seat : IsFirstFrom StandsFor IsHeapMove heap.turn (first_heap_state config number) first s.seat
+
+  -- a run of the heap's machine that begins with what was seen leaves the heap
+  abbrev pub LeavesHeap : HeapView → ClearHeap → Type 0
+  LeavesHeap v c =
+      IsLeftFrom StandsFor IsHeapMove (first_heap_state heap.config heap.heap_no) v c

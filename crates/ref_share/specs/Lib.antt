@@ -1,0 +1,11 @@
+pub mod HeapMachines
+pub mod HeapMoves
+pub mod QueueMachines
+pub mod QueueMoves
+pub mod SeatCalls
+pub mod StartedSeats
+pub mod HeapSeats
+pub mod QueueSeats
+pub mod QueueCalls
+pub mod Deliveries
+pub mod QueueStates

@@ -1,0 +1,83 @@
+-- What the calls of a shared queue answer, as calls that its seat has made (this project's profile).
+use Rattle.std.specs.Prelude.{◌≡◌, ℕ, ◌-◌, ◌^◌, ◌<◌, Bool, List, [], ◌∷◌, ◌++◌, replicate, Result, Ok, Err}
+use Rattle.ref_base.specs.declared.fault.Fault.{Fault}
+use Rattle.ref_base.specs.declared.fault.Fault.TheVariants.{TurnsSpent}
+use Rattle.ref_clear.specs.ClearHeaps.{HeldNotice}
+use Rattle.ref_queue.specs.declared.queue.Put.{Put}
+use Rattle.ref_queue.specs.declared.queue.Polled.{Polled as Answer}
+use Rattle.ref_queue.specs.declared.queue.Polled.TheVariants as answers
+use Rattle.ref_turn.specs.Seats.{entry}
+use Rattle.ref_share.specs.QueueSeats.{QueueView, QueueEntry}
+use Rattle.ref_share.specs.SeatCalls.{Called, Made, RanOut, FoundBusy}
+use Rattle.ref_share.specs.declared.answers.Polled.{Polled}
+use Rattle.ref_share.specs.declared.answers.Polled.TheVariants.{Took, Empty, Closed, TimedOut}
+use Rattle.ref_share.specs.declared.answers.ShareFault.{ShareFault}
+use Rattle.ref_share.specs.declared.answers.ShareFault.TheVariants.{Refused, Busy}
+use Rattle.ref_share.specs.declared.queue_machine.QueueStep.{QueueStep}
+use Rattle.ref_share.specs.declared.queue_machine.QueueStep.TheVariants as steps
+use Rattle.ref_share.specs.declared.queue_machine.QueueReply.{QueueReply}
+use Rattle.ref_share.specs.declared.queue_machine.QueueReply.TheVariants as replies
+
+-- a step that takes no notice along
+abbrev pub IsBare : QueueStep → Type 0
+IsBare (steps.Put notice) = ⊥
+IsBare steps.Poll = Unit {0}
+IsBare steps.Close = Unit {0}
+
+-- the reply that a poll gives, told as the answer of a shared queue
+abbrev pub TellsPoll : QueueReply → Polled → Type 0
+TellsPoll (replies.Polled (answers.Took notice)) told = told ≡ Took notice
+TellsPoll (replies.Polled answers.Empty) told = told ≡ Empty
+TellsPoll (replies.Polled answers.Closed) told = told ≡ Closed
+TellsPoll reply told = ⊥
+
+abbrev pub IsPollReply : QueueReply → Type 0
+IsPollReply (replies.Polled answer) = Unit {0}
+IsPollReply reply = ⊥
+
+module _ (v : QueueView) where
+  -- the entry of a poll of this seat, answered so
+  abbrev pub polled : Answer HeldNotice → QueueEntry
+  polled answer = entry v.number steps.Poll (replies.Polled answer)
+
+  -- so many polls of this seat, which found nothing
+  abbrev pub empty_polls : ℕ → List QueueEntry
+  empty_polls count = replicate count (polled answers.Empty)
+
+  -- a put is one call, and answers as it does; or no turn is left, and the notice comes back
+  abbrev pub Puts : HeldNotice → Result (Put HeldNotice) (Fault × HeldNotice) → QueueView → Type 0
+  Puts notice (Err (TurnsSpent, back)) w = (back ≡ notice) × RanOut v w
+  Puts notice answer w = Called v (steps.Put notice) (replies.Put answer) w
+
+  -- one poll is one call, and answers as it does; or none was made, since the turn was not free, or none is left
+  abbrev pub PollsNow : Result Polled ShareFault → QueueView → Type 0
+  PollsNow (Ok (Took notice)) w = Called v steps.Poll (replies.Polled (answers.Took notice)) w
+  PollsNow (Ok Empty) w = Called v steps.Poll (replies.Polled answers.Empty) w
+  PollsNow (Ok Closed) w = Called v steps.Poll (replies.Polled answers.Closed) w
+  PollsNow (Err Busy) w = FoundBusy v w
+  PollsNow (Err (Refused TurnsSpent)) w = RanOut v w
+  PollsNow answer w = ⊥
+
+  -- after fewer empty polls than the limit, if there is one, the last answer; or all were empty; or no turn is left
+  abbrev pub PollsTo : (ℕ → Type 0) → (QueueView → Type 0) → Result Polled ShareFault → QueueView → Type 0
+  PollsTo MayGo TimesOut (Ok (Took notice)) w =
+      (k : ℕ) × MayGo k × Made v (empty_polls k ++ polled (answers.Took notice) ∷ []) w
+  PollsTo MayGo TimesOut (Ok Closed) w = (k : ℕ) × MayGo k × Made v (empty_polls k ++ polled answers.Closed ∷ []) w
+  PollsTo MayGo TimesOut (Ok TimedOut) w = TimesOut w
+  PollsTo MayGo TimesOut (Err (Refused TurnsSpent)) w =
+      (k : ℕ) × MayGo k × Made v (empty_polls k) w × (w.drawn ≡ 2 ^ 64 - 1)
+  PollsTo MayGo TimesOut answer w = ⊥
+
+  -- up to so many polls, all of them empty but perhaps the last
+  abbrev pub PollsWithin : ℕ → Result Polled ShareFault → QueueView → Type 0
+  PollsWithin polls = PollsTo (λ k. k < polls) (λ w. Made v (empty_polls polls) w)
+
+  -- polls, all of them empty but the last
+  abbrev pub PollsUntil : Result Polled ShareFault → QueueView → Type 0
+  PollsUntil = PollsTo (λ k. Unit {0}) (λ w. ⊥)
+
+  -- a close is one call, and tells whether the queue was open; or no turn is left
+  abbrev pub Closes : Result Bool ShareFault → QueueView → Type 0
+  Closes (Ok was_open) w = Called v steps.Close (replies.Closed was_open) w
+  Closes (Err (Refused TurnsSpent)) w = RanOut v w
+  Closes answer w = ⊥

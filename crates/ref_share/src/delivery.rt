@@ -1,0 +1,167 @@
+//! From the heap to a queue: a notice that the heap gives is put into its own queue, by one thread, in turns of its
+//! own. No lock is held between them.
+
+ghost use Rattle.std.specs.Prelude.{◌≡◌, true};
+ghost use Rattle.ref_base.specs.declared.heap_step.HeapStep.TheVariants as steps;
+ghost use Rattle.ref_share.specs.HeapSeats.{heap_view, IsHeapSeat};
+ghost use Rattle.ref_share.specs.Deliveries.{AreSeats, Sends, Delivers, GivesBack, asks_for_a_notice, was_added};
+
+use crate::{Delivery, HeapSeat, QueueSeat, ShareFault, SharedHeap, SharedQueue};
+use ref_base::{Fault, HeapStep, MutNo, ObjNo, Parcel, Reply, SlotNo, WorkerNo};
+use ref_clear::Notice;
+use ref_objects::Hold;
+use ref_queue::Put;
+use ref_turn::TurnFault;
+use ref_world::HeapReply;
+use std::alloc::Allocator;
+use std::sync::Wait;
+
+/// Clears the reference in the mutator's slot and puts its notice into its queue: as `Reference.enqueue` of Java SE 17.
+/// True exactly where it was added; false where it has no queue, was ever enqueued before, or its queue is closed (this
+/// project's profile).
+///
+/// Three turns at most: an unhook of the heap, a put of the queue, and, where it was not added, a release of the notice
+/// by the heap. The lists have an entry for each queue of the heap's configuration, in order, by the caller.
+///
+/// `Refused` with the faults of an unhook, or `TurnsSpent` where the heap has no turn left: then nothing was done.
+/// `Notice` where the notice could not be put in: `TurnsSpent` where the queue has no turn left, `NoMemory`, and
+/// `BadQueue` or `WrongQueue` where the lists have no such queue at its place. `Held` where the heap has no turn left
+/// for the release, or doesn't count the hold.
+pub fn enqueue<R: Wait, A: Allocator + Copy>(
+    rt: &R,
+    heap: &SharedHeap<A>,
+    heap_seat: &mut HeapSeat<A>,
+    queues: &[SharedQueue<A>],
+    queue_seats: &mut [QueueSeat<A>],
+    mutator: MutNo,
+    slot: SlotNo,
+) -> Result<bool, ShareFault>
+    requires { IsHeapSeat heap.now heap_seat.old × AreSeats queues.now queue_seats.old }
+    ensures seats { IsHeapSeat heap.now heap_seat.new × AreSeats queues.now queue_seats.new }
+    ensures calls { (delivery : _) × (result ≡ was_added delivery)
+        × Delivers (steps.Unhook mutator slot) (heap_view heap_seat.old) queue_seats.old delivery
+        (heap_view heap_seat.new) queue_seats.new }
+{
+    let step = HeapStep::Unhook {
+        mutator,
+        reference: slot,
+    };
+    match deliver(rt, heap, heap_seat, queues, queue_seats, step) {
+        Ok(Delivery::Added(..)) => Ok(true),
+        Ok(_) => Ok(false),
+        Err(fault) => Err(fault),
+    }
+}
+
+/// Hands on the first of the worker's pending references: its notice goes into its queue. `Nothing` exactly where none
+/// is pending. `Dropped` where the reference was ever enqueued before, or its queue is closed.
+///
+/// Turns, lists and faults are as those of `enqueue`, with the faults of a hand.
+pub fn deliver_one<R: Wait, A: Allocator + Copy>(
+    rt: &R,
+    heap: &SharedHeap<A>,
+    heap_seat: &mut HeapSeat<A>,
+    queues: &[SharedQueue<A>],
+    queue_seats: &mut [QueueSeat<A>],
+    worker: WorkerNo,
+) -> Result<Delivery, ShareFault>
+    requires { IsHeapSeat heap.now heap_seat.old × AreSeats queues.now queue_seats.old }
+    ensures seats { IsHeapSeat heap.now heap_seat.new × AreSeats queues.now queue_seats.new }
+    ensures calls { Delivers (steps.Hand worker) (heap_view heap_seat.old) queue_seats.old result
+        (heap_view heap_seat.new) queue_seats.new }
+{
+    let step = HeapStep::Hand { worker };
+    deliver(rt, heap, heap_seat, queues, queue_seats, step)
+}
+
+// One step of the heap that may give a notice, which then goes into its queue.
+fn deliver<R: Wait, A: Allocator + Copy>(
+    rt: &R,
+    heap: &SharedHeap<A>,
+    heap_seat: &mut HeapSeat<A>,
+    queues: &[SharedQueue<A>],
+    queue_seats: &mut [QueueSeat<A>],
+    step: HeapStep<Hold>,
+) -> Result<Delivery, ShareFault>
+    requires seats { IsHeapSeat heap.now heap_seat.old × AreSeats queues.now queue_seats.old }
+    requires step { asks_for_a_notice step ≡ true }
+    ensures seats { IsHeapSeat heap.now heap_seat.new × AreSeats queues.now queue_seats.new }
+    ensures calls { Delivers step (heap_view heap_seat.old) queue_seats.old result
+        (heap_view heap_seat.new) queue_seats.new }
+{
+    match heap.call(rt, heap_seat, step) {
+        Ok(HeapReply::Notice(notice)) => send(rt, heap, heap_seat, queues, queue_seats, notice),
+        Ok(HeapReply::Told(Reply::Refused(fault))) => Err(ShareFault::Refused(fault)),
+        Ok(HeapReply::Told(_)) => Ok(Delivery::Nothing),
+        Ok(HeapReply::Held(_hold)) => unreachable!(),
+        Ok(HeapReply::Back(_, _hold)) => unreachable!(),
+        Err(TurnFault::Busy(_step)) => unreachable!(),
+        Err(TurnFault::Spent(step)) => {
+            spend(step);
+            Err(ShareFault::Refused(Fault::TurnsSpent))
+        }
+    }
+}
+
+// The notice goes into its queue, or back to the heap where the queue doesn't take it.
+fn send<R: Wait, A: Allocator + Copy>(
+    rt: &R,
+    heap: &SharedHeap<A>,
+    heap_seat: &mut HeapSeat<A>,
+    queues: &[SharedQueue<A>],
+    queue_seats: &mut [QueueSeat<A>],
+    notice: Notice,
+) -> Result<Delivery, ShareFault>
+    requires { IsHeapSeat heap.now heap_seat.old × AreSeats queues.now queue_seats.old }
+    ensures seats { IsHeapSeat heap.now heap_seat.new × AreSeats queues.now queue_seats.new }
+    ensures sends { Sends notice (heap_view heap_seat.old) queue_seats.old result
+        (heap_view heap_seat.new) queue_seats.new }
+{
+    let object = notice.obj();
+    let queue = notice.queue();
+    let place = queue.0 as usize;
+    if place >= queues.len() || place >= queue_seats.len() {
+        return Err(ShareFault::Notice(notice, Fault::BadQueue));
+    }
+    match queues[place].put(rt, &mut queue_seats[place], notice) {
+        Ok(Put::Added(position)) => Ok(Delivery::Added(object, queue, position)),
+        Ok(Put::Already(back)) => give_back(rt, heap, heap_seat, object, back.into_hold()),
+        Ok(Put::Closed(back)) => give_back(rt, heap, heap_seat, object, back.into_hold()),
+        Err((fault, back)) => Err(ShareFault::Notice(back, fault)),
+    }
+}
+
+// The hold of a notice that no queue took goes back to the heap.
+fn give_back<R: Wait, A: Allocator + Copy>(
+    rt: &R,
+    heap: &SharedHeap<A>,
+    seat: &mut HeapSeat<A>,
+    object: ObjNo,
+    hold: Hold,
+) -> Result<Delivery, ShareFault>
+    requires { IsHeapSeat heap.now seat.old }
+    ensures seat { IsHeapSeat heap.now seat.new }
+    ensures gives { GivesBack object hold (heap_view seat.old) result (heap_view seat.new) }
+{
+    match heap.call(rt, seat, HeapStep::Release { hold }) {
+        Ok(HeapReply::Told(_)) => Ok(Delivery::Dropped(object)),
+        Ok(HeapReply::Back(fault, hold)) => Err(ShareFault::Held(hold, fault)),
+        Ok(HeapReply::Notice(_notice)) => unreachable!(),
+        Ok(HeapReply::Held(_hold)) => unreachable!(),
+        Err(TurnFault::Spent(HeapStep::Release { hold })) => {
+            Err(ShareFault::Held(hold, Fault::TurnsSpent))
+        }
+        Err(TurnFault::Spent(_step)) => unreachable!(),
+        Err(TurnFault::Busy(_step)) => unreachable!(),
+    }
+}
+
+// Lets a step go that takes no hold along.
+fn spend(step: HeapStep<Hold>)
+    requires { asks_for_a_notice step ≡ true }
+{
+    match step {
+        HeapStep::Unhook { .. } | HeapStep::Hand { .. } => {}
+        _step => unreachable!(),
+    }
+}

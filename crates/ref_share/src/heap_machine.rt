@@ -1,0 +1,41 @@
+//! The heap as a machine of turns.
+
+use ref_base::HeapStep;
+use ref_objects::Hold;
+use ref_turn::Machine;
+use ref_world::{HeapReply, WorldHeap, apply_heap};
+use std::alloc::{Allocator, Global};
+use std::marker::Model;
+
+/// A heap, whose turns are its steps. Its relation is that of the heap's own machine (`IsHeapRow` of `ref_base`).
+#[derive(Drop)]
+pub struct HeapMachine<A: Allocator = Global> {
+    pub(crate) heap: WorldHeap<A>,
+}
+
+impl<A: Allocator> Model for HeapMachine<A> {
+    ghost use Rattle.ref_clear.specs.ClearHeaps.{ClearHeap};
+
+    ghost Value = { ClearHeap };
+
+    ghost view = { λ m. m.heap };
+}
+
+impl<A: Allocator + Copy> Machine for HeapMachine<A> {
+    ghost use Rattle.ref_share.specs.HeapMachines.{HeapState, StandsFor, IsHeapMove, Acts};
+    ghost use Rattle.ref_share.specs.HeapMoves.{acts_as_a_row};
+
+    type Step = HeapStep<Hold>;
+    type Reply = HeapReply;
+
+    ghost State = { HeapState };
+    ghost stands_for = { StandsFor };
+    ghost moves = { IsHeapMove };
+    ghost acts = { Acts };
+
+    fn apply(&mut self, step: HeapStep<Hold>) -> HeapReply {
+        apply_heap(&mut self.heap, step)
+    }
+
+    ghost follows = { acts_as_a_row };
+}

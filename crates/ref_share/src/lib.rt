@@ -1,0 +1,22 @@
+//! A heap and its queues for running threads. Each is one value behind a turn of its own: a call of any thread is one
+//! step of it, and stands once in the one legal history of that value. So what is proved of lists of steps holds of
+//! what threads do, turn by turn; and a thread that polls a queue never waits for the heap.
+//!
+//! `heap_machine` and `queue_machine` say what one step is, `shared_heap` and `shared_queue` are the shared values with
+//! their seats, and `delivery` carries a notice from the heap to its queue.
+#![tactic(auto)]
+
+mod answers;
+mod bell;
+mod delivery;
+mod heap_machine;
+mod queue_machine;
+mod shared_heap;
+mod shared_queue;
+
+pub use answers::{Delivery, Polled, ShareFault};
+pub use delivery::{deliver_one, enqueue};
+pub use heap_machine::HeapMachine;
+pub use queue_machine::{QueueMachine, QueueReply, QueueStep};
+pub use shared_heap::{HeapSeat, SharedHeap};
+pub use shared_queue::{MOST_POLLS, QueueSeat, SharedQueue};

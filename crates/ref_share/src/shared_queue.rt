@@ -1,0 +1,298 @@
+//! The queue that threads share.
+
+ghost use Rattle.std.specs.Prelude.{◌≡◌, ◌≢◌, ◌+◌, ◌<◌, ◌≤◌, ◌⊎◌, IfOk, Err, length};
+ghost use Rattle.ref_base.specs.declared.fault.Fault.TheVariants.{BadConfig};
+ghost use Rattle.ref_turn.specs.Seats.{Longer, Begins};
+ghost use Rattle.ref_share.specs.declared.answers.ShareFault.TheVariants.{Refused, Busy};
+ghost use Rattle.ref_share.specs.SeatCalls.{TookIn};
+ghost use Rattle.ref_share.specs.QueueSeats.{queue_view, IsQueueSeat, IsNewQueue, LeavesQueue};
+ghost use Rattle.ref_share.specs.QueueCalls.{Puts, PollsNow, PollsWithin, PollsUntil, Closes};
+ghost use Rattle.ref_share.specs.QueueCalls.{IsBare, IsPollReply, TellsPoll};
+
+use crate::bell::Bell;
+use crate::{Polled, QueueMachine, QueueReply, QueueStep, ShareFault};
+use ref_base::{Fault, QueueNo};
+use ref_clear::Notice;
+use ref_queue::{Polled as Answer, Put, Queue};
+use ref_turn::{Turn, TurnFault, TurnSeat};
+use std::alloc::{Allocator, Global};
+use std::sync::Wait;
+use std::thread;
+
+/// The most polls that `remove_within` may be asked for.
+pub const MOST_POLLS: u32 = 1_000_000;
+
+/// A queue that threads share: those that put notices in, and those that poll. Each call is one turn: one step of the
+/// queue. It must be ended by `finish`, since what stands in it must be.
+pub struct SharedQueue<A: Allocator + Copy = Global> {
+    turn: Turn<QueueMachine<A>, A>,
+    queue: QueueNo,
+    // Rung where something may have come for those that wait in `remove_wait`.
+    bell: Bell,
+}
+
+/// What one thread uses a shared queue with: a few bytes, with the queue's number.
+#[derive(Drop)]
+pub struct QueueSeat<A: Allocator + Copy = Global> {
+    queue: QueueNo,
+    seat: TurnSeat<QueueMachine<A>>,
+}
+
+impl<A: Allocator + Copy> SharedQueue<A> {
+    /// The queue of this number, open, with nothing ever put in, and its first seat. The one refusal is `NoMemory`.
+    pub fn new(alloc: A, queue: QueueNo) -> Result<(Self, QueueSeat<A>), Fault>
+        ensures made { IfOk result (λ made. IsNewQueue made.0 queue 0 made.1) }
+    {
+        Self::starting(alloc, queue, 0)
+    }
+
+    /// The same, whose turns are counted from `first` on: `u64::MAX - first` of them can be made.
+    pub fn starting(alloc: A, queue: QueueNo, first: u64) -> Result<(Self, QueueSeat<A>), Fault>
+        ensures made { IfOk result (λ made. IsNewQueue made.0 queue first made.1) }
+    {
+        let machine = QueueMachine {
+            queue: Queue::new(alloc, queue),
+        };
+        match Turn::starting(alloc, machine, first) {
+            Ok((turn, seat)) => {
+                let shared = SharedQueue {
+                    turn,
+                    queue,
+                    bell: Bell::new(),
+                };
+                Ok((shared, QueueSeat { queue, seat }))
+            }
+            Err((fault, machine)) => {
+                machine.into_queue().end().destroy_empty();
+                Err(fault)
+            }
+        }
+    }
+
+    /// Its number. Takes no turn.
+    pub fn number(&self) -> QueueNo
+        ensures { result ≡ self.now.queue }
+    {
+        self.queue
+    }
+
+    /// Puts a notice in, last, once the turn is free. Its refusals are those of `Queue::put`, with `TurnsSpent` before
+    /// them where no turn is left; the notice comes back, as it does with `Already` and `Closed`. Only `Added` takes
+    /// memory.
+    pub fn put<R: Wait>(
+        &self,
+        rt: &R,
+        seat: &mut QueueSeat<A>,
+        notice: Notice,
+    ) -> Result<Put<Notice>, (Fault, Notice)>
+        requires { IsQueueSeat self.now seat.old }
+        ensures seat { IsQueueSeat self.now seat.new }
+        ensures puts { Puts (queue_view seat.old) notice result (queue_view seat.new) }
+    {
+        match self.turn.call(rt, &mut seat.seat, QueueStep::Put(notice)) {
+            Ok(QueueReply::Put(answer)) => {
+                self.bell.ring(rt);
+                answer
+            }
+            Ok(QueueReply::Polled(_answer)) => unreachable!(),
+            Ok(QueueReply::Closed(_)) => unreachable!(),
+            Err(TurnFault::Spent(QueueStep::Put(notice))) => Err((Fault::TurnsSpent, notice)),
+            Err(TurnFault::Spent(_step)) => unreachable!(),
+            Err(TurnFault::Busy(_step)) => unreachable!(),
+        }
+    }
+
+    /// Takes the first that stands, or answers that nothing does, at once or not at all: `Busy` where another turn is
+    /// open, or took this one. `Refused(TurnsSpent)` where no turn is left. Never `TimedOut`. Takes no memory.
+    pub fn poll_now(&self, seat: &mut QueueSeat<A>) -> Result<Polled, ShareFault>
+        requires { IsQueueSeat self.now seat.old }
+        ensures seat { IsQueueSeat self.now seat.new }
+        ensures polls { PollsNow (queue_view seat.old) result (queue_view seat.new) }
+    {
+        match self.turn.try_call(&mut seat.seat, QueueStep::Poll) {
+            Ok(reply) => Ok(polled(reply)),
+            Err(TurnFault::Busy(step)) => {
+                spend(step);
+                Err(ShareFault::Busy)
+            }
+            Err(TurnFault::Spent(step)) => {
+                spend(step);
+                Err(ShareFault::Refused(Fault::TurnsSpent))
+            }
+        }
+    }
+
+    // The same, once the turn is free: never `Busy`.
+    fn poll<R: Wait>(&self, rt: &R, seat: &mut QueueSeat<A>) -> Result<Polled, ShareFault>
+        requires { IsQueueSeat self.now seat.old }
+        ensures seat { IsQueueSeat self.now seat.new }
+        ensures polls { PollsNow (queue_view seat.old) result (queue_view seat.new) }
+        ensures waits { result ≢ Err Busy }
+    {
+        match self.turn.call(rt, &mut seat.seat, QueueStep::Poll) {
+            Ok(reply) => Ok(polled(reply)),
+            Err(TurnFault::Busy(_step)) => unreachable!(),
+            Err(TurnFault::Spent(step)) => {
+                spend(step);
+                Err(ShareFault::Refused(Fault::TurnsSpent))
+            }
+        }
+    }
+
+    /// Polls up to so many times, from 1 to 1,000,000, and answers `TimedOut` where nothing stood each time: a limit of
+    /// waiting counts polls. Tried in this order: `Refused(BadConfig)` where `polls` is outside its range,
+    /// `Refused(TurnsSpent)` where no turn is left. Never `Empty` or `Busy`. Takes no memory.
+    pub fn remove_within<R: Wait>(
+        &self,
+        rt: &R,
+        seat: &mut QueueSeat<A>,
+        polls: u32,
+    ) -> Result<Polled, ShareFault>
+        requires { IsQueueSeat self.now seat.old }
+        ensures seat { IsQueueSeat self.now seat.new }
+        ensures polls { 0 < polls → polls ≤ 1000000
+            → PollsWithin (queue_view seat.old) polls result (queue_view seat.new) }
+        ensures outside { (polls ≡ 0) ⊎ (1000000 < polls)
+            → (result ≡ Err (Refused BadConfig)) × (queue_view seat.new ≡ queue_view seat.old) }
+    {
+        if polls == 0 || polls > MOST_POLLS {
+            return Err(ShareFault::Refused(Fault::BadConfig));
+        }
+        for _ in 0..polls {
+            match self.poll(rt, seat) {
+                Ok(Polled::Empty) => thread::yield_now(),
+                answer => return answer,
+            }
+        }
+        Ok(Polled::TimedOut)
+    }
+
+    /// Polls until something stands, or the queue is closed and nothing does; between two polls it sleeps until
+    /// something may have come. It may never return. `Refused(TurnsSpent)` where no turn is left. Takes no memory.
+    ///
+    /// As `ReferenceQueue.remove` of Java SE 17, but that it tells a closed queue.
+    pub fn remove_wait<R: Wait>(&self, rt: &R, seat: &mut QueueSeat<A>) -> Result<Polled, ShareFault>
+        requires { IsQueueSeat self.now seat.old }
+        ensures seat { IsQueueSeat self.now seat.new }
+        ensures polls { PollsUntil (queue_view seat.old) result (queue_view seat.new) }
+    {
+        for _ in rt.forever() {
+            // What is rung from here on is heard, so that nothing that comes after the poll is slept through.
+            let heard = self.bell.listen(rt);
+            let answer = self.poll(rt, seat);
+            match answer {
+                Ok(Polled::Empty) => self.bell.wait_past(rt, heard),
+                answer => {
+                    self.bell.leave();
+                    return answer;
+                }
+            }
+        }
+        unreachable!()
+    }
+
+    /// Closes the queue: no put adds anything from now on. True exactly where it was open. `Refused(TurnsSpent)` where
+    /// no turn is left. Takes no memory.
+    pub fn close<R: Wait>(&self, rt: &R, seat: &mut QueueSeat<A>) -> Result<bool, ShareFault>
+        requires { IsQueueSeat self.now seat.old }
+        ensures seat { IsQueueSeat self.now seat.new }
+        ensures closes { Closes (queue_view seat.old) result (queue_view seat.new) }
+    {
+        match self.turn.call(rt, &mut seat.seat, QueueStep::Close) {
+            Ok(QueueReply::Closed(was_open)) => {
+                self.bell.ring_for_all(rt);
+                Ok(was_open)
+            }
+            Ok(QueueReply::Polled(_answer)) => unreachable!(),
+            Ok(QueueReply::Put(_answer)) => unreachable!(),
+            Err(TurnFault::Busy(_step)) => unreachable!(),
+            Err(TurnFault::Spent(step)) => {
+                spend(step);
+                Err(ShareFault::Refused(Fault::TurnsSpent))
+            }
+        }
+    }
+
+    /// How many turns have ended, and the first ticket with them.
+    pub fn served(&self, seat: &mut QueueSeat<A>) -> u64
+        requires { IsQueueSeat self.now seat.old }
+        ensures seat { IsQueueSeat self.now seat.new }
+        ensures longer { Longer (queue_view seat.old) (queue_view seat.new) }
+        ensures count { result ≡ (queue_view seat.new).first + length (queue_view seat.new).seen }
+    {
+        self.turn.served(&mut seat.seat)
+    }
+
+    /// A seat for one thread more. It has seen what this one has.
+    pub fn split(&self, seat: &mut QueueSeat<A>) -> QueueSeat<A>
+        requires { IsQueueSeat self.now seat.old }
+        ensures seat { IsQueueSeat self.now seat.new × IsQueueSeat self.now result }
+        ensures same { queue_view seat.new ≡ queue_view seat.old }
+        ensures begins { Begins (queue_view seat.old) (queue_view result) }
+    {
+        QueueSeat {
+            queue: self.queue,
+            seat: self.turn.split(&mut seat.seat),
+        }
+    }
+
+    /// Takes a seat in: this one has then seen what either had.
+    pub fn join(&self, seat: &mut QueueSeat<A>, other: QueueSeat<A>)
+        requires { IsQueueSeat self.now seat.old × IsQueueSeat self.now other }
+        ensures seat { IsQueueSeat self.now seat.new }
+        ensures joined { TookIn (queue_view seat.old) (queue_view other) (queue_view seat.new) }
+    {
+        self.turn.join(&mut seat.seat, other.into_seat())
+    }
+
+    /// Gives the queue back, with what stands in it. Where a turn is open, which is only while another thread is in a
+    /// call, what the slot of the turn held comes back.
+    pub fn finish(self, seat: QueueSeat<A>) -> Result<Queue<Notice, A>, Option<Queue<Notice, A>>>
+        requires { IsQueueSeat self seat }
+        ensures { IfOk result (λ queue. LeavesQueue self (queue_view seat) queue) }
+    {
+        let SharedQueue {
+            turn,
+            queue: _,
+            bell: _,
+        } = self;
+        match turn.finish(seat.into_seat()) {
+            Ok(machine) => Ok(machine.into_queue()),
+            Err(Some(machine)) => Err(Some(machine.into_queue())),
+            Err(None) => Err(None),
+        }
+    }
+}
+
+impl<A: Allocator + Copy> QueueSeat<A> {
+    fn into_seat(self) -> TurnSeat<QueueMachine<A>>
+        ensures { result ≡ self.seat }
+    {
+        let QueueSeat { queue: _, seat } = self;
+        seat
+    }
+}
+
+// The answer to a poll.
+fn polled(reply: QueueReply) -> Polled
+    requires { IsPollReply reply }
+    ensures { TellsPoll reply result }
+{
+    match reply {
+        QueueReply::Polled(Answer::Took(notice)) => Polled::Took(notice),
+        QueueReply::Polled(Answer::Empty) => Polled::Empty,
+        QueueReply::Polled(Answer::Closed) => Polled::Closed,
+        QueueReply::Put(_answer) => unreachable!(),
+        QueueReply::Closed(_) => unreachable!(),
+    }
+}
+
+// Lets a step go that takes no notice along.
+fn spend(step: QueueStep)
+    requires { IsBare step }
+{
+    match step {
+        QueueStep::Put(_notice) => unreachable!(),
+        QueueStep::Poll | QueueStep::Close => {}
+    }
+}

@@ -1,0 +1,5 @@
+pub mod Logs
+pub mod Stays
+pub mod Keeps
+pub mod Comings
+pub mod Runs

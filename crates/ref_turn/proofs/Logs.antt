@@ -1,0 +1,96 @@
+-- Facts of histories as lists.
+use Rattle.std.proofs.Common.{◌≡◌, ◌≢◌, ◌==◌, ℕ, Bool, true, false, eq-eqb, ne_eqb, if◌then◌else◌}
+use Rattle.std.proofs.Common.{List, [], ◌∷◌, ◌++◌, length, append_assoc, length-append}
+use Rattle.std.proofs.Common.{◌≤◌, refl, sym, ap, ◌∙◌, subst, arith, Option, Some}
+use Rattle.std.proofs.lemmas.List.{append-nil}
+use Rattle.std.proofs.lemmas.Option.{same_Some}
+use Rattle.ref_turn.specs.declared.history.Entry.{Entry}
+use Rattle.ref_turn.specs.History.{calls_by, StartsWith, Leads, Reaches, IsLegal}
+
+-- a list is empty where what it begins is empty
+pub nil_before : {A : Type 0} (xs ys : List A) → xs ++ ys ≡ [] → xs ≡ []
+nil_before [] ys none = refl
+nil_before (x ∷ xs) ys none = absurd (omega (arith, ap length none))
+
+nil_at_end : {A : Type 0} (xs ys : List A) → length (xs ++ ys) ≤ length xs → ys ≡ []
+nil_at_end xs [] small = refl
+nil_at_end xs (y ∷ ys) small = absurd (omega (arith, length-append xs (y ∷ ys)))
+
+module _ {S R : Type 0} where
+  if_append : (b : Bool) (e : Entry S R) (xs ys zs : List (Entry S R)) → zs ≡ xs ++ ys
+      → (if b then e ∷ zs else zs) ≡ (if b then e ∷ xs else xs) ++ ys
+  if_append true e xs ys zs is = ap (λ l. e ∷ l) is
+  if_append false e xs ys zs is = is
+
+  pub calls_by-append : (n : ℕ) (xs ys : List (Entry S R)) → calls_by n (xs ++ ys) ≡ calls_by n xs ++ calls_by n ys
+  calls_by-append n [] ys = refl
+  calls_by-append n (e ∷ es) ys =
+      if_append (e.by == n) e (calls_by n es) (calls_by n ys) (calls_by n (es ++ ys)) (calls_by-append n es ys)
+
+  -- an own call stands last among the own calls
+  pub calls_by-own : (n : ℕ) (xs : List (Entry S R)) (e : Entry S R) → e.by ≡ n
+      → calls_by n (xs ++ e ∷ []) ≡ calls_by n xs ++ e ∷ []
+  calls_by-own n xs e own =
+      calls_by-append n xs (e ∷ [])
+      ∙ ap (λ (b : Bool). calls_by n xs ++ (if b then e ∷ [] else [])) (eq-eqb e.by n own)
+
+  -- another seat's call is none of the own calls
+  pub calls_by-other : (n : ℕ) (xs : List (Entry S R)) (e : Entry S R) → e.by ≢ n
+      → calls_by n (xs ++ e ∷ []) ≡ calls_by n xs
+  calls_by-other n xs e other =
+      calls_by-append n xs (e ∷ [])
+      ∙ ap (λ (b : Bool). calls_by n xs ++ (if b then e ∷ [] else [])) (ne_eqb e.by n other)
+      ∙ append-nil (calls_by n xs)
+
+  -- a seat with no call in a history has none in its beginning
+  pub calls_by-none : (n : ℕ) (log seen : List (Entry S R)) → StartsWith log seen → calls_by n log ≡ []
+      → calls_by n seen ≡ []
+  calls_by-none n log seen begins none =
+      nil_before (calls_by n seen) (calls_by n begins.0)
+      (sym (calls_by-append n seen begins.0) ∙ ap (calls_by n) (sym begins.1) ∙ none)
+
+  pub starts_self : (log : List (Entry S R)) → StartsWith log log
+  starts_self log = ([], sym (append-nil log))
+
+  pub starts_more : (log seen more : List (Entry S R)) → StartsWith log seen → StartsWith (log ++ more) seen
+  starts_more log seen more begins =
+      (begins.0 ++ more, ap (λ l. l ++ more) begins.1 ∙ append_assoc seen begins.0 more)
+
+  pub starts_through : (log seen less : List (Entry S R)) → StartsWith log seen → StartsWith seen less
+      → StartsWith log less
+  starts_through log seen less begins before =
+      (before.0 ++ begins.0, begins.1 ∙ ap (λ l. l ++ begins.0) before.1 ∙ append_assoc less before.0 begins.0)
+
+  pub starts_length : (log seen : List (Entry S R)) → StartsWith log seen → length seen ≤ length log
+  starts_length log seen begins = omega (arith, ap length begins.1, length-append seen begins.0)
+
+  -- what was seen is all, where it is as long
+  pub starts_whole : (log seen : List (Entry S R)) → StartsWith log seen → length log ≤ length seen → seen ≡ log
+  starts_whole log seen begins small =
+      let more : List (Entry S R) = begins.0 in
+      let all : more ≡ [] =
+      nil_at_end seen more (subst (λ (l : List (Entry S R)). length l ≤ length seen) begins.1 small) in
+      sym (begins.1 ∙ ap (λ l. seen ++ l) all ∙ append-nil seen)
+
+  module _ {X : Type 0} (moves : X → S → R → X → Type 0) where
+    leads-snoc : (log : List (Entry S R)) (e : Entry S R) (x y z : X) → Leads moves x log y → moves y e.step e.reply z
+        → Leads moves x (log ++ e ∷ []) z
+    leads-snoc [] e x y z led did = (z, subst (λ (w : X). moves w e.step e.reply z) (sym led) did, refl)
+    leads-snoc (d ∷ log) e x y z led did = (led.0, led.1, leads-snoc log e led.0 y z led.2 did)
+
+  module _ {M X : Type 0} (stands_for : M → X → Type 0) (moves : X → S → R → X → Type 0) where
+    pub reaches_legal : (start : Option M) (log : List (Entry S R)) (m : M) → Reaches stands_for moves start log m
+        → IsLegal stands_for moves start log
+    reaches_legal start log m reaches a x is stands = let y = reaches a x is stands in (y.0, y.1)
+
+    -- one step more leads to the machine after it
+    pub reaches-snoc : (start : Option M) (log : List (Entry S R)) (m n : M) (e : Entry S R)
+        → ((x : X) → stands_for m x → (y : X) × moves x e.step e.reply y × stands_for n y)
+        → Reaches stands_for moves start log m → Reaches stands_for moves start (log ++ e ∷ []) n
+    reaches-snoc start log m n e follows reaches a x is stands =
+        let y = reaches a x is stands in let z = follows y.0 y.2 in
+        (z.0, leads-snoc moves log e x y.0 z.0 y.1 z.1, z.2)
+
+    -- the first machine is reached by no call
+    pub reaches_start : (m : M) → Reaches stands_for moves (Some m) [] m
+    reaches_start m a x is stands = (x, refl, subst (λ (b : M). stands_for b x) (sym (same_Some m a is)) stands)

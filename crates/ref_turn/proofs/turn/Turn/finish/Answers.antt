@@ -1,0 +1,23 @@
+use Rattle.std.proofs.Common.{refl, sym, ap, ◌∙◌, subst, IsSome}
+use Rattle.std.proofs.lemmas.Option.{same_Some}
+use Rattle.ref_turn.proofs.Comings.{finishes}
+use Rattle.ref_turn.specs.Seats.{EndsAs}
+use Rattle.ref_turn.proofs.turn.Turn.finish.Goals as goal
+
+pub unwrap-requires : goal.unwrap-requires
+unwrap-requires g c =
+    let idle = ap (λ p. p.me.0.stage) c.into_place.ensures ∙ c.args.seat.between.0 in
+    let end =
+    finishes _ _ _ _ c.into_place.result.me.0 _ _ _ _ _ idle c.close_with-closed.ensures.values.2 c.word.ensures
+    c.word-2.ensures c.if-is_open.false c.take-slot.ensures.value in
+    subst IsSome (sym end.1) refl
+
+pub returns : goal.returns
+returns g c =
+    let idle = ap (λ p. p.me.0.stage) c.into_place.ensures ∙ c.args.seat.between.0 in
+    let end =
+    finishes _ _ _ _ c.into_place.result.me.0 _ _ _ _ _ idle c.close_with-closed.ensures.values.2 c.word.ensures
+    c.word-2.ensures c.if-is_open.false c.take-slot.ensures.value in
+    subst (λ p. EndsAs g.M.Machine.stands_for g.M.Machine.moves p.me.0 c.unwrap.result) c.into_place.ensures
+    (subst (EndsAs g.M.Machine.stands_for g.M.Machine.moves c.into_place.result.me.0)
+    (same_Some _ _ (sym end.1 ∙ c.unwrap.ensures)) end.2)

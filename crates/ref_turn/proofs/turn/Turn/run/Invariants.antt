@@ -1,0 +1,6 @@
+use Rattle.std.proofs.Common.{Some}
+use Rattle.ref_turn.specs.Seats.{entry}
+use Rattle.ref_turn.proofs.turn.Turn.run.Given as goal
+
+abbrev pub ghosts-append : goal.ghosts-append
+ghosts-append g a = record { entry = Some (entry a.place.now.me.0.number a.asked.now.value a.reply.now) }

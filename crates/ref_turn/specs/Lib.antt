@@ -1,0 +1,5 @@
+pub mod History
+pub mod Rule
+pub mod Steps
+pub mod Seats
+pub mod Turns
