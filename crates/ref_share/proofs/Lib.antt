@@ -1,1 +1,4 @@
 pub mod Seats
+pub mod Polls
+pub mod Notices
+pub mod Places

@@ -1,13 +1,19 @@
 -- The seats of a turn that began with a machine in a known state stay such seats.
-use Rattle.std.proofs.Common.{◌≡◌, ℕ, List, [], Some, refl, sym, ◌∙◌, subst}
+use Rattle.std.proofs.Common.{◌≡◌, ℕ, List, [], Some, refl, sym, ◌∙◌, subst, Result, Ok, Err, IfOk, IfErr}
 use Rattle.ref_turn.specs.History.{Leads, calls_by}
-use Rattle.ref_turn.specs.Seats.{IsSame, IsHistory, Begins, IsFirst, EndsAs}
+use Rattle.ref_turn.specs.Seats.{IsSame, IsHistory, Begins, IsFirst, EndsAs, Extends, Longer}
 use Rattle.ref_turn.specs.Turns.{view, IsBeside, IsSeatOf}
 use Rattle.ref_turn.specs.declared.history.Entry.{Entry}
 use Rattle.ref_turn.specs.declared.history.View.{View}
 use Rattle.ref_turn.specs.declared.turn.SeatOf.{SeatOf}
 use Rattle.ref_turn.specs.declared.turn.Turn.{Turn}
 use Rattle.ref_share.specs.StartedSeats.{IsHistoryFrom, IsSeatFrom, IsFirstFrom, IsLeftFrom}
+
+-- a call that was made, or was not, leaves its own seat
+pub same_either_way : {M S R T E : Type 0} (result : Result T E) (v w : View M S R) (made : T → Entry S R)
+    → IfOk result (λ r. Extends v (made r) w) → IfErr result (λ _. Longer v w) → IsSame v w
+same_either_way (Ok r) v w made extends longer = extends.0
+same_either_way (Err e) v w made extends longer = longer.0
 
 module _ {M S R X : Type 0} (stands_for : M → X → Type 0) (moves : X → S → R → X → Type 0) where
   module _ {A : Type 0} (t : Turn M A S R) (x : X) where

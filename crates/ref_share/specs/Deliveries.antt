@@ -7,6 +7,7 @@ use Rattle.ref_base.specs.declared.fault.Fault.{Fault}
 use Rattle.ref_base.specs.declared.fault.Fault.TheVariants.{BadQueue, TurnsSpent}
 use Rattle.ref_base.specs.declared.heap_step.HeapStep.TheVariants as heap
 use Rattle.ref_base.specs.declared.heap_step.HoldName.{HoldName}
+use Rattle.ref_base.specs.declared.reply.Reply.{Reply}
 use Rattle.ref_base.specs.declared.reply.Reply.TheVariants as told
 use Rattle.ref_clear.specs.ClearHeaps.{HeldNotice}
 use Rattle.ref_queue.specs.declared.queue.Put.{Put}
@@ -36,6 +37,18 @@ asks_for_a_notice (heap.Unhook m s) = true
 asks_for_a_notice (heap.Hand k) = true
 asks_for_a_notice step = false
 
+-- whether the reply to such a step tells that there is none, or that the step is refused
+abbrev pub gives_no_notice : Reply → Bool
+gives_no_notice told.Nothing = true
+gives_no_notice (told.Refused fault) = true
+gives_no_notice reply = false
+
+-- what is answered then
+abbrev pub TellsOfNone : Reply → Result Delivery ShareFault → Type 0
+TellsOfNone told.Nothing result = result ≡ Ok Nothing
+TellsOfNone (told.Refused fault) result = result ≡ Err (Refused fault)
+TellsOfNone reply result = ⊥
+
 -- what an enqueue answers
 abbrev pub was_added : Result Delivery ShareFault → Result Bool ShareFault
 was_added (Ok (Added n q position)) = Ok true
@@ -51,8 +64,8 @@ GivesBack n hold v (Err (Held back fault)) w =
     (back ≡ hold) × Called v (heap.Release hold) (replies.Back fault hold) w
 GivesBack n hold v result w = ⊥
 
-module _ {A : Type 0} (notice : HeldNotice) (v : HeapView) (seats : List (QueueSeat A)) where
-  -- the seat at the place of the notice's queue puts it in, and has this answer; the others do nothing
+module _ {A : Type 0} (notice : HeldNotice) (seats : List (QueueSeat A)) where
+  -- the seat at the place of the notice's queue puts it in, with this answer; the others do nothing
   pub record IsPut (answer : Result (Put HeldNotice) (Fault × HeldNotice)) (after : List (QueueSeat A)) : Type 0 where
     pub old : QueueSeat A
     pub new : QueueSeat A
@@ -60,18 +73,22 @@ module _ {A : Type 0} (notice : HeldNotice) (v : HeapView) (seats : List (QueueS
     pub after_is : after ≡ slice_set seats notice.queue new
     pub puts : Puts (queue_view old) notice answer (queue_view new)
 
+  -- or there is no queue at that place, and none does anything
+  abbrev pub PutsAt : Result (Put HeldNotice) (Fault × HeldNotice) → List (QueueSeat A) → Type 0
+  PutsAt (Err (BadQueue, back)) after = after ≡ seats
+  PutsAt answer after = IsPut answer after
+
   -- no queue takes it: it was put in before, or its queue is closed
   abbrev pub IsNotTaken : List (QueueSeat A) → Type 0
   IsNotTaken after = IsPut (Ok (puts.Already notice)) after ⊎ IsPut (Ok (puts.Closed notice)) after
 
   -- the notice goes into its queue, and the heap does nothing; or no queue takes it, and its hold goes back to the heap;
   -- or it could not be put in, and comes back
-  abbrev pub Sends : Result Delivery ShareFault → HeapView → List (QueueSeat A) → Type 0
-  Sends (Ok (Added n q position)) w after =
+  abbrev pub Sends : HeapView → Result Delivery ShareFault → HeapView → List (QueueSeat A) → Type 0
+  Sends v (Ok (Added n q position)) w after =
       (n ≡ notice.hold.object) × (q ≡ notice.queue) × (w ≡ v) × IsPut (Ok (puts.Added position)) after
-  Sends (Err (Notice back BadQueue)) w after = (back ≡ notice) × (w ≡ v) × (after ≡ seats)
-  Sends (Err (Notice back fault)) w after = (back ≡ notice) × (w ≡ v) × IsPut (Err (fault, notice)) after
-  Sends result w after = IsNotTaken after × GivesBack notice.hold.object notice.hold v result w
+  Sends v (Err (Notice back fault)) w after = (back ≡ notice) × (w ≡ v) × PutsAt (Err (fault, notice)) after
+  Sends v result w after = IsNotTaken after × GivesBack notice.hold.object notice.hold v result w
 
 module _ {A : Type 0} (step : NamedStep) (v : HeapView) (seats : List (QueueSeat A)) where
   -- the step is the heap's one call where it gives no notice
@@ -85,4 +102,4 @@ module _ {A : Type 0} (step : NamedStep) (v : HeapView) (seats : List (QueueSeat
   Delivers (Err (Refused fault)) w after = IsAlone (replies.Told (told.Refused fault)) w after
   Delivers result w after =
       (notice : HeldNotice) × (u : HeapView) × Called v step (replies.Notice notice) u
-      × Sends notice u seats result w after
+      × Sends notice seats u result w after

@@ -1,9 +1,11 @@
 -- What the calls of a shared queue answer, as calls that its seat has made (this project's profile).
-use Rattle.std.specs.Prelude.{◌≡◌, ℕ, ◌-◌, ◌^◌, ◌<◌, Bool, List, [], ◌∷◌, ◌++◌, replicate, Result, Ok, Err}
+use Rattle.std.specs.Prelude.{◌≡◌, ℕ, ◌-◌, ◌^◌, ◌<◌, Bool, true, false, List, [], ◌∷◌, ◌++◌, replicate}
+use Rattle.std.specs.Prelude.{Result, Ok, Err, Option, Some, None}
 use Rattle.ref_base.specs.declared.fault.Fault.{Fault}
-use Rattle.ref_base.specs.declared.fault.Fault.TheVariants.{TurnsSpent}
+use Rattle.ref_base.specs.declared.fault.Fault.TheVariants.{WrongQueue, NoMemory, TurnsSpent}
 use Rattle.ref_clear.specs.ClearHeaps.{HeldNotice}
 use Rattle.ref_queue.specs.declared.queue.Put.{Put}
+use Rattle.ref_queue.specs.declared.queue.Put.TheVariants as puts
 use Rattle.ref_queue.specs.declared.queue.Polled.{Polled as Answer}
 use Rattle.ref_queue.specs.declared.queue.Polled.TheVariants as answers
 use Rattle.ref_turn.specs.Seats.{entry}
@@ -35,6 +37,20 @@ abbrev pub IsPollReply : QueueReply → Type 0
 IsPollReply (replies.Polled answer) = Unit {0}
 IsPollReply reply = ⊥
 
+-- the faults with which a put is refused
+abbrev pub refuses_put : Fault → Bool
+refuses_put WrongQueue = true
+refuses_put NoMemory = true
+refuses_put TurnsSpent = true
+refuses_put fault = false
+
+-- a notice that was not put in comes back
+abbrev pub IsBack : HeldNotice → Result (Put HeldNotice) (Fault × HeldNotice) → Type 0
+IsBack notice (Ok (puts.Added position)) = Unit {0}
+IsBack notice (Ok (puts.Already back)) = back ≡ notice
+IsBack notice (Ok (puts.Closed back)) = back ≡ notice
+IsBack notice (Err refused) = refused.1 ≡ notice
+
 module _ (v : QueueView) where
   -- the entry of a poll of this seat, answered so
   abbrev pub polled : Answer HeldNotice → QueueEntry
@@ -57,6 +73,14 @@ module _ (v : QueueView) where
   PollsNow (Err Busy) w = FoundBusy v w
   PollsNow (Err (Refused TurnsSpent)) w = RanOut v w
   PollsNow answer w = ⊥
+
+  -- the same of one poll that waits for its turn, where none is the answer that nothing stood
+  abbrev pub PollsOnce : Option (Result Polled ShareFault) → QueueView → Type 0
+  PollsOnce None w = Called v steps.Poll (replies.Polled answers.Empty) w
+  PollsOnce (Some (Ok (Took notice))) w = Called v steps.Poll (replies.Polled (answers.Took notice)) w
+  PollsOnce (Some (Ok Closed)) w = Called v steps.Poll (replies.Polled answers.Closed) w
+  PollsOnce (Some (Err (Refused TurnsSpent))) w = RanOut v w
+  PollsOnce answer w = ⊥
 
   -- after fewer empty polls than the limit, if there is one, the last answer; or all were empty; or no turn is left
   abbrev pub PollsTo : (ℕ → Type 0) → (QueueView → Type 0) → Result Polled ShareFault → QueueView → Type 0

@@ -4,7 +4,9 @@
 ghost use Rattle.std.specs.Prelude.{◌≡◌, true};
 ghost use Rattle.ref_base.specs.declared.heap_step.HeapStep.TheVariants as steps;
 ghost use Rattle.ref_share.specs.HeapSeats.{heap_view, IsHeapSeat};
-ghost use Rattle.ref_share.specs.Deliveries.{AreSeats, Sends, Delivers, GivesBack, asks_for_a_notice, was_added};
+ghost use Rattle.ref_share.specs.Deliveries.{AreSeats, PutsAt, Sends, Delivers, GivesBack, was_added};
+ghost use Rattle.ref_share.specs.QueueCalls.{IsBack};
+ghost use Rattle.ref_share.specs.Deliveries.{asks_for_a_notice, gives_no_notice, TellsOfNone};
 
 use crate::{Delivery, HeapSeat, QueueSeat, ShareFault, SharedHeap, SharedQueue};
 use ref_base::{Fault, HeapStep, MutNo, ObjNo, Parcel, Reply, SlotNo, WorkerNo};
@@ -91,8 +93,7 @@ fn deliver<R: Wait, A: Allocator + Copy>(
 {
     match heap.call(rt, heap_seat, step) {
         Ok(HeapReply::Notice(notice)) => send(rt, heap, heap_seat, queues, queue_seats, notice),
-        Ok(HeapReply::Told(Reply::Refused(fault))) => Err(ShareFault::Refused(fault)),
-        Ok(HeapReply::Told(_)) => Ok(Delivery::Nothing),
+        Ok(HeapReply::Told(reply)) => without_notice(reply),
         Ok(HeapReply::Held(_hold)) => unreachable!(),
         Ok(HeapReply::Back(_, _hold)) => unreachable!(),
         Err(TurnFault::Busy(_step)) => unreachable!(),
@@ -100,6 +101,18 @@ fn deliver<R: Wait, A: Allocator + Copy>(
             spend(step);
             Err(ShareFault::Refused(Fault::TurnsSpent))
         }
+    }
+}
+
+// What is answered where the heap gave no notice: that there is none, or why not.
+fn without_notice(reply: Reply) -> Result<Delivery, ShareFault>
+    requires { gives_no_notice reply ≡ true }
+    ensures { TellsOfNone reply result }
+{
+    match reply {
+        Reply::Nothing => Ok(Delivery::Nothing),
+        Reply::Refused(fault) => Err(ShareFault::Refused(fault)),
+        _ => unreachable!(),
     }
 }
 
@@ -114,21 +127,36 @@ fn send<R: Wait, A: Allocator + Copy>(
 ) -> Result<Delivery, ShareFault>
     requires { IsHeapSeat heap.now heap_seat.old × AreSeats queues.now queue_seats.old }
     ensures seats { IsHeapSeat heap.now heap_seat.new × AreSeats queues.now queue_seats.new }
-    ensures sends { Sends notice (heap_view heap_seat.old) queue_seats.old result
+    ensures sends { Sends notice queue_seats.old (heap_view heap_seat.old) result
         (heap_view heap_seat.new) queue_seats.new }
 {
     let object = notice.obj();
     let queue = notice.queue();
-    let place = queue.0 as usize;
-    if place >= queues.len() || place >= queue_seats.len() {
-        return Err(ShareFault::Notice(notice, Fault::BadQueue));
-    }
-    match queues[place].put(rt, &mut queue_seats[place], notice) {
+    match put_at(rt, queues, queue_seats, notice) {
         Ok(Put::Added(position)) => Ok(Delivery::Added(object, queue, position)),
         Ok(Put::Already(back)) => give_back(rt, heap, heap_seat, object, back.into_hold()),
         Ok(Put::Closed(back)) => give_back(rt, heap, heap_seat, object, back.into_hold()),
         Err((fault, back)) => Err(ShareFault::Notice(back, fault)),
     }
+}
+
+// The queue at the place of the notice's own puts it in.
+fn put_at<R: Wait, A: Allocator + Copy>(
+    rt: &R,
+    queues: &[SharedQueue<A>],
+    seats: &mut [QueueSeat<A>],
+    notice: Notice,
+) -> Result<Put<Notice>, (Fault, Notice)>
+    requires { AreSeats queues.now seats.old }
+    ensures seats { AreSeats queues.now seats.new }
+    ensures puts { PutsAt notice seats.old result seats.new }
+    ensures back { IsBack notice result }
+{
+    let place = notice.queue().0 as usize;
+    if place >= queues.len() || place >= seats.len() {
+        return Err((Fault::BadQueue, notice));
+    }
+    queues[place].put(rt, &mut seats[place], notice)
 }
 
 // The hold of a notice that no queue took goes back to the heap.

@@ -1,13 +1,13 @@
 //! The queue that threads share.
 
-ghost use Rattle.std.specs.Prelude.{◌≡◌, ◌≢◌, ◌+◌, ◌<◌, ◌≤◌, ◌⊎◌, IfOk, Err, length};
+ghost use Rattle.std.specs.Prelude.{◌≡◌, ◌+◌, ◌<◌, ◌≤◌, ◌⊎◌, true, IfOk, IfErr, Err, length};
 ghost use Rattle.ref_base.specs.declared.fault.Fault.TheVariants.{BadConfig};
 ghost use Rattle.ref_turn.specs.Seats.{Longer, Begins};
 ghost use Rattle.ref_share.specs.declared.answers.ShareFault.TheVariants.{Refused, Busy};
 ghost use Rattle.ref_share.specs.SeatCalls.{TookIn};
 ghost use Rattle.ref_share.specs.QueueSeats.{queue_view, IsQueueSeat, IsNewQueue, LeavesQueue};
 ghost use Rattle.ref_share.specs.QueueCalls.{Puts, PollsNow, PollsWithin, PollsUntil, Closes};
-ghost use Rattle.ref_share.specs.QueueCalls.{IsBare, IsPollReply, TellsPoll};
+ghost use Rattle.ref_share.specs.QueueCalls.{IsBack, IsBare, IsPollReply, PollsOnce, TellsPoll, refuses_put};
 
 use crate::bell::Bell;
 use crate::{Polled, QueueMachine, QueueReply, QueueStep, ShareFault};
@@ -88,6 +88,8 @@ impl<A: Allocator + Copy> SharedQueue<A> {
         requires { IsQueueSeat self.now seat.old }
         ensures seat { IsQueueSeat self.now seat.new }
         ensures puts { Puts (queue_view seat.old) notice result (queue_view seat.new) }
+        ensures back { IsBack notice result }
+        ensures faults { IfErr result (λ refused. refuses_put refused.0 ≡ true) }
     {
         match self.turn.call(rt, &mut seat.seat, QueueStep::Put(notice)) {
             Ok(QueueReply::Put(answer)) => {
@@ -122,19 +124,22 @@ impl<A: Allocator + Copy> SharedQueue<A> {
         }
     }
 
-    // The same, once the turn is free: never `Busy`.
-    fn poll<R: Wait>(&self, rt: &R, seat: &mut QueueSeat<A>) -> Result<Polled, ShareFault>
+    // One poll, once the turn is free: its answer, or none where nothing stood.
+    fn poll<R: Wait>(&self, rt: &R, seat: &mut QueueSeat<A>) -> Option<Result<Polled, ShareFault>>
         requires { IsQueueSeat self.now seat.old }
         ensures seat { IsQueueSeat self.now seat.new }
-        ensures polls { PollsNow (queue_view seat.old) result (queue_view seat.new) }
-        ensures waits { result ≢ Err Busy }
+        ensures polls { PollsOnce (queue_view seat.old) result (queue_view seat.new) }
     {
         match self.turn.call(rt, &mut seat.seat, QueueStep::Poll) {
-            Ok(reply) => Ok(polled(reply)),
+            Ok(QueueReply::Polled(Answer::Took(notice))) => Some(Ok(Polled::Took(notice))),
+            Ok(QueueReply::Polled(Answer::Empty)) => None,
+            Ok(QueueReply::Polled(Answer::Closed)) => Some(Ok(Polled::Closed)),
+            Ok(QueueReply::Put(_answer)) => unreachable!(),
+            Ok(QueueReply::Closed(_)) => unreachable!(),
             Err(TurnFault::Busy(_step)) => unreachable!(),
             Err(TurnFault::Spent(step)) => {
                 spend(step);
-                Err(ShareFault::Refused(Fault::TurnsSpent))
+                Some(Err(ShareFault::Refused(Fault::TurnsSpent)))
             }
         }
     }
@@ -159,10 +164,10 @@ impl<A: Allocator + Copy> SharedQueue<A> {
             return Err(ShareFault::Refused(Fault::BadConfig));
         }
         for _ in 0..polls {
-            match self.poll(rt, seat) {
-                Ok(Polled::Empty) => thread::yield_now(),
-                answer => return answer,
+            if let Some(answer) = self.poll(rt, seat) {
+                return answer;
             }
+            thread::yield_now();
         }
         Ok(Polled::TimedOut)
     }
@@ -179,14 +184,11 @@ impl<A: Allocator + Copy> SharedQueue<A> {
         for _ in rt.forever() {
             // What is rung from here on is heard, so that nothing that comes after the poll is slept through.
             let heard = self.bell.listen(rt);
-            let answer = self.poll(rt, seat);
-            match answer {
-                Ok(Polled::Empty) => self.bell.wait_past(rt, heard),
-                answer => {
-                    self.bell.leave();
-                    return answer;
-                }
+            if let Some(answer) = self.poll(rt, seat) {
+                self.bell.leave();
+                return answer;
             }
+            self.bell.wait_past(rt, heard);
         }
         unreachable!()
     }

@@ -15,10 +15,10 @@ use Rattle.ref_turn.specs.declared.history.Stage.{Stage}
 use Rattle.ref_turn.specs.declared.history.Stage.TheVariants.{Fresh, Idle, Open, Met, Spent}
 use Rattle.ref_turn.specs.declared.history.View.{View}
 use Rattle.ref_turn.specs.History.{calls_by, StartsWith, Reaches, IsLegal}
-use Rattle.ref_turn.specs.Rule.{IsOpen, NoneOpen, IsOwn, Knows, Turned}
+use Rattle.ref_turn.specs.Rule.{IsOpen, IsOwn, Knows, Turned}
 use Rattle.ref_turn.specs.Steps.{drew, named, Shows, added, looked, grabbed}
 use Rattle.ref_turn.proofs.Logs.{calls_by-none, starts_self, starts_length, starts_whole}
-use Rattle.ref_turn.proofs.Stays.{at_below, Rests, idle_rests, rests_own, rests_shut, rests_unspent, open_within}
+use Rattle.ref_turn.proofs.Stays.{at_below, Rests, idle_rests, rests_own, rests_shut, rests_unspent}
 use Rattle.ref_turn.proofs.Stays.{none_within, none_open, settled, after, ended, differs}
 
 module _ {M S R : Type 0} (log : List (Entry S R)) (served tickets : ℕ) (views : List (View M S R)) (seat : ℕ)

@@ -56,7 +56,7 @@ pub struct SeatOf<M, S, R> {
 pub type TurnSeat<M> = SeatOf<M, <M as Machine>::Step, <M as Machine>::Reply>;
 
 /// Why a call made no turn. The step comes back.
-#[derive(Debug, Drop)]
+#[derive(Debug, Drop, PartialEq, Eq)]
 pub enum TurnFault<S> {
     /// Another turn was open.
     Busy(S),

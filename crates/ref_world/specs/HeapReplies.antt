@@ -1,7 +1,7 @@
 -- What the heap's machine answers, told as the rows of a trace tell it (this project's profile).
 use Rattle.std.specs.Prelude.{◌≡◌, ℕ, Option, Some, None, Result, Ok, Err}
 use Rattle.ref_base.specs.HeapSteps.{NamedStep}
-use Rattle.ref_base.specs.Told.{told_notice}
+use Rattle.ref_base.specs.Told.{told_notice, told_object}
 use Rattle.ref_base.specs.declared.fault.Fault.{Fault}
 use Rattle.ref_base.specs.declared.heap_step.HeapStep.TheVariants as heap
 use Rattle.ref_base.specs.declared.heap_step.HoldName.{HoldName}
@@ -18,11 +18,15 @@ told_reply (Notice notice) = replies.Notice notice.hold.object notice.queue noti
 told_reply (Held hold) = replies.Object hold.object
 told_reply (Back fault hold) = replies.Refused fault
 
--- What a step gives out: only an unhook and a hand give notices, and tell of none that they don't give; only a hold
--- gives a hold, and each is of its own heap; and only an adopt and a release give a hold back, which is theirs.
+-- What a step gives out: only an unhook and a hand give notices, only a hold gives a hold, and each is of its own heap;
+-- none of them tells of one that it doesn't give. An adopt and a release give the hold back that they were given, unless
+-- they spend it.
 abbrev pub Gives : (heap_no : ℕ) → NamedStep → HeapReply → Type 0
 Gives heap_no (heap.Unhook m s) (Told reply) = told_notice reply ≡ None
 Gives heap_no (heap.Hand k) (Told reply) = told_notice reply ≡ None
+Gives heap_no (heap.Hold m s) (Told reply) = told_object reply ≡ None
+Gives heap_no (heap.Adopt m d hold) (Told reply) = (n : ℕ) × (reply ≡ replies.Object n)
+Gives heap_no (heap.Release hold) (Told reply) = reply ≡ replies.Done
 Gives heap_no step (Told reply) = Unit {0}
 Gives heap_no (heap.Unhook m s) (Notice notice) = notice.hold.heap_no ≡ heap_no
 Gives heap_no (heap.Hand k) (Notice notice) = notice.hold.heap_no ≡ heap_no

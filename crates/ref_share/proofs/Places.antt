@@ -1,0 +1,51 @@
+-- The seats of queues, place by place.
+use Rattle.std.proofs.Common.{◌≡◌, ℕ, zero, suc, List, [], ◌∷◌, Option, Some, ◌⊎◌, inl, inr, refl, ap, sym, subst, ◌∙◌}
+use Rattle.std.specs.Prelude.{slice_get, slice_set, unwrap_or}
+use Rattle.std.proofs.Common.{Result, Ok, Err, IfErr, true}
+use Rattle.std.proofs.lemmas.Bool.{false≢true}
+use Rattle.ref_base.specs.declared.fault.Fault.{Fault}
+use Rattle.ref_base.specs.declared.fault.Fault.TheVariants.{BadQueue}
+use Rattle.ref_clear.specs.ClearHeaps.{HeldNotice}
+use Rattle.ref_queue.specs.declared.queue.Put.{Put}
+use Rattle.ref_share.specs.Deliveries.{AreSeats, PutsAt}
+use Rattle.ref_share.specs.QueueCalls.{Puts, refuses_put}
+use Rattle.ref_share.specs.QueueSeats.{IsQueueSeat, queue_view}
+use Rattle.ref_share.specs.declared.shared_queue.SharedQueue.{SharedQueue}
+use Rattle.ref_share.specs.declared.shared_queue.QueueSeat.{QueueSeat}
+
+-- what stands in a list after a change at k was there, or is what it was changed to
+changed_there : {T : Type 0} (xs : List T) (k j : ℕ) (t y : T) → slice_get (slice_set xs k t) j ≡ Some y
+    → ((j ≡ k) × (y ≡ t)) ⊎ (slice_get xs j ≡ Some y)
+changed_there [] k j t y there = inr there
+changed_there {T = T} (x ∷ xs) zero zero t y there = inl (refl, sym (ap (λ (o : Option T). unwrap_or o y) there))
+changed_there (x ∷ xs) zero (suc j) t y there = inr there
+changed_there (x ∷ xs) (suc k) zero t y there = inr there
+changed_there (x ∷ xs) (suc k) (suc j) t y there =
+    elim (changed_there xs k j t y there) [
+      | inl here ↦ inl (ap suc here.0, here.1)
+      | inr else ↦ inr else
+    ]
+
+-- a seat that is one of its queue still stands for the one that did
+pub still_seats : {A : Type 0} (queues : List (SharedQueue A)) (seats : List (QueueSeat A)) (k : ℕ)
+    (queue : SharedQueue A) (seat : QueueSeat A) → AreSeats queues seats → slice_get queues k ≡ Some queue
+    → IsQueueSeat queue seat → AreSeats queues (slice_set seats k seat)
+still_seats {A = A} queues seats k queue seat are there own j other new found placed =
+    elim (changed_there seats k j seat new placed) [
+      | inl here ↦
+        let same : queue ≡ other =
+            ap (λ (o : Option (SharedQueue A)). unwrap_or o other) (sym there ∙ subst (λ (i : ℕ). slice_get queues i ≡ Some other) here.0 found)
+        in subst (λ (s : QueueSeat A). IsQueueSeat other s) (sym here.1) (subst (λ (q : SharedQueue A). IsQueueSeat q seat) same own)
+      | inr before ↦ are j other new found before
+    ]
+
+-- a put of the seat at a place
+pub put_at_place : {A : Type 0} (notice : HeldNotice) (seats : List (QueueSeat A)) (old new : QueueSeat A)
+    (result : Result (Put HeldNotice) (Fault × HeldNotice)) → slice_get seats notice.queue ≡ Some old
+    → Puts (queue_view old) notice result (queue_view new) → IfErr result (λ refused. refuses_put refused.0 ≡ true)
+    → PutsAt notice seats result (slice_set seats notice.queue new)
+put_at_place notice seats old new (Ok answer) there puts faults =
+    record { old = old; new = new; there = there; after_is = refl; puts = puts }
+put_at_place notice seats old new (Err (BadQueue, back)) there puts faults = absurd (false≢true faults)
+put_at_place notice seats old new (Err (fault, back)) there puts faults =
+    record { old = old; new = new; there = there; after_is = refl; puts = puts }

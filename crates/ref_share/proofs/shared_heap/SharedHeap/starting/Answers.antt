@@ -1,0 +1,22 @@
+use Rattle.std.proofs.Common.{refl, ap}
+use Rattle.ref_clear.specs.ClearHeaps.{ClearHeap}
+use Rattle.ref_share.proofs.Seats.{first_seat}
+use Rattle.ref_share.specs.HeapMachines.{StandsFor, IsHeapMove}
+use Rattle.ref_share.specs.HeapSeats.{first_heap_state}
+use Rattle.ref_share.proofs.shared_heap.SharedHeap.starting.Goals as goal
+
+pub returns-in-Ok : goal.returns-in-Ok
+returns-in-Ok g c =
+    let heap = c.in_ok-heap.heap in
+    let stands : StandsFor heap (first_heap_state c.args.config c.args.heap_no) = record {
+      number = ap (λ (h : ClearHeap). h.mark.heap_no) c.in_ok-heap.ensures.made.1;
+      stands = c.in_ok-heap.ensures.stands;
+    } in
+    record {
+      made = record {
+        config_is = refl;
+        number_is = refl;
+        seat = first_seat StandsFor IsHeapMove c.in-Ok.turn _ c.in-Ok.seat c.args.first heap c.in-Ok.ensures.ok.0
+            c.in-Ok.ensures.ok.1 stands;
+      };
+    }
