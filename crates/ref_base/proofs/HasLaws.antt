@@ -1,11 +1,17 @@
 -- What `has` says of lists that are put together.
-use Rattle.std.proofs.Common.{◌≡◌, ℕ, ◌+◌, ◌<◌, true, false, ◌||◌, ◌==◌, nat_eq, refl, sym, ap, subst, ◌∙◌, arith}
-use Rattle.std.proofs.Common.{List, [], ◌∷◌, ◌++◌, length, get_or, take, ◌⊎◌, inl, inr, zero, suc}
-use Rattle.std.proofs.lemmas.Bool.{cases_Bool, or_cases, or_left, or_right, true≢false, eq-eqb, eqb-true}
-use Rattle.std.proofs.lemmas.List.{take_more, take-append-le, get_or_default}
-use Rattle.std.specs.List.{list_any}
+use Rattle.std.proofs.Common.{◌≡◌, ℕ, ◌+◌, ◌<◌, ◌≤◌, Bool, true, false, not, ◌||◌, ◌==◌, nat_eq, nat_lt, refl, sym}
+use Rattle.std.proofs.Common.{ap, subst, ◌∙◌, arith, Some, None}
+use Rattle.std.proofs.Common.{List, [], ◌∷◌, ◌++◌, length, get_or, take, drop, ◌⊎◌, inl, inr, zero, suc}
+use Rattle.std.proofs.lemmas.Bool.{cases_Bool, or_cases, or_left, or_right, true≢false, eq-eqb, eqb-true, ltb-true}
+use Rattle.std.proofs.lemmas.List.{take_more, take-append-le, take-append-drop, get_or_default}
+use Rattle.std.proofs.lemmas.List.Sums.{prefix_len_stops}
+use Rattle.std.specs.List.{list_any, position, position_or_len}
 use Rattle.std.specs.Cmp.{nat_eq_equiv}
 use Rattle.ref_base.specs.Members.{has}
+
+not-false : (b : Bool) → not b ≡ false → b ≡ true
+not-false true e = refl
+not-false false e = absurd (true≢false e)
 
 -- `has` answers as the search of a set does
 pub has-list_any : (ns : List ℕ) (n : ℕ) → has ns n ≡ list_any (nat_eq n) ns
@@ -42,6 +48,69 @@ pub has-get_or : (ns : List ℕ) (i : ℕ) → i < length ns → has ns (get_or 
 has-get_or [] i h = absurd (omega arith)
 has-get_or (n ∷ ns) zero h = has-first n ns
 has-get_or (n ∷ ns) (suc i) h = or_right (n == get_or ns i 0) (has ns (get_or ns i 0)) (has-get_or ns i (omega arith))
+
+-- an element of a front is in it
+pub has-take_at : (ns : List ℕ) (i j : ℕ) → i < j → i < length ns → has (take j ns) (get_or ns i 0) ≡ true
+has-take_at [] i j below within = absurd (omega arith)
+has-take_at (n ∷ ns) i zero below within = absurd (omega arith)
+has-take_at (n ∷ ns) zero (suc j) below within = has-first n (take j ns)
+has-take_at (n ∷ ns) (suc i) (suc j) below within =
+    or_right (n == get_or ns i 0) (has (take j ns) (get_or ns i 0))
+    (has-take_at ns i j (omega arith) (omega arith))
+
+-- what is in a front is in the list
+pub has-take : (i : ℕ) (ns : List ℕ) (n : ℕ) → has (take i ns) n ≡ true → has ns n ≡ true
+has-take i ns n h = subst (λ ms. has ms n ≡ true) (take-append-drop i ns) (has-left (take i ns) (drop i ns) n h)
+
+pub lacks-take : (i : ℕ) (ns : List ℕ) (n : ℕ) → has ns n ≡ false → has (take i ns) n ≡ false
+lacks-take i ns n lacks =
+    elim (cases_Bool (has (take i ns) n)) [
+      | inl front ↦ absurd (true≢false (sym (has-take i ns n front) ∙ lacks))
+      | inr none ↦ none
+    ]
+
+-- a front that ends before a number's first place doesn't have it
+front-lacks : (ns : List ℕ) (n i : ℕ) → i ≤ position_or_len (nat_eq n) ns → has (take i ns) n ≡ false
+front-lacks ns n zero before = refl
+front-lacks [] n (suc i) before = refl
+front-lacks (m ∷ ns) n (suc i) before =
+    elim (cases_Bool (nat_eq n m)) [
+      | inl same ↦ let none : suc i ≤ 0 = simp same at before in absurd (omega arith)
+      | inr other ↦
+          let later : suc i ≤ 1 + position_or_len (nat_eq n) ns = simp other at before in
+          let turned : (m == n) ≡ false = nat_eq_equiv.symm m n ∙ other in
+          simp turned (front-lacks ns n i (omega arith))
+    ]
+
+-- a front has a number where it goes on beyond the number's first place, and else doesn't
+pub has-front : (ns : List ℕ) (n place i : ℕ) → Some place ≡ position (nat_eq n) ns → place < i
+    → has (take i ns) n ≡ true
+has-front ns n place i found beyond =
+    let first : ℕ = position_or_len (nat_eq n) ns in
+    elim (cases_Bool (nat_lt first (length ns))) [
+      | inl below ↦
+          let within : first < length ns = ltb-true first (length ns) below in
+          let is : Some place ≡ Some first = simp below at found in
+          let same : place ≡ first = cc in
+          let stops : not (nat_eq n (get_or ns first 0)) ≡ false =
+          prefix_len_stops (λ m. not (nat_eq n m)) ns 0 within in
+          let number : n ≡ get_or ns first 0 =
+          eqb-true n (get_or ns first 0) (not-false (nat_eq n (get_or ns first 0)) stops) in
+          subst (λ m. has (take i ns) m ≡ true) (sym number) (has-take_at ns first i (omega arith) within)
+      | inr none ↦ absurd (let wrong : Some place ≡ None = simp none at found in cc)
+    ]
+
+pub lacks-front : (ns : List ℕ) (n place i : ℕ) → Some place ≡ position (nat_eq n) ns → i ≤ place
+    → has (take i ns) n ≡ false
+lacks-front ns n place i found before =
+    let first : ℕ = position_or_len (nat_eq n) ns in
+    elim (cases_Bool (nat_lt first (length ns))) [
+      | inl below ↦
+          let is : Some place ≡ Some first = simp below at found in
+          let same : place ≡ first = cc in
+          front-lacks ns n i (omega arith)
+      | inr none ↦ absurd (let wrong : Some place ≡ None = simp none at found in cc)
+    ]
 
 -- the first i + 1 of a list that grew are the first i, and the element at i
 pub has-take_more : (ns more : List ℕ) (i n : ℕ) → i < length ns → has (take (i + 1) (ns ++ more)) n ≡ true

@@ -5,6 +5,7 @@ use Rattle.std.proofs.lemmas.Bool.{cases_Bool, false≢true}
 use Rattle.ref_base.specs.Members.{has}
 use Rattle.ref_base.specs.Graphs.{Graph, Object, Reference, object_at, is_there}
 use Rattle.ref_base.specs.Paths.{Allowed, IsPath, EndsPath, targets_at, targets_of, allowed_referent, present, if_any}
+use Rattle.ref_base.specs.Searches.{fields_of}
 use Rattle.ref_base.proofs.HasLaws.{has-cases, has-left, has-right}
 
 module _ (allow : Allowed) (g : Graph) where
@@ -24,6 +25,12 @@ module _ (allow : Allowed) (g : Graph) where
   path_within P at_roots along n [] path = at_roots n path.0 path.1
   path_within P at_roots along n (m ∷ before) path =
       along m n (path_within P at_roots along m before path.2) path.1 path.0
+
+-- what an object's fields hold is among its targets
+pub fields-targets : (allow : Allowed) (o : Option Object) (n : ℕ) → has (fields_of o) n ≡ true
+    → has (targets_of allow o) n ≡ true
+fields-targets allow None n h = h
+fields-targets allow (Some o) n h = has-left (present o.fields) (allowed_referent allow o.reference) n h
 
 -- where more references may be gone through, there are no fewer targets
 module _ (allow more : Allowed) (wider : (r : Reference) → allow r ≡ true → more r ≡ true) where

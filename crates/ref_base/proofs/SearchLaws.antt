@@ -2,16 +2,17 @@
 use Rattle.std.proofs.Common.{◌≡◌, ℕ, ◌+◌, ◌-◌, ◌<◌, ◌≤◌, Bool, true}
 use Rattle.std.proofs.Common.{false, ◌==◌, if◌then◌else◌, refl, sym, ap, subst, ◌∙◌, arith}
 use Rattle.std.proofs.Common.{List, [], ◌∷◌, ◌++◌, length, get_or, take, append-nil, append_assoc, length-append}
-use Rattle.std.proofs.Common.{Option, Some, ◌⊎◌, inl, inr, zero, suc}
+use Rattle.std.proofs.Common.{Option, Some, None, ◌⊎◌, inl, inr, zero, suc}
 use Rattle.std.proofs.lemmas.Bool.{cases_Bool, cases_lt, or_cases, or_left}
 use Rattle.std.proofs.lemmas.Bool.{or_right, true≢false, false≢true, eqb-true, eq-eqb}
-use Rattle.std.proofs.lemmas.List.{take_all}
+use Rattle.std.proofs.lemmas.List.{take_all, take-append-le, length-take}
 use Rattle.ref_base.specs.Members.{has}
-use Rattle.ref_base.specs.Graphs.{Graph, Object, object_at, is_there}
-use Rattle.ref_base.specs.Paths.{Allowed, EndsPath, targets_at, present, allowed_referent}
-use Rattle.ref_base.specs.Searches.{added, added_all, unseen, IsReached}
-use Rattle.ref_base.proofs.HasLaws.{has-first, has-left, has-right, has-cases, has-single, has-get_or, has-take_more}
-use Rattle.ref_base.proofs.PathLaws.{root_ends, target_ends, path_within}
+use Rattle.ref_base.specs.Graphs.{Graph, Object, Reference, object_at, is_there}
+use Rattle.ref_base.specs.Paths.{Allowed, targets_at, targets_of, present, allowed_referent}
+use Rattle.ref_base.specs.Searches.{added, added_all, fields_of, referent_of, unseen, IsReached, IsSearched}
+use Rattle.ref_base.proofs.HasLaws.{has-first, has-left, has-right, has-cases, has-single, has-get_or, has-take_at}
+use Rattle.ref_base.proofs.HasLaws.{has-take, has-take_more}
+use Rattle.ref_base.proofs.PathLaws.{ends-wider, fields-targets, root_ends, target_ends, path_within}
 
 -- the weight of an object falls where its number comes to be seen
 pub weight-falls : (b c : Bool) → (b ≡ true → c ≡ true) → (if c then 0 else 1) ≤ (if b then 0 else 1)
@@ -47,6 +48,10 @@ unseen-less (o ∷ os) ns n there fresh =
           let later = unseen-less os ns n rest fresh in
           omega (arith, here, later)
     ]
+
+-- a front is no longer than the list
+pub length-front : (ms ns : List ℕ) → take (length ms) ns ≡ ms → length ms ≤ length ns
+length-front ms ns front = let same = ap length front in omega (arith, same, length-take (length ms) ns)
 
 module _ (os : List Object) where
   -- a candidate changes nothing, or goes last
@@ -153,6 +158,33 @@ module _ (os : List Object) where
   added_all-append [] ds ns = refl
   added_all-append (c ∷ cs) ds ns = added_all-append cs ds (added os ns c)
 
+  -- candidates that were seen before, where they are there, change nothing
+  pub added_all-old : (cs ns : List ℕ) → ((n : ℕ) → has cs n ≡ true → is_there os n ≡ true → has ns n ≡ true)
+      → added_all os ns cs ≡ ns
+  added_all-old [] ns old = refl
+  added_all-old (c ∷ cs) ns old =
+      let first : added os ns c ≡ ns = elim (added-cases ns c) [
+        | inl same ↦ same.0
+        | inr last ↦ absurd (true≢false (sym (old c (has-first c cs) last.1) ∙ last.2))
+      ] in
+      ap (λ ms. added_all os ms cs) first ∙ added_all-old cs ns (λ n h. old n (has-right (c ∷ []) cs n h))
+
+  -- so where an object's fields were, to add its referent is to add all its targets
+  pub added_all-referent : (allow : Allowed) (o : Option Object) (ns : List ℕ)
+      → ((n : ℕ) → has (fields_of o) n ≡ true → is_there os n ≡ true → has ns n ≡ true)
+      → added_all os ns (referent_of allow o) ≡ added_all os ns (targets_of allow o)
+  added_all-referent allow None ns old = refl
+  added_all-referent allow (Some o) ns old =
+      let referents : List ℕ = allowed_referent allow o.reference in
+      sym (added_all-append (present o.fields) referents ns
+      ∙ ap (λ ms. added_all os ms referents) (added_all-old (present o.fields) ns old))
+
+  -- what was the front of what is seen stays it
+  pub added_all-take : (cs ns ms : List ℕ) → take (length ms) ns ≡ ms → take (length ms) (added_all os ns cs) ≡ ms
+  added_all-take cs ns ms kept =
+      let front = added_all-front cs ns in
+      ap (take (length ms)) front.1 ∙ take-append-le (length ms) ns front.0 (length-front ms ns kept) ∙ kept
+
   -- to add an object's fields and then its referent is to add all its targets
   pub added_all-targets : (allow : Allowed) (m : ℕ) (o : Object) (fields : List (Option ℕ)) (referents : List ℕ)
       (before between after : List ℕ) → Some o ≡ object_at os m → fields ≡ o.fields
@@ -161,13 +193,6 @@ module _ (os : List Object) where
   added_all-targets allow m o fields referents before between after at same may first then_rest =
       rw (then_rest, first, same, may, ← at)
       (sym (added_all-append (present o.fields) (allowed_referent allow o.reference) before))
-
--- how far a search has come that has gone on from the first `next` of what it has seen
-pub record IsSearched (allow : Allowed) (g : Graph) (seen : List ℕ) (next : ℕ) : Type 0 where
-  pub sound : (n : ℕ) → has seen n ≡ true → EndsPath allow g n
-  pub rooted : (n : ℕ) → is_there g.objects n ≡ true → has g.roots n ≡ true → has seen n ≡ true
-  pub gone_on : (m n : ℕ) → has (take next seen) m ≡ true → has (targets_at allow g.objects m) n ≡ true
-      → is_there g.objects n ≡ true → has seen n ≡ true
 
 -- what a search has seen and not yet gone on from, and what it hasn't seen
 abbrev pub work_left : Graph → List ℕ → ℕ
@@ -183,20 +208,23 @@ work_left-less g targets seen new next within is =
 
 module _ (allow : Allowed) (g : Graph) where
   -- at first it has seen the roots that are there
-  pub searched_from_roots : IsSearched allow g (added_all g.objects [] g.roots) 0
+  pub searched_from_roots : IsSearched allow g (added_all g.objects [] g.roots) 0 0
   searched_from_roots = record {
     sound = λ n h. elim (added_all-only g.objects g.roots [] n h) [
       | inl none ↦ absurd (false≢true none)
       | inr root ↦ root_ends allow g n root.1 root.0
     ];
     rooted = λ n there root. added_all-has g.objects g.roots [] n root there;
+    within = omega arith;
+    fields_seen = λ m n none. absurd (false≢true none);
     gone_on = λ m n none. absurd (false≢true none);
   }
 
-  module _ (seen : List ℕ) (next : ℕ) (so_far : IsSearched allow g seen next) where
+  module _ (seen : List ℕ) (closed next : ℕ) (so_far : IsSearched allow g seen closed next) where
     -- it goes on from one more
     pub searched_more : next < length seen
-        → IsSearched allow g (added_all g.objects seen (targets_at allow g.objects (get_or seen next 0))) (next + 1)
+        → IsSearched allow g (added_all g.objects seen (targets_at allow g.objects (get_or seen next 0))) closed
+        (next + 1)
     searched_more within =
         let os : List Object = g.objects in
         let m : ℕ = get_or seen next 0 in
@@ -208,6 +236,11 @@ module _ (allow : Allowed) (g : Graph) where
             | inr new ↦ target_ends allow g m n (so_far.sound m (has-get_or seen next within)) new.0 new.1
           ];
           rooted = λ n there root. added_all-keeps os targets seen n (so_far.rooted n there root);
+          within = let longer = ap length front.1 in omega (arith, longer, so_far.within, length-append seen front.0);
+          fields_seen = λ k n first field there.
+              added_all-keeps os targets seen n
+              (so_far.fields_seen k n (subst (λ ms. has ms k ≡ true) (ap (take closed) front.1
+              ∙ take-append-le closed seen front.0 so_far.within) first) field there);
           gone_on = λ k n done target there.
               elim (has-take_more seen front.0 next k within
               (subst (λ ms. has (take (next + 1) ms) k ≡ true) front.1 done)) [
@@ -217,6 +250,17 @@ module _ (allow : Allowed) (g : Graph) where
                     (subst (λ j. has (targets_at allow os j) n ≡ true) (sym last) target) there
               ];
         }
+
+    -- where its fields were seen before, an object adds its referent alone
+    pub referent_alone : next < closed
+        → let m : ℕ = get_or seen next 0 in
+        added_all g.objects seen (referent_of allow (object_at g.objects m))
+        ≡ added_all g.objects seen (targets_at allow g.objects m)
+    referent_alone first =
+        let m : ℕ = get_or seen next 0 in
+        let front : has (take closed seen) m ≡ true =
+        has-take_at seen next closed first (omega (arith, so_far.within)) in
+        added_all-referent g.objects allow (object_at g.objects m) seen (λ n. so_far.fields_seen m n front)
 
     -- where it has gone on from all that it has seen, that is what paths end at
     pub searched_all : length seen ≤ next → IsReached allow g seen
@@ -230,20 +274,33 @@ module _ (allow : Allowed) (g : Graph) where
     }
 
   -- so the ends of paths can be listed
-  pub reached_within : (fuel next : ℕ) (seen : List ℕ) → IsSearched allow g seen next
+  pub reached_within : (fuel next : ℕ) (seen : List ℕ) → IsSearched allow g seen 0 next
       → work_left g seen ≤ fuel + next → (ns : List ℕ) × IsReached allow g ns
-  reached_within zero next seen so_far enough = (seen, searched_all seen next so_far (omega arith))
+  reached_within zero next seen so_far enough = (seen, searched_all seen 0 next so_far (omega arith))
   reached_within (suc fuel) next seen so_far enough =
       elim (cases_lt next (length seen)) [
         | inl within ↦
             let targets : List ℕ = targets_at allow g.objects (get_or seen next 0) in
             let room = added_all-room g.objects targets seen in
-            reached_within fuel (next + 1) (added_all g.objects seen targets) (searched_more seen next so_far within)
+            reached_within fuel (next + 1) (added_all g.objects seen targets) (searched_more seen 0 next so_far within)
             (omega (arith, room, enough))
-        | inr all ↦ (seen, searched_all seen next so_far all)
+        | inr all ↦ (seen, searched_all seen 0 next so_far all)
       ]
 
   pub reached : (ns : List ℕ) × IsReached allow g ns
   reached =
       let seen : List ℕ = added_all g.objects [] g.roots in
       reached_within (work_left g seen) 0 seen searched_from_roots (omega arith)
+
+-- what was reached by fewer references is where a search by more can begin
+pub searched_from_reached : (allow more : Allowed) → ((r : Reference) → allow r ≡ true → more r ≡ true) → (g : Graph)
+    (seen : List ℕ) → IsReached allow g seen → IsSearched more g seen (length seen) 0
+searched_from_reached allow more wider g seen all = record {
+  sound = λ n h. ends-wider allow more wider g n (all.sound n h);
+  rooted = λ n there root. all.complete n (root_ends allow g n there root);
+  within = omega arith;
+  fields_seen = λ m n first field there.
+      all.complete n (target_ends allow g m n (all.sound m (has-take (length seen) seen m first))
+      (fields-targets allow (object_at g.objects m) n field) there);
+  gone_on = λ m n none. absurd (false≢true none);
+}

@@ -1,112 +1,263 @@
 -- What a map from numbers to stored objects says of the list of objects that a contract sees.
-use Rattle.std.proofs.Common.{◌≡◌, ℕ, ◌<◌, true, false, ◌==◌, nat_lt, refl, sym, ap, ◌∙◌, arith}
-use Rattle.std.proofs.Common.{List, [], ◌∷◌, Option, Some, None, is_some, inl, inr, Bor}
-use Rattle.std.proofs.lemmas.Bool.{cases_Bool, true≢false, false≢true, eqb-true, ltb-true, ne_eqb}
-use Rattle.std.specs.Cmp.{nat_eq_equiv, unsigned_tied}
-use Rattle.std.specs.List.{AllByRecursion}
-use Rattle.std.specs.List.Sorted.{IsStrictlySortedBy}
+use Rattle.std.proofs.Common.{◌≡◌, ℕ, ◌+◌, ◌<◌, true, false, ◌||◌, ◌==◌, nat_eq, nat_lt, refl, sym, ap, ◌∙◌, arith}
+use Rattle.std.proofs.Common.{List, [], ◌∷◌, ◌++◌, Option, Some, None, is_some, inl, inr, Bor, suc}
+use native.Mathlib.Numerals.{unary_clauses}
+use Rattle.std.proofs.lemmas.Bool.{cases_Bool, true≢false, false≢true, eq-eqb, eqb-true, ltb-true, ltb-false}
+use Rattle.std.proofs.lemmas.Bool.{ne_eqb, or_cases}
+use Rattle.std.proofs.lemmas.Bool.{or_left, or_right}
+use Rattle.std.proofs.lemmas.List.Sorted.{IsNonDecreasingBy-from_sort, list_any-IsPermutation}
+use Rattle.std.proofs.lemmas.Map.Keys.{IsDistinct-IsPermutation, IsStrictlyIncreasing-from_distinct}
+use Rattle.std.specs.Cmp.{nat_eq_equiv}
+use Rattle.std.specs.List.{IsDistinct}
+use Rattle.std.specs.List.Sorted.{IsPermutation, IsSorted, IsStrictlyIncreasing}
 use Rattle.std.specs.Map.{keys_of, lookup}
-use Rattle.std.specs.BTreeMap.{is_at, insert_entry}
 use Rattle.std.specs.Option.{option_map, option_copied}
 use Rattle.std.specs.Ordering.{nat_cmp}
-use Rattle.std.specs.declared.cmp.Ordering.TheVariants.{Less, Equal, Greater}
 use Rattle.ref_base.specs.Graphs.{Object, object_at, is_there, with_object, numbers}
-use Rattle.ref_base.specs.GraphViews.{object_of, objects_in, reference_of}
+use Rattle.ref_base.specs.GraphViews.{object_of, objects_in, placed, reference_of}
+use Rattle.ref_base.specs.Members.{has}
 use Rattle.ref_base.specs.Strengths.{IsRising}
 use Rattle.ref_base.specs.declared.stored.Stored.{Stored}
+use Rattle.ref_base.proofs.HasLaws.{has-first, has-list_any}
 
--- the test by which a number is looked up is the equality of numbers
-pub is_at-eq : (n k : ℕ) → is_at (nat_cmp n) k ≡ (k == n)
-is_at-eq n k = unsigned_tied n k ∙ nat_eq_equiv.symm n k
+-- ---- lists of numbers that rise
+
+-- what stands behind a number is greater
+pub rising-above : (n : ℕ) (ns : List ℕ) → IsRising (n ∷ ns) → (m : ℕ) → has ns m ≡ true → n < m
+rising-above n [] rising m h = absurd (false≢true h)
+rising-above n (k ∷ ks) rising m h =
+    elim (or_cases (k == m) (has ks m) h) [
+      | inl first ↦ let same = eqb-true k m first in omega (arith, same, rising.0)
+      | inr later ↦ let above = rising-above k ks rising.1 m later in omega (arith, above, rising.0)
+    ]
+
+pub rising-tail : (n : ℕ) (ns : List ℕ) → IsRising (n ∷ ns) → IsRising ns
+rising-tail n [] rising = tt
+rising-tail n (m ∷ ms) rising = rising.1
+
+pub rising-cons : (n : ℕ) (ns : List ℕ) → ((m : ℕ) → has ns m ≡ true → n < m) → IsRising ns → IsRising (n ∷ ns)
+rising-cons n [] above rising = tt
+rising-cons n (m ∷ ms) above rising = (above m (has-first m ms), rising)
+
+-- what isn't above a number doesn't stand behind it
+pub rising-lacks : (n : ℕ) (ns : List ℕ) → IsRising (n ∷ ns) → (m : ℕ) → m < n + 1 → has ns m ≡ false
+rising-lacks n ns rising m below =
+    elim (cases_Bool (has ns m)) [
+      | inl later ↦ let above = rising-above n ns rising m later in absurd (omega arith)
+      | inr none ↦ none
+    ]
+
+-- two lists that rise and have the same numbers are the same
+pub rising-same : (ms ns : List ℕ) → IsRising ms → IsRising ns → ((n : ℕ) → has ms n ≡ has ns n) → ms ≡ ns
+rising-same [] [] ups downs same = refl
+rising-same [] (n ∷ ns) ups downs same = absurd (false≢true (same n ∙ has-first n ns))
+rising-same (m ∷ ms) [] ups downs same = absurd (true≢false (sym (has-first m ms) ∙ same m))
+rising-same (m ∷ ms) (n ∷ ns) ups downs same =
+    let among : (has (n ∷ ns) m) ≡ true = sym (same m) ∙ has-first m ms in
+    let back : (has (m ∷ ms) n) ≡ true = same n ∙ has-first n ns in
+    let first : m ≡ n = elim (or_cases (n == m) (has ns m) among) [
+      | inl is ↦ sym (eqb-true n m is)
+      | inr above ↦ elim (or_cases (m == n) (has ms n) back) [
+        | inl is ↦ eqb-true m n is
+        | inr below ↦
+            let up = rising-above n ns downs m above in
+            let down = rising-above m ms ups n below in
+            absurd (omega arith)
+      ]
+    ] in
+    let rest : (k : ℕ) → has ms k ≡ has ns k = λ k. elim (cases_Bool (m == k)) [
+      | inl is ↦
+          let number : m ≡ k = eqb-true m k is in
+          rising-lacks m ms ups k (omega arith) ∙ sym (rising-lacks n ns downs k (omega arith))
+      | inr other ↦
+          let turned : (n == k) ≡ false = ap (λ j. j == k) (sym first) ∙ other in
+          simp (other, turned) at (same k)
+    ] in
+    rw (first, rising-same ms ns (rising-tail m ms ups) (rising-tail n ns downs) rest) refl
+
+pub rising_from_increasing : (ns : List ℕ) → IsStrictlyIncreasing ns → IsRising ns
+rising_from_increasing [] up = tt
+rising_from_increasing (n ∷ []) up = tt
+rising_from_increasing (n ∷ m ∷ ms) up = (
+  up 0 (omega arith),
+  rising_from_increasing (m ∷ ms) (λ k within. simp unary_clauses (simp unary_clauses at (up (suc k) (omega arith)))),
+)
+
+-- ---- one object more
+
+-- the first, where there is one, and else the second
+abbrev pub first_of : Option Object → Option Object → Option Object
+first_of (Some o) p = Some o
+first_of None p = p
+
+first_of-none : (o : Option Object) → first_of o None ≡ o
+first_of-none None = refl
+first_of-none (Some o) = refl
+
+first_of-nested : (a b c : Option Object) → first_of (first_of a b) c ≡ first_of a (first_of b c)
+first_of-nested None b c = refl
+first_of-nested (Some o) b c = refl
+
+-- whether there is an object is whether its number is among theirs
+pub is_there-has : (os : List Object) (n : ℕ) → is_there os n ≡ has (numbers os) n
+is_there-has [] n = refl
+is_there-has (o ∷ os) n =
+    elim (cases_Bool (o.no == n)) [ inl same ↦ simp same refl | inr other ↦ simp other (is_there-has os n) ]
+
+none_from_lacks : (os : List Object) (n : ℕ) → has (numbers os) n ≡ false → object_at os n ≡ None
+none_from_lacks [] n lacks = refl
+none_from_lacks (o ∷ os) n lacks =
+    elim (cases_Bool (o.no == n)) [
+      | inl same ↦ absurd (true≢false (simp same at lacks))
+      | inr other ↦ simp other (none_from_lacks os n (simp other at lacks))
+    ]
+
+-- among objects by number, one more is found where no other of its number was
+pub object_at-with_object : (os : List Object) (o : Object) (n : ℕ) → IsRising (numbers os)
+    → object_at (with_object os o) n ≡ first_of (object_at os n) (object_at (o ∷ []) n)
+object_at-with_object [] o n rising = refl
+object_at-with_object (p ∷ ps) o n rising =
+    elim (cases_Bool (nat_lt o.no p.no)) [
+      | inl below ↦ elim (cases_Bool (o.no == n)) [
+        | inl same ↦
+            let less : o.no < p.no = ltb-true o.no p.no below in
+            let number : o.no ≡ n = eqb-true o.no n same in
+            let other : (p.no == n) ≡ false = ne_eqb p.no n (λ is. omega arith) in
+            let none : object_at ps n ≡ None =
+            none_from_lacks ps n (rising-lacks p.no (numbers ps) rising n (omega arith)) in
+            simp (below, same, other, none) refl
+        | inr other ↦ simp (below, other) (sym (first_of-none (object_at (p ∷ ps) n)))
+      ]
+      | inr above ↦ elim (cases_Bool (p.no == o.no)) [
+        | inl same ↦ elim (cases_Bool (p.no == n)) [
+          | inl here ↦ simp (above, same, here) refl
+          | inr other ↦
+              let turned : (o.no == n) ≡ false = ap (λ k. k == n) (sym (eqb-true p.no o.no same)) ∙ other in
+              simp (above, same, other, turned) (sym (first_of-none (object_at ps n)))
+        ]
+        | inr different ↦ elim (cases_Bool (p.no == n)) [
+          | inl here ↦ simp (above, different, here) refl
+          | inr other ↦
+              simp (above, different, other) (object_at-with_object ps o n (rising-tail p.no (numbers ps) rising))
+        ]
+      ]
+    ]
+
+less_from_other : (m n : ℕ) → m < n + 1 → (m == n) ≡ false → m < n
+less_from_other m n most other =
+    elim (cases_Bool (nat_lt m n)) [
+      | inl below ↦ ltb-true m n below
+      | inr above ↦
+          let least = ltb-false m n above in
+          let same : m ≡ n = omega arith in
+          absurd (true≢false (sym (eq-eqb m n same) ∙ other))
+    ]
+
+with_object-only : (os : List Object) (o : Object) (n m : ℕ) → n < o.no
+    → ((k : ℕ) → has (numbers os) k ≡ true → n < k) → has (numbers (with_object os o)) m ≡ true → n < m
+with_object-only [] o n m before above h =
+    elim (or_cases (o.no == m) false h) [
+      | inl same ↦ let number = eqb-true o.no m same in omega (arith, number)
+      | inr none ↦ absurd (false≢true none)
+    ]
+with_object-only (p ∷ ps) o n m before above h =
+    elim (cases_Bool (nat_lt o.no p.no)) [
+      | inl below ↦
+          let either : ((o.no == m) || has (numbers (p ∷ ps)) m) ≡ true = simp below at h in
+          elim (or_cases (o.no == m) (has (numbers (p ∷ ps)) m) either) [
+            | inl same ↦ let number = eqb-true o.no m same in omega (arith, number)
+            | inr later ↦ above m later
+          ]
+      | inr not_below ↦ elim (cases_Bool (p.no == o.no)) [
+        | inl same ↦ above m (simp (not_below, same) at h)
+        | inr different ↦
+            let either : ((p.no == m) || has (numbers (with_object ps o)) m) ≡ true =
+            simp (not_below, different) at h in
+            elim (or_cases (p.no == m) (has (numbers (with_object ps o)) m) either) [
+              | inl same ↦ above m (or_left (p.no == m) (has (numbers ps) m) same)
+              | inr later ↦
+                  with_object-only ps o n m before (λ k i. above k (or_right (p.no == k) (has (numbers ps) k) i)) later
+            ]
+      ]
+    ]
+
+-- numbers still rise
+pub rising-with_object : (os : List Object) (o : Object) → IsRising (numbers os) → IsRising (numbers (with_object os o))
+rising-with_object [] o rising = tt
+rising-with_object (p ∷ ps) o rising =
+    elim (cases_Bool (nat_lt o.no p.no)) [
+      | inl below ↦ simp below (ltb-true o.no p.no below, rising)
+      | inr above ↦ elim (cases_Bool (p.no == o.no)) [
+        | inl same ↦ simp (above, same) rising
+        | inr different ↦
+            let most = ltb-false o.no p.no above in
+            let least : p.no < o.no = less_from_other p.no o.no (omega arith) different in
+            simp (above, different)
+            (rising-cons p.no (numbers (with_object ps o))
+            (λ m. with_object-only ps o p.no m least (rising-above p.no (numbers ps) rising))
+            (rising-with_object ps o (rising-tail p.no (numbers ps) rising)))
+      ]
+    ]
+
+-- where its number is there, an object isn't added
+pub with_object-same : (os : List Object) (o : Object) → IsRising (numbers os) → is_there os o.no ≡ true
+    → with_object os o ≡ os
+with_object-same [] o rising there = absurd (false≢true there)
+with_object-same (p ∷ ps) o rising there =
+    elim (cases_Bool (nat_lt o.no p.no)) [
+      | inl below ↦
+          let less : o.no < p.no = ltb-true o.no p.no below in
+          let other : (p.no == o.no) ≡ false = ne_eqb p.no o.no (λ same. omega arith) in
+          let later : is_there ps o.no ≡ true = simp other at there in
+          let none = rising-lacks p.no (numbers ps) rising o.no (omega arith) in
+          absurd (true≢false (sym later ∙ is_there-has ps o.no ∙ none))
+      | inr above ↦ elim (cases_Bool (p.no == o.no)) [
+        | inl same ↦ simp (above, same) refl
+        | inr other ↦
+            simp (above, other) (ap (λ os. p ∷ os)
+            (with_object-same ps o (rising-tail p.no (numbers ps) rising) (simp other at there)))
+      ]
+    ]
+
+-- ---- the objects that are stored
+
+rising-placed : (os : List Object) (es : List (ℕ × Stored)) → IsRising (numbers os) → IsRising (numbers (placed os es))
+rising-placed os [] rising = rising
+rising-placed os (e ∷ es) rising =
+    rising-placed (with_object os (object_of e)) es (rising-with_object os (object_of e) rising)
+
+pub rising-objects_in : (es : List (ℕ × Stored)) → IsRising (numbers (objects_in es))
+rising-objects_in es = rising-placed [] es tt
+
+object_at-placed : (os : List Object) (es : List (ℕ × Stored)) (n : ℕ) → IsRising (numbers os)
+    → object_at (placed os es) n
+    ≡ first_of (object_at os n) (option_map (λ s. object_of (n, s)) (lookup (nat_eq n) es))
+object_at-placed os [] n rising = sym (first_of-none (object_at os n))
+object_at-placed os (e ∷ es) n rising =
+    let later : Option Object = option_map (λ s. object_of (n, s)) (lookup (nat_eq n) es) in
+    let here : first_of (object_at (object_of e ∷ []) n) later
+    ≡ option_map (λ s. object_of (n, s)) (lookup (nat_eq n) (e ∷ es)) =
+    elim (cases_Bool (e.0 == n)) [
+      | inl same ↦
+          let found : nat_eq n e.0 ≡ true = nat_eq_equiv.symm n e.0 ∙ same in
+          simp (same, found) (ap (λ k. Some (object_of (k, e.1))) (eqb-true e.0 n same))
+      | inr other ↦
+          let passed : nat_eq n e.0 ≡ false = nat_eq_equiv.symm n e.0 ∙ other in
+          simp (other, passed) refl
+    ] in
+    object_at-placed (with_object os (object_of e)) es n (rising-with_object os (object_of e) rising)
+    ∙ ap (λ o. first_of o later) (object_at-with_object os (object_of e) n rising)
+    ∙ first_of-nested (object_at os n) (object_at (object_of e ∷ []) n) later
+    ∙ ap (first_of (object_at os n)) here
 
 -- a look-up of the map is one of the objects
 pub object_at-objects_in : (es : List (ℕ × Stored)) (n : ℕ)
-    → object_at (objects_in es) n ≡ option_map (λ s. object_of (n, s)) (lookup (is_at (nat_cmp n)) es)
-object_at-objects_in [] n = refl
-object_at-objects_in (e ∷ es) n =
-    elim (cases_Bool (e.0 == n)) [
-      | inl same ↦
-          let found : is_at (nat_cmp n) e.0 ≡ true = is_at-eq n e.0 ∙ same in
-          let number : e.0 ≡ n = eqb-true e.0 n same in
-          simp (same, found) (ap (λ k. Some (object_of (k, e.1))) number)
-      | inr other ↦
-          let passed : is_at (nat_cmp n) e.0 ≡ false = is_at-eq n e.0 ∙ other in
-          simp (other, passed) (object_at-objects_in es n)
-    ]
+    → object_at (objects_in es) n ≡ option_map (λ s. object_of (n, s)) (lookup (nat_eq n) es)
+object_at-objects_in es n = object_at-placed [] es n tt
 
--- the order of numbers says `Less` of what is less
-pub less_from_cmp : (n m : ℕ) → nat_cmp n m ≡ Less → n < m
-less_from_cmp n m less =
-    elim (cases_Bool (nat_lt n m)) [
-      | inl below ↦ ltb-true n m below
-      | inr above ↦ elim (cases_Bool (n == m)) [
-        | inl same ↦ absurd (let wrong : Equal ≡ Less = simp (above, same) at less in cc)
-        | inr other ↦ absurd (let wrong : Greater ≡ Less = simp (above, other) at less in cc)
-      ]
-    ]
-
--- a number below all of the map's isn't there
-pub absent_below : (es : List (ℕ × Stored)) (n m : ℕ) → n < m
-    → AllByRecursion (λ k. nat_cmp m k ≡ Less) (keys_of es) → is_there (objects_in es) n ≡ false
-absent_below [] n m below all = refl
-absent_below (e ∷ es) n m below all =
-    let above : m < e.0 = less_from_cmp m e.0 all.0 in
-    let other : (e.0 == n) ≡ false = ne_eqb e.0 n (λ same. omega arith) in
-    simp other (absent_below es n m below all.1)
-
--- where its number is there, an object isn't added
-pub with_object-same : (es : List (ℕ × Stored)) (o : Object) → IsStrictlySortedBy nat_cmp (keys_of es)
-    → is_there (objects_in es) o.no ≡ true → with_object (objects_in es) o ≡ objects_in es
-unfolding IsStrictlySortedBy
-with_object-same [] o sorted there = absurd (false≢true there)
-with_object-same (e ∷ es) o sorted there =
-    elim (cases_Bool (nat_lt o.no e.0)) [
-      | inl below ↦
-          let less : o.no < e.0 = ltb-true o.no e.0 below in
-          let other : (e.0 == o.no) ≡ false = ne_eqb e.0 o.no (λ same. omega arith) in
-          let later : is_there (objects_in es) o.no ≡ true = simp other at there in
-          absurd (true≢false (sym later ∙ absent_below es o.no e.0 less sorted.0))
-      | inr above ↦ elim (cases_Bool (e.0 == o.no)) [
-        | inl same ↦ simp (above, same) refl
-        | inr other ↦
-            let later : is_there (objects_in es) o.no ≡ true = simp other at there in
-            simp (above, other) (ap (λ os. object_of e ∷ os) (with_object-same es o sorted.1 later))
-      ]
-    ]
-
--- where its number isn't there, an object comes to its place
-pub with_object-new : (es : List (ℕ × Stored)) (n : ℕ) (s : Stored) → is_there (objects_in es) n ≡ false
-    → with_object (objects_in es) (object_of (n, s)) ≡ objects_in (insert_entry nat_cmp es n s)
-with_object-new [] n s absent = refl
-with_object-new (e ∷ es) n s absent =
-    elim (cases_Bool (nat_lt n e.0)) [
-      | inl below ↦ simp below refl
-      | inr above ↦ elim (cases_Bool (e.0 == n)) [
-        | inl same ↦ absurd (true≢false (simp same at absent))
-        | inr other ↦
-            let later : is_there (objects_in es) n ≡ false = simp other at absent in
-            let turned : (n == e.0) ≡ false = nat_eq_equiv.symm n e.0 ∙ other in
-            simp (above, other, turned) (ap (λ os. object_of e ∷ os) (with_object-new es n s later))
-      ]
-    ]
-
--- the numbers of the objects are the map's
-pub numbers-objects_in : (es : List (ℕ × Stored)) → numbers (objects_in es) ≡ keys_of es
-numbers-objects_in [] = refl
-numbers-objects_in (e ∷ es) = ap (λ ns. e.0 ∷ ns) (numbers-objects_in es)
-
--- and rise
-pub rising_from_sorted : (ns : List ℕ) → IsStrictlySortedBy nat_cmp ns → IsRising ns
-unfolding IsStrictlySortedBy
-rising_from_sorted [] sorted = tt
-rising_from_sorted (n ∷ []) sorted = tt
-rising_from_sorted (n ∷ m ∷ ms) sorted =
-    (less_from_cmp n m sorted.0.0, rising_from_sorted (m ∷ ms) sorted.1)
-
--- so do those of the objects
-pub rising-objects_in : (es : List (ℕ × Stored)) → IsStrictlySortedBy nat_cmp (keys_of es)
-    → IsRising (numbers (objects_in es))
-rising-objects_in es sorted = rw (numbers-objects_in es) (rising_from_sorted (keys_of es) sorted)
+pub none_from_is_some : {X : Type 0} (o : Option X) → is_some o ≡ false → o ≡ None
+none_from_is_some None h = refl
+none_from_is_some (Some x) h = absurd (true≢false h)
 
 pub is_some-option_map : {X Y : Type 0} (f : X → Y) (o : Option X) → is_some (option_map f o) ≡ is_some o
 is_some-option_map f None = refl
@@ -114,25 +265,55 @@ is_some-option_map f (Some x) = refl
 
 -- whether the map has a number is whether an object of it is there
 pub is_there-objects_in : (es : List (ℕ × Stored)) (n : ℕ)
-    → is_some (lookup (is_at (nat_cmp n)) es) ≡ is_there (objects_in es) n
+    → is_some (lookup (nat_eq n) es) ≡ is_there (objects_in es) n
 is_there-objects_in es n =
-    sym (ap is_some (object_at-objects_in es n)
-    ∙ is_some-option_map (λ s. object_of (n, s)) (lookup (is_at (nat_cmp n)) es))
+    sym (ap is_some (object_at-objects_in es n) ∙ is_some-option_map (λ s. object_of (n, s)) (lookup (nat_eq n) es))
 
 -- what the map lends at a number is the object
 pub object_at-stored : (es : List (ℕ × Stored)) (n : ℕ) (lent : Option (Bor Stored))
-    → option_copied lent ≡ lookup (is_at (nat_cmp n)) es
+    → option_copied lent ≡ lookup (nat_eq n) es
     → option_map (λ s. object_of (n, s.now)) lent ≡ object_at (objects_in es) n
 object_at-stored es n None e =
     ap (option_map (λ s. object_of (n, s))) e ∙ sym (object_at-objects_in es n)
 object_at-stored es n (Some s) e =
     ap (option_map (λ s. object_of (n, s))) e ∙ sym (object_at-objects_in es n)
 
--- what is stored at a new number comes to its place
-pub stored-new : (es new : List (ℕ × Stored)) (n : ℕ) (s : Stored) (fields : List (Option ℕ))
-    → is_there (objects_in es) n ≡ false → s.fields ≡ fields → new ≡ insert_entry nat_cmp es n s
+placed-last : (os : List Object) (es : List (ℕ × Stored)) (e : ℕ × Stored)
+    → placed os (es ++ e ∷ []) ≡ with_object (placed os es) (object_of e)
+placed-last os [] e = refl
+placed-last os (d ∷ es) e = placed-last (with_object os (object_of d)) es e
+
+-- what is stored last comes to its place
+pub stored-last : (es new : List (ℕ × Stored)) (n : ℕ) (s : Stored) (fields : List (Option ℕ)) → s.fields ≡ fields
+    → new ≡ es ++ (n, s) ∷ []
     → objects_in new ≡ with_object (objects_in es) (record { no = n; fields = fields; reference = reference_of s.link })
-stored-new es new n s fields absent held is =
-    ap objects_in is ∙ sym (with_object-new es n s absent)
+stored-last es new n s fields held is =
+    ap objects_in is ∙ placed-last [] es (n, s)
     ∙ ap (λ (fs : List (Option ℕ)).
     with_object (objects_in es) (record { no = n; fields = fs; reference = reference_of s.link })) held
+
+-- ---- the numbers by size
+
+lookup-keys : (es : List (ℕ × Stored)) (n : ℕ) → is_some (lookup (nat_eq n) es) ≡ has (keys_of es) n
+lookup-keys [] n = refl
+lookup-keys (e ∷ es) n =
+    elim (cases_Bool (e.0 == n)) [
+      | inl same ↦
+          let found : nat_eq n e.0 ≡ true = nat_eq_equiv.symm n e.0 ∙ same in
+          simp (same, found) refl
+      | inr other ↦
+          let passed : nat_eq n e.0 ≡ false = nat_eq_equiv.symm n e.0 ∙ other in
+          simp (other, passed) (lookup-keys es n)
+    ]
+
+-- the map's numbers, sorted, are those of the objects
+pub numbers_from_sorted : (es : List (ℕ × Stored)) (ns : List ℕ) → IsDistinct nat_eq (keys_of es)
+    → IsPermutation (keys_of es) ns → IsSorted nat_cmp ns → ns ≡ numbers (objects_in es)
+numbers_from_sorted es ns distinct moved sorted =
+    let apart = IsDistinct-IsPermutation nat_eq nat_eq_equiv.symm (keys_of es) ns moved distinct in
+    let rising = rising_from_increasing ns
+    (IsStrictlyIncreasing-from_distinct ns (IsNonDecreasingBy-from_sort (λ n. n) ns sorted) apart) in
+    rising-same ns (numbers (objects_in es)) rising (rising-objects_in es)
+    (λ n. has-list_any ns n ∙ sym (list_any-IsPermutation (nat_eq n) (keys_of es) ns moved)
+    ∙ sym (has-list_any (keys_of es) n) ∙ sym (lookup-keys es n) ∙ is_there-objects_in es n
+    ∙ is_there-has (objects_in es) n)

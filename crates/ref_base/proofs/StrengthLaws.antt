@@ -1,8 +1,9 @@
 -- Each number has exactly one strength, and it is read off what was found.
-use Rattle.std.proofs.Common.{◌≡◌, ℕ, true, false, refl, sym, ap, subst, ◌∙◌, ◌==◌}
-use Rattle.std.proofs.Common.{List, [], ◌∷◌, map, Option, Some, None, inl, inr}
+use Rattle.std.proofs.Common.{◌≡◌, ℕ, ◌+◌, ◌<◌, ◌≤◌, true, false, refl, sym, ap, subst, ◌∙◌, ◌==◌, nat_eq, arith}
+use Rattle.std.proofs.Common.{List, [], ◌∷◌, length, map, take, Option, Some, None, inl, inr}
 use Rattle.std.proofs.lemmas.Bool.{cases_Bool, true≢false, false≢true}
-use Rattle.std.specs.List.{AllByRecursion}
+use Rattle.std.proofs.lemmas.List.{take-take}
+use Rattle.std.specs.List.{AllByRecursion, position}
 use Rattle.ref_base.specs.Members.{has}
 use Rattle.ref_base.specs.Graphs.{Graph, Object, Reference, object_at, is_there, numbers}
 use Rattle.ref_base.specs.Paths.{Allowed, EndsPath, no_referents}
@@ -14,9 +15,10 @@ use Rattle.ref_base.specs.Searches.{phantom_referent, phantom_referent_at, phant
 use Rattle.ref_base.specs.declared.reach.Reach.{Reach}
 use Rattle.ref_base.specs.declared.reach.Reach.TheVariants.{Strong, Soft, Weak, Phantom, Unreachable}
 use Rattle.ref_base.specs.declared.reach.ObjectReach.{ObjectReach}
-use Rattle.ref_base.proofs.HasLaws.{has-cases, has-left, has-right, has-first, has-single}
+use Rattle.ref_base.proofs.HasLaws.{has-cases, has-first, has-front, has-left, has-right, has-single, has-take}
+use Rattle.ref_base.proofs.HasLaws.{lacks-front, lacks-take}
 use Rattle.ref_base.proofs.PathLaws.{ends-wider}
-use Rattle.ref_base.proofs.SearchLaws.{reached, added_all-only, added_all-has}
+use Rattle.ref_base.proofs.SearchLaws.{reached, added_all-only, added_all-has, length-front}
 
 -- ---- what hangs on phantom references
 
@@ -166,6 +168,43 @@ module _ (g : Graph) (strong soft weak hung : List ℕ) (strong_all : IsReached 
         ]
       ]
 
+-- the place where a number was found tells its strength
+module _ (reached hung : List ℕ) (strong soft n place : ℕ) (at : Some place ≡ position (nat_eq n) reached) where
+  pub found-strong : place < strong → Strong ≡ found_reach (take strong reached) (take soft reached) reached hung n
+  found-strong within = let own = has-front reached n place strong at within in simp own refl
+
+  pub found-soft : strong ≤ place → place < soft
+      → Soft ≡ found_reach (take strong reached) (take soft reached) reached hung n
+  found-soft beyond within =
+      let none = lacks-front reached n place strong at beyond in
+      let own = has-front reached n place soft at within in
+      simp (none, own) refl
+
+  pub found-weak : strong ≤ place → soft ≤ place
+      → Weak ≡ found_reach (take strong reached) (take soft reached) reached hung n
+  found-weak beyond later =
+      let none = lacks-front reached n place strong at beyond in
+      let neither = lacks-front reached n place soft at later in
+      let front : has (take (place + 1) reached) n ≡ true = has-front reached n place (place + 1) at (omega arith) in
+      let own = has-take (place + 1) reached n front in
+      simp (none, neither, own) refl
+
+-- and where it wasn't, what hangs on phantom references does
+module _ (reached hung : List ℕ) (strong soft n : ℕ) (none : has reached n ≡ false) where
+  pub found-phantom : has hung n ≡ true
+      → Phantom ≡ found_reach (take strong reached) (take soft reached) reached hung n
+  found-phantom hangs =
+      let not_strong = lacks-take strong reached n none in
+      let not_soft = lacks-take soft reached n none in
+      simp (not_strong, not_soft, none, hangs) refl
+
+  pub found-nowhere : has hung n ≡ false
+      → Unreachable ≡ found_reach (take strong reached) (take soft reached) reached hung n
+  found-nowhere hangs =
+      let not_strong = lacks-take strong reached n none in
+      let not_soft = lacks-take soft reached n none in
+      simp (not_strong, not_soft, none, hangs) refl
+
 -- each number has a strength
 pub some_strength : (g : Graph) (n : ℕ) → (reach : Reach) × HasStrength g n reach
 some_strength g n =
@@ -188,7 +227,7 @@ AreFound-reach g strong soft weak hung found n there reach is =
     (found.hung_sound n) (found.hung_complete n there))
 
 -- and the pass over the last finds what hangs on phantom references, of what is there
-pub AreFound_from : (g : Graph) (strong soft weak hung : List ℕ) → IsReached no_referents g strong
+AreFound_from : (g : Graph) (strong soft weak hung : List ℕ) → IsReached no_referents g strong
     → IsReached soft_referents g soft → IsReached soft_and_weak_referents g weak
     → hung ≡ added_all g.objects [] (phantom_referents g.objects weak) → AreFound g strong soft weak hung
 AreFound_from g strong soft weak hung strong_all soft_all weak_all is =
@@ -205,6 +244,18 @@ AreFound_from g strong soft weak hung strong_all soft_all weak_all is =
           subst (λ ns. has ns n ≡ true) (sym is)
           (added_all-has g.objects referents [] n (hangs-complete g weak weak_all n hangs) there);
     }
+
+-- a search that goes on twice finds what three searches do, as fronts of its list
+pub AreFound_fronts : (g : Graph) (strong soft weak hung : List ℕ) → IsReached no_referents g strong
+    → IsReached soft_referents g soft → IsReached soft_and_weak_referents g weak
+    → take (length strong) soft ≡ strong → take (length soft) weak ≡ soft
+    → hung ≡ added_all g.objects [] (phantom_referents g.objects weak)
+    → AreFound g (take (length strong) weak) (take (length soft) weak) weak hung
+AreFound_fronts g strong soft weak hung strong_all soft_all weak_all front later is =
+    let shorter = length-front strong soft front in
+    let first : take (length strong) weak ≡ strong =
+    sym (take-take (length strong) (length soft) weak shorter) ∙ ap (take (length strong)) later ∙ front in
+    rw (first, later) (AreFound_from g strong soft weak hung strong_all soft_all weak_all is)
 
 -- ---- the strengths of all objects
 

@@ -1,6 +1,6 @@
 -- What a contract sees of a graph's fields.
-use Rattle.std.specs.Prelude.{ℕ, List, map, Option, Some, None}
-use Rattle.ref_base.specs.Graphs.{Object, Reference}
+use Rattle.std.specs.Prelude.{ℕ, List, [], ◌∷◌, Option, Some, None}
+use Rattle.ref_base.specs.Graphs.{Object, Reference, with_object}
 use Rattle.ref_base.specs.declared.stored.Link.{Link}
 use Rattle.ref_base.specs.declared.stored.Stored.{Stored}
 
@@ -13,6 +13,11 @@ reference_of (Some l) = Some (record { strength = l.strength; referent = l.refer
 abbrev pub object_of : ℕ × Stored → Object
 object_of e = record { no = e.0; fields = e.1.fields; reference = reference_of e.1.link }
 
+-- some objects and those that are stored, each of these put in its place by number
+abbrev pub placed : List Object → List (ℕ × Stored) → List Object
+placed os [] = os
+placed os (e ∷ es) = placed (with_object os (object_of e)) es
+
 -- the objects that are stored
 abbrev pub objects_in : List (ℕ × Stored) → List Object
-objects_in es = map object_of es
+objects_in es = placed [] es

@@ -1,10 +1,10 @@
 -- What a search through a graph does to the numbers that it has seen, and what it finds.
-use Rattle.std.specs.Prelude.{◌≡◌, ℕ, ◌+◌, Bool, true, false, if◌then◌else◌}
-use Rattle.std.specs.Prelude.{List, [], ◌∷◌, ◌++◌, map, Option, Some, None}
+use Rattle.std.specs.Prelude.{◌≡◌, ℕ, ◌+◌, ◌≤◌, Bool, true, false, if◌then◌else◌}
+use Rattle.std.specs.Prelude.{List, [], ◌∷◌, ◌++◌, length, map, take, Option, Some, None}
 use Rattle.ref_base.specs.Members.{has}
 use Rattle.ref_base.specs.Graphs.{Graph, Object, Reference, object_at, is_there, with_root}
-use Rattle.ref_base.specs.Paths.{Allowed, EndsPath, if_any, is_phantom, is_soft, is_weak}
-use Rattle.ref_base.specs.Paths.{no_referents, soft_referents, soft_and_weak_referents}
+use Rattle.ref_base.specs.Paths.{Allowed, EndsPath, allowed_referent, if_any, is_phantom, is_soft, is_weak}
+use Rattle.ref_base.specs.Paths.{no_referents, present, soft_referents, soft_and_weak_referents, targets_at}
 use Rattle.ref_base.specs.Strengths.{HangsOnPhantom}
 use Rattle.ref_base.specs.declared.reach.Reach.{Reach}
 use Rattle.ref_base.specs.declared.reach.Reach.TheVariants as reaches
@@ -37,6 +37,27 @@ abbrev pub unseen : List Object → List ℕ → ℕ
 unseen [] ns = 0
 unseen (o ∷ os) ns = (if has ns o.no then 0 else 1) + unseen os ns
 
+-- what an object's fields hold
+abbrev pub fields_of : Option Object → List ℕ
+fields_of None = []
+fields_of (Some o) = present o.fields
+
+-- the referent of an object, where a path may go through it
+abbrev pub referent_of : Allowed → Option Object → List ℕ
+referent_of allow None = []
+referent_of allow (Some o) = allowed_referent allow o.reference
+
+-- how far a search has come that has gone on from the first `next` of what it has seen, where it began with the first
+-- `closed` of them, whose fields were seen before it began
+pub record IsSearched (allow : Allowed) (g : Graph) (seen : List ℕ) (closed next : ℕ) : Type 0 where
+  pub sound : (n : ℕ) → has seen n ≡ true → EndsPath allow g n
+  pub rooted : (n : ℕ) → is_there g.objects n ≡ true → has g.roots n ≡ true → has seen n ≡ true
+  pub within : closed ≤ length seen
+  pub fields_seen : (m n : ℕ) → has (take closed seen) m ≡ true → has (fields_of (object_at g.objects m)) n ≡ true
+      → is_there g.objects n ≡ true → has seen n ≡ true
+  pub gone_on : (m n : ℕ) → has (take next seen) m ≡ true → has (targets_at allow g.objects m) n ≡ true
+      → is_there g.objects n ≡ true → has seen n ≡ true
+
 -- the numbers are those at which paths end
 pub record IsReached (allow : Allowed) (g : Graph) (ns : List ℕ) : Type 0 where
   pub sound : (n : ℕ) → has ns n ≡ true → EndsPath allow g n
@@ -56,7 +77,7 @@ abbrev pub phantom_referents : List Object → List ℕ → List ℕ
 phantom_referents os [] = []
 phantom_referents os (m ∷ ms) = phantom_referent_at (object_at os m) ++ phantom_referents os ms
 
--- what three searches and a pass over what the last one found have found
+-- what a search has found that went on twice, and a pass over all that it found
 pub record AreFound (g : Graph) (strong soft weak hung : List ℕ) : Type 0 where
   pub strong_reached : IsReached no_referents g strong
   pub soft_reached : IsReached soft_referents g soft

@@ -1,7 +1,6 @@
 //! Object graphs.
 
-ghost use Rattle.std.specs.Prelude.{◌≡◌, ◌≤◌, length, ℕ};
-ghost use Rattle.std.specs.Map.Iter.{ShowsInOrder, deref};
+ghost use Rattle.std.specs.Prelude.{◌≡◌, ◌≤◌, length, IfOk};
 ghost use Rattle.std.specs.Option.{option_map};
 ghost use Rattle.ref_base.specs.GraphViews.{object_of, reference_of};
 ghost use Rattle.ref_base.specs.GraphAnswers.{AnswersObject, after_object, AnswersRoot, after_root};
@@ -10,10 +9,8 @@ ghost use Rattle.ref_base.specs.Strengths.{IsRising};
 
 use crate::stored::{Fields, Link, Stored};
 use crate::{Fault, MOST_FIELDS, ObjNo, Strength};
-use indexmap::IndexSet;
-use std::alloc::{Allocator, Global};
-use std::collections::BTreeMap;
-use std::collections::btree_map::Keys;
+use indexmap::{IndexMap, IndexSet};
+use std::alloc::{AllocError, Allocator, Global};
 use std::hash::{BuildHasherDefault, FoldHasher};
 use std::marker::Model;
 
@@ -22,8 +19,8 @@ use std::marker::Model;
 /// memory is of the allocator that it was made with.
 #[derive(Drop)]
 pub struct Graph<A: Allocator = Global> {
-    // By number, so that they are listed in order and found in logarithmic time.
-    objects: BTreeMap<ObjNo, Stored, A>,
+    // In the order in which they were added: a search looks each up by number, and only a listing sorts them.
+    objects: IndexMap<ObjNo, Stored, BuildHasherDefault<FoldHasher>, A>,
     roots: IndexSet<ObjNo, BuildHasherDefault<FoldHasher>, A>,
 }
 
@@ -42,7 +39,7 @@ impl<A: Allocator + Copy> Graph<A> {
         ensures { result ≡ empty_graph }
     {
         Graph {
-            objects: BTreeMap::new(alloc),
+            objects: IndexMap::new(alloc),
             roots: IndexSet::new(alloc),
         }
     }
@@ -52,7 +49,8 @@ impl<A: Allocator + Copy> Graph<A> {
     /// later: while it isn't there, no path goes on to it.
     ///
     /// Tried in this order: `BadField` where there are more than 8 fields, false where the number is there, `NoMemory`
-    /// where a growth is refused. In each of these nothing has changed. Only true takes memory. In logarithmic time.
+    /// where a growth is refused. In each of these nothing has changed. Only true takes memory. In expected constant
+    /// time, amortized.
     pub fn add_object(&mut self, no: ObjNo, fields: &[Option<ObjNo>]) -> Result<bool, Fault>
         ensures answer { AnswersObject self.old (plain_object no fields.now) result }
         ensures after { self.new ≡ after_object self.old (plain_object no fields.now) result }
@@ -91,8 +89,6 @@ impl<A: Allocator + Copy> Graph<A> {
         if fields.len() > MOST_FIELDS {
             return Err(Fault::BadField);
         }
-        // Gives the proof that the numbers rise.
-        let _count = self.objects.len();
         if self.objects.contains_key(&no) {
             return Ok(false);
         }
@@ -123,14 +119,19 @@ impl<A: Allocator + Copy> Graph<A> {
     pub(crate) fn has_object(&self, no: ObjNo) -> bool
         ensures { result ≡ is_there self.now.objects no }
     {
-        self.objects.contains_key(&no)
+        self.stored(no).is_some()
     }
 
-    /// What is stored of the object of this number.
+    /// What is stored of the object of this number. Where objects were added by number from 1 on, as most graphs have
+    /// them, it stands where its number says; elsewhere it is found by hashing, in expected constant time.
     pub(crate) fn stored(&self, no: ObjNo) -> Option<&Stored>
         ensures { option_map (λ s. object_of (no, s.now)) result ≡ object_at self.now.objects no }
     {
-        self.objects.get(&no)
+        let place = no.0.saturating_sub(1) as usize;
+        match self.objects.get_index(place) {
+            Some((found, stored)) if *found == no => Some(stored),
+            _ => self.objects.get(&no),
+        }
     }
 
     /// The roots, in the order in which they were added.
@@ -140,12 +141,14 @@ impl<A: Allocator + Copy> Graph<A> {
         self.roots.as_slice()
     }
 
-    /// The numbers of the objects, which rise.
-    pub(crate) fn numbers(&self) -> Keys<'_, ObjNo, Stored>
-        ensures rest { result ≡ numbers self.now.objects }
+    /// The numbers of the objects, which rise. In time of their number where they were added so, and else times a
+    /// logarithm.
+    pub(crate) fn numbers<B: Allocator>(&self, alloc: B) -> Result<Vec<ObjNo, B>, AllocError>
+        ensures all { IfOk result (λ listed. listed.items ≡ numbers self.now.objects) }
         ensures sorted { IsRising (numbers self.now.objects) }
-        ensures runs { ShowsInOrder (deref {X = ℕ}) }
     {
-        self.objects.keys()
+        let mut listed: Vec<ObjNo, B> = self.objects.keys().copied().collect(alloc)?;
+        listed.sort_unstable();
+        Ok(listed)
     }
 }

@@ -1,6 +1,6 @@
 //! How strongly the objects of a graph are reachable.
 
-ghost use Rattle.std.specs.Prelude.{◌≡◌, IfOk, OnErr, []};
+ghost use Rattle.std.specs.Prelude.{◌≡◌, IfOk, OnErr, [], take};
 ghost use Rattle.ref_base.specs.Graphs.{numbers, object_at};
 ghost use Rattle.ref_base.specs.GraphAnswers.{AnswersStrength};
 ghost use Rattle.ref_base.specs.Paths.{if_any};
@@ -8,7 +8,7 @@ ghost use Rattle.ref_base.specs.Searches.{added_all, phantom_referents, phantom_
 ghost use Rattle.ref_base.specs.Searches.{found_reach, found_reaches};
 ghost use Rattle.ref_base.specs.Strengths.{AreStrengths, IsRising};
 
-use crate::search::{Allow, Numbers, add_if_any, search, was_found};
+use crate::search::{Allow, Numbers, add_if_any, add_roots, go_on};
 use crate::{Fault, Graph, ObjNo, ObjectReach, Reach, Strength};
 use indexmap::IndexSet;
 use std::alloc::{AllocError, Allocator};
@@ -40,54 +40,54 @@ fn hung_on<A: Allocator + Copy, B: Allocator + Copy>(
     Ok(hung)
 }
 
-// What three searches found: the numbers that paths lead to which go through no references, through soft ones, and
-// through soft and weak ones; and the numbers of what hangs on a phantom reference among the last.
+// What a search found: first what paths lead to that go through no references, then what else they lead to through soft
+// ones, then through weak ones too; and what hangs on a phantom reference among all of them.
 #[derive(Drop)]
 struct Found<B: Allocator> {
-    strong: Numbers<B>,
-    soft: Numbers<B>,
-    weak: Numbers<B>,
+    reached: Numbers<B>,
+    // How many of them are strong, and how many are strong or soft.
+    strong: usize,
+    soft: usize,
     hung: Numbers<B>,
 }
 
-// What the three searches find.
+// What a search finds that goes on twice.
 fn find<A: Allocator + Copy, B: Allocator + Copy>(
     alloc: B,
     graph: &Graph<A>,
 ) -> Result<Found<B>, AllocError>
-    ensures { IfOk result (λ f. AreFound graph.now f.strong.keys f.soft.keys f.weak.keys f.hung.keys) }
+    ensures { IfOk result (λ f. AreFound graph.now (take f.strong f.reached.keys) (take f.soft f.reached.keys)
+        f.reached.keys f.hung.keys) }
 {
-    let strong = search(alloc, graph, Allow::NoReferents)?;
-    let soft = search(alloc, graph, Allow::Soft)?;
-    let weak = search(alloc, graph, Allow::SoftAndWeak)?;
-    let hung = hung_on(alloc, graph, &weak)?;
+    let mut reached = IndexSet::new(alloc);
+    add_roots(&mut reached, graph, graph.roots())?;
+    go_on(&mut reached, graph, Allow::NoReferents, 0)?;
+    let strong = reached.len();
+    go_on(&mut reached, graph, Allow::Soft, strong)?;
+    let soft = reached.len();
+    go_on(&mut reached, graph, Allow::SoftAndWeak, soft)?;
+    let hung = hung_on(alloc, graph, &reached)?;
     Ok(Found {
+        reached,
         strong,
         soft,
-        weak,
         hung,
     })
 }
 
-impl<B: Allocator> Found<B> {
-    // The first search that found the number tells its strength.
+impl<B: Allocator + Copy> Found<B> {
+    // Where in the search the number was found tells its strength.
     fn reach_of(&self, no: ObjNo) -> Reach
-        ensures { result ≡ found_reach self.now.strong.keys self.now.soft.keys self.now.weak.keys
-            self.now.hung.keys no }
+        ensures { result ≡ found_reach (take self.now.strong self.now.reached.keys)
+            (take self.now.soft self.now.reached.keys) self.now.reached.keys self.now.hung.keys no }
     {
-        if was_found(&self.strong, no) {
-            return Reach::Strong;
+        match self.reached.get_index_of(&no) {
+            Some(place) if place < self.strong => Reach::Strong,
+            Some(place) if place < self.soft => Reach::Soft,
+            Some(_) => Reach::Weak,
+            None if self.hung.contains(&no) => Reach::Phantom,
+            None => Reach::Unreachable,
         }
-        if was_found(&self.soft, no) {
-            return Reach::Soft;
-        }
-        if was_found(&self.weak, no) {
-            return Reach::Weak;
-        }
-        if was_found(&self.hung, no) {
-            return Reach::Phantom;
-        }
-        Reach::Unreachable
     }
 
     // The strength of each object of the graph that was searched.
@@ -96,12 +96,14 @@ impl<B: Allocator> Found<B> {
         alloc: B,
         graph: &Graph<A>,
     ) -> Result<Vec<ObjectReach, B>, AllocError>
-        ensures ok { IfOk result (λ listed. listed.items ≡ found_reaches self.now.strong.keys self.now.soft.keys
-            self.now.weak.keys self.now.hung.keys (numbers graph.now.objects)) }
+        ensures ok { IfOk result (λ listed. listed.items ≡ found_reaches (take self.now.strong self.now.reached.keys)
+            (take self.now.soft self.now.reached.keys) self.now.reached.keys self.now.hung.keys
+            (numbers graph.now.objects)) }
         ensures sorted { IsRising (numbers graph.now.objects) }
     {
-        graph
-            .numbers()
+        let numbers = graph.numbers(alloc)?;
+        numbers
+            .iter()
             .map(|no| ObjectReach {
                 object: *no,
                 reach: self.reach_of(*no),
@@ -115,7 +117,7 @@ impl<B: Allocator> Found<B> {
 /// strong, soft and weak steps, and that what lies behind such a referent isn't by that.
 ///
 /// `NoSuchObject` exactly where there is no such object, which takes no memory to tell; else `NoMemory` where a growth
-/// is refused. In expected time of the number of objects, fields and roots, times a logarithm for look-ups.
+/// is refused. In expected time of the number of objects, fields and roots.
 pub fn strength_of<A: Allocator + Copy, B: Allocator + Copy>(
     alloc: B,
     graph: &Graph<A>,

@@ -1,11 +1,12 @@
 //! The search for all objects that paths from the roots lead to. The list of what it has seen is also its list of
-//! work: it goes on from one number after the other, and puts what it finds at the end.
+//! work: it goes on from one number after the other, and puts what it finds at the end. It can then go on with more
+//! references that paths may go through, so that what it found before stays the front of its list.
 
-ghost use Rattle.std.specs.Prelude.{◌≡◌, OnOk, IfOk};
+ghost use Rattle.std.specs.Prelude.{◌≡◌, OnOk, length, take};
 ghost use Rattle.ref_base.specs.GraphViews.{reference_of};
-ghost use Rattle.ref_base.specs.Members.{has};
+ghost use Rattle.ref_base.specs.Graphs.{object_at};
 ghost use Rattle.ref_base.specs.Paths.{allowed_referent, if_any, present, targets_at};
-ghost use Rattle.ref_base.specs.Searches.{allows, allowed, added, added_all, IsReached};
+ghost use Rattle.ref_base.specs.Searches.{allows, allowed, added, added_all, referent_of, IsReached, IsSearched};
 
 use crate::stored::Link;
 use crate::{Graph, ObjNo, Strength};
@@ -51,13 +52,6 @@ impl Allow {
 /// Numbers in the order in which they were found, each once.
 pub(crate) type Numbers<B> = IndexSet<ObjNo, BuildHasherDefault<FoldHasher>, B>;
 
-/// Whether this number was found.
-pub(crate) fn was_found<B: Allocator>(found: &Numbers<B>, no: ObjNo) -> bool
-    ensures { result ≡ has found.now.keys no }
-{
-    found.contains(&no)
-}
-
 // One more number, where it is an object's.
 fn add<A: Allocator + Copy, B: Allocator + Copy>(
     seen: &mut Numbers<B>,
@@ -100,8 +94,8 @@ fn add_fields<A: Allocator + Copy, B: Allocator + Copy>(
     Ok(())
 }
 
-// Where paths begin.
-fn add_roots<A: Allocator + Copy, B: Allocator + Copy>(
+/// Where paths begin.
+pub(crate) fn add_roots<A: Allocator + Copy, B: Allocator + Copy>(
     seen: &mut Numbers<B>,
     graph: &Graph<A>,
     roots: &[ObjNo],
@@ -131,22 +125,43 @@ fn add_targets<A: Allocator + Copy, B: Allocator + Copy>(
     Ok(())
 }
 
-/// The numbers of all objects that paths lead to, where they go through no other references than these. Each object and
-/// each field is looked at once: in expected time of their number, times a logarithm for look-ups.
-pub(crate) fn search<A: Allocator + Copy, B: Allocator + Copy>(
-    alloc: B,
+// Where a path may go on to through the object of this number, if it is a reference.
+fn add_referent<A: Allocator + Copy, B: Allocator + Copy>(
+    seen: &mut Numbers<B>,
+    graph: &Graph<A>,
+    no: ObjNo,
+    allow: Allow,
+) -> Result<(), AllocError>
+    ensures { OnOk result (seen.new.keys ≡ added_all graph.now.objects seen.old.keys
+        (referent_of (allowed allow) (object_at graph.now.objects no))) }
+{
+    match graph.stored(no) {
+        Some(stored) => add_if_any(seen, graph, allow.referent(stored.link)),
+        None => Ok(()),
+    }
+}
+
+/// Goes on to all objects that paths lead to, where they go through no other references than these. What the fields of
+/// the first `closed` hold was seen before, so that each field is looked at once, however often a search goes on.
+pub(crate) fn go_on<A: Allocator + Copy, B: Allocator + Copy>(
+    seen: &mut Numbers<B>,
     graph: &Graph<A>,
     allow: Allow,
-) -> Result<Numbers<B>, AllocError>
-    ensures { IfOk result (λ seen. IsReached (allowed allow) graph.now seen.keys) }
+    closed: usize,
+) -> Result<(), AllocError>
+    requires { IsSearched (allowed allow) graph.now seen.old.keys closed 0 }
+    ensures reached { OnOk result (IsReached (allowed allow) graph.now seen.new.keys) }
+    ensures kept { OnOk result (take (length seen.old.keys) seen.new.keys ≡ seen.old.keys) }
 {
-    let mut seen = IndexSet::new(alloc);
-    add_roots(&mut seen, graph, graph.roots())?;
     let mut next = 0;
     while next < seen.len() {
         let no = seen.as_slice()[next];
-        add_targets(&mut seen, graph, no, allow)?;
+        if next < closed {
+            add_referent(seen, graph, no, allow)?;
+        } else {
+            add_targets(seen, graph, no, allow)?;
+        }
         next += 1;
     }
-    Ok(seen)
+    Ok(())
 }

@@ -37,10 +37,15 @@ asks_for_a_notice (heap.Unhook m s) = true
 asks_for_a_notice (heap.Hand k) = true
 asks_for_a_notice step = false
 
+-- whether a heap may refuse with this fault: turns are none of its own
+abbrev pub is_of_heap : Fault → Bool
+is_of_heap TurnsSpent = false
+is_of_heap fault = true
+
 -- whether the reply to such a step tells that there is none, or that the step is refused
 abbrev pub gives_no_notice : Reply → Bool
 gives_no_notice told.Nothing = true
-gives_no_notice (told.Refused fault) = true
+gives_no_notice (told.Refused fault) = is_of_heap fault
 gives_no_notice reply = false
 
 -- what is answered then

@@ -9,3 +9,5 @@ pub mod QueueSeats
 pub mod QueueCalls
 pub mod Deliveries
 pub mod QueueStates
+pub mod QueueHistories
+pub mod HeapHistories

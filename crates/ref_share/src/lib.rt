@@ -10,6 +10,7 @@ mod answers;
 mod bell;
 mod delivery;
 mod heap_machine;
+pub mod laws;
 mod queue_machine;
 mod shared_heap;
 mod shared_queue;

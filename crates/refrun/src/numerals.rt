@@ -1,8 +1,9 @@
 //! Numbers as a text spells them: 1 to 20 decimal digits, leading zeros allowed.
 
-ghost use Rattle.std.specs.Prelude.{◌≡◌, ◌^◌};
+ghost use Rattle.std.specs.Prelude.{◌≡◌, ◌<◌, ◌^◌, SomeIff, true};
 ghost use Rattle.std.specs.Char.{is_ascii_digit};
 ghost use Rattle.std.specs.List.{list_all};
+ghost use Rattle.std.specs.Str.Parse.{digits_value};
 ghost use Rattle.refrun.specs.Numerals.{is_numeral, number_below};
 
 /// Whether each byte is a decimal digit.
@@ -19,17 +20,19 @@ fn is_numeral(word: &[u8]) -> bool
     (1..=20).contains(&word.len()) && are_digits(word)
 }
 
-/// The number below 2^32 that a word spells, or `None`.
-pub fn short_number(word: &[u8]) -> Option<u32>
-    ensures { result ≡ number_below (2 ^ 32) word.now }
+/// The number below 2^64 that digits write, or `None`. A graph text is mostly numbers: so they are read from their
+/// bytes, with no test for UTF-8.
+fn value_of(digits: &[u8]) -> Option<u64>
+    requires { list_all is_ascii_digit digits.now ≡ true }
+    ensures { SomeIff result (digits_value 10 digits.now < 2 ^ 64) (digits_value 10 digits.now) }
 {
-    if !is_numeral(word) {
-        return None;
+    let mut value = 0u64;
+    for digit in digits {
+        value = value
+            .checked_mul(10)?
+            .checked_add(u64::from(*digit - b'0'))?;
     }
-    match str::from_utf8(word) {
-        Ok(digits) => digits.parse::<u32>().ok(),
-        Err(_) => None,
-    }
+    Some(value)
 }
 
 /// The number below 2^64 that a word spells, or `None`.
@@ -39,8 +42,12 @@ pub fn long_number(word: &[u8]) -> Option<u64>
     if !is_numeral(word) {
         return None;
     }
-    match str::from_utf8(word) {
-        Ok(digits) => digits.parse::<u64>().ok(),
-        Err(_) => None,
-    }
+    value_of(word)
+}
+
+/// The number below 2^32 that a word spells, or `None`.
+pub fn short_number(word: &[u8]) -> Option<u32>
+    ensures { result ≡ number_below (2 ^ 32) word.now }
+{
+    u32::try_from(long_number(word)?).ok()
 }

@@ -1,5 +1,8 @@
-use Rattle.std.proofs.Common.{refl, sym, ◌∙◌, true, false, arith, ◌≡◌}
-use Rattle.ref_base.proofs.StoreLaws.{is_there-objects_in, with_object-same, stored-new}
+use Rattle.std.proofs.Common.{refl, sym, ◌∙◌, true, false, arith, ◌≡◌, nat_eq, None}
+use Rattle.std.specs.Map.{lookup}
+use Rattle.indexmap.proofs.CallerLemmas.{insert_entry-new}
+use Rattle.ref_base.proofs.StoreLaws.{is_there-objects_in, none_from_is_some, rising-objects_in, stored-last}
+use Rattle.ref_base.proofs.StoreLaws.{with_object-same}
 use Rattle.ref_base.specs.Graphs.{is_there}
 use Rattle.ref_base.specs.GraphViews.{objects_in, reference_of}
 use Rattle.ref_base.proofs.graph.Graph.add.Goals.{in-Ok, in-Err}
@@ -17,9 +20,9 @@ returns-then-contains_key-clause-after g c =
     let there : is_there (objects_in c.self.inside.objects.entries) c.args.no ≡ true =
     sym (is_there-objects_in c.self.inside.objects.entries c.args.no) ∙ sym c.contains_key.ensures
     ∙ c.if-contains_key.true in
-    let same = with_object-same c.self.inside.objects.entries
+    let same = with_object-same (objects_in c.self.inside.objects.entries)
     (record { no = c.args.no; fields = c.args.fields.now; reference = reference_of c.args.link })
-    c.len-count.ensures.ordered there in
+    (rising-objects_in c.self.inside.objects.entries) there in
     rw (← c.self.view_is, same) refl
 
 pub returns-clause-answer : goal.returns-clause-answer
@@ -35,15 +38,17 @@ returns-clause-answer g c =
 
 pub returns-clause-after : goal.returns-clause-after
 returns-clause-after g c =
-    let absent : is_there (objects_in c.self.inside.objects.entries) c.args.no ≡ false =
-    sym (is_there-objects_in c.self.inside.objects.entries c.args.no) ∙ sym c.contains_key.ensures
-    ∙ c.if-contains_key.false in
+    let none : lookup (nat_eq c.args.no) c.self.inside.objects.entries ≡ None =
+    none_from_is_some (lookup (nat_eq c.args.no) c.self.inside.objects.entries)
+    (sym c.contains_key.ensures ∙ c.if-contains_key.false) in
     rw (← c.self.view_is)
     (elim c.match-insert.branch [
       | in-Ok w ↦
-          let is = stored-new c.self.inside.objects.entries c.insert.new.self.entries c.args.no
-          (record { fields = c.new.result; link = c.args.link }) c.args.fields.now absent c.new.ensures
-          w.in-Ok.ensures.entries in
+          let is = stored-last c.self.inside.objects.entries c.insert.new.self.entries c.args.no
+          (record { fields = c.new.result; link = c.args.link }) c.args.fields.now c.new.ensures
+          (w.in-Ok.ensures.entries
+          ∙ insert_entry-new nat_eq c.self.inside.objects c.args.no
+          (record { fields = c.new.result; link = c.args.link }) none) in
           rw (w.result-is, is) refl
       | in-Err w ↦ rw (w.result-is, w.in-Err.ensures.err) refl
     ])

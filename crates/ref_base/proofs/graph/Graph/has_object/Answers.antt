@@ -1,7 +1,9 @@
-use Rattle.std.proofs.Common.{◌∙◌}
-use Rattle.ref_base.proofs.StoreLaws.{is_there-objects_in}
+use Rattle.std.proofs.Common.{◌∙◌, ap, is_some, sym}
+use Rattle.ref_base.specs.GraphViews.{object_of}
+use Rattle.ref_base.proofs.StoreLaws.{is_some-option_map}
 use Rattle.ref_base.proofs.graph.Graph.has_object.Goals as goal
 
 pub returns : goal.returns
 returns g c =
-    rw (← c.self.view_is) (c.contains_key.ensures ∙ is_there-objects_in c.self.inside.objects.entries c.args.no)
+    c.is_some.ensures ∙ sym (is_some-option_map (λ s. object_of (c.args.no, s.now)) c.stored.result)
+    ∙ ap is_some c.stored.ensures

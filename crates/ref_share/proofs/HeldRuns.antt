@@ -1,0 +1,208 @@
+-- The history of a heap: what is held is what was given out and not taken back.
+use Rattle.std.proofs.Common.{◌≡◌, ℕ, zero, suc, ◌+◌, ◌<◌, ◌==◌, Bool, true, false, List, [], ◌∷◌, ◌++◌}
+use Rattle.std.proofs.Common.{Option, Some, None, is_some, refl, sym, ap, ◌∙◌, subst, arith, inl, inr}
+use Rattle.std.proofs.lemmas.Bool.{cases_Bool, false≢true, eqb-true, eq-eqb, and_parts}
+use Rattle.ref_base.specs.Collectors.{State, first_state}
+use Rattle.ref_base.specs.CollectorRows.{IsHeapRow, IsHeapAnswer, HeapAccepts}
+use Rattle.ref_base.specs.CountedHolds.{tally, holds_after}
+use Rattle.ref_base.specs.Heaps.{Heap, one_more, one_fewer}
+use Rattle.ref_base.specs.HeapSteps.{NamedStep}
+use Rattle.ref_base.specs.Members.{has}
+use Rattle.ref_base.specs.Refusals.{heap_refusal, unless, is_counted, has_slot}
+use Rattle.ref_base.specs.Told.{told_notice, told_object}
+use Rattle.ref_base.specs.declared.config.Config.{Config}
+use Rattle.ref_base.specs.declared.fault.Fault.{Fault}
+use Rattle.ref_base.specs.declared.fault.Fault.TheVariants.{ForeignHold, NoSuchActor}
+use Rattle.ref_base.specs.declared.heap_step.HeapStep.TheVariants as heap
+use Rattle.ref_base.specs.declared.heap_step.HoldName.{HoldName}
+use Rattle.ref_base.specs.declared.reply.Reply.{Reply}
+use Rattle.ref_base.specs.declared.reply.Reply.TheVariants as told
+use Rattle.ref_base.proofs.CountedRows.{heap_holds}
+use Rattle.ref_base.proofs.HoldCounts.{one_if, tally-first, tally-append, tally-one_more}
+use Rattle.ref_turn.specs.History.{Leads}
+use Rattle.ref_world.specs.HeapReplies.{told_reply, Gives}
+use Rattle.ref_world.specs.declared.heap_machine.HeapReply.{HeapReply}
+use Rattle.ref_world.specs.declared.heap_machine.HeapReply.TheVariants as replies
+use Rattle.ref_share.specs.HeapHistories.{minted_by, spent_by, minted, spent}
+use Rattle.ref_share.specs.HeapMachines.{HeapState, IsHeapMove}
+use Rattle.ref_share.specs.HeapSeats.{HeapEntry, IsHeapRun, first_heap_state}
+
+-- ---- one row
+
+refused_holds : (hs : List ℕ) (step : NamedStep) (fault : Fault) → holds_after hs step (told.Refused fault) ≡ hs
+refused_holds hs heap.EndMark fault = refl
+refused_holds hs step fault = refl
+
+-- the holds that a row leaves are those that it tells
+row_holds : (a b : State) (refused : Option Fault) (step : NamedStep) (reply : Reply)
+    → IsHeapAnswer a refused step reply b → b.world.heap.holds ≡ holds_after a.world.heap.holds step reply
+row_holds a b None step reply row = heap_holds a b step reply row
+row_holds a b (Some fault) step reply row =
+    ap (λ (s : State). s.world.heap.holds) row.1
+    ∙ sym (ap (λ (r : Reply). holds_after a.world.heap.holds step r) row.0 ∙ refused_holds a.world.heap.holds step fault)
+
+-- a list without the first n that stands in it
+tally-one_fewer_there : (hs : List ℕ) (m n : ℕ) → has hs m ≡ true
+    → one_if m n + tally (one_fewer hs m) n ≡ tally hs n
+tally-one_fewer_there [] m n there = absurd (false≢true there)
+tally-one_fewer_there (h ∷ hs) m n there =
+    let front = tally-first h hs n in
+    elim (cases_Bool (h == m)) [
+      | inl same ↦
+          let own : one_if h n ≡ one_if m n = ap (λ i. one_if i n) (eqb-true h m same) in
+          simp same (omega (arith, front, own))
+      | inr other ↦
+          let later = tally-one_fewer_there hs m n (simp other at there) in
+          let all = tally-first h (one_fewer hs m) n in
+          simp other (omega (arith, front, later, all))
+    ]
+
+no_change : (hs left : List ℕ) (n : ℕ) → left ≡ hs → tally left n + tally [] n ≡ tally [] n + tally hs n
+no_change hs left n same = ap (λ (ns : List ℕ). tally ns n + 0) same ∙ omega arith
+
+one_given : (hs left : List ℕ) (m n : ℕ) → left ≡ one_more hs m
+    → tally left n + tally [] n ≡ tally (m ∷ []) n + tally hs n
+one_given hs left m n same =
+    let more = ap (λ (ns : List ℕ). tally ns n) same ∙ tally-one_more hs m n in
+    omega (arith, more, tally-first m [] n)
+
+one_taken : (hs left : List ℕ) (m n : ℕ) → left ≡ one_fewer hs m → has hs m ≡ true
+    → tally left n + tally (m ∷ []) n ≡ tally [] n + tally hs n
+one_taken hs left m n same there =
+    let fewer = ap (λ (ns : List ℕ). tally ns n) same in
+    omega (arith, fewer, tally-one_fewer_there hs m n there, tally-first m [] n)
+
+-- a step that tells of no notice and of no object gives no hold
+unhook_gave_none : (hs : List ℕ) (m s : ℕ) (reply : Reply) → told_notice reply ≡ None
+    → holds_after hs (heap.Unhook m s) reply ≡ hs
+unhook_gave_none hs m s (told.Notice n q cause) none = absurd (false≢true (sym (ap is_some none)))
+unhook_gave_none hs m s reply none = refl
+
+hand_gave_none : (hs : List ℕ) (k : ℕ) (reply : Reply) → told_notice reply ≡ None
+    → holds_after hs (heap.Hand k) reply ≡ hs
+hand_gave_none hs k (told.Notice n q cause) none = absurd (false≢true (sym (ap is_some none)))
+hand_gave_none hs k reply none = refl
+
+hold_gave_none : (hs : List ℕ) (m s : ℕ) (reply : Reply) → told_object reply ≡ None
+    → holds_after hs (heap.Hold m s) reply ≡ hs
+hold_gave_none hs m s (told.Object n) none = absurd (false≢true (sym (ap is_some none)))
+hold_gave_none hs m s reply none = refl
+
+-- an adopt or a release that is accepted is of a hold that is counted
+counted_if_told : (a b : State) (counted : Bool) (step : NamedStep) (reply : Reply)
+    → ((fault : Fault) → reply ≡ told.Refused fault → ⊥)
+    → IsHeapAnswer a (unless counted ForeignHold None) step reply b → (counted ≡ true) × HeapAccepts a step reply b
+counted_if_told a b true step reply accepted row = (refl, row)
+counted_if_told a b false step reply accepted row = absurd (accepted ForeignHold row.0)
+
+adopt_counted : (a b : State) (may counted : Bool) (step : NamedStep) (reply : Reply)
+    → ((fault : Fault) → reply ≡ told.Refused fault → ⊥)
+    → IsHeapAnswer a (unless may NoSuchActor (unless counted ForeignHold None)) step reply b
+    → (counted ≡ true) × HeapAccepts a step reply b
+adopt_counted a b true counted step reply accepted row = counted_if_told a b counted step reply accepted row
+adopt_counted a b false counted step reply accepted row = absurd (accepted NoSuchActor row.0)
+
+abbrev holds_in : HeapState → List ℕ
+holds_in x = x.state.world.heap.holds
+
+-- a call that takes a hold back gives none
+gives_none : (step : NamedStep) (reply : HeapReply) (n : ℕ) → spent_by step reply ≡ n ∷ [] → minted_by step reply ≡ []
+gives_none step (replies.Told reply) n spends = refl
+gives_none step (replies.Back fault hold) n spends = refl
+gives_none heap.EndMark (replies.Notice notice) n spends = absurd cc
+gives_none step (replies.Notice notice) n spends = absurd cc
+gives_none heap.EndMark (replies.Held hold) n spends = absurd cc
+gives_none step (replies.Held hold) n spends = absurd cc
+
+-- what one call of the heap does to what is held
+module _ (x y : HeapState) (n : ℕ) where
+  abbrev Balances : NamedStep → HeapReply → Type 0
+  Balances step reply =
+      tally (holds_in y) n + tally (spent_by step reply) n ≡ tally (minted_by step reply) n + tally (holds_in x) n
+
+  after_told : (step : NamedStep) (reply : Reply) → holds_in y ≡ holds_after (holds_in x) step reply
+      → IsHeapRow x.number x.state step reply y.state → Gives x.number step (replies.Told reply)
+      → Balances step (replies.Told reply)
+  after_told (heap.Unhook m s) reply held row gives =
+      no_change (holds_in x) (holds_in y) n (held ∙ unhook_gave_none (holds_in x) m s reply gives)
+  after_told (heap.Hand k) reply held row gives =
+      no_change (holds_in x) (holds_in y) n (held ∙ hand_gave_none (holds_in x) k reply gives)
+  after_told (heap.Hold m s) reply held row gives =
+      no_change (holds_in x) (holds_in y) n (held ∙ hold_gave_none (holds_in x) m s reply gives)
+  after_told (heap.Adopt m d hold) (told.Object k) held row gives =
+      let h = x.state.world.heap in
+      let counted = adopt_counted x.state y.state (has_slot h m d) (is_counted x.number h hold) (heap.Adopt m d hold)
+          (told.Object k) (λ fault is. absurd cc) row in
+      let there = and_parts _ _ counted.0 in
+      one_taken (holds_in x) (holds_in y) hold.object n
+          (held ∙ ap (λ (r : Reply). holds_after (holds_in x) (heap.Adopt m d hold) r) counted.1.0) there.1
+  after_told (heap.Adopt m d hold) reply held row gives = absurd cc
+  after_told (heap.Release hold) told.Done held row gives =
+      let counted = counted_if_told x.state y.state (is_counted x.number x.state.world.heap hold) (heap.Release hold)
+          told.Done (λ fault is. absurd cc) row in
+      let there = and_parts _ _ counted.0 in
+      one_taken (holds_in x) (holds_in y) hold.object n held there.1
+  after_told (heap.Release hold) reply held row gives = absurd cc
+  after_told step reply held row gives = no_change (holds_in x) (holds_in y) n held
+
+  held_move : (step : NamedStep) (reply : HeapReply) → IsHeapMove x step reply y → Balances step reply
+  held_move step (replies.Told reply) move =
+      after_told step reply (row_holds x.state y.state (heap_refusal x.number x.state step) step reply move.row)
+      move.row move.gives
+  held_move (heap.Unhook m s) (replies.Notice notice) move =
+      one_given (holds_in x) (holds_in y) notice.hold.object n
+      (row_holds x.state y.state (heap_refusal x.number x.state (heap.Unhook m s)) (heap.Unhook m s)
+      (told_reply (replies.Notice notice)) move.row)
+  held_move (heap.Hand k) (replies.Notice notice) move =
+      one_given (holds_in x) (holds_in y) notice.hold.object n
+      (row_holds x.state y.state (heap_refusal x.number x.state (heap.Hand k)) (heap.Hand k)
+      (told_reply (replies.Notice notice)) move.row)
+  held_move step (replies.Notice notice) move = absurd move.gives
+  held_move (heap.Hold m s) (replies.Held hold) move =
+      one_given (holds_in x) (holds_in y) hold.object n
+      (row_holds x.state y.state (heap_refusal x.number x.state (heap.Hold m s)) (heap.Hold m s)
+      (told.Object hold.object) move.row)
+  held_move step (replies.Held hold) move = absurd move.gives
+  held_move heap.EndMark (replies.Back fault hold) move = absurd move.gives
+  held_move step (replies.Back fault hold) move =
+      no_change (holds_in x) (holds_in y) n
+      (row_holds x.state y.state (heap_refusal x.number x.state step) step (told.Refused fault) move.row
+      ∙ refused_holds (holds_in x) step fault)
+
+-- ---- a history
+
+pub held_run : (x y : HeapState) (calls : List HeapEntry) → Leads IsHeapMove x calls y → (n : ℕ)
+    → tally (holds_in y) n + tally (spent calls) n ≡ tally (minted calls) n + tally (holds_in x) n
+held_run x y [] run n = no_change (holds_in x) (holds_in y) n (ap holds_in (sym run))
+held_run x y (call ∷ calls) run n =
+    let first = held_move x run.0 n call.step call.reply run.1 in
+    let later = held_run run.0 y calls run.2 n in
+    let out = tally-append (spent_by call.step call.reply) (spent calls) n in
+    let given = tally-append (minted_by call.step call.reply) (minted calls) n in
+    omega (arith, first, later, out, given)
+
+-- what is held was given out and not taken back
+pub held_is_minted : (config : Config) (number : ℕ) (calls : List HeapEntry) (last : HeapState)
+    → IsHeapRun config number calls last → (n : ℕ)
+    → tally (holds_in last) n + tally (spent calls) n ≡ tally (minted calls) n
+held_is_minted config number calls last run n =
+    let all = held_run (first_heap_state config number) last calls run n in omega (arith, all)
+
+cut : (x y : HeapState) (front back : List HeapEntry) → Leads IsHeapMove x (front ++ back) y
+    → (mid : HeapState) × Leads IsHeapMove x front mid × Leads IsHeapMove mid back y
+cut x y [] back run = (x, refl, run)
+cut x y (call ∷ front) back run =
+    let rest = cut run.0 y front back run.2 in (rest.0, (run.0, run.1, rest.1), rest.2)
+
+-- a call that takes a hold back takes back one that was given out
+pub spent_was_minted : (config : Config) (number : ℕ) (front back : List HeapEntry) (call : HeapEntry)
+    (last : HeapState) (n : ℕ) → IsHeapRun config number (front ++ call ∷ back) last
+    → spent_by call.step call.reply ≡ n ∷ [] → tally (spent front) n < tally (minted front) n
+spent_was_minted config number front back call last n run spends =
+    let parts = cut (first_heap_state config number) last front (call ∷ back) run in
+    let before = held_is_minted config number front parts.0 parts.1 n in
+    let move = held_move parts.0 parts.2.0 n call.step call.reply parts.2.1 in
+    let out = ap (λ (ns : List ℕ). tally ns n) spends in
+    let none = ap (λ (ns : List ℕ). tally ns n) (gives_none call.step call.reply n spends) in
+    let one : one_if n n ≡ 1 = rw (eq-eqb n n refl) refl in
+    omega (arith, before, move, out, none, tally-first n [] n, one)

@@ -1,0 +1,118 @@
+-- The history of a queue: its lists are those of its entries.
+use Rattle.std.proofs.Common.{◌≡◌, ℕ, Bool, true, false, ◌||◌, List, [], ◌∷◌, ◌++◌, length, map, Result, Ok, Err}
+use Rattle.std.proofs.Common.{refl, sym, ap, ◌∙◌, subst}
+use Rattle.std.specs.List.{IsDistinct}
+use Rattle.std.specs.Prelude.{nat_eq, not}
+use Rattle.std.proofs.lemmas.List.{append-nil}
+use Rattle.ref_base.specs.QueueLists.{Lists, new_queue, enqueued, with_parcel, with_taken}
+use Rattle.ref_base.proofs.LegalQueues.{distinct_nil}
+use Rattle.ref_base.proofs.QueueMoves.{QueueMoves, moves_nothing, moves_more, moves_added, moves_took, moves_closed}
+use Rattle.ref_clear.specs.ClearHeaps.{HeldNotice}
+use Rattle.ref_queue.specs.declared.queue.Put.TheVariants as puts
+use Rattle.ref_queue.specs.declared.queue.Polled.TheVariants as polls
+use Rattle.ref_turn.specs.History.{Leads}
+use Rattle.ref_turn.specs.Seats.{entry}
+use Rattle.ref_share.specs.QueueHistories.{put_by, taken_by, closed_by, put_in, taken_out, was_closed, KeepsLists}
+use Rattle.ref_share.specs.QueueMachines.{object_of, queue_of, IsQueueMove}
+use Rattle.ref_share.specs.QueueSeats.{QueueEntry, IsQueueRun}
+use Rattle.ref_share.specs.QueueStates.{NoticeLists}
+use Rattle.ref_share.specs.declared.queue_machine.QueueStep.{QueueStep}
+use Rattle.ref_share.specs.declared.queue_machine.QueueStep.TheVariants as steps
+use Rattle.ref_share.specs.declared.queue_machine.QueueReply.{QueueReply}
+use Rattle.ref_share.specs.declared.queue_machine.QueueReply.TheVariants as replies
+
+-- how one call changes the lists: as its entry tells
+abbrev MovesBy : NoticeLists → NoticeLists → QueueStep → QueueReply → Type 0
+MovesBy q r step reply = QueueMoves object_of q r (put_by step reply) (taken_by step reply) (closed_by step reply)
+
+stays : (q r : NoticeLists) → r ≡ q → QueueMoves object_of q r [] [] false
+stays q r same = subst (λ (s : NoticeLists). QueueMoves object_of q s [] [] false) (sym same) (moves_nothing object_of q)
+
+either_true : (b : Bool) → true ≡ (b || true)
+either_true true = refl
+either_true false = refl
+
+move_moves : (q r : NoticeLists) (step : QueueStep) (reply : QueueReply) → IsQueueMove q step reply r
+    → MovesBy q r step reply
+move_moves q r (steps.Put notice) (replies.Put (Ok (puts.Added position))) move =
+    subst (λ (s : NoticeLists). QueueMoves object_of q s (object_of notice ∷ []) [] false) (sym move.1)
+    (moves_added object_of q notice move.0.0.1 move.0.0.2)
+move_moves q r (steps.Put notice) (replies.Put (Ok (puts.Already back))) move = stays q r move.1
+move_moves q r (steps.Put notice) (replies.Put (Ok (puts.Closed back))) move = stays q r move.1
+move_moves q r (steps.Put notice) (replies.Put (Err refused)) move = stays q r move.1
+move_moves q r steps.Poll (replies.Polled (polls.Took notice)) move =
+    subst (λ (s : NoticeLists). QueueMoves object_of q s [] (object_of notice ∷ []) false) (sym move.1)
+    (moves_took object_of q notice r.stands move.0)
+move_moves q r steps.Poll (replies.Polled polls.Empty) move = stays q r move.2
+move_moves q r steps.Poll (replies.Polled polls.Closed) move = stays q r move.2
+move_moves q r steps.Close (replies.Closed was_open) move =
+    subst (λ (s : NoticeLists). QueueMoves object_of q s [] [] true) (sym move.1)
+    (moves_closed object_of q true (either_true q.closed))
+move_moves q r step reply move = absurd move
+
+pub run_moves : (q : NoticeLists) (calls : List QueueEntry) (r : NoticeLists) → Leads IsQueueMove q calls r
+    → QueueMoves object_of q r (put_in calls) (taken_out calls) (was_closed calls)
+run_moves q [] r run = subst (λ (s : NoticeLists). QueueMoves object_of q s [] [] false) run (moves_nothing object_of q)
+run_moves q (call ∷ calls) r run =
+    moves_more object_of q run.0 r (put_by call.step call.reply) (put_in calls) (taken_by call.step call.reply)
+    (taken_out calls) (closed_by call.step call.reply) (was_closed calls)
+    (move_moves q run.0 call.step call.reply run.1) (run_moves run.0 calls r run.2)
+
+pub keeps_lists : (number : ℕ) (calls : List QueueEntry) (last : NoticeLists) → IsQueueRun number calls last
+    → KeepsLists calls last
+keeps_lists number calls last run =
+    let moves = run_moves (new_queue number) calls last run in
+    record {
+      put_is = moves.put;
+      taken_is = moves.taken;
+      closed_is = moves.closed;
+      at_most_once = subst (IsDistinct nat_eq) moves.put (moves.distinct distinct_nil);
+    }
+
+-- ---- a run in two parts
+
+cut : (q : NoticeLists) (front back : List QueueEntry) (r : NoticeLists) → Leads IsQueueMove q (front ++ back) r
+    → (mid : NoticeLists) × Leads IsQueueMove q front mid × Leads IsQueueMove mid back r
+cut q [] back r run = (q, refl, run)
+cut q (call ∷ front) back r run =
+    let rest = cut run.0 front back r run.2 in (rest.0, (run.0, run.1, rest.1), rest.2)
+
+-- nothing is put in behind a close
+pub nothing_after_close : (number : ℕ) (front back : List QueueEntry) (last : NoticeLists)
+    → IsQueueRun number (front ++ back) last → was_closed front ≡ true → put_in back ≡ []
+nothing_after_close number front back last run shut =
+    let parts = cut (new_queue number) front back last run in
+    let first = keeps_lists number front parts.0 parts.1 in
+    (run_moves parts.0 back last parts.2).shut (first.closed_is ∙ shut)
+
+number_stays : (q r : NoticeLists) (step : QueueStep) (reply : QueueReply) → IsQueueMove q step reply r
+    → r.queue ≡ q.queue
+number_stays q r (steps.Put notice) (replies.Put (Ok (puts.Added position))) move = ap (λ (s : NoticeLists). s.queue) move.1
+number_stays q r (steps.Put notice) (replies.Put (Ok (puts.Already back))) move = ap (λ (s : NoticeLists). s.queue) move.1
+number_stays q r (steps.Put notice) (replies.Put (Ok (puts.Closed back))) move = ap (λ (s : NoticeLists). s.queue) move.1
+number_stays q r (steps.Put notice) (replies.Put (Err refused)) move = ap (λ (s : NoticeLists). s.queue) move.1
+number_stays q r steps.Poll (replies.Polled (polls.Took notice)) move = ap (λ (s : NoticeLists). s.queue) move.1
+number_stays q r steps.Poll (replies.Polled polls.Empty) move = ap (λ (s : NoticeLists). s.queue) move.2
+number_stays q r steps.Poll (replies.Polled polls.Closed) move = ap (λ (s : NoticeLists). s.queue) move.2
+number_stays q r steps.Close (replies.Closed was_open) move = ap (λ (s : NoticeLists). s.queue) move.1
+number_stays q r step reply move = absurd move
+
+number_of : (q : NoticeLists) (calls : List QueueEntry) (r : NoticeLists) → Leads IsQueueMove q calls r
+    → r.queue ≡ q.queue
+number_of q [] r run = ap (λ (s : NoticeLists). s.queue) (sym run)
+number_of q (call ∷ calls) r run =
+    number_of run.0 calls r run.2 ∙ number_stays q run.0 call.step call.reply run.1
+
+-- what is added is for this queue, at the next position
+pub own_at_the_end : (number by : ℕ) (front back : List QueueEntry) (notice : HeldNotice) (position : ℕ)
+    (last : NoticeLists)
+    → IsQueueRun number
+        (front ++ entry by (steps.Put notice) (replies.Put (Ok (puts.Added position))) ∷ back) last
+    → (notice.queue ≡ number) × (position ≡ length (put_in front))
+own_at_the_end number by front back notice position last run =
+    let call : QueueEntry = entry by (steps.Put notice) (replies.Put (Ok (puts.Added position))) in
+    let parts = cut (new_queue number) front (call ∷ back) last run in
+    let added = parts.2.1.0 in (
+      added.0.0 ∙ number_of (new_queue number) front parts.0 parts.1,
+      added.1 ∙ ap length (keeps_lists number front parts.0 parts.1).put_is,
+    )
