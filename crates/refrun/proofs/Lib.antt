@@ -18,3 +18,4 @@ pub mod ListingLemmas
 pub mod WriteLemmas
 pub mod ReadLemmas
 pub mod ListChecks
+pub mod SeatLists

@@ -18,6 +18,7 @@ pub mod Answers
 pub mod Traces
 pub mod Listings
 pub mod StressChecks
+pub mod StressSeats
 pub mod DeclarationViews
 pub mod GraphReading
 pub mod TextReading
