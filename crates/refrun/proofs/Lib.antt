@@ -17,3 +17,5 @@ pub mod TraceLemmas
 pub mod ListingLemmas
 pub mod WriteLemmas
 pub mod ReadLemmas
+pub mod ListChecks
+pub mod SeatLists

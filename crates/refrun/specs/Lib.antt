@@ -17,6 +17,8 @@ pub mod Reads
 pub mod Answers
 pub mod Traces
 pub mod Listings
+pub mod StressChecks
+pub mod StressSeats
 pub mod DeclarationViews
 pub mod GraphReading
 pub mod TextReading

@@ -1,13 +1,17 @@
 //! The program `refrun`. `refrun run` reads a script on standard input and prints its trace on standard output;
-//! `refrun strength` reads a graph text and prints how strongly each of its objects is reachable. What it says on standard
-//! error begins with `refrun: `, but for what `clap` says of a wrong command line. Exit statuses: 0 done, 2 a wrong
-//! command line, 3 a fault of the text or of reading and writing, 5 no memory.
+//! `refrun strength` reads a graph text and prints how strongly each of its objects is reachable; `refrun stress` runs
+//! threads over one heap and one queue, and checks the queue's lists. What it says on standard error begins with
+//! `refrun: `, but for what `clap` says of a wrong command line. Exit statuses: 0 done, 2 a wrong command line, 3 a fault
+//! of the text or of reading and writing, 4 a check of stress that failed, 5 no memory.
 #![tactic(auto)]
+
+mod stressing;
 
 use clap::error::ErrorKind;
 use clap::{ArgMatches, Command, Error};
 use refrun::{FromReader, TextFault, ToWriter, run_script, strength_text};
 use std::alloc::Global;
+use std::io::IsTerminal;
 use std::process::ExitCode;
 use std::{env, io};
 
@@ -26,13 +30,16 @@ fn main(rt: HostRuntime) -> ExitCode {
         }
     };
     match command_of(rt.alloc(), words.as_slice()) {
-        Ok(matches) if matches.subcommand_name() == Some("strength") => strength(&rt),
-        Ok(_) => run(&rt),
+        Ok(matches) => match matches.subcommand() {
+            Some(("strength", _)) => strength(&rt),
+            Some(("stress", options)) => stressing::run(&rt, options, rt.stderr().is_terminal()),
+            _ => run(&rt),
+        },
         Err(error) => refuse(&rt, error),
     }
 }
 
-/// What the words ask for: `run` or `strength`.
+/// What the words ask for: `run`, `strength` or `stress`.
 fn command_of<'a>(alloc: Global, words: &'a [String]) -> Result<ArgMatches<'a>, Error> {
     let run = Command::new(alloc, "run").about(
         "Reads a script on standard input and prints its trace",
@@ -49,6 +56,7 @@ fn command_of<'a>(alloc: Global, words: &'a [String]) -> Result<ArgMatches<'a>, 
         .subcommand_required(true)
         .subcommand(run)?
         .subcommand(strength)?
+        .subcommand(stressing::command(alloc)?)?
         .try_get_matches_from(words)
 }
 

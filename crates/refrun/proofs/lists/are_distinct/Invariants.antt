@@ -1,0 +1,9 @@
+use Rattle.std.proofs.Common.{◌≡◌, ℕ, nat_eq, take}
+use Rattle.std.specs.List.{IsDistinct}
+use Rattle.ref_base.specs.Members.{has}
+use Rattle.refrun.proofs.lists.are_distinct.Given as goal
+
+abbrev pub invariant-loop-number : goal.invariant-loop-number
+invariant-loop-number g l =
+    IsDistinct nat_eq (take l.number-index l.numbers)
+    × ((q : ℕ) → has l.seen.keys q ≡ has (take l.number-index l.numbers) q)

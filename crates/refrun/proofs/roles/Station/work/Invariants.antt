@@ -1,0 +1,6 @@
+use Rattle.refrun.specs.StressSeats.{IsSeated}
+use Rattle.refrun.proofs.roles.Station.work.Given as goal
+
+abbrev pub invariant-loop : goal.invariant-loop
+invariant-loop g l =
+    (goal.iterator-loop g).can_next l.iterator' × (goal.iterator-loop g).is_finite l.iterator' × IsSeated l.self

@@ -1,0 +1,135 @@
+//! Whether a queue's lists agree once all threads of a stress run have ended.
+
+ghost use Rattle.std.specs.Prelude.{◌≡◌, ◌↔◌, map, nat_eq, true, All, IfOk, OnErr, IsTrue};
+ghost use Rattle.std.specs.List.{IsDistinct};
+ghost use Rattle.ref_base.specs.CollectorRows.{is_subsequence};
+ghost use Rattle.refrun.specs.StressChecks.{IsFirstFailure, GivesEachOnce};
+
+use ref_base::{Fault, ObjNo};
+use std::alloc::Allocator;
+use std::collections::HashSet;
+use std::fmt;
+
+/// A check of what a queue's lists say once the threads have ended. It prints as its name, in small letters.
+#[derive(Clone, Copy, Debug, PartialEq, Eq)]
+pub enum Check {
+    /// No number was put in twice.
+    Twice,
+    /// Each poller took its numbers in the order in which they were put in.
+    Order,
+    /// The pollers took each number that was taken once, and no other.
+    Total,
+    /// Nothing stands, and what was put in was taken.
+    Rest,
+}
+
+impl fmt::Display for Check {
+    ghost use Rattle.std.specs.Prelude.{Some};
+    ghost use Rattle.refrun.specs.StressChecks.{name_of_check};
+
+    ghost output = { λ check. Some (name_of_check check) };
+
+    fn fmt<W: fmt::Write>(&self, f: &mut fmt::Formatter<W>) -> fmt::Result {
+        match *self {
+            Check::Twice => write!(f, "twice"),
+            Check::Order => write!(f, "order"),
+            Check::Total => write!(f, "total"),
+            Check::Rest => write!(f, "rest"),
+        }
+    }
+}
+
+/// The first check that fails, in the order of `Check`; `None` where all hold. `lists` has what each poller took.
+///
+/// The one error is `NoMemory`. In expected linear time of all numbers, and for each poller of `enqueued` once more. It
+/// takes memory for the numbers of `enqueued` and then of `taken`.
+pub fn check_lists<A: Allocator + Copy, B: Allocator>(
+    alloc: A,
+    enqueued: &[ObjNo],
+    taken: &[ObjNo],
+    stands: &[ObjNo],
+    lists: &[Vec<ObjNo, B>],
+) -> Result<Option<Check>, Fault>
+    ensures answer { IfOk result (IsFirstFailure enqueued.now taken.now stands.now (map (λ v. v.items) lists.now)) }
+    ensures err { OnErr result (result ≡ Err Fault.NoMemory) }
+{
+    if !are_distinct(alloc, enqueued)? {
+        return Ok(Some(Check::Twice));
+    }
+    if !are_in_order(lists, enqueued) {
+        return Ok(Some(Check::Order));
+    }
+    if !gives_each_once(alloc, lists, taken)? {
+        return Ok(Some(Check::Total));
+    }
+    if !stands.is_empty() || taken != enqueued {
+        return Ok(Some(Check::Rest));
+    }
+    Ok(None)
+}
+
+/// Whether no number stands twice.
+fn are_distinct<A: Allocator + Copy>(alloc: A, numbers: &[ObjNo]) -> Result<bool, Fault>
+    ensures answer { IfOk result (λ b. IsTrue b ↔ IsDistinct nat_eq numbers.now) }
+    ensures err { OnErr result (result ≡ Err Fault.NoMemory) }
+{
+    let mut seen = HashSet::new(alloc);
+    for number in numbers {
+        let Ok(is_new) = seen.insert(*number) else {
+            return Err(Fault::NoMemory);
+        };
+        if !is_new {
+            return Ok(false);
+        }
+    }
+    Ok(true)
+}
+
+/// Whether each poller took its numbers in the order of `enqueued`.
+fn are_in_order<B: Allocator>(lists: &[Vec<ObjNo, B>], enqueued: &[ObjNo]) -> bool
+    ensures { IsTrue result ↔ All (λ list. is_subsequence list.items enqueued.now ≡ true) lists.now }
+{
+    lists
+        .iter()
+        .all(|list| is_in_order(list.as_slice(), enqueued))
+}
+
+/// Whether a list is what is left of `enqueued` where some numbers are taken out.
+fn is_in_order(list: &[ObjNo], enqueued: &[ObjNo]) -> bool
+    ensures { result ≡ is_subsequence list.now enqueued.now }
+{
+    let mut rest = list;
+    for number in enqueued {
+        if let [first, others @ ..] = rest
+            && first == number
+        {
+            rest = others;
+        }
+    }
+    rest.is_empty()
+}
+
+/// Whether the lists together have each number of `taken` once, and no other.
+fn gives_each_once<A: Allocator + Copy, B: Allocator>(
+    alloc: A,
+    lists: &[Vec<ObjNo, B>],
+    taken: &[ObjNo],
+) -> Result<bool, Fault>
+    ensures answer { IfOk result (λ b. IsTrue b ↔ GivesEachOnce taken.now (map (λ v. v.items) lists.now)) }
+    ensures err { OnErr result (result ≡ Err Fault.NoMemory) }
+{
+    let mut missing = HashSet::new(alloc);
+    for number in taken {
+        let Ok(_) = missing.insert(*number) else {
+            return Err(Fault::NoMemory);
+        };
+    }
+    for list in lists {
+        for number in list {
+            if !missing.remove(number) {
+                return Ok(false);
+            }
+        }
+    }
+    Ok(missing.is_empty())
+}

@@ -1,0 +1,334 @@
+//! What the threads of a stress run do: mutators, workers and pollers over one heap and one queue.
+
+use crate::tally::Tally;
+use ref_base::{
+    Fault, HeapStep, MutNo, ObjNo, Parcel, QueueNo, Reply, SlotNo, Strength, Urgency, WorkerNo,
+};
+use ref_objects::Hold;
+use ref_share::{
+    HeapSeat, Polled, QueueSeat, ShareFault, SharedHeap, SharedQueue, deliver_one, enqueue,
+};
+use ref_turn::TurnFault;
+use ref_world::HeapReply;
+use std::sync::Wait;
+use std::sync::atomic::{AtomicU32, Ordering};
+use std::{slice, thread};
+
+/// The queue of the run.
+pub(crate) const QUEUE: QueueNo = QueueNo(0);
+
+/// Where a mutator makes an object, and a poller adopts one.
+const NEWEST: SlotNo = SlotNo(0);
+
+/// So often a mutator makes its objects again where no cell was free.
+const TRIES: u32 = 1_000;
+
+/// So often a poller polls before it looks whether the run is at its end.
+const POLLS: u32 = 1_000;
+
+/// What all threads share.
+#[derive(Clone, Copy)]
+pub(crate) struct Shared<'a> {
+    pub(crate) heap: &'a SharedHeap,
+    pub(crate) queue: &'a SharedQueue,
+    pub(crate) running: &'a Running,
+    pub(crate) tally: &'a Tally,
+}
+
+/// How many threads have not ended.
+#[derive(Drop)]
+pub(crate) struct Running {
+    pub(crate) mutators: AtomicU32,
+    pub(crate) workers: AtomicU32,
+    pub(crate) pollers: AtomicU32,
+}
+
+/// What one thread works with: what all share, and its own seats.
+#[derive(Drop)]
+pub(crate) struct Station<'a> {
+    shared: &'a Shared<'a>,
+    heap_seat: HeapSeat,
+    queue_seat: QueueSeat,
+}
+
+impl<'a> Station<'a> {
+    ghost use Rattle.std.specs.Prelude.{◌≡◌};
+    ghost use Rattle.refrun.specs.StressSeats.{IsSeated};
+
+    /// The station of one thread, with these seats.
+    pub(crate) fn new(shared: &'a Shared<'a>, heap_seat: HeapSeat, queue_seat: QueueSeat) -> Self
+        ensures { result ≡ record { shared = shared.entry; heap_seat = heap_seat; queue_seat = queue_seat } }
+    {
+        Station {
+            shared,
+            heap_seat,
+            queue_seat,
+        }
+    }
+
+    /// A mutator's rounds. In each it makes an object and a weak reference to it, lets the object go, and every other
+    /// time enqueues the reference. A round for which no cell is free is left out.
+    pub(crate) fn mutate<R: Wait>(
+        &mut self,
+        rt: &R,
+        mutator: MutNo,
+        rounds: u32,
+    ) -> Result<(), Fault>
+        requires { IsSeated self.old }
+        ensures { IsSeated self.new }
+    {
+        for round in 0..rounds {
+            let slot = SlotNo(1 + round % 8);
+            let is_made = self.make(rt, mutator, slot)?;
+            if is_made && round % 2 == 0 {
+                self.enqueue(rt, mutator, slot)?;
+            }
+            self.shared.tally.count_round();
+        }
+        Ok(())
+    }
+
+    /// Makes an object, and in the slot a weak reference to it. False where no cell was free at each try.
+    fn make<R: Wait>(&mut self, rt: &R, mutator: MutNo, slot: SlotNo) -> Result<bool, Fault>
+        requires { IsSeated self.old }
+        ensures { IsSeated self.new }
+    {
+        for _ in 0..=TRIES {
+            match self.try_to_make(rt, mutator, slot) {
+                Err(Fault::NoCell) => {}
+                answer => return answer.map(|()| true),
+            }
+            self.let_go(rt, mutator)?;
+            thread::yield_now();
+        }
+        Ok(false)
+    }
+
+    fn try_to_make<R: Wait>(&mut self, rt: &R, mutator: MutNo, slot: SlotNo) -> Result<(), Fault>
+        requires { IsSeated self.old }
+        ensures { IsSeated self.new }
+    {
+        let object = HeapStep::New {
+            mutator,
+            slot: NEWEST,
+            fields: 0,
+        };
+        self.ask(rt, object)?;
+        let reference = HeapStep::Refer {
+            mutator,
+            strength: Strength::Weak,
+            slot,
+            source: NEWEST,
+            queue: Some(QUEUE),
+            fields: 0,
+        };
+        self.ask(rt, reference)?;
+        self.let_go(rt, mutator)
+    }
+
+    /// Empties the slot where the mutator made or adopted an object.
+    fn let_go<R: Wait>(&mut self, rt: &R, mutator: MutNo) -> Result<(), Fault>
+        requires { IsSeated self.old }
+        ensures { IsSeated self.new }
+    {
+        let slot = NEWEST;
+        self.ask(rt, HeapStep::Drop { mutator, slot })?;
+        Ok(())
+    }
+
+    /// The enqueue call of the reference in the slot.
+    fn enqueue<R: Wait>(&mut self, rt: &R, mutator: MutNo, slot: SlotNo) -> Result<(), Fault>
+        requires { IsSeated self.old }
+        ensures { IsSeated self.new }
+    {
+        let answer = enqueue(
+            rt,
+            self.shared.heap,
+            &mut self.heap_seat,
+            slice::from_ref(self.shared.queue),
+            slice::from_mut(&mut self.queue_seat),
+            mutator,
+            slot,
+        );
+        match answer {
+            Ok(_) => Ok(()),
+            Err(fault) => Err(self.settle(rt, fault)),
+        }
+    }
+
+    /// A worker's share of the cycles, until the mutators have ended. The first worker begins and ends the cycles and
+    /// their phases; what comes at the wrong time is refused, which is no matter.
+    pub(crate) fn work<R: Wait>(&mut self, rt: &R, worker: WorkerNo) -> Result<(), Fault>
+        requires { IsSeated self.old }
+        ensures { IsSeated self.new }
+    {
+        let mut now: u64 = 0;
+        for _ in rt.forever() {
+            let is_last = self.shared.running.mutators.load(Ordering::SeqCst) == 0;
+            if worker == WorkerNo(0) {
+                now = now.saturating_add(1);
+                self.lead(rt, now, is_last);
+            }
+            self.assist(rt, worker)?;
+            if is_last {
+                return Ok(());
+            }
+        }
+        unreachable!()
+    }
+
+    /// Ends the phase that can end, and begins a cycle where none is open and this is not the last time.
+    fn lead<R: Wait>(&mut self, rt: &R, now: u64, is_last: bool)
+        requires { IsSeated self.old }
+        ensures { IsSeated self.new }
+    {
+        let _ = self.ask(rt, HeapStep::EndMark);
+        let _ = self.ask(rt, HeapStep::EndClear);
+        if self.ask(rt, HeapStep::EndSweep).is_ok() {
+            self.shared.tally.count_cycle();
+        }
+        if !is_last {
+            let urgency = Urgency::Normal;
+            let _ = self.ask(rt, HeapStep::Begin { now, urgency });
+        }
+    }
+
+    /// One step of each kind of work, and one notice on its way.
+    fn assist<R: Wait>(&mut self, rt: &R, worker: WorkerNo) -> Result<(), Fault>
+        requires { IsSeated self.old }
+        ensures { IsSeated self.new }
+    {
+        let _ = self.ask(rt, HeapStep::Scan { worker });
+        let _ = self.ask(rt, HeapStep::ClearNext { worker });
+        let _ = self.ask(rt, HeapStep::Sweep { worker });
+        let answer = deliver_one(
+            rt,
+            self.shared.heap,
+            &mut self.heap_seat,
+            slice::from_ref(self.shared.queue),
+            slice::from_mut(&mut self.queue_seat),
+            worker,
+        );
+        match answer {
+            Ok(_) => Ok(()),
+            Err(fault) => Err(self.settle(rt, fault)),
+        }
+    }
+
+    /// Takes what was put in until the queue is closed and nothing stands, and notes its numbers. Each object is
+    /// adopted and let go. Once no worker runs, the first poller that waits in vain closes the queue.
+    pub(crate) fn poll<R: Wait>(
+        &mut self,
+        rt: &R,
+        mutator: MutNo,
+        taken: &mut Vec<ObjNo>,
+    ) -> Result<(), Fault>
+        requires { IsSeated self.old }
+        ensures { IsSeated self.new }
+    {
+        for _ in rt.forever() {
+            match self
+                .shared
+                .queue
+                .remove_within(rt, &mut self.queue_seat, POLLS)
+            {
+                Ok(Polled::Took(notice)) => {
+                    let noted = taken.push(notice.obj());
+                    self.adopt(rt, mutator, notice.into_hold())?;
+                    self.shared.tally.count_notice();
+                    noted.map_err(|_| Fault::NoMemory)?;
+                }
+                Ok(Polled::Closed) => return Ok(()),
+                Ok(Polled::TimedOut | Polled::Empty) => self.close_at_the_end(rt)?,
+                Err(fault) => return Err(self.settle(rt, fault)),
+            }
+        }
+        unreachable!()
+    }
+
+    /// Adopts what the hold holds, and lets it go.
+    fn adopt<R: Wait>(&mut self, rt: &R, mutator: MutNo, hold: Hold) -> Result<(), Fault>
+        requires { IsSeated self.old }
+        ensures { IsSeated self.new }
+    {
+        let slot = NEWEST;
+        self.ask(
+            rt,
+            HeapStep::Adopt {
+                mutator,
+                slot,
+                hold,
+            },
+        )?;
+        self.let_go(rt, mutator)
+    }
+
+    /// Closes the queue if no worker runs any more.
+    fn close_at_the_end<R: Wait>(&mut self, rt: &R) -> Result<(), Fault>
+        requires { IsSeated self.old }
+        ensures { IsSeated self.new }
+    {
+        if self.shared.running.workers.load(Ordering::SeqCst) > 0 {
+            return Ok(());
+        }
+        match self.shared.queue.close(rt, &mut self.queue_seat) {
+            Ok(_) => Ok(()),
+            Err(fault) => Err(self.settle(rt, fault)),
+        }
+    }
+
+    /// One step of the heap. A hold or notice that comes back, or that nobody asked for, is given up.
+    fn ask<R: Wait>(&mut self, rt: &R, step: HeapStep<Hold>) -> Result<Reply, Fault>
+        requires { IsSeated self.old }
+        ensures { IsSeated self.new }
+    {
+        match self.shared.heap.call(rt, &mut self.heap_seat, step) {
+            Ok(HeapReply::Told(Reply::Refused(fault))) => Err(fault),
+            Ok(HeapReply::Told(reply)) => Ok(reply),
+            Ok(HeapReply::Notice(notice)) => {
+                notice.into_hold().leak();
+                Ok(Reply::Nothing)
+            }
+            Ok(HeapReply::Held(hold)) => {
+                hold.leak();
+                Ok(Reply::Nothing)
+            }
+            Ok(HeapReply::Back(fault, hold)) => {
+                hold.leak();
+                Err(fault)
+            }
+            Err(TurnFault::Busy(step) | TurnFault::Spent(step)) => {
+                spend(step);
+                Err(Fault::TurnsSpent)
+            }
+        }
+    }
+
+    /// Why a call of the heap and the queue was refused. A notice that comes back is released.
+    fn settle<R: Wait>(&mut self, rt: &R, fault: ShareFault) -> Fault
+        requires { IsSeated self.old }
+        ensures { IsSeated self.new }
+    {
+        match fault {
+            ShareFault::Refused(fault) => fault,
+            ShareFault::Busy => Fault::TurnsSpent,
+            ShareFault::Notice(notice, fault) => {
+                let hold = notice.into_hold();
+                let _ = self.ask(rt, HeapStep::Release { hold });
+                fault
+            }
+            ShareFault::Held(hold, fault) => {
+                hold.leak();
+                fault
+            }
+        }
+    }
+}
+
+/// Gives up the hold of a step that was not taken.
+fn spend(step: HeapStep<Hold>) {
+    match step {
+        HeapStep::Adopt { hold, .. } | HeapStep::Release { hold } => hold.leak(),
+        _ => {}
+    }
+}

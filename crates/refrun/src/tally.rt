@@ -1,0 +1,66 @@
+//! How far a stress run is.
+
+use std::fmt;
+use std::sync::atomic::{AtomicU64, Ordering};
+
+/// What a stress run has done so far. The run counts, and any thread may look meanwhile.
+#[derive(Drop)]
+pub struct Tally {
+    rounds: AtomicU64,
+    cycles: AtomicU64,
+    notices: AtomicU64,
+}
+
+/// What a tally showed. It prints as `7 rounds, 1 cycles, 3 notices`.
+#[derive(Clone, Copy, Debug, PartialEq, Eq)]
+pub struct Counts {
+    /// Rounds of mutators that have ended.
+    pub rounds: u64,
+    /// Cycles of the collector that have ended.
+    pub cycles: u64,
+    /// Notices that pollers have taken.
+    pub notices: u64,
+}
+
+impl fmt::Display for Counts {
+    fn fmt<W: fmt::Write>(&self, f: &mut fmt::Formatter<W>) -> fmt::Result {
+        let Counts {
+            rounds,
+            cycles,
+            notices,
+        } = *self;
+        write!(f, "{rounds} rounds, {cycles} cycles, {notices} notices")
+    }
+}
+
+impl Tally {
+    /// Nothing was done yet. Takes no memory.
+    pub fn new() -> Self {
+        Tally {
+            rounds: AtomicU64::new(0),
+            cycles: AtomicU64::new(0),
+            notices: AtomicU64::new(0),
+        }
+    }
+
+    /// What was done so far, each number as it was when it was looked at. Takes no memory.
+    pub fn counts(&self) -> Counts {
+        Counts {
+            rounds: self.rounds.load(Ordering::SeqCst),
+            cycles: self.cycles.load(Ordering::SeqCst),
+            notices: self.notices.load(Ordering::SeqCst),
+        }
+    }
+
+    pub(crate) fn count_round(&self) {
+        self.rounds.fetch_add(1, Ordering::SeqCst);
+    }
+
+    pub(crate) fn count_cycle(&self) {
+        self.cycles.fetch_add(1, Ordering::SeqCst);
+    }
+
+    pub(crate) fn count_notice(&self) {
+        self.notices.fetch_add(1, Ordering::SeqCst);
+    }
+}

@@ -1,0 +1,219 @@
+//! A stress run: threads over one heap and one queue, and the checks of the queue's lists once they have ended.
+
+ghost use Rattle.std.specs.Prelude.{All, IfOk};
+ghost use Rattle.ref_share.specs.HeapSeats.{IsHeapSeat};
+ghost use Rattle.ref_share.specs.QueueSeats.{IsQueueSeat};
+ghost use Rattle.refrun.specs.StressSeats.{IsSeated};
+
+use crate::lists::{Check, check_lists};
+use crate::roles::{QUEUE, Running, Shared, Station};
+use crate::stress_options::StressOptions;
+use crate::tally::Tally;
+use ref_base::{Fault, MutNo, ObjNo, WorkerNo};
+use ref_clear::Notice;
+use ref_queue::Queue;
+use ref_share::{HeapSeat, QueueSeat, SharedHeap, SharedQueue};
+use std::alloc::{AllocError, Global};
+use std::sync::Wait;
+use std::sync::atomic::{AtomicU32, Ordering};
+use std::thread;
+use std::thread::Threads;
+
+/// What one thread is for.
+#[derive(Clone, Copy)]
+enum Role {
+    Mutate { mutator: MutNo, rounds: u32 },
+    Work(WorkerNo),
+    Poll(MutNo),
+}
+
+/// What one thread is given.
+#[derive(Drop)]
+struct Job<'a> {
+    role: Role,
+    station: Station<'a>,
+    ending: Ending<'a>,
+}
+
+/// Counts its thread as ended when it is dropped, also where the thread never ran.
+struct Ending<'a>(&'a AtomicU32);
+
+impl Drop for Ending<'_> {
+    fn drop(self) {
+        self.0.fetch_sub(1, Ordering::SeqCst);
+        let Ending(_) = self;
+    }
+}
+
+/// Runs threads over one shared heap and one shared queue, and then looks at the queue's lists: the first check that
+/// fails, or `None` where all hold.
+///
+/// Mutators make weak references and enqueue every other one; workers run the collector and hand on what it cleared;
+/// pollers take what arrives. When the mutators have ended the workers do, the queue is closed, and the pollers take
+/// what is left. The tally says meanwhile how far the run is.
+///
+/// `BadConfig` where mutators and pollers together, or workers, are not 1 to 8. `NoMemory` where a growth is refused, or
+/// the memory for threads. All its memory is of this allocator.
+pub fn stress<R: Threads + Wait + Sync>(
+    rt: &R,
+    alloc: Global,
+    options: StressOptions,
+    tally: &Tally,
+) -> Result<Option<Check>, Fault> {
+    let (heap, mut heap_seat) = SharedHeap::new(alloc, options.config(), 0)?;
+    let (queue, mut queue_seat) = SharedQueue::new(alloc, QUEUE)?;
+    let running = Running {
+        mutators: AtomicU32::new(options.mutators),
+        workers: AtomicU32::new(options.workers),
+        pollers: AtomicU32::new(options.pollers),
+    };
+    let shared = Shared {
+        heap: &heap,
+        queue: &queue,
+        running: &running,
+        tally,
+    };
+    let lists = run(rt, alloc, &shared, &mut heap_seat, &mut queue_seat, options);
+    match queue.finish(queue_seat) {
+        Ok(queue) | Err(Some(queue)) => {
+            let answer = lists.and_then(|lists| checked(alloc, &queue, lists.as_slice()));
+            end(queue);
+            answer
+        }
+        // A turn of the queue is open, so that nobody can say what stands.
+        Err(None) => lists.map(|_| Some(Check::Rest)),
+    }
+}
+
+/// Runs all threads to their ends, and gives what each took. Where no more threads can be made, mutators run before
+/// workers and these before pollers, so that nobody waits for one that has not begun.
+fn run<R: Threads + Wait + Sync>(
+    rt: &R,
+    alloc: Global,
+    shared: &Shared,
+    heap_seat: &mut HeapSeat,
+    queue_seat: &mut QueueSeat,
+    options: StressOptions,
+) -> Result<Vec<Vec<ObjNo>>, Fault>
+    requires { IsHeapSeat shared.now.heap.now heap_seat.old × IsQueueSeat shared.now.queue.now queue_seat.old }
+    ensures { IsHeapSeat shared.now.heap.now heap_seat.new × IsQueueSeat shared.now.queue.now queue_seat.new }
+{
+    let Ok(jobs) = jobs(alloc, shared, heap_seat, queue_seat, options) else {
+        return Err(Fault::NoMemory);
+    };
+    let of_job = |job: Job| -> Result<Vec<ObjNo>, Fault>
+        requires { IsSeated job.station }
+    { taken_by(rt, alloc, job) };
+    let Ok(answers) = thread::map_vec(rt, jobs, &of_job) else {
+        return Err(Fault::NoMemory);
+    };
+    let mut lists = Vec::new(alloc);
+    for taken in answers {
+        let Ok(()) = lists.push(taken?) else {
+            return Err(Fault::NoMemory);
+        };
+    }
+    Ok(lists)
+}
+
+/// What each thread is given, with seats that are split off these.
+fn jobs<'a>(
+    alloc: Global,
+    shared: &'a Shared<'a>,
+    heap_seat: &mut HeapSeat,
+    queue_seat: &mut QueueSeat,
+    options: StressOptions,
+) -> Result<Vec<Job<'a>>, AllocError>
+    requires { IsHeapSeat shared.now.heap.now heap_seat.old × IsQueueSeat shared.now.queue.now queue_seat.old }
+    ensures seats { IsHeapSeat shared.now.heap.now heap_seat.new × IsQueueSeat shared.now.queue.now queue_seat.new }
+    ensures seated { IfOk result (λ jobs. All (λ job. IsSeated job.station) jobs.items) }
+{
+    let rounds = options.rounds;
+    let mut jobs = Vec::new(alloc);
+    for number in 0..options.mutators {
+        let mutator = MutNo(number);
+        let role = Role::Mutate { mutator, rounds };
+        jobs.push(job_of(
+            shared,
+            heap_seat,
+            queue_seat,
+            role,
+            &shared.running.mutators,
+        ))?;
+    }
+    for number in 0..options.workers {
+        let role = Role::Work(WorkerNo(number));
+        jobs.push(job_of(shared, heap_seat, queue_seat, role, &shared.running.workers))?;
+    }
+    for number in 0..options.pollers {
+        let role = Role::Poll(MutNo(options.mutators.saturating_add(number)));
+        jobs.push(job_of(shared, heap_seat, queue_seat, role, &shared.running.pollers))?;
+    }
+    Ok(jobs)
+}
+
+/// What one thread of this role is given.
+fn job_of<'a>(
+    shared: &'a Shared<'a>,
+    heap_seat: &mut HeapSeat,
+    queue_seat: &mut QueueSeat,
+    role: Role,
+    running: &'a AtomicU32,
+) -> Job<'a>
+    requires { IsHeapSeat shared.now.heap.now heap_seat.old × IsQueueSeat shared.now.queue.now queue_seat.old }
+    ensures seats { IsHeapSeat shared.now.heap.now heap_seat.new × IsQueueSeat shared.now.queue.now queue_seat.new }
+    ensures seated { IsSeated result.station }
+{
+    let own_heap_seat = shared.heap.split(heap_seat);
+    let own_queue_seat = shared.queue.split(queue_seat);
+    Job {
+        role,
+        station: Station::new(shared, own_heap_seat, own_queue_seat),
+        ending: Ending(running),
+    }
+}
+
+/// What one thread takes from its begin to its end, or why it gives up.
+fn taken_by<R: Wait>(rt: &R, alloc: Global, job: Job) -> Result<Vec<ObjNo>, Fault>
+    requires { IsSeated job.station }
+{
+    let Job {
+        role,
+        mut station,
+        ending: _ending,
+    } = job;
+    let mut taken = Vec::new(alloc);
+    match role {
+        Role::Mutate { mutator, rounds } => station.mutate(rt, mutator, rounds)?,
+        Role::Work(worker) => station.work(rt, worker)?,
+        Role::Poll(mutator) => station.poll(rt, mutator, &mut taken)?,
+    }
+    Ok(taken)
+}
+
+/// The first check of the queue's lists that fails.
+fn checked(
+    alloc: Global,
+    queue: &Queue<Notice>,
+    lists: &[Vec<ObjNo>],
+) -> Result<Option<Check>, Fault> {
+    let enqueued = queue.enqueued(alloc)?;
+    let taken = queue.taken(alloc)?;
+    let stands = queue.stands(alloc)?;
+    check_lists(
+        alloc,
+        enqueued.as_slice(),
+        taken.as_slice(),
+        stands.as_slice(),
+        lists,
+    )
+}
+
+/// Gives up what stands in the queue. Its heap is gone.
+fn end(queue: Queue<Notice>) {
+    let mut standing = queue.end();
+    while let Some(notice) = standing.pop_front() {
+        notice.into_hold().leak();
+    }
+    standing.destroy_empty();
+}

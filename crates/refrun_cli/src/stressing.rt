@@ -1,0 +1,146 @@
+//! `refrun stress`.
+
+use crate::{WRONG_COMMAND_LINE, report};
+use clap::{Arg, ArgAction, ArgMatches, Command, Error, value_parser};
+use ref_base::Fault;
+use refrun::{Check, StressOptions, Tally, TextFault, stress};
+use std::alloc::Global;
+use std::process::ExitCode;
+use std::sync::{Condvar, Mutex, Wait};
+use std::thread;
+use std::thread::Threads;
+use std::time::{Clock, Duration};
+
+/// The status where a check fails.
+const CHECK_FAILED: u8 = 4;
+
+/// After so many seconds a run tells again how far it is.
+const PACE: u64 = 1;
+
+/// The subcommand and its options.
+pub fn command<'a>(alloc: Global) -> Result<Command<'a>, Error> {
+    let quiet = Arg::new(alloc, "quiet")
+        .long("quiet")
+        .action(ArgAction::SetTrue)
+        .help("Doesn't tell how far the run is");
+    let command = Command::new(alloc, "stress")
+        .about("Runs threads over one heap and one queue, and checks the queue's lists")
+        .arg(count(alloc, "mutators", "M", 8, "2").help(
+            "Threads that make and enqueue references",
+        ))?
+        .arg(count(alloc, "workers", "W", 8, "2").help("Threads that work for the collector"))?
+        .arg(count(alloc, "pollers", "P", 8, "1").help("Threads that take what was enqueued"))?
+        .arg(count(alloc, "rounds", "N", 10_000, "100").help("Rounds of each mutator"))?
+        .arg(quiet)?;
+    Ok(command)
+}
+
+/// An option that is a number from 1 on.
+fn count<'a>(alloc: Global, name: &'a str, value: &'a str, most: i64, default: &'a str) -> Arg<'a> {
+    Arg::new(alloc, name)
+        .long(name)
+        .value_name(value)
+        .value_parser(value_parser!(u32).range(1..=most))
+        .default_value(default)
+}
+
+/// Runs the threads, and prints what the checks say.
+///
+/// `can_watch` says whether somebody may look on at standard error.
+pub fn run<R: Threads + Wait + Clock + Print + Eprint + AllocGlobal + Sync>(
+    rt: &R,
+    matches: &ArgMatches,
+    can_watch: bool,
+) -> ExitCode {
+    let number = |name: &str| matches.get_one::<u32>(name).unwrap_or(1);
+    let options = StressOptions {
+        mutators: number("mutators"),
+        workers: number("workers"),
+        pollers: number("pollers"),
+        rounds: number("rounds"),
+    };
+    let tally = Tally::new();
+    let answer = if can_watch && !matches.get_flag("quiet") {
+        watched(rt, options, &tally)
+    } else {
+        stress(rt, rt.alloc(), options, &tally)
+    };
+    tell(rt, answer)
+}
+
+/// Runs the threads, and tells on standard error about once a second how far they are.
+fn watched<R: Threads + Wait + Clock + Eprint + AllocGlobal + Sync>(
+    rt: &R,
+    options: StressOptions,
+    tally: &Tally,
+) -> Result<Option<Check>, Fault> {
+    let end = End::new();
+    let (answer, ()) = thread::join(
+        rt,
+        || {
+            let answer = stress(rt, rt.alloc(), options, tally);
+            end.tell(rt);
+            answer
+        },
+        || watch(rt, tally, &end),
+    );
+    answer
+}
+
+/// The end of a run, for which another thread waits.
+#[derive(Drop)]
+struct End {
+    is_there: Mutex<bool>,
+    came: Condvar,
+}
+
+impl End {
+    fn new() -> Self {
+        End {
+            is_there: Mutex::new(false),
+            came: Condvar::new(),
+        }
+    }
+
+    fn tell<R: Wait>(&self, rt: &R) {
+        *self.is_there.lock(rt) = true;
+        self.came.notify_all();
+    }
+
+    /// Waits for the end, but not longer than this. Whether it came.
+    fn comes_within<R: Wait + Clock>(&self, rt: &R, time: Duration) -> bool {
+        let (is_there, _) = self
+            .came
+            .wait_timeout_while(rt, self.is_there.lock(rt), time, |is_there| !*is_there);
+        *is_there
+    }
+}
+
+/// A line of counts at each pace, until the end.
+fn watch<R: Wait + Clock + Eprint>(rt: &R, tally: &Tally, end: &End) {
+    for _ in rt.forever() {
+        if end.comes_within(rt, Duration::from_secs(PACE)) {
+            return;
+        }
+        let counts = tally.counts();
+        let _ = rt.eprintln(format_args!("refrun: {counts}"));
+    }
+}
+
+/// Prints what a run answered.
+fn tell<R: Print + Eprint>(rt: &R, answer: Result<Option<Check>, Fault>) -> ExitCode {
+    let printed = match answer {
+        Ok(None) => println!(rt; "stress passed"),
+        Ok(Some(check)) => println!(rt; "stress failed: {check}"),
+        Err(Fault::BadConfig) => {
+            let _ = rt.eprintln("refrun: at most 8 mutators and pollers");
+            return ExitCode::from(WRONG_COMMAND_LINE);
+        }
+        Err(_) => return report(rt, TextFault::NoMemory),
+    };
+    match (printed, answer) {
+        (Err(_), _) => report(rt, TextFault::CannotWrite),
+        (Ok(()), Ok(Some(_))) => ExitCode::from(CHECK_FAILED),
+        (Ok(()), _) => ExitCode::SUCCESS,
+    }
+}

@@ -1,0 +1,231 @@
+//! The checks of a queue's lists, against lists that were worked out by hand.
+
+use bumpalo::Bump;
+use ref_base::{Fault, ObjNo};
+use refrun::{Check, check_lists};
+use std::alloc::{AllocError, Allocator, Global};
+use std::test::Fail;
+
+/// What was put in, was taken and stands, what each poller took, and the first check that fails.
+struct Case {
+    name: &'static str,
+    enqueued: &'static [u32],
+    taken: &'static [u32],
+    stands: &'static [u32],
+    lists: &'static [&'static [u32]],
+    fails: Option<Check>,
+}
+
+static CASES: [Case; 17] = [
+    Case {
+        name: "a number put in twice",
+        enqueued: &[2, 2],
+        taken: &[2, 2],
+        stands: &[],
+        lists: &[&[2, 2]],
+        fails: Some(Check::Twice),
+    },
+    Case {
+        name: "a poller in another order",
+        enqueued: &[2, 3],
+        taken: &[2, 3],
+        stands: &[],
+        lists: &[&[3, 2]],
+        fails: Some(Check::Order),
+    },
+    Case {
+        name: "a number that no poller took",
+        enqueued: &[2, 3],
+        taken: &[2, 3],
+        stands: &[],
+        lists: &[&[2]],
+        fails: Some(Check::Total),
+    },
+    Case {
+        name: "a number that stands",
+        enqueued: &[2, 3],
+        taken: &[2],
+        stands: &[3],
+        lists: &[&[2]],
+        fails: Some(Check::Rest),
+    },
+    Case {
+        name: "two pollers",
+        enqueued: &[2, 3, 4],
+        taken: &[2, 3, 4],
+        stands: &[],
+        lists: &[&[2, 4], &[3]],
+        fails: None,
+    },
+    Case {
+        name: "no poller and no number",
+        enqueued: &[],
+        taken: &[],
+        stands: &[],
+        lists: &[],
+        fails: None,
+    },
+    Case {
+        name: "pollers that took nothing",
+        enqueued: &[],
+        taken: &[],
+        stands: &[],
+        lists: &[&[], &[]],
+        fails: None,
+    },
+    Case {
+        name: "a number twice, apart",
+        enqueued: &[7, 2, 3, 7],
+        taken: &[],
+        stands: &[],
+        lists: &[&[9]],
+        fails: Some(Check::Twice),
+    },
+    Case {
+        name: "a number that was never put in",
+        enqueued: &[2, 3],
+        taken: &[2, 3, 4],
+        stands: &[],
+        lists: &[&[2, 3], &[4]],
+        fails: Some(Check::Order),
+    },
+    Case {
+        name: "a poller that took a number twice",
+        enqueued: &[2, 3],
+        taken: &[2, 3],
+        stands: &[],
+        lists: &[&[2, 2, 3]],
+        fails: Some(Check::Order),
+    },
+    Case {
+        name: "the second poller in another order",
+        enqueued: &[2, 3, 4],
+        taken: &[2, 3, 4],
+        stands: &[],
+        lists: &[&[2], &[4, 3]],
+        fails: Some(Check::Order),
+    },
+    Case {
+        name: "a number that two pollers took",
+        enqueued: &[2, 3],
+        taken: &[2, 3],
+        stands: &[],
+        lists: &[&[2, 3], &[3]],
+        fails: Some(Check::Total),
+    },
+    Case {
+        name: "a poller took what was not taken",
+        enqueued: &[2, 3],
+        taken: &[2],
+        stands: &[3],
+        lists: &[&[2], &[3]],
+        fails: Some(Check::Total),
+    },
+    Case {
+        name: "the pollers took as much, and not the same",
+        enqueued: &[2, 3, 4],
+        taken: &[2, 3],
+        stands: &[4],
+        lists: &[&[2], &[4]],
+        fails: Some(Check::Total),
+    },
+    Case {
+        name: "taken in another order",
+        enqueued: &[2, 3],
+        taken: &[3, 2],
+        stands: &[],
+        lists: &[&[2], &[3]],
+        fails: Some(Check::Rest),
+    },
+    Case {
+        name: "something stands that was taken",
+        enqueued: &[2],
+        taken: &[2],
+        stands: &[2],
+        lists: &[&[2]],
+        fails: Some(Check::Rest),
+    },
+    Case {
+        name: "a number is taken twice, which counts once",
+        enqueued: &[2],
+        taken: &[2, 2],
+        stands: &[],
+        lists: &[&[2]],
+        fails: Some(Check::Rest),
+    },
+];
+
+fn objects(alloc: Global, numbers: &[u32]) -> Result<Vec<ObjNo>, AllocError> {
+    numbers.iter().map(|number| ObjNo(*number)).collect(alloc)
+}
+
+/// What the checks answer of a case, with memory of this allocator.
+fn checked<A: Allocator + Copy>(
+    memory: A,
+    alloc: Global,
+    case: &Case,
+) -> Result<Result<Option<Check>, Fault>, AllocError> {
+    let enqueued = objects(alloc, case.enqueued)?;
+    let taken = objects(alloc, case.taken)?;
+    let stands = objects(alloc, case.stands)?;
+    let mut lists = Vec::new(alloc);
+    for list in case.lists {
+        lists.push(objects(alloc, list)?)?;
+    }
+    Ok(check_lists(
+        memory,
+        enqueued.as_slice(),
+        taken.as_slice(),
+        stands.as_slice(),
+        lists.as_slice(),
+    ))
+}
+
+#[test]
+fn the_first_check_that_fails_is_told(rt: HostRuntime) -> Result<(), Fail> {
+    for case in &CASES {
+        assert_eq!(rt; checked(rt.alloc(), rt.alloc(), case)?, Ok(case.fails), "{}", case.name);
+    }
+    Ok(())
+}
+
+#[test]
+fn a_refused_allocation_of_a_check_is_told(rt: HostRuntime) -> Result<(), Fail> {
+    let case = &CASES[4];
+    let (mut without, mut wholly) = (false, false);
+    for size in 0..64 {
+        let mut memory = Bump::try_with_capacity(rt.alloc(), 4_096)?;
+        memory.set_allocation_limit(Some(memory.allocated_bytes()));
+        let taken = memory.chunk_capacity().saturating_sub(16 * size);
+        let filler = Vec::<u8, &Bump>::with_capacity(&memory, taken)?;
+        let answer = checked(&memory, rt.alloc(), case)?;
+        drop(filler);
+        assert!(rt; memory.reset().is_ok(), "all memory was given back");
+        match answer {
+            Ok(fails) => {
+                assert_eq!(rt; fails, None);
+                wholly = true;
+            }
+            Err(fault) => {
+                assert_eq!(rt; fault, Fault::NoMemory);
+                without = true;
+            }
+        }
+    }
+    assert!(rt; without && wholly);
+    Ok(())
+}
+
+#[test]
+fn each_check_prints_as_its_name(rt: HostRuntime) -> Result<(), Fail> {
+    let names = [
+        (Check::Twice, "twice"),
+        (Check::Order, "order"),
+        (Check::Total, "total"),
+        (Check::Rest, "rest"),
+    ];
+    for (check, name) in names {
+        assert_eq!(rt; format!(in rt.alloc(); "{check}")?.as_str(), name);
+    }
+    Ok(())
+}
