@@ -34,9 +34,9 @@ still_seats {A = A} queues seats k queue seat are there own j other new found pl
     elim (changed_there seats k j seat new placed) [
       | inl here ↦
           let found_here = subst (λ (i : ℕ). slice_get queues i ≡ Some other) here.0 found in
-        let same : queue ≡ other = ap (λ (o : Option (SharedQueue A)). unwrap_or o other) (sym there ∙ found_here) in
-        let own_here = subst (λ (q : SharedQueue A). IsQueueSeat q seat) same own in
-        subst (λ (s : QueueSeat A). IsQueueSeat other s) (sym here.1) own_here
+          let same : queue ≡ other = ap (λ (o : Option (SharedQueue A)). unwrap_or o other) (sym there ∙ found_here) in
+          let own_here = subst (λ (q : SharedQueue A). IsQueueSeat q seat) same own in
+          subst (λ (s : QueueSeat A). IsQueueSeat other s) (sym here.1) own_here
       | inr before ↦ are j other new found before
     ]
 

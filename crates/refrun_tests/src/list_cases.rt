@@ -184,7 +184,12 @@ fn checked<A: Allocator + Copy>(
 #[test]
 fn the_first_check_that_fails_is_told(rt: HostRuntime) -> Result<(), Fail> {
     for case in &CASES {
-        assert_eq!(rt; checked(rt.alloc(), rt.alloc(), case)?, Ok(case.fails), "{}", case.name);
+        assert_eq!(rt;
+            checked(rt.alloc(), rt.alloc(), case)?,
+            Ok(case.fails),
+            "{}",
+            case.name
+        );
     }
     Ok(())
 }

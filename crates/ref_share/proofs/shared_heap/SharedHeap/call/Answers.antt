@@ -6,4 +6,4 @@ pub returns-clause-seat : goal.returns-clause-seat
 returns-clause-seat g c =
     let told = c.call.ensures in
     call_stays StandsFor IsHeapMove c.args.self.now.turn _ c.args.seat.now.seat c.call.new.seat c.args.step
-        c.call.result c.requires told.turn told.ok told.longer told.history
+    c.call.result c.requires told.turn told.ok told.longer told.history

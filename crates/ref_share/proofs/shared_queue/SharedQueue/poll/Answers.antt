@@ -8,22 +8,22 @@ pub returns-in-Ok-Polled-Took-clause-seat : goal.returns-in-Ok-Polled-Took-claus
 returns-in-Ok-Polled-Took-clause-seat g c =
     let told = c.call.ensures in
     call_stays IsItself IsQueueMove c.args.self.now.turn _ c.args.seat.now.seat c.call.new.seat steps.Poll
-        c.call.result c.requires told.turn told.ok told.longer told.history
+    c.call.result c.requires told.turn told.ok told.longer told.history
 
 pub returns-in-Ok-Polled-Empty-clause-seat : goal.returns-in-Ok-Polled-Empty-clause-seat
 returns-in-Ok-Polled-Empty-clause-seat g c =
     let told = c.call.ensures in
     call_stays IsItself IsQueueMove c.args.self.now.turn _ c.args.seat.now.seat c.call.new.seat steps.Poll
-        c.call.result c.requires told.turn told.ok told.longer told.history
+    c.call.result c.requires told.turn told.ok told.longer told.history
 
 pub returns-in-Ok-Polled-Closed-clause-seat : goal.returns-in-Ok-Polled-Closed-clause-seat
 returns-in-Ok-Polled-Closed-clause-seat g c =
     let told = c.call.ensures in
     call_stays IsItself IsQueueMove c.args.self.now.turn _ c.args.seat.now.seat c.call.new.seat steps.Poll
-        c.call.result c.requires told.turn told.ok told.longer told.history
+    c.call.result c.requires told.turn told.ok told.longer told.history
 
 pub returns-in-Err-Spent-clause-seat : goal.returns-in-Err-Spent-clause-seat
 returns-in-Err-Spent-clause-seat g c =
     let told = c.call.ensures in
     call_stays IsItself IsQueueMove c.args.self.now.turn _ c.args.seat.now.seat c.call.new.seat steps.Poll
-        c.call.result c.requires told.turn told.ok told.longer told.history
+    c.call.result c.requires told.turn told.ok told.longer told.history
