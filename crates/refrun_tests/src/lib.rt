@@ -30,4 +30,6 @@ mod soft_cases;
 #[cfg(test)]
 mod step_lines;
 #[cfg(test)]
+mod stress_cases;
+#[cfg(test)]
 mod texts;

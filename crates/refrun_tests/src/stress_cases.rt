@@ -1,0 +1,70 @@
+//! Stress runs.
+
+use ref_base::Fault;
+use refrun::{StressOptions, Tally, stress};
+use std::test::Fail;
+
+/// Runs whose lists must pass all checks.
+static PASSING: [StressOptions; 3] = [
+    StressOptions {
+        mutators: 2,
+        workers: 2,
+        pollers: 1,
+        rounds: 100,
+    },
+    StressOptions {
+        mutators: 1,
+        workers: 1,
+        pollers: 1,
+        rounds: 1,
+    },
+    StressOptions {
+        mutators: 5,
+        workers: 3,
+        pollers: 3,
+        rounds: 40,
+    },
+];
+
+/// Runs with too many threads, or too few, of a kind.
+static REFUSED: [StressOptions; 3] = [
+    StressOptions {
+        mutators: 8,
+        workers: 2,
+        pollers: 1,
+        rounds: 1,
+    },
+    StressOptions {
+        mutators: 1,
+        workers: 9,
+        pollers: 1,
+        rounds: 1,
+    },
+    StressOptions {
+        mutators: 0,
+        workers: 1,
+        pollers: 0,
+        rounds: 1,
+    },
+];
+
+#[test]
+fn the_lists_of_a_run_pass_each_check(rt: HostRuntime) -> Result<(), Fail> {
+    for options in PASSING {
+        let tally = Tally::new();
+        assert_eq!(rt; stress(&rt, rt.alloc(), options, &tally), Ok(None));
+        let rounds = u64::from(options.mutators) * u64::from(options.rounds);
+        assert_eq!(rt; tally.counts().rounds, rounds);
+    }
+    Ok(())
+}
+
+#[test]
+fn a_run_with_too_many_threads_is_refused(rt: HostRuntime) -> Result<(), Fail> {
+    for options in REFUSED {
+        let tally = Tally::new();
+        assert_eq!(rt; stress(&rt, rt.alloc(), options, &tally), Err(Fault::BadConfig));
+        assert_eq!(rt; tally.counts().rounds, 0);
+    }
+    Ok(())
+}
