@@ -1,0 +1,180 @@
+//! A heap alone, and one that threads share.
+
+ghost use Rattle.std.specs.Prelude.{All, IfOk};
+ghost use Rattle.ref_share.specs.HeapSeats.{IsHeapSeat};
+
+use crate::letters::{CONFIG, Letter, QUEUE};
+use crate::timing::{Sample, Timer};
+use ref_base::{Fault, HeapStep, MutNo, SlotNo, Strength, Urgency, WorkerNo};
+use ref_clear::Heap;
+use ref_objects::Hold;
+use ref_queue::{Polled, Queue};
+use ref_share::{HeapSeat, SharedHeap};
+use ref_turn::TurnFault;
+use ref_world::HeapReply;
+use std::alloc::Global;
+use std::sync::Wait;
+use std::thread;
+use std::thread::Threads;
+use std::time::Clock;
+
+const MUTATOR: MutNo = MutNo(0);
+
+const WORKER: WorkerNo = WorkerNo(0);
+
+/// As many references to one dead object as the heap has room for: from the mark's end until the notice of each was
+/// polled and given back.
+pub fn dead_references<R: Clock>(rt: &R, alloc: Global) -> Result<Sample, Fault> {
+    let count = CONFIG.cells - 1;
+    let mut heap = Heap::new(alloc, CONFIG, 0)?;
+    let mut queue = Queue::new(alloc, QUEUE);
+    fill(&mut heap, count)?;
+    heap.begin(0, Urgency::Normal)?;
+    for _ in 0..count {
+        heap.scan(WORKER)?;
+    }
+    let timer = Timer::start(rt);
+    clear_all(&mut heap, count)?;
+    deliver_all(&mut heap, &mut queue, count)?;
+    take_all(&mut heap, &mut queue, count);
+    Ok(timer.stop(rt, u64::from(count)))
+}
+
+/// An object that is dead, and so many weak references to it, each of which has the one before in a field.
+fn fill(heap: &mut Heap, count: u32) -> Result<(), Fault> {
+    let (target, newest, last) = (SlotNo(0), SlotNo(1), SlotNo(2));
+    heap.alloc_obj(MUTATOR, target, 0)?;
+    for _ in 0..count {
+        heap.alloc_ref(MUTATOR, newest, Strength::Weak, target, Some(QUEUE), 1)?;
+        heap.store(MUTATOR, newest, 0, last)?;
+        heap.copy(MUTATOR, last, newest)?;
+    }
+    heap.drop_slot(MUTATOR, target)
+}
+
+fn clear_all(heap: &mut Heap, count: u32) -> Result<(), Fault> {
+    heap.end_mark()?;
+    for _ in 0..count {
+        heap.clear_next(WORKER)?;
+    }
+    heap.end_clear()
+}
+
+fn deliver_all(heap: &mut Heap, queue: &mut Queue<Letter>, count: u32) -> Result<(), Fault> {
+    for _ in 0..count {
+        if let Some(notice) = heap.hand(WORKER)? {
+            if let Err((fault, _)) = queue.put(Letter::new(notice)) {
+                return Err(fault);
+            }
+        }
+    }
+    Ok(())
+}
+
+fn take_all(heap: &mut Heap, queue: &mut Queue<Letter>, count: u32) {
+    for _ in 0..count {
+        if let Polled::Took(letter) = queue.poll() {
+            if let Err((_, hold)) = heap.release(letter.into_notice().into_hold()) {
+                hold.leak();
+            }
+        }
+    }
+}
+
+/// One thread that calls a shared heap so often.
+#[derive(Drop)]
+struct Caller<'a> {
+    heap: &'a SharedHeap,
+    seat: HeapSeat,
+    mutator: MutNo,
+    calls: u32,
+}
+
+impl<'a> Caller<'a> {
+    fn new(heap: &'a SharedHeap, seat: HeapSeat, mutator: MutNo, calls: u32) -> Self
+        requires { IsHeapSeat heap.now seat }
+        ensures { IsHeapSeat result.heap.now result.seat }
+    {
+        Caller {
+            heap,
+            seat,
+            mutator,
+            calls,
+        }
+    }
+
+    fn run<R: Wait>(self, rt: &R)
+        requires { IsHeapSeat self.heap.now self.seat }
+    {
+        let mut caller = self;
+        for _ in 0..caller.calls {
+            caller.call(rt);
+        }
+    }
+
+    /// Copies one slot into another.
+    fn call<R: Wait>(&mut self, rt: &R)
+        requires { IsHeapSeat self.old.heap.now self.old.seat }
+        ensures { IsHeapSeat self.new.heap.now self.new.seat }
+    {
+        let step = HeapStep::Copy {
+            mutator: self.mutator,
+            slot: SlotNo(1),
+            source: SlotNo(0),
+        };
+        match self.heap.call(rt, &mut self.seat, step) {
+            Ok(HeapReply::Told(_)) => {}
+            Ok(HeapReply::Notice(notice)) => notice.into_hold().leak(),
+            Ok(HeapReply::Held(hold) | HeapReply::Back(_, hold)) => hold.leak(),
+            Err(TurnFault::Busy(step) | TurnFault::Spent(step)) => spend(step),
+        }
+    }
+}
+
+/// Gives up the hold of a step that was not taken.
+fn spend(step: HeapStep<Hold>) {
+    match step {
+        HeapStep::Adopt { hold, .. } | HeapStep::Release { hold } => hold.leak(),
+        _ => {}
+    }
+}
+
+/// So many calls of a shared heap, by so many threads, at most 8.
+pub fn heap_calls<R: Threads + Wait + Clock + Sync>(
+    rt: &R,
+    alloc: Global,
+    threads: u32,
+    count: u32,
+) -> Result<Sample, Fault> {
+    let (heap, mut seat) = SharedHeap::new(alloc, CONFIG, 0)?;
+    let callers = callers(alloc, &heap, &mut seat, threads, count / threads.max(1))?;
+    let timer = Timer::start(rt);
+    let of_caller = |caller: Caller|
+        requires { IsHeapSeat caller.heap.now caller.seat }
+    { caller.run(rt) };
+    let Ok(_) = thread::map_vec(rt, callers, &of_caller) else {
+        return Err(Fault::NoMemory);
+    };
+    Ok(timer.stop(rt, u64::from(count)))
+}
+
+/// So many callers, each of a mutator of its own.
+fn callers<'a>(
+    alloc: Global,
+    heap: &'a SharedHeap,
+    seat: &mut HeapSeat,
+    threads: u32,
+    calls: u32,
+) -> Result<Vec<Caller<'a>>, Fault>
+    requires { IsHeapSeat heap.now seat.old }
+    ensures { IfOk result (λ callers. All (λ c. IsHeapSeat c.heap.now c.seat) callers.items) }
+{
+    let mut callers = Vec::new(alloc);
+    for number in 0..threads {
+        let caller = Caller::new(heap, heap.split(seat), MutNo(number), calls);
+        let Ok(()) = callers.push(caller) else {
+            return Err(Fault::NoMemory);
+        };
+    }
+    Ok(callers)
+}

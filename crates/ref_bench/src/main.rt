@@ -1,0 +1,39 @@
+//! `ref_bench` prints what calls cost: on each line nanoseconds, the least of several runs. With `--once` it makes each
+//! run once and small, and prints the names alone.
+#![tactic(auto)]
+
+mod crowds;
+mod heap_runs;
+mod letters;
+mod measure;
+mod plain_queue;
+mod queue_runs;
+mod script_run;
+mod tills;
+mod timing;
+
+use measure::ALL;
+use std::env;
+
+/// So often each run is made.
+const RUNS: u32 = 9;
+
+/// The full size of a run.
+const SIZE: u32 = 100;
+
+fn main(rt: HostRuntime) -> anyhow::Result<()> {
+    let words: Vec<String> = env::args(&rt)?.collect(rt.alloc())?;
+    let is_once = words.iter().any(|word| word.as_str() == "--once");
+    for measure in ALL {
+        let name = measure.name(rt.alloc())?;
+        if is_once {
+            measure.least(&rt, rt.alloc(), 1, 1)?;
+            println!(rt; "{name}")?;
+        } else {
+            let tenths = measure.least(&rt, rt.alloc(), SIZE, RUNS)?;
+            let (whole, tenth) = (tenths / 10, tenths % 10);
+            println!(rt; "{name:<54} {whole:>6}.{tenth} ns")?;
+        }
+    }
+    Ok(())
+}

@@ -1,0 +1,104 @@
+//! What is measured.
+
+use crate::crowds::{plain_queue, shared_queue};
+use crate::heap_runs::{dead_references, heap_calls};
+use crate::queue_runs::{queue_alone, shared_queue_alone};
+use crate::script_run::script_steps;
+use crate::timing::Sample;
+use ref_base::Fault;
+use std::alloc::{AllocError, Global};
+use std::sync::Wait;
+use std::thread::Threads;
+use std::time::Clock;
+
+/// One measure.
+#[derive(Clone, Copy)]
+pub enum Measure {
+    /// Put and poll of a queue.
+    Queue,
+    /// Put and poll of a shared queue by one thread.
+    SharedQueue,
+    /// Put and poll of a shared queue by so many putters and as many takers.
+    SharedQueueAmong(u32),
+    /// The same of a queue as a user would write it: a deque and a set under a lock.
+    PlainQueueAmong(u32),
+    /// What one reference to a dead object costs, from the mark's end until its notice was polled and given back.
+    DeadReference,
+    /// Calls of a shared heap by so many threads.
+    HeapCallAmong(u32),
+    /// One step of a script: read, done and printed.
+    ScriptStep,
+}
+
+/// All measures, in the order in which they are printed.
+pub const ALL: [Measure; 14] = [
+    Measure::Queue,
+    Measure::SharedQueue,
+    Measure::SharedQueueAmong(1),
+    Measure::PlainQueueAmong(1),
+    Measure::SharedQueueAmong(2),
+    Measure::PlainQueueAmong(2),
+    Measure::SharedQueueAmong(4),
+    Measure::PlainQueueAmong(4),
+    Measure::DeadReference,
+    Measure::HeapCallAmong(1),
+    Measure::HeapCallAmong(2),
+    Measure::HeapCallAmong(4),
+    Measure::HeapCallAmong(8),
+    Measure::ScriptStep,
+];
+
+impl Measure {
+    /// What a line says.
+    pub fn name(self, alloc: Global) -> Result<String, AllocError> {
+        match self {
+            Measure::Queue => format!(in alloc; "queue, put and poll"),
+            Measure::SharedQueue => format!(in alloc; "shared queue, put and poll"),
+            Measure::SharedQueueAmong(n) => {
+                format!(in alloc; "shared queue, {n} putting, {n} taking, a notice")
+            }
+            Measure::PlainQueueAmong(n) => {
+                format!(in alloc; "lock, deque and set, {n} putting, {n} taking, a notice")
+            }
+            Measure::DeadReference => {
+                format!(in alloc; "a dead reference, mark's end to notice polled")
+            }
+            Measure::HeapCallAmong(n) => format!(in alloc; "shared heap, {n} calling, a call"),
+            Measure::ScriptStep => format!(in alloc; "a script, a step"),
+        }
+    }
+
+    /// One run, in hundredths of the full size.
+    pub fn run<R: Threads + Wait + Clock + Sync>(
+        self,
+        rt: &R,
+        alloc: Global,
+        size: u32,
+    ) -> Result<Sample, Fault> {
+        let notices = size.saturating_mul(1_000);
+        match self {
+            Measure::Queue => queue_alone(rt, alloc, notices),
+            Measure::SharedQueue => shared_queue_alone(rt, alloc, notices),
+            Measure::SharedQueueAmong(n) => shared_queue(rt, alloc, n, notices),
+            Measure::PlainQueueAmong(n) => plain_queue(rt, alloc, n, notices),
+            Measure::DeadReference => dead_references(rt, alloc),
+            Measure::HeapCallAmong(n) => heap_calls(rt, alloc, n, size.saturating_mul(2_000)),
+            Measure::ScriptStep => script_steps(rt, alloc, size.saturating_mul(500)),
+        }
+    }
+
+    /// The least of so many runs, in tenths of a nanosecond a call.
+    pub fn least<R: Threads + Wait + Clock + Sync>(
+        self,
+        rt: &R,
+        alloc: Global,
+        size: u32,
+        runs: u32,
+    ) -> Result<u64, Fault> {
+        let mut least = u64::MAX;
+        for _ in 0..runs {
+            least = least.min(self.run(rt, alloc, size)?.tenths());
+        }
+        Ok(least)
+    }
+}
