@@ -2,6 +2,15 @@
 
 use std::sync::atomic::{AtomicUsize, Ordering};
 use std::sync::{Condvar, Mutex, Wait};
+use std::{hint, thread};
+
+// After the k-th of these polls a caller spins for 2^k pauses.
+const SPIN_ROUNDS: u32 = 7;
+
+const YIELD_ROUNDS: u32 = 2;
+
+// So often a caller polls before it listens.
+const ROUNDS_AWAKE: u32 = SPIN_ROUNDS + YIELD_ROUNDS;
 
 /// A bell. Who listens first and polls then hears what is rung after that poll.
 #[derive(Drop)]
@@ -20,19 +29,28 @@ impl Bell {
         }
     }
 
-    /// Listens from now on. Answers how often it was rung so far.
-    pub(crate) fn listen<R: Wait>(&self, rt: &R) -> u64 {
+    /// A caller that is about to poll until something comes.
+    pub(crate) fn caller(&self) -> Caller<'_> {
+        Caller {
+            bell: self,
+            round: 0,
+            heard: None,
+        }
+    }
+
+    // Listens from now on. Answers how often it was rung so far.
+    fn listen<R: Wait>(&self, rt: &R) -> u64 {
         self.listeners.fetch_add(1, Ordering::SeqCst);
         *self.rings.lock(rt)
     }
 
-    /// Listens no more.
-    pub(crate) fn leave(&self) {
+    // Listens no more.
+    fn leave(&self) {
         self.listeners.fetch_sub(1, Ordering::SeqCst);
     }
 
-    /// Sleeps until it was rung more often than that, and listens no more.
-    pub(crate) fn wait_past<R: Wait>(&self, rt: &R, heard: u64) {
+    // Sleeps until it was rung more often than that, and listens no more.
+    fn wait_past<R: Wait>(&self, rt: &R, heard: u64) {
         let rings = self
             .rung
             .wait_while(rt, self.rings.lock(rt), |rings| *rings == heard);
@@ -57,5 +75,49 @@ impl Bell {
     fn count<R: Wait>(&self, rt: &R) {
         let mut rings = self.rings.lock(rt);
         *rings = rings.wrapping_add(1);
+    }
+}
+
+/// A caller that polls until something comes. It waits awake for some rounds, in which it costs those that ring
+/// nothing, and then sleeps until it is rung.
+#[derive(Clone, Copy)]
+pub(crate) struct Caller<'a> {
+    bell: &'a Bell,
+    round: u32,
+    // How often the bell had been rung as the caller began to listen, where it does.
+    heard: Option<u64>,
+}
+
+impl Caller<'_> {
+    /// It is about to poll. If it will sleep after that, it listens first, so that nothing that comes after the poll is
+    /// slept through.
+    pub(crate) fn begin_poll<R: Wait>(&mut self, rt: &R) {
+        if self.round >= ROUNDS_AWAKE {
+            self.heard = Some(self.bell.listen(rt));
+        }
+    }
+
+    /// It has polled, and nothing had come: it waits.
+    pub(crate) fn wait<R: Wait>(&mut self, rt: &R) {
+        if let Some(heard) = self.heard.take() {
+            self.bell.wait_past(rt, heard);
+            self.round = 0;
+            return;
+        }
+        if self.round < SPIN_ROUNDS {
+            for _ in 0..1u32 << self.round {
+                hint::spin_loop();
+            }
+        } else {
+            thread::yield_now();
+        }
+        self.round = self.round.saturating_add(1);
+    }
+
+    /// It has polled, and goes.
+    pub(crate) fn leave(self) {
+        if self.heard.is_some() {
+            self.bell.leave();
+        }
     }
 }

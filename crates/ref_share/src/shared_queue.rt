@@ -174,7 +174,7 @@ impl<A: Allocator + Copy> SharedQueue<A> {
         Ok(Polled::TimedOut)
     }
 
-    /// Polls until something stands, or the queue is closed and nothing does; between two polls it sleeps until
+    /// Polls until something stands, or the queue is closed and nothing does; after some polls in vain it sleeps until
     /// something may have come. It may never return. `Refused(TurnsSpent)` where no turn is left. Takes no memory.
     ///
     /// As `ReferenceQueue.remove` of Java SE 17, but that it tells a closed queue.
@@ -187,14 +187,14 @@ impl<A: Allocator + Copy> SharedQueue<A> {
         ensures seat { IsQueueSeat self.now seat.new }
         ensures polls { PollsUntil (queue_view seat.old) result (queue_view seat.new) }
     {
+        let mut caller = self.bell.caller();
         for _ in rt.forever() {
-            // What is rung from here on is heard, so that nothing that comes after the poll is slept through.
-            let heard = self.bell.listen(rt);
+            caller.begin_poll(rt);
             if let Some(answer) = self.poll(rt, seat) {
-                self.bell.leave();
+                caller.leave();
                 return answer;
             }
-            self.bell.wait_past(rt, heard);
+            caller.wait(rt);
         }
         unreachable!()
     }
