@@ -69,6 +69,16 @@ fn alone() {
     }
 }
 
+fn alone_under_a_lock() {
+    let queue = Queue::default();
+    for object in 0..NOTICES {
+        queue.put(letter(object));
+    }
+    for _ in 0..NOTICES {
+        std::hint::black_box(queue.take());
+    }
+}
+
 fn among(pairs: u32) {
     let queue = Queue::default();
     thread::scope(|takers| {
@@ -113,7 +123,8 @@ fn least(name: &str, count: u32, run: impl Fn()) {
 }
 
 fn main() {
-    least("rustc: queue, put and poll", NOTICES, alone);
+    least("rustc: queue, a put or poll", 2 * NOTICES, alone);
+    least("rustc: lock, deque, set, one thread, a put or poll", 2 * NOTICES, alone_under_a_lock);
     for pairs in [1, 2, 4] {
         let name = format!("rustc: lock, deque, set, {pairs} putting, {pairs} taking, a notice");
         least(&name, NOTICES, || among(pairs));

@@ -2,7 +2,7 @@
 
 use crate::crowds::{plain_queue, shared_queue};
 use crate::heap_runs::{dead_references, heap_calls};
-use crate::queue_runs::{queue_alone, shared_queue_alone};
+use crate::queue_runs::{plain_queue_alone, queue_alone, shared_queue_alone};
 use crate::script_run::script_steps;
 use crate::timing::Sample;
 use ref_base::Fault;
@@ -14,13 +14,15 @@ use std::time::Clock;
 /// One measure.
 #[derive(Clone, Copy)]
 pub enum Measure {
-    /// Put and poll of a queue.
+    /// Puts and polls of a queue.
     Queue,
-    /// Put and poll of a shared queue by one thread.
+    /// The same of a shared queue by one thread.
     SharedQueue,
-    /// Put and poll of a shared queue by so many putters and as many takers.
-    SharedQueueAmong(u32),
     /// The same of a queue as a user would write it: a deque and a set under a lock.
+    PlainQueue,
+    /// A put and a poll of a shared queue, by so many putters and as many takers.
+    SharedQueueAmong(u32),
+    /// The same of a deque and a set under a lock.
     PlainQueueAmong(u32),
     /// What one reference to a dead object costs, from the mark's end until its notice was polled and given back.
     DeadReference,
@@ -31,9 +33,10 @@ pub enum Measure {
 }
 
 /// All measures, in the order in which they are printed.
-pub const ALL: [Measure; 14] = [
+pub const ALL: [Measure; 15] = [
     Measure::Queue,
     Measure::SharedQueue,
+    Measure::PlainQueue,
     Measure::SharedQueueAmong(1),
     Measure::PlainQueueAmong(1),
     Measure::SharedQueueAmong(2),
@@ -52,8 +55,9 @@ impl Measure {
     /// What a line says.
     pub fn name(self, alloc: Global) -> Result<String, AllocError> {
         match self {
-            Measure::Queue => format!(in alloc; "queue, put and poll"),
-            Measure::SharedQueue => format!(in alloc; "shared queue, put and poll"),
+            Measure::Queue => format!(in alloc; "queue, a put or poll"),
+            Measure::SharedQueue => format!(in alloc; "shared queue, one thread, a put or poll"),
+            Measure::PlainQueue => format!(in alloc; "lock, deque and set, one thread, a put or poll"),
             Measure::SharedQueueAmong(n) => {
                 format!(in alloc; "shared queue, {n} putting, {n} taking, a notice")
             }
@@ -79,6 +83,7 @@ impl Measure {
         match self {
             Measure::Queue => queue_alone(rt, alloc, notices),
             Measure::SharedQueue => shared_queue_alone(rt, alloc, notices),
+            Measure::PlainQueue => plain_queue_alone(rt, alloc, notices),
             Measure::SharedQueueAmong(n) => shared_queue(rt, alloc, n, notices),
             Measure::PlainQueueAmong(n) => plain_queue(rt, alloc, n, notices),
             Measure::DeadReference => dead_references(rt, alloc),

@@ -2,7 +2,8 @@
 
 use crate::crowds::end;
 use crate::letters::{Letter, QUEUE, letters};
-use crate::tills::{SharedTill, Till};
+use crate::plain_queue::PlainQueue;
+use crate::tills::{PlainTill, SharedTill, Till};
 use crate::timing::{Sample, Timer};
 use ref_base::Fault;
 use ref_queue::Queue;
@@ -11,7 +12,7 @@ use std::alloc::Global;
 use std::sync::Wait;
 use std::time::Clock;
 
-/// Puts so many notices into a queue, and polls them.
+/// So many puts of notices into a queue, and as many polls.
 pub fn queue_alone<R: Clock>(rt: &R, alloc: Global, count: u32) -> Result<Sample, Fault> {
     let letters = letters(alloc, 1, count)?;
     let mut queue = Queue::new(alloc, QUEUE);
@@ -24,10 +25,15 @@ pub fn queue_alone<R: Clock>(rt: &R, alloc: Global, count: u32) -> Result<Sample
     for _ in 0..count {
         let _ = queue.poll();
     }
-    Ok(timer.stop(rt, u64::from(count)))
+    Ok(timer.stop(rt, calls(count)))
 }
 
-/// Puts so many notices into a shared queue, and polls them.
+/// A put and a poll for each notice.
+fn calls(count: u32) -> u64 {
+    u64::from(count).saturating_mul(2)
+}
+
+/// The same calls of a shared queue.
 pub fn shared_queue_alone<R: Wait + Clock>(
     rt: &R,
     alloc: Global,
@@ -38,10 +44,23 @@ pub fn shared_queue_alone<R: Wait + Clock>(
     let mut till = SharedTill::new(&queue, queue.split(&mut seat));
     let timer = Timer::start(rt);
     let answer = put_and_take(rt, &mut till, letters);
-    let sample = timer.stop(rt, u64::from(count));
+    let sample = timer.stop(rt, calls(count));
     drop(till);
     end(queue, seat);
     answer.map(|()| sample)
+}
+
+/// The same calls of a plain queue.
+pub fn plain_queue_alone<R: Wait + Clock>(
+    rt: &R,
+    alloc: Global,
+    count: u32,
+) -> Result<Sample, Fault> {
+    let letters = letters(alloc, 1, count)?;
+    let queue = PlainQueue::new(alloc);
+    let timer = Timer::start(rt);
+    put_and_take(rt, &mut PlainTill(&queue), letters)?;
+    Ok(timer.stop(rt, calls(count)))
 }
 
 fn put_and_take<R: Wait, T: Till>(rt: &R, till: &mut T, letters: Vec<Letter>) -> Result<(), Fault>
