@@ -53,7 +53,7 @@ pub(crate) struct Station<'a> {
 
 impl<'a> Station<'a> {
     ghost use Rattle.std.specs.Prelude.{◌≡◌};
-    ghost use Rattle.refrun.specs.StressSeats.{IsSeated};
+    ghost use Rattle.refrun.specs.StressSeats.{IsSeated, StaysSeated};
 
     /// The station of one thread, with these seats.
     pub(crate) fn new(shared: &'a Shared<'a>, heap_seat: HeapSeat, queue_seat: QueueSeat) -> Self
@@ -66,6 +66,18 @@ impl<'a> Station<'a> {
         }
     }
 
+    /// Ends the station, and gives its seats.
+    pub(crate) fn into_seats(self) -> (HeapSeat, QueueSeat)
+        ensures { result ≡ (self.entry.heap_seat, self.entry.queue_seat) }
+    {
+        let Station {
+            heap_seat,
+            queue_seat,
+            ..
+        } = self;
+        (heap_seat, queue_seat)
+    }
+
     /// A mutator's rounds. In each it makes an object and a weak reference to it, lets the object go, and every other
     /// time enqueues the reference. A round for which no cell is free is left out.
     pub(crate) fn mutate<R: Wait>(
@@ -75,7 +87,7 @@ impl<'a> Station<'a> {
         rounds: u32,
     ) -> Result<(), Fault>
         requires { IsSeated self.old }
-        ensures { IsSeated self.new }
+        ensures { StaysSeated self.old self.new }
     {
         for round in 0..rounds {
             let slot = SlotNo(1 + round % 8);
@@ -91,7 +103,7 @@ impl<'a> Station<'a> {
     /// Makes an object, and in the slot a weak reference to it. False where no cell was free at each try.
     fn make<R: Wait>(&mut self, rt: &R, mutator: MutNo, slot: SlotNo) -> Result<bool, Fault>
         requires { IsSeated self.old }
-        ensures { IsSeated self.new }
+        ensures { StaysSeated self.old self.new }
     {
         for _ in 0..=TRIES {
             match self.try_to_make(rt, mutator, slot) {
@@ -106,7 +118,7 @@ impl<'a> Station<'a> {
 
     fn try_to_make<R: Wait>(&mut self, rt: &R, mutator: MutNo, slot: SlotNo) -> Result<(), Fault>
         requires { IsSeated self.old }
-        ensures { IsSeated self.new }
+        ensures { StaysSeated self.old self.new }
     {
         let object = HeapStep::New {
             mutator,
@@ -129,7 +141,7 @@ impl<'a> Station<'a> {
     /// Empties the slot where the mutator made or adopted an object.
     fn let_go<R: Wait>(&mut self, rt: &R, mutator: MutNo) -> Result<(), Fault>
         requires { IsSeated self.old }
-        ensures { IsSeated self.new }
+        ensures { StaysSeated self.old self.new }
     {
         let slot = NEWEST;
         self.ask(rt, HeapStep::Drop { mutator, slot })?;
@@ -139,7 +151,7 @@ impl<'a> Station<'a> {
     /// The enqueue call of the reference in the slot.
     fn enqueue<R: Wait>(&mut self, rt: &R, mutator: MutNo, slot: SlotNo) -> Result<(), Fault>
         requires { IsSeated self.old }
-        ensures { IsSeated self.new }
+        ensures { StaysSeated self.old self.new }
     {
         let answer = enqueue(
             rt,
@@ -160,7 +172,7 @@ impl<'a> Station<'a> {
     /// their phases; what comes at the wrong time is refused, which is no matter.
     pub(crate) fn work<R: Wait>(&mut self, rt: &R, worker: WorkerNo) -> Result<(), Fault>
         requires { IsSeated self.old }
-        ensures { IsSeated self.new }
+        ensures { StaysSeated self.old self.new }
     {
         let mut now: u64 = 0;
         for _ in rt.forever() {
@@ -180,7 +192,7 @@ impl<'a> Station<'a> {
     /// Ends the phase that can end, and begins a cycle where none is open and this is not the last time.
     fn lead<R: Wait>(&mut self, rt: &R, now: u64, is_last: bool)
         requires { IsSeated self.old }
-        ensures { IsSeated self.new }
+        ensures { StaysSeated self.old self.new }
     {
         let _ = self.ask(rt, HeapStep::EndMark);
         let _ = self.ask(rt, HeapStep::EndClear);
@@ -196,7 +208,7 @@ impl<'a> Station<'a> {
     /// One step of each kind of work, and one notice on its way.
     fn assist<R: Wait>(&mut self, rt: &R, worker: WorkerNo) -> Result<(), Fault>
         requires { IsSeated self.old }
-        ensures { IsSeated self.new }
+        ensures { StaysSeated self.old self.new }
     {
         let _ = self.ask(rt, HeapStep::Scan { worker });
         let _ = self.ask(rt, HeapStep::ClearNext { worker });
@@ -224,7 +236,7 @@ impl<'a> Station<'a> {
         taken: &mut Vec<ObjNo>,
     ) -> Result<(), Fault>
         requires { IsSeated self.old }
-        ensures { IsSeated self.new }
+        ensures { StaysSeated self.old self.new }
     {
         for _ in rt.forever() {
             match self
@@ -249,7 +261,7 @@ impl<'a> Station<'a> {
     /// Adopts what the hold holds, and lets it go.
     fn adopt<R: Wait>(&mut self, rt: &R, mutator: MutNo, hold: Hold) -> Result<(), Fault>
         requires { IsSeated self.old }
-        ensures { IsSeated self.new }
+        ensures { StaysSeated self.old self.new }
     {
         let slot = NEWEST;
         self.ask(
@@ -266,7 +278,7 @@ impl<'a> Station<'a> {
     /// Closes the queue if no worker runs any more.
     fn close_at_the_end<R: Wait>(&mut self, rt: &R) -> Result<(), Fault>
         requires { IsSeated self.old }
-        ensures { IsSeated self.new }
+        ensures { StaysSeated self.old self.new }
     {
         if self.shared.running.workers.load(Ordering::SeqCst) > 0 {
             return Ok(());
@@ -280,7 +292,7 @@ impl<'a> Station<'a> {
     /// One step of the heap. A hold or notice that comes back, or that nobody asked for, is given up.
     fn ask<R: Wait>(&mut self, rt: &R, step: HeapStep<Hold>) -> Result<Reply, Fault>
         requires { IsSeated self.old }
-        ensures { IsSeated self.new }
+        ensures { StaysSeated self.old self.new }
     {
         match self.shared.heap.call(rt, &mut self.heap_seat, step) {
             Ok(HeapReply::Told(Reply::Refused(fault))) => Err(fault),
@@ -307,7 +319,7 @@ impl<'a> Station<'a> {
     /// Why a call of the heap and the queue was refused. A notice that comes back is released.
     fn settle<R: Wait>(&mut self, rt: &R, fault: ShareFault) -> Fault
         requires { IsSeated self.old }
-        ensures { IsSeated self.new }
+        ensures { StaysSeated self.old self.new }
     {
         match fault {
             ShareFault::Refused(fault) => fault,

@@ -1,9 +1,9 @@
 //! A stress run: threads over one heap and one queue, and the checks of the queue's lists once they have ended.
 
-ghost use Rattle.std.specs.Prelude.{All, IfOk};
+ghost use Rattle.std.specs.Prelude.{◌≡◌, All, IfOk};
 ghost use Rattle.ref_share.specs.HeapSeats.{IsHeapSeat};
 ghost use Rattle.ref_share.specs.QueueSeats.{IsQueueSeat};
-ghost use Rattle.refrun.specs.StressSeats.{IsSeated};
+ghost use Rattle.refrun.specs.StressSeats.{IsSeated, IsSeatedAt};
 
 use crate::lists::{Check, check_lists};
 use crate::roles::{QUEUE, Running, Shared, Station};
@@ -33,6 +33,14 @@ struct Job<'a> {
     role: Role,
     station: Station<'a>,
     ending: Ending<'a>,
+}
+
+/// What one thread leaves: what it took, or why it gave up, and its seats.
+#[derive(Drop)]
+struct Left {
+    taken: Result<Vec<ObjNo>, Fault>,
+    heap_seat: HeapSeat,
+    queue_seat: QueueSeat,
 }
 
 /// Counts its thread as ended when it is dropped, also where the thread never ran.
@@ -101,14 +109,39 @@ fn run<R: Threads + Wait + Sync>(
     let Ok(jobs) = jobs(alloc, shared, heap_seat, queue_seat, options) else {
         return Err(Fault::NoMemory);
     };
-    let of_job = |job: Job| -> Result<Vec<ObjNo>, Fault>
+    let of_job = |job: Job| -> Left
         requires { IsSeated job.station }
-    { taken_by(rt, alloc, job) };
-    let Ok(answers) = thread::map_vec(rt, jobs, &of_job) else {
+        ensures { IsHeapSeat job.entry.station.shared.now.heap.now result.heap_seat
+            × IsQueueSeat job.entry.station.shared.now.queue.now result.queue_seat }
+    { left_by(rt, alloc, job) };
+    let Ok(left) = thread::map_vec(rt, jobs, &of_job) else {
         return Err(Fault::NoMemory);
     };
+    joined(alloc, shared, heap_seat, queue_seat, left)
+}
+
+/// Takes in the seats of all that have ended, and gives what each took.
+fn joined(
+    alloc: Global,
+    shared: &Shared,
+    heap_seat: &mut HeapSeat,
+    queue_seat: &mut QueueSeat,
+    all: Vec<Left>,
+) -> Result<Vec<Vec<ObjNo>>, Fault>
+    requires seats { IsHeapSeat shared.now.heap.now heap_seat.old × IsQueueSeat shared.now.queue.now queue_seat.old }
+    requires left { All (λ left. IsHeapSeat shared.now.heap.now left.heap_seat
+        × IsQueueSeat shared.now.queue.now left.queue_seat) all.items }
+    ensures { IsHeapSeat shared.now.heap.now heap_seat.new × IsQueueSeat shared.now.queue.now queue_seat.new }
+{
     let mut lists = Vec::new(alloc);
-    for taken in answers {
+    for left in all {
+        let Left {
+            taken,
+            heap_seat: own_heap_seat,
+            queue_seat: own_queue_seat,
+        } = left;
+        shared.heap.join(heap_seat, own_heap_seat);
+        shared.queue.join(queue_seat, own_queue_seat);
         let Ok(()) = lists.push(taken?) else {
             return Err(Fault::NoMemory);
         };
@@ -126,7 +159,7 @@ fn jobs<'a>(
 ) -> Result<Vec<Job<'a>>, AllocError>
     requires { IsHeapSeat shared.now.heap.now heap_seat.old × IsQueueSeat shared.now.queue.now queue_seat.old }
     ensures seats { IsHeapSeat shared.now.heap.now heap_seat.new × IsQueueSeat shared.now.queue.now queue_seat.new }
-    ensures seated { IfOk result (λ jobs. All (λ job. IsSeated job.station) jobs.items) }
+    ensures seated { IfOk result (λ jobs. All (λ job. IsSeatedAt shared.now job.station) jobs.items) }
 {
     let rounds = options.rounds;
     let mut jobs = Vec::new(alloc);
@@ -162,7 +195,7 @@ fn job_of<'a>(
 ) -> Job<'a>
     requires { IsHeapSeat shared.now.heap.now heap_seat.old × IsQueueSeat shared.now.queue.now queue_seat.old }
     ensures seats { IsHeapSeat shared.now.heap.now heap_seat.new × IsQueueSeat shared.now.queue.now queue_seat.new }
-    ensures seated { IsSeated result.station }
+    ensures seated { IsSeatedAt shared.now result.station }
 {
     let own_heap_seat = shared.heap.split(heap_seat);
     let own_queue_seat = shared.queue.split(queue_seat);
@@ -173,9 +206,11 @@ fn job_of<'a>(
     }
 }
 
-/// What one thread takes from its begin to its end, or why it gives up.
-fn taken_by<R: Wait>(rt: &R, alloc: Global, job: Job) -> Result<Vec<ObjNo>, Fault>
+/// What one thread leaves at its end.
+fn left_by<R: Wait>(rt: &R, alloc: Global, job: Job) -> Left
     requires { IsSeated job.station }
+    ensures { IsHeapSeat job.entry.station.shared.now.heap.now result.heap_seat
+        × IsQueueSeat job.entry.station.shared.now.queue.now result.queue_seat }
 {
     let Job {
         role,
@@ -183,12 +218,17 @@ fn taken_by<R: Wait>(rt: &R, alloc: Global, job: Job) -> Result<Vec<ObjNo>, Faul
         ending: _ending,
     } = job;
     let mut taken = Vec::new(alloc);
-    match role {
-        Role::Mutate { mutator, rounds } => station.mutate(rt, mutator, rounds)?,
-        Role::Work(worker) => station.work(rt, worker)?,
-        Role::Poll(mutator) => station.poll(rt, mutator, &mut taken)?,
+    let answer = match role {
+        Role::Mutate { mutator, rounds } => station.mutate(rt, mutator, rounds),
+        Role::Work(worker) => station.work(rt, worker),
+        Role::Poll(mutator) => station.poll(rt, mutator, &mut taken),
+    };
+    let (heap_seat, queue_seat) = station.into_seats();
+    Left {
+        taken: answer.map(|()| taken),
+        heap_seat,
+        queue_seat,
     }
-    Ok(taken)
 }
 
 /// The first check of the queue's lists that fails.

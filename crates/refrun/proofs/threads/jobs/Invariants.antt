@@ -1,20 +1,20 @@
 use Rattle.std.proofs.Common.{All}
 use Rattle.ref_share.specs.HeapSeats.{IsHeapSeat}
 use Rattle.ref_share.specs.QueueSeats.{IsQueueSeat}
-use Rattle.refrun.specs.StressSeats.{IsSeated}
+use Rattle.refrun.specs.StressSeats.{IsSeatedAt}
 use Rattle.refrun.proofs.threads.jobs.Given as goal
 
 abbrev pub invariant-loop-number : goal.invariant-loop-number
 invariant-loop-number l =
     IsHeapSeat l.shared.heap.now l.heap_seat × IsQueueSeat l.shared.queue.now l.queue_seat
-    × All (λ job. IsSeated job.station) l.jobs.items
+    × All (λ job. IsSeatedAt l.shared job.station) l.jobs.items
 
 abbrev pub invariant-loop-number-2 : goal.invariant-loop-number-2
 invariant-loop-number-2 l =
     IsHeapSeat l.shared.heap.now l.heap_seat × IsQueueSeat l.shared.queue.now l.queue_seat
-    × All (λ job. IsSeated job.station) l.jobs.items
+    × All (λ job. IsSeatedAt l.shared job.station) l.jobs.items
 
 abbrev pub invariant-loop-number-3 : goal.invariant-loop-number-3
 invariant-loop-number-3 l =
     IsHeapSeat l.shared.heap.now l.heap_seat × IsQueueSeat l.shared.queue.now l.queue_seat
-    × All (λ job. IsSeated job.station) l.jobs.items
+    × All (λ job. IsSeatedAt l.shared job.station) l.jobs.items

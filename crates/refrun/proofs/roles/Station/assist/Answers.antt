@@ -1,4 +1,4 @@
-use Rattle.std.proofs.Common.{arith}
+use Rattle.std.proofs.Common.{arith, ◌∙◌}
 use Rattle.refrun.proofs.SeatLists.{only_seat}
 use Rattle.refrun.proofs.roles.Station.assist.Goals as goal
 
@@ -10,6 +10,9 @@ settle-requires g c = (
 
 pub returns-in-Ok : goal.returns-in-Ok
 returns-in-Ok g c = (
-  c.deliver_one-answer.ensures.seats.0,
-  only_seat _ _ _ c.deliver_one-answer.ensures.seats.1 c.from_ref.ensures.value (omega (arith, c.from_mut.ensures.len)),
+  c.ask-3.ensures.0 ∙ c.ask-2.ensures.0 ∙ c.ask.ensures.0,
+  (
+    c.deliver_one-answer.ensures.seats.0,
+    only_seat _ _ _ c.deliver_one-answer.ensures.seats.1 c.from_ref.ensures.value (omega (arith, c.from_mut.ensures.len)),
+  ),
 )

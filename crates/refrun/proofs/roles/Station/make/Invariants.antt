@@ -1,6 +1,6 @@
-use Rattle.refrun.specs.StressSeats.{IsSeated}
+use Rattle.refrun.specs.StressSeats.{StaysSeated}
 use Rattle.refrun.proofs.roles.Station.make.Given as goal
 
 abbrev pub invariant-loop : goal.invariant-loop
 invariant-loop g l =
-    IsSeated l.self
+    StaysSeated l.initial.self l.self

@@ -1,6 +1,6 @@
-use Rattle.refrun.specs.StressSeats.{IsSeated}
+use Rattle.refrun.specs.StressSeats.{StaysSeated}
 use Rattle.refrun.proofs.roles.Station.mutate.Given as goal
 
 abbrev pub invariant-loop-round : goal.invariant-loop-round
 invariant-loop-round g l =
-    IsSeated l.self
+    StaysSeated l.initial.self l.self

@@ -1,6 +1,6 @@
-use Rattle.refrun.specs.StressSeats.{IsSeated}
+use Rattle.refrun.specs.StressSeats.{StaysSeated}
 use Rattle.refrun.proofs.roles.Station.work.Given as goal
 
 abbrev pub invariant-loop : goal.invariant-loop
 invariant-loop g l =
-    (goal.iterator-loop g).can_next l.iterator' × (goal.iterator-loop g).is_finite l.iterator' × IsSeated l.self
+    (goal.iterator-loop g).can_next l.iterator' × (goal.iterator-loop g).is_finite l.iterator' × StaysSeated l.initial.self l.self

@@ -1,0 +1,11 @@
+use Rattle.std.proofs.Common.{All}
+use Rattle.std.specs.Vec.Iter.{into_iter_items}
+use Rattle.ref_share.specs.HeapSeats.{IsHeapSeat}
+use Rattle.ref_share.specs.QueueSeats.{IsQueueSeat}
+use Rattle.refrun.proofs.threads.joined.Given as goal
+
+abbrev pub invariant-loop-left : goal.invariant-loop-left
+invariant-loop-left l =
+    IsHeapSeat l.shared.heap.now l.heap_seat × IsQueueSeat l.shared.queue.now l.queue_seat
+    × All (λ left. IsHeapSeat l.shared.heap.now left.heap_seat × IsQueueSeat l.shared.queue.now left.queue_seat)
+    (into_iter_items l.left-iterator)
