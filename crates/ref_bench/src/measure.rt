@@ -57,7 +57,9 @@ impl Measure {
         match self {
             Measure::Queue => format!(in alloc; "queue, a put or poll"),
             Measure::SharedQueue => format!(in alloc; "shared queue, one thread, a put or poll"),
-            Measure::PlainQueue => format!(in alloc; "lock, deque and set, one thread, a put or poll"),
+            Measure::PlainQueue => format!(in alloc;
+                "lock, deque and set, one thread, a put or poll"
+            ),
             Measure::SharedQueueAmong(n) => {
                 format!(in alloc; "shared queue, {n} putting, {n} taking, a notice")
             }
