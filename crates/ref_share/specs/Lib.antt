@@ -11,3 +11,6 @@ pub mod Deliveries
 pub mod QueueStates
 pub mod QueueHistories
 pub mod HeapHistories
+pub mod CleanMachines
+pub mod CleanMoves
+pub mod CleanSeats
