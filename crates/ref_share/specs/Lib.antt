@@ -14,3 +14,5 @@ pub mod HeapHistories
 pub mod CleanMachines
 pub mod CleanMoves
 pub mod CleanSeats
+pub mod Releases
+pub mod Cleanings

@@ -1,18 +1,21 @@
 //! The cleaner that threads share.
 
-ghost use Rattle.std.specs.Prelude.{◌≡◌, ◌+◌, length, IfOk, OnErr, Err};
+ghost use Rattle.std.specs.Prelude.{◌≡◌, ◌+◌, length, IfOk, IfErr, OnErr, Err};
 ghost use Rattle.ref_base.specs.declared.fault.Fault.TheVariants.{NoMemory};
 ghost use Rattle.ref_turn.specs.Seats.{Longer, Begins};
 ghost use Rattle.ref_turn.specs.Turns.{view};
-ghost use Rattle.ref_share.specs.SeatCalls.{TookIn};
+ghost use Rattle.ref_share.specs.SeatCalls.{Called, RanOut, TookIn};
+ghost use Rattle.ref_turn.specs.declared.turn.TurnFault.TheVariants.{Spent};
+ghost use Rattle.ref_share.specs.CleanMachines.{IsCleanMove};
 ghost use Rattle.ref_share.specs.CleanSeats.{IsCleanSeat, IsFirstCleanSeat, LeavesTable};
 
-use crate::CleanMachine;
+use crate::{CleanMachine, CleanReply, CleanStep};
 use ref_base::{Fault, QueueNo};
 use ref_objects::Hold;
 use ref_queue::{CleanTable, Job};
-use ref_turn::{Turn, TurnSeat};
+use ref_turn::{Turn, TurnFault, TurnSeat};
 use std::alloc::{Allocator, Global};
+use std::sync::Wait;
 
 /// A cleaner that threads share: the jobs that are registered, each to run once its object is gone. It has one queue of
 /// its heap, whose notices tell which that are. It must be ended by `finish`, since the holds that it keeps must be
@@ -62,6 +65,23 @@ impl<A: Allocator + Copy> SharedCleaner<A> {
         ensures { result ≡ self.now.queue }
     {
         self.queue
+    }
+
+    // Does one step of the table, once the turn is free.
+    pub(crate) fn call<R: Wait>(
+        &self,
+        rt: &R,
+        seat: &mut CleanSeat<A>,
+        step: CleanStep<Hold, Job>,
+    ) -> Result<CleanReply<Hold, Job>, TurnFault<CleanStep<Hold, Job>>>
+        requires { IsCleanSeat self.now.turn seat.old.seat }
+        ensures seat { IsCleanSeat self.now.turn seat.new.seat }
+        ensures ok { IfOk result (λ reply. Called (view seat.old.seat) step reply (view seat.new.seat)) }
+        ensures acted { IfOk result (λ reply. (t u : _) × IsCleanMove t step reply u) }
+        ensures err { IfErr result (λ fault. (fault ≡ Spent step)
+            × RanOut (view seat.old.seat) (view seat.new.seat)) }
+    {
+        self.turn.call(rt, &mut seat.seat, step)
     }
 
     /// How many turns have ended, and the first ticket with them.
