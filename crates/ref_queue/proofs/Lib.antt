@@ -1,1 +1,2 @@
 pub mod QueueLemmas
+pub mod TableLemmas

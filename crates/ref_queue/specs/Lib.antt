@@ -1,2 +1,3 @@
 pub mod QueueViews
 pub mod QueueAnswers
+pub mod CleanTables

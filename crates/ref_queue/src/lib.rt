@@ -2,8 +2,15 @@
 //! `java.lang.ref.ReferenceQueue` of Java SE 17, with three differences of this project's profile: it is first in,
 //! first out (that text says only "appended"), it remembers the number of everything that was ever put in, so that
 //! nothing is put in twice, and it can be closed.
+//!
+//! Beside it stands the table of a cleaner: which action is to run once which object is gone, each given out at most
+//! once.
 #![tactic(auto)]
 
+mod clean_table;
+mod job;
 mod queue;
 
+pub use clean_table::CleanTable;
+pub use job::{Action, Job, Ran};
 pub use queue::{Polled, Put, Queue};

@@ -4,3 +4,4 @@ pub mod Notices
 pub mod Places
 pub mod QueueRuns
 pub mod HeldRuns
+pub mod CleanCalls

@@ -11,3 +11,8 @@ pub mod Deliveries
 pub mod QueueStates
 pub mod QueueHistories
 pub mod HeapHistories
+pub mod CleanMachines
+pub mod CleanMoves
+pub mod CleanSeats
+pub mod Releases
+pub mod Cleanings

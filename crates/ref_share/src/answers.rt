@@ -3,6 +3,7 @@
 use ref_base::{Fault, ObjNo, QueueNo};
 use ref_clear::Notice;
 use ref_objects::Hold;
+use ref_queue::Ran;
 
 /// Why a call of a shared heap or queue is refused.
 #[derive(Debug)]
@@ -39,4 +40,20 @@ pub enum Polled {
     Closed,
     /// Nothing stood at each of the polls that were allowed.
     TimedOut,
+}
+
+/// What a registered job is cleaned by: the number of its phantom reference.
+#[derive(Clone, Copy, Debug, PartialEq, Eq)]
+pub struct Cleanable {
+    pub obj: ObjNo,
+}
+
+/// What a clean did.
+#[derive(Debug)]
+pub enum Cleaned {
+    /// Nothing: the job was taken before.
+    Gone,
+    /// It ran the job. The hold of its reference comes back where the heap had no turn left to adopt it, or did not
+    /// count it.
+    Ran(Ran, Option<Hold>),
 }

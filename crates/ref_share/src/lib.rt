@@ -8,16 +8,22 @@
 
 mod answers;
 mod bell;
+mod clean_machine;
+mod cleaning;
 mod delivery;
 mod heap_machine;
 pub mod laws;
 mod queue_machine;
+mod releases;
+mod shared_cleaner;
 mod shared_heap;
 mod shared_queue;
 
-pub use answers::{Delivery, Polled, ShareFault};
+pub use answers::{Cleanable, Cleaned, Delivery, Polled, ShareFault};
+pub use clean_machine::{CleanMachine, CleanReply, CleanStep};
 pub use delivery::{deliver_one, enqueue};
 pub use heap_machine::HeapMachine;
 pub use queue_machine::{QueueMachine, QueueReply, QueueStep};
+pub use shared_cleaner::{CleanSeat, SharedCleaner};
 pub use shared_heap::{HeapSeat, SharedHeap};
 pub use shared_queue::{MOST_POLLS, QueueSeat, SharedQueue};

@@ -1,0 +1,28 @@
+-- What lookups in a cleaner's table say.
+use Rattle.std.proofs.Common.{◌≡◌, ℕ, Bool, false, List, [], ◌∷◌, Option, None, Some}
+use Rattle.std.proofs.Common.{refl, ap, ◌∙◌, nat_eq, is_some, if◌then◌else◌, slice_get}
+use Rattle.std.specs.Cmp.{nat_eq_equiv}
+use Rattle.std.specs.Map.{lookup}
+use Rattle.std.specs.Option.{option_map}
+use Rattle.ref_base.specs.declared.fault.Fault.TheVariants.{TableClosed, RegisteredTwice, NoMemory}
+use Rattle.ref_queue.specs.CleanTables.{register_refusal, IsRegisterFault, FindsFirst}
+
+module _ {K J : Type 0} (es : List (ℕ × (K × J))) (closed : Bool) where
+  -- nothing refuses what is registered in an open table for an object without a job
+  pub may_register : (n : ℕ) → closed ≡ false → is_some (lookup (nat_eq n) es) ≡ false
+      → register_refusal (record { jobs = es; closed = closed }) n ≡ None
+  may_register n is_open free =
+      ap (λ b. if b then Some TableClosed else if is_some (lookup (nat_eq n) es) then Some RegisteredTwice else None) is_open
+      ∙ ap (λ b. if b then Some RegisteredTwice else None) free
+
+  -- then want of memory alone does
+  pub wants_memory : (n : ℕ) → closed ≡ false → is_some (lookup (nat_eq n) es) ≡ false
+      → IsRegisterFault (register_refusal (record { jobs = es; closed = closed }) n) NoMemory
+  wants_memory n is_open free = rw (may_register n is_open free) refl
+
+module _ {K J : Type 0} (closed : Bool) where
+  -- the object of the first entry has a job
+  pub finds_first : (es : List (ℕ × (K × J))) (answer : Option ℕ) → answer ≡ option_map (λ e. e.0) (slice_get es 0)
+      → FindsFirst (record { jobs = es; closed = closed }) answer
+  finds_first [] answer is = rw is refl
+  finds_first (e ∷ es) answer is = rw (is, nat_eq_equiv.refl e.0) refl

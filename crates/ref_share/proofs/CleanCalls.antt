@@ -1,0 +1,47 @@
+-- What the calls of a cleaner have made.
+use Rattle.std.proofs.Common.{◌≡◌, ℕ, false, None, Result, Ok, Err, inl, inr, refl, ap, subst}
+use Rattle.ref_base.specs.HeapSteps.{NamedStep}
+use Rattle.ref_base.specs.declared.fault.Fault.{Fault}
+use Rattle.ref_base.specs.declared.heap_step.HeapStep.TheVariants as heap
+use Rattle.ref_base.specs.declared.heap_step.HoldName.{HoldName}
+use Rattle.ref_base.specs.declared.reply.Reply.{Reply}
+use Rattle.ref_base.specs.declared.reply.Reply.TheVariants as told
+use Rattle.ref_clear.specs.ClearHeaps.{ClearHeap}
+use Rattle.ref_world.specs.declared.heap_machine.HeapReply.TheVariants as replies
+use Rattle.ref_share.specs.CleanMachines.{IsCleanMove}
+use Rattle.ref_share.specs.CleanSeats.{CleanView, Jobs}
+use Rattle.ref_share.specs.Cleanings.{Tries, Retires, EntersOnce}
+use Rattle.ref_share.specs.HeapMachines.{Acts}
+use Rattle.ref_share.specs.HeapSeats.{HeapView}
+use Rattle.ref_share.specs.Releases.{Asks, Accepted, is_refusal}
+use Rattle.ref_share.specs.declared.clean_machine.CleanStep.TheVariants as steps
+use Rattle.ref_share.specs.declared.clean_machine.CleanReply.TheVariants as answers
+use Rattle.ref_share.specs.SeatCalls.{Called}
+
+-- a step whose reply tells of no refusal is accepted
+pub accepts_unless_refused : (v w : HeapView) (step : NamedStep) (reply : Reply)
+    → ((fault : Fault) → reply ≡ told.Refused fault → ⊥) → Called v step (replies.Told reply) w → Accepted v step w
+accepts_unless_refused v w step reply other called = (reply, not_refusal reply other, called)
+  where
+    not_refusal : (reply : Reply) → ((fault : Fault) → reply ≡ told.Refused fault → ⊥) → is_refusal reply ≡ false
+    not_refusal (told.Refused fault) other = absurd (other fault refl)
+    not_refusal reply other = refl
+
+-- a step that is asked of a heap is tried
+tries_of_ask : (v w : HeapView) (step : NamedStep) (result : Result Reply Fault) → Asks v step result w
+    → Tries v step w
+tries_of_ask v w step (Ok reply) asks = inl (reply, asks)
+tries_of_ask v w step (Err fault) asks = inr asks.1
+
+-- an adopted reference is retired by a clear and a drop that are tried
+pub retires_adopted : (m dst : ℕ) (hold : HoldName) (v u x w : HeapView) (c d : ClearHeap) (reply : Reply)
+    → Acts c (heap.Adopt m dst hold) (replies.Told reply) d → Called v (heap.Adopt m dst hold) (replies.Told reply) u
+    → (clear : Result Reply Fault) → Asks u (heap.Clear m dst) clear x
+    → (drop : Result Reply Fault) → Asks x (heap.Drop m dst) drop w → Retires m dst v hold None w
+retires_adopted m dst hold v u x w c d reply acts called clear clears drop drops = (
+  u,
+  x,
+  (reply, ap is_refusal acts.gives.1, called),
+  tries_of_ask u x (heap.Clear m dst) clear clears,
+  tries_of_ask x w (heap.Drop m dst) drop drops,
+)

@@ -1,0 +1,137 @@
+-- What `register`, `clean` and a cleaner's thread have called, and what they answer (Java SE 17 `java.lang.ref.Cleaner`;
+-- the turns are this project's profile).
+use Rattle.std.specs.Prelude.{◌≡◌, ℕ, ◌≤◌, ◌⊎◌, Bool, true, false, Option, Some, None, Result, Ok, Err}
+use Rattle.ref_base.specs.HeapSteps.{NamedStep}
+use Rattle.ref_base.specs.declared.config.Config.{Config}
+use Rattle.ref_base.specs.declared.fault.Fault.{Fault}
+use Rattle.ref_base.specs.declared.fault.Fault.TheVariants.{TurnsSpent}
+use Rattle.ref_base.specs.declared.heap_step.HeapStep.TheVariants as heap
+use Rattle.ref_base.specs.declared.heap_step.HoldName.{HoldName}
+use Rattle.ref_base.specs.declared.reply.Reply.{Reply}
+use Rattle.ref_base.specs.declared.reply.Reply.TheVariants as told
+use Rattle.ref_base.specs.declared.strength.Strength.TheVariants.{Phantom}
+use Rattle.ref_clear.specs.ClearHeaps.{HeldNotice}
+use Rattle.ref_queue.specs.declared.job.Ran.{Ran}
+use Rattle.ref_world.specs.declared.heap_machine.HeapReply.TheVariants as replies
+use Rattle.ref_share.specs.CleanSeats.{CleanView}
+use Rattle.ref_share.specs.HeapSeats.{HeapView}
+use Rattle.ref_share.specs.Releases.{Accepted, Declined, KeepsBack, Releases}
+use Rattle.ref_share.specs.SeatCalls.{Called, RanOut}
+use Rattle.ref_share.specs.declared.answers.Cleanable.{Cleanable}
+use Rattle.ref_share.specs.declared.answers.Cleaned.{Cleaned}
+use Rattle.ref_share.specs.declared.answers.Cleaned.TheVariants as cleaned
+use Rattle.ref_share.specs.declared.answers.ShareFault.{ShareFault}
+use Rattle.ref_share.specs.declared.answers.ShareFault.TheVariants.{Refused, Held}
+use Rattle.ref_share.specs.declared.clean_machine.CleanStep.TheVariants as steps
+use Rattle.ref_share.specs.declared.clean_machine.CleanReply.TheVariants as answers
+
+-- ---- register
+
+-- a phantom reference with the cleaner's queue, to what `src` holds, is made in `dst`
+abbrev pub makes_phantom : (queue m src dst : ℕ) → NamedStep
+makes_phantom queue m src dst = heap.Refer m Phantom dst src (Some queue) 0
+
+module _ (queue m src dst : ℕ) (v : HeapView) where
+  -- the reference was made, and a hold of it taken
+  abbrev pub HasMade : HoldName → HeapView → Type 0
+  HasMade hold w =
+      (u : HeapView) × Accepted v (makes_phantom queue m src dst) u × Called u (heap.Hold m dst) (replies.Held hold) w
+
+  -- the reference was not made; or the hold was not taken, and the reference stays in `dst`
+  abbrev pub HasNotMade : Fault → HeapView → Type 0
+  HasNotMade fault w =
+      Declined v (makes_phantom queue m src dst) fault w
+      ⊎ ((u : HeapView) × Accepted v (makes_phantom queue m src dst) u × Declined u (heap.Hold m dst) fault w)
+
+module _ {J : Type 0} (job : J) (c : CleanView J) where
+  -- the hold and the job go into the table
+  abbrev pub Enters : HoldName → CleanView J → Type 0
+  Enters hold d = Called c (steps.Register hold.object hold job) (answers.Registered (Ok tt)) d
+
+  -- the table refuses them; or no turn is left
+  abbrev pub StaysOut : HoldName → Fault → CleanView J → Type 0
+  StaysOut hold fault d =
+      Called c (steps.Register hold.object hold job) (answers.Registered (Err (fault, hold, job))) d
+      ⊎ ((fault ≡ TurnsSpent) × RanOut c d)
+
+  -- the one or the other; what stays out comes back
+  abbrev pub EntersOnce : HoldName → Result (Unit {0}) (Fault × HoldName × J) → CleanView J → Type 0
+  EntersOnce hold (Ok _) d = Enters hold d
+  EntersOnce hold (Err (fault, hold_back, job_back)) d =
+      (hold_back ≡ hold) × (job_back ≡ job) × StaysOut hold fault d
+
+  module _ (queue m src dst : ℕ) (v : HeapView) where
+    -- A register: the reference is made, a hold of it is taken, and hold and job go into the table. Each is called
+    -- unless the one before is refused. Where the table doesn't take the hold it goes back to the heap, or to the
+    -- caller where the heap doesn't take it.
+    abbrev pub RegistersJob : Result Cleanable (ShareFault × J) → HeapView → CleanView J → Type 0
+    RegistersJob (Ok cleanable) w d =
+        (hold : HoldName) × (cleanable.obj ≡ hold.object) × HasMade queue m src dst v hold w × Enters hold d
+    RegistersJob (Err (Refused fault, back)) w d =
+        (back ≡ job)
+        × ((HasNotMade queue m src dst v fault w × (d ≡ c))
+            ⊎ ((hold : HoldName) × (u : HeapView) × HasMade queue m src dst v hold u × StaysOut hold fault d
+                × Releases u hold (Ok tt) w))
+    RegistersJob (Err (Held kept fault, back)) w d =
+        (back ≡ job)
+        × ((hold : HoldName) × (u : HeapView) × (refused : Fault) × HasMade queue m src dst v hold u
+            × StaysOut hold refused d × Releases u hold (Err (kept, fault)) w)
+    RegistersJob (Err (fault, back)) w d = ⊥
+
+-- ---- clean
+
+-- the object's job is taken, or there is none
+abbrev pub TakesJob : {J : Type 0} → CleanView J → ℕ → Option (HoldName × J) → CleanView J → Type 0
+TakesJob c object taken d = Called c (steps.Take object) (answers.Taken taken) d
+
+-- the same; or no turn is left for it
+abbrev pub TakesOnce : {J : Type 0} → CleanView J → ℕ → Result (Option (HoldName × J)) ShareFault → CleanView J → Type 0
+TakesOnce c object (Ok taken) d = TakesJob c object taken d
+TakesOnce c object (Err (Refused TurnsSpent)) d = RanOut c d
+TakesOnce c object result d = ⊥
+
+-- the step is the heap's one call, whatever it answers; or no turn is left for it
+abbrev pub Tries : HeapView → NamedStep → HeapView → Type 0
+Tries v step w = ((reply : Reply) × Called v step (replies.Told reply) w) ⊎ RanOut v w
+
+-- the reference is adopted into `dst`, cleared, and dropped, as far as turns are left; or the heap doesn't adopt it
+abbrev pub Retires : (m dst : ℕ) → HeapView → HoldName → Option HoldName → HeapView → Type 0
+Retires m dst v hold None w =
+    (u : HeapView) × (x : HeapView) × Accepted v (heap.Adopt m dst hold) u
+    × Tries u (heap.Clear m dst) x × Tries x (heap.Drop m dst) w
+Retires m dst v hold (Some back) w =
+    (back ≡ hold) × ((fault : Fault) × KeepsBack v (heap.Adopt m dst hold) hold fault w)
+
+-- the mutator or the slot is outside the heap's
+abbrev pub IsOutside : Config → (m slot : ℕ) → Type 0
+IsOutside config m slot = (config.mutators ≤ m) ⊎ (16 ≤ slot)
+
+module _ {J : Type 0} (ran_of : J → Ran) (object m dst : ℕ) (v : HeapView) (c : CleanView J) where
+  -- a clean: the job is taken, if there is one; then its reference is retired, and the job was run
+  abbrev pub CleansNow : Result Cleaned ShareFault → HeapView → CleanView J → Type 0
+  CleansNow (Ok cleaned.Gone) w d = TakesJob c object None d × (w ≡ v)
+  CleansNow (Ok (cleaned.Ran ran kept)) w d =
+      (hold : HoldName) × (job : J) × TakesJob c object (Some (hold, job)) d × (ran ≡ ran_of job)
+      × Retires m dst v hold kept w
+  CleansNow (Err (Refused TurnsSpent)) w d = RanOut c d × (w ≡ v)
+  CleansNow result w d = ⊥
+
+-- ---- a cleaner's thread
+
+module _ {J : Type 0} (notice : HeldNotice) (v : HeapView) (c : CleanView J) where
+  -- the notice was released, and the job of its reference taken
+  abbrev pub HasTaken : HoldName → J → HeapView → CleanView J → Type 0
+  HasTaken hold job w d = Releases v notice.hold (Ok tt) w × TakesJob c notice.hold.object (Some (hold, job)) d
+
+  -- What follows a notice: it is released, and the job of its reference is taken. Where there is one it was run, and
+  -- its hold is released: true exactly there. A hold that the heap does not take comes back; with that of the notice
+  -- no job is taken, and with that of a job the job was run.
+  abbrev pub CleansDead : Result Bool ShareFault → HeapView → CleanView J → Type 0
+  CleansDead (Ok false) w d = Releases v notice.hold (Ok tt) w × TakesJob c notice.hold.object None d
+  CleansDead (Ok true) w d =
+      (hold : HoldName) × (job : J) × (u : HeapView) × HasTaken hold job u d × Releases u hold (Ok tt) w
+  CleansDead (Err (Refused TurnsSpent)) w d = Releases v notice.hold (Ok tt) w × RanOut c d
+  CleansDead (Err (Held kept fault)) w d =
+      (Releases v notice.hold (Err (kept, fault)) w × (d ≡ c))
+      ⊎ ((hold : HoldName) × (job : J) × (u : HeapView) × HasTaken hold job u d × Releases u hold (Err (kept, fault)) w)
+  CleansDead result w d = ⊥

@@ -1,0 +1,80 @@
+//! A cleaner's table as a machine of turns.
+
+use ref_base::{Fault, ObjNo};
+use ref_queue::CleanTable;
+use ref_turn::Machine;
+use std::alloc::{Allocator, Global};
+use std::marker::Model;
+
+/// One step of a cleaner's table.
+pub enum CleanStep<K, J> {
+    /// Registers a job for the object, with what is kept beside it.
+    Register(ObjNo, K, J),
+    /// Takes the object's job out.
+    Take(ObjNo),
+}
+
+/// What a step of a table answers: just what the table's own call does.
+pub enum CleanReply<K, J> {
+    /// To a register.
+    Registered(Result<(), (Fault, K, J)>),
+    /// To a take.
+    Taken(Option<(K, J)>),
+}
+
+/// A cleaner's table, whose turns are its steps.
+pub struct CleanMachine<K, J, A: Allocator = Global> {
+    pub(crate) table: CleanTable<K, J, A>,
+}
+
+impl<K, J, A: Allocator> Model for CleanMachine<K, J, A> {
+    ghost use Rattle.ref_queue.specs.CleanTables.{Registry, registry_code};
+
+    ghost Value = { Registry K J };
+
+    ghost coded = { registry_code K.code J.code };
+
+    ghost view = { λ m. m.table };
+}
+
+impl<K, J, A: Allocator> CleanMachine<K, J, A> {
+    ghost use Rattle.std.specs.Prelude.{◌≡◌};
+
+    // The table alone.
+    pub(crate) fn into_table(self) -> CleanTable<K, J, A>
+        ensures { result ≡ self }
+    {
+        let CleanMachine { table } = self;
+        table
+    }
+}
+
+impl<K, J, A: Allocator + Copy> Machine for CleanMachine<K, J, A> {
+    ghost use Rattle.std.specs.Prelude.{◌≡◌};
+    ghost use Rattle.ref_queue.specs.CleanTables.{Registry};
+    ghost use Rattle.ref_share.specs.CleanMachines.{IsCleanMove};
+    ghost use Rattle.ref_share.specs.CleanMoves.{moves_as_it_acts};
+
+    type Step = CleanStep<K, J>;
+
+    type Reply = CleanReply<K, J>;
+
+    ghost State = { Registry K J };
+
+    ghost stands_for = { λ m x. x ≡ m };
+
+    ghost moves = { IsCleanMove };
+
+    ghost acts = { IsCleanMove };
+
+    fn apply(&mut self, step: CleanStep<K, J>) -> CleanReply<K, J> {
+        match step {
+            CleanStep::Register(object, kept, job) => {
+                CleanReply::Registered(self.table.register(object, kept, job))
+            }
+            CleanStep::Take(object) => CleanReply::Taken(self.table.take(object)),
+        }
+    }
+
+    ghost follows = { moves_as_it_acts };
+}

@@ -1,0 +1,218 @@
+//! Registering a job with a cleaner, and cleaning by hand.
+
+ghost use Rattle.std.specs.Prelude.{◌≡◌, Err, IfOk, IfErr};
+ghost use Rattle.ref_base.specs.declared.fault.Fault.TheVariants.{NoSuchActor};
+ghost use Rattle.ref_share.specs.declared.answers.ShareFault.TheVariants.{Refused};
+ghost use Rattle.ref_turn.specs.Turns.{view};
+ghost use Rattle.ref_share.specs.CleanSeats.{IsCleanSeat};
+ghost use Rattle.ref_share.specs.Cleanings.{RegistersJob, HasMade, HasNotMade, EntersOnce};
+ghost use Rattle.ref_share.specs.Cleanings.{CleansNow, TakesOnce, IsOutside, Retires};
+ghost use Rattle.ref_share.specs.HeapSeats.{heap_view, IsHeapSeat};
+
+use crate::releases::{ask, release};
+use crate::{CleanReply, CleanSeat, CleanStep, Cleanable, Cleaned};
+use crate::{HeapSeat, ShareFault, SharedCleaner, SharedHeap};
+use ref_base::{Fault, HeapStep, MutNo, ObjNo, QueueNo, Reply, SLOTS, SlotNo, Strength};
+use ref_objects::Hold;
+use ref_queue::Job;
+use ref_turn::TurnFault;
+use ref_world::HeapReply;
+use std::alloc::Allocator;
+use std::sync::Wait;
+
+impl<A: Allocator + Copy> SharedCleaner<A> {
+    /// Registers a job for what the source slot holds: a phantom reference to it, with the cleaner's queue, is made in
+    /// `slot`, and job and a hold of that reference go into the table. The job runs once, by `clean` or by a thread in
+    /// `clean_loop` after the object became phantom reachable. As `Cleaner.register` of Java SE 17.
+    ///
+    /// Three turns: two of the heap, for the reference and its hold, and one of the table. `Refused` with the faults of
+    /// the two, with those of `CleanTable::register`, or `TurnsSpent` where heap or table has no turn left; the job
+    /// comes back. Where the table refuses, the reference stays in `slot` and its hold was released by one more turn of
+    /// the heap, or it is `Held` where the heap has no turn left for that. Only the table takes memory.
+    ///
+    /// By the caller: a cleaner is used with one heap, and no other call uses the mutator meanwhile.
+    pub fn register<R: Wait>(
+        &self,
+        rt: &R,
+        seat: &mut CleanSeat<A>,
+        heap: &SharedHeap<A>,
+        heap_seat: &mut HeapSeat<A>,
+        mutator: MutNo,
+        source: SlotNo,
+        slot: SlotNo,
+        job: Job,
+    ) -> Result<Cleanable, (ShareFault, Job)>
+        requires seats { IsCleanSeat self.now.turn seat.old.seat × IsHeapSeat heap.now heap_seat.old }
+        ensures seat { IsCleanSeat self.now.turn seat.new.seat }
+        ensures heap_seat { IsHeapSeat heap.now heap_seat.new }
+        ensures registers { RegistersJob job (view seat.old.seat) self.now.queue mutator source slot
+            (heap_view heap_seat.old) result (heap_view heap_seat.new) (view seat.new.seat) }
+    {
+        let hold = match refer(rt, heap, heap_seat, self.queue, mutator, source, slot) {
+            Ok(hold) => hold,
+            Err(fault) => return Err((ShareFault::Refused(fault), job)),
+        };
+        let obj = hold.obj();
+        let (fault, hold, job) = match self.enter(rt, seat, hold, job) {
+            Ok(()) => return Ok(Cleanable { obj }),
+            Err(refused) => refused,
+        };
+        match release(rt, heap, heap_seat, hold) {
+            Ok(()) => Err((ShareFault::Refused(fault), job)),
+            Err((hold, fault)) => Err((ShareFault::Held(hold, fault), job)),
+        }
+    }
+
+    /// Runs the job, unless it was taken before: then it is `Gone`. As `Cleanable.clean` of Java SE 17, at most once
+    /// over all threads, and in no turn: others go on while it runs.
+    ///
+    /// Four turns at most: one of the table, which gives the job out, and three of the heap, by which the reference is
+    /// adopted into `slot`, cleared, so that it is never enqueued, and dropped, as far as turns are left. Tried in this
+    /// order: `Refused(NoSuchActor)` where mutator or slot is outside the heap's, `Refused(TurnsSpent)` where the table
+    /// has no turn left; then the job stays. Takes no memory but what the job takes.
+    ///
+    /// By the caller: no other call uses the mutator meanwhile.
+    pub fn clean<R: Wait>(
+        &self,
+        rt: &R,
+        seat: &mut CleanSeat<A>,
+        heap: &SharedHeap<A>,
+        heap_seat: &mut HeapSeat<A>,
+        mutator: MutNo,
+        slot: SlotNo,
+        cleanable: Cleanable,
+    ) -> Result<Cleaned, ShareFault>
+        requires { IsCleanSeat self.now.turn seat.old.seat × IsHeapSeat heap.now heap_seat.old }
+        ensures seat { IsCleanSeat self.now.turn seat.new.seat }
+        ensures heap_seat { IsHeapSeat heap.now heap_seat.new }
+        ensures outside { IsOutside heap.now.config mutator slot → (result ≡ Err (Refused NoSuchActor))
+            × (view seat.new.seat ≡ view seat.old.seat) × (heap_view heap_seat.new ≡ heap_view heap_seat.old) }
+        ensures cleans { ¬ (IsOutside heap.now.config mutator slot)
+            → CleansNow (λ job. record { number = job.number; answer = job.note }) cleanable.obj mutator slot
+            (heap_view heap_seat.old) (view seat.old.seat) result (heap_view heap_seat.new) (view seat.new.seat) }
+    {
+        if mutator.0 >= heap.config().mutators || slot.0 as usize >= SLOTS {
+            return Err(ShareFault::Refused(Fault::NoSuchActor));
+        }
+        match self.take(rt, seat, cleanable.obj)? {
+            None => Ok(Cleaned::Gone),
+            Some((hold, job)) => {
+                let back = retire(rt, heap, heap_seat, mutator, slot, hold);
+                Ok(Cleaned::Ran(job.run(), back))
+            }
+        }
+    }
+
+    // Registers the job in the table, with a hold of its reference.
+    fn enter<R: Wait>(
+        &self,
+        rt: &R,
+        seat: &mut CleanSeat<A>,
+        hold: Hold,
+        job: Job,
+    ) -> Result<(), (Fault, Hold, Job)>
+        requires { IsCleanSeat self.now.turn seat.old.seat }
+        ensures seat { IsCleanSeat self.now.turn seat.new.seat }
+        ensures enters { EntersOnce job (view seat.old.seat) hold result (view seat.new.seat) }
+    {
+        match self.call(rt, seat, CleanStep::Register(hold.obj(), hold, job)) {
+            Ok(CleanReply::Registered(answer)) => answer,
+            Ok(CleanReply::Taken(_taken)) => unreachable!(),
+            Err(TurnFault::Spent(CleanStep::Register(_, hold, job))) => {
+                Err((Fault::TurnsSpent, hold, job))
+            }
+            Err(TurnFault::Spent(_step)) => unreachable!(),
+            Err(TurnFault::Busy(_step)) => unreachable!(),
+        }
+    }
+
+    // Takes the object's job out of the table.
+    pub(crate) fn take<R: Wait>(
+        &self,
+        rt: &R,
+        seat: &mut CleanSeat<A>,
+        object: ObjNo,
+    ) -> Result<Option<(Hold, Job)>, ShareFault>
+        requires { IsCleanSeat self.now.turn seat.old.seat }
+        ensures seat { IsCleanSeat self.now.turn seat.new.seat }
+        ensures takes { TakesOnce (view seat.old.seat) object result (view seat.new.seat) }
+    {
+        match self.call(rt, seat, CleanStep::Take(object)) {
+            Ok(CleanReply::Taken(taken)) => Ok(taken),
+            Ok(CleanReply::Registered(_answer)) => unreachable!(),
+            Err(TurnFault::Spent(CleanStep::Take(_))) => Err(ShareFault::Refused(Fault::TurnsSpent)),
+            Err(TurnFault::Spent(_step)) => unreachable!(),
+            Err(TurnFault::Busy(_step)) => unreachable!(),
+        }
+    }
+}
+
+// Makes a phantom reference in the slot to what the source holds, and gives a hold of it.
+fn refer<R: Wait, A: Allocator + Copy>(
+    rt: &R,
+    heap: &SharedHeap<A>,
+    seat: &mut HeapSeat<A>,
+    queue: QueueNo,
+    mutator: MutNo,
+    source: SlotNo,
+    slot: SlotNo,
+) -> Result<Hold, Fault>
+    requires { IsHeapSeat heap.now seat.old }
+    ensures seat { IsHeapSeat heap.now seat.new }
+    ensures made { IfOk result (λ hold. HasMade queue mutator source slot (heap_view seat.old) hold (heap_view seat.new)) }
+    ensures not { IfErr result (λ fault.
+        HasNotMade queue mutator source slot (heap_view seat.old) fault (heap_view seat.new)) }
+{
+    let step = HeapStep::Refer {
+        mutator,
+        strength: Strength::Phantom,
+        slot,
+        source,
+        queue: Some(queue),
+        fields: 0,
+    };
+    if let Reply::Refused(fault) = ask(rt, heap, seat, step)? {
+        return Err(fault);
+    }
+    match heap.call(rt, seat, HeapStep::Hold { mutator, slot }) {
+        Ok(HeapReply::Held(hold)) => Ok(hold),
+        Ok(HeapReply::Told(Reply::Refused(fault))) => Err(fault),
+        Ok(HeapReply::Told(_)) => unreachable!(),
+        Ok(HeapReply::Notice(_notice)) => unreachable!(),
+        Ok(HeapReply::Back(_, _hold)) => unreachable!(),
+        Err(TurnFault::Spent(HeapStep::Hold { .. })) => Err(Fault::TurnsSpent),
+        Err(TurnFault::Spent(_step)) => unreachable!(),
+        Err(TurnFault::Busy(_step)) => unreachable!(),
+    }
+}
+
+// Adopts the reference of a job into the slot, clears it and drops it, as far as turns are left. The hold comes back
+// where the heap doesn't take it.
+fn retire<R: Wait, A: Allocator + Copy>(
+    rt: &R,
+    heap: &SharedHeap<A>,
+    seat: &mut HeapSeat<A>,
+    mutator: MutNo,
+    slot: SlotNo,
+    hold: Hold,
+) -> Option<Hold>
+    requires { IsHeapSeat heap.now seat.old }
+    ensures seat { IsHeapSeat heap.now seat.new }
+    ensures retires { Retires mutator slot (heap_view seat.old) hold result (heap_view seat.new) }
+{
+    let step = HeapStep::Adopt { mutator, slot, hold };
+    match heap.call(rt, seat, step) {
+        Ok(HeapReply::Told(_)) => {
+            let reference = slot;
+            let _ = ask(rt, heap, seat, HeapStep::Clear { mutator, reference });
+            let _ = ask(rt, heap, seat, HeapStep::Drop { mutator, slot });
+            None
+        }
+        Ok(HeapReply::Back(_, hold)) => Some(hold),
+        Ok(HeapReply::Notice(_notice)) => unreachable!(),
+        Ok(HeapReply::Held(_hold)) => unreachable!(),
+        Err(TurnFault::Spent(HeapStep::Adopt { hold, .. })) => Some(hold),
+        Err(TurnFault::Spent(_step)) => unreachable!(),
+        Err(TurnFault::Busy(_step)) => unreachable!(),
+    }
+}
