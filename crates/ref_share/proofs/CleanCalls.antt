@@ -1,5 +1,5 @@
 -- What the calls of a cleaner have made.
-use Rattle.std.proofs.Common.{◌≡◌, ℕ, false, None, Result, Ok, Err, inl, inr, refl, ap, subst}
+use Rattle.std.proofs.Common.{◌≡◌, ℕ, false, None, Result, Ok, Err, inl, inr, refl, ap}
 use Rattle.ref_base.specs.HeapSteps.{NamedStep}
 use Rattle.ref_base.specs.declared.fault.Fault.{Fault}
 use Rattle.ref_base.specs.declared.heap_step.HeapStep.TheVariants as heap
@@ -8,14 +8,10 @@ use Rattle.ref_base.specs.declared.reply.Reply.{Reply}
 use Rattle.ref_base.specs.declared.reply.Reply.TheVariants as told
 use Rattle.ref_clear.specs.ClearHeaps.{ClearHeap}
 use Rattle.ref_world.specs.declared.heap_machine.HeapReply.TheVariants as replies
-use Rattle.ref_share.specs.CleanMachines.{IsCleanMove}
-use Rattle.ref_share.specs.CleanSeats.{CleanView, Jobs}
-use Rattle.ref_share.specs.Cleanings.{Tries, Retires, EntersOnce}
+use Rattle.ref_share.specs.Cleanings.{Tries, Retires}
 use Rattle.ref_share.specs.HeapMachines.{Acts}
 use Rattle.ref_share.specs.HeapSeats.{HeapView}
 use Rattle.ref_share.specs.Releases.{Asks, Accepted, is_refusal}
-use Rattle.ref_share.specs.declared.clean_machine.CleanStep.TheVariants as steps
-use Rattle.ref_share.specs.declared.clean_machine.CleanReply.TheVariants as answers
 use Rattle.ref_share.specs.SeatCalls.{Called}
 
 -- a step whose reply tells of no refusal is accepted

@@ -8,7 +8,6 @@ use Rattle.ref_base.specs.declared.fault.Fault.TheVariants.{TurnsSpent}
 use Rattle.ref_base.specs.declared.heap_step.HeapStep.TheVariants as heap
 use Rattle.ref_base.specs.declared.heap_step.HoldName.{HoldName}
 use Rattle.ref_base.specs.declared.reply.Reply.{Reply}
-use Rattle.ref_base.specs.declared.reply.Reply.TheVariants as told
 use Rattle.ref_base.specs.declared.strength.Strength.TheVariants.{Phantom}
 use Rattle.ref_clear.specs.ClearHeaps.{HeldNotice}
 use Rattle.ref_queue.specs.declared.job.Ran.{Ran}
@@ -70,12 +69,12 @@ module _ {J : Type 0} (job : J) (c : CleanView J) where
     RegistersJob (Err (Refused fault, back)) w d =
         (back ≡ job)
         × ((HasNotMade queue m src dst v fault w × (d ≡ c))
-            ⊎ ((hold : HoldName) × (u : HeapView) × HasMade queue m src dst v hold u × StaysOut hold fault d
-                × Releases u hold (Ok tt) w))
+        ⊎ ((hold : HoldName) × (u : HeapView) × HasMade queue m src dst v hold u × StaysOut hold fault d
+        × Releases u hold (Ok tt) w))
     RegistersJob (Err (Held kept fault, back)) w d =
         (back ≡ job)
         × ((hold : HoldName) × (u : HeapView) × (refused : Fault) × HasMade queue m src dst v hold u
-            × StaysOut hold refused d × Releases u hold (Err (kept, fault)) w)
+        × StaysOut hold refused d × Releases u hold (Err (kept, fault)) w)
     RegistersJob (Err (fault, back)) w d = ⊥
 
 -- ---- clean

@@ -10,8 +10,10 @@ ghost use Rattle.ref_share.specs.Cleanings.{CleansNow, TakesOnce, IsOutside, Ret
 ghost use Rattle.ref_share.specs.HeapSeats.{heap_view, IsHeapSeat};
 
 use crate::releases::{ask, release};
-use crate::{CleanReply, CleanSeat, CleanStep, Cleanable, Cleaned};
-use crate::{HeapSeat, ShareFault, SharedCleaner, SharedHeap};
+use crate::{
+    CleanReply, CleanSeat, CleanStep, Cleanable, Cleaned, HeapSeat, ShareFault, SharedCleaner,
+    SharedHeap,
+};
 use ref_base::{Fault, HeapStep, MutNo, ObjNo, QueueNo, Reply, SLOTS, SlotNo, Strength};
 use ref_objects::Hold;
 use ref_queue::Job;
@@ -140,7 +142,9 @@ impl<A: Allocator + Copy> SharedCleaner<A> {
         match self.call(rt, seat, CleanStep::Take(object)) {
             Ok(CleanReply::Taken(taken)) => Ok(taken),
             Ok(CleanReply::Registered(_answer)) => unreachable!(),
-            Err(TurnFault::Spent(CleanStep::Take(_))) => Err(ShareFault::Refused(Fault::TurnsSpent)),
+            Err(TurnFault::Spent(CleanStep::Take(_))) => Err(ShareFault::Refused(
+                Fault::TurnsSpent,
+            )),
             Err(TurnFault::Spent(_step)) => unreachable!(),
             Err(TurnFault::Busy(_step)) => unreachable!(),
         }
@@ -200,7 +204,11 @@ fn retire<R: Wait, A: Allocator + Copy>(
     ensures seat { IsHeapSeat heap.now seat.new }
     ensures retires { Retires mutator slot (heap_view seat.old) hold result (heap_view seat.new) }
 {
-    let step = HeapStep::Adopt { mutator, slot, hold };
+    let step = HeapStep::Adopt {
+        mutator,
+        slot,
+        hold,
+    };
     match heap.call(rt, seat, step) {
         Ok(HeapReply::Told(_)) => {
             let reference = slot;

@@ -1,4 +1,4 @@
-use Rattle.std.proofs.Common.{rules, refl, subst, inr}
+use Rattle.std.proofs.Common.{refl, subst, inr}
 use Rattle.ref_base.specs.declared.fault.Fault.TheVariants.{TurnsSpent}
 use Rattle.ref_base.specs.declared.heap_step.HeapStep.TheVariants as heap
 use Rattle.ref_share.proofs.CleanCalls.{retires_adopted}
