@@ -63,7 +63,10 @@ fn the_lists_of_a_run_pass_each_check(rt: HostRuntime) -> Result<(), Fail> {
 fn a_run_with_too_many_threads_is_refused(rt: HostRuntime) -> Result<(), Fail> {
     for options in REFUSED {
         let tally = Tally::new();
-        assert_eq!(rt; stress(&rt, rt.alloc(), options, &tally), Err(Fault::BadConfig));
+        assert_eq!(rt;
+            stress(&rt, rt.alloc(), options, &tally),
+            Err(Fault::BadConfig)
+        );
         assert_eq!(rt; tally.counts().rounds, 0);
     }
     Ok(())
