@@ -18,6 +18,7 @@ use Rattle.ref_base.specs.declared.reply.Reply.{Reply}
 use Rattle.ref_base.specs.declared.reply.Reply.TheVariants as told
 use Rattle.ref_base.proofs.CountedRows.{heap_holds}
 use Rattle.ref_base.proofs.HoldCounts.{one_if, tally-first, tally-append, tally-one_more}
+use Rattle.ref_turn.proofs.Logs.{leads_cut}
 use Rattle.ref_turn.specs.History.{Leads}
 use Rattle.ref_world.specs.HeapReplies.{told_reply, Gives}
 use Rattle.ref_world.specs.declared.heap_machine.HeapReply.{HeapReply}
@@ -188,18 +189,12 @@ pub held_is_minted : (config : Config) (number : ℕ) (calls : List HeapEntry) (
 held_is_minted config number calls last run n =
     let all = held_run (first_heap_state config number) last calls run n in omega (arith, all)
 
-cut : (x y : HeapState) (front back : List HeapEntry) → Leads IsHeapMove x (front ++ back) y
-    → (mid : HeapState) × Leads IsHeapMove x front mid × Leads IsHeapMove mid back y
-cut x y [] back run = (x, refl, run)
-cut x y (call ∷ front) back run =
-    let rest = cut run.0 y front back run.2 in (rest.0, (run.0, run.1, rest.1), rest.2)
-
 -- a call that takes a hold back takes back one that was given out
 pub spent_was_minted : (config : Config) (number : ℕ) (front back : List HeapEntry) (call : HeapEntry)
     (last : HeapState) (n : ℕ) → IsHeapRun config number (front ++ call ∷ back) last
     → spent_by call.step call.reply ≡ n ∷ [] → tally (spent front) n < tally (minted front) n
 spent_was_minted config number front back call last n run spends =
-    let parts = cut (first_heap_state config number) last front (call ∷ back) run in
+    let parts = leads_cut IsHeapMove front (call ∷ back) (first_heap_state config number) last run in
     let before = held_is_minted config number front parts.0 parts.1 n in
     let move = held_move parts.0 parts.2.0 n call.step call.reply parts.2.1 in
     let out = ap (λ (ns : List ℕ). tally ns n) spends in

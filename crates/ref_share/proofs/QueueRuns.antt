@@ -9,6 +9,7 @@ use Rattle.ref_base.proofs.QueueMoves.{QueueMoves, moves_nothing, moves_more, mo
 use Rattle.ref_clear.specs.ClearHeaps.{HeldNotice}
 use Rattle.ref_queue.specs.declared.queue.Put.TheVariants as puts
 use Rattle.ref_queue.specs.declared.queue.Polled.TheVariants as polls
+use Rattle.ref_turn.proofs.Logs.{leads_cut}
 use Rattle.ref_turn.specs.History.{Leads}
 use Rattle.ref_turn.specs.Seats.{entry}
 use Rattle.ref_share.specs.QueueHistories.{put_by, taken_by, closed_by, put_in, taken_out, was_closed, KeepsLists}
@@ -71,17 +72,11 @@ keeps_lists number calls last run =
 
 -- ---- a run in two parts
 
-cut : (q : NoticeLists) (front back : List QueueEntry) (r : NoticeLists) → Leads IsQueueMove q (front ++ back) r
-    → (mid : NoticeLists) × Leads IsQueueMove q front mid × Leads IsQueueMove mid back r
-cut q [] back r run = (q, refl, run)
-cut q (call ∷ front) back r run =
-    let rest = cut run.0 front back r run.2 in (rest.0, (run.0, run.1, rest.1), rest.2)
-
 -- nothing is put in behind a close
 pub nothing_after_close : (number : ℕ) (front back : List QueueEntry) (last : NoticeLists)
     → IsQueueRun number (front ++ back) last → was_closed front ≡ true → put_in back ≡ []
 nothing_after_close number front back last run shut =
-    let parts = cut (new_queue number) front back last run in
+    let parts = leads_cut IsQueueMove front back (new_queue number) last run in
     let first = keeps_lists number front parts.0 parts.1 in
     (run_moves parts.0 back last parts.2).shut (first.closed_is ∙ shut)
 
@@ -114,7 +109,7 @@ pub own_at_the_end : (number by : ℕ) (front back : List QueueEntry) (notice : 
     → (notice.queue ≡ number) × (position ≡ length (put_in front))
 own_at_the_end number by front back notice position last run =
     let call : QueueEntry = entry by (steps.Put notice) (replies.Put (Ok (puts.Added position))) in
-    let parts = cut (new_queue number) front (call ∷ back) last run in
+    let parts = leads_cut IsQueueMove front (call ∷ back) (new_queue number) last run in
     let added = parts.2.1.0 in (
       added.0.0 ∙ number_of (new_queue number) front parts.0 parts.1,
       added.1 ∙ ap length (keeps_lists number front parts.0 parts.1).put_is,

@@ -42,6 +42,16 @@ module _ {S R : Type 0} where
       ∙ ap (λ (b : Bool). calls_by n xs ++ (if b then e ∷ [] else [])) (ne_eqb e.by n other)
       ∙ append-nil (calls_by n xs)
 
+  if_shorter : (b : Bool) (e : Entry S R) (xs ys : List (Entry S R)) → length xs ≤ length ys
+      → length (if b then e ∷ xs else xs) ≤ length (e ∷ ys)
+  if_shorter true e xs ys small = omega (arith, small)
+  if_shorter false e xs ys small = omega (arith, small)
+
+  -- a seat's own calls are no more than all
+  pub calls_by-shorter : (n : ℕ) (log : List (Entry S R)) → length (calls_by n log) ≤ length log
+  calls_by-shorter n [] = omega (arith)
+  calls_by-shorter n (e ∷ es) = if_shorter (e.by == n) e (calls_by n es) es (calls_by-shorter n es)
+
   -- a seat with no call in a history has none in its beginning
   pub calls_by-none : (n : ℕ) (log seen : List (Entry S R)) → StartsWith log seen → calls_by n log ≡ []
       → calls_by n seen ≡ []
@@ -77,6 +87,13 @@ module _ {S R : Type 0} where
         → Leads moves x (log ++ e ∷ []) z
     leads-snoc [] e x y z led did = (z, subst (λ (w : X). moves w e.step e.reply z) (sym led) did, refl)
     leads-snoc (d ∷ log) e x y z led did = (led.0, led.1, leads-snoc log e led.0 y z led.2 did)
+
+    -- entries that stand in two parts lead through a state between them
+    pub leads_cut : (front back : List (Entry S R)) (x y : X) → Leads moves x (front ++ back) y
+        → (mid : X) × Leads moves x front mid × Leads moves mid back y
+    leads_cut [] back x y led = (x, refl, led)
+    leads_cut (e ∷ front) back x y led =
+        let rest = leads_cut front back led.0 y led.2 in (rest.0, (led.0, led.1, rest.1), rest.2)
 
   module _ {M X : Type 0} (stands_for : M → X → Type 0) (moves : X → S → R → X → Type 0) where
     pub reaches_legal : (start : Option M) (log : List (Entry S R)) (m : M) → Reaches stands_for moves start log m
