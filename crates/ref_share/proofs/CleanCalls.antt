@@ -1,17 +1,18 @@
 -- What the calls of a cleaner have made.
-use Rattle.std.proofs.Common.{◌≡◌, ℕ, false, None, Result, Ok, Err, inl, inr, refl, ap}
+use Rattle.std.proofs.Common.{◌≡◌, ℕ, false, Option, Some, None, Result, Ok, Err, inl, inr, refl, ap, subst}
 use Rattle.ref_base.specs.HeapSteps.{NamedStep}
 use Rattle.ref_base.specs.declared.fault.Fault.{Fault}
 use Rattle.ref_base.specs.declared.heap_step.HeapStep.TheVariants as heap
 use Rattle.ref_base.specs.declared.heap_step.HoldName.{HoldName}
 use Rattle.ref_base.specs.declared.reply.Reply.{Reply}
 use Rattle.ref_base.specs.declared.reply.Reply.TheVariants as told
-use Rattle.ref_clear.specs.ClearHeaps.{ClearHeap}
+use Rattle.ref_clear.specs.ClearHeaps.{ClearHeap, HeldNotice}
 use Rattle.ref_world.specs.declared.heap_machine.HeapReply.TheVariants as replies
-use Rattle.ref_share.specs.Cleanings.{Tries, Retires}
+use Rattle.ref_share.specs.CleanSeats.{CleanView}
+use Rattle.ref_share.specs.Cleanings.{Tries, Retires, TakesJob, HasTaken}
 use Rattle.ref_share.specs.HeapMachines.{Acts}
 use Rattle.ref_share.specs.HeapSeats.{HeapView}
-use Rattle.ref_share.specs.Releases.{Asks, Accepted, is_refusal}
+use Rattle.ref_share.specs.Releases.{Asks, Accepted, Releases, is_refusal}
 use Rattle.ref_share.specs.SeatCalls.{Called}
 
 -- a step whose reply tells of no refusal is accepted
@@ -40,4 +41,15 @@ retires_adopted m dst hold v u x w c d reply acts called clear clears drop drops
   (reply, ap is_refusal acts.gives.1, called),
   tries_of_ask u x (heap.Clear m dst) clear clears,
   tries_of_ask x w (heap.Drop m dst) drop drops,
+)
+
+-- a notice was released, and the job of its reference taken
+pub has_taken : {J : Type 0} (notice : HeldNotice) (v w : HeapView) (c d : CleanView J) (held hold : HoldName)
+    (object : ℕ) (job : J) (taken : Option (HoldName × J)) → held ≡ notice.hold → Releases v held (Ok tt) w
+    → object ≡ notice.hold.object → taken ≡ Some (hold, job) → TakesJob c object taken d
+    → HasTaken notice v c hold job w d
+has_taken notice v w c d held hold object job taken own releases same is takes = (
+  subst (λ (h : HoldName). Releases v h (Ok tt) w) own releases,
+  subst (λ (n : ℕ). TakesJob c n (Some (hold, job)) d) same
+      (subst (λ (t : Option (HoldName × _)). TakesJob c object t d) is takes),
 )

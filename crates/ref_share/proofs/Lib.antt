@@ -5,3 +5,5 @@ pub mod Places
 pub mod QueueRuns
 pub mod HeldRuns
 pub mod CleanCalls
+pub mod CleanRounds
+pub mod CleanRuns

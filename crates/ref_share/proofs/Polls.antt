@@ -38,6 +38,14 @@ module _ {M S R : Type 0} where
     longer.2 ∙ made.2,
   )
 
+  pub made_after : (v u w : View M S R) (calls more : List (Entry S R)) → Made v calls u → Made u more w
+      → Made v (calls ++ more) w
+  made_after v u w calls more first second = (
+    (second.0.0 ∙ first.0.0, second.0.1 ∙ first.0.1, second.0.2 ∙ first.0.2),
+    (first.1.0 ++ second.1.0, in_front v.seen first.1.0 second.1.0 u.seen w.seen first.1.1 second.1.1),
+    in_front v.mine calls more u.mine w.mine first.2 second.2,
+  )
+
   pub made_more : (v u w : View M S R) (calls : List (Entry S R)) (step : S) (reply : R) → Made v calls u
       → Extends u (entry u.number step reply) w → Made v (calls ++ entry v.number step reply ∷ []) w
   made_more v u w calls step reply made extends =

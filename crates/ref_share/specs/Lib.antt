@@ -16,3 +16,5 @@ pub mod CleanMoves
 pub mod CleanSeats
 pub mod Releases
 pub mod Cleanings
+pub mod CleanLoops
+pub mod CleanHistories

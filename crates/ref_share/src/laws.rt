@@ -1,18 +1,24 @@
-//! What holds of the history of each shared queue and heap, so of whatever threads do: what the core proves of lists of
+//! What holds of the history of each shared queue, heap and cleaner, so of whatever threads do: what the core proves of lists of
 //! steps, turn by turn.
 
-ghost use Rattle.std.specs.Prelude.{◌≡◌, ℕ, ◌+◌, ◌<◌, true, List, [], ◌∷◌, ◌++◌, length, Ok};
+ghost use Rattle.std.specs.Prelude.{◌≡◌, ℕ, ◌+◌, ◌<◌, true, List, [], ◌∷◌, ◌++◌, length, Ok, Option, Some, None};
 ghost use Rattle.ref_base.specs.CountedHolds.{tally};
 ghost use Rattle.ref_base.specs.declared.config.Config.{Config};
+ghost use Rattle.ref_base.specs.declared.heap_step.HoldName.{HoldName};
 ghost use Rattle.ref_clear.specs.ClearHeaps.{HeldNotice};
+ghost use Rattle.ref_queue.specs.CleanTables.{job_of};
 ghost use Rattle.ref_queue.specs.declared.queue.Put.TheVariants.{Added};
 ghost use Rattle.ref_turn.specs.Seats.{entry};
+ghost use Rattle.ref_share.specs.CleanHistories.{some_registers, job_left};
+ghost use Rattle.ref_share.specs.CleanSeats.{Jobs, CleanEntry, IsCleanRun};
 ghost use Rattle.ref_share.specs.HeapHistories.{minted, spent, spent_by};
 ghost use Rattle.ref_share.specs.HeapMachines.{HeapState};
 ghost use Rattle.ref_share.specs.HeapSeats.{HeapEntry, IsHeapRun};
 ghost use Rattle.ref_share.specs.QueueHistories.{KeepsLists, put_in, was_closed};
 ghost use Rattle.ref_share.specs.QueueSeats.{QueueEntry, IsQueueRun};
 ghost use Rattle.ref_share.specs.QueueStates.{NoticeLists};
+ghost use Rattle.ref_share.specs.declared.clean_machine.CleanStep.TheVariants.{Take};
+ghost use Rattle.ref_share.specs.declared.clean_machine.CleanReply.TheVariants.{Taken};
 ghost use Rattle.ref_share.specs.declared.queue_machine.QueueStep.TheVariants as steps;
 ghost use Rattle.ref_share.specs.declared.queue_machine.QueueReply.TheVariants as replies;
 
@@ -50,4 +56,26 @@ pub fn each_hold_that_is_taken_back_was_given_out()
     ensures { (config : Config) (number : ℕ) (front back : List HeapEntry) (call : HeapEntry) (last : HeapState) (n : ℕ)
         → IsHeapRun config number (front ++ call ∷ back) last → spent_by call.step call.reply ≡ n ∷ []
         → tally (spent front) n < tally (minted front) n }
+{}
+
+/// After every history of a cleaner, whatever its jobs are, each object has the job that was registered for it last,
+/// with its hold, unless that was taken since.
+pub fn each_object_has_the_job_that_its_history_left<J>()
+    ensures { (calls : List (CleanEntry J)) (last : Jobs J) → IsCleanRun calls last
+        → (n : ℕ) → job_of last n ≡ job_left n None calls }
+{}
+
+/// And just that is what an entry of a take answers.
+pub fn each_take_gives_the_job_that_was_left<J>()
+    ensures { (front back : List (CleanEntry J)) (by n : ℕ) (taken : Option (HoldName × J)) (last : Jobs J)
+        → IsCleanRun (front ++ entry by (Take n) (Taken taken) ∷ back) last → taken ≡ job_left n None front }
+{}
+
+/// So in every history of a cleaner, between two takes that both gave a job of one object, one was registered for it:
+/// over all threads, each registered job is taken at most once.
+pub fn each_registered_job_is_taken_at_most_once<J>()
+    ensures { (front between back : List (CleanEntry J)) (by later n : ℕ) (job next : HoldName × J) (last : Jobs J)
+        → IsCleanRun (front ++ entry by (Take n) (Taken (Some job)) ∷ (between
+        ++ entry later (Take n) (Taken (Some next)) ∷ back)) last
+        → some_registers n between ≡ true }
 {}

@@ -8,6 +8,7 @@
 
 mod answers;
 mod bell;
+mod clean_loop;
 mod clean_machine;
 mod cleaning;
 mod delivery;
@@ -20,6 +21,7 @@ mod shared_heap;
 mod shared_queue;
 
 pub use answers::{Cleanable, Cleaned, Delivery, Polled, ShareFault};
+pub use clean_loop::Gate;
 pub use clean_machine::{CleanMachine, CleanReply, CleanStep};
 pub use delivery::{deliver_one, enqueue};
 pub use heap_machine::HeapMachine;

@@ -1,0 +1,130 @@
+-- What a cleaner's thread has called, one round after the other.
+use Rattle.std.proofs.Common.{◌≡◌, ℕ, ◌+◌, ◌<◌, ◌≤◌, true, false, List, [], ◌∷◌, ◌++◌, length, replicate}
+use Rattle.std.proofs.Common.{Option, Some, None, Ok, refl, sym, ap, ◌∙◌, subst, arith, length-append}
+use Rattle.std.proofs.lemmas.List.{append_assoc, append-nil}
+use Rattle.ref_base.specs.declared.heap_step.HeapStep.TheVariants as heap
+use Rattle.ref_base.specs.declared.heap_step.HoldName.{HoldName}
+use Rattle.ref_base.specs.declared.reply.Reply.TheVariants as told
+use Rattle.ref_clear.specs.ClearHeaps.{HeldNotice}
+use Rattle.ref_queue.specs.declared.queue.Polled.TheVariants as answers
+use Rattle.ref_turn.specs.Seats.{entry, Longer}
+use Rattle.ref_world.specs.declared.heap_machine.HeapReply.TheVariants as replies
+use Rattle.ref_share.proofs.Polls.{made_none, made_more, made_longer, made_after}
+use Rattle.ref_share.specs.CleanLoops.{Round, all_of, polls_in, releases_in, takes_in, job_in, jobs_run, released, HasGone}
+use Rattle.ref_share.specs.CleanSeats.{CleanView, CleanEntry}
+use Rattle.ref_share.specs.Cleanings.{TakesJob, CleansDead}
+use Rattle.ref_share.specs.HeapSeats.{HeapView, HeapEntry}
+use Rattle.ref_share.specs.QueueCalls.{PollsUntil}
+use Rattle.ref_share.specs.QueueSeats.{QueueView, QueueEntry}
+use Rattle.ref_share.specs.Releases.{Releases}
+use Rattle.ref_share.specs.SeatCalls.{Made}
+use Rattle.ref_share.specs.declared.answers.Polled.TheVariants.{Took}
+use Rattle.ref_share.specs.declared.clean_machine.CleanStep.TheVariants as steps
+use Rattle.ref_share.specs.declared.clean_machine.CleanReply.TheVariants as gives
+use Rattle.ref_share.specs.declared.queue_machine.QueueStep.TheVariants as asks
+use Rattle.ref_share.specs.declared.queue_machine.QueueReply.TheVariants as gets
+
+all_of_one_more : {R T : Type 0} (part : R → List T) (rs : List R) (r : R)
+    → all_of part (rs ++ r ∷ []) ≡ all_of part rs ++ part r
+all_of_one_more part [] r = append-nil (part r)
+all_of_one_more {T = T} part (s ∷ rs) r =
+    ap (λ (ts : List T). part s ++ ts) (all_of_one_more part rs r)
+    ∙ sym (append_assoc (part s) (all_of part rs) (part r))
+
+module _ {J : Type 0} where
+  job_at_most : (taken : Option (HoldName × J)) → length (job_in taken) ≤ 1
+  job_at_most None = omega (arith)
+  job_at_most (Some _) = omega (arith)
+
+  -- no more jobs were run than there were takes
+  jobs_at_most_takes : (c : CleanView J) (rs : List (Round J)) → jobs_run rs ≤ length (all_of (takes_in c) rs)
+  jobs_at_most_takes c [] = omega (arith)
+  jobs_at_most_takes c (r ∷ rs) =
+      omega (
+        arith,
+        jobs_at_most_takes c rs,
+        job_at_most r.taken,
+        length-append (job_in r.taken) (all_of (λ (s : Round J). job_in s.taken) rs),
+      )
+
+  -- so no more than calls of the seat
+  pub jobs_at_most_calls : (c d : CleanView J) (rs : List (Round J)) → Made c (all_of (takes_in c) rs) d
+      → jobs_run rs ≤ length d.mine
+  jobs_at_most_calls c d rs made =
+      omega (arith, jobs_at_most_takes c rs, ap length made.2, length-append c.mine (all_of (takes_in c) rs))
+
+  pub jobs_of_one_more : (rs : List (Round J)) (r : Round J)
+      → jobs_run (rs ++ r ∷ []) ≡ jobs_run rs + length (job_in r.taken)
+  jobs_of_one_more rs r =
+      ap length (all_of_one_more (λ (s : Round J). job_in s.taken) rs r)
+      ∙ length-append (all_of (λ (s : Round J). job_in s.taken) rs) (job_in r.taken)
+
+  module _ (q : QueueView) (v : HeapView) (c : CleanView J) where
+    pub gone_nowhere : HasGone q v c [] q v c
+    gone_nowhere = (made_none q, made_none v, made_none c)
+
+    module _ (rs : List (Round J)) (q1 : QueueView) (v1 : HeapView) (c1 : CleanView J)
+        (gone : HasGone q v c rs q1 v1 c1) (notice : HeldNotice) (q2 : QueueView)
+        (polls : PollsUntil q1 (Ok (Took notice)) q2) (v2 : HeapView) (c2 : CleanView J) where
+      abbrev next : Option (HoldName × J) → Round J
+      next taken = record { empties = polls.0; notice = notice; taken = taken }
+
+      -- the round's calls follow those of the rounds before
+      next_polls : (taken : Option (HoldName × J)) → Made q (all_of (polls_in q) (rs ++ next taken ∷ [])) q2
+      next_polls taken =
+          let own = subst
+          (λ (n : ℕ). Made q1 (replicate polls.0 (entry n asks.Poll (gets.Polled answers.Empty))
+          ++ entry n asks.Poll (gets.Polled (answers.Took notice)) ∷ []) q2) gone.0.0.0 polls.2 in
+          subst (λ (calls : List QueueEntry). Made q calls q2) (sym (all_of_one_more (polls_in q) rs (next taken)))
+          (made_after q q1 q2 (all_of (polls_in q) rs) (polls_in q (next taken)) gone.0 own)
+
+      next_takes : (taken : Option (HoldName × J)) (c3 : CleanView J) → TakesJob c1 notice.hold.object taken c2 → Longer c2 c3
+          → Made c (all_of (takes_in c) (rs ++ next taken ∷ [])) c3
+      next_takes taken c3 takes longer =
+          let made = made_more c c1 c2 (all_of (takes_in c) rs) (steps.Take notice.hold.object) (gives.Taken taken) gone.2
+          takes in
+          subst (λ (calls : List (CleanEntry J)). Made c calls c3) (sym (all_of_one_more (takes_in c) rs (next taken)))
+          (made_longer c c2 c3 (all_of (takes_in c) rs ++ takes_in c (next taken)) made longer)
+
+      next_release : (u : HeapView) → Releases v1 notice.hold (Ok tt) u
+          → Made v (all_of (releases_in v) rs ++ released v notice.hold ∷ []) u
+      next_release u releases =
+          made_more v v1 u (all_of (releases_in v) rs) (heap.Release notice.hold) (replies.Told told.Done) gone.1 releases
+
+      -- a round without a job
+      pub gone_in_vain : CleansDead notice v1 c1 (Ok false) v2 c2
+          → (more : List (Round J)) × HasGone q v c more q2 v2 c2 × (jobs_run more ≡ jobs_run rs)
+      gone_in_vain cleans = (
+        rs ++ next None ∷ [],
+        (
+          next_polls None,
+          subst (λ (calls : List HeapEntry). Made v calls v2) (sym (all_of_one_more (releases_in v) rs (next None)))
+              (next_release v2 cleans.0),
+          next_takes None c2 cleans.1 ((refl, refl, refl), (made_none c2).1, refl),
+        ),
+        omega (arith, jobs_of_one_more rs (next None)),
+      )
+
+      -- a round with a job
+      pub gone_for_a_job : (c3 : CleanView J) → CleansDead notice v1 c1 (Ok true) v2 c2 → Longer c2 c3
+          → (more : List (Round J)) × HasGone q v c more q2 v2 c3 × (jobs_run more ≡ jobs_run rs + 1)
+      gone_for_a_job c3 cleans longer =
+          let taken = Some (cleans.0, cleans.1) in
+          let both = made_more v cleans.2 v2 (all_of (releases_in v) rs ++ released v notice.hold ∷ [])
+          (heap.Release cleans.0) (replies.Told told.Done) (next_release cleans.2 cleans.3.0) cleans.4 in
+          let calls_are = append_assoc (all_of (releases_in v) rs) (released v notice.hold ∷ []) (released v cleans.0 ∷ [])
+          ∙ sym (all_of_one_more (releases_in v) rs (next taken)) in (
+            rs ++ next taken ∷ [],
+            (
+              next_polls taken,
+              subst (λ (calls : List HeapEntry). Made v calls v2) calls_are both,
+              next_takes taken c3 cleans.3.1 longer,
+            ),
+            omega (arith, jobs_of_one_more rs (next taken)),
+          )
+
+      -- its take is one call more than those that gave the jobs before
+      pub job_is_a_call : CleansDead notice v1 c1 (Ok true) v2 c2 → jobs_run rs < length c2.mine
+      job_is_a_call cleans =
+          let on = gone_for_a_job c2 cleans ((refl, refl, refl), (made_none c2).1, refl) in
+          omega (arith, on.2, jobs_at_most_calls c c2 on.0 on.1.2)

@@ -1,0 +1,94 @@
+-- The history of a cleaner: which job stands in its table is told by its entries.
+use Rattle.std.proofs.Common.{◌≡◌, ℕ, Bool, true, false, ◌||◌, List, [], ◌∷◌, ◌++◌, Option, Some, None, Ok, Err}
+use Rattle.std.proofs.Common.{refl, sym, ap, ◌∙◌, subst, nat_eq, if◌then◌else◌}
+use Rattle.std.specs.Cmp.{nat_eq_equiv}
+use Rattle.ref_queue.specs.CleanTables.{Registry, new_registry, job_of}
+use Rattle.ref_turn.proofs.Logs.{leads_cut}
+use Rattle.ref_turn.specs.History.{Leads}
+use Rattle.ref_turn.specs.Seats.{entry}
+use Rattle.ref_turn.specs.declared.history.Entry.{Entry}
+use Rattle.ref_share.specs.CleanHistories.{registers, some_registers, job_after, job_left}
+use Rattle.ref_share.specs.CleanMachines.{IsCleanMove}
+use Rattle.ref_share.specs.CleanSeats.{IsCleanRun}
+use Rattle.ref_share.specs.declared.clean_machine.CleanStep.{CleanStep}
+use Rattle.ref_share.specs.declared.clean_machine.CleanStep.TheVariants as steps
+use Rattle.ref_share.specs.declared.clean_machine.CleanReply.{CleanReply}
+use Rattle.ref_share.specs.declared.clean_machine.CleanReply.TheVariants as replies
+
+same_either_way : {T : Type 0} (b : Bool) (x : T) → (if b then x else x) ≡ x
+same_either_way true x = refl
+same_either_way false x = refl
+
+or_else : (b c : Bool) → (b ≡ false → c ≡ true) → (b || c) ≡ true
+or_else true c other = refl
+or_else false c other = other refl
+
+module _ {K J : Type 0} (n : ℕ) where
+  -- one call leaves the job that its entry tells
+  move_leaves : (t u : Registry K J) (step : CleanStep K J) (reply : CleanReply K J) → IsCleanMove t step reply u
+      → job_of u n ≡ job_after n (job_of t n) step reply
+  move_leaves t u (steps.Register m kept job) (replies.Registered (Ok _)) move = move.1.0 n
+  move_leaves t u (steps.Register m kept job) (replies.Registered (Err (fault, kept_back, job_back))) move =
+      ap (λ (r : Registry K J). job_of r n) move.3
+  move_leaves t u (steps.Register m kept job) (replies.Taken taken) move = absurd move
+  move_leaves t u (steps.Take m) (replies.Taken taken) move = move.1.0 n
+  move_leaves t u (steps.Take m) (replies.Registered answer) move = absurd move
+
+  run_leaves : (t u : Registry K J) (calls : List (Entry (CleanStep K J) (CleanReply K J)))
+      → Leads IsCleanMove t calls u → job_of u n ≡ job_left n (job_of t n) calls
+  run_leaves t u [] run = ap (λ (r : Registry K J). job_of r n) (sym run)
+  run_leaves t u (call ∷ calls) run =
+      run_leaves run.0 u calls run.2
+      ∙ ap (λ (job : Option (K × J)). job_left n job calls) (move_leaves t run.0 call.step call.reply run.1)
+
+  -- a call that registers nothing leaves none where none stood
+  none_after : (step : CleanStep K J) (reply : CleanReply K J) → registers n step reply ≡ false
+      → job_after n None step reply ≡ None
+  none_after (steps.Register m kept job) (replies.Registered (Ok _)) none =
+      ap (λ (b : Bool). if b then Some (kept, job) else None) none
+  none_after (steps.Register m kept job) (replies.Registered (Err refused)) none = refl
+  none_after (steps.Register m kept job) (replies.Taken taken) none = refl
+  none_after (steps.Take m) reply none = same_either_way (nat_eq m n) None
+
+  -- a job stands after calls from a table without one only where one of them registered it
+  registered_if_left : (calls : List (Entry (CleanStep K J) (CleanReply K J))) (job : K × J)
+      → Some job ≡ job_left n None calls → some_registers n calls ≡ true
+  registered_if_left [] job left = absurd (cc left)
+  registered_if_left (call ∷ calls) job left =
+      or_else (registers n call.step call.reply) (some_registers n calls)
+      (λ none. registered_if_left calls job
+      (subst (λ (stood : Option (K × J)). Some job ≡ job_left n stood calls)
+      (none_after call.step call.reply none) left))
+
+module _ {K J : Type 0} where
+  -- after every history an object's job is what its entries left
+  pub job_is_left : (calls : List (Entry (CleanStep K J) (CleanReply K J))) (last : Registry K J)
+      → IsCleanRun calls last → (n : ℕ) → job_of last n ≡ job_left n None calls
+  job_is_left calls last run n = run_leaves n new_registry last calls run
+
+  -- a take gives the job that the calls before left
+  pub take_gives_what_is_left : (front back : List (Entry (CleanStep K J) (CleanReply K J))) (by n : ℕ)
+      (taken : Option (K × J)) (last : Registry K J)
+      → IsCleanRun (front ++ entry by (steps.Take n) (replies.Taken taken) ∷ back) last
+      → taken ≡ job_left n None front
+  take_gives_what_is_left front back by n taken last run =
+      let call = entry by (steps.Take n) (replies.Taken taken) in
+      let parts = leads_cut IsCleanMove front (call ∷ back) new_registry last run in
+      parts.2.1.0 ∙ job_is_left front parts.0 parts.1 n
+
+  -- between two takes that gave a job stands a register
+  pub registered_between : (front between back : List (Entry (CleanStep K J) (CleanReply K J))) (by later n : ℕ)
+      (job next : K × J) (last : Registry K J)
+      → IsCleanRun (front ++ entry by (steps.Take n) (replies.Taken (Some job)) ∷ (between
+      ++ entry later (steps.Take n) (replies.Taken (Some next)) ∷ back)) last
+      → some_registers n between ≡ true
+  registered_between front between back by later n job next last run =
+      let second = entry later (steps.Take n) (replies.Taken (Some next)) ∷ back in
+      let first = entry by (steps.Take n) (replies.Taken (Some job)) ∷ (between ++ second) in
+      let parts = leads_cut IsCleanMove front first new_registry last run in
+      let t : Registry K J = parts.2.0 in
+      let none : job_of t n ≡ None = rw (parts.2.1.1.0 n, nat_eq_equiv.refl n) refl in
+      let rest = leads_cut IsCleanMove between second t last parts.2.2 in
+      let stood = run_leaves n t rest.0 between rest.1 in
+      registered_if_left n between next
+      (rest.2.1.0 ∙ stood ∙ ap (λ (before : Option (K × J)). job_left n before between) none)

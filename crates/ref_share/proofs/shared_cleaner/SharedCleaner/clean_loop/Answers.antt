@@ -1,0 +1,140 @@
+use Rattle.std.proofs.Common.{[], Ok, inl, inr, refl, subst, arith}
+use Rattle.std.proofs.lemmas.Result.{err_from_is_err_and}
+use Rattle.ref_turn.specs.Turns.{view}
+use Rattle.ref_share.proofs.CleanRounds.{gone_nowhere, gone_in_vain, gone_for_a_job, job_is_a_call}
+use Rattle.ref_share.specs.Cleanings.{CleansDead}
+use Rattle.ref_share.specs.HeapSeats.{heap_view}
+use Rattle.ref_share.specs.QueueCalls.{PollsUntil}
+use Rattle.ref_share.specs.QueueSeats.{queue_view}
+use Rattle.ref_share.proofs.shared_cleaner.SharedCleaner.clean_loop.Goals as goal
+
+pub loop-init : goal.loop-init
+loop-init g c =
+    let none = gone_nowhere (queue_view c.args.queue_seat.now) (heap_view c.args.heap_seat.now)
+    (view c.args.seat.now.seat) in
+    (c.requires.seats.0, c.requires.seats.1, c.requires.queue_seat, ([], none, refl))
+
+pub remove_wait-requires : goal.remove_wait-requires
+remove_wait-requires g c = c.loop.invariant.2
+
+pub returns-in_err-notice-clause-seat : goal.returns-in_err-notice-clause-seat
+returns-in_err-notice-clause-seat g c = c.loop.invariant.0
+
+pub returns-in_err-notice-clause-heap_seat : goal.returns-in_err-notice-clause-heap_seat
+returns-in_err-notice-clause-heap_seat g c = c.loop.invariant.1
+
+pub returns-in_err-notice-clause-goes : goal.returns-in_err-notice-clause-goes
+returns-in_err-notice-clause-goes g c =
+    let so_far = c.loop.invariant.3 in
+    let p = err_from_is_err_and c.from_residual.result c.from_residual.ensures.1 in
+    let last = queue_view c.loop.queue_seat in
+    let u = heap_view c.loop.heap_seat in
+    rw (p.1, p.2) (
+      so_far.0,
+      last,
+      u,
+      view c.loop.seat.seat,
+      so_far.1,
+      inl (c.in_err-notice.ensures.polls, refl, refl),
+    )
+
+pub clean_dead-requires : goal.clean_dead-requires
+clean_dead-requires g c = (c.loop.invariant.0, c.loop.invariant.1)
+
+pub returns-in_err-clean_dead-in-Took-clause-goes :
+    goal.returns-in_err-clean_dead-in-Took-clause-goes
+returns-in_err-clean_dead-in-Took-clause-goes g c =
+    let so_far = c.loop.invariant.3 in
+    let result = c.from_residual-in_err-clean_dead-in-Took in
+    let p = err_from_is_err_and result.result result.ensures.1 in
+    let last = queue_view c.loop.queue_seat in
+    let polls = subst (λ answer. PollsUntil last (Ok answer) (queue_view c.remove_wait.new.seat)) c.in-Took.is
+    c.in_ok-notice.ensures.polls in
+    rw (p.1, p.2) (
+      so_far.0,
+      last,
+      heap_view c.loop.heap_seat,
+      view c.loop.seat.seat,
+      so_far.1,
+      inr (c.in-Took.notice, polls, c.in_err-clean_dead-in-Took.ensures.cleans),
+    )
+
+pub one_more-count-requires-clause-calls : goal.one_more-count-requires-clause-calls
+one_more-count-requires-clause-calls g c =
+    let so_far = c.loop.invariant.3 in
+    let q = queue_view c.args.queue_seat.now in
+    let q1 = queue_view c.loop.queue_seat in
+    let q2 = queue_view c.remove_wait.new.seat in
+    let v = heap_view c.args.heap_seat.now in
+    let v1 = heap_view c.loop.heap_seat in
+    let v2 = heap_view c.clean_dead.new.heap_seat in
+    let d = view c.args.seat.now.seat in
+    let d1 = view c.loop.seat.seat in
+    let d2 = view c.clean_dead.new.seat.seat in
+    let notice = c.in-Took.notice in
+    let polls = subst (λ answer. PollsUntil q1 (Ok answer) q2) c.in-Took.is c.in_ok-notice.ensures.polls in
+    let cleans = subst (λ found. CleansDead notice v1 d1 (Ok found) v2 d2) c.if-branch.true
+    c.in_ok-clean_dead-in-Took.ensures.cleans in
+    let call = job_is_a_call q v d so_far.0 q1 v1 d1 so_far.1 notice q2 polls v2 d2 cleans in
+    rw so_far.2 call
+
+pub loop-preserved-then-branch : goal.loop-preserved-then-branch
+loop-preserved-then-branch g c =
+    let so_far = c.loop.invariant.3 in
+    let q = queue_view c.args.queue_seat.now in
+    let q1 = queue_view c.loop.queue_seat in
+    let q2 = queue_view c.remove_wait.new.seat in
+    let v = heap_view c.args.heap_seat.now in
+    let v1 = heap_view c.loop.heap_seat in
+    let v2 = heap_view c.clean_dead.new.heap_seat in
+    let d = view c.args.seat.now.seat in
+    let d1 = view c.loop.seat.seat in
+    let d2 = view c.clean_dead.new.seat.seat in
+    let notice = c.in-Took.notice in
+    let polls = subst (λ answer. PollsUntil q1 (Ok answer) q2) c.in-Took.is c.in_ok-notice.ensures.polls in
+    let cleans = subst (λ found. CleansDead notice v1 d1 (Ok found) v2 d2) c.if-branch.true
+    c.in_ok-clean_dead-in-Took.ensures.cleans in
+    let on = gone_for_a_job q v d so_far.0 q1 v1 d1 so_far.1 notice q2 polls v2 d2
+    (view c.one_more-count.new.seat.seat) cleans c.one_more-count.ensures.longer in (
+      c.one_more-count.ensures.seat,
+      c.clean_dead.ensures.heap_seat,
+      c.remove_wait.ensures.seat,
+      (on.0, on.1, omega (arith, c.one_more-count.ensures.more, so_far.2, on.2)),
+    )
+
+pub loop-preserved : goal.loop-preserved
+loop-preserved g c =
+    let so_far = c.loop.invariant.3 in
+    let q = queue_view c.args.queue_seat.now in
+    let q1 = queue_view c.loop.queue_seat in
+    let q2 = queue_view c.remove_wait.new.seat in
+    let v = heap_view c.args.heap_seat.now in
+    let v1 = heap_view c.loop.heap_seat in
+    let v2 = heap_view c.clean_dead.new.heap_seat in
+    let d = view c.args.seat.now.seat in
+    let d1 = view c.loop.seat.seat in
+    let d2 = view c.clean_dead.new.seat.seat in
+    let notice = c.in-Took.notice in
+    let polls = subst (λ answer. PollsUntil q1 (Ok answer) q2) c.in-Took.is c.in_ok-notice.ensures.polls in
+    let cleans = subst (λ found. CleansDead notice v1 d1 (Ok found) v2 d2) c.if-branch.false
+    c.in_ok-clean_dead-in-Took.ensures.cleans in
+    let on = gone_in_vain q v d so_far.0 q1 v1 d1 so_far.1 notice q2 polls v2 d2 cleans in (
+      c.clean_dead.ensures.seat,
+      c.clean_dead.ensures.heap_seat,
+      c.remove_wait.ensures.seat,
+      (on.0, on.1, omega (arith, so_far.2, on.2)),
+    )
+
+pub returns-in-Closed-clause-seat : goal.returns-in-Closed-clause-seat
+returns-in-Closed-clause-seat g c = c.loop.invariant.0
+
+pub returns-in-Closed-clause-heap_seat : goal.returns-in-Closed-clause-heap_seat
+returns-in-Closed-clause-heap_seat g c = c.loop.invariant.1
+
+pub returns-in-Closed-clause-goes : goal.returns-in-Closed-clause-goes
+returns-in-Closed-clause-goes g c =
+    let so_far = c.loop.invariant.3 in
+    let last = queue_view c.loop.queue_seat in
+    let polls = subst (λ answer. PollsUntil last (Ok answer) (queue_view c.remove_wait.new.seat)) c.in-Closed.is
+    c.in_ok-notice.ensures.polls in
+    (so_far.0, last, so_far.1, polls, so_far.2)

@@ -1,0 +1,19 @@
+use Rattle.std.proofs.Common.{◌≡◌, List}
+use Rattle.ref_turn.specs.Turns.{view}
+use Rattle.ref_share.specs.CleanLoops.{Round, HasGone, jobs_run}
+use Rattle.ref_share.specs.CleanSeats.{IsCleanSeat}
+use Rattle.ref_share.specs.HeapSeats.{heap_view, IsHeapSeat}
+use Rattle.ref_share.specs.QueueSeats.{queue_view, IsQueueSeat}
+use Rattle.ref_share.proofs.shared_cleaner.SharedCleaner.clean_loop.Given as goal
+
+abbrev pub invariant-loop : goal.invariant-loop
+invariant-loop g l =
+    let q = queue_view l.initial.queue_seat in
+    let v = heap_view l.initial.heap_seat in
+    let c = view l.initial.seat.seat in
+    IsCleanSeat l.self.turn l.seat.seat
+    × IsHeapSeat l.heap l.heap_seat
+    × IsQueueSeat l.queue l.queue_seat
+    × ((rs : List (Round _))
+    × HasGone q v c rs (queue_view l.queue_seat) (heap_view l.heap_seat) (view l.seat.seat)
+    × (l.count ≡ jobs_run rs))

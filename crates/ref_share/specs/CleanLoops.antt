@@ -1,0 +1,77 @@
+-- What a cleaner's thread has called, round by round (this project's profile; the threads of `java.lang.ref.Cleaner` of
+-- Java SE 17).
+use Rattle.std.specs.Prelude.{◌≡◌, ℕ, ◌⊎◌, List, [], ◌∷◌, ◌++◌, length, Option, Some, None, Result, Ok, Err}
+use Rattle.ref_base.specs.declared.heap_step.HeapStep.TheVariants as heap
+use Rattle.ref_base.specs.declared.heap_step.HoldName.{HoldName}
+use Rattle.ref_base.specs.declared.reply.Reply.TheVariants as told
+use Rattle.ref_clear.specs.ClearHeaps.{HeldNotice}
+use Rattle.ref_queue.specs.declared.queue.Polled.TheVariants as found
+use Rattle.ref_turn.specs.Seats.{entry}
+use Rattle.ref_world.specs.declared.heap_machine.HeapReply.TheVariants as replies
+use Rattle.ref_share.specs.CleanSeats.{CleanView, CleanEntry}
+use Rattle.ref_share.specs.Cleanings.{CleansDead}
+use Rattle.ref_share.specs.HeapSeats.{HeapView, HeapEntry}
+use Rattle.ref_share.specs.QueueCalls.{PollsUntil, empty_polls, polled}
+use Rattle.ref_share.specs.QueueSeats.{QueueView, QueueEntry}
+use Rattle.ref_share.specs.SeatCalls.{Made}
+use Rattle.ref_share.specs.declared.answers.Polled.TheVariants.{Took, Closed}
+use Rattle.ref_share.specs.declared.answers.ShareFault.{ShareFault}
+use Rattle.ref_share.specs.declared.clean_machine.CleanStep.TheVariants as steps
+use Rattle.ref_share.specs.declared.clean_machine.CleanReply.TheVariants as answers
+
+-- one round: how many polls found nothing, the notice that one found, and the job of its reference, if there was one
+pub record Round (J : Type 0) : Type 0 where
+  pub empties : ℕ
+  pub notice : HeldNotice
+  pub taken : Option (HoldName × J)
+
+-- what each round gives, one after the other
+abbrev pub all_of : {R T : Type 0} → (R → List T) → List R → List T
+all_of part [] = []
+all_of part (r ∷ rs) = part r ++ all_of part rs
+
+-- the call that gives a hold back
+abbrev pub released : HeapView → HoldName → HeapEntry
+released v hold = entry v.number (heap.Release hold) (replies.Told told.Done)
+
+module _ {J : Type 0} where
+  -- the calls of a round: the polls of its queue; the release of the notice and, where there was a job, of its hold; the
+  -- take
+  abbrev pub polls_in : QueueView → Round J → List QueueEntry
+  polls_in q r = empty_polls q r.empties ++ polled q (found.Took r.notice) ∷ []
+
+  abbrev pub job_released : HeapView → Option (HoldName × J) → List HeapEntry
+  job_released v None = []
+  job_released v (Some (hold, job)) = released v hold ∷ []
+
+  abbrev pub releases_in : HeapView → Round J → List HeapEntry
+  releases_in v r = released v r.notice.hold ∷ job_released v r.taken
+
+  abbrev pub takes_in : CleanView J → Round J → List (CleanEntry J)
+  takes_in c r = entry c.number (steps.Take r.notice.hold.object) (answers.Taken r.taken) ∷ []
+
+  -- the job that was run in it
+  abbrev pub job_in : Option (HoldName × J) → List J
+  job_in None = []
+  job_in (Some (hold, job)) = job ∷ []
+
+  -- how many jobs were run in these rounds
+  abbrev pub jobs_run : List (Round J) → ℕ
+  jobs_run rs = length (all_of (λ r. job_in r.taken) rs)
+
+  module _ (q : QueueView) (v : HeapView) (c : CleanView J) where
+    -- the three seats have made just the calls of these rounds
+    abbrev pub HasGone : List (Round J) → QueueView → HeapView → CleanView J → Type 0
+    HasGone rs q' v' c' =
+        Made q (all_of (polls_in q) rs) q' × Made v (all_of (releases_in v) rs) v' × Made c (all_of (takes_in c) rs) c'
+
+    -- Rounds were gone through, and then the queue was closed: the answer is how many jobs were run. Or a poll was
+    -- refused, or what follows a notice was: then the answer is that fault.
+    abbrev pub GoesRound : Result ℕ ShareFault → QueueView → HeapView → CleanView J → Type 0
+    GoesRound (Ok count) q' v' c' =
+        (rs : List (Round J)) × (last : QueueView) × HasGone rs last v' c' × PollsUntil last (Ok Closed) q'
+        × (count ≡ jobs_run rs)
+    GoesRound (Err fault) q' v' c' =
+        (rs : List (Round J)) × (last : QueueView) × (u : HeapView) × (d : CleanView J) × HasGone rs last u d
+        × ((PollsUntil last (Err fault) q' × (v' ≡ u) × (c' ≡ d))
+        ⊎ ((notice : HeldNotice) × PollsUntil last (Ok (Took notice)) q' × CleansDead notice u d (Err fault) v' c'))

@@ -1,0 +1,122 @@
+//! The thread that runs the jobs of what is gone.
+
+ghost use Rattle.std.specs.Prelude.{◌≡◌, ◌+◌, ◌<◌, length};
+ghost use Rattle.ref_turn.specs.Seats.{Longer};
+ghost use Rattle.ref_turn.specs.Turns.{view};
+ghost use Rattle.ref_share.specs.CleanLoops.{GoesRound};
+ghost use Rattle.ref_share.specs.CleanSeats.{IsCleanSeat};
+ghost use Rattle.ref_share.specs.Cleanings.{CleansDead};
+ghost use Rattle.ref_share.specs.HeapSeats.{heap_view, IsHeapSeat};
+ghost use Rattle.ref_share.specs.QueueSeats.{queue_view, IsQueueSeat};
+
+use crate::releases::release;
+use crate::{
+    CleanSeat, HeapSeat, Polled, QueueSeat, ShareFault, SharedCleaner, SharedHeap, SharedQueue,
+};
+use ref_base::Parcel;
+use ref_clear::Notice;
+use ref_queue::Ran;
+use std::alloc::Allocator;
+use std::sync::Wait;
+
+/// What a cleaner's thread is told before and after each job. It is called in no turn, so it may wait.
+pub trait Gate {
+    /// The job of this number runs next.
+    fn before(&self, number: u64);
+
+    /// The job was run.
+    fn after(&self, ran: Ran);
+}
+
+impl<A: Allocator + Copy> SharedCleaner<A> {
+    /// Runs the jobs of what is gone, as their notices come, until the queue is closed: then it answers how many it
+    /// ran. Any number of threads may do so at once; each job runs in one of them, outside every turn. As the thread of
+    /// a `Cleaner` of Java SE 17.
+    ///
+    /// Each notice takes polls of the queue, a turn of the heap, by which it is released, and one of the table, which
+    /// gives its job out; where there is one, a turn of the heap more, by which its hold is released, and the job is
+    /// run. It may never return. Takes no memory but what the jobs take.
+    ///
+    /// `Refused(TurnsSpent)` where the queue or the table has no turn left: then it takes no further job. `Held` where
+    /// the heap has no turn left for a release, or does not count the hold, which comes back: a job whose notice could
+    /// not be released stays in the table, and one that was taken is still run and told to the gate.
+    pub fn clean_loop<R: Wait, G: Gate>(
+        &self,
+        rt: &R,
+        seat: &mut CleanSeat<A>,
+        heap: &SharedHeap<A>,
+        heap_seat: &mut HeapSeat<A>,
+        queue: &SharedQueue<A>,
+        queue_seat: &mut QueueSeat<A>,
+        gate: &G,
+    ) -> Result<u64, ShareFault>
+        requires seats { IsCleanSeat self.now.turn seat.old.seat × IsHeapSeat heap.now heap_seat.old }
+        requires queue_seat { IsQueueSeat queue.now queue_seat.old }
+        ensures seat { IsCleanSeat self.now.turn seat.new.seat }
+        ensures heap_seat { IsHeapSeat heap.now heap_seat.new }
+        ensures queue_seat { IsQueueSeat queue.now queue_seat.new }
+        ensures goes { GoesRound (queue_view queue_seat.old) (heap_view heap_seat.old) (view seat.old.seat)
+            result (queue_view queue_seat.new) (heap_view heap_seat.new) (view seat.new.seat) }
+    {
+        let mut count = 0;
+        for _ in rt.forever() {
+            match queue.remove_wait(rt, queue_seat)? {
+                Polled::Took(notice) => {
+                    if self.clean_dead(rt, seat, heap, heap_seat, notice, gate)? {
+                        count = self.one_more(seat, count);
+                    }
+                }
+                Polled::Closed => return Ok(count),
+                Polled::Empty | Polled::TimedOut => unreachable!(),
+            }
+        }
+        unreachable!()
+    }
+
+    // What follows a notice. True where it had a job.
+    fn clean_dead<R: Wait, G: Gate>(
+        &self,
+        rt: &R,
+        seat: &mut CleanSeat<A>,
+        heap: &SharedHeap<A>,
+        heap_seat: &mut HeapSeat<A>,
+        notice: Notice,
+        gate: &G,
+    ) -> Result<bool, ShareFault>
+        requires { IsCleanSeat self.now.turn seat.old.seat × IsHeapSeat heap.now heap_seat.old }
+        ensures seat { IsCleanSeat self.now.turn seat.new.seat }
+        ensures heap_seat { IsHeapSeat heap.now heap_seat.new }
+        ensures cleans { CleansDead notice (heap_view heap_seat.old) (view seat.old.seat) result
+            (heap_view heap_seat.new) (view seat.new.seat) }
+    {
+        let object = notice.obj();
+        if let Err((hold, fault)) = release(rt, heap, heap_seat, notice.into_hold()) {
+            return Err(ShareFault::Held(hold, fault));
+        }
+        let Some((hold, job)) = self.take(rt, seat, object)? else {
+            return Ok(false);
+        };
+        let released = release(rt, heap, heap_seat, hold);
+        gate.before(job.number());
+        gate.after(job.run());
+        match released {
+            Ok(()) => Ok(true),
+            Err((hold, fault)) => Err(ShareFault::Held(hold, fault)),
+        }
+    }
+
+    // One more than a count of calls of this seat: there are no more of them than turns that have ended.
+    fn one_more(&self, seat: &mut CleanSeat<A>, count: u64) -> u64
+        requires seat { IsCleanSeat self.now.turn seat.old.seat }
+        requires calls { count < length (view seat.old.seat).mine }
+        ensures seat { IsCleanSeat self.now.turn seat.new.seat }
+        ensures longer { Longer (view seat.old.seat) (view seat.new.seat) }
+        ensures more { result ≡ count + 1 }
+    {
+        if count < self.served(seat) {
+            count + 1
+        } else {
+            unreachable!()
+        }
+    }
+}
