@@ -162,7 +162,7 @@ gone_refused a gone None fault = refl
 gone_refused a gone (Some (heap.Sweep k)) fault = refl
 gone_refused a gone (Some asked) fault = refl
 
-heap_refused : (w : World) (step : NamedStep) (fault : Fault) → after_heap w step (replies.Refused fault) ≡ w
+pub heap_refused : (w : World) (step : NamedStep) (fault : Fault) → after_heap w step (replies.Refused fault) ≡ w
 heap_refused w heap.EndMark fault = refl
 heap_refused w step fault = refl
 

@@ -1,6 +1,6 @@
 -- What a mark's end clears reads as cleared from then on, in every state after it.
 use Rattle.std.proofs.Common.{◌≡◌, ℕ, ◌<◌, true, false, ◌==◌, List, [], ◌∷◌, ◌++◌, map, Option, Some, None}
-use Rattle.std.proofs.Common.{inl, inr, refl, sym, ap, ◌∙◌, arith}
+use Rattle.std.proofs.Common.{inl, inr, refl, sym, ap, ◌∙◌, subst, arith}
 use Rattle.std.specs.List.{AllByRecursion}
 use Rattle.std.proofs.lemmas.Bool.{cases_Bool, or_cases, and_parts, eqb-true, eq-eqb, both_ways, true≢false}
 use Rattle.ref_base.specs.Members.{has}
@@ -13,22 +13,26 @@ use Rattle.ref_base.specs.Worlds.{World, Notice, Pending, hand_of, queue_at, pen
 use Rattle.ref_base.specs.Collectors.{State, first_state}
 use Rattle.ref_base.specs.Refusals.{refusal}
 use Rattle.ref_base.specs.CollectorRows.{IsAnswer, IsRow, IsRun, doomed_at, shown, referent_of, Gets, referent_got}
-use Rattle.ref_base.specs.CollectorRows.{reference_of}
+use Rattle.ref_base.specs.CollectorRows.{reference_of, EndsMark, HeapAccepts}
+use Rattle.ref_base.specs.CountedHolds.{AreCounted}
+use Rattle.ref_base.specs.HeapSteps.{NamedStep}
+use Rattle.ref_base.specs.OldNumbers.{HasOldNumbers}
 use Rattle.ref_base.specs.declared.actor.Actor.TheVariants.{Mutator, Worker}
 use Rattle.ref_base.specs.declared.config.Config.{Config}
 use Rattle.ref_base.specs.declared.fault.Fault.{Fault}
-use Rattle.ref_base.specs.declared.step.Step.{Step}
+use Rattle.ref_base.specs.declared.heap_step.HeapStep.TheVariants as heap
 use Rattle.ref_base.specs.declared.step.Step.TheVariants as steps
 use Rattle.ref_base.specs.declared.reply.Reply.{Reply}
 use Rattle.ref_base.specs.declared.reply.Reply.TheVariants as replies
 use Rattle.ref_base.specs.declared.row.Row.{Row}
 use Rattle.ref_base.proofs.CarryLaws.{OfHand, Carries, Lasts, notice_from}
-use Rattle.ref_base.proofs.CarryRows.{Mints, row_carries}
+use Rattle.ref_base.proofs.CarryHeaps.{Anew, heap_carries}
 use Rattle.ref_base.proofs.CountedTraces.{legal_counted}
 use Rattle.ref_base.proofs.NewClears.{IsRising-tail, is_there-rising, has-new_clears}
 use Rattle.ref_base.proofs.OldNames.{legal_numbers}
-use Rattle.ref_base.proofs.OneQueue.{next_grows}
-use Rattle.ref_base.proofs.RowKinds.{row_kind}
+use Rattle.ref_base.proofs.OneQueue.{next_heap}
+use Rattle.ref_base.proofs.ReplayKeeps.{but_hands, handed_keeps, queues_keep}
+use Rattle.ref_base.proofs.RowKinds.{queues_lead, row_kind}
 use Rattle.ref_base.proofs.RunFronts.{goes_on}
 use Rattle.ref_base.proofs.RunLaws.{run_more}
 use Rattle.ref_base.proofs.ShownObjects.{shown-no}
@@ -55,7 +59,7 @@ cleared_lasts n = record {
   gets = λ o clock is same. got_has_same clock o.reference ∙ is same;
 }
 
-cleared_at : (os : List Object) (n : ℕ) → AllByRecursion (IsCleared n) os
+pub cleared_at : (os : List Object) (n : ℕ) → AllByRecursion (IsCleared n) os
     → referent_of (reference_in (object_at os n)) ≡ None
 cleared_at [] n all = refl
 cleared_at (o ∷ os) n all =
@@ -113,12 +117,18 @@ all_shown (o ∷ os) d n rising within =
           )
     ]
 
-ended_objects : (a b : State) (count : ℕ) (fault : Option Fault)
-    → IsAnswer a fault steps.EndMark (replies.Doomed count) b
-    → b.world.heap.objects ≡ map (λ o. shown (doomed_at a) o) a.world.heap.objects
-ended_objects a b count (Some fault) row = let no = row.0 in absurd cc
-ended_objects a b count None row =
-    ap (λ (s : State). s.world.heap.objects) row.2 ∙ ap (λ (s : State). s.world.heap.objects) row.1.after
+-- n is the number of no object to come, and each object of that number has no referent
+abbrev pub StaysCleared : ℕ → State → Type 0
+StaysCleared n a = (n < a.next) × AllByRecursion (IsCleared n) a.world.heap.objects
+
+pub ended_cleared : (a b : State) (reply : Reply) (n : ℕ) → IsRising (numbers a.world.heap.objects)
+    → ((m : ℕ) → is_there a.world.heap.objects m ≡ true → m < a.next) → EndsMark a reply b
+    → has (new_clears a.world.heap.objects (doomed_at a)) n ≡ true → StaysCleared n b
+ended_cleared a b reply n rising below ends new =
+    let os : List Object = a.world.heap.objects in
+    let d : List ℕ = doomed_at a in
+    subst (StaysCleared n) (sym ends.after)
+    (below n (new_clear_there os d n rising new), all_shown os d n rising new)
 
 -- ---- from then on
 
@@ -152,24 +162,55 @@ carries_objects_alone O w all = record {
 }
 
 -- what is made anew has another number
-makes_another : (n : ℕ) (a : State) (step : Step) (reply : Reply) → n < a.next
-    → Mints (IsCleared n) Anything AnyCycle a step reply
-makes_another n a (steps.New m d k) reply under = λ is same. refl
-makes_another n a (steps.Refer m strength d s q k) reply under = λ is same. absurd (omega (arith, same, under))
-makes_another n a (steps.Unhook m s) reply under = λ o q is there. tt
-makes_another n a (steps.Begin now how) reply under = λ is. tt
-makes_another n a (steps.ClearNext k) reply under = λ o q is there. tt
+makes_another : (n : ℕ) (a : State) (step : NamedStep) (reply : Reply) → n < a.next
+    → Anew (IsCleared n) Anything AnyCycle a step reply
+makes_another n a (heap.New m d k) reply under = λ is same. refl
+makes_another n a (heap.Refer m strength d s q k) reply under = λ is same. absurd (omega (arith, same, under))
+makes_another n a (heap.Begin now how) reply under = λ is. tt
+makes_another n a (heap.ClearNext k) reply under = λ o q is there. tt
 makes_another n a step reply under = tt
 
-row_cleared : (config : Config) (n : ℕ) (past : List Row) (a : State) (row : Row) (b : State)
-    → IsRun (first_state config) past a → (n < a.next) × AllByRecursion (IsCleared n) a.world.heap.objects
-    → IsRow a row b → (n < b.next) × AllByRecursion (IsCleared n) b.world.heap.objects
-row_cleared config n past a row b run is h =
+-- a row of a heap keeps it
+pub heap_cleared : (n : ℕ) (a b : State) (step : NamedStep) (reply : Reply) → StaysCleared n a
+    → HeapAccepts a step reply b → StaysCleared n b
+heap_cleared n a b step reply is row =
     let under = is.0 in
-    let grows = next_grows a row b (row_kind a row b (legal_counted config past a run) h) in
-    let carries = row_carries (IsCleared n) Anything AnyCycle (cleared_lasts n) a row b
-    (makes_another n a row.step row.reply under) (carries_objects_alone (IsCleared n) a.world is.1) h in
+    let grows = next_heap a b step reply row in
+    let carries = heap_carries (IsCleared n) Anything AnyCycle (cleared_lasts n) a b step reply
+    (makes_another n a step reply under) (carries_objects_alone (IsCleared n) a.world is.1) row in
     (omega (arith, under, grows), carries.objects)
+
+-- other hands and queues
+same_cleared : (n : ℕ) (a b : State) → b.next ≡ a.next → but_hands b.world ≡ but_hands a.world → StaysCleared n a
+    → StaysCleared n b
+same_cleared n a b next others is = (
+  subst (λ k. n < k) (sym next) is.0,
+  subst (AllByRecursion (IsCleared n)) (ap (λ (w : World). w.heap.objects) (sym others)) is.1,
+)
+
+row_cleared : (n : ℕ) (a : State) (row : Row) (b : State) → AreCounted a.world → StaysCleared n a → IsRow a row b
+    → StaysCleared n b
+row_cleared n a row b counted is h =
+    elim (row_kind a row b counted h) [
+      | inl of ↦ subst (StaysCleared n) (sym of.same) is
+      | inr others ↦ elim others [
+        | inl of ↦
+            same_cleared n a b (ap (λ (s : State). s.next) (queues_lead of))
+            (ap (λ (s : State). but_hands s.world) (queues_lead of) ∙ queues_keep a.world row.step row.reply) is
+        | inr of ↦
+            same_cleared n of.left b (ap (λ (s : State). s.next) of.after)
+            (ap (λ (s : State). but_hands s.world) of.after ∙ handed_keeps of.left.world row.step row.reply)
+            (heap_cleared n a of.left of.asked row.reply is of.accepts)
+      ]
+    ]
+
+ended_answer : (n : ℕ) (a b : State) (count : ℕ) (fault : Option Fault) → HasOldNumbers a
+    → has (new_clears a.world.heap.objects (doomed_at a)) n ≡ true
+    → IsAnswer a fault steps.EndMark (replies.Doomed count) b → StaysCleared n b
+ended_answer n a b count (Some fault) old new row = let no = row.0 in absurd cc
+ended_answer n a b count None old new row =
+    same_cleared n row.0 b (ap (λ (s : State). s.next) row.2) (ap (λ (s : State). but_hands s.world) row.2)
+    (ended_cleared a row.0 (replies.Doomed count) n old.rising old.objects row.1 new)
 
 -- what a mark's end clears reads as cleared from then on
 pub stays_cleared : (config : Config) (front : List Row) (a b : State) (count : ℕ) (rows : List Row) (c : State) (n : ℕ)
@@ -178,18 +219,12 @@ pub stays_cleared : (config : Config) (front : List Row) (a b : State) (count : 
     → has (new_clears a.world.heap.objects (doomed_at a)) n ≡ true
     → referent_of (reference_at c.world.heap n) ≡ None
 stays_cleared config front a b count rows c n first ends later new =
-    let d : List ℕ = doomed_at a in
     let row : Row = record { step = steps.EndMark; reply = replies.Doomed count } in
-    let old = legal_numbers config front a first in
-    let under = old.objects n (new_clear_there a.world.heap.objects d n old.rising new) in
-    let grows = next_grows a row b (row_kind a row b (legal_counted config front a first) ends) in
-    let all : AllByRecursion (IsCleared n) b.world.heap.objects =
-    rw (ended_objects a b count (refusal a steps.EndMark) ends)
-    (all_shown a.world.heap.objects d n old.rising new) in
     cleared_at c.world.heap.objects n
-    (goes_on config (λ past s. (n < s.next) × AllByRecursion (IsCleared n) s.world.heap.objects) (row_cleared config n)
+    (goes_on config (λ past s. StaysCleared n s)
+    (λ past s other t run is h. row_cleared n s other t (legal_counted config past s run) is h)
     (front ++ row ∷ []) b rows c (run_more (first_state config) front a b row first ends)
-    (omega (arith, under, grows), all) later).1
+    (ended_answer n a b count (refusal a steps.EndMark) (legal_numbers config front a first) new ends) later).1
 
 -- ---- gets
 
@@ -205,14 +240,20 @@ get_none : (c e : State) (m d s k : ℕ) (value : Option ℕ) → value ≡ None
 get_none c e m d s k None is row = let no = row.0 in absurd cc
 get_none c e m d s k (Some n) is row = absurd cc
 
+-- a heap answers no object to a get of a reference that has no referent
+pub no_get : (c e : State) (m d s n k : ℕ) → slot_at c.world.heap m s ≡ Some n
+    → referent_of (reference_at c.world.heap n) ≡ None
+    → ¬ (HeapAccepts c (heap.Get m d s) (replies.Object k) e)
+no_get c e m d s n k holds none row =
+    get_none c e m d s k (referent_got (reference_of c.world.heap (slot_at c.world.heap m s)))
+    (ap (λ (held : Option ℕ). referent_got (reference_of c.world.heap held)) holds
+    ∙ got_of (reference_at c.world.heap n) none) row
+
 get_answers : (c e : State) (m d s n k : ℕ) (fault : Option Fault) → slot_at c.world.heap m s ≡ Some n
     → referent_of (reference_at c.world.heap n) ≡ None
     → IsAnswer c fault (steps.Get m d s) (replies.Object k) e → ⊥
 get_answers c e m d s n k (Some fault) holds none row = let no = row.0 in absurd cc
-get_answers c e m d s n k None holds none row =
-    get_none c row.0 m d s k (referent_got (reference_of c.world.heap (slot_at c.world.heap m s)))
-    (ap (λ (held : Option ℕ). referent_got (reference_of c.world.heap held)) holds
-    ∙ got_of (reference_at c.world.heap n) none) row.1
+get_answers c e m d s n k None holds none row = no_get c row.0 m d s n k holds none row.1
 
 -- and no get of it answers an object
 pub never_got : (config : Config) (front : List Row) (a b : State) (count : ℕ) (rows : List Row) (c : State) (n : ℕ)

@@ -79,7 +79,7 @@ passes k q v w adds clears none shifts =
 -- ---- places
 
 -- after a place is set, each place is as before or it is the one
-place_set : {X : Type 0} (xs : List X) (j k : ℕ) (x d : X)
+pub place_set : {X : Type 0} (xs : List X) (j k : ℕ) (x d : X)
     → (slice_index_or (slice_set xs j x) k d ≡ slice_index_or xs k d)
     ⊎ ((k ≡ j) × (slice_index_or (slice_set xs j x) k d ≡ x))
 place_set xs j k x d =
@@ -179,7 +179,7 @@ clears_for whole k q j n v w (Some i) made hands pends =
 
 -- ---- a worker hands on
 
-worked_is : (k q n i : ℕ) (cause : Cause) (p : Pending) → n ≡ p.object → i ≡ p.queue → is_by k cause ≡ true
+pub worked_is : (k q n i : ℕ) (cause : Cause) (p : Pending) → n ≡ p.object → i ≡ p.queue → is_by k cause ≡ true
     → if_worked k q (Some (record { object = n; queue = i; cause = cause })) ≡ if_for q p
 worked_is k q n i cause p object queue by_it =
     elim (cases_Bool (p.queue == q)) [

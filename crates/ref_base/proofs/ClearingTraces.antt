@@ -49,11 +49,11 @@ use Rattle.ref_base.proofs.ClearingShifts.{adopt_pends, release_pends, at, clear
 -- ---- a put that was added
 
 -- another's notice isn't the worker's
-not_by : (k j : ℕ) (cause : Cause) → (k ≡ j → ⊥) → is_by j cause ≡ true → is_by k cause ≡ false
+pub not_by : (k j : ℕ) (cause : Cause) → (k ≡ j → ⊥) → is_by j cause ≡ true → is_by k cause ≡ false
 not_by k j Own other by_it = absurd cc
 not_by k j (Cycle cycle w) other by_it = ne_eqb w k (λ same. other (sym same ∙ eqb-true w j by_it))
 
-none_worked : (k q : ℕ) (notice : Notice) → is_by k notice.cause ≡ false → if_worked k q (Some notice) ≡ []
+pub none_worked : (k q : ℕ) (notice : Notice) → is_by k notice.cause ≡ false → if_worked k q (Some notice) ≡ []
 none_worked k q notice is =
     let neither : ((notice.queue == q) && is_by k notice.cause) ≡ false =
     and_right (notice.queue == q) (is_by k notice.cause) is in

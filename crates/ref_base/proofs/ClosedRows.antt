@@ -67,14 +67,14 @@ module _ (V : ℕ → Type 0) where
   given_anew c b false answer reply row closed = given c b answer reply row closed
 
   -- what the object in a slot refers to
-  field_is : (w : World) (held : Option ℕ) (i : ℕ) (value : Option ℕ) → OfValue V held → IsClosed V w
+  pub field_is : (w : World) (held : Option ℕ) (i : ℕ) (value : Option ℕ) → OfValue V held → IsClosed V w
       → field_in w.heap held i ≡ value → OfValue V value
   field_is w held i None of closed is = tt
   field_is w None i (Some n) of closed is = absurd cc
   field_is w (Some m) i (Some n) of closed is =
       closed.targets m n of (field_target (object_at w.heap.objects m) i n is)
 
-  got_is : (w : World) (held value : Option ℕ) → OfValue V held → IsClosed V w
+  pub got_is : (w : World) (held value : Option ℕ) → OfValue V held → IsClosed V w
       → referent_got (reference_of w.heap held) ≡ value → OfValue V value
   got_is w held None of closed is = tt
   got_is w None (Some n) of closed is = absurd cc

@@ -35,14 +35,14 @@ as_told : (P : Notice → Type 0) (n q : ℕ) (cause : Cause) (reply : Reply) �
     → OfHand P (told_notice reply) → P (record { object = n; queue = q; cause = cause })
 as_told P n q cause reply is holds = subst (λ (r : Reply). OfHand P (told_notice r)) (sym is) holds
 
-handed_on : (P : Notice → Type 0) (a c : State) (k : ℕ) (ps : List Pending) (n q : ℕ) (cause : Cause)
+pub handed_on : (P : Notice → Type 0) (a c : State) (k : ℕ) (ps : List Pending) (n q : ℕ) (cause : Cause)
     → AllByRecursion (λ p. P (notice_from k p)) ps → HandsOn a k ps (replies.Notice n q cause) c
     → P (record { object = n; queue = q; cause = cause })
 handed_on P a c k [] n q cause all row = let no = row.0 in absurd cc
 handed_on P a c k (p ∷ ps) n q cause all row =
     as_told P n q cause (replies.Notice p.object p.queue (Cycle p.cycle k)) row.0 all.0
 
-unhooked : (O : Object → Type 0) (P : Notice → Type 0) (C : ℕ → Type 0) (a c : State) (m s : ℕ)
+pub unhooked : (O : Object → Type 0) (P : Notice → Type 0) (C : ℕ → Type 0) (a c : State) (m s : ℕ)
     (held queue : Option ℕ) (n q : ℕ) (cause : Cause)
     → Mints O P C a (steps.Unhook m s) (replies.Notice n q cause)
     → registered_in (reference_of a.world.heap held) ≡ queue

@@ -8,7 +8,7 @@ use Rattle.ref_base.specs.Graphs.{Object, Reference, object_at, is_there, number
 use Rattle.ref_base.specs.Strengths.{IsRising}
 use Rattle.ref_base.specs.KeptPaths.{IsKept, is_kept}
 use Rattle.ref_base.specs.DoomedSets.{MayDoom, any_is, refers_into, new_clears}
-use Rattle.ref_base.specs.Heaps.{reference_in}
+use Rattle.ref_base.specs.Heaps.{reference_in, reference_at}
 use Rattle.ref_base.specs.Worlds.{World, policy_of, graph_of}
 use Rattle.ref_base.specs.Replay.{replayed}
 use Rattle.ref_base.specs.Collectors.{State, joined}
@@ -36,42 +36,40 @@ referent_into d (Some r) into = of_value r.referent into
     of_value None into = absurd (false≢true into)
     of_value (Some n) into = (n, refl, into)
 
--- what a mark's end says, in the world that the rows before it give by replay
-module _ (config : Config) (past : List Row) (count : ℕ) (gone : List ℕ) (a : State)
-    (is : Agreeing gone (replayed config past) a) (marking : a.world.phase ≡ Marking)
+-- n is a reference, and its referent is dead
+abbrev pub RefersToDead : World → ℕ → Type 0
+RefersToDead w n = (referent : ℕ) × (referent_of (reference_at w.heap n) ≡ Some referent) × IsDead w referent
+
+-- what a mark's end says, in the world of the replay
+module _ (gone : List ℕ) (w : World) (a : State) (is : Agreeing gone w a) (marking : a.world.phase ≡ Marking)
     (closed : IsClosed (λ n. has gone n ≡ false) a.world)
     (may : MayDoom (policy_of a.world) (graph_of a.world) a.moments (doomed_at a)) where
-  there : a.world ≡ world_but gone (replayed config past)
-  there = as_there gone (replayed config past) a Marking is.agrees marking refl
+  there : a.world ≡ world_but gone w
+  there = as_there gone w a Marking is.agrees marking refl
 
-  objects : a.world.heap.objects ≡ without gone (replayed config past).heap.objects
+  objects : a.world.heap.objects ≡ without gone w.heap.objects
   objects = ap (λ (v : World). v.heap.objects) there
 
   known : (n : ℕ) → is_there a.world.heap.objects n ≡ true
-      → (has gone n ≡ false) × (is_there (replayed config past).heap.objects n ≡ true)
+      → (has gone n ≡ false) × (is_there w.heap.objects n ≡ true)
   known n at =
-      there-without gone (replayed config past).heap.objects n
-      (subst (λ (os : List Object). is_there os n ≡ true) objects at)
+      there-without gone w.heap.objects n (subst (λ (os : List Object). is_there os n ≡ true) objects at)
 
   -- what it dooms is dead, also by paths among what was swept
-  pub doomed_dead : (n : ℕ) → has (doomed_at a) n ≡ true → IsDead (replayed config past) n
-  doomed_dead n doomed =
-      let w : World = replayed config past in
-      record {
-        there = (known n (unscanned-there a.world.heap.objects a.born (joined a.scanned) n doomed)).1;
-        not_kept = λ kept.
-            may.none_kept n doomed
-            (subst (λ (v : World). IsKept (policy_of v) (graph_of v) n) (sym there)
-            (path_but (λ k. has gone k ≡ false) gone w (is_kept (policy_of w)) (λ k out. out)
-            (subst (λ (v : World). IsClosed (λ k. has gone k ≡ false) v) there closed) n kept).1);
-      }
+  pub doomed_dead : (n : ℕ) → has (doomed_at a) n ≡ true → IsDead w n
+  doomed_dead n doomed = record {
+    there = (known n (unscanned-there a.world.heap.objects a.born (joined a.scanned) n doomed)).1;
+    not_kept = λ kept.
+        may.none_kept n doomed
+        (subst (λ (v : World). IsKept (policy_of v) (graph_of v) n) (sym there)
+        (path_but (λ k. has gone k ≡ false) gone w (is_kept (policy_of w)) (λ k out. out)
+        (subst (λ (v : World). IsClosed (λ k. has gone k ≡ false) v) there closed) n kept).1);
+  }
 
   -- a reference that it clears has one of these as its referent
   pub mark_shows : (n : ℕ) → has (new_clears a.world.heap.objects (doomed_at a)) n ≡ true
-      → (has gone n ≡ false) × (has (doomed_at a) n ≡ false)
-      × MarkEnded config (past ++ record { step = steps.EndMark; reply = replies.Doomed count } ∷ []) a.world.cycle n
+      → (has gone n ≡ false) × (has (doomed_at a) n ≡ false) × RefersToDead w n
   mark_shows n new =
-      let w : World = replayed config past in
       let os : List Object = a.world.heap.objects in
       let d : List ℕ = doomed_at a in
       let rising : IsRising (numbers os) =
@@ -86,27 +84,36 @@ module _ (config : Config) (past : List Row) (count : ℕ) (gone : List ℕ) (a 
       ap (λ (ps : List Object). object_at ps n) objects ∙ object_at-without gone w.heap.objects n here.0 in (
         here.0,
         not-true (has d n) both.0,
-        record {
-          before = past;
-          count = count;
-          behind = [];
-          is_earlier = refl;
-          of_cycle = ap (λ (v : World). v.cycle) (sym is.agrees);
-          referent = referent.0;
-          referred = ap (λ (o : Option Object). referent_of (reference_in o)) (sym same) ∙ referent.1;
-          dead = doomed_dead referent.0 referent.2;
-        },
+        (
+          referent.0,
+          ap (λ (o : Option Object). referent_of (reference_in o)) (sym same) ∙ referent.1,
+          doomed_dead referent.0 referent.2,
+        ),
       )
 
-  pub doomed_was : (n : ℕ) → has (doomed_at a) n ≡ true
-      → WasDoomed config (past ++ record { step = steps.EndMark; reply = replies.Doomed count } ∷ []) n
-  doomed_was n doomed = record {
+-- ---- in a trace
+
+-- the row of a mark's end shows what it shows in the world that the rows before it give by replay
+module _ (config : Config) (past : List Row) (count : ℕ) where
+  abbrev pub ended : List Row
+  ended = past ++ record { step = steps.EndMark; reply = replies.Doomed count } ∷ []
+
+  pub mark_ended : (n : ℕ) → RefersToDead (replayed config past) n
+      → MarkEnded config ended (replayed config past).cycle n
+  mark_ended n refers = record {
     before = past;
     count = count;
     behind = [];
     is_earlier = refl;
-    dead = doomed_dead n doomed;
+    of_cycle = refl;
+    referent = refers.0;
+    referred = refers.1;
+    dead = refers.2;
   }
+
+  pub was_doomed : (n : ℕ) → IsDead (replayed config past) n → WasDoomed config ended n
+  was_doomed n dead =
+      record { before = past; count = count; behind = []; is_earlier = refl; dead = dead }
 
 -- a row of some rows is one of more
 earlier_more : (rows more before behind : List Row) (row : Row) → before ++ row ∷ behind ≡ rows

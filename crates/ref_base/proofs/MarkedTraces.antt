@@ -72,7 +72,7 @@ after_more : (config : Config) (rows more : List Row) (n : ℕ) (cause : Cause) 
 after_more config rows more n Own is = tt
 after_more config rows more n (Cycle cycle k) is = ended_more config rows more cycle n is
 
-any_lasts : Lasts (λ o. Unit {0})
+pub any_lasts : Lasts (λ o. Unit {0})
 any_lasts = record {
   stores = λ o i value is. tt;
   clears = λ o is. tt;

@@ -68,8 +68,16 @@ ended_old V a found closed =
 
 -- ---- rows
 
--- each object of the collector has a number below the next
-old_objects : (gone : List ℕ) (w : World) (a : State) → Agreeing gone w a → (n : ℕ)
+-- the objects of the collector stand in order of number
+pub rising_objects : (gone : List ℕ) (w : World) (a : State) → Agreeing gone w a
+    → IsRising (numbers a.world.heap.objects)
+rising_objects gone w a is =
+    let os : List Object = without gone w.heap.objects in
+    subst (λ (v : World). IsRising (numbers v.heap.objects)) (sym is.agrees)
+    (subst IsRising (sym (numbers-cleared_if (is_waiting a) os)) (rising-without gone w.heap.objects is.rising))
+
+-- and each has a number below the next
+pub old_objects : (gone : List ℕ) (w : World) (a : State) → Agreeing gone w a → (n : ℕ)
     → is_there a.world.heap.objects n ≡ true → n < a.next
 old_objects gone w a is n there =
     is.below n (there-numbers w.heap.objects n (there_in gone w a is.agrees n there).1)
@@ -167,14 +175,11 @@ pub legal_numbers : (config : Config) (rows : List Row) (b : State) → IsRun (f
 legal_numbers config rows b run =
     let known = legal_out config rows b run in
     let w : World = replayed config rows in
-    let os : List Object = without known.0 w.heap.objects in
     let here : (n : ℕ) → is_there b.world.heap.objects n ≡ true → n < b.next =
     old_objects known.0 w b known.1 in
     let old : IsClosed (λ n. n < b.next) b.world = legal_old config rows b run in
     record {
-      rising = subst (λ (v : World). IsRising (numbers v.heap.objects)) (sym known.1.agrees)
-          (subst IsRising (sym (numbers-cleared_if (is_waiting b) os))
-          (rising-without known.0 w.heap.objects known.1.rising));
+      rising = rising_objects known.0 w b known.1;
       objects = here;
       roots = λ n root. closed_roots (λ n. n < b.next) b.world n old root;
       targets = λ m n target.

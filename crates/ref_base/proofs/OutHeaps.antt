@@ -1,22 +1,21 @@
 -- Each row of a heap keeps that what is gone or doomed is out of reach, and that a mark's end has shown what it
 -- cleared.
-use Rattle.std.proofs.Common.{◌≡◌, ℕ, true, false, List, [], ◌∷◌, ◌++◌, take, drop, None, refl}
+use Rattle.std.proofs.Common.{◌≡◌, ℕ, true, false, List, [], ◌++◌, take, drop, None, refl}
 use Rattle.std.proofs.Common.{sym, ap, ◌∙◌, subst, inl, inr}
 use Rattle.std.proofs.lemmas.Bool.{or_from, false≢true}
 use Rattle.std.proofs.lemmas.List.{append-nil, append_assoc, take-append-drop}
 use Rattle.ref_base.specs.Members.{has}
 use Rattle.ref_base.specs.Worlds.{World}
 use Rattle.ref_base.specs.HeapSteps.{NamedStep}
-use Rattle.ref_base.specs.Replay.{after_heap, replayed}
+use Rattle.ref_base.specs.Replay.{after_heap}
 use Rattle.ref_base.specs.Collectors.{State, joined}
 use Rattle.ref_base.specs.Refusals.{heap_refusal}
 use Rattle.ref_base.specs.CollectorRows.{HeapAccepts, EndsMark, doomed_at}
-use Rattle.ref_base.specs.MarkEnds.{MarkEnded, WasDoomed}
+use Rattle.ref_base.specs.MarkEnds.{IsDead, MarkEnded, WasDoomed}
 use Rattle.ref_base.specs.declared.config.Config.{Config}
 use Rattle.ref_base.specs.declared.phase.Phase.{Phase}
 use Rattle.ref_base.specs.declared.phase.Phase.TheVariants.{Idle, Marking, Clearing, Sweeping}
 use Rattle.ref_base.specs.declared.heap_step.HeapStep.TheVariants as heap
-use Rattle.ref_base.specs.declared.step.Step.TheVariants as steps
 use Rattle.ref_base.specs.declared.reply.Reply.{Reply}
 use Rattle.ref_base.specs.declared.reply.Reply.TheVariants as replies
 use Rattle.ref_base.specs.declared.row.Row.{Row}
@@ -28,7 +27,7 @@ use Rattle.ref_base.proofs.AgreeHeaps.{Agreeing, gone_after, fresh, unscanned-th
 use Rattle.ref_base.proofs.ApartWorlds.{IsClosed}
 use Rattle.ref_base.proofs.ClosedRows.{closed_same, heap_closed}
 use Rattle.ref_base.proofs.OffSets.{ended_closed}
-use Rattle.ref_base.proofs.MarkShows.{mark_shows, doomed_was, doomed_more}
+use Rattle.ref_base.proofs.MarkShows.{RefersToDead, doomed_dead, mark_shows}
 
 -- what is doomed and not swept yet
 abbrev pub doomed_in : Phase → List ℕ → List ℕ
@@ -42,14 +41,18 @@ abbrev pub off : List ℕ → State → List ℕ
 off gone a = gone ++ doomed_in a.world.phase a.doomed
 
 -- Nothing that is gone or doomed is in reach, and a mark's end found it dead; nothing is doomed but from a mark's end
--- until the sweep has ended; and while references are cleared, each
--- that the mark's end cleared isn't among these, and the mark's end has shown of it what it shows.
-pub record AreOut (config : Config) (rows : List Row) (gone : List ℕ) (a : State) : Type 0 where
+-- until the sweep has ended; and while references are cleared, each that the mark's end cleared isn't among these, and
+-- the mark's end has shown of it, in this cycle, what it shows.
+pub record AreOutBy (Dead : ℕ → Type 0) (Shown : ℕ → ℕ → Type 0) (gone : List ℕ) (a : State) : Type 0 where
   pub closed : IsClosed (λ n. has (off gone a) n ≡ false) a.world
-  pub dead : (n : ℕ) → has (off gone a) n ≡ true → WasDoomed config rows n
+  pub dead : (n : ℕ) → has (off gone a) n ≡ true → Dead n
   pub whole : doomed_in a.world.phase a.doomed ≡ a.doomed
   pub spared : a.world.phase ≡ Clearing → (n : ℕ) → has a.cleared n ≡ true → has (off gone a) n ≡ false
-  pub shown : a.world.phase ≡ Clearing → (n : ℕ) → has a.cleared n ≡ true → MarkEnded config rows a.world.cycle n
+  pub shown : a.world.phase ≡ Clearing → (n : ℕ) → has a.cleared n ≡ true → Shown a.world.cycle n
+
+-- of what the rows of a trace tell
+abbrev pub AreOut : Config → List Row → List ℕ → State → Type 0
+AreOut config rows gone a = AreOutBy (WasDoomed config rows) (MarkEnded config rows) gone a
 
 -- ---- what is off
 
@@ -60,7 +63,7 @@ off_is gone doomed c phase is same =
     ap (λ (p : Phase). gone ++ doomed_in p c.doomed) is ∙ ap (λ ds. gone ++ doomed_in phase ds) same
 
 -- no row but a mark's end changes what is off
-off_same : (gone : List ℕ) (a c : State) (step : NamedStep) (reply : Reply) → IsNoEnd step
+pub off_same : (gone : List ℕ) (a c : State) (step : NamedStep) (reply : Reply) → IsNoEnd step
     → heap_refusal 0 a step ≡ None → HeapAccepts a step reply c
     → off (gone_after a gone step reply) c ≡ off gone a
 off_same gone a c (heap.Begin now how) reply plain none row =
@@ -120,7 +123,7 @@ doomed_all Clearing doomed n h = h
 doomed_all Sweeping doomed n h = h
 
 -- the next number isn't off
-next_out : (gone : List ℕ) (w : World) (a : State) → Agreeing gone w a → has (off gone a) a.next ≡ false
+pub next_out : (gone : List ℕ) (w : World) (a : State) → Agreeing gone w a → has (off gone a) a.next ≡ false
 next_out gone w a is =
     has-append gone (doomed_in a.world.phase a.doomed) a.next
     ∙ or_from (has gone a.next) (has (doomed_in a.world.phase a.doomed) a.next) (fresh a.next gone is.gone_below)
@@ -129,21 +132,21 @@ next_out gone w a is =
 
 -- ---- rows of a heap
 
-module _ (config : Config) (past : List Row) (gone : List ℕ) (a c : State)
-    (is : Agreeing gone (replayed config past) a) (out : AreOut config past gone a) where
+module _ (Dead : ℕ → Type 0) (Shown : ℕ → ℕ → Type 0) (gone : List ℕ) (w : World) (a c : State)
+    (is : Agreeing gone w a) (out : AreOutBy Dead Shown gone a) where
   -- a row that isn't a mark's end
   pub plain_out : (step : NamedStep) (reply : Reply) → IsNoEnd step → heap_refusal 0 a step ≡ None
       → HeapAccepts a step reply c
       → (c.world.phase ≡ Clearing
       → (a.world.phase ≡ Clearing) × (c.cleared ≡ a.cleared) × (c.world.cycle ≡ a.world.cycle))
-      → doomed_in c.world.phase c.doomed ≡ c.doomed → AreOut config past (gone_after a gone step reply) c
+      → doomed_in c.world.phase c.doomed ≡ c.doomed → AreOutBy Dead Shown (gone_after a gone step reply) c
   plain_out step reply plain none row still whole =
       let now : List ℕ = gone_after a gone step reply in
       let same : off now c ≡ off gone a = off_same gone a c step reply plain none row in
       record {
         closed = subst (λ ns. IsClosed (λ n. has ns n ≡ false) c.world) (sym same)
             (heap_closed (λ n. has (off gone a) n ≡ false) a c out.closed step reply plain none
-            (λ made. next_out gone (replayed config past) a is) out.spared row);
+            (λ made. next_out gone w a is) out.spared row);
         dead = λ n is_off. out.dead n (ap (λ ns. has ns n) (sym same) ∙ is_off);
         whole = whole;
         spared = λ clearing n cleared.
@@ -151,34 +154,32 @@ module _ (config : Config) (past : List Row) (gone : List ℕ) (a c : State)
             ap (λ ns. has ns n) same ∙ out.spared before.0 n (ap (λ ns. has ns n) (sym before.1) ∙ cleared);
         shown = λ clearing n cleared.
             let before = still clearing in
-            subst (λ (k : ℕ). MarkEnded config past k n) (sym before.2)
+            subst (λ (k : ℕ). Shown k n) (sym before.2)
             (out.shown before.0 n (ap (λ ns. has ns n) (sym before.1) ∙ cleared));
       }
 
-  -- a mark's end
-  pub end_out : (count : ℕ) → a.world.phase ≡ Marking → EndsMark a (replies.Doomed count) c
-      → AreOut config (past ++ record { step = steps.EndMark; reply = replies.Doomed count } ∷ []) gone c
-  end_out count marking row =
+  -- a mark's end, after which more was found dead and more was shown
+  pub end_out : (Later : ℕ → Type 0) (Shows : ℕ → ℕ → Type 0) (reply : Reply) → ((n : ℕ) → Dead n → Later n)
+      → ((n : ℕ) → IsDead w n → Later n) → ((n : ℕ) → RefersToDead w n → Shows w.cycle n) → a.world.phase ≡ Marking
+      → EndsMark a reply c → AreOutBy Later Shows gone c
+  end_out Later Shows reply later found shows marking row =
       let d : List ℕ = doomed_at a in
-      let more : List Row = past ++ record { step = steps.EndMark; reply = replies.Doomed count } ∷ [] in
       let none : off gone a ≡ gone = off_is gone a.doomed a Marking marking refl ∙ append-nil gone in
       let closed : IsClosed (λ n. has gone n ≡ false) a.world =
       subst (λ ns. IsClosed (λ n. has ns n ≡ false) a.world) none out.closed in
-      let shows = mark_shows config past count gone a is marking closed row.may_doom in
-      let was = doomed_was config past count gone a is marking closed row.may_doom in
-      subst (λ (s : State). AreOut config more gone s) (sym row.after) (record {
+      let told = mark_shows gone w a is marking closed row.may_doom in
+      let dead = doomed_dead gone w a is marking closed row.may_doom in
+      subst (λ (s : State). AreOutBy Later Shows gone s) (sym row.after) (record {
         closed = closed_same (λ n. has (gone ++ d) n ≡ false) _ _ refl refl refl refl
             (ended_closed gone d a.world a.moments row.may_doom
             (λ n doomed. unscanned-there a.world.heap.objects a.born (joined a.scanned) n doomed) closed);
         dead = λ n is_off. elim (has-cases gone d n is_off) [
-          | inl before ↦
-              doomed_more config past (record { step = steps.EndMark; reply = replies.Doomed count } ∷ []) n
-              (out.dead n (ap (λ ns. has ns n) none ∙ before))
-          | inr doomed ↦ was n doomed
+          | inl before ↦ later n (out.dead n (ap (λ ns. has ns n) none ∙ before))
+          | inr doomed ↦ found n (dead n doomed)
         ];
         whole = refl;
         spared = λ clearing n new.
-            let told = shows n new in
-            has-append gone d n ∙ or_from (has gone n) (has d n) told.0 told.1;
-        shown = λ clearing n new. (shows n new).2;
+            has-append gone d n ∙ or_from (has gone n) (has d n) (told n new).0 (told n new).1;
+        shown = λ clearing n new.
+            subst (λ (k : ℕ). Shows k n) (ap (λ (v : World). v.cycle) (sym is.agrees)) (shows n (told n new).2);
       })

@@ -1,5 +1,5 @@
 -- Each row keeps that what is gone or doomed is out of reach, and that a mark's end has shown what it cleared.
-use Rattle.std.proofs.Common.{◌≡◌, ℕ, ◌+◌, false, List, [], ◌∷◌, ◌++◌, Option, Some, None, refl, sym}
+use Rattle.std.proofs.Common.{◌≡◌, ℕ, ◌+◌, false, List, [], ◌∷◌, ◌++◌, length, Option, Some, None, refl, sym}
 use Rattle.std.proofs.Common.{ap, ◌∙◌, subst, inl, inr}
 use Rattle.ref_base.specs.Members.{has}
 use Rattle.ref_base.specs.Worlds.{World, Notice, hand_of}
@@ -7,9 +7,9 @@ use Rattle.ref_base.specs.HeapSteps.{NamedStep, heap_step, spending}
 use Rattle.ref_base.specs.Replay.{replayed}
 use Rattle.ref_base.specs.Collectors.{State}
 use Rattle.ref_base.specs.Refusals.{heap_refusal}
-use Rattle.ref_base.specs.CollectorRows.{HeapAccepts, IsRow, EndsMark}
+use Rattle.ref_base.specs.CollectorRows.{HeapAccepts, IsRow, doomed_at}
 use Rattle.ref_base.specs.CountedHolds.{AreCounted}
-use Rattle.ref_base.specs.MarkEnds.{MarkEnded}
+use Rattle.ref_base.specs.MarkEnds.{MarkEnded, WasDoomed}
 use Rattle.ref_base.specs.declared.config.Config.{Config}
 use Rattle.ref_base.specs.declared.actor.Actor.TheVariants.{Mutator}
 use Rattle.ref_base.specs.declared.phase.Phase.{Phase}
@@ -29,28 +29,35 @@ use Rattle.ref_base.proofs.AgreeHeaps.{Agreeing, gone_after, not_in}
 use Rattle.ref_base.proofs.AgreeRuns.{gone_next, gone_refused}
 use Rattle.ref_base.proofs.ApartWorlds.{IsClosed}
 use Rattle.ref_base.proofs.ClosedRows.{closed_same}
-use Rattle.ref_base.proofs.MarkShows.{ended_more, doomed_more}
-use Rattle.ref_base.proofs.OutHeaps.{AreOut, off, doomed_in}
+use Rattle.ref_base.proofs.MarkShows.{ended, mark_ended, was_doomed, ended_more, doomed_more}
+use Rattle.ref_base.proofs.OutHeaps.{AreOutBy, AreOut, off, doomed_in}
 use Rattle.ref_base.proofs.OutHeaps.{plain_out, end_out}
 use Rattle.ref_base.proofs.MovedParts.{phase_moved, cycle_moved, cleared_moved, FreesNone, doomed_moved}
 
--- ---- more rows, and other states that are the same
+-- ---- more that was found dead and shown, and other states that are the same
 
-more_out : (config : Config) (rows more : List Row) (gone : List ℕ) (a : State) → AreOut config rows gone a
-    → AreOut config (rows ++ more) gone a
-more_out config rows more gone a out = record {
+pub more_out : (Dead Later : ℕ → Type 0) (Shown Shows : ℕ → ℕ → Type 0) (gone : List ℕ) (a : State)
+    → ((n : ℕ) → Dead n → Later n) → ((cycle n : ℕ) → Shown cycle n → Shows cycle n) → AreOutBy Dead Shown gone a
+    → AreOutBy Later Shows gone a
+more_out Dead Later Shown Shows gone a later shows out = record {
   closed = out.closed;
-  dead = λ n is_off. doomed_more config rows more n (out.dead n is_off);
+  dead = λ n is_off. later n (out.dead n is_off);
   whole = out.whole;
   spared = out.spared;
-  shown = λ clearing n cleared. ended_more config rows more a.world.cycle n (out.shown clearing n cleared);
+  shown = λ clearing n cleared. shows a.world.cycle n (out.shown clearing n cleared);
 }
 
+rows_more : (config : Config) (rows more : List Row) (gone : List ℕ) (a : State) → AreOut config rows gone a
+    → AreOut config (rows ++ more) gone a
+rows_more config rows more gone a out =
+    more_out (WasDoomed config rows) (WasDoomed config (rows ++ more)) (MarkEnded config rows)
+    (MarkEnded config (rows ++ more)) gone a (doomed_more config rows more) (ended_more config rows more) out
+
 -- a state of which only hands, queues and what marking looks at are other
-same_out : (config : Config) (rows : List Row) (gone : List ℕ) (a b : State) → AreOut config rows gone a
+same_out : (Dead : ℕ → Type 0) (Shown : ℕ → ℕ → Type 0) (gone : List ℕ) (a b : State) → AreOutBy Dead Shown gone a
     → but_hands b.world ≡ but_hands a.world → b.doomed ≡ a.doomed → b.cleared ≡ a.cleared
-    → AreOut config rows gone b
-same_out config rows gone a b out others doomed clears =
+    → AreOutBy Dead Shown gone b
+same_out Dead Shown gone a b out others doomed clears =
     let phase : b.world.phase ≡ a.world.phase = ap (λ (w : World). w.phase) others in
     let offs : off gone b ≡ off gone a =
     ap (λ (p : Phase). gone ++ doomed_in p b.doomed) phase ∙ ap (λ ds. gone ++ doomed_in a.world.phase ds) doomed in
@@ -66,7 +73,7 @@ same_out config rows gone a b out others doomed clears =
           ap (λ ns. has ns n) offs
           ∙ out.spared (sym phase ∙ clearing) n (ap (λ ns. has ns n) (sym clears) ∙ cleared);
       shown = λ clearing n cleared.
-          subst (λ (k : ℕ). MarkEnded config rows k n) (ap (λ (w : World). w.cycle) (sym others))
+          subst (λ (k : ℕ). Shown k n) (ap (λ (w : World). w.cycle) (sym others))
           (out.shown (sym phase ∙ clearing) n (ap (λ ns. has ns n) (sym clears) ∙ cleared));
     }
 
@@ -86,18 +93,18 @@ is_end w (steps.Release who) asks =
     absurd (spends_no_end (λ hold. heap.Release hold) (hand_of w who) (λ hold is. cc) asks)
 is_end w step asks = absurd cc
 
-module _ (config : Config) (past : List Row) (gone : List ℕ) (a c : State)
-    (is : Agreeing gone (replayed config past) a) (out : AreOut config past gone a) where
+module _ (Dead : ℕ → Type 0) (Shown : ℕ → ℕ → Type 0) (gone : List ℕ) (w : World) (a c : State)
+    (is : Agreeing gone w a) (out : AreOutBy Dead Shown gone a) where
   -- a row that ends no phase
   calm : (step : NamedStep) (reply : Reply) → IsNoEnd step → EndsNoPhase step → heap_refusal 0 a step ≡ None
       → HeapAccepts a step reply c
       → (c.world.phase ≡ a.world.phase → doomed_in c.world.phase c.doomed ≡ c.doomed)
-      → AreOut config past (gone_after a gone step reply) c
+      → AreOutBy Dead Shown (gone_after a gone step reply) c
   calm step reply plain ends none row whole =
       let leads : settled c ≡ settled (moved a step reply) = heap_moves a c step reply plain row in
       let phase : c.world.phase ≡ a.world.phase =
       ap (λ (s : State). s.world.phase) leads ∙ phase_moved a step reply ends in
-      plain_out config past gone a c is out step reply plain none row
+      plain_out Dead Shown gone w a c is out step reply plain none row
       (λ clearing. (
         sym phase ∙ clearing,
         ap (λ (s : State). s.cleared) leads ∙ cleared_moved a step reply ends,
@@ -116,80 +123,80 @@ module _ (config : Config) (past : List Row) (gone : List ℕ) (a c : State)
   turns : (step : NamedStep) (reply answer : Reply) (phase : Phase) → IsNoEnd step → heap_refusal 0 a step ≡ None
       → HeapAccepts a step reply c → reply ≡ answer → (moved a step answer).world.phase ≡ phase
       → (c.world.phase ≡ phase → c.world.phase ≡ Clearing → ⊥) → doomed_in phase c.doomed ≡ c.doomed
-      → AreOut config past (gone_after a gone step reply) c
+      → AreOutBy Dead Shown (gone_after a gone step reply) c
   turns step reply answer phase plain none row is_answer into other whole =
       let leads : settled c ≡ settled (moved a step reply) = heap_moves a c step reply plain row in
       let now : c.world.phase ≡ phase =
       ap (λ (s : State). s.world.phase) leads ∙ ap (λ (r : Reply). (moved a step r).world.phase) is_answer ∙ into in
-      plain_out config past gone a c is out step reply plain none row (λ clearing. absurd (other now clearing))
+      plain_out Dead Shown gone w a c is out step reply plain none row (λ clearing. absurd (other now clearing))
       (ap (λ (p : Phase). doomed_in p c.doomed) now ∙ whole)
 
-  heap_out : (step : Step) (asked : NamedStep) (reply : Reply) → heap_step a.world step ≡ Some asked
-      → heap_refusal 0 a asked ≡ None → HeapAccepts a asked reply c
-      → AreOut config (past ++ record { step = step; reply = reply } ∷ []) (gone_after a gone asked reply) c
-  heap_out step (heap.Begin now how) reply asks none row =
-      more_out config past (record { step = step; reply = reply } ∷ []) gone c
-      (turns (heap.Begin now how) reply (replies.Cycle (a.world.cycle + 1)) Marking tt none row row.0 refl
+  -- a row that isn't a mark's end
+  pub heap_out : (asked : NamedStep) (reply : Reply) → IsNoEnd asked → heap_refusal 0 a asked ≡ None
+      → HeapAccepts a asked reply c → AreOutBy Dead Shown (gone_after a gone asked reply) c
+  heap_out (heap.Begin now how) reply plain none row =
+      turns (heap.Begin now how) reply (replies.Cycle (a.world.cycle + 1)) Marking tt none row row.0 refl
       (λ into. not_in c Marking into refl)
-      (sym (ap (λ (s : State). s.doomed) (heap_moves a c (heap.Begin now how) reply tt row))))
-  heap_out step heap.EndMark reply asks none row =
-      let rows : Step → Reply → List Row = λ s r. past ++ record { step = s; reply = r } ∷ [] in
-      subst (λ (s : Step). AreOut config (rows s reply) gone c) (sym (is_end a.world step asks))
-      (ended reply row)
-    where
-      ended : (reply : Reply) → EndsMark a reply c
-          → AreOut config (past ++ record { step = steps.EndMark; reply = reply } ∷ []) gone c
-      ended (replies.Doomed count) row = end_out config past gone a c is out count (of_phase 0 a heap.EndMark none) row
-      ended reply row = let answer = row.answer in absurd cc
-  heap_out step heap.EndClear reply asks none row =
-      more_out config past (record { step = step; reply = reply } ∷ []) gone c
-      (turns heap.EndClear reply replies.Done Sweeping tt none row row.0 refl
-      (λ into. not_in c Sweeping into refl) refl)
-  heap_out step heap.EndSweep reply asks none row =
-      more_out config past (record { step = step; reply = reply } ∷ []) gone c
-      (turns heap.EndSweep reply replies.Done Idle tt none row row.0 refl (λ into. not_in c Idle into refl)
+      (sym (ap (λ (s : State). s.doomed) (heap_moves a c (heap.Begin now how) reply tt row)))
+  heap_out heap.EndMark reply plain none row = absurd plain
+  heap_out heap.EndClear reply plain none row =
+      turns heap.EndClear reply replies.Done Sweeping tt none row row.0 refl (λ into. not_in c Sweeping into refl) refl
+  heap_out heap.EndSweep reply plain none row =
+      turns heap.EndSweep reply replies.Done Idle tt none row row.0 refl (λ into. not_in c Idle into refl)
       (sym (ap (λ (s : State). s.doomed) (heap_moves a c heap.EndSweep reply tt row)
-      ∙ (of_phase 0 a heap.EndSweep none).1)))
-  heap_out step (heap.Sweep k) reply asks none row =
+      ∙ (of_phase 0 a heap.EndSweep none).1))
+  heap_out (heap.Sweep k) reply plain none row =
       let sweeping : a.world.phase ≡ Sweeping = of_phase 0 a (heap.Sweep k) none in
-      more_out config past (record { step = step; reply = reply } ∷ []) (gone_after a gone (heap.Sweep k) reply) c
-      (calm (heap.Sweep k) reply tt tt none row
-      (λ phase. ap (λ (p : Phase). doomed_in p c.doomed) (phase ∙ sweeping)))
-  heap_out step asked reply asks none row =
-      more_out config past (record { step = step; reply = reply } ∷ []) (gone_after a gone asked reply) c
-      (calm asked reply tt tt none row (calm_whole asked reply tt tt tt row))
+      calm (heap.Sweep k) reply tt tt none row
+      (λ phase. ap (λ (p : Phase). doomed_in p c.doomed) (phase ∙ sweeping))
+  heap_out asked reply plain none row = calm asked reply tt tt none row (calm_whole asked reply tt tt tt row)
 
 -- ---- rows
 
-module _ (config : Config) (past : List Row) (gone : List ℕ) (a : State) (row : Row) (b : State)
+module _ (config : Config) (past : List Row) (gone : List ℕ) (a : State) (row : Row)
     (is : Agreeing gone (replayed config past) a) (out : AreOut config past gone a) where
-  pub row_out : AreCounted a.world → IsRow a row b
+  -- a row of the heap with which a step of the world goes on
+  asked_out : (c : State) (asked : NamedStep) → heap_step a.world row.step ≡ Some asked → heap_refusal 0 a asked ≡ None
+      → HeapAccepts a asked row.reply c → AreOut config (past ++ row ∷ []) (gone_after a gone asked row.reply) c
+  asked_out c heap.EndMark asks none accepts =
+      let later : (r : Row) → Type 0 = λ r. AreOut config (past ++ r ∷ []) gone c in
+      let count : ℕ = length (doomed_at a) in
+      let same : row ≡ record { step = steps.EndMark; reply = replies.Doomed count } =
+      ap (λ (s : Step). record row { step = s }) (is_end a.world row.step asks)
+      ∙ ap (λ (r : Reply). record { step = steps.EndMark; reply = r }) accepts.answer in
+      subst later (sym same)
+      (end_out (WasDoomed config past) (MarkEnded config past) gone (replayed config past) a c is out
+      (WasDoomed config (ended config past count)) (MarkEnded config (ended config past count)) row.reply
+      (doomed_more config past _) (was_doomed config past count) (mark_ended config past count)
+      (of_phase 0 a heap.EndMark none) accepts)
+  asked_out c asked asks none accepts =
+      rows_more config past (row ∷ []) (gone_after a gone asked row.reply) c
+      (heap_out (WasDoomed config past) (MarkEnded config past) gone (replayed config past) a c is out asked row.reply
+      tt none accepts)
+
+  pub row_out : (b : State) → AreCounted a.world → IsRow a row b
       → AreOut config (past ++ row ∷ []) (gone_next a gone (heap_step a.world row.step) row.reply) b
-  row_out counted h =
+  row_out b counted h =
+      let rows : List Row = past ++ row ∷ [] in
       elim (row_kind a row b counted h) [
         | inl of ↦
-            subst (λ (r : Reply). AreOut config (past ++ row ∷ []) (gone_next a gone (heap_step a.world row.step) r) b)
+            subst (λ (r : Reply). AreOut config rows (gone_next a gone (heap_step a.world row.step) r) b)
             (sym of.answer)
-            (subst (λ ns. AreOut config (past ++ row ∷ []) ns b)
-            (sym (gone_refused a gone (heap_step a.world row.step) of.fault))
-            (subst (λ (s : State). AreOut config (past ++ row ∷ []) gone s) (sym of.same)
-            (more_out config past (row ∷ []) gone a out)))
+            (subst (λ ns. AreOut config rows ns b) (sym (gone_refused a gone (heap_step a.world row.step) of.fault))
+            (subst (λ (s : State). AreOut config rows gone s) (sym of.same)
+            (rows_more config past (row ∷ []) gone a out)))
         | inr others ↦ elim others [
           | inl of ↦
-              subst
-              (λ (asked : Option NamedStep). AreOut config (past ++ row ∷ []) (gone_next a gone asked row.reply) b)
-              (sym of.asks)
-              (more_out config past (row ∷ []) gone b
-              (same_out config past gone a b out
+              subst (λ (asked : Option NamedStep). AreOut config rows (gone_next a gone asked row.reply) b) (sym of.asks)
+              (rows_more config past (row ∷ []) gone b
+              (same_out (WasDoomed config past) (MarkEnded config past) gone a b out
               (ap (λ (s : State). but_hands s.world) (queues_lead of) ∙ queues_keep a.world row.step row.reply)
               (ap (λ (s : State). s.doomed) (queues_lead of)) (ap (λ (s : State). s.cleared) (queues_lead of))))
           | inr of ↦
               let now : List ℕ = gone_after a gone of.asked row.reply in
-              subst
-              (λ (asked : Option NamedStep). AreOut config (past ++ row ∷ []) (gone_next a gone asked row.reply) b)
-              (sym of.asks)
-              (same_out config (past ++ row ∷ []) now of.left b
-              (heap_out config past gone a of.left is out row.step of.asked row.reply of.asks of.passes of.accepts)
+              subst (λ (asked : Option NamedStep). AreOut config rows (gone_next a gone asked row.reply) b) (sym of.asks)
+              (same_out (WasDoomed config rows) (MarkEnded config rows) now of.left b
+              (asked_out of.left of.asked of.asks of.passes of.accepts)
               (ap (λ (s : State). but_hands s.world) of.after ∙ handed_keeps of.left.world row.step row.reply)
               (ap (λ (s : State). s.doomed) of.after) (ap (λ (s : State). s.cleared) of.after))
         ]

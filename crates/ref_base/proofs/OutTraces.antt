@@ -12,7 +12,7 @@ use Rattle.ref_base.specs.Replay.{replayed}
 use Rattle.ref_base.specs.Collectors.{State, first_state}
 use Rattle.ref_base.specs.CollectorRows.{without, IsRun}
 use Rattle.ref_base.specs.AgreeingWorlds.{Agrees, cleared_if, is_waiting}
-use Rattle.ref_base.specs.MarkEnds.{WasDoomed, AreOutOfReach}
+use Rattle.ref_base.specs.MarkEnds.{MarkEnded, WasDoomed, AreOutOfReach}
 use Rattle.ref_base.specs.declared.config.Config.{Config}
 use Rattle.ref_base.specs.declared.row.Row.{Row}
 use Rattle.ref_base.proofs.CountedTraces.{legal_counted}
@@ -25,11 +25,12 @@ use Rattle.ref_base.proofs.SeenObjects.{cleared_if-shape}
 use Rattle.ref_base.proofs.AgreeRuns.{gone_next, row_agrees, first_agrees}
 use Rattle.ref_base.proofs.ApartWorlds.{no_slot, IsClosed, closed_roots}
 use Rattle.ref_base.proofs.CarryRows.{nothing_pending}
-use Rattle.ref_base.proofs.OutHeaps.{AreOut, doomed_in}
+use Rattle.ref_base.proofs.OutHeaps.{AreOutBy, AreOut, doomed_in}
 use Rattle.ref_base.proofs.OutRuns.{row_out}
 
-first_out : (config : Config) → AreOut config [] [] (first_state config)
-first_out config = record {
+pub first_out : (Dead : ℕ → Type 0) (Shown : ℕ → ℕ → Type 0) (config : Config)
+    → AreOutBy Dead Shown [] (first_state config)
+first_out Dead Shown config = record {
   closed = record {
     slots = no_slot (λ n. has [] n ≡ false) (16 * config.mutators);
     holds = λ n held. refl;
@@ -52,9 +53,9 @@ legal_out config rows b run =
       now,
       subst (λ (w : World). Agreeing now w b) (sym (replayed_last (first_world config) past row))
           (row_agrees known.0 (replayed config past) a row b known.1 counted h),
-      row_out config past known.0 a row b known.1 known.2 counted h,
+      row_out config past known.0 a row known.1 known.2 b counted h,
     ))
-    ([], first_agrees config, first_out config) rows b run
+    ([], first_agrees config, first_out (WasDoomed config []) (MarkEnded config []) config) rows b run
 
 -- an object of the collector is one of the replay that isn't gone
 pub there_in : (gone : List ℕ) (w : World) (b : State) → Agrees gone w b → (n : ℕ)
@@ -66,9 +67,9 @@ there_in gone w b agrees n there =
     ∙ ap (λ (v : World). is_there v.heap.objects n) (sym agrees) ∙ there)
 
 -- what is gone or doomed is out of reach
-all_out : (config : Config) (rows : List Row) (gone : List ℕ) (b : State) → AreOut config rows gone b
+all_out : (Dead : ℕ → Type 0) (Shown : ℕ → ℕ → Type 0) (gone : List ℕ) (b : State) → AreOutBy Dead Shown gone b
     → AreOutOfReach (gone ++ b.doomed) (graph_of b.world)
-all_out config rows gone b out =
+all_out Dead Shown gone b out =
     let closed : IsClosed (λ n. has (gone ++ b.doomed) n ≡ false) b.world =
     subst (λ ds. IsClosed (λ n. has (gone ++ ds) n ≡ false) b.world) out.whole out.closed in
     record {
@@ -87,7 +88,7 @@ legal_agrees config rows b run =
       known.0,
       known.1.agrees,
       λ n out. known.2.dead n (has-left known.0 later n out),
-      all_out config rows known.0 b known.2,
+      all_out (WasDoomed config rows) (MarkEnded config rows) known.0 b known.2,
     )
 
 -- so the replay has its hands and queues
@@ -102,12 +103,10 @@ legal_others config rows b run =
     }
 
 -- what is doomed, and not swept yet, is out of reach of all else that is there
-pub doomed_out : (config : Config) (rows : List Row) (b : State) → IsRun (first_state config) rows b
-    → AreOutOfReach b.doomed (graph_of b.world)
-doomed_out config rows b run =
-    let known = legal_out config rows b run in
-    let gone : List ℕ = known.0 in
-    let all : AreOutOfReach (gone ++ b.doomed) (graph_of b.world) = all_out config rows gone b known.2 in
+pub out_of_reach : (Dead : ℕ → Type 0) (Shown : ℕ → ℕ → Type 0) (gone : List ℕ) (w : World) (b : State)
+    → Agreeing gone w b → AreOutBy Dead Shown gone b → AreOutOfReach b.doomed (graph_of b.world)
+out_of_reach Dead Shown gone w b is out =
+    let all : AreOutOfReach (gone ++ b.doomed) (graph_of b.world) = all_out Dead Shown gone b out in
     let spared : (n : ℕ) → has (gone ++ b.doomed) n ≡ false → has b.doomed n ≡ false =
     λ n out. (or_parts (has gone n) (has b.doomed n) (sym (has-append gone b.doomed n) ∙ out)).1 in
     record {
@@ -115,7 +114,13 @@ doomed_out config rows b run =
       others = λ m n out target.
           let there : is_there b.world.heap.objects m ≡ true =
           target_there any_referent (object_at b.world.heap.objects m) n target in
-          let kept : has gone m ≡ false = (there_in gone (replayed config rows) b known.1.agrees m there).0 in
+          let kept : has gone m ≡ false = (there_in gone w b is.agrees m there).0 in
           spared n
           (all.others m n (has-append gone b.doomed m ∙ or_from (has gone m) (has b.doomed m) kept out) target);
     }
+
+pub doomed_out : (config : Config) (rows : List Row) (b : State) → IsRun (first_state config) rows b
+    → AreOutOfReach b.doomed (graph_of b.world)
+doomed_out config rows b run =
+    let known = legal_out config rows b run in
+    out_of_reach (WasDoomed config rows) (MarkEnded config rows) known.0 (replayed config rows) b known.1 known.2

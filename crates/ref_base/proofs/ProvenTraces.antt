@@ -12,7 +12,7 @@ use Rattle.ref_base.specs.Worlds.{World, Notice, hand_of}
 use Rattle.ref_base.specs.Collectors.{State, first_state}
 use Rattle.ref_base.specs.Replay.{begun}
 use Rattle.ref_base.specs.Refusals.{refusal}
-use Rattle.ref_base.specs.CollectorRows.{ticked, begun_state, IsAnswer, IsRow, IsRun}
+use Rattle.ref_base.specs.CollectorRows.{ticked, begun_state, HeapAccepts, IsAnswer, IsRow, IsRun}
 use Rattle.ref_base.specs.WorkerOrder.{registers, is_registered}
 use Rattle.ref_base.specs.Provenance.{has_row, unhooks, clears, cycle_after, cleared_from, IsCause, IsProven}
 use Rattle.ref_base.specs.Provenance.{IsProvenIn, AreProven}
@@ -23,6 +23,7 @@ use Rattle.ref_base.specs.declared.cause.Cause.{Cause}
 use Rattle.ref_base.specs.declared.cause.Cause.TheVariants.{Own, Cycle}
 use Rattle.ref_base.specs.declared.urgency.Urgency.{Urgency}
 use Rattle.ref_base.specs.declared.fault.Fault.{Fault}
+use Rattle.ref_base.specs.declared.heap_step.HeapStep.TheVariants as heap
 use Rattle.ref_base.specs.declared.step.Step.{Step}
 use Rattle.ref_base.specs.declared.step.Step.TheVariants as steps
 use Rattle.ref_base.specs.declared.reply.Reply.{Reply}
@@ -60,7 +61,7 @@ abbrev pub cycle_from : ℕ → List Row → ℕ
 cycle_from now [] = now
 cycle_from now (row ∷ rows) = cycle_from (cycle_after now row.step row.reply) rows
 
-cycle_last : (now : ℕ) (rows : List Row) (row : Row)
+pub cycle_last : (now : ℕ) (rows : List Row) (row : Row)
     → cycle_from now (rows ++ row ∷ []) ≡ cycle_after (cycle_from now rows) row.step row.reply
 cycle_last now [] row = refl
 cycle_last now (other ∷ rows) row = cycle_last (cycle_after now other.step other.reply) rows row
@@ -120,7 +121,7 @@ queue_got clock None = refl
 queue_got clock (Some r) =
     elim (cases_Bool (is_soft r.strength)) [ inl soft ↦ simp soft refl | inr other ↦ simp other refl ]
 
-made_lasts : (rows : List Row) → Lasts (IsMade rows)
+pub made_lasts : (rows : List Row) → Lasts (IsMade rows)
 made_lasts rows = record {
   stores = λ o i value is. is;
   clears = λ o is q there. is q (sym (queue-cleared o.reference) ∙ there);
@@ -195,23 +196,28 @@ mints past a (steps.ClearNext k) reply cycle known =
 mints past a step reply cycle known = tt
 
 -- a begin changes the cycle as it says
-begun_cycle : (a b : State) (now : ℕ) (how : Urgency) (reply : Reply) (fault : Option Fault)
+pub begun_cycle : (a b : State) (now : ℕ) (how : Urgency) (reply : Reply)
+    → HeapAccepts a (heap.Begin now how) reply b
+    → b.world.cycle ≡ cycle_after a.world.cycle (steps.Begin now how) reply
+begun_cycle a b now how reply row =
+    let c : State = begun_state a (begun a.world now how (a.world.cycle + 1)) in
+    ap (λ (w : World). w.cycle) (but_world (ticked c) b row.1 ∙ ticked_world c)
+    ∙ sym (ap (λ (r : Reply). cycle_after a.world.cycle (steps.Begin now how) r) row.0)
+
+answered_cycle : (a b : State) (now : ℕ) (how : Urgency) (reply : Reply) (fault : Option Fault)
     → IsAnswer a fault (steps.Begin now how) reply b
     → b.world.cycle ≡ cycle_after a.world.cycle (steps.Begin now how) reply
-begun_cycle a b now how reply (Some fault) row =
+answered_cycle a b now how reply (Some fault) row =
     ap (λ (s : State). s.world.cycle) row.1
     ∙ sym (ap (λ (r : Reply). cycle_after a.world.cycle (steps.Begin now how) r) row.0)
-begun_cycle a b now how reply None row =
-    let c : State = begun_state a (begun a.world now how (a.world.cycle + 1)) in
-    ap (λ (s : State). s.world.cycle) row.2
-    ∙ ap (λ (w : World). w.cycle) (but_world (ticked c) row.0 row.1.1 ∙ ticked_world c)
-    ∙ sym (ap (λ (r : Reply). cycle_after a.world.cycle (steps.Begin now how) r) row.1.0)
+answered_cycle a b now how reply None row =
+    ap (λ (s : State). s.world.cycle) row.2 ∙ begun_cycle a row.0 now how reply row.1
 
 -- and so each row does
 step_cycle : (a b : State) (step : Step) (reply : Reply) → IsAnswer a (refusal a step) step reply b
     → Stays a.world.cycle step b.world.cycle → b.world.cycle ≡ cycle_after a.world.cycle step reply
 step_cycle a b (steps.Begin now how) reply row stays =
-    begun_cycle a b now how reply (refusal a (steps.Begin now how)) row
+    answered_cycle a b now how reply (refusal a (steps.Begin now how)) row
 step_cycle a b step reply row stays = stays
 
 pub lifted : (past : List Row) (a : State) (row : Row) → Known past a.world

@@ -66,7 +66,7 @@ scanned_told a b (heap.Sweep k) (replies.Swept count) plain row = refl
 scanned_told a b (heap.Sweep k) reply plain row = refl
 scanned_told a b step reply plain row = refl
 
-heap_tells : (a b : State) (step : NamedStep) (reply : Reply) → HeapAccepts a step reply b
+pub heap_tells : (a b : State) (step : NamedStep) (reply : Reply) → HeapAccepts a step reply b
     → Moves a (Some step) reply b
 heap_tells a b heap.EndMark reply row = record {
   pending = ap (λ (s : State). s.world.pending) row.after;

@@ -9,10 +9,11 @@ use Rattle.std.proofs.lemmas.List.{length-set, length-replicate}
 use Rattle.std.proofs.lemmas.Map.Keys.{IsDistinct-push}
 use Rattle.ref_base.specs.Members.{has}
 use Rattle.ref_base.specs.Worlds.{Notice, hand_of}
-use Rattle.ref_base.specs.HeapSteps.{heap_step, spending}
+use Rattle.ref_base.specs.HeapSteps.{NamedStep, heap_step, spending}
 use Rattle.ref_base.specs.Collectors.{State, first_state, joined}
-use Rattle.ref_base.specs.Refusals.{unless, refusal, is_in, is_worker}
-use Rattle.ref_base.specs.CollectorRows.{IsLeft, list_at, emptied, IsAnswer, IsRow, IsRun}
+use Rattle.ref_base.specs.Refusals.{unless, heap_refusal, refusal, is_in, is_worker}
+use Rattle.ref_base.specs.CollectorRows.{IsLeft, list_at, emptied, IsHeapAnswer, IsHeapRow, IsAnswer, IsRow}
+use Rattle.ref_base.specs.CollectorRows.{IsRun, AcceptsAsking}
 use Rattle.ref_base.specs.LegalTraces.{IsLegal}
 use Rattle.ref_base.specs.ScannedRows.{scanned_with, scanned_from, scanned_in_cycle}
 use Rattle.ref_base.specs.declared.config.Config.{Config}
@@ -44,28 +45,44 @@ legal_left config rows b run =
     (λ _ said. absurd (false≢true said)) rows b run
 
 grey : (a b : State) (marks left : Bool)
-    → IsAnswer a (unless marks WrongPhase (unless (not left) GreyLeft None)) steps.EndMark (replies.Refused GreyLeft) b
+    → IsHeapAnswer a (unless marks WrongPhase (unless (not left) GreyLeft None)) heap.EndMark (replies.Refused GreyLeft) b
     → (marks ≡ true) × (left ≡ true)
 grey a b true true row = (refl, refl)
-grey a b true false row = let no = row.1.answer in absurd cc
+grey a b true false row = let no = row.answer in absurd cc
 grey a b false left row = let no = row.0 in absurd cc
 
--- a mark's end that is refused since an object is left is refused rightly
+-- a mark's end that a heap refuses since an object is left is refused rightly
+pub left_if_grey : (heap_no : ℕ) (a b : State) → LeftMeans a
+    → IsHeapRow heap_no a heap.EndMark (replies.Refused GreyLeft) b → (n : ℕ) × IsLeft a n
+left_if_grey heap_no a b means row =
+    let both = grey a b (is_in a.world.phase Marking) a.left row in means both.0 both.1
+
+-- what a step of the world asks of its heap is answered alike there
+of_heap : (a b : State) (asked : NamedStep) (step : Step) (reply : Reply) (fault : Option Fault)
+    → heap_step a.world step ≡ Some asked → IsAnswer a fault step reply b
+    → (c : State) × IsHeapAnswer a fault asked reply c
+of_heap a b asked step reply (Some fault) asks row = (b, row)
+of_heap a b asked step reply None asks row =
+    let accepts : AcceptsAsking a (Some asked) step reply b =
+    subst (λ (o : Option NamedStep). AcceptsAsking a o step reply b) asks row in
+    (accepts.0, accepts.1)
+
+-- and so it is in a world
 pub refused_left : (config : Config) (front : List Row) (a b : State) → IsRun (first_state config) front a
     → IsRow a (record { step = steps.EndMark; reply = replies.Refused GreyLeft }) b → (n : ℕ) × IsLeft a n
 refused_left config front a b run row =
-    let both = grey a b (is_in a.world.phase Marking) a.left row in
-    legal_left config front a run both.0 both.1
+    let asked = of_heap a b heap.EndMark steps.EndMark (replies.Refused GreyLeft) (refusal a steps.EndMark) refl row in
+    left_if_grey 0 a asked.0 (legal_left config front a run) asked.1
 
 -- ---- no object is scanned twice
 
 -- the rows tell of no object twice, and the state has each; and it has a list for each worker
-record HasScanned (ns : List ℕ) (a : State) : Type 0 where
-  distinct : IsDistinct nat_eq ns
-  there : (n : ℕ) → has ns n ≡ true → has (joined a.scanned) n ≡ true
-  workers : length a.scanned ≡ a.world.heap.config.workers
+pub record HasScanned (ns : List ℕ) (a : State) : Type 0 where
+  pub distinct : IsDistinct nat_eq ns
+  pub there : (n : ℕ) → has ns n ≡ true → has (joined a.scanned) n ≡ true
+  pub workers : length a.scanned ≡ a.world.heap.config.workers
 
-still_scanned : (ns : List ℕ) (a b : State) → HasScanned ns a → b.scanned ≡ a.scanned
+pub still_scanned : (ns : List ℕ) (a b : State) → HasScanned ns a → b.scanned ≡ a.scanned
     → b.world.heap.config ≡ a.world.heap.config → HasScanned ns b
 still_scanned ns a b scanned same config = record {
   distinct = scanned.distinct;
@@ -74,17 +91,19 @@ still_scanned ns a b scanned same config = record {
 }
 
 -- what a scan's row tells: the worker is there, and what it scanned wasn't scanned before
-scan_tells : (a b : State) (k n : ℕ) (fault : Option Fault) → refusal a (steps.Scan k) ≡ fault
-    → IsAnswer a fault (steps.Scan k) (replies.Scanned n) b
-    → (k < a.world.heap.config.workers) × (has (joined a.scanned) n ≡ false)
-scan_tells a b k n (Some fault) is row = let no = row.0 in absurd cc
-scan_tells a b k n None is row =
-    let first = unless_passes (is_worker a.world.heap k) _ _ is in
-    (ltb-true k a.world.heap.config.workers first.0, row.1.1.2)
+abbrev pub ScansAnew : State → ℕ → ℕ → Type 0
+ScansAnew a k n = (k < a.world.heap.config.workers) × (has (joined a.scanned) n ≡ false)
 
-one_more : (ns : List ℕ) (a b : State) (k n : ℕ) → HasScanned ns a
-    → (k < a.world.heap.config.workers) × (has (joined a.scanned) n ≡ false)
-    → b.scanned ≡ scanned_after a.scanned (Some (heap.Scan k)) (replies.Scanned n)
+pub scan_tells : (heap_no : ℕ) (a b : State) (k n : ℕ) (fault : Option Fault)
+    → heap_refusal heap_no a (heap.Scan k) ≡ fault → IsHeapAnswer a fault (heap.Scan k) (replies.Scanned n) b
+    → ScansAnew a k n
+scan_tells heap_no a b k n (Some fault) is row = let no = row.0 in absurd cc
+scan_tells heap_no a b k n None is row =
+    let first = unless_passes (is_worker a.world.heap k) _ _ is in
+    (ltb-true k a.world.heap.config.workers first.0, row.1.2)
+
+pub one_more : (ns : List ℕ) (a b : State) (k n : ℕ) → HasScanned ns a
+    → ScansAnew a k n → b.scanned ≡ scanned_after a.scanned (Some (heap.Scan k)) (replies.Scanned n)
     → b.world.heap.config ≡ a.world.heap.config → HasScanned (ns ++ n ∷ []) b
 one_more ns a b k n scanned tells is config =
     let within : k < length a.scanned = rw scanned.workers tells.0 in
@@ -109,7 +128,7 @@ one_more ns a b k n scanned tells is config =
           ∙ scanned.workers ∙ ap (λ (c : Config). c.workers) (sym config);
     }
 
-begins : (ns : List ℕ) (a b : State) → HasScanned ns a → b.scanned ≡ emptied a.scanned
+pub begins : (ns : List ℕ) (a b : State) → HasScanned ns a → b.scanned ≡ emptied a.scanned
     → b.world.heap.config ≡ a.world.heap.config → HasScanned [] b
 begins ns a b scanned is config = record {
   distinct = distinct_nil;
@@ -133,7 +152,9 @@ step_scanned : (ns : List ℕ) (a b : State) (step : Step) (reply : Reply) → H
     → IsAnswer a (refusal a step) step reply b → Moves a (heap_step a.world step) reply b
     → HasScanned (scanned_with ns step reply) b
 step_scanned ns a b (steps.Scan k) (replies.Scanned n) scanned row moves =
-    one_more ns a b k n scanned (scan_tells a b k n (refusal a (steps.Scan k)) refl row) moves.scanned moves.config
+    let fault : Option Fault = refusal a (steps.Scan k) in
+    let asked = of_heap a b (heap.Scan k) (steps.Scan k) (replies.Scanned n) fault refl row in
+    one_more ns a b k n scanned (scan_tells 0 a asked.0 k n fault refl asked.1) moves.scanned moves.config
 step_scanned ns a b (steps.Begin now how) (replies.Cycle n) scanned row moves =
     begins ns a b scanned moves.scanned moves.config
 step_scanned ns a b (steps.Adopt m d) reply scanned row moves =
@@ -143,10 +164,17 @@ step_scanned ns a b (steps.Release who) reply scanned row moves =
     still_scanned ns a b scanned (moves.scanned ∙ release_scans (hand_of a.world who) a.scanned reply) moves.config
 step_scanned ns a b step reply scanned row moves = still_scanned ns a b scanned moves.scanned moves.config
 
-scanned_last : (ns : List ℕ) (past : List Row) (row : Row)
+pub scanned_last : (ns : List ℕ) (past : List Row) (row : Row)
     → scanned_from ns (past ++ row ∷ []) ≡ scanned_with (scanned_from ns past) row.step row.reply
 scanned_last ns [] row = refl
 scanned_last ns (other ∷ past) row = scanned_last (scanned_with ns other.step other.reply) past row
+
+pub first_scanned : (config : Config) → HasScanned [] (first_state config)
+first_scanned config = record {
+  distinct = distinct_nil;
+  there = λ n has_it. absurd (false≢true has_it);
+  workers = length-replicate config.workers [];
+}
 
 -- no object is scanned twice in a cycle
 pub legal_scanned_once : (config : Config) (rows : List Row) → IsLegal config rows
@@ -157,9 +185,5 @@ legal_scanned_once config rows legal =
     subst (λ ns. HasScanned ns b) (sym (scanned_last [] past row))
     (step_scanned (scanned_in_cycle past) a b row.step row.reply scanned h
     (row_moves a row b (legal_counted config past a before) h)))
-    (record {
-      distinct = distinct_nil;
-      there = λ n has_it. absurd (false≢true has_it);
-      workers = length-replicate config.workers [];
-    }) rows legal.0 legal.1 in
+    (first_scanned config) rows legal.0 legal.1 in
     scanned.distinct

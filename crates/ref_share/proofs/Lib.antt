@@ -4,6 +4,19 @@ pub mod Notices
 pub mod Places
 pub mod QueueRuns
 pub mod HeldRuns
+pub mod HeapRuns
+pub mod HeapReplays
+pub mod ClearedRuns
+pub mod LeavingRuns
+pub mod NamedRuns
+pub mod HeapRows
+pub mod ScannedRuns
+pub mod ProvenRuns
+pub mod MarkedRuns
+pub mod OrderRuns
+pub mod OnceCleared
+pub mod OnceRuns
 pub mod CleanCalls
 pub mod CleanRounds
 pub mod CleanRuns
+mod HeapExamples

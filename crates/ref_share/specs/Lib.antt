@@ -11,6 +11,7 @@ pub mod Deliveries
 pub mod QueueStates
 pub mod QueueHistories
 pub mod HeapHistories
+pub mod HeapTraces
 pub mod CleanMachines
 pub mod CleanMoves
 pub mod CleanSeats

@@ -2,18 +2,42 @@
 //! steps, turn by turn.
 
 ghost use Rattle.std.specs.Prelude.{◌≡◌, ℕ, ◌+◌, ◌<◌, true, List, [], ◌∷◌, ◌++◌, length, Ok, Option, Some, None};
+ghost use Rattle.std.specs.Prelude.{nat_eq};
+ghost use Rattle.std.specs.List.{IsDistinct};
+ghost use Rattle.ref_base.specs.CollectorRows.{IsLeft, doomed_at, referent_of, is_subsequence};
 ghost use Rattle.ref_base.specs.CountedHolds.{tally};
+ghost use Rattle.ref_base.specs.DoomedSets.{new_clears};
+ghost use Rattle.ref_base.specs.Heaps.{slot_at, reference_at};
+ghost use Rattle.ref_base.specs.HeapSteps.{NamedStep};
+ghost use Rattle.ref_base.specs.LeavingEdges.{FirstLeaves, LeavesBy};
+ghost use Rattle.ref_base.specs.MarkEnds.{AreOutOfReach};
+ghost use Rattle.ref_base.specs.Members.{has};
+ghost use Rattle.ref_base.specs.Paths.{IsPath, soft_and_weak_referents};
+ghost use Rattle.ref_base.specs.Provenance.{IsProven};
+ghost use Rattle.ref_base.specs.ScannedRows.{scanned_in_cycle};
+ghost use Rattle.ref_base.specs.WorkerOrder.{clearing_order};
+ghost use Rattle.ref_base.specs.Worlds.{graph_of};
+ghost use Rattle.ref_base.specs.declared.cause.Cause.TheVariants.{Cycle};
 ghost use Rattle.ref_base.specs.declared.config.Config.{Config};
+ghost use Rattle.ref_base.specs.declared.fault.Fault.TheVariants.{GreyLeft};
+ghost use Rattle.ref_base.specs.declared.heap_step.HeapStep.TheVariants.{EndMark, Get};
 ghost use Rattle.ref_base.specs.declared.heap_step.HoldName.{HoldName};
+ghost use Rattle.ref_base.specs.declared.reply.Reply.TheVariants.{Refused, Doomed, Object};
 ghost use Rattle.ref_clear.specs.ClearHeaps.{HeldNotice};
 ghost use Rattle.ref_queue.specs.CleanTables.{job_of};
 ghost use Rattle.ref_queue.specs.declared.queue.Put.TheVariants.{Added};
+ghost use Rattle.ref_turn.specs.History.{Leads};
 ghost use Rattle.ref_turn.specs.Seats.{entry};
+ghost use Rattle.ref_world.specs.Cores.{as_notice};
+ghost use Rattle.ref_world.specs.HeapReplies.{told_reply};
+ghost use Rattle.ref_world.specs.declared.heap_machine.HeapReply.{HeapReply};
+ghost use Rattle.ref_world.specs.declared.heap_machine.HeapReply.TheVariants.{Told, Notice};
 ghost use Rattle.ref_share.specs.CleanHistories.{some_registers, job_left};
 ghost use Rattle.ref_share.specs.CleanSeats.{Jobs, CleanEntry, IsCleanRun};
 ghost use Rattle.ref_share.specs.HeapHistories.{minted, spent, spent_by};
-ghost use Rattle.ref_share.specs.HeapMachines.{HeapState};
+ghost use Rattle.ref_share.specs.HeapMachines.{HeapState, IsHeapMove};
 ghost use Rattle.ref_share.specs.HeapSeats.{HeapEntry, IsHeapRun};
+ghost use Rattle.ref_share.specs.HeapTraces.{HeapMarkEnded, handed_in, handed_on, named_by, rows_of};
 ghost use Rattle.ref_share.specs.QueueHistories.{KeepsLists, put_in, was_closed};
 ghost use Rattle.ref_share.specs.QueueSeats.{QueueEntry, IsQueueRun};
 ghost use Rattle.ref_share.specs.QueueStates.{NoticeLists};
@@ -56,6 +80,98 @@ pub fn each_hold_that_is_taken_back_was_given_out()
     ensures { (config : Config) (number : ℕ) (front back : List HeapEntry) (call : HeapEntry) (last : HeapState) (n : ℕ)
         → IsHeapRun config number (front ++ call ∷ back) last → spent_by call.step call.reply ≡ n ∷ []
         → tally (spent front) n < tally (minted front) n }
+{}
+
+/// What a mark's end clears in the history of a heap, it clears at one instant and for good, whichever seats make the
+/// calls: each new clear reads as cleared in every state from then on, or it is no longer there.
+pub fn what_a_marks_end_clears_reads_as_cleared_from_then_on()
+    ensures { (config : Config) (number count : ℕ) (front : List HeapEntry) (a b : HeapState) (calls : List HeapEntry)
+        (c : HeapState) (n : ℕ) → IsHeapRun config number front a → IsHeapMove a EndMark (Told (Doomed count)) b
+        → Leads IsHeapMove b calls c → has (new_clears a.state.world.heap.objects (doomed_at a.state)) n ≡ true
+        → referent_of (reference_at c.state.world.heap n) ≡ None }
+{}
+
+/// And no get of it answers an object from then on, whoever holds it.
+pub fn no_get_answers_what_a_marks_end_cleared()
+    ensures { (config : Config) (number count : ℕ) (front : List HeapEntry) (a b : HeapState) (calls : List HeapEntry)
+        (c : HeapState) (n m d s k : ℕ) (e : HeapState) → IsHeapRun config number front a
+        → IsHeapMove a EndMark (Told (Doomed count)) b → Leads IsHeapMove b calls c
+        → has (new_clears a.state.world.heap.objects (doomed_at a.state)) n ≡ true
+        → slot_at c.state.world.heap m s ≡ Some n → ¬ (IsHeapMove c (Get m d s) (Told (Object k)) e) }
+{}
+
+/// What a mark's end dooms in the history of a heap, no call gives from then on, neither into a slot nor as a hold or a
+/// notice, whichever seat makes it.
+pub fn no_call_gives_what_a_marks_end_doomed()
+    ensures { (config : Config) (number count : ℕ) (front : List HeapEntry) (a b : HeapState) (calls : List HeapEntry)
+        (c : HeapState) (step : NamedStep) (reply : HeapReply) (n : ℕ) (e : HeapState)
+        → IsHeapRun config number front a → IsHeapMove a EndMark (Told (Doomed count)) b → Leads IsHeapMove b calls c
+        → has (doomed_at a.state) n ≡ true → IsHeapMove c step reply e → named_by (told_reply reply) ≡ Some n
+        → ⊥ }
+{}
+
+/// After every history of a heap, also while references are cleared and while the sweep goes on, nothing reaches what
+/// is doomed and not swept yet: no slot, hold or pending reference names it, and no other object has it as a field or
+/// as its referent.
+pub fn nothing_else_refers_to_the_doomed()
+    ensures { (config : Config) (number : ℕ) (calls : List HeapEntry) (last : HeapState)
+        → IsHeapRun config number calls last → AreOutOfReach last.state.doomed (graph_of last.state.world) }
+{}
+
+/// Where a mark ends in the history of a heap, each path through soft and weak referents to what it dooms has a first
+/// step to the doomed, and that is by the referent of a soft or weak reference that is a new clear.
+pub fn each_path_to_what_a_marks_end_dooms_leaves_by_a_new_clear()
+    ensures { (a : HeapState) (count : ℕ) (b : HeapState) (n : ℕ) (before : List ℕ)
+        → IsHeapMove a EndMark (Told (Doomed count)) b
+        → IsPath soft_and_weak_referents (graph_of a.state.world) n before → has (doomed_at a.state) n ≡ true
+        → (outer inner : ℕ) × FirstLeaves (doomed_at a.state) n before outer inner
+        × LeavesBy a.state.world.heap.objects (doomed_at a.state) outer inner }
+{}
+
+/// In the history of a heap no object is scanned twice in a cycle.
+pub fn no_object_is_scanned_twice_in_a_cycle()
+    ensures { (config : Config) (number : ℕ) (calls : List HeapEntry) (last : HeapState)
+        → IsHeapRun config number calls last → IsDistinct nat_eq (scanned_in_cycle (rows_of calls)) }
+{}
+
+/// And where a mark's end is refused because an object is left to scan, one is: it was ever kept in the mark, it was
+/// made before the cycle began, and no call of the cycle scanned it.
+pub fn a_mark_goes_on_only_while_an_object_is_left()
+    ensures { (config : Config) (number : ℕ) (front : List HeapEntry) (a b : HeapState)
+        → IsHeapRun config number front a → IsHeapMove a EndMark (Told (Refused GreyLeft)) b
+        → (n : ℕ) × IsLeft a.state n }
+{}
+
+/// In the history of a heap each notice that an unhook or a hand gives comes from the entries up to that one: one of
+/// them made its reference, registered with the notice's queue; and one is its cause, an unhook that gave a notice of
+/// the reference, or its clearing, in the cycle and by the worker that the cause names.
+pub fn each_notice_that_is_given_has_its_own_queue_and_cause()
+    ensures { (config : Config) (number by : ℕ) (front back : List HeapEntry) (step : NamedStep) (notice : HeldNotice)
+        (last : HeapState) → IsHeapRun config number (front ++ entry by step (Notice notice) ∷ back) last
+        → IsProven (rows_of (front ++ entry by step (Notice notice) ∷ [])) (as_notice notice) }
+{}
+
+/// And where its cause is a cycle, it comes after the end of that cycle's mark: in the world that the entries before
+/// that end give by replay, the notice's reference has a referent, an object to which no kept path leads.
+pub fn each_notice_of_a_cycle_comes_after_its_mark_ended()
+    ensures { (config : Config) (number by : ℕ) (front back : List HeapEntry) (step : NamedStep) (notice : HeldNotice)
+        (last : HeapState) (cycle worker : ℕ)
+        → IsHeapRun config number (front ++ entry by step (Notice notice) ∷ back) last
+        → notice.cause ≡ Cycle cycle worker → HeapMarkEnded config front cycle notice.hold.object }
+{}
+
+/// In the history of a heap workers hand each reference on at most once, over all cycles.
+pub fn each_reference_is_handed_on_at_most_once()
+    ensures { (config : Config) (number : ℕ) (calls : List HeapEntry) (last : HeapState)
+        → IsHeapRun config number calls last → IsDistinct nat_eq (handed_on calls) }
+{}
+
+/// And of what is registered with a queue, a worker hands the references on in the order in which it cleared them: none
+/// comes before one that was cleared earlier, though some may never come.
+pub fn each_worker_hands_on_in_its_clearing_order()
+    ensures { (config : Config) (number : ℕ) (calls : List HeapEntry) (last : HeapState) (k q : ℕ)
+        → IsHeapRun config number calls last
+        → is_subsequence (handed_in k q calls) (clearing_order (rows_of calls) k q) ≡ true }
 {}
 
 /// After every history of a cleaner, whatever its jobs are, each object has the job that was registered for it last,

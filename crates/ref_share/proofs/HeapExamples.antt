@@ -1,0 +1,126 @@
+-- What a worked history of a heap tells, as one reads it off its entries: three seats, two workers, and two notices of
+-- one worker that are out at once.
+use Rattle.std.proofs.Common.{◌≡◌, ℕ, List, [], ◌∷◌, take, Some, refl}
+use Rattle.ref_base.specs.HeapSteps.{NamedStep}
+use Rattle.ref_base.specs.ScannedRows.{scanned_in_cycle}
+use Rattle.ref_base.specs.WorkerOrder.{clearing_order}
+use Rattle.ref_base.specs.Worlds.{graph_of}
+use Rattle.ref_base.specs.declared.cause.Cause.TheVariants.{Cycle}
+use Rattle.ref_base.specs.declared.config.Config.{Config}
+use Rattle.ref_base.specs.declared.heap_step.HeapStep.TheVariants as heap
+use Rattle.ref_base.specs.declared.heap_step.HoldName.{HoldName}
+use Rattle.ref_base.specs.declared.reply.Reply.{Reply}
+use Rattle.ref_base.specs.declared.reply.Reply.TheVariants as told
+use Rattle.ref_base.specs.declared.row.Row.{Row}
+use Rattle.ref_base.specs.declared.step.Step.{Step}
+use Rattle.ref_base.specs.declared.step.Step.TheVariants as steps
+use Rattle.ref_base.specs.declared.strength.Strength.TheVariants.{Weak}
+use Rattle.ref_base.specs.declared.urgency.Urgency.TheVariants.{Normal}
+use Rattle.ref_base.proofs.WorkedTraces.{config_of}
+use Rattle.ref_turn.specs.Seats.{entry}
+use Rattle.ref_world.specs.declared.heap_machine.HeapReply.TheVariants as replies
+use Rattle.ref_share.specs.HeapSeats.{HeapEntry}
+use Rattle.ref_share.specs.HeapTraces.{rows_of, heap_replayed, handed_on, handed_in}
+
+-- a hold of the heap with number 7
+abbrev hold : ℕ → HoldName
+hold n = record { heap_no = 7; object = n }
+
+-- a call that gives nothing out
+abbrev tells : ℕ → NamedStep → Reply → HeapEntry
+tells by step reply = entry by step (replies.Told reply)
+
+-- a worker's hand that gives the notice of a reference, for queue 0
+abbrev hands : ℕ → ℕ → ℕ → HeapEntry
+hands by k n = entry by (heap.Hand k) (replies.Notice (record { hold = hold n; queue = 0; cause = Cycle 1 k }))
+
+abbrev history : List HeapEntry
+history =
+    tells 0 (heap.New 0 0 0) (told.Object 1) ∷
+    tells 0 (heap.Refer 0 Weak 1 0 (Some 0) 0) (told.Object 2) ∷
+    tells 0 (heap.New 0 0 0) (told.Object 3) ∷
+    tells 0 (heap.Refer 0 Weak 2 0 (Some 0) 0) (told.Object 4) ∷
+    tells 0 (heap.New 0 0 0) (told.Object 5) ∷
+    tells 0 (heap.Refer 0 Weak 3 0 (Some 0) 0) (told.Object 6) ∷
+    entry 0 (heap.Hold 0 3) (replies.Held (hold 6)) ∷
+    tells 0 (heap.Drop 0 0) told.Done ∷
+    tells 0 (heap.Drop 0 3) told.Done ∷
+    tells 1 (heap.Begin 5 Normal) (told.Cycle 1) ∷
+    tells 1 (heap.Scan 0) (told.Scanned 2) ∷
+    tells 2 (heap.Scan 1) (told.Scanned 4) ∷
+    tells 1 (heap.Scan 0) (told.Scanned 6) ∷
+    tells 1 heap.EndMark (told.Doomed 3) ∷
+    tells 2 (heap.ClearNext 1) (told.Cleared 4) ∷
+    tells 1 (heap.ClearNext 0) (told.Cleared 2) ∷
+    tells 1 (heap.ClearNext 0) (told.Cleared 6) ∷
+    tells 1 heap.EndClear told.Done ∷
+    hands 1 0 2 ∷
+    hands 1 0 6 ∷
+    hands 2 1 4 ∷
+    tells 0 (heap.Adopt 0 4 (hold 6)) (told.Object 6) ∷
+    tells 1 (heap.Release (hold 2)) told.Done ∷
+    []
+
+-- ---- its rows
+
+abbrev row : Step → Reply → Row
+row step reply = record { step = step; reply = reply }
+
+the_hold_the_adopt_and_the_release_tell_no_row : rows_of history ≡
+    row (steps.New 0 0 0) (told.Object 1) ∷
+    row (steps.Refer 0 Weak 1 0 (Some 0) 0) (told.Object 2) ∷
+    row (steps.New 0 0 0) (told.Object 3) ∷
+    row (steps.Refer 0 Weak 2 0 (Some 0) 0) (told.Object 4) ∷
+    row (steps.New 0 0 0) (told.Object 5) ∷
+    row (steps.Refer 0 Weak 3 0 (Some 0) 0) (told.Object 6) ∷
+    row (steps.Drop 0 0) told.Done ∷
+    row (steps.Drop 0 3) told.Done ∷
+    row (steps.Begin 5 Normal) (told.Cycle 1) ∷
+    row (steps.Scan 0) (told.Scanned 2) ∷
+    row (steps.Scan 1) (told.Scanned 4) ∷
+    row (steps.Scan 0) (told.Scanned 6) ∷
+    row steps.EndMark (told.Doomed 3) ∷
+    row (steps.ClearNext 1) (told.Cleared 4) ∷
+    row (steps.ClearNext 0) (told.Cleared 2) ∷
+    row (steps.ClearNext 0) (told.Cleared 6) ∷
+    row steps.EndClear told.Done ∷
+    row (steps.Hand 0) (told.Notice 2 0 (Cycle 1 0)) ∷
+    row (steps.Hand 0) (told.Notice 6 0 (Cycle 1 0)) ∷
+    row (steps.Hand 1) (told.Notice 4 0 (Cycle 1 1)) ∷
+    []
+the_hold_the_adopt_and_the_release_tell_no_row = refl
+
+all_three_were_scanned : scanned_in_cycle (rows_of history) ≡ 2 ∷ 4 ∷ 6 ∷ []
+all_three_were_scanned = refl
+
+-- ---- its replay
+
+abbrev config : Config
+config = config_of 2
+
+-- at the mark's end object 6 is held, though no slot names it
+what_is_held_is_a_root : (graph_of (heap_replayed config (take 13 history))).roots ≡ 2 ∷ 4 ∷ 6 ∷ []
+what_is_held_is_a_root = refl
+
+each_notice_is_a_hold : (heap_replayed config (take 21 history)).heap.holds ≡ 2 ∷ 4 ∷ 6 ∷ 6 ∷ []
+each_notice_is_a_hold = refl
+
+an_adopt_and_a_release_take_one_back : (heap_replayed config history).heap.holds ≡ 4 ∷ 6 ∷ []
+an_adopt_and_a_release_take_one_back = refl
+
+-- ---- what it gives
+
+all_three_were_handed_on : handed_on history ≡ 2 ∷ 6 ∷ 4 ∷ []
+all_three_were_handed_on = refl
+
+worker_0_handed_two_on : handed_in 0 0 history ≡ 2 ∷ 6 ∷ []
+worker_0_handed_two_on = refl
+
+as_it_had_cleared_them : clearing_order (rows_of history) 0 0 ≡ 2 ∷ 6 ∷ []
+as_it_had_cleared_them = refl
+
+worker_1_handed_one_on : handed_in 1 0 history ≡ 4 ∷ []
+worker_1_handed_one_on = refl
+
+nothing_was_handed_on_for_another_queue : handed_in 0 1 history ≡ []
+nothing_was_handed_on_for_another_queue = refl

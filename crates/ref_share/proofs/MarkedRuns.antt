@@ -1,0 +1,128 @@
+-- The history of a heap: a notice of a cycle comes after the end of that cycle's mark, which showed what it had to.
+use Rattle.std.proofs.Common.{◌≡◌, ℕ, List, [], ◌∷◌, ◌++◌, None, inl, inr, refl, sym, subst}
+use Rattle.ref_base.specs.CollectorRows.{HeapAccepts, list_at}
+use Rattle.ref_base.specs.Collectors.{State}
+use Rattle.ref_base.specs.Heaps.{slot_at}
+use Rattle.ref_base.specs.HeapSteps.{NamedStep}
+use Rattle.ref_base.specs.Refusals.{heap_refusal}
+use Rattle.ref_base.specs.Worlds.{Notice, World, pending_of}
+use Rattle.ref_base.specs.declared.cause.Cause.{Cause}
+use Rattle.ref_base.specs.declared.cause.Cause.TheVariants.{Own, Cycle}
+use Rattle.ref_base.specs.declared.config.Config.{Config}
+use Rattle.ref_base.specs.declared.heap_step.HeapStep.TheVariants as heap
+use Rattle.ref_base.specs.declared.reply.Reply.{Reply}
+use Rattle.ref_base.specs.declared.reply.Reply.TheVariants as told
+use Rattle.ref_base.proofs.CarryHeaps.{Anew, heap_carries}
+use Rattle.ref_base.proofs.CarryLaws.{Carries}
+use Rattle.ref_base.proofs.CarryRows.{first_carries, carries_more}
+use Rattle.ref_base.proofs.GivenNotices.{unhooked, handed_on}
+use Rattle.ref_base.proofs.MarkedTraces.{any_lasts}
+use Rattle.ref_base.proofs.PhaseLaws.{of_phase}
+use Rattle.ref_base.proofs.WaitingClears.{look_tells, Tells}
+use Rattle.ref_turn.proofs.Logs.{leads_cut}
+use Rattle.ref_turn.specs.Seats.{entry}
+use Rattle.ref_clear.specs.ClearHeaps.{HeldNotice}
+use Rattle.ref_world.specs.Cores.{as_notice}
+use Rattle.ref_world.specs.HeapReplies.{told_reply}
+use Rattle.ref_world.specs.declared.heap_machine.HeapReply.TheVariants as replies
+use Rattle.ref_share.specs.HeapMachines.{HeapState, IsHeapMove}
+use Rattle.ref_share.specs.HeapSeats.{HeapEntry, IsHeapRun, first_heap_state}
+use Rattle.ref_share.specs.HeapTraces.{HeapMarkEnded}
+use Rattle.ref_share.proofs.HeapReplays.{IsKnown, IsOut, call_known, first_known, shown_more}
+use Rattle.ref_share.proofs.HeapRuns.{renumbered, move_kind, run_holds}
+
+-- where its cause is a cycle, that cycle's mark ended before, and showed this of n
+abbrev IsMarked : Config → List HeapEntry → ℕ → Cause → Type 0
+IsMarked config calls n Own = Unit {0}
+IsMarked config calls n (Cycle cycle k) = HeapMarkEnded config calls cycle n
+
+abbrev Marked : Config → List HeapEntry → Notice → Type 0
+Marked config calls notice = IsMarked config calls notice.object notice.cause
+
+abbrev AreMarked : Config → List HeapEntry → World → Type 0
+AreMarked config calls w = Carries (λ o. Unit {0}) (Marked config calls) (λ c. Unit {0}) w
+
+marked_more : (config : Config) (calls more : List HeapEntry) (n : ℕ) (cause : Cause) → IsMarked config calls n cause
+    → IsMarked config (calls ++ more) n cause
+marked_more config calls more n Own is = tt
+marked_more config calls more n (Cycle cycle k) is = shown_more config calls more cycle n is
+
+more_marked : (config : Config) (past : List HeapEntry) (call : HeapEntry) (w : World) → AreMarked config past w
+    → AreMarked config (past ++ call ∷ []) w
+more_marked config past call w marked =
+    let more : List HeapEntry = past ++ call ∷ [] in
+    carries_more (λ o. Unit {0}) (λ o. Unit {0}) (Marked config past) (Marked config more) (λ c. Unit {0})
+    (λ c. Unit {0}) w (λ o is. tt)
+    (λ notice is. marked_more config past (call ∷ []) notice.object notice.cause is) tt marked
+
+-- what a worker clears, the mark's end of the cycle that goes on has shown
+anew : (config : Config) (past : List HeapEntry) (gone : List ℕ) (a b : State) (asked : NamedStep) (reply : Reply)
+    → IsOut config past gone a → heap_refusal 0 a asked ≡ None → HeapAccepts a asked reply b
+    → Anew (λ o. Unit {0}) (Marked config past) (λ c. Unit {0}) a asked reply
+anew config past gone a b (heap.New m d k) reply out none row = λ is. tt
+anew config past gone a b (heap.Refer m strength d s q k) reply out none row = λ is. tt
+anew config past gone a b (heap.Begin now how) reply out none row = λ is. tt
+anew config past gone a b (heap.ClearNext k) reply out none row =
+    λ n q is there.
+    let tells : Tells a k (told.Cleared n) =
+    subst (Tells a k) is (look_tells a b k (list_at a.found k) reply refl row) in
+    out.shown (of_phase 0 a (heap.ClearNext k) none) n tells.0
+anew config past gone a b asked reply out none row = tt
+
+abbrev IsShown : Config → List HeapEntry → HeapState → Type 0
+IsShown config past x = IsKnown config past x × AreMarked config past x.state.world
+
+call_marked : (config : Config) (past : List HeapEntry) (x : HeapState) (call : HeapEntry) (y : HeapState)
+    → IsShown config past x → IsHeapMove x call.step call.reply y → IsShown config (past ++ call ∷ []) y
+call_marked config past x call y is move = (
+  call_known config past x call y is.0 move,
+  more_marked config past call y.state.world
+      (elim (move_kind x y call.step call.reply move) [
+        | inl of ↦ subst (λ (a : State). AreMarked config past a.world) (sym of.same) is.1
+        | inr of ↦
+            heap_carries (λ o. Unit {0}) (Marked config past) (λ c. Unit {0}) any_lasts x.state y.state
+            (renumbered call.step) (told_reply call.reply)
+            (anew config past is.0.0 x.state y.state (renumbered call.step) (told_reply call.reply) is.0.1.1 of.passes
+            of.accepts) is.1 of.accepts
+      ]),
+)
+
+run_marked : (config : Config) (number : ℕ) (calls : List HeapEntry) (last : HeapState)
+    → IsHeapRun config number calls last → IsShown config calls last
+run_marked config number calls last run =
+    run_holds (IsShown config) (call_marked config) config number
+    (first_known config number, first_carries (λ o. Unit {0}) (Marked config []) (λ c. Unit {0}) config tt) calls last
+    run
+
+-- ---- what is given
+
+given_at : (config : Config) (front : List HeapEntry) (x y : HeapState) (step : NamedStep) (notice : HeldNotice)
+    → AreMarked config front x.state.world → IsHeapMove x step (replies.Notice notice) y
+    → Marked config front (as_notice notice)
+given_at config front x y (heap.Unhook m s) notice marked move =
+    let a : State = x.state in
+    elim (move_kind x y (heap.Unhook m s) (replies.Notice notice) move) [
+      | inl of ↦ let no = of.answer in absurd cc
+      | inr of ↦
+          unhooked (λ o. Unit {0}) (Marked config front) (λ c. Unit {0}) a y.state m s (slot_at a.world.heap m s) _
+          notice.hold.object notice.queue notice.cause (λ n q is there. tt) refl of.accepts
+    ]
+given_at config front x y (heap.Hand k) notice marked move =
+    let a : State = x.state in
+    elim (move_kind x y (heap.Hand k) (replies.Notice notice) move) [
+      | inl of ↦ let no = of.answer in absurd cc
+      | inr of ↦
+          handed_on (Marked config front) a y.state k (pending_of a.world k) notice.hold.object notice.queue
+          notice.cause (marked.pendings k) of.accepts
+    ]
+given_at config front x y step notice marked move = absurd move.gives
+
+pub given_after_mark : (config : Config) (number by : ℕ) (front back : List HeapEntry) (step : NamedStep)
+    (notice : HeldNotice) (last : HeapState) (cycle worker : ℕ)
+    → IsHeapRun config number (front ++ entry by step (replies.Notice notice) ∷ back) last
+    → notice.cause ≡ Cycle cycle worker → HeapMarkEnded config front cycle notice.hold.object
+given_after_mark config number by front back step notice last cycle worker run is =
+    let call : HeapEntry = entry by step (replies.Notice notice) in
+    let parts = leads_cut IsHeapMove front (call ∷ back) (first_heap_state config number) last run in
+    subst (IsMarked config front notice.hold.object) is
+    (given_at config front parts.0 parts.2.0 step notice (run_marked config number front parts.0 parts.1).1 parts.2.1)

@@ -1,0 +1,217 @@
+-- The history of a heap: what a mark's end dooms, no call gives from then on.
+use Rattle.std.proofs.Common.{◌≡◌, ℕ, ◌+◌, ◌*◌, ◌==◌, Bool, true, false, List, [], ◌∷◌, ◌++◌, min, length}
+use Rattle.std.proofs.Common.{Option, Some, None}
+use Rattle.std.proofs.Common.{is_some, inl, inr, refl, sym, ap, ◌∙◌, subst}
+use Rattle.std.specs.List.{AllByRecursion}
+use Rattle.std.proofs.lemmas.Bool.{cases_Bool, and_parts, both_ways}
+use Rattle.std.proofs.lemmas.List.{append-nil}
+use Rattle.ref_base.specs.CollectorRows.{HeapAccepts, GivesAnewIf, Loads, Gets, Unhooks, Holds, Scans, ClearsNext}
+use Rattle.ref_base.specs.CollectorRows.{HandsOn, EndsMark}
+use Rattle.ref_base.specs.CollectorRows.{Sweeps, doomed_at, field_in, list_at, looked_at, reference_of, referent_got}
+use Rattle.ref_base.specs.CollectorRows.{referent_of, value_reply}
+use Rattle.ref_base.specs.Collectors.{State}
+use Rattle.ref_base.specs.Heaps.{slot_at, reference_at}
+use Rattle.ref_base.specs.HeapSteps.{NamedStep}
+use Rattle.ref_base.specs.Members.{has}
+use Rattle.ref_base.specs.Refusals.{heap_refusal, has_slot, is_counted}
+use Rattle.ref_base.specs.Worlds.{Pending, pending_of}
+use Rattle.ref_base.specs.declared.config.Config.{Config}
+use Rattle.ref_base.specs.declared.cause.Cause.TheVariants.{Own, Cycle}
+use Rattle.ref_base.specs.declared.heap_step.HeapStep.TheVariants as heap
+use Rattle.ref_base.specs.declared.phase.Phase.TheVariants.{Marking, Clearing}
+use Rattle.ref_base.specs.declared.reply.Reply.{Reply}
+use Rattle.ref_base.specs.declared.reply.Reply.TheVariants as told
+use Rattle.ref_base.proofs.AgreeHeaps.{gone_after}
+use Rattle.ref_base.proofs.ApartWorlds.{OfValue, IsClosed}
+use Rattle.ref_base.proofs.ClosedRows.{field_is, got_is}
+use Rattle.ref_base.proofs.HasLaws.{has-left, has-right}
+use Rattle.ref_base.proofs.OutHeaps.{off, off_is, off_same, next_out}
+use Rattle.ref_base.proofs.PhaseLaws.{of_phase}
+use Rattle.ref_base.proofs.RowLaws.{unless_passes}
+use Rattle.ref_turn.specs.History.{Leads}
+use Rattle.ref_turn.specs.Seats.{entry}
+use Rattle.ref_world.specs.HeapReplies.{told_reply}
+use Rattle.ref_world.specs.declared.heap_machine.HeapReply.{HeapReply}
+use Rattle.ref_world.specs.declared.heap_machine.HeapReply.TheVariants as replies
+use Rattle.ref_share.specs.HeapMachines.{HeapState, IsHeapMove}
+use Rattle.ref_share.specs.HeapSeats.{HeapEntry, IsHeapRun}
+use Rattle.ref_share.specs.HeapTraces.{heap_replayed, named_by}
+use Rattle.ref_share.proofs.HeapReplays.{IsKnownBut, run_known, refused_known, accepted_known}
+use Rattle.ref_share.proofs.HeapRuns.{renumbered, move_kind, goes_on}
+
+-- ---- what a row of a heap names
+
+-- V holds of what a reply names, where it holds of whatever a root names and of whatever that refers to
+module _ (V : ℕ → Type 0) where
+  told_is : (answer reply : Reply) → reply ≡ answer → OfValue V (named_by answer) → OfValue V (named_by reply)
+  told_is answer reply is holds = subst (λ (r : Reply). OfValue V (named_by r)) (sym is) holds
+
+  value_is : (value : Option ℕ) → OfValue V value → OfValue V (named_by (value_reply value))
+  value_is None is = tt
+  value_is (Some n) is = is
+
+  anew_is : (c b : State) (marks : Bool) (n : ℕ) (reply : Reply) → V n → GivesAnewIf marks (told.Object n) c reply b
+      → OfValue V (named_by reply)
+  anew_is c b true n reply is row = told_is (told.Object n) reply row.0 is
+  anew_is c b false n reply is row = told_is (told.Object n) reply row.0 is
+
+  module _ (a b : State) (closed : IsClosed V a.world) where
+    loads : (m d : ℕ) (value : Option ℕ) (reply : Reply) → OfValue V value → Loads a m d value reply b
+        → OfValue V (named_by reply)
+    loads m d None reply is row = told_is told.Null reply row.0 tt
+    loads m d (Some n) reply is row = anew_is _ b _ n reply is row
+
+    gets : (m d s : ℕ) (value : Option ℕ) (reply : Reply) → OfValue V value → Gets a m d s value reply b
+        → OfValue V (named_by reply)
+    gets m d s None reply is row = told_is told.Null reply row.0 tt
+    gets m d s (Some n) reply is row = anew_is _ b _ n reply is row
+
+    unhooks : (m s : ℕ) (held queue : Option ℕ) (reply : Reply) → OfValue V held → Unhooks a m s held queue reply b
+        → OfValue V (named_by reply)
+    unhooks m s None queue reply is row = told_is told.Nothing reply row.0 tt
+    unhooks m s (Some n) None reply is row = told_is told.Nothing reply row.0 tt
+    unhooks m s (Some n) (Some q) reply is row = told_is (told.Notice n q Own) reply row.0 is
+
+    holds : (held : Option ℕ) (reply : Reply) → OfValue V held → Holds a held reply b → OfValue V (named_by reply)
+    holds None reply is row = absurd row
+    holds (Some n) reply is row = told_is (told.Object n) reply row.0 is
+
+    scans : (k : ℕ) (reply : Reply) → Scans a k reply b → OfValue V (named_by reply)
+    scans k (told.Scanned n) row = tt
+    scans k reply row = told_is told.Nothing reply row.1.0 tt
+
+    looks : (k : ℕ) (found : List ℕ) (reply : Reply) → ClearsNext a k found reply b → OfValue V (named_by reply)
+    looks k [] reply row = told_is told.Nothing reply row.0 tt
+    looks k (n ∷ rest) reply row =
+        told_is (looked_at a k n) reply row.0
+        (elim (cases_Bool (has a.cleared n)) [
+          | inl clears ↦ simp clears tt
+          | inr other ↦ elim (cases_Bool (is_some (referent_of (reference_at a.world.heap n)))) [
+            | inl some ↦ simp (other, some) tt
+            | inr none ↦ simp (other, none) tt
+          ]
+        ])
+
+    hands_on : (k : ℕ) (ps : List Pending) (reply : Reply) → AllByRecursion (λ p. V p.object) ps
+        → HandsOn a k ps reply b → OfValue V (named_by reply)
+    hands_on k [] reply all row = told_is told.Nothing reply row.0 tt
+    hands_on k (p ∷ ps) reply all row =
+        told_is (told.Notice p.object p.queue (Cycle p.cycle k)) reply row.0 all.0
+
+    sweeps : (doomed : List ℕ) (reply : Reply) → Sweeps a doomed reply b → OfValue V (named_by reply)
+    sweeps [] reply row = told_is told.Nothing reply row.0 tt
+    sweeps (n ∷ ns) reply row = told_is (told.Swept (min 64 (length (n ∷ ns)))) reply row.0 tt
+
+    slot_is : (m s : ℕ) → OfValue V (slot_at a.world.heap m s)
+    slot_is m s = closed.slots (16 * m + s)
+
+    named_is : (step : NamedStep) (reply : Reply) → V a.next → heap_refusal 0 a step ≡ None
+        → HeapAccepts a step reply b → OfValue V (named_by reply)
+    named_is (heap.New m d k) reply next none row = told_is (told.Object a.next) reply row.0 next
+    named_is (heap.Refer m strength d s q k) reply next none row = told_is (told.Object a.next) reply row.0 next
+    named_is (heap.Load m d s i) reply next none row =
+        loads m d (field_in a.world.heap (slot_at a.world.heap m s) i) reply
+        (field_is V a.world (slot_at a.world.heap m s) i _ (slot_is m s) closed refl) row
+    named_is (heap.Copy m d s) reply next none row =
+        told_is (value_reply (slot_at a.world.heap m s)) reply row.0
+        (value_is (slot_at a.world.heap m s) (slot_is m s))
+    named_is (heap.Get m d s) reply next none row =
+        gets m d s (referent_got (reference_of a.world.heap (slot_at a.world.heap m s))) reply
+        (got_is V a.world (slot_at a.world.heap m s) _ (slot_is m s) closed refl) row
+    named_is (heap.RefersTo m s v) reply next none row = told_is (told.Refers _) reply row.0 tt
+    named_is (heap.Unhook m s) reply next none row =
+        unhooks m s (slot_at a.world.heap m s) _ reply (slot_is m s) row
+    named_is (heap.Hold m s) reply next none row = holds (slot_at a.world.heap m s) reply (slot_is m s) row
+    named_is (heap.Adopt m d hold) reply next none row =
+        let slot = unless_passes (has_slot a.world.heap m d) _ _ none in
+        let counted = unless_passes (is_counted 0 a.world.heap hold) _ _ slot.1 in
+        let both = and_parts (hold.heap_no == 0) (has a.world.heap.holds hold.object) counted.0 in
+        told_is (told.Object hold.object) reply row.0 (closed.holds hold.object both.1)
+    named_is (heap.Begin now how) reply next none row = told_is (told.Cycle (a.world.cycle + 1)) reply row.0 tt
+    named_is (heap.Scan k) reply next none row = scans k reply row
+    named_is heap.EndMark reply next none row = told_is (told.Doomed (length (doomed_at a))) reply row.answer tt
+    named_is (heap.ClearNext k) reply next none row = looks k (list_at a.found k) reply row
+    named_is (heap.Hand k) reply next none row = hands_on k (pending_of a.world k) reply (closed.pendings k) row
+    named_is (heap.Sweep k) reply next none row = sweeps a.doomed reply row
+    named_is step reply next none row = told_is told.Done reply row.0 tt
+
+-- ---- what is gone or doomed stays so
+
+-- after a mark's end, what it doomed is so too
+ended_off : (gone : List ℕ) (a c : State) (reply : Reply) → EndsMark a reply c → off gone c ≡ gone ++ doomed_at a
+ended_off gone a c reply row =
+    off_is gone (doomed_at a) c Clearing (ap (λ (s : State). s.world.phase) row.after)
+    (ap (λ (s : State). s.doomed) row.after)
+
+stays_off : (gone : List ℕ) (a c : State) (step : NamedStep) (reply : Reply) (n : ℕ) → heap_refusal 0 a step ≡ None
+    → HeapAccepts a step reply c → has (off gone a) n ≡ true → has (off (gone_after a gone step reply) c) n ≡ true
+stays_off gone a c heap.EndMark reply n none row is_off =
+    let before = off_is gone a.doomed a Marking (of_phase 0 a heap.EndMark none) refl in
+    let out : has gone n ≡ true = ap (λ ns. has ns n) (sym (before ∙ append-nil gone)) ∙ is_off in
+    ap (λ ns. has ns n) (ended_off gone a c reply row) ∙ has-left gone (doomed_at a) n out
+stays_off gone a c step reply n none row is_off =
+    ap (λ ns. has ns n) (off_same gone a c step reply tt none row) ∙ is_off
+
+abbrev IsOffIn : Config → ℕ → List HeapEntry → HeapState → Type 0
+IsOffIn config n past x =
+    (gone : List ℕ) × IsKnownBut config past gone x × (has (off gone x.state) n ≡ true)
+
+call_off : (config : Config) (n : ℕ) (past : List HeapEntry) (x : HeapState) (call : HeapEntry) (y : HeapState)
+    → IsOffIn config n past x → IsHeapMove x call.step call.reply y → IsOffIn config n (past ++ call ∷ []) y
+call_off config n past x call y is move =
+    elim (move_kind x y call.step call.reply move) [
+      | inl of ↦ (
+        is.0,
+        refused_known config past is.0 x call y is.1 of,
+        subst (λ (a : State). has (off is.0 a) n ≡ true) (sym of.same) is.2,
+      )
+      | inr of ↦ (
+        gone_after x.state is.0 (renumbered call.step) (told_reply call.reply),
+        accepted_known config past is.0 x call y is.1 of,
+        stays_off is.0 x.state y.state (renumbered call.step) (told_reply call.reply) n of.passes of.accepts is.2,
+      )
+    ]
+
+-- what a mark's end dooms is so
+doomed_off : (config : Config) (number by count : ℕ) (front : List HeapEntry) (a b : HeapState) (n : ℕ)
+    → IsHeapRun config number front a → IsHeapMove a heap.EndMark (replies.Told (told.Doomed count)) b
+    → has (doomed_at a.state) n ≡ true
+    → IsOffIn config n (front ++ entry by heap.EndMark (replies.Told (told.Doomed count)) ∷ []) b
+doomed_off config number by count front a b n first ends doomed =
+    let known = run_known config number front a first in
+    let gone : List ℕ = known.0 in
+    elim (move_kind a b heap.EndMark (replies.Told (told.Doomed count)) ends) [
+      | inl of ↦ let no = of.answer in absurd cc
+      | inr of ↦ (
+        gone,
+        accepted_known config front gone a (entry by heap.EndMark (replies.Told (told.Doomed count))) b known.1 of,
+        ap (λ ns. has ns n) (ended_off gone a.state b.state (told.Doomed count) of.accepts)
+            ∙ has-right gone (doomed_at a.state) n doomed,
+      )
+    ]
+
+-- ---- so no call gives it
+
+names_none : (config : Config) (n : ℕ) (past : List HeapEntry) (c : HeapState) (step : NamedStep) (reply : HeapReply)
+    (e : HeapState) → IsOffIn config n past c → IsHeapMove c step reply e → named_by (told_reply reply) ≡ Some n → ⊥
+names_none config n past c step reply e is move names =
+    let V : ℕ → Type 0 = λ m. has (off is.0 c.state) m ≡ false in
+    elim (move_kind c e step reply move) [
+      | inl of ↦ let no = sym (ap named_by of.answer) ∙ names in absurd cc
+      | inr of ↦
+          let within : OfValue V (named_by (told_reply reply)) =
+          named_is V c.state e.state is.1.1.closed (renumbered step) (told_reply reply)
+          (next_out is.0 (heap_replayed config past) c.state is.1.0) of.passes of.accepts in
+          both_ways (has (off is.0 c.state) n) (subst (λ (value : Option ℕ). OfValue V value) names within) is.2
+    ]
+
+pub never_given : (config : Config) (number count : ℕ) (front : List HeapEntry) (a b : HeapState)
+    (calls : List HeapEntry) (c : HeapState) (step : NamedStep) (reply : HeapReply) (n : ℕ) (e : HeapState)
+    → IsHeapRun config number front a → IsHeapMove a heap.EndMark (replies.Told (told.Doomed count)) b
+    → Leads IsHeapMove b calls c → has (doomed_at a.state) n ≡ true → IsHeapMove c step reply e
+    → named_by (told_reply reply) ≡ Some n → ⊥
+never_given config number count front a b calls c step reply n e first ends later doomed move names =
+    let past : List HeapEntry = front ++ entry 0 heap.EndMark (replies.Told (told.Doomed count)) ∷ [] in
+    names_none config n (past ++ calls) c step reply e
+    (goes_on (IsOffIn config n) (call_off config n) past b calls c
+    (doomed_off config number 0 count front a b n first ends doomed) later) move names

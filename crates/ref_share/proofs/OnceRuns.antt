@@ -1,0 +1,379 @@
+-- The history of a heap: workers hand each reference on at most once.
+use Rattle.std.proofs.Common.{◌≡◌, ℕ, zero, suc, ◌+◌, ◌<◌, ◌≤◌, true, false, ◌==◌, List, [], ◌∷◌, ◌++◌, length, map, replicate}
+use Rattle.std.proofs.Common.{Option, ◌⊎◌}
+use Rattle.std.proofs.Common.{Some, None, inl, inr, refl, sym, ap, ◌∙◌, subst, arith}
+use Rattle.std.specs.Prelude.{nat_eq, slice_index_or, slice_set}
+use Rattle.std.specs.List.{IsDistinct, AllByRecursion}
+use Rattle.std.proofs.lemmas.Map.Keys.{IsDistinct-cons}
+use Rattle.std.proofs.lemmas.Bool.{cases_Bool, both_ways, or_parts, eq-eqb, eqb-true, false≢true, false_from_ne_true}
+use Rattle.std.proofs.lemmas.Bool.{ne_eqb}
+use Rattle.std.proofs.lemmas.List.{map-append}
+use Rattle.ref_base.specs.AgreeingWorlds.{is_waiting}
+use Rattle.ref_base.specs.CollectorRows.{HandsOn, HeapAccepts}
+use Rattle.ref_base.specs.Collectors.{State, joined}
+use Rattle.ref_base.specs.CountedHolds.{tally}
+use Rattle.ref_base.specs.HeapSteps.{NamedStep}
+use Rattle.ref_base.specs.Heaps.{reference_at, registered_in}
+use Rattle.ref_base.specs.Members.{has, AreDistinct}
+use Rattle.ref_base.specs.Refusals.{heap_refusal}
+use Rattle.ref_base.specs.Replay.{pended, without_pending}
+use Rattle.ref_base.specs.Told.{told_notice}
+use Rattle.ref_base.specs.Worlds.{World, Pending, pending_of, pending_numbers}
+use Rattle.ref_base.specs.declared.cause.Cause.{Cause}
+use Rattle.ref_base.specs.declared.cause.Cause.TheVariants.{Cycle}
+use Rattle.ref_base.specs.declared.config.Config.{Config}
+use Rattle.ref_base.specs.declared.fault.Fault.{Fault}
+use Rattle.ref_base.specs.declared.heap_step.HeapStep.TheVariants as heap
+use Rattle.ref_base.specs.declared.reply.Reply.{Reply}
+use Rattle.ref_base.specs.declared.reply.Reply.TheVariants as told
+use Rattle.ref_base.proofs.HoldCounts.{one_if, tally-first, tally-append}
+use Rattle.ref_base.proofs.LegalQueues.{distinct_nil}
+use Rattle.ref_base.proofs.RowMoves.{Moves, heap_tells, pending_after}
+use Rattle.ref_base.proofs.FoundLists.{AreDistinct-with_last, joined-emptied}
+use Rattle.ref_base.proofs.ScannedOnce.{HasScanned, ScansAnew, first_scanned, scan_tells}
+use Rattle.ref_base.specs.ScannedRows.{scanned_in_cycle}
+use Rattle.ref_base.proofs.AgreeHeaps.{Agreeing}
+use Rattle.ref_world.specs.HeapReplies.{told_reply, Gives}
+use Rattle.ref_world.specs.declared.heap_machine.HeapReply.{HeapReply}
+use Rattle.ref_world.specs.declared.heap_machine.HeapReply.TheVariants as replies
+use Rattle.ref_share.specs.HeapMachines.{HeapState, IsHeapMove}
+use Rattle.ref_share.specs.HeapSeats.{HeapEntry, IsHeapRun, first_heap_state}
+use Rattle.ref_share.specs.HeapTraces.{gathered, handed_by, handed_on, heap_replayed, rows_of}
+use Rattle.ref_share.proofs.HeapReplays.{IsKnown, call_known, first_known}
+use Rattle.ref_share.proofs.HeapRows.{gathered_last}
+use Rattle.ref_share.proofs.HeapRuns.{renumbered, IsAccepted, move_kind, run_holds}
+use Rattle.ref_share.proofs.OnceCleared.{Waits, IsPast, heap_keeps, clears_once}
+use Rattle.ref_share.proofs.ScannedRuns.{call_scanned}
+
+-- ---- counts of what is pending
+
+abbrev numbers_in : List Pending → List ℕ
+numbers_in ps = map (λ (p : Pending). p.object) ps
+
+-- where one list changes so, all do
+pending_set : (lists : List (List Pending)) (k : ℕ) (ps : List Pending) (n c d : ℕ)
+    → tally (numbers_in ps) n + c ≤ tally (numbers_in (slice_index_or lists k [])) n + d
+    → tally (pending_numbers (slice_set lists k ps)) n + c ≤ tally (pending_numbers lists) n + d
+pending_set [] k ps n c d less = omega (arith, less)
+pending_set (qs ∷ lists) zero ps n c d less =
+    let now = tally-append (numbers_in ps) (pending_numbers lists) n in
+    let before = tally-append (numbers_in qs) (pending_numbers lists) n in
+    omega (arith, less, now, before)
+pending_set (qs ∷ lists) (suc k) ps n c d less =
+    let later = pending_set lists k ps n c d less in
+    let now = tally-append (numbers_in qs) (pending_numbers (slice_set lists k ps)) n in
+    let before = tally-append (numbers_in qs) (pending_numbers lists) n in
+    omega (arith, later, now, before)
+
+-- one that is cleared is pending once more at most
+pended_count : (w : World) (k m : ℕ) (queue : Option ℕ) (n : ℕ)
+    → tally (pending_numbers (pended w k m queue).pending) n ≤ tally (pending_numbers w.pending) n + one_if m n
+pended_count w k m None n = omega arith
+pended_count w k m (Some q) n =
+    let p : Pending = record { object = m; queue = q; cycle = w.cycle } in
+    let ps : List Pending = pending_of w k in
+    let longer : tally (numbers_in (ps ++ p ∷ [])) n ≡ tally (numbers_in ps) n + one_if m n =
+    ap (λ ms. tally ms n) (map-append (λ (r : Pending). r.object) ps (p ∷ []))
+    ∙ tally-append (numbers_in ps) (m ∷ []) n ∙ ap (λ i. tally (numbers_in ps) n + i) (tally-one m n) in
+    let all = pending_set w.pending k (ps ++ p ∷ []) n 0 (one_if m n) (omega (arith, longer)) in
+    omega (arith, all)
+  where
+    tally-one : (m n : ℕ) → tally (m ∷ []) n ≡ one_if m n
+    tally-one m n = let first = tally-first m [] n in omega (arith, first)
+
+-- and one that is handed on once less
+handed_count : (a b : State) (k : ℕ) (ps : List Pending) (m q : ℕ) (cause : Cause) (n : ℕ)
+    → pending_of a.world k ≡ ps → HandsOn a k ps (told.Notice m q cause) b
+    → b.world.pending ≡ slice_set a.world.pending k (without_pending (pending_of a.world k) m)
+    → one_if m n + tally (pending_numbers b.world.pending) n ≤ tally (pending_numbers a.world.pending) n
+handed_count a b k [] m q cause n is row pends = let no = row.0 in absurd cc
+handed_count a b k (p ∷ rest) m q cause n is row pends =
+    let told_as : told.Notice m q cause ≡ told.Notice p.object p.queue (Cycle p.cycle k) = row.0 in
+    let object : m ≡ p.object = cc in
+    let own : (p.object == m) ≡ true = eq-eqb p.object m (sym object) in
+    let left : without_pending (pending_of a.world k) m ≡ rest = rw (is, own) refl in
+    let first = tally-first p.object (numbers_in rest) n in
+    let same : one_if p.object n ≡ one_if m n = ap (λ i. one_if i n) (sym object) in
+    let list : tally (numbers_in (pending_of a.world k)) n ≡ tally (numbers_in (p ∷ rest)) n =
+    ap (λ (qs : List Pending). tally (numbers_in qs) n) is in
+    let all = pending_set a.world.pending k rest n (one_if m n) 0 (omega (arith, first, same, list)) in
+    let now = ap (λ (lists : List (List Pending)). tally (pending_numbers lists) n)
+    (pends ∙ ap (slice_set a.world.pending k) left) in
+    omega (arith, all, now)
+
+-- ---- a call
+
+-- the reference that a call clears for a worker
+abbrev cleared_by : NamedStep → HeapReply → List ℕ
+cleared_by (heap.ClearNext k) (replies.Told (told.Cleared n)) = n ∷ []
+cleared_by step reply = []
+
+-- what is handed on was pending, and what is pending was cleared
+abbrev Counts : ℕ → State → State → NamedStep → HeapReply → Type 0
+Counts n a b step reply =
+    tally (handed_by step reply) n + tally (pending_numbers b.world.pending) n
+    ≤ tally (pending_numbers a.world.pending) n + tally (cleared_by step reply) n
+
+same_count : (n : ℕ) (v w : World) (more : ℕ) → w.pending ≡ v.pending
+    → tally [] n + tally (pending_numbers w.pending) n ≤ tally (pending_numbers v.pending) n + more
+same_count n v w more same =
+    let count = ap (λ (lists : List (List Pending)). tally (pending_numbers lists) n) same in omega (arith, count)
+
+hand_told : (n k : ℕ) (a b : State) (reply : Reply) → told_notice reply ≡ None
+    → b.world.pending ≡ pending_after a.world (Some (heap.Hand k)) reply
+    → tally [] n + tally (pending_numbers b.world.pending) n ≤ tally (pending_numbers a.world.pending) n + 0
+hand_told n k a b (told.Notice m q cause) none pends = absurd cc
+hand_told n k a b reply none pends = same_count n a.world b.world 0 pends
+
+module _ (n : ℕ) (x y : HeapState) where
+  accepted_counts : (step : NamedStep) (reply : HeapReply) → IsAccepted x step reply y → Gives x.number step reply
+      → Moves x.state (Some (renumbered step)) (told_reply reply) y.state → Counts n x.state y.state step reply
+  accepted_counts (heap.Hand k) (replies.Notice notice) of gives moves =
+      let m : ℕ = notice.hold.object in
+      let less = handed_count x.state y.state k (pending_of x.state.world k) m notice.queue notice.cause n refl
+      of.accepts moves.pending in
+      let one = tally-first m [] n in
+      omega (arith, less, one)
+  accepted_counts (heap.Hand k) (replies.Told reply) of gives moves =
+      hand_told n k x.state y.state reply gives moves.pending
+  accepted_counts (heap.Hand k) reply of gives moves = absurd gives
+  accepted_counts (heap.ClearNext k) (replies.Told (told.Cleared m)) of gives moves =
+      let queue : Option ℕ = registered_in (reference_at x.state.world.heap m) in
+      let count = ap (λ (lists : List (List Pending)). tally (pending_numbers lists) n) moves.pending in
+      let less = pended_count x.state.world k m queue n in
+      let one = tally-first m [] n in
+      omega (arith, count, less, one)
+  accepted_counts step reply of gives moves = same_count n x.state.world y.state.world _ moves.pending
+
+  refused_counts : (step : NamedStep) (reply : HeapReply) (fault : Fault) → told_reply reply ≡ told.Refused fault
+      → y.state ≡ x.state → Counts n x.state y.state step reply
+  refused_counts (heap.Hand k) (replies.Notice notice) fault answer same = absurd cc
+  refused_counts step reply fault answer same =
+      same_count n x.state.world y.state.world _ (ap (λ (a : State). a.world.pending) same)
+
+-- a call clears nothing, or one that waited and is past then
+abbrev ClearsOne : State → State → List ℕ → Type 0
+ClearsOne a b ns = (ns ≡ []) ⊎ ((n : ℕ) × (ns ≡ n ∷ []) × (is_waiting a n ≡ true) × IsPast n b)
+
+module _ (gone : List ℕ) (w : World) (x y : HeapState) (is : Agreeing gone w x.state)
+    (distinct : AreDistinct (joined x.state.scanned)) (waits : Waits x.state) where
+  accepted_clears : (step : NamedStep) (reply : HeapReply) → IsAccepted x step reply y
+      → ClearsOne x.state y.state (cleared_by step reply)
+  accepted_clears (heap.ClearNext k) (replies.Told (told.Cleared n)) of =
+      let once = clears_once gone w x.state y.state is distinct waits k n of.passes of.accepts in
+      inr (n, refl, once.0, once.1)
+  accepted_clears step reply of = inl refl
+
+refused_clears : (a b : State) (step : NamedStep) (reply : HeapReply) (fault : Fault)
+    → told_reply reply ≡ told.Refused fault → ClearsOne a b (cleared_by step reply)
+refused_clears a b (heap.ClearNext k) (replies.Told (told.Cleared n)) fault answer = absurd cc
+refused_clears a b step reply fault answer = inl refl
+
+scans_distinct : (a b : State) (step : NamedStep) (reply : Reply) → length a.scanned ≡ a.world.heap.config.workers
+    → heap_refusal 0 a step ≡ None → HeapAccepts a step reply b → Moves a (Some step) reply b
+    → AreDistinct (joined a.scanned) → AreDistinct (joined b.scanned)
+scans_distinct a b (heap.Scan k) (told.Scanned n) workers none row moves distinct =
+    let anew : ScansAnew a k n = scan_tells 0 a b k n None none row in
+    let within : k < length a.scanned = rw workers anew.0 in
+    subst (λ (lists : List (List ℕ)). AreDistinct (joined lists)) (sym moves.scanned)
+    (AreDistinct-with_last a.scanned k n within distinct anew.1)
+scans_distinct a b (heap.Begin now how) (told.Cycle n) workers none row moves distinct =
+    subst (λ (lists : List (List ℕ)). AreDistinct (joined lists)) (sym moves.scanned)
+    (subst AreDistinct (sym (joined-emptied a.scanned)) tt)
+scans_distinct a b step reply workers none row moves distinct =
+    subst (λ (lists : List (List ℕ)). AreDistinct (joined lists)) (sym moves.scanned) distinct
+
+-- ---- runs
+
+abbrev cleared_all : List HeapEntry → List ℕ
+cleared_all calls = gathered cleared_by calls
+
+-- what workers have cleared is past, and none of it was cleared twice
+record ClearedOnce (calls : List HeapEntry) (a : State) : Type 0 where
+  distinct : AreDistinct (joined a.scanned)
+  waits : Waits a
+  once : (n : ℕ) → tally (cleared_all calls) n ≤ 1
+  past : (n : ℕ) → 1 ≤ tally (cleared_all calls) n → IsPast n a
+
+none_or_some : (count : ℕ) → (count ≡ 0) ⊎ (1 ≤ count)
+none_or_some zero = inl refl
+none_or_some (suc count) = inr (omega arith)
+
+-- what still waited was not cleared before
+none_before : (past : List HeapEntry) (a : State) → ClearedOnce past a → (m : ℕ) → is_waiting a m ≡ true
+    → tally (cleared_all past) m ≡ 0
+none_before past a is m waits =
+    elim (none_or_some (tally (cleared_all past) m)) [
+      | inl none ↦ none
+      | inr some ↦ absurd (both_ways (is_waiting a m) (is.past m some).1 waits)
+    ]
+
+-- one call more
+module _ (past : List HeapEntry) (call : HeapEntry) (a b : State) (is : ClearedOnce past a)
+    (distinct : AreDistinct (joined b.scanned)) (waits : Waits b) (stays : (n : ℕ) → IsPast n a → IsPast n b) where
+  abbrev more : List HeapEntry
+  more = past ++ call ∷ []
+
+  count : (n : ℕ) → tally (cleared_all more) n
+      ≡ tally (cleared_all past) n + tally (cleared_by call.step call.reply) n
+  count n =
+      ap (λ ns. tally ns n) (gathered_last cleared_by past call)
+      ∙ tally-append (cleared_all past) (cleared_by call.step call.reply) n
+
+  -- that clears nothing
+  clears_none : cleared_by call.step call.reply ≡ [] → ClearedOnce more b
+  clears_none none =
+      let same : (n : ℕ) → tally (cleared_all more) n ≡ tally (cleared_all past) n =
+      λ n. let all = count n in let nothing = ap (λ ns. tally ns n) none in omega (arith, all, nothing) in
+      record {
+        distinct = distinct;
+        waits = waits;
+        once = λ n. let all = same n in let old = is.once n in omega (arith, all, old);
+        past = λ n some. let all = same n in stays n (is.past n (omega (arith, all, some)));
+      }
+
+  -- or one that waited
+  clears_one : (m : ℕ) → cleared_by call.step call.reply ≡ m ∷ [] → is_waiting a m ≡ true → IsPast m b
+      → ClearedOnce more b
+  clears_one m one waited is_past =
+      let all : (n : ℕ) → tally (cleared_all more) n ≡ tally (cleared_all past) n + one_if m n =
+      λ n.
+      let total = count n in let own = ap (λ ns. tally ns n) one in let first = tally-first m [] n in
+      omega (arith, total, own, first) in
+      let others : (n : ℕ) → (m == n) ≡ false → tally (cleared_all more) n ≡ tally (cleared_all past) n + 0 =
+      λ n other. simp other at (all n) in
+      record {
+        distinct = distinct;
+        waits = waits;
+        once = λ n. elim (cases_Bool (m == n)) [
+          | inl same ↦
+              let sum : tally (cleared_all more) n ≡ tally (cleared_all past) n + 1 = simp same at (all n) in
+              let none : tally (cleared_all past) n ≡ 0 =
+              subst (λ k. tally (cleared_all past) k ≡ 0) (eqb-true m n same) (none_before past a is m waited) in
+              omega (arith, sum, none)
+          | inr other ↦ let sum = others n other in let old = is.once n in omega (arith, sum, old)
+        ];
+        past = λ n some. elim (cases_Bool (m == n)) [
+          | inl same ↦ subst (λ k. IsPast k b) (eqb-true m n same) is_past
+          | inr other ↦ let sum = others n other in stays n (is.past n (omega (arith, sum, some)))
+        ];
+      }
+
+  clears_more : ClearsOne a b (cleared_by call.step call.reply) → ClearedOnce more b
+  clears_more clears =
+      elim clears [ inl none ↦ clears_none none | inr one ↦ clears_one one.0 one.1 one.2 one.3 ]
+
+-- what was handed on or is pending was cleared, and that once
+record IsOnce (config : Config) (past : List HeapEntry) (x : HeapState) : Type 0 where
+  known : IsKnown config past x
+  scanned : HasScanned (scanned_in_cycle (rows_of past)) x.state
+  cleared : ClearedOnce past x.state
+  less :
+      (n : ℕ)
+      → tally (handed_on past) n + tally (pending_numbers x.state.world.pending) n ≤ tally (cleared_all past) n
+
+-- what a call leaves to count
+counts_more : (past : List HeapEntry) (call : HeapEntry) (a b : State) (n : ℕ)
+    → tally (handed_on past) n + tally (pending_numbers a.world.pending) n ≤ tally (cleared_all past) n
+    → Counts n a b call.step call.reply
+    → tally (handed_on (past ++ call ∷ [])) n + tally (pending_numbers b.world.pending) n
+    ≤ tally (cleared_all (past ++ call ∷ [])) n
+counts_more past call a b n before more =
+    let handed = ap (λ ns. tally ns n) (gathered_last handed_by past call) in
+    let handed_sum = tally-append (handed_on past) (handed_by call.step call.reply) n in
+    let cleared = ap (λ ns. tally ns n) (gathered_last cleared_by past call) in
+    let cleared_sum = tally-append (cleared_all past) (cleared_by call.step call.reply) n in
+    omega (arith, before, more, handed, handed_sum, cleared, cleared_sum)
+
+call_once : (config : Config) (past : List HeapEntry) (x : HeapState) (call : HeapEntry) (y : HeapState)
+    → IsOnce config past x → IsHeapMove x call.step call.reply y → IsOnce config (past ++ call ∷ []) y
+call_once config past x call y is move =
+    let a : State = x.state in
+    let b : State = y.state in
+    let step : NamedStep = renumbered call.step in
+    let reply : Reply = told_reply call.reply in
+    let known = is.known in
+    let cleared = is.cleared in
+    let after : ClearedOnce (past ++ call ∷ []) b × ((n : ℕ) → Counts n a b call.step call.reply) =
+    elim (move_kind x y call.step call.reply move) [
+      | inl of ↦ (
+        clears_more past call a b cleared
+            (subst (λ (s : State). AreDistinct (joined s.scanned)) (sym of.same) cleared.distinct)
+            (subst Waits (sym of.same) cleared.waits) (λ n past_it. subst (IsPast n) (sym of.same) past_it)
+            (refused_clears a b call.step call.reply of.fault of.answer),
+        λ n. refused_counts n x y call.step call.reply of.fault of.answer of.same,
+      )
+      | inr of ↦
+          let tells = heap_tells a b step reply of.accepts in
+          let keeps = heap_keeps known.0 (heap_replayed config past) a b known.1.0 cleared.distinct cleared.waits step
+          reply of.passes of.accepts in (
+            clears_more past call a b cleared
+                (scans_distinct a b step reply is.scanned.workers of.passes of.accepts tells cleared.distinct) keeps.0
+                keeps.1
+                (accepted_clears known.0 (heap_replayed config past) x y known.1.0 cleared.distinct cleared.waits
+                call.step call.reply of),
+            λ n. accepted_counts n x y call.step call.reply of move.gives tells,
+          )
+    ] in
+    record {
+      known = call_known config past x call y known move;
+      scanned = call_scanned past x call y is.scanned move;
+      cleared = after.0;
+      less = λ n. counts_more past call a b n (is.less n) (after.1 n);
+    }
+
+-- ---- so nothing is handed on twice
+
+apart : (m : ℕ) (ms : List ℕ) → has ms m ≡ false → AllByRecursion (λ n. nat_eq m n ≡ false) ms
+apart m [] none = tt
+apart m (n ∷ ms) none =
+    let parts = or_parts (n == m) (has ms m) none in
+    (ne_eqb m n (λ same. both_ways (n == m) parts.0 (eq-eqb n m (sym same))), apart m ms parts.1)
+
+distinct_if_once : (ns : List ℕ) → ((n : ℕ) → tally ns n ≤ 1) → IsDistinct nat_eq ns
+distinct_if_once [] once = distinct_nil
+distinct_if_once (m ∷ ms) once =
+    let own : one_if m m ≡ 1 = rw (eq-eqb m m refl) refl in
+    let none : tally ms m ≡ 0 =
+    let first = tally-first m ms m in let all = once m in omega (arith, own, first, all) in
+    let out : has ms m ≡ false =
+    false_from_ne_true (has ms m) (λ there. let some = has-tally ms m there in absurd (omega (arith, some, none))) in
+    IsDistinct-cons nat_eq m ms (apart m ms out)
+    (distinct_if_once ms
+    (λ n. let first = tally-first m ms n in let all = once n in omega (arith, first, all)))
+  where
+    has-tally : (ns : List ℕ) (n : ℕ) → has ns n ≡ true → 1 ≤ tally ns n
+    has-tally [] n there = absurd (false≢true there)
+    has-tally (k ∷ ns) n there =
+        elim (cases_Bool (k == n)) [
+          | inl same ↦ simp same (omega arith)
+          | inr other ↦ simp other (has-tally ns n (simp other at there))
+        ]
+
+nothing_pends : (workers n : ℕ) → tally (pending_numbers (replicate workers [])) n ≡ 0
+nothing_pends zero n = refl
+nothing_pends (suc workers) n = nothing_pends workers n
+
+none_scanned : (workers : ℕ) → joined (replicate workers []) ≡ []
+none_scanned zero = refl
+none_scanned (suc workers) = none_scanned workers
+
+first_once : (config : Config) (number : ℕ) → IsOnce config [] (first_heap_state config number)
+first_once config number = record {
+  known = first_known config number;
+  scanned = first_scanned config;
+  cleared = record {
+    distinct = subst AreDistinct (sym (none_scanned config.workers)) tt;
+    waits = record { once = λ clearing. absurd cc; cleared = λ clearing. absurd cc };
+    once = λ n. omega arith;
+    past = λ n some. absurd (omega (arith, some));
+  };
+  less = λ n. let none = nothing_pends config.workers n in omega (arith, none);
+}
+
+pub handed_on_once : (config : Config) (number : ℕ) (calls : List HeapEntry) (last : HeapState)
+    → IsHeapRun config number calls last → IsDistinct nat_eq (handed_on calls)
+handed_on_once config number calls last run =
+    let is = run_holds (IsOnce config) (call_once config) config number (first_once config number) calls last run in
+    distinct_if_once (handed_on calls)
+    (λ n. let less = is.less n in let once = is.cleared.once n in omega (arith, less, once))
