@@ -6,8 +6,9 @@ use Rattle.ref_base.specs.declared.step.Step.TheVariants.{Refer, Put, Begin}
 use Rattle.refrun.specs.Lines.{lines_of, content_of, words_of}
 use Rattle.refrun.specs.Numerals.{number_below, number_behind}
 use Rattle.refrun.specs.TextFaults.{script_fault, graph_fault}
-use Rattle.refrun.specs.Spelling.{SpellsStep}
+use Rattle.refrun.specs.Spelling.{SpellsScriptStep}
 use Rattle.refrun.specs.StepFaults.{step_fault}
+use Rattle.refrun.specs.declared.script_step.ScriptStep.TheVariants as scripts
 use Rattle.refrun.specs.DeclarationFaults.{declaration_fault}
 use Rattle.refrun.specs.Declarations.{Root, Plain, Reference, SpellsDeclared}
 use Rattle.refrun.specs.GraphTexts.{DeclaresGraph}
@@ -39,14 +40,18 @@ twenty_digits_at_most = refl
 
 -- ---- faults go by kind and not by place
 
-a_step_is_spelt : SpellsStep (words_of (codes "m0 weak s1 s00 - 2")) (Refer 0 strengths.Weak 1 0 None 2)
+a_step_is_spelt : SpellsScriptStep (words_of (codes "m0 weak s1 s00 - 2"))
+    (scripts.World (Refer 0 strengths.Weak 1 0 None 2))
 a_step_is_spelt = (refl, (refl, (refl, (refl, (refl, (refl, tt))))))
 
-a_worker_puts : SpellsStep (words_of (codes "w03 put")) (Put (Worker 3))
+a_job_has_a_number : SpellsScriptStep (words_of (codes "m0 job s1 063")) (scripts.Job 0 1 63)
+a_job_has_a_number = (refl, (refl, (refl, (refl, tt))))
+
+a_worker_puts : SpellsScriptStep (words_of (codes "w03 put")) (scripts.World (Put (Worker 3)))
 a_worker_puts = (refl, (refl, tt))
 
-the_clock_is_below_two_to_the_64 : SpellsStep (words_of (codes "begin 18446744073709551615 urgent"))
-    (Begin 18446744073709551615 Urgent)
+the_clock_is_below_two_to_the_64 : SpellsScriptStep (words_of (codes "begin 18446744073709551615 urgent"))
+    (scripts.World (Begin 18446744073709551615 Urgent))
 the_clock_is_below_two_to_the_64 = (refl, (refl, (refl, tt)))
 
 a_greater_clock_is_a_bad_word : step_fault (words_of (codes "begin 18446744073709551616 urgent")) ≡ Some BadWord

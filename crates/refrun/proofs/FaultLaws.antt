@@ -10,7 +10,7 @@ use Rattle.std.specs.List.{list_all}
 use Rattle.std.proofs.lemmas.Bool.{cases_Bool, and_parts}
 use Rattle.ref_base.specs.Limits.{is_within_limits}
 use Rattle.ref_base.specs.declared.config.Config.{Config}
-use Rattle.ref_base.specs.declared.step.Step.{Step}
+use Rattle.refrun.specs.declared.script_step.ScriptStep.{ScriptStep}
 use Rattle.refrun.specs.Lines.{TextLine, lines_of}
 use Rattle.refrun.specs.StepFaults.{step_fault}
 use Rattle.refrun.specs.TextFaults.{ScriptHeader, Configuration, Steps, plain_fault, first_fault, script_fault}
@@ -22,14 +22,14 @@ plain_without_fault : (line : TextLine) → is_plain line ≡ true → plain_fau
 plain_without_fault line h = let p = and_parts (is_short line) (list_all is_ascii line.bytes) h in simp (p.0, p.1) refl
 
 -- the first of the lines spells its step, and the others have no fault
-first_step : (words : List (List ℕ)) (lines : List TextLine) (steps : List Step) (k : ℕ) → ((later : List Step)
+first_step : (words : List (List ℕ)) (lines : List TextLine) (steps : List ScriptStep) (k : ℕ) → ((later : List ScriptStep)
     → SpellSteps (told lines) later → first_fault Steps k lines ≡ None)
     → SpellSteps (words ∷ told lines) steps → (step_fault words ≡ None) × (first_fault Steps k lines ≡ None)
 first_step words lines [] k goes_on spelt = absurd spelt
 first_step words lines (step ∷ steps) k goes_on spelt = (spelt_without_fault words step spelt.0, goes_on steps spelt.1)
 
 -- lines of steps
-steps_without_fault : (lines : List TextLine) (steps : List Step) (k : ℕ) → list_all is_plain lines ≡ true
+steps_without_fault : (lines : List TextLine) (steps : List ScriptStep) (k : ℕ) → list_all is_plain lines ≡ true
     → SpellSteps (told lines) steps → first_fault Steps k lines ≡ None
 steps_without_fault [] steps k plain spelt = refl
 steps_without_fault (line ∷ lines) steps k plain spelt =
@@ -47,12 +47,12 @@ steps_without_fault (line ∷ lines) steps k plain spelt =
     ]
 
 -- the configuration and the steps
-abbrev SpellBody : List (List (List ℕ)) → Config → List Step → Type 0
+abbrev SpellBody : List (List (List ℕ)) → Config → List ScriptStep → Type 0
 SpellBody [] config steps = ⊥
 SpellBody (words ∷ lines) config steps = (config_of words ≡ Some config) ×
     (is_within_limits config ≡ true) × SpellSteps lines steps
 
-body_without_fault : (lines : List TextLine) (config : Config) (steps : List Step) (k : ℕ)
+body_without_fault : (lines : List TextLine) (config : Config) (steps : List ScriptStep) (k : ℕ)
     → list_all is_plain lines ≡ true → SpellBody (told lines) config steps → first_fault Configuration k lines ≡ None
 body_without_fault [] config steps k plain spelt = absurd spelt
 body_without_fault (line ∷ lines) config steps k plain spelt =
@@ -68,12 +68,12 @@ body_without_fault (line ∷ lines) config steps k plain spelt =
     ]
 
 -- the header, and the body behind it
-body_of : (lines : List (List (List ℕ))) (words : List (List ℕ)) (config : Config) (steps : List Step)
+body_of : (lines : List (List (List ℕ))) (words : List (List ℕ)) (config : Config) (steps : List ScriptStep)
     → SpellScript (words ∷ lines) config steps → (is_header words ≡ true) × SpellBody lines config steps
 body_of [] words config steps spelt = absurd spelt
 body_of (line ∷ lines) words config steps spelt = (spelt.0, (spelt.1, spelt.2, spelt.3))
 
-lines_without_fault : (lines : List TextLine) (config : Config) (steps : List Step) (k : ℕ)
+lines_without_fault : (lines : List TextLine) (config : Config) (steps : List ScriptStep) (k : ℕ)
     → list_all is_plain lines ≡ true → SpellScript (told lines) config steps → first_fault ScriptHeader k lines ≡ None
 lines_without_fault [] config steps k plain spelt = absurd spelt
 lines_without_fault (line ∷ lines) config steps k plain spelt =
@@ -89,13 +89,13 @@ lines_without_fault (line ∷ lines) config steps k plain spelt =
           simp (whole, says, body.0) (body_without_fault lines config steps (k + 1) p.1 body.1)
     ]
 
-pub script_without_fault : (text : List ℕ) (config : Config) (steps : List Step) → IsScript text config steps
+pub script_without_fault : (text : List ℕ) (config : Config) (steps : List ScriptStep) → IsScript text config steps
     → script_fault text ≡ None
 script_without_fault text config steps h = simp h.short (lines_without_fault
     (lines_of text) config steps 1 h.lines.plain h.lines.told)
 
 -- a script's configuration is within its limits
-pub script_within_limits : (lines : List TextLine) (config : Config) (steps : List Step)
+pub script_within_limits : (lines : List TextLine) (config : Config) (steps : List ScriptStep)
     → AreScript lines config steps → is_within_limits config ≡ true
 script_within_limits lines config steps h = limits (told lines) h.told
   where

@@ -13,6 +13,7 @@ pub mod OneReading
 pub mod OneGraph
 pub mod FaultLaws
 pub mod AnswerLemmas
+pub mod JobLemmas
 pub mod TraceLemmas
 pub mod ListingLemmas
 pub mod WriteLemmas

@@ -4,15 +4,16 @@ use Rattle.std.specs.Str.{bytes_eq}
 use Rattle.std.proofs.lemmas.Bool.{false≢true}
 use Rattle.std.proofs.lemmas.Slice.Eq.{bytes_eq-Decides}
 use Rattle.ref_base.specs.Texts.{Word, Letters, Long, slot, queue, queue_or_none, number}
-use Rattle.ref_base.specs.Steps.{step_words, urgency_name}
+use Rattle.ref_base.specs.Steps.{urgency_name}
 use Rattle.ref_base.specs.declared.config.Config.{Config}
-use Rattle.ref_base.specs.declared.step.Step.{Step}
 use Rattle.refrun.specs.Lines.{lines_of}
 use Rattle.refrun.specs.Numerals.{number_below, number_behind}
-use Rattle.refrun.specs.Spelling.{IsSpelt, AreSpelt, SpellsStep}
+use Rattle.refrun.specs.Spelling.{IsSpelt, AreSpelt, SpellsScriptStep}
 use Rattle.refrun.specs.StepForms.{Operand, Slot, Queue, QueueOrNone, Number, Clock, UrgencyName}
 use Rattle.refrun.specs.StepForms.{operands_in, forms_of_letter, turn_forms}
 use Rattle.refrun.specs.ToldLines.{told}
+use Rattle.refrun.specs.ScriptSteps.{script_step_words}
+use Rattle.refrun.specs.declared.script_step.ScriptStep.{ScriptStep}
 use Rattle.refrun.specs.Scripts.{config_of, SpellSteps, SpellScript, IsScript}
 use Rattle.refrun.proofs.Rebuilding.{rebuild, rebuilt}
 use Rattle.refrun.proofs.Spelt.{actor_number, no_turn}
@@ -129,17 +130,17 @@ one_form Turn Turn x y operands others us vs (a ∷ ws) known also of og h k =
     cc
 
 -- words spell at most one step
-one_step : (s t : Step) (words : List (List ℕ)) → SpellsStep words s → SpellsStep words t → s ≡ t
+one_step : (s t : ScriptStep) (words : List (List ℕ)) → SpellsScriptStep words s → SpellsScriptStep words t → s ≡ t
 one_step s t words h k =
     let f = form_of_step s in
     let g = form_of_step t in
     let same : words_behind f.lead f.name f.words ≡ words_behind g.lead g.name g.words =
     one_form f.lead g.lead f.name g.name f.operands g.operands f.words g.words words f.is_known g.is_known f.are_of
     g.are_of (subst (AreSpelt words) f.spelling_is h) (subst (AreSpelt words) g.spelling_is k) in
-    let same_words : step_words s ≡ step_words t = f.spelling_is ∙ same ∙ sym g.spelling_is in
+    let same_words : script_step_words s ≡ script_step_words t = f.spelling_is ∙ same ∙ sym g.spelling_is in
     sym (rebuilt s) ∙ ap rebuild same_words ∙ rebuilt t
 
-one_list : (lines : List (List (List ℕ))) (r s : List Step) → SpellSteps lines r → SpellSteps lines s → r ≡ s
+one_list : (lines : List (List (List ℕ))) (r s : List ScriptStep) → SpellSteps lines r → SpellSteps lines s → r ≡ s
 one_list [] [] [] h k = refl
 one_list [] [] (t ∷ s) h k = absurd k
 one_list [] (u ∷ r) s h k = absurd h
@@ -150,12 +151,12 @@ one_list (words ∷ lines) (u ∷ r) (t ∷ s) h k =
     let others : r ≡ s = one_list lines r s h.1 k.1 in
     cc
 
-one_body : (lines : List (List (List ℕ))) (c d : Config) (r s : List Step) → SpellScript lines c r
+one_body : (lines : List (List (List ℕ))) (c d : Config) (r s : List ScriptStep) → SpellScript lines c r
     → SpellScript lines d s → (c ≡ d) × (r ≡ s)
 one_body [] c d r s h k = absurd h
 one_body (header ∷ []) c d r s h k = absurd h
 one_body (header ∷ words ∷ lines) c d r s h k = (some_is (config_of words) c d h.1 k.1, one_list lines r s h.3 k.3)
 
-pub one_script : (text : List ℕ) (c d : Config) (r s : List Step) → IsScript text c r → IsScript text d s
+pub one_script : (text : List ℕ) (c d : Config) (r s : List ScriptStep) → IsScript text c r → IsScript text d s
     → (c ≡ d) × (r ≡ s)
 one_script text c d r s h k = one_body (told (lines_of text)) c d r s h.lines.told k.lines.told

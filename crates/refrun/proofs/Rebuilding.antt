@@ -1,4 +1,4 @@
--- The words of a step determine it.
+-- The words of a step of a script determine it.
 use Rattle.std.proofs.Common.{◌≡◌, ℕ, if◌then◌else◌, List, [], ◌∷◌, get_or, Option, Some, None, codes, refl}
 use Rattle.std.specs.Str.{bytes_eq}
 use Rattle.ref_base.specs.Texts.{Word, Letters, Numbered, Long}
@@ -12,6 +12,9 @@ use Rattle.ref_base.specs.declared.step.Step.TheVariants.{New, Refer, Store, Loa
 use Rattle.ref_base.specs.declared.step.Step.TheVariants.{Unhook, Put, Poll, Adopt, Release, Close}
 use Rattle.ref_base.specs.declared.step.Step.TheVariants.{Begin, Scan, EndMark, ClearNext, EndClear, Hand, Sweep}
 use Rattle.ref_base.specs.declared.step.Step.TheVariants.{EndSweep}
+use Rattle.refrun.specs.ScriptSteps.{script_step_words}
+use Rattle.refrun.specs.declared.script_step.ScriptStep.{ScriptStep}
+use Rattle.refrun.specs.declared.script_step.ScriptStep.TheVariants as scripts
 
 -- what a word says: its number, its queue if it isn't a dash, or its urgency
 number_in : Word → ℕ
@@ -38,8 +41,8 @@ queue_of : List Word → Option ℕ
 queue_of words = queue_in (get_or words 2 (Letters []))
 
 -- the step of a mutator, of a worker, or of neither, with this name and these words behind it
-by_mutator : ℕ → List ℕ → List Word → Step
-by_mutator m name ws =
+by_mutator_of_world : ℕ → List ℕ → List Word → Step
+by_mutator_of_world m name ws =
     if bytes_eq name (codes "new") then New m (at 0 ws) (at 1 ws) else
     (if bytes_eq name (codes "soft") then Refer m Soft (at 0 ws) (at 1 ws) (queue_of ws) (at 3 ws) else
     (if bytes_eq name (codes "weak") then Refer m Weak (at 0 ws) (at 1 ws) (queue_of ws) (at 3 ws) else
@@ -58,6 +61,12 @@ by_mutator m name ws =
     (if bytes_eq name (codes "release") then Release (Mutator m) else
     Close m (at 0 ws))))))))))))))))
 
+by_mutator : ℕ → List ℕ → List Word → ScriptStep
+by_mutator m name ws =
+    if bytes_eq name (codes "job") then scripts.Job m (at 0 ws) (at 1 ws) else
+    (if bytes_eq name (codes "run") then scripts.Run m (at 0 ws) else
+    scripts.World (by_mutator_of_world m name ws))
+
 by_worker : ℕ → List ℕ → Step
 by_worker w name =
     if bytes_eq name (codes "scan") then Scan w else
@@ -72,47 +81,53 @@ turn name ws =
     (if bytes_eq name (codes "endmark") then EndMark else
     (if bytes_eq name (codes "endclear") then EndClear else EndSweep))
 
-behind_actor : List ℕ → ℕ → List Word → Step
+behind_actor : List ℕ → ℕ → List Word → ScriptStep
 behind_actor letters n (Letters name ∷ ws) =
-    if bytes_eq letters (codes "m") then by_mutator n name ws else by_worker n name
-behind_actor letters n ws = EndMark
+    if bytes_eq letters (codes "m") then by_mutator n name ws else scripts.World (by_worker n name)
+behind_actor letters n ws = scripts.World EndMark
 
 -- the step of these words
-pub rebuild : List Word → Step
+pub rebuild : List Word → ScriptStep
 rebuild (Numbered letters n ∷ ws) = behind_actor letters n ws
-rebuild (Letters name ∷ ws) = turn name ws
-rebuild ws = EndMark
+rebuild (Letters name ∷ ws) = scripts.World (turn name ws)
+rebuild ws = scripts.World EndMark
 
-pub rebuilt : (step : Step) → rebuild (step_words step) ≡ step
-unfolding rebuild behind_actor by_mutator by_worker turn number_in queue_in urgency_in at queue_of
-rebuilt (New m s n) = refl
-rebuilt (Refer m Soft s r None n) = refl
-rebuilt (Refer m Soft s r (Some q) n) = refl
-rebuilt (Refer m Weak s r None n) = refl
-rebuilt (Refer m Weak s r (Some q) n) = refl
-rebuilt (Refer m Phantom s r None n) = refl
-rebuilt (Refer m Phantom s r (Some q) n) = refl
-rebuilt (Store m s i v) = refl
-rebuilt (Load m d s i) = refl
-rebuilt (Copy m d s) = refl
-rebuilt (Drop m s) = refl
-rebuilt (Get m d r) = refl
-rebuilt (Clear m r) = refl
-rebuilt (RefersTo m r s) = refl
-rebuilt (Unhook m r) = refl
-rebuilt (Put (Mutator m)) = refl
-rebuilt (Put (Worker w)) = refl
-rebuilt (Poll m q) = refl
-rebuilt (Adopt m s) = refl
-rebuilt (Release (Mutator m)) = refl
-rebuilt (Release (Worker w)) = refl
-rebuilt (Close m q) = refl
-rebuilt (Begin now Normal) = refl
-rebuilt (Begin now Urgent) = refl
-rebuilt (Scan w) = refl
-rebuilt EndMark = refl
-rebuilt (ClearNext w) = refl
-rebuilt EndClear = refl
-rebuilt (Hand w) = refl
-rebuilt (Sweep w) = refl
-rebuilt EndSweep = refl
+world_rebuilt : (step : Step) → rebuild (step_words step) ≡ scripts.World step
+unfolding rebuild behind_actor by_mutator by_mutator_of_world by_worker turn number_in queue_in urgency_in at queue_of
+world_rebuilt (New m s n) = refl
+world_rebuilt (Refer m Soft s r None n) = refl
+world_rebuilt (Refer m Soft s r (Some q) n) = refl
+world_rebuilt (Refer m Weak s r None n) = refl
+world_rebuilt (Refer m Weak s r (Some q) n) = refl
+world_rebuilt (Refer m Phantom s r None n) = refl
+world_rebuilt (Refer m Phantom s r (Some q) n) = refl
+world_rebuilt (Store m s i v) = refl
+world_rebuilt (Load m d s i) = refl
+world_rebuilt (Copy m d s) = refl
+world_rebuilt (Drop m s) = refl
+world_rebuilt (Get m d r) = refl
+world_rebuilt (Clear m r) = refl
+world_rebuilt (RefersTo m r s) = refl
+world_rebuilt (Unhook m r) = refl
+world_rebuilt (Put (Mutator m)) = refl
+world_rebuilt (Put (Worker w)) = refl
+world_rebuilt (Poll m q) = refl
+world_rebuilt (Adopt m s) = refl
+world_rebuilt (Release (Mutator m)) = refl
+world_rebuilt (Release (Worker w)) = refl
+world_rebuilt (Close m q) = refl
+world_rebuilt (Begin now Normal) = refl
+world_rebuilt (Begin now Urgent) = refl
+world_rebuilt (Scan w) = refl
+world_rebuilt EndMark = refl
+world_rebuilt (ClearNext w) = refl
+world_rebuilt EndClear = refl
+world_rebuilt (Hand w) = refl
+world_rebuilt (Sweep w) = refl
+world_rebuilt EndSweep = refl
+
+pub rebuilt : (step : ScriptStep) → rebuild (script_step_words step) ≡ step
+unfolding rebuild behind_actor by_mutator number_in at
+rebuilt (scripts.World step) = world_rebuilt step
+rebuilt (scripts.Job m s n) = refl
+rebuilt (scripts.Run m s) = refl

@@ -4,9 +4,8 @@ use Rattle.std.proofs.Common.{Some, None, OnSome, IfNone, refl, ◌∙◌, appen
 use Rattle.std.specs.Borrow.{Bor}
 use Rattle.std.specs.List.{list_all}
 use Rattle.std.proofs.lemmas.List.{append-nil}
-use Rattle.ref_base.specs.declared.step.Step.{Step}
 use Rattle.refrun.specs.Lines.{lines_of, words_of}
-use Rattle.refrun.specs.Spelling.{SpellsStep}
+use Rattle.refrun.specs.Spelling.{SpellsScriptStep}
 use Rattle.refrun.specs.TextFaults.{Place, ScriptHeader, Configuration, Steps, fault_or}
 use Rattle.refrun.specs.TextFaults.{first_fault}
 use Rattle.refrun.specs.Scripts.{is_header, SpellSteps}
@@ -16,11 +15,12 @@ use Rattle.refrun.specs.LineReading.{FailsFor, in_front, fault_from, Finds}
 use Rattle.refrun.proofs.Spelt.{spelt_without_fault}
 use Rattle.refrun.specs.declared.fault.TextFault.{TextFault}
 use Rattle.refrun.specs.declared.told.Told.{Told}
+use Rattle.refrun.specs.declared.script_step.ScriptStep.{ScriptStep}
 use Rattle.refrun.proofs.LineLemmas.{first_of_two, onsome_before}
 
 -- the steps so far, whatever spells what is left
-pub record HasRead (text : List ℕ) (number : ℕ) (found : Told) (steps : List Step) : Type 0 where
-  pub spelt : (more : List Step) → SpellSteps (in_front found.content (told (lines_of found.rest.now))) more
+pub record HasRead (text : List ℕ) (number : ℕ) (found : Told) (steps : List ScriptStep) : Type 0 where
+  pub spelt : (more : List ScriptStep) → SpellSteps (in_front found.content (told (lines_of found.rest.now))) more
       → SpellSteps (told (lines_of text)) (steps ++ more)
   pub plain : list_all is_plain (lines_of text) ≡ list_all is_plain (lines_of found.rest.now)
   pub fault : first_fault Steps (number + 1) (lines_of text) ≡ fault_from Steps found.content found.number
@@ -39,16 +39,16 @@ has_read_none text number found f behind = record {
 }
 
 -- one step more
-pub has_read_more : (text : List ℕ) (number : ℕ) (found next : Told) (steps items : List Step) (c : Bor (List ℕ))
-    (step : Step)
-    → HasRead text number found steps → found.content ≡ Some c → SpellsStep (words_of c.now) step
+pub has_read_more : (text : List ℕ) (number : ℕ) (found next : Told) (steps items : List ScriptStep) (c : Bor (List ℕ))
+    (step : ScriptStep)
+    → HasRead text number found steps → found.content ≡ Some c → SpellsScriptStep (words_of c.now) step
     → items ≡ steps ++ step ∷ []
     → Finds found.rest.now found.number next → OnSome next.content
     (next.number + length next.rest.now ≤ found.number + length found.rest.now) → HasRead text number next items
 has_read_more text number found next steps items c step r found_is spells items_are f behind =
     let sound : step_fault (words_of c.now) ≡ None = spelt_without_fault (words_of c.now) step spells in
     let here : found.number + length found.rest.now ≤ number + length text = rw found_is at r.behind in
-    let far : (more : List Step) → SpellSteps (in_front (Some c) (told (lines_of found.rest.now))) more
+    let far : (more : List ScriptStep) → SpellSteps (in_front (Some c) (told (lines_of found.rest.now))) more
     → SpellSteps (told (lines_of text)) (steps ++ more) = rw found_is at r.spelt in
     let fault_is : first_fault Steps (number + 1) (lines_of text) ≡ fault_from Steps (Some c) found.number
     (lines_of found.rest.now) = r.fault ∙ rw found_is refl in
@@ -61,7 +61,7 @@ has_read_more text number found next steps items c step r found_is spells items_
     }
 
 -- nothing is left
-pub has_read_all : (text : List ℕ) (number : ℕ) (found : Told) (steps : List Step)
+pub has_read_all : (text : List ℕ) (number : ℕ) (found : Told) (steps : List ScriptStep)
     → HasRead text number found steps → found.content ≡ None
     → SpellSteps (told (lines_of text)) steps × (list_all is_plain (lines_of text) ≡ true)
 has_read_all text number found steps r found_is =
@@ -70,7 +70,7 @@ has_read_all text number found steps r found_is =
     (rw append-nil at whole, r.plain ∙ rw none refl)
 
 -- the fault of a line that spells no step is that of the text
-pub has_read_fault : (text : List ℕ) (number : ℕ) (found : Told) (steps : List Step) (c : Bor (List ℕ))
+pub has_read_fault : (text : List ℕ) (number : ℕ) (found : Told) (steps : List ScriptStep) (c : Bor (List ℕ))
     (e : TextFault) → HasRead text number found steps → found.content ≡ Some c
     → FailsFor e (fault_or found.number (step_fault (words_of c.now)) None)
     → FailsFor e (first_fault Steps (number + 1) (lines_of text))
@@ -82,9 +82,9 @@ has_read_fault text number found steps c e r found_is fails =
     (lines_of found.rest.now)) fails)
 
 -- a fault behind it is that of the text too
-pub has_read_later_fault : (text : List ℕ) (number : ℕ) (found : Told) (steps : List Step) (c : Bor (List ℕ))
-    (step : Step) (e : TextFault) → HasRead text number found steps → found.content ≡ Some c
-    → SpellsStep (words_of c.now) step → ((place : Place) → first_fault place (found.number + 1)
+pub has_read_later_fault : (text : List ℕ) (number : ℕ) (found : Told) (steps : List ScriptStep) (c : Bor (List ℕ))
+    (step : ScriptStep) (e : TextFault) → HasRead text number found steps → found.content ≡ Some c
+    → SpellsScriptStep (words_of c.now) step → ((place : Place) → first_fault place (found.number + 1)
     (lines_of found.rest.now) ≡ Some e) → first_fault Steps (number + 1) (lines_of text) ≡ Some e
 has_read_later_fault text number found steps c step e r found_is spells later =
     let sound : step_fault (words_of c.now) ≡ None = spelt_without_fault (words_of c.now) step spells in

@@ -4,11 +4,11 @@ use Rattle.std.proofs.Common.{is_some, codes, refl, ap, subst, inl, inr, arith}
 use Rattle.std.proofs.lemmas.Bool.{cases_Bool, le-ltb, eqb-true, or_right}
 use Rattle.ref_base.specs.Texts.{Word, Long, slot, queue, number, queue_or_none}
 use Rattle.ref_base.specs.Steps.{urgency_name}
-use Rattle.ref_base.specs.declared.step.Step.{Step}
 use Rattle.ref_base.specs.declared.urgency.Urgency.{Urgency}
 use Rattle.ref_base.specs.declared.urgency.Urgency.TheVariants.{Normal, Urgent}
 use Rattle.refrun.specs.Numerals.{number_below, number_behind}
-use Rattle.refrun.specs.Spelling.{IsSpelt, AreSpelt, SpellsStep}
+use Rattle.refrun.specs.Spelling.{IsSpelt, AreSpelt, SpellsScriptStep}
+use Rattle.refrun.specs.declared.script_step.ScriptStep.{ScriptStep}
 use Rattle.refrun.specs.StepForms.{Operand, Slot, Queue, QueueOrNone, Number, Clock, UrgencyName}
 use Rattle.refrun.specs.StepForms.{operands_in, forms_of_letter, turn_forms}
 use Rattle.refrun.specs.StepFaults.{fits, all_fit, operand_fault, step_fault}
@@ -92,7 +92,7 @@ form_without_fault Turn name operands vs (w ∷ ws) known of h =
     rw known_name (operands_without_fault operands ws vs of h.1)
 
 -- words that spell a step have no fault
-pub spelt_without_fault : (words : List (List ℕ)) (step : Step) → SpellsStep words step → step_fault words ≡ None
+pub spelt_without_fault : (words : List (List ℕ)) (step : ScriptStep) → SpellsScriptStep words step → step_fault words ≡ None
 spelt_without_fault words step h =
     let form = form_of_step step in
     form_without_fault form.lead form.name form.operands form.words words form.is_known form.are_of

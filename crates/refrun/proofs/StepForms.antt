@@ -11,6 +11,9 @@ use Rattle.ref_base.specs.declared.step.Step.TheVariants.{New, Refer, Store, Loa
 use Rattle.ref_base.specs.declared.step.Step.TheVariants.{Unhook, Put, Poll, Adopt, Release, Close}
 use Rattle.ref_base.specs.declared.step.Step.TheVariants.{Begin, Scan, EndMark, ClearNext, EndClear, Hand, Sweep}
 use Rattle.ref_base.specs.declared.step.Step.TheVariants.{EndSweep}
+use Rattle.refrun.specs.ScriptSteps.{script_step_words}
+use Rattle.refrun.specs.declared.script_step.ScriptStep.{ScriptStep}
+use Rattle.refrun.specs.declared.script_step.ScriptStep.TheVariants as scripts
 use Rattle.refrun.specs.StepForms.{Operand, Slot, Queue, QueueOrNone, Number, Clock, UrgencyName, Form}
 use Rattle.refrun.specs.StepForms.{operands_in, forms_of_letter, turn_forms}
 
@@ -98,36 +101,42 @@ refers m s r q n strength =
     known Weak = refl
     known Phantom = refl
 
-pub form_of_step : (step : Step) → HasForm (step_words step)
-form_of_step (New m s n) =
+form_of_world_step : (step : Step) → HasForm (step_words step)
+form_of_world_step (New m s n) =
     has_form (By 109 m) (codes "new") (Slot ∷ Number ∷ []) (slot s ∷ number n ∷ []) refl ((s, refl), ((n, refl), tt))
-form_of_step (Refer m strength s r q n) = refers m s r q n strength
-form_of_step (Store m s i v) =
+form_of_world_step (Refer m strength s r q n) = refers m s r q n strength
+form_of_world_step (Store m s i v) =
     has_form (By 109 m) (codes "store") (Slot ∷ Number ∷ Slot ∷ []) (slot s ∷ number i ∷ slot v ∷ []) refl
     ((s, refl), ((i, refl), ((v, refl), tt)))
-form_of_step (Load m d s i) =
+form_of_world_step (Load m d s i) =
     has_form (By 109 m) (codes "load") (Slot ∷ Slot ∷ Number ∷ []) (slot d ∷ slot s ∷ number i ∷ []) refl
     ((d, refl), ((s, refl), ((i, refl), tt)))
-form_of_step (Copy m d s) = at_slots m d s (codes "copy") refl
-form_of_step (Drop m s) = at_slot m s (codes "drop") refl
-form_of_step (Get m d r) = at_slots m d r (codes "get") refl
-form_of_step (Clear m r) = at_slot m r (codes "clear") refl
-form_of_step (RefersTo m r s) = at_slots m r s (codes "refers") refl
-form_of_step (Unhook m r) = at_slot m r (codes "unhook") refl
-form_of_step (Put (Mutator m)) = alone 109 m (codes "put") refl
-form_of_step (Put (Worker w)) = alone 119 w (codes "put") refl
-form_of_step (Poll m q) = at_queue m q (codes "poll") refl
-form_of_step (Adopt m s) = at_slot m s (codes "adopt") refl
-form_of_step (Release (Mutator m)) = alone 109 m (codes "release") refl
-form_of_step (Release (Worker w)) = alone 119 w (codes "release") refl
-form_of_step (Close m q) = at_queue m q (codes "close") refl
-form_of_step (Begin now urgency) =
+form_of_world_step (Copy m d s) = at_slots m d s (codes "copy") refl
+form_of_world_step (Drop m s) = at_slot m s (codes "drop") refl
+form_of_world_step (Get m d r) = at_slots m d r (codes "get") refl
+form_of_world_step (Clear m r) = at_slot m r (codes "clear") refl
+form_of_world_step (RefersTo m r s) = at_slots m r s (codes "refers") refl
+form_of_world_step (Unhook m r) = at_slot m r (codes "unhook") refl
+form_of_world_step (Put (Mutator m)) = alone 109 m (codes "put") refl
+form_of_world_step (Put (Worker w)) = alone 119 w (codes "put") refl
+form_of_world_step (Poll m q) = at_queue m q (codes "poll") refl
+form_of_world_step (Adopt m s) = at_slot m s (codes "adopt") refl
+form_of_world_step (Release (Mutator m)) = alone 109 m (codes "release") refl
+form_of_world_step (Release (Worker w)) = alone 119 w (codes "release") refl
+form_of_world_step (Close m q) = at_queue m q (codes "close") refl
+form_of_world_step (Begin now urgency) =
     has_form Turn (codes "begin") (Clock ∷ UrgencyName ∷ []) (Long now ∷ Letters (urgency_name urgency) ∷ []) refl
     ((now, refl), ((urgency, refl), tt))
-form_of_step (Scan w) = alone 119 w (codes "scan") refl
-form_of_step EndMark = has_form Turn (codes "endmark") [] [] refl tt
-form_of_step (ClearNext w) = alone 119 w (codes "clearnext") refl
-form_of_step EndClear = has_form Turn (codes "endclear") [] [] refl tt
-form_of_step (Hand w) = alone 119 w (codes "hand") refl
-form_of_step (Sweep w) = alone 119 w (codes "sweep") refl
-form_of_step EndSweep = has_form Turn (codes "endsweep") [] [] refl tt
+form_of_world_step (Scan w) = alone 119 w (codes "scan") refl
+form_of_world_step EndMark = has_form Turn (codes "endmark") [] [] refl tt
+form_of_world_step (ClearNext w) = alone 119 w (codes "clearnext") refl
+form_of_world_step EndClear = has_form Turn (codes "endclear") [] [] refl tt
+form_of_world_step (Hand w) = alone 119 w (codes "hand") refl
+form_of_world_step (Sweep w) = alone 119 w (codes "sweep") refl
+form_of_world_step EndSweep = has_form Turn (codes "endsweep") [] [] refl tt
+
+pub form_of_step : (step : ScriptStep) → HasForm (script_step_words step)
+form_of_step (scripts.World step) = form_of_world_step step
+form_of_step (scripts.Job m s n) =
+    has_form (By 109 m) (codes "job") (Slot ∷ Number ∷ []) (slot s ∷ number n ∷ []) refl ((s, refl), ((n, refl), tt))
+form_of_step (scripts.Run m s) = at_slot m s (codes "run") refl

@@ -1,85 +1,155 @@
 -- The text of a trace so far, and the trace that a script's text prints.
-use Rattle.std.proofs.Common.{◌≡◌, ℕ, ◌+◌, ◌<◌, ◌≤◌, List, [], ◌∷◌, ◌++◌, length, take, get_or}
-use Rattle.std.proofs.Common.{codes, decimal, refl, sym, ap, ◌∙◌, append_assoc, arith}
-use Rattle.std.proofs.lemmas.List.{length-map, length-take-le}
+use Rattle.std.proofs.Common.{◌≡◌, ℕ, ◌+◌, ◌<◌, ◌≤◌, List, [], ◌∷◌, ◌++◌, length, take, get_or, Option, Some, None}
+use Rattle.std.proofs.Common.{codes, decimal, refl, sym, ap, subst, ◌∙◌, append_assoc, arith}
+use Rattle.std.proofs.lemmas.List.{length-map, length-take-le, take_more, map-append}
 use Rattle.std.proofs.lemmas.Bool.{le-leb}
-use Rattle.ref_base.specs.Collectors.{first_state}
-use Rattle.ref_base.specs.Rows.{row_text}
+use Rattle.ref_base.specs.Collectors.{State, first_state}
+use Rattle.ref_base.specs.CollectorRows.{IsRun}
 use Rattle.ref_base.specs.declared.config.Config.{Config}
-use Rattle.ref_base.specs.declared.reply.Reply.{Reply}
+use Rattle.ref_base.specs.declared.fault.Fault.{Fault}
 use Rattle.ref_base.specs.declared.row.Row.{Row}
-use Rattle.ref_base.specs.declared.step.Step.{Step}
 use Rattle.ref_world.specs.Cores.{Core}
-use Rattle.ref_world.specs.Standing.{IsRowOf, Stands}
-use Rattle.ref_world.proofs.RunLemmas.{step_taken, runs_more}
+use Rattle.ref_world.specs.Standing.{Stands}
+use Rattle.refrun.specs.ScriptRuns.{Jobs, first_jobs, world_row, world_rows, RunsIn, IsScriptRow, IsScriptRun}
+use Rattle.refrun.specs.ScriptStanding.{IsScriptRowOf}
+use Rattle.refrun.specs.ScriptSteps.{script_row_text}
 use Rattle.refrun.specs.Scripts.{IsScript, AreScript}
 use Rattle.refrun.specs.Lines.{lines_of, most_bytes}
-use Rattle.refrun.specs.Traces.{numbered, trace_text, PrintsTrace, TellsRun, TellsTrace}
+use Rattle.refrun.specs.Traces.{numbered, trace_text, steps_of, PrintsTrace, TellsRun, TellsTrace}
+use Rattle.refrun.specs.declared.script_step.ScriptReply.{ScriptReply}
+use Rattle.refrun.specs.declared.script_step.ScriptReply.TheVariants as replies
+use Rattle.refrun.specs.declared.script_step.ScriptRow.{ScriptRow}
+use Rattle.refrun.specs.declared.script_step.ScriptStep.{ScriptStep}
+use Rattle.refrun.specs.declared.script_step.ScriptStep.TheVariants as scripts
 
 -- one line of a trace
-line_of_row : ℕ → Row → List ℕ
-line_of_row k row = decimal k ++ 32 ∷ row_text row ++ 10 ∷ []
+line_of_row : ℕ → ScriptRow → List ℕ
+line_of_row k row = decimal k ++ 32 ∷ script_row_text row ++ 10 ∷ []
 
-numbered_push : (k : ℕ) (rows : List Row) (row : Row) → numbered k
+numbered_push : (k : ℕ) (rows : List ScriptRow) (row : ScriptRow) → numbered k
     (rows ++ row ∷ []) ≡ numbered k rows ++ line_of_row (k + length rows) row
 unfolding line_of_row
 numbered_push k [] row = let same : k ≡ k + 0 = omega arith in ap (λ n. line_of_row n row) same
 numbered_push k (r ∷ rows) row =
-    let begun = decimal k ++ 32 ∷ row_text r in
+    let begun = decimal k ++ 32 ∷ script_row_text r in
     let next : k + 1 + length rows ≡ k + length (r ∷ rows) = omega arith in
     ap (λ (t : List ℕ). begun ++ 10 ∷ t) (numbered_push (k + 1) rows row)
     ∙ sym (append_assoc begun (10 ∷ numbered (k + 1) rows) (line_of_row (k + 1 + length rows) row))
     ∙ ap (λ n. (begun ++ 10 ∷ numbered (k + 1) rows) ++ line_of_row n row) next
 
--- a run with no step
-pub tells_nothing_yet : (world : Core) → TellsRun world [] (trace_text []) world
-tells_nothing_yet world = ([], refl, (λ a stands. (a, refl, stands)), refl)
+-- the steps that have their rows are one more
+step_taken : (steps : List ScriptStep) (i : ℕ) (next : ScriptStep) (rows : List ScriptRow) (reply : ScriptReply)
+    → i < length steps → next ≡ get_or steps i next → steps_of rows ≡ take i steps
+    → steps_of (rows ++ record { step = next; reply = reply } ∷ []) ≡ take (i + 1) steps
+step_taken steps i next rows reply within is so_far =
+    map-append (λ (row : ScriptRow). row.step) rows (record { step = next; reply = reply } ∷ [])
+    ∙ ap (λ (s : List ScriptStep). s ++ next ∷ []) so_far
+    ∙ sym (take_more steps i next within ∙ ap (λ (s : ScriptStep). take i steps ++ s ∷ []) (sym is))
 
--- and with one step more, whose row is number i + 1
-pub tells_more : (old mid new : Core) (steps : List Step) (i k : ℕ) (next : Step) (reply : Reply) (text more : List ℕ)
-    → TellsRun old (take i steps) text mid → k ≡ i → i < length steps → next ≡ get_or steps i next
-    → IsRowOf mid next reply new
-    → more ≡ text ++ (decimal (k + 1) ++ 32 ∷ (row_text (record { step = next; reply = reply }) ++ 10 ∷ []))
-    → TellsRun old (take (i + 1) steps) more new
-unfolding line_of_row
-tells_more old mid new steps i k next reply text more told same_k within is row more_is =
-    let row_made : Row = record { step = next; reply = reply } in
-    let rows = told.0 in
-    let counted : length rows ≡ i =
-    sym (length-map rows (λ (r : Row). r.step)) ∙ ap length told.1
-    ∙ length-take-le i steps (omega (arith, within)) in
-    let count : k + 1 ≡ 1 + length rows = omega (arith, same_k, counted) in
-    let line : decimal (k + 1) ++ 32 ∷ (row_text row_made ++ 10 ∷ []) ≡ line_of_row (k + 1) row_made =
-    sym (append_assoc (decimal (k + 1)) (32 ∷ row_text row_made) (10 ∷ [])) in (
-      rows ++ row_made ∷ [],
-      step_taken steps steps i next rows reply refl within is told.1,
-      runs_more old mid new rows next reply told.2 row,
-      more_is ∙ ap (λ (t : List ℕ). text ++ t) line ∙ ap (λ (t : List ℕ). t ++ line_of_row (k + 1) row_made) told.3
-          ∙ ap (λ (t : List ℕ). codes "reftrace 1" ++ 10 ∷ t)
-          (ap (λ n. numbered 1 rows ++ line_of_row n row_made) count ∙ sym (numbered_push 1 rows row_made)),
-    )
+module _ {J : Type 0} (number note : J → ℕ) where
+  -- ---- a run, row by row
 
--- ---- the answer
+  run_more : (a : State) (before : Jobs J) (rows : List ScriptRow) (mid : State) (between : Jobs J) (b : State)
+      (after : Jobs J) (row : ScriptRow) → IsScriptRun number note a before rows mid between
+      → IsScriptRow number note mid between row.step row.reply b after
+      → IsScriptRun number note a before (rows ++ row ∷ []) b after
+  run_more a before [] mid between b after row run next =
+      (b, after, rw (run.0, run.1) at next, (refl, refl))
+  run_more a before (r ∷ rows) mid between b after row run next =
+      (run.0, run.1, run.2, run_more run.0 run.1 rows mid between b after row run.3 next)
 
--- a run from a world that stands for the first state is a legal trace
-pub tells_trace : (config : Config) (old new : Core) (steps seen : List Step) (text : List ℕ)
-    → Stands old (first_state config) → seen ≡ steps → TellsRun old seen text new → TellsTrace config steps text
-tells_trace config old new steps seen text stands same told =
-    let ran = told.2 (first_state config) stands in
-    (told.0, told.1 ∙ same, (ran.0, ran.1), told.3)
+  -- a run of jobs is read as what it did to the world
+  run_in_world : (refusal : Option Fault) (held : Option ℕ) (m s : ℕ) (a : State) (before : Jobs J) (reply : ScriptReply)
+      (mid : State) (between : Jobs J) (rest : List Row) (b : State)
+      → RunsIn number note refusal held m s a before reply mid between → IsRun mid rest b
+      → IsRun a (world_row (scripts.Run m s) reply ++ rest) b
+  run_in_world (Some fault) held m s a before reply mid between rest b row run =
+      rw row.0 (subst (λ (x : State). IsRun x rest b) row.1 run)
+  run_in_world None None m s a before reply mid between rest b row run = absurd row
+  run_in_world None (Some object) m s a before replies.Gone mid between rest b row run =
+      subst (λ (x : State). IsRun x rest b) row.2 run
+  run_in_world None (Some object) m s a before (replies.Ran ran) mid between rest b row run = (mid, row.4, run)
+  run_in_world None (Some object) m s a before reply mid between rest b row run = absurd row
+
+  row_in_world : (a : State) (before : Jobs J) (step : ScriptStep) (reply : ScriptReply) (mid : State)
+      (between : Jobs J) (rest : List Row) (b : State) → IsScriptRow number note a before step reply mid between
+      → IsRun mid rest b → IsRun a (world_row step reply ++ rest) b
+  row_in_world a before (scripts.World step) (replies.World reply) mid between rest b row run = (mid, row.0, run)
+  row_in_world a before (scripts.World step) reply mid between rest b row run = absurd row
+  row_in_world a before (scripts.Job m s n) reply mid between rest b row run =
+      subst (λ (x : State). IsRun x rest b) row.1 run
+  row_in_world a before (scripts.Run m s) reply mid between rest b row run =
+      run_in_world _ _ m s a before reply mid between rest b row run
+
+  -- the rows of the world are a run
+  run_of_world : (a : State) (before : Jobs J) (rows : List ScriptRow) (b : State) (after : Jobs J)
+      → IsScriptRun number note a before rows b after → IsRun a (world_rows rows) b
+  run_of_world a before [] b after run = run.0
+  run_of_world a before (row ∷ rows) b after run =
+      row_in_world a before row.step row.reply run.0 run.1 (world_rows rows) b run.2
+      (run_of_world run.0 run.1 rows b after run.3)
+
+  -- ---- its text
+
+  -- a run with no step
+  pub tells_nothing_yet : (world : Core) (jobs : Jobs J) → TellsRun number note world jobs [] (trace_text []) world jobs
+  tells_nothing_yet world jobs = ([], refl, (λ a stands. (a, (refl, refl), stands)), refl)
+
+  -- and with one step more, whose row is number i + 1
+  pub tells_more : (old mid new : Core) (before between after : Jobs J) (steps : List ScriptStep) (i k : ℕ)
+      (next : ScriptStep) (reply : ScriptReply) (text more : List ℕ)
+      → TellsRun number note old before (take i steps) text mid between → k ≡ i → i < length steps
+      → next ≡ get_or steps i next → IsScriptRowOf number note mid between next reply new after
+      → more ≡ text ++ (decimal (k + 1) ++ 32 ∷ (script_row_text (record { step = next; reply = reply }) ++ 10 ∷ []))
+      → TellsRun number note old before (take (i + 1) steps) more new after
+  unfolding line_of_row
+  tells_more old mid new before between after steps i k next reply text more told same_k within is row more_is =
+      let row_made : ScriptRow = record { step = next; reply = reply } in
+      let rows = told.0 in
+      let counted : length rows ≡ i =
+      sym (length-map rows (λ (r : ScriptRow). r.step)) ∙ ap length told.1
+      ∙ length-take-le i steps (omega (arith, within)) in
+      let count : k + 1 ≡ 1 + length rows = omega (arith, same_k, counted) in
+      let line : decimal (k + 1) ++ 32 ∷ (script_row_text row_made ++ 10 ∷ []) ≡ line_of_row (k + 1) row_made =
+      sym (append_assoc (decimal (k + 1)) (32 ∷ script_row_text row_made) (10 ∷ [])) in (
+        rows ++ row_made ∷ [],
+        step_taken steps i next rows reply within is told.1,
+        λ a stands. let ran = told.2 a stands in
+            let one = row ran.0 ran.2 in
+            (one.0, run_more a before rows ran.0 between one.0 after row_made ran.1 one.1, one.2),
+        more_is ∙ ap (λ (t : List ℕ). text ++ t) line ∙ ap (λ (t : List ℕ). t ++ line_of_row (k + 1) row_made) told.3
+            ∙ ap (λ (t : List ℕ). codes "reftrace 1" ++ 10 ∷ t)
+            (ap (λ n. numbered 1 rows ++ line_of_row n row_made) count ∙ sym (numbered_push 1 rows row_made)),
+      )
+
+  -- ---- the answer
+
+  -- a run from a world that stands for the first state, and from an empty table, is a trace
+  pub tells_trace : (config : Config) (jobs : List J) (old new : Core) (before after : Jobs J)
+      (steps seen : List ScriptStep) (text : List ℕ) → Stands old (first_state config) → before ≡ first_jobs jobs
+      → seen ≡ steps → TellsRun number note old before seen text new after
+      → TellsTrace number note config jobs steps text
+  tells_trace config jobs old new before after steps seen text stands first same told =
+      let ran = told.2 (first_state config) stands in
+      (told.0, told.1 ∙ same, (ran.0, after, rw first at ran.1), told.3)
+
+  -- the text of a trace of a script's steps is what a text that spells the script prints
+  pub prints_trace : (jobs : List J) (text printed : List ℕ) (config : Config) (steps : List ScriptStep)
+      → IsScript text config steps → TellsTrace number note config jobs steps printed
+      → PrintsTrace number note jobs text printed
+  prints_trace jobs text printed config steps script told =
+      let trace = told.2 in
+      record {
+        config = config;
+        rows = told.0;
+        script = rw told.1 script;
+        legal =
+            (trace.0, run_of_world (first_state config) (first_jobs jobs) told.0 trace.0 trace.1 trace.2);
+        with_jobs = trace;
+        is_text = told.3;
+      }
 
 -- a short enough text whose lines are a script spells it
-pub is_script : (text : List ℕ) (config : Config) (steps : List Step) → length text ≤ most_bytes
+pub is_script : (text : List ℕ) (config : Config) (steps : List ScriptStep) → length text ≤ most_bytes
     → AreScript (lines_of text) config steps → IsScript text config steps
 is_script text config steps short lines = record { short = le-leb _ _ short; lines = lines }
-
--- the text of a legal trace of a script's steps is what a text that spells the script prints
-pub prints_trace : (text printed : List ℕ) (config : Config) (steps : List Step) → IsScript text config steps
-    → TellsTrace config steps printed → PrintsTrace text printed
-prints_trace text printed config steps script told = record {
-  config = config;
-  rows = told.0;
-  script = rw told.1 script;
-  legal = told.2;
-  is_text = told.3;
-}

@@ -2,6 +2,7 @@ pub mod ExitStatuses
 pub mod Lines
 pub mod LineViews
 pub mod Numerals
+pub mod ScriptSteps
 pub mod Spelling
 pub mod StepForms
 pub mod StepFaults
@@ -15,6 +16,9 @@ pub mod LineReading
 pub mod Streams
 pub mod Reads
 pub mod Answers
+pub mod JobViews
+pub mod ScriptRuns
+pub mod ScriptStanding
 pub mod Traces
 pub mod Listings
 pub mod StressChecks

@@ -5,11 +5,11 @@ use Rattle.std.specs.List.{list_all}
 use Rattle.std.specs.Str.{bytes_eq}
 use Rattle.ref_base.specs.Limits.{is_within_limits}
 use Rattle.ref_base.specs.declared.config.Config.{Config}
-use Rattle.ref_base.specs.declared.step.Step.{Step}
 use Rattle.refrun.specs.Lines.{TextLine, lines_of, most_bytes}
 use Rattle.refrun.specs.Numerals.{number_below}
-use Rattle.refrun.specs.Spelling.{SpellsStep}
+use Rattle.refrun.specs.Spelling.{SpellsScriptStep}
 use Rattle.refrun.specs.ToldLines.{is_plain, told, is_titled}
+use Rattle.refrun.specs.declared.script_step.ScriptStep.{ScriptStep}
 
 -- the words of the header
 abbrev pub is_header : List (List ℕ) → Bool
@@ -30,14 +30,14 @@ config_of (name ∷ m ∷ w ∷ q ∷ c ∷ s ∷ []) =
 config_of other = None
 
 -- each line spells its step
-abbrev pub SpellSteps : List (List (List ℕ)) → List Step → Type 0
+abbrev pub SpellSteps : List (List (List ℕ)) → List ScriptStep → Type 0
 SpellSteps [] [] = Unit {0}
 SpellSteps [] (step ∷ steps) = ⊥
 SpellSteps (words ∷ lines) [] = ⊥
-SpellSteps (words ∷ lines) (step ∷ steps) = SpellsStep words step × SpellSteps lines steps
+SpellSteps (words ∷ lines) (step ∷ steps) = SpellsScriptStep words step × SpellSteps lines steps
 
 -- the header, the configuration, and the steps
-abbrev pub SpellScript : List (List (List ℕ)) → Config → List Step → Type 0
+abbrev pub SpellScript : List (List (List ℕ)) → Config → List ScriptStep → Type 0
 SpellScript [] config steps = ⊥
 SpellScript (header ∷ []) config steps = ⊥
 SpellScript (header ∷ words ∷ lines) config steps =
@@ -45,11 +45,11 @@ SpellScript (header ∷ words ∷ lines) config steps =
     SpellSteps lines steps
 
 -- the lines are those of a script of this configuration and these steps
-pub record AreScript (lines : List TextLine) (config : Config) (steps : List Step) : Type 0 where
+pub record AreScript (lines : List TextLine) (config : Config) (steps : List ScriptStep) : Type 0 where
   pub plain : list_all is_plain lines ≡ true
   pub told : SpellScript (told lines) config steps
 
 -- the text is such a script
-pub record IsScript (text : List ℕ) (config : Config) (steps : List Step) : Type 0 where
+pub record IsScript (text : List ℕ) (config : Config) (steps : List ScriptStep) : Type 0 where
   pub short : nat_le (length text) most_bytes ≡ true
   pub lines : AreScript (lines_of text) config steps

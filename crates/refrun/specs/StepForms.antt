@@ -49,8 +49,13 @@ notice_forms =
     ∷ form (codes "close") (Queue ∷ [])
     ∷ []
 
+-- the steps of a mutator in the world
 abbrev pub mutator_forms : List Form
 mutator_forms = object_forms ++ reference_forms ++ notice_forms
+
+-- and its steps of jobs
+abbrev pub job_forms : List Form
+job_forms = form (codes "job") (Slot ∷ Number ∷ []) ∷ form (codes "run") (Slot ∷ []) ∷ []
 
 -- the steps of a worker
 abbrev pub worker_forms : List Form
@@ -79,4 +84,4 @@ operands_in (f ∷ forms) name = if bytes_eq name f.name then Some f.operands el
 
 -- the steps of the actors that this letter stands for, `m` or `w`
 abbrev pub forms_of_letter : ℕ → List Form
-forms_of_letter letter = if letter == 109 then mutator_forms else (if letter == 119 then worker_forms else [])
+forms_of_letter letter = if letter == 109 then job_forms ++ mutator_forms else (if letter == 119 then worker_forms else [])

@@ -2,7 +2,7 @@
 
 ghost use Rattle.std.specs.Prelude.{◌≡◌, ℕ, List, None};
 ghost use Rattle.ref_base.specs.declared.config.Config.{Config};
-ghost use Rattle.ref_base.specs.declared.step.Step.{Step};
+ghost use Rattle.refrun.specs.declared.script_step.ScriptStep.{ScriptStep};
 ghost use Rattle.refrun.specs.Scripts.{IsScript};
 ghost use Rattle.ref_base.specs.Graphs.{Graph};
 ghost use Rattle.refrun.specs.GraphTexts.{DeclaresGraph};
@@ -10,13 +10,13 @@ ghost use Rattle.refrun.specs.TextFaults.{script_fault, graph_fault};
 
 /// A text that spells a script has no fault: nothing in the grammar is refused.
 pub fn a_script_has_no_fault()
-    ensures { (text : List ℕ) (config : Config) (steps : List Step) → IsScript text config steps
+    ensures { (text : List ℕ) (config : Config) (steps : List ScriptStep) → IsScript text config steps
         → script_fault text ≡ None }
 {}
 
 /// A text spells at most one script.
 pub fn a_text_spells_one_script()
-    ensures { (text : List ℕ) (c d : Config) (r s : List Step) → IsScript text c r → IsScript text d s
+    ensures { (text : List ℕ) (c d : Config) (r s : List ScriptStep) → IsScript text c r → IsScript text d s
         → (c ≡ d) × (r ≡ s) }
 {}
 

@@ -4,6 +4,7 @@
 mod declarations;
 mod fault;
 mod graph_text;
+mod jobs;
 pub mod laws;
 mod lines;
 mod listing;
@@ -14,6 +15,7 @@ mod operands;
 mod reading;
 mod roles;
 mod script;
+mod script_step;
 mod shapes;
 mod sink;
 mod source;

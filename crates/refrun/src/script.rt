@@ -7,25 +7,26 @@ ghost use Rattle.refrun.specs.Lines.{lines_of, words_of, most_bytes};
 ghost use Rattle.refrun.specs.LineReading.{FailsFor};
 ghost use Rattle.refrun.specs.Numerals.{number_below};
 ghost use Rattle.refrun.specs.Scripts.{is_header, config_of, config_from, SpellSteps, AreScript};
-ghost use Rattle.refrun.specs.Spelling.{SpellsStep};
+ghost use Rattle.refrun.specs.Spelling.{SpellsScriptStep};
 ghost use Rattle.refrun.specs.StepFaults.{step_fault};
 ghost use Rattle.refrun.specs.TextFaults.{ScriptHeader, Steps, fault_or, first_fault};
 ghost use Rattle.refrun.specs.ToldLines.{is_plain, told};
-ghost use Rattle.ref_base.specs.declared.step.Step.{Step};
+ghost use Rattle.refrun.specs.declared.script_step.ScriptStep.{ScriptStep};
 
 use crate::fault::{LineFault, TextFault};
 use crate::lines::next_word;
 use crate::numerals::{long_number, short_number};
+use crate::script_step::ScriptStep;
 use crate::steps::step_of;
 use crate::told::{is_titled, next_told};
-use ref_base::{Config, Step};
+use ref_base::Config;
 use std::alloc::Allocator;
 
 /// What a script says.
 #[derive(Drop)]
 pub struct Script<A: Allocator> {
     pub config: Config,
-    pub steps: Vec<Step, A>,
+    pub steps: Vec<ScriptStep, A>,
 }
 
 /// The script that a text spells, or the fault of its first faulty line.
@@ -56,7 +57,11 @@ pub fn script_of<A: Allocator>(alloc: A, text: &[u8]) -> Result<Script<A>, TextF
 }
 
 /// The steps of the lines behind the line of this number.
-fn steps_of<A: Allocator>(alloc: A, text: &[u8], number: u64) -> Result<Vec<Step, A>, TextFault>
+fn steps_of<A: Allocator>(
+    alloc: A,
+    text: &[u8],
+    number: u64,
+) -> Result<Vec<ScriptStep, A>, TextFault>
     requires { number + length text.now ≤ most_bytes + 1 }
     ensures spelt { IfOk result (λ steps. SpellSteps (told (lines_of text.now)) steps.items) }
     ensures plain { IfOk result (λ steps. list_all is_plain (lines_of text.now) ≡ true) }
@@ -73,11 +78,11 @@ fn steps_of<A: Allocator>(alloc: A, text: &[u8], number: u64) -> Result<Vec<Step
 
 /// Adds the step of the line of this number.
 fn add_step<A: Allocator>(
-    steps: &mut Vec<Step, A>,
+    steps: &mut Vec<ScriptStep, A>,
     content: &[u8],
     number: u64,
 ) -> Result<(), TextFault>
-    ensures ok { OnOk result ((step : Step) × SpellsStep (words_of content.now) step ×
+    ensures ok { OnOk result ((step : ScriptStep) × SpellsScriptStep (words_of content.now) step ×
         (steps.new.items ≡ steps.old.items ++ step ∷ [])) }
     ensures fault { IfErr result (λ e. FailsFor e (fault_or number (step_fault (words_of content.now)) None)) }
 {

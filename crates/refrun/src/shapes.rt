@@ -39,6 +39,22 @@ pub fn at_slot(number: &[u8], rest: &[u8]) -> Result<(MutNo, SlotNo), LineFault>
     Ok((mutator, slot))
 }
 
+/// As `m0 job s1 3`.
+pub fn at_slot_and_count(number: &[u8], rest: &[u8]) -> Result<(MutNo, SlotNo, u32), LineFault>
+    ensures found { IfOk result (λ r. AreSpelt (number.now ∷ words_of rest.now)
+        (texts.number r.0 ∷ texts.slot r.1 ∷ texts.number r.2 ∷ [])) }
+    ensures fault { IfErr result (λ fault. operand_fault (Number ∷ Slot ∷ Number ∷ []) (number.now ∷ words_of rest.now)
+        ≡ Some fault) }
+{
+    let (slot, rest) = operand(rest)?;
+    let (count, rest) = operand(rest)?;
+    let mutator = MutNo(count_of(number)?);
+    let slot = slot_of(slot)?;
+    let count = count_of(count)?;
+    ends(rest)?;
+    Ok((mutator, slot, count))
+}
+
 /// As `m0 copy s1 s0`.
 pub fn at_slots(number: &[u8], rest: &[u8]) -> Result<(MutNo, SlotNo, SlotNo), LineFault>
     ensures found { IfOk result (λ r. AreSpelt (number.now ∷ words_of rest.now)

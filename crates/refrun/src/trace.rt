@@ -2,31 +2,38 @@
 
 ghost use Rattle.std.specs.Prelude.{◌≡◌, ◌≤◌, ◌||◌, true, string_bytes, length, None};
 ghost use Rattle.std.specs.Prelude.{IfOk, IfErr, OnErr, IfSome};
+ghost use Rattle.refrun.specs.JobViews.{number_of, note_of};
 ghost use Rattle.refrun.specs.LineReading.{FailsFor};
 ghost use Rattle.refrun.specs.Lines.{lines_of, most_bytes};
+ghost use Rattle.refrun.specs.ScriptStanding.{jobs};
 ghost use Rattle.refrun.specs.TextFaults.{ScriptHeader, first_fault, script_fault};
 ghost use Rattle.refrun.specs.Traces.{AnswersRun, PrintsTrace, TellsRun, TellsTrace};
 ghost use Rattle.refrun.specs.Answers.{KeepsUnlessDone, TellsFault, is_cannot_read, is_cannot_write};
 
 use crate::fault::TextFault;
+use crate::jobs::Stage;
 use crate::reading::text_of;
 use crate::script::{Script, script_of};
+use crate::script_step::{ScriptRow, ScriptStep};
 use crate::sink::{TextSink, WriteFailed};
 use crate::source::TextSource;
-use ref_base::{Row, Step};
+use ref_queue::{CleanTable, Job};
 use ref_world::World;
 use std::alloc::{AllocError, Allocator};
 
 /// As many bytes as few rows are longer than.
 const ROW_TEXT: usize = 40;
 
-/// Reads a script, runs it, and writes its trace.
+/// Reads a script, runs it with these jobs, and writes its trace.
 ///
 /// The whole text is read before the first step runs, and the whole trace is made before anything of it is written. The
 /// answer is `Ok` where the trace has gone out, and else the first of: `CannotRead` where a read failed; `TooLong`, or
 /// the fault of the first faulty line; `CannotWrite` where a write failed, and then a prefix of the trace may have gone
-/// out. `NoMemory` may come in place of each but the last. A growth that is refused inside a put is a row of the trace,
-/// and the script goes on.
+/// out. `NoMemory` may come in place of each but the last. A growth that is refused inside a put or a `job` is a row of
+/// the trace, and the script goes on.
+///
+/// A `job` names a job by its number, so no two should have the same. The jobs are spent: one that no `run` took is
+/// dropped without being run.
 ///
 /// Beside the text and its trace, the run takes what the world takes, and 32 bytes a step, or at most 96 while the steps
 /// are read. All its memory is of this allocator.
@@ -34,9 +41,10 @@ pub fn run_script<R: TextSource, W: TextSink, A: Allocator + Copy>(
     alloc: A,
     reader: &mut R,
     writer: &mut W,
+    jobs: Vec<Job, A>,
 ) -> Result<(), TextFault>
     ensures answer { IfSome (R.remaining reader.old) (λ text.
-        AnswersRun text (W.contents writer.old) (W.contents writer.new) result) }
+        AnswersRun number_of note_of jobs.items text (W.contents writer.old) (W.contents writer.new) result) }
     ensures refused { IfSome (R.remaining reader.old) (λ text.
         IfSome (script_fault text) (λ fault. TellsFault fault result)) }
 
@@ -46,7 +54,7 @@ pub fn run_script<R: TextSource, W: TextSink, A: Allocator + Copy>(
     ensures cannot_write { W.has_failed writer.new ≡ (W.has_failed writer.old || is_cannot_write result) }
 {
     let text = text_of(alloc, reader)?;
-    let trace = trace_behind(alloc, text.as_slice())?;
+    let trace = trace_behind(alloc, text.as_slice(), jobs)?;
     match writer.write_text(trace.as_bytes()) {
         Ok(()) => Ok(()),
         Err(WriteFailed) => Err(TextFault::CannotWrite),
@@ -54,20 +62,29 @@ pub fn run_script<R: TextSource, W: TextSink, A: Allocator + Copy>(
 }
 
 /// The text of the trace of the script that a text spells, or the fault of the text's first faulty line.
-fn trace_behind<A: Allocator + Copy>(alloc: A, text: &[u8]) -> Result<String<A>, TextFault>
+fn trace_behind<A: Allocator + Copy>(
+    alloc: A,
+    text: &[u8],
+    jobs: Vec<Job, A>,
+) -> Result<String<A>, TextFault>
     requires { length text.now ≤ most_bytes }
-    ensures prints { IfOk result (λ trace. PrintsTrace text.now (string_bytes trace)) }
+    ensures prints { IfOk result (λ trace. PrintsTrace number_of note_of jobs.items text.now (string_bytes trace)) }
     ensures sound { IfOk result (λ trace. script_fault text.now ≡ None) }
     ensures fault { IfErr result (λ e. FailsFor e (first_fault ScriptHeader 1 (lines_of text.now))) }
 {
     let script = script_of(alloc, text)?;
-    let trace = trace_of(alloc, script)?;
+    let trace = trace_of(alloc, script, jobs)?;
     Ok(trace)
 }
 
-/// The text of a legal trace of the script's steps. The world that answered them has ended.
-fn trace_of<A: Allocator + Copy>(alloc: A, script: Script<A>) -> Result<String<A>, TextFault>
-    ensures told { IfOk result (λ text. TellsTrace script.config script.steps.items (string_bytes text)) }
+/// The text of a trace of the script's steps with these jobs. The world that answered them has ended.
+fn trace_of<A: Allocator + Copy>(
+    alloc: A,
+    script: Script<A>,
+    jobs: Vec<Job, A>,
+) -> Result<String<A>, TextFault>
+    ensures told { IfOk result (λ text. TellsTrace number_of note_of script.config jobs.items script.steps.items
+        (string_bytes text)) }
     ensures err { OnErr result (result ≡ Err TextFault.NoMemory) }
 {
     let Script { config, steps } = script;
@@ -75,27 +92,33 @@ fn trace_of<A: Allocator + Copy>(alloc: A, script: Script<A>) -> Result<String<A
     let Ok(world) = World::new(alloc, config) else {
         return Err(TextFault::NoMemory);
     };
-    let mut world = world;
-    let told = told_run(alloc, &mut world, steps.as_slice());
-    world.end();
+    let mut stage = Stage {
+        world,
+        table: CleanTable::new(alloc),
+        left: jobs,
+    };
+    let told = told_run(alloc, &mut stage, steps.as_slice());
+    stage.end();
     Ok(told?)
 }
 
-/// Does these steps in the world, and tells them: the header, and their rows numbered from 1.
+/// Does these steps, and tells them: the header, and their rows numbered from 1.
 fn told_run<A: Allocator + Copy>(
     alloc: A,
-    world: &mut World<A>,
-    steps: &[Step],
+    stage: &mut Stage<A>,
+    steps: &[ScriptStep],
 ) -> Result<String<A>, AllocError>
-    ensures { IfOk result (λ text. TellsRun world.old steps.now (string_bytes text) world.new) }
+    ensures { IfOk result (λ text. TellsRun number_of note_of stage.old.world
+        (jobs stage.old.table stage.old.left.items) steps.now (string_bytes text) stage.new.world
+        (jobs stage.new.table stage.new.left.items)) }
 {
     // Room for most traces at once: while it grows, a text is copied, and takes its room more than once.
     let mut text = String::with_capacity(alloc, steps.len().saturating_mul(ROW_TEXT))?;
     text.push_str("reftrace 1\n")?;
     let mut number = 0u64;
     for step in steps {
-        let reply = world.step(*step);
-        let row = Row { step: *step, reply };
+        let reply = stage.step(*step);
+        let row = ScriptRow { step: *step, reply };
         number += 1;
         writeln!(text, "{number} {row}")?;
     }

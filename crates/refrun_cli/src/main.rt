@@ -7,13 +7,19 @@
 
 mod stressing;
 
+ghost use Rattle.std.specs.Prelude.{◌≡◌, ◌<◌, ◌+◌};
+
 use clap::error::ErrorKind;
 use clap::{ArgMatches, Command, Error};
+use ref_queue::{Action, Job};
 use refrun::{FromReader, TextFault, ToWriter, run_script, strength_text};
 use std::alloc::Global;
 use std::io::IsTerminal;
 use std::process::ExitCode;
 use std::{env, io};
+
+/// How many jobs a script has.
+const JOBS: u64 = 64;
 
 /// The status of a wrong command line.
 const WRONG_COMMAND_LINE: u8 = 2;
@@ -62,9 +68,26 @@ fn command_of<'a>(alloc: Global, words: &'a [String]) -> Result<ArgMatches<'a>, 
 
 /// Runs the script on standard input.
 fn run<R: Input + Print + Eprint + AllocGlobal>(rt: &R) -> ExitCode {
+    status(rt, run_with_jobs(rt))
+}
+
+/// Runs the script on standard input with its jobs: job a has number a, and its action answers a + 1000.
+fn run_with_jobs<R: Input + Print + AllocGlobal>(rt: &R) -> Result<(), TextFault> {
+    let alloc = rt.alloc();
+    let mut jobs = Vec::new(alloc);
+    for number in 0..JOBS {
+        let action: Action = Box::new(
+            alloc,
+            |number: u64| -> u64
+                requires { number < 64 }
+                ensures { result ≡ number + 1000 }
+            { number + 1000 },
+        )?;
+        jobs.push(Job::new(number, number + 1000, action))?;
+    }
     let mut reader = FromReader::new(rt.reader());
     let mut writer = ToWriter::new(io::writer(rt));
-    status(rt, run_script(rt.alloc(), &mut reader, &mut writer))
+    run_script(alloc, &mut reader, &mut writer, jobs)
 }
 
 /// Prints the strengths of the graph on standard input.

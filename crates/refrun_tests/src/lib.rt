@@ -14,6 +14,8 @@ mod fakes;
 #[cfg(test)]
 mod graph_cases;
 #[cfg(test)]
+mod job_cases;
+#[cfg(test)]
 mod list_cases;
 #[cfg(test)]
 mod memory;

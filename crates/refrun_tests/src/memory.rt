@@ -141,6 +141,56 @@ fn an_allocation_that_fails_is_told_of(rt: HostRuntime) -> Result<(), Fail> {
     Ok(())
 }
 
+/// A job is registered, asked for again, and run.
+const ONE_JOB: &[u8] = b"refscript 1
+config 1 1 1 8 0
+m0 new s0 0
+m0 weak s1 s0 - 0
+m0 job s1 0
+m0 job s1 0
+m0 run s1
+";
+
+/// What it prints where its table finds memory.
+const REGISTERED: &[u8] = b"reftrace 1
+1 m0 new s0 0 : object 1
+2 m0 weak s1 s0 - 0 : object 2
+3 m0 job s1 0 : ok
+4 m0 job s1 0 : used
+5 m0 run s1 : ran 0 1000
+";
+
+/// And where it finds none: the job stays to be registered.
+const NOT_REGISTERED: &[u8] = b"reftrace 1
+1 m0 new s0 0 : object 1
+2 m0 weak s1 s0 - 0 : object 2
+3 m0 job s1 0 : refused 3 NoMemory
+4 m0 job s1 0 : refused 3 NoMemory
+5 m0 run s1 : gone
+";
+
+#[test]
+fn a_job_that_finds_no_memory_stays_to_be_registered(rt: HostRuntime) -> Result<(), Fail> {
+    let (mut without, mut partly, mut wholly) = (false, false, false);
+    for size in 0..1_500 {
+        let (answer, trace) = printed_in(&rt, rt.alloc(), Task::RunWithJobs, ONE_JOB, 64 * size)?;
+        match answer {
+            Err(fault) => {
+                assert_eq!(rt; fault, TextFault::NoMemory);
+                assert!(rt; trace.is_empty());
+                without = true;
+            }
+            Ok(()) if trace.as_slice() == NOT_REGISTERED => partly = true,
+            Ok(()) => {
+                assert_eq!(rt; trace.as_slice(), REGISTERED);
+                wholly = true;
+            }
+        }
+    }
+    assert!(rt; without && partly && wholly);
+    Ok(())
+}
+
 #[test]
 fn a_listing_is_whole_or_memory_ran_out(rt: HostRuntime) -> Result<(), Fail> {
     let (mut without, mut wholly) = (false, false);

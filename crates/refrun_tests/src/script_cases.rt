@@ -3,11 +3,28 @@
 
 use crate::cases::Case;
 
-pub static SCRIPTS: [Case; 23] = [
+pub static SCRIPTS: [Case; 24] = [
     Case {
         name: "empty script",
         text: b"refscript 1\nconfig 1 1 1 1 0\n",
         prints: b"reftrace 1\n",
+        error: "",
+    },
+    Case {
+        name: "without jobs each number is used",
+        text: b"refscript 1
+config 1 1 1 8 10
+m0 new s0 0
+m0 weak s1 s0 - 0
+m0 job s1 0
+m0 run s1
+",
+        prints: b"reftrace 1
+1 m0 new s0 0 : object 1
+2 m0 weak s1 s0 - 0 : object 2
+3 m0 job s1 0 : used
+4 m0 run s1 : gone
+",
         error: "",
     },
     Case {

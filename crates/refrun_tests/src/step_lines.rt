@@ -8,7 +8,7 @@ use std::process::Abort;
 use std::test::Fail;
 
 /// A line of each step; actors, slots and queues may be outside the configuration.
-const READ: [&str; 33] = [
+const READ: [&str; 36] = [
     "m0 new s0 0",
     "m0 soft s1 s0 q0 0",
     "m0 weak s1 s0 - 0",
@@ -26,6 +26,9 @@ const READ: [&str; 33] = [
     "m0 adopt s1",
     "m0 release",
     "m0 close q0",
+    "m0 job s1 3",
+    "m0 job s0001 4294967295",
+    "m0 run s1",
     "w0 scan",
     "w0 clearnext",
     "w0 hand",
@@ -68,8 +71,8 @@ const UNKNOWN: [&str; 31] = [
     "w0 scans",
     "endmarks",
     "end mark",
-    "m0 job s1 1",
-    "m0 run s1",
+    "w0 job s1 1",
+    "w0 run s1",
     "select",
     "w0 move",
     "endmove",
@@ -80,7 +83,7 @@ const UNKNOWN: [&str; 31] = [
 ];
 
 /// A word is missing, whatever else is wrong.
-const MISSING: [&str; 28] = [
+const MISSING: [&str; 31] = [
     "m0 new s0",
     "m0 new",
     "m0 soft s1 s0 q0",
@@ -105,6 +108,9 @@ const MISSING: [&str; 28] = [
     "m0 poll",
     "m0 adopt",
     "m0 close",
+    "m0 job s1",
+    "m0 job",
+    "m0 run",
     "begin 5",
     "begin",
     "mx new s0",
@@ -112,7 +118,7 @@ const MISSING: [&str; 28] = [
 ];
 
 /// The actor's number or an operand isn't of its form.
-const BAD: [&str; 59] = [
+const BAD: [&str; 65] = [
     "m new s0 0",
     "m0 new 0 0",
     "m0 new s0 s0",
@@ -162,6 +168,12 @@ const BAD: [&str; 59] = [
     "m4294967296 release",
     "m0x close q0",
     "m0 close q4294967296",
+    "m0x job s1 1",
+    "m0 job 1 1",
+    "m0 job s1 s1",
+    "m0 job s1 4294967296",
+    "m run s1",
+    "m0 run 1",
     "w scan",
     "ww0 clearnext",
     "w4294967296 hand",
@@ -175,7 +187,7 @@ const BAD: [&str; 59] = [
 ];
 
 /// A word stands behind the last operand.
-const EXTRA: [&str; 30] = [
+const EXTRA: [&str; 32] = [
     "m0 new s0 0 x",
     "m0 soft s1 s0 q0 0 x",
     "m0 weak s1 s0 - 0 x",
@@ -193,6 +205,8 @@ const EXTRA: [&str; 30] = [
     "m0 adopt s1 x",
     "m0 release x",
     "m0 close q0 x",
+    "m0 job s1 1 x",
+    "m0 run s1 x",
     "w0 scan x",
     "w0 clearnext x",
     "w0 hand x",

@@ -4,6 +4,7 @@ use crate::cases::{Case, Task, tables};
 use crate::fakes::{
     FAILURES, Failure, Interrupted, ReadsThenFails, WritesThenFails, answer_in_room,
 };
+use crate::job_cases::script_jobs;
 use refrun::{
     FromReader, LineFault, TextFault, TextSink, TextSource, ToWriter, run_script, strength_text,
 };
@@ -24,11 +25,16 @@ pub const LISTING: &[u8] =
 fn answer<R: TextSource, W: TextSink, A: Allocator + Copy>(
     task: Task,
     memory: A,
+    alloc: Global,
     reader: &mut R,
     writer: &mut W,
 ) -> Result<(), TextFault> {
     match task {
-        Task::Run => run_script(memory, reader, writer),
+        Task::Run => run_script(memory, reader, writer, Vec::new(memory)),
+        Task::RunWithJobs => {
+            let jobs = script_jobs(memory, alloc)?;
+            run_script(memory, reader, writer, jobs)
+        }
         Task::List => strength_text(memory, reader, writer),
     }
 }
@@ -42,7 +48,13 @@ pub fn printed<A: Allocator + Copy>(
 ) -> (Result<(), TextFault>, Vec<u8>) {
     let mut output = Vec::new(alloc);
     let mut reader = FromReader::new(text);
-    let answer = answer(task, memory, &mut reader, &mut ToWriter::new(&mut output));
+    let answer = answer(
+        task,
+        memory,
+        alloc,
+        &mut reader,
+        &mut ToWriter::new(&mut output),
+    );
     (answer, output)
 }
 
@@ -111,7 +123,13 @@ fn tell_failure(
         let bytes = case.text;
         let mut output = Vec::new(alloc);
         let mut reader = FromReader::new(ReadsThenFails { bytes, failure });
-        let answer = answer(task, alloc, &mut reader, &mut ToWriter::new(&mut output));
+        let answer = answer(
+            task,
+            alloc,
+            alloc,
+            &mut reader,
+            &mut ToWriter::new(&mut output),
+        );
         assert_eq!(rt; answer, Err(want));
         assert!(rt; output.is_empty());
     }
@@ -137,7 +155,12 @@ fn the_thousandth_interruption_is_a_failure(rt: HostRuntime) {
     for (times, want) in [(999, Ok(())), (1_000, Err(TextFault::CannotRead))] {
         let mut reader = FromReader::new(Interrupted { times, bytes });
         let mut trace = Vec::new(alloc);
-        let answer = run_script(alloc, &mut reader, &mut ToWriter::new(&mut trace));
+        let answer = run_script(
+            alloc,
+            &mut reader,
+            &mut ToWriter::new(&mut trace),
+            Vec::new(alloc),
+        );
         assert_eq!(rt; answer, want, "{times}");
     }
 }
@@ -158,7 +181,13 @@ fn has_a_prefix(
         failure,
     };
     let mut reader = FromReader::new(text);
-    let answer = answer(task, alloc, &mut reader, &mut ToWriter::new(&mut taken));
+    let answer = answer(
+        task,
+        alloc,
+        alloc,
+        &mut reader,
+        &mut ToWriter::new(&mut taken),
+    );
     let want = answer_in_room(prints.len(), room, failure);
     assert_eq!(rt; answer, want, "{room}");
     assert_eq!(rt; Some(taken.taken.as_slice()), prints.get(..room), "{room}");

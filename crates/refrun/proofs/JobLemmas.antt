@@ -1,0 +1,115 @@
+-- Rows of jobs, from each state that the world stands for.
+use Rattle.std.proofs.Common.{◌≡◌, ℕ, ◌<◌, List, [], ◌∷◌, ◌++◌, length, get_or, Option, Some, None, Ok, Err}
+use Rattle.std.proofs.Common.{refl, sym, ap, ◌∙◌}
+use Rattle.std.specs.Prelude.{All, HoldsAt, IsPermutation, MatchOption, swap_remove}
+use Rattle.std.specs.List.{AllWithin}
+use Rattle.std.proofs.lemmas.List.Elements.{All-from_all_within}
+use Rattle.std.proofs.lemmas.List.Sorted.{IsPermutation-swap_remove, IsPermutation-to_front, IsPermutation-sym}
+use Rattle.std.proofs.lemmas.List.Sorted.{IsPermutation-trans}
+use Rattle.ref_base.specs.Heaps.{Heap, slot_at}
+use Rattle.ref_base.specs.Refusals.{clear_refusal}
+use Rattle.ref_base.specs.Collectors.{State}
+use Rattle.ref_base.specs.CollectorRows.{IsRow, IsAnswer}
+use Rattle.ref_base.specs.declared.fault.Fault.{Fault}
+use Rattle.ref_base.specs.declared.heap_step.HeapStep.TheVariants as heap
+use Rattle.ref_base.specs.declared.reply.Reply.{Reply}
+use Rattle.ref_base.specs.declared.reply.Reply.TheVariants.{Done, Refused}
+use Rattle.ref_base.specs.declared.step.Step.{Step}
+use Rattle.ref_base.specs.declared.step.Step.TheVariants.{Clear}
+use Rattle.ref_mark.proofs.MarkLaws.{on_own_heap}
+use Rattle.ref_queue.specs.CleanTables.{Registry, Registers, Takes}
+use Rattle.ref_queue.specs.declared.job.Ran.{Ran}
+use Rattle.ref_world.specs.Cores.{Core}
+use Rattle.ref_world.specs.Standing.{IsRowOf, Stands}
+use Rattle.refrun.specs.ScriptRuns.{Jobs, RegistersJob}
+use Rattle.refrun.specs.ScriptStanding.{IsScriptRowOf, jobs}
+use Rattle.refrun.specs.declared.script_step.ScriptReply.{ScriptReply}
+use Rattle.refrun.specs.declared.script_step.ScriptReply.TheVariants as replies
+use Rattle.refrun.specs.declared.script_step.ScriptStep.TheVariants as scripts
+
+module _ (c : Core) (a : State) (stands : Stands c a) (m s : ℕ) where
+  -- what refuses a clear, and what its slot holds, is as the heap has it
+  same_refusal : clear_refusal a.world.heap m s ≡ clear_refusal c.heap.mark.heap m s
+  same_refusal = on_own_heap c.heap.mark a stands.heap.mark (heap.Clear m s)
+
+  same_slot : slot_at a.world.heap m s ≡ slot_at c.heap.mark.heap m s
+  same_slot = ap (λ (h : Heap). slot_at h m s) stands.heap.mark.heap
+
+-- the place of the first of these, if there is one
+pub place_or_none : {X : Type 0} (Yes No : X → Type 0) (xs : List X) (r : Option ℕ)
+    → MatchOption r (AllWithin No xs 0 (length xs)) (λ i. (i < length xs) × HoldsAt Yes xs i × AllWithin No xs 0 i)
+    → MatchOption r (All No xs) (λ i. (i < length xs) × HoldsAt Yes xs i)
+place_or_none Yes No xs None none = All-from_all_within No xs none
+place_or_none Yes No xs (Some i) found = (found.0, found.1)
+
+module _ {J : Type 0} (number : J → ℕ) (object n : ℕ) (table after : Registry (Unit {0}) J) (left rest : List J)
+    (i : ℕ) (job : J) (inside : i < length left) (holds : HoldsAt (λ j. number j ≡ n) left i)
+    (is : job ≡ get_or left i job) (rest_is : rest ≡ swap_remove left i job) where
+  -- the job at this place has this number
+  numbered_at : number job ≡ n
+  numbered_at = ap number is ∙ holds job
+
+  taken_out : IsPermutation left (job ∷ rest)
+  taken_out = rw rest_is (IsPermutation-swap_remove left i job inside is)
+
+  -- it is registered
+  pub registers_job : Registers table object tt job (Ok tt) after
+      → RegistersJob number object n (jobs table left) replies.Registered (jobs after rest)
+  registers_job registers = (job, numbered_at, taken_out, registers)
+
+  -- or it is refused, and goes back behind the others
+  pub refuses_job : (fault : Fault) (key : Unit {0}) (back : J) (again : List J) → again ≡ rest ++ back ∷ []
+      → Registers table object tt job (Err (fault, key, back)) after
+      → RegistersJob number object n (jobs table left) (replies.World (Refused fault)) (jobs after again)
+  refuses_job fault key back again again_is registers =
+      let same : again ≡ rest ++ job ∷ [] = again_is ∙ ap (λ (j : J). rest ++ j ∷ []) registers.2 in (
+        job,
+        numbered_at,
+        (i, inside, sym is),
+        rw same (IsPermutation-trans left (job ∷ rest) (rest ++ job ∷ []) taken_out
+            (IsPermutation-sym (rest ++ job ∷ []) (job ∷ rest) (IsPermutation-to_front rest job))),
+        (registers.0, refl, refl, registers.3),
+      )
+
+module _ {J : Type 0} (number note : J → ℕ) (old new : Core) (before after : Jobs J) where
+  -- no job has a part in a step of the world
+  pub world_step_row : (step : Step) (reply : Reply) → IsRowOf old step reply new → after ≡ before
+      → IsScriptRowOf number note old before (scripts.World step) (replies.World reply) new after
+  world_step_row step reply row same a stands = let next = row a stands in (next.0, (next.1, same), next.2)
+
+  module _ (m s object : ℕ) (refused : clear_refusal old.heap.mark.heap m s ≡ None)
+      (held : slot_at old.heap.mark.heap m s ≡ Some object) where
+    -- a job is registered for the reference in the slot
+    pub job_row : (n : ℕ) (reply : ScriptReply) → new ≡ old → RegistersJob number object n before reply after
+        → IsScriptRowOf number note old before (scripts.Job m s n) reply new after
+    job_row n reply same registers a stands =
+        (a, (rw (same_refusal old a stands m s ∙ refused, same_slot old a stands m s ∙ held) registers, refl), rw same stands)
+
+    -- the reference has no job
+    pub gone_row : new ≡ old → Takes before.table object None after.table → after.left ≡ before.left
+        → IsScriptRowOf number note old before (scripts.Run m s) replies.Gone new after
+    gone_row same takes left a stands =
+        (a, rw (same_refusal old a stands m s ∙ refused, same_slot old a stands m s ∙ held) (takes, left, refl), rw same stands)
+
+    -- its job is given out, and it is cleared
+    pub ran_row : (job : J) (ran : Ran) (reply : Reply) → Takes before.table object (Some (tt, job)) after.table
+        → after.left ≡ before.left → ran ≡ record { number = number job; answer = note job }
+        → IsRowOf old (Clear m s) reply new
+        → IsScriptRowOf number note old before (scripts.Run m s) (replies.Ran ran) new after
+    ran_row job ran reply takes left ran_is row a stands =
+        let next = row a stands in
+        let accepted : clear_refusal a.world.heap m s ≡ None = same_refusal old a stands m s ∙ refused in
+        let answered : IsAnswer a None (Clear m s) reply next.0 = rw accepted at next.1 in
+        let cleared : IsRow a (record { step = Clear m s; reply = Done }) next.0 = rw answered.1.0 at next.1 in
+        (next.0, rw (accepted, same_slot old a stands m s ∙ held) (job, takes, left, ran_is, cleared), next.2)
+
+  module _ (m s : ℕ) (fault : Fault) (refused : clear_refusal old.heap.mark.heap m s ≡ Some fault) (same : new ≡ old)
+      (kept : after ≡ before) where
+    -- the slot has no reference
+    pub job_refused_row : (n : ℕ)
+        → IsScriptRowOf number note old before (scripts.Job m s n) (replies.World (Refused fault)) new after
+    job_refused_row n a stands =
+        (a, (rw (same_refusal old a stands m s ∙ refused) (refl, kept), refl), rw same stands)
+
+    pub run_refused_row : IsScriptRowOf number note old before (scripts.Run m s) (replies.World (Refused fault)) new after
+    run_refused_row a stands = (a, rw (same_refusal old a stands m s ∙ refused) (refl, refl, kept), rw same stands)
