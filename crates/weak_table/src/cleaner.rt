@@ -1,10 +1,11 @@
 //! The cleaner's thread.
 
 ghost use Rattle.ref_share.specs.QueueSeats.{IsQueueSeat};
-ghost use Rattle.weak_table.specs.Users.{IsUser, IsCleaner};
+ghost use Rattle.example_runtime.specs.Users.{IsUser};
+ghost use Rattle.weak_table.specs.Cleaners.{IsCleaner};
 
 use crate::Table;
-use crate::heap_user::{HeapUser, give_up};
+use example_runtime::{HeapUser, give_up};
 use ref_base::{Fault, Parcel};
 use ref_share::{Polled, QueueSeat, SharedQueue};
 use std::sync::Wait;

@@ -5,14 +5,12 @@
 #![tactic(auto)]
 
 ghost use Rattle.ref_share.specs.QueueSeats.{IsQueueSeat};
-ghost use Rattle.weak_table.specs.Users.{IsUser, IsCleaner, IsCollector};
+ghost use Rattle.example_runtime.specs.Users.{IsUser, IsCollector};
+ghost use Rattle.weak_table.specs.Cleaners.{IsCleaner};
 
 use cleaner::Cleaner;
-use collector::Collector;
-use heap_user::HeapUser;
+use example_runtime::{Collector, HeapUser, close, end};
 use ref_base::{Config, Fault, HeapStep, MutNo, ObjNo, QueueNo, Reply, SlotNo, Strength};
-use ref_clear::Notice;
-use ref_queue::Queue;
 use ref_share::{QueueSeat, SharedHeap, SharedQueue};
 use std::collections::BTreeMap;
 use std::sync::atomic::{AtomicU64, Ordering};
@@ -21,8 +19,6 @@ use std::thread;
 use std::thread::Threads;
 
 mod cleaner;
-mod collector;
-mod heap_user;
 
 /// The key of each entry, by the number of the weak reference to its value.
 type Table = Mutex<BTreeMap<ObjNo, u32>>;
@@ -150,25 +146,4 @@ fn fill<R: Wait>(rt: &R, program: HeapUser, table: &Table) -> Result<(), Fault>
         heap.ask(rt, drop)?;
     }
     Ok(())
-}
-
-/// Closes the queue, so that who waits for it goes on. Where no turn is left for that, nobody waits.
-fn close<R: Wait>(rt: &R, queue: &SharedQueue, seat: QueueSeat)
-    requires { IsQueueSeat queue.now seat }
-{
-    let mut seat = seat;
-    if let Err(fault) = queue.close(rt, &mut seat) {
-        let _ = heap_user::give_up(fault);
-    }
-}
-
-/// Gives up what stands in a queue that is ended.
-fn end(finished: Result<Queue<Notice>, Option<Queue<Notice>>>) {
-    if let Ok(queue) | Err(Some(queue)) = finished {
-        let mut standing = queue.end();
-        while let Some(notice) = standing.pop_front() {
-            notice.into_hold().leak();
-        }
-        standing.destroy_empty();
-    }
 }

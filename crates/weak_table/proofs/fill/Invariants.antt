@@ -1,4 +1,4 @@
-use Rattle.weak_table.specs.Users.{IsUser}
+use Rattle.example_runtime.specs.Users.{IsUser}
 use Rattle.weak_table.proofs.fill.Given as goal
 
 abbrev pub invariant-loop-key : goal.invariant-loop-key

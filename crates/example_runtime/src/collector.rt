@@ -2,8 +2,8 @@
 
 ghost use Rattle.std.specs.Prelude.{◌≡◌, true};
 ghost use Rattle.ref_share.specs.QueueSeats.{IsQueueSeat};
-ghost use Rattle.weak_table.specs.Steps.{hands_nothing_over};
-ghost use Rattle.weak_table.specs.Users.{IsUser, IsCollector};
+ghost use Rattle.ref_share.specs.Releases.{hands_nothing_over};
+ghost use Rattle.example_runtime.specs.Users.{IsUser, IsCollector};
 
 use crate::heap_user::{HeapUser, give_up};
 use ref_base::{Fault, HeapStep, Reply, Urgency, WorkerNo};

@@ -1,8 +1,8 @@
 //! What a thread uses the heap with.
 
 ghost use Rattle.std.specs.Prelude.{◌≡◌, true};
-ghost use Rattle.weak_table.specs.Steps.{hands_nothing_over};
-ghost use Rattle.weak_table.specs.Users.{IsUser};
+ghost use Rattle.ref_share.specs.Releases.{hands_nothing_over};
+ghost use Rattle.example_runtime.specs.Users.{IsUser};
 ghost use Rattle.ref_share.specs.HeapSeats.{IsHeapSeat};
 
 use ref_base::{Fault, HeapStep, Reply};

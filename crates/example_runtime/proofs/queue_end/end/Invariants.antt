@@ -1,5 +1,5 @@
 use Rattle.std.proofs.Common.{length}
-use Rattle.weak_table.proofs.end.Given as goal
+use Rattle.example_runtime.proofs.queue_end.end.Given as goal
 
 abbrev pub invariant-loop-notice : goal.invariant-loop-notice
 invariant-loop-notice l = Unit {0}

@@ -1,18 +1,12 @@
 -- Seats that are those of what their threads use.
 use Rattle.ref_share.specs.Deliveries.{AreSeats}
 use Rattle.ref_share.specs.HeapSeats.{IsHeapSeat}
-use Rattle.ref_share.specs.QueueSeats.{IsQueueSeat}
-use Rattle.weak_table.specs.declared.cleaner.Cleaner.{Cleaner}
-use Rattle.weak_table.specs.declared.collector.Collector.{Collector}
-use Rattle.weak_table.specs.declared.heap_user.HeapUser.{HeapUser}
+use Rattle.example_runtime.specs.declared.collector.Collector.{Collector}
+use Rattle.example_runtime.specs.declared.heap_user.HeapUser.{HeapUser}
 
 -- the seat is one of the heap
 abbrev pub IsUser : HeapUser → Type 0
 IsUser u = IsHeapSeat u.heap.now u.seat
-
--- so, and the queue's seat is one of the queue
-abbrev pub IsCleaner : Cleaner → Type 0
-IsCleaner c = IsUser c.user × IsQueueSeat c.queue.now c.seat
 
 -- so, and the queues' seats are those of the queues
 abbrev pub IsCollector : Collector → Type 0

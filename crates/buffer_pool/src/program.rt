@@ -1,0 +1,137 @@
+//! The program: who uses the buffers.
+
+ghost use Rattle.example_runtime.specs.Users.{IsUser};
+ghost use Rattle.ref_share.specs.CleanSeats.{IsCleanSeat};
+
+use crate::pool::BUFFERS;
+use example_runtime::{HeapUser, give_up};
+use ref_base::{Fault, HeapStep, MutNo, SlotNo};
+use ref_queue::{Job, Ran};
+use ref_share::{CleanSeat, Cleanable, Cleaned, SharedCleaner};
+use std::sync::Wait;
+
+const PROGRAM: MutNo = MutNo(0);
+
+/// The slot that the references of cleaners are made in, and cleaned by. Those before it have the buffers' objects.
+const REFERENCE: SlotNo = SlotNo(BUFFERS);
+
+/// The program, with its way to the cleaner.
+#[derive(Drop)]
+pub struct Program<'a> {
+    user: HeapUser<'a>,
+    cleaner: &'a SharedCleaner,
+    seat: CleanSeat,
+}
+
+impl<'a> Program<'a> {
+    pub fn new(user: HeapUser<'a>, cleaner: &'a SharedCleaner, seat: CleanSeat) -> Self
+        requires { IsUser user × IsCleanSeat cleaner.now.turn seat.seat }
+        ensures { IsUser result.user × IsCleanSeat result.cleaner.now.turn result.seat.seat }
+    {
+        Program {
+            user,
+            cleaner,
+            seat,
+        }
+    }
+
+    /// Makes an object for each buffer. It is done with the first, and gives that buffer back itself. How many it gave
+    /// back.
+    pub fn open_all<R: Wait>(&mut self, rt: &R, jobs: Vec<Job>) -> Result<u64, Fault>
+        requires { IsUser self.old.user × IsCleanSeat self.old.cleaner.now.turn self.old.seat.seat }
+        ensures { IsUser self.new.user × IsCleanSeat self.new.cleaner.now.turn self.new.seat.seat }
+    {
+        let mut given_back = 0;
+        for (slot, job) in (0..BUFFERS).zip(jobs) {
+            let cleanable = self.open(rt, SlotNo(slot), job)?;
+            if slot == 0 {
+                if let Some(_ran) = self.close(rt, cleanable)? {
+                    given_back = 1;
+                }
+            }
+        }
+        Ok(given_back)
+    }
+
+    /// What the program goes on with once it registers nothing more.
+    pub fn into_user(self) -> HeapUser<'a>
+        requires { IsUser self.user × IsCleanSeat self.cleaner.now.turn self.seat.seat }
+        ensures { IsUser result }
+    {
+        let Program { user, .. } = self;
+        user
+    }
+
+    /// An object in the slot, whose buffer the job gives back once the object is gone, if not before.
+    fn open<R: Wait>(&mut self, rt: &R, slot: SlotNo, job: Job) -> Result<Cleanable, Fault>
+        requires { IsUser self.old.user × IsCleanSeat self.old.cleaner.now.turn self.old.seat.seat }
+        ensures { IsUser self.new.user × IsCleanSeat self.new.cleaner.now.turn self.new.seat.seat }
+    {
+        let new = HeapStep::New {
+            mutator: PROGRAM,
+            slot,
+            fields: 0,
+        };
+        self.user.ask(rt, new)?;
+        let Program {
+            user,
+            cleaner,
+            seat,
+        } = self;
+        let HeapUser {
+            heap,
+            seat: heap_seat,
+        } = user;
+        match cleaner.register(rt, seat, heap, heap_seat, PROGRAM, slot, REFERENCE, job) {
+            Ok(cleanable) => Ok(cleanable),
+            // The job comes back: the buffer is given back at once.
+            Err((fault, job)) => {
+                job.run();
+                give_up(fault)?;
+                Err(Fault::TurnsSpent)
+            }
+        }
+    }
+
+    /// Gives a buffer back without waiting for its object's death.
+    fn close<R: Wait>(&mut self, rt: &R, cleanable: Cleanable) -> Result<Option<Ran>, Fault>
+        requires { IsUser self.old.user × IsCleanSeat self.old.cleaner.now.turn self.old.seat.seat }
+        ensures { IsUser self.new.user × IsCleanSeat self.new.cleaner.now.turn self.new.seat.seat }
+    {
+        let Program {
+            user,
+            cleaner,
+            seat,
+        } = self;
+        let HeapUser {
+            heap,
+            seat: heap_seat,
+        } = user;
+        match cleaner.clean(rt, seat, heap, heap_seat, PROGRAM, REFERENCE, cleanable) {
+            Ok(Cleaned::Gone) => Ok(None),
+            Ok(Cleaned::Ran(ran, None)) => Ok(Some(ran)),
+            Ok(Cleaned::Ran(ran, Some(hold))) => {
+                hold.leak();
+                Ok(Some(ran))
+            }
+            Err(fault) => {
+                give_up(fault)?;
+                Ok(None)
+            }
+        }
+    }
+}
+
+/// Lets the objects of half of the buffers go, but for the first, whose buffer is given back.
+pub fn let_go<R: Wait>(rt: &R, mut user: HeapUser) -> Result<(), Fault>
+    requires { IsUser user }
+{
+    for slot in 1..BUFFERS / 2 {
+        let drop = HeapStep::Drop {
+            mutator: PROGRAM,
+            slot: SlotNo(slot),
+        };
+        user.ask(rt, drop)?;
+    }
+    Ok(())
+}

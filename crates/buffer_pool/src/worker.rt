@@ -1,0 +1,65 @@
+//! The cleaner's thread.
+
+ghost use Rattle.example_runtime.specs.Users.{IsUser};
+ghost use Rattle.ref_share.specs.CleanSeats.{IsCleanSeat};
+ghost use Rattle.ref_share.specs.QueueSeats.{IsQueueSeat};
+
+use example_runtime::{HeapUser, give_up};
+use ref_base::Fault;
+use ref_queue::Ran;
+use ref_share::{CleanSeat, Gate, QueueSeat, SharedCleaner, SharedQueue};
+use std::sync::Wait;
+
+/// Who runs the jobs of what is gone.
+#[derive(Drop)]
+pub struct Worker<'a> {
+    pub user: HeapUser<'a>,
+    pub queue: &'a SharedQueue,
+    pub queue_seat: QueueSeat,
+    pub cleaner: &'a SharedCleaner,
+    pub seat: CleanSeat,
+}
+
+/// A gate that does nothing: the jobs say themselves what they do.
+struct Open;
+
+impl Gate for Open {
+    fn before(&self, _number: u64) {}
+
+    fn after(&self, _ran: Ran) {}
+}
+
+impl Worker<'_> {
+    /// Runs the job of each reference that the queue reports, until the queue is closed. How many it ran.
+    pub fn run<R: Wait>(self, rt: &R) -> Result<u64, Fault>
+        requires user { IsUser self.user × IsQueueSeat self.queue.now self.queue_seat }
+        requires seat { IsCleanSeat self.cleaner.now.turn self.seat.seat }
+    {
+        let Worker {
+            user,
+            queue,
+            mut queue_seat,
+            cleaner,
+            mut seat,
+        } = self;
+        let HeapUser {
+            heap,
+            seat: mut heap_seat,
+        } = user;
+        match cleaner.clean_loop(
+            rt,
+            &mut seat,
+            heap,
+            &mut heap_seat,
+            queue,
+            &mut queue_seat,
+            &Open,
+        ) {
+            Ok(count) => Ok(count),
+            Err(fault) => {
+                give_up(fault)?;
+                Err(Fault::TurnsSpent)
+            }
+        }
+    }
+}
