@@ -122,12 +122,17 @@ impl<'a> Caller<'a> {
             slot: SlotNo(1),
             source: SlotNo(0),
         };
-        match self.heap.call(rt, &mut self.seat, step) {
-            Ok(HeapReply::Told(_)) => {}
-            Ok(HeapReply::Notice(notice)) => notice.into_hold().leak(),
-            Ok(HeapReply::Held(hold) | HeapReply::Back(_, hold)) => hold.leak(),
-            Err(TurnFault::Busy(step) | TurnFault::Spent(step)) => spend(step),
-        }
+        give_up(self.heap.call(rt, &mut self.seat, step));
+    }
+}
+
+/// Gives up what a call of a heap handed out or gave back.
+pub fn give_up(answer: Result<HeapReply, TurnFault<HeapStep<Hold>>>) {
+    match answer {
+        Ok(HeapReply::Told(_)) => {}
+        Ok(HeapReply::Notice(notice)) => notice.into_hold().leak(),
+        Ok(HeapReply::Held(hold) | HeapReply::Back(_, hold)) => hold.leak(),
+        Err(TurnFault::Busy(step) | TurnFault::Spent(step)) => spend(step),
     }
 }
 

@@ -95,11 +95,18 @@ fn add_letters(
     Ok(())
 }
 
-/// Gives up what came back with a fault.
-pub fn spend(fault: ShareFault) {
+/// Gives up what came back with a fault, and tells the fault. None where the call can be made again.
+pub fn spend(fault: ShareFault) -> Option<Fault> {
     match fault {
-        ShareFault::Refused(_) | ShareFault::Busy => {}
-        ShareFault::Notice(notice, _) => notice.into_hold().leak(),
-        ShareFault::Held(hold, _) => hold.leak(),
+        ShareFault::Busy => None,
+        ShareFault::Refused(fault) => Some(fault),
+        ShareFault::Notice(notice, fault) => {
+            notice.into_hold().leak();
+            Some(fault)
+        }
+        ShareFault::Held(hold, fault) => {
+            hold.leak();
+            Some(fault)
+        }
     }
 }

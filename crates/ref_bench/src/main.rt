@@ -2,6 +2,7 @@
 //! run once and small, and prints the names alone.
 #![tactic(auto)]
 
+mod cleaner_runs;
 mod crowds;
 mod heap_runs;
 mod letters;

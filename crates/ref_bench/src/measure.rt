@@ -1,5 +1,6 @@
 //! What is measured.
 
+use crate::cleaner_runs::jobs_registered_and_run;
 use crate::crowds::{plain_queue, shared_queue};
 use crate::heap_runs::{dead_references, heap_calls};
 use crate::queue_runs::{plain_queue_alone, queue_alone, shared_queue_alone};
@@ -28,12 +29,14 @@ pub enum Measure {
     DeadReference,
     /// Calls of a shared heap by so many threads.
     HeapCallAmong(u32),
+    /// A job that is registered and run by hand, while so many others are registered.
+    CleanedJob(u32),
     /// One step of a script: read, done and printed.
     ScriptStep,
 }
 
 /// All measures, in the order in which they are printed.
-pub const ALL: [Measure; 15] = [
+pub const ALL: [Measure; 17] = [
     Measure::Queue,
     Measure::SharedQueue,
     Measure::PlainQueue,
@@ -48,6 +51,8 @@ pub const ALL: [Measure; 15] = [
     Measure::HeapCallAmong(2),
     Measure::HeapCallAmong(4),
     Measure::HeapCallAmong(8),
+    Measure::CleanedJob(0),
+    Measure::CleanedJob(3_000),
     Measure::ScriptStep,
 ];
 
@@ -70,6 +75,9 @@ impl Measure {
                 format!(in alloc; "a dead reference, mark's end to notice polled")
             }
             Measure::HeapCallAmong(n) => format!(in alloc; "shared heap, {n} calling, a call"),
+            Measure::CleanedJob(n) => {
+                format!(in alloc; "a job registered and run, {n} others registered")
+            }
             Measure::ScriptStep => format!(in alloc; "a script, a step"),
         }
     }
@@ -90,6 +98,7 @@ impl Measure {
             Measure::PlainQueueAmong(n) => plain_queue(rt, alloc, n, notices),
             Measure::DeadReference => dead_references(rt, alloc),
             Measure::HeapCallAmong(n) => heap_calls(rt, alloc, n, size.saturating_mul(2_000)),
+            Measure::CleanedJob(n) => jobs_registered_and_run(rt, alloc, n),
             Measure::ScriptStep => script_steps(rt, alloc, size.saturating_mul(500)),
         }
     }

@@ -22,7 +22,12 @@ pub fn script_steps<R: Clock>(rt: &R, alloc: Global, count: u32) -> Result<Sampl
     let mut trace: Vec<u8> = Vec::new(alloc);
     let mut reader = FromReader::new(text.as_bytes());
     let timer = Timer::start(rt);
-    let answer = run_script(alloc, &mut reader, &mut ToWriter::new(&mut trace));
+    let answer = run_script(
+        alloc,
+        &mut reader,
+        &mut ToWriter::new(&mut trace),
+        Vec::new(alloc),
+    );
     let sample = timer.stop(rt, u64::from(count));
     match answer {
         Ok(()) => Ok(sample),
