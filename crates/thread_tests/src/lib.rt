@@ -5,4 +5,6 @@
 #[cfg(test)]
 mod arena;
 #[cfg(test)]
+mod shares;
+#[cfg(test)]
 mod turns;

@@ -9,7 +9,7 @@ use ref_turn::{Turn, TurnSeat};
 use std::alloc::Global;
 
 mod counter;
-mod gated;
+pub mod gated;
 mod memory;
 mod stories;
 mod threads;

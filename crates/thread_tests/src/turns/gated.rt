@@ -36,7 +36,8 @@ impl Gate {
     }
 }
 
-fn saw(flag: &AtomicU64, looks: u64) -> bool {
+/// Whether the flag is 1, within so many looks.
+pub fn saw(flag: &AtomicU64, looks: u64) -> bool {
     for _ in 0..looks {
         if flag.load(Ordering::SeqCst) == 1 {
             return true;

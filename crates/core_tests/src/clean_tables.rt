@@ -1,0 +1,119 @@
+//! The table of a cleaner, call by call. What is kept beside a job is a number here, and so is the job.
+
+ghost use Rattle.std.specs.Prelude.{◌≡◌, ◌<◌, ◌^◌, None};
+ghost use Rattle.ref_queue.specs.CleanTables.{Changes};
+
+use ref_base::{Fault, ObjNo};
+use ref_queue::CleanTable;
+use std::alloc::Global;
+use std::process::Abort;
+
+/// A call of the table.
+#[derive(Clone, Copy)]
+enum Call {
+    /// For this object, with this beside this job.
+    Register(u32, u64, u64),
+    Take(u32),
+    First,
+    Close,
+}
+
+/// What it answers.
+#[derive(Clone, Copy, Debug, PartialEq, Eq)]
+enum Told {
+    Done,
+    /// Both came back.
+    Refused(Fault, u64, u64),
+    /// This was kept beside this job.
+    Took(u64, u64),
+    Object(u32),
+    Nothing,
+}
+
+fn answer(table: &mut CleanTable<u64, u64>, call: Call) -> Told {
+    match call {
+        Call::Register(object, kept, job) => match table.register(ObjNo(object), kept, job) {
+            Ok(()) => Told::Done,
+            Err((fault, kept, job)) => Told::Refused(fault, kept, job),
+        },
+        Call::Take(object) => match table.take(ObjNo(object)) {
+            Some((kept, job)) => Told::Took(kept, job),
+            None => Told::Nothing,
+        },
+        Call::First => table
+            .first()
+            .map_or(Told::Nothing, |object| Told::Object(object.0)),
+        Call::Close => {
+            table.close();
+            Told::Done
+        }
+    }
+}
+
+/// Makes a story's calls in turn on a new table, each of which has its answer. So many jobs are left then.
+fn agree(rt: &impl Abort, alloc: Global, story: &[(Call, Told)], left: u64) {
+    let mut table = CleanTable::new(alloc);
+    for (row, &(call, want)) in story.iter().enumerate() {
+        assert_eq!(rt; answer(&mut table, call), want, "row {row}");
+    }
+    let mut count = 0;
+    while let Some(object) = table.first() {
+        drop_job(&mut table, object);
+        count = u64::saturating_add(count, 1);
+    }
+    assert_eq!(rt; count, left, "jobs left");
+    match table.end() {
+        Ok(()) => {}
+        Err(_table) => unreachable!(),
+    }
+}
+
+/// Drops the job of an object.
+fn drop_job(table: &mut CleanTable<u64, u64>, object: ObjNo)
+    ensures number { object < 2 ^ 32 }
+    ensures taken { Changes table.old object None table.new }
+{
+    let _ = table.take(object);
+}
+
+#[test]
+fn each_job_is_given_out_once(rt: HostRuntime) {
+    let story = [
+        (Call::First, Told::Nothing),
+        (Call::Register(7, 70, 1), Told::Done),
+        (
+            Call::Register(7, 71, 2),
+            Told::Refused(Fault::RegisteredTwice, 71, 2),
+        ),
+        (Call::First, Told::Object(7)),
+        (Call::Take(8), Told::Nothing),
+        (Call::Take(7), Told::Took(70, 1)),
+        (Call::Take(7), Told::Nothing),
+        (Call::First, Told::Nothing),
+        (Call::Register(7, 72, 3), Told::Done),
+        (Call::Register(8, 80, 4), Told::Done),
+    ];
+    agree(&rt, rt.alloc(), &story, 2);
+}
+
+#[test]
+fn a_closed_table_still_gives_out_what_it_has(rt: HostRuntime) {
+    let story = [
+        (Call::Register(7, 70, 1), Told::Done),
+        (Call::Register(8, 80, 2), Told::Done),
+        (Call::Close, Told::Done),
+        // The closed table is told of first.
+        (
+            Call::Register(7, 71, 3),
+            Told::Refused(Fault::TableClosed, 71, 3),
+        ),
+        (
+            Call::Register(9, 90, 4),
+            Told::Refused(Fault::TableClosed, 90, 4),
+        ),
+        (Call::Take(8), Told::Took(80, 2)),
+        (Call::Close, Told::Done),
+        (Call::Take(8), Told::Nothing),
+    ];
+    agree(&rt, rt.alloc(), &story, 1);
+}

@@ -1,0 +1,40 @@
+use denote.RattleType.{RattleType}
+use denote.Param.Callables.{held_fn}
+use denote.Param.Object.{Vt, ghosts_of}
+use denote.Param.Send.{IsSync, sendable}
+use Rattle.std.proofs.Crossing.{crosses, dyn_box_send, dyn_box_send_over}
+use Rattle.std.proofs.alloc.Global.TheSendSync.{the_send as global_send, the_sync as global_sync}
+use Rattle.std.specs.contracts.alloc.Global.{the_row}
+use Rattle.std.specs.contracts.impls.GlobalAllocator.TheImpl.{ghosts}
+use Rattle.std.below.core.specs.contracts.clone.Clone+copy.TheImpl.{ghosts as clones}
+use Rattle.ref_share.below.atomic_table.proofs.shared.Shared.TheSendSync.{the_sync as shared_sync}
+use Rattle.ref_share.below.ref_turn.proofs.turn.Turn.TheSendSync.{the_field_sync as turn_field_sync}
+use Rattle.ref_base.proofs.numbers.QueueNo.TheSendSync.{the_sync as queue_number_sync}
+use Rattle.ref_objects.proofs.hold.Hold.TheSendSync.{the_send as hold_send}
+use Rattle.ref_queue.proofs.clean_table.CleanTable.TheSendSync.{the_send as table_send}
+use Rattle.ref_share.proofs.clean_machine.CleanMachine.TheSendSync.{the_send as machine_send}
+use Rattle.ref_share.specs.contracts.shared_cleaner.SharedCleaner.{the_row as cleaner_row}
+use Rattle.thread_tests.specs.contracts.shares.cleaners.threads.both_ended.dyn-1.{Ghosts, slots}
+use Rattle.thread_tests.proofs.shares.cleaners.threads.both_ended.Goals as goal
+
+-- a shared cleaner may be seen by several threads: its jobs may move between them
+cleaner_sync : (r : RattleType) (d : Ghosts r)
+    → IsSync (cleaner_row the_row (Vt (slots r) d.0) ghosts (clones the_row) (ghosts_of (slots r) d.0 d.1) (held_fn d.0))
+cleaner_sync r d = search (
+  dyn_box_send (Vt (slots r) d.0) (ghosts_of (slots r) d.0 d.1) d.2,
+  dyn_box_send_over (Vt (slots r) d.0) (ghosts_of (slots r) d.0 d.1) d.2,
+  global_send,
+  global_sync,
+  shared_sync,
+  turn_field_sync,
+  queue_number_sync,
+  hold_send,
+  table_send,
+  machine_send,
+  crosses,
+  sendable,
+) depth 60 fits 20000
+
+pub join_given-requires-send-A : goal.join_given-requires-send-A
+join_given-requires-send-A g c κs within =
+    search (cleaner_sync g.row.R g.dyn-1, crosses, sendable) depth 60 fits 20000

@@ -1,0 +1,403 @@
+//! The calls of a shared heap and its queue, with what they answer as plain data.
+
+ghost use Rattle.ref_share.specs.HeapSeats.{IsHeapSeat};
+ghost use Rattle.ref_share.specs.QueueSeats.{IsQueueSeat};
+ghost use Rattle.ref_share.specs.contracts.shared_queue.SharedQueue.{the_row};
+ghost use Rattle.std.specs.Mem.{FitsInMemory};
+
+use super::{M, Q, W};
+use ref_base::{Fault, HeapStep, Parcel, QueueNo, Reply, SlotNo, Strength, Urgency, WorkerNo};
+use ref_clear::Notice;
+use ref_objects::Hold;
+use ref_queue::Put;
+use ref_share::{
+    Delivery, HeapSeat, Polled, QueueSeat, ShareFault, SharedHeap, SharedQueue, deliver_one,
+    enqueue,
+};
+use ref_turn::TurnFault;
+use ref_world::HeapReply;
+use std::alloc::{Allocator, Global};
+use std::sync::Wait;
+use std::{mem, slice};
+
+/// A step of the heap that takes no hold along.
+#[derive(Clone, Copy)]
+pub enum Do {
+    New(u32),
+    /// A weak reference with the queue: its slot, and that of its referent.
+    Weak(u32, u32),
+    /// The same without a queue.
+    Alone(u32, u32),
+    Drop(u32),
+    Begin,
+    Scan,
+    EndMark,
+    ClearNext,
+    EndClear,
+}
+
+/// A call of the queue alone.
+#[derive(Clone, Copy)]
+pub enum Ask {
+    PollNow,
+    Within(u32),
+    Wait,
+    Close,
+    Served,
+}
+
+/// A seat of the heap and one of its queue.
+#[derive(Drop)]
+pub struct Seats<A: Allocator + Copy = Global> {
+    pub heap: HeapSeat<A>,
+    pub queue: QueueSeat<A>,
+}
+
+/// A call.
+#[derive(Clone, Copy)]
+pub enum Call {
+    /// A step of the heap, by `try_call`.
+    Try(Do),
+    /// The same by `call`.
+    Step(Do),
+    HeapServed,
+    Queue(Ask),
+    /// An unhook of the reference in this slot, and a put of its notice.
+    Put(u32),
+    /// An enqueue of the reference in this slot.
+    Enqueue(u32),
+    /// The same through a second seat of the queue, which is joined then.
+    EnqueueApart(u32),
+    /// The same with no queue in the lists.
+    EnqueueNowhere(u32),
+    /// A delivery by this worker.
+    Deliver(u32),
+    /// The same with no queue in the lists.
+    DeliverNowhere,
+}
+
+/// What a call was answered.
+#[derive(Clone, Copy, Debug, PartialEq, Eq)]
+pub enum Told {
+    Reply(Reply),
+    Served(u64),
+    /// Put in, behind so many.
+    Added(u64),
+    Already,
+    TooLate,
+    Enqueued(bool),
+    Delivered(Delivery),
+    Took(u32),
+    Empty,
+    Closed,
+    TimedOut,
+    WasOpen(bool),
+    Refused(Fault),
+    Busy,
+    /// The notice of this reference came back, and the heap took its hold.
+    NotPut(u32, Fault),
+    /// The hold of this object came back.
+    NotReleased(u32, Fault),
+    /// An answer that no story expects.
+    Else,
+}
+
+fn step_of(step: Do) -> HeapStep<Hold> {
+    match step {
+        Do::New(slot) => HeapStep::New {
+            mutator: M,
+            slot: SlotNo(slot),
+            fields: 0,
+        },
+        Do::Weak(slot, source) => weak(slot, source, Some(Q)),
+        Do::Alone(slot, source) => weak(slot, source, None),
+        Do::Drop(slot) => HeapStep::Drop {
+            mutator: M,
+            slot: SlotNo(slot),
+        },
+        Do::Begin => HeapStep::Begin {
+            now: 5,
+            urgency: Urgency::Normal,
+        },
+        Do::Scan => HeapStep::Scan { worker: W },
+        Do::EndMark => HeapStep::EndMark,
+        Do::ClearNext => HeapStep::ClearNext { worker: W },
+        Do::EndClear => HeapStep::EndClear,
+    }
+}
+
+fn weak(slot: u32, source: u32, queue: Option<QueueNo>) -> HeapStep<Hold> {
+    HeapStep::Refer {
+        mutator: M,
+        strength: Strength::Weak,
+        slot: SlotNo(slot),
+        source: SlotNo(source),
+        queue,
+        fields: 0,
+    }
+}
+
+/// What the heap answered. What it gives out with that is given up.
+fn replied(answer: Result<HeapReply, TurnFault<HeapStep<Hold>>>) -> Told {
+    match answer {
+        Ok(HeapReply::Told(reply)) => Told::Reply(reply),
+        Ok(HeapReply::Notice(notice)) => {
+            notice.into_hold().leak();
+            Told::Else
+        }
+        Ok(HeapReply::Held(hold)) => {
+            hold.leak();
+            Told::Else
+        }
+        Ok(HeapReply::Back(fault, hold)) => held(hold, fault),
+        Err(TurnFault::Busy(step)) => {
+            spend(step);
+            Told::Busy
+        }
+        Err(TurnFault::Spent(step)) => {
+            spend(step);
+            Told::Refused(Fault::TurnsSpent)
+        }
+    }
+}
+
+/// Gives up a step that was not made.
+fn spend(step: HeapStep<Hold>) {
+    match step {
+        HeapStep::Adopt { hold, .. } | HeapStep::Release { hold } => hold.leak(),
+        _ => {}
+    }
+}
+
+fn held(hold: Hold, fault: Fault) -> Told {
+    let told = Told::NotReleased(hold.obj().0, fault);
+    hold.leak();
+    told
+}
+
+/// The heap takes the hold of a notice back, and this is answered.
+fn released<R: Wait, A: Allocator + Copy>(
+    rt: &R,
+    heap: &SharedHeap<A>,
+    seat: &mut HeapSeat<A>,
+    notice: Notice,
+    told: Told,
+) -> Told
+    requires { IsHeapSeat heap.now seat.old }
+    ensures { IsHeapSeat heap.now seat.new }
+{
+    let hold = notice.into_hold();
+    match replied(heap.call(rt, seat, HeapStep::Release { hold })) {
+        Told::Reply(Reply::Done) => told,
+        other => other,
+    }
+}
+
+/// Why a call was refused. The heap takes the hold of a notice that came back.
+pub fn refused<R: Wait, A: Allocator + Copy>(
+    rt: &R,
+    heap: &SharedHeap<A>,
+    seat: &mut HeapSeat<A>,
+    fault: ShareFault,
+) -> Told
+    requires { IsHeapSeat heap.now seat.old }
+    ensures { IsHeapSeat heap.now seat.new }
+{
+    match fault {
+        ShareFault::Refused(fault) => Told::Refused(fault),
+        ShareFault::Busy => Told::Busy,
+        ShareFault::Notice(notice, fault) => {
+            let told = Told::NotPut(notice.obj().0, fault);
+            released(rt, heap, seat, notice, told)
+        }
+        ShareFault::Held(hold, fault) => held(hold, fault),
+    }
+}
+
+/// What a poll answered. The heap takes the hold of what was taken.
+fn polled<R: Wait, A: Allocator + Copy>(
+    rt: &R,
+    heap: &SharedHeap<A>,
+    seat: &mut HeapSeat<A>,
+    answer: Result<Polled, ShareFault>,
+) -> Told
+    requires { IsHeapSeat heap.now seat.old }
+    ensures { IsHeapSeat heap.now seat.new }
+{
+    match answer {
+        Ok(Polled::Took(notice)) => {
+            let told = Told::Took(notice.obj().0);
+            released(rt, heap, seat, notice, told)
+        }
+        Ok(Polled::Empty) => Told::Empty,
+        Ok(Polled::Closed) => Told::Closed,
+        Ok(Polled::TimedOut) => Told::TimedOut,
+        Err(fault) => refused(rt, heap, seat, fault),
+    }
+}
+
+/// A call of the queue alone.
+fn asked<R: Wait, A: Allocator + Copy>(
+    rt: &R,
+    heap: &SharedHeap<A>,
+    queue: &SharedQueue<A>,
+    seats: &mut Seats<A>,
+    call: Ask,
+) -> Told
+    requires { IsHeapSeat heap.now seats.old.heap × IsQueueSeat queue.now seats.old.queue }
+    ensures { IsHeapSeat heap.now seats.new.heap × IsQueueSeat queue.now seats.new.queue }
+{
+    let seat = &mut seats.queue;
+    let answer = match call {
+        Ask::PollNow => queue.poll_now(seat),
+        Ask::Within(polls) => queue.remove_within(rt, seat, polls),
+        Ask::Wait => queue.remove_wait(rt, seat),
+        Ask::Close => {
+            return match queue.close(rt, seat) {
+                Ok(was_open) => Told::WasOpen(was_open),
+                Err(fault) => refused(rt, heap, &mut seats.heap, fault),
+            };
+        }
+        Ask::Served => return Told::Served(queue.served(seat)),
+    };
+    polled(rt, heap, &mut seats.heap, answer)
+}
+
+/// An unhook of the reference in this slot, and a put of its notice.
+fn put<R: Wait, A: Allocator + Copy>(
+    rt: &R,
+    heap: &SharedHeap<A>,
+    queue: &SharedQueue<A>,
+    seats: &mut Seats<A>,
+    slot: u32,
+) -> Told
+    requires { IsHeapSeat heap.now seats.old.heap × IsQueueSeat queue.now seats.old.queue }
+    ensures { IsHeapSeat heap.now seats.new.heap × IsQueueSeat queue.now seats.new.queue }
+{
+    let step = HeapStep::Unhook {
+        mutator: M,
+        reference: SlotNo(slot),
+    };
+    let notice = match heap.call(rt, &mut seats.heap, step) {
+        Ok(HeapReply::Notice(notice)) => notice,
+        other => return replied(other),
+    };
+    let no = notice.obj().0;
+    let (back, told) = match queue.put(rt, &mut seats.queue, notice) {
+        Ok(Put::Added(position)) => return Told::Added(position),
+        Ok(Put::Already(back)) => (back, Told::Already),
+        Ok(Put::Closed(back)) => (back, Told::TooLate),
+        Err((fault, back)) => (back, Told::NotPut(no, fault)),
+    };
+    released(rt, heap, &mut seats.heap, back, told)
+}
+
+/// An enqueue of the reference in this slot.
+fn enqueued<R: Wait, A: Allocator + Copy>(
+    rt: &R,
+    heap: &SharedHeap<A>,
+    queue: &SharedQueue<A>,
+    seats: &mut Seats<A>,
+    slot: u32,
+) -> Told
+    requires seats { IsHeapSeat heap.now seats.old.heap × IsQueueSeat queue.now seats.old.queue }
+    requires fits { FitsInMemory (the_row A.row A.Allocator A.Clone) }
+    ensures { IsHeapSeat heap.now seats.new.heap × IsQueueSeat queue.now seats.new.queue }
+{
+    let queues = slice::from_ref(queue);
+    let own = slice::from_mut(&mut seats.queue);
+    match enqueue(rt, heap, &mut seats.heap, queues, own, M, SlotNo(slot)) {
+        Ok(is_added) => Told::Enqueued(is_added),
+        Err(fault) => refused(rt, heap, &mut seats.heap, fault),
+    }
+}
+
+/// The same through a second seat of the queue, which is joined then.
+fn enqueued_apart<R: Wait, A: Allocator + Copy>(
+    rt: &R,
+    heap: &SharedHeap<A>,
+    queue: &SharedQueue<A>,
+    seats: &mut Seats<A>,
+    slot: u32,
+) -> Told
+    requires seats { IsHeapSeat heap.now seats.old.heap × IsQueueSeat queue.now seats.old.queue }
+    requires fits { FitsInMemory (the_row A.row A.Allocator A.Clone) }
+    ensures { IsHeapSeat heap.now seats.new.heap × IsQueueSeat queue.now seats.new.queue }
+{
+    let second = queue.split(&mut seats.queue);
+    let first = mem::replace(&mut seats.queue, second);
+    let told = enqueued(rt, heap, queue, seats, slot);
+    let second = mem::replace(&mut seats.queue, first);
+    queue.join(&mut seats.queue, second);
+    told
+}
+
+/// A delivery by this worker.
+fn delivered<R: Wait, A: Allocator + Copy>(
+    rt: &R,
+    heap: &SharedHeap<A>,
+    queue: &SharedQueue<A>,
+    seats: &mut Seats<A>,
+    worker: u32,
+) -> Told
+    requires seats { IsHeapSeat heap.now seats.old.heap × IsQueueSeat queue.now seats.old.queue }
+    requires fits { FitsInMemory (the_row A.row A.Allocator A.Clone) }
+    ensures { IsHeapSeat heap.now seats.new.heap × IsQueueSeat queue.now seats.new.queue }
+{
+    let queues = slice::from_ref(queue);
+    let own = slice::from_mut(&mut seats.queue);
+    match deliver_one(rt, heap, &mut seats.heap, queues, own, WorkerNo(worker)) {
+        Ok(delivery) => Told::Delivered(delivery),
+        Err(fault) => refused(rt, heap, &mut seats.heap, fault),
+    }
+}
+
+/// An enqueue of the reference in this slot, or a delivery, with no queue in the lists.
+fn sent_nowhere<R: Wait, A: Allocator + Copy>(
+    rt: &R,
+    heap: &SharedHeap<A>,
+    seat: &mut HeapSeat<A>,
+    slot: Option<u32>,
+) -> Told
+    requires { IsHeapSeat heap.now seat.old }
+    ensures { IsHeapSeat heap.now seat.new }
+{
+    let queues: [SharedQueue<A>; 0] = [];
+    let mut seats: [QueueSeat<A>; 0] = [];
+    match slot {
+        Some(slot) => match enqueue(rt, heap, seat, &queues, &mut seats, M, SlotNo(slot)) {
+            Ok(is_added) => Told::Enqueued(is_added),
+            Err(fault) => refused(rt, heap, seat, fault),
+        },
+        None => match deliver_one(rt, heap, seat, &queues, &mut seats, W) {
+            Ok(delivery) => Told::Delivered(delivery),
+            Err(fault) => refused(rt, heap, seat, fault),
+        },
+    }
+}
+
+/// Makes a call, and tells what was answered.
+pub fn answer<R: Wait, A: Allocator + Copy>(
+    rt: &R,
+    heap: &SharedHeap<A>,
+    queue: &SharedQueue<A>,
+    seats: &mut Seats<A>,
+    call: Call,
+) -> Told
+    requires seats { IsHeapSeat heap.now seats.old.heap × IsQueueSeat queue.now seats.old.queue }
+    requires fits { FitsInMemory (the_row A.row A.Allocator A.Clone) }
+    ensures { IsHeapSeat heap.now seats.new.heap × IsQueueSeat queue.now seats.new.queue }
+{
+    match call {
+        Call::Try(step) => replied(heap.try_call(&mut seats.heap, step_of(step))),
+        Call::Step(step) => replied(heap.call(rt, &mut seats.heap, step_of(step))),
+        Call::HeapServed => Told::Served(heap.served(&mut seats.heap)),
+        Call::Queue(call) => asked(rt, heap, queue, seats, call),
+        Call::Put(slot) => put(rt, heap, queue, seats, slot),
+        Call::Enqueue(slot) => enqueued(rt, heap, queue, seats, slot),
+        Call::EnqueueApart(slot) => enqueued_apart(rt, heap, queue, seats, slot),
+        Call::EnqueueNowhere(slot) => sent_nowhere(rt, heap, &mut seats.heap, Some(slot)),
+        Call::Deliver(worker) => delivered(rt, heap, queue, seats, worker),
+        Call::DeliverNowhere => sent_nowhere(rt, heap, &mut seats.heap, None),
+    }
+}

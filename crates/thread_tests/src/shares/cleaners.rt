@@ -1,0 +1,212 @@
+//! Jobs of a cleaner, registered beside a shared heap: stories of calls, each with its answer.
+
+ghost use Rattle.ref_share.specs.CleanSeats.{IsCleanSeat};
+ghost use Rattle.ref_share.specs.HeapSeats.{IsHeapSeat};
+ghost use Rattle.ref_share.specs.QueueSeats.{IsQueueSeat};
+ghost use Rattle.ref_queue.specs.CleanTables.{Changes};
+ghost use Rattle.std.specs.Prelude.{◌≡◌, ◌+◌, ◌<◌, ◌^◌, None};
+
+use super::calls::{Ask, Call, Do, Seats, Told};
+use super::{CONFIG, Q, give_up, new};
+use acts::{Act, Answer, Chair, Shared, done};
+use hearing::Hearing;
+use ref_base::{Fault, ObjNo, Reply};
+use ref_objects::Hold;
+use ref_queue::{Action, CleanTable, Job};
+use ref_share::{Delivery, SharedCleaner, SharedHeap, SharedQueue};
+use std::alloc::Global;
+use std::collections::VecDeque;
+use std::process::Abort;
+use std::sync::atomic::{AtomicU64, Ordering};
+use std::sync::{Arc, Wait};
+use std::test::Fail;
+use std::thread::Threads;
+
+mod acts;
+mod hearing;
+mod stories;
+mod threads;
+
+/// A story on a new heap, queue and cleaner.
+#[derive(Drop)]
+struct Story<'a> {
+    /// The heap's first ticket.
+    heap_first: u64,
+    /// The cleaner's first ticket.
+    first: u64,
+    /// The jobs, in the order in which they are registered.
+    jobs: &'a [u32],
+    calls: &'a [(Act, Answer)],
+    /// What a third thread does while two run the jobs of what is gone. Where it is nothing, there are no such threads.
+    meanwhile: &'a [(Call, Told)],
+    /// How many jobs the two run.
+    count: u64,
+    then: &'a [(Act, Answer)],
+    /// How often those who run the jobs of what is gone ran job 1, and job 2.
+    heard: (u64, u64),
+    /// How many actions were called in all.
+    called: u64,
+    /// How many jobs are registered in the end.
+    left: u64,
+}
+
+/// Does what a story tells in turn, with its answers.
+fn do_all<R: Wait + Abort>(
+    rt: &R,
+    shared: Shared,
+    chair: &mut Chair,
+    jobs: &mut VecDeque<Job>,
+    hearing: &Hearing,
+    acts: &[(Act, Answer)],
+)
+    requires { IsHeapSeat shared.heap.now chair.old.seats.heap
+        × IsQueueSeat shared.queue.now chair.old.seats.queue
+        × IsCleanSeat shared.cleaner.now.turn chair.old.cleaner.seat }
+    ensures { IsHeapSeat shared.entry.heap.now chair.new.seats.heap
+        × IsQueueSeat shared.entry.queue.now chair.new.seats.queue
+        × IsCleanSeat shared.entry.cleaner.now.turn chair.new.cleaner.seat }
+{
+    for (row, &(act, want)) in acts.iter().enumerate() {
+        assert_eq!(rt;
+            done(rt, shared, chair, jobs, hearing, act),
+            want,
+            "row {row}"
+        );
+    }
+}
+
+/// The story with these jobs.
+fn tell<R: Threads + Wait + Abort + Sync>(
+    rt: &R,
+    shared: Shared,
+    chair: Chair,
+    mut jobs: VecDeque<Job>,
+    story: &Story,
+) -> Chair
+    requires { IsHeapSeat shared.heap.now chair.seats.heap
+        × IsQueueSeat shared.queue.now chair.seats.queue
+        × IsCleanSeat shared.cleaner.now.turn chair.cleaner.seat }
+    ensures { IsHeapSeat shared.entry.heap.now result.seats.heap
+        × IsQueueSeat shared.entry.queue.now result.seats.queue
+        × IsCleanSeat shared.entry.cleaner.now.turn result.cleaner.seat }
+{
+    let hearing = Hearing::new(!story.meanwhile.is_empty());
+    let mut chair = chair;
+    do_all(rt, shared, &mut chair, &mut jobs, &hearing, story.calls);
+    if !story.meanwhile.is_empty() {
+        let Story {
+            meanwhile,
+            count,
+            ..
+        } = story;
+        threads::clean_meanwhile(rt, shared, &mut chair, &hearing, meanwhile, *count);
+    }
+    do_all(rt, shared, &mut chair, &mut jobs, &hearing, story.then);
+    assert!(rt; !hearing.gave_up(), "one job waited for the other in vain");
+    let (first, second) = story.heard;
+    assert_eq!(rt; hearing.heard(), (first, second, 0));
+    chair
+}
+
+/// The story, whose jobs count how often their actions are called, and what is left then.
+fn agree<R: Threads + Wait + Abort + Sync>(
+    rt: &R,
+    alloc: Global,
+    story: &Story,
+) -> Result<(), Fail> {
+    let called = Arc::new(alloc, AtomicU64::new(0))?;
+    let mut jobs = VecDeque::new(alloc);
+    for &number in story.jobs {
+        let calls = Arc::try_clone(&called)?;
+        let action: Action = Box::new(
+            alloc,
+            move |number: u64| -> u64
+                requires { number < 2 ^ 32 }
+                ensures { result ≡ number + 1000 }
+            {
+                calls.fetch_add(1, Ordering::SeqCst);
+                number + 1000
+            },
+        )?;
+        let number = u64::from(number);
+        jobs.push_back(Job::new(number, number + 1000, action))?;
+    }
+    let left = left_behind(rt, alloc, jobs, story)?;
+    assert_eq!(rt;
+        called.load(Ordering::SeqCst),
+        story.called,
+        "actions called"
+    );
+    assert_eq!(rt; left, story.left, "jobs registered in the end");
+    Ok(())
+}
+
+/// The story with these jobs, and how many of them are registered in the end.
+fn left_behind<R: Threads + Wait + Abort + Sync>(
+    rt: &R,
+    alloc: Global,
+    jobs: VecDeque<Job>,
+    story: &Story,
+) -> Result<u64, Fail> {
+    let (heap, heap_seat) = SharedHeap::starting(alloc, CONFIG, 0, story.heap_first)?;
+    let (cleaner, seat) = SharedCleaner::starting(alloc, Q, story.first)?;
+    let (queue, queue_seat) = match SharedQueue::new(alloc, Q) {
+        Ok(made) => made,
+        Err(fault) => {
+            left_in(cleaner.finish(seat));
+            return Err(fault.into());
+        }
+    };
+    let shared = Shared {
+        heap: &heap,
+        queue: &queue,
+        cleaner: &cleaner,
+    };
+    let seats = Seats {
+        heap: heap_seat,
+        queue: queue_seat,
+    };
+    let chair = Chair {
+        seats,
+        cleaner: seat,
+    };
+    assert_eq!(rt; cleaner.queue(), Q);
+    let Chair {
+        seats,
+        cleaner: seat,
+    } = tell(rt, shared, chair, jobs, story);
+    match queue.finish(seats.queue) {
+        Ok(queue) => give_up(Some(queue)),
+        Err(left) => give_up(left),
+    }
+    let left = left_in(cleaner.finish(seat));
+    assert!(rt; left.is_some(), "no turn of the cleaner is open");
+    Ok(left.unwrap_or(0))
+}
+
+/// How many jobs a finished cleaner gives, each of which is dropped, not run.
+fn left_in(finished: Result<CleanTable<Hold>, Option<CleanTable<Hold>>>) -> Option<u64> {
+    let mut table = match finished {
+        Ok(table) | Err(Some(table)) => table,
+        Err(None) => return None,
+    };
+    let mut count = 0;
+    while let Some(object) = table.first() {
+        drop_job(&mut table, object);
+        count = u64::saturating_add(count, 1);
+    }
+    match table.end() {
+        Ok(()) => Some(count),
+        Err(_table) => unreachable!(),
+    }
+}
+
+/// Drops the job of an object.
+fn drop_job(table: &mut CleanTable<Hold>, object: ObjNo)
+    ensures number { object < 2 ^ 32 }
+    ensures taken { Changes table.old object None table.new }
+{
+    if let Some((hold, _job)) = table.take(object) {
+        hold.leak();
+    }
+}

@@ -1,0 +1,215 @@
+//! Threads that wait for a shared queue.
+
+ghost use Rattle.ref_share.specs.HeapSeats.{IsHeapSeat};
+ghost use Rattle.ref_share.specs.QueueSeats.{IsQueueSeat};
+
+use super::calls::{Ask, Call, Seats, Told, answer};
+use super::{CONFIG, Q, Story, death, end_finished, make_calls, two_references};
+use ref_base::ObjNo;
+use ref_share::{Delivery, QueueSeat, SharedHeap, SharedQueue};
+use std::alloc::Global;
+use std::process::Abort;
+use std::sync::Wait;
+use std::test::Fail;
+use std::thread;
+use std::thread::Threads;
+
+const WAIT: Call = Call::Queue(Ask::Wait);
+
+/// One call, by a thread of its own.
+fn told<R: Wait>(
+    rt: &R,
+    heap: &SharedHeap,
+    queue: &SharedQueue,
+    mut seats: Seats,
+    call: Call,
+) -> (Told, Seats)
+    requires { IsHeapSeat heap.now seats.heap × IsQueueSeat queue.now seats.queue }
+    ensures { IsHeapSeat heap.now result.1.heap × IsQueueSeat queue.now result.1.queue }
+{
+    let told = answer(rt, heap, queue, &mut seats, call);
+    (told, seats)
+}
+
+/// Whether so many turns of the queue end, within 1,000,000 looks.
+fn has_served(queue: &SharedQueue, seat: &mut QueueSeat, turns: u64) -> bool
+    requires { IsQueueSeat queue.now seat.old }
+    ensures { IsQueueSeat queue.now seat.new }
+{
+    for _ in 0..1_000_000 {
+        if queue.served(seat) >= turns {
+            return true;
+        }
+        thread::yield_now();
+    }
+    false
+}
+
+/// The story's calls, each of which has its answer, once two turns of the queue have ended.
+fn make_calls_later<R: Wait + Abort>(
+    rt: &R,
+    heap: &SharedHeap,
+    queue: &SharedQueue,
+    mut seats: Seats,
+    story: &Story,
+)
+    requires { IsHeapSeat heap.now seats.heap × IsQueueSeat queue.now seats.queue }
+{
+    assert!(rt; has_served(queue, &mut seats.queue, 2), "two have polled");
+    make_calls(rt, heap, queue, &mut seats, story.calls);
+    make_calls(rt, heap, queue, &mut seats, story.then);
+}
+
+/// Two threads that wait for the queue; and what they are told.
+fn both_told<R: Threads + Wait + Sync>(
+    rt: &R,
+    heap: &SharedHeap,
+    queue: &SharedQueue,
+    left: Seats,
+    right: Seats,
+) -> (Told, Told, Seats)
+    requires left { IsHeapSeat heap.now left.heap × IsQueueSeat queue.now left.queue }
+    requires right { IsHeapSeat heap.now right.heap × IsQueueSeat queue.now right.queue }
+    ensures { IsHeapSeat heap.now result.2.heap × IsQueueSeat queue.now result.2.queue }
+{
+    let ((first, mut seats), (second, other)) = thread::join(
+        rt,
+        ||
+            requires { IsHeapSeat heap.now left.heap × IsQueueSeat queue.now left.queue }
+            ensures { IsHeapSeat heap.entry.now result.1.heap × IsQueueSeat queue.entry.now result.1.queue }
+        { told(rt, heap, queue, left, WAIT) },
+        ||
+            requires { IsHeapSeat heap.now right.heap × IsQueueSeat queue.now right.queue }
+            ensures { IsHeapSeat heap.entry.now result.1.heap × IsQueueSeat queue.entry.now result.1.queue }
+        { told(rt, heap, queue, right, WAIT) },
+    );
+    joined(heap, queue, &mut seats, other);
+    (first, second, seats)
+}
+
+/// Seats for one thread more.
+fn split(heap: &SharedHeap, queue: &SharedQueue, seats: &mut Seats) -> Seats
+    requires { IsHeapSeat heap.now seats.old.heap × IsQueueSeat queue.now seats.old.queue }
+    ensures old { IsHeapSeat heap.now seats.new.heap × IsQueueSeat queue.now seats.new.queue }
+    ensures new { IsHeapSeat heap.now result.heap × IsQueueSeat queue.now result.queue }
+{
+    Seats {
+        heap: heap.split(&mut seats.heap),
+        queue: queue.split(&mut seats.queue),
+    }
+}
+
+/// Takes the seats of a thread in.
+fn joined(heap: &SharedHeap, queue: &SharedQueue, seats: &mut Seats, other: Seats)
+    requires own { IsHeapSeat heap.now seats.old.heap × IsQueueSeat queue.now seats.old.queue }
+    requires other { IsHeapSeat heap.now other.heap × IsQueueSeat queue.now other.queue }
+    ensures { IsHeapSeat heap.now seats.new.heap × IsQueueSeat queue.now seats.new.queue }
+{
+    heap.join(&mut seats.heap, other.heap);
+    queue.join(&mut seats.queue, other.queue);
+}
+
+/// Two threads that wait for the queue, while a third makes the story's calls; and what the two are told.
+fn told_meanwhile<R: Threads + Wait + Abort + Sync>(
+    rt: &R,
+    heap: &SharedHeap,
+    queue: &SharedQueue,
+    mut own: Seats,
+    story: &Story,
+) -> (Told, Told, Seats)
+    requires { IsHeapSeat heap.now own.heap × IsQueueSeat queue.now own.queue }
+    ensures { IsHeapSeat heap.now result.2.heap × IsQueueSeat queue.now result.2.queue }
+{
+    let left = split(heap, queue, &mut own);
+    let right = split(heap, queue, &mut own);
+    let (told, ()) = thread::join(
+        rt,
+        ||
+            requires left { IsHeapSeat heap.now left.heap × IsQueueSeat queue.now left.queue }
+            requires right { IsHeapSeat heap.now right.heap × IsQueueSeat queue.now right.queue }
+            ensures { IsHeapSeat heap.entry.now result.2.heap × IsQueueSeat queue.entry.now result.2.queue }
+        { both_told(rt, heap, queue, left, right) },
+        ||
+            requires { IsHeapSeat heap.now own.heap × IsQueueSeat queue.now own.queue }
+        { make_calls_later(rt, heap, queue, own, story) },
+    );
+    told
+}
+
+/// The story's calls, made while two threads wait; these are told this, one the one and one the other.
+fn agree_while_two_wait<R: Threads + Wait + Abort + Sync>(
+    rt: &R,
+    alloc: Global,
+    story: &Story,
+    want: (Told, Told),
+) -> Result<(), Fail> {
+    let (heap, heap_seat) = SharedHeap::starting(alloc, CONFIG, 0, story.heap_first)?;
+    let (queue, queue_seat) = SharedQueue::starting(alloc, story.queue, story.first)?;
+    let seats = Seats {
+        heap: heap_seat,
+        queue: queue_seat,
+    };
+    let (first, second, seats) = told_meanwhile(rt, &heap, &queue, seats, story);
+    assert!(rt;
+        (first, second) == want || (second, first) == want,
+        "{first:?}, {second:?}"
+    );
+    assert!(rt;
+        heap.finish(seats.heap).is_ok(),
+        "no turn of the heap is open"
+    );
+    end_finished(rt, alloc, queue.finish(seats.queue), story)
+}
+
+const CLOSE: (Call, Told) = (Call::Queue(Ask::Close), Told::WasOpen(true));
+
+#[test]
+fn a_close_wakes_all_that_wait(rt: HostRuntime) -> Result<(), Fail> {
+    let story = Story {
+        heap_first: 0,
+        first: 0,
+        queue: Q,
+        calls: &[],
+        then: &[CLOSE],
+        put_in: &[],
+        standing: &[],
+    };
+    agree_while_two_wait(&rt, rt.alloc(), &story, (Told::Closed, Told::Closed))
+}
+
+#[test]
+fn what_is_put_later_goes_to_those_that_wait(rt: HostRuntime) -> Result<(), Fail> {
+    let story = Story {
+        heap_first: 0,
+        first: 0,
+        queue: Q,
+        calls: &death(),
+        then: &[
+            (
+                Call::Deliver(0),
+                Told::Delivered(Delivery::Added(ObjNo(2), Q, 0)),
+            ),
+            (
+                Call::Deliver(0),
+                Told::Delivered(Delivery::Added(ObjNo(3), Q, 1)),
+            ),
+        ],
+        put_in: &[2, 3],
+        standing: &[],
+    };
+    agree_while_two_wait(&rt, rt.alloc(), &story, (Told::Took(2), Told::Took(3)))
+}
+
+#[test]
+fn who_waits_for_more_than_comes_is_told_of_the_close(rt: HostRuntime) -> Result<(), Fail> {
+    let story = Story {
+        heap_first: 0,
+        first: 0,
+        queue: Q,
+        calls: &two_references(),
+        then: &[(Call::Enqueue(1), Told::Enqueued(true)), CLOSE],
+        put_in: &[2],
+        standing: &[],
+    };
+    agree_while_two_wait(&rt, rt.alloc(), &story, (Told::Took(2), Told::Closed))
+}
