@@ -55,7 +55,7 @@ impl<'a> Program<'a> {
 
     /// What the program goes on with once it registers nothing more.
     pub fn into_user(self) -> HeapUser<'a>
-        requires { IsUser self.user × IsCleanSeat self.cleaner.now.turn self.seat.seat }
+        requires { IsUser self.user }
         ensures { IsUser result }
     {
         let Program { user, .. } = self;
