@@ -81,6 +81,7 @@ impl<T: Parcel, A: Allocator + Copy> Queue<T, A> {
     ///
     /// That a reference is enqueued at most once is the rule of `java.lang.ref` (Java SE 17, `Reference.enqueue`).
     /// Positions, and that a queue closes, are this project's profile.
+    #[inline(always)]
     pub fn put(&mut self, parcel: T) -> Result<Put<T>, (Fault, T)>
         ensures answer { AnswersPut T.object_of T.queue_of self.old parcel result }
         ensures after { self.new ≡ after_put T.object_of T.queue_of self.old parcel result }
@@ -111,6 +112,7 @@ impl<T: Parcel, A: Allocator + Copy> Queue<T, A> {
     ///
     /// As `ReferenceQueue.poll` of Java SE 17, but first in, first out, and it tells a closed queue from an empty one
     /// (this project's profile): what stood as the queue was closed is still given out.
+    #[inline(always)]
     pub fn poll(&mut self) -> Polled<T>
         ensures answer { Polls T.object_of self.old result self.new }
         ensures own { IfTook result (λ x. T.queue_of x ≡ self.old.queue) }

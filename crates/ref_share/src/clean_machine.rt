@@ -67,6 +67,7 @@ impl<K, J, A: Allocator + Copy> Machine for CleanMachine<K, J, A> {
 
     ghost acts = { IsCleanMove };
 
+    #[inline(always)]
     fn apply(&mut self, step: CleanStep<K, J>) -> CleanReply<K, J> {
         match step {
             CleanStep::Register(object, kept, job) => {

@@ -72,6 +72,7 @@ impl<A: Allocator + Copy> Machine for QueueMachine<A> {
 
     ghost acts = { IsQueueMove };
 
+    #[inline(always)]
     fn apply(&mut self, step: QueueStep) -> QueueReply {
         match step {
             QueueStep::Put(notice) => QueueReply::Put(self.queue.put(notice)),

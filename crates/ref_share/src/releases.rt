@@ -13,6 +13,7 @@ use std::alloc::Allocator;
 use std::sync::Wait;
 
 // Does a step of the heap that hands nothing over. `TurnsSpent` where no turn is left.
+#[inline(always)]
 pub(crate) fn ask<R: Wait, A: Allocator + Copy>(
     rt: &R,
     heap: &SharedHeap<A>,

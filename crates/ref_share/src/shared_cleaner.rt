@@ -68,6 +68,7 @@ impl<A: Allocator + Copy> SharedCleaner<A> {
     }
 
     // Does one step of the table, once the turn is free.
+    #[inline(always)]
     pub(crate) fn call<R: Wait>(
         &self,
         rt: &R,

@@ -77,6 +77,7 @@ impl<A: Allocator + Copy> SharedHeap<A> {
 
     /// Does one step of the heap, once the turn is free. The one refusal is `Spent`, where no turn is left. Takes no
     /// memory.
+    #[inline(always)]
     pub fn call<R: Wait>(
         &self,
         rt: &R,

@@ -69,6 +69,7 @@ impl<M: Machine, A: Allocator> Turn<M, A> {
     /// turn, here and below. Takes no memory but what the step takes.
     ///
     /// `Spent` where no ticket is left, and never `Busy`: then nothing happened, and the step comes back.
+    #[inline(always)]
     pub fn call<W: Wait>(
         &self,
         rt: &W,

@@ -18,6 +18,7 @@ use std::sync::Wait;
 impl<M: Machine, A: Allocator> Turn<M, A> {
     // Takes the turn where none is open and a ticket is left. The ended turns are looked at first: so where more
     // tickets are drawn than were seen to have ended, a turn was open in between.
+    #[inline(always)]
     pub(super) fn enter(&self, place: &mut Place<M>) -> Result<(), TurnFault<()>>
         requires place { IsPlaceOf self.now place.old }
         requires idle { IsIdle place.old.me }
@@ -49,6 +50,7 @@ impl<M: Machine, A: Allocator> Turn<M, A> {
     }
 
     // The same, but it waits where a turn is open. False where no ticket is left.
+    #[inline(always)]
     pub(super) fn wait_turn<W: Wait>(&self, rt: &W, place: &mut Place<M>) -> bool
         requires place { IsPlaceOf self.now place.old }
         requires idle { IsIdle place.old.me }
@@ -77,6 +79,7 @@ impl<M: Machine, A: Allocator> Turn<M, A> {
     }
 
     // Runs the machine in the turn that the seat holds, and ends the turn.
+    #[inline(always)]
     pub(super) fn run(&self, place: &mut Place<M>, step: M::Step) -> M::Reply
         requires place { IsPlaceOf self.now place.old }
         requires turn { HoldsTurn M.stands_for M.moves place.old.me }
@@ -122,6 +125,8 @@ impl<M: Machine, A: Allocator> Turn<M, A> {
     // words, who ends a turn adds to the first word and then looks at the count. So either the sleep sees the change
     // (it compares the low 32 bits of the word, which are the same again only after 2^32 turns), or who ends the turn
     // sees the sleeper. A woken call that finds the turn taken sleeps anew, and whoever then ends it wakes the next.
+    #[cold]
+    #[inline(never)]
     fn sleep<W: Wait>(&self, rt: &W) {
         self.sleepers.enter();
         let words = &self.table.shared;

@@ -13,6 +13,8 @@ const YIELD_ROUNDS: u32 = 2;
 pub(super) const ROUNDS_AWAKE: u32 = SPIN_ROUNDS + YIELD_ROUNDS;
 
 /// Waits awake for one round, counted from 0.
+#[cold]
+#[inline(never)]
 pub(super) fn stay_awake(round: u32) {
     if round < SPIN_ROUNDS {
         for _ in 0..1u32 << round {
