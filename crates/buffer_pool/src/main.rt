@@ -5,16 +5,15 @@
 //! in every run.
 #![tactic(auto)]
 
-ghost use Rattle.std.specs.Prelude.{◌≡◌, ◌<◌, ◌^◌, None};
+ghost use Rattle.std.specs.Prelude.{◌≡◌};
 ghost use Rattle.example_runtime.specs.Users.{IsUser, IsCollector};
-ghost use Rattle.ref_queue.specs.CleanTables.{Changes};
 ghost use Rattle.ref_share.specs.CleanSeats.{IsCleanSeat};
 ghost use Rattle.ref_share.specs.QueueSeats.{IsQueueSeat};
 
 use example_runtime::{Collector, HeapUser, close, end};
 use pool::{BUFFERS, Buffer, count_free};
 use program::{Program, let_go};
-use ref_base::{Config, Fault, ObjNo, QueueNo};
+use ref_base::{Config, Fault, QueueNo};
 use ref_objects::Hold;
 use ref_queue::{Action, CleanTable, Job};
 use ref_share::{QueueSeat, SharedCleaner, SharedHeap, SharedQueue};
@@ -180,22 +179,12 @@ fn work<R: Threads + Wait + Sync>(rt: &R, user: HeapUser, collector: Collector) 
 /// Runs the jobs whose objects were still in use, and ends the table.
 fn run_what_is_left(table: CleanTable<Hold>) {
     let mut table = table;
-    while let Some(object) = table.first() {
-        run_job(&mut table, object);
+    while let Some((_, hold, job)) = table.take_any() {
+        hold.leak();
+        job.run();
     }
     match table.end() {
         Ok(()) => {}
         Err(_table) => unreachable!(),
-    }
-}
-
-/// Runs the job of an object.
-fn run_job(table: &mut CleanTable<Hold>, object: ObjNo)
-    ensures number { object < 2 ^ 32 }
-    ensures taken { Changes table.old object None table.new }
-{
-    if let Some((hold, job)) = table.take(object) {
-        hold.leak();
-        job.run();
     }
 }

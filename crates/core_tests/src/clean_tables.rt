@@ -1,8 +1,5 @@
 //! The table of a cleaner, call by call. What is kept beside a job is a number here, and so is the job.
 
-ghost use Rattle.std.specs.Prelude.{◌≡◌, ◌<◌, ◌^◌, None};
-ghost use Rattle.ref_queue.specs.CleanTables.{Changes};
-
 use ref_base::{Fault, ObjNo};
 use ref_queue::CleanTable;
 use std::alloc::Global;
@@ -14,6 +11,7 @@ enum Call {
     /// For this object, with this beside this job.
     Register(u32, u64, u64),
     Take(u32),
+    TakeAny,
     First,
     Close,
 }
@@ -26,6 +24,8 @@ enum Told {
     Refused(Fault, u64, u64),
     /// This was kept beside this job.
     Took(u64, u64),
+    /// The same, of this object.
+    TookOf(u32, u64, u64),
     Object(u32),
     Nothing,
 }
@@ -38,6 +38,10 @@ fn answer(table: &mut CleanTable<u64, u64>, call: Call) -> Told {
         },
         Call::Take(object) => match table.take(ObjNo(object)) {
             Some((kept, job)) => Told::Took(kept, job),
+            None => Told::Nothing,
+        },
+        Call::TakeAny => match table.take_any() {
+            Some((object, kept, job)) => Told::TookOf(object.0, kept, job),
             None => Told::Nothing,
         },
         Call::First => table
@@ -57,8 +61,7 @@ fn agree(rt: &impl Abort, alloc: Global, story: &[(Call, Told)], left: u64) {
         assert_eq!(rt; answer(&mut table, call), want, "row {row}");
     }
     let mut count = 0;
-    while let Some(object) = table.first() {
-        drop_job(&mut table, object);
+    while let Some((_, _kept, _job)) = table.take_any() {
         count = u64::saturating_add(count, 1);
     }
     assert_eq!(rt; count, left, "jobs left");
@@ -66,14 +69,6 @@ fn agree(rt: &impl Abort, alloc: Global, story: &[(Call, Told)], left: u64) {
         Ok(()) => {}
         Err(_table) => unreachable!(),
     }
-}
-
-/// Drops the job of an object.
-fn drop_job(table: &mut CleanTable<u64, u64>, object: ObjNo)
-    ensures number { object < 2 ^ 32 }
-    ensures taken { Changes table.old object None table.new }
-{
-    let _ = table.take(object);
 }
 
 #[test]
@@ -89,8 +84,12 @@ fn each_job_is_given_out_once(rt: HostRuntime) {
         (Call::Take(8), Told::Nothing),
         (Call::Take(7), Told::Took(70, 1)),
         (Call::Take(7), Told::Nothing),
-        (Call::First, Told::Nothing),
+        (Call::TakeAny, Told::Nothing),
         (Call::Register(7, 72, 3), Told::Done),
+        (Call::TakeAny, Told::TookOf(7, 72, 3)),
+        (Call::Take(7), Told::Nothing),
+        (Call::First, Told::Nothing),
+        (Call::Register(7, 73, 3), Told::Done),
         (Call::Register(8, 80, 4), Told::Done),
     ];
     agree(&rt, rt.alloc(), &story, 2);

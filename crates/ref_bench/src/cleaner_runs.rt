@@ -1,14 +1,13 @@
 //! A cleaner that one thread uses.
 
-ghost use Rattle.std.specs.Prelude.{◌≡◌, ◌<◌, ◌^◌, None};
-ghost use Rattle.ref_queue.specs.CleanTables.{Changes};
+ghost use Rattle.std.specs.Prelude.{◌≡◌};
 ghost use Rattle.ref_share.specs.CleanSeats.{IsCleanSeat};
 ghost use Rattle.ref_share.specs.HeapSeats.{IsHeapSeat};
 
 use crate::heap_runs::give_up;
 use crate::letters::{CONFIG, QUEUE, spend};
 use crate::timing::{Sample, Timer};
-use ref_base::{Fault, HeapStep, MutNo, ObjNo, SlotNo};
+use ref_base::{Fault, HeapStep, MutNo, SlotNo};
 use ref_objects::Hold;
 use ref_queue::{Action, CleanTable, Job};
 use ref_share::{CleanSeat, Cleanable, Cleaned, HeapSeat, SharedCleaner, SharedHeap};
@@ -150,20 +149,11 @@ fn register_and_run<R: Wait + Clock>(
 /// Gives up the jobs that stand in a table, and the table.
 fn end(table: CleanTable<Hold>) {
     let mut table = table;
-    while let Some(object) = table.first() {
-        drop_job(&mut table, object);
+    while let Some((_, hold, _job)) = table.take_any() {
+        hold.leak();
     }
     match table.end() {
         Ok(()) => {}
         Err(_table) => unreachable!(),
-    }
-}
-
-fn drop_job(table: &mut CleanTable<Hold>, object: ObjNo)
-    ensures number { object < 2 ^ 32 }
-    ensures dropped { Changes table.old object None table.new }
-{
-    if let Some((hold, _job)) = table.take(object) {
-        hold.leak();
     }
 }

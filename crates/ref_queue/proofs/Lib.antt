@@ -1,3 +1,2 @@
 pub mod QueueLemmas
 pub mod TableLemmas
-pub mod TableSizes

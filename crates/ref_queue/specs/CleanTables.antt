@@ -1,7 +1,7 @@
 -- What the table of a cleaner is, as plain data, and what its calls answer and leave (Java SE 17 `java.lang.ref.Cleaner`
 -- for an action that runs at most once; that a table closes is this project's profile).
-use Rattle.std.specs.Prelude.{◌≡◌, ℕ, Bool, true, false, nat_eq, if◌then◌else◌, is_some}
-use Rattle.std.specs.Prelude.{List, [], Option, Some, None, Result, Ok, Err, refl}
+use Rattle.std.specs.Prelude.{◌≡◌, ℕ, ◌+◌, Bool, true, false, nat_eq, if◌then◌else◌, is_some}
+use Rattle.std.specs.Prelude.{List, [], length, Option, Some, None, Result, Ok, Err, refl}
 use Rattle.std.specs.Coded.{Coded, code_by, coded×, coded_ℕ, coded_bool, coded_list}
 use Rattle.std.specs.Map.{lookup}
 use Rattle.ref_base.specs.declared.fault.Fault.{Fault}
@@ -55,6 +55,11 @@ module _ {K J : Type 0} where
   -- when a take answers so, and leaves u: the object's job is given out, and is there no more
   abbrev pub Takes : Registry K J → ℕ → Option (K × J) → Registry K J → Type 0
   Takes t n result u = (result ≡ job_of t n) × Changes t n None u
+
+  -- when a take of any job answers so, and leaves u: it is given out with its object, and one job fewer is there
+  abbrev pub TakesAny : Registry K J → Option (ℕ × K × J) → Registry K J → Type 0
+  TakesAny t (Some (n, key, job)) u = Takes t n (Some (key, job)) u × (length t.jobs ≡ 1 + length u.jobs)
+  TakesAny t None u = (t.jobs ≡ []) × (u ≡ t)
 
   -- when a look for any object with a job answers so
   abbrev pub FindsFirst : Registry K J → Option ℕ → Type 0

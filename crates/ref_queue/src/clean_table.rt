@@ -30,7 +30,7 @@ impl<K, J, A: Allocator> Model for CleanTable<K, J, A> {
 }
 
 impl<K, J, A: Allocator + Copy> CleanTable<K, J, A> {
-    ghost use Rattle.ref_queue.specs.CleanTables.{new_registry, Registers, Takes, FindsFirst};
+    ghost use Rattle.ref_queue.specs.CleanTables.{new_registry, Registers, Takes, TakesAny, FindsFirst};
 
     /// An open table where nothing is registered. Takes no memory.
     pub fn new(alloc: A) -> Self
@@ -46,6 +46,7 @@ impl<K, J, A: Allocator + Copy> CleanTable<K, J, A> {
     ///
     /// Tried in this order: `TableClosed`, `RegisteredTwice` where the object has a job that was not taken yet,
     /// `NoMemory` where a growth is refused. In each of the three what was handed in comes back, and nothing has changed.
+    #[inline(always)]
     pub fn register(&mut self, object: ObjNo, kept: K, job: J) -> Result<(), (Fault, K, J)>
         ensures { Registers self.old object kept job result self.new }
     {
@@ -67,10 +68,21 @@ impl<K, J, A: Allocator + Copy> CleanTable<K, J, A> {
 
     /// Takes the object's job out, with what was kept beside it: it is given out at most once. None where none is
     /// registered. Also of a closed table. In expected constant time. Takes no memory.
+    #[inline(always)]
     pub fn take(&mut self, object: ObjNo) -> Option<(K, J)>
         ensures { Takes self.old object result self.new }
     {
         self.jobs.swap_remove(&object)
+    }
+
+    /// Takes any job out, with its object and what was kept beside it; none where the table is empty. So a table is
+    /// emptied before it is ended. In expected constant time. Takes no memory.
+    pub fn take_any(&mut self) -> Option<(ObjNo, K, J)>
+        ensures { TakesAny self.old result self.new }
+    {
+        let first = self.first()?;
+        let (kept, job) = self.jobs.swap_remove(&first)?;
+        Some((first, kept, job))
     }
 
     /// Any object that has a job, none where the table is empty. In constant time. Takes no memory.

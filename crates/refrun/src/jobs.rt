@@ -1,9 +1,8 @@
 //! What the steps of a script run on: a world, and beside it a cleaner's table and the jobs for it.
 
-ghost use Rattle.std.specs.Prelude.{◌≡◌, ◌≢◌, ◌<◌, ◌^◌, ◌==◌, Some, None, All, MatchOption, length, HoldsAt};
+ghost use Rattle.std.specs.Prelude.{◌≡◌, ◌≢◌, ◌<◌, ◌==◌, Some, None, All, MatchOption, length, HoldsAt};
 ghost use Rattle.ref_base.specs.Heaps.{slot_at};
 ghost use Rattle.ref_base.specs.Refusals.{clear_refusal};
-ghost use Rattle.ref_queue.specs.CleanTables.{Changes};
 ghost use Rattle.refrun.specs.JobViews.{number_of, note_of};
 ghost use Rattle.refrun.specs.ScriptRuns.{RegistersJob};
 ghost use Rattle.refrun.specs.ScriptStanding.{IsScriptRowOf, jobs};
@@ -102,20 +101,10 @@ fn index_of(jobs: &[Job], number: u64) -> Option<usize>
     )
 }
 
-/// Drops the job of an object, which is not run.
-fn drop_job<A: Allocator + Copy>(table: &mut CleanTable<(), Job, A>, object: ObjNo)
-    ensures number { object < 2 ^ 32 }
-    ensures dropped { Changes table.old object None table.new }
-{
-    let _ = table.take(object);
-}
-
 /// Drops each job of a table, and ends the table.
 fn end_table<A: Allocator + Copy>(table: CleanTable<(), Job, A>) {
     let mut table = table;
-    while let Some(object) = table.first() {
-        drop_job(&mut table, object);
-    }
+    while let Some((_, (), _job)) = table.take_any() {}
     match table.end() {
         Ok(()) => {}
         Err(_table) => unreachable!(),

@@ -3,14 +3,13 @@
 ghost use Rattle.ref_share.specs.CleanSeats.{IsCleanSeat};
 ghost use Rattle.ref_share.specs.HeapSeats.{IsHeapSeat};
 ghost use Rattle.ref_share.specs.QueueSeats.{IsQueueSeat};
-ghost use Rattle.ref_queue.specs.CleanTables.{Changes};
-ghost use Rattle.std.specs.Prelude.{◌≡◌, ◌+◌, ◌<◌, ◌^◌, None};
+ghost use Rattle.std.specs.Prelude.{◌≡◌, ◌+◌, ◌<◌, ◌^◌};
 
 use super::calls::{Ask, Call, Do, Seats, Told};
 use super::{CONFIG, Q, give_up, new};
 use acts::{Act, Answer, Chair, Shared, done};
 use hearing::Hearing;
-use ref_base::{Fault, ObjNo, Reply};
+use ref_base::{Fault, Reply};
 use ref_objects::Hold;
 use ref_queue::{Action, CleanTable, Job};
 use ref_share::{Delivery, SharedCleaner, SharedHeap, SharedQueue};
@@ -48,6 +47,22 @@ struct Story<'a> {
     called: u64,
     /// How many jobs are registered in the end.
     left: u64,
+}
+
+/// No job is registered, and nobody calls anything.
+fn quiet<'a>() -> Story<'a> {
+    Story {
+        heap_first: 0,
+        first: 0,
+        jobs: &[],
+        calls: &[],
+        meanwhile: &[],
+        count: 0,
+        then: &[],
+        heard: (0, 0),
+        called: 0,
+        left: 0,
+    }
 }
 
 /// Does what a story tells in turn, with its answers.
@@ -191,22 +206,12 @@ fn left_in(finished: Result<CleanTable<Hold>, Option<CleanTable<Hold>>>) -> Opti
         Err(None) => return None,
     };
     let mut count = 0;
-    while let Some(object) = table.first() {
-        drop_job(&mut table, object);
+    while let Some((_, hold, _job)) = table.take_any() {
+        hold.leak();
         count = u64::saturating_add(count, 1);
     }
     match table.end() {
         Ok(()) => Some(count),
         Err(_table) => unreachable!(),
-    }
-}
-
-/// Drops the job of an object.
-fn drop_job(table: &mut CleanTable<Hold>, object: ObjNo)
-    ensures number { object < 2 ^ 32 }
-    ensures taken { Changes table.old object None table.new }
-{
-    if let Some((hold, _job)) = table.take(object) {
-        hold.leak();
     }
 }

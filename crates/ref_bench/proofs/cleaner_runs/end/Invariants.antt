@@ -1,7 +1,6 @@
-use Rattle.std.proofs.Common.{◌^◌}
-use Rattle.ref_queue.proofs.TableSizes.{jobs_below}
+use Rattle.std.proofs.Common.{length}
 use Rattle.ref_bench.proofs.cleaner_runs.end.Given as goal
 
 -- how many jobs are left
-abbrev pub decreases-loop-object : goal.decreases-loop-object
-decreases-loop-object g l = jobs_below l.table (2 ^ 32)
+abbrev pub decreases-loop-hold : goal.decreases-loop-hold
+decreases-loop-hold g l = length l.table.jobs

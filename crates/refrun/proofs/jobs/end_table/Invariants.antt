@@ -1,6 +1,6 @@
-use Rattle.std.proofs.Common.{◌^◌}
-use Rattle.ref_queue.proofs.TableSizes.{jobs_below}
+use Rattle.std.proofs.Common.{length}
 use Rattle.refrun.proofs.jobs.end_table.Given as goal
 
-abbrev pub decreases-loop-object : goal.decreases-loop-object
-decreases-loop-object g l = jobs_below l.table (2 ^ 32)
+-- how many jobs are left
+abbrev pub decreases-loop-job : goal.decreases-loop-job
+decreases-loop-job g l = length l.table.jobs
