@@ -107,6 +107,19 @@ struct Story<'a> {
     standing: &'a [u32],
 }
 
+/// Nobody calls anything.
+fn quiet<'a>() -> Story<'a> {
+    Story {
+        heap_first: 0,
+        first: 0,
+        queue: Q,
+        calls: &[],
+        then: &[],
+        put_in: &[],
+        standing: &[],
+    }
+}
+
 /// The story's calls in turn, each of which has its answer, and what is left then.
 fn agree<R: Wait + Abort>(rt: &R, alloc: Global, story: &Story) -> Result<(), Fail> {
     let (heap, heap_seat) = SharedHeap::starting(alloc, CONFIG, 0, story.heap_first)?;

@@ -82,19 +82,19 @@ const EACH_CALL: [(Call, Told); 41] = [
     (Ask(InPhase), Told::In(Phase::Idle)),
 ];
 
-/// Makes each call once, where nothing is left of the arena behind the two heaps.
-fn make_each_call(rt: &impl Abort, memory: &Bump) -> Result<(), Fail> {
+/// Makes these calls, where nothing is left of the arena behind the two heaps.
+fn make_without_memory(rt: &impl Abort, memory: &Bump, calls: &[(Call, Told)]) -> Result<(), Fail> {
     let heap = Heap::new(memory, SMALL, 1)?;
     let other = Heap::new(memory, SMALL, 2)?;
     let _rest = all_that_is_left(rt, memory)?;
-    make_calls(rt, heap, other, &EACH_CALL);
+    make_calls(rt, heap, other, calls);
     Ok(())
 }
 
 #[test]
 fn after_new_no_call_takes_memory(rt: HostRuntime) -> Result<(), Fail> {
     let memory = limited(rt.alloc(), 8_192)?;
-    make_each_call(&rt, &memory)
+    make_without_memory(&rt, &memory, &EACH_CALL)
 }
 
 #[test]

@@ -43,12 +43,12 @@ fn no_memory_for<A: Allocator + Copy>(rt: &impl Abort, memory: A, cells: u32) {
     assert_eq!(rt; refused, Some(Fault::NoMemory));
 }
 
-/// Makes each call once, where nothing is left of the arena behind the two heaps.
-fn make_each_call(rt: &impl Abort, memory: &Bump) -> Result<(), Fail> {
+/// Makes these calls, where nothing is left of the arena behind the two heaps.
+fn make_without_memory(rt: &impl Abort, memory: &Bump, calls: &[(Call, Told)]) -> Result<(), Fail> {
     let heap = Objects::new(memory, config(3), 1)?;
     let other = Objects::new(memory, config(3), 2)?;
     let _rest = all_that_is_left(rt, memory)?;
-    make_calls(rt, heap, other, &EACH_CALL);
+    make_calls(rt, heap, other, calls);
     no_memory_for(rt, memory, 3);
     Ok(())
 }
@@ -56,7 +56,7 @@ fn make_each_call(rt: &impl Abort, memory: &Bump) -> Result<(), Fail> {
 #[test]
 fn after_new_no_call_takes_memory(rt: HostRuntime) -> Result<(), Fail> {
     let memory = limited(rt.alloc(), 4_096)?;
-    make_each_call(&rt, &memory)
+    make_without_memory(&rt, &memory, &EACH_CALL)
 }
 
 /// Makes plain objects in slot 0 until no cell is free.

@@ -7,8 +7,10 @@ use super::rows::{
 };
 use super::{CONFIG, are_rows, do_steps, steps_of};
 use crate::arena::{all_but, all_that_is_left, limited};
+use bumpalo::Bump;
 use ref_base::{Cause, Config, Fault, ObjNo, QueueNo, Reply, Step, WorkerNo};
 use ref_world::{Trace, World, run};
+use std::process::Abort;
 use std::test::Fail;
 
 /// As `CONFIG`, with two queues.
@@ -52,6 +54,35 @@ fn want_of_memory_is_told_by_new(rt: HostRuntime) -> Result<(), Fail> {
     Ok(())
 }
 
+/// Whether the rows of a run find this room. The world and the steps come back where they don't, with no step done.
+fn is_run(
+    rt: &impl Abort,
+    memory: &Bump,
+    room: &Bump,
+    asked: &[(Step, Reply)],
+) -> Result<bool, Fail> {
+    let steps = steps_of(memory, asked)?;
+    let world = World::new(memory, CONFIG)?;
+    match run(room, world, steps) {
+        Ok(Trace { rows, world }) => {
+            are_rows(rt, &rows, asked);
+            world.end();
+            Ok(true)
+        }
+        Err((fault, mut world, steps)) => {
+            assert_eq!(rt; fault, Fault::NoMemory);
+            assert_eq!(rt; steps.len(), asked.len());
+            for (place, &(want, _reply)) in asked.iter().enumerate() {
+                assert_eq!(rt; steps.get(place), Some(&want), "place {place}");
+            }
+            // Each step is answered as in a new world.
+            do_steps(rt, &mut world, asked);
+            world.end();
+            Ok(false)
+        }
+    }
+}
+
 #[test]
 fn a_run_without_room_gives_world_and_steps_back(rt: HostRuntime) -> Result<(), Fail> {
     let mut was_refused = false;
@@ -61,25 +92,10 @@ fn a_run_without_room_gives_world_and_steps_back(rt: HostRuntime) -> Result<(), 
         // The rows have an arena of their own.
         let room = limited(rt.alloc(), 1_024)?;
         let _rest = all_but(&room, 16 * step)?;
-        let steps = steps_of(&memory, &in_hand())?;
-        let world = World::new(&memory, CONFIG)?;
-        match run(&room, world, steps) {
-            Ok(Trace { rows, world }) => {
-                are_rows(&rt, &rows, &in_hand());
-                world.end();
-                was_run = true;
-            }
-            Err((fault, mut world, steps)) => {
-                assert_eq!(rt; fault, Fault::NoMemory, "step {step}");
-                assert_eq!(rt; steps.len(), 3, "step {step}");
-                for (place, &(want, _reply)) in in_hand().iter().enumerate() {
-                    assert_eq!(rt; steps.get(place), Some(&want), "step {step}, place {place}");
-                }
-                // No step was done: each is answered as in a new world.
-                do_steps(&rt, &mut world, &in_hand());
-                world.end();
-                was_refused = true;
-            }
+        if is_run(&rt, &memory, &room, &in_hand())? {
+            was_run = true;
+        } else {
+            was_refused = true;
         }
     }
     assert!(rt; was_refused, "there was too little");
@@ -87,33 +103,47 @@ fn a_run_without_room_gives_world_and_steps_back(rt: HostRuntime) -> Result<(), 
     Ok(())
 }
 
+/// Whether a put finds memory, where so many bytes of the arena are left. Its notice stays in the hand where it doesn't.
+fn is_put(
+    rt: &impl Abort,
+    memory: &Bump,
+    left: usize,
+    stays: &[(Step, Reply)],
+) -> Result<bool, Fail> {
+    let mut world = World::new(memory, CONFIG)?;
+    do_steps(rt, &mut world, &in_hand());
+    let rest = all_but(memory, left);
+    assert!(rt; rest.is_ok());
+    let reply = world.step(PUT);
+    let is_added = reply == Reply::Added(0);
+    if is_added {
+        do_steps(rt, &mut world, &[(poll(0), took(2))]);
+    } else {
+        assert_eq!(rt; reply, NO_MEMORY);
+        do_steps(rt, &mut world, stays);
+    }
+    world.end();
+    Ok(is_added)
+}
+
 #[test]
 fn a_put_without_memory_leaves_its_notice_in_the_hand(rt: HostRuntime) -> Result<(), Fail> {
+    let still_in_hand = [
+        (poll(0), refused(Fault::HandFull)),
+        (PUT, NO_MEMORY),
+        (poll(0), refused(Fault::HandFull)),
+        (adopt(3), object(2)),
+        (poll(0), Reply::Empty),
+    ];
     let mut was_refused = false;
     let mut was_added = false;
     for step in 0..64 {
         let memory = limited(rt.alloc(), 8_192)?;
-        let mut world = World::new(&memory, CONFIG)?;
-        do_steps(&rt, &mut world, &in_hand());
-        let rest = all_but(&memory, 16 * step);
-        assert!(rt; rest.is_ok(), "step {step}");
-        let reply = world.step(PUT);
-        if reply == NO_MEMORY {
-            let still_in_hand = [
-                (poll(0), refused(Fault::HandFull)),
-                (PUT, NO_MEMORY),
-                (poll(0), refused(Fault::HandFull)),
-                (adopt(3), object(2)),
-                (poll(0), Reply::Empty),
-            ];
-            do_steps(&rt, &mut world, &still_in_hand);
-            was_refused = true;
-        } else {
-            assert_eq!(rt; reply, Reply::Added(0), "step {step}");
-            do_steps(&rt, &mut world, &[(poll(0), took(2))]);
+        if is_put(&rt, &memory, 16 * step, &still_in_hand)? {
             was_added = true;
+        } else {
+            was_refused = true;
         }
-        world.end();
     }
     assert!(rt; was_refused, "there was too little");
     assert!(rt; was_added, "there was enough");

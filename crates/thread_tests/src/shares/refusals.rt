@@ -1,7 +1,7 @@
 //! Why calls of a shared heap and queue are refused.
 
 use super::calls::{Ask, Call, Do, Told};
-use super::{CONFIG, Q, Story, agree, death, heap, new, weak};
+use super::{CONFIG, Q, Story, agree, death, heap, new, quiet, weak};
 use ref_base::{Config, Fault, ObjNo, QueueNo, Reply};
 use ref_share::{Delivery, SharedHeap};
 use std::alloc::Global;
@@ -28,9 +28,6 @@ const fn not_put(call: Call, fault: Fault) -> (Call, Told) {
 #[test]
 fn a_limit_of_polls_is_from_1_to_a_million(rt: HostRuntime) -> Result<(), Fail> {
     let story = Story {
-        heap_first: 0,
-        first: 0,
-        queue: Q,
         calls: &[
             refused(Call::Queue(Ask::Within(0)), Fault::BadConfig),
             refused(Call::Queue(Ask::Within(1_000_001)), Fault::BadConfig),
@@ -40,8 +37,7 @@ fn a_limit_of_polls_is_from_1_to_a_million(rt: HostRuntime) -> Result<(), Fail> 
             (Call::Queue(Ask::Within(1_000_000)), Told::TimedOut),
             (Call::Queue(Ask::Served), Told::Served(1_000_001)),
         ],
-        put_in: &[],
-        standing: &[],
+        ..quiet()
     };
     agree(&rt, rt.alloc(), &story)
 }
@@ -49,9 +45,6 @@ fn a_limit_of_polls_is_from_1_to_a_million(rt: HostRuntime) -> Result<(), Fail> 
 #[test]
 fn what_the_heap_refuses_is_told(rt: HostRuntime) -> Result<(), Fail> {
     let story = Story {
-        heap_first: 0,
-        first: 0,
-        queue: Q,
         calls: &[
             new(0, 1),
             heap(Do::Alone(1, 0), Reply::Object(ObjNo(2))),
@@ -65,8 +58,7 @@ fn what_the_heap_refuses_is_told(rt: HostRuntime) -> Result<(), Fail> {
             (DELIVER, Told::Delivered(Delivery::Nothing)),
             (Call::Queue(Ask::Served), Told::Served(0)),
         ],
-        put_in: &[],
-        standing: &[],
+        ..quiet()
     };
     agree(&rt, rt.alloc(), &story)
 }
@@ -74,16 +66,12 @@ fn what_the_heap_refuses_is_told(rt: HostRuntime) -> Result<(), Fail> {
 #[test]
 fn a_queue_that_is_not_there_takes_nothing(rt: HostRuntime) -> Result<(), Fail> {
     let story = Story {
-        heap_first: 0,
-        first: 0,
-        queue: Q,
         calls: &death(),
         then: &[
             not_put(Call::EnqueueNowhere(1), Fault::BadQueue),
             not_put(Call::DeliverNowhere, Fault::BadQueue),
         ],
-        put_in: &[],
-        standing: &[],
+        ..quiet()
     };
     agree(&rt, rt.alloc(), &story)
 }
@@ -91,8 +79,6 @@ fn a_queue_that_is_not_there_takes_nothing(rt: HostRuntime) -> Result<(), Fail> 
 #[test]
 fn another_queue_takes_nothing(rt: HostRuntime) -> Result<(), Fail> {
     let story = Story {
-        heap_first: 0,
-        first: 0,
         queue: QueueNo(1),
         calls: &death(),
         then: &[
@@ -100,8 +86,7 @@ fn another_queue_takes_nothing(rt: HostRuntime) -> Result<(), Fail> {
             not_put(Call::Enqueue(1), Fault::WrongQueue),
             not_put(DELIVER, Fault::WrongQueue),
         ],
-        put_in: &[],
-        standing: &[],
+        ..quiet()
     };
     agree(&rt, rt.alloc(), &story)
 }
@@ -109,9 +94,7 @@ fn another_queue_takes_nothing(rt: HostRuntime) -> Result<(), Fail> {
 #[test]
 fn the_last_turn_of_a_queue_is_made_once(rt: HostRuntime) -> Result<(), Fail> {
     let story = Story {
-        heap_first: 0,
         first: u64::MAX - 1,
-        queue: Q,
         calls: &[(CLOSE, Told::WasOpen(true)), spent(CLOSE)],
         then: &[
             spent(Call::Queue(Ask::PollNow)),
@@ -120,8 +103,7 @@ fn the_last_turn_of_a_queue_is_made_once(rt: HostRuntime) -> Result<(), Fail> {
             refused(Call::Queue(Ask::Within(0)), Fault::BadConfig),
             (Call::Queue(Ask::Served), Told::Served(u64::MAX)),
         ],
-        put_in: &[],
-        standing: &[],
+        ..quiet()
     };
     agree(&rt, rt.alloc(), &story)
 }
@@ -129,17 +111,14 @@ fn the_last_turn_of_a_queue_is_made_once(rt: HostRuntime) -> Result<(), Fail> {
 #[test]
 fn without_a_turn_of_the_queue_the_notice_comes_back(rt: HostRuntime) -> Result<(), Fail> {
     let story = Story {
-        heap_first: 0,
         first: u64::MAX,
-        queue: Q,
         calls: &death(),
         then: &[
             not_put(Call::Put(1), Fault::TurnsSpent),
             not_put(Call::Enqueue(1), Fault::TurnsSpent),
             not_put(DELIVER, Fault::TurnsSpent),
         ],
-        put_in: &[],
-        standing: &[],
+        ..quiet()
     };
     agree(&rt, rt.alloc(), &story)
 }
@@ -148,8 +127,6 @@ fn without_a_turn_of_the_queue_the_notice_comes_back(rt: HostRuntime) -> Result<
 fn without_a_turn_of_the_heap_nothing_is_done(rt: HostRuntime) -> Result<(), Fail> {
     let story = Story {
         heap_first: u64::MAX - 1,
-        first: 0,
-        queue: Q,
         calls: &[new(0, 1), spent(Call::Try(Do::Drop(0)))],
         then: &[
             spent(Call::Step(Do::Drop(0))),
@@ -158,8 +135,7 @@ fn without_a_turn_of_the_heap_nothing_is_done(rt: HostRuntime) -> Result<(), Fai
             (Call::HeapServed, Told::Served(u64::MAX)),
             (Call::Queue(Ask::Served), Told::Served(0)),
         ],
-        put_in: &[],
-        standing: &[],
+        ..quiet()
     };
     agree(&rt, rt.alloc(), &story)
 }
@@ -172,8 +148,6 @@ fn without_a_turn_for_the_release_an_enqueue_gives_the_hold(rt: HostRuntime) -> 
     let story = Story {
         // Two objects are made, and two unhooks.
         heap_first: u64::MAX - 4,
-        first: 0,
-        queue: Q,
         calls: &[new(0, 1), weak(1, 0, 2)],
         then: &[
             (Call::Enqueue(1), Told::Enqueued(true)),
@@ -181,6 +155,7 @@ fn without_a_turn_for_the_release_an_enqueue_gives_the_hold(rt: HostRuntime) -> 
         ],
         put_in: &[2],
         standing: &[2],
+        ..quiet()
     };
     agree(&rt, rt.alloc(), &story)
 }
@@ -190,8 +165,6 @@ fn without_a_turn_for_the_release_a_delivery_gives_the_hold(rt: HostRuntime) -> 
     let story = Story {
         // Twelve turns of the cycle, an unhook and a hand.
         heap_first: u64::MAX - 14,
-        first: 0,
-        queue: Q,
         calls: &death(),
         then: &[
             (Call::Enqueue(1), Told::Enqueued(true)),
@@ -199,6 +172,7 @@ fn without_a_turn_for_the_release_a_delivery_gives_the_hold(rt: HostRuntime) -> 
         ],
         put_in: &[2],
         standing: &[2],
+        ..quiet()
     };
     agree(&rt, rt.alloc(), &story)
 }

@@ -1,7 +1,7 @@
 //! A shared heap and queue in one thread.
 
 use super::calls::{Ask, Call, Do, Told};
-use super::{Q, Story, agree, death, heap, two_references};
+use super::{Q, Story, agree, death, heap, quiet, two_references};
 use ref_base::{Fault, ObjNo, Reply};
 use ref_share::Delivery;
 use std::test::Fail;
@@ -31,9 +31,6 @@ const NOTHING: Told = Told::Delivered(Delivery::Nothing);
 #[test]
 fn one_thread_enqueues_and_polls(rt: HostRuntime) -> Result<(), Fail> {
     let story = Story {
-        heap_first: 0,
-        first: 0,
-        queue: Q,
         calls: &two_references(),
         then: &[
             (Call::Enqueue(1), Told::Enqueued(true)),
@@ -47,7 +44,7 @@ fn one_thread_enqueues_and_polls(rt: HostRuntime) -> Result<(), Fail> {
             refused(Call::Queue(Ask::Within(0)), Fault::BadConfig),
         ],
         put_in: &[2, 3],
-        standing: &[],
+        ..quiet()
     };
     agree(&rt, rt.alloc(), &story)
 }
@@ -55,9 +52,6 @@ fn one_thread_enqueues_and_polls(rt: HostRuntime) -> Result<(), Fail> {
 #[test]
 fn a_closed_queue_gives_what_stands(rt: HostRuntime) -> Result<(), Fail> {
     let story = Story {
-        heap_first: 0,
-        first: 0,
-        queue: Q,
         calls: &two_references(),
         then: &[
             (Call::Enqueue(1), Told::Enqueued(true)),
@@ -71,7 +65,7 @@ fn a_closed_queue_gives_what_stands(rt: HostRuntime) -> Result<(), Fail> {
             (POLL, Told::Closed),
         ],
         put_in: &[2, 3],
-        standing: &[],
+        ..quiet()
     };
     agree(&rt, rt.alloc(), &story)
 }
@@ -79,9 +73,6 @@ fn a_closed_queue_gives_what_stands(rt: HostRuntime) -> Result<(), Fail> {
 #[test]
 fn a_put_answers_as_the_queue_does(rt: HostRuntime) -> Result<(), Fail> {
     let story = Story {
-        heap_first: 0,
-        first: 0,
-        queue: Q,
         calls: &two_references(),
         then: &[
             (Call::Put(1), Told::Added(0)),
@@ -93,6 +84,7 @@ fn a_put_answers_as_the_queue_does(rt: HostRuntime) -> Result<(), Fail> {
         ],
         put_in: &[2, 3],
         standing: &[2, 3],
+        ..quiet()
     };
     agree(&rt, rt.alloc(), &story)
 }
@@ -100,9 +92,6 @@ fn a_put_answers_as_the_queue_does(rt: HostRuntime) -> Result<(), Fail> {
 #[test]
 fn what_a_cycle_cleared_is_delivered(rt: HostRuntime) -> Result<(), Fail> {
     let story = Story {
-        heap_first: 0,
-        first: 0,
-        queue: Q,
         calls: &death(),
         then: &[
             (DELIVER, added(2, 0)),
@@ -114,6 +103,7 @@ fn what_a_cycle_cleared_is_delivered(rt: HostRuntime) -> Result<(), Fail> {
         ],
         put_in: &[2, 3],
         standing: &[3],
+        ..quiet()
     };
     agree(&rt, rt.alloc(), &story)
 }
@@ -121,9 +111,6 @@ fn what_a_cycle_cleared_is_delivered(rt: HostRuntime) -> Result<(), Fail> {
 #[test]
 fn nothing_is_delivered_behind_a_close(rt: HostRuntime) -> Result<(), Fail> {
     let story = Story {
-        heap_first: 0,
-        first: 0,
-        queue: Q,
         calls: &death(),
         then: &[
             (DELIVER, added(2, 0)),
@@ -135,6 +122,7 @@ fn nothing_is_delivered_behind_a_close(rt: HostRuntime) -> Result<(), Fail> {
         ],
         put_in: &[2],
         standing: &[2],
+        ..quiet()
     };
     agree(&rt, rt.alloc(), &story)
 }
@@ -142,9 +130,6 @@ fn nothing_is_delivered_behind_a_close(rt: HostRuntime) -> Result<(), Fail> {
 #[test]
 fn what_was_enqueued_before_is_dropped(rt: HostRuntime) -> Result<(), Fail> {
     let story = Story {
-        heap_first: 0,
-        first: 0,
-        queue: Q,
         calls: &death(),
         then: &[
             (Call::Enqueue(1), Told::Enqueued(true)),
@@ -154,6 +139,7 @@ fn what_was_enqueued_before_is_dropped(rt: HostRuntime) -> Result<(), Fail> {
         ],
         put_in: &[2, 3],
         standing: &[3],
+        ..quiet()
     };
     agree(&rt, rt.alloc(), &story)
 }
@@ -163,7 +149,6 @@ fn a_step_is_made_by_call_too(rt: HostRuntime) -> Result<(), Fail> {
     let story = Story {
         heap_first: 7,
         first: 5,
-        queue: Q,
         calls: &[
             (Call::Step(Do::New(0)), Told::Reply(Reply::Object(ObjNo(1)))),
             heap(Do::Drop(0), Reply::Done),
@@ -176,8 +161,7 @@ fn a_step_is_made_by_call_too(rt: HostRuntime) -> Result<(), Fail> {
             (Call::HeapServed, Told::Served(10)),
             (SERVED, Told::Served(5)),
         ],
-        put_in: &[],
-        standing: &[],
+        ..quiet()
     };
     agree(&rt, rt.alloc(), &story)
 }

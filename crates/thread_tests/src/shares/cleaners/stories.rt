@@ -1,7 +1,7 @@
 //! Jobs that are run, and calls that are refused.
 
 use super::acts::{Act, Answer};
-use super::{Story, agree};
+use super::{Story, agree, quiet};
 use crate::shares::calls::{Ask, Call, Do, Told};
 use crate::shares::{Q, heap, new, weak};
 use ref_base::{Fault, ObjNo, Reply};
@@ -48,8 +48,6 @@ const ENQUEUE: (Call, Told) = (Call::Enqueue(1), Told::Enqueued(true));
 #[test]
 fn each_job_runs_once_by_hand_or_by_one_of_two_threads(rt: HostRuntime) -> Result<(), Fail> {
     let story = Story {
-        heap_first: 0,
-        first: 0,
         jobs: &[3, 1, 2],
         calls: &[
             share(new(0, 1)),
@@ -88,7 +86,7 @@ fn each_job_runs_once_by_hand_or_by_one_of_two_threads(rt: HostRuntime) -> Resul
         ],
         heard: (1, 1),
         called: 3,
-        left: 0,
+        ..quiet()
     };
     agree(&rt, rt.alloc(), &story)
 }
@@ -96,12 +94,8 @@ fn each_job_runs_once_by_hand_or_by_one_of_two_threads(rt: HostRuntime) -> Resul
 #[test]
 fn a_notice_without_a_job_counts_for_nothing(rt: HostRuntime) -> Result<(), Fail> {
     let story = Story {
-        heap_first: 0,
-        first: 0,
         jobs: &[1],
         calls: &[share(new(0, 1)), share(weak(1, 0, 2)), register(0, 2, 3)],
-        meanwhile: &[],
-        count: 0,
         then: &[
             share(ENQUEUE),
             share((Call::Enqueue(2), Told::Enqueued(true))),
@@ -110,7 +104,7 @@ fn a_notice_without_a_job_counts_for_nothing(rt: HostRuntime) -> Result<(), Fail
         ],
         heard: (1, 0),
         called: 1,
-        left: 0,
+        ..quiet()
     };
     agree(&rt, rt.alloc(), &story)
 }
@@ -119,19 +113,13 @@ fn a_notice_without_a_job_counts_for_nothing(rt: HostRuntime) -> Result<(), Fail
 fn what_the_heap_refuses_gives_the_job_back(rt: HostRuntime) -> Result<(), Fail> {
     let refused = |job: u64, fault: Fault| Answer::NotRegistered(job, Told::Refused(fault));
     let story = Story {
-        heap_first: 0,
-        first: 0,
         jobs: &[0, 1],
         calls: &[(Act::Register(0, 1), refused(0, Fault::EmptySlot))],
-        meanwhile: &[],
-        count: 0,
         then: &[
             (Act::Register(16, 1), refused(1, Fault::NoSuchActor)),
             (Act::Served, Answer::Share(Told::Served(0))),
         ],
-        heard: (0, 0),
-        called: 0,
-        left: 0,
+        ..quiet()
     };
     agree(&rt, rt.alloc(), &story)
 }
@@ -139,7 +127,6 @@ fn what_the_heap_refuses_gives_the_job_back(rt: HostRuntime) -> Result<(), Fail>
 #[test]
 fn without_a_turn_of_the_cleaner_no_job_is_taken(rt: HostRuntime) -> Result<(), Fail> {
     let story = Story {
-        heap_first: 0,
         // The register takes it.
         first: u64::MAX - 1,
         jobs: &[1, 2],
@@ -150,16 +137,13 @@ fn without_a_turn_of_the_cleaner_no_job_is_taken(rt: HostRuntime) -> Result<(), 
             (Act::Register(0, 3), Answer::NotRegistered(2, SPENT)),
             share(ENQUEUE),
         ],
-        meanwhile: &[],
-        count: 0,
         then: &[
             share(CLOSE),
             (Act::Loop, Answer::Share(SPENT)),
             (Act::Served, Answer::Share(Told::Served(u64::MAX))),
         ],
-        heard: (0, 0),
-        called: 0,
         left: 1,
+        ..quiet()
     };
     agree(&rt, rt.alloc(), &story)
 }
@@ -177,12 +161,8 @@ fn a_job_that_no_turn_is_left_to_register_comes_back_with_its_hold(
         first: u64::MAX,
         jobs: &[1],
         calls: &[share(new(0, 1))],
-        meanwhile: &[],
-        count: 0,
         then: &[(Act::Register(0, 1), Answer::NotRegistered(1, NOT_RELEASED))],
-        heard: (0, 0),
-        called: 0,
-        left: 0,
+        ..quiet()
     };
     agree(&rt, rt.alloc(), &story)
 }
@@ -192,15 +172,11 @@ fn without_a_turn_of_the_heap_a_job_still_runs(rt: HostRuntime) -> Result<(), Fa
     let story = Story {
         // An object, a reference and its hold.
         heap_first: u64::MAX - 3,
-        first: 0,
         jobs: &[1],
         calls: &[share(new(0, 1)), register(0, 1, 2)],
-        meanwhile: &[],
-        count: 0,
         then: &[(Act::Clean(2, 3), Answer::RanUnheld(1, 1001, 2))],
-        heard: (0, 0),
         called: 1,
-        left: 0,
+        ..quiet()
     };
     agree(&rt, rt.alloc(), &story)
 }
@@ -210,7 +186,6 @@ fn without_a_turn_for_its_notice_a_job_stays(rt: HostRuntime) -> Result<(), Fail
     let story = Story {
         // An object, a reference and its hold, and an unhook.
         heap_first: u64::MAX - 4,
-        first: 0,
         jobs: &[1],
         calls: &[
             share(new(0, 1)),
@@ -218,15 +193,12 @@ fn without_a_turn_for_its_notice_a_job_stays(rt: HostRuntime) -> Result<(), Fail
             share(ENQUEUE),
             share(CLOSE),
         ],
-        meanwhile: &[],
-        count: 0,
         then: &[
             (Act::Loop, Answer::Share(NOT_RELEASED)),
             (Act::Clean(2, 3), Answer::RanUnheld(1, 1001, 2)),
         ],
-        heard: (0, 0),
         called: 1,
-        left: 0,
+        ..quiet()
     };
     agree(&rt, rt.alloc(), &story)
 }
@@ -236,7 +208,6 @@ fn without_a_turn_for_its_hold_a_job_still_runs(rt: HostRuntime) -> Result<(), F
     let story = Story {
         // As before, and the release of the notice.
         heap_first: u64::MAX - 5,
-        first: 0,
         jobs: &[1],
         calls: &[
             share(new(0, 1)),
@@ -244,15 +215,13 @@ fn without_a_turn_for_its_hold_a_job_still_runs(rt: HostRuntime) -> Result<(), F
             share(ENQUEUE),
             share(CLOSE),
         ],
-        meanwhile: &[],
-        count: 0,
         then: &[
             (Act::Loop, Answer::Share(NOT_RELEASED)),
             (Act::Clean(2, 3), Answer::Gone),
         ],
         heard: (1, 0),
         called: 1,
-        left: 0,
+        ..quiet()
     };
     agree(&rt, rt.alloc(), &story)
 }
