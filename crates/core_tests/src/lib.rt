@@ -4,7 +4,7 @@
 //!
 //! A story is a table, whose rows are calls, each with its answer, and each subject has one runner, which makes a
 //! story's calls in turn. A failure prints the row, counted from 0. Where memory runs out, a loop goes over sizes of an
-//! arena.
+//! arena. Callers whose contracts say what they see, each proved and run once, stand in `uses`.
 #![tactic(auto)]
 
 #[cfg(test)]
@@ -27,5 +27,7 @@ mod objects;
 mod queues;
 #[cfg(test)]
 mod told;
+#[cfg(test)]
+mod uses;
 #[cfg(test)]
 mod world;

@@ -10,9 +10,9 @@ use std::process::Abort;
 
 /// The least that a queue takes: the two numbers themselves.
 #[derive(Clone, Copy, Debug, PartialEq, Eq)]
-struct Slip {
-    object: u32,
-    queue: u32,
+pub(crate) struct Slip {
+    pub(crate) object: u32,
+    pub(crate) queue: u32,
 }
 
 impl Parcel for Slip {

@@ -1,0 +1,119 @@
+//! What a caller of a cleaner's table can prove of its answers.
+
+ghost use Rattle.std.specs.Prelude.{◌≡◌, true};
+ghost use Rattle.ref_queue.specs.CleanTables.{new_registry};
+
+use ref_base::{Fault, ObjNo};
+use ref_queue::CleanTable;
+use std::alloc::Global;
+use std::process::Abort;
+
+/// A closed table takes no job, also while one stands in it.
+fn a_closed_table_registers_nothing(table: &mut CleanTable<u64, u64>) -> bool
+    ensures { result ≡ true }
+{
+    let _stands = table.register(ObjNo(7), 70, 1);
+    table.close();
+    match table.register(ObjNo(8), 80, 2) {
+        Err((Fault::TableClosed, kept, job)) => kept == 80 && job == 2,
+        _ => false,
+    }
+}
+
+/// A second job of an object is refused, and the first stays.
+fn a_registered_job_stays(table: &mut CleanTable<u64, u64>) -> bool
+    requires { table.old ≡ new_registry }
+    ensures { result ≡ true }
+{
+    let Ok(()) = table.register(ObjNo(7), 70, 1) else {
+        return true;
+    };
+    let _refused = table.register(ObjNo(7), 71, 2);
+    match table.take(ObjNo(7)) {
+        Some((kept, job)) => kept == 70 && job == 1,
+        None => false,
+    }
+}
+
+/// A closed table still gives out what it has.
+fn a_closed_table_gives_its_jobs(table: &mut CleanTable<u64, u64>) -> bool
+    requires { table.old ≡ new_registry }
+    ensures { result ≡ true }
+{
+    let Ok(()) = table.register(ObjNo(7), 70, 1) else {
+        return true;
+    };
+    table.close();
+    table.take(ObjNo(7)).is_some()
+}
+
+/// Nothing is given out for an object that has no job.
+fn gives_no_other_objects_job(table: &mut CleanTable<u64, u64>) -> bool
+    requires { table.old ≡ new_registry }
+    ensures { result ≡ true }
+{
+    let _registered = table.register(ObjNo(8), 80, 2);
+    table.take(ObjNo(7)).is_none()
+}
+
+/// A job that is taken with no object named is told with its own.
+fn any_job_is_told_with_its_object(table: &mut CleanTable<u64, u64>) -> bool
+    requires { table.old ≡ new_registry }
+    ensures { result ≡ true }
+{
+    let Ok(()) = table.register(ObjNo(7), 70, 1) else {
+        return true;
+    };
+    match table.take_any() {
+        Some((object, ..)) => object == ObjNo(7),
+        None => false,
+    }
+}
+
+/// Ends a table in which one job is left at most.
+fn end(rt: &impl Abort, mut table: CleanTable<u64, u64>) {
+    let _left = table.take_any();
+    match table.end() {
+        Ok(()) => {}
+        Err(_table) => panic!(rt; "a second job is left"),
+    }
+}
+
+#[test]
+fn what_callers_of_a_table_see(rt: HostRuntime) {
+    let mut closed = CleanTable::new(rt.alloc());
+    let mut given = CleanTable::new(rt.alloc());
+    let mut second = CleanTable::new(rt.alloc());
+    let mut other = CleanTable::new(rt.alloc());
+    let mut any = CleanTable::new(rt.alloc());
+    let facts = [
+        (
+            "a closed table gives its jobs",
+            a_closed_table_gives_its_jobs(&mut given),
+        ),
+        (
+            "a job that is registered stays",
+            a_registered_job_stays(&mut second),
+        ),
+        (
+            "an object without a job gets none",
+            gives_no_other_objects_job(&mut other),
+        ),
+        (
+            "a closed table registers nothing",
+            a_closed_table_registers_nothing(&mut closed),
+        ),
+        (
+            "any job is told with its object",
+            any_job_is_told_with_its_object(&mut any),
+        ),
+    ];
+    for (fact, holds) in facts {
+        assert!(rt; holds, "{fact}");
+    }
+    end(&rt, closed);
+    end(&rt, given);
+    end(&rt, second);
+    end(&rt, other);
+    end(&rt, any);
+}
