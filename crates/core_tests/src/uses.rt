@@ -2,4 +2,5 @@
 //! caller, and its own contract says what it sees.
 
 mod clean_tables;
+mod objects;
 mod queues;

@@ -1,0 +1,165 @@
+//! What a caller of a heap's objects can prove of its answers.
+
+ghost use Rattle.std.specs.Prelude.{◌≡◌, ◌≢◌, true};
+ghost use Rattle.ref_objects.specs.Grounds.{first_ground};
+
+use ref_base::{Config, MutNo, ObjNo, QueueNo, SlotNo, Strength};
+use ref_objects::{Hold, Objects};
+use std::alloc::Global;
+use std::process::Abort;
+
+const CONFIG: Config = Config {
+    mutators: 1,
+    workers: 1,
+    queues: 1,
+    cells: 2,
+    span: 10,
+};
+
+/// Each cell takes an object, which has the next number.
+fn each_object_has_a_cell_and_a_number(objects: &mut Objects) -> bool
+    requires { objects.old ≡ first_ground CONFIG 1 1 }
+    ensures { result ≡ true }
+{
+    let _first = objects.alloc_obj(MutNo(0), SlotNo(0), 0);
+    match objects.alloc_obj(MutNo(0), SlotNo(1), 0) {
+        Ok(second) => second.0 == 2,
+        Err(_) => false,
+    }
+}
+
+/// A slot that is copied still holds what it held.
+fn a_copy_is_no_move(objects: &mut Objects) -> bool
+    requires { objects.old ≡ first_ground CONFIG 1 1 }
+    ensures { result ≡ true }
+{
+    let _made = objects.alloc_obj(MutNo(0), SlotNo(0), 0);
+    let _copied = objects.copy(MutNo(0), SlotNo(1), SlotNo(0));
+    match objects.slot_of(MutNo(0), SlotNo(0)) {
+        Ok(Some(no)) => no.0 == 1,
+        _ => false,
+    }
+}
+
+/// A store writes the field that it names.
+fn a_store_writes_its_field(objects: &mut Objects) -> bool
+    requires { objects.old ≡ first_ground CONFIG 1 1 }
+    ensures { result ≡ true }
+{
+    let _made = objects.alloc_obj(MutNo(0), SlotNo(0), 2);
+    let _stored = objects.store(MutNo(0), SlotNo(0), 0, SlotNo(0));
+    objects.fields_of(ObjNo(1)).get(0).is_some()
+}
+
+/// An object that nobody holds is freed by its number.
+fn an_object_is_freed(objects: &mut Objects) -> bool
+    requires { objects.old ≡ first_ground CONFIG 1 1 }
+    ensures { result ≡ true }
+{
+    let _made = objects.alloc_obj(MutNo(0), SlotNo(0), 0);
+    objects.free(ObjNo(1))
+}
+
+/// A soft reference, also one with fields, is stamped with the clock and registered with its queue.
+fn a_soft_reference_has_its_stamp_and_queue(objects: &mut Objects) -> bool
+    requires { objects.old ≡ first_ground CONFIG 1 1 }
+    ensures { result ≡ true }
+{
+    objects.set_clock(5);
+    let _made = objects.alloc_obj(MutNo(0), SlotNo(0), 0);
+    let queue = Some(QueueNo(0));
+    let _refers = objects.alloc_ref(MutNo(0), SlotNo(1), Strength::Soft, SlotNo(0), queue, 1);
+    objects.stamp_of(ObjNo(2)) == 5 && objects.queue_of(ObjNo(2)).is_some()
+}
+
+/// A hold is counted once, and no more once it is released.
+fn a_hold_is_counted_till_its_release(objects: &mut Objects) -> bool
+    requires { objects.old ≡ first_ground CONFIG 1 1 }
+    ensures { result ≡ true }
+{
+    let _made = objects.alloc_obj(MutNo(0), SlotNo(0), 0);
+    let Ok(hold) = objects.hold(MutNo(0), SlotNo(0)) else {
+        return false;
+    };
+    let count = objects.hold_count();
+    match objects.release(hold) {
+        Ok(()) => count == 1 && objects.hold_count() == 0,
+        Err((_, hold)) => {
+            hold.leak();
+            false
+        }
+    }
+}
+
+/// A heap adopts no hold of another heap.
+fn adopts_no_hold_of_another_heap(objects: &mut Objects, hold: Hold) -> bool
+    requires { hold.heap_no ≢ objects.old.heap_no }
+    ensures { result ≡ true }
+{
+    match objects.adopt(MutNo(0), SlotNo(0), hold) {
+        Ok(_) => false,
+        Err((_, hold)) => {
+            hold.leak();
+            true
+        }
+    }
+}
+
+/// A heap of this number, where nothing was made yet.
+fn heap(rt: &impl Abort, alloc: Global, heap_no: u64) -> Objects
+    ensures { result ≡ first_ground CONFIG heap_no 1 }
+{
+    match Objects::new(alloc, CONFIG, heap_no) {
+        Ok(objects) => objects,
+        Err(fault) => panic!(rt; "no heap: {fault}"),
+    }
+}
+
+#[test]
+fn what_callers_of_objects_see(rt: HostRuntime) {
+    let alloc = rt.alloc();
+    let facts = [
+        (
+            "each object has a cell and a number",
+            each_object_has_a_cell_and_a_number(&mut heap(&rt, alloc, 1)),
+        ),
+        (
+            "a copy is no move",
+            a_copy_is_no_move(&mut heap(&rt, alloc, 1)),
+        ),
+        (
+            "a store writes its field",
+            a_store_writes_its_field(&mut heap(&rt, alloc, 1)),
+        ),
+        (
+            "an object is freed",
+            an_object_is_freed(&mut heap(&rt, alloc, 1)),
+        ),
+        (
+            "a soft reference has its stamp and its queue",
+            a_soft_reference_has_its_stamp_and_queue(&mut heap(&rt, alloc, 1)),
+        ),
+        (
+            "a hold is counted till its release",
+            a_hold_is_counted_till_its_release(&mut heap(&rt, alloc, 1)),
+        ),
+    ];
+    for (fact, holds) in facts {
+        assert!(rt; holds, "{fact}");
+    }
+}
+
+#[test]
+fn a_heap_adopts_its_own_holds_alone(rt: HostRuntime) {
+    let mut own = heap(&rt, rt.alloc(), 1);
+    let mut other = heap(&rt, rt.alloc(), 2);
+    let _made = own.alloc_obj(MutNo(0), SlotNo(0), 0);
+    let _made = other.alloc_obj(MutNo(0), SlotNo(0), 0);
+    match (own.mint(ObjNo(1)), other.mint(ObjNo(1))) {
+        (Ok(counted), Ok(foreign)) => {
+            counted.leak();
+            assert!(rt; adopts_no_hold_of_another_heap(&mut own, foreign));
+        }
+        _ => panic!(rt; "no hold"),
+    }
+}
