@@ -2,5 +2,7 @@
 //! caller, and its own contract says what it sees.
 
 mod clean_tables;
+mod graphs;
 mod objects;
 mod queues;
+mod values;

@@ -1,0 +1,109 @@
+//! What a caller of a graph can prove of its answers.
+
+ghost use Rattle.std.specs.Prelude.{◌≡◌, true};
+ghost use Rattle.ref_base.specs.Graphs.{empty_graph};
+
+use ref_base::{Fault, Graph, ObjNo, Reach, Strength, strength_of};
+use std::alloc::Global;
+
+/// An object that is there stays, and a second of its number is told so.
+fn a_second_object_is_not_added(graph: &mut Graph) -> bool
+    requires { graph.old ≡ empty_graph }
+    ensures { result ≡ true }
+{
+    let Ok(_added) = graph.add_object(ObjNo(7), &[]) else {
+        return true;
+    };
+    match graph.add_object(ObjNo(7), &[Some(ObjNo(7))]) {
+        Ok(is_added) => !is_added,
+        Err(_) => false,
+    }
+}
+
+/// Nine fields are too many, also of an object that is there.
+fn nine_fields_are_too_many(graph: &mut Graph) -> bool
+    ensures { result ≡ true }
+{
+    let _there = graph.add_object(ObjNo(7), &[]);
+    match graph.add_reference(ObjNo(7), Strength::Weak, None, &[None; 9]) {
+        Err(Fault::BadField) => true,
+        _ => false,
+    }
+}
+
+/// A root is no object by that.
+fn a_root_is_no_object(graph: &mut Graph, alloc: Global) -> bool
+    requires { graph.old ≡ empty_graph }
+    ensures { result ≡ true }
+{
+    let _root = graph.add_root(ObjNo(7));
+    match strength_of(alloc, graph, ObjNo(7)) {
+        Err(Fault::NoSuchObject) => true,
+        _ => false,
+    }
+}
+
+/// The referent of a weak reference is weak.
+fn strength_of_a_weak_referent(graph: &mut Graph, alloc: Global) -> Reach
+    requires { graph.old ≡ empty_graph }
+    ensures { result ≡ Reach.Weak }
+{
+    let (Ok(_root), Ok(_refers), Ok(_referent)) = (
+        graph.add_root(ObjNo(1)),
+        graph.add_reference(ObjNo(1), Strength::Weak, Some(ObjNo(2)), &[]),
+        graph.add_object(ObjNo(2), &[]),
+    ) else {
+        return Reach::Weak;
+    };
+    match strength_of(alloc, graph, ObjNo(2)) {
+        Ok(reach) => reach,
+        Err(_) => Reach::Weak,
+    }
+}
+
+/// The referent of a phantom reference that nothing reaches is unreachable.
+fn strength_behind_what_nothing_reaches(graph: &mut Graph, alloc: Global) -> Reach
+    requires { graph.old ≡ empty_graph }
+    ensures { result ≡ Reach.Unreachable }
+{
+    let (Ok(_refers), Ok(_referent)) = (
+        graph.add_reference(ObjNo(1), Strength::Phantom, Some(ObjNo(2)), &[]),
+        graph.add_object(ObjNo(2), &[]),
+    ) else {
+        return Reach::Unreachable;
+    };
+    match strength_of(alloc, graph, ObjNo(2)) {
+        Ok(reach) => reach,
+        Err(_) => Reach::Unreachable,
+    }
+}
+
+#[test]
+fn what_callers_of_a_graph_see(rt: HostRuntime) {
+    let alloc = rt.alloc();
+    let mut graph = Graph::new(alloc);
+    let weak = strength_of_a_weak_referent(&mut Graph::new(alloc), alloc);
+    let behind = strength_behind_what_nothing_reaches(&mut Graph::new(alloc), alloc);
+    let facts = [
+        (
+            "a second object is not added",
+            a_second_object_is_not_added(&mut graph),
+        ),
+        (
+            "nine fields are too many",
+            nine_fields_are_too_many(&mut graph),
+        ),
+        (
+            "a root is no object",
+            a_root_is_no_object(&mut Graph::new(alloc), alloc),
+        ),
+        ("a weak referent is weak", weak == Reach::Weak),
+        (
+            "what nothing reaches makes nothing phantom",
+            behind == Reach::Unreachable,
+        ),
+    ];
+    for (fact, holds) in facts {
+        assert!(rt; holds, "{fact}");
+    }
+}

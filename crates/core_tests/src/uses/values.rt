@@ -1,0 +1,61 @@
+//! What a caller can prove of configurations, stamps, faults and replies.
+
+ghost use Rattle.std.specs.Prelude.{◌≡◌, true};
+
+use ref_base::{Config, Fault, ObjNo, Reply, keeps};
+use std::alloc::Global;
+
+/// A soft reference is kept whose stamp is the whole span before the clock.
+fn keeps_at_the_whole_span() -> bool
+    ensures { result ≡ true }
+{
+    keeps(10, 0, 10)
+}
+
+/// No heap has nine mutators.
+fn nine_mutators_are_too_many() -> bool
+    ensures { result ≡ true }
+{
+    let config = Config {
+        mutators: 9,
+        workers: 1,
+        queues: 1,
+        cells: 1,
+        span: 0,
+    };
+    config.check().is_err()
+}
+
+/// A hand that is full has fault 23.
+fn a_full_hand_is_fault_23() -> bool
+    ensures { result ≡ true }
+{
+    Fault::HandFull.number() == 23
+}
+
+/// A reply prints each of its words.
+#[tactic(auto, using(std::proofs::lemmas::Fmt::decimal_digit))]
+fn a_reply_prints_each_word(alloc: Global) -> bool
+    ensures { result ≡ true }
+{
+    match Reply::Object(ObjNo(7)).to_string(alloc) {
+        Ok(text) => text.as_str() == "object 7",
+        Err(_) => true,
+    }
+}
+
+#[test]
+fn what_callers_of_values_see(rt: HostRuntime) {
+    let facts = [
+        ("the whole span is kept", keeps_at_the_whole_span()),
+        ("nine mutators are too many", nine_mutators_are_too_many()),
+        ("a full hand is fault 23", a_full_hand_is_fault_23()),
+        (
+            "a reply prints each word",
+            a_reply_prints_each_word(rt.alloc()),
+        ),
+    ];
+    for (fact, holds) in facts {
+        assert!(rt; holds, "{fact}");
+    }
+}
