@@ -3,6 +3,7 @@
 
 mod clean_tables;
 mod graphs;
+mod marking;
 mod objects;
 mod queues;
 mod values;

@@ -1,0 +1,121 @@
+//! What a caller of a heap in its cycles can prove of its answers.
+
+ghost use Rattle.std.specs.Prelude.{◌≡◌, true};
+ghost use Rattle.ref_mark.specs.CycleHeaps.{first_cycle_heap};
+
+use ref_base::{Config, MutNo, ObjNo, SlotNo, Strength, Urgency, WorkerNo};
+use ref_mark::Marker;
+use std::alloc::Global;
+use std::process::Abort;
+
+const CONFIG: Config = Config {
+    mutators: 1,
+    workers: 1,
+    queues: 1,
+    cells: 4,
+    span: 10,
+};
+
+/// A get stamps the soft reference with the clock.
+fn a_get_renews_the_stamp(heap: &mut Marker) -> bool
+    requires { heap.old ≡ first_cycle_heap CONFIG 1 1 0 }
+    ensures { result ≡ true }
+{
+    let _made = heap.alloc_obj(MutNo(0), SlotNo(0), 0);
+    let _refers = heap.alloc_ref(MutNo(0), SlotNo(1), Strength::Soft, SlotNo(0), None, 0);
+    let _began = heap.begin(5, Urgency::Normal);
+    let _got = heap.get(MutNo(0), SlotNo(2), SlotNo(1));
+    heap.objects().stamp_of(ObjNo(2)) == 5
+}
+
+/// What is made in a mark is not doomed at its end.
+fn what_is_made_in_a_mark_survives_it(heap: &mut Marker) -> bool
+    requires { heap.old ≡ first_cycle_heap CONFIG 1 1 0 }
+    ensures { result ≡ true }
+{
+    let _began = heap.begin(0, Urgency::Normal);
+    let _made = heap.alloc_obj(MutNo(0), SlotNo(0), 0);
+    let _ended = heap.end_mark();
+    !heap.is_doomed(ObjNo(1))
+}
+
+/// What is held is a root, and its heap takes the hold back.
+fn what_is_held_is_a_root(heap: &mut Marker) -> bool
+    requires { heap.old ≡ first_cycle_heap CONFIG 1 1 0 }
+    ensures { result ≡ true }
+{
+    let _made = heap.alloc_obj(MutNo(0), SlotNo(0), 0);
+    let Ok(hold) = heap.hold(MutNo(0), SlotNo(0)) else {
+        return false;
+    };
+    let _dropped = heap.drop_slot(MutNo(0), SlotNo(0));
+    let _began = heap.begin(0, Urgency::Normal);
+    let is_scanned = match heap.scan(WorkerNo(0)) {
+        Ok(Some(_)) => true,
+        _ => false,
+    };
+    match heap.adopt(MutNo(0), SlotNo(0), hold) {
+        Ok(_) => is_scanned,
+        Err((_, hold)) => {
+            hold.leak();
+            false
+        }
+    }
+}
+
+/// A doomed referent reads as null, its reference is not cleared by a mutator, and it alone is freed.
+fn a_doomed_referent_reads_as_null(heap: &mut Marker) -> bool
+    requires { heap.old ≡ first_cycle_heap CONFIG 1 1 0 }
+    ensures { result ≡ true }
+{
+    let _made = heap.alloc_obj(MutNo(0), SlotNo(0), 0);
+    let _refers = heap.alloc_ref(MutNo(0), SlotNo(1), Strength::Weak, SlotNo(0), None, 0);
+    let _dropped = heap.drop_slot(MutNo(0), SlotNo(0));
+    let _began = heap.begin(0, Urgency::Normal);
+    let _scanned = heap.scan(WorkerNo(0));
+    let _ended = heap.end_mark();
+    let is_null = match heap.refers_to(MutNo(0), SlotNo(1), SlotNo(0)) {
+        Ok(same) => same,
+        Err(_) => false,
+    };
+    let _cleared = heap.clear(MutNo(0), SlotNo(1));
+    let is_kept = heap.objects().referent_of(ObjNo(2)).is_some();
+    heap.to_sweeping();
+    is_null && is_kept && !heap.free(ObjNo(2))
+}
+
+/// A heap where nothing was made yet, between cycles.
+fn heap(rt: &impl Abort, alloc: Global) -> Marker
+    ensures { result ≡ first_cycle_heap CONFIG 1 1 0 }
+{
+    match Marker::new(alloc, CONFIG, 1) {
+        Ok(heap) => heap,
+        Err(fault) => panic!(rt; "no heap: {fault}"),
+    }
+}
+
+#[test]
+fn what_callers_of_a_marker_see(rt: HostRuntime) {
+    let alloc = rt.alloc();
+    let facts = [
+        (
+            "a get renews the stamp",
+            a_get_renews_the_stamp(&mut heap(&rt, alloc)),
+        ),
+        (
+            "what is made in a mark survives it",
+            what_is_made_in_a_mark_survives_it(&mut heap(&rt, alloc)),
+        ),
+        (
+            "what is held is a root",
+            what_is_held_is_a_root(&mut heap(&rt, alloc)),
+        ),
+        (
+            "a doomed referent reads as null",
+            a_doomed_referent_reads_as_null(&mut heap(&rt, alloc)),
+        ),
+    ];
+    for (fact, holds) in facts {
+        assert!(rt; holds, "{fact}");
+    }
+}
