@@ -1,1 +1,2 @@
 pub mod SeatLists
+pub mod NoSteps

@@ -8,3 +8,5 @@ mod arena;
 mod shares;
 #[cfg(test)]
 mod turns;
+#[cfg(test)]
+mod uses;

@@ -8,14 +8,14 @@ use ref_base::Fault;
 use ref_turn::{Turn, TurnSeat};
 use std::alloc::Global;
 
-mod counter;
+pub mod counter;
 pub mod gated;
 mod memory;
 mod stories;
 mod threads;
 
 /// The turn of a counter at 0, with this first ticket.
-fn count_from(alloc: Global, first: u64) -> Result<(Turn<Counter>, TurnSeat<Counter>), Fault>
+pub fn count_from(alloc: Global, first: u64) -> Result<(Turn<Counter>, TurnSeat<Counter>), Fault>
     ensures { IfOk result (λ t. IsSeatOf t.0 t.1) }
 {
     Turn::starting(alloc, Counter { count: 0 }, first).map_err(|(fault, _)| fault)

@@ -1,0 +1,3 @@
+//! What callers can prove of what they are answered, from the public contracts alone.
+
+mod turns;

@@ -1,0 +1,150 @@
+//! What the callers of a turn can prove.
+
+ghost use Rattle.std.specs.Prelude.{◌≡◌, ◌-◌, ◌^◌, ◌<◌, ℕ, [], ◌∷◌, true, false, IsTrue, IsFalse, IfOk};
+ghost use Rattle.ref_turn.specs.History.{calls_by};
+ghost use Rattle.ref_turn.specs.Seats.{entry};
+ghost use Rattle.ref_turn.specs.Turns.{view, IsSeatOf};
+
+use crate::turns::count_from;
+use crate::turns::counter::Counter;
+use ref_base::Fault;
+use ref_turn::{Machine, Turn, TurnFault, TurnSeat};
+use std::alloc::Global;
+use std::convert::Infallible;
+use std::sync::Wait;
+use std::test::Fail;
+
+/// A machine that can't be asked for anything.
+#[derive(Drop)]
+struct Still;
+
+impl Machine for Still {
+    type Step = Infallible;
+
+    type Reply = bool;
+
+    ghost State = { Unit {0} };
+
+    ghost stands_for = { λ m x. Unit {0} };
+
+    ghost moves = { λ x s r y. Unit {0} };
+
+    ghost acts = { λ m s r n. Unit {0} };
+
+    fn apply(&mut self, step: Infallible) -> bool {
+        match step {}
+    }
+
+    ghost follows = { λ m n s r did x is. (tt, tt, tt) };
+}
+
+/// A turn in which nothing can be done has served the tickets that it began with.
+#[tactic(auto, using(crate::proofs::NoSteps::nothing_stands))]
+fn serves_what_it_began_with(alloc: Global, first: u64) -> Result<u64, Fault>
+    ensures { IfOk result (λ served. served ≡ first) }
+{
+    let (turn, mut seat) = Turn::starting(alloc, Still, first).map_err(|(fault, _)| fault)?;
+    Ok(turn.served(&mut seat))
+}
+
+/// A call that was made is served.
+fn serves_what_was_called(
+    turn: &Turn<Counter>,
+    seat: &mut TurnSeat<Counter>,
+) -> Result<bool, TurnFault<u64>>
+    requires { IsSeatOf turn.now seat.old }
+    ensures seat { IsSeatOf turn.now seat.new }
+    ensures more { IfOk result (λ is_more. is_more ≡ true) }
+{
+    let before = turn.served(seat);
+    turn.try_call(seat, 1)?;
+    Ok(before < turn.served(seat))
+}
+
+/// No call is made behind the last ticket.
+fn makes_no_call_behind_the_last_ticket(alloc: Global) -> Result<bool, Fault>
+    ensures { IfOk result (λ is_made. is_made ≡ false) }
+{
+    let machine = Counter { count: 0 };
+    let (turn, mut seat) = Turn::starting(alloc, machine, u64::MAX).map_err(|(fault, _)| fault)?;
+    let is_made = turn.try_call(&mut seat, 1).is_ok();
+    turn.served(&mut seat);
+    Ok(is_made)
+}
+
+/// A call that waits is made, or the last ticket was drawn.
+fn calls_in_time<W: Wait>(rt: &W, turn: &Turn<Counter>, seat: &mut TurnSeat<Counter>) -> bool
+    requires { IsSeatOf turn.now seat.old }
+    ensures seat { IsSeatOf turn.now seat.new }
+    ensures spent { IsFalse result → (view seat.new).drawn ≡ 2 ^ 64 - 1 }
+{
+    turn.call(rt, seat, 1).is_ok()
+}
+
+/// A try for which no ticket was left knows that the last one was drawn.
+fn tries_in_vain(turn: &Turn<Counter>, seat: &mut TurnSeat<Counter>) -> bool
+    requires { IsSeatOf turn.now seat.old }
+    ensures seat { IsSeatOf turn.now seat.new }
+    ensures spent { IsTrue result → (view seat.new).drawn ≡ 2 ^ 64 - 1 }
+{
+    match turn.try_call(seat, 1) {
+        Err(TurnFault::Spent(_)) => true,
+        _ => false,
+    }
+}
+
+/// Who takes in a seat that made one call has that as the only one of the other, which has a number of its own.
+fn takes_in_the_one_call(turn: &Turn<Counter>, seat: &mut TurnSeat<Counter>) -> bool
+    requires { IsSeatOf turn.now seat.old }
+    ensures seat { IsSeatOf turn.now seat.new }
+    ensures one { IsTrue result → (n r : ℕ) × (view seat.new).number < n
+        × calls_by n (view seat.new).seen ≡ entry n 5 r ∷ [] }
+{
+    let mut other = turn.split(seat);
+    let is_made = turn.try_call(&mut other, 5).is_ok();
+    turn.join(seat, other);
+    is_made
+}
+
+#[test]
+fn a_turn_counts_what_is_called(rt: HostRuntime) -> Result<(), Fail> {
+    let alloc = rt.alloc();
+    let (turn, mut seat) = count_from(alloc, 5)?;
+    for (fact, holds) in [
+        (
+            "it has served what it began with",
+            serves_what_it_began_with(alloc, 5) == Ok(5),
+        ),
+        (
+            "it has served what was called",
+            serves_what_was_called(&turn, &mut seat) == Ok(true),
+        ),
+        (
+            "it makes the call of a seat that comes and goes",
+            takes_in_the_one_call(&turn, &mut seat),
+        ),
+    ] {
+        assert!(rt; holds, "{fact}");
+    }
+    Ok(())
+}
+
+#[test]
+fn a_turn_is_spent_behind_the_last_ticket(rt: HostRuntime) -> Result<(), Fail> {
+    let alloc = rt.alloc();
+    let (turn, mut seat) = count_from(alloc, u64::MAX - 1)?;
+    for (fact, holds) in [
+        (
+            "the last ticket is for a call",
+            calls_in_time(&rt, &turn, &mut seat),
+        ),
+        ("then none is left", tries_in_vain(&turn, &mut seat)),
+        (
+            "and where none was there no call is made",
+            makes_no_call_behind_the_last_ticket(alloc) == Ok(false),
+        ),
+    ] {
+        assert!(rt; holds, "{fact}");
+    }
+    Ok(())
+}
