@@ -1,2 +1,5 @@
 pub mod SeatLists
 pub mod NoSteps
+pub mod HeapUses
+pub mod LoopUses
+pub mod QueueUses

@@ -15,15 +15,15 @@ use std::process::Abort;
 use std::sync::Wait;
 use std::test::Fail;
 
-mod calls;
-mod cleaners;
+pub mod calls;
+pub mod cleaners;
 mod memory;
 mod refusals;
 mod stories;
 mod threads;
 
 /// One mutator, one worker, one queue, 8 cells, and a span of 10.
-const CONFIG: Config = Config {
+pub const CONFIG: Config = Config {
     mutators: 1,
     workers: 1,
     queues: 1,
@@ -31,18 +31,18 @@ const CONFIG: Config = Config {
     span: 10,
 };
 
-const M: MutNo = MutNo(0);
+pub const M: MutNo = MutNo(0);
 
-const W: WorkerNo = WorkerNo(0);
+pub const W: WorkerNo = WorkerNo(0);
 
-const Q: QueueNo = QueueNo(0);
+pub const Q: QueueNo = QueueNo(0);
 
-const fn new(slot: u32, no: u32) -> (Call, Told) {
+pub const fn new(slot: u32, no: u32) -> (Call, Told) {
     heap(Do::New(slot), Reply::Object(ObjNo(no)))
 }
 
 /// A weak reference with the queue: its slot, that of its referent, and its number.
-const fn weak(slot: u32, source: u32, no: u32) -> (Call, Told) {
+pub const fn weak(slot: u32, source: u32, no: u32) -> (Call, Told) {
     heap(Do::Weak(slot, source), Reply::Object(ObjNo(no)))
 }
 
@@ -56,7 +56,7 @@ fn two_references() -> [(Call, Told); 3] {
 }
 
 /// A cycle finds object 1 dead. References 2 and 3 to it are in slots 1 and 2, and pending in this order.
-fn death() -> [(Call, Told); 12] {
+pub fn death() -> [(Call, Told); 12] {
     [
         new(0, 1),
         weak(1, 0, 2),
@@ -74,7 +74,7 @@ fn death() -> [(Call, Told); 12] {
 }
 
 /// Makes a story's calls in turn, each of which has its answer.
-fn make_calls<R: Wait + Abort, A: Allocator + Copy>(
+pub fn make_calls<R: Wait + Abort, A: Allocator + Copy>(
     rt: &R,
     heap: &SharedHeap<A>,
     queue: &SharedQueue<A>,
@@ -174,7 +174,7 @@ fn have_numbers(rt: &impl Abort, found: &[ObjNo], want: &[u32]) {
 }
 
 /// Gives up a queue, and what stands in it.
-fn give_up<A: Allocator + Copy>(queue: Option<Queue<Notice, A>>) {
+pub fn give_up<A: Allocator + Copy>(queue: Option<Queue<Notice, A>>) {
     if let Some(queue) = queue {
         let mut standing = queue.end();
         while let Some(notice) = standing.pop_front() {

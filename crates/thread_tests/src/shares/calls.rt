@@ -102,7 +102,7 @@ pub enum Told {
     Else,
 }
 
-fn step_of(step: Do) -> HeapStep<Hold> {
+pub fn step_of(step: Do) -> HeapStep<Hold> {
     match step {
         Do::New(slot) => HeapStep::New {
             mutator: M,
@@ -138,7 +138,7 @@ fn weak(slot: u32, source: u32, queue: Option<QueueNo>) -> HeapStep<Hold> {
 }
 
 /// What the heap answered. What it gives out with that is given up.
-fn replied(answer: Result<HeapReply, TurnFault<HeapStep<Hold>>>) -> Told {
+pub fn replied(answer: Result<HeapReply, TurnFault<HeapStep<Hold>>>) -> Told {
     match answer {
         Ok(HeapReply::Told(reply)) => Told::Reply(reply),
         Ok(HeapReply::Notice(notice)) => {

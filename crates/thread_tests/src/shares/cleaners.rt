@@ -22,7 +22,7 @@ use std::test::Fail;
 use std::thread::Threads;
 
 mod acts;
-mod hearing;
+pub mod hearing;
 mod stories;
 mod threads;
 
@@ -200,7 +200,7 @@ fn left_behind<R: Threads + Wait + Abort + Sync>(
 }
 
 /// How many jobs a finished cleaner gives, each of which is dropped, not run.
-fn left_in(finished: Result<CleanTable<Hold>, Option<CleanTable<Hold>>>) -> Option<u64> {
+pub fn left_in(finished: Result<CleanTable<Hold>, Option<CleanTable<Hold>>>) -> Option<u64> {
     let mut table = match finished {
         Ok(table) | Err(Some(table)) => table,
         Err(None) => return None,

@@ -1,0 +1,190 @@
+//! What the callers of a shared cleaner can prove.
+
+ghost use Rattle.std.specs.Prelude.{◌≡◌, ◌+◌, ◌<◌, ◌^◌, ◌++◌, [], ◌∷◌, true, IfSome};
+ghost use Rattle.ref_base.specs.declared.heap_step.HeapStep.TheVariants as steps;
+ghost use Rattle.ref_base.specs.declared.heap_step.HoldName.{HoldName};
+ghost use Rattle.ref_base.specs.declared.reply.Reply.{Reply};
+ghost use Rattle.ref_world.specs.declared.heap_machine.HeapReply.TheVariants as replies;
+ghost use Rattle.ref_turn.specs.Seats.{entry};
+ghost use Rattle.ref_share.specs.CleanSeats.{IsCleanSeat};
+ghost use Rattle.ref_share.specs.Cleanings.{makes_phantom};
+ghost use Rattle.ref_share.specs.HeapSeats.{heap_view, IsHeapSeat};
+ghost use Rattle.ref_share.specs.QueueSeats.{IsQueueSeat};
+
+use super::{drop_fault, end};
+use crate::shares::calls::{Ask, Call, Seats, Told};
+use crate::shares::cleaners::hearing::Hearing;
+use crate::shares::cleaners::left_in;
+use crate::shares::{CONFIG, M, Q, make_calls, new, weak};
+use ref_base::SlotNo;
+use ref_queue::{Action, Job};
+use ref_share::{
+    CleanSeat, Cleanable, Cleaned, Gate, HeapSeat, QueueSeat, SharedCleaner, SharedHeap,
+    SharedQueue,
+};
+use std::alloc::{AllocError, Global};
+use std::process::Abort;
+use std::sync::Wait;
+use std::test::Fail;
+
+/// What is cleaned is taken back by the heap, which makes a step for it.
+fn retires_what_it_cleans<R: Wait>(
+    rt: &R,
+    cleaner: &SharedCleaner,
+    seat: &mut CleanSeat,
+    heap: &SharedHeap,
+    heap_seat: &mut HeapSeat,
+    cleanable: Cleanable,
+) -> Option<bool>
+    requires { IsCleanSeat cleaner.now.turn seat.old.seat × IsHeapSeat heap.now heap_seat.old }
+    ensures seat { IsCleanSeat cleaner.now.turn seat.new.seat }
+    ensures heap_seat { IsHeapSeat heap.now heap_seat.new }
+    ensures more { IfSome result (λ is_more. is_more ≡ true) }
+{
+    let before = heap.served(heap_seat);
+    match cleaner.clean(rt, seat, heap, heap_seat, M, SlotNo(2), cleanable) {
+        Ok(Cleaned::Ran(_, None)) => Some(before < heap.served(heap_seat)),
+        Ok(Cleaned::Ran(_, Some(hold))) => {
+            hold.leak();
+            None
+        }
+        Ok(Cleaned::Gone) => None,
+        Err(fault) => {
+            drop_fault(fault);
+            None
+        }
+    }
+}
+
+/// A register makes two calls of the heap: the reference is made, and then a hold of the reference is taken.
+fn holds_the_reference<R: Wait>(
+    rt: &R,
+    cleaner: &SharedCleaner,
+    seat: &mut CleanSeat,
+    heap: &SharedHeap,
+    heap_seat: &mut HeapSeat,
+    job: Job,
+) -> Option<Cleanable>
+    requires { IsCleanSeat cleaner.now.turn seat.old.seat × IsHeapSeat heap.now heap_seat.old }
+    ensures seat { IsCleanSeat cleaner.now.turn seat.new.seat }
+    ensures heap_seat { IsHeapSeat heap.now heap_seat.new }
+    ensures calls { IfSome result (λ cleanable. (made : Reply) × (hold : HoldName) × (hold.object ≡ cleanable.obj)
+        × ((heap_view heap_seat.new).mine ≡ (heap_view heap_seat.old).mine
+        ++ entry (heap_view heap_seat.old).number (makes_phantom cleaner.now.queue 0 0 1) (replies.Told made)
+        ∷ entry (heap_view heap_seat.old).number (steps.Hold 0 1) (replies.Held hold) ∷ [])) }
+{
+    match cleaner.register(rt, seat, heap, heap_seat, M, SlotNo(0), SlotNo(1), job) {
+        Ok(cleanable) => Some(cleanable),
+        Err((fault, _job)) => {
+            drop_fault(fault);
+            None
+        }
+    }
+}
+
+/// For each job that it counts the loop has made two releases.
+fn releases_twice_for_each_job<R: Wait, G: Gate>(
+    rt: &R,
+    cleaner: &SharedCleaner,
+    seat: &mut CleanSeat,
+    heap: &SharedHeap,
+    heap_seat: &mut HeapSeat,
+    queue: &SharedQueue,
+    queue_seat: &mut QueueSeat,
+    gate: &G,
+) -> Option<bool>
+    requires seats { IsCleanSeat cleaner.now.turn seat.old.seat × IsHeapSeat heap.now heap_seat.old }
+    requires queue { IsQueueSeat queue.now queue_seat.old }
+    ensures seat { IsCleanSeat cleaner.now.turn seat.new.seat }
+    ensures queue_seat { IsQueueSeat queue.now queue_seat.new }
+    ensures enough { IfSome result (λ is_enough. is_enough ≡ true) }
+{
+    let before = heap.served(heap_seat);
+    match cleaner.clean_loop(rt, seat, heap, heap_seat, queue, queue_seat, gate) {
+        Ok(count) => Some(count <= (heap.served(heap_seat) - before) / 2),
+        Err(fault) => {
+            drop_fault(fault);
+            None
+        }
+    }
+}
+
+/// The job of this number, which answers 1000 more.
+fn job(alloc: Global, number: u64) -> Result<Job, AllocError>
+    requires { number < 2 ^ 32 }
+{
+    let action: Action = Box::new(
+        alloc,
+        |number: u64| -> u64
+            requires { number < 2 ^ 32 }
+            ensures { result ≡ number + 1000 }
+        { number + 1000 },
+    )?;
+    Ok(Job::new(number, number + 1000, action))
+}
+
+/// The first job is cleaned by hand, and the second by the loop, behind a notice that has no job. Which references the
+/// jobs had, and whether the heap made the steps for both.
+fn cleaned_twice<R: Wait + Abort>(
+    rt: &R,
+    shared: (&SharedHeap, &SharedQueue, &SharedCleaner),
+    seats: &mut Seats,
+    seat: &mut CleanSeat,
+    jobs: (Job, Job),
+) -> (Option<u32>, Option<bool>, Option<bool>)
+    requires { IsHeapSeat shared.0.now seats.old.heap × IsQueueSeat shared.1.now seats.old.queue
+        × IsCleanSeat shared.2.now.turn seat.old.seat }
+    ensures { IsQueueSeat shared.entry.1.now seats.new.queue × IsCleanSeat shared.entry.2.now.turn seat.new.seat }
+{
+    let (heap, queue, cleaner) = shared;
+    make_calls(rt, heap, queue, seats, &[new(0, 1)]);
+    let first = holds_the_reference(rt, cleaner, seat, heap, &mut seats.heap, jobs.0);
+    let retired = match first {
+        Some(cleanable) => {
+            retires_what_it_cleans(rt, cleaner, seat, heap, &mut seats.heap, cleanable)
+        }
+        None => None,
+    };
+    let second = holds_the_reference(rt, cleaner, seat, heap, &mut seats.heap, jobs.1);
+    let calls = [
+        weak(2, 0, 4),
+        (Call::Enqueue(2), Told::Enqueued(true)),
+        (Call::Enqueue(1), Told::Enqueued(true)),
+        (Call::Queue(Ask::Close), Told::WasOpen(true)),
+    ];
+    make_calls(rt, heap, queue, seats, &calls);
+    let hearing = Hearing::new(false);
+    let Seats {
+        heap: heap_seat,
+        queue: queue_seat,
+    } = seats;
+    let enough = releases_twice_for_each_job(
+        rt, cleaner, seat, heap, heap_seat, queue, queue_seat, &hearing,
+    );
+    (second.map(|cleanable| cleanable.obj.0), retired, enough)
+}
+
+#[test]
+fn a_cleaner_makes_its_calls_of_the_heap(rt: HostRuntime) -> Result<(), Fail> {
+    let alloc = rt.alloc();
+    let jobs = (job(alloc, 1)?, job(alloc, 2)?);
+    let (heap, heap_seat) = SharedHeap::new(alloc, CONFIG, 0)?;
+    let (cleaner, mut seat) = SharedCleaner::new(alloc, Q)?;
+    let (queue, queue_seat) = match SharedQueue::new(alloc, Q) {
+        Ok(made) => made,
+        Err(fault) => {
+            left_in(cleaner.finish(seat));
+            return Err(fault.into());
+        }
+    };
+    let mut seats = Seats {
+        heap: heap_seat,
+        queue: queue_seat,
+    };
+    let told = cleaned_twice(&rt, (&heap, &queue, &cleaner), &mut seats, &mut seat, jobs);
+    end(queue.finish(seats.queue));
+    let left = left_in(cleaner.finish(seat));
+    assert_eq!(rt; told, (Some(3), Some(true), Some(true)));
+    assert_eq!(rt; left, Some(0));
+    Ok(())
+}

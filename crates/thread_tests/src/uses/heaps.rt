@@ -1,0 +1,145 @@
+//! What the callers of a shared heap can prove.
+
+ghost use Rattle.std.specs.Prelude.{◌≡◌, ◌++◌, [], ◌∷◌, true, IfSome, IsTrue};
+ghost use Rattle.ref_base.specs.declared.heap_step.HeapStep.TheVariants as steps;
+ghost use Rattle.ref_clear.specs.ClearHeaps.{HeldNotice};
+ghost use Rattle.ref_share.specs.HeapSeats.{heap_view, IsHeapSeat};
+ghost use Rattle.ref_share.specs.QueueSeats.{IsQueueSeat};
+ghost use Rattle.ref_turn.specs.Seats.{entry};
+ghost use Rattle.ref_world.specs.declared.heap_machine.HeapReply.TheVariants as replies;
+
+use super::{drop_fault, end};
+use crate::shares::calls::{Seats, replied};
+use crate::shares::{CONFIG, M, Q, W, death, make_calls};
+use ref_base::{Config, HeapStep, SlotNo};
+use ref_share::{Delivery, HeapSeat, SharedHeap, SharedQueue, deliver_one, enqueue};
+use std::alloc::Global;
+use std::process::Abort;
+use std::slice;
+use std::sync::Wait;
+use std::test::Fail;
+
+/// A step that was made is served.
+fn serves_each_step<R: Wait>(rt: &R, heap: &SharedHeap, seat: &mut HeapSeat) -> Option<bool>
+    requires { IsHeapSeat heap.now seat.old }
+    ensures { IfSome result (λ is_more. is_more ≡ true) }
+{
+    let before = heap.served(seat);
+    let answer = heap.call(rt, seat, HeapStep::EndSweep);
+    let is_made = answer.is_ok();
+    replied(answer);
+    let after = heap.served(seat);
+    if is_made { Some(before < after) } else { None }
+}
+
+/// A heap has the configuration that it was made with.
+fn has_its_configuration(alloc: Global, config: Config) -> Option<Config>
+    ensures { IfSome result (λ found. found ≡ config) }
+{
+    match SharedHeap::new(alloc, config, 0) {
+        Ok((heap, seat)) => match heap.finish(seat) {
+            Ok(left) => Some(left.config()),
+            Err(_) => None,
+        },
+        Err(_) => None,
+    }
+}
+
+/// An enqueue that added its notice made one call of the heap, which gave it.
+fn adds_by_one_call<R: Wait>(
+    rt: &R,
+    heap: &SharedHeap,
+    queue: &SharedQueue,
+    seats: &mut Seats,
+) -> bool
+    requires { IsHeapSeat heap.now seats.old.heap × IsQueueSeat queue.now seats.old.queue }
+    ensures seats { IsHeapSeat heap.now seats.new.heap × IsQueueSeat queue.now seats.new.queue }
+    ensures one { IsTrue result → (notice : HeldNotice)
+        × ((heap_view seats.new.heap).mine ≡ (heap_view seats.old.heap).mine
+        ++ entry (heap_view seats.old.heap).number (steps.Unhook 0 1) (replies.Notice notice) ∷ []) }
+{
+    let queues = slice::from_ref(queue);
+    let own = slice::from_mut(&mut seats.queue);
+    match enqueue(rt, heap, &mut seats.heap, queues, own, M, SlotNo(1)) {
+        Ok(is_added) => is_added,
+        Err(fault) => {
+            drop_fault(fault);
+            false
+        }
+    }
+}
+
+/// A delivery that was dropped took two turns of the heap: the hand, and the release of the hold.
+fn releases_what_it_drops<R: Wait>(
+    rt: &R,
+    heap: &SharedHeap,
+    queue: &SharedQueue,
+    seats: &mut Seats,
+) -> Option<bool>
+    requires { IsHeapSeat heap.now seats.old.heap × IsQueueSeat queue.now seats.old.queue }
+    ensures seats { IsHeapSeat heap.now seats.new.heap × IsQueueSeat queue.now seats.new.queue }
+    ensures released { IfSome result (λ is_released. is_released ≡ true) }
+{
+    let queues = slice::from_ref(queue);
+    let own = slice::from_mut(&mut seats.queue);
+    let before = heap.served(&mut seats.heap);
+    match deliver_one(rt, heap, &mut seats.heap, queues, own, W) {
+        Ok(Delivery::Dropped(_)) => Some(heap.served(&mut seats.heap) - before >= 2),
+        Ok(_) => None,
+        Err(fault) => {
+            drop_fault(fault);
+            None
+        }
+    }
+}
+
+#[test]
+fn a_heap_does_what_it_is_asked(rt: HostRuntime) -> Result<(), Fail> {
+    let (heap, mut seat) = SharedHeap::new(rt.alloc(), CONFIG, 0)?;
+    for (fact, holds) in [
+        (
+            "each step takes a turn",
+            serves_each_step(&rt, &heap, &mut seat) == Some(true),
+        ),
+        (
+            "it has its configuration",
+            has_its_configuration(rt.alloc(), CONFIG) == Some(CONFIG),
+        ),
+    ] {
+        assert!(rt; holds, "{fact}");
+    }
+    Ok(())
+}
+
+/// After a death of what two references refer to the first of them is enqueued twice and then delivered. Whether the
+/// first enqueue added it, the second, and whether the heap took back what the delivery dropped.
+fn sent_twice<R: Wait + Abort>(
+    rt: &R,
+    alloc: Global,
+    heap_first: u64,
+) -> Result<(bool, Option<bool>, bool), Fail> {
+    let (heap, heap_seat) = SharedHeap::starting(alloc, CONFIG, 0, heap_first)?;
+    let (queue, queue_seat) = SharedQueue::new(alloc, Q)?;
+    let mut seats = Seats {
+        heap: heap_seat,
+        queue: queue_seat,
+    };
+    make_calls(rt, &heap, &queue, &mut seats, &death());
+    let is_added = adds_by_one_call(rt, &heap, &queue, &mut seats);
+    let is_released = releases_what_it_drops(rt, &heap, &queue, &mut seats);
+    let is_again = adds_by_one_call(rt, &heap, &queue, &mut seats);
+    end(queue.finish(seats.queue));
+    Ok((is_added, is_released, is_again))
+}
+
+#[test]
+fn a_notice_goes_out_once(rt: HostRuntime) -> Result<(), Fail> {
+    for (fact, heap_first, want) in [
+        ("what is dropped is released", 0, (true, Some(true), false)),
+        // Twelve turns of the cycle, an unhook and a hand.
+        ("or it is not dropped", u64::MAX - 14, (true, None, false)),
+    ] {
+        assert!(rt; sent_twice(&rt, rt.alloc(), heap_first)? == want, "{fact}");
+    }
+    Ok(())
+}
