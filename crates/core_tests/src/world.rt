@@ -1,13 +1,11 @@
 //! A world, step by step.
 
 mod asks;
-mod cycles;
 mod heap_steps;
 mod memory;
-mod notices;
 mod random;
-mod refusals;
 mod rows;
+mod stories;
 
 use ref_base::{Config, Reply, Row, Step};
 use ref_world::{Trace, World, run};
@@ -35,19 +33,6 @@ fn do_steps<A: Allocator + Copy>(rt: &impl Abort, world: &mut World<A>, story: &
     for (row, &(step, want)) in story.iter().enumerate() {
         assert_eq!(rt; world.step(step), want, "row {row}: {step}");
     }
-}
-
-/// The same, in a new world of this size.
-fn agree(
-    rt: &impl Abort,
-    alloc: Global,
-    config: Config,
-    story: &[(Step, Reply)],
-) -> Result<(), Fail> {
-    let mut world = World::new(alloc, config)?;
-    do_steps(rt, &mut world, story);
-    world.end();
-    Ok(())
 }
 
 /// The steps of a story.

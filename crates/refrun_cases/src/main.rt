@@ -71,7 +71,7 @@ fn tell_text(
     let Some(is_faulty) = folder.is_faulty(kind, name) else {
         counts.add_wrong();
         return println!(rt;
-            "{name}: not just one of .{} and .err is beside it",
+            "{name}: not one text with just one of .{} and .err",
             kind.printed()
         );
     };

@@ -1,34 +1,22 @@
-//! The tests of what is printed, against texts that were worked out by hand: numbers, faults, strengths, steps, replies
-//! and rows; scripts and their traces; graph texts and their listings.
+//! The tests of what no text in a file can show: what is printed of numbers, faults, strengths, steps, replies and rows;
+//! each line of a step; readers, writers and memory that fail; texts as long as they may be; the checks of lists; stress.
 //!
-//! A case is a row of a table: what is printed and its text, or an input and what it must print. Readers, writers and
-//! memory that fail are loops over such cases.
+//! Scripts with their traces and graph texts with their listings are files of the program `refrun_cases`; a few stand
+//! here, for the loops over what fails.
 #![tactic(auto)]
 
 #[cfg(test)]
 mod cases;
 #[cfg(test)]
-mod death_cases;
-#[cfg(test)]
 mod fakes;
 #[cfg(test)]
-mod graph_cases;
-#[cfg(test)]
-mod job_cases;
+mod jobs;
 #[cfg(test)]
 mod list_cases;
 #[cfg(test)]
 mod memory;
 #[cfg(test)]
-mod notice_cases;
-#[cfg(test)]
 mod printed;
-#[cfg(test)]
-mod refusal_cases;
-#[cfg(test)]
-mod script_cases;
-#[cfg(test)]
-mod soft_cases;
 #[cfg(test)]
 mod step_lines;
 #[cfg(test)]

@@ -1,10 +1,10 @@
-//! Scripts and their traces, graph texts and their listings.
+//! What becomes of texts whose readers and writers fail, and of texts as long as they may be.
 
-use crate::cases::{Case, Task, tables};
+use crate::cases::{CASES, Case, Task};
 use crate::fakes::{
     FAILURES, Failure, Interrupted, ReadsThenFails, WritesThenFails, answer_in_room,
 };
-use crate::job_cases::script_jobs;
+use crate::jobs::script_jobs;
 use refrun::{
     FromReader, LineFault, TextFault, TextSink, TextSource, ToWriter, run_script, strength_text,
 };
@@ -64,9 +64,9 @@ pub fn message(alloc: Global, fault: TextFault) -> Result<String, AllocError> {
 }
 
 /// The text prints what it must, or its fault.
-fn agree(rt: &impl Abort, alloc: Global, task: Task, case: &Case) -> Result<(), AllocError> {
+fn agree(rt: &impl Abort, alloc: Global, case: &Case) -> Result<(), AllocError> {
     let name = case.name;
-    let (answer, output) = printed(task, alloc, alloc, case.text);
+    let (answer, output) = printed(case.task, alloc, alloc, case.text);
     assert_eq!(rt; output.as_slice(), case.prints, "{name}");
     let error = match answer {
         Ok(()) => String::new(alloc),
@@ -79,18 +79,10 @@ fn agree(rt: &impl Abort, alloc: Global, task: Task, case: &Case) -> Result<(), 
     Ok(())
 }
 
-/// The same of each case of a table.
-fn all_agree(rt: &impl Abort, alloc: Global, task: Task, cases: &[Case]) -> Result<(), AllocError> {
-    for case in cases {
-        agree(rt, alloc, task, case)?;
-    }
-    Ok(())
-}
-
 #[test]
 fn each_text_prints_what_it_must_or_its_fault(rt: HostRuntime) -> Result<(), Fail> {
-    for (task, cases) in tables() {
-        all_agree(&rt, rt.alloc(), task, cases)?;
+    for case in &CASES {
+        agree(&rt, rt.alloc(), case)?;
     }
     Ok(())
 }
@@ -111,28 +103,19 @@ fn each_fault_of_no_line_has_its_message_and_its_status(rt: HostRuntime) -> Resu
 }
 
 /// A reader that fails so at the end of the text of a case is told of by this, and nothing is printed.
-fn tell_failure(
-    rt: &impl Abort,
-    alloc: Global,
-    task: Task,
-    cases: &[Case],
-    failure: ErrorKind,
-    want: TextFault,
-) {
-    for case in cases {
-        let bytes = case.text;
-        let mut output = Vec::new(alloc);
-        let mut reader = FromReader::new(ReadsThenFails { bytes, failure });
-        let answer = answer(
-            task,
-            alloc,
-            alloc,
-            &mut reader,
-            &mut ToWriter::new(&mut output),
-        );
-        assert_eq!(rt; answer, Err(want));
-        assert!(rt; output.is_empty());
-    }
+fn tell_failure(rt: &impl Abort, alloc: Global, case: &Case, failure: ErrorKind, want: TextFault) {
+    let bytes = case.text;
+    let mut output = Vec::new(alloc);
+    let mut reader = FromReader::new(ReadsThenFails { bytes, failure });
+    let answer = answer(
+        case.task,
+        alloc,
+        alloc,
+        &mut reader,
+        &mut ToWriter::new(&mut output),
+    );
+    assert_eq!(rt; answer, Err(want), "{}", case.name);
+    assert!(rt; output.is_empty());
 }
 
 #[test]
@@ -142,8 +125,8 @@ fn a_reader_that_fails_or_finds_no_memory_is_told_of(rt: HostRuntime) {
         (ErrorKind::OutOfMemory, TextFault::NoMemory),
     ];
     for (failure, want) in failures {
-        for (task, cases) in tables() {
-            tell_failure(&rt, rt.alloc(), task, cases, failure, want);
+        for case in &CASES {
+            tell_failure(&rt, rt.alloc(), case, failure, want);
         }
     }
 }

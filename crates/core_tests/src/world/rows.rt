@@ -42,16 +42,6 @@ pub const fn weak(slot: u32, source: u32, queue: u32) -> Step {
     refer(Strength::Weak, slot, source, Some(QueueNo(queue)))
 }
 
-/// The same, for no queue.
-pub const fn unregistered(slot: u32, source: u32) -> Step {
-    refer(Strength::Weak, slot, source, None)
-}
-
-/// A soft reference in this slot to what this one holds, for this queue.
-pub const fn soft(slot: u32, source: u32, queue: u32) -> Step {
-    refer(Strength::Soft, slot, source, Some(QueueNo(queue)))
-}
-
 pub const fn store(object: u32, field: u32, value: u32) -> Step {
     Step::Store {
         mutator: M,
@@ -194,14 +184,6 @@ pub const fn scanned(no: u32) -> Reply {
 
 pub const fn cleared(no: u32) -> Reply {
     Reply::Cleared(ObjNo(no))
-}
-
-pub const fn kept(no: u32) -> Reply {
-    Reply::Kept(ObjNo(no))
-}
-
-pub const fn skipped(no: u32) -> Reply {
-    Reply::Skipped(ObjNo(no))
 }
 
 /// The program's own notice of this reference, for this queue.
