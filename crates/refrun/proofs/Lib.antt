@@ -1,4 +1,5 @@
 mod Examples
+mod IllegalTexts
 pub mod Cuts
 pub mod Digits
 pub mod Fields

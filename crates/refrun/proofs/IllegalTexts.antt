@@ -1,0 +1,177 @@
+-- Rows and texts that differ in one place from what a script or a graph text prints, and are none of it.
+use Rattle.std.proofs.Common.{◌≡◌, ℕ, ◌+◌, ◌++◌, true, false, [], ◌∷◌, List, map, take, Some, None, codes, refl, arith, subst, sym}
+use Rattle.std.proofs.Common.{ap, ◌∙◌, drop, replicate}
+use Rattle.std.proofs.lemmas.Fmt.{decimal_digit}
+use Rattle.ref_base.specs.Collectors.{State, first_state}
+use Rattle.ref_base.specs.Graphs.{Graph, plain_object, numbers}
+use Rattle.ref_base.specs.Heaps.{first_heap}
+use Rattle.ref_base.specs.Worlds.{first_world}
+use Rattle.ref_base.specs.declared.config.Config.{Config}
+use Rattle.ref_base.specs.declared.fault.Fault.TheVariants.{NoCell, NoSuchActor}
+use Rattle.ref_base.specs.declared.reach.ObjectReach.{ObjectReach}
+use Rattle.ref_base.specs.declared.reply.Reply.TheVariants.{Object, Refused}
+use Rattle.ref_base.specs.declared.step.Step.{Step}
+use Rattle.ref_base.specs.declared.step.Step.TheVariants.{New, Refer, Copy}
+use Rattle.ref_base.specs.declared.strength.Strength.TheVariants.{Weak}
+use Rattle.ref_base.proofs.LegalSteps.{lands}
+use Rattle.refrun.proofs.OneGraph.{one_graph}
+use Rattle.refrun.specs.Declarations.{Plain}
+use Rattle.refrun.specs.GraphTexts.{DeclaresGraph}
+use Rattle.refrun.specs.Lines.{words_of}
+use Rattle.refrun.specs.Listings.{PrintsStrengths, listing_text}
+use Rattle.refrun.specs.ScriptRuns.{Jobs, IsScriptRun, IsScriptTrace, first_jobs}
+use Rattle.refrun.specs.Spelling.{SpellsScriptStep}
+use Rattle.refrun.specs.Traces.{trace_text}
+use Rattle.refrun.specs.declared.script_step.ScriptReply.{ScriptReply}
+use Rattle.refrun.specs.declared.script_step.ScriptReply.TheVariants as replies
+use Rattle.refrun.specs.declared.script_step.ScriptRow.{ScriptRow}
+use Rattle.refrun.specs.declared.script_step.ScriptStep.{ScriptStep}
+use Rattle.refrun.specs.declared.script_step.ScriptStep.TheVariants as steps
+
+-- ---- the text of a trace
+
+-- rows are numbered from 1
+the_first_row_has_number_1 : (row : ScriptRow) (rows : List ScriptRow)
+    → take 13 (trace_text (row ∷ rows)) ≡ codes "reftrace 1" ++ 10 ∷ codes "1 "
+the_first_row_has_number_1 row rows = rw (decimal_digit 1 (omega arith)) refl
+
+-- `m0 copy s1 s0` is no copy into slot 0
+slots_exchanged_are_not_spelt : ¬ (SpellsScriptStep (words_of (codes "m0 copy s1 s0")) (steps.World (Copy 0 0 1)))
+slots_exchanged_are_not_spelt spelt = let into = spelt.1.1.0 in absurd cc
+
+-- ---- rows
+
+abbrev row : ScriptStep → ScriptReply → ScriptRow
+row step reply = record { step = step; reply = reply }
+
+-- config 1 1 1 8 10
+abbrev config : Config
+config = record { mutators = 1; workers = 1; queues = 1; cells = 8; span = 10 }
+
+-- an object is made
+abbrev making : ℕ → ScriptRow
+making slot = row (steps.World (New 0 slot 0)) (replies.World (Object (slot + 1)))
+
+-- a weak reference to it is made, in slot 1
+abbrev referring : ScriptRow
+referring = row (steps.World (Refer 0 Weak 1 0 None 0)) (replies.World (Object 2))
+
+-- a refusal where none applies
+abbrev refused_without_cause : List ScriptRow
+refused_without_cause = row (steps.World (New 0 0 0)) (replies.World (Refused NoSuchActor)) ∷ []
+
+-- there are eight cells, and only one is taken
+abbrev no_cell_too_early : List ScriptRow
+no_cell_too_early = making 0 ∷ row (steps.World (New 0 1 0)) (replies.World (Refused NoCell)) ∷ []
+
+-- a job that was never registered
+abbrev ran_unregistered : List ScriptRow
+ran_unregistered =
+    making 0 ∷ referring ∷ row (steps.Run 0 1) (replies.Ran (record { number = 3; answer = 1003 })) ∷ []
+
+-- a job of another number than was registered
+abbrev ran_another : List ScriptRow
+ran_another =
+    making 0 ∷ referring ∷
+    row (steps.Job 0 1 3) replies.Registered ∷
+    row (steps.Run 0 1) (replies.Ran (record { number = 2; answer = 1002 })) ∷ []
+
+-- the object and the reference to it
+abbrev referred : State
+referred = record (first_state config) {
+  world = record (first_world config) {
+    heap = record (first_heap config) {
+      objects = plain_object 1 [] ∷ record {
+        no = 2;
+        fields = [];
+        reference = Some (record { strength = Weak; referent = Some 1; stamp = 0; queue = None });
+      } ∷ [];
+      slots = Some 1 ∷ Some 2 ∷ replicate 14 None;
+    };
+  };
+  next = 3;
+}
+
+module _ {J : Type 0} (number note : J → ℕ) where
+  -- the state that the two rows leave
+  referred_by : (jobs last : Jobs J) (rows : List ScriptRow) (end : State)
+      → IsScriptRun number note (first_state config) jobs (making 0 ∷ referring ∷ rows) end last
+      → IsScriptRun number note referred jobs rows end last
+  referred_by jobs last rows end run =
+      let r1 = subst (λ s. IsScriptRun number note s run.1 (referring ∷ rows) end last)
+      (lands (New 0 0 0) (Object 1) run.2.0.2 run.2.0.1.1) run.3 in
+      let r2 = subst (λ s. IsScriptRun number note s r1.1 rows end last)
+      (lands (Refer 0 Weak 1 0 None 0) (Object 2) r1.2.0.2 r1.2.0.1.1) r1.3 in
+      let same : r1.1 ≡ jobs = r1.2.1 ∙ run.2.1 in
+      subst (λ j. IsScriptRun number note referred j rows end last) same r2
+
+  refused_without_cause_is_no_trace : (jobs : List J) → ¬ (IsScriptTrace number note config jobs refused_without_cause)
+  refused_without_cause_is_no_trace jobs trace = let answer = trace.2.2.0.1.0 in absurd cc
+
+  no_cell_too_early_is_no_trace : (jobs : List J) → ¬ (IsScriptTrace number note config jobs no_cell_too_early)
+  no_cell_too_early_is_no_trace jobs trace =
+      let run = trace.2 in
+      let r1 = subst (λ s. IsScriptRun number note s run.1 (drop 1 no_cell_too_early) trace.0 trace.1)
+      (lands (New 0 0 0) (Object 1) run.2.0.2 run.2.0.1.1) run.3 in
+      let answer = r1.2.0.1.0 in
+      absurd cc
+
+  ran_unregistered_is_no_trace : (jobs : List J) → ¬ (IsScriptTrace number note config jobs ran_unregistered)
+  ran_unregistered_is_no_trace jobs trace =
+      let run = referred_by (first_jobs jobs) trace.1 (drop 2 ran_unregistered) trace.0 trace.2 in
+      let taken = run.2.1.0 in
+      absurd cc
+
+  -- what a table has of a job
+  abbrev entry : J → Unit {0} × J
+  entry job = (tt, job)
+
+  -- a job of number 3 isn't told of as number 2
+  told_another : (job given : J) → number job ≡ 3 → Some (entry given) ≡ Some (entry job) → 2 ≡ number given → ⊥
+  told_another job given is_3 same told =
+      let entries : entry given ≡ entry job = cc in
+      let one : given ≡ job = ap (λ p. p.1) entries in
+      let two : 2 ≡ 3 = told ∙ ap number one ∙ is_3 in
+      absurd cc
+
+  ran_another_is_no_trace : (jobs : List J) → ¬ (IsScriptTrace number note config jobs ran_another)
+  ran_another_is_no_trace jobs trace =
+      let r2 = referred_by (first_jobs jobs) trace.1 (drop 2 ran_another) trace.0 trace.2 in
+      let registered = r2.2.0 in
+      let r3 = subst (λ s. IsScriptRun number note s r2.1 (drop 3 ran_another) trace.0 trace.1) r2.2.1 r2.3 in
+      let ran = r3.2 in
+      told_another registered.0 ran.0 registered.1 (ran.1.0 ∙ registered.3.1.0 2) (ap (λ r. r.number) ran.3)
+
+-- ---- listings
+
+-- `refgraph 1`, `plain 5`
+lone_object : Graph
+lone_object = record { objects = plain_object 5 [] ∷ []; roots = [] }
+
+it_is_declared : DeclaresGraph (codes "refgraph 1" ++ 10 ∷ codes "plain 5") lone_object
+unfolding lone_object
+it_is_declared = record {
+  short = refl;
+  lines = record {
+    declared = Plain 5 [] ∷ [];
+    said = record {
+      plain = refl;
+      told = (refl, ((refl, (refl, omega arith), tt, omega arith), tt));
+      none_twice = (refl, tt);
+    };
+    graph_is = refl;
+  };
+}
+
+a_lone_object : (listed : List ObjectReach) → map (λ l. l.object) listed ≡ 5 ∷ []
+    → take 2 (listing_text listed) ≡ codes "5 "
+a_lone_object [] same = absurd cc
+a_lone_object (l ∷ listed) same = let first : l.object ≡ 5 = cc in rw (first, decimal_digit 5 (omega arith)) refl
+
+an_object_is_listed_by_its_number : (printed : List ℕ)
+    → PrintsStrengths (codes "refgraph 1" ++ 10 ∷ codes "plain 5") printed → take 2 printed ≡ codes "5 "
+unfolding lone_object
+an_object_is_listed_by_its_number printed prints =
+    let graph = one_graph _ prints.graph lone_object prints.declares it_is_declared in
+    let all = prints.lists.strengths.all ∙ ap (λ g. numbers g.objects) graph in
+    ap (take 2) prints.lists.is_text ∙ a_lone_object prints.lists.listed all
