@@ -1,5 +1,6 @@
 //! The table of a cleaner, call by call. What is kept beside a job is a number here, and so is the job.
 
+use crate::told::{Told, expect};
 use ref_base::{Fault, ObjNo};
 use ref_queue::CleanTable;
 use std::alloc::Global;
@@ -16,32 +17,18 @@ enum Call {
     Close,
 }
 
-/// What it answers.
-#[derive(Clone, Copy, Debug, PartialEq, Eq)]
-enum Told {
-    Done,
-    /// Both came back.
-    Refused(Fault, u64, u64),
-    /// This was kept beside this job.
-    Took(u64, u64),
-    /// The same, of this object.
-    TookOf(u32, u64, u64),
-    Object(u32),
-    Nothing,
-}
-
 fn answer(table: &mut CleanTable<u64, u64>, call: Call) -> Told {
     match call {
         Call::Register(object, kept, job) => match table.register(ObjNo(object), kept, job) {
             Ok(()) => Told::Done,
-            Err((fault, kept, job)) => Told::Refused(fault, kept, job),
+            Err((fault, kept, job)) => Told::NotKept(fault, kept, job),
         },
         Call::Take(object) => match table.take(ObjNo(object)) {
-            Some((kept, job)) => Told::Took(kept, job),
+            Some((kept, job)) => Told::Job(kept, job),
             None => Told::Nothing,
         },
         Call::TakeAny => match table.take_any() {
-            Some((object, kept, job)) => Told::TookOf(object.0, kept, job),
+            Some((object, kept, job)) => Told::JobOf(object.0, kept, job),
             None => Told::Nothing,
         },
         Call::First => table
@@ -58,7 +45,7 @@ fn answer(table: &mut CleanTable<u64, u64>, call: Call) -> Told {
 fn agree(rt: &impl Abort, alloc: Global, story: &[(Call, Told)], left: u64) {
     let mut table = CleanTable::new(alloc);
     for (row, &(call, want)) in story.iter().enumerate() {
-        assert_eq!(rt; answer(&mut table, call), want, "row {row}");
+        expect(rt, row, answer(&mut table, call), want);
     }
     let mut count = 0;
     while let Some((_, _kept, _job)) = table.take_any() {
@@ -78,15 +65,15 @@ fn each_job_is_given_out_once(rt: HostRuntime) {
         (Call::Register(7, 70, 1), Told::Done),
         (
             Call::Register(7, 71, 2),
-            Told::Refused(Fault::RegisteredTwice, 71, 2),
+            Told::NotKept(Fault::RegisteredTwice, 71, 2),
         ),
         (Call::First, Told::Object(7)),
         (Call::Take(8), Told::Nothing),
-        (Call::Take(7), Told::Took(70, 1)),
+        (Call::Take(7), Told::Job(70, 1)),
         (Call::Take(7), Told::Nothing),
         (Call::TakeAny, Told::Nothing),
         (Call::Register(7, 72, 3), Told::Done),
-        (Call::TakeAny, Told::TookOf(7, 72, 3)),
+        (Call::TakeAny, Told::JobOf(7, 72, 3)),
         (Call::Take(7), Told::Nothing),
         (Call::First, Told::Nothing),
         (Call::Register(7, 73, 3), Told::Done),
@@ -104,13 +91,13 @@ fn a_closed_table_still_gives_out_what_it_has(rt: HostRuntime) {
         // The closed table is told of first.
         (
             Call::Register(7, 71, 3),
-            Told::Refused(Fault::TableClosed, 71, 3),
+            Told::NotKept(Fault::TableClosed, 71, 3),
         ),
         (
             Call::Register(9, 90, 4),
-            Told::Refused(Fault::TableClosed, 90, 4),
+            Told::NotKept(Fault::TableClosed, 90, 4),
         ),
-        (Call::Take(8), Told::Took(80, 2)),
+        (Call::Take(8), Told::Job(80, 2)),
         (Call::Close, Told::Done),
         (Call::Take(8), Told::Nothing),
     ];

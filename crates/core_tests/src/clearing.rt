@@ -8,7 +8,7 @@ mod workers;
 
 use crate::hand::{adopted, keep, leak, released, shown, taken};
 use crate::told::{
-    Told, began, done, doomed, is_or_fault, kind, made, queue, scanned, value_or_fault,
+    Told, began, done, doomed, expect, is_or_fault, kind, made, queue, scanned, value_or_fault,
 };
 use ref_base::{Config, Fault, MutNo, ObjNo, Parcel, QueueNo, SlotNo, Strength, Urgency, WorkerNo};
 use ref_clear::{Heap, Looked, Notice, Pending};
@@ -320,7 +320,7 @@ fn make_calls<A: Allocator + Copy>(
     };
     let mut bench = Bench { heap, other, hands };
     for (row, &(call, want)) in story.iter().enumerate() {
-        assert_eq!(rt; answer(&mut bench, call), want, "row {row}");
+        expect(rt, row, answer(&mut bench, call), want);
     }
     let Bench { heap, other, hands } = bench;
     heap.end();

@@ -3,7 +3,8 @@
 mod memory;
 mod stories;
 
-use ref_base::{Fault, Graph, ObjNo, Reach, Strength, strength_of, strengths};
+use crate::told::{Told, expect};
+use ref_base::{Fault, Graph, ObjNo, Strength, strength_of, strengths};
 use std::alloc::{Allocator, Global};
 use std::process::Abort;
 
@@ -24,28 +25,9 @@ enum Call {
     Listed(usize),
 }
 
-/// Its answer.
-#[derive(Clone, Copy, Debug, PartialEq, Eq)]
-enum Told {
-    /// It was added.
-    Added,
-    /// It was there, and stays as it is.
-    Before,
-    /// So strongly.
-    Strength(Reach),
-    /// So many.
-    Count(usize),
-    /// This object, which is so strongly reachable.
-    Listed(u32, Reach),
-    /// The list is shorter.
-    PastTheEnd,
-    /// An error.
-    Refused(Fault),
-}
-
 fn added(answer: Result<bool, Fault>) -> Told {
     match answer {
-        Ok(true) => Told::Added,
+        Ok(true) => Told::New,
         Ok(false) => Told::Before,
         Err(fault) => Told::Refused(fault),
     }
@@ -93,7 +75,7 @@ fn strength<A: Allocator + Copy, B: Allocator + Copy>(alloc: B, graph: &Graph<A>
 
 fn count<A: Allocator + Copy>(alloc: Global, graph: &Graph<A>) -> Told {
     match strengths(alloc, graph) {
-        Ok(listed) => Told::Count(listed.len()),
+        Ok(listed) => Told::Count(listed.len() as u64),
         Err(fault) => Told::Refused(fault),
     }
 }
@@ -132,7 +114,7 @@ fn make_calls<A: Allocator + Copy>(
     story: Story,
 ) {
     for (row, &(call, want)) in story.iter().enumerate() {
-        assert_eq!(rt; answer(alloc, graph, call), want, "row {row}");
+        expect(rt, row, answer(alloc, graph, call), want);
     }
 }
 

@@ -5,7 +5,7 @@ mod refusals;
 
 use crate::hand::{adopted, leak, released, taken};
 use crate::told::{
-    Told, began, done, doomed, found, is, is_or_fault, made, scanned, value, value_or_fault,
+    Told, began, done, doomed, expect, found, is, is_or_fault, made, scanned, value, value_or_fault,
 };
 use ref_base::{Config, Fault, MutNo, ObjNo, QueueNo, SlotNo, Strength, Urgency, WorkerNo};
 use ref_mark::Marker;
@@ -214,7 +214,7 @@ fn agree_from(
     let mut heap = Marker::starting(alloc, CONFIG, 1, start)?;
     let mut hand = None;
     for (row, &(call, want)) in story.iter().enumerate() {
-        assert_eq!(rt; answer(&mut heap, &mut hand, call), want, "row {row}");
+        expect(rt, row, answer(&mut heap, &mut hand, call), want);
     }
     leak(hand);
     Ok(())

@@ -5,7 +5,7 @@ mod memory;
 mod stories;
 
 use crate::hand::{adopted, leak, released, shown, taken};
-use crate::told::{Told, done, found, is, kind, made, queue, value, value_or_fault};
+use crate::told::{Told, done, expect, found, is, kind, made, queue, value, value_or_fault};
 use ref_base::{Config, MutNo, ObjNo, QueueNo, SlotNo, Strength};
 use ref_objects::{Hold, Objects, Reference, Start};
 use std::alloc::{Allocator, Global};
@@ -242,7 +242,7 @@ fn make_calls<A: Allocator + Copy>(
         hand: None,
     };
     for (row, &(call, want)) in story.iter().enumerate() {
-        assert_eq!(rt; answer(&mut bench, call), want, "row {row}");
+        expect(rt, row, answer(&mut bench, call), want);
     }
     let Bench {
         heap: _heap,

@@ -3,6 +3,7 @@
 mod memory;
 mod stories;
 
+use crate::told::{Told, expect};
 use ref_base::{Fault, ObjNo, Parcel, QueueNo};
 use ref_queue::{Polled, Put, Queue};
 use std::alloc::{Allocator, Global};
@@ -48,41 +49,12 @@ enum Call {
     StandsAt(usize),
 }
 
-/// What a call answers.
-#[derive(Clone, Copy, Debug, PartialEq, Eq)]
-enum Told {
-    /// It stands last now, and so many were put in before it.
-    Added(u64),
-    /// It was put in before, and came back.
-    Already(Slip),
-    /// The queue takes nothing any more, and it came back.
-    TooLate(Slip),
-    /// It came back with an error.
-    Refused(Fault, Slip),
-    /// This stood first.
-    Took(Slip),
-    /// Nothing stands.
-    Empty,
-    /// Nothing stands, and nothing comes any more.
-    Ended,
-    /// The queue was open, and is closed now.
-    ClosesNow,
-    /// The queue was closed.
-    WasClosed,
-    /// The object whose slip is there.
-    Object(u32),
-    /// There are fewer.
-    PastTheEnd,
-    /// There is no memory for a list.
-    NoList(Fault),
-}
-
 fn put(answer: Result<Put<Slip>, (Fault, Slip)>) -> Told {
     match answer {
         Ok(Put::Added(position)) => Told::Added(position),
         Ok(Put::Already(back)) => Told::Already(back),
         Ok(Put::Closed(back)) => Told::TooLate(back),
-        Err((fault, back)) => Told::Refused(fault, back),
+        Err((fault, back)) => Told::NotPut(fault, back),
     }
 }
 
@@ -108,7 +80,7 @@ fn listed<B: Allocator>(answer: Result<Vec<ObjNo, B>, Fault>, place: usize) -> T
             Some(no) => Told::Object(no.0),
             None => Told::PastTheEnd,
         },
-        Err(fault) => Told::NoList(fault),
+        Err(fault) => Told::Refused(fault),
     }
 }
 
@@ -135,7 +107,7 @@ fn make_calls<A: Allocator + Copy, B: Allocator + Copy>(
     story: &[(Call, Told)],
 ) {
     for (row, &(call, want)) in story.iter().enumerate() {
-        assert_eq!(rt; answer(alloc, queue, call), want, "row {row}");
+        expect(rt, row, answer(alloc, queue, call), want);
     }
 }
 

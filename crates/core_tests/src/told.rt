@@ -1,14 +1,18 @@
-//! What a call of a heap answers.
+//! What a call answers, whatever its subject: a heap's layers, a queue, the table of a cleaner, or a graph.
 
-use ref_base::{Cause, Config, Fault, ObjNo, Phase, QueueNo};
+use crate::queues::Slip;
+use ref_base::{Cause, Config, Fault, ObjNo, Parcel, Phase, QueueNo, Reach, Strength};
 use ref_objects::{Kind, Reference};
+use std::fmt;
+use std::process::Abort;
 
-/// What a call of a heap's layers answers.
-#[derive(Clone, Copy, Debug, PartialEq, Eq)]
+/// What a call answers. It is compared and printed by its word and its numbers: derives for so many variants would be
+/// dearer to prove than all stories of a subject.
+#[derive(Clone, Copy)]
 pub enum Told {
     Done,
     Refused(Fault),
-    /// This object was made, or is in a slot or a field now, or is a referent.
+    /// This object was made, or is in a slot or a field now, or is a referent, or stands in a list.
     Object(u32),
     /// A slot, a field or a referent is null.
     Null,
@@ -52,6 +56,230 @@ pub enum Told {
     Notice(u32, u32, Cause),
     /// This reference is pending, for this queue, since this cycle.
     Pending(u32, u32, u64),
+    /// It stands last in the queue now, and so many were put in before it.
+    Added(u64),
+    /// It was put in before, and came back.
+    Already(Slip),
+    /// The queue takes nothing any more, and it came back.
+    TooLate(Slip),
+    /// It came back with an error.
+    NotPut(Fault, Slip),
+    /// This stood first.
+    Took(Slip),
+    /// Nothing stands.
+    Empty,
+    /// Nothing stands, and nothing comes any more.
+    Ended,
+    /// The queue was open, and is closed now.
+    ClosesNow,
+    /// The queue was closed.
+    WasClosed,
+    /// The list is shorter.
+    PastTheEnd,
+    /// What was to be kept, and the job, came back.
+    NotKept(Fault, u64, u64),
+    /// This was kept beside this job.
+    Job(u64, u64),
+    /// The same, of this object.
+    JobOf(u32, u64, u64),
+    /// It was added to the graph.
+    New,
+    /// It was in the graph, and stays as it is.
+    Before,
+    /// So strongly reachable.
+    Strength(Reach),
+    /// This object, which is so strongly reachable.
+    Listed(u32, Reach),
+}
+
+impl Told {
+    /// What kind of answer it is: a word of its own for each.
+    fn word(&self) -> &'static str {
+        match *self {
+            Told::Done => "done",
+            Told::Refused(_) => "refused",
+            Told::Object(_) => "object",
+            Told::Null => "null",
+            Told::Found(_) => "found",
+            Told::Nothing => "nothing",
+            Told::Yes => "yes",
+            Told::No => "no",
+            Told::Count(_) => "count",
+            Told::Next(_) => "next",
+            Told::Heap(_) => "heap",
+            Told::Time(_) => "time",
+            Told::Queue(_) => "queue",
+            Told::Kind(_) => "kind",
+            Told::Reference(_) => "reference",
+            Told::Size(_) => "size",
+            Told::Held(..) => "held",
+            Told::EmptyHand => "empty hand",
+            Told::Began(_) => "began",
+            Told::Scanned(_) => "scanned",
+            Told::Doomed(_) => "doomed",
+            Told::In(_) => "in",
+            Told::Cleared(_) => "cleared",
+            Told::Kept(_) => "kept",
+            Told::Skipped(_) => "skipped",
+            Told::Swept(_) => "swept",
+            Told::Notice(..) => "notice",
+            Told::Pending(..) => "pending",
+            _ => self.word_of_the_rest(),
+        }
+    }
+
+    /// The same, of what queues, tables and graphs answer.
+    fn word_of_the_rest(&self) -> &'static str {
+        match *self {
+            Told::Added(_) => "added",
+            Told::Already(_) => "already",
+            Told::TooLate(_) => "too late",
+            Told::NotPut(..) => "not put",
+            Told::Took(_) => "took",
+            Told::Empty => "empty",
+            Told::Ended => "ended",
+            Told::ClosesNow => "closes now",
+            Told::WasClosed => "was closed",
+            Told::PastTheEnd => "past the end",
+            Told::NotKept(..) => "not kept",
+            Told::Job(..) => "job",
+            Told::JobOf(..) => "job of",
+            Told::New => "new",
+            Told::Before => "before",
+            Told::Strength(_) => "strength",
+            Told::Listed(..) => "listed",
+            _ => "",
+        }
+    }
+
+    /// Whether both tell the same.
+    pub fn is(&self, other: Told) -> bool {
+        self.word() == other.word() && self.numbers() == other.numbers()
+    }
+
+    /// What it tells, in numbers: all that there is, where the word is known.
+    fn numbers(&self) -> [u64; 5] {
+        match *self {
+            Told::Object(no) | Told::Found(no) | Told::Queue(no) | Told::Scanned(no) => one(no),
+            Told::Doomed(no) | Told::Cleared(no) | Told::Kept(no) | Told::Skipped(no) => one(no),
+            Told::Swept(count) => one(count),
+            Told::Count(count) | Told::Next(count) | Told::Heap(count) => [count, 0, 0, 0, 0],
+            Told::Time(count) | Told::Began(count) | Told::Added(count) => [count, 0, 0, 0, 0],
+            Told::Refused(fault) => one(fault.number()),
+            Told::Kind(kind) => one(number_of_kind(kind)),
+            Told::Reference(reference) => numbers_of_reference(reference),
+            Told::Size(config) => numbers_of_size(config),
+            Told::Held(object, heap) => [u64::from(object), heap, 0, 0, 0],
+            Told::In(phase) => one(number_of_phase(phase)),
+            Told::Notice(object, queue, cause) => numbers_of_notice(object, queue, cause),
+            Told::Pending(object, queue, cycle) => {
+                [u64::from(object), u64::from(queue), cycle, 0, 0]
+            }
+            Told::Already(slip) | Told::TooLate(slip) | Told::Took(slip) => numbers_of_slip(
+                slip, 0,
+            ),
+            Told::NotPut(fault, slip) => numbers_of_slip(slip, fault.number()),
+            Told::NotKept(fault, kept, job) => [u64::from(fault.number()), kept, job, 0, 0],
+            Told::Job(kept, job) => [kept, job, 0, 0, 0],
+            Told::JobOf(object, kept, job) => [u64::from(object), kept, job, 0, 0],
+            Told::Strength(reach) => one(number_of_reach(reach)),
+            Told::Listed(object, reach) => {
+                [
+                    u64::from(object),
+                    u64::from(number_of_reach(reach)),
+                    0,
+                    0,
+                    0,
+                ]
+            }
+            _ => [0; 5],
+        }
+    }
+}
+
+impl fmt::Debug for Told {
+    fn fmt<W: fmt::Write>(&self, f: &mut fmt::Formatter<W>) -> fmt::Result {
+        let word = self.word();
+        let numbers = self.numbers();
+        write!(f, "{word} {numbers:?}")
+    }
+}
+
+/// The call of this row was answered as the story tells.
+pub fn expect(rt: &impl Abort, row: usize, told: Told, want: Told) {
+    assert!(rt; told.is(want), "row {row}: {told:?}, and not {want:?}");
+}
+
+fn one(number: u32) -> [u64; 5] {
+    [u64::from(number), 0, 0, 0, 0]
+}
+
+fn number_of_strength(strength: Strength) -> u32 {
+    match strength {
+        Strength::Soft => 1,
+        Strength::Weak => 2,
+        Strength::Phantom => 3,
+    }
+}
+
+fn number_of_kind(kind: Kind) -> u32 {
+    match kind {
+        Kind::Plain => 0,
+        Kind::Reference(strength) => number_of_strength(strength),
+    }
+}
+
+fn number_of_reach(reach: Reach) -> u32 {
+    match reach {
+        Reach::Strong => 0,
+        Reach::Soft => 1,
+        Reach::Weak => 2,
+        Reach::Phantom => 3,
+        Reach::Unreachable => 4,
+    }
+}
+
+fn number_of_phase(phase: Phase) -> u32 {
+    match phase {
+        Phase::Idle => 0,
+        Phase::Marking => 1,
+        Phase::Clearing => 2,
+        Phase::Sweeping => 3,
+    }
+}
+
+/// Strength, referent, stamp and queue. No object has the number 0, and where there is no queue the last is 1.
+fn numbers_of_reference(reference: Reference) -> [u64; 5] {
+    let strength = u64::from(number_of_strength(reference.strength));
+    let referent = reference.referent.map_or(0, |no| u64::from(no.0));
+    let queue = reference.queue.map_or(0, |queue| u64::from(queue.0));
+    let has_no_queue = u64::from(reference.queue.is_none());
+    [strength, referent, reference.stamp, queue, has_no_queue]
+}
+
+fn numbers_of_size(config: Config) -> [u64; 5] {
+    let (mutators, workers) = (u64::from(config.mutators), u64::from(config.workers));
+    let (queues, cells) = (u64::from(config.queues), u64::from(config.cells));
+    [mutators, workers, queues, cells, config.span]
+}
+
+/// Reference and queue, and of a cycle's notice 1, the cycle and the worker.
+fn numbers_of_notice(object: u32, queue: u32, cause: Cause) -> [u64; 5] {
+    let (object, queue) = (u64::from(object), u64::from(queue));
+    match cause {
+        Cause::Own => [object, queue, 0, 0, 0],
+        Cause::Cycle(cycle, worker) => [object, queue, 1, cycle, u64::from(worker.0)],
+    }
+}
+
+fn numbers_of_slip(slip: Slip, fault: u32) -> [u64; 5] {
+    [
+        u64::from(slip.obj().0),
+        u64::from(slip.queue().0),
+        u64::from(fault),
+        0,
+        0,
+    ]
 }
 
 pub fn done(answer: Result<(), Fault>) -> Told {

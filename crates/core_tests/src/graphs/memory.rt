@@ -1,8 +1,9 @@
 //! Graphs and searches whose memory runs out.
 
 use super::Call::{Count, Plain, Refer, Root, StrengthOf};
-use super::{Call, Told, answer, make_calls, strength};
+use super::{Call, answer, make_calls, strength};
 use crate::arena::limited;
+use crate::told::{Told, expect};
 use ref_base::{Fault, Graph, ObjNo, Reach, Strength, strengths};
 use std::alloc::{AllocError, Allocator, Global};
 use std::process::Abort;
@@ -29,7 +30,7 @@ const NINE: [Option<u32>; 9] = [None; 9];
 /// last.
 fn told_last(count: u32) -> [(Call, Told); 3] {
     [
-        (Count, Told::Count(count as usize)),
+        (Count, Told::Count(count as u64)),
         (
             Refer(count, Strength::Weak, None, &[]),
             Told::Refused(Fault::NoMemory),
@@ -69,8 +70,8 @@ fn an_add_without_memory_changes_nothing(rt: HostRuntime) -> Result<(), Fail> {
 fn add_roots<A: Allocator + Copy>(rt: &impl Abort, alloc: Global, graph: &mut Graph<A>) -> u32 {
     for no in 0..1_000 {
         let told = answer(alloc, graph, Root(no));
-        if told != Told::Added {
-            assert_eq!(rt; told, Told::Refused(Fault::NoMemory));
+        if !told.is(Told::New) {
+            expect(rt, no as usize, told, Told::Refused(Fault::NoMemory));
             return no;
         }
     }
@@ -113,11 +114,11 @@ fn is_told(
     let memory = limited(alloc, size)?;
     let told = strength(&memory, graph, 199);
     let no_such_object = Told::Refused(Fault::NoSuchObject);
-    assert_eq!(rt; strength(&memory, graph, 200), no_such_object);
-    if told == Told::Strength(Reach::Strong) {
+    expect(rt, 200, strength(&memory, graph, 200), no_such_object);
+    if told.is(Told::Strength(Reach::Strong)) {
         return Ok(true);
     }
-    assert_eq!(rt; told, Told::Refused(Fault::NoMemory));
+    expect(rt, 199, told, Told::Refused(Fault::NoMemory));
     Ok(false)
 }
 

@@ -1,22 +1,23 @@
 //! What is added, and how strongly it is reachable then.
 
 use super::Call::{Count, Listed, Plain, Refer, Root, StrengthOf};
-use super::{Call, Told, agree, agree_after};
+use super::{Call, agree, agree_after};
+use crate::told::Told;
 use ref_base::{Fault, Reach, Strength};
 
 /// A root and its three references, one of each strength, with an object behind each, and more behind two of those.
 const EXAMPLE: [(Call, Told); 11] = [
-    (Root(1), Told::Added),
-    (Plain(10, &[]), Told::Added),
-    (Plain(1, &[Some(2), None, Some(4), Some(6)]), Told::Added),
-    (Refer(2, Strength::Soft, Some(3), &[]), Told::Added),
-    (Plain(3, &[]), Told::Added),
-    (Refer(4, Strength::Weak, Some(5), &[]), Told::Added),
-    (Plain(5, &[Some(8)]), Told::Added),
-    (Refer(6, Strength::Phantom, Some(7), &[]), Told::Added),
-    (Plain(7, &[Some(9)]), Told::Added),
-    (Plain(9, &[]), Told::Added),
-    (Plain(8, &[]), Told::Added),
+    (Root(1), Told::New),
+    (Plain(10, &[]), Told::New),
+    (Plain(1, &[Some(2), None, Some(4), Some(6)]), Told::New),
+    (Refer(2, Strength::Soft, Some(3), &[]), Told::New),
+    (Plain(3, &[]), Told::New),
+    (Refer(4, Strength::Weak, Some(5), &[]), Told::New),
+    (Plain(5, &[Some(8)]), Told::New),
+    (Refer(6, Strength::Phantom, Some(7), &[]), Told::New),
+    (Plain(7, &[Some(9)]), Told::New),
+    (Plain(9, &[]), Told::New),
+    (Plain(8, &[]), Told::New),
 ];
 
 #[test]
@@ -67,10 +68,10 @@ fn a_new_graph_has_no_objects(rt: HostRuntime) {
 #[test]
 fn a_number_is_added_once(rt: HostRuntime) {
     let story = [
-        (Root(1), Told::Added),
+        (Root(1), Told::New),
         (Root(1), Told::Before),
-        (Plain(1, &[Some(2)]), Told::Added),
-        (Plain(2, &[]), Told::Added),
+        (Plain(1, &[Some(2)]), Told::New),
+        (Plain(2, &[]), Told::New),
         // Neither takes the field away that leads to 2.
         (Plain(1, &[]), Told::Before),
         (Refer(1, Strength::Weak, None, &[]), Told::Before),
@@ -93,8 +94,8 @@ fn an_object_has_at_most_eight_fields(rt: HostRuntime) {
             Told::Refused(Fault::BadField),
         ),
         (Count, Told::Count(0)),
-        (Plain(1, &EIGHT), Told::Added),
-        (Refer(3, Strength::Soft, None, &EIGHT), Told::Added),
+        (Plain(1, &EIGHT), Told::New),
+        (Refer(3, Strength::Soft, None, &EIGHT), Told::New),
         // That there are too many fields is told before that the number is there.
         (Plain(1, &NINE), Told::Refused(Fault::BadField)),
     ];
@@ -104,13 +105,13 @@ fn an_object_has_at_most_eight_fields(rt: HostRuntime) {
 #[test]
 fn a_number_without_an_object_is_on_no_path(rt: HostRuntime) {
     let story = [
-        (Root(1), Told::Added),
-        (Plain(2, &[]), Told::Added),
+        (Root(1), Told::New),
+        (Plain(2, &[]), Told::New),
         // The root has no object, so no path begins there, and 2 is no root.
         (StrengthOf(1), Told::Refused(Fault::NoSuchObject)),
         (StrengthOf(2), Told::Strength(Reach::Unreachable)),
         // As it gets one, a path begins there, whose second step leads nowhere.
-        (Plain(1, &[Some(3), Some(2)]), Told::Added),
+        (Plain(1, &[Some(3), Some(2)]), Told::New),
         (StrengthOf(1), Told::Strength(Reach::Strong)),
         (StrengthOf(2), Told::Strength(Reach::Strong)),
         (StrengthOf(3), Told::Refused(Fault::NoSuchObject)),
@@ -121,15 +122,15 @@ fn a_number_without_an_object_is_on_no_path(rt: HostRuntime) {
 #[test]
 fn the_strongest_path_counts(rt: HostRuntime) {
     let story = [
-        (Root(1), Told::Added),
-        (Root(2), Told::Added),
-        (Refer(1, Strength::Weak, Some(3), &[]), Told::Added),
-        (Refer(2, Strength::Soft, Some(3), &[]), Told::Added),
+        (Root(1), Told::New),
+        (Root(2), Told::New),
+        (Refer(1, Strength::Weak, Some(3), &[]), Told::New),
+        (Refer(2, Strength::Soft, Some(3), &[]), Told::New),
         // A soft object whose weak reference leads to 4, and a phantom reference that is itself weakly reachable.
-        (Refer(3, Strength::Weak, Some(4), &[]), Told::Added),
-        (Refer(4, Strength::Phantom, Some(5), &[]), Told::Added),
-        (Refer(5, Strength::Phantom, Some(6), &[]), Told::Added),
-        (Plain(6, &[]), Told::Added),
+        (Refer(3, Strength::Weak, Some(4), &[]), Told::New),
+        (Refer(4, Strength::Phantom, Some(5), &[]), Told::New),
+        (Refer(5, Strength::Phantom, Some(6), &[]), Told::New),
+        (Plain(6, &[]), Told::New),
         (StrengthOf(3), Told::Strength(Reach::Soft)),
         (StrengthOf(4), Told::Strength(Reach::Weak)),
         (StrengthOf(5), Told::Strength(Reach::Phantom)),

@@ -1,8 +1,9 @@
 //! Queues whose memory runs out.
 
 use super::Call::{Close, EnqueuedAt, Poll, Put, StandsAt, TakenAt};
-use super::{Call, Slip, Told, answer, make_calls, of};
+use super::{Call, Slip, answer, make_calls, of};
 use crate::arena::limited;
+use crate::told::{Told, expect};
 use ref_base::{Fault, QueueNo};
 use ref_queue::Queue;
 use std::alloc::{Allocator, Global};
@@ -14,8 +15,13 @@ fn fill<A: Allocator + Copy>(rt: &impl Abort, alloc: Global, queue: &mut Queue<S
     for object in 0..1_000 {
         let slip = of(object);
         let told = answer(alloc, queue, Put(slip));
-        if told != Told::Added(object as u64) {
-            assert_eq!(rt; told, Told::Refused(Fault::NoMemory, slip));
+        if !told.is(Told::Added(object as u64)) {
+            expect(
+                rt,
+                object as usize,
+                told,
+                Told::NotPut(Fault::NoMemory, slip),
+            );
             return object;
         }
     }
@@ -63,8 +69,8 @@ fn a_put_without_memory_changes_nothing(rt: HostRuntime) -> Result<(), Fail> {
 fn told_last(next: Slip) -> [(Call, Told); 5] {
     let stray = Slip { queue: 1, ..next };
     [
-        (Put(next), Told::Refused(Fault::NoMemory, next)),
-        (Put(stray), Told::Refused(Fault::WrongQueue, stray)),
+        (Put(next), Told::NotPut(Fault::NoMemory, next)),
+        (Put(stray), Told::NotPut(Fault::WrongQueue, stray)),
         (Put(of(0)), Told::Already(of(0))),
         (Close, Told::ClosesNow),
         (Put(next), Told::TooLate(next)),
@@ -91,9 +97,9 @@ fn lists_without_memory_are_refused(rt: HostRuntime) -> Result<(), Fail> {
     }
     let tiny = limited(rt.alloc(), 64)?;
     let refused = [
-        (EnqueuedAt(0), Told::NoList(Fault::NoMemory)),
-        (TakenAt(0), Told::NoList(Fault::NoMemory)),
-        (StandsAt(0), Told::NoList(Fault::NoMemory)),
+        (EnqueuedAt(0), Told::Refused(Fault::NoMemory)),
+        (TakenAt(0), Told::Refused(Fault::NoMemory)),
+        (StandsAt(0), Told::Refused(Fault::NoMemory)),
     ];
     make_calls(&rt, &tiny, &mut queue, &refused);
     Ok(())

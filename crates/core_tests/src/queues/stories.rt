@@ -1,7 +1,8 @@
 //! What a queue takes, and what it gives out.
 
 use super::Call::{Close, EnqueuedAt, Poll, Put, StandsAt, TakenAt};
-use super::{Slip, Told, agree, of};
+use super::{Slip, agree, of};
+use crate::told::Told;
 use ref_base::Fault;
 
 #[test]
@@ -57,7 +58,7 @@ fn a_slip_for_another_queue_comes_back(rt: HostRuntime) {
         queue: 1,
     };
     let story = [
-        (Put(stray), Told::Refused(Fault::WrongQueue, stray)),
+        (Put(stray), Told::NotPut(Fault::WrongQueue, stray)),
         // It wasn't put in, so one of that number still may be.
         (Put(of(7)), Told::Added(0)),
     ];
