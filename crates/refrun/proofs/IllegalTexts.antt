@@ -21,6 +21,7 @@ use Rattle.refrun.specs.Lines.{words_of}
 use Rattle.refrun.specs.Listings.{PrintsStrengths, listing_text}
 use Rattle.refrun.specs.ScriptRuns.{Jobs, IsScriptRun, IsScriptTrace, first_jobs}
 use Rattle.refrun.specs.Spelling.{SpellsScriptStep}
+use Rattle.refrun.specs.StressChecks.{IsFirstFailure}
 use Rattle.refrun.specs.Traces.{trace_text}
 use Rattle.refrun.specs.declared.script_step.ScriptReply.{ScriptReply}
 use Rattle.refrun.specs.declared.script_step.ScriptReply.TheVariants as replies
@@ -175,3 +176,9 @@ an_object_is_listed_by_its_number printed prints =
     let graph = one_graph _ prints.graph lone_object prints.declares it_is_declared in
     let all = prints.lists.strengths.all ∙ ap (λ g. numbers g.objects) graph in
     ap (take 2) prints.lists.is_text ∙ a_lone_object prints.lists.listed all
+
+-- ---- lists
+
+-- a poller that took 3 before 2 doesn't pass where 2 was put in before 3
+another_order_does_not_pass : ¬ (IsFirstFailure (2 ∷ 3 ∷ []) (2 ∷ 3 ∷ []) [] ((3 ∷ 2 ∷ []) ∷ []) None)
+another_order_does_not_pass passes = let in_order = passes.1 0 [] (omega arith) in absurd cc

@@ -23,3 +23,5 @@ mod step_lines;
 mod stress_cases;
 #[cfg(test)]
 mod texts;
+#[cfg(test)]
+mod uses;
