@@ -3,36 +3,45 @@
 use crate::answer::Kind;
 use std::fmt;
 
-/// How many texts were run and are as told, how many of them are faulty, and how many files aren't as told.
+/// How many texts of a kind are as told, and how many of them are faulty.
+#[derive(Drop)]
+struct Count {
+    all: u32,
+    faulty: u32,
+}
+
+impl Count {
+    /// One more.
+    fn add(&mut self, is_faulty: bool) {
+        self.all = self.all.saturating_add(1);
+        if is_faulty {
+            self.faulty = self.faulty.saturating_add(1);
+        }
+    }
+}
+
+/// How many texts of each kind are as told, and how many texts and other files aren't.
 #[derive(Drop)]
 pub struct Counts {
-    scripts: u32,
-    faulty_scripts: u32,
-    graphs: u32,
-    faulty_graphs: u32,
+    scripts: Count,
+    graphs: Count,
     pub wrong: u32,
 }
 
 impl Counts {
     pub fn new() -> Counts {
         Counts {
-            scripts: 0,
-            faulty_scripts: 0,
-            graphs: 0,
-            faulty_graphs: 0,
+            scripts: Count { all: 0, faulty: 0 },
+            graphs: Count { all: 0, faulty: 0 },
             wrong: 0,
         }
     }
 
     /// One more text that is as told.
     pub fn add(&mut self, kind: Kind, is_faulty: bool) {
-        let (texts, faulty) = match kind {
-            Kind::Script => (&mut self.scripts, &mut self.faulty_scripts),
-            Kind::Graph => (&mut self.graphs, &mut self.faulty_graphs),
-        };
-        *texts = texts.saturating_add(1);
-        if is_faulty {
-            *faulty = faulty.saturating_add(1);
+        match kind {
+            Kind::Script => self.scripts.add(is_faulty),
+            Kind::Graph => self.graphs.add(is_faulty),
         }
     }
 
@@ -47,7 +56,7 @@ impl fmt::Display for Counts {
         write!(
             f,
             "{} scripts, {} of them faulty, and {} graph texts, {} of them faulty, are as told",
-            self.scripts, self.faulty_scripts, self.graphs, self.faulty_graphs
+            self.scripts.all, self.scripts.faulty, self.graphs.all, self.graphs.faulty
         )?;
         if self.wrong > 0 {
             write!(f, ", and {} are NOT", self.wrong)?;
