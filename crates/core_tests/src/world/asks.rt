@@ -1,5 +1,8 @@
 //! What is asked of a world beside its steps: the reference in a slot, and what a queue has.
 
+ghost use Rattle.std.specs.Prelude.{◌≡◌, IfOk, length};
+ghost use Rattle.ref_world.specs.Cores.{queue_at};
+
 use super::rows::{M, PUT, RELEASE, new, object, own, poll, took, unhook, weak};
 use super::{CONFIG, do_steps};
 use ref_base::{Config, Fault, MutNo, ObjNo, QueueNo, Reply, SlotNo};
@@ -19,6 +22,18 @@ pub struct Lists<'a> {
     pub stands: &'a [u32],
 }
 
+/// How many notices stand in the queue of this number.
+fn standing_in<A: Allocator + Copy>(
+    alloc: Global,
+    world: &World<A>,
+    no: QueueNo,
+) -> Result<usize, Fault>
+    ensures { IfOk result (λ count. count ≡ length (queue_at world.now no).stands) }
+{
+    let standing = world.queue(no)?.stands(alloc)?;
+    Ok(standing.len())
+}
+
 /// Just these numbers, in this order.
 fn are(rt: &impl Abort, list: &[ObjNo], want: &[u32]) {
     assert_eq!(rt; list.len(), want.len(), "so many");
@@ -36,6 +51,8 @@ pub fn have_lists<A: Allocator + Copy>(
 ) -> Result<(), Fail> {
     let mut number = QueueNo(0);
     for want in queues {
+        let count = standing_in(alloc, world, number)?;
+        assert_eq!(rt; count, want.stands.len(), "so many stand");
         let queue = world.queue(number)?;
         are(rt, &queue.enqueued(alloc)?, want.enqueued);
         are(rt, &queue.taken(alloc)?, want.taken);
