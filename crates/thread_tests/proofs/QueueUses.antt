@@ -47,7 +47,7 @@ pub closes_again : (u v w : QueueView) (number : ℕ) (was : Bool) (result : Res
 closes_again u v w number was (Ok is) last first then run =
     let front : List QueueEntry = v.seen ++ then.1.0 in
     let parts = leads_cut IsQueueMove front (entry v.number steps.Close (replies.Closed is) ∷ []) (new_queue number) last
-        (subst (λ (l : List QueueEntry). IsQueueRun number l last) then.1.1 run) in
+    (subst (λ (l : List QueueEntry). IsQueueRun number l last) then.1.1 run) in
     let shut = closed_later v.seen then.1.0 (has_closed u v was first) in
     parts.2.1.0 ∙ ap not ((keeps_lists number front parts.0 parts.1).closed_is ∙ shut)
 closes_again u v w number was (Err fault) last first then run = tt

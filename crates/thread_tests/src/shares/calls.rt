@@ -18,7 +18,7 @@ use ref_turn::TurnFault;
 use ref_world::HeapReply;
 use std::alloc::{Allocator, Global};
 use std::sync::Wait;
-use std::{mem, slice};
+use std::{fmt, mem, slice};
 
 /// A step of the heap that takes no hold along.
 #[derive(Clone, Copy)]
@@ -76,8 +76,9 @@ pub enum Call {
     DeliverNowhere,
 }
 
-/// What a call was answered.
-#[derive(Clone, Copy, Debug, PartialEq, Eq)]
+/// What a call was answered. It is printed by its word and its numbers: a derive for so many variants would be dearer to
+/// prove than its stories.
+#[derive(Clone, Copy, PartialEq, Eq)]
 pub enum Told {
     Reply(Reply),
     Served(u64),
@@ -100,6 +101,62 @@ pub enum Told {
     NotReleased(u32, Fault),
     /// An answer that no story expects.
     Else,
+}
+
+impl Told {
+    /// What kind of answer it is: a word of its own for each.
+    fn word(&self) -> &'static str {
+        match *self {
+            Told::Reply(_) => "reply",
+            Told::Served(_) => "served",
+            Told::Added(_) => "added",
+            Told::Already => "already",
+            Told::TooLate => "too late",
+            Told::Enqueued(_) => "enqueued",
+            Told::Delivered(Delivery::Nothing) => "delivered nothing",
+            Told::Delivered(Delivery::Added(..)) => "delivered",
+            Told::Delivered(Delivery::Dropped(_)) => "dropped",
+            Told::Took(_) => "took",
+            Told::Empty => "empty",
+            Told::Closed => "closed",
+            Told::TimedOut => "timed out",
+            Told::WasOpen(_) => "was open",
+            Told::Refused(_) => "refused",
+            Told::Busy => "busy",
+            Told::NotPut(..) => "not put",
+            Told::NotReleased(..) => "not released",
+            Told::Else => "else",
+        }
+    }
+
+    /// What it tells, in numbers: a fault by its number, and yes by 1.
+    fn numbers(&self) -> [u64; 3] {
+        match *self {
+            Told::Served(count) | Told::Added(count) => [count, 0, 0],
+            Told::Enqueued(is) | Told::WasOpen(is) => [u64::from(is), 0, 0],
+            Told::Delivered(Delivery::Added(object, queue, position)) => {
+                [u64::from(object.0), u64::from(queue.0), position]
+            }
+            Told::Delivered(Delivery::Dropped(object)) => [u64::from(object.0), 0, 0],
+            Told::Took(object) => [u64::from(object), 0, 0],
+            Told::Refused(fault) => [u64::from(fault.number()), 0, 0],
+            Told::NotPut(object, fault) | Told::NotReleased(object, fault) => {
+                [u64::from(object), u64::from(fault.number()), 0]
+            }
+            _ => [0; 3],
+        }
+    }
+}
+
+impl fmt::Debug for Told {
+    fn fmt<W: fmt::Write>(&self, f: &mut fmt::Formatter<W>) -> fmt::Result {
+        if let Told::Reply(reply) = self {
+            return fmt::Debug::fmt(reply, f);
+        }
+        let word = self.word();
+        let numbers = self.numbers();
+        write!(f, "{word} {numbers:?}")
+    }
 }
 
 pub fn step_of(step: Do) -> HeapStep<Hold> {

@@ -16,7 +16,7 @@ use crate::shares::calls::{Ask, Call, Seats, Told};
 use crate::shares::cleaners::hearing::Hearing;
 use crate::shares::cleaners::left_in;
 use crate::shares::{CONFIG, M, Q, make_calls, new, weak};
-use ref_base::SlotNo;
+use ref_base::{ObjNo, SlotNo};
 use ref_queue::{Action, Job};
 use ref_share::{
     CleanSeat, Cleanable, Cleaned, Gate, HeapSeat, QueueSeat, SharedCleaner, SharedHeap,
@@ -110,9 +110,7 @@ fn releases_twice_for_each_job<R: Wait, G: Gate>(
 }
 
 /// The job of this number, which answers 1000 more.
-fn job(alloc: Global, number: u64) -> Result<Job, AllocError>
-    requires { number < 2 ^ 32 }
-{
+fn job(alloc: Global, number: u32) -> Result<Job, AllocError> {
     let action: Action = Box::new(
         alloc,
         |number: u64| -> u64
@@ -120,6 +118,7 @@ fn job(alloc: Global, number: u64) -> Result<Job, AllocError>
             ensures { result ≡ number + 1000 }
         { number + 1000 },
     )?;
+    let number = u64::from(number);
     Ok(Job::new(number, number + 1000, action))
 }
 
@@ -131,7 +130,7 @@ fn cleaned_twice<R: Wait + Abort>(
     seats: &mut Seats,
     seat: &mut CleanSeat,
     jobs: (Job, Job),
-) -> (Option<u32>, Option<bool>, Option<bool>)
+) -> ([Option<Cleanable>; 2], Option<bool>, Option<bool>)
     requires { IsHeapSeat shared.0.now seats.old.heap × IsQueueSeat shared.1.now seats.old.queue
         × IsCleanSeat shared.2.now.turn seat.old.seat }
     ensures { IsQueueSeat shared.entry.1.now seats.new.queue × IsCleanSeat shared.entry.2.now.turn seat.new.seat }
@@ -139,12 +138,8 @@ fn cleaned_twice<R: Wait + Abort>(
     let (heap, queue, cleaner) = shared;
     make_calls(rt, heap, queue, seats, &[new(0, 1)]);
     let first = holds_the_reference(rt, cleaner, seat, heap, &mut seats.heap, jobs.0);
-    let retired = match first {
-        Some(cleanable) => {
-            retires_what_it_cleans(rt, cleaner, seat, heap, &mut seats.heap, cleanable)
-        }
-        None => None,
-    };
+    let cleanable = Cleanable { obj: ObjNo(2) };
+    let retired = retires_what_it_cleans(rt, cleaner, seat, heap, &mut seats.heap, cleanable);
     let second = holds_the_reference(rt, cleaner, seat, heap, &mut seats.heap, jobs.1);
     let calls = [
         weak(2, 0, 4),
@@ -161,7 +156,7 @@ fn cleaned_twice<R: Wait + Abort>(
     let enough = releases_twice_for_each_job(
         rt, cleaner, seat, heap, heap_seat, queue, queue_seat, &hearing,
     );
-    (second.map(|cleanable| cleanable.obj.0), retired, enough)
+    ([first, second], retired, enough)
 }
 
 #[test]
@@ -181,10 +176,22 @@ fn a_cleaner_makes_its_calls_of_the_heap(rt: HostRuntime) -> Result<(), Fail> {
         heap: heap_seat,
         queue: queue_seat,
     };
-    let told = cleaned_twice(&rt, (&heap, &queue, &cleaner), &mut seats, &mut seat, jobs);
+    let (held, retired, enough) = cleaned_twice(
+        &rt,
+        (&heap, &queue, &cleaner),
+        &mut seats,
+        &mut seat,
+        jobs,
+    );
     end(queue.finish(seats.queue));
     let left = left_in(cleaner.finish(seat));
-    assert_eq!(rt; told, (Some(3), Some(true), Some(true)));
-    assert_eq!(rt; left, Some(0));
+    let want = [
+        Some(Cleanable { obj: ObjNo(2) }),
+        Some(Cleanable { obj: ObjNo(3) }),
+    ];
+    assert_eq!(rt;
+        (held, retired, enough, left),
+        (want, Some(true), Some(true), Some(0))
+    );
     Ok(())
 }

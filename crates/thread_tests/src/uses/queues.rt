@@ -19,7 +19,11 @@ use std::sync::Wait;
 use std::test::Fail;
 
 /// A second close tells that the queue was closed.
-fn closes_once<R: Wait>(rt: &R, queue: &SharedQueue, seat: &mut QueueSeat) -> Result<bool, ShareFault>
+fn closes_once<R: Wait>(
+    rt: &R,
+    queue: &SharedQueue,
+    seat: &mut QueueSeat,
+) -> Result<bool, ShareFault>
     requires { IsQueueSeat queue.now seat.old }
     ensures seat { IsQueueSeat queue.now seat.new }
     ensures once { IfOk result (λ was_open. was_open ≡ false) }
@@ -58,7 +62,8 @@ fn tells_that_turns_are_spent<R: Wait>(
 ) -> bool
     requires seat { IsQueueSeat queue.now seat.old }
     requires last { (queue_view seat.old).first ≡ 2 ^ 64 - 1 }
-    ensures { result ≡ true }
+    ensures seat { IsQueueSeat queue.now seat.new }
+    ensures told { result ≡ true }
 {
     let answer = queue.put(rt, seat, notice);
     queue.served(seat);

@@ -13,6 +13,7 @@ use ref_share::{
     CleanSeat, Cleanable, Cleaned, ShareFault, SharedCleaner, SharedHeap, SharedQueue,
 };
 use std::collections::VecDeque;
+use std::fmt;
 use std::sync::Wait;
 
 /// What threads share.
@@ -45,8 +46,8 @@ pub enum Act {
     Served,
 }
 
-/// What it is told.
-#[derive(Clone, Copy, Debug, PartialEq, Eq)]
+/// What it is told. It is printed by its word and its numbers.
+#[derive(Clone, Copy, PartialEq, Eq)]
 pub enum Answer {
     /// By heap or queue, or why the cleaner refuses.
     Share(Told),
@@ -64,6 +65,51 @@ pub enum Answer {
     Ended(u64),
     /// The story has no job left.
     NoJob,
+}
+
+impl Answer {
+    /// What kind of answer it is: a word of its own for each.
+    fn word(&self) -> &'static str {
+        match *self {
+            Answer::Share(_) => "",
+            Answer::Registered(_) => "registered",
+            Answer::NotRegistered(..) => "not registered",
+            Answer::Gone => "gone",
+            Answer::Ran(..) => "ran",
+            Answer::RanUnheld(..) => "ran unheld",
+            Answer::Ended(_) => "ended",
+            Answer::NoJob => "no job",
+        }
+    }
+
+    /// What it tells, in numbers.
+    fn numbers(&self) -> [u64; 3] {
+        match *self {
+            Answer::Registered(object) => [u64::from(object), 0, 0],
+            Answer::NotRegistered(job, _) => [job, 0, 0],
+            Answer::Ran(number, answer) => [number, answer, 0],
+            Answer::RanUnheld(number, answer, object) => [number, answer, u64::from(object)],
+            Answer::Ended(count) => [count, 0, 0],
+            _ => [0; 3],
+        }
+    }
+
+    /// What heap, queue or the cleaner's refusal told.
+    fn told(&self) -> Option<Told> {
+        match *self {
+            Answer::Share(told) | Answer::NotRegistered(_, told) => Some(told),
+            _ => None,
+        }
+    }
+}
+
+impl fmt::Debug for Answer {
+    fn fmt<W: fmt::Write>(&self, f: &mut fmt::Formatter<W>) -> fmt::Result {
+        let word = self.word();
+        let numbers = self.numbers();
+        let told = self.told();
+        write!(f, "{word} {numbers:?} {told:?}")
+    }
 }
 
 /// Why the cleaner refuses a call.

@@ -2,8 +2,8 @@ use Rattle.ref_share.specs.HeapSeats.{heap_view}
 use Rattle.thread_tests.proofs.LoopUses.{half}
 use Rattle.thread_tests.proofs.uses.cleaners.releases_twice_for_each_job.Goals as goal
 
-pub returns-in-Ok : goal.returns-in-Ok
-returns-in-Ok g c =
+pub returns-in-Ok-clause-enough : goal.returns-in-Ok-clause-enough
+returns-in-Ok-clause-enough g c =
     let goes = c.in-Ok.ensures.goes in
     let before = c.served-before.ensures in
     let after = c.served.ensures in
