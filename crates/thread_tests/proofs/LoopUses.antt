@@ -4,7 +4,7 @@ use Rattle.std.proofs.Common.{refl, sym, ap, ◌∙◌, subst, arith}
 use Rattle.ref_base.specs.declared.heap_step.HoldName.{HoldName}
 use Rattle.ref_turn.proofs.Logs.{calls_by-append, calls_by-shorter}
 use Rattle.ref_turn.specs.History.{calls_by}
-use Rattle.ref_share.specs.CleanLoops.{Round, all_of, job_in, job_released, jobs_run, released, releases_in}
+use Rattle.ref_share.specs.CleanLoops.{Round, all_of, job_in, job_released, jobs_run, releases_in}
 use Rattle.ref_share.specs.HeapSeats.{HeapView, HeapEntry}
 use Rattle.ref_share.specs.SeatCalls.{Made}
 use Rattle.ref_turn.specs.Seats.{Longer}

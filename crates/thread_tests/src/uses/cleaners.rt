@@ -16,13 +16,13 @@ use crate::shares::calls::{Ask, Call, Seats, Told};
 use crate::shares::cleaners::hearing::Hearing;
 use crate::shares::cleaners::left_in;
 use crate::shares::{CONFIG, M, Q, make_calls, new, weak};
-use ref_base::{ObjNo, SlotNo};
+use ref_base::{Fault, ObjNo, SlotNo};
 use ref_queue::{Action, Job};
 use ref_share::{
     CleanSeat, Cleanable, Cleaned, Gate, HeapSeat, QueueSeat, SharedCleaner, SharedHeap,
     SharedQueue,
 };
-use std::alloc::{AllocError, Global};
+use std::alloc::Global;
 use std::process::Abort;
 use std::sync::Wait;
 use std::test::Fail;
@@ -109,19 +109,6 @@ fn releases_twice_for_each_job<R: Wait, G: Gate>(
     }
 }
 
-/// The job of this number, which answers 1000 more.
-fn job(alloc: Global, number: u32) -> Result<Job, AllocError> {
-    let action: Action = Box::new(
-        alloc,
-        |number: u64| -> u64
-            requires { number < 2 ^ 32 }
-            ensures { result ≡ number + 1000 }
-        { number + 1000 },
-    )?;
-    let number = u64::from(number);
-    Ok(Job::new(number, number + 1000, action))
-}
-
 /// The first job is cleaned by hand, and the second by the loop, behind a notice that has no job. Which references the
 /// jobs had, and whether the heap made the steps for both.
 fn cleaned_twice<R: Wait + Abort>(
@@ -159,17 +146,27 @@ fn cleaned_twice<R: Wait + Abort>(
     ([first, second], retired, enough)
 }
 
-#[test]
-fn a_cleaner_makes_its_calls_of_the_heap(rt: HostRuntime) -> Result<(), Fail> {
-    let alloc = rt.alloc();
-    let jobs = (job(alloc, 1)?, job(alloc, 2)?);
+/// The same on a new heap, queue and cleaner, and how many jobs are left.
+fn cleaned_anew<R: Wait + Abort>(
+    rt: &R,
+    alloc: Global,
+    jobs: (Job, Job),
+) -> Result<
+    (
+        [Option<Cleanable>; 2],
+        Option<bool>,
+        Option<bool>,
+        Option<u64>,
+    ),
+    Fault,
+> {
     let (heap, heap_seat) = SharedHeap::new(alloc, CONFIG, 0)?;
     let (cleaner, mut seat) = SharedCleaner::new(alloc, Q)?;
     let (queue, queue_seat) = match SharedQueue::new(alloc, Q) {
         Ok(made) => made,
         Err(fault) => {
             left_in(cleaner.finish(seat));
-            return Err(fault.into());
+            return Err(fault);
         }
     };
     let mut seats = Seats {
@@ -177,20 +174,39 @@ fn a_cleaner_makes_its_calls_of_the_heap(rt: HostRuntime) -> Result<(), Fail> {
         queue: queue_seat,
     };
     let (held, retired, enough) = cleaned_twice(
-        &rt,
+        rt,
         (&heap, &queue, &cleaner),
         &mut seats,
         &mut seat,
         jobs,
     );
     end(queue.finish(seats.queue));
-    let left = left_in(cleaner.finish(seat));
+    Ok((held, retired, enough, left_in(cleaner.finish(seat))))
+}
+
+#[test]
+fn a_cleaner_makes_its_calls_of_the_heap(rt: HostRuntime) -> Result<(), Fail> {
+    let first: Action = Box::new(
+        rt.alloc(),
+        |number: u64| -> u64
+            requires { number < 2 ^ 32 }
+            ensures { result ≡ number + 1000 }
+        { number + 1000 },
+    )?;
+    let second: Action = Box::new(
+        rt.alloc(),
+        |number: u64| -> u64
+            requires { number < 2 ^ 32 }
+            ensures { result ≡ number + 1000 }
+        { number + 1000 },
+    )?;
+    let jobs = (Job::new(1, 1001, first), Job::new(2, 1002, second));
     let want = [
         Some(Cleanable { obj: ObjNo(2) }),
         Some(Cleanable { obj: ObjNo(3) }),
     ];
     assert_eq!(rt;
-        (held, retired, enough, left),
+        cleaned_anew(&rt, rt.alloc(), jobs)?,
         (want, Some(true), Some(true), Some(0))
     );
     Ok(())
