@@ -3,3 +3,4 @@ pub mod Stays
 pub mod Keeps
 pub mod Comings
 pub mod Runs
+pub mod TableStates
