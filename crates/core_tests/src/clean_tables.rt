@@ -31,9 +31,10 @@ fn answer(table: &mut CleanTable<u64, u64>, call: Call) -> Told {
             Some((object, kept, job)) => Told::JobOf(object.0, kept, job),
             None => Told::Nothing,
         },
-        Call::First => table
-            .first()
-            .map_or(Told::Nothing, |object| Told::Object(object.0)),
+        Call::First => match table.first() {
+            Some(object) => Told::Object(object.0),
+            None => Told::Nothing,
+        },
         Call::Close => {
             table.close();
             Told::Done
