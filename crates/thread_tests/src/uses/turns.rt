@@ -1,6 +1,6 @@
 //! What the callers of a turn can prove.
 
-ghost use Rattle.std.specs.Prelude.{◌≡◌, ◌-◌, ◌^◌, ◌<◌, ℕ, [], ◌∷◌, true, false, IsTrue, IsFalse, IfOk};
+ghost use Rattle.std.specs.Prelude.{◌≡◌, ◌+◌, ◌-◌, ◌^◌, ◌<◌, ℕ, [], ◌∷◌, length, true, false, IsTrue, IsFalse, IfOk};
 ghost use Rattle.ref_turn.specs.History.{calls_by};
 ghost use Rattle.ref_turn.specs.Seats.{entry};
 ghost use Rattle.ref_turn.specs.Turns.{view, IsSeatOf};
@@ -8,43 +8,27 @@ ghost use Rattle.ref_turn.specs.Turns.{view, IsSeatOf};
 use crate::turns::count_from;
 use crate::turns::counter::Counter;
 use ref_base::Fault;
-use ref_turn::{Machine, Turn, TurnFault, TurnSeat};
+use ref_turn::{Turn, TurnFault, TurnSeat};
 use std::alloc::Global;
-use std::convert::Infallible;
 use std::sync::Wait;
 use std::test::Fail;
 
-/// A machine that can't be asked for anything.
-#[derive(Drop)]
-struct Still;
-
-impl Machine for Still {
-    type Step = Infallible;
-
-    type Reply = bool;
-
-    ghost State = { Unit {0} };
-
-    ghost stands_for = { λ m x. Unit {0} };
-
-    ghost moves = { λ x s r y. Unit {0} };
-
-    ghost acts = { λ m s r n. Unit {0} };
-
-    fn apply(&mut self, step: Infallible) -> bool {
-        match step {}
-    }
-
-    ghost follows = { λ m n s r did x is. (tt, tt, tt) };
+/// A turn has served the tickets that it began with.
+fn serves_what_it_began_with(alloc: Global, first: u64) -> Result<bool, Fault>
+    ensures { IfOk result (λ is_served. is_served ≡ true) }
+{
+    let machine = Counter { count: 0 };
+    let (turn, mut seat) = Turn::starting(alloc, machine, first).map_err(|(fault, _)| fault)?;
+    Ok(first <= turn.served(&mut seat))
 }
 
-/// A turn in which nothing can be done has served the tickets that it began with.
-#[tactic(auto, using(crate::proofs::NoSteps::nothing_stands))]
-fn serves_what_it_began_with(alloc: Global, first: u64) -> Result<u64, Fault>
-    ensures { IfOk result (λ served. served ≡ first) }
+/// And one more for each call that its seat has seen, and no other.
+fn serves_what_was_seen(turn: &Turn<Counter>, seat: &mut TurnSeat<Counter>) -> u64
+    requires { IsSeatOf turn.now seat.old }
+    ensures seat { IsSeatOf turn.now seat.new }
+    ensures count { result ≡ (view seat.new).first + length (view seat.new).seen }
 {
-    let (turn, mut seat) = Turn::starting(alloc, Still, first).map_err(|(fault, _)| fault)?;
-    Ok(turn.served(&mut seat))
+    turn.served(seat)
 }
 
 /// A call that was made is served.
@@ -113,7 +97,11 @@ fn a_turn_counts_what_is_called(rt: HostRuntime) -> Result<(), Fail> {
     for (fact, holds) in [
         (
             "it has served what it began with",
-            serves_what_it_began_with(alloc, 5) == Ok(5),
+            serves_what_it_began_with(alloc, 5) == Ok(true),
+        ),
+        (
+            "and nothing beside what was called",
+            serves_what_was_seen(&turn, &mut seat) == 5,
         ),
         (
             "it has served what was called",
