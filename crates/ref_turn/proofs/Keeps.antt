@@ -15,20 +15,22 @@ use Rattle.ref_turn.specs.declared.history.Stage.{Stage}
 use Rattle.ref_turn.specs.declared.history.Stage.TheVariants.{Fresh, Idle, Open, Met, Spent}
 use Rattle.ref_turn.specs.declared.history.View.{View}
 use Rattle.ref_turn.specs.History.{calls_by, StartsWith, Reaches, IsLegal}
-use Rattle.ref_turn.specs.Rule.{IsOpen, IsOwn, Knows, Turned}
+use Rattle.ref_turn.specs.Rule.{IsOpen, IsOwn, IsSpent, Knows, Turned}
 use Rattle.ref_turn.specs.Steps.{drew, named, Shows, added, looked, grabbed}
 use Rattle.ref_turn.proofs.Logs.{calls_by-none, starts_self, starts_length, starts_whole}
 use Rattle.ref_turn.proofs.Stays.{at_below, Rests, idle_rests, rests_own, rests_shut, rests_unspent}
-use Rattle.ref_turn.proofs.Stays.{none_within, none_open, settled, after, ended, differs}
+use Rattle.ref_turn.proofs.Stays.{none_within, none_open, settled, after, ended, differs, spent_other}
 
 module _ {M S R : Type 0} (log : List (Entry S R)) (served tickets : ℕ) (views : List (View M S R)) (seat : ℕ)
     (v : View M S R) where
-  shows : (st : Stage S R) → Knows log served tickets views seat v st → Shows log st
-  shows Fresh knows = tt
-  shows Idle knows = tt
-  shows Open knows = tt
-  shows (Met k seen mine) knows = (knows.1, knows.2)
-  shows Spent knows = tt
+  -- a seat that was taken in stands at another place
+  shows : (st : Stage S R) → ((k : ℕ) → IsSpent views k → k ≢ seat) → Knows log served tickets views seat v st
+      → Shows v.number log st
+  shows Fresh other knows = tt
+  shows Idle other knows = tt
+  shows Open other knows = tt
+  shows (Met k seen mine) other knows = ((λ is. other k knows.3 (is ∙ knows.0.0)), knows.1, knows.2)
+  shows Spent other knows = tt
 
 one_slot : {A : Type 0} (hs : List A) (x : A) → length hs ≡ 1 → set hs 0 x ≡ x ∷ []
 one_slot [] x one = absurd (omega arith)
@@ -124,7 +126,7 @@ module _ {M X S R : Type 0} (stands_for : M → X → Type 0) (moves : X → S �
           was.seen,
           subst (λ a. IsLegal stands_for moves a r.log) (sym (was.start unspent)) r.legal,
           ap (λ n. calls_by n r.log) own.0 ∙ own.1,
-          shows r.log r.served r.tickets s.views id v v.stage was.knows,
+          shows r.log r.served r.tickets s.views id v v.stage (spent_other s.views id v v at unspent) was.knows,
           refl,
         ),
       )

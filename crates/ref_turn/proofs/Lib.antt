@@ -4,3 +4,4 @@ pub mod Keeps
 pub mod Comings
 pub mod Runs
 pub mod TableStates
+mod SeatExamples

@@ -1,5 +1,5 @@
 -- What a call says of the views of seats.
-use Rattle.std.specs.Prelude.{◌≡◌, ℕ, ◌+◌, ◌<◌, List, [], ◌∷◌, ◌++◌, length, Some}
+use Rattle.std.specs.Prelude.{◌≡◌, ℕ, ◌+◌, ◌-◌, ◌^◌, ◌<◌, List, [], ◌∷◌, ◌++◌, length, Some}
 use Rattle.ref_turn.specs.declared.history.Entry.{Entry}
 use Rattle.ref_turn.specs.declared.history.View.{View}
 use Rattle.ref_turn.specs.History.{calls_by, StartsWith, Reaches, IsLegal}
@@ -37,9 +37,9 @@ module _ {M S R : Type 0} where
       × (calls_by v.number log ≡ v.mine)
       × Reaches stands_for moves v.start log m
 
-  -- it looked at the ended turns in this call, and more tickets were drawn than turns had ended
+  -- it looked at the ended turns in this call, and more tickets were drawn than turns had ended, but not the last
   abbrev pub SawBusy : View M S R → View M S R → Type 0
-  SawBusy v w = (v.looks < w.looks) × (w.first + length w.seen < w.drawn)
+  SawBusy v w = (v.looks < w.looks) × (w.first + length w.seen < w.drawn) × (w.drawn < 2 ^ 64 - 1)
 
   -- w is of a new seat, cut off one that has seen what v has
   abbrev pub Begins : View M S R → View M S R → Type 0

@@ -11,13 +11,13 @@ abbrev Known : Type 0 → Type 0 → Type 0 → Type 0
 Known M S R = Me (Option M) (View M S R)
 
 module _ {S R : Type 0} where
-  -- what a history shows of a seat that was taken in
-  abbrev pub Shows : List (Entry S R) → Stage S R → Type 0
-  Shows log Fresh = Unit {0}
-  Shows log Idle = Unit {0}
-  Shows log Open = Unit {0}
-  Shows log (Met k seen mine) = StartsWith log seen × (calls_by k log ≡ mine)
-  Shows log Spent = Unit {0}
+  -- what a history shows the seat of this number of one that it took in: that has another number
+  abbrev pub Shows : ℕ → List (Entry S R) → Stage S R → Type 0
+  Shows number log Fresh = Unit {0}
+  Shows number log Idle = Unit {0}
+  Shows number log Open = Unit {0}
+  Shows number log (Met k seen mine) = (k ≢ number) × StartsWith log seen × (calls_by k log ≡ mine)
+  Shows number log Spent = Unit {0}
 
 module _ {M S R : Type 0} where
   -- the tickets have reached r
@@ -67,7 +67,7 @@ module _ {M X S R : Type 0} (stands_for : M → X → Type 0) (moves : X → S �
       × StartsWith n.0.seen m.0.seen
       × IsLegal stands_for moves m.0.start n.0.seen
       × (calls_by m.0.number n.0.seen ≡ m.0.mine)
-      × Shows n.0.seen m.0.stage
+      × Shows m.0.number n.0.seen m.0.stage
       × (n ≡ (record m.0 { stage = Idle; seen = n.0.seen; looks = m.0.looks + 1 }, m.1))
 
   -- the turn was taken where the tickets were as expected, and else they have gone on

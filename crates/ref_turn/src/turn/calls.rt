@@ -1,6 +1,6 @@
 //! The public calls of a turn.
 
-ghost use Rattle.std.specs.Prelude.{◌≡◌, ◌⊎◌, ◌+◌, ◌-◌, ◌^◌, length, IfOk, IfErr};
+ghost use Rattle.std.specs.Prelude.{◌≡◌, ◌≢◌, ◌⊎◌, ◌+◌, ◌-◌, ◌^◌, length, IfOk, IfErr};
 ghost use Rattle.ref_base.specs.declared.fault.Fault.TheVariants.{NoMemory};
 ghost use Rattle.ref_turn.specs.declared.turn.TurnFault.TheVariants.{Busy, Spent};
 ghost use Rattle.ref_turn.specs.History.{calls_by, StartsWith};
@@ -143,7 +143,8 @@ impl<M: Machine, A: Allocator> Turn<M, A> {
         SeatOf { place }
     }
 
-    /// Takes in another seat: this one has then seen what either had. Takes no memory.
+    /// Takes in another seat: this one has then seen what either had. The two had two numbers, so that no entry is of
+    /// both. Takes no memory.
     pub fn join(&self, seat: &mut TurnSeat<M>, other: TurnSeat<M>)
         requires { IsSeatOf self.now seat.old × IsSeatOf self.now other }
         ensures turn { IsBeside seat.old seat.new }
@@ -151,6 +152,7 @@ impl<M: Machine, A: Allocator> Turn<M, A> {
         ensures history { IsHistory M.stands_for M.moves (view seat.new) }
         ensures other { StartsWith (view seat.new).seen (view other).seen
             × (calls_by (view other).number (view seat.new).seen ≡ (view other).mine) }
+        ensures two { (view other).number ≢ (view seat.old).number }
     {
         let words = &self.table.shared;
         words.join_seat::<TakeIn>(&mut seat.place, other.into_place());
