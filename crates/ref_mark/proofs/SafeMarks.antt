@@ -9,13 +9,34 @@ use Rattle.ref_base.specs.Graphs.{Graph, Object, is_there}
 use Rattle.ref_base.specs.Paths.{targets_at}
 use Rattle.ref_base.specs.KeptPaths.{is_kept, IsKept}
 use Rattle.ref_base.specs.DoomedSets.{unscanned, MayDoom}
+use Rattle.ref_base.specs.Worlds.{graph_of}
 use Rattle.ref_base.specs.Collectors.{State, joined}
 use Rattle.ref_base.proofs.PathLaws.{path_within}
-use Rattle.ref_mark.specs.CycleHeaps.{CycleHeap, policy_in, is_white, is_black}
+use Rattle.ref_mark.specs.CycleHeaps.{CycleHeap, policy_in, is_white, is_black, is_in_cycle}
 use Rattle.ref_objects.specs.Grounds.{unmarked}
-use Rattle.ref_mark.specs.Standing.{FactsBut, Coloured, Reached}
+use Rattle.ref_mark.specs.Standing.{FactsBut, Coloured, Reached, Stands}
 use Rattle.ref_mark.proofs.Shading.{not_white_marked}
 use Rattle.ref_mark.proofs.DoomedLists.{has-unmarked}
+
+-- ---- between any two steps of a cycle
+
+pub root_facts : (k : CycleHeap) (a : State) (n : ℕ) → Stands k a → is_in_cycle k.phase ≡ true
+    → has (graph_of a.world).roots n ≡ true → is_white k n ≡ false
+root_facts k a n stands begun root =
+    elim ((stands.facts begun).rooted n root) [
+      | inl other ↦ other
+      | inr listed ↦ absurd (false≢true listed)
+    ]
+
+pub edge_facts : (k : CycleHeap) (a : State) (m n : ℕ) → Stands k a → is_in_cycle k.phase ≡ true → is_black k m ≡ true
+    → has (targets_at (is_kept (policy_in k)) k.heap.objects m) n ≡ true → is_white k n ≡ false
+edge_facts k a m n stands begun black target =
+    elim ((stands.facts begun).closed m n black target) [
+      | inl other ↦ other
+      | inr listed ↦ absurd (false≢true listed)
+    ]
+
+-- ---- once nothing is grey
 
 -- where nothing is grey, what is there and marked is black
 pub marked_is_black : (k : CycleHeap) → k.grey ≡ [] → (n : ℕ) → is_there k.heap.objects n ≡ true → has k.marked n ≡ true

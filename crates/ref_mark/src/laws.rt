@@ -1,9 +1,14 @@
-//! What the calls of a heap in its cycles say together of the abstract collector.
+//! What the calls of a heap in its cycles say together of the abstract collector, and the two facts on which safe marking
+//! rests.
 
 ghost use Rattle.std.specs.Prelude.{◌≡◌, ℕ, true, false};
 ghost use Rattle.ref_base.specs.Collectors.{State};
 ghost use Rattle.ref_base.specs.HeapSteps.{NamedStep};
-ghost use Rattle.ref_mark.specs.CycleHeaps.{CycleHeap};
+ghost use Rattle.ref_base.specs.KeptPaths.{is_kept};
+ghost use Rattle.ref_base.specs.Members.{has};
+ghost use Rattle.ref_base.specs.Paths.{targets_at};
+ghost use Rattle.ref_base.specs.Worlds.{graph_of};
+ghost use Rattle.ref_mark.specs.CycleHeaps.{CycleHeap, policy_in, is_white, is_black, is_in_cycle};
 ghost use Rattle.ref_mark.specs.MarkCalls.{is_of_marking, names_freed};
 ghost use Rattle.ref_mark.specs.MarkRows.{IsRowOf, KeepsStanding};
 ghost use Rattle.ref_mark.specs.Standing.{Stands};
@@ -23,4 +28,17 @@ pub fn each_mint_keeps_standing()
 /// heap.
 pub fn no_slot_names_what_was_freed()
     ensures { (k : CycleHeap) (a : State) (m s : ℕ) → Stands k a → names_freed k m s ≡ false }
+{}
+
+/// Between any two steps of a cycle what a root names isn't white: what a slot holds, what is held, what is pending.
+pub fn what_a_root_names_is_not_white()
+    ensures { (k : CycleHeap) (a : State) (n : ℕ) → Stands k a → is_in_cycle k.phase ≡ true
+        → has (graph_of a.world).roots n ≡ true → is_white k n ≡ false }
+{}
+
+/// Nor does a strong field or a kept soft reference of a black object lead to a white one. So once nothing is grey, no
+/// kept path leads to what is white then, which is what the mark's end dooms.
+pub fn no_black_object_leads_to_a_white_one()
+    ensures { (k : CycleHeap) (a : State) (m n : ℕ) → Stands k a → is_in_cycle k.phase ≡ true → is_black k m ≡ true
+        → has (targets_at (is_kept (policy_in k)) k.heap.objects m) n ≡ true → is_white k n ≡ false }
 {}
