@@ -1,2 +1,3 @@
 pub mod QueueLemmas
 pub mod TableLemmas
+mod Examples

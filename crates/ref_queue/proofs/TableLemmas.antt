@@ -1,6 +1,7 @@
 -- What lookups in a cleaner's table say.
 use Rattle.std.proofs.Common.{◌≡◌, ℕ, Bool, false, List, [], ◌∷◌, Option, None, Some}
-use Rattle.std.proofs.Common.{refl, ap, ◌∙◌, nat_eq, is_some, if◌then◌else◌, slice_get}
+use Rattle.std.proofs.Common.{refl, ap, sym, ◌∙◌, ◌==◌, true, inl, inr, nat_eq, is_some, if◌then◌else◌, slice_get}
+use Rattle.std.proofs.lemmas.Bool.{cases_eq, eq-eqb, ne_eqb}
 use Rattle.std.specs.Cmp.{nat_eq_equiv}
 use Rattle.std.specs.Map.{lookup}
 use Rattle.std.specs.Option.{option_map}
@@ -26,3 +27,34 @@ module _ {K J : Type 0} (closed : Bool) where
       → FindsFirst (record { jobs = es; closed = closed }) answer
   finds_first [] answer is = rw is refl
   finds_first (e ∷ es) answer is = rw (is, nat_eq_equiv.refl e.0) refl
+
+-- ---- what is registered first in the list
+
+-- a choice by whether two numbers are one, whichever is named first
+pub either_first : {T : Type 0} (n m : ℕ) (then_so else_so : T)
+    → (if nat_eq m n then then_so else else_so) ≡ (if nat_eq n m then then_so else else_so)
+either_first n m then_so else_so =
+    elim (cases_eq n m) [
+      | inl same ↦
+          let one : (n == m) ≡ true = eq-eqb n m same in
+          let other : (m == n) ≡ true = eq-eqb m n (sym same) in
+          simp (one, other) refl
+      | inr apart ↦
+          let one : (n == m) ≡ false = ne_eqb n m apart in
+          let other : (m == n) ≡ false = ne_eqb m n (λ is. apart (sym is)) in
+          simp (one, other) refl
+    ]
+
+-- without it, its object has no job where the rest has none, and each other has the job that it had
+pub first_out : {V : Type 0} (n : ℕ) (value : V) (rest : List (ℕ × V)) → lookup (nat_eq n) rest ≡ None → (m : ℕ)
+    → lookup (nat_eq m) rest ≡ (if nat_eq n m then None else lookup (nat_eq m) ((n, value) ∷ rest))
+first_out n value rest none m =
+    elim (cases_eq n m) [
+      | inl same ↦
+          let one : (n == m) ≡ true = eq-eqb n m same in
+          ap (λ (k : ℕ). lookup (nat_eq k) rest) (sym same) ∙ none ∙ simp one refl
+      | inr apart ↦
+          let one : (n == m) ≡ false = ne_eqb n m apart in
+          let other : (m == n) ≡ false = ne_eqb m n (λ is. apart (sym is)) in
+          simp (one, other) refl
+    ]
