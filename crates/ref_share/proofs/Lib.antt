@@ -2,6 +2,7 @@ pub mod Seats
 pub mod Polls
 pub mod Notices
 pub mod Places
+pub mod SeatLists
 pub mod QueueRuns
 pub mod HeldRuns
 pub mod HeapRuns
@@ -14,9 +15,13 @@ pub mod ScannedRuns
 pub mod ProvenRuns
 pub mod MarkedRuns
 pub mod OrderRuns
+pub mod WorkerRuns
 pub mod OnceCleared
 pub mod OnceRuns
 pub mod CleanCalls
 pub mod CleanRounds
 pub mod CleanRuns
 mod HeapExamples
+mod QueueCallExamples
+mod DeliveryExamples
+mod CleanerExamples

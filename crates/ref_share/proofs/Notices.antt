@@ -26,6 +26,7 @@ use Rattle.ref_share.specs.declared.answers.Delivery.{Delivery}
 use Rattle.ref_share.specs.declared.answers.Delivery.TheVariants.{Nothing, Added, Dropped}
 use Rattle.ref_share.specs.declared.answers.ShareFault.{ShareFault}
 use Rattle.ref_share.specs.declared.answers.ShareFault.TheVariants.{Refused, Busy, Notice, Held}
+use Rattle.ref_share.specs.declared.shared_queue.SharedQueue.{SharedQueue}
 use Rattle.ref_share.specs.declared.shared_queue.QueueSeat.{QueueSeat}
 
 of_unhook : (slot queue : Option ℕ) → told_notice (answer_of_unhook slot queue) ≡ None
@@ -102,26 +103,27 @@ tells_of_none c d step reply asks acts = absurd (false≢true asks)
 
 -- ---- what is delivered
 
-module _ {A : Type 0} (step : NamedStep) (v w : HeapView) (seats : List (QueueSeat A)) where
-  -- where the heap gives no notice
-  pub delivers_none : (reply : Reply) (result : Result Delivery ShareFault) → gives_no_notice reply ≡ true
-      → TellsOfNone reply result → Called v step (replies.Told reply) w → Delivers step v seats result w seats
-  delivers_none told.Nothing result none tells called =
-      subst (λ (r : Result Delivery ShareFault). Delivers step v seats r w seats) (sym tells) (called, refl)
-  delivers_none (told.Refused TurnsSpent) result none tells called = absurd (false≢true none)
-  delivers_none (told.Refused fault) result none tells called =
-      subst (λ (r : Result Delivery ShareFault). Delivers step v seats r w seats) (sym tells) (called, refl)
-  delivers_none reply result none tells called = absurd tells
+module _ {A : Type 0} (step : NamedStep) (v w : HeapView) (queues : List (SharedQueue A)) (seats : List (QueueSeat A))
+  where
+    -- where the heap gives no notice
+    pub delivers_none : (reply : Reply) (result : Result Delivery ShareFault) → gives_no_notice reply ≡ true
+        → TellsOfNone reply result → Called v step (replies.Told reply) w → Delivers step v queues seats result w seats
+    delivers_none told.Nothing result none tells called =
+        subst (λ (r : Result Delivery ShareFault). Delivers step v queues seats r w seats) (sym tells) (called, refl)
+    delivers_none (told.Refused TurnsSpent) result none tells called = absurd (false≢true none)
+    delivers_none (told.Refused fault) result none tells called =
+        subst (λ (r : Result Delivery ShareFault). Delivers step v queues seats r w seats) (sym tells) (called, refl)
+    delivers_none reply result none tells called = absurd tells
 
-  -- where the notice that it gives is sent
-  pub delivers_notice : (notice : HeldNotice) (u : HeapView) (result : Result Delivery ShareFault)
-      (after : List (QueueSeat A)) → Called v step (replies.Notice notice) u → Sends notice seats u result w after
-      → Delivers step v seats result w after
-  delivers_notice notice u (Ok Nothing) after called sends = absurd sends.1
-  delivers_notice notice u (Ok (Added n q position)) after called sends = (notice, u, called, sends)
-  delivers_notice notice u (Ok (Dropped n)) after called sends = (notice, u, called, sends)
-  delivers_notice notice u (Err (Refused TurnsSpent)) after called sends = absurd sends.1
-  delivers_notice notice u (Err (Refused fault)) after called sends = absurd sends.1
-  delivers_notice notice u (Err Busy) after called sends = absurd sends.1
-  delivers_notice notice u (Err (Notice back fault)) after called sends = (notice, u, called, sends)
-  delivers_notice notice u (Err (Held back fault)) after called sends = (notice, u, called, sends)
+    -- where the notice that it gives is sent
+    pub delivers_notice : (notice : HeldNotice) (u : HeapView) (result : Result Delivery ShareFault)
+        (after : List (QueueSeat A)) → Called v step (replies.Notice notice) u
+        → Sends notice queues seats u result w after → Delivers step v queues seats result w after
+    delivers_notice notice u (Ok Nothing) after called sends = absurd sends.1
+    delivers_notice notice u (Ok (Added n q position)) after called sends = (notice, u, called, sends)
+    delivers_notice notice u (Ok (Dropped n)) after called sends = (notice, u, called, sends)
+    delivers_notice notice u (Err (Refused TurnsSpent)) after called sends = absurd sends.1
+    delivers_notice notice u (Err (Refused fault)) after called sends = absurd sends.1
+    delivers_notice notice u (Err Busy) after called sends = absurd sends.1
+    delivers_notice notice u (Err (Notice back fault)) after called sends = (notice, u, called, sends)
+    delivers_notice notice u (Err (Held back fault)) after called sends = (notice, u, called, sends)

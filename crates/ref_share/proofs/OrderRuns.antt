@@ -262,13 +262,18 @@ nothing_waits : (config : Config) (k q : ℕ) → waits_in k q (first_world conf
 nothing_waits config k q =
     none_wait q (pending_of (first_world config) k) (nothing_pending (λ (p : Pending). ⊥) config.workers k)
 
+pub handed_in_order : (config : Config) (number : ℕ) (calls : List HeapEntry) (last : HeapState) (k q : ℕ)
+    → IsHeapRun config number calls last → Sub (handed_in k q calls) (clearing_order (rows_of calls) k q)
+handed_in_order config number calls last k q run =
+    let first : Sub ([] ++ waits_in k q (first_world config)) [] = nothing_waits config k q in
+    let is = run_holds (IsOrdered k q) (call_ordered k q) config number
+    (record { from = first_from config number; free = first_hand config (Worker k); ordered = first }) calls last run in
+    sub_through (handed_in k q calls) (handed_in k q calls ++ waits_in k q last.state.world)
+    (clearing_order (rows_of calls) k q) (sub_longer (handed_in k q calls) (waits_in k q last.state.world)) is.ordered
+
 pub in_clearing_order : (config : Config) (number : ℕ) (calls : List HeapEntry) (last : HeapState) (k q : ℕ)
     → IsHeapRun config number calls last
     → is_subsequence (handed_in k q calls) (clearing_order (rows_of calls) k q) ≡ true
 in_clearing_order config number calls last k q run =
-    let first : Sub ([] ++ waits_in k q (first_world config)) [] = nothing_waits config k q in
-    let is = run_holds (IsOrdered k q) (call_ordered k q) config number
-    (record { from = first_from config number; free = first_hand config (Worker k); ordered = first }) calls last run in
     sub_is (handed_in k q calls) (clearing_order (rows_of calls) k q)
-    (sub_through (handed_in k q calls) (handed_in k q calls ++ waits_in k q last.state.world)
-    (clearing_order (rows_of calls) k q) (sub_longer (handed_in k q calls) (waits_in k q last.state.world)) is.ordered)
+    (handed_in_order config number calls last k q run)

@@ -1,5 +1,6 @@
 -- The seats of queues, place by place.
-use Rattle.std.proofs.Common.{◌≡◌, ℕ, zero, suc, List, [], ◌∷◌, Option, Some, ◌⊎◌, inl, inr, refl, ap, sym, subst, ◌∙◌}
+use Rattle.std.proofs.Common.{◌≡◌, ℕ, zero, suc, ◌<◌, List, [], ◌∷◌, length, Option, Some, ◌⊎◌, inl, inr, refl, ap, sym}
+use Rattle.std.proofs.Common.{subst, ◌∙◌, ◌≢◌, arith}
 use Rattle.std.specs.Prelude.{slice_get, slice_set, unwrap_or}
 use Rattle.std.proofs.Common.{Result, Ok, Err, IfErr, true}
 use Rattle.std.proofs.lemmas.Bool.{false≢true}
@@ -13,17 +14,17 @@ use Rattle.ref_share.specs.QueueSeats.{IsQueueSeat, queue_view}
 use Rattle.ref_share.specs.declared.shared_queue.SharedQueue.{SharedQueue}
 use Rattle.ref_share.specs.declared.shared_queue.QueueSeat.{QueueSeat}
 
--- what stands in a list after a change at k was there, or is what it was changed to
-changed_there : {T : Type 0} (xs : List T) (k j : ℕ) (t y : T) → slice_get (slice_set xs k t) j ≡ Some y
-    → ((j ≡ k) × (y ≡ t)) ⊎ (slice_get xs j ≡ Some y)
-changed_there [] k j t y there = inr there
+-- what stands in a list after a change at k is what it was changed to, or stood there before, elsewhere
+pub changed_there : {T : Type 0} (xs : List T) (k j : ℕ) (t y : T) → slice_get (slice_set xs k t) j ≡ Some y
+    → ((j ≡ k) × (y ≡ t)) ⊎ ((j ≢ k) × (slice_get xs j ≡ Some y))
+changed_there [] k j t y there = absurd cc
 changed_there {T = T} (x ∷ xs) zero zero t y there = inl (refl, sym (ap (λ (o : Option T). unwrap_or o y) there))
-changed_there (x ∷ xs) zero (suc j) t y there = inr there
-changed_there (x ∷ xs) (suc k) zero t y there = inr there
+changed_there (x ∷ xs) zero (suc j) t y there = inr ((λ is. omega (arith, is)), there)
+changed_there (x ∷ xs) (suc k) zero t y there = inr ((λ is. omega (arith, is)), there)
 changed_there (x ∷ xs) (suc k) (suc j) t y there =
     elim (changed_there xs k j t y there) [
       | inl here ↦ inl (ap suc here.0, here.1)
-      | inr else ↦ inr else
+      | inr else ↦ inr ((λ is. else.0 (omega (arith, is))), else.1)
     ]
 
 -- a seat that is one of its queue still stands for the one that did
@@ -37,16 +38,17 @@ still_seats {A = A} queues seats k queue seat are there own j other new found pl
           let same : queue ≡ other = ap (λ (o : Option (SharedQueue A)). unwrap_or o other) (sym there ∙ found_here) in
           let own_here = subst (λ (q : SharedQueue A). IsQueueSeat q seat) same own in
           subst (λ (s : QueueSeat A). IsQueueSeat other s) (sym here.1) own_here
-      | inr before ↦ are j other new found before
+      | inr before ↦ are j other new found before.1
     ]
 
 -- a put of the seat at a place
-pub put_at_place : {A : Type 0} (notice : HeldNotice) (seats : List (QueueSeat A)) (old new : QueueSeat A)
-    (result : Result (Put HeldNotice) (Fault × HeldNotice)) → slice_get seats notice.queue ≡ Some old
-    → Puts (queue_view old) notice result (queue_view new) → IfErr result (λ refused. refuses_put refused.0 ≡ true)
-    → PutsAt notice seats result (slice_set seats notice.queue new)
-put_at_place notice seats old new (Ok answer) there puts faults =
-    record { old = old; new = new; there = there; after_is = refl; puts = puts }
-put_at_place notice seats old new (Err (BadQueue, back)) there puts faults = absurd (false≢true faults)
-put_at_place notice seats old new (Err (fault, back)) there puts faults =
-    record { old = old; new = new; there = there; after_is = refl; puts = puts }
+pub put_at_place : {A : Type 0} (notice : HeldNotice) (queues : List (SharedQueue A)) (seats : List (QueueSeat A))
+    (old new : QueueSeat A) (result : Result (Put HeldNotice) (Fault × HeldNotice)) → notice.queue < length queues
+    → slice_get seats notice.queue ≡ Some old → Puts (queue_view old) notice result (queue_view new)
+    → IfErr result (λ refused. refuses_put refused.0 ≡ true)
+    → PutsAt notice queues seats result (slice_set seats notice.queue new)
+put_at_place notice queues seats old new (Ok answer) within there puts faults =
+    record { old = old; new = new; within = within; there = there; after_is = refl; puts = puts }
+put_at_place notice queues seats old new (Err (BadQueue, back)) within there puts faults = absurd (false≢true faults)
+put_at_place notice queues seats old new (Err (fault, back)) within there puts faults =
+    record { old = old; new = new; within = within; there = there; after_is = refl; puts = puts }

@@ -1,6 +1,6 @@
 -- From the heap to a queue: which calls `enqueue` and `deliver_one` have made, and what they answer (this project's
 -- profile; Java SE 17 has `Reference.enqueue`).
-use Rattle.std.specs.Prelude.{◌≡◌, ℕ, ◌⊎◌, Bool, true, false, List, Result, Ok, Err, Some}
+use Rattle.std.specs.Prelude.{◌≡◌, ℕ, ◌<◌, ◌≤◌, ◌⊎◌, Bool, true, false, List, length, Result, Ok, Err, Some}
 use Rattle.std.specs.Prelude.{slice_get, slice_set}
 use Rattle.ref_base.specs.HeapSteps.{NamedStep}
 use Rattle.ref_base.specs.declared.fault.Fault.{Fault}
@@ -69,18 +69,23 @@ GivesBack n hold v (Err (Held back fault)) w =
     (back ≡ hold) × Called v (heap.Release hold) (replies.Back fault hold) w
 GivesBack n hold v result w = ⊥
 
-module _ {A : Type 0} (notice : HeldNotice) (seats : List (QueueSeat A)) where
-  -- the seat at the place of the notice's queue puts it in, with this answer; the others do nothing
+module _ {A : Type 0} (notice : HeldNotice) (queues : List (SharedQueue A)) (seats : List (QueueSeat A)) where
+  -- there is a queue at the place of the notice's own, and its seat puts it in, with this answer; the others do nothing
   pub record IsPut (answer : Result (Put HeldNotice) (Fault × HeldNotice)) (after : List (QueueSeat A)) : Type 0 where
     pub old : QueueSeat A
     pub new : QueueSeat A
+    pub within : notice.queue < length queues
     pub there : slice_get seats notice.queue ≡ Some old
     pub after_is : after ≡ slice_set seats notice.queue new
     pub puts : Puts (queue_view old) notice answer (queue_view new)
 
-  -- or there is no queue at that place, and none does anything
+  -- one of the lists ends before that place
+  abbrev pub IsBeyond : Type 0
+  IsBeyond = (length queues ≤ notice.queue) ⊎ (length seats ≤ notice.queue)
+
+  -- the notice is put in at its place; or there is none for it, and no queue does anything
   abbrev pub PutsAt : Result (Put HeldNotice) (Fault × HeldNotice) → List (QueueSeat A) → Type 0
-  PutsAt (Err (BadQueue, back)) after = after ≡ seats
+  PutsAt (Err (BadQueue, back)) after = IsBeyond × (after ≡ seats)
   PutsAt answer after = IsPut answer after
 
   -- no queue takes it: it was put in before, or its queue is closed
@@ -95,16 +100,17 @@ module _ {A : Type 0} (notice : HeldNotice) (seats : List (QueueSeat A)) where
   Sends v (Err (Notice back fault)) w after = (back ≡ notice) × (w ≡ v) × PutsAt (Err (fault, notice)) after
   Sends v result w after = IsNotTaken after × GivesBack notice.hold.object notice.hold v result w
 
-module _ {A : Type 0} (step : NamedStep) (v : HeapView) (seats : List (QueueSeat A)) where
-  -- the step is the heap's one call where it gives no notice
-  abbrev pub IsAlone : HeapReply → HeapView → List (QueueSeat A) → Type 0
-  IsAlone reply w after = Called v step reply w × (after ≡ seats)
+module _ {A : Type 0} (step : NamedStep) (v : HeapView) (queues : List (SharedQueue A)) (seats : List (QueueSeat A))
+  where
+    -- the step is the heap's one call where it gives no notice
+    abbrev pub IsAlone : HeapReply → HeapView → List (QueueSeat A) → Type 0
+    IsAlone reply w after = Called v step reply w × (after ≡ seats)
 
-  -- the heap's step is called; the notice that it gives, if it gives one, is sent; or no turn is left for the step
-  abbrev pub Delivers : Result Delivery ShareFault → HeapView → List (QueueSeat A) → Type 0
-  Delivers (Ok Nothing) w after = IsAlone (replies.Told told.Nothing) w after
-  Delivers (Err (Refused TurnsSpent)) w after = RanOut v w × (after ≡ seats)
-  Delivers (Err (Refused fault)) w after = IsAlone (replies.Told (told.Refused fault)) w after
-  Delivers result w after =
-      (notice : HeldNotice) × (u : HeapView) × Called v step (replies.Notice notice) u
-      × Sends notice seats u result w after
+    -- the heap's step is called; the notice that it gives, if it gives one, is sent; or no turn is left for the step
+    abbrev pub Delivers : Result Delivery ShareFault → HeapView → List (QueueSeat A) → Type 0
+    Delivers (Ok Nothing) w after = IsAlone (replies.Told told.Nothing) w after
+    Delivers (Err (Refused TurnsSpent)) w after = RanOut v w × (after ≡ seats)
+    Delivers (Err (Refused fault)) w after = IsAlone (replies.Told (told.Refused fault)) w after
+    Delivers result w after =
+        (notice : HeldNotice) × (u : HeapView) × Called v step (replies.Notice notice) u
+        × Sends notice queues seats u result w after

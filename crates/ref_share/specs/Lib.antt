@@ -8,6 +8,7 @@ pub mod HeapSeats
 pub mod QueueSeats
 pub mod QueueCalls
 pub mod Deliveries
+pub mod WorkerCalls
 pub mod QueueStates
 pub mod QueueHistories
 pub mod HeapHistories

@@ -1,5 +1,5 @@
 -- What a call of a seat has made, and why it made nothing.
-use Rattle.std.specs.Prelude.{◌≡◌, ◌-◌, ◌^◌, List, ◌++◌}
+use Rattle.std.specs.Prelude.{◌≡◌, ◌≢◌, ◌-◌, ◌^◌, List, ◌++◌}
 use Rattle.std.specs.Prelude.{Option, Some, None, Result, Ok, Err}
 use Rattle.ref_base.specs.declared.fault.Fault.{Fault}
 use Rattle.ref_base.specs.declared.fault.Fault.TheVariants.{NoMemory}
@@ -32,9 +32,11 @@ module _ {M S R : Type 0} where
   IsTryFault v step (Busy back) w = (back ≡ step) × FoundBusy v w
   IsTryFault v step (Spent back) w = (back ≡ step) × RanOut v w
 
-  -- the seat has seen what the other had seen, in which the other's calls stand under its number
+  -- the seat has seen what the other had seen, in which the other's calls stand under its number, which is another
   abbrev pub TookIn : View M S R → View M S R → View M S R → Type 0
-  TookIn v other w = Longer v w × StartsWith w.seen other.seen × (calls_by other.number w.seen ≡ other.mine)
+  TookIn v other w =
+      Longer v w × StartsWith w.seen other.seen × (calls_by other.number w.seen ≡ other.mine)
+      × (other.number ≢ v.number)
 
 -- what is made anew is refused with just this fault, if there is one, or where memory isn't there
 abbrev pub MakesUnless : {T : Type 0} → Option Fault → Result T Fault → Type 0

@@ -27,8 +27,8 @@ use std::sync::Wait;
 ///
 /// `Refused` with the faults of an unhook, or `TurnsSpent` where the heap has no turn left: then nothing was done.
 /// `Notice` where the notice could not be put in: `TurnsSpent` where the queue has no turn left, `NoMemory`, and
-/// `BadQueue` or `WrongQueue` where the lists have no such queue at its place. `Held` where the heap has no turn left
-/// for the release, or doesn't count the hold.
+/// `BadQueue` just where one of the lists ends before its queue's place, and `WrongQueue` where another queue stands
+/// there. `Held` where the heap has no turn left for the release, or doesn't count the hold.
 pub fn enqueue<R: Wait, A: Allocator + Copy>(
     rt: &R,
     heap: &SharedHeap<A>,
@@ -41,7 +41,7 @@ pub fn enqueue<R: Wait, A: Allocator + Copy>(
     requires { IsHeapSeat heap.now heap_seat.old × AreSeats queues.now queue_seats.old }
     ensures seats { IsHeapSeat heap.now heap_seat.new × AreSeats queues.now queue_seats.new }
     ensures calls { (delivery : _) × (result ≡ was_added delivery)
-        × Delivers (steps.Unhook mutator slot) (heap_view heap_seat.old) queue_seats.old delivery
+        × Delivers (steps.Unhook mutator slot) (heap_view heap_seat.old) queues.now queue_seats.old delivery
         (heap_view heap_seat.new) queue_seats.new }
 {
     let step = HeapStep::Unhook {
@@ -69,7 +69,7 @@ pub fn deliver_one<R: Wait, A: Allocator + Copy>(
 ) -> Result<Delivery, ShareFault>
     requires { IsHeapSeat heap.now heap_seat.old × AreSeats queues.now queue_seats.old }
     ensures seats { IsHeapSeat heap.now heap_seat.new × AreSeats queues.now queue_seats.new }
-    ensures calls { Delivers (steps.Hand worker) (heap_view heap_seat.old) queue_seats.old result
+    ensures calls { Delivers (steps.Hand worker) (heap_view heap_seat.old) queues.now queue_seats.old result
         (heap_view heap_seat.new) queue_seats.new }
 {
     let step = HeapStep::Hand { worker };
@@ -88,7 +88,7 @@ fn deliver<R: Wait, A: Allocator + Copy>(
     requires seats { IsHeapSeat heap.now heap_seat.old × AreSeats queues.now queue_seats.old }
     requires step { asks_for_a_notice step ≡ true }
     ensures seats { IsHeapSeat heap.now heap_seat.new × AreSeats queues.now queue_seats.new }
-    ensures calls { Delivers step (heap_view heap_seat.old) queue_seats.old result
+    ensures calls { Delivers step (heap_view heap_seat.old) queues.now queue_seats.old result
         (heap_view heap_seat.new) queue_seats.new }
 {
     match heap.call(rt, heap_seat, step) {
@@ -127,7 +127,7 @@ fn send<R: Wait, A: Allocator + Copy>(
 ) -> Result<Delivery, ShareFault>
     requires { IsHeapSeat heap.now heap_seat.old × AreSeats queues.now queue_seats.old }
     ensures seats { IsHeapSeat heap.now heap_seat.new × AreSeats queues.now queue_seats.new }
-    ensures sends { Sends notice queue_seats.old (heap_view heap_seat.old) result
+    ensures sends { Sends notice queues.now queue_seats.old (heap_view heap_seat.old) result
         (heap_view heap_seat.new) queue_seats.new }
 {
     let object = notice.obj();
@@ -149,7 +149,7 @@ fn put_at<R: Wait, A: Allocator + Copy>(
 ) -> Result<Put<Notice>, (Fault, Notice)>
     requires { AreSeats queues.now seats.old }
     ensures seats { AreSeats queues.now seats.new }
-    ensures puts { PutsAt notice seats.old result seats.new }
+    ensures puts { PutsAt notice queues.now seats.old result seats.new }
     ensures back { IsBack notice result }
 {
     let place = notice.queue().0 as usize;

@@ -16,8 +16,8 @@ returns-in-Ok-Notice-clause-calls g c =
     let v = heap_view c.args.heap_seat.now in
     let u = heap_view c.call.new.seat in
     let called = subst (λ reply. Called v c.args.step reply u) c.in-Ok-Notice.field-0-is c.in-Ok-Notice.ensures.ok in
-    delivers_notice c.args.step v (heap_view c.send.new.heap_seat) c.args.queue_seats.now c.in-Ok-Notice.notice u
-    c.send.result c.send.new.queue_seats called c.send.ensures.sends
+    delivers_notice c.args.step v (heap_view c.send.new.heap_seat) c.args.queues.now c.args.queue_seats.now
+    c.in-Ok-Notice.notice u c.send.result c.send.new.queue_seats called c.send.ensures.sends
 
 pub returns-in-Ok-Told-clause-calls : goal.returns-in-Ok-Told-clause-calls
 returns-in-Ok-Told-clause-calls g c =
@@ -27,5 +27,5 @@ returns-in-Ok-Told-clause-calls g c =
     let v = heap_view c.args.heap_seat.now in
     let u = heap_view c.call.new.seat in
     let called = subst (λ reply. Called v c.args.step reply u) c.in-Ok-Told.field-0-is c.in-Ok-Told.ensures.ok in
-    delivers_none c.args.step v u c.args.queue_seats.now c.in-Ok-Told.reply c.without_notice.result none
-    c.without_notice.ensures called
+    delivers_none c.args.step v u c.args.queues.now c.args.queue_seats.now c.in-Ok-Told.reply c.without_notice.result
+    none c.without_notice.ensures called

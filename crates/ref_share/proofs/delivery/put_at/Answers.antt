@@ -1,4 +1,4 @@
-use Rattle.std.proofs.Common.{◌≡◌, ℕ, Some, ap, sym, subst, ◌∙◌}
+use Rattle.std.proofs.Common.{◌≡◌, ℕ, ◌<◌, length, Some, ap, sym, subst, ◌∙◌}
 use Rattle.std.proofs.lemmas.Option.{slice_get-get_or}
 use Rattle.std.specs.Prelude.{slice_get, slice_set, slice_index_or}
 use Rattle.ref_share.specs.Deliveries.{PutsAt}
@@ -29,6 +29,8 @@ returns-clause-puts g c =
     let seat = slice_index_or seats place c.index-seats-place.result in
     let own : place ≡ c.args.notice.queue = c.place.view_is ∙ c.queue.ensures in
     let there = slice_get-get_or seats place c.index-seats-place.result c.if-place-seats.false in
-    subst (λ (k : ℕ). PutsAt c.args.notice seats c.put.result (slice_set seats k c.put.new.seat)) (sym own)
-    (put_at_place c.args.notice seats seat c.put.new.seat c.put.result
+    subst (λ (k : ℕ). PutsAt c.args.notice c.args.queues.now seats c.put.result (slice_set seats k c.put.new.seat))
+    (sym own)
+    (put_at_place c.args.notice c.args.queues.now seats seat c.put.new.seat c.put.result
+    (subst (λ (k : ℕ). k < length c.args.queues.now) own c.if-place-queues.false)
     (subst (λ (k : ℕ). slice_get seats k ≡ Some seat) own there) c.put.ensures.puts c.put.ensures.faults)

@@ -1,0 +1,188 @@
+-- What `register`, `clean` and a cleaner's thread may have called, and what not: the job 30 of reference 2, whose notice
+-- comes once its object is gone.
+use Rattle.std.proofs.Common.{◌≡◌, ℕ, List, [], ◌∷◌, Option, Some, None, Ok, true}
+use Rattle.std.proofs.Common.{inl, refl, ap, ◌+◌, map, arith}
+use Rattle.ref_base.specs.declared.cause.Cause.TheVariants.{Cycle}
+use Rattle.ref_base.specs.declared.heap_step.HeapStep.TheVariants as heap
+use Rattle.ref_base.specs.declared.heap_step.HoldName.{HoldName}
+use Rattle.ref_base.specs.declared.reply.Reply.TheVariants as told
+use Rattle.ref_clear.specs.ClearHeaps.{ClearHeap, HeldNotice}
+use Rattle.ref_queue.specs.CleanTables.{new_registry}
+use Rattle.ref_queue.specs.declared.job.Ran.{Ran}
+use Rattle.ref_queue.specs.declared.queue.Polled.TheVariants as found
+use Rattle.ref_turn.specs.Seats.{entry}
+use Rattle.ref_turn.specs.declared.history.Entry.{Entry}
+use Rattle.ref_turn.specs.declared.history.Stage.TheVariants.{Idle}
+use Rattle.ref_turn.specs.declared.history.View.{View}
+use Rattle.ref_world.specs.declared.heap_machine.HeapReply.TheVariants as replies
+use Rattle.ref_base.specs.QueueLists.{new_queue}
+use Rattle.ref_share.specs.CleanLoops.{Round, GoesRound, all_of, jobs_run, takes_in}
+use Rattle.ref_share.specs.CleanSeats.{CleanView, CleanEntry}
+use Rattle.ref_share.specs.Cleanings.{makes_phantom, RegistersJob, CleansNow, CleansDead}
+use Rattle.ref_share.specs.HeapSeats.{HeapView, HeapEntry}
+use Rattle.ref_share.specs.QueueSeats.{QueueView, QueueEntry}
+use Rattle.ref_share.specs.Releases.{Releases}
+use Rattle.ref_share.specs.declared.answers.Cleaned.TheVariants.{Gone, Ran as DidRun}
+use Rattle.ref_share.specs.declared.clean_machine.CleanStep.TheVariants as steps
+use Rattle.ref_share.specs.declared.clean_machine.CleanReply.TheVariants as answers
+use Rattle.ref_share.specs.declared.queue_machine.QueueStep.TheVariants as queue
+use Rattle.ref_share.specs.declared.queue_machine.QueueReply.TheVariants as told_by
+
+abbrev hold : HoldName
+hold = record { heap_no = 7; object = 2 }
+
+abbrev notice : HeldNotice
+notice = record { hold = hold; queue = 0; cause = Cycle 1 0 }
+
+-- the one seat of a turn, which has made these calls
+abbrev seat : {M S R : Type 0} → Option M → List (Entry S R) → View M S R
+seat start calls = record {
+  first = 0;
+  start = start;
+  stage = Idle;
+  number = 0;
+  seen = calls;
+  mine = calls;
+  drawn = 0;
+  looks = 0;
+}
+
+abbrev polls : List QueueEntry → QueueView
+polls calls = seat (Some (new_queue 0)) calls
+
+abbrev table : List (CleanEntry ℕ) → CleanView ℕ
+table calls = seat (Some new_registry) calls
+
+abbrev registered : CleanEntry ℕ
+registered = entry 0 (steps.Register 2 hold 30) (answers.Registered (Ok tt))
+
+abbrev taken : CleanEntry ℕ
+taken = entry 0 (steps.Take 2) (answers.Taken (Some (hold, 30)))
+
+abbrev none_taken : CleanEntry ℕ
+none_taken = entry 0 (steps.Take 2) (answers.Taken None)
+
+abbrev makes : HeapEntry
+makes = entry 0 (makes_phantom 0 0 1 2) (replies.Told (told.Object 2))
+
+abbrev holds : HeapEntry
+holds = entry 0 (heap.Hold 0 2) (replies.Held hold)
+
+abbrev releases : HeapEntry
+releases = entry 0 (heap.Release hold) (replies.Told told.Done)
+
+-- what is told of a job that was run
+abbrev ran_of : ℕ → Ran
+ran_of job = record { number = job; answer = job + 1000 }
+
+module _ (start : Option ClearHeap) where
+  abbrev calls_of : List HeapEntry → HeapView
+  calls_of calls = seat start calls
+
+  -- ---- release
+
+  it_is_released : Releases (calls_of []) hold (Ok tt) (calls_of (releases ∷ []))
+  it_is_released = ((refl, refl, refl), ([], refl), refl)
+
+  released_without_a_call : ¬ (Releases (calls_of []) hold (Ok tt) (calls_of []))
+  released_without_a_call is = let none = is.2 in absurd cc
+
+  -- ---- register
+
+  it_is_registered : RegistersJob 30 (table []) 0 0 1 2 (calls_of []) (Ok (record { obj = 2 }))
+      (calls_of (makes ∷ holds ∷ [])) (table (registered ∷ []))
+  it_is_registered = (
+    hold,
+    refl,
+    (
+      calls_of (makes ∷ []),
+      (told.Object 2, refl, ((refl, refl, refl), ([], refl), refl)),
+      ((refl, refl, refl), ([], refl), refl),
+    ),
+    ((refl, refl, refl), ([], refl), refl),
+  )
+
+  registered_outside_the_table : ¬ (RegistersJob 30 (table []) 0 0 1 2 (calls_of []) (Ok (record { obj = 2 }))
+      (calls_of (makes ∷ holds ∷ [])) (table []))
+  registered_outside_the_table is = let none = is.3.2 in absurd cc
+
+  told_by_another_number : ¬ (RegistersJob 30 (table []) 0 0 1 2 (calls_of []) (Ok (record { obj = 1 }))
+      (calls_of (makes ∷ holds ∷ [])) (table (registered ∷ [])))
+  told_by_another_number is =
+      let steps = ap (λ (calls : List (CleanEntry ℕ)). map (λ call. call.step) calls) is.3.2 in
+      let object : 2 ≡ is.0.object = cc in absurd (omega (arith, is.1, object))
+
+  -- ---- clean
+
+  it_ran : CleansNow ran_of 2 0 5 (calls_of []) (table []) (Ok (DidRun (record { number = 30; answer = 1030 }) None))
+      (calls_of
+      (entry 0 (heap.Adopt 0 5 hold) (replies.Told (told.Object 2)) ∷
+      entry 0 (heap.Clear 0 5) (replies.Told told.Done) ∷
+      entry 0 (heap.Drop 0 5) (replies.Told told.Done) ∷ []))
+      (table (taken ∷ []))
+  it_ran = (
+    hold,
+    30,
+    ((refl, refl, refl), ([], refl), refl),
+    refl,
+    (
+      calls_of (entry 0 (heap.Adopt 0 5 hold) (replies.Told (told.Object 2)) ∷ []),
+      calls_of
+          (entry 0 (heap.Adopt 0 5 hold) (replies.Told (told.Object 2)) ∷
+          entry 0 (heap.Clear 0 5) (replies.Told told.Done) ∷ []),
+      (told.Object 2, refl, ((refl, refl, refl), ([], refl), refl)),
+      inl (told.Done, ((refl, refl, refl), ([], refl), refl)),
+      inl (told.Done, ((refl, refl, refl), ([], refl), refl)),
+    ),
+  )
+
+  gone_with_a_job_in_hand : (w : HeapView)
+      → ¬ (CleansNow ran_of 2 0 5 (calls_of []) (table []) (Ok Gone) w (table (taken ∷ [])))
+  gone_with_a_job_in_hand w is =
+      let answer = ap (λ (calls : List (CleanEntry ℕ)). map (λ call. call.reply) calls) is.0.2 in absurd cc
+
+  gone_without_a_look : (w : HeapView) → ¬ (CleansNow ran_of 2 0 5 (calls_of []) (table []) (Ok Gone) w (table []))
+  gone_without_a_look w is = let none = is.0.2 in absurd cc
+
+  -- ---- a cleaner's thread
+
+  its_job_was_run : CleansDead notice (calls_of []) (table []) (Ok true) (calls_of (releases ∷ releases ∷ []))
+      (table (taken ∷ []))
+  its_job_was_run = (
+    hold,
+    30,
+    calls_of (releases ∷ []),
+    (((refl, refl, refl), ([], refl), refl), ((refl, refl, refl), ([], refl), refl)),
+    ((refl, refl, refl), ([], refl), refl),
+  )
+
+  run_without_a_job : (w : HeapView) → ¬ (CleansDead notice (calls_of []) (table []) (Ok true) w (table (none_taken ∷ [])))
+  run_without_a_job w is =
+      let answer = ap (λ (calls : List (CleanEntry ℕ)). map (λ call. call.reply) calls) is.3.1.2 in absurd cc
+
+  -- one notice came, whose job was run, and then the queue was closed
+  it_went_one_round : GoesRound (polls []) (calls_of []) (table []) (Ok 1)
+      (polls
+      (entry 0 queue.Poll (told_by.Polled (found.Took notice)) ∷ entry 0 queue.Poll (told_by.Polled found.Closed) ∷ []))
+      (calls_of (releases ∷ releases ∷ [])) (table (taken ∷ []))
+  it_went_one_round = (
+    record { empties = 0; notice = notice; taken = Some (hold, 30) } ∷ [],
+    polls (entry 0 queue.Poll (told_by.Polled (found.Took notice)) ∷ []),
+    (
+      ((refl, refl, refl), (entry 0 queue.Poll (told_by.Polled (found.Took notice)) ∷ [], refl), refl),
+      ((refl, refl, refl), (releases ∷ releases ∷ [], refl), refl),
+      ((refl, refl, refl), (taken ∷ [], refl), refl),
+    ),
+    (0, tt, ((refl, refl, refl), (entry 0 queue.Poll (told_by.Polled found.Closed) ∷ [], refl), refl)),
+    refl,
+  )
+
+  -- no job was taken, so none was run
+  no_rounds : (rs : List (Round ℕ)) → [] ≡ all_of (takes_in (table [])) rs → jobs_run rs ≡ 0
+  no_rounds [] none = refl
+  no_rounds (r ∷ rs) none = absurd cc
+
+  counted_without_a_job : (q : QueueView) (w : HeapView)
+      → ¬ (GoesRound (polls []) (calls_of []) (table []) (Ok 1) q w (table []))
+  counted_without_a_job q w goes =
+      let none : jobs_run goes.0 ≡ 0 = no_rounds goes.0 goes.2.2.2 in absurd (omega (arith, goes.4, none))

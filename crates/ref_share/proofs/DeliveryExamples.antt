@@ -1,0 +1,141 @@
+-- What deliveries may have called, and what not, with two queues: worker 0 hands on the notice of reference 2, which is
+-- for queue 1, and then that of reference 6.
+use Rattle.std.proofs.Common.{◌≡◌, ℕ, List, [], ◌∷◌, length, Option, Some, Ok, Err, inl, inr, refl, sym, ap, ◌∙◌}
+use Rattle.std.proofs.Common.{arith, get_or, length-append, map, zero, suc}
+use Rattle.ref_base.specs.declared.cause.Cause.TheVariants.{Cycle}
+use Rattle.ref_base.specs.declared.fault.Fault.TheVariants.{BadQueue}
+use Rattle.ref_base.specs.declared.heap_step.HeapStep.TheVariants as heap
+use Rattle.ref_base.specs.declared.heap_step.HoldName.{HoldName}
+use Rattle.ref_clear.specs.ClearHeaps.{ClearHeap, HeldNotice}
+use Rattle.ref_queue.specs.declared.queue.Put.TheVariants as puts
+use Rattle.ref_turn.specs.Seats.{entry}
+use Rattle.ref_turn.specs.declared.history.Stage.TheVariants.{Idle}
+use Rattle.ref_world.specs.declared.heap_machine.HeapReply.TheVariants as replies
+use Rattle.ref_share.specs.Deliveries.{GivesBack, Sends, Delivers}
+use Rattle.ref_share.specs.HeapSeats.{HeapView, HeapEntry}
+use Rattle.ref_share.specs.QueueCalls.{Puts}
+use Rattle.ref_share.specs.QueueSeats.{QueueEntry, queue_view}
+use Rattle.ref_share.specs.WorkerCalls.{KeepsPace, Works, notices_put, references_of}
+use Rattle.ref_share.specs.declared.answers.Delivery.TheVariants.{Nothing, Added, Dropped}
+use Rattle.ref_share.specs.declared.answers.ShareFault.TheVariants.{Notice}
+use Rattle.ref_share.specs.declared.queue_machine.QueueReply.TheVariants as answers
+use Rattle.ref_share.specs.declared.queue_machine.QueueStep.TheVariants as queue
+use Rattle.ref_share.specs.declared.shared_queue.QueueSeat.{QueueSeat}
+use Rattle.ref_share.specs.declared.shared_queue.SharedQueue.{SharedQueue}
+
+abbrev hold : ℕ → HoldName
+hold n = record { heap_no = 7; object = n }
+
+-- the notice of a reference that worker 0 cleared, for queue 1
+abbrev notice : ℕ → HeldNotice
+notice n = record { hold = hold n; queue = 1; cause = Cycle 1 0 }
+
+abbrev hands : ℕ → HeapEntry
+hands n = entry 0 (heap.Hand 0) (replies.Notice (notice n))
+
+abbrev puts_in : ℕ → (position : ℕ) → QueueEntry
+puts_in n position = entry 0 (queue.Put (notice n)) (answers.Put (Ok (puts.Added position)))
+
+module _ {A : Type 0} (start : Option ClearHeap) (first second : SharedQueue A) (s t u : QueueSeat A) where
+  -- the heap's one seat, which has made these calls
+  abbrev seat : List HeapEntry → HeapView
+  seat calls = record {
+    first = 0;
+    start = start;
+    stage = Idle;
+    number = 0;
+    seen = calls;
+    mine = calls;
+    drawn = 0;
+    looks = 0;
+  }
+
+  abbrev queues : List (SharedQueue A)
+  queues = first ∷ second ∷ []
+
+  -- ---- a delivery
+
+  it_is_delivered : Puts (queue_view t) (notice 2) (Ok (puts.Added 0)) (queue_view u)
+      → Delivers (heap.Hand 0) (seat []) queues (s ∷ t ∷ []) (Ok (Added 2 1 0)) (seat (hands 2 ∷ [])) (s ∷ u ∷ [])
+  it_is_delivered called = (
+    notice 2,
+    seat (hands 2 ∷ []),
+    ((refl, refl, refl), ([], refl), refl),
+    (
+      refl,
+      refl,
+      refl,
+      record { old = t; new = u; within = omega arith; there = refl; after_is = refl; puts = called },
+    ),
+  )
+
+  -- queue 1 is there, so that the notice is not refused for want of it
+  its_queue_is_there : (w : HeapView) (after : List (QueueSeat A))
+      → ¬ (Delivers (heap.Hand 0) (seat []) queues (s ∷ t ∷ []) (Err (Notice (notice 2) BadQueue)) w after)
+  its_queue_is_there w after d =
+      let is : 1 ≡ d.0.queue = ap (λ (n : HeldNotice). n.queue) d.3.0 in
+      elim d.3.2.0 [
+        | inl short ↦ absurd (omega (arith, is, short))
+        | inr short ↦ absurd (omega (arith, is, short))
+      ]
+
+  -- with a list of one queue it may be
+  its_queue_is_beyond_a_list_of_one : Delivers (heap.Hand 0) (seat []) (first ∷ []) (s ∷ [])
+      (Err (Notice (notice 2) BadQueue)) (seat (hands 2 ∷ [])) (s ∷ [])
+  its_queue_is_beyond_a_list_of_one = (
+    notice 2,
+    seat (hands 2 ∷ []),
+    ((refl, refl, refl), ([], refl), refl),
+    (refl, refl, (inl (omega arith), refl)),
+  )
+
+  -- no seat of a queue made a call
+  added_and_never_put : ¬ (Sends (notice 2) queues (s ∷ t ∷ []) (seat []) (Ok (Added 2 1 0)) (seat []) (s ∷ t ∷ []))
+  added_and_never_put sends =
+      let put = sends.3 in
+      let old : put.old ≡ t = let there : Some t ≡ Some put.old = put.there in cc in
+      let new : put.new ≡ t = let after : s ∷ t ∷ [] ≡ s ∷ put.new ∷ [] = put.after_is in cc in
+      let mine = ap (λ (q : QueueSeat A). length (queue_view q).mine) (new ∙ sym old) in
+      absurd
+      (omega (
+        arith,
+        mine,
+        ap length put.puts.2,
+        length-append (queue_view put.old).mine
+            (entry (queue_view put.old).number (queue.Put (notice 2)) (answers.Put (Ok (puts.Added 0))) ∷ []),
+      ))
+
+  told_that_none_is_pending : ¬ (Delivers (heap.Hand 0) (seat []) queues (s ∷ t ∷ []) (Ok Nothing)
+      (seat (hands 2 ∷ [])) (s ∷ t ∷ []))
+  told_that_none_is_pending d =
+      let answer = ap (λ (calls : List HeapEntry). map (λ call. call.reply) calls) d.0.2 in absurd cc
+
+  -- what no queue took goes back to the heap by a release
+  dropped_and_never_released : ¬ (GivesBack 2 (hold 2) (seat []) (Ok (Dropped 2)) (seat []))
+  dropped_and_never_released gives = let none = gives.1.2 in absurd cc
+
+  -- ---- a worker's thread
+
+  fresh_seats_keep_pace : (queue_view s).mine ≡ [] → (queue_view t).mine ≡ []
+      → KeepsPace 0 queues (seat []) (s ∷ t ∷ [])
+  fresh_seats_keep_pace none other zero r within at =
+      let is : s ≡ r = let there : Some s ≡ Some r = at in cc in
+      ap (λ (x : QueueSeat A). notices_put 0 0 (queue_view x).mine) (sym is) ∙ ap (notices_put 0 0) none
+  fresh_seats_keep_pace none other (suc zero) r within at =
+      let is : t ≡ r = let there : Some t ≡ Some r = at in cc in
+      ap (λ (x : QueueSeat A). notices_put 0 1 (queue_view x).mine) (sym is) ∙ ap (notices_put 0 1) other
+  fresh_seats_keep_pace none other (suc (suc i)) r within at = absurd (omega (arith, within))
+
+  it_works_by_one_delivery : Puts (queue_view t) (notice 2) (Ok (puts.Added 0)) (queue_view u)
+      → Works 0 queues 1 (seat []) (s ∷ t ∷ []) (seat (hands 2 ∷ [])) (s ∷ u ∷ [])
+  it_works_by_one_delivery called =
+      (seat [], s ∷ t ∷ [], (refl, refl), inl (0, Ok (Added 2 1 0), refl, it_is_delivered called))
+
+  -- what was handed on second was put in first
+  another_order_keeps_no_pace : (queue_view u).mine ≡ puts_in 6 0 ∷ puts_in 2 1 ∷ []
+      → ¬ (KeepsPace 0 queues (seat (hands 2 ∷ hands 6 ∷ [])) (s ∷ u ∷ []))
+  another_order_keeps_no_pace mine pace =
+      let are : notice 6 ∷ notice 2 ∷ [] ≡ notice 2 ∷ notice 6 ∷ [] =
+      ap (notices_put 0 1) (sym mine) ∙ pace 1 u (omega arith) refl in
+      let first : 6 ≡ 2 = ap (λ (notices : List HeldNotice). get_or (references_of notices) 0 0) are in
+      absurd (omega (arith, first))

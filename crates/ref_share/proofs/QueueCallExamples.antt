@@ -1,0 +1,104 @@
+-- What a seat of a shared queue may have called, by what its call answers, and what not: queue 0, in which the notice of
+-- reference 2 is put.
+use Rattle.std.proofs.Common.{ℕ, ◌-◌, ◌^◌, List, [], ◌∷◌, Some, Ok, Err, true, false, refl, ap}
+use Rattle.std.proofs.Common.{arith, map}
+use Rattle.ref_base.specs.QueueLists.{new_queue}
+use Rattle.ref_base.specs.declared.cause.Cause.TheVariants.{Own}
+use Rattle.ref_base.specs.declared.fault.Fault.TheVariants.{TurnsSpent}
+use Rattle.ref_clear.specs.ClearHeaps.{HeldNotice}
+use Rattle.ref_queue.specs.declared.queue.Polled.TheVariants as answers
+use Rattle.ref_queue.specs.declared.queue.Put.TheVariants as puts
+use Rattle.ref_turn.specs.Seats.{entry}
+use Rattle.ref_turn.specs.declared.history.Stage.TheVariants.{Idle}
+use Rattle.ref_share.specs.QueueCalls.{Puts, PollsNow, PollsWithin, PollsUntil, Closes}
+use Rattle.ref_share.specs.QueueSeats.{QueueView, QueueEntry}
+use Rattle.ref_share.specs.declared.answers.Polled.TheVariants.{Took, Empty, Closed, TimedOut}
+use Rattle.ref_share.specs.declared.answers.ShareFault.TheVariants.{Busy}
+use Rattle.ref_share.specs.declared.queue_machine.QueueStep.TheVariants as steps
+use Rattle.ref_share.specs.declared.queue_machine.QueueReply.TheVariants as replies
+
+abbrev notice : HeldNotice
+notice = record { hold = record { heap_no = 7; object = 2 }; queue = 0; cause = Own }
+
+-- the one seat, which has made these calls, where so many tickets were drawn and it has looked so often
+abbrev seat : List QueueEntry → (drawn looks : ℕ) → QueueView
+seat calls drawn looks = record {
+  first = 0;
+  start = Some (new_queue 0);
+  stage = Idle;
+  number = 0;
+  seen = calls;
+  mine = calls;
+  drawn = drawn;
+  looks = looks;
+}
+
+abbrev v : QueueView
+v = seat [] 0 0
+
+abbrev added : QueueEntry
+added = entry 0 (steps.Put notice) (replies.Put (Ok (puts.Added 0)))
+
+abbrev found_nothing : QueueEntry
+found_nothing = entry 0 steps.Poll (replies.Polled answers.Empty)
+
+abbrev took_it : QueueEntry
+took_it = entry 0 steps.Poll (replies.Polled (answers.Took notice))
+
+abbrev told_closed : QueueEntry
+told_closed = entry 0 steps.Poll (replies.Polled answers.Closed)
+
+-- ---- put
+
+it_was_added : Puts v notice (Ok (puts.Added 0)) (seat (added ∷ []) 1 1)
+it_was_added = ((refl, refl, refl), ([], refl), refl)
+
+added_without_a_call : ¬ (Puts v notice (Ok (puts.Added 0)) v)
+added_without_a_call is = let none = is.2 in absurd cc
+
+told_another_answer : ¬ (Puts v notice (Ok (puts.Already notice)) (seat (added ∷ []) 1 1))
+told_another_answer is = let answer = ap (map (λ (call : QueueEntry). call.reply)) is.2 in absurd cc
+
+no_turn_was_left : Puts v notice (Err (TurnsSpent, notice)) (seat [] (2 ^ 64 - 1) 1)
+no_turn_was_left = (refl, (((refl, refl, refl), ([], refl), refl), refl))
+
+spent_while_turns_are_left : ¬ (Puts v notice (Err (TurnsSpent, notice)) (seat [] 1 1))
+spent_while_turns_are_left is = absurd (omega (arith, is.1.1))
+
+-- ---- polls
+
+it_was_taken : PollsNow v (Ok (Took notice)) (seat (took_it ∷ []) 1 1)
+it_was_taken = ((refl, refl, refl), ([], refl), refl)
+
+told_empty_and_kept_it : ¬ (PollsNow v (Ok Empty) (seat (took_it ∷ []) 1 1))
+told_empty_and_kept_it is = let answer = ap (map (λ (call : QueueEntry). call.reply)) is.2 in absurd cc
+
+another_turn_was_open : PollsNow v (Err Busy) (seat [] 1 1)
+another_turn_was_open = (((refl, refl, refl), ([], refl), refl), (omega arith, omega arith, omega arith))
+
+busy_where_none_was_open : ¬ (PollsNow v (Err Busy) (seat [] 0 1))
+busy_where_none_was_open is = absurd (omega (arith, is.1.1))
+
+busy_at_the_last_ticket : ¬ (PollsNow v (Err Busy) (seat [] (2 ^ 64 - 1) 1))
+busy_at_the_last_ticket is = absurd (omega (arith, is.1.2))
+
+two_polls_found_nothing : PollsWithin v 2 (Ok TimedOut) (seat (found_nothing ∷ found_nothing ∷ []) 2 2)
+two_polls_found_nothing = ((refl, refl, refl), (found_nothing ∷ found_nothing ∷ [], refl), refl)
+
+timed_out_after_one_of_two : ¬ (PollsWithin v 2 (Ok TimedOut) (seat (found_nothing ∷ []) 1 1))
+timed_out_after_one_of_two is = let one = is.2 in absurd cc
+
+the_second_told_that_it_is_closed : PollsUntil v (Ok Closed) (seat (found_nothing ∷ told_closed ∷ []) 2 2)
+the_second_told_that_it_is_closed =
+    (1, tt, ((refl, refl, refl), (found_nothing ∷ told_closed ∷ [], refl), refl))
+
+waiting_has_no_end_by_time : (w : QueueView) → ¬ (PollsUntil v (Ok TimedOut) w)
+waiting_has_no_end_by_time w is = is
+
+-- ---- close
+
+it_was_open : Closes v (Ok true) (seat (entry 0 steps.Close (replies.Closed true) ∷ []) 1 1)
+it_was_open = ((refl, refl, refl), ([], refl), refl)
+
+told_open_where_it_was_closed : ¬ (Closes v (Ok true) (seat (entry 0 steps.Close (replies.Closed false) ∷ []) 1 1))
+told_open_where_it_was_closed is = let answer = ap (map (λ (call : QueueEntry). call.reply)) is.2 in absurd cc
