@@ -11,5 +11,6 @@ mod world;
 
 pub use heap_machine::{HeapReply, WorldHeap, apply_heap};
 pub use notice::WorldNotice;
+pub use ref_base::{HeapStep, Reply, Row, Step};
 pub use trace::{Trace, run};
 pub use world::World;
