@@ -1,5 +1,5 @@
 -- Rows and texts that differ in one place from what a script or a graph text prints, and are none of it.
-use Rattle.std.proofs.Common.{◌≡◌, ℕ, ◌+◌, ◌++◌, true, false, [], ◌∷◌, List, map, take, Some, None, codes, refl, arith, subst, sym}
+use Rattle.std.proofs.Common.{◌≡◌, ℕ, ◌+◌, ◌++◌, [], ◌∷◌, List, map, take, Some, None, codes, refl, arith, subst}
 use Rattle.std.proofs.Common.{ap, ◌∙◌, drop, replicate}
 use Rattle.std.proofs.lemmas.Fmt.{decimal_digit}
 use Rattle.ref_base.specs.Collectors.{State, first_state}
@@ -10,7 +10,6 @@ use Rattle.ref_base.specs.declared.config.Config.{Config}
 use Rattle.ref_base.specs.declared.fault.Fault.TheVariants.{NoCell, NoSuchActor}
 use Rattle.ref_base.specs.declared.reach.ObjectReach.{ObjectReach}
 use Rattle.ref_base.specs.declared.reply.Reply.TheVariants.{Object, Refused}
-use Rattle.ref_base.specs.declared.step.Step.{Step}
 use Rattle.ref_base.specs.declared.step.Step.TheVariants.{New, Refer, Copy}
 use Rattle.ref_base.specs.declared.strength.Strength.TheVariants.{Weak}
 use Rattle.ref_base.proofs.LegalSteps.{lands}

@@ -21,3 +21,4 @@ pub mod WriteLemmas
 pub mod ReadLemmas
 pub mod ListChecks
 pub mod SeatLists
+mod ScriptExamples

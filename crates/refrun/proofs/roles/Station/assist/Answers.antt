@@ -1,5 +1,5 @@
 use Rattle.std.proofs.Common.{arith, ◌∙◌}
-use Rattle.refrun.proofs.SeatLists.{only_seat}
+use Rattle.ref_share.proofs.SeatLists.{only_seat}
 use Rattle.refrun.proofs.roles.Station.assist.Goals as goal
 
 pub settle-requires : goal.settle-requires

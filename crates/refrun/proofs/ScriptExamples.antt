@@ -1,0 +1,99 @@
+-- What the rows of jobs and the checks of a stress run may say at worked states, and what they may not.
+use Rattle.std.proofs.Common.{◌≢◌, ℕ, zero, suc, ◌+◌, ◌<◌, List, [], ◌∷◌, None, Some, get_or, refl, arith}
+use Rattle.std.proofs.Common.{nat_eq, false}
+use Rattle.std.specs.List.{IsDistinct}
+use Rattle.std.proofs.lemmas.List.Sorted.{IsPermutation-refl}
+use Rattle.ref_base.specs.CollectorRows.{IsRow}
+use Rattle.ref_base.specs.Collectors.{State}
+use Rattle.ref_base.specs.declared.reply.Reply.TheVariants.{Done}
+use Rattle.ref_base.specs.declared.step.Step.TheVariants.{Clear}
+use Rattle.ref_queue.proofs.TableLemmas.{either_first, first_out}
+use Rattle.refrun.specs.ScriptRuns.{Jobs, first_jobs, RegistersJob, RunsJob}
+use Rattle.refrun.specs.StressChecks.{TookInOrder, IsFirstFailure}
+use Rattle.refrun.specs.declared.lists.Check.TheVariants.{Order, Rest}
+use Rattle.refrun.specs.declared.script_step.ScriptReply.TheVariants as replies
+
+-- ---- jobs: 3 and 4, of which 3 is registered for object 2
+
+abbrev number : ℕ → ℕ
+number job = job
+
+abbrev note : ℕ → ℕ
+note job = job + 1000
+
+abbrev unused : Jobs ℕ
+unused = first_jobs (3 ∷ 4 ∷ [])
+
+abbrev one_registered : Jobs ℕ
+one_registered = record { table = record { jobs = (2, (tt, 3)) ∷ []; closed = false }; left = 4 ∷ [] }
+
+abbrev one_left : Jobs ℕ
+one_left = first_jobs (4 ∷ [])
+
+job_3_is_registered : RegistersJob number 2 3 unused replies.Registered one_registered
+job_3_is_registered = (
+  3,
+  refl,
+  IsPermutation-refl (3 ∷ 4 ∷ []),
+  (refl, ((λ m. either_first 2 m (Some (tt, 3)) None), refl)),
+)
+
+it_is_not_used_while_it_is_left : ¬ (RegistersJob number 2 3 unused replies.Used unused)
+it_is_not_used_while_it_is_left is = is.0 0 0 (omega arith) refl
+
+only_4 : (k d : ℕ) → k < 1 → get_or (4 ∷ []) k d ≢ 3
+only_4 zero d below is = absurd (omega (arith, is))
+only_4 (suc k) d below is = absurd (omega (arith, below))
+
+it_is_used_once_it_is_registered : RegistersJob number 2 3 one_registered replies.Used one_registered
+it_is_used_once_it_is_registered = (only_4, refl)
+
+it_ran : (a b : State) → IsRow a (record { step = Clear 0 1; reply = Done }) b
+    → RunsJob number note 2 0 1 a one_registered (replies.Ran (record { number = 3; answer = 1003 })) b one_left
+it_ran a b row = (3, (refl, ((λ m. first_out 2 (tt, 3) [] refl m), refl)), refl, refl, row)
+
+it_is_not_gone_while_it_is_registered : (a b : State) (new : Jobs ℕ)
+    → ¬ (RunsJob number note 2 0 1 a one_registered replies.Gone b new)
+it_is_not_gone_while_it_is_registered a b new is = let answer = is.0.0 in absurd cc
+
+-- ---- lists: 2 and 3 were put in, and two pollers took one each
+
+abbrev lists : List (List ℕ)
+lists = (2 ∷ []) ∷ (3 ∷ []) ∷ []
+
+in_order : TookInOrder (2 ∷ 3 ∷ []) lists
+in_order zero d below = refl
+in_order (suc zero) d below = refl
+in_order (suc (suc k)) d below = absurd (omega (arith, below))
+
+two_are_distinct : IsDistinct nat_eq (2 ∷ 3 ∷ [])
+unfolding IsDistinct
+two_are_distinct = ((refl, tt), (tt, tt))
+
+one_is_distinct : IsDistinct nat_eq (2 ∷ [])
+unfolding IsDistinct
+one_is_distinct = (tt, tt)
+
+a_repeat_is_not_distinct : ¬ (IsDistinct nat_eq (2 ∷ 2 ∷ []))
+unfolding IsDistinct
+a_repeat_is_not_distinct distinct = let apart = distinct.0.0 in absurd cc
+
+all_checks_pass : IsFirstFailure (2 ∷ 3 ∷ []) (2 ∷ 3 ∷ []) [] lists None
+all_checks_pass = (two_are_distinct, in_order, (two_are_distinct, λ n. refl), (refl, refl))
+
+-- one is left over
+one_in_order : TookInOrder (2 ∷ 3 ∷ []) ((2 ∷ []) ∷ [])
+one_in_order zero d below = refl
+one_in_order (suc k) d below = absurd (omega (arith, below))
+
+the_last_check_fails : IsFirstFailure (2 ∷ 3 ∷ []) (2 ∷ []) (3 ∷ []) ((2 ∷ []) ∷ []) (Some Rest)
+the_last_check_fails = (
+  two_are_distinct,
+  one_in_order,
+  (one_is_distinct, λ n. refl),
+  λ rest. let none = rest.0 in absurd cc,
+)
+
+-- 2 was put in twice, which is told before all else
+an_order_is_not_told_before_a_repeat : ¬ (IsFirstFailure (2 ∷ 2 ∷ []) (2 ∷ 2 ∷ []) [] lists (Some Order))
+an_order_is_not_told_before_a_repeat fails = a_repeat_is_not_distinct fails.0
