@@ -1,4 +1,3 @@
-pub mod SeatLists
 pub mod HeapUses
 pub mod LoopUses
 pub mod QueueUses

@@ -17,6 +17,8 @@ use std::test::Fail;
 
 pub mod calls;
 pub mod cleaners;
+mod last_turns;
+mod many_queues;
 mod memory;
 mod refusals;
 mod stories;

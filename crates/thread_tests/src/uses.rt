@@ -3,21 +3,11 @@
 use crate::shares::give_up;
 use ref_clear::Notice;
 use ref_queue::Queue;
-use ref_share::ShareFault;
 
 mod cleaners;
 mod heaps;
 mod queues;
 mod turns;
-
-/// Gives up what comes back with a refusal.
-fn drop_fault(fault: ShareFault) {
-    match fault {
-        ShareFault::Refused(_) | ShareFault::Busy => {}
-        ShareFault::Notice(notice, _) => notice.into_hold().leak(),
-        ShareFault::Held(hold, _) => hold.leak(),
-    }
-}
 
 /// Gives up what a queue was finished with.
 fn end(finished: Result<Queue<Notice>, Option<Queue<Notice>>>) {

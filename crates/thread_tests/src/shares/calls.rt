@@ -183,7 +183,8 @@ pub fn step_of(step: Do) -> HeapStep<Hold> {
     }
 }
 
-fn weak(slot: u32, source: u32, queue: Option<QueueNo>) -> HeapStep<Hold> {
+/// Makes a weak reference: its slot, that of its referent, and its queue.
+pub fn weak(slot: u32, source: u32, queue: Option<QueueNo>) -> HeapStep<Hold> {
     HeapStep::Refer {
         mutator: M,
         strength: Strength::Weak,
@@ -191,6 +192,15 @@ fn weak(slot: u32, source: u32, queue: Option<QueueNo>) -> HeapStep<Hold> {
         source: SlotNo(source),
         queue,
         fields: 0,
+    }
+}
+
+/// Gives up what comes back with a refusal.
+pub fn drop_fault(fault: ShareFault) {
+    match fault {
+        ShareFault::Refused(_) | ShareFault::Busy => {}
+        ShareFault::Notice(notice, _) => notice.into_hold().leak(),
+        ShareFault::Held(hold, _) => hold.leak(),
     }
 }
 

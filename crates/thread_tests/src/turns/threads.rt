@@ -13,6 +13,7 @@ use std::process::Abort;
 use std::sync::{Arc, Wait};
 use std::test::Fail;
 use std::thread;
+use std::thread::Threads;
 
 /// Adds 1 so many times.
 fn add_often<R: Wait + Abort>(
@@ -52,13 +53,15 @@ fn two_threads_add_each_once(rt: HostRuntime) -> Result<(), Fail> {
     Ok(())
 }
 
+/// A machine at the gate, behind a turn with this first ticket.
 fn at_a_gate(
     alloc: Global,
     gate: Arc<Gate, Global>,
+    first: u64,
 ) -> Result<(Turn<Gated>, TurnSeat<Gated>), Fault>
     ensures { IfOk result (λ t. IsSeatOf t.0 t.1) }
 {
-    Turn::new(alloc, Gated { gate, steps: 0 }).map_err(|(fault, _)| fault)
+    Turn::starting(alloc, Gated { gate, steps: 0 }, first).map_err(|(fault, _)| fault)
 }
 
 /// A step that waits at the gate, and then the machine is free.
@@ -82,14 +85,18 @@ fn knock(
     (is_reached, tried)
 }
 
-#[test]
-fn a_try_is_busy_while_another_step_is_at_the_gate(rt: HostRuntime) -> Result<(), Fail> {
-    let gate = Arc::new(rt.alloc(), Gate::new())?;
-    let (made, mut left) = at_a_gate(rt.alloc(), Arc::try_clone(&gate)?)?;
+/// What a try is told while another thread's step, for the first ticket, is at the gate.
+fn tried_meanwhile<R: Threads + Wait + Abort + Sync>(
+    rt: &R,
+    alloc: Global,
+    first: u64,
+) -> Result<Result<u64, TurnFault<u64>>, Fail> {
+    let gate = Arc::new(alloc, Gate::new())?;
+    let (made, mut left) = at_a_gate(alloc, Arc::try_clone(&gate)?, first)?;
     let turn = &made;
     let right = turn.split(&mut left);
-    let (held, tried) = thread::join(
-        &rt,
+    let (held, (is_reached, tried)) = thread::join(
+        rt,
         ||
             requires { IsSeatOf turn.now left }
         { hold(turn, left) },
@@ -98,7 +105,25 @@ fn a_try_is_busy_while_another_step_is_at_the_gate(rt: HostRuntime) -> Result<()
         { knock(&gate, turn, right) },
     );
     assert_eq!(rt; held, Ok(0));
-    assert_eq!(rt; tried, (true, Err(TurnFault::Busy(9))));
+    assert!(rt; is_reached, "the step was at the gate");
+    Ok(tried)
+}
+
+#[test]
+fn a_try_is_busy_while_another_step_is_at_the_gate(rt: HostRuntime) -> Result<(), Fail> {
+    assert_eq!(rt;
+        tried_meanwhile(&rt, rt.alloc(), 0)?,
+        Err(TurnFault::Busy(9))
+    );
+    Ok(())
+}
+
+#[test]
+fn a_try_is_spent_while_the_last_step_is_at_the_gate(rt: HostRuntime) -> Result<(), Fail> {
+    assert_eq!(rt;
+        tried_meanwhile(&rt, rt.alloc(), u64::MAX - 1)?,
+        Err(TurnFault::Spent(9))
+    );
     Ok(())
 }
 
@@ -129,7 +154,7 @@ fn queue_up<R: Wait>(
 #[test]
 fn a_call_sleeps_behind_a_long_turn_and_wakes(rt: HostRuntime) -> Result<(), Fail> {
     let gate = Arc::new(rt.alloc(), Gate::new())?;
-    let (made, mut left) = at_a_gate(rt.alloc(), Arc::try_clone(&gate)?)?;
+    let (made, mut left) = at_a_gate(rt.alloc(), Arc::try_clone(&gate)?, 0)?;
     let turn = &made;
     let right = turn.split(&mut left);
     let (held, next) = thread::join(

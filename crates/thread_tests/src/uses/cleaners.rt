@@ -11,8 +11,8 @@ ghost use Rattle.ref_share.specs.Cleanings.{makes_phantom};
 ghost use Rattle.ref_share.specs.HeapSeats.{heap_view, IsHeapSeat};
 ghost use Rattle.ref_share.specs.QueueSeats.{IsQueueSeat};
 
-use super::{drop_fault, end};
-use crate::shares::calls::{Ask, Call, Seats, Told};
+use super::end;
+use crate::shares::calls::{Ask, Call, Seats, Told, drop_fault};
 use crate::shares::cleaners::hearing::Hearing;
 use crate::shares::cleaners::left_in;
 use crate::shares::{CONFIG, M, Q, make_calls, new, weak};

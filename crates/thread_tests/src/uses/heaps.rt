@@ -1,6 +1,6 @@
 //! What the callers of a shared heap can prove.
 
-ghost use Rattle.std.specs.Prelude.{◌≡◌, ◌++◌, [], ◌∷◌, true, IfSome, IsTrue};
+ghost use Rattle.std.specs.Prelude.{◌≡◌, ◌-◌, ◌^◌, ◌++◌, [], ◌∷◌, true, false, IfSome, IsTrue};
 ghost use Rattle.ref_base.specs.declared.heap_step.HeapStep.TheVariants as steps;
 ghost use Rattle.ref_clear.specs.ClearHeaps.{HeldNotice};
 ghost use Rattle.ref_share.specs.HeapSeats.{heap_view, IsHeapSeat};
@@ -8,11 +8,12 @@ ghost use Rattle.ref_share.specs.QueueSeats.{IsQueueSeat};
 ghost use Rattle.ref_turn.specs.Seats.{entry};
 ghost use Rattle.ref_world.specs.declared.heap_machine.HeapReply.TheVariants as replies;
 
-use super::{drop_fault, end};
-use crate::shares::calls::{Seats, replied};
+use super::end;
+use crate::shares::calls::{Seats, drop_fault, replied};
 use crate::shares::{CONFIG, M, Q, W, death, make_calls};
 use ref_base::{Config, HeapStep, SlotNo};
 use ref_share::{Delivery, HeapSeat, SharedHeap, SharedQueue, deliver_one, enqueue};
+use ref_turn::TurnFault;
 use std::alloc::Global;
 use std::process::Abort;
 use std::slice;
@@ -30,6 +31,19 @@ fn serves_each_step<R: Wait>(rt: &R, heap: &SharedHeap, seat: &mut HeapSeat) -> 
     replied(answer);
     let after = heap.served(seat);
     if is_made { Some(before < after) } else { None }
+}
+
+/// With one turn left a try is not busy: no turn is open, or the last one was begun.
+pub fn is_busy_at_the_last_turn(heap: &SharedHeap, seat: &mut HeapSeat) -> bool
+    requires seat { IsHeapSeat heap.now seat.old }
+    requires last { (heap_view seat.old).first ≡ 2 ^ 64 - 2 }
+    ensures seat { IsHeapSeat heap.now seat.new }
+    ensures not { result ≡ false }
+{
+    let answer = heap.try_call(seat, HeapStep::EndSweep);
+    let is_busy = matches!(&answer, Err(TurnFault::Busy(_)));
+    replied(answer);
+    is_busy
 }
 
 /// A heap has the configuration that it was made with.

@@ -6,8 +6,8 @@ ghost use Rattle.ref_share.specs.QueueCalls.{polled};
 ghost use Rattle.ref_share.specs.HeapSeats.{IsHeapSeat};
 ghost use Rattle.ref_share.specs.QueueSeats.{queue_view, IsQueueSeat};
 
-use super::{drop_fault, end};
-use crate::shares::calls::{Do, replied, step_of};
+use super::end;
+use crate::shares::calls::{Do, drop_fault, replied, step_of};
 use crate::shares::{CONFIG, M, Q, give_up};
 use ref_base::{Fault, HeapStep, Parcel, QueueNo, SlotNo};
 use ref_clear::Notice;
@@ -77,6 +77,27 @@ fn tells_that_turns_are_spent<R: Wait>(
             false
         }
         Ok(Put::Added(_)) => false,
+    }
+}
+
+/// With one turn left a poll is not busy: no turn is open, or the last one was begun.
+pub fn is_busy_at_the_last_turn(queue: &SharedQueue, seat: &mut QueueSeat) -> bool
+    requires seat { IsQueueSeat queue.now seat.old }
+    requires last { (queue_view seat.old).first ≡ 2 ^ 64 - 2 }
+    ensures seat { IsQueueSeat queue.now seat.new }
+    ensures not { result ≡ false }
+{
+    match queue.poll_now(seat) {
+        Err(ShareFault::Busy) => true,
+        Err(fault) => {
+            drop_fault(fault);
+            false
+        }
+        Ok(Polled::Took(notice)) => {
+            notice.into_hold().leak();
+            false
+        }
+        Ok(Polled::Empty | Polled::Closed | Polled::TimedOut) => false,
     }
 }
 

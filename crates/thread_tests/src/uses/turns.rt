@@ -1,6 +1,6 @@
 //! What the callers of a turn can prove.
 
-ghost use Rattle.std.specs.Prelude.{◌≡◌, ◌+◌, ◌-◌, ◌^◌, ◌<◌, ℕ, [], ◌∷◌, length, true, false, IsTrue, IsFalse, IfOk};
+ghost use Rattle.std.specs.Prelude.{◌≡◌, ◌≢◌, ◌+◌, ◌-◌, ◌^◌, ◌<◌, ℕ, [], ◌∷◌, length, true, false, IsTrue, IsFalse, IfOk};
 ghost use Rattle.ref_turn.specs.History.{calls_by};
 ghost use Rattle.ref_turn.specs.Seats.{entry};
 ghost use Rattle.ref_turn.specs.Turns.{view, IsSeatOf};
@@ -77,6 +77,32 @@ fn tries_in_vain(turn: &Turn<Counter>, seat: &mut TurnSeat<Counter>) -> bool
     }
 }
 
+/// With one ticket left a try is not busy: no turn is open, or the last ticket was drawn.
+fn is_busy_at_the_last_ticket(turn: &Turn<Counter>, seat: &mut TurnSeat<Counter>) -> bool
+    requires seat { IsSeatOf turn.now seat.old }
+    requires last { (view seat.old).first ≡ 2 ^ 64 - 2 }
+    ensures seat { IsSeatOf turn.now seat.new × (view seat.new).first ≡ (view seat.old).first }
+    ensures not { result ≡ false }
+{
+    match turn.try_call(seat, 1) {
+        Err(TurnFault::Busy(_)) => true,
+        _ => false,
+    }
+}
+
+/// Two seats of one turn have two numbers.
+fn joins_another_number(
+    turn: &Turn<Counter>,
+    seat: &mut TurnSeat<Counter>,
+    other: TurnSeat<Counter>,
+)
+    requires { IsSeatOf turn.now seat.old × IsSeatOf turn.now other }
+    ensures seat { IsSeatOf turn.now seat.new × (view seat.new).first ≡ (view seat.old).first }
+    ensures two { (view seat.new).number ≢ (view other).number }
+{
+    turn.join(seat, other);
+}
+
 /// Who takes in a seat that made one call has that as the only one of the other, which has a number of its own.
 fn takes_in_the_one_call(turn: &Turn<Counter>, seat: &mut TurnSeat<Counter>) -> bool
     requires { IsSeatOf turn.now seat.old }
@@ -108,6 +134,10 @@ fn a_turn_counts_what_is_called(rt: HostRuntime) -> Result<(), Fail> {
             serves_what_was_called(&turn, &mut seat) == Ok(true),
         ),
         (
+            "a call that waits is made",
+            calls_in_time(&rt, &turn, &mut seat),
+        ),
+        (
             "it makes the call of a seat that comes and goes",
             takes_in_the_one_call(&turn, &mut seat),
         ),
@@ -121,10 +151,16 @@ fn a_turn_counts_what_is_called(rt: HostRuntime) -> Result<(), Fail> {
 fn a_turn_is_spent_behind_the_last_ticket(rt: HostRuntime) -> Result<(), Fail> {
     let alloc = rt.alloc();
     let (turn, mut seat) = count_from(alloc, u64::MAX - 1)?;
+    let other = turn.split(&mut seat);
+    joins_another_number(&turn, &mut seat, other);
     for (fact, holds) in [
         (
-            "the last ticket is for a call",
-            calls_in_time(&rt, &turn, &mut seat),
+            "with one ticket left a try is not busy",
+            !is_busy_at_the_last_ticket(&turn, &mut seat),
+        ),
+        (
+            "nor once it is drawn",
+            !is_busy_at_the_last_ticket(&turn, &mut seat),
         ),
         ("then none is left", tries_in_vain(&turn, &mut seat)),
         (

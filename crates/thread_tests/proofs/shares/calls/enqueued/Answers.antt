@@ -1,5 +1,5 @@
 use Rattle.std.proofs.Common.{arith}
-use Rattle.thread_tests.proofs.SeatLists.{only_seat}
+use Rattle.ref_share.proofs.SeatLists.{only_seat}
 use Rattle.thread_tests.proofs.shares.calls.enqueued.Goals as goal
 
 pub returns-in-Ok : goal.returns-in-Ok

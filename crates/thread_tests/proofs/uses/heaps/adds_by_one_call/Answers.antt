@@ -1,5 +1,5 @@
 use Rattle.std.proofs.Common.{arith}
-use Rattle.thread_tests.proofs.SeatLists.{only_seat}
+use Rattle.ref_share.proofs.SeatLists.{only_seat}
 use Rattle.thread_tests.proofs.uses.heaps.adds_by_one_call.Goals as goal
 
 pub returns-in-Ok-clause-seats : goal.returns-in-Ok-clause-seats

@@ -1,0 +1,268 @@
+//! A heap with more than one queue: each notice goes into its own.
+
+ghost use Rattle.std.specs.Prelude.{◌<◌, ◌≤◌};
+ghost use Rattle.ref_share.specs.HeapSeats.{IsHeapSeat};
+ghost use Rattle.ref_share.specs.QueueSeats.{IsQueueSeat};
+ghost use Rattle.thread_tests.specs.QueueLists.{AreSeated};
+
+use super::calls::{Do, Told, drop_fault, replied, step_of, weak};
+use super::{CONFIG, M, W, give_up};
+use ref_base::{Config, HeapStep, ObjNo, QueueNo, Reply, SlotNo};
+use ref_objects::Hold;
+use ref_share::{Delivery, HeapSeat, QueueSeat, SharedHeap, SharedQueue, deliver_one, enqueue};
+use std::alloc::{AllocFailed, Global};
+use std::process::Abort;
+use std::sync::Wait;
+use std::test::Fail;
+
+/// Queues in order, each with its seat at its place.
+pub struct Lists {
+    pub queues: Vec<SharedQueue>,
+    pub seats: Vec<QueueSeat>,
+}
+
+impl Lists {
+    /// So many queues, numbered from 0.
+    fn new<R: Abort>(rt: &R, alloc: Global, count: u32) -> Lists
+        ensures { AreSeated result.queues.items result.seats.items }
+    {
+        let mut lists = Lists {
+            queues: Vec::new(alloc),
+            seats: Vec::new(alloc),
+        };
+        for number in 0..count {
+            lists.add(rt, alloc, QueueNo(number));
+        }
+        lists
+    }
+
+    /// One queue more.
+    fn add<R: Abort>(&mut self, rt: &R, alloc: Global, number: QueueNo)
+        requires { AreSeated self.old.queues.items self.old.seats.items }
+        ensures { AreSeated self.new.queues.items self.new.seats.items }
+    {
+        let (queue, seat) = match SharedQueue::new(alloc, number) {
+            Ok(made) => made,
+            Err(fault) => panic!(rt; "{fault}"),
+        };
+        if let Err(AllocFailed { value: _queue }) = self.queues.push(queue) {
+            panic!(rt; "no memory for a queue");
+        }
+        if let Err(AllocFailed { value: _seat }) = self.seats.push(seat) {
+            panic!(rt; "no memory for a seat");
+        }
+    }
+
+    /// Ends all queues, the last first. Each has got one notice, of the reference for it.
+    fn end<R: Abort>(self, rt: &R, alloc: Global)
+        requires { AreSeated self.queues.items self.seats.items }
+    {
+        let Lists {
+            mut queues,
+            mut seats,
+        } = self;
+        while let Some(queue) = queues.pop() {
+            match seats.pop() {
+                Some(seat) => has_one(rt, alloc, queue, seat),
+                None => unreachable!(),
+            }
+        }
+        queues.destroy_empty();
+    }
+}
+
+/// The one notice that this queue got is of its own reference, whose number is by two the greater.
+fn has_one<R: Abort>(rt: &R, alloc: Global, queue: SharedQueue, seat: QueueSeat)
+    requires { IsQueueSeat queue seat }
+{
+    let number = queue.number();
+    match queue.finish(seat) {
+        Ok(left) => {
+            let enqueued = left.enqueued(alloc);
+            give_up(Some(left));
+            match enqueued {
+                Ok(found) => {
+                    assert_eq!(rt;
+                        found.as_slice(),
+                        [ObjNo(number.0.wrapping_add(2))].as_slice(),
+                        "{number}"
+                    );
+                }
+                Err(fault) => panic!(rt; "{fault}"),
+            }
+        }
+        Err(left) => {
+            give_up(left);
+            panic!(rt; "no turn of a queue is open");
+        }
+    }
+}
+
+/// An object, and for each queue a weak reference to it, numbered from 2 on in the order of the queues. The last of them
+/// takes the object's slot, so that nothing else refers to it.
+fn make_references<R: Abort>(rt: &R, heap: &SharedHeap, seat: &mut HeapSeat, queues: u32)
+    requires seat { IsHeapSeat heap.now seat.old }
+    requires queues { queues ≤ 16 }
+    ensures { IsHeapSeat heap.now seat.new }
+{
+    tell(rt, heap, seat, step_of(Do::New(0)), Reply::Object(ObjNo(1)));
+    for queue in 0..queues {
+        let step = weak(slot_of(queue, queues), 0, Some(QueueNo(queue)));
+        tell(rt, heap, seat, step, Reply::Object(ObjNo(queue + 2)));
+    }
+}
+
+/// The step is answered so.
+fn tell<R: Abort>(rt: &R, heap: &SharedHeap, seat: &mut HeapSeat, step: HeapStep<Hold>, want: Reply)
+    requires { IsHeapSeat heap.now seat.old }
+    ensures { IsHeapSeat heap.now seat.new }
+{
+    assert_eq!(rt; replied(heap.try_call(seat, step)), Told::Reply(want));
+}
+
+/// The slot of the reference for this queue.
+fn slot_of(queue: u32, queues: u32) -> u32
+    requires { queue < queues × queues ≤ 16 }
+{
+    if queue + 1 < queues { queue + 1 } else { 0 }
+}
+
+/// Worker 0 finds the object dead, and clears the references in the order of their slots: that of the last queue, and
+/// then the others.
+fn find_dead<R: Abort>(rt: &R, heap: &SharedHeap, seat: &mut HeapSeat, queues: u32)
+    requires seat { IsHeapSeat heap.now seat.old }
+    requires queues { 0 < queues × queues ≤ 16 }
+    ensures { IsHeapSeat heap.now seat.new }
+{
+    tell(rt, heap, seat, step_of(Do::Begin), Reply::Cycle(1));
+    for place in 0..queues {
+        let no = ObjNo(queue_at(place, queues) + 2);
+        tell(rt, heap, seat, step_of(Do::Scan), Reply::Scanned(no));
+    }
+    tell(rt, heap, seat, step_of(Do::Scan), Reply::Nothing);
+    tell(rt, heap, seat, step_of(Do::EndMark), Reply::Doomed(1));
+    for place in 0..queues {
+        let no = ObjNo(queue_at(place, queues) + 2);
+        tell(rt, heap, seat, step_of(Do::ClearNext), Reply::Cleared(no));
+    }
+    tell(rt, heap, seat, step_of(Do::EndClear), Reply::Done);
+}
+
+/// The queue whose reference is the one at this place in the order of slots.
+fn queue_at(place: u32, queues: u32) -> u32
+    requires { place < queues × queues ≤ 16 }
+    ensures { result < queues }
+{
+    if place == 0 { queues - 1 } else { place - 1 }
+}
+
+/// A delivery: what became of the notice.
+fn delivered<R: Wait>(
+    rt: &R,
+    heap: &SharedHeap,
+    seat: &mut HeapSeat,
+    lists: &mut Lists,
+) -> Option<Delivery>
+    requires { IsHeapSeat heap.now seat.old × AreSeated lists.old.queues.items lists.old.seats.items }
+    ensures { IsHeapSeat heap.now seat.new × AreSeated lists.new.queues.items lists.new.seats.items }
+{
+    match deliver_one(rt, heap, seat, &lists.queues, &mut lists.seats, W) {
+        Ok(delivery) => Some(delivery),
+        Err(fault) => {
+            drop_fault(fault);
+            None
+        }
+    }
+}
+
+/// Whether the notice of the reference in the slot was added.
+fn is_enqueued<R: Wait>(
+    rt: &R,
+    heap: &SharedHeap,
+    seat: &mut HeapSeat,
+    lists: &mut Lists,
+    slot: u32,
+) -> Option<bool>
+    requires { IsHeapSeat heap.now seat.old × AreSeated lists.old.queues.items lists.old.seats.items }
+    ensures { IsHeapSeat heap.now seat.new × AreSeated lists.new.queues.items lists.new.seats.items }
+{
+    match enqueue(
+        rt,
+        heap,
+        seat,
+        &lists.queues,
+        &mut lists.seats,
+        M,
+        SlotNo(slot),
+    ) {
+        Ok(is_added) => Some(is_added),
+        Err(fault) => {
+            drop_fault(fault);
+            None
+        }
+    }
+}
+
+/// So many queues.
+const fn with(queues: u32) -> Config {
+    Config {
+        queues,
+        cells: 32,
+        ..CONFIG
+    }
+}
+
+/// Each death is told to its own queue.
+fn deliver_all<R: Wait + Abort>(rt: &R, alloc: Global, queues: u32) -> Result<(), Fail>
+    requires { 0 < queues × queues ≤ 16 }
+{
+    let (heap, mut seat) = SharedHeap::new(alloc, with(queues), 0)?;
+    let mut lists = Lists::new(rt, alloc, queues);
+    make_references(rt, &heap, &mut seat, queues);
+    find_dead(rt, &heap, &mut seat, queues);
+    for place in 0..queues {
+        let queue = queue_at(place, queues);
+        let want = Delivery::Added(ObjNo(queue + 2), QueueNo(queue), 0);
+        assert_eq!(rt;
+            delivered(rt, &heap, &mut seat, &mut lists),
+            Some(want),
+            "place {place}"
+        );
+    }
+    assert_eq!(rt;
+        delivered(rt, &heap, &mut seat, &mut lists),
+        Some(Delivery::Nothing)
+    );
+    lists.end(rt, alloc);
+    Ok(())
+}
+
+/// Each reference is enqueued in its own queue, once.
+fn enqueue_all<R: Wait + Abort>(rt: &R, alloc: Global, queues: u32) -> Result<(), Fail>
+    requires { 0 < queues × queues ≤ 16 }
+{
+    let (heap, mut seat) = SharedHeap::new(alloc, with(queues), 0)?;
+    let mut lists = Lists::new(rt, alloc, queues);
+    make_references(rt, &heap, &mut seat, queues);
+    for queue in 0..queues {
+        let slot = slot_of(queue, queues);
+        for want in [true, false] {
+            let is_added = is_enqueued(rt, &heap, &mut seat, &mut lists, slot);
+            assert_eq!(rt; is_added, Some(want), "queue {queue}");
+        }
+    }
+    lists.end(rt, alloc);
+    Ok(())
+}
+
+#[test]
+fn each_of_two_and_of_sixteen_queues_gets_its_own_deaths(rt: HostRuntime) -> Result<(), Fail> {
+    deliver_all(&rt, rt.alloc(), 2)?;
+    deliver_all(&rt, rt.alloc(), 16)
+}
+
+#[test]
+fn each_of_two_and_of_sixteen_queues_gets_its_own_enqueued(rt: HostRuntime) -> Result<(), Fail> {
+    enqueue_all(&rt, rt.alloc(), 2)?;
+    enqueue_all(&rt, rt.alloc(), 16)
+}
