@@ -1,22 +1,23 @@
 //! A pool of buffers, each given back once its object is gone, by a cleaner's thread, or by hand before.
 //!
 //! The program takes buffers and gives one back itself. Then three threads share the heap: the program lets some of the
-//! buffers' objects go, the collector runs cycles, and the cleaner's thread runs the jobs of what died. It prints the same
-//! in every run.
+//! buffers' objects go, the collector runs cycles, and the cleaner's thread runs the jobs of what died. A second queue
+//! tells the program itself what it lost. It prints the same in every run.
 #![tactic(auto)]
 
 ghost use Rattle.std.specs.Prelude.{◌≡◌};
+ghost use Rattle.example_runtime.specs.QueuePairs.{AreTwo};
 ghost use Rattle.example_runtime.specs.Users.{IsUser, IsCollector};
 ghost use Rattle.ref_share.specs.CleanSeats.{IsCleanSeat};
 ghost use Rattle.ref_share.specs.QueueSeats.{IsQueueSeat};
 
-use example_runtime::{Collector, HeapUser, close, end};
+use example_runtime::{Collector, HeapUser, Queues};
 use pool::{BUFFERS, Buffer, count_free};
-use program::{Program, let_go};
+use program::{Program, count_losses, let_go};
 use ref_base::{Config, Fault, QueueNo};
 use ref_objects::Hold;
 use ref_queue::{Action, CleanTable, Job};
-use ref_share::{QueueSeat, SharedCleaner, SharedHeap, SharedQueue};
+use ref_share::{CleanSeat, SharedCleaner, SharedHeap};
 use std::alloc::Global;
 use std::sync::Wait;
 use std::sync::atomic::{AtomicU64, Ordering};
@@ -31,18 +32,21 @@ mod worker;
 const CONFIG: Config = Config {
     mutators: 1,
     workers: 1,
-    queues: 1,
+    queues: 2,
     cells: 64,
     span: 0,
 };
 
-const QUEUE: QueueNo = QueueNo(0);
+/// The queue by which the cleaner's thread learns what is gone. By the first queue the program learns it.
+const CLEANED: QueueNo = QueueNo(1);
 
-/// How many buffers the program gave back, and how many the cleaner's thread; and how many were free then.
+/// How many buffers the program gave back, and how many the cleaner's thread; of how many losses the program was told;
+/// and how many were free then.
 #[derive(Clone, Copy)]
 struct Counts {
     by_program: u64,
     by_worker: u64,
+    told: u64,
     free: usize,
 }
 
@@ -69,10 +73,11 @@ fn main(rt: HostRuntime) -> Result<(), anyhow::Error> {
     println!(rt; "{} given back by the cleaner's thread", counts.by_worker)?;
     println!(rt; "{} of {BUFFERS} are free", counts.free)?;
     println!(rt; "{} of {BUFFERS} are free at the end", count_free(&pool))?;
+    println!(rt; "{} losses told to the program", counts.told)?;
     Ok(())
 }
 
-/// Makes the heap, its queue and the cleaner, and runs the threads over them. At the end the buffers that are still in
+/// Makes the heap, its queues and the cleaner, and runs the threads over them. At the end the buffers that are still in
 /// use are given back.
 fn use_buffers<R: Threads + Wait + Sync>(
     rt: &R,
@@ -81,76 +86,90 @@ fn use_buffers<R: Threads + Wait + Sync>(
     pool: &[Buffer],
 ) -> Result<Counts, Fault> {
     let (heap, seat) = SharedHeap::new(alloc, CONFIG, 0)?;
-    let (queue, mut queue_seat) = SharedQueue::new(alloc, QUEUE)?;
-    let (cleaner, mut seat_of_cleaner) = match SharedCleaner::new(alloc, QUEUE) {
+    let mut queues = Queues::new(alloc)?;
+    let (cleaner, seat_of_cleaner) = match SharedCleaner::new(alloc, CLEANED) {
         Ok(made) => made,
         Err(fault) => {
-            end(queue.finish(queue_seat));
+            queues.end();
             return Err(fault);
         }
     };
-    let mut user = HeapUser::new(&heap, seat);
-    let worker = Worker {
-        user: user.split(),
-        queue: &queue,
-        queue_seat: queue.split(&mut queue_seat),
-        cleaner: &cleaner,
-        seat: cleaner.split(&mut seat_of_cleaner),
-    };
-    let collector = Collector::new(user.split(), &queue, queue.split(&mut queue_seat));
-    let closer = queue.split(&mut queue_seat);
-    let program = Program::new(user, &cleaner, cleaner.split(&mut seat_of_cleaner));
-    let given = run(rt, program, jobs, collector, worker, closer);
-    end(queue.finish(queue_seat));
+    let mut seat_of_cleaner = seat_of_cleaner;
+    let user = HeapUser::new(&heap, seat);
+    let given = run(rt, user, jobs, &mut queues, &cleaner, &mut seat_of_cleaner);
+    queues.end();
     let free = count_free(pool);
     if let Ok(table) | Err(Some(table)) = cleaner.finish(seat_of_cleaner) {
         run_what_is_left(table);
     }
-    let (by_program, by_worker) = given?;
+    let (by_program, by_worker, told) = given?;
     Ok(Counts {
         by_program,
         by_worker,
+        told,
         free,
     })
 }
 
-/// The program takes the buffers, and then the three threads run to their ends. The queue is closed once the program and
-/// the collector have ended. How many buffers the program gave back, and how many the cleaner's thread.
+/// The program takes the buffers, and then the three threads run to their ends. How many buffers the program gave back,
+/// and how many the cleaner's thread, and of how many losses the program is told.
 fn run<R: Threads + Wait + Sync>(
     rt: &R,
-    program: Program,
+    user: HeapUser,
     jobs: Vec<Job>,
+    queues: &mut Queues,
+    cleaner: &SharedCleaner,
+    seat: &mut CleanSeat,
+) -> Result<(u64, u64, u64), Fault>
+    requires user { IsUser user × AreTwo queues.old }
+    requires seat { IsCleanSeat cleaner.now.turn seat.old.seat }
+    ensures queues { AreTwo queues.new }
+    ensures seat { IsCleanSeat cleaner.now.turn seat.new.seat }
+{
+    let mut user = user;
+    let (telling, other) = queues.split();
+    let (told, queue_seat) = queues.split();
+    let all = &queues.all;
+    let collector = Collector::new(user.split(), all, [telling, other]);
+    let worker = Worker {
+        user: user.split(),
+        queue: &all[1],
+        queue_seat,
+        cleaner,
+        seat: cleaner.split(seat),
+    };
+    let mut program = Program::new(user, cleaner, cleaner.split(seat));
+    let by_program = program.open_all(rt, jobs)?;
+    let by_worker = clean(rt, program.into_user(), collector, worker)?;
+    Ok((by_program, by_worker, count_losses(&all[0], told)))
+}
+
+/// Runs the program and the collector, and the cleaner's thread, which ends as the collector closes its queue. How many
+/// buffers the cleaner's thread gave back.
+fn clean<R: Threads + Wait + Sync>(
+    rt: &R,
+    user: HeapUser,
     collector: Collector,
     worker: Worker,
-    closer: QueueSeat,
-) -> Result<(u64, u64), Fault>
-    requires program { IsUser program.user × IsCleanSeat program.cleaner.now.turn program.seat.seat }
+) -> Result<u64, Fault>
+    requires user { IsUser user }
     requires collector { IsCollector collector }
     requires worker { IsUser worker.user × IsQueueSeat worker.queue.now worker.queue_seat
         × IsCleanSeat worker.cleaner.now.turn worker.seat.seat }
-    requires closer { IsQueueSeat worker.queue.now closer }
 {
-    let mut program = program;
-    let by_program = program.open_all(rt, jobs)?;
-    let user = program.into_user();
-    let queue = worker.queue;
     let (worked, by_worker) = thread::join(
         rt,
         || -> Result<(), Fault>
             requires user { IsUser user }
-            requires collector { IsCollector collector × IsQueueSeat queue.now closer }
-        {
-            let worked = work(rt, user, collector);
-            close(rt, queue, closer);
-            worked
-        },
+            requires collector { IsCollector collector }
+        { work(rt, user, collector) },
         || -> Result<u64, Fault>
             requires user { IsUser worker.user × IsQueueSeat worker.queue.now worker.queue_seat }
             requires seat { IsCleanSeat worker.cleaner.now.turn worker.seat.seat }
         { worker.run(rt) },
     );
     worked?;
-    Ok((by_program, by_worker?))
+    by_worker
 }
 
 // The program and the collector, each in a thread.

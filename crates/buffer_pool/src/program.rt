@@ -2,15 +2,19 @@
 
 ghost use Rattle.example_runtime.specs.Users.{IsUser};
 ghost use Rattle.ref_share.specs.CleanSeats.{IsCleanSeat};
+ghost use Rattle.ref_share.specs.QueueSeats.{IsQueueSeat};
 
 use crate::pool::BUFFERS;
 use example_runtime::{HeapUser, give_up};
-use ref_base::{Fault, HeapStep, MutNo, SlotNo};
+use ref_base::{Fault, HeapStep, MutNo, Parcel, QueueNo, SlotNo, Strength};
 use ref_queue::{Job, Ran};
-use ref_share::{CleanSeat, Cleanable, Cleaned, SharedCleaner};
+use ref_share::{CleanSeat, Cleanable, Cleaned, Polled, QueueSeat, SharedCleaner, SharedQueue};
 use std::sync::Wait;
 
 const PROGRAM: MutNo = MutNo(0);
+
+/// The queue by which the program learns what it lost.
+const LOST: QueueNo = QueueNo(0);
 
 /// The slot that the references of cleaners are made in, and cleaned by. Those before it have the buffers' objects.
 const REFERENCE: SlotNo = SlotNo(BUFFERS);
@@ -122,11 +126,21 @@ impl<'a> Program<'a> {
     }
 }
 
-/// Lets the objects of half of the buffers go, but for the first, whose buffer is given back.
+/// Lets the objects of half of the buffers go, but for the first, whose buffer is given back. The program has a weak
+/// reference to each, in a slot of its own, so that it learns of the loss.
 pub fn let_go<R: Wait>(rt: &R, mut user: HeapUser) -> Result<(), Fault>
     requires { IsUser user }
 {
     for slot in 1..BUFFERS / 2 {
+        let refer = HeapStep::Refer {
+            mutator: PROGRAM,
+            strength: Strength::Weak,
+            slot: SlotNo(BUFFERS + slot),
+            source: SlotNo(slot),
+            queue: Some(LOST),
+            fields: 0,
+        };
+        user.ask(rt, refer)?;
         let drop = HeapStep::Drop {
             mutator: PROGRAM,
             slot: SlotNo(slot),
@@ -134,4 +148,22 @@ pub fn let_go<R: Wait>(rt: &R, mut user: HeapUser) -> Result<(), Fault>
         user.ask(rt, drop)?;
     }
     Ok(())
+}
+
+/// Takes what the queue tells, until nothing stands in it. How many losses that were.
+pub fn count_losses(queue: &SharedQueue, seat: QueueSeat) -> u64
+    requires { IsQueueSeat queue.now seat }
+{
+    let mut seat = seat;
+    for count in 0..u64::MAX {
+        match queue.poll_now(&mut seat) {
+            Ok(Polled::Took(notice)) => notice.into_hold().leak(),
+            Ok(Polled::Empty | Polled::Closed | Polled::TimedOut) => return count,
+            Err(fault) => {
+                let _ = give_up(fault);
+                return count;
+            }
+        }
+    }
+    u64::MAX
 }

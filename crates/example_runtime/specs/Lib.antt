@@ -1,1 +1,2 @@
+pub mod QueuePairs
 pub mod Users

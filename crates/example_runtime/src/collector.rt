@@ -1,15 +1,15 @@
 //! The collector's thread.
 
 ghost use Rattle.std.specs.Prelude.{◌≡◌, true};
-ghost use Rattle.ref_share.specs.QueueSeats.{IsQueueSeat};
+ghost use Rattle.ref_share.specs.Deliveries.{AreSeats};
 ghost use Rattle.ref_share.specs.Releases.{hands_nothing_over};
 ghost use Rattle.example_runtime.specs.Users.{IsUser, IsCollector};
 
 use crate::heap_user::{HeapUser, give_up};
+use crate::queue_end::close_all;
 use ref_base::{Fault, HeapStep, Reply, Urgency, WorkerNo};
 use ref_objects::Hold;
 use ref_share::{Delivery, QueueSeat, SharedQueue, deliver_one};
-use std::slice;
 use std::sync::Wait;
 use std::sync::atomic::{AtomicU64, Ordering};
 
@@ -41,29 +41,45 @@ impl Work {
 pub struct Collector<'a> {
     user: HeapUser<'a>,
     queues: &'a [SharedQueue],
-    seats: [QueueSeat; 1],
+    seats: [QueueSeat; 2],
 }
 
 impl<'a> Collector<'a> {
-    pub fn new(user: HeapUser<'a>, queue: &'a SharedQueue, seat: QueueSeat) -> Self
-        requires { IsUser user × IsQueueSeat queue.now seat }
+    /// The queues are those of the heap's configuration, in order, each with its seat.
+    pub fn new(user: HeapUser<'a>, queues: &'a [SharedQueue], seats: [QueueSeat; 2]) -> Self
+        requires { IsUser user × AreSeats queues.now seats }
         ensures { IsCollector result }
     {
         Collector {
             user,
-            queues: slice::from_ref(queue),
-            seats: [seat],
+            queues,
+            seats,
         }
     }
 
-    /// Runs cycles until one began after the program had ended.
+    /// Runs cycles until one began after the program had ended, and then closes the queues, so that who waits for them
+    /// goes on.
     pub fn run<R: Wait>(self, rt: &R, has_ended: &AtomicU64) -> Result<(), Fault>
         requires { IsCollector self }
     {
         let mut collector = self;
+        let ran = collector.run_cycles(rt, has_ended);
+        let Collector {
+            queues,
+            mut seats,
+            ..
+        } = collector;
+        close_all(rt, queues, &mut seats);
+        ran
+    }
+
+    fn run_cycles<R: Wait>(&mut self, rt: &R, has_ended: &AtomicU64) -> Result<(), Fault>
+        requires { IsCollector self.old }
+        ensures { IsCollector self.new }
+    {
         for now in 0..u64::MAX {
             let is_last = has_ended.load(Ordering::SeqCst) == 1;
-            collector.cycle(rt, now)?;
+            self.cycle(rt, now)?;
             if is_last {
                 break;
             }
@@ -71,7 +87,7 @@ impl<'a> Collector<'a> {
         Ok(())
     }
 
-    // One cycle: what it finds dead is cleared, told to the queue, and freed.
+    // One cycle: what it finds dead is cleared, told to its queue, and freed.
     fn cycle<R: Wait>(&mut self, rt: &R, now: u64) -> Result<(), Fault>
         requires { IsCollector self.old }
         ensures { IsCollector self.new }

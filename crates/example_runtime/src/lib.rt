@@ -1,10 +1,11 @@
-//! What the programs of the guide share: a thread's way to the heap, a collector with one worker, and a queue's end.
+//! What the programs of the guide share: a thread's way to the heap, a collector with one worker, and the two queues.
 #![tactic(auto)]
 
 mod collector;
 mod heap_user;
 mod queue_end;
+mod queues;
 
 pub use collector::Collector;
 pub use heap_user::{HeapUser, give_up};
-pub use queue_end::{close, end};
+pub use queues::Queues;

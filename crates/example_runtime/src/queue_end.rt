@@ -1,6 +1,6 @@
-//! The end of a queue.
+//! The end of queues.
 
-ghost use Rattle.ref_share.specs.QueueSeats.{IsQueueSeat};
+ghost use Rattle.ref_share.specs.Deliveries.{AreSeats};
 
 use crate::heap_user::give_up;
 use ref_clear::Notice;
@@ -8,12 +8,24 @@ use ref_queue::Queue;
 use ref_share::{QueueSeat, SharedQueue};
 use std::sync::Wait;
 
-/// Closes the queue, so that who waits for it goes on. Where no turn is left for that, nobody waits.
-pub fn close<R: Wait>(rt: &R, queue: &SharedQueue, seat: QueueSeat)
-    requires { IsQueueSeat queue.now seat }
+/// Closes the queues, so that who waits for them goes on.
+pub(crate) fn close_all<R: Wait>(rt: &R, queues: &[SharedQueue], seats: &mut [QueueSeat])
+    requires { AreSeats queues.now seats.old }
 {
-    let mut seat = seat;
-    if let Err(fault) = queue.close(rt, &mut seat) {
+    for place in 0..seats.len() {
+        close_at(rt, queues, seats, place);
+    }
+}
+
+// Closes the queue at this place. Where no turn is left for that, nobody waits.
+fn close_at<R: Wait>(rt: &R, queues: &[SharedQueue], seats: &mut [QueueSeat], place: usize)
+    requires { AreSeats queues.now seats.old }
+    ensures { AreSeats queues.now seats.new }
+{
+    if place >= queues.len() || place >= seats.len() {
+        return;
+    }
+    if let Err(fault) = queues[place].close(rt, &mut seats[place]) {
         let _ = give_up(fault);
     }
 }

@@ -1,17 +1,17 @@
 //! A table with weak values, as caches and canonical maps are: once nothing else refers to a value, its entry goes.
 //!
-//! Three threads share a heap: the program makes values and lets some go, the collector runs cycles, and the cleaner
-//! takes what the queue reports and removes the entries of what died. It prints the same in every run.
+//! Four threads share a heap: the program makes values and lets some go, the collector runs cycles, and two cleaners, each
+//! with a queue of its own, take what that reports and remove the entries of what died. It prints the same in every run.
 #![tactic(auto)]
 
-ghost use Rattle.ref_share.specs.QueueSeats.{IsQueueSeat};
 ghost use Rattle.example_runtime.specs.Users.{IsUser, IsCollector};
+ghost use Rattle.example_runtime.specs.QueuePairs.{AreTwo};
 ghost use Rattle.weak_table.specs.Cleaners.{IsCleaner};
 
 use cleaner::Cleaner;
-use example_runtime::{Collector, HeapUser, close, end};
+use example_runtime::{Collector, HeapUser, Queues};
 use ref_base::{Config, Fault, HeapStep, MutNo, ObjNo, QueueNo, Reply, SlotNo, Strength};
-use ref_share::{QueueSeat, SharedHeap, SharedQueue};
+use ref_share::SharedHeap;
 use std::collections::BTreeMap;
 use std::sync::atomic::{AtomicU64, Ordering};
 use std::sync::{Mutex, Wait};
@@ -26,14 +26,12 @@ type Table = Mutex<BTreeMap<ObjNo, u32>>;
 const CONFIG: Config = Config {
     mutators: 1,
     workers: 1,
-    queues: 1,
+    queues: 2,
     cells: 64,
     span: 0,
 };
 
 const PROGRAM: MutNo = MutNo(0);
-
-const QUEUE: QueueNo = QueueNo(0);
 
 /// The program's slots below this have the values, those from here on the references to them.
 const KEYS: u32 = 8;
@@ -41,10 +39,10 @@ const KEYS: u32 = 8;
 fn main(rt: HostRuntime) -> Result<(), anyhow::Error> {
     let table = Mutex::new(BTreeMap::new(rt.alloc()));
     let (heap, seat) = SharedHeap::new(rt.alloc(), CONFIG, 0)?;
-    let (queue, mut queue_seat) = SharedQueue::new(rt.alloc(), QUEUE)?;
     let user = HeapUser::new(&heap, seat);
-    let ran = run(&rt, user, &queue, &mut queue_seat, &table);
-    end(queue.finish(queue_seat));
+    let mut queues = Queues::new(rt.alloc())?;
+    let ran = clean_and_fill(&rt, user, &mut queues, &table);
+    queues.end();
     ran?;
     let table = table.into_inner();
     println!(rt; "{} of {KEYS} entries are left", table.len())?;
@@ -54,39 +52,71 @@ fn main(rt: HostRuntime) -> Result<(), anyhow::Error> {
     Ok(())
 }
 
-/// Runs the three threads to their ends. The queue is closed once the program and the collector have ended.
-fn run<R: Threads + Wait + Sync>(
+/// Runs the program, the collector, and a cleaner for each queue. The collector and the cleaners each have a seat of each
+/// queue.
+fn clean_and_fill<R: Threads + Wait + Sync>(
     rt: &R,
     user: HeapUser,
-    queue: &SharedQueue,
-    seat: &mut QueueSeat,
+    queues: &mut Queues,
     table: &Table,
 ) -> Result<(), Fault>
-    requires { IsUser user × IsQueueSeat queue.now seat.old }
-    ensures { IsQueueSeat queue.now seat.new }
+    requires { IsUser user × AreTwo queues.old }
+    ensures { AreTwo queues.new }
 {
     let mut program = user;
-    let cleaner = Cleaner::new(program.split(), queue, queue.split(seat), table);
-    let collector = Collector::new(program.split(), queue, queue.split(seat));
-    let closer = queue.split(seat);
+    let (telling, other) = queues.split();
+    let (first, second) = queues.split();
+    let all = &queues.all;
+    let collector = Collector::new(program.split(), all, [telling, other]);
+    let left = Cleaner::new(program.split(), &all[0], first, table);
+    let right = Cleaner::new(program.split(), &all[1], second, table);
+    run(rt, program, collector, left, right, table)
+}
+
+/// Runs the threads to their ends.
+fn run<R: Threads + Wait + Sync>(
+    rt: &R,
+    program: HeapUser,
+    collector: Collector,
+    left: Cleaner,
+    right: Cleaner,
+    table: &Table,
+) -> Result<(), Fault>
+    requires heap { IsUser program × IsCollector collector }
+    requires cleaners { IsCleaner left × IsCleaner right }
+{
     let (cleaned, worked) = thread::join(
         rt,
         || -> Result<(), Fault>
-            requires { IsCleaner cleaner }
-        { cleaner.run(rt) },
+            requires { IsCleaner left × IsCleaner right }
+        { clean(rt, left, right) },
         || -> Result<(), Fault>
-            requires { IsUser program × IsCollector collector × IsQueueSeat queue.now closer }
-        {
-            let worked = work(rt, program, collector, table);
-            close(rt, queue, closer);
-            worked
-        },
+            requires { IsUser program × IsCollector collector }
+        { work(rt, program, collector, table) },
     );
     cleaned?;
     worked
 }
 
-// The program and the collector, each in a thread.
+// The two cleaners, each in a thread.
+fn clean<R: Threads + Wait + Sync>(rt: &R, left: Cleaner, right: Cleaner) -> Result<(), Fault>
+    requires { IsCleaner left × IsCleaner right }
+{
+    let (first, second) = thread::join(
+        rt,
+        || -> Result<(), Fault>
+            requires { IsCleaner left }
+        { left.run(rt) },
+        || -> Result<(), Fault>
+            requires { IsCleaner right }
+        { right.run(rt) },
+    );
+    first?;
+    second
+}
+
+// The program and the collector, each in a thread. The collector goes on until the program has ended, and then closes
+// the queues.
 fn work<R: Threads + Wait + Sync>(
     rt: &R,
     program: HeapUser,
@@ -113,7 +143,8 @@ fn work<R: Threads + Wait + Sync>(
     collected
 }
 
-/// Makes a value for each key, and a weak reference to it with its entry; then lets the values of odd keys go.
+/// Makes a value for each key, and a weak reference to it with its entry: that of the lower half of the keys is reported
+/// by the first queue, and that of the others by the second. Then it lets the values of odd keys go.
 fn fill<R: Wait>(rt: &R, program: HeapUser, table: &Table) -> Result<(), Fault>
     requires { IsUser program }
 {
@@ -130,7 +161,7 @@ fn fill<R: Wait>(rt: &R, program: HeapUser, table: &Table) -> Result<(), Fault>
             strength: Strength::Weak,
             slot: SlotNo(KEYS + key),
             source: SlotNo(key),
-            queue: Some(QUEUE),
+            queue: Some(QueueNo(key * 2 / KEYS)),
             fields: 0,
         };
         if let Reply::Object(reference) = heap.ask(rt, refer)? {
