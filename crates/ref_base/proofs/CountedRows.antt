@@ -5,7 +5,7 @@ use Rattle.ref_base.specs.Heaps.{Heap, slot_at, reference_at, registered_in, cha
 use Rattle.ref_base.specs.Heaps.{cleared, got_at}
 use Rattle.ref_base.specs.Heaps.{with_field, got, cut, one_more}
 use Rattle.ref_base.specs.Worlds.{World}
-use Rattle.ref_base.specs.Told.{told_object, told_value, is_done, told_cycle, is_doomed}
+use Rattle.ref_base.specs.Told.{told_object, told_value, is_done, told_cycle, is_mark_end}
 use Rattle.ref_base.specs.HeapSteps.{NamedStep}
 use Rattle.ref_base.specs.Replay.{pended}
 use Rattle.ref_base.specs.Collectors.{State}
@@ -60,7 +60,7 @@ holds_moved a (heap.Release hold) replies.Done = refl
 holds_moved a (heap.Release hold) reply = refl
 holds_moved a (heap.Begin now how) reply = told_keeps holds_of (told_cycle reply) _ a.world (λ n. refl)
 holds_moved a (heap.Scan k) reply = refl
-holds_moved a heap.EndMark reply = done_keeps holds_of (is_doomed reply) _ a.world refl
+holds_moved a heap.EndMark reply = done_keeps holds_of (is_mark_end reply) _ a.world refl
 holds_moved a (heap.ClearNext k) (replies.Cleared n) =
     holds_pended a.world k n (registered_in (reference_at a.world.heap n))
 holds_moved a (heap.ClearNext k) (replies.Kept n) = refl

@@ -4,7 +4,7 @@ use Rattle.std.specs.Prelude.{nat_eq}
 use Rattle.std.specs.List.{IsDistinct}
 use Rattle.std.proofs.lemmas.List.{append-nil}
 use Rattle.ref_base.specs.QueueLists.{Lists, new_queue, enqueued}
-use Rattle.ref_base.specs.QueueRows.{Hands, empty_hands, held_after, put_from, put_into, taken_from, was_closed, KeepsQueue}
+use Rattle.ref_base.specs.QueueRows.{HandNotices, empty_hands, held_after, put_from, put_into, taken_from, was_closed, KeepsQueue}
 use Rattle.ref_base.specs.Worlds.{World, Notice, first_world, object_of, queue_at}
 use Rattle.ref_base.specs.Collectors.{State, first_state}
 use Rattle.ref_base.specs.CollectorRows.{IsRun}
@@ -26,7 +26,7 @@ run_sound a (row ∷ rows) b sound run =
     run_sound run.0 rows b goes.sound run.2
 
 -- a queue changes as the rows say, where the hands at first hold what they do
-abbrev MovesBy : Lists Notice → Lists Notice → ℕ → Hands → List Row → Type 0
+abbrev MovesBy : Lists Notice → Lists Notice → ℕ → HandNotices → List Row → Type 0
 MovesBy old new q hands rows =
     QueueMoves object_of old new (put_from hands q rows) (taken_from q rows) (was_closed q rows)
 

@@ -6,7 +6,7 @@ use Rattle.std.specs.Prelude.{slice_index_or, slice_set}
 use Rattle.std.specs.List.{AllByRecursion}
 use Rattle.std.proofs.lemmas.Bool.{eq-eqb, ne_eqb}
 use Rattle.ref_base.specs.QueueLists.{Lists, new_queue, was_put, with_parcel, with_taken}
-use Rattle.ref_base.specs.QueueRows.{HeldNotice, Hands, with_held, held_after, put_by, taken_by, closed_by}
+use Rattle.ref_base.specs.QueueRows.{HandNotice, HandNotices, with_held, held_after, put_by, taken_by, closed_by}
 use Rattle.ref_base.specs.Worlds.{World, Notice, SameOthers, object_of, hand_of, queue_at, with_hand}
 use Rattle.ref_base.specs.Worlds.{with_queue}
 use Rattle.ref_base.specs.Replay.{notice_of, taken_out, took, put_in}
@@ -22,11 +22,11 @@ use Rattle.ref_base.proofs.SoundWorlds.{NoticeBelow, IsOwn, HasHand, IsSound}
 use Rattle.ref_base.proofs.SoundWorlds.{sound_hand, sound_queue}
 
 -- the hands as rows see them
-abbrev pub as_held : Option Notice → Option HeldNotice
+abbrev pub as_held : Option Notice → Option HandNotice
 as_held None = None
 as_held (Some notice) = Some (record { object = notice.object; queue = notice.queue })
 
-abbrev pub held_of : World → Hands
+abbrev pub held_of : World → HandNotices
 held_of w who = as_held (hand_of w who)
 
 -- the row leaves a sound world, and changes the hands and the queues as it says
@@ -40,17 +40,17 @@ pub record Goes (a b : World) (step : Step) (reply : Reply) : Type 0 where
 
 -- the hands after a row, and what it puts into queue q, takes from it, and whether it closes it
 abbrev Change : Type 0
-Change = Hands × List ℕ × List ℕ × Bool
+Change = HandNotices × List ℕ × List ℕ × Bool
 
-abbrev change_by : Hands → ℕ → Step → Reply → Change
+abbrev change_by : HandNotices → ℕ → Step → Reply → Change
 change_by hands q step reply =
     (held_after hands step reply, put_by hands q step reply, taken_by q step reply, closed_by q step reply)
 
-abbrev no_change : Hands → Change
+abbrev no_change : HandNotices → Change
 no_change hands = (hands, [], [], false)
 
 abbrev pub IsStill : Step → Reply → Type 0
-IsStill step reply = (hands : Hands) (q : ℕ) → change_by hands q step reply ≡ no_change hands
+IsStill step reply = (hands : HandNotices) (q : ℕ) → change_by hands q step reply ≡ no_change hands
 
 pub same : (w : World) → SameOthers w w
 same w = record { mutators = refl; workers = refl; queues = refl }
@@ -93,7 +93,7 @@ hand_keeps_queues w (Worker k) hand = refl
 abbrev pub Move : Type 0
 Move = List ℕ × List ℕ × Bool
 
-abbrev pub move_by : Hands → ℕ → Step → Reply → Move
+abbrev pub move_by : HandNotices → ℕ → Step → Reply → Move
 move_by hands q step reply = (put_by hands q step reply, taken_by q step reply, closed_by q step reply)
 
 abbrev pub no_move : Move
@@ -102,12 +102,12 @@ no_move = ([], [], false)
 -- a row that sets a hand and moves no queue
 pub sets_hand : (w : World) (who : Actor) (hand : Option Notice) (step : Step) (reply : Reply) → IsSound w
     → HasHand w who → NoticeBelow w.heap.config.queues hand
-    → ((hands : Hands) → held_after hands step reply ≡ with_held hands who (as_held hand))
-    → ((hands : Hands) (q : ℕ) → move_by hands q step reply ≡ no_move)
+    → ((hands : HandNotices) → held_after hands step reply ≡ with_held hands who (as_held hand))
+    → ((hands : HandNotices) (q : ℕ) → move_by hands q step reply ≡ no_move)
     → Goes w (with_hand w who hand) step reply
 sets_hand w who hand step reply sound has below held still = record {
   sound = sound_hand w who hand sound has below;
-  held = λ other. hand_set w who hand has other ∙ ap (λ (hs : Hands). hs other) (sym (held (held_of w)));
+  held = λ other. hand_set w who hand has other ∙ ap (λ (hs : HandNotices). hs other) (sym (held (held_of w)));
   queue = λ q. rw (hand_keeps_queues w who hand)
       (subst (λ (c : Move). QueueMoves object_of (queue_at w q) (queue_at w q) c.0 c.1 c.2)
       (sym (still (held_of w) q)) (moves_nothing object_of (queue_at w q)));
@@ -121,9 +121,9 @@ goes_after a mid b step reply is goes =
     let hands : held_of mid ≡ held_of a = λ i who. same_held a mid is who i in
     record {
       sound = goes.sound;
-      held = λ who. subst (λ (hs : Hands). held_of b who ≡ held_after hs step reply who) hands (goes.held who);
+      held = λ who. subst (λ (hs : HandNotices). held_of b who ≡ held_after hs step reply who) hands (goes.held who);
       queue = λ q. subst
-          (λ (hs : Hands). QueueMoves object_of (queue_at a q) (queue_at b q)
+          (λ (hs : HandNotices). QueueMoves object_of (queue_at a q) (queue_at b q)
           (put_by hs q step reply) (taken_by q step reply) (closed_by q step reply)) hands
           (subst
           (λ (qs : List (Lists Notice)). QueueMoves object_of (slice_index_or qs q (new_queue q)) (queue_at b q)

@@ -8,7 +8,7 @@ use Rattle.ref_base.specs.Paths.{if_any}
 use Rattle.ref_base.specs.Heaps.{slot_at, reference_at, registered_in, changed_in, with_reference, cleared, got_at}
 use Rattle.ref_base.specs.Heaps.{with_field, got, cut, nulls, new_reference}
 use Rattle.ref_base.specs.Worlds.{World, Notice, with_heap, hand_of, with_hand}
-use Rattle.ref_base.specs.Told.{told_object, told_value, is_done, told_notice, is_nothing, told_cycle, is_doomed}
+use Rattle.ref_base.specs.Told.{told_object, told_value, is_done, told_notice, is_nothing, told_cycle, is_mark_end}
 use Rattle.ref_base.specs.Told.{told_cleared, told_taken, is_added}
 use Rattle.ref_base.specs.HeapSteps.{NamedStep, handed, taking}
 use Rattle.ref_base.specs.Replay.{if_told, after_heap, after_queues, pended, put_in}
@@ -179,7 +179,7 @@ numbers_same w (heap.Adopt m d hold) reply plain = told_keeps numbers_of (told_o
 numbers_same w (heap.Release hold) reply plain = done_keeps numbers_of (is_done reply) _ w refl
 numbers_same w (heap.Begin now how) reply plain = told_keeps numbers_of (told_cycle reply) _ w (λ n. refl)
 numbers_same w (heap.Scan k) reply plain = refl
-numbers_same w heap.EndMark reply plain = done_keeps numbers_of (is_doomed reply) _ w refl
+numbers_same w heap.EndMark reply plain = done_keeps numbers_of (is_mark_end reply) _ w refl
 numbers_same w (heap.ClearNext k) reply plain =
     told_keeps numbers_of (told_cleared reply) _ w
     (λ n. numbers_pended _ k n (registered_in (reference_at w.heap n))

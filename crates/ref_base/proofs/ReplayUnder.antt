@@ -8,7 +8,7 @@ use Rattle.ref_base.specs.Heaps.{new_reference, with_hold, changed_in, with_refe
 use Rattle.ref_base.specs.Heaps.{cleared, got_at}
 use Rattle.ref_base.specs.Heaps.{with_field}
 use Rattle.ref_base.specs.Worlds.{World, Notice, hand_of, with_heap, with_hand}
-use Rattle.ref_base.specs.Told.{told_object, told_value, is_done, told_notice, is_nothing, told_cycle, is_doomed}
+use Rattle.ref_base.specs.Told.{told_object, told_value, is_done, told_notice, is_nothing, told_cycle, is_mark_end}
 use Rattle.ref_base.specs.Told.{told_taken, is_added}
 use Rattle.ref_base.specs.HeapSteps.{NamedStep, heap_step, handed, taking}
 use Rattle.ref_base.specs.Replay.{if_told, after_heap, after_queues, put_in}
@@ -125,7 +125,7 @@ module _ (gone : List ℕ) (these : ℕ → Bool) where
   heap_through w (heap.Release hold) reply plain apart = done_under (is_done reply) _ _ w refl
   heap_through w (heap.Begin now how) reply plain apart = told_under (told_cycle reply) _ _ w (λ n is. refl)
   heap_through w (heap.Scan k) reply plain apart = refl
-  heap_through w heap.EndMark reply plain apart = done_under (is_doomed reply) _ _ w refl
+  heap_through w heap.EndMark reply plain apart = done_under (is_mark_end reply) _ _ w refl
   heap_through w (heap.ClearNext k) reply plain apart = absurd plain
   heap_through w heap.EndClear reply plain apart = done_under (is_done reply) _ _ w refl
   heap_through w (heap.Hand k) reply plain apart = told_under (told_notice reply) _ _ w (λ notice is. refl)

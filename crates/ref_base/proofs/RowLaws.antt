@@ -9,7 +9,7 @@ use Rattle.ref_base.specs.Graphs.{Object, plain_object}
 use Rattle.ref_base.specs.Heaps.{Heap, slot_at, with_slot, with_hold, without_hold, one_more, one_fewer, registered_in}
 use Rattle.ref_base.specs.Heaps.{reference_at, got, nulls, new_reference, made, cut, stored}
 use Rattle.ref_base.specs.QueueLists.{was_put}
-use Rattle.ref_base.specs.QueueRows.{Hands, with_held, held_after}
+use Rattle.ref_base.specs.QueueRows.{HandNotices, with_held, held_after}
 use Rattle.ref_base.specs.Worlds.{World, Notice, Pending, SameOthers, object_of, hand_of, queue_at, pending_of}
 use Rattle.ref_base.specs.Worlds.{with_heap, with_hand, with_pending}
 use Rattle.ref_base.specs.HeapSteps.{NamedStep, hold_of, spending, handed}
@@ -417,8 +417,8 @@ gives_notice : (a c b : State) (who : Actor) (notice : Notice) (step : Step) (an
     → Keeps a.world c.world → HasHand a.world who → notice.queue < a.world.heap.config.queues → reply ≡ answer
     → b ≡ with_handed c step reply
     → handed c.world step answer ≡ with_hand c.world who (Some notice)
-    → ((hands : Hands) → held_after hands step answer ≡ with_held hands who (as_held (Some notice)))
-    → ((hands : Hands) (q : ℕ) → move_by hands q step answer ≡ no_move)
+    → ((hands : HandNotices) → held_after hands step answer ≡ with_held hands who (as_held (Some notice)))
+    → ((hands : HandNotices) (q : ℕ) → move_by hands q step answer ≡ no_move)
     → Goes a.world b.world step reply
 gives_notice a c b who notice step answer reply sound keeps has below is left gives held stands =
     let bound : notice.queue < c.world.heap.config.queues = rw (same_queues a.world c.world sound keeps) below in
@@ -432,8 +432,8 @@ gives_notice a c b who notice step answer reply sound keeps has below is left gi
 spends : (a c b : State) (who : Actor) (step : Step) (answer reply : Reply) → IsSound a.world → Keeps a.world c.world
     → HasHand a.world who → reply ≡ answer → b ≡ with_handed c step reply
     → handed c.world step answer ≡ with_hand c.world who None
-    → ((hands : Hands) → held_after hands step answer ≡ with_held hands who None)
-    → ((hands : Hands) (q : ℕ) → move_by hands q step answer ≡ no_move)
+    → ((hands : HandNotices) → held_after hands step answer ≡ with_held hands who None)
+    → ((hands : HandNotices) (q : ℕ) → move_by hands q step answer ≡ no_move)
     → Goes a.world b.world step reply
 spends a c b who step answer reply sound keeps has is left empty held stands =
     handled a c b step answer reply is left

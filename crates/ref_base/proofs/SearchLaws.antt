@@ -9,7 +9,7 @@ use Rattle.std.proofs.lemmas.List.{take_all, take-append-le, length-take}
 use Rattle.ref_base.specs.Members.{has}
 use Rattle.ref_base.specs.Graphs.{Graph, Object, Reference, object_at, is_there}
 use Rattle.ref_base.specs.Paths.{Allowed, targets_at, targets_of, present, allowed_referent}
-use Rattle.ref_base.specs.Searches.{added, added_all, fields_of, referent_of, unseen, IsReached, IsSearched}
+use Rattle.ref_base.specs.Searches.{with_reached, added_all, fields_of, searched_referents, unseen, ArePathEnds, IsSearched}
 use Rattle.ref_base.proofs.HasLaws.{has-first, has-left, has-right, has-cases, has-single, has-get_or, has-take_at}
 use Rattle.ref_base.proofs.HasLaws.{has-take, has-take_more}
 use Rattle.ref_base.proofs.PathLaws.{ends-wider, fields-targets, root_ends, target_ends, path_within}
@@ -56,8 +56,8 @@ length-front ms ns front = let same = ap length front in omega (arith, same, len
 module _ (os : List Object) where
   -- a candidate changes nothing, or goes last
   pub added-cases : (ns : List ℕ) (n : ℕ)
-      → ((added os ns n ≡ ns) × (is_there os n ≡ true → has ns n ≡ true))
-      ⊎ ((added os ns n ≡ ns ++ n ∷ []) × (is_there os n ≡ true) × (has ns n ≡ false))
+      → ((with_reached os ns n ≡ ns) × (is_there os n ≡ true → has ns n ≡ true))
+      ⊎ ((with_reached os ns n ≡ ns ++ n ∷ []) × (is_there os n ≡ true) × (has ns n ≡ false))
   added-cases ns n =
       elim (cases_Bool (is_there os n)) [
         | inr absent ↦ inl (simp absent refl, λ there. absurd (true≢false (sym there ∙ absent)))
@@ -68,7 +68,7 @@ module _ (os : List Object) where
       ]
 
   -- what was seen stays, in its place
-  pub added-front : (ns : List ℕ) (n : ℕ) → (more : List ℕ) × (added os ns n ≡ ns ++ more)
+  pub added-front : (ns : List ℕ) (n : ℕ) → (more : List ℕ) × (with_reached os ns n ≡ ns ++ more)
   added-front ns n =
       elim (added-cases ns n) [
         | inl same ↦ ([], same.0 ∙ sym (append-nil ns))
@@ -79,7 +79,7 @@ module _ (os : List Object) where
   added_all-front [] ns = ([], sym (append-nil ns))
   added_all-front (c ∷ cs) ns =
       let first = added-front ns c in
-      let rest = added_all-front cs (added os ns c) in
+      let rest = added_all-front cs (with_reached os ns c) in
       (first.0 ++ rest.0, rest.1 ∙ ap (λ ms. ms ++ rest.0) first.1 ∙ append_assoc ns first.0 rest.0)
 
   pub added_all-keeps : (cs ns : List ℕ) (n : ℕ) → has ns n ≡ true → has (added_all os ns cs) n ≡ true
@@ -88,7 +88,7 @@ module _ (os : List Object) where
       subst (λ ms. has ms n ≡ true) (sym front.1) (has-left ns front.0 n h)
 
   -- each candidate that is there is seen
-  pub added-has : (ns : List ℕ) (n : ℕ) → is_there os n ≡ true → has (added os ns n) n ≡ true
+  pub added-has : (ns : List ℕ) (n : ℕ) → is_there os n ≡ true → has (with_reached os ns n) n ≡ true
   added-has ns n there =
       elim (added-cases ns n) [
         | inl same ↦ subst (λ ms. has ms n ≡ true) (sym same.0) (same.1 there)
@@ -101,14 +101,14 @@ module _ (os : List Object) where
   added_all-has (c ∷ cs) ns n h there =
       elim (or_cases (c == n) (has cs n) h) [
         | inl same ↦
-            let first : has (added os ns c) n ≡ true =
-            subst (λ k. has (added os ns k) n ≡ true) (sym (eqb-true c n same)) (added-has ns n there) in
-            added_all-keeps cs (added os ns c) n first
-        | inr later ↦ added_all-has cs (added os ns c) n later there
+            let first : has (with_reached os ns c) n ≡ true =
+            subst (λ k. has (with_reached os ns k) n ≡ true) (sym (eqb-true c n same)) (added-has ns n there) in
+            added_all-keeps cs (with_reached os ns c) n first
+        | inr later ↦ added_all-has cs (with_reached os ns c) n later there
       ]
 
   -- and nothing else is
-  pub added-only : (ns : List ℕ) (c n : ℕ) → has (added os ns c) n ≡ true
+  pub added-only : (ns : List ℕ) (c n : ℕ) → has (with_reached os ns c) n ≡ true
       → (has ns n ≡ true) ⊎ ((c ≡ n) × (is_there os n ≡ true))
   added-only ns c n h =
       elim (added-cases ns c) [
@@ -125,7 +125,7 @@ module _ (os : List Object) where
       → (has ns n ≡ true) ⊎ ((has cs n ≡ true) × (is_there os n ≡ true))
   added_all-only [] ns n h = inl h
   added_all-only (c ∷ cs) ns n h =
-      elim (added_all-only cs (added os ns c) n h) [
+      elim (added_all-only cs (with_reached os ns c) n h) [
         | inl before ↦ elim (added-only ns c n before) [
           | inl old ↦ inl old
           | inr new ↦ inr (or_left (c == n) (has cs n) (eq-eqb c n new.0), new.1)
@@ -135,7 +135,7 @@ module _ (os : List Object) where
 
   -- what is seen grows by no more than what is unseen falls
   pub added-room : (ns : List ℕ) (n : ℕ)
-      → unseen os (added os ns n) + length (added os ns n) ≤ unseen os ns + length ns
+      → unseen os (with_reached os ns n) + length (with_reached os ns n) ≤ unseen os ns + length ns
   added-room ns n =
       elim (added-cases ns n) [
         | inl same ↦ subst (λ ms. unseen os ms + length ms ≤ unseen os ns + length ns) (sym same.0) (omega arith)
@@ -150,20 +150,20 @@ module _ (os : List Object) where
   added_all-room [] ns = omega arith
   added_all-room (c ∷ cs) ns =
       let first = added-room ns c in
-      let rest = added_all-room cs (added os ns c) in
+      let rest = added_all-room cs (with_reached os ns c) in
       omega (arith, first, rest)
 
   -- to add candidates and then others is to add all of them
   pub added_all-append : (cs ds ns : List ℕ) → added_all os ns (cs ++ ds) ≡ added_all os (added_all os ns cs) ds
   added_all-append [] ds ns = refl
-  added_all-append (c ∷ cs) ds ns = added_all-append cs ds (added os ns c)
+  added_all-append (c ∷ cs) ds ns = added_all-append cs ds (with_reached os ns c)
 
   -- candidates that were seen before, where they are there, change nothing
   pub added_all-old : (cs ns : List ℕ) → ((n : ℕ) → has cs n ≡ true → is_there os n ≡ true → has ns n ≡ true)
       → added_all os ns cs ≡ ns
   added_all-old [] ns old = refl
   added_all-old (c ∷ cs) ns old =
-      let first : added os ns c ≡ ns = elim (added-cases ns c) [
+      let first : with_reached os ns c ≡ ns = elim (added-cases ns c) [
         | inl same ↦ same.0
         | inr last ↦ absurd (true≢false (sym (old c (has-first c cs) last.1) ∙ last.2))
       ] in
@@ -172,7 +172,7 @@ module _ (os : List Object) where
   -- so where an object's fields were, to add its referent is to add all its targets
   pub added_all-referent : (allow : Allowed) (o : Option Object) (ns : List ℕ)
       → ((n : ℕ) → has (fields_of o) n ≡ true → is_there os n ≡ true → has ns n ≡ true)
-      → added_all os ns (referent_of allow o) ≡ added_all os ns (targets_of allow o)
+      → added_all os ns (searched_referents allow o) ≡ added_all os ns (targets_of allow o)
   added_all-referent allow None ns old = refl
   added_all-referent allow (Some o) ns old =
       let referents : List ℕ = allowed_referent allow o.reference in
@@ -254,7 +254,7 @@ module _ (allow : Allowed) (g : Graph) where
     -- where its fields were seen before, an object adds its referent alone
     pub referent_alone : next < closed
         → let m : ℕ = get_or seen next 0 in
-        added_all g.objects seen (referent_of allow (object_at g.objects m))
+        added_all g.objects seen (searched_referents allow (object_at g.objects m))
         ≡ added_all g.objects seen (targets_at allow g.objects m)
     referent_alone first =
         let m : ℕ = get_or seen next 0 in
@@ -263,7 +263,7 @@ module _ (allow : Allowed) (g : Graph) where
         added_all-referent g.objects allow (object_at g.objects m) seen (λ n. so_far.fields_seen m n front)
 
     -- where it has gone on from all that it has seen, that is what paths end at
-    pub searched_all : length seen ≤ next → IsReached allow g seen
+    pub searched_all : length seen ≤ next → ArePathEnds allow g seen
     searched_all all = record {
       sound = so_far.sound;
       complete = λ n ends.
@@ -275,7 +275,7 @@ module _ (allow : Allowed) (g : Graph) where
 
   -- so the ends of paths can be listed
   pub reached_within : (fuel next : ℕ) (seen : List ℕ) → IsSearched allow g seen 0 next
-      → work_left g seen ≤ fuel + next → (ns : List ℕ) × IsReached allow g ns
+      → work_left g seen ≤ fuel + next → (ns : List ℕ) × ArePathEnds allow g ns
   reached_within zero next seen so_far enough = (seen, searched_all seen 0 next so_far (omega arith))
   reached_within (suc fuel) next seen so_far enough =
       elim (cases_lt next (length seen)) [
@@ -287,14 +287,14 @@ module _ (allow : Allowed) (g : Graph) where
         | inr all ↦ (seen, searched_all seen 0 next so_far all)
       ]
 
-  pub reached : (ns : List ℕ) × IsReached allow g ns
+  pub reached : (ns : List ℕ) × ArePathEnds allow g ns
   reached =
       let seen : List ℕ = added_all g.objects [] g.roots in
       reached_within (work_left g seen) 0 seen searched_from_roots (omega arith)
 
 -- what was reached by fewer references is where a search by more can begin
 pub searched_from_reached : (allow more : Allowed) → ((r : Reference) → allow r ≡ true → more r ≡ true) → (g : Graph)
-    (seen : List ℕ) → IsReached allow g seen → IsSearched more g seen (length seen) 0
+    (seen : List ℕ) → ArePathEnds allow g seen → IsSearched more g seen (length seen) 0
 searched_from_reached allow more wider g seen all = record {
   sound = λ n h. ends-wider allow more wider g n (all.sound n h);
   rooted = λ n there root. all.complete n (root_ends allow g n there root);

@@ -14,7 +14,7 @@ use Rattle.std.specs.Map.{keys_of, lookup}
 use Rattle.std.specs.Option.{option_map, option_copied}
 use Rattle.std.specs.Ordering.{nat_cmp}
 use Rattle.ref_base.specs.Graphs.{Object, object_at, is_there, with_object, numbers}
-use Rattle.ref_base.specs.GraphViews.{object_of, objects_in, placed, reference_of}
+use Rattle.ref_base.specs.GraphViews.{stored_object, objects_in, placed, linked_reference}
 use Rattle.ref_base.specs.Members.{has}
 use Rattle.ref_base.specs.Strengths.{IsRising}
 use Rattle.ref_base.specs.declared.stored.Stored.{Stored}
@@ -224,35 +224,35 @@ with_object-same (p ∷ ps) o rising there =
 rising-placed : (os : List Object) (es : List (ℕ × Stored)) → IsRising (numbers os) → IsRising (numbers (placed os es))
 rising-placed os [] rising = rising
 rising-placed os (e ∷ es) rising =
-    rising-placed (with_object os (object_of e)) es (rising-with_object os (object_of e) rising)
+    rising-placed (with_object os (stored_object e)) es (rising-with_object os (stored_object e) rising)
 
 pub rising-objects_in : (es : List (ℕ × Stored)) → IsRising (numbers (objects_in es))
 rising-objects_in es = rising-placed [] es tt
 
 object_at-placed : (os : List Object) (es : List (ℕ × Stored)) (n : ℕ) → IsRising (numbers os)
     → object_at (placed os es) n
-    ≡ first_of (object_at os n) (option_map (λ s. object_of (n, s)) (lookup (nat_eq n) es))
+    ≡ first_of (object_at os n) (option_map (λ s. stored_object (n, s)) (lookup (nat_eq n) es))
 object_at-placed os [] n rising = sym (first_of-none (object_at os n))
 object_at-placed os (e ∷ es) n rising =
-    let later : Option Object = option_map (λ s. object_of (n, s)) (lookup (nat_eq n) es) in
-    let here : first_of (object_at (object_of e ∷ []) n) later
-    ≡ option_map (λ s. object_of (n, s)) (lookup (nat_eq n) (e ∷ es)) =
+    let later : Option Object = option_map (λ s. stored_object (n, s)) (lookup (nat_eq n) es) in
+    let here : first_of (object_at (stored_object e ∷ []) n) later
+    ≡ option_map (λ s. stored_object (n, s)) (lookup (nat_eq n) (e ∷ es)) =
     elim (cases_Bool (e.0 == n)) [
       | inl same ↦
           let found : nat_eq n e.0 ≡ true = nat_eq_equiv.symm n e.0 ∙ same in
-          simp (same, found) (ap (λ k. Some (object_of (k, e.1))) (eqb-true e.0 n same))
+          simp (same, found) (ap (λ k. Some (stored_object (k, e.1))) (eqb-true e.0 n same))
       | inr other ↦
           let passed : nat_eq n e.0 ≡ false = nat_eq_equiv.symm n e.0 ∙ other in
           simp (other, passed) refl
     ] in
-    object_at-placed (with_object os (object_of e)) es n (rising-with_object os (object_of e) rising)
-    ∙ ap (λ o. first_of o later) (object_at-with_object os (object_of e) n rising)
-    ∙ first_of-nested (object_at os n) (object_at (object_of e ∷ []) n) later
+    object_at-placed (with_object os (stored_object e)) es n (rising-with_object os (stored_object e) rising)
+    ∙ ap (λ o. first_of o later) (object_at-with_object os (stored_object e) n rising)
+    ∙ first_of-nested (object_at os n) (object_at (stored_object e ∷ []) n) later
     ∙ ap (first_of (object_at os n)) here
 
 -- a look-up of the map is one of the objects
 pub object_at-objects_in : (es : List (ℕ × Stored)) (n : ℕ)
-    → object_at (objects_in es) n ≡ option_map (λ s. object_of (n, s)) (lookup (nat_eq n) es)
+    → object_at (objects_in es) n ≡ option_map (λ s. stored_object (n, s)) (lookup (nat_eq n) es)
 object_at-objects_in es n = object_at-placed [] es n tt
 
 pub none_from_is_some : {X : Type 0} (o : Option X) → is_some o ≡ false → o ≡ None
@@ -267,30 +267,30 @@ is_some-option_map f (Some x) = refl
 pub is_there-objects_in : (es : List (ℕ × Stored)) (n : ℕ)
     → is_some (lookup (nat_eq n) es) ≡ is_there (objects_in es) n
 is_there-objects_in es n =
-    sym (ap is_some (object_at-objects_in es n) ∙ is_some-option_map (λ s. object_of (n, s)) (lookup (nat_eq n) es))
+    sym (ap is_some (object_at-objects_in es n) ∙ is_some-option_map (λ s. stored_object (n, s)) (lookup (nat_eq n) es))
 
 -- what the map lends at a number is the object
 pub object_at-stored : (es : List (ℕ × Stored)) (n : ℕ) (lent : Option (Bor Stored))
     → option_copied lent ≡ lookup (nat_eq n) es
-    → option_map (λ s. object_of (n, s.now)) lent ≡ object_at (objects_in es) n
+    → option_map (λ s. stored_object (n, s.now)) lent ≡ object_at (objects_in es) n
 object_at-stored es n None e =
-    ap (option_map (λ s. object_of (n, s))) e ∙ sym (object_at-objects_in es n)
+    ap (option_map (λ s. stored_object (n, s))) e ∙ sym (object_at-objects_in es n)
 object_at-stored es n (Some s) e =
-    ap (option_map (λ s. object_of (n, s))) e ∙ sym (object_at-objects_in es n)
+    ap (option_map (λ s. stored_object (n, s))) e ∙ sym (object_at-objects_in es n)
 
 placed-last : (os : List Object) (es : List (ℕ × Stored)) (e : ℕ × Stored)
-    → placed os (es ++ e ∷ []) ≡ with_object (placed os es) (object_of e)
+    → placed os (es ++ e ∷ []) ≡ with_object (placed os es) (stored_object e)
 placed-last os [] e = refl
-placed-last os (d ∷ es) e = placed-last (with_object os (object_of d)) es e
+placed-last os (d ∷ es) e = placed-last (with_object os (stored_object d)) es e
 
 -- what is stored last comes to its place
 pub stored-last : (es new : List (ℕ × Stored)) (n : ℕ) (s : Stored) (fields : List (Option ℕ)) → s.fields ≡ fields
     → new ≡ es ++ (n, s) ∷ []
-    → objects_in new ≡ with_object (objects_in es) (record { no = n; fields = fields; reference = reference_of s.link })
+    → objects_in new ≡ with_object (objects_in es) (record { no = n; fields = fields; reference = linked_reference s.link })
 stored-last es new n s fields held is =
     ap objects_in is ∙ placed-last [] es (n, s)
     ∙ ap (λ (fs : List (Option ℕ)).
-    with_object (objects_in es) (record { no = n; fields = fs; reference = reference_of s.link })) held
+    with_object (objects_in es) (record { no = n; fields = fs; reference = linked_reference s.link })) held
 
 -- ---- the numbers by size
 

@@ -10,7 +10,7 @@ use Rattle.ref_base.specs.Paths.{Allowed, EndsPath, no_referents}
 use Rattle.ref_base.specs.Paths.{soft_referents, soft_and_weak_referents, if_any, is_phantom}
 use Rattle.ref_base.specs.Strengths.{HasStrength, HangsOnPhantom, IsPhantomObjectTo}
 use Rattle.ref_base.specs.Strengths.{IsPhantomReferenceTo, AreStrengths, IsRising}
-use Rattle.ref_base.specs.Searches.{IsReached, AreFound, found_reach, found_reaches, added_all}
+use Rattle.ref_base.specs.Searches.{ArePathEnds, AreSearched, found_reach, found_reaches, added_all}
 use Rattle.ref_base.specs.Searches.{phantom_referent, phantom_referent_at, phantom_referents}
 use Rattle.ref_base.specs.declared.reach.Reach.{Reach}
 use Rattle.ref_base.specs.declared.reach.Reach.TheVariants.{Strong, Soft, Weak, Phantom, Unreachable}
@@ -76,7 +76,7 @@ phantom_referents-complete os (k ∷ ks) n m h phantom =
           (phantom_referents-complete os ks n m later phantom)
     ]
 
-module _ (g : Graph) (weak : List ℕ) (all : IsReached soft_and_weak_referents g weak) where
+module _ (g : Graph) (weak : List ℕ) (all : ArePathEnds soft_and_weak_referents g weak) where
   -- what the phantom references among all weakly reachable objects refer to hangs on one
   pub hangs-sound : (n : ℕ) → has (phantom_referents g.objects weak) n ≡ true → HangsOnPhantom g n
   hangs-sound n h =
@@ -128,12 +128,12 @@ module _ (g : Graph) (n : ℕ) where
 -- ---- the strength that was found
 
 -- what isn't among what was reached ends no path
-pub unreached : (allow : Allowed) (g : Graph) (ns : List ℕ) (n : ℕ) → IsReached allow g ns → has ns n ≡ false
+pub unreached : (allow : Allowed) (g : Graph) (ns : List ℕ) (n : ℕ) → ArePathEnds allow g ns → has ns n ≡ false
     → ¬ (EndsPath allow g n)
 unreached allow g ns n all none = λ ends. true≢false (sym (all.complete n ends) ∙ none)
 
-module _ (g : Graph) (strong soft weak hung : List ℕ) (strong_all : IsReached no_referents g strong)
-    (soft_all : IsReached soft_referents g soft) (weak_all : IsReached soft_and_weak_referents g weak) (n : ℕ)
+module _ (g : Graph) (strong soft weak hung : List ℕ) (strong_all : ArePathEnds no_referents g strong)
+    (soft_all : ArePathEnds soft_referents g soft) (weak_all : ArePathEnds soft_and_weak_referents g weak) (n : ℕ)
     (sound : has hung n ≡ true → HangsOnPhantom g n) (complete : HangsOnPhantom g n → has hung n ≡ true) where
   pub found_is : HasStrength g n (found_reach strong soft weak hung n)
   found_is =
@@ -218,7 +218,7 @@ some_strength g n =
     )
 
 -- what three searches and a pass over the last found gives the strength of each object
-pub AreFound-reach : (g : Graph) (strong soft weak hung : List ℕ) → AreFound g strong soft weak hung → (n : ℕ)
+pub AreFound-reach : (g : Graph) (strong soft weak hung : List ℕ) → AreSearched g strong soft weak hung → (n : ℕ)
     → is_there g.objects n ≡ true → (reach : Reach) → reach ≡ found_reach strong soft weak hung n
     → HasStrength g n reach
 AreFound-reach g strong soft weak hung found n there reach is =
@@ -227,9 +227,9 @@ AreFound-reach g strong soft weak hung found n there reach is =
     (found.hung_sound n) (found.hung_complete n there))
 
 -- and the pass over the last finds what hangs on phantom references, of what is there
-AreFound_from : (g : Graph) (strong soft weak hung : List ℕ) → IsReached no_referents g strong
-    → IsReached soft_referents g soft → IsReached soft_and_weak_referents g weak
-    → hung ≡ added_all g.objects [] (phantom_referents g.objects weak) → AreFound g strong soft weak hung
+AreFound_from : (g : Graph) (strong soft weak hung : List ℕ) → ArePathEnds no_referents g strong
+    → ArePathEnds soft_referents g soft → ArePathEnds soft_and_weak_referents g weak
+    → hung ≡ added_all g.objects [] (phantom_referents g.objects weak) → AreSearched g strong soft weak hung
 AreFound_from g strong soft weak hung strong_all soft_all weak_all is =
     let referents : List ℕ = phantom_referents g.objects weak in
     record {
@@ -246,11 +246,11 @@ AreFound_from g strong soft weak hung strong_all soft_all weak_all is =
     }
 
 -- a search that goes on twice finds what three searches do, as fronts of its list
-pub AreFound_fronts : (g : Graph) (strong soft weak hung : List ℕ) → IsReached no_referents g strong
-    → IsReached soft_referents g soft → IsReached soft_and_weak_referents g weak
+pub AreFound_fronts : (g : Graph) (strong soft weak hung : List ℕ) → ArePathEnds no_referents g strong
+    → ArePathEnds soft_referents g soft → ArePathEnds soft_and_weak_referents g weak
     → take (length strong) soft ≡ strong → take (length soft) weak ≡ soft
     → hung ≡ added_all g.objects [] (phantom_referents g.objects weak)
-    → AreFound g (take (length strong) weak) (take (length soft) weak) weak hung
+    → AreSearched g (take (length strong) weak) (take (length soft) weak) weak hung
 AreFound_fronts g strong soft weak hung strong_all soft_all weak_all front later is =
     let shorter = length-front strong soft front in
     let first : take (length strong) weak ≡ strong =
@@ -275,7 +275,7 @@ module _ (g : Graph) (strong soft weak hung : List ℕ) where
   found_reaches-objects [] = refl
   found_reaches-objects (n ∷ ns) = ap (λ ms. n ∷ ms) (found_reaches-objects ns)
 
-  module _ (found : AreFound g strong soft weak hung) where
+  module _ (found : AreSearched g strong soft weak hung) where
     pub found_reaches-each : (ns : List ℕ) → ((n : ℕ) → has ns n ≡ true → is_there g.objects n ≡ true)
         → AllByRecursion (λ l. HasStrength g l.object l.reach) (found_reaches strong soft weak hung ns)
     found_reaches-each [] there = tt

@@ -12,13 +12,13 @@ use Rattle.ref_base.specs.declared.reply.Reply.TheVariants as replies
 use Rattle.ref_base.specs.declared.row.Row.{Row}
 
 -- a notice in a hand: the reference that it reports, and the queue that it is for
-pub record HeldNotice : Type 0 where
+pub record HandNotice : Type 0 where
   pub object : ℕ
   pub queue : ℕ
 
 -- what the hand of each mutator and worker holds
-abbrev pub Hands : Type 0
-Hands = Actor → Option HeldNotice
+abbrev pub HandNotices : Type 0
+HandNotices = Actor → Option HandNotice
 
 abbrev pub is_same_actor : Actor → Actor → Bool
 is_same_actor (Mutator m) (Mutator k) = m == k
@@ -26,16 +26,16 @@ is_same_actor (Worker m) (Worker k) = m == k
 is_same_actor who other = false
 
 -- the hands at first: each is empty
-abbrev pub empty_hands : Hands
+abbrev pub empty_hands : HandNotices
 empty_hands who = None
 
 -- the hands with what one of them holds replaced
-abbrev pub with_held : Hands → Actor → Option HeldNotice → Hands
+abbrev pub with_held : HandNotices → Actor → Option HandNotice → HandNotices
 with_held hands who held other = if is_same_actor other who then held else hands other
 
 -- the hands after one more row: an unhook, a hand or a poll that gave a notice fills one; an added put, an adopt or a
 -- release empties it
-abbrev pub held_after : Hands → Step → Reply → Hands
+abbrev pub held_after : HandNotices → Step → Reply → HandNotices
 held_after hands (Unhook m slot) (replies.Notice n q cause) =
     with_held hands (Mutator m) (Some (record { object = n; queue = q }))
 held_after hands (Hand w) (replies.Notice n q cause) =
@@ -47,12 +47,12 @@ held_after hands (Release who) replies.Done = with_held hands who None
 held_after hands step reply = hands
 
 -- the reference that the held notice reports, where there is one and it is for queue q
-abbrev pub if_for : ℕ → Option HeldNotice → List ℕ
+abbrev pub if_for : ℕ → Option HandNotice → List ℕ
 if_for q None = []
 if_for q (Some held) = if held.queue == q then held.object ∷ [] else []
 
 -- what one row puts into queue q: the reference that the hand's notice reports
-abbrev pub put_by : Hands → ℕ → Step → Reply → List ℕ
+abbrev pub put_by : HandNotices → ℕ → Step → Reply → List ℕ
 put_by hands q (Put who) (replies.Added position) = if_for q (hands who)
 put_by hands q step reply = []
 
@@ -67,7 +67,7 @@ closed_by q (Close m k) replies.Done = k == q
 closed_by q step reply = false
 
 -- the references of the added rows of queue q, in order, where the hands hold this at first
-abbrev pub put_from : Hands → ℕ → List Row → List ℕ
+abbrev pub put_from : HandNotices → ℕ → List Row → List ℕ
 put_from hands q [] = []
 put_from hands q (row ∷ rows) =
     put_by hands q row.step row.reply ++ put_from (held_after hands row.step row.reply) q rows

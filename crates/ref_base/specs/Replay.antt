@@ -11,7 +11,7 @@ use Rattle.ref_base.specs.QueueLists.{Lists, with_parcel}
 use Rattle.ref_base.specs.Worlds.{World, Notice, Pending, first_world, object_of, hand_of, queue_at, pending_of}
 use Rattle.ref_base.specs.Worlds.{with_heap, with_hand, with_queue, with_pending}
 use Rattle.ref_base.specs.Told.{told_object, told_value, is_done, told_notice, is_nothing, is_added, told_taken}
-use Rattle.ref_base.specs.Told.{told_cycle, is_doomed, told_cleared}
+use Rattle.ref_base.specs.Told.{told_cycle, is_mark_end, told_cleared}
 use Rattle.ref_base.specs.HeapSteps.{NamedStep, heap_step, handed}
 use Rattle.ref_base.specs.declared.config.Config.{Config}
 use Rattle.ref_base.specs.declared.actor.Actor.{Actor}
@@ -117,7 +117,7 @@ after_heap w (heap.Adopt m d hold) r = if_told (told_object r) (λ n. with_heap 
 after_heap w (heap.Release hold) r = if is_done r then with_heap w (without_hold w.heap hold.object) else w
 after_heap w (heap.Begin now urgency) r = if_told (told_cycle r) (λ n. begun w now urgency n) w
 after_heap w (heap.Scan k) r = w
-after_heap w heap.EndMark r = if is_doomed r then with_phase w Clearing else w
+after_heap w heap.EndMark r = if is_mark_end r then with_phase w Clearing else w
 after_heap w (heap.ClearNext k) r = if_told (told_cleared r) (λ n. cleared_for w k n) w
 after_heap w heap.EndClear r = if is_done r then with_phase w Sweeping else w
 after_heap w (heap.Hand k) r = if_told (told_notice r) (λ notice. handed_on w k notice.object) w

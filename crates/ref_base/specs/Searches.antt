@@ -24,13 +24,13 @@ abbrev pub allowed : Allow → Allowed
 allowed a r = allows a r.strength
 
 -- the numbers with one more, last, where it is that of an object and isn't among them
-abbrev pub added : List Object → List ℕ → ℕ → List ℕ
-added os ns n = if is_there os n then with_root ns n else ns
+abbrev pub with_reached : List Object → List ℕ → ℕ → List ℕ
+with_reached os ns n = if is_there os n then with_root ns n else ns
 
 -- the same of each of some candidates in turn
 abbrev pub added_all : List Object → List ℕ → List ℕ → List ℕ
 added_all os ns [] = ns
-added_all os ns (c ∷ cs) = added_all os (added os ns c) cs
+added_all os ns (c ∷ cs) = added_all os (with_reached os ns c) cs
 
 -- how many objects have a number that isn't among ns
 abbrev pub unseen : List Object → List ℕ → ℕ
@@ -43,9 +43,9 @@ fields_of None = []
 fields_of (Some o) = present o.fields
 
 -- the referent of an object, where a path may go through it
-abbrev pub referent_of : Allowed → Option Object → List ℕ
-referent_of allow None = []
-referent_of allow (Some o) = allowed_referent allow o.reference
+abbrev pub searched_referents : Allowed → Option Object → List ℕ
+searched_referents allow None = []
+searched_referents allow (Some o) = allowed_referent allow o.reference
 
 -- how far a search has come that has gone on from the first `next` of what it has seen, where it began with the first
 -- `closed` of them, whose fields were seen before it began
@@ -59,7 +59,7 @@ pub record IsSearched (allow : Allowed) (g : Graph) (seen : List ℕ) (closed ne
       → is_there g.objects n ≡ true → has seen n ≡ true
 
 -- the numbers are those at which paths end
-pub record IsReached (allow : Allowed) (g : Graph) (ns : List ℕ) : Type 0 where
+pub record ArePathEnds (allow : Allowed) (g : Graph) (ns : List ℕ) : Type 0 where
   pub sound : (n : ℕ) → has ns n ≡ true → EndsPath allow g n
   pub complete : (n : ℕ) → EndsPath allow g n → has ns n ≡ true
 
@@ -78,10 +78,10 @@ phantom_referents os [] = []
 phantom_referents os (m ∷ ms) = phantom_referent_at (object_at os m) ++ phantom_referents os ms
 
 -- what a search has found that went on twice, and a pass over all that it found
-pub record AreFound (g : Graph) (strong soft weak hung : List ℕ) : Type 0 where
-  pub strong_reached : IsReached no_referents g strong
-  pub soft_reached : IsReached soft_referents g soft
-  pub weak_reached : IsReached soft_and_weak_referents g weak
+pub record AreSearched (g : Graph) (strong soft weak hung : List ℕ) : Type 0 where
+  pub strong_reached : ArePathEnds no_referents g strong
+  pub soft_reached : ArePathEnds soft_referents g soft
+  pub weak_reached : ArePathEnds soft_and_weak_referents g weak
   pub hung_sound : (n : ℕ) → has hung n ≡ true → HangsOnPhantom g n
   pub hung_complete : (n : ℕ) → is_there g.objects n ≡ true → HangsOnPhantom g n → has hung n ≡ true
 

@@ -46,9 +46,9 @@ told_cycle (replies.Cycle n) = Some n
 told_cycle r = None
 
 -- that a mark ended
-abbrev pub is_doomed : Reply → Bool
-is_doomed (replies.Doomed count) = true
-is_doomed r = false
+abbrev pub is_mark_end : Reply → Bool
+is_mark_end (replies.Doomed count) = true
+is_mark_end r = false
 
 -- the reference that was cleared
 abbrev pub told_cleared : Reply → Option ℕ

@@ -2,7 +2,7 @@
 
 ghost use Rattle.std.specs.Prelude.{◌≡◌, ◌≤◌, length, IfOk};
 ghost use Rattle.std.specs.Option.{option_map};
-ghost use Rattle.ref_base.specs.GraphViews.{object_of, reference_of};
+ghost use Rattle.ref_base.specs.GraphViews.{stored_object, linked_reference};
 ghost use Rattle.ref_base.specs.GraphAnswers.{AnswersObject, after_object, AnswersRoot, after_root};
 ghost use Rattle.ref_base.specs.Graphs.{empty_graph, is_there, numbers, object_at, plain_object, reference_object};
 ghost use Rattle.ref_base.specs.Strengths.{IsRising};
@@ -82,9 +82,9 @@ impl<A: Allocator + Copy> Graph<A> {
         link: Option<Link>,
     ) -> Result<bool, Fault>
         ensures answer { AnswersObject self.old
-            (record { no = no; fields = fields.now; reference = reference_of link }) result }
+            (record { no = no; fields = fields.now; reference = linked_reference link }) result }
         ensures after { self.new ≡ after_object self.old
-            (record { no = no; fields = fields.now; reference = reference_of link }) result }
+            (record { no = no; fields = fields.now; reference = linked_reference link }) result }
     {
         if fields.len() > MOST_FIELDS {
             return Err(Fault::BadField);
@@ -125,7 +125,7 @@ impl<A: Allocator + Copy> Graph<A> {
     /// What is stored of the object of this number. Where objects were added by number from 1 on, as most graphs have
     /// them, it stands where its number says; elsewhere it is found by hashing, in expected constant time.
     pub(crate) fn stored(&self, no: ObjNo) -> Option<&Stored>
-        ensures { option_map (λ s. object_of (no, s.now)) result ≡ object_at self.now.objects no }
+        ensures { option_map (λ s. stored_object (no, s.now)) result ≡ object_at self.now.objects no }
     {
         let place = no.0.saturating_sub(1) as usize;
         match self.objects.get_index(place) {

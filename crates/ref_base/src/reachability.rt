@@ -4,7 +4,7 @@ ghost use Rattle.std.specs.Prelude.{◌≡◌, IfOk, OnErr, [], take};
 ghost use Rattle.ref_base.specs.Graphs.{numbers, object_at};
 ghost use Rattle.ref_base.specs.GraphAnswers.{AnswersStrength};
 ghost use Rattle.ref_base.specs.Paths.{if_any};
-ghost use Rattle.ref_base.specs.Searches.{added_all, phantom_referents, phantom_referent_at, AreFound};
+ghost use Rattle.ref_base.specs.Searches.{added_all, phantom_referents, phantom_referent_at, AreSearched};
 ghost use Rattle.ref_base.specs.Searches.{found_reach, found_reaches};
 ghost use Rattle.ref_base.specs.Strengths.{AreStrengths, IsRising};
 
@@ -56,7 +56,7 @@ fn find<A: Allocator + Copy, B: Allocator + Copy>(
     alloc: B,
     graph: &Graph<A>,
 ) -> Result<Found<B>, AllocError>
-    ensures { IfOk result (λ f. AreFound graph.now (take f.strong f.reached.keys) (take f.soft f.reached.keys)
+    ensures { IfOk result (λ f. AreSearched graph.now (take f.strong f.reached.keys) (take f.soft f.reached.keys)
         f.reached.keys f.hung.keys) }
 {
     let mut reached = IndexSet::new(alloc);

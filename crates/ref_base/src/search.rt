@@ -3,10 +3,10 @@
 //! references that paths may go through, so that what it found before stays the front of its list.
 
 ghost use Rattle.std.specs.Prelude.{◌≡◌, OnOk, length, take};
-ghost use Rattle.ref_base.specs.GraphViews.{reference_of};
+ghost use Rattle.ref_base.specs.GraphViews.{linked_reference};
 ghost use Rattle.ref_base.specs.Graphs.{object_at};
 ghost use Rattle.ref_base.specs.Paths.{allowed_referent, if_any, present, targets_at};
-ghost use Rattle.ref_base.specs.Searches.{allows, allowed, added, added_all, referent_of, IsReached, IsSearched};
+ghost use Rattle.ref_base.specs.Searches.{allows, allowed, with_reached, added_all, searched_referents, ArePathEnds, IsSearched};
 
 use crate::stored::Link;
 use crate::{Graph, ObjNo, Strength};
@@ -40,7 +40,7 @@ impl Allow {
 
     // The referent, where a path may go through to it.
     fn referent(self, link: Option<Link>) -> Option<ObjNo>
-        ensures { if_any result ≡ allowed_referent (allowed self) (reference_of link) }
+        ensures { if_any result ≡ allowed_referent (allowed self) (linked_reference link) }
     {
         match link {
             Some(link) if self.allows(link.strength) => link.referent,
@@ -58,7 +58,7 @@ fn add<A: Allocator + Copy, B: Allocator + Copy>(
     graph: &Graph<A>,
     no: ObjNo,
 ) -> Result<(), AllocError>
-    ensures { OnOk result (seen.new.keys ≡ added graph.now.objects seen.old.keys no) }
+    ensures { OnOk result (seen.new.keys ≡ with_reached graph.now.objects seen.old.keys no) }
 {
     if graph.has_object(no) {
         seen.insert(no)?;
@@ -133,7 +133,7 @@ fn add_referent<A: Allocator + Copy, B: Allocator + Copy>(
     allow: Allow,
 ) -> Result<(), AllocError>
     ensures { OnOk result (seen.new.keys ≡ added_all graph.now.objects seen.old.keys
-        (referent_of (allowed allow) (object_at graph.now.objects no))) }
+        (searched_referents (allowed allow) (object_at graph.now.objects no))) }
 {
     match graph.stored(no) {
         Some(stored) => add_if_any(seen, graph, allow.referent(stored.link)),
@@ -150,7 +150,7 @@ pub(crate) fn go_on<A: Allocator + Copy, B: Allocator + Copy>(
     closed: usize,
 ) -> Result<(), AllocError>
     requires { IsSearched (allowed allow) graph.now seen.old.keys closed 0 }
-    ensures reached { OnOk result (IsReached (allowed allow) graph.now seen.new.keys) }
+    ensures reached { OnOk result (ArePathEnds (allowed allow) graph.now seen.new.keys) }
     ensures kept { OnOk result (take (length seen.old.keys) seen.new.keys ≡ seen.old.keys) }
 {
     let mut next = 0;

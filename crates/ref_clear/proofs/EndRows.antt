@@ -18,13 +18,13 @@ use Rattle.ref_base.specs.declared.reply.Reply.TheVariants as replies
 use Rattle.ref_base.proofs.Forgetting.{heap_but-none}
 use Rattle.ref_base.proofs.RowForms.{unless_parts}
 use Rattle.ref_objects.specs.Grounds.{unmarked}
-use Rattle.ref_mark.specs.CycleHeaps.{CycleHeap, is_white, doomed, with_phase}
-use Rattle.ref_mark.specs.Standing.{Stands as MarkStands, FactsBut, shown_heap}
+use Rattle.ref_mark.specs.CycleHeaps.{CycleHeap, is_white, doomed, cycle_in_phase}
+use Rattle.ref_mark.specs.Standing.{MarkStands, FactsBut, shown_heap}
 use Rattle.ref_mark.proofs.DoomedLists.{has-unmarked}
 use Rattle.ref_clear.specs.ClearHeaps.{ClearHeap, with_mark}
 use Rattle.ref_mark.proofs.Passed.{is_clearing, is_sweeping}
 use Rattle.ref_clear.specs.ClearCalls.{refusal_in}
-use Rattle.ref_clear.specs.Standing.{Stands}
+use Rattle.ref_clear.specs.Standing.{HeapStands}
 use Rattle.ref_clear.proofs.SweepLoops.{doomed-sweeping}
 
 -- ---- what a step that isn't refused has passed
@@ -35,15 +35,15 @@ empty_is_none (x ∷ xs) empty = absurd (false≢true empty)
 
 -- a heap in this phase is the one with this phase
 stands_in : (k : CycleHeap) (a : State) (phase : Phase) → k.phase ≡ phase → MarkStands k a
-    → MarkStands (with_phase k phase) a
+    → MarkStands (cycle_in_phase k phase) a
 stands_in k a phase is stands = subst (λ (p : Phase). MarkStands (record k { phase = p }) a) is stands
 
 -- ---- the clearing ends
 
-clear_ended_stands : (k : CycleHeap) (a : State) → MarkStands (with_phase k Clearing) a → joined k.found ≡ []
-    → MarkStands (with_phase k Sweeping) (with_world a (world_with_phase a.world Sweeping))
+clear_ended_stands : (k : CycleHeap) (a : State) → MarkStands (cycle_in_phase k Clearing) a → joined k.found ≡ []
+    → MarkStands (cycle_in_phase k Sweeping) (with_world a (world_with_phase a.world Sweeping))
 clear_ended_stands k a stands none =
-    let before = with_phase k Clearing in
+    let before = cycle_in_phase k Clearing in
     let facts : FactsBut before (graph_of a.world).roots [] = stands.facts refl in
     let cleared = stands.clearing refl in
     let same : a.world.heap ≡ shown_heap before =
@@ -72,8 +72,8 @@ clear_ended_stands k a stands none =
       };
     }
 
-pub end_clear_row : (c : ClearHeap) (a : State) → Stands c a → refusal_in c heap.EndClear ≡ None
-    → (b : State) × HeapAccepts a heap.EndClear replies.Done b × Stands (with_mark c (with_phase c.mark Sweeping)) b
+pub end_clear_row : (c : ClearHeap) (a : State) → HeapStands c a → refusal_in c heap.EndClear ≡ None
+    → (b : State) × HeapAccepts a heap.EndClear replies.Done b × HeapStands (with_mark c (cycle_in_phase c.mark Sweeping)) b
 end_clear_row c a stands none =
     let k = c.mark in
     let later = unless (is_empty (joined k.found)) ClearingLeft None in
@@ -97,9 +97,9 @@ end_clear_row c a stands none =
 abbrev shown_with : CycleHeap → List ℕ → Heap
 shown_with k d = record k.heap { objects = map (λ o. shown d o) k.heap.objects }
 
-sweep_ended_stands : (k : CycleHeap) (a : State) → MarkStands (with_phase k Sweeping) a
+sweep_ended_stands : (k : CycleHeap) (a : State) → MarkStands (cycle_in_phase k Sweeping) a
     → unmarked k.heap.objects k.marked ≡ []
-    → MarkStands (with_phase k Idle) (with_world a (world_with_phase a.world Idle))
+    → MarkStands (cycle_in_phase k Idle) (with_world a (world_with_phase a.world Idle))
 sweep_ended_stands k a stands none =
     let not_white : (n : ℕ) → is_white k n ≡ false =
     λ n. sym (has-unmarked k.heap.objects k.marked n) ∙ ap (λ ns. has ns n) none in
@@ -121,8 +121,8 @@ sweep_ended_stands k a stands none =
       sweeping = λ now. absurd (false≢true now);
     }
 
-pub end_sweep_row : (c : ClearHeap) (a : State) → Stands c a → refusal_in c heap.EndSweep ≡ None
-    → (b : State) × HeapAccepts a heap.EndSweep replies.Done b × Stands (with_mark c (with_phase c.mark Idle)) b
+pub end_sweep_row : (c : ClearHeap) (a : State) → HeapStands c a → refusal_in c heap.EndSweep ≡ None
+    → (b : State) × HeapAccepts a heap.EndSweep replies.Done b × HeapStands (with_mark c (cycle_in_phase c.mark Idle)) b
 end_sweep_row c a stands none =
     let k = c.mark in
     let later = unless (is_empty (doomed k)) SweepLeft None in

@@ -9,12 +9,12 @@ use Rattle.ref_base.specs.Collectors.{State}
 use Rattle.ref_base.specs.declared.config.Config.{Config}
 use Rattle.ref_mark.specs.CycleHeaps.{CycleHeap, first_cycle_heap}
 use Rattle.ref_mark.specs.MarkRows.{starting_state}
-use Rattle.ref_mark.specs.Standing.{Stands as MarkStands}
+use Rattle.ref_mark.specs.Standing.{MarkStands}
 use Rattle.ref_clear.specs.ClearHeaps.{ClearHeap, first_clear_heap}
-use Rattle.ref_clear.specs.ClearViews.{PendingList, empty_pending, lists_of, seen, HaveRoom, IsSound}
-use Rattle.ref_clear.specs.Standing.{Stands}
+use Rattle.ref_clear.specs.ClearViews.{PendingList, empty_pending, pending_lists_of, seen_heap, HaveRoom, IsSoundHeap}
+use Rattle.ref_clear.specs.Standing.{HeapStands}
 
-lists_of-replicate : (count room : ℕ) → lists_of (replicate count (empty_pending room)) ≡ replicate count []
+lists_of-replicate : (count room : ℕ) → pending_lists_of (replicate count (empty_pending room)) ≡ replicate count []
 lists_of-replicate zero room = refl
 lists_of-replicate (suc count) room = ap (λ pss. [] ∷ pss) (lists_of-replicate count room)
 
@@ -29,16 +29,16 @@ have_room (suc count) cells = (omega arith, have_room count cells)
 module _ (config : Config) (heap_no obj cycle : ℕ) where
   pub seen_first : {k : CycleHeap} {lists : List PendingList} → k ≡ first_cycle_heap config heap_no obj cycle
       → lists ≡ replicate config.workers (empty_pending config.cells)
-      → seen k lists ≡ first_clear_heap config heap_no obj cycle
+      → seen_heap k lists ≡ first_clear_heap config heap_no obj cycle
   seen_first {k} {lists} first are =
-      ap (λ (j : CycleHeap). seen j lists) first
-      ∙ ap (λ (ls : List PendingList). seen (first_cycle_heap config heap_no obj cycle) ls) are
+      ap (λ (j : CycleHeap). seen_heap j lists) first
+      ∙ ap (λ (ls : List PendingList). seen_heap (first_cycle_heap config heap_no obj cycle) ls) are
       ∙ ap (λ (pss : List (List Pending)).
       record { mark = first_cycle_heap config heap_no obj cycle; pending = pss })
       (lists_of-replicate config.workers config.cells)
 
   pub first_stands : MarkStands (first_cycle_heap config heap_no obj cycle) (starting_state config obj cycle)
-      → Stands (first_clear_heap config heap_no obj cycle) (starting_state config obj cycle)
+      → HeapStands (first_clear_heap config heap_no obj cycle) (starting_state config obj cycle)
   first_stands stands = record {
     mark = stands;
     pending = refl;
@@ -52,7 +52,7 @@ module _ (config : Config) (heap_no obj cycle : ℕ) where
 
   pub first_sound : {k : CycleHeap} {lists : List PendingList} → k ≡ first_cycle_heap config heap_no obj cycle
       → MarkStands k (starting_state config obj cycle)
-      → lists ≡ replicate config.workers (empty_pending config.cells) → IsSound k lists 0
+      → lists ≡ replicate config.workers (empty_pending config.cells) → IsSoundHeap k lists 0
   first_sound {k} {lists} first stands are =
       let a : State = starting_state config obj cycle in
       let own : MarkStands (first_cycle_heap config heap_no obj cycle) a =
@@ -62,6 +62,6 @@ module _ (config : Config) (heap_no obj cycle : ℕ) where
             subst (λ (j : CycleHeap). HaveRoom lists j.heap.config.cells) (sym first)
             (subst (λ (ls : List PendingList). HaveRoom ls config.cells) (sym are)
             (have_room config.workers config.cells));
-        stands = (a, subst (λ (c : ClearHeap). Stands c a) (sym (seen_first first are)) (first_stands own));
+        stands = (a, subst (λ (c : ClearHeap). HeapStands c a) (sym (seen_first first are)) (first_stands own));
         swept = λ sweeping n white. omega arith;
       }

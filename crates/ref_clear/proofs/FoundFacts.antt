@@ -14,7 +14,7 @@ use Rattle.ref_mark.proofs.DoomedLists.{past_is_in_cycle, past_is_not_marking}
 use Rattle.ref_mark.proofs.Moves.{referring_is_there}
 use Rattle.ref_mark.proofs.RootFacts.{not_white_is_black}
 use Rattle.ref_clear.specs.ClearHeaps.{ClearHeap}
-use Rattle.ref_clear.specs.Standing.{Stands}
+use Rattle.ref_clear.specs.Standing.{HeapStands}
 
 -- what is black is there, and isn't white
 pub black_parts : (k : CycleHeap) (n : ℕ) → is_black k n ≡ true
@@ -32,12 +32,12 @@ past_refers k n past =
 
 -- ---- what was found
 
-pub found_is_there : (c : ClearHeap) (a : State) (n : ℕ) → Stands c a → is_in c.mark.phase Clearing ≡ true
+pub found_is_there : (c : ClearHeap) (a : State) (n : ℕ) → HeapStands c a → is_in c.mark.phase Clearing ≡ true
     → has (joined c.mark.found) n ≡ true → is_there c.mark.heap.objects n ≡ true
 found_is_there c a n stands clearing found =
     (black_parts c.mark n ((stands.mark.clearing clearing).black n found)).0
 
-pub found_is_not_doomed : (c : ClearHeap) (a : State) (n : ℕ) → Stands c a → is_in c.mark.phase Clearing ≡ true
+pub found_is_not_doomed : (c : ClearHeap) (a : State) (n : ℕ) → HeapStands c a → is_in c.mark.phase Clearing ≡ true
     → has (joined c.mark.found) n ≡ true → is_doomed c.mark n ≡ false
 found_is_not_doomed c a n stands clearing found =
     and_right (is_past_mark c.mark.phase) (is_white c.mark n)
@@ -45,7 +45,7 @@ found_is_not_doomed c a n stands clearing found =
 
 -- ---- what is left once a sweep has begun
 
-pub nothing_refers_to_the_doomed : (c : ClearHeap) (a : State) (n : ℕ) → Stands c a
+pub nothing_refers_to_the_doomed : (c : ClearHeap) (a : State) (n : ℕ) → HeapStands c a
     → is_in c.mark.phase Sweeping ≡ true → is_doomed c.mark n ≡ false
     → refers_into (is_doomed c.mark) (reference_at c.mark.heap n) ≡ false
 nothing_refers_to_the_doomed c a n stands sweeping stays =

@@ -16,8 +16,8 @@ use Rattle.ref_mark.specs.MarkCalls.{mint_answer_in, after_mint_in}
 use Rattle.ref_mark.specs.MarkViews.{ground_of}
 use Rattle.ref_clear.specs.ClearHeaps.{pending_at, holding, handed_from}
 use Rattle.ref_clear.specs.ClearCalls.{refusal_in, answer_in, after_in, answer_of_hand}
-use Rattle.ref_clear.specs.ClearViews.{PendingList, lists_of, seen, IsSound, first_pending, rest_pending, pending_from}
-use Rattle.ref_clear.specs.ClearViews.{without_first}
+use Rattle.ref_clear.specs.ClearViews.{PendingList, pending_lists_of, seen_heap, IsSoundHeap, first_pending, rest_pending, pending_from}
+use Rattle.ref_clear.specs.ClearViews.{without_first_pending}
 use Rattle.ref_clear.proofs.HandRows.{pending_numbers-rest}
 use Rattle.ref_clear.proofs.NoticeAnswers.{mint_of_pending, mint_refused, minted}
 use Rattle.ref_clear.proofs.PendingLists.{lists_of-set}
@@ -32,61 +32,61 @@ some_first [] p some = absurd (let wrong : None ≡ Some p = some in cc)
 some_first (q ∷ qs) p some =
     let same : q ≡ p = let e : Some q ≡ Some p = some in cc in ap (λ (r : Pending). r ∷ qs) same
 
-module _ {k : CycleHeap} {lists : List PendingList} {swept_to : ℕ} (w : ℕ) (sound : IsSound k lists swept_to)
+module _ {k : CycleHeap} {lists : List PendingList} {swept_to : ℕ} (w : ℕ) (sound : IsSoundHeap k lists swept_to)
     (within : w < k.heap.config.workers) where
   there : is_worker k.heap w ≡ true
   there = lt-ltb w k.heap.config.workers within
 
   -- nothing is pending
-  pub none_to_hand : pending_from (pending_at (seen k lists) w) 0 ≡ None
-      → (replies.Nothing ≡ answer_in (seen k lists) (heap.Hand w))
-      × (seen k lists ≡ after_in (seen k lists) (heap.Hand w))
+  pub none_to_hand : pending_from (pending_at (seen_heap k lists) w) 0 ≡ None
+      → (replies.Nothing ≡ answer_in (seen_heap k lists) (heap.Hand w))
+      × (seen_heap k lists ≡ after_in (seen_heap k lists) (heap.Hand w))
   none_to_hand none =
-      let is = none_first (pending_at (seen k lists) w) none in
+      let is = none_first (pending_at (seen_heap k lists) w) none in
       (simp (there, is) refl, simp (there, is) refl)
 
   -- with a first that is pending, the mint of its hold decides
-  module _ {p : Pending} (first : pending_from (pending_at (seen k lists) w) 0 ≡ Some p) where
-    are : pending_at (seen k lists) w ≡ p ∷ rest_pending (pending_at (seen k lists) w)
-    are = some_first (pending_at (seen k lists) w) p first
+  module _ {p : Pending} (first : pending_from (pending_at (seen_heap k lists) w) 0 ≡ Some p) where
+    are : pending_at (seen_heap k lists) w ≡ p ∷ rest_pending (pending_at (seen_heap k lists) w)
+    are = some_first (pending_at (seen_heap k lists) w) p first
 
-    waits : has (pending_numbers (lists_of lists)) p.object ≡ true
+    waits : has (pending_numbers (pending_lists_of lists)) p.object ≡ true
     waits =
-        let parts = pending_numbers-rest (lists_of lists) w p (rest_pending (pending_at (seen k lists) w)) are in
+        let parts = pending_numbers-rest (pending_lists_of lists) w p (rest_pending (pending_at (seen_heap k lists) w)) are in
         ap (λ ns. has ns p.object) parts.2
         ∙ has-right parts.0 (p.object ∷ parts.1) p.object (has-first p.object parts.1)
 
-    refusal : refusal_in (seen k lists) (heap.Hand w) ≡ mint_refusal (ground_of k) p.object
+    refusal : refusal_in (seen_heap k lists) (heap.Hand w) ≡ mint_refusal (ground_of k) p.object
     refusal =
-        let own : refusal_in (seen k lists) (heap.Hand w) ≡ hand_refusal (pending_at (seen k lists) w) k.heap =
+        let own : refusal_in (seen_heap k lists) (heap.Hand w) ≡ hand_refusal (pending_at (seen_heap k lists) w) k.heap =
         simp there refl in
         own ∙ ap (λ (ps : List Pending). hand_refusal ps k.heap) are
-        ∙ sym (mint_of_pending (seen k lists) sound.stands.0 p.object sound.stands.1 waits)
+        ∙ sym (mint_of_pending (seen_heap k lists) sound.stands.0 p.object sound.stands.1 waits)
 
     pub hand_refused : {j : CycleHeap} {fault : Fault} → replies.Refused fault ≡ mint_answer_in k p.object
         → j ≡ after_mint_in k p.object
-        → (replies.Refused fault ≡ answer_in (seen k lists) (heap.Hand w))
-        × (seen j lists ≡ after_in (seen k lists) (heap.Hand w))
+        → (replies.Refused fault ≡ answer_in (seen_heap k lists) (heap.Hand w))
+        × (seen_heap j lists ≡ after_in (seen_heap k lists) (heap.Hand w))
     hand_refused {j} {fault} answer after =
         let mint = mint_refused k p.object fault answer after in
-        let is : refusal_in (seen k lists) (heap.Hand w) ≡ Some fault = refusal ∙ mint.0 in
-        (simp is refl, ap (λ (i : CycleHeap). seen i lists) mint.1 ∙ simp is refl)
+        let is : refusal_in (seen_heap k lists) (heap.Hand w) ≡ Some fault = refusal ∙ mint.0 in
+        (simp is refl, ap (λ (i : CycleHeap). seen_heap i lists) mint.1 ∙ simp is refl)
 
     pub handed : {j : CycleHeap} {l m : PendingList} {n : ℕ} → replies.Object n ≡ mint_answer_in k p.object
-        → j ≡ after_mint_in k p.object → l.stands ≡ pending_at (seen k lists) w → m ≡ without_first l
-        → (replies.Notice n p.queue (Cycle p.cycle w) ≡ answer_in (seen k lists) (heap.Hand w))
-        × (seen j (set lists w m) ≡ after_in (seen k lists) (heap.Hand w))
+        → j ≡ after_mint_in k p.object → l.stands ≡ pending_at (seen_heap k lists) w → m ≡ without_first_pending l
+        → (replies.Notice n p.queue (Cycle p.cycle w) ≡ answer_in (seen_heap k lists) (heap.Hand w))
+        × (seen_heap j (set lists w m) ≡ after_in (seen_heap k lists) (heap.Hand w))
     handed {j} {l} {m} {n} answer after stands taken =
         let mint = minted k p.object n answer after in
-        let is : refusal_in (seen k lists) (heap.Hand w) ≡ None = refusal ∙ mint.0 in
-        let rest : m.stands ≡ rest_pending (pending_at (seen k lists) w) =
+        let is : refusal_in (seen_heap k lists) (heap.Hand w) ≡ None = refusal ∙ mint.0 in
+        let rest : m.stands ≡ rest_pending (pending_at (seen_heap k lists) w) =
         ap (λ (i : PendingList). i.stands) taken ∙ ap rest_pending stands in
-        let reply : answer_of_hand w (pending_at (seen k lists) w) ≡ replies.Notice p.object p.queue (Cycle p.cycle w) =
+        let reply : answer_of_hand w (pending_at (seen_heap k lists) w) ≡ replies.Notice p.object p.queue (Cycle p.cycle w) =
         ap (answer_of_hand w) are in
-        let left = ap (handed_from (seen k lists) w) are in
-        let now = lists_of-set lists w m ∙ ap (λ (ps : List Pending). set (lists_of lists) w ps) rest in (
+        let left = ap (handed_from (seen_heap k lists) w) are in
+        let now = lists_of-set lists w m ∙ ap (λ (ps : List Pending). set (pending_lists_of lists) w ps) rest in (
           ap (λ i. replies.Notice i p.queue (Cycle p.cycle w)) mint.1 ∙ sym reply ∙ simp is refl,
-          ap (λ (i : CycleHeap). seen i (set lists w m)) mint.2
+          ap (λ (i : CycleHeap). seen_heap i (set lists w m)) mint.2
               ∙ ap (λ (pss : List (List Pending)). record { mark = holding k p.object; pending = pss }) now
               ∙ sym left ∙ simp is refl,
         )

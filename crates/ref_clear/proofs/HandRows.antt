@@ -21,7 +21,7 @@ use Rattle.ref_mark.proofs.RootFacts.{root_is_there, root_is_not_white}
 use Rattle.ref_mark.proofs.ReferenceRows.{unmoved_stands}
 use Rattle.ref_clear.specs.ClearHeaps.{ClearHeap, pending_at, handed_from}
 use Rattle.ref_clear.specs.ClearCalls.{refusal_in, answer_of_hand}
-use Rattle.ref_clear.specs.Standing.{Stands}
+use Rattle.ref_clear.specs.Standing.{HeapStands}
 use Rattle.ref_clear.proofs.PendingFacts.{root_before, pending_is_root}
 
 -- ---- lists of which one is without its first
@@ -66,8 +66,8 @@ pending_numbers-rest (qs ∷ rest) (suc w) p ps is =
 without_pending-first : (p : Pending) (ps : List Pending) → without_pending (p ∷ ps) p.object ≡ ps
 without_pending-first p ps = let own : (p.object == p.object) ≡ true = eq-eqb p.object p.object refl in simp own refl
 
-module _ (c : ClearHeap) (a : State) (w : ℕ) (stands : Stands c a) where
-  none_handed : Stands c (ticked a)
+module _ (c : ClearHeap) (a : State) (w : ℕ) (stands : HeapStands c a) where
+  none_handed : HeapStands c (ticked a)
   none_handed = record {
     mark = unmoved_stands c.mark a stands.mark a.world.heap stands.mark.heap;
     pending = ap (λ (v : World). v.pending) (ticked_world a) ∙ stands.pending;
@@ -75,7 +75,7 @@ module _ (c : ClearHeap) (a : State) (w : ℕ) (stands : Stands c a) where
   }
 
   first_handed : (p : Pending) (ps : List Pending) → pending_at c w ≡ p ∷ ps
-      → Stands (handed_from c w (p ∷ ps)) (ticked (with_world a (handed_on a.world w p.object)))
+      → HeapStands (handed_from c w (p ∷ ps)) (ticked (with_world a (handed_on a.world w p.object)))
   first_handed p ps is =
       let k = c.mark in
       let n = p.object in
@@ -121,13 +121,13 @@ module _ (c : ClearHeap) (a : State) (w : ℕ) (stands : Stands c a) where
 
   -- by what is pending for the worker
   hand_by : (ps : List Pending) → pending_at c w ≡ ps
-      → (b : State) × HandsOn a w ps (answer_of_hand w ps) b × Stands (handed_from c w ps) b
+      → (b : State) × HandsOn a w ps (answer_of_hand w ps) b × HeapStands (handed_from c w ps) b
   hand_by [] is = (ticked a, (refl, refl), none_handed)
   hand_by (p ∷ ps) is = (ticked (with_world a (handed_on a.world w p.object)), (refl, refl), first_handed p ps is)
 
-pub hand_row : (c : ClearHeap) (a : State) (w : ℕ) → Stands c a → refusal_in c (heap.Hand w) ≡ None
+pub hand_row : (c : ClearHeap) (a : State) (w : ℕ) → HeapStands c a → refusal_in c (heap.Hand w) ≡ None
     → (b : State) × HeapAccepts a (heap.Hand w) (answer_of_hand w (pending_at c w)) b
-    × Stands (handed_from c w (pending_at c w)) b
+    × HeapStands (handed_from c w (pending_at c w)) b
 hand_row c a w stands accepted =
     let row = hand_by c a w stands (pending_at c w) refl in
     let same : pending_of a.world w ≡ pending_at c w =

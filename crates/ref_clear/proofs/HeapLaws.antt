@@ -16,17 +16,17 @@ use Rattle.ref_base.specs.declared.heap_step.HeapStep.TheVariants as heap
 use Rattle.ref_base.specs.declared.reply.Reply.{Reply}
 use Rattle.ref_base.specs.declared.reply.Reply.TheVariants as replies
 use Rattle.ref_base.proofs.RowForms.{accepted_row, refused_row}
-use Rattle.ref_mark.specs.CycleHeaps.{CycleHeap, begun, doomed, shaded_all, with_phase}
+use Rattle.ref_mark.specs.CycleHeaps.{CycleHeap, cycle_begun, doomed, shaded_all, cycle_in_phase}
 use Rattle.ref_mark.specs.MarkCalls as marks
 use Rattle.ref_mark.specs.MarkCalls.{is_of_marking, late_roots, unless_refused}
-use Rattle.ref_mark.specs.Standing.{Stands as MarkStands}
+use Rattle.ref_mark.specs.Standing.{MarkStands}
 use Rattle.ref_mark.proofs.MarkLaws.{each_step as each_marking_step, on_own_heap}
 use Rattle.ref_clear.specs.ClearHeaps.{ClearHeap, with_mark, pending_at, begun_with, looked_from, handed_from, unhooked}
 use Rattle.ref_clear.specs.ClearHeaps.{swept_some}
-use Rattle.ref_clear.specs.ClearCalls.{refusal_in, told, left, answer_of_look, answer_of_hand, answer_of_unhook}
+use Rattle.ref_clear.specs.ClearCalls.{refusal_in, reply_or_fault, left, answer_of_look, answer_of_hand, answer_of_unhook}
 use Rattle.ref_clear.specs.ClearCalls.{answer_of_sweep, queue_in}
-use Rattle.ref_clear.specs.ClearRows.{IsRowOf}
-use Rattle.ref_clear.specs.Standing.{Stands}
+use Rattle.ref_clear.specs.ClearRows.{IsHeapRowOf}
+use Rattle.ref_clear.specs.Standing.{HeapStands}
 use Rattle.ref_clear.proofs.KeptRows.{row_keeps}
 use Rattle.ref_clear.proofs.StaysCleared.{after_stays, begun-heap, same_objects}
 use Rattle.ref_clear.proofs.PendingFacts.{waiting_still}
@@ -45,19 +45,19 @@ none_late : (refused : Option Fault) (late : List ℕ) → late ≡ []
 none_late None late none = none
 none_late (Some fault) late none = refl
 
-module _ (c : ClearHeap) (a : State) (stands : Stands c a) where
+module _ (c : ClearHeap) (a : State) (stands : HeapStands c a) where
   -- ---- the steps of marking
 
   -- one that has no late roots
   marking_row : (step : NamedStep) → is_of_marking step ≡ true → late_roots a step ≡ []
-      → (b : State) × IsHeapRow c.mark.heap_no a step (marks.answer_in c.mark step) b
-      × Stands (with_mark c (marks.after_in c.mark step)) b
+      → (b : State) × IsHeapRow c.mark.heap_no a step (marks.answer_in_cycle c.mark step) b
+      × HeapStands (with_mark c (marks.after_in_cycle c.mark step)) b
   marking_row step own late =
       let row = each_marking_step c.mark step own a stands.mark in
-      let j : CycleHeap = marks.after_in c.mark step in
-      let none = none_late (marks.refusal_in c.mark step) (late_roots a step) late in
+      let j : CycleHeap = marks.after_in_cycle c.mark step in
+      let none = none_late (marks.refusal_in_cycle c.mark step) (late_roots a step) late in
       let after : MarkStands j row.0 = subst (λ ns. MarkStands (shaded_all j ns) row.0) none row.2 in
-      let keeps = row_keeps c.mark.heap_no a row.0 step (marks.answer_in c.mark step) own row.1 in
+      let keeps = row_keeps c.mark.heap_no a row.0 step (marks.answer_in_cycle c.mark step) own row.1 in
       let config : j.heap.config ≡ c.mark.heap.config =
       sym (config_of j row.0 after) ∙ keeps.config ∙ config_of c.mark a stands.mark in (
         row.0,
@@ -72,15 +72,15 @@ module _ (c : ClearHeap) (a : State) (stands : Stands c a) where
   -- the pending references are the late roots of a begin
   begun_stands : (b : State) (now : ℕ) (how : Urgency) (refused : Option Fault) → b.world.pending ≡ a.world.pending
       → MarkStands
-      (shaded_all (unless_refused refused (λ fault. c.mark) (begun c.mark now how))
+      (shaded_all (unless_refused refused (λ fault. c.mark) (cycle_begun c.mark now how))
       (unless_refused refused (λ fault. []) (pending_numbers a.world.pending))) b
-      → Stands (unless_refused refused (λ fault. c) (begun_with c now how)) b
+      → HeapStands (unless_refused refused (λ fault. c) (begun_with c now how)) b
   begun_stands b now how None same after =
-      let j : CycleHeap = shaded_all (begun c.mark now how) (pending_numbers c.pending) in
+      let j : CycleHeap = shaded_all (cycle_begun c.mark now how) (pending_numbers c.pending) in
       let heap = begun-heap c.mark now how (pending_numbers c.pending) in
       record {
         mark =
-            subst (λ pss. MarkStands (shaded_all (begun c.mark now how) (pending_numbers pss)) b) stands.pending after;
+            subst (λ pss. MarkStands (shaded_all (cycle_begun c.mark now how) (pending_numbers pss)) b) stands.pending after;
         pending = same ∙ stands.pending;
         waiting =
             waiting_still c a stands j (ap (λ (h : Heap). h.config) heap)
@@ -90,12 +90,12 @@ module _ (c : ClearHeap) (a : State) (stands : Stands c a) where
       record { mark = after; pending = same ∙ stands.pending; waiting = stands.waiting }
 
   begin_row : (now : ℕ) (how : Urgency)
-      → (b : State) × IsHeapRow c.mark.heap_no a (heap.Begin now how) (marks.answer_in c.mark (heap.Begin now how)) b
-      × Stands (left c (heap.Begin now how) (begun_with c now how)) b
+      → (b : State) × IsHeapRow c.mark.heap_no a (heap.Begin now how) (marks.answer_in_cycle c.mark (heap.Begin now how)) b
+      × HeapStands (left c (heap.Begin now how) (begun_with c now how)) b
   begin_row now how =
       let step : NamedStep = heap.Begin now how in
       let row = each_marking_step c.mark step refl a stands.mark in
-      let keeps = row_keeps c.mark.heap_no a row.0 step (marks.answer_in c.mark step) refl row.1 in
+      let keeps = row_keeps c.mark.heap_no a row.0 step (marks.answer_in_cycle c.mark step) refl row.1 in
       (row.0, row.1, begun_stands row.0 now how (refusal_in c step) keeps.pending row.2)
 
   -- ---- the other steps
@@ -136,9 +136,9 @@ module _ (c : ClearHeap) (a : State) (stands : Stands c a) where
   -- a row by whether it is refused
   row_by : (step : NamedStep) (reply : Reply) (after : ClearHeap) (refused : Option Fault) → is_of_marking step ≡ false
       → refusal_in c step ≡ refused
-      → (refusal_in c step ≡ None → (b : State) × HeapAccepts a step reply b × Stands after b)
+      → (refusal_in c step ≡ None → (b : State) × HeapAccepts a step reply b × HeapStands after b)
       → (b : State) × IsHeapRow c.mark.heap_no a step (unless_refused refused replies.Refused reply) b
-      × Stands (unless_refused refused (λ fault. c) after) b
+      × HeapStands (unless_refused refused (λ fault. c) after) b
   row_by step reply after None own is accepted =
       let row = accepted is in
       (row.0, accepted_row c.mark.heap_no a step reply row.0 (own_refusal step own ∙ is) row.1, row.2)
@@ -146,11 +146,11 @@ module _ (c : ClearHeap) (a : State) (stands : Stands c a) where
       (a, refused_row c.mark.heap_no a step fault (own_refusal step own ∙ is), stands)
 
   row_of : (step : NamedStep) (reply : Reply) (after : ClearHeap) → is_of_marking step ≡ false
-      → (refusal_in c step ≡ None → (b : State) × HeapAccepts a step reply b × Stands after b)
-      → (b : State) × IsHeapRow c.mark.heap_no a step (told c step reply) b × Stands (left c step after) b
+      → (refusal_in c step ≡ None → (b : State) × HeapAccepts a step reply b × HeapStands after b)
+      → (b : State) × IsHeapRow c.mark.heap_no a step (reply_or_fault c step reply) b × HeapStands (left c step after) b
   row_of step reply after own accepted = row_by step reply after (refusal_in c step) own refl accepted
 
-pub each_step : (c : ClearHeap) (step : NamedStep) → IsRowOf c step
+pub each_step : (c : ClearHeap) (step : NamedStep) → IsHeapRowOf c step
 each_step c (heap.Unhook m s) a stands =
     let held = slot_at c.mark.heap m s in
     row_of c a stands (heap.Unhook m s) (answer_of_unhook held (queue_in c.mark m s))
@@ -161,7 +161,7 @@ each_step c (heap.ClearNext w) a stands =
     row_of c a stands (heap.ClearNext w) (answer_of_look c.mark found) (looked_from c w found) refl
     (look_row c a w stands)
 each_step c heap.EndClear a stands =
-    row_of c a stands heap.EndClear replies.Done (with_mark c (with_phase c.mark Sweeping)) refl
+    row_of c a stands heap.EndClear replies.Done (with_mark c (cycle_in_phase c.mark Sweeping)) refl
     (end_clear_row c a stands)
 each_step c (heap.Hand w) a stands =
     let waiting = pending_at c w in
@@ -170,6 +170,6 @@ each_step c (heap.Sweep w) a stands =
     row_of c a stands (heap.Sweep w) (answer_of_sweep (doomed c.mark)) (with_mark c (swept_some c.mark)) refl
     (sweep_row c a w stands)
 each_step c heap.EndSweep a stands =
-    row_of c a stands heap.EndSweep replies.Done (with_mark c (with_phase c.mark Idle)) refl
+    row_of c a stands heap.EndSweep replies.Done (with_mark c (cycle_in_phase c.mark Idle)) refl
     (end_sweep_row c a stands)
 each_step c step a stands = marking_row c a stands step refl refl

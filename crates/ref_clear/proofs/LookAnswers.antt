@@ -11,16 +11,16 @@ use Rattle.ref_base.specs.Refusals.{work_refusal}
 use Rattle.ref_base.specs.declared.phase.Phase.TheVariants.{Clearing}
 use Rattle.ref_base.specs.declared.heap_step.HeapStep.TheVariants as heap
 use Rattle.ref_objects.specs.Grounds.{Ground, IsWellFormed}
-use Rattle.ref_mark.specs.CycleHeaps.{CycleHeap, is_doomed, with_taken}
+use Rattle.ref_mark.specs.CycleHeaps.{CycleHeap, is_doomed, with_found_taken}
 use Rattle.ref_mark.specs.MarkCalls.{unless_refused}
 use Rattle.ref_mark.specs.MarkViews.{ground_of}
 use Rattle.ref_mark.specs.Worklists.{first_in, rest_of}
 use Rattle.ref_mark.proofs.Moves.{referring_is_there}
 use Rattle.ref_mark.proofs.Passed.{work_passed}
-use Rattle.ref_clear.specs.ClearHeaps.{ClearHeap, with_mark, pending_at, is_to_clear, cut_at, pended}
-use Rattle.ref_clear.specs.ClearHeaps.{looked_at, looked_from}
+use Rattle.ref_clear.specs.ClearHeaps.{ClearHeap, with_mark, pending_at, is_to_clear, cut_at, heap_pended}
+use Rattle.ref_clear.specs.ClearHeaps.{heap_looked_at, looked_from}
 use Rattle.ref_clear.specs.ClearCalls.{after_in}
-use Rattle.ref_clear.specs.ClearViews.{PendingList, with_last, seen, IsSound}
+use Rattle.ref_clear.specs.ClearViews.{PendingList, with_last_pending, seen_heap, IsSoundHeap}
 use Rattle.ref_clear.proofs.PendingLists.{length-lists_of, lists_of-set, pending_at-seen, room_at, HaveRoom-set}
 use Rattle.ref_clear.proofs.PendingRoom.{pending_has_room}
 use Rattle.ref_clear.proofs.SoundHeaps.{sound_after}
@@ -39,9 +39,9 @@ none_is (n ∷ ns) first = absurd (let wrong : Some n ≡ None = first in cc)
 
 -- where a worker may look at what it found
 module _ {k : CycleHeap} {lists : List PendingList} {swept_to : ℕ} (w : ℕ)
-    (accepted : work_refusal k.heap k.phase Clearing w ≡ None) (sound : IsSound k lists swept_to) where
+    (accepted : work_refusal k.heap k.phase Clearing w ≡ None) (sound : IsSoundHeap k lists swept_to) where
   abbrev c : ClearHeap
-  c = seen k lists
+  c = seen_heap k lists
 
   after_by : (ns : List ℕ) (d : ClearHeap) → list_at k.found w ≡ ns → looked_from c w ns ≡ d
       → d ≡ after_in c (heap.ClearNext w)
@@ -51,16 +51,16 @@ module _ {k : CycleHeap} {lists : List PendingList} {swept_to : ℕ} (w : ℕ)
       ∙ ap (looked_from c w) is ∙ looked)
 
   -- it found nothing more
-  pub sound_none : {j : CycleHeap} → first_in (list_at k.found w) ≡ None → j ≡ with_taken k w
-      → IsSound j lists swept_to
+  pub sound_none : {j : CycleHeap} → first_in (list_at k.found w) ≡ None → j ≡ with_found_taken k w
+      → IsSoundHeap j lists swept_to
   sound_none {j} first after =
       let none : list_at k.found w ≡ [] = none_is (list_at k.found w) first in
       let same : set k.found w (rest_of (list_at k.found w)) ≡ k.found =
       ap (λ (ns : List ℕ). set k.found w (rest_of ns)) none
       ∙ ap (λ (ns : List ℕ). set k.found w ns) (sym none) ∙ set-get_or k.found w [] in
       sound_after (heap.ClearNext w) refl sound
-      (ap (λ (i : CycleHeap). seen i lists) after
-      ∙ ap (λ (found : List (List ℕ)). seen (record k { found = found }) lists) same ∙ after_by [] c none refl)
+      (ap (λ (i : CycleHeap). seen_heap i lists) after
+      ∙ ap (λ (found : List (List ℕ)). seen_heap (record k { found = found }) lists) same ∙ after_by [] c none refl)
       sound.room
 
   -- there is a list for each worker
@@ -73,39 +73,39 @@ module _ {k : CycleHeap} {lists : List PendingList} {swept_to : ℕ} (w : ℕ)
 
   -- this is the first that it found
   module _ (n : ℕ) (first : first_in (list_at k.found w) ≡ Some n) where
-    after_look : (d : ClearHeap) → looked_at (with_mark c (with_taken k w)) w n ≡ d
+    after_look : (d : ClearHeap) → heap_looked_at (with_mark c (with_found_taken k w)) w n ≡ d
         → d ≡ after_in c (heap.ClearNext w)
     after_look d looked =
         let ns : List ℕ = list_at k.found w in after_by (n ∷ rest_of ns) d (first_is ns n first) looked
 
     -- it is kept, or skipped
-    pub sound_passed : {j : CycleHeap} → is_to_clear k n ≡ false → j ≡ with_taken k w → IsSound j lists swept_to
+    pub sound_passed : {j : CycleHeap} → is_to_clear k n ≡ false → j ≡ with_found_taken k w → IsSoundHeap j lists swept_to
     sound_passed {j} stays after =
         sound_after (heap.ClearNext w) refl sound
-        (ap (λ (i : CycleHeap). seen i lists) after ∙ after_look (with_mark c (with_taken k w)) (simp stays refl))
+        (ap (λ (i : CycleHeap). seen_heap i lists) after ∙ after_look (with_mark c (with_found_taken k w)) (simp stays refl))
         sound.room
 
     -- it is cleared
     module _ (goes : is_to_clear k n ≡ true) where
       abbrev cut : CycleHeap
-      cut = cut_at (with_taken k w) n
+      cut = cut_at (with_found_taken k w) n
 
       after_cut : (queue : Option ℕ) → registered_in (reference_at k.heap n) ≡ queue
-          → pended (with_mark c cut) w n queue ≡ after_in c (heap.ClearNext w)
+          → heap_pended (with_mark c cut) w n queue ≡ after_in c (heap.ClearNext w)
       after_cut queue is =
-          after_look (pended (with_mark c cut) w n queue) (simp goes (ap (pended (with_mark c cut) w n) is))
+          after_look (heap_pended (with_mark c cut) w n queue) (simp goes (ap (heap_pended (with_mark c cut) w n) is))
 
-      left_cut : {j t : CycleHeap} → t ≡ with_taken k w → j ≡ cut_at t n → j ≡ cut
+      left_cut : {j t : CycleHeap} → t ≡ with_found_taken k w → j ≡ cut_at t n → j ≡ cut
       left_cut taken after = after ∙ ap (λ (i : CycleHeap). cut_at i n) taken
 
       -- without a queue nothing comes of it
-      pub seen_cut : {j t : CycleHeap} → registered_in (reference_at k.heap n) ≡ None → t ≡ with_taken k w
-          → j ≡ cut_at t n → seen j lists ≡ after_in c (heap.ClearNext w)
+      pub seen_cut : {j t : CycleHeap} → registered_in (reference_at k.heap n) ≡ None → t ≡ with_found_taken k w
+          → j ≡ cut_at t n → seen_heap j lists ≡ after_in c (heap.ClearNext w)
       seen_cut none taken after =
-          ap (λ (i : CycleHeap). seen i lists) (left_cut taken after) ∙ after_cut None none
+          ap (λ (i : CycleHeap). seen_heap i lists) (left_cut taken after) ∙ after_cut None none
 
-      pub sound_cut : {j t : CycleHeap} → registered_in (reference_at k.heap n) ≡ None → t ≡ with_taken k w
-          → j ≡ cut_at t n → IsSound j lists swept_to
+      pub sound_cut : {j t : CycleHeap} → registered_in (reference_at k.heap n) ≡ None → t ≡ with_found_taken k w
+          → j ≡ cut_at t n → IsSoundHeap j lists swept_to
       sound_cut none taken after =
           sound_after (heap.ClearNext w) refl sound (seen_cut none taken after) sound.room
 
@@ -122,10 +122,10 @@ module _ {k : CycleHeap} {lists : List PendingList} {swept_to : ℕ} (w : ℕ)
             omega (arith, spare, own, room)
 
         module _ {j t : CycleHeap} {m : PendingList} (q : ℕ)
-            (registered : registered_in (reference_at k.heap n) ≡ Some q) (taken : t ≡ with_taken k w)
+            (registered : registered_in (reference_at k.heap n) ≡ Some q) (taken : t ≡ with_found_taken k w)
             (after : j ≡ cut_at t n)
-            (pushed : m ≡ with_last l (record { object = n; queue = q; cycle = j.cycle })) where
-          pub seen_pended : seen j (set lists w m) ≡ after_in c (heap.ClearNext w)
+            (pushed : m ≡ with_last_pending l (record { object = n; queue = q; cycle = j.cycle })) where
+          pub seen_pended : seen_heap j (set lists w m) ≡ after_in c (heap.ClearNext w)
           seen_pended =
               let p : Pending = record { object = n; queue = q; cycle = k.cycle } in
               let left : j ≡ cut = left_cut taken after in
@@ -139,7 +139,7 @@ module _ {k : CycleHeap} {lists : List PendingList} {swept_to : ℕ} (w : ℕ)
               ∙ ap (λ (ps : List Pending). record { mark = cut; pending = set c.pending w ps }) stands
               ∙ after_cut (Some q) registered
 
-          pub sound_pended : IsSound j (set lists w m) swept_to
+          pub sound_pended : IsSoundHeap j (set lists w m) swept_to
           sound_pended =
               let own = room_at lists k.heap.config.cells w l look_within is sound.room in
               let same : m.room ≡ l.room = ap (λ (i : PendingList). i.room) pushed in
@@ -149,7 +149,7 @@ module _ {k : CycleHeap} {lists : List PendingList} {swept_to : ℕ} (w : ℕ)
 -- ---- what the code has read
 
 -- once a reference is taken, all objects are as before
-module _ (k : CycleHeap) (w : ℕ) {t : CycleHeap} {g : Ground} (taken : t ≡ with_taken k w)
+module _ (k : CycleHeap) (w : ℕ) {t : CycleHeap} {g : Ground} (taken : t ≡ with_found_taken k w)
     (objects : g ≡ ground_of t) where
   pub few_taken : IsWellFormed g → length k.heap.objects ≤ k.heap.config.cells
   few_taken formed =

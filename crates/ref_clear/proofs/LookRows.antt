@@ -23,7 +23,7 @@ use Rattle.ref_base.proofs.Lookups.{lookup-changed}
 use Rattle.ref_base.proofs.NewClears.{refers_into-same}
 use Rattle.ref_base.proofs.Reshaping.{queue-cleared}
 use Rattle.ref_base.proofs.ShownObjects.{shown_reference, shown-cleared}
-use Rattle.ref_mark.specs.CycleHeaps.{CycleHeap, is_white, is_past_mark, is_doomed, doomed, with_taken}
+use Rattle.ref_mark.specs.CycleHeaps.{CycleHeap, is_white, is_past_mark, is_doomed, doomed, with_found_taken}
 use Rattle.ref_mark.specs.Worklists.{rest_of}
 use Rattle.ref_mark.specs.Standing.{unsaid, shown_heap}
 use Rattle.ref_mark.proofs.DoomedLists.{has-doomed}
@@ -34,7 +34,7 @@ use Rattle.ref_mark.proofs.ShownReads.{reference_of-shown}
 use Rattle.ref_mark.proofs.Passed.{is_clearing}
 use Rattle.ref_clear.specs.ClearHeaps.{ClearHeap, is_to_clear, cut_at, looked_from}
 use Rattle.ref_clear.specs.ClearCalls.{refusal_in, answer_of_look}
-use Rattle.ref_clear.specs.Standing.{Stands}
+use Rattle.ref_clear.specs.Standing.{HeapStands}
 use Rattle.ref_clear.proofs.FoundFacts.{black_parts, past_refers}
 use Rattle.ref_clear.proofs.PendingRoom.{cleared_refers_to_none, to_clear_is_not_pending}
 use Rattle.ref_clear.proofs.TakenLists.{has-first_taken, pended_lists, length-pended, has-pended, AreDistinct-pended}
@@ -43,7 +43,7 @@ use Rattle.ref_clear.proofs.LookedHeaps.{changed_here, changed_to_itself, leads-
 use Rattle.ref_clear.proofs.StaysCleared.{cleared-none}
 use Rattle.ref_clear.proofs.LookedHeaps.{MayLook, looked_heap, state_with, looked_stands}
 
-module _ (c : ClearHeap) (a : State) (w n : ℕ) (rest : List ℕ) (stands : Stands c a) (within : w < length c.pending)
+module _ (c : ClearHeap) (a : State) (w n : ℕ) (rest : List ℕ) (stands : HeapStands c a) (within : w < length c.pending)
     (clearing : is_in c.mark.phase Clearing ≡ true) (is : list_at c.mark.found w ≡ n ∷ rest) where
   -- the mark has ended
   past_mark : is_past_mark c.mark.phase ≡ true
@@ -80,18 +80,18 @@ module _ (c : ClearHeap) (a : State) (w n : ℕ) (rest : List ℕ) (stands : Sta
   abbrev HasLookRow : Type 0
   HasLookRow =
       (b : State) × ClearsNext a w (n ∷ rest) (answer_of_look c.mark (n ∷ rest)) b
-      × Stands (looked_from c w (n ∷ rest)) b
+      × HeapStands (looked_from c w (n ∷ rest)) b
 
   -- which is so where the state and the heap that it leaves and the answers are these
   row_of : (d : ClearHeap) (b : State) → looked_from c w (n ∷ rest) ≡ d → state_looked a w n rest ≡ b
-      → state_answer a w n ≡ answer_of_look c.mark (n ∷ rest) → b.world.phase ≡ a.world.phase → Stands d b
+      → state_answer a w n ≡ answer_of_look c.mark (n ∷ rest) → b.world.phase ≡ a.world.phase → HeapStands d b
       → HasLookRow
   row_of d b left after answer phase standing =
       let quiet : is_in b.world.phase Marking ≡ false =
       ap (λ p. is_in p Marking) (phase ∙ stands.mark.phase ∙ is_clearing c.mark.phase clearing) in (
         b,
         (sym answer, sym (ap ticked after ∙ ticked_other b quiet)),
-        subst (λ (e : ClearHeap). Stands e b) (sym left) standing,
+        subst (λ (e : ClearHeap). HeapStands e b) (sym left) standing,
       )
 
   -- it is kept, or skipped
@@ -155,7 +155,7 @@ module _ (c : ClearHeap) (a : State) (w n : ℕ) (rest : List ℕ) (stands : Sta
       } in
       let left : looked_from c w (n ∷ rest) ≡ record { mark = j; pending = pss } =
       simp goes
-      (heap-pended (record c { mark = cut_at (with_taken k w) n }) w n queue
+      (heap-pended (record c { mark = cut_at (with_found_taken k w) n }) w n queue
       ∙ ap (λ ns. record {
         mark = record k { heap = with_changed k.heap n f; found = slice_set k.found w (rest_of ns) };
         pending = pss;
@@ -197,9 +197,9 @@ module _ (c : ClearHeap) (a : State) (w n : ℕ) (rest : List ℕ) (stands : Sta
       })
 
 -- a worker looks at the first of what it found, if anything
-looked_row : (c : ClearHeap) (a : State) (w : ℕ) (found : List ℕ) → Stands c a → w < length c.pending
+looked_row : (c : ClearHeap) (a : State) (w : ℕ) (found : List ℕ) → HeapStands c a → w < length c.pending
     → is_in c.mark.phase Clearing ≡ true → list_at c.mark.found w ≡ found
-    → (b : State) × ClearsNext a w found (answer_of_look c.mark found) b × Stands (looked_from c w found) b
+    → (b : State) × ClearsNext a w found (answer_of_look c.mark found) b × HeapStands (looked_from c w found) b
 looked_row c a w [] stands within clearing is =
     let quiet : is_in a.world.phase Marking ≡ false =
     ap (λ p. is_in p Marking) (stands.mark.phase ∙ is_clearing c.mark.phase clearing) in
@@ -210,9 +210,9 @@ looked_row c a w (n ∷ rest) stands within clearing is =
       | inr stays ↦ passed_row c a w n rest stands within clearing is stays
     ]
 
-pub look_row : (c : ClearHeap) (a : State) (w : ℕ) → Stands c a → refusal_in c (heap.ClearNext w) ≡ None
+pub look_row : (c : ClearHeap) (a : State) (w : ℕ) → HeapStands c a → refusal_in c (heap.ClearNext w) ≡ None
     → (b : State) × HeapAccepts a (heap.ClearNext w) (answer_of_look c.mark (list_at c.mark.found w)) b
-    × Stands (looked_from c w (list_at c.mark.found w)) b
+    × HeapStands (looked_from c w (list_at c.mark.found w)) b
 look_row c a w stands accepted =
     let k = c.mark in
     let passed = work_passed k Clearing w accepted in

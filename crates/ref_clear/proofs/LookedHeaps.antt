@@ -20,7 +20,7 @@ use Rattle.ref_base.proofs.HasLaws.{has-left, has-cases}
 use Rattle.ref_base.proofs.Lookups.{lookup-changed, numbers-changed, allowed_referent-cases}
 use Rattle.ref_base.proofs.NewClears.{refers_into-same}
 use Rattle.ref_mark.specs.CycleHeaps.{CycleHeap, policy_in, is_white, is_black, is_past_mark, doomed}
-use Rattle.ref_mark.specs.Standing.{Stands as MarkStands, InClearing, shown_heap}
+use Rattle.ref_mark.specs.Standing.{MarkStands, InClearing, shown_heap}
 use Rattle.ref_mark.proofs.Agreeing.{agrees_next, unsaid_same}
 use Rattle.ref_mark.proofs.DoomedLists.{doomed-changed, past_is_in_cycle}
 use Rattle.ref_mark.proofs.Passed.{is_clearing}

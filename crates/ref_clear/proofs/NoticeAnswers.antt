@@ -17,17 +17,17 @@ use Rattle.ref_mark.specs.MarkCalls.{names_freed, unless_refused, mint_answer_in
 use Rattle.ref_mark.specs.MarkViews.{ground_of}
 use Rattle.ref_mark.proofs.HoldMoves.{names_none_freed}
 use Rattle.ref_clear.specs.ClearHeaps.{ClearHeap, holding}
-use Rattle.ref_clear.specs.ClearViews.{PendingList, IsSound}
-use Rattle.ref_clear.specs.Standing.{Stands}
+use Rattle.ref_clear.specs.ClearViews.{PendingList, IsSoundHeap}
+use Rattle.ref_clear.specs.Standing.{HeapStands}
 use Rattle.ref_clear.proofs.PendingFacts.{pending_is_there}
 
 -- no slot of a heap names an object that was freed
-pub no_slot_of_freed : {k : CycleHeap} {lists : List PendingList} {swept_to : ℕ} (m s : ℕ) → IsSound k lists swept_to
+pub no_slot_of_freed : {k : CycleHeap} {lists : List PendingList} {swept_to : ℕ} (m s : ℕ) → IsSoundHeap k lists swept_to
     → names_freed k m s ≡ false
 no_slot_of_freed {k} m s sound = names_none_freed k sound.stands.0 m s sound.stands.1.mark
 
 -- what is pending is there, so only the count of holds may refuse a hold of it
-pub mint_of_pending : (c : ClearHeap) (a : State) (n : ℕ) → Stands c a → has (pending_numbers c.pending) n ≡ true
+pub mint_of_pending : (c : ClearHeap) (a : State) (n : ℕ) → HeapStands c a → has (pending_numbers c.pending) n ≡ true
     → mint_refusal (ground_of c.mark) n ≡ holds_refusal c.mark.heap
 mint_of_pending c a n stands waits =
     let there : is_there c.mark.heap.objects n ≡ true = pending_is_there c a n stands waits in simp there refl

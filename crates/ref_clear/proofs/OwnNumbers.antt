@@ -8,10 +8,10 @@ use Rattle.ref_base.specs.CollectorRows.{list_at}
 use Rattle.ref_base.specs.declared.fault.Fault.{Fault}
 use Rattle.ref_base.specs.declared.heap_step.HeapStep.TheVariants as heap
 use Rattle.ref_base.specs.declared.phase.Phase.TheVariants.{Idle, Sweeping}
-use Rattle.ref_mark.specs.CycleHeaps.{CycleHeap, with_phase, with_taken}
+use Rattle.ref_mark.specs.CycleHeaps.{CycleHeap, cycle_in_phase, with_found_taken}
 use Rattle.ref_mark.specs.MarkCalls.{unless_refused}
 use Rattle.ref_mark.proofs.OwnNumbers.{cleared-number, begun-number, number_after as number_after_marking}
-use Rattle.ref_clear.specs.ClearHeaps.{ClearHeap, with_mark, pending_at, begun_with, is_to_clear, pended, looked_from}
+use Rattle.ref_clear.specs.ClearHeaps.{ClearHeap, with_mark, pending_at, begun_with, is_to_clear, heap_pended, looked_from}
 use Rattle.ref_clear.specs.ClearHeaps.{cut_at, handed_from, unhooked, swept_some}
 use Rattle.ref_clear.specs.ClearCalls.{refusal_in, after_in, queue_in}
 
@@ -20,7 +20,7 @@ unhooked-number k m s None queue = cleared-number k m s
 unhooked-number k m s (Some n) None = cleared-number k m s
 unhooked-number k m s (Some n) (Some q) = cleared-number k m s
 
-pended-number : (c : ClearHeap) (w n : ℕ) (queue : Option ℕ) → (pended c w n queue).mark.heap_no ≡ c.mark.heap_no
+pended-number : (c : ClearHeap) (w n : ℕ) (queue : Option ℕ) → (heap_pended c w n queue).mark.heap_no ≡ c.mark.heap_no
 pended-number c w n None = refl
 pended-number c w n (Some q) = refl
 
@@ -30,7 +30,7 @@ looked-number c w (n ∷ rest) =
     elim (cases_Bool (is_to_clear c.mark n)) [
       | inl dead ↦
           simp dead
-          (pended-number (with_mark c (cut_at (with_taken c.mark w) n)) w n
+          (pended-number (with_mark c (cut_at (with_found_taken c.mark w) n)) w n
           (registered_in (reference_at c.mark.heap n)))
       | inr other ↦ simp other refl
     ]
@@ -57,10 +57,10 @@ number_after c (heap.ClearNext w) =
     let found = list_at c.mark.found w in
     number-left c (looked_from c w found) (refusal_in c (heap.ClearNext w)) (looked-number c w found)
 number_after c heap.EndClear =
-    number-left c (with_mark c (with_phase c.mark Sweeping)) (refusal_in c heap.EndClear) refl
+    number-left c (with_mark c (cycle_in_phase c.mark Sweeping)) (refusal_in c heap.EndClear) refl
 number_after c (heap.Hand w) =
     let waiting = pending_at c w in
     number-left c (handed_from c w waiting) (refusal_in c (heap.Hand w)) (handed-number c w waiting)
 number_after c (heap.Sweep w) = number-left c (with_mark c (swept_some c.mark)) (refusal_in c (heap.Sweep w)) refl
-number_after c heap.EndSweep = number-left c (with_mark c (with_phase c.mark Idle)) (refusal_in c heap.EndSweep) refl
+number_after c heap.EndSweep = number-left c (with_mark c (cycle_in_phase c.mark Idle)) (refusal_in c heap.EndSweep) refl
 number_after c step = number_after_marking c.mark step

@@ -14,7 +14,7 @@ use Rattle.ref_mark.proofs.DoomedLists.{past_is_in_cycle}
 use Rattle.ref_mark.proofs.RootFacts.{slot_root, hold_root, pending_root, root_cases, root_is_there, root_is_not_white}
 use Rattle.ref_base.specs.declared.config.Config.{Config}
 use Rattle.ref_clear.specs.ClearHeaps.{ClearHeap}
-use Rattle.ref_clear.specs.Standing.{Stands, ArePending}
+use Rattle.ref_clear.specs.Standing.{HeapStands, ArePending}
 use Rattle.ref_clear.proofs.StaysCleared.{StaysCleared}
 
 -- ---- roots
@@ -35,7 +35,7 @@ root_before slots holds pending fewer n root was m after =
       ]
     ]
 
-module _ (c : ClearHeap) (a : State) (n : ℕ) (stands : Stands c a)
+module _ (c : ClearHeap) (a : State) (n : ℕ) (stands : HeapStands c a)
     (waits : has (pending_numbers c.pending) n ≡ true) where
   -- what is pending is a root
   pub pending_is_root :
@@ -63,7 +63,7 @@ module _ (c : ClearHeap) (a : State) (n : ℕ) (stands : Stands c a)
 
 -- where there are as many workers as before, and no reference gets a referent, what is pending goes on waiting
 -- in another heap too, of the same configuration, in which what is cleared stays so
-pub waiting_still : (c : ClearHeap) (a : State) → Stands c a → (j : CycleHeap) → j.heap.config ≡ c.mark.heap.config
+pub waiting_still : (c : ClearHeap) (a : State) → HeapStands c a → (j : CycleHeap) → j.heap.config ≡ c.mark.heap.config
     → StaysCleared c.mark.heap j.heap → ArePending j c.pending
 waiting_still c a stands j config stays = record {
   workers = stands.waiting.workers ∙ ap (λ (i : Config). i.workers) (sym config);

@@ -7,35 +7,35 @@ use Rattle.ref_base.specs.Worlds.{Pending}
 use Rattle.ref_base.specs.declared.config.Config.{Config}
 use Rattle.ref_mark.specs.CycleHeaps.{CycleHeap}
 use Rattle.ref_clear.specs.ClearHeaps.{ClearHeap, pending_at}
-use Rattle.ref_clear.specs.ClearViews.{PendingList, empty_pending, lists_of, seen, pending_from, HaveRoom, IsSound}
-use Rattle.ref_clear.specs.ClearViews.{without_first}
+use Rattle.ref_clear.specs.ClearViews.{PendingList, empty_pending, pending_lists_of, seen_heap, pending_from, HaveRoom, IsSoundHeap}
+use Rattle.ref_clear.specs.ClearViews.{without_first_pending}
 
 -- ---- what is seen of the lists
 
-lists_of-map : (ls : List PendingList) → lists_of ls ≡ map (λ l. l.stands) ls
+lists_of-map : (ls : List PendingList) → pending_lists_of ls ≡ map (λ l. l.stands) ls
 lists_of-map [] = refl
 lists_of-map (l ∷ ls) = ap (λ pss. l.stands ∷ pss) (lists_of-map ls)
 
-pub length-lists_of : (ls : List PendingList) → length (lists_of ls) ≡ length ls
+pub length-lists_of : (ls : List PendingList) → length (pending_lists_of ls) ≡ length ls
 length-lists_of ls = ap length (lists_of-map ls) ∙ length-map ls (λ (l : PendingList). l.stands)
 
 -- one is replaced
 pub lists_of-set : (ls : List PendingList) (w : ℕ) (l : PendingList)
-    → lists_of (set ls w l) ≡ set (lists_of ls) w l.stands
+    → pending_lists_of (set ls w l) ≡ set (pending_lists_of ls) w l.stands
 lists_of-set ls w l =
     lists_of-map (set ls w l) ∙ map-set (λ (m : PendingList). m.stands) ls w l
     ∙ ap (λ (pss : List (List Pending)). set pss w l.stands) (sym (lists_of-map ls))
 
 -- one is read
 pub pending_at-seen : (k : CycleHeap) (ls : List PendingList) (w : ℕ) (l : PendingList) → w < length ls
-    → l ≡ get_or ls w l → l.stands ≡ pending_at (seen k ls) w
+    → l ≡ get_or ls w l → l.stands ≡ pending_at (seen_heap k ls) w
 pending_at-seen k ls w l within is =
     ap (λ (m : PendingList). m.stands) (get_or_read ls w l within is (empty_pending 0))
     ∙ sym (get_or-map (λ (m : PendingList). m.stands) ls w (empty_pending 0))
     ∙ ap (λ (pss : List (List Pending)). get_or pss w []) (sym (lists_of-map ls))
 
 -- of a worker that isn't there nothing is pending
-lists_of-past : (ls : List PendingList) (w : ℕ) → (w < length ls → ⊥) → get_or (lists_of ls) w [] ≡ []
+lists_of-past : (ls : List PendingList) (w : ℕ) → (w < length ls → ⊥) → get_or (pending_lists_of ls) w [] ≡ []
 lists_of-past [] w past = refl
 lists_of-past (m ∷ ls) zero past = absurd (past (omega arith))
 lists_of-past (m ∷ ls) (suc w) past = lists_of-past ls w (λ within. past (omega (arith, within)))
@@ -45,7 +45,7 @@ from_nothing zero = refl
 from_nothing (suc place) = refl
 
 pub none_past : (k : CycleHeap) (ls : List PendingList) (w place : ℕ) → (w < length ls → ⊥)
-    → pending_from (pending_at (seen k ls) w) place ≡ None
+    → pending_from (pending_at (seen_heap k ls) w) place ≡ None
 none_past k ls w place past =
     ap (λ (ps : List Pending). pending_from ps place) (lists_of-past ls w past) ∙ from_nothing place
 
@@ -70,9 +70,9 @@ HaveRoom-set (m ∷ ms) cells (suc w) l own room = (room.0, HaveRoom-set ms cell
 
 -- ---- a worker of a heap
 
-module _ {k : CycleHeap} {lists : List PendingList} {swept_to : ℕ} (w : ℕ) (sound : IsSound k lists swept_to) where
+module _ {k : CycleHeap} {lists : List PendingList} {swept_to : ℕ} (w : ℕ) (sound : IsSoundHeap k lists swept_to) where
   -- a worker, by the configuration that is read
-  pub worker_within : {now : ClearHeap} {config : Config} → seen k lists ≡ now → config ≡ now.mark.heap.config
+  pub worker_within : {now : ClearHeap} {config : Config} → seen_heap k lists ≡ now → config ≡ now.mark.heap.config
       → w < config.workers → w < k.heap.config.workers
   worker_within same is within =
       subst (λ (c : ClearHeap). w < c.mark.heap.config.workers) (sym same)
@@ -86,16 +86,16 @@ module _ {k : CycleHeap} {lists : List PendingList} {swept_to : ℕ} (w : ℕ) (
         omega (arith, within, count, workers)
 
     -- what stands in the list that is read
-    pub stands_as_seen : {l : PendingList} → l ≡ get_or lists w l → l.stands ≡ pending_at (seen k lists) w
+    pub stands_as_seen : {l : PendingList} → l ≡ get_or lists w l → l.stands ≡ pending_at (seen_heap k lists) w
     stands_as_seen {l} is = pending_at-seen k lists w l worker_has_list is
 
     -- the first of it, as it is read
     pub first_as_seen : {l : PendingList} {first other : Option Pending} → l ≡ get_or lists w l
-        → first ≡ pending_from l.stands 0 → first ≡ other → pending_from (pending_at (seen k lists) w) 0 ≡ other
+        → first ≡ pending_from l.stands 0 → first ≡ other → pending_from (pending_at (seen_heap k lists) w) 0 ≡ other
     first_as_seen is reads same = ap (λ ps. pending_from ps 0) (sym (stands_as_seen is)) ∙ sym reads ∙ same
 
     -- there is as much room once its first is taken
-    pub room_taken : {l m : PendingList} (cells : ℕ) → l ≡ get_or lists w l → m ≡ without_first l → HaveRoom lists cells
+    pub room_taken : {l m : PendingList} (cells : ℕ) → l ≡ get_or lists w l → m ≡ without_first_pending l → HaveRoom lists cells
         → HaveRoom (set lists w m) cells
     room_taken {l} {m} cells is taken room =
         let own = room_at lists cells w l worker_has_list is room in

@@ -16,7 +16,7 @@ use Rattle.ref_base.proofs.HasLaws.{has-first, has-append}
 use Rattle.ref_base.proofs.SearchLaws.{unseen-less}
 use Rattle.ref_mark.specs.CycleHeaps.{is_doomed}
 use Rattle.ref_clear.specs.ClearHeaps.{ClearHeap, pending_at, is_to_clear}
-use Rattle.ref_clear.specs.Standing.{Stands}
+use Rattle.ref_clear.specs.Standing.{HeapStands}
 use Rattle.ref_clear.proofs.PendingFacts.{pending_is_there}
 
 -- ---- distinct numbers of objects
@@ -58,7 +58,7 @@ cleared_refers_to_none test None none = refl
 cleared_refers_to_none test (Some r) none = ap (any_is test) none
 
 -- a reference to the doomed isn't pending
-pub to_clear_is_not_pending : (c : ClearHeap) (a : State) (n : ℕ) → Stands c a → is_to_clear c.mark n ≡ true
+pub to_clear_is_not_pending : (c : ClearHeap) (a : State) (n : ℕ) → HeapStands c a → is_to_clear c.mark n ≡ true
     → has (pending_numbers c.pending) n ≡ false
 to_clear_is_not_pending c a n stands refers =
     false_from_ne_true (has (pending_numbers c.pending) n)
@@ -80,7 +80,7 @@ list_within (ps ∷ pss) (suc w) =
     let all = length-append (map (λ p. p.object) ps) (pending_numbers pss) in
     omega (arith, later, all)
 
-pub pending_has_room : (c : ClearHeap) (a : State) (n w : ℕ) → Stands c a
+pub pending_has_room : (c : ClearHeap) (a : State) (n w : ℕ) → HeapStands c a
     → is_there c.mark.heap.objects n ≡ true → is_to_clear c.mark n ≡ true
     → length c.mark.heap.objects ≤ c.mark.heap.config.cells → length (pending_at c w) < c.mark.heap.config.cells
 pending_has_room c a n w stands there refers few =

@@ -5,7 +5,7 @@ use Rattle.std.proofs.lemmas.List.{append-nil, append_assoc, take_all}
 use Rattle.ref_base.specs.Worlds.{Pending, pending_numbers}
 use Rattle.ref_mark.specs.CycleHeaps.{CycleHeap, shaded, shaded_all}
 use Rattle.ref_mark.proofs.Shading.{shaded_all-append}
-use Rattle.ref_clear.specs.ClearViews.{PendingList, lists_of, numbers_in, pending_from}
+use Rattle.ref_clear.specs.ClearViews.{PendingList, pending_lists_of, numbers_in, pending_from}
 
 -- ---- of one worker
 
@@ -42,27 +42,27 @@ all_listed start k ps place all so_far =
 -- ---- of all workers
 
 pending_numbers-more : (ls : List PendingList) (w : ℕ) (l : PendingList) → w < length ls
-    → pending_numbers (lists_of (take (suc w) ls))
-    ≡ pending_numbers (lists_of (take w ls)) ++ numbers_in (get_or ls w l).stands
+    → pending_numbers (pending_lists_of (take (suc w) ls))
+    ≡ pending_numbers (pending_lists_of (take w ls)) ++ numbers_in (get_or ls w l).stands
 pending_numbers-more [] w l within = absurd (omega (arith, within))
 pending_numbers-more (m ∷ ls) zero l within = append-nil (numbers_in m.stands)
 pending_numbers-more (m ∷ ls) (suc w) l within =
     ap (λ ns. numbers_in m.stands ++ ns) (pending_numbers-more ls w l (omega (arith, within)))
-    ∙ sym (append_assoc (numbers_in m.stands) (pending_numbers (lists_of (take w ls)))
+    ∙ sym (append_assoc (numbers_in m.stands) (pending_numbers (pending_lists_of (take w ls)))
     (numbers_in (get_or ls w l).stands))
 
 pub worker_more : (start k : CycleHeap) (ls : List PendingList) (w : ℕ) (l : PendingList) → w < length ls
-    → k ≡ shaded_all start (pending_numbers (lists_of (take w ls)))
+    → k ≡ shaded_all start (pending_numbers (pending_lists_of (take w ls)))
     → shaded_all k (numbers_in (get_or ls w l).stands)
-    ≡ shaded_all start (pending_numbers (lists_of (take (w + 1) ls)))
+    ≡ shaded_all start (pending_numbers (pending_lists_of (take (w + 1) ls)))
 worker_more start k ls w l within so_far =
     ap (λ (j : CycleHeap). shaded_all j (numbers_in (get_or ls w l).stands)) so_far
-    ∙ sym (shaded_all-append start (pending_numbers (lists_of (take w ls))) (numbers_in (get_or ls w l).stands))
+    ∙ sym (shaded_all-append start (pending_numbers (pending_lists_of (take w ls))) (numbers_in (get_or ls w l).stands))
     ∙ ap (shaded_all start)
-    (sym (ap (λ i. pending_numbers (lists_of (take i ls))) (next_place w) ∙ pending_numbers-more ls w l within))
+    (sym (ap (λ i. pending_numbers (pending_lists_of (take i ls))) (next_place w) ∙ pending_numbers-more ls w l within))
 
 pub all_workers : (start k : CycleHeap) (ls : List PendingList) (w : ℕ) → length ls ≤ w
-    → k ≡ shaded_all start (pending_numbers (lists_of (take w ls)))
-    → k ≡ shaded_all start (pending_numbers (lists_of ls))
+    → k ≡ shaded_all start (pending_numbers (pending_lists_of (take w ls)))
+    → k ≡ shaded_all start (pending_numbers (pending_lists_of ls))
 all_workers start k ls w all so_far =
-    so_far ∙ ap (λ ms. shaded_all start (pending_numbers (lists_of ms))) (take_all w ls all)
+    so_far ∙ ap (λ ms. shaded_all start (pending_numbers (pending_lists_of ms))) (take_all w ls all)

@@ -8,12 +8,12 @@ use Rattle.ref_base.specs.declared.fault.Fault.{Fault}
 use Rattle.ref_base.specs.declared.fault.Fault.TheVariants.{WrongPhase, ClearingLeft, SweepLeft}
 use Rattle.ref_base.specs.declared.phase.Phase.TheVariants.{Idle, Clearing, Sweeping}
 use Rattle.ref_base.specs.declared.heap_step.HeapStep.TheVariants as heap
-use Rattle.ref_mark.specs.CycleHeaps.{CycleHeap, doomed, with_phase}
+use Rattle.ref_mark.specs.CycleHeaps.{CycleHeap, doomed, cycle_in_phase}
 use Rattle.ref_mark.specs.MarkCalls.{unless_refused}
 use Rattle.ref_mark.proofs.Passed.{work_passed}
 use Rattle.ref_clear.specs.ClearHeaps.{ClearHeap, with_mark, swept_some}
 use Rattle.ref_clear.specs.ClearCalls.{refusal_in}
-use Rattle.ref_clear.specs.ClearViews.{PendingList, seen, IsSound, MaySweep}
+use Rattle.ref_clear.specs.ClearViews.{PendingList, seen_heap, IsSoundHeap, MaySweep}
 use Rattle.ref_clear.proofs.EndRows.{end_clear_row}
 use Rattle.ref_clear.proofs.SweepRows.{sweep_row, may_sweep}
 use Rattle.ref_clear.proofs.SoundHeaps.{sound_after}
@@ -25,40 +25,40 @@ both_hold first second early late holds too = simp (holds, too) refl
 
 -- the clearing ends: the sweep starts from the first number
 pub sound_clear_ended : {j k : CycleHeap} {lists : List PendingList} {swept_to : ℕ} → is_in k.phase Clearing ≡ true
-    → not (is_empty (joined k.found)) ≡ false → j ≡ with_phase k Sweeping → IsSound k lists swept_to
-    → IsSound j lists 0
+    → not (is_empty (joined k.found)) ≡ false → j ≡ cycle_in_phase k Sweeping → IsSoundHeap k lists swept_to
+    → IsSoundHeap j lists 0
 sound_clear_ended {j} {k} {lists} {swept_to} clearing looked after sound =
-    let none : refusal_in (seen k lists) heap.EndClear ≡ None =
+    let none : refusal_in (seen_heap k lists) heap.EndClear ≡ None =
     both_hold (is_in k.phase Clearing) (is_empty (joined k.found)) WrongPhase ClearingLeft clearing
     (not-false (is_empty (joined k.found)) looked) in
-    let row = end_clear_row (seen k lists) sound.stands.0 sound.stands.1 none in
-    subst (λ (i : CycleHeap). IsSound i lists 0) (sym after)
+    let row = end_clear_row (seen_heap k lists) sound.stands.0 sound.stands.1 none in
+    subst (λ (i : CycleHeap). IsSoundHeap i lists 0) (sym after)
     (record { room = sound.room; stands = (row.0, row.2); swept = λ now n white. omega arith })
 
 -- the sweep ends
 pub sound_sweep_ended : {j k : CycleHeap} {lists : List PendingList} {swept_to : ℕ} → is_in k.phase Sweeping ≡ true
-    → not (is_empty (doomed k)) ≡ false → j ≡ with_phase k Idle → IsSound k lists swept_to → IsSound j lists swept_to
+    → not (is_empty (doomed k)) ≡ false → j ≡ cycle_in_phase k Idle → IsSoundHeap k lists swept_to → IsSoundHeap j lists swept_to
 sound_sweep_ended {j} {k} {lists} {swept_to} sweeping swept after sound =
-    let c : ClearHeap = seen k lists in
+    let c : ClearHeap = seen_heap k lists in
     let none : refusal_in c heap.EndSweep ≡ None =
     both_hold (is_in k.phase Sweeping) (is_empty (doomed k)) WrongPhase SweepLeft sweeping
     (not-false (is_empty (doomed k)) swept) in
     sound_after heap.EndSweep refl sound
-    (ap (λ (i : CycleHeap). seen i lists) after
-    ∙ sym (ap (λ refused. unless_refused refused (λ fault. c) (with_mark c (with_phase k Idle))) none)) sound.room
+    (ap (λ (i : CycleHeap). seen_heap i lists) after
+    ∙ sym (ap (λ refused. unless_refused refused (λ fault. c) (with_mark c (cycle_in_phase k Idle))) none)) sound.room
 
 -- a sweep: what is doomed is held by nobody, and what is left of it isn't below the number that the sweep comes to
 pub may_free : {k : CycleHeap} {lists : List PendingList} {swept_to : ℕ} (w : ℕ)
-    → work_refusal k.heap k.phase Sweeping w ≡ None → IsSound k lists swept_to → MaySweep k swept_to
+    → work_refusal k.heap k.phase Sweeping w ≡ None → IsSoundHeap k lists swept_to → MaySweep k swept_to
 may_free {k} {lists} {swept_to} w none sound =
     let sweeping : is_in k.phase Sweeping ≡ true = (work_passed k Sweeping w none).1 in
-    may_sweep (seen k lists) sound.stands.0 swept_to sound.stands.1 sweeping (sound.swept sweeping)
+    may_sweep (seen_heap k lists) sound.stands.0 swept_to sound.stands.1 sweeping (sound.swept sweeping)
 
 pub sound_swept : {j k : CycleHeap} {lists : List PendingList} {swept_to reached : ℕ} (w : ℕ)
     → work_refusal k.heap k.phase Sweeping w ≡ None → j ≡ swept_some k → MaySweep j reached
-    → IsSound k lists swept_to → IsSound j lists reached
+    → IsSoundHeap k lists swept_to → IsSoundHeap j lists reached
 sound_swept {j} {k} {lists} {swept_to} {reached} w none after may sound =
-    let row = sweep_row (seen k lists) sound.stands.0 w sound.stands.1 none in
+    let row = sweep_row (seen_heap k lists) sound.stands.0 w sound.stands.1 none in
     let left : MaySweep (swept_some k) reached = subst (λ (i : CycleHeap). MaySweep i reached) after may in
-    subst (λ (i : CycleHeap). IsSound i lists reached) (sym after)
+    subst (λ (i : CycleHeap). IsSoundHeap i lists reached) (sym after)
     (record { room = sound.room; stands = (row.0, row.2); swept = λ now. left.swept })

@@ -8,12 +8,12 @@ use Rattle.ref_base.specs.Refusals.{is_in}
 use Rattle.ref_base.specs.declared.config.Config.{Config}
 use Rattle.ref_base.specs.declared.phase.Phase.TheVariants.{Clearing, Sweeping}
 use Rattle.ref_mark.specs.CycleHeaps.{CycleHeap, is_white, is_past_mark, doomed}
-use Rattle.ref_mark.specs.Standing.{Stands as MarkStands}
+use Rattle.ref_mark.specs.Standing.{MarkStands}
 use Rattle.ref_mark.proofs.DoomedLists.{has-doomed}
 use Rattle.ref_clear.specs.ClearHeaps.{ClearHeap}
 use Rattle.ref_clear.specs.ClearCalls.{answer_in, after_in}
-use Rattle.ref_clear.specs.ClearViews.{PendingList, seen, HaveRoom, IsSound}
-use Rattle.ref_clear.specs.Standing.{Stands}
+use Rattle.ref_clear.specs.ClearViews.{PendingList, seen_heap, HaveRoom, IsSoundHeap}
+use Rattle.ref_clear.specs.Standing.{HeapStands}
 use Rattle.ref_clear.proofs.KeptRows.{goes_on_sweeping, SweepsOn, sweeps_on}
 use Rattle.ref_clear.proofs.HeapLaws.{each_step, config_of}
 
@@ -38,14 +38,14 @@ swept_still j k a b swept_to before after on swept sweeping n white =
 
 -- each step but a sweep, and the one that begins it
 pub sound_after : {j k : CycleHeap} {lists now : List PendingList} {swept_to : ℕ} (step : NamedStep)
-    → goes_on_sweeping step ≡ true → IsSound k lists swept_to → seen j now ≡ after_in (seen k lists) step
-    → HaveRoom now k.heap.config.cells → IsSound j now swept_to
+    → goes_on_sweeping step ≡ true → IsSoundHeap k lists swept_to → seen_heap j now ≡ after_in (seen_heap k lists) step
+    → HaveRoom now k.heap.config.cells → IsSoundHeap j now swept_to
 sound_after {j} {k} {lists} {now} {swept_to} step own sound after room =
-    let c : ClearHeap = seen k lists in
+    let c : ClearHeap = seen_heap k lists in
     let a : State = sound.stands.0 in
     let row = each_step c step a sound.stands.1 in
     let b : State = row.0 in
-    let stands : Stands (seen j now) b = subst (λ (d : ClearHeap). Stands d b) (sym after) row.2 in
+    let stands : HeapStands (seen_heap j now) b = subst (λ (d : ClearHeap). HeapStands d b) (sym after) row.2 in
     let on : SweepsOn a b = sweeps_on k.heap_no a b step (answer_in c step) own row.1 in
     let config : j.heap.config ≡ k.heap.config =
     sym (config_of j b stands.mark) ∙ on.config ∙ config_of k a sound.stands.1.mark in

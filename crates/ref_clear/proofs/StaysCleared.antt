@@ -18,8 +18,8 @@ use Rattle.ref_base.specs.declared.heap_step.HeapStep.TheVariants as heap
 use Rattle.ref_base.proofs.Lookups.{lookup-changed, object_at-push}
 use Rattle.ref_mark.specs.CycleHeaps.{CycleHeap, policy_in, is_doomed, shaded_all, barred}
 use Rattle.ref_mark.specs.CycleHeaps.{with_made, value_got, with_got, with_cleared, whitened}
-use Rattle.ref_mark.specs.CycleHeaps.{begun, scanned, scanned_from, roots_of}
-use Rattle.ref_mark.specs.MarkCalls.{done_in, after_in, refusal_in, unless_refused, with_hold_of}
+use Rattle.ref_mark.specs.CycleHeaps.{cycle_begun, scanned, grey_scanned, roots_of}
+use Rattle.ref_mark.specs.MarkCalls.{done_in, after_in_cycle, refusal_in_cycle, unless_refused, with_hold_of}
 use Rattle.ref_mark.proofs.LoopLemmas.{shaded_heap, shaded_once-heap}
 use Rattle.ref_mark.proofs.Scanning.{with_found-only}
 use Rattle.ref_mark.proofs.ShownHeaps.{young-heap}
@@ -91,7 +91,7 @@ barred-heap k (Some n) =
       | inr other ↦ simp other refl
     ]
 
-scanned-heap : (k : CycleHeap) (w : ℕ) (grey : List ℕ) → (scanned_from k w grey).heap ≡ k.heap
+scanned-heap : (k : CycleHeap) (w : ℕ) (grey : List ℕ) → (grey_scanned k w grey).heap ≡ k.heap
 scanned-heap k w [] = refl
 scanned-heap k w (n ∷ rest) =
     let targets = targets_at (is_kept (policy_in k)) k.heap.objects n in
@@ -100,10 +100,10 @@ scanned-heap k w (n ∷ rest) =
     ∙ shaded_heap (record k { grey = rest }) grown targets refl
 
 pub begun-heap : (k : CycleHeap) (now : ℕ) (how : _) (late : List ℕ)
-    → (shaded_all (begun k now how) late).heap ≡ (whitened k now how).heap
+    → (shaded_all (cycle_begun k now how) late).heap ≡ (whitened k now how).heap
 begun-heap k now how late =
-    shaded_heap (begun k now how) (shaded_all (begun k now how) late) late refl
-    ∙ shaded_heap (whitened k now how) (begun k now how) (roots_of k.heap) refl
+    shaded_heap (cycle_begun k now how) (shaded_all (cycle_begun k now how) late) late refl
+    ∙ shaded_heap (whitened k now how) (cycle_begun k now how) (roots_of k.heap) refl
 
 -- ---- the steps of marking
 
@@ -155,8 +155,8 @@ done_stays k (heap.Hold m s) = held_stays k.heap (slot_at k.heap m s)
 done_stays k (heap.Adopt m d hold) = same_objects k.heap (done_in k (heap.Adopt m d hold)).heap refl
 done_stays k (heap.Release hold) = same_objects k.heap (done_in k (heap.Release hold)).heap refl
 done_stays k (heap.Begin now how) =
-    same_objects k.heap (begun k now how).heap
-    (ap (λ (h : Heap). h.objects) (shaded_heap (whitened k now how) (begun k now how) (roots_of k.heap) refl))
+    same_objects k.heap (cycle_begun k now how).heap
+    (ap (λ (h : Heap). h.objects) (shaded_heap (whitened k now how) (cycle_begun k now how) (roots_of k.heap) refl))
 done_stays k (heap.Scan w) = same_heap k.heap (scanned k w).heap (scanned-heap k w k.grey)
 done_stays k heap.EndMark = same_heap k.heap k.heap refl
 done_stays k step = same_heap k.heap k.heap refl
@@ -166,5 +166,5 @@ stays_by : (k : CycleHeap) (step : NamedStep) (refused : Option Fault)
 stays_by k step None = done_stays k step
 stays_by k step (Some fault) = same_heap k.heap k.heap refl
 
-pub after_stays : (k : CycleHeap) (step : NamedStep) → StaysCleared k.heap (after_in k step).heap
-after_stays k step = stays_by k step (refusal_in k step)
+pub after_stays : (k : CycleHeap) (step : NamedStep) → StaysCleared k.heap (after_in_cycle k step).heap
+after_stays k step = stays_by k step (refusal_in_cycle k step)

@@ -24,7 +24,7 @@ use Rattle.ref_base.proofs.NewClears.{has-new_clears, refers_into-same}
 use Rattle.ref_base.proofs.Forgetting.{forgotten-shape}
 use Rattle.ref_objects.specs.Grounds.{unmarked}
 use Rattle.ref_mark.specs.CycleHeaps.{CycleHeap, policy_in, is_white, is_black, is_in_cycle, is_due, doomed}
-use Rattle.ref_mark.specs.Standing.{Stands as MarkStands, AreThere, FactsBut, InSweeping, unsaid, Agrees, shown_heap}
+use Rattle.ref_mark.specs.Standing.{MarkStands, AreThere, FactsBut, InSweeping, unsaid, ReadsAs, shown_heap}
 use Rattle.ref_mark.proofs.DoomedLists.{has-unmarked, past_is_in_cycle, past_is_not_marking}
 use Rattle.ref_mark.proofs.Moves.{leading_is_there}
 use Rattle.ref_mark.proofs.MovedStates.{ticked_other}
@@ -34,7 +34,7 @@ use Rattle.ref_mark.proofs.SafeMarks.{marked_is_black}
 use Rattle.ref_mark.proofs.Shading.{not_white_marked, refers_into-wider}
 use Rattle.ref_clear.specs.ClearHeaps.{ClearHeap, with_mark, swept_some}
 use Rattle.ref_clear.specs.ClearCalls.{refusal_in, answer_of_sweep}
-use Rattle.ref_clear.specs.Standing.{Stands}
+use Rattle.ref_clear.specs.Standing.{HeapStands}
 use Rattle.ref_clear.specs.ClearViews.{MaySweep}
 use Rattle.ref_clear.proofs.GoneObjects.{without-none, has-take, object_at-gone, object_at-left, left_from_there}
 use Rattle.ref_clear.proofs.GoneObjects.{rising-without}
@@ -270,7 +270,7 @@ module _ (k : CycleHeap) (a : State) (stands : MarkStands k a) (sweeping : is_in
   swept_doomed : doomed (swept_some k) ≡ rest
   swept_doomed = doomed-so_many k 64 sweeping stands.orderly.rising
 
-  swept_agrees : Agrees (swept_some k) (state_swept a (doomed k)).world.heap
+  swept_agrees : ReadsAs (swept_some k) (state_swept a (doomed k)).world.heap
   swept_agrees =
       let h = (state_swept a (doomed k)).world.heap in
       let before : unsaid k ≡ doomed k = cond-true (is_in k.phase Sweeping) (doomed k) [] sweeping in
@@ -330,9 +330,9 @@ referent-without gone os n none =
       | inr left ↦ ap (λ (o : Option Object). referent_of (reference_in o)) (object_at-left gone os n left) ∙ none
     ]
 
-pub sweep_row : (c : ClearHeap) (a : State) (w : ℕ) → Stands c a → refusal_in c (heap.Sweep w) ≡ None
+pub sweep_row : (c : ClearHeap) (a : State) (w : ℕ) → HeapStands c a → refusal_in c (heap.Sweep w) ≡ None
     → (b : State) × HeapAccepts a (heap.Sweep w) (answer_of_sweep (doomed c.mark)) b
-    × Stands (with_mark c (swept_some c.mark)) b
+    × HeapStands (with_mark c (swept_some c.mark)) b
 sweep_row c a w stands none =
     let k = c.mark in
     let ds = doomed k in
@@ -356,7 +356,7 @@ sweep_row c a w stands none =
     )
 
 -- what is held is a root, so nothing white is
-pub may_sweep : (c : ClearHeap) (a : State) (from : ℕ) → Stands c a → is_in c.mark.phase Sweeping ≡ true
+pub may_sweep : (c : ClearHeap) (a : State) (from : ℕ) → HeapStands c a → is_in c.mark.phase Sweeping ≡ true
     → ((n : ℕ) → is_white c.mark n ≡ true → from ≤ n) → MaySweep c.mark from
 may_sweep c a from stands sweeping swept =
     let k = c.mark in

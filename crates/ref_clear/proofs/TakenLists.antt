@@ -12,7 +12,7 @@ use Rattle.ref_base.specs.Replay.{pended as world_pended}
 use Rattle.ref_base.specs.Collectors.{joined}
 use Rattle.ref_base.specs.CollectorRows.{list_at}
 use Rattle.ref_base.proofs.FoundLists.{with_last, has-between, has-with_last, AreDistinct-with_last}
-use Rattle.ref_clear.specs.ClearHeaps.{ClearHeap, pended as heap_pended}
+use Rattle.ref_clear.specs.ClearHeaps.{ClearHeap, heap_pended}
 use Rattle.ref_clear.specs.ClearViews.{numbers_in}
 
 -- ---- the first of a list is taken

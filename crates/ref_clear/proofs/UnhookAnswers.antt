@@ -16,7 +16,7 @@ use Rattle.ref_mark.specs.MarkCalls.{mint_answer_in, after_mint_in}
 use Rattle.ref_mark.specs.MarkViews.{ground_of}
 use Rattle.ref_clear.specs.ClearHeaps.{holding, unhooked}
 use Rattle.ref_clear.specs.ClearCalls.{refusal_in, queue_in, answer_in, after_in, answer_of_unhook}
-use Rattle.ref_clear.specs.ClearViews.{PendingList, seen}
+use Rattle.ref_clear.specs.ClearViews.{PendingList, seen_heap}
 use Rattle.ref_clear.proofs.NoticeAnswers.{minted, clear_holding}
 
 -- ---- what is read through the view of the objects
@@ -44,28 +44,28 @@ module _ (k : CycleHeap) (lists : List PendingList) (m s : ℕ) {n q : ℕ} {r :
   registered : queue_in k m s ≡ Some q
   registered = ap (λ v. registered_in (reference_of k.heap v)) held ∙ ap registered_in found ∙ queue
 
-  refusal : refusal_in (seen k lists) (heap.Unhook m s) ≡ holds_refusal k.heap
+  refusal : refusal_in (seen_heap k lists) (heap.Unhook m s) ≡ holds_refusal k.heap
   refusal = simp (has, held, found, queue) refl
 
-  clears : marks.refusal_in (holding k n) (heap.Clear m s) ≡ None
+  clears : marks.refusal_in_cycle (holding k n) (heap.Clear m s) ≡ None
   clears = simp (has, held, found) refl
 
   pub unhook_done : {i j : CycleHeap} {object : ℕ} → replies.Object object ≡ mint_answer_in k n
-      → i ≡ after_mint_in k n → j ≡ marks.after_in i (heap.Clear m s)
-      → (replies.Notice object q Own ≡ answer_in (seen k lists) (heap.Unhook m s))
-      × (seen j lists ≡ after_in (seen k lists) (heap.Unhook m s))
+      → i ≡ after_mint_in k n → j ≡ marks.after_in_cycle i (heap.Clear m s)
+      → (replies.Notice object q Own ≡ answer_in (seen_heap k lists) (heap.Unhook m s))
+      × (seen_heap j lists ≡ after_in (seen_heap k lists) (heap.Unhook m s))
   unhook_done {i} {j} {object} answer after cut =
       let mint = minted k n object answer after in
       let counted : holds_refusal k.heap ≡ None =
       (unless_parts (is_there k.heap.objects n) NoSuchObject (holds_refusal k.heap) mint.0).1 in
-      let none : refusal_in (seen k lists) (heap.Unhook m s) ≡ None = refusal ∙ counted in
+      let none : refusal_in (seen_heap k lists) (heap.Unhook m s) ≡ None = refusal ∙ counted in
       let reply : answer_of_unhook (slot_at k.heap m s) (queue_in k m s) ≡ replies.Notice n q Own =
       ap (λ v. answer_of_unhook v (queue_in k m s)) held ∙ ap (answer_of_unhook (Some n)) registered in
       let left : unhooked k m s (slot_at k.heap m s) (queue_in k m s) ≡ holding (with_cleared k m s) n =
       ap (λ v. unhooked k m s v (queue_in k m s)) held ∙ ap (unhooked k m s (Some n)) registered in
       let now : j ≡ holding (with_cleared k m s) n =
-      cut ∙ ap (λ (h : CycleHeap). marks.after_in h (heap.Clear m s)) mint.2 ∙ simp clears refl
+      cut ∙ ap (λ (h : CycleHeap). marks.after_in_cycle h (heap.Clear m s)) mint.2 ∙ simp clears refl
       ∙ clear_holding k m s n in (
         ap (λ (o : ℕ). replies.Notice o q Own) mint.1 ∙ sym reply ∙ simp none refl,
-        ap (λ (h : CycleHeap). seen h lists) (now ∙ sym left) ∙ simp none refl,
+        ap (λ (h : CycleHeap). seen_heap h lists) (now ∙ sym left) ∙ simp none refl,
       )

@@ -21,7 +21,7 @@ use Rattle.ref_base.proofs.RowForms.{unless_parts}
 use Rattle.ref_base.proofs.RowLaws.{ticked_world}
 use Rattle.ref_base.proofs.ShownObjects.{shown-shape, shown-cleared}
 use Rattle.ref_mark.specs.CycleHeaps.{CycleHeap, is_doomed, doomed, with_cleared}
-use Rattle.ref_mark.specs.Standing.{Stands as MarkStands, Agrees, unsaid, shown_heap}
+use Rattle.ref_mark.specs.Standing.{MarkStands, ReadsAs, unsaid, shown_heap}
 use Rattle.ref_mark.proofs.Agreeing.{agrees_changed, changed_in-agrees, said_slot}
 use Rattle.ref_mark.proofs.DoomedLists.{past_is_in_cycle}
 use Rattle.ref_mark.proofs.ShownHeaps.{cut-shown}
@@ -33,7 +33,7 @@ use Rattle.ref_mark.proofs.ReferenceMoves.{refers_into_doomed-past, cleared_beco
 use Rattle.ref_mark.proofs.ReferenceRows.{clear_row}
 use Rattle.ref_clear.specs.ClearHeaps.{ClearHeap, with_mark, holding, unhooked}
 use Rattle.ref_clear.specs.ClearCalls.{refusal_in, queue_in, answer_of_unhook}
-use Rattle.ref_clear.specs.Standing.{Stands, ArePending}
+use Rattle.ref_clear.specs.Standing.{HeapStands, ArePending}
 use Rattle.ref_clear.proofs.PendingFacts.{root_before, waiting_still}
 use Rattle.ref_clear.proofs.StaysCleared.{config-cleared, cleared_stays}
 
@@ -66,7 +66,7 @@ queue_of-reshaped g keeps h (Some n) =
     at-reshaped g keeps (λ (o : Option Object). registered_in (reference_in o)) h.objects n keeps.queue
 
 -- what agrees with the heap has its queues
-queue_of-agrees : (k : CycleHeap) (h : Heap) (held : Option ℕ) → Agrees k h
+queue_of-agrees : (k : CycleHeap) (h : Heap) (held : Option ℕ) → ReadsAs k h
     → registered_in (reference_of h held) ≡ registered_in (reference_of k.heap held)
 queue_of-agrees k h held agrees =
     sym (queue_of-reshaped (λ o. forgotten (unsaid k) o) (forgotten-shape (unsaid k)) h held)
@@ -76,7 +76,7 @@ queue_of-agrees k h held agrees =
 
 -- ---- what waits
 
-pending-cleared : (c : ClearHeap) (a : State) (m s : ℕ) → Stands c a → ArePending (with_cleared c.mark m s) c.pending
+pending-cleared : (c : ClearHeap) (a : State) (m s : ℕ) → HeapStands c a → ArePending (with_cleared c.mark m s) c.pending
 pending-cleared c a m s stands =
     waiting_still c a stands (with_cleared c.mark m s) (config-cleared c.mark m s) (cleared_stays c.mark m s)
 
@@ -103,7 +103,7 @@ cut_and_held k a m s n stands is =
           let past = refers_into_doomed-past k (reference_of k.heap held) met in
           let off = slot_off k a m s stands (past_is_in_cycle k.phase past) in
           let stays : with_cleared k m s ≡ k = simp met refl in
-          let heap : Agrees k (cut h m s) =
+          let heap : ReadsAs k (cut h m s) =
           ap (heap_but (unsaid k)) (sym same) ∙ changed_in-agrees k h stands.heap held f said (λ o. refl)
           ∙ ap (heap_but (unsaid k)) (cut-shown k held off met) in
           let c : Change = rooted k k.heap.slots holds in
@@ -128,11 +128,11 @@ cut_and_held k a m s n stands is =
           ap (λ (p : Option Object). refers_into (is_doomed k) (reference_in p)) (sym found)
           ∙ ap (λ (held : Option ℕ). refers_into (is_doomed k) (reference_of k.heap held)) (sym is) ∙ keeps in
           cleared_becomes k (present k.heap.slots ++ holds ++ pending) o own) in
-          let cut_agrees : Agrees (record k { heap = cut k.heap m s }) (cut h m s) =
-          subst (λ (g : Heap). Agrees (record k { heap = cut k.heap m s }) g) same
+          let cut_agrees : ReadsAs (record k { heap = cut k.heap m s }) (cut h m s) =
+          subst (λ (g : Heap). ReadsAs (record k { heap = cut k.heap m s }) g) same
           (agrees_changed k h stands.heap held f said (λ o. refl) shown-cleared) in
-          let heap : Agrees (moved k c) (with_hold (cut h m s) n) =
-          subst (λ (j : CycleHeap). Agrees j (with_hold (cut h m s) n)) is_moved
+          let heap : ReadsAs (moved k c) (with_hold (cut h m s) n) =
+          subst (λ (j : CycleHeap). ReadsAs j (with_hold (cut h m s) n)) is_moved
           (ap (λ (g : Heap). with_hold g n) cut_agrees) in
           subst (λ (j : CycleHeap). MarkStands j b)
           (sym (ap (λ (j : CycleHeap). holding j n) cuts ∙ is_moved))
@@ -142,12 +142,12 @@ cut_and_held k a m s n stands is =
 -- ---- the row
 
 -- the pending references are as before
-pending_stays : (c : ClearHeap) (a : State) (h : Heap) → Stands c a → (ticked (on_heap a h)).world.pending ≡ c.pending
+pending_stays : (c : ClearHeap) (a : State) (h : Heap) → HeapStands c a → (ticked (on_heap a h)).world.pending ≡ c.pending
 pending_stays c a h stands = ap (λ (w : World). w.pending) (ticked_world (on_heap a h)) ∙ stands.pending
 
 -- the reference in the slot is cleared
-cut_stands : (c : ClearHeap) (a : State) (m s : ℕ) → Stands c a → clear_refusal c.mark.heap m s ≡ None
-    → Stands (with_mark c (with_cleared c.mark m s)) (ticked (on_heap a (cut a.world.heap m s)))
+cut_stands : (c : ClearHeap) (a : State) (m s : ℕ) → HeapStands c a → clear_refusal c.mark.heap m s ≡ None
+    → HeapStands (with_mark c (with_cleared c.mark m s)) (ticked (on_heap a (cut a.world.heap m s)))
 cut_stands c a m s stands accepted =
     let row = clear_row c.mark a m s stands.mark accepted in
     record {
@@ -157,10 +157,10 @@ cut_stands c a m s stands accepted =
     }
 
 -- by what the slot holds, and the queue that this is registered with
-unhook_by : (c : ClearHeap) (a : State) (m s : ℕ) (held queue : Option ℕ) → Stands c a
+unhook_by : (c : ClearHeap) (a : State) (m s : ℕ) (held queue : Option ℕ) → HeapStands c a
     → slot_at c.mark.heap m s ≡ held → clear_refusal c.mark.heap m s ≡ None
     → (b : State) × Unhooks a m s held queue (answer_of_unhook held queue) b
-    × Stands (with_mark c (unhooked c.mark m s held queue)) b
+    × HeapStands (with_mark c (unhooked c.mark m s held queue)) b
 unhook_by c a m s None queue stands is accepted =
     (ticked (on_heap a (cut a.world.heap m s)), (refl, refl), cut_stands c a m s stands accepted)
 unhook_by c a m s (Some n) None stands is accepted =
@@ -177,10 +177,10 @@ unhook_by c a m s (Some n) (Some q) stands is accepted =
       },
     )
 
-pub unhook_row : (c : ClearHeap) (a : State) (m s : ℕ) → Stands c a → refusal_in c (heap.Unhook m s) ≡ None
+pub unhook_row : (c : ClearHeap) (a : State) (m s : ℕ) → HeapStands c a → refusal_in c (heap.Unhook m s) ≡ None
     → (b : State)
     × HeapAccepts a (heap.Unhook m s) (answer_of_unhook (slot_at c.mark.heap m s) (queue_in c.mark m s)) b
-    × Stands (with_mark c (unhooked c.mark m s (slot_at c.mark.heap m s) (queue_in c.mark m s))) b
+    × HeapStands (with_mark c (unhooked c.mark m s (slot_at c.mark.heap m s) (queue_in c.mark m s))) b
 unhook_row c a m s stands accepted =
     let held = slot_at c.mark.heap m s in
     let queue = queue_in c.mark m s in

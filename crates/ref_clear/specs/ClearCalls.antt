@@ -13,7 +13,7 @@ use Rattle.ref_base.specs.declared.phase.Phase.TheVariants.{Idle, Sweeping}
 use Rattle.ref_base.specs.declared.heap_step.HeapStep.TheVariants as heap
 use Rattle.ref_base.specs.declared.reply.Reply.{Reply}
 use Rattle.ref_base.specs.declared.reply.Reply.TheVariants as replies
-use Rattle.ref_mark.specs.CycleHeaps.{CycleHeap, doomed, with_phase}
+use Rattle.ref_mark.specs.CycleHeaps.{CycleHeap, doomed, cycle_in_phase}
 use Rattle.ref_mark.specs.MarkCalls as marks
 use Rattle.ref_mark.specs.MarkCalls.{unless_refused}
 use Rattle.ref_clear.specs.ClearHeaps.{ClearHeap, HeldNotice, with_mark, pending_at, begun_with, is_to_clear}
@@ -50,7 +50,7 @@ IsOfHeap heap_no (Some notice) = notice.hold.heap_no ≡ heap_no
 -- a state with all that refusals depend on
 abbrev pub refusing_state : ClearHeap → State
 refusing_state c =
-    let a = marks.refusing_state c.mark in
+    let a = marks.refusing_cycle c.mark in
     record a { world = record a.world { pending = c.pending }; doomed = doomed c.mark; found = c.mark.found }
 
 -- the fault of a step, or none where it is accepted: the abstract collector's own
@@ -89,8 +89,8 @@ queue_in k m s = registered_in (reference_of k.heap (slot_at k.heap m s))
 -- ---- steps
 
 -- this reply, or the fault where the step is refused
-abbrev pub told : ClearHeap → NamedStep → Reply → Reply
-told c step reply = unless_refused (refusal_in c step) replies.Refused reply
+abbrev pub reply_or_fault : ClearHeap → NamedStep → Reply → Reply
+reply_or_fault c step reply = unless_refused (refusal_in c step) replies.Refused reply
 
 -- this heap, or the one before where the step is refused
 abbrev pub left : ClearHeap → NamedStep → ClearHeap → ClearHeap
@@ -99,13 +99,13 @@ left c step after = unless_refused (refusal_in c step) (λ fault. c) after
 -- the reply to a step, refused or not
 abbrev pub answer_in : ClearHeap → NamedStep → Reply
 answer_in c (heap.Unhook m s) =
-    told c (heap.Unhook m s) (answer_of_unhook (slot_at c.mark.heap m s) (queue_in c.mark m s))
-answer_in c (heap.ClearNext w) = told c (heap.ClearNext w) (answer_of_look c.mark (list_at c.mark.found w))
-answer_in c heap.EndClear = told c heap.EndClear replies.Done
-answer_in c (heap.Hand w) = told c (heap.Hand w) (answer_of_hand w (pending_at c w))
-answer_in c (heap.Sweep w) = told c (heap.Sweep w) (answer_of_sweep (doomed c.mark))
-answer_in c heap.EndSweep = told c heap.EndSweep replies.Done
-answer_in c step = marks.answer_in c.mark step
+    reply_or_fault c (heap.Unhook m s) (answer_of_unhook (slot_at c.mark.heap m s) (queue_in c.mark m s))
+answer_in c (heap.ClearNext w) = reply_or_fault c (heap.ClearNext w) (answer_of_look c.mark (list_at c.mark.found w))
+answer_in c heap.EndClear = reply_or_fault c heap.EndClear replies.Done
+answer_in c (heap.Hand w) = reply_or_fault c (heap.Hand w) (answer_of_hand w (pending_at c w))
+answer_in c (heap.Sweep w) = reply_or_fault c (heap.Sweep w) (answer_of_sweep (doomed c.mark))
+answer_in c heap.EndSweep = reply_or_fault c heap.EndSweep replies.Done
+answer_in c step = marks.answer_in_cycle c.mark step
 
 -- the heap after it
 abbrev pub after_in : ClearHeap → NamedStep → ClearHeap
@@ -113,8 +113,8 @@ after_in c (heap.Unhook m s) =
     left c (heap.Unhook m s) (with_mark c (unhooked c.mark m s (slot_at c.mark.heap m s) (queue_in c.mark m s)))
 after_in c (heap.Begin now how) = left c (heap.Begin now how) (begun_with c now how)
 after_in c (heap.ClearNext w) = left c (heap.ClearNext w) (looked_from c w (list_at c.mark.found w))
-after_in c heap.EndClear = left c heap.EndClear (with_mark c (with_phase c.mark Sweeping))
+after_in c heap.EndClear = left c heap.EndClear (with_mark c (cycle_in_phase c.mark Sweeping))
 after_in c (heap.Hand w) = left c (heap.Hand w) (handed_from c w (pending_at c w))
 after_in c (heap.Sweep w) = left c (heap.Sweep w) (with_mark c (swept_some c.mark))
-after_in c heap.EndSweep = left c heap.EndSweep (with_mark c (with_phase c.mark Idle))
-after_in c step = with_mark c (marks.after_in c.mark step)
+after_in c heap.EndSweep = left c heap.EndSweep (with_mark c (cycle_in_phase c.mark Idle))
+after_in c step = with_mark c (marks.after_in_cycle c.mark step)

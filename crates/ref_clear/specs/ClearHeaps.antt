@@ -11,8 +11,8 @@ use Rattle.ref_base.specs.declared.cause.Cause.{Cause}
 use Rattle.ref_base.specs.declared.config.Config.{Config}
 use Rattle.ref_base.specs.declared.heap_step.HoldName.{HoldName}
 use Rattle.ref_base.specs.declared.urgency.Urgency.{Urgency}
-use Rattle.ref_mark.specs.CycleHeaps.{CycleHeap, first_cycle_heap, is_doomed, doomed, with_cleared, with_taken}
-use Rattle.ref_mark.specs.CycleHeaps.{begun, shaded_all}
+use Rattle.ref_mark.specs.CycleHeaps.{CycleHeap, first_cycle_heap, is_doomed, doomed, with_cleared, with_found_taken}
+use Rattle.ref_mark.specs.CycleHeaps.{cycle_begun, shaded_all}
 
 -- a heap in its cycles, and for each worker the references that it cleared and hasn't handed on, first first
 pub record ClearHeap : Type 0 where
@@ -49,7 +49,7 @@ holding k n = record k { heap = with_hold k.heap n }
 
 -- a cycle begins: the pending references become grey last, worker by worker in list order
 abbrev pub begun_with : ClearHeap → ℕ → Urgency → ClearHeap
-begun_with c now urgency = with_mark c (shaded_all (begun c.mark now urgency) (pending_numbers c.pending))
+begun_with c now urgency = with_mark c (shaded_all (cycle_begun c.mark now urgency) (pending_numbers c.pending))
 
 -- ---- clearing
 
@@ -62,22 +62,22 @@ abbrev pub cut_at : CycleHeap → ℕ → CycleHeap
 cut_at k n = record k { heap = with_changed k.heap n (with_reference cleared) }
 
 -- it goes last in the worker's pending list, if it is registered with a queue
-abbrev pub pended : ClearHeap → ℕ → ℕ → Option ℕ → ClearHeap
-pended c w n None = c
-pended c w n (Some q) =
+abbrev pub heap_pended : ClearHeap → ℕ → ℕ → Option ℕ → ClearHeap
+heap_pended c w n None = c
+heap_pended c w n (Some q) =
     with_pending_at c w (pending_at c w ++ record { object = n; queue = q; cycle = c.mark.cycle } ∷ [])
 
 -- the worker looks at reference n, and clears it where its referent is doomed
-abbrev pub looked_at : ClearHeap → ℕ → ℕ → ClearHeap
-looked_at c w n =
+abbrev pub heap_looked_at : ClearHeap → ℕ → ℕ → ClearHeap
+heap_looked_at c w n =
     if is_to_clear c.mark n
-    then pended (with_mark c (cut_at c.mark n)) w n (registered_in (reference_at c.mark.heap n))
+    then heap_pended (with_mark c (cut_at c.mark n)) w n (registered_in (reference_at c.mark.heap n))
     else c
 
 -- it takes the first of what it found, and looks at it
 abbrev pub looked_from : ClearHeap → ℕ → List ℕ → ClearHeap
 looked_from c w [] = c
-looked_from c w (n ∷ rest) = looked_at (with_mark c (with_taken c.mark w)) w n
+looked_from c w (n ∷ rest) = heap_looked_at (with_mark c (with_found_taken c.mark w)) w n
 
 -- ---- notices
 

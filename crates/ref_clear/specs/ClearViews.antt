@@ -9,7 +9,7 @@ use Rattle.ref_base.specs.Collectors.{State}
 use Rattle.ref_base.specs.declared.phase.Phase.TheVariants.{Sweeping}
 use Rattle.ref_mark.specs.CycleHeaps.{CycleHeap, is_white}
 use Rattle.ref_clear.specs.ClearHeaps.{ClearHeap}
-use Rattle.ref_clear.specs.Standing.{Stands}
+use Rattle.ref_clear.specs.Standing.{HeapStands}
 
 -- the pending references of a worker, first first, and how many there is room for
 pub record PendingList : Type 0 where
@@ -19,8 +19,8 @@ pub record PendingList : Type 0 where
 abbrev pub empty_pending : ℕ → PendingList
 empty_pending room = record { stands = []; room = room }
 
-abbrev pub with_last : PendingList → Pending → PendingList
-with_last l p = record l { stands = l.stands ++ p ∷ [] }
+abbrev pub with_last_pending : PendingList → Pending → PendingList
+with_last_pending l p = record l { stands = l.stands ++ p ∷ [] }
 
 abbrev pub first_pending : List Pending → Option Pending
 first_pending [] = None
@@ -30,8 +30,8 @@ abbrev pub rest_pending : List Pending → List Pending
 rest_pending [] = []
 rest_pending (p ∷ ps) = ps
 
-abbrev pub without_first : PendingList → PendingList
-without_first l = record l { stands = rest_pending l.stands }
+abbrev pub without_first_pending : PendingList → PendingList
+without_first_pending l = record l { stands = rest_pending l.stands }
 
 -- the one at this place, from 0 on
 abbrev pub pending_from : List Pending → ℕ → Option Pending
@@ -42,12 +42,12 @@ abbrev pub numbers_in : List Pending → List ℕ
 numbers_in ps = map (λ p. p.object) ps
 
 -- what stands in each of the lists
-abbrev pub lists_of : List PendingList → List (List Pending)
-lists_of [] = []
-lists_of (l ∷ ls) = l.stands ∷ lists_of ls
+abbrev pub pending_lists_of : List PendingList → List (List Pending)
+pending_lists_of [] = []
+pending_lists_of (l ∷ ls) = l.stands ∷ pending_lists_of ls
 
-abbrev pub seen : CycleHeap → List PendingList → ClearHeap
-seen k lists = record { mark = k; pending = lists_of lists }
+abbrev pub seen_heap : CycleHeap → List PendingList → ClearHeap
+seen_heap k lists = record { mark = k; pending = pending_lists_of lists }
 
 -- in each list there is room for as many as there are cells
 abbrev pub HaveRoom : List PendingList → ℕ → Type 0
@@ -56,9 +56,9 @@ HaveRoom (l ∷ ls) cells = (cells ≤ l.room) × HaveRoom ls cells
 
 -- The heap stands for some state of the abstract collector; no list is ever full; and once a sweep has begun nothing
 -- below the number that it has come to is left to free.
-pub record IsSound (k : CycleHeap) (lists : List PendingList) (swept_to : ℕ) : Type 0 where
+pub record IsSoundHeap (k : CycleHeap) (lists : List PendingList) (swept_to : ℕ) : Type 0 where
   pub room : HaveRoom lists k.heap.config.cells
-  pub stands : (a : State) × Stands (seen k lists) a
+  pub stands : (a : State) × HeapStands (seen_heap k lists) a
   pub swept : is_in k.phase Sweeping ≡ true → (n : ℕ) → is_white k n ≡ true → swept_to ≤ n
 
 -- once a sweep has begun, what is doomed is held by nobody, and none of it is below the number that the sweep has come to

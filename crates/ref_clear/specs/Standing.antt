@@ -6,7 +6,7 @@ use Rattle.ref_base.specs.Worlds.{Pending, pending_numbers}
 use Rattle.ref_base.specs.Collectors.{State}
 use Rattle.ref_base.specs.CollectorRows.{referent_of}
 use Rattle.ref_mark.specs.CycleHeaps.{CycleHeap}
-use Rattle.ref_mark.specs.Standing.{Stands as MarkStands}
+use Rattle.ref_mark.specs.Standing.{MarkStands}
 use Rattle.ref_clear.specs.ClearHeaps.{ClearHeap}
 
 -- each worker has a list of pending references; each of these stands in them once, and is cleared for good
@@ -16,7 +16,7 @@ pub record ArePending (k : CycleHeap) (pending : List (List Pending)) : Type 0 w
   pub cleared : (n : ℕ) → has (pending_numbers pending) n ≡ true → referent_of (reference_at k.heap n) ≡ None
 
 -- the heap stands for the state as a heap in its cycles does, and the pending references are the state's
-pub record Stands (c : ClearHeap) (a : State) : Type 0 where
+pub record HeapStands (c : ClearHeap) (a : State) : Type 0 where
   pub mark : MarkStands c.mark a
   pub pending : a.world.pending ≡ c.pending
   pub waiting : ArePending c.mark c.pending

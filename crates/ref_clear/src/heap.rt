@@ -9,7 +9,7 @@ ghost use Rattle.ref_objects.specs.Grounds.{starting_refusal, IsMade, IsRefused,
 ghost use Rattle.ref_mark.specs.MarkRows.{starting_state};
 ghost use Rattle.ref_clear.specs.ClearHeaps.{first_clear_heap, pending_at};
 ghost use Rattle.ref_clear.specs.ClearViews.{empty_pending, pending_from};
-ghost use Rattle.ref_clear.specs.Standing.{Stands};
+ghost use Rattle.ref_clear.specs.Standing.{HeapStands};
 
 mod clearing;
 mod cycle;
@@ -41,13 +41,13 @@ pub struct Heap<A: Allocator = Global> {
 
 impl<A: Allocator> Model for Heap<A> {
     ghost use Rattle.ref_clear.specs.ClearHeaps.{ClearHeap};
-    ghost use Rattle.ref_clear.specs.ClearViews.{seen, IsSound};
+    ghost use Rattle.ref_clear.specs.ClearViews.{seen_heap, IsSoundHeap};
 
     ghost Value = { ClearHeap };
 
-    ghost view = { λ h. seen h.marker h.pending.items };
+    ghost view = { λ h. seen_heap h.marker h.pending.items };
 
-    ghost invariant = { λ h. IsSound h.marker h.pending.items h.swept_to };
+    ghost invariant = { λ h. IsSoundHeap h.marker h.pending.items h.swept_to };
 }
 
 impl<A: Allocator + Copy> Heap<A> {
@@ -56,7 +56,7 @@ impl<A: Allocator + Copy> Heap<A> {
     pub fn new(alloc: A, config: Config, heap_no: u64) -> Result<Self, Fault>
         ensures made { IsMade (starting_refusal config (record { obj = 1; cycle = 0; page = 1 }))
             (first_clear_heap config heap_no 1 0) result }
-        ensures stands { IfOk result (λ heap. Stands heap (first_state config)) }
+        ensures stands { IfOk result (λ heap. HeapStands heap (first_state config)) }
     {
         Self::starting(alloc, config, heap_no, Start::FIRST)
     }
@@ -65,7 +65,7 @@ impl<A: Allocator + Copy> Heap<A> {
     pub fn starting(alloc: A, config: Config, heap_no: u64, start: Start) -> Result<Self, Fault>
         ensures made { IsMade (starting_refusal config start)
             (first_clear_heap config heap_no start.obj start.cycle) result }
-        ensures stands { IfOk result (λ heap. Stands heap (starting_state config start.obj start.cycle)) }
+        ensures stands { IfOk result (λ heap. HeapStands heap (starting_state config start.obj start.cycle)) }
     {
         let marker = Marker::starting(alloc, config, heap_no, start)?;
         match pending_lists(alloc, config) {

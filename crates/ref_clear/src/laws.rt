@@ -12,33 +12,33 @@ ghost use Rattle.ref_base.specs.Worlds.{pending_numbers};
 ghost use Rattle.ref_base.specs.declared.phase.Phase.TheVariants.{Clearing, Sweeping};
 ghost use Rattle.ref_mark.specs.CycleHeaps.{is_doomed};
 ghost use Rattle.ref_clear.specs.ClearHeaps.{ClearHeap};
-ghost use Rattle.ref_clear.specs.ClearRows.{IsRowOf};
-ghost use Rattle.ref_clear.specs.Standing.{Stands};
+ghost use Rattle.ref_clear.specs.ClearRows.{IsHeapRowOf};
+ghost use Rattle.ref_clear.specs.Standing.{HeapStands};
 
 /// In every phase each step of a heap, answered as it is and leaving what it leaves, is a row of the abstract collector,
 /// from each state that the heap stands for to one that it then stands for.
 pub fn each_step_of_a_heap_is_a_row()
-    ensures { (c : ClearHeap) (step : NamedStep) → IsRowOf c step }
+    ensures { (c : ClearHeap) (step : NamedStep) → IsHeapRowOf c step }
 {}
 
 /// Once clearing has ended, no reference outside the doomed refers to one of them.
 pub fn nothing_outside_refers_to_the_doomed_in_a_sweep()
-    ensures { (c : ClearHeap) (a : State) (n : ℕ) → Stands c a → is_in c.mark.phase Sweeping ≡ true
+    ensures { (c : ClearHeap) (a : State) (n : ℕ) → HeapStands c a → is_in c.mark.phase Sweeping ≡ true
         → is_doomed c.mark n ≡ false → refers_into (is_doomed c.mark) (reference_at c.mark.heap n) ≡ false }
 {}
 
 /// A pending reference is there, and isn't doomed.
 pub fn what_is_pending_is_there_and_not_doomed()
-    ensures there { (c : ClearHeap) (a : State) (n : ℕ) → Stands c a → has (pending_numbers c.pending) n ≡ true
+    ensures there { (c : ClearHeap) (a : State) (n : ℕ) → HeapStands c a → has (pending_numbers c.pending) n ≡ true
         → is_there c.mark.heap.objects n ≡ true }
-    ensures lives { (c : ClearHeap) (a : State) (n : ℕ) → Stands c a → has (pending_numbers c.pending) n ≡ true
+    ensures lives { (c : ClearHeap) (a : State) (n : ℕ) → HeapStands c a → has (pending_numbers c.pending) n ≡ true
         → is_doomed c.mark n ≡ false }
 {}
 
 /// A reference that a worker has still to look at is there, and isn't doomed.
 pub fn what_is_found_is_there_and_not_doomed()
-    ensures there { (c : ClearHeap) (a : State) (n : ℕ) → Stands c a → is_in c.mark.phase Clearing ≡ true
+    ensures there { (c : ClearHeap) (a : State) (n : ℕ) → HeapStands c a → is_in c.mark.phase Clearing ≡ true
         → has (joined c.mark.found) n ≡ true → is_there c.mark.heap.objects n ≡ true }
-    ensures lives { (c : ClearHeap) (a : State) (n : ℕ) → Stands c a → is_in c.mark.phase Clearing ≡ true
+    ensures lives { (c : ClearHeap) (a : State) (n : ℕ) → HeapStands c a → is_in c.mark.phase Clearing ≡ true
         → has (joined c.mark.found) n ≡ true → is_doomed c.mark n ≡ false }
 {}

@@ -2,7 +2,7 @@
 
 ghost use Rattle.std.specs.Prelude.{◌≡◌, ◌<◌, IfOk, length};
 ghost use Rattle.std.specs.VecDeque.{deque_capacity};
-ghost use Rattle.ref_clear.specs.ClearViews.{empty_pending, with_last, without_first, first_pending, pending_from};
+ghost use Rattle.ref_clear.specs.ClearViews.{empty_pending, with_last_pending, without_first_pending, first_pending, pending_from};
 
 use ref_base::{ObjNo, QueueNo};
 use std::alloc::{AllocError, Allocator, Global};
@@ -76,7 +76,7 @@ impl<A: Allocator> PendingList<A> {
     /// One more, last.
     pub(crate) fn push(&mut self, reference: Pending)
         requires { length self.old.stands < self.old.room }
-        ensures { self.new ≡ with_last self.old reference }
+        ensures { self.new ≡ with_last_pending self.old reference }
     {
         self.references.push_back_reserved(reference);
     }
@@ -84,7 +84,7 @@ impl<A: Allocator> PendingList<A> {
     /// Takes the first.
     pub(crate) fn take_first(&mut self) -> Option<Pending>
         ensures answer { result ≡ first_pending self.old.stands }
-        ensures after { self.new ≡ without_first self.old }
+        ensures after { self.new ≡ without_first_pending self.old }
     {
         self.references.pop_front()
     }

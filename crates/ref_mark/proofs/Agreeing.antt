@@ -15,7 +15,7 @@ use Rattle.ref_base.specs.declared.phase.Phase.TheVariants.{Idle, Marking, Clear
 use Rattle.ref_base.proofs.Forgetting.{IsSaid, heap_but-none, field_in-but, reference_of-but, changed_in-but, made-but}
 use Rattle.ref_base.proofs.ShownObjects.{field_in-shown}
 use Rattle.ref_mark.specs.CycleHeaps.{CycleHeap, is_white, is_past_mark, is_in_cycle, doomed}
-use Rattle.ref_mark.specs.Standing.{Stands, Agrees, unsaid, shown_heap}
+use Rattle.ref_mark.specs.Standing.{MarkStands, ReadsAs, unsaid, shown_heap}
 use Rattle.ref_mark.proofs.DoomedLists.{has-doomed, doomed-changed_in}
 use Rattle.ref_mark.proofs.ShownHeaps.{shown_heap-changed_in}
 use Rattle.ref_mark.proofs.RootFacts.{slot_off}
@@ -28,20 +28,20 @@ unsaid-before k before =
     (or_parts (is_in k.phase Clearing) (is_in k.phase Sweeping) before).1 in
     simp other refl
 
-pub same_before : (k : CycleHeap) (h : Heap) → is_past_mark k.phase ≡ false → Agrees k h → h ≡ shown_heap k
+pub same_before : (k : CycleHeap) (h : Heap) → is_past_mark k.phase ≡ false → ReadsAs k h → h ≡ shown_heap k
 same_before k h before agrees =
     let none = unsaid-before k before in
     sym (ap (λ d. heap_but d h) none ∙ heap_but-none h) ∙ agrees ∙ ap (λ d. heap_but d (shown_heap k)) none
     ∙ heap_but-none (shown_heap k)
 
-pub agrees_same : (k : CycleHeap) (h : Heap) → h ≡ shown_heap k → Agrees k h
+pub agrees_same : (k : CycleHeap) (h : Heap) → h ≡ shown_heap k → ReadsAs k h
 agrees_same k h same = ap (heap_but (unsaid k)) same
 
 -- ---- from one heap to the next
 
 pub agrees_next : (k j : CycleHeap) (h g : Heap) → unsaid j ≡ unsaid k → shown_heap j ≡ g
     → heap_but (unsaid k) h ≡ heap_but (unsaid k) g
-    → Agrees j h
+    → ReadsAs j h
 agrees_next k j h g same shows agrees =
     ap (λ d. heap_but d h) same ∙ agrees ∙ sym (ap (λ d. heap_but d g) same) ∙ ap (heap_but (unsaid j)) (sym shows)
 
@@ -52,7 +52,7 @@ unsaid_same k j phase dooms =
 
 -- ---- what is read and changed of what isn't forgotten
 
-module _ (k : CycleHeap) (h : Heap) (agrees : Agrees k h) where
+module _ (k : CycleHeap) (h : Heap) (agrees : ReadsAs k h) where
   pub field_in-agrees : (m s i : ℕ) → IsSaid (unsaid k) (slot_at k.heap m s)
       → field_in h (slot_at h m s) i ≡ field_in k.heap (slot_at k.heap m s) i
   field_in-agrees m s i said =
@@ -79,7 +79,7 @@ module _ (k : CycleHeap) (h : Heap) (agrees : Agrees k h) where
   -- the heap that is changed so reads as the one in which an object is
   pub agrees_changed : (held : Option ℕ) (f : Object → Object) → IsSaid (unsaid k) held
       → ((o : Object) → (f o).no ≡ o.no) → ((d : List ℕ) (o : Object) → shown d (f o) ≡ f (shown d o))
-      → Agrees (record k { heap = changed_in k.heap held f }) (changed_in h held f)
+      → ReadsAs (record k { heap = changed_in k.heap held f }) (changed_in h held f)
   agrees_changed held f said number through =
       agrees_next k (record k { heap = changed_in k.heap held f }) (changed_in h held f)
       (changed_in (shown_heap k) held f)
@@ -114,7 +114,7 @@ sweeping_begun Marking sweeping = refl
 sweeping_begun Clearing sweeping = refl
 sweeping_begun Sweeping sweeping = refl
 
-pub said_slot : (k : CycleHeap) (a : State) (m s : ℕ) → Stands k a → IsSaid (unsaid k) (slot_at k.heap m s)
+pub said_slot : (k : CycleHeap) (a : State) (m s : ℕ) → MarkStands k a → IsSaid (unsaid k) (slot_at k.heap m s)
 said_slot k a m s stands =
     said_held k (slot_at k.heap m s) (λ sweeping. slot_off k a m s stands (sweeping_begun k.phase sweeping))
 

@@ -17,8 +17,8 @@ use Rattle.ref_base.specs.declared.heap_step.HeapStep.TheVariants as heap
 use Rattle.ref_base.specs.declared.reply.Reply.TheVariants as replies
 use Rattle.ref_base.proofs.HasLaws.{has-left}
 use Rattle.ref_base.proofs.PathLaws.{root_ends, target_ends}
-use Rattle.ref_mark.specs.CycleHeaps.{CycleHeap, policy_in, is_black, shaded_all, roots_of, whitened, begun}
-use Rattle.ref_mark.specs.Standing.{Stands}
+use Rattle.ref_mark.specs.CycleHeaps.{CycleHeap, policy_in, is_black, shaded_all, roots_of, whitened, cycle_begun}
+use Rattle.ref_mark.specs.Standing.{MarkStands}
 use Rattle.ref_mark.proofs.Shading.{MarkingBut, shaded_all-only, shaded_all-append, shaded_all_marking, some_left}
 use Rattle.ref_mark.proofs.Passed.{begin_passed}
 use Rattle.ref_mark.proofs.RootFacts.{plain_there}
@@ -79,7 +79,7 @@ mark_begun k a now urgent =
     shaded_all (whitened k now urgent) (roots_of k.heap ++ pending_numbers a.world.pending)
 
 mark_begun-is : (k : CycleHeap) (a : State) (now : ℕ) (urgent : Urgency)
-    → mark_begun k a now urgent ≡ shaded_all (begun k now urgent) (pending_numbers a.world.pending)
+    → mark_begun k a now urgent ≡ shaded_all (cycle_begun k now urgent) (pending_numbers a.world.pending)
 mark_begun-is k a now urgent =
     shaded_all-append (whitened k now urgent) (roots_of k.heap) (pending_numbers a.world.pending)
 
@@ -93,7 +93,7 @@ mark_begun-only k a now urgent =
     shaded_all-only (whitened k now urgent) (roots_of k.heap ++ pending_numbers a.world.pending)
 
 -- then what holds in a mark holds
-begun_marking : (k : CycleHeap) (a : State) (now : ℕ) (urgent : Urgency) (left : Bool) → Stands k a
+begun_marking : (k : CycleHeap) (a : State) (now : ℕ) (urgent : Urgency) (left : Bool) → MarkStands k a
     → MarkingBut (mark_begun k a now urgent) (state_begun k a now urgent left) [] []
 begun_marking k a now urgent left stands =
     let w = whitened k now urgent in
@@ -102,14 +102,14 @@ begun_marking k a now urgent left stands =
     shaded_all_marking w b g.roots [] [] (λ n root there. inl (root_ends (is_kept (policy_in w)) g n there root))
     (whitened_marking k a now urgent left stands.orderly.below (stands.scanners ∙ sym stands.finders))
 
-begun_stands : (k : CycleHeap) (a : State) (now : ℕ) (urgent : Urgency) → Stands k a → k.phase ≡ Idle
-    → Stands (mark_begun k a now urgent)
+begun_stands : (k : CycleHeap) (a : State) (now : ℕ) (urgent : Urgency) → MarkStands k a → k.phase ≡ Idle
+    → MarkStands (mark_begun k a now urgent)
     (state_begun k a now urgent (not (is_empty (mark_begun k a now urgent).grey)))
 begun_stands k a now urgent stands idle =
     let j : CycleHeap = mark_begun k a now urgent in
     let b = state_begun k a now urgent (not (is_empty j.grey)) in
     let only = mark_begun-only k a now urgent in
-    subst (λ (i : CycleHeap). Stands i b) (sym only)
+    subst (λ (i : CycleHeap). MarkStands i b) (sym only)
     (marking_stands (record (whitened k now urgent) { marked = j.marked; grey = j.grey }) b refl refl refl (omega arith)
     (record {
       rising = stands.orderly.rising;
@@ -122,7 +122,7 @@ begun_stands k a now urgent stands idle =
     (subst (λ (i : CycleHeap). MarkingBut i b [] []) only
     (begun_marking k a now urgent (not (is_empty j.grey)) stands)))
 
-begun_is_row : (k : CycleHeap) (a : State) (now : ℕ) (urgent : Urgency) → Stands k a
+begun_is_row : (k : CycleHeap) (a : State) (now : ℕ) (urgent : Urgency) → MarkStands k a
     → HeapAccepts (plain_state k Idle a) (heap.Begin now urgent) (replies.Cycle (k.cycle + 1))
     (state_begun k a now urgent (not (is_empty (mark_begun k a now urgent).grey)))
 begun_is_row k a now urgent stands =
@@ -135,15 +135,15 @@ begun_is_row k a now urgent stands =
     (refl, (left, refl, λ some. some_left j b but.coloured but.reached policy some))
 
 -- a begin that isn't refused
-pub begin_row : (k : CycleHeap) (a : State) (now : ℕ) (urgent : Urgency) → Stands k a
+pub begin_row : (k : CycleHeap) (a : State) (now : ℕ) (urgent : Urgency) → MarkStands k a
     → begin_refusal k.phase k.heap.clock k.cycle now ≡ None
     → (b : State) × HeapAccepts a (heap.Begin now urgent) (replies.Cycle (k.cycle + 1)) b
-    × Stands (shaded_all (begun k now urgent) (pending_numbers a.world.pending)) b
+    × MarkStands (shaded_all (cycle_begun k now urgent) (pending_numbers a.world.pending)) b
 begin_row k a now urgent stands none =
     let idle : k.phase ≡ Idle = begin_passed k now none in
     let b = state_begun k a now urgent (not (is_empty (mark_begun k a now urgent).grey)) in (
       b,
       subst (λ (s : State). HeapAccepts s (heap.Begin now urgent) (replies.Cycle (k.cycle + 1)) b)
           (sym (plain_state-is k a Idle stands idle refl)) (begun_is_row k a now urgent stands),
-      subst (λ (j : CycleHeap). Stands j b) (mark_begun-is k a now urgent) (begun_stands k a now urgent stands idle),
+      subst (λ (j : CycleHeap). MarkStands j b) (mark_begun-is k a now urgent) (begun_stands k a now urgent stands idle),
     )

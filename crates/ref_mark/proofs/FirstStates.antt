@@ -9,7 +9,7 @@ use Rattle.ref_base.specs.Heaps.{nulls}
 use Rattle.ref_base.specs.Worlds.{pending_numbers}
 use Rattle.ref_base.specs.declared.config.Config.{Config}
 use Rattle.ref_mark.specs.CycleHeaps.{first_cycle_heap}
-use Rattle.ref_mark.specs.Standing.{Stands}
+use Rattle.ref_mark.specs.Standing.{MarkStands}
 use Rattle.ref_mark.specs.MarkRows.{starting_state}
 use Rattle.ref_mark.proofs.RootFacts.{root_cases}
 use Rattle.ref_mark.proofs.ObjectRows.{has-present_nulls}
@@ -19,7 +19,7 @@ none_pending zero = refl
 none_pending (suc workers) = none_pending workers
 
 pub first_stands : (config : Config) (heap_no obj cycle : ℕ)
-    → Stands (first_cycle_heap config heap_no obj cycle) (starting_state config obj cycle)
+    → MarkStands (first_cycle_heap config heap_no obj cycle) (starting_state config obj cycle)
 first_stands config heap_no obj cycle = record {
   heap = refl;
   next = refl;

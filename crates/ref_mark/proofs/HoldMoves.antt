@@ -22,7 +22,7 @@ use Rattle.ref_mark.specs.CycleHeaps.{CycleHeap}
 use Rattle.ref_mark.specs.MarkCalls.{with_hold_of, is_freed, names_freed, unless_refused}
 use Rattle.ref_mark.specs.MarkRows.{KeepsStanding}
 use Rattle.ref_mark.specs.MarkViews.{ground_of}
-use Rattle.ref_mark.specs.Standing.{Stands}
+use Rattle.ref_mark.specs.Standing.{MarkStands}
 use Rattle.ref_base.proofs.OneMore.{has-one_more}
 use Rattle.ref_base.proofs.RowForms.{unless_parts}
 use Rattle.ref_mark.proofs.Moves.{IsMove}
@@ -46,7 +46,7 @@ has-one_fewer (i ∷ is) n m held =
           ]
     ]
 
-module _ (k : CycleHeap) (a : State) (stands : Stands k a) where
+module _ (k : CycleHeap) (a : State) (stands : MarkStands k a) where
   -- the roots are the heap's, and the pending references
   roots_are : (graph_of a.world).roots ≡ present k.heap.slots ++ k.heap.holds ++ pending_numbers a.world.pending
   roots_are = ap (λ (h : Heap). present h.slots ++ h.holds ++ pending_numbers a.world.pending) stands.heap
@@ -76,14 +76,14 @@ module _ (k : CycleHeap) (a : State) (stands : Stands k a) where
 
   -- one hold more of a root
   pub hold_stands : (n : ℕ) → has (graph_of a.world).roots n ≡ true
-      → Stands (record k { heap = with_hold k.heap n }) (ticked (on_heap a (with_hold a.world.heap n)))
+      → MarkStands (record k { heap = with_hold k.heap n }) (ticked (on_heap a (with_hold a.world.heap n)))
   hold_stands n root =
       moved_stands k (rooted k k.heap.slots (one_more k.heap.holds n)) a stands (hold_move n root)
       (with_hold a.world.heap n) a.next (ap (λ (h : Heap). with_hold h n) stands.heap) stands.next
 
   -- one of what a slot holds
   slot_hold_row : (m s : ℕ) (held : Option ℕ) → slot_at k.heap m s ≡ held → held_refusal k.heap held ≡ None
-      → (b : State) × Holds a held (value_reply held) b × Stands (record k { heap = with_hold_of k.heap held }) b
+      → (b : State) × Holds a held (value_reply held) b × MarkStands (record k { heap = with_hold_of k.heap held }) b
   slot_hold_row m s None is accepted = absurd (cc)
   slot_hold_row m s (Some n) is accepted = (
     ticked (on_heap a (with_hold a.world.heap n)),
@@ -119,7 +119,7 @@ module _ (k : CycleHeap) (a : State) (stands : Stands k a) where
 
   -- one hold fewer
   pub without_hold_stands : (n : ℕ)
-      → Stands (record k { heap = without_hold k.heap n }) (ticked (on_heap a (without_hold a.world.heap n)))
+      → MarkStands (record k { heap = without_hold k.heap n }) (ticked (on_heap a (without_hold a.world.heap n)))
   without_hold_stands n =
       moved_stands k (rooted k k.heap.slots (one_fewer k.heap.holds n)) a stands
       (fewer_move k.heap.slots n refl (λ m slot. inl slot))
@@ -127,7 +127,7 @@ module _ (k : CycleHeap) (a : State) (stands : Stands k a) where
 
   -- and a slot holds what was held
   pub adopted_stands : (m d n : ℕ) → has k.heap.holds n ≡ true
-      → Stands (record k { heap = with_slot (without_hold k.heap n) m d (Some n) })
+      → MarkStands (record k { heap = with_slot (without_hold k.heap n) m d (Some n) })
       (ticked (on_heap a (with_slot (without_hold a.world.heap n) m d (Some n))))
   adopted_stands m d n held =
       let slots = slice_set k.heap.slots (16 * m + d) (Some n) in
@@ -143,10 +143,10 @@ module _ (k : CycleHeap) (a : State) (stands : Stands k a) where
 
 -- ---- rows
 
-pub hold_row : (k : CycleHeap) (a : State) (m s : ℕ) → Stands k a
+pub hold_row : (k : CycleHeap) (a : State) (m s : ℕ) → MarkStands k a
     → unless (has_slot k.heap m s) NoSuchActor (held_refusal k.heap (slot_at k.heap m s)) ≡ None
     → (b : State) × HeapAccepts a (heap.Hold m s) (value_reply (slot_at k.heap m s)) b
-    × Stands (record k { heap = with_hold_of k.heap (slot_at k.heap m s) }) b
+    × MarkStands (record k { heap = with_hold_of k.heap (slot_at k.heap m s) }) b
 hold_row k a m s stands accepted =
     let held = slot_at k.heap m s in
     let same : slot_at a.world.heap m s ≡ held = ap (λ (h : Heap). slot_at h m s) stands.heap in
@@ -155,10 +155,10 @@ hold_row k a m s stands accepted =
     (unless_parts (has_slot k.heap m s) NoSuchActor (held_refusal k.heap held) accepted).1 in
     (row.0, subst (λ (v : Option ℕ). Holds a v (value_reply held) row.0) (sym same) row.1, row.2)
 
-pub adopt_row : (k : CycleHeap) (a : State) (m d : ℕ) (hold : HoldName) → Stands k a
+pub adopt_row : (k : CycleHeap) (a : State) (m d : ℕ) (hold : HoldName) → MarkStands k a
     → unless (has_slot k.heap m d) NoSuchActor (hold_refusal k.heap_no k.heap hold) ≡ None
     → (b : State) × HeapAccepts a (heap.Adopt m d hold) (replies.Object hold.object) b
-    × Stands (record k { heap = adopted k.heap m d hold.object }) b
+    × MarkStands (record k { heap = adopted k.heap m d hold.object }) b
 adopt_row k a m d hold stands accepted =
     let later = (unless_parts (has_slot k.heap m d) NoSuchActor (hold_refusal k.heap_no k.heap hold) accepted).1 in
     let own = (unless_parts (is_counted k.heap_no k.heap hold) ForeignHold None later).0 in (
@@ -168,22 +168,22 @@ adopt_row k a m d hold stands accepted =
           (and_parts (hold.heap_no == k.heap_no) (has k.heap.holds hold.object) own).1,
     )
 
-pub release_row : (k : CycleHeap) (a : State) (hold : HoldName) → Stands k a
+pub release_row : (k : CycleHeap) (a : State) (hold : HoldName) → MarkStands k a
     → (b : State) × HeapAccepts a (heap.Release hold) replies.Done b
-    × Stands (record k { heap = without_hold k.heap hold.object }) b
+    × MarkStands (record k { heap = without_hold k.heap hold.object }) b
 release_row k a hold stands = (
   ticked (on_heap a (without_hold a.world.heap hold.object)),
   (refl, refl),
   without_hold_stands k a stands hold.object,
 )
 
-freed_none : (k : CycleHeap) (a : State) (m s : ℕ) (held : Option ℕ) → Stands k a → slot_at k.heap m s ≡ held
+freed_none : (k : CycleHeap) (a : State) (m s : ℕ) (held : Option ℕ) → MarkStands k a → slot_at k.heap m s ≡ held
     → is_freed k.heap held ≡ false
 freed_none k a m s None stands is = refl
 freed_none k a m s (Some n) stands is = let there = slot_is_there k a stands m s n is in simp there refl
 
 -- no slot names an object that was freed
-pub names_none_freed : (k : CycleHeap) (a : State) (m s : ℕ) → Stands k a → names_freed k m s ≡ false
+pub names_none_freed : (k : CycleHeap) (a : State) (m s : ℕ) → MarkStands k a → names_freed k m s ≡ false
 names_none_freed k a m s stands =
     let none : is_freed k.heap (slot_at k.heap m s) ≡ false = freed_none k a m s (slot_at k.heap m s) stands refl in
     elim (cases_Bool (has_slot k.heap m s)) [
@@ -193,9 +193,9 @@ names_none_freed k a m s stands =
 
 -- ---- mints
 
-minted_by : (k : CycleHeap) (n : ℕ) (refused : Option Fault) (a : State) → Stands k a
+minted_by : (k : CycleHeap) (n : ℕ) (refused : Option Fault) (a : State) → MarkStands k a
     → has (graph_of a.world).roots n ≡ true
-    → Stands (unless_refused refused (λ fault. k) (record k { heap = with_hold k.heap n }))
+    → MarkStands (unless_refused refused (λ fault. k) (record k { heap = with_hold k.heap n }))
     (unless_refused refused (λ fault. a) (ticked (on_heap a (with_hold a.world.heap n))))
 minted_by k n None a stands root = hold_stands k a stands n root
 minted_by k n (Some fault) a stands root = stands

@@ -12,7 +12,7 @@ use Rattle.ref_base.specs.declared.urgency.Urgency.{Urgency}
 use Rattle.ref_objects.specs.Grounds.{fields_in, least_from, AllFrom, IsInOrder}
 use Rattle.ref_mark.specs.Worklists.{first_in}
 use Rattle.ref_mark.specs.CycleHeaps.{CycleHeap, is_white, shaded, shaded_all, shaded_if_any, policy_in}
-use Rattle.ref_mark.specs.CycleHeaps.{whitened, begun, roots_of}
+use Rattle.ref_mark.specs.CycleHeaps.{whitened, cycle_begun, roots_of}
 use Rattle.ref_mark.proofs.Shading.{greyed, shaded-only, shaded_all-only, shaded_all-append}
 use Rattle.ref_mark.proofs.Shading.{shaded_other, shaded_white, own-greyed}
 
@@ -82,7 +82,7 @@ shaded_targets start k n reference referent own fields kept =
 -- all objects become white, then the slots are shaded, and then the holds
 pub begun_by_parts : (k white slots held : CycleHeap) (now : ℕ) (how : Urgency) → white ≡ whitened k now how
     → slots ≡ shaded_all white (present white.heap.slots) → held ≡ shaded_all slots slots.heap.holds
-    → held ≡ begun k now how
+    → held ≡ cycle_begun k now how
 begun_by_parts k white slots held now how whitened_is slots_is held_is =
     let heap : slots.heap ≡ white.heap = shaded_heap white slots (present white.heap.slots) slots_is in
     held_is ∙ ap (λ (h : Heap). shaded_all slots h.holds) heap
@@ -90,7 +90,7 @@ begun_by_parts k white slots held now how whitened_is slots_is held_is =
     ∙ sym (shaded_all-append white (present white.heap.slots) white.heap.holds)
     ∙ ap (λ (j : CycleHeap). shaded_all j (roots_of j.heap)) whitened_is
 
-pub begun_cycle : (k : CycleHeap) (now : ℕ) (how : Urgency) → (begun k now how).cycle ≡ k.cycle + 1
+pub begun_cycle : (k : CycleHeap) (now : ℕ) (how : Urgency) → (cycle_begun k now how).cycle ≡ k.cycle + 1
 begun_cycle k now how =
     ap (λ (j : CycleHeap). j.cycle) (shaded_all-only (whitened k now how) (roots_of k.heap))
 

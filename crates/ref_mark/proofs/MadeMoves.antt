@@ -15,7 +15,7 @@ use Rattle.ref_base.specs.Worlds.{pending_numbers}
 use Rattle.ref_base.specs.Refusals.{has_slot}
 use Rattle.ref_base.specs.Collectors.{State}
 use Rattle.ref_mark.specs.CycleHeaps.{is_in_cycle, CycleHeap, policy_in, is_white, is_due, doomed, young, with_made}
-use Rattle.ref_mark.specs.Standing.{Stands}
+use Rattle.ref_mark.specs.Standing.{MarkStands}
 use Rattle.ref_base.proofs.OneMore.{has-one_more}
 use Rattle.ref_mark.proofs.Shading.{not_white_marked}
 use Rattle.ref_mark.proofs.DoomedLists.{doomed-made, is_there-above}
@@ -89,7 +89,7 @@ pub moved-making : (k : CycleHeap) (m d : ℕ) (o : Object) → with_made k m d 
 moved-making k m d o = young-only (grown k m d o) o.no
 
 -- the object has the next number, and leads and refers to nothing white
-module _ (k : CycleHeap) (a : State) (m d : ℕ) (o : Object) (stands : Stands k a) (slot : has_slot k.heap m d ≡ true)
+module _ (k : CycleHeap) (a : State) (m d : ℕ) (o : Object) (stands : MarkStands k a) (slot : has_slot k.heap m d ≡ true)
     (number : o.no ≡ k.next)
     (leads_off : is_in_cycle k.phase ≡ true → (n : ℕ)
     → has (targets_of (is_kept (policy_in k)) (Some o)) n ≡ true → is_white k n ≡ false)

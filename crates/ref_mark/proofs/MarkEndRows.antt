@@ -13,9 +13,9 @@ use Rattle.ref_base.specs.Collectors.{State, joined}
 use Rattle.ref_base.specs.CollectorRows.{EndsMark, doomed_at, mark_ended}
 use Rattle.ref_base.specs.declared.phase.Phase.TheVariants.{Marking, Clearing, Sweeping}
 use Rattle.ref_base.specs.declared.reply.Reply.TheVariants as replies
-use Rattle.ref_mark.specs.CycleHeaps.{CycleHeap, is_white, is_black, with_phase}
+use Rattle.ref_mark.specs.CycleHeaps.{CycleHeap, is_white, is_black, cycle_in_phase}
 use Rattle.ref_objects.specs.Grounds.{unmarked}
-use Rattle.ref_mark.specs.Standing.{Stands, InClearing}
+use Rattle.ref_mark.specs.Standing.{MarkStands, InClearing}
 use Rattle.ref_mark.proofs.Shading.{MarkingBut, not_white_marked}
 use Rattle.ref_mark.proofs.Passed.{end_mark_passed}
 use Rattle.ref_mark.proofs.RootFacts.{plain_there}
@@ -40,7 +40,7 @@ abbrev dooms : CycleHeap → List ℕ
 dooms k = unmarked k.heap.objects k.marked
 
 -- whether a black reference is a new clear
-black_cleared : (k : CycleHeap) (a : State) → Stands k a → (n : ℕ) → is_black k n ≡ true
+black_cleared : (k : CycleHeap) (a : State) → MarkStands k a → (n : ℕ) → is_black k n ≡ true
     → has (new_clears k.heap.objects (dooms k)) n ≡ refers_into (is_white k) (reference_at k.heap n)
 black_cleared k a stands n black =
     let os = k.heap.objects in
@@ -51,7 +51,7 @@ black_cleared k a stands n black =
     ∙ refers_into-same (has (dooms k)) (is_white k) (has-unmarked os k.marked) (reference_at k.heap n)
 
 -- the new clears are black references to white objects
-new_clear_parts : (k : CycleHeap) (a : State) → Stands k a → k.grey ≡ [] → (n : ℕ)
+new_clear_parts : (k : CycleHeap) (a : State) → MarkStands k a → k.grey ≡ [] → (n : ℕ)
     → has (new_clears k.heap.objects (dooms k)) n ≡ true
     → (is_black k n ≡ true) × (refers_into (is_white k) (reference_at k.heap n) ≡ true)
 new_clear_parts k a stands none n h =
@@ -68,7 +68,7 @@ new_clear_parts k a stands none n h =
 abbrev state_ended : CycleHeap → State → State
 state_ended k a = mark_ended (plain_state k Marking a) (dooms k) k.found
 
-ends_mark : (k : CycleHeap) (a : State) → Stands k a → k.phase ≡ Marking → k.grey ≡ []
+ends_mark : (k : CycleHeap) (a : State) → MarkStands k a → k.phase ≡ Marking → k.grey ≡ []
     → EndsMark (plain_state k Marking a) (replies.Doomed (length (dooms k))) (state_ended k a)
 ends_mark k a stands phase none =
     let s = plain_state k Marking a in
@@ -92,8 +92,8 @@ ends_mark k a stands phase none =
       after = ap (λ d. mark_ended s d k.found) (sym same);
     }
 
-in_clearing : (k : CycleHeap) (a : State) → Stands k a → k.phase ≡ Marking → k.grey ≡ []
-    → InClearing (with_phase k Clearing) k.found (new_clears k.heap.objects (dooms k))
+in_clearing : (k : CycleHeap) (a : State) → MarkStands k a → k.phase ≡ Marking → k.grey ≡ []
+    → InClearing (cycle_in_phase k Clearing) k.found (new_clears k.heap.objects (dooms k))
 in_clearing k a stands phase none =
     let s = plain_state k Marking a in
     let os = k.heap.objects in
@@ -117,8 +117,8 @@ in_clearing k a stands phase none =
           ];
     }
 
-ended_stands : (k : CycleHeap) (a : State) → Stands k a → k.phase ≡ Marking → k.grey ≡ []
-    → Stands (with_phase k Clearing) (state_ended k a)
+ended_stands : (k : CycleHeap) (a : State) → MarkStands k a → k.phase ≡ Marking → k.grey ≡ []
+    → MarkStands (cycle_in_phase k Clearing) (state_ended k a)
 ended_stands k a stands phase none =
     let but : MarkingBut k (plain_state k Marking a) [] [] = plain_marking k a stands phase in
     let facts = but.facts in
@@ -133,7 +133,7 @@ ended_stands k a stands phase none =
       orderly = stands.orderly;
       scanners = stands.scanners;
       finders = stands.finders;
-      there = plain_there k a stands (ap (λ p. is_in p Sweeping) phase) (with_phase k Clearing) refl;
+      there = plain_there k a stands (ap (λ p. is_in p Sweeping) phase) (cycle_in_phase k Clearing) refl;
       facts = λ begun. record { rooted = facts.rooted; closed = facts.closed };
       marking = λ now. absurd (false≢true now);
       clearing = λ now. in_clearing k a stands phase none;
@@ -141,9 +141,9 @@ ended_stands k a stands phase none =
     }
 
 -- a mark's end that isn't refused
-pub end_mark_row : (k : CycleHeap) (a : State) → Stands k a → end_mark_refusal k.phase (not (is_empty k.grey)) ≡ None
+pub end_mark_row : (k : CycleHeap) (a : State) → MarkStands k a → end_mark_refusal k.phase (not (is_empty k.grey)) ≡ None
     → (b : State) × EndsMark a (replies.Doomed (length (unmarked k.heap.objects k.marked))) b
-    × Stands (with_phase k Clearing) b
+    × MarkStands (cycle_in_phase k Clearing) b
 end_mark_row k a stands none =
     let passed = end_mark_passed k none in
     let b = state_ended k a in (
@@ -154,7 +154,7 @@ end_mark_row k a stands none =
     )
 
 -- outside a mark it doesn't matter what is grey
-pub same_end_mark : (k : CycleHeap) (a : State) → Stands k a
+pub same_end_mark : (k : CycleHeap) (a : State) → MarkStands k a
     → end_mark_refusal a.world.phase a.left ≡ end_mark_refusal k.phase (not (is_empty k.grey))
 same_end_mark k a stands =
     ap (λ p. end_mark_refusal p a.left) stands.phase

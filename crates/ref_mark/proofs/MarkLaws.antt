@@ -17,9 +17,9 @@ use Rattle.ref_base.proofs.Reshaping.{same_refusal}
 use Rattle.ref_base.proofs.RowForms.{accepted_row, refused_row}
 use Rattle.ref_base.proofs.ShownObjects.{shown-shape}
 use Rattle.ref_mark.specs.CycleHeaps.{CycleHeap, doomed, shaded_all}
-use Rattle.ref_mark.specs.MarkCalls.{is_of_marking, refusal_in, reply_in, done_in, late_roots, unless_refused}
-use Rattle.ref_mark.specs.MarkRows.{IsRowOf}
-use Rattle.ref_mark.specs.Standing.{Stands, unsaid, shown_heap}
+use Rattle.ref_mark.specs.MarkCalls.{is_of_marking, refusal_in_cycle, reply_in, done_in, late_roots, unless_refused}
+use Rattle.ref_mark.specs.MarkRows.{IsMarkRowOf}
+use Rattle.ref_mark.specs.Standing.{MarkStands, unsaid, shown_heap}
 use Rattle.ref_mark.proofs.ObjectRows.{new_row, refer_row, store_row}
 use Rattle.ref_mark.proofs.SlotRows.{copy_row, drop_row, load_row}
 use Rattle.ref_mark.proofs.ReferenceRows.{get_row, clear_row, refers_to_row}
@@ -28,7 +28,7 @@ use Rattle.ref_mark.proofs.BeginRows.{begin_row}
 use Rattle.ref_mark.proofs.ScanRows.{scan_row}
 use Rattle.ref_mark.proofs.MarkEndRows.{end_mark_row, same_end_mark}
 
-module _ (k : CycleHeap) (a : State) (stands : Stands k a) where
+module _ (k : CycleHeap) (a : State) (stands : MarkStands k a) where
   -- ---- refusals
 
   -- what is forgotten or reads as cleared changes no refusal
@@ -42,7 +42,7 @@ module _ (k : CycleHeap) (a : State) (stands : Stands k a) where
 
   -- and the rest of what it depends on is the heap's
   own_refusal : (step : NamedStep) → is_of_marking step ≡ true
-      → heap_refusal k.heap_no (on_heap a k.heap) step ≡ refusal_in k step
+      → heap_refusal k.heap_no (on_heap a k.heap) step ≡ refusal_in_cycle k step
   own_refusal (heap.New m d f) own = ap (λ n. new_refusal k.heap n m d f) stands.next
   own_refusal (heap.Refer m strength d s q f) own = ap (λ n. refer_refusal k.heap n m d s q f) stands.next
   own_refusal (heap.Store m d i s) own = refl
@@ -64,9 +64,9 @@ module _ (k : CycleHeap) (a : State) (stands : Stands k a) where
 
   -- ---- rows
 
-  accepted : (step : NamedStep) → is_of_marking step ≡ true → refusal_in k step ≡ None
+  accepted : (step : NamedStep) → is_of_marking step ≡ true → refusal_in_cycle k step ≡ None
       → (b : State) × HeapAccepts a step (reply_in k step) b
-      × Stands (shaded_all (done_in k step) (late_roots a step)) b
+      × MarkStands (shaded_all (done_in k step) (late_roots a step)) b
   accepted (heap.New m d f) own none = new_row k a m d f stands none
   accepted (heap.Refer m strength d s q f) own none = refer_row k a m strength d s q f stands none
   accepted (heap.Store m d i s) own none = store_row k a m d i s stands none
@@ -84,10 +84,10 @@ module _ (k : CycleHeap) (a : State) (stands : Stands k a) where
   accepted heap.EndMark own none = end_mark_row k a stands none
   accepted step own none = absurd (false≢true own)
 
-  row_by : (step : NamedStep) (refused : Option Fault) → is_of_marking step ≡ true → refusal_in k step ≡ refused
+  row_by : (step : NamedStep) (refused : Option Fault) → is_of_marking step ≡ true → refusal_in_cycle k step ≡ refused
       → (b : State)
       × IsHeapRow k.heap_no a step (unless_refused refused replies.Refused (reply_in k step)) b
-      × Stands
+      × MarkStands
       (shaded_all (unless_refused refused (λ fault. k) (done_in k step))
       (unless_refused refused (λ fault. []) (late_roots a step))) b
   row_by step None own is =
@@ -97,5 +97,5 @@ module _ (k : CycleHeap) (a : State) (stands : Stands k a) where
   row_by step (Some fault) own is =
       (a, refused_row k.heap_no a step fault (on_own_heap step ∙ own_refusal step own ∙ is), stands)
 
-pub each_step : (k : CycleHeap) (step : NamedStep) → is_of_marking step ≡ true → IsRowOf k step
-each_step k step own a stands = row_by k a stands step (refusal_in k step) own refl
+pub each_step : (k : CycleHeap) (step : NamedStep) → is_of_marking step ≡ true → IsMarkRowOf k step
+each_step k step own a stands = row_by k a stands step (refusal_in_cycle k step) own refl

@@ -10,7 +10,7 @@ use Rattle.ref_base.specs.KeptPaths.{is_kept}
 use Rattle.ref_base.specs.Heaps.{changed_at, reference_in}
 use Rattle.ref_base.specs.Collectors.{State}
 use Rattle.ref_mark.specs.CycleHeaps.{is_in_cycle, CycleHeap, policy_in, is_white, is_past_mark}
-use Rattle.ref_mark.specs.Standing.{Stands}
+use Rattle.ref_mark.specs.Standing.{MarkStands}
 use Rattle.ref_mark.proofs.DoomedLists.{doomed-changed}
 use Rattle.ref_mark.proofs.Moves.{Change, IsMove, roots_after}
 use Rattle.ref_base.proofs.Lookups.{lookup-changed, numbers-changed}
@@ -25,7 +25,7 @@ rooted k slots holds = record {
   marked = k.marked;
 }
 
-pub rooted_move : (k : CycleHeap) (a : State) (slots : List (Option ℕ)) (holds pending todo : List ℕ) → Stands k a
+pub rooted_move : (k : CycleHeap) (a : State) (slots : List (Option ℕ)) (holds pending todo : List ℕ) → MarkStands k a
     → length slots ≡ length k.heap.slots
     → (is_in_cycle k.phase ≡ true → (n : ℕ) → has (roots_after (rooted k slots holds) pending) n ≡ true
     → (is_white k n ≡ false) ⊎ (has todo n ≡ true))
@@ -70,7 +70,7 @@ pub record MayBecome (k : CycleHeap) (roots : List ℕ) (o p : Object) : Type 0 
       → refers_into (is_white k) p.reference ≡ true
 
 pub altered_move : (k : CycleHeap) (a : State) (slots : List (Option ℕ)) (holds : List ℕ) (i : ℕ) (f : Object → Object)
-    (pending todo : List ℕ) → Stands k a → ((o : Object) → (f o).no ≡ o.no) → length slots ≡ length k.heap.slots
+    (pending todo : List ℕ) → MarkStands k a → ((o : Object) → (f o).no ≡ o.no) → length slots ≡ length k.heap.slots
     → (is_in_cycle k.phase ≡ true → (n : ℕ) → has (roots_after (altered k slots holds i f) pending) n ≡ true
     → (is_white k n ≡ false) ⊎ (has todo n ≡ true))
     → ((n : ℕ) → has (roots_after (altered k slots holds i f) pending) n ≡ true → is_there k.heap.objects n ≡ true)

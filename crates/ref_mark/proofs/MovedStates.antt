@@ -11,7 +11,7 @@ use Rattle.ref_base.specs.CollectorRows.{ticked}
 use Rattle.ref_base.specs.declared.phase.Phase.{Phase}
 use Rattle.ref_base.specs.declared.phase.Phase.TheVariants.{Idle, Marking, Clearing, Sweeping}
 use Rattle.ref_mark.specs.CycleHeaps.{is_in_cycle, CycleHeap, is_white, is_past_mark, is_due}
-use Rattle.ref_mark.specs.Standing.{FactsBut, AreThere, Stands, Agrees}
+use Rattle.ref_mark.specs.Standing.{FactsBut, AreThere, MarkStands, ReadsAs}
 use Rattle.ref_mark.proofs.Agreeing.{agrees_same, same_before}
 use Rattle.ref_mark.proofs.Shading.{MarkingBut}
 use Rattle.ref_mark.proofs.DoomedLists.{past_is_in_cycle, shown_heap-before}
@@ -66,7 +66,7 @@ pub alongside_itself : (w : World) → IsAlongside w w
 alongside_itself w = record { urgency = refl; cycle = refl; phase = refl }
 
 module _ (k : CycleHeap) (c : Change) (a : State) (w : World) (beside : IsAlongside a.world w) (todo : List ℕ)
-    (stands : Stands k a) (move : IsMove k c (pending_numbers w.pending) todo) where
+    (stands : MarkStands k a) (move : IsMove k c (pending_numbers w.pending) todo) where
   orderly_after : IsOrderly (moved k c).heap c.next
   orderly_after = record {
     rising = move.rising;
@@ -90,7 +90,7 @@ module _ (k : CycleHeap) (c : Change) (a : State) (w : World) (beside : IsAlongs
       → let b = moved_state a (with_heap w (moved k c).heap) c.next
       (graph_after c (pending_numbers w.pending) ∷ a.moments) left in
       MarkingBut (record (moved k c) { marked = marked; grey = grey }) b [] []
-      → left ≡ not (is_empty grey) → Stands (record (moved k c) { marked = marked; grey = grey }) b
+      → left ≡ not (is_empty grey) → MarkStands (record (moved k c) { marked = marked; grey = grey }) b
   marking_stands marked grey left marking but left_is =
       let j : CycleHeap = record (moved k c) { marked = marked; grey = grey } in
       let before : is_past_mark k.phase ≡ false = marking_is_not_past k.phase marking in
@@ -118,7 +118,7 @@ module _ (k : CycleHeap) (c : Change) (a : State) (w : World) (beside : IsAlongs
       }
 
 -- what holds in a mark
-pub in_mark : (k : CycleHeap) (a : State) → Stands k a → is_in k.phase Marking ≡ true → MarkingBut k a [] []
+pub in_mark : (k : CycleHeap) (a : State) → MarkStands k a → is_in k.phase Marking ≡ true → MarkingBut k a [] []
 in_mark k a stands marking =
     let holds = stands.marking marking in
     record {
@@ -130,7 +130,7 @@ in_mark k a stands marking =
 
 -- ---- before a mark and after it
 
-module _ (k : CycleHeap) (c : Change) (a : State) (w : World) (beside : IsAlongside a.world w) (stands : Stands k a)
+module _ (k : CycleHeap) (c : Change) (a : State) (w : World) (beside : IsAlongside a.world w) (stands : MarkStands k a)
     (move : IsMove k c (pending_numbers w.pending) []) where
   -- what wasn't due to be swept isn't now
   due_was : (m : ℕ) → is_due (moved k c) m ≡ false → is_due k m ≡ false
@@ -145,8 +145,8 @@ module _ (k : CycleHeap) (c : Change) (a : State) (w : World) (beside : IsAlongs
         | inr other ↦ simp other refl
       ]
 
-  quiet_stands : (h : Heap) → is_in k.phase Marking ≡ false → Agrees (moved k c) h
-      → Stands (moved k c) (record a { world = with_heap w h; next = c.next })
+  quiet_stands : (h : Heap) → is_in k.phase Marking ≡ false → ReadsAs (moved k c) h
+      → MarkStands (moved k c) (record a { world = with_heap w h; next = c.next })
   quiet_stands h quiet heap =
       let below = stands.orderly.below in
       record {
@@ -179,37 +179,37 @@ module _ (k : CycleHeap) (c : Change) (a : State) (w : World) (beside : IsAlongs
       }
 
   marked_stands : (h : Heap) → is_in k.phase Marking ≡ true → h ≡ (moved k c).heap
-      → Stands (moved k c) (moved_state a (with_heap w h) c.next (graph_of (with_heap w h) ∷ a.moments) a.left)
+      → MarkStands (moved k c) (moved_state a (with_heap w h) c.next (graph_of (with_heap w h) ∷ a.moments) a.left)
   marked_stands h marking heap =
       subst
       (λ (g : Heap).
-      Stands (moved k c) (moved_state a (with_heap w g) c.next (graph_of (with_heap w g) ∷ a.moments) a.left))
+      MarkStands (moved k c) (moved_state a (with_heap w g) c.next (graph_of (with_heap w g) ∷ a.moments) a.left))
       (sym heap)
       (marking_stands k c a w beside [] stands move c.marked k.grey a.left marking
       (moved_marking k c a w [] a.left move (marking_is_in_cycle k.phase marking) stands.orderly.below stands.born
       (in_mark k a stands marking)) (stands.marking marking).left)
 
   -- the row says nothing anew
-  pub moved_beside : (h : Heap) (next : ℕ) → Agrees (moved k c) h → next ≡ c.next
-      → Stands (moved k c) (ticked (record a { world = with_heap w h; next = next }))
+  pub moved_beside : (h : Heap) (next : ℕ) → ReadsAs (moved k c) h → next ≡ c.next
+      → MarkStands (moved k c) (ticked (record a { world = with_heap w h; next = next }))
   moved_beside h next heap same =
       let b : State = record a { world = with_heap w h; next = c.next } in
       let phase : w.phase ≡ k.phase = beside.phase ∙ stands.phase in
-      let goal : Stands (moved k c) (ticked b) =
+      let goal : MarkStands (moved k c) (ticked b) =
       elim (cases_Bool (is_in k.phase Marking)) [
         | inl marking ↦
             let now : is_in w.phase Marking ≡ true = ap (λ p. is_in p Marking) phase ∙ marking in
             let early : is_past_mark k.phase ≡ false = marking_is_not_past k.phase marking in
-            subst (Stands (moved k c)) (sym (ticked_marking b now))
+            subst (MarkStands (moved k c)) (sym (ticked_marking b now))
             (marked_stands h marking (same_before (moved k c) h early heap ∙ shown_heap-before (moved k c) early))
         | inr quiet ↦
             let still : is_in w.phase Marking ≡ false = ap (λ p. is_in p Marking) phase ∙ quiet in
-            subst (Stands (moved k c)) (sym (ticked_other b still)) (quiet_stands h quiet heap)
+            subst (MarkStands (moved k c)) (sym (ticked_other b still)) (quiet_stands h quiet heap)
       ] in
-      subst (λ n. Stands (moved k c) (ticked (record a { world = with_heap w h; next = n }))) (sym same) goal
+      subst (λ n. MarkStands (moved k c) (ticked (record a { world = with_heap w h; next = n }))) (sym same) goal
 
 -- where hands, queues and pending references stay as they are
-pub moved_stands : (k : CycleHeap) (c : Change) (a : State) → Stands k a
-    → IsMove k c (pending_numbers a.world.pending) [] → (h : Heap) (next : ℕ) → Agrees (moved k c) h → next ≡ c.next
-    → Stands (moved k c) (ticked (record a { world = with_heap a.world h; next = next }))
+pub moved_stands : (k : CycleHeap) (c : Change) (a : State) → MarkStands k a
+    → IsMove k c (pending_numbers a.world.pending) [] → (h : Heap) (next : ℕ) → ReadsAs (moved k c) h → next ≡ c.next
+    → MarkStands (moved k c) (ticked (record a { world = with_heap a.world h; next = next }))
 moved_stands k c a stands move = moved_beside k c a a.world (alongside_itself a.world) stands move

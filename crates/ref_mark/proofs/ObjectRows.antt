@@ -23,7 +23,7 @@ use Rattle.ref_base.proofs.HasLaws.{has-left, has-right, has-cases}
 use Rattle.ref_mark.specs.CycleHeaps.{is_in_cycle, CycleHeap, policy_in, is_white, is_past_mark, doomed, with_made}
 use Rattle.ref_base.specs.Graphs.{is_there}
 use Rattle.ref_base.specs.Forgetting.{heap_but}
-use Rattle.ref_mark.specs.Standing.{Stands, Agrees, unsaid, shown_heap}
+use Rattle.ref_mark.specs.Standing.{MarkStands, ReadsAs, unsaid, shown_heap}
 use Rattle.ref_mark.proofs.DoomedLists.{doomed-made, young-phase}
 use Rattle.ref_mark.proofs.Agreeing.{agrees_changed, made-agrees, said_slot, said_new, agrees_next, unsaid_same}
 use Rattle.ref_mark.proofs.DoomedLists.{past_is_in_cycle, is_there-above}
@@ -42,22 +42,22 @@ use Rattle.ref_base.proofs.RowForms.{unless_parts}
 -- ---- what is made
 
 -- one more object, of the next number, that leads and refers to nothing white, is read as it is
-pub made_stands : (k : CycleHeap) (a : State) (m d : ℕ) (o p : Object) → Stands k a → has_slot k.heap m d ≡ true
+pub made_stands : (k : CycleHeap) (a : State) (m d : ℕ) (o p : Object) → MarkStands k a → has_slot k.heap m d ≡ true
     → o.no ≡ k.next
     → (is_in_cycle k.phase ≡ true → (n : ℕ)
     → has (targets_of (is_kept (policy_in k)) (Some o)) n ≡ true → is_white k n ≡ false)
     → (is_in_cycle k.phase ≡ true → refers_into (is_white k) o.reference ≡ false)
     → ((n : ℕ) → has (targets_of soft_and_weak_referents (Some o)) n ≡ true → is_there k.heap.objects n ≡ true)
     → shown_heap (with_made k m d o) ≡ made (shown_heap k) m d o → p ≡ o
-    → Stands (with_made k m d o)
+    → MarkStands (with_made k m d o)
     (ticked (record a { world = with_heap a.world (made a.world.heap m d p); next = a.next + 1 }))
 made_stands k a m d o p stands slot number leads_off refers_off led shows same =
     let c : Change = making k m d o in
     let is = moved-making k m d o in
     let new : is_there k.heap.objects o.no ≡ false =
     ap (is_there k.heap.objects) number ∙ is_there-above k.heap.objects k.next stands.orderly.below in
-    let heap : Agrees (moved k c) (made a.world.heap m d p) =
-    subst (λ (j : CycleHeap). Agrees j (made a.world.heap m d p)) is
+    let heap : ReadsAs (moved k c) (made a.world.heap m d p) =
+    subst (λ (j : CycleHeap). ReadsAs j (made a.world.heap m d p)) is
     (agrees_next k (with_made k m d o) (made a.world.heap m d p) (made (shown_heap k) m d o)
     (unsaid_same k (with_made k m d o) (young-phase (record k { heap = made k.heap m d o; next = k.next + 1 }) o.no)
     (doomed-made k m d o new))
@@ -65,7 +65,7 @@ made_stands k a m d o p stands slot number leads_off refers_off led shows same =
     (ap (λ (q : Object). heap_but (unsaid k) (made a.world.heap m d q)) same
     ∙ made-agrees k a.world.heap stands.heap m d o (said_new k o.no new))) in
     subst
-    (λ (j : CycleHeap). Stands j
+    (λ (j : CycleHeap). MarkStands j
     (ticked (record a { world = with_heap a.world (made a.world.heap m d p); next = a.next + 1 }))) (sym is)
     (moved_stands k c a stands (made_move k a m d o stands slot number leads_off refers_off led)
     (made a.world.heap m d p) (a.next + 1) heap (ap (λ n. n + 1) stands.next))
@@ -75,9 +75,9 @@ pub has-present_nulls : (count n : ℕ) → has (present (nulls count)) n ≡ fa
 has-present_nulls zero n = refl
 has-present_nulls (suc count) n = has-present_nulls count n
 
-pub new_row : (k : CycleHeap) (a : State) (m d f : ℕ) → Stands k a → new_refusal k.heap k.next m d f ≡ None
+pub new_row : (k : CycleHeap) (a : State) (m d f : ℕ) → MarkStands k a → new_refusal k.heap k.next m d f ≡ None
     → (b : State) × HeapAccepts a (heap.New m d f) (replies.Object k.next) b
-    × Stands (with_made k m d (plain_object k.next (nulls f))) b
+    × MarkStands (with_made k m d (plain_object k.next (nulls f))) b
 new_row k a m d f stands accepted =
     let o : Object = plain_object k.next (nulls f) in
     let p : Object = plain_object a.next (nulls f) in
@@ -115,7 +115,7 @@ reference_goes_to k allow strength held q n within =
     }) n within
 
 -- a reference to what a slot holds is read as it is
-reference_shows : (k : CycleHeap) (a : State) (m d s f : ℕ) (strength : Strength) (q : Option ℕ) → Stands k a
+reference_shows : (k : CycleHeap) (a : State) (m d s f : ℕ) (strength : Strength) (q : Option ℕ) → MarkStands k a
     → let o = new_reference k.heap k.next strength (slot_at k.heap m s) q f in
     shown_heap (with_made k m d o) ≡ made (shown_heap k) m d o
 reference_shows k a m d s f strength q stands =
@@ -130,10 +130,10 @@ reference_shows k a m d s f strength q stands =
           ap (λ ns. is_new_clear ns o) nothing ∙ is_new_clear-none o
     ])
 
-pub refer_row : (k : CycleHeap) (a : State) (m : ℕ) (strength : Strength) (d s : ℕ) (q : Option ℕ) (f : ℕ) → Stands k a
+pub refer_row : (k : CycleHeap) (a : State) (m : ℕ) (strength : Strength) (d s : ℕ) (q : Option ℕ) (f : ℕ) → MarkStands k a
     → refer_refusal k.heap k.next m d s q f ≡ None
     → (b : State) × HeapAccepts a (heap.Refer m strength d s q f) (replies.Object k.next) b
-    × Stands (with_made k m d (new_reference k.heap k.next strength (slot_at k.heap m s) q f)) b
+    × MarkStands (with_made k m d (new_reference k.heap k.next strength (slot_at k.heap m s) q f)) b
 refer_row k a m strength d s q f stands accepted =
     let o : Object = new_reference k.heap k.next strength (slot_at k.heap m s) q f in
     let p : Object = new_reference a.world.heap a.next strength (slot_at a.world.heap m s) q f in
@@ -191,9 +191,9 @@ stored_becomes k i value roots o rooted =
       white_stays = λ past refers. refers;
     }
 
-pub store_row : (k : CycleHeap) (a : State) (m s i v : ℕ) → Stands k a → store_refusal k.heap m s i v ≡ None
+pub store_row : (k : CycleHeap) (a : State) (m s i v : ℕ) → MarkStands k a → store_refusal k.heap m s i v ≡ None
     → (b : State) × HeapAccepts a (heap.Store m s i v) replies.Done b
-    × Stands (record k { heap = stored k.heap m s i v }) b
+    × MarkStands (record k { heap = stored k.heap m s i v }) b
 store_row k a m s i v stands accepted =
     let pending = pending_numbers a.world.pending in
     let value = slot_at k.heap m v in
@@ -212,14 +212,14 @@ store_row k a m s i v stands accepted =
     slot_root (present k.heap.slots) k.heap.holds pending n (has-present_at k.heap.slots (16 * m + v) n own))) in
     let same : changed_in h (slot_at k.heap m s) (with_field i value) ≡ stored h m s i v =
     sym (ap (λ (g : Heap). changed_in h (slot_at g m s) (with_field i (slot_at g m v))) stands.heap) in
-    let heap : Agrees (moved k c) (stored h m s i v) =
-    subst (λ (j : CycleHeap). Agrees j (stored h m s i v)) is
-    (subst (λ (g : Heap). Agrees (record k { heap = stored k.heap m s i v }) g) same
+    let heap : ReadsAs (moved k c) (stored h m s i v) =
+    subst (λ (j : CycleHeap). ReadsAs j (stored h m s i v)) is
+    (subst (λ (g : Heap). ReadsAs (record k { heap = stored k.heap m s i v }) g) same
     (agrees_changed k h stands.heap (slot_at k.heap m s) (with_field i value) (said_slot k a m s stands) (λ o. refl)
     (λ d o. shown-field d i value o))) in
     let b : State = ticked (on_heap a (stored h m s i v)) in (
       b,
       (refl, refl),
-      subst (λ (j : CycleHeap). Stands j b) (sym is)
+      subst (λ (j : CycleHeap). MarkStands j b) (sym is)
           (moved_stands k c a stands move (stored h m s i v) a.next heap stands.next),
     )

@@ -8,7 +8,7 @@ use Rattle.ref_base.specs.Refusals.{is_in}
 use Rattle.ref_base.specs.Collectors.{State}
 use Rattle.ref_base.specs.declared.phase.Phase.TheVariants.{Marking}
 use Rattle.ref_mark.specs.CycleHeaps.{CycleHeap, policy_in}
-use Rattle.ref_mark.specs.Standing.{Stands}
+use Rattle.ref_mark.specs.Standing.{MarkStands}
 
 -- the state with other hands and queues
 abbrev pub with_others : State → List (Option Notice) → List (Option Notice) → List (Lists Notice) → State
@@ -22,7 +22,7 @@ pub stands-with_others : (k : CycleHeap) (a : State) (mutators workers : List (O
     (moments : List Graph)
     → (is_in k.phase Marking ≡ true → (n : ℕ) → EverKept (policy_in k) a.moments n → EverKept (policy_in k) moments n)
     → (is_in k.phase Marking ≡ true → (n : ℕ) → EverKept (policy_in k) moments n → EverKept (policy_in k) a.moments n)
-    → Stands k a → Stands k (record (with_others a mutators workers queues) { moments = moments })
+    → MarkStands k a → MarkStands k (record (with_others a mutators workers queues) { moments = moments })
 stands-with_others k a mutators workers queues moments over back stands = record {
   heap = stands.heap;
   next = stands.next;

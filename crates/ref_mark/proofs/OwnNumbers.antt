@@ -15,8 +15,8 @@ use Rattle.ref_base.specs.declared.urgency.Urgency.{Urgency}
 use Rattle.ref_base.specs.declared.heap_step.HeapStep.TheVariants as heap
 use Rattle.ref_mark.specs.CycleHeaps.{CycleHeap, policy_in, is_white, is_in_cycle, is_doomed}
 use Rattle.ref_mark.specs.CycleHeaps.{shaded_all, shaded_if_any, young, with_made, barred, value_got, with_cleared}
-use Rattle.ref_mark.specs.CycleHeaps.{whitened, roots_of, scanned_from}
-use Rattle.ref_mark.specs.MarkCalls.{done_in, after_in, refusal_in, unless_refused}
+use Rattle.ref_mark.specs.CycleHeaps.{whitened, roots_of, grey_scanned}
+use Rattle.ref_mark.specs.MarkCalls.{done_in, after_in_cycle, refusal_in_cycle, unless_refused}
 use Rattle.ref_mark.proofs.Scanning.{with_found-only}
 use Rattle.ref_mark.proofs.Shading.{shaded-only, shaded_all-only}
 
@@ -54,7 +54,7 @@ cleared-number k m s =
       | inr other ↦ simp other refl
     ]
 
-scanned-number : (k : CycleHeap) (w : ℕ) (grey : List ℕ) → (scanned_from k w grey).heap_no ≡ k.heap_no
+scanned-number : (k : CycleHeap) (w : ℕ) (grey : List ℕ) → (grey_scanned k w grey).heap_no ≡ k.heap_no
 scanned-number k w [] = refl
 scanned-number k w (n ∷ rest) =
     let left : CycleHeap = record k { grey = rest } in
@@ -91,5 +91,5 @@ pub number-unless : (k done : CycleHeap) (refused : Option Fault) → done.heap_
 number-unless k done None same = same
 number-unless k done (Some fault) same = refl
 
-pub number_after : (k : CycleHeap) (step : NamedStep) → (after_in k step).heap_no ≡ k.heap_no
-number_after k step = number-unless k (done_in k step) (refusal_in k step) (done-number k step)
+pub number_after : (k : CycleHeap) (step : NamedStep) → (after_in_cycle k step).heap_no ≡ k.heap_no
+number_after k step = number-unless k (done_in k step) (refusal_in_cycle k step) (done-number k step)

@@ -12,7 +12,7 @@ use Rattle.ref_base.specs.declared.phase.Phase.{Phase}
 use Rattle.ref_base.specs.declared.phase.Phase.TheVariants.{Marking, Clearing, Sweeping}
 use Rattle.ref_mark.specs.CycleHeaps.{CycleHeap, is_past_mark, is_in_cycle, doomed}
 use Rattle.ref_mark.proofs.Agreeing.{same_before, agrees_same}
-use Rattle.ref_mark.specs.Standing.{AreThere, Stands}
+use Rattle.ref_mark.specs.Standing.{AreThere, MarkStands}
 use Rattle.ref_mark.proofs.Shading.{MarkingBut}
 use Rattle.ref_mark.proofs.DoomedLists.{shown_heap-before}
 
@@ -32,7 +32,7 @@ plain_state k phase a = state_from a k.heap k.urgency k.cycle phase k.next []
 pub doomed-before : (k : CycleHeap) → is_past_mark k.phase ≡ false → doomed k ≡ []
 doomed-before k before = simp before refl
 
-pub plain_state-is : (k : CycleHeap) (a : State) (phase : Phase) → Stands k a → k.phase ≡ phase
+pub plain_state-is : (k : CycleHeap) (a : State) (phase : Phase) → MarkStands k a → k.phase ≡ phase
     → is_past_mark phase ≡ false → a ≡ plain_state k phase a
 plain_state-is k a phase stands is before =
     let w = a.world in
@@ -52,7 +52,7 @@ plain_state-is k a phase stands is before =
 pub marking_stands : (k : CycleHeap) (a : State) → k.phase ≡ Marking → a ≡ plain_state k Marking a
     → a.left ≡ not (is_empty k.grey) → a.born ≤ k.next → IsOrderly k.heap k.next
     → length a.scanned ≡ k.heap.config.workers → length k.found ≡ k.heap.config.workers
-    → AreThere k (graph_of a.world).roots → MarkingBut k a [] [] → Stands k a
+    → AreThere k (graph_of a.world).roots → MarkingBut k a [] [] → MarkStands k a
 marking_stands k a phase plain left born orderly scanners finders there but =
     let early : is_past_mark k.phase ≡ false = ap is_past_mark phase in
     record {
@@ -74,7 +74,7 @@ marking_stands k a phase plain left born orderly scanners finders there but =
     }
 
 -- and where it stands for a state, what holds in a mark does
-pub stands_marking : (k : CycleHeap) (a : State) → Stands k a → k.phase ≡ Marking → MarkingBut k a [] []
+pub stands_marking : (k : CycleHeap) (a : State) → MarkStands k a → k.phase ≡ Marking → MarkingBut k a [] []
 stands_marking k a stands phase =
     let now : is_in k.phase Marking ≡ true = ap (λ p. is_in p Marking) phase in
     let in_mark = stands.marking now in
@@ -86,8 +86,8 @@ stands_marking k a stands phase =
     }
 
 -- a mark that is under way is so in its plain state
-pub plain_marking : (k : CycleHeap) (a : State) → Stands k a → k.phase ≡ Marking
+pub plain_marking : (k : CycleHeap) (a : State) → MarkStands k a → k.phase ≡ Marking
     → MarkingBut k (plain_state k Marking a) [] []
 plain_marking k a stands phase =
     let s = plain_state k Marking a in
-    stands_marking k s (subst (λ (b : State). Stands k b) (plain_state-is k a Marking stands phase refl) stands) phase
+    stands_marking k s (subst (λ (b : State). MarkStands k b) (plain_state-is k a Marking stands phase refl) stands) phase

@@ -26,7 +26,7 @@ use Rattle.ref_base.proofs.ShownObjects.{shown_reference, unless_among, referent
 use Rattle.ref_base.proofs.ShownObjects.{shown-cleared, shown-got}
 use Rattle.ref_mark.specs.CycleHeaps.{CycleHeap, is_white, is_past_mark, is_in_cycle, is_doomed, doomed, undoomed}
 use Rattle.ref_mark.specs.CycleHeaps.{value_got, barred, with_got, with_cleared, reads_same}
-use Rattle.ref_mark.specs.Standing.{Stands, Agrees, unsaid}
+use Rattle.ref_mark.specs.Standing.{MarkStands, ReadsAs, unsaid}
 use Rattle.ref_mark.proofs.Agreeing.{reference_of-agrees, changed_in-agrees, agrees_changed, said_slot}
 use Rattle.ref_mark.proofs.DoomedLists.{past_is_in_cycle, shown_heap-before}
 use Rattle.ref_mark.proofs.ShownHeaps.{cut-shown}
@@ -41,7 +41,7 @@ use Rattle.ref_mark.proofs.SlotRows.{set_stands}
 use Rattle.ref_mark.proofs.ReferenceMoves.{reference_refusal-there, refers_into_doomed-past, cleared_becomes}
 use Rattle.ref_mark.proofs.ReferenceMoves.{got_becomes, gives_target, undoomed-some, with_got-barred, reference_of-held}
 
-module _ (k : CycleHeap) (a : State) (stands : Stands k a) where
+module _ (k : CycleHeap) (a : State) (stands : MarkStands k a) where
   -- what is told of a reference in a slot, told so of what is shown, is told of it as it reads
   read_same : (tell : Option Reference → Option ℕ)
       → ((d : List ℕ) (r : Option Reference) → tell (shown_reference d r) ≡ unless_among d (tell r)) → (m s : ℕ)
@@ -68,12 +68,12 @@ module _ (k : CycleHeap) (a : State) (stands : Stands k a) where
       (λ begun n root. inl (root_is_not_white k a stands begun n root)) (root_is_there k a stands)
 
   -- what mutators read stays as it is
-  pub unmoved_stands : (h : Heap) → Agrees k h → Stands k (ticked (on_heap a h))
+  pub unmoved_stands : (h : Heap) → ReadsAs k h → MarkStands k (ticked (on_heap a h))
   unmoved_stands h heap =
       moved_stands k (rooted k k.heap.slots k.heap.holds) a stands unmoved h a.next heap stands.next
 
   pub refers_to_row : (m s v : ℕ)
-      → (b : State) × HeapAccepts a (heap.RefersTo m s v) (replies.Refers (reads_same k m s v)) b × Stands k b
+      → (b : State) × HeapAccepts a (heap.RefersTo m s v) (replies.Refers (reads_same k m s v)) b × MarkStands k b
   refers_to_row m s v =
       let same : is_same (referent_of (reference_of a.world.heap (slot_at a.world.heap m s))) (slot_at a.world.heap m v)
       ≡ reads_same k m s v =
@@ -84,8 +84,8 @@ module _ (k : CycleHeap) (a : State) (stands : Stands k a) where
 
 -- ---- clears
 
-pub clear_row : (k : CycleHeap) (a : State) (m s : ℕ) → Stands k a → clear_refusal k.heap m s ≡ None
-    → (b : State) × HeapAccepts a (heap.Clear m s) replies.Done b × Stands (with_cleared k m s) b
+pub clear_row : (k : CycleHeap) (a : State) (m s : ℕ) → MarkStands k a → clear_refusal k.heap m s ≡ None
+    → (b : State) × HeapAccepts a (heap.Clear m s) replies.Done b × MarkStands (with_cleared k m s) b
 clear_row k a m s stands accepted =
     let pending = pending_numbers a.world.pending in
     let h = a.world.heap in
@@ -97,16 +97,16 @@ clear_row k a m s stands accepted =
     let said = said_slot k a m s stands in
     let same : changed_in h held f ≡ cut h m s =
     sym (ap (λ (g : Heap). changed_in h (slot_at g m s) f) stands.heap) in
-    let goal : Stands (with_cleared k m s) b =
+    let goal : MarkStands (with_cleared k m s) b =
     elim (cases_Bool (refers_into (is_doomed k) (reference_of k.heap held))) [
       | inl met ↦
           let past = refers_into_doomed-past k (reference_of k.heap held) met in
           let off = slot_off k a m s stands (past_is_in_cycle k.phase past) in
           let stays : with_cleared k m s ≡ k = simp met refl in
-          let heap : Agrees k (cut h m s) =
+          let heap : ReadsAs k (cut h m s) =
           ap (heap_but (unsaid k)) (sym same) ∙ changed_in-agrees k h stands.heap held f said (λ o. refl)
           ∙ ap (heap_but (unsaid k)) (cut-shown k held off met) in
-          subst (λ (j : CycleHeap). Stands j b) (sym stays) (unmoved_stands k a stands (cut h m s) heap)
+          subst (λ (j : CycleHeap). MarkStands j b) (sym stays) (unmoved_stands k a stands (cut h m s) heap)
       | inr keeps ↦
           let c : Change = altered k k.heap.slots k.heap.holds holder.0 f in
           let is : record k { heap = cut k.heap m s } ≡ moved k c =
@@ -120,26 +120,26 @@ clear_row k a m s stands accepted =
           ap (λ (p : Option Object). refers_into (is_doomed k) (reference_in p)) (sym found)
           ∙ ap (λ (held : Option ℕ). refers_into (is_doomed k) (reference_of k.heap held)) (sym holder.1) ∙ keeps in
           cleared_becomes k (present k.heap.slots ++ k.heap.holds ++ pending) o own) in
-          let heap : Agrees (moved k c) (cut h m s) =
-          subst (λ (j : CycleHeap). Agrees j (cut h m s)) is
-          (subst (λ (g : Heap). Agrees (record k { heap = cut k.heap m s }) g) same
+          let heap : ReadsAs (moved k c) (cut h m s) =
+          subst (λ (j : CycleHeap). ReadsAs j (cut h m s)) is
+          (subst (λ (g : Heap). ReadsAs (record k { heap = cut k.heap m s }) g) same
           (agrees_changed k h stands.heap held f said (λ o. refl) shown-cleared)) in
-          subst (λ (j : CycleHeap). Stands j b) (sym (cuts ∙ is))
+          subst (λ (j : CycleHeap). MarkStands j b) (sym (cuts ∙ is))
           (moved_stands k c a stands move (cut h m s) a.next heap stands.next)
     ] in
     (b, (refl, refl), goal)
 
 -- ---- gets
 
-get_values : (k : CycleHeap) (a : State) (m d s : ℕ) (value : Option ℕ) → Stands k a → value_got k m s ≡ value
+get_values : (k : CycleHeap) (a : State) (m d s : ℕ) (value : Option ℕ) → MarkStands k a → value_got k m s ≡ value
     → has_slot k.heap m d ≡ true
-    → (b : State) × Gets a m d s value (value_reply value) b × Stands (with_got k m d s value) b
+    → (b : State) × Gets a m d s value (value_reply value) b × MarkStands (with_got k m d s value) b
 get_values k a m d s None stands is there =
     let same : with_got k m d s None ≡ record k { heap = with_slot k.heap m d None } =
     elim (cases_Bool (is_in k.phase Marking)) [ inl marking ↦ simp marking refl | inr quiet ↦ simp quiet refl ] in (
       ticked (on_heap a (with_slot a.world.heap m d None)),
       (refl, refl),
-      subst (λ (j : CycleHeap). Stands j (ticked (on_heap a (with_slot a.world.heap m d None)))) (sym same)
+      subst (λ (j : CycleHeap). MarkStands j (ticked (on_heap a (with_slot a.world.heap m d None)))) (sym same)
           (set_stands k a m d None stands (λ begun n none. absurd (cc)) (λ n none. absurd (cc))),
     )
 get_values k a m d s (Some n) stands is there =
@@ -176,12 +176,12 @@ get_values k a m d s (Some n) stands is there =
     let at_slot : changed_in h (slot_at k.heap m s) f ≡ changed_in h (slot_at h m s) (with_reference (got_at h.clock)) =
     sym (ap (λ (g : Heap). changed_in h (slot_at g m s) (with_reference (got_at g.clock))) stands.heap) in
     let changes :
-    Agrees (record k { heap = changed_in k.heap (slot_at k.heap m s) f }) (changed_in h (slot_at k.heap m s) f) =
+    ReadsAs (record k { heap = changed_in k.heap (slot_at k.heap m s) f }) (changed_in h (slot_at k.heap m s) f) =
     agrees_changed k h stands.heap (slot_at k.heap m s) f (said_slot k a m s stands) (λ o. refl)
     (λ e o. shown-got e k.heap.clock o) in
-    let heap : Agrees (moved k c) (got h m d s (Some n)) =
-    subst (λ (j : CycleHeap). Agrees j (got h m d s (Some n))) same
-    (subst (λ (g : Heap). Agrees (record k { heap = got k.heap m d s (Some n) }) (with_slot g m d (Some n))) at_slot
+    let heap : ReadsAs (moved k c) (got h m d s (Some n)) =
+    subst (λ (j : CycleHeap). ReadsAs j (got h m d s (Some n))) same
+    (subst (λ (g : Heap). ReadsAs (record k { heap = got k.heap m d s (Some n) }) (with_slot g m d (Some n))) at_slot
     (ap (λ (g : Heap). with_slot g m d (Some n)) changes)) in
     let row = barred_row k c a a.world (alongside_itself a.world) n stands root (got h m d s (Some n))
     (replies.Object n)
@@ -197,13 +197,13 @@ get_values k a m d s (Some n) stands is there =
     refl heap in (
       row.0,
       row.1,
-      subst (λ (j : CycleHeap). Stands j row.0)
+      subst (λ (j : CycleHeap). MarkStands j row.0)
           (sym (with_got-barred k m d s n ∙ ap (λ (j : CycleHeap). barred j (Some n)) same)) row.2,
     )
 
-pub get_row : (k : CycleHeap) (a : State) (m d s : ℕ) → Stands k a → get_refusal k.heap m d s ≡ None
+pub get_row : (k : CycleHeap) (a : State) (m d s : ℕ) → MarkStands k a → get_refusal k.heap m d s ≡ None
     → let value = value_got k m s in
-    (b : State) × HeapAccepts a (heap.Get m d s) (value_reply value) b × Stands (with_got k m d s value) b
+    (b : State) × HeapAccepts a (heap.Get m d s) (value_reply value) b × MarkStands (with_got k m d s value) b
 get_row k a m d s stands accepted =
     let value = value_got k m s in
     let same : referent_got (reference_of a.world.heap (slot_at a.world.heap m s)) ≡ value =

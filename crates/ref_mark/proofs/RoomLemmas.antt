@@ -21,13 +21,13 @@ use Rattle.ref_base.specs.declared.phase.Phase.{Phase}
 use Rattle.ref_base.specs.declared.urgency.Urgency.{Urgency}
 use Rattle.ref_base.specs.declared.phase.Phase.TheVariants.{Idle, Marking, Sweeping}
 use Rattle.ref_base.specs.declared.urgency.Urgency.TheVariants.{Normal}
-use Rattle.ref_objects.specs.Grounds.{Ground, first_ground, is_unmarked, with_mark, after_freeing, is_free, freed}
+use Rattle.ref_objects.specs.Grounds.{Ground, first_ground, is_unmarked, ground_marked, after_freeing, is_free, freed}
 use Rattle.ref_objects.specs.Grounds.{IsWellFormed}
 use Rattle.ref_objects.proofs.TabledLemmas.{length-one_more}
-use Rattle.ref_mark.specs.Worklists.{Worklist, empty_worklist, with_last, without_first, first_in, rest_of, emptied}
-use Rattle.ref_mark.specs.CycleHeaps.{CycleHeap, first_cycle_heap, is_white, shaded, shaded_all, with_taken, with_found}
+use Rattle.ref_mark.specs.Worklists.{Worklist, empty_worklist, with_last, without_first_listed, first_in, rest_of, emptied_list}
+use Rattle.ref_mark.specs.CycleHeaps.{CycleHeap, first_cycle_heap, is_white, shaded, shaded_all, with_found_taken, with_found}
 use Rattle.ref_mark.specs.CycleHeaps.{is_due, swept}
-use Rattle.ref_mark.specs.MarkViews.{seen, lists_of, AreRoomy, IsRoomy}
+use Rattle.ref_mark.specs.MarkViews.{seen_marker, worklists_of, AreRoomy, IsRoomy}
 
 -- ---- the marked
 
@@ -42,36 +42,36 @@ one_fewer-missing (m ∷ ms) n missing =
 
 -- a mark is one more, or changes nothing
 pub marked_new : (g : Ground) (n : ℕ) → is_unmarked g n ≡ true
-    → with_mark g n ≡ record g { marked = one_more g.marked n }
+    → ground_marked g n ≡ record g { marked = one_more g.marked n }
 marked_new g n new = simp new refl
 
-pub marked_again : (g : Ground) (n : ℕ) → is_unmarked g n ≡ false → with_mark g n ≡ g
+pub marked_again : (g : Ground) (n : ℕ) → is_unmarked g n ≡ false → ground_marked g n ≡ g
 marked_again g n old = simp old refl
 
 -- ---- what is seen of the lists
 
-lists_of-map : (ls : List Worklist) → lists_of ls ≡ map (λ l. l.stands) ls
+lists_of-map : (ls : List Worklist) → worklists_of ls ≡ map (λ l. l.stands) ls
 lists_of-map [] = refl
 lists_of-map (l ∷ ls) = ap (λ ms. l.stands ∷ ms) (lists_of-map ls)
 
-pub lists_of-set : (ls : List Worklist) (w : ℕ) (l : Worklist) → lists_of (set ls w l) ≡ set (lists_of ls) w l.stands
+pub lists_of-set : (ls : List Worklist) (w : ℕ) (l : Worklist) → worklists_of (set ls w l) ≡ set (worklists_of ls) w l.stands
 lists_of-set ls w l =
     lists_of-map (set ls w l) ∙ map-set (λ (m : Worklist). m.stands) ls w l
     ∙ ap (λ (ms : List (List ℕ)). set ms w l.stands) (sym (lists_of-map ls))
 
-list_at-lists_of : (ls : List Worklist) (w : ℕ) → list_at (lists_of ls) w ≡ (get_or ls w (empty_worklist 0)).stands
+list_at-lists_of : (ls : List Worklist) (w : ℕ) → list_at (worklists_of ls) w ≡ (get_or ls w (empty_worklist 0)).stands
 list_at-lists_of ls w =
     ap (λ (ms : List (List ℕ)). list_at ms w) (lists_of-map ls)
     ∙ get_or-map (λ (m : Worklist). m.stands) ls w (empty_worklist 0)
 
 -- once each list was cleared, all are
 pub all_cleared : (ls : List Worklist) {ms : List Worklist} (count : ℕ) → length ls ≤ count
-    → ms ≡ map emptied (take count ls) ++ drop count ls → ms ≡ map emptied ls
+    → ms ≡ map emptied_list (take count ls) ++ drop count ls → ms ≡ map emptied_list ls
 all_cleared ls count all are =
-    are ∙ ap (λ (ms : List Worklist). map emptied (take count ls) ++ ms) (drop_all count ls all)
-    ∙ append-nil (map emptied (take count ls)) ∙ ap (map emptied) (take_all count ls all)
+    are ∙ ap (λ (ms : List Worklist). map emptied_list (take count ls) ++ ms) (drop_all count ls all)
+    ∙ append-nil (map emptied_list (take count ls)) ∙ ap (map emptied_list) (take_all count ls all)
 
-pub lists_of-emptied : (ls : List Worklist) → lists_of (map emptied ls) ≡ none_found (lists_of ls)
+pub lists_of-emptied : (ls : List Worklist) → worklists_of (map emptied_list ls) ≡ none_found (worklists_of ls)
 lists_of-emptied [] = refl
 lists_of-emptied (l ∷ ls) = ap (λ ms. [] ∷ ms) (lists_of-emptied ls)
 
@@ -83,7 +83,7 @@ worker_within h now phase w accepted =
       | inr isnt ↦ absurd (let wrong : Some NoSuchActor ≡ None = simp isnt at accepted in cc)
     ]
 
-pub lists_of-replicate : (count room : ℕ) → lists_of (replicate count (empty_worklist room)) ≡ replicate count []
+pub lists_of-replicate : (count room : ℕ) → worklists_of (replicate count (empty_worklist room)) ≡ replicate count []
 lists_of-replicate zero room = refl
 lists_of-replicate (suc count) room = ap (λ ms. [] ∷ ms) (lists_of-replicate count room)
 
@@ -93,10 +93,10 @@ is_empty-append [] ms = refl
 is_empty-append (n ∷ ns) ms = refl
 
 pub any_found : (ls : List Worklist)
-    → list_any (λ (l : Worklist). not (is_empty l.stands)) ls ≡ not (is_empty (joined (lists_of ls)))
+    → list_any (λ (l : Worklist). not (is_empty l.stands)) ls ≡ not (is_empty (joined (worklists_of ls)))
 any_found [] = refl
 any_found (l ∷ ls) =
-    ap (λ b. not (is_empty l.stands) || b) (any_found ls) ∙ sym (is_empty-append l.stands (joined (lists_of ls)))
+    ap (λ b. not (is_empty l.stands) || b) (any_found ls) ∙ sym (is_empty-append l.stands (joined (worklists_of ls)))
 
 length-rest_of : (ns : List ℕ) → length (rest_of ns) ≤ length ns
 length-rest_of [] = omega arith
@@ -165,7 +165,7 @@ module _ {g : Ground} {grey : Worklist} {found : List Worklist} (w : ℕ) {l : W
       (sym is)
       (AreRoomy-at found g.heap.config.cells (length grey.stands) (length g.marked) w l worker_has_list roomy.found_fit)
 
-  pub stands_as_seen : l.stands ≡ list_at (lists_of found) w
+  pub stands_as_seen : l.stands ≡ list_at (worklists_of found) w
   stands_as_seen =
       ap (λ (m : Worklist). m.stands) (get_or_read found w l worker_has_list is (empty_worklist 0))
       ∙ sym (list_at-lists_of found w)
@@ -181,42 +181,42 @@ module _ {g : Ground} {grey : Worklist} {found : List Worklist} (w : ℕ) {l : W
     finders = length-set found w m ∙ roomy.finders;
   }
 
-  pub roomy_taken : {m : Worklist} → m ≡ without_first l → IsRoomy g grey (set found w m)
+  pub roomy_taken : {m : Worklist} → m ≡ without_first_listed l → IsRoomy g grey (set found w m)
   roomy_taken {m} taken =
       let stands : length m.stands ≤ length l.stands =
       subst (λ (n : Worklist). length n.stands ≤ length l.stands) (sym taken) (length-rest_of l.stands) in
       roomy_replaced m (ap (λ (n : Worklist). n.room) taken) (omega (arith, stands, list_fits.1))
 
-  pub found_has_room : length (list_at (lists_of found) w) + length grey.stands < length g.marked
+  pub found_has_room : length (list_at (worklists_of found) w) + length grey.stands < length g.marked
       → length l.stands < l.room
   found_has_room spare =
-      let stands : length l.stands ≡ length (list_at (lists_of found) w) = ap length stands_as_seen in
+      let stands : length l.stands ≡ length (list_at (worklists_of found) w) = ap length stands_as_seen in
       omega (arith, spare, stands, list_fits.0, roomy.few)
 
-  pub roomy_found : {m : Worklist} (n : ℕ) → length (list_at (lists_of found) w) + length grey.stands < length g.marked
+  pub roomy_found : {m : Worklist} (n : ℕ) → length (list_at (worklists_of found) w) + length grey.stands < length g.marked
       → m ≡ with_last l n → IsRoomy g grey (set found w m)
   roomy_found {m} n spare pushed =
-      let was : length l.stands ≡ length (list_at (lists_of found) w) = ap length stands_as_seen in
+      let was : length l.stands ≡ length (list_at (worklists_of found) w) = ap length stands_as_seen in
       let stands : length m.stands ≡ length l.stands + 1 =
       ap (λ (m : Worklist). length m.stands) pushed ∙ length_push l.stands n in
       roomy_replaced m (ap (λ (k : Worklist). k.room) pushed) (omega (arith, spare, was, stands))
 
 -- no worker has found anything
 AreRoomy-emptied : (found : List Worklist) (cells grey marked : ℕ) → grey ≤ marked → AreRoomy found cells grey marked
-    → AreRoomy (map emptied found) cells grey marked
+    → AreRoomy (map emptied_list found) cells grey marked
 AreRoomy-emptied [] cells grey marked few roomy = tt
 AreRoomy-emptied (l ∷ ls) cells grey marked few roomy =
     (roomy.0, omega (arith, few), AreRoomy-emptied ls cells grey marked few roomy.2)
 
 pub roomy_emptied : {g : Ground} {grey : Worklist} {found : List Worklist} → IsRoomy g grey found
-    → IsRoomy g grey (map emptied found)
+    → IsRoomy g grey (map emptied_list found)
 roomy_emptied {g} {grey} {found} roomy = record {
   few = roomy.few;
   grey_fits = roomy.grey_fits;
   grey_marked = roomy.grey_marked;
   found_fit = AreRoomy-emptied found g.heap.config.cells (length grey.stands) (length g.marked) roomy.grey_marked
       roomy.found_fit;
-  finders = length-map found emptied ∙ roomy.finders;
+  finders = length-map found emptied_list ∙ roomy.finders;
 }
 
 -- an unmarked object goes
@@ -242,7 +242,7 @@ roomy_freed {g} {after} {grey} {found} n plain is roomy =
     ]
 
 -- one more object is marked, or none
-pub roomy_marked : {g after : Ground} {grey : Worklist} {found : List Worklist} (n : ℕ) → after ≡ with_mark g n
+pub roomy_marked : {g after : Ground} {grey : Worklist} {found : List Worklist} (n : ℕ) → after ≡ ground_marked g n
     → IsWellFormed after → IsRoomy g grey found → IsRoomy after grey found
 roomy_marked {g} {after} {grey} {found} n is formed roomy =
     let few : length after.marked ≤ after.heap.config.cells = omega (arith, formed.marks, formed.few) in
@@ -260,7 +260,7 @@ roomy_marked {g} {after} {grey} {found} n is formed roomy =
 
 -- one more is marked and grey
 module _ {g after : Ground} {grey : Worklist} {found : List Worklist} (n : ℕ) (new : is_unmarked g n ≡ true)
-    (is : after ≡ with_mark g n) (formed : IsWellFormed after) (roomy : IsRoomy g grey found) where
+    (is : after ≡ ground_marked g n) (formed : IsWellFormed after) (roomy : IsRoomy g grey found) where
   few : length after.marked ≤ after.heap.config.cells
   few = omega (arith, formed.marks, formed.few)
 
@@ -283,25 +283,25 @@ module _ {g after : Ground} {grey : Worklist} {found : List Worklist} (n : ℕ) 
       roomy_grown same_config few (ap (λ (w : Worklist). w.room) pushed) (omega (arith, stands, one_marked)) roomy
 
 -- the grey list is emptied
-pub roomy_cleared : {g : Ground} {grey l : Worklist} {found : List Worklist} → l ≡ emptied grey
+pub roomy_cleared : {g : Ground} {grey l : Worklist} {found : List Worklist} → l ≡ emptied_list grey
     → IsRoomy g grey found → IsRoomy g l found
 roomy_cleared {g} {grey} {l} {found} cleared roomy =
     let stands : length l.stands ≡ 0 = ap (λ (w : Worklist). length w.stands) cleared in
     roomy_grown refl roomy.few (ap (λ (w : Worklist). w.room) cleared) (omega (arith, stands)) roomy
 
 -- no list has anything
-AreRoomy-none : (found : List Worklist) (ms : List (List ℕ)) (cells grey marked : ℕ) → lists_of found ≡ none_found ms
+AreRoomy-none : (found : List Worklist) (ms : List (List ℕ)) (cells grey marked : ℕ) → worklists_of found ≡ none_found ms
     → AreRoomy found cells grey marked → AreRoomy found cells 0 0
 AreRoomy-none [] ms cells grey marked none roomy = tt
-AreRoomy-none (l ∷ ls) [] cells grey marked none roomy = absurd (let wrong : l.stands ∷ lists_of ls ≡ [] = none in cc)
+AreRoomy-none (l ∷ ls) [] cells grey marked none roomy = absurd (let wrong : l.stands ∷ worklists_of ls ≡ [] = none in cc)
 AreRoomy-none (l ∷ ls) (m ∷ ms) cells grey marked none roomy =
-    let first : l.stands ≡ [] = (let both : l.stands ∷ lists_of ls ≡ [] ∷ none_found ms = none in cc) in
-    let rest : lists_of ls ≡ none_found ms = (let both : l.stands ∷ lists_of ls ≡ [] ∷ none_found ms = none in cc) in
+    let first : l.stands ≡ [] = (let both : l.stands ∷ worklists_of ls ≡ [] ∷ none_found ms = none in cc) in
+    let rest : worklists_of ls ≡ none_found ms = (let both : l.stands ∷ worklists_of ls ≡ [] ∷ none_found ms = none in cc) in
     let size : length l.stands ≡ 0 = ap length first in
     (roomy.0, omega (arith, size), AreRoomy-none ls ms cells grey marked rest roomy.2)
 
 pub roomy_whitened : {g after : Ground} {grey : Worklist} {found : List Worklist} (ms : List (List ℕ))
-    → after.heap.config ≡ g.heap.config → after.marked ≡ [] → grey.stands ≡ [] → lists_of found ≡ none_found ms
+    → after.heap.config ≡ g.heap.config → after.marked ≡ [] → grey.stands ≡ [] → worklists_of found ≡ none_found ms
     → IsRoomy g grey found → IsRoomy after grey found
 roomy_whitened {g} {after} {grey} {found} ms config unmarked white none roomy =
     let cells : after.heap.config.cells ≡ g.heap.config.cells = ap (λ f. f.cells) config in
@@ -338,7 +338,7 @@ roomy_first config heap_no next = record {
 
 -- a doomed object goes, unless somebody holds it
 module _ (g : Ground) (grey : Worklist) (found : List Worklist) (phase : Phase) (how : Urgency) (cycle n : ℕ)
-    (due : is_due (seen g grey found phase how cycle) n ≡ true) where
+    (due : is_due (seen_marker g grey found phase how cycle) n ≡ true) where
   white : is_unmarked g n ≡ true
   white = (and_parts (is_in phase Sweeping) (is_unmarked g n) due).1
 
@@ -346,8 +346,8 @@ module _ (g : Ground) (grey : Worklist) (found : List Worklist) (phase : Phase) 
   due_unmarked =
       not-true (has g.marked n) (and_parts (is_there g.heap.objects n) (not (has g.marked n)) white).1
 
-  pub seen_swept : seen (after_freeing g n) grey found phase how cycle
-      ≡ swept (seen g grey found phase how cycle) n
+  pub seen_swept : seen_marker (after_freeing g n) grey found phase how cycle
+      ≡ swept (seen_marker g grey found phase how cycle) n
   seen_swept =
       let there : is_there g.heap.objects n ≡ true =
       (and_parts (is_there g.heap.objects n) (not (has g.marked n)) white).0 in
@@ -362,17 +362,17 @@ module _ (g : Ground) (grey : Worklist) (found : List Worklist) (phase : Phase) 
 -- a worker's list is replaced
 pub seen_replaced : (g : Ground) (grey : Worklist) (found : List Worklist) (phase : Phase) (how : Urgency)
     (cycle w : ℕ) (l : Worklist)
-    → seen g grey (set found w l) phase how cycle
-    ≡ record (seen g grey found phase how cycle) { found = set (lists_of found) w l.stands }
+    → seen_marker g grey (set found w l) phase how cycle
+    ≡ record (seen_marker g grey found phase how cycle) { found = set (worklists_of found) w l.stands }
 seen_replaced g grey found phase how cycle w l = rw (lists_of-set found w l) refl
 
 -- the first that a worker found is taken
 pub seen_taken : (g : Ground) (grey : Worklist) (found : List Worklist) (phase : Phase) (how : Urgency)
-    (cycle w : ℕ) (l m : Worklist) → l.stands ≡ list_at (lists_of found) w → m ≡ without_first l
-    → seen g grey (set found w m) phase how cycle ≡ with_taken (seen g grey found phase how cycle) w
+    (cycle w : ℕ) (l m : Worklist) → l.stands ≡ list_at (worklists_of found) w → m ≡ without_first_listed l
+    → seen_marker g grey (set found w m) phase how cycle ≡ with_found_taken (seen_marker g grey found phase how cycle) w
 seen_taken g grey found phase how cycle w l m stands taken =
     seen_replaced g grey found phase how cycle w m
-    ∙ ap (λ (ns : List ℕ). record (seen g grey found phase how cycle) { found = set (lists_of found) w ns })
+    ∙ ap (λ (ns : List ℕ). record (seen_marker g grey found phase how cycle) { found = set (worklists_of found) w ns })
     (ap (λ (k : Worklist). k.stands) taken ∙ ap rest_of stands)
 
 found_white : (k : CycleHeap) (w n : ℕ) → refers_into (is_white k) (reference_at k.heap n) ≡ true
@@ -382,28 +382,28 @@ found_white k w n white = simp white refl
 -- a reference is found whose referent is white
 pub seen_found : (g : Ground) (grey : Worklist) (found : List Worklist) (phase : Phase) (how : Urgency)
     (cycle w n : ℕ) (l m : Worklist)
-    → refers_into (is_white (seen g grey found phase how cycle)) (reference_at g.heap n) ≡ true
-    → l.stands ≡ list_at (lists_of found) w → m ≡ with_last l n
-    → seen g grey (set found w m) phase how cycle ≡ with_found (seen g grey found phase how cycle) w n
+    → refers_into (is_white (seen_marker g grey found phase how cycle)) (reference_at g.heap n) ≡ true
+    → l.stands ≡ list_at (worklists_of found) w → m ≡ with_last l n
+    → seen_marker g grey (set found w m) phase how cycle ≡ with_found (seen_marker g grey found phase how cycle) w n
 seen_found g grey found phase how cycle w n l m white stands pushed =
     seen_replaced g grey found phase how cycle w m
-    ∙ ap (λ (ns : List ℕ). record (seen g grey found phase how cycle) { found = set (lists_of found) w ns })
+    ∙ ap (λ (ns : List ℕ). record (seen_marker g grey found phase how cycle) { found = set (worklists_of found) w ns })
     (ap (λ (k : Worklist). k.stands) pushed ∙ ap (λ (ns : List ℕ). ns ++ n ∷ []) stands)
-    ∙ sym (found_white (seen g grey found phase how cycle) w n white)
+    ∙ sym (found_white (seen_marker g grey found phase how cycle) w n white)
 
 -- no worker has found anything
 pub seen_emptied : (g : Ground) (grey : Worklist) (found : List Worklist) (phase : Phase) (how : Urgency) (cycle : ℕ)
-    → seen g grey (map emptied found) phase how cycle
-    ≡ record (seen g grey found phase how cycle) { found = none_found (lists_of found) }
+    → seen_marker g grey (map emptied_list found) phase how cycle
+    ≡ record (seen_marker g grey found phase how cycle) { found = none_found (worklists_of found) }
 seen_emptied g grey found phase how cycle = rw (lists_of-emptied found) refl
 
 pub seen_first : (config : Config) (heap_no next cycle : ℕ) {g : Ground} {grey : Worklist} {found : List Worklist}
     → g ≡ first_ground config heap_no next → grey ≡ empty_worklist config.cells
     → found ≡ replicate config.workers (empty_worklist config.cells)
-    → seen g grey found Idle Normal cycle ≡ first_cycle_heap config heap_no next cycle
+    → seen_marker g grey found Idle Normal cycle ≡ first_cycle_heap config heap_no next cycle
 seen_first config heap_no next cycle {g} {grey} {found} objects greys lists =
-    let none : lists_of found ≡ replicate config.workers [] =
-    ap lists_of lists ∙ lists_of-replicate config.workers config.cells in
+    let none : worklists_of found ≡ replicate config.workers [] =
+    ap worklists_of lists ∙ lists_of-replicate config.workers config.cells in
     rw (objects, greys, none) refl
 
 -- ---- a scan
@@ -440,7 +440,7 @@ length-first_in [] n first = absurd (let wrong : None ≡ Some n = first in cc)
 length-first_in (m ∷ ms) n first = omega arith
 
 -- the first of the grey list is taken
-pub roomy_scanned : {g : Ground} {grey l : Worklist} {found : List Worklist} → l ≡ without_first grey
+pub roomy_scanned : {g : Ground} {grey l : Worklist} {found : List Worklist} → l ≡ without_first_listed grey
     → IsRoomy g grey found → IsRoomy g l found
 roomy_scanned {g} {grey} {l} {found} taken roomy =
     let stands : length l.stands ≤ length grey.stands =
@@ -449,8 +449,8 @@ roomy_scanned {g} {grey} {l} {found} taken roomy =
 
 -- then each worker's list has room for it, also once its targets are grey
 pub scan_has_room : {g : Ground} {grey l : Worklist} {found : List Worklist} (k after : CycleHeap) (w n : ℕ)
-    → w < g.heap.config.workers → IsRoomy g grey found → l ≡ without_first grey → first_in grey.stands ≡ Some n
-    → k.marked ≡ g.marked → k.grey ≡ l.stands → k.found ≡ lists_of found → Greys k after
+    → w < g.heap.config.workers → IsRoomy g grey found → l ≡ without_first_listed grey → first_in grey.stands ≡ Some n
+    → k.marked ≡ g.marked → k.grey ≡ l.stands → k.found ≡ worklists_of found → Greys k after
     → length (list_at after.found w) + length after.grey < length after.marked
 scan_has_room {g} {grey} {l} {found} k after w n within roomy taken first marked greys lists grown =
     let few = (AreRoomy-at found g.heap.config.cells (length grey.stands) (length g.marked) w (empty_worklist 0)

@@ -17,7 +17,7 @@ use Rattle.ref_base.specs.declared.phase.Phase.{Phase}
 use Rattle.ref_base.specs.declared.phase.Phase.TheVariants.{Idle, Marking, Clearing, Sweeping}
 use Rattle.ref_base.proofs.HasLaws.{has-left, has-right, has-cases}
 use Rattle.ref_mark.specs.CycleHeaps.{is_in_cycle, CycleHeap, policy_in, is_white, is_black, is_past_mark, is_due}
-use Rattle.ref_mark.specs.Standing.{AreThere, Stands}
+use Rattle.ref_mark.specs.Standing.{AreThere, MarkStands}
 use Rattle.ref_mark.proofs.Shading.{not_white_marked}
 use Rattle.ref_mark.proofs.Moves.{leading_is_there}
 use Rattle.ref_base.proofs.Lookups.{has-present_set, has-present_at}
@@ -63,7 +63,7 @@ root_cases slots holds pending n h =
 -- ---- slots
 
 -- a slot of a mutator that is there is among the slots
-pub slot_within : (k : CycleHeap) (a : State) (m s : ℕ) → Stands k a → has_slot k.heap m s ≡ true
+pub slot_within : (k : CycleHeap) (a : State) (m s : ℕ) → MarkStands k a → has_slot k.heap m s ≡ true
     → 16 * m + s < length k.heap.slots
 slot_within k a m s stands there =
     let parts = and_parts (is_mutator k.heap m) (nat_lt s 16) there in
@@ -72,7 +72,7 @@ slot_within k a m s stands there =
     let count : length k.heap.slots ≡ 16 * k.heap.config.mutators = stands.orderly.slots in
     omega (arith, mutator, slot, count)
 
-module _ (k : CycleHeap) (a : State) (stands : Stands k a) where
+module _ (k : CycleHeap) (a : State) (stands : MarkStands k a) where
   -- what a root names is there
   pub root_is_there : (n : ℕ)
       → has (present k.heap.slots ++ k.heap.holds ++ pending_numbers a.world.pending) n ≡ true
@@ -126,7 +126,7 @@ module _ (k : CycleHeap) (a : State) (stands : Stands k a) where
   named_of_set i value there =
       each_root_of_set (λ n. is_there k.heap.objects n ≡ true) i value root_is_there there
 
-module _ (k : CycleHeap) (a : State) (stands : Stands k a) (begun : is_in_cycle k.phase ≡ true) where
+module _ (k : CycleHeap) (a : State) (stands : MarkStands k a) (begun : is_in_cycle k.phase ≡ true) where
   -- a root isn't white
   pub root_is_not_white : (n : ℕ)
       → has (present k.heap.slots ++ k.heap.holds ++ pending_numbers a.world.pending) n ≡ true → is_white k n ≡ false
@@ -188,7 +188,7 @@ sweeping_has_begun Clearing sweeping = refl
 sweeping_has_begun Sweeping sweeping = refl
 
 -- what a slot holds isn't due to be swept
-pub slot_is_not_due : (k : CycleHeap) (a : State) (m s n : ℕ) → Stands k a → slot_at k.heap m s ≡ Some n
+pub slot_is_not_due : (k : CycleHeap) (a : State) (m s n : ℕ) → MarkStands k a → slot_at k.heap m s ≡ Some n
     → is_due k n ≡ false
 slot_is_not_due k a m s n stands is =
     elim (cases_Bool (is_in k.phase Sweeping)) [
@@ -200,12 +200,12 @@ slot_is_not_due k a m s n stands is =
     ]
 
 -- where a cycle has begun, the object isn't white
-held_off : (k : CycleHeap) (a : State) (m s : ℕ) → Stands k a → is_in_cycle k.phase ≡ true → (held : Option ℕ)
+held_off : (k : CycleHeap) (a : State) (m s : ℕ) → MarkStands k a → is_in_cycle k.phase ≡ true → (held : Option ℕ)
     → slot_at k.heap m s ≡ held → any_is (is_white k) held ≡ false
 held_off k a m s stands begun None is = refl
 held_off k a m s stands begun (Some n) is = slot_is_not_white k a stands begun m s n is
 
 -- a slot's object isn't white
-pub slot_off : (k : CycleHeap) (a : State) (m s : ℕ) → Stands k a → is_in_cycle k.phase ≡ true
+pub slot_off : (k : CycleHeap) (a : State) (m s : ℕ) → MarkStands k a → is_in_cycle k.phase ≡ true
     → any_is (is_white k) (slot_at k.heap m s) ≡ false
 slot_off k a m s stands begun = held_off k a m s stands begun (slot_at k.heap m s) refl

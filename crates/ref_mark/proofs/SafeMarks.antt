@@ -14,13 +14,13 @@ use Rattle.ref_base.specs.Collectors.{State, joined}
 use Rattle.ref_base.proofs.PathLaws.{path_within}
 use Rattle.ref_mark.specs.CycleHeaps.{CycleHeap, policy_in, is_white, is_black, is_in_cycle}
 use Rattle.ref_objects.specs.Grounds.{unmarked}
-use Rattle.ref_mark.specs.Standing.{FactsBut, Coloured, Reached, Stands}
+use Rattle.ref_mark.specs.Standing.{FactsBut, Coloured, Reached, MarkStands}
 use Rattle.ref_mark.proofs.Shading.{not_white_marked}
 use Rattle.ref_mark.proofs.DoomedLists.{has-unmarked}
 
 -- ---- between any two steps of a cycle
 
-pub root_facts : (k : CycleHeap) (a : State) (n : ℕ) → Stands k a → is_in_cycle k.phase ≡ true
+pub root_facts : (k : CycleHeap) (a : State) (n : ℕ) → MarkStands k a → is_in_cycle k.phase ≡ true
     → has (graph_of a.world).roots n ≡ true → is_white k n ≡ false
 root_facts k a n stands begun root =
     elim ((stands.facts begun).rooted n root) [
@@ -28,7 +28,7 @@ root_facts k a n stands begun root =
       | inr listed ↦ absurd (false≢true listed)
     ]
 
-pub edge_facts : (k : CycleHeap) (a : State) (m n : ℕ) → Stands k a → is_in_cycle k.phase ≡ true → is_black k m ≡ true
+pub edge_facts : (k : CycleHeap) (a : State) (m n : ℕ) → MarkStands k a → is_in_cycle k.phase ≡ true → is_black k m ≡ true
     → has (targets_at (is_kept (policy_in k)) k.heap.objects m) n ≡ true → is_white k n ≡ false
 edge_facts k a m n stands begun black target =
     elim ((stands.facts begun).closed m n black target) [

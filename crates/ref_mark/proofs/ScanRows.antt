@@ -14,8 +14,8 @@ use Rattle.ref_base.specs.CollectorRows.{Scans, list_at}
 use Rattle.ref_base.specs.declared.phase.Phase.TheVariants.{Marking, Sweeping}
 use Rattle.ref_base.specs.declared.reply.Reply.TheVariants as replies
 use Rattle.ref_base.proofs.HasLaws.{has-first}
-use Rattle.ref_mark.specs.CycleHeaps.{CycleHeap, policy_in, shaded_all, with_found, scanned_from, scanned}
-use Rattle.ref_mark.specs.Standing.{Stands}
+use Rattle.ref_mark.specs.CycleHeaps.{CycleHeap, policy_in, shaded_all, with_found, grey_scanned, scanned}
+use Rattle.ref_mark.specs.Standing.{MarkStands}
 use Rattle.ref_mark.specs.Worklists.{first_in}
 use Rattle.ref_mark.specs.MarkCalls.{scan_reply}
 use Rattle.ref_mark.proofs.Shading.{MarkingBut, shaded_all-only, shaded_all_marking, some_left, grey_is_left}
@@ -27,8 +27,8 @@ use Rattle.ref_mark.proofs.Scanning.{reached_later, without_first, state_scanned
 use Rattle.ref_mark.proofs.Scanning.{with_found-only, length-with_found, with_found_marking}
 
 -- a scan where nothing is grey
-scan_none : (k : CycleHeap) (a : State) (w : ℕ) → Stands k a → k.phase ≡ Marking → k.grey ≡ []
-    → (b : State) × Scans (plain_state k Marking a) w replies.Nothing b × Stands k b
+scan_none : (k : CycleHeap) (a : State) (w : ℕ) → MarkStands k a → k.phase ≡ Marking → k.grey ≡ []
+    → (b : State) × Scans (plain_state k Marking a) w replies.Nothing b × MarkStands k b
 scan_none k a w stands phase is =
     let s = plain_state k Marking a in
     let b : State = record s { moments = graph_of s.world ∷ a.moments } in
@@ -48,9 +48,9 @@ scan_none k a w stands phase is =
     )
 
 -- a scan of the first of the grey list
-scan_some : (k : CycleHeap) (a : State) (w n : ℕ) (rest : List ℕ) → Stands k a → k.phase ≡ Marking
+scan_some : (k : CycleHeap) (a : State) (w n : ℕ) (rest : List ℕ) → MarkStands k a → k.phase ≡ Marking
     → w < k.heap.config.workers → k.grey ≡ n ∷ rest
-    → (b : State) × Scans (plain_state k Marking a) w (replies.Scanned n) b × Stands (scanned_from k w (n ∷ rest)) b
+    → (b : State) × Scans (plain_state k Marking a) w (replies.Scanned n) b × MarkStands (grey_scanned k w (n ∷ rest)) b
 scan_some k a w n rest stands phase within is =
     let s = plain_state k Marking a in
     let but : MarkingBut k s [] [] = plain_marking k a stands phase in
@@ -86,7 +86,7 @@ scan_some k a w n rest stands phase within is =
     let scanners : length b.scanned ≡ k.heap.config.workers =
     length-set a.scanned w (list_at a.scanned w ++ n ∷ []) ∙ stands.scanners in
     let finders : length found ≡ k.heap.config.workers = length-with_found i w n ∙ stands.finders in
-    let stands_then : Stands (record i { found = found }) b =
+    let stands_then : MarkStands (record i { found = found }) b =
     marking_stands (record i { found = found }) b phase refl refl stands.born stands.orderly scanners finders
     (plain_there k a stands (ap (λ p. is_in p Sweeping) phase) (record i { found = found }) refl)
     (subst (λ (l : CycleHeap). MarkingBut l b [] []) found_only done) in
@@ -99,21 +99,21 @@ scan_some k a w n rest stands phase within is =
         grey_is_left k s n but.coloured but.reached refl first,
         (left, refl, λ some. some_left j b all_shaded.coloured all_shaded.reached policy some),
       ),
-      subst (λ (l : CycleHeap). Stands (with_found l w n) b) (sym only)
-          (subst (λ (l : CycleHeap). Stands l b) (sym found_only) stands_then),
+      subst (λ (l : CycleHeap). MarkStands (with_found l w n) b) (sym only)
+          (subst (λ (l : CycleHeap). MarkStands l b) (sym found_only) stands_then),
     )
 
-scan_row_from : (k : CycleHeap) (a : State) (w : ℕ) (ns : List ℕ) → Stands k a → k.phase ≡ Marking
+scan_row_from : (k : CycleHeap) (a : State) (w : ℕ) (ns : List ℕ) → MarkStands k a → k.phase ≡ Marking
     → w < k.heap.config.workers → k.grey ≡ ns
-    → (b : State) × Scans (plain_state k Marking a) w (scan_reply (first_in ns)) b × Stands (scanned_from k w ns) b
+    → (b : State) × Scans (plain_state k Marking a) w (scan_reply (first_in ns)) b × MarkStands (grey_scanned k w ns) b
 scan_row_from k a w [] stands phase within is = scan_none k a w stands phase is
 scan_row_from k a w (n ∷ rest) stands phase within is = scan_some k a w n rest stands phase within is
 
 -- a scan that isn't refused
-pub scan_row : (k : CycleHeap) (a : State) (w : ℕ) → Stands k a → work_refusal k.heap k.phase Marking w ≡ None
-    → (b : State) × Scans a w (scan_reply (first_in k.grey)) b × Stands (scanned k w) b
+pub scan_row : (k : CycleHeap) (a : State) (w : ℕ) → MarkStands k a → work_refusal k.heap k.phase Marking w ≡ None
+    → (b : State) × Scans a w (scan_reply (first_in k.grey)) b × MarkStands (scanned k w) b
 scan_row k a w stands none =
     let passed = work_passed k Marking w none in
     let phase : k.phase ≡ Marking = is_marking k.phase passed.1 in
-    subst (λ (s : State). (b : State) × Scans s w (scan_reply (first_in k.grey)) b × Stands (scanned k w) b)
+    subst (λ (s : State). (b : State) × Scans s w (scan_reply (first_in k.grey)) b × MarkStands (scanned k w) b)
     (sym (plain_state-is k a Marking stands phase refl)) (scan_row_from k a w k.grey stands phase passed.0 refl)

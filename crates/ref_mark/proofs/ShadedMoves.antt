@@ -14,7 +14,7 @@ use Rattle.ref_base.specs.declared.phase.Phase.TheVariants.{Marking}
 use Rattle.ref_base.specs.declared.reply.Reply.{Reply}
 use Rattle.ref_base.proofs.PathLaws.{root_ends}
 use Rattle.ref_mark.specs.CycleHeaps.{CycleHeap, policy_in, shaded, barred}
-use Rattle.ref_mark.specs.Standing.{Agrees, Stands}
+use Rattle.ref_mark.specs.Standing.{ReadsAs, MarkStands}
 use Rattle.ref_mark.proofs.Agreeing.{same_before}
 use Rattle.ref_mark.proofs.Shading.{MarkingBut, shaded_marking, shaded-only, some_left, policy_of_stands}
 use Rattle.ref_mark.proofs.DoomedLists.{shown_heap-before}
@@ -23,7 +23,7 @@ use Rattle.ref_mark.proofs.MovedStates.{IsAlongside, in_mark, marking_stands, mo
 use Rattle.ref_mark.proofs.MovedStates.{marking_is_in_cycle, marking_is_not_past}
 
 module _ (k : CycleHeap) (c : Change) (a : State) (w : World) (beside : IsAlongside a.world w) (n : ℕ)
-    (stands : Stands k a)
+    (stands : MarkStands k a)
     (root : has (roots_after c (pending_numbers w.pending)) n ≡ true) where
   -- the state that says anew whether an object is left
   abbrev state_anew : State
@@ -33,7 +33,7 @@ module _ (k : CycleHeap) (c : Change) (a : State) (w : World) (beside : IsAlongs
 
   -- in a mark: the object is a root after the move, and becomes grey if it is white
   shaded_stands : IsMove k c (pending_numbers w.pending) (n ∷ []) → is_in k.phase Marking ≡ true
-      → Stands (shaded (moved k c) n) state_anew
+      → MarkStands (shaded (moved k c) n) state_anew
   shaded_stands move marking =
       let g = graph_after c (pending_numbers w.pending) in
       let new : CycleHeap = shaded (moved k c) n in
@@ -45,17 +45,17 @@ module _ (k : CycleHeap) (c : Change) (a : State) (w : World) (beside : IsAlongs
       (moved_marking k c a w (n ∷ []) left move (marking_is_in_cycle k.phase marking) stands.orderly.below stands.born
       (in_mark k a stands marking)) in
       let only = shaded-only (moved k c) n in
-      subst (λ (j : CycleHeap). Stands j state_anew) (sym only)
+      subst (λ (j : CycleHeap). MarkStands j state_anew) (sym only)
       (marking_stands k c a w beside (n ∷ []) stands move new.marked new.grey left marking
       (subst (λ (j : CycleHeap). MarkingBut j state_anew [] []) only after) refl)
 
   anew_in_mark : IsMove k c (pending_numbers w.pending) (n ∷ []) → is_in k.phase Marking ≡ true → a.next ≡ c.next
-      → (b : State) × IsBut (ticked (with_world a (with_heap w (moved k c).heap))) b × Stands (shaded (moved k c) n) b
+      → (b : State) × IsBut (ticked (with_world a (with_heap w (moved k c).heap))) b × MarkStands (shaded (moved k c) n) b
   anew_in_mark move marking next =
       let b : State = state_anew in
       let moments = graph_after c (pending_numbers w.pending) ∷ a.moments in
       let base : State = with_world a (with_heap w (moved k c).heap) in
-      let after : Stands (shaded (moved k c) n) b = shaded_stands move marking in
+      let after : MarkStands (shaded (moved k c) n) b = shaded_stands move marking in
       let now : is_in w.phase Marking ≡ true = ap (λ p. is_in p Marking) (beside.phase ∙ stands.phase) ∙ marking in
       let same : (shaded (moved k c) n).phase ≡ k.phase = ap (λ (j : CycleHeap). j.phase) (shaded-only (moved k c) n) in
       let holds = after.marking (ap (λ p. is_in p Marking) same ∙ marking) in
@@ -76,8 +76,8 @@ module _ (k : CycleHeap) (c : Change) (a : State) (w : World) (beside : IsAlongs
   pub barred_row : (h : Heap) (answer : Reply)
       → (is_in k.phase Marking ≡ true → IsMove k c (pending_numbers w.pending) (n ∷ []))
       → (is_in k.phase Marking ≡ false → IsMove k c (pending_numbers w.pending) [])
-      → c.next ≡ k.next → Agrees (moved k c) h
-      → (b : State) × GivesAnew answer (with_world a (with_heap w h)) answer b × Stands (barred (moved k c) (Some n)) b
+      → c.next ≡ k.next → ReadsAs (moved k c) h
+      → (b : State) × GivesAnew answer (with_world a (with_heap w h)) answer b × MarkStands (barred (moved k c) (Some n)) b
   barred_row h answer move_in_mark move_else next heap =
       let base : State = with_world a (with_heap w h) in
       elim (cases_Bool (is_in k.phase Marking)) [
@@ -92,14 +92,14 @@ module _ (k : CycleHeap) (c : Change) (a : State) (w : World) (beside : IsAlongs
               row.0,
               subst (λ x. GivesAnewIf x answer base answer row.0) (sym now)
                   (refl, subst (λ (g : Heap). IsBut (ticked (with_world a (with_heap w g))) row.0) (sym is) row.1),
-              subst (λ (j : CycleHeap). Stands j row.0) (sym shades) row.2,
+              subst (λ (j : CycleHeap). MarkStands j row.0) (sym shades) row.2,
             )
         | inr quiet ↦
             let now : is_in w.phase Marking ≡ false = ap (λ p. is_in p Marking) (beside.phase ∙ stands.phase) ∙ quiet in
             let rests : barred (moved k c) (Some n) ≡ moved k c = simp quiet refl in (
               ticked base,
               subst (λ x. GivesAnewIf x answer base answer (ticked base)) (sym now) (refl, refl),
-              subst (λ (j : CycleHeap). Stands j (ticked base)) (sym rests)
+              subst (λ (j : CycleHeap). MarkStands j (ticked base)) (sym rests)
                   (moved_beside k c a w beside stands (move_else quiet) h a.next heap (stands.next ∙ sym next)),
             )
       ]

@@ -17,7 +17,7 @@ use Rattle.ref_base.specs.CollectorRows.{IsLeft}
 use Rattle.ref_base.specs.declared.urgency.Urgency.{Urgency}
 use Rattle.ref_base.proofs.HasLaws.{has-append, has-cases, has-single, has-first}
 use Rattle.ref_mark.specs.CycleHeaps.{CycleHeap, policy_in, is_white, is_black, shaded, shaded_all}
-use Rattle.ref_mark.specs.Standing.{FactsBut, Coloured, Reached, FoundBut, Stands, shown_heap}
+use Rattle.ref_mark.specs.Standing.{FactsBut, Coloured, Reached, FoundBut, MarkStands, shown_heap}
 use Rattle.ref_base.proofs.OneMore.{has-one_more}
 
 -- what holds in a mark, but for some numbers that are still to be shaded, and some references that are found late
@@ -315,7 +315,7 @@ abbrev policy_from : Heap → Urgency → Policy
 policy_from h urgency = record { clock = h.clock; urgency = urgency; span = h.config.span }
 
 -- the heap goes by the policy of the state that it stands for
-pub policy_of_stands : (k : CycleHeap) (a : State) → Stands k a → policy_of a.world ≡ policy_in k
+pub policy_of_stands : (k : CycleHeap) (a : State) → MarkStands k a → policy_of a.world ≡ policy_in k
 policy_of_stands k a stands =
     ap (λ h. policy_from h a.world.urgency) stands.heap ∙ ap (λ u. policy_from (shown_heap k) u) stands.urgency
 

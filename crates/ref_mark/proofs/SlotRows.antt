@@ -22,7 +22,7 @@ use Rattle.ref_base.specs.declared.reply.Reply.TheVariants as replies
 use Rattle.ref_base.proofs.HasLaws.{has-left}
 use Rattle.ref_mark.specs.CycleHeaps.{is_in_cycle, CycleHeap, policy_in, is_white, barred, loaded}
 use Rattle.ref_mark.proofs.Agreeing.{field_in-agrees, said_slot}
-use Rattle.ref_mark.specs.Standing.{Stands}
+use Rattle.ref_mark.specs.Standing.{MarkStands}
 use Rattle.ref_mark.proofs.Moves.{Change, moved, IsMove}
 use Rattle.ref_mark.proofs.MovedStates.{moved_stands, alongside_itself}
 use Rattle.ref_mark.proofs.ShadedMoves.{barred_row}
@@ -35,7 +35,7 @@ use Rattle.ref_base.proofs.RowForms.{unless_parts}
 -- ---- slots
 
 -- a slot is set to a value that isn't white, but for what is still to be shaded
-pub slot_move : (k : CycleHeap) (a : State) (i : ℕ) (value : Option ℕ) (todo : List ℕ) → Stands k a
+pub slot_move : (k : CycleHeap) (a : State) (i : ℕ) (value : Option ℕ) (todo : List ℕ) → MarkStands k a
     → (is_in_cycle k.phase ≡ true → (n : ℕ) → value ≡ Some n → (is_white k n ≡ false) ⊎ (has todo n ≡ true))
     → ((n : ℕ) → value ≡ Some n → is_there k.heap.objects n ≡ true)
     → IsMove k (rooted k (slice_set k.heap.slots i value) k.heap.holds) (pending_numbers a.world.pending) todo
@@ -44,10 +44,10 @@ slot_move k a i value todo stands allowed there =
     (length-set k.heap.slots i value)
     (λ begun. roots_of_set k a stands begun i value todo (allowed begun)) (named_of_set k a stands i value there)
 
-pub set_stands : (k : CycleHeap) (a : State) (m d : ℕ) (value : Option ℕ) → Stands k a
+pub set_stands : (k : CycleHeap) (a : State) (m d : ℕ) (value : Option ℕ) → MarkStands k a
     → (is_in_cycle k.phase ≡ true → (n : ℕ) → value ≡ Some n → is_white k n ≡ false)
     → ((n : ℕ) → value ≡ Some n → is_there k.heap.objects n ≡ true)
-    → Stands (record k { heap = with_slot k.heap m d value }) (ticked (on_heap a (with_slot a.world.heap m d value)))
+    → MarkStands (record k { heap = with_slot k.heap m d value }) (ticked (on_heap a (with_slot a.world.heap m d value)))
 set_stands k a m d value stands allowed there =
     let c : Change = rooted k (slice_set k.heap.slots (16 * m + d) value) k.heap.holds in
     moved_stands k c a stands
@@ -56,9 +56,9 @@ set_stands k a m d value stands allowed there =
 
 -- ---- copies and drops
 
-pub copy_row : (k : CycleHeap) (a : State) (m d s : ℕ) → Stands k a
+pub copy_row : (k : CycleHeap) (a : State) (m d s : ℕ) → MarkStands k a
     → (b : State) × HeapAccepts a (heap.Copy m d s) (value_reply (slot_at k.heap m s)) b
-    × Stands (record k { heap = with_slot k.heap m d (slot_at k.heap m s) }) b
+    × MarkStands (record k { heap = with_slot k.heap m d (slot_at k.heap m s) }) b
 copy_row k a m d s stands =
     let value = slot_at k.heap m s in
     let same : slot_at a.world.heap m s ≡ value = ap (λ (h : Heap). slot_at h m s) stands.heap in (
@@ -71,9 +71,9 @@ copy_row k a m d s stands =
           (λ n is. slot_is_there k a stands m s n is),
     )
 
-pub drop_row : (k : CycleHeap) (a : State) (m s : ℕ) → Stands k a
+pub drop_row : (k : CycleHeap) (a : State) (m s : ℕ) → MarkStands k a
     → (b : State) × HeapAccepts a (heap.Drop m s) replies.Done b
-    × Stands (record k { heap = with_slot k.heap m s None }) b
+    × MarkStands (record k { heap = with_slot k.heap m s None }) b
 drop_row k a m s stands = (
   ticked (on_heap a (with_slot a.world.heap m s None)),
   (refl, refl),
@@ -94,15 +94,15 @@ field_of-leads : (allow : Allowed) (h : Heap) (held : Option ℕ) (i n : ℕ) �
 field_of-leads allow h None i n is = absurd (cc)
 field_of-leads allow h (Some m) i n is = (m, refl, field_of-target allow (object_at h.objects m) i n is)
 
-load_values : (k : CycleHeap) (a : State) (m d s i : ℕ) (value : Option ℕ) → Stands k a
+load_values : (k : CycleHeap) (a : State) (m d s i : ℕ) (value : Option ℕ) → MarkStands k a
     → field_in k.heap (slot_at k.heap m s) i ≡ value → has_slot k.heap m d ≡ true
-    → (b : State) × Loads a m d value (value_reply value) b × Stands (loaded k m d value) b
+    → (b : State) × Loads a m d value (value_reply value) b × MarkStands (loaded k m d value) b
 load_values k a m d s i None stands is there =
     let same : loaded k m d None ≡ record k { heap = with_slot k.heap m d None } =
     elim (cases_Bool (is_in k.phase Marking)) [ inl marking ↦ simp marking refl | inr quiet ↦ simp quiet refl ] in (
       ticked (on_heap a (with_slot a.world.heap m d None)),
       (refl, refl),
-      subst (λ (j : CycleHeap). Stands j (ticked (on_heap a (with_slot a.world.heap m d None)))) (sym same)
+      subst (λ (j : CycleHeap). MarkStands j (ticked (on_heap a (with_slot a.world.heap m d None)))) (sym same)
           (set_stands k a m d None stands (λ begun n none. absurd (cc)) (λ n none. absurd (cc))),
     )
 load_values k a m d s i (Some n) stands is there =
@@ -137,11 +137,11 @@ load_values k a m d s i (Some n) stands is there =
     (lead_is_not_white k a stands begun quiet source.0 n
     (slot_is_not_white k a stands begun m s source.0 source.1) source.2))) own_there)
     refl (ap (λ (h : Heap). with_slot h m d (Some n)) stands.heap) in
-    (row.0, row.1, subst (λ (j : CycleHeap). Stands j row.0) (sym same) row.2)
+    (row.0, row.1, subst (λ (j : CycleHeap). MarkStands j row.0) (sym same) row.2)
 
-pub load_row : (k : CycleHeap) (a : State) (m d s i : ℕ) → Stands k a → load_refusal k.heap m d s i ≡ None
+pub load_row : (k : CycleHeap) (a : State) (m d s i : ℕ) → MarkStands k a → load_refusal k.heap m d s i ≡ None
     → let value = field_in k.heap (slot_at k.heap m s) i in
-    (b : State) × HeapAccepts a (heap.Load m d s i) (value_reply value) b × Stands (loaded k m d value) b
+    (b : State) × HeapAccepts a (heap.Load m d s i) (value_reply value) b × MarkStands (loaded k m d value) b
 load_row k a m d s i stands accepted =
     let value = field_in k.heap (slot_at k.heap m s) i in
     let same : field_in a.world.heap (slot_at a.world.heap m s) i ≡ value =

@@ -166,8 +166,8 @@ whitened k now urgency = record k {
 }
 
 -- a cycle begins: all objects are white, and then the roots become grey
-abbrev pub begun : CycleHeap → ℕ → Urgency → CycleHeap
-begun k now urgency = shaded_all (whitened k now urgency) (roots_of k.heap)
+abbrev pub cycle_begun : CycleHeap → ℕ → Urgency → CycleHeap
+cycle_begun k now urgency = shaded_all (whitened k now urgency) (roots_of k.heap)
 
 -- the worker found the reference, if its referent is still white
 abbrev pub with_found : CycleHeap → ℕ → ℕ → CycleHeap
@@ -177,21 +177,21 @@ with_found k w n =
     else k
 
 -- the first of the grey list becomes black, and what its fields and it, as a kept soft reference, refer to becomes grey
-abbrev pub scanned_from : CycleHeap → ℕ → List ℕ → CycleHeap
-scanned_from k w [] = k
-scanned_from k w (n ∷ rest) =
+abbrev pub grey_scanned : CycleHeap → ℕ → List ℕ → CycleHeap
+grey_scanned k w [] = k
+grey_scanned k w (n ∷ rest) =
     with_found (shaded_all (record k { grey = rest }) (targets_at (is_kept (policy_in k)) k.heap.objects n)) w n
 
 abbrev pub scanned : CycleHeap → ℕ → CycleHeap
-scanned k w = scanned_from k w k.grey
+scanned k w = grey_scanned k w k.grey
 
 -- a phase begins
-abbrev pub with_phase : CycleHeap → Phase → CycleHeap
-with_phase k phase = record k { phase = phase }
+abbrev pub cycle_in_phase : CycleHeap → Phase → CycleHeap
+cycle_in_phase k phase = record k { phase = phase }
 
 -- the first that the worker found is looked at
-abbrev pub with_taken : CycleHeap → ℕ → CycleHeap
-with_taken k w = record k { found = slice_set k.found w (rest_of (list_at k.found w)) }
+abbrev pub with_found_taken : CycleHeap → ℕ → CycleHeap
+with_found_taken k w = record k { found = slice_set k.found w (rest_of (list_at k.found w)) }
 
 -- an object is due to be swept that is doomed once a sweep has begun
 abbrev pub is_due : CycleHeap → ℕ → Bool

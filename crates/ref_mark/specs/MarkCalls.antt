@@ -19,8 +19,8 @@ use Rattle.ref_base.specs.declared.reply.Reply.TheVariants as replies
 use Rattle.ref_objects.specs.Grounds.{unmarked, mint_refusal}
 use Rattle.ref_mark.specs.Worklists.{first_in}
 use Rattle.ref_mark.specs.CycleHeaps.{CycleHeap, with_made, loaded, value_got, with_got, with_cleared, reads_same}
-use Rattle.ref_mark.specs.CycleHeaps.{begun, scanned}
-use Rattle.ref_mark.specs.CycleHeaps.{with_phase}
+use Rattle.ref_mark.specs.CycleHeaps.{cycle_begun, scanned}
+use Rattle.ref_mark.specs.CycleHeaps.{cycle_in_phase}
 use Rattle.ref_mark.specs.MarkViews.{ground_of}
 
 -- this where nothing is refused, and else what becomes of the fault
@@ -73,16 +73,16 @@ is_of_marking heap.EndMark = true
 is_of_marking step = false
 
 -- a state with all that their refusals depend on
-abbrev pub refusing_state : CycleHeap → State
-refusing_state k = record (first_state k.heap.config) {
+abbrev pub refusing_cycle : CycleHeap → State
+refusing_cycle k = record (first_state k.heap.config) {
   world = record (first_world k.heap.config) { heap = k.heap; cycle = k.cycle; phase = k.phase };
   next = k.next;
   left = not (is_empty k.grey);
 }
 
 -- the fault of a step, or none where it is accepted: the abstract collector's own
-abbrev pub refusal_in : CycleHeap → NamedStep → Option Fault
-refusal_in k step = heap_refusal k.heap_no (refusing_state k) step
+abbrev pub refusal_in_cycle : CycleHeap → NamedStep → Option Fault
+refusal_in_cycle k step = heap_refusal k.heap_no (refusing_cycle k) step
 
 -- what a step that isn't refused answers
 abbrev pub reply_in : CycleHeap → NamedStep → Reply
@@ -118,18 +118,18 @@ done_in k (heap.Clear m s) = with_cleared k m s
 done_in k (heap.Hold m s) = record k { heap = with_hold_of k.heap (slot_at k.heap m s) }
 done_in k (heap.Adopt m d hold) = record k { heap = adopted k.heap m d hold.object }
 done_in k (heap.Release hold) = record k { heap = without_hold k.heap hold.object }
-done_in k (heap.Begin now how) = begun k now how
+done_in k (heap.Begin now how) = cycle_begun k now how
 done_in k (heap.Scan w) = scanned k w
-done_in k heap.EndMark = with_phase k Clearing
+done_in k heap.EndMark = cycle_in_phase k Clearing
 done_in k step = k
 
 -- the reply to a step, refused or not
-abbrev pub answer_in : CycleHeap → NamedStep → Reply
-answer_in k step = unless_refused (refusal_in k step) replies.Refused (reply_in k step)
+abbrev pub answer_in_cycle : CycleHeap → NamedStep → Reply
+answer_in_cycle k step = unless_refused (refusal_in_cycle k step) replies.Refused (reply_in k step)
 
 -- the heap after it
-abbrev pub after_in : CycleHeap → NamedStep → CycleHeap
-after_in k step = unless_refused (refusal_in k step) (λ fault. k) (done_in k step)
+abbrev pub after_in_cycle : CycleHeap → NamedStep → CycleHeap
+after_in_cycle k step = unless_refused (refusal_in_cycle k step) (λ fault. k) (done_in k step)
 
 -- the roots that the layer above has still to shade: as a cycle begins, the pending references
 abbrev pub late_roots : State → NamedStep → List ℕ

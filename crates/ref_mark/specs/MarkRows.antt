@@ -9,10 +9,10 @@ use Rattle.ref_base.specs.CollectorRows.{IsHeapRow, ticked, on_heap}
 use Rattle.ref_base.specs.declared.config.Config.{Config}
 use Rattle.ref_objects.specs.Grounds.{mint_refusal}
 use Rattle.ref_mark.specs.CycleHeaps.{CycleHeap, shaded_all}
-use Rattle.ref_mark.specs.MarkCalls.{refusal_in, answer_in, after_in, late_roots, unless_refused}
+use Rattle.ref_mark.specs.MarkCalls.{refusal_in_cycle, answer_in_cycle, after_in_cycle, late_roots, unless_refused}
 use Rattle.ref_mark.specs.MarkCalls.{after_mint_in}
 use Rattle.ref_mark.specs.MarkViews.{ground_of}
-use Rattle.ref_mark.specs.Standing.{Stands}
+use Rattle.ref_mark.specs.Standing.{MarkStands}
 
 -- the first state, where objects and cycles are numbered from these on
 abbrev pub starting_state : Config → ℕ → ℕ → State
@@ -24,16 +24,16 @@ starting_state config obj cycle = record (first_state config) {
 
 -- For each state that the heap stands for, the answered step is a row of the abstract collector, to a state that the
 -- heap then stands for, once the roots are shaded too that the layer above has.
-abbrev pub IsRowOf : CycleHeap → NamedStep → Type 0
-IsRowOf k step =
-    (a : State) → Stands k a
-    → (b : State) × IsHeapRow k.heap_no a step (answer_in k step) b
-    × Stands (shaded_all (after_in k step) (unless_refused (refusal_in k step) (λ fault. []) (late_roots a step))) b
+abbrev pub IsMarkRowOf : CycleHeap → NamedStep → Type 0
+IsMarkRowOf k step =
+    (a : State) → MarkStands k a
+    → (b : State) × IsHeapRow k.heap_no a step (answer_in_cycle k step) b
+    × MarkStands (shaded_all (after_in_cycle k step) (unless_refused (refusal_in_cycle k step) (λ fault. []) (late_roots a step))) b
 
 -- The collector has no row for a mint. For each state that the heap stands for, in which a root names the object, it
 -- then stands for the state with one more hold of it, at the next moment; and for the same state where it is refused.
 abbrev pub KeepsStanding : CycleHeap → ℕ → Type 0
 KeepsStanding k n =
-    (a : State) → Stands k a → has (graph_of a.world).roots n ≡ true
-    → Stands (after_mint_in k n)
+    (a : State) → MarkStands k a → has (graph_of a.world).roots n ≡ true
+    → MarkStands (after_mint_in k n)
     (unless_refused (mint_refusal (ground_of k) n) (λ fault. a) (ticked (on_heap a (with_hold a.world.heap n))))

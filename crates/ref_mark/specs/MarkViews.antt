@@ -7,18 +7,18 @@ use Rattle.ref_mark.specs.Worklists.{Worklist}
 use Rattle.ref_mark.specs.CycleHeaps.{CycleHeap}
 
 -- what stands in each of the lists
-abbrev pub lists_of : List Worklist → List (List ℕ)
-lists_of [] = []
-lists_of (l ∷ ls) = l.stands ∷ lists_of ls
+abbrev pub worklists_of : List Worklist → List (List ℕ)
+worklists_of [] = []
+worklists_of (l ∷ ls) = l.stands ∷ worklists_of ls
 
-abbrev pub seen : Ground → Worklist → List Worklist → Phase → Urgency → ℕ → CycleHeap
-seen g grey found phase urgency cycle = record {
+abbrev pub seen_marker : Ground → Worklist → List Worklist → Phase → Urgency → ℕ → CycleHeap
+seen_marker g grey found phase urgency cycle = record {
   heap = g.heap;
   heap_no = g.heap_no;
   next = g.next;
   marked = g.marked;
   grey = grey.stands;
-  found = lists_of found;
+  found = worklists_of found;
   phase = phase;
   urgency = urgency;
   cycle = cycle;

@@ -28,8 +28,8 @@ abbrev pub unsaid : CycleHeap → List ℕ
 unsaid k = if is_in k.phase Sweeping then doomed k else []
 
 -- the heap reads as this one, but for what isn't said
-abbrev pub Agrees : CycleHeap → Heap → Type 0
-Agrees k h = heap_but (unsaid k) h ≡ heap_but (unsaid k) (shown_heap k)
+abbrev pub ReadsAs : CycleHeap → Heap → Type 0
+ReadsAs k h = heap_but (unsaid k) h ≡ heap_but (unsaid k) (shown_heap k)
 
 -- ---- colours
 
@@ -113,8 +113,8 @@ pub record AreThere (k : CycleHeap) (roots : List ℕ) : Type 0 where
 
 -- The heap stands for the state: they agree in what they both have, the heap's as mutators read it, and each phase has
 -- what holds in it.
-pub record Stands (k : CycleHeap) (a : State) : Type 0 where
-  pub heap : Agrees k a.world.heap
+pub record MarkStands (k : CycleHeap) (a : State) : Type 0 where
+  pub heap : ReadsAs k a.world.heap
   pub next : a.next ≡ k.next
   pub urgency : a.world.urgency ≡ k.urgency
   pub cycle : a.world.cycle ≡ k.cycle

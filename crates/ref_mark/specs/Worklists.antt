@@ -20,8 +20,8 @@ abbrev pub rest_of : List ℕ → List ℕ
 rest_of [] = []
 rest_of (n ∷ ns) = ns
 
-abbrev pub without_first : Worklist → Worklist
-without_first l = record l { stands = rest_of l.stands }
+abbrev pub without_first_listed : Worklist → Worklist
+without_first_listed l = record l { stands = rest_of l.stands }
 
-abbrev pub emptied : Worklist → Worklist
-emptied l = record l { stands = [] }
+abbrev pub emptied_list : Worklist → Worklist
+emptied_list l = record l { stands = [] }

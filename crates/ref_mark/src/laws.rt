@@ -10,13 +10,13 @@ ghost use Rattle.ref_base.specs.Paths.{targets_at};
 ghost use Rattle.ref_base.specs.Worlds.{graph_of};
 ghost use Rattle.ref_mark.specs.CycleHeaps.{CycleHeap, policy_in, is_white, is_black, is_in_cycle};
 ghost use Rattle.ref_mark.specs.MarkCalls.{is_of_marking, names_freed};
-ghost use Rattle.ref_mark.specs.MarkRows.{IsRowOf, KeepsStanding};
-ghost use Rattle.ref_mark.specs.Standing.{Stands};
+ghost use Rattle.ref_mark.specs.MarkRows.{IsMarkRowOf, KeepsStanding};
+ghost use Rattle.ref_mark.specs.Standing.{MarkStands};
 
 /// Each step that is a call of a heap in its cycles, answered as it is and leaving what it leaves, is a row of the
 /// abstract collector, from each state that the heap stands for to one that it then stands for.
 pub fn each_step_of_marking_is_a_row()
-    ensures { (k : CycleHeap) (step : NamedStep) → is_of_marking step ≡ true → IsRowOf k step }
+    ensures { (k : CycleHeap) (step : NamedStep) → is_of_marking step ≡ true → IsMarkRowOf k step }
 {}
 
 /// A hold that is minted of what a root names leaves a heap that stands for the state with that hold more.
@@ -27,18 +27,18 @@ pub fn each_mint_keeps_standing()
 /// No slot of a heap that stands for a state names an object that was freed, so that each hold of it is a step of the
 /// heap.
 pub fn no_slot_names_what_was_freed()
-    ensures { (k : CycleHeap) (a : State) (m s : ℕ) → Stands k a → names_freed k m s ≡ false }
+    ensures { (k : CycleHeap) (a : State) (m s : ℕ) → MarkStands k a → names_freed k m s ≡ false }
 {}
 
 /// Between any two steps of a cycle what a root names isn't white: what a slot holds, what is held, what is pending.
 pub fn what_a_root_names_is_not_white()
-    ensures { (k : CycleHeap) (a : State) (n : ℕ) → Stands k a → is_in_cycle k.phase ≡ true
+    ensures { (k : CycleHeap) (a : State) (n : ℕ) → MarkStands k a → is_in_cycle k.phase ≡ true
         → has (graph_of a.world).roots n ≡ true → is_white k n ≡ false }
 {}
 
 /// Nor does a strong field or a kept soft reference of a black object lead to a white one. So once nothing is grey, no
 /// kept path leads to what is white then, which is what the mark's end dooms.
 pub fn no_black_object_leads_to_a_white_one()
-    ensures { (k : CycleHeap) (a : State) (m n : ℕ) → Stands k a → is_in_cycle k.phase ≡ true → is_black k m ≡ true
+    ensures { (k : CycleHeap) (a : State) (m n : ℕ) → MarkStands k a → is_in_cycle k.phase ≡ true → is_black k m ≡ true
         → has (targets_at (is_kept (policy_in k)) k.heap.objects m) n ≡ true → is_white k n ≡ false }
 {}

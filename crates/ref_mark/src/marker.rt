@@ -6,9 +6,9 @@ ghost use Rattle.ref_base.specs.CollectorRows.{value_reply};
 ghost use Rattle.ref_objects.specs.Grounds.{starting_refusal, IsMade};
 ghost use Rattle.ref_mark.specs.Worklists.{empty_worklist};
 ghost use Rattle.ref_mark.specs.CycleHeaps.{first_cycle_heap, is_in_cycle, shaded, shaded_if_any, young};
-ghost use Rattle.ref_mark.specs.MarkCalls.{answer_in, after_in, reply_of, done_reply};
+ghost use Rattle.ref_mark.specs.MarkCalls.{answer_in_cycle, after_in_cycle, reply_of, done_reply};
 ghost use Rattle.ref_mark.specs.MarkViews.{ground_of};
-ghost use Rattle.ref_mark.specs.Standing.{Stands};
+ghost use Rattle.ref_mark.specs.Standing.{MarkStands};
 ghost use Rattle.ref_mark.specs.MarkRows.{starting_state};
 
 mod barriers;
@@ -43,11 +43,11 @@ pub struct Marker<A: Allocator = Global> {
 
 impl<A: Allocator> Model for Marker<A> {
     ghost use Rattle.ref_mark.specs.CycleHeaps.{CycleHeap};
-    ghost use Rattle.ref_mark.specs.MarkViews.{seen, IsRoomy};
+    ghost use Rattle.ref_mark.specs.MarkViews.{seen_marker, IsRoomy};
 
     ghost Value = { CycleHeap };
 
-    ghost view = { λ m. seen m.objects m.grey m.found.items m.phase m.urgency m.cycle };
+    ghost view = { λ m. seen_marker m.objects m.grey m.found.items m.phase m.urgency m.cycle };
 
     ghost invariant = { λ m. IsRoomy m.objects m.grey m.found.items };
 }
@@ -58,7 +58,7 @@ impl<A: Allocator + Copy> Marker<A> {
     pub fn new(alloc: A, config: Config, heap_no: u64) -> Result<Self, Fault>
         ensures made { IsMade (starting_refusal config (record { obj = 1; cycle = 0; page = 1 }))
             (first_cycle_heap config heap_no 1 0) result }
-        ensures stands { IfOk result (λ heap. Stands heap (first_state config)) }
+        ensures stands { IfOk result (λ heap. MarkStands heap (first_state config)) }
     {
         Self::starting(alloc, config, heap_no, Start::FIRST)
     }
@@ -67,7 +67,7 @@ impl<A: Allocator + Copy> Marker<A> {
     pub fn starting(alloc: A, config: Config, heap_no: u64, start: Start) -> Result<Self, Fault>
         ensures made { IsMade (starting_refusal config start)
             (first_cycle_heap config heap_no start.obj start.cycle) result }
-        ensures stands { IfOk result (λ heap. Stands heap (starting_state config start.obj start.cycle)) }
+        ensures stands { IfOk result (λ heap. MarkStands heap (starting_state config start.obj start.cycle)) }
     {
         let objects = Objects::starting(alloc, config, heap_no, start)?;
         match worklists(alloc, config) {
@@ -107,8 +107,8 @@ impl<A: Allocator + Copy> Marker<A> {
     /// Makes a plain object, as `Objects::alloc_obj` does: `NoSuchActor`, `BadField`, `NumbersSpent`, `NoCell`. It is
     /// black from the start once a cycle has begun.
     pub fn alloc_obj(&mut self, mutator: MutNo, into: SlotNo, fields: u32) -> Result<ObjNo, Fault>
-        ensures answer { reply_of Reply.Object result ≡ answer_in self.old (HeapStep.New mutator into fields) }
-        ensures after { self.new ≡ after_in self.old (HeapStep.New mutator into fields) }
+        ensures answer { reply_of Reply.Object result ≡ answer_in_cycle self.old (HeapStep.New mutator into fields) }
+        ensures after { self.new ≡ after_in_cycle self.old (HeapStep.New mutator into fields) }
     {
         let no = self.objects.alloc_obj(mutator, into, fields)?;
         self.make_young(no);
@@ -127,8 +127,8 @@ impl<A: Allocator + Copy> Marker<A> {
         fields: u32,
     ) -> Result<ObjNo, Fault>
         ensures answer { reply_of Reply.Object result
-            ≡ answer_in self.old (HeapStep.Refer mutator strength into from queue fields) }
-        ensures after { self.new ≡ after_in self.old (HeapStep.Refer mutator strength into from queue fields) }
+            ≡ answer_in_cycle self.old (HeapStep.Refer mutator strength into from queue fields) }
+        ensures after { self.new ≡ after_in_cycle self.old (HeapStep.Refer mutator strength into from queue fields) }
     {
         let no = self
             .objects
@@ -146,8 +146,8 @@ impl<A: Allocator + Copy> Marker<A> {
         field: u32,
         from: SlotNo,
     ) -> Result<(), Fault>
-        ensures answer { reply_of done_reply result ≡ answer_in self.old (HeapStep.Store mutator into field from) }
-        ensures after { self.new ≡ after_in self.old (HeapStep.Store mutator into field from) }
+        ensures answer { reply_of done_reply result ≡ answer_in_cycle self.old (HeapStep.Store mutator into field from) }
+        ensures after { self.new ≡ after_in_cycle self.old (HeapStep.Store mutator into field from) }
     {
         self.objects.store(mutator, into, field, from)
     }
@@ -159,16 +159,16 @@ impl<A: Allocator + Copy> Marker<A> {
         into: SlotNo,
         from: SlotNo,
     ) -> Result<Option<ObjNo>, Fault>
-        ensures answer { reply_of value_reply result ≡ answer_in self.old (HeapStep.Copy mutator into from) }
-        ensures after { self.new ≡ after_in self.old (HeapStep.Copy mutator into from) }
+        ensures answer { reply_of value_reply result ≡ answer_in_cycle self.old (HeapStep.Copy mutator into from) }
+        ensures after { self.new ≡ after_in_cycle self.old (HeapStep.Copy mutator into from) }
     {
         self.objects.copy(mutator, into, from)
     }
 
     /// Empties a slot: `NoSuchActor`.
     pub fn drop_slot(&mut self, mutator: MutNo, slot: SlotNo) -> Result<(), Fault>
-        ensures answer { reply_of done_reply result ≡ answer_in self.old (HeapStep.Drop mutator slot) }
-        ensures after { self.new ≡ after_in self.old (HeapStep.Drop mutator slot) }
+        ensures answer { reply_of done_reply result ≡ answer_in_cycle self.old (HeapStep.Drop mutator slot) }
+        ensures after { self.new ≡ after_in_cycle self.old (HeapStep.Drop mutator slot) }
     {
         self.objects.drop_slot(mutator, slot)
     }

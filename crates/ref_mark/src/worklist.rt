@@ -2,7 +2,7 @@
 
 ghost use Rattle.std.specs.Prelude.{◌≡◌, ◌<◌, IfOk, length};
 ghost use Rattle.std.specs.VecDeque.{deque_capacity};
-ghost use Rattle.ref_mark.specs.Worklists.{empty_worklist, with_last, without_first, first_in, emptied};
+ghost use Rattle.ref_mark.specs.Worklists.{empty_worklist, with_last, without_first_listed, first_in, emptied_list};
 ghost use Rattle.ref_base.specs.Refusals.{is_empty};
 
 use ref_base::ObjNo;
@@ -57,14 +57,14 @@ impl<A: Allocator> Worklist<A> {
     /// Takes the first.
     pub(crate) fn take_first(&mut self) -> Option<ObjNo>
         ensures answer { result ≡ first_in self.old.stands }
-        ensures after { self.new ≡ without_first self.old }
+        ensures after { self.new ≡ without_first_listed self.old }
     {
         self.numbers.pop_front()
     }
 
     /// Takes all out. In time of how many there are.
     pub(crate) fn clear(&mut self)
-        ensures { self.new ≡ emptied self.old }
+        ensures { self.new ≡ emptied_list self.old }
     {
         self.numbers.clear();
     }

@@ -5,10 +5,10 @@ use Rattle.std.proofs.lemmas.Bool.{cases_Bool}
 use Rattle.std.proofs.lemmas.List.{get_or-set_same, get_or_read, length-set, length_push}
 use Rattle.std.specs.Option.{option_map, is_some}
 use Rattle.ref_base.specs.Members.{has}
-use Rattle.ref_objects.specs.Places.{cell_at, tabled_by, place_in, place_if_live, seen, AreFree, IsPlaced}
+use Rattle.ref_objects.specs.Places.{cell_at, tabled_by, place_in, place_if_live, seen_table, AreFree, IsPlaced}
 use Rattle.ref_objects.specs.Tables.{Tabled, Table, tabled_at, has_field, holds_in, is_unheld, changed_tabled}
 use Rattle.ref_objects.specs.Tables.{without_tabled}
-use Rattle.ref_objects.specs.Tables.{on_object, less_held, changed, without, freed}
+use Rattle.ref_objects.specs.Tables.{on_object, less_held, changed, without_object, table_freed}
 use Rattle.ref_base.specs.Heaps.{with_field}
 use Rattle.std.proofs.Common.{◌-◌, ◌≤◌, nat_lt, not}
 use Rattle.std.proofs.lemmas.Bool.{ltb-false, false≢true}
@@ -156,7 +156,7 @@ module _ {cells : List (Option Tabled)} {es : List Entry} {ps : List ℕ} {last 
         ap (λ c. tabled_by (set cells p c) es) after_it ∙ tabled_by-written (Some (f k.0)) own
         ∙ replaced-changed (tabled_by cells es) n f k.0 (found_at k.0 k.1) own
 
-    pub seen_changed : seen (set cells p new) es last ≡ changed (seen cells es last) n f
+    pub seen_changed : seen_table (set cells p new) es last ≡ changed (seen_table cells es last) n f
     seen_changed =
         λ i. record { tabled = tabled_by-changed i; room = length-set cells p new i; last = last }
 
@@ -185,7 +185,7 @@ module _ {cells : List (Option Tabled)} {es : List Entry} {ps : List ℕ} {last 
       stays (tabled_at (tabled_by cells es) n) (sym (told_of (λ k. nat_lt 0 (holds_in k)) was) ∙ held)
 
   pub seen_tabled : is_unheld (tabled_at (tabled_by cells es) n) ≡ false
-      → seen cells es last ≡ freed (seen cells es last) n
+      → seen_table cells es last ≡ table_freed (seen_table cells es last) n
   seen_tabled held = simp held refl
 
   module _ {new : Option Tabled} (is : new ≡ None) {free : List ℕ} (more : free ≡ ps ++ p ∷ []) where
@@ -194,9 +194,9 @@ module _ {cells : List (Option Tabled)} {es : List Entry} {ps : List ℕ} {last 
         ap (λ c. tabled_by (set cells p c) es) is ∙ tabled_by-written None tt ∙ replaced-none (tabled_by cells es) n
 
     pub seen_freed : is_unheld (tabled_at (tabled_by cells es) n) ≡ true
-        → seen (set cells p new) es last ≡ freed (seen cells es last) n
+        → seen_table (set cells p new) es last ≡ table_freed (seen_table cells es last) n
     seen_freed unheld =
-        let gone : seen (set cells p new) es last ≡ without (seen cells es last) n =
+        let gone : seen_table (set cells p new) es last ≡ without_object (seen_table cells es last) n =
         λ i. record { tabled = tabled_by-freed i; room = length-set cells p new i; last = last } in
         gone ∙ simp unheld refl
 
@@ -233,12 +233,12 @@ module _ {cells : List (Option Tabled)} {es : List Entry} {ps : List ℕ} {last 
   told_of_none f = sym (ap f missing_at)
 
   -- and a change of it is none
-  pub seen_missing_changed : (f : Tabled → Tabled) → seen cells es last ≡ changed (seen cells es last) n f
+  pub seen_missing_changed : (f : Tabled → Tabled) → seen_table cells es last ≡ changed (seen_table cells es last) n f
   seen_missing_changed f =
       ap (λ ks. record { tabled = ks; room = length cells; last = last })
       (sym (changed_tabled-none (tabled_by cells es) n f missing_at))
 
-  pub seen_missing_freed : seen cells es last ≡ freed (seen cells es last) n
+  pub seen_missing_freed : seen_table cells es last ≡ table_freed (seen_table cells es last) n
   seen_missing_freed =
       let stays : is_unheld (tabled_at (tabled_by cells es) n) ≡ false = ap is_unheld missing_at in simp stays refl
 

@@ -16,12 +16,12 @@ use Rattle.ref_base.specs.declared.config.Config.{Config}
 use Rattle.ref_base.specs.declared.fault.Fault.TheVariants.{NoCell}
 use Rattle.ref_objects.specs.Tables.{Tabled, Table, tabled_at, objects_of, holds_of, object_in, holds_in, tabled_fields}
 use Rattle.ref_objects.specs.Tables.{has_field, is_unheld, tabled_reference, first_from, held_from}
-use Rattle.ref_objects.specs.Tables.{on_object, more_held, less_held, changed, changed_tabled, made, with_tabled}
+use Rattle.ref_objects.specs.Tables.{on_object, more_held, less_held, changed, changed_tabled, made_entry, with_tabled}
 use Rattle.ref_objects.specs.Tables.{AllUpTo}
 use Rattle.ref_objects.specs.Tables as table
-use Rattle.ref_objects.specs.Grounds.{fields_in, kind_by, kind_in, least_from, with_heap, is_free, after_freeing}
+use Rattle.ref_objects.specs.Grounds.{fields_in, kind_by, kind_in, least_from, ground_with_heap, is_free, after_freeing}
 use Rattle.ref_objects.specs.Grounds.{AllFrom, IsInOrder}
-use Rattle.ref_objects.specs.GroundViews.{heap_of, seen, IsSound, made_at}
+use Rattle.ref_objects.specs.GroundViews.{heap_of, seen_ground, IsSoundGround, made_at}
 use Rattle.ref_objects.proofs.TabledLemmas.{object_at-objects_of, is_there-objects_of, objects_of-changed}
 use Rattle.ref_objects.proofs.TabledLemmas.{objects_of-same, objects_of-append, objects_of-without, IsRising-tail}
 use Rattle.ref_objects.proofs.TabledLemmas.{holds_of-changed, holds_of-made, holds_of-without, holds_of-dropped}
@@ -126,7 +126,7 @@ length-objects_of (k ∷ ks) = ap suc (length-objects_of ks)
 -- ---- a new object
 
 pub no_cell : (config : Config) (t : Table) (slots : List (Option ℕ)) (holds clock next k : ℕ)
-    → IsSound config t slots holds next → k ≤ 8 → next < 2 ^ 32 → (length t.tabled == t.room) ≡ true
+    → IsSoundGround config t slots holds next → k ≤ 8 → next < 2 ^ 32 → (length t.tabled == t.room) ≡ true
     → object_refusal (heap_of config t slots clock) next k ≡ Some NoCell
 no_cell config t slots holds clock next k sound few below full =
     let count : length t.tabled ≡ t.room = eqb-true (length t.tabled) t.room full in
@@ -136,7 +136,7 @@ no_cell config t slots holds clock next k sound few below full =
     rw (le-leb k 8 few, lt-ltb next (2 ^ 32) below, taken) refl
 
 pub has_cell : (config : Config) (t : Table) (slots : List (Option ℕ)) (holds clock next k : ℕ)
-    → IsSound config t slots holds next → k ≤ 8 → next < 2 ^ 32 → length t.tabled < t.room
+    → IsSoundGround config t slots holds next → k ≤ 8 → next < 2 ^ 32 → length t.tabled < t.room
     → object_refusal (heap_of config t slots clock) next k ≡ None
 has_cell config t slots holds clock next k sound few below spare =
     let same : length (objects_of t.tabled) ≡ length t.tabled = length-objects_of t.tabled in
@@ -145,33 +145,33 @@ has_cell config t slots holds clock next k sound few below spare =
     rw (le-leb k 8 few, lt-ltb next (2 ^ 32) below, room) refl
 
 pub sound_made : (config : Config) (t : Table) (slots : List (Option ℕ)) (holds next place k : ℕ) (r : Option Reference)
-    → IsSound config t slots holds next → next < 2 ^ 32
-    → IsSound config (with_tabled t (made next k r)) (slice_set slots place (Some next)) holds (next + 1)
+    → IsSoundGround config t slots holds next → next < 2 ^ 32
+    → IsSoundGround config (with_tabled t (made_entry next k r)) (slice_set slots place (Some next)) holds (next + 1)
 sound_made config t slots holds next place k r sound below = record {
   within = sound.within;
   room = sound.room;
   slot_count = length-set slots place (Some next) ∙ sound.slot_count;
-  counted = sound.counted ∙ ap length (sym (holds_of-made t.tabled (made next k r) refl));
+  counted = sound.counted ∙ ap length (sym (holds_of-made t.tabled (made_entry next k r) refl));
   given = omega arith;
   bounded = omega (arith, below);
 }
 
 pub seen_made : (config : Config) (heap_no : ℕ) (t : Table) (slots : List (Option ℕ)) (clock next place k : ℕ)
     (r : Option Reference)
-    → seen config heap_no (with_tabled t (made next k r)) (slice_set slots place (Some next)) clock (next + 1)
-    ≡ made_at (seen config heap_no t slots clock next) place k r
+    → seen_ground config heap_no (with_tabled t (made_entry next k r)) (slice_set slots place (Some next)) clock (next + 1)
+    ≡ made_at (seen_ground config heap_no t slots clock next) place k r
 seen_made config heap_no t slots clock next place k r =
     rw (
-      objects_of-append t.tabled (made next k r ∷ []),
-      holds_of-made t.tabled (made next k r) refl,
-      marked_of-made t.tabled (made next k r) refl,
+      objects_of-append t.tabled (made_entry next k r ∷ []),
+      holds_of-made t.tabled (made_entry next k r) refl,
+      marked_of-made t.tabled (made_entry next k r) refl,
     ) refl
 
 -- ---- an object changed
 
 pub sound_changed : (config : Config) (t : Table) (slots : List (Option ℕ)) (holds next n : ℕ) (f : Object → Object)
-    → ((o : Object) → (f o).no ≡ o.no) → IsSound config t slots holds next
-    → IsSound config (changed t n (on_object f)) slots holds next
+    → ((o : Object) → (f o).no ≡ o.no) → IsSoundGround config t slots holds next
+    → IsSoundGround config (changed t n (on_object f)) slots holds next
 sound_changed config t slots holds next n f keeps sound = record {
   within = sound.within;
   room = sound.room;
@@ -183,8 +183,8 @@ sound_changed config t slots holds next n f keeps sound = record {
 
 pub seen_changed : (config : Config) (heap_no : ℕ) (t : Table) (slots : List (Option ℕ)) (clock next n : ℕ)
     (f : Object → Object) → ((o : Object) → (f o).no ≡ o.no)
-    → seen config heap_no (changed t n (on_object f)) slots clock next
-    ≡ with_heap (seen config heap_no t slots clock next) (with_changed (heap_of config t slots clock) n f)
+    → seen_ground config heap_no (changed t n (on_object f)) slots clock next
+    ≡ ground_with_heap (seen_ground config heap_no t slots clock next) (with_changed (heap_of config t slots clock) n f)
 seen_changed config heap_no t slots clock next n f keeps =
     rw (
       objects_of-changed t.tabled n f,
@@ -261,10 +261,10 @@ holds_of-added (k ∷ ks) n rising there =
     ]
 
 module _ (config : Config) (t : Table) (slots : List (Option ℕ)) (holds next n : ℕ)
-    (sound : IsSound config t slots holds next) where
+    (sound : IsSoundGround config t slots holds next) where
   -- a change of an object's holds that is counted
   sound_counted : (f : Tabled → Tabled) (count : ℕ) → count ≡ length (holds_of (changed_tabled t.tabled n f))
-      → IsSound config (changed t n f) slots count next
+      → IsSoundGround config (changed t n f) slots count next
   sound_counted f count counted = record {
     within = sound.within;
     room = sound.room;
@@ -275,14 +275,14 @@ module _ (config : Config) (t : Table) (slots : List (Option ℕ)) (holds next n
   }
 
   pub sound_added : IsRising (numbers (objects_of t.tabled)) → is_some (tabled_at t.tabled n) ≡ true
-      → IsSound config (changed t n more_held) slots (holds + 1) next
+      → IsSoundGround config (changed t n more_held) slots (holds + 1) next
   sound_added rising there =
       let one : length (holds_of (changed_tabled t.tabled n more_held)) ≡ length (holds_of t.tabled) + 1 =
       ap length (holds_of-added t.tabled n rising there) ∙ length-one_more (holds_of t.tabled) n in
       sound_counted more_held (holds + 1) (omega (arith, one, sound.counted))
 
   pub sound_dropped : IsRising (numbers (objects_of t.tabled)) → 0 < holds_in (tabled_at t.tabled n)
-      → IsSound config (changed t n less_held) slots (holds - 1) next
+      → IsSoundGround config (changed t n less_held) slots (holds - 1) next
   sound_dropped rising held =
       let listed : has (holds_of t.tabled) n ≡ true =
       has-holds_of t.tabled n rising ∙ lt-ltb 0 (holds_in (tabled_at t.tabled n)) held in
@@ -312,7 +312,7 @@ is_unheld-tabled ks n rising =
     ∙ ap (λ b. is_there (objects_of ks) n && not b) (sym (has-holds_of ks n rising))
 
 pub sound_freed : (config : Config) (t : Table) (slots : List (Option ℕ)) (holds next n : ℕ)
-    → IsSound config t slots holds next → IsSound config (table.freed t n) slots holds next
+    → IsSoundGround config t slots holds next → IsSoundGround config (table.table_freed t n) slots holds next
 sound_freed config t slots holds next n sound =
     elim (cases_Bool (is_unheld (tabled_at t.tabled n))) [
       | inl unheld ↦
@@ -332,8 +332,8 @@ sound_freed config t slots holds next n sound =
 module _ (config : Config) (heap_no : ℕ) (t : Table) (slots : List (Option ℕ)) (clock next n : ℕ)
     (rising : IsRising (numbers (objects_of t.tabled))) where
   pub seen_added : is_some (tabled_at t.tabled n) ≡ true
-      → seen config heap_no (changed t n more_held) slots clock next
-      ≡ with_heap (seen config heap_no t slots clock next) (with_hold (heap_of config t slots clock) n)
+      → seen_ground config heap_no (changed t n more_held) slots clock next
+      ≡ ground_with_heap (seen_ground config heap_no t slots clock next) (with_hold (heap_of config t slots clock) n)
   seen_added there =
       rw (
         objects_of-same t.tabled n more_held (λ k. refl),
@@ -342,8 +342,8 @@ module _ (config : Config) (heap_no : ℕ) (t : Table) (slots : List (Option ℕ
       ) refl
 
   pub seen_dropped : 0 < holds_in (tabled_at t.tabled n)
-      → seen config heap_no (changed t n less_held) slots clock next
-      ≡ with_heap (seen config heap_no t slots clock next) (without_hold (heap_of config t slots clock) n)
+      → seen_ground config heap_no (changed t n less_held) slots clock next
+      ≡ ground_with_heap (seen_ground config heap_no t slots clock next) (without_hold (heap_of config t slots clock) n)
   seen_dropped held =
       rw (
         objects_of-same t.tabled n less_held (λ k. refl),
@@ -351,8 +351,8 @@ module _ (config : Config) (heap_no : ℕ) (t : Table) (slots : List (Option ℕ
         marked_of-changed t.tabled n less_held (λ k. refl) (λ k. refl),
       ) refl
 
-  pub seen_freed : seen config heap_no (table.freed t n) slots clock next
-      ≡ after_freeing (seen config heap_no t slots clock next) n
+  pub seen_freed : seen_ground config heap_no (table.table_freed t n) slots clock next
+      ≡ after_freeing (seen_ground config heap_no t slots clock next) n
   seen_freed =
       elim (cases_Bool (is_unheld (tabled_at t.tabled n))) [
         | inl unheld ↦

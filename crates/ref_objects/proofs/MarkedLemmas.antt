@@ -6,16 +6,16 @@ use Rattle.ref_base.specs.Graphs.{Object, is_there, numbers}
 use Rattle.ref_base.specs.Strengths.{IsRising}
 use Rattle.ref_base.specs.declared.config.Config.{Config}
 use Rattle.ref_objects.specs.Tables.{Table, tabled_at, objects_of, changed, is_unmarked_in, with_marked, AllUpTo}
-use Rattle.ref_objects.specs.Tables.{without_marks as without_table_marks}
-use Rattle.ref_objects.specs.Grounds.{with_mark, without_marks}
-use Rattle.ref_objects.specs.GroundViews.{seen, IsSound}
+use Rattle.ref_objects.specs.Tables.{table_unmarked as without_table_marks}
+use Rattle.ref_objects.specs.Grounds.{ground_marked, without_marks}
+use Rattle.ref_objects.specs.GroundViews.{seen_ground, IsSoundGround}
 use Rattle.ref_objects.proofs.MarkLemmas.{is_unmarked-tabled, marked_of-marked, marked_of-marked_again}
 use Rattle.ref_objects.proofs.MarkLemmas.{objects_of-with_marked, holds_of-with_marked}
 use Rattle.ref_objects.proofs.MarkLemmas.{objects_of-unmarked_tabled, holds_of-unmarked_tabled}
 use Rattle.ref_objects.proofs.UnmarkedLemmas.{marked_of-unmarked_tabled}
 
 pub sound_marked : (config : Config) (t : Table) (slots : List (Option ℕ)) (holds next n : ℕ)
-    → IsSound config t slots holds next → IsSound config (changed t n (with_marked true)) slots holds next
+    → IsSoundGround config t slots holds next → IsSoundGround config (changed t n (with_marked true)) slots holds next
 sound_marked config t slots holds next n sound = record {
   within = sound.within;
   room = sound.room;
@@ -27,8 +27,8 @@ sound_marked config t slots holds next n sound = record {
 
 pub seen_marked : (config : Config) (heap_no : ℕ) (t : Table) (slots : List (Option ℕ)) (clock next n : ℕ)
     → IsRising (numbers (objects_of t.tabled))
-    → seen config heap_no (changed t n (with_marked true)) slots clock next
-    ≡ with_mark (seen config heap_no t slots clock next) n
+    → seen_ground config heap_no (changed t n (with_marked true)) slots clock next
+    ≡ ground_marked (seen_ground config heap_no t slots clock next) n
 seen_marked config heap_no t slots clock next n rising =
     let same = is_unmarked-tabled t.tabled n rising in
     elim (cases_Bool (is_unmarked_in (tabled_at t.tabled n))) [
@@ -49,7 +49,7 @@ seen_marked config heap_no t slots clock next n rising =
     ]
 
 pub sound_without_marks : (config : Config) (t : Table) (slots : List (Option ℕ)) (holds next : ℕ)
-    → IsSound config t slots holds next → IsSound config (without_table_marks t) slots holds next
+    → IsSoundGround config t slots holds next → IsSoundGround config (without_table_marks t) slots holds next
 sound_without_marks config t slots holds next sound = record {
   within = sound.within;
   room = sound.room;
@@ -60,8 +60,8 @@ sound_without_marks config t slots holds next sound = record {
 }
 
 pub seen_without_marks : (config : Config) (heap_no : ℕ) (t : Table) (slots : List (Option ℕ)) (clock next : ℕ)
-    → seen config heap_no (without_table_marks t) slots clock next
-    ≡ without_marks (seen config heap_no t slots clock next)
+    → seen_ground config heap_no (without_table_marks t) slots clock next
+    ≡ without_marks (seen_ground config heap_no t slots clock next)
 seen_without_marks config heap_no t slots clock next =
     rw (objects_of-unmarked_tabled t.tabled, holds_of-unmarked_tabled t.tabled, marked_of-unmarked_tabled t.tabled) refl
 

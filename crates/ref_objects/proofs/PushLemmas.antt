@@ -6,7 +6,7 @@ use Rattle.std.proofs.lemmas.Bool.{cases_Bool, eq-eqb, false≢true}
 use Rattle.std.proofs.lemmas.List.{get_or-set_same, length-set, length_push}
 use Rattle.std.specs.List.{filter}
 use Rattle.std.specs.Option.{option_to_list}
-use Rattle.ref_objects.specs.Places.{cell_at, is_live, before, tabled_by, with_room, seen, NoneAbove, Rises, AreFree}
+use Rattle.ref_objects.specs.Places.{cell_at, is_live, before, tabled_by, with_room, seen_table, NoneAbove, Rises, AreFree}
 use Rattle.ref_objects.specs.Places.{IsPlaced}
 use Rattle.ref_objects.specs.Tables.{Tabled, with_tabled}
 use Rattle.ref_objects.specs.declared.index.Entry.{Entry}
@@ -20,9 +20,9 @@ use Rattle.ref_objects.proofs.PlaceLemmas.{length-filter_live}
 
 -- closed gaps change nothing that is seen; the cells are looked at through a slice that was lent
 pub seen_closed : {cells borrowed : List (Option Tabled)} {fs : List Entry} (es : List Entry) (last : ℕ)
-    → borrowed ≡ cells → fs ≡ filter (is_live borrowed) es → seen cells fs last ≡ seen cells es last
+    → borrowed ≡ cells → fs ≡ filter (is_live borrowed) es → seen_table cells fs last ≡ seen_table cells es last
 seen_closed {cells} {borrowed} {fs} es last same is =
-    ap (λ gs. seen cells gs last) (is ∙ ap (λ ds. filter (is_live ds) es) same)
+    ap (λ gs. seen_table cells gs last) (is ∙ ap (λ ds. filter (is_live ds) es) same)
     ∙ ap (λ ks. record { tabled = ks; room = length cells; last = last }) (tabled_by-filter cells es)
 
 pub placed_closed : {cells borrowed : List (Option Tabled)} {es fs : List Entry} {ps : List ℕ} {last : ℕ}
@@ -109,7 +109,7 @@ module _ {cells : List (Option Tabled)} {es fs : List Entry} {ps rest : List ℕ
         (tabled_by-set cells fs p c can.freed.within old absent ∙ can.room.same)
         ∙ ap (λ d. tabled_by cells es ++ before d n []) now ∙ simp own refl
 
-    pub seen_made : seen (set cells p c) gs n ≡ with_tabled (seen cells es last) k
+    pub seen_made : seen_table (set cells p c) gs n ≡ with_tabled (seen_table cells es last) k
     seen_made = λ i. record { tabled = tabled_by-made i; room = length-set cells p c i; last = (sym number) i }
 
     pub placed_made : IsPlaced (set cells p c) gs rest n

@@ -6,9 +6,9 @@ use Rattle.std.proofs.lemmas.Bool.{cases_Bool, eqb-true}
 use Rattle.std.proofs.lemmas.List.{length-replicate}
 use Rattle.ref_base.specs.Graphs.{numbers}
 use Rattle.ref_base.specs.Strengths.{IsRising}
-use Rattle.ref_objects.specs.Places.{cell_at, before, tabled_by, places_below, seen, AllAbove, NoneAbove, Rises}
+use Rattle.ref_objects.specs.Places.{cell_at, before, tabled_by, places_below, seen_table, AllAbove, NoneAbove, Rises}
 use Rattle.ref_objects.specs.Places.{AreFree, IsPlaced}
-use Rattle.ref_objects.specs.Tables.{Tabled, objects_of, AllUpTo, IsOrderly}
+use Rattle.ref_objects.specs.Tables.{Tabled, objects_of, AllUpTo, IsOrderlyTable}
 use Rattle.ref_objects.specs.declared.index.Entry.{Entry}
 use Rattle.ref_objects.proofs.FreeLemmas.{length-places_below, AreFree-places_below}
 
@@ -77,7 +77,7 @@ AllUpTo-tabled_by cells (e ∷ es) last given =
     (AllUpTo-tabled_by cells es last given.1)
 
 pub orderly : {cells : List (Option Tabled)} {es : List Entry} {ps : List ℕ} {last : ℕ} → IsPlaced cells es ps last
-    → IsOrderly (seen cells es last)
+    → IsOrderlyTable (seen_table cells es last)
 orderly {cells} {es} {ps} {last} placed = record {
   rising = IsRising-tabled_by cells es placed.rises;
   given = AllUpTo-tabled_by cells es last placed.given;

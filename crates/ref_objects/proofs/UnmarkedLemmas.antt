@@ -5,9 +5,9 @@ use Rattle.std.proofs.Common.{List, [], ◌∷◌, length, map, drop, Option, So
 use Rattle.std.proofs.lemmas.Bool.{cases_Bool, ltb-true, ltb-false, le-leb, lt-leb, eqb-true}
 use Rattle.std.proofs.lemmas.List.{length-map}
 use Rattle.std.proofs.Math.ListN.{get_or-map}
-use Rattle.ref_objects.specs.Places.{cell_at, before, tabled_by, count_below, is_unmarked_as, is_unmarked}
-use Rattle.ref_objects.specs.Places.{first_unmarked, unmarked_cell, seen, AllAbove, Rises, AreFree, IsPlaced}
-use Rattle.ref_objects.specs.Tables.{Tabled, unmarked_from, unmarked_tabled, marked_of, without_marks}
+use Rattle.ref_objects.specs.Places.{cell_at, before, tabled_by, count_below, is_unmarked_as, is_unmarked_entry}
+use Rattle.ref_objects.specs.Places.{first_unmarked, unmarked_cell, seen_table, AllAbove, Rises, AreFree, IsPlaced}
+use Rattle.ref_objects.specs.Tables.{Tabled, unmarked_from, unmarked_tabled, marked_of, table_unmarked}
 use Rattle.ref_objects.specs.declared.index.Entry.{Entry}
 
 -- ---- the first that isn't marked
@@ -42,7 +42,7 @@ unmarked_from-above cells [] n m order above = refl
 unmarked_from-above cells (e ∷ es) n m order above =
     let over : m < e.no = above.0 in
     unmarked_from-own (cell_at cells e.place) e.no n (tabled_by cells es) (omega arith)
-    ∙ ap (λ (o : Option ℕ). if is_unmarked cells e then Some e.no else o)
+    ∙ ap (λ (o : Option ℕ). if is_unmarked_entry cells e then Some e.no else o)
     (unmarked_from-above cells es n m order above.1)
 
 -- it is that of the first entry, after those below it, whose object isn't marked
@@ -59,7 +59,7 @@ unmarked_from-first cells (e ∷ es) n rises =
           let no_less : n ≤ e.no = ltb-false e.no n above in
           simp above
           (unmarked_from-own (cell_at cells e.place) e.no n (tabled_by cells es) no_less
-          ∙ ap (λ (o : Option ℕ). if is_unmarked cells e then Some e.no else o)
+          ∙ ap (λ (o : Option ℕ). if is_unmarked_entry cells e then Some e.no else o)
           (unmarked_from-above cells es n e.no no_less rises.0))
     ]
 
@@ -106,7 +106,7 @@ module _ (cells : List (Option Tabled)) {ds : List (Option Tabled)} (is : ds ≡
   pub length-without_marks : length ds ≡ length cells
   length-without_marks = ap length is ∙ length-map cells unmarked_cell
 
-  pub seen_without_marks : (last : ℕ) → seen ds es last ≡ without_marks (seen cells es last)
+  pub seen_without_marks : (last : ℕ) → seen_table ds es last ≡ table_unmarked (seen_table cells es last)
   seen_without_marks last =
       λ i. record { tabled = tabled_by-without_marks i; room = length-without_marks i; last = last }
 

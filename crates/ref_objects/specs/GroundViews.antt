@@ -18,8 +18,8 @@ heap_of config table slots clock = record {
   clock = clock;
 }
 
-abbrev pub seen : Config → ℕ → Table → List (Option ℕ) → ℕ → ℕ → Ground
-seen config heap_no table slots clock next = record {
+abbrev pub seen_ground : Config → ℕ → Table → List (Option ℕ) → ℕ → ℕ → Ground
+seen_ground config heap_no table slots clock next = record {
   heap = heap_of config table slots clock;
   heap_no = heap_no;
   next = next;
@@ -28,7 +28,7 @@ seen config heap_no table slots clock next = record {
 
 -- The configuration is within its limits; there is a cell for each object that it allows, and a slot for each; holds are
 -- counted; and each number that was given is below the next, which is at most 2^32.
-pub record IsSound (config : Config) (table : Table) (slots : List (Option ℕ)) (holds next : ℕ) : Type 0 where
+pub record IsSoundGround (config : Config) (table : Table) (slots : List (Option ℕ)) (holds next : ℕ) : Type 0 where
   pub within : is_within_limits config ≡ true
   pub room : table.room ≡ config.cells
   pub slot_count : length slots ≡ 16 * config.mutators

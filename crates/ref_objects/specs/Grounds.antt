@@ -68,12 +68,12 @@ GivesBack refusal hold (Err back) = (refusal ≡ Some back.0) × (back.1 ≡ hol
 abbrev pub mint_refusal : Ground → ℕ → Option Fault
 mint_refusal g n = unless (is_there g.heap.objects n) NoSuchObject (holds_refusal g.heap)
 
-abbrev pub held_refusal : Ground → Option ℕ → Option Fault
-held_refusal g None = Some EmptySlot
-held_refusal g (Some n) = mint_refusal g n
+abbrev pub held_mint_refusal : Ground → Option ℕ → Option Fault
+held_mint_refusal g None = Some EmptySlot
+held_mint_refusal g (Some n) = mint_refusal g n
 
-abbrev pub hold_refusal : Ground → ℕ → ℕ → Option Fault
-hold_refusal g m s = unless (has_slot g.heap m s) NoSuchActor (held_refusal g (slot_at g.heap m s))
+abbrev pub holding_refusal : Ground → ℕ → ℕ → Option Fault
+holding_refusal g m s = unless (has_slot g.heap m s) NoSuchActor (held_mint_refusal g (slot_at g.heap m s))
 
 -- the hold is one of this heap, which counts it
 abbrev pub release_refusal : Ground → HoldName → Option Fault
@@ -130,16 +130,16 @@ abbrev pub if_done : {T E S : Type 0} → Result T E → S → S → S
 if_done (Ok answer) after before = after
 if_done (Err fault) after before = before
 
-abbrev pub with_heap : Ground → Heap → Ground
-with_heap g heap = record g { heap = heap }
+abbrev pub ground_with_heap : Ground → Heap → Ground
+ground_with_heap g heap = record g { heap = heap }
 
 -- one more object, in the slot
-abbrev pub with_object : Ground → ℕ → ℕ → Object → Ground
-with_object g m d o = record g { heap = made g.heap m d o; next = g.next + 1 }
+abbrev pub with_new_object : Ground → ℕ → ℕ → Object → Ground
+with_new_object g m d o = record g { heap = made g.heap m d o; next = g.next + 1 }
 
 -- one more hold of what was minted
 abbrev pub after_minting : Ground → Result HoldName Fault → Ground
-after_minting g (Ok hold) = with_heap g (with_hold g.heap hold.object)
+after_minting g (Ok hold) = ground_with_heap g (with_hold g.heap hold.object)
 after_minting g (Err fault) = g
 
 -- there is such an object, and nobody holds it
@@ -157,8 +157,8 @@ abbrev pub is_unmarked : Ground → ℕ → Bool
 is_unmarked g n = is_there g.heap.objects n && not (has g.marked n)
 
 -- the object of this number is marked, if there is one
-abbrev pub with_mark : Ground → ℕ → Ground
-with_mark g n = if is_unmarked g n then record g { marked = one_more g.marked n } else g
+abbrev pub ground_marked : Ground → ℕ → Ground
+ground_marked g n = if is_unmarked g n then record g { marked = one_more g.marked n } else g
 
 -- no object is marked
 abbrev pub without_marks : Ground → Ground

@@ -115,7 +115,7 @@ pub record IsPlaced (cells : List (Option Tabled)) (index : List Entry) (places 
 
 -- what holds of a table's fields: that, no push to the index or to the free places ever takes memory, and the marked
 -- objects are counted
-pub record IsSound (cells : List (Option Tabled)) (index : List Entry) (places : List ℕ)
+pub record IsSoundTable (cells : List (Option Tabled)) (index : List Entry) (places : List ℕ)
     (last index_room places_room marked : ℕ) : Type 0 where
   pub placed : IsPlaced cells index places last
   pub index_fits : 2 * length cells ≤ index_room
@@ -123,8 +123,8 @@ pub record IsSound (cells : List (Option Tabled)) (index : List Entry) (places :
   pub marks_counted : marked ≡ length (marked_of (tabled_by cells index))
 
 -- what a contract sees of a table's fields
-abbrev pub seen : List (Option Tabled) → List Entry → ℕ → Table
-seen cells index last = record { tabled = tabled_by cells index; room = length cells; last = last }
+abbrev pub seen_table : List (Option Tabled) → List Entry → ℕ → Table
+seen_table cells index last = record { tabled = tabled_by cells index; room = length cells; last = last }
 
 -- so many of the places below room, from the highest down
 abbrev pub places_below : ℕ → ℕ → List ℕ
@@ -139,13 +139,13 @@ is_unmarked_as None n = false
 is_unmarked_as (Some k) n = k.object.no == n && not k.marked
 
 -- whether the cell that an entry names still holds the entry's object, and that isn't marked
-abbrev pub is_unmarked : List (Option Tabled) → Entry → Bool
-is_unmarked cells e = is_unmarked_as (cell_at cells e.place) e.no
+abbrev pub is_unmarked_entry : List (Option Tabled) → Entry → Bool
+is_unmarked_entry cells e = is_unmarked_as (cell_at cells e.place) e.no
 
 -- the number of the first entry whose object isn't marked
 abbrev pub first_unmarked : List (Option Tabled) → List Entry → Option ℕ
 first_unmarked cells [] = None
-first_unmarked cells (e ∷ es) = if is_unmarked cells e then Some e.no else first_unmarked cells es
+first_unmarked cells (e ∷ es) = if is_unmarked_entry cells e then Some e.no else first_unmarked cells es
 
 -- what a cell holds, unmarked
 abbrev pub unmarked_cell : Option Tabled → Option Tabled

@@ -86,7 +86,7 @@ AllUpTo last [] = Unit {0}
 AllUpTo last (n ∷ ns) = (n ≤ last) × AllUpTo last ns
 
 -- what holds of every table: the numbers rise, none is above the last that was given, and the objects have room
-pub record IsOrderly (t : Table) : Type 0 where
+pub record IsOrderlyTable (t : Table) : Type 0 where
   pub rising : IsRising (numbers (objects_of t.tabled))
   pub given : AllUpTo t.last (numbers (objects_of t.tabled))
   pub few : length t.tabled ≤ t.room
@@ -119,16 +119,16 @@ abbrev pub changed : Table → ℕ → (Tabled → Tabled) → Table
 changed t n f = record t { tabled = changed_tabled t.tabled n f }
 
 -- the table without the object of number n
-abbrev pub without : Table → ℕ → Table
-without t n = record t { tabled = without_tabled t.tabled n }
+abbrev pub without_object : Table → ℕ → Table
+without_object t n = record t { tabled = without_tabled t.tabled n }
 
 -- the table without the object of number n, where nobody holds it
-abbrev pub freed : Table → ℕ → Table
-freed t n = if is_unheld (tabled_at t.tabled n) then without t n else t
+abbrev pub table_freed : Table → ℕ → Table
+table_freed t n = if is_unheld (tabled_at t.tabled n) then without_object t n else t
 
 -- an object that nobody holds, unmarked and of so many null fields
-abbrev pub made : ℕ → ℕ → Option Reference → Tabled
-made n count reference = record {
+abbrev pub made_entry : ℕ → ℕ → Option Reference → Tabled
+made_entry n count reference = record {
   object = record { no = n; fields = replicate count None; reference = reference };
   holds = 0;
   marked = false;
@@ -175,5 +175,5 @@ unmarked_tabled [] = []
 unmarked_tabled (k ∷ ks) = with_marked false k ∷ unmarked_tabled ks
 
 -- the table with none of its objects marked
-abbrev pub without_marks : Table → Table
-without_marks t = record t { tabled = unmarked_tabled t.tabled }
+abbrev pub table_unmarked : Table → Table
+table_unmarked t = record t { tabled = unmarked_tabled t.tabled }

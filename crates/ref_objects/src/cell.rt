@@ -4,7 +4,7 @@ ghost use Rattle.std.specs.Prelude.{◌≡◌, ◌-◌, ◌^◌, ◌<◌, ◌≤
 ghost use Rattle.std.specs.Option.{option_map};
 ghost use Rattle.ref_base.specs.Heaps.{with_field, with_reference, with_stamp, cleared};
 ghost use Rattle.ref_objects.specs.Places.{is_of, is_held_as, is_unmarked_as, unmarked_cell};
-ghost use Rattle.ref_objects.specs.Tables.{made, tabled_fields, has_field, tabled_reference, holds_in};
+ghost use Rattle.ref_objects.specs.Tables.{made_entry, tabled_fields, has_field, tabled_reference, holds_in};
 ghost use Rattle.ref_objects.specs.Tables.{on_object, more_held, less_held};
 ghost use Rattle.ref_objects.specs.Tables.{is_marked_in, is_unmarked_in, with_marked};
 
@@ -52,7 +52,7 @@ impl Cell {
     /// The cell of a new object that nobody holds, unmarked, with so many null fields.
     pub(crate) fn of(no: ObjNo, count: usize, reference: Option<Reference>) -> Self
         requires { count ≤ 8 }
-        ensures { result ≡ Some (made no count reference) }
+        ensures { result ≡ Some (made_entry no count reference) }
     {
         Cell {
             no: Some(no),

@@ -6,7 +6,7 @@ ghost use Rattle.std.specs.List.{filter};
 ghost use Rattle.std.specs.Vec.{vec_capacity};
 ghost use Rattle.ref_objects.specs.Places.{is_live, is_held, tabled_by, place_in, place_if_live, lent};
 ghost use Rattle.ref_objects.specs.Places.{count_below, first_live, first_held, with_room, Rises};
-ghost use Rattle.ref_objects.specs.Places.{is_unmarked, first_unmarked};
+ghost use Rattle.ref_objects.specs.Places.{is_unmarked_entry, first_unmarked};
 ghost use Rattle.ref_objects.specs.Tables.{first_from, held_from, unmarked_from, tabled_at};
 
 use crate::cell::Cell;
@@ -148,7 +148,7 @@ pub(crate) fn make_room<A: Allocator>(index: &mut Vec<Entry, A>, cells: &[Cell],
 
 // Whether the entry's object is still there, and isn't marked.
 fn is_unmarked(cells: &[Cell], entry: Entry) -> bool
-    ensures { result ≡ is_unmarked cells.now entry }
+    ensures { result ≡ is_unmarked_entry cells.now entry }
 {
     match cells.get(entry.place as usize) {
         Some(cell) => cell.is_unmarked_as(entry.no),

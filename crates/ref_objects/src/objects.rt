@@ -10,7 +10,7 @@ ghost use Rattle.ref_base.specs.Heaps.{reference_made, new_reference};
 ghost use Rattle.ref_base.specs.Refusals.{has_slot, is_queue_or_none, new_refusal, refer_refusal};
 ghost use Rattle.ref_base.specs.Refusals.{store_refusal, drop_refusal, copy_refusal, object_refusal, field_refusal};
 ghost use Rattle.ref_objects.specs.Grounds.{first_ground, starting_refusal, IsMade, IsRefused, if_done};
-ghost use Rattle.ref_objects.specs.Grounds.{with_heap, with_object};
+ghost use Rattle.ref_objects.specs.Grounds.{ground_with_heap, with_new_object};
 ghost use Rattle.ref_objects.specs.GroundViews.{made_at};
 
 mod holds;
@@ -46,13 +46,13 @@ pub struct Objects<A: Allocator = Global> {
 
 impl<A: Allocator> Model for Objects<A> {
     ghost use Rattle.ref_objects.specs.Grounds.{Ground};
-    ghost use Rattle.ref_objects.specs.GroundViews.{seen, IsSound};
+    ghost use Rattle.ref_objects.specs.GroundViews.{seen_ground, IsSoundGround};
 
     ghost Value = { Ground };
 
-    ghost view = { λ o. seen o.config o.heap_no o.table o.slots.items o.clock o.next };
+    ghost view = { λ o. seen_ground o.config o.heap_no o.table o.slots.items o.clock o.next };
 
-    ghost invariant = { λ o. IsSound o.config o.table o.slots.items o.holds o.next };
+    ghost invariant = { λ o. IsSoundGround o.config o.table o.slots.items o.holds o.next };
 }
 
 impl<A: Allocator + Copy> Objects<A> {
@@ -94,7 +94,7 @@ impl<A: Allocator + Copy> Objects<A> {
         ensures refused { IsRefused (new_refusal self.old.heap self.old.next mutator into fields) result }
         ensures answer { IfOk result (λ no. no ≡ self.old.next) }
         ensures after { self.new ≡ if_done result
-            (with_object self.old mutator into (plain_object self.old.next (nulls fields))) self.old }
+            (with_new_object self.old mutator into (plain_object self.old.next (nulls fields))) self.old }
     {
         let place = self.place(mutator, into)?;
         self.make(place, fields, None)
@@ -115,7 +115,7 @@ impl<A: Allocator + Copy> Objects<A> {
         ensures refused { IsRefused (refer_refusal self.old.heap self.old.next mutator into from queue fields) result }
         ensures answer { IfOk result (λ no. no ≡ self.old.next) }
         ensures after { self.new ≡ if_done result
-            (with_object self.old mutator into
+            (with_new_object self.old mutator into
             (new_reference self.old.heap self.old.next strength (slot_at self.old.heap mutator from)
             queue fields)) self.old }
     {
@@ -140,7 +140,7 @@ impl<A: Allocator + Copy> Objects<A> {
     ) -> Result<(), Fault>
         ensures refused { IsRefused (store_refusal self.old.heap mutator into field from) result }
         ensures after { self.new ≡ if_done result
-            (with_heap self.old (stored self.old.heap mutator into field from)) self.old }
+            (ground_with_heap self.old (stored self.old.heap mutator into field from)) self.old }
     {
         let target = self.place(mutator, into)?;
         let source = self.place(mutator, from)?;
@@ -153,7 +153,7 @@ impl<A: Allocator + Copy> Objects<A> {
     pub fn drop_slot(&mut self, mutator: MutNo, slot: SlotNo) -> Result<(), Fault>
         ensures refused { IsRefused (drop_refusal self.old.heap mutator slot) result }
         ensures after { self.new ≡ if_done result
-            (with_heap self.old (with_slot self.old.heap mutator slot None)) self.old }
+            (ground_with_heap self.old (with_slot self.old.heap mutator slot None)) self.old }
     {
         self.set_slot(mutator, slot, None)
     }
@@ -169,7 +169,7 @@ impl<A: Allocator + Copy> Objects<A> {
         ensures refused { IsRefused (copy_refusal self.old.heap mutator into from) result }
         ensures answer { IfOk result (λ value. value ≡ slot_at self.old.heap mutator from) }
         ensures after { self.new ≡ if_done result
-            (with_heap self.old (with_slot self.old.heap mutator into (slot_at self.old.heap mutator from))) self.old }
+            (ground_with_heap self.old (with_slot self.old.heap mutator into (slot_at self.old.heap mutator from))) self.old }
     {
         let place = self.place(mutator, into)?;
         let source = self.place(mutator, from)?;
@@ -271,7 +271,7 @@ impl<A: Allocator + Copy> Objects<A> {
     fn set_field(&mut self, no: ObjNo, field: u32, value: Option<ObjNo>) -> Result<(), Fault>
         ensures refused { IsRefused (field_refusal self.old.heap (Some no) field) result }
         ensures after { self.new ≡ if_done result
-            (with_heap self.old (with_changed self.old.heap no (with_field field value))) self.old }
+            (ground_with_heap self.old (with_changed self.old.heap no (with_field field value))) self.old }
     {
         if !self.table.set_field(no, field as usize, value) {
             return Err(Fault::BadField);

@@ -39,23 +39,23 @@ impl<A: Allocator> Model for Table<A> {
 
     ghost Value = { Data };
 
-    ghost use Rattle.ref_objects.specs.Places.{IsSound, seen};
+    ghost use Rattle.ref_objects.specs.Places.{IsSoundTable, seen_table};
 
-    ghost view = { λ t. seen t.cells.items t.index.items t.last };
+    ghost view = { λ t. seen_table t.cells.items t.index.items t.last };
 
-    ghost invariant = { λ t. IsSound t.cells.items t.index.items t.free.items t.last
+    ghost invariant = { λ t. IsSoundTable t.cells.items t.index.items t.free.items t.last
         (vec_capacity t.index) (vec_capacity t.free) t.marked };
 }
 
 impl<A: Allocator + Copy> Table<A> {
-    ghost use Rattle.ref_objects.specs.Tables.{IsOrderly, empty_table};
+    ghost use Rattle.ref_objects.specs.Tables.{IsOrderlyTable, empty_table};
     ghost use Rattle.ref_objects.specs.Tables.{tabled_at, tabled_reference, tabled_fields, has_field};
     ghost use Rattle.ref_objects.specs.Tables.{holds_in, holds_of, is_unheld};
     ghost use Rattle.ref_objects.specs.Tables.{first_from, held_from};
     ghost use Rattle.ref_objects.specs.Tables.{on_object, more_held, less_held};
-    ghost use Rattle.ref_objects.specs.Tables.{changed, freed, made, with_tabled};
+    ghost use Rattle.ref_objects.specs.Tables.{changed, table_freed, made_entry, with_tabled};
     ghost use Rattle.ref_objects.specs.Tables.{is_marked_in, is_unmarked_in, marked_of, unmarked_from, with_marked};
-    ghost use Rattle.ref_objects.specs.Tables.{without_marks};
+    ghost use Rattle.ref_objects.specs.Tables.{table_unmarked};
 
     /// A table of no objects, with so many free cells. The one error is `NoMemory`.
     pub(crate) fn new(alloc: A, room: usize) -> Result<Self, Fault>
@@ -86,7 +86,7 @@ impl<A: Allocator + Copy> Table<A> {
     /// How many objects there are.
     pub(crate) fn len(&self) -> usize
         ensures count { result ≡ length self.now.tabled }
-        ensures orderly { IsOrderly self.now }
+        ensures orderly { IsOrderlyTable self.now }
     {
         self.cells.len() - self.free.len()
     }
@@ -214,7 +214,7 @@ impl<A: Allocator + Copy> Table<A> {
         requires fields { count ≤ 8 }
         requires rises { self.old.last < no }
         requires room { length self.old.tabled < self.old.room }
-        ensures { self.new ≡ with_tabled self.old (made no count reference) }
+        ensures { self.new ≡ with_tabled self.old (made_entry no count reference) }
     {
         make_room(&mut self.index, &self.cells, 2 * self.cells.len());
         let place = self.free.pop().unwrap();
@@ -226,7 +226,7 @@ impl<A: Allocator + Copy> Table<A> {
     /// Frees the object of this number. False where there is none, or it is held: then nothing changes.
     pub(crate) fn free(&mut self, no: ObjNo) -> bool
         ensures answer { result ≡ is_unheld (tabled_at self.old.tabled no) }
-        ensures after { self.new ≡ freed self.old no }
+        ensures after { self.new ≡ table_freed self.old no }
     {
         let Some(place) = place_of(&self.cells, &self.index, no) else {
             return false;
@@ -303,7 +303,7 @@ impl<A: Allocator + Copy> Table<A> {
 
     /// Takes every mark away. In time of the cells.
     pub(crate) fn unmark_all(&mut self)
-        ensures { self.new ≡ without_marks self.old }
+        ensures { self.new ≡ table_unmarked self.old }
     {
         unmark(&mut self.cells);
         self.marked = 0;

@@ -6,7 +6,7 @@ use Rattle.std.proofs.lemmas.Bool.{true≢false}
 use Rattle.ref_base.specs.QueueLists.{Lists}
 use Rattle.ref_base.specs.declared.fault.Fault.TheVariants.{WrongQueue, NoMemory, TableClosed, RegisteredTwice}
 use Rattle.ref_queue.specs.CleanTables.{Registry, Registers, Takes, TakesAny, FindsFirst}
-use Rattle.ref_queue.specs.QueueAnswers.{AnswersPut, Polls}
+use Rattle.ref_queue.specs.QueueAnswers.{AnswersPut, AnswersPoll}
 use Rattle.ref_queue.proofs.TableLemmas.{either_first, first_out}
 use Rattle.ref_queue.specs.declared.queue.Put.TheVariants.{Added, Already, Closed}
 use Rattle.ref_queue.specs.declared.queue.Polled.TheVariants.{Took, Empty, Closed as Ended}
@@ -55,18 +55,18 @@ memory_is_not_wanted_before_a_repeat_is_told : ¬ (AnswersPut object_of queue_of
     (Err (NoMemory, (7, 1))))
 memory_is_not_wanted_before_a_repeat_is_told is = true≢false is.0.1
 
-it_is_taken : Polls object_of one_stands (Took (8, 1)) (record one_stands { taken = 7 ∷ 8 ∷ []; stands = [] })
+it_is_taken : AnswersPoll object_of one_stands (Took (8, 1)) (record one_stands { taken = 7 ∷ 8 ∷ []; stands = [] })
 it_is_taken = (refl, refl)
 
-it_is_not_empty_while_something_stands : ¬ (Polls object_of one_stands Empty one_stands)
+it_is_not_empty_while_something_stands : ¬ (AnswersPoll object_of one_stands Empty one_stands)
 it_is_not_empty_while_something_stands is = let none = is.0 in absurd cc
 
 the_last_is_not_taken_first : (left : Lists Slip)
-    → ¬ (Polls object_of (record one_stands { stands = (8, 1) ∷ (9, 1) ∷ [] }) (Took (9, 1)) left)
+    → ¬ (AnswersPoll object_of (record one_stands { stands = (8, 1) ∷ (9, 1) ∷ [] }) (Took (9, 1)) left)
 the_last_is_not_taken_first left is =
     let first : 8 ≡ 9 = ap (λ (slips : List Slip). (get_or slips 0 (0, 0)).0) is.0 in absurd (omega (arith, first))
 
-it_says_closed_once_nothing_stands : Polls object_of (record closed_queue { stands = [] }) Ended
+it_says_closed_once_nothing_stands : AnswersPoll object_of (record closed_queue { stands = [] }) Ended
     (record closed_queue { stands = [] })
 it_says_closed_once_nothing_stands = (refl, refl, refl)
 

@@ -5,8 +5,8 @@ use Rattle.std.proofs.lemmas.List.{take_at, length-map}
 use Rattle.std.specs.List.{list_any}
 use Rattle.ref_base.specs.Members.{has}
 use Rattle.ref_base.proofs.HasLaws.{has-list_any}
-use Rattle.ref_queue.specs.QueueViews.{front, seen, IsSound}
-use Rattle.ref_queue.specs.QueueAnswers.{Polls}
+use Rattle.ref_queue.specs.QueueViews.{front, seen_queue, IsSoundQueue}
+use Rattle.ref_queue.specs.QueueAnswers.{AnswersPoll}
 use Rattle.ref_queue.specs.declared.queue.Polled.TheVariants.{Took, Empty, Closed}
 
 -- a list of length 0 is empty
@@ -31,7 +31,7 @@ module _ {T : Type 0} (object_of : T → ℕ) where
       ap (λ ms. front ms rest) split ∙ front-append (before ++ object_of x ∷ []) rest
 
 module _ {T : Type 0} {object_of queue_of : T → ℕ} {queue : ℕ} {ns : List ℕ} {xs : List T}
-    (sound : IsSound object_of queue_of queue ns xs) where
+    (sound : IsSoundQueue object_of queue_of queue ns xs) where
   -- what `contains` of the set answers says whether the number was ever put in
   pub was_put-contains : (x : T) {object : ℕ} {found b : Bool} → object ≡ object_of x
       → found ≡ list_any (nat_eq object) ns → found ≡ b → has (front ns xs ++ map object_of xs) (object_of x) ≡ b
@@ -42,7 +42,7 @@ module _ {T : Type 0} {object_of queue_of : T → ℕ} {queue : ℕ} {ns : List 
   module _ {closed : Bool} {rest : List T} where
     -- a poll where something stands
     pub Polls-Took : {x : T} → xs ≡ x ∷ rest
-        → Polls object_of (seen queue ns xs closed) (Took x) (seen queue ns rest closed)
+        → AnswersPoll object_of (seen_queue queue ns xs closed) (Took x) (seen_queue queue ns rest closed)
     Polls-Took {x} first = (
       first,
       λ j. record {
@@ -55,10 +55,10 @@ module _ {T : Type 0} {object_of queue_of : T → ℕ} {queue : ℕ} {ns : List 
 
     -- a poll of a closed queue where nothing stands
     pub Polls-Closed : length xs ≡ 0 → xs ≡ rest → closed ≡ true
-        → Polls object_of (seen queue ns xs closed) Closed (seen queue ns rest closed)
-    Polls-Closed none same shut = (nil_from_length xs none, shut, ap (λ ys. seen queue ns ys closed) (sym same))
+        → AnswersPoll object_of (seen_queue queue ns xs closed) Closed (seen_queue queue ns rest closed)
+    Polls-Closed none same shut = (nil_from_length xs none, shut, ap (λ ys. seen_queue queue ns ys closed) (sym same))
 
     -- a poll of an open queue where nothing stands
     pub Polls-Empty : length xs ≡ 0 → xs ≡ rest → closed ≡ false
-        → Polls object_of (seen queue ns xs closed) Empty (seen queue ns rest closed)
-    Polls-Empty none same open_yet = (nil_from_length xs none, open_yet, ap (λ ys. seen queue ns ys closed) (sym same))
+        → AnswersPoll object_of (seen_queue queue ns xs closed) Empty (seen_queue queue ns rest closed)
+    Polls-Empty none same open_yet = (nil_from_length xs none, open_yet, ap (λ ys. seen_queue queue ns ys closed) (sym same))

@@ -45,7 +45,7 @@ module _ {T : Type 0} where
   IfTook Ended P = Unit {0}
 
   -- when a poll of q answers so and leaves r: the first that stands is taken, or nothing stands and nothing changed
-  abbrev pub Polls : (T → ℕ) → Lists T → Polled T → Lists T → Type 0
-  Polls object_of q (Took x) r = (q.stands ≡ x ∷ r.stands) × (r ≡ with_taken object_of q x r.stands)
-  Polls object_of q Empty r = (q.stands ≡ []) × (q.closed ≡ false) × (r ≡ q)
-  Polls object_of q Ended r = (q.stands ≡ []) × (q.closed ≡ true) × (r ≡ q)
+  abbrev pub AnswersPoll : (T → ℕ) → Lists T → Polled T → Lists T → Type 0
+  AnswersPoll object_of q (Took x) r = (q.stands ≡ x ∷ r.stands) × (r ≡ with_taken object_of q x r.stands)
+  AnswersPoll object_of q Empty r = (q.stands ≡ []) × (q.closed ≡ false) × (r ≡ q)
+  AnswersPoll object_of q Ended r = (q.stands ≡ []) × (q.closed ≡ true) × (r ≡ q)

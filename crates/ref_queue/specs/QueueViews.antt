@@ -20,12 +20,12 @@ module _ {T : Type 0} where
   front ns xs = take (length ns - length xs) ns
 
   -- what a contract sees of a queue's fields: its number, all numbers put in, what stands, whether it is closed
-  abbrev pub seen : ℕ → List ℕ → List T → Bool → Lists T
-  seen queue ns xs closed = record { queue = queue; taken = front ns xs; stands = xs; closed = closed }
+  abbrev pub seen_queue : ℕ → List ℕ → List T → Bool → Lists T
+  seen_queue queue ns xs closed = record { queue = queue; taken = front ns xs; stands = xs; closed = closed }
 
   module _ (object_of queue_of : T → ℕ) where
     -- what holds of a queue's fields: its number, the numbers of everything that was put in, and what stands
-    pub record IsSound (queue : ℕ) (ns : List ℕ) (xs : List T) : Type 0 where
+    pub record IsSoundQueue (queue : ℕ) (ns : List ℕ) (xs : List T) : Type 0 where
       pub order : front ns xs ++ map object_of xs ≡ ns
       pub distinct : IsDistinct nat_eq ns
       pub own : AllByRecursion (λ x. queue_of x ≡ queue) xs

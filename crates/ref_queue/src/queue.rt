@@ -44,21 +44,21 @@ pub struct Queue<T: Parcel, A: Allocator = Global> {
 
 impl<T: Parcel, A: Allocator> Model for Queue<T, A> {
     ghost use Rattle.ref_base.specs.QueueLists.{Lists};
-    ghost use Rattle.ref_queue.specs.QueueViews.{lists_code, seen, IsSound};
+    ghost use Rattle.ref_queue.specs.QueueViews.{lists_code, seen_queue, IsSoundQueue};
 
     ghost Value = { Lists T };
 
     ghost coded = { lists_code T.code };
 
-    ghost view = { λ s. seen s.queue s.enqueued.keys s.standing.items s.is_closed };
+    ghost view = { λ s. seen_queue s.queue s.enqueued.keys s.standing.items s.is_closed };
 
-    ghost invariant = { λ s. IsSound T.object_of T.queue_of s.queue s.enqueued.keys s.standing.items };
+    ghost invariant = { λ s. IsSoundQueue T.object_of T.queue_of s.queue s.enqueued.keys s.standing.items };
 }
 
 impl<T: Parcel, A: Allocator + Copy> Queue<T, A> {
     ghost use Rattle.std.specs.List.{IsDistinct};
     ghost use Rattle.ref_base.specs.QueueLists.{enqueued};
-    ghost use Rattle.ref_queue.specs.QueueAnswers.{AnswersPut, after_put, IfTook, Polls};
+    ghost use Rattle.ref_queue.specs.QueueAnswers.{AnswersPut, after_put, IfTook, AnswersPoll};
 
     /// The queue of this number, open, with nothing ever put in. Takes no memory.
     pub fn new(alloc: A, queue: QueueNo) -> Self
@@ -114,7 +114,7 @@ impl<T: Parcel, A: Allocator + Copy> Queue<T, A> {
     /// (this project's profile): what stood as the queue was closed is still given out.
     #[inline(always)]
     pub fn poll(&mut self) -> Polled<T>
-        ensures answer { Polls T.object_of self.old result self.new }
+        ensures answer { AnswersPoll T.object_of self.old result self.new }
         ensures own { IfTook result (λ x. T.queue_of x ≡ self.old.queue) }
     {
         match self.standing.pop_front() {

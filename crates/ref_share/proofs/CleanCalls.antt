@@ -12,7 +12,7 @@ use Rattle.ref_share.specs.CleanSeats.{CleanView}
 use Rattle.ref_share.specs.Cleanings.{Tries, Retires, TakesJob, HasTaken}
 use Rattle.ref_share.specs.HeapMachines.{Acts}
 use Rattle.ref_share.specs.HeapSeats.{HeapView}
-use Rattle.ref_share.specs.Releases.{Asks, Accepted, Releases, is_refusal}
+use Rattle.ref_share.specs.Releases.{AsksHeap, Accepted, Releases, is_refusal}
 use Rattle.ref_share.specs.SeatCalls.{Called}
 
 -- a step whose reply tells of no refusal is accepted
@@ -25,7 +25,7 @@ accepts_unless_refused v w step reply other called = (reply, not_refusal reply o
     not_refusal reply other = refl
 
 -- a step that is asked of a heap is tried
-tries_of_ask : (v w : HeapView) (step : NamedStep) (result : Result Reply Fault) → Asks v step result w
+tries_of_ask : (v w : HeapView) (step : NamedStep) (result : Result Reply Fault) → AsksHeap v step result w
     → Tries v step w
 tries_of_ask v w step (Ok reply) asks = inl (reply, asks)
 tries_of_ask v w step (Err fault) asks = inr asks.1
@@ -33,8 +33,8 @@ tries_of_ask v w step (Err fault) asks = inr asks.1
 -- an adopted reference is retired by a clear and a drop that are tried
 pub retires_adopted : (m dst : ℕ) (hold : HoldName) (v u x w : HeapView) (c d : ClearHeap) (reply : Reply)
     → Acts c (heap.Adopt m dst hold) (replies.Told reply) d → Called v (heap.Adopt m dst hold) (replies.Told reply) u
-    → (clear : Result Reply Fault) → Asks u (heap.Clear m dst) clear x
-    → (drop : Result Reply Fault) → Asks x (heap.Drop m dst) drop w → Retires m dst v hold None w
+    → (clear : Result Reply Fault) → AsksHeap u (heap.Clear m dst) clear x
+    → (drop : Result Reply Fault) → AsksHeap x (heap.Drop m dst) drop w → Retires m dst v hold None w
 retires_adopted m dst hold v u x w c d reply acts called clear clears drop drops = (
   u,
   x,

@@ -7,7 +7,7 @@ use Rattle.ref_turn.proofs.Logs.{leads_cut}
 use Rattle.ref_turn.specs.History.{Leads}
 use Rattle.ref_turn.specs.Seats.{entry}
 use Rattle.ref_turn.specs.declared.history.Entry.{Entry}
-use Rattle.ref_share.specs.CleanHistories.{registers, some_registers, job_after, job_left}
+use Rattle.ref_share.specs.CleanHistories.{registers_job, some_registers, job_after, job_left}
 use Rattle.ref_share.specs.CleanMachines.{IsCleanMove}
 use Rattle.ref_share.specs.CleanSeats.{IsCleanRun}
 use Rattle.ref_share.specs.declared.clean_machine.CleanStep.{CleanStep}
@@ -42,7 +42,7 @@ module _ {K J : Type 0} (n : ℕ) where
       ∙ ap (λ (job : Option (K × J)). job_left n job calls) (move_leaves t run.0 call.step call.reply run.1)
 
   -- a call that registers nothing leaves none where none stood
-  none_after : (step : CleanStep K J) (reply : CleanReply K J) → registers n step reply ≡ false
+  none_after : (step : CleanStep K J) (reply : CleanReply K J) → registers_job n step reply ≡ false
       → job_after n None step reply ≡ None
   none_after (steps.Register m kept job) (replies.Registered (Ok _)) none =
       ap (λ (b : Bool). if b then Some (kept, job) else None) none
@@ -55,7 +55,7 @@ module _ {K J : Type 0} (n : ℕ) where
       → Some job ≡ job_left n None calls → some_registers n calls ≡ true
   registered_if_left [] job left = absurd (cc left)
   registered_if_left (call ∷ calls) job left =
-      or_else (registers n call.step call.reply) (some_registers n calls)
+      or_else (registers_job n call.step call.reply) (some_registers n calls)
       (λ none. registered_if_left calls job
       (subst (λ (stood : Option (K × J)). Some job ≡ job_left n stood calls)
       (none_after call.step call.reply none) left))

@@ -11,9 +11,9 @@ use Rattle.ref_queue.specs.declared.queue.Put.TheVariants as puts
 use Rattle.ref_turn.specs.Seats.{entry}
 use Rattle.ref_turn.specs.declared.history.Stage.TheVariants.{Idle}
 use Rattle.ref_world.specs.declared.heap_machine.HeapReply.TheVariants as replies
-use Rattle.ref_share.specs.Deliveries.{GivesBack, Sends, Delivers}
+use Rattle.ref_share.specs.Deliveries.{GoesBack, Sends, Delivers}
 use Rattle.ref_share.specs.HeapSeats.{HeapView, HeapEntry}
-use Rattle.ref_share.specs.QueueCalls.{Puts}
+use Rattle.ref_share.specs.QueueCalls.{PutsNotice}
 use Rattle.ref_share.specs.QueueSeats.{QueueEntry, queue_view}
 use Rattle.ref_share.specs.WorkerCalls.{KeepsPace, Works, notices_put, references_of}
 use Rattle.ref_share.specs.declared.answers.Delivery.TheVariants.{Nothing, Added, Dropped}
@@ -55,7 +55,7 @@ module _ {A : Type 0} (start : Option ClearHeap) (first second : SharedQueue A) 
 
   -- ---- a delivery
 
-  it_is_delivered : Puts (queue_view t) (notice 2) (Ok (puts.Added 0)) (queue_view u)
+  it_is_delivered : PutsNotice (queue_view t) (notice 2) (Ok (puts.Added 0)) (queue_view u)
       → Delivers (heap.Hand 0) (seat []) queues (s ∷ t ∷ []) (Ok (Added 2 1 0)) (seat (hands 2 ∷ [])) (s ∷ u ∷ [])
   it_is_delivered called = (
     notice 2,
@@ -111,7 +111,7 @@ module _ {A : Type 0} (start : Option ClearHeap) (first second : SharedQueue A) 
       let answer = ap (λ (calls : List HeapEntry). map (λ call. call.reply) calls) d.0.2 in absurd cc
 
   -- what no queue took goes back to the heap by a release
-  dropped_and_never_released : ¬ (GivesBack 2 (hold 2) (seat []) (Ok (Dropped 2)) (seat []))
+  dropped_and_never_released : ¬ (GoesBack 2 (hold 2) (seat []) (Ok (Dropped 2)) (seat []))
   dropped_and_never_released gives = let none = gives.1.2 in absurd cc
 
   -- ---- a worker's thread
@@ -126,7 +126,7 @@ module _ {A : Type 0} (start : Option ClearHeap) (first second : SharedQueue A) 
       ap (λ (x : QueueSeat A). notices_put 0 1 (queue_view x).mine) (sym is) ∙ ap (notices_put 0 1) other
   fresh_seats_keep_pace none other (suc (suc i)) r within at = absurd (omega (arith, within))
 
-  it_works_by_one_delivery : Puts (queue_view t) (notice 2) (Ok (puts.Added 0)) (queue_view u)
+  it_works_by_one_delivery : PutsNotice (queue_view t) (notice 2) (Ok (puts.Added 0)) (queue_view u)
       → Works 0 queues 1 (seat []) (s ∷ t ∷ []) (seat (hands 2 ∷ [])) (s ∷ u ∷ [])
   it_works_by_one_delivery called =
       (seat [], s ∷ t ∷ [], (refl, refl), inl (0, Ok (Added 2 1 0), refl, it_is_delivered called))

@@ -20,7 +20,7 @@ use Rattle.ref_base.proofs.WorkedTraces.{config_of}
 use Rattle.ref_turn.specs.Seats.{entry}
 use Rattle.ref_world.specs.declared.heap_machine.HeapReply.TheVariants as replies
 use Rattle.ref_share.specs.HeapSeats.{HeapEntry}
-use Rattle.ref_share.specs.HeapTraces.{rows_of, heap_replayed, handed_on, handed_in}
+use Rattle.ref_share.specs.HeapTraces.{rows_of, heap_replayed, all_handed_on, handed_in}
 
 -- a hold of the heap with number 7
 abbrev hold : ℕ → HoldName
@@ -110,7 +110,7 @@ an_adopt_and_a_release_take_one_back = refl
 
 -- ---- what it gives
 
-all_three_were_handed_on : handed_on history ≡ 2 ∷ 6 ∷ 4 ∷ []
+all_three_were_handed_on : all_handed_on history ≡ 2 ∷ 6 ∷ 4 ∷ []
 all_three_were_handed_on = refl
 
 worker_0_handed_two_on : handed_in 0 0 history ≡ 2 ∷ 6 ∷ []

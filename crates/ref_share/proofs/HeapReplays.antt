@@ -27,13 +27,13 @@ use Rattle.ref_world.specs.declared.heap_machine.HeapReply.{HeapReply}
 use Rattle.ref_world.specs.declared.heap_machine.HeapReply.TheVariants as replies
 use Rattle.ref_share.specs.HeapMachines.{HeapState, IsHeapMove}
 use Rattle.ref_share.specs.HeapSeats.{HeapEntry, IsHeapRun, first_heap_state}
-use Rattle.ref_share.specs.HeapTraces.{replayed_from, heap_replayed, HeapMarkEnded}
+use Rattle.ref_share.specs.HeapTraces.{heap_replayed_from, heap_replayed, HeapMarkEnded}
 use Rattle.ref_share.proofs.HeapRuns.{renumbered, IsRefused, IsAccepted, move_kind, run_holds}
 
 -- ---- the replay goes on call by call
 
 replayed_last : (w : World) (past : List HeapEntry) (call : HeapEntry)
-    → replayed_from w (past ++ call ∷ []) ≡ after_heap (replayed_from w past) call.step (told_reply call.reply)
+    → heap_replayed_from w (past ++ call ∷ []) ≡ after_heap (heap_replayed_from w past) call.step (told_reply call.reply)
 replayed_last w [] call = refl
 replayed_last w (other ∷ past) call = replayed_last (after_heap w other.step (told_reply other.reply)) past call
 

@@ -20,7 +20,7 @@ use Rattle.ref_base.proofs.CountedRows.{heap_holds}
 use Rattle.ref_base.proofs.HoldCounts.{one_if, tally-first, tally-append, tally-one_more}
 use Rattle.ref_turn.proofs.Logs.{leads_cut}
 use Rattle.ref_turn.specs.History.{Leads}
-use Rattle.ref_world.specs.HeapReplies.{told_reply, Gives}
+use Rattle.ref_world.specs.HeapReplies.{told_reply, GivesOut}
 use Rattle.ref_world.specs.declared.heap_machine.HeapReply.{HeapReply}
 use Rattle.ref_world.specs.declared.heap_machine.HeapReply.TheVariants as replies
 use Rattle.ref_share.specs.HeapHistories.{minted_by, spent_by, minted, spent}
@@ -122,7 +122,7 @@ module _ (x y : HeapState) (n : ℕ) where
       tally (holds_in y) n + tally (spent_by step reply) n ≡ tally (minted_by step reply) n + tally (holds_in x) n
 
   after_told : (step : NamedStep) (reply : Reply) → holds_in y ≡ holds_after (holds_in x) step reply
-      → IsHeapRow x.number x.state step reply y.state → Gives x.number step (replies.Told reply)
+      → IsHeapRow x.number x.state step reply y.state → GivesOut x.number step (replies.Told reply)
       → Balances step (replies.Told reply)
   after_told (heap.Unhook m s) reply held row gives =
       no_change (holds_in x) (holds_in y) n (held ∙ unhook_gave_none (holds_in x) m s reply gives)

@@ -33,12 +33,12 @@ use Rattle.ref_base.proofs.FoundLists.{AreDistinct-with_last, joined-emptied}
 use Rattle.ref_base.proofs.ScannedOnce.{HasScanned, ScansAnew, first_scanned, scan_tells}
 use Rattle.ref_base.specs.ScannedRows.{scanned_in_cycle}
 use Rattle.ref_base.proofs.AgreeHeaps.{Agreeing}
-use Rattle.ref_world.specs.HeapReplies.{told_reply, Gives}
+use Rattle.ref_world.specs.HeapReplies.{told_reply, GivesOut}
 use Rattle.ref_world.specs.declared.heap_machine.HeapReply.{HeapReply}
 use Rattle.ref_world.specs.declared.heap_machine.HeapReply.TheVariants as replies
 use Rattle.ref_share.specs.HeapMachines.{HeapState, IsHeapMove}
 use Rattle.ref_share.specs.HeapSeats.{HeapEntry, IsHeapRun, first_heap_state}
-use Rattle.ref_share.specs.HeapTraces.{gathered, handed_by, handed_on, heap_replayed, rows_of}
+use Rattle.ref_share.specs.HeapTraces.{gathered, handed_by, all_handed_on, heap_replayed, rows_of}
 use Rattle.ref_share.proofs.HeapReplays.{IsKnown, call_known, first_known}
 use Rattle.ref_share.proofs.HeapRows.{gathered_last}
 use Rattle.ref_share.proofs.HeapRuns.{renumbered, IsAccepted, move_kind, run_holds}
@@ -126,7 +126,7 @@ hand_told n k a b (told.Notice m q cause) none pends = absurd cc
 hand_told n k a b reply none pends = same_count n a.world b.world 0 pends
 
 module _ (n : ℕ) (x y : HeapState) where
-  accepted_counts : (step : NamedStep) (reply : HeapReply) → IsAccepted x step reply y → Gives x.number step reply
+  accepted_counts : (step : NamedStep) (reply : HeapReply) → IsAccepted x step reply y → GivesOut x.number step reply
       → Moves x.state (Some (renumbered step)) (told_reply reply) y.state → Counts n x.state y.state step reply
   accepted_counts (heap.Hand k) (replies.Notice notice) of gives moves =
       let m : ℕ = notice.hold.object in
@@ -270,17 +270,17 @@ record IsOnce (config : Config) (past : List HeapEntry) (x : HeapState) : Type 0
   cleared : ClearedOnce past x.state
   less :
       (n : ℕ)
-      → tally (handed_on past) n + tally (pending_numbers x.state.world.pending) n ≤ tally (cleared_all past) n
+      → tally (all_handed_on past) n + tally (pending_numbers x.state.world.pending) n ≤ tally (cleared_all past) n
 
 -- what a call leaves to count
 counts_more : (past : List HeapEntry) (call : HeapEntry) (a b : State) (n : ℕ)
-    → tally (handed_on past) n + tally (pending_numbers a.world.pending) n ≤ tally (cleared_all past) n
+    → tally (all_handed_on past) n + tally (pending_numbers a.world.pending) n ≤ tally (cleared_all past) n
     → Counts n a b call.step call.reply
-    → tally (handed_on (past ++ call ∷ [])) n + tally (pending_numbers b.world.pending) n
+    → tally (all_handed_on (past ++ call ∷ [])) n + tally (pending_numbers b.world.pending) n
     ≤ tally (cleared_all (past ++ call ∷ [])) n
 counts_more past call a b n before more =
     let handed = ap (λ ns. tally ns n) (gathered_last handed_by past call) in
-    let handed_sum = tally-append (handed_on past) (handed_by call.step call.reply) n in
+    let handed_sum = tally-append (all_handed_on past) (handed_by call.step call.reply) n in
     let cleared = ap (λ ns. tally ns n) (gathered_last cleared_by past call) in
     let cleared_sum = tally-append (cleared_all past) (cleared_by call.step call.reply) n in
     omega (arith, before, more, handed, handed_sum, cleared, cleared_sum)
@@ -372,8 +372,8 @@ first_once config number = record {
 }
 
 pub handed_on_once : (config : Config) (number : ℕ) (calls : List HeapEntry) (last : HeapState)
-    → IsHeapRun config number calls last → IsDistinct nat_eq (handed_on calls)
+    → IsHeapRun config number calls last → IsDistinct nat_eq (all_handed_on calls)
 handed_on_once config number calls last run =
     let is = run_holds (IsOnce config) (call_once config) config number (first_once config number) calls last run in
-    distinct_if_once (handed_on calls)
+    distinct_if_once (all_handed_on calls)
     (λ n. let less = is.less n in let once = is.cleared.once n in omega (arith, less, once))

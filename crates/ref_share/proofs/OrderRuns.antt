@@ -35,7 +35,7 @@ use Rattle.ref_base.proofs.Subsequences.{Sub, sub_none, sub_all, sub_through, su
 use Rattle.ref_base.proofs.Subsequences.{sub_is}
 use Rattle.ref_clear.specs.ClearHeaps.{HeldNotice}
 use Rattle.ref_world.specs.Cores.{as_notice}
-use Rattle.ref_world.specs.HeapReplies.{told_reply, Gives}
+use Rattle.ref_world.specs.HeapReplies.{told_reply, GivesOut}
 use Rattle.ref_world.specs.declared.heap_machine.HeapReply.{HeapReply}
 use Rattle.ref_world.specs.declared.heap_machine.HeapReply.TheVariants as replies
 use Rattle.ref_share.specs.HeapMachines.{HeapState, IsHeapMove}
@@ -176,7 +176,7 @@ module _ (whole : List Row) (k q : ℕ) (x y : HeapState) (free : hand_of x.stat
       Shifts k q x.state.world y.state.world (handed_of k q step reply)
       (cleared_in whole k q (row_of (world_step step) (told_reply reply)))
 
-  accepted_shifts : (step : NamedStep) (reply : HeapReply) → IsAccepted x step reply y → Gives x.number step reply
+  accepted_shifts : (step : NamedStep) (reply : HeapReply) → IsAccepted x step reply y → GivesOut x.number step reply
       → Moves x.state (Some (renumbered step)) (told_reply reply) y.state → ShiftsBy step reply
   accepted_shifts (heap.Hand j) (replies.Notice notice) of gives moves =
       hands_shift k q j x.state y.state notice (pending_of x.state.world j) refl of.accepts moves.pending

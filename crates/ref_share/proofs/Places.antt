@@ -9,7 +9,7 @@ use Rattle.ref_base.specs.declared.fault.Fault.TheVariants.{BadQueue}
 use Rattle.ref_clear.specs.ClearHeaps.{HeldNotice}
 use Rattle.ref_queue.specs.declared.queue.Put.{Put}
 use Rattle.ref_share.specs.Deliveries.{AreSeats, PutsAt}
-use Rattle.ref_share.specs.QueueCalls.{Puts, refuses_put}
+use Rattle.ref_share.specs.QueueCalls.{PutsNotice, refuses_put}
 use Rattle.ref_share.specs.QueueSeats.{IsQueueSeat, queue_view}
 use Rattle.ref_share.specs.declared.shared_queue.SharedQueue.{SharedQueue}
 use Rattle.ref_share.specs.declared.shared_queue.QueueSeat.{QueueSeat}
@@ -44,7 +44,7 @@ still_seats {A = A} queues seats k queue seat are there own j other new found pl
 -- a put of the seat at a place
 pub put_at_place : {A : Type 0} (notice : HeldNotice) (queues : List (SharedQueue A)) (seats : List (QueueSeat A))
     (old new : QueueSeat A) (result : Result (Put HeldNotice) (Fault × HeldNotice)) → notice.queue < length queues
-    → slice_get seats notice.queue ≡ Some old → Puts (queue_view old) notice result (queue_view new)
+    → slice_get seats notice.queue ≡ Some old → PutsNotice (queue_view old) notice result (queue_view new)
     → IfErr result (λ refused. refuses_put refused.0 ≡ true)
     → PutsAt notice queues seats result (slice_set seats notice.queue new)
 put_at_place notice queues seats old new (Ok answer) within there puts faults =

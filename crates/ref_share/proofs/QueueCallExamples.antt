@@ -10,7 +10,7 @@ use Rattle.ref_queue.specs.declared.queue.Polled.TheVariants as answers
 use Rattle.ref_queue.specs.declared.queue.Put.TheVariants as puts
 use Rattle.ref_turn.specs.Seats.{entry}
 use Rattle.ref_turn.specs.declared.history.Stage.TheVariants.{Idle}
-use Rattle.ref_share.specs.QueueCalls.{Puts, PollsNow, PollsWithin, PollsUntil, Closes}
+use Rattle.ref_share.specs.QueueCalls.{PutsNotice, PollsNow, PollsWithin, PollsUntil, ClosesQueue}
 use Rattle.ref_share.specs.QueueSeats.{QueueView, QueueEntry}
 use Rattle.ref_share.specs.declared.answers.Polled.TheVariants.{Took, Empty, Closed, TimedOut}
 use Rattle.ref_share.specs.declared.answers.ShareFault.TheVariants.{Busy}
@@ -50,19 +50,19 @@ told_closed = entry 0 steps.Poll (replies.Polled answers.Closed)
 
 -- ---- put
 
-it_was_added : Puts v notice (Ok (puts.Added 0)) (seat (added ∷ []) 1 1)
+it_was_added : PutsNotice v notice (Ok (puts.Added 0)) (seat (added ∷ []) 1 1)
 it_was_added = ((refl, refl, refl), ([], refl), refl)
 
-added_without_a_call : ¬ (Puts v notice (Ok (puts.Added 0)) v)
+added_without_a_call : ¬ (PutsNotice v notice (Ok (puts.Added 0)) v)
 added_without_a_call is = let none = is.2 in absurd cc
 
-told_another_answer : ¬ (Puts v notice (Ok (puts.Already notice)) (seat (added ∷ []) 1 1))
+told_another_answer : ¬ (PutsNotice v notice (Ok (puts.Already notice)) (seat (added ∷ []) 1 1))
 told_another_answer is = let answer = ap (map (λ (call : QueueEntry). call.reply)) is.2 in absurd cc
 
-no_turn_was_left : Puts v notice (Err (TurnsSpent, notice)) (seat [] (2 ^ 64 - 1) 1)
+no_turn_was_left : PutsNotice v notice (Err (TurnsSpent, notice)) (seat [] (2 ^ 64 - 1) 1)
 no_turn_was_left = (refl, (((refl, refl, refl), ([], refl), refl), refl))
 
-spent_while_turns_are_left : ¬ (Puts v notice (Err (TurnsSpent, notice)) (seat [] 1 1))
+spent_while_turns_are_left : ¬ (PutsNotice v notice (Err (TurnsSpent, notice)) (seat [] 1 1))
 spent_while_turns_are_left is = absurd (omega (arith, is.1.1))
 
 -- ---- polls
@@ -97,8 +97,8 @@ waiting_has_no_end_by_time w is = is
 
 -- ---- close
 
-it_was_open : Closes v (Ok true) (seat (entry 0 steps.Close (replies.Closed true) ∷ []) 1 1)
+it_was_open : ClosesQueue v (Ok true) (seat (entry 0 steps.Close (replies.Closed true) ∷ []) 1 1)
 it_was_open = ((refl, refl, refl), ([], refl), refl)
 
-told_open_where_it_was_closed : ¬ (Closes v (Ok true) (seat (entry 0 steps.Close (replies.Closed false) ∷ []) 1 1))
+told_open_where_it_was_closed : ¬ (ClosesQueue v (Ok true) (seat (entry 0 steps.Close (replies.Closed false) ∷ []) 1 1))
 told_open_where_it_was_closed is = let answer = ap (map (λ (call : QueueEntry). call.reply)) is.2 in absurd cc

@@ -12,8 +12,8 @@ use Rattle.ref_queue.specs.declared.queue.Polled.TheVariants as polls
 use Rattle.ref_turn.proofs.Logs.{leads_cut}
 use Rattle.ref_turn.specs.History.{Leads}
 use Rattle.ref_turn.specs.Seats.{entry}
-use Rattle.ref_share.specs.QueueHistories.{put_by, taken_by, closed_by, put_in, taken_out, was_closed, KeepsLists}
-use Rattle.ref_share.specs.QueueMachines.{object_of, IsQueueMove}
+use Rattle.ref_share.specs.QueueHistories.{put_by_call, taken_by_call, closed_by_call, all_put_in, all_taken_out, is_closed_after, KeepsLists}
+use Rattle.ref_share.specs.QueueMachines.{reported_object, IsQueueMove}
 use Rattle.ref_share.specs.QueueSeats.{QueueEntry, IsQueueRun}
 use Rattle.ref_share.specs.QueueStates.{NoticeLists}
 use Rattle.ref_share.specs.declared.queue_machine.QueueStep.{QueueStep}
@@ -23,11 +23,11 @@ use Rattle.ref_share.specs.declared.queue_machine.QueueReply.TheVariants as repl
 
 -- how one call changes the lists: as its entry tells
 abbrev MovesBy : NoticeLists → NoticeLists → QueueStep → QueueReply → Type 0
-MovesBy q r step reply = QueueMoves object_of q r (put_by step reply) (taken_by step reply) (closed_by step reply)
+MovesBy q r step reply = QueueMoves reported_object q r (put_by_call step reply) (taken_by_call step reply) (closed_by_call step reply)
 
-stays : (q r : NoticeLists) → r ≡ q → QueueMoves object_of q r [] [] false
+stays : (q r : NoticeLists) → r ≡ q → QueueMoves reported_object q r [] [] false
 stays q r same =
-    subst (λ (s : NoticeLists). QueueMoves object_of q s [] [] false) (sym same) (moves_nothing object_of q)
+    subst (λ (s : NoticeLists). QueueMoves reported_object q s [] [] false) (sym same) (moves_nothing reported_object q)
 
 either_true : (b : Bool) → true ≡ (b || true)
 either_true true = refl
@@ -36,27 +36,27 @@ either_true false = refl
 move_moves : (q r : NoticeLists) (step : QueueStep) (reply : QueueReply) → IsQueueMove q step reply r
     → MovesBy q r step reply
 move_moves q r (steps.Put notice) (replies.Put (Ok (puts.Added position))) move =
-    subst (λ (s : NoticeLists). QueueMoves object_of q s (object_of notice ∷ []) [] false) (sym move.1)
-    (moves_added object_of q notice move.0.0.1 move.0.0.2)
+    subst (λ (s : NoticeLists). QueueMoves reported_object q s (reported_object notice ∷ []) [] false) (sym move.1)
+    (moves_added reported_object q notice move.0.0.1 move.0.0.2)
 move_moves q r (steps.Put notice) (replies.Put (Ok (puts.Already back))) move = stays q r move.1
 move_moves q r (steps.Put notice) (replies.Put (Ok (puts.Closed back))) move = stays q r move.1
 move_moves q r (steps.Put notice) (replies.Put (Err refused)) move = stays q r move.1
 move_moves q r steps.Poll (replies.Polled (polls.Took notice)) move =
-    subst (λ (s : NoticeLists). QueueMoves object_of q s [] (object_of notice ∷ []) false) (sym move.1)
-    (moves_took object_of q notice r.stands move.0)
+    subst (λ (s : NoticeLists). QueueMoves reported_object q s [] (reported_object notice ∷ []) false) (sym move.1)
+    (moves_took reported_object q notice r.stands move.0)
 move_moves q r steps.Poll (replies.Polled polls.Empty) move = stays q r move.2
 move_moves q r steps.Poll (replies.Polled polls.Closed) move = stays q r move.2
 move_moves q r steps.Close (replies.Closed was_open) move =
-    subst (λ (s : NoticeLists). QueueMoves object_of q s [] [] true) (sym move.1)
-    (moves_closed object_of q true (either_true q.closed))
+    subst (λ (s : NoticeLists). QueueMoves reported_object q s [] [] true) (sym move.1)
+    (moves_closed reported_object q true (either_true q.closed))
 move_moves q r step reply move = absurd move
 
 pub run_moves : (q : NoticeLists) (calls : List QueueEntry) (r : NoticeLists) → Leads IsQueueMove q calls r
-    → QueueMoves object_of q r (put_in calls) (taken_out calls) (was_closed calls)
-run_moves q [] r run = subst (λ (s : NoticeLists). QueueMoves object_of q s [] [] false) run (moves_nothing object_of q)
+    → QueueMoves reported_object q r (all_put_in calls) (all_taken_out calls) (is_closed_after calls)
+run_moves q [] r run = subst (λ (s : NoticeLists). QueueMoves reported_object q s [] [] false) run (moves_nothing reported_object q)
 run_moves q (call ∷ calls) r run =
-    moves_more object_of q run.0 r (put_by call.step call.reply) (put_in calls) (taken_by call.step call.reply)
-    (taken_out calls) (closed_by call.step call.reply) (was_closed calls)
+    moves_more reported_object q run.0 r (put_by_call call.step call.reply) (all_put_in calls) (taken_by_call call.step call.reply)
+    (all_taken_out calls) (closed_by_call call.step call.reply) (is_closed_after calls)
     (move_moves q run.0 call.step call.reply run.1) (run_moves run.0 calls r run.2)
 
 pub keeps_lists : (number : ℕ) (calls : List QueueEntry) (last : NoticeLists) → IsQueueRun number calls last
@@ -74,7 +74,7 @@ keeps_lists number calls last run =
 
 -- nothing is put in behind a close
 pub nothing_after_close : (number : ℕ) (front back : List QueueEntry) (last : NoticeLists)
-    → IsQueueRun number (front ++ back) last → was_closed front ≡ true → put_in back ≡ []
+    → IsQueueRun number (front ++ back) last → is_closed_after front ≡ true → all_put_in back ≡ []
 nothing_after_close number front back last run shut =
     let parts = leads_cut IsQueueMove front back (new_queue number) last run in
     let first = keeps_lists number front parts.0 parts.1 in
@@ -106,7 +106,7 @@ pub own_at_the_end : (number by : ℕ) (front back : List QueueEntry) (notice : 
     (last : NoticeLists)
     → IsQueueRun number
     (front ++ entry by (steps.Put notice) (replies.Put (Ok (puts.Added position))) ∷ back) last
-    → (notice.queue ≡ number) × (position ≡ length (put_in front))
+    → (notice.queue ≡ number) × (position ≡ length (all_put_in front))
 own_at_the_end number by front back notice position last run =
     let call : QueueEntry = entry by (steps.Put notice) (replies.Put (Ok (puts.Added position))) in
     let parts = leads_cut IsQueueMove front (call ∷ back) (new_queue number) last run in

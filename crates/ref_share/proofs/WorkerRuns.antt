@@ -23,10 +23,10 @@ use Rattle.ref_turn.specs.History.{calls_by}
 use Rattle.ref_turn.specs.Seats.{entry}
 use Rattle.ref_world.specs.declared.heap_machine.HeapReply.{HeapReply}
 use Rattle.ref_world.specs.declared.heap_machine.HeapReply.TheVariants as replies
-use Rattle.ref_share.specs.Deliveries.{IsPut, IsBeyond, PutsAt, GivesBack, Delivers}
+use Rattle.ref_share.specs.Deliveries.{IsPut, IsBeyond, PutsAt, GoesBack, Delivers}
 use Rattle.ref_share.specs.HeapSeats.{HeapView, HeapEntry, heap_view, IsHeapSeat}
 use Rattle.ref_share.specs.HeapTraces.{rows_of, handed_of, handed_in}
-use Rattle.ref_share.specs.QueueCalls.{Puts}
+use Rattle.ref_share.specs.QueueCalls.{PutsNotice}
 use Rattle.ref_share.specs.QueueSeats.{QueueView, QueueEntry, queue_view}
 use Rattle.ref_share.specs.SeatCalls.{Called}
 use Rattle.ref_share.specs.WorkerCalls.{worked_notice, notice_handed, notice_put, notices_handed, notices_put, had_turn, KeepsPace}
@@ -92,7 +92,7 @@ was_called (Err (TurnsSpent, back)) = false
 was_called answer = true
 
 puts_called : (v w : QueueView) (notice : HeldNotice) (answer : Result (Put HeldNotice) (Fault × HeldNotice))
-    → was_called answer ≡ true → Puts v notice answer w → Called v (queue.Put notice) (answers.Put answer) w
+    → was_called answer ≡ true → PutsNotice v notice answer w → Called v (queue.Put notice) (answers.Put answer) w
 puts_called v w notice (Ok answer) turn puts = puts
 puts_called v w notice (Err (TurnsSpent, back)) turn puts = absurd (false≢true turn)
 puts_called v w notice (Err (fault, back)) turn puts = puts
@@ -157,7 +157,7 @@ module _ {A : Type 0} (k q : ℕ) (queues : List (SharedQueue A)) (seats after :
 
   -- what goes back to the heap is handed on by no call
   given_back : (n : ℕ) (hold : HoldName) (u : HeapView) (result : Result Delivery ShareFault) (w : HeapView)
-      → GivesBack n hold u result w → notices_handed k q w.mine ≡ notices_handed k q u.mine
+      → GoesBack n hold u result w → notices_handed k q w.mine ≡ notices_handed k q u.mine
   given_back n hold u (Ok Nothing) w gives = absurd gives
   given_back n hold u (Ok (Added m p position)) w gives = absurd gives
   given_back n hold u (Ok (Dropped m)) w gives =
@@ -173,7 +173,7 @@ module _ {A : Type 0} (k q : ℕ) (queues : List (SharedQueue A)) (seats after :
   dropped_put : (notice : HeldNotice) (u : HeapView) (result : Result Delivery ShareFault) (w : HeapView)
       → (IsPut notice queues seats (Ok (puts.Already notice)) after
       ⊎ IsPut notice queues seats (Ok (puts.Closed notice)) after)
-      → GivesBack notice.hold.object notice.hold u result w
+      → GoesBack notice.hold.object notice.hold u result w
       → notices_handed k q u.mine ≡ notices_handed k q v.mine ++ worked_notice k q notice
       → notices_put k q (queue_view s).mine ≡ notices_handed k q w.mine
   dropped_put notice u result w refused gives adds =

@@ -10,13 +10,13 @@ use Rattle.ref_share.specs.declared.clean_machine.CleanReply.TheVariants as repl
 
 module _ {K J : Type 0} (n : ℕ) where
   -- whether the call registers a job for the object
-  abbrev pub registers : CleanStep K J → CleanReply K J → Bool
-  registers (steps.Register m kept job) (replies.Registered (Ok _)) = nat_eq m n
-  registers step reply = false
+  abbrev pub registers_job : CleanStep K J → CleanReply K J → Bool
+  registers_job (steps.Register m kept job) (replies.Registered (Ok _)) = nat_eq m n
+  registers_job step reply = false
 
   abbrev pub some_registers : List (Entry (CleanStep K J) (CleanReply K J)) → Bool
   some_registers [] = false
-  some_registers (call ∷ calls) = registers call.step call.reply || some_registers calls
+  some_registers (call ∷ calls) = registers_job call.step call.reply || some_registers calls
 
   -- the object's job after a call: the one that it registers, none once it was taken, and else the one before
   abbrev pub job_after : Option (K × J) → CleanStep K J → CleanReply K J → Option (K × J)

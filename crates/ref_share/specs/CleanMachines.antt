@@ -14,5 +14,5 @@ module _ {K J : Type 0} where
   IsCleanMove t step reply u = ⊥
 
   -- a table stands for itself
-  abbrev pub IsItself : Registry K J → Registry K J → Type 0
-  IsItself m t = t ≡ m
+  abbrev pub IsTheTable : Registry K J → Registry K J → Type 0
+  IsTheTable m t = t ≡ m

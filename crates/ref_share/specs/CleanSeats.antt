@@ -7,7 +7,7 @@ use Rattle.ref_turn.specs.declared.history.Entry.{Entry}
 use Rattle.ref_turn.specs.declared.history.View.{View}
 use Rattle.ref_turn.specs.declared.turn.SeatOf.{SeatOf}
 use Rattle.ref_turn.specs.declared.turn.Turn.{Turn}
-use Rattle.ref_share.specs.CleanMachines.{IsCleanMove, IsItself}
+use Rattle.ref_share.specs.CleanMachines.{IsCleanMove, IsTheTable}
 use Rattle.ref_share.specs.StartedSeats.{IsSeatFrom, IsFirstFrom, IsLeftFrom}
 use Rattle.ref_share.specs.declared.clean_machine.CleanStep.{CleanStep}
 use Rattle.ref_share.specs.declared.clean_machine.CleanReply.{CleanReply}
@@ -30,12 +30,12 @@ IsCleanRun calls t = Leads IsCleanMove new_registry calls t
 module _ {J A : Type 0} (turn : Turn (Jobs J) A (CleanStep HoldName J) (CleanReply HoldName J)) where
   -- the seat is one of this turn, and what it has seen is what one table does, from an empty one on
   abbrev pub IsCleanSeat : SeatOf (Jobs J) (CleanStep HoldName J) (CleanReply HoldName J) → Type 0
-  IsCleanSeat s = IsSeatFrom IsItself IsCleanMove turn new_registry s
+  IsCleanSeat s = IsSeatFrom IsTheTable IsCleanMove turn new_registry s
 
   -- the turn was just made, its tickets beginning so, with its first seat
   abbrev pub IsFirstCleanSeat : ℕ → SeatOf (Jobs J) (CleanStep HoldName J) (CleanReply HoldName J) → Type 0
-  IsFirstCleanSeat first s = IsFirstFrom IsItself IsCleanMove turn new_registry first s
+  IsFirstCleanSeat first s = IsFirstFrom IsTheTable IsCleanMove turn new_registry first s
 
 -- a history that begins with what was seen leaves the table
 abbrev pub LeavesTable : {J : Type 0} → CleanView J → Jobs J → Type 0
-LeavesTable v t = IsLeftFrom IsItself IsCleanMove new_registry v t
+LeavesTable v t = IsLeftFrom IsTheTable IsCleanMove new_registry v t

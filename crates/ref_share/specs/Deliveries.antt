@@ -15,7 +15,7 @@ use Rattle.ref_queue.specs.declared.queue.Put.TheVariants as puts
 use Rattle.ref_world.specs.declared.heap_machine.HeapReply.{HeapReply}
 use Rattle.ref_world.specs.declared.heap_machine.HeapReply.TheVariants as replies
 use Rattle.ref_share.specs.HeapSeats.{HeapView}
-use Rattle.ref_share.specs.QueueCalls.{Puts}
+use Rattle.ref_share.specs.QueueCalls.{PutsNotice}
 use Rattle.ref_share.specs.QueueSeats.{queue_view, IsQueueSeat}
 use Rattle.ref_share.specs.SeatCalls.{Called, RanOut}
 use Rattle.ref_share.specs.declared.answers.Delivery.{Delivery}
@@ -62,12 +62,12 @@ was_added (Err fault) = Err fault
 
 -- the hold of this object goes back to the heap by a release; or that was refused, or no turn is left for it, and the
 -- hold comes back
-abbrev pub GivesBack : ℕ → HoldName → HeapView → Result Delivery ShareFault → HeapView → Type 0
-GivesBack n hold v (Ok (Dropped m)) w = (m ≡ n) × Called v (heap.Release hold) (replies.Told told.Done) w
-GivesBack n hold v (Err (Held back TurnsSpent)) w = (back ≡ hold) × RanOut v w
-GivesBack n hold v (Err (Held back fault)) w =
+abbrev pub GoesBack : ℕ → HoldName → HeapView → Result Delivery ShareFault → HeapView → Type 0
+GoesBack n hold v (Ok (Dropped m)) w = (m ≡ n) × Called v (heap.Release hold) (replies.Told told.Done) w
+GoesBack n hold v (Err (Held back TurnsSpent)) w = (back ≡ hold) × RanOut v w
+GoesBack n hold v (Err (Held back fault)) w =
     (back ≡ hold) × Called v (heap.Release hold) (replies.Back fault hold) w
-GivesBack n hold v result w = ⊥
+GoesBack n hold v result w = ⊥
 
 module _ {A : Type 0} (notice : HeldNotice) (queues : List (SharedQueue A)) (seats : List (QueueSeat A)) where
   -- there is a queue at the place of the notice's own, and its seat puts it in, with this answer; the others do nothing
@@ -77,7 +77,7 @@ module _ {A : Type 0} (notice : HeldNotice) (queues : List (SharedQueue A)) (sea
     pub within : notice.queue < length queues
     pub there : slice_get seats notice.queue ≡ Some old
     pub after_is : after ≡ slice_set seats notice.queue new
-    pub puts : Puts (queue_view old) notice answer (queue_view new)
+    pub puts : PutsNotice (queue_view old) notice answer (queue_view new)
 
   -- one of the lists ends before that place
   abbrev pub IsBeyond : Type 0
@@ -98,7 +98,7 @@ module _ {A : Type 0} (notice : HeldNotice) (queues : List (SharedQueue A)) (sea
   Sends v (Ok (Added n q position)) w after =
       (n ≡ notice.hold.object) × (q ≡ notice.queue) × (w ≡ v) × IsPut (Ok (puts.Added position)) after
   Sends v (Err (Notice back fault)) w after = (back ≡ notice) × (w ≡ v) × PutsAt (Err (fault, notice)) after
-  Sends v result w after = IsNotTaken after × GivesBack notice.hold.object notice.hold v result w
+  Sends v result w after = IsNotTaken after × GoesBack notice.hold.object notice.hold v result w
 
 module _ {A : Type 0} (step : NamedStep) (v : HeapView) (queues : List (SharedQueue A)) (seats : List (QueueSeat A))
   where

@@ -5,8 +5,8 @@ use Rattle.ref_base.specs.CollectorRows.{IsHeapRow}
 use Rattle.ref_base.specs.HeapSteps.{NamedStep}
 use Rattle.ref_clear.specs.ClearCalls.{answer_in, after_in}
 use Rattle.ref_clear.specs.ClearHeaps.{ClearHeap}
-use Rattle.ref_clear.specs.Standing.{Stands}
-use Rattle.ref_world.specs.HeapReplies.{told_reply, Gives}
+use Rattle.ref_clear.specs.Standing.{HeapStands}
+use Rattle.ref_world.specs.HeapReplies.{told_reply, GivesOut}
 use Rattle.ref_world.specs.declared.heap_machine.HeapReply.{HeapReply}
 
 -- a state of the abstract collector, and the number of its heap
@@ -17,16 +17,16 @@ pub record HeapState : Type 0 where
 -- the heap has this number, and stands for the state
 pub record StandsFor (c : ClearHeap) (x : HeapState) : Type 0 where
   pub number : c.mark.heap_no ≡ x.number
-  pub stands : Stands c x.state
+  pub stands : HeapStands c x.state
 
 -- the step, with this reply, is a row of the heap's machine, and gives out what such a step gives
 pub record IsHeapMove (x : HeapState) (step : NamedStep) (reply : HeapReply) (y : HeapState) : Type 0 where
   pub number : y.number ≡ x.number
   pub row : IsHeapRow x.number x.state step (told_reply reply) y.state
-  pub gives : Gives x.number step reply
+  pub gives : GivesOut x.number step reply
 
 -- what the step does to the heap itself
 pub record Acts (c : ClearHeap) (step : NamedStep) (reply : HeapReply) (d : ClearHeap) : Type 0 where
   pub answer : told_reply reply ≡ answer_in c step
-  pub gives : Gives c.mark.heap_no step reply
+  pub gives : GivesOut c.mark.heap_no step reply
   pub after : d ≡ after_in c step

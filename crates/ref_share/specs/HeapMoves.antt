@@ -4,11 +4,11 @@ use Rattle.ref_base.specs.CollectorRows.{IsHeapRow}
 use Rattle.ref_base.specs.HeapSteps.{NamedStep}
 use Rattle.ref_base.specs.declared.reply.Reply.{Reply}
 use Rattle.ref_clear.specs.ClearHeaps.{ClearHeap}
-use Rattle.ref_clear.specs.Standing.{Stands}
+use Rattle.ref_clear.specs.Standing.{HeapStands}
 use Rattle.ref_clear.proofs.HeapLaws.{each_step}
 use Rattle.ref_clear.proofs.OwnNumbers.{number_after}
 use Rattle.ref_world.specs.declared.heap_machine.HeapReply.{HeapReply}
-use Rattle.ref_world.specs.HeapReplies.{Gives, told_reply}
+use Rattle.ref_world.specs.HeapReplies.{GivesOut, told_reply}
 use Rattle.ref_share.specs.HeapMachines.{HeapState, StandsFor, IsHeapMove, Acts}
 
 -- what it does is a row, from each state that it stands for to one that it then stands for
@@ -22,10 +22,10 @@ acts_as_a_row c d step reply acts x stands =
         number = refl;
         row = subst (λ (no : ℕ). IsHeapRow no x.state step (told_reply reply) row.0) stands.number
             (subst (λ (r : Reply). IsHeapRow c.mark.heap_no x.state step r row.0) (sym acts.answer) row.1);
-        gives = subst (λ (no : ℕ). Gives no step reply) stands.number acts.gives;
+        gives = subst (λ (no : ℕ). GivesOut no step reply) stands.number acts.gives;
       },
       record {
         number = ap (λ (k : ClearHeap). k.mark.heap_no) acts.after ∙ number_after c step ∙ stands.number;
-        stands = subst (λ (k : ClearHeap). Stands k row.0) (sym acts.after) row.2;
+        stands = subst (λ (k : ClearHeap). HeapStands k row.0) (sym acts.after) row.2;
       },
     )

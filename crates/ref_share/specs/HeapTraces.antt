@@ -60,13 +60,13 @@ rows_of (call ∷ calls) = row_of (world_step call.step) (told_reply call.reply)
 -- ---- its replay
 
 -- the world after some calls of its heap
-abbrev pub replayed_from : World → List HeapEntry → World
-replayed_from w [] = w
-replayed_from w (call ∷ calls) = replayed_from (after_heap w call.step (told_reply call.reply)) calls
+abbrev pub heap_replayed_from : World → List HeapEntry → World
+heap_replayed_from w [] = w
+heap_replayed_from w (call ∷ calls) = heap_replayed_from (after_heap w call.step (told_reply call.reply)) calls
 
 -- the world after a history of a heap, whose hands and queues are empty
 abbrev pub heap_replayed : Config → List HeapEntry → World
-heap_replayed config calls = replayed_from (first_world config) calls
+heap_replayed config calls = heap_replayed_from (first_world config) calls
 
 -- One of the calls is the end of this cycle's mark; and in the world that the calls before it give by replay, n is a
 -- reference, and its referent is dead.
@@ -100,8 +100,8 @@ handed_by (heap.Hand k) (replies.Notice notice) = notice.hold.object ∷ []
 handed_by step reply = []
 
 -- the references whose notices the calls of hands give, in order
-abbrev pub handed_on : List HeapEntry → List ℕ
-handed_on calls = gathered handed_by calls
+abbrev pub all_handed_on : List HeapEntry → List ℕ
+all_handed_on calls = gathered handed_by calls
 
 -- and of these the ones that worker k cleared and that are for queue q
 abbrev pub handed_of : ℕ → ℕ → NamedStep → HeapReply → List ℕ

@@ -45,11 +45,11 @@ refuses_put TurnsSpent = true
 refuses_put fault = false
 
 -- a notice that was not put in comes back
-abbrev pub IsBack : HeldNotice → Result (Put HeldNotice) (Fault × HeldNotice) → Type 0
-IsBack notice (Ok (puts.Added position)) = Unit {0}
-IsBack notice (Ok (puts.Already back)) = back ≡ notice
-IsBack notice (Ok (puts.Closed back)) = back ≡ notice
-IsBack notice (Err refused) = refused.1 ≡ notice
+abbrev pub ComesBack : HeldNotice → Result (Put HeldNotice) (Fault × HeldNotice) → Type 0
+ComesBack notice (Ok (puts.Added position)) = Unit {0}
+ComesBack notice (Ok (puts.Already back)) = back ≡ notice
+ComesBack notice (Ok (puts.Closed back)) = back ≡ notice
+ComesBack notice (Err refused) = refused.1 ≡ notice
 
 module _ (v : QueueView) where
   -- the entry of a poll of this seat, answered so
@@ -61,9 +61,9 @@ module _ (v : QueueView) where
   empty_polls count = replicate count (polled answers.Empty)
 
   -- a put is one call, and answers as it does; or no turn is left, and the notice comes back
-  abbrev pub Puts : HeldNotice → Result (Put HeldNotice) (Fault × HeldNotice) → QueueView → Type 0
-  Puts notice (Err (TurnsSpent, back)) w = (back ≡ notice) × RanOut v w
-  Puts notice answer w = Called v (steps.Put notice) (replies.Put answer) w
+  abbrev pub PutsNotice : HeldNotice → Result (Put HeldNotice) (Fault × HeldNotice) → QueueView → Type 0
+  PutsNotice notice (Err (TurnsSpent, back)) w = (back ≡ notice) × RanOut v w
+  PutsNotice notice answer w = Called v (steps.Put notice) (replies.Put answer) w
 
   -- one poll is one call, and answers as it does; or none was made, since the turn was not free, or none is left
   abbrev pub PollsNow : Result Polled ShareFault → QueueView → Type 0
@@ -101,7 +101,7 @@ module _ (v : QueueView) where
   PollsUntil = PollsTo (λ k. Unit {0}) (λ w. ⊥)
 
   -- a close is one call, and tells whether the queue was open; or no turn is left
-  abbrev pub Closes : Result Bool ShareFault → QueueView → Type 0
-  Closes (Ok was_open) w = Called v steps.Close (replies.Closed was_open) w
-  Closes (Err (Refused TurnsSpent)) w = RanOut v w
-  Closes answer w = ⊥
+  abbrev pub ClosesQueue : Result Bool ShareFault → QueueView → Type 0
+  ClosesQueue (Ok was_open) w = Called v steps.Close (replies.Closed was_open) w
+  ClosesQueue (Err (Refused TurnsSpent)) w = RanOut v w
+  ClosesQueue answer w = ⊥

@@ -5,7 +5,7 @@ use Rattle.std.specs.List.{IsDistinct}
 use Rattle.ref_base.specs.QueueLists.{enqueued}
 use Rattle.ref_queue.specs.declared.queue.Put.TheVariants.{Added}
 use Rattle.ref_queue.specs.declared.queue.Polled.TheVariants.{Took}
-use Rattle.ref_share.specs.QueueMachines.{object_of}
+use Rattle.ref_share.specs.QueueMachines.{reported_object}
 use Rattle.ref_share.specs.QueueSeats.{QueueEntry}
 use Rattle.ref_share.specs.QueueStates.{NoticeLists}
 use Rattle.ref_share.specs.declared.queue_machine.QueueStep.{QueueStep}
@@ -14,34 +14,34 @@ use Rattle.ref_share.specs.declared.queue_machine.QueueReply.{QueueReply}
 use Rattle.ref_share.specs.declared.queue_machine.QueueReply.TheVariants as replies
 
 -- the reference that one call puts in, takes out; whether it closes the queue
-abbrev pub put_by : QueueStep → QueueReply → List ℕ
-put_by (steps.Put notice) (replies.Put (Ok (Added position))) = object_of notice ∷ []
-put_by step reply = []
+abbrev pub put_by_call : QueueStep → QueueReply → List ℕ
+put_by_call (steps.Put notice) (replies.Put (Ok (Added position))) = reported_object notice ∷ []
+put_by_call step reply = []
 
-abbrev pub taken_by : QueueStep → QueueReply → List ℕ
-taken_by steps.Poll (replies.Polled (Took notice)) = object_of notice ∷ []
-taken_by step reply = []
+abbrev pub taken_by_call : QueueStep → QueueReply → List ℕ
+taken_by_call steps.Poll (replies.Polled (Took notice)) = reported_object notice ∷ []
+taken_by_call step reply = []
 
-abbrev pub closed_by : QueueStep → QueueReply → Bool
-closed_by steps.Close (replies.Closed was_open) = true
-closed_by step reply = false
+abbrev pub closed_by_call : QueueStep → QueueReply → Bool
+closed_by_call steps.Close (replies.Closed was_open) = true
+closed_by_call step reply = false
 
 -- the references that the calls put in, and take out, in order; whether one of them closes the queue
-abbrev pub put_in : List QueueEntry → List ℕ
-put_in [] = []
-put_in (call ∷ calls) = put_by call.step call.reply ++ put_in calls
+abbrev pub all_put_in : List QueueEntry → List ℕ
+all_put_in [] = []
+all_put_in (call ∷ calls) = put_by_call call.step call.reply ++ all_put_in calls
 
-abbrev pub taken_out : List QueueEntry → List ℕ
-taken_out [] = []
-taken_out (call ∷ calls) = taken_by call.step call.reply ++ taken_out calls
+abbrev pub all_taken_out : List QueueEntry → List ℕ
+all_taken_out [] = []
+all_taken_out (call ∷ calls) = taken_by_call call.step call.reply ++ all_taken_out calls
 
-abbrev pub was_closed : List QueueEntry → Bool
-was_closed [] = false
-was_closed (call ∷ calls) = closed_by call.step call.reply || was_closed calls
+abbrev pub is_closed_after : List QueueEntry → Bool
+is_closed_after [] = false
+is_closed_after (call ∷ calls) = closed_by_call call.step call.reply || is_closed_after calls
 
 -- the lists of the queue that a history leaves are those of its entries, and nothing was put in twice
 pub record KeepsLists (calls : List QueueEntry) (last : NoticeLists) : Type 0 where
-  pub put_is : enqueued object_of last ≡ put_in calls
-  pub taken_is : last.taken ≡ taken_out calls
-  pub closed_is : last.closed ≡ was_closed calls
-  pub at_most_once : IsDistinct nat_eq (put_in calls)
+  pub put_is : enqueued reported_object last ≡ all_put_in calls
+  pub taken_is : last.taken ≡ all_taken_out calls
+  pub closed_is : last.closed ≡ is_closed_after calls
+  pub at_most_once : IsDistinct nat_eq (all_put_in calls)

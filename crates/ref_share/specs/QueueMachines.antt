@@ -2,15 +2,15 @@
 use Rattle.std.specs.Prelude.{◌≡◌, ℕ, true, not}
 use Rattle.ref_clear.specs.ClearHeaps.{HeldNotice}
 use Rattle.ref_share.specs.QueueStates.{NoticeLists}
-use Rattle.ref_queue.specs.QueueAnswers.{AnswersPut, after_put, Polls}
+use Rattle.ref_queue.specs.QueueAnswers.{AnswersPut, after_put, AnswersPoll}
 use Rattle.ref_share.specs.declared.queue_machine.QueueStep.{QueueStep}
 use Rattle.ref_share.specs.declared.queue_machine.QueueStep.TheVariants as steps
 use Rattle.ref_share.specs.declared.queue_machine.QueueReply.{QueueReply}
 use Rattle.ref_share.specs.declared.queue_machine.QueueReply.TheVariants as replies
 
 -- the reference that a notice reports, and the queue that it is for
-abbrev pub object_of : HeldNotice → ℕ
-object_of notice = notice.hold.object
+abbrev pub reported_object : HeldNotice → ℕ
+reported_object notice = notice.hold.object
 
 abbrev pub queue_of : HeldNotice → ℕ
 queue_of notice = notice.queue
@@ -18,8 +18,8 @@ queue_of notice = notice.queue
 -- the step, with this reply, makes one queue of the other, as the queue's own call does
 abbrev pub IsQueueMove : NoticeLists → QueueStep → QueueReply → NoticeLists → Type 0
 IsQueueMove q (steps.Put notice) (replies.Put answer) r =
-    AnswersPut object_of queue_of q notice answer × (r ≡ after_put object_of queue_of q notice answer)
-IsQueueMove q steps.Poll (replies.Polled answer) r = Polls object_of q answer r
+    AnswersPut reported_object queue_of q notice answer × (r ≡ after_put reported_object queue_of q notice answer)
+IsQueueMove q steps.Poll (replies.Polled answer) r = AnswersPoll reported_object q answer r
 IsQueueMove q steps.Close (replies.Closed was_open) r =
     (was_open ≡ not q.closed) × (r ≡ record q { closed = true })
 IsQueueMove q step reply r = ⊥

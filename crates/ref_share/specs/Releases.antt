@@ -39,9 +39,9 @@ hands_nothing_over (heap.Hand k) = false
 hands_nothing_over step = true
 
 -- such a step is the heap's one call, and answers so; or no turn is left for it
-abbrev pub Asks : HeapView → NamedStep → Result Reply Fault → HeapView → Type 0
-Asks v step (Ok reply) w = Called v step (replies.Told reply) w
-Asks v step (Err fault) w = (fault ≡ TurnsSpent) × RanOut v w
+abbrev pub AsksHeap : HeapView → NamedStep → Result Reply Fault → HeapView → Type 0
+AsksHeap v step (Ok reply) w = Called v step (replies.Told reply) w
+AsksHeap v step (Err fault) w = (fault ≡ TurnsSpent) × RanOut v w
 
 -- the hold goes back to the heap; or it comes back
 abbrev pub Releases : HeapView → HoldName → Result (Unit {0}) (HoldName × Fault) → HeapView → Type 0

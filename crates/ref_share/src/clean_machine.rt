@@ -53,7 +53,7 @@ impl<K, J, A: Allocator + Copy> Machine for CleanMachine<K, J, A> {
     ghost use Rattle.std.specs.Prelude.{◌≡◌};
     ghost use Rattle.ref_queue.specs.CleanTables.{Registry};
     ghost use Rattle.ref_share.specs.CleanMachines.{IsCleanMove};
-    ghost use Rattle.ref_share.specs.CleanMoves.{moves_as_it_acts};
+    ghost use Rattle.ref_share.specs.CleanMoves.{table_moves_as_it_acts};
 
     type Step = CleanStep<K, J>;
 
@@ -77,5 +77,5 @@ impl<K, J, A: Allocator + Copy> Machine for CleanMachine<K, J, A> {
         }
     }
 
-    ghost follows = { moves_as_it_acts };
+    ghost follows = { table_moves_as_it_acts };
 }

@@ -4,8 +4,8 @@
 ghost use Rattle.std.specs.Prelude.{◌≡◌, true};
 ghost use Rattle.ref_base.specs.declared.heap_step.HeapStep.TheVariants as steps;
 ghost use Rattle.ref_share.specs.HeapSeats.{heap_view, IsHeapSeat};
-ghost use Rattle.ref_share.specs.Deliveries.{AreSeats, PutsAt, Sends, Delivers, GivesBack, was_added};
-ghost use Rattle.ref_share.specs.QueueCalls.{IsBack};
+ghost use Rattle.ref_share.specs.Deliveries.{AreSeats, PutsAt, Sends, Delivers, GoesBack, was_added};
+ghost use Rattle.ref_share.specs.QueueCalls.{ComesBack};
 ghost use Rattle.ref_share.specs.Deliveries.{asks_for_a_notice, gives_no_notice, TellsOfNone};
 
 use crate::{Delivery, HeapSeat, QueueSeat, ShareFault, SharedHeap, SharedQueue};
@@ -150,7 +150,7 @@ fn put_at<R: Wait, A: Allocator + Copy>(
     requires { AreSeats queues.now seats.old }
     ensures seats { AreSeats queues.now seats.new }
     ensures puts { PutsAt notice queues.now seats.old result seats.new }
-    ensures back { IsBack notice result }
+    ensures back { ComesBack notice result }
 {
     let place = notice.queue().0 as usize;
     if place >= queues.len() || place >= seats.len() {
@@ -169,7 +169,7 @@ fn give_back<R: Wait, A: Allocator + Copy>(
 ) -> Result<Delivery, ShareFault>
     requires { IsHeapSeat heap.now seat.old }
     ensures seat { IsHeapSeat heap.now seat.new }
-    ensures gives { GivesBack object hold (heap_view seat.old) result (heap_view seat.new) }
+    ensures gives { GoesBack object hold (heap_view seat.old) result (heap_view seat.new) }
 {
     match heap.call(rt, seat, HeapStep::Release { hold }) {
         Ok(HeapReply::Told(_)) => Ok(Delivery::Dropped(object)),

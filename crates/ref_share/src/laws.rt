@@ -37,8 +37,8 @@ ghost use Rattle.ref_share.specs.CleanSeats.{Jobs, CleanEntry, IsCleanRun};
 ghost use Rattle.ref_share.specs.HeapHistories.{minted, spent, spent_by};
 ghost use Rattle.ref_share.specs.HeapMachines.{HeapState, IsHeapMove};
 ghost use Rattle.ref_share.specs.HeapSeats.{HeapEntry, HeapView, heap_view, IsHeapRun, IsHeapSeat};
-ghost use Rattle.ref_share.specs.HeapTraces.{HeapMarkEnded, handed_in, handed_on, named_by, rows_of};
-ghost use Rattle.ref_share.specs.QueueHistories.{KeepsLists, put_in, was_closed};
+ghost use Rattle.ref_share.specs.HeapTraces.{HeapMarkEnded, handed_in, all_handed_on, named_by, rows_of};
+ghost use Rattle.ref_share.specs.QueueHistories.{KeepsLists, all_put_in, is_closed_after};
 ghost use Rattle.ref_share.specs.QueueSeats.{QueueEntry, IsQueueRun, queue_view};
 ghost use Rattle.ref_share.specs.QueueStates.{NoticeLists};
 ghost use Rattle.ref_share.specs.WorkerCalls.{KeepsPace, Works, notices_put, references_of};
@@ -61,14 +61,14 @@ pub fn the_lists_of_a_queue_are_those_of_its_history()
 /// In every history of a queue nothing is put in behind a close.
 pub fn nothing_is_put_in_behind_a_close()
     ensures { (number : ℕ) (front back : List QueueEntry) (last : NoticeLists)
-        → IsQueueRun number (front ++ back) last → was_closed front ≡ true → put_in back ≡ [] }
+        → IsQueueRun number (front ++ back) last → is_closed_after front ≡ true → all_put_in back ≡ [] }
 {}
 
 /// In every history of a queue each notice that was added is for this queue, and is told how many were put in before.
 pub fn each_added_notice_is_for_its_queue()
     ensures { (number by : ℕ) (front back : List QueueEntry) (notice : HeldNotice) (position : ℕ) (last : NoticeLists)
         → IsQueueRun number (front ++ entry by (steps.Put notice) (replies.Put (Ok (Added position))) ∷ back) last
-        → (notice.queue ≡ number) × (position ≡ length (put_in front)) }
+        → (notice.queue ≡ number) × (position ≡ length (all_put_in front)) }
 {}
 
 /// After every history of a heap what is held is what its entries gave out and did not take back: an unhook or a hand
@@ -168,7 +168,7 @@ pub fn each_notice_of_a_cycle_comes_after_its_mark_ended()
 /// In the history of a heap workers hand each reference on at most once, over all cycles.
 pub fn each_reference_is_handed_on_at_most_once()
     ensures { (config : Config) (number : ℕ) (calls : List HeapEntry) (last : HeapState)
-        → IsHeapRun config number calls last → IsDistinct nat_eq (handed_on calls) }
+        → IsHeapRun config number calls last → IsDistinct nat_eq (all_handed_on calls) }
 {}
 
 /// And of what is registered with a queue, a worker hands the references on in the order in which it cleared them: none

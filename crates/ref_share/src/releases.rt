@@ -2,7 +2,7 @@
 
 ghost use Rattle.std.specs.Prelude.{◌≡◌, true};
 ghost use Rattle.ref_share.specs.HeapSeats.{heap_view, IsHeapSeat};
-ghost use Rattle.ref_share.specs.Releases.{hands_nothing_over, Asks, Releases};
+ghost use Rattle.ref_share.specs.Releases.{hands_nothing_over, AsksHeap, Releases};
 
 use crate::{HeapSeat, SharedHeap};
 use ref_base::{Fault, HeapStep, Reply};
@@ -23,7 +23,7 @@ pub(crate) fn ask<R: Wait, A: Allocator + Copy>(
     requires seat { IsHeapSeat heap.now seat.old }
     requires step { hands_nothing_over step ≡ true }
     ensures seat { IsHeapSeat heap.now seat.new }
-    ensures asks { Asks (heap_view seat.old) step result (heap_view seat.new) }
+    ensures asks { AsksHeap (heap_view seat.old) step result (heap_view seat.new) }
 {
     match heap.call(rt, seat, step) {
         Ok(HeapReply::Told(reply)) => Ok(reply),

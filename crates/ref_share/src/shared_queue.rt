@@ -6,8 +6,8 @@ ghost use Rattle.ref_turn.specs.Seats.{Longer, Begins};
 ghost use Rattle.ref_share.specs.declared.answers.ShareFault.TheVariants.{Refused, Busy};
 ghost use Rattle.ref_share.specs.SeatCalls.{TookIn};
 ghost use Rattle.ref_share.specs.QueueSeats.{queue_view, IsQueueSeat, IsNewQueue, LeavesQueue};
-ghost use Rattle.ref_share.specs.QueueCalls.{Puts, PollsNow, PollsWithin, PollsUntil, Closes};
-ghost use Rattle.ref_share.specs.QueueCalls.{IsBack, IsBare, IsPollReply, PollsOnce, TellsPoll, refuses_put};
+ghost use Rattle.ref_share.specs.QueueCalls.{PutsNotice, PollsNow, PollsWithin, PollsUntil, ClosesQueue};
+ghost use Rattle.ref_share.specs.QueueCalls.{ComesBack, IsBare, IsPollReply, PollsOnce, TellsPoll, refuses_put};
 
 use crate::bell::Bell;
 use crate::{Polled, QueueMachine, QueueReply, QueueStep, ShareFault};
@@ -89,8 +89,8 @@ impl<A: Allocator + Copy> SharedQueue<A> {
     ) -> Result<Put<Notice>, (Fault, Notice)>
         requires { IsQueueSeat self.now seat.old }
         ensures seat { IsQueueSeat self.now seat.new }
-        ensures puts { Puts (queue_view seat.old) notice result (queue_view seat.new) }
-        ensures back { IsBack notice result }
+        ensures puts { PutsNotice (queue_view seat.old) notice result (queue_view seat.new) }
+        ensures back { ComesBack notice result }
         ensures faults { IfErr result (λ refused. refuses_put refused.0 ≡ true) }
     {
         match self.turn.call(rt, &mut seat.seat, QueueStep::Put(notice)) {
@@ -204,7 +204,7 @@ impl<A: Allocator + Copy> SharedQueue<A> {
     pub fn close<R: Wait>(&self, rt: &R, seat: &mut QueueSeat<A>) -> Result<bool, ShareFault>
         requires { IsQueueSeat self.now seat.old }
         ensures seat { IsQueueSeat self.now seat.new }
-        ensures closes { Closes (queue_view seat.old) result (queue_view seat.new) }
+        ensures closes { ClosesQueue (queue_view seat.old) result (queue_view seat.new) }
     {
         match self.turn.call(rt, &mut seat.seat, QueueStep::Close) {
             Ok(QueueReply::Closed(was_open)) => {

@@ -12,7 +12,7 @@ use Rattle.std.specs.Prelude.{Option}
 use Rattle.ref_turn.specs.History.{calls_by, Reaches}
 use Rattle.ref_turn.specs.Rule.{IsOpen, Knows, SeatOk, first_view, Turned}
 use Rattle.ref_turn.specs.Seats.{EndsAs}
-use Rattle.ref_turn.specs.Steps.{cut, taken_in, spent_view}
+use Rattle.ref_turn.specs.Steps.{split_view, taken_in, spent_view}
 use Rattle.ref_turn.proofs.Logs.{starts_self, reaches_start, reaches_legal}
 use Rattle.ref_turn.proofs.Stays.{at_below, differs, knows_more, none_within, none_open, settled}
 
@@ -44,9 +44,9 @@ module _ {M X S R : Type 0} (stands_for : M → X → Type 0) (moves : X → S �
   Rule = Turned stands_for moves
 
   -- a new seat is cut off
-  pub splits : (k : Origin M) (id : ℕ) (v : V) → v.stage ≡ Idle → Splits (Rule k) id v v (cut v)
+  pub splits : (k : Origin M) (id : ℕ) (v : V) → v.stage ≡ Idle → Splits (Rule k) id v v (split_view v)
   splits k id v idle s r at =
-      let w : V = cut v in let views : List V = s.views ++ w ∷ [] in
+      let w : V = split_view v in let views : List V = s.views ++ w ∷ [] in
       let unspent : v.stage ≢ Spent = λ is. differs Idle tt (sym idle ∙ is) in
       let was = r.each_seat id v at in
       let own = subst (Knows r.log r.served r.tickets s.views id v) idle was.knows in

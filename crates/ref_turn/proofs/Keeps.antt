@@ -14,9 +14,9 @@ use Rattle.ref_turn.specs.declared.history.Origin.{Origin}
 use Rattle.ref_turn.specs.declared.history.Stage.{Stage}
 use Rattle.ref_turn.specs.declared.history.Stage.TheVariants.{Fresh, Idle, Open, Met, Spent}
 use Rattle.ref_turn.specs.declared.history.View.{View}
-use Rattle.ref_turn.specs.History.{calls_by, StartsWith, Reaches, IsLegal}
-use Rattle.ref_turn.specs.Rule.{IsOpen, IsOwn, IsSpent, Knows, Turned}
-use Rattle.ref_turn.specs.Steps.{drew, named, Shows, added, looked, grabbed}
+use Rattle.ref_turn.specs.History.{calls_by, StartsWith, Reaches, IsLegalLog}
+use Rattle.ref_turn.specs.Rule.{IsOpen, IsOwnView, IsSpent, Knows, Turned}
+use Rattle.ref_turn.specs.Steps.{drew, named, Shows, gave_back, saw, grabbed}
 use Rattle.ref_turn.proofs.Logs.{calls_by-none, starts_self, starts_length, starts_whole}
 use Rattle.ref_turn.proofs.Stays.{at_below, Rests, idle_rests, rests_own, rests_shut, rests_unspent}
 use Rattle.ref_turn.proofs.Stays.{none_within, none_open, settled, after, ended, differs, spent_other}
@@ -55,7 +55,7 @@ module _ {M X S R : Type 0} (stands_for : M → X → Type 0) (moves : X → S �
   -- a seat that holds no turn sees more of what there is
   quiet : (k : Origin M) (s : St) (r : Turned stands_for moves k s) (id : ℕ) (v : V) (number : ℕ)
       (seen : List (Entry S R)) (drawn looks : ℕ) (ws : List ℕ) → get_elem? s.views id ≡ some v → v.stage ≢ Spent
-      → ¬ (IsOpen v.stage) → ws ≡ r.served ∷ r.tickets ∷ [] → IsOwn r.log id (resting v number seen drawn looks)
+      → ¬ (IsOpen v.stage) → ws ≡ r.served ∷ r.tickets ∷ [] → IsOwnView r.log id (resting v number seen drawn looks)
       → StartsWith r.log seen → drawn ≤ r.tickets
       → Turned stands_for moves k
       record { words = ws; homes = s.homes; views = set s.views id (resting v number seen drawn looks) }
@@ -110,7 +110,7 @@ module _ {M X S R : Type 0} (stands_for : M → X → Type 0) (moves : X → S �
   -- a load of the count of ended turns
   pub looks : (k : Origin M) (slots id : ℕ) (me : Known) → Rests me.0.stage
       → Allows (Turned stands_for moves k) slots id me 0 (λ x. x)
-      (looked stands_for moves (step slots 0 0 0 none) me)
+      (saw stands_for moves (step slots 0 0 0 none) me)
   looks k slots id me rests s r _ at _ =
       let x : ℕ = get_or s.words 0 0 in let is : x ≡ r.served = ap (λ ws. get_or ws 0 0) r.words_are in
       let v : V = me.0 in let was = r.each_seat id v at in
@@ -124,7 +124,7 @@ module _ {M X S R : Type 0} (stands_for : M → X → Type 0) (moves : X → S �
         (
           is ∙ r.counted ∙ ap (λ n. n + length r.log) (sym (was.first unspent)),
           was.seen,
-          subst (λ a. IsLegal stands_for moves a r.log) (sym (was.start unspent)) r.legal,
+          subst (λ a. IsLegalLog stands_for moves a r.log) (sym (was.start unspent)) r.legal,
           ap (λ n. calls_by n r.log) own.0 ∙ own.1,
           shows r.log r.served r.tickets s.views id v v.stage (spent_other s.views id v v at unspent) was.knows,
           refl,
@@ -212,7 +212,7 @@ module _ {M X S R : Type 0} (stands_for : M → X → Type 0) (moves : X → S �
       → slots ≡ 1 → me.0.stage ≡ Open → me.1 ≡ (0, Some m) ∷ [] → said ≡ Some e → e.by ≡ me.0.number
       → Reaches stands_for moves me.0.start (me.0.seen ++ e ∷ []) m
       → Allows (Turned stands_for moves k) slots id me 0 (λ n. (n + 1) % 2 ^ 64)
-      (added said (step slots 0 1 0 none) me)
+      (gave_back said (step slots 0 1 0 none) me)
   adds k slots id me said e m one has carries says own reaches s r wide at _ =
       let x : ℕ = get_or s.words 0 0 in let is : x ≡ r.served = ap (λ ws. get_or ws 0 0) r.words_are in
       let v : V = me.0 in let was = r.each_seat id v at in

@@ -5,7 +5,7 @@ use Rattle.std.proofs.Common.{◌≤◌, refl, sym, ap, ◌∙◌, subst, arith,
 use Rattle.std.proofs.lemmas.List.{append-nil}
 use Rattle.std.proofs.lemmas.Option.{same_Some}
 use Rattle.ref_turn.specs.declared.history.Entry.{Entry}
-use Rattle.ref_turn.specs.History.{calls_by, StartsWith, Leads, Reaches, IsLegal}
+use Rattle.ref_turn.specs.History.{calls_by, StartsWith, Leads, Reaches, IsLegalLog}
 
 -- a list is empty where what it begins is empty
 pub nil_before : {A : Type 0} (xs ys : List A) → xs ++ ys ≡ [] → xs ≡ []
@@ -97,7 +97,7 @@ module _ {S R : Type 0} where
 
   module _ {M X : Type 0} (stands_for : M → X → Type 0) (moves : X → S → R → X → Type 0) where
     pub reaches_legal : (start : Option M) (log : List (Entry S R)) (m : M) → Reaches stands_for moves start log m
-        → IsLegal stands_for moves start log
+        → IsLegalLog stands_for moves start log
     reaches_legal start log m reaches a x is stands = let y = reaches a x is stands in (y.0, y.1)
 
     -- one step more leads to the machine after it

@@ -5,7 +5,7 @@ use Rattle.std.specs.Prelude.{Option}
 use Rattle.atomic_table.specs.Table.{rest}
 use Rattle.ref_turn.specs.declared.history.Entry.{Entry}
 use Rattle.ref_turn.specs.declared.history.View.{View}
-use Rattle.ref_turn.specs.History.{calls_by, Reaches, IsLegal}
+use Rattle.ref_turn.specs.History.{calls_by, Reaches, IsLegalLog}
 use Rattle.ref_turn.specs.Seats.{entry, Extends, IsHistory}
 use Rattle.ref_turn.specs.Turns.{HoldsMachine, HoldsTurn}
 use Rattle.ref_turn.proofs.Logs.{calls_by-own, reaches_legal, reaches-snoc}
@@ -45,8 +45,8 @@ module _ {M X S R : Type 0} (stands_for : M → X → Type 0) (moves : X → S �
       → Reaches stands_for moves v.start (v.seen ++ e ∷ []) m → Extends v e w → w.seen ≡ v.seen ++ e ∷ []
       → IsHistory stands_for moves w
   ran v w e m own mine reaches extends seen = (
-    subst (λ l. IsLegal stands_for moves w.start l) (sym seen)
-        (subst (λ a. IsLegal stands_for moves a (v.seen ++ e ∷ [])) (sym extends.0.2)
+    subst (λ l. IsLegalLog stands_for moves w.start l) (sym seen)
+        (subst (λ a. IsLegalLog stands_for moves a (v.seen ++ e ∷ [])) (sym extends.0.2)
         (reaches_legal stands_for moves v.start (v.seen ++ e ∷ []) m reaches)),
     (λ i. calls_by (extends.0.0 i) (seen i))
         ∙ calls_by-own v.number v.seen e own

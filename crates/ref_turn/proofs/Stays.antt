@@ -15,7 +15,7 @@ use Rattle.ref_turn.specs.declared.history.Stage.{Stage}
 use Rattle.ref_turn.specs.declared.history.Stage.TheVariants.{Fresh, Idle, Open, Met, Spent}
 use Rattle.ref_turn.specs.declared.history.View.{View}
 use Rattle.ref_turn.specs.History.{StartsWith, Reaches}
-use Rattle.ref_turn.specs.Rule.{IsOpen, NoneOpen, IsSpent, IsOwn, Knows, SeatOk, IsHome, Turned}
+use Rattle.ref_turn.specs.Rule.{IsOpen, NoneOpen, IsSpent, IsOwnView, Knows, SeatOk, IsHome, Turned}
 use Rattle.ref_turn.proofs.Logs.{calls_by-own, calls_by-other, starts_self, starts_more, reaches_legal}
 
 pub at_below : {A : Type 0} (l : List A) (i : ℕ) (a : A) → get_elem? l i ≡ some a → i < length l
@@ -60,7 +60,7 @@ module _ {S R : Type 0} where
 
 module _ {M S R : Type 0} (log : List (Entry S R)) (served tickets : ℕ) (views : List (View M S R)) (seat : ℕ)
     (v : View M S R) where
-  pub rests_own : (st : Stage S R) → Rests st → Knows log served tickets views seat v st → IsOwn log seat v
+  pub rests_own : (st : Stage S R) → Rests st → Knows log served tickets views seat v st → IsOwnView log seat v
   rests_own Fresh rests knows = absurd rests
   rests_own Idle rests knows = knows
   rests_own Open rests knows = absurd rests

@@ -25,5 +25,5 @@ module _ {S R : Type 0} where
         (a : M) (x : X) → start ≡ Some a → stands_for a x → (y : X) × Leads moves x log y × stands_for m y
 
     -- from each state that the first machine stands for the entries lead somewhere
-    abbrev pub IsLegal : Option M → List (Entry S R) → Type 0
-    IsLegal start log = (a : M) (x : X) → start ≡ Some a → stands_for a x → (y : X) × Leads moves x log y
+    abbrev pub IsLegalLog : Option M → List (Entry S R) → Type 0
+    IsLegalLog start log = (a : M) (x : X) → start ≡ Some a → stands_for a x → (y : X) × Leads moves x log y

@@ -9,7 +9,7 @@ use Rattle.ref_turn.specs.declared.history.Origin.{Origin}
 use Rattle.ref_turn.specs.declared.history.Stage.{Stage}
 use Rattle.ref_turn.specs.declared.history.Stage.TheVariants.{Fresh, Idle, Open, Met, Spent}
 use Rattle.ref_turn.specs.declared.history.View.{View}
-use Rattle.ref_turn.specs.History.{calls_by, StartsWith, Reaches, IsLegal}
+use Rattle.ref_turn.specs.History.{calls_by, StartsWith, Reaches, IsLegalLog}
 
 module _ {S R : Type 0} where
   -- the seat holds the turn
@@ -30,16 +30,16 @@ module _ {M S R : Type 0} where
   IsSpent views k = (w : View M S R) × (get_elem? views k ≡ some w) × (w.stage ≡ Spent)
 
   -- its number is its place, and its own calls are those it has
-  abbrev pub IsOwn : List (Entry S R) → ℕ → View M S R → Type 0
-  IsOwn log seat v = (v.number ≡ seat) × (calls_by seat log ≡ v.mine)
+  abbrev pub IsOwnView : List (Entry S R) → ℕ → View M S R → Type 0
+  IsOwnView log seat v = (v.number ≡ seat) × (calls_by seat log ≡ v.mine)
 
   -- what a seat at some stage knows of the history, the words and the other seats
   abbrev pub Knows : List (Entry S R) → ℕ → ℕ → List (View M S R) → ℕ → View M S R → Stage S R → Type 0
   Knows log served tickets views seat v Fresh = (calls_by seat log ≡ []) × (v.mine ≡ []) × (v.number < seat)
-  Knows log served tickets views seat v Idle = IsOwn log seat v
-  Knows log served tickets views seat v Open = IsOwn log seat v × (served < tickets) × (v.seen ≡ log)
+  Knows log served tickets views seat v Idle = IsOwnView log seat v
+  Knows log served tickets views seat v Open = IsOwnView log seat v × (served < tickets) × (v.seen ≡ log)
   Knows log served tickets views seat v (Met k seen mine) =
-      IsOwn log seat v × StartsWith log seen × (calls_by k log ≡ mine) × IsSpent views k
+      IsOwnView log seat v × StartsWith log seen × (calls_by k log ≡ mine) × IsSpent views k
   Knows log served tickets views seat v Spent = Unit {0}
 
   -- what is true of each seat
@@ -78,7 +78,7 @@ module _ {M X S R : Type 0} (stands_for : M → X → Type 0) (moves : X → S �
     pub counted : served ≡ k.first + length log
     pub behind : served ≤ tickets
     pub small : tickets < 2 ^ 64
-    pub legal : IsLegal stands_for moves k.start.value log
+    pub legal : IsLegalLog stands_for moves k.start.value log
     pub home : NoneOpen s.views → IsHome k log s.homes
     pub each_seat : (j : ℕ) (v : View M S R) → get_elem? s.views j ≡ some v
         → SeatOk k log served tickets s.views j v

@@ -2,7 +2,7 @@
 use Rattle.std.specs.Prelude.{◌≡◌, ℕ, ◌+◌, ◌-◌, ◌^◌, ◌<◌, List, [], ◌∷◌, ◌++◌, length, Some}
 use Rattle.ref_turn.specs.declared.history.Entry.{Entry}
 use Rattle.ref_turn.specs.declared.history.View.{View}
-use Rattle.ref_turn.specs.History.{calls_by, StartsWith, Reaches, IsLegal}
+use Rattle.ref_turn.specs.History.{calls_by, StartsWith, Reaches, IsLegalLog}
 
 module _ {S R : Type 0} where
   -- the entry of a call
@@ -27,7 +27,7 @@ module _ {M S R : Type 0} where
 
   -- what it has seen is legal, and its own calls are all that stand there under its number
   abbrev pub IsHistory : {X : Type 0} → (M → X → Type 0) → (X → S → R → X → Type 0) → View M S R → Type 0
-  IsHistory stands_for moves w = IsLegal stands_for moves w.start w.seen × (calls_by w.number w.seen ≡ w.mine)
+  IsHistory stands_for moves w = IsLegalLog stands_for moves w.start w.seen × (calls_by w.number w.seen ≡ w.mine)
 
   -- a machine stands for a state after some history that begins with what was seen, and has no further own call
   abbrev pub EndsAs : {X : Type 0} → (M → X → Type 0) → (X → S → R → X → Type 0) → View M S R → M → Type 0

@@ -5,7 +5,7 @@ use Rattle.ref_turn.specs.declared.history.Entry.{Entry}
 use Rattle.ref_turn.specs.declared.history.Stage.{Stage}
 use Rattle.ref_turn.specs.declared.history.Stage.TheVariants.{Fresh, Idle, Open, Met, Spent}
 use Rattle.ref_turn.specs.declared.history.View.{View}
-use Rattle.ref_turn.specs.History.{calls_by, StartsWith, Reaches, IsLegal}
+use Rattle.ref_turn.specs.History.{calls_by, StartsWith, Reaches, IsLegalLog}
 
 abbrev Known : Type 0 → Type 0 → Type 0 → Type 0
 Known M S R = Me (Option M) (View M S R)
@@ -33,14 +33,14 @@ module _ {M S R : Type 0} where
       × (n ≡ (record m.0 { stage = Idle; number = n.0.number; drawn = r }, m.1))
 
   -- the turn ended with this entry, and the machine is given back
-  abbrev pub added : Option (Entry S R) → Step (Option M) → Known M S R → ℕ → Known M S R → Type 0
-  added said s m r n =
+  abbrev pub gave_back : Option (Entry S R) → Step (Option M) → Known M S R → ℕ → Known M S R → Type 0
+  gave_back said s m r n =
       (e : Entry S R) → said ≡ Some e
       → n ≡ (record m.0 { stage = Idle; seen = m.0.seen ++ e ∷ []; mine = m.0.mine ++ e ∷ [] }, rest m.1)
 
   -- the view of a new seat
-  abbrev pub cut : View M S R → View M S R
-  cut v = record v { stage = Fresh; mine = []; looks = 0 }
+  abbrev pub split_view : View M S R → View M S R
+  split_view v = record v { stage = Fresh; mine = []; looks = 0 }
 
   -- the view of a seat that takes another in
   abbrev pub taken_in : View M S R → View M S R → View M S R
@@ -61,11 +61,11 @@ module _ {M S R : Type 0} where
 
 module _ {M X S R : Type 0} (stands_for : M → X → Type 0) (moves : X → S → R → X → Type 0) where
   -- r turns have ended: the seat has seen the whole history
-  abbrev pub looked : Step (Option M) → Known M S R → ℕ → Known M S R → Type 0
-  looked s m r n =
+  abbrev pub saw : Step (Option M) → Known M S R → ℕ → Known M S R → Type 0
+  saw s m r n =
       (r ≡ m.0.first + length n.0.seen)
       × StartsWith n.0.seen m.0.seen
-      × IsLegal stands_for moves m.0.start n.0.seen
+      × IsLegalLog stands_for moves m.0.start n.0.seen
       × (calls_by m.0.number n.0.seen ≡ m.0.mine)
       × Shows m.0.number n.0.seen m.0.stage
       × (n ≡ (record m.0 { stage = Idle; seen = n.0.seen; looks = m.0.looks + 1 }, m.1))

@@ -16,7 +16,7 @@ use Rattle.ref_base.proofs.HeapRowLaws.{carried_row, row_others}
 use Rattle.ref_mark.proofs.OtherHands.{stands-with_others}
 use Rattle.ref_clear.specs.ClearHeaps.{ClearHeap}
 use Rattle.ref_clear.specs.ClearCalls.{answer_in, after_in}
-use Rattle.ref_clear.specs.Standing.{Stands as HeapStands}
+use Rattle.ref_clear.specs.Standing.{HeapStands}
 use Rattle.ref_clear.proofs.HeapLaws.{each_step}
 use Rattle.ref_clear.proofs.OwnNumbers.{number_after}
 use Rattle.ref_world.specs.AskedSteps.{is_quiet, Asks, received}

@@ -6,7 +6,7 @@ use Rattle.ref_base.specs.Collectors.{first_state}
 use Rattle.ref_base.specs.declared.config.Config.{Config}
 use Rattle.ref_base.proofs.SoundWorlds.{first_queue}
 use Rattle.ref_clear.specs.ClearHeaps.{ClearHeap, first_clear_heap}
-use Rattle.ref_clear.specs.Standing.{Stands as HeapStands}
+use Rattle.ref_clear.specs.Standing.{HeapStands}
 use Rattle.ref_world.specs.Cores.{Hands, first_hands, first_core}
 use Rattle.ref_world.specs.Standing.{Stands, IsSound}
 

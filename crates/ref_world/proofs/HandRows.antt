@@ -18,8 +18,8 @@ use Rattle.ref_mark.specs.MarkCalls.{unless_refused}
 use Rattle.ref_clear.specs.ClearHeaps.{ClearHeap}
 use Rattle.ref_clear.specs.ClearCalls.{answer_in, after_in}
 use Rattle.ref_world.specs.AskedSteps.{received}
-use Rattle.ref_world.specs.Cores.{Core, Hands, hand_in, with_hand_in, is_there, filling_refusal, emptying_refusal}
-use Rattle.ref_world.specs.HeapReplies.{told_reply, Gives, IsTold}
+use Rattle.ref_world.specs.Cores.{Core, Hands, hand_in, with_hand_in, has_hand, filling_refusal, emptying_refusal}
+use Rattle.ref_world.specs.HeapReplies.{told_reply, GivesOut, IsTold}
 use Rattle.ref_world.specs.Standing.{IsReached, IsRowOf}
 use Rattle.ref_world.specs.declared.heap_machine.HeapReply.{HeapReply}
 use Rattle.ref_world.specs.declared.heap_machine.HeapReply.TheVariants.{Told, Notice as Given, Held, Back}
@@ -32,7 +32,7 @@ use Rattle.ref_world.proofs.Refusals.{same_actor, unless_passed, empty_from}
 pub free_from : (hands : Hands) (who : Actor) → filling_refusal hands who ≡ None → hand_in hands who ≡ None
 free_from hands who accepted =
     empty_from (hand_in hands who)
-    (unless_passed (is_there hands who) NoSuchActor (unless_full (hand_in hands who) None) accepted).1
+    (unless_passed (has_hand hands who) NoSuchActor (unless_full (hand_in hands who) None) accepted).1
 
 -- the hand that an unhook's notice goes to
 pub unhook_row : (c : Core) (m s : ℕ) → hand_in c.hands (Mutator m) ≡ None
@@ -52,19 +52,19 @@ hand_row c k free a stands =
 -- ---- a full hand: its notice is a hold that the heap counts, so an adopt and a release are accepted
 
 -- a hand that is emptied is there
-pub there_from : (hands : Hands) (who : Actor) → emptying_refusal hands who ≡ None → is_there hands who ≡ true
+pub there_from : (hands : Hands) (who : Actor) → emptying_refusal hands who ≡ None → has_hand hands who ≡ true
 there_from hands who accepted =
-    (unless_passed (is_there hands who) NoSuchActor (empty_hand_refusal (hand_in hands who)) accepted).0
+    (unless_passed (has_hand hands who) NoSuchActor (empty_hand_refusal (hand_in hands who)) accepted).0
 
 -- what is accepted gives no hold back
 pub adopted_told : (number m d : ℕ) (hold : HoldName) (reply : HeapReply) (n : ℕ)
-    → Gives number (heap.Adopt m d hold) reply → told_reply reply ≡ replies.Object n → IsTold reply
+    → GivesOut number (heap.Adopt m d hold) reply → told_reply reply ≡ replies.Object n → IsTold reply
 adopted_told number m d hold (Told told) n gives is = tt
 adopted_told number m d hold (Given notice) n gives is = absurd gives
 adopted_told number m d hold (Held held) n gives is = absurd gives
 adopted_told number m d hold (Back fault back) n gives is = absurd cc
 
-pub released_told : (number : ℕ) (hold : HoldName) (reply : HeapReply) → Gives number (heap.Release hold) reply
+pub released_told : (number : ℕ) (hold : HoldName) (reply : HeapReply) → GivesOut number (heap.Release hold) reply
     → told_reply reply ≡ replies.Done → IsTold reply
 released_told number hold (Told told) gives is = tt
 released_told number hold (Given notice) gives is = absurd gives
@@ -75,12 +75,12 @@ module _ (c : Core) (reached : IsReached c) where
   zero_no : c.heap.mark.heap_no ≡ 0
   zero_no = reached.stands.number
 
-  counted : (who : Actor) (notice : Notice) → is_there c.hands who ≡ true → hand_in c.hands who ≡ Some notice
+  counted : (who : Actor) (notice : Notice) → has_hand c.hands who ≡ true → hand_in c.hands who ≡ Some notice
       → ((0 == c.heap.mark.heap_no) && has c.heap.mark.heap.holds notice.object) ≡ true
   counted who notice there full = rw (zero_no, hand_is_counted c reached who notice there full) refl
 
   pub adopted_reply : (m d : ℕ) (notice : Notice) → drop_refusal c.heap.mark.heap m d ≡ None
-      → is_there c.hands (Mutator m) ≡ true → hand_in c.hands (Mutator m) ≡ Some notice
+      → has_hand c.hands (Mutator m) ≡ true → hand_in c.hands (Mutator m) ≡ Some notice
       → answer_in c.heap (heap.Adopt m d (hold_of notice)) ≡ replies.Object notice.object
   adopted_reply m d notice slot there full =
       let within = unless_passed (has_slot c.heap.mark.heap m d) NoSuchActor None slot in
@@ -90,14 +90,14 @@ module _ (c : Core) (reached : IsReached c) where
       ∙ ap (λ test. unless test ForeignHold None) (counted (Mutator m) notice there full))
 
   pub released_reply : (who : Actor) (notice : Notice)
-      → is_there c.hands who ≡ true → hand_in c.hands who ≡ Some notice
+      → has_hand c.hands who ≡ true → hand_in c.hands who ≡ Some notice
       → answer_in c.heap (heap.Release (hold_of notice)) ≡ replies.Done
   released_reply who notice there full =
       ap (λ refused. unless_refused refused replies.Refused replies.Done)
       (ap (λ test. unless test ForeignHold None) (counted who notice there full))
 
   adopt_row : (m d : ℕ) (notice : Notice) → drop_refusal c.heap.mark.heap m d ≡ None
-      → is_there c.hands (Mutator m) ≡ true → hand_in c.hands (Mutator m) ≡ Some notice
+      → has_hand c.hands (Mutator m) ≡ true → hand_in c.hands (Mutator m) ≡ Some notice
       → IsRowOf c (steps.Adopt m d) (replies.Object notice.object)
       (asked_core c (heap.Adopt m d (hold_of notice)) (with_hand_in c.hands (Mutator m) None))
   adopt_row m d notice slot there full a stands =
@@ -110,7 +110,7 @@ module _ (c : Core) (reached : IsReached c) where
       (asked_row c a (steps.Adopt m d) asked stands (ap (spending (λ hold. heap.Adopt m d hold)) hand)
       (full_adopt a m d notice hand held))
 
-  release_row : (who : Actor) (notice : Notice) → is_there c.hands who ≡ true → hand_in c.hands who ≡ Some notice
+  release_row : (who : Actor) (notice : Notice) → has_hand c.hands who ≡ true → hand_in c.hands who ≡ Some notice
       → IsRowOf c (steps.Release who) replies.Done
       (asked_core c (heap.Release (hold_of notice)) (with_hand_in c.hands who None))
   release_row who notice there full a stands =

@@ -29,7 +29,7 @@ use Rattle.ref_base.proofs.OutTraces.{legal_agrees, legal_others}
 use Rattle.ref_base.proofs.ScannedOnce.{legal_scanned_once}
 use Rattle.ref_base.proofs.RunLaws.{front_is_legal}
 use Rattle.ref_base.proofs.SameOthers.{same_hand}
-use Rattle.ref_world.specs.Cores.{Core, queue_at}
+use Rattle.ref_world.specs.Cores.{Core, core_queue_at}
 use Rattle.ref_world.specs.Headline.{Adds, TakenThenStanding, QueuesTell, Positions, InClearingOrder, AtMostOnce}
 use Rattle.ref_world.specs.Headline.{OwnQueue, OwnEnqueueCall, AfterAMarkEnded, NothingAfterClose, ScannedOnce}
 use Rattle.ref_mark.specs.CycleHeaps.{CycleHeap}
@@ -53,7 +53,7 @@ module _ (config : Config) (rows : List Row) (last : Core) (b : State) (run : Is
 
   pub taken_then_standing : TakenThenStanding rows last
   taken_then_standing q =
-      ap (λ ns. ns ++ map object_of (queue_at last q).stands) (sym (queues_tell.taken q)) ∙ queues_tell.enqueued q
+      ap (λ ns. ns ++ map object_of (core_queue_at last q).stands) (sym (queues_tell.taken q)) ∙ queues_tell.enqueued q
 
   -- the heap as its rows give it
   pub heap_tells : HeapTells config rows last

@@ -22,10 +22,10 @@ use Rattle.ref_base.proofs.RowLaws.{ticked_world}
 use Rattle.ref_mark.proofs.OtherHands.{with_others, stands-with_others}
 use Rattle.ref_mark.proofs.ReferenceRows.{unmoved_stands}
 use Rattle.ref_clear.specs.ClearHeaps.{ClearHeap}
-use Rattle.ref_clear.specs.Standing.{Stands as HeapStands}
+use Rattle.ref_clear.specs.Standing.{HeapStands}
 use Rattle.ref_queue.specs.QueueAnswers.{RefusesPut}
 use Rattle.ref_world.specs.Cores.{Core, Hands, hand_in, with_hand_in, emptying_refusal, calling_refusal, queue_refusal}
-use Rattle.ref_world.specs.Cores.{queue_at as queue_in}
+use Rattle.ref_world.specs.Cores.{core_queue_at as queue_in}
 use Rattle.ref_world.specs.Standing.{Stands, IsReached, IsRowOf}
 use Rattle.ref_world.proofs.AskedRows.{hands_of, hands_are, row_to}
 use Rattle.ref_world.proofs.HandRows.{there_from}

@@ -19,7 +19,7 @@ use Rattle.ref_base.proofs.LegalQueues.{run_sound}
 use Rattle.ref_base.proofs.RowLaws.{actor_has}
 use Rattle.ref_base.proofs.RunLaws.{run_more}
 use Rattle.ref_base.proofs.SoundWorlds.{IsSound, NoticeBelow, first_sound}
-use Rattle.ref_world.specs.Cores.{Core, is_there, hand_in}
+use Rattle.ref_world.specs.Cores.{Core, has_hand, hand_in}
 use Rattle.ref_world.specs.Standing.{Stands, IsRowOf, IsReached}
 
 -- the heap as the state has it has the core's configuration and holds
@@ -58,7 +58,7 @@ module _ (c : Core) (reached : IsReached c) where
   config = same_config c reached.state reached.stands
 
   -- there is a hand for each actor, and no other
-  pub same_actors : (who : Actor) → is_there c.hands who ≡ is_actor c.heap.mark.heap who
+  pub same_actors : (who : Actor) → has_hand c.hands who ≡ is_actor c.heap.mark.heap who
   same_actors (Mutator m) =
       ap (λ (hs : List (Option Notice)). nat_lt m (length hs)) (sym reached.stands.mutator_hands)
       ∙ ap (nat_lt m) sound.mutator_hands ∙ ap (λ (f : Config). nat_lt m f.mutators) config
@@ -73,7 +73,7 @@ module _ (c : Core) (reached : IsReached c) where
       ∙ ap (λ (f : Config). f.queues) config
 
   -- a notice in a hand is a hold that the heap counts, and is for a queue that is there
-  pub hand_is_counted : (who : Actor) (notice : Notice) → is_there c.hands who ≡ true
+  pub hand_is_counted : (who : Actor) (notice : Notice) → has_hand c.hands who ≡ true
       → hand_in c.hands who ≡ Some notice → has c.heap.mark.heap.holds notice.object ≡ true
   hand_is_counted who notice there full =
       subst (λ ns. has ns notice.object ≡ true) (same_holds c reached.state reached.stands)

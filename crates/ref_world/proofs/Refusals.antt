@@ -15,7 +15,7 @@ use Rattle.ref_base.specs.declared.heap_step.HeapStep.TheVariants as heap
 use Rattle.ref_base.specs.declared.reply.Reply.TheVariants as replies
 use Rattle.ref_base.specs.declared.step.Step.{Step}
 use Rattle.ref_base.specs.declared.step.Step.TheVariants as steps
-use Rattle.ref_world.specs.Cores.{Core, hand_in, is_there, filling_refusal, emptying_refusal, calling_refusal, queue_refusal}
+use Rattle.ref_world.specs.Cores.{Core, hand_in, has_hand, filling_refusal, emptying_refusal, calling_refusal, queue_refusal}
 use Rattle.ref_world.specs.Standing.{Stands, IsReached, IsRowOf}
 use Rattle.ref_world.proofs.ReachedCores.{same_config, same_hand, same_actors, queue_count}
 
@@ -121,7 +121,7 @@ module _ (c : Core) (reached : IsReached c) where
       → unless (is_actor a.world.heap who) NoSuchActor (unless_full (hand_of a.world who) later) ≡ Some fault
   filling who fault refused later a stands =
       rw (same_actor c a stands who ∙ sym (same_actors c reached who), same_hand c a stands who)
-      (full_or_none (is_there c.hands who) (hand_in c.hands who) fault later refused)
+      (full_or_none (has_hand c.hands who) (hand_in c.hands who) fault later refused)
 
   emptying : (who : Actor) (fault : Fault) → emptying_refusal c.hands who ≡ Some fault → (a : State) → Stands c a
       → unless (is_actor a.world.heap who) NoSuchActor (empty_hand_refusal (hand_of a.world who)) ≡ Some fault

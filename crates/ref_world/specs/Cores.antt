@@ -41,9 +41,9 @@ first_core config = record {
 -- ---- hands and queues
 
 -- whether there is such a hand
-abbrev pub is_there : Hands → Actor → Bool
-is_there hands (Mutator m) = nat_lt m (length hands.mutators)
-is_there hands (Worker k) = nat_lt k (length hands.workers)
+abbrev pub has_hand : Hands → Actor → Bool
+has_hand hands (Mutator m) = nat_lt m (length hands.mutators)
+has_hand hands (Worker k) = nat_lt k (length hands.workers)
 
 abbrev pub hand_in : Hands → Actor → Option Notice
 hand_in hands (Mutator m) = slice_index_or hands.mutators m None
@@ -55,14 +55,14 @@ with_hand_in hands (Worker k) hand = record hands { workers = slice_set hands.wo
 
 -- of a step that fills a hand: NoSuchActor, then HandFull
 abbrev pub filling_refusal : Hands → Actor → Option Fault
-filling_refusal hands who = unless (is_there hands who) NoSuchActor (unless_full (hand_in hands who) None)
+filling_refusal hands who = unless (has_hand hands who) NoSuchActor (unless_full (hand_in hands who) None)
 
 -- and of one that empties it: NoSuchActor, then HandEmpty
 abbrev pub emptying_refusal : Hands → Actor → Option Fault
-emptying_refusal hands who = unless (is_there hands who) NoSuchActor (empty_hand_refusal (hand_in hands who))
+emptying_refusal hands who = unless (has_hand hands who) NoSuchActor (empty_hand_refusal (hand_in hands who))
 
-abbrev pub queue_at : Core → ℕ → Lists Notice
-queue_at c q = slice_index_or c.queues q (new_queue q)
+abbrev pub core_queue_at : Core → ℕ → Lists Notice
+core_queue_at c q = slice_index_or c.queues q (new_queue q)
 
 -- BadQueue where there is no queue of this number
 abbrev pub queue_refusal : Core → ℕ → Option Fault

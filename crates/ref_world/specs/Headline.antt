@@ -19,7 +19,7 @@ use Rattle.ref_base.specs.declared.config.Config.{Config}
 use Rattle.ref_base.specs.declared.reply.Reply.TheVariants as replies
 use Rattle.ref_base.specs.declared.row.Row.{Row}
 use Rattle.ref_base.specs.declared.step.Step.TheVariants as steps
-use Rattle.ref_world.specs.Cores.{Core, queue_at}
+use Rattle.ref_world.specs.Cores.{Core, core_queue_at}
 
 -- behind these front rows of a trace comes a put that adds the notice, which the actor's hand holds there
 pub record Adds (config : Config) (rows front : List Row) (position : ℕ) (notice : Notice) : Type 0 where
@@ -37,12 +37,12 @@ OfAdded config rows P =
 -- what was taken from a queue, followed by what stands in it, is what was put in
 abbrev pub TakenThenStanding : List Row → Core → Type 0
 TakenThenStanding rows last =
-    (q : ℕ) → taken_from q rows ++ map object_of (queue_at last q).stands ≡ put_into q rows
+    (q : ℕ) → taken_from q rows ++ map object_of (core_queue_at last q).stands ≡ put_into q rows
 
 -- the lists that a queue keeps are those of the rows
 pub record QueuesTell (rows : List Row) (last : Core) : Type 0 where
-  pub enqueued : (q : ℕ) → enqueued object_of (queue_at last q) ≡ put_into q rows
-  pub taken : (q : ℕ) → (queue_at last q).taken ≡ taken_from q rows
+  pub enqueued : (q : ℕ) → enqueued object_of (core_queue_at last q) ≡ put_into q rows
+  pub taken : (q : ℕ) → (core_queue_at last q).taken ≡ taken_from q rows
 
 -- an added notice is told how many were put into its queue before
 abbrev pub Positions : Config → List Row → Type 0

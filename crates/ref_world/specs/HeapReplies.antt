@@ -21,19 +21,19 @@ told_reply (Back fault hold) = replies.Refused fault
 -- What a step gives out: only an unhook and a hand give notices, only a hold gives a hold, and each is of its own heap;
 -- none of them tells of one that it doesn't give. An adopt and a release give the hold back that they were given, unless
 -- they spend it.
-abbrev pub Gives : (heap_no : ℕ) → NamedStep → HeapReply → Type 0
-Gives heap_no (heap.Unhook m s) (Told reply) = told_notice reply ≡ None
-Gives heap_no (heap.Hand k) (Told reply) = told_notice reply ≡ None
-Gives heap_no (heap.Hold m s) (Told reply) = told_object reply ≡ None
-Gives heap_no (heap.Adopt m d hold) (Told reply) = (n : ℕ) × (reply ≡ replies.Object n)
-Gives heap_no (heap.Release hold) (Told reply) = reply ≡ replies.Done
-Gives heap_no step (Told reply) = Unit {0}
-Gives heap_no (heap.Unhook m s) (Notice notice) = notice.hold.heap_no ≡ heap_no
-Gives heap_no (heap.Hand k) (Notice notice) = notice.hold.heap_no ≡ heap_no
-Gives heap_no (heap.Hold m s) (Held hold) = hold.heap_no ≡ heap_no
-Gives heap_no (heap.Adopt m d hold) (Back fault back) = back ≡ hold
-Gives heap_no (heap.Release hold) (Back fault back) = back ≡ hold
-Gives heap_no step reply = ⊥
+abbrev pub GivesOut : (heap_no : ℕ) → NamedStep → HeapReply → Type 0
+GivesOut heap_no (heap.Unhook m s) (Told reply) = told_notice reply ≡ None
+GivesOut heap_no (heap.Hand k) (Told reply) = told_notice reply ≡ None
+GivesOut heap_no (heap.Hold m s) (Told reply) = told_object reply ≡ None
+GivesOut heap_no (heap.Adopt m d hold) (Told reply) = (n : ℕ) × (reply ≡ replies.Object n)
+GivesOut heap_no (heap.Release hold) (Told reply) = reply ≡ replies.Done
+GivesOut heap_no step (Told reply) = Unit {0}
+GivesOut heap_no (heap.Unhook m s) (Notice notice) = notice.hold.heap_no ≡ heap_no
+GivesOut heap_no (heap.Hand k) (Notice notice) = notice.hold.heap_no ≡ heap_no
+GivesOut heap_no (heap.Hold m s) (Held hold) = hold.heap_no ≡ heap_no
+GivesOut heap_no (heap.Adopt m d hold) (Back fault back) = back ≡ hold
+GivesOut heap_no (heap.Release hold) (Back fault back) = back ≡ hold
+GivesOut heap_no step reply = ⊥
 
 -- nothing is given out
 abbrev pub IsTold : HeapReply → Type 0

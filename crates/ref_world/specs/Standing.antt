@@ -8,8 +8,8 @@ use Rattle.ref_base.specs.declared.reply.Reply.{Reply}
 use Rattle.ref_base.specs.declared.reply.Reply.TheVariants.{Refused}
 use Rattle.ref_base.specs.declared.row.Row.{Row}
 use Rattle.ref_base.specs.declared.step.Step.{Step}
-use Rattle.ref_clear.specs.Standing.{Stands as HeapStands}
-use Rattle.ref_world.specs.Cores.{Core, queue_at}
+use Rattle.ref_clear.specs.Standing.{HeapStands}
+use Rattle.ref_world.specs.Cores.{Core, core_queue_at}
 
 -- its heap, which has number 0, stands for the state, and hands and queues are the state's
 pub record Stands (c : Core) (a : State) : Type 0 where
@@ -41,4 +41,4 @@ pub record IsReached (c : Core) : Type 0 where
 -- and each queue knows its number
 pub record IsSound (c : Core) : Type 0 where
   pub reached : IsReached c
-  pub numbered : (q : ℕ) → (queue_at c q).queue ≡ q
+  pub numbered : (q : ℕ) → (core_queue_at c q).queue ≡ q

@@ -5,8 +5,8 @@ ghost use Rattle.ref_base.specs.Collectors.{State};
 ghost use Rattle.ref_base.specs.CollectorRows.{IsHeapRow};
 ghost use Rattle.ref_mark.specs.MarkCalls.{reply_of, reply_or_back, hold_reply, done_reply};
 ghost use Rattle.ref_clear.specs.ClearCalls.{answer_in, after_in, notice_reply, IsOfHeap};
-ghost use Rattle.ref_clear.specs.Standing.{Stands};
-ghost use Rattle.ref_world.specs.HeapReplies.{told_reply, Gives, IsGiven, IsHeld, IsBack, IsTold};
+ghost use Rattle.ref_clear.specs.Standing.{HeapStands};
+ghost use Rattle.ref_world.specs.HeapReplies.{told_reply, GivesOut, IsGiven, IsHeld, IsBack, IsTold};
 
 use crate::replies::{began, done, doomed, looked, made, refers, scanned, swept, value};
 use ref_base::{Fault, HeapStep, ObjNo, Reply};
@@ -34,12 +34,12 @@ pub enum HeapReply {
 /// hold of an adopt or a release comes back. Costs are those of the heap's calls. Takes no memory.
 pub fn apply_heap<A: Allocator + Copy>(heap: &mut WorldHeap<A>, step: HeapStep<Hold>) -> HeapReply
     ensures answer { told_reply result ≡ answer_in heap.old step }
-    ensures gives { Gives heap.old.mark.heap_no step result }
+    ensures gives { GivesOut heap.old.mark.heap_no step result }
     ensures after { heap.new ≡ after_in heap.old step }
 
     // One row of the heap's machine, from each state that the heap stands for to one that it then stands for.
-    ensures row { (a : State) → Stands heap.old a
-        → (b : State) × IsHeapRow heap.old.mark.heap_no a step (told_reply result) b × Stands heap.new b }
+    ensures row { (a : State) → HeapStands heap.old a
+        → (b : State) × IsHeapRow heap.old.mark.heap_no a step (told_reply result) b × HeapStands heap.new b }
 {
     called(heap, step)
 }
@@ -47,7 +47,7 @@ pub fn apply_heap<A: Allocator + Copy>(heap: &mut WorldHeap<A>, step: HeapStep<H
 // The call of the heap that does the step. That it is a row follows from these clauses, once for all steps.
 fn called<A: Allocator + Copy>(heap: &mut WorldHeap<A>, step: HeapStep<Hold>) -> HeapReply
     ensures answer { told_reply result ≡ answer_in heap.old step }
-    ensures gives { Gives heap.old.mark.heap_no step result }
+    ensures gives { GivesOut heap.old.mark.heap_no step result }
     ensures after { heap.new ≡ after_in heap.old step }
 {
     match step {

@@ -6,7 +6,7 @@ ghost use Rattle.ref_base.specs.Heaps.{slot_at, reference_at};
 ghost use Rattle.ref_base.specs.Refusals.{clear_refusal, has_slot, is_actor, is_mutator, is_queue};
 ghost use Rattle.ref_objects.specs.Grounds.{starting_refusal, IsMade, IsRefused};
 ghost use Rattle.ref_base.specs.QueueLists.{new_queues};
-ghost use Rattle.ref_world.specs.Cores.{first_core, queue_at, queue_refusal};
+ghost use Rattle.ref_world.specs.Cores.{first_core, core_queue_at, queue_refusal};
 ghost use Rattle.ref_world.specs.Standing.{Stands, IsRowOf};
 
 mod queues;
@@ -81,7 +81,7 @@ impl<A: Allocator + Copy> World<A> {
     /// The queue of this number. The one error is `BadQueue`.
     pub fn queue(&self, no: QueueNo) -> Result<&Queue<WorldNotice, A>, Fault>
         ensures refused { IsRefused (queue_refusal self.now no) result }
-        ensures answer { IfOk result (λ queue. queue.now ≡ queue_at self.now no) }
+        ensures answer { IfOk result (λ queue. queue.now ≡ core_queue_at self.now no) }
     {
         if no.0 >= self.heap.config().queues {
             return Err(Fault::BadQueue);

@@ -2,7 +2,7 @@
 use Rattle.ref_base.specs.Graphs.{Graph}
 use Rattle.refrun.specs.Declarations.{Declared, declared_no, with_declared_no, NoneTwice}
 use Rattle.refrun.specs.GraphTexts.{SpellAll, SpellGraph, DeclaresGraph}
-use Rattle.refrun.specs.TextFaults.{GraphHeader, Declarations, after, place_fault, fault_or, graph_fault}
+use Rattle.refrun.specs.TextFaults.{GraphHeader, Declarations, place_after, place_fault, fault_or, graph_fault}
 use Rattle.refrun.proofs.DeclaredSpelt.{declared_without_fault, number_of_words}
 use Rattle.std.proofs.Common.{◌≡◌, ℕ, ◌+◌, true, List, [], ◌∷◌, Some, None, refl, inl, inr}
 use Rattle.std.specs.Char.{is_ascii}
@@ -14,11 +14,11 @@ use Rattle.refrun.specs.declared.script_step.ScriptStep.{ScriptStep}
 use Rattle.refrun.specs.Lines.{TextLine, lines_of}
 use Rattle.refrun.specs.StepFaults.{step_fault}
 use Rattle.refrun.specs.TextFaults.{ScriptHeader, Configuration, Steps, plain_fault, first_fault, script_fault}
-use Rattle.refrun.specs.ToldLines.{is_short, is_plain, says_nothing, line_words, told}
+use Rattle.refrun.specs.ToldLines.{is_short, is_plain_line, says_nothing, line_words, told}
 use Rattle.refrun.specs.Scripts.{is_header, config_of, SpellSteps, SpellScript, AreScript, IsScript}
 use Rattle.refrun.proofs.Spelt.{spelt_without_fault}
 
-plain_without_fault : (line : TextLine) → is_plain line ≡ true → plain_fault line ≡ None
+plain_without_fault : (line : TextLine) → is_plain_line line ≡ true → plain_fault line ≡ None
 plain_without_fault line h = let p = and_parts (is_short line) (list_all is_ascii line.bytes) h in simp (p.0, p.1) refl
 
 -- the first of the lines spells its step, and the others have no fault
@@ -29,11 +29,11 @@ first_step words lines [] k goes_on spelt = absurd spelt
 first_step words lines (step ∷ steps) k goes_on spelt = (spelt_without_fault words step spelt.0, goes_on steps spelt.1)
 
 -- lines of steps
-steps_without_fault : (lines : List TextLine) (steps : List ScriptStep) (k : ℕ) → list_all is_plain lines ≡ true
+steps_without_fault : (lines : List TextLine) (steps : List ScriptStep) (k : ℕ) → list_all is_plain_line lines ≡ true
     → SpellSteps (told lines) steps → first_fault Steps k lines ≡ None
 steps_without_fault [] steps k plain spelt = refl
 steps_without_fault (line ∷ lines) steps k plain spelt =
-    let p = and_parts (is_plain line) (list_all is_plain lines) plain in
+    let p = and_parts (is_plain_line line) (list_all is_plain_line lines) plain in
     let whole = plain_without_fault line p.0 in
     elim (cases_Bool (says_nothing (line_words line))) [
       | inl silent ↦
@@ -53,10 +53,10 @@ SpellBody (words ∷ lines) config steps = (config_of words ≡ Some config) ×
     (is_within_limits config ≡ true) × SpellSteps lines steps
 
 body_without_fault : (lines : List TextLine) (config : Config) (steps : List ScriptStep) (k : ℕ)
-    → list_all is_plain lines ≡ true → SpellBody (told lines) config steps → first_fault Configuration k lines ≡ None
+    → list_all is_plain_line lines ≡ true → SpellBody (told lines) config steps → first_fault Configuration k lines ≡ None
 body_without_fault [] config steps k plain spelt = absurd spelt
 body_without_fault (line ∷ lines) config steps k plain spelt =
-    let p = and_parts (is_plain line) (list_all is_plain lines) plain in
+    let p = and_parts (is_plain_line line) (list_all is_plain_line lines) plain in
     let whole = plain_without_fault line p.0 in
     elim (cases_Bool (says_nothing (line_words line))) [
       | inl silent ↦
@@ -74,10 +74,10 @@ body_of [] words config steps spelt = absurd spelt
 body_of (line ∷ lines) words config steps spelt = (spelt.0, (spelt.1, spelt.2, spelt.3))
 
 lines_without_fault : (lines : List TextLine) (config : Config) (steps : List ScriptStep) (k : ℕ)
-    → list_all is_plain lines ≡ true → SpellScript (told lines) config steps → first_fault ScriptHeader k lines ≡ None
+    → list_all is_plain_line lines ≡ true → SpellScript (told lines) config steps → first_fault ScriptHeader k lines ≡ None
 lines_without_fault [] config steps k plain spelt = absurd spelt
 lines_without_fault (line ∷ lines) config steps k plain spelt =
-    let p = and_parts (is_plain line) (list_all is_plain lines) plain in
+    let p = and_parts (is_plain_line line) (list_all is_plain_line lines) plain in
     let whole = plain_without_fault line p.0 in
     elim (cases_Bool (says_nothing (line_words line))) [
       | inl silent ↦
@@ -111,7 +111,7 @@ first_declared : (words : List (List ℕ)) (lines : List TextLine) (ds : List De
     → ((later : List Declared) (more : List ℕ) → SpellAll (told lines) later → NoneTwice more later
     → first_fault (Declarations more) (k + 1) lines ≡ None)
     → SpellAll (words ∷ told lines) ds → NoneTwice seen ds
-    → fault_or k (place_fault (Declarations seen) words) (first_fault (after (Declarations seen) words) (k + 1) lines)
+    → fault_or k (place_fault (Declarations seen) words) (first_fault (place_after (Declarations seen) words) (k + 1) lines)
     ≡ None
 first_declared words lines [] seen k goes_on spelt twice = absurd spelt
 first_declared words lines (d ∷ ds) seen k goes_on spelt twice =
@@ -119,11 +119,11 @@ first_declared words lines (d ∷ ds) seen k goes_on spelt twice =
     (goes_on ds (with_declared_no seen (declared_no d)) spelt.1 twice.1)
 
 -- lines that spell what they say, none of them twice
-all_without_fault : (lines : List TextLine) (ds : List Declared) (seen : List ℕ) (k : ℕ) → list_all is_plain lines ≡ true
+all_without_fault : (lines : List TextLine) (ds : List Declared) (seen : List ℕ) (k : ℕ) → list_all is_plain_line lines ≡ true
     → SpellAll (told lines) ds → NoneTwice seen ds → first_fault (Declarations seen) k lines ≡ None
 all_without_fault [] ds seen k plain spelt twice = refl
 all_without_fault (line ∷ lines) ds seen k plain spelt twice =
-    let p = and_parts (is_plain line) (list_all is_plain lines) plain in
+    let p = and_parts (is_plain_line line) (list_all is_plain_line lines) plain in
     let whole = plain_without_fault line p.0 in
     elim (cases_Bool (says_nothing (line_words line))) [
       | inl silent ↦
@@ -135,11 +135,11 @@ all_without_fault (line ∷ lines) ds seen k plain spelt twice =
           (λ later more h t. all_without_fault lines later more (k + 1) p.1 h t) all twice)
     ]
 
-graph_lines_without_fault : (lines : List TextLine) (ds : List Declared) (k : ℕ) → list_all is_plain lines ≡ true
+graph_lines_without_fault : (lines : List TextLine) (ds : List Declared) (k : ℕ) → list_all is_plain_line lines ≡ true
     → SpellGraph (told lines) ds → NoneTwice [] ds → first_fault GraphHeader k lines ≡ None
 graph_lines_without_fault [] ds k plain spelt twice = absurd spelt
 graph_lines_without_fault (line ∷ lines) ds k plain spelt twice =
-    let p = and_parts (is_plain line) (list_all is_plain lines) plain in
+    let p = and_parts (is_plain_line line) (list_all is_plain_line lines) plain in
     let whole = plain_without_fault line p.0 in
     elim (cases_Bool (says_nothing (line_words line))) [
       | inl silent ↦

@@ -9,12 +9,12 @@ use Rattle.ref_base.specs.Graphs.{Graph, Object, empty_graph, is_there, with_obj
 use Rattle.refrun.specs.DeclarationFaults.{declaration_fault, number_in}
 use Rattle.refrun.specs.Declarations.{Declared, Root, Plain, Reference, SpellsDeclared, declared_no, is_declared}
 use Rattle.refrun.specs.Declarations.{with_declared_no, NoneTwice, with_declared, with_all, declared_graph}
-use Rattle.refrun.specs.GraphReading.{AreNumbersOf, has_object, Adds, AddsDeclared, AddsAll, FailsAfter}
+use Rattle.refrun.specs.GraphReading.{AreNumbersOf, has_object, AddsObject, AddsDeclared, AddsAll, FailsAfter}
 use Rattle.refrun.specs.GraphTexts.{SpellAll, is_graph_header, DeclareGraph}
 use Rattle.refrun.specs.LineReading.{FailsFor, in_front, fault_from, Finds}
 use Rattle.refrun.specs.Lines.{lines_of, words_of}
 use Rattle.refrun.specs.TextFaults.{Place, GraphHeader, Declarations, place_fault, fault_or, first_fault}
-use Rattle.refrun.specs.ToldLines.{is_plain, told}
+use Rattle.refrun.specs.ToldLines.{is_plain_line, told}
 use Rattle.refrun.specs.declared.fault.LineFault.{LineFault}
 use Rattle.refrun.specs.declared.fault.LineFault.TheVariants.{DoubleObject}
 use Rattle.refrun.specs.declared.fault.TextFault.{TextFault}
@@ -87,7 +87,7 @@ fails_by_words words k g fault h seen numbers = rw h refl
 
 -- a line that says what can't be said a second time
 pub fails_by_double : (words : List (List ℕ)) (k : ℕ) (g h : Graph) (d : Declared) (added : Bool)
-    → SpellsDeclared words d → Adds g h d added → added ≡ false → FailsAfter words k g (texts.Line k DoubleObject)
+    → SpellsDeclared words d → AddsObject g h d added → added ≡ false → FailsAfter words k g (texts.Line k DoubleObject)
 fails_by_double words k g h d added spelt adds refused seen numbers =
     let there : has_object g (declared_no d) ≡ true = elim (cases_Bool (has_object g (declared_no d))) [
       | inl is ↦ is
@@ -101,7 +101,7 @@ fails_by_double words k g h d added spelt adds refused seen numbers =
 
 -- a line that says something new
 pub adds_declared : (words : List (List ℕ)) (g h : Graph) (d : Declared) (added : Bool) → SpellsDeclared words d
-    → Adds g h d added → added ≡ true → AddsDeclared words g h
+    → AddsObject g h d added → added ≡ true → AddsDeclared words g h
 adds_declared words g h d added spelt adds done = record {
   declared = d;
   spelt = spelt;
@@ -130,7 +130,7 @@ pub record HasDeclared (text : List ℕ) (number : ℕ) (found : Told) (g : Grap
   pub spelt : (more : List Declared) → SpellAll (in_front found.content (told (lines_of found.rest.now))) more
       → SpellAll (told (lines_of text)) (declared ++ more)
   pub none_twice : (more : List Declared) → NoneTwice seen more → NoneTwice [] (declared ++ more)
-  pub plain : list_all is_plain (lines_of text) ≡ list_all is_plain (lines_of found.rest.now)
+  pub plain : list_all is_plain_line (lines_of text) ≡ list_all is_plain_line (lines_of found.rest.now)
   pub fault : first_fault (Declarations []) (number + 1) (lines_of text) ≡ fault_from (Declarations seen)
       found.content found.number (lines_of found.rest.now)
   pub behind : OnSome found.content (found.number + length found.rest.now ≤ number + length text)
@@ -194,7 +194,7 @@ has_declared_more text number found next g h c r found_is a f behind =
 -- nothing is left
 pub has_declared_all : (text : List ℕ) (number : ℕ) (found : Told) (g : Graph)
     → HasDeclared text number found g → found.content ≡ None
-    → AddsAll (told (lines_of text)) g × (list_all is_plain (lines_of text) ≡ true)
+    → AddsAll (told (lines_of text)) g × (list_all is_plain_line (lines_of text) ≡ true)
 has_declared_all text number found g r found_is =
     let none : lines_of found.rest.now ≡ [] = rw found_is at r.done in
     let whole : SpellAll (told (lines_of text)) (r.declared ++ []) = r.spelt [] (rw (found_is, none) tt) in
@@ -252,7 +252,7 @@ behind_graph_header text found c e f found_is header fails =
 -- what the lines that follow declare is what the text declares
 pub declares_behind : (text : List ℕ) (found : Told) (c : Bor (List ℕ)) (g : Graph) → Finds text 0 found
     → found.content ≡ Some c → is_graph_header (words_of c.now) ≡ true → AddsAll (told (lines_of found.rest.now)) g
-    → list_all is_plain (lines_of found.rest.now) ≡ true → DeclareGraph (lines_of text) g
+    → list_all is_plain_line (lines_of found.rest.now) ≡ true → DeclareGraph (lines_of text) g
 declares_behind text found c g f found_is header adds plain =
     let lines : told (lines_of text) ≡ words_of c.now ∷ told (lines_of found.rest.now) =
     f.told ∙ rw found_is refl in

@@ -18,7 +18,7 @@ use Rattle.refrun.specs.Declarations.{Plain}
 use Rattle.refrun.specs.GraphTexts.{DeclaresGraph}
 use Rattle.refrun.specs.Lines.{words_of}
 use Rattle.refrun.specs.Listings.{PrintsStrengths, listing_text}
-use Rattle.refrun.specs.ScriptRuns.{Jobs, IsScriptRun, IsScriptTrace, first_jobs}
+use Rattle.refrun.specs.ScriptRuns.{StageJobs, IsScriptRun, IsScriptTrace, first_jobs}
 use Rattle.refrun.specs.Spelling.{SpellsScriptStep}
 use Rattle.refrun.specs.StressChecks.{IsFirstFailure}
 use Rattle.refrun.specs.Traces.{trace_text}
@@ -94,7 +94,7 @@ referred = record (first_state config) {
 
 module _ {J : Type 0} (number note : J → ℕ) where
   -- the state that the two rows leave
-  referred_by : (jobs last : Jobs J) (rows : List ScriptRow) (end : State)
+  referred_by : (jobs last : StageJobs J) (rows : List ScriptRow) (end : State)
       → IsScriptRun number note (first_state config) jobs (making 0 ∷ referring ∷ rows) end last
       → IsScriptRun number note referred jobs rows end last
   referred_by jobs last rows end run =

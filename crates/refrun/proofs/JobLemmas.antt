@@ -21,7 +21,7 @@ use Rattle.ref_queue.specs.CleanTables.{Registry, Registers, Takes}
 use Rattle.ref_queue.specs.declared.job.Ran.{Ran}
 use Rattle.ref_world.specs.Cores.{Core}
 use Rattle.ref_world.specs.Standing.{IsRowOf, Stands}
-use Rattle.refrun.specs.ScriptRuns.{Jobs, RegistersJob}
+use Rattle.refrun.specs.ScriptRuns.{StageJobs, RegistersStageJob}
 use Rattle.refrun.specs.ScriptStanding.{IsScriptRowOf, jobs}
 use Rattle.refrun.specs.declared.script_step.ScriptReply.{ScriptReply}
 use Rattle.refrun.specs.declared.script_step.ScriptReply.TheVariants as replies
@@ -54,13 +54,13 @@ module _ {J : Type 0} (number : J → ℕ) (object n : ℕ) (table after : Regis
 
   -- it is registered
   pub registers_job : Registers table object tt job (Ok tt) after
-      → RegistersJob number object n (jobs table left) replies.Registered (jobs after rest)
+      → RegistersStageJob number object n (jobs table left) replies.Registered (jobs after rest)
   registers_job registers = (job, numbered_at, taken_out, registers)
 
   -- or it is refused, and goes back behind the others
   pub refuses_job : (fault : Fault) (key : Unit {0}) (back : J) (again : List J) → again ≡ rest ++ back ∷ []
       → Registers table object tt job (Err (fault, key, back)) after
-      → RegistersJob number object n (jobs table left) (replies.World (Refused fault)) (jobs after again)
+      → RegistersStageJob number object n (jobs table left) (replies.World (Refused fault)) (jobs after again)
   refuses_job fault key back again again_is registers =
       let same : again ≡ rest ++ job ∷ [] = again_is ∙ ap (λ (j : J). rest ++ j ∷ []) registers.2 in (
         job,
@@ -71,7 +71,7 @@ module _ {J : Type 0} (number : J → ℕ) (object n : ℕ) (table after : Regis
         (registers.0, refl, refl, registers.3),
       )
 
-module _ {J : Type 0} (number note : J → ℕ) (old new : Core) (before after : Jobs J) where
+module _ {J : Type 0} (number note : J → ℕ) (old new : Core) (before after : StageJobs J) where
   -- no job has a part in a step of the world
   pub world_step_row : (step : Step) (reply : Reply) → IsRowOf old step reply new → after ≡ before
       → IsScriptRowOf number note old before (scripts.World step) (replies.World reply) new after
@@ -80,7 +80,7 @@ module _ {J : Type 0} (number note : J → ℕ) (old new : Core) (before after :
   module _ (m s object : ℕ) (refused : clear_refusal old.heap.mark.heap m s ≡ None)
       (held : slot_at old.heap.mark.heap m s ≡ Some object) where
     -- a job is registered for the reference in the slot
-    pub job_row : (n : ℕ) (reply : ScriptReply) → new ≡ old → RegistersJob number object n before reply after
+    pub job_row : (n : ℕ) (reply : ScriptReply) → new ≡ old → RegistersStageJob number object n before reply after
         → IsScriptRowOf number note old before (scripts.Job m s n) reply new after
     job_row n reply same registers a stands =
         (a, (rw (same_refusal old a stands m s ∙ refused, same_slot old a stands m s ∙ held) registers, refl), rw same stands)

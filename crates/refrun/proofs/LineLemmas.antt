@@ -6,9 +6,9 @@ use Rattle.std.specs.Borrow.{Bor}
 use Rattle.std.specs.List.{list_all}
 use Rattle.std.proofs.lemmas.Bool.{cases_Bool, false≢true}
 use Rattle.refrun.specs.Lines.{TextLine, lines_of, content_of, words_of}
-use Rattle.refrun.specs.TextFaults.{Place, after, place_fault, end_fault, fault_or}
+use Rattle.refrun.specs.TextFaults.{Place, place_after, place_fault, end_fault, fault_or}
 use Rattle.refrun.specs.TextFaults.{plain_fault, first_fault}
-use Rattle.refrun.specs.ToldLines.{is_short, is_plain, says_nothing, line_words, told}
+use Rattle.refrun.specs.ToldLines.{is_short, is_plain_line, says_nothing, line_words, told}
 use Rattle.refrun.specs.LineReading.{FailsFor, Finds}
 use Rattle.refrun.specs.declared.fault.LineFault.{LineFault}
 use Rattle.refrun.specs.declared.fault.LineFault.TheVariants.{LineTooLong, NotAscii}
@@ -38,7 +38,7 @@ of_line place k (line ∷ lines) =
     of_line_or k (plain_fault line) _ (elim (cases_Bool (says_nothing (line_words line))) [
       | inl silent ↦ simp silent (of_line place (k + 1) lines)
       | inr says ↦ simp says (of_line_or k (place_fault place (line_words line)) _ (of_line
-          (after place (line_words line)) (k + 1) lines))
+          (place_after place (line_words line)) (k + 1) lines))
     ])
 
 pub fails_for : (place : Place) (k : ℕ) (lines : List TextLine) (e : TextFault)
@@ -55,7 +55,7 @@ fails_for place k lines texts.CannotWrite h = let no_line : is_of_line (first_fa
 -- the lines between say nothing, and nothing is wrong with them
 pub record Skips (text : List ℕ) (number : ℕ) (rest : List ℕ) (k : ℕ) : Type 0 where
   pub told : told (lines_of text) ≡ told (lines_of rest)
-  pub plain : list_all is_plain (lines_of text) ≡ list_all is_plain (lines_of rest)
+  pub plain : list_all is_plain_line (lines_of text) ≡ list_all is_plain_line (lines_of rest)
   pub fault : (place : Place) → first_fault place (number + 1) (lines_of text) ≡ first_fault place (k + 1)
       (lines_of rest)
   pub behind : k + length rest ≤ number + length text
@@ -72,7 +72,7 @@ skips_nothing text number = record {
 }
 
 -- a line without a fault of its own is plain
-plain_line : (line : TextLine) → plain_fault line ≡ None → is_plain line ≡ true
+plain_line : (line : TextLine) → plain_fault line ≡ None → is_plain_line line ≡ true
 plain_line line h =
     elim (cases_Bool (is_short line)) [
       | inl short ↦
@@ -100,7 +100,7 @@ skips_line text rest behind number k line content s cut shorter h content_is not
     (sym content_is) ∙ nothing in
     record {
       told = s.told ∙ ap told cut ∙ simp silent refl;
-      plain = s.plain ∙ ap (list_all is_plain) cut ∙ simp (plain_line line h) refl;
+      plain = s.plain ∙ ap (list_all is_plain_line) cut ∙ simp (plain_line line h) refl;
       fault = λ place. s.fault place ∙ ap (first_fault place (k + 1)) cut ∙ simp (h, silent) refl;
       behind = omega (arith, s.behind);
       no_longer = omega (arith, s.no_longer);
@@ -119,10 +119,10 @@ finds_line text rest behind content number k line found s cut h content_is says 
     record {
       told = s.told ∙ ap told cut ∙ simp said (rw (found_is, rest_is) (ap (λ (w : List (List ℕ)). w ∷ told
           (lines_of behind)) words));
-      plain = s.plain ∙ ap (list_all is_plain) cut ∙ simp (plain_line line h) (rw rest_is refl);
+      plain = s.plain ∙ ap (list_all is_plain_line) cut ∙ simp (plain_line line h) (rw rest_is refl);
       fault = λ place. s.fault place ∙ ap (first_fault place (k + 1)) cut
           ∙ simp (h, said) (rw (found_is, rest_is, number_is)
-          (ap (λ (w : List (List ℕ)). fault_or (k + 1) (place_fault place w) (first_fault (after place w) (k + 1 + 1)
+          (ap (λ (w : List (List ℕ)). fault_or (k + 1) (place_fault place w) (first_fault (place_after place w) (k + 1 + 1)
           (lines_of behind))) words));
       done = rw found_is tt;
     }

@@ -8,7 +8,7 @@ use Rattle.ref_base.specs.Collectors.{State}
 use Rattle.ref_base.specs.declared.reply.Reply.TheVariants.{Done}
 use Rattle.ref_base.specs.declared.step.Step.TheVariants.{Clear}
 use Rattle.ref_queue.proofs.TableLemmas.{either_first, first_out}
-use Rattle.refrun.specs.ScriptRuns.{Jobs, first_jobs, RegistersJob, RunsJob}
+use Rattle.refrun.specs.ScriptRuns.{StageJobs, first_jobs, RegistersStageJob, RunsJob}
 use Rattle.refrun.specs.StressChecks.{TookInOrder, IsFirstFailure}
 use Rattle.refrun.specs.declared.lists.Check.TheVariants.{Order, Rest}
 use Rattle.refrun.specs.declared.script_step.ScriptReply.TheVariants as replies
@@ -21,16 +21,16 @@ number job = job
 abbrev note : ℕ → ℕ
 note job = job + 1000
 
-abbrev unused : Jobs ℕ
+abbrev unused : StageJobs ℕ
 unused = first_jobs (3 ∷ 4 ∷ [])
 
-abbrev one_registered : Jobs ℕ
+abbrev one_registered : StageJobs ℕ
 one_registered = record { table = record { jobs = (2, (tt, 3)) ∷ []; closed = false }; left = 4 ∷ [] }
 
-abbrev one_left : Jobs ℕ
+abbrev one_left : StageJobs ℕ
 one_left = first_jobs (4 ∷ [])
 
-job_3_is_registered : RegistersJob number 2 3 unused replies.Registered one_registered
+job_3_is_registered : RegistersStageJob number 2 3 unused replies.Registered one_registered
 job_3_is_registered = (
   3,
   refl,
@@ -38,21 +38,21 @@ job_3_is_registered = (
   (refl, ((λ m. either_first 2 m (Some (tt, 3)) None), refl)),
 )
 
-it_is_not_used_while_it_is_left : ¬ (RegistersJob number 2 3 unused replies.Used unused)
+it_is_not_used_while_it_is_left : ¬ (RegistersStageJob number 2 3 unused replies.Used unused)
 it_is_not_used_while_it_is_left is = is.0 0 0 (omega arith) refl
 
 only_4 : (k d : ℕ) → k < 1 → get_or (4 ∷ []) k d ≢ 3
 only_4 zero d below is = absurd (omega (arith, is))
 only_4 (suc k) d below is = absurd (omega (arith, below))
 
-it_is_used_once_it_is_registered : RegistersJob number 2 3 one_registered replies.Used one_registered
+it_is_used_once_it_is_registered : RegistersStageJob number 2 3 one_registered replies.Used one_registered
 it_is_used_once_it_is_registered = (only_4, refl)
 
 it_ran : (a b : State) → IsRow a (record { step = Clear 0 1; reply = Done }) b
     → RunsJob number note 2 0 1 a one_registered (replies.Ran (record { number = 3; answer = 1003 })) b one_left
 it_ran a b row = (3, (refl, ((λ m. first_out 2 (tt, 3) [] refl m), refl)), refl, refl, row)
 
-it_is_not_gone_while_it_is_registered : (a b : State) (new : Jobs ℕ)
+it_is_not_gone_while_it_is_registered : (a b : State) (new : StageJobs ℕ)
     → ¬ (RunsJob number note 2 0 1 a one_registered replies.Gone b new)
 it_is_not_gone_while_it_is_registered a b new is = let answer = is.0.0 in absurd cc
 

@@ -9,7 +9,7 @@ use Rattle.refrun.specs.Spelling.{SpellsScriptStep}
 use Rattle.refrun.specs.TextFaults.{Place, ScriptHeader, Configuration, Steps, fault_or}
 use Rattle.refrun.specs.TextFaults.{first_fault}
 use Rattle.refrun.specs.Scripts.{is_header, SpellSteps}
-use Rattle.refrun.specs.ToldLines.{is_plain, told}
+use Rattle.refrun.specs.ToldLines.{is_plain_line, told}
 use Rattle.refrun.specs.StepFaults.{step_fault}
 use Rattle.refrun.specs.LineReading.{FailsFor, in_front, fault_from, Finds}
 use Rattle.refrun.proofs.Spelt.{spelt_without_fault}
@@ -22,7 +22,7 @@ use Rattle.refrun.proofs.LineLemmas.{first_of_two, onsome_before}
 pub record HasRead (text : List ℕ) (number : ℕ) (found : Told) (steps : List ScriptStep) : Type 0 where
   pub spelt : (more : List ScriptStep) → SpellSteps (in_front found.content (told (lines_of found.rest.now))) more
       → SpellSteps (told (lines_of text)) (steps ++ more)
-  pub plain : list_all is_plain (lines_of text) ≡ list_all is_plain (lines_of found.rest.now)
+  pub plain : list_all is_plain_line (lines_of text) ≡ list_all is_plain_line (lines_of found.rest.now)
   pub fault : first_fault Steps (number + 1) (lines_of text) ≡ fault_from Steps found.content found.number
       (lines_of found.rest.now)
   pub behind : OnSome found.content (found.number + length found.rest.now ≤ number + length text)
@@ -63,7 +63,7 @@ has_read_more text number found next steps items c step r found_is spells items_
 -- nothing is left
 pub has_read_all : (text : List ℕ) (number : ℕ) (found : Told) (steps : List ScriptStep)
     → HasRead text number found steps → found.content ≡ None
-    → SpellSteps (told (lines_of text)) steps × (list_all is_plain (lines_of text) ≡ true)
+    → SpellSteps (told (lines_of text)) steps × (list_all is_plain_line (lines_of text) ≡ true)
 has_read_all text number found steps r found_is =
     let none : lines_of found.rest.now ≡ [] = rw found_is at r.done in
     let whole : SpellSteps (told (lines_of text)) (steps ++ []) = r.spelt [] (rw (found_is, none) tt) in

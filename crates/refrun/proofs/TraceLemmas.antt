@@ -10,12 +10,12 @@ use Rattle.ref_base.specs.declared.fault.Fault.{Fault}
 use Rattle.ref_base.specs.declared.row.Row.{Row}
 use Rattle.ref_world.specs.Cores.{Core}
 use Rattle.ref_world.specs.Standing.{Stands}
-use Rattle.refrun.specs.ScriptRuns.{Jobs, first_jobs, world_row, world_rows, RunsIn, IsScriptRow, IsScriptRun}
+use Rattle.refrun.specs.ScriptRuns.{StageJobs, first_jobs, world_row, world_rows, RunsIn, IsScriptRow, IsScriptRun}
 use Rattle.refrun.specs.ScriptStanding.{IsScriptRowOf}
 use Rattle.refrun.specs.ScriptSteps.{script_row_text}
 use Rattle.refrun.specs.Scripts.{IsScript, AreScript}
 use Rattle.refrun.specs.Lines.{lines_of, most_bytes}
-use Rattle.refrun.specs.Traces.{numbered, trace_text, steps_of, PrintsTrace, TellsRun, TellsTrace}
+use Rattle.refrun.specs.Traces.{numbered, trace_text, script_steps_of, PrintsTrace, TellsRun, TellsTrace}
 use Rattle.refrun.specs.declared.script_step.ScriptReply.{ScriptReply}
 use Rattle.refrun.specs.declared.script_step.ScriptReply.TheVariants as replies
 use Rattle.refrun.specs.declared.script_step.ScriptRow.{ScriptRow}
@@ -39,8 +39,8 @@ numbered_push k (r ∷ rows) row =
 
 -- the steps that have their rows are one more
 step_taken : (steps : List ScriptStep) (i : ℕ) (next : ScriptStep) (rows : List ScriptRow) (reply : ScriptReply)
-    → i < length steps → next ≡ get_or steps i next → steps_of rows ≡ take i steps
-    → steps_of (rows ++ record { step = next; reply = reply } ∷ []) ≡ take (i + 1) steps
+    → i < length steps → next ≡ get_or steps i next → script_steps_of rows ≡ take i steps
+    → script_steps_of (rows ++ record { step = next; reply = reply } ∷ []) ≡ take (i + 1) steps
 step_taken steps i next rows reply within is so_far =
     map-append (λ (row : ScriptRow). row.step) rows (record { step = next; reply = reply } ∷ [])
     ∙ ap (λ (s : List ScriptStep). s ++ next ∷ []) so_far
@@ -49,8 +49,8 @@ step_taken steps i next rows reply within is so_far =
 module _ {J : Type 0} (number note : J → ℕ) where
   -- ---- a run, row by row
 
-  run_more : (a : State) (before : Jobs J) (rows : List ScriptRow) (mid : State) (between : Jobs J) (b : State)
-      (after : Jobs J) (row : ScriptRow) → IsScriptRun number note a before rows mid between
+  run_more : (a : State) (before : StageJobs J) (rows : List ScriptRow) (mid : State) (between : StageJobs J) (b : State)
+      (after : StageJobs J) (row : ScriptRow) → IsScriptRun number note a before rows mid between
       → IsScriptRow number note mid between row.step row.reply b after
       → IsScriptRun number note a before (rows ++ row ∷ []) b after
   run_more a before [] mid between b after row run next =
@@ -59,8 +59,8 @@ module _ {J : Type 0} (number note : J → ℕ) where
       (run.0, run.1, run.2, run_more run.0 run.1 rows mid between b after row run.3 next)
 
   -- a run of jobs is read as what it did to the world
-  run_in_world : (refusal : Option Fault) (held : Option ℕ) (m s : ℕ) (a : State) (before : Jobs J) (reply : ScriptReply)
-      (mid : State) (between : Jobs J) (rest : List Row) (b : State)
+  run_in_world : (refusal : Option Fault) (held : Option ℕ) (m s : ℕ) (a : State) (before : StageJobs J) (reply : ScriptReply)
+      (mid : State) (between : StageJobs J) (rest : List Row) (b : State)
       → RunsIn number note refusal held m s a before reply mid between → IsRun mid rest b
       → IsRun a (world_row (scripts.Run m s) reply ++ rest) b
   run_in_world (Some fault) held m s a before reply mid between rest b row run =
@@ -71,8 +71,8 @@ module _ {J : Type 0} (number note : J → ℕ) where
   run_in_world None (Some object) m s a before (replies.Ran ran) mid between rest b row run = (mid, row.4, run)
   run_in_world None (Some object) m s a before reply mid between rest b row run = absurd row
 
-  row_in_world : (a : State) (before : Jobs J) (step : ScriptStep) (reply : ScriptReply) (mid : State)
-      (between : Jobs J) (rest : List Row) (b : State) → IsScriptRow number note a before step reply mid between
+  row_in_world : (a : State) (before : StageJobs J) (step : ScriptStep) (reply : ScriptReply) (mid : State)
+      (between : StageJobs J) (rest : List Row) (b : State) → IsScriptRow number note a before step reply mid between
       → IsRun mid rest b → IsRun a (world_row step reply ++ rest) b
   row_in_world a before (scripts.World step) (replies.World reply) mid between rest b row run = (mid, row.0, run)
   row_in_world a before (scripts.World step) reply mid between rest b row run = absurd row
@@ -82,7 +82,7 @@ module _ {J : Type 0} (number note : J → ℕ) where
       run_in_world _ _ m s a before reply mid between rest b row run
 
   -- the rows of the world are a run
-  run_of_world : (a : State) (before : Jobs J) (rows : List ScriptRow) (b : State) (after : Jobs J)
+  run_of_world : (a : State) (before : StageJobs J) (rows : List ScriptRow) (b : State) (after : StageJobs J)
       → IsScriptRun number note a before rows b after → IsRun a (world_rows rows) b
   run_of_world a before [] b after run = run.0
   run_of_world a before (row ∷ rows) b after run =
@@ -92,11 +92,11 @@ module _ {J : Type 0} (number note : J → ℕ) where
   -- ---- its text
 
   -- a run with no step
-  pub tells_nothing_yet : (world : Core) (jobs : Jobs J) → TellsRun number note world jobs [] (trace_text []) world jobs
+  pub tells_nothing_yet : (world : Core) (jobs : StageJobs J) → TellsRun number note world jobs [] (trace_text []) world jobs
   tells_nothing_yet world jobs = ([], refl, (λ a stands. (a, (refl, refl), stands)), refl)
 
   -- and with one step more, whose row is number i + 1
-  pub tells_more : (old mid new : Core) (before between after : Jobs J) (steps : List ScriptStep) (i k : ℕ)
+  pub tells_more : (old mid new : Core) (before between after : StageJobs J) (steps : List ScriptStep) (i k : ℕ)
       (next : ScriptStep) (reply : ScriptReply) (text more : List ℕ)
       → TellsRun number note old before (take i steps) text mid between → k ≡ i → i < length steps
       → next ≡ get_or steps i next → IsScriptRowOf number note mid between next reply new after
@@ -125,7 +125,7 @@ module _ {J : Type 0} (number note : J → ℕ) where
   -- ---- the answer
 
   -- a run from a world that stands for the first state, and from an empty table, is a trace
-  pub tells_trace : (config : Config) (jobs : List J) (old new : Core) (before after : Jobs J)
+  pub tells_trace : (config : Config) (jobs : List J) (old new : Core) (before after : StageJobs J)
       (steps seen : List ScriptStep) (text : List ℕ) → Stands old (first_state config) → before ≡ first_jobs jobs
       → seen ≡ steps → TellsRun number note old before seen text new after
       → TellsTrace number note config jobs steps text

@@ -18,7 +18,7 @@ has_object g None = false
 has_object g (Some n) = is_there g.objects n
 
 -- what a line says was added, or else its object was there
-pub record Adds (g h : Graph) (d : Declared) (added : Bool) : Type 0 where
+pub record AddsObject (g h : Graph) (d : Declared) (added : Bool) : Type 0 where
   pub answer : added ≡ not (has_object g (declared_no d))
   pub after : h ≡ with_declared g d
 

@@ -4,7 +4,7 @@ use Rattle.std.specs.List.{list_all}
 use Rattle.ref_base.specs.Graphs.{Graph}
 use Rattle.refrun.specs.Declarations.{Declared, SpellsDeclared, NoneTwice, declared_graph}
 use Rattle.refrun.specs.Lines.{TextLine, lines_of, most_bytes}
-use Rattle.refrun.specs.ToldLines.{is_plain, told, is_titled}
+use Rattle.refrun.specs.ToldLines.{is_plain_line, told, is_titled}
 
 -- the words of the header
 abbrev pub is_graph_header : List (List ℕ) → Bool
@@ -24,7 +24,7 @@ SpellGraph (header ∷ lines) ds = (is_graph_header header ≡ true) × SpellAll
 
 -- the lines say just these, and no object is declared twice
 pub record SayAll (lines : List TextLine) (ds : List Declared) : Type 0 where
-  pub plain : list_all is_plain lines ≡ true
+  pub plain : list_all is_plain_line lines ≡ true
   pub told : SpellGraph (told lines) ds
   pub none_twice : NoneTwice [] ds
 

@@ -3,8 +3,8 @@ use Rattle.std.specs.Prelude.{◌≡◌, ℕ, ◌+◌, List, [], ◌∷◌, Opti
 use Rattle.std.specs.Borrow.{Bor}
 use Rattle.std.specs.List.{list_all}
 use Rattle.refrun.specs.Lines.{TextLine, lines_of, words_of}
-use Rattle.refrun.specs.TextFaults.{Place, after, place_fault, end_fault, fault_or, first_fault}
-use Rattle.refrun.specs.ToldLines.{is_plain, told}
+use Rattle.refrun.specs.TextFaults.{Place, place_after, place_fault, end_fault, fault_or, first_fault}
+use Rattle.refrun.specs.ToldLines.{is_plain_line, told}
 use Rattle.refrun.specs.declared.fault.TextFault.{TextFault}
 use Rattle.refrun.specs.declared.fault.TextFault.TheVariants as texts
 use Rattle.refrun.specs.declared.told.Told.{Told}
@@ -27,12 +27,12 @@ abbrev pub fault_from : Place → Option (Bor (List ℕ)) → ℕ → List TextL
 fault_from place None k lines = fault_or k (end_fault place) None
 fault_from place (Some content) k lines =
     fault_or k (place_fault place (words_of content.now))
-    (first_fault (after place (words_of content.now)) (k + 1) lines)
+    (first_fault (place_after place (words_of content.now)) (k + 1) lines)
 
 -- behind the line of a number stand the line that was found, if one was, and the rest
 pub record Finds (text : List ℕ) (number : ℕ) (found : Told) : Type 0 where
   pub told : told (lines_of text) ≡ in_front found.content (told (lines_of found.rest.now))
-  pub plain : list_all is_plain (lines_of text) ≡ list_all is_plain (lines_of found.rest.now)
+  pub plain : list_all is_plain_line (lines_of text) ≡ list_all is_plain_line (lines_of found.rest.now)
   pub fault : (place : Place) → first_fault place (number + 1) (lines_of text) ≡
       fault_from place found.content found.number (lines_of found.rest.now)
   pub done : IfNone found.content (lines_of found.rest.now ≡ [])

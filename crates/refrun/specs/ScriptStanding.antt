@@ -4,22 +4,22 @@ use Rattle.ref_base.specs.Collectors.{State}
 use Rattle.ref_queue.specs.CleanTables.{Registry}
 use Rattle.ref_world.specs.Cores.{Core}
 use Rattle.ref_world.specs.Standing.{Stands}
-use Rattle.refrun.specs.ScriptRuns.{Jobs, IsScriptRow, IsScriptRun}
+use Rattle.refrun.specs.ScriptRuns.{StageJobs, IsScriptRow, IsScriptRun}
 use Rattle.refrun.specs.declared.script_step.ScriptReply.{ScriptReply}
 use Rattle.refrun.specs.declared.script_step.ScriptRow.{ScriptRow}
 use Rattle.refrun.specs.declared.script_step.ScriptStep.{ScriptStep}
 use Rattle.std.specs.Prelude.{ℕ}
 
-abbrev pub jobs : {J : Type 0} → Registry (Unit {0}) J → List J → Jobs J
+abbrev pub jobs : {J : Type 0} → Registry (Unit {0}) J → List J → StageJobs J
 jobs table left = record { table = table; left = left }
 
 module _ {J : Type 0} (number note : J → ℕ) where
   -- the step, answered so, is one row
-  abbrev pub IsScriptRowOf : Core → Jobs J → ScriptStep → ScriptReply → Core → Jobs J → Type 0
+  abbrev pub IsScriptRowOf : Core → StageJobs J → ScriptStep → ScriptReply → Core → StageJobs J → Type 0
   IsScriptRowOf old before step reply new after =
       (a : State) → Stands old a → (b : State) × IsScriptRow number note a before step reply b after × Stands new b
 
   -- the rows are a run
-  abbrev pub RunsScriptFrom : Core → Jobs J → List ScriptRow → Core → Jobs J → Type 0
+  abbrev pub RunsScriptFrom : Core → StageJobs J → List ScriptRow → Core → StageJobs J → Type 0
   RunsScriptFrom old before rows new after =
       (a : State) → Stands old a → (b : State) × IsScriptRun number note a before rows b after × Stands new b

@@ -8,7 +8,7 @@ use Rattle.ref_base.specs.declared.config.Config.{Config}
 use Rattle.refrun.specs.Lines.{TextLine, lines_of, most_bytes}
 use Rattle.refrun.specs.Numerals.{number_below}
 use Rattle.refrun.specs.Spelling.{SpellsScriptStep}
-use Rattle.refrun.specs.ToldLines.{is_plain, told, is_titled}
+use Rattle.refrun.specs.ToldLines.{is_plain_line, told, is_titled}
 use Rattle.refrun.specs.declared.script_step.ScriptStep.{ScriptStep}
 
 -- the words of the header
@@ -46,7 +46,7 @@ SpellScript (header ∷ words ∷ lines) config steps =
 
 -- the lines are those of a script of this configuration and these steps
 pub record AreScript (lines : List TextLine) (config : Config) (steps : List ScriptStep) : Type 0 where
-  pub plain : list_all is_plain lines ≡ true
+  pub plain : list_all is_plain_line lines ≡ true
   pub told : SpellScript (told lines) config steps
 
 -- the text is such a script

@@ -27,12 +27,12 @@ pub data Place : Type 0 where
   Declarations : List ℕ → Place
 
 -- what is wanted behind a line of these words
-abbrev pub after : Place → List (List ℕ) → Place
-after ScriptHeader words = Configuration
-after Configuration words = Steps
-after Steps words = Steps
-after GraphHeader words = Declarations []
-after (Declarations seen) words = Declarations (with_declared_no seen (number_in words))
+abbrev pub place_after : Place → List (List ℕ) → Place
+place_after ScriptHeader words = Configuration
+place_after Configuration words = Steps
+place_after Steps words = Steps
+place_after GraphHeader words = Declarations []
+place_after (Declarations seen) words = Declarations (with_declared_no seen (number_in words))
 
 abbrev pub header_fault : Bool → Option LineFault
 header_fault true = None
@@ -75,7 +75,7 @@ first_fault place k [] = fault_or k (end_fault place) None
 first_fault place k (line ∷ lines) =
     fault_or k (plain_fault line)
     (if says_nothing (line_words line) then first_fault place (k + 1) lines else
-    fault_or k (place_fault place (line_words line)) (first_fault (after place (line_words line)) (k + 1) lines))
+    fault_or k (place_fault place (line_words line)) (first_fault (place_after place (line_words line)) (k + 1) lines))
 
 -- the fault of a text of which this is wanted first, if it has one
 abbrev pub fault_at : Place → List ℕ → Option TextFault

@@ -4,7 +4,7 @@ use Rattle.ref_base.specs.LegalTraces.{IsLegal}
 use Rattle.ref_base.specs.declared.config.Config.{Config}
 use Rattle.ref_world.specs.Cores.{Core}
 use Rattle.refrun.specs.Answers.{AnswersText}
-use Rattle.refrun.specs.ScriptRuns.{Jobs, world_rows, IsScriptTrace}
+use Rattle.refrun.specs.ScriptRuns.{StageJobs, world_rows, IsScriptTrace}
 use Rattle.refrun.specs.ScriptStanding.{RunsScriptFrom}
 use Rattle.refrun.specs.ScriptSteps.{script_row_text}
 use Rattle.refrun.specs.Scripts.{IsScript}
@@ -22,21 +22,21 @@ numbered k (row ∷ rows) = decimal k ++ 32 ∷ script_row_text row ++ 10 ∷ nu
 abbrev pub trace_text : List ScriptRow → List ℕ
 trace_text rows = codes "reftrace 1" ++ 10 ∷ numbered 1 rows
 
-abbrev pub steps_of : List ScriptRow → List ScriptStep
-steps_of rows = map (λ row. row.step) rows
+abbrev pub script_steps_of : List ScriptRow → List ScriptStep
+script_steps_of rows = map (λ row. row.step) rows
 
 module _ {J : Type 0} (number note : J → ℕ) where
   -- the text of rows of these steps, which are a run from each state that the one world stands for, and these jobs, to
   -- one for which the other stands
-  abbrev pub TellsRun : Core → Jobs J → List ScriptStep → List ℕ → Core → Jobs J → Type 0
+  abbrev pub TellsRun : Core → StageJobs J → List ScriptStep → List ℕ → Core → StageJobs J → Type 0
   TellsRun old before steps text new after =
-      (rows : List ScriptRow) × (steps_of rows ≡ steps) × RunsScriptFrom number note old before rows new after
+      (rows : List ScriptRow) × (script_steps_of rows ≡ steps) × RunsScriptFrom number note old before rows new after
       × (text ≡ trace_text rows)
 
   -- the text of a trace of these steps with these jobs
   abbrev pub TellsTrace : Config → List J → List ScriptStep → List ℕ → Type 0
   TellsTrace config jobs steps text =
-      (rows : List ScriptRow) × (steps_of rows ≡ steps) × IsScriptTrace number note config jobs rows
+      (rows : List ScriptRow) × (script_steps_of rows ≡ steps) × IsScriptTrace number note config jobs rows
       × (text ≡ trace_text rows)
 
   -- What is printed is the text of a trace of the steps of the script that the text spells, with one reply each. Its rows
@@ -45,7 +45,7 @@ module _ {J : Type 0} (number note : J → ℕ) where
   pub record PrintsTrace (jobs : List J) (text printed : List ℕ) : Type 0 where
     pub config : Config
     pub rows : List ScriptRow
-    pub script : IsScript text config (steps_of rows)
+    pub script : IsScript text config (script_steps_of rows)
     pub legal : IsLegal config (world_rows rows)
     pub with_jobs : IsScriptTrace number note config jobs rows
     pub is_text : printed ≡ trace_text rows

@@ -3,12 +3,12 @@
 ghost use Rattle.std.specs.Prelude.{◌≡◌, ◌+◌, ◌≤◌, [], true, length, IfOk, IfErr, OnOk, OnErr};
 ghost use Rattle.std.specs.List.{list_all};
 ghost use Rattle.refrun.specs.DeclarationViews.{declared_by};
-ghost use Rattle.refrun.specs.GraphReading.{Adds, AddsDeclared, AddsAll, FailsAfter};
+ghost use Rattle.refrun.specs.GraphReading.{AddsObject, AddsDeclared, AddsAll, FailsAfter};
 ghost use Rattle.refrun.specs.GraphTexts.{is_graph_header, DeclareGraph};
 ghost use Rattle.refrun.specs.Lines.{lines_of, words_of, most_bytes};
 ghost use Rattle.refrun.specs.LineReading.{FailsFor};
 ghost use Rattle.refrun.specs.TextFaults.{GraphHeader, Declarations, first_fault};
-ghost use Rattle.refrun.specs.ToldLines.{is_plain, told};
+ghost use Rattle.refrun.specs.ToldLines.{is_plain_line, told};
 
 use crate::declarations::{Declaration, Unread, declaration_of};
 use crate::fault::{LineFault, TextFault};
@@ -40,7 +40,7 @@ fn graph_behind<A: Allocator + Copy>(
 ) -> Result<Graph<A>, TextFault>
     requires { number + length text.now ≤ most_bytes + 1 }
     ensures spelt { IfOk result (λ graph. AddsAll (told (lines_of text.now)) graph) }
-    ensures plain { IfOk result (λ graph. list_all is_plain (lines_of text.now) ≡ true) }
+    ensures plain { IfOk result (λ graph. list_all is_plain_line (lines_of text.now) ≡ true) }
     ensures fault { IfErr result (λ e. FailsFor e (first_fault (Declarations []) (number + 1) (lines_of text.now))) }
 {
     let mut graph = Graph::new(alloc);
@@ -79,7 +79,7 @@ fn add_declaration<A: Allocator + Copy>(
     graph: &mut Graph<A>,
     declaration: &Declaration<A>,
 ) -> Result<bool, TextFault>
-    ensures ok { IfOk result (Adds graph.old graph.new (declared_by declaration.now)) }
+    ensures ok { IfOk result (AddsObject graph.old graph.new (declared_by declaration.now)) }
     ensures err { OnErr result (result ≡ Err TextFault.NoMemory) }
 {
     let added = match declaration {

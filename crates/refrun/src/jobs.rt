@@ -3,8 +3,8 @@
 ghost use Rattle.std.specs.Prelude.{◌≡◌, ◌≢◌, ◌<◌, ◌==◌, Some, None, All, MatchOption, length, HoldsAt};
 ghost use Rattle.ref_base.specs.Heaps.{slot_at};
 ghost use Rattle.ref_base.specs.Refusals.{clear_refusal};
-ghost use Rattle.refrun.specs.JobViews.{number_of, note_of};
-ghost use Rattle.refrun.specs.ScriptRuns.{RegistersJob};
+ghost use Rattle.refrun.specs.JobViews.{job_number, note_of};
+ghost use Rattle.refrun.specs.ScriptRuns.{RegistersStageJob};
 ghost use Rattle.refrun.specs.ScriptStanding.{IsScriptRowOf, jobs};
 
 use crate::script_step::{ScriptReply, ScriptStep};
@@ -23,7 +23,7 @@ pub struct Stage<A: Allocator> {
 impl<A: Allocator + Copy> Stage<A> {
     /// Does one step, and answers it.
     pub fn step(&mut self, step: ScriptStep) -> ScriptReply
-        ensures { IsScriptRowOf number_of note_of self.old.world (jobs self.old.table self.old.left.items) step
+        ensures { IsScriptRowOf job_number note_of self.old.world (jobs self.old.table self.old.left.items) step
             result self.new.world (jobs self.new.table self.new.left.items) }
     {
         match step {
@@ -46,7 +46,7 @@ impl<A: Allocator + Copy> Stage<A> {
     /// Registers the job of this number for the object, if that job is left.
     fn register(&mut self, object: ObjNo, number: u32) -> ScriptReply
         ensures world { self.new.world ≡ self.old.world }
-        ensures answer { RegistersJob number_of object number (jobs self.old.table self.old.left.items) result
+        ensures answer { RegistersStageJob job_number object number (jobs self.old.table self.old.left.items) result
             (jobs self.new.table self.new.left.items) }
     {
         let Some(index) = index_of(self.left.as_slice(), u64::from(number)) else {
@@ -68,7 +68,7 @@ impl<A: Allocator + Copy> Stage<A> {
     fn run(&mut self, object: ObjNo, mutator: MutNo, reference: SlotNo) -> ScriptReply
         requires refused { clear_refusal self.old.world.heap.mark.heap mutator reference ≡ None }
         requires held { slot_at self.old.world.heap.mark.heap mutator reference ≡ Some object }
-        ensures { IsScriptRowOf number_of note_of self.old.world (jobs self.old.table self.old.left.items)
+        ensures { IsScriptRowOf job_number note_of self.old.world (jobs self.old.table self.old.left.items)
             (ScriptStep.Run mutator reference) result self.new.world (jobs self.new.table self.new.left.items) }
     {
         match self.table.take(object) {
@@ -91,12 +91,12 @@ impl<A: Allocator + Copy> Stage<A> {
 
 /// The place of the job of this number.
 fn index_of(jobs: &[Job], number: u64) -> Option<usize>
-    ensures { MatchOption result (All (λ job. number_of job ≢ number) jobs.now)
-        (λ i. (i < length jobs.now) × HoldsAt (λ job. number_of job ≡ number) jobs.now i) }
+    ensures { MatchOption result (All (λ job. job_number job ≢ number) jobs.now)
+        (λ i. (i < length jobs.now) × HoldsAt (λ job. job_number job ≡ number) jobs.now i) }
 {
     jobs.iter().position(
         |job: &Job|
-            ensures { result ≡ (number_of job.now == number) }
+            ensures { result ≡ (job_number job.now == number) }
         { job.number() == number },
     )
 }

@@ -10,7 +10,7 @@ ghost use Rattle.refrun.specs.Scripts.{is_header, config_of, config_from, SpellS
 ghost use Rattle.refrun.specs.Spelling.{SpellsScriptStep};
 ghost use Rattle.refrun.specs.StepFaults.{step_fault};
 ghost use Rattle.refrun.specs.TextFaults.{ScriptHeader, Steps, fault_or, first_fault};
-ghost use Rattle.refrun.specs.ToldLines.{is_plain, told};
+ghost use Rattle.refrun.specs.ToldLines.{is_plain_line, told};
 ghost use Rattle.refrun.specs.declared.script_step.ScriptStep.{ScriptStep};
 
 use crate::fault::{LineFault, TextFault};
@@ -64,7 +64,7 @@ fn steps_of<A: Allocator>(
 ) -> Result<Vec<ScriptStep, A>, TextFault>
     requires { number + length text.now ≤ most_bytes + 1 }
     ensures spelt { IfOk result (λ steps. SpellSteps (told (lines_of text.now)) steps.items) }
-    ensures plain { IfOk result (λ steps. list_all is_plain (lines_of text.now) ≡ true) }
+    ensures plain { IfOk result (λ steps. list_all is_plain_line (lines_of text.now) ≡ true) }
     ensures fault { IfErr result (λ e. FailsFor e (first_fault Steps (number + 1) (lines_of text.now))) }
 {
     let mut steps = Vec::new(alloc);

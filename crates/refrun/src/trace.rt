@@ -2,7 +2,7 @@
 
 ghost use Rattle.std.specs.Prelude.{◌≡◌, ◌≤◌, ◌||◌, true, string_bytes, length, None};
 ghost use Rattle.std.specs.Prelude.{IfOk, IfErr, OnErr, IfSome};
-ghost use Rattle.refrun.specs.JobViews.{number_of, note_of};
+ghost use Rattle.refrun.specs.JobViews.{job_number, note_of};
 ghost use Rattle.refrun.specs.LineReading.{FailsFor};
 ghost use Rattle.refrun.specs.Lines.{lines_of, most_bytes};
 ghost use Rattle.refrun.specs.ScriptStanding.{jobs};
@@ -44,7 +44,7 @@ pub fn run_script<R: TextSource, W: TextSink, A: Allocator + Copy>(
     jobs: Vec<Job, A>,
 ) -> Result<(), TextFault>
     ensures answer { IfSome (R.remaining reader.old) (λ text.
-        AnswersRun number_of note_of jobs.items text (W.contents writer.old) (W.contents writer.new) result) }
+        AnswersRun job_number note_of jobs.items text (W.contents writer.old) (W.contents writer.new) result) }
     ensures refused { IfSome (R.remaining reader.old) (λ text.
         IfSome (script_fault text) (λ fault. TellsFault fault result)) }
 
@@ -68,7 +68,7 @@ fn trace_behind<A: Allocator + Copy>(
     jobs: Vec<Job, A>,
 ) -> Result<String<A>, TextFault>
     requires { length text.now ≤ most_bytes }
-    ensures prints { IfOk result (λ trace. PrintsTrace number_of note_of jobs.items text.now (string_bytes trace)) }
+    ensures prints { IfOk result (λ trace. PrintsTrace job_number note_of jobs.items text.now (string_bytes trace)) }
     ensures sound { IfOk result (λ trace. script_fault text.now ≡ None) }
     ensures fault { IfErr result (λ e. FailsFor e (first_fault ScriptHeader 1 (lines_of text.now))) }
 {
@@ -83,7 +83,7 @@ fn trace_of<A: Allocator + Copy>(
     script: Script<A>,
     jobs: Vec<Job, A>,
 ) -> Result<String<A>, TextFault>
-    ensures told { IfOk result (λ text. TellsTrace number_of note_of script.config jobs.items script.steps.items
+    ensures told { IfOk result (λ text. TellsTrace job_number note_of script.config jobs.items script.steps.items
         (string_bytes text)) }
     ensures err { OnErr result (result ≡ Err TextFault.NoMemory) }
 {
@@ -108,7 +108,7 @@ fn told_run<A: Allocator + Copy>(
     stage: &mut Stage<A>,
     steps: &[ScriptStep],
 ) -> Result<String<A>, AllocError>
-    ensures { IfOk result (λ text. TellsRun number_of note_of stage.old.world
+    ensures { IfOk result (λ text. TellsRun job_number note_of stage.old.world
         (jobs stage.old.table stage.old.left.items) steps.now (string_bytes text) stage.new.world
         (jobs stage.new.table stage.new.left.items)) }
 {

@@ -6,8 +6,8 @@ use Rattle.ref_clear.specs.ClearHeaps.{HeldNotice}
 use Rattle.ref_queue.specs.declared.queue.Put.TheVariants as puts
 use Rattle.ref_turn.proofs.Logs.{leads_cut}
 use Rattle.ref_turn.specs.Seats.{entry}
-use Rattle.ref_share.specs.QueueCalls.{Puts, Closes}
-use Rattle.ref_share.specs.QueueHistories.{closed_by, was_closed}
+use Rattle.ref_share.specs.QueueCalls.{PutsNotice, ClosesQueue}
+use Rattle.ref_share.specs.QueueHistories.{closed_by_call, is_closed_after}
 use Rattle.ref_share.specs.QueueMachines.{IsQueueMove}
 use Rattle.ref_share.specs.QueueSeats.{QueueEntry, QueueView, IsItself, IsQueueRun}
 use Rattle.ref_share.specs.QueueStates.{NoticeLists}
@@ -25,25 +25,25 @@ or_later : (b c d : Bool) → (c ≡ true → d ≡ true) → (b || c) ≡ true 
 or_later true c d later is = refl
 or_later false c d later is = later is
 
-closed_later : (front back : List QueueEntry) → was_closed front ≡ true → was_closed (front ++ back) ≡ true
+closed_later : (front back : List QueueEntry) → is_closed_after front ≡ true → is_closed_after (front ++ back) ≡ true
 closed_later [] back shut = absurd cc
 closed_later (call ∷ calls) back shut =
-    or_later (closed_by call.step call.reply) (was_closed calls) (was_closed (calls ++ back))
+    or_later (closed_by_call call.step call.reply) (is_closed_after calls) (is_closed_after (calls ++ back))
     (closed_later calls back) shut
 
 closed_at : (front : List QueueEntry) (by : ℕ) (was : Bool)
-    → was_closed (front ++ entry by steps.Close (replies.Closed was) ∷ []) ≡ true
+    → is_closed_after (front ++ entry by steps.Close (replies.Closed was) ∷ []) ≡ true
 closed_at [] by was = refl
-closed_at (call ∷ calls) by was = or_right (closed_by call.step call.reply) _ (closed_at calls by was)
+closed_at (call ∷ calls) by was = or_right (closed_by_call call.step call.reply) _ (closed_at calls by was)
 
 -- what a seat has seen that closed the queue
-has_closed : (u v : QueueView) (was : Bool) → Closes u (Ok was) v → was_closed v.seen ≡ true
+has_closed : (u v : QueueView) (was : Bool) → ClosesQueue u (Ok was) v → is_closed_after v.seen ≡ true
 has_closed u v was closes =
-    subst (λ (l : List QueueEntry). was_closed l ≡ true) (sym closes.1.1) (closed_at (u.seen ++ closes.1.0) u.number was)
+    subst (λ (l : List QueueEntry). is_closed_after l ≡ true) (sym closes.1.1) (closed_at (u.seen ++ closes.1.0) u.number was)
 
 -- the second of two closes finds the queue closed
 pub closes_again : (u v w : QueueView) (number : ℕ) (was : Bool) (result : Result Bool ShareFault) (last : NoticeLists)
-    → Closes u (Ok was) v → Closes v result w → IsQueueRun number w.seen last → IfOk result (λ is. is ≡ false)
+    → ClosesQueue u (Ok was) v → ClosesQueue v result w → IsQueueRun number w.seen last → IfOk result (λ is. is ≡ false)
 closes_again u v w number was (Ok is) last first then run =
     let front : List QueueEntry = v.seen ++ then.1.0 in
     let parts = leads_cut IsQueueMove front (entry v.number steps.Close (replies.Closed is) ∷ []) (new_queue number) last
@@ -53,17 +53,17 @@ closes_again u v w number was (Ok is) last first then run =
 closes_again u v w number was (Err fault) last first then run = tt
 
 -- a queue that is left after a close is closed
-pub left_closed : (u v : QueueView) (number : ℕ) (was : Bool) (q : NoticeLists) → Closes u (Ok was) v
+pub left_closed : (u v : QueueView) (number : ℕ) (was : Bool) (q : NoticeLists) → ClosesQueue u (Ok was) v
     → IsLeftFrom IsItself IsQueueMove (new_queue number) v q → q.closed ≡ true
 left_closed u v number was q first left =
     let shut = closed_later v.seen left.begins.0 (has_closed u v was first) in
     ap (λ (r : NoticeLists). r.closed) (sym left.stands)
     ∙ (keeps_lists number left.log left.last left.run).closed_is
-    ∙ subst (λ (l : List QueueEntry). was_closed l ≡ true) (sym left.begins.1) shut
+    ∙ subst (λ (l : List QueueEntry). is_closed_after l ≡ true) (sym left.begins.1) shut
 
 -- what was added is for this queue
 pub added_is_own : (v w : QueueView) (number : ℕ) (notice : HeldNotice) (position : ℕ) (last : NoticeLists)
-    → Puts v notice (Ok (puts.Added position)) w → IsQueueRun number w.seen last → notice.queue ≡ number
+    → PutsNotice v notice (Ok (puts.Added position)) w → IsQueueRun number w.seen last → notice.queue ≡ number
 added_is_own v w number notice position last added run =
     (own_at_the_end number v.number (v.seen ++ added.1.0) [] notice position last
     (subst (λ (l : List QueueEntry). IsQueueRun number l last) added.1.1 run)).0

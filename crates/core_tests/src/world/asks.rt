@@ -1,7 +1,7 @@
 //! What is asked of a world beside its steps: the reference in a slot, and what a queue has.
 
 ghost use Rattle.std.specs.Prelude.{◌≡◌, IfOk, length};
-ghost use Rattle.ref_world.specs.Cores.{queue_at};
+ghost use Rattle.ref_world.specs.Cores.{core_queue_at};
 
 use super::rows::{M, PUT, RELEASE, new, object, own, poll, took, unhook, weak};
 use super::{CONFIG, do_steps};
@@ -28,7 +28,7 @@ fn standing_in<A: Allocator + Copy>(
     world: &World<A>,
     no: QueueNo,
 ) -> Result<usize, Fault>
-    ensures { IfOk result (λ count. count ≡ length (queue_at world.now no).stands) }
+    ensures { IfOk result (λ count. count ≡ length (core_queue_at world.now no).stands) }
 {
     let standing = world.queue(no)?.stands(alloc)?;
     Ok(standing.len())

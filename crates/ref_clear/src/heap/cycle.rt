@@ -5,7 +5,7 @@ ghost use Rattle.ref_base.specs.Worlds.{pending_numbers};
 ghost use Rattle.ref_mark.specs.CycleHeaps.{shaded_all};
 ghost use Rattle.ref_mark.specs.MarkCalls.{reply_of, scan_reply};
 ghost use Rattle.ref_clear.specs.ClearCalls.{answer_in, after_in};
-ghost use Rattle.ref_clear.specs.ClearViews.{lists_of, numbers_in};
+ghost use Rattle.ref_clear.specs.ClearViews.{pending_lists_of, numbers_in};
 
 use super::Heap;
 use crate::pending::PendingList;
@@ -46,7 +46,7 @@ impl<A: Allocator + Copy> Heap<A> {
 
 // The pending references become grey, worker by worker.
 fn shade_pending<A: Allocator + Copy>(marker: &mut Marker<A>, pending: &[PendingList<A>])
-    ensures { marker.new ≡ shaded_all marker.old (pending_numbers (lists_of pending.now)) }
+    ensures { marker.new ≡ shaded_all marker.old (pending_numbers (pending_lists_of pending.now)) }
 {
     for worker in 0..pending.len() {
         shade_listed(marker, &pending[worker]);

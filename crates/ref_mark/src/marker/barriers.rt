@@ -8,7 +8,7 @@ ghost use Rattle.ref_base.specs.CollectorRows.{field_in, referent_got, value_rep
 ghost use Rattle.ref_base.specs.Refusals.{has_slot, load_refusal, get_refusal, clear_refusal};
 ghost use Rattle.ref_objects.specs.Grounds.{IsRefused};
 ghost use Rattle.ref_mark.specs.CycleHeaps.{barred, is_white, is_doomed, undoomed, renewed};
-ghost use Rattle.ref_mark.specs.MarkCalls.{answer_in, after_in, reply_of, done_reply};
+ghost use Rattle.ref_mark.specs.MarkCalls.{answer_in_cycle, after_in_cycle, reply_of, done_reply};
 
 use super::Marker;
 use ref_base::{Fault, HeapStep, MutNo, ObjNo, Phase, Reply, SlotNo, Strength};
@@ -26,8 +26,8 @@ impl<A: Allocator + Copy> Marker<A> {
         from: SlotNo,
         field: u32,
     ) -> Result<Option<ObjNo>, Fault>
-        ensures answer { reply_of value_reply result ≡ answer_in self.old (HeapStep.Load mutator into from field) }
-        ensures after { self.new ≡ after_in self.old (HeapStep.Load mutator into from field) }
+        ensures answer { reply_of value_reply result ≡ answer_in_cycle self.old (HeapStep.Load mutator into from field) }
+        ensures after { self.new ≡ after_in_cycle self.old (HeapStep.Load mutator into from field) }
     {
         let value = self.loadable(mutator, into, from, field)?;
         // The prover takes an Option that is passed on by value as spent.
@@ -47,8 +47,8 @@ impl<A: Allocator + Copy> Marker<A> {
         into: SlotNo,
         reference: SlotNo,
     ) -> Result<Option<ObjNo>, Fault>
-        ensures answer { reply_of value_reply result ≡ answer_in self.old (HeapStep.Get mutator into reference) }
-        ensures after { self.new ≡ after_in self.old (HeapStep.Get mutator into reference) }
+        ensures answer { reply_of value_reply result ≡ answer_in_cycle self.old (HeapStep.Get mutator into reference) }
+        ensures after { self.new ≡ after_in_cycle self.old (HeapStep.Get mutator into reference) }
     {
         let (no, got) = self.gettable(mutator, into, reference)?;
         let value = self.read(got);
@@ -63,8 +63,8 @@ impl<A: Allocator + Copy> Marker<A> {
     /// that is left to a worker. Tried in this order: `NoSuchActor`, `EmptySlot`, `NotAReference`. In logarithmic
     /// time.
     pub fn clear(&mut self, mutator: MutNo, reference: SlotNo) -> Result<(), Fault>
-        ensures answer { reply_of done_reply result ≡ answer_in self.old (HeapStep.Clear mutator reference) }
-        ensures after { self.new ≡ after_in self.old (HeapStep.Clear mutator reference) }
+        ensures answer { reply_of done_reply result ≡ answer_in_cycle self.old (HeapStep.Clear mutator reference) }
+        ensures after { self.new ≡ after_in_cycle self.old (HeapStep.Clear mutator reference) }
     {
         let (no, cleared) = self.clearable(mutator, reference)?;
         if !self.is_any_doomed(cleared.referent) {
@@ -77,7 +77,7 @@ impl<A: Allocator + Copy> Marker<A> {
     /// is doomed. It makes nothing grey. Tried in this order: `NoSuchActor`, `EmptySlot`, `NotAReference`. In
     /// logarithmic time.
     pub fn refers_to(&self, mutator: MutNo, reference: SlotNo, other: SlotNo) -> Result<bool, Fault>
-        ensures answer { reply_of Reply.Refers result ≡ answer_in self.now (HeapStep.RefersTo mutator reference other) }
+        ensures answer { reply_of Reply.Refers result ≡ answer_in_cycle self.now (HeapStep.RefersTo mutator reference other) }
     {
         let (_no, read) = self.gettable(mutator, other, reference)?;
         let value = self.objects.slot_of(mutator, other)?;

@@ -9,7 +9,7 @@ ghost use Rattle.ref_base.specs.Heaps.{reference_at};
 ghost use Rattle.ref_base.specs.CollectorRows.{list_at, emptied};
 ghost use Rattle.ref_base.specs.Refusals.{is_empty, begin_refusal, work_refusal, end_mark_refusal};
 ghost use Rattle.ref_objects.specs.Grounds.{IsRefused, fields_in};
-ghost use Rattle.ref_mark.specs.MarkCalls.{answer_in, after_in, reply_of, scan_reply};
+ghost use Rattle.ref_mark.specs.MarkCalls.{answer_in_cycle, after_in_cycle, reply_of, scan_reply};
 ghost use Rattle.ref_mark.specs.CycleHeaps.{shaded_all, whitened, with_found, is_white, policy_in};
 
 use super::Marker;
@@ -23,8 +23,8 @@ impl<A: Allocator + Copy> Marker<A> {
     /// cycle hasn't ended, `ClockBack` where the clock is later, `NumbersSpent` after 2^64 - 1 cycles. In time of the
     /// cells.
     pub fn begin(&mut self, now: u64, urgency: Urgency) -> Result<u64, Fault>
-        ensures answer { reply_of Reply.Cycle result ≡ answer_in self.old (HeapStep.Begin now urgency) }
-        ensures after { self.new ≡ after_in self.old (HeapStep.Begin now urgency) }
+        ensures answer { reply_of Reply.Cycle result ≡ answer_in_cycle self.old (HeapStep.Begin now urgency) }
+        ensures after { self.new ≡ after_in_cycle self.old (HeapStep.Begin now urgency) }
     {
         self.check_begin(now)?;
         self.whiten(now, urgency);
@@ -38,8 +38,8 @@ impl<A: Allocator + Copy> Marker<A> {
     /// the worker. Answers the object, or none where the list is empty. Tried in this order: `NoSuchActor`,
     /// `WrongPhase`. In logarithmic time for each field.
     pub fn scan(&mut self, worker: WorkerNo) -> Result<Option<ObjNo>, Fault>
-        ensures answer { reply_of scan_reply result ≡ answer_in self.old (HeapStep.Scan worker) }
-        ensures after { self.new ≡ after_in self.old (HeapStep.Scan worker) }
+        ensures answer { reply_of scan_reply result ≡ answer_in_cycle self.old (HeapStep.Scan worker) }
+        ensures after { self.new ≡ after_in_cycle self.old (HeapStep.Scan worker) }
     {
         self.check_work(worker, Phase::Marking)?;
         let Some(no) = self.grey.take_first() else {
@@ -56,8 +56,8 @@ impl<A: Allocator + Copy> Marker<A> {
     /// Ends the mark: the white objects are doomed now, and it answers how many they are. Tried in this order:
     /// `WrongPhase`, `GreyLeft` while the grey list has objects. In constant time.
     pub fn end_mark(&mut self) -> Result<u32, Fault>
-        ensures answer { reply_of Reply.Doomed result ≡ answer_in self.old HeapStep.EndMark }
-        ensures after { self.new ≡ after_in self.old HeapStep.EndMark }
+        ensures answer { reply_of Reply.Doomed result ≡ answer_in_cycle self.old HeapStep.EndMark }
+        ensures after { self.new ≡ after_in_cycle self.old HeapStep.EndMark }
     {
         self.check_end_mark()?;
         self.phase = Phase::Clearing;

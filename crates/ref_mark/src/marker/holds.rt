@@ -1,7 +1,7 @@
 //! Holds: what is held is a root.
 
 ghost use Rattle.std.specs.Prelude.{◌≡◌, if◌then◌else◌, IfOk, IfErr};
-ghost use Rattle.ref_mark.specs.MarkCalls.{answer_in, after_in, names_freed, mint_answer_in, after_mint_in};
+ghost use Rattle.ref_mark.specs.MarkCalls.{answer_in_cycle, after_in_cycle, names_freed, mint_answer_in, after_mint_in};
 ghost use Rattle.ref_mark.specs.MarkCalls.{reply_of, reply_or_back, hold_reply, done_reply};
 
 use super::Marker;
@@ -15,11 +15,11 @@ impl<A: Allocator + Copy> Marker<A> {
     pub fn hold(&mut self, mutator: MutNo, slot: SlotNo) -> Result<Hold, Fault>
         ensures answer { reply_of hold_reply result
             ≡ (if names_freed self.old mutator slot then Reply.Refused Fault.NoSuchObject
-            else answer_in self.old (HeapStep.Hold mutator slot)) }
+            else answer_in_cycle self.old (HeapStep.Hold mutator slot)) }
         ensures own { IfOk result (λ hold. hold.heap_no ≡ self.old.heap_no) }
         ensures after { self.new
             ≡ (if names_freed self.old mutator slot then self.old
-            else after_in self.old (HeapStep.Hold mutator slot)) }
+            else after_in_cycle self.old (HeapStep.Hold mutator slot)) }
     {
         self.objects.hold(mutator, slot)
     }
@@ -31,18 +31,18 @@ impl<A: Allocator + Copy> Marker<A> {
         into: SlotNo,
         hold: Hold,
     ) -> Result<ObjNo, (Fault, Hold)>
-        ensures answer { reply_or_back Reply.Object result ≡ answer_in self.old (HeapStep.Adopt mutator into hold) }
+        ensures answer { reply_or_back Reply.Object result ≡ answer_in_cycle self.old (HeapStep.Adopt mutator into hold) }
         ensures back { IfErr result (λ refused. refused.1 ≡ hold) }
-        ensures after { self.new ≡ after_in self.old (HeapStep.Adopt mutator into hold) }
+        ensures after { self.new ≡ after_in_cycle self.old (HeapStep.Adopt mutator into hold) }
     {
         self.objects.adopt(mutator, into, hold)
     }
 
     /// Takes a hold back, as `Objects::release` does: `ForeignHold`. The hold then comes back.
     pub fn release(&mut self, hold: Hold) -> Result<(), (Fault, Hold)>
-        ensures answer { reply_or_back done_reply result ≡ answer_in self.old (HeapStep.Release hold) }
+        ensures answer { reply_or_back done_reply result ≡ answer_in_cycle self.old (HeapStep.Release hold) }
         ensures back { IfErr result (λ refused. refused.1 ≡ hold) }
-        ensures after { self.new ≡ after_in self.old (HeapStep.Release hold) }
+        ensures after { self.new ≡ after_in_cycle self.old (HeapStep.Release hold) }
     {
         self.objects.release(hold)
     }

@@ -7,7 +7,7 @@ ghost use Rattle.ref_base.specs.CollectorRows.{list_at};
 ghost use Rattle.ref_base.specs.Refusals.{is_empty, work_refusal};
 ghost use Rattle.ref_objects.specs.Grounds.{IsRefused, if_done, least_from};
 ghost use Rattle.ref_mark.specs.Worklists.{first_in};
-ghost use Rattle.ref_mark.specs.CycleHeaps.{shaded, with_phase, with_taken, doomed, is_due};
+ghost use Rattle.ref_mark.specs.CycleHeaps.{shaded, cycle_in_phase, with_found_taken, doomed, is_due};
 ghost use Rattle.ref_mark.specs.CycleHeaps.{is_swept, swept, is_past_mark};
 
 use super::Marker;
@@ -42,7 +42,7 @@ impl<A: Allocator + Copy> Marker<A> {
     pub fn take_found(&mut self, worker: WorkerNo) -> Result<Option<ObjNo>, Fault>
         ensures refused { IsRefused (work_refusal self.old.heap self.old.phase Phase.Clearing worker) result }
         ensures answer { IfOk result (λ taken. taken ≡ first_in (list_at self.old.found worker)) }
-        ensures after { self.new ≡ if_done result (with_taken self.old worker) self.old }
+        ensures after { self.new ≡ if_done result (with_found_taken self.old worker) self.old }
     {
         self.check_work(worker, Phase::Clearing)?;
         Ok(self.found[worker.0 as usize].take_first())
@@ -98,7 +98,7 @@ impl<A: Allocator + Copy> Marker<A> {
 
     /// Clearing ends. The layer above has looked at all that was found.
     pub fn to_sweeping(&mut self)
-        ensures { self.new ≡ with_phase self.old Phase.Sweeping }
+        ensures { self.new ≡ cycle_in_phase self.old Phase.Sweeping }
     {
         self.phase = Phase::Sweeping;
     }
@@ -107,7 +107,7 @@ impl<A: Allocator + Copy> Marker<A> {
     /// time of the objects that are there and of those that were freed.
     pub fn to_idle(&mut self)
         requires { is_empty (doomed self.old) ≡ true }
-        ensures { self.new ≡ with_phase self.old Phase.Idle }
+        ensures { self.new ≡ cycle_in_phase self.old Phase.Idle }
     {
         self.objects.close_gaps();
         self.phase = Phase::Idle;

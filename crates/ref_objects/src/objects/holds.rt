@@ -4,8 +4,8 @@ ghost use Rattle.std.specs.Prelude.{◌≡◌, ◌-◌, ◌^◌, ◌<◌, if◌t
 ghost use Rattle.ref_base.specs.Members.{has};
 ghost use Rattle.ref_base.specs.Graphs.{is_there};
 ghost use Rattle.ref_base.specs.Heaps.{slot_at, with_slot, with_hold, without_hold};
-ghost use Rattle.ref_objects.specs.Grounds.{IsRefused, GivesBack, if_done, with_heap, after_minting, IsHoldOf};
-ghost use Rattle.ref_objects.specs.Grounds.{mint_refusal, hold_refusal, release_refusal, adopt_refusal};
+ghost use Rattle.ref_objects.specs.Grounds.{IsRefused, GivesBack, if_done, ground_with_heap, after_minting, IsHoldOf};
+ghost use Rattle.ref_objects.specs.Grounds.{mint_refusal, holding_refusal, release_refusal, adopt_refusal};
 
 use super::Objects;
 use crate::hold::Hold;
@@ -16,7 +16,7 @@ impl<A: Allocator + Copy> Objects<A> {
     /// Takes a hold of the object in a slot. Tried in this order: `NoSuchActor`, `EmptySlot`, `NoSuchObject` where the
     /// object was freed, `NumbersSpent` where 2^64 - 1 holds are out. In logarithmic time.
     pub fn hold(&mut self, mutator: MutNo, slot: SlotNo) -> Result<Hold, Fault>
-        ensures refused { IsRefused (hold_refusal self.old mutator slot) result }
+        ensures refused { IsRefused (holding_refusal self.old mutator slot) result }
         ensures answer { IfOk result (λ hold. IsHoldOf self.old (slot_at self.old.heap mutator slot) hold) }
         ensures after { self.new ≡ after_minting self.old result }
     {
@@ -36,7 +36,7 @@ impl<A: Allocator + Copy> Objects<A> {
         ensures refused { GivesBack (adopt_refusal self.old mutator into hold) hold result }
         ensures answer { IfOk result (λ no. no ≡ hold.object) }
         ensures after { self.new ≡ if_done result
-            (with_heap self.old (with_slot (without_hold self.old.heap hold.object) mutator into
+            (ground_with_heap self.old (with_slot (without_hold self.old.heap hold.object) mutator into
             (Some hold.object))) self.old }
     {
         match self.place(mutator, into) {
@@ -53,7 +53,7 @@ impl<A: Allocator + Copy> Objects<A> {
     pub fn release(&mut self, hold: Hold) -> Result<(), (Fault, Hold)>
         ensures refused { GivesBack (release_refusal self.old hold) hold result }
         ensures after { self.new ≡ if_done result
-            (with_heap self.old (without_hold self.old.heap hold.object)) self.old }
+            (ground_with_heap self.old (without_hold self.old.heap hold.object)) self.old }
     {
         self.take_back(hold)?;
         Ok(())
@@ -81,7 +81,7 @@ impl<A: Allocator + Copy> Objects<A> {
         requires { length self.old.heap.holds < 2 ^ 64 - 1 }
         ensures there { result ≡ is_there self.old.heap.objects no }
         ensures after { self.new ≡
-            (if is_there self.old.heap.objects no then with_heap self.old (with_hold self.old.heap no) else self.old) }
+            (if is_there self.old.heap.objects no then ground_with_heap self.old (with_hold self.old.heap no) else self.old) }
     {
         // Gives the proof that the numbers rise.
         let _count = self.table.len();
@@ -96,7 +96,7 @@ impl<A: Allocator + Copy> Objects<A> {
     fn drop_hold(&mut self, no: ObjNo) -> bool
         ensures held { result ≡ has self.old.heap.holds no }
         ensures after { self.new ≡
-            (if has self.old.heap.holds no then with_heap self.old (without_hold self.old.heap no) else self.old) }
+            (if has self.old.heap.holds no then ground_with_heap self.old (without_hold self.old.heap no) else self.old) }
     {
         // Gives the proof that the numbers rise.
         let _count = self.table.len();
@@ -112,7 +112,7 @@ impl<A: Allocator + Copy> Objects<A> {
         ensures refused { GivesBack (release_refusal self.old hold) hold result }
         ensures answer { IfOk result (λ no. no ≡ hold.object) }
         ensures after { self.new ≡ if_done result
-            (with_heap self.old (without_hold self.old.heap hold.object)) self.old }
+            (ground_with_heap self.old (without_hold self.old.heap hold.object)) self.old }
     {
         let no = hold.obj();
         if hold.heap_no() != self.heap_no || !self.drop_hold(no) {

@@ -3,7 +3,7 @@
 ghost use Rattle.std.specs.Prelude.{◌≡◌, true};
 ghost use Rattle.ref_base.specs.Heaps.{with_slot, with_changed, with_reference, with_stamp, cleared, with_clock};
 ghost use Rattle.ref_base.specs.Refusals.{drop_refusal};
-ghost use Rattle.ref_objects.specs.Grounds.{IsRefused, if_done, with_heap, is_free, after_freeing};
+ghost use Rattle.ref_objects.specs.Grounds.{IsRefused, if_done, ground_with_heap, is_free, after_freeing};
 
 use super::Objects;
 use ref_base::{Fault, MutNo, ObjNo, SlotNo};
@@ -19,7 +19,7 @@ impl<A: Allocator + Copy> Objects<A> {
     ) -> Result<(), Fault>
         ensures refused { IsRefused (drop_refusal self.old.heap mutator slot) result }
         ensures after { self.new ≡ if_done result
-            (with_heap self.old (with_slot self.old.heap mutator slot value)) self.old }
+            (ground_with_heap self.old (with_slot self.old.heap mutator slot value)) self.old }
     {
         let place = self.place(mutator, slot)?;
         self.slots[place] = value;
@@ -28,21 +28,21 @@ impl<A: Allocator + Copy> Objects<A> {
 
     /// Sets the clock. In constant time.
     pub fn set_clock(&mut self, now: u64)
-        ensures { self.new ≡ with_heap self.old (with_clock self.old.heap now) }
+        ensures { self.new ≡ ground_with_heap self.old (with_clock self.old.heap now) }
     {
         self.clock = now;
     }
 
     /// Stamps the reference of this number; nothing changes where there is none. In logarithmic time.
     pub fn set_stamp(&mut self, no: ObjNo, stamp: u64)
-        ensures { self.new ≡ with_heap self.old (with_changed self.old.heap no (with_reference (with_stamp stamp))) }
+        ensures { self.new ≡ ground_with_heap self.old (with_changed self.old.heap no (with_reference (with_stamp stamp))) }
     {
         self.table.set_stamp(no, stamp);
     }
 
     /// Clears the reference of this number; nothing changes where there is none. In logarithmic time.
     pub fn cut(&mut self, no: ObjNo)
-        ensures { self.new ≡ with_heap self.old (with_changed self.old.heap no (with_reference cleared)) }
+        ensures { self.new ≡ ground_with_heap self.old (with_changed self.old.heap no (with_reference cleared)) }
     {
         self.table.cut(no);
     }

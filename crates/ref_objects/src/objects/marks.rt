@@ -2,7 +2,7 @@
 
 ghost use Rattle.std.specs.Prelude.{◌≡◌, length};
 ghost use Rattle.ref_base.specs.Members.{has};
-ghost use Rattle.ref_objects.specs.Grounds.{is_unmarked, with_mark, without_marks, unmarked, least_from};
+ghost use Rattle.ref_objects.specs.Grounds.{is_unmarked, ground_marked, without_marks, unmarked, least_from};
 
 use super::Objects;
 use ref_base::ObjNo;
@@ -31,7 +31,7 @@ impl<A: Allocator + Copy> Objects<A> {
     /// logarithmic time.
     pub fn mark(&mut self, no: ObjNo) -> bool
         ensures answer { result ≡ is_unmarked self.old no }
-        ensures after { self.new ≡ with_mark self.old no }
+        ensures after { self.new ≡ ground_marked self.old no }
     {
         // Gives the proof that the numbers rise.
         let _count = self.table.len();

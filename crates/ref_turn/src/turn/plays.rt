@@ -1,6 +1,6 @@
 //! What each step on the table tells. These types are for the proofs alone.
 
-ghost use Rattle.ref_turn.specs.Steps.{drew, named, looked, grabbed, added, cut, taken_in, spent_view};
+ghost use Rattle.ref_turn.specs.Steps.{drew, named, saw, grabbed, gave_back, split_view, taken_in, spent_view};
 
 use crate::history::{Entry, View};
 use crate::machine::Machine;
@@ -27,7 +27,7 @@ pub(super) struct Look<M> {
 }
 
 impl<M: Machine> Play<Option<M>, View<M, M::Step, M::Reply>> for Look<M> {
-    ghost then = { looked M.stands_for M.moves };
+    ghost then = { saw M.stands_for M.moves };
 }
 
 /// A compare-exchange on the tickets, which takes the turn and the machine, or loses.
@@ -59,7 +59,7 @@ pub(super) struct Add<W> {
 }
 
 impl<M, S, R, W: Said<S, R>> Play<Option<M>, View<M, S, R>> for Add<W> {
-    ghost then = { added W.entry };
+    ghost then = { gave_back W.entry };
 }
 
 /// A new seat has seen what this one has, and made no call.
@@ -68,7 +68,7 @@ pub(super) struct Cut;
 impl<M, S, R> Split<View<M, S, R>> for Cut {
     ghost left = { λ v. v };
 
-    ghost right = { cut };
+    ghost right = { split_view };
 }
 
 /// A seat takes another in.

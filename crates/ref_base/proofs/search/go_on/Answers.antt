@@ -1,7 +1,7 @@
 use Rattle.std.proofs.Common.{◌≡◌, ◌<◌, ◌≤◌, length, get_or, arith, refl}
 use Rattle.ref_base.specs.Graphs.{object_at}
 use Rattle.ref_base.specs.Paths.{targets_at}
-use Rattle.ref_base.specs.Searches.{allowed, added_all, referent_of}
+use Rattle.ref_base.specs.Searches.{allowed, added_all, searched_referents}
 use Rattle.ref_base.proofs.SearchLaws.{added_all-take, referent_alone, searched_more, searched_all, work_left-less}
 use Rattle.ref_base.proofs.HasLaws.{get_or-number}
 use Rattle.ref_base.proofs.search.go_on.Goals.{then-next-closed+in_ok-add_referent, else-next-closed+in_ok-add_targets}
@@ -14,7 +14,7 @@ loop-next-smaller g c =
       | then-next-closed+in_ok-add_referent w ↦
           rw w.seen-is
           (work_left-less c.args.graph.now
-          (referent_of (allowed c.args.allow) (object_at c.args.graph.now.objects c.index-as_slice-next.result))
+          (searched_referents (allowed c.args.allow) (object_at c.args.graph.now.objects c.index-as_slice-next.result))
           c.loop-next.seen.keys w.add_referent.new.seen.keys c.loop-next.next within w.in_ok-add_referent.ensures)
       | else-next-closed+in_ok-add_targets w ↦
           rw w.seen-is

@@ -2,7 +2,7 @@ use Rattle.std.proofs.Common.{sym, subst}
 use Rattle.ref_base.specs.CollectorRows.{IsHeapRow}
 use Rattle.ref_base.specs.declared.reply.Reply.{Reply}
 use Rattle.ref_clear.specs.ClearHeaps.{ClearHeap}
-use Rattle.ref_clear.specs.Standing.{Stands}
+use Rattle.ref_clear.specs.Standing.{HeapStands}
 use Rattle.ref_clear.proofs.HeapLaws.{each_step}
 use Rattle.ref_world.proofs.heap_machine.apply_heap.Goals as goal
 
@@ -12,5 +12,5 @@ returns-clause-row g c a stands =
     let row = each_step old c.args.step a stands in (
       row.0,
       subst (λ (r : Reply). IsHeapRow old.mark.heap_no a c.args.step r row.0) (sym c.called.ensures.answer) row.1,
-      subst (λ (k : ClearHeap). Stands k row.0) (sym c.called.ensures.after) row.2,
+      subst (λ (k : ClearHeap). HeapStands k row.0) (sym c.called.ensures.after) row.2,
     )

@@ -1,11 +1,11 @@
 use Rattle.std.proofs.Common.{◌≡◌, string_bytes, take}
-use Rattle.refrun.specs.JobViews.{number_of, note_of}
+use Rattle.refrun.specs.JobViews.{job_number, note_of}
 use Rattle.refrun.specs.ScriptStanding.{jobs}
 use Rattle.refrun.specs.Traces.{TellsRun}
 use Rattle.refrun.proofs.trace.told_run.Given as goal
 
 abbrev pub invariant-loop-step : goal.invariant-loop-step
 invariant-loop-step g l =
-    TellsRun number_of note_of l.fn.stage.world (jobs l.fn.stage.table l.fn.stage.left.items)
+    TellsRun job_number note_of l.fn.stage.world (jobs l.fn.stage.table l.fn.stage.left.items)
     (take l.step-index l.fn.steps) (string_bytes l.text) l.stage.world (jobs l.stage.table l.stage.left.items)
     × (l.number ≡ l.step-index)

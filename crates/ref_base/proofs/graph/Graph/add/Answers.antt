@@ -4,7 +4,7 @@ use Rattle.indexmap.proofs.CallerLemmas.{insert_entry-new}
 use Rattle.ref_base.proofs.StoreLaws.{is_there-objects_in, none_from_is_some, rising-objects_in, stored-last}
 use Rattle.ref_base.proofs.StoreLaws.{with_object-same}
 use Rattle.ref_base.specs.Graphs.{is_there}
-use Rattle.ref_base.specs.GraphViews.{objects_in, reference_of}
+use Rattle.ref_base.specs.GraphViews.{objects_in, linked_reference}
 use Rattle.ref_base.proofs.graph.Graph.add.Goals.{in-Ok, in-Err}
 use Rattle.ref_base.proofs.graph.Graph.add.Goals as goal
 
@@ -21,7 +21,7 @@ returns-then-contains_key-clause-after g c =
     sym (is_there-objects_in c.self.inside.objects.entries c.args.no) ∙ sym c.contains_key.ensures
     ∙ c.if-contains_key.true in
     let same = with_object-same (objects_in c.self.inside.objects.entries)
-    (record { no = c.args.no; fields = c.args.fields.now; reference = reference_of c.args.link })
+    (record { no = c.args.no; fields = c.args.fields.now; reference = linked_reference c.args.link })
     (rising-objects_in c.self.inside.objects.entries) there in
     rw (← c.self.view_is, same) refl
 

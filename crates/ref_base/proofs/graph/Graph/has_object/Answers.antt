@@ -1,9 +1,9 @@
 use Rattle.std.proofs.Common.{◌∙◌, ap, is_some, sym}
-use Rattle.ref_base.specs.GraphViews.{object_of}
+use Rattle.ref_base.specs.GraphViews.{stored_object}
 use Rattle.ref_base.proofs.StoreLaws.{is_some-option_map}
 use Rattle.ref_base.proofs.graph.Graph.has_object.Goals as goal
 
 pub returns : goal.returns
 returns g c =
-    c.is_some.ensures ∙ sym (is_some-option_map (λ s. object_of (c.args.no, s.now)) c.stored.result)
+    c.is_some.ensures ∙ sym (is_some-option_map (λ s. stored_object (c.args.no, s.now)) c.stored.result)
     ∙ ap is_some c.stored.ensures

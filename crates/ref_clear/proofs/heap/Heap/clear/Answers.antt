@@ -1,11 +1,11 @@
 use Rattle.std.proofs.Common.{ap, refl}
 use Rattle.ref_base.specs.declared.heap_step.HeapStep.TheVariants as heap
 use Rattle.ref_mark.specs.CycleHeaps.{CycleHeap}
-use Rattle.ref_clear.specs.ClearViews.{seen}
+use Rattle.ref_clear.specs.ClearViews.{seen_heap}
 use Rattle.ref_clear.proofs.SoundHeaps.{sound_after}
 use Rattle.ref_clear.proofs.heap.Heap.clear.Goals as goal
 
 pub invariant_of-self : goal.invariant_of-self
 invariant_of-self g c =
     sound_after (heap.Clear c.args.mutator c.args.reference) refl c.self.invariant
-    (ap (λ (k : CycleHeap). seen k c.self.inside.pending.items) c.clear.ensures.after) c.self.invariant.room
+    (ap (λ (k : CycleHeap). seen_heap k c.self.inside.pending.items) c.clear.ensures.after) c.self.invariant.room

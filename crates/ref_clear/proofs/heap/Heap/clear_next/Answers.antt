@@ -2,7 +2,7 @@ use Rattle.std.proofs.Common.{◌≡◌, true, false, Some, None, set, sym, ap, 
 use Rattle.ref_base.specs.Graphs.{Reference}
 use Rattle.ref_base.specs.Heaps.{reference_at, registered_in}
 use Rattle.ref_clear.specs.ClearHeaps.{is_to_clear}
-use Rattle.ref_clear.specs.ClearViews.{seen}
+use Rattle.ref_clear.specs.ClearViews.{seen_heap}
 use Rattle.ref_clear.proofs.LookAnswers.{sound_none, sound_passed, seen_cut, sound_cut, seen_pended, sound_pended}
 use Rattle.ref_clear.proofs.LookAnswers.{look_within, look_has_room, few_taken}
 use Rattle.ref_clear.proofs.LookAnswers.{no_reference, no_referent, clears_by, queue_read}
@@ -103,7 +103,7 @@ returns-clause-after g c =
           c.reference_of.ensures c.in-Some-reference_of.is
           (ap (λ (r : Reference). r.queue) (sym c.reference.view_is) ∙ w.in-Some-queue.is) in
           w.self-is
-          ∙ ap (λ i. seen c.cut.new.self (set c.self.inside.pending.items i w.push.new.self)) c.worker.view_is
+          ∙ ap (λ i. seen_heap c.cut.new.self (set c.self.inside.pending.items i w.push.new.self)) c.worker.view_is
           ∙ seen_pended c.args.worker c.in_ok-no.ensures.refused c.self.invariant c.in-Some.no
           (sym c.in_ok-no.ensures.answer ∙ c.in-Some.is) goes (rw c.worker.view_is at w.index_mut.ensures.value)
           w.in-Some-queue.queue queue c.in_ok-no.ensures.after c.cut.ensures

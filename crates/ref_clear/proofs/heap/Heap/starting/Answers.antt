@@ -1,9 +1,9 @@
 use Rattle.std.proofs.Common.{sym, subst}
 use Rattle.ref_mark.specs.CycleHeaps.{CycleHeap}
 use Rattle.ref_mark.specs.MarkRows.{starting_state}
-use Rattle.ref_mark.specs.Standing.{Stands as MarkStands}
+use Rattle.ref_mark.specs.Standing.{MarkStands}
 use Rattle.ref_clear.specs.ClearHeaps.{ClearHeap}
-use Rattle.ref_clear.specs.Standing.{Stands}
+use Rattle.ref_clear.specs.Standing.{HeapStands}
 use Rattle.ref_clear.proofs.FirstHeaps.{seen_first, first_stands, first_sound}
 use Rattle.ref_clear.proofs.heap.Heap.starting.Goals as goal
 
@@ -22,6 +22,6 @@ returns-in-Ok-clause-made g c = (
 pub returns-in-Ok-clause-stands : goal.returns-in-Ok-clause-stands
 returns-in-Ok-clause-stands g c =
     let a = starting_state c.args.config c.args.start.obj c.args.start.cycle in
-    subst (λ (d : ClearHeap). Stands d a) (sym (returns-in-Ok-clause-made g c).1)
+    subst (λ (d : ClearHeap). HeapStands d a) (sym (returns-in-Ok-clause-made g c).1)
     (first_stands c.args.config c.args.heap_no c.args.start.obj c.args.start.cycle
     (subst (λ (k : CycleHeap). MarkStands k a) c.in_ok-marker.ensures.made.1 c.in_ok-marker.ensures.stands))

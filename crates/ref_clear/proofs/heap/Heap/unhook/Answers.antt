@@ -2,7 +2,7 @@ use Rattle.std.proofs.Common.{◌≡◌, Some, refl, sym, ap, ◌∙◌, subst}
 use Rattle.ref_base.specs.Graphs.{Reference}
 use Rattle.ref_base.specs.declared.heap_step.HeapStep.TheVariants as heap
 use Rattle.ref_mark.specs.CycleHeaps.{CycleHeap}
-use Rattle.ref_clear.specs.ClearViews.{seen, IsSound}
+use Rattle.ref_clear.specs.ClearViews.{seen_heap, IsSoundHeap}
 use Rattle.ref_clear.proofs.NoticeAnswers.{mint_refused}
 use Rattle.ref_clear.proofs.SoundHeaps.{sound_after}
 use Rattle.ref_clear.proofs.UnhookAnswers.{slot_is_there, slot_holds, reference_is, unhook_done}
@@ -11,12 +11,12 @@ use Rattle.ref_clear.proofs.heap.Heap.unhook.Goals as goal
 pub invariant_of-self-in_default : goal.invariant_of-self-in_default
 invariant_of-self-in_default g c =
     sound_after (heap.Clear c.args.mutator c.args.reference) refl c.self.invariant
-    (ap (λ (k : CycleHeap). seen k c.self.inside.pending.items) c.clear.ensures.after) c.self.invariant.room
+    (ap (λ (k : CycleHeap). seen_heap k c.self.inside.pending.items) c.clear.ensures.after) c.self.invariant.room
 
 pub invariant_of-self-in_err-hold : goal.invariant_of-self-in_err-hold
 invariant_of-self-in_err-hold g c =
     let mint = mint_refused c.self.inside.marker _ _ c.in_err-hold.ensures.answer c.in_err-hold.ensures.after in
-    subst (λ (k : CycleHeap). IsSound k c.self.inside.pending.items c.self.inside.swept_to) (sym mint.1)
+    subst (λ (k : CycleHeap). IsSoundHeap k c.self.inside.pending.items c.self.inside.swept_to) (sym mint.1)
     c.self.invariant
 
 pub invariant_of-self-2 : goal.invariant_of-self-2

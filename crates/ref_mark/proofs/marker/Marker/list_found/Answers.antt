@@ -3,7 +3,7 @@ use Rattle.ref_base.specs.DoomedSets.{refers_into}
 use Rattle.ref_base.specs.CollectorRows.{list_at}
 use Rattle.ref_base.specs.Heaps.{reference_at}
 use Rattle.ref_mark.specs.CycleHeaps.{CycleHeap, is_white}
-use Rattle.ref_mark.specs.MarkViews.{seen}
+use Rattle.ref_mark.specs.MarkViews.{seen_marker}
 use Rattle.ref_mark.proofs.RoomLemmas.{listing_asks, stands_as_seen, found_has_room, roomy_found, seen_found}
 use Rattle.ref_mark.proofs.marker.Marker.list_found.Goals as goal
 
@@ -19,7 +19,7 @@ invariant_of-self g c =
 
 pub returns-then-refers_to_white : goal.returns-then-refers_to_white
 returns-then-refers_to_white g c =
-    let k : CycleHeap = seen c.self.inside.objects c.self.inside.grey c.self.inside.found.items c.self.inside.phase
+    let k : CycleHeap = seen_marker c.self.inside.objects c.self.inside.grey c.self.inside.found.items c.self.inside.phase
     c.self.inside.urgency c.self.inside.cycle in
     let asks = listing_asks k _ _ _ c.self.view_is c.worker.view_is c.requires.worker c.requires.room in
     let now : refers_into (is_white c.args.self.now) (reference_at c.args.self.now.heap c.args.no) ≡ true =

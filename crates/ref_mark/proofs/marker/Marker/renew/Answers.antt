@@ -3,7 +3,7 @@ use Rattle.ref_base.specs.Graphs.{Reference}
 use Rattle.ref_base.specs.Paths.{is_soft}
 use Rattle.ref_base.specs.Heaps.{reference_at}
 use Rattle.ref_mark.specs.CycleHeaps.{CycleHeap}
-use Rattle.ref_mark.specs.MarkViews.{seen}
+use Rattle.ref_mark.specs.MarkViews.{seen_marker}
 use Rattle.ref_mark.proofs.BarrierLemmas.{stamped_renewed, unstamped_renewed, unrenewed}
 use Rattle.ref_mark.proofs.marker.Marker.renew.Goals.{else-is_soft-via-then-is_soft+else-is_some}
 use Rattle.ref_mark.proofs.marker.Marker.renew.Goals.{else-is_soft-via-else-is_soft}
@@ -12,7 +12,7 @@ use Rattle.ref_mark.proofs.marker.Marker.renew.Goals as goal
 pub returns-then-is_some : goal.returns-then-is_some
 returns-then-is_some g c =
     let m = c.self.inside in
-    let k : CycleHeap = seen m.objects m.grey m.found.items m.phase m.urgency m.cycle in
+    let k : CycleHeap = seen_marker m.objects m.grey m.found.items m.phase m.urgency m.cycle in
     let found : reference_at k.heap c.args.no ≡ Some c.args.reference =
     subst (λ (j : CycleHeap). reference_at j.heap c.args.no ≡ Some c.args.reference) (sym c.self.view_is) c.requires in
     let soft : is_soft c.args.reference.strength ≡ true =

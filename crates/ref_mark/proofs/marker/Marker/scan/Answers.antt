@@ -4,7 +4,7 @@ use Rattle.ref_base.specs.KeptPaths.{is_kept}
 use Rattle.ref_base.specs.Heaps.{Heap, reference_at}
 use Rattle.ref_mark.specs.Worklists.{first_in}
 use Rattle.ref_mark.specs.CycleHeaps.{CycleHeap, policy_in}
-use Rattle.ref_mark.specs.MarkViews.{seen}
+use Rattle.ref_mark.specs.MarkViews.{seen_marker}
 use Rattle.ref_mark.proofs.RoomLemmas.{Greys, shaded_greys, scanner_within, roomy_scanned, scan_has_room}
 use Rattle.ref_mark.proofs.marker.Marker.scan.Goals as goal
 
@@ -13,7 +13,7 @@ invariant_of-self-2 g c = roomy_scanned c.take_first.ensures.after c.self.invari
 
 pub list_found-requires-clause-reference : goal.list_found-requires-clause-reference
 list_found-requires-clause-reference g c =
-    let k : CycleHeap = seen c.self.inside.objects c.take_first.new.self c.self.inside.found.items c.self.inside.phase
+    let k : CycleHeap = seen_marker c.self.inside.objects c.take_first.new.self c.self.inside.found.items c.self.inside.phase
     c.self.inside.urgency c.self.inside.cycle in
     let grown : Greys k c.shade_targets.new.self =
     shaded_greys k _ (targets_at (is_kept (policy_in k)) k.heap.objects c.in-Some.no) c.shade_targets.ensures in
@@ -21,7 +21,7 @@ list_found-requires-clause-reference g c =
 
 pub list_found-requires-clause-worker : goal.list_found-requires-clause-worker
 list_found-requires-clause-worker g c =
-    let k : CycleHeap = seen c.self.inside.objects c.take_first.new.self c.self.inside.found.items c.self.inside.phase
+    let k : CycleHeap = seen_marker c.self.inside.objects c.take_first.new.self c.self.inside.found.items c.self.inside.phase
     c.self.inside.urgency c.self.inside.cycle in
     let grown : Greys k c.shade_targets.new.self =
     shaded_greys k _ (targets_at (is_kept (policy_in k)) k.heap.objects c.in-Some.no) c.shade_targets.ensures in
@@ -31,7 +31,7 @@ list_found-requires-clause-worker g c =
 
 pub list_found-requires-clause-room : goal.list_found-requires-clause-room
 list_found-requires-clause-room g c =
-    let k : CycleHeap = seen c.self.inside.objects c.take_first.new.self c.self.inside.found.items c.self.inside.phase
+    let k : CycleHeap = seen_marker c.self.inside.objects c.take_first.new.self c.self.inside.found.items c.self.inside.phase
     c.self.inside.urgency c.self.inside.cycle in
     let grown : Greys k c.shade_targets.new.self =
     shaded_greys k _ (targets_at (is_kept (policy_in k)) k.heap.objects c.in-Some.no) c.shade_targets.ensures in

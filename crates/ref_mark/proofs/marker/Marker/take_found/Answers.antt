@@ -3,7 +3,7 @@ use Rattle.ref_base.specs.CollectorRows.{list_at}
 use Rattle.ref_base.specs.declared.phase.Phase.TheVariants.{Clearing}
 use Rattle.ref_mark.specs.Worklists.{first_in}
 use Rattle.ref_mark.specs.CycleHeaps.{CycleHeap}
-use Rattle.ref_mark.specs.MarkViews.{lists_of}
+use Rattle.ref_mark.specs.MarkViews.{worklists_of}
 use Rattle.ref_mark.proofs.RoomLemmas.{worker_within, stands_as_seen, roomy_taken, seen_taken}
 use Rattle.ref_mark.proofs.marker.Marker.take_found.Goals as goal
 
@@ -25,7 +25,7 @@ returns-clause-answer g c =
     let worker : c.worker.inside.0 < c.self.inside.objects.heap.config.workers =
     subst (λ (k : CycleHeap). c.worker.inside.0 < k.heap.config.workers) (sym c.self.view_is)
     (subst (λ w. w < c.args.self.now.heap.config.workers) (sym same) now) in
-    let stands : c.index_mut.result.now.stands ≡ list_at (lists_of c.self.inside.found.items) c.worker.inside.0 =
+    let stands : c.index_mut.result.now.stands ≡ list_at (worklists_of c.self.inside.found.items) c.worker.inside.0 =
     stands_as_seen c.worker.inside.0 worker c.index_mut.ensures.value c.self.invariant in
     rw (← c.self.view_is, ← same) (c.take_first.ensures.answer ∙ ap first_in stands)
 
@@ -37,7 +37,7 @@ returns-clause-after g c =
     let worker : c.worker.inside.0 < c.self.inside.objects.heap.config.workers =
     subst (λ (k : CycleHeap). c.worker.inside.0 < k.heap.config.workers) (sym c.self.view_is)
     (subst (λ w. w < c.args.self.now.heap.config.workers) (sym same) now) in
-    let stands : c.index_mut.result.now.stands ≡ list_at (lists_of c.self.inside.found.items) c.worker.inside.0 =
+    let stands : c.index_mut.result.now.stands ≡ list_at (worklists_of c.self.inside.found.items) c.worker.inside.0 =
     stands_as_seen c.worker.inside.0 worker c.index_mut.ensures.value c.self.invariant in
     rw (← c.self.view_is, ← same)
     (seen_taken c.self.inside.objects c.self.inside.grey c.self.inside.found.items c.self.inside.phase

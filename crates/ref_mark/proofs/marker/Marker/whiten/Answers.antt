@@ -2,7 +2,7 @@ use Rattle.std.proofs.Common.{◌≡◌, [], ◌∙◌, ap}
 use Rattle.ref_base.specs.CollectorRows.{emptied as none_found}
 use Rattle.ref_objects.specs.Grounds.{Ground}
 use Rattle.ref_mark.specs.CycleHeaps.{CycleHeap}
-use Rattle.ref_mark.specs.MarkViews.{lists_of}
+use Rattle.ref_mark.specs.MarkViews.{worklists_of}
 use Rattle.ref_mark.proofs.RoomLemmas.{roomy_cleared, roomy_whitened}
 use Rattle.ref_mark.proofs.marker.Marker.whiten.Goals as goal
 
@@ -19,6 +19,6 @@ invariant_of-self-2 g c =
     let white : c.self-2.inside.grey.stands ≡ [] =
     ap (λ (k : CycleHeap). k.grey) c.self-2.view_is ∙ ap (λ (k : CycleHeap). k.grey) c.forget_found.ensures
     ∙ ap (λ l. l.stands) c.clear.ensures in
-    let none : lists_of c.self-2.inside.found.items ≡ none_found (lists_of c.self.inside.found.items) =
+    let none : worklists_of c.self-2.inside.found.items ≡ none_found (worklists_of c.self.inside.found.items) =
     ap (λ (k : CycleHeap). k.found) c.self-2.view_is ∙ ap (λ (k : CycleHeap). k.found) c.forget_found.ensures in
-    roomy_whitened (lists_of c.self.inside.found.items) config unmarked white none c.self-2.invariant
+    roomy_whitened (worklists_of c.self.inside.found.items) config unmarked white none c.self-2.invariant

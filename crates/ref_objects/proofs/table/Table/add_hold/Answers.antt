@@ -2,7 +2,7 @@ use Rattle.std.proofs.Common.{◌≡◌, ◌∙◌, ◌<◌, ◌^◌, ◌-◌, l
 use Rattle.std.proofs.lemmas.List.{length-set}
 use Rattle.std.specs.Option.{is_some}
 use Rattle.ref_objects.specs.Tables.{Table, tabled_at, holds_of, holds_in, more_held, changed}
-use Rattle.ref_objects.specs.Places.{seen, tabled_by}
+use Rattle.ref_objects.specs.Places.{seen_table, tabled_by}
 use Rattle.ref_objects.proofs.TabledLemmas.{holds_in-le}
 use Rattle.ref_objects.proofs.PlaceLemmas.{IsPlaceOf-lent, IsMissing-lent}
 use Rattle.ref_objects.proofs.ChangeLemmas.{told_of, told_of_none, there, tabled_by-changed, seen_changed}
@@ -52,7 +52,7 @@ returns-in-None-clause-after g c =
 pub add_hold-requires : goal.add_hold-requires
 add_hold-requires g c =
     let place = IsPlaceOf-lent c.args.no c.deref.ensures.value c.deref-2.ensures.value c.in-Some.ensures in
-    let tabled = (seen c.self.inside.cells.items c.self.inside.index.items c.self.inside.last).tabled in
+    let tabled = (seen_table c.self.inside.cells.items c.self.inside.index.items c.self.inside.last).tabled in
     let count : holds_in c.index_mut.result.now ≡ holds_in (tabled_at tabled c.args.no) =
     told_of c.self.invariant.placed place holds_in c.index_mut.ensures.value in
     let few : length (holds_of tabled) < 2 ^ 64 - 1 =

@@ -2,7 +2,7 @@ use Rattle.std.proofs.Common.{◌∙◌, ap, sym, arith}
 use Rattle.std.proofs.lemmas.List.{length-set}
 use Rattle.std.specs.Int.{from_bool}
 use Rattle.ref_objects.specs.Places.{tabled_by}
-use Rattle.ref_objects.specs.Tables.{Table, tabled_at, is_unheld, is_marked_in, freed}
+use Rattle.ref_objects.specs.Tables.{Table, tabled_at, is_unheld, is_marked_in, table_freed}
 use Rattle.ref_objects.proofs.PlaceLemmas.{IsPlaceOf-lent, IsMissing-lent}
 use Rattle.ref_objects.proofs.ChangeLemmas.{held_here, unheld_here, room_to_free, seen_freed, seen_tabled, placed_freed}
 use Rattle.ref_objects.proofs.ChangeLemmas.{tabled_by-freed, told_of_none, seen_missing_freed}
@@ -72,4 +72,4 @@ returns-clause-after g c =
     let place = IsPlaceOf-lent c.args.no c.deref.ensures.value c.deref-2.ensures.value c.in-Some.ensures in
     seen_freed c.self.invariant.placed place c.vacate.ensures c.push_reserved.ensures.items
     (unheld_here c.self.invariant.placed place c.index.ensures (sym c.is_held.ensures ∙ c.if-is_held.false))
-    ∙ ap (λ (t : Table). freed t c.args.no) c.self.view_is
+    ∙ ap (λ (t : Table). table_freed t c.args.no) c.self.view_is

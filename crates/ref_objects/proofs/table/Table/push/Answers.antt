@@ -1,7 +1,7 @@
 use Rattle.std.proofs.Common.{◌≡◌, ◌∙◌, ◌<◌, ap, sym, subst, refl, arith}
 use Rattle.std.proofs.lemmas.List.{length-set}
 use Rattle.ref_objects.specs.Places.{tabled_by}
-use Rattle.ref_objects.specs.Tables.{Table, made, with_tabled}
+use Rattle.ref_objects.specs.Tables.{Table, made_entry, with_tabled}
 use Rattle.ref_objects.proofs.PushLemmas.{can_make, tabled_by-made, seen_made, placed_made}
 use Rattle.ref_objects.proofs.MarkLemmas.{marks_made}
 use Rattle.ref_objects.proofs.table.Table.push.Goals as goal
@@ -23,7 +23,7 @@ invariant_of-self g c =
     let can = can_make c.pop.new.self.items c.self.invariant.placed c.deref.ensures.value
     (c.len.ensures ∙ c.self.inside.cells.ok.0) c.make_room.ensures.entries c.pop.ensures.items c.unwrap-place.ensures in
     let rises = subst (λ (t : Table). t.last < c.args.no) (sym c.self.view_is) c.requires.rises in
-    let number : (made c.args.no c.args.count c.args.reference).object.no ≡ c.args.no = refl in
+    let number : (made_entry c.args.no c.args.count c.args.reference).object.no ≡ c.args.no = refl in
     let size = length-set c.self.inside.cells.items c.unwrap-place.result c.of.result in
     record {
       placed = placed_made c.self.invariant.placed can rises number c.of.ensures c.push_reserved.ensures.items;
@@ -36,7 +36,7 @@ invariant_of-self g c =
       );
       places_fit = omega (arith, c.self.invariant.places_fit, c.pop.ensures.capacity, size);
       marks_counted = marks_made (tabled_by c.self.inside.cells.items c.self.inside.index.items)
-          (made c.args.no c.args.count c.args.reference) refl
+          (made_entry c.args.no c.args.count c.args.reference) refl
           (tabled_by-made c.self.invariant.placed can rises number c.of.ensures c.push_reserved.ensures.items)
           c.self.invariant.marks_counted;
     }
@@ -46,6 +46,6 @@ returns g c =
     let can = can_make c.pop.new.self.items c.self.invariant.placed c.deref.ensures.value
     (c.len.ensures ∙ c.self.inside.cells.ok.0) c.make_room.ensures.entries c.pop.ensures.items c.unwrap-place.ensures in
     let rises = subst (λ (t : Table). t.last < c.args.no) (sym c.self.view_is) c.requires.rises in
-    let number : (made c.args.no c.args.count c.args.reference).object.no ≡ c.args.no = refl in
+    let number : (made_entry c.args.no c.args.count c.args.reference).object.no ≡ c.args.no = refl in
     seen_made c.self.invariant.placed can rises number c.of.ensures c.push_reserved.ensures.items
-    ∙ ap (λ (t : Table). with_tabled t (made c.args.no c.args.count c.args.reference)) c.self.view_is
+    ∙ ap (λ (t : Table). with_tabled t (made_entry c.args.no c.args.count c.args.reference)) c.self.view_is

@@ -1,7 +1,7 @@
 use Rattle.std.proofs.Common.{◌≡◌, ◌∙◌, ap, length, map, arith}
 use Rattle.std.proofs.lemmas.List.{length-map, with_items_is}
 use Rattle.ref_objects.specs.Places.{unmarked_cell}
-use Rattle.ref_objects.specs.Tables.{Table, without_marks}
+use Rattle.ref_objects.specs.Tables.{Table, table_unmarked}
 use Rattle.ref_objects.proofs.UnmarkedLemmas.{length-without_marks, seen_without_marks, placed_without_marks}
 use Rattle.ref_objects.proofs.UnmarkedLemmas.{none_marked}
 use Rattle.ref_objects.proofs.table.Table.unmark_all.Goals as goal
@@ -31,4 +31,4 @@ returns g c =
     let is =
     with_items_is c.self.inside.cells c.unmark.new.cells (omega (arith, size, c.self.inside.cells.ok.0)) ∙ now in
     seen_without_marks cells is c.self.inside.index.items c.self.inside.last
-    ∙ ap (λ (t : Table). without_marks t) c.self.view_is
+    ∙ ap (λ (t : Table). table_unmarked t) c.self.view_is

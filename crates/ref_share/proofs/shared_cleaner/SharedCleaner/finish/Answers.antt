@@ -2,12 +2,12 @@ use Rattle.std.proofs.Common.{subst}
 use Rattle.ref_turn.specs.Seats.{EndsAs}
 use Rattle.ref_turn.specs.Turns.{view}
 use Rattle.ref_share.proofs.Seats.{left_so}
-use Rattle.ref_share.specs.CleanMachines.{IsCleanMove, IsItself}
+use Rattle.ref_share.specs.CleanMachines.{IsCleanMove, IsTheTable}
 use Rattle.ref_share.proofs.shared_cleaner.SharedCleaner.finish.Goals as goal
 
 pub returns-in-Ok : goal.returns-in-Ok
 returns-in-Ok g c =
     let ends =
-    subst (λ s. EndsAs IsItself IsCleanMove (view s) c.in-Ok.machine) c.into_seat.ensures c.in-Ok.ensures in
+    subst (λ s. EndsAs IsTheTable IsCleanMove (view s) c.in-Ok.machine) c.into_seat.ensures c.in-Ok.ensures in
     rw c.into_table.ensures
-    (left_so IsItself IsCleanMove c.args.self.turn _ c.args.seat.seat c.in-Ok.machine c.requires ends)
+    (left_so IsTheTable IsCleanMove c.args.self.turn _ c.args.seat.seat c.in-Ok.machine c.requires ends)

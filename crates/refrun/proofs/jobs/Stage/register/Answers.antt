@@ -1,5 +1,5 @@
 use Rattle.std.proofs.Common.{refl}
-use Rattle.refrun.specs.JobViews.{number_of}
+use Rattle.refrun.specs.JobViews.{job_number}
 use Rattle.refrun.proofs.JobLemmas.{registers_job, refuses_job}
 use Rattle.refrun.proofs.jobs.Stage.register.Goals as goal
 
@@ -9,11 +9,11 @@ returns-in_default-clause-answer g c = (rw (c.as_slice.ensures.value, c.from.ens
 pub returns-in-Ok-clause-answer : goal.returns-in-Ok-clause-answer
 returns-in-Ok-clause-answer g c =
     let found = rw (c.as_slice.ensures.value, c.from.ensures) at c.in-Some.ensures in
-    registers_job number_of c.args.object c.args.number _ _ _ _ _ _ found.0 found.1 c.swap_remove-job.ensures.value
+    registers_job job_number c.args.object c.args.number _ _ _ _ _ _ found.0 found.1 c.swap_remove-job.ensures.value
     c.swap_remove-job.ensures.items c.in-Ok.ensures
 
 pub returns-in-Err-clause-answer : goal.returns-in-Err-clause-answer
 returns-in-Err-clause-answer g c =
     let found = rw (c.as_slice.ensures.value, c.from.ensures) at c.in-Some.ensures in
-    refuses_job number_of c.args.object c.args.number _ _ _ _ _ _ found.0 found.1 c.swap_remove-job.ensures.value
+    refuses_job job_number c.args.object c.args.number _ _ _ _ _ _ found.0 found.1 c.swap_remove-job.ensures.value
     c.swap_remove-job.ensures.items _ _ _ _ c.push_reserved.ensures.items c.in-Err.ensures
