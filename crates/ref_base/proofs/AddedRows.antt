@@ -1,21 +1,11 @@
 -- What a put that was added tells: whose notice it was, that it is new in its queue, and at which position it stands.
 use Rattle.std.proofs.Common.{◌≡◌, ℕ, Bool, true, false, List, ◌∷◌, ◌++◌, length, Option, Some, None, inl, inr}
 use Rattle.std.proofs.Common.{refl, sym, ap, ◌∙◌, subst}
-use Rattle.ref_base.specs.QueueLists.{enqueued, was_put}
-use Rattle.ref_base.specs.QueueRows.{put_into, taken_from, was_closed}
-use Rattle.ref_base.specs.Worlds.{Notice, object_of, hand_of, queue_at}
-use Rattle.ref_base.specs.Replay.{replayed}
-use Rattle.ref_base.specs.Collectors.{State, first_state}
-use Rattle.ref_base.specs.Refusals.{refusal}
-use Rattle.ref_base.specs.CollectorRows.{PutsInto, Puts, IsAnswer, IsRun}
-use Rattle.ref_base.specs.LegalTraces.{IsLegal}
-use Rattle.ref_base.specs.Provenance.{IsProven, IsProvenIn}
-use Rattle.ref_base.specs.declared.config.Config.{Config}
-use Rattle.ref_base.specs.declared.actor.Actor.{Actor}
-use Rattle.ref_base.specs.declared.fault.Fault.{Fault}
+use Rattle.ref_base.proofs.Common.{enqueued, was_put, put_into, taken_from, was_closed, Notice, object_of, hand_of}
+use Rattle.ref_base.proofs.Common.{queue_at, replayed, State, first_state, refusal, PutsInto, Puts, IsAnswer, IsRun}
+use Rattle.ref_base.proofs.Common.{IsLegal, IsProven, IsProvenIn, Config, Actor, Fault, Row}
 use Rattle.ref_base.specs.declared.step.Step.TheVariants as steps
 use Rattle.ref_base.specs.declared.reply.Reply.TheVariants as replies
-use Rattle.ref_base.specs.declared.row.Row.{Row}
 use Rattle.ref_base.proofs.LegalQueues.{first_run_moves}
 use Rattle.ref_base.proofs.ProvenTraces.{legal_proven}
 use Rattle.ref_base.proofs.OutTraces.{legal_others}

@@ -5,21 +5,14 @@ use Rattle.std.proofs.Common.{take, drop, Option, Some, None, refl, sym, ap, ◌
 use Rattle.std.specs.Prelude.{slice_set}
 use Rattle.std.proofs.lemmas.Bool.{cases_Bool, and_right, eq-eqb, eqb-true}
 use Rattle.std.proofs.lemmas.List.{map-id, take-append-drop}
-use Rattle.ref_base.specs.Members.{has}
-use Rattle.ref_base.specs.Graphs.{Object, is_there, numbers}
-use Rattle.ref_base.specs.Strengths.{IsRising}
-use Rattle.ref_base.specs.DoomedSets.{new_clears}
-use Rattle.ref_base.specs.Heaps.{reference_at, registered_in, with_changed, with_reference, cleared, changed_at}
-use Rattle.ref_base.specs.Worlds.{World, with_heap}
-use Rattle.ref_base.specs.Replay.{after_heap, with_phase, pended, cleared_for}
-use Rattle.ref_base.specs.Collectors.{State, joined}
-use Rattle.ref_base.specs.Refusals.{is_in}
-use Rattle.ref_base.specs.CollectorRows.{with_world, without, mark_ended, doomed_at, EndsMark}
-use Rattle.ref_base.specs.AgreeingWorlds.{under, objects_under, is_waiting, Agrees, cleared_if}
-use Rattle.ref_base.specs.declared.phase.Phase.{Phase}
-use Rattle.ref_base.specs.declared.phase.Phase.TheVariants.{Marking, Clearing, Sweeping}
+use Rattle.ref_base.proofs.Common.{has, Object, is_there, numbers, IsRising, new_clears, reference_at, registered_in}
+use Rattle.ref_base.proofs.Common.{with_reference, cleared, changed_at, World, with_heap, after_heap, with_phase}
+use Rattle.ref_base.proofs.Common.{pended, State, joined, is_in, with_world, without, mark_ended, doomed_at, EndsMark}
+use Rattle.ref_base.proofs.Common.{under, objects_under, is_waiting, Agrees, cleared_if, Phase, Marking, Clearing}
+use Rattle.ref_base.proofs.Common.{Sweeping, Reply}
+use Rattle.ref_base.specs.Heaps.{with_changed}
+use Rattle.ref_base.specs.Replay.{cleared_for}
 use Rattle.ref_base.specs.declared.heap_step.HeapStep.TheVariants as heap
-use Rattle.ref_base.specs.declared.reply.Reply.{Reply}
 use Rattle.ref_base.specs.declared.reply.Reply.TheVariants as replies
 use Rattle.ref_base.proofs.HasLaws.{has-left, has-right, has-cases}
 use Rattle.ref_base.proofs.HeapMoves.{settled, moved, found_less}

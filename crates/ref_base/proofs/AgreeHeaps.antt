@@ -3,22 +3,11 @@
 use Rattle.std.proofs.Common.{◌≡◌, ℕ, ◌+◌, ◌<◌, ◌≤◌, Bool, true, false, ◌&&◌, ◌==◌, not, nat_lt, List, [], ◌∷◌, ◌++◌}
 use Rattle.std.proofs.Common.{take, Some, is_some, refl, sym, ap, ◌∙◌, subst, arith, inl, inr}
 use Rattle.std.proofs.lemmas.Bool.{cases_Bool, and_right, false_from_ne_true, true≢false, false≢true, eq-eqb}
-use Rattle.ref_base.specs.Members.{has}
-use Rattle.ref_base.specs.Graphs.{Object, is_there, numbers}
-use Rattle.ref_base.specs.Strengths.{IsRising}
-use Rattle.ref_base.specs.Paths.{if_any}
+use Rattle.ref_base.proofs.Common.{has, Object, is_there, numbers, IsRising, if_any, World, NamedStep, after_heap}
+use Rattle.ref_base.proofs.Common.{State, joined, is_in, with_world, without, under, is_waiting, Agrees, Phase}
+use Rattle.ref_base.proofs.Common.{Clearing, Reply}
 use Rattle.ref_base.specs.DoomedSets.{unscanned}
-use Rattle.ref_base.specs.Worlds.{World}
-use Rattle.ref_base.specs.HeapSteps.{NamedStep}
-use Rattle.ref_base.specs.Replay.{after_heap}
-use Rattle.ref_base.specs.Collectors.{State, joined}
-use Rattle.ref_base.specs.Refusals.{is_in}
-use Rattle.ref_base.specs.CollectorRows.{with_world, without}
-use Rattle.ref_base.specs.AgreeingWorlds.{under, is_waiting, Agrees}
-use Rattle.ref_base.specs.declared.phase.Phase.{Phase}
-use Rattle.ref_base.specs.declared.phase.Phase.TheVariants.{Clearing}
 use Rattle.ref_base.specs.declared.heap_step.HeapStep.TheVariants as heap
-use Rattle.ref_base.specs.declared.reply.Reply.{Reply}
 use Rattle.ref_base.specs.declared.reply.Reply.TheVariants as replies
 use Rattle.ref_base.proofs.HasLaws.{has-cases, has-single}
 use Rattle.ref_base.proofs.HeapMoves.{settled}

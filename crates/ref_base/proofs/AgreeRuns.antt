@@ -3,25 +3,13 @@
 use Rattle.std.proofs.Common.{◌≡◌, ℕ, Bool, false, ◌&&◌, List, [], Option, Some, None, refl, sym}
 use Rattle.std.proofs.Common.{ap, ◌∙◌, subst, inl, inr}
 use Rattle.std.proofs.lemmas.Bool.{false≢true}
-use Rattle.ref_base.specs.Members.{has}
-use Rattle.ref_base.specs.Strengths.{IsRising}
-use Rattle.ref_base.specs.Worlds.{World, first_world}
-use Rattle.ref_base.specs.Told.{told_object}
-use Rattle.ref_base.specs.HeapSteps.{NamedStep, heap_step, handed}
-use Rattle.ref_base.specs.Replay.{after_heap, after_queues, after_asking, after}
-use Rattle.ref_base.specs.Collectors.{State, first_state, joined}
-use Rattle.ref_base.specs.Refusals.{heap_refusal, is_in}
-use Rattle.ref_base.specs.CollectorRows.{HeapAccepts, with_world, list_at, IsRow}
-use Rattle.ref_base.specs.CountedHolds.{AreCounted}
-use Rattle.ref_base.specs.AgreeingWorlds.{under, is_waiting}
-use Rattle.ref_base.specs.declared.config.Config.{Config}
-use Rattle.ref_base.specs.declared.fault.Fault.{Fault}
-use Rattle.ref_base.specs.declared.phase.Phase.TheVariants.{Idle, Marking, Clearing, Sweeping}
+use Rattle.ref_base.proofs.Common.{has, IsRising, World, first_world, told_object, NamedStep, heap_step, handed}
+use Rattle.ref_base.proofs.Common.{after_heap, after_queues, after, State, first_state, joined, heap_refusal, is_in}
+use Rattle.ref_base.proofs.Common.{HeapAccepts, with_world, list_at, IsRow, AreCounted, under, is_waiting, Config}
+use Rattle.ref_base.proofs.Common.{Fault, Idle, Marking, Clearing, Sweeping, Step, Reply, Row}
+use Rattle.ref_base.specs.Replay.{after_asking}
 use Rattle.ref_base.specs.declared.heap_step.HeapStep.TheVariants as heap
-use Rattle.ref_base.specs.declared.step.Step.{Step}
-use Rattle.ref_base.specs.declared.reply.Reply.{Reply}
 use Rattle.ref_base.specs.declared.reply.Reply.TheVariants as replies
-use Rattle.ref_base.specs.declared.row.Row.{Row}
 use Rattle.ref_base.proofs.HeapMoves.{settled, scanned_by, heap_moves}
 use Rattle.ref_base.proofs.PhaseLaws.{of_phase}
 use Rattle.ref_base.proofs.ReplayUnder.{handed_through, queues_through, asks_same}

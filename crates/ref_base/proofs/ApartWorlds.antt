@@ -4,13 +4,11 @@ use Rattle.std.proofs.Common.{Option, Some, None, refl, sym, ◌∙◌, subst, i
 use Rattle.std.specs.Prelude.{slice_index_or, slice_set, replicate}
 use Rattle.std.specs.List.{AllByRecursion}
 use Rattle.std.proofs.lemmas.Bool.{cases_Bool, or_cases, eqb-true, false≢true, or_right}
-use Rattle.ref_base.specs.Members.{has}
-use Rattle.ref_base.specs.Graphs.{Object, Reference, object_at, is_there}
-use Rattle.ref_base.specs.Paths.{any_referent, present, allowed_referent, targets_of, targets_at, is_soft}
-use Rattle.ref_base.specs.Heaps.{with_slot, with_hold, without_hold, one_fewer, changed_in}
-use Rattle.ref_base.specs.Heaps.{changed_at, with_field, with_reference, cleared, got_at, changed_reference}
-use Rattle.ref_base.specs.Worlds.{World, Pending, pending_of, pending_numbers, graph_of, with_heap, with_pending}
-use Rattle.ref_base.specs.CollectorRows.{without}
+use Rattle.ref_base.proofs.Common.{has, Object, Reference, object_at, is_there, any_referent, present}
+use Rattle.ref_base.proofs.Common.{allowed_referent, targets_of, targets_at, is_soft, with_slot, with_hold}
+use Rattle.ref_base.proofs.Common.{without_hold, one_fewer, changed_in, changed_at, with_field, with_reference}
+use Rattle.ref_base.proofs.Common.{cleared, got_at, changed_reference, World, Pending, pending_of, pending_numbers}
+use Rattle.ref_base.proofs.Common.{graph_of, with_heap, with_pending, without}
 use Rattle.ref_base.proofs.HasLaws.{has-cases, has-left, has-right}
 use Rattle.ref_base.proofs.Lookups.{lookup-changed, object_at-push, object_at-pushed, has-present_set}
 use Rattle.ref_base.proofs.OneMore.{has-one_more}

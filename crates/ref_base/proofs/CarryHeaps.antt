@@ -5,25 +5,15 @@ use Rattle.std.proofs.Common.{List, [], ◌∷◌, ◌++◌, length, map, take, 
 use Rattle.std.proofs.Common.{refl, ap, ◌∙◌, inl, inr}
 use Rattle.std.specs.Prelude.{slice_set}
 use Rattle.std.proofs.lemmas.Bool.{cases_Bool}
-use Rattle.ref_base.specs.Members.{has}
-use Rattle.ref_base.specs.Graphs.{Object, plain_object}
-use Rattle.ref_base.specs.Heaps.{Heap, slot_at, reference_at, registered_in, with_slot}
-use Rattle.ref_base.specs.Heaps.{with_reference, cleared, got_at, with_field, got, cut, stored, made, nulls}
-use Rattle.ref_base.specs.Heaps.{new_reference}
-use Rattle.ref_base.specs.Heaps.{with_hold, without_hold}
-use Rattle.ref_base.specs.Worlds.{World, Notice, Pending, pending_of, with_heap}
-use Rattle.ref_base.specs.HeapSteps.{NamedStep}
-use Rattle.ref_base.specs.Replay.{adopted, pended, handed_on, begun, with_phase, without_pending}
-use Rattle.ref_base.specs.Collectors.{State}
-use Rattle.ref_base.specs.CollectorRows.{Gives, ticked, on_heap, with_world, Makes, Loads, Gets, Unhooks}
-use Rattle.ref_base.specs.CollectorRows.{Holds, Scans, ClearsNext, HandsOn, Sweeps, HeapAccepts, value_reply}
-use Rattle.ref_base.specs.CollectorRows.{looked_at, looked, list_at, begun_state, shown, without}
-use Rattle.ref_base.specs.CollectorRows.{doomed_at}
-use Rattle.ref_base.specs.Refusals.{is_in}
-use Rattle.ref_base.specs.declared.cause.Cause.TheVariants.{Own, Cycle}
-use Rattle.ref_base.specs.declared.phase.Phase.TheVariants.{Idle, Marking, Clearing, Sweeping}
+use Rattle.ref_base.proofs.Common.{has, Object, plain_object, Heap, slot_at, reference_at, registered_in, with_slot}
+use Rattle.ref_base.proofs.Common.{with_reference, cleared, got_at, with_field, got, cut, stored, made, nulls}
+use Rattle.ref_base.proofs.Common.{new_reference, with_hold, without_hold, World, Notice, Pending, pending_of}
+use Rattle.ref_base.proofs.Common.{with_heap, NamedStep, adopted, pended, handed_on, begun, with_phase}
+use Rattle.ref_base.proofs.Common.{without_pending, State, Gives, ticked, on_heap, with_world, Makes, Loads, Gets}
+use Rattle.ref_base.proofs.Common.{Unhooks, Holds, Scans, ClearsNext, HandsOn, Sweeps, HeapAccepts, value_reply}
+use Rattle.ref_base.proofs.Common.{looked_at, looked, list_at, begun_state, shown, without, doomed_at, is_in, Own}
+use Rattle.ref_base.proofs.Common.{Cycle, Idle, Marking, Clearing, Sweeping, Reply}
 use Rattle.ref_base.specs.declared.heap_step.HeapStep.TheVariants as heap
-use Rattle.ref_base.specs.declared.reply.Reply.{Reply}
 use Rattle.ref_base.specs.declared.reply.Reply.TheVariants as replies
 use Rattle.ref_base.proofs.Places.{all_push}
 use Rattle.ref_base.proofs.SoundWorlds.{all_map, all_without}

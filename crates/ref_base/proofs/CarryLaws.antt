@@ -6,22 +6,11 @@ use Rattle.std.proofs.Common.{sym, ap, ◌∙◌, subst, inl, inr}
 use Rattle.std.specs.Prelude.{slice_index_or, slice_set}
 use Rattle.std.specs.List.{AllByRecursion}
 use Rattle.std.proofs.lemmas.Bool.{cases_Bool}
-use Rattle.ref_base.specs.Members.{has, without_first}
-use Rattle.ref_base.specs.Graphs.{Object}
-use Rattle.ref_base.specs.DoomedSets.{refers_into}
-use Rattle.ref_base.specs.Heaps.{changed_at, changed_in}
-use Rattle.ref_base.specs.Heaps.{with_reference, cleared, got_at, with_field}
-use Rattle.ref_base.specs.QueueLists.{Lists, new_queue}
-use Rattle.ref_base.specs.Worlds.{World, Notice, Pending, with_heap, with_hand, with_queue}
-use Rattle.ref_base.specs.Replay.{begun}
-use Rattle.ref_base.specs.Collectors.{State}
-use Rattle.ref_base.specs.CollectorRows.{Gives, GivesAnewIf, ticked}
-use Rattle.ref_base.specs.CollectorRows.{shown}
-use Rattle.ref_base.specs.declared.actor.Actor.{Actor}
-use Rattle.ref_base.specs.declared.actor.Actor.TheVariants.{Mutator, Worker}
-use Rattle.ref_base.specs.declared.cause.Cause.TheVariants.{Cycle}
-use Rattle.ref_base.specs.declared.urgency.Urgency.{Urgency}
-use Rattle.ref_base.specs.declared.reply.Reply.{Reply}
+use Rattle.ref_base.proofs.Common.{has, Object, refers_into, changed_at, changed_in, with_reference, cleared, got_at}
+use Rattle.ref_base.proofs.Common.{with_field, Lists, new_queue, World, Notice, Pending, with_heap, with_hand}
+use Rattle.ref_base.proofs.Common.{with_queue, begun, State, Gives, GivesAnewIf, ticked, shown, Actor, Mutator, Worker}
+use Rattle.ref_base.proofs.Common.{Cycle, Urgency, Reply}
+use Rattle.ref_base.specs.Members.{without_first}
 use Rattle.ref_base.proofs.Places.{set_each}
 use Rattle.ref_base.proofs.SoundWorlds.{all_changed}
 use Rattle.ref_base.proofs.RowLaws.{ticked_world, but_world}

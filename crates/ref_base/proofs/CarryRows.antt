@@ -6,28 +6,15 @@ use Rattle.std.proofs.Common.{refl, sym, ap, ◌∙◌, subst, inl, inr}
 use Rattle.std.specs.Prelude.{slice_index_or}
 use Rattle.std.specs.List.{AllByRecursion}
 use Rattle.std.proofs.lemmas.Bool.{cases_Bool}
-use Rattle.ref_base.specs.Graphs.{Object}
-use Rattle.ref_base.specs.Heaps.{slot_at, reference_at, registered_in}
-use Rattle.ref_base.specs.QueueLists.{Lists, enqueued, with_parcel}
-use Rattle.ref_base.specs.Worlds.{World, Notice, Pending, first_world, object_of, hand_of, queue_at, pending_of}
-use Rattle.ref_base.specs.Worlds.{with_hand, with_queue}
-use Rattle.ref_base.specs.HeapSteps.{NamedStep, hold_of, spending, handed}
-use Rattle.ref_base.specs.Replay.{put_in, took, taken_out, notice_of, closed_queue}
-use Rattle.ref_base.specs.Collectors.{State}
-use Rattle.ref_base.specs.CollectorRows.{with_world, with_handed, AcceptsAsking, Unhooks, HandsOn, PutsInto, Puts}
-use Rattle.ref_base.specs.CollectorRows.{Polls, Closes, Accepts, IsAnswer, IsRow, reference_of}
-use Rattle.ref_base.specs.Refusals.{refusal}
-use Rattle.ref_base.specs.declared.config.Config.{Config}
-use Rattle.ref_base.specs.declared.actor.Actor.{Actor}
-use Rattle.ref_base.specs.declared.actor.Actor.TheVariants.{Mutator, Worker}
-use Rattle.ref_base.specs.declared.cause.Cause.TheVariants.{Own, Cycle}
-use Rattle.ref_base.specs.declared.fault.Fault.{Fault}
+use Rattle.ref_base.proofs.Common.{Object, slot_at, reference_at, registered_in, Lists, enqueued, with_parcel, World}
+use Rattle.ref_base.proofs.Common.{Notice, Pending, first_world, object_of, hand_of, queue_at, pending_of, with_hand}
+use Rattle.ref_base.proofs.Common.{with_queue, NamedStep, hold_of, spending, handed, put_in, took, taken_out}
+use Rattle.ref_base.proofs.Common.{notice_of, closed_queue, State, with_world, with_handed, AcceptsAsking, Unhooks}
+use Rattle.ref_base.proofs.Common.{HandsOn, PutsInto, Puts, Polls, Closes, Accepts, IsAnswer, IsRow, reference_of}
+use Rattle.ref_base.proofs.Common.{refusal, Config, Actor, Mutator, Worker, Own, Cycle, Fault, Step, Reply, Row}
 use Rattle.ref_base.specs.declared.heap_step.HeapStep.TheVariants as heap
-use Rattle.ref_base.specs.declared.step.Step.{Step}
 use Rattle.ref_base.specs.declared.step.Step.TheVariants as steps
-use Rattle.ref_base.specs.declared.reply.Reply.{Reply}
 use Rattle.ref_base.specs.declared.reply.Reply.TheVariants as replies
-use Rattle.ref_base.specs.declared.row.Row.{Row}
 use Rattle.ref_base.proofs.Places.{all_push}
 use Rattle.ref_base.proofs.SoundWorlds.{first_queue, first_hand}
 use Rattle.ref_base.proofs.CarryLaws.{OfHand, Carries, Lasts, notice_from, all_without_first, carries_hand}

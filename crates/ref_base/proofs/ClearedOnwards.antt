@@ -3,28 +3,15 @@ use Rattle.std.proofs.Common.{◌≡◌, ℕ, ◌<◌, true, false, ◌==◌, Li
 use Rattle.std.proofs.Common.{inl, inr, refl, sym, ap, ◌∙◌, subst, arith}
 use Rattle.std.specs.List.{AllByRecursion}
 use Rattle.std.proofs.lemmas.Bool.{cases_Bool, or_cases, and_parts, eqb-true, eq-eqb, both_ways, true≢false}
-use Rattle.ref_base.specs.Members.{has}
-use Rattle.ref_base.specs.Graphs.{Object, Reference, object_at, is_there, numbers}
-use Rattle.ref_base.specs.Strengths.{IsRising}
-use Rattle.ref_base.specs.Paths.{is_soft, is_phantom}
-use Rattle.ref_base.specs.DoomedSets.{is_new_clear, new_clears}
-use Rattle.ref_base.specs.Heaps.{slot_at, reference_in, reference_at, changed_reference, cleared, got_at}
-use Rattle.ref_base.specs.Worlds.{World, Notice, Pending, hand_of, queue_at, pending_of}
-use Rattle.ref_base.specs.Collectors.{State, first_state}
-use Rattle.ref_base.specs.Refusals.{refusal}
-use Rattle.ref_base.specs.CollectorRows.{IsAnswer, IsRow, IsRun, doomed_at, shown, referent_of, Gets, referent_got}
-use Rattle.ref_base.specs.CollectorRows.{reference_of, EndsMark, HeapAccepts}
-use Rattle.ref_base.specs.CountedHolds.{AreCounted}
-use Rattle.ref_base.specs.HeapSteps.{NamedStep}
-use Rattle.ref_base.specs.OldNumbers.{HasOldNumbers}
-use Rattle.ref_base.specs.declared.actor.Actor.TheVariants.{Mutator, Worker}
-use Rattle.ref_base.specs.declared.config.Config.{Config}
-use Rattle.ref_base.specs.declared.fault.Fault.{Fault}
+use Rattle.ref_base.proofs.Common.{has, Object, Reference, object_at, is_there, numbers, IsRising, is_soft, is_phantom}
+use Rattle.ref_base.proofs.Common.{is_new_clear, new_clears, slot_at, reference_in, reference_at, changed_reference}
+use Rattle.ref_base.proofs.Common.{cleared, got_at, World, Notice, Pending, hand_of, queue_at, pending_of, State}
+use Rattle.ref_base.proofs.Common.{first_state, refusal, IsAnswer, IsRow, IsRun, doomed_at, shown, referent_of, Gets}
+use Rattle.ref_base.proofs.Common.{referent_got, reference_of, EndsMark, HeapAccepts, AreCounted, NamedStep}
+use Rattle.ref_base.proofs.Common.{HasOldNumbers, Mutator, Worker, Config, Fault, Reply, Row}
 use Rattle.ref_base.specs.declared.heap_step.HeapStep.TheVariants as heap
 use Rattle.ref_base.specs.declared.step.Step.TheVariants as steps
-use Rattle.ref_base.specs.declared.reply.Reply.{Reply}
 use Rattle.ref_base.specs.declared.reply.Reply.TheVariants as replies
-use Rattle.ref_base.specs.declared.row.Row.{Row}
 use Rattle.ref_base.proofs.CarryLaws.{OfHand, Carries, Lasts, notice_from}
 use Rattle.ref_base.proofs.CarryHeaps.{Anew, heap_carries}
 use Rattle.ref_base.proofs.CountedTraces.{legal_counted}

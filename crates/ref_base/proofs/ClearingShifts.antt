@@ -6,17 +6,10 @@ use Rattle.std.proofs.Common.{append_assoc}
 use Rattle.std.specs.Prelude.{slice_index_or, slice_set}
 use Rattle.std.proofs.lemmas.Bool.{cases_Bool, cases_eq, eqb-true, eq-eqb}
 use Rattle.std.proofs.lemmas.List.{append-nil, get_or-set_same, get_or-set_other}
-use Rattle.ref_base.specs.Worlds.{World, Notice, Pending, hand_of, pending_of, with_hand}
-use Rattle.ref_base.specs.HeapSteps.{spending, taking}
-use Rattle.ref_base.specs.Replay.{if_told, took, closed_queue, pended, without_pending}
-use Rattle.ref_base.specs.WorkerOrder.{is_registered, if_registered}
-use Rattle.ref_base.specs.ClearingOrder.{is_by, if_worked}
-use Rattle.ref_base.specs.declared.actor.Actor.{Actor}
-use Rattle.ref_base.specs.declared.actor.Actor.TheVariants.{Mutator, Worker}
-use Rattle.ref_base.specs.declared.cause.Cause.{Cause}
+use Rattle.ref_base.proofs.Common.{World, Notice, Pending, hand_of, pending_of, with_hand, spending, taking, if_told}
+use Rattle.ref_base.proofs.Common.{took, closed_queue, pended, without_pending, is_registered, if_registered, is_by}
+use Rattle.ref_base.proofs.Common.{if_worked, Actor, Mutator, Worker, Cause, Reply, Row}
 use Rattle.ref_base.specs.declared.heap_step.HeapStep.TheVariants as heap
-use Rattle.ref_base.specs.declared.reply.Reply.{Reply}
-use Rattle.ref_base.specs.declared.row.Row.{Row}
 use Rattle.ref_base.proofs.Places.{set_each, place_there}
 use Rattle.ref_base.proofs.RowMoves.{pending_after}
 use Rattle.ref_base.proofs.Subsequences.{Sub, sub_none, sub_all, sub_through, sub_behind, sub_before, sub_longer}

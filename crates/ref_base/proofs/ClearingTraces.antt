@@ -4,28 +4,15 @@ use Rattle.std.proofs.Common.{zero, suc, ◌<◌, Option, Some, None, inl, inr, 
 use Rattle.std.specs.Prelude.{slice_index_or, slice_set, is_some}
 use Rattle.std.proofs.lemmas.Bool.{cases_eq, eqb-true, ne_eqb, both_ways, and_right}
 use Rattle.std.proofs.lemmas.List.{append-nil, get_or-set_same, get_or-set_other}
-use Rattle.ref_base.specs.Heaps.{reference_at, registered_in}
-use Rattle.ref_base.specs.Worlds.{World, Notice, Pending, SameOthers, first_world, hand_of}
-use Rattle.ref_base.specs.Told.{told_object, told_notice, is_done, told_taken}
-use Rattle.ref_base.specs.HeapSteps.{heap_step}
-use Rattle.ref_base.specs.Replay.{put_in, after, replayed}
-use Rattle.ref_base.specs.Collectors.{State, first_state}
-use Rattle.ref_base.specs.Refusals.{refusal, is_worker}
-use Rattle.ref_base.specs.CollectorRows.{IsAnswer, IsRun, is_subsequence}
-use Rattle.ref_base.specs.LegalTraces.{IsLegal}
-use Rattle.ref_base.specs.WorkerOrder.{is_registered, cleared_by, if_registered, cleared_in, clearing_order}
-use Rattle.ref_base.specs.ClearingOrder.{is_by, if_worked, added_by, added_from, added_of}
-use Rattle.ref_base.specs.declared.actor.Actor.{Actor}
-use Rattle.ref_base.specs.declared.actor.Actor.TheVariants.{Mutator, Worker}
-use Rattle.ref_base.specs.declared.cause.Cause.{Cause}
-use Rattle.ref_base.specs.declared.cause.Cause.TheVariants.{Own, Cycle}
-use Rattle.ref_base.specs.declared.config.Config.{Config}
-use Rattle.ref_base.specs.declared.fault.Fault.{Fault}
-use Rattle.ref_base.specs.declared.step.Step.{Step}
+use Rattle.ref_base.proofs.Common.{reference_at, registered_in, World, Notice, Pending, SameOthers, first_world}
+use Rattle.ref_base.proofs.Common.{hand_of, told_object, told_notice, is_done, told_taken, heap_step, put_in, after}
+use Rattle.ref_base.proofs.Common.{replayed, State, first_state, refusal, is_worker, IsAnswer, IsRun, is_subsequence}
+use Rattle.ref_base.proofs.Common.{IsLegal, is_registered, if_registered, clearing_order, is_by, if_worked, added_of}
+use Rattle.ref_base.proofs.Common.{Actor, Mutator, Worker, Cause, Own, Cycle, Config, Fault, Step, Reply, Row}
+use Rattle.ref_base.specs.WorkerOrder.{cleared_by, cleared_in}
+use Rattle.ref_base.specs.ClearingOrder.{added_by, added_from}
 use Rattle.ref_base.specs.declared.step.Step.TheVariants as steps
-use Rattle.ref_base.specs.declared.reply.Reply.{Reply}
 use Rattle.ref_base.specs.declared.reply.Reply.TheVariants as replies
-use Rattle.ref_base.specs.declared.row.Row.{Row}
 use Rattle.ref_base.proofs.SoundWorlds.{IsSound, first_hand, first_sound}
 use Rattle.ref_base.proofs.Places.{place_there}
 use Rattle.ref_base.proofs.RowLaws.{unless_passes, worker_within}

@@ -4,27 +4,17 @@ use Rattle.std.proofs.Common.{Option, Some, None, refl, sym, ap, ◌∙◌, subs
 use Rattle.std.specs.Prelude.{slice_index_or, slice_set}
 use Rattle.std.specs.List.{AllByRecursion}
 use Rattle.std.proofs.lemmas.Bool.{cases_Bool, and_parts, false≢true}
-use Rattle.ref_base.specs.Members.{has}
-use Rattle.ref_base.specs.Graphs.{Object, object_at, plain_object}
-use Rattle.ref_base.specs.Paths.{any_referent, present, if_any, targets_of, targets_at}
-use Rattle.ref_base.specs.Heaps.{Heap, slot_at, reference_at, registered_in, with_slot, with_reference}
-use Rattle.ref_base.specs.Heaps.{got_at, got, cut, stored, made, nulls, new_reference, changed_in, with_hold}
-use Rattle.ref_base.specs.Heaps.{without_hold}
-use Rattle.ref_base.specs.Worlds.{World, Pending, pending_of, with_heap, with_pending}
-use Rattle.ref_base.specs.Told.{told_object}
-use Rattle.ref_base.specs.HeapSteps.{NamedStep}
-use Rattle.ref_base.specs.Replay.{adopted, pended, handed_on, begun, with_phase, without_pending}
-use Rattle.ref_base.specs.Collectors.{State}
-use Rattle.ref_base.specs.CollectorRows.{Gives, GivesAnewIf, ticked, on_heap, with_world, Makes, Loads, Gets, Unhooks}
-use Rattle.ref_base.specs.CollectorRows.{Holds, Scans, ClearsNext, HandsOn, Sweeps, HeapAccepts, value_reply}
-use Rattle.ref_base.specs.CollectorRows.{looked_at, looked, list_at, begun_state, without, field_in, referent_got}
-use Rattle.ref_base.specs.CollectorRows.{reference_of}
-use Rattle.ref_base.specs.Refusals.{is_in, heap_refusal, is_counted, has_slot}
-use Rattle.ref_base.specs.declared.cause.Cause.TheVariants.{Own, Cycle}
-use Rattle.ref_base.specs.declared.phase.Phase.{Phase}
-use Rattle.ref_base.specs.declared.phase.Phase.TheVariants.{Idle, Marking, Clearing, Sweeping}
+use Rattle.ref_base.proofs.Common.{has, Object, object_at, plain_object, any_referent, present, if_any, targets_of}
+use Rattle.ref_base.proofs.Common.{targets_at, Heap, slot_at, reference_at, registered_in, with_slot, with_reference}
+use Rattle.ref_base.proofs.Common.{got_at, got, cut, stored, made, nulls, new_reference, changed_in, with_hold}
+use Rattle.ref_base.proofs.Common.{without_hold, World, Pending, pending_of, with_heap, with_pending, told_object}
+use Rattle.ref_base.proofs.Common.{NamedStep, adopted, pended, handed_on, begun, with_phase, without_pending, State}
+use Rattle.ref_base.proofs.Common.{Gives, GivesAnewIf, ticked, on_heap, with_world, Makes, Loads, Gets, Unhooks, Holds}
+use Rattle.ref_base.proofs.Common.{Scans, ClearsNext, HandsOn, Sweeps, HeapAccepts, value_reply, looked_at, looked}
+use Rattle.ref_base.proofs.Common.{list_at, begun_state, without, field_in, referent_got, reference_of, is_in}
+use Rattle.ref_base.proofs.Common.{heap_refusal, is_counted, has_slot, Own, Cycle, Phase, Idle, Marking, Clearing}
+use Rattle.ref_base.proofs.Common.{Sweeping, Reply}
 use Rattle.ref_base.specs.declared.heap_step.HeapStep.TheVariants as heap
-use Rattle.ref_base.specs.declared.reply.Reply.{Reply}
 use Rattle.ref_base.specs.declared.reply.Reply.TheVariants as replies
 use Rattle.ref_base.proofs.Places.{all_push}
 use Rattle.ref_base.proofs.CarryLaws.{all_without_first}

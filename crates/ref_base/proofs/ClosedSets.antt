@@ -1,9 +1,7 @@
 -- No path leads out of a closed set of numbers that has the roots.
 use Rattle.std.proofs.Common.{◌≡◌, ℕ, Bool, true, ◌&&◌, ◌==◌, List, [], ◌∷◌, sym, subst, inl, inr}
 use Rattle.std.proofs.lemmas.Bool.{false≢true, and_parts, or_cases, eqb-true}
-use Rattle.ref_base.specs.Members.{has}
-use Rattle.ref_base.specs.Graphs.{Graph, Object}
-use Rattle.ref_base.specs.Paths.{Allowed, EndsPath, targets_at}
+use Rattle.ref_base.proofs.Common.{has, Graph, Object, Allowed, EndsPath, targets_at}
 use Rattle.ref_base.proofs.PathLaws.{path_within}
 
 -- each of ns is in the set

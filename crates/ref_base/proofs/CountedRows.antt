@@ -1,18 +1,10 @@
 -- The holds that a row of a heap leaves are those that its answer tells.
 use Rattle.std.proofs.Common.{◌≡◌, ℕ, List, Option, Some, None, refl, ap, ◌∙◌}
-use Rattle.ref_base.specs.Graphs.{Object}
-use Rattle.ref_base.specs.Heaps.{Heap, slot_at, reference_at, registered_in, changed_in, with_reference}
-use Rattle.ref_base.specs.Heaps.{cleared, got_at}
-use Rattle.ref_base.specs.Heaps.{with_field, got, cut, one_more}
-use Rattle.ref_base.specs.Worlds.{World}
-use Rattle.ref_base.specs.Told.{told_object, told_value, is_done, told_cycle, is_mark_end}
-use Rattle.ref_base.specs.HeapSteps.{NamedStep}
-use Rattle.ref_base.specs.Replay.{pended}
-use Rattle.ref_base.specs.Collectors.{State}
-use Rattle.ref_base.specs.CollectorRows.{HeapAccepts}
-use Rattle.ref_base.specs.CountedHolds.{holds_after}
+use Rattle.ref_base.proofs.Common.{Object, Heap, slot_at, reference_at, registered_in, changed_in, with_reference}
+use Rattle.ref_base.proofs.Common.{cleared, got_at, with_field, got, cut, one_more, World, told_object, told_value}
+use Rattle.ref_base.proofs.Common.{is_done, told_cycle, is_mark_end, NamedStep, pended, State, HeapAccepts}
+use Rattle.ref_base.proofs.Common.{holds_after, Reply}
 use Rattle.ref_base.specs.declared.heap_step.HeapStep.TheVariants as heap
-use Rattle.ref_base.specs.declared.reply.Reply.{Reply}
 use Rattle.ref_base.specs.declared.reply.Reply.TheVariants as replies
 use Rattle.ref_base.proofs.HeapMoves.{moved, heap_moves}
 use Rattle.ref_base.proofs.ReplayKeeps.{told_keeps, done_keeps}

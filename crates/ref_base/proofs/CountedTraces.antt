@@ -3,29 +3,16 @@ use Rattle.std.proofs.Common.{◌≡◌, ℕ, ◌<◌, Bool, true, false, List, 
 use Rattle.std.proofs.Common.{◌∙◌}
 use Rattle.std.proofs.Common.{subst, inl, inr}
 use Rattle.std.proofs.lemmas.Bool.{and_parts}
-use Rattle.ref_base.specs.Heaps.{one_more, one_fewer}
-use Rattle.ref_base.specs.Worlds.{World, Notice, Pending, SameOthers, hand_of, queue_at, with_hand}
-use Rattle.ref_base.specs.HeapSteps.{NamedStep, hold_of, spending, handed}
-use Rattle.ref_base.specs.Collectors.{State, first_state}
-use Rattle.ref_base.specs.CollectorRows.{Gives, with_handed, AcceptsAsking, Unhooks, HandsOn, PutsInto, Puts, Polls}
-use Rattle.ref_base.specs.CollectorRows.{Closes}
-use Rattle.ref_base.specs.QueueLists.{enqueued}
-use Rattle.ref_base.specs.Worlds.{object_of}
-use Rattle.ref_base.specs.Replay.{put_in, took, closed_queue}
-use Rattle.ref_base.specs.CollectorRows.{with_world, Accepts, IsAnswer, IsRow, IsRun}
-use Rattle.ref_base.specs.Refusals.{unless_full, refusal, is_mutator, is_worker, is_queue, is_actor, has_slot}
-use Rattle.ref_base.specs.CountedHolds.{AreCounted, holds_after}
-use Rattle.ref_base.specs.declared.config.Config.{Config}
-use Rattle.ref_base.specs.declared.actor.Actor.{Actor}
-use Rattle.ref_base.specs.declared.actor.Actor.TheVariants.{Mutator, Worker}
-use Rattle.ref_base.specs.declared.cause.Cause.TheVariants.{Own, Cycle}
-use Rattle.ref_base.specs.declared.fault.Fault.{Fault}
+use Rattle.ref_base.proofs.Common.{one_more, one_fewer, World, Notice, Pending, SameOthers, hand_of, queue_at}
+use Rattle.ref_base.proofs.Common.{with_hand, NamedStep, hold_of, spending, handed, State, first_state, Gives}
+use Rattle.ref_base.proofs.Common.{with_handed, AcceptsAsking, Unhooks, HandsOn, PutsInto, Puts, Polls, Closes}
+use Rattle.ref_base.proofs.Common.{enqueued, object_of, put_in, took, closed_queue, with_world, Accepts, IsAnswer}
+use Rattle.ref_base.proofs.Common.{IsRow, IsRun, unless_full, refusal, is_mutator, is_worker, is_queue, is_actor}
+use Rattle.ref_base.proofs.Common.{has_slot, AreCounted, holds_after, Config, Actor, Mutator, Worker, Own, Cycle}
+use Rattle.ref_base.proofs.Common.{Fault, Step, Reply, Row}
 use Rattle.ref_base.specs.declared.heap_step.HeapStep.TheVariants as heap
-use Rattle.ref_base.specs.declared.step.Step.{Step}
 use Rattle.ref_base.specs.declared.step.Step.TheVariants as steps
-use Rattle.ref_base.specs.declared.reply.Reply.{Reply}
 use Rattle.ref_base.specs.declared.reply.Reply.TheVariants as replies
-use Rattle.ref_base.specs.declared.row.Row.{Row}
 use Rattle.ref_base.proofs.CountedRows.{heap_holds}
 use Rattle.ref_base.proofs.CountedWorlds.{counted_still, counted_given, counted_spent, counted_put, counted_took}
 use Rattle.ref_base.proofs.CountedWorlds.{counted_closed, first_counted}

@@ -3,12 +3,8 @@ use Rattle.std.proofs.Common.{◌≡◌, ℕ, Bool, true, false, not, ◌&&◌, 
 use Rattle.std.proofs.Common.{List, [], ◌∷◌, ◌⊎◌, inl, inr}
 use Rattle.std.proofs.lemmas.Bool.{cases_Bool, or_cases, true≢false, false≢true, eqb-true, and_parts, or_parts, not-true}
 use Rattle.std.specs.List.{AllByRecursion}
-use Rattle.ref_base.specs.Members.{has}
-use Rattle.ref_base.specs.Graphs.{Graph, Object, is_there, numbers}
-use Rattle.ref_base.specs.Paths.{Allowed, targets_at}
-use Rattle.ref_base.specs.KeptPaths.{Policy, is_kept, EverKept}
-use Rattle.ref_base.specs.DoomedSets.{MayDoom}
-use Rattle.ref_base.specs.LeavingEdges.{meets}
+use Rattle.ref_base.proofs.Common.{has, Graph, Object, is_there, numbers, Allowed, targets_at, Policy, is_kept}
+use Rattle.ref_base.proofs.Common.{EverKept, MayDoom, meets}
 use Rattle.ref_base.proofs.ClosedSets.{is_closed, closed_has}
 
 -- whether each of these objects is in the set or has no target in it

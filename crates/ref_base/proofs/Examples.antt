@@ -1,10 +1,9 @@
 -- The definitions of graphs and strengths at work on a graph that one can read off by hand.
 use Rattle.std.proofs.Common.{◌≡◌, ℕ, false, [], ◌∷◌, Some, refl, sym, ◌∙◌}
 use Rattle.std.proofs.lemmas.Bool.{true≢false, false≢true}
-use Rattle.ref_base.specs.Members.{has}
-use Rattle.ref_base.specs.Graphs.{Graph, plain_object, reference_object, numbers, with_object}
-use Rattle.ref_base.specs.Paths.{EndsPath, no_referents, soft_referents, soft_and_weak_referents}
-use Rattle.ref_base.specs.Strengths.{HasStrength, HangsOnPhantom}
+use Rattle.ref_base.proofs.Common.{has, Graph, plain_object, numbers, with_object, EndsPath, no_referents}
+use Rattle.ref_base.proofs.Common.{soft_referents, soft_and_weak_referents, HasStrength, HangsOnPhantom}
+use Rattle.ref_base.specs.Graphs.{reference_object}
 use Rattle.ref_base.specs.declared.strength.Strength.TheVariants as strength
 use Rattle.ref_base.specs.declared.reach.Reach.TheVariants as reach
 use Rattle.ref_base.proofs.ClosedSets.{closed_has}

@@ -3,10 +3,8 @@ use Rattle.std.proofs.Common.{◌≡◌, ℕ, true, false, ◌==◌, refl, sym, 
 use Rattle.std.proofs.Common.{Option, Some, None, inl, inr}
 use Rattle.std.proofs.lemmas.Bool.{cases_Bool, eqb-true}
 use Rattle.std.proofs.lemmas.List.{length-map, map-append}
-use Rattle.ref_base.specs.Members.{has}
-use Rattle.ref_base.specs.Graphs.{Object, object_at}
-use Rattle.ref_base.specs.Heaps.{Heap, reference_in, changed_in, made}
-use Rattle.ref_base.specs.CollectorRows.{field_of, field_in, reference_of}
+use Rattle.ref_base.proofs.Common.{has, Object, object_at, Heap, reference_in, changed_in, made, field_of, field_in}
+use Rattle.ref_base.proofs.Common.{reference_of}
 use Rattle.ref_base.specs.Forgetting.{forgotten, heap_but}
 use Rattle.ref_base.proofs.Reshaping.{KeepsShape, is_reference-cleared, queue-cleared, map-changed_at}
 

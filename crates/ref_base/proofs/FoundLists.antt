@@ -4,12 +4,9 @@ use Rattle.std.proofs.Common.{List, [], ◌∷◌, ◌++◌, length, inl, inr, z
 use Rattle.std.specs.Prelude.{slice_set, is_some}
 use Rattle.std.proofs.lemmas.Bool.{cases_Bool, or_cases, or_left, or_right, false≢true, true≢false, or_parts}
 use Rattle.std.proofs.lemmas.Bool.{eq-eqb, eqb-true, ne_eqb, or_from}
+use Rattle.ref_base.proofs.Common.{has, Object, object_at, reference_in, joined, emptied, AreFound, references_among}
+use Rattle.ref_base.proofs.Common.{is_subsequence, list_at}
 use Rattle.ref_base.specs.Members.{AreDistinct}
-use Rattle.ref_base.specs.Members.{has}
-use Rattle.ref_base.specs.Graphs.{Object, object_at}
-use Rattle.ref_base.specs.Heaps.{reference_in}
-use Rattle.ref_base.specs.Collectors.{joined}
-use Rattle.ref_base.specs.CollectorRows.{emptied, AreFound, references_among, is_subsequence, list_at}
 use Rattle.ref_base.proofs.HasLaws.{has-append, has-cases, has-left, has-right}
 use Rattle.ref_base.proofs.OneMore.{or-swap}
 

@@ -1,23 +1,12 @@
 -- In every legal trace each notice that an unhook gave, or that a worker handed on, comes from the rows up to it.
 use Rattle.std.proofs.Common.{◌≡◌, ℕ, true, List, [], ◌∷◌, ◌++◌, Option, Some, None, refl, sym, subst}
 use Rattle.std.specs.List.{AllByRecursion}
-use Rattle.ref_base.specs.Graphs.{Object}
-use Rattle.ref_base.specs.Heaps.{slot_at, registered_in}
-use Rattle.ref_base.specs.Worlds.{Notice, Pending, pending_of}
-use Rattle.ref_base.specs.Told.{told_notice}
-use Rattle.ref_base.specs.Collectors.{State, first_state}
-use Rattle.ref_base.specs.Refusals.{refusal}
-use Rattle.ref_base.specs.CollectorRows.{Unhooks, HandsOn, IsAnswer, IsRun, reference_of}
-use Rattle.ref_base.specs.Provenance.{IsProven, gives_notices}
-use Rattle.ref_base.specs.declared.config.Config.{Config}
-use Rattle.ref_base.specs.declared.fault.Fault.{Fault}
-use Rattle.ref_base.specs.declared.cause.Cause.{Cause}
-use Rattle.ref_base.specs.declared.cause.Cause.TheVariants.{Own, Cycle}
-use Rattle.ref_base.specs.declared.step.Step.{Step}
+use Rattle.ref_base.proofs.Common.{Object, slot_at, registered_in, Notice, Pending, pending_of, told_notice, State}
+use Rattle.ref_base.proofs.Common.{first_state, refusal, Unhooks, HandsOn, IsAnswer, IsRun, reference_of, IsProven}
+use Rattle.ref_base.proofs.Common.{Config, Fault, Cause, Own, Cycle, Step, Reply, Row}
+use Rattle.ref_base.specs.Provenance.{gives_notices}
 use Rattle.ref_base.specs.declared.step.Step.TheVariants as steps
-use Rattle.ref_base.specs.declared.reply.Reply.{Reply}
 use Rattle.ref_base.specs.declared.reply.Reply.TheVariants as replies
-use Rattle.ref_base.specs.declared.row.Row.{Row}
 use Rattle.ref_base.proofs.RunLaws.{cut}
 use Rattle.ref_base.proofs.CarryLaws.{OfHand, notice_from}
 use Rattle.ref_base.proofs.CarryRows.{Mints}

@@ -4,22 +4,12 @@ use Rattle.std.proofs.Common.{◌≡◌, ℕ, Bool, true, false, if◌then◌els
 use Rattle.std.proofs.Common.{◌⊎◌, inl, inr, sym, ap, ◌∙◌, subst}
 use Rattle.std.specs.Prelude.{is_some}
 use Rattle.std.specs.List.{AllByRecursion}
-use Rattle.ref_base.specs.Members.{has}
-use Rattle.ref_base.specs.QueueLists.{Lists, enqueued, was_put, with_parcel}
-use Rattle.ref_base.specs.Worlds.{World, Notice, first_world, object_of, hand_of, queue_at, with_hand, with_queue}
-use Rattle.ref_base.specs.Told.{told_object, told_notice, is_done, is_added, told_taken}
-use Rattle.ref_base.specs.HeapSteps.{taking}
-use Rattle.ref_base.specs.Replay.{if_told, put_in, notice_of, took, taken_out, closed_queue}
-use Rattle.ref_base.specs.Collectors.{State, first_state}
-use Rattle.ref_base.specs.Refusals.{refusal}
-use Rattle.ref_base.specs.CollectorRows.{IsAnswer, IsRow, IsRun}
-use Rattle.ref_base.specs.declared.config.Config.{Config}
-use Rattle.ref_base.specs.declared.actor.Actor.{Actor}
-use Rattle.ref_base.specs.declared.actor.Actor.TheVariants.{Mutator, Worker}
-use Rattle.ref_base.specs.declared.step.Step.{Step}
+use Rattle.ref_base.proofs.Common.{has, Lists, enqueued, was_put, with_parcel, World, Notice, first_world, object_of}
+use Rattle.ref_base.proofs.Common.{hand_of, queue_at, with_hand, with_queue, told_object, told_notice, is_done}
+use Rattle.ref_base.proofs.Common.{is_added, told_taken, taking, if_told, put_in, notice_of, took, taken_out}
+use Rattle.ref_base.proofs.Common.{closed_queue, State, first_state, refusal, IsAnswer, IsRow, IsRun, Config, Actor}
+use Rattle.ref_base.proofs.Common.{Mutator, Worker, Step, Reply, Row}
 use Rattle.ref_base.specs.declared.step.Step.TheVariants as steps
-use Rattle.ref_base.specs.declared.reply.Reply.{Reply}
-use Rattle.ref_base.specs.declared.row.Row.{Row}
 use Rattle.ref_base.proofs.HasLaws.{has-left, has-right, has-first}
 use Rattle.ref_base.proofs.Places.{set_each}
 use Rattle.ref_base.proofs.SoundWorlds.{IsSound, first_hand, first_sound}

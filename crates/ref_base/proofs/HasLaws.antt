@@ -7,7 +7,7 @@ use Rattle.std.proofs.lemmas.List.{take_more, take-append-le, take-append-drop, 
 use Rattle.std.proofs.lemmas.List.Sums.{prefix_len_stops}
 use Rattle.std.specs.List.{list_any, position, position_or_len}
 use Rattle.std.specs.Cmp.{nat_eq_equiv}
-use Rattle.ref_base.specs.Members.{has}
+use Rattle.ref_base.proofs.Common.{has}
 
 not-false : (b : Bool) → not b ≡ false → b ≡ true
 not-false true e = refl

@@ -1,24 +1,13 @@
 -- A row of a heap, with what its step leaves in the hands, is a row of the world; and no row of a heap touches hands
 -- and queues.
 use Rattle.std.proofs.Common.{◌≡◌, ℕ, Bool, true, false, Option, Some, None, refl, sym, ap, ◌∙◌, subst}
-use Rattle.ref_base.specs.Members.{has}
-use Rattle.ref_base.specs.Worlds.{World, Notice, SameOthers, hand_of, pending_of}
-use Rattle.ref_base.specs.Heaps.{slot_at}
-use Rattle.ref_base.specs.HeapSteps.{NamedStep, hold_of, heap_step, handed}
-use Rattle.ref_base.specs.Replay.{after_queues}
-use Rattle.ref_base.specs.Collectors.{State}
-use Rattle.ref_base.specs.Refusals.{unless, has_slot, is_worker, is_actor, unless_full, empty_hand_refusal}
-use Rattle.ref_base.specs.Refusals.{unhook_refusal, hand_refusal, heap_refusal, refusal}
-use Rattle.ref_base.specs.CollectorRows.{with_world, with_handed, AcceptsAsking, IsHeapAnswer, IsHeapRow}
-use Rattle.ref_base.specs.CollectorRows.{IsAnswer, IsRow}
-use Rattle.ref_base.specs.declared.fault.Fault.{Fault}
-use Rattle.ref_base.specs.declared.fault.Fault.TheVariants.{NoSuchActor, ForeignHold}
-use Rattle.ref_base.specs.declared.actor.Actor.{Actor}
-use Rattle.ref_base.specs.declared.actor.Actor.TheVariants.{Mutator, Worker}
+use Rattle.ref_base.proofs.Common.{has, World, Notice, SameOthers, hand_of, pending_of, slot_at, NamedStep, hold_of}
+use Rattle.ref_base.proofs.Common.{heap_step, handed, after_queues, State, unless, has_slot, is_worker, is_actor}
+use Rattle.ref_base.proofs.Common.{unless_full, empty_hand_refusal, unhook_refusal, hand_refusal, heap_refusal}
+use Rattle.ref_base.proofs.Common.{refusal, with_world, with_handed, AcceptsAsking, IsHeapAnswer, IsHeapRow, IsAnswer}
+use Rattle.ref_base.proofs.Common.{IsRow, Fault, NoSuchActor, ForeignHold, Actor, Mutator, Worker, Step, Reply}
 use Rattle.ref_base.specs.declared.heap_step.HeapStep.TheVariants as heap
-use Rattle.ref_base.specs.declared.step.Step.{Step}
 use Rattle.ref_base.specs.declared.step.Step.TheVariants as steps
-use Rattle.ref_base.specs.declared.reply.Reply.{Reply}
 use Rattle.ref_base.specs.declared.reply.Reply.TheVariants as replies
 use Rattle.ref_base.proofs.QueueLaws.{same}
 use Rattle.ref_base.proofs.RowLaws.{heap_keeps, registered}

@@ -3,11 +3,8 @@ use Rattle.std.proofs.Common.{◌≡◌, ℕ, ◌+◌, ◌<◌, ◌≤◌, zero,
 use Rattle.std.proofs.Common.{List, [], ◌∷◌, ◌++◌, length, map, Option, None, inl, inr, arith}
 use Rattle.std.specs.Prelude.{slice_index_or, slice_set}
 use Rattle.std.proofs.lemmas.Bool.{cases_Bool, eqb-true}
-use Rattle.ref_base.specs.Members.{has}
-use Rattle.ref_base.specs.Heaps.{one_more, one_fewer}
-use Rattle.ref_base.specs.QueueLists.{Lists}
-use Rattle.ref_base.specs.Worlds.{Notice, object_of}
-use Rattle.ref_base.specs.CountedHolds.{tally, in_hand, in_hands, in_queues}
+use Rattle.ref_base.proofs.Common.{has, one_more, one_fewer, Lists, Notice, object_of, tally, in_hand, in_hands}
+use Rattle.ref_base.proofs.Common.{in_queues}
 
 -- one or none
 abbrev pub one_if : ℕ → ℕ → ℕ

@@ -1,19 +1,9 @@
 -- Traces that differ from worked ones in one reply, and are not legal.
 use Rattle.std.proofs.Common.{◌≡◌, ℕ, Bool, false, refl, subst, List, [], ◌∷◌, drop, replicate, Option, Some, None}
 use Rattle.std.proofs.Common.{inl, inr}
-use Rattle.ref_base.specs.Graphs.{Graph, Object, plain_object}
+use Rattle.ref_base.proofs.Common.{Graph, Object, plain_object, first_world, State, first_state, IsRun, IsLegal, Row}
+use Rattle.ref_base.proofs.Common.{Mutator, Weak, Normal, Own, Marking, HandEmpty, NoMemory}
 use Rattle.ref_base.specs.Heaps.{first_heap}
-use Rattle.ref_base.specs.Worlds.{first_world}
-use Rattle.ref_base.specs.Collectors.{State, first_state}
-use Rattle.ref_base.specs.CollectorRows.{IsRun}
-use Rattle.ref_base.specs.LegalTraces.{IsLegal}
-use Rattle.ref_base.specs.declared.row.Row.{Row}
-use Rattle.ref_base.specs.declared.actor.Actor.TheVariants.{Mutator}
-use Rattle.ref_base.specs.declared.strength.Strength.TheVariants.{Weak}
-use Rattle.ref_base.specs.declared.urgency.Urgency.TheVariants.{Normal}
-use Rattle.ref_base.specs.declared.cause.Cause.TheVariants.{Own}
-use Rattle.ref_base.specs.declared.phase.Phase.TheVariants.{Marking}
-use Rattle.ref_base.specs.declared.fault.Fault.TheVariants.{HandEmpty, NoMemory}
 use Rattle.ref_base.specs.declared.step.Step.TheVariants as steps
 use Rattle.ref_base.specs.declared.reply.Reply.TheVariants as replies
 use Rattle.ref_base.proofs.WorkedTraces.{row, config_of}

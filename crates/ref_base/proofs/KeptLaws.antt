@@ -2,12 +2,10 @@
 use Rattle.std.proofs.Common.{◌≡◌, ℕ, false, ◌&&◌, nat_le, ◌-◌, sym, ◌∙◌}
 use Rattle.std.proofs.Common.{List, [], ◌∷◌, ◌++◌, ◌⊎◌, inl, inr}
 use Rattle.std.proofs.lemmas.Bool.{and_parts, false≢true}
-use Rattle.ref_base.specs.Graphs.{Graph}
-use Rattle.ref_base.specs.Paths.{EndsPath, no_referents, soft_referents, is_soft}
-use Rattle.ref_base.specs.Strengths.{HasStrength}
-use Rattle.ref_base.specs.KeptPaths.{Policy, is_normal, is_kept, IsKept, EverKept}
-use Rattle.ref_base.specs.declared.reach.Reach.{Reach}
-use Rattle.ref_base.specs.declared.reach.Reach.TheVariants.{Strong, Soft, Weak, Phantom, Unreachable}
+use Rattle.ref_base.proofs.Common.{Graph, EndsPath, no_referents, soft_referents, is_soft, HasStrength, Policy}
+use Rattle.ref_base.proofs.Common.{is_kept, IsKept, EverKept, Reach, Strong, Soft, Phantom, Unreachable}
+use Rattle.ref_base.specs.KeptPaths.{is_normal}
+use Rattle.ref_base.specs.declared.reach.Reach.TheVariants.{Weak}
 use Rattle.ref_base.proofs.PathLaws.{ends-wider}
 use Rattle.ref_base.proofs.StrengthLaws.{some_strength, weak_from_soft}
 

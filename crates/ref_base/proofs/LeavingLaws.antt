@@ -2,14 +2,11 @@
 use Rattle.std.proofs.Common.{◌≡◌, ℕ, true, false, ◌==◌, refl, sym, ap, ◌∙◌}
 use Rattle.std.proofs.Common.{List, [], ◌∷◌, Option, Some, None, inl, inr}
 use Rattle.std.proofs.lemmas.Bool.{cases_Bool, or_cases, or_parts, or_left, true≢false, false≢true, eqb-true}
-use Rattle.ref_base.specs.Members.{has}
-use Rattle.ref_base.specs.Graphs.{Graph, Object, Reference, object_at, is_there}
-use Rattle.ref_base.specs.Paths.{Allowed, IsPath, soft_and_weak_referents}
-use Rattle.ref_base.specs.Paths.{targets_at, targets_of, allowed_referent, present, if_any}
-use Rattle.ref_base.specs.KeptPaths.{Policy, is_kept}
-use Rattle.ref_base.specs.DoomedSets.{MayDoom, refers_into, is_new_clear, new_clears}
-use Rattle.ref_base.specs.LeavingEdges.{meets, FirstLeaves, LeavesBy}
-use Rattle.ref_base.specs.Heaps.{reference_in}
+use Rattle.ref_base.proofs.Common.{has, Graph, Object, Reference, object_at, is_there, Allowed, IsPath}
+use Rattle.ref_base.proofs.Common.{soft_and_weak_referents, targets_at, targets_of, allowed_referent, present, if_any}
+use Rattle.ref_base.proofs.Common.{Policy, is_kept, MayDoom, refers_into, is_new_clear, new_clears, meets, FirstLeaves}
+use Rattle.ref_base.proofs.Common.{reference_in}
+use Rattle.ref_base.specs.LeavingEdges.{LeavesBy}
 use Rattle.ref_base.proofs.HasLaws.{has-cases, has-left}
 use Rattle.ref_base.proofs.PathLaws.{root_ends}
 use Rattle.ref_base.proofs.StrengthLaws.{if_any-has}

@@ -1,19 +1,9 @@
 -- Where a state says in a mark that an object is left, one is: each row of a heap keeps this.
 use Rattle.std.proofs.Common.{◌≡◌, ℕ, ◌+◌, ◌<◌, Bool, true, false, List, ◌∷◌, inl, inr, refl, sym, ap, ◌∙◌, subst}
 use Rattle.std.proofs.lemmas.Bool.{cases_Bool, true≢false, false≢true}
-use Rattle.ref_base.specs.Members.{has}
-use Rattle.ref_base.specs.Graphs.{Graph}
-use Rattle.ref_base.specs.KeptPaths.{Policy, EverKept}
-use Rattle.ref_base.specs.Worlds.{graph_of}
-use Rattle.ref_base.specs.HeapSteps.{NamedStep}
-use Rattle.ref_base.specs.Replay.{begun}
-use Rattle.ref_base.specs.Collectors.{State, joined}
-use Rattle.ref_base.specs.Refusals.{is_in}
-use Rattle.ref_base.specs.CollectorRows.{HeapAccepts, begun_state, Scans, IsBut, IsLeft, ticked}
-use Rattle.ref_base.specs.declared.phase.Phase.{Phase}
-use Rattle.ref_base.specs.declared.phase.Phase.TheVariants.{Marking}
+use Rattle.ref_base.proofs.Common.{has, Graph, Policy, EverKept, graph_of, NamedStep, begun, State, joined, is_in}
+use Rattle.ref_base.proofs.Common.{HeapAccepts, begun_state, Scans, IsBut, IsLeft, ticked, Phase, Marking, Reply}
 use Rattle.ref_base.specs.declared.heap_step.HeapStep.TheVariants as heap
-use Rattle.ref_base.specs.declared.reply.Reply.{Reply}
 use Rattle.ref_base.specs.declared.reply.Reply.TheVariants as replies
 use Rattle.ref_base.proofs.HeapMoves.{Becomes, moved, heap_becomes}
 use Rattle.ref_base.proofs.MovedParts.{mark_of, mark_moved}

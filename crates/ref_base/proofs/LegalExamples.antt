@@ -1,6 +1,6 @@
 -- Worked traces are legal.
 use Rattle.std.proofs.Common.{true, false, refl, [], ◌∷◌, inl, inr}
-use Rattle.ref_base.specs.LegalTraces.{IsLegal}
+use Rattle.ref_base.proofs.Common.{IsLegal}
 use Rattle.ref_base.proofs.DoomChecks.{may_doom}
 use Rattle.ref_base.proofs.ClosedSets.{are_in-has}
 use Rattle.ref_base.proofs.LegalSteps.{none_left, mark_ends, legal, stop, ◌⨾◌}

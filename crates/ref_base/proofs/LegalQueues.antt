@@ -3,14 +3,10 @@ use Rattle.std.proofs.Common.{◌≡◌, ℕ, true, false, List, [], ◌∷◌, 
 use Rattle.std.specs.Prelude.{nat_eq}
 use Rattle.std.specs.List.{IsDistinct}
 use Rattle.std.proofs.lemmas.List.{append-nil}
-use Rattle.ref_base.specs.QueueLists.{Lists, new_queue, enqueued}
-use Rattle.ref_base.specs.QueueRows.{HandNotices, empty_hands, held_after, put_from, put_into, taken_from, was_closed, KeepsQueue}
-use Rattle.ref_base.specs.Worlds.{World, Notice, first_world, object_of, queue_at}
-use Rattle.ref_base.specs.Collectors.{State, first_state}
-use Rattle.ref_base.specs.CollectorRows.{IsRun}
-use Rattle.ref_base.specs.LegalTraces.{IsLegal}
-use Rattle.ref_base.specs.declared.config.Config.{Config}
-use Rattle.ref_base.specs.declared.row.Row.{Row}
+use Rattle.ref_base.proofs.Common.{Lists, new_queue, enqueued, HandNotices, held_after, put_into, taken_from}
+use Rattle.ref_base.proofs.Common.{was_closed, World, Notice, first_world, object_of, queue_at, State, first_state}
+use Rattle.ref_base.proofs.Common.{IsRun, IsLegal, Config, Row}
+use Rattle.ref_base.specs.QueueRows.{empty_hands, put_from, KeepsQueue}
 use Rattle.ref_base.proofs.QueueMoves.{QueueMoves, moves_nothing, moves_more}
 use Rattle.ref_base.proofs.SoundWorlds.{IsSound, first_hand, first_queue, first_sound}
 use Rattle.ref_base.proofs.QueueLaws.{as_held, held_of}

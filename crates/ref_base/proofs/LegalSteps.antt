@@ -2,22 +2,11 @@
 use Rattle.std.proofs.Common.{◌≡◌, ℕ, Bool, true, false, not, refl, sym, ap, ◌∙◌, subst}
 use Rattle.std.proofs.Common.{List, [], ◌∷◌, length, Option, None}
 use Rattle.std.proofs.lemmas.Bool.{false≢true}
-use Rattle.ref_base.specs.Collectors.{State, first_state}
-use Rattle.ref_base.specs.LegalTraces.{IsLegal}
-use Rattle.ref_base.specs.declared.config.Config.{Config}
-use Rattle.ref_base.specs.Members.{has}
-use Rattle.ref_base.specs.DoomedSets.{new_clears, MayDoom}
-use Rattle.ref_base.specs.Worlds.{policy_of, graph_of}
-use Rattle.ref_base.specs.Collectors.{joined}
-use Rattle.ref_base.specs.CollectorRows.{with_handed, EndsMark, AreFound, mark_ended, doomed_at, IsRow, IsRun, IsAnswer}
-use Rattle.ref_base.specs.declared.row.Row.{Row}
-use Rattle.ref_base.specs.Refusals.{is_in, refusal, unless}
-use Rattle.ref_base.specs.declared.fault.Fault.{Fault}
-use Rattle.ref_base.specs.declared.fault.Fault.TheVariants.{GreyLeft, WrongPhase}
-use Rattle.ref_base.specs.declared.phase.Phase.TheVariants.{Marking}
-use Rattle.ref_base.specs.declared.step.Step.{Step}
+use Rattle.ref_base.proofs.Common.{State, first_state, IsLegal, Config, has, new_clears, MayDoom, policy_of, graph_of}
+use Rattle.ref_base.proofs.Common.{joined, with_handed, EndsMark, AreFound, mark_ended, doomed_at, IsRow, IsRun}
+use Rattle.ref_base.proofs.Common.{IsAnswer, Row, is_in, refusal, unless, Fault, GreyLeft, WrongPhase, Marking, Step}
+use Rattle.ref_base.proofs.Common.{Reply}
 use Rattle.ref_base.specs.declared.step.Step.TheVariants.{EndMark}
-use Rattle.ref_base.specs.declared.reply.Reply.{Reply}
 use Rattle.ref_base.specs.declared.reply.Reply.TheVariants.{Doomed}
 
 -- where none is said to be left

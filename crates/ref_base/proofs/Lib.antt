@@ -1,3 +1,4 @@
+pub mod Common
 pub mod HasLaws
 pub mod PathLaws
 pub mod WorkedTraces

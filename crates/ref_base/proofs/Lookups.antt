@@ -3,11 +3,8 @@ use Rattle.std.proofs.Common.{◌≡◌, ℕ, zero, suc, ◌<◌, true, false, �
 use Rattle.std.proofs.Common.{List, [], ◌∷◌, ◌++◌, length, Option, Some, None, ◌⊎◌, inl, inr}
 use Rattle.std.specs.Prelude.{slice_index_or, slice_set}
 use Rattle.std.proofs.lemmas.Bool.{cases_Bool, or_cases, or_left, or_right, false≢true, true≢false, eqb-true, eq-eqb}
-use Rattle.ref_base.specs.Members.{has}
-use Rattle.ref_base.specs.Graphs.{Object, Reference, object_at, is_there, numbers}
-use Rattle.ref_base.specs.Paths.{Allowed, present, allowed_referent}
-use Rattle.ref_base.specs.Strengths.{IsRising}
-use Rattle.ref_base.specs.Heaps.{changed_at}
+use Rattle.ref_base.proofs.Common.{has, Object, Reference, object_at, is_there, numbers, Allowed, present}
+use Rattle.ref_base.proofs.Common.{allowed_referent, IsRising, changed_at}
 use Rattle.ref_base.proofs.HasLaws.{has-first}
 use Rattle.ref_base.proofs.StrengthLaws.{if_any-has}
 

@@ -3,22 +3,12 @@ use Rattle.std.proofs.Common.{◌≡◌, ℕ, Bool, true, false, not, ◌&&◌, 
 use Rattle.std.proofs.Common.{refl, sym, ap, ◌∙◌, subst}
 use Rattle.std.proofs.lemmas.Bool.{and_parts, false≢true, not-true}
 use Rattle.std.proofs.lemmas.List.{append_assoc}
-use Rattle.ref_base.specs.Members.{has}
-use Rattle.ref_base.specs.Graphs.{Object, Reference, object_at, is_there, numbers}
-use Rattle.ref_base.specs.Strengths.{IsRising}
-use Rattle.ref_base.specs.KeptPaths.{IsKept, is_kept}
-use Rattle.ref_base.specs.DoomedSets.{MayDoom, any_is, refers_into, new_clears}
-use Rattle.ref_base.specs.Heaps.{reference_in, reference_at}
-use Rattle.ref_base.specs.Worlds.{World, policy_of, graph_of}
-use Rattle.ref_base.specs.Replay.{replayed}
-use Rattle.ref_base.specs.Collectors.{State, joined}
-use Rattle.ref_base.specs.CollectorRows.{without, referent_of, doomed_at}
-use Rattle.ref_base.specs.MarkEnds.{IsDead, MarkEnded, WasDoomed}
-use Rattle.ref_base.specs.declared.config.Config.{Config}
-use Rattle.ref_base.specs.declared.phase.Phase.TheVariants.{Marking}
+use Rattle.ref_base.proofs.Common.{has, Object, Reference, object_at, is_there, numbers, IsRising, IsKept, is_kept}
+use Rattle.ref_base.proofs.Common.{MayDoom, any_is, refers_into, new_clears, reference_in, reference_at, World}
+use Rattle.ref_base.proofs.Common.{policy_of, graph_of, replayed, State, joined, without, referent_of, doomed_at}
+use Rattle.ref_base.proofs.Common.{IsDead, MarkEnded, WasDoomed, Config, Marking, Row}
 use Rattle.ref_base.specs.declared.step.Step.TheVariants as steps
 use Rattle.ref_base.specs.declared.reply.Reply.TheVariants as replies
-use Rattle.ref_base.specs.declared.row.Row.{Row}
 use Rattle.ref_base.proofs.NewClears.{has-new_clears}
 use Rattle.ref_base.proofs.SeenObjects.{object_at-without, rising-without}
 use Rattle.ref_base.proofs.AgreeHeaps.{Agreeing, there-without, unscanned-there}

@@ -1,25 +1,12 @@
 -- In every legal trace a notice of a cycle comes after the end of that cycle's mark, which showed what it had to.
 use Rattle.std.proofs.Common.{◌≡◌, ℕ, true, List, [], ◌∷◌, ◌++◌, Option, Some, None, refl, ap, subst}
-use Rattle.ref_base.specs.Members.{has}
-use Rattle.ref_base.specs.Worlds.{World, Notice, hand_of}
-use Rattle.ref_base.specs.Replay.{replayed}
-use Rattle.ref_base.specs.Collectors.{State, first_state}
-use Rattle.ref_base.specs.Refusals.{refusal, heap_refusal}
-use Rattle.ref_base.specs.CollectorRows.{IsAnswer, IsRow, IsRun, list_at}
-use Rattle.ref_base.specs.MarkEnds.{MarkEnded, IsAfterMark, IsAfterMarkIn, AreAfterMarks}
-use Rattle.ref_base.specs.declared.config.Config.{Config}
-use Rattle.ref_base.specs.declared.actor.Actor.{Actor}
-use Rattle.ref_base.specs.declared.actor.Actor.TheVariants.{Mutator, Worker}
-use Rattle.ref_base.specs.declared.cause.Cause.{Cause}
-use Rattle.ref_base.specs.declared.cause.Cause.TheVariants.{Own, Cycle}
-use Rattle.ref_base.specs.declared.fault.Fault.{Fault}
-use Rattle.ref_base.specs.declared.phase.Phase.TheVariants.{Clearing}
+use Rattle.ref_base.proofs.Common.{has, World, Notice, hand_of, replayed, State, first_state, refusal, heap_refusal}
+use Rattle.ref_base.proofs.Common.{IsAnswer, IsRow, IsRun, list_at, MarkEnded, Config, Actor, Mutator, Worker, Cause}
+use Rattle.ref_base.proofs.Common.{Own, Cycle, Fault, Clearing, Step, Reply, Row}
+use Rattle.ref_base.specs.MarkEnds.{IsAfterMark, IsAfterMarkIn, AreAfterMarks}
 use Rattle.ref_base.specs.declared.heap_step.HeapStep.TheVariants as heap
-use Rattle.ref_base.specs.declared.step.Step.{Step}
 use Rattle.ref_base.specs.declared.step.Step.TheVariants as steps
-use Rattle.ref_base.specs.declared.reply.Reply.{Reply}
 use Rattle.ref_base.specs.declared.reply.Reply.TheVariants as replies
-use Rattle.ref_base.specs.declared.row.Row.{Row}
 use Rattle.ref_base.proofs.RunLaws.{cut}
 use Rattle.ref_base.proofs.RunFronts.{legal_holds}
 use Rattle.ref_base.proofs.CarryLaws.{OfHand, Carries, Lasts}

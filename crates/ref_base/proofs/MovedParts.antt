@@ -1,16 +1,8 @@
 -- What stays where a row of a heap leads.
 use Rattle.std.proofs.Common.{◌≡◌, ℕ, Bool, List, refl, ap}
-use Rattle.ref_base.specs.Graphs.{Graph}
-use Rattle.ref_base.specs.KeptPaths.{Policy}
-use Rattle.ref_base.specs.Heaps.{reference_at, registered_in}
-use Rattle.ref_base.specs.Worlds.{World, Pending, policy_of}
-use Rattle.ref_base.specs.Told.{is_done, told_cycle}
-use Rattle.ref_base.specs.HeapSteps.{NamedStep}
-use Rattle.ref_base.specs.Collectors.{State}
-use Rattle.ref_base.specs.declared.config.Config.{Config}
-use Rattle.ref_base.specs.declared.phase.Phase.{Phase}
+use Rattle.ref_base.proofs.Common.{Graph, Policy, reference_at, registered_in, World, Pending, policy_of, is_done}
+use Rattle.ref_base.proofs.Common.{told_cycle, NamedStep, State, Config, Phase, Reply}
 use Rattle.ref_base.specs.declared.heap_step.HeapStep.TheVariants as heap
-use Rattle.ref_base.specs.declared.reply.Reply.{Reply}
 use Rattle.ref_base.specs.declared.reply.Reply.TheVariants as replies
 use Rattle.ref_base.proofs.HeapMoves.{moved, IsNoEnd}
 use Rattle.ref_base.proofs.ReplayKeeps.{EndsNoPhase, PendsNone, stage_of, stage_pended, same_frame, same_stage}

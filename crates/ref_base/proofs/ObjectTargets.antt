@@ -1,11 +1,8 @@
 -- What a load or a get finds is what the object refers to.
 use Rattle.std.proofs.Common.{◌≡◌, ℕ, zero, suc, true, [], Option, Some, None, ap, ◌∙◌, inl, inr}
 use Rattle.std.proofs.lemmas.Bool.{cases_Bool, false≢true}
-use Rattle.ref_base.specs.Members.{has}
-use Rattle.ref_base.specs.Graphs.{Object, Reference}
-use Rattle.ref_base.specs.Paths.{any_referent, present, if_any, allowed_referent, targets_of, is_phantom}
-use Rattle.ref_base.specs.Heaps.{reference_in, nulls}
-use Rattle.ref_base.specs.CollectorRows.{field_of, referent_got}
+use Rattle.ref_base.proofs.Common.{has, Object, Reference, any_referent, present, if_any, allowed_referent, targets_of}
+use Rattle.ref_base.proofs.Common.{is_phantom, reference_in, nulls, field_of, referent_got}
 use Rattle.ref_base.proofs.HasLaws.{has-left, has-right, has-first}
 use Rattle.ref_base.proofs.Lookups.{has-present_at}
 

@@ -5,15 +5,10 @@ use Rattle.std.specs.Prelude.{slice_index_or}
 use Rattle.std.specs.List.{AllByRecursion}
 use Rattle.std.proofs.lemmas.Bool.{cases_Bool, or_parts, or_from, or_left, or_right, eqb-true, eq-eqb}
 use Rattle.std.proofs.lemmas.Bool.{false≢true, false_from_ne_true}
-use Rattle.ref_base.specs.Members.{has}
-use Rattle.ref_base.specs.Graphs.{Graph, Object, Reference, object_at, is_there}
-use Rattle.ref_base.specs.Paths.{Allowed, EndsPath, any_referent, no_referents, present, allowed_referent}
-use Rattle.ref_base.specs.Paths.{targets_of, targets_at}
-use Rattle.ref_base.specs.KeptPaths.{is_kept}
-use Rattle.ref_base.specs.DoomedSets.{MayDoom, any_is, refers_into}
-use Rattle.ref_base.specs.Heaps.{cleared, changed_reference}
-use Rattle.ref_base.specs.Worlds.{World, Pending, policy_of, graph_of, pending_of, pending_numbers, with_heap}
-use Rattle.ref_base.specs.CollectorRows.{without, shown}
+use Rattle.ref_base.proofs.Common.{has, Graph, Object, Reference, object_at, is_there, Allowed, EndsPath, any_referent}
+use Rattle.ref_base.proofs.Common.{no_referents, present, allowed_referent, targets_of, targets_at, is_kept, MayDoom}
+use Rattle.ref_base.proofs.Common.{any_is, refers_into, cleared, changed_reference, World, Pending, policy_of}
+use Rattle.ref_base.proofs.Common.{graph_of, pending_of, pending_numbers, with_heap, without, shown}
 use Rattle.ref_base.proofs.CarryRows.{all_more}
 use Rattle.ref_base.proofs.HasLaws.{has-append, has-cases, has-left, has-right}
 use Rattle.ref_base.proofs.Lookups.{has-present_at, allowed_referent-cases}

@@ -3,22 +3,11 @@ use Rattle.std.proofs.Common.{◌≡◌, ℕ, ◌+◌, ◌*◌, ◌<◌, ◌≤�
 use Rattle.std.proofs.Common.{Option, Some, None, refl, sym, ap, ◌∙◌, subst, arith, inl, inr, ◌⊎◌}
 use Rattle.std.specs.Prelude.{slice_index_or}
 use Rattle.std.proofs.lemmas.Bool.{cases_Bool, false≢true}
-use Rattle.ref_base.specs.Graphs.{Object, object_at, is_there, numbers}
-use Rattle.ref_base.specs.Strengths.{IsRising}
-use Rattle.ref_base.specs.Paths.{any_referent}
-use Rattle.ref_base.specs.DoomedSets.{is_new_clear}
-use Rattle.ref_base.specs.Worlds.{World, pending_of, with_heap}
-use Rattle.ref_base.specs.HeapSteps.{NamedStep}
-use Rattle.ref_base.specs.Replay.{replayed}
-use Rattle.ref_base.specs.Collectors.{State, first_state}
-use Rattle.ref_base.specs.Refusals.{heap_refusal}
-use Rattle.ref_base.specs.CollectorRows.{HeapAccepts, without, shown, mark_ended, doomed_at, IsRun}
-use Rattle.ref_base.specs.AgreeingWorlds.{is_waiting}
-use Rattle.ref_base.specs.OldNumbers.{HasOldNumbers}
-use Rattle.ref_base.specs.declared.config.Config.{Config}
+use Rattle.ref_base.proofs.Common.{Object, object_at, is_there, numbers, IsRising, any_referent, is_new_clear, World}
+use Rattle.ref_base.proofs.Common.{pending_of, with_heap, NamedStep, replayed, State, first_state, heap_refusal}
+use Rattle.ref_base.proofs.Common.{HeapAccepts, without, shown, mark_ended, doomed_at, IsRun, is_waiting}
+use Rattle.ref_base.proofs.Common.{HasOldNumbers, Config, Reply, Row}
 use Rattle.ref_base.specs.declared.heap_step.HeapStep.TheVariants as heap
-use Rattle.ref_base.specs.declared.reply.Reply.{Reply}
-use Rattle.ref_base.specs.declared.row.Row.{Row}
 use Rattle.ref_base.proofs.CarryRows.{all_more, nothing_pending}
 use Rattle.ref_base.proofs.CountedTraces.{legal_counted}
 use Rattle.ref_base.proofs.HeapMoves.{moved, heap_moves, IsNoEnd}

@@ -1,8 +1,7 @@
 -- What is in a rising list with one number more.
 use Rattle.std.proofs.Common.{◌≡◌, ℕ, Bool, true, false, ◌||◌, ◌==◌, nat_lt, refl, ap, ◌∙◌, List, [], ◌∷◌, inl, inr}
 use Rattle.std.proofs.lemmas.Bool.{cases_Bool}
-use Rattle.ref_base.specs.Members.{has}
-use Rattle.ref_base.specs.Heaps.{one_more}
+use Rattle.ref_base.proofs.Common.{has, one_more}
 
 -- whether one of three holds, in another order
 pub or-swap : (x y z : Bool) → (x || (y || z)) ≡ (y || (x || z))

@@ -4,21 +4,11 @@ use Rattle.std.proofs.Common.{◌≡◌, ℕ, true, false, List, [], ◌++◌, t
 use Rattle.std.proofs.Common.{sym, ap, ◌∙◌, subst, inl, inr}
 use Rattle.std.proofs.lemmas.Bool.{or_from, false≢true}
 use Rattle.std.proofs.lemmas.List.{append-nil, append_assoc, take-append-drop}
-use Rattle.ref_base.specs.Members.{has}
-use Rattle.ref_base.specs.Worlds.{World}
-use Rattle.ref_base.specs.HeapSteps.{NamedStep}
-use Rattle.ref_base.specs.Replay.{after_heap}
-use Rattle.ref_base.specs.Collectors.{State, joined}
-use Rattle.ref_base.specs.Refusals.{heap_refusal}
-use Rattle.ref_base.specs.CollectorRows.{HeapAccepts, EndsMark, doomed_at}
-use Rattle.ref_base.specs.MarkEnds.{IsDead, MarkEnded, WasDoomed}
-use Rattle.ref_base.specs.declared.config.Config.{Config}
-use Rattle.ref_base.specs.declared.phase.Phase.{Phase}
-use Rattle.ref_base.specs.declared.phase.Phase.TheVariants.{Idle, Marking, Clearing, Sweeping}
+use Rattle.ref_base.proofs.Common.{has, World, NamedStep, after_heap, State, joined, heap_refusal, HeapAccepts}
+use Rattle.ref_base.proofs.Common.{EndsMark, doomed_at, IsDead, MarkEnded, WasDoomed, Config, Phase, Idle, Marking}
+use Rattle.ref_base.proofs.Common.{Clearing, Sweeping, Reply, Row}
 use Rattle.ref_base.specs.declared.heap_step.HeapStep.TheVariants as heap
-use Rattle.ref_base.specs.declared.reply.Reply.{Reply}
 use Rattle.ref_base.specs.declared.reply.Reply.TheVariants as replies
-use Rattle.ref_base.specs.declared.row.Row.{Row}
 use Rattle.ref_base.proofs.HasLaws.{has-append, has-cases}
 use Rattle.ref_base.proofs.HeapMoves.{heap_moves, IsNoEnd}
 use Rattle.ref_base.proofs.PhaseLaws.{of_phase}

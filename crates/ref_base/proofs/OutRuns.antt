@@ -1,26 +1,13 @@
 -- Each row keeps that what is gone or doomed is out of reach, and that a mark's end has shown what it cleared.
 use Rattle.std.proofs.Common.{◌≡◌, ℕ, ◌+◌, false, List, [], ◌∷◌, ◌++◌, length, Option, Some, None, refl, sym}
 use Rattle.std.proofs.Common.{ap, ◌∙◌, subst, inl, inr}
-use Rattle.ref_base.specs.Members.{has}
-use Rattle.ref_base.specs.Worlds.{World, Notice, hand_of}
-use Rattle.ref_base.specs.HeapSteps.{NamedStep, heap_step, spending}
-use Rattle.ref_base.specs.Replay.{replayed}
-use Rattle.ref_base.specs.Collectors.{State}
-use Rattle.ref_base.specs.Refusals.{heap_refusal}
-use Rattle.ref_base.specs.CollectorRows.{HeapAccepts, IsRow, doomed_at}
-use Rattle.ref_base.specs.CountedHolds.{AreCounted}
-use Rattle.ref_base.specs.MarkEnds.{MarkEnded, WasDoomed}
-use Rattle.ref_base.specs.declared.config.Config.{Config}
-use Rattle.ref_base.specs.declared.actor.Actor.TheVariants.{Mutator}
-use Rattle.ref_base.specs.declared.phase.Phase.{Phase}
-use Rattle.ref_base.specs.declared.phase.Phase.TheVariants.{Idle, Marking, Clearing, Sweeping}
-use Rattle.ref_base.specs.declared.heap_step.HoldName.{HoldName}
+use Rattle.ref_base.proofs.Common.{has, World, Notice, hand_of, NamedStep, heap_step, spending, replayed, State}
+use Rattle.ref_base.proofs.Common.{heap_refusal, HeapAccepts, IsRow, doomed_at, AreCounted, MarkEnded, WasDoomed}
+use Rattle.ref_base.proofs.Common.{Config, Mutator, Phase, Idle, Marking, Clearing, Sweeping, HoldName, Step, Reply}
+use Rattle.ref_base.proofs.Common.{Row}
 use Rattle.ref_base.specs.declared.heap_step.HeapStep.TheVariants as heap
-use Rattle.ref_base.specs.declared.step.Step.{Step}
 use Rattle.ref_base.specs.declared.step.Step.TheVariants as steps
-use Rattle.ref_base.specs.declared.reply.Reply.{Reply}
 use Rattle.ref_base.specs.declared.reply.Reply.TheVariants as replies
-use Rattle.ref_base.specs.declared.row.Row.{Row}
 use Rattle.ref_base.proofs.HeapMoves.{settled, moved, heap_moves, IsNoEnd}
 use Rattle.ref_base.proofs.PhaseLaws.{of_phase}
 use Rattle.ref_base.proofs.RowKinds.{queues_lead, row_kind}

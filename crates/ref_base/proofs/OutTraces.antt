@@ -3,18 +3,10 @@
 use Rattle.std.proofs.Common.{◌≡◌, ℕ, ◌*◌, true, false, List, [], ◌++◌, refl, sym}
 use Rattle.std.proofs.Common.{ap, ◌∙◌, subst}
 use Rattle.std.proofs.lemmas.Bool.{false≢true, or_parts, or_from}
-use Rattle.ref_base.specs.Members.{has}
-use Rattle.ref_base.specs.Graphs.{object_at, is_there}
-use Rattle.ref_base.specs.Paths.{any_referent}
-use Rattle.ref_base.specs.Worlds.{World, SameOthers, first_world, graph_of}
-use Rattle.ref_base.specs.HeapSteps.{heap_step}
-use Rattle.ref_base.specs.Replay.{replayed}
-use Rattle.ref_base.specs.Collectors.{State, first_state}
-use Rattle.ref_base.specs.CollectorRows.{without, IsRun}
-use Rattle.ref_base.specs.AgreeingWorlds.{Agrees, cleared_if, is_waiting}
-use Rattle.ref_base.specs.MarkEnds.{MarkEnded, WasDoomed, AreOutOfReach}
-use Rattle.ref_base.specs.declared.config.Config.{Config}
-use Rattle.ref_base.specs.declared.row.Row.{Row}
+use Rattle.ref_base.proofs.Common.{has, object_at, is_there, any_referent, World, SameOthers, first_world, graph_of}
+use Rattle.ref_base.proofs.Common.{heap_step, replayed, State, first_state, without, IsRun, Agrees, cleared_if}
+use Rattle.ref_base.proofs.Common.{is_waiting, MarkEnded, WasDoomed, Config, Row}
+use Rattle.ref_base.specs.MarkEnds.{AreOutOfReach}
 use Rattle.ref_base.proofs.CountedTraces.{legal_counted}
 use Rattle.ref_base.proofs.RunFronts.{legal_holds, replayed_last}
 use Rattle.ref_base.proofs.AgreeHeaps.{Agreeing, there-without}

@@ -2,10 +2,8 @@
 use Rattle.std.proofs.Common.{◌≡◌, ℕ, true}
 use Rattle.std.proofs.Common.{List, [], ◌∷◌, Option, Some, None, inl, inr}
 use Rattle.std.proofs.lemmas.Bool.{cases_Bool, false≢true}
-use Rattle.ref_base.specs.Members.{has}
-use Rattle.ref_base.specs.Graphs.{Graph, Object, Reference, object_at, is_there}
-use Rattle.ref_base.specs.Paths.{Allowed, IsPath, EndsPath, targets_at, targets_of, allowed_referent, present, if_any}
-use Rattle.ref_base.specs.Searches.{fields_of}
+use Rattle.ref_base.proofs.Common.{has, Graph, Object, Reference, object_at, is_there, Allowed, IsPath, EndsPath}
+use Rattle.ref_base.proofs.Common.{targets_at, targets_of, allowed_referent, present, if_any, fields_of}
 use Rattle.ref_base.proofs.HasLaws.{has-cases, has-left, has-right}
 
 module _ (allow : Allowed) (g : Graph) where

@@ -1,11 +1,8 @@
 -- In which phase a row of a heap is accepted.
 use Rattle.std.proofs.Common.{◌≡◌, ℕ, true, List, [], ◌∷◌, None, refl}
 use Rattle.std.proofs.lemmas.Bool.{false≢true}
-use Rattle.ref_base.specs.HeapSteps.{NamedStep}
-use Rattle.ref_base.specs.Collectors.{State, joined}
-use Rattle.ref_base.specs.Refusals.{heap_refusal, is_in, is_empty, is_worker}
-use Rattle.ref_base.specs.declared.phase.Phase.{Phase}
-use Rattle.ref_base.specs.declared.phase.Phase.TheVariants.{Idle, Marking, Clearing, Sweeping}
+use Rattle.ref_base.proofs.Common.{NamedStep, State, joined, heap_refusal, is_in, is_empty, is_worker, Phase, Idle}
+use Rattle.ref_base.proofs.Common.{Marking, Clearing, Sweeping}
 use Rattle.ref_base.specs.declared.heap_step.HeapStep.TheVariants as heap
 use Rattle.ref_base.proofs.RowLaws.{unless_passes}
 

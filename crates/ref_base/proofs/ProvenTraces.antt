@@ -5,30 +5,16 @@ use Rattle.std.proofs.Common.{Option, Some, None, refl, sym, ap, ◌∙◌, subs
 use Rattle.std.specs.List.{AllByRecursion}
 use Rattle.std.proofs.lemmas.Bool.{cases_Bool, eq-eqb, eqb-true, and_from}
 use Rattle.std.proofs.lemmas.List.{append-nil, append_assoc}
-use Rattle.ref_base.specs.Graphs.{Object, Reference, object_at}
-use Rattle.ref_base.specs.Paths.{is_soft}
-use Rattle.ref_base.specs.Heaps.{registered_in, reference_in, changed_reference, got_at}
-use Rattle.ref_base.specs.Worlds.{World, Notice, hand_of}
-use Rattle.ref_base.specs.Collectors.{State, first_state}
-use Rattle.ref_base.specs.Replay.{begun}
-use Rattle.ref_base.specs.Refusals.{refusal}
-use Rattle.ref_base.specs.CollectorRows.{ticked, begun_state, HeapAccepts, IsAnswer, IsRow, IsRun}
-use Rattle.ref_base.specs.WorkerOrder.{registers, is_registered}
-use Rattle.ref_base.specs.Provenance.{has_row, unhooks, clears, cycle_after, cleared_from, IsCause, IsProven}
-use Rattle.ref_base.specs.Provenance.{IsProvenIn, AreProven}
-use Rattle.ref_base.specs.declared.config.Config.{Config}
-use Rattle.ref_base.specs.declared.actor.Actor.{Actor}
-use Rattle.ref_base.specs.declared.actor.Actor.TheVariants.{Mutator, Worker}
-use Rattle.ref_base.specs.declared.cause.Cause.{Cause}
-use Rattle.ref_base.specs.declared.cause.Cause.TheVariants.{Own, Cycle}
-use Rattle.ref_base.specs.declared.urgency.Urgency.{Urgency}
-use Rattle.ref_base.specs.declared.fault.Fault.{Fault}
+use Rattle.ref_base.proofs.Common.{Object, Reference, object_at, is_soft, registered_in, reference_in}
+use Rattle.ref_base.proofs.Common.{changed_reference, got_at, World, Notice, hand_of, State, first_state, begun}
+use Rattle.ref_base.proofs.Common.{refusal, ticked, begun_state, HeapAccepts, IsAnswer, IsRow, IsRun, registers}
+use Rattle.ref_base.proofs.Common.{is_registered, IsProven, IsProvenIn, Config, Actor, Mutator, Worker, Cause, Own}
+use Rattle.ref_base.proofs.Common.{Cycle, Urgency, Fault, Step, Reply, Row}
+use Rattle.ref_base.specs.Provenance.{has_row, unhooks, clears, cycle_after, cleared_from, IsCause}
+use Rattle.ref_base.specs.Provenance.{AreProven}
 use Rattle.ref_base.specs.declared.heap_step.HeapStep.TheVariants as heap
-use Rattle.ref_base.specs.declared.step.Step.{Step}
 use Rattle.ref_base.specs.declared.step.Step.TheVariants as steps
-use Rattle.ref_base.specs.declared.reply.Reply.{Reply}
 use Rattle.ref_base.specs.declared.reply.Reply.TheVariants as replies
-use Rattle.ref_base.specs.declared.row.Row.{Row}
 use Rattle.ref_base.proofs.Reshaping.{queue-cleared}
 use Rattle.ref_base.proofs.RowLaws.{ticked_world, but_world}
 use Rattle.ref_base.proofs.CarryLaws.{OfHand, Carries, Lasts}

@@ -5,16 +5,11 @@ use Rattle.std.proofs.Common.{refl, sym, ap, ◌∙◌, subst, arith}
 use Rattle.std.specs.Prelude.{slice_index_or, slice_set}
 use Rattle.std.specs.List.{AllByRecursion}
 use Rattle.std.proofs.lemmas.Bool.{eq-eqb, ne_eqb}
-use Rattle.ref_base.specs.QueueLists.{Lists, new_queue, was_put, with_parcel, with_taken}
-use Rattle.ref_base.specs.QueueRows.{HandNotice, HandNotices, with_held, held_after, put_by, taken_by, closed_by}
-use Rattle.ref_base.specs.Worlds.{World, Notice, SameOthers, object_of, hand_of, queue_at, with_hand}
-use Rattle.ref_base.specs.Worlds.{with_queue}
-use Rattle.ref_base.specs.Replay.{notice_of, taken_out, took, put_in}
-use Rattle.ref_base.specs.declared.actor.Actor.{Actor}
-use Rattle.ref_base.specs.declared.actor.Actor.TheVariants.{Mutator, Worker}
-use Rattle.ref_base.specs.declared.step.Step.{Step}
+use Rattle.ref_base.proofs.Common.{Lists, new_queue, was_put, with_parcel, with_taken, HandNotices, with_held}
+use Rattle.ref_base.proofs.Common.{held_after, World, Notice, SameOthers, object_of, hand_of, queue_at, with_hand}
+use Rattle.ref_base.proofs.Common.{with_queue, notice_of, taken_out, took, put_in, Actor, Mutator, Worker, Step, Reply}
+use Rattle.ref_base.specs.QueueRows.{HandNotice, put_by, taken_by, closed_by}
 use Rattle.ref_base.specs.declared.step.Step.TheVariants as steps
-use Rattle.ref_base.specs.declared.reply.Reply.{Reply}
 use Rattle.ref_base.specs.declared.reply.Reply.TheVariants as replies
 use Rattle.ref_base.proofs.Places.{set_at, all_push}
 use Rattle.ref_base.proofs.QueueMoves.{QueueMoves, moves_nothing, moves_added, moves_took, moves_closed}

@@ -8,7 +8,7 @@ use Rattle.std.proofs.lemmas.Bool.{both_ways}
 use Rattle.std.proofs.lemmas.List.{append-nil, map-append}
 use Rattle.std.proofs.lemmas.Map.Keys.{IsDistinct-push}
 use Rattle.ref_base.proofs.HasLaws.{has-list_any}
-use Rattle.ref_base.specs.QueueLists.{Lists, new_queue, new_queues, enqueued, was_put, with_parcel, with_taken}
+use Rattle.ref_base.proofs.Common.{Lists, new_queue, new_queues, enqueued, was_put, with_parcel, with_taken}
 
 module _ {T : Type 0} (object_of : T → ℕ) where
   -- how a queue's lists change where this is put in and that taken, and where it is closed or not

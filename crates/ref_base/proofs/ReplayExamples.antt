@@ -1,19 +1,10 @@
 -- What the replay of worked traces gives, as one reads it off their rows.
 use Rattle.std.proofs.Common.{◌≡◌, ℕ, List, [], ◌∷◌, take, Option, Some, None, inl, inr, refl}
-use Rattle.ref_base.specs.Graphs.{Graph, Object, plain_object}
-use Rattle.ref_base.specs.Paths.{IsPath, soft_and_weak_referents}
-use Rattle.ref_base.specs.DoomedSets.{new_clears}
-use Rattle.ref_base.specs.LeavingEdges.{FirstLeaves}
-use Rattle.ref_base.specs.Heaps.{slot_at}
-use Rattle.ref_base.specs.Worlds.{World, graph_of, hand_of, pending_numbers}
-use Rattle.ref_base.specs.Replay.{replayed}
-use Rattle.ref_base.specs.QueueRows.{put_into, taken_from}
-use Rattle.ref_base.specs.WorkerOrder.{clearing_order}
+use Rattle.ref_base.proofs.Common.{Graph, Object, plain_object, IsPath, soft_and_weak_referents, new_clears}
+use Rattle.ref_base.proofs.Common.{FirstLeaves, slot_at, World, graph_of, hand_of, pending_numbers, replayed, put_into}
+use Rattle.ref_base.proofs.Common.{taken_from, clearing_order, Weak, Own, Cycle, Mutator, Sweeping}
 use Rattle.ref_base.specs.declared.strength.Strength.{Strength}
-use Rattle.ref_base.specs.declared.strength.Strength.TheVariants.{Soft, Weak}
-use Rattle.ref_base.specs.declared.cause.Cause.TheVariants.{Own, Cycle}
-use Rattle.ref_base.specs.declared.actor.Actor.TheVariants.{Mutator}
-use Rattle.ref_base.specs.declared.phase.Phase.TheVariants.{Sweeping}
+use Rattle.ref_base.specs.declared.strength.Strength.TheVariants.{Soft}
 use Rattle.ref_base.proofs.WorkedTraces.{config_of, two_enqueued_in_order, death_reported_after_a_cycle}
 use Rattle.ref_base.proofs.WorkedTraces.{get_keeps_the_referent, two_workers_in_clearing_order}
 use Rattle.ref_base.proofs.WorkedTraces.{soft_kept_within_the_span, cleared_for_every_mutator_at_once}

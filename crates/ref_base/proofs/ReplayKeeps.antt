@@ -3,21 +3,15 @@
 use Rattle.std.proofs.Common.{◌≡◌, ℕ, Bool, true, false, if◌then◌else◌, List, [], ◌∷◌, ◌++◌, Option, Some, None}
 use Rattle.std.proofs.Common.{refl, sym, ap, ◌∙◌, is_some}
 use Rattle.std.proofs.lemmas.List.{map-append, append-nil}
-use Rattle.ref_base.specs.Graphs.{Object, numbers, plain_object}
-use Rattle.ref_base.specs.Paths.{if_any}
-use Rattle.ref_base.specs.Heaps.{slot_at, reference_at, registered_in, changed_in, with_reference, cleared, got_at}
-use Rattle.ref_base.specs.Heaps.{with_field, got, cut, nulls, new_reference}
-use Rattle.ref_base.specs.Worlds.{World, Notice, with_heap, hand_of, with_hand}
-use Rattle.ref_base.specs.Told.{told_object, told_value, is_done, told_notice, is_nothing, told_cycle, is_mark_end}
-use Rattle.ref_base.specs.Told.{told_cleared, told_taken, is_added}
-use Rattle.ref_base.specs.HeapSteps.{NamedStep, handed, taking}
-use Rattle.ref_base.specs.Replay.{if_told, after_heap, after_queues, pended, put_in}
-use Rattle.ref_base.specs.declared.actor.Actor.{Actor}
-use Rattle.ref_base.specs.declared.actor.Actor.TheVariants.{Mutator, Worker}
+use Rattle.ref_base.proofs.Common.{Object, numbers, plain_object, if_any, slot_at, reference_at, registered_in}
+use Rattle.ref_base.proofs.Common.{changed_in, with_reference, cleared, got_at, with_field, got, cut, nulls}
+use Rattle.ref_base.proofs.Common.{new_reference, World, Notice, with_heap, hand_of, with_hand, told_object}
+use Rattle.ref_base.proofs.Common.{told_value, is_done, told_notice, is_nothing, told_cycle, is_mark_end, told_taken}
+use Rattle.ref_base.proofs.Common.{is_added, NamedStep, handed, taking, if_told, after_heap, after_queues, pended}
+use Rattle.ref_base.proofs.Common.{put_in, Actor, Mutator, Worker, Step, Reply}
+use Rattle.ref_base.specs.Told.{told_cleared}
 use Rattle.ref_base.specs.declared.heap_step.HeapStep.TheVariants as heap
-use Rattle.ref_base.specs.declared.step.Step.{Step}
 use Rattle.ref_base.specs.declared.step.Step.TheVariants as steps
-use Rattle.ref_base.specs.declared.reply.Reply.{Reply}
 use Rattle.ref_base.proofs.Lookups.{numbers-changed}
 use Rattle.ref_base.proofs.ReplayUnder.{made_number}
 

@@ -1,24 +1,14 @@
 -- Each row of the replay goes through where some objects are gone and some references read as cleared.
 use Rattle.std.proofs.Common.{◌≡◌, ℕ, Bool, true, false, if◌then◌else◌, List, Option, Some, None}
 use Rattle.std.proofs.Common.{refl, sym, ap, ◌∙◌, is_some}
-use Rattle.ref_base.specs.Members.{has}
-use Rattle.ref_base.specs.Graphs.{Object, Reference, plain_object}
-use Rattle.ref_base.specs.Heaps.{Heap, slot_at, with_slot, got, cut, made, nulls}
-use Rattle.ref_base.specs.Heaps.{new_reference, with_hold, changed_in, with_reference}
-use Rattle.ref_base.specs.Heaps.{cleared, got_at}
-use Rattle.ref_base.specs.Heaps.{with_field}
-use Rattle.ref_base.specs.Worlds.{World, Notice, hand_of, with_heap, with_hand}
-use Rattle.ref_base.specs.Told.{told_object, told_value, is_done, told_notice, is_nothing, told_cycle, is_mark_end}
-use Rattle.ref_base.specs.Told.{told_taken, is_added}
-use Rattle.ref_base.specs.HeapSteps.{NamedStep, heap_step, handed, taking}
-use Rattle.ref_base.specs.Replay.{if_told, after_heap, after_queues, put_in}
-use Rattle.ref_base.specs.AgreeingWorlds.{under, heap_under}
-use Rattle.ref_base.specs.declared.actor.Actor.{Actor}
-use Rattle.ref_base.specs.declared.actor.Actor.TheVariants.{Mutator, Worker}
+use Rattle.ref_base.proofs.Common.{has, Object, Reference, plain_object, Heap, slot_at, with_slot, got, cut, made}
+use Rattle.ref_base.proofs.Common.{nulls, new_reference, with_hold, changed_in, with_reference, cleared, got_at}
+use Rattle.ref_base.proofs.Common.{with_field, World, Notice, hand_of, with_heap, with_hand, told_object, told_value}
+use Rattle.ref_base.proofs.Common.{is_done, told_notice, is_nothing, told_cycle, is_mark_end, told_taken, is_added}
+use Rattle.ref_base.proofs.Common.{NamedStep, heap_step, handed, taking, if_told, after_heap, after_queues, put_in}
+use Rattle.ref_base.proofs.Common.{under, heap_under, Actor, Mutator, Worker, Step, Reply}
 use Rattle.ref_base.specs.declared.heap_step.HeapStep.TheVariants as heap
-use Rattle.ref_base.specs.declared.step.Step.{Step}
 use Rattle.ref_base.specs.declared.step.Step.TheVariants as steps
-use Rattle.ref_base.specs.declared.reply.Reply.{Reply}
 use Rattle.ref_base.proofs.ShownObjects.{cleared_got}
 use Rattle.ref_base.proofs.SeenObjects.{heap_changed, seen_push}
 

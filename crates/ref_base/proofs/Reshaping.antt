@@ -3,20 +3,13 @@ use Rattle.std.proofs.Common.{◌≡◌, ℕ, ◌^◌, Bool, true, false, ◌==�
 use Rattle.std.proofs.Common.{List, [], ◌∷◌, map, length, Option, Some, None, is_some, inl, inr}
 use Rattle.std.proofs.lemmas.Bool.{cases_Bool, true≢false, eqb-true}
 use Rattle.std.proofs.lemmas.List.{length-map}
-use Rattle.ref_base.specs.Graphs.{Object, Reference, object_at, is_there}
-use Rattle.ref_base.specs.Heaps.{Heap, slot_at, reference_in, registered_in, changed_at}
-use Rattle.ref_base.specs.Heaps.{changed_reference, cleared}
-use Rattle.ref_base.specs.Worlds.{Pending, pending_of}
-use Rattle.ref_base.specs.HeapSteps.{NamedStep}
-use Rattle.ref_base.specs.Collectors.{State}
-use Rattle.ref_base.specs.CollectorRows.{on_heap}
-use Rattle.ref_base.specs.Refusals.{unless, unless_empty, is_worker, has_slot, has_slots}
-use Rattle.ref_base.specs.Refusals.{is_queue_or_none, field_count, object_refusal, new_refusal, refer_refusal}
-use Rattle.ref_base.specs.Refusals.{field_refusal, reference_refusal, holds_refusal, minting_refusal, unhook_refusal}
-use Rattle.ref_base.specs.Refusals.{held_refusal, hand_refusal, heap_refusal}
-use Rattle.ref_base.specs.declared.fault.Fault.{Fault}
-use Rattle.ref_base.specs.declared.fault.Fault.TheVariants.{NoCell, NumbersSpent, BadField, BadQueue, NoSuchActor}
-use Rattle.ref_base.specs.declared.fault.Fault.TheVariants.{NotAReference}
+use Rattle.ref_base.proofs.Common.{Object, Reference, object_at, is_there, Heap, slot_at, reference_in, registered_in}
+use Rattle.ref_base.proofs.Common.{changed_at, changed_reference, cleared, Pending, pending_of, NamedStep, State}
+use Rattle.ref_base.proofs.Common.{on_heap, unless, unless_empty, is_worker, has_slot, has_slots, is_queue_or_none}
+use Rattle.ref_base.proofs.Common.{field_count, object_refusal, field_refusal, reference_refusal, holds_refusal}
+use Rattle.ref_base.proofs.Common.{minting_refusal, unhook_refusal, held_refusal, hand_refusal, heap_refusal, Fault}
+use Rattle.ref_base.proofs.Common.{NoCell, NumbersSpent, BadField, BadQueue, NoSuchActor, NotAReference}
+use Rattle.ref_base.specs.Refusals.{new_refusal, refer_refusal}
 use Rattle.ref_base.specs.declared.heap_step.HeapStep.TheVariants as heap
 
 -- each object keeps its number, how many fields it has, whether it is a reference, and that one's queue

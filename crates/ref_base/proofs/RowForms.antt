@@ -1,11 +1,7 @@
 -- How a row of a heap is accepted or refused.
 use Rattle.std.proofs.Common.{◌≡◌, ℕ, Bool, true, false, refl, sym, subst, Option, Some, None}
-use Rattle.ref_base.specs.Refusals.{heap_refusal, unless}
-use Rattle.ref_base.specs.HeapSteps.{NamedStep}
-use Rattle.ref_base.specs.Collectors.{State}
-use Rattle.ref_base.specs.CollectorRows.{IsHeapRow, IsHeapAnswer, HeapAccepts}
-use Rattle.ref_base.specs.declared.fault.Fault.{Fault}
-use Rattle.ref_base.specs.declared.reply.Reply.{Reply}
+use Rattle.ref_base.proofs.Common.{heap_refusal, unless, NamedStep, State, IsHeapRow, IsHeapAnswer, HeapAccepts, Fault}
+use Rattle.ref_base.proofs.Common.{Reply}
 use Rattle.ref_base.specs.declared.reply.Reply.TheVariants as replies
 
 pub accepted_row : (heap_no : ℕ) (a : State) (step : NamedStep) (reply : Reply) (b : State)

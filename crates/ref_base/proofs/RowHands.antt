@@ -1,21 +1,11 @@
 -- What a row does to hands and queues, and what the notices that an unhook and a hand give tell of the state before.
 use Rattle.std.proofs.Common.{◌≡◌, ℕ, true, List, [], ◌∷◌, Option, Some, None, refl, sym, ap, ◌∙◌, subst}
 use Rattle.std.proofs.lemmas.Bool.{eq-eqb}
-use Rattle.ref_base.specs.Worlds.{World, Notice, Pending, SameOthers, hand_of, pending_of}
-use Rattle.ref_base.specs.Told.{told_notice}
-use Rattle.ref_base.specs.HeapSteps.{NamedStep, heap_step, handed}
-use Rattle.ref_base.specs.Replay.{after_queues}
-use Rattle.ref_base.specs.Collectors.{State}
-use Rattle.ref_base.specs.Refusals.{refusal, is_worker}
-use Rattle.ref_base.specs.CollectorRows.{with_world, QueuesAccept, AcceptsAsking, Accepts, IsAnswer, Unhooks, HandsOn}
-use Rattle.ref_base.specs.ClearingOrder.{is_by}
-use Rattle.ref_base.specs.declared.actor.Actor.TheVariants.{Worker}
-use Rattle.ref_base.specs.declared.cause.Cause.{Cause}
-use Rattle.ref_base.specs.declared.cause.Cause.TheVariants.{Own, Cycle}
-use Rattle.ref_base.specs.declared.fault.Fault.{Fault}
-use Rattle.ref_base.specs.declared.step.Step.{Step}
+use Rattle.ref_base.proofs.Common.{World, Notice, Pending, SameOthers, hand_of, pending_of, told_notice, NamedStep}
+use Rattle.ref_base.proofs.Common.{heap_step, handed, after_queues, State, refusal, is_worker, with_world}
+use Rattle.ref_base.proofs.Common.{QueuesAccept, AcceptsAsking, Accepts, IsAnswer, Unhooks, HandsOn, is_by, Worker}
+use Rattle.ref_base.proofs.Common.{Cause, Own, Cycle, Fault, Step, Reply}
 use Rattle.ref_base.specs.declared.step.Step.TheVariants as steps
-use Rattle.ref_base.specs.declared.reply.Reply.{Reply}
 use Rattle.ref_base.specs.declared.reply.Reply.TheVariants as replies
 use Rattle.ref_base.proofs.QueueLaws.{same}
 use Rattle.ref_base.proofs.HeapRowLaws.{refused_hands, refused_queues}

@@ -2,27 +2,15 @@
 use Rattle.std.proofs.Common.{◌≡◌, ℕ, ◌==◌, if◌then◌else◌, Bool, true, false, List, [], ◌∷◌, length, Option, Some, None}
 use Rattle.std.proofs.Common.{refl, sym, ap, ◌∙◌, inl, inr, ◌⊎◌}
 use Rattle.std.proofs.lemmas.Bool.{and_from}
-use Rattle.ref_base.specs.Members.{has}
-use Rattle.ref_base.specs.QueueLists.{enqueued}
-use Rattle.ref_base.specs.Worlds.{Notice, hand_of, queue_at, object_of}
-use Rattle.ref_base.specs.HeapSteps.{NamedStep, heap_step, hold_of, spending}
-use Rattle.ref_base.specs.Replay.{after_queues, put_in, took, closed_queue}
-use Rattle.ref_base.specs.Collectors.{State}
-use Rattle.ref_base.specs.Refusals.{refusal, heap_refusal, asked_refusal, unless_full, has_slot, is_worker}
-use Rattle.ref_base.specs.Refusals.{is_counted}
-use Rattle.ref_base.specs.CollectorRows.{with_world, with_handed, ticked, HeapAccepts, QueuesAccept, AcceptsAsking}
-use Rattle.ref_base.specs.CollectorRows.{IsAnswer, IsRow, Puts, PutsInto, Polls, Closes, Gives}
-use Rattle.ref_base.specs.CountedHolds.{AreCounted}
-use Rattle.ref_base.specs.declared.actor.Actor.{Actor}
-use Rattle.ref_base.specs.declared.actor.Actor.TheVariants.{Mutator, Worker}
-use Rattle.ref_base.specs.declared.fault.Fault.{Fault}
-use Rattle.ref_base.specs.declared.heap_step.HoldName.{HoldName}
+use Rattle.ref_base.proofs.Common.{has, enqueued, Notice, hand_of, queue_at, object_of, NamedStep, heap_step, hold_of}
+use Rattle.ref_base.proofs.Common.{spending, after_queues, put_in, took, closed_queue, State, refusal, heap_refusal}
+use Rattle.ref_base.proofs.Common.{asked_refusal, unless_full, has_slot, is_worker, is_counted, with_world}
+use Rattle.ref_base.proofs.Common.{with_handed, ticked, HeapAccepts, QueuesAccept, AcceptsAsking, IsAnswer, IsRow}
+use Rattle.ref_base.proofs.Common.{Puts, PutsInto, Polls, Closes, Gives, AreCounted, Actor, Mutator, Worker, Fault}
+use Rattle.ref_base.proofs.Common.{HoldName, Step, Reply, Row}
 use Rattle.ref_base.specs.declared.heap_step.HeapStep.TheVariants as heap
-use Rattle.ref_base.specs.declared.step.Step.{Step}
 use Rattle.ref_base.specs.declared.step.Step.TheVariants as steps
-use Rattle.ref_base.specs.declared.reply.Reply.{Reply}
 use Rattle.ref_base.specs.declared.reply.Reply.TheVariants as replies
-use Rattle.ref_base.specs.declared.row.Row.{Row}
 use Rattle.ref_base.proofs.RowLaws.{unless_passes}
 use Rattle.ref_base.proofs.CountedWorlds.{holding_hand, counted_hand}
 use Rattle.ref_base.proofs.HeapMoves.{Becomes, settled, settled_becomes}

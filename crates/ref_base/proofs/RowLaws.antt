@@ -4,37 +4,21 @@ use Rattle.std.proofs.Common.{List, [], ◌∷◌, ◌++◌, length, map, take, 
 use Rattle.std.specs.Prelude.{slice_set}
 use Rattle.std.specs.List.{AllByRecursion}
 use Rattle.std.proofs.lemmas.Bool.{cases_Bool, ltb-true, and_parts}
-use Rattle.ref_base.specs.Members.{has}
-use Rattle.ref_base.specs.Graphs.{Object, plain_object}
-use Rattle.ref_base.specs.Heaps.{Heap, slot_at, with_slot, with_hold, without_hold, one_more, one_fewer, registered_in}
-use Rattle.ref_base.specs.Heaps.{reference_at, got, nulls, new_reference, made, cut, stored}
-use Rattle.ref_base.specs.QueueLists.{was_put}
-use Rattle.ref_base.specs.QueueRows.{HandNotices, with_held, held_after}
-use Rattle.ref_base.specs.Worlds.{World, Notice, Pending, SameOthers, object_of, hand_of, queue_at, pending_of}
-use Rattle.ref_base.specs.Worlds.{with_heap, with_hand, with_pending}
-use Rattle.ref_base.specs.HeapSteps.{NamedStep, hold_of, spending, handed}
-use Rattle.ref_base.specs.Replay.{adopted, pended, without_pending, handed_on, begun, with_phase}
-use Rattle.ref_base.specs.Collectors.{State}
-use Rattle.ref_base.specs.Refusals.{unless, refusal, heap_refusal, is_in, is_mutator, is_worker, is_queue, is_actor}
-use Rattle.ref_base.specs.Refusals.{is_queue_or_none, has_slot, has_slots}
-use Rattle.ref_base.specs.CollectorRows.{with_handed, Gives, GivesAnewIf, IsBut, ticked, HeapAccepts, Accepts}
-use Rattle.ref_base.specs.CollectorRows.{AcceptsAsking, IsAnswer, IsRow, Loads, Gets, Unhooks, Holds, PutsInto, Puts}
-use Rattle.ref_base.specs.CollectorRows.{Polls, Closes, Scans, ClearsNext, HandsOn, Sweeps, looked, EndsMark}
-use Rattle.ref_base.specs.CollectorRows.{doomed_at, shown, without, list_at, begun_state}
-use Rattle.ref_base.specs.declared.fault.Fault.{Fault}
-use Rattle.ref_base.specs.declared.fault.Fault.TheVariants.{NoMemory}
-use Rattle.ref_base.specs.declared.cause.Cause.TheVariants.{Own, Cycle}
-use Rattle.ref_base.specs.declared.actor.Actor.{Actor}
-use Rattle.ref_base.specs.declared.actor.Actor.TheVariants.{Mutator, Worker}
-use Rattle.ref_base.specs.declared.urgency.Urgency.{Urgency}
-use Rattle.ref_base.specs.declared.phase.Phase.{Phase}
-use Rattle.ref_base.specs.declared.phase.Phase.TheVariants.{Idle, Marking, Clearing, Sweeping}
+use Rattle.ref_base.proofs.Common.{has, Object, plain_object, Heap, slot_at, with_slot, with_hold, without_hold}
+use Rattle.ref_base.proofs.Common.{one_more, one_fewer, registered_in, reference_at, got, nulls, new_reference, made}
+use Rattle.ref_base.proofs.Common.{cut, stored, was_put, HandNotices, with_held, held_after, World, Notice, Pending}
+use Rattle.ref_base.proofs.Common.{SameOthers, object_of, hand_of, queue_at, pending_of, with_heap, with_hand}
+use Rattle.ref_base.proofs.Common.{with_pending, NamedStep, hold_of, spending, handed, adopted, pended}
+use Rattle.ref_base.proofs.Common.{without_pending, handed_on, begun, with_phase, State, unless, refusal, heap_refusal}
+use Rattle.ref_base.proofs.Common.{is_in, is_mutator, is_worker, is_queue, is_actor, is_queue_or_none, has_slot}
+use Rattle.ref_base.proofs.Common.{has_slots, with_handed, Gives, GivesAnewIf, IsBut, ticked, HeapAccepts, Accepts}
+use Rattle.ref_base.proofs.Common.{AcceptsAsking, IsAnswer, IsRow, Loads, Gets, Unhooks, Holds, PutsInto, Puts, Polls}
+use Rattle.ref_base.proofs.Common.{Closes, Scans, ClearsNext, HandsOn, Sweeps, looked, EndsMark, doomed_at, shown}
+use Rattle.ref_base.proofs.Common.{without, list_at, begun_state, Fault, NoMemory, Own, Cycle, Actor, Mutator, Worker}
+use Rattle.ref_base.proofs.Common.{Urgency, Phase, Idle, Marking, Clearing, Sweeping, Step, Reply, Row}
 use Rattle.ref_base.specs.declared.heap_step.HeapStep.TheVariants as heap
-use Rattle.ref_base.specs.declared.step.Step.{Step}
 use Rattle.ref_base.specs.declared.step.Step.TheVariants as steps
-use Rattle.ref_base.specs.declared.reply.Reply.{Reply}
 use Rattle.ref_base.specs.declared.reply.Reply.TheVariants as replies
-use Rattle.ref_base.specs.declared.row.Row.{Row}
 use Rattle.ref_base.proofs.Places.{all_push}
 use Rattle.ref_base.proofs.SoundWorlds.{QueueBelow, ObjectBelow, PendingBelow, HasHand, IsSound, sound_rest, sound_stored}
 use Rattle.ref_base.proofs.SoundWorlds.{sound_cut, sound_got, sound_made, sound_shown, sound_swept, sound_pending}

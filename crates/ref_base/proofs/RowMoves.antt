@@ -2,18 +2,11 @@
 -- says in a mark that an object is left, one is.
 use Rattle.std.proofs.Common.{◌≡◌, ℕ, List, Option, Some, None, inl, inr, refl, sym, ap, ◌∙◌, subst}
 use Rattle.std.specs.Prelude.{slice_set}
-use Rattle.ref_base.specs.Heaps.{reference_at, registered_in}
-use Rattle.ref_base.specs.Worlds.{World, Pending, pending_of}
-use Rattle.ref_base.specs.HeapSteps.{NamedStep, heap_step}
-use Rattle.ref_base.specs.Replay.{pended, without_pending, after_queues}
-use Rattle.ref_base.specs.Collectors.{State}
-use Rattle.ref_base.specs.CollectorRows.{emptied, with_world, with_handed, HeapAccepts, IsRow}
-use Rattle.ref_base.specs.CountedHolds.{AreCounted}
-use Rattle.ref_base.specs.declared.fault.Fault.{Fault}
+use Rattle.ref_base.proofs.Common.{reference_at, registered_in, World, Pending, pending_of, NamedStep, heap_step}
+use Rattle.ref_base.proofs.Common.{pended, without_pending, after_queues, State, emptied, with_world, with_handed}
+use Rattle.ref_base.proofs.Common.{HeapAccepts, IsRow, AreCounted, Fault, Reply, Row}
 use Rattle.ref_base.specs.declared.heap_step.HeapStep.TheVariants as heap
-use Rattle.ref_base.specs.declared.reply.Reply.{Reply}
 use Rattle.ref_base.specs.declared.reply.Reply.TheVariants as replies
-use Rattle.ref_base.specs.declared.row.Row.{Row}
 use Rattle.ref_base.proofs.HeapMoves.{scanned_by, moved, IsNoEnd, heap_moves}
 use Rattle.ref_base.proofs.MovedParts.{mark_in, config_moved, pending_moved}
 use Rattle.ref_base.proofs.LeftObjects.{LeftMeans, left_kept, left_becomes, heap_left}

@@ -1,12 +1,8 @@
 -- What holds at first and is kept by each row holds after every legal trace.
 use Rattle.std.proofs.Common.{List, [], ◌∷◌, ◌++◌, refl, sym, subst, ◌≡◌}
 use Rattle.std.proofs.lemmas.List.{append-nil, append_assoc}
-use Rattle.ref_base.specs.Collectors.{State, first_state}
-use Rattle.ref_base.specs.CollectorRows.{IsRow, IsRun}
-use Rattle.ref_base.specs.Replay.{after, replayed_from}
-use Rattle.ref_base.specs.Worlds.{World}
-use Rattle.ref_base.specs.declared.config.Config.{Config}
-use Rattle.ref_base.specs.declared.row.Row.{Row}
+use Rattle.ref_base.proofs.Common.{State, first_state, IsRow, IsRun, after, World, Config, Row}
+use Rattle.ref_base.specs.Replay.{replayed_from}
 use Rattle.ref_base.proofs.RunLaws.{run_more}
 
 -- the replay goes on row by row

@@ -1,10 +1,6 @@
 -- A run of the abstract collector can be cut at any row, and goes on row by row.
 use Rattle.std.proofs.Common.{List, [], ◌∷◌, ◌++◌, refl, subst}
-use Rattle.ref_base.specs.Collectors.{State, first_state}
-use Rattle.ref_base.specs.CollectorRows.{IsRow, IsRun}
-use Rattle.ref_base.specs.LegalTraces.{IsLegal}
-use Rattle.ref_base.specs.declared.config.Config.{Config}
-use Rattle.ref_base.specs.declared.row.Row.{Row}
+use Rattle.ref_base.proofs.Common.{State, first_state, IsRow, IsRun, IsLegal, Config, Row}
 
 -- the rows in front lead to a state from which the others go on
 pub cut : (a : State) (front back : List Row) (b : State) → IsRun a (front ++ back) b

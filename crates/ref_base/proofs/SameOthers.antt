@@ -2,18 +2,11 @@
 use Rattle.std.proofs.Common.{◌≡◌, Bool, true, false, if◌then◌else◌, List, Option, Some, None}
 use Rattle.std.proofs.Common.{refl, sym, ap, ◌∙◌, subst}
 use Rattle.std.specs.Prelude.{slice_index_or, slice_set, is_some}
-use Rattle.ref_base.specs.Heaps.{Heap}
-use Rattle.ref_base.specs.Worlds.{World, Notice, SameOthers, hand_of, with_heap, with_hand}
-use Rattle.ref_base.specs.Told.{told_object, is_done, told_notice}
-use Rattle.ref_base.specs.HeapSteps.{NamedStep, taking, handed}
-use Rattle.ref_base.specs.Collectors.{State}
-use Rattle.ref_base.specs.CollectorRows.{HeapAccepts}
-use Rattle.ref_base.specs.declared.actor.Actor.{Actor}
-use Rattle.ref_base.specs.declared.actor.Actor.TheVariants.{Mutator, Worker}
+use Rattle.ref_base.proofs.Common.{Heap, World, Notice, SameOthers, hand_of, with_heap, with_hand, told_object}
+use Rattle.ref_base.proofs.Common.{is_done, told_notice, NamedStep, taking, handed, State, HeapAccepts, Actor, Mutator}
+use Rattle.ref_base.proofs.Common.{Worker, Step, Reply}
 use Rattle.ref_base.specs.declared.heap_step.HeapStep.TheVariants as heap
-use Rattle.ref_base.specs.declared.step.Step.{Step}
 use Rattle.ref_base.specs.declared.step.Step.TheVariants as steps
-use Rattle.ref_base.specs.declared.reply.Reply.{Reply}
 use Rattle.ref_base.proofs.RowLaws.{ticked_world, heap_keeps}
 
 -- ---- the same hands and queues

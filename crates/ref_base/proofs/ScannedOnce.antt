@@ -7,26 +7,15 @@ use Rattle.std.specs.Cmp.{nat_eq_equiv}
 use Rattle.std.proofs.lemmas.Bool.{cases_Bool, both_ways, or_right, or_left, eq-eqb, ltb-true, false≢true}
 use Rattle.std.proofs.lemmas.List.{length-set, length-replicate}
 use Rattle.std.proofs.lemmas.Map.Keys.{IsDistinct-push}
-use Rattle.ref_base.specs.Members.{has}
-use Rattle.ref_base.specs.Worlds.{Notice, hand_of}
-use Rattle.ref_base.specs.HeapSteps.{NamedStep, heap_step, spending}
-use Rattle.ref_base.specs.Collectors.{State, first_state, joined}
-use Rattle.ref_base.specs.Refusals.{unless, heap_refusal, refusal, is_in, is_worker}
-use Rattle.ref_base.specs.CollectorRows.{IsLeft, list_at, emptied, IsHeapAnswer, IsHeapRow, IsAnswer, IsRow}
-use Rattle.ref_base.specs.CollectorRows.{IsRun, AcceptsAsking}
-use Rattle.ref_base.specs.LegalTraces.{IsLegal}
-use Rattle.ref_base.specs.ScannedRows.{scanned_with, scanned_from, scanned_in_cycle}
-use Rattle.ref_base.specs.declared.config.Config.{Config}
-use Rattle.ref_base.specs.declared.actor.Actor.TheVariants.{Mutator}
-use Rattle.ref_base.specs.declared.fault.Fault.{Fault}
-use Rattle.ref_base.specs.declared.fault.Fault.TheVariants.{WrongPhase, GreyLeft}
-use Rattle.ref_base.specs.declared.phase.Phase.TheVariants.{Marking}
+use Rattle.ref_base.proofs.Common.{has, Notice, hand_of, NamedStep, heap_step, spending, State, first_state, joined}
+use Rattle.ref_base.proofs.Common.{unless, heap_refusal, refusal, is_in, is_worker, IsLeft, list_at, emptied}
+use Rattle.ref_base.proofs.Common.{IsHeapAnswer, IsHeapRow, IsAnswer, IsRow, IsRun, AcceptsAsking, IsLegal}
+use Rattle.ref_base.proofs.Common.{scanned_in_cycle, Config, Mutator, Fault, WrongPhase, GreyLeft, Marking, Step}
+use Rattle.ref_base.proofs.Common.{Reply, Row}
+use Rattle.ref_base.specs.ScannedRows.{scanned_with, scanned_from}
 use Rattle.ref_base.specs.declared.heap_step.HeapStep.TheVariants as heap
-use Rattle.ref_base.specs.declared.step.Step.{Step}
 use Rattle.ref_base.specs.declared.step.Step.TheVariants as steps
-use Rattle.ref_base.specs.declared.reply.Reply.{Reply}
 use Rattle.ref_base.specs.declared.reply.Reply.TheVariants as replies
-use Rattle.ref_base.specs.declared.row.Row.{Row}
 use Rattle.ref_base.proofs.HasLaws.{has-list_any, has-cases, has-single}
 use Rattle.ref_base.proofs.FoundLists.{has-with_last, length-emptied}
 use Rattle.ref_base.proofs.CountedTraces.{legal_counted}

@@ -6,10 +6,10 @@ use Rattle.std.proofs.Common.{Option, Some, None, ◌⊎◌, inl, inr, zero, suc
 use Rattle.std.proofs.lemmas.Bool.{cases_Bool, cases_lt, or_cases, or_left}
 use Rattle.std.proofs.lemmas.Bool.{or_right, true≢false, false≢true, eqb-true, eq-eqb}
 use Rattle.std.proofs.lemmas.List.{take_all, take-append-le, length-take}
-use Rattle.ref_base.specs.Members.{has}
-use Rattle.ref_base.specs.Graphs.{Graph, Object, Reference, object_at, is_there}
-use Rattle.ref_base.specs.Paths.{Allowed, targets_at, targets_of, present, allowed_referent}
-use Rattle.ref_base.specs.Searches.{with_reached, added_all, fields_of, searched_referents, unseen, ArePathEnds, IsSearched}
+use Rattle.ref_base.proofs.Common.{has, Graph, Object, Reference, object_at, is_there, Allowed, targets_at, targets_of}
+use Rattle.ref_base.proofs.Common.{present, allowed_referent, added_all, fields_of, searched_referents, ArePathEnds}
+use Rattle.ref_base.proofs.Common.{IsSearched}
+use Rattle.ref_base.specs.Searches.{with_reached, unseen}
 use Rattle.ref_base.proofs.HasLaws.{has-first, has-left, has-right, has-cases, has-single, has-get_or, has-take_at}
 use Rattle.ref_base.proofs.HasLaws.{has-take, has-take_more}
 use Rattle.ref_base.proofs.PathLaws.{ends-wider, fields-targets, root_ends, target_ends, path_within}

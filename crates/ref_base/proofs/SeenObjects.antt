@@ -3,13 +3,9 @@ use Rattle.std.proofs.Common.{◌≡◌, ℕ, Bool, true, false, ◌==◌, ◌||
 use Rattle.std.proofs.Common.{◌∙◌, arith, List, [], ◌∷◌, ◌++◌, map, Option, Some, None, inl, inr}
 use Rattle.std.proofs.lemmas.Bool.{cases_Bool, eqb-true, ne_eqb, true≢false, or_left, or_from}
 use Rattle.std.proofs.lemmas.List.{map-append}
-use Rattle.ref_base.specs.Members.{has}
-use Rattle.ref_base.specs.Graphs.{Object, object_at, numbers}
-use Rattle.ref_base.specs.Strengths.{IsRising}
-use Rattle.ref_base.specs.Heaps.{Heap, reference_in, registered_in, changed_at, changed_in, with_reference}
-use Rattle.ref_base.specs.Heaps.{cleared}
-use Rattle.ref_base.specs.CollectorRows.{without}
-use Rattle.ref_base.specs.AgreeingWorlds.{cleared_if, objects_under, heap_under}
+use Rattle.ref_base.proofs.Common.{has, Object, object_at, numbers, IsRising, Heap, reference_in, registered_in}
+use Rattle.ref_base.proofs.Common.{changed_at, changed_in, with_reference, cleared, without, cleared_if, objects_under}
+use Rattle.ref_base.proofs.Common.{heap_under}
 use Rattle.ref_base.proofs.HasLaws.{has-append}
 use Rattle.ref_base.proofs.NewClears.{IsRising-tail}
 use Rattle.ref_base.proofs.Reshaping.{KeepsShape, map-changed_at, at-reshaped, is_reference-cleared, queue-cleared}

@@ -3,13 +3,10 @@ use Rattle.std.proofs.Common.{◌≡◌, ℕ, true, false, ◌&&◌, not, ◌==�
 use Rattle.std.proofs.Common.{List, [], ◌∷◌, ◌++◌, map, length, Option, Some, None}
 use Rattle.std.specs.Prelude.{slice_index_or}
 use Rattle.std.proofs.lemmas.Bool.{cases_Bool, and_right, and_from, eqb-true}
-use Rattle.ref_base.specs.Members.{has}
-use Rattle.ref_base.specs.Graphs.{Object, Reference, object_at}
-use Rattle.ref_base.specs.Paths.{is_soft, is_phantom}
-use Rattle.ref_base.specs.DoomedSets.{any_is, refers_into, is_new_clear}
-use Rattle.ref_base.specs.Heaps.{Heap, reference_in, changed_at, with_field, changed_reference, with_reference}
-use Rattle.ref_base.specs.Heaps.{cleared, got_at}
-use Rattle.ref_base.specs.CollectorRows.{shown, field_of, field_in, referent_of, referent_got}
+use Rattle.ref_base.proofs.Common.{has, Object, Reference, object_at, is_soft, is_phantom, any_is, refers_into}
+use Rattle.ref_base.proofs.Common.{is_new_clear, Heap, reference_in, changed_at, with_field, changed_reference}
+use Rattle.ref_base.proofs.Common.{with_reference, cleared, got_at, shown, field_of, field_in, referent_of}
+use Rattle.ref_base.proofs.Common.{referent_got}
 use Rattle.ref_base.proofs.Reshaping.{KeepsShape, reshaped, at-reshaped, is_reference-cleared, queue-cleared}
 
 -- an object is shown with its number

@@ -6,20 +6,11 @@ use Rattle.std.specs.Prelude.{slice_index_or, replicate}
 use Rattle.std.specs.List.{AllByRecursion}
 use Rattle.std.proofs.lemmas.Bool.{cases_Bool}
 use Rattle.std.proofs.lemmas.List.{length-set, length-replicate}
-use Rattle.ref_base.specs.Members.{has}
-use Rattle.ref_base.specs.Graphs.{Object, Reference, object_at}
-use Rattle.ref_base.specs.Paths.{is_soft}
-use Rattle.ref_base.specs.DoomedSets.{refers_into}
-use Rattle.ref_base.specs.Heaps.{changed_at, changed_in, registered_in, reference_in, with_field, with_reference}
-use Rattle.ref_base.specs.Heaps.{changed_reference, cleared, got_at, reference_at}
-use Rattle.ref_base.specs.QueueLists.{Lists, new_queue}
-use Rattle.ref_base.specs.Worlds.{World, Notice, Pending, first_world, hand_of, queue_at, pending_of, with_heap, with_hand}
-use Rattle.ref_base.specs.Worlds.{with_queue, with_pending}
-use Rattle.ref_base.specs.Replay.{without_pending}
-use Rattle.ref_base.specs.CollectorRows.{shown, without, reference_of}
-use Rattle.ref_base.specs.declared.config.Config.{Config}
-use Rattle.ref_base.specs.declared.actor.Actor.{Actor}
-use Rattle.ref_base.specs.declared.actor.Actor.TheVariants.{Mutator, Worker}
+use Rattle.ref_base.proofs.Common.{has, Object, Reference, object_at, is_soft, refers_into, changed_at, changed_in}
+use Rattle.ref_base.proofs.Common.{registered_in, reference_in, with_field, with_reference, changed_reference, cleared}
+use Rattle.ref_base.proofs.Common.{got_at, reference_at, Lists, new_queue, World, Notice, Pending, first_world}
+use Rattle.ref_base.proofs.Common.{hand_of, queue_at, pending_of, with_heap, with_hand, with_queue, with_pending}
+use Rattle.ref_base.proofs.Common.{without_pending, shown, without, reference_of, Config, Actor, Mutator, Worker}
 use Rattle.ref_base.proofs.Places.{set_at, set_all, all_push}
 use Rattle.ref_base.proofs.QueueMoves.{length-new_queues, new_queues_at}
 

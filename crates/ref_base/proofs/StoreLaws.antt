@@ -13,10 +13,9 @@ use Rattle.std.specs.List.Sorted.{IsPermutation, IsSorted, IsStrictlyIncreasing}
 use Rattle.std.specs.Map.{keys_of, lookup}
 use Rattle.std.specs.Option.{option_map, option_copied}
 use Rattle.std.specs.Ordering.{nat_cmp}
-use Rattle.ref_base.specs.Graphs.{Object, object_at, is_there, with_object, numbers}
-use Rattle.ref_base.specs.GraphViews.{stored_object, objects_in, placed, linked_reference}
-use Rattle.ref_base.specs.Members.{has}
-use Rattle.ref_base.specs.Strengths.{IsRising}
+use Rattle.ref_base.proofs.Common.{Object, object_at, is_there, with_object, numbers, stored_object, objects_in}
+use Rattle.ref_base.proofs.Common.{linked_reference, has, IsRising}
+use Rattle.ref_base.specs.GraphViews.{placed}
 use Rattle.ref_base.specs.declared.stored.Stored.{Stored}
 use Rattle.ref_base.proofs.HasLaws.{has-first, has-list_any}
 

@@ -4,16 +4,15 @@ use Rattle.std.proofs.Common.{List, [], ◌∷◌, length, map, take, Option, So
 use Rattle.std.proofs.lemmas.Bool.{cases_Bool, true≢false, false≢true}
 use Rattle.std.proofs.lemmas.List.{take-take}
 use Rattle.std.specs.List.{AllByRecursion, position}
-use Rattle.ref_base.specs.Members.{has}
-use Rattle.ref_base.specs.Graphs.{Graph, Object, Reference, object_at, is_there, numbers}
-use Rattle.ref_base.specs.Paths.{Allowed, EndsPath, no_referents}
-use Rattle.ref_base.specs.Paths.{soft_referents, soft_and_weak_referents, if_any, is_phantom}
-use Rattle.ref_base.specs.Strengths.{HasStrength, HangsOnPhantom, IsPhantomObjectTo}
-use Rattle.ref_base.specs.Strengths.{IsPhantomReferenceTo, AreStrengths, IsRising}
-use Rattle.ref_base.specs.Searches.{ArePathEnds, AreSearched, found_reach, found_reaches, added_all}
-use Rattle.ref_base.specs.Searches.{phantom_referent, phantom_referent_at, phantom_referents}
-use Rattle.ref_base.specs.declared.reach.Reach.{Reach}
-use Rattle.ref_base.specs.declared.reach.Reach.TheVariants.{Strong, Soft, Weak, Phantom, Unreachable}
+use Rattle.ref_base.proofs.Common.{has, Graph, Object, Reference, object_at, is_there, numbers, Allowed, EndsPath}
+use Rattle.ref_base.proofs.Common.{no_referents, soft_referents, soft_and_weak_referents, if_any, is_phantom}
+use Rattle.ref_base.proofs.Common.{HasStrength, HangsOnPhantom, IsRising, ArePathEnds, added_all, phantom_referents}
+use Rattle.ref_base.proofs.Common.{Reach, Strong, Soft, Phantom, Unreachable}
+use Rattle.ref_base.specs.Strengths.{IsPhantomObjectTo}
+use Rattle.ref_base.specs.Strengths.{IsPhantomReferenceTo, AreStrengths}
+use Rattle.ref_base.specs.Searches.{AreSearched, found_reach, found_reaches}
+use Rattle.ref_base.specs.Searches.{phantom_referent, phantom_referent_at}
+use Rattle.ref_base.specs.declared.reach.Reach.TheVariants.{Weak}
 use Rattle.ref_base.specs.declared.reach.ObjectReach.{ObjectReach}
 use Rattle.ref_base.proofs.HasLaws.{has-cases, has-first, has-front, has-left, has-right, has-single, has-take}
 use Rattle.ref_base.proofs.HasLaws.{lacks-front, lacks-take}

@@ -2,7 +2,7 @@
 use Rattle.std.proofs.Common.{◌≡◌, ℕ, true, ◌==◌, List, [], ◌∷◌, ◌++◌, ◌⊎◌, inl, inr, refl, sym, ap, subst}
 use Rattle.std.proofs.lemmas.Bool.{cases_Bool, eq-eqb, both_ways}
 use Rattle.std.proofs.lemmas.List.{append-nil}
-use Rattle.ref_base.specs.CollectorRows.{is_subsequence}
+use Rattle.ref_base.proofs.Common.{is_subsequence}
 
 -- the one is what is left of the other where some entries are taken out
 abbrev pub Sub : List ℕ → List ℕ → Type 0

@@ -4,15 +4,9 @@ use Rattle.std.proofs.Common.{◌≡◌, ℕ, zero, suc, Bool, true, false, ◌=
 use Rattle.std.proofs.Common.{refl, sym, ap, ◌∙◌, subst, inl, inr, Option, arith}
 use Rattle.std.specs.Prelude.{slice_set}
 use Rattle.std.proofs.lemmas.Bool.{cases_Bool, eqb-true, eq-eqb, ne_eqb, true≢false, false≢true}
-use Rattle.ref_base.specs.Members.{has}
-use Rattle.ref_base.specs.Graphs.{Object, Reference, is_there, numbers}
-use Rattle.ref_base.specs.Strengths.{IsRising}
-use Rattle.ref_base.specs.DoomedSets.{is_new_clear, new_clears}
-use Rattle.ref_base.specs.Heaps.{with_reference, cleared, changed_at, reference_at}
-use Rattle.ref_base.specs.Collectors.{State, joined}
-use Rattle.ref_base.specs.CollectorRows.{shown, list_at, ClearsNext, looked_at, referent_of}
-use Rattle.ref_base.specs.AgreeingWorlds.{cleared_if}
-use Rattle.ref_base.specs.declared.reply.Reply.{Reply}
+use Rattle.ref_base.proofs.Common.{has, Object, Reference, is_there, numbers, IsRising, is_new_clear, new_clears}
+use Rattle.ref_base.proofs.Common.{with_reference, cleared, changed_at, reference_at, State, joined, shown, list_at}
+use Rattle.ref_base.proofs.Common.{ClearsNext, looked_at, referent_of, cleared_if, Reply}
 use Rattle.ref_base.specs.declared.reply.Reply.TheVariants as replies
 use Rattle.ref_base.proofs.HasLaws.{has-append}
 use Rattle.ref_base.proofs.ShownObjects.{cleared_twice}

@@ -3,30 +3,22 @@ use Rattle.std.proofs.Common.{◌≡◌, ℕ, Bool, true, false, List, [], ◌�
 use Rattle.std.proofs.Common.{inl, inr}
 use Rattle.std.specs.Prelude.{is_some, nat_lt, nat_le, length, not, ◌^◌, ◌-◌}
 use Rattle.std.proofs.lemmas.Bool.{cases_Bool, false≢true}
-use Rattle.ref_base.specs.Members.{has}
-use Rattle.ref_base.specs.Graphs.{Reference, object_at}
-use Rattle.ref_base.specs.Heaps.{Heap, slot_at, reference_at, registered_in}
-use Rattle.ref_base.specs.HeapSteps.{NamedStep, heap_step}
-use Rattle.ref_base.specs.Worlds.{Notice, Pending, hand_of, queue_at, pending_of}
-use Rattle.ref_base.specs.Collectors.{State, joined}
-use Rattle.ref_base.specs.Refusals.{unless, unless_empty, unless_full, has_slot, has_slots, is_queue_or_none, field_count}
-use Rattle.ref_base.specs.Refusals.{object_refusal, field_refusal, reference_refusal, holds_refusal, minting_refusal}
-use Rattle.ref_base.specs.Refusals.{unhook_refusal, hand_refusal, held_refusal, is_counted, is_worker, is_mutator, is_queue}
-use Rattle.ref_base.specs.Refusals.{is_actor, is_in, is_empty, empty_hand_refusal, heap_refusal, asked_refusal, refusal}
-use Rattle.ref_base.specs.CollectorRows.{GivesAnewIf, Loads, Gets, Unhooks, Holds, Polls, Closes, Scans, ClearsNext}
-use Rattle.ref_base.specs.CollectorRows.{HandsOn, Sweeps, field_in, reference_of, referent_got, referent_of, list_at}
-use Rattle.ref_base.specs.CollectorRows.{looked_at, value_reply, HeapAccepts, AcceptsAsking, IsAnswer, IsRow}
-use Rattle.ref_base.specs.declared.fault.Fault.{Fault}
-use Rattle.ref_base.specs.declared.fault.Fault.TheVariants.{NoMemory, NoSuchActor, BadQueue, BadField, NumbersSpent}
-use Rattle.ref_base.specs.declared.fault.Fault.TheVariants.{NoCell, NotAReference, WrongPhase, ClockBack, GreyLeft}
-use Rattle.ref_base.specs.declared.fault.Fault.TheVariants.{ClearingLeft, SweepLeft, ForeignHold}
+use Rattle.ref_base.proofs.Common.{has, Reference, object_at, Heap, slot_at, reference_at, registered_in, NamedStep}
+use Rattle.ref_base.proofs.Common.{heap_step, Notice, Pending, hand_of, queue_at, pending_of, State, joined, unless}
+use Rattle.ref_base.proofs.Common.{unless_empty, unless_full, has_slot, has_slots, is_queue_or_none, field_count}
+use Rattle.ref_base.proofs.Common.{object_refusal, field_refusal, reference_refusal, holds_refusal, minting_refusal}
+use Rattle.ref_base.proofs.Common.{unhook_refusal, hand_refusal, held_refusal, is_counted, is_worker, is_mutator}
+use Rattle.ref_base.proofs.Common.{is_queue, is_actor, is_in, is_empty, empty_hand_refusal, heap_refusal}
+use Rattle.ref_base.proofs.Common.{asked_refusal, refusal, GivesAnewIf, Loads, Gets, Unhooks, Holds, Polls, Closes}
+use Rattle.ref_base.proofs.Common.{Scans, ClearsNext, HandsOn, Sweeps, field_in, reference_of, referent_got}
+use Rattle.ref_base.proofs.Common.{referent_of, list_at, looked_at, value_reply, HeapAccepts, AcceptsAsking, IsAnswer}
+use Rattle.ref_base.proofs.Common.{IsRow, Fault, NoMemory, NoSuchActor, BadQueue, BadField, NumbersSpent, NoCell}
+use Rattle.ref_base.proofs.Common.{NotAReference, WrongPhase, GreyLeft, ForeignHold, Actor, Mutator, Worker, Idle}
+use Rattle.ref_base.proofs.Common.{Marking, Clearing, Sweeping, Reply, Step}
+use Rattle.ref_base.specs.declared.fault.Fault.TheVariants.{ClockBack}
+use Rattle.ref_base.specs.declared.fault.Fault.TheVariants.{ClearingLeft, SweepLeft}
 use Rattle.ref_base.specs.declared.heap_step.HeapStep.TheVariants as heap
-use Rattle.ref_base.specs.declared.actor.Actor.{Actor}
-use Rattle.ref_base.specs.declared.actor.Actor.TheVariants.{Mutator, Worker}
-use Rattle.ref_base.specs.declared.phase.Phase.TheVariants.{Idle, Marking, Clearing, Sweeping}
-use Rattle.ref_base.specs.declared.reply.Reply.{Reply}
 use Rattle.ref_base.specs.declared.reply.Reply.TheVariants as replies
-use Rattle.ref_base.specs.declared.step.Step.{Step}
 use Rattle.ref_base.specs.declared.step.Step.TheVariants as steps
 
 -- ---- no refusal is for want of memory

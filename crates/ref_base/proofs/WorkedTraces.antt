@@ -1,17 +1,12 @@
 -- Worked traces, as rows.
 use Rattle.std.specs.Prelude.{ℕ, List, [], ◌∷◌, Some}
-use Rattle.ref_base.specs.declared.config.Config.{Config}
-use Rattle.ref_base.specs.declared.strength.Strength.TheVariants.{Soft, Weak}
-use Rattle.ref_base.specs.declared.urgency.Urgency.TheVariants.{Normal}
-use Rattle.ref_base.specs.declared.cause.Cause.TheVariants.{Own, Cycle}
-use Rattle.ref_base.specs.declared.actor.Actor.TheVariants.{Mutator, Worker}
-use Rattle.ref_base.specs.declared.fault.Fault.TheVariants.{GreyLeft, HandEmpty, BadField, NoSuchActor, EmptySlot}
-use Rattle.ref_base.specs.declared.fault.Fault.TheVariants.{NotAReference, BadQueue, HandFull, WrongPhase}
-use Rattle.ref_base.specs.declared.step.Step.{Step}
+use Rattle.ref_base.proofs.Common.{Config, Weak, Normal, Own, Cycle, Mutator, Worker, GreyLeft, HandEmpty, BadField}
+use Rattle.ref_base.proofs.Common.{NoSuchActor, NotAReference, BadQueue, WrongPhase, Step, Reply, Row}
+use Rattle.ref_base.specs.declared.strength.Strength.TheVariants.{Soft}
+use Rattle.ref_base.specs.declared.fault.Fault.TheVariants.{EmptySlot}
+use Rattle.ref_base.specs.declared.fault.Fault.TheVariants.{HandFull}
 use Rattle.ref_base.specs.declared.step.Step.TheVariants as steps
-use Rattle.ref_base.specs.declared.reply.Reply.{Reply}
 use Rattle.ref_base.specs.declared.reply.Reply.TheVariants as replies
-use Rattle.ref_base.specs.declared.row.Row.{Row}
 
 abbrev pub row : Step → Reply → Row
 row step reply = record { step = step; reply = reply }

@@ -1,14 +1,9 @@
 -- What a begin leaves, by what its parts leave.
 use Rattle.std.proofs.Common.{◌≡◌, ℕ, ◌+◌, Option, Some, None, ap}
-use Rattle.ref_base.specs.Worlds.{pending_numbers}
-use Rattle.ref_base.specs.declared.fault.Fault.{Fault}
-use Rattle.ref_base.specs.declared.urgency.Urgency.{Urgency}
+use Rattle.ref_clear.proofs.Common.{pending_numbers, Fault, Urgency, CycleHeap, cycle_begun, shaded_all}
+use Rattle.ref_clear.proofs.Common.{unless_refused, ClearHeap, with_mark, begun_with, refusal_in, answer_in, after_in}
 use Rattle.ref_base.specs.declared.heap_step.HeapStep.TheVariants as heap
 use Rattle.ref_base.specs.declared.reply.Reply.TheVariants as replies
-use Rattle.ref_mark.specs.CycleHeaps.{CycleHeap, cycle_begun, shaded_all}
-use Rattle.ref_mark.specs.MarkCalls.{unless_refused}
-use Rattle.ref_clear.specs.ClearHeaps.{ClearHeap, with_mark, begun_with}
-use Rattle.ref_clear.specs.ClearCalls.{refusal_in, answer_in, after_in}
 
 module _ (c : ClearHeap) (now : ℕ) (how : Urgency) (j : CycleHeap) where
   refused_by : (refused : Option Fault) (fault : Fault)

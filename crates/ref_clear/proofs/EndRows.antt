@@ -1,30 +1,19 @@
 -- The ends of the clearing and of the sweep: nothing found is left, and then nothing doomed.
 use Rattle.std.proofs.Common.{◌≡◌, ℕ, true, false, refl, sym, ap, subst, ◌∙◌, List, [], ◌∷◌, map, None}
 use Rattle.std.proofs.lemmas.Bool.{false≢true, false_from_ne_true}
-use Rattle.ref_base.specs.Members.{has}
-use Rattle.ref_base.specs.DoomedSets.{refers_into}
-use Rattle.ref_base.specs.Heaps.{Heap, reference_at}
-use Rattle.ref_base.specs.Worlds.{graph_of}
+use Rattle.ref_clear.proofs.Common.{has, refers_into, Heap, reference_at, graph_of, is_in, is_empty, unless, State}
+use Rattle.ref_clear.proofs.Common.{joined, HeapAccepts, with_world, shown, heap_but, WrongPhase, ClearingLeft}
+use Rattle.ref_clear.proofs.Common.{SweepLeft, Idle, Clearing, Sweeping, unmarked, CycleHeap, is_white, doomed}
+use Rattle.ref_clear.proofs.Common.{cycle_in_phase, MarkStands, FactsBut, shown_heap, ClearHeap, with_mark, refusal_in}
+use Rattle.ref_clear.proofs.Common.{HeapStands}
 use Rattle.ref_base.specs.Replay.{with_phase as world_with_phase}
-use Rattle.ref_base.specs.Refusals.{is_in, is_empty, unless}
-use Rattle.ref_base.specs.Collectors.{State, joined}
-use Rattle.ref_base.specs.CollectorRows.{HeapAccepts, with_world, shown}
-use Rattle.ref_base.specs.Forgetting.{heap_but}
-use Rattle.ref_base.specs.declared.fault.Fault.TheVariants.{WrongPhase, ClearingLeft, SweepLeft}
 use Rattle.ref_base.specs.declared.phase.Phase.{Phase}
-use Rattle.ref_base.specs.declared.phase.Phase.TheVariants.{Idle, Clearing, Sweeping}
 use Rattle.ref_base.specs.declared.heap_step.HeapStep.TheVariants as heap
 use Rattle.ref_base.specs.declared.reply.Reply.TheVariants as replies
 use Rattle.ref_base.proofs.Forgetting.{heap_but-none}
 use Rattle.ref_base.proofs.RowForms.{unless_parts}
-use Rattle.ref_objects.specs.Grounds.{unmarked}
-use Rattle.ref_mark.specs.CycleHeaps.{CycleHeap, is_white, doomed, cycle_in_phase}
-use Rattle.ref_mark.specs.Standing.{MarkStands, FactsBut, shown_heap}
 use Rattle.ref_mark.proofs.DoomedLists.{has-unmarked}
-use Rattle.ref_clear.specs.ClearHeaps.{ClearHeap, with_mark}
 use Rattle.ref_mark.proofs.Passed.{is_clearing, is_sweeping}
-use Rattle.ref_clear.specs.ClearCalls.{refusal_in}
-use Rattle.ref_clear.specs.Standing.{HeapStands}
 use Rattle.ref_clear.proofs.SweepLoops.{doomed-sweeping}
 
 -- ---- what a step that isn't refused has passed

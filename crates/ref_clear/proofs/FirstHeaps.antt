@@ -3,16 +3,11 @@ use Rattle.std.proofs.Common.{◌≡◌, ℕ, zero, suc, List, [], ◌∷◌, re
 use Rattle.std.proofs.Common.{arith}
 use Rattle.std.proofs.lemmas.Bool.{false≢true}
 use Rattle.std.proofs.lemmas.List.{length-replicate}
-use Rattle.ref_base.specs.Members.{has, AreDistinct}
-use Rattle.ref_base.specs.Worlds.{Pending, pending_numbers}
-use Rattle.ref_base.specs.Collectors.{State}
-use Rattle.ref_base.specs.declared.config.Config.{Config}
-use Rattle.ref_mark.specs.CycleHeaps.{CycleHeap, first_cycle_heap}
-use Rattle.ref_mark.specs.MarkRows.{starting_state}
-use Rattle.ref_mark.specs.Standing.{MarkStands}
-use Rattle.ref_clear.specs.ClearHeaps.{ClearHeap, first_clear_heap}
-use Rattle.ref_clear.specs.ClearViews.{PendingList, empty_pending, pending_lists_of, seen_heap, HaveRoom, IsSoundHeap}
-use Rattle.ref_clear.specs.Standing.{HeapStands}
+use Rattle.ref_clear.proofs.Common.{has, AreDistinct, Pending, pending_numbers, State, Config, CycleHeap}
+use Rattle.ref_clear.proofs.Common.{starting_state, MarkStands, ClearHeap, PendingList, empty_pending}
+use Rattle.ref_clear.proofs.Common.{pending_lists_of, seen_heap, HaveRoom, IsSoundHeap, HeapStands}
+use Rattle.ref_mark.specs.CycleHeaps.{first_cycle_heap}
+use Rattle.ref_clear.specs.ClearHeaps.{first_clear_heap}
 
 lists_of-replicate : (count room : ℕ) → pending_lists_of (replicate count (empty_pending room)) ≡ replicate count []
 lists_of-replicate zero room = refl

@@ -1,20 +1,12 @@
 -- What workers found is there and isn't doomed, and once a sweep has begun nothing that stays refers to the doomed.
 use Rattle.std.proofs.Common.{◌≡◌, ℕ, true, false, not, ◌&&◌, refl, sym, ap, ◌∙◌}
 use Rattle.std.proofs.lemmas.Bool.{and_parts, and_right, or_right, true≢false, false_from_ne_true}
-use Rattle.ref_base.specs.Members.{has}
-use Rattle.ref_base.specs.Graphs.{is_there}
-use Rattle.ref_base.specs.DoomedSets.{refers_into}
-use Rattle.ref_base.specs.Heaps.{reference_at}
-use Rattle.ref_base.specs.Refusals.{is_in}
-use Rattle.ref_base.specs.Collectors.{State, joined}
-use Rattle.ref_base.specs.declared.phase.Phase.TheVariants.{Clearing, Sweeping}
+use Rattle.ref_clear.proofs.Common.{has, is_there, refers_into, reference_at, is_in, State, joined, Clearing, Sweeping}
+use Rattle.ref_clear.proofs.Common.{CycleHeap, is_white, is_black, is_past_mark, is_doomed, ClearHeap, HeapStands}
 use Rattle.ref_base.proofs.NewClears.{refers_into-same}
-use Rattle.ref_mark.specs.CycleHeaps.{CycleHeap, is_white, is_black, is_past_mark, is_doomed}
 use Rattle.ref_mark.proofs.DoomedLists.{past_is_in_cycle, past_is_not_marking}
 use Rattle.ref_mark.proofs.Moves.{referring_is_there}
 use Rattle.ref_mark.proofs.RootFacts.{not_white_is_black}
-use Rattle.ref_clear.specs.ClearHeaps.{ClearHeap}
-use Rattle.ref_clear.specs.Standing.{HeapStands}
 
 -- what is black is there, and isn't white
 pub black_parts : (k : CycleHeap) (n : ℕ) → is_black k n ≡ true

@@ -2,22 +2,14 @@
 use Rattle.std.proofs.Common.{◌≡◌, ℕ, ◌<◌, true, refl, sym, ap, ◌∙◌}
 use Rattle.std.proofs.Common.{List, [], ◌∷◌, set, Some, None}
 use Rattle.std.proofs.lemmas.Bool.{lt-ltb}
-use Rattle.ref_base.specs.Members.{has}
-use Rattle.ref_base.specs.Worlds.{Pending, pending_numbers}
-use Rattle.ref_base.specs.Refusals.{is_worker, hand_refusal}
-use Rattle.ref_base.specs.declared.cause.Cause.TheVariants.{Cycle}
-use Rattle.ref_base.specs.declared.fault.Fault.{Fault}
+use Rattle.ref_clear.proofs.Common.{has, Pending, pending_numbers, is_worker, hand_refusal, Cycle, Fault, mint_refusal}
+use Rattle.ref_clear.proofs.Common.{CycleHeap, mint_answer_in, after_mint_in, ground_of, pending_at, holding}
+use Rattle.ref_clear.proofs.Common.{handed_from, refusal_in, answer_in, after_in, answer_of_hand, PendingList}
+use Rattle.ref_clear.proofs.Common.{pending_lists_of, seen_heap, IsSoundHeap, pending_from, without_first_pending}
 use Rattle.ref_base.specs.declared.heap_step.HeapStep.TheVariants as heap
 use Rattle.ref_base.specs.declared.reply.Reply.TheVariants as replies
 use Rattle.ref_base.proofs.HasLaws.{has-first, has-right}
-use Rattle.ref_objects.specs.Grounds.{mint_refusal}
-use Rattle.ref_mark.specs.CycleHeaps.{CycleHeap}
-use Rattle.ref_mark.specs.MarkCalls.{mint_answer_in, after_mint_in}
-use Rattle.ref_mark.specs.MarkViews.{ground_of}
-use Rattle.ref_clear.specs.ClearHeaps.{pending_at, holding, handed_from}
-use Rattle.ref_clear.specs.ClearCalls.{refusal_in, answer_in, after_in, answer_of_hand}
-use Rattle.ref_clear.specs.ClearViews.{PendingList, pending_lists_of, seen_heap, IsSoundHeap, first_pending, rest_pending, pending_from}
-use Rattle.ref_clear.specs.ClearViews.{without_first_pending}
+use Rattle.ref_clear.specs.ClearViews.{first_pending, rest_pending}
 use Rattle.ref_clear.proofs.HandRows.{pending_numbers-rest}
 use Rattle.ref_clear.proofs.NoticeAnswers.{mint_of_pending, mint_refused, minted}
 use Rattle.ref_clear.proofs.PendingLists.{lists_of-set}

@@ -4,13 +4,12 @@ use Rattle.std.proofs.Common.{List, [], ◌∷◌, ◌++◌, map, None, inl, inr
 use Rattle.std.specs.Prelude.{slice_index_or, slice_set}
 use Rattle.std.proofs.lemmas.Bool.{or_right, true≢false, false_from_ne_true, eq-eqb}
 use Rattle.std.proofs.lemmas.List.{length-set}
-use Rattle.ref_base.specs.Members.{has, AreDistinct}
-use Rattle.ref_base.specs.Paths.{present}
-use Rattle.ref_base.specs.Heaps.{Heap, one_more, with_hold}
-use Rattle.ref_base.specs.Worlds.{World, Pending, pending_numbers, pending_of, with_pending}
-use Rattle.ref_base.specs.Replay.{without_pending, handed_on}
-use Rattle.ref_base.specs.Collectors.{State}
-use Rattle.ref_base.specs.CollectorRows.{ticked, with_world, HandsOn, HeapAccepts}
+use Rattle.ref_clear.proofs.Common.{has, AreDistinct, present, Heap, one_more, with_hold, World, Pending}
+use Rattle.ref_clear.proofs.Common.{pending_numbers, pending_of, handed_on, State, ticked, with_world, HandsOn}
+use Rattle.ref_clear.proofs.Common.{HeapAccepts, ClearHeap, pending_at, handed_from, refusal_in, answer_of_hand}
+use Rattle.ref_clear.proofs.Common.{HeapStands}
+use Rattle.ref_base.specs.Worlds.{with_pending}
+use Rattle.ref_base.specs.Replay.{without_pending}
 use Rattle.ref_base.specs.declared.heap_step.HeapStep.TheVariants as heap
 use Rattle.ref_base.proofs.HasLaws.{has-first, has-left, has-right, has-cases}
 use Rattle.ref_base.proofs.RowLaws.{ticked_world}
@@ -19,9 +18,6 @@ use Rattle.ref_mark.proofs.MovedStates.{moved_beside}
 use Rattle.ref_mark.proofs.MoveKinds.{rooted, rooted_move}
 use Rattle.ref_mark.proofs.RootFacts.{root_is_there, root_is_not_white}
 use Rattle.ref_mark.proofs.ReferenceRows.{unmoved_stands}
-use Rattle.ref_clear.specs.ClearHeaps.{ClearHeap, pending_at, handed_from}
-use Rattle.ref_clear.specs.ClearCalls.{refusal_in, answer_of_hand}
-use Rattle.ref_clear.specs.Standing.{HeapStands}
 use Rattle.ref_clear.proofs.PendingFacts.{root_before, pending_is_root}
 
 -- ---- lists of which one is without its first

@@ -2,31 +2,22 @@
 use Rattle.std.proofs.Common.{◌≡◌, ℕ, true, false, List, [], Option, Some, None, refl, sym, ap, subst, ◌∙◌}
 use Rattle.std.proofs.Common.{inl, inr}
 use Rattle.std.proofs.lemmas.Bool.{cases_Bool}
-use Rattle.ref_base.specs.Heaps.{Heap, slot_at}
-use Rattle.ref_base.specs.HeapSteps.{NamedStep}
-use Rattle.ref_base.specs.Worlds.{Pending, pending_numbers}
-use Rattle.ref_base.specs.Collectors.{State, joined}
-use Rattle.ref_base.specs.Refusals.{unless, is_in, is_empty, is_worker, hand_refusal, work_refusal, heap_refusal}
-use Rattle.ref_base.specs.CollectorRows.{HeapAccepts, IsHeapRow, list_at}
-use Rattle.ref_base.specs.declared.fault.Fault.{Fault}
-use Rattle.ref_base.specs.declared.fault.Fault.TheVariants.{NoSuchActor, WrongPhase, ClearingLeft, SweepLeft}
-use Rattle.ref_base.specs.declared.phase.Phase.TheVariants.{Idle, Clearing, Sweeping}
-use Rattle.ref_base.specs.declared.urgency.Urgency.{Urgency}
+use Rattle.ref_clear.proofs.Common.{Heap, slot_at, NamedStep, Pending, pending_numbers, State, joined, unless, is_in}
+use Rattle.ref_clear.proofs.Common.{is_empty, is_worker, hand_refusal, work_refusal, heap_refusal, HeapAccepts}
+use Rattle.ref_clear.proofs.Common.{IsHeapRow, list_at, Fault, NoSuchActor, WrongPhase, ClearingLeft, SweepLeft, Idle}
+use Rattle.ref_clear.proofs.Common.{Clearing, Sweeping, Urgency, Reply, CycleHeap, cycle_begun, doomed, shaded_all}
+use Rattle.ref_clear.proofs.Common.{cycle_in_phase, is_of_marking, unless_refused, MarkStands, ClearHeap, with_mark}
+use Rattle.ref_clear.proofs.Common.{pending_at, begun_with, looked_from, handed_from, unhooked, swept_some, refusal_in}
+use Rattle.ref_clear.proofs.Common.{answer_of_look, answer_of_hand, answer_of_unhook, answer_of_sweep, queue_in}
+use Rattle.ref_clear.proofs.Common.{HeapStands}
 use Rattle.ref_base.specs.declared.heap_step.HeapStep.TheVariants as heap
-use Rattle.ref_base.specs.declared.reply.Reply.{Reply}
 use Rattle.ref_base.specs.declared.reply.Reply.TheVariants as replies
 use Rattle.ref_base.proofs.RowForms.{accepted_row, refused_row}
-use Rattle.ref_mark.specs.CycleHeaps.{CycleHeap, cycle_begun, doomed, shaded_all, cycle_in_phase}
 use Rattle.ref_mark.specs.MarkCalls as marks
-use Rattle.ref_mark.specs.MarkCalls.{is_of_marking, late_roots, unless_refused}
-use Rattle.ref_mark.specs.Standing.{MarkStands}
+use Rattle.ref_mark.specs.MarkCalls.{late_roots}
 use Rattle.ref_mark.proofs.MarkLaws.{each_step as each_marking_step, on_own_heap}
-use Rattle.ref_clear.specs.ClearHeaps.{ClearHeap, with_mark, pending_at, begun_with, looked_from, handed_from, unhooked}
-use Rattle.ref_clear.specs.ClearHeaps.{swept_some}
-use Rattle.ref_clear.specs.ClearCalls.{refusal_in, reply_or_fault, left, answer_of_look, answer_of_hand, answer_of_unhook}
-use Rattle.ref_clear.specs.ClearCalls.{answer_of_sweep, queue_in}
+use Rattle.ref_clear.specs.ClearCalls.{reply_or_fault, left}
 use Rattle.ref_clear.specs.ClearRows.{IsHeapRowOf}
-use Rattle.ref_clear.specs.Standing.{HeapStands}
 use Rattle.ref_clear.proofs.KeptRows.{row_keeps}
 use Rattle.ref_clear.proofs.StaysCleared.{after_stays, begun-heap, same_objects}
 use Rattle.ref_clear.proofs.PendingFacts.{waiting_still}

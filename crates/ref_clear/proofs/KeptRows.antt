@@ -4,29 +4,21 @@ use Rattle.std.proofs.Common.{◌≡◌, ℕ, ◌+◌, Bool, true, false, List, 
 use Rattle.std.proofs.Common.{refl, sym, ap, subst, ◌∙◌, inl, inr}
 use Rattle.std.specs.Prelude.{slice_set}
 use Rattle.std.proofs.lemmas.Bool.{cases_Bool, false≢true}
-use Rattle.ref_base.specs.Graphs.{Object, plain_object}
-use Rattle.ref_base.specs.Heaps.{Heap, slot_at, with_slot, with_hold, without_hold, with_field, made, got}
-use Rattle.ref_base.specs.Heaps.{cut, stored, with_reference, got_at, cleared, nulls, new_reference}
-use Rattle.ref_base.specs.Heaps.{reference_at, registered_in}
-use Rattle.ref_base.specs.Members.{has}
-use Rattle.ref_base.specs.Worlds.{World, Pending, with_heap, pending_of}
-use Rattle.ref_base.specs.Replay.{adopted, begun, pended, handed_on, with_phase}
-use Rattle.ref_base.specs.CollectorRows.{with_world, Unhooks, HandsOn, ClearsNext, looked, looked_at}
-use Rattle.ref_base.specs.declared.cause.Cause.TheVariants.{Own, Cycle}
+use Rattle.ref_clear.proofs.Common.{Object, plain_object, Heap, slot_at, with_hold, with_field, made, got, cut, stored}
+use Rattle.ref_clear.proofs.Common.{with_reference, got_at, cleared, nulls, new_reference, reference_at, registered_in}
+use Rattle.ref_clear.proofs.Common.{has, World, Pending, with_heap, pending_of, handed_on, with_world, Unhooks}
+use Rattle.ref_clear.proofs.Common.{HandsOn, ClearsNext, Own, Cycle, NamedStep, State, is_in, heap_refusal, ticked}
+use Rattle.ref_clear.proofs.Common.{on_heap, HeapAccepts, IsHeapRow, field_in, reference_of, referent_of, list_at}
+use Rattle.ref_clear.proofs.Common.{Urgency, Fault, Idle, Sweeping, Marking, Reply, is_of_marking}
+use Rattle.ref_base.specs.Heaps.{with_slot, without_hold}
+use Rattle.ref_base.specs.Replay.{adopted, begun, pended, with_phase}
+use Rattle.ref_base.specs.CollectorRows.{looked, looked_at}
 use Rattle.ref_base.proofs.RowLaws.{ticked_world}
-use Rattle.ref_base.specs.HeapSteps.{NamedStep}
-use Rattle.ref_base.specs.Collectors.{State}
-use Rattle.ref_base.specs.Refusals.{is_in, heap_refusal}
-use Rattle.ref_base.specs.CollectorRows.{Gives, GivesAnewIf, IsBut, ticked, on_heap, HeapAccepts, IsHeapAnswer}
-use Rattle.ref_base.specs.CollectorRows.{IsHeapRow, Loads, Gets, Holds, Scans, Makes, field_in, referent_got, reference_of}
-use Rattle.ref_base.specs.CollectorRows.{referent_of, is_same, value_reply, list_at, begun_state, mark_ended, doomed_at}
-use Rattle.ref_base.specs.declared.urgency.Urgency.{Urgency}
-use Rattle.ref_base.specs.declared.fault.Fault.{Fault}
-use Rattle.ref_base.specs.declared.phase.Phase.TheVariants.{Idle, Sweeping, Marking}
+use Rattle.ref_base.specs.CollectorRows.{Gives, GivesAnewIf, IsBut, IsHeapAnswer}
+use Rattle.ref_base.specs.CollectorRows.{Loads, Gets, Holds, Scans, Makes, referent_got}
+use Rattle.ref_base.specs.CollectorRows.{is_same, value_reply, begun_state, mark_ended, doomed_at}
 use Rattle.ref_base.specs.declared.heap_step.HeapStep.TheVariants as heap
-use Rattle.ref_base.specs.declared.reply.Reply.{Reply}
 use Rattle.ref_base.specs.declared.reply.Reply.TheVariants as replies
-use Rattle.ref_mark.specs.MarkCalls.{is_of_marking}
 use Rattle.ref_clear.proofs.StaysCleared.{config-changed_in}
 
 -- the one state has the other's configuration, and if it is in a sweep, so is the other, with the same doomed

@@ -1,3 +1,4 @@
+pub mod Common
 pub mod StaysCleared
 pub mod PendingFacts
 pub mod FoundFacts

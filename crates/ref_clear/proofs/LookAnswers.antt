@@ -2,25 +2,17 @@
 use Rattle.std.proofs.Common.{◌≡◌, ℕ, ◌<◌, ◌≤◌, Bool, true, false, refl, sym, ap, subst, ◌∙◌, arith}
 use Rattle.std.proofs.Common.{List, [], ◌∷◌, ◌++◌, length, get_or, set, Option, Some, None}
 use Rattle.std.proofs.lemmas.List.{set-get_or}
-use Rattle.ref_base.specs.Graphs.{Reference, is_there}
-use Rattle.ref_base.specs.Heaps.{reference_at, registered_in}
-use Rattle.ref_base.specs.DoomedSets.{any_is, refers_into}
-use Rattle.ref_base.specs.Worlds.{Pending}
-use Rattle.ref_base.specs.CollectorRows.{list_at}
-use Rattle.ref_base.specs.Refusals.{work_refusal}
-use Rattle.ref_base.specs.declared.phase.Phase.TheVariants.{Clearing}
+use Rattle.ref_clear.proofs.Common.{Reference, is_there, reference_at, registered_in, any_is, refers_into, Pending}
+use Rattle.ref_clear.proofs.Common.{list_at, work_refusal, Clearing, Ground, CycleHeap, is_doomed, with_found_taken}
+use Rattle.ref_clear.proofs.Common.{unless_refused, ground_of, first_in, rest_of, ClearHeap, with_mark, pending_at}
+use Rattle.ref_clear.proofs.Common.{is_to_clear, cut_at, heap_pended, looked_from, after_in, PendingList, seen_heap}
+use Rattle.ref_clear.proofs.Common.{IsSoundHeap}
 use Rattle.ref_base.specs.declared.heap_step.HeapStep.TheVariants as heap
-use Rattle.ref_objects.specs.Grounds.{Ground, IsWellFormed}
-use Rattle.ref_mark.specs.CycleHeaps.{CycleHeap, is_doomed, with_found_taken}
-use Rattle.ref_mark.specs.MarkCalls.{unless_refused}
-use Rattle.ref_mark.specs.MarkViews.{ground_of}
-use Rattle.ref_mark.specs.Worklists.{first_in, rest_of}
+use Rattle.ref_objects.specs.Grounds.{IsWellFormed}
 use Rattle.ref_mark.proofs.Moves.{referring_is_there}
 use Rattle.ref_mark.proofs.Passed.{work_passed}
-use Rattle.ref_clear.specs.ClearHeaps.{ClearHeap, with_mark, pending_at, is_to_clear, cut_at, heap_pended}
-use Rattle.ref_clear.specs.ClearHeaps.{heap_looked_at, looked_from}
-use Rattle.ref_clear.specs.ClearCalls.{after_in}
-use Rattle.ref_clear.specs.ClearViews.{PendingList, with_last_pending, seen_heap, IsSoundHeap}
+use Rattle.ref_clear.specs.ClearHeaps.{heap_looked_at}
+use Rattle.ref_clear.specs.ClearViews.{with_last_pending}
 use Rattle.ref_clear.proofs.PendingLists.{length-lists_of, lists_of-set, pending_at-seen, room_at, HaveRoom-set}
 use Rattle.ref_clear.proofs.PendingRoom.{pending_has_room}
 use Rattle.ref_clear.proofs.SoundHeaps.{sound_after}

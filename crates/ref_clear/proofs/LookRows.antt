@@ -3,19 +3,15 @@ use Rattle.std.proofs.Common.{◌≡◌, ℕ, ◌<◌, true, false, if◌then◌
 use Rattle.std.proofs.Common.{List, [], ◌∷◌, length, Some, None, is_some, ◌⊎◌, inl, inr}
 use Rattle.std.specs.Prelude.{slice_set}
 use Rattle.std.proofs.lemmas.Bool.{cases_Bool, or_left}
-use Rattle.ref_base.specs.Members.{has}
-use Rattle.ref_base.specs.Graphs.{Object, object_at}
-use Rattle.ref_base.specs.Paths.{present}
-use Rattle.ref_base.specs.DoomedSets.{refers_into}
-use Rattle.ref_base.specs.Heaps.{Heap, reference_in, reference_at, registered_in, with_changed}
-use Rattle.ref_base.specs.Heaps.{changed_reference, with_reference, cleared}
-use Rattle.ref_base.specs.Worlds.{pending_numbers}
+use Rattle.ref_clear.proofs.Common.{has, Object, object_at, present, refers_into, Heap, reference_in, reference_at}
+use Rattle.ref_clear.proofs.Common.{registered_in, with_changed, changed_reference, with_reference, cleared}
+use Rattle.ref_clear.proofs.Common.{pending_numbers, State, joined, is_in, HeapAccepts, ClearsNext, ticked, list_at}
+use Rattle.ref_clear.proofs.Common.{reference_of, referent_of, Marking, Clearing, Sweeping, CycleHeap, is_white}
+use Rattle.ref_clear.proofs.Common.{is_past_mark, is_doomed, doomed, with_found_taken, rest_of, unsaid, shown_heap}
+use Rattle.ref_clear.proofs.Common.{ClearHeap, is_to_clear, cut_at, looked_from, refusal_in, answer_of_look}
+use Rattle.ref_clear.proofs.Common.{HeapStands}
 use Rattle.ref_base.specs.Replay.{pended as world_pended}
-use Rattle.ref_base.specs.Collectors.{State, joined}
-use Rattle.ref_base.specs.Refusals.{is_in}
-use Rattle.ref_base.specs.CollectorRows.{HeapAccepts, ClearsNext, ticked, list_at, reference_of, referent_of}
 use Rattle.ref_base.specs.CollectorRows.{looked_at as state_answer, looked as state_looked}
-use Rattle.ref_base.specs.declared.phase.Phase.TheVariants.{Marking, Clearing, Sweeping}
 use Rattle.ref_base.specs.declared.heap_step.HeapStep.TheVariants as heap
 use Rattle.ref_base.specs.declared.reply.Reply.TheVariants as replies
 use Rattle.ref_base.proofs.Forgetting.{reference_of-but}
@@ -23,18 +19,12 @@ use Rattle.ref_base.proofs.Lookups.{lookup-changed}
 use Rattle.ref_base.proofs.NewClears.{refers_into-same}
 use Rattle.ref_base.proofs.Reshaping.{queue-cleared}
 use Rattle.ref_base.proofs.ShownObjects.{shown_reference, shown-cleared}
-use Rattle.ref_mark.specs.CycleHeaps.{CycleHeap, is_white, is_past_mark, is_doomed, doomed, with_found_taken}
-use Rattle.ref_mark.specs.Worklists.{rest_of}
-use Rattle.ref_mark.specs.Standing.{unsaid, shown_heap}
 use Rattle.ref_mark.proofs.DoomedLists.{has-doomed}
 use Rattle.ref_mark.proofs.MovedStates.{ticked_other}
 use Rattle.ref_mark.proofs.Passed.{work_passed}
 use Rattle.ref_mark.proofs.ShownHeaps.{shown_heap-changed_in, cut-shown}
 use Rattle.ref_mark.proofs.ShownReads.{reference_of-shown}
 use Rattle.ref_mark.proofs.Passed.{is_clearing}
-use Rattle.ref_clear.specs.ClearHeaps.{ClearHeap, is_to_clear, cut_at, looked_from}
-use Rattle.ref_clear.specs.ClearCalls.{refusal_in, answer_of_look}
-use Rattle.ref_clear.specs.Standing.{HeapStands}
 use Rattle.ref_clear.proofs.FoundFacts.{black_parts, past_refers}
 use Rattle.ref_clear.proofs.PendingRoom.{cleared_refers_to_none, to_clear_is_not_pending}
 use Rattle.ref_clear.proofs.TakenLists.{has-first_taken, pended_lists, length-pended, has-pended, AreDistinct-pended}

@@ -4,23 +4,17 @@ use Rattle.std.proofs.Common.{List, [], ◌∷◌, ◌++◌, Option, Some, None,
 use Rattle.std.specs.Prelude.{slice_set}
 use Rattle.std.proofs.lemmas.Bool.{cases_Bool, or_cases, or_left, or_right, eqb-true, false≢true, true≢false}
 use Rattle.std.proofs.lemmas.List.{length-set}
-use Rattle.ref_base.specs.Members.{has}
-use Rattle.ref_base.specs.Graphs.{Object, Reference, object_at, is_there}
-use Rattle.ref_base.specs.Paths.{Allowed, present, allowed_referent, targets_of, targets_at, soft_and_weak_referents}
-use Rattle.ref_base.specs.Strengths.{IsRising}
-use Rattle.ref_base.specs.KeptPaths.{is_kept}
-use Rattle.ref_base.specs.DoomedSets.{refers_into}
-use Rattle.ref_base.specs.Heaps.{reference_in, reference_at, changed_at, with_changed, changed_reference, cleared}
-use Rattle.ref_base.specs.Worlds.{Pending, graph_of, pending_numbers}
-use Rattle.ref_base.specs.Collectors.{State, joined}
-use Rattle.ref_base.specs.Refusals.{is_in}
-use Rattle.ref_base.specs.CollectorRows.{list_at}
-use Rattle.ref_base.specs.declared.phase.Phase.TheVariants.{Marking, Clearing, Sweeping}
+use Rattle.ref_clear.proofs.Common.{has, Object, Reference, object_at, is_there, Allowed, present, allowed_referent}
+use Rattle.ref_clear.proofs.Common.{targets_of, targets_at, soft_and_weak_referents, IsRising, is_kept, refers_into}
+use Rattle.ref_clear.proofs.Common.{reference_in, reference_at, with_changed, changed_reference, cleared, Pending}
+use Rattle.ref_clear.proofs.Common.{graph_of, pending_numbers, State, joined, is_in, list_at, Marking, Clearing}
+use Rattle.ref_clear.proofs.Common.{Sweeping, CycleHeap, policy_in, is_white, is_black, is_past_mark, doomed}
+use Rattle.ref_clear.proofs.Common.{MarkStands, shown_heap}
+use Rattle.ref_base.specs.Heaps.{changed_at}
 use Rattle.ref_base.proofs.HasLaws.{has-left, has-cases}
 use Rattle.ref_base.proofs.Lookups.{lookup-changed, numbers-changed, allowed_referent-cases}
 use Rattle.ref_base.proofs.NewClears.{refers_into-same}
-use Rattle.ref_mark.specs.CycleHeaps.{CycleHeap, policy_in, is_white, is_black, is_past_mark, doomed}
-use Rattle.ref_mark.specs.Standing.{MarkStands, InClearing, shown_heap}
+use Rattle.ref_mark.specs.Standing.{InClearing}
 use Rattle.ref_mark.proofs.Agreeing.{agrees_next, unsaid_same}
 use Rattle.ref_mark.proofs.DoomedLists.{doomed-changed, past_is_in_cycle}
 use Rattle.ref_mark.proofs.Passed.{is_clearing}

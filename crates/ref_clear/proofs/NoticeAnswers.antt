@@ -1,24 +1,14 @@
 -- What the code of holds and notices asks: when a hold is minted, and that a cut may come behind a hold.
 use Rattle.std.proofs.Common.{◌≡◌, ℕ, true, false, refl, ap, List, Option, Some, None, inl, inr}
 use Rattle.std.proofs.lemmas.Bool.{cases_Bool}
-use Rattle.ref_base.specs.Members.{has}
-use Rattle.ref_base.specs.Graphs.{Object, is_there}
-use Rattle.ref_base.specs.DoomedSets.{refers_into}
-use Rattle.ref_base.specs.Heaps.{Heap, slot_at, with_hold, changed_in, with_reference, cleared}
-use Rattle.ref_base.specs.Worlds.{pending_numbers}
-use Rattle.ref_base.specs.Refusals.{holds_refusal}
-use Rattle.ref_base.specs.Collectors.{State}
-use Rattle.ref_base.specs.CollectorRows.{reference_of}
-use Rattle.ref_base.specs.declared.fault.Fault.{Fault}
+use Rattle.ref_clear.proofs.Common.{has, Object, is_there, refers_into, Heap, slot_at, with_hold, changed_in}
+use Rattle.ref_clear.proofs.Common.{with_reference, cleared, pending_numbers, holds_refusal, State, reference_of}
+use Rattle.ref_clear.proofs.Common.{Fault, mint_refusal, CycleHeap, is_doomed, with_cleared, unless_refused}
+use Rattle.ref_clear.proofs.Common.{mint_answer_in, after_mint_in, ground_of, ClearHeap, holding, PendingList}
+use Rattle.ref_clear.proofs.Common.{IsSoundHeap, HeapStands}
 use Rattle.ref_base.specs.declared.reply.Reply.TheVariants as replies
-use Rattle.ref_objects.specs.Grounds.{mint_refusal}
-use Rattle.ref_mark.specs.CycleHeaps.{CycleHeap, is_doomed, with_cleared}
-use Rattle.ref_mark.specs.MarkCalls.{names_freed, unless_refused, mint_answer_in, after_mint_in}
-use Rattle.ref_mark.specs.MarkViews.{ground_of}
+use Rattle.ref_mark.specs.MarkCalls.{names_freed}
 use Rattle.ref_mark.proofs.HoldMoves.{names_none_freed}
-use Rattle.ref_clear.specs.ClearHeaps.{ClearHeap, holding}
-use Rattle.ref_clear.specs.ClearViews.{PendingList, IsSoundHeap}
-use Rattle.ref_clear.specs.Standing.{HeapStands}
 use Rattle.ref_clear.proofs.PendingFacts.{pending_is_there}
 
 -- no slot of a heap names an object that was freed

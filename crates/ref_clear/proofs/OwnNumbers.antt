@@ -1,19 +1,13 @@
 -- No step changes the number of a heap.
 use Rattle.std.proofs.Common.{◌≡◌, ℕ, List, Option, Some, None, refl, inl, inr, [], ◌∷◌}
 use Rattle.std.proofs.lemmas.Bool.{cases_Bool}
-use Rattle.ref_base.specs.Heaps.{slot_at, reference_at, registered_in}
-use Rattle.ref_base.specs.Worlds.{Pending, pending_numbers}
-use Rattle.ref_base.specs.HeapSteps.{NamedStep}
-use Rattle.ref_base.specs.CollectorRows.{list_at}
-use Rattle.ref_base.specs.declared.fault.Fault.{Fault}
+use Rattle.ref_clear.proofs.Common.{slot_at, reference_at, registered_in, Pending, pending_numbers, NamedStep, list_at}
+use Rattle.ref_clear.proofs.Common.{Fault, Idle, Sweeping, CycleHeap, cycle_in_phase, with_found_taken, unless_refused}
+use Rattle.ref_clear.proofs.Common.{ClearHeap, with_mark, pending_at, begun_with, is_to_clear, heap_pended}
+use Rattle.ref_clear.proofs.Common.{looked_from, cut_at, handed_from, unhooked, swept_some, refusal_in, after_in}
+use Rattle.ref_clear.proofs.Common.{queue_in}
 use Rattle.ref_base.specs.declared.heap_step.HeapStep.TheVariants as heap
-use Rattle.ref_base.specs.declared.phase.Phase.TheVariants.{Idle, Sweeping}
-use Rattle.ref_mark.specs.CycleHeaps.{CycleHeap, cycle_in_phase, with_found_taken}
-use Rattle.ref_mark.specs.MarkCalls.{unless_refused}
 use Rattle.ref_mark.proofs.OwnNumbers.{cleared-number, begun-number, number_after as number_after_marking}
-use Rattle.ref_clear.specs.ClearHeaps.{ClearHeap, with_mark, pending_at, begun_with, is_to_clear, heap_pended, looked_from}
-use Rattle.ref_clear.specs.ClearHeaps.{cut_at, handed_from, unhooked, swept_some}
-use Rattle.ref_clear.specs.ClearCalls.{refusal_in, after_in, queue_in}
 
 unhooked-number : (k : CycleHeap) (m s : ℕ) (held queue : Option ℕ) → (unhooked k m s held queue).heap_no ≡ k.heap_no
 unhooked-number k m s None queue = cleared-number k m s

@@ -2,19 +2,12 @@
 use Rattle.std.proofs.Common.{◌≡◌, ℕ, true, false, ◌==◌, refl, sym, ap, subst, ◌∙◌}
 use Rattle.std.proofs.Common.{List, ◌++◌, inl, inr}
 use Rattle.std.proofs.lemmas.Bool.{cases_Bool, and_right, or_cases, eqb-true}
-use Rattle.ref_base.specs.Members.{has}
-use Rattle.ref_base.specs.Graphs.{is_there}
-use Rattle.ref_base.specs.Paths.{present}
-use Rattle.ref_base.specs.Heaps.{one_more}
-use Rattle.ref_base.specs.Worlds.{Pending, pending_numbers}
-use Rattle.ref_base.specs.Collectors.{State}
+use Rattle.ref_clear.proofs.Common.{has, is_there, present, one_more, Pending, pending_numbers, State, CycleHeap}
+use Rattle.ref_clear.proofs.Common.{is_white, is_past_mark, is_in_cycle, is_doomed, Config, ClearHeap, HeapStands}
+use Rattle.ref_clear.proofs.Common.{ArePending}
 use Rattle.ref_base.proofs.OneMore.{has-one_more}
-use Rattle.ref_mark.specs.CycleHeaps.{CycleHeap, is_white, is_past_mark, is_in_cycle, is_doomed}
 use Rattle.ref_mark.proofs.DoomedLists.{past_is_in_cycle}
 use Rattle.ref_mark.proofs.RootFacts.{slot_root, hold_root, pending_root, root_cases, root_is_there, root_is_not_white}
-use Rattle.ref_base.specs.declared.config.Config.{Config}
-use Rattle.ref_clear.specs.ClearHeaps.{ClearHeap}
-use Rattle.ref_clear.specs.Standing.{HeapStands, ArePending}
 use Rattle.ref_clear.proofs.StaysCleared.{StaysCleared}
 
 -- ---- roots

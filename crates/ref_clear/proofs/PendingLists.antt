@@ -3,12 +3,9 @@ use Rattle.std.proofs.Common.{◌≡◌, ℕ, ◌<◌, ◌≤◌, refl, sym, ap,
 use Rattle.std.proofs.Common.{List, [], ◌∷◌, length, map, get_or, set, Option, None}
 use Rattle.std.proofs.lemmas.List.{length-map, map-set, get_or_read}
 use Rattle.std.proofs.Math.ListN.{get_or-map}
-use Rattle.ref_base.specs.Worlds.{Pending}
-use Rattle.ref_base.specs.declared.config.Config.{Config}
-use Rattle.ref_mark.specs.CycleHeaps.{CycleHeap}
-use Rattle.ref_clear.specs.ClearHeaps.{ClearHeap, pending_at}
-use Rattle.ref_clear.specs.ClearViews.{PendingList, empty_pending, pending_lists_of, seen_heap, pending_from, HaveRoom, IsSoundHeap}
-use Rattle.ref_clear.specs.ClearViews.{without_first_pending}
+use Rattle.ref_clear.proofs.Common.{Pending, Config, CycleHeap, ClearHeap, pending_at, PendingList, empty_pending}
+use Rattle.ref_clear.proofs.Common.{pending_lists_of, seen_heap, pending_from, HaveRoom, IsSoundHeap}
+use Rattle.ref_clear.proofs.Common.{without_first_pending}
 
 -- ---- what is seen of the lists
 

@@ -4,19 +4,12 @@ use Rattle.std.proofs.Common.{List, [], ◌∷◌, ◌++◌, map, length, length
 use Rattle.std.specs.Prelude.{slice_index_or}
 use Rattle.std.proofs.lemmas.Bool.{or_cases, or_right, ne_eqb, eqb-true, true≢false, false_from_ne_true}
 use Rattle.std.proofs.lemmas.List.{length-map}
-use Rattle.ref_base.specs.Members.{has, AreDistinct}
-use Rattle.ref_base.specs.Graphs.{Object, Reference, is_there}
-use Rattle.ref_base.specs.DoomedSets.{any_is, refers_into}
-use Rattle.ref_base.specs.Heaps.{reference_at}
+use Rattle.ref_clear.proofs.Common.{has, AreDistinct, Object, Reference, is_there, any_is, refers_into, reference_at}
+use Rattle.ref_clear.proofs.Common.{Pending, pending_numbers, State, referent_of, is_doomed, ClearHeap, pending_at}
+use Rattle.ref_clear.proofs.Common.{is_to_clear, HeapStands}
 use Rattle.ref_base.specs.Searches.{unseen}
-use Rattle.ref_base.specs.Worlds.{Pending, pending_numbers}
-use Rattle.ref_base.specs.Collectors.{State}
-use Rattle.ref_base.specs.CollectorRows.{referent_of}
 use Rattle.ref_base.proofs.HasLaws.{has-first, has-append}
 use Rattle.ref_base.proofs.SearchLaws.{unseen-less}
-use Rattle.ref_mark.specs.CycleHeaps.{is_doomed}
-use Rattle.ref_clear.specs.ClearHeaps.{ClearHeap, pending_at, is_to_clear}
-use Rattle.ref_clear.specs.Standing.{HeapStands}
 use Rattle.ref_clear.proofs.PendingFacts.{pending_is_there}
 
 -- ---- distinct numbers of objects

@@ -2,10 +2,9 @@
 use Rattle.std.proofs.Common.{◌≡◌, ℕ, ◌+◌, ◌<◌, ◌≤◌, zero, suc, List, [], ◌∷◌, ◌++◌, length, take, get_or, Some, None}
 use Rattle.std.proofs.Common.{sym, ap, ◌∙◌, arith}
 use Rattle.std.proofs.lemmas.List.{append-nil, append_assoc, take_all}
-use Rattle.ref_base.specs.Worlds.{Pending, pending_numbers}
-use Rattle.ref_mark.specs.CycleHeaps.{CycleHeap, shaded, shaded_all}
+use Rattle.ref_clear.proofs.Common.{Pending, pending_numbers, CycleHeap, shaded, shaded_all, PendingList}
+use Rattle.ref_clear.proofs.Common.{pending_lists_of, numbers_in, pending_from}
 use Rattle.ref_mark.proofs.Shading.{shaded_all-append}
-use Rattle.ref_clear.specs.ClearViews.{PendingList, pending_lists_of, numbers_in, pending_from}
 
 -- ---- of one worker
 

@@ -2,18 +2,12 @@
 use Rattle.std.proofs.Common.{◌≡◌, ℕ, Bool, true, false, not, refl, sym, ap, subst, ◌∙◌, arith}
 use Rattle.std.proofs.Common.{List, None}
 use Rattle.std.proofs.lemmas.Bool.{not-false}
-use Rattle.ref_base.specs.Collectors.{joined}
-use Rattle.ref_base.specs.Refusals.{unless, is_in, is_empty, work_refusal}
-use Rattle.ref_base.specs.declared.fault.Fault.{Fault}
-use Rattle.ref_base.specs.declared.fault.Fault.TheVariants.{WrongPhase, ClearingLeft, SweepLeft}
-use Rattle.ref_base.specs.declared.phase.Phase.TheVariants.{Idle, Clearing, Sweeping}
+use Rattle.ref_clear.proofs.Common.{joined, unless, is_in, is_empty, work_refusal, Fault, WrongPhase, ClearingLeft}
+use Rattle.ref_clear.proofs.Common.{SweepLeft, Idle, Clearing, Sweeping, CycleHeap, doomed, cycle_in_phase}
+use Rattle.ref_clear.proofs.Common.{unless_refused, ClearHeap, with_mark, swept_some, refusal_in, PendingList}
+use Rattle.ref_clear.proofs.Common.{seen_heap, IsSoundHeap, MaySweep}
 use Rattle.ref_base.specs.declared.heap_step.HeapStep.TheVariants as heap
-use Rattle.ref_mark.specs.CycleHeaps.{CycleHeap, doomed, cycle_in_phase}
-use Rattle.ref_mark.specs.MarkCalls.{unless_refused}
 use Rattle.ref_mark.proofs.Passed.{work_passed}
-use Rattle.ref_clear.specs.ClearHeaps.{ClearHeap, with_mark, swept_some}
-use Rattle.ref_clear.specs.ClearCalls.{refusal_in}
-use Rattle.ref_clear.specs.ClearViews.{PendingList, seen_heap, IsSoundHeap, MaySweep}
 use Rattle.ref_clear.proofs.EndRows.{end_clear_row}
 use Rattle.ref_clear.proofs.SweepRows.{sweep_row, may_sweep}
 use Rattle.ref_clear.proofs.SoundHeaps.{sound_after}

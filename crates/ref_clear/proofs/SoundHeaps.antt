@@ -1,19 +1,10 @@
 -- What holds of a heap goes on holding by each of its steps.
 use Rattle.std.proofs.Common.{◌≡◌, ℕ, ◌≤◌, true, List, refl, sym, ap, subst, ◌∙◌}
 use Rattle.std.proofs.lemmas.Bool.{or_right}
-use Rattle.ref_base.specs.Members.{has}
-use Rattle.ref_base.specs.HeapSteps.{NamedStep}
-use Rattle.ref_base.specs.Collectors.{State}
-use Rattle.ref_base.specs.Refusals.{is_in}
-use Rattle.ref_base.specs.declared.config.Config.{Config}
-use Rattle.ref_base.specs.declared.phase.Phase.TheVariants.{Clearing, Sweeping}
-use Rattle.ref_mark.specs.CycleHeaps.{CycleHeap, is_white, is_past_mark, doomed}
-use Rattle.ref_mark.specs.Standing.{MarkStands}
+use Rattle.ref_clear.proofs.Common.{has, NamedStep, State, is_in, Config, Clearing, Sweeping, CycleHeap, is_white}
+use Rattle.ref_clear.proofs.Common.{is_past_mark, doomed, MarkStands, ClearHeap, answer_in, after_in, PendingList}
+use Rattle.ref_clear.proofs.Common.{seen_heap, HaveRoom, IsSoundHeap, HeapStands}
 use Rattle.ref_mark.proofs.DoomedLists.{has-doomed}
-use Rattle.ref_clear.specs.ClearHeaps.{ClearHeap}
-use Rattle.ref_clear.specs.ClearCalls.{answer_in, after_in}
-use Rattle.ref_clear.specs.ClearViews.{PendingList, seen_heap, HaveRoom, IsSoundHeap}
-use Rattle.ref_clear.specs.Standing.{HeapStands}
 use Rattle.ref_clear.proofs.KeptRows.{goes_on_sweeping, SweepsOn, sweeps_on}
 use Rattle.ref_clear.proofs.HeapLaws.{each_step, config_of}
 

@@ -2,24 +2,19 @@
 use Rattle.std.proofs.Common.{◌≡◌, ℕ, ◌+◌, true, Option, Some, None, refl, sym, ap, subst, ◌∙◌, inl, inr}
 use Rattle.std.proofs.Common.{List, ◌∷◌, []}
 use Rattle.std.proofs.lemmas.Bool.{cases_Bool}
-use Rattle.ref_base.specs.DoomedSets.{refers_into}
-use Rattle.ref_base.specs.Graphs.{Object, Reference, object_at, is_there, plain_object}
-use Rattle.ref_base.specs.Heaps.{Heap, slot_at, reference_in, reference_at, changed_in, made, stored, got, cut}
-use Rattle.ref_base.specs.Heaps.{with_field, with_reference, changed_reference, cleared, got_at, nulls}
-use Rattle.ref_base.specs.Heaps.{new_reference, with_hold}
-use Rattle.ref_base.specs.Paths.{is_soft, targets_at}
-use Rattle.ref_base.specs.KeptPaths.{is_kept}
-use Rattle.ref_base.specs.HeapSteps.{NamedStep}
-use Rattle.ref_base.specs.Refusals.{is_in}
-use Rattle.ref_base.specs.CollectorRows.{referent_of, reference_of, field_in}
-use Rattle.ref_base.specs.declared.fault.Fault.{Fault}
-use Rattle.ref_base.specs.declared.phase.Phase.TheVariants.{Marking}
+use Rattle.ref_clear.proofs.Common.{refers_into, Object, Reference, object_at, is_there, plain_object, Heap, slot_at}
+use Rattle.ref_clear.proofs.Common.{reference_in, reference_at, changed_in, made, stored, got, cut, with_field}
+use Rattle.ref_clear.proofs.Common.{with_reference, changed_reference, cleared, got_at, nulls, new_reference}
+use Rattle.ref_clear.proofs.Common.{with_hold, targets_at, is_kept, NamedStep, is_in, referent_of, reference_of}
+use Rattle.ref_clear.proofs.Common.{field_in, Fault, Marking, CycleHeap, policy_in, is_doomed, shaded_all}
+use Rattle.ref_clear.proofs.Common.{with_cleared, cycle_begun, unless_refused}
+use Rattle.ref_base.specs.Paths.{is_soft}
 use Rattle.ref_base.specs.declared.heap_step.HeapStep.TheVariants as heap
 use Rattle.ref_base.proofs.Lookups.{lookup-changed, object_at-push}
-use Rattle.ref_mark.specs.CycleHeaps.{CycleHeap, policy_in, is_doomed, shaded_all, barred}
-use Rattle.ref_mark.specs.CycleHeaps.{with_made, value_got, with_got, with_cleared, whitened}
-use Rattle.ref_mark.specs.CycleHeaps.{cycle_begun, scanned, grey_scanned, roots_of}
-use Rattle.ref_mark.specs.MarkCalls.{done_in, after_in_cycle, refusal_in_cycle, unless_refused, with_hold_of}
+use Rattle.ref_mark.specs.CycleHeaps.{barred}
+use Rattle.ref_mark.specs.CycleHeaps.{with_made, value_got, with_got, whitened}
+use Rattle.ref_mark.specs.CycleHeaps.{scanned, grey_scanned, roots_of}
+use Rattle.ref_mark.specs.MarkCalls.{done_in, after_in_cycle, refusal_in_cycle, with_hold_of}
 use Rattle.ref_mark.proofs.LoopLemmas.{shaded_heap, shaded_once-heap}
 use Rattle.ref_mark.proofs.Scanning.{with_found-only}
 use Rattle.ref_mark.proofs.ShownHeaps.{young-heap}

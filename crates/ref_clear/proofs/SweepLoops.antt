@@ -4,20 +4,13 @@ use Rattle.std.proofs.Common.{◌∙◌, arith, List, [], ◌∷◌, ◌++◌, l
 use Rattle.std.proofs.Common.{inl, inr}
 use Rattle.std.proofs.lemmas.Bool.{cases_lt, le-leb, and_parts, or_left, eq-eqb}
 use Rattle.std.proofs.lemmas.List.{take_more, drop_more, drop_all, take_all}
-use Rattle.ref_base.specs.Members.{has}
-use Rattle.ref_base.specs.Graphs.{Object, is_there, numbers}
-use Rattle.ref_base.specs.Strengths.{IsRising}
-use Rattle.ref_base.specs.CollectorRows.{without}
-use Rattle.ref_base.specs.Refusals.{is_in}
-use Rattle.ref_base.specs.declared.phase.Phase.TheVariants.{Sweeping}
+use Rattle.ref_clear.proofs.Common.{has, Object, is_there, numbers, IsRising, without, is_in, Sweeping, unmarked}
+use Rattle.ref_clear.proofs.Common.{least_from, first_in, CycleHeap, is_white, is_past_mark, doomed, swept_some}
+use Rattle.ref_clear.proofs.Common.{MaySweep}
 use Rattle.ref_base.proofs.HasLaws.{has-first}
-use Rattle.ref_objects.specs.Grounds.{unmarked, least_from}
-use Rattle.ref_mark.specs.Worklists.{first_in}
-use Rattle.ref_mark.specs.CycleHeaps.{CycleHeap, is_white, is_past_mark, is_swept, doomed, swept}
+use Rattle.ref_mark.specs.CycleHeaps.{is_swept, swept}
 use Rattle.ref_mark.proofs.DoomedLists.{has-unmarked, has-doomed}
 use Rattle.ref_mark.proofs.MovedStates.{sweeping_is_past}
-use Rattle.ref_clear.specs.ClearHeaps.{swept_some}
-use Rattle.ref_clear.specs.ClearViews.{MaySweep}
 use Rattle.ref_clear.proofs.GoneObjects.{without-none, without-append, object_at-left, left_from_there, rising-without}
 use Rattle.ref_clear.proofs.GoneObjects.{unmarked-swept, first_unmarked-least}
 

@@ -4,27 +4,24 @@ use Rattle.std.proofs.Common.{◌∙◌, List, [], ◌∷◌, map, take, drop, O
 use Rattle.std.proofs.lemmas.Bool.{cond-true, cases_Bool, and_parts, and_right, not-true, false≢true, true≢false}
 use Rattle.std.proofs.lemmas.Bool.{false_from_ne_true}
 use Rattle.std.proofs.lemmas.List.{take-append-drop}
-use Rattle.ref_base.specs.Members.{has}
-use Rattle.ref_base.specs.Graphs.{Object, Reference, object_at, is_there, numbers}
-use Rattle.ref_base.specs.Paths.{Allowed, targets_of, targets_at, allowed_referent, present, soft_and_weak_referents}
-use Rattle.ref_base.specs.KeptPaths.{is_kept}
-use Rattle.ref_base.specs.DoomedSets.{any_is, refers_into, is_new_clear, new_clears}
-use Rattle.ref_base.specs.Heaps.{Heap, reference_at, reference_in}
-use Rattle.ref_base.specs.Strengths.{IsRising}
-use Rattle.ref_base.specs.Worlds.{graph_of, pending_numbers, with_heap}
-use Rattle.ref_base.specs.Refusals.{is_in}
-use Rattle.ref_base.specs.Collectors.{State}
-use Rattle.ref_base.specs.CollectorRows.{HeapAccepts, Sweeps, without, shown, referent_of}
-use Rattle.ref_base.specs.Forgetting.{blanked, forgotten, heap_but}
-use Rattle.ref_base.specs.declared.phase.Phase.TheVariants.{Marking, Clearing, Sweeping}
+use Rattle.ref_clear.proofs.Common.{has, Object, Reference, object_at, is_there, numbers, Allowed, targets_of}
+use Rattle.ref_clear.proofs.Common.{targets_at, allowed_referent, present, soft_and_weak_referents, is_kept, any_is}
+use Rattle.ref_clear.proofs.Common.{refers_into, Heap, reference_at, reference_in, IsRising, graph_of, pending_numbers}
+use Rattle.ref_clear.proofs.Common.{with_heap, is_in, State, HeapAccepts, without, shown, referent_of, forgotten}
+use Rattle.ref_clear.proofs.Common.{heap_but, Marking, Clearing, Sweeping, unmarked, CycleHeap, policy_in, is_white}
+use Rattle.ref_clear.proofs.Common.{is_black, is_in_cycle, doomed, MarkStands, FactsBut, unsaid, ReadsAs, shown_heap}
+use Rattle.ref_clear.proofs.Common.{ClearHeap, with_mark, swept_some, refusal_in, answer_of_sweep, HeapStands}
+use Rattle.ref_clear.proofs.Common.{MaySweep}
+use Rattle.ref_base.specs.DoomedSets.{is_new_clear, new_clears}
+use Rattle.ref_base.specs.CollectorRows.{Sweeps}
+use Rattle.ref_base.specs.Forgetting.{blanked}
 use Rattle.ref_base.specs.declared.heap_step.HeapStep.TheVariants as heap
 use Rattle.ref_base.proofs.HasLaws.{has-append, has-cases, has-left, has-first}
 use Rattle.ref_base.proofs.Lookups.{allowed_referent-cases}
 use Rattle.ref_base.proofs.NewClears.{has-new_clears, refers_into-same}
 use Rattle.ref_base.proofs.Forgetting.{forgotten-shape}
-use Rattle.ref_objects.specs.Grounds.{unmarked}
-use Rattle.ref_mark.specs.CycleHeaps.{CycleHeap, policy_in, is_white, is_black, is_in_cycle, is_due, doomed}
-use Rattle.ref_mark.specs.Standing.{MarkStands, AreThere, FactsBut, InSweeping, unsaid, ReadsAs, shown_heap}
+use Rattle.ref_mark.specs.CycleHeaps.{is_due}
+use Rattle.ref_mark.specs.Standing.{AreThere, InSweeping}
 use Rattle.ref_mark.proofs.DoomedLists.{has-unmarked, past_is_in_cycle, past_is_not_marking}
 use Rattle.ref_mark.proofs.Moves.{leading_is_there}
 use Rattle.ref_mark.proofs.MovedStates.{ticked_other}
@@ -32,10 +29,6 @@ use Rattle.ref_mark.proofs.Passed.{work_passed}
 use Rattle.ref_mark.proofs.RootFacts.{root_is_not_white, hold_root}
 use Rattle.ref_mark.proofs.SafeMarks.{marked_is_black}
 use Rattle.ref_mark.proofs.Shading.{not_white_marked, refers_into-wider}
-use Rattle.ref_clear.specs.ClearHeaps.{ClearHeap, with_mark, swept_some}
-use Rattle.ref_clear.specs.ClearCalls.{refusal_in, answer_of_sweep}
-use Rattle.ref_clear.specs.Standing.{HeapStands}
-use Rattle.ref_clear.specs.ClearViews.{MaySweep}
 use Rattle.ref_clear.proofs.GoneObjects.{without-none, has-take, object_at-gone, object_at-left, left_from_there}
 use Rattle.ref_clear.proofs.GoneObjects.{rising-without}
 use Rattle.ref_clear.proofs.SweepLoops.{doomed-so_many, doomed-sweeping, white_is_doomed}

@@ -6,14 +6,10 @@ use Rattle.std.specs.Prelude.{slice_index_or, slice_set}
 use Rattle.std.proofs.Math.ListN.{get_or-map}
 use Rattle.std.proofs.lemmas.Bool.{or_cases, or_parts, or_from, or_left, eqb-true, eq-eqb, ne_eqb, true≢false}
 use Rattle.std.proofs.lemmas.List.{length-map, length-set, map-append, map-set}
-use Rattle.ref_base.specs.Members.{has, AreDistinct}
-use Rattle.ref_base.specs.Worlds.{World, Pending, pending_numbers}
+use Rattle.ref_clear.proofs.Common.{has, AreDistinct, World, Pending, pending_numbers, joined, list_at, ClearHeap}
+use Rattle.ref_clear.proofs.Common.{heap_pended, numbers_in}
 use Rattle.ref_base.specs.Replay.{pended as world_pended}
-use Rattle.ref_base.specs.Collectors.{joined}
-use Rattle.ref_base.specs.CollectorRows.{list_at}
 use Rattle.ref_base.proofs.FoundLists.{with_last, has-between, has-with_last, AreDistinct-with_last}
-use Rattle.ref_clear.specs.ClearHeaps.{ClearHeap, heap_pended}
-use Rattle.ref_clear.specs.ClearViews.{numbers_in}
 
 -- ---- the first of a list is taken
 

@@ -1,22 +1,15 @@
 -- What the code of an unhook answers and leaves where the reference is registered: the hold comes first, then the cut.
 use Rattle.std.proofs.Common.{◌≡◌, ℕ, true, refl, sym, ap, subst, ◌∙◌, List, Option, Some, None}
-use Rattle.ref_base.specs.Graphs.{Reference, is_there}
-use Rattle.ref_base.specs.Heaps.{slot_at, reference_at, registered_in}
-use Rattle.ref_base.specs.CollectorRows.{reference_of}
-use Rattle.ref_base.specs.Refusals.{has_slot, drop_refusal, holds_refusal}
-use Rattle.ref_base.specs.declared.cause.Cause.TheVariants.{Own}
-use Rattle.ref_base.specs.declared.fault.Fault.TheVariants.{NoSuchActor, NoSuchObject}
+use Rattle.ref_clear.proofs.Common.{Reference, is_there, slot_at, reference_at, registered_in, reference_of, has_slot}
+use Rattle.ref_clear.proofs.Common.{holds_refusal, Own, NoSuchActor, Ground, CycleHeap, with_cleared, mint_answer_in}
+use Rattle.ref_clear.proofs.Common.{after_mint_in, ground_of, holding, unhooked, refusal_in, queue_in, answer_in}
+use Rattle.ref_clear.proofs.Common.{after_in, answer_of_unhook, PendingList, seen_heap}
+use Rattle.ref_base.specs.Refusals.{drop_refusal}
+use Rattle.ref_base.specs.declared.fault.Fault.TheVariants.{NoSuchObject}
 use Rattle.ref_base.specs.declared.heap_step.HeapStep.TheVariants as heap
 use Rattle.ref_base.specs.declared.reply.Reply.TheVariants as replies
 use Rattle.ref_base.proofs.RowForms.{unless_parts}
-use Rattle.ref_objects.specs.Grounds.{Ground}
-use Rattle.ref_mark.specs.CycleHeaps.{CycleHeap, with_cleared}
 use Rattle.ref_mark.specs.MarkCalls as marks
-use Rattle.ref_mark.specs.MarkCalls.{mint_answer_in, after_mint_in}
-use Rattle.ref_mark.specs.MarkViews.{ground_of}
-use Rattle.ref_clear.specs.ClearHeaps.{holding, unhooked}
-use Rattle.ref_clear.specs.ClearCalls.{refusal_in, queue_in, answer_in, after_in, answer_of_unhook}
-use Rattle.ref_clear.specs.ClearViews.{PendingList, seen_heap}
 use Rattle.ref_clear.proofs.NoticeAnswers.{minted, clear_holding}
 
 -- ---- what is read through the view of the objects

@@ -2,17 +2,15 @@
 use Rattle.std.proofs.Common.{◌≡◌, ℕ, ◌+◌, ◌*◌, true, false, refl, sym, ap, subst, ◌∙◌}
 use Rattle.std.proofs.Common.{[], ◌++◌, Option, Some, None, is_some, inl, inr}
 use Rattle.std.proofs.lemmas.Bool.{cases_Bool}
-use Rattle.ref_base.specs.Graphs.{Object, Reference}
-use Rattle.ref_base.specs.Paths.{present}
-use Rattle.ref_base.specs.DoomedSets.{refers_into}
-use Rattle.ref_base.specs.Heaps.{Heap, slot_at, reference_in, reference_at, registered_in, one_more, with_hold}
-use Rattle.ref_base.specs.Heaps.{changed_in, with_reference, cleared, cut}
-use Rattle.ref_base.specs.Worlds.{World, pending_numbers}
-use Rattle.ref_base.specs.Refusals.{unless, has_slot, reference_refusal, minting_refusal, unhook_refusal, clear_refusal}
-use Rattle.ref_base.specs.Collectors.{State}
-use Rattle.ref_base.specs.CollectorRows.{ticked, on_heap, shown, reference_of, Unhooks, HeapAccepts}
-use Rattle.ref_base.specs.Forgetting.{forgotten, heap_but}
-use Rattle.ref_base.specs.declared.fault.Fault.TheVariants.{NoSuchActor, NotAReference}
+use Rattle.ref_clear.proofs.Common.{Object, Reference, present, refers_into, Heap, slot_at, reference_in, reference_at}
+use Rattle.ref_clear.proofs.Common.{registered_in, one_more, with_hold, changed_in, with_reference, cleared, cut}
+use Rattle.ref_clear.proofs.Common.{World, pending_numbers, unless, has_slot, State, ticked, on_heap, shown}
+use Rattle.ref_clear.proofs.Common.{reference_of, Unhooks, HeapAccepts, forgotten, heap_but, NoSuchActor, CycleHeap}
+use Rattle.ref_clear.proofs.Common.{is_doomed, doomed, with_cleared, MarkStands, ReadsAs, unsaid, shown_heap}
+use Rattle.ref_clear.proofs.Common.{ClearHeap, with_mark, holding, unhooked, refusal_in, queue_in, answer_of_unhook}
+use Rattle.ref_clear.proofs.Common.{HeapStands, ArePending}
+use Rattle.ref_base.specs.Refusals.{reference_refusal, minting_refusal, unhook_refusal, clear_refusal}
+use Rattle.ref_base.specs.declared.fault.Fault.TheVariants.{NotAReference}
 use Rattle.ref_base.specs.declared.heap_step.HeapStep.TheVariants as heap
 use Rattle.ref_base.proofs.Forgetting.{forgotten-shape}
 use Rattle.ref_base.proofs.Lookups.{has-present_at}
@@ -20,8 +18,6 @@ use Rattle.ref_base.proofs.Reshaping.{KeepsShape, reshaped, at-reshaped}
 use Rattle.ref_base.proofs.RowForms.{unless_parts}
 use Rattle.ref_base.proofs.RowLaws.{ticked_world}
 use Rattle.ref_base.proofs.ShownObjects.{shown-shape, shown-cleared}
-use Rattle.ref_mark.specs.CycleHeaps.{CycleHeap, is_doomed, doomed, with_cleared}
-use Rattle.ref_mark.specs.Standing.{MarkStands, ReadsAs, unsaid, shown_heap}
 use Rattle.ref_mark.proofs.Agreeing.{agrees_changed, changed_in-agrees, said_slot}
 use Rattle.ref_mark.proofs.DoomedLists.{past_is_in_cycle}
 use Rattle.ref_mark.proofs.ShownHeaps.{cut-shown}
@@ -31,9 +27,6 @@ use Rattle.ref_mark.proofs.MoveKinds.{rooted, rooted_move, altered, altered_move
 use Rattle.ref_mark.proofs.RootFacts.{slot_root, slot_off, root_is_there, root_is_not_white}
 use Rattle.ref_mark.proofs.ReferenceMoves.{refers_into_doomed-past, cleared_becomes}
 use Rattle.ref_mark.proofs.ReferenceRows.{clear_row}
-use Rattle.ref_clear.specs.ClearHeaps.{ClearHeap, with_mark, holding, unhooked}
-use Rattle.ref_clear.specs.ClearCalls.{refusal_in, queue_in, answer_of_unhook}
-use Rattle.ref_clear.specs.Standing.{HeapStands, ArePending}
 use Rattle.ref_clear.proofs.PendingFacts.{root_before, waiting_still}
 use Rattle.ref_clear.proofs.StaysCleared.{config-cleared, cleared_stays}
 

@@ -2,20 +2,12 @@
 use Rattle.std.proofs.Common.{◌≡◌, ℕ, true, false, refl, sym, ap, ◌∙◌, List, [], Option, Some, None, inl, inr}
 use Rattle.std.proofs.Common.{if◌then◌else◌}
 use Rattle.std.proofs.lemmas.Bool.{cond-true, cases_Bool, and_right, or_parts}
-use Rattle.ref_base.specs.Members.{has}
-use Rattle.ref_base.specs.Graphs.{Object, is_there}
-use Rattle.ref_base.specs.DoomedSets.{any_is}
-use Rattle.ref_base.specs.Heaps.{Heap, slot_at, changed_in, made}
-use Rattle.ref_base.specs.CollectorRows.{shown, field_in, reference_of}
-use Rattle.ref_base.specs.Forgetting.{heap_but}
-use Rattle.ref_base.specs.Refusals.{is_in}
-use Rattle.ref_base.specs.Collectors.{State}
-use Rattle.ref_base.specs.declared.phase.Phase.{Phase}
-use Rattle.ref_base.specs.declared.phase.Phase.TheVariants.{Idle, Marking, Clearing, Sweeping}
+use Rattle.ref_mark.proofs.Common.{has, Object, is_there, any_is, Heap, slot_at, changed_in, made, shown, field_in}
+use Rattle.ref_mark.proofs.Common.{reference_of, heap_but, is_in, State, Phase, Idle, Marking, Clearing, Sweeping}
+use Rattle.ref_mark.proofs.Common.{CycleHeap, is_white, is_past_mark, is_in_cycle, doomed, MarkStands, ReadsAs, unsaid}
+use Rattle.ref_mark.proofs.Common.{shown_heap}
 use Rattle.ref_base.proofs.Forgetting.{IsSaid, heap_but-none, field_in-but, reference_of-but, changed_in-but, made-but}
 use Rattle.ref_base.proofs.ShownObjects.{field_in-shown}
-use Rattle.ref_mark.specs.CycleHeaps.{CycleHeap, is_white, is_past_mark, is_in_cycle, doomed}
-use Rattle.ref_mark.specs.Standing.{MarkStands, ReadsAs, unsaid, shown_heap}
 use Rattle.ref_mark.proofs.DoomedLists.{has-doomed, doomed-changed_in}
 use Rattle.ref_mark.proofs.ShownHeaps.{shown_heap-changed_in}
 use Rattle.ref_mark.proofs.RootFacts.{slot_off}

@@ -3,11 +3,10 @@ use Rattle.std.proofs.Common.{◌≡◌, ℕ, true, refl, sym, ap, ◌∙◌, �
 use Rattle.std.proofs.Common.{◌∷◌, Option, Some, None, inl, inr, false}
 use Rattle.std.proofs.lemmas.Bool.{cases_Bool, false≢true, true≢false}
 use Rattle.std.specs.Option.{is_some}
-use Rattle.ref_base.specs.Graphs.{Object, Reference, object_at}
-use Rattle.ref_base.specs.Heaps.{reference_at, reference_in, with_stamp, got_at}
-use Rattle.ref_base.specs.Heaps.{changed_at, changed_reference, with_changed, with_reference}
-use Rattle.ref_base.specs.Paths.{is_soft}
-use Rattle.ref_mark.specs.CycleHeaps.{CycleHeap, renewed}
+use Rattle.ref_mark.proofs.Common.{Object, Reference, object_at, reference_at, reference_in, got_at, changed_at}
+use Rattle.ref_mark.proofs.Common.{changed_reference, with_changed, with_reference, is_soft, CycleHeap}
+use Rattle.ref_base.specs.Heaps.{with_stamp}
+use Rattle.ref_mark.specs.CycleHeaps.{renewed}
 
 -- ---- a get renews a soft reference alone
 

@@ -2,23 +2,16 @@
 use Rattle.std.proofs.Common.{◌≡◌, ℕ, ◌+◌, ◌<◌, Bool, true, false, not, refl, sym, ap, subst, ◌∙◌, arith}
 use Rattle.std.proofs.Common.{[], ◌∷◌, ◌++◌, length, None, inl, inr}
 use Rattle.std.proofs.lemmas.Bool.{and_parts, false≢true}
-use Rattle.ref_base.specs.Members.{AreDistinct}
-use Rattle.ref_base.specs.Members.{has}
-use Rattle.ref_base.specs.Graphs.{Graph, is_there}
-use Rattle.ref_base.specs.KeptPaths.{is_kept}
-use Rattle.ref_base.specs.Worlds.{graph_of, policy_of, pending_numbers}
-use Rattle.ref_base.specs.Refusals.{is_in, is_empty, begin_refusal}
+use Rattle.ref_mark.proofs.Common.{AreDistinct, has, Graph, is_there, is_kept, graph_of, policy_of, pending_numbers}
+use Rattle.ref_mark.proofs.Common.{is_in, is_empty, begin_refusal, State, HeapAccepts, Urgency, Idle, Sweeping}
+use Rattle.ref_mark.proofs.Common.{CycleHeap, policy_in, is_black, shaded_all, roots_of, whitened, cycle_begun}
+use Rattle.ref_mark.proofs.Common.{MarkStands}
 use Rattle.ref_base.specs.Replay.{begun as world_begun}
-use Rattle.ref_base.specs.Collectors.{State}
-use Rattle.ref_base.specs.CollectorRows.{HeapAccepts, begun_state}
-use Rattle.ref_base.specs.declared.urgency.Urgency.{Urgency}
-use Rattle.ref_base.specs.declared.phase.Phase.TheVariants.{Idle, Sweeping}
+use Rattle.ref_base.specs.CollectorRows.{begun_state}
 use Rattle.ref_base.specs.declared.heap_step.HeapStep.TheVariants as heap
 use Rattle.ref_base.specs.declared.reply.Reply.TheVariants as replies
 use Rattle.ref_base.proofs.HasLaws.{has-left}
 use Rattle.ref_base.proofs.PathLaws.{root_ends, target_ends}
-use Rattle.ref_mark.specs.CycleHeaps.{CycleHeap, policy_in, is_black, shaded_all, roots_of, whitened, cycle_begun}
-use Rattle.ref_mark.specs.Standing.{MarkStands}
 use Rattle.ref_mark.proofs.Shading.{MarkingBut, shaded_all-only, shaded_all-append, shaded_all_marking, some_left}
 use Rattle.ref_mark.proofs.Passed.{begin_passed}
 use Rattle.ref_mark.proofs.RootFacts.{plain_there}

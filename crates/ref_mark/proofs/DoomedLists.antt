@@ -4,17 +4,9 @@ use Rattle.std.proofs.Common.{refl, sym, ◌∙◌, ap, arith, inl, inr}
 use Rattle.std.proofs.Common.{List, [], ◌∷◌, ◌++◌, map, Option, Some, None}
 use Rattle.std.proofs.lemmas.Bool.{cases_Bool, false≢true, true≢false, eqb-true, eq-eqb, ne_eqb}
 use Rattle.std.proofs.lemmas.Bool.{and_right, or_left}
-use Rattle.ref_base.specs.Members.{has}
-use Rattle.ref_base.specs.Graphs.{Object, is_there}
-use Rattle.ref_base.specs.Heaps.{changed_at, with_changed, changed_in, one_more, made}
-use Rattle.ref_base.specs.CollectorRows.{shown}
-use Rattle.ref_base.specs.Refusals.{is_in}
-use Rattle.ref_base.specs.declared.phase.Phase.{Phase}
-use Rattle.ref_base.specs.declared.phase.Phase.TheVariants.{Idle, Marking, Clearing, Sweeping}
-use Rattle.ref_mark.specs.CycleHeaps.{is_in_cycle, CycleHeap, is_white, is_past_mark, is_doomed, doomed, young}
-use Rattle.ref_mark.specs.CycleHeaps.{with_made}
-use Rattle.ref_objects.specs.Grounds.{unmarked}
-use Rattle.ref_mark.specs.Standing.{shown_heap}
+use Rattle.ref_mark.proofs.Common.{has, Object, is_there, changed_at, with_changed, changed_in, one_more, made, shown}
+use Rattle.ref_mark.proofs.Common.{is_in, Phase, Idle, Marking, Clearing, Sweeping, is_in_cycle, CycleHeap, is_white}
+use Rattle.ref_mark.proofs.Common.{is_past_mark, is_doomed, doomed, young, with_made, unmarked, shown_heap}
 use Rattle.ref_base.proofs.OneMore.{has-one_more}
 use Rattle.ref_base.proofs.ShownObjects.{map-shown_none}
 

@@ -3,13 +3,7 @@ use Rattle.std.proofs.Common.{◌≡◌, ℕ, zero, suc, ◌*◌, refl, sym, ap,
 use Rattle.std.specs.Prelude.{None, [], replicate}
 use Rattle.std.proofs.lemmas.Bool.{false≢true, true≢false}
 use Rattle.std.proofs.lemmas.List.{length-replicate}
-use Rattle.ref_base.specs.Members.{has}
-use Rattle.ref_base.specs.Paths.{present}
-use Rattle.ref_base.specs.Heaps.{nulls}
-use Rattle.ref_base.specs.Worlds.{pending_numbers}
-use Rattle.ref_base.specs.declared.config.Config.{Config}
-use Rattle.ref_mark.specs.CycleHeaps.{first_cycle_heap}
-use Rattle.ref_mark.specs.Standing.{MarkStands}
+use Rattle.ref_mark.proofs.Common.{has, present, nulls, pending_numbers, Config, first_cycle_heap, MarkStands}
 use Rattle.ref_mark.specs.MarkRows.{starting_state}
 use Rattle.ref_mark.proofs.RootFacts.{root_cases}
 use Rattle.ref_mark.proofs.ObjectRows.{has-present_nulls}

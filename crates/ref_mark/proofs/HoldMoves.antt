@@ -4,25 +4,21 @@ use Rattle.std.proofs.Common.{List, [], ◌∷◌, ◌++◌, length, Option, Som
 use Rattle.std.specs.Prelude.{slice_set}
 use Rattle.std.proofs.lemmas.Bool.{cases_Bool, and_parts, or_cases, or_left, or_right, eqb-true}
 use Rattle.std.proofs.lemmas.List.{length-set}
-use Rattle.ref_base.specs.Members.{has}
-use Rattle.ref_base.specs.Paths.{present}
-use Rattle.ref_base.specs.Heaps.{Heap, slot_at, with_slot, with_hold, without_hold, one_more, one_fewer}
-use Rattle.ref_base.specs.Worlds.{graph_of, pending_numbers}
-use Rattle.ref_base.specs.Refusals.{unless, has_slot, held_refusal, is_counted, hold_refusal}
+use Rattle.ref_mark.proofs.Common.{has, present, Heap, slot_at, with_slot, one_more, one_fewer, graph_of}
+use Rattle.ref_mark.proofs.Common.{pending_numbers, unless, has_slot, State, Fault, NoSuchActor, ticked, on_heap}
+use Rattle.ref_mark.proofs.Common.{value_reply, HeapAccepts, CycleHeap, unless_refused, MarkStands}
+use Rattle.ref_base.specs.Heaps.{with_hold, without_hold}
+use Rattle.ref_base.specs.Refusals.{held_refusal, is_counted, hold_refusal}
 use Rattle.ref_base.specs.Replay.{adopted}
-use Rattle.ref_base.specs.Collectors.{State}
-use Rattle.ref_base.specs.declared.fault.Fault.{Fault}
-use Rattle.ref_base.specs.declared.fault.Fault.TheVariants.{NoSuchActor, ForeignHold}
-use Rattle.ref_base.specs.CollectorRows.{ticked, on_heap, value_reply, Holds, HeapAccepts}
+use Rattle.ref_base.specs.declared.fault.Fault.TheVariants.{ForeignHold}
+use Rattle.ref_base.specs.CollectorRows.{Holds}
 use Rattle.ref_base.specs.declared.heap_step.HoldName.{HoldName}
 use Rattle.ref_base.specs.declared.heap_step.HeapStep.TheVariants as heap
 use Rattle.ref_base.specs.declared.reply.Reply.TheVariants as replies
 use Rattle.ref_objects.specs.Grounds.{mint_refusal}
-use Rattle.ref_mark.specs.CycleHeaps.{CycleHeap}
-use Rattle.ref_mark.specs.MarkCalls.{with_hold_of, is_freed, names_freed, unless_refused}
+use Rattle.ref_mark.specs.MarkCalls.{with_hold_of, is_freed, names_freed}
 use Rattle.ref_mark.specs.MarkRows.{KeepsStanding}
 use Rattle.ref_mark.specs.MarkViews.{ground_of}
-use Rattle.ref_mark.specs.Standing.{MarkStands}
 use Rattle.ref_base.proofs.OneMore.{has-one_more}
 use Rattle.ref_base.proofs.RowForms.{unless_parts}
 use Rattle.ref_mark.proofs.Moves.{IsMove}

@@ -1,3 +1,4 @@
+pub mod Common
 pub mod Shading
 pub mod DoomedLists
 pub mod ShownHeaps

@@ -4,15 +4,12 @@ use Rattle.std.proofs.Common.{List, [], ◌∷◌, ◌++◌, length, take, Optio
 use Rattle.std.specs.Prelude.{slice_index_or, if◌then◌else◌}
 use Rattle.std.proofs.lemmas.Bool.{cases_Bool, le-leb, lt-leb, leb-true, leb-false, eq-eqb}
 use Rattle.std.proofs.lemmas.List.{take_more}
-use Rattle.ref_base.specs.Graphs.{Object, Reference, object_at}
-use Rattle.ref_base.specs.Paths.{Allowed, present, if_any, targets_of, targets_at, allowed_referent}
-use Rattle.ref_base.specs.KeptPaths.{Policy, is_kept}
-use Rattle.ref_base.specs.Heaps.{Heap, reference_at, reference_in}
-use Rattle.ref_base.specs.declared.urgency.Urgency.{Urgency}
-use Rattle.ref_objects.specs.Grounds.{fields_in, least_from, AllFrom, IsInOrder}
-use Rattle.ref_mark.specs.Worklists.{first_in}
-use Rattle.ref_mark.specs.CycleHeaps.{CycleHeap, is_white, shaded, shaded_all, shaded_if_any, policy_in}
-use Rattle.ref_mark.specs.CycleHeaps.{whitened, cycle_begun, roots_of}
+use Rattle.ref_mark.proofs.Common.{Object, Reference, object_at, Allowed, present, targets_of, targets_at}
+use Rattle.ref_mark.proofs.Common.{allowed_referent, Policy, is_kept, Heap, reference_at, reference_in, Urgency}
+use Rattle.ref_mark.proofs.Common.{fields_in, least_from, IsInOrder, first_in, CycleHeap, is_white, shaded, shaded_all}
+use Rattle.ref_mark.proofs.Common.{shaded_if_any, policy_in, whitened, cycle_begun, roots_of}
+use Rattle.ref_base.specs.Paths.{if_any}
+use Rattle.ref_objects.specs.Grounds.{AllFrom}
 use Rattle.ref_mark.proofs.Shading.{greyed, shaded-only, shaded_all-only, shaded_all-append}
 use Rattle.ref_mark.proofs.Shading.{shaded_other, shaded_white, own-greyed}
 

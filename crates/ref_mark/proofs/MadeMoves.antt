@@ -5,17 +5,10 @@ use Rattle.std.proofs.Common.{[], ◌∷◌, ◌++◌, Option, Some, None, is_so
 use Rattle.std.specs.Prelude.{slice_set}
 use Rattle.std.proofs.lemmas.Bool.{cases_Bool, or_cases, or_left, or_right, eqb-true, eq-eqb, false≢true, true≢false}
 use Rattle.std.proofs.lemmas.List.{length-set}
-use Rattle.ref_base.specs.DoomedSets.{refers_into}
-use Rattle.ref_base.specs.Members.{has}
-use Rattle.ref_base.specs.Graphs.{Object, object_at, is_there}
-use Rattle.ref_base.specs.Paths.{present, targets_of, targets_at, soft_and_weak_referents}
-use Rattle.ref_base.specs.KeptPaths.{is_kept}
-use Rattle.ref_base.specs.Heaps.{made, one_more, reference_in, reference_at}
-use Rattle.ref_base.specs.Worlds.{pending_numbers}
-use Rattle.ref_base.specs.Refusals.{has_slot}
-use Rattle.ref_base.specs.Collectors.{State}
-use Rattle.ref_mark.specs.CycleHeaps.{is_in_cycle, CycleHeap, policy_in, is_white, is_due, doomed, young, with_made}
-use Rattle.ref_mark.specs.Standing.{MarkStands}
+use Rattle.ref_mark.proofs.Common.{refers_into, has, Object, object_at, is_there, present, targets_of, targets_at}
+use Rattle.ref_mark.proofs.Common.{soft_and_weak_referents, is_kept, made, one_more, reference_in, reference_at}
+use Rattle.ref_mark.proofs.Common.{pending_numbers, has_slot, State, is_in_cycle, CycleHeap, policy_in, is_white}
+use Rattle.ref_mark.proofs.Common.{is_due, doomed, young, with_made, MarkStands}
 use Rattle.ref_base.proofs.OneMore.{has-one_more}
 use Rattle.ref_mark.proofs.Shading.{not_white_marked}
 use Rattle.ref_mark.proofs.DoomedLists.{doomed-made, is_there-above}

@@ -3,19 +3,13 @@ use Rattle.std.proofs.Common.{◌≡◌, ℕ, Bool, true, false, not, ◌&&◌, 
 use Rattle.std.proofs.Common.{List, [], ◌∷◌, length, None, inl, inr}
 use Rattle.std.specs.Prelude.{is_some}
 use Rattle.std.proofs.lemmas.Bool.{cases_Bool, and_parts, false≢true, not-true}
-use Rattle.ref_base.specs.Members.{has}
-use Rattle.ref_base.specs.Graphs.{Object, is_there, object_at}
-use Rattle.ref_base.specs.DoomedSets.{MayDoom, refers_into, new_clears}
-use Rattle.ref_base.specs.Heaps.{reference_at, reference_in}
-use Rattle.ref_base.specs.Worlds.{graph_of, policy_of}
-use Rattle.ref_base.specs.Refusals.{is_in, is_empty, end_mark_refusal}
-use Rattle.ref_base.specs.Collectors.{State, joined}
+use Rattle.ref_mark.proofs.Common.{has, Object, is_there, object_at, MayDoom, refers_into, reference_at, reference_in}
+use Rattle.ref_mark.proofs.Common.{graph_of, policy_of, is_in, is_empty, end_mark_refusal, State, joined, Marking}
+use Rattle.ref_mark.proofs.Common.{Clearing, Sweeping, CycleHeap, is_white, is_black, unmarked, MarkStands, InClearing}
+use Rattle.ref_base.specs.DoomedSets.{new_clears}
 use Rattle.ref_base.specs.CollectorRows.{EndsMark, doomed_at, mark_ended}
-use Rattle.ref_base.specs.declared.phase.Phase.TheVariants.{Marking, Clearing, Sweeping}
 use Rattle.ref_base.specs.declared.reply.Reply.TheVariants as replies
-use Rattle.ref_mark.specs.CycleHeaps.{CycleHeap, is_white, is_black, cycle_in_phase}
-use Rattle.ref_objects.specs.Grounds.{unmarked}
-use Rattle.ref_mark.specs.Standing.{MarkStands, InClearing}
+use Rattle.ref_mark.specs.CycleHeaps.{cycle_in_phase}
 use Rattle.ref_mark.proofs.Shading.{MarkingBut, not_white_marked}
 use Rattle.ref_mark.proofs.Passed.{end_mark_passed}
 use Rattle.ref_mark.proofs.RootFacts.{plain_there}

@@ -1,16 +1,9 @@
 -- The kinds of moves: of slots and holds alone, of one object, and of one more object.
 use Rattle.std.proofs.Common.{◌≡◌, ℕ, true, false, refl, sym, subst, arith}
 use Rattle.std.proofs.Common.{List, length, Option, Some, is_some, ◌⊎◌, inl, inr}
-use Rattle.ref_base.specs.DoomedSets.{refers_into}
-use Rattle.ref_base.specs.Members.{has}
-use Rattle.ref_base.specs.Graphs.{Object, object_at, is_there}
-use Rattle.ref_base.specs.Paths.{Allowed, targets_of, soft_and_weak_referents}
-use Rattle.ref_base.specs.Strengths.{IsRising}
-use Rattle.ref_base.specs.KeptPaths.{is_kept}
-use Rattle.ref_base.specs.Heaps.{changed_at, reference_in}
-use Rattle.ref_base.specs.Collectors.{State}
-use Rattle.ref_mark.specs.CycleHeaps.{is_in_cycle, CycleHeap, policy_in, is_white, is_past_mark}
-use Rattle.ref_mark.specs.Standing.{MarkStands}
+use Rattle.ref_mark.proofs.Common.{refers_into, has, Object, object_at, is_there, Allowed, targets_of}
+use Rattle.ref_mark.proofs.Common.{soft_and_weak_referents, IsRising, is_kept, changed_at, reference_in, State}
+use Rattle.ref_mark.proofs.Common.{is_in_cycle, CycleHeap, policy_in, is_white, is_past_mark, MarkStands}
 use Rattle.ref_mark.proofs.DoomedLists.{doomed-changed}
 use Rattle.ref_mark.proofs.Moves.{Change, IsMove, roots_after}
 use Rattle.ref_base.proofs.Lookups.{lookup-changed, numbers-changed}

@@ -2,16 +2,9 @@
 use Rattle.std.proofs.Common.{◌≡◌, ℕ, ◌<◌, ◌≤◌, Bool, true, false, not, refl, sym, ap, subst, ◌∙◌, arith}
 use Rattle.std.proofs.Common.{List, [], ◌∷◌, inl, inr}
 use Rattle.std.proofs.lemmas.Bool.{cases_Bool, true≢false, or_left, or_right}
-use Rattle.ref_base.specs.Heaps.{Heap}
-use Rattle.ref_base.specs.Orderly.{IsOrderly}
-use Rattle.ref_base.specs.Worlds.{World, with_heap, graph_of, pending_numbers}
-use Rattle.ref_base.specs.Refusals.{is_in, is_empty}
-use Rattle.ref_base.specs.Collectors.{State}
-use Rattle.ref_base.specs.CollectorRows.{ticked}
-use Rattle.ref_base.specs.declared.phase.Phase.{Phase}
-use Rattle.ref_base.specs.declared.phase.Phase.TheVariants.{Idle, Marking, Clearing, Sweeping}
-use Rattle.ref_mark.specs.CycleHeaps.{is_in_cycle, CycleHeap, is_white, is_past_mark, is_due}
-use Rattle.ref_mark.specs.Standing.{FactsBut, AreThere, MarkStands, ReadsAs}
+use Rattle.ref_mark.proofs.Common.{Heap, IsOrderly, World, with_heap, graph_of, pending_numbers, is_in, is_empty}
+use Rattle.ref_mark.proofs.Common.{State, ticked, Phase, Idle, Marking, Clearing, Sweeping, is_in_cycle, CycleHeap}
+use Rattle.ref_mark.proofs.Common.{is_white, is_past_mark, is_due, FactsBut, AreThere, MarkStands, ReadsAs}
 use Rattle.ref_mark.proofs.Agreeing.{agrees_same, same_before}
 use Rattle.ref_mark.proofs.Shading.{MarkingBut}
 use Rattle.ref_mark.proofs.DoomedLists.{past_is_in_cycle, shown_heap-before}

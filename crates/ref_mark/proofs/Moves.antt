@@ -2,19 +2,14 @@
 use Rattle.std.proofs.Common.{◌≡◌, ℕ, ◌<◌, ◌≤◌, Bool, true, false, not, ◌&&◌, refl, sym, ◌∙◌, arith}
 use Rattle.std.proofs.Common.{List, [], ◌∷◌, ◌++◌, length, Option, Some, None, is_some, ◌⊎◌, inl, inr}
 use Rattle.std.proofs.lemmas.Bool.{cases_Bool, and_parts, false≢true, true≢false, false_from_ne_true}
-use Rattle.ref_base.specs.DoomedSets.{refers_into}
-use Rattle.ref_base.specs.Members.{has}
-use Rattle.ref_base.specs.Graphs.{Graph, Object, Reference, object_at, is_there, numbers}
-use Rattle.ref_base.specs.Paths.{Allowed, present, targets_of, targets_at, soft_and_weak_referents}
-use Rattle.ref_base.specs.Strengths.{IsRising}
-use Rattle.ref_base.specs.KeptPaths.{is_kept}
-use Rattle.ref_base.specs.Heaps.{Heap, reference_in, reference_at}
-use Rattle.ref_base.specs.Worlds.{World, with_heap, graph_of, pending_numbers}
-use Rattle.ref_base.specs.Collectors.{State}
+use Rattle.ref_mark.proofs.Common.{refers_into, has, Graph, Object, Reference, object_at, is_there, Allowed, present}
+use Rattle.ref_mark.proofs.Common.{targets_of, targets_at, soft_and_weak_referents, IsRising, is_kept, Heap}
+use Rattle.ref_mark.proofs.Common.{reference_in, reference_at, World, with_heap, graph_of, pending_numbers, State}
+use Rattle.ref_mark.proofs.Common.{is_in_cycle, CycleHeap, policy_in, is_white, is_black, is_past_mark, is_due, doomed}
+use Rattle.ref_mark.proofs.Common.{FactsBut, Coloured, Reached, FoundBut, InClearing}
+use Rattle.ref_base.specs.Graphs.{numbers}
 use Rattle.ref_base.proofs.PathLaws.{root_ends, target_ends}
-use Rattle.ref_mark.specs.CycleHeaps.{is_in_cycle, CycleHeap, policy_in, is_white, is_black, is_past_mark, is_due}
-use Rattle.ref_mark.specs.CycleHeaps.{doomed}
-use Rattle.ref_mark.specs.Standing.{FactsBut, Coloured, Reached, FoundBut, InClearing, InSweeping}
+use Rattle.ref_mark.specs.Standing.{InSweeping}
 use Rattle.ref_mark.proofs.Shading.{MarkingBut, refers_into-wider}
 use Rattle.ref_base.proofs.StillFound.{are_found-still}
 

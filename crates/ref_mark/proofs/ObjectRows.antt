@@ -3,27 +3,20 @@ use Rattle.std.proofs.Common.{◌≡◌, ℕ, ◌+◌, ◌*◌, true, false, if�
 use Rattle.std.proofs.Common.{List, [], ◌++◌, Option, Some, None, inl, inr, nat_lt}
 use Rattle.std.specs.Prelude.{slice_set}
 use Rattle.std.proofs.lemmas.Bool.{cases_Bool, and_parts, false≢true, true≢false}
-use Rattle.ref_base.specs.DoomedSets.{refers_into}
-use Rattle.ref_base.specs.Members.{has}
-use Rattle.ref_base.specs.Graphs.{Object, plain_object}
-use Rattle.ref_base.specs.Paths.{Allowed, present, targets_of, allowed_referent, is_soft, soft_and_weak_referents}
-use Rattle.ref_base.specs.KeptPaths.{is_kept}
-use Rattle.ref_base.specs.DoomedSets.{is_new_clear}
-use Rattle.ref_base.specs.Heaps.{Heap, slot_at, nulls, new_reference, made, stored, with_field, changed_in}
-use Rattle.ref_base.specs.Worlds.{with_heap, pending_numbers}
-use Rattle.ref_base.specs.Refusals.{has_slot, has_slots, is_queue_or_none, unless, unless_empty, object_refusal}
-use Rattle.ref_base.specs.Refusals.{field_refusal, new_refusal, refer_refusal, store_refusal}
-use Rattle.ref_base.specs.Collectors.{State}
-use Rattle.ref_base.specs.CollectorRows.{ticked, on_heap, HeapAccepts}
-use Rattle.ref_base.specs.declared.strength.Strength.{Strength}
-use Rattle.ref_base.specs.declared.fault.Fault.TheVariants.{NoSuchActor, BadQueue}
+use Rattle.ref_mark.proofs.Common.{refers_into, has, Object, plain_object, Allowed, present, targets_of}
+use Rattle.ref_mark.proofs.Common.{allowed_referent, is_soft, soft_and_weak_referents, is_kept, is_new_clear, Heap}
+use Rattle.ref_mark.proofs.Common.{slot_at, nulls, new_reference, made, changed_in, with_heap, pending_numbers}
+use Rattle.ref_mark.proofs.Common.{has_slot, has_slots, unless, field_refusal, new_refusal, refer_refusal, State}
+use Rattle.ref_mark.proofs.Common.{ticked, on_heap, HeapAccepts, Strength, NoSuchActor, is_in_cycle, CycleHeap}
+use Rattle.ref_mark.proofs.Common.{policy_in, is_white, is_past_mark, doomed, with_made, is_there, heap_but}
+use Rattle.ref_mark.proofs.Common.{MarkStands, ReadsAs, unsaid, shown_heap}
+use Rattle.ref_base.specs.Heaps.{stored, with_field}
+use Rattle.ref_base.specs.Refusals.{is_queue_or_none, unless_empty, object_refusal}
+use Rattle.ref_base.specs.Refusals.{store_refusal}
+use Rattle.ref_base.specs.declared.fault.Fault.TheVariants.{BadQueue}
 use Rattle.ref_base.specs.declared.heap_step.HeapStep.TheVariants as heap
 use Rattle.ref_base.specs.declared.reply.Reply.TheVariants as replies
 use Rattle.ref_base.proofs.HasLaws.{has-left, has-right, has-cases}
-use Rattle.ref_mark.specs.CycleHeaps.{is_in_cycle, CycleHeap, policy_in, is_white, is_past_mark, doomed, with_made}
-use Rattle.ref_base.specs.Graphs.{is_there}
-use Rattle.ref_base.specs.Forgetting.{heap_but}
-use Rattle.ref_mark.specs.Standing.{MarkStands, ReadsAs, unsaid, shown_heap}
 use Rattle.ref_mark.proofs.DoomedLists.{doomed-made, young-phase}
 use Rattle.ref_mark.proofs.Agreeing.{agrees_changed, made-agrees, said_slot, said_new, agrees_next, unsaid_same}
 use Rattle.ref_mark.proofs.DoomedLists.{past_is_in_cycle, is_there-above}

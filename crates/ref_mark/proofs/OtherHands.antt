@@ -1,14 +1,8 @@
 -- Whether a heap stands for a state is no matter of hands and queues, nor of moments but for what was ever kept in them.
 use Rattle.std.proofs.Common.{◌≡◌, ℕ, true, List, Option}
-use Rattle.ref_base.specs.Graphs.{Graph}
-use Rattle.ref_base.specs.KeptPaths.{EverKept}
+use Rattle.ref_mark.proofs.Common.{Graph, EverKept, is_in, State, Marking, CycleHeap, policy_in, MarkStands}
 use Rattle.ref_base.specs.QueueLists.{Lists}
 use Rattle.ref_base.specs.Worlds.{Notice}
-use Rattle.ref_base.specs.Refusals.{is_in}
-use Rattle.ref_base.specs.Collectors.{State}
-use Rattle.ref_base.specs.declared.phase.Phase.TheVariants.{Marking}
-use Rattle.ref_mark.specs.CycleHeaps.{CycleHeap, policy_in}
-use Rattle.ref_mark.specs.Standing.{MarkStands}
 
 -- the state with other hands and queues
 abbrev pub with_others : State → List (Option Notice) → List (Option Notice) → List (Lists Notice) → State

@@ -1,22 +1,13 @@
 -- No step of marking changes the number of a heap.
 use Rattle.std.proofs.Common.{◌≡◌, ℕ, ◌+◌, List, Option, Some, None, refl, ap, ◌∙◌, inl, inr, [], ◌∷◌}
 use Rattle.std.proofs.lemmas.Bool.{cases_Bool}
-use Rattle.ref_base.specs.DoomedSets.{refers_into}
-use Rattle.ref_base.specs.Graphs.{Object, plain_object}
-use Rattle.ref_base.specs.Heaps.{slot_at, made, nulls, new_reference}
-use Rattle.ref_base.specs.Paths.{targets_at}
-use Rattle.ref_base.specs.KeptPaths.{is_kept}
-use Rattle.ref_base.specs.HeapSteps.{NamedStep}
-use Rattle.ref_base.specs.Refusals.{is_in}
-use Rattle.ref_base.specs.CollectorRows.{field_in, reference_of}
-use Rattle.ref_base.specs.declared.fault.Fault.{Fault}
-use Rattle.ref_base.specs.declared.phase.Phase.TheVariants.{Marking}
-use Rattle.ref_base.specs.declared.urgency.Urgency.{Urgency}
+use Rattle.ref_mark.proofs.Common.{refers_into, Object, plain_object, slot_at, made, nulls, new_reference, targets_at}
+use Rattle.ref_mark.proofs.Common.{is_kept, NamedStep, is_in, field_in, reference_of, Fault, Marking, Urgency}
+use Rattle.ref_mark.proofs.Common.{CycleHeap, policy_in, is_white, is_in_cycle, is_doomed, shaded_all, shaded_if_any}
+use Rattle.ref_mark.proofs.Common.{young, with_made, barred, value_got, with_cleared, whitened, roots_of, grey_scanned}
+use Rattle.ref_mark.proofs.Common.{done_in, refusal_in_cycle, unless_refused}
 use Rattle.ref_base.specs.declared.heap_step.HeapStep.TheVariants as heap
-use Rattle.ref_mark.specs.CycleHeaps.{CycleHeap, policy_in, is_white, is_in_cycle, is_doomed}
-use Rattle.ref_mark.specs.CycleHeaps.{shaded_all, shaded_if_any, young, with_made, barred, value_got, with_cleared}
-use Rattle.ref_mark.specs.CycleHeaps.{whitened, roots_of, grey_scanned}
-use Rattle.ref_mark.specs.MarkCalls.{done_in, after_in_cycle, refusal_in_cycle, unless_refused}
+use Rattle.ref_mark.specs.MarkCalls.{after_in_cycle}
 use Rattle.ref_mark.proofs.Scanning.{with_found-only}
 use Rattle.ref_mark.proofs.Shading.{shaded-only, shaded_all-only}
 

@@ -2,11 +2,9 @@
 use Rattle.std.proofs.Common.{◌≡◌, ℕ, ◌<◌, ◌^◌, ◌-◌, true, not, refl, nat_le, nat_lt}
 use Rattle.std.proofs.Common.{List, [], ◌∷◌, None}
 use Rattle.std.proofs.lemmas.Bool.{false≢true, ltb-true}
-use Rattle.ref_base.specs.Refusals.{is_in, is_empty, is_worker, unless, begin_refusal, work_refusal, end_mark_refusal}
-use Rattle.ref_base.specs.declared.phase.Phase.{Phase}
-use Rattle.ref_base.specs.declared.phase.Phase.TheVariants.{Idle, Marking, Clearing, Sweeping}
-use Rattle.ref_base.specs.declared.fault.Fault.TheVariants.{NoSuchActor, NumbersSpent, WrongPhase, ClockBack, GreyLeft}
-use Rattle.ref_mark.specs.CycleHeaps.{CycleHeap}
+use Rattle.ref_mark.proofs.Common.{is_in, is_empty, is_worker, unless, begin_refusal, work_refusal, end_mark_refusal}
+use Rattle.ref_mark.proofs.Common.{Phase, Idle, Marking, Clearing, Sweeping, NoSuchActor, CycleHeap}
+use Rattle.ref_base.specs.declared.fault.Fault.TheVariants.{NumbersSpent, WrongPhase, ClockBack, GreyLeft}
 use Rattle.ref_base.proofs.RowForms.{unless_parts}
 
 pub is_idle : (phase : Phase) → is_in phase Idle ≡ true → phase ≡ Idle

@@ -2,17 +2,10 @@
 use Rattle.std.proofs.Common.{◌≡◌, ℕ, ◌≤◌, true, false, not, refl, sym, ap, subst, ◌∙◌}
 use Rattle.std.proofs.Common.{List, [], length}
 use Rattle.std.proofs.lemmas.Bool.{false≢true}
-use Rattle.ref_base.specs.Heaps.{Heap}
-use Rattle.ref_base.specs.Orderly.{IsOrderly}
-use Rattle.ref_base.specs.Worlds.{graph_of}
-use Rattle.ref_base.specs.Refusals.{is_in, is_empty}
-use Rattle.ref_base.specs.Collectors.{State}
-use Rattle.ref_base.specs.declared.urgency.Urgency.{Urgency}
-use Rattle.ref_base.specs.declared.phase.Phase.{Phase}
-use Rattle.ref_base.specs.declared.phase.Phase.TheVariants.{Marking, Clearing, Sweeping}
-use Rattle.ref_mark.specs.CycleHeaps.{CycleHeap, is_past_mark, is_in_cycle, doomed}
+use Rattle.ref_mark.proofs.Common.{Heap, IsOrderly, graph_of, is_in, is_empty, State, Urgency, Phase, Marking}
+use Rattle.ref_mark.proofs.Common.{Clearing, Sweeping, CycleHeap, is_past_mark, is_in_cycle, doomed, AreThere}
+use Rattle.ref_mark.proofs.Common.{MarkStands}
 use Rattle.ref_mark.proofs.Agreeing.{same_before, agrees_same}
-use Rattle.ref_mark.specs.Standing.{AreThere, MarkStands}
 use Rattle.ref_mark.proofs.Shading.{MarkingBut}
 use Rattle.ref_mark.proofs.DoomedLists.{shown_heap-before}
 

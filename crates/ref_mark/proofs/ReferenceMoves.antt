@@ -2,22 +2,15 @@
 use Rattle.std.proofs.Common.{◌≡◌, ℕ, Bool, true, false, not, ◌&&◌, if◌then◌else◌, refl, sym, ap, subst, ◌∙◌}
 use Rattle.std.proofs.Common.{List, [], Option, Some, None, is_some, inl, inr}
 use Rattle.std.proofs.lemmas.Bool.{cases_Bool, and_parts, false≢true, true≢false}
-use Rattle.ref_base.specs.DoomedSets.{refers_into}
-use Rattle.ref_base.specs.DoomedSets.{any_is}
-use Rattle.ref_base.specs.Members.{has}
-use Rattle.ref_base.specs.Graphs.{Object, Reference, object_at, is_there}
-use Rattle.ref_base.specs.Paths.{Allowed, present, allowed_referent, targets_of, targets_at, is_phantom, is_soft}
-use Rattle.ref_base.specs.Paths.{is_weak, soft_and_weak_referents}
-use Rattle.ref_base.specs.Heaps.{Heap, slot_at, reference_in, changed_in}
-use Rattle.ref_base.specs.Heaps.{changed_reference, with_reference, cleared, got_at, got}
-use Rattle.ref_base.specs.Refusals.{is_in, reference_refusal}
-use Rattle.ref_base.specs.CollectorRows.{reference_of, referent_got}
-use Rattle.ref_base.specs.declared.phase.Phase.TheVariants.{Marking}
-use Rattle.ref_base.specs.declared.strength.Strength.{Strength}
+use Rattle.ref_mark.proofs.Common.{refers_into, any_is, has, Object, Reference, object_at, is_there, Allowed, present}
+use Rattle.ref_mark.proofs.Common.{allowed_referent, targets_of, targets_at, is_soft, soft_and_weak_referents, Heap}
+use Rattle.ref_mark.proofs.Common.{slot_at, reference_in, changed_in, changed_reference, with_reference, cleared}
+use Rattle.ref_mark.proofs.Common.{got_at, got, is_in, reference_refusal, reference_of, referent_got, Marking}
+use Rattle.ref_mark.proofs.Common.{Strength, CycleHeap, is_white, is_past_mark, is_doomed, undoomed, barred, with_got}
+use Rattle.ref_base.specs.Paths.{is_phantom}
+use Rattle.ref_base.specs.Paths.{is_weak}
 use Rattle.ref_base.specs.declared.strength.Strength.TheVariants.{Soft, Weak, Phantom}
 use Rattle.ref_base.proofs.HasLaws.{has-first, has-left, has-right, has-cases}
-use Rattle.ref_mark.specs.CycleHeaps.{CycleHeap, is_white, is_past_mark, is_doomed, undoomed}
-use Rattle.ref_mark.specs.CycleHeaps.{barred, with_got}
 use Rattle.ref_mark.proofs.Shading.{refers_into-wider}
 use Rattle.ref_base.proofs.Lookups.{allowed_referent-cases, lookup-changed}
 use Rattle.ref_mark.proofs.MoveKinds.{MayBecome}

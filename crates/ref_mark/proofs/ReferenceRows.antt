@@ -4,29 +4,23 @@ use Rattle.std.proofs.Common.{List, [], ◌∷◌, ◌++◌, Option, Some, None,
 use Rattle.std.specs.Prelude.{slice_set}
 use Rattle.std.proofs.lemmas.Bool.{cases_Bool, and_parts, or_left, eq-eqb}
 use Rattle.std.proofs.lemmas.List.{length-set}
-use Rattle.ref_base.specs.Members.{has}
-use Rattle.ref_base.specs.Graphs.{Object, Reference, is_there}
-use Rattle.ref_base.specs.Paths.{present}
-use Rattle.ref_base.specs.DoomedSets.{refers_into}
-use Rattle.ref_base.specs.Heaps.{Heap, slot_at, with_slot, reference_in, changed_in}
-use Rattle.ref_base.specs.Heaps.{with_reference, cleared, got_at, got, cut}
-use Rattle.ref_base.specs.Worlds.{pending_numbers}
-use Rattle.ref_base.specs.Refusals.{is_in, has_slot, has_slots, reference_refusal, get_refusal, clear_refusal}
-use Rattle.ref_base.specs.Collectors.{State}
-use Rattle.ref_base.specs.CollectorRows.{ticked, on_heap, value_reply, Gets, HeapAccepts, reference_of, referent_got}
+use Rattle.ref_mark.proofs.Common.{has, Object, Reference, is_there, present, refers_into, Heap, slot_at, with_slot}
+use Rattle.ref_mark.proofs.Common.{reference_in, changed_in, with_reference, cleared, got_at, got, pending_numbers}
+use Rattle.ref_mark.proofs.Common.{is_in, has_slot, has_slots, reference_refusal, State, ticked, on_heap, value_reply}
+use Rattle.ref_mark.proofs.Common.{HeapAccepts, reference_of, referent_got, heap_but, Marking, NoSuchActor, CycleHeap}
+use Rattle.ref_mark.proofs.Common.{is_white, is_past_mark, is_in_cycle, is_doomed, doomed, undoomed, value_got, barred}
+use Rattle.ref_mark.proofs.Common.{with_got, with_cleared, MarkStands, ReadsAs, unsaid}
+use Rattle.ref_base.specs.Heaps.{cut}
+use Rattle.ref_base.specs.Refusals.{get_refusal, clear_refusal}
+use Rattle.ref_base.specs.CollectorRows.{Gets}
 use Rattle.ref_base.specs.CollectorRows.{referent_of, is_same}
-use Rattle.ref_base.specs.Forgetting.{heap_but}
-use Rattle.ref_base.specs.declared.phase.Phase.TheVariants.{Marking}
-use Rattle.ref_base.specs.declared.fault.Fault.TheVariants.{NoSuchActor}
 use Rattle.ref_base.specs.declared.heap_step.HeapStep.TheVariants as heap
 use Rattle.ref_base.specs.declared.reply.Reply.TheVariants as replies
 use Rattle.ref_base.proofs.Lookups.{has-present_here}
 use Rattle.ref_base.proofs.RowForms.{unless_parts}
 use Rattle.ref_base.proofs.ShownObjects.{shown_reference, unless_among, referent_of-shown, referent_got-shown}
 use Rattle.ref_base.proofs.ShownObjects.{shown-cleared, shown-got}
-use Rattle.ref_mark.specs.CycleHeaps.{CycleHeap, is_white, is_past_mark, is_in_cycle, is_doomed, doomed, undoomed}
-use Rattle.ref_mark.specs.CycleHeaps.{value_got, barred, with_got, with_cleared, reads_same}
-use Rattle.ref_mark.specs.Standing.{MarkStands, ReadsAs, unsaid}
+use Rattle.ref_mark.specs.CycleHeaps.{reads_same}
 use Rattle.ref_mark.proofs.Agreeing.{reference_of-agrees, changed_in-agrees, agrees_changed, said_slot}
 use Rattle.ref_mark.proofs.DoomedLists.{past_is_in_cycle, shown_heap-before}
 use Rattle.ref_mark.proofs.ShownHeaps.{cut-shown}

@@ -8,26 +8,20 @@ use Rattle.std.proofs.lemmas.Bool.{cases_Bool, ltb-true, and_parts, not-true, fa
 use Rattle.std.proofs.lemmas.List.{append-nil, drop_all, take_all, length_push, length-map, length-set, map-set}
 use Rattle.std.proofs.lemmas.List.{length-replicate, get_or_read}
 use Rattle.std.proofs.Math.ListN.{get_or-map}
-use Rattle.ref_base.specs.DoomedSets.{refers_into}
-use Rattle.ref_base.specs.Members.{has}
-use Rattle.ref_base.specs.Graphs.{is_there}
-use Rattle.ref_base.specs.Heaps.{Heap, reference_at, one_more, one_fewer}
-use Rattle.ref_base.specs.Collectors.{joined}
-use Rattle.ref_base.specs.CollectorRows.{list_at, emptied as none_found}
-use Rattle.ref_base.specs.Refusals.{is_in, is_empty, is_worker, work_refusal}
-use Rattle.ref_base.specs.declared.fault.Fault.TheVariants.{NoSuchActor}
-use Rattle.ref_base.specs.declared.config.Config.{Config}
-use Rattle.ref_base.specs.declared.phase.Phase.{Phase}
-use Rattle.ref_base.specs.declared.urgency.Urgency.{Urgency}
-use Rattle.ref_base.specs.declared.phase.Phase.TheVariants.{Idle, Marking, Sweeping}
+use Rattle.ref_mark.proofs.Common.{refers_into, has, is_there, Heap, reference_at, one_more, one_fewer, joined}
+use Rattle.ref_mark.proofs.Common.{list_at, is_in, is_empty, is_worker, work_refusal, NoSuchActor, Config, Phase}
+use Rattle.ref_mark.proofs.Common.{Urgency, Idle, Marking, Sweeping, Ground, Worklist, empty_worklist, first_in}
+use Rattle.ref_mark.proofs.Common.{emptied_list, CycleHeap, first_cycle_heap, is_white, shaded, shaded_all, with_found}
+use Rattle.ref_mark.proofs.Common.{is_due, seen_marker, worklists_of}
+use Rattle.ref_base.specs.CollectorRows.{emptied as none_found}
 use Rattle.ref_base.specs.declared.urgency.Urgency.TheVariants.{Normal}
-use Rattle.ref_objects.specs.Grounds.{Ground, first_ground, is_unmarked, ground_marked, after_freeing, is_free, freed}
+use Rattle.ref_objects.specs.Grounds.{first_ground, is_unmarked, ground_marked, after_freeing, is_free, freed}
 use Rattle.ref_objects.specs.Grounds.{IsWellFormed}
 use Rattle.ref_objects.proofs.TabledLemmas.{length-one_more}
-use Rattle.ref_mark.specs.Worklists.{Worklist, empty_worklist, with_last, without_first_listed, first_in, rest_of, emptied_list}
-use Rattle.ref_mark.specs.CycleHeaps.{CycleHeap, first_cycle_heap, is_white, shaded, shaded_all, with_found_taken, with_found}
-use Rattle.ref_mark.specs.CycleHeaps.{is_due, swept}
-use Rattle.ref_mark.specs.MarkViews.{seen_marker, worklists_of, AreRoomy, IsRoomy}
+use Rattle.ref_mark.specs.Worklists.{with_last, without_first_listed, rest_of}
+use Rattle.ref_mark.specs.CycleHeaps.{with_found_taken}
+use Rattle.ref_mark.specs.CycleHeaps.{swept}
+use Rattle.ref_mark.specs.MarkViews.{AreRoomy, IsRoomy}
 
 -- ---- the marked
 

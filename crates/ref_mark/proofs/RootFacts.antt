@@ -4,20 +4,12 @@ use Rattle.std.proofs.Common.{◌≡◌, ℕ, ◌+◌, ◌*◌, ◌<◌, true, f
 use Rattle.std.proofs.Common.{List, [], ◌++◌, length, Option, Some, None, ◌⊎◌, inl, inr}
 use Rattle.std.specs.Prelude.{slice_set}
 use Rattle.std.proofs.lemmas.Bool.{cases_Bool, and_parts, false≢true, true≢false, or_left, or_right, ltb-true}
-use Rattle.ref_base.specs.DoomedSets.{any_is}
-use Rattle.ref_base.specs.Members.{has}
-use Rattle.ref_base.specs.Graphs.{is_there}
-use Rattle.ref_base.specs.Paths.{present, targets_at, soft_and_weak_referents}
-use Rattle.ref_base.specs.KeptPaths.{is_kept}
-use Rattle.ref_base.specs.Heaps.{Heap, slot_at}
-use Rattle.ref_base.specs.Worlds.{pending_numbers}
-use Rattle.ref_base.specs.Refusals.{is_in, has_slot, is_mutator}
-use Rattle.ref_base.specs.Collectors.{State}
-use Rattle.ref_base.specs.declared.phase.Phase.{Phase}
-use Rattle.ref_base.specs.declared.phase.Phase.TheVariants.{Idle, Marking, Clearing, Sweeping}
+use Rattle.ref_mark.proofs.Common.{any_is, has, is_there, present, targets_at, soft_and_weak_referents, is_kept, Heap}
+use Rattle.ref_mark.proofs.Common.{slot_at, pending_numbers, is_in, has_slot, State, Phase, Idle, Marking, Clearing}
+use Rattle.ref_mark.proofs.Common.{Sweeping, is_in_cycle, CycleHeap, policy_in, is_white, is_black, is_past_mark}
+use Rattle.ref_mark.proofs.Common.{is_due, AreThere, MarkStands}
+use Rattle.ref_base.specs.Refusals.{is_mutator}
 use Rattle.ref_base.proofs.HasLaws.{has-left, has-right, has-cases}
-use Rattle.ref_mark.specs.CycleHeaps.{is_in_cycle, CycleHeap, policy_in, is_white, is_black, is_past_mark, is_due}
-use Rattle.ref_mark.specs.Standing.{AreThere, MarkStands}
 use Rattle.ref_mark.proofs.Shading.{not_white_marked}
 use Rattle.ref_mark.proofs.Moves.{leading_is_there}
 use Rattle.ref_base.proofs.Lookups.{has-present_set, has-present_at}

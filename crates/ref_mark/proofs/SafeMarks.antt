@@ -4,17 +4,12 @@ use Rattle.std.proofs.Common.{◌≡◌, ℕ, true, false, not, ◌&&◌, ◌==�
 use Rattle.std.proofs.Common.{List, [], ◌∷◌, inl, inr}
 use Rattle.std.proofs.lemmas.Bool.{cases_Bool, false≢true, true≢false, false_from_ne_true}
 use Rattle.std.proofs.lemmas.Bool.{eq-eqb, cases_lt, lt-ltb, le-ltb}
-use Rattle.ref_base.specs.Members.{has}
-use Rattle.ref_base.specs.Graphs.{Graph, Object, is_there}
-use Rattle.ref_base.specs.Paths.{targets_at}
-use Rattle.ref_base.specs.KeptPaths.{is_kept, IsKept}
-use Rattle.ref_base.specs.DoomedSets.{unscanned, MayDoom}
-use Rattle.ref_base.specs.Worlds.{graph_of}
-use Rattle.ref_base.specs.Collectors.{State, joined}
+use Rattle.ref_mark.proofs.Common.{has, Graph, Object, is_there, targets_at, is_kept, MayDoom, graph_of, State, joined}
+use Rattle.ref_mark.proofs.Common.{CycleHeap, policy_in, is_white, is_black, is_in_cycle, unmarked, FactsBut, Coloured}
+use Rattle.ref_mark.proofs.Common.{Reached, MarkStands}
+use Rattle.ref_base.specs.KeptPaths.{IsKept}
+use Rattle.ref_base.specs.DoomedSets.{unscanned}
 use Rattle.ref_base.proofs.PathLaws.{path_within}
-use Rattle.ref_mark.specs.CycleHeaps.{CycleHeap, policy_in, is_white, is_black, is_in_cycle}
-use Rattle.ref_objects.specs.Grounds.{unmarked}
-use Rattle.ref_mark.specs.Standing.{FactsBut, Coloured, Reached, MarkStands}
 use Rattle.ref_mark.proofs.Shading.{not_white_marked}
 use Rattle.ref_mark.proofs.DoomedLists.{has-unmarked}
 

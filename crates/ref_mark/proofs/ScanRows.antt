@@ -4,19 +4,13 @@ use Rattle.std.proofs.Common.{◌≡◌, ℕ, ◌<◌, Bool, true, false, not, r
 use Rattle.std.proofs.Common.{List, [], ◌∷◌, ◌++◌, length, None}
 use Rattle.std.proofs.lemmas.Bool.{true≢false, false_from_ne_true}
 use Rattle.std.proofs.lemmas.List.{length-set}
-use Rattle.ref_base.specs.Members.{has}
-use Rattle.ref_base.specs.Paths.{targets_at}
-use Rattle.ref_base.specs.KeptPaths.{is_kept, EverKept}
-use Rattle.ref_base.specs.Worlds.{graph_of, policy_of}
-use Rattle.ref_base.specs.Refusals.{is_in, is_empty, work_refusal}
-use Rattle.ref_base.specs.Collectors.{State, joined}
-use Rattle.ref_base.specs.CollectorRows.{Scans, list_at}
-use Rattle.ref_base.specs.declared.phase.Phase.TheVariants.{Marking, Sweeping}
+use Rattle.ref_mark.proofs.Common.{has, targets_at, is_kept, EverKept, graph_of, policy_of, is_in, is_empty}
+use Rattle.ref_mark.proofs.Common.{work_refusal, State, joined, list_at, Marking, Sweeping, CycleHeap, policy_in}
+use Rattle.ref_mark.proofs.Common.{shaded_all, with_found, grey_scanned, MarkStands, first_in}
+use Rattle.ref_base.specs.CollectorRows.{Scans}
 use Rattle.ref_base.specs.declared.reply.Reply.TheVariants as replies
 use Rattle.ref_base.proofs.HasLaws.{has-first}
-use Rattle.ref_mark.specs.CycleHeaps.{CycleHeap, policy_in, shaded_all, with_found, grey_scanned, scanned}
-use Rattle.ref_mark.specs.Standing.{MarkStands}
-use Rattle.ref_mark.specs.Worklists.{first_in}
+use Rattle.ref_mark.specs.CycleHeaps.{scanned}
 use Rattle.ref_mark.specs.MarkCalls.{scan_reply}
 use Rattle.ref_mark.proofs.Shading.{MarkingBut, shaded_all-only, shaded_all_marking, some_left, grey_is_left}
 use Rattle.ref_mark.proofs.Passed.{is_marking, work_passed}

@@ -6,21 +6,12 @@ use Rattle.std.specs.Prelude.{is_some}
 use Rattle.std.proofs.lemmas.Bool.{cases_Bool, and_parts, or_cases, or_left, or_right, false≢true, true≢false}
 use Rattle.std.proofs.lemmas.Bool.{eqb-true, eq-eqb, not-true, false_from_ne_true}
 use Rattle.std.proofs.lemmas.List.{length-set}
-use Rattle.ref_base.specs.DoomedSets.{refers_into}
-use Rattle.ref_base.specs.Members.{AreDistinct}
-use Rattle.ref_base.specs.Members.{has}
-use Rattle.ref_base.specs.Graphs.{Object, Reference, Graph, is_there}
-use Rattle.ref_base.specs.Paths.{targets_at}
-use Rattle.ref_base.specs.KeptPaths.{Policy, is_kept}
-use Rattle.ref_base.specs.Heaps.{reference_at}
-use Rattle.ref_base.specs.Worlds.{graph_of}
-use Rattle.ref_base.specs.Collectors.{State, joined}
-use Rattle.ref_base.specs.CollectorRows.{AreFound, list_at}
-use Rattle.ref_base.specs.declared.phase.Phase.TheVariants.{Marking}
+use Rattle.ref_mark.proofs.Common.{refers_into, AreDistinct, has, Object, Reference, Graph, is_there, targets_at}
+use Rattle.ref_mark.proofs.Common.{Policy, is_kept, reference_at, graph_of, State, joined, list_at, Marking, CycleHeap}
+use Rattle.ref_mark.proofs.Common.{policy_in, is_white, is_black, with_found, FactsBut, Coloured, Reached, FoundBut}
+use Rattle.ref_base.specs.CollectorRows.{AreFound}
 use Rattle.ref_base.proofs.HasLaws.{has-left, has-first, has-single}
 use Rattle.ref_base.proofs.PathLaws.{target_ends}
-use Rattle.ref_mark.specs.CycleHeaps.{CycleHeap, policy_in, is_white, is_black, with_found}
-use Rattle.ref_mark.specs.Standing.{FactsBut, Coloured, Reached, FoundBut}
 use Rattle.ref_mark.proofs.Shading.{MarkingBut}
 use Rattle.ref_mark.proofs.PlainStates.{plain_state}
 use Rattle.ref_base.proofs.FoundLists.{with_last, has-with_last, AreDistinct-with_last, AreFound-more_scanned}

@@ -2,19 +2,12 @@
 use Rattle.std.proofs.Common.{◌≡◌, ℕ, true, false, not, refl, sym, ap, subst, ◌∙◌, [], ◌∷◌}
 use Rattle.std.proofs.Common.{Some, inl, inr}
 use Rattle.std.proofs.lemmas.Bool.{cases_Bool}
-use Rattle.ref_base.specs.Members.{has}
-use Rattle.ref_base.specs.Graphs.{is_there}
-use Rattle.ref_base.specs.KeptPaths.{is_kept, EverKept}
-use Rattle.ref_base.specs.Heaps.{Heap}
-use Rattle.ref_base.specs.Worlds.{World, with_heap, pending_numbers}
-use Rattle.ref_base.specs.Refusals.{is_in, is_empty}
-use Rattle.ref_base.specs.Collectors.{State}
-use Rattle.ref_base.specs.CollectorRows.{ticked, with_world, IsBut, GivesAnew, GivesAnewIf}
-use Rattle.ref_base.specs.declared.phase.Phase.TheVariants.{Marking}
+use Rattle.ref_mark.proofs.Common.{has, is_there, is_kept, EverKept, Heap, World, with_heap, pending_numbers, is_in}
+use Rattle.ref_mark.proofs.Common.{is_empty, State, ticked, Marking, CycleHeap, policy_in, shaded, barred, ReadsAs}
+use Rattle.ref_mark.proofs.Common.{MarkStands}
+use Rattle.ref_base.specs.CollectorRows.{with_world, IsBut, GivesAnew, GivesAnewIf}
 use Rattle.ref_base.specs.declared.reply.Reply.{Reply}
 use Rattle.ref_base.proofs.PathLaws.{root_ends}
-use Rattle.ref_mark.specs.CycleHeaps.{CycleHeap, policy_in, shaded, barred}
-use Rattle.ref_mark.specs.Standing.{ReadsAs, MarkStands}
 use Rattle.ref_mark.proofs.Agreeing.{same_before}
 use Rattle.ref_mark.proofs.Shading.{MarkingBut, shaded_marking, shaded-only, some_left, policy_of_stands}
 use Rattle.ref_mark.proofs.DoomedLists.{shown_heap-before}

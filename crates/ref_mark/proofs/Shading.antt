@@ -3,21 +3,12 @@ use Rattle.std.proofs.Common.{◌≡◌, ℕ, ◌<◌, Bool, true, false, not, �
 use Rattle.std.proofs.Common.{List, [], ◌∷◌, ◌++◌, Option, Some, None, ◌⊎◌, inl, inr}
 use Rattle.std.proofs.lemmas.Bool.{cases_Bool, and_parts, or_cases, or_left, or_right, false≢true, true≢false}
 use Rattle.std.proofs.lemmas.Bool.{eqb-true, eq-eqb, ne_eqb, not-true, or_parts, false_from_ne_true, cases_lt}
-use Rattle.ref_base.specs.DoomedSets.{refers_into}
-use Rattle.ref_base.specs.DoomedSets.{any_is}
-use Rattle.ref_base.specs.Members.{AreDistinct}
-use Rattle.ref_base.specs.Members.{has}
-use Rattle.ref_base.specs.Graphs.{Reference, is_there}
-use Rattle.ref_base.specs.KeptPaths.{Policy, EverKept}
-use Rattle.ref_base.specs.Heaps.{Heap, one_more, reference_at}
-use Rattle.ref_base.specs.Worlds.{policy_of, graph_of}
-use Rattle.ref_base.specs.Refusals.{is_empty}
-use Rattle.ref_base.specs.Collectors.{State, joined}
+use Rattle.ref_mark.proofs.Common.{refers_into, any_is, AreDistinct, has, Reference, is_there, Policy, EverKept, Heap}
+use Rattle.ref_mark.proofs.Common.{one_more, reference_at, policy_of, graph_of, is_empty, State, joined, Urgency}
+use Rattle.ref_mark.proofs.Common.{CycleHeap, policy_in, is_white, is_black, shaded, shaded_all, FactsBut, Coloured}
+use Rattle.ref_mark.proofs.Common.{Reached, FoundBut, MarkStands, shown_heap}
 use Rattle.ref_base.specs.CollectorRows.{IsLeft}
-use Rattle.ref_base.specs.declared.urgency.Urgency.{Urgency}
 use Rattle.ref_base.proofs.HasLaws.{has-append, has-cases, has-single, has-first}
-use Rattle.ref_mark.specs.CycleHeaps.{CycleHeap, policy_in, is_white, is_black, shaded, shaded_all}
-use Rattle.ref_mark.specs.Standing.{FactsBut, Coloured, Reached, FoundBut, MarkStands, shown_heap}
 use Rattle.ref_base.proofs.OneMore.{has-one_more}
 
 -- what holds in a mark, but for some numbers that are still to be shaded, and some references that are found late

@@ -2,19 +2,13 @@
 use Rattle.std.proofs.Common.{◌≡◌, ℕ, ◌+◌, ◌<◌, true, false, not, refl, ◌∙◌, ap, inl, inr, List, map, Option, Some}
 use Rattle.std.proofs.Common.{None}
 use Rattle.std.proofs.lemmas.Bool.{cases_Bool, and_right}
-use Rattle.ref_base.specs.Members.{has}
-use Rattle.ref_base.specs.Graphs.{Object, is_there, plain_object}
-use Rattle.ref_base.specs.DoomedSets.{any_is, refers_into, is_new_clear}
-use Rattle.ref_base.specs.Heaps.{Heap, reference_at, changed_at, changed_in, with_reference, cleared, new_reference}
-use Rattle.ref_base.specs.Heaps.{made}
-use Rattle.ref_base.specs.CollectorRows.{shown, reference_of}
-use Rattle.ref_base.specs.declared.strength.Strength.{Strength}
+use Rattle.ref_mark.proofs.Common.{has, Object, is_there, plain_object, any_is, refers_into, is_new_clear, Heap}
+use Rattle.ref_mark.proofs.Common.{reference_at, changed_at, changed_in, with_reference, cleared, new_reference, made}
+use Rattle.ref_mark.proofs.Common.{shown, reference_of, Strength, CycleHeap, is_white, is_past_mark, is_in_cycle}
+use Rattle.ref_mark.proofs.Common.{is_doomed, doomed, young, with_made, shown_heap}
 use Rattle.ref_base.proofs.NewClears.{refers_into-same}
 use Rattle.ref_base.proofs.Reshaping.{map-changed_at}
 use Rattle.ref_base.proofs.ShownObjects.{shown-no, map-shown_push, changed_at-cleared}
-use Rattle.ref_mark.specs.CycleHeaps.{CycleHeap, is_white, is_past_mark, is_in_cycle, is_doomed, doomed, young}
-use Rattle.ref_mark.specs.CycleHeaps.{with_made}
-use Rattle.ref_mark.specs.Standing.{shown_heap}
 use Rattle.ref_mark.proofs.DoomedLists.{has-doomed, doomed-changed_in, doomed-made, is_there-above}
 
 -- a change of an object that keeps its number and goes through what is shown

@@ -1,11 +1,9 @@
 -- What a heap reads as, of what isn't white.
 use Rattle.std.proofs.Common.{◌≡◌, ℕ, false, refl, ◌∙◌, ap, if◌then◌else◌, Option, Some, None}
 use Rattle.std.proofs.lemmas.Bool.{and_right}
-use Rattle.ref_base.specs.DoomedSets.{any_is}
-use Rattle.ref_base.specs.CollectorRows.{reference_of}
+use Rattle.ref_mark.proofs.Common.{any_is, reference_of, CycleHeap, is_white, is_past_mark, doomed, undoomed}
+use Rattle.ref_mark.proofs.Common.{shown_heap}
 use Rattle.ref_base.proofs.ShownObjects.{shown_reference, reference_in-shown, unless_among}
-use Rattle.ref_mark.specs.CycleHeaps.{CycleHeap, is_white, is_past_mark, doomed, undoomed}
-use Rattle.ref_mark.specs.Standing.{shown_heap}
 use Rattle.ref_mark.proofs.DoomedLists.{has-doomed}
 
 -- a reference that isn't white is shown cleared where its referent is doomed

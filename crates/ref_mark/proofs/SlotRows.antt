@@ -4,25 +4,18 @@ use Rattle.std.proofs.Common.{List, [], ◌∷◌, ◌++◌, Option, Some, None,
 use Rattle.std.specs.Prelude.{slice_set}
 use Rattle.std.proofs.lemmas.Bool.{cases_Bool, and_parts, or_left, eq-eqb}
 use Rattle.std.proofs.lemmas.List.{length-set}
-use Rattle.ref_base.specs.Members.{has}
-use Rattle.ref_base.specs.Graphs.{Object, object_at, is_there}
-use Rattle.ref_base.specs.Paths.{Allowed, present, targets_of, targets_at, allowed_referent}
-use Rattle.ref_base.specs.Paths.{soft_and_weak_referents}
-use Rattle.ref_base.specs.KeptPaths.{is_kept}
-use Rattle.ref_base.specs.Heaps.{Heap, slot_at, with_slot}
-use Rattle.ref_base.specs.Worlds.{pending_numbers}
-use Rattle.ref_base.specs.Refusals.{is_in, has_slot, has_slots, field_refusal}
+use Rattle.ref_mark.proofs.Common.{has, Object, object_at, is_there, Allowed, present, targets_of, targets_at}
+use Rattle.ref_mark.proofs.Common.{allowed_referent, soft_and_weak_referents, is_kept, Heap, slot_at, with_slot}
+use Rattle.ref_mark.proofs.Common.{pending_numbers, is_in, has_slot, has_slots, field_refusal, State, ticked, on_heap}
+use Rattle.ref_mark.proofs.Common.{field_in, value_reply, HeapAccepts, Marking, NoSuchActor, is_in_cycle, CycleHeap}
+use Rattle.ref_mark.proofs.Common.{policy_in, is_white, barred, MarkStands}
 use Rattle.ref_base.specs.Refusals.{load_refusal}
-use Rattle.ref_base.specs.Collectors.{State}
-use Rattle.ref_base.specs.CollectorRows.{ticked, on_heap, field_of, field_in, value_reply, Loads, HeapAccepts}
-use Rattle.ref_base.specs.declared.phase.Phase.TheVariants.{Marking}
-use Rattle.ref_base.specs.declared.fault.Fault.TheVariants.{NoSuchActor}
+use Rattle.ref_base.specs.CollectorRows.{field_of, Loads}
 use Rattle.ref_base.specs.declared.heap_step.HeapStep.TheVariants as heap
 use Rattle.ref_base.specs.declared.reply.Reply.TheVariants as replies
 use Rattle.ref_base.proofs.HasLaws.{has-left}
-use Rattle.ref_mark.specs.CycleHeaps.{is_in_cycle, CycleHeap, policy_in, is_white, barred, loaded}
+use Rattle.ref_mark.specs.CycleHeaps.{loaded}
 use Rattle.ref_mark.proofs.Agreeing.{field_in-agrees, said_slot}
-use Rattle.ref_mark.specs.Standing.{MarkStands}
 use Rattle.ref_mark.proofs.Moves.{Change, moved, IsMove}
 use Rattle.ref_mark.proofs.MovedStates.{moved_stands, alongside_itself}
 use Rattle.ref_mark.proofs.ShadedMoves.{barred_row}

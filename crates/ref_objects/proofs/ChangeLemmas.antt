@@ -4,16 +4,13 @@ use Rattle.std.proofs.Common.{List, [], ◌∷◌, ◌++◌, length, get_or, set
 use Rattle.std.proofs.lemmas.Bool.{cases_Bool}
 use Rattle.std.proofs.lemmas.List.{get_or-set_same, get_or_read, length-set, length_push}
 use Rattle.std.specs.Option.{option_map, is_some}
-use Rattle.ref_base.specs.Members.{has}
-use Rattle.ref_objects.specs.Places.{cell_at, tabled_by, place_in, place_if_live, seen_table, AreFree, IsPlaced}
-use Rattle.ref_objects.specs.Tables.{Tabled, Table, tabled_at, has_field, holds_in, is_unheld, changed_tabled}
-use Rattle.ref_objects.specs.Tables.{without_tabled}
-use Rattle.ref_objects.specs.Tables.{on_object, less_held, changed, without_object, table_freed}
-use Rattle.ref_base.specs.Heaps.{with_field}
+use Rattle.ref_objects.proofs.Common.{has, cell_at, tabled_by, place_in, place_if_live, seen_table, AreFree, IsPlaced}
+use Rattle.ref_objects.proofs.Common.{Tabled, Table, tabled_at, has_field, holds_in, is_unheld, changed_tabled}
+use Rattle.ref_objects.proofs.Common.{without_tabled, on_object, less_held, changed, table_freed, with_field, Entry}
+use Rattle.ref_objects.specs.Tables.{without_object}
 use Rattle.std.proofs.Common.{◌-◌, ◌≤◌, nat_lt, not}
 use Rattle.std.proofs.lemmas.Bool.{ltb-false, false≢true}
 use Rattle.std.proofs.lemmas.List.{set_past}
-use Rattle.ref_objects.specs.declared.index.Entry.{Entry}
 use Rattle.ref_objects.proofs.FreeLemmas.{AreFree-apart, AreFree-set, AreFree-push}
 use Rattle.ref_objects.proofs.PlaceLemmas.{at_place, tabled_at-place, tabled_by-replaced, replaced, replaced-none}
 use Rattle.ref_objects.proofs.PlaceLemmas.{replaced-changed}

@@ -4,10 +4,8 @@ use Rattle.std.proofs.Common.{List, [], ◌∷◌, ◌++◌, length, set, replic
 use Rattle.std.proofs.Common.{arith}
 use Rattle.std.proofs.lemmas.Bool.{cases_Bool, eq-eqb, ne_eqb, eqb-true, false≢true}
 use Rattle.std.proofs.lemmas.List.{get_or-set_other, length-set, get_or-replicate, length-replicate, length_push}
-use Rattle.ref_base.specs.Members.{has}
+use Rattle.ref_objects.proofs.Common.{has, cell_at, is_of, places_below, AreFree, Tabled}
 use Rattle.ref_base.proofs.HasLaws.{has-append}
-use Rattle.ref_objects.specs.Places.{cell_at, is_of, places_below, AreFree}
-use Rattle.ref_objects.specs.Tables.{Tabled}
 
 -- a place whose cell holds something isn't free
 pub AreFree-apart : (cells : List (Option Tabled)) (ps : List ℕ) (p n : ℕ) → AreFree cells ps

@@ -7,21 +7,20 @@ use Rattle.std.specs.Option.{is_some}
 use Rattle.std.proofs.lemmas.Bool.{cases_Bool, eqb-true, lt-ltb, le-ltb, le-leb, lt-leb, ltb-false, not-true}
 use Rattle.std.proofs.lemmas.Bool.{false≢true}
 use Rattle.std.proofs.lemmas.List.{length-set}
-use Rattle.ref_base.specs.Members.{has}
-use Rattle.ref_base.specs.Graphs.{Object, Reference, object_at, is_there, numbers}
-use Rattle.ref_base.specs.Strengths.{IsRising}
-use Rattle.ref_base.specs.Heaps.{reference_in, one_more, with_changed, with_hold, without_hold}
+use Rattle.ref_objects.proofs.Common.{has, Object, Reference, object_at, is_there, numbers, IsRising, one_more, Config}
+use Rattle.ref_objects.proofs.Common.{Tabled, Table, tabled_at, objects_of, holds_of, object_in, holds_in, has_field}
+use Rattle.ref_objects.proofs.Common.{is_unheld, first_from, held_from, on_object, more_held, less_held, changed}
+use Rattle.ref_objects.proofs.Common.{changed_tabled, made_entry, with_tabled, AllUpTo, kind_by, least_from}
+use Rattle.ref_objects.proofs.Common.{seen_ground, IsSoundGround}
+use Rattle.ref_base.specs.Heaps.{reference_in, with_changed, with_hold, without_hold}
 use Rattle.ref_base.specs.Refusals.{field_count, object_refusal}
-use Rattle.ref_base.specs.declared.config.Config.{Config}
 use Rattle.ref_base.specs.declared.fault.Fault.TheVariants.{NoCell}
-use Rattle.ref_objects.specs.Tables.{Tabled, Table, tabled_at, objects_of, holds_of, object_in, holds_in, tabled_fields}
-use Rattle.ref_objects.specs.Tables.{has_field, is_unheld, tabled_reference, first_from, held_from}
-use Rattle.ref_objects.specs.Tables.{on_object, more_held, less_held, changed, changed_tabled, made_entry, with_tabled}
-use Rattle.ref_objects.specs.Tables.{AllUpTo}
+use Rattle.ref_objects.specs.Tables.{tabled_fields}
+use Rattle.ref_objects.specs.Tables.{tabled_reference}
 use Rattle.ref_objects.specs.Tables as table
-use Rattle.ref_objects.specs.Grounds.{fields_in, kind_by, kind_in, least_from, ground_with_heap, is_free, after_freeing}
+use Rattle.ref_objects.specs.Grounds.{fields_in, kind_in, ground_with_heap, is_free, after_freeing}
 use Rattle.ref_objects.specs.Grounds.{AllFrom, IsInOrder}
-use Rattle.ref_objects.specs.GroundViews.{heap_of, seen_ground, IsSoundGround, made_at}
+use Rattle.ref_objects.specs.GroundViews.{heap_of, made_at}
 use Rattle.ref_objects.proofs.TabledLemmas.{object_at-objects_of, is_there-objects_of, objects_of-changed}
 use Rattle.ref_objects.proofs.TabledLemmas.{objects_of-same, objects_of-append, objects_of-without, IsRising-tail}
 use Rattle.ref_objects.proofs.TabledLemmas.{holds_of-changed, holds_of-made, holds_of-without, holds_of-dropped}

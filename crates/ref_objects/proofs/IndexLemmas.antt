@@ -6,8 +6,7 @@ use Rattle.std.proofs.Common.{arith}
 use Rattle.std.proofs.lemmas.Bool.{cases_Bool, ltb-true, ltb-false, lt-ltb, le-ltb, ne_eqb}
 use Rattle.std.specs.List.{filter}
 use Rattle.std.specs.List.Sorted.{IsPartitionedBy, IsPartitionPoint}
-use Rattle.ref_objects.specs.Places.{place_in, count_below, AllAbove, NoneAbove, Rises}
-use Rattle.ref_objects.specs.declared.index.Entry.{Entry}
+use Rattle.ref_objects.proofs.Common.{place_in, count_below, AllAbove, NoneAbove, Rises, Entry}
 
 -- ---- numbers that rise
 

@@ -1,3 +1,4 @@
+pub mod Common
 pub mod IndexLemmas
 pub mod PlaceLemmas
 pub mod FreeLemmas

@@ -6,16 +6,10 @@ use Rattle.std.proofs.lemmas.Bool.{cases_Bool, eq-eqb, eqb-true, ne_eqb, lt-ltb,
 use Rattle.std.proofs.lemmas.List.{get_or_read}
 use Rattle.std.specs.Option.{is_some}
 use Rattle.std.specs.Int.{from_bool}
-use Rattle.ref_base.specs.Graphs.{Object, is_there, numbers}
-use Rattle.ref_base.specs.Members.{has}
-use Rattle.ref_base.specs.Strengths.{IsRising}
-use Rattle.ref_base.specs.Heaps.{one_more, one_fewer}
-use Rattle.ref_objects.specs.Tables.{Tabled, tabled_at, objects_of, holds_of, changed_tabled, without_tabled}
-use Rattle.ref_objects.specs.Tables.{is_marked_in, is_unmarked_in, marked_of, unmarked_of, unmarked_from}
-use Rattle.ref_objects.specs.Tables.{with_marked, unmarked_tabled}
-use Rattle.ref_objects.specs.Grounds.{least_from, unmarked}
-use Rattle.ref_objects.specs.Places.{tabled_by, IsPlaced}
-use Rattle.ref_objects.specs.declared.index.Entry.{Entry}
+use Rattle.ref_objects.proofs.Common.{Object, is_there, numbers, has, IsRising, one_more, one_fewer, Tabled, tabled_at}
+use Rattle.ref_objects.proofs.Common.{objects_of, holds_of, changed_tabled, without_tabled, is_marked_in}
+use Rattle.ref_objects.proofs.Common.{is_unmarked_in, marked_of, unmarked_of, unmarked_from, with_marked}
+use Rattle.ref_objects.proofs.Common.{unmarked_tabled, least_from, unmarked, tabled_by, IsPlaced, Entry}
 use Rattle.ref_objects.proofs.TabledLemmas.{is_there-objects_of, objects_of-same, IsRising-tail}
 use Rattle.ref_objects.proofs.PlaceLemmas.{at_place, tabled_at-place, IsPlaceOf, IsPlaceOf-live, IsMissing}
 

@@ -2,13 +2,10 @@
 use Rattle.std.proofs.Common.{◌≡◌, ℕ, ◌<◌, true, ◌==◌, refl, sym, ◌∙◌, ap, length, List, [], ◌∷◌, Option, inl, inr}
 use Rattle.std.proofs.Common.{arith}
 use Rattle.std.proofs.lemmas.Bool.{cases_Bool, eqb-true, false≢true}
-use Rattle.ref_base.specs.Graphs.{Object, is_there, numbers}
-use Rattle.ref_base.specs.Strengths.{IsRising}
-use Rattle.ref_base.specs.declared.config.Config.{Config}
-use Rattle.ref_objects.specs.Tables.{Table, tabled_at, objects_of, changed, is_unmarked_in, with_marked, AllUpTo}
+use Rattle.ref_objects.proofs.Common.{Object, is_there, numbers, IsRising, Config, Table, tabled_at, objects_of}
+use Rattle.ref_objects.proofs.Common.{changed, is_unmarked_in, with_marked, AllUpTo, seen_ground, IsSoundGround}
 use Rattle.ref_objects.specs.Tables.{table_unmarked as without_table_marks}
 use Rattle.ref_objects.specs.Grounds.{ground_marked, without_marks}
-use Rattle.ref_objects.specs.GroundViews.{seen_ground, IsSoundGround}
 use Rattle.ref_objects.proofs.MarkLemmas.{is_unmarked-tabled, marked_of-marked, marked_of-marked_again}
 use Rattle.ref_objects.proofs.MarkLemmas.{objects_of-with_marked, holds_of-with_marked}
 use Rattle.ref_objects.proofs.MarkLemmas.{objects_of-unmarked_tabled, holds_of-unmarked_tabled}

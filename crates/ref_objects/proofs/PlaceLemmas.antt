@@ -8,11 +8,10 @@ use Rattle.std.proofs.lemmas.Bool.{eq-eqb, eqb-true, false≢true}
 use Rattle.std.proofs.lemmas.List.{get_or-set_same, get_or-set_other, get_or_past}
 use Rattle.std.specs.List.{filter}
 use Rattle.std.specs.Cmp.{nat_eq_equiv}
-use Rattle.ref_objects.specs.Places.{cell_at, is_of, is_live, is_held, is_held_as, before, tabled_by, place_in}
-use Rattle.ref_objects.specs.Places.{place_if_live, count_below}
-use Rattle.ref_objects.specs.Places.{first_live, first_held, AllAbove, Rises}
-use Rattle.ref_objects.specs.Tables.{Tabled, tabled_at, first_from, held_from, changed_tabled, without_tabled}
-use Rattle.ref_objects.specs.declared.index.Entry.{Entry}
+use Rattle.ref_objects.proofs.Common.{cell_at, is_of, is_live, before, tabled_by, place_in, place_if_live, count_below}
+use Rattle.ref_objects.proofs.Common.{first_live, first_held, AllAbove, Rises, Tabled, tabled_at, first_from}
+use Rattle.ref_objects.proofs.Common.{held_from, changed_tabled, without_tabled, Entry}
+use Rattle.ref_objects.specs.Places.{is_held, is_held_as}
 use Rattle.ref_objects.proofs.IndexLemmas.{place_in-none, place_in-at, place_in-past}
 
 -- ---- one cell

@@ -6,10 +6,9 @@ use Rattle.std.proofs.lemmas.Bool.{cases_Bool, eq-eqb, false≢true}
 use Rattle.std.proofs.lemmas.List.{get_or-set_same, length-set, length_push}
 use Rattle.std.specs.List.{filter}
 use Rattle.std.specs.Option.{option_to_list}
-use Rattle.ref_objects.specs.Places.{cell_at, is_live, before, tabled_by, with_room, seen_table, NoneAbove, Rises, AreFree}
-use Rattle.ref_objects.specs.Places.{IsPlaced}
-use Rattle.ref_objects.specs.Tables.{Tabled, with_tabled}
-use Rattle.ref_objects.specs.declared.index.Entry.{Entry}
+use Rattle.ref_objects.proofs.Common.{cell_at, is_live, before, tabled_by, seen_table, NoneAbove, Rises, AreFree}
+use Rattle.ref_objects.proofs.Common.{IsPlaced, Tabled, with_tabled, Entry}
+use Rattle.ref_objects.specs.Places.{with_room}
 use Rattle.ref_objects.proofs.FreeLemmas.{AreFree-set, AreFree-pop, PopsFree}
 use Rattle.ref_objects.proofs.IndexLemmas.{place_in-new, Rises-push, NoneAbove-push, Rises-filter, NoneAbove-filter}
 use Rattle.ref_objects.proofs.PlaceLemmas.{IsAbsent, IsAbsent-own, IsOwn, tabled_by-set, tabled_by-push}

@@ -4,12 +4,9 @@ use Rattle.std.proofs.Common.{subst}
 use Rattle.std.proofs.Common.{List, [], ◌∷◌, length, replicate, Option, Some, None, inl, inr, arith}
 use Rattle.std.proofs.lemmas.Bool.{cases_Bool, eqb-true}
 use Rattle.std.proofs.lemmas.List.{length-replicate}
-use Rattle.ref_base.specs.Graphs.{numbers}
-use Rattle.ref_base.specs.Strengths.{IsRising}
-use Rattle.ref_objects.specs.Places.{cell_at, before, tabled_by, places_below, seen_table, AllAbove, NoneAbove, Rises}
-use Rattle.ref_objects.specs.Places.{AreFree, IsPlaced}
-use Rattle.ref_objects.specs.Tables.{Tabled, objects_of, AllUpTo, IsOrderlyTable}
-use Rattle.ref_objects.specs.declared.index.Entry.{Entry}
+use Rattle.ref_objects.proofs.Common.{numbers, IsRising, cell_at, before, tabled_by, places_below, seen_table}
+use Rattle.ref_objects.proofs.Common.{AllAbove, NoneAbove, Rises, AreFree, IsPlaced, Tabled, objects_of, AllUpTo}
+use Rattle.ref_objects.proofs.Common.{IsOrderlyTable, Entry}
 use Rattle.ref_objects.proofs.FreeLemmas.{length-places_below, AreFree-places_below}
 
 -- ---- numbers that rise

@@ -8,14 +8,12 @@ use Rattle.std.proofs.lemmas.Bool.{false≢true}
 use Rattle.std.proofs.lemmas.List.{length-replicate}
 use Rattle.std.specs.Prelude.{◌-◌}
 use Rattle.std.specs.Option.{is_some}
-use Rattle.ref_base.specs.Graphs.{Object, object_at, is_there, numbers}
-use Rattle.ref_base.specs.Members.{has}
-use Rattle.ref_base.specs.Strengths.{IsRising}
-use Rattle.ref_base.specs.Heaps.{changed_at, one_more, one_fewer}
+use Rattle.ref_objects.proofs.Common.{Object, object_at, is_there, numbers, has, IsRising, one_more, one_fewer, Tabled}
+use Rattle.ref_objects.proofs.Common.{tabled_at, objects_of, holds_of, object_in, holds_in, on_object, less_held}
+use Rattle.ref_objects.proofs.Common.{changed_tabled, without_tabled}
+use Rattle.ref_base.specs.Heaps.{changed_at}
 use Rattle.ref_base.specs.CollectorRows.{without as without_numbers}
 use Rattle.ref_base.proofs.HasLaws.{has-append}
-use Rattle.ref_objects.specs.Tables.{Tabled, tabled_at, objects_of, holds_of, object_in, holds_in, on_object}
-use Rattle.ref_objects.specs.Tables.{less_held, changed_tabled, without_tabled}
 
 -- ---- the objects
 

@@ -5,10 +5,10 @@ use Rattle.std.proofs.Common.{List, [], ◌∷◌, length, map, drop, Option, So
 use Rattle.std.proofs.lemmas.Bool.{cases_Bool, ltb-true, ltb-false, le-leb, lt-leb, eqb-true}
 use Rattle.std.proofs.lemmas.List.{length-map}
 use Rattle.std.proofs.Math.ListN.{get_or-map}
-use Rattle.ref_objects.specs.Places.{cell_at, before, tabled_by, count_below, is_unmarked_as, is_unmarked_entry}
-use Rattle.ref_objects.specs.Places.{first_unmarked, unmarked_cell, seen_table, AllAbove, Rises, AreFree, IsPlaced}
-use Rattle.ref_objects.specs.Tables.{Tabled, unmarked_from, unmarked_tabled, marked_of, table_unmarked}
-use Rattle.ref_objects.specs.declared.index.Entry.{Entry}
+use Rattle.ref_objects.proofs.Common.{cell_at, before, tabled_by, count_below, first_unmarked, unmarked_cell}
+use Rattle.ref_objects.proofs.Common.{seen_table, AllAbove, Rises, AreFree, IsPlaced, Tabled, unmarked_from}
+use Rattle.ref_objects.proofs.Common.{unmarked_tabled, marked_of, table_unmarked, Entry}
+use Rattle.ref_objects.specs.Places.{is_unmarked_as, is_unmarked_entry}
 
 -- ---- the first that isn't marked
 

@@ -1,19 +1,12 @@
 -- What the calls of a cleaner have made.
 use Rattle.std.proofs.Common.{◌≡◌, ℕ, false, Option, Some, None, Result, Ok, Err, inl, inr, refl, ap, subst}
-use Rattle.ref_base.specs.HeapSteps.{NamedStep}
-use Rattle.ref_base.specs.declared.fault.Fault.{Fault}
+use Rattle.ref_share.proofs.Common.{NamedStep, Fault, HoldName, Reply, ClearHeap, HeldNotice, CleanView, TakesJob}
+use Rattle.ref_share.proofs.Common.{Acts, HeapView, Releases, Called}
 use Rattle.ref_base.specs.declared.heap_step.HeapStep.TheVariants as heap
-use Rattle.ref_base.specs.declared.heap_step.HoldName.{HoldName}
-use Rattle.ref_base.specs.declared.reply.Reply.{Reply}
 use Rattle.ref_base.specs.declared.reply.Reply.TheVariants as told
-use Rattle.ref_clear.specs.ClearHeaps.{ClearHeap, HeldNotice}
 use Rattle.ref_world.specs.declared.heap_machine.HeapReply.TheVariants as replies
-use Rattle.ref_share.specs.CleanSeats.{CleanView}
-use Rattle.ref_share.specs.Cleanings.{Tries, Retires, TakesJob, HasTaken}
-use Rattle.ref_share.specs.HeapMachines.{Acts}
-use Rattle.ref_share.specs.HeapSeats.{HeapView}
-use Rattle.ref_share.specs.Releases.{AsksHeap, Accepted, Releases, is_refusal}
-use Rattle.ref_share.specs.SeatCalls.{Called}
+use Rattle.ref_share.specs.Cleanings.{Tries, Retires, HasTaken}
+use Rattle.ref_share.specs.Releases.{AsksHeap, Accepted, is_refusal}
 
 -- a step whose reply tells of no refusal is accepted
 pub accepts_unless_refused : (v w : HeapView) (step : NamedStep) (reply : Reply)

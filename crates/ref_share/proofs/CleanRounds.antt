@@ -3,22 +3,14 @@ use Rattle.std.proofs.Common.{◌≡◌, ℕ, ◌+◌, ◌<◌, ◌≤◌, true,
 use Rattle.std.proofs.Common.{Option, Some, None, Ok, refl, sym, ap, ◌∙◌, subst, arith, length-append}
 use Rattle.std.proofs.lemmas.List.{append_assoc, append-nil}
 use Rattle.ref_base.specs.declared.heap_step.HeapStep.TheVariants as heap
-use Rattle.ref_base.specs.declared.heap_step.HoldName.{HoldName}
+use Rattle.ref_share.proofs.Common.{HoldName, HeldNotice, entry, Longer, Round, all_of, takes_in, jobs_run, HasGone}
+use Rattle.ref_share.proofs.Common.{CleanView, CleanEntry, TakesJob, CleansDead, HeapView, HeapEntry, PollsUntil}
+use Rattle.ref_share.proofs.Common.{QueueView, QueueEntry, Releases, Made, Took}
 use Rattle.ref_base.specs.declared.reply.Reply.TheVariants as told
-use Rattle.ref_clear.specs.ClearHeaps.{HeldNotice}
 use Rattle.ref_queue.specs.declared.queue.Polled.TheVariants as answers
-use Rattle.ref_turn.specs.Seats.{entry, Longer}
 use Rattle.ref_world.specs.declared.heap_machine.HeapReply.TheVariants as replies
 use Rattle.ref_share.proofs.Polls.{made_none, made_more, made_longer, made_after}
-use Rattle.ref_share.specs.CleanLoops.{Round, all_of, polls_in, releases_in, takes_in, job_in, jobs_run, released, HasGone}
-use Rattle.ref_share.specs.CleanSeats.{CleanView, CleanEntry}
-use Rattle.ref_share.specs.Cleanings.{TakesJob, CleansDead}
-use Rattle.ref_share.specs.HeapSeats.{HeapView, HeapEntry}
-use Rattle.ref_share.specs.QueueCalls.{PollsUntil}
-use Rattle.ref_share.specs.QueueSeats.{QueueView, QueueEntry}
-use Rattle.ref_share.specs.Releases.{Releases}
-use Rattle.ref_share.specs.SeatCalls.{Made}
-use Rattle.ref_share.specs.declared.answers.Polled.TheVariants.{Took}
+use Rattle.ref_share.specs.CleanLoops.{polls_in, releases_in, job_in, released}
 use Rattle.ref_share.specs.declared.clean_machine.CleanStep.TheVariants as steps
 use Rattle.ref_share.specs.declared.clean_machine.CleanReply.TheVariants as gives
 use Rattle.ref_share.specs.declared.queue_machine.QueueStep.TheVariants as asks

@@ -2,13 +2,10 @@
 use Rattle.std.proofs.Common.{◌≡◌, ℕ, Bool, true, false, ◌||◌, List, [], ◌∷◌, ◌++◌, Option, Some, None, Ok, Err}
 use Rattle.std.proofs.Common.{refl, sym, ap, ◌∙◌, subst, nat_eq, if◌then◌else◌}
 use Rattle.std.specs.Cmp.{nat_eq_equiv}
-use Rattle.ref_queue.specs.CleanTables.{Registry, new_registry, job_of}
+use Rattle.ref_share.proofs.Common.{new_registry, Leads, entry, Entry, IsCleanMove}
+use Rattle.ref_queue.specs.CleanTables.{Registry, job_of}
 use Rattle.ref_turn.proofs.Logs.{leads_cut}
-use Rattle.ref_turn.specs.History.{Leads}
-use Rattle.ref_turn.specs.Seats.{entry}
-use Rattle.ref_turn.specs.declared.history.Entry.{Entry}
 use Rattle.ref_share.specs.CleanHistories.{registers_job, some_registers, job_after, job_left}
-use Rattle.ref_share.specs.CleanMachines.{IsCleanMove}
 use Rattle.ref_share.specs.CleanSeats.{IsCleanRun}
 use Rattle.ref_share.specs.declared.clean_machine.CleanStep.{CleanStep}
 use Rattle.ref_share.specs.declared.clean_machine.CleanStep.TheVariants as steps

@@ -2,26 +2,16 @@
 -- comes once its object is gone.
 use Rattle.std.proofs.Common.{◌≡◌, ℕ, List, [], ◌∷◌, Option, Some, None, Ok, true}
 use Rattle.std.proofs.Common.{inl, refl, ap, ◌+◌, map, arith}
-use Rattle.ref_base.specs.declared.cause.Cause.TheVariants.{Cycle}
+use Rattle.ref_share.proofs.Common.{Cycle, HoldName, ClearHeap, HeldNotice, new_registry, entry, Entry, Idle, View}
+use Rattle.ref_share.proofs.Common.{new_queue, Round, all_of, jobs_run, takes_in, CleanView, CleanEntry, makes_phantom}
+use Rattle.ref_share.proofs.Common.{CleansDead, HeapView, HeapEntry, QueueView, QueueEntry, Releases}
 use Rattle.ref_base.specs.declared.heap_step.HeapStep.TheVariants as heap
-use Rattle.ref_base.specs.declared.heap_step.HoldName.{HoldName}
 use Rattle.ref_base.specs.declared.reply.Reply.TheVariants as told
-use Rattle.ref_clear.specs.ClearHeaps.{ClearHeap, HeldNotice}
-use Rattle.ref_queue.specs.CleanTables.{new_registry}
 use Rattle.ref_queue.specs.declared.job.Ran.{Ran}
 use Rattle.ref_queue.specs.declared.queue.Polled.TheVariants as found
-use Rattle.ref_turn.specs.Seats.{entry}
-use Rattle.ref_turn.specs.declared.history.Entry.{Entry}
-use Rattle.ref_turn.specs.declared.history.Stage.TheVariants.{Idle}
-use Rattle.ref_turn.specs.declared.history.View.{View}
 use Rattle.ref_world.specs.declared.heap_machine.HeapReply.TheVariants as replies
-use Rattle.ref_base.specs.QueueLists.{new_queue}
-use Rattle.ref_share.specs.CleanLoops.{Round, GoesRound, all_of, jobs_run, takes_in}
-use Rattle.ref_share.specs.CleanSeats.{CleanView, CleanEntry}
-use Rattle.ref_share.specs.Cleanings.{makes_phantom, RegistersJob, CleansNow, CleansDead}
-use Rattle.ref_share.specs.HeapSeats.{HeapView, HeapEntry}
-use Rattle.ref_share.specs.QueueSeats.{QueueView, QueueEntry}
-use Rattle.ref_share.specs.Releases.{Releases}
+use Rattle.ref_share.specs.CleanLoops.{GoesRound}
+use Rattle.ref_share.specs.Cleanings.{RegistersJob, CleansNow}
 use Rattle.ref_share.specs.declared.answers.Cleaned.TheVariants.{Gone, Ran as DidRun}
 use Rattle.ref_share.specs.declared.clean_machine.CleanStep.TheVariants as steps
 use Rattle.ref_share.specs.declared.clean_machine.CleanReply.TheVariants as answers

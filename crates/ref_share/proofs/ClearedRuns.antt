@@ -1,21 +1,12 @@
 -- The history of a heap: what a mark's end clears reads as cleared from then on, and no get of it answers an object.
 use Rattle.std.proofs.Common.{◌≡◌, ℕ, true, List, [], Some, None, inl, inr, sym, subst}
-use Rattle.ref_base.specs.CollectorRows.{doomed_at, referent_of}
-use Rattle.ref_base.specs.Collectors.{State}
-use Rattle.ref_base.specs.DoomedSets.{new_clears}
-use Rattle.ref_base.specs.Heaps.{slot_at, reference_at}
-use Rattle.ref_base.specs.Members.{has}
-use Rattle.ref_base.specs.declared.config.Config.{Config}
+use Rattle.ref_share.proofs.Common.{doomed_at, referent_of, State, new_clears, slot_at, reference_at, has, Config}
+use Rattle.ref_share.proofs.Common.{Leads, told_reply, HeapState, IsHeapMove, HeapEntry, IsHeapRun, heap_replayed}
 use Rattle.ref_base.specs.declared.heap_step.HeapStep.TheVariants as heap
 use Rattle.ref_base.specs.declared.reply.Reply.TheVariants as told
 use Rattle.ref_base.proofs.ClearedOnwards.{StaysCleared, ended_cleared, heap_cleared, cleared_at, no_get}
 use Rattle.ref_base.proofs.OldNames.{rising_objects, old_objects}
-use Rattle.ref_turn.specs.History.{Leads}
-use Rattle.ref_world.specs.HeapReplies.{told_reply}
 use Rattle.ref_world.specs.declared.heap_machine.HeapReply.TheVariants as replies
-use Rattle.ref_share.specs.HeapMachines.{HeapState, IsHeapMove}
-use Rattle.ref_share.specs.HeapSeats.{HeapEntry, IsHeapRun}
-use Rattle.ref_share.specs.HeapTraces.{heap_replayed}
 use Rattle.ref_share.proofs.HeapReplays.{run_known}
 use Rattle.ref_share.proofs.HeapRuns.{renumbered, move_kind, goes_on}
 

@@ -2,26 +2,15 @@
 -- for queue 1, and then that of reference 6.
 use Rattle.std.proofs.Common.{◌≡◌, ℕ, List, [], ◌∷◌, length, Option, Some, Ok, Err, inl, inr, refl, sym, ap, ◌∙◌}
 use Rattle.std.proofs.Common.{arith, get_or, length-append, map, zero, suc}
-use Rattle.ref_base.specs.declared.cause.Cause.TheVariants.{Cycle}
-use Rattle.ref_base.specs.declared.fault.Fault.TheVariants.{BadQueue}
+use Rattle.ref_share.proofs.Common.{Cycle, BadQueue, HoldName, ClearHeap, HeldNotice, entry, Idle, GoesBack, Sends}
+use Rattle.ref_share.proofs.Common.{Delivers, HeapView, HeapEntry, PutsNotice, QueueEntry, queue_view, KeepsPace}
+use Rattle.ref_share.proofs.Common.{Works, notices_put, references_of, Nothing, Added, Dropped, Notice, QueueSeat}
+use Rattle.ref_share.proofs.Common.{SharedQueue}
 use Rattle.ref_base.specs.declared.heap_step.HeapStep.TheVariants as heap
-use Rattle.ref_base.specs.declared.heap_step.HoldName.{HoldName}
-use Rattle.ref_clear.specs.ClearHeaps.{ClearHeap, HeldNotice}
 use Rattle.ref_queue.specs.declared.queue.Put.TheVariants as puts
-use Rattle.ref_turn.specs.Seats.{entry}
-use Rattle.ref_turn.specs.declared.history.Stage.TheVariants.{Idle}
 use Rattle.ref_world.specs.declared.heap_machine.HeapReply.TheVariants as replies
-use Rattle.ref_share.specs.Deliveries.{GoesBack, Sends, Delivers}
-use Rattle.ref_share.specs.HeapSeats.{HeapView, HeapEntry}
-use Rattle.ref_share.specs.QueueCalls.{PutsNotice}
-use Rattle.ref_share.specs.QueueSeats.{QueueEntry, queue_view}
-use Rattle.ref_share.specs.WorkerCalls.{KeepsPace, Works, notices_put, references_of}
-use Rattle.ref_share.specs.declared.answers.Delivery.TheVariants.{Nothing, Added, Dropped}
-use Rattle.ref_share.specs.declared.answers.ShareFault.TheVariants.{Notice}
 use Rattle.ref_share.specs.declared.queue_machine.QueueReply.TheVariants as answers
 use Rattle.ref_share.specs.declared.queue_machine.QueueStep.TheVariants as queue
-use Rattle.ref_share.specs.declared.shared_queue.QueueSeat.{QueueSeat}
-use Rattle.ref_share.specs.declared.shared_queue.SharedQueue.{SharedQueue}
 
 abbrev hold : ℕ → HoldName
 hold n = record { heap_no = 7; object = n }

@@ -1,26 +1,16 @@
 -- What a worked history of a heap tells, as one reads it off its entries: three seats, two workers, and two notices of
 -- one worker that are out at once.
 use Rattle.std.proofs.Common.{◌≡◌, ℕ, List, [], ◌∷◌, take, Some, refl}
-use Rattle.ref_base.specs.HeapSteps.{NamedStep}
-use Rattle.ref_base.specs.ScannedRows.{scanned_in_cycle}
-use Rattle.ref_base.specs.WorkerOrder.{clearing_order}
-use Rattle.ref_base.specs.Worlds.{graph_of}
-use Rattle.ref_base.specs.declared.cause.Cause.TheVariants.{Cycle}
-use Rattle.ref_base.specs.declared.config.Config.{Config}
+use Rattle.ref_share.proofs.Common.{NamedStep, scanned_in_cycle, clearing_order, graph_of, Cycle, Config, HoldName}
+use Rattle.ref_share.proofs.Common.{Reply, Row, Step, entry, HeapEntry, rows_of, heap_replayed, all_handed_on}
+use Rattle.ref_share.proofs.Common.{handed_in}
 use Rattle.ref_base.specs.declared.heap_step.HeapStep.TheVariants as heap
-use Rattle.ref_base.specs.declared.heap_step.HoldName.{HoldName}
-use Rattle.ref_base.specs.declared.reply.Reply.{Reply}
 use Rattle.ref_base.specs.declared.reply.Reply.TheVariants as told
-use Rattle.ref_base.specs.declared.row.Row.{Row}
-use Rattle.ref_base.specs.declared.step.Step.{Step}
 use Rattle.ref_base.specs.declared.step.Step.TheVariants as steps
 use Rattle.ref_base.specs.declared.strength.Strength.TheVariants.{Weak}
 use Rattle.ref_base.specs.declared.urgency.Urgency.TheVariants.{Normal}
 use Rattle.ref_base.proofs.WorkedTraces.{config_of}
-use Rattle.ref_turn.specs.Seats.{entry}
 use Rattle.ref_world.specs.declared.heap_machine.HeapReply.TheVariants as replies
-use Rattle.ref_share.specs.HeapSeats.{HeapEntry}
-use Rattle.ref_share.specs.HeapTraces.{rows_of, heap_replayed, all_handed_on, handed_in}
 
 -- a hold of the heap with number 7
 abbrev hold : ℕ → HoldName

@@ -2,16 +2,12 @@
 -- be cleared; what is gone or doomed is out of reach; and a mark's end has shown what it cleared.
 use Rattle.std.proofs.Common.{◌≡◌, ℕ, List, [], ◌∷◌, ◌++◌, None, inl, inr, refl, sym, ap, ◌∙◌, subst}
 use Rattle.std.proofs.lemmas.List.{append_assoc}
-use Rattle.ref_base.specs.CollectorRows.{HeapAccepts, EndsMark}
-use Rattle.ref_base.specs.Collectors.{State}
-use Rattle.ref_base.specs.HeapSteps.{NamedStep}
+use Rattle.ref_share.proofs.Common.{HeapAccepts, EndsMark, State, NamedStep, heap_refusal, World, first_world}
+use Rattle.ref_share.proofs.Common.{graph_of, Config, Reply, entry, told_reply, HeapReply, HeapState, IsHeapMove}
+use Rattle.ref_share.proofs.Common.{HeapEntry, IsHeapRun, first_heap_state, heap_replayed, HeapMarkEnded}
 use Rattle.ref_base.specs.MarkEnds.{AreOutOfReach}
-use Rattle.ref_base.specs.Refusals.{heap_refusal}
 use Rattle.ref_base.specs.Replay.{after_heap}
-use Rattle.ref_base.specs.Worlds.{World, first_world, graph_of}
-use Rattle.ref_base.specs.declared.config.Config.{Config}
 use Rattle.ref_base.specs.declared.heap_step.HeapStep.TheVariants as heap
-use Rattle.ref_base.specs.declared.reply.Reply.{Reply}
 use Rattle.ref_base.specs.declared.reply.Reply.TheVariants as told
 use Rattle.ref_base.proofs.AgreeHeaps.{Agreeing, gone_after}
 use Rattle.ref_base.proofs.AgreeRuns.{heap_agrees, heap_refused, first_agrees}
@@ -21,13 +17,8 @@ use Rattle.ref_base.proofs.OutHeaps.{AreOutBy, end_out}
 use Rattle.ref_base.proofs.OutRuns.{more_out, heap_out}
 use Rattle.ref_base.proofs.OutTraces.{first_out, out_of_reach}
 use Rattle.ref_base.proofs.PhaseLaws.{of_phase}
-use Rattle.ref_turn.specs.Seats.{entry}
-use Rattle.ref_world.specs.HeapReplies.{told_reply}
-use Rattle.ref_world.specs.declared.heap_machine.HeapReply.{HeapReply}
 use Rattle.ref_world.specs.declared.heap_machine.HeapReply.TheVariants as replies
-use Rattle.ref_share.specs.HeapMachines.{HeapState, IsHeapMove}
-use Rattle.ref_share.specs.HeapSeats.{HeapEntry, IsHeapRun, first_heap_state}
-use Rattle.ref_share.specs.HeapTraces.{heap_replayed_from, heap_replayed, HeapMarkEnded}
+use Rattle.ref_share.specs.HeapTraces.{heap_replayed_from}
 use Rattle.ref_share.proofs.HeapRuns.{renumbered, IsRefused, IsAccepted, move_kind, run_holds}
 
 -- ---- the replay goes on call by call

@@ -1,12 +1,8 @@
 -- What the calls of a heap tell, call by call.
 use Rattle.std.proofs.Common.{◌≡◌, ℕ, List, [], ◌∷◌, ◌++◌, sym, ap, ◌∙◌}
 use Rattle.std.proofs.lemmas.List.{append-nil, append_assoc}
-use Rattle.ref_base.specs.HeapSteps.{NamedStep}
-use Rattle.ref_base.specs.declared.row.Row.{Row}
-use Rattle.ref_world.specs.HeapReplies.{told_reply}
-use Rattle.ref_world.specs.declared.heap_machine.HeapReply.{HeapReply}
-use Rattle.ref_share.specs.HeapSeats.{HeapEntry}
-use Rattle.ref_share.specs.HeapTraces.{world_step, row_of, rows_of, gathered}
+use Rattle.ref_share.proofs.Common.{NamedStep, Row, told_reply, HeapReply, HeapEntry, world_step, row_of, rows_of}
+use Rattle.ref_share.proofs.Common.{gathered}
 
 -- a call more tells its own row last, if it tells one
 pub rows_last : (past : List HeapEntry) (call : HeapEntry)

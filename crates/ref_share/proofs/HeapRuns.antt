@@ -2,22 +2,12 @@
 use Rattle.std.proofs.Common.{◌≡◌, ℕ, ◌==◌, List, [], ◌∷◌, ◌++◌, Option, Some, None, ◌⊎◌, inl, inr, refl, sym, subst}
 use Rattle.std.proofs.lemmas.Bool.{and_parts}
 use Rattle.std.proofs.lemmas.List.{append-nil, append_assoc}
-use Rattle.ref_base.specs.CollectorRows.{IsHeapAnswer, HeapAccepts}
-use Rattle.ref_base.specs.Collectors.{State}
-use Rattle.ref_base.specs.HeapSteps.{NamedStep}
-use Rattle.ref_base.specs.Members.{has}
-use Rattle.ref_base.specs.Refusals.{heap_refusal, has_slot, is_counted}
-use Rattle.ref_base.specs.declared.config.Config.{Config}
-use Rattle.ref_base.specs.declared.fault.Fault.{Fault}
+use Rattle.ref_share.proofs.Common.{IsHeapAnswer, HeapAccepts, State, NamedStep, has, heap_refusal, has_slot}
+use Rattle.ref_share.proofs.Common.{is_counted, Config, Fault, Reply, Leads, told_reply, HeapReply, HeapState}
+use Rattle.ref_share.proofs.Common.{IsHeapMove, HeapEntry, IsHeapRun, first_heap_state}
 use Rattle.ref_base.specs.declared.heap_step.HeapStep.TheVariants as heap
-use Rattle.ref_base.specs.declared.reply.Reply.{Reply}
 use Rattle.ref_base.specs.declared.reply.Reply.TheVariants as told
 use Rattle.ref_base.proofs.RowLaws.{unless_passes}
-use Rattle.ref_turn.specs.History.{Leads}
-use Rattle.ref_world.specs.HeapReplies.{told_reply}
-use Rattle.ref_world.specs.declared.heap_machine.HeapReply.{HeapReply}
-use Rattle.ref_share.specs.HeapMachines.{HeapState, IsHeapMove}
-use Rattle.ref_share.specs.HeapSeats.{HeapEntry, IsHeapRun, first_heap_state}
 
 -- ---- what a call is
 

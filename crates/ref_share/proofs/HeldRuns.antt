@@ -2,30 +2,22 @@
 use Rattle.std.proofs.Common.{◌≡◌, ℕ, ◌+◌, ◌<◌, ◌==◌, Bool, true, false, List, [], ◌∷◌, ◌++◌}
 use Rattle.std.proofs.Common.{Option, Some, None, is_some, refl, sym, ap, ◌∙◌, arith, inl, inr}
 use Rattle.std.proofs.lemmas.Bool.{cases_Bool, false≢true, eqb-true, eq-eqb, and_parts}
-use Rattle.ref_base.specs.Collectors.{State}
-use Rattle.ref_base.specs.CollectorRows.{IsHeapRow, IsHeapAnswer, HeapAccepts}
-use Rattle.ref_base.specs.CountedHolds.{tally, holds_after}
+use Rattle.ref_share.proofs.Common.{State, IsHeapAnswer, HeapAccepts, tally, NamedStep, has, heap_refusal, unless}
+use Rattle.ref_share.proofs.Common.{is_counted, has_slot, told_notice, Config, Fault, NoSuchActor, Reply, Leads}
+use Rattle.ref_share.proofs.Common.{told_reply, GivesOut, HeapReply, HeapState, IsHeapMove, HeapEntry, IsHeapRun}
+use Rattle.ref_share.proofs.Common.{first_heap_state}
+use Rattle.ref_base.specs.CollectorRows.{IsHeapRow}
+use Rattle.ref_base.specs.CountedHolds.{holds_after}
 use Rattle.ref_base.specs.Heaps.{one_more, one_fewer}
-use Rattle.ref_base.specs.HeapSteps.{NamedStep}
-use Rattle.ref_base.specs.Members.{has}
-use Rattle.ref_base.specs.Refusals.{heap_refusal, unless, is_counted, has_slot}
-use Rattle.ref_base.specs.Told.{told_notice, told_object}
-use Rattle.ref_base.specs.declared.config.Config.{Config}
-use Rattle.ref_base.specs.declared.fault.Fault.{Fault}
-use Rattle.ref_base.specs.declared.fault.Fault.TheVariants.{ForeignHold, NoSuchActor}
+use Rattle.ref_base.specs.Told.{told_object}
+use Rattle.ref_base.specs.declared.fault.Fault.TheVariants.{ForeignHold}
 use Rattle.ref_base.specs.declared.heap_step.HeapStep.TheVariants as heap
-use Rattle.ref_base.specs.declared.reply.Reply.{Reply}
 use Rattle.ref_base.specs.declared.reply.Reply.TheVariants as told
 use Rattle.ref_base.proofs.CountedRows.{heap_holds}
 use Rattle.ref_base.proofs.HoldCounts.{one_if, tally-first, tally-append, tally-one_more}
 use Rattle.ref_turn.proofs.Logs.{leads_cut}
-use Rattle.ref_turn.specs.History.{Leads}
-use Rattle.ref_world.specs.HeapReplies.{told_reply, GivesOut}
-use Rattle.ref_world.specs.declared.heap_machine.HeapReply.{HeapReply}
 use Rattle.ref_world.specs.declared.heap_machine.HeapReply.TheVariants as replies
 use Rattle.ref_share.specs.HeapHistories.{minted_by, spent_by, minted, spent}
-use Rattle.ref_share.specs.HeapMachines.{HeapState, IsHeapMove}
-use Rattle.ref_share.specs.HeapSeats.{HeapEntry, IsHeapRun, first_heap_state}
 
 -- ---- one row
 

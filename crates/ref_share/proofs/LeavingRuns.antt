@@ -1,15 +1,13 @@
 -- The history of a heap: how each path to what a mark's end dooms leaves what lives.
 use Rattle.std.proofs.Common.{◌≡◌, ℕ, true, List, inl, inr}
-use Rattle.ref_base.specs.CollectorRows.{doomed_at}
+use Rattle.ref_share.proofs.Common.{doomed_at, has, graph_of, HeapState, IsHeapMove}
 use Rattle.ref_base.specs.LeavingEdges.{FirstLeaves, LeavesBy}
-use Rattle.ref_base.specs.Members.{has}
 use Rattle.ref_base.specs.Paths.{IsPath, soft_and_weak_referents}
-use Rattle.ref_base.specs.Worlds.{policy_of, graph_of}
+use Rattle.ref_base.specs.Worlds.{policy_of}
 use Rattle.ref_base.specs.declared.heap_step.HeapStep.TheVariants as heap
 use Rattle.ref_base.specs.declared.reply.Reply.TheVariants as told
 use Rattle.ref_base.proofs.LeavingLaws.{has_first_step, first_step_clears}
 use Rattle.ref_world.specs.declared.heap_machine.HeapReply.TheVariants as replies
-use Rattle.ref_share.specs.HeapMachines.{HeapState, IsHeapMove}
 use Rattle.ref_share.proofs.HeapRuns.{move_kind}
 
 pub leaves_by_a_new_clear : (a : HeapState) (count : ℕ) (b : HeapState) (n : ℕ) (before : List ℕ)

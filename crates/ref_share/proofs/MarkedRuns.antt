@@ -1,16 +1,10 @@
 -- The history of a heap: a notice of a cycle comes after the end of that cycle's mark, which showed what it had to.
 use Rattle.std.proofs.Common.{◌≡◌, ℕ, List, [], ◌∷◌, ◌++◌, None, inl, inr, refl, sym, subst}
-use Rattle.ref_base.specs.CollectorRows.{HeapAccepts, list_at}
-use Rattle.ref_base.specs.Collectors.{State}
-use Rattle.ref_base.specs.Heaps.{slot_at}
-use Rattle.ref_base.specs.HeapSteps.{NamedStep}
-use Rattle.ref_base.specs.Refusals.{heap_refusal}
-use Rattle.ref_base.specs.Worlds.{Notice, World, pending_of}
-use Rattle.ref_base.specs.declared.cause.Cause.{Cause}
-use Rattle.ref_base.specs.declared.cause.Cause.TheVariants.{Own, Cycle}
-use Rattle.ref_base.specs.declared.config.Config.{Config}
+use Rattle.ref_share.proofs.Common.{HeapAccepts, list_at, State, slot_at, NamedStep, heap_refusal, World, pending_of}
+use Rattle.ref_share.proofs.Common.{Cause, Own, Cycle, Config, Reply, entry, HeldNotice, as_notice, told_reply}
+use Rattle.ref_share.proofs.Common.{HeapState, IsHeapMove, HeapEntry, IsHeapRun, first_heap_state, HeapMarkEnded}
+use Rattle.ref_base.specs.Worlds.{Notice}
 use Rattle.ref_base.specs.declared.heap_step.HeapStep.TheVariants as heap
-use Rattle.ref_base.specs.declared.reply.Reply.{Reply}
 use Rattle.ref_base.specs.declared.reply.Reply.TheVariants as told
 use Rattle.ref_base.proofs.CarryHeaps.{Anew, heap_carries}
 use Rattle.ref_base.proofs.CarryLaws.{Carries}
@@ -20,14 +14,7 @@ use Rattle.ref_base.proofs.MarkedTraces.{any_lasts}
 use Rattle.ref_base.proofs.PhaseLaws.{of_phase}
 use Rattle.ref_base.proofs.WaitingClears.{look_tells, Tells}
 use Rattle.ref_turn.proofs.Logs.{leads_cut}
-use Rattle.ref_turn.specs.Seats.{entry}
-use Rattle.ref_clear.specs.ClearHeaps.{HeldNotice}
-use Rattle.ref_world.specs.Cores.{as_notice}
-use Rattle.ref_world.specs.HeapReplies.{told_reply}
 use Rattle.ref_world.specs.declared.heap_machine.HeapReply.TheVariants as replies
-use Rattle.ref_share.specs.HeapMachines.{HeapState, IsHeapMove}
-use Rattle.ref_share.specs.HeapSeats.{HeapEntry, IsHeapRun, first_heap_state}
-use Rattle.ref_share.specs.HeapTraces.{HeapMarkEnded}
 use Rattle.ref_share.proofs.HeapReplays.{IsKnown, IsOut, call_known, first_known, shown_more}
 use Rattle.ref_share.proofs.HeapRuns.{renumbered, move_kind, run_holds}
 

@@ -5,21 +5,14 @@ use Rattle.std.proofs.Common.{is_some, inl, inr, refl, sym, ap, ◌∙◌, subst
 use Rattle.std.specs.List.{AllByRecursion}
 use Rattle.std.proofs.lemmas.Bool.{cases_Bool, and_parts, both_ways}
 use Rattle.std.proofs.lemmas.List.{append-nil}
-use Rattle.ref_base.specs.CollectorRows.{HeapAccepts, GivesAnewIf, Loads, Gets, Unhooks, Holds, Scans, ClearsNext}
-use Rattle.ref_base.specs.CollectorRows.{HandsOn, EndsMark}
-use Rattle.ref_base.specs.CollectorRows.{Sweeps, doomed_at, field_in, list_at, looked_at, reference_of, referent_got}
-use Rattle.ref_base.specs.CollectorRows.{referent_of, value_reply}
-use Rattle.ref_base.specs.Collectors.{State}
-use Rattle.ref_base.specs.Heaps.{slot_at, reference_at}
-use Rattle.ref_base.specs.HeapSteps.{NamedStep}
-use Rattle.ref_base.specs.Members.{has}
-use Rattle.ref_base.specs.Refusals.{heap_refusal, has_slot, is_counted}
-use Rattle.ref_base.specs.Worlds.{Pending, pending_of}
-use Rattle.ref_base.specs.declared.config.Config.{Config}
-use Rattle.ref_base.specs.declared.cause.Cause.TheVariants.{Own, Cycle}
+use Rattle.ref_share.proofs.Common.{HeapAccepts, HandsOn, EndsMark, doomed_at, list_at, referent_of, State, slot_at}
+use Rattle.ref_share.proofs.Common.{reference_at, NamedStep, has, heap_refusal, has_slot, is_counted, Pending}
+use Rattle.ref_share.proofs.Common.{pending_of, Config, Own, Cycle, Marking, Clearing, Reply, Leads, entry, told_reply}
+use Rattle.ref_share.proofs.Common.{HeapReply, HeapState, IsHeapMove, HeapEntry, IsHeapRun, heap_replayed}
+use Rattle.ref_base.specs.CollectorRows.{GivesAnewIf, Loads, Gets, Unhooks, Holds, Scans, ClearsNext}
+use Rattle.ref_base.specs.CollectorRows.{Sweeps, field_in, looked_at, reference_of, referent_got}
+use Rattle.ref_base.specs.CollectorRows.{value_reply}
 use Rattle.ref_base.specs.declared.heap_step.HeapStep.TheVariants as heap
-use Rattle.ref_base.specs.declared.phase.Phase.TheVariants.{Marking, Clearing}
-use Rattle.ref_base.specs.declared.reply.Reply.{Reply}
 use Rattle.ref_base.specs.declared.reply.Reply.TheVariants as told
 use Rattle.ref_base.proofs.AgreeHeaps.{gone_after}
 use Rattle.ref_base.proofs.ApartWorlds.{OfValue, IsClosed}
@@ -28,14 +21,8 @@ use Rattle.ref_base.proofs.HasLaws.{has-left, has-right}
 use Rattle.ref_base.proofs.OutHeaps.{off, off_is, off_same, next_out}
 use Rattle.ref_base.proofs.PhaseLaws.{of_phase}
 use Rattle.ref_base.proofs.RowLaws.{unless_passes}
-use Rattle.ref_turn.specs.History.{Leads}
-use Rattle.ref_turn.specs.Seats.{entry}
-use Rattle.ref_world.specs.HeapReplies.{told_reply}
-use Rattle.ref_world.specs.declared.heap_machine.HeapReply.{HeapReply}
 use Rattle.ref_world.specs.declared.heap_machine.HeapReply.TheVariants as replies
-use Rattle.ref_share.specs.HeapMachines.{HeapState, IsHeapMove}
-use Rattle.ref_share.specs.HeapSeats.{HeapEntry, IsHeapRun}
-use Rattle.ref_share.specs.HeapTraces.{heap_replayed, named_by}
+use Rattle.ref_share.specs.HeapTraces.{named_by}
 use Rattle.ref_share.proofs.HeapReplays.{IsKnownBut, run_known, refused_known, accepted_known}
 use Rattle.ref_share.proofs.HeapRuns.{renumbered, move_kind, goes_on}
 

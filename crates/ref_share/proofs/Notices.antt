@@ -2,32 +2,21 @@
 use Rattle.std.proofs.Common.{◌≡◌, ℕ, ◌-◌, ◌^◌, true, false, Bool, if◌then◌else◌, List, [], ◌∷◌, length, nat_lt}
 use Rattle.std.proofs.Common.{Option, Some, None, is_some, Result, Ok, Err, refl, sym, ap, ◌∙◌, subst}
 use Rattle.std.proofs.lemmas.Bool.{false≢true}
-use Rattle.ref_base.specs.Graphs.{Reference}
-use Rattle.ref_base.specs.Heaps.{Heap, slot_at, reference_at}
-use Rattle.ref_base.specs.HeapSteps.{NamedStep}
-use Rattle.ref_base.specs.Refusals.{unless, holds_refusal, minting_refusal, unhook_refusal, hand_refusal}
-use Rattle.ref_base.specs.Refusals.{has_slot, is_worker}
-use Rattle.ref_base.specs.Told.{told_notice}
-use Rattle.ref_base.specs.Worlds.{Pending}
-use Rattle.ref_base.specs.declared.fault.Fault.{Fault}
-use Rattle.ref_base.specs.declared.fault.Fault.TheVariants.{NoSuchActor, NumbersSpent, TurnsSpent}
+use Rattle.ref_share.proofs.Common.{Reference, slot_at, reference_at, NamedStep, unless, has_slot, told_notice}
+use Rattle.ref_share.proofs.Common.{Pending, Fault, NoSuchActor, TurnsSpent, Reply, ClearHeap, HeldNotice, Sends}
+use Rattle.ref_share.proofs.Common.{Delivers, Acts, HeapView, Called, Delivery, Nothing, Added, Dropped, ShareFault}
+use Rattle.ref_share.proofs.Common.{Refused, Busy, Notice, Held, SharedQueue, QueueSeat}
+use Rattle.ref_base.specs.Heaps.{Heap}
+use Rattle.ref_base.specs.Refusals.{holds_refusal, minting_refusal, unhook_refusal, hand_refusal}
+use Rattle.ref_base.specs.Refusals.{is_worker}
+use Rattle.ref_base.specs.declared.fault.Fault.TheVariants.{NumbersSpent}
 use Rattle.ref_base.specs.declared.heap_step.HeapStep.TheVariants as heap
-use Rattle.ref_base.specs.declared.reply.Reply.{Reply}
 use Rattle.ref_base.specs.declared.reply.Reply.TheVariants as told
 use Rattle.ref_clear.specs.ClearCalls.{answer_of_unhook, answer_of_hand, queue_in, refusal_in}
-use Rattle.ref_clear.specs.ClearHeaps.{ClearHeap, HeldNotice, pending_at}
+use Rattle.ref_clear.specs.ClearHeaps.{pending_at}
 use Rattle.ref_mark.specs.MarkCalls.{unless_refused}
 use Rattle.ref_world.specs.declared.heap_machine.HeapReply.TheVariants as replies
-use Rattle.ref_share.specs.Deliveries.{asks_for_a_notice, gives_no_notice, is_of_heap, TellsOfNone, Sends, Delivers}
-use Rattle.ref_share.specs.HeapMachines.{Acts}
-use Rattle.ref_share.specs.HeapSeats.{HeapView}
-use Rattle.ref_share.specs.SeatCalls.{Called}
-use Rattle.ref_share.specs.declared.answers.Delivery.{Delivery}
-use Rattle.ref_share.specs.declared.answers.Delivery.TheVariants.{Nothing, Added, Dropped}
-use Rattle.ref_share.specs.declared.answers.ShareFault.{ShareFault}
-use Rattle.ref_share.specs.declared.answers.ShareFault.TheVariants.{Refused, Busy, Notice, Held}
-use Rattle.ref_share.specs.declared.shared_queue.SharedQueue.{SharedQueue}
-use Rattle.ref_share.specs.declared.shared_queue.QueueSeat.{QueueSeat}
+use Rattle.ref_share.specs.Deliveries.{asks_for_a_notice, gives_no_notice, is_of_heap, TellsOfNone}
 
 of_unhook : (slot queue : Option ℕ) → told_notice (answer_of_unhook slot queue) ≡ None
     → gives_no_notice (answer_of_unhook slot queue) ≡ true

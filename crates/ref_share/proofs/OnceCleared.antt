@@ -4,22 +4,19 @@ use Rattle.std.proofs.Common.{◌≡◌, ℕ, ◌+◌, Bool, true, false, ◌==�
 use Rattle.std.proofs.Common.{Some, None, inl, inr, refl, sym, ap, ◌∙◌, subst}
 use Rattle.std.specs.Prelude.{slice_set, is_some}
 use Rattle.std.proofs.lemmas.Bool.{cases_Bool, and_from, and_right, or_parts, or_right, eqb-true, false≢true}
-use Rattle.ref_base.specs.AgreeingWorlds.{is_waiting}
-use Rattle.ref_base.specs.CollectorRows.{AreFound, EndsMark, HeapAccepts, doomed_at, is_subsequence, list_at}
-use Rattle.ref_base.specs.CollectorRows.{references_among, referent_of}
-use Rattle.ref_base.specs.Collectors.{State, joined}
-use Rattle.ref_base.specs.DoomedSets.{new_clears, any_is, refers_into}
+use Rattle.ref_share.proofs.Common.{is_waiting, EndsMark, HeapAccepts, doomed_at, is_subsequence, list_at, referent_of}
+use Rattle.ref_share.proofs.Common.{State, joined, new_clears, Object, Reference, NamedStep, has, AreDistinct}
+use Rattle.ref_share.proofs.Common.{heap_refusal, World, Marking, Clearing, Reply}
+use Rattle.ref_base.specs.CollectorRows.{AreFound}
+use Rattle.ref_base.specs.CollectorRows.{references_among}
+use Rattle.ref_base.specs.DoomedSets.{any_is, refers_into}
 use Rattle.ref_base.specs.Strengths.{IsRising}
-use Rattle.ref_base.specs.Graphs.{Object, Reference, is_there, numbers, object_at}
+use Rattle.ref_base.specs.Graphs.{is_there, numbers, object_at}
 use Rattle.ref_base.specs.Heaps.{reference_in}
-use Rattle.ref_base.specs.HeapSteps.{NamedStep}
-use Rattle.ref_base.specs.Members.{has, AreDistinct}
-use Rattle.ref_base.specs.Refusals.{heap_refusal, is_in}
-use Rattle.ref_base.specs.Worlds.{World}
+use Rattle.ref_base.specs.Refusals.{is_in}
 use Rattle.ref_base.specs.declared.heap_step.HeapStep.TheVariants as heap
 use Rattle.ref_base.specs.declared.phase.Phase.{Phase}
-use Rattle.ref_base.specs.declared.phase.Phase.TheVariants.{Idle, Marking, Clearing, Sweeping}
-use Rattle.ref_base.specs.declared.reply.Reply.{Reply}
+use Rattle.ref_base.specs.declared.phase.Phase.TheVariants.{Idle, Sweeping}
 use Rattle.ref_base.specs.declared.reply.Reply.TheVariants as told
 use Rattle.ref_base.proofs.AgreeHeaps.{Agreeing, none_waits, not_in}
 use Rattle.ref_base.proofs.ClearedOnwards.{StaysCleared, cleared_at, ended_cleared, heap_cleared}

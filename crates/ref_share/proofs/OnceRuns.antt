@@ -8,37 +8,23 @@ use Rattle.std.proofs.lemmas.Map.Keys.{IsDistinct-cons}
 use Rattle.std.proofs.lemmas.Bool.{cases_Bool, both_ways, or_parts, eq-eqb, eqb-true, false≢true, false_from_ne_true}
 use Rattle.std.proofs.lemmas.Bool.{ne_eqb}
 use Rattle.std.proofs.lemmas.List.{map-append}
-use Rattle.ref_base.specs.AgreeingWorlds.{is_waiting}
-use Rattle.ref_base.specs.CollectorRows.{HandsOn, HeapAccepts}
-use Rattle.ref_base.specs.Collectors.{State, joined}
-use Rattle.ref_base.specs.CountedHolds.{tally}
-use Rattle.ref_base.specs.HeapSteps.{NamedStep}
-use Rattle.ref_base.specs.Heaps.{reference_at, registered_in}
-use Rattle.ref_base.specs.Members.{has, AreDistinct}
-use Rattle.ref_base.specs.Refusals.{heap_refusal}
-use Rattle.ref_base.specs.Replay.{pended, without_pending}
-use Rattle.ref_base.specs.Told.{told_notice}
-use Rattle.ref_base.specs.Worlds.{World, Pending, pending_of, pending_numbers}
-use Rattle.ref_base.specs.declared.cause.Cause.{Cause}
-use Rattle.ref_base.specs.declared.cause.Cause.TheVariants.{Cycle}
-use Rattle.ref_base.specs.declared.config.Config.{Config}
-use Rattle.ref_base.specs.declared.fault.Fault.{Fault}
+use Rattle.ref_share.proofs.Common.{is_waiting, HandsOn, HeapAccepts, State, joined, tally, NamedStep, reference_at}
+use Rattle.ref_share.proofs.Common.{registered_in, has, AreDistinct, heap_refusal, pended, without_pending}
+use Rattle.ref_share.proofs.Common.{told_notice, World, Pending, pending_of, Cause, Cycle, Config, Fault, Reply}
+use Rattle.ref_share.proofs.Common.{scanned_in_cycle, told_reply, GivesOut, HeapReply, HeapState, IsHeapMove}
+use Rattle.ref_share.proofs.Common.{HeapEntry, IsHeapRun, first_heap_state, gathered, all_handed_on, heap_replayed}
+use Rattle.ref_share.proofs.Common.{rows_of}
+use Rattle.ref_base.specs.Worlds.{pending_numbers}
 use Rattle.ref_base.specs.declared.heap_step.HeapStep.TheVariants as heap
-use Rattle.ref_base.specs.declared.reply.Reply.{Reply}
 use Rattle.ref_base.specs.declared.reply.Reply.TheVariants as told
 use Rattle.ref_base.proofs.HoldCounts.{one_if, tally-first, tally-append}
 use Rattle.ref_base.proofs.LegalQueues.{distinct_nil}
 use Rattle.ref_base.proofs.RowMoves.{Moves, heap_tells, pending_after}
 use Rattle.ref_base.proofs.FoundLists.{AreDistinct-with_last, joined-emptied}
 use Rattle.ref_base.proofs.ScannedOnce.{HasScanned, ScansAnew, first_scanned, scan_tells}
-use Rattle.ref_base.specs.ScannedRows.{scanned_in_cycle}
 use Rattle.ref_base.proofs.AgreeHeaps.{Agreeing}
-use Rattle.ref_world.specs.HeapReplies.{told_reply, GivesOut}
-use Rattle.ref_world.specs.declared.heap_machine.HeapReply.{HeapReply}
 use Rattle.ref_world.specs.declared.heap_machine.HeapReply.TheVariants as replies
-use Rattle.ref_share.specs.HeapMachines.{HeapState, IsHeapMove}
-use Rattle.ref_share.specs.HeapSeats.{HeapEntry, IsHeapRun, first_heap_state}
-use Rattle.ref_share.specs.HeapTraces.{gathered, handed_by, all_handed_on, heap_replayed, rows_of}
+use Rattle.ref_share.specs.HeapTraces.{handed_by}
 use Rattle.ref_share.proofs.HeapReplays.{IsKnown, call_known, first_known}
 use Rattle.ref_share.proofs.HeapRows.{gathered_last}
 use Rattle.ref_share.proofs.HeapRuns.{renumbered, IsAccepted, move_kind, run_holds}

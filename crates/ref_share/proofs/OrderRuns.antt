@@ -5,23 +5,17 @@ use Rattle.std.specs.Prelude.{slice_index_or, slice_set}
 use Rattle.std.specs.List.{AllByRecursion}
 use Rattle.std.proofs.lemmas.Bool.{cases_Bool, cases_eq, eq-eqb}
 use Rattle.std.proofs.lemmas.List.{append-nil, append_assoc, get_or-set_same, get_or-set_other}
-use Rattle.ref_base.specs.ClearingOrder.{is_by, if_worked}
-use Rattle.ref_base.specs.CollectorRows.{HandsOn, is_subsequence}
-use Rattle.ref_base.specs.Collectors.{State}
-use Rattle.ref_base.specs.Heaps.{reference_at, registered_in}
-use Rattle.ref_base.specs.HeapSteps.{NamedStep}
-use Rattle.ref_base.specs.Replay.{pended, without_pending}
-use Rattle.ref_base.specs.Told.{told_notice}
-use Rattle.ref_base.specs.WorkerOrder.{is_registered, cleared_by, if_registered, cleared_in, clearing_order}
-use Rattle.ref_base.specs.Worlds.{World, Notice, Pending, first_world, hand_of, pending_of}
+use Rattle.ref_share.proofs.Common.{is_by, HandsOn, is_subsequence, State, reference_at, registered_in, NamedStep}
+use Rattle.ref_share.proofs.Common.{pended, without_pending, told_notice, clearing_order, World, Pending, first_world}
+use Rattle.ref_share.proofs.Common.{pending_of, Cycle, Config, Fault, Reply, Row, HeldNotice, as_notice, told_reply}
+use Rattle.ref_share.proofs.Common.{GivesOut, HeapReply, HeapState, IsHeapMove, HeapEntry, IsHeapRun, world_step}
+use Rattle.ref_share.proofs.Common.{row_of, rows_of, handed_of, handed_in}
+use Rattle.ref_base.specs.ClearingOrder.{if_worked}
+use Rattle.ref_base.specs.WorkerOrder.{is_registered, cleared_by, if_registered, cleared_in}
+use Rattle.ref_base.specs.Worlds.{Notice, hand_of}
 use Rattle.ref_base.specs.declared.actor.Actor.TheVariants.{Worker}
-use Rattle.ref_base.specs.declared.cause.Cause.TheVariants.{Cycle}
-use Rattle.ref_base.specs.declared.config.Config.{Config}
-use Rattle.ref_base.specs.declared.fault.Fault.{Fault}
 use Rattle.ref_base.specs.declared.heap_step.HeapStep.TheVariants as heap
-use Rattle.ref_base.specs.declared.reply.Reply.{Reply}
 use Rattle.ref_base.specs.declared.reply.Reply.TheVariants as told
-use Rattle.ref_base.specs.declared.row.Row.{Row}
 use Rattle.ref_base.proofs.CarryRows.{nothing_pending}
 use Rattle.ref_base.proofs.ClearingShifts.{all_for, if_for, clears_for, worked_is}
 use Rattle.ref_base.proofs.ClearingTraces.{not_by, none_worked}
@@ -33,14 +27,7 @@ use Rattle.ref_base.proofs.SameOthers.{same_hand}
 use Rattle.ref_base.proofs.SoundWorlds.{first_hand}
 use Rattle.ref_base.proofs.Subsequences.{Sub, sub_none, sub_all, sub_through, sub_behind, sub_before, sub_longer}
 use Rattle.ref_base.proofs.Subsequences.{sub_is}
-use Rattle.ref_clear.specs.ClearHeaps.{HeldNotice}
-use Rattle.ref_world.specs.Cores.{as_notice}
-use Rattle.ref_world.specs.HeapReplies.{told_reply, GivesOut}
-use Rattle.ref_world.specs.declared.heap_machine.HeapReply.{HeapReply}
 use Rattle.ref_world.specs.declared.heap_machine.HeapReply.TheVariants as replies
-use Rattle.ref_share.specs.HeapMachines.{HeapState, IsHeapMove}
-use Rattle.ref_share.specs.HeapSeats.{HeapEntry, IsHeapRun}
-use Rattle.ref_share.specs.HeapTraces.{world_step, row_of, rows_of, handed_of, handed_in}
 use Rattle.ref_share.proofs.HeapRows.{rows_last, gathered_last}
 use Rattle.ref_share.proofs.HeapRuns.{renumbered, IsAccepted, move_kind, run_holds}
 use Rattle.ref_share.proofs.ProvenRuns.{IsFrom, call_from, first_from}

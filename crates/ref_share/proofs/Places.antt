@@ -4,15 +4,9 @@ use Rattle.std.proofs.Common.{subst, ◌∙◌, ◌≢◌, arith}
 use Rattle.std.specs.Prelude.{slice_get, slice_set, unwrap_or}
 use Rattle.std.proofs.Common.{Result, Ok, Err, IfErr, true}
 use Rattle.std.proofs.lemmas.Bool.{false≢true}
-use Rattle.ref_base.specs.declared.fault.Fault.{Fault}
-use Rattle.ref_base.specs.declared.fault.Fault.TheVariants.{BadQueue}
-use Rattle.ref_clear.specs.ClearHeaps.{HeldNotice}
-use Rattle.ref_queue.specs.declared.queue.Put.{Put}
-use Rattle.ref_share.specs.Deliveries.{AreSeats, PutsAt}
-use Rattle.ref_share.specs.QueueCalls.{PutsNotice, refuses_put}
-use Rattle.ref_share.specs.QueueSeats.{IsQueueSeat, queue_view}
-use Rattle.ref_share.specs.declared.shared_queue.SharedQueue.{SharedQueue}
-use Rattle.ref_share.specs.declared.shared_queue.QueueSeat.{QueueSeat}
+use Rattle.ref_share.proofs.Common.{Fault, BadQueue, HeldNotice, Put, AreSeats, PutsAt, PutsNotice, IsQueueSeat}
+use Rattle.ref_share.proofs.Common.{queue_view, SharedQueue, QueueSeat}
+use Rattle.ref_share.specs.QueueCalls.{refuses_put}
 
 -- what stands in a list after a change at k is what it was changed to, or stood there before, elsewhere
 pub changed_there : {T : Type 0} (xs : List T) (k j : ℕ) (t y : T) → slice_get (slice_set xs k t) j ≡ Some y

@@ -2,18 +2,11 @@
 use Rattle.std.proofs.Common.{◌≡◌, ℕ, zero, suc, List, [], ◌∷◌, ◌++◌, refl, ap, ◌∙◌, subst, replicate}
 use Rattle.std.proofs.Common.{Result, Ok, Err, Some, None, rules}
 use Rattle.std.proofs.lemmas.List.{append_assoc}
-use Rattle.ref_base.specs.declared.fault.Fault.TheVariants.{TurnsSpent}
+use Rattle.ref_share.proofs.Common.{TurnsSpent, entry, Extends, Longer, Entry, View, empty_polls, QueueView}
+use Rattle.ref_share.proofs.Common.{QueueEntry, Made, Took, Closed, ShareFault, Refused}
 use Rattle.ref_queue.specs.declared.queue.Polled.TheVariants as answers
-use Rattle.ref_turn.specs.Seats.{entry, Extends, Longer}
-use Rattle.ref_turn.specs.declared.history.Entry.{Entry}
-use Rattle.ref_turn.specs.declared.history.View.{View}
-use Rattle.ref_share.specs.QueueCalls.{PollsOnce, PollsTo, polled, empty_polls}
-use Rattle.ref_share.specs.QueueSeats.{QueueView, QueueEntry}
-use Rattle.ref_share.specs.SeatCalls.{Made}
+use Rattle.ref_share.specs.QueueCalls.{PollsOnce, PollsTo, polled}
 use Rattle.ref_share.specs.declared.answers.Polled.{Polled}
-use Rattle.ref_share.specs.declared.answers.Polled.TheVariants.{Took, Closed}
-use Rattle.ref_share.specs.declared.answers.ShareFault.{ShareFault}
-use Rattle.ref_share.specs.declared.answers.ShareFault.TheVariants.{Refused}
 use Rattle.ref_share.specs.declared.queue_machine.QueueStep.TheVariants as steps
 use Rattle.ref_share.specs.declared.queue_machine.QueueReply.TheVariants as replies
 

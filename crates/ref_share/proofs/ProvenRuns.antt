@@ -2,20 +2,13 @@
 use Rattle.std.proofs.Common.{◌≡◌, ℕ, List, [], ◌∷◌, ◌++◌, Option, Some, None, inl, inr, refl, sym, ap, ◌∙◌, subst}
 use Rattle.std.proofs.lemmas.List.{append-nil}
 use Rattle.std.proofs.lemmas.Option.{same_Some}
-use Rattle.ref_base.specs.CollectorRows.{HeapAccepts}
-use Rattle.ref_base.specs.Collectors.{State}
-use Rattle.ref_base.specs.Graphs.{Object}
-use Rattle.ref_base.specs.Heaps.{slot_at}
-use Rattle.ref_base.specs.HeapSteps.{NamedStep}
+use Rattle.ref_share.proofs.Common.{HeapAccepts, State, Object, slot_at, NamedStep, pending_of, Config, Fault, Reply}
+use Rattle.ref_share.proofs.Common.{Row, Step, entry, HeldNotice, as_notice, told_reply, HeapState, IsHeapMove}
+use Rattle.ref_share.proofs.Common.{HeapEntry, IsHeapRun, first_heap_state, world_step, row_of, rows_of}
 use Rattle.ref_base.specs.Provenance.{cycle_after, IsProven}
-use Rattle.ref_base.specs.Worlds.{Notice, pending_of}
-use Rattle.ref_base.specs.declared.config.Config.{Config}
-use Rattle.ref_base.specs.declared.fault.Fault.{Fault}
+use Rattle.ref_base.specs.Worlds.{Notice}
 use Rattle.ref_base.specs.declared.heap_step.HeapStep.TheVariants as heap
-use Rattle.ref_base.specs.declared.reply.Reply.{Reply}
 use Rattle.ref_base.specs.declared.reply.Reply.TheVariants as told
-use Rattle.ref_base.specs.declared.row.Row.{Row}
-use Rattle.ref_base.specs.declared.step.Step.{Step}
 use Rattle.ref_base.specs.declared.step.Step.TheVariants as steps
 use Rattle.ref_base.specs.declared.urgency.Urgency.{Urgency}
 use Rattle.ref_base.proofs.CarryHeaps.{Anew, heap_carries}
@@ -24,14 +17,7 @@ use Rattle.ref_base.proofs.GivenNotices.{unhooked, handed_on}
 use Rattle.ref_base.proofs.ProvenTraces.{IsMade, Known, KnownBut, Stays, cycle_from, cycle_last, begun_cycle, lifted}
 use Rattle.ref_base.proofs.ProvenTraces.{made_lasts, mints}
 use Rattle.ref_turn.proofs.Logs.{leads_cut}
-use Rattle.ref_turn.specs.Seats.{entry}
-use Rattle.ref_clear.specs.ClearHeaps.{HeldNotice}
-use Rattle.ref_world.specs.Cores.{as_notice}
-use Rattle.ref_world.specs.HeapReplies.{told_reply}
 use Rattle.ref_world.specs.declared.heap_machine.HeapReply.TheVariants as replies
-use Rattle.ref_share.specs.HeapMachines.{HeapState, IsHeapMove}
-use Rattle.ref_share.specs.HeapSeats.{HeapEntry, IsHeapRun, first_heap_state}
-use Rattle.ref_share.specs.HeapTraces.{world_step, row_of, rows_of}
 use Rattle.ref_share.proofs.HeapRows.{rows_last}
 use Rattle.ref_share.proofs.HeapRuns.{renumbered, move_kind, run_holds}
 

@@ -2,18 +2,12 @@
 -- reference 2 is put.
 use Rattle.std.proofs.Common.{ℕ, ◌-◌, ◌^◌, List, [], ◌∷◌, Some, Ok, Err, true, false, refl, ap}
 use Rattle.std.proofs.Common.{arith, map}
-use Rattle.ref_base.specs.QueueLists.{new_queue}
-use Rattle.ref_base.specs.declared.cause.Cause.TheVariants.{Own}
-use Rattle.ref_base.specs.declared.fault.Fault.TheVariants.{TurnsSpent}
-use Rattle.ref_clear.specs.ClearHeaps.{HeldNotice}
+use Rattle.ref_share.proofs.Common.{new_queue, Own, TurnsSpent, HeldNotice, entry, Idle, PutsNotice, PollsUntil}
+use Rattle.ref_share.proofs.Common.{QueueView, QueueEntry, Took, Closed, Busy}
 use Rattle.ref_queue.specs.declared.queue.Polled.TheVariants as answers
 use Rattle.ref_queue.specs.declared.queue.Put.TheVariants as puts
-use Rattle.ref_turn.specs.Seats.{entry}
-use Rattle.ref_turn.specs.declared.history.Stage.TheVariants.{Idle}
-use Rattle.ref_share.specs.QueueCalls.{PutsNotice, PollsNow, PollsWithin, PollsUntil, ClosesQueue}
-use Rattle.ref_share.specs.QueueSeats.{QueueView, QueueEntry}
-use Rattle.ref_share.specs.declared.answers.Polled.TheVariants.{Took, Empty, Closed, TimedOut}
-use Rattle.ref_share.specs.declared.answers.ShareFault.TheVariants.{Busy}
+use Rattle.ref_share.specs.QueueCalls.{PollsNow, PollsWithin, ClosesQueue}
+use Rattle.ref_share.specs.declared.answers.Polled.TheVariants.{Empty, TimedOut}
 use Rattle.ref_share.specs.declared.queue_machine.QueueStep.TheVariants as steps
 use Rattle.ref_share.specs.declared.queue_machine.QueueReply.TheVariants as replies
 

@@ -3,22 +3,18 @@ use Rattle.std.proofs.Common.{◌≡◌, ℕ, Bool, true, false, ◌||◌, List,
 use Rattle.std.proofs.Common.{refl, sym, ap, ◌∙◌, subst}
 use Rattle.std.specs.List.{IsDistinct}
 use Rattle.std.specs.Prelude.{nat_eq}
-use Rattle.ref_base.specs.QueueLists.{new_queue}
+use Rattle.ref_share.proofs.Common.{new_queue, HeldNotice, Leads, entry, IsQueueMove, QueueEntry, QueueStep}
+use Rattle.ref_share.proofs.Common.{QueueReply}
 use Rattle.ref_base.proofs.LegalQueues.{distinct_nil}
 use Rattle.ref_base.proofs.QueueMoves.{QueueMoves, moves_nothing, moves_more, moves_added, moves_took, moves_closed}
-use Rattle.ref_clear.specs.ClearHeaps.{HeldNotice}
 use Rattle.ref_queue.specs.declared.queue.Put.TheVariants as puts
 use Rattle.ref_queue.specs.declared.queue.Polled.TheVariants as polls
 use Rattle.ref_turn.proofs.Logs.{leads_cut}
-use Rattle.ref_turn.specs.History.{Leads}
-use Rattle.ref_turn.specs.Seats.{entry}
 use Rattle.ref_share.specs.QueueHistories.{put_by_call, taken_by_call, closed_by_call, all_put_in, all_taken_out, is_closed_after, KeepsLists}
-use Rattle.ref_share.specs.QueueMachines.{reported_object, IsQueueMove}
-use Rattle.ref_share.specs.QueueSeats.{QueueEntry, IsQueueRun}
+use Rattle.ref_share.specs.QueueMachines.{reported_object}
+use Rattle.ref_share.specs.QueueSeats.{IsQueueRun}
 use Rattle.ref_share.specs.QueueStates.{NoticeLists}
-use Rattle.ref_share.specs.declared.queue_machine.QueueStep.{QueueStep}
 use Rattle.ref_share.specs.declared.queue_machine.QueueStep.TheVariants as steps
-use Rattle.ref_share.specs.declared.queue_machine.QueueReply.{QueueReply}
 use Rattle.ref_share.specs.declared.queue_machine.QueueReply.TheVariants as replies
 
 -- how one call changes the lists: as its entry tells

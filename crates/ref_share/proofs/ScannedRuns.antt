@@ -4,28 +4,20 @@ use Rattle.std.proofs.Common.{◌≡◌, ℕ, List, [], ◌∷◌, ◌++◌, Opt
 use Rattle.std.specs.Prelude.{nat_eq}
 use Rattle.std.specs.List.{IsDistinct}
 use Rattle.std.proofs.lemmas.Bool.{false≢true}
+use Rattle.ref_share.proofs.Common.{State, NamedStep, scanned_in_cycle, Config, Fault, Row, Step, told_reply}
+use Rattle.ref_share.proofs.Common.{HeapReply, HeapState, IsHeapMove, HeapEntry, IsHeapRun, world_step, row_of}
+use Rattle.ref_share.proofs.Common.{rows_of}
 use Rattle.ref_base.specs.CollectorRows.{IsLeft}
-use Rattle.ref_base.specs.Collectors.{State}
-use Rattle.ref_base.specs.HeapSteps.{NamedStep}
-use Rattle.ref_base.specs.ScannedRows.{scanned_with, scanned_from, scanned_in_cycle}
-use Rattle.ref_base.specs.declared.config.Config.{Config}
-use Rattle.ref_base.specs.declared.fault.Fault.{Fault}
+use Rattle.ref_base.specs.ScannedRows.{scanned_with, scanned_from}
 use Rattle.ref_base.specs.declared.fault.Fault.TheVariants.{GreyLeft}
 use Rattle.ref_base.specs.declared.heap_step.HeapStep.TheVariants as heap
 use Rattle.ref_base.specs.declared.reply.Reply.TheVariants as told
-use Rattle.ref_base.specs.declared.row.Row.{Row}
-use Rattle.ref_base.specs.declared.step.Step.{Step}
 use Rattle.ref_base.specs.declared.step.Step.TheVariants as steps
 use Rattle.ref_base.proofs.LeftObjects.{LeftMeans, heap_left}
 use Rattle.ref_base.proofs.RowMoves.{Moves, heap_tells}
 use Rattle.ref_base.proofs.ScannedOnce.{HasScanned, first_scanned, still_scanned, one_more, begins, scan_tells}
 use Rattle.ref_base.proofs.ScannedOnce.{left_if_grey}
-use Rattle.ref_world.specs.HeapReplies.{told_reply}
-use Rattle.ref_world.specs.declared.heap_machine.HeapReply.{HeapReply}
 use Rattle.ref_world.specs.declared.heap_machine.HeapReply.TheVariants as replies
-use Rattle.ref_share.specs.HeapMachines.{HeapState, IsHeapMove}
-use Rattle.ref_share.specs.HeapSeats.{HeapEntry, IsHeapRun}
-use Rattle.ref_share.specs.HeapTraces.{world_step, row_of, rows_of}
 use Rattle.ref_share.proofs.HeapRows.{rows_last}
 use Rattle.ref_share.proofs.HeapRuns.{renumbered, IsAccepted, move_kind, run_holds}
 

@@ -2,13 +2,9 @@
 use Rattle.std.proofs.Common.{◌≡◌, ℕ, zero, suc, List, [], ◌∷◌, ◌++◌, length, get_or, Some, ◌⊎◌, inl, inr, refl, sym}
 use Rattle.std.proofs.Common.{ap, subst, arith, slice_get}
 use Rattle.std.proofs.lemmas.Option.{slice_get-get_or, slice_get_within, same_Some}
-use Rattle.ref_share.specs.Deliveries.{AreSeats}
-use Rattle.ref_base.specs.QueueLists.{new_queue}
-use Rattle.ref_share.specs.QueueMachines.{IsQueueMove}
-use Rattle.ref_share.specs.QueueSeats.{IsItself, IsNewQueue, IsQueueSeat}
-use Rattle.ref_share.specs.StartedSeats.{IsSeatFrom}
-use Rattle.ref_share.specs.declared.shared_queue.QueueSeat.{QueueSeat}
-use Rattle.ref_share.specs.declared.shared_queue.SharedQueue.{SharedQueue}
+use Rattle.ref_share.proofs.Common.{AreSeats, new_queue, IsQueueMove, IsItself, IsQueueSeat, IsSeatFrom, QueueSeat}
+use Rattle.ref_share.proofs.Common.{SharedQueue}
+use Rattle.ref_share.specs.QueueSeats.{IsNewQueue}
 
 -- what stands in a list with one more stood there before, or is that one
 at_last : {T : Type 0} (xs : List T) (x y : T) (k : ℕ) → slice_get (xs ++ x ∷ []) k ≡ Some y

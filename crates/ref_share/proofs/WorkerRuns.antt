@@ -6,43 +6,23 @@ use Rattle.std.proofs.lemmas.Bool.{cases_Bool, false≢true, ne_eqb}
 use Rattle.std.proofs.lemmas.List.{append-nil, append_assoc}
 use Rattle.std.proofs.lemmas.Option.{slice_get_within}
 use Rattle.std.specs.Prelude.{slice_get}
-use Rattle.ref_base.specs.ClearingOrder.{is_by}
-use Rattle.ref_base.specs.CollectorRows.{is_subsequence}
-use Rattle.ref_base.specs.HeapSteps.{NamedStep}
-use Rattle.ref_base.specs.WorkerOrder.{clearing_order}
-use Rattle.ref_base.specs.declared.fault.Fault.{Fault}
-use Rattle.ref_base.specs.declared.fault.Fault.TheVariants.{BadQueue, TurnsSpent}
+use Rattle.ref_share.proofs.Common.{is_by, is_subsequence, NamedStep, clearing_order, Fault, BadQueue, TurnsSpent}
+use Rattle.ref_share.proofs.Common.{HoldName, HeldNotice, Put, calls_by, entry, HeapReply, PutsAt, GoesBack, Delivers}
+use Rattle.ref_share.proofs.Common.{HeapView, HeapEntry, heap_view, IsHeapSeat, rows_of, handed_of, handed_in}
+use Rattle.ref_share.proofs.Common.{PutsNotice, QueueView, QueueEntry, queue_view, Called, notices_put, KeepsPace}
+use Rattle.ref_share.proofs.Common.{Works, references_of, Delivery, Nothing, Added, Dropped, ShareFault, Refused, Busy}
+use Rattle.ref_share.proofs.Common.{Notice, Held, QueueReply, QueueStep, SharedQueue, QueueSeat}
 use Rattle.ref_base.specs.declared.heap_step.HeapStep.TheVariants as heap
-use Rattle.ref_base.specs.declared.heap_step.HoldName.{HoldName}
 use Rattle.ref_base.specs.declared.reply.Reply.TheVariants as told
 use Rattle.ref_base.proofs.Subsequences.{Sub, sub_behind, sub_in_front, sub_is, sub_through}
-use Rattle.ref_clear.specs.ClearHeaps.{HeldNotice}
-use Rattle.ref_queue.specs.declared.queue.Put.{Put}
 use Rattle.ref_queue.specs.declared.queue.Put.TheVariants as puts
-use Rattle.ref_turn.specs.History.{calls_by}
-use Rattle.ref_turn.specs.Seats.{entry}
-use Rattle.ref_world.specs.declared.heap_machine.HeapReply.{HeapReply}
 use Rattle.ref_world.specs.declared.heap_machine.HeapReply.TheVariants as replies
-use Rattle.ref_share.specs.Deliveries.{IsPut, IsBeyond, PutsAt, GoesBack, Delivers}
-use Rattle.ref_share.specs.HeapSeats.{HeapView, HeapEntry, heap_view, IsHeapSeat}
-use Rattle.ref_share.specs.HeapTraces.{rows_of, handed_of, handed_in}
-use Rattle.ref_share.specs.QueueCalls.{PutsNotice}
-use Rattle.ref_share.specs.QueueSeats.{QueueView, QueueEntry, queue_view}
-use Rattle.ref_share.specs.SeatCalls.{Called}
-use Rattle.ref_share.specs.WorkerCalls.{worked_notice, notice_handed, notice_put, notices_handed, notices_put, had_turn, KeepsPace}
-use Rattle.ref_share.specs.WorkerCalls.{Works, references_of}
-use Rattle.ref_share.specs.declared.answers.Delivery.{Delivery}
-use Rattle.ref_share.specs.declared.answers.Delivery.TheVariants.{Nothing, Added, Dropped}
-use Rattle.ref_share.specs.declared.answers.ShareFault.{ShareFault}
-use Rattle.ref_share.specs.declared.answers.ShareFault.TheVariants.{Refused, Busy, Notice, Held}
-use Rattle.ref_share.specs.declared.queue_machine.QueueReply.{QueueReply}
+use Rattle.ref_share.specs.Deliveries.{IsPut, IsBeyond}
+use Rattle.ref_share.specs.WorkerCalls.{worked_notice, notice_handed, notice_put, notices_handed, had_turn}
 use Rattle.ref_share.specs.declared.queue_machine.QueueReply.TheVariants as answers
-use Rattle.ref_share.specs.declared.queue_machine.QueueStep.{QueueStep}
 use Rattle.ref_share.specs.declared.queue_machine.QueueStep.TheVariants as queue
 use Rattle.ref_share.specs.declared.shared_heap.SharedHeap.{SharedHeap}
 use Rattle.ref_share.specs.declared.shared_heap.HeapSeat.{HeapSeat}
-use Rattle.ref_share.specs.declared.shared_queue.SharedQueue.{SharedQueue}
-use Rattle.ref_share.specs.declared.shared_queue.QueueSeat.{QueueSeat}
 use Rattle.ref_share.proofs.OrderRuns.{handed_in_order}
 use Rattle.ref_share.proofs.Places.{changed_there}
 

@@ -1,27 +1,19 @@
 -- What a step of the world asks of its heap is a row of the world, with what it leaves in the hands.
 use Rattle.std.proofs.Common.{◌≡◌, Bool, true, false, if◌then◌else◌, List, Option, Some, None, refl, sym, ap, subst, ◌∙◌}
 use Rattle.std.specs.Prelude.{is_some}
-use Rattle.ref_base.specs.HeapSteps.{NamedStep, heap_step, handed, taking}
-use Rattle.ref_base.specs.Told.{told_notice, told_object, is_done}
-use Rattle.ref_base.specs.Worlds.{World, Notice, with_hand}
-use Rattle.ref_base.specs.Refusals.{heap_refusal, asked_refusal, refusal}
-use Rattle.ref_base.specs.Collectors.{State}
-use Rattle.ref_base.specs.CollectorRows.{with_world, IsHeapRow, IsRow}
-use Rattle.ref_base.specs.declared.actor.Actor.{Actor}
-use Rattle.ref_base.specs.declared.actor.Actor.TheVariants.{Mutator, Worker}
-use Rattle.ref_base.specs.declared.reply.Reply.{Reply}
-use Rattle.ref_base.specs.declared.step.Step.{Step}
+use Rattle.ref_world.proofs.Common.{NamedStep, told_notice, World, Notice, with_hand, heap_refusal, refusal, State}
+use Rattle.ref_world.proofs.Common.{with_world, IsHeapRow, IsRow, Actor, Mutator, Worker, Reply, Step, ClearHeap}
+use Rattle.ref_world.proofs.Common.{answer_in, after_in, HeapStands, received, Core, Hands, with_hand_in, Stands}
+use Rattle.ref_world.proofs.Common.{IsRowOf}
+use Rattle.ref_base.specs.HeapSteps.{heap_step, handed, taking}
+use Rattle.ref_base.specs.Told.{told_object, is_done}
+use Rattle.ref_base.specs.Refusals.{asked_refusal}
 use Rattle.ref_base.specs.declared.step.Step.TheVariants as steps
 use Rattle.ref_base.proofs.HeapRowLaws.{carried_row, row_others}
 use Rattle.ref_mark.proofs.OtherHands.{stands-with_others}
-use Rattle.ref_clear.specs.ClearHeaps.{ClearHeap}
-use Rattle.ref_clear.specs.ClearCalls.{answer_in, after_in}
-use Rattle.ref_clear.specs.Standing.{HeapStands}
 use Rattle.ref_clear.proofs.HeapLaws.{each_step}
 use Rattle.ref_clear.proofs.OwnNumbers.{number_after}
-use Rattle.ref_world.specs.AskedSteps.{is_quiet, Asks, received}
-use Rattle.ref_world.specs.Cores.{Core, Hands, with_hand_in}
-use Rattle.ref_world.specs.Standing.{Stands, IsRowOf}
+use Rattle.ref_world.specs.AskedSteps.{is_quiet, Asks}
 
 -- ---- hands
 

@@ -1,14 +1,10 @@
 -- The world at first.
 use Rattle.std.proofs.Common.{◌≡◌, ℕ, ◌+◌, zero, suc, List, [], ◌∷◌, ◌++◌, refl, ap, arith}
-use Rattle.ref_base.specs.QueueLists.{Lists, new_queue, new_queues}
-use Rattle.ref_base.specs.Worlds.{Notice}
-use Rattle.ref_base.specs.Collectors.{first_state}
-use Rattle.ref_base.specs.declared.config.Config.{Config}
+use Rattle.ref_world.proofs.Common.{Lists, new_queue, new_queues, Notice, first_state, Config, ClearHeap, HeapStands}
+use Rattle.ref_world.proofs.Common.{Hands, Stands, IsSound}
 use Rattle.ref_base.proofs.SoundWorlds.{first_queue}
-use Rattle.ref_clear.specs.ClearHeaps.{ClearHeap, first_clear_heap}
-use Rattle.ref_clear.specs.Standing.{HeapStands}
-use Rattle.ref_world.specs.Cores.{Hands, first_hands, first_core}
-use Rattle.ref_world.specs.Standing.{Stands, IsSound}
+use Rattle.ref_clear.specs.ClearHeaps.{first_clear_heap}
+use Rattle.ref_world.specs.Cores.{first_hands, first_core}
 
 -- one more new queue, last
 pub new_queues_more : (first count next : ℕ) → next ≡ first + count

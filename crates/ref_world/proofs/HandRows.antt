@@ -1,26 +1,17 @@
 -- Rows of the steps that fill or empty a hand by way of the heap.
 use Rattle.std.proofs.Common.{◌≡◌, ℕ, true, ◌==◌, ◌&&◌, Some, None, refl, sym, ap, subst, ◌∙◌}
-use Rattle.ref_base.specs.Members.{has}
+use Rattle.ref_world.proofs.Common.{has, told_notice, Notice, hand_of, unless, unless_full, empty_hand_refusal}
+use Rattle.ref_world.proofs.Common.{has_slot, drop_refusal, Actor, Mutator, Worker, NoSuchActor, Reply, unless_refused}
+use Rattle.ref_world.proofs.Common.{ClearHeap, answer_in, after_in, received, Core, Hands, hand_in, with_hand_in}
+use Rattle.ref_world.proofs.Common.{has_hand, filling_refusal, emptying_refusal, IsReached, IsRowOf}
 use Rattle.ref_base.specs.HeapSteps.{hold_of, spending}
-use Rattle.ref_base.specs.Told.{told_notice}
-use Rattle.ref_base.specs.Worlds.{Notice, hand_of}
-use Rattle.ref_base.specs.Refusals.{unless, unless_full, empty_hand_refusal, has_slot, drop_refusal}
-use Rattle.ref_base.specs.declared.actor.Actor.{Actor}
-use Rattle.ref_base.specs.declared.actor.Actor.TheVariants.{Mutator, Worker}
-use Rattle.ref_base.specs.declared.fault.Fault.TheVariants.{NoSuchActor, ForeignHold}
+use Rattle.ref_base.specs.declared.fault.Fault.TheVariants.{ForeignHold}
 use Rattle.ref_base.specs.declared.heap_step.HoldName.{HoldName}
 use Rattle.ref_base.specs.declared.heap_step.HeapStep.TheVariants as heap
-use Rattle.ref_base.specs.declared.reply.Reply.{Reply}
 use Rattle.ref_base.specs.declared.reply.Reply.TheVariants as replies
 use Rattle.ref_base.specs.declared.step.Step.TheVariants as steps
 use Rattle.ref_base.proofs.HeapRowLaws.{free_unhook, free_hand, full_adopt, full_release}
-use Rattle.ref_mark.specs.MarkCalls.{unless_refused}
-use Rattle.ref_clear.specs.ClearHeaps.{ClearHeap}
-use Rattle.ref_clear.specs.ClearCalls.{answer_in, after_in}
-use Rattle.ref_world.specs.AskedSteps.{received}
-use Rattle.ref_world.specs.Cores.{Core, Hands, hand_in, with_hand_in, has_hand, filling_refusal, emptying_refusal}
 use Rattle.ref_world.specs.HeapReplies.{told_reply, GivesOut, IsTold}
-use Rattle.ref_world.specs.Standing.{IsReached, IsRowOf}
 use Rattle.ref_world.specs.declared.heap_machine.HeapReply.{HeapReply}
 use Rattle.ref_world.specs.declared.heap_machine.HeapReply.TheVariants.{Told, Notice as Given, Held, Back}
 use Rattle.ref_world.proofs.AskedRows.{handed_in, asked_core, row_to, asked_row}

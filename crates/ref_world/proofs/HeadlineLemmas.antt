@@ -1,24 +1,21 @@
 -- The headline's clauses, of every legal trace.
 use Rattle.std.proofs.Common.{◌≡◌, ℕ, true, ◌&&◌, List, ◌∷◌, ◌++◌, length, map, Option, Some, None, sym, ap, subst, ◌∙◌}
 use Rattle.std.proofs.lemmas.Bool.{and_parts}
+use Rattle.ref_world.proofs.Common.{State, first_state, has, Lists, enqueued, World, Notice, object_of, Config, Row}
+use Rattle.ref_world.proofs.Common.{Core, CycleHeap, Stands}
 use Rattle.ref_base.specs.AgreeingWorlds.{is_waiting}
-use Rattle.ref_base.specs.Collectors.{State, first_state, joined}
+use Rattle.ref_base.specs.Collectors.{joined}
 use Rattle.ref_base.specs.CollectorRows.{IsRun}
 use Rattle.ref_base.specs.Forgetting.{heap_but}
 use Rattle.ref_base.specs.LegalTraces.{IsLegal}
 use Rattle.ref_base.specs.MarkEnds.{IsAfterMark, IsAfterMarkIn}
-use Rattle.ref_base.specs.Members.{has}
 use Rattle.ref_base.specs.Provenance.{IsCause, IsProven}
-use Rattle.ref_base.specs.QueueLists.{Lists, enqueued}
 use Rattle.ref_base.specs.QueueRows.{put_into}
 use Rattle.ref_base.specs.Replay.{replayed}
 use Rattle.ref_base.specs.Refusals.{is_in}
-use Rattle.ref_base.specs.Worlds.{World, Notice, object_of}
 use Rattle.ref_base.specs.declared.cause.Cause.{Cause}
-use Rattle.ref_base.specs.declared.config.Config.{Config}
 use Rattle.ref_base.specs.declared.phase.Phase.TheVariants.{Clearing}
 use Rattle.ref_base.specs.declared.reply.Reply.TheVariants as replies
-use Rattle.ref_base.specs.declared.row.Row.{Row}
 use Rattle.ref_base.specs.declared.step.Step.TheVariants as steps
 use Rattle.ref_base.proofs.AddedRows.{legal_lists, added_position, added_proven}
 use Rattle.ref_base.proofs.ClearingTraces.{legal_in_order}
@@ -29,13 +26,11 @@ use Rattle.ref_base.proofs.OutTraces.{legal_agrees, legal_others}
 use Rattle.ref_base.proofs.ScannedOnce.{legal_scanned_once}
 use Rattle.ref_base.proofs.RunLaws.{front_is_legal}
 use Rattle.ref_base.proofs.SameOthers.{same_hand}
-use Rattle.ref_world.specs.Cores.{Core, core_queue_at}
+use Rattle.ref_world.specs.Cores.{core_queue_at}
 use Rattle.ref_world.specs.Headline.{Adds, TakenThenStanding, QueuesTell, Positions, InClearingOrder, AtMostOnce}
 use Rattle.ref_world.specs.Headline.{OwnQueue, OwnEnqueueCall, AfterAMarkEnded, NothingAfterClose, ScannedOnce}
-use Rattle.ref_mark.specs.CycleHeaps.{CycleHeap}
 use Rattle.ref_mark.specs.Standing.{unsaid}
 use Rattle.ref_world.specs.HeapOfRows.{HeapTells}
-use Rattle.ref_world.specs.Standing.{Stands}
 use Rattle.ref_world.proofs.QueueRows.{queue_is}
 
 -- ---- the queues of the world that a trace leaves

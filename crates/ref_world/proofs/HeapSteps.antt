@@ -1,12 +1,9 @@
 -- What a step of the heap's machine leaves.
 use Rattle.std.proofs.Common.{◌≡◌, ℕ, Option, Some, None, refl, ap, sym}
 use Rattle.ref_base.specs.declared.heap_step.HeapStep.TheVariants as heap
-use Rattle.ref_base.specs.declared.fault.Fault.{Fault}
-use Rattle.ref_mark.specs.CycleHeaps.{CycleHeap}
+use Rattle.ref_world.proofs.Common.{Fault, CycleHeap, unless_refused, ClearHeap, after_in}
 use Rattle.ref_mark.specs.MarkCalls as marks
-use Rattle.ref_mark.specs.MarkCalls.{unless_refused}
-use Rattle.ref_clear.specs.ClearHeaps.{ClearHeap, with_mark}
-use Rattle.ref_clear.specs.ClearCalls.{after_in}
+use Rattle.ref_clear.specs.ClearHeaps.{with_mark}
 
 same_either_way : {T : Type 0} (refused : Option Fault) (k : T) → unless_refused refused (λ fault. k) k ≡ k
 same_either_way None k = refl

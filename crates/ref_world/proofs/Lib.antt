@@ -1,3 +1,4 @@
+pub mod Common
 pub mod HeapSteps
 pub mod ReachedCores
 pub mod AskedRows

@@ -4,29 +4,23 @@ use Rattle.std.proofs.Common.{refl, sym, ap, subst, ◌∙◌, inl, inr}
 use Rattle.std.specs.Prelude.{slice_index_or, slice_set}
 use Rattle.std.proofs.lemmas.Bool.{eq-eqb}
 use Rattle.std.proofs.lemmas.List.{set-set, set-get_or, get_or_read}
-use Rattle.ref_base.specs.QueueLists.{Lists, enqueued, was_put, with_parcel, with_taken, new_queue}
-use Rattle.ref_base.specs.Worlds.{World, Notice, object_of, hand_of, queue_at, with_hand, with_queue}
+use Rattle.ref_world.proofs.Common.{Lists, enqueued, with_parcel, with_taken, new_queue, World, Notice, object_of}
+use Rattle.ref_world.proofs.Common.{hand_of, with_hand, refusal, is_mutator, is_queue, is_actor, State, with_world}
+use Rattle.ref_world.proofs.Common.{IsRow, Actor, Mutator, Worker, Fault, NoSuchActor, BadQueue, Reply, Step}
+use Rattle.ref_world.proofs.Common.{ClearHeap, HeapStands, Core, Hands, hand_in, with_hand_in, emptying_refusal}
+use Rattle.ref_world.proofs.Common.{calling_refusal, queue_refusal, Stands, IsReached, IsRowOf}
+use Rattle.ref_base.specs.QueueLists.{was_put}
+use Rattle.ref_base.specs.Worlds.{queue_at, with_queue}
 use Rattle.ref_base.specs.Replay.{put_in, took, taken_out, notice_of, without_notice, closed_queue}
-use Rattle.ref_base.specs.Refusals.{refusal, is_mutator, is_queue, is_actor}
-use Rattle.ref_base.specs.Collectors.{State}
-use Rattle.ref_base.specs.CollectorRows.{with_world, ticked, PutsInto, Puts, Polls, Closes, IsAnswer, IsRow}
-use Rattle.ref_base.specs.declared.actor.Actor.{Actor}
-use Rattle.ref_base.specs.declared.actor.Actor.TheVariants.{Mutator, Worker}
-use Rattle.ref_base.specs.declared.fault.Fault.{Fault}
-use Rattle.ref_base.specs.declared.fault.Fault.TheVariants.{NoMemory, NoSuchActor, BadQueue, WrongQueue}
-use Rattle.ref_base.specs.declared.reply.Reply.{Reply}
+use Rattle.ref_base.specs.CollectorRows.{ticked, PutsInto, Puts, Polls, Closes, IsAnswer}
+use Rattle.ref_base.specs.declared.fault.Fault.TheVariants.{NoMemory, WrongQueue}
 use Rattle.ref_base.specs.declared.reply.Reply.TheVariants as replies
-use Rattle.ref_base.specs.declared.step.Step.{Step}
 use Rattle.ref_base.specs.declared.step.Step.TheVariants as steps
 use Rattle.ref_base.proofs.RowLaws.{ticked_world}
 use Rattle.ref_mark.proofs.OtherHands.{with_others, stands-with_others}
 use Rattle.ref_mark.proofs.ReferenceRows.{unmoved_stands}
-use Rattle.ref_clear.specs.ClearHeaps.{ClearHeap}
-use Rattle.ref_clear.specs.Standing.{HeapStands}
 use Rattle.ref_queue.specs.QueueAnswers.{RefusesPut}
-use Rattle.ref_world.specs.Cores.{Core, Hands, hand_in, with_hand_in, emptying_refusal, calling_refusal, queue_refusal}
 use Rattle.ref_world.specs.Cores.{core_queue_at as queue_in}
-use Rattle.ref_world.specs.Standing.{Stands, IsReached, IsRowOf}
 use Rattle.ref_world.proofs.AskedRows.{hands_of, hands_are, row_to}
 use Rattle.ref_world.proofs.HandRows.{there_from}
 use Rattle.ref_world.proofs.ReachedCores.{same_hand, same_actors}

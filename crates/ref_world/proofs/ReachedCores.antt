@@ -1,26 +1,16 @@
 -- What holds of every world to which a legal trace leads.
 use Rattle.std.proofs.Common.{◌≡◌, ◌<◌, true, List, [], ◌∷◌, ◌++◌, length, Option, Some, None, ap, sym, subst, ◌∙◌}
 use Rattle.std.specs.Prelude.{slice_index_or, nat_lt}
-use Rattle.ref_base.specs.Members.{has}
+use Rattle.ref_world.proofs.Common.{has, Lists, Notice, hand_of, is_actor, State, first_state, Actor, Mutator, Worker}
+use Rattle.ref_world.proofs.Common.{Config, Reply, Step, Core, has_hand, hand_in, Stands, IsRowOf, IsReached}
 use Rattle.ref_base.specs.Heaps.{Heap}
-use Rattle.ref_base.specs.QueueLists.{Lists}
-use Rattle.ref_base.specs.Worlds.{Notice, hand_of}
-use Rattle.ref_base.specs.Refusals.{is_actor}
-use Rattle.ref_base.specs.Collectors.{State, first_state}
 use Rattle.ref_base.specs.CountedHolds.{AreCounted}
-use Rattle.ref_base.specs.declared.actor.Actor.{Actor}
-use Rattle.ref_base.specs.declared.actor.Actor.TheVariants.{Mutator, Worker}
-use Rattle.ref_base.specs.declared.config.Config.{Config}
-use Rattle.ref_base.specs.declared.reply.Reply.{Reply}
-use Rattle.ref_base.specs.declared.step.Step.{Step}
 use Rattle.ref_base.proofs.CountedTraces.{legal_counted}
 use Rattle.ref_base.proofs.CountedWorlds.{counted_hand}
 use Rattle.ref_base.proofs.LegalQueues.{run_sound}
 use Rattle.ref_base.proofs.RowLaws.{actor_has}
 use Rattle.ref_base.proofs.RunLaws.{run_more}
 use Rattle.ref_base.proofs.SoundWorlds.{IsSound, NoticeBelow, first_sound}
-use Rattle.ref_world.specs.Cores.{Core, has_hand, hand_in}
-use Rattle.ref_world.specs.Standing.{Stands, IsRowOf, IsReached}
 
 -- the heap as the state has it has the core's configuration and holds
 pub same_config : (c : Core) (a : State) → Stands c a → a.world.heap.config ≡ c.heap.mark.heap.config

@@ -2,21 +2,14 @@
 use Rattle.std.proofs.Common.{◌≡◌, ℕ, ◌<◌, length, Bool, true, false, ◌&&◌, Option, Some, None, refl, sym, ap, subst, ◌∙◌}
 use Rattle.std.specs.Prelude.{nat_lt}
 use Rattle.std.proofs.lemmas.Bool.{and_parts, ltb-true}
-use Rattle.ref_base.specs.Worlds.{Notice, hand_of}
-use Rattle.ref_base.specs.Refusals.{unless, unless_full, empty_hand_refusal, has_slot, is_actor, is_mutator, is_queue}
-use Rattle.ref_base.specs.Refusals.{drop_refusal, heap_refusal, refusal}
-use Rattle.ref_base.specs.Collectors.{State}
-use Rattle.ref_base.specs.declared.actor.Actor.{Actor}
-use Rattle.ref_base.specs.declared.actor.Actor.TheVariants.{Mutator, Worker}
-use Rattle.ref_base.specs.declared.config.Config.{Config}
-use Rattle.ref_base.specs.declared.fault.Fault.{Fault}
-use Rattle.ref_base.specs.declared.fault.Fault.TheVariants.{NoSuchActor, BadQueue}
+use Rattle.ref_world.proofs.Common.{Notice, hand_of, unless, unless_full, empty_hand_refusal, has_slot, is_actor}
+use Rattle.ref_world.proofs.Common.{is_mutator, is_queue, drop_refusal, heap_refusal, refusal, State, Actor, Mutator}
+use Rattle.ref_world.proofs.Common.{Worker, Config, Fault, NoSuchActor, BadQueue, Step, Core, hand_in, has_hand}
+use Rattle.ref_world.proofs.Common.{filling_refusal, emptying_refusal, calling_refusal, queue_refusal, Stands}
+use Rattle.ref_world.proofs.Common.{IsReached, IsRowOf}
 use Rattle.ref_base.specs.declared.heap_step.HeapStep.TheVariants as heap
 use Rattle.ref_base.specs.declared.reply.Reply.TheVariants as replies
-use Rattle.ref_base.specs.declared.step.Step.{Step}
 use Rattle.ref_base.specs.declared.step.Step.TheVariants as steps
-use Rattle.ref_world.specs.Cores.{Core, hand_in, has_hand, filling_refusal, emptying_refusal, calling_refusal, queue_refusal}
-use Rattle.ref_world.specs.Standing.{Stands, IsReached, IsRowOf}
 use Rattle.ref_world.proofs.ReachedCores.{same_config, same_hand, same_actors, queue_count}
 
 -- ---- tests

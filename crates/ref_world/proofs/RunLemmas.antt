@@ -2,13 +2,8 @@
 use Rattle.std.proofs.Common.{◌≡◌, ℕ, ◌+◌, ◌<◌, List, [], ◌∷◌, ◌++◌, length, take, sym, ap, ◌∙◌, arith}
 use Rattle.std.specs.Prelude.{slice_index_or as get_or}
 use Rattle.std.proofs.lemmas.List.{take_more, map-append}
-use Rattle.ref_base.specs.declared.reply.Reply.{Reply}
-use Rattle.ref_base.specs.declared.row.Row.{Row}
-use Rattle.ref_base.specs.declared.step.Step.{Step}
+use Rattle.ref_world.proofs.Common.{Reply, Row, Step, Core, RunsFrom, steps_of, IsRowOf}
 use Rattle.ref_base.proofs.RunLaws.{run_more}
-use Rattle.ref_world.specs.Cores.{Core}
-use Rattle.ref_world.specs.Runs.{RunsFrom, steps_of}
-use Rattle.ref_world.specs.Standing.{IsRowOf}
 
 -- the steps that have their rows are one more
 pub step_taken : (items seen : List Step) (i : ℕ) (next : Step) (rows : List Row) (reply : Reply) → seen ≡ items

@@ -1,13 +1,8 @@
 -- What holds of every world still holds after a row.
 use Rattle.std.proofs.Common.{◌≡◌, ℕ, List, ap, ◌∙◌}
 use Rattle.std.specs.Prelude.{slice_index_or, slice_set}
-use Rattle.ref_base.specs.QueueLists.{Lists, new_queue}
-use Rattle.ref_base.specs.Worlds.{Notice}
-use Rattle.ref_base.specs.declared.reply.Reply.{Reply}
-use Rattle.ref_base.specs.declared.step.Step.{Step}
+use Rattle.ref_world.proofs.Common.{Lists, new_queue, Notice, Reply, Step, Core, IsRowOf, IsSound}
 use Rattle.ref_base.proofs.Places.{set_each}
-use Rattle.ref_world.specs.Cores.{Core}
-use Rattle.ref_world.specs.Standing.{IsRowOf, IsSound}
 use Rattle.ref_world.proofs.ReachedCores.{reached_after}
 
 -- where the queues stay

@@ -2,8 +2,7 @@
 use Rattle.std.proofs.Common.{◌≡◌, ℕ, List, Option, Some, None, sym, ap, ◌∙◌, subst}
 use Rattle.std.specs.Prelude.{IfSome}
 use Rattle.std.specs.Io.KnownBytes.{Appends}
-use Rattle.refrun.specs.Streams.{AppendsPrefix}
-use Rattle.refrun.specs.declared.fault.TextFault.{TextFault}
+use Rattle.refrun.proofs.Common.{AppendsPrefix, TextFault}
 
 module _ (Prints : List ℕ → List ℕ → Type 0) where
   -- all that the text prints has gone out

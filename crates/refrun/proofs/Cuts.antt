@@ -4,7 +4,8 @@ use Rattle.std.proofs.Common.{drop, refl, sym, ap, ◌∙◌, inl, inr, arith}
 use Rattle.std.proofs.lemmas.Bool.{cases_Bool, eqb-true, eqb-false}
 use Rattle.std.proofs.lemmas.List.{nil_from_length, length-drop, take_all}
 use Rattle.std.specs.List.{prefix_len}
-use Rattle.refrun.specs.Lines.{TextLine, onto_line, lines_of, without_cr, content_of, goes_on, onto_word, words_of}
+use Rattle.refrun.proofs.Common.{TextLine, lines_of, content_of, words_of}
+use Rattle.refrun.specs.Lines.{onto_line, without_cr, goes_on, onto_word}
 
 -- no byte before the first LF
 abbrev pub line_length : List ℕ → ℕ

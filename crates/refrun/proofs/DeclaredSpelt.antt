@@ -3,14 +3,9 @@ use Rattle.std.proofs.Common.{◌≡◌, ℕ, ◌+◌, ◌^◌, ◌≤◌, true,
 use Rattle.std.proofs.Common.{refl, arith}
 use Rattle.std.proofs.lemmas.Bool.{le-ltb}
 use Rattle.std.proofs.lemmas.List.{take_all}
-use Rattle.ref_base.specs.declared.strength.Strength.{Strength}
-use Rattle.ref_base.specs.declared.strength.Strength.TheVariants.{Soft, Weak, Phantom}
-use Rattle.refrun.specs.DeclarationFaults.{words_fault, declaration_fault}
-use Rattle.refrun.specs.DeclarationFaults.{number_in, are_operands}
-use Rattle.refrun.specs.Declarations.{Declared, Root, Plain, Reference, SpellsDeclared}
-use Rattle.ref_base.specs.Steps.{strength_name}
-use Rattle.refrun.specs.Declarations.{declared_no}
-use Rattle.refrun.specs.Numerals.{number_below}
+use Rattle.refrun.proofs.Common.{Strength, Soft, Weak, Phantom, words_fault, declaration_fault, number_in}
+use Rattle.refrun.proofs.Common.{are_operands, Declared, Root, Plain, Reference, SpellsDeclared, strength_name}
+use Rattle.refrun.proofs.Common.{declared_no, number_below}
 use Rattle.refrun.proofs.Fields.{object_fits, object_or_none_fits, fields_fit, fields_length}
 
 -- enough words, of their forms, and no more than may stand there

@@ -1,21 +1,13 @@
 -- The definitions at work on what one can read off by hand.
 use Rattle.std.proofs.Common.{◌≡◌, ◌^◌, true, false, [], ◌∷◌, ◌++◌, Some, None, codes, refl, arith}
-use Rattle.ref_base.specs.declared.actor.Actor.TheVariants.{Worker}
-use Rattle.ref_base.specs.declared.urgency.Urgency.TheVariants.{Urgent}
-use Rattle.ref_base.specs.declared.step.Step.TheVariants.{Refer, Put, Begin}
-use Rattle.refrun.specs.Lines.{lines_of, content_of, words_of}
-use Rattle.refrun.specs.Numerals.{number_below, number_behind}
-use Rattle.refrun.specs.TextFaults.{script_fault, graph_fault}
-use Rattle.refrun.specs.Spelling.{SpellsScriptStep}
-use Rattle.refrun.specs.StepFaults.{step_fault}
+use Rattle.refrun.proofs.Common.{Worker, Urgent, Refer, Put, Begin, lines_of, content_of, words_of, number_below}
+use Rattle.refrun.proofs.Common.{number_behind, script_fault, graph_fault, SpellsScriptStep, step_fault}
+use Rattle.refrun.proofs.Common.{declaration_fault, Root, Plain, Reference, SpellsDeclared, DeclaresGraph, Graph}
+use Rattle.refrun.proofs.Common.{plain_object, ExtraWord, DoubleObject}
 use Rattle.refrun.specs.declared.script_step.ScriptStep.TheVariants as scripts
-use Rattle.refrun.specs.DeclarationFaults.{declaration_fault}
-use Rattle.refrun.specs.Declarations.{Root, Plain, Reference, SpellsDeclared}
-use Rattle.refrun.specs.GraphTexts.{DeclaresGraph}
-use Rattle.ref_base.specs.Graphs.{Graph, plain_object}
 use Rattle.ref_base.specs.declared.strength.Strength.TheVariants as strengths
-use Rattle.refrun.specs.declared.fault.LineFault.TheVariants.{UnknownStep, MissingWord, BadWord, ExtraWord, BadHeader}
-use Rattle.refrun.specs.declared.fault.LineFault.TheVariants.{UnknownLine, DoubleObject}
+use Rattle.refrun.specs.declared.fault.LineFault.TheVariants.{UnknownStep, MissingWord, BadWord, BadHeader}
+use Rattle.refrun.specs.declared.fault.LineFault.TheVariants.{UnknownLine}
 use Rattle.refrun.specs.declared.fault.TextFault.TheVariants.{Line}
 
 -- ---- words and numbers

@@ -1,21 +1,16 @@
 -- A text that spells a script, or declares a graph, has no fault.
-use Rattle.ref_base.specs.Graphs.{Graph}
-use Rattle.refrun.specs.Declarations.{Declared, declared_no, with_declared_no, NoneTwice}
-use Rattle.refrun.specs.GraphTexts.{SpellAll, SpellGraph, DeclaresGraph}
-use Rattle.refrun.specs.TextFaults.{GraphHeader, Declarations, place_after, place_fault, fault_or, graph_fault}
+use Rattle.refrun.proofs.Common.{Graph, Declared, declared_no, with_declared_no, NoneTwice, SpellAll, SpellGraph}
+use Rattle.refrun.proofs.Common.{DeclaresGraph, GraphHeader, Declarations, place_after, place_fault, fault_or}
+use Rattle.refrun.proofs.Common.{graph_fault, Config, ScriptStep, TextLine, lines_of, step_fault, ScriptHeader}
+use Rattle.refrun.proofs.Common.{Configuration, Steps, plain_fault, first_fault, script_fault, is_short, is_plain_line}
+use Rattle.refrun.proofs.Common.{says_nothing, line_words, told, is_header, config_of, SpellSteps, SpellScript}
+use Rattle.refrun.proofs.Common.{AreScript, IsScript}
 use Rattle.refrun.proofs.DeclaredSpelt.{declared_without_fault, number_of_words}
 use Rattle.std.proofs.Common.{◌≡◌, ℕ, ◌+◌, true, List, [], ◌∷◌, Some, None, refl, inl, inr}
 use Rattle.std.specs.Char.{is_ascii}
 use Rattle.std.specs.List.{list_all}
 use Rattle.std.proofs.lemmas.Bool.{cases_Bool, and_parts}
 use Rattle.ref_base.specs.Limits.{is_within_limits}
-use Rattle.ref_base.specs.declared.config.Config.{Config}
-use Rattle.refrun.specs.declared.script_step.ScriptStep.{ScriptStep}
-use Rattle.refrun.specs.Lines.{TextLine, lines_of}
-use Rattle.refrun.specs.StepFaults.{step_fault}
-use Rattle.refrun.specs.TextFaults.{ScriptHeader, Configuration, Steps, plain_fault, first_fault, script_fault}
-use Rattle.refrun.specs.ToldLines.{is_short, is_plain_line, says_nothing, line_words, told}
-use Rattle.refrun.specs.Scripts.{is_header, config_of, SpellSteps, SpellScript, AreScript, IsScript}
 use Rattle.refrun.proofs.Spelt.{spelt_without_fault}
 
 plain_without_fault : (line : TextLine) → is_plain_line line ≡ true → plain_fault line ≡ None

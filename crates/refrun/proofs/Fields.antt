@@ -5,10 +5,9 @@ use Rattle.std.specs.List.{list_all}
 use Rattle.std.proofs.lemmas.Bool.{cases_Bool, lt-ltb, le-ltb, or_right}
 use Rattle.std.proofs.Math.Seq.{take-append_seam}
 use Rattle.std.proofs.lemmas.List.{append-nil, length-append}
-use Rattle.refrun.specs.DeclarationFaults.{is_object, is_object_or_none, are_operands, words_fault}
-use Rattle.refrun.specs.Declarations.{SpellsObject, SpellsObjectOrNone, SpellFields}
+use Rattle.refrun.proofs.Common.{are_operands, words_fault, SpellsObject, SpellsObjectOrNone, SpellFields, ExtraWord}
+use Rattle.refrun.specs.DeclarationFaults.{is_object, is_object_or_none}
 use Rattle.refrun.specs.DeclarationViews.{ReadsFields}
-use Rattle.refrun.specs.declared.fault.LineFault.TheVariants.{ExtraWord}
 
 -- a word that spells a number is of its form
 pub object_fits : (word : List ℕ) (n : ℕ) → SpellsObject word n → is_object word ≡ true

@@ -5,21 +5,17 @@ use Rattle.std.specs.Borrow.{Bor}
 use Rattle.std.specs.List.{list_all}
 use Rattle.std.proofs.lemmas.Bool.{cases_Bool, eqb-true}
 use Rattle.std.proofs.lemmas.List.{append-nil}
-use Rattle.ref_base.specs.Graphs.{Graph, Object, empty_graph, is_there, with_object, plain_object, reference_object}
-use Rattle.refrun.specs.DeclarationFaults.{declaration_fault, number_in}
-use Rattle.refrun.specs.Declarations.{Declared, Root, Plain, Reference, SpellsDeclared, declared_no, is_declared}
-use Rattle.refrun.specs.Declarations.{with_declared_no, NoneTwice, with_declared, with_all, declared_graph}
+use Rattle.refrun.proofs.Common.{Graph, plain_object, declaration_fault, number_in, Declared, Root, Plain, Reference}
+use Rattle.refrun.proofs.Common.{SpellsDeclared, declared_no, with_declared_no, NoneTwice, declared_graph, SpellAll}
+use Rattle.refrun.proofs.Common.{DeclareGraph, FailsFor, in_front, fault_from, Finds, lines_of, words_of, Place}
+use Rattle.refrun.proofs.Common.{GraphHeader, Declarations, place_fault, fault_or, first_fault, is_plain_line, told}
+use Rattle.refrun.proofs.Common.{LineFault, DoubleObject, TextFault, Told}
+use Rattle.ref_base.specs.Graphs.{Object, empty_graph, is_there, with_object, reference_object}
+use Rattle.refrun.specs.Declarations.{is_declared}
+use Rattle.refrun.specs.Declarations.{with_declared, with_all}
 use Rattle.refrun.specs.GraphReading.{AreNumbersOf, has_object, AddsObject, AddsDeclared, AddsAll, FailsAfter}
-use Rattle.refrun.specs.GraphTexts.{SpellAll, is_graph_header, DeclareGraph}
-use Rattle.refrun.specs.LineReading.{FailsFor, in_front, fault_from, Finds}
-use Rattle.refrun.specs.Lines.{lines_of, words_of}
-use Rattle.refrun.specs.TextFaults.{Place, GraphHeader, Declarations, place_fault, fault_or, first_fault}
-use Rattle.refrun.specs.ToldLines.{is_plain_line, told}
-use Rattle.refrun.specs.declared.fault.LineFault.{LineFault}
-use Rattle.refrun.specs.declared.fault.LineFault.TheVariants.{DoubleObject}
-use Rattle.refrun.specs.declared.fault.TextFault.{TextFault}
+use Rattle.refrun.specs.GraphTexts.{is_graph_header}
 use Rattle.refrun.specs.declared.fault.TextFault.TheVariants as texts
-use Rattle.refrun.specs.declared.told.Told.{Told}
 use Rattle.refrun.proofs.DeclaredSpelt.{declared_without_fault, number_of_words}
 use Rattle.refrun.proofs.LineLemmas.{first_of_two, onsome_before}
 

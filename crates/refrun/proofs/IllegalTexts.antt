@@ -2,30 +2,19 @@
 use Rattle.std.proofs.Common.{◌≡◌, ℕ, ◌+◌, ◌++◌, [], ◌∷◌, List, map, take, Some, None, codes, refl, arith, subst}
 use Rattle.std.proofs.Common.{ap, ◌∙◌, drop, replicate}
 use Rattle.std.proofs.lemmas.Fmt.{decimal_digit}
-use Rattle.ref_base.specs.Collectors.{State, first_state}
-use Rattle.ref_base.specs.Graphs.{Graph, plain_object, numbers}
+use Rattle.refrun.proofs.Common.{State, first_state, Graph, plain_object, Config, ObjectReach, Refused, New, Refer}
+use Rattle.refrun.proofs.Common.{Copy, Weak, Plain, DeclaresGraph, words_of, PrintsStrengths, listing_text, StageJobs}
+use Rattle.refrun.proofs.Common.{IsScriptRun, first_jobs, SpellsScriptStep, IsFirstFailure, trace_text, ScriptReply}
+use Rattle.refrun.proofs.Common.{ScriptRow, ScriptStep}
+use Rattle.ref_base.specs.Graphs.{numbers}
 use Rattle.ref_base.specs.Heaps.{first_heap}
 use Rattle.ref_base.specs.Worlds.{first_world}
-use Rattle.ref_base.specs.declared.config.Config.{Config}
 use Rattle.ref_base.specs.declared.fault.Fault.TheVariants.{NoCell, NoSuchActor}
-use Rattle.ref_base.specs.declared.reach.ObjectReach.{ObjectReach}
-use Rattle.ref_base.specs.declared.reply.Reply.TheVariants.{Object, Refused}
-use Rattle.ref_base.specs.declared.step.Step.TheVariants.{New, Refer, Copy}
-use Rattle.ref_base.specs.declared.strength.Strength.TheVariants.{Weak}
+use Rattle.ref_base.specs.declared.reply.Reply.TheVariants.{Object}
 use Rattle.ref_base.proofs.LegalSteps.{lands}
 use Rattle.refrun.proofs.OneGraph.{one_graph}
-use Rattle.refrun.specs.Declarations.{Plain}
-use Rattle.refrun.specs.GraphTexts.{DeclaresGraph}
-use Rattle.refrun.specs.Lines.{words_of}
-use Rattle.refrun.specs.Listings.{PrintsStrengths, listing_text}
-use Rattle.refrun.specs.ScriptRuns.{StageJobs, IsScriptRun, IsScriptTrace, first_jobs}
-use Rattle.refrun.specs.Spelling.{SpellsScriptStep}
-use Rattle.refrun.specs.StressChecks.{IsFirstFailure}
-use Rattle.refrun.specs.Traces.{trace_text}
-use Rattle.refrun.specs.declared.script_step.ScriptReply.{ScriptReply}
+use Rattle.refrun.specs.ScriptRuns.{IsScriptTrace}
 use Rattle.refrun.specs.declared.script_step.ScriptReply.TheVariants as replies
-use Rattle.refrun.specs.declared.script_step.ScriptRow.{ScriptRow}
-use Rattle.refrun.specs.declared.script_step.ScriptStep.{ScriptStep}
 use Rattle.refrun.specs.declared.script_step.ScriptStep.TheVariants as steps
 
 -- ---- the text of a trace

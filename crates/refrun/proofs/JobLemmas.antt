@@ -6,24 +6,17 @@ use Rattle.std.specs.List.{AllWithin}
 use Rattle.std.proofs.lemmas.List.Elements.{All-from_all_within}
 use Rattle.std.proofs.lemmas.List.Sorted.{IsPermutation-swap_remove, IsPermutation-to_front, IsPermutation-sym}
 use Rattle.std.proofs.lemmas.List.Sorted.{IsPermutation-trans}
+use Rattle.refrun.proofs.Common.{State, IsRow, Fault, Done, Refused, Step, Clear, Core, Stands, StageJobs}
+use Rattle.refrun.proofs.Common.{RegistersStageJob, IsScriptRowOf, jobs, ScriptReply}
 use Rattle.ref_base.specs.Heaps.{Heap, slot_at}
 use Rattle.ref_base.specs.Refusals.{clear_refusal}
-use Rattle.ref_base.specs.Collectors.{State}
-use Rattle.ref_base.specs.CollectorRows.{IsRow, IsAnswer}
-use Rattle.ref_base.specs.declared.fault.Fault.{Fault}
+use Rattle.ref_base.specs.CollectorRows.{IsAnswer}
 use Rattle.ref_base.specs.declared.heap_step.HeapStep.TheVariants as heap
 use Rattle.ref_base.specs.declared.reply.Reply.{Reply}
-use Rattle.ref_base.specs.declared.reply.Reply.TheVariants.{Done, Refused}
-use Rattle.ref_base.specs.declared.step.Step.{Step}
-use Rattle.ref_base.specs.declared.step.Step.TheVariants.{Clear}
 use Rattle.ref_mark.proofs.MarkLaws.{on_own_heap}
 use Rattle.ref_queue.specs.CleanTables.{Registry, Registers, Takes}
 use Rattle.ref_queue.specs.declared.job.Ran.{Ran}
-use Rattle.ref_world.specs.Cores.{Core}
-use Rattle.ref_world.specs.Standing.{IsRowOf, Stands}
-use Rattle.refrun.specs.ScriptRuns.{StageJobs, RegistersStageJob}
-use Rattle.refrun.specs.ScriptStanding.{IsScriptRowOf, jobs}
-use Rattle.refrun.specs.declared.script_step.ScriptReply.{ScriptReply}
+use Rattle.ref_world.specs.Standing.{IsRowOf}
 use Rattle.refrun.specs.declared.script_step.ScriptReply.TheVariants as replies
 use Rattle.refrun.specs.declared.script_step.ScriptStep.TheVariants as scripts
 

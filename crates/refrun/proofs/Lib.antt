@@ -1,3 +1,4 @@
+pub mod Common
 mod Examples
 mod IllegalTexts
 pub mod Cuts

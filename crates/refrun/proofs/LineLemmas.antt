@@ -5,16 +5,12 @@ use Rattle.std.specs.Char.{is_ascii}
 use Rattle.std.specs.Borrow.{Bor}
 use Rattle.std.specs.List.{list_all}
 use Rattle.std.proofs.lemmas.Bool.{cases_Bool, false≢true}
-use Rattle.refrun.specs.Lines.{TextLine, lines_of, content_of, words_of}
-use Rattle.refrun.specs.TextFaults.{Place, place_after, place_fault, end_fault, fault_or}
-use Rattle.refrun.specs.TextFaults.{plain_fault, first_fault}
-use Rattle.refrun.specs.ToldLines.{is_short, is_plain_line, says_nothing, line_words, told}
-use Rattle.refrun.specs.LineReading.{FailsFor, Finds}
-use Rattle.refrun.specs.declared.fault.LineFault.{LineFault}
+use Rattle.refrun.proofs.Common.{TextLine, lines_of, content_of, words_of, Place, place_after, place_fault, fault_or}
+use Rattle.refrun.proofs.Common.{plain_fault, first_fault, is_short, is_plain_line, says_nothing, line_words, told}
+use Rattle.refrun.proofs.Common.{FailsFor, Finds, LineFault, TextFault, Told}
+use Rattle.refrun.specs.TextFaults.{end_fault}
 use Rattle.refrun.specs.declared.fault.LineFault.TheVariants.{LineTooLong, NotAscii}
-use Rattle.refrun.specs.declared.fault.TextFault.{TextFault}
 use Rattle.refrun.specs.declared.fault.TextFault.TheVariants as texts
-use Rattle.refrun.specs.declared.told.Told.{Told}
 
 -- a text's lines have the fault of a line and no other
 is_of_line : Option TextFault → Bool

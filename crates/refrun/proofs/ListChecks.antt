@@ -11,10 +11,9 @@ use Rattle.std.proofs.Math.Seq.{drop-cons}
 use Rattle.std.specs.List.{All, AllByRecursion, IsDistinct, list_any, concat}
 use Rattle.std.specs.Cmp.{nat_eq_equiv}
 use Rattle.std.specs.Cmp.Lexicographic.{pointwise}
-use Rattle.ref_base.specs.Members.{has}
-use Rattle.ref_base.specs.CollectorRows.{is_subsequence}
+use Rattle.refrun.proofs.Common.{has, is_subsequence, TookInOrder}
 use Rattle.ref_base.proofs.HasLaws.{has-list_any, has-first, has-right, has-cases, has-single, has-append}
-use Rattle.refrun.specs.StressChecks.{GivesEachOnce, TookInOrder}
+use Rattle.refrun.specs.StressChecks.{GivesEachOnce}
 
 -- what a test says of the fact that it decides
 pub passes : {P : Type 0} {b : Bool} → (IsTrue b ↔ P) → b ≡ true → P

@@ -2,12 +2,9 @@
 use Rattle.std.proofs.Common.{◌≡◌, ℕ, ◌+◌, ◌<◌, List, [], ◌∷◌, ◌++◌, length, take, get_or, sym, ap, ◌∙◌}
 use Rattle.std.proofs.Common.{append_assoc, ◌≤◌}
 use Rattle.std.proofs.lemmas.Bool.{le-leb}
-use Rattle.ref_base.specs.Graphs.{Graph}
-use Rattle.refrun.specs.GraphTexts.{DeclareGraph, DeclaresGraph}
-use Rattle.refrun.specs.Lines.{lines_of, most_bytes}
+use Rattle.refrun.proofs.Common.{Graph, DeclareGraph, DeclaresGraph, lines_of, most_bytes, ObjectReach, listing_text}
 use Rattle.std.proofs.lemmas.List.{append-nil, take_more}
-use Rattle.ref_base.specs.declared.reach.ObjectReach.{ObjectReach}
-use Rattle.refrun.specs.Listings.{listing_line, listing_text}
+use Rattle.refrun.specs.Listings.{listing_line}
 
 listing_push : (ls : List ObjectReach) (l : ObjectReach) → listing_text (ls ++ l ∷ []) ≡ listing_text ls ++ listing_line l
 listing_push [] l = append-nil (listing_line l)

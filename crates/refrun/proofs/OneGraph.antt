@@ -1,15 +1,8 @@
 -- A text declares at most one graph.
 use Rattle.std.proofs.Common.{◌≡◌, ℕ, ◌^◌, List, [], ◌∷◌, Option, Some, None, codes, refl, sym, ap, ◌∙◌}
-use Rattle.ref_base.specs.Graphs.{Graph}
-use Rattle.ref_base.specs.declared.strength.Strength.{Strength}
-use Rattle.ref_base.specs.declared.strength.Strength.TheVariants.{Soft, Weak, Phantom}
-use Rattle.refrun.specs.Declarations.{Declared, Root, Plain, Reference, SpellsObject, SpellsObjectOrNone, SpellFields}
-use Rattle.ref_base.specs.Steps.{strength_name}
-use Rattle.refrun.specs.Declarations.{SpellsDeclared, declared_graph}
-use Rattle.refrun.specs.GraphTexts.{SpellAll, SpellGraph, DeclaresGraph}
-use Rattle.refrun.specs.Lines.{lines_of}
-use Rattle.refrun.specs.Numerals.{number_below}
-use Rattle.refrun.specs.ToldLines.{told}
+use Rattle.refrun.proofs.Common.{Graph, Strength, Soft, Weak, Phantom, Declared, Root, Plain, Reference, SpellsObject}
+use Rattle.refrun.proofs.Common.{SpellsObjectOrNone, SpellFields, strength_name, SpellsDeclared, declared_graph}
+use Rattle.refrun.proofs.Common.{SpellAll, SpellGraph, DeclaresGraph, lines_of, number_below, told}
 use Rattle.refrun.proofs.OneReading.{some_is, other_name}
 
 one_object : (word : List ℕ) (n m : ℕ) → SpellsObject word n → SpellsObject word m → n ≡ m

@@ -3,18 +3,11 @@ use Rattle.std.proofs.Common.{◌≡◌, ℕ, ◌^◌, false, List, [], ◌∷�
 use Rattle.std.specs.Str.{bytes_eq}
 use Rattle.std.proofs.lemmas.Bool.{false≢true}
 use Rattle.std.proofs.lemmas.Slice.Eq.{bytes_eq-Decides}
-use Rattle.ref_base.specs.Texts.{Word, Letters, Long, slot, queue, queue_or_none, number}
-use Rattle.ref_base.specs.Steps.{urgency_name}
-use Rattle.ref_base.specs.declared.config.Config.{Config}
-use Rattle.refrun.specs.Lines.{lines_of}
-use Rattle.refrun.specs.Numerals.{number_below, number_behind}
-use Rattle.refrun.specs.Spelling.{IsSpelt, AreSpelt, SpellsScriptStep}
-use Rattle.refrun.specs.StepForms.{Operand, Slot, Queue, QueueOrNone, Number, Clock, UrgencyName}
-use Rattle.refrun.specs.StepForms.{operands_in, forms_of_letter, turn_forms}
-use Rattle.refrun.specs.ToldLines.{told}
-use Rattle.refrun.specs.ScriptSteps.{script_step_words}
-use Rattle.refrun.specs.declared.script_step.ScriptStep.{ScriptStep}
-use Rattle.refrun.specs.Scripts.{config_of, SpellSteps, SpellScript, IsScript}
+use Rattle.refrun.proofs.Common.{Word, Letters, Long, slot, queue, queue_or_none, number, urgency_name, Config}
+use Rattle.refrun.proofs.Common.{lines_of, number_below, number_behind, IsSpelt, AreSpelt, SpellsScriptStep, Operand}
+use Rattle.refrun.proofs.Common.{Slot, Queue, QueueOrNone, Number, Clock, UrgencyName, operands_in, forms_of_letter}
+use Rattle.refrun.proofs.Common.{turn_forms, told, script_step_words, ScriptStep, config_of, SpellSteps, SpellScript}
+use Rattle.refrun.proofs.Common.{IsScript}
 use Rattle.refrun.proofs.Rebuilding.{rebuild, rebuilt}
 use Rattle.refrun.proofs.Spelt.{actor_number, no_turn}
 use Rattle.refrun.proofs.StepForms.{IsOf, AreOf, Lead, By, Turn, words_behind, forms_of, form_of_step}

@@ -1,19 +1,10 @@
 -- The words of a step of a script determine it.
 use Rattle.std.proofs.Common.{◌≡◌, ℕ, if◌then◌else◌, List, [], ◌∷◌, get_or, Option, Some, None, codes, refl}
 use Rattle.std.specs.Str.{bytes_eq}
-use Rattle.ref_base.specs.Texts.{Word, Letters, Numbered, Long}
-use Rattle.ref_base.specs.Steps.{step_words}
-use Rattle.ref_base.specs.declared.actor.Actor.TheVariants.{Mutator, Worker}
-use Rattle.ref_base.specs.declared.strength.Strength.TheVariants.{Soft, Weak, Phantom}
-use Rattle.ref_base.specs.declared.urgency.Urgency.{Urgency}
-use Rattle.ref_base.specs.declared.urgency.Urgency.TheVariants.{Normal, Urgent}
-use Rattle.ref_base.specs.declared.step.Step.{Step}
-use Rattle.ref_base.specs.declared.step.Step.TheVariants.{New, Refer, Store, Load, Copy, Drop, Get, Clear, RefersTo}
-use Rattle.ref_base.specs.declared.step.Step.TheVariants.{Unhook, Put, Poll, Adopt, Release, Close}
-use Rattle.ref_base.specs.declared.step.Step.TheVariants.{Begin, Scan, EndMark, ClearNext, EndClear, Hand, Sweep}
-use Rattle.ref_base.specs.declared.step.Step.TheVariants.{EndSweep}
-use Rattle.refrun.specs.ScriptSteps.{script_step_words}
-use Rattle.refrun.specs.declared.script_step.ScriptStep.{ScriptStep}
+use Rattle.refrun.proofs.Common.{Word, Letters, Numbered, Long, step_words, Mutator, Worker, Soft, Weak, Phantom}
+use Rattle.refrun.proofs.Common.{Urgency, Normal, Urgent, Step, New, Refer, Store, Load, Copy, Drop, Get, Clear}
+use Rattle.refrun.proofs.Common.{RefersTo, Unhook, Put, Poll, Adopt, Release, Close, Begin, Scan, EndMark, ClearNext}
+use Rattle.refrun.proofs.Common.{EndClear, Hand, Sweep, EndSweep, script_step_words, ScriptStep}
 use Rattle.refrun.specs.declared.script_step.ScriptStep.TheVariants as scripts
 
 -- what a word says: its number, its queue if it isn't a dash, or its urgency

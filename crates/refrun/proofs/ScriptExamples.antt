@@ -3,13 +3,10 @@ use Rattle.std.proofs.Common.{◌≢◌, ℕ, zero, suc, ◌+◌, ◌<◌, List,
 use Rattle.std.proofs.Common.{nat_eq, false}
 use Rattle.std.specs.List.{IsDistinct}
 use Rattle.std.proofs.lemmas.List.Sorted.{IsPermutation-refl}
-use Rattle.ref_base.specs.CollectorRows.{IsRow}
-use Rattle.ref_base.specs.Collectors.{State}
-use Rattle.ref_base.specs.declared.reply.Reply.TheVariants.{Done}
-use Rattle.ref_base.specs.declared.step.Step.TheVariants.{Clear}
+use Rattle.refrun.proofs.Common.{IsRow, State, Done, Clear, StageJobs, first_jobs, RegistersStageJob, TookInOrder}
+use Rattle.refrun.proofs.Common.{IsFirstFailure}
 use Rattle.ref_queue.proofs.TableLemmas.{either_first, first_out}
-use Rattle.refrun.specs.ScriptRuns.{StageJobs, first_jobs, RegistersStageJob, RunsJob}
-use Rattle.refrun.specs.StressChecks.{TookInOrder, IsFirstFailure}
+use Rattle.refrun.specs.ScriptRuns.{RunsJob}
 use Rattle.refrun.specs.declared.lists.Check.TheVariants.{Order, Rest}
 use Rattle.refrun.specs.declared.script_step.ScriptReply.TheVariants as replies
 

@@ -4,18 +4,10 @@ use Rattle.std.proofs.Common.{Some, None, OnSome, IfNone, refl, ◌∙◌, appen
 use Rattle.std.specs.Borrow.{Bor}
 use Rattle.std.specs.List.{list_all}
 use Rattle.std.proofs.lemmas.List.{append-nil}
-use Rattle.refrun.specs.Lines.{lines_of, words_of}
-use Rattle.refrun.specs.Spelling.{SpellsScriptStep}
-use Rattle.refrun.specs.TextFaults.{Place, ScriptHeader, Configuration, Steps, fault_or}
-use Rattle.refrun.specs.TextFaults.{first_fault}
-use Rattle.refrun.specs.Scripts.{is_header, SpellSteps}
-use Rattle.refrun.specs.ToldLines.{is_plain_line, told}
-use Rattle.refrun.specs.StepFaults.{step_fault}
-use Rattle.refrun.specs.LineReading.{FailsFor, in_front, fault_from, Finds}
+use Rattle.refrun.proofs.Common.{lines_of, words_of, SpellsScriptStep, Place, ScriptHeader, Configuration, Steps}
+use Rattle.refrun.proofs.Common.{fault_or, first_fault, is_header, SpellSteps, is_plain_line, told, step_fault}
+use Rattle.refrun.proofs.Common.{FailsFor, in_front, fault_from, Finds, TextFault, Told, ScriptStep}
 use Rattle.refrun.proofs.Spelt.{spelt_without_fault}
-use Rattle.refrun.specs.declared.fault.TextFault.{TextFault}
-use Rattle.refrun.specs.declared.told.Told.{Told}
-use Rattle.refrun.specs.declared.script_step.ScriptStep.{ScriptStep}
 use Rattle.refrun.proofs.LineLemmas.{first_of_two, onsome_before}
 
 -- the steps so far, whatever spells what is left

@@ -2,10 +2,8 @@
 use Rattle.std.proofs.Common.{◌≡◌, List, [], ◌∷◌, ◌++◌, ◌∙◌, sym, subst}
 use Rattle.std.proofs.lemmas.List.Elements.{All-push}
 use Rattle.std.specs.List.{All}
-use Rattle.refrun.specs.StressSeats.{IsSeatedAt, StaysSeated}
-use Rattle.refrun.specs.declared.roles.Shared.{Shared}
+use Rattle.refrun.proofs.Common.{IsSeatedAt, StaysSeated, Shared, Job}
 use Rattle.refrun.specs.declared.roles.Station.{Station}
-use Rattle.refrun.specs.declared.threads.Job.{Job}
 
 -- one step after the other
 pub stays_on : (a b c : Station) → StaysSeated a b → StaysSeated b c → StaysSeated a c

@@ -2,16 +2,11 @@
 use Rattle.std.proofs.Common.{◌≡◌, ℕ, suc, ◌^◌, true, false, ◌==◌, nat_lt, List, [], ◌∷◌, length, Option, Some, None}
 use Rattle.std.proofs.Common.{is_some, codes, refl, ap, subst, inl, inr, arith}
 use Rattle.std.proofs.lemmas.Bool.{cases_Bool, le-ltb, eqb-true, or_right}
-use Rattle.ref_base.specs.Texts.{Word, Long, slot, queue, number, queue_or_none}
-use Rattle.ref_base.specs.Steps.{urgency_name}
-use Rattle.ref_base.specs.declared.urgency.Urgency.{Urgency}
-use Rattle.ref_base.specs.declared.urgency.Urgency.TheVariants.{Normal, Urgent}
-use Rattle.refrun.specs.Numerals.{number_below, number_behind}
-use Rattle.refrun.specs.Spelling.{IsSpelt, AreSpelt, SpellsScriptStep}
-use Rattle.refrun.specs.declared.script_step.ScriptStep.{ScriptStep}
-use Rattle.refrun.specs.StepForms.{Operand, Slot, Queue, QueueOrNone, Number, Clock, UrgencyName}
-use Rattle.refrun.specs.StepForms.{operands_in, forms_of_letter, turn_forms}
-use Rattle.refrun.specs.StepFaults.{fits, all_fit, operand_fault, step_fault}
+use Rattle.refrun.proofs.Common.{Word, Long, slot, queue, number, queue_or_none, urgency_name, Urgency, Normal, Urgent}
+use Rattle.refrun.proofs.Common.{number_below, number_behind, IsSpelt, AreSpelt, SpellsScriptStep, ScriptStep, Operand}
+use Rattle.refrun.proofs.Common.{Slot, Queue, QueueOrNone, Number, Clock, UrgencyName, operands_in, forms_of_letter}
+use Rattle.refrun.proofs.Common.{turn_forms, step_fault}
+use Rattle.refrun.specs.StepFaults.{fits, all_fit, operand_fault}
 use Rattle.refrun.proofs.StepForms.{IsOf, AreOf, Lead, By, Turn, words_behind, forms_of, form_of_step}
 
 -- the number of an actor stands behind its letter

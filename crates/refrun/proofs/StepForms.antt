@@ -1,21 +1,13 @@
 -- Each step has a form of the table: an actor or none, a name, and operands behind it.
 use Rattle.std.proofs.Common.{◌≡◌, ℕ, List, [], ◌∷◌, Option, Some, codes, refl}
-use Rattle.ref_base.specs.Texts.{Word, Letters, Numbered, Long, slot, queue, queue_or_none, number}
-use Rattle.ref_base.specs.Steps.{step_words, strength_name, urgency_name}
-use Rattle.ref_base.specs.declared.actor.Actor.TheVariants.{Mutator, Worker}
-use Rattle.ref_base.specs.declared.strength.Strength.{Strength}
-use Rattle.ref_base.specs.declared.strength.Strength.TheVariants.{Soft, Weak, Phantom}
-use Rattle.ref_base.specs.declared.urgency.Urgency.{Urgency}
-use Rattle.ref_base.specs.declared.step.Step.{Step}
-use Rattle.ref_base.specs.declared.step.Step.TheVariants.{New, Refer, Store, Load, Copy, Drop, Get, Clear, RefersTo}
-use Rattle.ref_base.specs.declared.step.Step.TheVariants.{Unhook, Put, Poll, Adopt, Release, Close}
-use Rattle.ref_base.specs.declared.step.Step.TheVariants.{Begin, Scan, EndMark, ClearNext, EndClear, Hand, Sweep}
-use Rattle.ref_base.specs.declared.step.Step.TheVariants.{EndSweep}
-use Rattle.refrun.specs.ScriptSteps.{script_step_words}
-use Rattle.refrun.specs.declared.script_step.ScriptStep.{ScriptStep}
+use Rattle.refrun.proofs.Common.{Word, Letters, Numbered, Long, slot, queue, queue_or_none, number, step_words}
+use Rattle.refrun.proofs.Common.{strength_name, urgency_name, Mutator, Worker, Strength, Soft, Weak, Phantom, Urgency}
+use Rattle.refrun.proofs.Common.{Step, New, Refer, Store, Load, Copy, Drop, Get, Clear, RefersTo, Unhook, Put, Poll}
+use Rattle.refrun.proofs.Common.{Adopt, Release, Close, Begin, Scan, EndMark, ClearNext, EndClear, Hand, Sweep}
+use Rattle.refrun.proofs.Common.{EndSweep, script_step_words, ScriptStep, Operand, Slot, Queue, QueueOrNone, Number}
+use Rattle.refrun.proofs.Common.{Clock, UrgencyName, operands_in, forms_of_letter, turn_forms}
 use Rattle.refrun.specs.declared.script_step.ScriptStep.TheVariants as scripts
-use Rattle.refrun.specs.StepForms.{Operand, Slot, Queue, QueueOrNone, Number, Clock, UrgencyName, Form}
-use Rattle.refrun.specs.StepForms.{operands_in, forms_of_letter, turn_forms}
+use Rattle.refrun.specs.StepForms.{Form}
 
 -- the word is one of the operand
 abbrev pub IsOf : Operand → Word → Type 0

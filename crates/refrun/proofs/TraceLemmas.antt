@@ -3,23 +3,15 @@ use Rattle.std.proofs.Common.{◌≡◌, ℕ, ◌+◌, ◌<◌, ◌≤◌, List,
 use Rattle.std.proofs.Common.{codes, decimal, refl, sym, ap, subst, ◌∙◌, append_assoc, arith}
 use Rattle.std.proofs.lemmas.List.{length-map, length-take-le, take_more, map-append}
 use Rattle.std.proofs.lemmas.Bool.{le-leb}
-use Rattle.ref_base.specs.Collectors.{State, first_state}
+use Rattle.refrun.proofs.Common.{State, first_state, Config, Fault, Core, Stands, StageJobs, first_jobs, IsScriptRun}
+use Rattle.refrun.proofs.Common.{IsScriptRowOf, IsScript, AreScript, lines_of, most_bytes, trace_text, PrintsTrace}
+use Rattle.refrun.proofs.Common.{TellsRun, ScriptReply, ScriptRow, ScriptStep}
 use Rattle.ref_base.specs.CollectorRows.{IsRun}
-use Rattle.ref_base.specs.declared.config.Config.{Config}
-use Rattle.ref_base.specs.declared.fault.Fault.{Fault}
 use Rattle.ref_base.specs.declared.row.Row.{Row}
-use Rattle.ref_world.specs.Cores.{Core}
-use Rattle.ref_world.specs.Standing.{Stands}
-use Rattle.refrun.specs.ScriptRuns.{StageJobs, first_jobs, world_row, world_rows, RunsIn, IsScriptRow, IsScriptRun}
-use Rattle.refrun.specs.ScriptStanding.{IsScriptRowOf}
+use Rattle.refrun.specs.ScriptRuns.{world_row, world_rows, RunsIn, IsScriptRow}
 use Rattle.refrun.specs.ScriptSteps.{script_row_text}
-use Rattle.refrun.specs.Scripts.{IsScript, AreScript}
-use Rattle.refrun.specs.Lines.{lines_of, most_bytes}
-use Rattle.refrun.specs.Traces.{numbered, trace_text, script_steps_of, PrintsTrace, TellsRun, TellsTrace}
-use Rattle.refrun.specs.declared.script_step.ScriptReply.{ScriptReply}
+use Rattle.refrun.specs.Traces.{numbered, script_steps_of, TellsTrace}
 use Rattle.refrun.specs.declared.script_step.ScriptReply.TheVariants as replies
-use Rattle.refrun.specs.declared.script_step.ScriptRow.{ScriptRow}
-use Rattle.refrun.specs.declared.script_step.ScriptStep.{ScriptStep}
 use Rattle.refrun.specs.declared.script_step.ScriptStep.TheVariants as scripts
 
 -- one line of a trace

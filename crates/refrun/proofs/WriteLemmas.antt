@@ -4,7 +4,7 @@ use Rattle.std.proofs.Common.{append_assoc}
 use Rattle.std.specs.Io.KnownBytes.{Keeps, Appends}
 use Rattle.std.proofs.lemmas.List.{append-nil, take-append-drop}
 use Rattle.std.proofs.Math.Seq.{take-append_seam}
-use Rattle.refrun.specs.Streams.{AppendsPrefix}
+use Rattle.refrun.proofs.Common.{AppendsPrefix}
 
 pub keeps_nothing : (known : Option (List ℕ)) → Keeps known known
 keeps_nothing None = tt

@@ -1,6 +1,6 @@
 use Rattle.std.proofs.Common.{refl}
 use Rattle.std.proofs.lemmas.Bool.{false≢true}
-use Rattle.ref_base.specs.Paths.{no_referents, soft_referents, soft_and_weak_referents}
+use Rattle.ref_base.proofs.Common.{no_referents, soft_referents, soft_and_weak_referents}
 use Rattle.ref_base.proofs.SearchLaws.{searched_from_reached, searched_from_roots}
 use Rattle.ref_base.proofs.StrengthLaws.{AreFound_fronts}
 use Rattle.ref_base.proofs.reachability.find.Goals as goal

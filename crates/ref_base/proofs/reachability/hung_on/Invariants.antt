@@ -1,5 +1,5 @@
 use Rattle.std.proofs.Common.{◌≡◌, drop, []}
-use Rattle.ref_base.specs.Searches.{added_all, phantom_referents}
+use Rattle.ref_base.proofs.Common.{added_all, phantom_referents}
 use Rattle.ref_base.proofs.reachability.hung_on.Given as goal
 
 -- adding what hangs on the objects that are left ends as adding what hangs on any of them does

@@ -1,5 +1,5 @@
 use Rattle.std.proofs.Common.{◌≡◌, true, sym, ◌∙◌, take}
-use Rattle.ref_base.specs.Graphs.{is_there}
+use Rattle.ref_base.proofs.Common.{is_there}
 use Rattle.ref_base.proofs.StrengthLaws.{AreFound-reach}
 use Rattle.ref_base.proofs.reachability.strength_of.Goals as goal
 

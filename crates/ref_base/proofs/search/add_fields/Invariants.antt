@@ -1,6 +1,5 @@
 use Rattle.std.proofs.Common.{◌≡◌, drop}
-use Rattle.ref_base.specs.Paths.{present}
-use Rattle.ref_base.specs.Searches.{added_all}
+use Rattle.ref_base.proofs.Common.{present, added_all}
 use Rattle.ref_base.proofs.search.add_fields.Given as goal
 
 -- adding what is left of the fields ends as adding all of them does

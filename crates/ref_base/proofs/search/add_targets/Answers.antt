@@ -1,6 +1,4 @@
-use Rattle.ref_base.specs.GraphViews.{stored_object}
-use Rattle.ref_base.specs.Paths.{if_any}
-use Rattle.ref_base.specs.Searches.{allowed}
+use Rattle.ref_base.proofs.Common.{stored_object, if_any, allowed}
 use Rattle.ref_base.proofs.SearchLaws.{added_all-targets}
 use Rattle.ref_base.proofs.search.add_targets.Goals as goal
 

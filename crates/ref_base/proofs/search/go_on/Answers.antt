@@ -1,7 +1,5 @@
 use Rattle.std.proofs.Common.{◌≡◌, ◌<◌, ◌≤◌, length, get_or, arith, refl}
-use Rattle.ref_base.specs.Graphs.{object_at}
-use Rattle.ref_base.specs.Paths.{targets_at}
-use Rattle.ref_base.specs.Searches.{allowed, added_all, searched_referents}
+use Rattle.ref_base.proofs.Common.{object_at, targets_at, allowed, added_all, searched_referents}
 use Rattle.ref_base.proofs.SearchLaws.{added_all-take, referent_alone, searched_more, searched_all, work_left-less}
 use Rattle.ref_base.proofs.HasLaws.{get_or-number}
 use Rattle.ref_base.proofs.search.go_on.Goals.{then-next-closed+in_ok-add_referent, else-next-closed+in_ok-add_targets}

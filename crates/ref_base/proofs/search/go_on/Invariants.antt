@@ -1,5 +1,5 @@
 use Rattle.std.proofs.Common.{◌≡◌, ◌-◌, length, take}
-use Rattle.ref_base.specs.Searches.{allowed, IsSearched}
+use Rattle.ref_base.proofs.Common.{allowed, IsSearched}
 use Rattle.ref_base.proofs.SearchLaws.{work_left}
 use Rattle.ref_base.proofs.search.go_on.Given as goal
 

@@ -1,6 +1,6 @@
 use Rattle.std.proofs.Common.{◌≡◌, replicate, vec_len}
 use Rattle.std.specs.Vec.{vec_capacity}
-use Rattle.ref_clear.specs.ClearViews.{empty_pending}
+use Rattle.ref_clear.proofs.Common.{empty_pending}
 use Rattle.ref_clear.proofs.heap.pending_lists.Given as goal
 
 -- the lists so far are empty, and there is room for the others

@@ -1,6 +1,6 @@
 use Rattle.std.proofs.Common.{◌∙◌, ap, sym, drop}
 use Rattle.std.proofs.lemmas.List.{take_rest}
-use Rattle.ref_objects.specs.Places.{first_live}
+use Rattle.ref_objects.proofs.Common.{first_live}
 use Rattle.ref_objects.proofs.PlaceLemmas.{first_from-live}
 use Rattle.ref_objects.proofs.index.first_from.Goals as goal
 

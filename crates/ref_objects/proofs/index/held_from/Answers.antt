@@ -1,6 +1,6 @@
 use Rattle.std.proofs.Common.{◌∙◌, ap, sym, drop}
 use Rattle.std.proofs.lemmas.List.{take_rest}
-use Rattle.ref_objects.specs.Places.{first_held}
+use Rattle.ref_objects.proofs.Common.{first_held}
 use Rattle.ref_objects.proofs.PlaceLemmas.{held_from-held}
 use Rattle.ref_objects.proofs.index.held_from.Goals as goal
 

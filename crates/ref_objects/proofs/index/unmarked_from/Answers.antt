@@ -1,6 +1,6 @@
 use Rattle.std.proofs.Common.{◌∙◌, ap, sym, drop}
 use Rattle.std.proofs.lemmas.List.{take_rest}
-use Rattle.ref_objects.specs.Places.{first_unmarked}
+use Rattle.ref_objects.proofs.Common.{first_unmarked}
 use Rattle.ref_objects.proofs.UnmarkedLemmas.{unmarked_from-first}
 use Rattle.ref_objects.proofs.index.unmarked_from.Goals as goal
 

@@ -1,9 +1,7 @@
 use Rattle.std.proofs.Common.{refl, subst, inl, inr}
 use Rattle.ref_base.specs.declared.heap_step.HeapStep.TheVariants as heap
 use Rattle.ref_world.specs.declared.heap_machine.HeapReply.TheVariants as replies
-use Rattle.ref_share.specs.HeapSeats.{heap_view}
-use Rattle.ref_share.specs.Cleanings.{makes_phantom}
-use Rattle.ref_share.specs.SeatCalls.{Called}
+use Rattle.ref_share.proofs.Common.{heap_view, makes_phantom, Called}
 use Rattle.ref_share.proofs.CleanCalls.{accepts_unless_refused}
 use Rattle.ref_share.proofs.cleaning.refer.Goals as goal
 

@@ -1,10 +1,7 @@
 use Rattle.std.proofs.Common.{refl, subst, inr}
-use Rattle.ref_base.specs.declared.fault.Fault.TheVariants.{TurnsSpent}
+use Rattle.ref_share.proofs.Common.{TurnsSpent, Acts, heap_view, Called}
 use Rattle.ref_base.specs.declared.heap_step.HeapStep.TheVariants as heap
 use Rattle.ref_share.proofs.CleanCalls.{retires_adopted}
-use Rattle.ref_share.specs.HeapMachines.{Acts}
-use Rattle.ref_share.specs.HeapSeats.{heap_view}
-use Rattle.ref_share.specs.SeatCalls.{Called}
 use Rattle.ref_share.proofs.cleaning.retire.Goals as goal
 
 pub returns-in-Ok-Told-clause-retires : goal.returns-in-Ok-Told-clause-retires

@@ -1,8 +1,6 @@
 use Rattle.std.proofs.Common.{subst}
 use Rattle.ref_share.proofs.Notices.{tells_of_none, delivers_none, delivers_notice}
-use Rattle.ref_share.specs.HeapMachines.{Acts}
-use Rattle.ref_share.specs.HeapSeats.{heap_view}
-use Rattle.ref_share.specs.SeatCalls.{Called}
+use Rattle.ref_share.proofs.Common.{Acts, heap_view, Called}
 use Rattle.ref_share.proofs.delivery.deliver.Goals as goal
 
 pub without_notice-requires : goal.without_notice-requires

@@ -1,7 +1,7 @@
 use Rattle.std.proofs.Common.{◌≡◌, ℕ, ◌<◌, length, Some, ap, sym, subst, ◌∙◌}
 use Rattle.std.proofs.lemmas.Option.{slice_get-get_or}
 use Rattle.std.specs.Prelude.{slice_get, slice_set, slice_index_or}
-use Rattle.ref_share.specs.Deliveries.{PutsAt}
+use Rattle.ref_share.proofs.Common.{PutsAt}
 use Rattle.ref_share.proofs.Places.{still_seats, put_at_place}
 use Rattle.ref_share.proofs.delivery.put_at.Goals as goal
 

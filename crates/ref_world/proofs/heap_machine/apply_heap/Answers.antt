@@ -1,8 +1,5 @@
 use Rattle.std.proofs.Common.{sym, subst}
-use Rattle.ref_base.specs.CollectorRows.{IsHeapRow}
-use Rattle.ref_base.specs.declared.reply.Reply.{Reply}
-use Rattle.ref_clear.specs.ClearHeaps.{ClearHeap}
-use Rattle.ref_clear.specs.Standing.{HeapStands}
+use Rattle.ref_world.proofs.Common.{IsHeapRow, Reply, ClearHeap, HeapStands}
 use Rattle.ref_clear.proofs.HeapLaws.{each_step}
 use Rattle.ref_world.proofs.heap_machine.apply_heap.Goals as goal
 

@@ -1,6 +1,5 @@
 use Rattle.std.proofs.Common.{ap, sym, ◌∙◌}
-use Rattle.ref_base.specs.HeapSteps.{NamedStep}
-use Rattle.ref_clear.specs.ClearCalls.{after_in}
+use Rattle.ref_world.proofs.Common.{NamedStep, after_in}
 use Rattle.ref_world.proofs.HeapSteps.{comparison_changes_nothing}
 use Rattle.ref_world.proofs.heap_machine.called.Goals as goal
 

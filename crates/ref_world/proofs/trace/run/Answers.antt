@@ -1,4 +1,4 @@
-use Rattle.ref_base.specs.Collectors.{first_state}
+use Rattle.ref_world.proofs.Common.{first_state}
 use Rattle.ref_world.proofs.HeadlineLemmas.{queues_tell, taken_then_standing, in_clearing_order, at_most_once}
 use Rattle.ref_world.proofs.HeadlineLemmas.{nothing_after_close, positions, own_queue, own_enqueue_call}
 use Rattle.ref_world.proofs.HeadlineLemmas.{after_a_mark_ended, scanned_once, heap_tells}

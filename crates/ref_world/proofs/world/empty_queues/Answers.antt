@@ -1,5 +1,5 @@
 use Rattle.std.proofs.Common.{◌∙◌, ap, arith, refl}
-use Rattle.ref_base.specs.QueueLists.{new_queues}
+use Rattle.ref_world.proofs.Common.{new_queues}
 use Rattle.ref_world.proofs.FirstCores.{new_queues_more}
 use Rattle.ref_world.proofs.world.empty_queues.Goals as goal
 

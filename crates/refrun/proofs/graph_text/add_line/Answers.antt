@@ -1,5 +1,5 @@
+use Rattle.refrun.proofs.Common.{words_of}
 use Rattle.refrun.specs.DeclarationViews.{declared_by}
-use Rattle.refrun.specs.Lines.{words_of}
 use Rattle.refrun.proofs.GraphLines.{fails_by_double}
 use Rattle.refrun.proofs.graph_text.add_line.Goals as goal
 

@@ -1,7 +1,6 @@
 use Rattle.std.proofs.Common.{◌+◌, []}
 use Rattle.std.proofs.lemmas.Result.{err_from_is_err_and}
-use Rattle.refrun.specs.Lines.{lines_of}
-use Rattle.refrun.specs.TextFaults.{Declarations}
+use Rattle.refrun.proofs.Common.{lines_of, Declarations}
 use Rattle.refrun.proofs.LineLemmas.{fails_for}
 use Rattle.refrun.proofs.GraphLines.{has_declared_none, has_declared_more, has_declared_all, has_declared_fault}
 use Rattle.refrun.proofs.GraphLines.{has_declared_later_fault}

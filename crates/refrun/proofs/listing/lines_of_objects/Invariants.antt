@@ -1,5 +1,5 @@
 use Rattle.std.proofs.Common.{◌≡◌, string_bytes, take}
-use Rattle.refrun.specs.Listings.{listing_text}
+use Rattle.refrun.proofs.Common.{listing_text}
 use Rattle.refrun.proofs.listing.lines_of_objects.Given as goal
 
 abbrev pub invariant-loop-object : goal.invariant-loop-object

@@ -1,5 +1,4 @@
-use Rattle.refrun.specs.TextFaults.{graph_fault}
-use Rattle.refrun.specs.Listings.{PrintsStrengths}
+use Rattle.refrun.proofs.Common.{graph_fault, PrintsStrengths}
 use Rattle.refrun.proofs.AnswerLemmas.{answers_done, answers_prefix, tells_nothing}
 use Rattle.refrun.proofs.listing.strength_text.Goals as goal
 

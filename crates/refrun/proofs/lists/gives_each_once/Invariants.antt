@@ -1,5 +1,5 @@
 use Rattle.std.proofs.Common.{◌≡◌, ℕ, ◌++◌, take, flat_map}
-use Rattle.ref_base.specs.Members.{has}
+use Rattle.refrun.proofs.Common.{has}
 use Rattle.refrun.proofs.ListChecks.{Left}
 use Rattle.refrun.proofs.lists.gives_each_once.Given as goal
 

@@ -1,5 +1,5 @@
 use Rattle.std.proofs.Common.{◌≡◌, drop}
-use Rattle.ref_base.specs.CollectorRows.{is_subsequence}
+use Rattle.refrun.proofs.Common.{is_subsequence}
 use Rattle.refrun.proofs.lists.is_in_order.Given as goal
 
 abbrev pub invariant-loop-number : goal.invariant-loop-number

@@ -1,5 +1,5 @@
 use Rattle.std.proofs.Common.{◌+◌, ◌-◌, vec_len}
-use Rattle.refrun.specs.Lines.{most_bytes}
+use Rattle.refrun.proofs.Common.{most_bytes}
 use Rattle.refrun.proofs.ReadLemmas.{IsReading}
 use Rattle.refrun.proofs.reading.text_of.Given as goal
 

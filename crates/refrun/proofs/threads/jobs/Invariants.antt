@@ -1,7 +1,5 @@
 use Rattle.std.proofs.Common.{All}
-use Rattle.ref_share.specs.HeapSeats.{IsHeapSeat}
-use Rattle.ref_share.specs.QueueSeats.{IsQueueSeat}
-use Rattle.refrun.specs.StressSeats.{IsSeatedAt}
+use Rattle.refrun.proofs.Common.{IsHeapSeat, IsQueueSeat, IsSeatedAt}
 use Rattle.refrun.proofs.threads.jobs.Given as goal
 
 abbrev pub invariant-loop-number : goal.invariant-loop-number

@@ -1,6 +1,5 @@
 use Rattle.std.proofs.lemmas.List.Elements.{All-rest}
-use Rattle.ref_share.specs.HeapSeats.{IsHeapSeat}
-use Rattle.ref_share.specs.QueueSeats.{IsQueueSeat}
+use Rattle.refrun.proofs.Common.{IsHeapSeat, IsQueueSeat}
 use Rattle.refrun.specs.declared.threads.Left.{Left}
 use Rattle.refrun.proofs.threads.joined.Goals as goal
 

@@ -1,7 +1,6 @@
 use Rattle.std.proofs.Common.{All}
 use Rattle.std.specs.Vec.Iter.{into_iter_items}
-use Rattle.ref_share.specs.HeapSeats.{IsHeapSeat}
-use Rattle.ref_share.specs.QueueSeats.{IsQueueSeat}
+use Rattle.refrun.proofs.Common.{IsHeapSeat, IsQueueSeat}
 use Rattle.refrun.proofs.threads.joined.Given as goal
 
 abbrev pub invariant-loop-left : goal.invariant-loop-left

@@ -1,8 +1,5 @@
 use Rattle.std.proofs.Common.{◌≡◌, ◌<◌, length, get_or, subst, arith}
-use Rattle.ref_share.specs.HeapSeats.{IsHeapSeat}
-use Rattle.ref_share.specs.QueueSeats.{IsQueueSeat}
-use Rattle.refrun.specs.declared.roles.Shared.{Shared}
-use Rattle.refrun.specs.declared.threads.Job.{Job}
+use Rattle.refrun.proofs.Common.{IsHeapSeat, IsQueueSeat, Shared, Job}
 use Rattle.refrun.proofs.threads.run.Goals as goal
 
 pub joined-requires-clause-left : goal.joined-requires-clause-left

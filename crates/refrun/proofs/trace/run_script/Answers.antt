@@ -1,6 +1,4 @@
-use Rattle.refrun.specs.JobViews.{job_number, note_of}
-use Rattle.refrun.specs.TextFaults.{script_fault}
-use Rattle.refrun.specs.Traces.{PrintsTrace}
+use Rattle.refrun.proofs.Common.{job_number, note_of, script_fault, PrintsTrace}
 use Rattle.refrun.proofs.AnswerLemmas.{answers_done, answers_prefix, tells_nothing}
 use Rattle.refrun.proofs.trace.run_script.Goals as goal
 

@@ -1,6 +1,5 @@
 use Rattle.std.proofs.Common.{arith, refl}
-use Rattle.refrun.specs.JobViews.{job_number, note_of}
-use Rattle.refrun.specs.ScriptStanding.{jobs}
+use Rattle.refrun.proofs.Common.{job_number, note_of, jobs}
 use Rattle.refrun.proofs.TraceLemmas.{tells_nothing_yet, tells_more}
 use Rattle.refrun.proofs.trace.told_run.Goals as goal
 

@@ -1,7 +1,5 @@
 use Rattle.std.proofs.Common.{◌≡◌, string_bytes, take}
-use Rattle.refrun.specs.JobViews.{job_number, note_of}
-use Rattle.refrun.specs.ScriptStanding.{jobs}
-use Rattle.refrun.specs.Traces.{TellsRun}
+use Rattle.refrun.proofs.Common.{job_number, note_of, jobs, TellsRun}
 use Rattle.refrun.proofs.trace.told_run.Given as goal
 
 abbrev pub invariant-loop-step : goal.invariant-loop-step

@@ -1,5 +1,5 @@
 use Rattle.std.proofs.Common.{refl}
-use Rattle.refrun.specs.JobViews.{job_number, note_of}
+use Rattle.refrun.proofs.Common.{job_number, note_of}
 use Rattle.refrun.proofs.TraceLemmas.{tells_trace}
 use Rattle.refrun.proofs.trace.trace_of.Goals as goal
 

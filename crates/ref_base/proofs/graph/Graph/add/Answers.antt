@@ -3,8 +3,7 @@ use Rattle.std.specs.Map.{lookup}
 use Rattle.indexmap.proofs.CallerLemmas.{insert_entry-new}
 use Rattle.ref_base.proofs.StoreLaws.{is_there-objects_in, none_from_is_some, rising-objects_in, stored-last}
 use Rattle.ref_base.proofs.StoreLaws.{with_object-same}
-use Rattle.ref_base.specs.Graphs.{is_there}
-use Rattle.ref_base.specs.GraphViews.{objects_in, linked_reference}
+use Rattle.ref_base.proofs.Common.{is_there, objects_in, linked_reference}
 use Rattle.ref_base.proofs.graph.Graph.add.Goals.{in-Ok, in-Err}
 use Rattle.ref_base.proofs.graph.Graph.add.Goals as goal
 

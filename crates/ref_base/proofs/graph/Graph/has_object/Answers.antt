@@ -1,5 +1,5 @@
 use Rattle.std.proofs.Common.{◌∙◌, ap, is_some, sym}
-use Rattle.ref_base.specs.GraphViews.{stored_object}
+use Rattle.ref_base.proofs.Common.{stored_object}
 use Rattle.ref_base.proofs.StoreLaws.{is_some-option_map}
 use Rattle.ref_base.proofs.graph.Graph.has_object.Goals as goal
 

@@ -1,8 +1,6 @@
 use Rattle.std.proofs.Common.{◌∙◌, ap, refl, List}
-use Rattle.ref_base.specs.Worlds.{pending_numbers}
+use Rattle.ref_clear.proofs.Common.{pending_numbers, CycleHeap, shaded_all, PendingList, pending_lists_of, seen_heap}
 use Rattle.ref_base.specs.declared.heap_step.HeapStep.TheVariants as heap
-use Rattle.ref_mark.specs.CycleHeaps.{CycleHeap, shaded_all}
-use Rattle.ref_clear.specs.ClearViews.{PendingList, pending_lists_of, seen_heap}
 use Rattle.ref_clear.proofs.BeginAnswers.{refused_begin, begun_begin}
 use Rattle.ref_clear.proofs.SoundHeaps.{sound_after}
 use Rattle.ref_clear.proofs.heap.Heap.begin.Goals as goal

@@ -1,7 +1,6 @@
 use Rattle.std.proofs.Common.{ap, refl}
 use Rattle.ref_base.specs.declared.heap_step.HeapStep.TheVariants as heap
-use Rattle.ref_mark.specs.CycleHeaps.{CycleHeap}
-use Rattle.ref_clear.specs.ClearViews.{seen_heap}
+use Rattle.ref_clear.proofs.Common.{CycleHeap, seen_heap}
 use Rattle.ref_clear.proofs.SoundHeaps.{sound_after}
 use Rattle.ref_clear.proofs.heap.Heap.clear.Goals as goal
 

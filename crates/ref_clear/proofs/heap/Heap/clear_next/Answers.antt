@@ -1,8 +1,5 @@
 use Rattle.std.proofs.Common.{◌≡◌, true, false, Some, None, set, sym, ap, ◌∙◌}
-use Rattle.ref_base.specs.Graphs.{Reference}
-use Rattle.ref_base.specs.Heaps.{reference_at, registered_in}
-use Rattle.ref_clear.specs.ClearHeaps.{is_to_clear}
-use Rattle.ref_clear.specs.ClearViews.{seen_heap}
+use Rattle.ref_clear.proofs.Common.{Reference, reference_at, registered_in, is_to_clear, seen_heap}
 use Rattle.ref_clear.proofs.LookAnswers.{sound_none, sound_passed, seen_cut, sound_cut, seen_pended, sound_pended}
 use Rattle.ref_clear.proofs.LookAnswers.{look_within, look_has_room, few_taken}
 use Rattle.ref_clear.proofs.LookAnswers.{no_reference, no_referent, clears_by, queue_read}

@@ -1,6 +1,5 @@
 use Rattle.std.proofs.Common.{◌≡◌, true, sym, ◌∙◌, rules}
-use Rattle.ref_base.specs.Refusals.{is_in}
-use Rattle.ref_base.specs.declared.phase.Phase.TheVariants.{Clearing}
+use Rattle.ref_clear.proofs.Common.{is_in, Clearing}
 use Rattle.ref_clear.proofs.SoundEnds.{sound_clear_ended}
 use Rattle.ref_clear.proofs.heap.Heap.end_clear.Goals as goal
 

@@ -1,6 +1,5 @@
 use Rattle.std.proofs.Common.{◌≡◌, true, sym, ◌∙◌, rules}
-use Rattle.ref_base.specs.Refusals.{is_in}
-use Rattle.ref_base.specs.declared.phase.Phase.TheVariants.{Sweeping}
+use Rattle.ref_clear.proofs.Common.{is_in, Sweeping}
 use Rattle.ref_clear.proofs.SoundEnds.{sound_sweep_ended}
 use Rattle.ref_clear.proofs.heap.Heap.end_sweep.Goals as goal
 

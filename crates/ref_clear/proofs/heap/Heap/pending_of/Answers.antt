@@ -1,7 +1,6 @@
 use Rattle.std.proofs.Common.{◌≡◌, ◌<◌, List, length, slice_index_or, sym, ap, subst, ◌∙◌}
 use Rattle.std.proofs.lemmas.Bool.{lt-ltb, false≢true, ltb-true}
-use Rattle.ref_base.specs.Worlds.{Pending}
-use Rattle.ref_clear.specs.ClearViews.{PendingList, pending_from}
+use Rattle.ref_clear.proofs.Common.{Pending, PendingList, pending_from}
 use Rattle.ref_clear.proofs.PendingLists.{pending_at-seen, none_past}
 use Rattle.ref_clear.proofs.heap.Heap.pending_of.Goals as goal
 

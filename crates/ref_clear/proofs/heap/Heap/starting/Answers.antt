@@ -1,9 +1,5 @@
 use Rattle.std.proofs.Common.{sym, subst}
-use Rattle.ref_mark.specs.CycleHeaps.{CycleHeap}
-use Rattle.ref_mark.specs.MarkRows.{starting_state}
-use Rattle.ref_mark.specs.Standing.{MarkStands}
-use Rattle.ref_clear.specs.ClearHeaps.{ClearHeap}
-use Rattle.ref_clear.specs.Standing.{HeapStands}
+use Rattle.ref_clear.proofs.Common.{CycleHeap, starting_state, MarkStands, ClearHeap, HeapStands}
 use Rattle.ref_clear.proofs.FirstHeaps.{seen_first, first_stands, first_sound}
 use Rattle.ref_clear.proofs.heap.Heap.starting.Goals as goal
 

@@ -1,8 +1,6 @@
 use Rattle.std.proofs.Common.{◌≡◌, Some, refl, sym, ap, ◌∙◌, subst}
-use Rattle.ref_base.specs.Graphs.{Reference}
+use Rattle.ref_clear.proofs.Common.{Reference, CycleHeap, seen_heap, IsSoundHeap}
 use Rattle.ref_base.specs.declared.heap_step.HeapStep.TheVariants as heap
-use Rattle.ref_mark.specs.CycleHeaps.{CycleHeap}
-use Rattle.ref_clear.specs.ClearViews.{seen_heap, IsSoundHeap}
 use Rattle.ref_clear.proofs.NoticeAnswers.{mint_refused}
 use Rattle.ref_clear.proofs.SoundHeaps.{sound_after}
 use Rattle.ref_clear.proofs.UnhookAnswers.{slot_is_there, slot_holds, reference_is, unhook_done}

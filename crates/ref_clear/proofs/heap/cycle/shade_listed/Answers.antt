@@ -1,6 +1,5 @@
 use Rattle.std.proofs.Common.{sym, ap, subst, ◌<◌, length, ◌∙◌}
-use Rattle.ref_base.specs.Worlds.{Pending}
-use Rattle.ref_mark.specs.CycleHeaps.{shaded}
+use Rattle.ref_clear.proofs.Common.{Pending, shaded}
 use Rattle.ref_clear.proofs.ShadedLists.{listed_more, listed_there}
 use Rattle.ref_clear.proofs.heap.cycle.shade_listed.Goals as goal
 use Rattle.ref_clear.proofs.heap.cycle.shade_listed.Goals.{in-Some, in_default}

@@ -1,6 +1,5 @@
 use Rattle.std.proofs.Common.{◌≡◌, take}
-use Rattle.ref_mark.specs.CycleHeaps.{shaded_all}
-use Rattle.ref_clear.specs.ClearViews.{numbers_in}
+use Rattle.ref_clear.proofs.Common.{shaded_all, numbers_in}
 use Rattle.ref_clear.proofs.heap.cycle.shade_listed.Given as goal
 
 abbrev pub invariant-loop-place : goal.invariant-loop-place

@@ -1,6 +1,5 @@
 use Rattle.std.proofs.Common.{ap, ◌∙◌}
-use Rattle.ref_mark.specs.CycleHeaps.{shaded_all}
-use Rattle.ref_clear.specs.ClearViews.{PendingList, numbers_in}
+use Rattle.ref_clear.proofs.Common.{shaded_all, PendingList, numbers_in}
 use Rattle.ref_clear.proofs.ShadedLists.{worker_more}
 use Rattle.ref_clear.proofs.heap.cycle.shade_pending.Goals as goal
 

@@ -1,7 +1,5 @@
 use Rattle.std.proofs.Common.{◌≡◌, take}
-use Rattle.ref_base.specs.Worlds.{pending_numbers}
-use Rattle.ref_mark.specs.CycleHeaps.{shaded_all}
-use Rattle.ref_clear.specs.ClearViews.{pending_lists_of}
+use Rattle.ref_clear.proofs.Common.{pending_numbers, shaded_all, pending_lists_of}
 use Rattle.ref_clear.proofs.heap.cycle.shade_pending.Given as goal
 
 abbrev pub invariant-loop-worker : goal.invariant-loop-worker

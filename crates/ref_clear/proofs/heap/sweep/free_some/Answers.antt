@@ -1,6 +1,5 @@
 use Rattle.std.proofs.Common.{◌≡◌, ◌+◌, ◌≤◌, None, ◌⊎◌, inl, inr, sym, subst, ◌∙◌}
-use Rattle.ref_objects.specs.Grounds.{least_from}
-use Rattle.ref_mark.specs.CycleHeaps.{CycleHeap, doomed}
+use Rattle.ref_clear.proofs.Common.{least_from, CycleHeap, doomed}
 use Rattle.ref_clear.proofs.SweepLoops.{IsSwept, nothing_swept, one_more_swept, sweep_is_done}
 use Rattle.ref_clear.proofs.heap.sweep.free_some.Goals as goal
 use Rattle.ref_clear.proofs.heap.sweep.free_some.Goals.{else-loop-freed-test, then-loop-freed-test+in_default}

@@ -1,6 +1,6 @@
 use Rattle.std.proofs.Common.{ap, ◌∙◌}
 use Rattle.ref_base.specs.declared.reply.Reply.TheVariants as replies
-use Rattle.ref_mark.specs.CycleHeaps.{CycleHeap}
+use Rattle.ref_mark.proofs.Common.{CycleHeap}
 use Rattle.ref_mark.proofs.LoopLemmas.{begun_by_parts, begun_cycle}
 use Rattle.ref_mark.proofs.marker.Marker.begin.Goals as goal
 

@@ -1,6 +1,6 @@
 use Rattle.std.proofs.Common.{◌≡◌, ◌≤◌, map, length, set, ◌∙◌, ap, arith}
 use Rattle.std.proofs.lemmas.List.Edits.{map_over_more}
-use Rattle.ref_mark.specs.Worklists.{emptied_list}
+use Rattle.ref_mark.proofs.Common.{emptied_list}
 use Rattle.ref_mark.proofs.RoomLemmas.{all_cleared, roomy_emptied, seen_emptied}
 use Rattle.ref_mark.proofs.marker.Marker.forget_found.Goals as goal
 

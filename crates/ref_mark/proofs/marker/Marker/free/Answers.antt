@@ -1,6 +1,5 @@
 use Rattle.std.proofs.Common.{◌≡◌, true, sym, ◌∙◌, subst}
-use Rattle.ref_mark.specs.CycleHeaps.{CycleHeap, is_due}
-use Rattle.ref_mark.specs.MarkViews.{seen_marker}
+use Rattle.ref_mark.proofs.Common.{CycleHeap, is_due, seen_marker}
 use Rattle.ref_mark.proofs.RoomLemmas.{due_unmarked, roomy_freed, seen_swept}
 use Rattle.ref_mark.proofs.marker.Marker.free.Goals as goal
 

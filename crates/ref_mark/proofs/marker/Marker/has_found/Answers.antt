@@ -1,8 +1,7 @@
 use Rattle.std.proofs.Common.{not, ◌∙◌, rules, tests}
 use Rattle.std.proofs.lemmas.Iterator.{YieldsList-from_slice}
 use Rattle.std.proofs.lemmas.Iterator.Search.{any_from_yields_List}
-use Rattle.ref_base.specs.Refusals.{is_empty}
-use Rattle.ref_mark.specs.Worklists.{Worklist}
+use Rattle.ref_mark.proofs.Common.{is_empty, Worklist}
 use Rattle.ref_mark.proofs.RoomLemmas.{any_found}
 use Rattle.ref_mark.proofs.marker.Marker.has_found.Goals as goal
 

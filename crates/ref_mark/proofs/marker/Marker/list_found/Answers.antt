@@ -1,9 +1,5 @@
 use Rattle.std.proofs.Common.{◌≡◌, true, sym, ap, ◌∙◌, subst}
-use Rattle.ref_base.specs.DoomedSets.{refers_into}
-use Rattle.ref_base.specs.CollectorRows.{list_at}
-use Rattle.ref_base.specs.Heaps.{reference_at}
-use Rattle.ref_mark.specs.CycleHeaps.{CycleHeap, is_white}
-use Rattle.ref_mark.specs.MarkViews.{seen_marker}
+use Rattle.ref_mark.proofs.Common.{refers_into, list_at, reference_at, CycleHeap, is_white, seen_marker}
 use Rattle.ref_mark.proofs.RoomLemmas.{listing_asks, stands_as_seen, found_has_room, roomy_found, seen_found}
 use Rattle.ref_mark.proofs.marker.Marker.list_found.Goals as goal
 

@@ -1,9 +1,5 @@
 use Rattle.std.proofs.Common.{◌≡◌, true, Some, sym, ap, subst, ◌∙◌}
-use Rattle.ref_base.specs.Graphs.{Reference}
-use Rattle.ref_base.specs.Paths.{is_soft}
-use Rattle.ref_base.specs.Heaps.{reference_at}
-use Rattle.ref_mark.specs.CycleHeaps.{CycleHeap}
-use Rattle.ref_mark.specs.MarkViews.{seen_marker}
+use Rattle.ref_mark.proofs.Common.{Reference, is_soft, reference_at, CycleHeap, seen_marker}
 use Rattle.ref_mark.proofs.BarrierLemmas.{stamped_renewed, unstamped_renewed, unrenewed}
 use Rattle.ref_mark.proofs.marker.Marker.renew.Goals.{else-is_soft-via-then-is_soft+else-is_some}
 use Rattle.ref_mark.proofs.marker.Marker.renew.Goals.{else-is_soft-via-else-is_soft}

@@ -1,10 +1,6 @@
 use Rattle.std.proofs.Common.{◌≡◌, ◌<◌, Some, refl, sym, ap, ◌∙◌, subst}
-use Rattle.ref_base.specs.Paths.{targets_at}
-use Rattle.ref_base.specs.KeptPaths.{is_kept}
-use Rattle.ref_base.specs.Heaps.{Heap, reference_at}
-use Rattle.ref_mark.specs.Worklists.{first_in}
-use Rattle.ref_mark.specs.CycleHeaps.{CycleHeap, policy_in}
-use Rattle.ref_mark.specs.MarkViews.{seen_marker}
+use Rattle.ref_mark.proofs.Common.{targets_at, is_kept, Heap, reference_at, first_in, CycleHeap, policy_in}
+use Rattle.ref_mark.proofs.Common.{seen_marker}
 use Rattle.ref_mark.proofs.RoomLemmas.{Greys, shaded_greys, scanner_within, roomy_scanned, scan_has_room}
 use Rattle.ref_mark.proofs.marker.Marker.scan.Goals as goal
 

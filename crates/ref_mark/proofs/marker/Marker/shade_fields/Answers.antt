@@ -1,8 +1,6 @@
 use Rattle.std.proofs.Common.{◌≡◌, ◌<◌, List, length, Option, ap, subst, ◌∙◌}
 use Rattle.std.specs.Prelude.{slice_index_or, None, ℕ}
-use Rattle.ref_base.specs.Graphs.{object_at}
-use Rattle.ref_objects.specs.Grounds.{fields_in}
-use Rattle.ref_mark.specs.CycleHeaps.{CycleHeap, shaded_if_any}
+use Rattle.ref_mark.proofs.Common.{object_at, fields_in, CycleHeap, shaded_if_any}
 use Rattle.ref_mark.proofs.LoopLemmas.{shaded_more}
 use Rattle.ref_mark.proofs.marker.Marker.shade_fields.Goals as goal
 

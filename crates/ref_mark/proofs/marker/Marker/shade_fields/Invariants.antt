@@ -1,8 +1,5 @@
 use Rattle.std.proofs.Common.{◌≡◌, take}
-use Rattle.ref_base.specs.Graphs.{object_at}
-use Rattle.ref_base.specs.Paths.{present}
-use Rattle.ref_objects.specs.Grounds.{fields_in}
-use Rattle.ref_mark.specs.CycleHeaps.{shaded_all}
+use Rattle.ref_mark.proofs.Common.{object_at, present, fields_in, shaded_all}
 use Rattle.ref_mark.proofs.marker.Marker.shade_fields.Given as goal
 
 abbrev pub invariant-loop-field : goal.invariant-loop-field

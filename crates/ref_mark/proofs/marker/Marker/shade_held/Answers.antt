@@ -1,7 +1,5 @@
 use Rattle.std.proofs.Common.{◌≡◌, ℕ, ◌+◌, ◌<◌, length, Option, Some, sym, ap, refl, subst, ◌∙◌}
-use Rattle.ref_base.specs.Heaps.{Heap}
-use Rattle.ref_objects.specs.Grounds.{least_from, IsInOrder}
-use Rattle.ref_mark.specs.CycleHeaps.{CycleHeap, shaded}
+use Rattle.ref_mark.proofs.Common.{Heap, least_from, IsInOrder, CycleHeap, shaded}
 use Rattle.ref_mark.proofs.LoopLemmas.{IsHeldFrom, still_held, held_from_first, held_after_turn, fewer_after_turn}
 use Rattle.ref_mark.proofs.LoopLemmas.{shaded_once-heap}
 use Rattle.ref_mark.proofs.marker.Marker.shade_held.Goals as goal

@@ -1,9 +1,7 @@
 use Rattle.std.proofs.Common.{◌≡◌, ◌<◌, List, length, take, Option, sym, ap, subst, ◌∙◌}
 use Rattle.std.specs.Prelude.{slice_index_or, None, ℕ}
 use Rattle.std.proofs.lemmas.List.{get_or_default}
-use Rattle.ref_base.specs.Paths.{present}
-use Rattle.ref_base.specs.Heaps.{Heap}
-use Rattle.ref_mark.specs.CycleHeaps.{CycleHeap, shaded_if_any}
+use Rattle.ref_mark.proofs.Common.{present, Heap, CycleHeap, shaded_if_any}
 use Rattle.ref_mark.proofs.LoopLemmas.{shaded_more, shaded_heap}
 use Rattle.ref_mark.proofs.marker.Marker.shade_slots.Goals as goal
 

@@ -1,6 +1,5 @@
 use Rattle.std.proofs.Common.{◌≡◌, take}
-use Rattle.ref_base.specs.Paths.{present}
-use Rattle.ref_mark.specs.CycleHeaps.{shaded_all}
+use Rattle.ref_mark.proofs.Common.{present, shaded_all}
 use Rattle.ref_mark.proofs.marker.Marker.shade_slots.Given as goal
 
 abbrev pub invariant-loop-place : goal.invariant-loop-place

@@ -1,9 +1,5 @@
 use Rattle.std.proofs.Common.{◌≡◌, ◌<◌, sym, ◌∙◌, ap, subst}
-use Rattle.ref_base.specs.CollectorRows.{list_at}
-use Rattle.ref_base.specs.declared.phase.Phase.TheVariants.{Clearing}
-use Rattle.ref_mark.specs.Worklists.{first_in}
-use Rattle.ref_mark.specs.CycleHeaps.{CycleHeap}
-use Rattle.ref_mark.specs.MarkViews.{worklists_of}
+use Rattle.ref_mark.proofs.Common.{list_at, Clearing, first_in, CycleHeap, worklists_of}
 use Rattle.ref_mark.proofs.RoomLemmas.{worker_within, stands_as_seen, roomy_taken, seen_taken}
 use Rattle.ref_mark.proofs.marker.Marker.take_found.Goals as goal
 

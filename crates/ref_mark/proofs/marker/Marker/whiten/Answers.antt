@@ -1,8 +1,6 @@
 use Rattle.std.proofs.Common.{◌≡◌, [], ◌∙◌, ap}
+use Rattle.ref_mark.proofs.Common.{Ground, CycleHeap, worklists_of}
 use Rattle.ref_base.specs.CollectorRows.{emptied as none_found}
-use Rattle.ref_objects.specs.Grounds.{Ground}
-use Rattle.ref_mark.specs.CycleHeaps.{CycleHeap}
-use Rattle.ref_mark.specs.MarkViews.{worklists_of}
 use Rattle.ref_mark.proofs.RoomLemmas.{roomy_cleared, roomy_whitened}
 use Rattle.ref_mark.proofs.marker.Marker.whiten.Goals as goal
 

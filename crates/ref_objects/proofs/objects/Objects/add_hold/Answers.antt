@@ -1,7 +1,6 @@
 use Rattle.std.proofs.Common.{◌≡◌, true, false, refl, sym, ◌∙◌}
 use Rattle.std.specs.Option.{is_some}
-use Rattle.ref_base.specs.Graphs.{is_there}
-use Rattle.ref_objects.specs.Tables.{Table, tabled_at, objects_of, more_held}
+use Rattle.ref_objects.proofs.Common.{is_there, Table, tabled_at, objects_of, more_held}
 use Rattle.ref_objects.proofs.TabledLemmas.{is_there-objects_of}
 use Rattle.ref_objects.proofs.ChangeLemmas.{changed-none}
 use Rattle.ref_objects.proofs.GroundLemmas.{sound_added, seen_added}

@@ -1,5 +1,5 @@
 use Rattle.std.proofs.Common.{refl}
-use Rattle.ref_base.specs.Heaps.{with_reference, cleared}
+use Rattle.ref_objects.proofs.Common.{with_reference, cleared}
 use Rattle.ref_objects.proofs.GroundLemmas.{sound_changed, seen_changed}
 use Rattle.ref_objects.proofs.objects.Objects.cut.Goals as goal
 

@@ -1,7 +1,6 @@
 use Rattle.std.proofs.Common.{◌≡◌, ◌<◌, true, false, nat_lt, refl, sym, ◌∙◌, arith}
 use Rattle.std.proofs.lemmas.Bool.{ltb-true}
-use Rattle.ref_base.specs.Members.{has}
-use Rattle.ref_objects.specs.Tables.{Table, tabled_at, holds_of, holds_in}
+use Rattle.ref_objects.proofs.Common.{has, Table, tabled_at, holds_of, holds_in}
 use Rattle.ref_objects.proofs.TabledLemmas.{holds_in-le, has-holds_of}
 use Rattle.ref_objects.proofs.ChangeLemmas.{changed-unheld}
 use Rattle.ref_objects.proofs.GroundLemmas.{sound_dropped, seen_dropped}

@@ -1,5 +1,5 @@
 use Rattle.std.proofs.Common.{arith}
-use Rattle.ref_objects.specs.Tables.{objects_of}
+use Rattle.ref_objects.proofs.Common.{objects_of}
 use Rattle.ref_objects.proofs.GroundLemmas.{length-objects_of, holds_in_order}
 use Rattle.ref_objects.proofs.MarkLemmas.{length-unmarked_of}
 use Rattle.ref_objects.proofs.MarkedLemmas.{there_below}

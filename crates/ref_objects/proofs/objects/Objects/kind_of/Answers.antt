@@ -1,6 +1,5 @@
 use Rattle.std.proofs.Common.{◌≡◌, true, Some, Option, sym, ◌∙◌, ap}
-use Rattle.ref_base.specs.Graphs.{Reference, object_at, is_there}
-use Rattle.ref_objects.specs.Grounds.{kind_by}
+use Rattle.ref_objects.proofs.Common.{Reference, object_at, is_there, kind_by}
 use Rattle.ref_objects.proofs.GroundLemmas.{kind_of-there}
 use Rattle.ref_objects.proofs.objects.Objects.kind_of.Goals as goal
 

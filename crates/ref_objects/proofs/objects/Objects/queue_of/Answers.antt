@@ -1,5 +1,5 @@
 use Rattle.std.proofs.Common.{sym, ◌∙◌, ap}
-use Rattle.ref_base.specs.Graphs.{Reference}
+use Rattle.ref_objects.proofs.Common.{Reference}
 use Rattle.ref_base.specs.Heaps.{registered_in}
 use Rattle.ref_objects.proofs.objects.Objects.queue_of.Goals as goal
 

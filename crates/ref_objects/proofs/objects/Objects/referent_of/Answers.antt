@@ -1,5 +1,5 @@
 use Rattle.std.proofs.Common.{sym, ◌∙◌, ap}
-use Rattle.ref_base.specs.Graphs.{Reference}
+use Rattle.ref_objects.proofs.Common.{Reference}
 use Rattle.ref_base.specs.CollectorRows.{referent_of}
 use Rattle.ref_objects.proofs.objects.Objects.referent_of.Goals as goal
 

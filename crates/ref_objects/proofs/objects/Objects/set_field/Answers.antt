@@ -1,5 +1,5 @@
 use Rattle.std.proofs.Common.{Bool, refl, sym, ◌∙◌, ap, None}
-use Rattle.ref_base.specs.Heaps.{with_field}
+use Rattle.ref_objects.proofs.Common.{with_field}
 use Rattle.ref_base.specs.Refusals.{unless}
 use Rattle.ref_base.specs.declared.fault.Fault.TheVariants.{BadField}
 use Rattle.ref_objects.proofs.ChangeLemmas.{changed-past}

@@ -1,6 +1,5 @@
 use Rattle.std.proofs.Common.{◌≡◌, length, ap, arith}
-use Rattle.ref_objects.specs.Tables.{Table, unmarked_of, objects_of, marked_of}
-use Rattle.ref_objects.specs.Grounds.{unmarked}
+use Rattle.ref_objects.proofs.Common.{Table, unmarked_of, objects_of, marked_of, unmarked}
 use Rattle.ref_objects.proofs.MarkLemmas.{unmarked-tabled, length-unmarked_of}
 use Rattle.ref_objects.proofs.objects.Objects.unmarked_count.Goals as goal
 

@@ -1,5 +1,5 @@
 use Rattle.std.proofs.Common.{◌∙◌, ap, sym}
-use Rattle.ref_objects.specs.Grounds.{least_from}
+use Rattle.ref_objects.proofs.Common.{least_from}
 use Rattle.ref_objects.proofs.MarkLemmas.{unmarked-tabled, unmarked_from-tabled}
 use Rattle.ref_objects.proofs.objects.Objects.unmarked_from.Goals as goal
 

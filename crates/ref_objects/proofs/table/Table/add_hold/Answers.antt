@@ -1,8 +1,7 @@
 use Rattle.std.proofs.Common.{◌≡◌, ◌∙◌, ◌<◌, ◌^◌, ◌-◌, length, ap, refl, sym, subst, arith}
 use Rattle.std.proofs.lemmas.List.{length-set}
 use Rattle.std.specs.Option.{is_some}
-use Rattle.ref_objects.specs.Tables.{Table, tabled_at, holds_of, holds_in, more_held, changed}
-use Rattle.ref_objects.specs.Places.{seen_table, tabled_by}
+use Rattle.ref_objects.proofs.Common.{Table, tabled_at, holds_of, holds_in, more_held, changed, seen_table, tabled_by}
 use Rattle.ref_objects.proofs.TabledLemmas.{holds_in-le}
 use Rattle.ref_objects.proofs.PlaceLemmas.{IsPlaceOf-lent, IsMissing-lent}
 use Rattle.ref_objects.proofs.ChangeLemmas.{told_of, told_of_none, there, tabled_by-changed, seen_changed}

@@ -1,5 +1,5 @@
 use Rattle.std.proofs.Common.{◌∙◌, ap, arith}
-use Rattle.ref_objects.specs.Tables.{Table}
+use Rattle.ref_objects.proofs.Common.{Table}
 use Rattle.ref_objects.proofs.PushLemmas.{seen_closed, placed_closed}
 use Rattle.ref_objects.proofs.MarkLemmas.{marks_same}
 use Rattle.ref_objects.proofs.table.Table.close_gaps.Goals as goal

@@ -1,7 +1,6 @@
 use Rattle.std.proofs.Common.{◌∙◌, nat_lt, ap, refl, arith}
 use Rattle.std.proofs.lemmas.List.{length-set}
-use Rattle.ref_objects.specs.Tables.{Table, tabled_at, holds_in, less_held, changed}
-use Rattle.ref_objects.specs.Places.{tabled_by}
+use Rattle.ref_objects.proofs.Common.{Table, tabled_at, holds_in, less_held, changed, tabled_by}
 use Rattle.ref_objects.proofs.PlaceLemmas.{IsPlaceOf-lent, IsMissing-lent}
 use Rattle.ref_objects.proofs.ChangeLemmas.{told_of, told_of_none, tabled_by-changed, seen_changed, placed_changed}
 use Rattle.ref_objects.proofs.ChangeLemmas.{seen_missing_changed}

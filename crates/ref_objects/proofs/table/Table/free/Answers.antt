@@ -1,8 +1,7 @@
 use Rattle.std.proofs.Common.{◌∙◌, ap, sym, arith}
 use Rattle.std.proofs.lemmas.List.{length-set}
 use Rattle.std.specs.Int.{from_bool}
-use Rattle.ref_objects.specs.Places.{tabled_by}
-use Rattle.ref_objects.specs.Tables.{Table, tabled_at, is_unheld, is_marked_in, table_freed}
+use Rattle.ref_objects.proofs.Common.{tabled_by, Table, tabled_at, is_unheld, is_marked_in, table_freed}
 use Rattle.ref_objects.proofs.PlaceLemmas.{IsPlaceOf-lent, IsMissing-lent}
 use Rattle.ref_objects.proofs.ChangeLemmas.{held_here, unheld_here, room_to_free, seen_freed, seen_tabled, placed_freed}
 use Rattle.ref_objects.proofs.ChangeLemmas.{tabled_by-freed, told_of_none, seen_missing_freed}

@@ -1,6 +1,6 @@
 use Rattle.std.proofs.Common.{◌∙◌, ap}
 use Rattle.std.specs.Option.{is_some}
-use Rattle.ref_objects.specs.Tables.{Table, tabled_at}
+use Rattle.ref_objects.proofs.Common.{Table, tabled_at}
 use Rattle.ref_objects.proofs.ChangeLemmas.{found_where_there}
 use Rattle.ref_objects.proofs.table.Table.has.Goals as goal
 

@@ -1,8 +1,7 @@
 use Rattle.std.proofs.Common.{true, ◌∙◌, ap, sym, refl, arith}
 use Rattle.std.proofs.lemmas.List.{length-set}
 use Rattle.std.specs.Int.{from_bool}
-use Rattle.ref_objects.specs.Places.{tabled_by}
-use Rattle.ref_objects.specs.Tables.{Table, tabled_at, changed, is_unmarked_in, with_marked}
+use Rattle.ref_objects.proofs.Common.{tabled_by, Table, tabled_at, changed, is_unmarked_in, with_marked}
 use Rattle.ref_objects.proofs.PlaceLemmas.{IsPlaceOf-lent, IsMissing-lent}
 use Rattle.ref_objects.proofs.ChangeLemmas.{tabled_by-changed, seen_changed, placed_changed, seen_missing_changed}
 use Rattle.ref_objects.proofs.MarkLemmas.{from_bool-le, length-unmarked_of, tabled_at-found, tabled_at-missing}

@@ -1,7 +1,6 @@
 use Rattle.std.proofs.Common.{◌≡◌, ◌∙◌, ◌<◌, ap, sym, subst, refl, arith}
 use Rattle.std.proofs.lemmas.List.{length-set}
-use Rattle.ref_objects.specs.Places.{tabled_by}
-use Rattle.ref_objects.specs.Tables.{Table, made_entry, with_tabled}
+use Rattle.ref_objects.proofs.Common.{tabled_by, Table, made_entry, with_tabled}
 use Rattle.ref_objects.proofs.PushLemmas.{can_make, tabled_by-made, seen_made, placed_made}
 use Rattle.ref_objects.proofs.MarkLemmas.{marks_made}
 use Rattle.ref_objects.proofs.table.Table.push.Goals as goal

@@ -1,8 +1,6 @@
 use Rattle.std.proofs.Common.{◌∙◌, ap, refl, arith}
 use Rattle.std.proofs.lemmas.List.{length-set}
-use Rattle.ref_base.specs.Heaps.{with_field}
-use Rattle.ref_objects.specs.Tables.{Table, tabled_at, has_field, on_object, changed}
-use Rattle.ref_objects.specs.Places.{tabled_by}
+use Rattle.ref_objects.proofs.Common.{with_field, Table, tabled_at, has_field, on_object, changed, tabled_by}
 use Rattle.ref_objects.proofs.PlaceLemmas.{IsPlaceOf-lent, IsMissing-lent}
 use Rattle.ref_objects.proofs.ChangeLemmas.{told_of, told_of_none, tabled_by-changed, seen_changed, placed_changed}
 use Rattle.ref_objects.proofs.ChangeLemmas.{seen_missing_changed}

@@ -1,9 +1,6 @@
 use Rattle.std.proofs.Common.{◌∙◌, ap, refl, arith}
 use Rattle.std.proofs.lemmas.List.{length-set}
-use Rattle.ref_base.specs.Heaps.{with_reference, with_stamp}
-use Rattle.ref_objects.specs.Tables.{on_object}
-use Rattle.ref_objects.specs.Tables.{Table, changed}
-use Rattle.ref_objects.specs.Places.{tabled_by}
+use Rattle.ref_objects.proofs.Common.{with_reference, with_stamp, on_object, Table, changed, tabled_by}
 use Rattle.ref_objects.proofs.PlaceLemmas.{IsPlaceOf-lent, IsMissing-lent}
 use Rattle.ref_objects.proofs.ChangeLemmas.{tabled_by-changed, seen_changed, placed_changed, seen_missing_changed}
 use Rattle.ref_objects.proofs.MarkLemmas.{marks_changed}

@@ -1,7 +1,6 @@
 use Rattle.std.proofs.Common.{◌≡◌, ◌∙◌, ap, length, map, arith}
 use Rattle.std.proofs.lemmas.List.{length-map, with_items_is}
-use Rattle.ref_objects.specs.Places.{unmarked_cell}
-use Rattle.ref_objects.specs.Tables.{Table, table_unmarked}
+use Rattle.ref_objects.proofs.Common.{unmarked_cell, Table, table_unmarked}
 use Rattle.ref_objects.proofs.UnmarkedLemmas.{length-without_marks, seen_without_marks, placed_without_marks}
 use Rattle.ref_objects.proofs.UnmarkedLemmas.{none_marked}
 use Rattle.ref_objects.proofs.table.Table.unmark_all.Goals as goal

@@ -1,5 +1,5 @@
 use Rattle.std.proofs.Common.{refl, ap, arith}
-use Rattle.ref_objects.specs.Places.{tabled_by}
+use Rattle.ref_objects.proofs.Common.{tabled_by}
 use Rattle.ref_objects.proofs.TableLemmas.{placed_new, length_new}
 use Rattle.ref_objects.proofs.MarkLemmas.{marks_same}
 use Rattle.ref_objects.proofs.table.Table.with_room.Goals as goal

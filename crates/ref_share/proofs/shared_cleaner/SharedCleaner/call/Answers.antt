@@ -1,5 +1,5 @@
 use Rattle.ref_share.proofs.Seats.{call_stays}
-use Rattle.ref_share.specs.CleanMachines.{IsCleanMove, IsTheTable}
+use Rattle.ref_share.proofs.Common.{IsCleanMove, IsTheTable}
 use Rattle.ref_share.proofs.shared_cleaner.SharedCleaner.call.Goals as goal
 
 pub returns-clause-seat : goal.returns-clause-seat

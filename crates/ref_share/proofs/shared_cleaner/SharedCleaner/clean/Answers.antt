@@ -1,6 +1,5 @@
 use Rattle.std.proofs.Common.{subst}
-use Rattle.ref_turn.specs.Turns.{view}
-use Rattle.ref_share.specs.Cleanings.{TakesJob}
+use Rattle.ref_share.proofs.Common.{view, TakesJob}
 use Rattle.ref_share.proofs.shared_cleaner.SharedCleaner.clean.Goals as goal
 
 pub returns-in-Some-clause-cleans : goal.returns-in-Some-clause-cleans

@@ -1,7 +1,6 @@
 use Rattle.std.proofs.Common.{inr}
-use Rattle.ref_turn.specs.Turns.{view}
+use Rattle.ref_share.proofs.Common.{view, heap_view}
 use Rattle.ref_share.proofs.CleanCalls.{has_taken}
-use Rattle.ref_share.specs.HeapSeats.{heap_view}
 use Rattle.ref_share.proofs.shared_cleaner.SharedCleaner.clean_dead.Goals as goal
 
 pub returns-in-Ok-clause-cleans : goal.returns-in-Ok-clause-cleans

@@ -1,11 +1,7 @@
 use Rattle.std.proofs.Common.{[], Ok, inl, inr, refl, subst, arith}
 use Rattle.std.proofs.lemmas.Result.{err_from_is_err_and}
-use Rattle.ref_turn.specs.Turns.{view}
+use Rattle.ref_share.proofs.Common.{view, CleansDead, heap_view, PollsUntil, queue_view}
 use Rattle.ref_share.proofs.CleanRounds.{gone_nowhere, gone_in_vain, gone_for_a_job, job_is_a_call}
-use Rattle.ref_share.specs.Cleanings.{CleansDead}
-use Rattle.ref_share.specs.HeapSeats.{heap_view}
-use Rattle.ref_share.specs.QueueCalls.{PollsUntil}
-use Rattle.ref_share.specs.QueueSeats.{queue_view}
 use Rattle.ref_share.proofs.shared_cleaner.SharedCleaner.clean_loop.Goals as goal
 
 pub loop-init : goal.loop-init

@@ -1,9 +1,6 @@
 use Rattle.std.proofs.Common.{◌≡◌, List}
-use Rattle.ref_turn.specs.Turns.{view}
-use Rattle.ref_share.specs.CleanLoops.{Round, HasGone, jobs_run}
+use Rattle.ref_share.proofs.Common.{view, Round, HasGone, jobs_run, heap_view, IsHeapSeat, queue_view, IsQueueSeat}
 use Rattle.ref_share.specs.CleanSeats.{IsCleanSeat}
-use Rattle.ref_share.specs.HeapSeats.{heap_view, IsHeapSeat}
-use Rattle.ref_share.specs.QueueSeats.{queue_view, IsQueueSeat}
 use Rattle.ref_share.proofs.shared_cleaner.SharedCleaner.clean_loop.Given as goal
 
 abbrev pub invariant-loop : goal.invariant-loop

@@ -1,8 +1,6 @@
 use Rattle.std.proofs.Common.{subst}
-use Rattle.ref_turn.specs.Seats.{EndsAs}
-use Rattle.ref_turn.specs.Turns.{view}
+use Rattle.ref_share.proofs.Common.{EndsAs, view, IsCleanMove, IsTheTable}
 use Rattle.ref_share.proofs.Seats.{left_so}
-use Rattle.ref_share.specs.CleanMachines.{IsCleanMove, IsTheTable}
 use Rattle.ref_share.proofs.shared_cleaner.SharedCleaner.finish.Goals as goal
 
 pub returns-in-Ok : goal.returns-in-Ok

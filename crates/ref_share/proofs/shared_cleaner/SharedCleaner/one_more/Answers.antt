@@ -1,6 +1,6 @@
 use Rattle.std.proofs.Common.{length, ap, arith, subst, ◌≤◌}
 use Rattle.ref_turn.proofs.Logs.{calls_by-shorter}
-use Rattle.ref_turn.specs.Turns.{view}
+use Rattle.ref_share.proofs.Common.{view}
 use Rattle.ref_share.proofs.shared_cleaner.SharedCleaner.one_more.Goals as goal
 
 pub unreachable-requires : goal.unreachable-requires

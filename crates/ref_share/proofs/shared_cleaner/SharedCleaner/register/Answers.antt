@@ -1,6 +1,5 @@
 use Rattle.std.proofs.Common.{Err, subst}
-use Rattle.ref_share.specs.HeapSeats.{heap_view}
-use Rattle.ref_share.specs.Releases.{Releases}
+use Rattle.ref_share.proofs.Common.{heap_view, Releases}
 use Rattle.ref_share.proofs.shared_cleaner.SharedCleaner.register.Goals as goal
 
 pub returns-in-Err-release-clause-registers : goal.returns-in-Err-release-clause-registers

@@ -1,7 +1,5 @@
-use Rattle.ref_turn.specs.Seats.{EndsAs}
-use Rattle.ref_turn.specs.Turns.{view}
+use Rattle.ref_share.proofs.Common.{EndsAs, view, StandsFor, IsHeapMove}
 use Rattle.ref_share.proofs.Seats.{left_so}
-use Rattle.ref_share.specs.HeapMachines.{StandsFor, IsHeapMove}
 use Rattle.std.proofs.Common.{subst}
 use Rattle.ref_share.proofs.shared_heap.SharedHeap.finish.Goals as goal
 

@@ -1,5 +1,5 @@
 use Rattle.ref_share.proofs.Seats.{seat_stays}
-use Rattle.ref_share.specs.HeapMachines.{StandsFor, IsHeapMove}
+use Rattle.ref_share.proofs.Common.{StandsFor, IsHeapMove}
 use Rattle.ref_share.proofs.shared_heap.SharedHeap.served.Goals as goal
 
 pub returns-clause-seat : goal.returns-clause-seat

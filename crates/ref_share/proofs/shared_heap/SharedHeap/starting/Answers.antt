@@ -1,8 +1,6 @@
 use Rattle.std.proofs.Common.{refl, ap}
-use Rattle.ref_clear.specs.ClearHeaps.{ClearHeap}
+use Rattle.ref_share.proofs.Common.{ClearHeap, StandsFor, IsHeapMove, first_heap_state}
 use Rattle.ref_share.proofs.Seats.{first_seat}
-use Rattle.ref_share.specs.HeapMachines.{StandsFor, IsHeapMove}
-use Rattle.ref_share.specs.HeapSeats.{first_heap_state}
 use Rattle.ref_share.proofs.shared_heap.SharedHeap.starting.Goals as goal
 
 pub returns-in-Ok-clause-made : goal.returns-in-Ok-clause-made

@@ -1,9 +1,6 @@
 use Rattle.std.proofs.Common.{subst}
-use Rattle.ref_turn.specs.Seats.{EndsAs}
-use Rattle.ref_turn.specs.Turns.{view}
+use Rattle.ref_share.proofs.Common.{EndsAs, view, IsQueueMove, IsItself}
 use Rattle.ref_share.proofs.Seats.{left_so}
-use Rattle.ref_share.specs.QueueMachines.{IsQueueMove}
-use Rattle.ref_share.specs.QueueSeats.{IsItself}
 use Rattle.ref_share.proofs.shared_queue.SharedQueue.finish.Goals as goal
 
 pub returns-in-Ok : goal.returns-in-Ok

@@ -1,6 +1,5 @@
 use Rattle.ref_share.proofs.Seats.{seat_stays}
-use Rattle.ref_share.specs.QueueMachines.{IsQueueMove}
-use Rattle.ref_share.specs.QueueSeats.{IsItself}
+use Rattle.ref_share.proofs.Common.{IsQueueMove, IsItself}
 use Rattle.ref_share.proofs.shared_queue.SharedQueue.join.Goals as goal
 
 pub returns-clause-seat : goal.returns-clause-seat

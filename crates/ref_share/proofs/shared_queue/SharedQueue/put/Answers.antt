@@ -1,6 +1,5 @@
 use Rattle.ref_share.proofs.Seats.{call_stays}
-use Rattle.ref_share.specs.QueueMachines.{IsQueueMove}
-use Rattle.ref_share.specs.QueueSeats.{IsItself}
+use Rattle.ref_share.proofs.Common.{IsQueueMove, IsItself}
 use Rattle.ref_share.specs.declared.queue_machine.QueueStep.TheVariants as steps
 use Rattle.ref_share.proofs.shared_queue.SharedQueue.put.Goals as goal
 

@@ -1,7 +1,5 @@
 use Rattle.std.proofs.Common.{ℕ}
-use Rattle.ref_share.specs.QueueCalls.{empty_polls}
-use Rattle.ref_share.specs.QueueSeats.{queue_view, IsQueueSeat}
-use Rattle.ref_share.specs.SeatCalls.{Made}
+use Rattle.ref_share.proofs.Common.{empty_polls, queue_view, IsQueueSeat, Made}
 use Rattle.ref_share.proofs.shared_queue.SharedQueue.remove_wait.Given as goal
 
 abbrev pub invariant-loop : goal.invariant-loop

@@ -1,8 +1,7 @@
 use Rattle.std.proofs.Common.{◌≡◌, None, refl, sym, subst, ◌∙◌}
 use Rattle.std.proofs.lemmas.Result.{err_from_is_err_and}
-use Rattle.ref_base.specs.Refusals.{drop_refusal}
+use Rattle.ref_world.proofs.Common.{drop_refusal, Core}
 use Rattle.ref_base.specs.declared.step.Step.TheVariants as steps
-use Rattle.ref_world.specs.Cores.{Core}
 use Rattle.ref_world.proofs.HandRows.{adopt_reply, adopt_done, adopted_told}
 use Rattle.ref_world.proofs.Refusals.{empty_at_adopt}
 use Rattle.ref_world.proofs.SoundCores.{sound_after}

@@ -1,5 +1,5 @@
 use Rattle.std.proofs.Common.{refl, ◌∙◌}
-use Rattle.ref_world.specs.Cores.{Core}
+use Rattle.ref_world.proofs.Common.{Core}
 use Rattle.ref_world.proofs.AskedRows.{as_told, quiet_row}
 use Rattle.ref_world.proofs.SoundCores.{sound_after}
 use Rattle.ref_world.proofs.world.World.ask.Goals as goal

@@ -1,10 +1,8 @@
 use Rattle.std.proofs.Common.{◌≡◌, true, None, refl, sym, ap, subst, ◌∙◌, arith}
 use Rattle.std.specs.Prelude.{slice_set}
-use Rattle.ref_base.specs.QueueLists.{Lists}
-use Rattle.ref_base.specs.Worlds.{Notice}
+use Rattle.ref_world.proofs.Common.{Lists, Notice, Core, calling_refusal}
 use Rattle.ref_base.specs.declared.reply.Reply.TheVariants as replies
 use Rattle.ref_base.specs.declared.step.Step.TheVariants as steps
-use Rattle.ref_world.specs.Cores.{Core, calling_refusal}
 use Rattle.ref_world.proofs.QueueRows.{read_here, queue_back, open_from, closed_from, close_row, shut_row}
 use Rattle.ref_world.proofs.Refusals.{queue_within}
 use Rattle.ref_world.proofs.SoundCores.{sound_queue_after}

@@ -2,8 +2,7 @@ use Rattle.std.proofs.Common.{refl}
 use Rattle.std.proofs.lemmas.Result.{err_from_is_err_and}
 use Rattle.ref_base.specs.declared.heap_step.HeapStep.TheVariants as heap
 use Rattle.ref_base.specs.declared.step.Step.TheVariants as steps
-use Rattle.ref_base.specs.declared.actor.Actor.TheVariants.{Worker}
-use Rattle.ref_world.specs.Cores.{Core}
+use Rattle.ref_world.proofs.Common.{Worker, Core}
 use Rattle.ref_world.proofs.AskedRows.{as_told}
 use Rattle.ref_world.proofs.HandRows.{hand_row, free_from}
 use Rattle.ref_world.proofs.Refusals.{full_at_hand}

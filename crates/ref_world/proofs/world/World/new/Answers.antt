@@ -1,9 +1,5 @@
 use Rattle.std.proofs.Common.{sym, subst}
-use Rattle.ref_base.specs.Collectors.{first_state}
-use Rattle.ref_clear.specs.ClearHeaps.{ClearHeap}
-use Rattle.ref_clear.specs.Standing.{HeapStands}
-use Rattle.ref_world.specs.Cores.{Core}
-use Rattle.ref_world.specs.Standing.{Stands, IsSound}
+use Rattle.ref_world.proofs.Common.{first_state, ClearHeap, HeapStands, Core, Stands, IsSound}
 use Rattle.ref_world.proofs.FirstCores.{first_stands, first_sound, made_core}
 use Rattle.ref_world.proofs.world.World.new.Goals as goal
 

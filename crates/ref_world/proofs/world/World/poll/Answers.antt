@@ -1,12 +1,9 @@
 use Rattle.std.proofs.Common.{◌≡◌, None, Some, refl, sym, ap, subst, ◌∙◌, arith}
 use Rattle.std.proofs.lemmas.Result.{err_from_is_err_and}
 use Rattle.std.specs.Prelude.{slice_set}
-use Rattle.ref_base.specs.QueueLists.{Lists, with_taken}
-use Rattle.ref_base.specs.declared.actor.Actor.TheVariants.{Mutator}
+use Rattle.ref_world.proofs.Common.{Lists, with_taken, Mutator, Notice, object_of, Core, calling_refusal, with_hand_in}
 use Rattle.ref_base.specs.declared.reply.Reply.TheVariants as replies
 use Rattle.ref_base.specs.declared.step.Step.TheVariants as steps
-use Rattle.ref_base.specs.Worlds.{Notice, object_of}
-use Rattle.ref_world.specs.Cores.{Core, calling_refusal, with_hand_in}
 use Rattle.ref_world.proofs.HandRows.{free_from}
 use Rattle.ref_world.proofs.QueueRows.{read_here, queue_back, took_row, empty_row, ended_row}
 use Rattle.ref_world.proofs.Refusals.{full_at_poll, queue_within}

@@ -1,13 +1,11 @@
 use Rattle.std.proofs.Common.{◌≡◌, Ok, None, Some, refl, ap, subst, ◌∙◌, arith}
 use Rattle.std.proofs.lemmas.Result.{err_from_is_err_and}
 use Rattle.std.specs.Prelude.{slice_index_or, slice_set}
-use Rattle.ref_base.specs.QueueLists.{Lists, with_parcel}
-use Rattle.ref_base.specs.Worlds.{Notice, object_of}
+use Rattle.ref_world.proofs.Common.{Lists, with_parcel, Notice, object_of, Core, Hands, with_hand_in}
 use Rattle.ref_base.specs.declared.reply.Reply.TheVariants as replies
 use Rattle.ref_base.specs.declared.step.Step.TheVariants as steps
 use Rattle.ref_queue.specs.QueueAnswers.{AnswersPut, after_put}
 use Rattle.ref_queue.specs.declared.queue.Put.{Put}
-use Rattle.ref_world.specs.Cores.{Core, Hands, with_hand_in}
 use Rattle.ref_world.proofs.QueueRows.{read_here, queue_back, put_back, added_row, already_row, closed_row}
 use Rattle.ref_world.proofs.QueueRows.{refused_put_row}
 use Rattle.ref_world.proofs.ReachedCores.{hand_has_queue}

@@ -1,6 +1,5 @@
 use Rattle.std.proofs.Common.{◌<◌, length, ap, arith}
-use Rattle.ref_base.specs.declared.config.Config.{Config}
-use Rattle.ref_world.specs.Cores.{Core}
+use Rattle.ref_world.proofs.Common.{Config, Core}
 use Rattle.ref_world.proofs.QueueRows.{read_here}
 use Rattle.ref_world.proofs.ReachedCores.{queue_count}
 use Rattle.ref_world.proofs.world.World.queue.Goals as goal

@@ -1,7 +1,7 @@
 use Rattle.std.proofs.Common.{refl, ◌∙◌}
 use Rattle.std.proofs.lemmas.Result.{err_from_is_err_and}
 use Rattle.ref_base.specs.declared.step.Step.TheVariants as steps
-use Rattle.ref_world.specs.Cores.{Core}
+use Rattle.ref_world.proofs.Common.{Core}
 use Rattle.ref_world.proofs.HandRows.{release_reply, release_done, released_told}
 use Rattle.ref_world.proofs.Refusals.{empty_at_release}
 use Rattle.ref_world.proofs.SoundCores.{sound_after}

@@ -1,10 +1,8 @@
 use Rattle.std.proofs.Common.{◌≡◌, None, refl, sym, subst}
 use Rattle.std.proofs.lemmas.Result.{err_from_is_err_and}
-use Rattle.ref_base.specs.Refusals.{drop_refusal}
+use Rattle.ref_world.proofs.Common.{drop_refusal, Mutator, Core}
 use Rattle.ref_base.specs.declared.heap_step.HeapStep.TheVariants as heap
 use Rattle.ref_base.specs.declared.step.Step.TheVariants as steps
-use Rattle.ref_base.specs.declared.actor.Actor.TheVariants.{Mutator}
-use Rattle.ref_world.specs.Cores.{Core}
 use Rattle.ref_world.proofs.AskedRows.{as_told}
 use Rattle.ref_world.proofs.HandRows.{unhook_row, free_from}
 use Rattle.ref_world.proofs.Refusals.{full_at_unhook}

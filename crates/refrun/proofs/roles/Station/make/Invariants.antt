@@ -1,4 +1,4 @@
-use Rattle.refrun.specs.StressSeats.{StaysSeated}
+use Rattle.refrun.proofs.Common.{StaysSeated}
 use Rattle.refrun.proofs.roles.Station.make.Given as goal
 
 abbrev pub invariant-loop : goal.invariant-loop

@@ -1,0 +1,43 @@
+-- The words of the model that most proofs cite, passed on from one place. Declares nothing.
+pub use Rattle.ref_base.specs.CollectorRows.{ClearsNext, HandsOn, HeapAccepts, IsHeapRow, Unhooks, field_in, list_at}
+pub use Rattle.ref_base.specs.CollectorRows.{on_heap, reference_of, referent_of, shown, ticked, with_world, without}
+pub use Rattle.ref_base.specs.Collectors.{State, joined}
+pub use Rattle.ref_base.specs.DoomedSets.{any_is, refers_into}
+pub use Rattle.ref_base.specs.Forgetting.{forgotten, heap_but}
+pub use Rattle.ref_base.specs.Graphs.{Object, Reference, is_there, numbers, object_at, plain_object}
+pub use Rattle.ref_base.specs.HeapSteps.{NamedStep}
+pub use Rattle.ref_base.specs.Heaps.{Heap, changed_in, changed_reference, cleared, cut, got, got_at, made}
+pub use Rattle.ref_base.specs.Heaps.{new_reference, nulls, one_more, reference_at, reference_in, registered_in}
+pub use Rattle.ref_base.specs.Heaps.{slot_at, stored, with_changed, with_field, with_hold, with_reference}
+pub use Rattle.ref_base.specs.KeptPaths.{is_kept}
+pub use Rattle.ref_base.specs.Members.{AreDistinct, has}
+pub use Rattle.ref_base.specs.Paths.{Allowed, allowed_referent, present, soft_and_weak_referents, targets_at}
+pub use Rattle.ref_base.specs.Paths.{targets_of}
+pub use Rattle.ref_base.specs.Refusals.{hand_refusal, has_slot, heap_refusal, holds_refusal, is_empty, is_in}
+pub use Rattle.ref_base.specs.Refusals.{is_worker, unless, work_refusal}
+pub use Rattle.ref_base.specs.Replay.{handed_on}
+pub use Rattle.ref_base.specs.Strengths.{IsRising}
+pub use Rattle.ref_base.specs.Worlds.{Pending, World, graph_of, pending_numbers, pending_of, with_heap}
+pub use Rattle.ref_base.specs.declared.cause.Cause.TheVariants.{Cycle, Own}
+pub use Rattle.ref_base.specs.declared.config.Config.{Config}
+pub use Rattle.ref_base.specs.declared.fault.Fault.{Fault}
+pub use Rattle.ref_base.specs.declared.fault.Fault.TheVariants.{ClearingLeft, NoSuchActor, SweepLeft, WrongPhase}
+pub use Rattle.ref_base.specs.declared.phase.Phase.TheVariants.{Clearing, Idle, Marking, Sweeping}
+pub use Rattle.ref_base.specs.declared.reply.Reply.{Reply}
+pub use Rattle.ref_base.specs.declared.urgency.Urgency.{Urgency}
+pub use Rattle.ref_objects.specs.Grounds.{Ground, least_from, mint_refusal, unmarked}
+pub use Rattle.ref_mark.specs.CycleHeaps.{CycleHeap, cycle_begun, cycle_in_phase, doomed, is_black, is_doomed}
+pub use Rattle.ref_mark.specs.CycleHeaps.{is_in_cycle, is_past_mark, is_white, policy_in, shaded, shaded_all}
+pub use Rattle.ref_mark.specs.CycleHeaps.{with_cleared, with_found_taken}
+pub use Rattle.ref_mark.specs.MarkCalls.{after_mint_in, is_of_marking, mint_answer_in, unless_refused}
+pub use Rattle.ref_mark.specs.MarkRows.{starting_state}
+pub use Rattle.ref_mark.specs.MarkViews.{ground_of}
+pub use Rattle.ref_mark.specs.Standing.{FactsBut, MarkStands, ReadsAs, shown_heap, unsaid}
+pub use Rattle.ref_mark.specs.Worklists.{first_in, rest_of}
+pub use Rattle.ref_clear.specs.ClearCalls.{after_in, answer_in, answer_of_hand, answer_of_look, answer_of_sweep}
+pub use Rattle.ref_clear.specs.ClearCalls.{answer_of_unhook, queue_in, refusal_in}
+pub use Rattle.ref_clear.specs.ClearHeaps.{ClearHeap, begun_with, cut_at, handed_from, heap_pended, holding}
+pub use Rattle.ref_clear.specs.ClearHeaps.{is_to_clear, looked_from, pending_at, swept_some, unhooked, with_mark}
+pub use Rattle.ref_clear.specs.ClearViews.{HaveRoom, IsSoundHeap, MaySweep, PendingList, empty_pending, numbers_in}
+pub use Rattle.ref_clear.specs.ClearViews.{pending_from, pending_lists_of, seen_heap, without_first_pending}
+pub use Rattle.ref_clear.specs.Standing.{ArePending, HeapStands}
