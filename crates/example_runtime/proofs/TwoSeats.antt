@@ -1,5 +1,6 @@
 -- The seats of two queues, place by place.
-use Rattle.std.proofs.Common.{◌≡◌, ℕ, zero, suc, List, [], ◌∷◌, ◌++◌, length, length-append, Some, ap, subst, ◌∙◌, arith}
+use Rattle.std.proofs.Common.{◌≡◌, ℕ, zero, suc, List, [], ◌∷◌, ◌++◌, length, length-append, Some, ap, subst, ◌∙◌}
+use Rattle.std.proofs.Common.{arith}
 use Rattle.std.proofs.Common.{slice_get, sym}
 use Rattle.std.proofs.lemmas.Option.{same_Some}
 use Rattle.ref_share.specs.Deliveries.{AreSeats}

@@ -1,7 +1,8 @@
 -- Tests by which one shows of a concrete graph that a mark's end may doom what it dooms.
 use Rattle.std.proofs.Common.{◌≡◌, ℕ, Bool, true, false, not, ◌&&◌, ◌||◌, ◌==◌, sym, subst, ◌∙◌}
 use Rattle.std.proofs.Common.{List, [], ◌∷◌, ◌⊎◌, inl, inr}
-use Rattle.std.proofs.lemmas.Bool.{cases_Bool, or_cases, true≢false, false≢true, eqb-true, and_parts, or_parts, not-true}
+use Rattle.std.proofs.lemmas.Bool.{cases_Bool, or_cases, true≢false, false≢true, eqb-true, and_parts, or_parts}
+use Rattle.std.proofs.lemmas.Bool.{not-true}
 use Rattle.std.specs.List.{AllByRecursion}
 use Rattle.ref_base.proofs.Common.{has, Graph, Object, is_there, numbers, Allowed, targets_at, Policy, is_kept}
 use Rattle.ref_base.proofs.Common.{EverKept, MayDoom, meets}
@@ -46,8 +47,8 @@ stay_off_has allow os set (m ∷ ms) all = (
       (and_parts (has set m || not (meets set (targets_at allow os m))) (stay_off allow os set ms) all).1,
 )
 
--- a mark may doom these objects where what is closed doesn't meet them, each object is one of them or was ever kept, and
--- no other has a target among them
+-- a mark may doom these objects where what is closed doesn't meet them, each object is one of them or was ever kept,
+-- and no other has a target among them
 pub may_doom : (p : Policy) (g : Graph) (moments : List Graph) (d live : List ℕ)
     → is_closed (is_kept p) g live ≡ true → meets d live ≡ false
     → AllByRecursion (λ n. (has d n ≡ true) ⊎ EverKept p moments n) (numbers g.objects)

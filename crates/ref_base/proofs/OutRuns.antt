@@ -174,14 +174,16 @@ module _ (config : Config) (past : List Row) (gone : List ℕ) (a : State) (row 
             (rows_more config past (row ∷ []) gone a out)))
         | inr others ↦ elim others [
           | inl of ↦
-              subst (λ (asked : Option NamedStep). AreOut config rows (gone_next a gone asked row.reply) b) (sym of.asks)
+              subst (λ (asked : Option NamedStep). AreOut config rows (gone_next a gone asked row.reply) b)
+              (sym of.asks)
               (rows_more config past (row ∷ []) gone b
               (same_out (WasDoomed config past) (MarkEnded config past) gone a b out
               (ap (λ (s : State). but_hands s.world) (queues_lead of) ∙ queues_keep a.world row.step row.reply)
               (ap (λ (s : State). s.doomed) (queues_lead of)) (ap (λ (s : State). s.cleared) (queues_lead of))))
           | inr of ↦
               let now : List ℕ = gone_after a gone of.asked row.reply in
-              subst (λ (asked : Option NamedStep). AreOut config rows (gone_next a gone asked row.reply) b) (sym of.asks)
+              subst (λ (asked : Option NamedStep). AreOut config rows (gone_next a gone asked row.reply) b)
+              (sym of.asks)
               (same_out (WasDoomed config rows) (MarkEnded config rows) now of.left b
               (asked_out of.left of.asked of.asks of.passes of.accepts)
               (ap (λ (s : State). but_hands s.world) of.after ∙ handed_keeps of.left.world row.step row.reply)

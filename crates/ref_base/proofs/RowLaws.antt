@@ -1,6 +1,7 @@
 -- Each row of the abstract collector does to queues and hands what it says.
 use Rattle.std.proofs.Common.{◌≡◌, ℕ, ◌+◌, ◌*◌, ◌<◌, Bool, true, false, if◌then◌else◌}
-use Rattle.std.proofs.Common.{List, [], ◌∷◌, ◌++◌, length, map, take, Option, Some, None, inl, inr, refl, sym, ap, ◌∙◌, subst}
+use Rattle.std.proofs.Common.{List, [], ◌∷◌, ◌++◌, length, map, take, Option, Some, None, inl, inr, refl, sym, ap, ◌∙◌}
+use Rattle.std.proofs.Common.{subst}
 use Rattle.std.specs.Prelude.{slice_set}
 use Rattle.std.specs.List.{AllByRecursion}
 use Rattle.std.proofs.lemmas.Bool.{cases_Bool, ltb-true, and_parts}
@@ -20,7 +21,8 @@ use Rattle.ref_base.specs.declared.heap_step.HeapStep.TheVariants as heap
 use Rattle.ref_base.specs.declared.step.Step.TheVariants as steps
 use Rattle.ref_base.specs.declared.reply.Reply.TheVariants as replies
 use Rattle.ref_base.proofs.Places.{all_push}
-use Rattle.ref_base.proofs.SoundWorlds.{QueueBelow, ObjectBelow, PendingBelow, HasHand, IsSound, sound_rest, sound_stored}
+use Rattle.ref_base.proofs.SoundWorlds.{QueueBelow, ObjectBelow, PendingBelow, HasHand, IsSound, sound_rest}
+use Rattle.ref_base.proofs.SoundWorlds.{sound_stored}
 use Rattle.ref_base.proofs.SoundWorlds.{sound_cut, sound_got, sound_made, sound_shown, sound_swept, sound_pending}
 use Rattle.ref_base.proofs.SoundWorlds.{held_below, registered_below, without_pending_below}
 use Rattle.ref_base.proofs.QueueLaws.{as_held, move_by, no_move, Goes, IsStill, same, stays, sets_hand, goes_after}

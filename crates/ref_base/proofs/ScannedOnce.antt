@@ -34,7 +34,8 @@ legal_left config rows b run =
     (λ _ said. absurd (false≢true said)) rows b run
 
 grey : (a b : State) (marks left : Bool)
-    → IsHeapAnswer a (unless marks WrongPhase (unless (not left) GreyLeft None)) heap.EndMark (replies.Refused GreyLeft) b
+    → IsHeapAnswer a (unless marks WrongPhase (unless (not left) GreyLeft None)) heap.EndMark (replies.Refused GreyLeft)
+    b
     → (marks ≡ true) × (left ≡ true)
 grey a b true true row = (refl, refl)
 grey a b true false row = let no = row.answer in absurd cc

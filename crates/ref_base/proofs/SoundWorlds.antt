@@ -51,7 +51,8 @@ pub record IsSound (w : World) : Type 0 where
 
 -- ---- objects
 
-pub all_changed : {P : Object → Type 0} (os : List Object) (n : ℕ) (f : Object → Object) → ((o : Object) → P o → P (f o))
+pub all_changed : {P : Object → Type 0} (os : List Object) (n : ℕ) (f : Object → Object)
+    → ((o : Object) → P o → P (f o))
     → AllByRecursion P os → AllByRecursion P (changed_at os n f)
 all_changed [] n f keeps all = tt
 all_changed (o ∷ os) n f keeps all =
@@ -177,7 +178,8 @@ sound_shown w d sound =
 pub sound_swept : (w : World) (ns : List ℕ) → IsSound w
     → IsSound (with_heap w (record w.heap { objects = without ns w.heap.objects }))
 sound_swept w ns sound =
-    sound_objects w (without ns w.heap.objects) sound (all_without (ObjectBelow w.heap.config.queues) ns w.heap.objects sound.objects_below)
+    sound_objects w (without ns w.heap.objects) sound
+    (all_without (ObjectBelow w.heap.config.queues) ns w.heap.objects sound.objects_below)
 
 -- ---- changes of hands, queues and pending lists
 

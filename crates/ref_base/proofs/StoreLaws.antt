@@ -285,7 +285,8 @@ placed-last os (d ∷ es) e = placed-last (with_object os (stored_object d)) es 
 -- what is stored last comes to its place
 pub stored-last : (es new : List (ℕ × Stored)) (n : ℕ) (s : Stored) (fields : List (Option ℕ)) → s.fields ≡ fields
     → new ≡ es ++ (n, s) ∷ []
-    → objects_in new ≡ with_object (objects_in es) (record { no = n; fields = fields; reference = linked_reference s.link })
+    → objects_in new ≡ with_object (objects_in es)
+    (record { no = n; fields = fields; reference = linked_reference s.link })
 stored-last es new n s fields held is =
     ap objects_in is ∙ placed-last [] es (n, s)
     ∙ ap (λ (fs : List (Option ℕ)).

@@ -77,7 +77,8 @@ empty_wants : (held : Option ℕ) (later : Option Fault) → wants later ≡ fal
 empty_wants None later none = refl
 empty_wants (Some n) later none = none
 
-full_wants : (hand : Option Notice) (later : Option Fault) → wants later ≡ false → wants (unless_full hand later) ≡ false
+full_wants : (hand : Option Notice) (later : Option Fault) → wants later ≡ false
+    → wants (unless_full hand later) ≡ false
 full_wants None later none = none
 full_wants (Some notice) later none = refl
 
@@ -86,7 +87,8 @@ empty_hand_wants None = refl
 empty_hand_wants (Some notice) = refl
 
 heap_wants : (a : State) (step : NamedStep) → wants (heap_refusal 0 a step) ≡ false
-heap_wants a (heap.New m d k) = no_want (has_slot a.world.heap m d) NoSuchActor _ refl (object_wants a.world.heap a.next k)
+heap_wants a (heap.New m d k) =
+    no_want (has_slot a.world.heap m d) NoSuchActor _ refl (object_wants a.world.heap a.next k)
 heap_wants a (heap.Refer m strength d s q k) =
     no_want (has_slots a.world.heap m d s) NoSuchActor _ refl
     (no_want (is_queue_or_none a.world.heap q) BadQueue _ refl
@@ -145,7 +147,8 @@ step_wants a (steps.Unhook m s) =
 step_wants a (steps.Hand k) =
     no_want (is_worker a.world.heap k) NoSuchActor _ refl
     (full_wants (hand_of a.world (Worker k)) _ (heap_wants a (heap.Hand k)))
-step_wants a (steps.Put who) = no_want (is_actor a.world.heap who) NoSuchActor _ refl (empty_hand_wants (hand_of a.world who))
+step_wants a (steps.Put who) =
+    no_want (is_actor a.world.heap who) NoSuchActor _ refl (empty_hand_wants (hand_of a.world who))
 step_wants a (steps.Poll m q) =
     no_want (is_mutator a.world.heap m) NoSuchActor _ refl
     (no_want (is_queue a.world.heap q) BadQueue _ refl (full_wants (hand_of a.world (Mutator m)) None refl))
@@ -178,7 +181,8 @@ value_tells (Some n) = refl
 load_tells : (a : State) (m d : ℕ) (value : Option ℕ) (reply : Reply) (b : State) → Loads a m d value reply b
     → tells_want reply ≡ false
 load_tells a m d None reply b gives = told gives.0 refl
-load_tells a m d (Some n) reply b gives = anew_tells (is_in a.world.phase Marking) (replies.Object n) _ reply b gives refl
+load_tells a m d (Some n) reply b gives =
+    anew_tells (is_in a.world.phase Marking) (replies.Object n) _ reply b gives refl
 
 get_tells : (a : State) (m d s : ℕ) (value : Option ℕ) (reply : Reply) (b : State) → Gets a m d s value reply b
     → tells_want reply ≡ false

@@ -2,7 +2,8 @@
 -- `java.lang.ref` of Java SE 17 for what the calls of a reference answer and for clearing at one instant; cycles,
 -- workers and queues: this project's profile).
 use Rattle.std.specs.Prelude.{◌≡◌, ℕ, ◌+◌, ◌<◌, Bool, true, false, ◌==◌, if◌then◌else◌, min}
-use Rattle.std.specs.Prelude.{List, [], ◌∷◌, ◌++◌, map, length, take, drop, Option, Some, None, slice_index_or, slice_set, ◌⊎◌}
+use Rattle.std.specs.Prelude.{List, [], ◌∷◌, ◌++◌, map, length, take, drop, Option, Some, None, slice_index_or}
+use Rattle.std.specs.Prelude.{slice_set, ◌⊎◌}
 use Rattle.std.specs.Prelude.{is_some}
 use Rattle.ref_base.specs.Members.{has}
 use Rattle.ref_base.specs.Graphs.{Object, Reference, object_at, plain_object}

@@ -6,9 +6,10 @@ use Rattle.ref_base.specs.declared.config.Config.{Config}
 
 -- The state of the collector. Its world is that of the replay but for two things: the new clears are cleared from the
 -- mark's end on, and what was swept is gone. Beside it: the next object number, and the next as the cycle began; the
--- graphs of the moments of this marking, since whatever a kept path led to in one of them was ever kept; for each worker
--- the objects that it scanned in this cycle; whether it is said that an object is left to scan; the doomed that are not swept yet; the
--- references that the mark's end cleared; and for each worker the references that it found and has not looked at since.
+-- graphs of the moments of this marking, since whatever a kept path led to in one of them was ever kept; for each
+-- worker the objects that it scanned in this cycle; whether it is said that an object is left to scan; the doomed that
+-- are not swept yet; the references that the mark's end cleared; and for each worker the references that it found and
+-- has not looked at since.
 pub record State : Type 0 where
   pub world : World
   pub next : ℕ

@@ -1,6 +1,7 @@
 -- What a mark's end dooms, and which references it clears (Java SE 17, package `java.lang.ref`: the references to what
 -- is no longer reachable so are cleared at one instant; which objects are doomed is this project's profile).
-use Rattle.std.specs.Prelude.{◌≡◌, ℕ, Bool, true, false, not, ◌&&◌, if◌then◌else◌, nat_lt, List, [], ◌∷◌, Option, Some, None}
+use Rattle.std.specs.Prelude.{◌≡◌, ℕ, Bool, true, false, not, ◌&&◌, if◌then◌else◌, nat_lt, List, [], ◌∷◌, Option, Some}
+use Rattle.std.specs.Prelude.{None}
 use Rattle.ref_base.specs.Members.{has}
 use Rattle.ref_base.specs.Graphs.{Graph, Object, Reference, is_there}
 use Rattle.ref_base.specs.Paths.{targets_at}

@@ -1,5 +1,5 @@
--- A heap of which it isn't said what some of its objects refer to (this project's profile: while a sweep goes on, nobody
--- reads that of the doomed).
+-- A heap of which it isn't said what some of its objects refer to (this project's profile: while a sweep goes on,
+-- nobody reads that of the doomed).
 use Rattle.std.specs.Prelude.{ℕ, if◌then◌else◌, List, map, None}
 use Rattle.ref_base.specs.Members.{has}
 use Rattle.ref_base.specs.Graphs.{Object}

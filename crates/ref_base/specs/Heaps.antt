@@ -8,8 +8,8 @@ use Rattle.ref_base.specs.Paths.{is_soft}
 use Rattle.ref_base.specs.declared.config.Config.{Config}
 use Rattle.ref_base.specs.declared.strength.Strength.{Strength}
 
--- A heap: its configuration; the objects in order of number; slot s of mutator m, at 16 * m + s of the slots; one number
--- for each hold that is out, in order; and the clock.
+-- A heap: its configuration; the objects in order of number; slot s of mutator m, at 16 * m + s of the slots; one
+-- number for each hold that is out, in order; and the clock.
 pub record Heap : Type 0 where
   pub config : Config
   pub objects : List Object

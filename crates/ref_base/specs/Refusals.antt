@@ -232,7 +232,8 @@ refusal a (steps.Poll m q) =
     (unless (is_queue a.world.heap q) BadQueue (unless_full (hand_of a.world (Mutator m)) None))
 refusal a (steps.Adopt m d) =
     unless (has_slot a.world.heap m d) NoSuchActor (empty_hand_refusal (hand_of a.world (Mutator m)))
-refusal a (steps.Release who) = unless (is_actor a.world.heap who) NoSuchActor (empty_hand_refusal (hand_of a.world who))
+refusal a (steps.Release who) =
+    unless (is_actor a.world.heap who) NoSuchActor (empty_hand_refusal (hand_of a.world who))
 refusal a (steps.Close m q) =
     unless (is_mutator a.world.heap m) NoSuchActor (unless (is_queue a.world.heap q) BadQueue None)
 refusal a step = asked_refusal a (heap_step a.world step)

@@ -1,6 +1,6 @@
--- Replay: the world after a trace, from its rows alone. Only what a row answered is looked at: a refusal, and any answer
--- that isn't named here, changes nothing (package `java.lang.ref` of Java SE 17 for what the calls of a reference do;
--- the rest is this project's profile).
+-- Replay: the world after a trace, from its rows alone. Only what a row answered is looked at: a refusal, and any
+-- answer that isn't named here, changes nothing (package `java.lang.ref` of Java SE 17 for what the calls of a
+-- reference do; the rest is this project's profile).
 use Rattle.std.specs.Prelude.{ℕ, true, ◌==◌, if◌then◌else◌, List, [], ◌∷◌, ◌++◌, Option, Some, None}
 use Rattle.ref_base.specs.Members.{without_first}
 use Rattle.ref_base.specs.Graphs.{plain_object}

@@ -10,7 +10,8 @@ use Rattle.ref_base.specs.declared.strength.Strength.TheVariants.{Soft, Weak, Ph
 use Rattle.ref_base.specs.declared.step.Step.{Step}
 use Rattle.ref_base.specs.declared.step.Step.TheVariants.{New, Refer, Store, Load, Copy, Drop, Get, Clear, RefersTo}
 use Rattle.ref_base.specs.declared.step.Step.TheVariants.{Unhook, Put, Poll, Adopt, Release, Close}
-use Rattle.ref_base.specs.declared.step.Step.TheVariants.{Begin, Scan, EndMark, ClearNext, EndClear, Hand, Sweep, EndSweep}
+use Rattle.ref_base.specs.declared.step.Step.TheVariants.{Begin, Scan, EndMark, ClearNext, EndClear, Hand, Sweep}
+use Rattle.ref_base.specs.declared.step.Step.TheVariants.{EndSweep}
 
 -- the word for whoever has a hand
 abbrev pub actor : Actor → Word

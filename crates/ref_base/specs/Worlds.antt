@@ -28,8 +28,8 @@ pub record Pending : Type 0 where
   pub queue : ℕ
   pub cycle : ℕ
 
--- A heap, the hands of mutators and workers, the queues, the pending references of each worker, and how urgent the cycle
--- is, its number and its phase. Hands, queues and pending lists stand in the order of their numbers.
+-- A heap, the hands of mutators and workers, the queues, the pending references of each worker, and how urgent the
+-- cycle is, its number and its phase. Hands, queues and pending lists stand in the order of their numbers.
 pub record World : Type 0 where
   pub heap : Heap
   pub mutator_hands : List (Option Notice)

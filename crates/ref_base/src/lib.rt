@@ -1,6 +1,6 @@
-//! What every other crate speaks of: numbers, limits, faults, parcels; the rows of a trace with their texts; object graphs
-//! and how strongly their objects are reachable. Its `specs` have the definitions of the whole model: what a cycle keeps
-//! and dooms, and which traces are legal.
+//! What every other crate speaks of: numbers, limits, faults, parcels; the rows of a trace with their texts; object
+//! graphs and how strongly their objects are reachable. Its `specs` have the definitions of the whole model: what a
+//! cycle keeps and dooms, and which traces are legal.
 #![tactic(auto)]
 
 mod actor;

@@ -6,7 +6,8 @@ ghost use Rattle.std.specs.Prelude.{◌≡◌, OnOk, length, take};
 ghost use Rattle.ref_base.specs.GraphViews.{linked_reference};
 ghost use Rattle.ref_base.specs.Graphs.{object_at};
 ghost use Rattle.ref_base.specs.Paths.{allowed_referent, if_any, present, targets_at};
-ghost use Rattle.ref_base.specs.Searches.{allows, allowed, with_reached, added_all, searched_referents, ArePathEnds, IsSearched};
+ghost use Rattle.ref_base.specs.Searches.{allows, allowed, with_reached, added_all, searched_referents, ArePathEnds};
+ghost use Rattle.ref_base.specs.Searches.{IsSearched};
 
 use crate::stored::Link;
 use crate::{Graph, ObjNo, Strength};

@@ -10,8 +10,8 @@ use crate::words::{Word, alone, say};
 use crate::{Actor, MutNo, QueueNo, SlotNo, Strength, Urgency, WorkerNo};
 use std::fmt;
 
-/// One step. It prints as it is spelled in a script, with single spaces and no leading zeros. Any number can be named: a
-/// step with one outside the configuration is refused as it runs.
+/// One step. It prints as it is spelled in a script, with single spaces and no leading zeros. Any number can be named:
+/// a step with one outside the configuration is refused as it runs.
 #[derive(Clone, Copy, PartialEq, Eq)]
 pub enum Step {
     /// `m0 new s1 2`: makes a plain object, and the slot then holds it.
@@ -69,7 +69,8 @@ pub enum Step {
         mutator: MutNo,
         reference: SlotNo,
     },
-    /// `m0 refers s1 s0`: whether the referent of the reference is what the other slot holds, or none where it is empty.
+    /// `m0 refers s1 s0`: whether the referent of the reference is what the other slot holds, or none where it is
+    /// empty.
     RefersTo {
         mutator: MutNo,
         reference: SlotNo,

@@ -4,8 +4,8 @@ ghost use Rattle.std.specs.Prelude.{Some};
 
 use std::fmt;
 
-/// Whether a cycle keeps soft references (this project's profile: Java leaves it to the collector). It prints as `normal`
-/// or `urgent`.
+/// Whether a cycle keeps soft references (this project's profile: Java leaves it to the collector). It prints as
+/// `normal` or `urgent`.
 #[derive(Clone, Copy, Debug, PartialEq, Eq)]
 pub enum Urgency {
     /// The cycle keeps the soft references that were made or got lately.

@@ -62,7 +62,8 @@ clear_ended_stands k a stands none =
     }
 
 pub end_clear_row : (c : ClearHeap) (a : State) → HeapStands c a → refusal_in c heap.EndClear ≡ None
-    → (b : State) × HeapAccepts a heap.EndClear replies.Done b × HeapStands (with_mark c (cycle_in_phase c.mark Sweeping)) b
+    → (b : State) × HeapAccepts a heap.EndClear replies.Done b
+    × HeapStands (with_mark c (cycle_in_phase c.mark Sweeping)) b
 end_clear_row c a stands none =
     let k = c.mark in
     let later = unless (is_empty (joined k.found)) ClearingLeft None in

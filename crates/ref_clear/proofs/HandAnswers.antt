@@ -44,13 +44,15 @@ module _ {k : CycleHeap} {lists : List PendingList} {swept_to : ℕ} (w : ℕ) (
 
     waits : has (pending_numbers (pending_lists_of lists)) p.object ≡ true
     waits =
-        let parts = pending_numbers-rest (pending_lists_of lists) w p (rest_pending (pending_at (seen_heap k lists) w)) are in
+        let parts = pending_numbers-rest (pending_lists_of lists) w p (rest_pending (pending_at (seen_heap k lists) w))
+        are in
         ap (λ ns. has ns p.object) parts.2
         ∙ has-right parts.0 (p.object ∷ parts.1) p.object (has-first p.object parts.1)
 
     refusal : refusal_in (seen_heap k lists) (heap.Hand w) ≡ mint_refusal (ground_of k) p.object
     refusal =
-        let own : refusal_in (seen_heap k lists) (heap.Hand w) ≡ hand_refusal (pending_at (seen_heap k lists) w) k.heap =
+        let own : refusal_in (seen_heap k lists) (heap.Hand w) ≡ hand_refusal (pending_at (seen_heap k lists) w)
+        k.heap =
         simp there refl in
         own ∙ ap (λ (ps : List Pending). hand_refusal ps k.heap) are
         ∙ sym (mint_of_pending (seen_heap k lists) sound.stands.0 p.object sound.stands.1 waits)
@@ -73,7 +75,8 @@ module _ {k : CycleHeap} {lists : List PendingList} {swept_to : ℕ} (w : ℕ) (
         let is : refusal_in (seen_heap k lists) (heap.Hand w) ≡ None = refusal ∙ mint.0 in
         let rest : m.stands ≡ rest_pending (pending_at (seen_heap k lists) w) =
         ap (λ (i : PendingList). i.stands) taken ∙ ap rest_pending stands in
-        let reply : answer_of_hand w (pending_at (seen_heap k lists) w) ≡ replies.Notice p.object p.queue (Cycle p.cycle w) =
+        let reply : answer_of_hand w (pending_at (seen_heap k lists) w) ≡ replies.Notice p.object p.queue
+        (Cycle p.cycle w) =
         ap (answer_of_hand w) are in
         let left = ap (handed_from (seen_heap k lists) w) are in
         let now = lists_of-set lists w m ∙ ap (λ (ps : List Pending). set (pending_lists_of lists) w ps) rest in (

@@ -71,7 +71,8 @@ module _ (c : ClearHeap) (a : State) (stands : HeapStands c a) where
       let heap = begun-heap c.mark now how (pending_numbers c.pending) in
       record {
         mark =
-            subst (λ pss. MarkStands (shaded_all (cycle_begun c.mark now how) (pending_numbers pss)) b) stands.pending after;
+            subst (λ pss. MarkStands (shaded_all (cycle_begun c.mark now how) (pending_numbers pss)) b)
+            stands.pending after;
         pending = same ∙ stands.pending;
         waiting =
             waiting_still c a stands j (ap (λ (h : Heap). h.config) heap)
@@ -81,7 +82,8 @@ module _ (c : ClearHeap) (a : State) (stands : HeapStands c a) where
       record { mark = after; pending = same ∙ stands.pending; waiting = stands.waiting }
 
   begin_row : (now : ℕ) (how : Urgency)
-      → (b : State) × IsHeapRow c.mark.heap_no a (heap.Begin now how) (marks.answer_in_cycle c.mark (heap.Begin now how)) b
+      → (b : State) × IsHeapRow c.mark.heap_no a (heap.Begin now how)
+      (marks.answer_in_cycle c.mark (heap.Begin now how)) b
       × HeapStands (left c (heap.Begin now how) (begun_with c now how)) b
   begin_row now how =
       let step : NamedStep = heap.Begin now how in
@@ -92,7 +94,8 @@ module _ (c : ClearHeap) (a : State) (stands : HeapStands c a) where
   -- ---- the other steps
 
   -- outside clearing it doesn't matter what was found, nor outside a sweep what is doomed
-  same_end_clear : unless (is_in a.world.phase Clearing) WrongPhase (unless (is_empty (joined a.found)) ClearingLeft None)
+  same_end_clear : unless (is_in a.world.phase Clearing) WrongPhase
+      (unless (is_empty (joined a.found)) ClearingLeft None)
       ≡ unless (is_in c.mark.phase Clearing) WrongPhase (unless (is_empty (joined c.mark.found)) ClearingLeft None)
   same_end_clear =
       ap (λ p. unless (is_in p Clearing) WrongPhase (unless (is_empty (joined a.found)) ClearingLeft None))

@@ -1,5 +1,5 @@
--- What steps don't change: no step the configuration, one of marking not the pending references, and one in a sweep that
--- isn't one of its own not the doomed.
+-- What steps don't change: no step the configuration, one of marking not the pending references, and one in a sweep
+-- that isn't one of its own not the doomed.
 use Rattle.std.proofs.Common.{◌≡◌, ℕ, ◌+◌, Bool, true, false, List, [], ◌∷◌, ◌++◌, Option, Some, None}
 use Rattle.std.proofs.Common.{refl, sym, ap, subst, ◌∙◌, inl, inr}
 use Rattle.std.specs.Prelude.{slice_set}

@@ -71,10 +71,12 @@ module _ {k : CycleHeap} {lists : List PendingList} {swept_to : ℕ} (w : ℕ)
         let ns : List ℕ = list_at k.found w in after_by (n ∷ rest_of ns) d (first_is ns n first) looked
 
     -- it is kept, or skipped
-    pub sound_passed : {j : CycleHeap} → is_to_clear k n ≡ false → j ≡ with_found_taken k w → IsSoundHeap j lists swept_to
+    pub sound_passed : {j : CycleHeap} → is_to_clear k n ≡ false → j ≡ with_found_taken k w
+        → IsSoundHeap j lists swept_to
     sound_passed {j} stays after =
         sound_after (heap.ClearNext w) refl sound
-        (ap (λ (i : CycleHeap). seen_heap i lists) after ∙ after_look (with_mark c (with_found_taken k w)) (simp stays refl))
+        (ap (λ (i : CycleHeap). seen_heap i lists) after
+        ∙ after_look (with_mark c (with_found_taken k w)) (simp stays refl))
         sound.room
 
     -- it is cleared

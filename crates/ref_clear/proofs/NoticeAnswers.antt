@@ -12,7 +12,8 @@ use Rattle.ref_mark.proofs.HoldMoves.{names_none_freed}
 use Rattle.ref_clear.proofs.PendingFacts.{pending_is_there}
 
 -- no slot of a heap names an object that was freed
-pub no_slot_of_freed : {k : CycleHeap} {lists : List PendingList} {swept_to : ℕ} (m s : ℕ) → IsSoundHeap k lists swept_to
+pub no_slot_of_freed : {k : CycleHeap} {lists : List PendingList} {swept_to : ℕ} (m s : ℕ)
+    → IsSoundHeap k lists swept_to
     → names_freed k m s ≡ false
 no_slot_of_freed {k} m s sound = names_none_freed k sound.stands.0 m s sound.stands.1.mark
 

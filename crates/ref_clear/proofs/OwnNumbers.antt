@@ -56,5 +56,6 @@ number_after c (heap.Hand w) =
     let waiting = pending_at c w in
     number-left c (handed_from c w waiting) (refusal_in c (heap.Hand w)) (handed-number c w waiting)
 number_after c (heap.Sweep w) = number-left c (with_mark c (swept_some c.mark)) (refusal_in c (heap.Sweep w)) refl
-number_after c heap.EndSweep = number-left c (with_mark c (cycle_in_phase c.mark Idle)) (refusal_in c heap.EndSweep) refl
+number_after c heap.EndSweep =
+    number-left c (with_mark c (cycle_in_phase c.mark Idle)) (refusal_in c heap.EndSweep) refl
 number_after c step = number_after_marking c.mark step

@@ -92,7 +92,8 @@ module _ {k : CycleHeap} {lists : List PendingList} {swept_to : ℕ} (w : ℕ) (
     first_as_seen is reads same = ap (λ ps. pending_from ps 0) (sym (stands_as_seen is)) ∙ sym reads ∙ same
 
     -- there is as much room once its first is taken
-    pub room_taken : {l m : PendingList} (cells : ℕ) → l ≡ get_or lists w l → m ≡ without_first_pending l → HaveRoom lists cells
+    pub room_taken : {l m : PendingList} (cells : ℕ) → l ≡ get_or lists w l → m ≡ without_first_pending l
+        → HaveRoom lists cells
         → HaveRoom (set lists w m) cells
     room_taken {l} {m} cells is taken room =
         let own = room_at lists cells w l worker_has_list is room in

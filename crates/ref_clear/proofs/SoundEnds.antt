@@ -31,7 +31,8 @@ sound_clear_ended {j} {k} {lists} {swept_to} clearing looked after sound =
 
 -- the sweep ends
 pub sound_sweep_ended : {j k : CycleHeap} {lists : List PendingList} {swept_to : ℕ} → is_in k.phase Sweeping ≡ true
-    → not (is_empty (doomed k)) ≡ false → j ≡ cycle_in_phase k Idle → IsSoundHeap k lists swept_to → IsSoundHeap j lists swept_to
+    → not (is_empty (doomed k)) ≡ false → j ≡ cycle_in_phase k Idle → IsSoundHeap k lists swept_to
+    → IsSoundHeap j lists swept_to
 sound_sweep_ended {j} {k} {lists} {swept_to} sweeping swept after sound =
     let c : ClearHeap = seen_heap k lists in
     let none : refusal_in c heap.EndSweep ≡ None =

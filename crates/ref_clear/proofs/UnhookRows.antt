@@ -69,7 +69,8 @@ queue_of-agrees k h held agrees =
 
 -- ---- what waits
 
-pending-cleared : (c : ClearHeap) (a : State) (m s : ℕ) → HeapStands c a → ArePending (with_cleared c.mark m s) c.pending
+pending-cleared : (c : ClearHeap) (a : State) (m s : ℕ) → HeapStands c a
+    → ArePending (with_cleared c.mark m s) c.pending
 pending-cleared c a m s stands =
     waiting_still c a stands (with_cleared c.mark m s) (config-cleared c.mark m s) (cleared_stays c.mark m s)
 
@@ -135,7 +136,8 @@ cut_and_held k a m s n stands is =
 -- ---- the row
 
 -- the pending references are as before
-pending_stays : (c : ClearHeap) (a : State) (h : Heap) → HeapStands c a → (ticked (on_heap a h)).world.pending ≡ c.pending
+pending_stays : (c : ClearHeap) (a : State) (h : Heap) → HeapStands c a
+    → (ticked (on_heap a h)).world.pending ≡ c.pending
 pending_stays c a h stands = ap (λ (w : World). w.pending) (ticked_world (on_heap a h)) ∙ stands.pending
 
 -- the reference in the slot is cleared

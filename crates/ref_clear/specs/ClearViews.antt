@@ -61,7 +61,8 @@ pub record IsSoundHeap (k : CycleHeap) (lists : List PendingList) (swept_to : �
   pub stands : (a : State) × HeapStands (seen_heap k lists) a
   pub swept : is_in k.phase Sweeping ≡ true → (n : ℕ) → is_white k n ≡ true → swept_to ≤ n
 
--- once a sweep has begun, what is doomed is held by nobody, and none of it is below the number that the sweep has come to
+-- once a sweep has begun, what is doomed is held by nobody, and none of it is below the number that the sweep has come
+-- to
 pub record MaySweep (k : CycleHeap) (swept_to : ℕ) : Type 0 where
   pub sweeping : is_in k.phase Sweeping ≡ true
   pub rising : IsRising (numbers k.heap.objects)

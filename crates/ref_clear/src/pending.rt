@@ -2,7 +2,8 @@
 
 ghost use Rattle.std.specs.Prelude.{◌≡◌, ◌<◌, IfOk, length};
 ghost use Rattle.std.specs.VecDeque.{deque_capacity};
-ghost use Rattle.ref_clear.specs.ClearViews.{empty_pending, with_last_pending, without_first_pending, first_pending, pending_from};
+ghost use Rattle.ref_clear.specs.ClearViews.{empty_pending, with_last_pending, without_first_pending, first_pending};
+ghost use Rattle.ref_clear.specs.ClearViews.{pending_from};
 
 use ref_base::{ObjNo, QueueNo};
 use std::alloc::{AllocError, Allocator, Global};

@@ -138,5 +138,6 @@ begin_row k a now urgent stands none =
       b,
       subst (λ (s : State). HeapAccepts s (heap.Begin now urgent) (replies.Cycle (k.cycle + 1)) b)
           (sym (plain_state-is k a Idle stands idle refl)) (begun_is_row k a now urgent stands),
-      subst (λ (j : CycleHeap). MarkStands j b) (mark_begun-is k a now urgent) (begun_stands k a now urgent stands idle),
+      subst (λ (j : CycleHeap). MarkStands j b) (mark_begun-is k a now urgent)
+          (begun_stands k a now urgent stands idle),
     )

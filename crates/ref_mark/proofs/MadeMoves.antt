@@ -82,7 +82,8 @@ pub moved-making : (k : CycleHeap) (m d : ℕ) (o : Object) → with_made k m d 
 moved-making k m d o = young-only (grown k m d o) o.no
 
 -- the object has the next number, and leads and refers to nothing white
-module _ (k : CycleHeap) (a : State) (m d : ℕ) (o : Object) (stands : MarkStands k a) (slot : has_slot k.heap m d ≡ true)
+module _ (k : CycleHeap) (a : State) (m d : ℕ) (o : Object) (stands : MarkStands k a)
+    (slot : has_slot k.heap m d ≡ true)
     (number : o.no ≡ k.next)
     (leads_off : is_in_cycle k.phase ≡ true → (n : ℕ)
     → has (targets_of (is_kept (policy_in k)) (Some o)) n ≡ true → is_white k n ≡ false)

@@ -135,7 +135,8 @@ ended_stands k a stands phase none =
     }
 
 -- a mark's end that isn't refused
-pub end_mark_row : (k : CycleHeap) (a : State) → MarkStands k a → end_mark_refusal k.phase (not (is_empty k.grey)) ≡ None
+pub end_mark_row : (k : CycleHeap) (a : State) → MarkStands k a
+    → end_mark_refusal k.phase (not (is_empty k.grey)) ≡ None
     → (b : State) × EndsMark a (replies.Doomed (length (unmarked k.heap.objects k.marked))) b
     × MarkStands (cycle_in_phase k Clearing) b
 end_mark_row k a stands none =

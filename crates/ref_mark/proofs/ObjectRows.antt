@@ -123,7 +123,8 @@ reference_shows k a m d s f strength q stands =
           ap (λ ns. is_new_clear ns o) nothing ∙ is_new_clear-none o
     ])
 
-pub refer_row : (k : CycleHeap) (a : State) (m : ℕ) (strength : Strength) (d s : ℕ) (q : Option ℕ) (f : ℕ) → MarkStands k a
+pub refer_row : (k : CycleHeap) (a : State) (m : ℕ) (strength : Strength) (d s : ℕ) (q : Option ℕ) (f : ℕ)
+    → MarkStands k a
     → refer_refusal k.heap k.next m d s q f ≡ None
     → (b : State) × HeapAccepts a (heap.Refer m strength d s q f) (replies.Object k.next) b
     × MarkStands (with_made k m d (new_reference k.heap k.next strength (slot_at k.heap m s) q f)) b

@@ -1,4 +1,5 @@
--- Whether a heap stands for a state is no matter of hands and queues, nor of moments but for what was ever kept in them.
+-- Whether a heap stands for a state is no matter of hands and queues, nor of moments but for what was ever kept in
+-- them.
 use Rattle.std.proofs.Common.{◌≡◌, ℕ, true, List, Option}
 use Rattle.ref_mark.proofs.Common.{Graph, EverKept, is_in, State, Marking, CycleHeap, policy_in, MarkStands}
 use Rattle.ref_base.specs.QueueLists.{Lists}

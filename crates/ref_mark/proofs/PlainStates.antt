@@ -83,4 +83,5 @@ pub plain_marking : (k : CycleHeap) (a : State) → MarkStands k a → k.phase �
     → MarkingBut k (plain_state k Marking a) [] []
 plain_marking k a stands phase =
     let s = plain_state k Marking a in
-    stands_marking k s (subst (λ (b : State). MarkStands k b) (plain_state-is k a Marking stands phase refl) stands) phase
+    stands_marking k s (subst (λ (b : State). MarkStands k b) (plain_state-is k a Marking stands phase refl) stands)
+    phase

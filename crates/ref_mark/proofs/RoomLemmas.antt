@@ -48,7 +48,8 @@ lists_of-map : (ls : List Worklist) → worklists_of ls ≡ map (λ l. l.stands)
 lists_of-map [] = refl
 lists_of-map (l ∷ ls) = ap (λ ms. l.stands ∷ ms) (lists_of-map ls)
 
-pub lists_of-set : (ls : List Worklist) (w : ℕ) (l : Worklist) → worklists_of (set ls w l) ≡ set (worklists_of ls) w l.stands
+pub lists_of-set : (ls : List Worklist) (w : ℕ) (l : Worklist)
+    → worklists_of (set ls w l) ≡ set (worklists_of ls) w l.stands
 lists_of-set ls w l =
     lists_of-map (set ls w l) ∙ map-set (λ (m : Worklist). m.stands) ls w l
     ∙ ap (λ (ms : List (List ℕ)). set ms w l.stands) (sym (lists_of-map ls))
@@ -187,7 +188,8 @@ module _ {g : Ground} {grey : Worklist} {found : List Worklist} (w : ℕ) {l : W
       let stands : length l.stands ≡ length (list_at (worklists_of found) w) = ap length stands_as_seen in
       omega (arith, spare, stands, list_fits.0, roomy.few)
 
-  pub roomy_found : {m : Worklist} (n : ℕ) → length (list_at (worklists_of found) w) + length grey.stands < length g.marked
+  pub roomy_found : {m : Worklist} (n : ℕ)
+      → length (list_at (worklists_of found) w) + length grey.stands < length g.marked
       → m ≡ with_last l n → IsRoomy g grey (set found w m)
   roomy_found {m} n spare pushed =
       let was : length l.stands ≡ length (list_at (worklists_of found) w) = ap length stands_as_seen in
@@ -284,13 +286,16 @@ roomy_cleared {g} {grey} {l} {found} cleared roomy =
     roomy_grown refl roomy.few (ap (λ (w : Worklist). w.room) cleared) (omega (arith, stands)) roomy
 
 -- no list has anything
-AreRoomy-none : (found : List Worklist) (ms : List (List ℕ)) (cells grey marked : ℕ) → worklists_of found ≡ none_found ms
+AreRoomy-none : (found : List Worklist) (ms : List (List ℕ)) (cells grey marked : ℕ)
+    → worklists_of found ≡ none_found ms
     → AreRoomy found cells grey marked → AreRoomy found cells 0 0
 AreRoomy-none [] ms cells grey marked none roomy = tt
-AreRoomy-none (l ∷ ls) [] cells grey marked none roomy = absurd (let wrong : l.stands ∷ worklists_of ls ≡ [] = none in cc)
+AreRoomy-none (l ∷ ls) [] cells grey marked none roomy =
+    absurd (let wrong : l.stands ∷ worklists_of ls ≡ [] = none in cc)
 AreRoomy-none (l ∷ ls) (m ∷ ms) cells grey marked none roomy =
     let first : l.stands ≡ [] = (let both : l.stands ∷ worklists_of ls ≡ [] ∷ none_found ms = none in cc) in
-    let rest : worklists_of ls ≡ none_found ms = (let both : l.stands ∷ worklists_of ls ≡ [] ∷ none_found ms = none in cc) in
+    let rest : worklists_of ls ≡ none_found ms =
+    (let both : l.stands ∷ worklists_of ls ≡ [] ∷ none_found ms = none in cc) in
     let size : length l.stands ≡ 0 = ap length first in
     (roomy.0, omega (arith, size), AreRoomy-none ls ms cells grey marked rest roomy.2)
 

@@ -23,7 +23,8 @@ root_facts k a n stands begun root =
       | inr listed ↦ absurd (false≢true listed)
     ]
 
-pub edge_facts : (k : CycleHeap) (a : State) (m n : ℕ) → MarkStands k a → is_in_cycle k.phase ≡ true → is_black k m ≡ true
+pub edge_facts : (k : CycleHeap) (a : State) (m n : ℕ) → MarkStands k a → is_in_cycle k.phase ≡ true
+    → is_black k m ≡ true
     → has (targets_at (is_kept (policy_in k)) k.heap.objects m) n ≡ true → is_white k n ≡ false
 edge_facts k a m n stands begun black target =
     elim ((stands.facts begun).closed m n black target) [

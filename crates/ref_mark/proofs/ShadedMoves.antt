@@ -43,7 +43,8 @@ module _ (k : CycleHeap) (c : Change) (a : State) (w : World) (beside : IsAlongs
       (subst (λ (j : CycleHeap). MarkingBut j state_anew [] []) only after) refl)
 
   anew_in_mark : IsMove k c (pending_numbers w.pending) (n ∷ []) → is_in k.phase Marking ≡ true → a.next ≡ c.next
-      → (b : State) × IsBut (ticked (with_world a (with_heap w (moved k c).heap))) b × MarkStands (shaded (moved k c) n) b
+      → (b : State) × IsBut (ticked (with_world a (with_heap w (moved k c).heap))) b
+      × MarkStands (shaded (moved k c) n) b
   anew_in_mark move marking next =
       let b : State = state_anew in
       let moments = graph_after c (pending_numbers w.pending) ∷ a.moments in
@@ -70,7 +71,8 @@ module _ (k : CycleHeap) (c : Change) (a : State) (w : World) (beside : IsAlongs
       → (is_in k.phase Marking ≡ true → IsMove k c (pending_numbers w.pending) (n ∷ []))
       → (is_in k.phase Marking ≡ false → IsMove k c (pending_numbers w.pending) [])
       → c.next ≡ k.next → ReadsAs (moved k c) h
-      → (b : State) × GivesAnew answer (with_world a (with_heap w h)) answer b × MarkStands (barred (moved k c) (Some n)) b
+      → (b : State) × GivesAnew answer (with_world a (with_heap w h)) answer b
+      × MarkStands (barred (moved k c) (Some n)) b
   barred_row h answer move_in_mark move_else next heap =
       let base : State = with_world a (with_heap w h) in
       elim (cases_Bool (is_in k.phase Marking)) [

@@ -40,7 +40,8 @@ slot_move k a i value todo stands allowed there =
 pub set_stands : (k : CycleHeap) (a : State) (m d : ℕ) (value : Option ℕ) → MarkStands k a
     → (is_in_cycle k.phase ≡ true → (n : ℕ) → value ≡ Some n → is_white k n ≡ false)
     → ((n : ℕ) → value ≡ Some n → is_there k.heap.objects n ≡ true)
-    → MarkStands (record k { heap = with_slot k.heap m d value }) (ticked (on_heap a (with_slot a.world.heap m d value)))
+    → MarkStands (record k { heap = with_slot k.heap m d value })
+    (ticked (on_heap a (with_slot a.world.heap m d value)))
 set_stands k a m d value stands allowed there =
     let c : Change = rooted k (slice_set k.heap.slots (16 * m + d) value) k.heap.holds in
     moved_stands k c a stands

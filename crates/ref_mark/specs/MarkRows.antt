@@ -28,7 +28,8 @@ abbrev pub IsMarkRowOf : CycleHeap → NamedStep → Type 0
 IsMarkRowOf k step =
     (a : State) → MarkStands k a
     → (b : State) × IsHeapRow k.heap_no a step (answer_in_cycle k step) b
-    × MarkStands (shaded_all (after_in_cycle k step) (unless_refused (refusal_in_cycle k step) (λ fault. []) (late_roots a step))) b
+    × MarkStands (shaded_all (after_in_cycle k step)
+    (unless_refused (refusal_in_cycle k step) (λ fault. []) (late_roots a step))) b
 
 -- The collector has no row for a mint. For each state that the heap stands for, in which a root names the object, it
 -- then stands for the state with one more hold of it, at the next moment; and for the same state where it is refused.

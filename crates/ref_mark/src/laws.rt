@@ -1,5 +1,5 @@
-//! What the calls of a heap in its cycles say together of the abstract collector, and the two facts on which safe marking
-//! rests.
+//! What the calls of a heap in its cycles say together of the abstract collector, and the two facts on which safe
+//! marking rests.
 
 ghost use Rattle.std.specs.Prelude.{◌≡◌, ℕ, true, false};
 ghost use Rattle.ref_base.specs.Collectors.{State};

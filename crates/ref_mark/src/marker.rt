@@ -146,7 +146,8 @@ impl<A: Allocator + Copy> Marker<A> {
         field: u32,
         from: SlotNo,
     ) -> Result<(), Fault>
-        ensures answer { reply_of done_reply result ≡ answer_in_cycle self.old (HeapStep.Store mutator into field from) }
+        ensures answer { reply_of done_reply result ≡
+            answer_in_cycle self.old (HeapStep.Store mutator into field from) }
         ensures after { self.new ≡ after_in_cycle self.old (HeapStep.Store mutator into field from) }
     {
         self.objects.store(mutator, into, field, from)

@@ -157,7 +157,8 @@ sound_made config t slots holds next place k r sound below = record {
 
 pub seen_made : (config : Config) (heap_no : ℕ) (t : Table) (slots : List (Option ℕ)) (clock next place k : ℕ)
     (r : Option Reference)
-    → seen_ground config heap_no (with_tabled t (made_entry next k r)) (slice_set slots place (Some next)) clock (next + 1)
+    → seen_ground config heap_no (with_tabled t (made_entry next k r)) (slice_set slots place (Some next)) clock
+    (next + 1)
     ≡ made_at (seen_ground config heap_no t slots clock next) place k r
 seen_made config heap_no t slots clock next place k r =
     rw (

@@ -26,8 +26,8 @@ seen_ground config heap_no table slots clock next = record {
   marked = marked_of table.tabled;
 }
 
--- The configuration is within its limits; there is a cell for each object that it allows, and a slot for each; holds are
--- counted; and each number that was given is below the next, which is at most 2^32.
+-- The configuration is within its limits; there is a cell for each object that it allows, and a slot for each; holds
+-- are counted; and each number that was given is below the next, which is at most 2^32.
 pub record IsSoundGround (config : Config) (table : Table) (slots : List (Option ℕ)) (holds next : ℕ) : Type 0 where
   pub within : is_within_limits config ≡ true
   pub room : table.room ≡ config.cells

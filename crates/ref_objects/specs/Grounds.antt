@@ -18,8 +18,8 @@ use Rattle.ref_objects.specs.declared.start.Start.{Start}
 use Rattle.ref_objects.specs.declared.kind.Kind.{Kind}
 use Rattle.ref_objects.specs.declared.kind.Kind.TheVariants as kind
 
--- a heap, its number among the heaps of a program, the number of its next object, and the numbers of the objects that are
--- marked, in order
+-- a heap, its number among the heaps of a program, the number of its next object, and the numbers of the objects that
+-- are marked, in order
 pub record Ground : Type 0 where
   pub heap : Heap
   pub heap_no : ℕ
@@ -176,7 +176,8 @@ after_freeing g n =
 
 -- ---- what holds at all times
 
--- objects and slots are in order, and so are the holds; there are at most as many objects as cells, and marks as objects
+-- objects and slots are in order, and so are the holds; there are at most as many objects as cells, and marks as
+-- objects
 pub record IsWellFormed (g : Ground) : Type 0 where
   pub orderly : IsOrderly g.heap g.next
   pub held : IsInOrder g.heap.holds

@@ -3,8 +3,8 @@
 use ref_base::ObjNo;
 use std::marker::Model;
 
-/// A hold of an object: while it is out, the object is a root. It can't be copied and must be spent: a heap takes it back
-/// by `adopt` or `release` (this project's profile).
+/// A hold of an object: while it is out, the object is a root. It can't be copied and must be spent: a heap takes it
+/// back by `adopt` or `release` (this project's profile).
 #[derive(Debug)]
 pub struct Hold {
     heap_no: u64,
@@ -43,8 +43,8 @@ impl Hold {
         self.heap_no
     }
 
-    /// Gives the hold up without its heap, which goes on counting it: its object is a root for good. For a hold whose heap
-    /// is gone. Takes no memory.
+    /// Gives the hold up without its heap, which goes on counting it: its object is a root for good. For a hold whose
+    /// heap is gone. Takes no memory.
     pub fn leak(self) {
         self.spend();
     }

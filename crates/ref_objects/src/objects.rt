@@ -169,7 +169,8 @@ impl<A: Allocator + Copy> Objects<A> {
         ensures refused { IsRefused (copy_refusal self.old.heap mutator into from) result }
         ensures answer { IfOk result (λ value. value ≡ slot_at self.old.heap mutator from) }
         ensures after { self.new ≡ if_done result
-            (ground_with_heap self.old (with_slot self.old.heap mutator into (slot_at self.old.heap mutator from))) self.old }
+            (ground_with_heap self.old (with_slot self.old.heap mutator into
+            (slot_at self.old.heap mutator from))) self.old }
     {
         let place = self.place(mutator, into)?;
         let source = self.place(mutator, from)?;

@@ -24,8 +24,8 @@ impl Start {
         page: 1,
     };
 
-    /// Whether a heap of these cells may start so: both numbers are at least 1, and the addresses of its pages, twice as
-    /// many as its cells fill of 64 each, are below 2^32.
+    /// Whether a heap of these cells may start so: both numbers are at least 1, and the addresses of its pages, twice
+    /// as many as its cells fill of 64 each, are below 2^32.
     pub(crate) fn is_allowed(&self, config: &Config) -> bool
         ensures { result ≡ may_start config.now self.now }
     {

@@ -241,9 +241,9 @@ impl<A: Allocator + Copy> Table<A> {
         true
     }
 
-    /// Takes the gaps out of the index where they are more than the objects, so that no more are left to pass over. While
-    /// they stay, each object that was made since they were taken out last is found at once. In constant time, or in that
-    /// of the entries.
+    /// Takes the gaps out of the index where they are more than the objects, so that no more are left to pass over.
+    /// While they stay, each object that was made since they were taken out last is found at once. In constant time, or
+    /// in that of the entries.
     pub(crate) fn close_gaps(&mut self)
         ensures { self.new ≡ self.old }
     {

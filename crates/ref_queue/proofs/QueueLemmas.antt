@@ -61,4 +61,5 @@ module _ {T : Type 0} {object_of queue_of : T → ℕ} {queue : ℕ} {ns : List 
     -- a poll of an open queue where nothing stands
     pub Polls-Empty : length xs ≡ 0 → xs ≡ rest → closed ≡ false
         → AnswersPoll object_of (seen_queue queue ns xs closed) Empty (seen_queue queue ns rest closed)
-    Polls-Empty none same open_yet = (nil_from_length xs none, open_yet, ap (λ ys. seen_queue queue ns ys closed) (sym same))
+    Polls-Empty none same open_yet =
+        (nil_from_length xs none, open_yet, ap (λ ys. seen_queue queue ns ys closed) (sym same))

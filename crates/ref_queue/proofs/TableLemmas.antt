@@ -13,7 +13,8 @@ module _ {K J : Type 0} (es : List (ℕ × (K × J))) (closed : Bool) where
   pub may_register : (n : ℕ) → closed ≡ false → is_some (lookup (nat_eq n) es) ≡ false
       → register_refusal (record { jobs = es; closed = closed }) n ≡ None
   may_register n is_open free =
-      ap (λ b. if b then Some TableClosed else if is_some (lookup (nat_eq n) es) then Some RegisteredTwice else None) is_open
+      ap (λ b. if b then Some TableClosed else if is_some (lookup (nat_eq n) es) then Some RegisteredTwice else None)
+      is_open
       ∙ ap (λ b. if b then Some RegisteredTwice else None) free
 
   -- then want of memory alone does

@@ -45,7 +45,8 @@ impl<K, J, A: Allocator + Copy> CleanTable<K, J, A> {
     /// Registers a job for an object. In expected constant time, amortized.
     ///
     /// Tried in this order: `TableClosed`, `RegisteredTwice` where the object has a job that was not taken yet,
-    /// `NoMemory` where a growth is refused. In each of the three what was handed in comes back, and nothing has changed.
+    /// `NoMemory` where a growth is refused. In each of the three what was handed in comes back, and nothing has
+    /// changed.
     #[inline(always)]
     pub fn register(&mut self, object: ObjNo, kept: K, job: J) -> Result<(), (Fault, K, J)>
         ensures { Registers self.old object kept job result self.new }

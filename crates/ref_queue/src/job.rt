@@ -5,8 +5,8 @@ ghost use Rattle.std.specs.Prelude.{◌≡◌, ℕ};
 /// What a job does: it takes the job's number, and answers its note. It may move between threads.
 pub type Action = Box<dyn FnOnce(u64) -> u64 + Send>;
 
-/// A cleaning action with a number, by which its caller knows it. It can be run once, since that takes it; a job that is
-/// dropped never runs.
+/// A cleaning action with a number, by which its caller knows it. It can be run once, since that takes it; a job that
+/// is dropped never runs.
 ///
 /// As the `Runnable` that `Cleaner.register` of Java SE 17 takes, but that it answers a number.
 #[derive(Drop)]

@@ -70,10 +70,12 @@ module _ {J : Type 0} where
           subst (λ (calls : List QueueEntry). Made q calls q2) (sym (all_of_one_more (polls_in q) rs (next taken)))
           (made_after q q1 q2 (all_of (polls_in q) rs) (polls_in q (next taken)) gone.0 own)
 
-      next_takes : (taken : Option (HoldName × J)) (c3 : CleanView J) → TakesJob c1 notice.hold.object taken c2 → Longer c2 c3
+      next_takes : (taken : Option (HoldName × J)) (c3 : CleanView J) → TakesJob c1 notice.hold.object taken c2
+          → Longer c2 c3
           → Made c (all_of (takes_in c) (rs ++ next taken ∷ [])) c3
       next_takes taken c3 takes longer =
-          let made = made_more c c1 c2 (all_of (takes_in c) rs) (steps.Take notice.hold.object) (gives.Taken taken) gone.2
+          let made = made_more c c1 c2 (all_of (takes_in c) rs) (steps.Take notice.hold.object) (gives.Taken taken)
+          gone.2
           takes in
           subst (λ (calls : List (CleanEntry J)). Made c calls c3) (sym (all_of_one_more (takes_in c) rs (next taken)))
           (made_longer c c2 c3 (all_of (takes_in c) rs ++ takes_in c (next taken)) made longer)
@@ -81,7 +83,8 @@ module _ {J : Type 0} where
       next_release : (u : HeapView) → Releases v1 notice.hold (Ok tt) u
           → Made v (all_of (releases_in v) rs ++ released v notice.hold ∷ []) u
       next_release u releases =
-          made_more v v1 u (all_of (releases_in v) rs) (heap.Release notice.hold) (replies.Told told.Done) gone.1 releases
+          made_more v v1 u (all_of (releases_in v) rs) (heap.Release notice.hold) (replies.Told told.Done)
+          gone.1 releases
 
       -- a round without a job
       pub gone_in_vain : CleansDead notice v1 c1 (Ok false) v2 c2
@@ -104,7 +107,8 @@ module _ {J : Type 0} where
           let taken = Some (cleans.0, cleans.1) in
           let both = made_more v cleans.2 v2 (all_of (releases_in v) rs ++ released v notice.hold ∷ [])
           (heap.Release cleans.0) (replies.Told told.Done) (next_release cleans.2 cleans.3.0) cleans.4 in
-          let calls_are = append_assoc (all_of (releases_in v) rs) (released v notice.hold ∷ []) (released v cleans.0 ∷ [])
+          let calls_are = append_assoc (all_of (releases_in v) rs) (released v notice.hold ∷ [])
+          (released v cleans.0 ∷ [])
           ∙ sym (all_of_one_more (releases_in v) rs (next taken)) in (
             rs ++ next taken ∷ [],
             (

@@ -1,5 +1,5 @@
--- What `register`, `clean` and a cleaner's thread may have called, and what not: the job 30 of reference 2, whose notice
--- comes once its object is gone.
+-- What `register`, `clean` and a cleaner's thread may have called, and what not: the job 30 of reference 2, whose
+-- notice comes once its object is gone.
 use Rattle.std.proofs.Common.{◌≡◌, ℕ, List, [], ◌∷◌, Option, Some, None, Ok, true}
 use Rattle.std.proofs.Common.{inl, refl, ap, ◌+◌, map, arith}
 use Rattle.ref_share.proofs.Common.{Cycle, HoldName, ClearHeap, HeldNotice, new_registry, entry, Entry, Idle, View}
@@ -146,7 +146,8 @@ module _ (start : Option ClearHeap) where
     ((refl, refl, refl), ([], refl), refl),
   )
 
-  run_without_a_job : (w : HeapView) → ¬ (CleansDead notice (calls_of []) (table []) (Ok true) w (table (none_taken ∷ [])))
+  run_without_a_job : (w : HeapView)
+      → ¬ (CleansDead notice (calls_of []) (table []) (Ok true) w (table (none_taken ∷ [])))
   run_without_a_job w is =
       let answer = ap (λ (calls : List (CleanEntry ℕ)). map (λ call. call.reply) calls) is.3.1.2 in absurd cc
 

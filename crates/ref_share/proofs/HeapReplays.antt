@@ -24,7 +24,8 @@ use Rattle.ref_share.proofs.HeapRuns.{renumbered, IsRefused, IsAccepted, move_ki
 -- ---- the replay goes on call by call
 
 replayed_last : (w : World) (past : List HeapEntry) (call : HeapEntry)
-    → heap_replayed_from w (past ++ call ∷ []) ≡ after_heap (heap_replayed_from w past) call.step (told_reply call.reply)
+    → heap_replayed_from w (past ++ call ∷ []) ≡ after_heap (heap_replayed_from w past) call.step
+    (told_reply call.reply)
 replayed_last w [] call = refl
 replayed_last w (other ∷ past) call = replayed_last (after_heap w other.step (told_reply other.reply)) past call
 

@@ -10,7 +10,8 @@ use Rattle.ref_base.proofs.QueueMoves.{QueueMoves, moves_nothing, moves_more, mo
 use Rattle.ref_queue.specs.declared.queue.Put.TheVariants as puts
 use Rattle.ref_queue.specs.declared.queue.Polled.TheVariants as polls
 use Rattle.ref_turn.proofs.Logs.{leads_cut}
-use Rattle.ref_share.specs.QueueHistories.{put_by_call, taken_by_call, closed_by_call, all_put_in, all_taken_out, is_closed_after, KeepsLists}
+use Rattle.ref_share.specs.QueueHistories.{put_by_call, taken_by_call, closed_by_call, all_put_in, all_taken_out}
+use Rattle.ref_share.specs.QueueHistories.{is_closed_after, KeepsLists}
 use Rattle.ref_share.specs.QueueMachines.{reported_object}
 use Rattle.ref_share.specs.QueueSeats.{IsQueueRun}
 use Rattle.ref_share.specs.QueueStates.{NoticeLists}
@@ -19,7 +20,8 @@ use Rattle.ref_share.specs.declared.queue_machine.QueueReply.TheVariants as repl
 
 -- how one call changes the lists: as its entry tells
 abbrev MovesBy : NoticeLists → NoticeLists → QueueStep → QueueReply → Type 0
-MovesBy q r step reply = QueueMoves reported_object q r (put_by_call step reply) (taken_by_call step reply) (closed_by_call step reply)
+MovesBy q r step reply =
+    QueueMoves reported_object q r (put_by_call step reply) (taken_by_call step reply) (closed_by_call step reply)
 
 stays : (q r : NoticeLists) → r ≡ q → QueueMoves reported_object q r [] [] false
 stays q r same =
@@ -49,9 +51,11 @@ move_moves q r step reply move = absurd move
 
 pub run_moves : (q : NoticeLists) (calls : List QueueEntry) (r : NoticeLists) → Leads IsQueueMove q calls r
     → QueueMoves reported_object q r (all_put_in calls) (all_taken_out calls) (is_closed_after calls)
-run_moves q [] r run = subst (λ (s : NoticeLists). QueueMoves reported_object q s [] [] false) run (moves_nothing reported_object q)
+run_moves q [] r run =
+    subst (λ (s : NoticeLists). QueueMoves reported_object q s [] [] false) run (moves_nothing reported_object q)
 run_moves q (call ∷ calls) r run =
-    moves_more reported_object q run.0 r (put_by_call call.step call.reply) (all_put_in calls) (taken_by_call call.step call.reply)
+    moves_more reported_object q run.0 r (put_by_call call.step call.reply) (all_put_in calls)
+    (taken_by_call call.step call.reply)
     (all_taken_out calls) (closed_by_call call.step call.reply) (is_closed_after calls)
     (move_moves q run.0 call.step call.reply run.1) (run_moves run.0 calls r run.2)
 

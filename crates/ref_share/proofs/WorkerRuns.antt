@@ -29,7 +29,8 @@ use Rattle.ref_share.proofs.Places.{changed_there}
 -- ---- call by call
 
 module _ (k q : ℕ) where
-  handed-append : (es fs : List HeapEntry) → notices_handed k q (es ++ fs) ≡ notices_handed k q es ++ notices_handed k q fs
+  handed-append : (es fs : List HeapEntry)
+      → notices_handed k q (es ++ fs) ≡ notices_handed k q es ++ notices_handed k q fs
   handed-append [] fs = refl
   handed-append (e ∷ es) fs =
       ap (λ ns. notice_handed k q e.step e.reply ++ ns) (handed-append es fs)
@@ -52,7 +53,8 @@ module _ (k q : ℕ) where
   handed_same : (v w : HeapView) (step : NamedStep) (reply : HeapReply) → notice_handed k q step reply ≡ []
       → Called v step reply w → notices_handed k q w.mine ≡ notices_handed k q v.mine
   handed_same v w step reply none called =
-      handed_then v w step reply called ∙ ap (λ ns. notices_handed k q v.mine ++ ns) none ∙ append-nil (notices_handed k q v.mine)
+      handed_then v w step reply called ∙ ap (λ ns. notices_handed k q v.mine ++ ns) none
+      ∙ append-nil (notices_handed k q v.mine)
 
   -- a call of a queue's seat adds what it puts in
   put_then : (v w : QueueView) (step : QueueStep) (reply : QueueReply) → Called v step reply w
@@ -165,12 +167,14 @@ module _ {A : Type 0} (k q : ℕ) (queues : List (SharedQueue A)) (seats after :
 
   -- so after a delivery the queue's seat has put in what the heap's has handed on
   delivery_keeps : (j : ℕ) (result : Result Delivery ShareFault) (w : HeapView) → had_turn result ≡ true
-      → Delivers (heap.Hand j) v queues seats result w after → notices_put k q (queue_view s).mine ≡ notices_handed k q w.mine
+      → Delivers (heap.Hand j) v queues seats result w after
+      → notices_put k q (queue_view s).mine ≡ notices_handed k q w.mine
   delivery_keeps j (Ok Nothing) w turn d =
       no_seat_put w d.1 (handed_same k q v w (heap.Hand j) (replies.Told told.Nothing) refl d.0)
   delivery_keeps j (Ok (Added n p position)) w turn d =
       let adds = handed_then k q v d.1 (heap.Hand j) (replies.Notice d.0) d.2 in
-      one_put d.0 (Ok (puts.Added position)) w refl d.3.3 (ap (λ (u : HeapView). notices_handed k q u.mine) d.3.2 ∙ adds)
+      one_put d.0 (Ok (puts.Added position)) w refl d.3.3
+      (ap (λ (u : HeapView). notices_handed k q u.mine) d.3.2 ∙ adds)
   delivery_keeps j (Ok (Dropped n)) w turn d =
       dropped_put d.0 d.1 (Ok (Dropped n)) w d.3.0 d.3.1
       (handed_then k q v d.1 (heap.Hand j) (replies.Notice d.0) d.2)
@@ -188,7 +192,8 @@ module _ {A : Type 0} (k q : ℕ) (queues : List (SharedQueue A)) (seats after :
 -- ---- a worker's thread
 
 module _ {A : Type 0} (k : ℕ) (queues : List (SharedQueue A)) where
-  pub keeps_pace : (count : ℕ) (v w : HeapView) (seats after : List (QueueSeat A)) → Works k queues count v seats w after
+  pub keeps_pace : (count : ℕ) (v w : HeapView) (seats after : List (QueueSeat A))
+      → Works k queues count v seats w after
       → KeepsPace k queues v seats → KeepsPace k queues w after
   keeps_pace zero v w seats after works pace q s within at =
       pace q s within (ap (λ l. slice_get l q) (sym works.1) ∙ at)

@@ -35,8 +35,8 @@ abbrev pub released : HeapView → HoldName → HeapEntry
 released v hold = entry v.number (heap.Release hold) (replies.Told told.Done)
 
 module _ {J : Type 0} where
-  -- the calls of a round: the polls of its queue; the release of the notice and, where there was a job, of its hold; the
-  -- take
+  -- the calls of a round: the polls of its queue; the release of the notice and, where there was a job, of its hold;
+  -- the take
   abbrev pub polls_in : QueueView → Round J → List QueueEntry
   polls_in q r = empty_polls q r.empties ++ polled q (found.Took r.notice) ∷ []
 

@@ -1,5 +1,5 @@
--- What `register`, `clean` and a cleaner's thread have called, and what they answer (Java SE 17 `java.lang.ref.Cleaner`;
--- the turns are this project's profile).
+-- What `register`, `clean` and a cleaner's thread have called, and what they answer (Java SE 17
+-- `java.lang.ref.Cleaner`; the turns are this project's profile).
 use Rattle.std.specs.Prelude.{◌≡◌, ℕ, ◌≤◌, ◌⊎◌, Bool, true, false, Option, Some, None, Result, Ok, Err}
 use Rattle.ref_base.specs.HeapSteps.{NamedStep}
 use Rattle.ref_base.specs.declared.config.Config.{Config}

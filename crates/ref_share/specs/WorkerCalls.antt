@@ -1,5 +1,5 @@
--- What a worker's thread hands on and puts into queues, read off the calls of its own seats (this project's profile; Java
--- SE 17 `java.lang.ref` says of no order).
+-- What a worker's thread hands on and puts into queues, read off the calls of its own seats (this project's profile;
+-- Java SE 17 `java.lang.ref` says of no order).
 use Rattle.std.specs.Prelude.{◌≡◌, ℕ, zero, suc, ◌<◌, ◌⊎◌, ◌==◌, ◌&&◌, Bool, true, false, if◌then◌else◌}
 use Rattle.std.specs.Prelude.{List, [], ◌∷◌, ◌++◌, length, slice_get, Some, Result, Err}
 use Rattle.ref_base.specs.ClearingOrder.{is_by}

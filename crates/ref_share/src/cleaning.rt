@@ -163,7 +163,8 @@ fn refer<R: Wait, A: Allocator + Copy>(
 ) -> Result<Hold, Fault>
     requires { IsHeapSeat heap.now seat.old }
     ensures seat { IsHeapSeat heap.now seat.new }
-    ensures made { IfOk result (λ hold. HasMade queue mutator source slot (heap_view seat.old) hold (heap_view seat.new)) }
+    ensures made { IfOk result (λ hold. HasMade queue mutator source slot (heap_view seat.old) hold
+        (heap_view seat.new)) }
     ensures not { IfErr result (λ fault.
         HasNotMade queue mutator source slot (heap_view seat.old) fault (heap_view seat.new)) }
 {

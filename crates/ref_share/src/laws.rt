@@ -1,5 +1,5 @@
-//! What holds of the history of each shared queue, heap and cleaner, so of whatever threads do: what the core proves of lists of
-//! steps, turn by turn.
+//! What holds of the history of each shared queue, heap and cleaner, so of whatever threads do: what the core proves of
+//! lists of steps, turn by turn.
 
 ghost use Rattle.std.specs.Prelude.{◌≡◌, ℕ, ◌+◌, ◌<◌, true, List, [], ◌∷◌, ◌++◌, length, Ok, Option, Some, None};
 ghost use Rattle.std.specs.Prelude.{nat_eq, slice_get};

@@ -34,8 +34,8 @@ pub struct CleanSeat<A: Allocator + Copy = Global> {
 }
 
 impl<A: Allocator + Copy> SharedCleaner<A> {
-    /// A cleaner that is told by this queue which objects are gone, without jobs, and its first seat. The one refusal is
-    /// `NoMemory`.
+    /// A cleaner that is told by this queue which objects are gone, without jobs, and its first seat. The one refusal
+    /// is `NoMemory`.
     pub fn new(alloc: A, queue: QueueNo) -> Result<(Self, CleanSeat<A>), Fault>
         ensures made { IfOk result (λ made. (made.0.queue ≡ queue) × IsFirstCleanSeat made.0.turn 0 made.1.seat) }
         ensures err { OnErr result (result ≡ Err NoMemory) }

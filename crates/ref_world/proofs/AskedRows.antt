@@ -1,5 +1,6 @@
 -- What a step of the world asks of its heap is a row of the world, with what it leaves in the hands.
-use Rattle.std.proofs.Common.{◌≡◌, Bool, true, false, if◌then◌else◌, List, Option, Some, None, refl, sym, ap, subst, ◌∙◌}
+use Rattle.std.proofs.Common.{◌≡◌, Bool, true, false, if◌then◌else◌, List, Option, Some, None, refl, sym, ap, subst}
+use Rattle.std.proofs.Common.{◌∙◌}
 use Rattle.std.specs.Prelude.{is_some}
 use Rattle.ref_world.proofs.Common.{NamedStep, told_notice, World, Notice, with_hand, heap_refusal, refusal, State}
 use Rattle.ref_world.proofs.Common.{with_world, IsHeapRow, IsRow, Actor, Mutator, Worker, Reply, Step, ClearHeap}
@@ -51,7 +52,8 @@ hands-if : (spent : Bool) (w : World) (who : Actor)
 hands-if true w who = hands-with w who None
 hands-if false w who = refl
 
-hands-handed : (w : World) (step : Step) (reply : Reply) → hands_of (handed w step reply) ≡ handed_in (hands_of w) step reply
+hands-handed : (w : World) (step : Step) (reply : Reply)
+    → hands_of (handed w step reply) ≡ handed_in (hands_of w) step reply
 hands-handed w (steps.Unhook m s) reply = hands-taking w (Mutator m) (told_notice reply)
 hands-handed w (steps.Hand k) reply = hands-taking w (Worker k) (told_notice reply)
 hands-handed w (steps.Adopt m d) reply = hands-if (is_some (told_object reply)) w (Mutator m)

@@ -95,7 +95,8 @@ module _ (c : Core) (reached : IsReached c) where
       let asked = heap.Adopt m d (hold_of notice) in
       let hand : hand_of a.world (Mutator m) ≡ Some notice = same_hand c a stands (Mutator m) ∙ full in
       let held : has a.world.heap.holds notice.object ≡ true =
-      ap (λ ns. has ns notice.object) (same_holds c a stands) ∙ hand_is_counted c reached (Mutator m) notice there full in
+      ap (λ ns. has ns notice.object) (same_holds c a stands)
+      ∙ hand_is_counted c reached (Mutator m) notice there full in
       subst (λ (r : Reply). row_to a (steps.Adopt m d) r (asked_core c asked (handed_in c.hands (steps.Adopt m d) r)))
       (adopted_reply m d notice slot there full)
       (asked_row c a (steps.Adopt m d) asked stands (ap (spending (λ hold. heap.Adopt m d hold)) hand)
@@ -109,14 +110,16 @@ module _ (c : Core) (reached : IsReached c) where
       let hand : hand_of a.world who ≡ Some notice = same_hand c a stands who ∙ full in
       let held : has a.world.heap.holds notice.object ≡ true =
       ap (λ ns. has ns notice.object) (same_holds c a stands) ∙ hand_is_counted c reached who notice there full in
-      subst (λ (r : Reply). row_to a (steps.Release who) r (asked_core c asked (handed_in c.hands (steps.Release who) r)))
+      subst (λ (r : Reply). row_to a (steps.Release who) r
+      (asked_core c asked (handed_in c.hands (steps.Release who) r)))
       (released_reply who notice there full)
       (asked_row c a (steps.Release who) asked stands (ap (spending (λ hold. heap.Release hold)) hand)
       (full_release a who notice (same_actor c a stands who ∙ sym (same_actors c reached who) ∙ there) hand held))
 
   -- ---- as the calls tell it
 
-  pub adopt_reply : (m d : ℕ) (notice : Notice) (hold : HoldName) (reply : Reply) → drop_refusal c.heap.mark.heap m d ≡ None
+  pub adopt_reply : (m d : ℕ) (notice : Notice) (hold : HoldName) (reply : Reply)
+      → drop_refusal c.heap.mark.heap m d ≡ None
       → emptying_refusal c.hands (Mutator m) ≡ None → hand_in c.hands (Mutator m) ≡ Some notice → hold ≡ hold_of notice
       → reply ≡ answer_in c.heap (heap.Adopt m d hold) → reply ≡ replies.Object notice.object
   adopt_reply m d notice hold reply slot accepted full is answers =

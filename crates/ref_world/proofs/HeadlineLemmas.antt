@@ -63,7 +63,8 @@ module _ (config : Config) (rows : List Row) (last : Core) (b : State) (run : Is
         were_doomed = agrees.2;
         are_found = λ n waits.
             let parts = and_parts (is_in b.world.phase Clearing) (has (joined b.found) n && has b.cleared n) waits in
-            let clearing : is_in k.phase Clearing ≡ true = subst (λ p. is_in p Clearing ≡ true) stands.heap.mark.phase parts.0 in
+            let clearing : is_in k.phase Clearing ≡ true =
+            subst (λ p. is_in p Clearing ≡ true) stands.heap.mark.phase parts.0 in
             let found = (and_parts (has (joined b.found) n) (has b.cleared n) parts.1).0 in (
               clearing,
               subst (λ (lists : List (List ℕ)). has (joined lists) n ≡ true)

@@ -12,4 +12,5 @@ same_either_way (Some fault) k = refl
 -- a comparison changes nothing
 pub comparison_changes_nothing : (c : ClearHeap) (m s v : ℕ) → c ≡ after_in c (heap.RefersTo m s v)
 comparison_changes_nothing c m s v =
-    ap (λ (k : CycleHeap). with_mark c k) (sym (same_either_way (marks.refusal_in_cycle c.mark (heap.RefersTo m s v)) c.mark))
+    ap (λ (k : CycleHeap). with_mark c k)
+    (sym (same_either_way (marks.refusal_in_cycle c.mark (heap.RefersTo m s v)) c.mark))

@@ -62,7 +62,8 @@ closed_from false is = absurd cc
 -- ---- nothing that the heap is asked
 
 -- the heap stands for the state as it was, with other hands and queues, one moment later
-pub heap_stands_on : (k : ClearHeap) (a : State) (mutators workers : List (Option Notice)) (queues : List (Lists Notice))
+pub heap_stands_on : (k : ClearHeap) (a : State) (mutators workers : List (Option Notice))
+    (queues : List (Lists Notice))
     → HeapStands k a → HeapStands k (ticked (with_others a mutators workers queues))
 heap_stands_on k a mutators workers queues stands =
     let b : State = with_others a mutators workers queues in
@@ -103,11 +104,13 @@ others_row c a step reply hold line b stands is row = (
   subst (λ (s : State). Stands (core_with c (hold c.hands) (line c.queues)) (ticked s)) (sym is)
       (subst
       (λ (hs : Hands). Stands (core_with c (hold hs) (line c.queues))
-      (ticked (with_others a (hold (hands_of a.world)).mutators (hold (hands_of a.world)).workers (line a.world.queues))))
+      (ticked (with_others a (hold (hands_of a.world)).mutators (hold (hands_of a.world)).workers
+      (line a.world.queues))))
       (hands_are c a stands)
       (subst
       (λ (qs : List (Lists Notice)). Stands (core_with c (hold (hands_of a.world)) (line qs))
-      (ticked (with_others a (hold (hands_of a.world)).mutators (hold (hands_of a.world)).workers (line a.world.queues))))
+      (ticked (with_others a (hold (hands_of a.world)).mutators (hold (hands_of a.world)).workers
+      (line a.world.queues))))
       stands.queues
       (stands_on c a (hold (hands_of a.world)) (line a.world.queues) stands))),
 )
@@ -161,7 +164,8 @@ module _ (c : Core) (reached : IsReached c) (who : Actor) (notice : Notice) (lis
       (rw (fresh, open_yet)
       (inl (
         ap replies.Added
-            (is ∙ ap (λ (l : Lists Notice). length (enqueued object_of l)) (here ∙ sym (queue_is c a notice.queue stands))),
+            (is ∙ ap (λ (l : Lists Notice). length (enqueued object_of l))
+            (here ∙ sym (queue_is c a notice.queue stands))),
         refl,
       )))))
 

@@ -1,5 +1,6 @@
 -- Where a step of the world is refused before its heap or a queue is asked.
-use Rattle.std.proofs.Common.{◌≡◌, ℕ, ◌<◌, length, Bool, true, false, ◌&&◌, Option, Some, None, refl, sym, ap, subst, ◌∙◌}
+use Rattle.std.proofs.Common.{◌≡◌, ℕ, ◌<◌, length, Bool, true, false, ◌&&◌, Option, Some, None, refl, sym, ap, subst}
+use Rattle.std.proofs.Common.{◌∙◌}
 use Rattle.std.specs.Prelude.{nat_lt}
 use Rattle.std.proofs.lemmas.Bool.{and_parts, ltb-true}
 use Rattle.ref_world.proofs.Common.{Notice, hand_of, unless, unless_full, empty_hand_refusal, has_slot, is_actor}
@@ -74,7 +75,8 @@ refused_row c step fault refuses a stands = (a, rw (refuses a stands) (refl, ref
 
 -- by a slot that isn't there
 no_slot : (c : Core) (m s : ℕ) (fault : Fault) → drop_refusal c.heap.mark.heap m s ≡ Some fault
-    → (later : Option Fault) (a : State) → Stands c a → unless (has_slot a.world.heap m s) NoSuchActor later ≡ Some fault
+    → (later : Option Fault) (a : State) → Stands c a
+    → unless (has_slot a.world.heap m s) NoSuchActor later ≡ Some fault
 no_slot c m s fault refused later a stands =
     let fails = unless_fails (has_slot c.heap.mark.heap m s) NoSuchActor fault refused in
     ap (λ test. unless test NoSuchActor later) (same_slots c a stands m s ∙ fails.0) ∙ fails.1
@@ -83,7 +85,8 @@ pub no_slot_of_unhook : (c : Core) (m s : ℕ) (fault : Fault) → drop_refusal 
     → IsRowOf c (steps.Unhook m s) (replies.Refused fault) c
 no_slot_of_unhook c m s fault refused =
     refused_row c (steps.Unhook m s) fault (λ a stands.
-    no_slot c m s fault refused (unless_full (hand_of a.world (Mutator m)) (heap_refusal 0 a (heap.Unhook m s))) a stands)
+    no_slot c m s fault refused (unless_full (hand_of a.world (Mutator m)) (heap_refusal 0 a (heap.Unhook m s)))
+    a stands)
 
 pub no_slot_of_adopt : (c : Core) (m d : ℕ) (fault : Fault) → drop_refusal c.heap.mark.heap m d ≡ Some fault
     → IsRowOf c (steps.Adopt m d) (replies.Refused fault) c

@@ -19,8 +19,8 @@ told_reply (Held hold) = replies.Object hold.object
 told_reply (Back fault hold) = replies.Refused fault
 
 -- What a step gives out: only an unhook and a hand give notices, only a hold gives a hold, and each is of its own heap;
--- none of them tells of one that it doesn't give. An adopt and a release give the hold back that they were given, unless
--- they spend it.
+-- none of them tells of one that it doesn't give. An adopt and a release give the hold back that they were given,
+-- unless they spend it.
 abbrev pub GivesOut : (heap_no : ℕ) → NamedStep → HeapReply → Type 0
 GivesOut heap_no (heap.Unhook m s) (Told reply) = told_notice reply ≡ None
 GivesOut heap_no (heap.Hand k) (Told reply) = told_notice reply ≡ None

@@ -1,6 +1,7 @@
 //! Everybody's hands: each holds a notice of the world's heap, or nothing.
 
-ghost use Rattle.std.specs.Prelude.{◌≡◌, IfOk, OnOk, OnErr, Some, None, replicate, length, nat_lt, slice_index_or, slice_set};
+ghost use Rattle.std.specs.Prelude.{◌≡◌, IfOk, OnOk, OnErr, Some, None, replicate, length, nat_lt, slice_index_or};
+ghost use Rattle.std.specs.Prelude.{slice_set};
 ghost use Rattle.ref_base.specs.Refusals.{unless, empty_hand_refusal};
 ghost use Rattle.ref_objects.specs.Grounds.{IsRefused};
 ghost use Rattle.ref_world.specs.Cores.{first_hands, hand_in, with_hand_in, filling_refusal, emptying_refusal};

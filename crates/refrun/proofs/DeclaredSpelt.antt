@@ -61,7 +61,8 @@ number_of_words (Reference n s r fields) (name ∷ []) h = absurd h
 number_of_words (Reference n s r fields) (name ∷ word ∷ []) h = absurd h
 number_of_words (Reference n s r fields) (name ∷ word ∷ other ∷ words) h = rw h.0 (named s h.1.0)
   where
-    named : (t : Strength) → number_below (2 ^ 32) word ≡ Some n → number_in (strength_name t ∷ word ∷ other ∷ words) ≡ Some n
+    named : (t : Strength) → number_below (2 ^ 32) word ≡ Some n
+        → number_in (strength_name t ∷ word ∷ other ∷ words) ≡ Some n
     named Soft k = k
     named Weak k = k
     named Phantom k = k

@@ -79,7 +79,8 @@ a_header_that_never_comes = refl
 
 -- ---- graph texts
 
-a_reference_is_spelt : SpellsDeclared (words_of (codes "weak 04 - 5 -")) (Reference 4 strengths.Weak None (Some 5 ∷ None ∷ []))
+a_reference_is_spelt : SpellsDeclared (words_of (codes "weak 04 - 5 -"))
+    (Reference 4 strengths.Weak None (Some 5 ∷ None ∷ []))
 a_reference_is_spelt =
     (refl, (refl, omega arith), refl, ((refl, omega arith), (refl, tt)), omega arith)
 
@@ -107,7 +108,8 @@ one_root : Graph
 one_root = record { objects = plain_object 2 (None ∷ []) ∷ []; roots = 2 ∷ [] }
 
 -- `refgraph 1`, `root 2`, `plain 2 -`, `root 02`
-it_is_declared : DeclaresGraph (codes "refgraph 1" ++ 10 ∷ codes "root 2" ++ 10 ∷ codes "plain 2 -" ++ 10 ∷ codes "root 02")
+it_is_declared : DeclaresGraph
+    (codes "refgraph 1" ++ 10 ∷ codes "root 2" ++ 10 ∷ codes "plain 2 -" ++ 10 ∷ codes "root 02")
     one_root
 unfolding one_root
 it_is_declared = record {

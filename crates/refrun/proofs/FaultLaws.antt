@@ -17,7 +17,8 @@ plain_without_fault : (line : TextLine) → is_plain_line line ≡ true → plai
 plain_without_fault line h = let p = and_parts (is_short line) (list_all is_ascii line.bytes) h in simp (p.0, p.1) refl
 
 -- the first of the lines spells its step, and the others have no fault
-first_step : (words : List (List ℕ)) (lines : List TextLine) (steps : List ScriptStep) (k : ℕ) → ((later : List ScriptStep)
+first_step : (words : List (List ℕ)) (lines : List TextLine) (steps : List ScriptStep) (k : ℕ)
+    → ((later : List ScriptStep)
     → SpellSteps (told lines) later → first_fault Steps k lines ≡ None)
     → SpellSteps (words ∷ told lines) steps → (step_fault words ≡ None) × (first_fault Steps k lines ≡ None)
 first_step words lines [] k goes_on spelt = absurd spelt
@@ -48,7 +49,8 @@ SpellBody (words ∷ lines) config steps = (config_of words ≡ Some config) ×
     (is_within_limits config ≡ true) × SpellSteps lines steps
 
 body_without_fault : (lines : List TextLine) (config : Config) (steps : List ScriptStep) (k : ℕ)
-    → list_all is_plain_line lines ≡ true → SpellBody (told lines) config steps → first_fault Configuration k lines ≡ None
+    → list_all is_plain_line lines ≡ true → SpellBody (told lines) config steps
+    → first_fault Configuration k lines ≡ None
 body_without_fault [] config steps k plain spelt = absurd spelt
 body_without_fault (line ∷ lines) config steps k plain spelt =
     let p = and_parts (is_plain_line line) (list_all is_plain_line lines) plain in
@@ -69,7 +71,8 @@ body_of [] words config steps spelt = absurd spelt
 body_of (line ∷ lines) words config steps spelt = (spelt.0, (spelt.1, spelt.2, spelt.3))
 
 lines_without_fault : (lines : List TextLine) (config : Config) (steps : List ScriptStep) (k : ℕ)
-    → list_all is_plain_line lines ≡ true → SpellScript (told lines) config steps → first_fault ScriptHeader k lines ≡ None
+    → list_all is_plain_line lines ≡ true → SpellScript (told lines) config steps
+    → first_fault ScriptHeader k lines ≡ None
 lines_without_fault [] config steps k plain spelt = absurd spelt
 lines_without_fault (line ∷ lines) config steps k plain spelt =
     let p = and_parts (is_plain_line line) (list_all is_plain_line lines) plain in
@@ -106,7 +109,8 @@ first_declared : (words : List (List ℕ)) (lines : List TextLine) (ds : List De
     → ((later : List Declared) (more : List ℕ) → SpellAll (told lines) later → NoneTwice more later
     → first_fault (Declarations more) (k + 1) lines ≡ None)
     → SpellAll (words ∷ told lines) ds → NoneTwice seen ds
-    → fault_or k (place_fault (Declarations seen) words) (first_fault (place_after (Declarations seen) words) (k + 1) lines)
+    → fault_or k (place_fault (Declarations seen) words)
+    (first_fault (place_after (Declarations seen) words) (k + 1) lines)
     ≡ None
 first_declared words lines [] seen k goes_on spelt twice = absurd spelt
 first_declared words lines (d ∷ ds) seen k goes_on spelt twice =
@@ -114,7 +118,8 @@ first_declared words lines (d ∷ ds) seen k goes_on spelt twice =
     (goes_on ds (with_declared_no seen (declared_no d)) spelt.1 twice.1)
 
 -- lines that spell what they say, none of them twice
-all_without_fault : (lines : List TextLine) (ds : List Declared) (seen : List ℕ) (k : ℕ) → list_all is_plain_line lines ≡ true
+all_without_fault : (lines : List TextLine) (ds : List Declared) (seen : List ℕ) (k : ℕ)
+    → list_all is_plain_line lines ≡ true
     → SpellAll (told lines) ds → NoneTwice seen ds → first_fault (Declarations seen) k lines ≡ None
 all_without_fault [] ds seen k plain spelt twice = refl
 all_without_fault (line ∷ lines) ds seen k plain spelt twice =

@@ -105,7 +105,8 @@ all_fields words rest fields h none =
 -- where a word is left behind the fields it is one too many
 pub extra_words : (front words rest more : List (List ℕ)) (word : List ℕ) (fields : List (Option ℕ))
     → ((read : List (List ℕ)) → list_all is_object_or_none read ≡ true → are_operands (front ++ read) ≡ true)
-    → ReadsFields words fields rest → rest ≡ word ∷ more → words_fault (length front) 8 (front ++ words) ≡ Some ExtraWord
+    → ReadsFields words fields rest → rest ≡ word ∷ more
+    → words_fault (length front) 8 (front ++ words) ≡ Some ExtraWord
 extra_words front words rest more word fields fit h left =
     let full : length h.read ≡ 8 = elim h.whole [
       | inl none ↦ let clash : (word ∷ more) ≡ [] = sym left ∙ none in absurd cc

@@ -158,7 +158,8 @@ has_declared_more text number found next g h c r found_is a f behind =
     let words : List (List ℕ) = words_of c.now in
     let d : Declared = a.declared in
     let no : number_in words ≡ declared_no d = number_of_words d words a.spelt in
-    let is_new : is_declared r.seen (declared_no d) ≡ false = seen_there r.seen g (declared_no d) r.numbers ∙ a.is_new in
+    let is_new : is_declared r.seen (declared_no d) ≡ false = seen_there r.seen g (declared_no d) r.numbers
+    ∙ a.is_new in
     let new_words : is_declared r.seen (number_in words) ≡ false = ap (is_declared r.seen) no ∙ is_new in
     let sound : place_fault (Declarations r.seen) words ≡ None =
     rw (declared_without_fault d words a.spelt, new_words) refl in
@@ -175,7 +176,8 @@ has_declared_more text number found next g h c r found_is a f behind =
     record {
       seen = seen;
       declared = r.declared ++ d ∷ [];
-      graph_is = a.after ∙ ap (λ (x : Graph). with_declared x d) r.graph_is ∙ sym (with_all_push empty_graph r.declared d);
+      graph_is = a.after ∙ ap (λ (x : Graph). with_declared x d) r.graph_is
+          ∙ sym (with_all_push empty_graph r.declared d);
       numbers = rw a.after (numbers_after r.seen g d r.numbers);
       spelt = λ more spelt. rw append_assoc (far (d ∷ more) (a.spelt, rw f.told spelt));
       none_twice = λ more twice. rw append_assoc (r.none_twice (d ∷ more) (is_new, twice));

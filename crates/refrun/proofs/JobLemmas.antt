@@ -75,14 +75,25 @@ module _ {J : Type 0} (number note : J → ℕ) (old new : Core) (before after :
     -- a job is registered for the reference in the slot
     pub job_row : (n : ℕ) (reply : ScriptReply) → new ≡ old → RegistersStageJob number object n before reply after
         → IsScriptRowOf number note old before (scripts.Job m s n) reply new after
-    job_row n reply same registers a stands =
-        (a, (rw (same_refusal old a stands m s ∙ refused, same_slot old a stands m s ∙ held) registers, refl), rw same stands)
+    job_row n reply same registers a stands = (
+      a,
+      (
+        rw (same_refusal old a stands m s ∙ refused, same_slot old a stands m s ∙ held)
+            registers,
+        refl,
+      ),
+      rw same stands,
+    )
 
     -- the reference has no job
     pub gone_row : new ≡ old → Takes before.table object None after.table → after.left ≡ before.left
         → IsScriptRowOf number note old before (scripts.Run m s) replies.Gone new after
-    gone_row same takes left a stands =
-        (a, rw (same_refusal old a stands m s ∙ refused, same_slot old a stands m s ∙ held) (takes, left, refl), rw same stands)
+    gone_row same takes left a stands = (
+      a,
+      rw (same_refusal old a stands m s ∙ refused, same_slot old a stands m s ∙ held)
+          (takes, left, refl),
+      rw same stands,
+    )
 
     -- its job is given out, and it is cleared
     pub ran_row : (job : J) (ran : Ran) (reply : Reply) → Takes before.table object (Some (tt, job)) after.table
@@ -104,5 +115,6 @@ module _ {J : Type 0} (number note : J → ℕ) (old new : Core) (before after :
     job_refused_row n a stands =
         (a, (rw (same_refusal old a stands m s ∙ refused) (refl, kept), refl), rw same stands)
 
-    pub run_refused_row : IsScriptRowOf number note old before (scripts.Run m s) (replies.World (Refused fault)) new after
+    pub run_refused_row : IsScriptRowOf number note old before (scripts.Run m s) (replies.World (Refused fault))
+        new after
     run_refused_row a stands = (a, rw (same_refusal old a stands m s ∙ refused) (refl, refl, kept), rw same stands)

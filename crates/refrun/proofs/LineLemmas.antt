@@ -118,7 +118,8 @@ finds_line text rest behind content number k line found s cut h content_is says 
       plain = s.plain ∙ ap (list_all is_plain_line) cut ∙ simp (plain_line line h) (rw rest_is refl);
       fault = λ place. s.fault place ∙ ap (first_fault place (k + 1)) cut
           ∙ simp (h, said) (rw (found_is, rest_is, number_is)
-          (ap (λ (w : List (List ℕ)). fault_or (k + 1) (place_fault place w) (first_fault (place_after place w) (k + 1 + 1)
+          (ap (λ (w : List (List ℕ)). fault_or (k + 1) (place_fault place w)
+          (first_fault (place_after place w) (k + 1 + 1)
           (lines_of behind))) words));
       done = rw found_is tt;
     }

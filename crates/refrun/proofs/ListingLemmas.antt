@@ -6,7 +6,8 @@ use Rattle.refrun.proofs.Common.{Graph, DeclareGraph, DeclaresGraph, lines_of, m
 use Rattle.std.proofs.lemmas.List.{append-nil, take_more}
 use Rattle.refrun.specs.Listings.{listing_line}
 
-listing_push : (ls : List ObjectReach) (l : ObjectReach) → listing_text (ls ++ l ∷ []) ≡ listing_text ls ++ listing_line l
+listing_push : (ls : List ObjectReach) (l : ObjectReach)
+    → listing_text (ls ++ l ∷ []) ≡ listing_text ls ++ listing_line l
 listing_push [] l = append-nil (listing_line l)
 listing_push (k ∷ ls) l =
     ap (λ (t : List ℕ). listing_line k ++ t) (listing_push ls l)

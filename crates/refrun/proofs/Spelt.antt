@@ -87,7 +87,8 @@ form_without_fault Turn name operands vs (w ∷ ws) known of h =
     rw known_name (operands_without_fault operands ws vs of h.1)
 
 -- words that spell a step have no fault
-pub spelt_without_fault : (words : List (List ℕ)) (step : ScriptStep) → SpellsScriptStep words step → step_fault words ≡ None
+pub spelt_without_fault : (words : List (List ℕ)) (step : ScriptStep) → SpellsScriptStep words step
+    → step_fault words ≡ None
 spelt_without_fault words step h =
     let form = form_of_step step in
     form_without_fault form.lead form.name form.operands form.words words form.is_known form.are_of

@@ -41,7 +41,8 @@ step_taken steps i next rows reply within is so_far =
 module _ {J : Type 0} (number note : J → ℕ) where
   -- ---- a run, row by row
 
-  run_more : (a : State) (before : StageJobs J) (rows : List ScriptRow) (mid : State) (between : StageJobs J) (b : State)
+  run_more : (a : State) (before : StageJobs J) (rows : List ScriptRow) (mid : State) (between : StageJobs J)
+      (b : State)
       (after : StageJobs J) (row : ScriptRow) → IsScriptRun number note a before rows mid between
       → IsScriptRow number note mid between row.step row.reply b after
       → IsScriptRun number note a before (rows ++ row ∷ []) b after
@@ -51,7 +52,8 @@ module _ {J : Type 0} (number note : J → ℕ) where
       (run.0, run.1, run.2, run_more run.0 run.1 rows mid between b after row run.3 next)
 
   -- a run of jobs is read as what it did to the world
-  run_in_world : (refusal : Option Fault) (held : Option ℕ) (m s : ℕ) (a : State) (before : StageJobs J) (reply : ScriptReply)
+  run_in_world : (refusal : Option Fault) (held : Option ℕ) (m s : ℕ) (a : State) (before : StageJobs J)
+      (reply : ScriptReply)
       (mid : State) (between : StageJobs J) (rest : List Row) (b : State)
       → RunsIn number note refusal held m s a before reply mid between → IsRun mid rest b
       → IsRun a (world_row (scripts.Run m s) reply ++ rest) b
@@ -84,7 +86,8 @@ module _ {J : Type 0} (number note : J → ℕ) where
   -- ---- its text
 
   -- a run with no step
-  pub tells_nothing_yet : (world : Core) (jobs : StageJobs J) → TellsRun number note world jobs [] (trace_text []) world jobs
+  pub tells_nothing_yet : (world : Core) (jobs : StageJobs J)
+      → TellsRun number note world jobs [] (trace_text []) world jobs
   tells_nothing_yet world jobs = ([], refl, (λ a stands. (a, (refl, refl), stands)), refl)
 
   -- and with one step more, whose row is number i + 1

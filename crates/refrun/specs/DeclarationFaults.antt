@@ -1,11 +1,13 @@
 -- What is wrong with the words of a line that declares nothing: the first of its faults by kind, and not by place.
-use Rattle.std.specs.Prelude.{ℕ, ◌+◌, ◌^◌, Bool, true, false, not, ◌&&◌, ◌||◌, if◌then◌else◌, nat_lt, List, [], ◌∷◌, length}
+use Rattle.std.specs.Prelude.{ℕ, ◌+◌, ◌^◌, Bool, true, false, not, ◌&&◌, ◌||◌, if◌then◌else◌, nat_lt, List, [], ◌∷◌}
+use Rattle.std.specs.Prelude.{length}
 use Rattle.std.specs.Prelude.{take, Option, Some, None, codes}
 use Rattle.std.specs.List.{list_all}
 use Rattle.std.specs.Str.{bytes_eq}
 use Rattle.refrun.specs.Numerals.{number_below}
 use Rattle.refrun.specs.declared.fault.LineFault.{LineFault}
-use Rattle.refrun.specs.declared.fault.LineFault.TheVariants.{UnknownLine, MissingWord, BadWord, ExtraWord, DoubleObject}
+use Rattle.refrun.specs.declared.fault.LineFault.TheVariants.{UnknownLine, MissingWord, BadWord, ExtraWord}
+use Rattle.refrun.specs.declared.fault.LineFault.TheVariants.{DoubleObject}
 
 -- how many words are wanted behind the name of a line, and how many more may stand there
 pub record Wanted : Type 0 where

@@ -1,5 +1,5 @@
--- The grammar of a line of a graph text: which words declare which root or object, and what graph the declarations are of
--- (this project's profile).
+-- The grammar of a line of a graph text: which words declare which root or object, and what graph the declarations are
+-- of (this project's profile).
 use Rattle.std.specs.Prelude.{◌≡◌, ℕ, ◌^◌, ◌≤◌, Bool, false, List, [], ◌∷◌, length, Option, Some, None, codes}
 use Rattle.ref_base.specs.Members.{has}
 use Rattle.ref_base.specs.Graphs.{Graph, empty_graph, with_object, with_root, plain_object, reference_object}

@@ -1,7 +1,8 @@
 -- The rows of a script: those of the world are rows of the abstract collector, and those of jobs are rows of one
--- cleaner's table (Java SE 17 `java.lang.ref.Cleaner` for an action that runs at most once, as its reference is cleared;
--- the numbers of jobs: this project's profile).
-use Rattle.std.specs.Prelude.{◌≡◌, ◌≢◌, ℕ, List, [], ◌∷◌, ◌++◌, Option, Some, None, Ok, Err, All, Contains, IsPermutation}
+-- cleaner's table (Java SE 17 `java.lang.ref.Cleaner` for an action that runs at most once, as its reference is
+-- cleared; the numbers of jobs: this project's profile).
+use Rattle.std.specs.Prelude.{◌≡◌, ◌≢◌, ℕ, List, [], ◌∷◌, ◌++◌, Option, Some, None, Ok, Err, All, Contains}
+use Rattle.std.specs.Prelude.{IsPermutation}
 use Rattle.ref_base.specs.Heaps.{slot_at}
 use Rattle.ref_base.specs.Refusals.{clear_refusal}
 use Rattle.ref_base.specs.Collectors.{State, first_state}
@@ -41,8 +42,8 @@ abbrev pub first_jobs : {J : Type 0} → List J → StageJobs J
 first_jobs jobs = record { table = new_registry; left = jobs }
 
 module _ {J : Type 0} (number : J → ℕ) where
-  -- When a `job` of number n for this object is answered so. It is ok where a job of this number is left, which the table
-  -- takes; used where none is; and where the table refuses the job it stays to be used.
+  -- When a `job` of number n for this object is answered so. It is ok where a job of this number is left, which the
+  -- table takes; used where none is; and where the table refuses the job it stays to be used.
   abbrev pub RegistersStageJob : ℕ → ℕ → StageJobs J → ScriptReply → StageJobs J → Type 0
   RegistersStageJob object n old replies.Registered new =
       (job : J) × (number job ≡ n) × IsPermutation old.left (job ∷ new.left)
@@ -60,8 +61,8 @@ module _ {J : Type 0} (number : J → ℕ) where
   RegistersIn None (Some object) n old reply new = RegistersStageJob object n old reply new
 
 module _ {J : Type 0} (number note : J → ℕ) where
-  -- When a `run` of the reference in a slot, which is this object, is answered so. It is gone where the table has no job
-  -- of it; else its job is given out, the reference is cleared, and the answer is the job's number and note.
+  -- When a `run` of the reference in a slot, which is this object, is answered so. It is gone where the table has no
+  -- job of it; else its job is given out, the reference is cleared, and the answer is the job's number and note.
   abbrev pub RunsJob : ℕ → ℕ → ℕ → State → StageJobs J → ScriptReply → State → StageJobs J → Type 0
   RunsJob object m s a old replies.Gone b new =
       Takes old.table object None new.table × (new.left ≡ old.left) × (b ≡ a)

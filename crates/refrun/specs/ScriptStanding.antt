@@ -1,4 +1,5 @@
--- The rows that a world and a cleaner's table give, from each state of the abstract collector that the world stands for.
+-- The rows that a world and a cleaner's table give, from each state of the abstract collector that the world stands
+-- for.
 use Rattle.std.specs.Prelude.{List}
 use Rattle.ref_base.specs.Collectors.{State}
 use Rattle.ref_queue.specs.CleanTables.{Registry}

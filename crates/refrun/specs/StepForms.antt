@@ -84,4 +84,5 @@ operands_in (f ∷ forms) name = if bytes_eq name f.name then Some f.operands el
 
 -- the steps of the actors that this letter stands for, `m` or `w`
 abbrev pub forms_of_letter : ℕ → List Form
-forms_of_letter letter = if letter == 109 then job_forms ++ mutator_forms else (if letter == 119 then worker_forms else [])
+forms_of_letter letter =
+    if letter == 109 then job_forms ++ mutator_forms else (if letter == 119 then worker_forms else [])

@@ -1,5 +1,5 @@
--- What a queue's lists must be once all threads of a stress run have ended: what was put in, what was taken, what stands,
--- and what each poller took (this project's own).
+-- What a queue's lists must be once all threads of a stress run have ended: what was put in, what was taken, what
+-- stands, and what each poller took (this project's own).
 use Rattle.std.specs.Prelude.{◌≡◌, ℕ, true, nat_eq, List, [], codes, Option, None, Some}
 use Rattle.std.specs.List.{All, IsDistinct, concat}
 use Rattle.ref_base.specs.Members.{has}

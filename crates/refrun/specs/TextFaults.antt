@@ -79,7 +79,8 @@ first_fault place k (line ∷ lines) =
 
 -- the fault of a text of which this is wanted first, if it has one
 abbrev pub fault_at : Place → List ℕ → Option TextFault
-fault_at place text = if nat_le (length text) most_bytes then first_fault place 1 (lines_of text) else Some texts.TooLong
+fault_at place text =
+    if nat_le (length text) most_bytes then first_fault place 1 (lines_of text) else Some texts.TooLong
 
 -- the fault of a text as a script
 abbrev pub script_fault : List ℕ → Option TextFault

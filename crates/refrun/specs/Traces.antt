@@ -39,9 +39,9 @@ module _ {J : Type 0} (number note : J → ℕ) where
       (rows : List ScriptRow) × (script_steps_of rows ≡ steps) × IsScriptTrace number note config jobs rows
       × (text ≡ trace_text rows)
 
-  -- What is printed is the text of a trace of the steps of the script that the text spells, with one reply each. Its rows
-  -- of the world, with a job that was run read as the clear of its reference, are a legal trace; its rows of jobs are
-  -- those of one table, in which jobs of these stand.
+  -- What is printed is the text of a trace of the steps of the script that the text spells, with one reply each. Its
+  -- rows of the world, with a job that was run read as the clear of its reference, are a legal trace; its rows of jobs
+  -- are those of one table, in which jobs of these stand.
   pub record PrintsTrace (jobs : List J) (text printed : List ℕ) : Type 0 where
     pub config : Config
     pub rows : List ScriptRow

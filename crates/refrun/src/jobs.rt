@@ -63,8 +63,8 @@ impl<A: Allocator + Copy> Stage<A> {
         }
     }
 
-    /// Takes the job of the object, which is the reference in the slot, clears the reference, and runs the job. Where it
-    /// has none, nothing changes.
+    /// Takes the job of the object, which is the reference in the slot, clears the reference, and runs the job. Where
+    /// it has none, nothing changes.
     fn run(&mut self, object: ObjNo, mutator: MutNo, reference: SlotNo) -> ScriptReply
         requires refused { clear_refusal self.old.world.heap.mark.heap mutator reference ≡ None }
         requires held { slot_at self.old.world.heap.mark.heap mutator reference ≡ Some object }

@@ -18,10 +18,10 @@ use std::alloc::{AllocError, Allocator};
 
 /// Reads a graph text, and writes how strongly each of its objects is reachable.
 ///
-/// The whole text is read and all the output is made before anything is written. The answer is `Ok` where the output has
-/// gone out, and else the first of: `CannotRead` where a read failed; `TooLong`, or the fault of the first faulty line;
-/// `CannotWrite` where a write failed, and then a prefix of the output may have gone out. `NoMemory` may come in place of
-/// each but the last.
+/// The whole text is read and all the output is made before anything is written. The answer is `Ok` where the output
+/// has gone out, and else the first of: `CannotRead` where a read failed; `TooLong`, or the fault of the first faulty
+/// line; `CannotWrite` where a write failed, and then a prefix of the output may have gone out. `NoMemory` may come in
+/// place of each but the last.
 ///
 /// All its memory is of this allocator.
 pub fn strength_text<R: TextSource, W: TextSink, A: Allocator + Copy>(

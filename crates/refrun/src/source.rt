@@ -35,7 +35,8 @@ pub trait TextSource {
 }
 
 /// Any reader as a source. A read that was interrupted is tried again, up to the 999th interruption of this source;
-/// the 1,000th is a failure. `OutOfMemory` is answered `ReadError::NoMemory`, and is no failure. Every other error is one.
+/// the 1,000th is a failure. `OutOfMemory` is answered `ReadError::NoMemory`, and is no failure. Every other error is
+/// one.
 #[derive(Drop)]
 pub struct FromReader<R> {
     reader: R,

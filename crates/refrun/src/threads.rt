@@ -60,8 +60,8 @@ impl Drop for Ending<'_> {
 /// pollers take what arrives. When the mutators have ended the workers do, the queue is closed, and the pollers take
 /// what is left. The tally says meanwhile how far the run is.
 ///
-/// `BadConfig` where mutators and pollers together, or workers, are not 1 to 8. `NoMemory` where a growth is refused, or
-/// the memory for threads. All its memory is of this allocator.
+/// `BadConfig` where mutators and pollers together, or workers, are not 1 to 8. `NoMemory` where a growth is refused,
+/// or the memory for threads. All its memory is of this allocator.
 pub fn stress<R: Threads + Wait + Sync>(
     rt: &R,
     alloc: Global,

@@ -35,8 +35,8 @@ const ROW_TEXT: usize = 40;
 /// A `job` names a job by its number, so no two should have the same. The jobs are spent: one that no `run` took is
 /// dropped without being run.
 ///
-/// Beside the text and its trace, the run takes what the world takes, and 32 bytes a step, or at most 96 while the steps
-/// are read. All its memory is of this allocator.
+/// Beside the text and its trace, the run takes what the world takes, and 32 bytes a step, or at most 96 while the
+/// steps are read. All its memory is of this allocator.
 pub fn run_script<R: TextSource, W: TextSink, A: Allocator + Copy>(
     alloc: A,
     reader: &mut R,

@@ -1,5 +1,5 @@
-//! Texts, what is done with each, and what it must print: a few, for the tests of what fails. The others are files of the
-//! program `refrun_cases`.
+//! Texts, what is done with each, and what it must print: a few, for the tests of what fails. The others are files of
+//! the program `refrun_cases`.
 
 use crate::texts::{GRAPH, LISTING};
 

@@ -1,5 +1,6 @@
-//! The tests of what no text in a file can show: what is printed of numbers, faults, strengths, steps, replies and rows;
-//! each line of a step; readers, writers and memory that fail; texts as long as they may be; the checks of lists; stress.
+//! The tests of what no text in a file can show: what is printed of numbers, faults, strengths, steps, replies and
+//! rows; each line of a step; readers, writers and memory that fail; texts as long as they may be; the checks of lists;
+//! stress.
 //!
 //! Scripts with their traces and graph texts with their listings are files of the program `refrun_cases`; a few stand
 //! here, for the loops over what fails.

@@ -189,7 +189,8 @@ fn a_writer_that_fails_has_a_prefix(rt: HostRuntime) {
     }
 }
 
-/// The text prints this with empty lines behind it that make it as long as a text may be, and is too long with one more.
+/// The text prints this with empty lines behind it that make it as long as a text may be, and is too long with one
+/// more.
 fn may_be_so_long(
     rt: &impl Abort,
     alloc: Global,

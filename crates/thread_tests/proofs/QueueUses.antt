@@ -39,14 +39,16 @@ closed_at (call ∷ calls) by was = or_right (closed_by_call call.step call.repl
 -- what a seat has seen that closed the queue
 has_closed : (u v : QueueView) (was : Bool) → ClosesQueue u (Ok was) v → is_closed_after v.seen ≡ true
 has_closed u v was closes =
-    subst (λ (l : List QueueEntry). is_closed_after l ≡ true) (sym closes.1.1) (closed_at (u.seen ++ closes.1.0) u.number was)
+    subst (λ (l : List QueueEntry). is_closed_after l ≡ true) (sym closes.1.1)
+    (closed_at (u.seen ++ closes.1.0) u.number was)
 
 -- the second of two closes finds the queue closed
 pub closes_again : (u v w : QueueView) (number : ℕ) (was : Bool) (result : Result Bool ShareFault) (last : NoticeLists)
     → ClosesQueue u (Ok was) v → ClosesQueue v result w → IsQueueRun number w.seen last → IfOk result (λ is. is ≡ false)
 closes_again u v w number was (Ok is) last first then run =
     let front : List QueueEntry = v.seen ++ then.1.0 in
-    let parts = leads_cut IsQueueMove front (entry v.number steps.Close (replies.Closed is) ∷ []) (new_queue number) last
+    let parts = leads_cut IsQueueMove front (entry v.number steps.Close (replies.Closed is) ∷ []) (new_queue number)
+    last
     (subst (λ (l : List QueueEntry). IsQueueRun number l last) then.1.1 run) in
     let shut = closed_later v.seen then.1.0 (has_closed u v was first) in
     parts.2.1.0 ∙ ap not ((keeps_lists number front parts.0 parts.1).closed_is ∙ shut)

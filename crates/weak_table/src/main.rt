@@ -1,7 +1,8 @@
 //! A table with weak values, as caches and canonical maps are: once nothing else refers to a value, its entry goes.
 //!
-//! Four threads share a heap: the program makes values and lets some go, the collector runs cycles, and two cleaners, each
-//! with a queue of its own, take what that reports and remove the entries of what died. It prints the same in every run.
+//! Four threads share a heap: the program makes values and lets some go, the collector runs cycles, and two cleaners,
+//! each with a queue of its own, take what that reports and remove the entries of what died. It prints the same in
+//! every run.
 #![tactic(auto)]
 
 ghost use Rattle.example_runtime.specs.Users.{IsUser, IsCollector};
@@ -52,8 +53,8 @@ fn main(rt: HostRuntime) -> Result<(), anyhow::Error> {
     Ok(())
 }
 
-/// Runs the program, the collector, and a cleaner for each queue. The collector and the cleaners each have a seat of each
-/// queue.
+/// Runs the program, the collector, and a cleaner for each queue. The collector and the cleaners each have a seat of
+/// each queue.
 fn clean_and_fill<R: Threads + Wait + Sync>(
     rt: &R,
     user: HeapUser,
@@ -143,8 +144,8 @@ fn work<R: Threads + Wait + Sync>(
     collected
 }
 
-/// Makes a value for each key, and a weak reference to it with its entry: that of the lower half of the keys is reported
-/// by the first queue, and that of the others by the second. Then it lets the values of odd keys go.
+/// Makes a value for each key, and a weak reference to it with its entry: that of the lower half of the keys is
+/// reported by the first queue, and that of the others by the second. Then it lets the values of odd keys go.
 fn fill<R: Wait>(rt: &R, program: HeapUser, table: &Table) -> Result<(), Fault>
     requires { IsUser program }
 {

@@ -8,7 +8,8 @@ clean-requires-clause-worker g c κs within =
     let count = c.split-told.ensures.two.1 in (
       c.split-2.ensures.1,
       c.split-told.ensures.seats 1 queue c.split-told.result.1
-          (slice_get-get_or c.split-told.new.self.all.items 1 queue (omega (arith, count)) ∙ ap Some (sym c.index.ensures))
+          (slice_get-get_or c.split-told.new.self.all.items 1 queue (omega (arith, count))
+          ∙ ap Some (sym c.index.ensures))
           refl,
       c.split-3.ensures.seat.1,
     )

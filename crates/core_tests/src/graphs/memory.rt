@@ -103,8 +103,8 @@ fn a_root_without_memory_changes_nothing(rt: HostRuntime) -> Result<(), Fail> {
     Ok(())
 }
 
-/// In memory of so many bytes it is told that the last of 200 objects is strongly reachable, or refused. Answers whether it
-/// was told.
+/// In memory of so many bytes it is told that the last of 200 objects is strongly reachable, or refused. Answers
+/// whether it was told.
 fn is_told(
     rt: &impl Abort,
     alloc: Global,

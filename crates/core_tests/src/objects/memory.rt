@@ -78,8 +78,8 @@ fn free_all_but_one<A: Allocator + Copy>(heap: &mut Objects<A>) {
     }
 }
 
-/// Fills the heap, and again each time that all but the first object were freed. As that one stays, the index fills with
-/// gaps again and again.
+/// Fills the heap, and again each time that all but the first object were freed. As that one stays, the index fills
+/// with gaps again and again.
 fn fill_again_and_again<A: Allocator + Copy>(rt: &impl Abort, heap: &mut Objects<A>, cells: u32) {
     fill(rt, heap, cells);
     for _round in 0..20 {

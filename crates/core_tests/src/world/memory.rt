@@ -103,7 +103,8 @@ fn a_run_without_room_gives_world_and_steps_back(rt: HostRuntime) -> Result<(), 
     Ok(())
 }
 
-/// Whether a put finds memory, where so many bytes of the arena are left. Its notice stays in the hand where it doesn't.
+/// Whether a put finds memory, where so many bytes of the arena are left. Its notice stays in the hand where it
+/// doesn't.
 fn is_put(
     rt: &impl Abort,
     memory: &Bump,

@@ -30,10 +30,10 @@ impl<A: Allocator + Copy> Heap<A> {
         Ok(Some(Notice::new(hold, first.queue, cause)))
     }
 
-    /// Clears the reference in a slot, as `clear` does, and gives its notice if it is registered with a queue, each time
-    /// that it is called (as `Reference.enqueue` of Java SE 17 begins; the rest of it is the queue's). Tried in this
-    /// order: `NoSuchActor`, `EmptySlot`, `NotAReference`; where it is registered, `NumbersSpent` where 2^64 - 1 holds
-    /// are out. In logarithmic time.
+    /// Clears the reference in a slot, as `clear` does, and gives its notice if it is registered with a queue, each
+    /// time that it is called (as `Reference.enqueue` of Java SE 17 begins; the rest of it is the queue's). Tried in
+    /// this order: `NoSuchActor`, `EmptySlot`, `NotAReference`; where it is registered, `NumbersSpent` where 2^64 - 1
+    /// holds are out. In logarithmic time.
     pub fn unhook(&mut self, mutator: MutNo, reference: SlotNo) -> Result<Option<Notice>, Fault>
         ensures answer { reply_of notice_reply result ≡ answer_in self.old (HeapStep.Unhook mutator reference) }
         ensures own { IfOk result (λ notice. IsOfHeap self.old.mark.heap_no notice) }

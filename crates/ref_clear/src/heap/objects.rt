@@ -112,8 +112,8 @@ impl<A: Allocator + Copy> Heap<A> {
         self.marker.clear(mutator, reference)
     }
 
-    /// Whether the reference in a slot refers to what slot `other` holds, as `Marker::refers_to` does: to null once it is
-    /// cleared, or its referent doomed. `NoSuchActor`, `EmptySlot`, `NotAReference`.
+    /// Whether the reference in a slot refers to what slot `other` holds, as `Marker::refers_to` does: to null once it
+    /// is cleared, or its referent doomed. `NoSuchActor`, `EmptySlot`, `NotAReference`.
     pub fn refers_to(&self, mutator: MutNo, reference: SlotNo, other: SlotNo) -> Result<bool, Fault>
         ensures answer { reply_of Reply.Refers result ≡ answer_in self.now (HeapStep.RefersTo mutator reference other) }
     {

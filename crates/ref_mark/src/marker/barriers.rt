@@ -26,7 +26,8 @@ impl<A: Allocator + Copy> Marker<A> {
         from: SlotNo,
         field: u32,
     ) -> Result<Option<ObjNo>, Fault>
-        ensures answer { reply_of value_reply result ≡ answer_in_cycle self.old (HeapStep.Load mutator into from field) }
+        ensures answer { reply_of value_reply result ≡
+            answer_in_cycle self.old (HeapStep.Load mutator into from field) }
         ensures after { self.new ≡ after_in_cycle self.old (HeapStep.Load mutator into from field) }
     {
         let value = self.loadable(mutator, into, from, field)?;
@@ -77,7 +78,8 @@ impl<A: Allocator + Copy> Marker<A> {
     /// is doomed. It makes nothing grey. Tried in this order: `NoSuchActor`, `EmptySlot`, `NotAReference`. In
     /// logarithmic time.
     pub fn refers_to(&self, mutator: MutNo, reference: SlotNo, other: SlotNo) -> Result<bool, Fault>
-        ensures answer { reply_of Reply.Refers result ≡ answer_in_cycle self.now (HeapStep.RefersTo mutator reference other) }
+        ensures answer { reply_of Reply.Refers result ≡
+            answer_in_cycle self.now (HeapStep.RefersTo mutator reference other) }
     {
         let (_no, read) = self.gettable(mutator, other, reference)?;
         let value = self.objects.slot_of(mutator, other)?;

@@ -31,7 +31,8 @@ impl<A: Allocator + Copy> Marker<A> {
         into: SlotNo,
         hold: Hold,
     ) -> Result<ObjNo, (Fault, Hold)>
-        ensures answer { reply_or_back Reply.Object result ≡ answer_in_cycle self.old (HeapStep.Adopt mutator into hold) }
+        ensures answer { reply_or_back Reply.Object result ≡
+            answer_in_cycle self.old (HeapStep.Adopt mutator into hold) }
         ensures back { IfErr result (λ refused. refused.1 ≡ hold) }
         ensures after { self.new ≡ after_in_cycle self.old (HeapStep.Adopt mutator into hold) }
     {

@@ -81,7 +81,8 @@ impl<A: Allocator + Copy> Objects<A> {
         requires { length self.old.heap.holds < 2 ^ 64 - 1 }
         ensures there { result ≡ is_there self.old.heap.objects no }
         ensures after { self.new ≡
-            (if is_there self.old.heap.objects no then ground_with_heap self.old (with_hold self.old.heap no) else self.old) }
+            (if is_there self.old.heap.objects no then ground_with_heap self.old (with_hold self.old.heap no) else
+            self.old) }
     {
         // Gives the proof that the numbers rise.
         let _count = self.table.len();
@@ -96,7 +97,8 @@ impl<A: Allocator + Copy> Objects<A> {
     fn drop_hold(&mut self, no: ObjNo) -> bool
         ensures held { result ≡ has self.old.heap.holds no }
         ensures after { self.new ≡
-            (if has self.old.heap.holds no then ground_with_heap self.old (without_hold self.old.heap no) else self.old) }
+            (if has self.old.heap.holds no then ground_with_heap self.old (without_hold self.old.heap no) else
+            self.old) }
     {
         // Gives the proof that the numbers rise.
         let _count = self.table.len();

@@ -35,7 +35,8 @@ impl<A: Allocator + Copy> Objects<A> {
 
     /// Stamps the reference of this number; nothing changes where there is none. In logarithmic time.
     pub fn set_stamp(&mut self, no: ObjNo, stamp: u64)
-        ensures { self.new ≡ ground_with_heap self.old (with_changed self.old.heap no (with_reference (with_stamp stamp))) }
+        ensures { self.new ≡
+            ground_with_heap self.old (with_changed self.old.heap no (with_reference (with_stamp stamp))) }
     {
         self.table.set_stamp(no, stamp);
     }

@@ -76,8 +76,8 @@ pub enum Call {
     DeliverNowhere,
 }
 
-/// What a call was answered. It is printed by its word and its numbers: a derive for so many variants would be dearer to
-/// prove than its stories.
+/// What a call was answered. It is printed by its word and its numbers: a derive for so many variants would be dearer
+/// to prove than its stories.
 #[derive(Clone, Copy, PartialEq, Eq)]
 pub enum Told {
     Reply(Reply),

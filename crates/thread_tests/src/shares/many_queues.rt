@@ -98,8 +98,8 @@ fn has_one<R: Abort>(rt: &R, alloc: Global, queue: SharedQueue, seat: QueueSeat)
     }
 }
 
-/// An object, and for each queue a weak reference to it, numbered from 2 on in the order of the queues. The last of them
-/// takes the object's slot, so that nothing else refers to it.
+/// An object, and for each queue a weak reference to it, numbered from 2 on in the order of the queues. The last of
+/// them takes the object's slot, so that nothing else refers to it.
 fn make_references<R: Abort>(rt: &R, heap: &SharedHeap, seat: &mut HeapSeat, queues: u32)
     requires seat { IsHeapSeat heap.now seat.old }
     requires queues { queues ≤ 16 }

@@ -1,6 +1,7 @@
 //! What the callers of a turn can prove.
 
-ghost use Rattle.std.specs.Prelude.{◌≡◌, ◌≢◌, ◌+◌, ◌-◌, ◌^◌, ◌<◌, ℕ, [], ◌∷◌, length, true, false, IsTrue, IsFalse, IfOk};
+ghost use Rattle.std.specs.Prelude.{◌≡◌, ◌≢◌, ◌+◌, ◌-◌, ◌^◌, ◌<◌, ℕ, [], ◌∷◌, length, true, false, IsTrue, IsFalse};
+ghost use Rattle.std.specs.Prelude.{IfOk};
 ghost use Rattle.ref_turn.specs.History.{calls_by};
 ghost use Rattle.ref_turn.specs.Seats.{entry};
 ghost use Rattle.ref_turn.specs.Turns.{view, IsSeatOf};

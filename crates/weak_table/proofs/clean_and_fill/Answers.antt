@@ -8,7 +8,8 @@ new-left-requires g c =
     let count = c.split-first.ensures.two.1 in (
       c.split-2.ensures.1,
       c.split-first.ensures.seats 0 queue c.split-first.result.0
-          (slice_get-get_or c.split-first.new.self.all.items 0 queue (omega (arith, count)) ∙ ap Some (sym c.index.ensures))
+          (slice_get-get_or c.split-first.new.self.all.items 0 queue (omega (arith, count))
+          ∙ ap Some (sym c.index.ensures))
           refl,
     )
 
@@ -18,6 +19,7 @@ new-right-requires g c =
     let count = c.split-first.ensures.two.1 in (
       c.split-3.ensures.1,
       c.split-first.ensures.seats 1 queue c.split-first.result.1
-          (slice_get-get_or c.split-first.new.self.all.items 1 queue (omega (arith, count)) ∙ ap Some (sym c.index-2.ensures))
+          (slice_get-get_or c.split-first.new.self.all.items 1 queue (omega (arith, count))
+          ∙ ap Some (sym c.index-2.ensures))
           refl,
     )

@@ -17,6 +17,7 @@ returns-in_err-ends-clause-fault g c =
 
 pub returns-clause-found : goal.returns-clause-found
 returns-clause-found g c =
-    let fields = all_fields (words_of c.in_ok-referent.rest.now) _ _ c.in_ok-fields.ensures.found c.in_ok-ends.ensures in
+    let fields = all_fields (words_of c.in_ok-referent.rest.now)
+    _ _ c.in_ok-fields.ensures.found c.in_ok-ends.ensures in
     rw (c.in_ok-no.ensures, c.in_ok-referent.ensures)
     (refl, c.in_ok-no-2.ensures, c.in_ok-referent-2.ensures, fields.0, fields.1)

@@ -9,5 +9,6 @@ joined-requires-clause-left g c k d within =
     let given = (c.in-Ok-map_vec.ensures.each k d there).1 in
     let same = subst (λ (job : Job). job.station.shared.now ≡ c.args.shared.now) (given.job_is given.job)
     (c.in-Ok.ensures.seated k given.job there).0 in
-    subst (λ (shared : Shared). IsHeapSeat shared.heap.now left.heap_seat × IsQueueSeat shared.queue.now left.queue_seat)
+    subst (λ (shared : Shared). IsHeapSeat shared.heap.now left.heap_seat
+    × IsQueueSeat shared.queue.now left.queue_seat)
     same given.call.met

@@ -4,7 +4,8 @@ use Rattle.refrun.proofs.trace.run_script.Goals as goal
 
 pub returns-in-Ok-clause-answer : goal.returns-in-Ok-clause-answer
 returns-in-Ok-clause-answer g c =
-    answers_done (PrintsTrace job_number note_of c.args.jobs.items) (g.R.TextSource.remaining c.args.reader.now) _ _ _ _ _ _ c.in_ok-text.ensures.text
+    answers_done (PrintsTrace job_number note_of c.args.jobs.items) (g.R.TextSource.remaining c.args.reader.now)
+    _ _ _ _ _ _ c.in_ok-text.ensures.text
     c.as_slice.ensures.value c.in_ok-trace.ensures.prints c.as_bytes.ensures.value c.in-Ok.ensures.ok
 
 pub returns-in-Ok-clause-refused : goal.returns-in-Ok-clause-refused
@@ -14,7 +15,8 @@ returns-in-Ok-clause-refused g c =
 
 pub returns-clause-answer : goal.returns-clause-answer
 returns-clause-answer g c =
-    answers_prefix (PrintsTrace job_number note_of c.args.jobs.items) (g.R.TextSource.remaining c.args.reader.now) _ _ _ _ _ _ c.in_ok-text.ensures.text
+    answers_prefix (PrintsTrace job_number note_of c.args.jobs.items) (g.R.TextSource.remaining c.args.reader.now)
+    _ _ _ _ _ _ c.in_ok-text.ensures.text
     c.as_slice.ensures.value c.in_ok-trace.ensures.prints c.as_bytes.ensures.value c.in-Err.ensures.err
 
 pub returns-clause-refused : goal.returns-clause-refused

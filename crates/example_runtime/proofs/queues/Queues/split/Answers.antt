@@ -7,13 +7,15 @@ pub split-left-requires : goal.split-left-requires
 split-left-requires c =
     let queue = c.index.result.now in
     c.requires.0 0 queue c.args.self.now.first
-    (slice_get-get_or c.args.self.now.all.items 0 queue (omega (arith, c.requires.1)) ∙ ap Some (sym c.index.ensures)) refl
+    (slice_get-get_or c.args.self.now.all.items 0 queue (omega (arith, c.requires.1)) ∙ ap Some (sym c.index.ensures))
+    refl
 
 pub split-right-requires : goal.split-right-requires
 split-right-requires c =
     let queue = c.index-2.result.now in
     c.requires.0 1 queue c.args.self.now.second
-    (slice_get-get_or c.args.self.now.all.items 1 queue (omega (arith, c.requires.1)) ∙ ap Some (sym c.index-2.ensures)) refl
+    (slice_get-get_or c.args.self.now.all.items 1 queue (omega (arith, c.requires.1)) ∙ ap Some (sym c.index-2.ensures))
+    refl
 
 pub returns-clause-two : goal.returns-clause-two
 returns-clause-two c =

@@ -5,7 +5,8 @@ use Rattle.ref_mark.proofs.marker.Marker.free.Goals as goal
 
 pub invariant_of-self : goal.invariant_of-self
 invariant_of-self g c =
-    let k : CycleHeap = seen_marker c.self.inside.objects c.self.inside.grey c.self.inside.found.items c.self.inside.phase
+    let k : CycleHeap = seen_marker c.self.inside.objects c.self.inside.grey c.self.inside.found.items
+    c.self.inside.phase
     c.self.inside.urgency c.self.inside.cycle in
     let due : is_due k c.args.no ≡ true =
     subst (λ (m : CycleHeap). is_due m c.args.no ≡ true) (sym c.self.view_is)
@@ -16,7 +17,8 @@ invariant_of-self g c =
 
 pub returns-then-is_due-clause-after : goal.returns-then-is_due-clause-after
 returns-then-is_due-clause-after g c =
-    let k : CycleHeap = seen_marker c.self.inside.objects c.self.inside.grey c.self.inside.found.items c.self.inside.phase
+    let k : CycleHeap = seen_marker c.self.inside.objects c.self.inside.grey c.self.inside.found.items
+    c.self.inside.phase
     c.self.inside.urgency c.self.inside.cycle in
     let due : is_due k c.args.no ≡ true =
     subst (λ (m : CycleHeap). is_due m c.args.no ≡ true) (sym c.self.view_is)

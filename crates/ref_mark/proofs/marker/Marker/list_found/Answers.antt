@@ -15,7 +15,8 @@ invariant_of-self g c =
 
 pub returns-then-refers_to_white : goal.returns-then-refers_to_white
 returns-then-refers_to_white g c =
-    let k : CycleHeap = seen_marker c.self.inside.objects c.self.inside.grey c.self.inside.found.items c.self.inside.phase
+    let k : CycleHeap = seen_marker c.self.inside.objects c.self.inside.grey c.self.inside.found.items
+    c.self.inside.phase
     c.self.inside.urgency c.self.inside.cycle in
     let asks = listing_asks k _ _ _ c.self.view_is c.worker.view_is c.requires.worker c.requires.room in
     let now : refers_into (is_white c.args.self.now) (reference_at c.args.self.now.heap c.args.no) ≡ true =

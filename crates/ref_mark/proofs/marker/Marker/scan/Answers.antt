@@ -9,7 +9,8 @@ invariant_of-self-2 g c = roomy_scanned c.take_first.ensures.after c.self.invari
 
 pub list_found-requires-clause-reference : goal.list_found-requires-clause-reference
 list_found-requires-clause-reference g c =
-    let k : CycleHeap = seen_marker c.self.inside.objects c.take_first.new.self c.self.inside.found.items c.self.inside.phase
+    let k : CycleHeap = seen_marker c.self.inside.objects c.take_first.new.self c.self.inside.found.items
+    c.self.inside.phase
     c.self.inside.urgency c.self.inside.cycle in
     let grown : Greys k c.shade_targets.new.self =
     shaded_greys k _ (targets_at (is_kept (policy_in k)) k.heap.objects c.in-Some.no) c.shade_targets.ensures in
@@ -17,7 +18,8 @@ list_found-requires-clause-reference g c =
 
 pub list_found-requires-clause-worker : goal.list_found-requires-clause-worker
 list_found-requires-clause-worker g c =
-    let k : CycleHeap = seen_marker c.self.inside.objects c.take_first.new.self c.self.inside.found.items c.self.inside.phase
+    let k : CycleHeap = seen_marker c.self.inside.objects c.take_first.new.self c.self.inside.found.items
+    c.self.inside.phase
     c.self.inside.urgency c.self.inside.cycle in
     let grown : Greys k c.shade_targets.new.self =
     shaded_greys k _ (targets_at (is_kept (policy_in k)) k.heap.objects c.in-Some.no) c.shade_targets.ensures in
@@ -27,7 +29,8 @@ list_found-requires-clause-worker g c =
 
 pub list_found-requires-clause-room : goal.list_found-requires-clause-room
 list_found-requires-clause-room g c =
-    let k : CycleHeap = seen_marker c.self.inside.objects c.take_first.new.self c.self.inside.found.items c.self.inside.phase
+    let k : CycleHeap = seen_marker c.self.inside.objects c.take_first.new.self c.self.inside.found.items
+    c.self.inside.phase
     c.self.inside.urgency c.self.inside.cycle in
     let grown : Greys k c.shade_targets.new.self =
     shaded_greys k _ (targets_at (is_kept (policy_in k)) k.heap.objects c.in-Some.no) c.shade_targets.ensures in

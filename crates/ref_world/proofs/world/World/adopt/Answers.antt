@@ -30,7 +30,8 @@ told-requires g c =
     let reply =
     adopt_reply old c.self.invariant.reached c.args.mutator c.args.slot notice c.into_hold-hold.result _ slot
     c.in_ok-take.ensures.refused c.in_ok-take.ensures.answer c.into_hold-hold.ensures c.apply_heap.ensures.answer in
-    adopted_told old.heap.mark.heap_no c.args.mutator c.args.slot c.into_hold-hold.result c.apply_heap.result notice.object
+    adopted_told old.heap.mark.heap_no c.args.mutator c.args.slot c.into_hold-hold.result c.apply_heap.result
+    notice.object
     c.apply_heap.ensures.gives reply
 
 pub invariant_of-self : goal.invariant_of-self

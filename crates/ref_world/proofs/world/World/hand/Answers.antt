@@ -15,7 +15,8 @@ returns-in_err-check_empty g c =
     record { heap = c.self.inside.heap; hands = c.self.inside.hands; queues = c.self.inside.queues.items } in
     let p = err_from_is_err_and c.from_residual.result c.from_residual.ensures.1 in
     rw (p.1, p.2, ← c.self.view_is)
-    (full_at_hand old c.self.invariant.reached c.args.worker c.in_err-check_empty.field-0.0 c.in_err-check_empty.ensures)
+    (full_at_hand old c.self.invariant.reached c.args.worker c.in_err-check_empty.field-0.0
+    c.in_err-check_empty.ensures)
 
 pub invariant_of-self : goal.invariant_of-self
 invariant_of-self g c =
@@ -24,7 +25,8 @@ invariant_of-self g c =
     let free = free_from old.hands (Worker c.args.worker) c.in_ok-check_empty.ensures in
     sound_after old (record old { heap = c.receive.new.heap; hands = c.receive.new.hands }) (steps.Hand c.args.worker)
     c.receive.result refl c.self.invariant
-    (as_told old (steps.Hand c.args.worker) (heap.Hand c.args.worker) c.receive.new.hands c.receive.ensures.answer c.receive.ensures.heap
+    (as_told old (steps.Hand c.args.worker) (heap.Hand c.args.worker)
+    c.receive.new.hands c.receive.ensures.answer c.receive.ensures.heap
     (rw (c.receive.ensures.hands, c.receive.ensures.answer) (hand_row old c.args.worker free)))
 
 pub returns : goal.returns
@@ -33,5 +35,6 @@ returns g c =
     record { heap = c.self.inside.heap; hands = c.self.inside.hands; queues = c.self.inside.queues.items } in
     let free = free_from old.hands (Worker c.args.worker) c.in_ok-check_empty.ensures in
     rw (← c.self.view_is)
-    (as_told old (steps.Hand c.args.worker) (heap.Hand c.args.worker) c.receive.new.hands c.receive.ensures.answer c.receive.ensures.heap
+    (as_told old (steps.Hand c.args.worker) (heap.Hand c.args.worker)
+    c.receive.new.hands c.receive.ensures.answer c.receive.ensures.heap
     (rw (c.receive.ensures.hands, c.receive.ensures.answer) (hand_row old c.args.worker free)))

@@ -7,7 +7,8 @@ pub invariant_of-result : goal.invariant_of-result
 invariant_of-result g c =
     let a = first_state c.args.config in
     let heap = subst (λ (k : ClearHeap). HeapStands k a) c.in_ok-heap.ensures.made.1 c.in_ok-heap.ensures.stands in
-    subst IsSound (sym (made_core c.args.config c.in_ok-heap.ensures.made.1 c.in-Ok.ensures c.in-Ok-empty_queues.ensures))
+    subst IsSound
+    (sym (made_core c.args.config c.in_ok-heap.ensures.made.1 c.in-Ok.ensures c.in-Ok-empty_queues.ensures))
     (first_sound c.args.config heap)
 
 pub returns-in-Ok-empty_queues-clause-stands : goal.returns-in-Ok-empty_queues-clause-stands

@@ -18,7 +18,8 @@ returns-in_err-check_empty g c =
     let accepted : calling_refusal old c.args.mutator q ≡ None =
     subst (λ (o : Core). calling_refusal o c.args.mutator c.args.queue ≡ None) (sym c.self.view_is)
     c.in_ok-check_queue.ensures in
-    let p = err_from_is_err_and c.from_residual-in_err-check_empty.result c.from_residual-in_err-check_empty.ensures.1 in
+    let p = err_from_is_err_and c.from_residual-in_err-check_empty.result c.from_residual-in_err-check_empty.ensures.1
+    in
     rw (p.1, p.2, ← c.self.view_is)
     (full_at_poll old c.self.invariant.reached c.args.mutator q c.in_err-check_empty.field-0.0 accepted
     c.in_err-check_empty.ensures)

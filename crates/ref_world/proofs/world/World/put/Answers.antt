@@ -136,7 +136,8 @@ invariant_of-self-in-Err g c =
     let held =
     c.fill-in-Err.ensures
     ∙ ap (λ (hands : Hands). with_hand_in hands c.args.actor (Some c.in-Err.notice)) c.in_ok-notice.ensures.taken
-    ∙ ap (λ (n : Notice). with_hand_in (with_hand_in old.hands c.args.actor None) c.args.actor (Some n)) c.in-Err.ensures.answer.1
+    ∙ ap (λ (n : Notice). with_hand_in (with_hand_in old.hands c.args.actor None) c.args.actor (Some n))
+    c.in-Err.ensures.answer.1
     ∙ put_back old.hands c.args.actor notice full in
     rw (named, back, held) c.self.invariant
 
@@ -239,7 +240,8 @@ returns-in-Err g c =
     let held =
     c.fill-in-Err.ensures
     ∙ ap (λ (hands : Hands). with_hand_in hands c.args.actor (Some c.in-Err.notice)) c.in_ok-notice.ensures.taken
-    ∙ ap (λ (n : Notice). with_hand_in (with_hand_in old.hands c.args.actor None) c.args.actor (Some n)) c.in-Err.ensures.answer.1
+    ∙ ap (λ (n : Notice). with_hand_in (with_hand_in old.hands c.args.actor None) c.args.actor (Some n))
+    c.in-Err.ensures.answer.1
     ∙ put_back old.hands c.args.actor notice full in
     rw (← c.self.view_is, named, back, held)
     (refused_put_row old c.self.invariant.reached c.args.actor notice lists accepted full here c.in-Err.fault own

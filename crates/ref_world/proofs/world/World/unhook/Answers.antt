@@ -13,7 +13,8 @@ pub returns-in_err-check_empty : goal.returns-in_err-check_empty
 returns-in_err-check_empty g c =
     let old : Core =
     record { heap = c.self.inside.heap; hands = c.self.inside.hands; queues = c.self.inside.queues.items } in
-    let p = err_from_is_err_and c.from_residual-in_err-check_empty.result c.from_residual-in_err-check_empty.ensures.1 in
+    let p = err_from_is_err_and c.from_residual-in_err-check_empty.result c.from_residual-in_err-check_empty.ensures.1
+    in
     rw (p.1, p.2, ← c.self.view_is)
     (full_at_unhook old c.self.invariant.reached c.args.mutator c.args.reference c.in_err-check_empty.field-0.0
     (subst (λ (o : Core). drop_refusal o.heap.mark.heap c.args.mutator c.args.reference ≡ None) (sym c.self.view_is)
@@ -24,9 +25,11 @@ invariant_of-self g c =
     let old : Core =
     record { heap = c.self.inside.heap; hands = c.self.inside.hands; queues = c.self.inside.queues.items } in
     let free = free_from old.hands (Mutator c.args.mutator) c.in_ok-check_empty.ensures in
-    sound_after old (record old { heap = c.receive.new.heap; hands = c.receive.new.hands }) (steps.Unhook c.args.mutator c.args.reference)
+    sound_after old (record old { heap = c.receive.new.heap; hands = c.receive.new.hands })
+    (steps.Unhook c.args.mutator c.args.reference)
     c.receive.result refl c.self.invariant
-    (as_told old (steps.Unhook c.args.mutator c.args.reference) (heap.Unhook c.args.mutator c.args.reference) c.receive.new.hands c.receive.ensures.answer c.receive.ensures.heap
+    (as_told old (steps.Unhook c.args.mutator c.args.reference) (heap.Unhook c.args.mutator c.args.reference)
+    c.receive.new.hands c.receive.ensures.answer c.receive.ensures.heap
     (rw (c.receive.ensures.hands, c.receive.ensures.answer) (unhook_row old c.args.mutator c.args.reference free)))
 
 pub returns : goal.returns
@@ -35,5 +38,6 @@ returns g c =
     record { heap = c.self.inside.heap; hands = c.self.inside.hands; queues = c.self.inside.queues.items } in
     let free = free_from old.hands (Mutator c.args.mutator) c.in_ok-check_empty.ensures in
     rw (← c.self.view_is)
-    (as_told old (steps.Unhook c.args.mutator c.args.reference) (heap.Unhook c.args.mutator c.args.reference) c.receive.new.hands c.receive.ensures.answer c.receive.ensures.heap
+    (as_told old (steps.Unhook c.args.mutator c.args.reference) (heap.Unhook c.args.mutator c.args.reference)
+    c.receive.new.hands c.receive.ensures.answer c.receive.ensures.heap
     (rw (c.receive.ensures.hands, c.receive.ensures.answer) (unhook_row old c.args.mutator c.args.reference free)))

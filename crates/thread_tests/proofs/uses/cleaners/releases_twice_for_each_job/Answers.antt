@@ -7,6 +7,7 @@ returns-in-Ok-clause-enough g c =
     let goes = c.in-Ok.ensures.goes in
     let before = c.served-before.ensures in
     let after = c.served.ensures in
-    half (heap_view c.served-before.new.seat) goes.0 (heap_view c.clean_loop.new.heap_seat) (heap_view c.served.new.seat)
+    half (heap_view c.served-before.new.seat) goes.0 (heap_view c.clean_loop.new.heap_seat)
+    (heap_view c.served.new.seat)
     c.served-before.result c.served.result c.in-Ok.count goes.2.1 before.seat.history.own
     c.clean_loop.ensures.heap_seat.history.own after.longer goes.4 before.count after.count

@@ -19,7 +19,8 @@ use Rattle.thread_tests.proofs.shares.cleaners.threads.both_ended.Goals as goal
 
 -- a shared cleaner may be seen by several threads: its jobs may move between them
 cleaner_sync : (r : RattleType) (d : Ghosts r)
-    → IsSync (cleaner_row the_row (Vt (slots r) d.0) ghosts (clones the_row) (ghosts_of (slots r) d.0 d.1) (held_fn d.0))
+    → IsSync (cleaner_row the_row (Vt (slots r) d.0) ghosts (clones the_row) (ghosts_of (slots r) d.0 d.1)
+    (held_fn d.0))
 cleaner_sync r d = search (
   dyn_box_send (Vt (slots r) d.0) (ghosts_of (slots r) d.0 d.1) d.2,
   dyn_box_send_over (Vt (slots r) d.0) (ghosts_of (slots r) d.0 d.1) d.2,
