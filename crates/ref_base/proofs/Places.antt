@@ -25,13 +25,6 @@ set_all P (_ ∷ xs) zero x d here others (suc k) = others (suc k)
 set_all P (_ ∷ xs) (suc m) x d here others zero = others zero
 set_all P (_ ∷ xs) (suc m) x d here others (suc k) = set_all P xs m x d here (λ j. others (suc j)) k
 
-pub push_at : {X : Type 0} (P : X → Type 0) (xs : List X) (x d : X) → P x → ((k : ℕ) → P (slice_index_or xs k d))
-    → (k : ℕ) → P (slice_index_or (xs ++ x ∷ []) k d)
-push_at P [] x d here others zero = here
-push_at P [] x d here others (suc k) = others k
-push_at P (y ∷ ys) x d here others zero = others zero
-push_at P (y ∷ ys) x d here others (suc k) = push_at P ys x d here (λ j. others (suc j)) k
-
 pub all_push : {X : Type 0} (P : X → Type 0) (xs : List X) (x : X) → AllByRecursion P xs → P x
     → AllByRecursion P (xs ++ x ∷ [])
 all_push P [] x all here = (here, tt)

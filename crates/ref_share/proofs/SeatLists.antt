@@ -45,9 +45,6 @@ module _ {A : Type 0} where
   only_seat seats queue seat are one count =
       are 0 queue (get_or seats 0 seat) (ap (λ l. slice_get l 0) one) (slice_get-get_or seats 0 seat (omega arith))
 
-  pub no_seats : AreSeats {A = A} [] []
-  no_seats k queue seat found placed = absurd cc
-
   -- one queue more, with its seat
   pub seat_more : (queues : List (SharedQueue A)) (seats : List (QueueSeat A)) (queue : SharedQueue A)
       (seat : QueueSeat A) → AreSeats queues seats → length seats ≡ length queues → IsQueueSeat queue seat
@@ -65,11 +62,6 @@ module _ {A : Type 0} where
               (subst (λ (q : SharedQueue A). IsQueueSeat q seat) last.1 own)
         ]
       ]
-
-  pub two_seats : (first second : SharedQueue A) (s t : QueueSeat A) → IsQueueSeat first s → IsQueueSeat second t
-      → AreSeats (first ∷ second ∷ []) (s ∷ t ∷ [])
-  two_seats first second s t own other =
-      seat_more (first ∷ []) (s ∷ []) second t (seat_more [] [] first s no_seats refl own) refl other
 
   -- the last queue and its seat, and those before it
   pub seat_last : (queues : List (SharedQueue A)) (seats : List (QueueSeat A)) (queue : SharedQueue A)

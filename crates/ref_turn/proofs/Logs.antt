@@ -66,11 +66,6 @@ module _ {S R : Type 0} where
   starts_more log seen more begins =
       (begins.0 ++ more, ap (λ l. l ++ more) begins.1 ∙ append_assoc seen begins.0 more)
 
-  pub starts_through : (log seen less : List (Entry S R)) → StartsWith log seen → StartsWith seen less
-      → StartsWith log less
-  starts_through log seen less begins before =
-      (before.0 ++ begins.0, begins.1 ∙ ap (λ l. l ++ begins.0) before.1 ∙ append_assoc less before.0 begins.0)
-
   pub starts_length : (log seen : List (Entry S R)) → StartsWith log seen → length seen ≤ length log
   starts_length log seen begins = omega (arith, ap length begins.1, length-append seen begins.0)
 

@@ -36,30 +36,6 @@ handed_in hands (steps.Adopt m d) reply =
 handed_in hands (steps.Release who) reply = if is_done reply then with_hand_in hands who None else hands
 handed_in hands step reply = hands
 
-hands-with : (w : World) (who : Actor) (hand : Option Notice)
-    → hands_of (with_hand w who hand) ≡ with_hand_in (hands_of w) who hand
-hands-with w (Mutator m) hand = refl
-hands-with w (Worker k) hand = refl
-
-hands-taking : (w : World) (who : Actor) (given : Option Notice)
-    → hands_of (taking w who given) ≡ received (hands_of w) who given
-hands-taking w who None = refl
-hands-taking w who (Some notice) = hands-with w who (Some notice)
-
-hands-if : (spent : Bool) (w : World) (who : Actor)
-    → hands_of (if spent then with_hand w who None else w)
-    ≡ (if spent then with_hand_in (hands_of w) who None else hands_of w)
-hands-if true w who = hands-with w who None
-hands-if false w who = refl
-
-hands-handed : (w : World) (step : Step) (reply : Reply)
-    → hands_of (handed w step reply) ≡ handed_in (hands_of w) step reply
-hands-handed w (steps.Unhook m s) reply = hands-taking w (Mutator m) (told_notice reply)
-hands-handed w (steps.Hand k) reply = hands-taking w (Worker k) (told_notice reply)
-hands-handed w (steps.Adopt m d) reply = hands-if (is_some (told_object reply)) w (Mutator m)
-hands-handed w (steps.Release who) reply = hands-if (is_done reply) w who
-hands-handed w step reply = refl
-
 -- nothing else is touched
 abbrev with_hands_of : World → Hands → World
 with_hands_of w hands = record w { mutator_hands = hands.mutators; worker_hands = hands.workers }
