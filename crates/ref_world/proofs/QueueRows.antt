@@ -1,6 +1,6 @@
 -- Rows of the steps of queues.
 use Rattle.std.proofs.Common.{◌≡◌, ℕ, ◌<◌, Bool, true, false, List, [], ◌∷◌, ◌++◌, not, length, Option, Some, None}
-use Rattle.std.proofs.Common.{refl, sym, ap, subst, ◌∙◌, inl, inr}
+use Rattle.std.proofs.Common.{Result, Ok, Err, refl, sym, ap, subst, ◌∙◌, inl, inr}
 use Rattle.std.specs.Prelude.{slice_index_or, slice_set}
 use Rattle.std.proofs.lemmas.Bool.{eq-eqb}
 use Rattle.std.proofs.lemmas.List.{set-set, set-get_or, get_or_read}
@@ -19,7 +19,14 @@ use Rattle.ref_base.specs.declared.step.Step.TheVariants as steps
 use Rattle.ref_base.proofs.RowLaws.{ticked_world}
 use Rattle.ref_mark.proofs.OtherHands.{with_others, stands-with_others}
 use Rattle.ref_mark.proofs.ReferenceRows.{unmoved_stands}
-use Rattle.ref_queue.specs.QueueAnswers.{RefusesPut}
+use Rattle.ref_queue.specs.QueueAnswers.{RefusesPut, AnswersPut, after_put, AnswersPoll}
+use Rattle.ref_queue.specs.declared.queue.Put.{Put}
+use Rattle.ref_queue.specs.declared.queue.Put.TheVariants.{Added, Already, Closed as Shut}
+use Rattle.ref_queue.specs.declared.queue.Polled.{Polled}
+use Rattle.ref_queue.specs.declared.queue.Polled.TheVariants.{Took, Empty, Closed as Ended}
+use Rattle.ref_world.specs.QueueReplies.{put_reply, left_by_put, PutsOne, poll_reply, taken_by_poll, PollsOne}
+use Rattle.ref_world.specs.Standing.{Does}
+use Rattle.ref_world.specs.AskedSteps.{received}
 use Rattle.ref_world.specs.Cores.{core_queue_at as queue_in}
 use Rattle.ref_world.proofs.AskedRows.{hands_of, hands_are, row_to}
 use Rattle.ref_world.proofs.HandRows.{there_from}
@@ -76,7 +83,7 @@ heap_stands_on k a mutators workers queues stands =
       waiting = stands.waiting;
     }
 
-abbrev core_with : Core → Hands → List (Lists Notice) → Core
+abbrev pub core_with : Core → Hands → List (Lists Notice) → Core
 core_with c hands queues = record c { hands = hands; queues = queues }
 
 -- the core with other hands and queues stands for the state with them
@@ -192,7 +199,58 @@ module _ (c : Core) (reached : IsReached c) (who : Actor) (notice : Notice) (lis
   refused_put_row NoMemory own refuses = no_memory_row refuses.1 refuses.2
   refused_put_row fault own refuses = absurd refuses
 
+  -- a notice that comes back is in the hand again, and the queue as it was
+  as_before : (back : Notice) → back ≡ notice
+      → c ≡ core_with c (with_hand_in (with_hand_in c.hands who None) who (Some back))
+      (slice_set c.queues notice.queue lists)
+  as_before back same =
+      let hands =
+      ap (λ (n : Notice). with_hand_in (with_hand_in c.hands who None) who (Some n)) same
+      ∙ put_back c.hands who notice full in
+      sym (ap (λ (hs : Hands). core_with c hs (slice_set c.queues notice.queue lists)) hands
+      ∙ ap (λ (qs : List (Lists Notice)). core_with c c.hands qs)
+      (queue_back c.queues notice.queue lists lists here refl))
+
+  put_case : lists.queue ≡ notice.queue → (put : Result (Put Notice) (Fault × Notice))
+      → AnswersPut object_of (λ n. n.queue) lists notice put
+      → Does c (steps.Put who) (put_reply put)
+      (core_with c (received (with_hand_in c.hands who None) who (left_by_put put))
+      (slice_set c.queues notice.queue (after_put object_of (λ n. n.queue) lists notice put)))
+  put_case own (Ok (Added position)) is = added_row position is.0.1 is.0.2 is.1
+  put_case own (Ok (Already back)) is =
+      subst (λ (d : Core). IsRowOf c (steps.Put who) replies.Already d) (as_before back is.2) (already_row is.1)
+  put_case own (Ok (Shut back)) is =
+      subst (λ (d : Core). IsRowOf c (steps.Put who) replies.Closed d) (as_before back is.3) (closed_row is.1 is.2)
+  put_case own (Err refused) is =
+      subst (λ (d : Core). IsRowOf c (steps.Put who) (replies.Refused refused.0) d) (as_before refused.1 is.1)
+      (refused_put_row refused.0 own is.0)
+
+  -- a put is a row, whatever the queue answers
+  pub put_does : (reply : Result Reply Fault) (left : Option Notice) (r : Lists Notice)
+      → lists.queue ≡ notice.queue → PutsOne lists notice reply left r
+      → Does c (steps.Put who) reply
+      (core_with c (received (with_hand_in c.hands who None) who left) (slice_set c.queues notice.queue r))
+  put_does reply left r own puts = rw (puts.reply_is, puts.left_is, puts.after) (put_case own puts.put puts.answers)
+
+-- a put leaves a queue its number
+same_number : (lists : Lists Notice) (notice : Notice) (put : Result (Put Notice) (Fault × Notice))
+    → (after_put object_of (λ n. n.queue) lists notice put).queue ≡ lists.queue
+same_number lists notice (Ok (Added position)) = refl
+same_number lists notice (Ok (Already back)) = refl
+same_number lists notice (Ok (Shut back)) = refl
+same_number lists notice (Err refused) = refl
+
+pub put_number : (lists : Lists Notice) (notice : Notice) (reply : Result Reply Fault) (left : Option Notice)
+    (r : Lists Notice) → PutsOne lists notice reply left r → r.queue ≡ lists.queue
+put_number lists notice reply left r puts =
+    ap (λ (l : Lists Notice). l.queue) puts.after ∙ same_number lists notice puts.put
+
 -- ---- polls and closes
+
+-- the reply to a close, by whether the queue was open
+abbrev pub close_reply : Bool → Reply
+close_reply true = replies.Done
+close_reply false = replies.Closed
 
 module _ (c : Core) (m q : ℕ) (lists : Lists Notice) (accepted : calling_refusal c m q ≡ None)
     (here : lists ≡ queue_in c q) where
@@ -259,6 +317,30 @@ module _ (c : Core) (m q : ℕ) (lists : Lists Notice) (accepted : calling_refus
       still_row c a (steps.Poll m q) replies.Closed stands
       (poll_answer a replies.Closed (ticked a) stands free (rw (none, shut) (refl, refl)))
 
+  as_it_was : (r : Lists Notice) → r ≡ lists → c ≡ core_with c c.hands (slice_set c.queues q r)
+  as_it_was r same =
+      sym (ap (λ (qs : List (Lists Notice)). core_with c c.hands qs) (queue_back c.queues q lists r here same))
+
+  poll_case : hand_in c.hands (Mutator m) ≡ None → (polled : Polled Notice) (r : Lists Notice)
+      → AnswersPoll object_of lists polled r
+      → IsRowOf c (steps.Poll m q) (poll_reply polled)
+      (core_with c (received c.hands (Mutator m) (taken_by_poll polled)) (slice_set c.queues q r))
+  poll_case free (Took notice) r is =
+      subst (λ (l : Lists Notice). IsRowOf c (steps.Poll m q) (replies.Took notice.object)
+      (core_with c (with_hand_in c.hands (Mutator m) (Some notice)) (slice_set c.queues q l)))
+      (sym is.1) (took_row notice r.stands free is.0)
+  poll_case free Empty r is =
+      subst (λ (d : Core). IsRowOf c (steps.Poll m q) replies.Empty d) (as_it_was r is.2) (empty_row free is.0 is.1)
+  poll_case free Ended r is =
+      subst (λ (d : Core). IsRowOf c (steps.Poll m q) replies.Closed d) (as_it_was r is.2) (ended_row free is.0 is.1)
+
+  -- a poll is a row, whatever the queue answers
+  pub poll_does : hand_in c.hands (Mutator m) ≡ None → (reply : Reply) (taken : Option Notice) (r : Lists Notice)
+      → PollsOne lists reply taken r
+      → IsRowOf c (steps.Poll m q) reply
+      (core_with c (received c.hands (Mutator m) taken) (slice_set c.queues q r))
+  poll_does free reply taken r polls = rw (polls.reply_is, polls.taken_is) (poll_case free polls.polled r polls.answers)
+
   close_answer : (a : State) (reply : Reply) (b : State) → Stands c a → Closes a q lists.closed reply b
       → IsRow a (record { step = steps.Close m q; reply = reply }) b
   close_answer a reply b stands closes =
@@ -281,3 +363,25 @@ module _ (c : Core) (m q : ℕ) (lists : Lists Notice) (accepted : calling_refus
   shut_row closed a stands =
       still_row c a (steps.Close m q) replies.Closed stands
       (close_answer a replies.Closed (ticked a) stands (rw closed (refl, refl)))
+
+  -- a close is a row, whether the queue was open or not
+  pub close_does : (was_open : Bool) → was_open ≡ not lists.closed
+      → IsRowOf c (steps.Close m q) (close_reply was_open)
+      (core_with c c.hands (slice_set c.queues q (record lists { closed = true })))
+  close_does true is = close_row (open_from lists.closed is)
+  close_does false is =
+      let shut = closed_from lists.closed is in
+      subst (λ (d : Core). IsRowOf c (steps.Close m q) replies.Closed d)
+      (as_it_was (record lists { closed = true }) (ap (λ closed. record lists { closed = closed }) (sym shut)))
+      (shut_row shut)
+
+-- a poll leaves a queue its number
+polled_number : (lists r : Lists Notice) (polled : Polled Notice) → AnswersPoll object_of lists polled r
+    → r.queue ≡ lists.queue
+polled_number lists r (Took notice) is = ap (λ (l : Lists Notice). l.queue) is.1
+polled_number lists r Empty is = ap (λ (l : Lists Notice). l.queue) is.2
+polled_number lists r Ended is = ap (λ (l : Lists Notice). l.queue) is.2
+
+pub poll_number : (lists : Lists Notice) (reply : Reply) (taken : Option Notice) (r : Lists Notice)
+    → PollsOne lists reply taken r → r.queue ≡ lists.queue
+poll_number lists reply taken r polls = polled_number lists r polls.polled polls.answers

@@ -2,11 +2,13 @@
 
 ghost use Rattle.ref_objects.specs.Grounds.{IsRefused};
 ghost use Rattle.ref_world.specs.Cores.{calling_refusal};
+ghost use Rattle.ref_world.specs.QueueReplies.{PutsOne, PollsOne};
 ghost use Rattle.ref_world.specs.Standing.{Does};
 
 use super::World;
+use crate::WorldNotice;
 use ref_base::{Actor, Fault, MutNo, Parcel, QueueNo, Reply, Step};
-use ref_queue::{Polled, Put};
+use ref_queue::{Polled, Put, Queue};
 use std::alloc::Allocator;
 
 impl<A: Allocator + Copy> World<A> {
@@ -18,21 +20,11 @@ impl<A: Allocator + Copy> World<A> {
         let (from, back) = (actor, actor);
         let notice = self.hands.take(from)?;
         let queue = &mut self.queues[notice.queue().0 as usize];
-        match queue.put(notice) {
-            Ok(Put::Added(position)) => Ok(Reply::Added(position)),
-            Ok(Put::Already(notice)) => {
-                self.hands.fill(back, notice);
-                Ok(Reply::Already)
-            }
-            Ok(Put::Closed(notice)) => {
-                self.hands.fill(back, notice);
-                Ok(Reply::Closed)
-            }
-            Err((fault, notice)) => {
-                self.hands.fill(back, notice);
-                Err(fault)
-            }
+        let (reply, left) = put_one(queue, notice);
+        if let Some(notice) = left {
+            self.hands.fill(back, notice);
         }
+        reply
     }
 
     // Takes the first notice that stands in a queue into the hand.
@@ -41,15 +33,11 @@ impl<A: Allocator + Copy> World<A> {
     {
         self.check_queue(mutator, queue)?;
         self.hands.check_empty(Actor::Mutator(mutator))?;
-        match self.queues[queue.0 as usize].poll() {
-            Polled::Took(notice) => {
-                let object = notice.obj();
-                self.hands.fill(Actor::Mutator(mutator), notice);
-                Ok(Reply::Took(object))
-            }
-            Polled::Empty => Ok(Reply::Empty),
-            Polled::Closed => Ok(Reply::Closed),
+        let (reply, taken) = poll_one(&mut self.queues[queue.0 as usize]);
+        if let Some(notice) = taken {
+            self.hands.fill(Actor::Mutator(mutator), notice);
         }
+        Ok(reply)
     }
 
     // Closes a queue.
@@ -75,5 +63,31 @@ impl<A: Allocator + Copy> World<A> {
             return Err(Fault::BadQueue);
         }
         Ok(())
+    }
+}
+
+// Puts a notice in: the reply, and the notice where the queue doesn't take it.
+fn put_one<A: Allocator + Copy>(
+    queue: &mut Queue<WorldNotice, A>,
+    notice: WorldNotice,
+) -> (Result<Reply, Fault>, Option<WorldNotice>)
+    ensures { PutsOne queue.old notice result.0 result.1 queue.new }
+{
+    match queue.put(notice) {
+        Ok(Put::Added(position)) => (Ok(Reply::Added(position)), None),
+        Ok(Put::Already(notice)) => (Ok(Reply::Already), Some(notice)),
+        Ok(Put::Closed(notice)) => (Ok(Reply::Closed), Some(notice)),
+        Err((fault, notice)) => (Err(fault), Some(notice)),
+    }
+}
+
+// Takes the first that stands: the reply, and what was taken.
+fn poll_one<A: Allocator + Copy>(queue: &mut Queue<WorldNotice, A>) -> (Reply, Option<WorldNotice>)
+    ensures { PollsOne queue.old result.0 result.1 queue.new }
+{
+    match queue.poll() {
+        Polled::Took(notice) => (Reply::Took(notice.obj()), Some(notice)),
+        Polled::Empty => (Reply::Empty, None),
+        Polled::Closed => (Reply::Closed, None),
     }
 }
