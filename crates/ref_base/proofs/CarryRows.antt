@@ -159,24 +159,6 @@ module _ (O : Object → Type 0) (P : Notice → Type 0) (C : ℕ → Type 0) wh
 
     accepted : (a b : State) (step : Step) (reply : Reply) → Mints a step reply → Carries O P C a.world
         → Accepts a step reply b → Carries O P C b.world
-    accepted a b (steps.New m d k) reply mints carries row =
-        quiet a b (heap.New m d k) (steps.New m d k) reply mints carries row (λ _. refl)
-    accepted a b (steps.Refer m strength d s q k) reply mints carries row =
-        quiet a b (heap.Refer m strength d s q k) (steps.Refer m strength d s q k) reply mints carries row (λ _. refl)
-    accepted a b (steps.Store m s i v) reply mints carries row =
-        quiet a b (heap.Store m s i v) (steps.Store m s i v) reply tt carries row (λ _. refl)
-    accepted a b (steps.Load m d s i) reply mints carries row =
-        quiet a b (heap.Load m d s i) (steps.Load m d s i) reply tt carries row (λ _. refl)
-    accepted a b (steps.Copy m d s) reply mints carries row =
-        quiet a b (heap.Copy m d s) (steps.Copy m d s) reply tt carries row (λ _. refl)
-    accepted a b (steps.Drop m s) reply mints carries row =
-        quiet a b (heap.Drop m s) (steps.Drop m s) reply tt carries row (λ _. refl)
-    accepted a b (steps.Get m d s) reply mints carries row =
-        quiet a b (heap.Get m d s) (steps.Get m d s) reply tt carries row (λ _. refl)
-    accepted a b (steps.Clear m s) reply mints carries row =
-        quiet a b (heap.Clear m s) (steps.Clear m s) reply tt carries row (λ _. refl)
-    accepted a b (steps.RefersTo m s v) reply mints carries row =
-        quiet a b (heap.RefersTo m s v) (steps.RefersTo m s v) reply tt carries row (λ _. refl)
     accepted a b (steps.Unhook m s) reply mints carries row =
         unhooks a row.0 b m s (slot_at a.world.heap m s) _ reply mints refl row.1 row.2
         (heap_carries O P C lasts a row.0 (heap.Unhook m s) reply tt carries row.1)
@@ -190,23 +172,10 @@ module _ (O : Object → Type 0) (P : Notice → Type 0) (C : ℕ → Type 0) wh
         releases a b who (hand_of a.world who) reply carries row
     accepted a b (steps.Close m q) reply mints carries row =
         closes a b q (queue_at a.world q).closed reply carries row
-    accepted a b (steps.Begin now how) reply mints carries row =
-        quiet a b (heap.Begin now how) (steps.Begin now how) reply mints carries row (λ _. refl)
-    accepted a b (steps.Scan k) reply mints carries row =
-        quiet a b (heap.Scan k) (steps.Scan k) reply tt carries row (λ _. refl)
-    accepted a b steps.EndMark reply mints carries row =
-        quiet a b heap.EndMark steps.EndMark reply tt carries row (λ _. refl)
-    accepted a b (steps.ClearNext k) reply mints carries row =
-        quiet a b (heap.ClearNext k) (steps.ClearNext k) reply mints carries row (λ _. refl)
-    accepted a b steps.EndClear reply mints carries row =
-        quiet a b heap.EndClear steps.EndClear reply tt carries row (λ _. refl)
     accepted a b (steps.Hand k) reply mints carries row =
         hands a row.0 b k (pending_of a.world k) reply (carries.pendings k) row.1 row.2
         (heap_carries O P C lasts a row.0 (heap.Hand k) reply tt carries row.1)
-    accepted a b (steps.Sweep k) reply mints carries row =
-        quiet a b (heap.Sweep k) (steps.Sweep k) reply tt carries row (λ _. refl)
-    accepted a b steps.EndSweep reply mints carries row =
-        quiet a b heap.EndSweep steps.EndSweep reply tt carries row (λ _. refl)
+    accepted a b step reply mints carries row = quiet a b _ step reply mints carries row (λ _. refl)
 
     answered : (a b : State) (step : Step) (reply : Reply) (fault : Option Fault) → Mints a step reply
         → Carries O P C a.world → IsAnswer a fault step reply b → Carries O P C b.world

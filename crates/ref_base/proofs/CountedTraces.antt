@@ -176,25 +176,9 @@ empty_hand (Some notice) later none = absurd cc
 
 accepted : (a b : State) (step : Step) (reply : Reply) → IsSound a.world → AreCounted a.world → refusal a step ≡ None
     → Accepts a step reply b → AreCounted b.world
-accepted a b (steps.New m d k) reply sound counted h row =
-    quiet a b (heap.New m d k) (steps.New m d k) reply tt counted row (λ _. refl) (λ _. refl)
 accepted a b (steps.Refer m strength d s q k) reply sound counted h row =
     quiet a b (heap.Refer m strength d s q k) (steps.Refer m strength d s q k) reply
     (registered 0 a (heap.Refer m strength d s q k) h) counted row (λ _. refl) (λ _. refl)
-accepted a b (steps.Store m s i v) reply sound counted h row =
-    quiet a b (heap.Store m s i v) (steps.Store m s i v) reply tt counted row (λ _. refl) (λ _. refl)
-accepted a b (steps.Load m d s i) reply sound counted h row =
-    quiet a b (heap.Load m d s i) (steps.Load m d s i) reply tt counted row (λ _. refl) (λ _. refl)
-accepted a b (steps.Copy m d s) reply sound counted h row =
-    quiet a b (heap.Copy m d s) (steps.Copy m d s) reply tt counted row (λ _. refl) (λ _. refl)
-accepted a b (steps.Drop m s) reply sound counted h row =
-    quiet a b (heap.Drop m s) (steps.Drop m s) reply tt counted row (λ _. refl) (λ _. refl)
-accepted a b (steps.Get m d s) reply sound counted h row =
-    quiet a b (heap.Get m d s) (steps.Get m d s) reply tt counted row (λ _. refl) (λ _. refl)
-accepted a b (steps.Clear m s) reply sound counted h row =
-    quiet a b (heap.Clear m s) (steps.Clear m s) reply tt counted row (λ _. refl) (λ _. refl)
-accepted a b (steps.RefersTo m s v) reply sound counted h row =
-    quiet a b (heap.RefersTo m s v) (steps.RefersTo m s v) reply tt counted row (λ _. refl) (λ _. refl)
 accepted a b (steps.Unhook m s) reply sound counted h row =
     let first = unless_passes (has_slot a.world.heap m s) _ _ h in
     let both = and_parts (is_mutator a.world.heap m) _ first.0 in
@@ -221,26 +205,13 @@ accepted a b (steps.Close m q) reply sound counted h row =
     let first = unless_passes (is_mutator a.world.heap m) _ _ h in
     let second = unless_passes (is_queue a.world.heap q) _ _ first.1 in
     closes a b q (queue_at a.world q).closed reply (queue_within a.world q sound second.0) row counted
-accepted a b (steps.Begin now how) reply sound counted h row =
-    quiet a b (heap.Begin now how) (steps.Begin now how) reply tt counted row (λ _. refl) (λ _. refl)
-accepted a b (steps.Scan k) reply sound counted h row =
-    quiet a b (heap.Scan k) (steps.Scan k) reply tt counted row (λ _. refl) (λ _. refl)
-accepted a b steps.EndMark reply sound counted h row =
-    quiet a b heap.EndMark steps.EndMark reply tt counted row (λ _. refl) (λ _. refl)
-accepted a b (steps.ClearNext k) reply sound counted h row =
-    quiet a b (heap.ClearNext k) (steps.ClearNext k) reply tt counted row (λ _. refl) (λ _. refl)
-accepted a b steps.EndClear reply sound counted h row =
-    quiet a b heap.EndClear steps.EndClear reply tt counted row (λ _. refl) (λ _. refl)
 accepted a b (steps.Hand k) reply sound counted h row =
     let first = unless_passes (is_worker a.world.heap k) _ _ h in
     let keeps = heap_keeps a row.0 (heap.Hand k) reply tt row.1 in
     hands a row.0 b k _ reply keeps.others (worker_within a.world k sound first.0)
     (empty_hand (hand_of a.world (Worker k)) _ first.1) (heap_holds a row.0 (heap.Hand k) reply row.1) row.1 row.2
     counted
-accepted a b (steps.Sweep k) reply sound counted h row =
-    quiet a b (heap.Sweep k) (steps.Sweep k) reply tt counted row (λ _. refl) (λ _. refl)
-accepted a b steps.EndSweep reply sound counted h row =
-    quiet a b heap.EndSweep steps.EndSweep reply tt counted row (λ _. refl) (λ _. refl)
+accepted a b step reply sound counted h row = quiet a b _ step reply tt counted row (λ _. refl) (λ _. refl)
 
 answered : (a b : State) (step : Step) (reply : Reply) (fault : Option Fault) → IsSound a.world → AreCounted a.world
     → refusal a step ≡ fault → IsAnswer a fault step reply b → AreCounted b.world

@@ -181,41 +181,20 @@ sweeps a b k (n ∷ ns) reply is row =
 -- a row of a heap that isn't a mark's end leads where its answer says
 pub heap_becomes : (a b : State) (step : NamedStep) (reply : Reply) → IsNoEnd step → HeapAccepts a step reply b
     → Becomes (moved a step reply) b
-heap_becomes a b (heap.New m d k) reply plain row = given a _ b (heap.New m d k) (replies.Object a.next) reply row refl
-heap_becomes a b (heap.Refer m strength d s q k) reply plain row =
-    given a _ b (heap.Refer m strength d s q k) (replies.Object a.next) reply row refl
-heap_becomes a b (heap.Store m s i v) reply plain row =
-    given a (on_heap a (stored a.world.heap m s i v)) b (heap.Store m s i v) replies.Done reply row refl
 heap_becomes a b (heap.Load m d s i) reply plain row = loads a b m d s i _ reply row
 heap_becomes a b (heap.Copy m d s) reply plain row = copies a b m d s (slot_at a.world.heap m s) reply row
-heap_becomes a b (heap.Drop m s) reply plain row =
-    given a (on_heap a (with_slot a.world.heap m s None)) b (heap.Drop m s) replies.Done reply row refl
 heap_becomes a b (heap.Get m d s) reply plain row = gets a b m d s _ reply row
-heap_becomes a b (heap.Clear m s) reply plain row =
-    given a (on_heap a (cut a.world.heap m s)) b (heap.Clear m s) replies.Done reply row refl
-heap_becomes a b (heap.RefersTo m s v) reply plain row =
-    let h : Heap = a.world.heap in
-    given a a b (heap.RefersTo m s v)
-    (replies.Refers (is_same (referent_of (reference_of h (slot_at h m s))) (slot_at h m v))) reply row refl
 heap_becomes a b (heap.Unhook m s) reply plain row = unhooks a b m s _ _ reply row
 heap_becomes a b (heap.Hold m s) reply plain row = holds a b m s _ reply row
-heap_becomes a b (heap.Adopt m d hold) reply plain row =
-    given a (on_heap a (adopted a.world.heap m d hold.object)) b (heap.Adopt m d hold) (replies.Object hold.object)
-    reply row refl
-heap_becomes a b (heap.Release hold) reply plain row =
-    given a (on_heap a (without_hold a.world.heap hold.object)) b (heap.Release hold) replies.Done reply row refl
 heap_becomes a b (heap.Begin now how) reply plain row =
     given_anew a (begun_state a (begun a.world now how (a.world.cycle + 1))) b (heap.Begin now how) true
     (replies.Cycle (a.world.cycle + 1)) reply row refl
 heap_becomes a b (heap.Scan k) reply plain row = scans a b k reply row
 heap_becomes a b heap.EndMark reply plain row = absurd plain
 heap_becomes a b (heap.ClearNext k) reply plain row = looks_at a b k (list_at a.found k) reply refl row
-heap_becomes a b heap.EndClear reply plain row =
-    given a (with_world a (with_phase a.world Sweeping)) b heap.EndClear replies.Done reply row refl
 heap_becomes a b (heap.Hand k) reply plain row = hands_on a b k _ reply row
 heap_becomes a b (heap.Sweep k) reply plain row = sweeps a b k a.doomed reply refl row
-heap_becomes a b heap.EndSweep reply plain row =
-    given a (with_world a (with_phase a.world Idle)) b heap.EndSweep replies.Done reply row refl
+heap_becomes a b step reply plain row = given a _ b step _ reply row refl
 
 -- in one equation
 pub heap_moves : (a b : State) (step : NamedStep) (reply : Reply) → IsNoEnd step → HeapAccepts a step reply b

@@ -272,28 +272,7 @@ heap_keeps a b heap.EndSweep reply is gives = given_keeps a _ b replies.Done rep
 
 refused_is_still : (step : Step) (fault : Fault) → IsStill step (replies.Refused fault)
 refused_is_still (steps.New m d k) fault hands q = refl
-refused_is_still (steps.Refer m strength d s queue k) fault hands q = refl
-refused_is_still (steps.Store m s i v) fault hands q = refl
-refused_is_still (steps.Load m d s i) fault hands q = refl
-refused_is_still (steps.Copy m d s) fault hands q = refl
-refused_is_still (steps.Drop m s) fault hands q = refl
-refused_is_still (steps.Get m d s) fault hands q = refl
-refused_is_still (steps.Clear m s) fault hands q = refl
-refused_is_still (steps.RefersTo m s v) fault hands q = refl
-refused_is_still (steps.Unhook m s) fault hands q = refl
-refused_is_still (steps.Put who) fault hands q = refl
-refused_is_still (steps.Poll m k) fault hands q = refl
-refused_is_still (steps.Adopt m d) fault hands q = refl
-refused_is_still (steps.Release who) fault hands q = refl
-refused_is_still (steps.Close m k) fault hands q = refl
-refused_is_still (steps.Begin now _) fault hands q = refl
-refused_is_still (steps.Scan k) fault hands q = refl
-refused_is_still steps.EndMark fault hands q = refl
-refused_is_still (steps.ClearNext k) fault hands q = refl
-refused_is_still steps.EndClear fault hands q = refl
-refused_is_still (steps.Hand k) fault hands q = refl
-refused_is_still (steps.Sweep k) fault hands q = refl
-refused_is_still steps.EndSweep fault hands q = refl
+refused_is_still step fault hands q = refl
 
 refused_goes : (a b : State) (step : Step) (fault : Fault) (reply : Reply) → IsSound a.world
     → (reply ≡ replies.Refused fault) × (b ≡ a) → Goes a.world b.world step reply
@@ -507,25 +486,9 @@ queue_within w q sound is = rw sound.queues (ltb-true q w.heap.config.queues is)
 
 accepted_goes : (a b : State) (step : Step) (reply : Reply) → IsSound a.world → refusal a step ≡ None
     → Accepts a step reply b → Goes a.world b.world step reply
-accepted_goes a b (steps.New m d k) reply sound h row =
-    quiet a b (heap.New m d k) (steps.New m d k) reply sound tt row (λ _ _. refl) (λ _. refl)
 accepted_goes a b (steps.Refer m strength d s q k) reply sound h row =
     quiet a b (heap.Refer m strength d s q k) (steps.Refer m strength d s q k) reply sound
     (registered 0 a (heap.Refer m strength d s q k) h) row (λ _ _. refl) (λ _. refl)
-accepted_goes a b (steps.Store m s i v) reply sound h row =
-    quiet a b (heap.Store m s i v) (steps.Store m s i v) reply sound tt row (λ _ _. refl) (λ _. refl)
-accepted_goes a b (steps.Load m d s i) reply sound h row =
-    quiet a b (heap.Load m d s i) (steps.Load m d s i) reply sound tt row (λ _ _. refl) (λ _. refl)
-accepted_goes a b (steps.Copy m d s) reply sound h row =
-    quiet a b (heap.Copy m d s) (steps.Copy m d s) reply sound tt row (λ _ _. refl) (λ _. refl)
-accepted_goes a b (steps.Drop m s) reply sound h row =
-    quiet a b (heap.Drop m s) (steps.Drop m s) reply sound tt row (λ _ _. refl) (λ _. refl)
-accepted_goes a b (steps.Get m d s) reply sound h row =
-    quiet a b (heap.Get m d s) (steps.Get m d s) reply sound tt row (λ _ _. refl) (λ _. refl)
-accepted_goes a b (steps.Clear m s) reply sound h row =
-    quiet a b (heap.Clear m s) (steps.Clear m s) reply sound tt row (λ _ _. refl) (λ _. refl)
-accepted_goes a b (steps.RefersTo m s v) reply sound h row =
-    quiet a b (heap.RefersTo m s v) (steps.RefersTo m s v) reply sound tt row (λ _ _. refl) (λ _. refl)
 accepted_goes a b (steps.Unhook m s) reply sound h row =
     let first = unless_passes (has_slot a.world.heap m s) _ _ h in
     let both = and_parts (is_mutator a.world.heap m) _ first.0 in
@@ -550,24 +513,11 @@ accepted_goes a b (steps.Close m q) reply sound h gives =
     let first = unless_passes (is_mutator a.world.heap m) _ _ h in
     let second = unless_passes (is_queue a.world.heap q) _ _ first.1 in
     close_any_goes a b m q (queue_at a.world q).closed reply sound (queue_within a.world q sound second.0) refl gives
-accepted_goes a b (steps.Begin now how) reply sound h row =
-    quiet a b (heap.Begin now how) (steps.Begin now how) reply sound tt row (λ _ _. refl) (λ _. refl)
-accepted_goes a b (steps.Scan k) reply sound h row =
-    quiet a b (heap.Scan k) (steps.Scan k) reply sound tt row (λ _ _. refl) (λ _. refl)
-accepted_goes a b steps.EndMark reply sound h row =
-    quiet a b heap.EndMark steps.EndMark reply sound tt row (λ _ _. refl) (λ _. refl)
-accepted_goes a b (steps.ClearNext k) reply sound h row =
-    quiet a b (heap.ClearNext k) (steps.ClearNext k) reply sound tt row (λ _ _. refl) (λ _. refl)
-accepted_goes a b steps.EndClear reply sound h row =
-    quiet a b heap.EndClear steps.EndClear reply sound tt row (λ _ _. refl) (λ _. refl)
 accepted_goes a b (steps.Hand k) reply sound h row =
     let first = unless_passes (is_worker a.world.heap k) _ _ h in
     hand_goes a row.0 b k _ reply sound (heap_keeps a row.0 (heap.Hand k) reply tt row.1)
     (worker_within a.world k sound first.0) (sound.pending_below k) row.1 row.2
-accepted_goes a b (steps.Sweep k) reply sound h row =
-    quiet a b (heap.Sweep k) (steps.Sweep k) reply sound tt row (λ _ _. refl) (λ _. refl)
-accepted_goes a b steps.EndSweep reply sound h row =
-    quiet a b heap.EndSweep steps.EndSweep reply sound tt row (λ _ _. refl) (λ _. refl)
+accepted_goes a b step reply sound h row = quiet a b _ step reply sound tt row (λ _ _. refl) (λ _. refl)
 
 answer_goes : (a b : State) (step : Step) (reply : Reply) (fault : Option Fault) → IsSound a.world
     → refusal a step ≡ fault → IsAnswer a fault step reply b → Goes a.world b.world step reply

@@ -229,31 +229,21 @@ scan_tells a k reply b scans = refl
 
 accepted_tells : (a : State) (step : NamedStep) (reply : Reply) (b : State) → HeapAccepts a step reply b
     → tells_want reply ≡ false
-accepted_tells a (heap.New m d k) reply b gives = told gives.0 refl
-accepted_tells a (heap.Refer m strength d s q k) reply b gives = told gives.0 refl
-accepted_tells a (heap.Store m s i v) reply b gives = told gives.0 refl
 accepted_tells a (heap.Load m d s i) reply b gives =
     load_tells a m d (field_in a.world.heap (slot_at a.world.heap m s) i) reply b gives
 accepted_tells a (heap.Copy m d s) reply b gives = told gives.0 (value_tells (slot_at a.world.heap m s))
-accepted_tells a (heap.Drop m s) reply b gives = told gives.0 refl
 accepted_tells a (heap.Get m d s) reply b gives =
     get_tells a m d s (referent_got (reference_of a.world.heap (slot_at a.world.heap m s))) reply b gives
-accepted_tells a (heap.Clear m s) reply b gives = told gives.0 refl
-accepted_tells a (heap.RefersTo m s v) reply b gives = told gives.0 refl
 accepted_tells a (heap.Unhook m s) reply b gives =
     let held = slot_at a.world.heap m s in
     unhook_tells a m s held (registered_in (reference_of a.world.heap held)) reply b gives
 accepted_tells a (heap.Hold m s) reply b gives = hold_tells a (slot_at a.world.heap m s) reply b gives
-accepted_tells a (heap.Adopt m d hold) reply b gives = told gives.0 refl
-accepted_tells a (heap.Release hold) reply b gives = told gives.0 refl
-accepted_tells a (heap.Begin now how) reply b gives = told gives.0 refl
 accepted_tells a (heap.Scan k) reply b scans = scan_tells a k reply b scans
 accepted_tells a heap.EndMark reply b ends = told ends.answer refl
 accepted_tells a (heap.ClearNext k) reply b gives = clear_tells a k (list_at a.found k) reply b gives
-accepted_tells a heap.EndClear reply b gives = told gives.0 refl
 accepted_tells a (heap.Hand k) reply b gives = handed_tells a k (pending_of a.world k) reply b gives
 accepted_tells a (heap.Sweep k) reply b gives = sweep_tells a a.doomed reply b gives
-accepted_tells a heap.EndSweep reply b gives = told gives.0 refl
+accepted_tells a step reply b gives = told gives.0 refl
 
 -- ---- rows
 
