@@ -16,8 +16,8 @@ use Rattle.ref_base.proofs.Common.{Cycle, Idle, Marking, Clearing, Sweeping, Rep
 use Rattle.ref_base.specs.declared.heap_step.HeapStep.TheVariants as heap
 use Rattle.ref_base.specs.declared.reply.Reply.TheVariants as replies
 use Rattle.ref_base.proofs.Places.{all_push}
-use Rattle.ref_base.proofs.SoundWorlds.{all_map, all_without}
-use Rattle.ref_base.proofs.RowLaws.{ticked_world, but_world}
+use Rattle.ref_base.proofs.CarryLaws.{all_map, all_without}
+use Rattle.ref_base.proofs.RowForms.{but_world, ticked_world}
 use Rattle.ref_base.proofs.CarryLaws.{Carries, Lasts, notice_from, all_without_first, shown_lasts, carries_objects}
 use Rattle.ref_base.proofs.CarryLaws.{carries_changed, carries_pending, carries_begun, in_world, given, given_anew}
 

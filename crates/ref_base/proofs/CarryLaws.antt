@@ -1,7 +1,7 @@
 -- What changes of a world carry on: whatever holds of each object, of each notice, in hands, in queues and still to be
 -- handed on, and of the cycle.
 use Rattle.std.proofs.Common.{◌≡◌, ℕ, Bool, true, false, not, ◌&&◌, ◌==◌}
-use Rattle.std.proofs.Common.{List, [], ◌∷◌, Option, Some, None}
+use Rattle.std.proofs.Common.{List, [], ◌∷◌, map, Option, Some, None}
 use Rattle.std.proofs.Common.{sym, ap, ◌∙◌, subst, inl, inr}
 use Rattle.std.specs.Prelude.{slice_index_or, slice_set}
 use Rattle.std.specs.List.{AllByRecursion}
@@ -9,11 +9,36 @@ use Rattle.std.proofs.lemmas.Bool.{cases_Bool}
 use Rattle.ref_base.proofs.Common.{has, Object, refers_into, changed_at, changed_in, with_reference, cleared, got_at}
 use Rattle.ref_base.proofs.Common.{with_field, Lists, new_queue, World, Notice, Pending, with_heap, with_hand}
 use Rattle.ref_base.proofs.Common.{with_queue, begun, State, Gives, GivesAnewIf, ticked, shown, Actor, Mutator, Worker}
-use Rattle.ref_base.proofs.Common.{Cycle, Urgency, Reply}
+use Rattle.ref_base.proofs.Common.{Cycle, Urgency, Reply, without}
 use Rattle.ref_base.specs.Members.{without_first}
 use Rattle.ref_base.proofs.Places.{set_each}
-use Rattle.ref_base.proofs.SoundWorlds.{all_changed}
-use Rattle.ref_base.proofs.RowLaws.{ticked_world, but_world}
+use Rattle.ref_base.proofs.RowForms.{but_world, ticked_world}
+
+-- ---- what holds of each object
+
+pub all_changed : {P : Object → Type 0} (os : List Object) (n : ℕ) (f : Object → Object)
+    → ((o : Object) → P o → P (f o))
+    → AllByRecursion P os → AllByRecursion P (changed_at os n f)
+all_changed [] n f keeps all = tt
+all_changed (o ∷ os) n f keeps all =
+    elim (cases_Bool (o.no == n)) [
+      | inl same ↦ simp same (keeps o all.0, all.1)
+      | inr other ↦ simp other (all.0, all_changed os n f keeps all.1)
+    ]
+
+pub all_map : {P : Object → Type 0} (os : List Object) (f : Object → Object) → ((o : Object) → P o → P (f o))
+    → AllByRecursion P os → AllByRecursion P (map f os)
+all_map [] f keeps all = tt
+all_map (o ∷ os) f keeps all = (keeps o all.0, all_map os f keeps all.1)
+
+pub all_without : (P : Object → Type 0) (ns : List ℕ) (os : List Object) → AllByRecursion P os
+    → AllByRecursion P (without ns os)
+all_without P ns [] all = tt
+all_without P ns (o ∷ os) all =
+    elim (cases_Bool (has ns o.no)) [
+      | inl gone ↦ simp gone (all_without P ns os all.1)
+      | inr stays ↦ simp stays (all.0, all_without P ns os all.1)
+    ]
 
 -- ---- what is carried
 

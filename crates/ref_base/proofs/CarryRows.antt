@@ -16,6 +16,8 @@ use Rattle.ref_base.specs.declared.heap_step.HeapStep.TheVariants as heap
 use Rattle.ref_base.specs.declared.step.Step.TheVariants as steps
 use Rattle.ref_base.specs.declared.reply.Reply.TheVariants as replies
 use Rattle.ref_base.proofs.Places.{all_push}
+use Rattle.ref_base.proofs.Common.{heap_step}
+use Rattle.ref_base.proofs.RowForms.{asked_of}
 use Rattle.ref_base.proofs.SoundWorlds.{first_queue, first_hand}
 use Rattle.ref_base.proofs.CarryLaws.{OfHand, Carries, Lasts, notice_from, all_without_first, carries_hand}
 use Rattle.ref_base.proofs.CarryLaws.{carries_queue, in_world, given}
@@ -175,7 +177,8 @@ module _ (O : Object → Type 0) (P : Notice → Type 0) (C : ℕ → Type 0) wh
     accepted a b (steps.Hand k) reply mints carries row =
         hands a row.0 b k (pending_of a.world k) reply (carries.pendings k) row.1 row.2
         (heap_carries O P C lasts a row.0 (heap.Hand k) reply tt carries row.1)
-    accepted a b step reply mints carries row = quiet a b _ step reply mints carries row (λ _. refl)
+    accepted a b step reply mints carries row =
+        quiet a b (asked_of (heap_step a.world step)) step reply mints carries row (λ _. refl)
 
     answered : (a b : State) (step : Step) (reply : Reply) (fault : Option Fault) → Mints a step reply
         → Carries O P C a.world → IsAnswer a fault step reply b → Carries O P C b.world

@@ -15,7 +15,8 @@ use Rattle.ref_base.specs.declared.step.Step.TheVariants as steps
 use Rattle.ref_base.specs.declared.reply.Reply.TheVariants as replies
 use Rattle.ref_base.proofs.SoundWorlds.{IsSound, first_hand, first_sound}
 use Rattle.ref_base.proofs.Places.{place_there}
-use Rattle.ref_base.proofs.RowLaws.{unless_passes, worker_within}
+use Rattle.ref_base.proofs.RowForms.{unless_passes}
+use Rattle.ref_base.proofs.RowLaws.{worker_within}
 use Rattle.ref_base.proofs.CountedTraces.{legal_counted}
 use Rattle.ref_base.proofs.CarryLaws.{OfHand}
 use Rattle.ref_base.proofs.ProvenTraces.{made_at, registered_more, legal_known}

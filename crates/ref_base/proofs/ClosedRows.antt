@@ -20,7 +20,7 @@ use Rattle.ref_base.proofs.Places.{all_push}
 use Rattle.ref_base.proofs.CarryLaws.{all_without_first}
 use Rattle.ref_base.proofs.HasLaws.{has-cases}
 use Rattle.ref_base.proofs.StrengthLaws.{if_any-has}
-use Rattle.ref_base.proofs.RowLaws.{ticked_world, but_world, unless_passes}
+use Rattle.ref_base.proofs.RowForms.{but_world, ticked_world, unless_passes}
 use Rattle.ref_base.proofs.HeapMoves.{IsNoEnd}
 use Rattle.ref_base.proofs.ReplayUnder.{made_number}
 use Rattle.ref_base.proofs.PhaseLaws.{of_phase}

@@ -16,7 +16,9 @@ use Rattle.ref_base.specs.declared.reply.Reply.TheVariants as replies
 use Rattle.ref_base.proofs.CountedRows.{heap_holds}
 use Rattle.ref_base.proofs.CountedWorlds.{counted_still, counted_given, counted_spent, counted_put, counted_took}
 use Rattle.ref_base.proofs.CountedWorlds.{counted_closed, first_counted}
-use Rattle.ref_base.proofs.RowLaws.{ticked_world, heap_keeps, registered, IsRegistered, row_goes, unless_passes}
+use Rattle.ref_base.proofs.Common.{heap_step}
+use Rattle.ref_base.proofs.RowForms.{asked_of, ticked_world, unless_passes}
+use Rattle.ref_base.proofs.RowLaws.{heap_keeps, registered, IsRegistered, row_goes}
 use Rattle.ref_base.proofs.RowLaws.{mutator_within, worker_within, actor_has, queue_within}
 use Rattle.ref_base.proofs.SoundWorlds.{HasHand, IsSound, NoticeBelow, first_sound}
 
@@ -211,7 +213,8 @@ accepted a b (steps.Hand k) reply sound counted h row =
     hands a row.0 b k _ reply keeps.others (worker_within a.world k sound first.0)
     (empty_hand (hand_of a.world (Worker k)) _ first.1) (heap_holds a row.0 (heap.Hand k) reply row.1) row.1 row.2
     counted
-accepted a b step reply sound counted h row = quiet a b _ step reply tt counted row (λ _. refl) (λ _. refl)
+accepted a b step reply sound counted h row =
+    quiet a b (asked_of (heap_step a.world step)) step reply tt counted row (λ _. refl) (λ _. refl)
 
 answered : (a b : State) (step : Step) (reply : Reply) (fault : Option Fault) → IsSound a.world → AreCounted a.world
     → refusal a step ≡ fault → IsAnswer a fault step reply b → AreCounted b.world

@@ -4,13 +4,12 @@ use Rattle.std.proofs.Common.{◌≡◌, ℕ, ◌+◌, Bool, true, false, List, 
 use Rattle.std.proofs.Common.{Option, Some, None, is_some, refl, sym, ap, ◌∙◌, subst, inl, inr, ◌⊎◌}
 use Rattle.std.specs.Prelude.{slice_set}
 use Rattle.std.proofs.lemmas.Bool.{cases_Bool}
-use Rattle.ref_base.proofs.Common.{has, Heap, slot_at, reference_at, registered_in, with_slot, got, cut, stored}
-use Rattle.ref_base.proofs.Common.{with_hold, without_hold, World, Pending, with_heap, NamedStep, adopted, pended}
-use Rattle.ref_base.proofs.Common.{handed_on, begun, with_phase, after_heap, State, Gives, GivesAnewIf, IsBut, ticked}
+use Rattle.ref_base.proofs.Common.{has, slot_at, reference_at, registered_in, with_slot, got, cut}
+use Rattle.ref_base.proofs.Common.{with_hold, World, Pending, with_heap, NamedStep, pended}
+use Rattle.ref_base.proofs.Common.{handed_on, begun, after_heap, State, Gives, GivesAnewIf, IsBut, ticked}
 use Rattle.ref_base.proofs.Common.{on_heap, with_world, Loads, Gets, Unhooks, Holds, Scans, ClearsNext, HandsOn}
 use Rattle.ref_base.proofs.Common.{Sweeps, HeapAccepts, value_reply, looked_at, looked, list_at, begun_state, without}
-use Rattle.ref_base.proofs.Common.{referent_of, reference_of, is_in, Own, Cycle, Idle, Marking, Sweeping, Reply}
-use Rattle.ref_base.specs.CollectorRows.{is_same}
+use Rattle.ref_base.proofs.Common.{referent_of, is_in, Own, Cycle, Marking, Reply}
 use Rattle.ref_base.specs.declared.heap_step.HeapStep.TheVariants as heap
 use Rattle.ref_base.specs.declared.reply.Reply.TheVariants as replies
 

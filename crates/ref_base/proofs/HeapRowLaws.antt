@@ -10,7 +10,7 @@ use Rattle.ref_base.specs.declared.heap_step.HeapStep.TheVariants as heap
 use Rattle.ref_base.specs.declared.step.Step.TheVariants as steps
 use Rattle.ref_base.specs.declared.reply.Reply.TheVariants as replies
 use Rattle.ref_base.proofs.QueueLaws.{same}
-use Rattle.ref_base.proofs.RowLaws.{heap_keeps, registered}
+use Rattle.ref_base.proofs.MovedParts.{heap_others}
 
 -- ---- from a row of the heap to one of the world
 
@@ -94,7 +94,7 @@ answer_others : (heap_no : ℕ) (a b : State) (step : NamedStep) (reply : Reply)
     → heap_refusal heap_no a step ≡ fault → IsHeapAnswer a fault step reply b → SameOthers a.world b.world
 answer_others heap_no a b step reply (Some fault) is row =
     subst (λ (s : State). SameOthers a.world s.world) (sym row.1) (same a.world)
-answer_others heap_no a b step reply None is row = (heap_keeps a b step reply (registered heap_no a step is) row).others
+answer_others heap_no a b step reply None is row = heap_others a b step reply row
 
 -- no row of a heap touches hands and queues
 pub row_others : (heap_no : ℕ) (a b : State) (step : NamedStep) (reply : Reply) → IsHeapRow heap_no a step reply b

@@ -1,10 +1,11 @@
 -- What stays where a row of a heap leads.
-use Rattle.std.proofs.Common.{◌≡◌, ℕ, Bool, List, refl, ap}
+use Rattle.std.proofs.Common.{◌≡◌, ℕ, Bool, List, Option, refl, ap, ◌∙◌}
 use Rattle.ref_base.proofs.Common.{Graph, Policy, reference_at, registered_in, World, Pending, policy_of, is_done}
-use Rattle.ref_base.proofs.Common.{told_cycle, NamedStep, State, Config, Phase, Reply}
+use Rattle.ref_base.proofs.Common.{told_cycle, NamedStep, State, Config, Phase, Reply, Notice, Lists, SameOthers}
+use Rattle.ref_base.proofs.Common.{HeapAccepts}
 use Rattle.ref_base.specs.declared.heap_step.HeapStep.TheVariants as heap
 use Rattle.ref_base.specs.declared.reply.Reply.TheVariants as replies
-use Rattle.ref_base.proofs.HeapMoves.{moved, IsNoEnd}
+use Rattle.ref_base.proofs.HeapMoves.{moved, IsNoEnd, heap_moves}
 use Rattle.ref_base.proofs.ReplayKeeps.{EndsNoPhase, PendsNone, stage_of, stage_pended, same_frame, same_stage}
 use Rattle.ref_base.proofs.ReplayKeeps.{told_keeps, done_keeps}
 
@@ -128,3 +129,40 @@ pending_moved a (heap.New m d k) reply plain calm =
 pending_moved a (heap.Refer m strength d s q k) reply plain calm =
     ap pending_in (same_frame a.world (heap.Refer m strength d s q k) reply tt tt)
 pending_moved a step reply plain calm = ap pending_in (same_frame a.world step reply tt tt)
+
+-- hands and queues
+abbrev others_in : World → List (Option Notice) × List (Option Notice) × List (Lists Notice)
+others_in w = (w.mutator_hands, w.worker_hands, w.queues)
+
+others_moved : (a : State) (step : NamedStep) (reply : Reply) → IsNoEnd step
+    → others_in (moved a step reply).world ≡ others_in a.world
+others_moved a (heap.Begin now how) reply plain = told_keeps others_in (told_cycle reply) _ a.world (λ n. refl)
+others_moved a heap.EndMark reply plain = absurd plain
+others_moved a heap.EndClear reply plain = done_keeps others_in (is_done reply) _ a.world refl
+others_moved a heap.EndSweep reply plain = done_keeps others_in (is_done reply) _ a.world refl
+others_moved a step reply plain = ap others_in (stage_moved a step reply tt)
+
+-- ---- what a row of a heap leaves
+
+same_others : (v w : World) → others_in w ≡ others_in v → SameOthers v w
+same_others v w is = record {
+  mutators = ap (λ (o : List (Option Notice) × List (Option Notice) × List (Lists Notice)). o.0) is;
+  workers = ap (λ (o : List (Option Notice) × List (Option Notice) × List (Lists Notice)). o.1) is;
+  queues = ap (λ (o : List (Option Notice) × List (Option Notice) × List (Lists Notice)). o.2) is;
+}
+
+-- a row of the heap leaves hands and queues
+pub heap_others : (a b : State) (step : NamedStep) (reply : Reply) → HeapAccepts a step reply b
+    → SameOthers a.world b.world
+heap_others a b heap.EndMark reply row =
+    same_others a.world b.world (ap (λ (s : State). others_in s.world) row.after)
+heap_others a b step reply row =
+    same_others a.world b.world
+    (ap (λ (s : State). others_in s.world) (heap_moves a b step reply tt row) ∙ others_moved a step reply tt)
+
+-- and the configuration
+pub heap_config : (a b : State) (step : NamedStep) (reply : Reply) → HeapAccepts a step reply b
+    → b.world.heap.config ≡ a.world.heap.config
+heap_config a b heap.EndMark reply row = ap (λ (s : State). s.world.heap.config) row.after
+heap_config a b step reply row =
+    ap (λ (s : State). s.world.heap.config) (heap_moves a b step reply tt row) ∙ config_moved a step reply tt

@@ -4,7 +4,7 @@ use Rattle.std.proofs.lemmas.Bool.{false≢true}
 use Rattle.ref_base.proofs.Common.{NamedStep, State, joined, heap_refusal, is_in, is_empty, is_worker, Phase, Idle}
 use Rattle.ref_base.proofs.Common.{Marking, Clearing, Sweeping}
 use Rattle.ref_base.specs.declared.heap_step.HeapStep.TheVariants as heap
-use Rattle.ref_base.proofs.RowLaws.{unless_passes}
+use Rattle.ref_base.proofs.RowForms.{unless_passes}
 
 is_phase : (p q : Phase) → is_in p q ≡ true → p ≡ q
 is_phase Idle Idle h = refl

@@ -40,6 +40,16 @@ set_each P (_ ∷ xs) (suc m) x d here others zero = others zero
 set_each P (_ ∷ xs) (suc m) x d here others (suc k) =
     set_each (λ j. P (suc j)) xs m x (λ j. d (suc j)) here (λ j. others (suc j)) k
 
+-- what holds at a place that is there, and of the default where it isn't
+pub each_or : {X : Type 0} (P R : ℕ → X → Type 0) (xs : List X) (d : ℕ → X)
+    → ((k : ℕ) → k < length xs → (x : X) → P k x → R k x) → ((k : ℕ) → P k (d k) → R k (d k)) → (k : ℕ)
+    → P k (slice_index_or xs k (d k)) → R k (slice_index_or xs k (d k))
+each_or P R [] d inside outside k is = outside k is
+each_or P R (x ∷ xs) d inside outside zero is = inside zero (omega arith) x is
+each_or P R (x ∷ xs) d inside outside (suc k) is =
+    each_or (λ j. P (suc j)) (λ j. R (suc j)) xs (λ j. d (suc j)) (λ j within. inside (suc j) (omega (arith, within)))
+    (λ j. outside (suc j)) k is
+
 -- a place that has another than the default is there
 pub place_there : {X : Type 0} (xs : List X) (k : ℕ) (d : X) → (slice_index_or xs k d ≡ d → ⊥) → k < length xs
 place_there [] k d other = absurd (other refl)

@@ -16,7 +16,7 @@ use Rattle.ref_base.specs.declared.heap_step.HeapStep.TheVariants as heap
 use Rattle.ref_base.specs.declared.step.Step.TheVariants as steps
 use Rattle.ref_base.specs.declared.reply.Reply.TheVariants as replies
 use Rattle.ref_base.proofs.Reshaping.{queue-cleared}
-use Rattle.ref_base.proofs.RowLaws.{ticked_world, but_world}
+use Rattle.ref_base.proofs.RowForms.{but_world, ticked_world}
 use Rattle.ref_base.proofs.CarryLaws.{OfHand, Carries, Lasts}
 use Rattle.ref_base.proofs.CarryRows.{Mints, row_carries, first_carries, carries_more}
 

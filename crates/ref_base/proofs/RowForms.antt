@@ -1,7 +1,9 @@
 -- How a row of a heap is accepted or refused.
-use Rattle.std.proofs.Common.{◌≡◌, ℕ, Bool, true, false, refl, sym, subst, Option, Some, None}
+use Rattle.std.proofs.Common.{◌≡◌, ℕ, Bool, true, false, refl, sym, ap, subst, Option, Some, None, inl, inr}
+use Rattle.std.proofs.lemmas.Bool.{cases_Bool}
 use Rattle.ref_base.proofs.Common.{heap_refusal, unless, NamedStep, State, IsHeapRow, IsHeapAnswer, HeapAccepts, Fault}
-use Rattle.ref_base.proofs.Common.{Reply}
+use Rattle.ref_base.proofs.Common.{Reply, IsBut, ticked, is_in, Marking}
+use Rattle.ref_base.specs.declared.heap_step.HeapStep.TheVariants as heap
 use Rattle.ref_base.specs.declared.reply.Reply.TheVariants as replies
 
 pub accepted_row : (heap_no : ℕ) (a : State) (step : NamedStep) (reply : Reply) (b : State)
@@ -14,7 +16,20 @@ refused_row heap_no a step fault refused =
     subst (λ o. IsHeapAnswer a o step (replies.Refused fault) a) (sym refused) (refl, refl)
 
 -- where nothing is refused, the test holds, and what comes later isn't refused either
-pub unless_parts : (test : Bool) (fault : Fault) (later : Option Fault) → unless test fault later ≡ None
+pub unless_passes : (test : Bool) (fault : Fault) (later : Option Fault) → unless test fault later ≡ None
     → (test ≡ true) × (later ≡ None)
-unless_parts true fault later none = (refl, none)
-unless_parts false fault later none = absurd (cc)
+unless_passes true fault later h = (refl, h)
+unless_passes false fault later h = absurd cc
+
+-- a moment of a mark, and whether an object is left, are no matter of the world
+pub ticked_world : (c : State) → (ticked c).world ≡ c.world
+ticked_world c =
+    elim (cases_Bool (is_in c.world.phase Marking)) [ inl marks ↦ simp marks refl | inr other ↦ simp other refl ]
+
+pub but_world : (c b : State) → IsBut c b → b.world ≡ c.world
+but_world c b but = ap (λ (s : State). s.world) but.1
+
+-- what a step asks of its heap, where it asks anything
+abbrev pub asked_of : Option NamedStep → NamedStep
+asked_of None = heap.EndMark
+asked_of (Some asked) = asked

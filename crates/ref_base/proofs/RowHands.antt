@@ -12,9 +12,10 @@ use Rattle.ref_base.proofs.HeapRowLaws.{refused_hands, refused_queues}
 use Rattle.ref_base.proofs.CarryLaws.{OfHand}
 use Rattle.ref_base.proofs.HeapMoves.{settled_becomes}
 use Rattle.ref_base.proofs.RowKinds.{queues_become}
-use Rattle.ref_base.proofs.SameOthers.{heap_others, handed_others}
+use Rattle.ref_base.proofs.MovedParts.{heap_others}
+use Rattle.ref_base.proofs.SameOthers.{handed_others}
 use Rattle.ref_base.proofs.CountedTraces.{empty_hand}
-use Rattle.ref_base.proofs.RowLaws.{unless_passes}
+use Rattle.ref_base.proofs.RowForms.{unless_passes}
 
 -- the world with the hands and queues that the row leaves
 abbrev pub others_after : World → Step → Reply → World

@@ -11,7 +11,7 @@ use Rattle.ref_base.proofs.Common.{HoldName, Step, Reply, Row}
 use Rattle.ref_base.specs.declared.heap_step.HeapStep.TheVariants as heap
 use Rattle.ref_base.specs.declared.step.Step.TheVariants as steps
 use Rattle.ref_base.specs.declared.reply.Reply.TheVariants as replies
-use Rattle.ref_base.proofs.RowLaws.{unless_passes}
+use Rattle.ref_base.proofs.RowForms.{unless_passes}
 use Rattle.ref_base.proofs.CountedWorlds.{holding_hand, counted_hand}
 use Rattle.ref_base.proofs.HeapMoves.{Becomes, settled, settled_becomes}
 

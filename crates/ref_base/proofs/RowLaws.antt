@@ -1,272 +1,66 @@
 -- Each row of the abstract collector does to queues and hands what it says.
-use Rattle.std.proofs.Common.{◌≡◌, ℕ, ◌+◌, ◌*◌, ◌<◌, Bool, true, false, if◌then◌else◌}
-use Rattle.std.proofs.Common.{List, [], ◌∷◌, ◌++◌, length, map, take, Option, Some, None, inl, inr, refl, sym, ap, ◌∙◌}
+use Rattle.std.proofs.Common.{◌≡◌, ℕ, ◌<◌, Bool, true, false, if◌then◌else◌}
+use Rattle.std.proofs.Common.{List, [], ◌∷◌, length, Option, Some, None, inl, inr, refl, sym, ap, ◌∙◌}
 use Rattle.std.proofs.Common.{subst}
-use Rattle.std.specs.Prelude.{slice_set}
 use Rattle.std.specs.List.{AllByRecursion}
-use Rattle.std.proofs.lemmas.Bool.{cases_Bool, ltb-true, and_parts}
-use Rattle.ref_base.proofs.Common.{has, Object, plain_object, Heap, slot_at, with_slot, with_hold, without_hold}
-use Rattle.ref_base.proofs.Common.{one_more, one_fewer, registered_in, reference_at, got, nulls, new_reference, made}
-use Rattle.ref_base.proofs.Common.{cut, stored, was_put, HandNotices, with_held, held_after, World, Notice, Pending}
-use Rattle.ref_base.proofs.Common.{SameOthers, object_of, hand_of, queue_at, pending_of, with_heap, with_hand}
-use Rattle.ref_base.proofs.Common.{with_pending, NamedStep, hold_of, spending, handed, adopted, pended}
-use Rattle.ref_base.proofs.Common.{without_pending, handed_on, begun, with_phase, State, unless, refusal, heap_refusal}
-use Rattle.ref_base.proofs.Common.{is_in, is_mutator, is_worker, is_queue, is_actor, is_queue_or_none, has_slot}
-use Rattle.ref_base.proofs.Common.{has_slots, with_handed, Gives, GivesAnewIf, IsBut, ticked, HeapAccepts, Accepts}
-use Rattle.ref_base.proofs.Common.{AcceptsAsking, IsAnswer, IsRow, Loads, Gets, Unhooks, Holds, PutsInto, Puts, Polls}
-use Rattle.ref_base.proofs.Common.{Closes, Scans, ClearsNext, HandsOn, Sweeps, looked, EndsMark, doomed_at, shown}
-use Rattle.ref_base.proofs.Common.{without, list_at, begun_state, Fault, NoMemory, Own, Cycle, Actor, Mutator, Worker}
-use Rattle.ref_base.proofs.Common.{Urgency, Phase, Idle, Marking, Clearing, Sweeping, Step, Reply, Row}
+use Rattle.std.proofs.lemmas.Bool.{ltb-true, and_parts}
+use Rattle.ref_base.proofs.Common.{has, Object, Heap, slot_at}
+use Rattle.ref_base.proofs.Common.{was_put, HandNotices, with_held, held_after, World, Notice, Pending}
+use Rattle.ref_base.proofs.Common.{SameOthers, object_of, hand_of, queue_at, with_hand}
+use Rattle.ref_base.proofs.Common.{NamedStep, hold_of, spending, handed}
+use Rattle.ref_base.proofs.Common.{State, refusal, heap_refusal}
+use Rattle.ref_base.proofs.Common.{is_mutator, is_worker, is_queue, is_actor, is_queue_or_none, has_slot}
+use Rattle.ref_base.proofs.Common.{has_slots, with_handed, Gives, HeapAccepts, Accepts}
+use Rattle.ref_base.proofs.Common.{AcceptsAsking, IsAnswer, IsRow, Unhooks, PutsInto, Puts, Polls}
+use Rattle.ref_base.proofs.Common.{Closes, HandsOn}
+use Rattle.ref_base.proofs.Common.{Fault, NoMemory, Own, Cycle, Actor, Mutator, Worker}
+use Rattle.ref_base.proofs.Common.{Step, Reply, Row}
 use Rattle.ref_base.specs.declared.heap_step.HeapStep.TheVariants as heap
 use Rattle.ref_base.specs.declared.step.Step.TheVariants as steps
 use Rattle.ref_base.specs.declared.reply.Reply.TheVariants as replies
-use Rattle.ref_base.proofs.Places.{all_push}
-use Rattle.ref_base.proofs.SoundWorlds.{QueueBelow, ObjectBelow, PendingBelow, HasHand, IsSound, sound_rest}
-use Rattle.ref_base.proofs.SoundWorlds.{sound_stored}
-use Rattle.ref_base.proofs.SoundWorlds.{sound_cut, sound_got, sound_made, sound_shown, sound_swept, sound_pending}
-use Rattle.ref_base.proofs.SoundWorlds.{held_below, registered_below, without_pending_below}
+use Rattle.ref_base.proofs.CarryHeaps.{Anew, heap_carries}
+use Rattle.ref_base.proofs.MovedParts.{heap_others, heap_config}
+use Rattle.ref_base.proofs.Common.{heap_step}
+use Rattle.ref_base.proofs.RowForms.{asked_of, ticked_world, unless_passes}
+use Rattle.ref_base.proofs.SoundWorlds.{QueueBelow, ObjectBelow, PendingBelow, IsBelow, HasHand, IsSound, AnyCycle}
+use Rattle.ref_base.proofs.SoundWorlds.{below_lasts, names_below, sound_again, registered_below, held_below}
 use Rattle.ref_base.proofs.QueueLaws.{as_held, move_by, no_move, Goes, IsStill, same, stays, sets_hand, goes_after}
 use Rattle.ref_base.proofs.QueueLaws.{put_goes, close_goes, poll_goes}
 
--- ---- the forms of a row
-
-pub ticked_world : (c : State) → (ticked c).world ≡ c.world
-ticked_world c =
-    elim (cases_Bool (is_in c.world.phase Marking)) [ inl marks ↦ simp marks refl | inr other ↦ simp other refl ]
-
-pub but_world : (c b : State) → IsBut c b → b.world ≡ c.world
-but_world c b but = ap (λ (s : State). s.world) but.1
+-- ---- the rows of a heap
 
 -- a row of a heap keeps hands and queues as they are, and leaves a sound world where there was one
 pub record Keeps (a b : World) : Type 0 where
   pub others : SameOthers a b
   pub sound : IsSound a → IsSound b
 
-given_keeps : (a c b : State) (answer reply : Reply) → Gives answer c reply b → Keeps a.world c.world
-    → Keeps a.world b.world
-given_keeps a c b answer reply gives keeps =
-    let world : b.world ≡ c.world = ap (λ (s : State). s.world) gives.1 ∙ ticked_world c in
-    subst (λ (w : World). Keeps a.world w) (sym world) keeps
-
-anew_keeps : (a c b : State) (marks : Bool) (answer reply : Reply) → GivesAnewIf marks answer c reply b
-    → Keeps a.world c.world → Keeps a.world b.world
-anew_keeps a c b true answer reply gives keeps =
-    let world : b.world ≡ c.world = but_world (ticked c) b gives.1 ∙ ticked_world c in
-    subst (λ (w : World). Keeps a.world w) (sym world) keeps
-anew_keeps a c b false answer reply gives keeps = given_keeps a c b answer reply gives keeps
-
-still : (w : World) → Keeps w w
-still w = record { others = same w; sound = λ sound. sound }
-
-on_heap_keeps : (w : World) (h : Heap) → (IsSound w → IsSound (with_heap w h)) → Keeps w (with_heap w h)
-on_heap_keeps w h sound = record {
-  others = record { mutators = refl; workers = refl; queues = refl };
-  sound = sound;
-}
-
-sound_slot : (w : World) (m s : ℕ) (value : Option ℕ) → IsSound w → IsSound (with_heap w (with_slot w.heap m s value))
-sound_slot w m s value sound =
-    sound_rest w (slice_set w.heap.slots (16 * m + s) value) w.heap.holds w.heap.clock sound
-
-slot_keeps : (w : World) (m s : ℕ) (value : Option ℕ) → Keeps w (with_heap w (with_slot w.heap m s value))
-slot_keeps w m s value = on_heap_keeps w (with_slot w.heap m s value) (λ sound. sound_slot w m s value sound)
-
-sound_hold : (w : World) (n : ℕ) → IsSound w → IsSound (with_heap w (with_hold w.heap n))
-sound_hold w n sound = sound_rest w w.heap.slots (one_more w.heap.holds n) w.heap.clock sound
-
-sound_without : (w : World) (n : ℕ) → IsSound w → IsSound (with_heap w (without_hold w.heap n))
-sound_without w n sound = sound_rest w w.heap.slots (one_fewer w.heap.holds n) w.heap.clock sound
-
--- ---- objects, slots, references and holds
-
-made_keeps : (w : World) (m d : ℕ) (o : Object) → ObjectBelow w.heap.config.queues o
-    → Keeps w (with_heap w (made w.heap m d o))
-made_keeps w m d o below =
-    on_heap_keeps w (made w.heap m d o)
-    (λ sound.
-    sound_slot (with_heap w (record w.heap { objects = w.heap.objects ++ o ∷ [] })) m d (Some o.no)
-    (sound_made w o sound below))
-
-load_keeps : (a b : State) (m d : ℕ) (value : Option ℕ) (reply : Reply) → Loads a m d value reply b
-    → Keeps a.world b.world
-load_keeps a b m d None reply gives = given_keeps a _ b replies.Null reply gives (slot_keeps a.world m d None)
-load_keeps a b m d (Some n) reply gives =
-    anew_keeps a _ b _ (replies.Object n) reply gives (slot_keeps a.world m d (Some n))
-
-get_keeps : (a b : State) (m d s : ℕ) (value : Option ℕ) (reply : Reply) → Gets a m d s value reply b
-    → Keeps a.world b.world
-get_keeps a b m d s None reply gives = given_keeps a _ b replies.Null reply gives (slot_keeps a.world m d None)
-get_keeps a b m d s (Some n) reply gives =
-    anew_keeps a _ b _ (replies.Object n) reply gives
-    (on_heap_keeps a.world (got a.world.heap m d s (Some n))
-    (λ sound. sound_slot _ m d (Some n) (sound_got a.world (slot_at a.world.heap m s) a.world.heap.clock sound)))
-
-cut_keeps : (w : World) (m s : ℕ) → Keeps w (with_heap w (cut w.heap m s))
-cut_keeps w m s = on_heap_keeps w (cut w.heap m s) (λ sound. sound_cut w (slot_at w.heap m s) sound)
-
-unhook_keeps : (a b : State) (m s : ℕ) (held queue : Option ℕ) (reply : Reply) → Unhooks a m s held queue reply b
-    → Keeps a.world b.world
-unhook_keeps a b m s None queue reply gives =
-    given_keeps a _ b replies.Nothing reply gives (cut_keeps a.world m s)
-unhook_keeps a b m s (Some n) None reply gives =
-    given_keeps a _ b replies.Nothing reply gives (cut_keeps a.world m s)
-unhook_keeps a b m s (Some n) (Some q) reply gives =
-    let mid : World = with_heap a.world (cut a.world.heap m s) in
-    given_keeps a _ b (replies.Notice n q Own) reply gives
-    (on_heap_keeps a.world (with_hold (cut a.world.heap m s) n)
-    (λ sound. sound_hold mid n (sound_cut a.world (slot_at a.world.heap m s) sound)))
-
-hold_keeps : (a b : State) (held : Option ℕ) (reply : Reply) → Holds a held reply b → Keeps a.world b.world
-hold_keeps a b None reply gives = absurd gives
-hold_keeps a b (Some n) reply gives =
-    given_keeps a _ b (replies.Object n) reply gives
-    (on_heap_keeps a.world (with_hold a.world.heap n) (λ sound. sound_hold a.world n sound))
-
-adopted_keeps : (w : World) (m d n : ℕ) → Keeps w (with_heap w (adopted w.heap m d n))
-adopted_keeps w m d n =
-    on_heap_keeps w (adopted w.heap m d n)
-    (λ sound. sound_slot (with_heap w (without_hold w.heap n)) m d (Some n) (sound_without w n sound))
-
--- ---- the cycle
-
-sound_cycle : (w : World) (how : Urgency) (cycle : ℕ) (phase : Phase) → IsSound w
-    → IsSound (record w { urgency = how; cycle = cycle; phase = phase })
-sound_cycle w how cycle phase sound = record {
-  mutator_hands = sound.mutator_hands;
-  worker_hands = sound.worker_hands;
-  queues = sound.queues;
-  objects_below = sound.objects_below;
-  hands_below = sound.hands_below;
-  pending_below = sound.pending_below;
-  own = sound.own;
-}
-
-phase_keeps : (w : World) (phase : Phase) → Keeps w (with_phase w phase)
-phase_keeps w phase = record {
-  others = record { mutators = refl; workers = refl; queues = refl };
-  sound = λ sound. sound_cycle w w.urgency w.cycle phase sound;
-}
-
-begin_keeps : (w : World) (now : ℕ) (how : Urgency) (n : ℕ) → Keeps w (begun w now how n)
-begin_keeps w now how n = record {
-  others = record { mutators = refl; workers = refl; queues = refl };
-  sound = λ sound. sound_cycle (with_heap w (record w.heap { clock = now })) how n Marking
-      (sound_rest w w.heap.slots w.heap.holds now sound);
-}
-
-nothing_keeps : (a b : State) (reply : Reply) → Gives replies.Nothing a reply b → Keeps a.world b.world
-nothing_keeps a b reply gives = given_keeps a a b replies.Nothing reply gives (still a.world)
-
-scan_keeps : (a b : State) (k : ℕ) (reply : Reply) → Scans a k reply b → Keeps a.world b.world
-scan_keeps a b k (replies.Scanned n) scans =
-    let after_scan : State = record a { scanned = slice_set a.scanned k (list_at a.scanned k ++ n ∷ []) } in
-    let world : b.world ≡ a.world = but_world (ticked after_scan) b scans.2 ∙ ticked_world after_scan in
-    subst (λ (w : World). Keeps a.world w) (sym world) (still a.world)
-scan_keeps a b k reply scans = nothing_keeps a b reply scans.1
-
-end_mark_keeps : (a b : State) (reply : Reply) → EndsMark a reply b → Keeps a.world b.world
-end_mark_keeps a b reply ends =
-    let d : List ℕ = doomed_at a in
-    let mid : World = with_heap a.world (record a.world.heap { objects = map (λ o. shown d o) a.world.heap.objects }) in
-    subst (λ (s : State). Keeps a.world s.world) (sym ends.after) (record {
-      others = record { mutators = refl; workers = refl; queues = refl };
-      sound = λ sound. sound_cycle mid mid.urgency mid.cycle Clearing (sound_shown a.world d sound);
-    })
-
-pended_keeps : (w : World) (k n : ℕ) (queue : Option ℕ) → (IsSound w → QueueBelow w.heap.config.queues queue)
-    → Keeps w (pended w k n queue)
-pended_keeps w k n None below = still w
-pended_keeps w k n (Some q) below =
-    let p : Pending = record { object = n; queue = q; cycle = w.cycle } in
-    record {
-      others = record { mutators = refl; workers = refl; queues = refl };
-      sound = λ sound. sound_pending w k (pending_of w k ++ p ∷ []) sound
-          (all_push (PendingBelow w.heap.config.queues) (pending_of w k) p (sound.pending_below k) (below sound));
-    }
-
-looked_keeps : (a : State) (k n : ℕ) (rest : List ℕ) → Keeps a.world (looked a k n rest).world
-looked_keeps a k n rest =
-    elim (cases_Bool (has a.cleared n)) [
-      | inl clears ↦ simp clears
-          (pended_keeps a.world k n (registered_in (reference_at a.world.heap n))
-          (λ sound. registered_below a.world n sound))
-      | inr stands ↦ simp stands (still a.world)
-    ]
-
-clear_next_keeps : (a b : State) (k : ℕ) (found : List ℕ) (reply : Reply) → ClearsNext a k found reply b
-    → Keeps a.world b.world
-clear_next_keeps a b k [] reply gives = nothing_keeps a b reply gives
-clear_next_keeps a b k (n ∷ rest) reply gives = given_keeps a _ b _ reply gives (looked_keeps a k n rest)
-
-handed_on_keeps : (w : World) (k n : ℕ) → Keeps w (handed_on w k n)
-handed_on_keeps w k n =
-    let fewer : List Pending = without_pending (pending_of w k) n in
-    record {
-      others = record { mutators = refl; workers = refl; queues = refl };
-      sound = λ sound. sound_hold (with_pending w k fewer) n
-          (sound_pending w k fewer sound
-          (without_pending_below w.heap.config.queues (pending_of w k) n (sound.pending_below k)));
-    }
-
-hand_keeps : (a b : State) (k : ℕ) (ps : List Pending) (reply : Reply) → HandsOn a k ps reply b
-    → Keeps a.world b.world
-hand_keeps a b k [] reply gives = nothing_keeps a b reply gives
-hand_keeps a b k (p ∷ ps) reply gives = given_keeps a _ b _ reply gives (handed_on_keeps a.world k p.object)
-
-sweep_keeps : (a b : State) (doomed : List ℕ) (reply : Reply) → Sweeps a doomed reply b → Keeps a.world b.world
-sweep_keeps a b [] reply gives = nothing_keeps a b reply gives
-sweep_keeps a b (n ∷ ns) reply gives =
-    given_keeps a _ b _ reply gives
-    (on_heap_keeps a.world (record a.world.heap { objects = without (take 64 (n ∷ ns)) a.world.heap.objects })
-    (λ sound. sound_swept a.world (take 64 (n ∷ ns)) sound))
-
--- ---- the rows of a heap
-
 -- what is made is registered with a queue of the configuration
 abbrev pub IsRegistered : State → NamedStep → Type 0
 IsRegistered a (heap.Refer m strength d s q k) = QueueBelow a.world.heap.config.queues q
 IsRegistered a step = Unit {0}
 
+-- so what a row makes anew names no queue that isn't there
+below_anew : (a : State) (step : NamedStep) (reply : Reply) → IsRegistered a step → IsSound a.world
+    → Anew (ObjectBelow a.world.heap.config.queues) (IsBelow a.world.heap.config.queues) AnyCycle a step reply
+below_anew a (heap.New m d k) reply is sound = λ told. tt
+below_anew a (heap.Refer m strength d s q k) reply is sound = λ told. is
+below_anew a (heap.Begin now how) reply is sound = λ told. tt
+below_anew a (heap.ClearNext k) reply is sound =
+    λ n q told there. subst (QueueBelow a.world.heap.config.queues) there (registered_below a.world n sound)
+below_anew a step reply is sound = tt
+
 pub heap_keeps : (a b : State) (step : NamedStep) (reply : Reply) → IsRegistered a step
     → HeapAccepts a step reply b → Keeps a.world b.world
-heap_keeps a b (heap.New m d k) reply is gives =
-    given_keeps a _ b (replies.Object a.next) reply gives
-    (made_keeps a.world m d (plain_object a.next (nulls k)) tt)
-heap_keeps a b (heap.Refer m strength d s q k) reply is gives =
-    given_keeps a _ b (replies.Object a.next) reply gives
-    (made_keeps a.world m d (new_reference a.world.heap a.next strength (slot_at a.world.heap m s) q k) is)
-heap_keeps a b (heap.Store m s i v) reply is gives =
-    given_keeps a _ b replies.Done reply gives
-    (on_heap_keeps a.world (stored a.world.heap m s i v)
-    (λ sound. sound_stored a.world (slot_at a.world.heap m s) i (slot_at a.world.heap m v) sound))
-heap_keeps a b (heap.Load m d s i) reply is gives = load_keeps a b m d _ reply gives
-heap_keeps a b (heap.Copy m d s) reply is gives =
-    given_keeps a _ b _ reply gives (slot_keeps a.world m d (slot_at a.world.heap m s))
-heap_keeps a b (heap.Drop m s) reply is gives =
-    given_keeps a _ b replies.Done reply gives (slot_keeps a.world m s None)
-heap_keeps a b (heap.Get m d s) reply is gives = get_keeps a b m d s _ reply gives
-heap_keeps a b (heap.Clear m s) reply is gives =
-    given_keeps a _ b replies.Done reply gives (cut_keeps a.world m s)
-heap_keeps a b (heap.RefersTo m s v) reply is gives = given_keeps a a b _ reply gives (still a.world)
-heap_keeps a b (heap.Unhook m s) reply is gives = unhook_keeps a b m s _ _ reply gives
-heap_keeps a b (heap.Hold m s) reply is gives = hold_keeps a b _ reply gives
-heap_keeps a b (heap.Adopt m d hold) reply is gives =
-    given_keeps a _ b _ reply gives (adopted_keeps a.world m d hold.object)
-heap_keeps a b (heap.Release hold) reply is gives =
-    given_keeps a _ b replies.Done reply gives
-    (on_heap_keeps a.world (without_hold a.world.heap hold.object)
-    (λ sound. sound_without a.world hold.object sound))
-heap_keeps a b (heap.Begin now how) reply is gives =
-    let n : ℕ = a.world.cycle + 1 in
-    anew_keeps a (begun_state a (begun a.world now how n)) b true (replies.Cycle n) reply gives
-    (begin_keeps a.world now how n)
-heap_keeps a b (heap.Scan k) reply is scans = scan_keeps a b k reply scans
-heap_keeps a b heap.EndMark reply is ends = end_mark_keeps a b reply ends
-heap_keeps a b (heap.ClearNext k) reply is gives = clear_next_keeps a b k _ reply gives
-heap_keeps a b heap.EndClear reply is gives = given_keeps a _ b replies.Done reply gives (phase_keeps a.world Sweeping)
-heap_keeps a b (heap.Hand k) reply is gives = hand_keeps a b k _ reply gives
-heap_keeps a b (heap.Sweep k) reply is gives = sweep_keeps a b a.doomed reply gives
-heap_keeps a b heap.EndSweep reply is gives = given_keeps a _ b replies.Done reply gives (phase_keeps a.world Idle)
+heap_keeps a b step reply is row =
+    let count : ℕ = a.world.heap.config.queues in
+    let others = heap_others a b step reply row in
+    record {
+      others = others;
+      sound = λ sound.
+          sound_again a.world b.world others (heap_config a b step reply row) sound
+          (heap_carries (ObjectBelow count) (IsBelow count) AnyCycle (below_lasts count) a b step reply
+          (below_anew a step reply is sound) (names_below a.world sound) row);
+    }
 
 -- ---- refusals
 
@@ -451,11 +245,6 @@ release_goes a b who (Some notice) reply sound has row =
 
 -- ---- who and what is there
 
-pub unless_passes : (test : Bool) (fault : Fault) (later : Option Fault) → unless test fault later ≡ None
-    → (test ≡ true) × (later ≡ None)
-unless_passes true fault later h = (refl, h)
-unless_passes false fault later h = absurd cc
-
 queue_below : (h : Heap) (queue : Option ℕ) → is_queue_or_none h queue ≡ true → QueueBelow h.config.queues queue
 queue_below h None is = tt
 queue_below h (Some q) is = ltb-true q h.config.queues is
@@ -517,7 +306,8 @@ accepted_goes a b (steps.Hand k) reply sound h row =
     let first = unless_passes (is_worker a.world.heap k) _ _ h in
     hand_goes a row.0 b k _ reply sound (heap_keeps a row.0 (heap.Hand k) reply tt row.1)
     (worker_within a.world k sound first.0) (sound.pending_below k) row.1 row.2
-accepted_goes a b step reply sound h row = quiet a b _ step reply sound tt row (λ _ _. refl) (λ _. refl)
+accepted_goes a b step reply sound h row =
+    quiet a b (asked_of (heap_step a.world step)) step reply sound tt row (λ _ _. refl) (λ _. refl)
 
 answer_goes : (a b : State) (step : Step) (reply : Reply) (fault : Option Fault) → IsSound a.world
     → refusal a step ≡ fault → IsAnswer a fault step reply b → Goes a.world b.world step reply

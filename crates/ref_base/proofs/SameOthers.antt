@@ -1,13 +1,11 @@
 -- What leaves hands and queues the same: the heap has no say in them.
 use Rattle.std.proofs.Common.{◌≡◌, Bool, true, false, if◌then◌else◌, List, Option, Some, None}
-use Rattle.std.proofs.Common.{refl, sym, ap, ◌∙◌, subst}
+use Rattle.std.proofs.Common.{ap}
 use Rattle.std.specs.Prelude.{slice_index_or, slice_set, is_some}
-use Rattle.ref_base.proofs.Common.{Heap, World, Notice, SameOthers, hand_of, with_heap, with_hand, told_object}
-use Rattle.ref_base.proofs.Common.{is_done, told_notice, NamedStep, taking, handed, State, HeapAccepts, Actor, Mutator}
+use Rattle.ref_base.proofs.Common.{World, Notice, SameOthers, hand_of, with_hand, told_object}
+use Rattle.ref_base.proofs.Common.{is_done, told_notice, taking, handed, Actor, Mutator}
 use Rattle.ref_base.proofs.Common.{Worker, Step, Reply}
-use Rattle.ref_base.specs.declared.heap_step.HeapStep.TheVariants as heap
 use Rattle.ref_base.specs.declared.step.Step.TheVariants as steps
-use Rattle.ref_base.proofs.RowLaws.{ticked_world, heap_keeps}
 
 -- ---- the same hands and queues
 
@@ -27,19 +25,6 @@ same_with_hand v w (Worker k) hand is = record {
   workers = ap (λ (hs : List (Option Notice)). slice_set hs k hand) is.workers;
   queues = is.queues;
 }
-
--- ---- rows of the heap
-
-with_heap_others : (w : World) (h : Heap) → SameOthers w (with_heap w h)
-with_heap_others w h = record { mutators = refl; workers = refl; queues = refl }
-
--- a row of the heap leaves hands and queues
-pub heap_others : (a b : State) (step : NamedStep) (reply : Reply) → HeapAccepts a step reply b
-    → SameOthers a.world b.world
-heap_others a b (heap.Refer m strength d s q k) reply row =
-    subst (λ (w : World). SameOthers a.world w) (sym (ap (λ (s : State). s.world) row.1 ∙ ticked_world _))
-    (with_heap_others a.world _)
-heap_others a b step reply row = (heap_keeps a b step reply tt row).others
 
 -- ---- hands
 

@@ -22,7 +22,7 @@ use Rattle.ref_base.proofs.CountedTraces.{legal_counted}
 use Rattle.ref_base.proofs.LeftObjects.{LeftMeans}
 use Rattle.ref_base.proofs.RunFronts.{legal_holds}
 use Rattle.ref_base.proofs.LegalQueues.{distinct_nil}
-use Rattle.ref_base.proofs.RowLaws.{unless_passes}
+use Rattle.ref_base.proofs.RowForms.{unless_passes}
 use Rattle.ref_base.proofs.RowMoves.{scanned_after, Moves, row_moves}
 
 -- ---- a mark goes on only while an object is left

@@ -1,17 +1,18 @@
 -- That every queue which a world names is one of its configuration's, and what keeps this so.
-use Rattle.std.proofs.Common.{◌≡◌, ℕ, zero, suc, ◌<◌, not, ◌&&◌, ◌==◌}
-use Rattle.std.proofs.Common.{List, [], ◌∷◌, ◌++◌, length, map, Option, Some, None, inl, inr}
-use Rattle.std.proofs.Common.{refl, sym, ◌∙◌, subst, arith}
+use Rattle.std.proofs.Common.{◌≡◌, ℕ, zero, suc, ◌<◌, ◌==◌}
+use Rattle.std.proofs.Common.{List, [], ◌∷◌, length, Option, Some, None, inl, inr}
+use Rattle.std.proofs.Common.{refl, sym, ap, ◌∙◌, subst, arith}
 use Rattle.std.specs.Prelude.{slice_index_or, replicate}
 use Rattle.std.specs.List.{AllByRecursion}
 use Rattle.std.proofs.lemmas.Bool.{cases_Bool}
 use Rattle.std.proofs.lemmas.List.{length-set, length-replicate}
-use Rattle.ref_base.proofs.Common.{has, Object, Reference, object_at, is_soft, refers_into, changed_at, changed_in}
-use Rattle.ref_base.proofs.Common.{registered_in, reference_in, with_field, with_reference, changed_reference, cleared}
+use Rattle.ref_base.proofs.Common.{has, Object, Reference, object_at, is_soft}
+use Rattle.ref_base.proofs.Common.{registered_in, reference_in, changed_reference, cleared}
 use Rattle.ref_base.proofs.Common.{got_at, reference_at, Lists, new_queue, World, Notice, Pending, first_world}
-use Rattle.ref_base.proofs.Common.{hand_of, queue_at, pending_of, with_heap, with_hand, with_queue, with_pending}
-use Rattle.ref_base.proofs.Common.{without_pending, shown, without, reference_of, Config, Actor, Mutator, Worker}
-use Rattle.ref_base.proofs.Places.{set_at, set_all, all_push}
+use Rattle.ref_base.proofs.Common.{hand_of, queue_at, pending_of, with_hand, with_queue}
+use Rattle.ref_base.proofs.Common.{SameOthers, reference_of, Config, Actor, Mutator, Worker}
+use Rattle.ref_base.proofs.CarryLaws.{OfHand, Carries, Lasts}
+use Rattle.ref_base.proofs.Places.{set_at, each_or}
 use Rattle.ref_base.proofs.QueueMoves.{length-new_queues, new_queues_at}
 
 -- ---- what is asked of each part, where there are so many queues
@@ -23,9 +24,11 @@ QueueBelow count (Some q) = q < count
 abbrev pub ObjectBelow : ℕ → Object → Type 0
 ObjectBelow count o = QueueBelow count (registered_in o.reference)
 
+abbrev pub IsBelow : ℕ → Notice → Type 0
+IsBelow count notice = notice.queue < count
+
 abbrev pub NoticeBelow : ℕ → Option Notice → Type 0
-NoticeBelow count None = Unit {0}
-NoticeBelow count (Some notice) = notice.queue < count
+NoticeBelow count = OfHand (IsBelow count)
 
 abbrev pub PendingBelow : ℕ → Pending → Type 0
 PendingBelow count p = p.queue < count
@@ -51,30 +54,6 @@ pub record IsSound (w : World) : Type 0 where
 
 -- ---- objects
 
-pub all_changed : {P : Object → Type 0} (os : List Object) (n : ℕ) (f : Object → Object)
-    → ((o : Object) → P o → P (f o))
-    → AllByRecursion P os → AllByRecursion P (changed_at os n f)
-all_changed [] n f keeps all = tt
-all_changed (o ∷ os) n f keeps all =
-    elim (cases_Bool (o.no == n)) [
-      | inl same ↦ simp same (keeps o all.0, all.1)
-      | inr other ↦ simp other (all.0, all_changed os n f keeps all.1)
-    ]
-
-pub all_map : {P : Object → Type 0} (os : List Object) (f : Object → Object) → ((o : Object) → P o → P (f o))
-    → AllByRecursion P os → AllByRecursion P (map f os)
-all_map [] f keeps all = tt
-all_map (o ∷ os) f keeps all = (keeps o all.0, all_map os f keeps all.1)
-
-pub all_without : (P : Object → Type 0) (ns : List ℕ) (os : List Object) → AllByRecursion P os
-    → AllByRecursion P (without ns os)
-all_without P ns [] all = tt
-all_without P ns (o ∷ os) all =
-    elim (cases_Bool (has ns o.no)) [
-      | inl gone ↦ simp gone (all_without P ns os all.1)
-      | inr stays ↦ simp stays (all.0, all_without P ns os all.1)
-    ]
-
 cleared_below : (count : ℕ) (r : Option Reference) → QueueBelow count (registered_in r)
     → QueueBelow count (registered_in (changed_reference cleared r))
 cleared_below count None below = below
@@ -85,13 +64,6 @@ got_below : (count clock : ℕ) (r : Option Reference) → QueueBelow count (reg
 got_below count clock None below = below
 got_below count clock (Some r) below =
     elim (cases_Bool (is_soft r.strength)) [ inl soft ↦ simp soft below | inr other ↦ simp other below ]
-
-shown_below : (count : ℕ) (d : List ℕ) (o : Object) → ObjectBelow count o → ObjectBelow count (shown d o)
-shown_below count d o below =
-    elim (cases_Bool (not (has d o.no) && refers_into (has d) o.reference)) [
-      | inl clears ↦ simp clears (cleared_below count o.reference below)
-      | inr keeps ↦ simp keeps below
-    ]
 
 object_below : (count : ℕ) (os : List Object) (n : ℕ) → AllByRecursion (ObjectBelow count) os
     → QueueBelow count (registered_in (reference_in (object_at os n)))
@@ -112,76 +84,72 @@ pub held_below : (w : World) (held : Option ℕ) → IsSound w
 held_below w None sound = tt
 held_below w (Some n) sound = registered_below w n sound
 
--- ---- changes of the heap
+-- ---- what is carried
 
--- a world with other objects
-pub sound_objects : (w : World) (os : List Object) → IsSound w → AllByRecursion (ObjectBelow w.heap.config.queues) os
-    → IsSound (with_heap w (record w.heap { objects = os }))
-sound_objects w os sound below = record {
-  mutator_hands = sound.mutator_hands;
-  worker_hands = sound.worker_hands;
-  queues = sound.queues;
-  objects_below = below;
-  hands_below = sound.hands_below;
-  pending_below = sound.pending_below;
-  own = sound.own;
+abbrev pub AnyCycle : ℕ → Type 0
+AnyCycle cycle = Unit {0}
+
+-- objects, notices and pending references name queues below the count
+abbrev pub NamesBelow : ℕ → World → Type 0
+NamesBelow count = Carries (ObjectBelow count) (IsBelow count) AnyCycle
+
+pub below_lasts : (count : ℕ) → Lasts (ObjectBelow count)
+below_lasts count = record {
+  stores = λ o i value below. below;
+  clears = λ o below. cleared_below count o.reference below;
+  gets = λ o clock below. got_below count clock o.reference below;
 }
 
--- a world with other slots, holds and clock
-pub sound_rest : (w : World) (slots : List (Option ℕ)) (holds : List ℕ) (clock : ℕ) → IsSound w
-    → IsSound (with_heap w (record w.heap { slots = slots; holds = holds; clock = clock }))
-sound_rest w slots holds clock sound = record {
-  mutator_hands = sound.mutator_hands;
-  worker_hands = sound.worker_hands;
-  queues = sound.queues;
-  objects_below = sound.objects_below;
-  hands_below = sound.hands_below;
-  pending_below = sound.pending_below;
-  own = sound.own;
-}
+all_own : (count q : ℕ) (ns : List Notice) → q < count → AllByRecursion (IsOwn q) ns → AllByRecursion (IsBelow count) ns
+all_own count q [] within all = tt
+all_own count q (notice ∷ ns) within all = (
+  (let own : notice.queue ≡ q = all.0 in omega (arith, own, within)),
+  all_own count q ns within all.1,
+)
 
-sound_changed : (w : World) (held : Option ℕ) (f : Object → Object)
-    → ((o : Object) → ObjectBelow w.heap.config.queues o → ObjectBelow w.heap.config.queues (f o))
-    → IsSound w → IsSound (with_heap w (changed_in w.heap held f))
-sound_changed w None f keeps sound = sound
-sound_changed w (Some n) f keeps sound =
-    sound_objects w (changed_at w.heap.objects n f) sound (all_changed w.heap.objects n f keeps sound.objects_below)
+-- a sound world names no queue that isn't there
+pub names_below : (w : World) → IsSound w → NamesBelow w.heap.config.queues w
+names_below w sound =
+    let count : ℕ = w.heap.config.queues in
+    record {
+      objects = sound.objects_below;
+      pendings = sound.pending_below;
+      of_mutators = λ m. sound.hands_below (Mutator m);
+      of_workers = λ k. sound.hands_below (Worker k);
+      stands = λ q.
+          each_or (λ k (l : Lists Notice). AllByRecursion (IsOwn k) l.stands)
+          (λ k (l : Lists Notice). AllByRecursion (IsBelow count) l.stands) w.queues new_queue
+          (λ k within l own. all_own count k l.stands (omega (arith, within, sound.queues)) own) (λ k own. tt) q
+          (sound.own q);
+      goes_on = tt;
+    }
 
-pub sound_stored : (w : World) (held : Option ℕ) (i : ℕ) (value : Option ℕ) → IsSound w
-    → IsSound (with_heap w (changed_in w.heap held (with_field i value)))
-sound_stored w held i value sound = sound_changed w held (with_field i value) (λ o below. below) sound
+hand_below : (count : ℕ) (w : World) → NamesBelow count w → (who : Actor) → NoticeBelow count (hand_of w who)
+hand_below count w below (Mutator m) = below.of_mutators m
+hand_below count w below (Worker k) = below.of_workers k
 
-pub sound_cut : (w : World) (held : Option ℕ) → IsSound w
-    → IsSound (with_heap w (changed_in w.heap held (with_reference cleared)))
-sound_cut w held sound =
-    sound_changed w held (with_reference cleared)
-    (λ o below. cleared_below w.heap.config.queues o.reference below) sound
+-- one that has its hands, queues and configuration, and names none either, is sound too
+pub sound_again : (v w : World) → SameOthers v w → w.heap.config ≡ v.heap.config → IsSound v
+    → NamesBelow v.heap.config.queues w → IsSound w
+sound_again v w others config sound below =
+    let here : NamesBelow w.heap.config.queues w =
+    subst (λ (c : Config). NamesBelow c.queues w) (sym config) below in
+    record {
+      mutator_hands = ap (λ (hs : List (Option Notice)). length hs) others.mutators ∙ sound.mutator_hands
+          ∙ ap (λ (c : Config). c.mutators) (sym config);
+      worker_hands = ap (λ (hs : List (Option Notice)). length hs) others.workers ∙ sound.worker_hands
+          ∙ ap (λ (c : Config). c.workers) (sym config);
+      queues = ap (λ (qs : List (Lists Notice)). length qs) others.queues ∙ sound.queues
+          ∙ ap (λ (c : Config). c.queues) (sym config);
+      objects_below = here.objects;
+      hands_below = hand_below w.heap.config.queues w here;
+      pending_below = here.pendings;
+      own = λ q.
+          subst (λ (qs : List (Lists Notice)). AllByRecursion (IsOwn q) (slice_index_or qs q (new_queue q)).stands)
+          (sym others.queues) (sound.own q);
+    }
 
-pub sound_got : (w : World) (held : Option ℕ) (clock : ℕ) → IsSound w
-    → IsSound (with_heap w (changed_in w.heap held (with_reference (got_at clock))))
-sound_got w held clock sound =
-    sound_changed w held (with_reference (got_at clock))
-    (λ o below. got_below w.heap.config.queues clock o.reference below) sound
-
-pub sound_made : (w : World) (o : Object) → IsSound w → ObjectBelow w.heap.config.queues o
-    → IsSound (with_heap w (record w.heap { objects = w.heap.objects ++ o ∷ [] }))
-sound_made w o sound below =
-    sound_objects w (w.heap.objects ++ o ∷ []) sound
-    (all_push (ObjectBelow w.heap.config.queues) w.heap.objects o sound.objects_below below)
-
-pub sound_shown : (w : World) (d : List ℕ) → IsSound w
-    → IsSound (with_heap w (record w.heap { objects = map (λ o. shown d o) w.heap.objects }))
-sound_shown w d sound =
-    sound_objects w (map (λ o. shown d o) w.heap.objects) sound
-    (all_map w.heap.objects (λ o. shown d o) (shown_below w.heap.config.queues d) sound.objects_below)
-
-pub sound_swept : (w : World) (ns : List ℕ) → IsSound w
-    → IsSound (with_heap w (record w.heap { objects = without ns w.heap.objects }))
-sound_swept w ns sound =
-    sound_objects w (without ns w.heap.objects) sound
-    (all_without (ObjectBelow w.heap.config.queues) ns w.heap.objects sound.objects_below)
-
--- ---- changes of hands, queues and pending lists
+-- ---- changes of hands and queues
 
 mutator_hand_below : (w : World) (m : ℕ) (hand : Option Notice) → IsSound w → m < length w.mutator_hands
     → NoticeBelow w.heap.config.queues hand → (who : Actor)
@@ -232,28 +200,6 @@ sound_queue w q lists sound within own = record {
   own = set_at (λ k (l : Lists Notice). AllByRecursion (IsOwn k) l.stands) w.queues q lists new_queue within own
       (λ k _. sound.own k);
 }
-
-pub sound_pending : (w : World) (k : ℕ) (ps : List Pending) → IsSound w
-    → AllByRecursion (PendingBelow w.heap.config.queues) ps → IsSound (with_pending w k ps)
-sound_pending w k ps sound below = record {
-  mutator_hands = sound.mutator_hands;
-  worker_hands = sound.worker_hands;
-  queues = sound.queues;
-  objects_below = sound.objects_below;
-  hands_below = sound.hands_below;
-  pending_below = set_all (AllByRecursion (PendingBelow w.heap.config.queues)) w.pending k ps [] below
-      sound.pending_below;
-  own = sound.own;
-}
-
-pub without_pending_below : (count : ℕ) (ps : List Pending) (n : ℕ) → AllByRecursion (PendingBelow count) ps
-    → AllByRecursion (PendingBelow count) (without_pending ps n)
-without_pending_below count [] n all = tt
-without_pending_below count (p ∷ ps) n all =
-    elim (cases_Bool (p.object == n)) [
-      | inl same ↦ simp same all.1
-      | inr other ↦ simp other (all.0, without_pending_below count ps n all.1)
-    ]
 
 -- ---- the first world
 

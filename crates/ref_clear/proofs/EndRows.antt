@@ -11,7 +11,7 @@ use Rattle.ref_base.specs.declared.phase.Phase.{Phase}
 use Rattle.ref_base.specs.declared.heap_step.HeapStep.TheVariants as heap
 use Rattle.ref_base.specs.declared.reply.Reply.TheVariants as replies
 use Rattle.ref_base.proofs.Forgetting.{heap_but-none}
-use Rattle.ref_base.proofs.RowForms.{unless_parts}
+use Rattle.ref_base.proofs.RowForms.{unless_passes}
 use Rattle.ref_mark.proofs.DoomedLists.{has-unmarked}
 use Rattle.ref_mark.proofs.Passed.{is_clearing, is_sweeping}
 use Rattle.ref_clear.proofs.SweepLoops.{doomed-sweeping}
@@ -67,8 +67,8 @@ pub end_clear_row : (c : ClearHeap) (a : State) → HeapStands c a → refusal_i
 end_clear_row c a stands none =
     let k = c.mark in
     let later = unless (is_empty (joined k.found)) ClearingLeft None in
-    let parts = unless_parts (is_in k.phase Clearing) WrongPhase later none in
-    let empty = (unless_parts (is_empty (joined k.found)) ClearingLeft None parts.1).0 in
+    let parts = unless_passes (is_in k.phase Clearing) WrongPhase later none in
+    let empty = (unless_passes (is_empty (joined k.found)) ClearingLeft None parts.1).0 in
     let waiting = stands.waiting in (
       with_world a (world_with_phase a.world Sweeping),
       (refl, refl),
@@ -116,8 +116,8 @@ pub end_sweep_row : (c : ClearHeap) (a : State) → HeapStands c a → refusal_i
 end_sweep_row c a stands none =
     let k = c.mark in
     let later = unless (is_empty (doomed k)) SweepLeft None in
-    let parts = unless_parts (is_in k.phase Sweeping) WrongPhase later none in
-    let empty = (unless_parts (is_empty (doomed k)) SweepLeft None parts.1).0 in
+    let parts = unless_passes (is_in k.phase Sweeping) WrongPhase later none in
+    let empty = (unless_passes (is_empty (doomed k)) SweepLeft None parts.1).0 in
     let waiting = stands.waiting in (
       with_world a (world_with_phase a.world Idle),
       (refl, refl),

@@ -12,7 +12,7 @@ use Rattle.ref_base.specs.Worlds.{with_pending}
 use Rattle.ref_base.specs.Replay.{without_pending}
 use Rattle.ref_base.specs.declared.heap_step.HeapStep.TheVariants as heap
 use Rattle.ref_base.proofs.HasLaws.{has-first, has-left, has-right, has-cases}
-use Rattle.ref_base.proofs.RowLaws.{ticked_world}
+use Rattle.ref_base.proofs.RowForms.{ticked_world}
 use Rattle.ref_mark.proofs.Moves.{Change, IsMove}
 use Rattle.ref_mark.proofs.MovedStates.{moved_beside}
 use Rattle.ref_mark.proofs.MoveKinds.{rooted, rooted_move}

@@ -8,7 +8,7 @@ use Rattle.ref_base.specs.Refusals.{drop_refusal}
 use Rattle.ref_base.specs.declared.fault.Fault.TheVariants.{NoSuchObject}
 use Rattle.ref_base.specs.declared.heap_step.HeapStep.TheVariants as heap
 use Rattle.ref_base.specs.declared.reply.Reply.TheVariants as replies
-use Rattle.ref_base.proofs.RowForms.{unless_parts}
+use Rattle.ref_base.proofs.RowForms.{unless_passes}
 use Rattle.ref_mark.specs.MarkCalls as marks
 use Rattle.ref_clear.proofs.NoticeAnswers.{minted, clear_holding}
 
@@ -17,7 +17,7 @@ use Rattle.ref_clear.proofs.NoticeAnswers.{minted, clear_holding}
 module _ (k : CycleHeap) (m s : ℕ) {g : Ground} (view : g ≡ ground_of k) where
   pub slot_is_there : drop_refusal g.heap m s ≡ None → has_slot k.heap m s ≡ true
   slot_is_there none =
-      (unless_parts (has_slot k.heap m s) NoSuchActor None
+      (unless_passes (has_slot k.heap m s) NoSuchActor None
       (subst (λ (h : Ground). drop_refusal h.heap m s ≡ None) view none)).0
 
   pub slot_holds : {value : Option ℕ} {n : ℕ} → value ≡ slot_at g.heap m s → value ≡ Some n
@@ -50,7 +50,7 @@ module _ (k : CycleHeap) (lists : List PendingList) (m s : ℕ) {n q : ℕ} {r :
   unhook_done {i} {j} {object} answer after cut =
       let mint = minted k n object answer after in
       let counted : holds_refusal k.heap ≡ None =
-      (unless_parts (is_there k.heap.objects n) NoSuchObject (holds_refusal k.heap) mint.0).1 in
+      (unless_passes (is_there k.heap.objects n) NoSuchObject (holds_refusal k.heap) mint.0).1 in
       let none : refusal_in (seen_heap k lists) (heap.Unhook m s) ≡ None = refusal ∙ counted in
       let reply : answer_of_unhook (slot_at k.heap m s) (queue_in k m s) ≡ replies.Notice n q Own =
       ap (λ v. answer_of_unhook v (queue_in k m s)) held ∙ ap (answer_of_unhook (Some n)) registered in

@@ -15,8 +15,8 @@ use Rattle.ref_base.specs.declared.heap_step.HeapStep.TheVariants as heap
 use Rattle.ref_base.proofs.Forgetting.{forgotten-shape}
 use Rattle.ref_base.proofs.Lookups.{has-present_at}
 use Rattle.ref_base.proofs.Reshaping.{KeepsShape, reshaped, at-reshaped}
-use Rattle.ref_base.proofs.RowForms.{unless_parts}
-use Rattle.ref_base.proofs.RowLaws.{ticked_world}
+use Rattle.ref_base.proofs.RowForms.{unless_passes}
+use Rattle.ref_base.proofs.RowForms.{ticked_world}
 use Rattle.ref_base.proofs.ShownObjects.{shown-shape, shown-cleared}
 use Rattle.ref_mark.proofs.Agreeing.{agrees_changed, changed_in-agrees, said_slot}
 use Rattle.ref_mark.proofs.DoomedLists.{past_is_in_cycle}
@@ -45,7 +45,7 @@ unhooked_reference h (Some n) none = minted_reference h (reference_at h n) none
 may_clear : (h : Heap) (m s : ℕ) → unless (has_slot h m s) NoSuchActor (unhook_refusal h (slot_at h m s)) ≡ None
     → clear_refusal h m s ≡ None
 may_clear h m s none =
-    let parts = unless_parts (has_slot h m s) NoSuchActor (unhook_refusal h (slot_at h m s)) none in
+    let parts = unless_passes (has_slot h m s) NoSuchActor (unhook_refusal h (slot_at h m s)) none in
     let there : has_slot h m s ≡ true = parts.0 in
     simp there (unhooked_reference h (slot_at h m s) parts.1)
 

@@ -20,7 +20,7 @@ use Rattle.ref_mark.specs.MarkCalls.{with_hold_of, is_freed, names_freed}
 use Rattle.ref_mark.specs.MarkRows.{KeepsStanding}
 use Rattle.ref_mark.specs.MarkViews.{ground_of}
 use Rattle.ref_base.proofs.OneMore.{has-one_more}
-use Rattle.ref_base.proofs.RowForms.{unless_parts}
+use Rattle.ref_base.proofs.RowForms.{unless_passes}
 use Rattle.ref_mark.proofs.Moves.{IsMove}
 use Rattle.ref_mark.proofs.MovedStates.{moved_stands}
 use Rattle.ref_base.proofs.Lookups.{has-present_at, has-present_set}
@@ -148,7 +148,7 @@ hold_row k a m s stands accepted =
     let same : slot_at a.world.heap m s ≡ held = ap (λ (h : Heap). slot_at h m s) stands.heap in
     let row =
     slot_hold_row k a stands m s held refl
-    (unless_parts (has_slot k.heap m s) NoSuchActor (held_refusal k.heap held) accepted).1 in
+    (unless_passes (has_slot k.heap m s) NoSuchActor (held_refusal k.heap held) accepted).1 in
     (row.0, subst (λ (v : Option ℕ). Holds a v (value_reply held) row.0) (sym same) row.1, row.2)
 
 pub adopt_row : (k : CycleHeap) (a : State) (m d : ℕ) (hold : HoldName) → MarkStands k a
@@ -156,8 +156,8 @@ pub adopt_row : (k : CycleHeap) (a : State) (m d : ℕ) (hold : HoldName) → Ma
     → (b : State) × HeapAccepts a (heap.Adopt m d hold) (replies.Object hold.object) b
     × MarkStands (record k { heap = adopted k.heap m d hold.object }) b
 adopt_row k a m d hold stands accepted =
-    let later = (unless_parts (has_slot k.heap m d) NoSuchActor (hold_refusal k.heap_no k.heap hold) accepted).1 in
-    let own = (unless_parts (is_counted k.heap_no k.heap hold) ForeignHold None later).0 in (
+    let later = (unless_passes (has_slot k.heap m d) NoSuchActor (hold_refusal k.heap_no k.heap hold) accepted).1 in
+    let own = (unless_passes (is_counted k.heap_no k.heap hold) ForeignHold None later).0 in (
       ticked (on_heap a (adopted a.world.heap m d hold.object)),
       (refl, refl),
       adopted_stands k a stands m d hold.object

@@ -30,7 +30,7 @@ use Rattle.ref_mark.proofs.RootFacts.{slot_off, slot_root, root_is_not_white, sl
 use Rattle.ref_mark.proofs.RootFacts.{slot_is_there}
 use Rattle.ref_mark.proofs.MoveKinds.{altered, MayBecome, altered_move}
 use Rattle.ref_mark.proofs.MadeMoves.{making, moved-making, made_move}
-use Rattle.ref_base.proofs.RowForms.{unless_parts}
+use Rattle.ref_base.proofs.RowForms.{unless_passes}
 
 -- ---- what is made
 
@@ -75,7 +75,7 @@ new_row k a m d f stands accepted =
     let o : Object = plain_object k.next (nulls f) in
     let p : Object = plain_object a.next (nulls f) in
     let slot : has_slot k.heap m d ≡ true =
-    (unless_parts (has_slot k.heap m d) NoSuchActor (object_refusal k.heap k.next f) accepted).0 in (
+    (unless_passes (has_slot k.heap m d) NoSuchActor (object_refusal k.heap k.next f) accepted).0 in (
       ticked (record a { world = with_heap a.world (made a.world.heap m d p); next = a.next + 1 }),
       (ap (λ n. replies.Object n) (sym stands.next), refl),
       made_stands k a m d o p stands slot refl
@@ -135,7 +135,7 @@ refer_row k a m strength d s q f stands accepted =
     ap (λ (h : Heap). new_reference h a.next strength (slot_at h m s) q f) stands.heap
     ∙ ap (λ n. new_reference k.heap n strength (slot_at k.heap m s) q f) stands.next in
     let slots : has_slots k.heap m d s ≡ true =
-    (unless_parts (has_slots k.heap m d s) NoSuchActor
+    (unless_passes (has_slots k.heap m d s) NoSuchActor
     (unless (is_queue_or_none k.heap q) BadQueue
     (unless_empty (slot_at k.heap m s) (object_refusal k.heap k.next f))) accepted).0 in
     let slot : has_slot k.heap m d ≡ true = (and_parts (has_slot k.heap m d) (nat_lt s 16) slots).0 in (
@@ -193,7 +193,7 @@ store_row k a m s i v stands accepted =
     let value = slot_at k.heap m v in
     let h = a.world.heap in
     let holder = field_refusal-there k.heap (slot_at k.heap m s) i
-    (unless_parts (has_slots k.heap m s v) NoSuchActor (field_refusal k.heap (slot_at k.heap m s) i) accepted).1 in
+    (unless_passes (has_slots k.heap m s v) NoSuchActor (field_refusal k.heap (slot_at k.heap m s) i) accepted).1 in
     let c : Change = altered k k.heap.slots k.heap.holds holder.0 (with_field i value) in
     let is : record k { heap = stored k.heap m s i v } ≡ moved k c =
     ap (λ (held : Option ℕ). record k { heap = changed_in k.heap held (with_field i value) }) holder.1 in

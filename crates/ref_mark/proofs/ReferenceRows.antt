@@ -17,7 +17,7 @@ use Rattle.ref_base.specs.CollectorRows.{referent_of, is_same}
 use Rattle.ref_base.specs.declared.heap_step.HeapStep.TheVariants as heap
 use Rattle.ref_base.specs.declared.reply.Reply.TheVariants as replies
 use Rattle.ref_base.proofs.Lookups.{has-present_here}
-use Rattle.ref_base.proofs.RowForms.{unless_parts}
+use Rattle.ref_base.proofs.RowForms.{unless_passes}
 use Rattle.ref_base.proofs.ShownObjects.{shown_reference, unless_among, referent_of-shown, referent_got-shown}
 use Rattle.ref_base.proofs.ShownObjects.{shown-cleared, shown-got}
 use Rattle.ref_mark.specs.CycleHeaps.{reads_same}
@@ -86,7 +86,7 @@ clear_row k a m s stands accepted =
     let held = slot_at k.heap m s in
     let f : Object → Object = with_reference cleared in
     let holder = reference_refusal-there k.heap held
-    (unless_parts (has_slot k.heap m s) NoSuchActor (reference_refusal k.heap held) accepted).1 in
+    (unless_passes (has_slot k.heap m s) NoSuchActor (reference_refusal k.heap held) accepted).1 in
     let b : State = ticked (on_heap a (cut h m s)) in
     let said = said_slot k a m s stands in
     let same : changed_in h held f ≡ cut h m s =
@@ -203,7 +203,7 @@ get_row k a m d s stands accepted =
     let same : referent_got (reference_of a.world.heap (slot_at a.world.heap m s)) ≡ value =
     read_same k a stands referent_got referent_got-shown m s in
     let slots : has_slots k.heap m d s ≡ true =
-    (unless_parts (has_slots k.heap m d s) NoSuchActor (reference_refusal k.heap (slot_at k.heap m s)) accepted).0 in
+    (unless_passes (has_slots k.heap m d s) NoSuchActor (reference_refusal k.heap (slot_at k.heap m s)) accepted).0 in
     let there : has_slot k.heap m d ≡ true = (and_parts (has_slot k.heap m d) (nat_lt s 16) slots).0 in
     let row = get_values k a m d s value stands refl there in
     (row.0, subst (λ (v : Option ℕ). Gets a m d s v (value_reply value) row.0) (sym same) row.1, row.2)

@@ -23,7 +23,7 @@ use Rattle.ref_base.proofs.Lookups.{has-present_here, has-present_at}
 use Rattle.ref_mark.proofs.RootFacts.{slot_root, slot_is_not_white, roots_of_set, lead_is_not_white}
 use Rattle.ref_mark.proofs.RootFacts.{slot_within, named_of_set, slot_is_there, slot_is_not_due}
 use Rattle.ref_mark.proofs.MoveKinds.{rooted, rooted_move}
-use Rattle.ref_base.proofs.RowForms.{unless_parts}
+use Rattle.ref_base.proofs.RowForms.{unless_passes}
 
 -- ---- slots
 
@@ -141,7 +141,7 @@ load_row k a m d s i stands accepted =
     let same : field_in a.world.heap (slot_at a.world.heap m s) i ≡ value =
     field_in-agrees k a.world.heap stands.heap m s i (said_slot k a m s stands) in
     let slots : has_slots k.heap m d s ≡ true =
-    (unless_parts (has_slots k.heap m d s) NoSuchActor (field_refusal k.heap (slot_at k.heap m s) i) accepted).0 in
+    (unless_passes (has_slots k.heap m d s) NoSuchActor (field_refusal k.heap (slot_at k.heap m s) i) accepted).0 in
     let there : has_slot k.heap m d ≡ true = (and_parts (has_slot k.heap m d) (nat_lt s 16) slots).0 in
     let row = load_values k a m d s i value stands refl there in
     (row.0, subst (λ (v : Option ℕ). Loads a m d v (value_reply value) row.0) (sym same) row.1, row.2)

@@ -7,7 +7,7 @@ use Rattle.ref_share.proofs.Common.{is_counted, Config, Fault, Reply, Leads, tol
 use Rattle.ref_share.proofs.Common.{IsHeapMove, HeapEntry, IsHeapRun, first_heap_state}
 use Rattle.ref_base.specs.declared.heap_step.HeapStep.TheVariants as heap
 use Rattle.ref_base.specs.declared.reply.Reply.TheVariants as told
-use Rattle.ref_base.proofs.RowLaws.{unless_passes}
+use Rattle.ref_base.proofs.RowForms.{unless_passes}
 
 -- ---- what a call is
 

@@ -20,7 +20,7 @@ use Rattle.ref_base.proofs.ClosedRows.{field_is, got_is}
 use Rattle.ref_base.proofs.HasLaws.{has-left, has-right}
 use Rattle.ref_base.proofs.OutHeaps.{off, off_is, off_same, next_out}
 use Rattle.ref_base.proofs.PhaseLaws.{of_phase}
-use Rattle.ref_base.proofs.RowLaws.{unless_passes}
+use Rattle.ref_base.proofs.RowForms.{unless_passes}
 use Rattle.ref_world.specs.declared.heap_machine.HeapReply.TheVariants as replies
 use Rattle.ref_share.specs.HeapTraces.{named_by}
 use Rattle.ref_share.proofs.HeapReplays.{IsKnownBut, run_known, refused_known, accepted_known}

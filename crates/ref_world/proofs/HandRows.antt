@@ -16,14 +16,15 @@ use Rattle.ref_world.specs.declared.heap_machine.HeapReply.{HeapReply}
 use Rattle.ref_world.specs.declared.heap_machine.HeapReply.TheVariants.{Told, Notice as Given, Held, Back}
 use Rattle.ref_world.proofs.AskedRows.{handed_in, asked_core, row_to, asked_row}
 use Rattle.ref_world.proofs.ReachedCores.{same_hand, same_holds, same_actors, hand_is_counted}
-use Rattle.ref_world.proofs.Refusals.{same_actor, unless_passed, empty_from}
+use Rattle.ref_base.proofs.RowForms.{unless_passes}
+use Rattle.ref_world.proofs.Refusals.{same_actor, empty_from}
 
 -- ---- an empty hand
 
 pub free_from : (hands : Hands) (who : Actor) → filling_refusal hands who ≡ None → hand_in hands who ≡ None
 free_from hands who accepted =
     empty_from (hand_in hands who)
-    (unless_passed (has_hand hands who) NoSuchActor (unless_full (hand_in hands who) None) accepted).1
+    (unless_passes (has_hand hands who) NoSuchActor (unless_full (hand_in hands who) None) accepted).1
 
 -- the hand that an unhook's notice goes to
 pub unhook_row : (c : Core) (m s : ℕ) → hand_in c.hands (Mutator m) ≡ None
@@ -45,7 +46,7 @@ hand_row c k free a stands =
 -- a hand that is emptied is there
 pub there_from : (hands : Hands) (who : Actor) → emptying_refusal hands who ≡ None → has_hand hands who ≡ true
 there_from hands who accepted =
-    (unless_passed (has_hand hands who) NoSuchActor (empty_hand_refusal (hand_in hands who)) accepted).0
+    (unless_passes (has_hand hands who) NoSuchActor (empty_hand_refusal (hand_in hands who)) accepted).0
 
 -- what is accepted gives no hold back
 pub adopted_told : (number m d : ℕ) (hold : HoldName) (reply : HeapReply) (n : ℕ)
@@ -74,7 +75,7 @@ module _ (c : Core) (reached : IsReached c) where
       → has_hand c.hands (Mutator m) ≡ true → hand_in c.hands (Mutator m) ≡ Some notice
       → answer_in c.heap (heap.Adopt m d (hold_of notice)) ≡ replies.Object notice.object
   adopted_reply m d notice slot there full =
-      let within = unless_passed (has_slot c.heap.mark.heap m d) NoSuchActor None slot in
+      let within = unless_passes (has_slot c.heap.mark.heap m d) NoSuchActor None slot in
       ap (λ refused. unless_refused refused replies.Refused (replies.Object notice.object))
       (ap (λ test. unless test NoSuchActor
       (unless ((0 == c.heap.mark.heap_no) && has c.heap.mark.heap.holds notice.object) ForeignHold None)) within.0

@@ -16,7 +16,7 @@ use Rattle.ref_base.specs.CollectorRows.{ticked, PutsInto, Puts, Polls, Closes, 
 use Rattle.ref_base.specs.declared.fault.Fault.TheVariants.{NoMemory, WrongQueue}
 use Rattle.ref_base.specs.declared.reply.Reply.TheVariants as replies
 use Rattle.ref_base.specs.declared.step.Step.TheVariants as steps
-use Rattle.ref_base.proofs.RowLaws.{ticked_world}
+use Rattle.ref_base.proofs.RowForms.{ticked_world, unless_passes}
 use Rattle.ref_mark.proofs.OtherHands.{with_others, stands-with_others}
 use Rattle.ref_mark.proofs.ReferenceRows.{unmoved_stands}
 use Rattle.ref_queue.specs.QueueAnswers.{RefusesPut, AnswersPut, after_put, AnswersPoll}
@@ -31,7 +31,7 @@ use Rattle.ref_world.specs.Cores.{core_queue_at as queue_in}
 use Rattle.ref_world.proofs.AskedRows.{hands_of, hands_are, row_to}
 use Rattle.ref_world.proofs.HandRows.{there_from}
 use Rattle.ref_world.proofs.ReachedCores.{same_hand, same_actors}
-use Rattle.ref_world.proofs.Refusals.{same_actor, same_mutators, same_queues, unless_passed}
+use Rattle.ref_world.proofs.Refusals.{same_actor, same_mutators, same_queues}
 
 -- ---- hands and queues
 
@@ -256,8 +256,8 @@ module _ (c : Core) (m q : ℕ) (lists : Lists Notice) (accepted : calling_refus
     (here : lists ≡ queue_in c q) where
   called : (a : State) → Stands c a → (is_mutator a.world.heap m ≡ true) × (is_queue a.world.heap q ≡ true)
   called a stands =
-      let mutator = unless_passed (is_mutator c.heap.mark.heap m) NoSuchActor (queue_refusal c q) accepted in
-      let queue = unless_passed (is_queue c.heap.mark.heap q) BadQueue None mutator.1 in
+      let mutator = unless_passes (is_mutator c.heap.mark.heap m) NoSuchActor (queue_refusal c q) accepted in
+      let queue = unless_passes (is_queue c.heap.mark.heap q) BadQueue None mutator.1 in
       (same_mutators c a stands m ∙ mutator.0, same_queues c a stands q ∙ queue.0)
 
   poll_answer : (a : State) (reply : Reply) (b : State) → Stands c a → hand_in c.hands (Mutator m) ≡ None

@@ -1,5 +1,5 @@
 -- A step of a queue is a row, and what it leaves is sound.
-use Rattle.std.proofs.Common.{◌≡◌, ℕ, ◌<◌, Bool, not, length, Result, Ok, Option, Some, None, refl, ap, ◌∙◌}
+use Rattle.std.proofs.Common.{◌≡◌, ℕ, ◌<◌, Bool, true, not, length, Result, Ok, Option, Some, None, refl, ap, ◌∙◌}
 use Rattle.std.specs.Prelude.{slice_index_or, slice_set}
 use Rattle.ref_world.proofs.Common.{Lists, Notice, Actor, Mutator, Fault, Reply, Core, calling_refusal}
 use Rattle.ref_world.proofs.Common.{emptying_refusal, filling_refusal, hand_in, received, with_hand_in, IsSound}

@@ -11,6 +11,7 @@ use Rattle.ref_world.proofs.Common.{IsReached, IsRowOf}
 use Rattle.ref_base.specs.declared.heap_step.HeapStep.TheVariants as heap
 use Rattle.ref_base.specs.declared.reply.Reply.TheVariants as replies
 use Rattle.ref_base.specs.declared.step.Step.TheVariants as steps
+use Rattle.ref_base.proofs.RowForms.{unless_passes}
 use Rattle.ref_world.proofs.ReachedCores.{same_config, same_hand, same_actors, queue_count}
 
 -- ---- tests
@@ -19,11 +20,6 @@ pub unless_fails : (test : Bool) (fault told : Fault) → unless test fault None
     → (test ≡ false) × (Some fault ≡ Some told)
 unless_fails true fault told is = absurd cc
 unless_fails false fault told is = (refl, is)
-
-pub unless_passed : (test : Bool) (fault : Fault) (later : Option Fault) → unless test fault later ≡ None
-    → (test ≡ true) × (later ≡ None)
-unless_passed true fault later is = (refl, is)
-unless_passed false fault later is = absurd cc
 
 pub empty_from : (hand : Option Notice) → unless_full hand None ≡ None → hand ≡ None
 empty_from None is = refl
@@ -128,7 +124,7 @@ module _ (c : Core) (reached : IsReached c) where
   with_slot : (m s : ℕ) → drop_refusal c.heap.mark.heap m s ≡ None → (a : State) → Stands c a
       → (has_slot a.world.heap m s ≡ true) × (is_mutator a.world.heap m ≡ true)
   with_slot m s slot a stands =
-      let there = (unless_passed (has_slot c.heap.mark.heap m s) NoSuchActor None slot).0 in (
+      let there = (unless_passes (has_slot c.heap.mark.heap m s) NoSuchActor None slot).0 in (
         same_slots c a stands m s ∙ there,
         same_mutators c a stands m ∙ (and_parts (is_mutator c.heap.mark.heap m) (nat_lt s 16) there).0,
       )
@@ -153,8 +149,8 @@ module _ (c : Core) (reached : IsReached c) where
       → filling_refusal c.hands (Mutator m) ≡ Some fault → IsRowOf c (steps.Poll m q) (replies.Refused fault) c
   full_at_poll m q fault called refused =
       refused_row c (steps.Poll m q) fault (λ a stands.
-      let mutator = unless_passed (is_mutator c.heap.mark.heap m) NoSuchActor (queue_refusal c q) called in
-      let queue = unless_passed (is_queue c.heap.mark.heap q) BadQueue None mutator.1 in
+      let mutator = unless_passes (is_mutator c.heap.mark.heap m) NoSuchActor (queue_refusal c q) called in
+      let queue = unless_passes (is_queue c.heap.mark.heap q) BadQueue None mutator.1 in
       let there : is_mutator a.world.heap m ≡ true = same_mutators c a stands m ∙ mutator.0 in
       rw (there, same_queues c a stands q ∙ queue.0)
       (subst (λ test. unless test NoSuchActor (unless_full (hand_of a.world (Mutator m)) None) ≡ Some fault) there
@@ -163,8 +159,8 @@ module _ (c : Core) (reached : IsReached c) where
   -- the queue of an accepted call is there
   pub queue_within : (m q : ℕ) → calling_refusal c m q ≡ None → q < length c.queues
   queue_within m q called =
-      let mutator = unless_passed (is_mutator c.heap.mark.heap m) NoSuchActor (queue_refusal c q) called in
-      let queue = unless_passed (is_queue c.heap.mark.heap q) BadQueue None mutator.1 in
+      let mutator = unless_passes (is_mutator c.heap.mark.heap m) NoSuchActor (queue_refusal c q) called in
+      let queue = unless_passes (is_queue c.heap.mark.heap q) BadQueue None mutator.1 in
       rw (queue_count c reached) (ltb-true q c.heap.mark.heap.config.queues queue.0)
 
   pub empty_at_adopt : (m d : ℕ) (fault : Fault) → drop_refusal c.heap.mark.heap m d ≡ None

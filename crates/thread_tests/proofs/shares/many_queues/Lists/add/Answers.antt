@@ -1,4 +1,4 @@
-use Rattle.std.proofs.Common.{List, [], ◌∷◌, ◌++◌, length, ap, sym, subst, arith, length-append}
+use Rattle.std.proofs.Common.{[], ◌∷◌, ◌++◌, length, ap, sym, subst, arith, length-append}
 use Rattle.ref_share.proofs.SeatLists.{new_seat, seat_more}
 use Rattle.ref_share.specs.Deliveries.{AreSeats}
 use Rattle.thread_tests.proofs.shares.many_queues.Lists.add.Goals as goal

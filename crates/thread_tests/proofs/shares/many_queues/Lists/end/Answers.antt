@@ -1,4 +1,4 @@
-use Rattle.std.proofs.Common.{◌≡◌, List, [], ◌∷◌, ◌++◌, length, ap, subst, arith, length-append}
+use Rattle.std.proofs.Common.{◌≡◌, [], ◌∷◌, ◌++◌, length, ap, subst, arith, length-append}
 use Rattle.ref_share.proofs.SeatLists.{seat_last, seats_before}
 use Rattle.ref_share.specs.Deliveries.{AreSeats}
 use Rattle.thread_tests.proofs.shares.many_queues.Lists.end.Goals as goal
