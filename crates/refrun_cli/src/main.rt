@@ -5,6 +5,7 @@
 //! fault of the text or of reading and writing, 4 a check of stress that failed, 5 no memory.
 #![tactic(auto)]
 
+mod help;
 mod stressing;
 
 ghost use Rattle.std.specs.Prelude.{◌≡◌, ◌<◌, ◌+◌};
@@ -47,18 +48,21 @@ fn main(rt: HostRuntime) -> ExitCode {
 
 /// What the words ask for: `run`, `strength` or `stress`.
 fn command_of<'a>(alloc: Global, words: &'a [String]) -> Result<ArgMatches<'a>, Error> {
-    let run = Command::new(alloc, "run").about(
-        "Reads a script on standard input and prints its trace",
-    );
-    let strength = Command::new(alloc, "strength").about(
-        "Reads a graph text on standard input and prints a strength per object",
-    );
+    let run = Command::new(alloc, "run")
+        .about("Reads a script on standard input and prints its trace")
+        .override_usage("refrun run < SCRIPT")
+        .after_help(help::RUN);
+    let strength = Command::new(alloc, "strength")
+        .about("Reads a graph text on standard input and prints a strength per object")
+        .override_usage("refrun strength < GRAPH")
+        .after_help(help::STRENGTH);
     Command::new(alloc, "refrun")
         .bin_name("refrun")?
         .about(
             "Runs scripts of reference processing and prints their traces, and the strengths of object graphs",
         )
         .version("0.1.0")
+        .after_help(help::PROGRAM)
         .subcommand_required(true)
         .subcommand(run)?
         .subcommand(strength)?

@@ -1,6 +1,6 @@
 //! `refrun stress`.
 
-use crate::{WRONG_COMMAND_LINE, report};
+use crate::{WRONG_COMMAND_LINE, help, report};
 use clap::{Arg, ArgAction, ArgMatches, Command, Error, value_parser};
 use ref_base::Fault;
 use refrun::{Check, StressOptions, Tally, TextFault, stress};
@@ -25,6 +25,7 @@ pub fn command<'a>(alloc: Global) -> Result<Command<'a>, Error> {
         .help("Doesn't tell how far the run is");
     let command = Command::new(alloc, "stress")
         .about("Runs threads over one heap and one queue, and checks the queue's lists")
+        .after_help(help::STRESS)
         .arg(count(alloc, "mutators", "M", 8, "2").help(
             "Threads that make and enqueue references",
         ))?

@@ -1,0 +1,40 @@
+//! What the help of each command says last.
+
+pub const PROGRAM: &str = "\
+An example, at the top of the repository:
+
+  refrun run < examples/death_reported_after_a_cycle.script
+
+docs/FORMATS.md has every step of a script, every reply and every fault, and the
+lines of a graph.
+
+Exit status: 0 done; 2 a wrong command line; 3 a fault of the text, or reading
+or writing failed; 4 a check of stress failed; 5 no memory.";
+
+pub const RUN: &str = "\
+An example, at the top of the repository:
+
+  refrun run < examples/death_reported_after_a_cycle.script
+
+docs/FORMATS.md has every step, every reply and every fault.
+
+Exit status: 0 done; 2 a wrong command line; 3 a fault of the script, or reading
+or writing failed; 5 no memory.";
+
+pub const STRENGTH: &str = "\
+An example, at the top of the repository:
+
+  refrun strength < examples/strengths_of_a_graph.graph
+
+docs/FORMATS.md has every line of a graph and every fault.
+
+Exit status: 0 done; 2 a wrong command line; 3 a fault of the graph, or reading
+or writing failed; 5 no memory.";
+
+pub const STRESS: &str = "\
+An example:
+
+  refrun stress --mutators 4 --workers 4 --pollers 4 --rounds 10000
+
+Exit status: 0 each check passed; 2 a wrong command line; 3 writing failed;
+4 a check failed; 5 no memory.";
