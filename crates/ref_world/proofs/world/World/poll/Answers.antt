@@ -95,5 +95,6 @@ returns g c =
       | in_default w ↦
           rw (w.self-is, ← c.self.view_is, ← c.queue.view_is)
           (poll_done old c.self.invariant c.args.mutator q c.index_mut.result.now q refl accepted
-          c.in_ok-check_empty.ensures c.index_mut.ensures.value reply None c.poll_one-reply.new.queue (polls None w.in_default.is)).0
+          c.in_ok-check_empty.ensures c.index_mut.ensures.value reply None c.poll_one-reply.new.queue
+          (polls None w.in_default.is)).0
     ]
