@@ -2,7 +2,7 @@
 
 ghost use Rattle.std.specs.Prelude.{◌≡◌, true};
 ghost use Rattle.ref_share.specs.Deliveries.{AreSeats};
-ghost use Rattle.ref_share.specs.Releases.{hands_nothing_over};
+ghost use Rattle.ref_share.specs.HeapCalls.{hands_nothing_over};
 ghost use Rattle.example_runtime.specs.Users.{IsUser, IsCollector};
 
 use crate::heap_user::{HeapUser, give_up};

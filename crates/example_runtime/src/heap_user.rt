@@ -1,7 +1,7 @@
 //! What a thread uses the heap with.
 
 ghost use Rattle.std.specs.Prelude.{◌≡◌, true};
-ghost use Rattle.ref_share.specs.Releases.{hands_nothing_over};
+ghost use Rattle.ref_share.specs.HeapCalls.{hands_nothing_over};
 ghost use Rattle.example_runtime.specs.Users.{IsUser};
 ghost use Rattle.ref_share.specs.HeapSeats.{IsHeapSeat};
 

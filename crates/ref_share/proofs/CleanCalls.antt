@@ -1,12 +1,11 @@
 -- What the calls of a cleaner have made.
-use Rattle.std.proofs.Common.{◌≡◌, ℕ, false, Option, Some, None, Result, Ok, Err, inl, inr, refl, ap, subst}
-use Rattle.ref_share.proofs.Common.{NamedStep, Fault, HoldName, Reply, ClearHeap, HeldNotice, CleanView, TakesJob}
-use Rattle.ref_share.proofs.Common.{Acts, HeapView, Releases, Called}
-use Rattle.ref_base.specs.declared.heap_step.HeapStep.TheVariants as heap
+use Rattle.std.proofs.Common.{◌≡◌, ℕ, false, Option, Some, None, Result, Ok, Err, IfOk, IfErr, inl, inr, refl, subst}
+use Rattle.ref_share.proofs.Common.{NamedStep, Fault, HoldName, Reply, HeldNotice, CleanView, TakesJob, makes_phantom}
+use Rattle.ref_share.proofs.Common.{HeapView, Releases, Called}
 use Rattle.ref_base.specs.declared.reply.Reply.TheVariants as told
 use Rattle.ref_world.specs.declared.heap_machine.HeapReply.TheVariants as replies
-use Rattle.ref_share.specs.Cleanings.{Tries, Retires, HasTaken}
-use Rattle.ref_share.specs.Releases.{AsksHeap, Accepted, is_refusal}
+use Rattle.ref_share.specs.Cleanings.{HasMade, HasNotMade, Tries, HasTaken}
+use Rattle.ref_share.specs.HeapCalls.{AsksHeap, Accepted, HoldsSlot, is_refusal}
 
 -- a step whose reply tells of no refusal is accepted
 pub accepts_unless_refused : (v w : HeapView) (step : NamedStep) (reply : Reply)
@@ -18,23 +17,18 @@ accepts_unless_refused v w step reply other called = (reply, not_refusal reply o
     not_refusal reply other = refl
 
 -- a step that is asked of a heap is tried
-tries_of_ask : (v w : HeapView) (step : NamedStep) (result : Result Reply Fault) → AsksHeap v step result w
+pub tries_of_ask : (v w : HeapView) (step : NamedStep) (result : Result Reply Fault) → AsksHeap v step result w
     → Tries v step w
 tries_of_ask v w step (Ok reply) asks = inl (reply, asks)
 tries_of_ask v w step (Err fault) asks = inr asks.1
 
--- an adopted reference is retired by a clear and a drop that are tried
-pub retires_adopted : (m dst : ℕ) (hold : HoldName) (v u x w : HeapView) (c d : ClearHeap) (reply : Reply)
-    → Acts c (heap.Adopt m dst hold) (replies.Told reply) d → Called v (heap.Adopt m dst hold) (replies.Told reply) u
-    → (clear : Result Reply Fault) → AsksHeap u (heap.Clear m dst) clear x
-    → (drop : Result Reply Fault) → AsksHeap x (heap.Drop m dst) drop w → Retires m dst v hold None w
-retires_adopted m dst hold v u x w c d reply acts called clear clears drop drops = (
-  u,
-  x,
-  (reply, ap is_refusal acts.gives.1, called),
-  tries_of_ask u x (heap.Clear m dst) clear clears,
-  tries_of_ask x w (heap.Drop m dst) drop drops,
-)
+-- behind a reference that was made, its hold is taken or not
+pub made_or_not : (queue m src dst : ℕ) (v u w : HeapView) → Accepted v (makes_phantom queue m src dst) u
+    → (result : Result HoldName Fault) → HoldsSlot u m dst result w
+    → IfOk result (λ hold. HasMade queue m src dst v hold w)
+    × IfErr result (λ fault. HasNotMade queue m src dst v fault w)
+made_or_not queue m src dst v u w accepted (Ok hold) holds = ((u, accepted, holds), tt)
+made_or_not queue m src dst v u w accepted (Err fault) holds = (tt, inr (u, accepted, holds))
 
 -- a notice was released, and the job of its reference taken
 pub has_taken : {J : Type 0} (notice : HeldNotice) (v w : HeapView) (c d : CleanView J) (held hold : HoldName)

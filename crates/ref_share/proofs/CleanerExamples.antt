@@ -120,7 +120,7 @@ module _ (start : Option ClearHeap) where
       calls_of
           (entry 0 (heap.Adopt 0 5 hold) (replies.Told (told.Object 2)) ∷
           entry 0 (heap.Clear 0 5) (replies.Told told.Done) ∷ []),
-      (told.Object 2, refl, ((refl, refl, refl), ([], refl), refl)),
+      ((refl, refl, refl), ([], refl), refl),
       inl (told.Done, ((refl, refl, refl), ([], refl), refl)),
       inl (told.Done, ((refl, refl, refl), ([], refl), refl)),
     ),

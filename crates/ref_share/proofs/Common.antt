@@ -44,6 +44,7 @@ pub use Rattle.ref_share.specs.CleanMachines.{IsCleanMove, IsTheTable}
 pub use Rattle.ref_share.specs.CleanSeats.{CleanEntry, CleanView}
 pub use Rattle.ref_share.specs.Cleanings.{CleansDead, TakesJob, makes_phantom}
 pub use Rattle.ref_share.specs.Deliveries.{AreSeats, Delivers, GoesBack, PutsAt, Sends}
+pub use Rattle.ref_share.specs.HeapCalls.{Releases}
 pub use Rattle.ref_share.specs.HeapMachines.{Acts, HeapState, IsHeapMove, StandsFor}
 pub use Rattle.ref_share.specs.HeapSeats.{HeapEntry, HeapView, IsHeapRun, IsHeapSeat, first_heap_state, heap_view}
 pub use Rattle.ref_share.specs.HeapTraces.{HeapMarkEnded, all_handed_on, gathered, handed_in, handed_of, heap_replayed}
@@ -51,7 +52,6 @@ pub use Rattle.ref_share.specs.HeapTraces.{row_of, rows_of, world_step}
 pub use Rattle.ref_share.specs.QueueCalls.{PollsUntil, PutsNotice, empty_polls}
 pub use Rattle.ref_share.specs.QueueMachines.{IsQueueMove}
 pub use Rattle.ref_share.specs.QueueSeats.{IsItself, IsQueueSeat, QueueEntry, QueueView, queue_view}
-pub use Rattle.ref_share.specs.Releases.{Releases}
 pub use Rattle.ref_share.specs.SeatCalls.{Called, Made}
 pub use Rattle.ref_share.specs.StartedSeats.{IsSeatFrom}
 pub use Rattle.ref_share.specs.WorkerCalls.{KeepsPace, Works, notices_put, references_of}

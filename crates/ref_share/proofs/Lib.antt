@@ -1,7 +1,7 @@
 pub mod Common
 pub mod Seats
 pub mod Polls
-pub mod Notices
+pub mod HeapAnswers
 pub mod Places
 pub mod SeatLists
 pub mod QueueRuns

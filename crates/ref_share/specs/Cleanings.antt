@@ -14,13 +14,14 @@ use Rattle.ref_queue.specs.declared.job.Ran.{Ran}
 use Rattle.ref_world.specs.declared.heap_machine.HeapReply.TheVariants as replies
 use Rattle.ref_share.specs.CleanSeats.{CleanView}
 use Rattle.ref_share.specs.HeapSeats.{HeapView}
-use Rattle.ref_share.specs.Releases.{Accepted, Declined, KeepsBack, Releases}
+use Rattle.ref_share.specs.HeapCalls.{Accepted, Declined, HoldsSlot, Adopts, Releases}
 use Rattle.ref_share.specs.SeatCalls.{Called, RanOut}
 use Rattle.ref_share.specs.declared.answers.Cleanable.{Cleanable}
 use Rattle.ref_share.specs.declared.answers.Cleaned.{Cleaned}
 use Rattle.ref_share.specs.declared.answers.Cleaned.TheVariants as cleaned
 use Rattle.ref_share.specs.declared.answers.ShareFault.{ShareFault}
 use Rattle.ref_share.specs.declared.answers.ShareFault.TheVariants.{Refused, Held}
+use Rattle.ref_share.specs.declared.clean_machine.CleanStep.{CleanStep}
 use Rattle.ref_share.specs.declared.clean_machine.CleanStep.TheVariants as steps
 use Rattle.ref_share.specs.declared.clean_machine.CleanReply.TheVariants as answers
 
@@ -34,13 +35,13 @@ module _ (queue m src dst : ℕ) (v : HeapView) where
   -- the reference was made, and a hold of it taken
   abbrev pub HasMade : HoldName → HeapView → Type 0
   HasMade hold w =
-      (u : HeapView) × Accepted v (makes_phantom queue m src dst) u × Called u (heap.Hold m dst) (replies.Held hold) w
+      (u : HeapView) × Accepted v (makes_phantom queue m src dst) u × HoldsSlot u m dst (Ok hold) w
 
   -- the reference was not made; or the hold was not taken, and the reference stays in `dst`
   abbrev pub HasNotMade : Fault → HeapView → Type 0
   HasNotMade fault w =
       Declined v (makes_phantom queue m src dst) fault w
-      ⊎ ((u : HeapView) × Accepted v (makes_phantom queue m src dst) u × Declined u (heap.Hold m dst) fault w)
+      ⊎ ((u : HeapView) × Accepted v (makes_phantom queue m src dst) u × HoldsSlot u m dst (Err fault) w)
 
 module _ {J : Type 0} (job : J) (c : CleanView J) where
   -- the hold and the job go into the table
@@ -74,7 +75,7 @@ module _ {J : Type 0} (job : J) (c : CleanView J) where
     RegistersJob (Err (Held kept fault, back)) w d =
         (back ≡ job)
         × ((hold : HoldName) × (u : HeapView) × (refused : Fault) × HasMade queue m src dst v hold u
-        × StaysOut hold refused d × Releases u hold (Err (kept, fault)) w)
+        × StaysOut hold refused d × Releases u hold (Err (fault, kept)) w)
     RegistersJob (Err (fault, back)) w d = ⊥
 
 -- ---- clean
@@ -82,6 +83,11 @@ module _ {J : Type 0} (job : J) (c : CleanView J) where
 -- the object's job is taken, or there is none
 abbrev pub TakesJob : {J : Type 0} → CleanView J → ℕ → Option (HoldName × J) → CleanView J → Type 0
 TakesJob c object taken d = Called c (steps.Take object) (answers.Taken taken) d
+
+-- what is told of a step of the table for which no turn is left
+abbrev pub IsWithoutTurn : {J : Type 0} → CleanStep HoldName J → ShareFault → Type 0
+IsWithoutTurn (steps.Take object) fault = fault ≡ Refused TurnsSpent
+IsWithoutTurn (steps.Register object hold job) fault = fault ≡ Held hold TurnsSpent
 
 -- the same; or no turn is left for it
 abbrev pub TakesOnce : {J : Type 0} → CleanView J → ℕ → Result (Option (HoldName × J)) ShareFault → CleanView J → Type 0
@@ -96,10 +102,9 @@ Tries v step w = ((reply : Reply) × Called v step (replies.Told reply) w) ⊎ R
 -- the reference is adopted into `dst`, cleared, and dropped, as far as turns are left; or the heap doesn't adopt it
 abbrev pub Retires : (m dst : ℕ) → HeapView → HoldName → Option HoldName → HeapView → Type 0
 Retires m dst v hold None w =
-    (u : HeapView) × (x : HeapView) × Accepted v (heap.Adopt m dst hold) u
+    (u : HeapView) × (x : HeapView) × Adopts v m dst hold (Ok tt) u
     × Tries u (heap.Clear m dst) x × Tries x (heap.Drop m dst) w
-Retires m dst v hold (Some back) w =
-    (back ≡ hold) × ((fault : Fault) × KeepsBack v (heap.Adopt m dst hold) hold fault w)
+Retires m dst v hold (Some back) w = (fault : Fault) × Adopts v m dst hold (Err (fault, back)) w
 
 -- the mutator or the slot is outside the heap's
 abbrev pub IsOutside : Config → (m slot : ℕ) → Type 0
@@ -131,6 +136,6 @@ module _ {J : Type 0} (notice : HeldNotice) (v : HeapView) (c : CleanView J) whe
       (hold : HoldName) × (job : J) × (u : HeapView) × HasTaken hold job u d × Releases u hold (Ok tt) w
   CleansDead (Err (Refused TurnsSpent)) w d = Releases v notice.hold (Ok tt) w × RanOut c d
   CleansDead (Err (Held kept fault)) w d =
-      (Releases v notice.hold (Err (kept, fault)) w × (d ≡ c))
-      ⊎ ((hold : HoldName) × (job : J) × (u : HeapView) × HasTaken hold job u d × Releases u hold (Err (kept, fault)) w)
+      (Releases v notice.hold (Err (fault, kept)) w × (d ≡ c))
+      ⊎ ((hold : HoldName) × (job : J) × (u : HeapView) × HasTaken hold job u d × Releases u hold (Err (fault, kept)) w)
   CleansDead result w d = ⊥

@@ -1,23 +1,18 @@
 -- From the heap to a queue: which calls `enqueue` and `deliver_one` have made, and what they answer (this project's
 -- profile; Java SE 17 has `Reference.enqueue`).
-use Rattle.std.specs.Prelude.{◌≡◌, ℕ, ◌<◌, ◌≤◌, ◌⊎◌, Bool, true, false, List, length, Result, Ok, Err, Some}
-use Rattle.std.specs.Prelude.{slice_get, slice_set}
+use Rattle.std.specs.Prelude.{◌≡◌, ℕ, ◌<◌, ◌≤◌, ◌⊎◌, Bool, true, false, List, length}
+use Rattle.std.specs.Prelude.{Option, Some, None, Result, Ok, Err, slice_get, slice_set}
 use Rattle.ref_base.specs.HeapSteps.{NamedStep}
 use Rattle.ref_base.specs.declared.fault.Fault.{Fault}
-use Rattle.ref_base.specs.declared.fault.Fault.TheVariants.{BadQueue, TurnsSpent}
-use Rattle.ref_base.specs.declared.heap_step.HeapStep.TheVariants as heap
+use Rattle.ref_base.specs.declared.fault.Fault.TheVariants.{BadQueue}
 use Rattle.ref_base.specs.declared.heap_step.HoldName.{HoldName}
-use Rattle.ref_base.specs.declared.reply.Reply.{Reply}
-use Rattle.ref_base.specs.declared.reply.Reply.TheVariants as told
 use Rattle.ref_clear.specs.ClearHeaps.{HeldNotice}
 use Rattle.ref_queue.specs.declared.queue.Put.{Put}
 use Rattle.ref_queue.specs.declared.queue.Put.TheVariants as puts
-use Rattle.ref_world.specs.declared.heap_machine.HeapReply.{HeapReply}
-use Rattle.ref_world.specs.declared.heap_machine.HeapReply.TheVariants as replies
+use Rattle.ref_share.specs.HeapCalls.{GivesNotice, Releases}
 use Rattle.ref_share.specs.HeapSeats.{HeapView}
 use Rattle.ref_share.specs.QueueCalls.{PutsNotice}
 use Rattle.ref_share.specs.QueueSeats.{queue_view, IsQueueSeat}
-use Rattle.ref_share.specs.SeatCalls.{Called, RanOut}
 use Rattle.ref_share.specs.declared.answers.Delivery.{Delivery}
 use Rattle.ref_share.specs.declared.answers.Delivery.TheVariants.{Nothing, Added, Dropped}
 use Rattle.ref_share.specs.declared.answers.ShareFault.{ShareFault}
@@ -31,29 +26,6 @@ AreSeats {A = A} queues seats =
     (k : ℕ) (queue : SharedQueue A) (seat : QueueSeat A)
     → slice_get queues k ≡ Some queue → slice_get seats k ≡ Some seat → IsQueueSeat queue seat
 
--- whether the step may give a notice
-abbrev pub asks_for_a_notice : NamedStep → Bool
-asks_for_a_notice (heap.Unhook m s) = true
-asks_for_a_notice (heap.Hand k) = true
-asks_for_a_notice step = false
-
--- whether a heap may refuse with this fault: turns are none of its own
-abbrev pub is_of_heap : Fault → Bool
-is_of_heap TurnsSpent = false
-is_of_heap fault = true
-
--- whether the reply to such a step tells that there is none, or that the step is refused
-abbrev pub gives_no_notice : Reply → Bool
-gives_no_notice told.Nothing = true
-gives_no_notice (told.Refused fault) = is_of_heap fault
-gives_no_notice reply = false
-
--- what is answered then
-abbrev pub TellsOfNone : Reply → Result Delivery ShareFault → Type 0
-TellsOfNone told.Nothing result = result ≡ Ok Nothing
-TellsOfNone (told.Refused fault) result = result ≡ Err (Refused fault)
-TellsOfNone reply result = ⊥
-
 -- what an enqueue answers
 abbrev pub was_added : Result Delivery ShareFault → Result Bool ShareFault
 was_added (Ok (Added n q position)) = Ok true
@@ -63,10 +35,8 @@ was_added (Err fault) = Err fault
 -- the hold of this object goes back to the heap by a release; or that was refused, or no turn is left for it, and the
 -- hold comes back
 abbrev pub GoesBack : ℕ → HoldName → HeapView → Result Delivery ShareFault → HeapView → Type 0
-GoesBack n hold v (Ok (Dropped m)) w = (m ≡ n) × Called v (heap.Release hold) (replies.Told told.Done) w
-GoesBack n hold v (Err (Held back TurnsSpent)) w = (back ≡ hold) × RanOut v w
-GoesBack n hold v (Err (Held back fault)) w =
-    (back ≡ hold) × Called v (heap.Release hold) (replies.Back fault hold) w
+GoesBack n hold v (Ok (Dropped m)) w = (m ≡ n) × Releases v hold (Ok tt) w
+GoesBack n hold v (Err (Held back fault)) w = Releases v hold (Err (fault, back)) w
 GoesBack n hold v result w = ⊥
 
 module _ {A : Type 0} (notice : HeldNotice) (queues : List (SharedQueue A)) (seats : List (QueueSeat A)) where
@@ -102,15 +72,10 @@ module _ {A : Type 0} (notice : HeldNotice) (queues : List (SharedQueue A)) (sea
 
 module _ {A : Type 0} (step : NamedStep) (v : HeapView) (queues : List (SharedQueue A)) (seats : List (QueueSeat A))
   where
-    -- the step is the heap's one call where it gives no notice
-    abbrev pub IsAlone : HeapReply → HeapView → List (QueueSeat A) → Type 0
-    IsAlone reply w after = Called v step reply w × (after ≡ seats)
-
     -- the heap's step is called; the notice that it gives, if it gives one, is sent; or no turn is left for the step
     abbrev pub Delivers : Result Delivery ShareFault → HeapView → List (QueueSeat A) → Type 0
-    Delivers (Ok Nothing) w after = IsAlone (replies.Told told.Nothing) w after
-    Delivers (Err (Refused TurnsSpent)) w after = RanOut v w × (after ≡ seats)
-    Delivers (Err (Refused fault)) w after = IsAlone (replies.Told (told.Refused fault)) w after
+    Delivers (Ok Nothing) w after = GivesNotice v step (Ok None) w × (after ≡ seats)
+    Delivers (Err (Refused fault)) w after = GivesNotice v step (Err fault) w × (after ≡ seats)
     Delivers result w after =
-        (notice : HeldNotice) × (u : HeapView) × Called v step (replies.Notice notice) u
+        (notice : HeldNotice) × (u : HeapView) × GivesNotice v step (Ok (Some notice)) u
         × Sends notice queues seats u result w after

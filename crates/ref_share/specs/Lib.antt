@@ -16,7 +16,7 @@ pub mod HeapTraces
 pub mod CleanMachines
 pub mod CleanMoves
 pub mod CleanSeats
-pub mod Releases
+pub mod HeapCalls
 pub mod Cleanings
 pub mod CleanLoops
 pub mod CleanHistories

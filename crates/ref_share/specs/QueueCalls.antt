@@ -9,33 +9,39 @@ use Rattle.ref_queue.specs.declared.queue.Put.TheVariants as puts
 use Rattle.ref_queue.specs.declared.queue.Polled.{Polled as Answer}
 use Rattle.ref_queue.specs.declared.queue.Polled.TheVariants as answers
 use Rattle.ref_turn.specs.Seats.{entry}
+use Rattle.ref_turn.specs.declared.turn.TurnFault.{TurnFault}
+use Rattle.ref_turn.specs.declared.turn.TurnFault.TheVariants as turns
 use Rattle.ref_share.specs.QueueSeats.{QueueView, QueueEntry}
 use Rattle.ref_share.specs.SeatCalls.{Called, Made, RanOut, FoundBusy}
 use Rattle.ref_share.specs.declared.answers.Polled.{Polled}
 use Rattle.ref_share.specs.declared.answers.Polled.TheVariants.{Took, Empty, Closed, TimedOut}
 use Rattle.ref_share.specs.declared.answers.ShareFault.{ShareFault}
-use Rattle.ref_share.specs.declared.answers.ShareFault.TheVariants.{Refused, Busy}
+use Rattle.ref_share.specs.declared.answers.ShareFault.TheVariants.{Refused, Busy, Notice}
 use Rattle.ref_share.specs.declared.queue_machine.QueueStep.{QueueStep}
 use Rattle.ref_share.specs.declared.queue_machine.QueueStep.TheVariants as steps
 use Rattle.ref_share.specs.declared.queue_machine.QueueReply.{QueueReply}
 use Rattle.ref_share.specs.declared.queue_machine.QueueReply.TheVariants as replies
 
--- a step that takes no notice along
-abbrev pub IsBare : QueueStep → Type 0
-IsBare (steps.Put notice) = ⊥
-IsBare steps.Poll = Unit {0}
-IsBare steps.Close = Unit {0}
+-- why a step was not made, with the notice that it took along
+abbrev pub IsUnmade : TurnFault QueueStep → ShareFault → Type 0
+IsUnmade (turns.Busy (steps.Put notice)) fault = fault ≡ Notice notice TurnsSpent
+IsUnmade (turns.Busy step) fault = fault ≡ Busy
+IsUnmade (turns.Spent (steps.Put notice)) fault = fault ≡ Notice notice TurnsSpent
+IsUnmade (turns.Spent step) fault = fault ≡ Refused TurnsSpent
 
--- the reply that a poll gives, told as the answer of a shared queue
-abbrev pub TellsPoll : QueueReply → Polled → Type 0
-TellsPoll (replies.Polled (answers.Took notice)) told = told ≡ Took notice
-TellsPoll (replies.Polled answers.Empty) told = told ≡ Empty
-TellsPoll (replies.Polled answers.Closed) told = told ≡ Closed
-TellsPoll reply told = ⊥
+-- what a turn may answer to a poll
+abbrev pub IsPollAnswer : Result QueueReply (TurnFault QueueStep) → Type 0
+IsPollAnswer (Ok (replies.Polled answer)) = Unit {0}
+IsPollAnswer (Ok reply) = ⊥
+IsPollAnswer (Err fault) = Unit {0}
 
-abbrev pub IsPollReply : QueueReply → Type 0
-IsPollReply (replies.Polled answer) = Unit {0}
-IsPollReply reply = ⊥
+-- that, told as the answer of a shared queue
+abbrev pub TellsPoll : Result QueueReply (TurnFault QueueStep) → Result Polled ShareFault → Type 0
+TellsPoll (Ok (replies.Polled (answers.Took notice))) told = told ≡ Ok (Took notice)
+TellsPoll (Ok (replies.Polled answers.Empty)) told = told ≡ Ok Empty
+TellsPoll (Ok (replies.Polled answers.Closed)) told = told ≡ Ok Closed
+TellsPoll (Ok reply) told = ⊥
+TellsPoll (Err fault) told = (why : ShareFault) × (told ≡ Err why) × IsUnmade fault why
 
 -- the faults with which a put is refused
 abbrev pub refuses_put : Fault → Bool

@@ -9,7 +9,6 @@ ghost use Rattle.ref_share.specs.Cleanings.{CleansDead};
 ghost use Rattle.ref_share.specs.HeapSeats.{heap_view, IsHeapSeat};
 ghost use Rattle.ref_share.specs.QueueSeats.{queue_view, IsQueueSeat};
 
-use crate::releases::release;
 use crate::{
     CleanSeat, HeapSeat, Polled, QueueSeat, ShareFault, SharedCleaner, SharedHeap, SharedQueue,
 };
@@ -66,11 +65,11 @@ impl<A: Allocator + Copy> SharedCleaner<A> {
                         count = self.one_more(seat, count);
                     }
                 }
-                Polled::Closed => return Ok(count),
-                Polled::Empty | Polled::TimedOut => unreachable!(),
+                // Who waits is told of nothing but the end.
+                Polled::Closed | Polled::Empty | Polled::TimedOut => break,
             }
         }
-        unreachable!()
+        Ok(count)
     }
 
     // What follows a notice. True where it had a job.
@@ -90,18 +89,18 @@ impl<A: Allocator + Copy> SharedCleaner<A> {
             (heap_view heap_seat.new) (view seat.new.seat) }
     {
         let object = notice.obj();
-        if let Err((hold, fault)) = release(rt, heap, heap_seat, notice.into_hold()) {
+        if let Err((fault, hold)) = heap.release(rt, heap_seat, notice.into_hold()) {
             return Err(ShareFault::Held(hold, fault));
         }
         let Some((hold, job)) = self.take(rt, seat, object)? else {
             return Ok(false);
         };
-        let released = release(rt, heap, heap_seat, hold);
+        let released = heap.release(rt, heap_seat, hold);
         gate.before(job.number());
         gate.after(job.run());
         match released {
             Ok(()) => Ok(true),
-            Err((hold, fault)) => Err(ShareFault::Held(hold, fault)),
+            Err((fault, hold)) => Err(ShareFault::Held(hold, fault)),
         }
     }
 
@@ -113,10 +112,7 @@ impl<A: Allocator + Copy> SharedCleaner<A> {
         ensures longer { Longer (view seat.old.seat) (view seat.new.seat) }
         ensures more { result ≡ count + 1 }
     {
-        if count < self.served(seat) {
-            count + 1
-        } else {
-            unreachable!()
-        }
+        let _turns = self.served(seat);
+        count + 1
     }
 }

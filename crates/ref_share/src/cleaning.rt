@@ -6,10 +6,9 @@ ghost use Rattle.ref_share.specs.declared.answers.ShareFault.TheVariants.{Refuse
 ghost use Rattle.ref_turn.specs.Turns.{view};
 ghost use Rattle.ref_share.specs.CleanSeats.{IsCleanSeat};
 ghost use Rattle.ref_share.specs.Cleanings.{RegistersJob, HasMade, HasNotMade, EntersOnce};
-ghost use Rattle.ref_share.specs.Cleanings.{CleansNow, TakesOnce, IsOutside, Retires};
+ghost use Rattle.ref_share.specs.Cleanings.{CleansNow, TakesOnce, IsOutside, IsWithoutTurn, Retires};
 ghost use Rattle.ref_share.specs.HeapSeats.{heap_view, IsHeapSeat};
 
-use crate::releases::{ask, release};
 use crate::{
     CleanReply, CleanSeat, CleanStep, Cleanable, Cleaned, HeapSeat, ShareFault, SharedCleaner,
     SharedHeap,
@@ -18,7 +17,6 @@ use ref_base::{Fault, HeapStep, MutNo, ObjNo, QueueNo, Reply, SLOTS, SlotNo, Str
 use ref_objects::Hold;
 use ref_queue::Job;
 use ref_turn::TurnFault;
-use ref_world::HeapReply;
 use std::alloc::Allocator;
 use std::sync::Wait;
 
@@ -59,9 +57,9 @@ impl<A: Allocator + Copy> SharedCleaner<A> {
             Ok(()) => return Ok(Cleanable { obj }),
             Err(refused) => refused,
         };
-        match release(rt, heap, heap_seat, hold) {
+        match heap.release(rt, heap_seat, hold) {
             Ok(()) => Err((ShareFault::Refused(fault), job)),
-            Err((hold, fault)) => Err((ShareFault::Held(hold, fault), job)),
+            Err((fault, hold)) => Err((ShareFault::Held(hold, fault), job)),
         }
     }
 
@@ -119,12 +117,10 @@ impl<A: Allocator + Copy> SharedCleaner<A> {
     {
         match self.call(rt, seat, CleanStep::Register(hold.obj(), hold, job)) {
             Ok(CleanReply::Registered(answer)) => answer,
-            Ok(CleanReply::Taken(_taken)) => unreachable!(),
             Err(TurnFault::Spent(CleanStep::Register(_, hold, job))) => {
                 Err((Fault::TurnsSpent, hold, job))
             }
-            Err(TurnFault::Spent(_step)) => unreachable!(),
-            Err(TurnFault::Busy(_step)) => unreachable!(),
+            _answer => unreachable!(),
         }
     }
 
@@ -142,12 +138,18 @@ impl<A: Allocator + Copy> SharedCleaner<A> {
         match self.call(rt, seat, CleanStep::Take(object)) {
             Ok(CleanReply::Taken(taken)) => Ok(taken),
             Ok(CleanReply::Registered(_answer)) => unreachable!(),
-            Err(TurnFault::Spent(CleanStep::Take(_))) => Err(ShareFault::Refused(
-                Fault::TurnsSpent,
-            )),
-            Err(TurnFault::Spent(_step)) => unreachable!(),
-            Err(TurnFault::Busy(_step)) => unreachable!(),
+            Err(TurnFault::Busy(step) | TurnFault::Spent(step)) => Err(without_turn(step)),
         }
+    }
+}
+
+// Why a step of a table was not made: no turn is left for it.
+fn without_turn(step: CleanStep<Hold, Job>) -> ShareFault
+    ensures { IsWithoutTurn step result }
+{
+    match step {
+        CleanStep::Take(_) => ShareFault::Refused(Fault::TurnsSpent),
+        CleanStep::Register(_, hold, _job) => ShareFault::Held(hold, Fault::TurnsSpent),
     }
 }
 
@@ -176,19 +178,10 @@ fn refer<R: Wait, A: Allocator + Copy>(
         queue: Some(queue),
         fields: 0,
     };
-    if let Reply::Refused(fault) = ask(rt, heap, seat, step)? {
+    if let Reply::Refused(fault) = heap.ask(rt, seat, step)? {
         return Err(fault);
     }
-    match heap.call(rt, seat, HeapStep::Hold { mutator, slot }) {
-        Ok(HeapReply::Held(hold)) => Ok(hold),
-        Ok(HeapReply::Told(Reply::Refused(fault))) => Err(fault),
-        Ok(HeapReply::Told(_)) => unreachable!(),
-        Ok(HeapReply::Notice(_notice)) => unreachable!(),
-        Ok(HeapReply::Back(_, _hold)) => unreachable!(),
-        Err(TurnFault::Spent(HeapStep::Hold { .. })) => Err(Fault::TurnsSpent),
-        Err(TurnFault::Spent(_step)) => unreachable!(),
-        Err(TurnFault::Busy(_step)) => unreachable!(),
-    }
+    heap.hold(rt, seat, mutator, slot)
 }
 
 // Adopts the reference of a job into the slot, clears it and drops it, as far as turns are left. The hold comes back
@@ -205,23 +198,11 @@ fn retire<R: Wait, A: Allocator + Copy>(
     ensures seat { IsHeapSeat heap.now seat.new }
     ensures retires { Retires mutator slot (heap_view seat.old) hold result (heap_view seat.new) }
 {
-    let step = HeapStep::Adopt {
-        mutator,
-        slot,
-        hold,
-    };
-    match heap.call(rt, seat, step) {
-        Ok(HeapReply::Told(_)) => {
-            let reference = slot;
-            let _ = ask(rt, heap, seat, HeapStep::Clear { mutator, reference });
-            let _ = ask(rt, heap, seat, HeapStep::Drop { mutator, slot });
-            None
-        }
-        Ok(HeapReply::Back(_, hold)) => Some(hold),
-        Ok(HeapReply::Notice(_notice)) => unreachable!(),
-        Ok(HeapReply::Held(_hold)) => unreachable!(),
-        Err(TurnFault::Spent(HeapStep::Adopt { hold, .. })) => Some(hold),
-        Err(TurnFault::Spent(_step)) => unreachable!(),
-        Err(TurnFault::Busy(_step)) => unreachable!(),
+    if let Err((_fault, hold)) = heap.adopt(rt, seat, mutator, slot, hold) {
+        return Some(hold);
     }
+    let reference = slot;
+    let _ = heap.ask(rt, seat, HeapStep::Clear { mutator, reference });
+    let _ = heap.ask(rt, seat, HeapStep::Drop { mutator, slot });
+    None
 }

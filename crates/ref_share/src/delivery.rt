@@ -1,20 +1,19 @@
 //! From the heap to a queue: a notice that the heap gives is put into its own queue, by one thread, in turns of its
 //! own. No lock is held between them.
 
-ghost use Rattle.std.specs.Prelude.{◌≡◌, true};
+ghost use Rattle.std.specs.Prelude.{◌≡◌};
 ghost use Rattle.ref_base.specs.declared.heap_step.HeapStep.TheVariants as steps;
-ghost use Rattle.ref_share.specs.HeapSeats.{heap_view, IsHeapSeat};
+ghost use Rattle.ref_base.specs.HeapSteps.{NamedStep};
+ghost use Rattle.ref_share.specs.HeapSeats.{HeapView, heap_view, IsHeapSeat};
+ghost use Rattle.ref_share.specs.HeapCalls.{GivesNotice};
 ghost use Rattle.ref_share.specs.Deliveries.{AreSeats, PutsAt, Sends, Delivers, GoesBack, was_added};
 ghost use Rattle.ref_share.specs.QueueCalls.{ComesBack};
-ghost use Rattle.ref_share.specs.Deliveries.{asks_for_a_notice, gives_no_notice, TellsOfNone};
 
 use crate::{Delivery, HeapSeat, QueueSeat, ShareFault, SharedHeap, SharedQueue};
-use ref_base::{Fault, HeapStep, MutNo, ObjNo, Parcel, Reply, SlotNo, WorkerNo};
+use ref_base::{Fault, MutNo, ObjNo, Parcel, SlotNo, WorkerNo};
 use ref_clear::Notice;
 use ref_objects::Hold;
 use ref_queue::Put;
-use ref_turn::TurnFault;
-use ref_world::HeapReply;
 use std::alloc::Allocator;
 use std::sync::Wait;
 
@@ -44,11 +43,8 @@ pub fn enqueue<R: Wait, A: Allocator + Copy>(
         × Delivers (steps.Unhook mutator slot) (heap_view heap_seat.old) queues.now queue_seats.old delivery
         (heap_view heap_seat.new) queue_seats.new }
 {
-    let step = HeapStep::Unhook {
-        mutator,
-        reference: slot,
-    };
-    match deliver(rt, heap, heap_seat, queues, queue_seats, step) {
+    let given = heap.unhook(rt, heap_seat, mutator, slot);
+    match deliver(rt, heap, heap_seat, queues, queue_seats, given) {
         Ok(Delivery::Added(..)) => Ok(true),
         Ok(_) => Ok(false),
         Err(fault) => Err(fault),
@@ -72,47 +68,28 @@ pub fn deliver_one<R: Wait, A: Allocator + Copy>(
     ensures calls { Delivers (steps.Hand worker) (heap_view heap_seat.old) queues.now queue_seats.old result
         (heap_view heap_seat.new) queue_seats.new }
 {
-    let step = HeapStep::Hand { worker };
-    deliver(rt, heap, heap_seat, queues, queue_seats, step)
+    let given = heap.hand(rt, heap_seat, worker);
+    deliver(rt, heap, heap_seat, queues, queue_seats, given)
 }
 
-// One step of the heap that may give a notice, which then goes into its queue.
+// What the heap has given goes into its queue.
 fn deliver<R: Wait, A: Allocator + Copy>(
     rt: &R,
     heap: &SharedHeap<A>,
     heap_seat: &mut HeapSeat<A>,
     queues: &[SharedQueue<A>],
     queue_seats: &mut [QueueSeat<A>],
-    step: HeapStep<Hold>,
+    given: Result<Option<Notice>, Fault>,
 ) -> Result<Delivery, ShareFault>
-    requires seats { IsHeapSeat heap.now heap_seat.old × AreSeats queues.now queue_seats.old }
-    requires step { asks_for_a_notice step ≡ true }
+    requires { IsHeapSeat heap.now heap_seat.old × AreSeats queues.now queue_seats.old }
     ensures seats { IsHeapSeat heap.now heap_seat.new × AreSeats queues.now queue_seats.new }
-    ensures calls { Delivers step (heap_view heap_seat.old) queues.now queue_seats.old result
-        (heap_view heap_seat.new) queue_seats.new }
+    ensures delivers { (v : HeapView) (step : NamedStep) → GivesNotice v step given (heap_view heap_seat.old)
+        → Delivers step v queues.now queue_seats.old result (heap_view heap_seat.new) queue_seats.new }
 {
-    match heap.call(rt, heap_seat, step) {
-        Ok(HeapReply::Notice(notice)) => send(rt, heap, heap_seat, queues, queue_seats, notice),
-        Ok(HeapReply::Told(reply)) => without_notice(reply),
-        Ok(HeapReply::Held(_hold)) => unreachable!(),
-        Ok(HeapReply::Back(_, _hold)) => unreachable!(),
-        Err(TurnFault::Busy(_step)) => unreachable!(),
-        Err(TurnFault::Spent(step)) => {
-            spend(step);
-            Err(ShareFault::Refused(Fault::TurnsSpent))
-        }
-    }
-}
-
-// What is answered where the heap gave no notice: that there is none, or why not.
-fn without_notice(reply: Reply) -> Result<Delivery, ShareFault>
-    requires { gives_no_notice reply ≡ true }
-    ensures { TellsOfNone reply result }
-{
-    match reply {
-        Reply::Nothing => Ok(Delivery::Nothing),
-        Reply::Refused(fault) => Err(ShareFault::Refused(fault)),
-        _ => unreachable!(),
+    match given {
+        Ok(Some(notice)) => send(rt, heap, heap_seat, queues, queue_seats, notice),
+        Ok(None) => Ok(Delivery::Nothing),
+        Err(fault) => Err(ShareFault::Refused(fault)),
     }
 }
 
@@ -171,25 +148,8 @@ fn give_back<R: Wait, A: Allocator + Copy>(
     ensures seat { IsHeapSeat heap.now seat.new }
     ensures gives { GoesBack object hold (heap_view seat.old) result (heap_view seat.new) }
 {
-    match heap.call(rt, seat, HeapStep::Release { hold }) {
-        Ok(HeapReply::Told(_)) => Ok(Delivery::Dropped(object)),
-        Ok(HeapReply::Back(fault, hold)) => Err(ShareFault::Held(hold, fault)),
-        Ok(HeapReply::Notice(_notice)) => unreachable!(),
-        Ok(HeapReply::Held(_hold)) => unreachable!(),
-        Err(TurnFault::Spent(HeapStep::Release { hold })) => {
-            Err(ShareFault::Held(hold, Fault::TurnsSpent))
-        }
-        Err(TurnFault::Spent(_step)) => unreachable!(),
-        Err(TurnFault::Busy(_step)) => unreachable!(),
-    }
-}
-
-// Lets a step go that takes no hold along.
-fn spend(step: HeapStep<Hold>)
-    requires { asks_for_a_notice step ≡ true }
-{
-    match step {
-        HeapStep::Unhook { .. } | HeapStep::Hand { .. } => {}
-        _step => unreachable!(),
+    match heap.release(rt, seat, hold) {
+        Ok(()) => Ok(Delivery::Dropped(object)),
+        Err((fault, hold)) => Err(ShareFault::Held(hold, fault)),
     }
 }

@@ -3,7 +3,8 @@
 //! what threads do, turn by turn; and a thread that polls a queue never waits for the heap.
 //!
 //! `heap_machine` and `queue_machine` say what one step is, `shared_heap` and `shared_queue` are the shared values with
-//! their seats, and `delivery` carries a notice from the heap to its queue.
+//! their seats, `heap_calls` has the heap's calls by what they answer, and `delivery` carries a notice from the heap to
+//! its queue.
 #![tactic(auto)]
 
 mod answers;
@@ -12,10 +13,10 @@ mod clean_loop;
 mod clean_machine;
 mod cleaning;
 mod delivery;
+mod heap_calls;
 mod heap_machine;
 pub mod laws;
 mod queue_machine;
-mod releases;
 mod shared_cleaner;
 mod shared_heap;
 mod shared_queue;

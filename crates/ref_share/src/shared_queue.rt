@@ -4,10 +4,13 @@ ghost use Rattle.std.specs.Prelude.{◌≡◌, ◌+◌, ◌<◌, ◌≤◌, ◌�
 ghost use Rattle.ref_base.specs.declared.fault.Fault.TheVariants.{BadConfig, NoMemory};
 ghost use Rattle.ref_turn.specs.Seats.{Longer, Begins};
 ghost use Rattle.ref_share.specs.declared.answers.ShareFault.TheVariants.{Refused, Busy};
-ghost use Rattle.ref_share.specs.SeatCalls.{TookIn};
+ghost use Rattle.ref_turn.specs.declared.turn.TurnFault.TheVariants.{Spent};
+ghost use Rattle.ref_share.specs.SeatCalls.{Called, RanOut, TookIn};
+ghost use Rattle.ref_share.specs.QueueMachines.{IsQueueMove};
+ghost use Rattle.ref_share.specs.QueueStates.{NoticeLists};
 ghost use Rattle.ref_share.specs.QueueSeats.{queue_view, IsQueueSeat, IsNewQueue, LeavesQueue};
 ghost use Rattle.ref_share.specs.QueueCalls.{PutsNotice, PollsNow, PollsWithin, PollsUntil, ClosesQueue};
-ghost use Rattle.ref_share.specs.QueueCalls.{ComesBack, IsBare, IsPollReply, PollsOnce, TellsPoll, refuses_put};
+ghost use Rattle.ref_share.specs.QueueCalls.{ComesBack, IsPollAnswer, IsUnmade, PollsOnce, TellsPoll, refuses_put};
 
 use crate::bell::Bell;
 use crate::{Polled, QueueMachine, QueueReply, QueueStep, ShareFault};
@@ -78,6 +81,24 @@ impl<A: Allocator + Copy> SharedQueue<A> {
         self.queue
     }
 
+    // Does one step of the queue, once the turn is free.
+    #[inline(always)]
+    fn call<R: Wait>(
+        &self,
+        rt: &R,
+        seat: &mut QueueSeat<A>,
+        step: QueueStep,
+    ) -> Result<QueueReply, TurnFault<QueueStep>>
+        requires { IsQueueSeat self.now seat.old }
+        ensures seat { IsQueueSeat self.now seat.new }
+        ensures ok { IfOk result (λ reply. Called (queue_view seat.old) step reply (queue_view seat.new)) }
+        ensures acted { IfOk result (λ reply. (q r : NoticeLists) × IsQueueMove q step reply r) }
+        ensures err { IfErr result (λ fault. (fault ≡ Spent step)
+            × RanOut (queue_view seat.old) (queue_view seat.new)) }
+    {
+        self.turn.call(rt, &mut seat.seat, step)
+    }
+
     /// Puts a notice in, last, once the turn is free. Its refusals are those of `Queue::put`, with `TurnsSpent` before
     /// them where no turn is left; the notice comes back, as it does with `Already` and `Closed`. Only `Added` takes
     /// memory.
@@ -93,16 +114,13 @@ impl<A: Allocator + Copy> SharedQueue<A> {
         ensures back { ComesBack notice result }
         ensures faults { IfErr result (λ refused. refuses_put refused.0 ≡ true) }
     {
-        match self.turn.call(rt, &mut seat.seat, QueueStep::Put(notice)) {
+        match self.call(rt, seat, QueueStep::Put(notice)) {
             Ok(QueueReply::Put(answer)) => {
                 self.bell.ring(rt);
                 answer
             }
-            Ok(QueueReply::Polled(_answer)) => unreachable!(),
-            Ok(QueueReply::Closed(_)) => unreachable!(),
             Err(TurnFault::Spent(QueueStep::Put(notice))) => Err((Fault::TurnsSpent, notice)),
-            Err(TurnFault::Spent(_step)) => unreachable!(),
-            Err(TurnFault::Busy(_step)) => unreachable!(),
+            _answer => unreachable!(),
         }
     }
 
@@ -113,17 +131,7 @@ impl<A: Allocator + Copy> SharedQueue<A> {
         ensures seat { IsQueueSeat self.now seat.new }
         ensures polls { PollsNow (queue_view seat.old) result (queue_view seat.new) }
     {
-        match self.turn.try_call(&mut seat.seat, QueueStep::Poll) {
-            Ok(reply) => Ok(polled(reply)),
-            Err(TurnFault::Busy(step)) => {
-                spend(step);
-                Err(ShareFault::Busy)
-            }
-            Err(TurnFault::Spent(step)) => {
-                spend(step);
-                Err(ShareFault::Refused(Fault::TurnsSpent))
-            }
-        }
+        polled(self.turn.try_call(&mut seat.seat, QueueStep::Poll))
     }
 
     // One poll, once the turn is free: its answer, or none where nothing stood.
@@ -132,17 +140,9 @@ impl<A: Allocator + Copy> SharedQueue<A> {
         ensures seat { IsQueueSeat self.now seat.new }
         ensures polls { PollsOnce (queue_view seat.old) result (queue_view seat.new) }
     {
-        match self.turn.call(rt, &mut seat.seat, QueueStep::Poll) {
-            Ok(QueueReply::Polled(Answer::Took(notice))) => Some(Ok(Polled::Took(notice))),
-            Ok(QueueReply::Polled(Answer::Empty)) => None,
-            Ok(QueueReply::Polled(Answer::Closed)) => Some(Ok(Polled::Closed)),
-            Ok(QueueReply::Put(_answer)) => unreachable!(),
-            Ok(QueueReply::Closed(_)) => unreachable!(),
-            Err(TurnFault::Busy(_step)) => unreachable!(),
-            Err(TurnFault::Spent(step)) => {
-                spend(step);
-                Some(Err(ShareFault::Refused(Fault::TurnsSpent)))
-            }
+        match polled(self.call(rt, seat, QueueStep::Poll)) {
+            Ok(Polled::Empty) => None,
+            answer => Some(answer),
         }
     }
 
@@ -206,18 +206,13 @@ impl<A: Allocator + Copy> SharedQueue<A> {
         ensures seat { IsQueueSeat self.now seat.new }
         ensures closes { ClosesQueue (queue_view seat.old) result (queue_view seat.new) }
     {
-        match self.turn.call(rt, &mut seat.seat, QueueStep::Close) {
+        match self.call(rt, seat, QueueStep::Close) {
             Ok(QueueReply::Closed(was_open)) => {
                 self.bell.ring_for_all(rt);
                 Ok(was_open)
             }
-            Ok(QueueReply::Polled(_answer)) => unreachable!(),
-            Ok(QueueReply::Put(_answer)) => unreachable!(),
-            Err(TurnFault::Busy(_step)) => unreachable!(),
-            Err(TurnFault::Spent(step)) => {
-                spend(step);
-                Err(ShareFault::Refused(Fault::TurnsSpent))
-            }
+            Ok(_reply) => unreachable!(),
+            Err(fault) => Err(unmade(fault)),
         }
     }
 
@@ -281,26 +276,31 @@ impl<A: Allocator + Copy> QueueSeat<A> {
     }
 }
 
-// The answer to a poll.
-fn polled(reply: QueueReply) -> Polled
-    requires { IsPollReply reply }
-    ensures { TellsPoll reply result }
+// The answer to a poll, or why none was made.
+fn polled(answer: Result<QueueReply, TurnFault<QueueStep>>) -> Result<Polled, ShareFault>
+    requires { IsPollAnswer answer }
+    ensures { TellsPoll answer result }
 {
-    match reply {
-        QueueReply::Polled(Answer::Took(notice)) => Polled::Took(notice),
-        QueueReply::Polled(Answer::Empty) => Polled::Empty,
-        QueueReply::Polled(Answer::Closed) => Polled::Closed,
-        QueueReply::Put(_answer) => unreachable!(),
-        QueueReply::Closed(_) => unreachable!(),
+    match answer {
+        Ok(QueueReply::Polled(Answer::Took(notice))) => Ok(Polled::Took(notice)),
+        Ok(QueueReply::Polled(Answer::Empty)) => Ok(Polled::Empty),
+        Ok(QueueReply::Polled(Answer::Closed)) => Ok(Polled::Closed),
+        Ok(_reply) => unreachable!(),
+        Err(fault) => Err(unmade(fault)),
     }
 }
 
-// Lets a step go that takes no notice along.
-fn spend(step: QueueStep)
-    requires { IsBare step }
+// Why a step of a queue was not made. A notice comes back with it.
+fn unmade(fault: TurnFault<QueueStep>) -> ShareFault
+    ensures { IsUnmade fault result }
 {
+    let (step, is_busy) = match fault {
+        TurnFault::Busy(step) => (step, true),
+        TurnFault::Spent(step) => (step, false),
+    };
     match step {
-        QueueStep::Put(_notice) => unreachable!(),
-        QueueStep::Poll | QueueStep::Close => {}
+        QueueStep::Put(notice) => ShareFault::Notice(notice, Fault::TurnsSpent),
+        QueueStep::Poll | QueueStep::Close if is_busy => ShareFault::Busy,
+        QueueStep::Poll | QueueStep::Close => ShareFault::Refused(Fault::TurnsSpent),
     }
 }

@@ -120,17 +120,3 @@ loop-preserved g c =
       c.remove_wait.ensures.seat,
       (on.0, on.1, omega (arith, so_far.2, on.2)),
     )
-
-pub returns-in-Closed-clause-seat : goal.returns-in-Closed-clause-seat
-returns-in-Closed-clause-seat g c = c.loop.invariant.0
-
-pub returns-in-Closed-clause-heap_seat : goal.returns-in-Closed-clause-heap_seat
-returns-in-Closed-clause-heap_seat g c = c.loop.invariant.1
-
-pub returns-in-Closed-clause-goes : goal.returns-in-Closed-clause-goes
-returns-in-Closed-clause-goes g c =
-    let so_far = c.loop.invariant.3 in
-    let last = queue_view c.loop.queue_seat in
-    let polls = subst (λ answer. PollsUntil last (Ok answer) (queue_view c.remove_wait.new.seat)) c.in-Closed.is
-    c.in_ok-notice.ensures.polls in
-    (so_far.0, last, so_far.1, polls, so_far.2)

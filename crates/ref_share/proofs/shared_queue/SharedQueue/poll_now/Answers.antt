@@ -3,20 +3,8 @@ use Rattle.ref_share.proofs.Common.{IsQueueMove, IsItself}
 use Rattle.ref_share.specs.declared.queue_machine.QueueStep.TheVariants as steps
 use Rattle.ref_share.proofs.shared_queue.SharedQueue.poll_now.Goals as goal
 
-pub returns-in-Ok-clause-seat : goal.returns-in-Ok-clause-seat
-returns-in-Ok-clause-seat g c =
-    let told = c.try_call.ensures in
-    call_stays IsItself IsQueueMove c.args.self.now.turn _ c.args.seat.now.seat c.try_call.new.seat steps.Poll
-    c.try_call.result c.requires told.turn told.ok told.longer told.history
-
-pub returns-in-Err-Busy-clause-seat : goal.returns-in-Err-Busy-clause-seat
-returns-in-Err-Busy-clause-seat g c =
-    let told = c.try_call.ensures in
-    call_stays IsItself IsQueueMove c.args.self.now.turn _ c.args.seat.now.seat c.try_call.new.seat steps.Poll
-    c.try_call.result c.requires told.turn told.ok told.longer told.history
-
-pub returns-in-Err-Spent-clause-seat : goal.returns-in-Err-Spent-clause-seat
-returns-in-Err-Spent-clause-seat g c =
+pub returns-clause-seat : goal.returns-clause-seat
+returns-clause-seat g c =
     let told = c.try_call.ensures in
     call_stays IsItself IsQueueMove c.args.self.now.turn _ c.args.seat.now.seat c.try_call.new.seat steps.Poll
     c.try_call.result c.requires told.turn told.ok told.longer told.history

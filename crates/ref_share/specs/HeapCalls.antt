@@ -1,0 +1,99 @@
+-- What the calls of a shared heap answer, as calls that its seat has made (this project's profile).
+use Rattle.std.specs.Prelude.{◌≡◌, ◌⊎◌, ℕ, Bool, true, false, Option, Some, None, Result, Ok, Err}
+use Rattle.ref_base.specs.HeapSteps.{NamedStep}
+use Rattle.ref_base.specs.declared.fault.Fault.{Fault}
+use Rattle.ref_base.specs.declared.fault.Fault.TheVariants.{TurnsSpent}
+use Rattle.ref_base.specs.declared.heap_step.HeapStep.TheVariants as heap
+use Rattle.ref_base.specs.declared.heap_step.HoldName.{HoldName}
+use Rattle.ref_base.specs.declared.reply.Reply.{Reply}
+use Rattle.ref_base.specs.declared.reply.Reply.TheVariants as told
+use Rattle.ref_clear.specs.ClearHeaps.{HeldNotice}
+use Rattle.ref_world.specs.declared.heap_machine.HeapReply.TheVariants as replies
+use Rattle.ref_share.specs.HeapSeats.{HeapView}
+use Rattle.ref_share.specs.SeatCalls.{Called, RanOut}
+
+-- ---- a step that hands nothing over
+
+-- whether the reply tells of a refusal
+abbrev pub is_refusal : Reply → Bool
+is_refusal (told.Refused fault) = true
+is_refusal reply = false
+
+-- the step is the heap's one call, and it is not refused
+abbrev pub Accepted : HeapView → NamedStep → HeapView → Type 0
+Accepted v step w = (reply : Reply) × (is_refusal reply ≡ false) × Called v step (replies.Told reply) w
+
+-- the step is refused with this fault; or no turn is left for it
+abbrev pub Declined : HeapView → NamedStep → Fault → HeapView → Type 0
+Declined v step fault w =
+    Called v step (replies.Told (told.Refused fault)) w ⊎ ((fault ≡ TurnsSpent) × RanOut v w)
+
+-- a step that neither gives a hold or a notice nor takes one
+abbrev pub hands_nothing_over : NamedStep → Bool
+hands_nothing_over (heap.Unhook m s) = false
+hands_nothing_over (heap.Hold m s) = false
+hands_nothing_over (heap.Adopt m d hold) = false
+hands_nothing_over (heap.Release hold) = false
+hands_nothing_over (heap.Hand k) = false
+hands_nothing_over step = true
+
+-- such a step is the heap's one call, and answers so; or no turn is left for it
+abbrev pub AsksHeap : HeapView → NamedStep → Result Reply Fault → HeapView → Type 0
+AsksHeap v step (Ok reply) w = Called v step (replies.Told reply) w
+AsksHeap v step (Err fault) w = (fault ≡ TurnsSpent) × RanOut v w
+
+-- ---- holds and notices: turns are no fault of a heap's own, so with TurnsSpent no call was made
+
+-- whether the step may give a notice
+abbrev pub asks_for_a_notice : NamedStep → Bool
+asks_for_a_notice (heap.Unhook m s) = true
+asks_for_a_notice (heap.Hand k) = true
+asks_for_a_notice step = false
+
+-- the step is the heap's one call, and is refused with this fault; with TurnsSpent no turn was left for it
+abbrev pub Refuses : HeapView → NamedStep → Fault → HeapView → Type 0
+Refuses v step TurnsSpent w = RanOut v w
+Refuses v step fault w = Called v step (replies.Told (told.Refused fault)) w
+
+-- the same of a step that would spend the hold, which the heap goes on counting
+abbrev pub KeepsBack : HeapView → NamedStep → HoldName → Fault → HeapView → Type 0
+KeepsBack v step hold TurnsSpent w = RanOut v w
+KeepsBack v step hold fault w = Called v step (replies.Back fault hold) w
+
+-- the heap gives a hold of what the slot holds, or refuses it
+abbrev pub HoldsSlot : HeapView → (m s : ℕ) → Result HoldName Fault → HeapView → Type 0
+HoldsSlot v m s (Ok hold) w = Called v (heap.Hold m s) (replies.Held hold) w
+HoldsSlot v m s (Err fault) w = Refuses v (heap.Hold m s) fault w
+
+-- the heap gives the notice of an unhook or a hand, tells that there is none, or refuses it
+abbrev pub GivesNotice : HeapView → NamedStep → Result (Option HeldNotice) Fault → HeapView → Type 0
+GivesNotice v step (Ok (Some notice)) w = Called v step (replies.Notice notice) w
+GivesNotice v step (Ok None) w = Called v step (replies.Told told.Nothing) w
+GivesNotice v step (Err fault) w = Refuses v step fault w
+
+-- what is answered to such a step where a reply comes without a notice
+abbrev pub TellsOfNone : Reply → Result (Option HeldNotice) Fault → Type 0
+TellsOfNone (told.Refused fault) result = result ≡ Err fault
+TellsOfNone reply result = result ≡ Ok None
+
+-- the slot then holds what the hold holds, and the hold is spent; or it comes back
+abbrev pub Adopts : HeapView → (m d : ℕ) → HoldName → Result (Unit {0}) (Fault × HoldName) → HeapView → Type 0
+Adopts v m d hold (Ok _) w = Called v (heap.Adopt m d hold) (replies.Told (told.Object hold.object)) w
+Adopts v m d hold (Err (fault, back)) w = (back ≡ hold) × KeepsBack v (heap.Adopt m d hold) hold fault w
+
+-- the hold goes back to the heap; or it comes back
+abbrev pub Releases : HeapView → HoldName → Result (Unit {0}) (Fault × HoldName) → HeapView → Type 0
+Releases v hold (Ok _) w = Called v (heap.Release hold) (replies.Told told.Done) w
+Releases v hold (Err (fault, back)) w = (back ≡ hold) × KeepsBack v (heap.Release hold) hold fault w
+
+-- whether the step takes a hold along
+abbrev pub takes_a_hold : NamedStep → Bool
+takes_a_hold (heap.Adopt m d hold) = true
+takes_a_hold (heap.Release hold) = true
+takes_a_hold step = false
+
+-- the one or the other
+abbrev pub Spends : HeapView → NamedStep → Result (Unit {0}) (Fault × HoldName) → HeapView → Type 0
+Spends v (heap.Adopt m d hold) result w = Adopts v m d hold result w
+Spends v (heap.Release hold) result w = Releases v hold result w
+Spends v step result w = ⊥

@@ -1,0 +1,217 @@
+//! Calls of a shared heap by what they answer.
+
+ghost use Rattle.std.specs.Prelude.{◌≡◌, true, false, IfOk, IfErr};
+ghost use Rattle.ref_base.specs.declared.fault.Fault.TheVariants.{TurnsSpent};
+ghost use Rattle.ref_base.specs.declared.heap_step.HeapStep.TheVariants as steps;
+ghost use Rattle.ref_share.specs.HeapSeats.{heap_view, IsHeapSeat};
+ghost use Rattle.ref_share.specs.HeapCalls.{hands_nothing_over, AsksHeap, HoldsSlot, asks_for_a_notice};
+ghost use Rattle.ref_share.specs.HeapCalls.{GivesNotice, TellsOfNone, takes_a_hold, Spends, Adopts, Releases};
+ghost use Rattle.ref_share.specs.HeapMachines.{Acts};
+ghost use Rattle.ref_share.specs.SeatCalls.{Called, RanOut};
+ghost use Rattle.ref_clear.specs.ClearHeaps.{ClearHeap};
+
+use crate::{HeapSeat, SharedHeap};
+use ref_base::{Fault, HeapStep, MutNo, Reply, SlotNo, WorkerNo};
+use ref_clear::Notice;
+use ref_objects::Hold;
+use ref_turn::TurnFault;
+use ref_world::HeapReply;
+use std::alloc::Allocator;
+use std::sync::Wait;
+
+impl<A: Allocator + Copy> SharedHeap<A> {
+    /// A hold of what the slot holds, once the turn is free: its object is a root while the hold is out. Tried in this
+    /// order: `TurnsSpent` where no turn is left, `NoSuchActor` where mutator or slot is outside the configuration,
+    /// `EmptySlot`, `NumbersSpent` where no more holds can be counted. Refused, the heap is as before. Takes no memory.
+    pub fn hold<R: Wait>(
+        &self,
+        rt: &R,
+        seat: &mut HeapSeat<A>,
+        mutator: MutNo,
+        slot: SlotNo,
+    ) -> Result<Hold, Fault>
+        requires { IsHeapSeat self.now seat.old }
+        ensures seat { IsHeapSeat self.now seat.new }
+        ensures holds { HoldsSlot (heap_view seat.old) mutator slot result (heap_view seat.new) }
+    {
+        match self.without_hold(rt, seat, HeapStep::Hold { mutator, slot })? {
+            HeapReply::Held(hold) => Ok(hold),
+            HeapReply::Told(Reply::Refused(fault)) => Err(fault),
+            _reply => unreachable!(),
+        }
+    }
+
+    /// Clears the reference in the slot, once the turn is free, and gives its notice; none where it has no queue. Tried
+    /// in this order: `TurnsSpent` where no turn is left, `NoSuchActor` where mutator or slot is outside the
+    /// configuration, `EmptySlot`, `NotAReference`, `NumbersSpent` where it has a queue and no more holds can be
+    /// counted. Refused, the heap is as before. Takes no memory.
+    pub fn unhook<R: Wait>(
+        &self,
+        rt: &R,
+        seat: &mut HeapSeat<A>,
+        mutator: MutNo,
+        slot: SlotNo,
+    ) -> Result<Option<Notice>, Fault>
+        requires { IsHeapSeat self.now seat.old }
+        ensures seat { IsHeapSeat self.now seat.new }
+        ensures gives { GivesNotice (heap_view seat.old) (steps.Unhook mutator slot) result (heap_view seat.new) }
+    {
+        let reference = slot;
+        self.notice(rt, seat, HeapStep::Unhook { mutator, reference })
+    }
+
+    /// The notice of the next reference that the worker cleared, once the turn is free; none where none is pending.
+    /// Tried in this order: `TurnsSpent` where no turn is left, `NoSuchActor` where the worker is outside the
+    /// configuration, `NumbersSpent` where one is pending and no more holds can be counted. Refused, the heap is as
+    /// before. Takes no memory.
+    pub fn hand<R: Wait>(
+        &self,
+        rt: &R,
+        seat: &mut HeapSeat<A>,
+        worker: WorkerNo,
+    ) -> Result<Option<Notice>, Fault>
+        requires { IsHeapSeat self.now seat.old }
+        ensures seat { IsHeapSeat self.now seat.new }
+        ensures gives { GivesNotice (heap_view seat.old) (steps.Hand worker) result (heap_view seat.new) }
+    {
+        self.notice(rt, seat, HeapStep::Hand { worker })
+    }
+
+    // The notice that the step may give.
+    #[inline(always)]
+    fn notice<R: Wait>(
+        &self,
+        rt: &R,
+        seat: &mut HeapSeat<A>,
+        step: HeapStep<Hold>,
+    ) -> Result<Option<Notice>, Fault>
+        requires seat { IsHeapSeat self.now seat.old }
+        requires step { asks_for_a_notice step ≡ true }
+        ensures seat { IsHeapSeat self.now seat.new }
+        ensures gives { GivesNotice (heap_view seat.old) step result (heap_view seat.new) }
+    {
+        match self.without_hold(rt, seat, step)? {
+            HeapReply::Notice(notice) => Ok(Some(notice)),
+            HeapReply::Told(reply) => none_given(reply),
+            _reply => unreachable!(),
+        }
+    }
+
+    /// The slot then holds what the hold holds, once the turn is free, and the hold is spent. Tried in this order, and
+    /// then the hold comes back and the heap is as before: `TurnsSpent` where no turn is left, `NoSuchActor` where
+    /// mutator or slot is outside the configuration, `ForeignHold` where the heap doesn't count the hold. Takes no
+    /// memory.
+    pub fn adopt<R: Wait>(
+        &self,
+        rt: &R,
+        seat: &mut HeapSeat<A>,
+        mutator: MutNo,
+        slot: SlotNo,
+        hold: Hold,
+    ) -> Result<(), (Fault, Hold)>
+        requires { IsHeapSeat self.now seat.old }
+        ensures seat { IsHeapSeat self.now seat.new }
+        ensures adopts { Adopts (heap_view seat.old) mutator slot hold result (heap_view seat.new) }
+    {
+        let step = HeapStep::Adopt {
+            mutator,
+            slot,
+            hold,
+        };
+        self.spend(rt, seat, step)
+    }
+
+    /// Gives the hold back, once the turn is free: what it holds is no root any more, but for what else leads to it.
+    /// Tried in this order, and then the hold comes back and the heap is as before: `TurnsSpent` where no turn is left,
+    /// `ForeignHold` where the heap doesn't count the hold. Takes no memory.
+    pub fn release<R: Wait>(
+        &self,
+        rt: &R,
+        seat: &mut HeapSeat<A>,
+        hold: Hold,
+    ) -> Result<(), (Fault, Hold)>
+        requires { IsHeapSeat self.now seat.old }
+        ensures seat { IsHeapSeat self.now seat.new }
+        ensures releases { Releases (heap_view seat.old) hold result (heap_view seat.new) }
+    {
+        self.spend(rt, seat, HeapStep::Release { hold })
+    }
+
+    // Does a step that spends a hold, which comes back where it is not spent.
+    #[inline(always)]
+    fn spend<R: Wait>(
+        &self,
+        rt: &R,
+        seat: &mut HeapSeat<A>,
+        step: HeapStep<Hold>,
+    ) -> Result<(), (Fault, Hold)>
+        requires seat { IsHeapSeat self.now seat.old }
+        requires step { takes_a_hold step ≡ true }
+        ensures seat { IsHeapSeat self.now seat.new }
+        ensures spends { Spends (heap_view seat.old) step result (heap_view seat.new) }
+    {
+        match self.call(rt, seat, step) {
+            Ok(HeapReply::Told(_)) => Ok(()),
+            Ok(HeapReply::Back(fault, hold)) => Err((fault, hold)),
+            Err(TurnFault::Spent(HeapStep::Adopt { hold, .. } | HeapStep::Release { hold })) => {
+                Err((Fault::TurnsSpent, hold))
+            }
+            _answer => unreachable!(),
+        }
+    }
+
+    // Does a step that hands nothing over. `TurnsSpent` where no turn is left.
+    #[inline(always)]
+    pub(crate) fn ask<R: Wait>(
+        &self,
+        rt: &R,
+        seat: &mut HeapSeat<A>,
+        step: HeapStep<Hold>,
+    ) -> Result<Reply, Fault>
+        requires seat { IsHeapSeat self.now seat.old }
+        requires step { hands_nothing_over step ≡ true }
+        ensures seat { IsHeapSeat self.now seat.new }
+        ensures asks { AsksHeap (heap_view seat.old) step result (heap_view seat.new) }
+    {
+        match self.without_hold(rt, seat, step)? {
+            HeapReply::Told(reply) => Ok(reply),
+            _reply => unreachable!(),
+        }
+    }
+
+    // Does a step that takes no hold along. `TurnsSpent` where no turn is left.
+    #[inline(always)]
+    fn without_hold<R: Wait>(
+        &self,
+        rt: &R,
+        seat: &mut HeapSeat<A>,
+        step: HeapStep<Hold>,
+    ) -> Result<HeapReply, Fault>
+        requires seat { IsHeapSeat self.now seat.old }
+        requires step { takes_a_hold step ≡ false }
+        ensures seat { IsHeapSeat self.now seat.new }
+        ensures ok { IfOk result (λ reply. Called (heap_view seat.old) step reply (heap_view seat.new)) }
+        ensures acted { IfOk result (λ reply. (c d : ClearHeap) × Acts c step reply d) }
+        ensures err { IfErr result (λ fault. (fault ≡ TurnsSpent) × RanOut (heap_view seat.old) (heap_view seat.new)) }
+    {
+        match self.call(rt, seat, step) {
+            Ok(reply) => Ok(reply),
+            Err(TurnFault::Busy(step) | TurnFault::Spent(step)) => match step {
+                HeapStep::Adopt { hold: _hold, .. } | HeapStep::Release { hold: _hold } => {
+                    unreachable!()
+                }
+                _ => Err(Fault::TurnsSpent),
+            },
+        }
+    }
+}
+
+// What is answered where no notice is given.
+fn none_given(reply: Reply) -> Result<Option<Notice>, Fault>
+    ensures { TellsOfNone reply result }
+{
+    match reply {
+        Reply::Refused(fault) => Err(fault),
+        _ => Ok(None),
+    }
+}
