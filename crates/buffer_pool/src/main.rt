@@ -15,9 +15,8 @@ use example_runtime::{Collector, HeapUser, Queues};
 use pool::{BUFFERS, Buffer, count_free};
 use program::{Program, count_losses, let_go};
 use ref_base::{Config, Fault, QueueNo};
-use ref_objects::Hold;
-use ref_queue::{Action, CleanTable, Job};
-use ref_share::{CleanSeat, SharedCleaner, SharedHeap};
+use ref_queue::{Action, Job};
+use ref_share::{CleanSeat, SharedCleaner, SharedHeap, run_jobs_left};
 use std::alloc::Global;
 use std::sync::Wait;
 use std::sync::atomic::{AtomicU64, Ordering};
@@ -99,9 +98,7 @@ fn use_buffers<R: Threads + Wait + Sync>(
     let given = run(rt, user, jobs, &mut queues, &cleaner, &mut seat_of_cleaner);
     queues.end();
     let free = count_free(pool);
-    if let Ok(table) | Err(Some(table)) = cleaner.finish(seat_of_cleaner) {
-        run_what_is_left(table);
-    }
+    run_jobs_left(cleaner.finish(seat_of_cleaner));
     let (by_program, by_worker, told) = given?;
     Ok(Counts {
         by_program,
@@ -193,17 +190,4 @@ fn work<R: Threads + Wait + Sync>(rt: &R, user: HeapUser, collector: Collector) 
     );
     collected?;
     let_go
-}
-
-/// Runs the jobs whose objects were still in use, and ends the table.
-fn run_what_is_left(table: CleanTable<Hold>) {
-    let mut table = table;
-    while let Some((_, hold, job)) = table.take_any() {
-        hold.leak();
-        job.run();
-    }
-    match table.end() {
-        Ok(()) => {}
-        Err(_table) => unreachable!(),
-    }
 }

@@ -5,7 +5,7 @@ ghost use Rattle.ref_share.specs.CleanSeats.{IsCleanSeat};
 ghost use Rattle.ref_share.specs.QueueSeats.{IsQueueSeat};
 
 use crate::pool::BUFFERS;
-use example_runtime::{HeapUser, give_up};
+use example_runtime::HeapUser;
 use ref_base::{Fault, HeapStep, MutNo, Parcel, QueueNo, SlotNo, Strength};
 use ref_queue::{Job, Ran};
 use ref_share::{CleanSeat, Cleanable, Cleaned, Polled, QueueSeat, SharedCleaner, SharedQueue};
@@ -91,7 +91,7 @@ impl<'a> Program<'a> {
             // The job comes back: the buffer is given back at once.
             Err((fault, job)) => {
                 job.run();
-                give_up(fault)?;
+                fault.give_up()?;
                 Err(Fault::TurnsSpent)
             }
         }
@@ -119,7 +119,7 @@ impl<'a> Program<'a> {
                 Ok(Some(ran))
             }
             Err(fault) => {
-                give_up(fault)?;
+                fault.give_up()?;
                 Ok(None)
             }
         }
@@ -160,7 +160,7 @@ pub fn count_losses(queue: &SharedQueue, seat: QueueSeat) -> u64
             Ok(Polled::Took(notice)) => notice.into_hold().leak(),
             Ok(Polled::Empty | Polled::Closed | Polled::TimedOut) => return count,
             Err(fault) => {
-                let _ = give_up(fault);
+                let _ = fault.give_up();
                 return count;
             }
         }

@@ -4,7 +4,7 @@ ghost use Rattle.example_runtime.specs.Users.{IsUser};
 ghost use Rattle.ref_share.specs.CleanSeats.{IsCleanSeat};
 ghost use Rattle.ref_share.specs.QueueSeats.{IsQueueSeat};
 
-use example_runtime::{HeapUser, give_up};
+use example_runtime::HeapUser;
 use ref_base::Fault;
 use ref_queue::Ran;
 use ref_share::{CleanSeat, Gate, QueueSeat, SharedCleaner, SharedQueue};
@@ -57,7 +57,7 @@ impl Worker<'_> {
         ) {
             Ok(count) => Ok(count),
             Err(fault) => {
-                give_up(fault)?;
+                fault.give_up()?;
                 Err(Fault::TurnsSpent)
             }
         }

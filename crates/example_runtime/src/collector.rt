@@ -5,7 +5,7 @@ ghost use Rattle.ref_share.specs.Deliveries.{AreSeats};
 ghost use Rattle.ref_share.specs.HeapCalls.{hands_nothing_over};
 ghost use Rattle.example_runtime.specs.Users.{IsUser, IsCollector};
 
-use crate::heap_user::{HeapUser, give_up};
+use crate::heap_user::HeapUser;
 use crate::queue_end::close_all;
 use ref_base::{Fault, HeapStep, Reply, Urgency, WorkerNo};
 use ref_objects::Hold;
@@ -142,7 +142,7 @@ impl<'a> Collector<'a> {
             match deliver_one(rt, heap, seat, self.queues, &mut self.seats, WORKER) {
                 Ok(Delivery::Nothing) => return Ok(()),
                 Ok(_) => {}
-                Err(fault) => give_up(fault)?,
+                Err(fault) => fault.give_up()?,
             }
         }
         unreachable!()

@@ -45,14 +45,13 @@ impl<'a> HeapUser<'a> {
         match self.heap.call(rt, &mut self.seat, step) {
             Ok(HeapReply::Told(Reply::Refused(fault))) => Err(fault),
             Ok(HeapReply::Told(reply)) => Ok(reply),
-            Ok(HeapReply::Notice(_notice)) => unreachable!(),
-            Ok(HeapReply::Held(_hold)) => unreachable!(),
-            Ok(HeapReply::Back(_, _hold)) => unreachable!(),
-            Err(TurnFault::Busy(_step)) => unreachable!(),
-            Err(TurnFault::Spent(step)) => {
-                spend(step);
-                Err(Fault::TurnsSpent)
-            }
+            Ok(_reply) => unreachable!(),
+            Err(TurnFault::Busy(step) | TurnFault::Spent(step)) => match step {
+                HeapStep::Adopt { hold: _hold, .. } | HeapStep::Release { hold: _hold } => {
+                    unreachable!()
+                }
+                _ => Err(Fault::TurnsSpent),
+            },
         }
     }
 
@@ -61,47 +60,9 @@ impl<'a> HeapUser<'a> {
         requires { IsUser self.old }
         ensures { IsUser self.new }
     {
-        match self
-            .heap
-            .call(rt, &mut self.seat, HeapStep::Release { hold })
-        {
-            Ok(HeapReply::Told(_)) => Ok(()),
-            Ok(HeapReply::Back(fault, hold)) => give_up(ShareFault::Held(hold, fault)),
-            Ok(HeapReply::Notice(_notice)) => unreachable!(),
-            Ok(HeapReply::Held(_hold)) => unreachable!(),
-            Err(TurnFault::Spent(HeapStep::Release { hold })) => {
-                give_up(ShareFault::Held(hold, Fault::TurnsSpent))
-            }
-            Err(TurnFault::Spent(_step)) => unreachable!(),
-            Err(TurnFault::Busy(_step)) => unreachable!(),
-        }
-    }
-}
-
-// Lets a step go that takes no hold along.
-fn spend(step: HeapStep<Hold>)
-    requires { hands_nothing_over step ≡ true }
-{
-    match step {
-        HeapStep::Adopt { hold: _hold, .. } => unreachable!(),
-        HeapStep::Release { hold: _hold } => unreachable!(),
-        _ => {}
-    }
-}
-
-/// What to do about a fault: nothing where another turn was open, since the call can be made again; else the thread
-/// ends, and what came back is given up.
-pub fn give_up(fault: ShareFault) -> Result<(), Fault> {
-    match fault {
-        ShareFault::Busy => Ok(()),
-        ShareFault::Refused(fault) => Err(fault),
-        ShareFault::Notice(notice, fault) => {
-            notice.into_hold().leak();
-            Err(fault)
-        }
-        ShareFault::Held(hold, fault) => {
-            hold.leak();
-            Err(fault)
+        match self.heap.release(rt, &mut self.seat, hold) {
+            Ok(()) => Ok(()),
+            Err((fault, hold)) => ShareFault::Held(hold, fault).give_up(),
         }
     }
 }

@@ -7,5 +7,5 @@ mod queue_end;
 mod queues;
 
 pub use collector::Collector;
-pub use heap_user::{HeapUser, give_up};
+pub use heap_user::HeapUser;
 pub use queues::Queues;

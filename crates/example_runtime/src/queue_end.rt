@@ -2,9 +2,6 @@
 
 ghost use Rattle.ref_share.specs.Deliveries.{AreSeats};
 
-use crate::heap_user::give_up;
-use ref_clear::Notice;
-use ref_queue::Queue;
 use ref_share::{QueueSeat, SharedQueue};
 use std::sync::Wait;
 
@@ -26,17 +23,6 @@ fn close_at<R: Wait>(rt: &R, queues: &[SharedQueue], seats: &mut [QueueSeat], pl
         return;
     }
     if let Err(fault) = queues[place].close(rt, &mut seats[place]) {
-        let _ = give_up(fault);
-    }
-}
-
-/// Gives up what stands in a queue that is ended.
-pub fn end(finished: Result<Queue<Notice>, Option<Queue<Notice>>>) {
-    if let Ok(queue) | Err(Some(queue)) = finished {
-        let mut standing = queue.end();
-        while let Some(notice) = standing.pop_front() {
-            notice.into_hold().leak();
-        }
-        standing.destroy_empty();
+        let _ = fault.give_up();
     }
 }

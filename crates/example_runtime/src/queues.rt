@@ -4,9 +4,8 @@ ghost use Rattle.std.specs.Prelude.{◌≡◌, IfOk, List, [], ◌∷◌, length
 ghost use Rattle.ref_share.specs.Deliveries.{AreSeats};
 ghost use Rattle.example_runtime.specs.QueuePairs.{AreTwo};
 
-use crate::queue_end::end;
 use ref_base::{Fault, QueueNo};
-use ref_share::{QueueSeat, SharedQueue};
+use ref_share::{QueueSeat, SharedQueue, end_queue};
 use std::alloc::Global;
 
 /// Queue 0 and queue 1 in a list, as a delivery takes them, with a seat of each. They must be ended by `end`.
@@ -25,7 +24,7 @@ impl Queues {
         let (one, second) = match SharedQueue::new(alloc, QueueNo(1)) {
             Ok(made) => made,
             Err(fault) => {
-                end(zero.finish(first));
+                end_queue(zero.finish(first));
                 return Err(fault);
             }
         };
@@ -36,8 +35,8 @@ impl Queues {
                 Ok(Queues { all, first, second })
             }
             Err(_) => {
-                end(zero.finish(first));
-                end(one.finish(second));
+                end_queue(zero.finish(first));
+                end_queue(one.finish(second));
                 Err(Fault::NoMemory)
             }
         }
@@ -67,7 +66,7 @@ impl Queues {
         let one = all.take_last();
         let zero = all.take_last();
         all.destroy_empty();
-        end(zero.finish(first));
-        end(one.finish(second));
+        end_queue(zero.finish(first));
+        end_queue(one.finish(second));
     }
 }

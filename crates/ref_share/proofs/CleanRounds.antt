@@ -10,7 +10,8 @@ use Rattle.ref_base.specs.declared.reply.Reply.TheVariants as told
 use Rattle.ref_queue.specs.declared.queue.Polled.TheVariants as answers
 use Rattle.ref_world.specs.declared.heap_machine.HeapReply.TheVariants as replies
 use Rattle.ref_share.proofs.Polls.{made_none, made_more, made_longer, made_after}
-use Rattle.ref_share.specs.CleanLoops.{polls_in, releases_in, job_in, released}
+use Rattle.ref_share.specs.CleanLoops.{polls_in, releases_in, job_in, released, polls_in_vain}
+use Rattle.ref_share.specs.QueueCalls.{PollsOnce}
 use Rattle.ref_share.specs.declared.clean_machine.CleanStep.TheVariants as steps
 use Rattle.ref_share.specs.declared.clean_machine.CleanReply.TheVariants as gives
 use Rattle.ref_share.specs.declared.queue_machine.QueueStep.TheVariants as asks
@@ -22,6 +23,12 @@ all_of_one_more part [] r = append-nil (part r)
 all_of_one_more {T = T} part (s ∷ rs) r =
     ap (λ (ts : List T). part s ++ ts) (all_of_one_more part rs r)
     ∙ sym (append_assoc (part s) (all_of part rs) (part r))
+
+-- one poll that finds a notice
+abbrev pub at_once : (notice : HeldNotice) (u w : QueueView) → PollsOnce u (Some (Ok (Took notice))) w
+    → PollsUntil u (Ok (Took notice)) w
+at_once notice u w polls =
+    (0, tt, made_more u u w [] asks.Poll (gets.Polled (answers.Took notice)) (made_none u) polls)
 
 module _ {J : Type 0} where
   job_at_most : (taken : Option (HoldName × J)) → length (job_in taken) ≤ 1
@@ -50,6 +57,11 @@ module _ {J : Type 0} where
   jobs_of_one_more rs r =
       ap length (all_of_one_more (λ (s : Round J). job_in s.taken) rs r)
       ∙ length-append (all_of (λ (s : Round J). job_in s.taken) rs) (job_in r.taken)
+
+  vain_of_one_more : (rs : List (Round J)) (r : Round J)
+      → polls_in_vain (rs ++ r ∷ []) ≡ polls_in_vain rs + r.empties
+  vain_of_one_more [] r = omega (arith)
+  vain_of_one_more (s ∷ rs) r = omega (arith, vain_of_one_more rs r)
 
   module _ (q : QueueView) (v : HeapView) (c : CleanView J) where
     pub gone_nowhere : HasGone q v c [] q v c
@@ -89,6 +101,7 @@ module _ {J : Type 0} where
       -- a round without a job
       pub gone_in_vain : CleansDead notice v1 c1 (Ok false) v2 c2
           → (more : List (Round J)) × HasGone q v c more q2 v2 c2 × (jobs_run more ≡ jobs_run rs)
+          × (polls_in_vain more ≡ polls_in_vain rs + polls.0)
       gone_in_vain cleans = (
         rs ++ next None ∷ [],
         (
@@ -98,11 +111,13 @@ module _ {J : Type 0} where
           next_takes None c2 cleans.1 ((refl, refl, refl), (made_none c2).1, refl),
         ),
         omega (arith, jobs_of_one_more rs (next None)),
+        vain_of_one_more rs (next None),
       )
 
       -- a round with a job
       pub gone_for_a_job : (c3 : CleanView J) → CleansDead notice v1 c1 (Ok true) v2 c2 → Longer c2 c3
           → (more : List (Round J)) × HasGone q v c more q2 v2 c3 × (jobs_run more ≡ jobs_run rs + 1)
+          × (polls_in_vain more ≡ polls_in_vain rs + polls.0)
       gone_for_a_job c3 cleans longer =
           let taken = Some (cleans.0, cleans.1) in
           let both = made_more v cleans.2 v2 (all_of (releases_in v) rs ++ released v notice.hold ∷ [])
@@ -117,6 +132,7 @@ module _ {J : Type 0} where
               next_takes taken c3 cleans.3.1 longer,
             ),
             omega (arith, jobs_of_one_more rs (next taken)),
+            vain_of_one_more rs (next taken),
           )
 
       -- its take is one call more than those that gave the jobs before

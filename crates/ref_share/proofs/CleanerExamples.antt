@@ -10,7 +10,7 @@ use Rattle.ref_base.specs.declared.reply.Reply.TheVariants as told
 use Rattle.ref_queue.specs.declared.job.Ran.{Ran}
 use Rattle.ref_queue.specs.declared.queue.Polled.TheVariants as found
 use Rattle.ref_world.specs.declared.heap_machine.HeapReply.TheVariants as replies
-use Rattle.ref_share.specs.CleanLoops.{GoesRound}
+use Rattle.ref_share.specs.CleanLoops.{GoesRound, GoesOn}
 use Rattle.ref_share.specs.Cleanings.{RegistersJob, CleansNow}
 use Rattle.ref_share.specs.declared.answers.Cleaned.TheVariants.{Gone, Ran as DidRun}
 use Rattle.ref_share.specs.declared.clean_machine.CleanStep.TheVariants as steps
@@ -177,3 +177,26 @@ module _ (start : Option ClearHeap) where
       → ¬ (GoesRound (polls []) (calls_of []) (table []) (Ok 1) q w (table []))
   counted_without_a_job q w goes =
       let none : jobs_run goes.0 ≡ 0 = no_rounds goes.0 goes.2.2.2 in absurd (omega (arith, goes.4, none))
+
+  -- the same without waiting, until a poll found nothing
+  it_went_on_for_one_round : GoesOn (polls []) (calls_of []) (table []) (Ok 1)
+      (polls
+      (entry 0 queue.Poll (told_by.Polled (found.Took notice)) ∷ entry 0 queue.Poll (told_by.Polled found.Empty) ∷ []))
+      (calls_of (releases ∷ releases ∷ [])) (table (taken ∷ []))
+  it_went_on_for_one_round = (
+    record { empties = 0; notice = notice; taken = Some (hold, 30) } ∷ [],
+    polls (entry 0 queue.Poll (told_by.Polled (found.Took notice)) ∷ []),
+    (
+      ((refl, refl, refl), (entry 0 queue.Poll (told_by.Polled (found.Took notice)) ∷ [], refl), refl),
+      ((refl, refl, refl), (releases ∷ releases ∷ [], refl), refl),
+      ((refl, refl, refl), (taken ∷ [], refl), refl),
+    ),
+    refl,
+    inl ((refl, refl, refl), ([], refl), refl),
+    refl,
+  )
+
+  counted_on_without_a_job : (q : QueueView) (w : HeapView)
+      → ¬ (GoesOn (polls []) (calls_of []) (table []) (Ok 1) q w (table []))
+  counted_on_without_a_job q w goes =
+      let none : jobs_run goes.0 ≡ 0 = no_rounds goes.0 goes.2.2.2 in absurd (omega (arith, goes.5, none))

@@ -1,6 +1,6 @@
 -- What a cleaner's thread has called, round by round (this project's profile; the threads of `java.lang.ref.Cleaner` of
 -- Java SE 17).
-use Rattle.std.specs.Prelude.{◌≡◌, ℕ, ◌⊎◌, List, [], ◌∷◌, ◌++◌, length, Option, Some, None, Result, Ok, Err}
+use Rattle.std.specs.Prelude.{◌≡◌, ℕ, ◌+◌, ◌⊎◌, List, [], ◌∷◌, ◌++◌, length, Option, Some, None, Result, Ok, Err}
 use Rattle.ref_base.specs.declared.heap_step.HeapStep.TheVariants as heap
 use Rattle.ref_base.specs.declared.heap_step.HoldName.{HoldName}
 use Rattle.ref_base.specs.declared.reply.Reply.TheVariants as told
@@ -11,7 +11,7 @@ use Rattle.ref_world.specs.declared.heap_machine.HeapReply.TheVariants as replie
 use Rattle.ref_share.specs.CleanSeats.{CleanView, CleanEntry}
 use Rattle.ref_share.specs.Cleanings.{CleansDead}
 use Rattle.ref_share.specs.HeapSeats.{HeapView, HeapEntry}
-use Rattle.ref_share.specs.QueueCalls.{PollsUntil, empty_polls, polled}
+use Rattle.ref_share.specs.QueueCalls.{PollsOnce, PollsUntil, empty_polls, polled}
 use Rattle.ref_share.specs.QueueSeats.{QueueView, QueueEntry}
 use Rattle.ref_share.specs.SeatCalls.{Made}
 use Rattle.ref_share.specs.declared.answers.Polled.TheVariants.{Took, Closed}
@@ -59,6 +59,11 @@ module _ {J : Type 0} where
   abbrev pub jobs_run : List (Round J) → ℕ
   jobs_run rs = length (all_of (λ r. job_in r.taken) rs)
 
+  -- how many polls found nothing in them
+  abbrev pub polls_in_vain : List (Round J) → ℕ
+  polls_in_vain [] = 0
+  polls_in_vain (r ∷ rs) = r.empties + polls_in_vain rs
+
   module _ (q : QueueView) (v : HeapView) (c : CleanView J) where
     -- the three seats have made just the calls of these rounds
     abbrev pub HasGone : List (Round J) → QueueView → HeapView → CleanView J → Type 0
@@ -75,3 +80,19 @@ module _ {J : Type 0} where
         (rs : List (Round J)) × (last : QueueView) × (u : HeapView) × (d : CleanView J) × HasGone rs last u d
         × ((PollsUntil last (Err fault) q' × (v' ≡ u) × (c' ≡ d))
         ⊎ ((notice : HeldNotice) × PollsUntil last (Ok (Took notice)) q' × CleansDead notice u d (Err fault) v' c'))
+
+    -- the last poll found nothing, or that the queue is closed
+    abbrev pub FindsNone : QueueView → QueueView → Type 0
+    FindsNone last q' = PollsOnce last None q' ⊎ PollsOnce last (Some (Ok Closed)) q'
+
+    -- The same, without a poll that finds nothing but the last, which ends it.
+    abbrev pub GoesOn : Result ℕ ShareFault → QueueView → HeapView → CleanView J → Type 0
+    GoesOn (Ok count) q' v' c' =
+        (rs : List (Round J)) × (last : QueueView) × HasGone rs last v' c' × (polls_in_vain rs ≡ 0)
+        × FindsNone last q' × (count ≡ jobs_run rs)
+    GoesOn (Err fault) q' v' c' =
+        (rs : List (Round J)) × (last : QueueView) × (u : HeapView) × (d : CleanView J) × HasGone rs last u d
+        × (polls_in_vain rs ≡ 0)
+        × ((PollsOnce last (Some (Err fault)) q' × (v' ≡ u) × (c' ≡ d))
+        ⊎ ((notice : HeldNotice) × PollsOnce last (Some (Ok (Took notice))) q'
+        × CleansDead notice u d (Err fault) v' c'))

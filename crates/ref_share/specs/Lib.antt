@@ -17,6 +17,7 @@ pub mod CleanMachines
 pub mod CleanMoves
 pub mod CleanSeats
 pub mod HeapCalls
+pub mod Answers
 pub mod Cleanings
 pub mod CleanLoops
 pub mod CleanHistories

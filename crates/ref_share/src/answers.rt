@@ -1,11 +1,12 @@
 //! What calls of shared heaps and queues answer.
 
-use ref_base::{Fault, ObjNo, QueueNo};
+use ref_base::{Fault, ObjNo, Parcel, QueueNo};
 use ref_clear::Notice;
 use ref_objects::Hold;
 use ref_queue::Ran;
+use std::fmt;
 
-/// Why a call of a shared heap or queue is refused.
+/// Why a call of a shared heap or queue is refused. It prints as one line, without what comes back.
 #[derive(Debug)]
 pub enum ShareFault {
     /// The call is refused with this fault, and nothing has changed but what was seen.
@@ -16,6 +17,58 @@ pub enum ShareFault {
     Notice(Notice, Fault),
     /// The hold could not be given back to its heap, for this reason, and comes back.
     Held(Hold, Fault),
+}
+
+impl ShareFault {
+    ghost use Rattle.std.specs.Prelude.{◌≡◌};
+    ghost use Rattle.ref_share.specs.Answers.{given_up};
+
+    /// What to do about it: nothing where another turn was open, since the call can be made again; else to end with
+    /// this fault. What came back is given up: its heap, if it is still there, counts it for good. Takes no memory.
+    pub fn give_up(self) -> Result<(), Fault>
+        ensures { result ≡ given_up self }
+    {
+        match self {
+            ShareFault::Busy => Ok(()),
+            ShareFault::Refused(fault) => Err(fault),
+            ShareFault::Notice(notice, fault) => {
+                notice.into_hold().leak();
+                Err(fault)
+            }
+            ShareFault::Held(hold, fault) => {
+                hold.leak();
+                Err(fault)
+            }
+        }
+    }
+}
+
+impl fmt::Display for ShareFault {
+    fn fmt<W: fmt::Write>(&self, f: &mut fmt::Formatter<W>) -> fmt::Result {
+        match self {
+            ShareFault::Refused(fault) => write!(f, "refused: {fault}"),
+            ShareFault::Busy => write!(f, "another turn is open"),
+            ShareFault::Notice(notice, fault) => {
+                let object = notice.obj();
+                write!(f, "the notice of {object} comes back: {fault}")
+            }
+            ShareFault::Held(hold, fault) => {
+                let object = hold.obj();
+                write!(f, "the hold of {object} comes back: {fault}")
+            }
+        }
+    }
+}
+
+impl From<Fault> for ShareFault {
+    ghost use Rattle.std.specs.Prelude.{◌≡◌};
+    ghost use Rattle.ref_share.specs.declared.answers.ShareFault.TheVariants.{Refused};
+
+    ghost from_gives = { λ fault why. why ≡ Refused fault };
+
+    fn from(fault: Fault) -> ShareFault {
+        ShareFault::Refused(fault)
+    }
 }
 
 /// What became of a notice.
@@ -29,6 +82,18 @@ pub enum Delivery {
     Dropped(ObjNo),
 }
 
+impl fmt::Display for Delivery {
+    fn fmt<W: fmt::Write>(&self, f: &mut fmt::Formatter<W>) -> fmt::Result {
+        match *self {
+            Delivery::Nothing => write!(f, "nothing"),
+            Delivery::Added(object, queue, position) => {
+                write!(f, "{object} added to {queue} at {position}")
+            }
+            Delivery::Dropped(object) => write!(f, "{object} dropped"),
+        }
+    }
+}
+
 /// What a poll of a shared queue answers.
 #[derive(Debug)]
 pub enum Polled {
@@ -40,6 +105,20 @@ pub enum Polled {
     Closed,
     /// Nothing stood at each of the polls that were allowed.
     TimedOut,
+}
+
+impl fmt::Display for Polled {
+    fn fmt<W: fmt::Write>(&self, f: &mut fmt::Formatter<W>) -> fmt::Result {
+        match self {
+            Polled::Took(notice) => {
+                let object = notice.obj();
+                write!(f, "took {object}")
+            }
+            Polled::Empty => write!(f, "empty"),
+            Polled::Closed => write!(f, "closed"),
+            Polled::TimedOut => write!(f, "timed out"),
+        }
+    }
 }
 
 /// What a registered job is cleaned by: the number of its phantom reference.
@@ -56,4 +135,16 @@ pub enum Cleaned {
     /// It ran the job. The hold of its reference comes back where the heap had no turn left to adopt it, or did not
     /// count it.
     Ran(Ran, Option<Hold>),
+}
+
+impl fmt::Display for Cleaned {
+    fn fmt<W: fmt::Write>(&self, f: &mut fmt::Formatter<W>) -> fmt::Result {
+        match self {
+            Cleaned::Gone => write!(f, "gone"),
+            Cleaned::Ran(ran, _) => {
+                let Ran { number, answer } = *ran;
+                write!(f, "ran {number}, which answered {answer}")
+            }
+        }
+    }
 }

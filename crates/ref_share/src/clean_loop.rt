@@ -3,7 +3,7 @@
 ghost use Rattle.std.specs.Prelude.{◌≡◌, ◌+◌, ◌<◌, length};
 ghost use Rattle.ref_turn.specs.Seats.{Longer};
 ghost use Rattle.ref_turn.specs.Turns.{view};
-ghost use Rattle.ref_share.specs.CleanLoops.{GoesRound};
+ghost use Rattle.ref_share.specs.CleanLoops.{GoesRound, GoesOn};
 ghost use Rattle.ref_share.specs.CleanSeats.{IsCleanSeat};
 ghost use Rattle.ref_share.specs.Cleanings.{CleansDead};
 ghost use Rattle.ref_share.specs.HeapSeats.{heap_view, IsHeapSeat};
@@ -66,6 +66,45 @@ impl<A: Allocator + Copy> SharedCleaner<A> {
                     }
                 }
                 // Who waits is told of nothing but the end.
+                Polled::Closed | Polled::Empty | Polled::TimedOut => break,
+            }
+        }
+        Ok(count)
+    }
+
+    /// Runs the jobs of what is gone whose notices stand now, and answers how many it ran: as `clean_loop`, but that it
+    /// ends as soon as a poll finds nothing, so that a program of one thread cleans between its own calls.
+    ///
+    /// Turns and faults are as those of `clean_loop`. Takes no memory but what the jobs take.
+    pub fn clean_some<R: Wait, G: Gate>(
+        &self,
+        rt: &R,
+        seat: &mut CleanSeat<A>,
+        heap: &SharedHeap<A>,
+        heap_seat: &mut HeapSeat<A>,
+        queue: &SharedQueue<A>,
+        queue_seat: &mut QueueSeat<A>,
+        gate: &G,
+    ) -> Result<u64, ShareFault>
+        requires seats { IsCleanSeat self.now.turn seat.old.seat × IsHeapSeat heap.now heap_seat.old }
+        requires queue_seat { IsQueueSeat queue.now queue_seat.old }
+        ensures seat { IsCleanSeat self.now.turn seat.new.seat }
+        ensures heap_seat { IsHeapSeat heap.now heap_seat.new }
+        ensures queue_seat { IsQueueSeat queue.now queue_seat.new }
+        ensures goes { GoesOn (queue_view queue_seat.old) (heap_view heap_seat.old) (view seat.old.seat)
+            result (queue_view queue_seat.new) (heap_view heap_seat.new) (view seat.new.seat) }
+    {
+        let mut count = 0;
+        for _ in rt.forever() {
+            let Some(answer) = queue.poll(rt, queue_seat) else {
+                break;
+            };
+            match answer? {
+                Polled::Took(notice) => {
+                    if self.clean_dead(rt, seat, heap, heap_seat, notice, gate)? {
+                        count = self.one_more(seat, count);
+                    }
+                }
                 Polled::Closed | Polled::Empty | Polled::TimedOut => break,
             }
         }

@@ -192,7 +192,8 @@ impl<A: Allocator + Copy> SharedHeap<A> {
         ensures seat { IsHeapSeat self.now seat.new }
         ensures ok { IfOk result (λ reply. Called (heap_view seat.old) step reply (heap_view seat.new)) }
         ensures acted { IfOk result (λ reply. (c d : ClearHeap) × Acts c step reply d) }
-        ensures err { IfErr result (λ fault. (fault ≡ TurnsSpent) × RanOut (heap_view seat.old) (heap_view seat.new)) }
+        ensures err { IfErr result (λ fault. (fault ≡ TurnsSpent)
+            × RanOut (heap_view seat.old) (heap_view seat.new)) }
     {
         match self.call(rt, seat, step) {
             Ok(reply) => Ok(reply),

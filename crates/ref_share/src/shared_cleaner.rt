@@ -9,6 +9,7 @@ ghost use Rattle.ref_turn.specs.declared.turn.TurnFault.TheVariants.{Spent};
 ghost use Rattle.ref_share.specs.CleanMachines.{IsCleanMove};
 ghost use Rattle.ref_share.specs.CleanSeats.{IsCleanSeat, IsFirstCleanSeat, LeavesTable};
 
+use crate::endings::end_empty;
 use crate::{CleanMachine, CleanReply, CleanStep};
 use ref_base::{Fault, QueueNo};
 use ref_objects::Hold;
@@ -53,10 +54,10 @@ impl<A: Allocator + Copy> SharedCleaner<A> {
         };
         match Turn::starting(alloc, machine, first) {
             Ok((turn, seat)) => Ok((SharedCleaner { turn, queue }, CleanSeat { seat })),
-            Err((fault, machine)) => match machine.into_table().end() {
-                Ok(()) => Err(fault),
-                Err(_table) => unreachable!(),
-            },
+            Err((fault, machine)) => {
+                end_empty(machine.into_table());
+                Err(fault)
+            }
         }
     }
 

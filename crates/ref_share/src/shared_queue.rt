@@ -135,7 +135,11 @@ impl<A: Allocator + Copy> SharedQueue<A> {
     }
 
     // One poll, once the turn is free: its answer, or none where nothing stood.
-    fn poll<R: Wait>(&self, rt: &R, seat: &mut QueueSeat<A>) -> Option<Result<Polled, ShareFault>>
+    pub(crate) fn poll<R: Wait>(
+        &self,
+        rt: &R,
+        seat: &mut QueueSeat<A>,
+    ) -> Option<Result<Polled, ShareFault>>
         requires { IsQueueSeat self.now seat.old }
         ensures seat { IsQueueSeat self.now seat.new }
         ensures polls { PollsOnce (queue_view seat.old) result (queue_view seat.new) }

@@ -5,7 +5,7 @@ ghost use Rattle.example_runtime.specs.Users.{IsUser};
 ghost use Rattle.weak_table.specs.Cleaners.{IsCleaner};
 
 use crate::Table;
-use example_runtime::{HeapUser, give_up};
+use example_runtime::HeapUser;
 use ref_base::{Fault, Parcel};
 use ref_share::{Polled, QueueSeat, SharedQueue};
 use std::sync::Wait;
@@ -50,7 +50,7 @@ impl<'a> Cleaner<'a> {
                 }
                 Ok(Polled::Closed) => return Ok(()),
                 Ok(Polled::Empty | Polled::TimedOut) => {}
-                Err(fault) => give_up(fault)?,
+                Err(fault) => fault.give_up()?,
             }
         }
         unreachable!()

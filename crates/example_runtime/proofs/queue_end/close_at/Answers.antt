@@ -20,3 +20,11 @@ returns-in_default g c =
     still_seats c.args.queues.now c.args.seats.now place queue c.close.new.seat c.requires
     (slice_get-get_or c.args.queues.now place queue c.if-place-queues.false ∙ ap Some (sym c.index-queues-place.is))
     c.close.ensures.seat
+
+pub returns-in-Err : goal.returns-in-Err
+returns-in-Err g c =
+    let place = c.args.place in
+    let queue = c.index-queues-place.result in
+    still_seats c.args.queues.now c.args.seats.now place queue c.close.new.seat c.requires
+    (slice_get-get_or c.args.queues.now place queue c.if-place-queues.false ∙ ap Some (sym c.index-queues-place.is))
+    c.close.ensures.seat

@@ -1,5 +1,5 @@
 use Rattle.std.proofs.Common.{length}
-use Rattle.buffer_pool.proofs.run_what_is_left.Given as goal
+use Rattle.ref_share.proofs.endings.run_jobs_left.Given as goal
 
 -- how many jobs are left
 abbrev pub decreases-loop-hold : goal.decreases-loop-hold

@@ -1,0 +1,23 @@
+-- What callers do about the faults of shared heaps and queues, and what is left in what ends (this project's profile).
+use Rattle.std.specs.Prelude.{ℕ, List, length, Option, Some, None, Result, Ok, Err}
+use Rattle.ref_base.specs.declared.fault.Fault.{Fault}
+use Rattle.ref_share.specs.QueueStates.{NoticeLists}
+use Rattle.ref_share.specs.declared.answers.ShareFault.{ShareFault}
+use Rattle.ref_share.specs.declared.answers.ShareFault.TheVariants.{Refused, Busy, Notice, Held}
+
+-- nothing where another turn was open, and else the fault, once what came back was given up
+abbrev pub given_up : ShareFault → Result (Unit {0}) Fault
+given_up Busy = Ok tt
+given_up (Refused fault) = Err fault
+given_up (Notice notice fault) = Err fault
+given_up (Held hold fault) = Err fault
+
+-- what a shared value was ended with: as it was, or as a turn had left it, if at all
+abbrev pub found : {T : Type 0} → Result T (Option T) → Option T
+found (Ok left) = Some left
+found (Err left) = left
+
+-- how many notices stand in what a queue was ended with
+abbrev pub count_standing : Option NoticeLists → ℕ
+count_standing None = 0
+count_standing (Some q) = length q.stands

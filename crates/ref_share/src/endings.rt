@@ -1,0 +1,53 @@
+//! The ends of queues and of cleaners' tables, once their threads have ended: what is left in them is given up.
+
+ghost use Rattle.std.specs.Prelude.{◌≡◌, []};
+ghost use Rattle.ref_share.specs.Answers.{found, count_standing};
+
+use ref_clear::Notice;
+use ref_objects::Hold;
+use ref_queue::{CleanTable, Job, Queue};
+use std::alloc::Allocator;
+
+/// Ends what `SharedQueue::finish` gave. The hold of each notice that stands in it is given up, and its heap, if it is
+/// still there, counts it for good. How many these were. Takes no memory.
+pub fn end_queue<A: Allocator + Copy>(
+    finished: Result<Queue<Notice, A>, Option<Queue<Notice, A>>>,
+) -> usize
+    ensures { result ≡ count_standing (found finished) }
+{
+    let queue = match finished {
+        Ok(queue) | Err(Some(queue)) => queue,
+        Err(None) => return 0,
+    };
+    let mut standing = queue.end();
+    let count = standing.len();
+    while let Some(notice) = standing.pop_front() {
+        notice.into_hold().leak();
+    }
+    standing.destroy_empty();
+    count
+}
+
+/// Ends what `SharedCleaner::finish` gave. Each job that is still registered is run, in no order, and the hold of its
+/// reference is given up, as by `end_queue`. Takes no memory but what the jobs take.
+pub fn run_jobs_left<A: Allocator + Copy>(
+    finished: Result<CleanTable<Hold, Job, A>, Option<CleanTable<Hold, Job, A>>>,
+) {
+    if let Ok(mut table) | Err(Some(mut table)) = finished {
+        while let Some((_, hold, job)) = table.take_any() {
+            hold.leak();
+            job.run();
+        }
+        end_empty(table);
+    }
+}
+
+// Ends a table where nothing is registered.
+pub(crate) fn end_empty<A: Allocator + Copy>(table: CleanTable<Hold, Job, A>)
+    requires { table.jobs ≡ [] }
+{
+    match table.end() {
+        Ok(()) => {}
+        Err(_table) => unreachable!(),
+    }
+}
