@@ -5,12 +5,13 @@ ghost use Rattle.ref_share.specs.CleanSeats.{IsCleanSeat};
 ghost use Rattle.ref_share.specs.HeapSeats.{IsHeapSeat};
 
 use crate::heap_runs::give_up;
-use crate::letters::{CONFIG, QUEUE, spend};
+use crate::letters::{CONFIG, QUEUE};
 use crate::timing::{Sample, Timer};
 use ref_base::{Fault, HeapStep, MutNo, SlotNo};
-use ref_objects::Hold;
-use ref_queue::{Action, CleanTable, Job};
-use ref_share::{CleanSeat, Cleanable, Cleaned, HeapSeat, SharedCleaner, SharedHeap};
+use ref_queue::{Action, Job};
+use ref_share::{
+    CleanSeat, Cleanable, Cleaned, HeapSeat, SharedCleaner, SharedHeap, run_jobs_left,
+};
 use std::alloc::Global;
 use std::sync::Wait;
 use std::time::Clock;
@@ -46,7 +47,10 @@ impl User<'_> {
         } = self;
         match cleaner.register(rt, seat, heap, heap_seat, MUTATOR, OBJECT, REFERENCE, job) {
             Ok(cleanable) => Ok(cleanable),
-            Err((fault, _job)) => Err(spend(fault).unwrap_or(Fault::TurnsSpent)),
+            Err((fault, _job)) => {
+                fault.give_up()?;
+                Err(Fault::TurnsSpent)
+            }
         }
     }
 
@@ -69,7 +73,7 @@ impl User<'_> {
                 Ok(())
             }
             Ok(Cleaned::Ran(_, None) | Cleaned::Gone) => Ok(()),
-            Err(fault) => spend(fault).map_or(Ok(()), Err),
+            Err(fault) => fault.give_up(),
         }
     }
 }
@@ -112,9 +116,7 @@ pub fn jobs_registered_and_run<R: Wait + Clock>(
         heap_seat,
     };
     let sample = register_and_run(rt, user, others, jobs);
-    if let Ok(table) | Err(Some(table)) = cleaner.finish(seat) {
-        end(table);
-    }
+    run_jobs_left(cleaner.finish(seat));
     sample
 }
 
@@ -144,16 +146,4 @@ fn register_and_run<R: Wait + Clock>(
         user.clean(rt, cleanable)?;
     }
     Ok(timer.stop(rt, count as u64))
-}
-
-/// Gives up the jobs that stand in a table, and the table.
-fn end(table: CleanTable<Hold>) {
-    let mut table = table;
-    while let Some((_, hold, _job)) = table.take_any() {
-        hold.leak();
-    }
-    match table.end() {
-        Ok(()) => {}
-        Err(_table) => unreachable!(),
-    }
 }

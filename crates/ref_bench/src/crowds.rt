@@ -8,9 +8,7 @@ use crate::plain_queue::PlainQueue;
 use crate::tills::{PlainTill, SharedTill, Till};
 use crate::timing::{Sample, Timer};
 use ref_base::Fault;
-use ref_clear::Notice;
-use ref_queue::Queue;
-use ref_share::{QueueSeat, SharedQueue};
+use ref_share::{QueueSeat, SharedQueue, end_queue};
 use std::alloc::Global;
 use std::sync::Wait;
 use std::sync::atomic::{AtomicU32, Ordering};
@@ -113,7 +111,7 @@ pub fn shared_queue<R: Threads + Wait + Clock + Sync>(
     let tasks = tasks(alloc, pairs, count)?;
     let (queue, mut seat) = SharedQueue::new(alloc, QUEUE)?;
     let sample = among_shared(rt, alloc, &queue, &mut seat, tasks, pairs, count);
-    end(queue, seat);
+    end_queue(queue.finish(seat));
     sample
 }
 
@@ -142,24 +140,6 @@ fn among_shared<R: Threads + Wait + Clock + Sync>(
         }
     }
     crowd(rt, jobs, count)
-}
-
-/// Gives up a shared queue with what stands in it.
-pub fn end(queue: SharedQueue, seat: QueueSeat)
-    requires { IsQueueSeat queue seat }
-{
-    match queue.finish(seat) {
-        Ok(queue) | Err(Some(queue)) => end_queue(queue),
-        Err(None) => {}
-    }
-}
-
-fn end_queue(queue: Queue<Notice>) {
-    let mut standing = queue.end();
-    while let Some(notice) = standing.pop_front() {
-        notice.into_hold().leak();
-    }
-    standing.destroy_empty();
 }
 
 /// A plain queue between as many.

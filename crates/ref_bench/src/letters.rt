@@ -3,7 +3,6 @@
 use ref_base::{Config, Fault, MutNo, ObjNo, Parcel, QueueNo, SlotNo, Strength};
 use ref_clear::{Heap, Notice};
 use ref_objects::Start;
-use ref_share::ShareFault;
 use std::alloc::Global;
 
 /// The queue that all notices are for.
@@ -93,20 +92,4 @@ fn add_letters(
         }
     }
     Ok(())
-}
-
-/// Gives up what came back with a fault, and tells the fault. None where the call can be made again.
-pub fn spend(fault: ShareFault) -> Option<Fault> {
-    match fault {
-        ShareFault::Busy => None,
-        ShareFault::Refused(fault) => Some(fault),
-        ShareFault::Notice(notice, fault) => {
-            notice.into_hold().leak();
-            Some(fault)
-        }
-        ShareFault::Held(hold, fault) => {
-            hold.leak();
-            Some(fault)
-        }
-    }
 }

@@ -1,13 +1,12 @@
 //! Queues that one thread has alone.
 
-use crate::crowds::end;
 use crate::letters::{Letter, QUEUE, letters};
 use crate::plain_queue::PlainQueue;
 use crate::tills::{PlainTill, SharedTill, Till};
 use crate::timing::{Sample, Timer};
 use ref_base::Fault;
 use ref_queue::Queue;
-use ref_share::SharedQueue;
+use ref_share::{SharedQueue, end_queue};
 use std::alloc::Global;
 use std::sync::Wait;
 use std::time::Clock;
@@ -46,7 +45,7 @@ pub fn shared_queue_alone<R: Wait + Clock>(
     let answer = put_and_take(rt, &mut till, letters);
     let sample = timer.stop(rt, calls(count));
     drop(till);
-    end(queue, seat);
+    end_queue(queue.finish(seat));
     answer.map(|()| sample)
 }
 

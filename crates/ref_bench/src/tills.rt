@@ -66,7 +66,7 @@ impl Till for SharedTill<'_> {
             Ok(Polled::Took(notice)) => Some(Letter::new(notice)),
             Ok(Polled::Empty | Polled::Closed | Polled::TimedOut) => None,
             Err(fault) => {
-                crate::letters::spend(fault);
+                let _ = fault.give_up();
                 None
             }
         }
@@ -74,7 +74,7 @@ impl Till for SharedTill<'_> {
 
     fn close<R: Wait>(&mut self, rt: &R) {
         if let Err(fault) = self.queue.close(rt, &mut self.seat) {
-            crate::letters::spend(fault);
+            let _ = fault.give_up();
         }
     }
 }

@@ -263,15 +263,15 @@ impl<'a> Station<'a> {
         requires { IsSeated self.old }
         ensures { StaysSeated self.old self.new }
     {
-        let slot = NEWEST;
-        self.ask(
-            rt,
-            HeapStep::Adopt {
-                mutator,
-                slot,
-                hold,
-            },
-        )?;
+        let Station {
+            shared,
+            heap_seat,
+            ..
+        } = self;
+        if let Err((fault, hold)) = shared.heap.adopt(rt, heap_seat, mutator, NEWEST, hold) {
+            hold.leak();
+            return Err(fault);
+        }
         self.let_go(rt, mutator)
     }
 
@@ -316,6 +316,16 @@ impl<'a> Station<'a> {
         }
     }
 
+    /// Gives a hold back. One that comes back is given up.
+    fn release<R: Wait>(&mut self, rt: &R, hold: Hold)
+        requires { IsSeated self.old }
+        ensures { StaysSeated self.old self.new }
+    {
+        if let Err((_fault, hold)) = self.shared.heap.release(rt, &mut self.heap_seat, hold) {
+            hold.leak();
+        }
+    }
+
     /// Why a call of the heap and the queue was refused. A notice that comes back is released.
     fn settle<R: Wait>(&mut self, rt: &R, fault: ShareFault) -> Fault
         requires { IsSeated self.old }
@@ -325,8 +335,7 @@ impl<'a> Station<'a> {
             ShareFault::Refused(fault) => fault,
             ShareFault::Busy => Fault::TurnsSpent,
             ShareFault::Notice(notice, fault) => {
-                let hold = notice.into_hold();
-                let _ = self.ask(rt, HeapStep::Release { hold });
+                self.release(rt, notice.into_hold());
                 fault
             }
             ShareFault::Held(hold, fault) => {

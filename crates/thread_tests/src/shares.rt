@@ -9,7 +9,7 @@ use calls::{Call, Do, Seats, Told, answer};
 use ref_base::{Config, Fault, MutNo, ObjNo, QueueNo, Reply, WorkerNo};
 use ref_clear::Notice;
 use ref_queue::Queue;
-use ref_share::{SharedHeap, SharedQueue};
+use ref_share::{SharedHeap, SharedQueue, end_queue};
 use std::alloc::{Allocator, Global};
 use std::process::Abort;
 use std::sync::Wait;
@@ -20,6 +20,7 @@ pub mod cleaners;
 mod last_turns;
 mod many_queues;
 mod memory;
+mod printed;
 mod refusals;
 mod stories;
 mod threads;
@@ -156,12 +157,12 @@ fn end_finished(
         Ok(queue) => {
             let enqueued = queue.enqueued(alloc);
             let stands = queue.stands(alloc);
-            give_up(Some(queue));
+            end_queue(Ok(queue));
             have_numbers(rt, enqueued?.as_slice(), story.put_in);
             have_numbers(rt, stands?.as_slice(), story.standing);
         }
         Err(left) => {
-            give_up(left);
+            end_queue(Err(left));
             assert!(rt; false, "no turn of the queue is open");
         }
     }
@@ -172,16 +173,5 @@ fn have_numbers(rt: &impl Abort, found: &[ObjNo], want: &[u32]) {
     assert_eq!(rt; found.len(), want.len());
     for (place, &no) in want.iter().enumerate() {
         assert_eq!(rt; found.get(place), Some(&ObjNo(no)), "place {place}");
-    }
-}
-
-/// Gives up a queue, and what stands in it.
-pub fn give_up<A: Allocator + Copy>(queue: Option<Queue<Notice, A>>) {
-    if let Some(queue) = queue {
-        let mut standing = queue.end();
-        while let Some(notice) = standing.pop_front() {
-            notice.into_hold().leak();
-        }
-        standing.destroy_empty();
     }
 }

@@ -195,15 +195,6 @@ pub fn weak(slot: u32, source: u32, queue: Option<QueueNo>) -> HeapStep<Hold> {
     }
 }
 
-/// Gives up what comes back with a refusal.
-pub fn drop_fault(fault: ShareFault) {
-    match fault {
-        ShareFault::Refused(_) | ShareFault::Busy => {}
-        ShareFault::Notice(notice, _) => notice.into_hold().leak(),
-        ShareFault::Held(hold, _) => hold.leak(),
-    }
-}
-
 /// What the heap answered. What it gives out with that is given up.
 pub fn replied(answer: Result<HeapReply, TurnFault<HeapStep<Hold>>>) -> Told {
     match answer {
@@ -253,10 +244,9 @@ fn released<R: Wait, A: Allocator + Copy>(
     requires { IsHeapSeat heap.now seat.old }
     ensures { IsHeapSeat heap.now seat.new }
 {
-    let hold = notice.into_hold();
-    match replied(heap.call(rt, seat, HeapStep::Release { hold })) {
-        Told::Reply(Reply::Done) => told,
-        other => other,
+    match heap.release(rt, seat, notice.into_hold()) {
+        Ok(()) => told,
+        Err((fault, hold)) => held(hold, fault),
     }
 }
 
@@ -341,13 +331,10 @@ fn put<R: Wait, A: Allocator + Copy>(
     requires { IsHeapSeat heap.now seats.old.heap × IsQueueSeat queue.now seats.old.queue }
     ensures { IsHeapSeat heap.now seats.new.heap × IsQueueSeat queue.now seats.new.queue }
 {
-    let step = HeapStep::Unhook {
-        mutator: M,
-        reference: SlotNo(slot),
-    };
-    let notice = match heap.call(rt, &mut seats.heap, step) {
-        Ok(HeapReply::Notice(notice)) => notice,
-        other => return replied(other),
+    let notice = match heap.unhook(rt, &mut seats.heap, M, SlotNo(slot)) {
+        Ok(Some(notice)) => notice,
+        Ok(None) => return Told::Reply(Reply::Nothing),
+        Err(fault) => return Told::Refused(fault),
     };
     let no = notice.obj().0;
     let (back, told) = match queue.put(rt, &mut seats.queue, notice) {

@@ -6,13 +6,13 @@ ghost use Rattle.ref_share.specs.QueueSeats.{IsQueueSeat};
 ghost use Rattle.std.specs.Prelude.{◌≡◌, ◌+◌, ◌<◌, ◌^◌};
 
 use super::calls::{Ask, Call, Do, Seats, Told};
-use super::{CONFIG, Q, give_up, new};
+use super::{CONFIG, Q, new};
 use acts::{Act, Answer, Chair, Shared, done};
 use hearing::Hearing;
 use ref_base::{Fault, Reply};
 use ref_objects::Hold;
 use ref_queue::{Action, CleanTable, Job};
-use ref_share::{Delivery, SharedCleaner, SharedHeap, SharedQueue};
+use ref_share::{Delivery, SharedCleaner, SharedHeap, SharedQueue, end_queue};
 use std::alloc::Global;
 use std::collections::VecDeque;
 use std::process::Abort;
@@ -190,10 +190,7 @@ fn left_behind<R: Threads + Wait + Abort + Sync>(
         seats,
         cleaner: seat,
     } = tell(rt, shared, chair, jobs, story);
-    match queue.finish(seats.queue) {
-        Ok(queue) => give_up(Some(queue)),
-        Err(left) => give_up(left),
-    }
+    end_queue(queue.finish(seats.queue));
     let left = left_in(cleaner.finish(seat));
     assert!(rt; left.is_some(), "no turn of the cleaner is open");
     Ok(left.unwrap_or(0))

@@ -4,10 +4,10 @@
 ghost use Rattle.ref_share.specs.HeapSeats.{IsHeapSeat};
 ghost use Rattle.ref_share.specs.QueueSeats.{IsQueueSeat};
 
-use super::calls::{Do, Told, drop_fault, replied, step_of};
-use super::{CONFIG, Q, give_up};
+use super::calls::{Do, Told, replied, step_of};
+use super::{CONFIG, Q};
 use ref_base::{Fault, ObjNo, Reply};
-use ref_share::{HeapSeat, Polled, QueueSeat, ShareFault, SharedHeap, SharedQueue};
+use ref_share::{HeapSeat, Polled, QueueSeat, ShareFault, SharedHeap, SharedQueue, end_queue};
 use std::alloc::Global;
 use std::process::Abort;
 use std::sync::Wait;
@@ -53,7 +53,7 @@ fn polled(queue: &SharedQueue, mut seat: QueueSeat) -> Outcome
         Err(ShareFault::Refused(Fault::TurnsSpent)) => Outcome::Spent,
         Err(ShareFault::Busy) => Outcome::Busy,
         Err(fault) => {
-            drop_fault(fault);
+            let _ = fault.give_up();
             Outcome::Else
         }
     }
@@ -90,10 +90,7 @@ fn both_poll<R: Threads + Wait + Sync>(rt: &R, alloc: Global) -> Result<(Outcome
             requires { IsQueueSeat queue.now right }
         { polled(queue, right) },
     );
-    match made.finish(seat) {
-        Ok(queue) => give_up(Some(queue)),
-        Err(left) => give_up(left),
-    }
+    end_queue(made.finish(seat));
     Ok(told)
 }
 

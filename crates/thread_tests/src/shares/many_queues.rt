@@ -5,11 +5,13 @@ ghost use Rattle.ref_share.specs.HeapSeats.{IsHeapSeat};
 ghost use Rattle.ref_share.specs.QueueSeats.{IsQueueSeat};
 ghost use Rattle.thread_tests.specs.QueueLists.{AreSeated};
 
-use super::calls::{Do, Told, drop_fault, replied, step_of, weak};
-use super::{CONFIG, M, W, give_up};
+use super::calls::{Do, Told, replied, step_of, weak};
+use super::{CONFIG, M, W};
 use ref_base::{Config, HeapStep, ObjNo, QueueNo, Reply, SlotNo};
 use ref_objects::Hold;
-use ref_share::{Delivery, HeapSeat, QueueSeat, SharedHeap, SharedQueue, deliver_one, enqueue};
+use ref_share::{
+    Delivery, HeapSeat, QueueSeat, SharedHeap, SharedQueue, deliver_one, end_queue, enqueue,
+};
 use std::alloc::{AllocFailed, Global};
 use std::process::Abort;
 use std::sync::Wait;
@@ -79,7 +81,7 @@ fn has_one<R: Abort>(rt: &R, alloc: Global, queue: SharedQueue, seat: QueueSeat)
     match queue.finish(seat) {
         Ok(left) => {
             let enqueued = left.enqueued(alloc);
-            give_up(Some(left));
+            end_queue(Ok(left));
             match enqueued {
                 Ok(found) => {
                     assert_eq!(rt;
@@ -92,7 +94,7 @@ fn has_one<R: Abort>(rt: &R, alloc: Global, queue: SharedQueue, seat: QueueSeat)
             }
         }
         Err(left) => {
-            give_up(left);
+            end_queue(Err(left));
             panic!(rt; "no turn of a queue is open");
         }
     }
@@ -169,7 +171,7 @@ fn delivered<R: Wait>(
     match deliver_one(rt, heap, seat, &lists.queues, &mut lists.seats, W) {
         Ok(delivery) => Some(delivery),
         Err(fault) => {
-            drop_fault(fault);
+            let _ = fault.give_up();
             None
         }
     }
@@ -197,7 +199,7 @@ fn is_enqueued<R: Wait>(
     ) {
         Ok(is_added) => Some(is_added),
         Err(fault) => {
-            drop_fault(fault);
+            let _ = fault.give_up();
             None
         }
     }

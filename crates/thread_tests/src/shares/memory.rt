@@ -1,11 +1,11 @@
 //! Shared heaps and queues whose memory runs out.
 
 use super::calls::{Ask, Call, Seats, Told, answer};
-use super::{CONFIG, Q, death, give_up, make_calls};
+use super::{CONFIG, Q, death, make_calls};
 use crate::arena::{all_but, limited};
 use bumpalo::Bump;
 use ref_base::{Fault, ObjNo};
-use ref_share::{Delivery, SharedHeap, SharedQueue};
+use ref_share::{Delivery, SharedHeap, SharedQueue, end_queue};
 use std::alloc::Global;
 use std::process::Abort;
 use std::sync::Wait;
@@ -28,10 +28,7 @@ fn queue_in(rt: &impl Abort, memory: &Bump, left: usize) -> Result<bool, Fail> {
     let _rest = all_but(memory, left)?;
     match SharedQueue::new(memory, Q) {
         Ok((queue, seat)) => {
-            match queue.finish(seat) {
-                Ok(queue) => give_up(Some(queue)),
-                Err(left) => give_up(left),
-            }
+            end_queue(queue.finish(seat));
             Ok(true)
         }
         Err(fault) => {
@@ -88,10 +85,7 @@ fn told_with<R: Wait + Abort>(
     let rest = all_but(memory, left);
     let told = answer(rt, &heap, &queue, &mut seats, call);
     let next = answer(rt, &heap, &queue, &mut seats, Call::Queue(Ask::PollNow));
-    match queue.finish(seats.queue) {
-        Ok(queue) => give_up(Some(queue)),
-        Err(left) => give_up(left),
-    }
+    end_queue(queue.finish(seats.queue));
     let _rest = rest?;
     Ok((told, next))
 }

@@ -1,6 +1,6 @@
 //! What the callers of a shared cleaner can prove.
 
-ghost use Rattle.std.specs.Prelude.{◌≡◌, ◌+◌, ◌<◌, ◌^◌, ◌++◌, [], ◌∷◌, true, IfSome};
+ghost use Rattle.std.specs.Prelude.{◌≡◌, ◌+◌, ◌<◌, ◌^◌, ◌++◌, [], ◌∷◌, true, IfOk, IfSome};
 ghost use Rattle.ref_base.specs.declared.heap_step.HeapStep.TheVariants as steps;
 ghost use Rattle.ref_base.specs.declared.heap_step.HoldName.{HoldName};
 ghost use Rattle.ref_base.specs.declared.reply.Reply.{Reply};
@@ -11,18 +11,18 @@ ghost use Rattle.ref_share.specs.Cleanings.{makes_phantom};
 ghost use Rattle.ref_share.specs.HeapSeats.{heap_view, IsHeapSeat};
 ghost use Rattle.ref_share.specs.QueueSeats.{IsQueueSeat};
 
-use super::end;
-use crate::shares::calls::{Ask, Call, Seats, Told, drop_fault};
+use crate::shares::calls::{Ask, Call, Seats, Told};
 use crate::shares::cleaners::hearing::Hearing;
 use crate::shares::cleaners::left_in;
 use crate::shares::{CONFIG, M, Q, make_calls, new, weak};
 use ref_base::{Fault, ObjNo, SlotNo};
-use ref_queue::{Action, Job};
+use ref_queue::{Action, Job, Ran};
 use ref_share::{
     CleanSeat, Cleanable, Cleaned, Gate, HeapSeat, QueueSeat, SharedCleaner, SharedHeap,
-    SharedQueue,
+    SharedQueue, end_queue,
 };
-use std::alloc::Global;
+use std::alloc::{AllocError, Global};
+use std::fs::File;
 use std::process::Abort;
 use std::sync::Wait;
 use std::test::Fail;
@@ -50,7 +50,7 @@ fn retires_what_it_cleans<R: Wait>(
         }
         Ok(Cleaned::Gone) => None,
         Err(fault) => {
-            drop_fault(fault);
+            let _ = fault.give_up();
             None
         }
     }
@@ -76,7 +76,7 @@ fn holds_the_reference<R: Wait>(
     match cleaner.register(rt, seat, heap, heap_seat, M, SlotNo(0), SlotNo(1), job) {
         Ok(cleanable) => Some(cleanable),
         Err((fault, _job)) => {
-            drop_fault(fault);
+            let _ = fault.give_up();
             None
         }
     }
@@ -103,7 +103,7 @@ fn releases_twice_for_each_job<R: Wait, G: Gate>(
     match cleaner.clean_loop(rt, seat, heap, heap_seat, queue, queue_seat, gate) {
         Ok(count) => Some(count <= (heap.served(heap_seat) - before) / 2),
         Err(fault) => {
-            drop_fault(fault);
+            let _ = fault.give_up();
             None
         }
     }
@@ -180,7 +180,7 @@ fn cleaned_anew<R: Wait + Abort>(
         &mut seat,
         jobs,
     );
-    end(queue.finish(seats.queue));
+    end_queue(queue.finish(seats.queue));
     Ok((held, retired, enough, left_in(cleaner.finish(seat))))
 }
 
@@ -208,6 +208,36 @@ fn a_cleaner_makes_its_calls_of_the_heap(rt: HostRuntime) -> Result<(), Fail> {
     assert_eq!(rt;
         cleaned_anew(&rt, rt.alloc(), jobs)?,
         (want, Some(true), Some(true), Some(0))
+    );
+    Ok(())
+}
+
+/// A job that closes a file once it runs.
+fn closing(alloc: Global, file: File, number: u64) -> Result<Job, AllocError>
+    ensures { IfOk result (λ job. job.number ≡ number) }
+{
+    let action: Action = Box::new(
+        alloc,
+        move |number: u64| -> u64
+            ensures { result ≡ number }
+        {
+            drop(file);
+            number
+        },
+    )?;
+    Ok(Job::new(number, number, action))
+}
+
+#[test]
+fn a_job_closes_its_file(rt: HostRuntime) -> Result<(), Fail> {
+    let file = File::open(&rt, "/dev/null")?;
+    let ran = closing(rt.alloc(), file, 7)?.run();
+    assert_eq!(rt;
+        ran,
+        Ran {
+            number: 7,
+            answer: 7
+        }
     );
     Ok(())
 }

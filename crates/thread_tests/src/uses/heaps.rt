@@ -8,11 +8,10 @@ ghost use Rattle.ref_share.specs.QueueSeats.{IsQueueSeat};
 ghost use Rattle.ref_turn.specs.Seats.{entry};
 ghost use Rattle.ref_world.specs.declared.heap_machine.HeapReply.TheVariants as replies;
 
-use super::end;
-use crate::shares::calls::{Seats, drop_fault, replied};
+use crate::shares::calls::{Seats, replied};
 use crate::shares::{CONFIG, M, Q, W, death, make_calls};
 use ref_base::{Config, HeapStep, SlotNo};
-use ref_share::{Delivery, HeapSeat, SharedHeap, SharedQueue, deliver_one, enqueue};
+use ref_share::{Delivery, HeapSeat, SharedHeap, SharedQueue, deliver_one, end_queue, enqueue};
 use ref_turn::TurnFault;
 use std::alloc::Global;
 use std::process::Abort;
@@ -77,7 +76,7 @@ fn adds_by_one_call<R: Wait>(
     match enqueue(rt, heap, &mut seats.heap, queues, own, M, SlotNo(1)) {
         Ok(is_added) => is_added,
         Err(fault) => {
-            drop_fault(fault);
+            let _ = fault.give_up();
             false
         }
     }
@@ -101,7 +100,7 @@ fn releases_what_it_drops<R: Wait>(
         Ok(Delivery::Dropped(_)) => Some(heap.served(&mut seats.heap) - before >= 2),
         Ok(_) => None,
         Err(fault) => {
-            drop_fault(fault);
+            let _ = fault.give_up();
             None
         }
     }
@@ -142,7 +141,7 @@ fn sent_twice<R: Wait + Abort>(
     let is_added = adds_by_one_call(rt, &heap, &queue, &mut seats);
     let is_released = releases_what_it_drops(rt, &heap, &queue, &mut seats);
     let is_again = adds_by_one_call(rt, &heap, &queue, &mut seats);
-    end(queue.finish(seats.queue));
+    end_queue(queue.finish(seats.queue));
     Ok((is_added, is_released, is_again))
 }
 

@@ -6,13 +6,12 @@ ghost use Rattle.ref_share.specs.QueueCalls.{polled};
 ghost use Rattle.ref_share.specs.HeapSeats.{IsHeapSeat};
 ghost use Rattle.ref_share.specs.QueueSeats.{queue_view, IsQueueSeat};
 
-use super::end;
-use crate::shares::calls::{Do, drop_fault, replied, step_of};
-use crate::shares::{CONFIG, M, Q, give_up};
+use crate::shares::calls::{Do, replied, step_of};
+use crate::shares::{CONFIG, M, Q};
 use ref_base::{Fault, HeapStep, Parcel, QueueNo, SlotNo};
 use ref_clear::Notice;
 use ref_queue::Put;
-use ref_share::{HeapSeat, Polled, QueueSeat, ShareFault, SharedHeap, SharedQueue};
+use ref_share::{HeapSeat, Polled, QueueSeat, ShareFault, SharedHeap, SharedQueue, end_queue};
 use ref_world::HeapReply;
 use std::alloc::Global;
 use std::sync::Wait;
@@ -90,7 +89,7 @@ pub fn is_busy_at_the_last_turn(queue: &SharedQueue, seat: &mut QueueSeat) -> bo
     match queue.poll_now(seat) {
         Err(ShareFault::Busy) => true,
         Err(fault) => {
-            drop_fault(fault);
+            let _ = fault.give_up();
             false
         }
         Ok(Polled::Took(notice)) => {
@@ -115,7 +114,7 @@ fn refuses_a_million_polls<R: Wait>(rt: &R, queue: &SharedQueue, seat: &mut Queu
         Ok(Polled::Empty | Polled::Closed | Polled::TimedOut) => false,
         Err(ShareFault::Refused(Fault::BadConfig)) => true,
         Err(fault) => {
-            drop_fault(fault);
+            let _ = fault.give_up();
             false
         }
     }
@@ -136,7 +135,7 @@ fn polls_twice<R: Wait>(rt: &R, queue: &SharedQueue, seat: &mut QueueSeat) -> bo
         }
         Ok(Polled::Empty | Polled::Closed) => false,
         Err(fault) => {
-            drop_fault(fault);
+            let _ = fault.give_up();
             false
         }
     }
@@ -151,17 +150,17 @@ fn is_open_once_closed<R: Wait>(rt: &R, queue: SharedQueue, mut seat: QueueSeat)
         Ok(_) => match queue.finish(seat) {
             Ok(mut left) => {
                 let is_open = left.close();
-                give_up(Some(left));
+                end_queue(Ok(left));
                 Some(is_open)
             }
             Err(left) => {
-                give_up(left);
+                end_queue(Err(left));
                 None
             }
         },
         Err(fault) => {
-            drop_fault(fault);
-            end(queue.finish(seat));
+            let _ = fault.give_up();
+            end_queue(queue.finish(seat));
             None
         }
     }
@@ -174,7 +173,7 @@ fn a_queue_that_was_closed_stays_so(rt: HostRuntime) -> Result<(), Fail> {
     let was_open = match closes_once(&rt, &queue, &mut seat) {
         Ok(was_open) => Some(was_open),
         Err(fault) => {
-            drop_fault(fault);
+            let _ = fault.give_up();
             None
         }
     };
@@ -224,7 +223,7 @@ fn own_in<R: Wait>(rt: &R, alloc: Global, number: QueueNo) -> Result<Option<bool
         }
     };
     let is_own = adds_its_own(rt, &queue, &mut seat, notice);
-    end(queue.finish(seat));
+    end_queue(queue.finish(seat));
     Ok(is_own)
 }
 
@@ -242,7 +241,7 @@ fn is_told<R: Wait>(rt: &R, alloc: Global) -> Result<bool, Fault> {
         }
     };
     let is_told = tells_that_turns_are_spent(rt, &queue, &mut seat, notice);
-    end(queue.finish(seat));
+    end_queue(queue.finish(seat));
     Ok(is_told)
 }
 

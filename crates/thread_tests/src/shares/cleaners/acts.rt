@@ -42,6 +42,8 @@ pub enum Act {
     Clean(u32, u32),
     /// Runs the jobs of what is gone, until the queue is closed.
     Loop,
+    /// Runs the jobs of what is gone whose notices stand.
+    Some,
     /// Counts the cleaner's turns.
     Served,
 }
@@ -61,7 +63,7 @@ pub enum Answer {
     Ran(u64, u64),
     /// So it did, and the hold of this reference came back.
     RanUnheld(u64, u64, u32),
-    /// The queue was closed, once so many jobs had run.
+    /// So many jobs had run as the queue was closed, or nothing stood in it any more.
     Ended(u64),
     /// The story has no job left.
     NoJob,
@@ -203,6 +205,31 @@ pub fn looped<R: Wait>(rt: &R, shared: Shared, chair: &mut Chair, hearing: &Hear
     }
 }
 
+/// Runs the jobs of what is gone whose notices stand.
+fn cleaned_some<R: Wait>(rt: &R, shared: Shared, chair: &mut Chair, hearing: &Hearing) -> Answer
+    requires { IsHeapSeat shared.heap.now chair.old.seats.heap
+        × IsQueueSeat shared.queue.now chair.old.seats.queue
+        × IsCleanSeat shared.cleaner.now.turn chair.old.cleaner.seat }
+    ensures { IsHeapSeat shared.entry.heap.now chair.new.seats.heap
+        × IsQueueSeat shared.entry.queue.now chair.new.seats.queue
+        × IsCleanSeat shared.entry.cleaner.now.turn chair.new.cleaner.seat }
+{
+    let Shared {
+        heap,
+        queue,
+        cleaner,
+    } = shared;
+    let own = &mut chair.cleaner;
+    let Seats {
+        heap: heap_seat,
+        queue: queue_seat,
+    } = &mut chair.seats;
+    match cleaner.clean_some(rt, own, heap, heap_seat, queue, queue_seat, hearing) {
+        Ok(count) => Answer::Ended(count),
+        Err(fault) => Answer::Share(refusal(rt, shared, chair, fault)),
+    }
+}
+
 /// Does this, and tells what was answered. Jobs are registered from the first on.
 pub fn done<R: Wait>(
     rt: &R,
@@ -229,6 +256,7 @@ pub fn done<R: Wait>(
         },
         Act::Clean(reference, slot) => cleaned(rt, shared, chair, reference, slot),
         Act::Loop => looped(rt, shared, chair, hearing),
+        Act::Some => cleaned_some(rt, shared, chair, hearing),
         Act::Served => Answer::Share(Told::Served(shared.cleaner.served(&mut chair.cleaner))),
     }
 }

@@ -225,3 +225,29 @@ fn without_a_turn_for_its_hold_a_job_still_runs(rt: HostRuntime) -> Result<(), F
     };
     agree(&rt, rt.alloc(), &story)
 }
+
+#[test]
+fn jobs_whose_notices_stand_run_without_waiting(rt: HostRuntime) -> Result<(), Fail> {
+    let story = Story {
+        jobs: &[1, 2],
+        calls: &[
+            share(new(0, 1)),
+            (Act::Some, Answer::Ended(0)),
+            register(0, 1, 2),
+            register(0, 2, 3),
+            (Act::Some, Answer::Ended(0)),
+            share(ENQUEUE),
+            share((Call::Enqueue(2), Told::Enqueued(true))),
+        ],
+        then: &[
+            (Act::Some, Answer::Ended(2)),
+            (Act::Some, Answer::Ended(0)),
+            share(CLOSE),
+            (Act::Some, Answer::Ended(0)),
+        ],
+        heard: (1, 1),
+        called: 2,
+        ..quiet()
+    };
+    agree(&rt, rt.alloc(), &story)
+}

@@ -1,0 +1,128 @@
+//! What the answers of shared heaps and queues print, and what callers do about faults.
+
+use super::{CONFIG, M, Q};
+use ref_base::{Fault, ObjNo, SlotNo, Strength};
+use ref_clear::{Heap, Notice};
+use ref_queue::Ran;
+use ref_share::{Cleaned, Delivery, Polled, ShareFault};
+use std::alloc::Global;
+use std::fmt;
+use std::process::Abort;
+use std::test::Fail;
+
+/// It prints so.
+fn prints(
+    rt: &impl Abort,
+    alloc: Global,
+    value: &impl fmt::Display,
+    want: &str,
+) -> Result<(), Fail> {
+    assert_eq!(rt; format!(in alloc; "{value}")?.as_str(), want);
+    Ok(())
+}
+
+/// The notice of reference 2.
+fn notice(alloc: Global) -> Result<Option<Notice>, Fault> {
+    let mut heap = Heap::new(alloc, CONFIG, 0)?;
+    heap.alloc_obj(M, SlotNo(0), 0)?;
+    heap.alloc_ref(M, SlotNo(1), Strength::Weak, SlotNo(0), Some(Q), 0)?;
+    heap.unhook(M, SlotNo(1))
+}
+
+/// A fault prints so, and is this for its caller.
+fn gives_up(
+    rt: &impl Abort,
+    alloc: Global,
+    fault: ShareFault,
+    text: &str,
+    want: Result<(), Fault>,
+) -> Result<(), Fail> {
+    let printed = prints(rt, alloc, &fault, text);
+    assert_eq!(rt; fault.give_up(), want);
+    printed
+}
+
+#[test]
+fn each_fault_prints_what_comes_back_and_is_given_up(rt: HostRuntime) -> Result<(), Fail> {
+    let alloc = rt.alloc();
+    let spent = Fault::TurnsSpent;
+    gives_up(&rt, alloc, ShareFault::Busy, "another turn is open", Ok(()))?;
+    gives_up(
+        &rt,
+        alloc,
+        Fault::NoCell.into(),
+        "refused: NoCell",
+        Err(Fault::NoCell),
+    )?;
+    if let Some(notice) = notice(alloc)? {
+        let fault = ShareFault::Notice(notice, Fault::NoMemory);
+        let text = "the notice of 2 comes back: NoMemory";
+        gives_up(&rt, alloc, fault, text, Err(Fault::NoMemory))?;
+    }
+    if let Some(notice) = notice(alloc)? {
+        let fault = ShareFault::Held(notice.into_hold(), spent);
+        gives_up(
+            &rt,
+            alloc,
+            fault,
+            "the hold of 2 comes back: TurnsSpent",
+            Err(spent),
+        )?;
+    }
+    Ok(())
+}
+
+/// What a poll answered prints so.
+fn polled_prints(rt: &impl Abort, alloc: Global, polled: Polled, want: &str) -> Result<(), Fail> {
+    let printed = prints(rt, alloc, &polled, want);
+    match polled {
+        Polled::Took(notice) => notice.into_hold().leak(),
+        Polled::Empty | Polled::Closed | Polled::TimedOut => {}
+    }
+    printed
+}
+
+/// What a clean did prints so.
+fn cleaned_prints(
+    rt: &impl Abort,
+    alloc: Global,
+    cleaned: Cleaned,
+    want: &str,
+) -> Result<(), Fail> {
+    let printed = prints(rt, alloc, &cleaned, want);
+    match cleaned {
+        Cleaned::Ran(_, Some(hold)) => hold.leak(),
+        Cleaned::Ran(_, None) | Cleaned::Gone => {}
+    }
+    printed
+}
+
+#[test]
+fn each_answer_prints_as_one_line(rt: HostRuntime) -> Result<(), Fail> {
+    let alloc = rt.alloc();
+    prints(&rt, alloc, &Delivery::Nothing, "nothing")?;
+    prints(
+        &rt,
+        alloc,
+        &Delivery::Added(ObjNo(2), Q, 7),
+        "2 added to q0 at 7",
+    )?;
+    prints(&rt, alloc, &Delivery::Dropped(ObjNo(2)), "2 dropped")?;
+    if let Some(notice) = notice(alloc)? {
+        polled_prints(&rt, alloc, Polled::Took(notice), "took 2")?;
+    }
+    polled_prints(&rt, alloc, Polled::Empty, "empty")?;
+    polled_prints(&rt, alloc, Polled::Closed, "closed")?;
+    polled_prints(&rt, alloc, Polled::TimedOut, "timed out")?;
+    let ran = Ran {
+        number: 3,
+        answer: 1003,
+    };
+    cleaned_prints(
+        &rt,
+        alloc,
+        Cleaned::Ran(ran, None),
+        "ran 3, which answered 1003",
+    )?;
+    cleaned_prints(&rt, alloc, Cleaned::Gone, "gone")
+}
