@@ -22,6 +22,7 @@ pub mod ScriptStanding
 pub mod Traces
 pub mod Listings
 pub mod StressChecks
+pub mod StressEvidence
 pub mod StressSeats
 pub mod DeclarationViews
 pub mod GraphReading

@@ -2,6 +2,7 @@
 #![tactic(auto)]
 
 mod declarations;
+mod evidence;
 mod fault;
 mod graph_text;
 mod jobs;
@@ -26,6 +27,7 @@ mod threads;
 mod told;
 mod trace;
 
+pub use evidence::{Evidence, evidence_of};
 pub use fault::{LineFault, TextFault};
 pub use listing::strength_text;
 pub use lists::{Check, check_lists};
@@ -33,5 +35,5 @@ pub use sink::{TextSink, ToWriter, WriteFailed};
 pub use source::{FromReader, ReadError, TextSource};
 pub use stress_options::StressOptions;
 pub use tally::{Counts, Tally};
-pub use threads::stress;
+pub use threads::{StressLists, stress, stress_lists};
 pub use trace::run_script;

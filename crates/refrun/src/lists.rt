@@ -95,7 +95,7 @@ fn are_in_order<B: Allocator>(lists: &[Vec<ObjNo, B>], enqueued: &[ObjNo]) -> bo
 }
 
 /// Whether a list is what is left of `enqueued` where some numbers are taken out.
-fn is_in_order(list: &[ObjNo], enqueued: &[ObjNo]) -> bool
+pub(crate) fn is_in_order(list: &[ObjNo], enqueued: &[ObjNo]) -> bool
     ensures { result ≡ is_subsequence list.now enqueued.now }
 {
     let mut rest = list;

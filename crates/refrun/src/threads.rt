@@ -1,10 +1,11 @@
-//! A stress run: threads over one heap and one queue, and the checks of the queue's lists once they have ended.
+//! A stress run: threads over one heap and one queue, and the queue's lists once they have ended.
 
 ghost use Rattle.std.specs.Prelude.{◌≡◌, All, IfOk};
 ghost use Rattle.ref_share.specs.HeapSeats.{IsHeapSeat};
 ghost use Rattle.ref_share.specs.QueueSeats.{IsQueueSeat};
 ghost use Rattle.refrun.specs.StressSeats.{IsSeated, IsSeatedAt};
 
+use crate::evidence::{Evidence, evidence_of};
 use crate::lists::{Check, check_lists};
 use crate::roles::{QUEUE, Running, Shared, Station};
 use crate::stress_options::StressOptions;
@@ -12,7 +13,7 @@ use crate::tally::Tally;
 use ref_base::{Fault, MutNo, ObjNo, WorkerNo};
 use ref_clear::Notice;
 use ref_queue::Queue;
-use ref_share::{HeapSeat, QueueSeat, SharedHeap, SharedQueue};
+use ref_share::{HeapSeat, QueueSeat, SharedHeap, SharedQueue, end_queue};
 use std::alloc::{AllocError, Global};
 use std::sync::Wait;
 use std::sync::atomic::{AtomicU32, Ordering};
@@ -53,8 +54,59 @@ impl Drop for Ending<'_> {
     }
 }
 
-/// Runs threads over one shared heap and one shared queue, and then looks at the queue's lists: the first check that
-/// fails, or `None` where all hold.
+/// What a stress run leaves: numbers of references, in order.
+#[derive(Drop)]
+pub struct StressLists {
+    /// What was put into the queue.
+    pub enqueued: Vec<ObjNo>,
+    /// What was taken from it.
+    pub taken: Vec<ObjNo>,
+    /// What stands in it.
+    pub stands: Vec<ObjNo>,
+    /// What each poller took.
+    pub pollers: Vec<Vec<ObjNo>>,
+}
+
+impl StressLists {
+    /// The first check that fails, or `None` where all hold. The one error is `NoMemory`.
+    pub fn check(&self, alloc: Global) -> Result<Option<Check>, Fault> {
+        check_lists(
+            alloc,
+            self.enqueued.as_slice(),
+            self.taken.as_slice(),
+            self.stands.as_slice(),
+            self.pollers.as_slice(),
+        )
+    }
+
+    /// What shows that this check fails. Takes no memory.
+    pub fn evidence(&self, check: Check) -> Option<Evidence> {
+        evidence_of(
+            check,
+            self.enqueued.as_slice(),
+            self.taken.as_slice(),
+            self.stands.as_slice(),
+            self.pollers.as_slice(),
+        )
+    }
+}
+
+/// Runs threads as `stress_lists` does, and then looks at the queue's lists: the first check that fails, or `None`
+/// where all hold. Its faults are those of `stress_lists`.
+pub fn stress<R: Threads + Wait + Sync>(
+    rt: &R,
+    alloc: Global,
+    options: StressOptions,
+    tally: &Tally,
+) -> Result<Option<Check>, Fault> {
+    match stress_lists(rt, alloc, options, tally)? {
+        Some(lists) => lists.check(alloc),
+        None => Ok(Some(Check::Rest)),
+    }
+}
+
+/// Runs threads over one shared heap and one shared queue, and gives the queue's lists and those of the pollers. `None`
+/// where a turn of the queue is open, so that nobody can say what stands.
 ///
 /// Mutators make weak references and enqueue every other one; workers run the collector and hand on what it cleared;
 /// pollers take what arrives. When the mutators have ended the workers do, the queue is closed, and the pollers take
@@ -62,12 +114,12 @@ impl Drop for Ending<'_> {
 ///
 /// `BadConfig` where mutators and pollers together, or workers, are not 1 to 8. `NoMemory` where a growth is refused,
 /// or the memory for threads. All its memory is of this allocator.
-pub fn stress<R: Threads + Wait + Sync>(
+pub fn stress_lists<R: Threads + Wait + Sync>(
     rt: &R,
     alloc: Global,
     options: StressOptions,
     tally: &Tally,
-) -> Result<Option<Check>, Fault> {
+) -> Result<Option<StressLists>, Fault> {
     let (heap, mut heap_seat) = SharedHeap::new(alloc, options.config(), 0)?;
     let (queue, mut queue_seat) = SharedQueue::new(alloc, QUEUE)?;
     let running = Running {
@@ -84,12 +136,11 @@ pub fn stress<R: Threads + Wait + Sync>(
     let lists = run(rt, alloc, &shared, &mut heap_seat, &mut queue_seat, options);
     match queue.finish(queue_seat) {
         Ok(queue) | Err(Some(queue)) => {
-            let answer = lists.and_then(|lists| checked(alloc, &queue, lists.as_slice()));
-            end(queue);
-            answer
+            let left = lists.and_then(|lists| lists_left(alloc, &queue, lists, options));
+            end_queue(Ok(queue));
+            left.map(Some)
         }
-        // A turn of the queue is open, so that nobody can say what stands.
-        Err(None) => lists.map(|_| Some(Check::Rest)),
+        Err(None) => lists.map(|_| None),
     }
 }
 
@@ -231,29 +282,24 @@ fn left_by<R: Wait>(rt: &R, alloc: Global, job: Job) -> Left
     }
 }
 
-/// The first check of the queue's lists that fails.
-fn checked(
+/// The lists of the queue, with those of the pollers: they are the last of all threads.
+fn lists_left(
     alloc: Global,
     queue: &Queue<Notice>,
-    lists: &[Vec<ObjNo>],
-) -> Result<Option<Check>, Fault> {
-    let enqueued = queue.enqueued(alloc)?;
-    let taken = queue.taken(alloc)?;
-    let stands = queue.stands(alloc)?;
-    check_lists(
-        alloc,
-        enqueued.as_slice(),
-        taken.as_slice(),
-        stands.as_slice(),
-        lists,
-    )
-}
-
-/// Gives up what stands in the queue. Its heap is gone.
-fn end(queue: Queue<Notice>) {
-    let mut standing = queue.end();
-    while let Some(notice) = standing.pop_front() {
-        notice.into_hold().leak();
+    lists: Vec<Vec<ObjNo>>,
+    options: StressOptions,
+) -> Result<StressLists, Fault> {
+    let others = options.mutators.saturating_add(options.workers);
+    let mut pollers = Vec::new(alloc);
+    for list in lists.into_iter().skip(others as usize) {
+        let Ok(()) = pollers.push(list) else {
+            return Err(Fault::NoMemory);
+        };
     }
-    standing.destroy_empty();
+    Ok(StressLists {
+        enqueued: queue.enqueued(alloc)?,
+        taken: queue.taken(alloc)?,
+        stands: queue.stands(alloc)?,
+        pollers,
+    })
 }

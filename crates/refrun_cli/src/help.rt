@@ -36,5 +36,7 @@ An example:
 
   refrun stress --mutators 4 --workers 4 --pollers 4 --rounds 10000
 
+Where a check fails, standard error says which poller and which numbers show it.
+
 Exit status: 0 each check passed; 2 a wrong command line; 3 writing failed;
 4 a check failed; 5 no memory.";

@@ -2,14 +2,16 @@
 
 use crate::{WRONG_COMMAND_LINE, help, report};
 use clap::{Arg, ArgAction, ArgMatches, Command, Error, value_parser};
-use ref_base::Fault;
-use refrun::{Check, StressOptions, Tally, TextFault, stress};
-use std::alloc::Global;
+use ref_base::{Fault, ObjNo};
+use refrun::{Check, StressLists, StressOptions, Tally, TextFault, stress_lists};
+use std::alloc::{AllocError, Global};
+use std::fmt::Write;
 use std::process::ExitCode;
+use std::rt::Files;
 use std::sync::{Condvar, Mutex, Wait};
-use std::thread;
 use std::thread::Threads;
 use std::time::{Clock, Duration};
+use std::{fs, io, thread};
 
 /// The status where a check fails.
 const CHECK_FAILED: u8 = 4;
@@ -23,6 +25,11 @@ pub fn command<'a>(alloc: Global) -> Result<Command<'a>, Error> {
         .long("quiet")
         .action(ArgAction::SetTrue)
         .help("Doesn't tell how far the run is");
+    let keep = Arg::new(alloc, "keep")
+        .long("keep")
+        .value_name("FOLDER")
+        .action(ArgAction::Set)
+        .help("Writes the run's lists into the folder");
     let command = Command::new(alloc, "stress")
         .about("Runs threads over one heap and one queue, and checks the queue's lists")
         .after_help(help::STRESS)
@@ -32,6 +39,7 @@ pub fn command<'a>(alloc: Global) -> Result<Command<'a>, Error> {
         .arg(count(alloc, "workers", "W", 8, "2").help("Threads that work for the collector"))?
         .arg(count(alloc, "pollers", "P", 8, "1").help("Threads that take what was enqueued"))?
         .arg(count(alloc, "rounds", "N", 10_000, "100").help("Rounds of each mutator"))?
+        .arg(keep)?
         .arg(quiet)?;
     Ok(command)
 }
@@ -45,10 +53,10 @@ fn count<'a>(alloc: Global, name: &'a str, value: &'a str, most: i64, default: &
         .default_value(default)
 }
 
-/// Runs the threads, and prints what the checks say.
+/// Runs the threads, keeps their lists where that is asked for, and prints what the checks say.
 ///
 /// `can_watch` says whether somebody may look on at standard error.
-pub fn run<R: Threads + Wait + Clock + Print + Eprint + AllocGlobal + Sync>(
+pub fn run<R: Threads + Wait + Clock + Files + Print + Eprint + AllocGlobal + Sync>(
     rt: &R,
     matches: &ArgMatches,
     can_watch: bool,
@@ -64,9 +72,55 @@ pub fn run<R: Threads + Wait + Clock + Print + Eprint + AllocGlobal + Sync>(
     let answer = if can_watch && !matches.get_flag("quiet") {
         watched(rt, options, &tally)
     } else {
-        stress(rt, rt.alloc(), options, &tally)
+        stress_lists(rt, rt.alloc(), options, &tally)
     };
-    tell(rt, answer)
+    let lists = match answer {
+        Ok(Some(lists)) => lists,
+        Ok(None) => return tell(rt, Ok(Some(Check::Rest))),
+        Err(fault) => return tell(rt, Err(fault)),
+    };
+    if let Some(folder) = matches.get_str("keep")
+        && keep(rt, rt.alloc(), folder, &lists).is_err()
+    {
+        return report(rt, TextFault::CannotWrite);
+    }
+    let failed = lists.check(rt.alloc());
+    if let Ok(Some(check)) = failed
+        && let Some(evidence) = lists.evidence(check)
+    {
+        let _ = rt.eprintln(format_args!("refrun: {evidence}"));
+    }
+    tell(rt, failed)
+}
+
+/// Writes the lists of a run into the folder, which is made if it isn't there: a file for each list, with a line for
+/// each number.
+fn keep<R: Files>(rt: &R, alloc: Global, folder: &str, lists: &StressLists) -> io::Result<()> {
+    fs::create_dir_all(rt, folder)?;
+    keep_list(rt, alloc, folder, "enqueued", lists.enqueued.as_slice())?;
+    keep_list(rt, alloc, folder, "taken", lists.taken.as_slice())?;
+    keep_list(rt, alloc, folder, "stands", lists.stands.as_slice())?;
+    for (poller, list) in lists.pollers.iter().enumerate() {
+        let name = format!(in alloc; "poller-{poller}")?;
+        keep_list(rt, alloc, folder, name.as_str(), list.as_slice())?;
+    }
+    Ok(())
+}
+
+/// Writes one list into the file of this name.
+fn keep_list<R: Files>(
+    rt: &R,
+    alloc: Global,
+    folder: &str,
+    name: &str,
+    list: &[ObjNo],
+) -> io::Result<()> {
+    let mut text = String::new(alloc);
+    for number in list {
+        writeln!(text, "{number}").map_err(|_| AllocError)?;
+    }
+    let path = format!(in alloc; "{folder}/{name}")?;
+    fs::write(rt, path.as_str(), text.as_str())
 }
 
 /// Runs the threads, and tells on standard error about once a second how far they are.
@@ -74,12 +128,12 @@ fn watched<R: Threads + Wait + Clock + Eprint + AllocGlobal + Sync>(
     rt: &R,
     options: StressOptions,
     tally: &Tally,
-) -> Result<Option<Check>, Fault> {
+) -> Result<Option<StressLists>, Fault> {
     let end = End::new();
     let (answer, ()) = thread::join(
         rt,
         || {
-            let answer = stress(rt, rt.alloc(), options, tally);
+            let answer = stress_lists(rt, rt.alloc(), options, tally);
             end.tell(rt);
             answer
         },

@@ -2,7 +2,7 @@
 
 use bumpalo::Bump;
 use ref_base::{Fault, ObjNo};
-use refrun::{Check, check_lists};
+use refrun::{Check, StressLists, check_lists};
 use std::alloc::{AllocError, Allocator, Global};
 use std::test::Fail;
 
@@ -231,6 +231,56 @@ fn each_check_prints_as_its_name(rt: HostRuntime) -> Result<(), Fail> {
     ];
     for (check, name) in names {
         assert_eq!(rt; format!(in rt.alloc(); "{check}")?.as_str(), name);
+    }
+    Ok(())
+}
+
+/// What shows that a case fails, by the case's place in the table.
+const SHOWN: [(usize, &str); 12] = [
+    (0, "2 was put in at 0 and at 1"),
+    (1, "poller 0 took 2 behind 3"),
+    (2, "no poller took 3"),
+    (3, "3 stands"),
+    (7, "7 was put in at 0 and at 3"),
+    (8, "poller 1 took 4 first"),
+    (9, "poller 0 took 2 behind 2"),
+    (10, "poller 1 took 3 behind 4"),
+    (11, "poller 1 took 3, and so did poller 0"),
+    (12, "poller 1 took 3, which the queue did not give"),
+    (14, "at 0 2 was put in and 3 taken"),
+    (16, "at 1 nothing was put in and 2 taken"),
+];
+
+/// What is told to show that a check of this case fails.
+fn shown_in(alloc: Global, case: &Case) -> Result<String, Fail> {
+    let mut pollers = Vec::new(alloc);
+    for list in case.lists {
+        pollers.push(objects(alloc, list)?)?;
+    }
+    let lists = StressLists {
+        enqueued: objects(alloc, case.enqueued)?,
+        taken: objects(alloc, case.taken)?,
+        stands: objects(alloc, case.stands)?,
+        pollers,
+    };
+    let shown = match lists.check(alloc)? {
+        Some(check) => lists.evidence(check),
+        None => None,
+    };
+    match shown {
+        Some(evidence) => Ok(format!(in alloc; "{evidence}")?),
+        None => Ok(format!(in alloc; "nothing")?),
+    }
+}
+
+#[test]
+fn what_shows_that_a_check_fails_is_told(rt: HostRuntime) -> Result<(), Fail> {
+    for (place, want) in SHOWN {
+        let text = match CASES.get(place) {
+            Some(case) => shown_in(rt.alloc(), case)?,
+            None => format!(in rt.alloc(); "no case")?,
+        };
+        assert_eq!(rt; text.as_str(), want, "case {place}");
     }
     Ok(())
 }

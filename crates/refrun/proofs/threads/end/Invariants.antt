@@ -1,9 +1,0 @@
-use Rattle.std.proofs.Common.{length}
-use Rattle.refrun.proofs.threads.end.Given as goal
-
-abbrev pub invariant-loop-notice : goal.invariant-loop-notice
-invariant-loop-notice l = Unit {0}
-
--- what still stands
-abbrev pub decreases-loop-notice : goal.decreases-loop-notice
-decreases-loop-notice l = length l.standing.items

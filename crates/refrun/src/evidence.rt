@@ -1,0 +1,304 @@
+//! What shows that a check of a queue's lists fails: which poller, and which two numbers.
+
+ghost use Rattle.std.specs.Prelude.{◌≡◌, ◌<◌, ◌+◌, false, length, slice_range, IfSome};
+ghost use Rattle.std.specs.List.{Contains};
+ghost use Rattle.ref_base.specs.CollectorRows.{is_subsequence};
+ghost use Rattle.refrun.specs.StressEvidence.{before_place, IsEvidence, ShowsTwice, ShowsOrder, ShowsTotal};
+ghost use Rattle.refrun.specs.StressEvidence.{ShowsAgain, ShowsRest};
+
+use crate::lists::{Check, is_in_order};
+use ref_base::ObjNo;
+use std::alloc::Allocator;
+use std::fmt;
+
+/// What shows that a check fails. It prints as a line. Pollers and places are counted from 0.
+#[derive(Clone, Copy, Debug, PartialEq, Eq)]
+pub enum Evidence {
+    /// Of `twice`: this number was put in at both places.
+    PutTwice {
+        number: ObjNo,
+        first: usize,
+        again: usize,
+    },
+    /// Of `order`: this poller took the number out of order, behind the other one, or as its first.
+    OutOfOrder {
+        poller: usize,
+        before: Option<ObjNo>,
+        number: ObjNo,
+    },
+    /// Of `total`: this poller took the number, which was not taken from the queue.
+    NotGiven {
+        poller: usize,
+        number: ObjNo,
+    },
+    /// Of `total`: this poller took the number, and the other poller too, or this one twice.
+    TakenTwice {
+        poller: usize,
+        other: usize,
+        number: ObjNo,
+    },
+    /// Of `total`: no poller took the number.
+    NotTaken {
+        number: ObjNo,
+    },
+    /// Of `rest`: the number stands in the queue.
+    Stands {
+        number: ObjNo,
+    },
+    /// Of `rest`: at this place the one number was put in, and the other was taken, if any.
+    TakenInPlaceOf {
+        place: usize,
+        put: Option<ObjNo>,
+        taken: Option<ObjNo>,
+    },
+}
+
+impl fmt::Display for Evidence {
+    fn fmt<W: fmt::Write>(&self, f: &mut fmt::Formatter<W>) -> fmt::Result {
+        match *self {
+            Evidence::PutTwice {
+                number,
+                first,
+                again,
+            } => write!(f, "{number} was put in at {first} and at {again}"),
+            Evidence::OutOfOrder {
+                poller,
+                before: Some(before),
+                number,
+            } => write!(f, "poller {poller} took {number} behind {before}"),
+            Evidence::OutOfOrder {
+                poller,
+                before: None,
+                number,
+            } => write!(f, "poller {poller} took {number} first"),
+            Evidence::NotGiven { poller, number } => {
+                write!(
+                    f,
+                    "poller {poller} took {number}, which the queue did not give"
+                )
+            }
+            Evidence::TakenTwice {
+                poller,
+                other,
+                number,
+            } => write!(
+                f,
+                "poller {poller} took {number}, and so did poller {other}"
+            ),
+            Evidence::NotTaken { number } => write!(f, "no poller took {number}"),
+            Evidence::Stands { number } => write!(f, "{number} stands"),
+            Evidence::TakenInPlaceOf { place, put, taken } => write!(
+                f,
+                "at {place} {} was put in and {} taken",
+                Told(put),
+                Told(taken)
+            ),
+        }
+    }
+}
+
+/// A number, or that there is none.
+#[derive(Clone, Copy)]
+struct Told(Option<ObjNo>);
+
+impl fmt::Display for Told {
+    fn fmt<W: fmt::Write>(&self, f: &mut fmt::Formatter<W>) -> fmt::Result {
+        match self.0 {
+            Some(number) => write!(f, "{number}"),
+            None => write!(f, "nothing"),
+        }
+    }
+}
+
+/// What shows that this check fails, the first in the order of the lists; none where nothing shows it. `lists` has what
+/// each poller took. In time of the square of the numbers. Takes no memory.
+pub fn evidence_of<B: Allocator>(
+    check: Check,
+    enqueued: &[ObjNo],
+    taken: &[ObjNo],
+    stands: &[ObjNo],
+    lists: &[Vec<ObjNo, B>],
+) -> Option<Evidence>
+    ensures { IfSome result (IsEvidence (λ v. v.items) enqueued.now taken.now stands.now lists.now) }
+{
+    match check {
+        Check::Twice => put_twice(enqueued),
+        Check::Order => out_of_order(enqueued, lists),
+        Check::Total => not_once(taken, lists),
+        Check::Rest => left_over(enqueued, taken, stands),
+    }
+}
+
+/// The first number that was put in a second time.
+fn put_twice(enqueued: &[ObjNo]) -> Option<Evidence>
+    ensures { IfSome result (ShowsTwice enqueued.now) }
+{
+    for again in 0..enqueued.len() {
+        let number = enqueued[again];
+        for first in 0..again {
+            if enqueued[first] == number {
+                return Some(Evidence::PutTwice {
+                    number,
+                    first,
+                    again,
+                });
+            }
+        }
+    }
+    None
+}
+
+/// The first number of a poller that is out of order.
+fn out_of_order<B: Allocator>(enqueued: &[ObjNo], lists: &[Vec<ObjNo, B>]) -> Option<Evidence>
+    ensures { IfSome result (ShowsOrder (λ v. v.items) enqueued.now lists.now) }
+{
+    for poller in 0..lists.len() {
+        let list = lists[poller].as_slice();
+        if let Some(place) = place_out_of_order(list, enqueued) {
+            return Some(Evidence::OutOfOrder {
+                poller,
+                before: number_before(list, place),
+                number: list[place],
+            });
+        }
+    }
+    None
+}
+
+/// What stands right in front of the place.
+fn number_before(list: &[ObjNo], place: usize) -> Option<ObjNo>
+    requires { place < length list.now }
+    ensures { result ≡ before_place list.now place }
+{
+    if place == 0 {
+        None
+    } else {
+        Some(list[place - 1])
+    }
+}
+
+/// The first place of a list up to which it is out of order.
+fn place_out_of_order(list: &[ObjNo], enqueued: &[ObjNo]) -> Option<usize>
+    ensures within { IfSome result (λ place. place < length list.now) }
+    ensures out { IfSome result (λ place.
+        is_subsequence (slice_range list.now 0 (place + 1)) enqueued.now ≡ false) }
+{
+    (0..list.len()).find(|place| !is_in_order(&list[..*place + 1], enqueued))
+}
+
+/// A number that no poller took just once, or that the queue did not give.
+fn not_once<B: Allocator>(taken: &[ObjNo], lists: &[Vec<ObjNo, B>]) -> Option<Evidence>
+    ensures { IfSome result (ShowsTotal (λ v. v.items) taken.now lists.now) }
+{
+    if let Some(evidence) = not_given(taken, lists) {
+        return Some(evidence);
+    }
+    if let Some(evidence) = taken_twice(lists) {
+        return Some(evidence);
+    }
+    not_taken(taken, lists)
+}
+
+/// The first number of a poller that was not taken from the queue.
+fn not_given<B: Allocator>(taken: &[ObjNo], lists: &[Vec<ObjNo, B>]) -> Option<Evidence>
+    ensures { IfSome result (ShowsTotal (λ v. v.items) taken.now lists.now) }
+{
+    for poller in 0..lists.len() {
+        if let Some(number) = number_outside(lists[poller].as_slice(), taken) {
+            return Some(Evidence::NotGiven { poller, number });
+        }
+    }
+    None
+}
+
+/// The first number of the list that is not among the others.
+fn number_outside(list: &[ObjNo], others: &[ObjNo]) -> Option<ObjNo>
+    ensures { IfSome result (λ n. Contains list.now n × ¬ (Contains others.now n)) }
+{
+    for number in list {
+        if !others.contains(number) {
+            return Some(*number);
+        }
+    }
+    None
+}
+
+/// The first number of a poller that an earlier one took, or it itself before.
+fn taken_twice<B: Allocator>(lists: &[Vec<ObjNo, B>]) -> Option<Evidence>
+    ensures { IfSome result (ShowsAgain (λ v. v.items) lists.now) }
+{
+    for poller in 0..lists.len() {
+        let list = lists[poller].as_slice();
+        if let Some(number) = number_again(list) {
+            return Some(Evidence::TakenTwice {
+                poller,
+                other: poller,
+                number,
+            });
+        }
+        for other in 0..poller {
+            if let Some(number) = number_of_both(list, lists[other].as_slice()) {
+                return Some(Evidence::TakenTwice {
+                    poller,
+                    other,
+                    number,
+                });
+            }
+        }
+    }
+    None
+}
+
+/// The first number of the list that stands in it before.
+fn number_again(list: &[ObjNo]) -> Option<ObjNo>
+    ensures { IfSome result (λ n. Contains list.now n) }
+{
+    for place in 0..list.len() {
+        let number = list[place];
+        if list[..place].contains(&number) {
+            return Some(number);
+        }
+    }
+    None
+}
+
+/// The first number of the list that is among the others.
+fn number_of_both(list: &[ObjNo], others: &[ObjNo]) -> Option<ObjNo>
+    ensures { IfSome result (λ n. Contains list.now n × Contains others.now n) }
+{
+    for number in list {
+        if others.contains(number) {
+            return Some(*number);
+        }
+    }
+    None
+}
+
+/// The first number that was taken from the queue, and that no poller took.
+fn not_taken<B: Allocator>(taken: &[ObjNo], lists: &[Vec<ObjNo, B>]) -> Option<Evidence>
+    ensures { IfSome result (ShowsTotal (λ v. v.items) taken.now lists.now) }
+{
+    for number in taken {
+        if !lists.iter().any(|list| list.contains(number)) {
+            return Some(Evidence::NotTaken { number: *number });
+        }
+    }
+    None
+}
+
+/// The first number that stands, or else the first place where another was taken than was put in.
+fn left_over(enqueued: &[ObjNo], taken: &[ObjNo], stands: &[ObjNo]) -> Option<Evidence>
+    ensures { IfSome result (ShowsRest enqueued.now taken.now stands.now) }
+{
+    if let Some(number) = stands.first() {
+        return Some(Evidence::Stands { number: *number });
+    }
+    for place in 0..enqueued.len().max(taken.len()) {
+        let put = enqueued.get(place).copied();
+        let taken = taken.get(place).copied();
+        if put != taken {
+            return Some(Evidence::TakenInPlaceOf { place, put, taken });
+        }
+    }
+    None
+}
