@@ -1,9 +1,10 @@
 -- The tags of a table's objects, as one of them changes, comes or goes.
 use Rattle.std.proofs.Common.{◌≡◌, ℕ, ◌==◌, refl, sym, ◌∙◌, ap, length, List, [], ◌∷◌, ◌++◌, Option, replicate}
-use Rattle.std.proofs.Common.{inl, inr}
-use Rattle.std.proofs.lemmas.Bool.{cases_Bool}
+use Rattle.std.proofs.Common.{map, true, false, inl, inr}
+use Rattle.std.proofs.lemmas.Bool.{cases_Bool, eqb-true, false≢true}
 use Rattle.ref_objects.proofs.Common.{Reference, Config, IsSoundGround, seen_ground, Tabled, Table, tabled_at, holds_of}
 use Rattle.ref_objects.proofs.Common.{changed, changed_tabled, made_entry, unmarked_tabled, without_tabled}
+use Rattle.ref_objects.proofs.Common.{has, numbers, objects_of}
 use Rattle.ref_objects.specs.Tables.{tags_of, tabled_cleared_in, with_cleared_in}
 use Rattle.ref_objects.specs.Grounds.{Tag, cleared_in_at, with_new_tag, without_tag, with_cleared_tag}
 use Rattle.ref_objects.proofs.TabledLemmas.{objects_of-same}
@@ -92,3 +93,60 @@ seen_cleared_in config heap_no t slots clock next n cycle =
       marked_of-changed t.tabled n (with_cleared_in cycle) (λ k. refl) (λ k. refl),
       tags_of-cleared t.tabled n cycle,
     ) refl
+
+-- ---- what is read of tags
+
+-- each object has its tag
+pub numbers-tags_of : (ks : List Tabled) → map (λ t. t.no) (tags_of ks) ≡ numbers (objects_of ks)
+numbers-tags_of [] = refl
+numbers-tags_of (k ∷ ks) = ap (λ ns. k.object.no ∷ ns) (numbers-tags_of ks)
+
+-- a new object was never cleared
+pub cleared_in_at-new : (ts : List Tag) (m n : ℕ) → cleared_in_at (with_new_tag ts m) n ≡ cleared_in_at ts n
+cleared_in_at-new [] m n =
+    elim (cases_Bool (m == n)) [ inl same ↦ simp same refl | inr other ↦ simp other refl ]
+cleared_in_at-new (t ∷ ts) m n =
+    elim (cases_Bool (t.no == n)) [
+      | inl same ↦ simp same refl
+      | inr other ↦ simp other (cleared_in_at-new ts m n)
+    ]
+
+-- where one object goes, the others are as they were
+pub cleared_in_at-without : (ts : List Tag) (m n : ℕ) → (m == n) ≡ false
+    → cleared_in_at (without_tag ts m) n ≡ cleared_in_at ts n
+cleared_in_at-without [] m n apart = refl
+cleared_in_at-without (t ∷ ts) m n apart =
+    elim (cases_Bool (t.no == m)) [
+      | inl gone ↦
+          let other : (t.no == n) ≡ false = ap (λ i. i == n) (eqb-true t.no m gone) ∙ apart in
+          simp (gone, other) refl
+      | inr stays ↦ elim (cases_Bool (t.no == n)) [
+        | inl same ↦ simp (stays, same) refl
+        | inr other ↦ simp (stays, other) (cleared_in_at-without ts m n apart)
+      ]
+    ]
+
+-- where one is cleared, the others are as they were
+pub cleared_in_at-other : (ts : List Tag) (m n cycle : ℕ) → (m == n) ≡ false
+    → cleared_in_at (with_cleared_tag ts m cycle) n ≡ cleared_in_at ts n
+cleared_in_at-other [] m n cycle apart = refl
+cleared_in_at-other (t ∷ ts) m n cycle apart =
+    elim (cases_Bool (t.no == m)) [
+      | inl here ↦
+          let other : (t.no == n) ≡ false = ap (λ i. i == n) (eqb-true t.no m here) ∙ apart in
+          simp (here, other) refl
+      | inr later ↦ elim (cases_Bool (t.no == n)) [
+        | inl same ↦ simp (later, same) refl
+        | inr other ↦ simp (later, other) (cleared_in_at-other ts m n cycle apart)
+      ]
+    ]
+
+-- and that one in this cycle
+pub cleared_in_at-own : (ts : List Tag) (n cycle : ℕ) → has (map (λ t. t.no) ts) n ≡ true
+    → cleared_in_at (with_cleared_tag ts n cycle) n ≡ cycle
+cleared_in_at-own [] n cycle there = absurd (false≢true there)
+cleared_in_at-own (t ∷ ts) n cycle there =
+    elim (cases_Bool (t.no == n)) [
+      | inl same ↦ simp same refl
+      | inr other ↦ simp other (cleared_in_at-own ts n cycle (simp other at there))
+    ]

@@ -2,9 +2,9 @@
 -- `java.lang.ref` of Java SE 17 for what making a reference does; numbers, slots, holds and cells: this project's
 -- profile). The functions of a heap are those of the model of the whole collector.
 use Rattle.std.specs.Prelude.{◌≡◌, ℕ, ◌+◌, ◌*◌, ◌/◌, ◌^◌, ◌≤◌, Bool, ◌==◌, ◌&&◌, not, if◌then◌else◌, nat_le}
-use Rattle.std.specs.Prelude.{List, [], ◌∷◌, ◌++◌, length, Option, Some, None, Result, Ok, Err}
+use Rattle.std.specs.Prelude.{List, [], ◌∷◌, ◌++◌, length, map, Option, Some, None, Result, Ok, Err}
 use Rattle.ref_base.specs.Members.{has, without_first}
-use Rattle.ref_base.specs.Graphs.{Object, Reference, is_there}
+use Rattle.ref_base.specs.Graphs.{Object, Reference, is_there, numbers}
 use Rattle.ref_base.specs.Limits.{is_within_limits}
 use Rattle.ref_base.specs.Orderly.{IsOrderly}
 use Rattle.ref_base.specs.Heaps.{Heap, first_heap, slot_at, with_hold, made, one_more, one_fewer}
@@ -206,9 +206,10 @@ after_freeing g n =
 -- ---- what holds at all times
 
 -- objects and slots are in order, and so are the holds; there are at most as many objects as cells, and marks as
--- objects
+-- objects; and each object has its tag
 pub record IsWellFormed (g : Ground) : Type 0 where
   pub orderly : IsOrderly g.heap g.next
   pub held : IsInOrder g.heap.holds
   pub few : length g.heap.objects ≤ g.heap.config.cells
   pub marks : length g.marked ≤ length g.heap.objects
+  pub tagged : map (λ t. t.no) g.tags ≡ numbers g.heap.objects
