@@ -8,8 +8,8 @@ use Rattle.ref_base.specs.Strengths.{IsRising}
 use Rattle.ref_base.specs.Heaps.{reference_in}
 use Rattle.ref_objects.specs.Grounds.{fields_in, Tag}
 
--- an object of the table, how many holds of it are out, whether it is marked, and the cycle in which a worker cleared it
--- last, or 0
+-- an object of the table, how many holds of it are out, whether it is marked, and the cycle in which a worker cleared
+-- it last, or 0
 pub record Tabled : Type 0 where
   pub object : Object
   pub holds : ℕ

@@ -183,7 +183,8 @@ impl<A: Allocator + Copy> Table<A> {
         }
     }
 
-    /// The cycle in which a worker cleared the object of this number last: 0 where none did, or there is no such object.
+    /// The cycle in which a worker cleared the object of this number last: 0 where none did, and where there is no such
+    /// object.
     pub(crate) fn cleared_in(&self, no: ObjNo) -> u64
         ensures { result ≡ tabled_cleared_in (tabled_at self.now.tabled no) }
     {

@@ -150,7 +150,8 @@ impl<A: Allocator + Copy> Objects<A> {
         self.reference_of(no)?.queue
     }
 
-    /// The cycle in which a worker cleared the object of this number last: 0 where none did, or there is no such object.
+    /// The cycle in which a worker cleared the object of this number last: 0 where none did, and where there is no such
+    /// object.
     pub fn cleared_in(&self, no: ObjNo) -> u64
         ensures { result ≡ cleared_in_at self.now.tags no }
     {
