@@ -1,15 +1,14 @@
 -- What is pending is seen as before where each reference keeps its queue and the cycle in which it was cleared.
 use Rattle.std.proofs.Common.{◌≡◌, ℕ, ◌==◌, true, List, [], ◌∷◌, refl, ap, subst, sym, ◌∙◌}
 use Rattle.std.specs.Option.{unwrap_or, IsSome}
-use Rattle.ref_clear.proofs.Common.{has, is_there, Object, reference_at, registered_in, Pending, joined, CycleHeap}
-use Rattle.ref_clear.proofs.Common.{with_mark, seen_heap, IsSoundHeap, pending_in, pendings_in, pending_lists_of}
-use Rattle.ref_clear.proofs.Common.{AreRegistered, Worklist, worklists_of}
-use Rattle.ref_objects.specs.Grounds.{Tag, cleared_in_at}
-use Rattle.ref_base.proofs.HasLaws.{has-first, has-left, has-right}
 use Rattle.std.proofs.lemmas.Bool.{or_right}
+use Rattle.ref_clear.proofs.Common.{has, is_there, Object, reference_at, registered_in, Pending, joined, CycleHeap}
+use Rattle.ref_clear.proofs.Common.{shaded_all, with_mark, seen_heap, IsSoundHeap, pending_in, pendings_in}
+use Rattle.ref_clear.proofs.Common.{pending_lists_of, AreRegistered, Worklist, worklists_of}
+use Rattle.ref_base.proofs.HasLaws.{has-first, has-left, has-right}
+use Rattle.ref_objects.specs.Grounds.{Tag, cleared_in_at}
 use Rattle.ref_mark.proofs.KeptTags.{KeepsCycles, shaded_all-tags}
 use Rattle.ref_mark.proofs.LoopLemmas.{shaded_heap}
-use Rattle.ref_mark.specs.CycleHeaps.{shaded_all}
 use Rattle.ref_clear.proofs.KeptReferences.{KeepsReferences}
 use Rattle.ref_clear.proofs.PendingFacts.{pending_is_there}
 use Rattle.ref_clear.proofs.PendingLists.{pending_numbers-seen}

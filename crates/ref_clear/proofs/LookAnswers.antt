@@ -224,6 +224,15 @@ module _ {k : CycleHeap} {lists : List Worklist} {swept_to : ℕ} (w : ℕ)
 
 -- ---- what the code has read
 
+-- a queue, or none
+some_is : (q : Option ℕ) → is_some q ≡ true → q ≡ Some (unwrap_or q 0)
+some_is None some = absurd (false≢true some)
+some_is (Some q) some = refl
+
+no_queue_is : (q : Option ℕ) → is_some q ≡ false → q ≡ None
+no_queue_is None none = refl
+no_queue_is (Some q) none = absurd (true≢false none)
+
 -- once a reference is taken, all objects are as before
 module _ (k : CycleHeap) (w : ℕ) {t : CycleHeap} {g : Ground} (taken : t ≡ with_found_taken k w)
     (objects : g ≡ ground_of t) where
@@ -253,16 +262,8 @@ module _ (k : CycleHeap) (w : ℕ) {t : CycleHeap} {g : Ground} (taken : t ≡ w
           ap (refers_into (is_doomed k)) (read_before ∙ is) ∙ ap (any_is (is_doomed k)) referent
           ∙ ap (λ (i : CycleHeap). is_doomed i m) (sym taken) ∙ doomed
 
-      queue_is : (q : Option ℕ) → is_some q ≡ true → q ≡ Some (unwrap_or q 0)
-      queue_is None some = absurd (false≢true some)
-      queue_is (Some q) some = refl
-
-      queue_is_none : (q : Option ℕ) → is_some q ≡ false → q ≡ None
-      queue_is_none None none = refl
-      queue_is_none (Some q) none = absurd (true≢false none)
-
       pub queue_read : is_some r.queue ≡ true → registered_in (reference_at k.heap n) ≡ Some (unwrap_or r.queue 0)
-      queue_read some = ap registered_in (read_before ∙ is) ∙ queue_is r.queue some
+      queue_read some = ap registered_in (read_before ∙ is) ∙ some_is r.queue some
 
       pub no_queue_read : is_some r.queue ≡ false → registered_in (reference_at k.heap n) ≡ None
-      no_queue_read none = ap registered_in (read_before ∙ is) ∙ queue_is_none r.queue none
+      no_queue_read none = ap registered_in (read_before ∙ is) ∙ no_queue_is r.queue none
