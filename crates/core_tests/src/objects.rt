@@ -52,6 +52,7 @@ enum Set {
     ClockTo(u64),
     Stamp(u32, u64),
     Cut(u32),
+    Cleared(u32, u64),
     UnmarkAll,
     CloseGaps,
 }
@@ -77,6 +78,7 @@ enum Ask {
     ReferentOf(u32),
     StampOf(u32),
     QueueOf(u32),
+    ClearedIn(u32),
     FirstFrom(u32),
     IsHeld(u32),
     HeldFrom(u32),
@@ -138,6 +140,7 @@ fn after_setting<A: Allocator + Copy>(heap: &mut Objects<A>, call: Set) -> Told 
         Set::ClockTo(now) => heap.set_clock(now),
         Set::Stamp(no, stamp) => heap.set_stamp(ObjNo(no), stamp),
         Set::Cut(no) => heap.cut(ObjNo(no)),
+        Set::Cleared(no, cycle) => heap.set_cleared_in(ObjNo(no), cycle),
         Set::UnmarkAll => heap.unmark_all(),
         Set::CloseGaps => heap.close_gaps(),
     }
@@ -163,6 +166,7 @@ fn asked<A: Allocator + Copy>(heap: &Objects<A>, call: Ask) -> Told {
         Ask::ReferentOf(no) => value(heap.referent_of(ObjNo(no))),
         Ask::StampOf(no) => Told::Time(heap.stamp_of(ObjNo(no))),
         Ask::QueueOf(no) => queue(heap.queue_of(ObjNo(no))),
+        Ask::ClearedIn(no) => Told::Began(heap.cleared_in(ObjNo(no))),
         Ask::FirstFrom(no) => found(heap.first_from(ObjNo(no))),
         Ask::IsHeld(no) => is(heap.is_held(ObjNo(no))),
         Ask::HeldFrom(no) => found(heap.held_from(ObjNo(no))),

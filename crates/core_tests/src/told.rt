@@ -37,7 +37,7 @@ pub enum Told {
     /// A hold of this object, of the heap of this number.
     Held(u32, u64),
     EmptyHand,
-    /// This cycle began.
+    /// This cycle began, or is the one of a clear: 0 where none was.
     Began(u64),
     /// This object was scanned.
     Scanned(u32),

@@ -1,9 +1,12 @@
--- What is left of some objects where those of some numbers go.
+-- What is left of some objects, and of their tags, where those of some numbers go.
 use Rattle.std.proofs.Common.{◌≡◌, ℕ, zero, suc, ◌<◌, ◌≤◌, true, false, not, ◌||◌, ◌==◌, if◌then◌else◌}
 use Rattle.std.proofs.Common.{refl, sym, ap, subst, ◌∙◌, arith, List, [], ◌∷◌, ◌++◌, take, drop, Some, None, inl, inr}
 use Rattle.std.proofs.lemmas.Bool.{cases_Bool, cases_lt, false≢true, true≢false, eqb-true, eq-eqb, ne_eqb}
-use Rattle.std.proofs.lemmas.Bool.{or_cases, and_right}
+use Rattle.std.proofs.lemmas.Bool.{or_cases, or_parts, and_right}
 use Rattle.ref_clear.proofs.Common.{has, Object, object_at, is_there, numbers, IsRising, without, unmarked, first_in}
+use Rattle.ref_objects.specs.Grounds.{Tag, cleared_in_at, without_tag}
+use Rattle.ref_objects.proofs.TagLemmas.{cleared_in_at-without}
+use Rattle.ref_clear.specs.ClearHeaps.{without_tags}
 use Rattle.ref_base.proofs.HasLaws.{has-append}
 use Rattle.ref_base.proofs.NewClears.{IsRising-tail, is_there-rising}
 use Rattle.ref_mark.proofs.DoomedLists.{has-unmarked}
@@ -28,7 +31,20 @@ without-append ms ns (o ∷ os) =
           (ap (λ (ps : List Object). if has ns o.no then ps else o ∷ ps) (without-append ms ns os))
     ]
 
+pub without_tags-append : (ms : List ℕ) (n : ℕ) (ts : List Tag)
+    → without_tag (without_tags ms ts) n ≡ without_tags (ms ++ n ∷ []) ts
+without_tags-append [] n ts = refl
+without_tags-append (m ∷ ms) n ts = without_tags-append ms n (without_tag ts m)
+
 -- ---- look-ups
+
+-- those of other objects tell the cycle that they told
+pub cleared_in_at-left : (gone : List ℕ) (ts : List Tag) (n : ℕ) → has gone n ≡ false
+    → cleared_in_at (without_tags gone ts) n ≡ cleared_in_at ts n
+cleared_in_at-left [] ts n left = refl
+cleared_in_at-left (m ∷ ms) ts n left =
+    let parts = or_parts (m == n) (has ms n) left in
+    cleared_in_at-left ms (without_tag ts m) n parts.1 ∙ cleared_in_at-without ts m n parts.0
 
 -- what goes isn't there any more
 pub object_at-gone : (gone : List ℕ) (os : List Object) (n : ℕ) → has gone n ≡ true

@@ -1,18 +1,35 @@
 -- What the code of a hand answers and leaves.
-use Rattle.std.proofs.Common.{◌≡◌, ℕ, ◌<◌, true, refl, sym, ap, ◌∙◌}
-use Rattle.std.proofs.Common.{List, [], ◌∷◌, set, Some, None}
-use Rattle.std.proofs.lemmas.Bool.{lt-ltb}
+use Rattle.std.proofs.Common.{◌≡◌, ℕ, ◌<◌, ◌==◌, true, refl, sym, ap, subst, ◌∙◌}
+use Rattle.std.proofs.Common.{List, [], ◌∷◌, set, get_or, Some, None, inl, inr}
+use Rattle.std.proofs.lemmas.Bool.{lt-ltb, or_right}
 use Rattle.ref_clear.proofs.Common.{has, Pending, pending_numbers, is_worker, hand_refusal, Cycle, Fault, mint_refusal}
 use Rattle.ref_clear.proofs.Common.{CycleHeap, mint_answer_in, after_mint_in, ground_of, pending_at, holding}
-use Rattle.ref_clear.proofs.Common.{handed_from, refusal_in, answer_in, after_in, answer_of_hand, PendingList}
-use Rattle.ref_clear.proofs.Common.{pending_lists_of, seen_heap, IsSoundHeap, pending_from, without_first_pending}
+use Rattle.ref_clear.proofs.Common.{handed_from, refusal_in, answer_in, after_in, answer_of_hand, Worklist}
+use Rattle.ref_clear.proofs.Common.{pending_lists_of, pendings_in, seen_heap, AreRegistered, IsSoundHeap, pending_from}
+use Rattle.ref_clear.proofs.Common.{Object, rest_of}
 use Rattle.ref_base.specs.declared.heap_step.HeapStep.TheVariants as heap
 use Rattle.ref_base.specs.declared.reply.Reply.TheVariants as replies
 use Rattle.ref_base.proofs.HasLaws.{has-first, has-right}
-use Rattle.ref_clear.specs.ClearViews.{first_pending, rest_pending}
+use Rattle.ref_clear.specs.ClearViews.{first_pending}
+use Rattle.ref_objects.specs.Grounds.{Tag}
+use Rattle.ref_mark.specs.Worklists.{without_first_listed}
 use Rattle.ref_clear.proofs.HandRows.{pending_numbers-rest}
 use Rattle.ref_clear.proofs.NoticeAnswers.{mint_of_pending, mint_refused, minted}
-use Rattle.ref_clear.proofs.PendingLists.{lists_of-set}
+use Rattle.ref_clear.proofs.PendingLists.{lists_of-set, stands_as_seen, has-replaced}
+
+abbrev pub rest_pending : List Pending → List Pending
+rest_pending [] = []
+rest_pending (p ∷ ps) = ps
+
+-- what is told of the rest is the rest
+pendings_in-rest : (os : List Object) (ts : List Tag) (ns : List ℕ)
+    → pendings_in os ts (rest_of ns) ≡ rest_pending (pendings_in os ts ns)
+pendings_in-rest os ts [] = refl
+pendings_in-rest os ts (n ∷ ns) = refl
+
+has-rest : (ns : List ℕ) (n : ℕ) → has (rest_of ns) n ≡ true → has ns n ≡ true
+has-rest [] n within = within
+has-rest (m ∷ ns) n within = or_right (m == n) (has ns n) within
 
 -- a list by its first
 none_first : (ps : List Pending) → first_pending ps ≡ None → ps ≡ []
@@ -24,7 +41,7 @@ some_first [] p some = absurd (let wrong : None ≡ Some p = some in cc)
 some_first (q ∷ qs) p some =
     let same : q ≡ p = let e : Some q ≡ Some p = some in cc in ap (λ (r : Pending). r ∷ qs) same
 
-module _ {k : CycleHeap} {lists : List PendingList} {swept_to : ℕ} (w : ℕ) (sound : IsSoundHeap k lists swept_to)
+module _ {k : CycleHeap} {lists : List Worklist} {swept_to : ℕ} (w : ℕ) (sound : IsSoundHeap k lists swept_to)
     (within : w < k.heap.config.workers) where
   there : is_worker k.heap w ≡ true
   there = lt-ltb w k.heap.config.workers within
@@ -42,10 +59,12 @@ module _ {k : CycleHeap} {lists : List PendingList} {swept_to : ℕ} (w : ℕ) (
     are : pending_at (seen_heap k lists) w ≡ p ∷ rest_pending (pending_at (seen_heap k lists) w)
     are = some_first (pending_at (seen_heap k lists) w) p first
 
-    waits : has (pending_numbers (pending_lists_of lists)) p.object ≡ true
+    abbrev pss : List (List Pending)
+    pss = pending_lists_of k.heap.objects k.tags lists
+
+    waits : has (pending_numbers pss) p.object ≡ true
     waits =
-        let parts = pending_numbers-rest (pending_lists_of lists) w p (rest_pending (pending_at (seen_heap k lists) w))
-        are in
+        let parts = pending_numbers-rest pss w p (rest_pending (pending_at (seen_heap k lists) w)) are in
         ap (λ ns. has ns p.object) parts.2
         ∙ has-right parts.0 (p.object ∷ parts.1) p.object (has-first p.object parts.1)
 
@@ -60,28 +79,43 @@ module _ {k : CycleHeap} {lists : List PendingList} {swept_to : ℕ} (w : ℕ) (
     pub hand_refused : {j : CycleHeap} {fault : Fault} → replies.Refused fault ≡ mint_answer_in k p.object
         → j ≡ after_mint_in k p.object
         → (replies.Refused fault ≡ answer_in (seen_heap k lists) (heap.Hand w))
-        × (seen_heap j lists ≡ after_in (seen_heap k lists) (heap.Hand w))
+        × (seen_heap j lists ≡ after_in (seen_heap k lists) (heap.Hand w)) × AreRegistered j.heap.objects lists
     hand_refused {j} {fault} answer after =
         let mint = mint_refused k p.object fault answer after in
-        let is : refusal_in (seen_heap k lists) (heap.Hand w) ≡ Some fault = refusal ∙ mint.0 in
-        (simp is refl, ap (λ (i : CycleHeap). seen_heap i lists) mint.1 ∙ simp is refl)
+        let is : refusal_in (seen_heap k lists) (heap.Hand w) ≡ Some fault = refusal ∙ mint.0 in (
+          simp is refl,
+          ap (λ (i : CycleHeap). seen_heap i lists) mint.1 ∙ simp is refl,
+          subst (λ (i : CycleHeap). AreRegistered i.heap.objects lists) (sym mint.1) sound.registered,
+        )
 
-    pub handed : {j : CycleHeap} {l m : PendingList} {n : ℕ} → replies.Object n ≡ mint_answer_in k p.object
-        → j ≡ after_mint_in k p.object → l.stands ≡ pending_at (seen_heap k lists) w → m ≡ without_first_pending l
+    pub handed : {j : CycleHeap} {l m : Worklist} {n : ℕ} → replies.Object n ≡ mint_answer_in k p.object
+        → j ≡ after_mint_in k p.object → l ≡ get_or lists w l → m ≡ without_first_listed l
         → (replies.Notice n p.queue (Cycle p.cycle w) ≡ answer_in (seen_heap k lists) (heap.Hand w))
         × (seen_heap j (set lists w m) ≡ after_in (seen_heap k lists) (heap.Hand w))
-    handed {j} {l} {m} {n} answer after stands taken =
+        × AreRegistered j.heap.objects (set lists w m)
+    handed {j} {l} {m} {n} answer after read taken =
         let mint = minted k p.object n answer after in
         let is : refusal_in (seen_heap k lists) (heap.Hand w) ≡ None = refusal ∙ mint.0 in
-        let rest : m.stands ≡ rest_pending (pending_at (seen_heap k lists) w) =
-        ap (λ (i : PendingList). i.stands) taken ∙ ap rest_pending stands in
+        let rest : pendings_in k.heap.objects k.tags m.stands ≡ rest_pending (pending_at (seen_heap k lists) w) =
+        ap (λ (i : Worklist). pendings_in k.heap.objects k.tags i.stands) taken
+        ∙ pendings_in-rest k.heap.objects k.tags l.stands
+        ∙ ap rest_pending (stands_as_seen w sound within read) in
         let reply : answer_of_hand w (pending_at (seen_heap k lists) w) ≡ replies.Notice p.object p.queue
         (Cycle p.cycle w) =
         ap (answer_of_hand w) are in
         let left = ap (handed_from (seen_heap k lists) w) are in
-        let now = lists_of-set lists w m ∙ ap (λ (ps : List Pending). set (pending_lists_of lists) w ps) rest in (
+        let now =
+        lists_of-set k.heap.objects k.tags lists w m ∙ ap (λ (ps : List Pending). set pss w ps) rest in (
           ap (λ i. replies.Notice i p.queue (Cycle p.cycle w)) mint.1 ∙ sym reply ∙ simp is refl,
           ap (λ (i : CycleHeap). seen_heap i (set lists w m)) mint.2
-              ∙ ap (λ (pss : List (List Pending)). record { mark = holding k p.object; pending = pss }) now
+              ∙ ap (λ (qss : List (List Pending)). record { mark = holding k p.object; pending = qss }) now
               ∙ sym left ∙ simp is refl,
+          subst (λ (i : CycleHeap). AreRegistered i.heap.objects (set lists w m)) (sym mint.2) (λ i stands.
+              elim
+              (has-replaced (λ n. ⊥) lists w l m read
+              (λ n own. inr (has-rest l.stands n (subst (λ (i : Worklist). has i.stands n ≡ true) taken own))) i
+              stands) [
+                | inl none ↦ absurd none
+                | inr before ↦ sound.registered i before
+              ]),
         )

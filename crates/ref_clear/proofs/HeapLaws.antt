@@ -19,7 +19,7 @@ use Rattle.ref_mark.proofs.MarkLaws.{each_step as each_marking_step, on_own_heap
 use Rattle.ref_clear.specs.ClearCalls.{reply_or_fault, left}
 use Rattle.ref_clear.specs.ClearRows.{IsHeapRowOf}
 use Rattle.ref_clear.proofs.KeptRows.{row_keeps}
-use Rattle.ref_clear.proofs.StaysCleared.{after_stays, begun-heap, same_objects}
+use Rattle.ref_clear.proofs.KeptReferences.{after_stays, begun-heap, same_objects}
 use Rattle.ref_clear.proofs.PendingFacts.{waiting_still}
 use Rattle.ref_clear.proofs.UnhookRows.{unhook_row}
 use Rattle.ref_clear.proofs.HandRows.{hand_row}

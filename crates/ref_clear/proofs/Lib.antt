@@ -1,5 +1,5 @@
 pub mod Common
-pub mod StaysCleared
+pub mod KeptReferences
 pub mod PendingFacts
 pub mod FoundFacts
 pub mod UnhookRows
@@ -17,6 +17,8 @@ pub mod SoundEnds
 pub mod FirstHeaps
 pub mod PendingLists
 pub mod PendingRoom
+pub mod KeptPending
+pub mod MarkedHeaps
 pub mod ShadedLists
 pub mod BeginAnswers
 pub mod LookAnswers

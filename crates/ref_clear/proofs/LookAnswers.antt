@@ -1,20 +1,31 @@
 -- What the code of a look at a found reference asks and leaves, by what it has read of it.
 use Rattle.std.proofs.Common.{◌≡◌, ℕ, ◌<◌, ◌≤◌, Bool, true, false, refl, sym, ap, subst, ◌∙◌, arith}
-use Rattle.std.proofs.Common.{List, [], ◌∷◌, ◌++◌, length, get_or, set, Option, Some, None}
-use Rattle.std.proofs.lemmas.List.{set-get_or}
+use Rattle.std.proofs.Common.{List, [], ◌∷◌, ◌++◌, length, map, get_or, set, Option, Some, None, inl, inr, ◌==◌}
+use Rattle.std.proofs.lemmas.List.{set-get_or, map-append, length-map}
+use Rattle.std.proofs.lemmas.Bool.{ne_eqb, true≢false, false≢true}
+use Rattle.std.specs.Option.{unwrap_or, is_some, IsSome}
 use Rattle.ref_clear.proofs.Common.{Reference, is_there, reference_at, registered_in, any_is, refers_into, Pending}
 use Rattle.ref_clear.proofs.Common.{list_at, work_refusal, Clearing, Ground, CycleHeap, is_doomed, with_found_taken}
 use Rattle.ref_clear.proofs.Common.{unless_refused, ground_of, first_in, rest_of, ClearHeap, with_mark, pending_at}
-use Rattle.ref_clear.proofs.Common.{is_to_clear, cut_at, heap_pended, looked_from, after_in, PendingList, seen_heap}
-use Rattle.ref_clear.proofs.Common.{IsSoundHeap}
+use Rattle.ref_clear.proofs.Common.{is_to_clear, cut_at, heap_pended, looked_from, after_in, Worklist, seen_heap}
+use Rattle.ref_clear.proofs.Common.{IsSoundHeap, AreRegistered, has, joined, worklists_of, numbers, with_reference}
+use Rattle.ref_clear.proofs.Common.{cleared}
+use Rattle.ref_clear.proofs.Common.{pending_in, pendings_in}
 use Rattle.ref_base.specs.declared.heap_step.HeapStep.TheVariants as heap
-use Rattle.ref_objects.specs.Grounds.{IsWellFormed}
+use Rattle.ref_objects.specs.Grounds.{IsWellFormed, cleared_in_at}
+use Rattle.ref_objects.proofs.TagLemmas.{cleared_in_at-other, cleared_in_at-own}
+use Rattle.ref_base.proofs.HasLaws.{has-cases, has-single}
+use Rattle.ref_base.proofs.StoreLaws.{is_there-has}
 use Rattle.ref_mark.proofs.Moves.{referring_is_there}
 use Rattle.ref_mark.proofs.Passed.{work_passed}
 use Rattle.ref_clear.specs.ClearHeaps.{heap_looked_at}
-use Rattle.ref_clear.specs.ClearViews.{with_last_pending}
+use Rattle.ref_mark.specs.Worklists.{with_last}
+use Rattle.ref_clear.proofs.KeptPending.{AreKept, waits_there, seen_kept, registered_kept, lists_kept, told_same}
+use Rattle.ref_clear.proofs.KeptPending.{pendings_in-same}
+use Rattle.ref_clear.proofs.KeptReferences.{stays-changed, cleared-kept}
 use Rattle.ref_clear.proofs.PendingLists.{length-lists_of, lists_of-set, pending_at-seen, room_at, HaveRoom-set}
-use Rattle.ref_clear.proofs.PendingRoom.{pending_has_room}
+use Rattle.ref_clear.proofs.PendingLists.{pending_numbers-seen, has-list, has-replaced}
+use Rattle.ref_clear.proofs.PendingRoom.{pending_has_room, to_clear_is_not_pending}
 use Rattle.ref_clear.proofs.SoundHeaps.{sound_after}
 
 -- ---- the first of a list
@@ -30,7 +41,7 @@ none_is (n ∷ ns) first = absurd (let wrong : Some n ≡ None = first in cc)
 -- ---- what is left
 
 -- where a worker may look at what it found
-module _ {k : CycleHeap} {lists : List PendingList} {swept_to : ℕ} (w : ℕ)
+module _ {k : CycleHeap} {lists : List Worklist} {swept_to : ℕ} (w : ℕ)
     (accepted : work_refusal k.heap k.phase Clearing w ≡ None) (sound : IsSoundHeap k lists swept_to) where
   abbrev c : ClearHeap
   c = seen_heap k lists
@@ -41,6 +52,10 @@ module _ {k : CycleHeap} {lists : List PendingList} {swept_to : ℕ} (w : ℕ)
       sym
       (ap (λ refused. unless_refused refused (λ fault. c) (looked_from c w (list_at k.found w))) accepted
       ∙ ap (looked_from c w) is ∙ looked)
+
+  registered_taken : {j : CycleHeap} → j ≡ with_found_taken k w → AreRegistered j.heap.objects lists
+  registered_taken after =
+      subst (λ (i : CycleHeap). AreRegistered i.heap.objects lists) (sym after) sound.registered
 
   -- it found nothing more
   pub sound_none : {j : CycleHeap} → first_in (list_at k.found w) ≡ None → j ≡ with_found_taken k w
@@ -53,14 +68,14 @@ module _ {k : CycleHeap} {lists : List PendingList} {swept_to : ℕ} (w : ℕ)
       sound_after (heap.ClearNext w) refl sound
       (ap (λ (i : CycleHeap). seen_heap i lists) after
       ∙ ap (λ (found : List (List ℕ)). seen_heap (record k { found = found }) lists) same ∙ after_by [] c none refl)
-      sound.room
+      sound.room (registered_taken after)
 
   -- there is a list for each worker
   pub look_within : w < length lists
   look_within =
       let own : w < k.heap.config.workers = (work_passed k Clearing w accepted).0 in
       let workers = sound.stands.1.waiting.workers in
-      let same = length-lists_of lists in
+      let same = length-lists_of k.heap.objects k.tags lists in
       omega (arith, own, workers, same)
 
   -- this is the first that it found
@@ -77,7 +92,7 @@ module _ {k : CycleHeap} {lists : List PendingList} {swept_to : ℕ} (w : ℕ)
         sound_after (heap.ClearNext w) refl sound
         (ap (λ (i : CycleHeap). seen_heap i lists) after
         ∙ after_look (with_mark c (with_found_taken k w)) (simp stays refl))
-        sound.room
+        sound.room (registered_taken after)
 
     -- it is cleared
     module _ (goes : is_to_clear k n ≡ true) where
@@ -92,55 +107,131 @@ module _ {k : CycleHeap} {lists : List PendingList} {swept_to : ℕ} (w : ℕ)
       left_cut : {j t : CycleHeap} → t ≡ with_found_taken k w → j ≡ cut_at t n → j ≡ cut
       left_cut taken after = after ∙ ap (λ (i : CycleHeap). cut_at i n) taken
 
+      -- it isn't pending
+      apart : (m : ℕ) → has (joined (worklists_of lists)) m ≡ true → (n == m) ≡ false
+      apart m within =
+          ne_eqb n m
+          (λ same.
+          true≢false
+          (sym within ∙ ap (has (joined (worklists_of lists))) (sym same)
+          ∙ ap (λ ns. has ns n) (sym (pending_numbers-seen k.heap.objects k.tags lists))
+          ∙ to_clear_is_not_pending c sound.stands.0 n sound.stands.1 goes))
+
+      there : is_there k.heap.objects n ≡ true
+      there = referring_is_there (is_doomed k) k.heap n goes
+
+      -- each reference has its queue still
+      queue_still : (m : ℕ) → is_there k.heap.objects m ≡ true
+          → registered_in (reference_at cut.heap m) ≡ registered_in (reference_at k.heap m)
+      queue_still m is =
+          (stays-changed k.heap (Some n) (with_reference cleared) (λ o. refl) (λ o. cleared-kept o.reference) m is).1
+
+      -- so what is pending is seen as before
+      cut_kept : AreKept k cut lists
+      cut_kept m within =
+          (queue_still m (waits_there sound m within), cleared_in_at-other k.tags n m k.cycle (apart m within))
+
       -- without a queue nothing comes of it
       pub seen_cut : {j t : CycleHeap} → registered_in (reference_at k.heap n) ≡ None → t ≡ with_found_taken k w
           → j ≡ cut_at t n → seen_heap j lists ≡ after_in c (heap.ClearNext w)
       seen_cut none taken after =
-          ap (λ (i : CycleHeap). seen_heap i lists) (left_cut taken after) ∙ after_cut None none
+          ap (λ (i : CycleHeap). seen_heap i lists) (left_cut taken after) ∙ seen_kept k cut lists cut_kept
+          ∙ after_cut None none
 
       pub sound_cut : {j t : CycleHeap} → registered_in (reference_at k.heap n) ≡ None → t ≡ with_found_taken k w
           → j ≡ cut_at t n → IsSoundHeap j lists swept_to
       sound_cut none taken after =
           sound_after (heap.ClearNext w) refl sound (seen_cut none taken after) sound.room
+          (subst (λ (i : CycleHeap). AreRegistered i.heap.objects lists) (sym (left_cut taken after))
+          (registered_kept k cut lists cut_kept sound.registered))
 
       -- with one it goes last in the worker's list
-      module _ {l : PendingList} (is : l ≡ get_or lists w l) where
+      module _ {l : Worklist} (is : l ≡ get_or lists w l) where
         -- which has room
         pub look_has_room : length k.heap.objects ≤ k.heap.config.cells → length l.stands < l.room
         look_has_room few =
-            let there : is_there k.heap.objects n ≡ true = referring_is_there (is_doomed k) k.heap n goes in
             let spare = pending_has_room c sound.stands.0 n w sound.stands.1 there goes few in
-            let own : length l.stands ≡ length (pending_at c w) =
+            let own : length (pendings_in k.heap.objects k.tags l.stands) ≡ length (pending_at c w) =
             ap length (pending_at-seen k lists w l look_within is) in
+            let same = length-map l.stands (pending_in k.heap.objects k.tags) in
             let room = room_at lists k.heap.config.cells w l look_within is sound.room in
-            omega (arith, spare, own, room)
+            omega (arith, spare, own, same, room)
 
-        module _ {j t : CycleHeap} {m : PendingList} (q : ℕ)
+        module _ {j t : CycleHeap} {m : Worklist} (q : ℕ)
             (registered : registered_in (reference_at k.heap n) ≡ Some q) (taken : t ≡ with_found_taken k w)
-            (after : j ≡ cut_at t n)
-            (pushed : m ≡ with_last_pending l (record { object = n; queue = q; cycle = j.cycle })) where
+            (after : j ≡ cut_at t n) (pushed : m ≡ with_last l n)
+            (tagged : map (λ i. i.no) k.tags ≡ numbers k.heap.objects) where
+          -- what is told of it then
+          abbrev pended : Pending
+          pended = record { object = n; queue = q; cycle = k.cycle }
+
+          queue_told : registered_in (reference_at cut.heap n) ≡ Some q
+          queue_told = queue_still n there ∙ registered
+
+          cycle_told : cleared_in_at cut.tags n ≡ k.cycle
+          cycle_told =
+              cleared_in_at-own k.tags n k.cycle
+              (ap (λ ns. has ns n) tagged ∙ sym (is_there-has k.heap.objects n) ∙ there)
+
+          own_told : pending_in cut.heap.objects cut.tags n ≡ pended
+          own_told = λ i. record { object = n; queue = unwrap_or (queue_told i) 0; cycle = cycle_told i }
+
+          -- and of all in the list
+          list_told : pendings_in cut.heap.objects cut.tags m.stands ≡ pending_at c w ++ pended ∷ []
+          list_told =
+              ap (λ (i : Worklist). pendings_in cut.heap.objects cut.tags i.stands) pushed
+              ∙ map-append (pending_in cut.heap.objects cut.tags) l.stands (n ∷ [])
+              ∙ ap (λ p. pendings_in cut.heap.objects cut.tags l.stands ++ p ∷ []) own_told
+              ∙ ap (λ ps. ps ++ pended ∷ [])
+              (pendings_in-same k.heap.objects cut.heap.objects k.tags cut.tags l.stands
+              (λ i stands. told_same k cut i (cut_kept i (has-list lists w l i look_within is stands)))
+              ∙ pending_at-seen k lists w l look_within is)
+
           pub seen_pended : seen_heap j (set lists w m) ≡ after_in c (heap.ClearNext w)
           seen_pended =
-              let p : Pending = record { object = n; queue = q; cycle = k.cycle } in
-              let left : j ≡ cut = left_cut taken after in
-              let stands : m.stands ≡ pending_at c w ++ p ∷ [] =
-              ap (λ (i : PendingList). i.stands) pushed
-              ∙ ap (λ cycle. l.stands ++ record { object = n; queue = q; cycle = cycle } ∷ [])
-              (ap (λ (i : CycleHeap). i.cycle) left)
-              ∙ ap (λ (ps : List Pending). ps ++ p ∷ []) (pending_at-seen k lists w l look_within is) in
-              ap (λ (pss : List (List Pending)). record { mark = j; pending = pss }) (lists_of-set lists w m)
-              ∙ ap (λ (i : CycleHeap). record { mark = i; pending = set c.pending w m.stands }) left
-              ∙ ap (λ (ps : List Pending). record { mark = cut; pending = set c.pending w ps }) stands
+              ap (λ (i : CycleHeap). seen_heap i (set lists w m)) (left_cut taken after)
+              ∙ ap (λ (pss : List (List Pending)). record { mark = cut; pending = pss })
+              (lists_of-set cut.heap.objects cut.tags lists w m
+              ∙ ap (λ (pss : List (List Pending)). set pss w (pendings_in cut.heap.objects cut.tags m.stands))
+              (lists_kept k cut lists cut_kept)
+              ∙ ap (set c.pending w) list_told)
               ∙ after_cut (Some q) registered
+
+          all_registered : AreRegistered cut.heap.objects (set lists w m)
+          all_registered i within =
+              elim
+              (has-replaced (λ o. n ≡ o) lists w l m is
+              (λ o own.
+              elim
+              (has-cases l.stands (n ∷ []) o (subst (λ (h : Worklist). has h.stands o ≡ true) pushed own)) [
+                | inl before ↦ inr before
+                | inr last ↦ inl (has-single n o last)
+              ]) i within) [
+                | inl same ↦
+                    subst (λ o. IsSome (registered_in (reference_at cut.heap o))) same
+                    (subst IsSome (sym queue_told) refl)
+                | inr before ↦ registered_kept k cut lists cut_kept sound.registered i before
+              ]
 
           pub sound_pended : IsSoundHeap j (set lists w m) swept_to
           sound_pended =
               let own = room_at lists k.heap.config.cells w l look_within is sound.room in
-              let same : m.room ≡ l.room = ap (λ (i : PendingList). i.room) pushed in
+              let same : m.room ≡ l.room = ap (λ (i : Worklist). i.room) pushed in
               sound_after (heap.ClearNext w) refl sound seen_pended
               (HaveRoom-set lists k.heap.config.cells w m (omega (arith, own, same)) sound.room)
+              (subst (λ (i : CycleHeap). AreRegistered i.heap.objects (set lists w m)) (sym (left_cut taken after))
+              all_registered)
 
 -- ---- what the code has read
+
+-- a queue, or none
+some_is : (q : Option ℕ) → is_some q ≡ true → q ≡ Some (unwrap_or q 0)
+some_is None some = absurd (false≢true some)
+some_is (Some q) some = refl
+
+no_queue_is : (q : Option ℕ) → is_some q ≡ false → q ≡ None
+no_queue_is None none = refl
+no_queue_is (Some q) none = absurd (true≢false none)
 
 -- once a reference is taken, all objects are as before
 module _ (k : CycleHeap) (w : ℕ) {t : CycleHeap} {g : Ground} (taken : t ≡ with_found_taken k w)
@@ -148,6 +239,11 @@ module _ (k : CycleHeap) (w : ℕ) {t : CycleHeap} {g : Ground} (taken : t ≡ w
   pub few_taken : IsWellFormed g → length k.heap.objects ≤ k.heap.config.cells
   few_taken formed =
       subst (λ (h : Ground). length h.heap.objects ≤ h.heap.config.cells) (objects ∙ ap ground_of taken) formed.few
+
+  pub tagged_taken : IsWellFormed g → map (λ i. i.no) k.tags ≡ numbers k.heap.objects
+  tagged_taken formed =
+      subst (λ (h : Ground). map (λ i. i.no) h.tags ≡ numbers h.heap.objects) (objects ∙ ap ground_of taken)
+      formed.tagged
 
   module _ (n : ℕ) {read : Option Reference} (reads : read ≡ reference_at g.heap n) where
     read_before : reference_at k.heap n ≡ read
@@ -166,5 +262,8 @@ module _ (k : CycleHeap) (w : ℕ) {t : CycleHeap} {g : Ground} (taken : t ≡ w
           ap (refers_into (is_doomed k)) (read_before ∙ is) ∙ ap (any_is (is_doomed k)) referent
           ∙ ap (λ (i : CycleHeap). is_doomed i m) (sym taken) ∙ doomed
 
-      pub queue_read : {queue : Option ℕ} → r.queue ≡ queue → registered_in (reference_at k.heap n) ≡ queue
-      queue_read queue = ap registered_in (read_before ∙ is) ∙ queue
+      pub queue_read : is_some r.queue ≡ true → registered_in (reference_at k.heap n) ≡ Some (unwrap_or r.queue 0)
+      queue_read some = ap registered_in (read_before ∙ is) ∙ some_is r.queue some
+
+      pub no_queue_read : is_some r.queue ≡ false → registered_in (reference_at k.heap n) ≡ None
+      no_queue_read none = ap registered_in (read_before ∙ is) ∙ no_queue_is r.queue none

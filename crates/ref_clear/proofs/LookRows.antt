@@ -11,6 +11,7 @@ use Rattle.ref_clear.proofs.Common.{is_past_mark, is_doomed, doomed, with_found_
 use Rattle.ref_clear.proofs.Common.{ClearHeap, is_to_clear, cut_at, looked_from, refusal_in, answer_of_look}
 use Rattle.ref_clear.proofs.Common.{HeapStands}
 use Rattle.ref_base.specs.Replay.{pended as world_pended}
+use Rattle.ref_objects.specs.Grounds.{with_cleared_tag}
 use Rattle.ref_base.specs.CollectorRows.{looked_at as state_answer, looked as state_looked}
 use Rattle.ref_base.specs.declared.heap_step.HeapStep.TheVariants as heap
 use Rattle.ref_base.specs.declared.reply.Reply.TheVariants as replies
@@ -30,7 +31,7 @@ use Rattle.ref_clear.proofs.PendingRoom.{cleared_refers_to_none, to_clear_is_not
 use Rattle.ref_clear.proofs.TakenLists.{has-first_taken, pended_lists, length-pended, has-pended, AreDistinct-pended}
 use Rattle.ref_clear.proofs.TakenLists.{world-pended, heap-pended}
 use Rattle.ref_clear.proofs.LookedHeaps.{changed_here, changed_to_itself, leads-cleared}
-use Rattle.ref_clear.proofs.StaysCleared.{cleared-none}
+use Rattle.ref_clear.proofs.KeptReferences.{cleared-none}
 use Rattle.ref_clear.proofs.LookedHeaps.{MayLook, looked_heap, state_with, looked_stands}
 
 module _ (c : ClearHeap) (a : State) (w n : ℕ) (rest : List ℕ) (stands : HeapStands c a) (within : w < length c.pending)
@@ -89,7 +90,7 @@ module _ (c : ClearHeap) (a : State) (w n : ℕ) (rest : List ℕ) (stands : Hea
   passed_row stays =
       let k = c.mark in
       let same = changed_to_itself k.heap.objects n in
-      let j : CycleHeap = looked_heap k w n rest (λ o. o) in
+      let j : CycleHeap = looked_heap k w n rest (λ o. o) k.tags in
       let b : State = state_with a c.pending (slice_set a.found w rest) in
       let clear : has a.cleared n ≡ false = same_clear ∙ stays in
       let unmet : refers_into (has (doomed k)) (reference_at k.heap n) ≡ false = same_refers ∙ stays in
@@ -111,7 +112,7 @@ module _ (c : ClearHeap) (a : State) (w n : ℕ) (rest : List ℕ) (stands : Hea
       simp (clear, stays) (ap (λ r. if is_some (referent_of r) then replies.Kept n else replies.Skipped n) read) in
       row_of (record { mark = j; pending = c.pending }) b left after answer refl
       (record {
-        mark = looked_stands k a w n rest (λ o. o) c.pending stands.mark clearing is (λ o. refl) looks
+        mark = looked_stands k a w n rest (λ o. o) k.tags c.pending stands.mark clearing is (λ o. refl) looks
             (ap (λ os. shown_heap (record k { heap = record k.heap { objects = os } })) same)
             (λ m pending. inr (subst (λ pss. has (pending_numbers pss) m ≡ true) (sym stands.pending) pending));
         pending = refl;
@@ -128,7 +129,8 @@ module _ (c : ClearHeap) (a : State) (w n : ℕ) (rest : List ℕ) (stands : Hea
   cleared_row goes =
       let k = c.mark in
       let f : Object → Object = with_reference cleared in
-      let j : CycleHeap = looked_heap k w n rest f in
+      let tags = with_cleared_tag k.tags n k.cycle in
+      let j : CycleHeap = looked_heap k w n rest f tags in
       let queue = registered_in (reference_at k.heap n) in
       let pss = pended_lists c.pending w n queue k.cycle in
       let b : State = state_with a pss (slice_set a.found w rest) in
@@ -147,7 +149,7 @@ module _ (c : ClearHeap) (a : State) (w n : ℕ) (rest : List ℕ) (stands : Hea
       simp goes
       (heap-pended (record c { mark = cut_at (with_found_taken k w) n }) w n queue
       ∙ ap (λ ns. record {
-        mark = record k { heap = with_changed k.heap n f; found = slice_set k.found w (rest_of ns) };
+        mark = record k { heap = with_changed k.heap n f; tags = tags; found = slice_set k.found w (rest_of ns) };
         pending = pss;
       }) is) in
       let after : state_looked a w n rest ≡ b =
@@ -162,7 +164,7 @@ module _ (c : ClearHeap) (a : State) (w n : ℕ) (rest : List ℕ) (stands : Hea
       → (n ≡ m) ⊎ (has (pending_numbers c.pending) m ≡ true) = has-pended c.pending w within n queue k.cycle in
       row_of (record { mark = j; pending = pss }) b left after answer refl
       (record {
-        mark = looked_stands k a w n rest f pss stands.mark clearing is (λ o. refl) looks
+        mark = looked_stands k a w n rest f tags pss stands.mark clearing is (λ o. refl) looks
             (shown_heap-changed_in k (Some n) f (λ o. refl) shown-cleared ∙ cut-shown k (Some n) not_white goes)
             (subst (λ lists. (m : ℕ) → has (pending_numbers pss) m ≡ true
             → (n ≡ m) ⊎ (has (pending_numbers lists) m ≡ true)) (sym stands.pending) pends);

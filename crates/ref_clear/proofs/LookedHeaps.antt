@@ -14,6 +14,7 @@ use Rattle.ref_base.specs.Heaps.{changed_at}
 use Rattle.ref_base.proofs.HasLaws.{has-left, has-cases}
 use Rattle.ref_base.proofs.Lookups.{lookup-changed, numbers-changed, allowed_referent-cases}
 use Rattle.ref_base.proofs.NewClears.{refers_into-same}
+use Rattle.ref_objects.specs.Grounds.{Tag}
 use Rattle.ref_mark.specs.Standing.{InClearing}
 use Rattle.ref_mark.proofs.Agreeing.{agrees_next, unsaid_same}
 use Rattle.ref_mark.proofs.DoomedLists.{doomed-changed, past_is_in_cycle}
@@ -90,18 +91,20 @@ pub record MayLook (k : CycleHeap) (o p : Object) : Type 0 where
       → has (targets_of allow (Some o)) n ≡ true
   pub off : refers_into (is_white k) p.reference ≡ false
 
-abbrev pub looked_heap : CycleHeap → ℕ → ℕ → List ℕ → (Object → Object) → CycleHeap
-looked_heap k w n rest f = record k { heap = with_changed k.heap n f; found = slice_set k.found w rest }
+abbrev pub looked_heap : CycleHeap → ℕ → ℕ → List ℕ → (Object → Object) → List Tag → CycleHeap
+looked_heap k w n rest f tags =
+    record k { heap = with_changed k.heap n f; tags = tags; found = slice_set k.found w rest }
 
 -- the state, where these are pending and found
 abbrev pub state_with : State → List (List Pending) → List (List ℕ) → State
 state_with a pss found = record a { world = record a.world { pending = pss }; found = found }
 
-module _ (k : CycleHeap) (a : State) (w n : ℕ) (rest : List ℕ) (f : Object → Object) (pss : List (List Pending))
+module _ (k : CycleHeap) (a : State) (w n : ℕ) (rest : List ℕ) (f : Object → Object) (tags : List Tag)
+    (pss : List (List Pending))
     (stands : MarkStands k a) (clearing : is_in k.phase Clearing ≡ true) (is : list_at k.found w ≡ n ∷ rest)
     (keeps : (o : Object) → (f o).no ≡ o.no)
     (looks : (o : Object) → object_at k.heap.objects n ≡ Some o → MayLook k o (f o))
-    (shows : shown_heap (looked_heap k w n rest f) ≡ shown_heap k)
+    (shows : shown_heap (looked_heap k w n rest f tags) ≡ shown_heap k)
     (pends : (m : ℕ) → has (pending_numbers pss) m ≡ true
     → (n ≡ m) ⊎ (has (pending_numbers a.world.pending) m ≡ true)) where
   past : is_past_mark k.phase ≡ true
@@ -115,10 +118,10 @@ module _ (k : CycleHeap) (a : State) (w n : ℕ) (rest : List ℕ) (f : Object �
   same_there =
       lookup-changed (λ o p. is_some p ≡ is_some o) k.heap.objects n f keeps (λ o. refl) (λ o found. refl)
 
-  same_white : (m : ℕ) → is_white (looked_heap k w n rest f) m ≡ is_white k m
+  same_white : (m : ℕ) → is_white (looked_heap k w n rest f tags) m ≡ is_white k m
   same_white m = rw (same_there m) refl
 
-  same_black : (m : ℕ) → is_black (looked_heap k w n rest f) m ≡ is_black k m
+  same_black : (m : ℕ) → is_black (looked_heap k w n rest f tags) m ≡ is_black k m
   same_black m = rw (same_there m) refl
 
   -- what leads where, and what refers to what is white
@@ -129,19 +132,19 @@ module _ (k : CycleHeap) (a : State) (w n : ℕ) (rest : List ℕ) (f : Object �
       keeps (λ o now. now) (λ o found. (looks o found).leads allow i) m
 
   refers_now : (m : ℕ)
-      → refers_into (is_white (looked_heap k w n rest f)) (reference_at (looked_heap k w n rest f).heap m)
-      ≡ refers_into (is_white k) (reference_at (looked_heap k w n rest f).heap m)
+      → refers_into (is_white (looked_heap k w n rest f tags)) (reference_at (looked_heap k w n rest f tags).heap m)
+      ≡ refers_into (is_white k) (reference_at (looked_heap k w n rest f tags).heap m)
   refers_now m =
-      refers_into-same (is_white (looked_heap k w n rest f)) (is_white k) same_white
-      (reference_at (looked_heap k w n rest f).heap m)
+      refers_into-same (is_white (looked_heap k w n rest f tags)) (is_white k) same_white
+      (reference_at (looked_heap k w n rest f tags).heap m)
 
-  own_off : refers_into (is_white k) (reference_at (looked_heap k w n rest f).heap n) ≡ false
+  own_off : refers_into (is_white k) (reference_at (looked_heap k w n rest f tags).heap n) ≡ false
   own_off =
       changed_here (λ o. refers_into (is_white k) (reference_in o) ≡ false) k.heap.objects n f keeps refl
       (λ o found. (looks o found).off)
 
   others_same : (m : ℕ) → (n == m) ≡ false
-      → refers_into (is_white (looked_heap k w n rest f)) (reference_at (looked_heap k w n rest f).heap m)
+      → refers_into (is_white (looked_heap k w n rest f tags)) (reference_at (looked_heap k w n rest f tags).heap m)
       ≡ refers_into (is_white k) (reference_at k.heap m)
   others_same m other =
       refers_now m
@@ -171,7 +174,7 @@ module _ (k : CycleHeap) (a : State) (w n : ℕ) (rest : List ℕ) (f : Object �
       ]
 
   -- what holds in Clearing goes on holding
-  looked_clearing : InClearing (looked_heap k w n rest f) (slice_set a.found w rest) a.cleared
+  looked_clearing : InClearing (looked_heap k w n rest f tags) (slice_set a.found w rest) a.cleared
   looked_clearing =
       let less = AreDistinct-taken k.found w n rest is holds.once in
       record {
@@ -190,8 +193,8 @@ module _ (k : CycleHeap) (a : State) (w n : ℕ) (rest : List ℕ) (f : Object �
         all_found = λ m black refers.
             elim (cases_Bool (n == m)) [
               | inl same ↦
-                  let off : refers_into (is_white k) (reference_at (looked_heap k w n rest f).heap m) ≡ false =
-                  subst (λ i. refers_into (is_white k) (reference_at (looked_heap k w n rest f).heap i) ≡ false)
+                  let off : refers_into (is_white k) (reference_at (looked_heap k w n rest f tags).heap m) ≡ false =
+                  subst (λ i. refers_into (is_white k) (reference_at (looked_heap k w n rest f tags).heap i) ≡ false)
                   (eqb-true n m same) own_off in
                   absurd (true≢false (sym refers ∙ refers_now m ∙ off))
               | inr other ↦
@@ -206,9 +209,9 @@ module _ (k : CycleHeap) (a : State) (w n : ℕ) (rest : List ℕ) (f : Object �
       }
 
   -- it stands for the state
-  pub looked_stands : MarkStands (looked_heap k w n rest f) (state_with a pss (slice_set a.found w rest))
+  pub looked_stands : MarkStands (looked_heap k w n rest f tags) (state_with a pss (slice_set a.found w rest))
   looked_stands =
-      let j : CycleHeap = looked_heap k w n rest f in
+      let j : CycleHeap = looked_heap k w n rest f tags in
       let phase = is_clearing k.phase clearing in
       let own = black_parts k n (holds.black n (has-first_taken k.found w n rest is)) in
       let facts = stands.facts (past_is_in_cycle k.phase past) in

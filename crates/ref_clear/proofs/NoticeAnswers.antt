@@ -4,7 +4,7 @@ use Rattle.std.proofs.lemmas.Bool.{cases_Bool}
 use Rattle.ref_clear.proofs.Common.{has, Object, is_there, refers_into, Heap, slot_at, with_hold, changed_in}
 use Rattle.ref_clear.proofs.Common.{with_reference, cleared, pending_numbers, holds_refusal, State, reference_of}
 use Rattle.ref_clear.proofs.Common.{Fault, mint_refusal, CycleHeap, is_doomed, with_cleared, unless_refused}
-use Rattle.ref_clear.proofs.Common.{mint_answer_in, after_mint_in, ground_of, ClearHeap, holding, PendingList}
+use Rattle.ref_clear.proofs.Common.{mint_answer_in, after_mint_in, ground_of, ClearHeap, holding, Worklist}
 use Rattle.ref_clear.proofs.Common.{IsSoundHeap, HeapStands}
 use Rattle.ref_base.specs.declared.reply.Reply.TheVariants as replies
 use Rattle.ref_mark.specs.MarkCalls.{names_freed}
@@ -12,7 +12,7 @@ use Rattle.ref_mark.proofs.HoldMoves.{names_none_freed}
 use Rattle.ref_clear.proofs.PendingFacts.{pending_is_there}
 
 -- no slot of a heap names an object that was freed
-pub no_slot_of_freed : {k : CycleHeap} {lists : List PendingList} {swept_to : ℕ} (m s : ℕ)
+pub no_slot_of_freed : {k : CycleHeap} {lists : List Worklist} {swept_to : ℕ} (m s : ℕ)
     → IsSoundHeap k lists swept_to
     → names_freed k m s ≡ false
 no_slot_of_freed {k} m s sound = names_none_freed k sound.stands.0 m s sound.stands.1.mark

@@ -8,7 +8,7 @@ use Rattle.ref_clear.proofs.Common.{ArePending}
 use Rattle.ref_base.proofs.OneMore.{has-one_more}
 use Rattle.ref_mark.proofs.DoomedLists.{past_is_in_cycle}
 use Rattle.ref_mark.proofs.RootFacts.{slot_root, hold_root, pending_root, root_cases, root_is_there, root_is_not_white}
-use Rattle.ref_clear.proofs.StaysCleared.{StaysCleared}
+use Rattle.ref_clear.proofs.KeptReferences.{KeepsReferences}
 
 -- ---- roots
 
@@ -57,9 +57,9 @@ module _ (c : ClearHeap) (a : State) (n : ℕ) (stands : HeapStands c a)
 -- where there are as many workers as before, and no reference gets a referent, what is pending goes on waiting
 -- in another heap too, of the same configuration, in which what is cleared stays so
 pub waiting_still : (c : ClearHeap) (a : State) → HeapStands c a → (j : CycleHeap) → j.heap.config ≡ c.mark.heap.config
-    → StaysCleared c.mark.heap j.heap → ArePending j c.pending
+    → KeepsReferences c.mark.heap j.heap → ArePending j c.pending
 waiting_still c a stands j config stays = record {
   workers = stands.waiting.workers ∙ ap (λ (i : Config). i.workers) (sym config);
   once = stands.waiting.once;
-  cleared = λ n waits. stays n (pending_is_there c a n stands waits) (stands.waiting.cleared n waits);
+  cleared = λ n waits. (stays n (pending_is_there c a n stands waits)).0 (stands.waiting.cleared n waits);
 }

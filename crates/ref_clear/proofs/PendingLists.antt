@@ -1,65 +1,162 @@
 -- The lists of pending references as they are seen: one of them is read, or replaced, and there is room in each.
-use Rattle.std.proofs.Common.{◌≡◌, ℕ, ◌<◌, ◌≤◌, refl, sym, ap, subst, ◌∙◌, arith, zero, suc}
-use Rattle.std.proofs.Common.{List, [], ◌∷◌, length, map, get_or, set, Option, None}
+use Rattle.std.proofs.Common.{◌≡◌, ℕ, ◌<◌, ◌≤◌, ◌==◌, nat_lt, refl, sym, ap, subst, ◌∙◌, arith, zero, suc, true}
+use Rattle.std.proofs.Common.{List, [], ◌∷◌, ◌++◌, length, map, get_or, set, Option, Some, None, ◌⊎◌, inl, inr}
+use Rattle.std.proofs.lemmas.Bool.{or_left, or_right, eq-eqb, ltb-true}
 use Rattle.std.proofs.lemmas.List.{length-map, map-set, get_or_read}
 use Rattle.std.proofs.Math.ListN.{get_or-map}
-use Rattle.ref_clear.proofs.Common.{Pending, Config, CycleHeap, ClearHeap, pending_at, PendingList, empty_pending}
-use Rattle.ref_clear.proofs.Common.{pending_lists_of, seen_heap, pending_from, HaveRoom, IsSoundHeap}
-use Rattle.ref_clear.proofs.Common.{without_first_pending}
+use Rattle.std.specs.Option.{option_map, IsSome}
+use Rattle.ref_clear.proofs.Common.{has, Object, reference_at, registered_in, Pending, pending_numbers, joined, Config}
+use Rattle.ref_clear.proofs.Common.{CycleHeap, ClearHeap, pending_at, pending_in, pendings_in, pending_lists_of}
+use Rattle.ref_clear.proofs.Common.{seen_heap, pending_from, HaveRoom, IsSoundHeap, Worklist, empty_worklist}
+use Rattle.ref_clear.proofs.Common.{worklists_of}
+use Rattle.ref_objects.specs.Grounds.{Tag}
+use Rattle.ref_base.proofs.HasLaws.{has-left, has-right, has-cases}
+use Rattle.ref_mark.specs.Worklists.{listed_at, without_first_listed}
+use Rattle.ref_clear.proofs.TakenLists.{numbers_in}
 
--- ---- what is seen of the lists
+-- ---- what is told of numbers
 
-lists_of-map : (ls : List PendingList) → pending_lists_of ls ≡ map (λ l. l.stands) ls
-lists_of-map [] = refl
-lists_of-map (l ∷ ls) = ap (λ pss. l.stands ∷ pss) (lists_of-map ls)
+module _ (os : List Object) (ts : List Tag) where
+  numbers_in-pendings : (ns : List ℕ) → numbers_in (pendings_in os ts ns) ≡ ns
+  numbers_in-pendings [] = refl
+  numbers_in-pendings (n ∷ ns) = ap (λ ms. n ∷ ms) (numbers_in-pendings ns)
 
-pub length-lists_of : (ls : List PendingList) → length (pending_lists_of ls) ≡ length ls
-length-lists_of ls = ap length (lists_of-map ls) ∙ length-map ls (λ (l : PendingList). l.stands)
+  -- the pending references are those whose numbers stand in the lists
+  pub pending_numbers-seen : (ls : List Worklist)
+      → pending_numbers (pending_lists_of os ts ls) ≡ joined (worklists_of ls)
+  pending_numbers-seen [] = refl
+  pending_numbers-seen (l ∷ ls) =
+      ap (λ ns. ns ++ pending_numbers (pending_lists_of os ts ls)) (numbers_in-pendings l.stands)
+      ∙ ap (λ ns. l.stands ++ ns) (pending_numbers-seen ls)
 
--- one is replaced
-pub lists_of-set : (ls : List PendingList) (w : ℕ) (l : PendingList)
-    → pending_lists_of (set ls w l) ≡ set (pending_lists_of ls) w l.stands
-lists_of-set ls w l =
-    lists_of-map (set ls w l) ∙ map-set (λ (m : PendingList). m.stands) ls w l
-    ∙ ap (λ (pss : List (List Pending)). set pss w l.stands) (sym (lists_of-map ls))
+  -- one is told of the number at its place
+  pub told_at : (ns : List ℕ) (place : ℕ)
+      → pending_from (pendings_in os ts ns) place ≡ option_map (pending_in os ts) (listed_at ns place)
+  told_at [] zero = refl
+  told_at [] (suc place) = refl
+  told_at (n ∷ ns) zero = refl
+  told_at (n ∷ ns) (suc place) = told_at ns place
 
--- one is read
-pub pending_at-seen : (k : CycleHeap) (ls : List PendingList) (w : ℕ) (l : PendingList) → w < length ls
-    → l ≡ get_or ls w l → l.stands ≡ pending_at (seen_heap k ls) w
-pending_at-seen k ls w l within is =
-    ap (λ (m : PendingList). m.stands) (get_or_read ls w l within is (empty_pending 0))
-    ∙ sym (get_or-map (λ (m : PendingList). m.stands) ls w (empty_pending 0))
-    ∙ ap (λ (pss : List (List Pending)). get_or pss w []) (sym (lists_of-map ls))
+  -- ---- what is seen of the lists
 
--- of a worker that isn't there nothing is pending
-lists_of-past : (ls : List PendingList) (w : ℕ) → (w < length ls → ⊥) → get_or (pending_lists_of ls) w [] ≡ []
-lists_of-past [] w past = refl
-lists_of-past (m ∷ ls) zero past = absurd (past (omega arith))
-lists_of-past (m ∷ ls) (suc w) past = lists_of-past ls w (λ within. past (omega (arith, within)))
+  lists_of-map : (ls : List Worklist) → pending_lists_of os ts ls ≡ map (λ l. pendings_in os ts l.stands) ls
+  lists_of-map [] = refl
+  lists_of-map (l ∷ ls) = ap (λ pss. pendings_in os ts l.stands ∷ pss) (lists_of-map ls)
+
+  pub length-lists_of : (ls : List Worklist) → length (pending_lists_of os ts ls) ≡ length ls
+  length-lists_of ls =
+      ap length (lists_of-map ls) ∙ length-map ls (λ (l : Worklist). pendings_in os ts l.stands)
+
+  -- one is replaced
+  pub lists_of-set : (ls : List Worklist) (w : ℕ) (l : Worklist)
+      → pending_lists_of os ts (set ls w l) ≡ set (pending_lists_of os ts ls) w (pendings_in os ts l.stands)
+  lists_of-set ls w l =
+      lists_of-map (set ls w l) ∙ map-set (λ (m : Worklist). pendings_in os ts m.stands) ls w l
+      ∙ ap (λ (pss : List (List Pending)). set pss w (pendings_in os ts l.stands)) (sym (lists_of-map ls))
+
+  -- one is read
+  list_read : (ls : List Worklist) (w : ℕ) (l : Worklist) → w < length ls → l ≡ get_or ls w l
+      → pendings_in os ts l.stands ≡ get_or (pending_lists_of os ts ls) w []
+  list_read ls w l within is =
+      ap (λ (m : Worklist). pendings_in os ts m.stands) (get_or_read ls w l within is (empty_worklist 0))
+      ∙ sym (get_or-map (λ (m : Worklist). pendings_in os ts m.stands) ls w (empty_worklist 0))
+      ∙ ap (λ (pss : List (List Pending)). get_or pss w []) (sym (lists_of-map ls))
+
+  -- of a worker that isn't there nothing is pending
+  lists_of-past : (ls : List Worklist) (w : ℕ) → (w < length ls → ⊥) → get_or (pending_lists_of os ts ls) w [] ≡ []
+  lists_of-past [] w past = refl
+  lists_of-past (m ∷ ls) zero past = absurd (past (omega arith))
+  lists_of-past (m ∷ ls) (suc w) past = lists_of-past ls w (λ within. past (omega (arith, within)))
+
+pub pending_at-seen : (k : CycleHeap) (ls : List Worklist) (w : ℕ) (l : Worklist) → w < length ls
+    → l ≡ get_or ls w l → pendings_in k.heap.objects k.tags l.stands ≡ pending_at (seen_heap k ls) w
+pending_at-seen k ls w l within is = list_read k.heap.objects k.tags ls w l within is
+
+-- a list that is found where they are lent
+pub found_list : {ls lent : List Worklist} {l : Worklist} (w : ℕ) → lent ≡ ls → nat_lt w (length lent) ≡ true
+    → l ≡ get_or lent w l → (w < length ls) × (l ≡ get_or ls w l)
+found_list {ls} {lent} {l} w same within is = (
+  subst (λ (ms : List Worklist). w < length ms) same (ltb-true w (length lent) within),
+  is ∙ ap (λ (ms : List Worklist). get_or ms w l) same,
+)
+
+-- what is told of the number that is read at a place
+pub told_as_seen : (k : CycleHeap) (ls : List Worklist) (w place : ℕ) {l : Worklist} {read other : Option ℕ}
+    → w < length ls → l ≡ get_or ls w l → read ≡ listed_at l.stands place → read ≡ other
+    → pending_from (pending_at (seen_heap k ls) w) place ≡ option_map (pending_in k.heap.objects k.tags) other
+told_as_seen k ls w place {l} within is reads same =
+    ap (λ ps. pending_from ps place) (sym (pending_at-seen k ls w l within is))
+    ∙ told_at k.heap.objects k.tags l.stands place
+    ∙ ap (option_map (pending_in k.heap.objects k.tags)) (sym reads ∙ same)
 
 from_nothing : (place : ℕ) → pending_from [] place ≡ None
 from_nothing zero = refl
 from_nothing (suc place) = refl
 
-pub none_past : (k : CycleHeap) (ls : List PendingList) (w place : ℕ) → (w < length ls → ⊥)
+pub none_past : (k : CycleHeap) (ls : List Worklist) (w place : ℕ) → (w < length ls → ⊥)
     → pending_from (pending_at (seen_heap k ls) w) place ≡ None
 none_past k ls w place past =
-    ap (λ (ps : List Pending). pending_from ps place) (lists_of-past ls w past) ∙ from_nothing place
+    ap (λ (ps : List Pending). pending_from ps place) (lists_of-past k.heap.objects k.tags ls w past)
+    ∙ from_nothing place
+
+-- ---- the numbers in the lists
+
+-- one that is listed stands in the list
+has-listed : (ns : List ℕ) (place n : ℕ) → listed_at ns place ≡ Some n → has ns n ≡ true
+has-listed [] zero n is = absurd (let wrong : None ≡ Some n = is in cc)
+has-listed [] (suc place) n is = absurd (let wrong : None ≡ Some n = is in cc)
+has-listed (m ∷ ns) zero n is =
+    let same : Some m ≡ Some n = is in or_left (m == n) (has ns n) (eq-eqb m n (let e : m ≡ n = cc in e))
+has-listed (m ∷ ns) (suc place) n is = or_right (m == n) (has ns n) (has-listed ns place n is)
+
+-- and what stands in one stands in them
+pub has-list : (ls : List Worklist) (w : ℕ) (l : Worklist) (n : ℕ) → w < length ls → l ≡ get_or ls w l
+    → has l.stands n ≡ true → has (joined (worklists_of ls)) n ≡ true
+has-list [] w l n within is stands = absurd (omega (arith, within))
+has-list (m ∷ ls) zero l n within is stands =
+    has-left m.stands (joined (worklists_of ls)) n (subst (λ (i : Worklist). has i.stands n ≡ true) is stands)
+has-list (m ∷ ls) (suc w) l n within is stands =
+    has-right m.stands (joined (worklists_of ls)) n (has-list ls w l n (omega (arith, within)) is stands)
+
+-- where one is replaced, what stands in them did before, or is new in that one
+pub has-replaced : (P : ℕ → Type 0) (ls : List Worklist) (w : ℕ) (l m : Worklist) → l ≡ get_or ls w l
+    → ((n : ℕ) → has m.stands n ≡ true → P n ⊎ (has l.stands n ≡ true)) → (n : ℕ)
+    → has (joined (worklists_of (set ls w m))) n ≡ true → P n ⊎ (has (joined (worklists_of ls)) n ≡ true)
+has-replaced P [] w l m is each n stands = inr stands
+has-replaced P (i ∷ ls) zero l m is each n stands =
+    elim (has-cases m.stands (joined (worklists_of ls)) n stands) [
+      | inl here ↦ elim (each n here) [
+        | inl new ↦ inl new
+        | inr before ↦
+            inr
+            (has-left i.stands (joined (worklists_of ls)) n
+            (subst (λ (j : Worklist). has j.stands n ≡ true) is before))
+      ]
+      | inr other ↦ inr (has-right i.stands (joined (worklists_of ls)) n other)
+    ]
+has-replaced P (i ∷ ls) (suc w) l m is each n stands =
+    elim (has-cases i.stands (joined (worklists_of (set ls w m))) n stands) [
+      | inl here ↦ inr (has-left i.stands (joined (worklists_of ls)) n here)
+      | inr later ↦ elim (has-replaced P ls w l m is each n later) [
+        | inl new ↦ inl new
+        | inr before ↦ inr (has-right i.stands (joined (worklists_of ls)) n before)
+      ]
+    ]
 
 -- ---- room
 
-room_within : (ls : List PendingList) (cells w : ℕ) (l : PendingList) → w < length ls → HaveRoom ls cells
+room_within : (ls : List Worklist) (cells w : ℕ) (l : Worklist) → w < length ls → HaveRoom ls cells
     → cells ≤ (get_or ls w l).room
 room_within [] cells w l within room = absurd (omega arith)
 room_within (m ∷ ms) cells zero l within room = room.0
 room_within (m ∷ ms) cells (suc w) l within room = room_within ms cells w l (omega arith) room.1
 
-pub room_at : (ls : List PendingList) (cells w : ℕ) (l : PendingList) → w < length ls → l ≡ get_or ls w l
+pub room_at : (ls : List Worklist) (cells w : ℕ) (l : Worklist) → w < length ls → l ≡ get_or ls w l
     → HaveRoom ls cells → cells ≤ l.room
 room_at ls cells w l within is room =
-    subst (λ (m : PendingList). cells ≤ m.room) (sym is) (room_within ls cells w l within room)
+    subst (λ (m : Worklist). cells ≤ m.room) (sym is) (room_within ls cells w l within room)
 
-pub HaveRoom-set : (ls : List PendingList) (cells w : ℕ) (l : PendingList) → cells ≤ l.room → HaveRoom ls cells
+pub HaveRoom-set : (ls : List Worklist) (cells w : ℕ) (l : Worklist) → cells ≤ l.room → HaveRoom ls cells
     → HaveRoom (set ls w l) cells
 HaveRoom-set [] cells w l own room = tt
 HaveRoom-set (m ∷ ms) cells zero l own room = (own, room.1)
@@ -67,7 +164,7 @@ HaveRoom-set (m ∷ ms) cells (suc w) l own room = (room.0, HaveRoom-set ms cell
 
 -- ---- a worker of a heap
 
-module _ {k : CycleHeap} {lists : List PendingList} {swept_to : ℕ} (w : ℕ) (sound : IsSoundHeap k lists swept_to) where
+module _ {k : CycleHeap} {lists : List Worklist} {swept_to : ℕ} (w : ℕ) (sound : IsSoundHeap k lists swept_to) where
   -- a worker, by the configuration that is read
   pub worker_within : {now : ClearHeap} {config : Config} → seen_heap k lists ≡ now → config ≡ now.mark.heap.config
       → w < config.workers → w < k.heap.config.workers
@@ -75,26 +172,35 @@ module _ {k : CycleHeap} {lists : List PendingList} {swept_to : ℕ} (w : ℕ) (
       subst (λ (c : ClearHeap). w < c.mark.heap.config.workers) (sym same)
       (subst (λ (i : Config). w < i.workers) is within)
 
+  -- what stands at a place of a worker's list is registered with a queue
+  pub listed_registered : {l : Worklist} {read : Option ℕ} (place n : ℕ) → w < length lists → l ≡ get_or lists w l
+      → read ≡ listed_at l.stands place → read ≡ Some n → IsSome (registered_in (reference_at k.heap n))
+  listed_registered {l} place n within is reads same =
+      sound.registered n
+      (has-list lists w l n within is (has-listed l.stands place n (sym reads ∙ same)))
+
   module _ (within : w < k.heap.config.workers) where
     pub worker_has_list : w < length lists
     worker_has_list =
-        let count = length-lists_of lists in
+        let count = length-lists_of k.heap.objects k.tags lists in
         let workers = sound.stands.1.waiting.workers in
         omega (arith, within, count, workers)
 
     -- what stands in the list that is read
-    pub stands_as_seen : {l : PendingList} → l ≡ get_or lists w l → l.stands ≡ pending_at (seen_heap k lists) w
+    pub stands_as_seen : {l : Worklist} → l ≡ get_or lists w l
+        → pendings_in k.heap.objects k.tags l.stands ≡ pending_at (seen_heap k lists) w
     stands_as_seen {l} is = pending_at-seen k lists w l worker_has_list is
 
-    -- the first of it, as it is read
-    pub first_as_seen : {l : PendingList} {first other : Option Pending} → l ≡ get_or lists w l
-        → first ≡ pending_from l.stands 0 → first ≡ other → pending_from (pending_at (seen_heap k lists) w) 0 ≡ other
-    first_as_seen is reads same = ap (λ ps. pending_from ps 0) (sym (stands_as_seen is)) ∙ sym reads ∙ same
+    -- the first of it, as its number is read
+    pub first_as_seen : {l : Worklist} {first other : Option ℕ} → l ≡ get_or lists w l
+        → first ≡ listed_at l.stands 0 → first ≡ other
+        → pending_from (pending_at (seen_heap k lists) w) 0 ≡ option_map (pending_in k.heap.objects k.tags) other
+    first_as_seen is reads same = told_as_seen k lists w 0 worker_has_list is reads same
 
     -- there is as much room once its first is taken
-    pub room_taken : {l m : PendingList} (cells : ℕ) → l ≡ get_or lists w l → m ≡ without_first_pending l
+    pub room_taken : {l m : Worklist} (cells : ℕ) → l ≡ get_or lists w l → m ≡ without_first_listed l
         → HaveRoom lists cells
         → HaveRoom (set lists w m) cells
     room_taken {l} {m} cells is taken room =
         let own = room_at lists cells w l worker_has_list is room in
-        HaveRoom-set lists cells w m (subst (λ n. cells ≤ n) (sym (ap (λ (i : PendingList). i.room) taken)) own) room
+        HaveRoom-set lists cells w m (subst (λ n. cells ≤ n) (sym (ap (λ (i : Worklist). i.room) taken)) own) room

@@ -1,16 +1,22 @@
 -- What holds of a heap goes on holding as its clearing ends, by a sweep, and as the sweep ends.
 use Rattle.std.proofs.Common.{◌≡◌, ℕ, Bool, true, false, not, refl, sym, ap, subst, ◌∙◌, arith}
-use Rattle.std.proofs.Common.{List, None}
+use Rattle.std.proofs.Common.{List, None, take}
 use Rattle.std.proofs.lemmas.Bool.{not-false}
 use Rattle.ref_clear.proofs.Common.{joined, unless, is_in, is_empty, work_refusal, Fault, WrongPhase, ClearingLeft}
 use Rattle.ref_clear.proofs.Common.{SweepLeft, Idle, Clearing, Sweeping, CycleHeap, doomed, cycle_in_phase}
-use Rattle.ref_clear.proofs.Common.{unless_refused, ClearHeap, with_mark, swept_some, refusal_in, PendingList}
+use Rattle.ref_clear.proofs.Common.{unless_refused, ClearHeap, with_mark, swept_some, refusal_in, Worklist}
+use Rattle.ref_clear.proofs.Common.{has, reference_in, registered_in, after_in, AreRegistered, HeapStands}
 use Rattle.ref_clear.proofs.Common.{seen_heap, IsSoundHeap, MaySweep}
 use Rattle.ref_base.specs.declared.heap_step.HeapStep.TheVariants as heap
 use Rattle.ref_mark.proofs.Passed.{work_passed}
 use Rattle.ref_clear.proofs.EndRows.{end_clear_row}
 use Rattle.ref_clear.proofs.SweepRows.{sweep_row, may_sweep}
+use Rattle.ref_mark.proofs.DoomedLists.{has-doomed}
 use Rattle.ref_clear.proofs.SoundHeaps.{sound_after}
+use Rattle.ref_clear.proofs.PendingFacts.{pending_is_not_doomed}
+use Rattle.ref_clear.proofs.PendingLists.{pending_numbers-seen}
+use Rattle.ref_clear.proofs.GoneObjects.{has-take, object_at-left, cleared_in_at-left}
+use Rattle.ref_clear.proofs.KeptPending.{AreKept, seen_kept, registered_kept}
 
 -- where both tests hold nothing is refused
 both_hold : (first second : Bool) (early late : Fault) → first ≡ true → second ≡ true
@@ -18,7 +24,7 @@ both_hold : (first second : Bool) (early late : Fault) → first ≡ true → se
 both_hold first second early late holds too = simp (holds, too) refl
 
 -- the clearing ends: the sweep starts from the first number
-pub sound_clear_ended : {j k : CycleHeap} {lists : List PendingList} {swept_to : ℕ} → is_in k.phase Clearing ≡ true
+pub sound_clear_ended : {j k : CycleHeap} {lists : List Worklist} {swept_to : ℕ} → is_in k.phase Clearing ≡ true
     → not (is_empty (joined k.found)) ≡ false → j ≡ cycle_in_phase k Sweeping → IsSoundHeap k lists swept_to
     → IsSoundHeap j lists 0
 sound_clear_ended {j} {k} {lists} {swept_to} clearing looked after sound =
@@ -27,10 +33,15 @@ sound_clear_ended {j} {k} {lists} {swept_to} clearing looked after sound =
     (not-false (is_empty (joined k.found)) looked) in
     let row = end_clear_row (seen_heap k lists) sound.stands.0 sound.stands.1 none in
     subst (λ (i : CycleHeap). IsSoundHeap i lists 0) (sym after)
-    (record { room = sound.room; stands = (row.0, row.2); swept = λ now n white. omega arith })
+    (record {
+      room = sound.room;
+      registered = sound.registered;
+      stands = (row.0, row.2);
+      swept = λ now n white. omega arith;
+    })
 
 -- the sweep ends
-pub sound_sweep_ended : {j k : CycleHeap} {lists : List PendingList} {swept_to : ℕ} → is_in k.phase Sweeping ≡ true
+pub sound_sweep_ended : {j k : CycleHeap} {lists : List Worklist} {swept_to : ℕ} → is_in k.phase Sweeping ≡ true
     → not (is_empty (doomed k)) ≡ false → j ≡ cycle_in_phase k Idle → IsSoundHeap k lists swept_to
     → IsSoundHeap j lists swept_to
 sound_sweep_ended {j} {k} {lists} {swept_to} sweeping swept after sound =
@@ -41,19 +52,50 @@ sound_sweep_ended {j} {k} {lists} {swept_to} sweeping swept after sound =
     sound_after heap.EndSweep refl sound
     (ap (λ (i : CycleHeap). seen_heap i lists) after
     ∙ sym (ap (λ refused. unless_refused refused (λ fault. c) (with_mark c (cycle_in_phase k Idle))) none)) sound.room
+    (subst (λ (i : CycleHeap). AreRegistered i.heap.objects lists) (sym after) sound.registered)
 
 -- a sweep: what is doomed is held by nobody, and what is left of it isn't below the number that the sweep comes to
-pub may_free : {k : CycleHeap} {lists : List PendingList} {swept_to : ℕ} (w : ℕ)
+pub may_free : {k : CycleHeap} {lists : List Worklist} {swept_to : ℕ} (w : ℕ)
     → work_refusal k.heap k.phase Sweeping w ≡ None → IsSoundHeap k lists swept_to → MaySweep k swept_to
 may_free {k} {lists} {swept_to} w none sound =
     let sweeping : is_in k.phase Sweeping ≡ true = (work_passed k Sweeping w none).1 in
     may_sweep (seen_heap k lists) sound.stands.0 swept_to sound.stands.1 sweeping (sound.swept sweeping)
 
-pub sound_swept : {j k : CycleHeap} {lists : List PendingList} {swept_to reached : ℕ} (w : ℕ)
+-- nothing pending is freed by it
+kept_swept : {k : CycleHeap} {lists : List Worklist} {swept_to : ℕ} (w : ℕ)
+    → work_refusal k.heap k.phase Sweeping w ≡ None → IsSoundHeap k lists swept_to → AreKept k (swept_some k) lists
+kept_swept {k} {lists} w none sound n within =
+    let waits = ap (λ ns. has ns n) (pending_numbers-seen k.heap.objects k.tags lists) ∙ within in
+    let stays : has (take 64 (doomed k)) n ≡ false =
+    has-take 64 (doomed k) n
+    (has-doomed k n ∙ pending_is_not_doomed (seen_heap k lists) sound.stands.0 n sound.stands.1 waits) in (
+      ap (λ o. registered_in (reference_in o)) (object_at-left (take 64 (doomed k)) k.heap.objects n stays),
+      cleared_in_at-left (take 64 (doomed k)) k.tags n stays,
+    )
+
+pub sound_swept : {j k : CycleHeap} {lists : List Worklist} {swept_to reached : ℕ} (w : ℕ)
     → work_refusal k.heap k.phase Sweeping w ≡ None → j ≡ swept_some k → MaySweep j reached
     → IsSoundHeap k lists swept_to → IsSoundHeap j lists reached
 sound_swept {j} {k} {lists} {swept_to} {reached} w none after may sound =
     let row = sweep_row (seen_heap k lists) sound.stands.0 w sound.stands.1 none in
     let left : MaySweep (swept_some k) reached = subst (λ (i : CycleHeap). MaySweep i reached) after may in
+    let kept = kept_swept w none sound in
     subst (λ (i : CycleHeap). IsSoundHeap i lists reached) (sym after)
-    (record { room = sound.room; stands = (row.0, row.2); swept = λ now. left.swept })
+    (record {
+      room = sound.room;
+      registered = registered_kept k (swept_some k) lists kept sound.registered;
+      stands = (
+        row.0,
+        subst (λ (d : ClearHeap). HeapStands d row.0) (sym (seen_kept k (swept_some k) lists kept)) row.2,
+      );
+      swept = λ now. left.swept;
+    })
+
+-- what is seen then is what the sweep leaves
+pub seen_swept : {j k : CycleHeap} {lists : List Worklist} {swept_to : ℕ} (w : ℕ)
+    → work_refusal k.heap k.phase Sweeping w ≡ None → j ≡ swept_some k → IsSoundHeap k lists swept_to
+    → seen_heap j lists ≡ after_in (seen_heap k lists) (heap.Sweep w)
+seen_swept {j} {k} {lists} {swept_to} w none after sound =
+    let c : ClearHeap = seen_heap k lists in
+    ap (λ (i : CycleHeap). seen_heap i lists) after ∙ seen_kept k (swept_some k) lists (kept_swept w none sound)
+    ∙ sym (ap (λ refused. unless_refused refused (λ fault. c) (with_mark c (swept_some k))) none)

@@ -2,8 +2,8 @@
 use Rattle.std.proofs.Common.{◌≡◌, ℕ, ◌≤◌, true, List, refl, sym, ap, subst, ◌∙◌}
 use Rattle.std.proofs.lemmas.Bool.{or_right}
 use Rattle.ref_clear.proofs.Common.{has, NamedStep, State, is_in, Config, Clearing, Sweeping, CycleHeap, is_white}
-use Rattle.ref_clear.proofs.Common.{is_past_mark, doomed, MarkStands, ClearHeap, answer_in, after_in, PendingList}
-use Rattle.ref_clear.proofs.Common.{seen_heap, HaveRoom, IsSoundHeap, HeapStands}
+use Rattle.ref_clear.proofs.Common.{is_past_mark, doomed, MarkStands, ClearHeap, answer_in, after_in, Worklist}
+use Rattle.ref_clear.proofs.Common.{seen_heap, AreRegistered, HaveRoom, IsSoundHeap, HeapStands}
 use Rattle.ref_mark.proofs.DoomedLists.{has-doomed}
 use Rattle.ref_clear.proofs.KeptRows.{goes_on_sweeping, SweepsOn, sweeps_on}
 use Rattle.ref_clear.proofs.HeapLaws.{each_step, config_of}
@@ -28,10 +28,10 @@ swept_still j k a b swept_to before after on swept sweeping n white =
     swept was n still
 
 -- each step but a sweep, and the one that begins it
-pub sound_after : {j k : CycleHeap} {lists now : List PendingList} {swept_to : ℕ} (step : NamedStep)
+pub sound_after : {j k : CycleHeap} {lists now : List Worklist} {swept_to : ℕ} (step : NamedStep)
     → goes_on_sweeping step ≡ true → IsSoundHeap k lists swept_to → seen_heap j now ≡ after_in (seen_heap k lists) step
-    → HaveRoom now k.heap.config.cells → IsSoundHeap j now swept_to
-sound_after {j} {k} {lists} {now} {swept_to} step own sound after room =
+    → HaveRoom now k.heap.config.cells → AreRegistered j.heap.objects now → IsSoundHeap j now swept_to
+sound_after {j} {k} {lists} {now} {swept_to} step own sound after room registered =
     let c : ClearHeap = seen_heap k lists in
     let a : State = sound.stands.0 in
     let row = each_step c step a sound.stands.1 in
@@ -42,6 +42,7 @@ sound_after {j} {k} {lists} {now} {swept_to} step own sound after room =
     sym (config_of j b stands.mark) ∙ on.config ∙ config_of k a sound.stands.1.mark in
     record {
       room = subst (λ (i : Config). HaveRoom now i.cells) (sym config) room;
+      registered = registered;
       stands = (b, stands);
       swept = swept_still j k a b swept_to sound.stands.1.mark stands.mark on sound.swept;
     }

@@ -11,7 +11,10 @@ use Rattle.ref_base.proofs.HasLaws.{has-first}
 use Rattle.ref_mark.specs.CycleHeaps.{is_swept, swept}
 use Rattle.ref_mark.proofs.DoomedLists.{has-unmarked, has-doomed}
 use Rattle.ref_mark.proofs.MovedStates.{sweeping_is_past}
+use Rattle.ref_objects.specs.Grounds.{Tag, without_tag}
+use Rattle.ref_clear.specs.ClearHeaps.{without_tags}
 use Rattle.ref_clear.proofs.GoneObjects.{without-none, without-append, object_at-left, left_from_there, rising-without}
+use Rattle.ref_clear.proofs.GoneObjects.{without_tags-append}
 use Rattle.ref_clear.proofs.GoneObjects.{unmarked-swept, first_unmarked-least}
 
 -- ---- lists
@@ -54,12 +57,16 @@ none_left ns i first =
 
 -- ---- heaps
 
-abbrev with_objects : CycleHeap → List Object → CycleHeap
-with_objects k os = record k { heap = record k.heap { objects = os } }
+abbrev with_objects : CycleHeap → List Object → List Tag → CycleHeap
+with_objects k os ts = record k { heap = record k.heap { objects = os }; tags = ts }
+
+-- these objects are freed
+abbrev without_objects : CycleHeap → List ℕ → CycleHeap
+without_objects k ns = with_objects k (without ns k.heap.objects) (without_tags ns k.tags)
 
 -- so many of the doomed are freed, those of least number
 abbrev swept_so_many : CycleHeap → ℕ → CycleHeap
-swept_so_many k i = with_objects k (without (take i (doomed k)) k.heap.objects)
+swept_so_many k i = without_objects k (take i (doomed k))
 
 -- in a sweep what isn't marked is doomed
 pub doomed-sweeping : (k : CycleHeap) → is_in k.phase Sweeping ≡ true → doomed k ≡ unmarked k.heap.objects k.marked
@@ -92,7 +99,7 @@ pub record IsSwept (start k : CycleHeap) (i from : ℕ) : Type 0 where
 
 pub nothing_swept : (k : CycleHeap) (from : ℕ) → MaySweep k from → IsSwept k k 0 from
 nothing_swept k from may = record {
-  so_far = ap (with_objects k) (sym (without-none k.heap.objects));
+  so_far = ap (λ os. with_objects k os k.tags) (sym (without-none k.heap.objects));
   few = omega arith;
   at_most = omega arith;
   may = may;
@@ -114,14 +121,14 @@ first_doomed k from may =
 
 -- a white object is freed
 swept_white : (k : CycleHeap) (from n : ℕ) → MaySweep k from → is_white k n ≡ true
-    → swept k n ≡ with_objects k (without (n ∷ []) k.heap.objects)
+    → swept k n ≡ without_objects k (n ∷ [])
 swept_white k from n may white =
     let sweeping = may.sweeping in
     let free = may.free n white in
     let is : is_swept k n ≡ true = simp (sweeping, white, free) refl in simp is refl
 
 may_go_on : (k : CycleHeap) (from n : ℕ) → MaySweep k from → first_in (doomed k) ≡ Some n
-    → MaySweep (with_objects k (without (n ∷ []) k.heap.objects)) n
+    → MaySweep (without_objects k (n ∷ [])) n
 may_go_on k from n may first =
     let os = k.heap.objects in
     let was : (m : ℕ) → (is_there (without (n ∷ []) os) m && not (has k.marked m)) ≡ true → is_white k m ≡ true =
@@ -148,12 +155,14 @@ one_more_swept start k i from n rising more so_far next =
     let parts =
     first_left (doomed start) i n (ap first_in (sym (left_doomed start k i from rising so_far)) ∙ first) in
     let white : is_white k n ≡ true = sym (white_is_doomed k may.sweeping n) ∙ first_within (doomed k) n first in
-    let is : swept k n ≡ with_objects k (without (n ∷ []) k.heap.objects) = swept_white k from n may white in
+    let is : swept k n ≡ without_objects k (n ∷ []) = swept_white k from n may white in
     record {
-      so_far = is ∙ ap (λ (j : CycleHeap). with_objects j (without (n ∷ []) j.heap.objects)) so_far.so_far
-          ∙ ap (with_objects start)
-          (without-append (take i (doomed start)) (n ∷ []) start.heap.objects
-          ∙ ap (λ (ns : List ℕ). without ns start.heap.objects) (sym parts.1));
+      so_far = is ∙ ap (λ (j : CycleHeap). without_objects j (n ∷ [])) so_far.so_far
+          ∙ ap (λ os. with_objects start os (without_tag (without_tags (take i (doomed start)) start.tags) n))
+          (without-append (take i (doomed start)) (n ∷ []) start.heap.objects)
+          ∙ ap (with_objects start (without (take i (doomed start) ++ n ∷ []) start.heap.objects))
+          (without_tags-append (take i (doomed start)) n start.tags)
+          ∙ ap (without_objects start) (sym parts.1);
       few = let within : i < length (doomed start) = parts.0 in omega (arith, within);
       at_most = omega (arith, more);
       may = subst (λ (j : CycleHeap). MaySweep j n) (sym is) (may_go_on k from n may first);
@@ -181,6 +190,6 @@ sweep_is_done start k i from rising so_far done =
           let same : take i ds ≡ take 64 ds =
           take_all i ds all ∙ sym (take_all 64 ds (omega (arith, all, at_most))) in (
             omega (arith, all, few, at_most),
-            so_far.so_far ∙ ap (λ (ns : List ℕ). with_objects start (without ns start.heap.objects)) same,
+            so_far.so_far ∙ ap (without_objects start) same,
           )
     ]

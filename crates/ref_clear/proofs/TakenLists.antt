@@ -7,7 +7,7 @@ use Rattle.std.proofs.Math.ListN.{get_or-map}
 use Rattle.std.proofs.lemmas.Bool.{or_cases, or_parts, or_from, or_left, eqb-true, eq-eqb, ne_eqb, true≢false}
 use Rattle.std.proofs.lemmas.List.{length-map, length-set, map-append, map-set}
 use Rattle.ref_clear.proofs.Common.{has, AreDistinct, World, Pending, pending_numbers, joined, list_at, ClearHeap}
-use Rattle.ref_clear.proofs.Common.{heap_pended, numbers_in}
+use Rattle.ref_clear.proofs.Common.{heap_pended}
 use Rattle.ref_base.specs.Replay.{pended as world_pended}
 use Rattle.ref_base.proofs.FoundLists.{with_last, has-between, has-with_last, AreDistinct-with_last}
 
@@ -60,6 +60,10 @@ AreDistinct-taken lists w n rest is distinct =
     (AreDistinct-less parts.0 parts.1 n (subst AreDistinct parts.2 distinct))
 
 -- ---- a pending reference goes last
+
+-- the references themselves
+abbrev pub numbers_in : List Pending → List ℕ
+numbers_in ps = map (λ p. p.object) ps
 
 -- pending references are those of all lists as one
 pending_numbers-joined : (pss : List (List Pending)) → pending_numbers pss ≡ joined (map numbers_in pss)

@@ -1,9 +1,14 @@
--- What the code of an unhook answers and leaves where the reference is registered: the hold comes first, then the cut.
+-- What the code of an unhook answers and leaves: where the reference is registered, the hold comes first, then the cut.
 use Rattle.std.proofs.Common.{◌≡◌, ℕ, true, refl, sym, ap, subst, ◌∙◌, List, Option, Some, None}
 use Rattle.ref_clear.proofs.Common.{Reference, is_there, slot_at, reference_at, registered_in, reference_of, has_slot}
 use Rattle.ref_clear.proofs.Common.{holds_refusal, Own, NoSuchActor, Ground, CycleHeap, with_cleared, mint_answer_in}
 use Rattle.ref_clear.proofs.Common.{after_mint_in, ground_of, holding, unhooked, refusal_in, queue_in, answer_in}
-use Rattle.ref_clear.proofs.Common.{after_in, answer_of_unhook, PendingList, seen_heap}
+use Rattle.ref_clear.proofs.Common.{after_in, answer_of_unhook, Worklist, seen_heap}
+use Rattle.ref_clear.proofs.Common.{with_mark, AreRegistered, IsSoundHeap}
+use Rattle.ref_objects.specs.Grounds.{cleared_in_at}
+use Rattle.ref_mark.proofs.KeptTags.{cleared-tags}
+use Rattle.ref_clear.proofs.KeptReferences.{cleared_stays}
+use Rattle.ref_clear.proofs.KeptPending.{AreKept, kept_by, seen_kept, registered_kept}
 use Rattle.ref_base.specs.Refusals.{drop_refusal}
 use Rattle.ref_base.specs.declared.fault.Fault.TheVariants.{NoSuchObject}
 use Rattle.ref_base.specs.declared.heap_step.HeapStep.TheVariants as heap
@@ -28,11 +33,34 @@ pub reference_is : (k : CycleHeap) (n : ℕ) {g : Ground} {value : Option Refere
     → value ≡ reference_at g.heap n → value ≡ Some r → reference_at k.heap n ≡ Some r
 reference_is k n view reads is = sym (reads ∙ ap (λ (h : Ground). reference_at h.heap n) view) ∙ is
 
+-- ---- the cut alone
+
+-- of the reference r in a slot, that has no queue
+module _ (k : CycleHeap) (lists : List Worklist) (m s : ℕ) {n : ℕ} {r : Reference} (has : has_slot k.heap m s ≡ true)
+    (held : slot_at k.heap m s ≡ Some n) (found : reference_at k.heap n ≡ Some r) (queue : r.queue ≡ None) where
+  unregistered : queue_in k m s ≡ None
+  unregistered = ap (λ v. registered_in (reference_of k.heap v)) held ∙ ap registered_in found ∙ queue
+
+  may_cut : marks.refusal_in_cycle k (heap.Clear m s) ≡ None
+  may_cut = simp (has, held, found) refl
+
+  may_unhook : refusal_in (seen_heap k lists) (heap.Unhook m s) ≡ None
+  may_unhook = simp (has, held, found, queue) refl
+
+  pub unhook_cut : with_mark (seen_heap k lists) (marks.after_in_cycle k (heap.Clear m s))
+      ≡ after_in (seen_heap k lists) (heap.Unhook m s)
+  unhook_cut =
+      let left : unhooked k m s (slot_at k.heap m s) (queue_in k m s) ≡ with_cleared k m s =
+      ap (λ v. unhooked k m s v (queue_in k m s)) held ∙ ap (unhooked k m s (Some n)) unregistered in
+      let now : marks.after_in_cycle k (heap.Clear m s) ≡ with_cleared k m s = simp may_cut refl in
+      ap (with_mark (seen_heap k lists)) (now ∙ sym left) ∙ simp may_unhook refl
+
 -- ---- the hold and the cut
 
 -- of the reference r in a slot, that has a queue
-module _ (k : CycleHeap) (lists : List PendingList) (m s : ℕ) {n q : ℕ} {r : Reference}
-    (has : has_slot k.heap m s ≡ true) (held : slot_at k.heap m s ≡ Some n) (found : reference_at k.heap n ≡ Some r)
+module _ {k : CycleHeap} {lists : List Worklist} {swept_to : ℕ} (sound : IsSoundHeap k lists swept_to) (m s : ℕ)
+    {n q : ℕ} {r : Reference} (has : has_slot k.heap m s ≡ true) (held : slot_at k.heap m s ≡ Some n)
+    (found : reference_at k.heap n ≡ Some r)
     (queue : r.queue ≡ Some q) where
   registered : queue_in k m s ≡ Some q
   registered = ap (λ v. registered_in (reference_of k.heap v)) held ∙ ap registered_in found ∙ queue
@@ -43,10 +71,17 @@ module _ (k : CycleHeap) (lists : List PendingList) (m s : ℕ) {n q : ℕ} {r :
   clears : marks.refusal_in_cycle (holding k n) (heap.Clear m s) ≡ None
   clears = simp (has, held, found) refl
 
+  -- nothing pending is changed by it
+  unhook_kept : AreKept k (holding (with_cleared k m s) n) lists
+  unhook_kept =
+      kept_by sound (holding (with_cleared k m s) n) (cleared_stays k m s)
+      (λ i. ap (λ ts. cleared_in_at ts i) (cleared-tags k m s))
+
   pub unhook_done : {i j : CycleHeap} {object : ℕ} → replies.Object object ≡ mint_answer_in k n
       → i ≡ after_mint_in k n → j ≡ marks.after_in_cycle i (heap.Clear m s)
       → (replies.Notice object q Own ≡ answer_in (seen_heap k lists) (heap.Unhook m s))
       × (seen_heap j lists ≡ after_in (seen_heap k lists) (heap.Unhook m s))
+      × AreRegistered j.heap.objects lists
   unhook_done {i} {j} {object} answer after cut =
       let mint = minted k n object answer after in
       let counted : holds_refusal k.heap ≡ None =
@@ -60,5 +95,9 @@ module _ (k : CycleHeap) (lists : List PendingList) (m s : ℕ) {n q : ℕ} {r :
       cut ∙ ap (λ (h : CycleHeap). marks.after_in_cycle h (heap.Clear m s)) mint.2 ∙ simp clears refl
       ∙ clear_holding k m s n in (
         ap (λ (o : ℕ). replies.Notice o q Own) mint.1 ∙ sym reply ∙ simp none refl,
-        ap (λ (h : CycleHeap). seen_heap h lists) (now ∙ sym left) ∙ simp none refl,
+        ap (λ (h : CycleHeap). seen_heap h lists) now
+            ∙ seen_kept k (holding (with_cleared k m s) n) lists unhook_kept
+            ∙ ap (with_mark (seen_heap k lists)) (sym left) ∙ simp none refl,
+        subst (λ (h : CycleHeap). AreRegistered h.heap.objects lists) (sym now)
+            (registered_kept k (holding (with_cleared k m s) n) lists unhook_kept sound.registered),
       )

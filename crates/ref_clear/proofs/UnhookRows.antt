@@ -28,7 +28,7 @@ use Rattle.ref_mark.proofs.RootFacts.{slot_root, slot_off, root_is_there, root_i
 use Rattle.ref_mark.proofs.ReferenceMoves.{refers_into_doomed-past, cleared_becomes}
 use Rattle.ref_mark.proofs.ReferenceRows.{clear_row}
 use Rattle.ref_clear.proofs.PendingFacts.{root_before, waiting_still}
-use Rattle.ref_clear.proofs.StaysCleared.{config-cleared, cleared_stays}
+use Rattle.ref_clear.proofs.KeptReferences.{config-cleared, cleared_stays}
 
 -- ---- refusals
 

@@ -11,6 +11,7 @@ use Rattle.ref_base.specs.declared.cause.Cause.{Cause}
 use Rattle.ref_base.specs.declared.config.Config.{Config}
 use Rattle.ref_base.specs.declared.heap_step.HoldName.{HoldName}
 use Rattle.ref_base.specs.declared.urgency.Urgency.{Urgency}
+use Rattle.ref_objects.specs.Grounds.{Tag, with_cleared_tag, without_tag}
 use Rattle.ref_mark.specs.CycleHeaps.{CycleHeap, first_cycle_heap, is_doomed, doomed, with_cleared, with_found_taken}
 use Rattle.ref_mark.specs.CycleHeaps.{cycle_begun, shaded_all}
 
@@ -57,9 +58,12 @@ begun_with c now urgency = with_mark c (shaded_all (cycle_begun c.mark now urgen
 abbrev pub is_to_clear : CycleHeap → ℕ → Bool
 is_to_clear k n = refers_into (is_doomed k) (reference_at k.heap n)
 
--- reference n is cleared
+-- reference n is cleared, in this cycle
 abbrev pub cut_at : CycleHeap → ℕ → CycleHeap
-cut_at k n = record k { heap = with_changed k.heap n (with_reference cleared) }
+cut_at k n = record k {
+  heap = with_changed k.heap n (with_reference cleared);
+  tags = with_cleared_tag k.tags n k.cycle;
+}
 
 -- it goes last in the worker's pending list, if it is registered with a queue
 abbrev pub heap_pended : ClearHeap → ℕ → ℕ → Option ℕ → ClearHeap
@@ -95,6 +99,14 @@ unhooked k m s (Some n) (Some q) = holding (with_cleared k m s) n
 
 -- ---- the sweep
 
+-- the tags but those of these objects
+abbrev pub without_tags : List ℕ → List Tag → List Tag
+without_tags [] ts = ts
+without_tags (n ∷ ns) ts = without_tags ns (without_tag ts n)
+
 -- the 64 doomed of least number are freed, or all
 abbrev pub swept_some : CycleHeap → CycleHeap
-swept_some k = record k { heap = record k.heap { objects = without (take 64 (doomed k)) k.heap.objects } }
+swept_some k = record k {
+  heap = record k.heap { objects = without (take 64 (doomed k)) k.heap.objects };
+  tags = without_tags (take 64 (doomed k)) k.tags;
+}

@@ -4,6 +4,7 @@ use Rattle.std.proofs.Common.{refl, sym, ◌∙◌, ap, arith, inl, inr}
 use Rattle.std.proofs.Common.{List, [], ◌∷◌, ◌++◌, map, Option, Some, None}
 use Rattle.std.proofs.lemmas.Bool.{cases_Bool, false≢true, true≢false, eqb-true, eq-eqb, ne_eqb}
 use Rattle.std.proofs.lemmas.Bool.{and_right, or_left}
+use Rattle.ref_objects.specs.Grounds.{with_new_tag}
 use Rattle.ref_mark.proofs.Common.{has, Object, is_there, changed_at, with_changed, changed_in, one_more, made, shown}
 use Rattle.ref_mark.proofs.Common.{is_in, Phase, Idle, Marking, Clearing, Sweeping, is_in_cycle, CycleHeap, is_white}
 use Rattle.ref_mark.proofs.Common.{is_past_mark, is_doomed, doomed, young, with_made, unmarked, shown_heap}
@@ -151,7 +152,7 @@ young-phase k n =
 pub doomed-made : (k : CycleHeap) (m d : ℕ) (o : Object) → is_there k.heap.objects o.no ≡ false
     → doomed (with_made k m d o) ≡ doomed k
 doomed-made k m d o new =
-    let more : CycleHeap = record k { heap = made k.heap m d o; next = k.next + 1 } in
+    let more : CycleHeap = record k { heap = made k.heap m d o; next = k.next + 1; tags = with_new_tag k.tags o.no } in
     let phase : (with_made k m d o).phase ≡ k.phase = young-phase more o.no in
     elim (cases_Bool (is_past_mark k.phase)) [
       | inl past ↦

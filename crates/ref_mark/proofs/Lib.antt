@@ -29,3 +29,4 @@ pub mod RoomLemmas
 pub mod LoopLemmas
 pub mod FirstStates
 pub mod OwnNumbers
+pub mod KeptTags

@@ -5,6 +5,7 @@ use Rattle.std.proofs.Common.{[], ◌∷◌, ◌++◌, Option, Some, None, is_so
 use Rattle.std.specs.Prelude.{slice_set}
 use Rattle.std.proofs.lemmas.Bool.{cases_Bool, or_cases, or_left, or_right, eqb-true, eq-eqb, false≢true, true≢false}
 use Rattle.std.proofs.lemmas.List.{length-set}
+use Rattle.ref_objects.specs.Grounds.{with_new_tag}
 use Rattle.ref_mark.proofs.Common.{refers_into, has, Object, object_at, is_there, present, targets_of, targets_at}
 use Rattle.ref_mark.proofs.Common.{soft_and_weak_referents, is_kept, made, one_more, reference_in, reference_at}
 use Rattle.ref_mark.proofs.Common.{pending_numbers, has_slot, State, is_in_cycle, CycleHeap, policy_in, is_white}
@@ -67,7 +68,7 @@ young-marked k n begun there =
 
 -- the heap with one more object, before that is marked
 abbrev pub grown : CycleHeap → ℕ → ℕ → Object → CycleHeap
-grown k m d o = record k { heap = made k.heap m d o; next = k.next + 1 }
+grown k m d o = record k { heap = made k.heap m d o; next = k.next + 1; tags = with_new_tag k.tags o.no }
 
 abbrev pub making : CycleHeap → ℕ → ℕ → Object → Change
 making k m d o = record {
@@ -76,6 +77,7 @@ making k m d o = record {
   holds = k.heap.holds;
   next = k.next + 1;
   marked = (young (grown k m d o) o.no).marked;
+  tags = with_new_tag k.tags o.no;
 }
 
 pub moved-making : (k : CycleHeap) (m d : ℕ) (o : Object) → with_made k m d o ≡ moved k (making k m d o)

@@ -16,6 +16,7 @@ rooted k slots holds = record {
   holds = holds;
   next = k.next;
   marked = k.marked;
+  tags = k.tags;
 }
 
 pub rooted_move : (k : CycleHeap) (a : State) (slots : List (Option ℕ)) (holds pending todo : List ℕ) → MarkStands k a
@@ -50,6 +51,7 @@ altered k slots holds n f = record {
   holds = holds;
   next = k.next;
   marked = k.marked;
+  tags = k.tags;
 }
 
 -- An object may change so: it leads where it did or to roots; it stays a reference if it is one; it

@@ -9,6 +9,7 @@ use Rattle.ref_mark.proofs.Common.{is_in_cycle, CycleHeap, policy_in, is_white, 
 use Rattle.ref_mark.proofs.Common.{FactsBut, Coloured, Reached, FoundBut, InClearing}
 use Rattle.ref_base.specs.Graphs.{numbers}
 use Rattle.ref_base.proofs.PathLaws.{root_ends, target_ends}
+use Rattle.ref_objects.specs.Grounds.{Tag}
 use Rattle.ref_mark.specs.Standing.{InSweeping}
 use Rattle.ref_mark.proofs.Shading.{MarkingBut, refers_into-wider}
 use Rattle.ref_base.proofs.StillFound.{are_found-still}
@@ -22,12 +23,14 @@ pub record Change : Type 0 where
   pub holds : List ℕ
   pub next : ℕ
   pub marked : List ℕ
+  pub tags : List Tag
 
 abbrev pub moved : CycleHeap → Change → CycleHeap
 moved k c = record k {
   heap = record k.heap { objects = c.objects; slots = c.slots; holds = c.holds };
   next = c.next;
   marked = c.marked;
+  tags = c.tags;
 }
 
 -- the roots after it, where these references are pending

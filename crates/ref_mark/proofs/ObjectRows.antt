@@ -3,6 +3,7 @@ use Rattle.std.proofs.Common.{◌≡◌, ℕ, ◌+◌, ◌*◌, true, false, if�
 use Rattle.std.proofs.Common.{List, [], ◌++◌, Option, Some, None, inl, inr, nat_lt}
 use Rattle.std.specs.Prelude.{slice_set}
 use Rattle.std.proofs.lemmas.Bool.{cases_Bool, and_parts, false≢true, true≢false}
+use Rattle.ref_objects.specs.Grounds.{with_new_tag}
 use Rattle.ref_mark.proofs.Common.{refers_into, has, Object, plain_object, Allowed, present, targets_of}
 use Rattle.ref_mark.proofs.Common.{allowed_referent, is_soft, soft_and_weak_referents, is_kept, is_new_clear, Heap}
 use Rattle.ref_mark.proofs.Common.{slot_at, nulls, new_reference, made, changed_in, with_heap, pending_numbers}
@@ -52,7 +53,8 @@ made_stands k a m d o p stands slot number leads_off refers_off led shows same =
     let heap : ReadsAs (moved k c) (made a.world.heap m d p) =
     subst (λ (j : CycleHeap). ReadsAs j (made a.world.heap m d p)) is
     (agrees_next k (with_made k m d o) (made a.world.heap m d p) (made (shown_heap k) m d o)
-    (unsaid_same k (with_made k m d o) (young-phase (record k { heap = made k.heap m d o; next = k.next + 1 }) o.no)
+    (unsaid_same k (with_made k m d o)
+    (young-phase (record k { heap = made k.heap m d o; next = k.next + 1; tags = with_new_tag k.tags o.no }) o.no)
     (doomed-made k m d o new))
     shows
     (ap (λ (q : Object). heap_but (unsaid k) (made a.world.heap m d q)) same

@@ -1,6 +1,7 @@
 -- No step of marking changes the number of a heap.
 use Rattle.std.proofs.Common.{◌≡◌, ℕ, ◌+◌, List, Option, Some, None, refl, ap, ◌∙◌, inl, inr, [], ◌∷◌}
 use Rattle.std.proofs.lemmas.Bool.{cases_Bool}
+use Rattle.ref_objects.specs.Grounds.{with_new_tag}
 use Rattle.ref_mark.proofs.Common.{refers_into, Object, plain_object, slot_at, made, nulls, new_reference, targets_at}
 use Rattle.ref_mark.proofs.Common.{is_kept, NamedStep, is_in, field_in, reference_of, Fault, Marking, Urgency}
 use Rattle.ref_mark.proofs.Common.{CycleHeap, policy_in, is_white, is_in_cycle, is_doomed, shaded_all, shaded_if_any}
@@ -25,7 +26,8 @@ young-number k n =
     ]
 
 made-number : (k : CycleHeap) (m d : ℕ) (o : Object) → (with_made k m d o).heap_no ≡ k.heap_no
-made-number k m d o = young-number (record k { heap = made k.heap m d o; next = k.next + 1 }) o.no
+made-number k m d o =
+    young-number (record k { heap = made k.heap m d o; next = k.next + 1; tags = with_new_tag k.tags o.no }) o.no
 
 shaded_if_any-number : (k : CycleHeap) (value : Option ℕ) → (shaded_if_any k value).heap_no ≡ k.heap_no
 shaded_if_any-number k None = refl

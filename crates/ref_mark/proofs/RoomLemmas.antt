@@ -16,7 +16,7 @@ use Rattle.ref_mark.proofs.Common.{is_due, seen_marker, worklists_of}
 use Rattle.ref_base.specs.CollectorRows.{emptied as none_found}
 use Rattle.ref_base.specs.declared.urgency.Urgency.TheVariants.{Normal}
 use Rattle.ref_objects.specs.Grounds.{first_ground, is_unmarked, ground_marked, after_freeing, is_free, freed}
-use Rattle.ref_objects.specs.Grounds.{IsWellFormed}
+use Rattle.ref_objects.specs.Grounds.{IsWellFormed, without_tag}
 use Rattle.ref_objects.proofs.TabledLemmas.{length-one_more}
 use Rattle.ref_mark.specs.Worklists.{with_last, without_first_listed, rest_of}
 use Rattle.ref_mark.specs.CycleHeaps.{with_found_taken}
@@ -221,7 +221,8 @@ pub roomy_freed : {g after : Ground} {grey : Worklist} {found : List Worklist} (
 roomy_freed {g} {after} {grey} {found} n plain is roomy =
     elim (cases_Bool (is_free g.heap n)) [
       | inl free ↦
-          let now : after_freeing g n ≡ record g { heap = freed g.heap n; marked = one_fewer g.marked n } =
+          let now : after_freeing g n
+          ≡ record g { heap = freed g.heap n; marked = one_fewer g.marked n; tags = without_tag g.tags n } =
           simp free refl in
           let config : after.heap.config ≡ g.heap.config =
           ap (λ (h : Ground). h.heap.config) (is ∙ now) ∙ freed-config g.heap n in

@@ -2,6 +2,7 @@
 use Rattle.std.proofs.Common.{◌≡◌, ℕ, ◌+◌, ◌<◌, true, false, not, refl, ◌∙◌, ap, inl, inr, List, map, Option, Some}
 use Rattle.std.proofs.Common.{None}
 use Rattle.std.proofs.lemmas.Bool.{cases_Bool, and_right}
+use Rattle.ref_objects.specs.Grounds.{with_new_tag}
 use Rattle.ref_mark.proofs.Common.{has, Object, is_there, plain_object, any_is, refers_into, is_new_clear, Heap}
 use Rattle.ref_mark.proofs.Common.{reference_at, changed_at, changed_in, with_reference, cleared, new_reference, made}
 use Rattle.ref_mark.proofs.Common.{shown, reference_of, Strength, CycleHeap, is_white, is_past_mark, is_in_cycle}
@@ -57,7 +58,7 @@ young-heap k n =
 pub shown_heap-made : (k : CycleHeap) (m d : ℕ) (o : Object) → is_there k.heap.objects o.no ≡ false
     → is_new_clear (doomed k) o ≡ false → shown_heap (with_made k m d o) ≡ made (shown_heap k) m d o
 shown_heap-made k m d o new keeps =
-    let more : CycleHeap = record k { heap = made k.heap m d o; next = k.next + 1 } in
+    let more : CycleHeap = record k { heap = made k.heap m d o; next = k.next + 1; tags = with_new_tag k.tags o.no } in
     let same : (with_made k m d o).heap ≡ made k.heap m d o = young-heap more o.no in
     ap (λ (e : List ℕ). record (with_made k m d o).heap {
       objects = map (λ p. shown e p) (with_made k m d o).heap.objects;

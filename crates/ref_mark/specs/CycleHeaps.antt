@@ -17,17 +17,19 @@ use Rattle.ref_base.specs.declared.phase.Phase.{Phase}
 use Rattle.ref_base.specs.declared.phase.Phase.TheVariants.{Idle, Marking, Clearing, Sweeping}
 use Rattle.ref_base.specs.declared.urgency.Urgency.{Urgency}
 use Rattle.ref_base.specs.declared.urgency.Urgency.TheVariants.{Normal}
-use Rattle.ref_objects.specs.Grounds.{unmarked}
+use Rattle.ref_objects.specs.Grounds.{Tag, unmarked, with_new_tag, without_tag}
 use Rattle.ref_mark.specs.Worklists.{rest_of}
 
 -- A heap, its number, the number of its next object; the objects that the cycle has reached, or that were made in it
--- once it had begun; the grey list: those of them that are still to be scanned, in order; for each worker the
--- references that it found, and that weren't looked at since; the phase, how urgent the cycle is, and its number.
+-- once it had begun; the tag of each object; the grey list: those of the reached that are still to be scanned, in
+-- order; for each worker the references that it found, and that weren't looked at since; the phase, how urgent the
+-- cycle is, and its number.
 pub record CycleHeap : Type 0 where
   pub heap : Heap
   pub heap_no : ℕ
   pub next : ℕ
   pub marked : List ℕ
+  pub tags : List Tag
   pub grey : List ℕ
   pub found : List (List ℕ)
   pub phase : Phase
@@ -41,6 +43,7 @@ first_cycle_heap config heap_no next cycle = record {
   heap_no = heap_no;
   next = next;
   marked = [];
+  tags = [];
   grey = [];
   found = replicate config.workers [];
   phase = Idle;
@@ -116,7 +119,8 @@ young k n = if is_in_cycle k.phase then blackened k n else k
 
 -- one more object, in the slot
 abbrev pub with_made : CycleHeap → ℕ → ℕ → Object → CycleHeap
-with_made k m d o = young (record k { heap = made k.heap m d o; next = k.next + 1 }) o.no
+with_made k m d o =
+    young (record k { heap = made k.heap m d o; next = k.next + 1; tags = with_new_tag k.tags o.no }) o.no
 
 -- the slot holds what was loaded
 abbrev pub loaded : CycleHeap → ℕ → ℕ → Option ℕ → CycleHeap
@@ -203,4 +207,9 @@ is_swept k n = is_due k n && not (has k.heap.holds n)
 
 abbrev pub swept : CycleHeap → ℕ → CycleHeap
 swept k n =
-    if is_swept k n then record k { heap = record k.heap { objects = without (n ∷ []) k.heap.objects } } else k
+    if is_swept k n
+    then record k {
+      heap = record k.heap { objects = without (n ∷ []) k.heap.objects };
+      tags = without_tag k.tags n;
+    }
+    else k

@@ -17,6 +17,7 @@ seen_marker g grey found phase urgency cycle = record {
   heap_no = g.heap_no;
   next = g.next;
   marked = g.marked;
+  tags = g.tags;
   grey = grey.stands;
   found = worklists_of found;
   phase = phase;
@@ -24,9 +25,9 @@ seen_marker g grey found phase urgency cycle = record {
   cycle = cycle;
 }
 
--- the objects, slots and holds of the heap, with the marks
+-- the objects, slots and holds of the heap, with marks and tags
 abbrev pub ground_of : CycleHeap → Ground
-ground_of k = record { heap = k.heap; heap_no = k.heap_no; next = k.next; marked = k.marked }
+ground_of k = record { heap = k.heap; heap_no = k.heap_no; next = k.next; marked = k.marked; tags = k.tags }
 
 -- in each list there is room for as many as there are cells, and with the grey ones it has no more than the marked
 abbrev pub AreRoomy : List Worklist → ℕ → ℕ → ℕ → Type 0

@@ -1,5 +1,5 @@
 -- A list of numbers that is filled at its end and taken from at its front.
-use Rattle.std.specs.Prelude.{ℕ, List, [], ◌∷◌, ◌++◌, Option, Some, None}
+use Rattle.std.specs.Prelude.{ℕ, List, [], ◌∷◌, ◌++◌, drop, Option, Some, None}
 
 -- the numbers that stand in it, first first, and how many it has room for
 pub record Worklist : Type 0 where
@@ -15,6 +15,10 @@ with_last l n = record l { stands = l.stands ++ n ∷ [] }
 abbrev pub first_in : List ℕ → Option ℕ
 first_in [] = None
 first_in (n ∷ ns) = Some n
+
+-- the one at this place, from 0 on
+abbrev pub listed_at : List ℕ → ℕ → Option ℕ
+listed_at ns place = first_in (drop place ns)
 
 abbrev pub rest_of : List ℕ → List ℕ
 rest_of [] = []

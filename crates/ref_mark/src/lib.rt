@@ -18,3 +18,4 @@ mod marker;
 mod worklist;
 
 pub use marker::Marker;
+pub use worklist::Worklist;

@@ -1,8 +1,9 @@
-//! A list of objects that are still to be looked at.
+//! A list of objects that something is still to be done with.
 
 ghost use Rattle.std.specs.Prelude.{◌≡◌, ◌<◌, IfOk, length};
 ghost use Rattle.std.specs.VecDeque.{deque_capacity};
 ghost use Rattle.ref_mark.specs.Worklists.{empty_worklist, with_last, without_first_listed, first_in, emptied_list};
+ghost use Rattle.ref_mark.specs.Worklists.{listed_at};
 ghost use Rattle.ref_base.specs.Refusals.{is_empty};
 
 use ref_base::ObjNo;
@@ -13,7 +14,7 @@ use std::marker::Model;
 /// A list of objects that is filled at its end and taken from at its front. Its memory is taken by `new`. Each call
 /// takes constant time, but `clear`.
 #[derive(Drop)]
-pub(crate) struct Worklist<A: Allocator = Global> {
+pub struct Worklist<A: Allocator = Global> {
     numbers: VecDeque<ObjNo, A>,
     room: usize,
 }
@@ -32,22 +33,36 @@ impl<A: Allocator> Model for Worklist<A> {
 
 impl<A: Allocator> Worklist<A> {
     /// An empty list with room for so many.
-    pub(crate) fn new(alloc: A, room: usize) -> Result<Self, AllocError>
+    pub fn new(alloc: A, room: usize) -> Result<Self, AllocError>
         ensures { IfOk result (λ l. l ≡ empty_worklist room) }
     {
         let numbers = VecDeque::with_capacity(alloc, room)?;
         Ok(Worklist { numbers, room })
     }
 
+    /// How many stand in it.
+    pub fn len(&self) -> usize
+        ensures { result ≡ length self.now.stands }
+    {
+        self.numbers.len()
+    }
+
+    /// That at this place, from 0 on.
+    pub fn get(&self, place: usize) -> Option<ObjNo>
+        ensures { result ≡ listed_at self.now.stands place }
+    {
+        self.numbers.get(place).copied()
+    }
+
     /// Whether nothing stands in it.
-    pub(crate) fn is_empty(&self) -> bool
+    pub fn is_empty(&self) -> bool
         ensures { result ≡ is_empty self.now.stands }
     {
         self.numbers.is_empty()
     }
 
     /// One more, last.
-    pub(crate) fn push(&mut self, no: ObjNo)
+    pub fn push(&mut self, no: ObjNo)
         requires { length self.old.stands < self.old.room }
         ensures { self.new ≡ with_last self.old no }
     {
@@ -55,7 +70,7 @@ impl<A: Allocator> Worklist<A> {
     }
 
     /// Takes the first.
-    pub(crate) fn take_first(&mut self) -> Option<ObjNo>
+    pub fn take_first(&mut self) -> Option<ObjNo>
         ensures answer { result ≡ first_in self.old.stands }
         ensures after { self.new ≡ without_first_listed self.old }
     {
@@ -63,7 +78,7 @@ impl<A: Allocator> Worklist<A> {
     }
 
     /// Takes all out. In time of how many there are.
-    pub(crate) fn clear(&mut self)
+    pub fn clear(&mut self)
         ensures { self.new ≡ emptied_list self.old }
     {
         self.numbers.clear();

@@ -26,6 +26,7 @@ use Rattle.ref_objects.proofs.TabledLemmas.{objects_of-same, objects_of-append, 
 use Rattle.ref_objects.proofs.TabledLemmas.{holds_of-changed, holds_of-made, holds_of-without, holds_of-dropped}
 use Rattle.ref_objects.proofs.TabledLemmas.{has-holds_of, length-one_more, length-one_fewer}
 use Rattle.ref_objects.proofs.MarkLemmas.{marked_of-changed, marked_of-made, marked_of-without}
+use Rattle.ref_objects.proofs.TagLemmas.{tags_of-changed, tags_of-made, tags_of-without}
 
 -- ---- what is read
 
@@ -165,6 +166,7 @@ seen_made config heap_no t slots clock next place k r =
       objects_of-append t.tabled (made_entry next k r ∷ []),
       holds_of-made t.tabled (made_entry next k r) refl,
       marked_of-made t.tabled (made_entry next k r) refl,
+      tags_of-made t.tabled next k r,
     ) refl
 
 -- ---- an object changed
@@ -190,6 +192,7 @@ seen_changed config heap_no t slots clock next n f keeps =
       objects_of-changed t.tabled n f,
       holds_of-changed t.tabled n f keeps,
       marked_of-changed t.tabled n (on_object f) (λ k. keeps k.object) (λ k. refl),
+      tags_of-changed t.tabled n (on_object f) (λ k. keeps k.object) (λ k. refl),
     ) refl
 
 -- ---- holds
@@ -339,6 +342,7 @@ module _ (config : Config) (heap_no : ℕ) (t : Table) (slots : List (Option ℕ
         objects_of-same t.tabled n more_held (λ k. refl),
         holds_of-added t.tabled n rising there,
         marked_of-changed t.tabled n more_held (λ k. refl) (λ k. refl),
+        tags_of-changed t.tabled n more_held (λ k. refl) (λ k. refl),
       ) refl
 
   pub seen_dropped : 0 < holds_in (tabled_at t.tabled n)
@@ -349,6 +353,7 @@ module _ (config : Config) (heap_no : ℕ) (t : Table) (slots : List (Option ℕ
         objects_of-same t.tabled n less_held (λ k. refl),
         holds_of-dropped t.tabled n held,
         marked_of-changed t.tabled n less_held (λ k. refl) (λ k. refl),
+        tags_of-changed t.tabled n less_held (λ k. refl) (λ k. refl),
       ) refl
 
   pub seen_freed : seen_ground config heap_no (table.table_freed t n) slots clock next
@@ -364,6 +369,7 @@ module _ (config : Config) (heap_no : ℕ) (t : Table) (slots : List (Option ℕ
               objects_of-without t.tabled n rising,
               holds_of-without t.tabled n none,
               marked_of-without t.tabled n rising,
+              tags_of-without t.tabled n,
             ) refl)
         | inr held ↦
             let stays : is_free (heap_of config t slots clock) n ≡ false =

@@ -10,3 +10,4 @@ pub mod GroundLemmas
 pub mod UnmarkedLemmas
 pub mod MarkLemmas
 pub mod MarkedLemmas
+pub mod TagLemmas

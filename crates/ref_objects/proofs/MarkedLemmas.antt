@@ -9,6 +9,7 @@ use Rattle.ref_objects.specs.Grounds.{ground_marked, without_marks}
 use Rattle.ref_objects.proofs.MarkLemmas.{is_unmarked-tabled, marked_of-marked, marked_of-marked_again}
 use Rattle.ref_objects.proofs.MarkLemmas.{objects_of-with_marked, holds_of-with_marked}
 use Rattle.ref_objects.proofs.MarkLemmas.{objects_of-unmarked_tabled, holds_of-unmarked_tabled}
+use Rattle.ref_objects.proofs.TagLemmas.{tags_of-changed, tags_of-unmarked_tabled}
 use Rattle.ref_objects.proofs.UnmarkedLemmas.{marked_of-unmarked_tabled}
 
 pub sound_marked : (config : Config) (t : Table) (slots : List (Option ℕ)) (holds next n : ℕ)
@@ -35,6 +36,7 @@ seen_marked config heap_no t slots clock next n rising =
             objects_of-with_marked t.tabled n true,
             holds_of-with_marked t.tabled n true,
             marked_of-marked t.tabled n rising new,
+            tags_of-changed t.tabled n (with_marked true) (λ k. refl) (λ k. refl),
           ) refl)
       | inr old ↦
           simp (same, old)
@@ -42,6 +44,7 @@ seen_marked config heap_no t slots clock next n rising =
             objects_of-with_marked t.tabled n true,
             holds_of-with_marked t.tabled n true,
             marked_of-marked_again t.tabled n old,
+            tags_of-changed t.tabled n (with_marked true) (λ k. refl) (λ k. refl),
           ) refl)
     ]
 
@@ -60,7 +63,12 @@ pub seen_without_marks : (config : Config) (heap_no : ℕ) (t : Table) (slots : 
     → seen_ground config heap_no (without_table_marks t) slots clock next
     ≡ without_marks (seen_ground config heap_no t slots clock next)
 seen_without_marks config heap_no t slots clock next =
-    rw (objects_of-unmarked_tabled t.tabled, holds_of-unmarked_tabled t.tabled, marked_of-unmarked_tabled t.tabled) refl
+    rw (
+      objects_of-unmarked_tabled t.tabled,
+      holds_of-unmarked_tabled t.tabled,
+      marked_of-unmarked_tabled t.tabled,
+      tags_of-unmarked_tabled t.tabled,
+    ) refl
 
 -- numbers up to the last are below the next
 pub there_below : (os : List Object) (last next : ℕ) → last < next → AllUpTo last (numbers os) → (n : ℕ)

@@ -5,8 +5,8 @@ use Rattle.ref_base.specs.Graphs.{Object, Reference}
 use Rattle.ref_base.specs.Heaps.{Heap, nulls}
 use Rattle.ref_base.specs.Limits.{is_within_limits}
 use Rattle.ref_base.specs.declared.config.Config.{Config}
-use Rattle.ref_objects.specs.Tables.{Table, objects_of, holds_of, marked_of}
-use Rattle.ref_objects.specs.Grounds.{Ground}
+use Rattle.ref_objects.specs.Tables.{Table, objects_of, holds_of, marked_of, tags_of}
+use Rattle.ref_objects.specs.Grounds.{Ground, with_new_tag}
 
 -- the heap that a table, slots and the clock are
 abbrev pub heap_of : Config → Table → List (Option ℕ) → ℕ → Heap
@@ -24,6 +24,7 @@ seen_ground config heap_no table slots clock next = record {
   heap_no = heap_no;
   next = next;
   marked = marked_of table.tabled;
+  tags = tags_of table.tabled;
 }
 
 -- The configuration is within its limits; there is a cell for each object that it allows, and a slot for each; holds
@@ -46,4 +47,5 @@ made_at g place fields reference =
         slots = slice_set g.heap.slots place (Some g.next);
       };
       next = g.next + 1;
+      tags = with_new_tag g.tags g.next;
     }

@@ -1,10 +1,10 @@
 -- What one sees of the objects of a heap: the heap as plain data, what refuses its calls, and what they leave (package
 -- `java.lang.ref` of Java SE 17 for what making a reference does; numbers, slots, holds and cells: this project's
 -- profile). The functions of a heap are those of the model of the whole collector.
-use Rattle.std.specs.Prelude.{◌≡◌, ℕ, ◌+◌, ◌*◌, ◌/◌, ◌^◌, ◌≤◌, Bool, ◌&&◌, not, if◌then◌else◌, nat_le}
-use Rattle.std.specs.Prelude.{List, [], ◌∷◌, length, Option, Some, None, Result, Ok, Err}
-use Rattle.ref_base.specs.Members.{has}
-use Rattle.ref_base.specs.Graphs.{Object, Reference, is_there}
+use Rattle.std.specs.Prelude.{◌≡◌, ℕ, ◌+◌, ◌*◌, ◌/◌, ◌^◌, ◌≤◌, Bool, ◌==◌, ◌&&◌, not, if◌then◌else◌, nat_le}
+use Rattle.std.specs.Prelude.{List, [], ◌∷◌, ◌++◌, length, map, Option, Some, None, Result, Ok, Err}
+use Rattle.ref_base.specs.Members.{has, without_first}
+use Rattle.ref_base.specs.Graphs.{Object, Reference, is_there, numbers}
 use Rattle.ref_base.specs.Limits.{is_within_limits}
 use Rattle.ref_base.specs.Orderly.{IsOrderly}
 use Rattle.ref_base.specs.Heaps.{Heap, first_heap, slot_at, with_hold, made, one_more, one_fewer}
@@ -18,13 +18,20 @@ use Rattle.ref_objects.specs.declared.start.Start.{Start}
 use Rattle.ref_objects.specs.declared.kind.Kind.{Kind}
 use Rattle.ref_objects.specs.declared.kind.Kind.TheVariants as kind
 
--- a heap, its number among the heaps of a program, the number of its next object, and the numbers of the objects that
--- are marked, in order
+-- what a heap knows of an object that the model doesn't: of that of this number, the cycle in which a worker cleared it
+-- last, or 0
+pub record Tag : Type 0 where
+  pub no : ℕ
+  pub cleared_in : ℕ
+
+-- a heap, its number among the heaps of a program, the number of its next object, the numbers of the objects that are
+-- marked, and the tag of each object, both in order
 pub record Ground : Type 0 where
   pub heap : Heap
   pub heap_no : ℕ
   pub next : ℕ
   pub marked : List ℕ
+  pub tags : List Tag
 
 -- ---- a new heap
 
@@ -44,7 +51,7 @@ starting_refusal config start =
 -- a heap in which nothing was made yet
 abbrev pub first_ground : Config → ℕ → ℕ → Ground
 first_ground config heap_no next =
-    record { heap = first_heap config; heap_no = heap_no; next = next; marked = [] }
+    record { heap = first_heap config; heap_no = heap_no; next = next; marked = []; tags = [] }
 
 -- this is made, unless it is refused with just this fault, or memory isn't there
 abbrev pub IsMade : {T : Type 0} → Option Fault → T → Result T Fault → Type 0
@@ -108,6 +115,11 @@ abbrev pub stamp_in : Option Reference → ℕ
 stamp_in None = 0
 stamp_in (Some r) = r.stamp
 
+-- the cycle in which object n was cleared last: 0 where it never was, or isn't there
+abbrev pub cleared_in_at : List Tag → ℕ → ℕ
+cleared_in_at [] n = 0
+cleared_in_at (t ∷ ts) n = if t.no == n then t.cleared_in else cleared_in_at ts n
+
 -- the first of these numbers that is at least n: the least, where they are in order
 abbrev pub least_from : List ℕ → ℕ → Option ℕ
 least_from [] n = None
@@ -133,9 +145,24 @@ if_done (Err fault) after before = before
 abbrev pub ground_with_heap : Ground → Heap → Ground
 ground_with_heap g heap = record g { heap = heap }
 
+-- the tags with that of a new object n, which was never cleared
+abbrev pub with_new_tag : List Tag → ℕ → List Tag
+with_new_tag ts n = ts ++ record { no = n; cleared_in = 0 } ∷ []
+
+-- the tags but that of object n
+abbrev pub without_tag : List Tag → ℕ → List Tag
+without_tag = without_first (λ t. t.no)
+
+-- object n was cleared in this cycle
+abbrev pub with_cleared_tag : List Tag → ℕ → ℕ → List Tag
+with_cleared_tag [] n cycle = []
+with_cleared_tag (t ∷ ts) n cycle =
+    if t.no == n then record t { cleared_in = cycle } ∷ ts else t ∷ with_cleared_tag ts n cycle
+
 -- one more object, in the slot
 abbrev pub with_new_object : Ground → ℕ → ℕ → Object → Ground
-with_new_object g m d o = record g { heap = made g.heap m d o; next = g.next + 1 }
+with_new_object g m d o =
+    record g { heap = made g.heap m d o; next = g.next + 1; tags = with_new_tag g.tags o.no }
 
 -- one more hold of what was minted
 abbrev pub after_minting : Ground → Result HoldName Fault → Ground
@@ -169,17 +196,20 @@ abbrev pub unmarked : List Object → List ℕ → List ℕ
 unmarked [] marked = []
 unmarked (o ∷ os) marked = if has marked o.no then unmarked os marked else o.no ∷ unmarked os marked
 
--- an object goes that nobody holds, and its mark with it
+-- an object goes that nobody holds, and its mark and tag with it
 abbrev pub after_freeing : Ground → ℕ → Ground
 after_freeing g n =
-    if is_free g.heap n then record g { heap = freed g.heap n; marked = one_fewer g.marked n } else g
+    if is_free g.heap n
+    then record g { heap = freed g.heap n; marked = one_fewer g.marked n; tags = without_tag g.tags n }
+    else g
 
 -- ---- what holds at all times
 
 -- objects and slots are in order, and so are the holds; there are at most as many objects as cells, and marks as
--- objects
+-- objects; and each object has its tag
 pub record IsWellFormed (g : Ground) : Type 0 where
   pub orderly : IsOrderly g.heap g.next
   pub held : IsInOrder g.heap.holds
   pub few : length g.heap.objects ≤ g.heap.config.cells
   pub marks : length g.marked ≤ length g.heap.objects
+  pub tagged : map (λ t. t.no) g.tags ≡ numbers g.heap.objects

@@ -10,12 +10,13 @@ use Rattle.ref_objects.specs.Tables.{Tabled, Table, marked_of, with_marked}
 use Rattle.ref_objects.specs.declared.index.Entry.{Entry}
 
 -- what a cell holds: an object, or nothing where it has no number
-abbrev pub tabled_in : Option ℕ → List (Option ℕ) → Option Reference → ℕ → Bool → Option Tabled
-tabled_in None fields reference holds marked = None
-tabled_in (Some n) fields reference holds marked = Some (record {
+abbrev pub tabled_in : Option ℕ → List (Option ℕ) → Option Reference → ℕ → Bool → ℕ → Option Tabled
+tabled_in None fields reference holds marked cleared_in = None
+tabled_in (Some n) fields reference holds marked cleared_in = Some (record {
   object = record { no = n; fields = fields; reference = reference };
   holds = holds;
   marked = marked;
+  cleared_in = cleared_in;
 })
 
 -- what the cell at a place holds: nothing where there is no such place

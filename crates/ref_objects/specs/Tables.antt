@@ -6,13 +6,15 @@ use Rattle.ref_base.specs.Members.{without_first}
 use Rattle.ref_base.specs.Graphs.{Object, Reference, numbers}
 use Rattle.ref_base.specs.Strengths.{IsRising}
 use Rattle.ref_base.specs.Heaps.{reference_in}
-use Rattle.ref_objects.specs.Grounds.{fields_in}
+use Rattle.ref_objects.specs.Grounds.{fields_in, Tag}
 
--- an object of the table, how many holds of it are out, and whether it is marked
+-- an object of the table, how many holds of it are out, whether it is marked, and the cycle in which a worker cleared
+-- it last, or 0
 pub record Tabled : Type 0 where
   pub object : Object
   pub holds : ℕ
   pub marked : Bool
+  pub cleared_in : ℕ
 
 -- the objects that there are, in order of number, how many there may be, and the greatest number that was ever given
 pub record Table : Type 0 where
@@ -126,12 +128,13 @@ without_object t n = record t { tabled = without_tabled t.tabled n }
 abbrev pub table_freed : Table → ℕ → Table
 table_freed t n = if is_unheld (tabled_at t.tabled n) then without_object t n else t
 
--- an object that nobody holds, unmarked and of so many null fields
+-- an object that nobody holds, unmarked, never cleared and of so many null fields
 abbrev pub made_entry : ℕ → ℕ → Option Reference → Tabled
 made_entry n count reference = record {
   object = record { no = n; fields = replicate count None; reference = reference };
   holds = 0;
   marked = false;
+  cleared_in = 0;
 }
 
 -- the table with one more object, whose number is the greatest
@@ -177,3 +180,19 @@ unmarked_tabled (k ∷ ks) = with_marked false k ∷ unmarked_tabled ks
 -- the table with none of its objects marked
 abbrev pub table_unmarked : Table → Table
 table_unmarked t = record t { tabled = unmarked_tabled t.tabled }
+
+-- ---- tags
+
+-- the tag of each object, in order
+abbrev pub tags_of : List Tabled → List Tag
+tags_of [] = []
+tags_of (k ∷ ks) = record { no = k.object.no; cleared_in = k.cleared_in } ∷ tags_of ks
+
+-- the cycle in which the object was cleared last: 0 where there is none
+abbrev pub tabled_cleared_in : Option Tabled → ℕ
+tabled_cleared_in None = 0
+tabled_cleared_in (Some k) = k.cleared_in
+
+-- cleared in this cycle
+abbrev pub with_cleared_in : ℕ → Tabled → Tabled
+with_cleared_in cycle k = record k { cleared_in = cycle }

@@ -7,6 +7,7 @@ ghost use Rattle.ref_objects.specs.Places.{is_of, is_held_as, is_unmarked_as, un
 ghost use Rattle.ref_objects.specs.Tables.{made_entry, tabled_fields, has_field, tabled_reference, holds_in};
 ghost use Rattle.ref_objects.specs.Tables.{on_object, more_held, less_held};
 ghost use Rattle.ref_objects.specs.Tables.{is_marked_in, is_unmarked_in, with_marked};
+ghost use Rattle.ref_objects.specs.Tables.{tabled_cleared_in, with_cleared_in};
 
 use crate::fields::Fields;
 use crate::reference::Reference;
@@ -22,6 +23,8 @@ pub(crate) struct Cell {
     reference: Option<Reference>,
     holds: u64,
     marked: bool,
+    // The cycle in which a worker cleared it last, or 0.
+    cleared_in: u64,
 }
 
 impl Model for Cell {
@@ -32,7 +35,7 @@ impl Model for Cell {
 
     ghost use Rattle.ref_objects.specs.Places.{tabled_in};
 
-    ghost view = { λ c. tabled_in c.no c.fields c.reference c.holds c.marked };
+    ghost view = { λ c. tabled_in c.no c.fields c.reference c.holds c.marked c.cleared_in };
 }
 
 impl Cell {
@@ -46,10 +49,11 @@ impl Cell {
             reference: None,
             holds: 0,
             marked: false,
+            cleared_in: 0,
         }
     }
 
-    /// The cell of a new object that nobody holds, unmarked, with so many null fields.
+    /// The cell of a new object that nobody holds, unmarked, never cleared, with so many null fields.
     pub(crate) fn of(no: ObjNo, count: usize, reference: Option<Reference>) -> Self
         requires { count ≤ 8 }
         ensures { result ≡ Some (made_entry no count reference) }
@@ -60,6 +64,7 @@ impl Cell {
             reference,
             holds: 0,
             marked: false,
+            cleared_in: 0,
         }
     }
 
@@ -165,6 +170,23 @@ impl Cell {
             self.holds -= 1;
         }
         is_held
+    }
+
+    /// The cycle in which a worker cleared the object last: 0 where none did, and where there is no object.
+    pub(crate) fn cleared_in(&self) -> u64
+        ensures { result ≡ tabled_cleared_in self.now }
+    {
+        match self.no {
+            Some(_) => self.cleared_in,
+            None => 0,
+        }
+    }
+
+    /// Writes that cycle.
+    pub(crate) fn set_cleared_in(&mut self, cycle: u64)
+        ensures { self.new ≡ option_map (with_cleared_in cycle) self.old }
+    {
+        self.cleared_in = cycle;
     }
 
     /// The cell has no object any more.

@@ -27,7 +27,7 @@ use std::marker::Model;
 
 /// The objects of a heap: their fields and references, the slots of the mutators, and the holds that are out.
 ///
-/// All its memory is taken as it is made: 156 bytes for each cell, 128 for each mutator's slots, and none by any other
+/// All its memory is taken as it is made: 164 bytes for each cell, 128 for each mutator's slots, and none by any other
 /// call. An object is found by its number in logarithmic time, and in constant time where none with a greater number
 /// was freed before the gaps were last closed: so is each that was made since.
 #[derive(Drop)]

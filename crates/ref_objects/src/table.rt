@@ -17,7 +17,7 @@ use ref_base::{Fault, ObjNo};
 use std::alloc::{AllocError, Allocator, Global};
 use std::marker::Model;
 
-/// The objects of a heap, each with a count of holds and a mark. All memory is taken by `new`: for each cell 136 bytes
+/// The objects of a heap, each with a count of holds and a mark. All memory is taken by `new`: for each cell 144 bytes
 /// of its own, 16 of the index and 4 of the free places.
 #[derive(Drop)]
 pub(crate) struct Table<A: Allocator = Global> {
@@ -55,7 +55,7 @@ impl<A: Allocator + Copy> Table<A> {
     ghost use Rattle.ref_objects.specs.Tables.{on_object, more_held, less_held};
     ghost use Rattle.ref_objects.specs.Tables.{changed, table_freed, made_entry, with_tabled};
     ghost use Rattle.ref_objects.specs.Tables.{is_marked_in, is_unmarked_in, marked_of, unmarked_from, with_marked};
-    ghost use Rattle.ref_objects.specs.Tables.{table_unmarked};
+    ghost use Rattle.ref_objects.specs.Tables.{table_unmarked, tabled_cleared_in, with_cleared_in};
 
     /// A table of no objects, with so many free cells. The one error is `NoMemory`.
     pub(crate) fn new(alloc: A, room: usize) -> Result<Self, Fault>
@@ -180,6 +180,26 @@ impl<A: Allocator + Copy> Table<A> {
     {
         if let Some(place) = place_of(&self.cells, &self.index, no) {
             self.cells[place].set_stamp(stamp);
+        }
+    }
+
+    /// The cycle in which a worker cleared the object of this number last: 0 where none did, and where there is no such
+    /// object.
+    pub(crate) fn cleared_in(&self, no: ObjNo) -> u64
+        ensures { result ≡ tabled_cleared_in (tabled_at self.now.tabled no) }
+    {
+        match cell_of(&self.cells, &self.index, no) {
+            Some(cell) => cell.cleared_in(),
+            None => 0,
+        }
+    }
+
+    /// Writes that cycle. Nothing changes where there is no such object.
+    pub(crate) fn set_cleared_in(&mut self, no: ObjNo, cycle: u64)
+        ensures { self.new ≡ changed self.old no (with_cleared_in cycle) }
+    {
+        if let Some(place) = place_of(&self.cells, &self.index, no) {
+            self.cells[place].set_cleared_in(cycle);
         }
     }
 

@@ -1,12 +1,12 @@
 //! What lies in the cells of a heap: objects found by number, their fields and references, gaps, cells used again.
 
 use super::Ask::{
-    FieldCount, FieldOf, FirstFrom, HasObject, IsHeld, IsMarked, NextNo, ObjectCount, ReferenceOf,
-    UnmarkedCount, UnmarkedFrom,
+    ClearedIn, FieldCount, FieldOf, FirstFrom, HasObject, IsHeld, IsMarked, NextNo, ObjectCount,
+    ReferenceOf, UnmarkedCount, UnmarkedFrom,
 };
 use super::Call::{Ask, Do, Set};
 use super::Do::{Free, Mark, New, Refer, Store};
-use super::Set::{ClockTo, CloseGaps, Cut, Stamp, UnmarkAll};
+use super::Set::{Cleared, ClockTo, CloseGaps, Cut, Stamp, UnmarkAll};
 use super::{agree, agree_from, config};
 use crate::told::Told;
 use ref_base::{Config, Fault, ObjNo, QueueNo, Strength};
@@ -195,4 +195,28 @@ fn every_mark_is_taken_away(rt: HostRuntime) -> Result<(), Fail> {
         (Ask(ObjectCount), Told::Count(4)),
     ];
     agree(&rt, rt.alloc(), 4, &story)
+}
+
+#[test]
+fn a_clear_is_told_till_its_object_goes(rt: HostRuntime) -> Result<(), Fail> {
+    let story = [
+        (Do(New(0, 0)), Told::Object(1)),
+        (Do(New(1, 0)), Told::Object(2)),
+        // A new object was never cleared.
+        (Ask(ClearedIn(1)), Told::Began(0)),
+        (Set(Cleared(1, 7)), Told::Done),
+        (Ask(ClearedIn(1)), Told::Began(7)),
+        (Ask(ClearedIn(2)), Told::Began(0)),
+        (Set(Cleared(1, 8)), Told::Done),
+        (Ask(ClearedIn(1)), Told::Began(8)),
+        // There is none.
+        (Set(Cleared(3, 9)), Told::Done),
+        (Ask(ClearedIn(3)), Told::Began(0)),
+        (Do(Free(1)), Told::Yes),
+        (Ask(ClearedIn(1)), Told::Began(0)),
+        // It lies in the same cell.
+        (Do(New(0, 0)), Told::Object(3)),
+        (Ask(ClearedIn(3)), Told::Began(0)),
+    ];
+    agree(&rt, rt.alloc(), 2, &story)
 }

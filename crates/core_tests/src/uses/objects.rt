@@ -72,6 +72,17 @@ fn a_soft_reference_has_its_stamp_and_queue(objects: &mut Objects) -> bool
     objects.stamp_of(ObjNo(2)) == 5 && objects.queue_of(ObjNo(2)).is_some()
 }
 
+/// The cycle in which an object was cleared is told of it, and of no other.
+fn a_clear_is_told_of_its_object_alone(objects: &mut Objects) -> bool
+    requires { objects.old ≡ first_ground CONFIG 1 1 }
+    ensures { result ≡ true }
+{
+    let _first = objects.alloc_obj(MutNo(0), SlotNo(0), 0);
+    let _second = objects.alloc_obj(MutNo(0), SlotNo(1), 0);
+    objects.set_cleared_in(ObjNo(1), 7);
+    objects.cleared_in(ObjNo(1)) == 7 && objects.cleared_in(ObjNo(2)) == 0
+}
+
 /// A hold is counted once, and no more once it is released.
 fn a_hold_is_counted_till_its_release(objects: &mut Objects) -> bool
     requires { objects.old ≡ first_ground CONFIG 1 1 }
@@ -138,6 +149,10 @@ fn what_callers_of_objects_see(rt: HostRuntime) {
         (
             "a soft reference has its stamp and its queue",
             a_soft_reference_has_its_stamp_and_queue(&mut heap(&rt, alloc, 1)),
+        ),
+        (
+            "a clear is told of its object alone",
+            a_clear_is_told_of_its_object_alone(&mut heap(&rt, alloc, 1)),
         ),
         (
             "a hold is counted till its release",

@@ -5,7 +5,7 @@ ghost use Rattle.ref_mark.specs.MarkCalls.{reply_of, done_reply};
 ghost use Rattle.ref_clear.specs.ClearCalls.{answer_in, after_in, looked_reply};
 
 use super::Heap;
-use crate::{Looked, Pending};
+use crate::Looked;
 use ref_base::{Fault, HeapStep, ObjNo, Phase, Reply, WorkerNo};
 use ref_objects::Reference;
 use std::alloc::Allocator;
@@ -31,16 +31,11 @@ impl<A: Allocator + Copy> Heap<A> {
         if !self.marker.is_doomed(referent) {
             return Ok(Some(Looked::Kept(no)));
         }
-        // Gives the proof that no more are pending than there is room for.
+        // Gives the proof that no more are pending than there is room for, and that the object tells the cycle.
         self.marker.objects().facts();
         self.marker.cut(no);
-        if let Some(queue) = reference.queue {
-            let cycle = self.marker.cycle();
-            self.pending[worker.0 as usize].push(Pending {
-                object: no,
-                queue,
-                cycle,
-            });
+        if reference.queue.is_some() {
+            self.pending[worker.0 as usize].push(no);
         }
         Ok(Some(Looked::Cleared(no)))
     }

@@ -1,16 +1,15 @@
 //! The cycle, from its begin to the mark's end.
 
 ghost use Rattle.std.specs.Prelude.{◌≡◌};
-ghost use Rattle.ref_base.specs.Worlds.{pending_numbers};
+ghost use Rattle.ref_base.specs.Collectors.{joined};
 ghost use Rattle.ref_mark.specs.CycleHeaps.{shaded_all};
 ghost use Rattle.ref_mark.specs.MarkCalls.{reply_of, scan_reply};
+ghost use Rattle.ref_mark.specs.MarkViews.{worklists_of};
 ghost use Rattle.ref_clear.specs.ClearCalls.{answer_in, after_in};
-ghost use Rattle.ref_clear.specs.ClearViews.{pending_lists_of, numbers_in};
 
 use super::Heap;
-use crate::pending::PendingList;
 use ref_base::{Fault, HeapStep, ObjNo, Reply, Urgency, WorkerNo};
-use ref_mark::Marker;
+use ref_mark::{Marker, Worklist};
 use std::alloc::Allocator;
 
 impl<A: Allocator + Copy> Heap<A> {
@@ -45,8 +44,8 @@ impl<A: Allocator + Copy> Heap<A> {
 }
 
 // The pending references become grey, worker by worker.
-fn shade_pending<A: Allocator + Copy>(marker: &mut Marker<A>, pending: &[PendingList<A>])
-    ensures { marker.new ≡ shaded_all marker.old (pending_numbers (pending_lists_of pending.now)) }
+fn shade_pending<A: Allocator + Copy>(marker: &mut Marker<A>, pending: &[Worklist<A>])
+    ensures { marker.new ≡ shaded_all marker.old (joined (worklists_of pending.now)) }
 {
     for worker in 0..pending.len() {
         shade_listed(marker, &pending[worker]);
@@ -54,12 +53,12 @@ fn shade_pending<A: Allocator + Copy>(marker: &mut Marker<A>, pending: &[Pending
 }
 
 // What is pending of one worker becomes grey.
-fn shade_listed<A: Allocator + Copy>(marker: &mut Marker<A>, list: &PendingList<A>)
-    ensures { marker.new ≡ shaded_all marker.old (numbers_in list.now.stands) }
+fn shade_listed<A: Allocator + Copy>(marker: &mut Marker<A>, list: &Worklist<A>)
+    ensures { marker.new ≡ shaded_all marker.old list.now.stands }
 {
     for place in 0..list.len() {
-        if let Some(reference) = list.get(place) {
-            marker.grey_root(reference.object);
+        if let Some(no) = list.get(place) {
+            marker.grey_root(no);
         }
     }
 }

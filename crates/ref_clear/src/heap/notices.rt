@@ -5,7 +5,7 @@ ghost use Rattle.ref_mark.specs.MarkCalls.{reply_of};
 ghost use Rattle.ref_clear.specs.ClearCalls.{answer_in, after_in, notice_reply, IsOfHeap};
 
 use super::Heap;
-use crate::Notice;
+use crate::{Notice, Pending};
 use ref_base::{Cause, Fault, HeapStep, MutNo, SlotNo, WorkerNo};
 use std::alloc::Allocator;
 
@@ -21,9 +21,10 @@ impl<A: Allocator + Copy> Heap<A> {
         if worker.0 >= self.config().workers {
             return Err(Fault::NoSuchActor);
         }
-        let Some(first) = self.pending[worker.0 as usize].get(0) else {
+        let Some(no) = self.pending[worker.0 as usize].get(0) else {
             return Ok(None);
         };
+        let first = Pending::of(&self.marker, no);
         let hold = self.marker.mint(first.object)?;
         let _first = self.pending[worker.0 as usize].take_first();
         let cause = Cause::Cycle(first.cycle, worker);

@@ -5,7 +5,7 @@ ghost use Rattle.ref_base.specs.Heaps.{with_changed, with_reference, cleared};
 ghost use Rattle.ref_base.specs.Collectors.{joined};
 ghost use Rattle.ref_base.specs.CollectorRows.{list_at};
 ghost use Rattle.ref_base.specs.Refusals.{is_empty, work_refusal};
-ghost use Rattle.ref_objects.specs.Grounds.{IsRefused, if_done, least_from};
+ghost use Rattle.ref_objects.specs.Grounds.{IsRefused, if_done, least_from, with_cleared_tag};
 ghost use Rattle.ref_mark.specs.Worklists.{first_in};
 ghost use Rattle.ref_mark.specs.CycleHeaps.{shaded, cycle_in_phase, with_found_taken, doomed, is_due};
 ghost use Rattle.ref_mark.specs.CycleHeaps.{is_swept, swept, is_past_mark};
@@ -55,11 +55,16 @@ impl<A: Allocator + Copy> Marker<A> {
         self.found.iter().any(|list| !list.is_empty())
     }
 
-    /// Clears the reference of this number; nothing changes where there is none. In logarithmic time.
+    /// Clears the reference of this number, for a worker, in this cycle; nothing changes where there is no such object.
+    /// In logarithmic time.
     pub fn cut(&mut self, no: ObjNo)
-        ensures { self.new ≡ record self.old { heap = with_changed self.old.heap no (with_reference cleared) } }
+        ensures { self.new ≡ record self.old {
+          heap = with_changed self.old.heap no (with_reference cleared);
+          tags = with_cleared_tag self.old.tags no self.old.cycle;
+        } }
     {
         self.objects.cut(no);
+        self.objects.set_cleared_in(no, self.cycle);
     }
 
     /// The least number from this one on of a doomed object. In logarithmic time, and that of the objects between.

@@ -1,9 +1,11 @@
-//! What the layers above change of a heap's objects: slots, stamps, referents, the clock, and which objects there are.
+//! What the layers above change of a heap's objects: slots, stamps, referents, the cycle of a clear, the clock, and
+//! which objects there are.
 
 ghost use Rattle.std.specs.Prelude.{◌≡◌, true};
 ghost use Rattle.ref_base.specs.Heaps.{with_slot, with_changed, with_reference, with_stamp, cleared, with_clock};
 ghost use Rattle.ref_base.specs.Refusals.{drop_refusal};
 ghost use Rattle.ref_objects.specs.Grounds.{IsRefused, if_done, ground_with_heap, is_free, after_freeing};
+ghost use Rattle.ref_objects.specs.Grounds.{with_cleared_tag};
 
 use super::Objects;
 use ref_base::{Fault, MutNo, ObjNo, SlotNo};
@@ -46,6 +48,14 @@ impl<A: Allocator + Copy> Objects<A> {
         ensures { self.new ≡ ground_with_heap self.old (with_changed self.old.heap no (with_reference cleared)) }
     {
         self.table.cut(no);
+    }
+
+    /// Writes in which cycle a worker cleared the object of this number last; nothing changes where there is none. In
+    /// logarithmic time.
+    pub fn set_cleared_in(&mut self, no: ObjNo, cycle: u64)
+        ensures { self.new ≡ record self.old { tags = with_cleared_tag self.old.tags no cycle } }
+    {
+        self.table.set_cleared_in(no, cycle);
     }
 
     /// Frees the object of this number, and its cell; its mark goes. True exactly where there is one and nobody holds

@@ -7,6 +7,7 @@ ghost use Rattle.ref_base.specs.Heaps.{slot_at, reference_at, registered_in};
 ghost use Rattle.ref_base.specs.CollectorRows.{referent_of};
 ghost use Rattle.ref_base.specs.Refusals.{drop_refusal};
 ghost use Rattle.ref_objects.specs.Grounds.{IsRefused, fields_in, kind_in, stamp_in, least_from, IsWellFormed};
+ghost use Rattle.ref_objects.specs.Grounds.{cleared_in_at};
 
 use super::Objects;
 use crate::fields::Fields;
@@ -147,6 +148,14 @@ impl<A: Allocator + Copy> Objects<A> {
         ensures { result ≡ registered_in (reference_at self.now.heap no) }
     {
         self.reference_of(no)?.queue
+    }
+
+    /// The cycle in which a worker cleared the object of this number last: 0 where none did, and where there is no such
+    /// object.
+    pub fn cleared_in(&self, no: ObjNo) -> u64
+        ensures { result ≡ cleared_in_at self.now.tags no }
+    {
+        self.table.cleared_in(no)
     }
 
     /// The least number from this one on of an object that is there. In logarithmic time, and that of the gaps that

@@ -1,10 +1,10 @@
-use Rattle.std.proofs.Common.{◌≡◌, true, false, Some, None, set, sym, ap, ◌∙◌}
-use Rattle.ref_clear.proofs.Common.{Reference, reference_at, registered_in, is_to_clear, seen_heap}
+use Rattle.std.proofs.Common.{◌≡◌, true, false, is_some, set, sym, ap, ◌∙◌}
+use Rattle.ref_clear.proofs.Common.{Reference, is_to_clear, seen_heap}
 use Rattle.ref_clear.proofs.LookAnswers.{sound_none, sound_passed, seen_cut, sound_cut, seen_pended, sound_pended}
-use Rattle.ref_clear.proofs.LookAnswers.{look_within, look_has_room, few_taken}
+use Rattle.ref_clear.proofs.LookAnswers.{look_within, look_has_room, few_taken, tagged_taken, no_queue_read}
 use Rattle.ref_clear.proofs.LookAnswers.{no_reference, no_referent, clears_by, queue_read}
 use Rattle.ref_clear.proofs.heap.Heap.clear_next.Goals as goal
-use Rattle.ref_clear.proofs.heap.Heap.clear_next.Goals.{in-Some-queue, in_default-queue}
+use Rattle.ref_clear.proofs.heap.Heap.clear_next.Goals.{then-is_some, else-is_some}
 
 pub invariant_of-self-in_default : goal.invariant_of-self-in_default
 invariant_of-self-in_default g c =
@@ -54,33 +54,35 @@ push-requires g c =
     (sym c.in_ok-no.ensures.answer ∙ c.in-Some.is) goes (rw c.worker.view_is at c.index_mut.ensures.value)
     (few_taken c.self.inside.marker c.args.worker c.in_ok-no.ensures.after c.objects-2.ensures c.facts.ensures)
 
-pub invariant_of-self-in-Some-queue : goal.invariant_of-self-in-Some-queue
-invariant_of-self-in-Some-queue g c =
+pub invariant_of-self-then-is_some : goal.invariant_of-self-then-is_some
+invariant_of-self-then-is_some g c =
     let goes : is_to_clear c.self.inside.marker c.in-Some.no ≡ true =
     clears_by c.self.inside.marker c.args.worker c.in_ok-no.ensures.after c.objects.ensures c.in-Some.no
     c.reference_of.ensures c.in-Some-reference_of.is
     (ap (λ (r : Reference). r.referent) (sym c.reference.view_is) ∙ c.in-Some-referent.is)
     (sym c.is_doomed.ensures ∙ c.if-not-is_doomed.false) in
-    let queue : registered_in (reference_at c.self.inside.marker.heap c.in-Some.no) ≡ Some c.in-Some-queue.queue =
+    let queue =
     queue_read c.self.inside.marker c.args.worker c.in_ok-no.ensures.after c.objects.ensures c.in-Some.no
     c.reference_of.ensures c.in-Some-reference_of.is
-    (ap (λ (r : Reference). r.queue) (sym c.reference.view_is) ∙ c.in-Some-queue.is) in
+    (ap (λ (r : Reference). is_some r.queue) (sym c.reference.view_is) ∙ sym c.is_some.ensures ∙ c.if-is_some.true) in
+    let tagged =
+    tagged_taken c.self.inside.marker c.args.worker c.in_ok-no.ensures.after c.objects-2.ensures c.facts.ensures in
     rw c.worker.view_is
     (sound_pended c.args.worker c.in_ok-no.ensures.refused c.self.invariant c.in-Some.no
-    (sym c.in_ok-no.ensures.answer ∙ c.in-Some.is) goes (rw c.worker.view_is at c.index_mut.ensures.value)
-    c.in-Some-queue.queue queue c.in_ok-no.ensures.after c.cut.ensures (rw c.cycle-cycle.ensures at c.push.ensures))
+    (sym c.in_ok-no.ensures.answer ∙ c.in-Some.is) goes (rw c.worker.view_is at c.index_mut.ensures.value) _ queue
+    c.in_ok-no.ensures.after c.cut.ensures c.push.ensures tagged)
 
-pub invariant_of-self-in_default-queue : goal.invariant_of-self-in_default-queue
-invariant_of-self-in_default-queue g c =
+pub invariant_of-self-else-is_some : goal.invariant_of-self-else-is_some
+invariant_of-self-else-is_some g c =
     let goes : is_to_clear c.self.inside.marker c.in-Some.no ≡ true =
     clears_by c.self.inside.marker c.args.worker c.in_ok-no.ensures.after c.objects.ensures c.in-Some.no
     c.reference_of.ensures c.in-Some-reference_of.is
     (ap (λ (r : Reference). r.referent) (sym c.reference.view_is) ∙ c.in-Some-referent.is)
     (sym c.is_doomed.ensures ∙ c.if-not-is_doomed.false) in
-    let none : registered_in (reference_at c.self.inside.marker.heap c.in-Some.no) ≡ None =
-    queue_read c.self.inside.marker c.args.worker c.in_ok-no.ensures.after c.objects.ensures c.in-Some.no
+    let none =
+    no_queue_read c.self.inside.marker c.args.worker c.in_ok-no.ensures.after c.objects.ensures c.in-Some.no
     c.reference_of.ensures c.in-Some-reference_of.is
-    (ap (λ (r : Reference). r.queue) (sym c.reference.view_is) ∙ c.in_default-queue.is) in
+    (ap (λ (r : Reference). is_some r.queue) (sym c.reference.view_is) ∙ sym c.is_some.ensures ∙ c.if-is_some.false) in
     sound_cut c.args.worker c.in_ok-no.ensures.refused c.self.invariant c.in-Some.no
     (sym c.in_ok-no.ensures.answer ∙ c.in-Some.is) goes none c.in_ok-no.ensures.after c.cut.ensures
 
@@ -91,25 +93,27 @@ returns-clause-after g c =
     c.reference_of.ensures c.in-Some-reference_of.is
     (ap (λ (r : Reference). r.referent) (sym c.reference.view_is) ∙ c.in-Some-referent.is)
     (sym c.is_doomed.ensures ∙ c.if-not-is_doomed.false) in
+    let tagged =
+    tagged_taken c.self.inside.marker c.args.worker c.in_ok-no.ensures.after c.objects-2.ensures c.facts.ensures in
     rw (← c.self.view_is)
-    (elim c.match-reference-2.branch [
-      | in-Some-queue w ↦
-          let queue : registered_in (reference_at c.self.inside.marker.heap c.in-Some.no)
-          ≡ Some w.in-Some-queue.queue =
+    (elim c.if-is_some.branch [
+      | then-is_some w ↦
+          let queue =
           queue_read c.self.inside.marker c.args.worker c.in_ok-no.ensures.after c.objects.ensures c.in-Some.no
           c.reference_of.ensures c.in-Some-reference_of.is
-          (ap (λ (r : Reference). r.queue) (sym c.reference.view_is) ∙ w.in-Some-queue.is) in
+          (ap (λ (r : Reference). is_some r.queue) (sym c.reference.view_is) ∙ sym c.is_some.ensures
+          ∙ w.if-is_some.true) in
           w.self-is
           ∙ ap (λ i. seen_heap c.cut.new.self (set c.self.inside.pending.items i w.push.new.self)) c.worker.view_is
           ∙ seen_pended c.args.worker c.in_ok-no.ensures.refused c.self.invariant c.in-Some.no
-          (sym c.in_ok-no.ensures.answer ∙ c.in-Some.is) goes (rw c.worker.view_is at w.index_mut.ensures.value)
-          w.in-Some-queue.queue queue c.in_ok-no.ensures.after c.cut.ensures
-          (rw w.cycle-cycle.ensures at w.push.ensures)
-      | in_default-queue w ↦
-          let none : registered_in (reference_at c.self.inside.marker.heap c.in-Some.no) ≡ None =
-          queue_read c.self.inside.marker c.args.worker c.in_ok-no.ensures.after c.objects.ensures c.in-Some.no
+          (sym c.in_ok-no.ensures.answer ∙ c.in-Some.is) goes (rw c.worker.view_is at w.index_mut.ensures.value) _ queue
+          c.in_ok-no.ensures.after c.cut.ensures w.push.ensures tagged
+      | else-is_some w ↦
+          let none =
+          no_queue_read c.self.inside.marker c.args.worker c.in_ok-no.ensures.after c.objects.ensures c.in-Some.no
           c.reference_of.ensures c.in-Some-reference_of.is
-          (ap (λ (r : Reference). r.queue) (sym c.reference.view_is) ∙ w.in_default-queue.is) in
+          (ap (λ (r : Reference). is_some r.queue) (sym c.reference.view_is) ∙ sym c.is_some.ensures
+          ∙ w.if-is_some.false) in
           w.self-is
           ∙ seen_cut c.args.worker c.in_ok-no.ensures.refused c.self.invariant c.in-Some.no
           (sym c.in_ok-no.ensures.answer ∙ c.in-Some.is) goes none c.in_ok-no.ensures.after c.cut.ensures

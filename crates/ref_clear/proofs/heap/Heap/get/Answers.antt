@@ -1,10 +1,13 @@
-use Rattle.std.proofs.Common.{ap, refl}
+use Rattle.std.proofs.Common.{refl}
 use Rattle.ref_base.specs.declared.heap_step.HeapStep.TheVariants as heap
-use Rattle.ref_clear.proofs.Common.{CycleHeap, seen_heap}
-use Rattle.ref_clear.proofs.SoundHeaps.{sound_after}
+use Rattle.ref_clear.proofs.MarkedHeaps.{after_marked, sound_marked}
 use Rattle.ref_clear.proofs.heap.Heap.get.Goals as goal
 
 pub invariant_of-self : goal.invariant_of-self
 invariant_of-self g c =
-    sound_after (heap.Get c.args.mutator c.args.into c.args.reference) refl c.self.invariant
-    (ap (λ (k : CycleHeap). seen_heap k c.self.inside.pending.items) c.get.ensures.after) c.self.invariant.room
+    sound_marked (heap.Get c.args.mutator c.args.into c.args.reference) c.self.invariant c.get.ensures.after refl refl
+
+pub returns-clause-after : goal.returns-clause-after
+returns-clause-after g c =
+    after_marked (heap.Get c.args.mutator c.args.into c.args.reference)
+    c.self.invariant c.get.ensures.after refl c.self.view_is

@@ -2,7 +2,7 @@ use Rattle.std.proofs.Common.{Some, refl, sym, ap, ◌∙◌, arith}
 use Rattle.std.proofs.lemmas.Result.{err_from_is_err_and}
 use Rattle.ref_base.specs.declared.heap_step.HeapStep.TheVariants as heap
 use Rattle.ref_clear.proofs.HandAnswers.{none_to_hand, hand_refused, handed}
-use Rattle.ref_clear.proofs.PendingLists.{worker_within, worker_has_list, stands_as_seen, first_as_seen, room_taken}
+use Rattle.ref_clear.proofs.PendingLists.{worker_within, worker_has_list, first_as_seen, room_taken, listed_registered}
 use Rattle.ref_clear.proofs.SoundHeaps.{sound_after}
 use Rattle.ref_clear.proofs.heap.Heap.hand.Goals as goal
 
@@ -34,21 +34,30 @@ returns-in_default-clause-after g c =
     let none = first_as_seen w c.self.invariant within c.index.ensures c.get.ensures c.in_default.is in
     rw (← c.self.view_is, ← c.worker.view_is) (none_to_hand w c.self.invariant within none).1
 
+pub of-first-requires : goal.of-first-requires
+of-first-requires g c =
+    let w = c.worker.inside.0 in
+    let within = worker_within w c.self.invariant c.self.view_is c.config.ensures c.if-worker-config.false in
+    listed_registered w c.self.invariant 0 c.in-Some.no (worker_has_list w c.self.invariant within) c.index.ensures
+    c.get.ensures c.in-Some.is
+
 pub invariant_of-self : goal.invariant_of-self
 invariant_of-self g c =
     let w = c.worker.inside.0 in
     let within = worker_within w c.self.invariant c.self.view_is c.config.ensures c.if-worker-config.false in
-    let is = c.in-Some.is ∙ ap (λ p. Some p) (sym c.first.view_is) in
-    let first = first_as_seen w c.self.invariant within c.index.ensures c.get.ensures is in
+    let first =
+    first_as_seen w c.self.invariant within c.index.ensures c.get.ensures c.in-Some.is
+    ∙ ap (λ p. Some p) (sym (c.first.view_is ∙ c.of-first.ensures)) in
     let step = hand_refused w c.self.invariant within first c.in_err-hold.ensures.answer c.in_err-hold.ensures.after in
-    sound_after (heap.Hand w) refl c.self.invariant step.1 c.self.invariant.room
+    sound_after (heap.Hand w) refl c.self.invariant step.1 c.self.invariant.room step.2
 
 pub returns-in_err-hold-clause-answer : goal.returns-in_err-hold-clause-answer
 returns-in_err-hold-clause-answer g c =
     let w = c.worker.inside.0 in
     let within = worker_within w c.self.invariant c.self.view_is c.config.ensures c.if-worker-config.false in
-    let is = c.in-Some.is ∙ ap (λ p. Some p) (sym c.first.view_is) in
-    let first = first_as_seen w c.self.invariant within c.index.ensures c.get.ensures is in
+    let first =
+    first_as_seen w c.self.invariant within c.index.ensures c.get.ensures c.in-Some.is
+    ∙ ap (λ p. Some p) (sym (c.first.view_is ∙ c.of-first.ensures)) in
     let step = hand_refused w c.self.invariant within first c.in_err-hold.ensures.answer c.in_err-hold.ensures.after in
     let p = err_from_is_err_and c.from_residual.result c.from_residual.ensures.1 in
     rw (← c.self.view_is, ← c.worker.view_is, p.1, p.2) step.0
@@ -57,8 +66,9 @@ pub returns-in_err-hold-clause-after : goal.returns-in_err-hold-clause-after
 returns-in_err-hold-clause-after g c =
     let w = c.worker.inside.0 in
     let within = worker_within w c.self.invariant c.self.view_is c.config.ensures c.if-worker-config.false in
-    let is = c.in-Some.is ∙ ap (λ p. Some p) (sym c.first.view_is) in
-    let first = first_as_seen w c.self.invariant within c.index.ensures c.get.ensures is in
+    let first =
+    first_as_seen w c.self.invariant within c.index.ensures c.get.ensures c.in-Some.is
+    ∙ ap (λ p. Some p) (sym (c.first.view_is ∙ c.of-first.ensures)) in
     let step = hand_refused w c.self.invariant within first c.in_err-hold.ensures.answer c.in_err-hold.ensures.after in
     rw (← c.self.view_is, ← c.worker.view_is) step.1
 
@@ -66,36 +76,36 @@ pub invariant_of-self-2 : goal.invariant_of-self-2
 invariant_of-self-2 g c =
     let w = c.worker.inside.0 in
     let within = worker_within w c.self.invariant c.self.view_is c.config.ensures c.if-worker-config.false in
-    let is = c.in-Some.is ∙ ap (λ p. Some p) (sym c.first.view_is) in
-    let first = first_as_seen w c.self.invariant within c.index.ensures c.get.ensures is in
-    let stands = stands_as_seen w c.self.invariant within c.index_mut.ensures.value in
+    let first =
+    first_as_seen w c.self.invariant within c.index.ensures c.get.ensures c.in-Some.is
+    ∙ ap (λ p. Some p) (sym (c.first.view_is ∙ c.of-first.ensures)) in
     let step =
-    handed w c.self.invariant within first c.in_ok-hold.ensures.answer c.in_ok-hold.ensures.after stands
-    c.take_first-first.ensures.after in
+    handed w c.self.invariant within first c.in_ok-hold.ensures.answer c.in_ok-hold.ensures.after
+    c.index_mut.ensures.value c.take_first-first.ensures.after in
     sound_after (heap.Hand w) refl c.self.invariant step.1
     (room_taken w c.self.invariant within _ c.index_mut.ensures.value c.take_first-first.ensures.after
-    c.self.invariant.room)
+    c.self.invariant.room) step.2
 
 pub returns-clause-answer : goal.returns-clause-answer
 returns-clause-answer g c =
     let w = c.worker.inside.0 in
     let within = worker_within w c.self.invariant c.self.view_is c.config.ensures c.if-worker-config.false in
-    let is = c.in-Some.is ∙ ap (λ p. Some p) (sym c.first.view_is) in
-    let first = first_as_seen w c.self.invariant within c.index.ensures c.get.ensures is in
-    let stands = stands_as_seen w c.self.invariant within c.index_mut.ensures.value in
+    let first =
+    first_as_seen w c.self.invariant within c.index.ensures c.get.ensures c.in-Some.is
+    ∙ ap (λ p. Some p) (sym (c.first.view_is ∙ c.of-first.ensures)) in
     let step =
-    handed w c.self.invariant within first c.in_ok-hold.ensures.answer c.in_ok-hold.ensures.after stands
-    c.take_first-first.ensures.after in
+    handed w c.self.invariant within first c.in_ok-hold.ensures.answer c.in_ok-hold.ensures.after
+    c.index_mut.ensures.value c.take_first-first.ensures.after in
     rw (c.new.ensures, ← c.self.view_is, ← c.worker.view_is) step.0
 
 pub returns-clause-after : goal.returns-clause-after
 returns-clause-after g c =
     let w = c.worker.inside.0 in
     let within = worker_within w c.self.invariant c.self.view_is c.config.ensures c.if-worker-config.false in
-    let is = c.in-Some.is ∙ ap (λ p. Some p) (sym c.first.view_is) in
-    let first = first_as_seen w c.self.invariant within c.index.ensures c.get.ensures is in
-    let stands = stands_as_seen w c.self.invariant within c.index_mut.ensures.value in
+    let first =
+    first_as_seen w c.self.invariant within c.index.ensures c.get.ensures c.in-Some.is
+    ∙ ap (λ p. Some p) (sym (c.first.view_is ∙ c.of-first.ensures)) in
     let step =
-    handed w c.self.invariant within first c.in_ok-hold.ensures.answer c.in_ok-hold.ensures.after stands
-    c.take_first-first.ensures.after in
+    handed w c.self.invariant within first c.in_ok-hold.ensures.answer c.in_ok-hold.ensures.after
+    c.index_mut.ensures.value c.take_first-first.ensures.after in
     rw (← c.self.view_is, ← c.worker.view_is) step.1

@@ -1,7 +1,7 @@
-use Rattle.std.proofs.Common.{◌≡◌, ◌<◌, List, length, slice_index_or, sym, ap, subst, ◌∙◌}
-use Rattle.std.proofs.lemmas.Bool.{lt-ltb, false≢true, ltb-true}
-use Rattle.ref_clear.proofs.Common.{Pending, PendingList, pending_from}
-use Rattle.ref_clear.proofs.PendingLists.{pending_at-seen, none_past}
+use Rattle.std.proofs.Common.{◌<◌, List, length, sym, ap, subst, ◌∙◌, Some}
+use Rattle.std.proofs.lemmas.Bool.{lt-ltb, false≢true}
+use Rattle.ref_clear.proofs.Common.{Worklist}
+use Rattle.ref_clear.proofs.PendingLists.{told_as_seen, found_list, listed_registered, none_past}
 use Rattle.ref_clear.proofs.heap.Heap.pending_of.Goals as goal
 
 pub returns-in_err-get : goal.returns-in_err-get
@@ -11,19 +11,32 @@ returns-in_err-get g c =
     (sym (none_past c.self.inside.marker c.self.inside.pending.items w c.args.place (λ within.
     false≢true (c.in_err-get.ensures.lookup.0
     ∙ lt-ltb w (length c.deref.result.now)
-    (subst (λ (ls : List PendingList). w < length ls) (sym c.deref.ensures.value) within)))))
+    (subst (λ (ls : List Worklist). w < length ls) (sym c.deref.ensures.value) within)))))
+
+pub returns-in_err-no : goal.returns-in_err-no
+returns-in_err-no g c =
+    let w = c.worker.inside.0 in
+    let at =
+    found_list w c.deref.ensures.value (sym c.in_ok-get.ensures.lookup.0) c.in_ok-get.ensures.lookup.1 in
+    rw (← c.self.view_is, ← c.worker.view_is, c.from_residual-in_err-no.ensures)
+    (sym
+    (told_as_seen c.self.inside.marker c.self.inside.pending.items w c.args.place at.0 at.1 c.get-2.ensures
+    c.in_err-no.was))
+
+pub of-requires : goal.of-requires
+of-requires g c =
+    let w = c.worker.inside.0 in
+    let at =
+    found_list w c.deref.ensures.value (sym c.in_ok-get.ensures.lookup.0) c.in_ok-get.ensures.lookup.1 in
+    listed_registered w c.self.invariant c.args.place c.in_ok-no.no at.0 at.1 c.get-2.ensures c.in_ok-no.was
 
 pub returns : goal.returns
 returns g c =
-    let lists = c.self.inside.pending.items in
     let w = c.worker.inside.0 in
-    let l : PendingList = c.in_ok-get.field-0.now in
-    let found : w < length c.deref.result.now =
-    ltb-true w (length c.deref.result.now) (sym c.in_ok-get.ensures.lookup.0) in
-    let within : w < length lists = subst (λ (ls : List PendingList). w < length ls) c.deref.ensures.value found in
-    let is : l ≡ slice_index_or lists w l =
-    c.in_ok-get.ensures.lookup.1 ∙ ap (λ (ls : List PendingList). slice_index_or ls w l) c.deref.ensures.value in
+    let at =
+    found_list w c.deref.ensures.value (sym c.in_ok-get.ensures.lookup.0) c.in_ok-get.ensures.lookup.1 in
     rw (← c.self.view_is, ← c.worker.view_is)
-    (c.get-2.ensures
-    ∙ ap (λ (ps : List Pending). pending_from ps c.args.place)
-    (pending_at-seen c.self.inside.marker lists w l within is))
+    (ap (λ p. Some p) c.of.ensures
+    ∙ sym
+    (told_as_seen c.self.inside.marker c.self.inside.pending.items w c.args.place at.0 at.1 c.get-2.ensures
+    c.in_ok-no.was))

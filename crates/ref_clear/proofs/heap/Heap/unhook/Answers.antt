@@ -1,15 +1,28 @@
-use Rattle.std.proofs.Common.{◌≡◌, Some, refl, sym, ap, ◌∙◌, subst}
-use Rattle.ref_clear.proofs.Common.{Reference, CycleHeap, seen_heap, IsSoundHeap}
+use Rattle.std.proofs.Common.{◌≡◌, Some, None, refl, sym, ap, ◌∙◌, subst}
+use Rattle.ref_clear.proofs.Common.{Reference, CycleHeap, ClearHeap, IsSoundHeap, after_in}
 use Rattle.ref_base.specs.declared.heap_step.HeapStep.TheVariants as heap
 use Rattle.ref_clear.proofs.NoticeAnswers.{mint_refused}
 use Rattle.ref_clear.proofs.SoundHeaps.{sound_after}
-use Rattle.ref_clear.proofs.UnhookAnswers.{slot_is_there, slot_holds, reference_is, unhook_done}
+use Rattle.ref_clear.proofs.MarkedHeaps.{seen_marked, sound_marked}
+use Rattle.ref_clear.proofs.UnhookAnswers.{slot_is_there, slot_holds, reference_is, unhook_cut, unhook_done}
 use Rattle.ref_clear.proofs.heap.Heap.unhook.Goals as goal
 
 pub invariant_of-self-in_default : goal.invariant_of-self-in_default
 invariant_of-self-in_default g c =
-    sound_after (heap.Clear c.args.mutator c.args.reference) refl c.self.invariant
-    (ap (λ (k : CycleHeap). seen_heap k c.self.inside.pending.items) c.clear.ensures.after) c.self.invariant.room
+    sound_marked (heap.Clear c.args.mutator c.args.reference) c.self.invariant c.clear.ensures.after refl refl
+
+pub returns-in_default-clause-after : goal.returns-in_default-clause-after
+returns-in_default-clause-after g c =
+    let k : CycleHeap = c.self.inside.marker in
+    let queue : c.in_ok-unhooked.unhooked.queue ≡ None =
+    ap (λ (r : Reference). r.queue) (sym c.unhooked.view_is) ∙ c.in_default.is in
+    seen_marked (heap.Clear c.args.mutator c.args.reference) c.self.invariant c.clear.ensures.after
+    ∙ unhook_cut k c.self.inside.pending.items c.args.mutator c.args.reference
+    (slot_is_there k c.args.mutator c.args.reference c.objects.ensures c.in_ok-slot_of.ensures.refused)
+    (slot_holds k c.args.mutator c.args.reference c.objects.ensures c.in_ok-slot_of.ensures.answer
+    c.in_ok-no.ensures.ok_part)
+    (reference_is k c.in_ok-no.no c.objects-2.ensures c.reference_of.ensures c.in_ok-unhooked.ensures.ok_part) queue
+    ∙ ap (λ (d : ClearHeap). after_in d (heap.Unhook c.args.mutator c.args.reference)) c.self.view_is
 
 pub invariant_of-self-in_err-hold : goal.invariant_of-self-in_err-hold
 invariant_of-self-in_err-hold g c =
@@ -23,13 +36,13 @@ invariant_of-self-2 g c =
     let queue : c.in_ok-unhooked.unhooked.queue ≡ Some c.in-Some.queue =
     ap (λ (r : Reference). r.queue) (sym c.unhooked.view_is) ∙ c.in-Some.is in
     let step =
-    unhook_done k c.self.inside.pending.items c.args.mutator c.args.reference
+    unhook_done c.self.invariant c.args.mutator c.args.reference
     (slot_is_there k c.args.mutator c.args.reference c.objects.ensures c.in_ok-slot_of.ensures.refused)
     (slot_holds k c.args.mutator c.args.reference c.objects.ensures c.in_ok-slot_of.ensures.answer
     c.in_ok-no.ensures.ok_part)
     (reference_is k c.in_ok-no.no c.objects-2.ensures c.reference_of.ensures c.in_ok-unhooked.ensures.ok_part) queue
     c.in_ok-hold.ensures.answer c.in_ok-hold.ensures.after c.clear-cleared.ensures.after in
-    sound_after (heap.Unhook c.args.mutator c.args.reference) refl c.self.invariant step.1 c.self.invariant.room
+    sound_after (heap.Unhook c.args.mutator c.args.reference) refl c.self.invariant step.1 c.self.invariant.room step.2
 
 pub returns-clause-answer : goal.returns-clause-answer
 returns-clause-answer g c =
@@ -37,7 +50,7 @@ returns-clause-answer g c =
     let queue : c.in_ok-unhooked.unhooked.queue ≡ Some c.in-Some.queue =
     ap (λ (r : Reference). r.queue) (sym c.unhooked.view_is) ∙ c.in-Some.is in
     let step =
-    unhook_done k c.self.inside.pending.items c.args.mutator c.args.reference
+    unhook_done c.self.invariant c.args.mutator c.args.reference
     (slot_is_there k c.args.mutator c.args.reference c.objects.ensures c.in_ok-slot_of.ensures.refused)
     (slot_holds k c.args.mutator c.args.reference c.objects.ensures c.in_ok-slot_of.ensures.answer
     c.in_ok-no.ensures.ok_part)
@@ -51,7 +64,7 @@ returns-clause-after g c =
     let queue : c.in_ok-unhooked.unhooked.queue ≡ Some c.in-Some.queue =
     ap (λ (r : Reference). r.queue) (sym c.unhooked.view_is) ∙ c.in-Some.is in
     let step =
-    unhook_done k c.self.inside.pending.items c.args.mutator c.args.reference
+    unhook_done c.self.invariant c.args.mutator c.args.reference
     (slot_is_there k c.args.mutator c.args.reference c.objects.ensures c.in_ok-slot_of.ensures.refused)
     (slot_holds k c.args.mutator c.args.reference c.objects.ensures c.in_ok-slot_of.ensures.answer
     c.in_ok-no.ensures.ok_part)

@@ -3,6 +3,7 @@ use Rattle.ref_objects.proofs.Common.{objects_of}
 use Rattle.ref_objects.proofs.GroundLemmas.{length-objects_of, holds_in_order}
 use Rattle.ref_objects.proofs.MarkLemmas.{length-unmarked_of}
 use Rattle.ref_objects.proofs.MarkedLemmas.{there_below}
+use Rattle.ref_objects.proofs.TagLemmas.{numbers-tags_of}
 use Rattle.ref_objects.proofs.objects.Objects.facts.Goals as goal
 
 pub returns : goal.returns
@@ -20,4 +21,5 @@ returns g c =
       held = holds_in_order ks orderly.rising;
       few = omega (arith, same, orderly.few, c.self.invariant.room);
       marks = omega (arith, same, marks);
+      tagged = numbers-tags_of ks;
     })

@@ -1,16 +1,19 @@
--- No step of marking gives a cleared reference a referent.
+-- No step of marking gives a cleared reference a referent, or changes the queue of one.
 use Rattle.std.proofs.Common.{◌≡◌, ℕ, ◌+◌, true, Option, Some, None, refl, sym, ap, subst, ◌∙◌, inl, inr}
 use Rattle.std.proofs.Common.{List, ◌∷◌, []}
 use Rattle.std.proofs.lemmas.Bool.{cases_Bool}
 use Rattle.ref_clear.proofs.Common.{refers_into, Object, Reference, object_at, is_there, plain_object, Heap, slot_at}
 use Rattle.ref_clear.proofs.Common.{reference_in, reference_at, changed_in, made, stored, got, cut, with_field}
 use Rattle.ref_clear.proofs.Common.{with_reference, changed_reference, cleared, got_at, nulls, new_reference}
-use Rattle.ref_clear.proofs.Common.{with_hold, targets_at, is_kept, NamedStep, is_in, referent_of, reference_of}
+use Rattle.ref_clear.proofs.Common.{registered_in, with_hold, targets_at, is_kept, NamedStep, is_in, referent_of}
+use Rattle.ref_clear.proofs.Common.{reference_of}
 use Rattle.ref_clear.proofs.Common.{field_in, Fault, Marking, CycleHeap, policy_in, is_doomed, shaded_all}
 use Rattle.ref_clear.proofs.Common.{with_cleared, cycle_begun, unless_refused}
 use Rattle.ref_base.specs.Paths.{is_soft}
 use Rattle.ref_base.specs.declared.heap_step.HeapStep.TheVariants as heap
 use Rattle.ref_base.proofs.Lookups.{lookup-changed, object_at-push}
+use Rattle.ref_base.proofs.Reshaping.{queue-cleared}
+use Rattle.ref_objects.specs.Grounds.{with_new_tag}
 use Rattle.ref_mark.specs.CycleHeaps.{barred}
 use Rattle.ref_mark.specs.CycleHeaps.{with_made, value_got, with_got, whitened}
 use Rattle.ref_mark.specs.CycleHeaps.{scanned, grey_scanned, roots_of}
@@ -19,16 +22,23 @@ use Rattle.ref_mark.proofs.LoopLemmas.{shaded_heap, shaded_once-heap}
 use Rattle.ref_mark.proofs.Scanning.{with_found-only}
 use Rattle.ref_mark.proofs.ShownHeaps.{young-heap}
 
--- what is there and has no referent in the one heap has none in the other
-abbrev pub StaysCleared : Heap → Heap → Type 0
-StaysCleared h g =
-    (n : ℕ) → is_there h.objects n ≡ true → referent_of (reference_at h n) ≡ None
-    → referent_of (reference_at g n) ≡ None
+-- a reference gets no referent where it had none, and its queue is the same
+abbrev pub IsKeptAs : Option Reference → Option Reference → Type 0
+IsKeptAs r q = (referent_of r ≡ None → referent_of q ≡ None) × (registered_in q ≡ registered_in r)
 
-pub same_objects : (h g : Heap) → g.objects ≡ h.objects → StaysCleared h g
-same_objects h g same n there none = ap (λ os. referent_of (reference_in (object_at os n))) same ∙ none
+same_reference : (r : Option Reference) → IsKeptAs r r
+same_reference r = (λ none. none, refl)
 
-same_heap : (h g : Heap) → g ≡ h → StaysCleared h g
+-- each object that is there has its reference kept so
+abbrev pub KeepsReferences : Heap → Heap → Type 0
+KeepsReferences h g = (n : ℕ) → is_there h.objects n ≡ true → IsKeptAs (reference_at h n) (reference_at g n)
+
+pub same_objects : (h g : Heap) → g.objects ≡ h.objects → KeepsReferences h g
+same_objects h g same n there =
+    subst (λ os. IsKeptAs (reference_at h n) (reference_in (object_at os n))) (sym same)
+    (same_reference (reference_at h n))
+
+same_heap : (h g : Heap) → g ≡ h → KeepsReferences h g
 same_heap h g same = same_objects h g (ap (λ (i : Heap). i.objects) same)
 
 -- ---- changes of one object
@@ -37,43 +47,46 @@ pub config-changed_in : (h : Heap) (held : Option ℕ) (f : Object → Object) �
 config-changed_in h None f = refl
 config-changed_in h (Some n) f = refl
 
--- that keep a cleared reference cleared
+-- that keep its reference
 pub stays-changed : (h : Heap) (held : Option ℕ) (f : Object → Object) → ((o : Object) → (f o).no ≡ o.no)
-    → ((o : Object) → referent_of o.reference ≡ None → referent_of (f o).reference ≡ None)
-    → StaysCleared h (changed_in h held f)
-stays-changed h None f number keeps n there none = none
-stays-changed h (Some i) f number keeps n there none =
-    lookup-changed
-    (λ o p. referent_of (reference_in o) ≡ None → referent_of (reference_in p) ≡ None) h.objects i f number
-    (λ o was. was) (λ o found. keeps o) n none
+    → ((o : Object) → IsKeptAs o.reference (f o).reference) → KeepsReferences h (changed_in h held f)
+stays-changed h None f number keeps n there = same_reference (reference_at h n)
+stays-changed h (Some i) f number keeps n there =
+    lookup-changed (λ o p. IsKeptAs (reference_in o) (reference_in p)) h.objects i f number
+    (λ o. same_reference (reference_in o)) (λ o found. keeps o) n
 
 pub cleared-none : (r : Option Reference) → referent_of (changed_reference cleared r) ≡ None
 cleared-none None = refl
 cleared-none (Some r) = refl
 
-got-none : (clock : ℕ) (r : Option Reference) → referent_of r ≡ None
-    → referent_of (changed_reference (got_at clock) r) ≡ None
-got-none clock None none = refl
-got-none clock (Some r) none =
-    elim (cases_Bool (is_soft r.strength)) [ inl soft ↦ simp soft none | inr other ↦ simp other none ]
+pub cleared-kept : (r : Option Reference) → IsKeptAs r (changed_reference cleared r)
+cleared-kept r = (λ none. cleared-none r, queue-cleared r)
 
-pub stays-cut : (h : Heap) (m s : ℕ) → StaysCleared h (cut h m s)
+got-kept : (clock : ℕ) (r : Option Reference) → IsKeptAs r (changed_reference (got_at clock) r)
+got-kept clock None = same_reference None
+got-kept clock (Some r) =
+    elim (cases_Bool (is_soft r.strength)) [
+      | inl soft ↦ (λ none. simp soft none, simp soft refl)
+      | inr other ↦ (λ none. simp other none, simp other refl)
+    ]
+
+stays-cut : (h : Heap) (m s : ℕ) → KeepsReferences h (cut h m s)
 stays-cut h m s =
-    stays-changed h (slot_at h m s) (with_reference cleared) (λ o. refl) (λ o none. cleared-none o.reference)
+    stays-changed h (slot_at h m s) (with_reference cleared) (λ o. refl) (λ o. cleared-kept o.reference)
 
-stays-stored : (h : Heap) (m d i s : ℕ) → StaysCleared h (stored h m d i s)
+stays-stored : (h : Heap) (m d i s : ℕ) → KeepsReferences h (stored h m d i s)
 stays-stored h m d i s =
-    stays-changed h (slot_at h m d) (with_field i (slot_at h m s)) (λ o. refl) (λ o none. none)
+    stays-changed h (slot_at h m d) (with_field i (slot_at h m s)) (λ o. refl) (λ o. same_reference o.reference)
 
-stays-got : (h : Heap) (m d s : ℕ) (value : Option ℕ) → StaysCleared h (got h m d s value)
+stays-got : (h : Heap) (m d s : ℕ) (value : Option ℕ) → KeepsReferences h (got h m d s value)
 stays-got h m d s None = same_objects h (got h m d s None) refl
 stays-got h m d s (Some n) =
-    stays-changed h (slot_at h m s) (with_reference (got_at h.clock)) (λ o. refl)
-    (λ o none. got-none h.clock o.reference none)
+    stays-changed h (slot_at h m s) (with_reference (got_at h.clock)) (λ o. refl) (λ o. got-kept h.clock o.reference)
 
-stays-made : (h : Heap) (m d : ℕ) (o : Object) → StaysCleared h (made h m d o)
-stays-made h m d o n there none =
-    ap (λ (p : Option Object). referent_of (reference_in p)) (object_at-push h.objects o n there) ∙ none
+stays-made : (h : Heap) (m d : ℕ) (o : Object) → KeepsReferences h (made h m d o)
+stays-made h m d o n there =
+    subst (λ (p : Option Object). IsKeptAs (reference_at h n) (reference_in p))
+    (sym (object_at-push h.objects o n there)) (same_reference (reference_at h n))
 
 -- ---- what leaves the heap as it is
 
@@ -102,16 +115,17 @@ begun-heap k now how late =
 
 -- ---- the steps of marking
 
-held_stays : (h : Heap) (held : Option ℕ) → StaysCleared h (with_hold_of h held)
+held_stays : (h : Heap) (held : Option ℕ) → KeepsReferences h (with_hold_of h held)
 held_stays h None = same_heap h h refl
 held_stays h (Some n) = same_objects h (with_hold h n) refl
 
-made_stays : (k : CycleHeap) (m d : ℕ) (o : Object) → StaysCleared k.heap (with_made k m d o).heap
+made_stays : (k : CycleHeap) (m d : ℕ) (o : Object) → KeepsReferences k.heap (with_made k m d o).heap
 made_stays k m d o =
-    subst (λ (h : Heap). StaysCleared k.heap h)
-    (sym (young-heap (record k { heap = made k.heap m d o; next = k.next + 1 }) o.no)) (stays-made k.heap m d o)
+    let more : CycleHeap =
+    record k { heap = made k.heap m d o; next = k.next + 1; tags = with_new_tag k.tags o.no } in
+    subst (λ (h : Heap). KeepsReferences k.heap h) (sym (young-heap more o.no)) (stays-made k.heap m d o)
 
-pub cleared_stays : (k : CycleHeap) (m s : ℕ) → StaysCleared k.heap (with_cleared k m s).heap
+pub cleared_stays : (k : CycleHeap) (m s : ℕ) → KeepsReferences k.heap (with_cleared k m s).heap
 cleared_stays k m s =
     elim (cases_Bool (refers_into (is_doomed k) (reference_of k.heap (slot_at k.heap m s)))) [
       | inl met ↦
@@ -119,7 +133,7 @@ cleared_stays k m s =
           same_heap k.heap (with_cleared k m s).heap is
       | inr other ↦
           let is : (with_cleared k m s).heap ≡ cut k.heap m s = simp other refl in
-          subst (λ (h : Heap). StaysCleared k.heap h) (sym is) (stays-cut k.heap m s)
+          subst (λ (h : Heap). KeepsReferences k.heap h) (sym is) (stays-cut k.heap m s)
     ]
 
 -- a clear keeps the configuration
@@ -130,7 +144,7 @@ config-cleared k m s =
       | inr other ↦ simp other (config-changed_in k.heap (slot_at k.heap m s) (with_reference cleared))
     ]
 
-done_stays : (k : CycleHeap) (step : NamedStep) → StaysCleared k.heap (done_in k step).heap
+done_stays : (k : CycleHeap) (step : NamedStep) → KeepsReferences k.heap (done_in k step).heap
 done_stays k (heap.New m d f) = made_stays k m d (plain_object k.next (nulls f))
 done_stays k (heap.Refer m strength d s q f) =
     made_stays k m d (new_reference k.heap k.next strength (slot_at k.heap m s) q f)
@@ -144,7 +158,7 @@ done_stays k (heap.Get m d s) =
     let value = value_got k m s in
     let is : (with_got k m d s value).heap ≡ got k.heap m d s value =
     ap (λ (h : Heap). got h m d s value) (barred-heap k value) in
-    subst (λ (h : Heap). StaysCleared k.heap h) (sym is) (stays-got k.heap m d s value)
+    subst (λ (h : Heap). KeepsReferences k.heap h) (sym is) (stays-got k.heap m d s value)
 done_stays k (heap.Clear m s) = cleared_stays k m s
 done_stays k (heap.Hold m s) = held_stays k.heap (slot_at k.heap m s)
 done_stays k (heap.Adopt m d hold) = same_objects k.heap (done_in k (heap.Adopt m d hold)).heap refl
@@ -157,9 +171,9 @@ done_stays k heap.EndMark = same_heap k.heap k.heap refl
 done_stays k step = same_heap k.heap k.heap refl
 
 stays_by : (k : CycleHeap) (step : NamedStep) (refused : Option Fault)
-    → StaysCleared k.heap (unless_refused refused (λ fault. k) (done_in k step)).heap
+    → KeepsReferences k.heap (unless_refused refused (λ fault. k) (done_in k step)).heap
 stays_by k step None = done_stays k step
 stays_by k step (Some fault) = same_heap k.heap k.heap refl
 
-pub after_stays : (k : CycleHeap) (step : NamedStep) → StaysCleared k.heap (after_in_cycle k step).heap
+pub after_stays : (k : CycleHeap) (step : NamedStep) → KeepsReferences k.heap (after_in_cycle k step).heap
 after_stays k step = stays_by k step (refusal_in_cycle k step)

@@ -1,0 +1,52 @@
+-- A step of marking leaves what is pending, and what holds of a heap.
+use Rattle.std.proofs.Common.{◌≡◌, ℕ, true, List, sym, ap, subst, ◌∙◌}
+use Rattle.ref_clear.proofs.Common.{NamedStep, joined, pending_numbers, CycleHeap, shaded_all, ClearHeap}
+use Rattle.ref_clear.proofs.Common.{with_mark, after_in, seen_heap, IsSoundHeap, Worklist, worklists_of}
+use Rattle.ref_mark.specs.MarkCalls.{after_in_cycle}
+use Rattle.ref_mark.proofs.KeptTags.{cycles_after}
+use Rattle.ref_clear.proofs.KeptRows.{goes_on_sweeping}
+use Rattle.ref_clear.proofs.KeptReferences.{after_stays}
+use Rattle.ref_clear.proofs.KeptPending.{AreKept, seen_kept, registered_kept, kept_shaded, kept_by}
+use Rattle.ref_clear.proofs.PendingLists.{pending_numbers-seen}
+use Rattle.ref_clear.proofs.SoundHeaps.{sound_after}
+
+module _ {j k : CycleHeap} {lists : List Worklist} {swept_to : ℕ} (step : NamedStep)
+    (sound : IsSoundHeap k lists swept_to) (after : j ≡ after_in_cycle k step) where
+  marked_kept : AreKept k j lists
+  marked_kept =
+      subst (λ (i : CycleHeap). AreKept k i lists) (sym after)
+      (kept_by sound (after_in_cycle k step) (after_stays k step) (cycles_after k step))
+
+  pub seen_marked : seen_heap j lists ≡ with_mark (seen_heap k lists) (after_in_cycle k step)
+  seen_marked = seen_kept k j lists marked_kept ∙ ap (with_mark (seen_heap k lists)) after
+
+  pub after_marked : {c : ClearHeap}
+      → with_mark (seen_heap k lists) (after_in_cycle k step) ≡ after_in (seen_heap k lists) step
+      → seen_heap k lists ≡ c → seen_heap j lists ≡ after_in c step
+  after_marked same view = seen_marked ∙ same ∙ ap (λ (d : ClearHeap). after_in d step) view
+
+  pub sound_marked : goes_on_sweeping step ≡ true
+      → with_mark (seen_heap k lists) (after_in_cycle k step) ≡ after_in (seen_heap k lists) step
+      → IsSoundHeap j lists swept_to
+  sound_marked own same =
+      sound_after step own sound (seen_marked ∙ same) sound.room
+      (registered_kept k j lists marked_kept sound.registered)
+
+  -- and so it is where what is pending is shaded then
+  module _ {i : CycleHeap} (shades : i ≡ shaded_all j (joined (worklists_of lists))) where
+    shaded_kept : AreKept k i lists
+    shaded_kept =
+        subst (λ (h : CycleHeap). AreKept k h lists) (sym shades)
+        (λ n within. kept_shaded k j (joined (worklists_of lists)) n (marked_kept n within))
+
+    pub seen_shaded : seen_heap i lists
+        ≡ with_mark (seen_heap k lists) (shaded_all j (pending_numbers (seen_heap k lists).pending))
+    seen_shaded =
+        seen_kept k i lists shaded_kept ∙ ap (with_mark (seen_heap k lists)) shades
+        ∙ ap (λ ns. with_mark (seen_heap k lists) (shaded_all j ns))
+        (sym (pending_numbers-seen k.heap.objects k.tags lists))
+
+    pub sound_shaded : goes_on_sweeping step ≡ true → seen_heap i lists ≡ after_in (seen_heap k lists) step
+        → IsSoundHeap i lists swept_to
+    sound_shaded own same =
+        sound_after step own sound same sound.room (registered_kept k i lists shaded_kept sound.registered)

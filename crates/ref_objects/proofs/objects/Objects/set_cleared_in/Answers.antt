@@ -1,0 +1,14 @@
+use Rattle.ref_objects.proofs.TagLemmas.{sound_cleared_in, seen_cleared_in}
+use Rattle.ref_objects.proofs.objects.Objects.set_cleared_in.Goals as goal
+
+pub invariant_of-self : goal.invariant_of-self
+invariant_of-self g c =
+    rw c.set_cleared_in.ensures
+    (sound_cleared_in c.self.inside.config c.self.inside.table c.self.inside.slots.items c.self.inside.holds
+    c.self.inside.next c.args.no c.args.cycle c.self.invariant)
+
+pub returns : goal.returns
+returns g c =
+    rw (← c.self.view_is, c.set_cleared_in.ensures)
+    (seen_cleared_in c.self.inside.config c.self.inside.heap_no c.self.inside.table c.self.inside.slots.items
+    c.self.inside.clock c.self.inside.next c.args.no c.args.cycle)
