@@ -19,7 +19,7 @@ pub use Rattle.ref_base.specs.Heaps.{Heap, changed_at, changed_in, changed_refer
 pub use Rattle.ref_base.specs.Heaps.{new_reference, nulls, one_fewer, one_more, reference_at, reference_in}
 pub use Rattle.ref_base.specs.Heaps.{registered_in, slot_at, stored, with_field, with_hold, with_reference, with_slot}
 pub use Rattle.ref_base.specs.Heaps.{without_hold}
-pub use Rattle.ref_base.specs.KeptPaths.{EverKept, IsKept, Policy, is_kept}
+pub use Rattle.ref_base.specs.KeptPaths.{EverKept, IsKept, is_kept}
 pub use Rattle.ref_base.specs.LeavingEdges.{FirstLeaves, meets}
 pub use Rattle.ref_base.specs.LegalTraces.{IsLegal}
 pub use Rattle.ref_base.specs.MarkEnds.{IsDead, MarkEnded, WasDoomed}
@@ -47,7 +47,7 @@ pub use Rattle.ref_base.specs.Told.{is_added, is_done, is_mark_end, is_nothing, 
 pub use Rattle.ref_base.specs.Told.{told_taken, told_value}
 pub use Rattle.ref_base.specs.WorkerOrder.{clearing_order, if_registered, is_registered, registers}
 pub use Rattle.ref_base.specs.Worlds.{Notice, Pending, SameOthers, World, first_world, graph_of, hand_of, object_of}
-pub use Rattle.ref_base.specs.Worlds.{pending_numbers, pending_of, policy_of, queue_at, with_hand, with_heap}
+pub use Rattle.ref_base.specs.Worlds.{pending_numbers, pending_of, queue_at, with_hand, with_heap}
 pub use Rattle.ref_base.specs.Worlds.{with_pending, with_queue}
 pub use Rattle.ref_base.specs.declared.actor.Actor.{Actor}
 pub use Rattle.ref_base.specs.declared.actor.Actor.TheVariants.{Mutator, Worker}
@@ -61,6 +61,7 @@ pub use Rattle.ref_base.specs.declared.fault.Fault.TheVariants.{NumbersSpent, Wr
 pub use Rattle.ref_base.specs.declared.heap_step.HoldName.{HoldName}
 pub use Rattle.ref_base.specs.declared.phase.Phase.{Phase}
 pub use Rattle.ref_base.specs.declared.phase.Phase.TheVariants.{Clearing, Idle, Marking, Sweeping}
+pub use Rattle.ref_base.specs.declared.policy.Policy.{Policy}
 pub use Rattle.ref_base.specs.declared.reach.Reach.{Reach}
 pub use Rattle.ref_base.specs.declared.reach.Reach.TheVariants.{Phantom, Soft, Strong, Unreachable}
 pub use Rattle.ref_base.specs.declared.reply.Reply.{Reply}

@@ -4,6 +4,7 @@ use Rattle.std.proofs.Common.{inl, inr}
 use Rattle.ref_base.proofs.Common.{Graph, Object, plain_object, first_world, State, first_state, IsRun, IsLegal, Row}
 use Rattle.ref_base.proofs.Common.{Mutator, Weak, Normal, Own, Marking, HandEmpty, NoMemory}
 use Rattle.ref_base.specs.Heaps.{first_heap}
+use Rattle.ref_base.specs.KeptPaths.{policy_from}
 use Rattle.ref_base.specs.declared.step.Step.TheVariants as steps
 use Rattle.ref_base.specs.declared.reply.Reply.TheVariants as replies
 use Rattle.ref_base.proofs.WorkedTraces.{row, config_of}
@@ -179,6 +180,7 @@ abbrev marked : List (Option ℕ) → List Graph → Bool → State
 marked slots moments left = record {
   world = record (first_world (config_of 1)) {
     heap = record (first_heap (config_of 1)) { objects = objects; slots = slots; clock = 5 };
+    policy = policy_from (config_of 1) 5 Normal;
     cycle = 1;
     phase = Marking;
   };

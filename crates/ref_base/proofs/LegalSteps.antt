@@ -2,7 +2,7 @@
 use Rattle.std.proofs.Common.{◌≡◌, ℕ, Bool, true, false, not, refl, sym, ap, ◌∙◌, subst}
 use Rattle.std.proofs.Common.{List, [], ◌∷◌, length, Option, None}
 use Rattle.std.proofs.lemmas.Bool.{false≢true}
-use Rattle.ref_base.proofs.Common.{State, first_state, IsLegal, Config, has, new_clears, MayDoom, policy_of, graph_of}
+use Rattle.ref_base.proofs.Common.{State, first_state, IsLegal, Config, has, new_clears, MayDoom, graph_of}
 use Rattle.ref_base.proofs.Common.{joined, with_handed, EndsMark, AreFound, mark_ended, doomed_at, IsRow, IsRun}
 use Rattle.ref_base.proofs.Common.{IsAnswer, Row, is_in, refusal, unless, Fault, GreyLeft, WrongPhase, Marking, Step}
 use Rattle.ref_base.proofs.Common.{Reply}
@@ -15,7 +15,7 @@ none_left said = absurd (false≢true said)
 
 -- a mark ends, and the workers found these
 pub mark_ends : (a : State) (found : List (List ℕ))
-    → MayDoom (policy_of a.world) (graph_of a.world) a.moments (doomed_at a)
+    → MayDoom a.world.policy (graph_of a.world) a.moments (doomed_at a)
     → AreFound a.world.heap.objects a.scanned found
     → ((n : ℕ) → has (new_clears a.world.heap.objects (doomed_at a)) n ≡ true → has (joined found) n ≡ true)
     → EndsMark a (Doomed (length (doomed_at a))) (mark_ended a (doomed_at a) found)

@@ -5,7 +5,7 @@ use Rattle.std.proofs.lemmas.Bool.{and_parts, false≢true, not-true}
 use Rattle.std.proofs.lemmas.List.{append_assoc}
 use Rattle.ref_base.proofs.Common.{has, Object, Reference, object_at, is_there, numbers, IsRising, IsKept, is_kept}
 use Rattle.ref_base.proofs.Common.{MayDoom, any_is, refers_into, new_clears, reference_in, reference_at, World}
-use Rattle.ref_base.proofs.Common.{policy_of, graph_of, replayed, State, joined, without, referent_of, doomed_at}
+use Rattle.ref_base.proofs.Common.{graph_of, replayed, State, joined, without, referent_of, doomed_at}
 use Rattle.ref_base.proofs.Common.{IsDead, MarkEnded, WasDoomed, Config, Marking, Row}
 use Rattle.ref_base.specs.declared.step.Step.TheVariants as steps
 use Rattle.ref_base.specs.declared.reply.Reply.TheVariants as replies
@@ -33,7 +33,7 @@ RefersToDead w n = (referent : ℕ) × (referent_of (reference_at w.heap n) ≡ 
 -- what a mark's end says, in the world of the replay
 module _ (gone : List ℕ) (w : World) (a : State) (is : Agreeing gone w a) (marking : a.world.phase ≡ Marking)
     (closed : IsClosed (λ n. has gone n ≡ false) a.world)
-    (may : MayDoom (policy_of a.world) (graph_of a.world) a.moments (doomed_at a)) where
+    (may : MayDoom a.world.policy (graph_of a.world) a.moments (doomed_at a)) where
   there : a.world ≡ world_but gone w
   there = as_there gone w a Marking is.agrees marking refl
 
@@ -51,8 +51,8 @@ module _ (gone : List ℕ) (w : World) (a : State) (is : Agreeing gone w a) (mar
     there = (known n (unscanned-there a.world.heap.objects a.born (joined a.scanned) n doomed)).1;
     not_kept = λ kept.
         may.none_kept n doomed
-        (subst (λ (v : World). IsKept (policy_of v) (graph_of v) n) (sym there)
-        (path_but (λ k. has gone k ≡ false) gone w (is_kept (policy_of w)) (λ k out. out)
+        (subst (λ (v : World). IsKept v.policy (graph_of v) n) (sym there)
+        (path_but (λ k. has gone k ≡ false) gone w (is_kept w.policy) (λ k out. out)
         (subst (λ (v : World). IsClosed (λ k. has gone k ≡ false) v) there closed) n kept).1);
   }
 

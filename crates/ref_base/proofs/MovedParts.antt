@@ -1,6 +1,6 @@
 -- What stays where a row of a heap leads.
 use Rattle.std.proofs.Common.{◌≡◌, ℕ, Bool, List, Option, refl, ap, ◌∙◌}
-use Rattle.ref_base.proofs.Common.{Graph, Policy, reference_at, registered_in, World, Pending, policy_of, is_done}
+use Rattle.ref_base.proofs.Common.{Graph, Policy, reference_at, registered_in, World, Pending, is_done}
 use Rattle.ref_base.proofs.Common.{told_cycle, NamedStep, State, Config, Phase, Reply, Notice, Lists, SameOthers}
 use Rattle.ref_base.proofs.Common.{HeapAccepts}
 use Rattle.ref_base.specs.declared.heap_step.HeapStep.TheVariants as heap
@@ -67,11 +67,11 @@ doomed_moved a step reply plain frees = refl
 
 -- the phase, and what tells which objects are left
 abbrev pub mark_of : State → Phase × Policy × List Graph × ℕ × List (List ℕ) × Bool
-mark_of a = (a.world.phase, policy_of a.world, a.moments, a.born, a.scanned, a.left)
+mark_of a = (a.world.phase, a.world.policy, a.moments, a.born, a.scanned, a.left)
 
 -- that of this state in another world
 abbrev pub mark_in : State → World → Phase × Policy × List Graph × ℕ × List (List ℕ) × Bool
-mark_in a w = (w.phase, policy_of w, a.moments, a.born, a.scanned, a.left)
+mark_in a w = (w.phase, w.policy, a.moments, a.born, a.scanned, a.left)
 
 -- the step scans nothing
 abbrev pub ScansNone : NamedStep → Type 0

@@ -7,7 +7,7 @@ use Rattle.std.proofs.lemmas.Bool.{cases_Bool, or_parts, or_from, or_left, or_ri
 use Rattle.std.proofs.lemmas.Bool.{false≢true, false_from_ne_true}
 use Rattle.ref_base.proofs.Common.{has, Graph, Object, Reference, object_at, is_there, Allowed, EndsPath, any_referent}
 use Rattle.ref_base.proofs.Common.{no_referents, present, allowed_referent, targets_of, targets_at, is_kept, MayDoom}
-use Rattle.ref_base.proofs.Common.{any_is, refers_into, cleared, changed_reference, World, Pending, policy_of}
+use Rattle.ref_base.proofs.Common.{any_is, refers_into, cleared, changed_reference, World, Pending}
 use Rattle.ref_base.proofs.Common.{graph_of, pending_of, pending_numbers, with_heap, without, shown}
 use Rattle.ref_base.proofs.CarryRows.{all_more}
 use Rattle.ref_base.proofs.HasLaws.{has-append, has-cases, has-left, has-right}
@@ -131,7 +131,7 @@ all_both P Q R (p ∷ ps) both all also = (both p all.0 also.0, all_both P Q R p
 
 -- where nothing that is gone is in reach, a mark's end leaves nothing in reach that is gone or doomed
 module _ (gone d : List ℕ) (w : World) (moments : List Graph)
-    (may : MayDoom (policy_of w) (graph_of w) moments d)
+    (may : MayDoom w.policy (graph_of w) moments d)
     (there : (n : ℕ) → has d n ≡ true → is_there w.heap.objects n ≡ true)
     (closed : IsClosed (λ n. has gone n ≡ false) w) where
   abbrev IsOut : ℕ → Type 0
@@ -144,7 +144,7 @@ module _ (gone d : List ℕ) (w : World) (moments : List Graph)
   root_out : (n : ℕ) → has gone n ≡ false → has (graph_of w).roots n ≡ true → IsOut n
   root_out n kept root =
       out_of n kept (false_from_ne_true (has d n) (λ doomed.
-      may.none_kept n doomed (root_ends (is_kept (policy_of w)) (graph_of w) n (there n doomed) root)))
+      may.none_kept n doomed (root_ends (is_kept w.policy) (graph_of w) n (there n doomed) root)))
 
   slot_out : (i : ℕ) (value : Option ℕ) → slice_index_or w.heap.slots i None ≡ value
       → OfValue (λ n. has gone n ≡ false) value → OfValue IsOut value
@@ -154,7 +154,7 @@ module _ (gone d : List ℕ) (w : World) (moments : List Graph)
       (has-left (present w.heap.slots ++ w.heap.holds) (pending_numbers w.pending) n
       (has-left (present w.heap.slots) w.heap.holds n (has-present_at w.heap.slots i n is)))
 
-  fields_kept : (r : Reference) → no_referents r ≡ true → is_kept (policy_of w) r ≡ true
+  fields_kept : (r : Reference) → no_referents r ≡ true → is_kept w.policy r ≡ true
   fields_kept r none = absurd (false≢true none)
 
   pub ended_closed : IsClosed IsOut
@@ -182,7 +182,7 @@ module _ (gone d : List ℕ) (w : World) (moments : List Graph)
                   (closed.targets m n parts.0
                   (targets_of-wider no_referents any_referent (λ r none. refl) (object_at os m) n field))
                   (may.closed m n (target_there no_referents (object_at os m) n field) parts.1
-                  (targets_of-wider no_referents (is_kept (policy_of w)) fields_kept (object_at os m) n field))
+                  (targets_of-wider no_referents (is_kept w.policy) fields_kept (object_at os m) n field))
               | inr referent ↦ out_of n (closed.targets m n parts.0 referent.0) referent.1
             ];
       }

@@ -13,7 +13,7 @@ use Rattle.ref_base.specs.DoomedSets.{unscanned, MayDoom, is_new_clear, new_clea
 use Rattle.ref_base.specs.Heaps.{Heap, slot_at, reference_at, reference_in, registered_in, with_slot, with_reference}
 use Rattle.ref_base.specs.Heaps.{cleared, nulls, new_reference, made, stored, got, cut, with_hold, without_hold}
 use Rattle.ref_base.specs.QueueLists.{enqueued, was_put}
-use Rattle.ref_base.specs.Worlds.{World, Notice, Pending, policy_of, graph_of, object_of, hand_of, queue_at, pending_of}
+use Rattle.ref_base.specs.Worlds.{World, Notice, Pending, graph_of, object_of, hand_of, queue_at, pending_of}
 use Rattle.ref_base.specs.Worlds.{with_heap}
 use Rattle.ref_base.specs.HeapSteps.{NamedStep, heap_step, handed}
 use Rattle.ref_base.specs.Replay.{put_in, took, adopted, pended, handed_on, begun, with_phase, closed_queue}
@@ -49,7 +49,7 @@ Gives answer c reply b = (reply ≡ answer) × (b ≡ ticked c)
 
 -- an object is left: it was ever kept, it was made before the cycle began, and no row of the cycle scanned it
 abbrev pub IsLeft : State → ℕ → Type 0
-IsLeft a n = EverKept (policy_of a.world) a.moments n × (n < a.born) × (has (joined a.scanned) n ≡ false)
+IsLeft a n = EverKept a.world.policy a.moments n × (n < a.born) × (has (joined a.scanned) n ≡ false)
 
 -- b is c, but that it says anew whether an object is left, and says so only where one is
 abbrev pub IsBut : State → State → Type 0
@@ -227,7 +227,7 @@ doomed_at a = unscanned a.world.heap.objects a.born (joined a.scanned)
 -- scanned, and some worker has found each new clear.
 pub record EndsMark (a : State) (reply : Reply) (b : State) : Type 0 where
   pub answer : reply ≡ replies.Doomed (length (doomed_at a))
-  pub may_doom : MayDoom (policy_of a.world) (graph_of a.world) a.moments (doomed_at a)
+  pub may_doom : MayDoom a.world.policy (graph_of a.world) a.moments (doomed_at a)
   pub found : List (List ℕ)
   pub are_found : AreFound a.world.heap.objects a.scanned found
   pub all_found : (n : ℕ) → has (new_clears a.world.heap.objects (doomed_at a)) n ≡ true → has (joined found) n ≡ true

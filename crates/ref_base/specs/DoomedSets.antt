@@ -5,7 +5,8 @@ use Rattle.std.specs.Prelude.{None}
 use Rattle.ref_base.specs.Members.{has}
 use Rattle.ref_base.specs.Graphs.{Graph, Object, Reference, is_there}
 use Rattle.ref_base.specs.Paths.{targets_at}
-use Rattle.ref_base.specs.KeptPaths.{Policy, is_kept, IsKept, EverKept}
+use Rattle.ref_base.specs.KeptPaths.{is_kept, IsKept, EverKept}
+use Rattle.ref_base.specs.declared.policy.Policy.{Policy}
 
 -- the numbers of the objects that were made before the cycle began and that no row of the cycle scanned
 abbrev pub unscanned : List Object → ℕ → List ℕ → List ℕ

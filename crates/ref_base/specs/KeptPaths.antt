@@ -3,14 +3,14 @@
 use Rattle.std.specs.Prelude.{ℕ, ◌-◌, Bool, true, false, ◌&&◌, nat_le, List, [], ◌∷◌, ◌⊎◌}
 use Rattle.ref_base.specs.Graphs.{Graph}
 use Rattle.ref_base.specs.Paths.{Allowed, EndsPath, is_soft}
+use Rattle.ref_base.specs.declared.config.Config.{Config}
+use Rattle.ref_base.specs.declared.policy.Policy.{Policy}
 use Rattle.ref_base.specs.declared.urgency.Urgency.{Urgency}
 use Rattle.ref_base.specs.declared.urgency.Urgency.TheVariants.{Normal, Urgent}
 
--- what a cycle goes by: the clock at its begin, whether it is urgent, and how long a soft reference is kept
-pub record Policy : Type 0 where
-  pub clock : ℕ
-  pub urgency : Urgency
-  pub span : ℕ
+-- the policy of a cycle that begins at this clock: it keeps soft references for the configuration's span
+abbrev pub policy_from : Config → ℕ → Urgency → Policy
+policy_from config now urgency = record { clock = now; urgency = urgency; span = config.span }
 
 abbrev pub is_normal : Urgency → Bool
 is_normal Normal = true

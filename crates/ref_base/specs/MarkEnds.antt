@@ -7,7 +7,7 @@ use Rattle.ref_base.specs.Graphs.{Graph, is_there}
 use Rattle.ref_base.specs.Paths.{any_referent, targets_at}
 use Rattle.ref_base.specs.KeptPaths.{IsKept}
 use Rattle.ref_base.specs.Heaps.{reference_at}
-use Rattle.ref_base.specs.Worlds.{World, Notice, policy_of, graph_of, hand_of, queue_at}
+use Rattle.ref_base.specs.Worlds.{World, Notice, graph_of, hand_of, queue_at}
 use Rattle.ref_base.specs.Replay.{replayed}
 use Rattle.ref_base.specs.CollectorRows.{referent_of}
 use Rattle.ref_base.specs.declared.config.Config.{Config}
@@ -21,7 +21,7 @@ use Rattle.ref_base.specs.declared.row.Row.{Row}
 -- n is an object to which no kept path leads
 pub record IsDead (w : World) (n : ℕ) : Type 0 where
   pub there : is_there w.heap.objects n ≡ true
-  pub not_kept : ¬ (IsKept (policy_of w) (graph_of w) n)
+  pub not_kept : ¬ (IsKept w.policy (graph_of w) n)
 
 -- One of the rows is the end of this cycle's mark; and in the world that the rows before it give by replay, n is a
 -- reference, and its referent is dead.

@@ -4,6 +4,7 @@
 use Rattle.std.specs.Prelude.{ℕ, true, ◌==◌, if◌then◌else◌, List, [], ◌∷◌, ◌++◌, Option, Some, None}
 use Rattle.ref_base.specs.Members.{without_first}
 use Rattle.ref_base.specs.Graphs.{plain_object}
+use Rattle.ref_base.specs.KeptPaths.{policy_from}
 use Rattle.ref_base.specs.Heaps.{Heap, slot_at, reference_at, registered_in, with_slot, with_hold, without_hold}
 use Rattle.ref_base.specs.Heaps.{with_changed, with_reference, cleared, nulls, with_clock, new_reference, made}
 use Rattle.ref_base.specs.Heaps.{stored, got, cut}
@@ -81,10 +82,15 @@ handed_on w k n =
     let fewer = with_pending w k (without_pending (pending_of w k) n) in
     with_heap fewer (with_hold fewer.heap n)
 
--- a cycle began: the clock, its urgency and its number
+-- a cycle began: the clock, its policy, which stays as it is till the next begin, and its number
 abbrev pub begun : World → ℕ → Urgency → ℕ → World
 begun w now urgency n =
-    record w { heap = with_clock w.heap now; urgency = urgency; cycle = n; phase = Marking }
+    record w {
+      heap = with_clock w.heap now;
+      policy = policy_from w.heap.config now urgency;
+      cycle = n;
+      phase = Marking;
+    }
 
 abbrev pub with_phase : World → Phase → World
 with_phase w phase = record w { phase = phase }

@@ -3,14 +3,14 @@
 use Rattle.std.specs.Prelude.{◌≡◌, ℕ, List, [], ◌∷◌, ◌++◌, map, replicate, Option, None, slice_index_or, slice_set}
 use Rattle.ref_base.specs.Graphs.{Graph}
 use Rattle.ref_base.specs.Paths.{present}
-use Rattle.ref_base.specs.KeptPaths.{Policy}
+use Rattle.ref_base.specs.KeptPaths.{policy_from}
 use Rattle.ref_base.specs.Heaps.{Heap, first_heap}
 use Rattle.ref_base.specs.QueueLists.{Lists, new_queue, new_queues}
 use Rattle.ref_base.specs.declared.config.Config.{Config}
 use Rattle.ref_base.specs.declared.cause.Cause.{Cause}
 use Rattle.ref_base.specs.declared.actor.Actor.{Actor}
 use Rattle.ref_base.specs.declared.actor.Actor.TheVariants.{Mutator, Worker}
-use Rattle.ref_base.specs.declared.urgency.Urgency.{Urgency}
+use Rattle.ref_base.specs.declared.policy.Policy.{Policy}
 use Rattle.ref_base.specs.declared.urgency.Urgency.TheVariants.{Normal}
 use Rattle.ref_base.specs.declared.phase.Phase.{Phase}
 use Rattle.ref_base.specs.declared.phase.Phase.TheVariants.{Idle}
@@ -28,15 +28,15 @@ pub record Pending : Type 0 where
   pub queue : ℕ
   pub cycle : ℕ
 
--- A heap, the hands of mutators and workers, the queues, the pending references of each worker, and how urgent the
--- cycle is, its number and its phase. Hands, queues and pending lists stand in the order of their numbers.
+-- A heap, the hands of mutators and workers, the queues, the pending references of each worker, and the policy of the
+-- cycle, its number and its phase. Hands, queues and pending lists stand in the order of their numbers.
 pub record World : Type 0 where
   pub heap : Heap
   pub mutator_hands : List (Option Notice)
   pub worker_hands : List (Option Notice)
   pub queues : List (Lists Notice)
   pub pending : List (List Pending)
-  pub urgency : Urgency
+  pub policy : Policy
   pub cycle : ℕ
   pub phase : Phase
 
@@ -48,14 +48,10 @@ first_world config = record {
   worker_hands = replicate config.workers None;
   queues = new_queues 0 config.queues;
   pending = replicate config.workers [];
-  urgency = Normal;
+  policy = policy_from config 0 Normal;
   cycle = 0;
   phase = Idle;
 }
-
--- what the cycle goes by
-abbrev pub policy_of : World → Policy
-policy_of w = record { clock = w.heap.clock; urgency = w.urgency; span = w.heap.config.span }
 
 -- the numbers of pending references, worker by worker
 abbrev pub pending_numbers : List (List Pending) → List ℕ

@@ -27,7 +27,7 @@ pub use Rattle.ref_base.specs.declared.reply.Reply.{Reply}
 pub use Rattle.ref_base.specs.declared.urgency.Urgency.{Urgency}
 pub use Rattle.ref_objects.specs.Grounds.{Ground, least_from, mint_refusal, unmarked}
 pub use Rattle.ref_mark.specs.CycleHeaps.{CycleHeap, cycle_begun, cycle_in_phase, doomed, is_black, is_doomed}
-pub use Rattle.ref_mark.specs.CycleHeaps.{is_in_cycle, is_past_mark, is_white, policy_in, shaded, shaded_all}
+pub use Rattle.ref_mark.specs.CycleHeaps.{is_in_cycle, is_past_mark, is_white, shaded, shaded_all}
 pub use Rattle.ref_mark.specs.CycleHeaps.{with_cleared, with_found_taken}
 pub use Rattle.ref_mark.specs.MarkCalls.{after_mint_in, is_of_marking, mint_answer_in, unless_refused}
 pub use Rattle.ref_mark.specs.MarkRows.{starting_state}

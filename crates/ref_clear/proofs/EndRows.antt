@@ -40,7 +40,7 @@ clear_ended_stands k a stands none =
     record {
       heap = ap (heap_but (unmarked k.heap.objects k.marked)) same;
       next = stands.next;
-      urgency = stands.urgency;
+      policy = stands.policy;
       cycle = stands.cycle;
       phase = refl;
       doomed = stands.doomed;
@@ -96,7 +96,7 @@ sweep_ended_stands k a stands none =
     record {
       heap = subst (λ (d : List ℕ). heap_but d a.world.heap ≡ heap_but d (shown_with k d)) none stands.heap;
       next = stands.next;
-      urgency = stands.urgency;
+      policy = stands.policy;
       cycle = stands.cycle;
       phase = refl;
       doomed = stands.doomed ∙ none;

@@ -102,7 +102,7 @@ module _ (c : ClearHeap) (a : State) (w : ℕ) (stands : HeapStands c a) where
       (λ m root. root_is_there k a stands.mark m (was m root)) in
       record {
         mark =
-            moved_beside k change a v (record { urgency = refl; cycle = refl; phase = refl }) stands.mark move
+            moved_beside k change a v (record { policy = refl; cycle = refl; phase = refl }) stands.mark move
             (with_hold a.world.heap n) a.next (ap (λ (h : Heap). with_hold h n) stands.mark.heap) stands.mark.next;
         pending =
             ap (λ (u : World). u.pending) (ticked_world (with_world a (handed_on a.world w n))) ∙ after;

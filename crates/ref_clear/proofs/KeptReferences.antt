@@ -7,7 +7,7 @@ use Rattle.ref_clear.proofs.Common.{reference_in, reference_at, changed_in, made
 use Rattle.ref_clear.proofs.Common.{with_reference, changed_reference, cleared, got_at, nulls, new_reference}
 use Rattle.ref_clear.proofs.Common.{registered_in, with_hold, targets_at, is_kept, NamedStep, is_in, referent_of}
 use Rattle.ref_clear.proofs.Common.{reference_of}
-use Rattle.ref_clear.proofs.Common.{field_in, Fault, Marking, CycleHeap, policy_in, is_doomed, shaded_all}
+use Rattle.ref_clear.proofs.Common.{field_in, Fault, Marking, CycleHeap, is_doomed, shaded_all}
 use Rattle.ref_clear.proofs.Common.{with_cleared, cycle_begun, unless_refused}
 use Rattle.ref_base.specs.Paths.{is_soft}
 use Rattle.ref_base.specs.declared.heap_step.HeapStep.TheVariants as heap
@@ -102,7 +102,7 @@ barred-heap k (Some n) =
 scanned-heap : (k : CycleHeap) (w : ℕ) (grey : List ℕ) → (grey_scanned k w grey).heap ≡ k.heap
 scanned-heap k w [] = refl
 scanned-heap k w (n ∷ rest) =
-    let targets = targets_at (is_kept (policy_in k)) k.heap.objects n in
+    let targets = targets_at (is_kept k.policy) k.heap.objects n in
     let grown : CycleHeap = shaded_all (record k { grey = rest }) targets in
     ap (λ (j : CycleHeap). j.heap) (with_found-only grown w n)
     ∙ shaded_heap (record k { grey = rest }) grown targets refl

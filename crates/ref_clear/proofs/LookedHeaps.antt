@@ -8,7 +8,7 @@ use Rattle.ref_clear.proofs.Common.{has, Object, Reference, object_at, is_there,
 use Rattle.ref_clear.proofs.Common.{targets_of, targets_at, soft_and_weak_referents, IsRising, is_kept, refers_into}
 use Rattle.ref_clear.proofs.Common.{reference_in, reference_at, with_changed, changed_reference, cleared, Pending}
 use Rattle.ref_clear.proofs.Common.{graph_of, pending_numbers, State, joined, is_in, list_at, Marking, Clearing}
-use Rattle.ref_clear.proofs.Common.{Sweeping, CycleHeap, policy_in, is_white, is_black, is_past_mark, doomed}
+use Rattle.ref_clear.proofs.Common.{Sweeping, CycleHeap, is_white, is_black, is_past_mark, doomed}
 use Rattle.ref_clear.proofs.Common.{MarkStands, shown_heap}
 use Rattle.ref_base.specs.Heaps.{changed_at}
 use Rattle.ref_base.proofs.HasLaws.{has-left, has-cases}
@@ -220,7 +220,7 @@ module _ (k : CycleHeap) (a : State) (w n : ℕ) (rest : List ℕ) (f : Object �
         heap =
             agrees_next k j a.world.heap (shown_heap k) (unsaid_same k j refl same_doomed) shows stands.heap;
         next = stands.next;
-        urgency = stands.urgency;
+        policy = stands.policy;
         cycle = stands.cycle;
         phase = stands.phase;
         doomed = stands.doomed ∙ sym same_doomed;
@@ -254,7 +254,7 @@ module _ (k : CycleHeap) (a : State) (w n : ℕ) (rest : List ℕ) (f : Object �
                 ]
               ];
           closed = λ m i black target.
-              elim (facts.closed m i (sym (same_black m) ∙ black) (led_before (is_kept (policy_in k)) m i target)) [
+              elim (facts.closed m i (sym (same_black m) ∙ black) (led_before (is_kept k.policy) m i target)) [
                 | inl other ↦ inl (same_white i ∙ other)
                 | inr none ↦ absurd (false≢true none)
               ];

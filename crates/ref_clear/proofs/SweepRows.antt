@@ -8,7 +8,7 @@ use Rattle.ref_clear.proofs.Common.{has, Object, Reference, object_at, is_there,
 use Rattle.ref_clear.proofs.Common.{targets_at, allowed_referent, present, soft_and_weak_referents, is_kept, any_is}
 use Rattle.ref_clear.proofs.Common.{refers_into, Heap, reference_at, reference_in, IsRising, graph_of, pending_numbers}
 use Rattle.ref_clear.proofs.Common.{with_heap, is_in, State, HeapAccepts, without, shown, referent_of, forgotten}
-use Rattle.ref_clear.proofs.Common.{heap_but, Marking, Clearing, Sweeping, unmarked, CycleHeap, policy_in, is_white}
+use Rattle.ref_clear.proofs.Common.{heap_but, Marking, Clearing, Sweeping, unmarked, CycleHeap, is_white}
 use Rattle.ref_clear.proofs.Common.{is_black, is_in_cycle, doomed, MarkStands, FactsBut, unsaid, ReadsAs, shown_heap}
 use Rattle.ref_clear.proofs.Common.{ClearHeap, with_mark, swept_some, refusal_in, answer_of_sweep, HeapStands}
 use Rattle.ref_clear.proofs.Common.{MaySweep}
@@ -197,7 +197,7 @@ module _ (k : CycleHeap) (a : State) (stands : MarkStands k a) (sweeping : is_in
   root_off n root =
       elim ((stands.facts begun).rooted n root) [ inl other ↦ other | inr none ↦ absurd (false≢true none) ]
 
-  kept_off : (m n : ℕ) → is_black k m ≡ true → has (targets_at (is_kept (policy_in k)) os m) n ≡ true
+  kept_off : (m n : ℕ) → is_black k m ≡ true → has (targets_at (is_kept k.policy) os m) n ≡ true
       → is_white k n ≡ false
   kept_off m n black target =
       elim ((stands.facts begun).closed m n black target) [ inl other ↦ other | inr none ↦ absurd (false≢true none) ]
@@ -207,7 +207,7 @@ module _ (k : CycleHeap) (a : State) (stands : MarkStands k a) (sweeping : is_in
       → is_white k n ≡ false
   black_off m n black target =
       elim
-      (soft_weak-cases (is_kept (policy_in k)) (is_white k) (object_at os m) n
+      (soft_weak-cases (is_kept k.policy) (is_white k) (object_at os m) n
       ((stands.sweeping sweeping).none_left m black) target) [
         | inl kept ↦ kept_off m n black kept
         | inr other ↦ other
@@ -239,7 +239,7 @@ module _ (k : CycleHeap) (a : State) (stands : MarkStands k a) (sweeping : is_in
     closed = λ m n black target.
         inl
         (still_not_white n
-        (kept_off m n (black_was m black) (leads_was (is_kept (policy_in k)) m n target)));
+        (kept_off m n (black_was m black) (leads_was (is_kept k.policy) m n target)));
   }
 
   swept_sweeping : InSweeping (swept_some k)
@@ -283,7 +283,7 @@ module _ (k : CycleHeap) (a : State) (stands : MarkStands k a) (sweeping : is_in
       record {
         heap = swept_agrees;
         next = stands.next;
-        urgency = stands.urgency;
+        policy = stands.policy;
         cycle = stands.cycle;
         phase = stands.phase;
         doomed = sym swept_doomed;

@@ -2,9 +2,9 @@
 use Rattle.std.proofs.Common.{◌≡◌, ℕ, ◌+◌, ◌<◌, Bool, true, false, not, refl, sym, ap, subst, ◌∙◌, arith}
 use Rattle.std.proofs.Common.{[], ◌∷◌, ◌++◌, length, None, inl, inr}
 use Rattle.std.proofs.lemmas.Bool.{and_parts, false≢true}
-use Rattle.ref_mark.proofs.Common.{AreDistinct, has, Graph, is_there, is_kept, graph_of, policy_of, pending_numbers}
+use Rattle.ref_mark.proofs.Common.{AreDistinct, has, Graph, is_there, is_kept, graph_of, pending_numbers}
 use Rattle.ref_mark.proofs.Common.{is_in, is_empty, begin_refusal, State, HeapAccepts, Urgency, Idle, Sweeping}
-use Rattle.ref_mark.proofs.Common.{CycleHeap, policy_in, is_black, shaded_all, roots_of, whitened, cycle_begun}
+use Rattle.ref_mark.proofs.Common.{CycleHeap, is_black, shaded_all, roots_of, whitened, cycle_begun}
 use Rattle.ref_mark.proofs.Common.{MarkStands}
 use Rattle.ref_base.specs.Replay.{begun as world_begun}
 use Rattle.ref_base.specs.CollectorRows.{begun_state}
@@ -55,7 +55,7 @@ whitened_marking k a now urgent left below same =
         marked_ever = λ n there marked. absurd (false≢true marked);
         goes_on = λ m n ever target there.
             elim ever [
-              | inl kept ↦ inl (target_ends (is_kept (policy_in w)) g m n kept target there)
+              | inl kept ↦ inl (target_ends (is_kept w.policy) g m n kept target there)
               | inr none ↦ absurd none
             ];
       };
@@ -92,7 +92,7 @@ begun_marking k a now urgent left stands =
     let w = whitened k now urgent in
     let b = state_begun k a now urgent left in
     let g : Graph = graph_of b.world in
-    shaded_all_marking w b g.roots [] [] (λ n root there. inl (root_ends (is_kept (policy_in w)) g n there root))
+    shaded_all_marking w b g.roots [] [] (λ n root there. inl (root_ends (is_kept w.policy) g n there root))
     (whitened_marking k a now urgent left stands.orderly.below (stands.scanners ∙ sym stands.finders))
 
 begun_stands : (k : CycleHeap) (a : State) (now : ℕ) (urgent : Urgency) → MarkStands k a → k.phase ≡ Idle
@@ -123,8 +123,8 @@ begun_is_row k a now urgent stands =
     let left : Bool = not (is_empty j.grey) in
     let b = state_begun k a now urgent left in
     let but : MarkingBut j b [] [] = begun_marking k a now urgent left stands in
-    let policy : policy_of b.world ≡ policy_in j =
-    sym (ap (λ (i : CycleHeap). policy_in i) (mark_begun-only k a now urgent)) in
+    let policy : b.world.policy ≡ j.policy =
+    sym (ap (λ (i : CycleHeap). i.policy) (mark_begun-only k a now urgent)) in
     (refl, (left, refl, λ some. some_left j b but.coloured but.reached policy some))
 
 -- a begin that isn't refused

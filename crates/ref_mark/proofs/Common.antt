@@ -9,7 +9,7 @@ pub use Rattle.ref_base.specs.HeapSteps.{NamedStep}
 pub use Rattle.ref_base.specs.Heaps.{Heap, changed_at, changed_in, changed_reference, cleared, got, got_at, made}
 pub use Rattle.ref_base.specs.Heaps.{new_reference, nulls, one_fewer, one_more, reference_at, reference_in, slot_at}
 pub use Rattle.ref_base.specs.Heaps.{with_changed, with_reference, with_slot}
-pub use Rattle.ref_base.specs.KeptPaths.{EverKept, Policy, is_kept}
+pub use Rattle.ref_base.specs.KeptPaths.{EverKept, is_kept}
 pub use Rattle.ref_base.specs.Members.{AreDistinct, has}
 pub use Rattle.ref_base.specs.Orderly.{IsOrderly}
 pub use Rattle.ref_base.specs.Paths.{Allowed, allowed_referent, is_soft, present, soft_and_weak_referents, targets_at}
@@ -18,17 +18,18 @@ pub use Rattle.ref_base.specs.Refusals.{begin_refusal, end_mark_refusal, field_r
 pub use Rattle.ref_base.specs.Refusals.{is_in, is_worker, new_refusal, refer_refusal, reference_refusal, unless}
 pub use Rattle.ref_base.specs.Refusals.{work_refusal}
 pub use Rattle.ref_base.specs.Strengths.{IsRising}
-pub use Rattle.ref_base.specs.Worlds.{World, graph_of, pending_numbers, policy_of, with_heap}
+pub use Rattle.ref_base.specs.Worlds.{World, graph_of, pending_numbers, with_heap}
 pub use Rattle.ref_base.specs.declared.config.Config.{Config}
 pub use Rattle.ref_base.specs.declared.fault.Fault.{Fault}
 pub use Rattle.ref_base.specs.declared.fault.Fault.TheVariants.{NoSuchActor}
 pub use Rattle.ref_base.specs.declared.phase.Phase.{Phase}
 pub use Rattle.ref_base.specs.declared.phase.Phase.TheVariants.{Clearing, Idle, Marking, Sweeping}
+pub use Rattle.ref_base.specs.declared.policy.Policy.{Policy}
 pub use Rattle.ref_base.specs.declared.strength.Strength.{Strength}
 pub use Rattle.ref_base.specs.declared.urgency.Urgency.{Urgency}
 pub use Rattle.ref_objects.specs.Grounds.{Ground, IsInOrder, fields_in, least_from, unmarked}
 pub use Rattle.ref_mark.specs.CycleHeaps.{CycleHeap, barred, cycle_begun, doomed, first_cycle_heap, grey_scanned}
-pub use Rattle.ref_mark.specs.CycleHeaps.{is_black, is_doomed, is_due, is_in_cycle, is_past_mark, is_white, policy_in}
+pub use Rattle.ref_mark.specs.CycleHeaps.{is_black, is_doomed, is_due, is_in_cycle, is_past_mark, is_white}
 pub use Rattle.ref_mark.specs.CycleHeaps.{roots_of, shaded, shaded_all, shaded_if_any, undoomed, value_got, whitened}
 pub use Rattle.ref_mark.specs.CycleHeaps.{with_cleared, with_found, with_got, with_made, young}
 pub use Rattle.ref_mark.specs.MarkCalls.{done_in, refusal_in_cycle, unless_refused}

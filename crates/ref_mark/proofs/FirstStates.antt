@@ -17,7 +17,7 @@ pub first_stands : (config : Config) (heap_no obj cycle : ℕ)
 first_stands config heap_no obj cycle = record {
   heap = refl;
   next = refl;
-  urgency = refl;
+  policy = refl;
   cycle = refl;
   phase = refl;
   doomed = refl;

@@ -5,7 +5,7 @@ use Rattle.ref_objects.specs.Grounds.{Tag, cleared_in_at, with_new_tag}
 use Rattle.ref_objects.proofs.TagLemmas.{cleared_in_at-new}
 use Rattle.ref_mark.proofs.Common.{refers_into, Object, plain_object, slot_at, made, nulls, new_reference, targets_at}
 use Rattle.ref_mark.proofs.Common.{is_kept, NamedStep, is_in, field_in, reference_of, Fault, Marking}
-use Rattle.ref_mark.proofs.Common.{CycleHeap, policy_in, is_white, is_in_cycle, is_doomed, shaded_all, shaded_if_any}
+use Rattle.ref_mark.proofs.Common.{CycleHeap, is_white, is_in_cycle, is_doomed, shaded_all, shaded_if_any}
 use Rattle.ref_mark.proofs.Common.{young, with_made, barred, value_got, with_cleared, whitened, roots_of, grey_scanned}
 use Rattle.ref_mark.proofs.Common.{done_in, refusal_in_cycle, unless_refused}
 use Rattle.ref_base.specs.declared.heap_step.HeapStep.TheVariants as heap
@@ -50,7 +50,7 @@ scanned-tags : (k : CycleHeap) (w : ℕ) (grey : List ℕ) → (grey_scanned k w
 scanned-tags k w [] = refl
 scanned-tags k w (n ∷ rest) =
     let left : CycleHeap = record k { grey = rest } in
-    let targets = targets_at (is_kept (policy_in k)) k.heap.objects n in
+    let targets = targets_at (is_kept k.policy) k.heap.objects n in
     ap (λ (j : CycleHeap). j.tags) (with_found-only (shaded_all left targets) w n) ∙ shaded_all-tags left targets
 
 -- ---- the steps of marking

@@ -7,7 +7,7 @@ use Rattle.std.proofs.lemmas.List.{take_more}
 use Rattle.ref_mark.proofs.Common.{Object, Reference, object_at, Allowed, present, targets_of, targets_at}
 use Rattle.ref_mark.proofs.Common.{allowed_referent, Policy, is_kept, Heap, reference_at, reference_in, Urgency}
 use Rattle.ref_mark.proofs.Common.{fields_in, least_from, IsInOrder, first_in, CycleHeap, is_white, shaded, shaded_all}
-use Rattle.ref_mark.proofs.Common.{shaded_if_any, policy_in, whitened, cycle_begun, roots_of}
+use Rattle.ref_mark.proofs.Common.{shaded_if_any, whitened, cycle_begun, roots_of}
 use Rattle.ref_base.specs.Paths.{if_any}
 use Rattle.ref_objects.specs.Grounds.{AllFrom}
 use Rattle.ref_mark.proofs.Shading.{greyed, shaded-only, shaded_all-only, shaded_all-append}
@@ -55,26 +55,26 @@ targets_of-parts allow None = refl
 targets_of-parts allow (Some o) = refl
 
 -- shading keeps what the cycle goes by
-shaded_policy : (start : CycleHeap) (ns : List ℕ) → policy_in (shaded_all start ns) ≡ policy_in start
-shaded_policy start ns = ap policy_in (shaded_all-only start ns)
+shaded_policy : (start : CycleHeap) (ns : List ℕ) → (shaded_all start ns).policy ≡ start.policy
+shaded_policy start ns = ap (λ (k : CycleHeap). k.policy) (shaded_all-only start ns)
 
 -- the fields first, and then the referent that is kept
 pub shaded_targets : (start k : CycleHeap) (n : ℕ) (reference : Option Reference) (referent : Option ℕ)
     → reference_at start.heap n ≡ reference
     → k ≡ shaded_all start (present (fields_in (object_at start.heap.objects n)))
-    → if_any referent ≡ allowed_referent (is_kept (policy_in k)) reference
-    → shaded_if_any k referent ≡ shaded_all start (targets_at (is_kept (policy_in start)) start.heap.objects n)
+    → if_any referent ≡ allowed_referent (is_kept k.policy) reference
+    → shaded_if_any k referent ≡ shaded_all start (targets_at (is_kept start.policy) start.heap.objects n)
 shaded_targets start k n reference referent own fields kept =
     let o = object_at start.heap.objects n in
     let front = present (fields_in o) in
-    let policy : policy_in k ≡ policy_in start = ap policy_in fields ∙ shaded_policy start front in
-    let same : if_any referent ≡ allowed_referent (is_kept (policy_in start)) (reference_in o) =
+    let policy : k.policy ≡ start.policy = ap (λ (j : CycleHeap). j.policy) fields ∙ shaded_policy start front in
+    let same : if_any referent ≡ allowed_referent (is_kept start.policy) (reference_in o) =
     kept ∙ ap (λ (p : Policy). allowed_referent (is_kept p) reference) policy
-    ∙ ap (allowed_referent (is_kept (policy_in start))) (sym own) in
+    ∙ ap (allowed_referent (is_kept start.policy)) (sym own) in
     shaded_any k referent ∙ ap (shaded_all k) same
-    ∙ ap (λ (j : CycleHeap). shaded_all j (allowed_referent (is_kept (policy_in start)) (reference_in o))) fields
-    ∙ sym (shaded_all-append start front (allowed_referent (is_kept (policy_in start)) (reference_in o)))
-    ∙ sym (ap (shaded_all start) (targets_of-parts (is_kept (policy_in start)) o))
+    ∙ ap (λ (j : CycleHeap). shaded_all j (allowed_referent (is_kept start.policy) (reference_in o))) fields
+    ∙ sym (shaded_all-append start front (allowed_referent (is_kept start.policy) (reference_in o)))
+    ∙ sym (ap (shaded_all start) (targets_of-parts (is_kept start.policy) o))
 
 -- all objects become white, then the slots are shaded, and then the holds
 pub begun_by_parts : (k white slots held : CycleHeap) (now : ℕ) (how : Urgency) → white ≡ whitened k now how

@@ -8,7 +8,7 @@ use Rattle.std.proofs.lemmas.List.{length-set}
 use Rattle.ref_objects.specs.Grounds.{with_new_tag}
 use Rattle.ref_mark.proofs.Common.{refers_into, has, Object, object_at, is_there, present, targets_of, targets_at}
 use Rattle.ref_mark.proofs.Common.{soft_and_weak_referents, is_kept, made, one_more, reference_in, reference_at}
-use Rattle.ref_mark.proofs.Common.{pending_numbers, has_slot, State, is_in_cycle, CycleHeap, policy_in, is_white}
+use Rattle.ref_mark.proofs.Common.{pending_numbers, has_slot, State, is_in_cycle, CycleHeap, is_white}
 use Rattle.ref_mark.proofs.Common.{is_due, doomed, young, with_made, MarkStands}
 use Rattle.ref_base.proofs.OneMore.{has-one_more}
 use Rattle.ref_mark.proofs.Shading.{not_white_marked}
@@ -88,7 +88,7 @@ module _ (k : CycleHeap) (a : State) (m d : ℕ) (o : Object) (stands : MarkStan
     (slot : has_slot k.heap m d ≡ true)
     (number : o.no ≡ k.next)
     (leads_off : is_in_cycle k.phase ≡ true → (n : ℕ)
-    → has (targets_of (is_kept (policy_in k)) (Some o)) n ≡ true → is_white k n ≡ false)
+    → has (targets_of (is_kept k.policy) (Some o)) n ≡ true → is_white k n ≡ false)
     (refers_off : is_in_cycle k.phase ≡ true → refers_into (is_white k) o.reference ≡ false)
     (led_there : (n : ℕ) → has (targets_of soft_and_weak_referents (Some o)) n ≡ true
     → is_there k.heap.objects n ≡ true) where
@@ -144,10 +144,10 @@ module _ (k : CycleHeap) (a : State) (m d : ℕ) (o : Object) (stands : MarkStan
             ]
       ]
 
-  made_leads : (i n : ℕ) → has (targets_at (is_kept (policy_in k)) (k.heap.objects ++ o ∷ []) i) n ≡ true
+  made_leads : (i n : ℕ) → has (targets_at (is_kept k.policy) (k.heap.objects ++ o ∷ []) i) n ≡ true
       → MayLead k (making k m d o) (pending_numbers a.world.pending) i n
   made_leads i n target =
-      let goes_to = is_kept (policy_in k) in
+      let goes_to = is_kept k.policy in
       elim (cases_Bool (is_there k.heap.objects i)) [
         | inl there ↦ inl (same_object (λ p. has (targets_of goes_to p) n ≡ true) i there target)
         | inr absent ↦

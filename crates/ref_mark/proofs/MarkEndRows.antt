@@ -4,7 +4,7 @@ use Rattle.std.proofs.Common.{List, [], ◌∷◌, length, None, inl, inr}
 use Rattle.std.specs.Prelude.{is_some}
 use Rattle.std.proofs.lemmas.Bool.{cases_Bool, and_parts, false≢true, not-true}
 use Rattle.ref_mark.proofs.Common.{has, Object, is_there, object_at, MayDoom, refers_into, reference_at, reference_in}
-use Rattle.ref_mark.proofs.Common.{graph_of, policy_of, is_in, is_empty, end_mark_refusal, State, joined, Marking}
+use Rattle.ref_mark.proofs.Common.{graph_of, is_in, is_empty, end_mark_refusal, State, joined, Marking}
 use Rattle.ref_mark.proofs.Common.{Clearing, Sweeping, CycleHeap, is_white, is_black, unmarked, MarkStands, InClearing}
 use Rattle.ref_base.specs.DoomedSets.{new_clears}
 use Rattle.ref_base.specs.CollectorRows.{EndsMark, doomed_at, mark_ended}
@@ -71,7 +71,7 @@ ends_mark k a stands phase none =
     record {
       answer = ap (λ ns. replies.Doomed (length ns)) (sym same);
       may_doom =
-          subst (λ d. MayDoom (policy_of s.world) (graph_of s.world) s.moments d) (sym same)
+          subst (λ d. MayDoom s.world.policy (graph_of s.world) s.moments d) (sym same)
           (unmarked_may_be_doomed k s (graph_of s.world).roots but.facts but.reached none);
       found = k.found;
       are_found = but.found.are_found;
@@ -119,7 +119,7 @@ ended_stands k a stands phase none =
     record {
       heap = refl;
       next = refl;
-      urgency = refl;
+      policy = refl;
       cycle = refl;
       phase = refl;
       doomed = refl;

@@ -3,7 +3,7 @@ use Rattle.std.proofs.Common.{◌≡◌, ℕ, true, false, refl, sym, subst, ari
 use Rattle.std.proofs.Common.{List, length, Option, Some, is_some, ◌⊎◌, inl, inr}
 use Rattle.ref_mark.proofs.Common.{refers_into, has, Object, object_at, is_there, Allowed, targets_of}
 use Rattle.ref_mark.proofs.Common.{soft_and_weak_referents, IsRising, is_kept, changed_at, reference_in, State}
-use Rattle.ref_mark.proofs.Common.{is_in_cycle, CycleHeap, policy_in, is_white, is_past_mark, MarkStands}
+use Rattle.ref_mark.proofs.Common.{is_in_cycle, CycleHeap, is_white, is_past_mark, MarkStands}
 use Rattle.ref_mark.proofs.DoomedLists.{doomed-changed}
 use Rattle.ref_mark.proofs.Moves.{Change, IsMove, roots_after}
 use Rattle.ref_base.proofs.Lookups.{lookup-changed, numbers-changed}
@@ -75,7 +75,7 @@ pub altered_move : (k : CycleHeap) (a : State) (slots : List (Option ℕ)) (hold
 altered_move k a slots holds i f pending todo stands keeps count roots named become =
     let os = k.heap.objects in
     let after = roots_after (altered k slots holds i f) pending in
-    let goes_to = is_kept (policy_in k) in
+    let goes_to = is_kept k.policy in
     let stays : (n : ℕ) → is_there os n ≡ true → is_there (changed_at os i f) n ≡ true =
     lookup-changed (λ o p. is_some o ≡ true → is_some p ≡ true) os i f keeps (λ o there. there)
     (λ o found there. refl) in

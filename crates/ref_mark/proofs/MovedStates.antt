@@ -51,12 +51,12 @@ ticked_other a other = simp other refl
 
 -- the one world is in the other's cycle and phase; their hands, queues and pending references may differ
 pub record IsAlongside (v w : World) : Type 0 where
-  pub urgency : w.urgency ≡ v.urgency
+  pub policy : w.policy ≡ v.policy
   pub cycle : w.cycle ≡ v.cycle
   pub phase : w.phase ≡ v.phase
 
 pub alongside_itself : (w : World) → IsAlongside w w
-alongside_itself w = record { urgency = refl; cycle = refl; phase = refl }
+alongside_itself w = record { policy = refl; cycle = refl; phase = refl }
 
 module _ (k : CycleHeap) (c : Change) (a : State) (w : World) (beside : IsAlongside a.world w) (todo : List ℕ)
     (stands : MarkStands k a) (move : IsMove k c (pending_numbers w.pending) todo) where
@@ -90,7 +90,7 @@ module _ (k : CycleHeap) (c : Change) (a : State) (w : World) (beside : IsAlongs
       record {
         heap = agrees_same j (moved k c).heap (sym (shown_heap-before j before));
         next = refl;
-        urgency = beside.urgency ∙ stands.urgency;
+        policy = beside.policy ∙ stands.policy;
         cycle = beside.cycle ∙ stands.cycle;
         phase = beside.phase ∙ stands.phase;
         doomed = stands.doomed ∙ simp before refl;
@@ -145,7 +145,7 @@ module _ (k : CycleHeap) (c : Change) (a : State) (w : World) (beside : IsAlongs
       record {
         heap = heap;
         next = refl;
-        urgency = beside.urgency ∙ stands.urgency;
+        policy = beside.policy ∙ stands.policy;
         cycle = beside.cycle ∙ stands.cycle;
         phase = beside.phase ∙ stands.phase;
         doomed = stands.doomed ∙ sym move.doomed;

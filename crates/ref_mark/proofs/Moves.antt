@@ -5,7 +5,7 @@ use Rattle.std.proofs.lemmas.Bool.{cases_Bool, and_parts, false≢true, true≢f
 use Rattle.ref_mark.proofs.Common.{refers_into, has, Graph, Object, Reference, object_at, is_there, Allowed, present}
 use Rattle.ref_mark.proofs.Common.{targets_of, targets_at, soft_and_weak_referents, IsRising, is_kept, Heap}
 use Rattle.ref_mark.proofs.Common.{reference_in, reference_at, World, with_heap, graph_of, pending_numbers, State}
-use Rattle.ref_mark.proofs.Common.{is_in_cycle, CycleHeap, policy_in, is_white, is_black, is_past_mark, is_due, doomed}
+use Rattle.ref_mark.proofs.Common.{is_in_cycle, CycleHeap, is_white, is_black, is_past_mark, is_due, doomed}
 use Rattle.ref_mark.proofs.Common.{FactsBut, Coloured, Reached, FoundBut, InClearing}
 use Rattle.ref_base.specs.Graphs.{numbers}
 use Rattle.ref_base.proofs.PathLaws.{root_ends, target_ends}
@@ -51,7 +51,7 @@ pub record IsNew (k : CycleHeap) (c : Change) (pending : List ℕ) (n : ℕ) : T
 -- isn't white.
 abbrev pub MayLead : CycleHeap → Change → List ℕ → ℕ → ℕ → Type 0
 MayLead k c pending m n =
-    (has (targets_at (is_kept (policy_in k)) k.heap.objects m) n ≡ true) ⊎ (has (roots_after c pending) n ≡ true)
+    (has (targets_at (is_kept k.policy) k.heap.objects m) n ≡ true) ⊎ (has (roots_after c pending) n ≡ true)
     ⊎ ((has (roots_after c pending) m ≡ true) × (is_in_cycle k.phase ≡ true → is_white k n ≡ false))
 
 -- A mutator moves: no object goes, and what comes is new; nothing else is doomed than before; no root is white but for
@@ -72,7 +72,7 @@ pub record IsMove (k : CycleHeap) (c : Change) (pending todo : List ℕ) : Type 
   pub named : (n : ℕ) → has (roots_after c pending) n ≡ true → is_there c.objects n ≡ true
   pub led : (m n : ℕ) → is_due k m ≡ false → has (targets_at soft_and_weak_referents c.objects m) n ≡ true
       → is_there c.objects n ≡ true
-  pub leads : (m n : ℕ) → has (targets_at (is_kept (policy_in k)) c.objects m) n ≡ true → MayLead k c pending m n
+  pub leads : (m n : ℕ) → has (targets_at (is_kept k.policy) c.objects m) n ≡ true → MayLead k c pending m n
   pub references : (n : ℕ) → is_some (reference_at k.heap n) ≡ true
       → is_some (reference_in (object_at c.objects n)) ≡ true
   pub to_white : is_in_cycle k.phase ≡ true → (n : ℕ)
@@ -185,7 +185,7 @@ module _ (k : CycleHeap) (c : Change) (pending todo : List ℕ) (move : IsMove k
             elim (move.leads m n target) [
               | inl before ↦
                   let there : is_there k.heap.objects m ≡ true =
-                  leading_is_there (is_kept (policy_in k)) k.heap.objects m n before in
+                  leading_is_there (is_kept k.policy) k.heap.objects m n before in
                   elim (facts.closed m n (black-was m there black) before) [
                     | inl other ↦ inl (same_white n ∙ other)
                     | inr none ↦ absurd (false≢true none)
@@ -226,25 +226,25 @@ module _ (k : CycleHeap) (c : Change) (pending todo : List ℕ) (move : IsMove k
     marked_ever = λ n there marked.
         elim (move.was n there) [
           | inl before ↦ inr (reached.marked_ever n before (marked-was n before marked))
-          | inr new ↦ inl (root_ends (is_kept (policy_in k)) (graph_after c pending) n there new.root)
+          | inr new ↦ inl (root_ends (is_kept k.policy) (graph_after c pending) n there new.root)
         ];
     goes_on = λ m n ever target there.
         elim (move.leads m n target) [
           | inl before ↦ elim ever [
-            | inl kept ↦ inl (target_ends (is_kept (policy_in k)) (graph_after c pending) m n kept target there)
+            | inl kept ↦ inl (target_ends (is_kept k.policy) (graph_after c pending) m n kept target there)
             | inr earlier ↦ elim (move.was n there) [
               | inl old ↦ inr (reached.goes_on m n earlier before old)
-              | inr new ↦ inl (root_ends (is_kept (policy_in k)) (graph_after c pending) n there new.root)
+              | inr new ↦ inl (root_ends (is_kept k.policy) (graph_after c pending) n there new.root)
             ]
           ]
           | inr now ↦ elim now [
-            | inl root ↦ inl (root_ends (is_kept (policy_in k)) (graph_after c pending) n there root)
+            | inl root ↦ inl (root_ends (is_kept k.policy) (graph_after c pending) n there root)
             | inr own ↦
                 let leads : is_there c.objects m ≡ true =
-                leading_is_there (is_kept (policy_in k)) c.objects m n target in
+                leading_is_there (is_kept k.policy) c.objects m n target in
                 inl
-                (target_ends (is_kept (policy_in k)) (graph_after c pending) m n
-                (root_ends (is_kept (policy_in k)) (graph_after c pending) m leads own.0) target there)
+                (target_ends (is_kept k.policy) (graph_after c pending) m n
+                (root_ends (is_kept k.policy) (graph_after c pending) m leads own.0) target there)
           ]
         ];
   }

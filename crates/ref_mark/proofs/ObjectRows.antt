@@ -9,7 +9,7 @@ use Rattle.ref_mark.proofs.Common.{allowed_referent, is_soft, soft_and_weak_refe
 use Rattle.ref_mark.proofs.Common.{slot_at, nulls, new_reference, made, changed_in, with_heap, pending_numbers}
 use Rattle.ref_mark.proofs.Common.{has_slot, has_slots, unless, field_refusal, new_refusal, refer_refusal, State}
 use Rattle.ref_mark.proofs.Common.{ticked, on_heap, HeapAccepts, Strength, NoSuchActor, is_in_cycle, CycleHeap}
-use Rattle.ref_mark.proofs.Common.{policy_in, is_white, is_past_mark, doomed, with_made, is_there, heap_but}
+use Rattle.ref_mark.proofs.Common.{is_white, is_past_mark, doomed, with_made, is_there, heap_but}
 use Rattle.ref_mark.proofs.Common.{MarkStands, ReadsAs, unsaid, shown_heap}
 use Rattle.ref_base.specs.Heaps.{stored, with_field}
 use Rattle.ref_base.specs.Refusals.{is_queue_or_none, unless_empty, object_refusal}
@@ -39,7 +39,7 @@ use Rattle.ref_base.proofs.RowForms.{unless_passes}
 pub made_stands : (k : CycleHeap) (a : State) (m d : ℕ) (o p : Object) → MarkStands k a → has_slot k.heap m d ≡ true
     → o.no ≡ k.next
     → (is_in_cycle k.phase ≡ true → (n : ℕ)
-    → has (targets_of (is_kept (policy_in k)) (Some o)) n ≡ true → is_white k n ≡ false)
+    → has (targets_of (is_kept k.policy) (Some o)) n ≡ true → is_white k n ≡ false)
     → (is_in_cycle k.phase ≡ true → refers_into (is_white k) o.reference ≡ false)
     → ((n : ℕ) → has (targets_of soft_and_weak_referents (Some o)) n ≡ true → is_there k.heap.objects n ≡ true)
     → shown_heap (with_made k m d o) ≡ made (shown_heap k) m d o → p ≡ o
@@ -145,11 +145,11 @@ refer_row k a m strength d s q f stands accepted =
       (ap (λ n. replies.Object n) (sym stands.next), refl),
       made_stands k a m d o p stands slot refl
           (λ begun n target.
-          elim (has-cases (present (nulls f)) (allowed_referent (is_kept (policy_in k)) o.reference) n target) [
+          elim (has-cases (present (nulls f)) (allowed_referent (is_kept k.policy) o.reference) n target) [
             | inl field ↦ absurd (true≢false (sym field ∙ has-present_nulls f n))
             | inr referent ↦
                 slot_is_not_white k a stands begun m s n
-                (reference_goes_to k (is_kept (policy_in k)) strength (slot_at k.heap m s) q n referent)
+                (reference_goes_to k (is_kept k.policy) strength (slot_at k.heap m s) q n referent)
           ])
           (λ begun. slot_off k a m s stands begun)
           (λ n target.

@@ -1,7 +1,7 @@
 -- Whether a heap stands for a state is no matter of hands and queues, nor of moments but for what was ever kept in
 -- them.
 use Rattle.std.proofs.Common.{◌≡◌, ℕ, true, List, Option}
-use Rattle.ref_mark.proofs.Common.{Graph, EverKept, is_in, State, Marking, CycleHeap, policy_in, MarkStands}
+use Rattle.ref_mark.proofs.Common.{Graph, EverKept, is_in, State, Marking, CycleHeap, MarkStands}
 use Rattle.ref_base.specs.QueueLists.{Lists}
 use Rattle.ref_base.specs.Worlds.{Notice}
 
@@ -15,13 +15,13 @@ with_others a mutators workers queues = record a {
 pub stands-with_others : (k : CycleHeap) (a : State) (mutators workers : List (Option Notice))
     (queues : List (Lists Notice))
     (moments : List Graph)
-    → (is_in k.phase Marking ≡ true → (n : ℕ) → EverKept (policy_in k) a.moments n → EverKept (policy_in k) moments n)
-    → (is_in k.phase Marking ≡ true → (n : ℕ) → EverKept (policy_in k) moments n → EverKept (policy_in k) a.moments n)
+    → (is_in k.phase Marking ≡ true → (n : ℕ) → EverKept k.policy a.moments n → EverKept k.policy moments n)
+    → (is_in k.phase Marking ≡ true → (n : ℕ) → EverKept k.policy moments n → EverKept k.policy a.moments n)
     → MarkStands k a → MarkStands k (record (with_others a mutators workers queues) { moments = moments })
 stands-with_others k a mutators workers queues moments over back stands = record {
   heap = stands.heap;
   next = stands.next;
-  urgency = stands.urgency;
+  policy = stands.policy;
   cycle = stands.cycle;
   phase = stands.phase;
   doomed = stands.doomed;

@@ -2,7 +2,7 @@
 use Rattle.std.proofs.Common.{◌≡◌, ℕ, ◌≤◌, true, false, not, refl, sym, ap, subst, ◌∙◌}
 use Rattle.std.proofs.Common.{List, [], length}
 use Rattle.std.proofs.lemmas.Bool.{false≢true}
-use Rattle.ref_mark.proofs.Common.{Heap, IsOrderly, graph_of, is_in, is_empty, State, Urgency, Phase, Marking}
+use Rattle.ref_mark.proofs.Common.{Heap, IsOrderly, graph_of, is_in, is_empty, State, Policy, Phase, Marking}
 use Rattle.ref_mark.proofs.Common.{Clearing, Sweeping, CycleHeap, is_past_mark, is_in_cycle, doomed, AreThere}
 use Rattle.ref_mark.proofs.Common.{MarkStands}
 use Rattle.ref_mark.proofs.Agreeing.{same_before, agrees_same}
@@ -11,16 +11,16 @@ use Rattle.ref_mark.proofs.DoomedLists.{shown_heap-before}
 
 -- ---- the parts that a state has of the heap that stands for it
 
-abbrev pub state_from : State → Heap → Urgency → ℕ → Phase → ℕ → List ℕ → State
-state_from a h urgency cycle phase next doomed_ones = record a {
-  world = record a.world { heap = h; urgency = urgency; cycle = cycle; phase = phase };
+abbrev pub state_from : State → Heap → Policy → ℕ → Phase → ℕ → List ℕ → State
+state_from a h policy cycle phase next doomed_ones = record a {
+  world = record a.world { heap = h; policy = policy; cycle = cycle; phase = phase };
   next = next;
   doomed = doomed_ones;
 }
 
 -- the state in this phase, with the heap's parts
 abbrev pub plain_state : CycleHeap → Phase → State → State
-plain_state k phase a = state_from a k.heap k.urgency k.cycle phase k.next []
+plain_state k phase a = state_from a k.heap k.policy k.cycle phase k.next []
 
 pub doomed-before : (k : CycleHeap) → is_past_mark k.phase ≡ false → doomed k ≡ []
 doomed-before k before = simp before refl
@@ -31,12 +31,12 @@ plain_state-is k a phase stands is before =
     let w = a.world in
     let early : is_past_mark k.phase ≡ false = ap is_past_mark is ∙ before in
     let heap : w.heap ≡ k.heap = same_before k w.heap early stands.heap ∙ shown_heap-before k early in
-    ap (λ h. state_from a h w.urgency w.cycle w.phase a.next a.doomed) heap
-    ∙ ap (λ u. state_from a k.heap u w.cycle w.phase a.next a.doomed) stands.urgency
-    ∙ ap (λ c. state_from a k.heap k.urgency c w.phase a.next a.doomed) stands.cycle
-    ∙ ap (λ p. state_from a k.heap k.urgency k.cycle p a.next a.doomed) (stands.phase ∙ is)
-    ∙ ap (λ n. state_from a k.heap k.urgency k.cycle phase n a.doomed) stands.next
-    ∙ ap (λ d. state_from a k.heap k.urgency k.cycle phase k.next d) (stands.doomed ∙ doomed-before k early)
+    ap (λ h. state_from a h w.policy w.cycle w.phase a.next a.doomed) heap
+    ∙ ap (λ u. state_from a k.heap u w.cycle w.phase a.next a.doomed) stands.policy
+    ∙ ap (λ c. state_from a k.heap k.policy c w.phase a.next a.doomed) stands.cycle
+    ∙ ap (λ p. state_from a k.heap k.policy k.cycle p a.next a.doomed) (stands.phase ∙ is)
+    ∙ ap (λ n. state_from a k.heap k.policy k.cycle phase n a.doomed) stands.next
+    ∙ ap (λ d. state_from a k.heap k.policy k.cycle phase k.next d) (stands.doomed ∙ doomed-before k early)
 
 -- ---- standing in a mark
 
@@ -51,7 +51,7 @@ marking_stands k a phase plain left born orderly scanners finders there but =
     record {
       heap = agrees_same k a.world.heap (ap (λ (s : State). s.world.heap) plain ∙ sym (shown_heap-before k early));
       next = ap (λ (s : State). s.next) plain;
-      urgency = ap (λ (s : State). s.world.urgency) plain;
+      policy = ap (λ (s : State). s.world.policy) plain;
       cycle = ap (λ (s : State). s.world.cycle) plain;
       phase = ap (λ (s : State). s.world.phase) plain ∙ sym phase;
       doomed = ap (λ (s : State). s.doomed) plain ∙ sym (doomed-before k early);

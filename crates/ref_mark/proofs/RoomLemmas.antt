@@ -10,11 +10,12 @@ use Rattle.std.proofs.lemmas.List.{length-replicate, get_or_read}
 use Rattle.std.proofs.Math.ListN.{get_or-map}
 use Rattle.ref_mark.proofs.Common.{refers_into, has, is_there, Heap, reference_at, one_more, one_fewer, joined}
 use Rattle.ref_mark.proofs.Common.{list_at, is_in, is_empty, is_worker, work_refusal, NoSuchActor, Config, Phase}
-use Rattle.ref_mark.proofs.Common.{Urgency, Idle, Marking, Sweeping, Ground, Worklist, empty_worklist, first_in}
+use Rattle.ref_mark.proofs.Common.{Policy, Idle, Marking, Sweeping, Ground, Worklist, empty_worklist, first_in}
 use Rattle.ref_mark.proofs.Common.{emptied_list, CycleHeap, first_cycle_heap, is_white, shaded, shaded_all, with_found}
 use Rattle.ref_mark.proofs.Common.{is_due, seen_marker, worklists_of}
 use Rattle.ref_base.specs.CollectorRows.{emptied as none_found}
 use Rattle.ref_base.specs.declared.urgency.Urgency.TheVariants.{Normal}
+use Rattle.ref_base.specs.KeptPaths.{policy_from}
 use Rattle.ref_objects.specs.Grounds.{first_ground, is_unmarked, ground_marked, after_freeing, is_free, freed}
 use Rattle.ref_objects.specs.Grounds.{IsWellFormed, without_tag}
 use Rattle.ref_objects.proofs.TabledLemmas.{length-one_more}
@@ -337,7 +338,7 @@ roomy_first config heap_no next = record {
 -- ---- what is seen
 
 -- a doomed object goes, unless somebody holds it
-module _ (g : Ground) (grey : Worklist) (found : List Worklist) (phase : Phase) (how : Urgency) (cycle n : ℕ)
+module _ (g : Ground) (grey : Worklist) (found : List Worklist) (phase : Phase) (how : Policy) (cycle n : ℕ)
     (due : is_due (seen_marker g grey found phase how cycle) n ≡ true) where
   white : is_unmarked g n ≡ true
   white = (and_parts (is_in phase Sweeping) (is_unmarked g n) due).1
@@ -360,14 +361,14 @@ module _ (g : Ground) (grey : Worklist) (found : List Worklist) (phase : Phase) 
       ]
 
 -- a worker's list is replaced
-pub seen_replaced : (g : Ground) (grey : Worklist) (found : List Worklist) (phase : Phase) (how : Urgency)
+pub seen_replaced : (g : Ground) (grey : Worklist) (found : List Worklist) (phase : Phase) (how : Policy)
     (cycle w : ℕ) (l : Worklist)
     → seen_marker g grey (set found w l) phase how cycle
     ≡ record (seen_marker g grey found phase how cycle) { found = set (worklists_of found) w l.stands }
 seen_replaced g grey found phase how cycle w l = rw (lists_of-set found w l) refl
 
 -- the first that a worker found is taken
-pub seen_taken : (g : Ground) (grey : Worklist) (found : List Worklist) (phase : Phase) (how : Urgency)
+pub seen_taken : (g : Ground) (grey : Worklist) (found : List Worklist) (phase : Phase) (how : Policy)
     (cycle w : ℕ) (l m : Worklist) → l.stands ≡ list_at (worklists_of found) w → m ≡ without_first_listed l
     → seen_marker g grey (set found w m) phase how cycle ≡ with_found_taken (seen_marker g grey found phase how cycle) w
 seen_taken g grey found phase how cycle w l m stands taken =
@@ -380,7 +381,7 @@ found_white : (k : CycleHeap) (w n : ℕ) → refers_into (is_white k) (referenc
 found_white k w n white = simp white refl
 
 -- a reference is found whose referent is white
-pub seen_found : (g : Ground) (grey : Worklist) (found : List Worklist) (phase : Phase) (how : Urgency)
+pub seen_found : (g : Ground) (grey : Worklist) (found : List Worklist) (phase : Phase) (how : Policy)
     (cycle w n : ℕ) (l m : Worklist)
     → refers_into (is_white (seen_marker g grey found phase how cycle)) (reference_at g.heap n) ≡ true
     → l.stands ≡ list_at (worklists_of found) w → m ≡ with_last l n
@@ -392,19 +393,20 @@ seen_found g grey found phase how cycle w n l m white stands pushed =
     ∙ sym (found_white (seen_marker g grey found phase how cycle) w n white)
 
 -- no worker has found anything
-pub seen_emptied : (g : Ground) (grey : Worklist) (found : List Worklist) (phase : Phase) (how : Urgency) (cycle : ℕ)
+pub seen_emptied : (g : Ground) (grey : Worklist) (found : List Worklist) (phase : Phase) (how : Policy) (cycle : ℕ)
     → seen_marker g grey (map emptied_list found) phase how cycle
     ≡ record (seen_marker g grey found phase how cycle) { found = none_found (worklists_of found) }
 seen_emptied g grey found phase how cycle = rw (lists_of-emptied found) refl
 
 pub seen_first : (config : Config) (heap_no next cycle : ℕ) {g : Ground} {grey : Worklist} {found : List Worklist}
+    {policy : Policy} → policy ≡ policy_from config 0 Normal
     → g ≡ first_ground config heap_no next → grey ≡ empty_worklist config.cells
     → found ≡ replicate config.workers (empty_worklist config.cells)
-    → seen_marker g grey found Idle Normal cycle ≡ first_cycle_heap config heap_no next cycle
-seen_first config heap_no next cycle {g} {grey} {found} objects greys lists =
+    → seen_marker g grey found Idle policy cycle ≡ first_cycle_heap config heap_no next cycle
+seen_first config heap_no next cycle {g} {grey} {found} {policy} fixed objects greys lists =
     let none : worklists_of found ≡ replicate config.workers [] =
     ap worklists_of lists ∙ lists_of-replicate config.workers config.cells in
-    rw (objects, greys, none) refl
+    rw (objects, greys, none, fixed) refl
 
 -- ---- a scan
 

@@ -6,7 +6,7 @@ use Rattle.std.specs.Prelude.{slice_set}
 use Rattle.std.proofs.lemmas.Bool.{cases_Bool, and_parts, false≢true, true≢false, or_left, or_right, ltb-true}
 use Rattle.ref_mark.proofs.Common.{any_is, has, is_there, present, targets_at, soft_and_weak_referents, is_kept, Heap}
 use Rattle.ref_mark.proofs.Common.{slot_at, pending_numbers, is_in, has_slot, State, Phase, Idle, Marking, Clearing}
-use Rattle.ref_mark.proofs.Common.{Sweeping, is_in_cycle, CycleHeap, policy_in, is_white, is_black, is_past_mark}
+use Rattle.ref_mark.proofs.Common.{Sweeping, is_in_cycle, CycleHeap, is_white, is_black, is_past_mark}
 use Rattle.ref_mark.proofs.Common.{is_due, AreThere, MarkStands}
 use Rattle.ref_base.specs.Refusals.{is_mutator}
 use Rattle.ref_base.proofs.HasLaws.{has-left, has-right, has-cases}
@@ -165,9 +165,9 @@ module _ (k : CycleHeap) (a : State) (stands : MarkStands k a) (begun : is_in_cy
 
   -- and leads to nothing white
   pub lead_is_not_white : is_in k.phase Marking ≡ false → (m n : ℕ) → is_white k m ≡ false
-      → has (targets_at (is_kept (policy_in k)) k.heap.objects m) n ≡ true → is_white k n ≡ false
+      → has (targets_at (is_kept k.policy) k.heap.objects m) n ≡ true → is_white k n ≡ false
   lead_is_not_white quiet m n other target =
-      let there = leading_is_there (is_kept (policy_in k)) k.heap.objects m n target in
+      let there = leading_is_there (is_kept k.policy) k.heap.objects m n target in
       elim ((stands.facts begun).closed m n (not_white_is_black quiet m there other) target) [
         | inl next ↦ next
         | inr none ↦ absurd (false≢true none)

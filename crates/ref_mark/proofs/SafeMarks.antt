@@ -5,7 +5,7 @@ use Rattle.std.proofs.Common.{List, [], ◌∷◌, inl, inr}
 use Rattle.std.proofs.lemmas.Bool.{cases_Bool, false≢true, true≢false, false_from_ne_true}
 use Rattle.std.proofs.lemmas.Bool.{eq-eqb, cases_lt, lt-ltb, le-ltb}
 use Rattle.ref_mark.proofs.Common.{has, Graph, Object, is_there, targets_at, is_kept, MayDoom, graph_of, State, joined}
-use Rattle.ref_mark.proofs.Common.{CycleHeap, policy_in, is_white, is_black, is_in_cycle, unmarked, FactsBut, Coloured}
+use Rattle.ref_mark.proofs.Common.{CycleHeap, is_white, is_black, is_in_cycle, unmarked, FactsBut, Coloured}
 use Rattle.ref_mark.proofs.Common.{Reached, MarkStands}
 use Rattle.ref_base.specs.KeptPaths.{IsKept}
 use Rattle.ref_base.specs.DoomedSets.{unscanned}
@@ -25,7 +25,7 @@ root_facts k a n stands begun root =
 
 pub edge_facts : (k : CycleHeap) (a : State) (m n : ℕ) → MarkStands k a → is_in_cycle k.phase ≡ true
     → is_black k m ≡ true
-    → has (targets_at (is_kept (policy_in k)) k.heap.objects m) n ≡ true → is_white k n ≡ false
+    → has (targets_at (is_kept k.policy) k.heap.objects m) n ≡ true → is_white k n ≡ false
 edge_facts k a m n stands begun black target =
     elim ((stands.facts begun).closed m n black target) [
       | inl other ↦ other
@@ -43,7 +43,7 @@ marked_is_black k none n there marked =
 -- what an object leads to that is there and isn't white isn't white either
 pub not_white_goes_on : (k : CycleHeap) (roots : List ℕ) → FactsBut k roots [] → k.grey ≡ [] → (m n : ℕ)
     → is_there k.heap.objects m ≡ true → is_white k m ≡ false
-    → has (targets_at (is_kept (policy_in k)) k.heap.objects m) n ≡ true → is_white k n ≡ false
+    → has (targets_at (is_kept k.policy) k.heap.objects m) n ≡ true → is_white k n ≡ false
 not_white_goes_on k roots facts none m n there other target =
     elim (facts.closed m n (marked_is_black k none m there (not_white_marked k m there other)) target) [
       | inl not_white ↦ not_white
@@ -52,10 +52,10 @@ not_white_goes_on k roots facts none m n there other target =
 
 -- no kept path ends at a white object
 pub kept_is_not_white : (k : CycleHeap) (roots : List ℕ) → FactsBut k roots [] → k.grey ≡ [] → (n : ℕ)
-    → IsKept (policy_in k) (record { objects = k.heap.objects; roots = roots }) n → is_white k n ≡ false
+    → IsKept k.policy (record { objects = k.heap.objects; roots = roots }) n → is_white k n ≡ false
 kept_is_not_white k roots facts none n kept =
     let g : Graph = record { objects = k.heap.objects; roots = roots } in
-    (path_within (is_kept (policy_in k)) g (λ i. (is_there k.heap.objects i ≡ true) × (is_white k i ≡ false))
+    (path_within (is_kept k.policy) g (λ i. (is_there k.heap.objects i ≡ true) × (is_white k i ≡ false))
     (λ i there root.
     (there, elim (facts.rooted i root) [ inl other ↦ other | inr listed ↦ absurd (false≢true listed) ]))
     (λ i j before target there. (there, not_white_goes_on k roots facts none i j before.0 before.1 target))
@@ -64,7 +64,7 @@ kept_is_not_white k roots facts none n kept =
 -- no object outside the unmarked leads to one of them
 pub unmarked_is_closed : (k : CycleHeap) (roots : List ℕ) → FactsBut k roots [] → k.grey ≡ [] → (m n : ℕ)
     → is_there k.heap.objects m ≡ true → has (unmarked k.heap.objects k.marked) m ≡ false
-    → has (targets_at (is_kept (policy_in k)) k.heap.objects m) n ≡ true
+    → has (targets_at (is_kept k.policy) k.heap.objects m) n ≡ true
     → has (unmarked k.heap.objects k.marked) n ≡ false
 unmarked_is_closed k roots facts none m n there out target =
     has-unmarked k.heap.objects k.marked n
@@ -73,7 +73,7 @@ unmarked_is_closed k roots facts none m n there out target =
 -- so the unmarked may be doomed
 pub unmarked_may_be_doomed : (k : CycleHeap) (a : State) (roots : List ℕ) → FactsBut k roots [] → Reached k a.moments
     → k.grey ≡ []
-    → MayDoom (policy_in k) (record { objects = k.heap.objects; roots = roots }) a.moments
+    → MayDoom k.policy (record { objects = k.heap.objects; roots = roots }) a.moments
     (unmarked k.heap.objects k.marked)
 unmarked_may_be_doomed k a roots facts reached none = record {
   none_kept = λ n within kept.

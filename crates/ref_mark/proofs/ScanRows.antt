@@ -4,8 +4,8 @@ use Rattle.std.proofs.Common.{◌≡◌, ℕ, ◌<◌, Bool, true, false, not, r
 use Rattle.std.proofs.Common.{List, [], ◌∷◌, ◌++◌, length, None}
 use Rattle.std.proofs.lemmas.Bool.{true≢false, false_from_ne_true}
 use Rattle.std.proofs.lemmas.List.{length-set}
-use Rattle.ref_mark.proofs.Common.{has, targets_at, is_kept, EverKept, graph_of, policy_of, is_in, is_empty}
-use Rattle.ref_mark.proofs.Common.{work_refusal, State, joined, list_at, Marking, Sweeping, CycleHeap, policy_in}
+use Rattle.ref_mark.proofs.Common.{has, targets_at, is_kept, EverKept, graph_of, is_in, is_empty}
+use Rattle.ref_mark.proofs.Common.{work_refusal, State, joined, list_at, Marking, Sweeping, CycleHeap}
 use Rattle.ref_mark.proofs.Common.{shaded_all, with_found, grey_scanned, MarkStands, first_in}
 use Rattle.ref_base.specs.CollectorRows.{Scans}
 use Rattle.ref_base.specs.declared.reply.Reply.TheVariants as replies
@@ -49,7 +49,7 @@ scan_some k a w n rest stands phase within is =
     let s = plain_state k Marking a in
     let but : MarkingBut k s [] [] = plain_marking k a stands phase in
     let first : has k.grey n ≡ true = ap (λ ns. has ns n) is ∙ has-first n rest in
-    let targets : List ℕ = targets_at (is_kept (policy_in k)) k.heap.objects n in
+    let targets : List ℕ = targets_at (is_kept k.policy) k.heap.objects n in
     let one : CycleHeap = without_first k rest in
     let j : CycleHeap = shaded_all one targets in
     let left : Bool = not (is_empty j.grey) in
@@ -57,7 +57,7 @@ scan_some k a w n rest stands phase within is =
     let scanner : w < length a.scanned = subst (λ i. w < i) (sym stands.scanners) within in
     let finder : w < length k.found = subst (λ i. w < i) (sym stands.finders) within in
     let taken : MarkingBut one b (targets ++ []) (n ∷ []) = without_first_marking k a w n rest left is scanner but in
-    let ever : EverKept (policy_in k) b.moments n =
+    let ever : EverKept k.policy b.moments n =
     taken.reached.marked_ever n (but.coloured.grey_there n first) (but.coloured.grey_marked n first) in
     let all_shaded : MarkingBut j b [] (n ∷ []) =
     shaded_all_marking one b targets [] (n ∷ [])
@@ -86,7 +86,7 @@ scan_some k a w n rest stands phase within is =
     (subst (λ (l : CycleHeap). MarkingBut l b [] []) found_only done) in
     let now : is_in k.phase Marking ≡ true = ap (λ p. is_in p Marking) phase in
     let was_left : a.left ≡ true = (stands.marking now).left ∙ ap (λ ns. not (is_empty ns)) is in
-    let policy : policy_of b.world ≡ policy_in j = sym (ap (λ (l : CycleHeap). policy_in l) only) in (
+    let policy : b.world.policy ≡ j.policy = sym (ap (λ (l : CycleHeap). l.policy) only) in (
       b,
       (
         was_left,

@@ -8,7 +8,7 @@ use Rattle.std.proofs.lemmas.Bool.{eqb-true, eq-eqb, not-true, false_from_ne_tru
 use Rattle.std.proofs.lemmas.List.{length-set}
 use Rattle.ref_mark.proofs.Common.{refers_into, AreDistinct, has, Object, Reference, Graph, is_there, targets_at}
 use Rattle.ref_mark.proofs.Common.{Policy, is_kept, reference_at, graph_of, State, joined, list_at, Marking, CycleHeap}
-use Rattle.ref_mark.proofs.Common.{policy_in, is_white, is_black, with_found, FactsBut, Coloured, Reached, FoundBut}
+use Rattle.ref_mark.proofs.Common.{is_white, is_black, with_found, FactsBut, Coloured, Reached, FoundBut}
 use Rattle.ref_base.specs.CollectorRows.{AreFound}
 use Rattle.ref_base.proofs.HasLaws.{has-left, has-first, has-single}
 use Rattle.ref_base.proofs.PathLaws.{target_ends}
@@ -22,7 +22,7 @@ use Rattle.ref_base.proofs.FoundLists.{with_last, has-with_last, AreDistinct-wit
 pub reached_later : (k : CycleHeap) (moments : List Graph) (g : Graph) → g.objects ≡ k.heap.objects → Reached k moments
     → Reached k (g ∷ moments)
 reached_later k moments g same reached =
-    let p : Policy = policy_in k in
+    let p : Policy = k.policy in
     record {
       marked_ever = λ n there marked. inr (reached.marked_ever n there marked);
       goes_on = λ m n ever target there.
@@ -55,9 +55,9 @@ black-without_first k n m rest is black =
     ]
 
 facts-without_first : (k : CycleHeap) (n : ℕ) (rest roots : List ℕ) → k.grey ≡ n ∷ rest → FactsBut k roots []
-    → FactsBut (without_first k rest) roots (targets_at (is_kept (policy_in k)) k.heap.objects n ++ [])
+    → FactsBut (without_first k rest) roots (targets_at (is_kept k.policy) k.heap.objects n ++ [])
 facts-without_first k n rest roots is facts =
-    let targets = targets_at (is_kept (policy_in k)) k.heap.objects n in
+    let targets = targets_at (is_kept k.policy) k.heap.objects n in
     record {
       rooted = λ m root.
           elim (facts.rooted m root) [
@@ -68,7 +68,7 @@ facts-without_first k n rest roots is facts =
           elim (black-without_first k n l rest is black) [
             | inl same ↦
                 inr (has-left targets [] m
-                (subst (λ i. has (targets_at (is_kept (policy_in k)) k.heap.objects i) m ≡ true)
+                (subst (λ i. has (targets_at (is_kept k.policy) k.heap.objects i) m ≡ true)
                 (sym (eqb-true n l same)) target))
             | inr before ↦ elim (facts.closed l m before target) [
               | inl other ↦ inl other
@@ -135,7 +135,7 @@ found-without_first k lists w n rest is found = record {
 pub without_first_marking : (k : CycleHeap) (a : State) (w n : ℕ) (rest : List ℕ) (left : Bool) → k.grey ≡ n ∷ rest
     → w < length a.scanned → MarkingBut k (plain_state k Marking a) [] []
     → MarkingBut (without_first k rest) (state_scanned k a w n left)
-    (targets_at (is_kept (policy_in k)) k.heap.objects n ++ []) (n ∷ [])
+    (targets_at (is_kept k.policy) k.heap.objects n ++ []) (n ∷ [])
 without_first_marking k a w n rest left is within but =
     let s = plain_state k Marking a in
     let reached = reached_later k a.moments (graph_of s.world) refl but.reached in

@@ -3,13 +3,13 @@ use Rattle.std.proofs.Common.{◌≡◌, ℕ, true, false, not, refl, sym, ap, s
 use Rattle.std.proofs.Common.{Some, inl, inr}
 use Rattle.std.proofs.lemmas.Bool.{cases_Bool}
 use Rattle.ref_mark.proofs.Common.{has, is_there, is_kept, EverKept, Heap, World, with_heap, pending_numbers, is_in}
-use Rattle.ref_mark.proofs.Common.{is_empty, State, ticked, Marking, CycleHeap, policy_in, shaded, barred, ReadsAs}
+use Rattle.ref_mark.proofs.Common.{is_empty, State, ticked, Marking, CycleHeap, shaded, barred, ReadsAs}
 use Rattle.ref_mark.proofs.Common.{MarkStands}
 use Rattle.ref_base.specs.CollectorRows.{with_world, IsBut, GivesAnew, GivesAnewIf}
 use Rattle.ref_base.specs.declared.reply.Reply.{Reply}
 use Rattle.ref_base.proofs.PathLaws.{root_ends}
 use Rattle.ref_mark.proofs.Agreeing.{same_before}
-use Rattle.ref_mark.proofs.Shading.{MarkingBut, shaded_marking, shaded-only, some_left, policy_of_stands}
+use Rattle.ref_mark.proofs.Shading.{MarkingBut, shaded_marking, shaded-only, some_left}
 use Rattle.ref_mark.proofs.DoomedLists.{shown_heap-before}
 use Rattle.ref_mark.proofs.Moves.{Change, moved, IsMove, roots_after, graph_after, moved_state, moved_marking}
 use Rattle.ref_mark.proofs.MovedStates.{IsAlongside, in_mark, marking_stands, moved_beside, ticked_marking}
@@ -31,8 +31,8 @@ module _ (k : CycleHeap) (c : Change) (a : State) (w : World) (beside : IsAlongs
       let g = graph_after c (pending_numbers w.pending) in
       let new : CycleHeap = shaded (moved k c) n in
       let left = not (is_empty new.grey) in
-      let ever : is_there c.objects n ≡ true → EverKept (policy_in k) (g ∷ a.moments) n =
-      λ there. inl (root_ends (is_kept (policy_in k)) g n there root) in
+      let ever : is_there c.objects n ≡ true → EverKept k.policy (g ∷ a.moments) n =
+      λ there. inl (root_ends (is_kept k.policy) g n there root) in
       let after : MarkingBut new state_anew [] [] =
       shaded_marking (moved k c) state_anew n [] [] ever
       (moved_marking k c a w (n ∷ []) left move (marking_is_in_cycle k.phase marking) stands.orderly.below stands.born
@@ -61,7 +61,7 @@ module _ (k : CycleHeap) (c : Change) (a : State) (w : World) (beside : IsAlongs
           b.left,
           is,
           λ some. some_left (shaded (moved k c) n) b holds.coloured holds.reached
-              (policy_of_stands (shaded (moved k c) n) b after) some,
+              after.policy some,
         ),
         after,
       )

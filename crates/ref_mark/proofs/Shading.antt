@@ -4,8 +4,8 @@ use Rattle.std.proofs.Common.{List, [], ◌∷◌, ◌++◌, Option, Some, None,
 use Rattle.std.proofs.lemmas.Bool.{cases_Bool, and_parts, or_cases, or_left, or_right, false≢true, true≢false}
 use Rattle.std.proofs.lemmas.Bool.{eqb-true, eq-eqb, ne_eqb, not-true, or_parts, false_from_ne_true, cases_lt}
 use Rattle.ref_mark.proofs.Common.{refers_into, any_is, AreDistinct, has, Reference, is_there, Policy, EverKept, Heap}
-use Rattle.ref_mark.proofs.Common.{one_more, reference_at, policy_of, graph_of, is_empty, State, joined, Urgency}
-use Rattle.ref_mark.proofs.Common.{CycleHeap, policy_in, is_white, is_black, shaded, shaded_all, FactsBut, Coloured}
+use Rattle.ref_mark.proofs.Common.{one_more, reference_at, graph_of, is_empty, State, joined, Urgency}
+use Rattle.ref_mark.proofs.Common.{CycleHeap, is_white, is_black, shaded, shaded_all, FactsBut, Coloured}
 use Rattle.ref_mark.proofs.Common.{Reached, FoundBut, MarkStands, shown_heap}
 use Rattle.ref_base.specs.CollectorRows.{IsLeft}
 use Rattle.ref_base.proofs.HasLaws.{has-append, has-cases, has-single, has-first}
@@ -210,12 +210,12 @@ coloured-greyed k a n white coloured =
           has-one_more k.marked n m ∙ or_right (n == m) (has k.marked m) (coloured.since m there_too late);
     }
 
-reached-greyed : (k : CycleHeap) (a : State) (n : ℕ) → EverKept (policy_in k) a.moments n → Reached k a.moments
+reached-greyed : (k : CycleHeap) (a : State) (n : ℕ) → EverKept k.policy a.moments n → Reached k a.moments
     → Reached (greyed k n) a.moments
 reached-greyed k a n ever reached = record {
   marked_ever = λ m there marked.
       elim (or_cases (n == m) (has k.marked m) (sym (has-one_more k.marked n m) ∙ marked)) [
-        | inl same ↦ subst (λ i. EverKept (policy_in k) a.moments i) (eqb-true n m same) ever
+        | inl same ↦ subst (λ i. EverKept k.policy a.moments i) (eqb-true n m same) ever
         | inr before ↦ reached.marked_ever m there before
       ];
   goes_on = reached.goes_on;
@@ -233,7 +233,7 @@ found-greyed k a n late found = record {
 }
 
 greyed_marking : (k : CycleHeap) (a : State) (n : ℕ) (todo late : List ℕ) → is_white k n ≡ true
-    → EverKept (policy_in k) a.moments n → MarkingBut k a (n ∷ todo) late → MarkingBut (greyed k n) a todo late
+    → EverKept k.policy a.moments n → MarkingBut k a (n ∷ todo) late → MarkingBut (greyed k n) a todo late
 greyed_marking k a n todo late white ever but = record {
   facts = facts-greyed k n (graph_of a.world).roots todo but.facts;
   coloured = coloured-greyed k a n white but.coloured;
@@ -270,7 +270,7 @@ other_marking k a n todo late other but = record {
 
 -- a number that was to be shaded is shaded, if it was ever kept
 pub shaded_marking : (k : CycleHeap) (a : State) (n : ℕ) (todo late : List ℕ)
-    → (is_there k.heap.objects n ≡ true → EverKept (policy_in k) a.moments n) → MarkingBut k a (n ∷ todo) late
+    → (is_there k.heap.objects n ≡ true → EverKept k.policy a.moments n) → MarkingBut k a (n ∷ todo) late
     → MarkingBut (shaded k n) a todo late
 shaded_marking k a n todo late ever but =
     elim (cases_Bool (is_white k n)) [
@@ -283,12 +283,12 @@ shaded_marking k a n todo late ever but =
     ]
 
 pub shaded_all_marking : (k : CycleHeap) (a : State) (ns todo late : List ℕ)
-    → ((n : ℕ) → has ns n ≡ true → is_there k.heap.objects n ≡ true → EverKept (policy_in k) a.moments n)
+    → ((n : ℕ) → has ns n ≡ true → is_there k.heap.objects n ≡ true → EverKept k.policy a.moments n)
     → MarkingBut k a (ns ++ todo) late → MarkingBut (shaded_all k ns) a todo late
 shaded_all_marking k a [] todo late ever but = but
 shaded_all_marking k a (n ∷ ns) todo late ever but =
-    let first : is_there k.heap.objects n ≡ true → EverKept (policy_in k) a.moments n = ever n (has-first n ns) in
-    let rest : (m : ℕ) → has ns m ≡ true → is_there k.heap.objects m ≡ true → EverKept (policy_in k) a.moments m =
+    let first : is_there k.heap.objects n ≡ true → EverKept k.policy a.moments n = ever n (has-first n ns) in
+    let rest : (m : ℕ) → has ns m ≡ true → is_there k.heap.objects m ≡ true → EverKept k.policy a.moments m =
     λ m listed. ever m (or_right (n == m) (has ns m) listed) in
     elim (cases_Bool (is_white k n)) [
       | inl white ↦
@@ -302,20 +302,12 @@ shaded_all_marking k a (n ∷ ns) todo late ever but =
 
 -- ---- an object is left where one is grey
 
-abbrev policy_from : Heap → Urgency → Policy
-policy_from h urgency = record { clock = h.clock; urgency = urgency; span = h.config.span }
-
--- the heap goes by the policy of the state that it stands for
-pub policy_of_stands : (k : CycleHeap) (a : State) → MarkStands k a → policy_of a.world ≡ policy_in k
-policy_of_stands k a stands =
-    ap (λ h. policy_from h a.world.urgency) stands.heap ∙ ap (λ u. policy_from (shown_heap k) u) stands.urgency
-
 -- what is grey is left
 pub grey_is_left : (k : CycleHeap) (a : State) (n : ℕ) → Coloured k a.born a.scanned → Reached k a.moments
-    → policy_of a.world ≡ policy_in k
+    → a.world.policy ≡ k.policy
     → has k.grey n ≡ true → IsLeft a n
 grey_is_left k a n coloured reached same grey =
-    let ever : EverKept (policy_in k) a.moments n =
+    let ever : EverKept k.policy a.moments n =
     reached.marked_ever n (coloured.grey_there n grey) (coloured.grey_marked n grey) in (
       subst (λ (p : Policy). EverKept p a.moments n) (sym same) ever,
       coloured.grey_old n grey,
@@ -329,7 +321,7 @@ some_grey (n ∷ ns) some = (n, has-first n ns)
 
 -- the first of the grey list is left
 pub some_left : (k : CycleHeap) (a : State) → Coloured k a.born a.scanned → Reached k a.moments
-    → policy_of a.world ≡ policy_in k
+    → a.world.policy ≡ k.policy
     → not (is_empty k.grey) ≡ true → (n : ℕ) × IsLeft a n
 some_left k a coloured reached same some =
     let first = some_grey k.grey some in (first.0, grey_is_left k a first.0 coloured reached same first.1)

@@ -8,7 +8,7 @@ use Rattle.ref_mark.proofs.Common.{has, Object, object_at, is_there, Allowed, pr
 use Rattle.ref_mark.proofs.Common.{allowed_referent, soft_and_weak_referents, is_kept, Heap, slot_at, with_slot}
 use Rattle.ref_mark.proofs.Common.{pending_numbers, is_in, has_slot, has_slots, field_refusal, State, ticked, on_heap}
 use Rattle.ref_mark.proofs.Common.{field_in, value_reply, HeapAccepts, Marking, NoSuchActor, is_in_cycle, CycleHeap}
-use Rattle.ref_mark.proofs.Common.{policy_in, is_white, barred, MarkStands}
+use Rattle.ref_mark.proofs.Common.{is_white, barred, MarkStands}
 use Rattle.ref_base.specs.Refusals.{load_refusal}
 use Rattle.ref_base.specs.CollectorRows.{field_of, Loads}
 use Rattle.ref_base.specs.declared.heap_step.HeapStep.TheVariants as heap
@@ -114,7 +114,7 @@ load_values k a m d s i (Some n) stands is there =
       ]
       | inr quiet ↦ simp quiet refl
     ] in
-    let source = field_of-leads (is_kept (policy_in k)) k.heap (slot_at k.heap m s) i n is in
+    let source = field_of-leads (is_kept k.policy) k.heap (slot_at k.heap m s) i n is in
     let by_any = field_of-leads soft_and_weak_referents k.heap (slot_at k.heap m s) i n is in
     let given : is_there k.heap.objects n ≡ true =
     stands.there.led by_any.0 n (slot_is_not_due k a m s by_any.0 stands by_any.1) by_any.2 in

@@ -6,7 +6,7 @@ use Rattle.std.specs.Prelude.{List, [], ◌∷◌, ◌++◌, replicate, Option, 
 use Rattle.ref_base.specs.Members.{has}
 use Rattle.ref_base.specs.Graphs.{Object, is_there}
 use Rattle.ref_base.specs.Paths.{present, targets_at}
-use Rattle.ref_base.specs.KeptPaths.{Policy, is_kept}
+use Rattle.ref_base.specs.KeptPaths.{is_kept, policy_from}
 use Rattle.ref_base.specs.DoomedSets.{refers_into}
 use Rattle.ref_base.specs.Heaps.{Heap, first_heap, slot_at, reference_at, one_more, with_slot, made, got, cut}
 use Rattle.ref_base.specs.Heaps.{with_changed, with_reference, got_at, with_clock}
@@ -15,6 +15,7 @@ use Rattle.ref_base.specs.Refusals.{is_in}
 use Rattle.ref_base.specs.declared.config.Config.{Config}
 use Rattle.ref_base.specs.declared.phase.Phase.{Phase}
 use Rattle.ref_base.specs.declared.phase.Phase.TheVariants.{Idle, Marking, Clearing, Sweeping}
+use Rattle.ref_base.specs.declared.policy.Policy.{Policy}
 use Rattle.ref_base.specs.declared.urgency.Urgency.{Urgency}
 use Rattle.ref_base.specs.declared.urgency.Urgency.TheVariants.{Normal}
 use Rattle.ref_objects.specs.Grounds.{Tag, unmarked, with_new_tag, without_tag}
@@ -22,8 +23,8 @@ use Rattle.ref_mark.specs.Worklists.{rest_of}
 
 -- A heap, its number, the number of its next object; the objects that the cycle has reached, or that were made in it
 -- once it had begun; the tag of each object; the grey list: those of the reached that are still to be scanned, in
--- order; for each worker the references that it found, and that weren't looked at since; the phase, how urgent the
--- cycle is, and its number.
+-- order; for each worker the references that it found, and that weren't looked at since; the phase, the policy of
+-- the cycle, and its number.
 pub record CycleHeap : Type 0 where
   pub heap : Heap
   pub heap_no : ℕ
@@ -33,7 +34,7 @@ pub record CycleHeap : Type 0 where
   pub grey : List ℕ
   pub found : List (List ℕ)
   pub phase : Phase
-  pub urgency : Urgency
+  pub policy : Policy
   pub cycle : ℕ
 
 -- at first there is nothing, and so many cycles were there
@@ -47,13 +48,9 @@ first_cycle_heap config heap_no next cycle = record {
   grey = [];
   found = replicate config.workers [];
   phase = Idle;
-  urgency = Normal;
+  policy = policy_from config 0 Normal;
   cycle = cycle;
 }
-
--- what the cycle goes by
-abbrev pub policy_in : CycleHeap → Policy
-policy_in k = record { clock = k.heap.clock; urgency = k.urgency; span = k.heap.config.span }
 
 -- ---- colours
 
@@ -165,7 +162,7 @@ whitened k now urgency = record k {
   grey = [];
   found = emptied k.found;
   phase = Marking;
-  urgency = urgency;
+  policy = policy_from k.heap.config now urgency;
   cycle = k.cycle + 1;
 }
 
@@ -184,7 +181,7 @@ with_found k w n =
 abbrev pub grey_scanned : CycleHeap → ℕ → List ℕ → CycleHeap
 grey_scanned k w [] = k
 grey_scanned k w (n ∷ rest) =
-    with_found (shaded_all (record k { grey = rest }) (targets_at (is_kept (policy_in k)) k.heap.objects n)) w n
+    with_found (shaded_all (record k { grey = rest }) (targets_at (is_kept k.policy) k.heap.objects n)) w n
 
 abbrev pub scanned : CycleHeap → ℕ → CycleHeap
 scanned k w = grey_scanned k w k.grey

@@ -1,7 +1,7 @@
 -- What a contract sees of a marker's fields, and what holds of them.
 use Rattle.std.specs.Prelude.{◌≡◌, ℕ, ◌+◌, ◌≤◌, List, [], ◌∷◌, length}
 use Rattle.ref_base.specs.declared.phase.Phase.{Phase}
-use Rattle.ref_base.specs.declared.urgency.Urgency.{Urgency}
+use Rattle.ref_base.specs.declared.policy.Policy.{Policy}
 use Rattle.ref_objects.specs.Grounds.{Ground}
 use Rattle.ref_mark.specs.Worklists.{Worklist}
 use Rattle.ref_mark.specs.CycleHeaps.{CycleHeap}
@@ -11,8 +11,8 @@ abbrev pub worklists_of : List Worklist → List (List ℕ)
 worklists_of [] = []
 worklists_of (l ∷ ls) = l.stands ∷ worklists_of ls
 
-abbrev pub seen_marker : Ground → Worklist → List Worklist → Phase → Urgency → ℕ → CycleHeap
-seen_marker g grey found phase urgency cycle = record {
+abbrev pub seen_marker : Ground → Worklist → List Worklist → Phase → Policy → ℕ → CycleHeap
+seen_marker g grey found phase policy cycle = record {
   heap = g.heap;
   heap_no = g.heap_no;
   next = g.next;
@@ -21,7 +21,7 @@ seen_marker g grey found phase urgency cycle = record {
   grey = grey.stands;
   found = worklists_of found;
   phase = phase;
-  urgency = urgency;
+  policy = policy;
   cycle = cycle;
 }
 

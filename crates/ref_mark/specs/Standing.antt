@@ -15,7 +15,7 @@ use Rattle.ref_base.specs.Collectors.{State, joined}
 use Rattle.ref_base.specs.CollectorRows.{shown, AreFound}
 use Rattle.ref_base.specs.Forgetting.{heap_but}
 use Rattle.ref_base.specs.declared.phase.Phase.TheVariants.{Marking, Clearing, Sweeping}
-use Rattle.ref_mark.specs.CycleHeaps.{CycleHeap, policy_in, is_white, is_black, is_in_cycle, is_due, doomed}
+use Rattle.ref_mark.specs.CycleHeaps.{CycleHeap, is_white, is_black, is_in_cycle, is_due, doomed}
 
 -- ---- the heap as it is read
 
@@ -38,7 +38,7 @@ ReadsAs k h = heap_but (unsaid k) h ≡ heap_but (unsaid k) (shown_heap k)
 pub record FactsBut (k : CycleHeap) (roots todo : List ℕ) : Type 0 where
   pub rooted : (n : ℕ) → has roots n ≡ true → (is_white k n ≡ false) ⊎ (has todo n ≡ true)
   pub closed :
-      (m n : ℕ) → is_black k m ≡ true → has (targets_at (is_kept (policy_in k)) k.heap.objects m) n ≡ true
+      (m n : ℕ) → is_black k m ≡ true → has (targets_at (is_kept k.policy) k.heap.objects m) n ≡ true
       → (is_white k n ≡ false) ⊎ (has todo n ≡ true)
 
 -- In a mark, the grey list has objects that were made before the cycle, each once; of those that were made before it,
@@ -56,11 +56,11 @@ pub record Coloured (k : CycleHeap) (born : ℕ) (scanned : List (List ℕ)) : T
 -- in a mark, what is marked was ever kept, and what this leads to was ever kept
 pub record Reached (k : CycleHeap) (moments : List Graph) : Type 0 where
   pub marked_ever :
-      (n : ℕ) → is_there k.heap.objects n ≡ true → has k.marked n ≡ true → EverKept (policy_in k) moments n
+      (n : ℕ) → is_there k.heap.objects n ≡ true → has k.marked n ≡ true → EverKept k.policy moments n
   pub goes_on :
-      (m n : ℕ) → EverKept (policy_in k) moments m
-      → has (targets_at (is_kept (policy_in k)) k.heap.objects m) n ≡ true → is_there k.heap.objects n ≡ true
-      → EverKept (policy_in k) moments n
+      (m n : ℕ) → EverKept k.policy moments m
+      → has (targets_at (is_kept k.policy) k.heap.objects m) n ≡ true → is_there k.heap.objects n ≡ true
+      → EverKept k.policy moments n
 
 -- in a mark, each worker found some of the references that it scanned; each black reference to a white object was
 -- found, but for some that are found late
@@ -116,7 +116,7 @@ pub record AreThere (k : CycleHeap) (roots : List ℕ) : Type 0 where
 pub record MarkStands (k : CycleHeap) (a : State) : Type 0 where
   pub heap : ReadsAs k a.world.heap
   pub next : a.next ≡ k.next
-  pub urgency : a.world.urgency ≡ k.urgency
+  pub policy : a.world.policy ≡ k.policy
   pub cycle : a.world.cycle ≡ k.cycle
   pub phase : a.world.phase ≡ k.phase
   pub doomed : a.doomed ≡ doomed k

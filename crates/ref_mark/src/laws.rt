@@ -8,7 +8,7 @@ ghost use Rattle.ref_base.specs.KeptPaths.{is_kept};
 ghost use Rattle.ref_base.specs.Members.{has};
 ghost use Rattle.ref_base.specs.Paths.{targets_at};
 ghost use Rattle.ref_base.specs.Worlds.{graph_of};
-ghost use Rattle.ref_mark.specs.CycleHeaps.{CycleHeap, policy_in, is_white, is_black, is_in_cycle};
+ghost use Rattle.ref_mark.specs.CycleHeaps.{CycleHeap, is_white, is_black, is_in_cycle};
 ghost use Rattle.ref_mark.specs.MarkCalls.{is_of_marking, names_freed};
 ghost use Rattle.ref_mark.specs.MarkRows.{IsMarkRowOf, KeepsStanding};
 ghost use Rattle.ref_mark.specs.Standing.{MarkStands};
@@ -40,5 +40,5 @@ pub fn what_a_root_names_is_not_white()
 /// kept path leads to what is white then, which is what the mark's end dooms.
 pub fn no_black_object_leads_to_a_white_one()
     ensures { (k : CycleHeap) (a : State) (m n : ℕ) → MarkStands k a → is_in_cycle k.phase ≡ true → is_black k m ≡ true
-        → has (targets_at (is_kept (policy_in k)) k.heap.objects m) n ≡ true → is_white k n ≡ false }
+        → has (targets_at (is_kept k.policy) k.heap.objects m) n ≡ true → is_white k n ≡ false }
 {}

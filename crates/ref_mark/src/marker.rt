@@ -18,7 +18,7 @@ mod layer;
 
 use crate::worklist::Worklist;
 use ref_base::{
-    Config, Fault, HeapStep, MutNo, ObjNo, Phase, QueueNo, Reply, SlotNo, Strength, Urgency,
+    Config, Fault, HeapStep, MutNo, ObjNo, Phase, Policy, QueueNo, Reply, SlotNo, Strength, Urgency,
 };
 use ref_objects::{Objects, Start};
 use std::alloc::{AllocError, Allocator, Global};
@@ -37,7 +37,8 @@ pub struct Marker<A: Allocator = Global> {
     // For each worker, the references that it found.
     found: Vec<Worklist<A>, A>,
     phase: Phase,
-    urgency: Urgency,
+    // What the cycle goes by, since its begin.
+    policy: Policy,
     cycle: u64,
 }
 
@@ -47,7 +48,7 @@ impl<A: Allocator> Model for Marker<A> {
 
     ghost Value = { CycleHeap };
 
-    ghost view = { λ m. seen_marker m.objects m.grey m.found.items m.phase m.urgency m.cycle };
+    ghost view = { λ m. seen_marker m.objects m.grey m.found.items m.phase m.policy m.cycle };
 
     ghost invariant = { λ m. IsRoomy m.objects m.grey m.found.items };
 }
@@ -76,7 +77,7 @@ impl<A: Allocator + Copy> Marker<A> {
                 grey,
                 found,
                 phase: Phase::Idle,
-                urgency: Urgency::Normal,
+                policy: Policy::of(config, 0, Urgency::Normal),
                 cycle: start.cycle,
             }),
             Err(_) => Err(Fault::NoMemory),

@@ -3,7 +3,6 @@ use Rattle.std.proofs.Common.{◌≡◌, ℕ, true, List, inl, inr}
 use Rattle.ref_share.proofs.Common.{doomed_at, has, graph_of, HeapState, IsHeapMove}
 use Rattle.ref_base.specs.LeavingEdges.{FirstLeaves, LeavesBy}
 use Rattle.ref_base.specs.Paths.{IsPath, soft_and_weak_referents}
-use Rattle.ref_base.specs.Worlds.{policy_of}
 use Rattle.ref_base.specs.declared.heap_step.HeapStep.TheVariants as heap
 use Rattle.ref_base.specs.declared.reply.Reply.TheVariants as told
 use Rattle.ref_base.proofs.LeavingLaws.{has_first_step, first_step_clears}
@@ -20,12 +19,12 @@ leaves_by_a_new_clear a count b n before ends path doomed =
       | inl of ↦ let no = of.answer in absurd cc
       | inr of ↦
           let may = of.accepts.may_doom in
-          let first = has_first_step (policy_of a.state.world) (graph_of a.state.world) a.state.moments
+          let first = has_first_step a.state.world.policy (graph_of a.state.world) a.state.moments
           (doomed_at a.state) n before may path doomed in (
             first.0,
             first.1,
             first.2,
-            first_step_clears (policy_of a.state.world) (graph_of a.state.world) a.state.moments (doomed_at a.state) n
+            first_step_clears a.state.world.policy (graph_of a.state.world) a.state.moments (doomed_at a.state) n
                 before first.0 first.1 may path first.2,
           )
     ]

@@ -4,11 +4,12 @@ ghost use Rattle.std.specs.Prelude.{◌≡◌, ℕ, true, false, List, [], ◌�
 ghost use Rattle.ref_base.specs.Graphs.{Graph};
 ghost use Rattle.ref_base.specs.Paths.{IsPath, soft_and_weak_referents};
 ghost use Rattle.ref_base.specs.Members.{has};
-ghost use Rattle.ref_base.specs.KeptPaths.{Policy, is_normal, IsKept, EverKept};
+ghost use Rattle.ref_base.specs.KeptPaths.{is_normal, IsKept, EverKept};
 ghost use Rattle.ref_base.specs.DoomedSets.{MayDoom};
 ghost use Rattle.ref_base.specs.LeavingEdges.{FirstLeaves, LeavesBy};
 ghost use Rattle.ref_base.specs.Strengths.{HasStrength};
 ghost use Rattle.ref_base.specs.declared.reach.Reach.{Reach};
+ghost use Rattle.ref_base.specs.declared.policy.Policy.{Policy};
 
 /// Whatever the graph and the number, it is reachable in one of the five ways.
 pub fn each_number_has_a_strength()

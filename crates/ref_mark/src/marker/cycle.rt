@@ -1,6 +1,6 @@
 //! The cycle: its begin, the scans of its workers, and the mark's end.
 
-ghost use Rattle.std.specs.Prelude.{◌≡◌, ◌+◌, ◌-◌, ◌^◌, ◌<◌, not, nat_le, Some, length};
+ghost use Rattle.std.specs.Prelude.{◌≡◌, ◌+◌, ◌-◌, ◌^◌, ◌<◌, not, Some, length};
 ghost use Rattle.ref_base.specs.Graphs.{object_at};
 ghost use Rattle.ref_base.specs.Paths.{present, targets_at, allowed_referent, if_any};
 ghost use Rattle.ref_base.specs.KeptPaths.{is_kept};
@@ -10,10 +10,10 @@ ghost use Rattle.ref_base.specs.CollectorRows.{list_at, emptied};
 ghost use Rattle.ref_base.specs.Refusals.{is_empty, begin_refusal, work_refusal, end_mark_refusal};
 ghost use Rattle.ref_objects.specs.Grounds.{IsRefused, fields_in};
 ghost use Rattle.ref_mark.specs.MarkCalls.{answer_in_cycle, after_in_cycle, reply_of, scan_reply};
-ghost use Rattle.ref_mark.specs.CycleHeaps.{shaded_all, whitened, with_found, is_white, policy_in};
+ghost use Rattle.ref_mark.specs.CycleHeaps.{shaded_all, whitened, with_found, is_white};
 
 use super::Marker;
-use ref_base::{Fault, HeapStep, ObjNo, Phase, Reply, Strength, Urgency, WorkerNo, keeps};
+use ref_base::{Fault, HeapStep, ObjNo, Phase, Policy, Reply, Strength, Urgency, WorkerNo, keeps};
 use ref_objects::Reference;
 use std::alloc::Allocator;
 
@@ -92,7 +92,7 @@ impl<A: Allocator + Copy> Marker<A> {
         self.objects.unmark_all();
         self.objects.set_clock(now);
         self.phase = Phase::Marking;
-        self.urgency = urgency;
+        self.policy = Policy::of(self.objects.config(), now, urgency);
         self.cycle += 1;
     }
 
@@ -137,7 +137,7 @@ impl<A: Allocator + Copy> Marker<A> {
     fn shade_targets(&mut self, no: ObjNo, reference: Option<Reference>)
         requires { reference_at self.old.heap no ≡ reference }
         ensures { self.new ≡ shaded_all self.old
-            (targets_at (is_kept (policy_in self.old)) self.old.heap.objects no) }
+            (targets_at (is_kept self.old.policy) self.old.heap.objects no) }
     {
         self.shade_fields(no);
         let referent = self.kept_referent(reference);
@@ -156,7 +156,7 @@ impl<A: Allocator + Copy> Marker<A> {
 
     // The referent of a reference that the cycle keeps.
     fn kept_referent(&self, reference: Option<Reference>) -> Option<ObjNo>
-        ensures { if_any result ≡ allowed_referent (is_kept (policy_in self.now)) reference }
+        ensures { if_any result ≡ allowed_referent (is_kept self.now.policy) reference }
     {
         let reference = reference?;
         if self.is_kept(reference) {
@@ -168,20 +168,14 @@ impl<A: Allocator + Copy> Marker<A> {
 
     // Whether the cycle keeps the referent of this reference.
     fn is_kept(&self, reference: Reference) -> bool
-        ensures { result ≡ is_kept (policy_in self.now) reference }
+        ensures { result ≡ is_kept self.now.policy reference }
     {
-        match (reference.strength, self.urgency) {
-            (Strength::Soft, Urgency::Normal) => self.is_young_enough(reference.stamp),
+        let Policy { clock, urgency, span } = self.policy;
+        match (reference.strength, urgency) {
+            // No stamp is after the clock.
+            (Strength::Soft, Urgency::Normal) => keeps(clock, reference.stamp.min(clock), span),
             _ => false,
         }
-    }
-
-    // Whether a stamp is at most the span before the clock. None is after the clock.
-    fn is_young_enough(&self, stamp: u64) -> bool
-        ensures { result ≡ nat_le (self.now.heap.clock - stamp) self.now.heap.config.span }
-    {
-        let clock = self.objects.clock();
-        stamp > clock || keeps(clock, stamp, self.objects.config().span)
     }
 
     // The worker finds a reference whose referent is still white.

@@ -21,7 +21,7 @@ loop-worker-preserved g c = record {
   objects = c.loop-worker.invariant.objects;
   grey = c.loop-worker.invariant.grey;
   phase = c.loop-worker.invariant.phase;
-  urgency = c.loop-worker.invariant.urgency;
+  policy = c.loop-worker.invariant.policy;
   cycle = c.loop-worker.invariant.cycle;
 }
 
@@ -37,8 +37,8 @@ returns g c =
       c.loop-worker.invariant.objects,
       c.loop-worker.invariant.grey,
       c.loop-worker.invariant.phase,
-      c.loop-worker.invariant.urgency,
+      c.loop-worker.invariant.policy,
       c.loop-worker.invariant.cycle,
     )
     (seen_emptied c.self.inside.objects c.self.inside.grey c.self.inside.found.items c.self.inside.phase
-    c.self.inside.urgency c.self.inside.cycle)
+    c.self.inside.policy c.self.inside.cycle)

@@ -11,6 +11,6 @@ invariant-loop-worker g l = record {
   objects : l.self-inside.objects ≡ l.initial.self-inside.objects;
   grey : l.self-inside.grey ≡ l.initial.self-inside.grey;
   phase : l.self-inside.phase ≡ l.initial.self-inside.phase;
-  urgency : l.self-inside.urgency ≡ l.initial.self-inside.urgency;
+  policy : l.self-inside.policy ≡ l.initial.self-inside.policy;
   cycle : l.self-inside.cycle ≡ l.initial.self-inside.cycle;
 }

@@ -7,22 +7,22 @@ pub invariant_of-self : goal.invariant_of-self
 invariant_of-self g c =
     let k : CycleHeap = seen_marker c.self.inside.objects c.self.inside.grey c.self.inside.found.items
     c.self.inside.phase
-    c.self.inside.urgency c.self.inside.cycle in
+    c.self.inside.policy c.self.inside.cycle in
     let due : is_due k c.args.no ≡ true =
     subst (λ (m : CycleHeap). is_due m c.args.no ≡ true) (sym c.self.view_is)
     (sym c.is_due.ensures ∙ c.if-is_due.true) in
     let unmarked = due_unmarked c.self.inside.objects c.self.inside.grey c.self.inside.found.items
-    c.self.inside.phase c.self.inside.urgency c.self.inside.cycle c.args.no due in
+    c.self.inside.phase c.self.inside.policy c.self.inside.cycle c.args.no due in
     roomy_freed c.args.no unmarked c.free.ensures.after c.self.invariant
 
 pub returns-then-is_due-clause-after : goal.returns-then-is_due-clause-after
 returns-then-is_due-clause-after g c =
     let k : CycleHeap = seen_marker c.self.inside.objects c.self.inside.grey c.self.inside.found.items
     c.self.inside.phase
-    c.self.inside.urgency c.self.inside.cycle in
+    c.self.inside.policy c.self.inside.cycle in
     let due : is_due k c.args.no ≡ true =
     subst (λ (m : CycleHeap). is_due m c.args.no ≡ true) (sym c.self.view_is)
     (sym c.is_due.ensures ∙ c.if-is_due.true) in
     rw (← c.self.view_is, c.free.ensures.after)
     (seen_swept c.self.inside.objects c.self.inside.grey c.self.inside.found.items c.self.inside.phase
-    c.self.inside.urgency c.self.inside.cycle c.args.no due)
+    c.self.inside.policy c.self.inside.cycle c.args.no due)

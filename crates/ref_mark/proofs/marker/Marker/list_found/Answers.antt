@@ -17,7 +17,7 @@ pub returns-then-refers_to_white : goal.returns-then-refers_to_white
 returns-then-refers_to_white g c =
     let k : CycleHeap = seen_marker c.self.inside.objects c.self.inside.grey c.self.inside.found.items
     c.self.inside.phase
-    c.self.inside.urgency c.self.inside.cycle in
+    c.self.inside.policy c.self.inside.cycle in
     let asks = listing_asks k _ _ _ c.self.view_is c.worker.view_is c.requires.worker c.requires.room in
     let now : refers_into (is_white c.args.self.now) (reference_at c.args.self.now.heap c.args.no) ≡ true =
     ap (refers_into (is_white c.args.self.now)) c.requires.reference ∙ sym c.refers_to_white.ensures
@@ -29,5 +29,5 @@ returns-then-refers_to_white g c =
     stands_as_seen c.worker.inside.0 asks.0 c.index_mut.ensures.value c.self.invariant in
     rw (← c.self.view_is, ← c.worker.view_is)
     (seen_found c.self.inside.objects c.self.inside.grey c.self.inside.found.items c.self.inside.phase
-    c.self.inside.urgency c.self.inside.cycle c.worker.inside.0 c.args.no c.index_mut.result.now c.push.new.self white
+    c.self.inside.policy c.self.inside.cycle c.worker.inside.0 c.args.no c.index_mut.result.now c.push.new.self white
     stands c.push.ensures)

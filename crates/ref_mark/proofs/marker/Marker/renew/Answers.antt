@@ -8,7 +8,7 @@ use Rattle.ref_mark.proofs.marker.Marker.renew.Goals as goal
 pub returns-then-is_some : goal.returns-then-is_some
 returns-then-is_some g c =
     let m = c.self.inside in
-    let k : CycleHeap = seen_marker m.objects m.grey m.found.items m.phase m.urgency m.cycle in
+    let k : CycleHeap = seen_marker m.objects m.grey m.found.items m.phase m.policy m.cycle in
     let found : reference_at k.heap c.args.no ≡ Some c.args.reference =
     subst (λ (j : CycleHeap). reference_at j.heap c.args.no ≡ Some c.args.reference) (sym c.self.view_is) c.requires in
     let soft : is_soft c.args.reference.strength ≡ true =

@@ -10,7 +10,8 @@ invariant_of-result g c =
 pub returns-in-Ok-clause-made : goal.returns-in-Ok-clause-made
 returns-in-Ok-clause-made g c = (
   c.in_ok-objects.ensures.0,
-  seen_first c.args.config c.args.heap_no c.args.start.obj c.args.start.cycle c.in_ok-objects.ensures.1
+  seen_first c.args.config c.args.heap_no c.args.start.obj c.args.start.cycle c.of.ensures
+      c.in_ok-objects.ensures.1
       c.in-Ok.ensures.grey c.in-Ok.ensures.found,
 )
 

@@ -37,5 +37,5 @@ returns-clause-after g c =
     stands_as_seen c.worker.inside.0 worker c.index_mut.ensures.value c.self.invariant in
     rw (← c.self.view_is, ← same)
     (seen_taken c.self.inside.objects c.self.inside.grey c.self.inside.found.items c.self.inside.phase
-    c.self.inside.urgency c.self.inside.cycle c.worker.inside.0 c.index_mut.result.now c.take_first.new.self stands
+    c.self.inside.policy c.self.inside.cycle c.worker.inside.0 c.index_mut.result.now c.take_first.new.self stands
     c.take_first.ensures.after)
