@@ -26,25 +26,9 @@ use Rattle.ref_base.proofs.AgreeEnds.{end_agrees, cleared_agrees, passed_agrees,
 settles : (gone : List ℕ) (w : World) (a c : State) (scanned : List (List ℕ)) → Agreeing gone w a
     → settled c ≡ settled (record a { scanned = scanned }) → Agreeing gone w c
 settles gone w a c scanned is same =
-    let own : Agreeing gone w (settled (record a { scanned = scanned })) = record {
-      agrees = is.agrees;
-      rising = is.rising;
-      below = is.below;
-      gone_below = is.gone_below;
-      doomed_below = is.doomed_below;
-      cleared_below = is.cleared_below;
-      cleared_stay = is.cleared_stay;
-    } in
+    let own : Agreeing gone w (settled (record a { scanned = scanned })) = assumption is in
     let next : Agreeing gone w (settled c) = subst (Agreeing gone w) (sym same) own in
-    record {
-      agrees = next.agrees;
-      rising = next.rising;
-      below = next.below;
-      gone_below = next.gone_below;
-      doomed_below = next.doomed_below;
-      cleared_below = next.cleared_below;
-      cleared_stay = next.cleared_stay;
-    }
+    assumption next
 
 -- a list that is empty has nothing that isn't below
 none_below : (next : ℕ) (ns : List ℕ) → ns ≡ [] → AreBelow next ns

@@ -43,12 +43,9 @@ module _ (V : ℕ → Type 0) where
 
   pub closed_slot : (w : World) (m d : ℕ) (value : Option ℕ) → OfValue V value → IsClosed V w
       → IsClosed V (with_heap w (with_slot w.heap m d value))
-  closed_slot w m d value is closed = record {
-    slots = set_all (OfValue V) w.heap.slots (16 * m + d) value None is closed.slots;
-    holds = closed.holds;
-    pendings = closed.pendings;
-    targets = closed.targets;
-  }
+  closed_slot w m d value is closed =
+      assumption
+      (set_all (OfValue V) w.heap.slots (16 * m + d) value None is closed.slots, closed)
 
   pub closed_hold : (w : World) (n : ℕ) → V n → IsClosed V w → IsClosed V (with_heap w (with_hold w.heap n))
   closed_hold w n is closed = record {

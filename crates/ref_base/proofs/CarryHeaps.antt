@@ -1,6 +1,6 @@
 -- What a row of a heap carries on: whatever holds of each object, of each notice and of the cycle holds afterwards
 -- where it holds of what the row makes anew.
-use Rattle.std.proofs.Common.{◌≡◌, ℕ, ◌+◌, true}
+use Rattle.std.proofs.Common.{◌≡◌, ℕ, ◌+◌, Bool, true, false, if◌then◌else◌}
 use Rattle.std.proofs.Common.{List, [], ◌∷◌, ◌++◌, length, map, take, drop, min, Option, Some, None}
 use Rattle.std.proofs.Common.{refl, ap, ◌∙◌, inl, inr}
 use Rattle.std.specs.Prelude.{slice_set}
@@ -15,6 +15,8 @@ use Rattle.ref_base.proofs.Common.{looked_at, looked, list_at, begun_state, show
 use Rattle.ref_base.proofs.Common.{Cycle, Idle, Marking, Clearing, Sweeping, Reply}
 use Rattle.ref_base.specs.declared.heap_step.HeapStep.TheVariants as heap
 use Rattle.ref_base.specs.declared.reply.Reply.TheVariants as replies
+use Rattle.ref_base.specs.Replay.{if_told, after_heap}
+use Rattle.ref_base.proofs.HeapMoves.{IsNoEnd, moved, heap_moves}
 use Rattle.ref_base.proofs.Places.{all_push}
 use Rattle.ref_base.proofs.CarryLaws.{all_map, all_without}
 use Rattle.ref_base.proofs.RowForms.{but_world, ticked_world}
@@ -35,6 +37,13 @@ module _ (O : Object → Type 0) (P : Notice → Type 0) (C : ℕ → Type 0) wh
   Anew a (heap.Begin now how) reply = reply ≡ replies.Cycle (a.world.cycle + 1) → C (a.world.cycle + 1)
   Anew a step reply = Unit {0}
 
+  abbrev MakesNothing : NamedStep → Type 0
+  MakesNothing (heap.New m d k) = ⊥
+  MakesNothing (heap.Refer m strength d s q k) = ⊥
+  MakesNothing (heap.Begin now how) = ⊥
+  MakesNothing (heap.ClearNext k) = ⊥
+  MakesNothing step = Unit {0}
+
   makes : (a b : State) (m d : ℕ) (o : Object) (reply : Reply) → O o → Carries O P C a.world → Makes a m d o reply b
       → Carries O P C b.world
   makes a b m d o reply is carries row =
@@ -42,18 +51,6 @@ module _ (O : Object → Type 0) (P : Notice → Type 0) (C : ℕ → Type 0) wh
       given O P C c b (replies.Object a.next) reply row
       (carries_objects O P C a.world (a.world.heap.objects ++ o ∷ [])
       (all_push O a.world.heap.objects o carries.objects is) carries)
-
-  sets : (a b : State) (m d : ℕ) (value : Option ℕ) (answer reply : Reply) → Carries O P C a.world
-      → Gives answer (on_heap a (with_slot a.world.heap m d value)) reply b → Carries O P C b.world
-  sets a b m d value answer reply carries row =
-      given O P C (on_heap a (with_slot a.world.heap m d value)) b answer reply row carries
-
-  loads : (a b : State) (m d : ℕ) (value : Option ℕ) (reply : Reply) → Carries O P C a.world
-      → Loads a m d value reply b → Carries O P C b.world
-  loads a b m d None reply carries row = sets a b m d None replies.Null reply carries row
-  loads a b m d (Some n) reply carries row =
-      given_anew O P C (on_heap a (with_slot a.world.heap m d (Some n))) b (is_in a.world.phase Marking)
-      (replies.Object n) reply row carries
 
   pends : (w : World) (k n : ℕ) (queue : Option ℕ)
       → ((q : ℕ) → queue ≡ Some q → P (record { object = n; queue = q; cause = Cycle w.cycle k }))
@@ -64,85 +61,84 @@ module _ (O : Object → Type 0) (P : Notice → Type 0) (C : ℕ → Type 0) wh
       carries_pending O P C w k (pending_of w k ++ p ∷ [])
       (all_push (λ p. P (notice_from k p)) (pending_of w k) p (carries.pendings k) (fresh q refl)) carries
 
-  looks : (a : State) (k n : ℕ) (rest : List ℕ) (reply : Reply) → Anew a (heap.ClearNext k) reply
-      → Carries O P C a.world → reply ≡ looked_at a k n → Carries O P C (looked a k n rest).world
-  looks a k n rest reply anew carries is =
-      elim (cases_Bool (has a.cleared n)) [
-        | inl clears ↦
-            let told : looked_at a k n ≡ replies.Cleared n = simp clears refl in
-            simp clears
-            (pends a.world k n (registered_in (reference_at a.world.heap n)) (λ q there. anew n q (is ∙ told) there)
-            carries)
-        | inr other ↦ simp other carries
-      ]
-
-  looks_at : (a b : State) (k : ℕ) (found : List ℕ) (reply : Reply) → Anew a (heap.ClearNext k) reply
-      → Carries O P C a.world → ClearsNext a k found reply b → Carries O P C b.world
-  looks_at a b k [] reply anew carries row = given O P C a b replies.Nothing reply row carries
-  looks_at a b k (n ∷ rest) reply anew carries row =
-      given O P C (looked a k n rest) b (looked_at a k n) reply row (looks a k n rest reply anew carries row.0)
-
-  gives_on : (a b : State) (k : ℕ) (ps : List Pending) (reply : Reply) → Carries O P C a.world → HandsOn a k ps reply b
-      → Carries O P C b.world
-  gives_on a b k [] reply carries row = given O P C a b replies.Nothing reply row carries
-  gives_on a b k (p ∷ ps) reply carries row =
-      given O P C (with_world a (handed_on a.world k p.object)) b
-      (replies.Notice p.object p.queue (Cycle p.cycle k)) reply row
-      (carries_pending O P C a.world k (without_pending (pending_of a.world k) p.object)
-      (all_without_first (λ p. P (notice_from k p)) (λ (p : Pending). p.object) (pending_of a.world k) p.object
-      (carries.pendings k)) carries)
-
-  holds : (a b : State) (held : Option ℕ) (reply : Reply) → Carries O P C a.world → Holds a held reply b
-      → Carries O P C b.world
-  holds a b None reply carries row = absurd row
-  holds a b (Some n) reply carries row =
-      given O P C (on_heap a (with_hold a.world.heap n)) b (replies.Object n) reply row carries
-
-  scans : (a b : State) (k : ℕ) (reply : Reply) → Carries O P C a.world → Scans a k reply b → Carries O P C b.world
-  scans a b k (replies.Scanned n) carries row =
-      let c : State = record a { scanned = slice_set a.scanned k (list_at a.scanned k ++ n ∷ []) } in
-      in_world O P C b a.world (but_world (ticked c) b row.2 ∙ ticked_world c) carries
-  scans a b k reply carries row = given O P C a b replies.Nothing reply row.1 carries
-
-  sweeps : (a b : State) (doomed : List ℕ) (reply : Reply) → Carries O P C a.world → Sweeps a doomed reply b
-      → Carries O P C b.world
-  sweeps a b [] reply carries row = given O P C a b replies.Nothing reply row carries
-  sweeps a b (n ∷ ns) reply carries row =
-      let os : List Object = without (take 64 (n ∷ ns)) a.world.heap.objects in
-      let c : State = record a {
-        world = with_heap a.world (record a.world.heap { objects = os });
-        doomed = drop 64 (n ∷ ns);
-      } in
-      given O P C c b (replies.Swept (min 64 (length (n ∷ ns)))) reply row
-      (carries_objects O P C a.world os (all_without O (take 64 (n ∷ ns)) a.world.heap.objects carries.objects) carries)
-
   module _ (lasts : Lasts O) where
-    carries_cut : (a : State) (m s : ℕ) → Carries O P C a.world
-        → Carries O P C (with_heap a.world (cut a.world.heap m s))
-    carries_cut a m s carries =
-        carries_changed O P C a.world (slot_at a.world.heap m s) (with_reference cleared) lasts.clears carries
+    -- ---- where a step leads that makes no object, looks at nothing and frees nothing
 
-    cuts : (a b : State) (m s : ℕ) (answer reply : Reply) → Carries O P C a.world
-        → Gives answer (on_heap a (cut a.world.heap m s)) reply b → Carries O P C b.world
-    cuts a b m s answer reply carries row =
-        given O P C (on_heap a (cut a.world.heap m s)) b answer reply row (carries_cut a m s carries)
+    -- what holds of all in this world, as a record that search can see
+    record At (w : World) : Type 0 where
+      pub carries : Carries O P C w
 
-    gets : (a b : State) (m d s : ℕ) (value : Option ℕ) (reply : Reply) → Carries O P C a.world
-        → Gets a m d s value reply b → Carries O P C b.world
-    gets a b m d s None reply carries row = sets a b m d None replies.Null reply carries row
-    gets a b m d s (Some n) reply carries row =
-        let h : Heap = a.world.heap in
-        given_anew O P C (on_heap a (got h m d s (Some n))) b (is_in a.world.phase Marking) (replies.Object n) reply row
-        (carries_changed O P C a.world (slot_at h m s) (with_reference (got_at h.clock))
-        (λ o is. lasts.gets o h.clock is) carries)
+    module _ (w : World) (carries : Carries O P C w) where
+      told : {T : Type 0} (of : Option T) (change : T → World) (v : World) → At v → ((t : T) → At (change t))
+          → At (if_told of change v)
+      told None change v before changed = before
+      told (Some t) change v before changed = changed t
 
-    unhooks : (a b : State) (m s : ℕ) (held queue : Option ℕ) (reply : Reply) → Carries O P C a.world
-        → Unhooks a m s held queue reply b → Carries O P C b.world
-    unhooks a b m s None queue reply carries row = cuts a b m s replies.Nothing reply carries row
-    unhooks a b m s (Some n) None reply carries row = cuts a b m s replies.Nothing reply carries row
-    unhooks a b m s (Some n) (Some q) reply carries row =
-        given O P C (on_heap a (with_hold (cut a.world.heap m s) n)) b (replies.Notice n q Own) reply row
-        (carries_cut a m s carries)
+      done : (is : Bool) (u v : World) → At v → At u → At (if is then u else v)
+      done true u v before changed = changed
+      done false u v before changed = before
+
+      before : At w
+      before = record { carries = carries }
+
+      stores : (m s i v : ℕ) → At (with_heap w (stored w.heap m s i v))
+      stores m s i v =
+          let value : Option ℕ = slot_at w.heap m v in record {
+            carries = carries_changed O P C w (slot_at w.heap m s) (with_field i value)
+                (λ o is. lasts.stores o i value is) carries;
+          }
+
+      cuts : (m s : ℕ) → At (with_heap w (cut w.heap m s))
+      cuts m s = record {
+        carries = carries_changed O P C w (slot_at w.heap m s) (with_reference cleared) lasts.clears carries;
+      }
+
+      gets : (m d s : ℕ) (value : Option ℕ) → At (with_heap w (got w.heap m d s value))
+      gets m d s None = record { carries = carries }
+      gets m d s (Some n) = record {
+        carries = carries_changed O P C w (slot_at w.heap m s) (with_reference (got_at w.heap.clock))
+            (λ o is. lasts.gets o w.heap.clock is) carries;
+      }
+
+      unhooks : (m s n : ℕ) → At (with_heap w (with_hold (cut w.heap m s) n))
+      unhooks m s n = record { carries = (cuts m s).carries }
+
+      hands_on : (k n : ℕ) → At (handed_on w k n)
+      hands_on k n = record {
+        carries = carries_pending O P C w k (without_pending (pending_of w k) n)
+            (all_without_first (λ p. P (notice_from k p)) (λ (p : Pending). p.object) (pending_of w k) n
+            (carries.pendings k)) carries;
+      }
+
+      slots : (os : Heap) → At (with_heap w (record os { objects = w.heap.objects }))
+      slots h = record { carries = carries }
+
+      after_carries : (step : NamedStep) (reply : Reply) → MakesNothing step → At (after_heap w step reply)
+      after_carries (heap.New m d k) reply plain = absurd plain
+      after_carries step reply plain = search (told, done, before, stores, cuts, gets, unhooks, hands_on, slots)
+
+    looks : (a : State) (k : ℕ) (reply : Reply) → Anew a (heap.ClearNext k) reply → Carries O P C a.world
+        → Carries O P C (moved a (heap.ClearNext k) reply).world
+    looks a k (replies.Cleared n) anew carries =
+        pends a.world k n (registered_in (reference_at a.world.heap n)) (λ q there. anew n q refl there) carries
+    looks a k (replies.Kept n) anew carries = carries
+    looks a k (replies.Skipped n) anew carries = carries
+    looks a k reply anew carries = carries
+
+    sweeps : (a : State) (k : ℕ) (reply : Reply) → Carries O P C a.world
+        → Carries O P C (moved a (heap.Sweep k) reply).world
+    sweeps a k (replies.Swept count) carries =
+        let os : List Object = a.world.heap.objects in
+        carries_objects O P C a.world (without (take 64 a.doomed) os)
+        (all_without O (take 64 a.doomed) os carries.objects) carries
+    sweeps a k reply carries = carries
+
+    -- a row that isn't a mark's end carries on what holds where it leads
+    leads : (a b : State) (step : NamedStep) (reply : Reply) → IsNoEnd step → HeapAccepts a step reply b
+        → Carries O P C (moved a step reply).world → Carries O P C b.world
+    leads a b step reply plain row carries =
+        in_world O P C b (moved a step reply).world (ap (λ (s : State). s.world) (heap_moves a b step reply plain row))
+        carries
 
     -- a row of a heap carries on what holds of all
     pub heap_carries : (a b : State) (step : NamedStep) (reply : Reply) → Anew a step reply → Carries O P C a.world
@@ -152,30 +148,10 @@ module _ (O : Object → Type 0) (P : Notice → Type 0) (C : ℕ → Type 0) wh
     heap_carries a b (heap.Refer m strength d s q k) reply anew carries row =
         makes a b m d (new_reference a.world.heap a.next strength (slot_at a.world.heap m s) q k) reply (anew row.0)
         carries row
-    heap_carries a b (heap.Store m s i v) reply anew carries row =
-        let value : Option ℕ = slot_at a.world.heap m v in
-        given O P C (on_heap a (stored a.world.heap m s i v)) b replies.Done reply row
-        (carries_changed O P C a.world (slot_at a.world.heap m s) (with_field i value)
-        (λ o is. lasts.stores o i value is) carries)
-    heap_carries a b (heap.Load m d s i) reply anew carries row = loads a b m d _ reply carries row
-    heap_carries a b (heap.Copy m d s) reply anew carries row =
-        let value : Option ℕ = slot_at a.world.heap m s in
-        sets a b m d value (value_reply value) reply carries row
-    heap_carries a b (heap.Drop m s) reply anew carries row = sets a b m s None replies.Done reply carries row
-    heap_carries a b (heap.Get m d s) reply anew carries row = gets a b m d s _ reply carries row
-    heap_carries a b (heap.Clear m s) reply anew carries row = cuts a b m s replies.Done reply carries row
-    heap_carries a b (heap.RefersTo m s v) reply anew carries row = given O P C a b _ reply row carries
-    heap_carries a b (heap.Unhook m s) reply anew carries row = unhooks a b m s _ _ reply carries row
-    heap_carries a b (heap.Hold m s) reply anew carries row = holds a b _ reply carries row
-    heap_carries a b (heap.Adopt m d hold) reply anew carries row =
-        given O P C (on_heap a (adopted a.world.heap m d hold.object)) b (replies.Object hold.object) reply row carries
-    heap_carries a b (heap.Release hold) reply anew carries row =
-        given O P C (on_heap a (without_hold a.world.heap hold.object)) b replies.Done reply row carries
     heap_carries a b (heap.Begin now how) reply anew carries row =
         let n : ℕ = a.world.cycle + 1 in
         given_anew O P C (begun_state a (begun a.world now how n)) b true (replies.Cycle n) reply row
         (carries_begun O P C a.world now how n (anew row.0) carries)
-    heap_carries a b (heap.Scan k) reply anew carries row = scans a b k reply carries row
     heap_carries a b heap.EndMark reply anew carries row =
         let os : List Object = map (λ o. shown (doomed_at a) o) a.world.heap.objects in
         in_world O P C b (with_phase (with_heap a.world (record a.world.heap { objects = os })) Clearing)
@@ -183,10 +159,9 @@ module _ (O : Object → Type 0) (P : Notice → Type 0) (C : ℕ → Type 0) wh
         (carries_objects O P C a.world os
         (all_map a.world.heap.objects (λ o. shown (doomed_at a) o)
         (λ o is. shown_lasts O (doomed_at a) o lasts is) carries.objects) carries)
-    heap_carries a b (heap.ClearNext k) reply anew carries row = looks_at a b k _ reply anew carries row
-    heap_carries a b heap.EndClear reply anew carries row =
-        given O P C (with_world a (with_phase a.world Sweeping)) b replies.Done reply row carries
-    heap_carries a b (heap.Hand k) reply anew carries row = gives_on a b k _ reply carries row
-    heap_carries a b (heap.Sweep k) reply anew carries row = sweeps a b a.doomed reply carries row
-    heap_carries a b heap.EndSweep reply anew carries row =
-        given O P C (with_world a (with_phase a.world Idle)) b replies.Done reply row carries
+    heap_carries a b (heap.ClearNext k) reply anew carries row =
+        leads a b (heap.ClearNext k) reply tt row (looks a k reply anew carries)
+    heap_carries a b (heap.Sweep k) reply anew carries row =
+        leads a b (heap.Sweep k) reply tt row (sweeps a k reply carries)
+    heap_carries a b step reply anew carries row =
+        leads a b step reply tt row (after_carries a.world carries step reply tt).carries

@@ -91,14 +91,7 @@ module _ (O : Object → Type 0) (P : Notice → Type 0) (C : ℕ → Type 0) wh
 
   pub carries_objects : (w : World) (os : List Object) → AllByRecursion O os → Carries O P C w
       → Carries O P C (with_heap w (record w.heap { objects = os }))
-  carries_objects w os all carries = record {
-    objects = all;
-    pendings = carries.pendings;
-    of_mutators = carries.of_mutators;
-    of_workers = carries.of_workers;
-    stands = carries.stands;
-    goes_on = carries.goes_on;
-  }
+  carries_objects w os all carries = assumption carries
 
   pub carries_changed : (w : World) (held : Option ℕ) (f : Object → Object) → ((o : Object) → O o → O (f o))
       → Carries O P C w → Carries O P C (with_heap w (changed_in w.heap held f))
@@ -108,57 +101,30 @@ module _ (O : Object → Type 0) (P : Notice → Type 0) (C : ℕ → Type 0) wh
 
   pub carries_pending : (w : World) (k : ℕ) (ps : List Pending) → AllByRecursion (λ p. P (notice_from k p)) ps
       → Carries O P C w → Carries O P C (record w { pending = slice_set w.pending k ps })
-  carries_pending w k ps all carries = record {
-    objects = carries.objects;
-    pendings = set_each (λ j qs. AllByRecursion (λ p. P (notice_from j p)) qs) w.pending k ps (λ _. []) all
-        carries.pendings;
-    of_mutators = carries.of_mutators;
-    of_workers = carries.of_workers;
-    stands = carries.stands;
-    goes_on = carries.goes_on;
-  }
+  carries_pending w k ps all carries =
+      let each = set_each (λ j qs. AllByRecursion (λ p. P (notice_from j p)) qs) w.pending k ps (λ _. []) all
+          carries.pendings in
+      assumption (each, carries)
 
   pub carries_hand : (w : World) (who : Actor) (hand : Option Notice) → OfHand P hand → Carries O P C w
       → Carries O P C (with_hand w who hand)
-  carries_hand w (Mutator m) hand is carries = record {
-    objects = carries.objects;
-    pendings = carries.pendings;
-    of_mutators = set_each (λ _ h. OfHand P h) w.mutator_hands m hand (λ _. None) is carries.of_mutators;
-    of_workers = carries.of_workers;
-    stands = carries.stands;
-    goes_on = carries.goes_on;
-  }
-  carries_hand w (Worker k) hand is carries = record {
-    objects = carries.objects;
-    pendings = carries.pendings;
-    of_mutators = carries.of_mutators;
-    of_workers = set_each (λ _ h. OfHand P h) w.worker_hands k hand (λ _. None) is carries.of_workers;
-    stands = carries.stands;
-    goes_on = carries.goes_on;
-  }
+  carries_hand w (Mutator m) hand is carries =
+      let each = set_each (λ _ h. OfHand P h) w.mutator_hands m hand (λ _. None) is carries.of_mutators in
+      assumption (each, carries)
+  carries_hand w (Worker k) hand is carries =
+      let each = set_each (λ _ h. OfHand P h) w.worker_hands k hand (λ _. None) is carries.of_workers in
+      assumption (each, carries)
 
   pub carries_queue : (w : World) (q : ℕ) (lists : Lists Notice) → AllByRecursion P lists.stands → Carries O P C w
       → Carries O P C (with_queue w q lists)
-  carries_queue w q lists all carries = record {
-    objects = carries.objects;
-    pendings = carries.pendings;
-    of_mutators = carries.of_mutators;
-    of_workers = carries.of_workers;
-    stands = set_each (λ _ (l : Lists Notice). AllByRecursion P l.stands) w.queues q lists new_queue all
-        carries.stands;
-    goes_on = carries.goes_on;
-  }
+  carries_queue w q lists all carries =
+      let each = set_each (λ _ (l : Lists Notice). AllByRecursion P l.stands) w.queues q lists new_queue all
+          carries.stands in
+      assumption (each, carries)
 
   pub carries_begun : (w : World) (now : ℕ) (how : Urgency) (n : ℕ) → C n → Carries O P C w
       → Carries O P C (begun w now how n)
-  carries_begun w now how n is carries = record {
-    objects = carries.objects;
-    pendings = carries.pendings;
-    of_mutators = carries.of_mutators;
-    of_workers = carries.of_workers;
-    stands = carries.stands;
-    goes_on = is;
-  }
+  carries_begun w now how n is carries = assumption carries
 
   -- ---- the forms of a row
 

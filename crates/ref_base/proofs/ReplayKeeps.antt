@@ -65,32 +65,10 @@ frame_got w m d s (Some n) = frame_changed w (slot_at w.heap m s) (with_referenc
 
 pub same_frame : (w : World) (step : NamedStep) (reply : Reply) → EndsNoPhase step → PendsNone step
     → frame_of (after_heap w step reply) ≡ frame_of w
-same_frame w (heap.New m d k) reply plain calm = told_keeps frame_of (told_object reply) _ w (λ n. refl)
-same_frame w (heap.Refer m strength d s q k) reply plain calm =
-    told_keeps frame_of (told_object reply) _ w (λ n. refl)
-same_frame w (heap.Store m s i v) reply plain calm =
-    done_keeps frame_of (is_done reply) _ w
-    (frame_changed w (slot_at w.heap m s) (with_field i (slot_at w.heap m v)))
-same_frame w (heap.Load m d s i) reply plain calm = told_keeps frame_of (told_value reply) _ w (λ value. refl)
-same_frame w (heap.Copy m d s) reply plain calm = told_keeps frame_of (told_value reply) _ w (λ value. refl)
-same_frame w (heap.Drop m s) reply plain calm = done_keeps frame_of (is_done reply) _ w refl
-same_frame w (heap.Get m d s) reply plain calm =
-    told_keeps frame_of (told_value reply) _ w (λ value. frame_got w m d s value)
-same_frame w (heap.Clear m s) reply plain calm = done_keeps frame_of (is_done reply) _ w (frame_cut w m s)
-same_frame w (heap.RefersTo m s v) reply plain calm = refl
-same_frame w (heap.Unhook m s) reply plain calm =
-    unhooked_keeps frame_of _ w (is_nothing reply) (told_notice reply) _ (frame_cut w m s) (λ notice. frame_cut w m s)
-same_frame w (heap.Hold m s) reply plain calm = told_keeps frame_of (told_object reply) _ w (λ n. refl)
-same_frame w (heap.Adopt m d hold) reply plain calm = told_keeps frame_of (told_object reply) _ w (λ n. refl)
-same_frame w (heap.Release hold) reply plain calm = done_keeps frame_of (is_done reply) _ w refl
-same_frame w (heap.Begin now how) reply plain calm = absurd plain
-same_frame w (heap.Scan k) reply plain calm = refl
 same_frame w heap.EndMark reply plain calm = absurd plain
-same_frame w (heap.ClearNext k) reply plain calm = absurd calm
-same_frame w heap.EndClear reply plain calm = absurd plain
-same_frame w (heap.Hand k) reply plain calm = absurd calm
-same_frame w (heap.Sweep k) reply plain calm = refl
-same_frame w heap.EndSweep reply plain calm = absurd plain
+same_frame w step reply plain calm =
+    search
+    (told_keeps frame_of, done_keeps frame_of, unhooked_keeps frame_of, frame_changed, frame_cut, frame_got, plain, calm, refl)
 
 -- a world but for its objects, slots, holds and what is pending
 abbrev pub stage_of : World → World
@@ -152,36 +130,13 @@ MakesNone step = Unit {0}
 
 pub numbers_same : (w : World) (step : NamedStep) (reply : Reply) → MakesNone step
     → numbers_of (after_heap w step reply) ≡ numbers_of w
-numbers_same w (heap.New m d k) reply plain = absurd plain
-numbers_same w (heap.Refer m strength d s q k) reply plain = absurd plain
-numbers_same w (heap.Store m s i v) reply plain =
-    done_keeps numbers_of (is_done reply) _ w
-    (numbers_in w (slot_at w.heap m s) (with_field i (slot_at w.heap m v)) (λ o. refl))
-numbers_same w (heap.Load m d s i) reply plain = told_keeps numbers_of (told_value reply) _ w (λ value. refl)
-numbers_same w (heap.Copy m d s) reply plain = told_keeps numbers_of (told_value reply) _ w (λ value. refl)
-numbers_same w (heap.Drop m s) reply plain = done_keeps numbers_of (is_done reply) _ w refl
-numbers_same w (heap.Get m d s) reply plain =
-    told_keeps numbers_of (told_value reply) _ w (λ value. numbers_got w m d s value)
-numbers_same w (heap.Clear m s) reply plain =
-    done_keeps numbers_of (is_done reply) _ w (numbers_cut w m s)
-numbers_same w (heap.RefersTo m s v) reply plain = refl
-numbers_same w (heap.Unhook m s) reply plain =
-    unhooked_keeps numbers_of _ w (is_nothing reply) (told_notice reply) _ (numbers_cut w m s)
-    (λ notice. numbers_cut w m s)
-numbers_same w (heap.Hold m s) reply plain = told_keeps numbers_of (told_object reply) _ w (λ n. refl)
-numbers_same w (heap.Adopt m d hold) reply plain = told_keeps numbers_of (told_object reply) _ w (λ n. refl)
-numbers_same w (heap.Release hold) reply plain = done_keeps numbers_of (is_done reply) _ w refl
-numbers_same w (heap.Begin now how) reply plain = told_keeps numbers_of (told_cycle reply) _ w (λ n. refl)
-numbers_same w (heap.Scan k) reply plain = refl
-numbers_same w heap.EndMark reply plain = done_keeps numbers_of (is_mark_end reply) _ w refl
 numbers_same w (heap.ClearNext k) reply plain =
     told_keeps numbers_of (told_cleared reply) _ w
     (λ n. numbers_pended _ k n (registered_in (reference_at w.heap n))
     ∙ numbers_in w (Some n) (with_reference cleared) (λ o. refl))
-numbers_same w heap.EndClear reply plain = done_keeps numbers_of (is_done reply) _ w refl
-numbers_same w (heap.Hand k) reply plain = told_keeps numbers_of (told_notice reply) _ w (λ notice. refl)
-numbers_same w (heap.Sweep k) reply plain = refl
-numbers_same w heap.EndSweep reply plain = done_keeps numbers_of (is_done reply) _ w refl
+numbers_same w step reply plain =
+    search
+    (told_keeps numbers_of, done_keeps numbers_of, unhooked_keeps numbers_of, numbers_in, numbers_cut, numbers_got, plain, refl)
 
 pub numbers_after : (w : World) (step : NamedStep) (reply : Reply)
     → numbers_of (after_heap w step reply) ≡ numbers_of w ++ if_any (made_number step reply)

@@ -1,7 +1,7 @@
 -- Each row of the replay goes through where some objects are gone and some references read as cleared.
 use Rattle.std.proofs.Common.{◌≡◌, ℕ, Bool, true, false, if◌then◌else◌, List, Option, Some, None}
 use Rattle.std.proofs.Common.{refl, sym, ap, ◌∙◌, is_some}
-use Rattle.ref_base.proofs.Common.{has, Object, Reference, plain_object, Heap, slot_at, with_slot, got, cut, made}
+use Rattle.ref_base.proofs.Common.{stored, has, Object, Reference, plain_object, Heap, slot_at, with_slot, got, cut, made}
 use Rattle.ref_base.proofs.Common.{nulls, new_reference, with_hold, changed_in, with_reference, cleared, got_at}
 use Rattle.ref_base.proofs.Common.{with_field, World, Notice, hand_of, with_heap, with_hand, told_object, told_value}
 use Rattle.ref_base.proofs.Common.{is_done, told_notice, is_nothing, told_cycle, is_mark_end, told_taken, is_added}
@@ -53,6 +53,22 @@ module _ (gone : List ℕ) (these : ℕ → Bool) where
       (changes w (slot_at w.heap m s) (with_reference (got_at w.heap.clock)) (λ o. refl)
       (λ o. ap (λ (r : Option Reference). record o { reference = r }) (cleared_got w.heap.clock o.reference)))
 
+  stores_under : (w : World) (m s i v : ℕ)
+      → with_heap (under gone these w) (stored (heap_under gone these w.heap) m s i v)
+      ≡ under gone these (with_heap w (stored w.heap m s i v))
+  stores_under w m s i v =
+      ap (with_heap w) (changes w (slot_at w.heap m s) (with_field i (slot_at w.heap m v)) (λ o. refl) (λ o. refl))
+
+  cuts_under : (w : World) (m s : ℕ)
+      → with_heap (under gone these w) (cut (heap_under gone these w.heap) m s)
+      ≡ under gone these (with_heap w (cut w.heap m s))
+  cuts_under w m s = ap (with_heap w) (cuts w m s)
+
+  gets_under : (w : World) (m d s : ℕ) (value : Option ℕ)
+      → with_heap (under gone these w) (got (heap_under gone these w.heap) m d s value)
+      ≡ under gone these (with_heap w (got w.heap m d s value))
+  gets_under w m d s value = ap (with_heap w) (got_under w m d s value)
+
   made_under : (w : World) (m d : ℕ) (o : Object) → has gone o.no ≡ false → these o.no ≡ false
       → with_heap (under gone these w) (made (heap_under gone these w.heap) m d o)
       ≡ under gone these (with_heap w (made w.heap m d o))
@@ -96,31 +112,9 @@ module _ (gone : List ℕ) (these : ℕ → Bool) where
       told_under (told_object reply) _ _ w
       (λ n is. let off = apart_at (told_object reply) n apart is in
       made_under w m d (new_reference w.heap n strength (slot_at w.heap m s) q k) off.0 off.1)
-  heap_through w (heap.Store m s i v) reply plain apart =
-      done_under (is_done reply) _ _ w
-      (ap (with_heap w)
-      (changes w (slot_at w.heap m s) (with_field i (slot_at w.heap m v)) (λ o. refl) (λ o. refl)))
-  heap_through w (heap.Load m d s i) reply plain apart = told_under (told_value reply) _ _ w (λ value is. refl)
-  heap_through w (heap.Copy m d s) reply plain apart = told_under (told_value reply) _ _ w (λ value is. refl)
-  heap_through w (heap.Drop m s) reply plain apart = done_under (is_done reply) _ _ w refl
-  heap_through w (heap.Get m d s) reply plain apart =
-      told_under (told_value reply) _ _ w (λ value is. ap (with_heap w) (got_under w m d s value))
-  heap_through w (heap.Clear m s) reply plain apart =
-      done_under (is_done reply) _ _ w (ap (with_heap w) (cuts w m s))
-  heap_through w (heap.RefersTo m s v) reply plain apart = refl
-  heap_through w (heap.Unhook m s) reply plain apart =
-      unhooked_under w m s (is_nothing reply) (told_notice reply)
-  heap_through w (heap.Hold m s) reply plain apart = told_under (told_object reply) _ _ w (λ n is. refl)
-  heap_through w (heap.Adopt m d hold) reply plain apart = told_under (told_object reply) _ _ w (λ n is. refl)
-  heap_through w (heap.Release hold) reply plain apart = done_under (is_done reply) _ _ w refl
-  heap_through w (heap.Begin now how) reply plain apart = told_under (told_cycle reply) _ _ w (λ n is. refl)
-  heap_through w (heap.Scan k) reply plain apart = refl
   heap_through w heap.EndMark reply plain apart = done_under (is_mark_end reply) _ _ w refl
-  heap_through w (heap.ClearNext k) reply plain apart = absurd plain
-  heap_through w heap.EndClear reply plain apart = done_under (is_done reply) _ _ w refl
-  heap_through w (heap.Hand k) reply plain apart = told_under (told_notice reply) _ _ w (λ notice is. refl)
-  heap_through w (heap.Sweep k) reply plain apart = refl
-  heap_through w heap.EndSweep reply plain apart = done_under (is_done reply) _ _ w refl
+  heap_through w step reply plain apart =
+      search (told_under, done_under, unhooked_under, stores_under, cuts_under, gets_under, plain, refl)
 
   -- ---- hands and queues
 

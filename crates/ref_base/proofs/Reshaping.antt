@@ -131,20 +131,6 @@ module _ (g : Object → Object) (keeps : KeepsShape g) where
       → heap_refusal heap_no (on_heap a (reshaped g a.world.heap)) step ≡ heap_refusal heap_no a step
   same_refusal heap_no a (heap.New m d k) = new-reshaped a.world.heap a.next m d k
   same_refusal heap_no a (heap.Refer m strength d s q k) = refer-reshaped a.world.heap a.next m d s q k
-  same_refusal heap_no a (heap.Store m s i v) =
-      later_same (has_slots a.world.heap m s v) (field-reshaped a.world.heap (slot_at a.world.heap m s) i)
-  same_refusal heap_no a (heap.Load m d s i) =
-      later_same (has_slots a.world.heap m d s) (field-reshaped a.world.heap (slot_at a.world.heap m s) i)
-  same_refusal heap_no a (heap.Get m d s) =
-      later_same (has_slots a.world.heap m d s) (reference-reshaped a.world.heap (slot_at a.world.heap m s))
-  same_refusal heap_no a (heap.Clear m s) =
-      later_same (has_slot a.world.heap m s) (reference-reshaped a.world.heap (slot_at a.world.heap m s))
-  same_refusal heap_no a (heap.RefersTo m s v) =
-      later_same (has_slots a.world.heap m v s) (reference-reshaped a.world.heap (slot_at a.world.heap m s))
-  same_refusal heap_no a (heap.Unhook m s) =
-      later_same (has_slot a.world.heap m s) (unhook-reshaped a.world.heap (slot_at a.world.heap m s))
-  same_refusal heap_no a (heap.Hold m s) =
-      later_same (has_slot a.world.heap m s) (held-reshaped a.world.heap (slot_at a.world.heap m s))
-  same_refusal heap_no a (heap.Hand k) =
-      later_same (is_worker a.world.heap k) (hand-reshaped a.world.heap (pending_of a.world k))
-  same_refusal heap_no a step = refl
+  same_refusal heap_no a step =
+      search
+      (later_same, field-reshaped, reference-reshaped, unhook-reshaped, held-reshaped, hand-reshaped, refl)

@@ -169,24 +169,12 @@ worker_hand_below w m hand sound has below (Worker k) =
 
 pub sound_hand : (w : World) (who : Actor) (hand : Option Notice) → IsSound w → HasHand w who
     → NoticeBelow w.heap.config.queues hand → IsSound (with_hand w who hand)
-sound_hand w (Mutator m) hand sound has below = record {
-  mutator_hands = length-set w.mutator_hands m hand ∙ sound.mutator_hands;
-  worker_hands = sound.worker_hands;
-  queues = sound.queues;
-  objects_below = sound.objects_below;
-  hands_below = mutator_hand_below w m hand sound has below;
-  pending_below = sound.pending_below;
-  own = sound.own;
-}
-sound_hand w (Worker m) hand sound has below = record {
-  mutator_hands = sound.mutator_hands;
-  worker_hands = length-set w.worker_hands m hand ∙ sound.worker_hands;
-  queues = sound.queues;
-  objects_below = sound.objects_below;
-  hands_below = worker_hand_below w m hand sound has below;
-  pending_below = sound.pending_below;
-  own = sound.own;
-}
+sound_hand w (Mutator m) hand sound has below =
+    assumption
+    (length-set w.mutator_hands m hand ∙ sound.mutator_hands, mutator_hand_below w m hand sound has below, sound)
+sound_hand w (Worker m) hand sound has below =
+    assumption
+    (length-set w.worker_hands m hand ∙ sound.worker_hands, worker_hand_below w m hand sound has below, sound)
 
 pub sound_queue : (w : World) (q : ℕ) (lists : Lists Notice) → IsSound w → q < length w.queues
     → AllByRecursion (IsOwn q) lists.stands → IsSound (with_queue w q lists)

@@ -9,7 +9,7 @@ use Rattle.ref_base.proofs.Common.{unless_empty, unless_full, has_slot, has_slot
 use Rattle.ref_base.proofs.Common.{object_refusal, field_refusal, reference_refusal, holds_refusal, minting_refusal}
 use Rattle.ref_base.proofs.Common.{unhook_refusal, hand_refusal, held_refusal, is_counted, is_worker, is_mutator}
 use Rattle.ref_base.proofs.Common.{is_queue, is_actor, is_in, is_empty, empty_hand_refusal, heap_refusal}
-use Rattle.ref_base.proofs.Common.{asked_refusal, refusal, GivesAnewIf, Loads, Gets, Unhooks, Holds, Polls, Closes}
+use Rattle.ref_base.proofs.Common.{asked_refusal, refusal, Gives, GivesAnewIf, Loads, Gets, Unhooks, Holds, Polls, Closes}
 use Rattle.ref_base.proofs.Common.{Scans, ClearsNext, HandsOn, Sweeps, field_in, reference_of, referent_got}
 use Rattle.ref_base.proofs.Common.{referent_of, list_at, looked_at, value_reply, HeapAccepts, AcceptsAsking, IsAnswer}
 use Rattle.ref_base.proofs.Common.{IsRow, Fault, NoMemory, NoSuchActor, BadQueue, BadField, NumbersSpent, NoCell}
@@ -87,78 +87,18 @@ empty_hand_wants None = refl
 empty_hand_wants (Some notice) = refl
 
 heap_wants : (a : State) (step : NamedStep) → wants (heap_refusal 0 a step) ≡ false
-heap_wants a (heap.New m d k) =
-    no_want (has_slot a.world.heap m d) NoSuchActor _ refl (object_wants a.world.heap a.next k)
-heap_wants a (heap.Refer m strength d s q k) =
-    no_want (has_slots a.world.heap m d s) NoSuchActor _ refl
-    (no_want (is_queue_or_none a.world.heap q) BadQueue _ refl
-    (empty_wants (slot_at a.world.heap m s) _ (object_wants a.world.heap a.next k)))
-heap_wants a (heap.Store m s i v) =
-    no_want (has_slots a.world.heap m s v) NoSuchActor _ refl (field_wants a.world.heap (slot_at a.world.heap m s) i)
-heap_wants a (heap.Load m d s i) =
-    no_want (has_slots a.world.heap m d s) NoSuchActor _ refl (field_wants a.world.heap (slot_at a.world.heap m s) i)
-heap_wants a (heap.Copy m d s) = no_want (has_slots a.world.heap m d s) NoSuchActor None refl refl
-heap_wants a (heap.Drop m s) = no_want (has_slot a.world.heap m s) NoSuchActor None refl refl
-heap_wants a (heap.Get m d s) =
-    no_want (has_slots a.world.heap m d s) NoSuchActor _ refl (reference_wants a.world.heap (slot_at a.world.heap m s))
-heap_wants a (heap.Clear m s) =
-    no_want (has_slot a.world.heap m s) NoSuchActor _ refl (reference_wants a.world.heap (slot_at a.world.heap m s))
-heap_wants a (heap.RefersTo m s v) =
-    no_want (has_slots a.world.heap m v s) NoSuchActor _ refl (reference_wants a.world.heap (slot_at a.world.heap m s))
-heap_wants a (heap.Unhook m s) =
-    no_want (has_slot a.world.heap m s) NoSuchActor _ refl (unhook_wants a.world.heap (slot_at a.world.heap m s))
-heap_wants a (heap.Hold m s) =
-    no_want (has_slot a.world.heap m s) NoSuchActor _ refl (held_wants a.world.heap (slot_at a.world.heap m s))
-heap_wants a (heap.Adopt m d hold) =
-    no_want (has_slot a.world.heap m d) NoSuchActor _ refl
-    (no_want (is_counted 0 a.world.heap hold) ForeignHold None refl refl)
-heap_wants a (heap.Release hold) = no_want (is_counted 0 a.world.heap hold) ForeignHold None refl refl
-heap_wants a (heap.Begin now how) =
-    no_want (is_in a.world.phase Idle) WrongPhase _ refl
-    (no_want (nat_le a.world.heap.clock now) ClockBack _ refl
-    (no_want (nat_lt a.world.cycle (2 ^ 64 - 1)) NumbersSpent None refl refl))
-heap_wants a (heap.Scan k) =
-    no_want (is_worker a.world.heap k) NoSuchActor _ refl
-    (no_want (is_in a.world.phase Marking) WrongPhase None refl refl)
-heap_wants a heap.EndMark =
-    no_want (is_in a.world.phase Marking) WrongPhase _ refl (no_want (not a.left) GreyLeft None refl refl)
-heap_wants a (heap.ClearNext k) =
-    no_want (is_worker a.world.heap k) NoSuchActor _ refl
-    (no_want (is_in a.world.phase Clearing) WrongPhase None refl refl)
-heap_wants a heap.EndClear =
-    no_want (is_in a.world.phase Clearing) WrongPhase _ refl
-    (no_want (is_empty (joined a.found)) ClearingLeft None refl refl)
-heap_wants a (heap.Hand k) =
-    no_want (is_worker a.world.heap k) NoSuchActor _ refl (hand_wants (pending_of a.world k) a.world.heap)
-heap_wants a (heap.Sweep k) =
-    no_want (is_worker a.world.heap k) NoSuchActor _ refl
-    (no_want (is_in a.world.phase Sweeping) WrongPhase None refl refl)
-heap_wants a heap.EndSweep =
-    no_want (is_in a.world.phase Sweeping) WrongPhase _ refl (no_want (is_empty a.doomed) SweepLeft None refl refl)
+heap_wants a (heap.New m d k) = search (no_want, object_wants, refl)
+heap_wants a step =
+    search
+    (no_want, object_wants, empty_wants, field_wants, reference_wants, unhook_wants, held_wants, hand_wants, refl)
 
 asked_wants : (a : State) (asked : Option NamedStep) → wants (asked_refusal a asked) ≡ false
 asked_wants a None = refl
 asked_wants a (Some asked) = heap_wants a asked
 
 step_wants : (a : State) (step : Step) → wants (refusal a step) ≡ false
-step_wants a (steps.Unhook m s) =
-    no_want (has_slot a.world.heap m s) NoSuchActor _ refl
-    (full_wants (hand_of a.world (Mutator m)) _ (heap_wants a (heap.Unhook m s)))
-step_wants a (steps.Hand k) =
-    no_want (is_worker a.world.heap k) NoSuchActor _ refl
-    (full_wants (hand_of a.world (Worker k)) _ (heap_wants a (heap.Hand k)))
-step_wants a (steps.Put who) =
-    no_want (is_actor a.world.heap who) NoSuchActor _ refl (empty_hand_wants (hand_of a.world who))
-step_wants a (steps.Poll m q) =
-    no_want (is_mutator a.world.heap m) NoSuchActor _ refl
-    (no_want (is_queue a.world.heap q) BadQueue _ refl (full_wants (hand_of a.world (Mutator m)) None refl))
-step_wants a (steps.Adopt m d) =
-    no_want (has_slot a.world.heap m d) NoSuchActor _ refl (empty_hand_wants (hand_of a.world (Mutator m)))
-step_wants a (steps.Release who) =
-    no_want (is_actor a.world.heap who) NoSuchActor _ refl (empty_hand_wants (hand_of a.world who))
-step_wants a (steps.Close m q) =
-    no_want (is_mutator a.world.heap m) NoSuchActor _ refl (no_want (is_queue a.world.heap q) BadQueue None refl refl)
-step_wants a step = asked_wants a (heap_step a.world step)
+step_wants a (steps.Put who) = search (no_want, empty_hand_wants, refl)
+step_wants a step = search (no_want, full_wants, empty_hand_wants, heap_wants, asked_wants, refl)
 
 -- ---- no step that is accepted is answered so, but a put
 
@@ -227,23 +167,16 @@ scan_tells : (a : State) (k : ℕ) (reply : Reply) (b : State) → Scans a k rep
 scan_tells a k (replies.Refused fault) b scans = told scans.1.0 refl
 scan_tells a k reply b scans = refl
 
+gives_tells : (answer : Reply) (c : State) (reply : Reply) (b : State) → Gives answer c reply b
+    → tells_want answer ≡ false → tells_want reply ≡ false
+gives_tells answer c reply b gives other = told gives.0 other
+
 accepted_tells : (a : State) (step : NamedStep) (reply : Reply) (b : State) → HeapAccepts a step reply b
     → tells_want reply ≡ false
-accepted_tells a (heap.Load m d s i) reply b gives =
-    load_tells a m d (field_in a.world.heap (slot_at a.world.heap m s) i) reply b gives
-accepted_tells a (heap.Copy m d s) reply b gives = told gives.0 (value_tells (slot_at a.world.heap m s))
-accepted_tells a (heap.Get m d s) reply b gives =
-    get_tells a m d s (referent_got (reference_of a.world.heap (slot_at a.world.heap m s))) reply b gives
-accepted_tells a (heap.Unhook m s) reply b gives =
-    let held = slot_at a.world.heap m s in
-    unhook_tells a m s held (registered_in (reference_of a.world.heap held)) reply b gives
-accepted_tells a (heap.Hold m s) reply b gives = hold_tells a (slot_at a.world.heap m s) reply b gives
-accepted_tells a (heap.Scan k) reply b scans = scan_tells a k reply b scans
 accepted_tells a heap.EndMark reply b ends = told ends.answer refl
-accepted_tells a (heap.ClearNext k) reply b gives = clear_tells a k (list_at a.found k) reply b gives
-accepted_tells a (heap.Hand k) reply b gives = handed_tells a k (pending_of a.world k) reply b gives
-accepted_tells a (heap.Sweep k) reply b gives = sweep_tells a a.doomed reply b gives
-accepted_tells a step reply b gives = told gives.0 refl
+accepted_tells a step reply b gives =
+    search
+    (gives_tells, anew_tells, value_tells, load_tells, get_tells, unhook_tells, hold_tells, scan_tells, clear_tells, handed_tells, sweep_tells, gives, refl)
 
 -- ---- rows
 
