@@ -3,9 +3,9 @@ use Rattle.std.proofs.Common.{◌≡◌, Bool, true, false, if◌then◌else◌,
 use Rattle.std.proofs.Common.{◌∙◌}
 use Rattle.std.specs.Prelude.{is_some}
 use Rattle.ref_world.proofs.Common.{NamedStep, told_notice, World, Notice, with_hand, heap_refusal, refusal, State}
-use Rattle.ref_world.proofs.Common.{with_world, IsHeapRow, IsRow, Actor, Mutator, Worker, Reply, Step, ClearHeap}
+use Rattle.ref_world.proofs.Common.{with_world, IsHeapRow, IsRow, Actor, Mutator, Worker, Reply, Step, WorldHeap}
 use Rattle.ref_world.proofs.Common.{answer_in, after_in, HeapStands, received, Core, Hands, with_hand_in, Stands}
-use Rattle.ref_world.proofs.Common.{IsRowOf}
+use Rattle.ref_world.proofs.Common.{IsRowOf, cycles_of}
 use Rattle.ref_base.specs.HeapSteps.{heap_step, handed, taking}
 use Rattle.ref_base.specs.Told.{told_object, is_done}
 use Rattle.ref_base.specs.Refusals.{asked_refusal}
@@ -67,11 +67,11 @@ handed-only w step reply = refl
 -- ---- rows
 
 -- whatever is in the hands and queues, the heap stands for the state
-pub heap_stands-with : (k : ClearHeap) (a : State) (hands : Hands) → HeapStands k a
+pub heap_stands-with : (k : WorldHeap) (a : State) (hands : Hands) → HeapStands k a
     → HeapStands k (with_world a (with_hands_of a.world hands))
 heap_stands-with k a hands stands = record {
-  mark = stands-with_others k.mark a hands.mutators hands.workers a.world.queues a.moments (λ marking n ever. ever)
-      (λ marking n ever. ever) stands.mark;
+  mark = stands-with_others (cycles_of k) a hands.mutators hands.workers a.world.queues a.moments
+      (λ marking n ever. ever) (λ marking n ever. ever) stands.mark;
   pending = stands.pending;
   waiting = stands.waiting;
 }
@@ -146,12 +146,12 @@ quiet_row c step asked quiet asks a stands =
 
 -- ---- what is answered and left is what a row says
 
-pub as_told : (c : Core) (step : Step) (asked : NamedStep) (hands : Hands) {reply : Reply} {heap : ClearHeap}
+pub as_told : (c : Core) (step : Step) (asked : NamedStep) (hands : Hands) {reply : Reply} {heap : WorldHeap}
     → reply ≡ answer_in c.heap asked → heap ≡ after_in c.heap asked
     → IsRowOf c step (answer_in c.heap asked) (asked_core c asked hands)
     → IsRowOf c step reply (record { heap = heap; hands = hands; queues = c.queues })
 as_told c step asked hands {reply} {heap} answers leaves row =
     subst (λ (r : Reply). IsRowOf c step r (record { heap = heap; hands = hands; queues = c.queues })) (sym answers)
     (subst
-    (λ (k : ClearHeap). IsRowOf c step (answer_in c.heap asked) (record { heap = k; hands = hands; queues = c.queues }))
+    (λ (k : WorldHeap). IsRowOf c step (answer_in c.heap asked) (record { heap = k; hands = hands; queues = c.queues }))
     (sym leaves) row)

@@ -1,6 +1,6 @@
 -- The world at first.
 use Rattle.std.proofs.Common.{◌≡◌, ℕ, ◌+◌, zero, suc, List, [], ◌∷◌, ◌++◌, refl, ap, arith}
-use Rattle.ref_world.proofs.Common.{Lists, new_queue, new_queues, Notice, first_state, Config, ClearHeap, HeapStands}
+use Rattle.ref_world.proofs.Common.{Lists, new_queue, new_queues, Notice, first_state, Config, WorldHeap, HeapStands}
 use Rattle.ref_world.proofs.Common.{Hands, Stands, IsSound}
 use Rattle.ref_base.proofs.SoundWorlds.{first_queue}
 use Rattle.ref_clear.specs.ClearHeaps.{first_clear_heap}
@@ -26,7 +26,7 @@ module _ (config : Config) (stands : HeapStands (first_clear_heap config 0 1 0) 
   }
 
 -- what is made of new parts is the world at first
-pub made_core : (config : Config) {heap : ClearHeap} {hands : Hands} {queues : List (Lists Notice)}
+pub made_core : (config : Config) {heap : WorldHeap} {hands : Hands} {queues : List (Lists Notice)}
     → heap ≡ first_clear_heap config 0 1 0 → hands ≡ first_hands config → queues ≡ new_queues 0 config.queues
     → record { heap = heap; hands = hands; queues = queues } ≡ first_core config
 made_core config {heap} {hands} {queues} heap_is hands_are queues_are = rw (heap_is, hands_are, queues_are) refl

@@ -2,7 +2,7 @@
 use Rattle.std.proofs.Common.{◌≡◌, ℕ, true, ◌&&◌, List, ◌∷◌, ◌++◌, length, map, Option, Some, None, sym, ap, subst, ◌∙◌}
 use Rattle.std.proofs.lemmas.Bool.{and_parts}
 use Rattle.ref_world.proofs.Common.{State, first_state, has, Lists, enqueued, World, Notice, object_of, Config, Row}
-use Rattle.ref_world.proofs.Common.{Core, CycleHeap, Stands}
+use Rattle.ref_world.proofs.Common.{Core, CycleHeap, Stands, cycles_of}
 use Rattle.ref_base.specs.AgreeingWorlds.{is_waiting}
 use Rattle.ref_base.specs.Collectors.{joined}
 use Rattle.ref_base.specs.CollectorRows.{IsRun}
@@ -54,7 +54,7 @@ module _ (config : Config) (rows : List Row) (last : Core) (b : State) (run : Is
   pub heap_tells : HeapTells config rows last
   heap_tells =
       let agrees = legal_agrees config rows b run in
-      let k : CycleHeap = last.heap.mark in
+      let k : CycleHeap = cycles_of last.heap in
       record {
         gone = agrees.0;
         waiting = is_waiting b;

@@ -7,8 +7,8 @@ use Rattle.std.proofs.lemmas.List.{set-set, set-get_or, get_or_read}
 use Rattle.ref_world.proofs.Common.{Lists, enqueued, with_parcel, with_taken, new_queue, World, Notice, object_of}
 use Rattle.ref_world.proofs.Common.{hand_of, with_hand, refusal, is_mutator, is_queue, is_actor, State, with_world}
 use Rattle.ref_world.proofs.Common.{IsRow, Actor, Mutator, Worker, Fault, NoSuchActor, BadQueue, Reply, Step}
-use Rattle.ref_world.proofs.Common.{ClearHeap, HeapStands, Core, Hands, hand_in, with_hand_in, emptying_refusal}
-use Rattle.ref_world.proofs.Common.{calling_refusal, queue_refusal, Stands, IsReached, IsRowOf}
+use Rattle.ref_world.proofs.Common.{WorldHeap, HeapStands, Core, Hands, hand_in, with_hand_in, emptying_refusal}
+use Rattle.ref_world.proofs.Common.{calling_refusal, queue_refusal, Stands, IsReached, IsRowOf, cycles_of, heap_of}
 use Rattle.ref_base.specs.QueueLists.{was_put}
 use Rattle.ref_base.specs.Worlds.{queue_at, with_queue}
 use Rattle.ref_base.specs.Replay.{put_in, took, taken_out, notice_of, without_notice, closed_queue}
@@ -69,16 +69,17 @@ closed_from false is = absurd cc
 -- ---- nothing that the heap is asked
 
 -- the heap stands for the state as it was, with other hands and queues, one moment later
-pub heap_stands_on : (k : ClearHeap) (a : State) (mutators workers : List (Option Notice))
+pub heap_stands_on : (k : WorldHeap) (a : State) (mutators workers : List (Option Notice))
     (queues : List (Lists Notice))
     → HeapStands k a → HeapStands k (ticked (with_others a mutators workers queues))
 heap_stands_on k a mutators workers queues stands =
     let b : State = with_others a mutators workers queues in
     let mark =
-    stands-with_others k.mark a mutators workers queues a.moments (λ marking n ever. ever) (λ marking n ever. ever)
+    stands-with_others (cycles_of k) a mutators workers queues a.moments (λ marking n ever. ever)
+    (λ marking n ever. ever)
     stands.mark in
     record {
-      mark = unmoved_stands k.mark b mark b.world.heap mark.heap;
+      mark = unmoved_stands (cycles_of k) b mark b.world.heap mark.heap;
       pending = ap (λ (w : World). w.pending) (ticked_world b) ∙ stands.pending;
       waiting = stands.waiting;
     }
@@ -256,8 +257,8 @@ module _ (c : Core) (m q : ℕ) (lists : Lists Notice) (accepted : calling_refus
     (here : lists ≡ queue_in c q) where
   called : (a : State) → Stands c a → (is_mutator a.world.heap m ≡ true) × (is_queue a.world.heap q ≡ true)
   called a stands =
-      let mutator = unless_passes (is_mutator c.heap.mark.heap m) NoSuchActor (queue_refusal c q) accepted in
-      let queue = unless_passes (is_queue c.heap.mark.heap q) BadQueue None mutator.1 in
+      let mutator = unless_passes (is_mutator (heap_of c.heap) m) NoSuchActor (queue_refusal c q) accepted in
+      let queue = unless_passes (is_queue (heap_of c.heap) q) BadQueue None mutator.1 in
       (same_mutators c a stands m ∙ mutator.0, same_queues c a stands q ∙ queue.0)
 
   poll_answer : (a : State) (reply : Reply) (b : State) → Stands c a → hand_in c.hands (Mutator m) ≡ None

@@ -8,7 +8,8 @@ use Rattle.ref_base.specs.declared.config.Config.{Config}
 use Rattle.ref_base.specs.declared.fault.Fault.{Fault}
 use Rattle.ref_base.specs.declared.fault.Fault.TheVariants.{NoSuchActor, BadQueue}
 use Rattle.ref_base.specs.Refusals.{unless, unless_full, empty_hand_refusal, is_mutator, is_queue}
-use Rattle.ref_clear.specs.ClearHeaps.{ClearHeap, HeldNotice, first_clear_heap}
+use Rattle.ref_clear.specs.ClearHeaps.{HeldNotice, first_clear_heap}
+use Rattle.ref_world.specs.WorldHeaps.{WorldHeap, heap_of}
 
 -- the hands of mutators and of workers, each in the order of their numbers
 pub record Hands : Type 0 where
@@ -17,7 +18,7 @@ pub record Hands : Type 0 where
 
 -- a heap, the hands, and the queues in the order of their numbers
 pub record Core : Type 0 where
-  pub heap : ClearHeap
+  pub heap : WorldHeap
   pub hands : Hands
   pub queues : List (Lists Notice)
 
@@ -66,8 +67,8 @@ core_queue_at c q = slice_index_or c.queues q (new_queue q)
 
 -- BadQueue where there is no queue of this number
 abbrev pub queue_refusal : Core → ℕ → Option Fault
-queue_refusal c q = unless (is_queue c.heap.mark.heap q) BadQueue None
+queue_refusal c q = unless (is_queue (heap_of c.heap) q) BadQueue None
 
 -- of a mutator that names a queue: NoSuchActor, then BadQueue
 abbrev pub calling_refusal : Core → ℕ → ℕ → Option Fault
-calling_refusal c m q = unless (is_mutator c.heap.mark.heap m) NoSuchActor (queue_refusal c q)
+calling_refusal c m q = unless (is_mutator (heap_of c.heap) m) NoSuchActor (queue_refusal c q)

@@ -12,6 +12,7 @@ use Rattle.ref_base.specs.declared.phase.Phase.TheVariants.{Clearing}
 use Rattle.ref_base.specs.declared.row.Row.{Row}
 use Rattle.ref_mark.specs.Standing.{shown_heap, unsaid}
 use Rattle.ref_world.specs.Cores.{Core}
+use Rattle.ref_world.specs.WorldHeaps.{cycles_of}
 
 -- The heap, as mutators read it, is that of the rows by replay, slots, holds and clock alike, less what was swept: some
 -- objects are gone, and a mark's end found each of them dead. While references are cleared, some that a worker has
@@ -20,9 +21,9 @@ pub record HeapTells (config : Config) (rows : List Row) (last : Core) : Type 0 
   pub gone : List ℕ
   pub waiting : ℕ → Bool
   pub heap :
-      heap_but (unsaid last.heap.mark) (shown_heap last.heap.mark)
-      ≡ heap_but (unsaid last.heap.mark) (heap_under gone waiting (replayed config rows).heap)
+      heap_but (unsaid (cycles_of last.heap)) (shown_heap (cycles_of last.heap))
+      ≡ heap_but (unsaid (cycles_of last.heap)) (heap_under gone waiting (replayed config rows).heap)
   pub were_doomed : (n : ℕ) → has gone n ≡ true → WasDoomed config rows n
   pub are_found :
       (n : ℕ) → waiting n ≡ true
-      → (is_in last.heap.mark.phase Clearing ≡ true) × (has (joined last.heap.mark.found) n ≡ true)
+      → (is_in (cycles_of last.heap).phase Clearing ≡ true) × (has (joined (cycles_of last.heap).found) n ≡ true)

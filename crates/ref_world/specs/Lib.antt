@@ -1,4 +1,5 @@
 pub mod AskedSteps
+pub mod WorldHeaps
 pub mod Cores
 pub mod HeapReplies
 pub mod QueueReplies

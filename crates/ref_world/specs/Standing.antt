@@ -10,11 +10,12 @@ use Rattle.ref_base.specs.declared.row.Row.{Row}
 use Rattle.ref_base.specs.declared.step.Step.{Step}
 use Rattle.ref_clear.specs.Standing.{HeapStands}
 use Rattle.ref_world.specs.Cores.{Core, core_queue_at}
+use Rattle.ref_world.specs.WorldHeaps.{heap_no_of}
 
 -- its heap, which has number 0, stands for the state, and hands and queues are the state's
 pub record Stands (c : Core) (a : State) : Type 0 where
   pub heap : HeapStands c.heap a
-  pub number : c.heap.mark.heap_no ≡ 0
+  pub number : heap_no_of c.heap ≡ 0
   pub mutator_hands : a.world.mutator_hands ≡ c.hands.mutators
   pub worker_hands : a.world.worker_hands ≡ c.hands.workers
   pub queues : a.world.queues ≡ c.queues

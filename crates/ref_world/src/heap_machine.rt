@@ -7,6 +7,7 @@ ghost use Rattle.ref_mark.specs.MarkCalls.{reply_of, reply_or_back, hold_reply, 
 ghost use Rattle.ref_clear.specs.ClearCalls.{answer_in, after_in, notice_reply, IsOfHeap};
 ghost use Rattle.ref_clear.specs.Standing.{HeapStands};
 ghost use Rattle.ref_world.specs.HeapReplies.{told_reply, GivesOut, IsGiven, IsHeld, IsBack, IsTold};
+ghost use Rattle.ref_world.specs.WorldHeaps.{heap_no_of};
 
 use crate::replies::{began, done, doomed, looked, made, refers, scanned, swept, value};
 use ref_base::{Fault, HeapStep, ObjNo, Reply};
@@ -34,12 +35,12 @@ pub enum HeapReply {
 /// hold of an adopt or a release comes back. Costs are those of the heap's calls. Takes no memory.
 pub fn apply_heap<A: Allocator + Copy>(heap: &mut WorldHeap<A>, step: HeapStep<Hold>) -> HeapReply
     ensures answer { told_reply result ≡ answer_in heap.old step }
-    ensures gives { GivesOut heap.old.mark.heap_no step result }
+    ensures gives { GivesOut (heap_no_of heap.old) step result }
     ensures after { heap.new ≡ after_in heap.old step }
 
     // One row of the heap's machine, from each state that the heap stands for to one that it then stands for.
     ensures row { (a : State) → HeapStands heap.old a
-        → (b : State) × IsHeapRow heap.old.mark.heap_no a step (told_reply result) b × HeapStands heap.new b }
+        → (b : State) × IsHeapRow (heap_no_of heap.old) a step (told_reply result) b × HeapStands heap.new b }
 {
     called(heap, step)
 }
@@ -47,7 +48,7 @@ pub fn apply_heap<A: Allocator + Copy>(heap: &mut WorldHeap<A>, step: HeapStep<H
 // The call of the heap that does the step. That it is a row follows from these clauses, once for all steps.
 fn called<A: Allocator + Copy>(heap: &mut WorldHeap<A>, step: HeapStep<Hold>) -> HeapReply
     ensures answer { told_reply result ≡ answer_in heap.old step }
-    ensures gives { GivesOut heap.old.mark.heap_no step result }
+    ensures gives { GivesOut (heap_no_of heap.old) step result }
     ensures after { heap.new ≡ after_in heap.old step }
 {
     match step {

@@ -8,6 +8,7 @@ ghost use Rattle.ref_clear.specs.ClearCalls.{answer_in, after_in};
 ghost use Rattle.ref_world.specs.AskedSteps.{is_quiet, is_plain, Asks, may_give_notice, received};
 ghost use Rattle.ref_world.specs.Cores.{filling_refusal};
 ghost use Rattle.ref_world.specs.Standing.{IsRowOf, Does};
+ghost use Rattle.ref_world.specs.WorldHeaps.{heap_no_of, heap_of};
 
 use super::World;
 use crate::hands::Hands;
@@ -104,7 +105,7 @@ impl<A: Allocator + Copy> World<A> {
 
     // That there is such a mutator, and it has such a slot: NoSuchActor.
     fn check_slot(&self, mutator: MutNo, slot: SlotNo) -> Result<(), Fault>
-        ensures { IsRefused (drop_refusal self.now.heap.mark.heap mutator slot) result }
+        ensures { IsRefused (drop_refusal (heap_of self.now.heap) mutator slot) result }
     {
         if mutator.0 < self.heap.config().mutators && slot.0 < SLOTS {
             Ok(())
@@ -121,7 +122,7 @@ fn receive<A: Allocator + Copy>(
     actor: Actor,
     asked: HeapStep<Hold>,
 ) -> Reply
-    requires own { heap.old.mark.heap_no ≡ 0 }
+    requires own { heap_no_of heap.old ≡ 0 }
     requires gives { may_give_notice asked ≡ true }
     requires empty { filling_refusal hands.old actor ≡ None }
     ensures answer { result ≡ answer_in heap.old asked }

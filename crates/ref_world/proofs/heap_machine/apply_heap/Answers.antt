@@ -1,13 +1,13 @@
 use Rattle.std.proofs.Common.{sym, subst}
-use Rattle.ref_world.proofs.Common.{IsHeapRow, Reply, ClearHeap, HeapStands}
+use Rattle.ref_world.proofs.Common.{IsHeapRow, Reply, WorldHeap, HeapStands, heap_no_of}
 use Rattle.ref_clear.proofs.HeapLaws.{each_step}
 use Rattle.ref_world.proofs.heap_machine.apply_heap.Goals as goal
 
 pub returns-clause-row : goal.returns-clause-row
 returns-clause-row g c a stands =
-    let old : ClearHeap = c.args.heap.now in
+    let old : WorldHeap = c.args.heap.now in
     let row = each_step old c.args.step a stands in (
       row.0,
-      subst (λ (r : Reply). IsHeapRow old.mark.heap_no a c.args.step r row.0) (sym c.called.ensures.answer) row.1,
-      subst (λ (k : ClearHeap). HeapStands k row.0) (sym c.called.ensures.after) row.2,
+      subst (λ (r : Reply). IsHeapRow (heap_no_of old) a c.args.step r row.0) (sym c.called.ensures.answer) row.1,
+      subst (λ (k : WorldHeap). HeapStands k row.0) (sym c.called.ensures.after) row.2,
     )

@@ -1,7 +1,7 @@
 use Rattle.std.proofs.Common.{refl, ◌∙◌}
 use Rattle.std.proofs.lemmas.Result.{err_from_is_err_and}
 use Rattle.ref_base.specs.declared.step.Step.TheVariants as steps
-use Rattle.ref_world.proofs.Common.{Core}
+use Rattle.ref_world.proofs.Common.{Core, heap_no_of}
 use Rattle.ref_world.proofs.HandRows.{release_reply, release_done, released_told}
 use Rattle.ref_world.proofs.Refusals.{empty_at_release}
 use Rattle.ref_world.proofs.SoundCores.{sound_after}
@@ -23,7 +23,7 @@ told-requires g c =
     let reply =
     release_reply old c.self.invariant.reached c.args.actor notice c.into_hold-hold.result _
     c.in_ok-take.ensures.refused c.in_ok-take.ensures.answer c.into_hold-hold.ensures c.apply_heap.ensures.answer in
-    released_told old.heap.mark.heap_no c.into_hold-hold.result c.apply_heap.result c.apply_heap.ensures.gives reply
+    released_told (heap_no_of old.heap) c.into_hold-hold.result c.apply_heap.result c.apply_heap.ensures.gives reply
 
 pub invariant_of-self : goal.invariant_of-self
 invariant_of-self g c = rw c.in_err-take.ensures.kept c.self.invariant
