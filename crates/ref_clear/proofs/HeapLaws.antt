@@ -145,25 +145,11 @@ module _ (c : ClearHeap) (a : State) (stands : HeapStands c a) where
   row_of step reply after own accepted = row_by step reply after (refusal_in c step) own refl accepted
 
 pub each_step : (c : ClearHeap) (step : NamedStep) → IsHeapRowOf c step
-each_step c (heap.Unhook m s) a stands =
-    let held = slot_at c.mark.heap m s in
-    row_of c a stands (heap.Unhook m s) (answer_of_unhook held (queue_in c.mark m s))
-    (with_mark c (unhooked c.mark m s held (queue_in c.mark m s))) refl (unhook_row c a m s stands)
+each_step c (heap.Unhook m s) a stands = row_of c a stands (heap.Unhook m s) _ _ refl (unhook_row c a m s stands)
 each_step c (heap.Begin now how) a stands = begin_row c a stands now how
-each_step c (heap.ClearNext w) a stands =
-    let found = list_at c.mark.found w in
-    row_of c a stands (heap.ClearNext w) (answer_of_look c.mark found) (looked_from c w found) refl
-    (look_row c a w stands)
-each_step c heap.EndClear a stands =
-    row_of c a stands heap.EndClear replies.Done (with_mark c (cycle_in_phase c.mark Sweeping)) refl
-    (end_clear_row c a stands)
-each_step c (heap.Hand w) a stands =
-    let waiting = pending_at c w in
-    row_of c a stands (heap.Hand w) (answer_of_hand w waiting) (handed_from c w waiting) refl (hand_row c a w stands)
-each_step c (heap.Sweep w) a stands =
-    row_of c a stands (heap.Sweep w) (answer_of_sweep (doomed c.mark)) (with_mark c (swept_some c.mark)) refl
-    (sweep_row c a w stands)
-each_step c heap.EndSweep a stands =
-    row_of c a stands heap.EndSweep replies.Done (with_mark c (cycle_in_phase c.mark Idle)) refl
-    (end_sweep_row c a stands)
+each_step c (heap.ClearNext w) a stands = row_of c a stands (heap.ClearNext w) _ _ refl (look_row c a w stands)
+each_step c heap.EndClear a stands = row_of c a stands heap.EndClear _ _ refl (end_clear_row c a stands)
+each_step c (heap.Hand w) a stands = row_of c a stands (heap.Hand w) _ _ refl (hand_row c a w stands)
+each_step c (heap.Sweep w) a stands = row_of c a stands (heap.Sweep w) _ _ refl (sweep_row c a w stands)
+each_step c heap.EndSweep a stands = row_of c a stands heap.EndSweep _ _ refl (end_sweep_row c a stands)
 each_step c step a stands = marking_row c a stands step refl refl

@@ -39,23 +39,7 @@ number-left c after None same = same
 number-left c after (Some fault) same = refl
 
 pub number_after : (c : ClearHeap) (step : NamedStep) → (after_in c step).mark.heap_no ≡ c.mark.heap_no
-number_after c (heap.Unhook m s) =
-    let held = slot_at c.mark.heap m s in
-    let queue = queue_in c.mark m s in
-    number-left c (with_mark c (unhooked c.mark m s held queue)) (refusal_in c (heap.Unhook m s))
-    (unhooked-number c.mark m s held queue)
-number_after c (heap.Begin now how) =
-    number-left c (begun_with c now how) (refusal_in c (heap.Begin now how))
-    (begun-number c.mark now how (pending_numbers c.pending))
-number_after c (heap.ClearNext w) =
-    let found = list_at c.mark.found w in
-    number-left c (looked_from c w found) (refusal_in c (heap.ClearNext w)) (looked-number c w found)
-number_after c heap.EndClear =
-    number-left c (with_mark c (cycle_in_phase c.mark Sweeping)) (refusal_in c heap.EndClear) refl
-number_after c (heap.Hand w) =
-    let waiting = pending_at c w in
-    number-left c (handed_from c w waiting) (refusal_in c (heap.Hand w)) (handed-number c w waiting)
-number_after c (heap.Sweep w) = number-left c (with_mark c (swept_some c.mark)) (refusal_in c (heap.Sweep w)) refl
-number_after c heap.EndSweep =
-    number-left c (with_mark c (cycle_in_phase c.mark Idle)) (refusal_in c heap.EndSweep) refl
-number_after c step = number_after_marking c.mark step
+number_after c heap.EndClear = search (number-left, refl)
+number_after c step =
+    search
+    (number-left, unhooked-number, looked-number, handed-number, begun-number, number_after_marking c.mark step, refl)

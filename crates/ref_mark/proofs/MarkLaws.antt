@@ -40,22 +40,12 @@ module _ (k : CycleHeap) (a : State) (stands : MarkStands k a) where
       → heap_refusal k.heap_no (on_heap a k.heap) step ≡ refusal_in_cycle k step
   own_refusal (heap.New m d f) own = ap (λ n. new_refusal k.heap n m d f) stands.next
   own_refusal (heap.Refer m strength d s q f) own = ap (λ n. refer_refusal k.heap n m d s q f) stands.next
-  own_refusal (heap.Store m d i s) own = refl
-  own_refusal (heap.Load m d s i) own = refl
-  own_refusal (heap.Copy m d s) own = refl
-  own_refusal (heap.Drop m s) own = refl
-  own_refusal (heap.Get m d s) own = refl
-  own_refusal (heap.Clear m s) own = refl
-  own_refusal (heap.RefersTo m s v) own = refl
-  own_refusal (heap.Hold m s) own = refl
-  own_refusal (heap.Adopt m d hold) own = refl
-  own_refusal (heap.Release hold) own = refl
   own_refusal (heap.Begin now how) own =
       ap (λ p. begin_refusal p k.heap.clock a.world.cycle now) stands.phase
       ∙ ap (λ c. begin_refusal k.phase k.heap.clock c now) stands.cycle
   own_refusal (heap.Scan w) own = ap (λ p. work_refusal k.heap p Marking w) stands.phase
   own_refusal heap.EndMark own = same_end_mark k a stands
-  own_refusal step own = absurd (false≢true own)
+  own_refusal step own = search (own, refl)
 
   -- ---- rows
 
