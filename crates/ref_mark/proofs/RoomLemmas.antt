@@ -18,7 +18,7 @@ use Rattle.ref_base.specs.declared.urgency.Urgency.TheVariants.{Normal}
 use Rattle.ref_base.specs.KeptPaths.{policy_from}
 use Rattle.ref_objects.specs.Grounds.{first_ground, is_unmarked, ground_marked, after_freeing, is_free, freed}
 use Rattle.ref_objects.specs.Grounds.{IsWellFormed, without_tag}
-use Rattle.ref_objects.proofs.TabledLemmas.{length-one_more}
+use Rattle.ref_objects.proofs.NumberLemmas.{length-one_more}
 use Rattle.ref_mark.specs.Worklists.{with_last, without_first_listed, rest_of}
 use Rattle.ref_mark.specs.CycleHeaps.{with_found_taken}
 use Rattle.ref_mark.specs.CycleHeaps.{swept}

@@ -1,10 +1,13 @@
 pub mod Common
 pub mod IndexLemmas
 pub mod PlaceLemmas
+pub mod FirstLemmas
 pub mod FreeLemmas
 pub mod ChangeLemmas
+pub mod CellChanges
 pub mod PushLemmas
 pub mod TableLemmas
+pub mod NumberLemmas
 pub mod TabledLemmas
 pub mod GroundLemmas
 pub mod UnmarkedLemmas

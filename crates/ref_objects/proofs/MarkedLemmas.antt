@@ -1,27 +1,17 @@
 -- What a contract sees of a heap's objects as one is marked, and as no mark is left.
-use Rattle.std.proofs.Common.{◌≡◌, ℕ, ◌<◌, true, ◌==◌, refl, sym, ◌∙◌, ap, length, List, [], ◌∷◌, Option, inl, inr}
-use Rattle.std.proofs.Common.{arith}
+use Rattle.std.proofs.Common.{◌≡◌, ℕ, ◌<◌, true, false, ◌==◌, refl, sym, ◌∙◌, ap, arith}
+use Rattle.std.proofs.Common.{List, [], ◌∷◌, ◌++◌, length, replicate, Option, inl, inr}
 use Rattle.std.proofs.lemmas.Bool.{cases_Bool, eqb-true, false≢true}
-use Rattle.ref_objects.proofs.Common.{Object, is_there, numbers, IsRising, Config, Table, tabled_at, objects_of}
+use Rattle.ref_objects.proofs.Common.{Object, is_there, numbers, IsRising, Config, Tabled, Table, tabled_at, objects_of}
 use Rattle.ref_objects.proofs.Common.{changed, is_unmarked_in, with_marked, AllUpTo, seen_ground, IsSoundGround}
-use Rattle.ref_objects.specs.Tables.{table_unmarked as without_table_marks}
+use Rattle.ref_objects.proofs.Common.{holds_of, unmarked_tabled}
+use Rattle.ref_objects.specs.Tables.{tag_of, table_unmarked as without_table_marks}
 use Rattle.ref_objects.specs.Grounds.{ground_marked, without_marks}
+use Rattle.ref_objects.proofs.NumberLemmas.{numbers_by-changed}
+use Rattle.ref_objects.proofs.TabledLemmas.{map-changed, map-each}
+use Rattle.ref_objects.proofs.GroundLemmas.{sound_counted}
 use Rattle.ref_objects.proofs.MarkLemmas.{is_unmarked-tabled, marked_of-marked, marked_of-marked_again}
-use Rattle.ref_objects.proofs.MarkLemmas.{objects_of-with_marked, holds_of-with_marked}
-use Rattle.ref_objects.proofs.MarkLemmas.{objects_of-unmarked_tabled, holds_of-unmarked_tabled}
-use Rattle.ref_objects.proofs.TagLemmas.{tags_of-changed, tags_of-unmarked_tabled}
 use Rattle.ref_objects.proofs.UnmarkedLemmas.{marked_of-unmarked_tabled}
-
-pub sound_marked : (config : Config) (t : Table) (slots : List (Option ℕ)) (holds next n : ℕ)
-    → IsSoundGround config t slots holds next → IsSoundGround config (changed t n (with_marked true)) slots holds next
-sound_marked config t slots holds next n sound = record {
-  within = sound.within;
-  room = sound.room;
-  slot_count = sound.slot_count;
-  counted = sound.counted ∙ ap length (sym (holds_of-with_marked t.tabled n true));
-  given = sound.given;
-  bounded = sound.bounded;
-}
 
 pub seen_marked : (config : Config) (heap_no : ℕ) (t : Table) (slots : List (Option ℕ)) (clock next n : ℕ)
     → IsRising (numbers (objects_of t.tabled))
@@ -29,45 +19,34 @@ pub seen_marked : (config : Config) (heap_no : ℕ) (t : Table) (slots : List (O
     ≡ ground_marked (seen_ground config heap_no t slots clock next) n
 seen_marked config heap_no t slots clock next n rising =
     let same = is_unmarked-tabled t.tabled n rising in
+    let objects = map-changed (λ k. k.object) (with_marked true) (λ k. refl) t.tabled n in
+    let holds = numbers_by-changed (λ k. k.holds) t.tabled n (with_marked true) (λ k. refl) (λ k. refl) in
+    let tags = map-changed tag_of (with_marked true) (λ k. refl) t.tabled n in
     elim (cases_Bool (is_unmarked_in (tabled_at t.tabled n))) [
       | inl new ↦
-          simp (same, new)
-          (rw (
-            objects_of-with_marked t.tabled n true,
-            holds_of-with_marked t.tabled n true,
-            marked_of-marked t.tabled n rising new,
-            tags_of-changed t.tabled n (with_marked true) (λ k. refl) (λ k. refl),
-          ) refl)
+          simp (same, new) (rw (objects, holds, tags, marked_of-marked t.tabled n rising new) refl)
       | inr old ↦
-          simp (same, old)
-          (rw (
-            objects_of-with_marked t.tabled n true,
-            holds_of-with_marked t.tabled n true,
-            marked_of-marked_again t.tabled n old,
-            tags_of-changed t.tabled n (with_marked true) (λ k. refl) (λ k. refl),
-          ) refl)
+          simp (same, old) (rw (objects, holds, tags, marked_of-marked_again t.tabled n old) refl)
     ]
 
-pub sound_without_marks : (config : Config) (t : Table) (slots : List (Option ℕ)) (holds next : ℕ)
+holds_of-unmarked_tabled : (ks : List Tabled) → holds_of (unmarked_tabled ks) ≡ holds_of ks
+holds_of-unmarked_tabled [] = refl
+holds_of-unmarked_tabled (k ∷ ks) = ap (λ ms. replicate k.holds k.object.no ++ ms) (holds_of-unmarked_tabled ks)
+
+pub sound_without_marks : {config : Config} {t : Table} {slots : List (Option ℕ)} {holds next : ℕ}
     → IsSoundGround config t slots holds next → IsSoundGround config (without_table_marks t) slots holds next
-sound_without_marks config t slots holds next sound = record {
-  within = sound.within;
-  room = sound.room;
-  slot_count = sound.slot_count;
-  counted = sound.counted ∙ ap length (sym (holds_of-unmarked_tabled t.tabled));
-  given = sound.given;
-  bounded = sound.bounded;
-}
+sound_without_marks {config} {t} sound =
+    sound_counted sound (sound.counted ∙ ap length (sym (holds_of-unmarked_tabled t.tabled)))
 
 pub seen_without_marks : (config : Config) (heap_no : ℕ) (t : Table) (slots : List (Option ℕ)) (clock next : ℕ)
     → seen_ground config heap_no (without_table_marks t) slots clock next
     ≡ without_marks (seen_ground config heap_no t slots clock next)
 seen_without_marks config heap_no t slots clock next =
     rw (
-      objects_of-unmarked_tabled t.tabled,
+      map-each (λ k. k.object) (with_marked false) (λ k. refl) t.tabled,
       holds_of-unmarked_tabled t.tabled,
       marked_of-unmarked_tabled t.tabled,
-      tags_of-unmarked_tabled t.tabled,
+      map-each tag_of (with_marked false) (λ k. refl) t.tabled,
     ) refl
 
 -- numbers up to the last are below the next

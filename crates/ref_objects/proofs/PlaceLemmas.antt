@@ -1,17 +1,16 @@
 -- What the cells and the index say together of the objects that a contract sees.
-use Rattle.std.proofs.Common.{◌≡◌, ℕ, ◌<◌, ◌≤◌, true, false, ◌==◌, if◌then◌else◌, nat_lt, nat_le}
+use Rattle.std.proofs.Common.{◌≡◌, ℕ, ◌<◌, ◌≤◌, true, false, ◌==◌, if◌then◌else◌, nat_lt}
 use Rattle.std.proofs.Common.{refl, sym, ◌∙◌, ap}
-use Rattle.std.proofs.Common.{List, [], ◌∷◌, ◌++◌, length, get_or, set, drop, Option, Some, None, suc, inl}
+use Rattle.std.proofs.Common.{List, [], ◌∷◌, ◌++◌, length, get_or, set, Option, Some, None, suc, inl}
 use Rattle.std.proofs.Common.{inr, arith}
-use Rattle.std.proofs.lemmas.Bool.{cases_Bool, cases_eq, cases_lt, ltb-true, ltb-false, le-leb, lt-leb}
+use Rattle.std.proofs.lemmas.Bool.{cases_Bool, cases_eq, cases_lt, ltb-true, ltb-false}
 use Rattle.std.proofs.lemmas.Bool.{eq-eqb, eqb-true, false≢true}
 use Rattle.std.proofs.lemmas.List.{get_or-set_same, get_or-set_other, get_or_past}
 use Rattle.std.specs.List.{filter}
 use Rattle.std.specs.Cmp.{nat_eq_equiv}
 use Rattle.ref_objects.proofs.Common.{cell_at, is_of, is_live, before, tabled_by, place_in, place_if_live, count_below}
-use Rattle.ref_objects.proofs.Common.{first_live, first_held, AllAbove, Rises, Tabled, tabled_at, first_from}
-use Rattle.ref_objects.proofs.Common.{held_from, changed_tabled, without_tabled, Entry}
-use Rattle.ref_objects.specs.Places.{is_held, is_held_as}
+use Rattle.ref_objects.proofs.Common.{Rises, Tabled, tabled_at}
+use Rattle.ref_objects.proofs.Common.{changed_tabled, without_tabled, Entry}
 use Rattle.ref_objects.proofs.IndexLemmas.{place_in-none, place_in-at, place_in-past}
 
 -- ---- one cell
@@ -85,109 +84,6 @@ tabled_at-place cells (e ∷ es) n rises =
           simp other
           (tabled_at-before (cell_at cells e.place) e.no n (tabled_by cells es) other
           ∙ tabled_at-place cells es n rises.1)
-    ]
-
--- ---- the first number from one on
-
-first_from-before : (c : Option Tabled) (m n : ℕ) (ks : List Tabled) → m < n
-    → first_from (before c m ks) n ≡ first_from ks n
-first_from-before None m n ks below = refl
-first_from-before (Some k) m n ks below =
-    elim (cases_Bool (k.object.no == m)) [
-      | inl own ↦
-          let number : k.object.no ≡ m = eqb-true k.object.no m own in
-          let under : nat_le k.object.no n ≡ true = le-leb k.object.no n (omega arith) in
-          let passed : nat_le n k.object.no ≡ false = lt-leb n k.object.no (omega arith) in
-          simp (own, passed) refl
-      | inr stale ↦ simp stale refl
-    ]
-
-first_from-own : (c : Option Tabled) (m n : ℕ) (ks : List Tabled) → n ≤ m
-    → first_from (before c m ks) n ≡ (if is_of c m then Some m else first_from ks n)
-first_from-own None m n ks above = refl
-first_from-own (Some k) m n ks above =
-    elim (cases_Bool (k.object.no == m)) [
-      | inl own ↦
-          let number : k.object.no ≡ m = eqb-true k.object.no m own in
-          let found : nat_le n k.object.no ≡ true = le-leb n k.object.no (omega arith) in
-          simp (own, found) (ap (λ i. Some i) number)
-      | inr stale ↦ simp stale refl
-    ]
-
-first_from-above : (cells : List (Option Tabled)) (es : List Entry) (n m : ℕ) → n ≤ m → AllAbove m es
-    → first_from (tabled_by cells es) n ≡ first_live cells es
-first_from-above cells [] n m order above = refl
-first_from-above cells (e ∷ es) n m order above =
-    let over : m < e.no = above.0 in
-    first_from-own (cell_at cells e.place) e.no n (tabled_by cells es) (omega arith)
-    ∙ ap (λ (o : Option ℕ). if is_live cells e then Some e.no else o) (first_from-above cells es n m order above.1)
-
--- it is that of the first live entry after those below it
-pub first_from-live : (cells : List (Option Tabled)) (es : List Entry) (n : ℕ) → Rises es
-    → first_from (tabled_by cells es) n ≡ first_live cells (drop (count_below es n) es)
-first_from-live cells [] n rises = refl
-first_from-live cells (e ∷ es) n rises =
-    elim (cases_Bool (nat_lt e.no n)) [
-      | inl below ↦
-          simp below
-          (first_from-before (cell_at cells e.place) e.no n (tabled_by cells es) (ltb-true e.no n below)
-          ∙ first_from-live cells es n rises.1)
-      | inr above ↦
-          let no_less : n ≤ e.no = ltb-false e.no n above in
-          simp above
-          (first_from-own (cell_at cells e.place) e.no n (tabled_by cells es) no_less
-          ∙ ap (λ (o : Option ℕ). if is_live cells e then Some e.no else o)
-          (first_from-above cells es n e.no no_less rises.0))
-    ]
-
-held_from-before : (c : Option Tabled) (m n : ℕ) (ks : List Tabled) → m < n
-    → held_from (before c m ks) n ≡ held_from ks n
-held_from-before None m n ks below = refl
-held_from-before (Some k) m n ks below =
-    elim (cases_Bool (k.object.no == m)) [
-      | inl own ↦
-          let number : k.object.no ≡ m = eqb-true k.object.no m own in
-          let passed : nat_le n k.object.no ≡ false = lt-leb n k.object.no (omega arith) in
-          simp (own, passed) refl
-      | inr stale ↦ simp stale refl
-    ]
-
-held_from-own : (c : Option Tabled) (m n : ℕ) (ks : List Tabled) → n ≤ m
-    → held_from (before c m ks) n ≡ (if is_held_as c m then Some m else held_from ks n)
-held_from-own None m n ks above = refl
-held_from-own (Some k) m n ks above =
-    elim (cases_Bool (k.object.no == m)) [
-      | inl own ↦
-          let number : k.object.no ≡ m = eqb-true k.object.no m own in
-          let found : nat_le n k.object.no ≡ true = le-leb n k.object.no (omega arith) in
-          simp (own, found) (ap (λ (i : ℕ). if nat_lt 0 k.holds then Some i else held_from ks n) number)
-      | inr stale ↦ simp stale refl
-    ]
-
-held_from-above : (cells : List (Option Tabled)) (es : List Entry) (n m : ℕ) → n ≤ m → AllAbove m es
-    → held_from (tabled_by cells es) n ≡ first_held cells es
-held_from-above cells [] n m order above = refl
-held_from-above cells (e ∷ es) n m order above =
-    let over : m < e.no = above.0 in
-    held_from-own (cell_at cells e.place) e.no n (tabled_by cells es) (omega arith)
-    ∙ ap (λ (o : Option ℕ). if is_held cells e then Some e.no else o) (held_from-above cells es n m order above.1)
-
--- and of an object that is held, that of the first entry there whose object is held
-pub held_from-held : (cells : List (Option Tabled)) (es : List Entry) (n : ℕ) → Rises es
-    → held_from (tabled_by cells es) n ≡ first_held cells (drop (count_below es n) es)
-held_from-held cells [] n rises = refl
-held_from-held cells (e ∷ es) n rises =
-    elim (cases_Bool (nat_lt e.no n)) [
-      | inl below ↦
-          simp below
-          (held_from-before (cell_at cells e.place) e.no n (tabled_by cells es) (ltb-true e.no n below)
-          ∙ held_from-held cells es n rises.1)
-      | inr above ↦
-          let no_less : n ≤ e.no = ltb-false e.no n above in
-          simp above
-          (held_from-own (cell_at cells e.place) e.no n (tabled_by cells es) no_less
-          ∙ ap (λ (o : Option ℕ). if is_held cells e then Some e.no else o)
-          (held_from-above cells es n e.no no_less rises.0))
     ]
 
 -- ---- gaps

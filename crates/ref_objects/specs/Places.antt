@@ -28,10 +28,14 @@ abbrev pub is_of : Option Tabled → ℕ → Bool
 is_of None n = false
 is_of (Some k) n = k.object.no == n
 
+-- whether a cell holds the object of number n, and that passes a test
+abbrev pub is_passing : (Tabled → Bool) → Option Tabled → ℕ → Bool
+is_passing passes None n = false
+is_passing passes (Some k) n = k.object.no == n && passes k
+
 -- whether a cell holds the object of number n, and that is held
 abbrev pub is_held_as : Option Tabled → ℕ → Bool
-is_held_as None n = false
-is_held_as (Some k) n = k.object.no == n && nat_lt 0 k.holds
+is_held_as = is_passing (λ k. nat_lt 0 k.holds)
 
 -- whether the cell that an entry names still holds the entry's object: if not, the entry is a gap
 abbrev pub is_live : List (Option Tabled) → Entry → Bool
@@ -71,15 +75,10 @@ abbrev pub count_below : List Entry → ℕ → ℕ
 count_below [] n = 0
 count_below (e ∷ es) n = if nat_lt e.no n then suc (count_below es n) else 0
 
--- the number of the first entry that is no gap
-abbrev pub first_live : List (Option Tabled) → List Entry → Option ℕ
-first_live cells [] = None
-first_live cells (e ∷ es) = if is_live cells e then Some e.no else first_live cells es
-
--- the number of the first entry whose object is held
-abbrev pub first_held : List (Option Tabled) → List Entry → Option ℕ
-first_held cells [] = None
-first_held cells (e ∷ es) = if is_held cells e then Some e.no else first_held cells es
+-- the number of the first entry that passes a test
+abbrev pub first_entry : (Entry → Bool) → List Entry → Option ℕ
+first_entry passes [] = None
+first_entry passes (e ∷ es) = if passes e then Some e.no else first_entry passes es
 
 -- every entry's number is above n
 abbrev pub AllAbove : ℕ → List Entry → Type 0
@@ -136,17 +135,11 @@ places_below room (suc count) = places_below room count ++ (room - 1 - count) �
 
 -- whether a cell holds the object of number n, and that isn't marked
 abbrev pub is_unmarked_as : Option Tabled → ℕ → Bool
-is_unmarked_as None n = false
-is_unmarked_as (Some k) n = k.object.no == n && not k.marked
+is_unmarked_as = is_passing (λ k. not k.marked)
 
 -- whether the cell that an entry names still holds the entry's object, and that isn't marked
 abbrev pub is_unmarked_entry : List (Option Tabled) → Entry → Bool
 is_unmarked_entry cells e = is_unmarked_as (cell_at cells e.place) e.no
-
--- the number of the first entry whose object isn't marked
-abbrev pub first_unmarked : List (Option Tabled) → List Entry → Option ℕ
-first_unmarked cells [] = None
-first_unmarked cells (e ∷ es) = if is_unmarked_entry cells e then Some e.no else first_unmarked cells es
 
 -- what a cell holds, unmarked
 abbrev pub unmarked_cell : Option Tabled → Option Tabled

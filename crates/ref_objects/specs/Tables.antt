@@ -1,7 +1,8 @@
 -- The heap's table of objects, as plain data, and the changes that calls make to it (package `java.lang.ref` of Java SE
 -- 17; numbers, holds and a heap's room: this project's profile).
-use Rattle.std.specs.Prelude.{ℕ, ◌+◌, ◌-◌, ◌≤◌, Bool, false, not, ◌==◌, ◌&&◌, if◌then◌else◌, nat_le, nat_lt}
-use Rattle.std.specs.Prelude.{List, [], ◌∷◌, ◌++◌, length, replicate, Option, Some, None}
+use Rattle.std.specs.Prelude.{ℕ, ◌+◌, ◌-◌, ◌≤◌, Bool, true, false, not, ◌==◌, ◌&&◌, if◌then◌else◌, nat_le, nat_lt}
+use Rattle.std.specs.Prelude.{List, [], ◌∷◌, ◌++◌, length, map, replicate, Option, Some, None}
+use Rattle.std.specs.Int.{from_bool}
 use Rattle.ref_base.specs.Members.{without_first}
 use Rattle.ref_base.specs.Graphs.{Object, Reference, numbers}
 use Rattle.ref_base.specs.Strengths.{IsRising}
@@ -35,13 +36,21 @@ tabled_at (k ∷ ks) n = if k.object.no == n then Some k else tabled_at ks n
 
 -- the objects without their holds
 abbrev pub objects_of : List Tabled → List Object
-objects_of [] = []
-objects_of (k ∷ ks) = k.object ∷ objects_of ks
+objects_of = map (λ k. k.object)
+
+-- each object's number as often as a count says, in order of number
+abbrev pub numbers_by : (Tabled → ℕ) → List Tabled → List ℕ
+numbers_by count [] = []
+numbers_by count (k ∷ ks) = replicate (count k) k.object.no ++ numbers_by count ks
+
+-- the count of an object: 0 where there is none
+abbrev pub counted_in : (Tabled → ℕ) → Option Tabled → ℕ
+counted_in count None = 0
+counted_in count (Some k) = count k
 
 -- each object's number as often as it is held, in order of number
 abbrev pub holds_of : List Tabled → List ℕ
-holds_of [] = []
-holds_of (k ∷ ks) = replicate k.holds k.object.no ++ holds_of ks
+holds_of = numbers_by (λ k. k.holds)
 
 -- an object of the table as a graph has it
 abbrev pub object_in : Option Tabled → Option Object
@@ -63,24 +72,26 @@ has_field (Some k) i = nat_lt i (length k.object.fields)
 
 -- how often the object is held: 0 where there is none
 abbrev pub holds_in : Option Tabled → ℕ
-holds_in None = 0
-holds_in (Some k) = k.holds
+holds_in = counted_in (λ k. k.holds)
 
 -- whether there is an object, and nobody holds it
 abbrev pub is_unheld : Option Tabled → Bool
 is_unheld None = false
 is_unheld (Some k) = not (nat_lt 0 k.holds)
 
+-- the first number from n on of an object that passes a test
+abbrev pub first_where : (Tabled → Bool) → List Tabled → ℕ → Option ℕ
+first_where passes [] n = None
+first_where passes (k ∷ ks) n =
+    if nat_le n k.object.no && passes k then Some k.object.no else first_where passes ks n
+
 -- the first number from n on
 abbrev pub first_from : List Tabled → ℕ → Option ℕ
-first_from [] n = None
-first_from (k ∷ ks) n = if nat_le n k.object.no then Some k.object.no else first_from ks n
+first_from = first_where (λ k. true)
 
 -- the first number from n on of an object that is held
 abbrev pub held_from : List Tabled → ℕ → Option ℕ
-held_from [] n = None
-held_from (k ∷ ks) n =
-    if nat_le n k.object.no && nat_lt 0 k.holds then Some k.object.no else held_from ks n
+held_from = first_where (λ k. nat_lt 0 k.holds)
 
 -- no number is above the last
 abbrev pub AllUpTo : ℕ → List ℕ → Type 0
@@ -155,18 +166,15 @@ is_unmarked_in (Some k) = not k.marked
 
 -- the numbers of the objects that are marked, in order
 abbrev pub marked_of : List Tabled → List ℕ
-marked_of [] = []
-marked_of (k ∷ ks) = if k.marked then k.object.no ∷ marked_of ks else marked_of ks
+marked_of = numbers_by (λ k. from_bool k.marked)
 
 -- and of those that aren't
 abbrev pub unmarked_of : List Tabled → List ℕ
-unmarked_of [] = []
-unmarked_of (k ∷ ks) = if k.marked then unmarked_of ks else k.object.no ∷ unmarked_of ks
+unmarked_of = numbers_by (λ k. from_bool (not k.marked))
 
 -- the first number from n on of an object that isn't marked
 abbrev pub unmarked_from : List Tabled → ℕ → Option ℕ
-unmarked_from [] n = None
-unmarked_from (k ∷ ks) n = if nat_le n k.object.no && not k.marked then Some k.object.no else unmarked_from ks n
+unmarked_from = first_where (λ k. not k.marked)
 
 -- marked, or not
 abbrev pub with_marked : Bool → Tabled → Tabled
@@ -174,8 +182,7 @@ with_marked marked k = record k { marked = marked }
 
 -- the objects, none of them marked
 abbrev pub unmarked_tabled : List Tabled → List Tabled
-unmarked_tabled [] = []
-unmarked_tabled (k ∷ ks) = with_marked false k ∷ unmarked_tabled ks
+unmarked_tabled = map (with_marked false)
 
 -- the table with none of its objects marked
 abbrev pub table_unmarked : Table → Table
@@ -183,10 +190,13 @@ table_unmarked t = record t { tabled = unmarked_tabled t.tabled }
 
 -- ---- tags
 
+-- an object's tag
+abbrev pub tag_of : Tabled → Tag
+tag_of k = record { no = k.object.no; cleared_in = k.cleared_in }
+
 -- the tag of each object, in order
 abbrev pub tags_of : List Tabled → List Tag
-tags_of [] = []
-tags_of (k ∷ ks) = record { no = k.object.no; cleared_in = k.cleared_in } ∷ tags_of ks
+tags_of = map tag_of
 
 -- the cycle in which the object was cleared last: 0 where there is none
 abbrev pub tabled_cleared_in : Option Tabled → ℕ

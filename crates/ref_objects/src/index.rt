@@ -5,8 +5,8 @@ ghost use Rattle.std.specs.Prelude.{◌≡◌, ◌≤◌, length};
 ghost use Rattle.std.specs.List.{filter};
 ghost use Rattle.std.specs.Vec.{vec_capacity};
 ghost use Rattle.ref_objects.specs.Places.{is_live, is_held, tabled_by, place_in, place_if_live, lent};
-ghost use Rattle.ref_objects.specs.Places.{count_below, first_live, first_held, with_room, Rises};
-ghost use Rattle.ref_objects.specs.Places.{is_unmarked_entry, first_unmarked};
+ghost use Rattle.ref_objects.specs.Places.{count_below, first_entry, with_room, Rises};
+ghost use Rattle.ref_objects.specs.Places.{is_unmarked_entry};
 ghost use Rattle.ref_objects.specs.Tables.{first_from, held_from, unmarked_from, tabled_at};
 
 use crate::cell::Cell;
@@ -90,7 +90,7 @@ pub(crate) fn cell_of<'a>(cells: &'a [Cell], index: &[Entry], no: ObjNo) -> Opti
 
 // The number of the first of these entries that is no gap.
 fn first_live(cells: &[Cell], entries: &[Entry]) -> Option<ObjNo>
-    ensures { result ≡ first_live cells.now entries.now }
+    ensures { result ≡ first_entry (is_live cells.now) entries.now }
 {
     for entry in entries {
         if is_live(cells, *entry) {
@@ -102,7 +102,7 @@ fn first_live(cells: &[Cell], entries: &[Entry]) -> Option<ObjNo>
 
 // The number of the first of these entries whose object is held.
 fn first_held(cells: &[Cell], entries: &[Entry]) -> Option<ObjNo>
-    ensures { result ≡ first_held cells.now entries.now }
+    ensures { result ≡ first_entry (is_held cells.now) entries.now }
 {
     for entry in entries {
         if is_held(cells, *entry) {
@@ -158,7 +158,7 @@ fn is_unmarked(cells: &[Cell], entry: Entry) -> bool
 
 // The number of the first of these entries whose object isn't marked.
 fn first_unmarked(cells: &[Cell], entries: &[Entry]) -> Option<ObjNo>
-    ensures { result ≡ first_unmarked cells.now entries.now }
+    ensures { result ≡ first_entry (is_unmarked_entry cells.now) entries.now }
 {
     for entry in entries {
         if is_unmarked(cells, *entry) {

@@ -1,7 +1,9 @@
 use Rattle.std.proofs.Common.{◌≡◌, drop}
-use Rattle.ref_objects.proofs.Common.{first_live}
+use Rattle.ref_objects.specs.Places.{first_entry, is_live}
 use Rattle.ref_objects.proofs.index.first_live.Given as goal
 
 -- what is left has the same first as all of them
 abbrev pub invariant-loop-entry : goal.invariant-loop-entry
-invariant-loop-entry l = first_live l.cells (drop l.entry-index l.entries) ≡ first_live l.cells l.entries
+invariant-loop-entry l =
+    first_entry (is_live l.cells) (drop l.entry-index l.entries)
+    ≡ first_entry (is_live l.cells) l.entries

@@ -1,12 +1,10 @@
-use Rattle.std.proofs.Common.{◌∙◌, ap, sym, drop}
-use Rattle.std.proofs.lemmas.List.{take_rest}
-use Rattle.ref_objects.proofs.Common.{first_held}
-use Rattle.ref_objects.proofs.PlaceLemmas.{held_from-held}
+use Rattle.std.proofs.Common.{nat_lt, refl, ◌∙◌}
+use Rattle.ref_objects.specs.Places.{is_held}
+use Rattle.ref_objects.proofs.FirstLemmas.{found_first}
 use Rattle.ref_objects.proofs.index.held_from.Goals as goal
 
 pub returns : goal.returns
 returns c =
     c.first_held.ensures
-    ∙ ap (first_held c.args.cells.now)
-    (take_rest c.args.index.now c.count_below.result ∙ ap (λ i. drop i c.args.index.now) c.count_below.ensures.count)
-    ∙ sym (held_from-held c.args.cells.now c.args.index.now c.args.no c.requires)
+    ∙ found_first (λ k. nat_lt 0 k.holds) c.args.cells.now (is_held c.args.cells.now) (λ e. refl)
+    c.args.index.now c.args.no c.count_below.result c.requires c.count_below.ensures.count

@@ -12,8 +12,7 @@ invariant_of-self g c =
     let tabled : is_some (tabled_at t.tabled c.args.no) ≡ true =
     sym c.add_hold-is_there.ensures.there ∙ c.if-is_there.true in
     rw c.add_hold-is_there.ensures.after
-    (sound_added c.self.inside.config t c.self.inside.slots.items c.self.inside.holds c.self.inside.next c.args.no
-    c.self.invariant c.len-count.ensures.orderly.rising tabled)
+    (sound_added c.args.no c.self.invariant tabled)
 
 pub invariant_of-self-else-is_there : goal.invariant_of-self-else-is_there
 invariant_of-self-else-is_there g c =

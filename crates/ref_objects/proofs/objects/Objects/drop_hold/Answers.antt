@@ -1,7 +1,7 @@
 use Rattle.std.proofs.Common.{◌≡◌, ◌<◌, true, false, nat_lt, refl, sym, ◌∙◌, arith}
 use Rattle.std.proofs.lemmas.Bool.{ltb-true}
 use Rattle.ref_objects.proofs.Common.{has, Table, tabled_at, holds_of, holds_in}
-use Rattle.ref_objects.proofs.TabledLemmas.{holds_in-le, has-holds_of}
+use Rattle.ref_objects.proofs.GroundLemmas.{holds_in-le, has-holds_of}
 use Rattle.ref_objects.proofs.ChangeLemmas.{changed-unheld}
 use Rattle.ref_objects.proofs.GroundLemmas.{sound_dropped, seen_dropped}
 use Rattle.ref_objects.proofs.objects.Objects.drop_hold.Goals as goal
@@ -19,8 +19,7 @@ invariant_of-self g c =
     let held : 0 < holds_in (tabled_at t.tabled c.args.no) =
     ltb-true 0 (holds_in (tabled_at t.tabled c.args.no)) (sym c.drop_hold-was_held.ensures.held ∙ c.if-was_held.true) in
     rw c.drop_hold-was_held.ensures.after
-    (sound_dropped c.self.inside.config t c.self.inside.slots.items c.self.inside.holds c.self.inside.next c.args.no
-    c.self.invariant c.len-count.ensures.orderly.rising held)
+    (sound_dropped c.args.no c.self.invariant held)
 
 pub invariant_of-self-else-was_held : goal.invariant_of-self-else-was_held
 invariant_of-self-else-was_held g c =

@@ -1,6 +1,7 @@
 use Rattle.std.proofs.Common.{arith}
+use Rattle.std.proofs.lemmas.List.{length-map}
 use Rattle.ref_objects.proofs.Common.{objects_of}
-use Rattle.ref_objects.proofs.GroundLemmas.{length-objects_of, holds_in_order}
+use Rattle.ref_objects.proofs.NumberLemmas.{numbers_in_order}
 use Rattle.ref_objects.proofs.MarkLemmas.{length-unmarked_of}
 use Rattle.ref_objects.proofs.MarkedLemmas.{there_below}
 use Rattle.ref_objects.proofs.TagLemmas.{numbers-tags_of}
@@ -10,7 +11,7 @@ pub returns : goal.returns
 returns g c =
     let ks = c.self.inside.table.tabled in
     let orderly = c.len-count.ensures.orderly in
-    let same = length-objects_of ks in
+    let same = length-map ks (λ k. k.object) in
     let marks = length-unmarked_of ks in
     rw (← c.self.view_is) (record {
       orderly = record {
@@ -18,7 +19,7 @@ returns g c =
         below = λ n there. there_below (objects_of ks) _ _ c.self.invariant.given orderly.given n there;
         slots = c.self.invariant.slot_count;
       };
-      held = holds_in_order ks orderly.rising;
+      held = numbers_in_order (λ k. k.holds) ks orderly.rising;
       few = omega (arith, same, orderly.few, c.self.invariant.room);
       marks = omega (arith, same, marks);
       tagged = numbers-tags_of ks;

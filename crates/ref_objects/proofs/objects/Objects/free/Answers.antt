@@ -5,8 +5,7 @@ use Rattle.ref_objects.proofs.objects.Objects.free.Goals as goal
 pub invariant_of-self : goal.invariant_of-self
 invariant_of-self g c =
     rw c.free.ensures.after
-    (sound_freed c.self.inside.config c.self.inside.table c.self.inside.slots.items c.self.inside.holds
-    c.self.inside.next c.args.no c.self.invariant)
+    (sound_freed c.args.no c.self.invariant)
 
 pub returns-clause-answer : goal.returns-clause-answer
 returns-clause-answer g c =

@@ -1,5 +1,5 @@
 use Rattle.std.proofs.Common.{sym, ◌∙◌}
-use Rattle.ref_objects.proofs.TabledLemmas.{has-holds_of}
+use Rattle.ref_objects.proofs.GroundLemmas.{has-holds_of}
 use Rattle.ref_objects.proofs.objects.Objects.is_held.Goals as goal
 
 pub returns : goal.returns

@@ -12,8 +12,7 @@ returns-then-is_full-clause-refused g c =
 pub invariant_of-self : goal.invariant_of-self
 invariant_of-self g c =
     rw c.push.ensures
-    (sound_made c.self.inside.config c.self.inside.table c.self.inside.slots.items c.self.inside.holds
-    c.self.inside.next c.args.place c.args.fields c.args.reference c.self.invariant
+    (sound_made c.args.place c.args.fields c.args.reference c.self.invariant
     (omega (arith, c.if-self-from.false, c.from.ensures)))
 
 pub returns-clause-refused : goal.returns-clause-refused

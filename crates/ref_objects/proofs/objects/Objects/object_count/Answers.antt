@@ -1,6 +1,6 @@
 use Rattle.std.proofs.Common.{sym, ◌∙◌}
-use Rattle.ref_objects.proofs.GroundLemmas.{length-objects_of}
+use Rattle.std.proofs.lemmas.List.{length-map}
 use Rattle.ref_objects.proofs.objects.Objects.object_count.Goals as goal
 
 pub returns : goal.returns
-returns g c = rw (← c.self.view_is) (c.len.ensures.count ∙ sym (length-objects_of c.self.inside.table.tabled))
+returns g c = rw (← c.self.view_is) (c.len.ensures.count ∙ sym (length-map c.self.inside.table.tabled (λ k. k.object)))

@@ -1,11 +1,12 @@
-use Rattle.ref_objects.proofs.TagLemmas.{sound_cleared_in, seen_cleared_in}
+use Rattle.std.proofs.Common.{refl}
+use Rattle.ref_objects.specs.Tables.{with_cleared_in}
+use Rattle.ref_objects.proofs.GroundLemmas.{sound_changed, seen_cleared_in}
 use Rattle.ref_objects.proofs.objects.Objects.set_cleared_in.Goals as goal
 
 pub invariant_of-self : goal.invariant_of-self
 invariant_of-self g c =
     rw c.set_cleared_in.ensures
-    (sound_cleared_in c.self.inside.config c.self.inside.table c.self.inside.slots.items c.self.inside.holds
-    c.self.inside.next c.args.no c.args.cycle c.self.invariant)
+    (sound_changed c.args.no (with_cleared_in c.args.cycle) (λ k. refl) (λ k. refl) c.self.invariant)
 
 pub returns : goal.returns
 returns g c =

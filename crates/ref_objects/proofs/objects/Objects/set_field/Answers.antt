@@ -1,5 +1,5 @@
 use Rattle.std.proofs.Common.{Bool, refl, sym, ◌∙◌, ap, None}
-use Rattle.ref_objects.proofs.Common.{with_field}
+use Rattle.ref_objects.proofs.Common.{on_object, with_field}
 use Rattle.ref_base.specs.Refusals.{unless}
 use Rattle.ref_base.specs.declared.fault.Fault.TheVariants.{BadField}
 use Rattle.ref_objects.proofs.ChangeLemmas.{changed-past}
@@ -9,14 +9,14 @@ use Rattle.ref_objects.proofs.objects.Objects.set_field.Goals as goal
 pub invariant_of-self : goal.invariant_of-self
 invariant_of-self g c =
     rw c.set_field.ensures.after
-    (sound_changed c.self.inside.config c.self.inside.table c.self.inside.slots.items c.self.inside.holds
-    c.self.inside.next c.args.no (with_field c.args.field c.args.value) (λ o. refl) c.self.invariant)
+    (sound_changed c.args.no (on_object (with_field c.args.field c.args.value)) (λ k. refl) (λ k. refl)
+    c.self.invariant)
 
 pub invariant_of-self-2 : goal.invariant_of-self-2
 invariant_of-self-2 g c =
     rw c.set_field.ensures.after
-    (sound_changed c.self.inside.config c.self.inside.table c.self.inside.slots.items c.self.inside.holds
-    c.self.inside.next c.args.no (with_field c.args.field c.args.value) (λ o. refl) c.self.invariant)
+    (sound_changed c.args.no (on_object (with_field c.args.field c.args.value)) (λ k. refl) (λ k. refl)
+    c.self.invariant)
 
 pub returns-then-not-set_field-clause-refused : goal.returns-then-not-set_field-clause-refused
 returns-then-not-set_field-clause-refused g c =

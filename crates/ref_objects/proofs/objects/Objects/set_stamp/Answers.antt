@@ -1,13 +1,13 @@
 use Rattle.std.proofs.Common.{refl}
-use Rattle.ref_objects.proofs.Common.{with_reference, with_stamp}
+use Rattle.ref_objects.proofs.Common.{on_object, with_reference, with_stamp}
 use Rattle.ref_objects.proofs.GroundLemmas.{sound_changed, seen_changed}
 use Rattle.ref_objects.proofs.objects.Objects.set_stamp.Goals as goal
 
 pub invariant_of-self : goal.invariant_of-self
 invariant_of-self g c =
     rw c.set_stamp.ensures
-    (sound_changed c.self.inside.config c.self.inside.table c.self.inside.slots.items c.self.inside.holds
-    c.self.inside.next c.args.no (with_reference (with_stamp c.args.stamp)) (λ o. refl) c.self.invariant)
+    (sound_changed c.args.no (on_object (with_reference (with_stamp c.args.stamp))) (λ k. refl) (λ k. refl)
+    c.self.invariant)
 
 pub returns : goal.returns
 returns g c =

@@ -4,8 +4,7 @@ use Rattle.ref_objects.proofs.objects.Objects.unmark_all.Goals as goal
 pub invariant_of-self : goal.invariant_of-self
 invariant_of-self g c =
     rw c.unmark_all.ensures
-    (sound_without_marks c.self.inside.config c.self.inside.table c.self.inside.slots.items c.self.inside.holds
-    c.self.inside.next c.self.invariant)
+    (sound_without_marks c.self.invariant)
 
 pub returns : goal.returns
 returns g c =

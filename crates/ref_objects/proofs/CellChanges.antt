@@ -1,0 +1,112 @@
+-- What a call answers and leaves that changes the cell of one object, where it is found and where there is none.
+use Rattle.std.proofs.Common.{◌≡◌, ℕ, ◌-◌, ◌<◌, ◌≤◌, Bool, true, false, nat_lt, refl, sym, ◌∙◌, ap, arith}
+use Rattle.std.proofs.Common.{List, [], ◌∷◌, ◌++◌, length, get_or, set, Option, Some, None}
+use Rattle.std.proofs.lemmas.List.{length-set}
+use Rattle.std.specs.Option.{option_map, is_some}
+use Rattle.std.specs.Int.{from_bool}
+use Rattle.ref_objects.specs.Places.{IsSoundTable}
+use Rattle.ref_objects.proofs.Common.{Tabled, Table, tabled_at, tabled_by, place_in, place_if_live, seen_table, changed}
+use Rattle.ref_objects.proofs.Common.{Entry, changed_tabled, marked_of, holds_in, is_unheld, is_marked_in, table_freed}
+use Rattle.ref_objects.proofs.PlaceLemmas.{IsPlaceOf, IsPlaceOf-lent, IsMissing, IsMissing-lent}
+use Rattle.ref_objects.proofs.ChangeLemmas.{told_of, seen_changed, placed_changed, tabled_by-changed}
+use Rattle.ref_objects.proofs.ChangeLemmas.{there, room_to_free, held_here, unheld_here, seen_freed, placed_freed}
+use Rattle.ref_objects.proofs.ChangeLemmas.{tabled_by-freed, told_of_none, seen_missing_changed, seen_missing_freed}
+use Rattle.ref_objects.proofs.MarkLemmas.{marks_same, marks_changed, marks_le, marks_fewer}
+
+-- the call lends its cells and its index to a search
+module _ {cells borrowed : List (Option Tabled)} {es lent : List Entry} {ps : List ℕ}
+    {last index_room places_room marked : ℕ} (sound : IsSoundTable cells es ps last index_room places_room marked)
+    (n : ℕ) (same_cells : borrowed ≡ cells) (same_index : lent ≡ es) where
+  -- which finds the object's place
+  module _ {p : ℕ} (found : Some p ≡ place_if_live borrowed (place_in lent n) n) where
+    place : IsPlaceOf cells es n p
+    place = IsPlaceOf-lent n same_cells same_index found
+
+    pub is_there : {t : Table} → seen_table cells es last ≡ t → true ≡ is_some (tabled_at t.tabled n)
+    is_there view = there sound.placed place ∙ ap (λ (s : Table). is_some (tabled_at s.tabled n)) view
+
+    pub has_room : length ps < length cells
+    has_room = room_to_free sound.placed place
+
+    -- what is answered of the cell there is answered of the object
+    pub answered_there : {t : Table} → seen_table cells es last ≡ t → {X : Type 0} (f : Option Tabled → X)
+        {cell : Option Tabled} {x : X} → cell ≡ get_or cells p cell → x ≡ f cell → x ≡ f (tabled_at t.tabled n)
+    answered_there view f was is =
+        is ∙ told_of sound.placed place f was ∙ ap (λ (s : Table). f (tabled_at s.tabled n)) view
+
+    module _ (f : Tabled → Tabled) (keeps : (k : Tabled) → (f k).object.no ≡ k.object.no) {old new : Option Tabled}
+        (was : old ≡ get_or cells p old) (is : new ≡ option_map f old) where
+      pub left_there : {t : Table} → seen_table cells es last ≡ t → seen_table (set cells p new) es last ≡ changed t n f
+      left_there view = seen_changed sound.placed place f keeps was is ∙ ap (λ (s : Table). changed s n f) view
+
+      -- the marked are counted anew
+      pub sound_counted : {count : ℕ} → count ≡ length (marked_of (changed_tabled (tabled_by cells es) n f))
+          → IsSoundTable (set cells p new) es ps last index_room places_room count
+      sound_counted counted = record {
+        placed = placed_changed sound.placed place f keeps was is;
+        index_fits = omega (arith, sound.index_fits, length-set cells p new);
+        places_fit = omega (arith, sound.places_fit, length-set cells p new);
+        marks_counted = marks_same (tabled_by-changed sound.placed place f keeps was is) counted;
+      }
+
+      -- or stay as many, where the change leaves the mark
+      pub sound_there : ((k : Tabled) → (f k).marked ≡ k.marked)
+          → IsSoundTable (set cells p new) es ps last index_room places_room marked
+      sound_there leaves =
+          sound_counted (marks_changed (tabled_by cells es) n f keeps leaves sound.marks_counted)
+
+    -- the object goes, and its place is free, where nobody holds it
+    module _ {t : Table} (view : seen_table cells es last ≡ t) {cell : Option Tabled} (was : cell ≡ get_or cells p cell)
+        {held : Bool} (is : held ≡ nat_lt 0 (holds_in cell)) where
+      pub kept_answer : held ≡ true → false ≡ is_unheld (tabled_at t.tabled n)
+      kept_answer is_held =
+          sym (held_here sound.placed place was (sym is ∙ is_held))
+          ∙ ap (λ (s : Table). is_unheld (tabled_at s.tabled n)) view
+
+      pub kept_there : held ≡ true → t ≡ table_freed t n
+      kept_there is_held = let stays = sym (kept_answer is_held) in simp stays refl
+
+      pub freed_answer : held ≡ false → true ≡ is_unheld (tabled_at t.tabled n)
+      freed_answer unheld =
+          sym (unheld_here sound.placed place was (sym is ∙ unheld))
+          ∙ ap (λ (s : Table). is_unheld (tabled_at s.tabled n)) view
+
+      pub freed_there : held ≡ false → {new : Option Tabled} → new ≡ None → {free : List ℕ} → free ≡ ps ++ p ∷ []
+          → seen_table (set cells p new) es last ≡ table_freed t n
+      freed_there unheld gone more =
+          seen_freed sound.placed place gone more (unheld_here sound.placed place was (sym is ∙ unheld))
+          ∙ ap (λ (s : Table). table_freed s n) view
+
+    -- its mark is counted no more
+    module _ {cell : Option Tabled} (was : cell ≡ get_or cells p cell) {less : ℕ}
+        (one : less ≡ from_bool (is_marked_in cell)) where
+      one_there : less ≡ from_bool (is_marked_in (tabled_at (tabled_by cells es) n))
+      one_there = one ∙ ap from_bool (answered_there refl is_marked_in was refl)
+
+      pub mark_counted : less ≤ marked
+      mark_counted = marks_le (tabled_by cells es) n one_there sound.marks_counted
+
+      pub sound_freed : {new : Option Tabled} → new ≡ None → {free : List ℕ} {room : ℕ} → free ≡ ps ++ p ∷ []
+          → room ≡ places_room → IsSoundTable (set cells p new) es free last index_room room (marked - less)
+      sound_freed {new} gone {free} {room} more capacity = record {
+        placed = placed_freed sound.placed place gone more;
+        index_fits = omega (arith, sound.index_fits, length-set cells p new);
+        places_fit = omega (arith, sound.places_fit, length-set cells p new, capacity);
+        marks_counted = marks_same (tabled_by-freed sound.placed place gone more)
+            (marks_fewer (tabled_by cells es) n one_there sound.marks_counted);
+      }
+
+  -- or none: then what is answered of no cell is answered of the number, and the table is left as it was
+  module _ (found : None ≡ place_if_live borrowed (place_in lent n) n) {t : Table} (view : seen_table cells es last ≡ t)
+    where
+      missing : IsMissing cells es n
+      missing = IsMissing-lent n same_cells same_index found
+
+      pub answered_nowhere : {X : Type 0} (f : Option Tabled → X) → f None ≡ f (tabled_at t.tabled n)
+      answered_nowhere f = told_of_none sound.placed missing f ∙ ap (λ (s : Table). f (tabled_at s.tabled n)) view
+
+      pub left_nowhere : (f : Tabled → Tabled) → t ≡ changed t n f
+      left_nowhere f = rw (← view) (seen_missing_changed sound.placed missing f)
+
+      pub freed_nowhere : t ≡ table_freed t n
+      freed_nowhere = rw (← view) (seen_missing_freed sound.placed missing)
