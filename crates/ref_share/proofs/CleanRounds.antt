@@ -1,17 +1,19 @@
 -- What a cleaner's thread has called, one round after the other.
 use Rattle.std.proofs.Common.{◌≡◌, ℕ, ◌+◌, ◌<◌, ◌≤◌, true, false, List, [], ◌∷◌, ◌++◌, length, replicate}
-use Rattle.std.proofs.Common.{Option, Some, None, Ok, refl, sym, ap, ◌∙◌, subst, arith, length-append}
+use Rattle.std.proofs.Common.{Option, Some, None, Result, Ok, refl, sym, ap, ◌∙◌, subst, arith, length-append}
 use Rattle.std.proofs.lemmas.List.{append_assoc, append-nil}
 use Rattle.ref_base.specs.declared.heap_step.HeapStep.TheVariants as heap
 use Rattle.ref_share.proofs.Common.{HoldName, HeldNotice, entry, Longer, Round, all_of, takes_in, jobs_run, HasGone}
 use Rattle.ref_share.proofs.Common.{CleanView, CleanEntry, TakesJob, CleansDead, HeapView, HeapEntry, PollsUntil}
-use Rattle.ref_share.proofs.Common.{QueueView, QueueEntry, Releases, Made, Took}
+use Rattle.ref_share.proofs.Common.{QueueView, QueueEntry, Releases, Made, Took, ShareFault}
 use Rattle.ref_base.specs.declared.reply.Reply.TheVariants as told
 use Rattle.ref_queue.specs.declared.queue.Polled.TheVariants as answers
 use Rattle.ref_world.specs.declared.heap_machine.HeapReply.TheVariants as replies
 use Rattle.ref_share.proofs.Polls.{made_none, made_more, made_longer, made_after}
-use Rattle.ref_share.specs.CleanLoops.{polls_in, releases_in, job_in, released, polls_in_vain}
-use Rattle.ref_share.specs.QueueCalls.{PollsOnce}
+use Rattle.ref_share.specs.CleanLoops.{polls_in, releases_in, job_in, released, polls_in_vain, IsQuiet, PollsBy}
+use Rattle.ref_share.specs.declared.answers.Polled.{Polled}
+use Rattle.ref_share.specs.declared.clean_loop.Polling.{Polling}
+use Rattle.ref_share.specs.declared.clean_loop.Polling.TheVariants.{Waits, Once}
 use Rattle.ref_share.specs.declared.clean_machine.CleanStep.TheVariants as steps
 use Rattle.ref_share.specs.declared.clean_machine.CleanReply.TheVariants as gives
 use Rattle.ref_share.specs.declared.queue_machine.QueueStep.TheVariants as asks
@@ -24,11 +26,25 @@ all_of_one_more {T = T} part (s ∷ rs) r =
     ap (λ (ts : List T). part s ++ ts) (all_of_one_more part rs r)
     ∙ sym (append_assoc (part s) (all_of part rs) (part r))
 
--- one poll that finds a notice
-abbrev pub at_once : (notice : HeldNotice) (u w : QueueView) → PollsOnce u (Some (Ok (Took notice))) w
-    → PollsUntil u (Ok (Took notice)) w
-at_once notice u w polls =
+-- the polls of a round, the last of which finds its notice
+abbrev pub until_found : (polling : Polling) (notice : HeldNotice) (u w : QueueView)
+    → PollsBy polling u (Some (Ok (Took notice))) w → PollsUntil u (Ok (Took notice)) w
+until_found Waits notice u w polls = polls
+until_found Once notice u w polls =
     (0, tt, made_more u u w [] asks.Poll (gets.Polled (answers.Took notice)) (made_none u) polls)
+
+-- what a poll answered is that it took a notice
+pub took : (polling : Polling) (u w : QueueView) {answer : Result Polled ShareFault} {found : Polled}
+    (notice : HeldNotice) → answer ≡ Ok found → found ≡ Took notice → PollsBy polling u (Some answer) w
+    → PollsBy polling u (Some (Ok (Took notice))) w
+took polling u w notice was is polls =
+    subst (λ found. PollsBy polling u (Some (Ok found)) w) is
+    (subst (λ answer. PollsBy polling u (Some answer) w) was polls)
+
+-- no poll was in vain before the first round
+pub still_quiet : (J : Type 0) (polling : Polling) → IsQuiet {J = J} polling []
+still_quiet J Waits = tt
+still_quiet J Once = refl
 
 module _ {J : Type 0} where
   job_at_most : (taken : Option (HoldName × J)) → length (job_in taken) ≤ 1
@@ -63,13 +79,26 @@ module _ {J : Type 0} where
   vain_of_one_more [] r = omega (arith)
   vain_of_one_more (s ∷ rs) r = omega (arith, vain_of_one_more rs r)
 
+  -- a round adds no poll in vain to those of a thread that doesn't wait
+  quiet_on : (polling : Polling) (notice : HeldNotice) (u w : QueueView)
+      (by : PollsBy polling u (Some (Ok (Took notice))) w) (rs : List (Round J)) (taken : Option (HoldName × J))
+      → IsQuiet polling rs
+      → IsQuiet polling
+      (rs ++ record { empties = (until_found polling notice u w by).0; notice = notice; taken = taken } ∷ [])
+  quiet_on Waits notice u w by rs taken quiet = tt
+  quiet_on Once notice u w by rs taken quiet =
+      omega (arith, quiet, vain_of_one_more rs (record { empties = 0; notice = notice; taken = taken }))
+
   module _ (q : QueueView) (v : HeapView) (c : CleanView J) where
     pub gone_nowhere : HasGone q v c [] q v c
     gone_nowhere = (made_none q, made_none v, made_none c)
 
     module _ (rs : List (Round J)) (q1 : QueueView) (v1 : HeapView) (c1 : CleanView J)
-        (gone : HasGone q v c rs q1 v1 c1) (notice : HeldNotice) (q2 : QueueView)
-        (polls : PollsUntil q1 (Ok (Took notice)) q2) (v2 : HeapView) (c2 : CleanView J) where
+        (gone : HasGone q v c rs q1 v1 c1) (polling : Polling) (quiet : IsQuiet polling rs) (notice : HeldNotice)
+        (q2 : QueueView) (by : PollsBy polling q1 (Some (Ok (Took notice))) q2) (v2 : HeapView) (c2 : CleanView J) where
+      abbrev polls : PollsUntil q1 (Ok (Took notice)) q2
+      polls = until_found polling notice q1 q2 by
+
       abbrev next : Option (HoldName × J) → Round J
       next taken = record { empties = polls.0; notice = notice; taken = taken }
 
@@ -100,8 +129,8 @@ module _ {J : Type 0} where
 
       -- a round without a job
       pub gone_in_vain : CleansDead notice v1 c1 (Ok false) v2 c2
-          → (more : List (Round J)) × HasGone q v c more q2 v2 c2 × (jobs_run more ≡ jobs_run rs)
-          × (polls_in_vain more ≡ polls_in_vain rs + polls.0)
+          → (more : List (Round J)) × HasGone q v c more q2 v2 c2 × IsQuiet polling more
+          × (jobs_run more ≡ jobs_run rs)
       gone_in_vain cleans = (
         rs ++ next None ∷ [],
         (
@@ -110,14 +139,14 @@ module _ {J : Type 0} where
               (next_release v2 cleans.0),
           next_takes None c2 cleans.1 ((refl, refl, refl), (made_none c2).1, refl),
         ),
+        quiet_on polling notice q1 q2 by rs None quiet,
         omega (arith, jobs_of_one_more rs (next None)),
-        vain_of_one_more rs (next None),
       )
 
       -- a round with a job
       pub gone_for_a_job : (c3 : CleanView J) → CleansDead notice v1 c1 (Ok true) v2 c2 → Longer c2 c3
-          → (more : List (Round J)) × HasGone q v c more q2 v2 c3 × (jobs_run more ≡ jobs_run rs + 1)
-          × (polls_in_vain more ≡ polls_in_vain rs + polls.0)
+          → (more : List (Round J)) × HasGone q v c more q2 v2 c3 × IsQuiet polling more
+          × (jobs_run more ≡ jobs_run rs + 1)
       gone_for_a_job c3 cleans longer =
           let taken = Some (cleans.0, cleans.1) in
           let both = made_more v cleans.2 v2 (all_of (releases_in v) rs ++ released v notice.hold ∷ [])
@@ -131,12 +160,12 @@ module _ {J : Type 0} where
               subst (λ (calls : List HeapEntry). Made v calls v2) calls_are both,
               next_takes taken c3 cleans.3.1 longer,
             ),
+            quiet_on polling notice q1 q2 by rs taken quiet,
             omega (arith, jobs_of_one_more rs (next taken)),
-            vain_of_one_more rs (next taken),
           )
 
       -- its take is one call more than those that gave the jobs before
       pub job_is_a_call : CleansDead notice v1 c1 (Ok true) v2 c2 → jobs_run rs < length c2.mine
       job_is_a_call cleans =
           let on = gone_for_a_job c2 cleans ((refl, refl, refl), (made_none c2).1, refl) in
-          omega (arith, on.2, jobs_at_most_calls c c2 on.0 on.1.2)
+          omega (arith, on.3, jobs_at_most_calls c c2 on.0 on.1.2)

@@ -1,7 +1,7 @@
 -- What `register`, `clean` and a cleaner's thread may have called, and what not: the job 30 of reference 2, whose
 -- notice comes once its object is gone.
 use Rattle.std.proofs.Common.{◌≡◌, ℕ, List, [], ◌∷◌, Option, Some, None, Ok, true}
-use Rattle.std.proofs.Common.{inl, refl, ap, ◌+◌, map, arith}
+use Rattle.std.proofs.Common.{inl, inr, refl, ap, ◌+◌, map, arith}
 use Rattle.ref_share.proofs.Common.{Cycle, HoldName, ClearHeap, HeldNotice, new_registry, entry, Entry, Idle, View}
 use Rattle.ref_share.proofs.Common.{new_queue, Round, all_of, jobs_run, takes_in, CleanView, CleanEntry, makes_phantom}
 use Rattle.ref_share.proofs.Common.{CleansDead, HeapView, HeapEntry, QueueView, QueueEntry, Releases}
@@ -164,7 +164,8 @@ module _ (start : Option ClearHeap) where
       ((refl, refl, refl), (releases ∷ releases ∷ [], refl), refl),
       ((refl, refl, refl), (taken ∷ [], refl), refl),
     ),
-    (0, tt, ((refl, refl, refl), (entry 0 queue.Poll (told_by.Polled found.Closed) ∷ [], refl), refl)),
+    tt,
+    inr (0, tt, ((refl, refl, refl), (entry 0 queue.Poll (told_by.Polled found.Closed) ∷ [], refl), refl)),
     refl,
   )
 
@@ -176,7 +177,7 @@ module _ (start : Option ClearHeap) where
   counted_without_a_job : (q : QueueView) (w : HeapView)
       → ¬ (GoesRound (polls []) (calls_of []) (table []) (Ok 1) q w (table []))
   counted_without_a_job q w goes =
-      let none : jobs_run goes.0 ≡ 0 = no_rounds goes.0 goes.2.2.2 in absurd (omega (arith, goes.4, none))
+      let none : jobs_run goes.0 ≡ 0 = no_rounds goes.0 goes.2.2.2 in absurd (omega (arith, goes.5, none))
 
   -- the same without waiting, until a poll found nothing
   it_went_on_for_one_round : GoesOn (polls []) (calls_of []) (table []) (Ok 1)

@@ -14,8 +14,11 @@ use Rattle.ref_share.specs.HeapSeats.{HeapView, HeapEntry}
 use Rattle.ref_share.specs.QueueCalls.{PollsOnce, PollsUntil, empty_polls, polled}
 use Rattle.ref_share.specs.QueueSeats.{QueueView, QueueEntry}
 use Rattle.ref_share.specs.SeatCalls.{Made}
+use Rattle.ref_share.specs.declared.answers.Polled.{Polled}
 use Rattle.ref_share.specs.declared.answers.Polled.TheVariants.{Took, Closed}
 use Rattle.ref_share.specs.declared.answers.ShareFault.{ShareFault}
+use Rattle.ref_share.specs.declared.clean_loop.Polling.{Polling}
+use Rattle.ref_share.specs.declared.clean_loop.Polling.TheVariants.{Waits, Once}
 use Rattle.ref_share.specs.declared.clean_machine.CleanStep.TheVariants as steps
 use Rattle.ref_share.specs.declared.clean_machine.CleanReply.TheVariants as answers
 
@@ -33,6 +36,12 @@ all_of part (r ∷ rs) = part r ++ all_of part rs
 -- the call that gives a hold back
 abbrev pub released : HeapView → HoldName → HeapEntry
 released v hold = entry v.number (heap.Release hold) (replies.Told told.Done)
+
+-- a poll of a thread that waits is never without an answer
+abbrev pub PollsBy : Polling → QueueView → Option (Result Polled ShareFault) → QueueView → Type 0
+PollsBy Waits v (Some answer) w = PollsUntil v answer w
+PollsBy Waits v None w = ⊥
+PollsBy Once v answer w = PollsOnce v answer w
 
 module _ {J : Type 0} where
   -- the calls of a round: the polls of its queue; the release of the notice and, where there was a job, of its hold;
@@ -64,35 +73,34 @@ module _ {J : Type 0} where
   polls_in_vain [] = 0
   polls_in_vain (r ∷ rs) = r.empties + polls_in_vain rs
 
+  -- where it does not wait, no poll but the last found nothing
+  abbrev pub IsQuiet : Polling → List (Round J) → Type 0
+  IsQuiet Waits rs = Unit {0}
+  IsQuiet Once rs = polls_in_vain rs ≡ 0
+
   module _ (q : QueueView) (v : HeapView) (c : CleanView J) where
     -- the three seats have made just the calls of these rounds
     abbrev pub HasGone : List (Round J) → QueueView → HeapView → CleanView J → Type 0
     HasGone rs q' v' c' =
         Made q (all_of (polls_in q) rs) q' × Made v (all_of (releases_in v) rs) v' × Made c (all_of (takes_in c) rs) c'
 
-    -- Rounds were gone through, and then the queue was closed: the answer is how many jobs were run. Or a poll was
-    -- refused, or what follows a notice was: then the answer is that fault.
-    abbrev pub GoesRound : Result ℕ ShareFault → QueueView → HeapView → CleanView J → Type 0
-    GoesRound (Ok count) q' v' c' =
-        (rs : List (Round J)) × (last : QueueView) × HasGone rs last v' c' × PollsUntil last (Ok Closed) q'
-        × (count ≡ jobs_run rs)
-    GoesRound (Err fault) q' v' c' =
+    -- Rounds were gone through, and then a poll found nothing, or that the queue is closed: the answer is how many jobs
+    -- were run. Or a poll was refused, or what follows a notice was: then the answer is that fault.
+    abbrev pub GoesBy : Polling → Result ℕ ShareFault → QueueView → HeapView → CleanView J → Type 0
+    GoesBy polling (Ok count) q' v' c' =
+        (rs : List (Round J)) × (last : QueueView) × HasGone rs last v' c' × IsQuiet polling rs
+        × (PollsBy polling last None q' ⊎ PollsBy polling last (Some (Ok Closed)) q') × (count ≡ jobs_run rs)
+    GoesBy polling (Err fault) q' v' c' =
         (rs : List (Round J)) × (last : QueueView) × (u : HeapView) × (d : CleanView J) × HasGone rs last u d
-        × ((PollsUntil last (Err fault) q' × (v' ≡ u) × (c' ≡ d))
-        ⊎ ((notice : HeldNotice) × PollsUntil last (Ok (Took notice)) q' × CleansDead notice u d (Err fault) v' c'))
-
-    -- the last poll found nothing, or that the queue is closed
-    abbrev pub FindsNone : QueueView → QueueView → Type 0
-    FindsNone last q' = PollsOnce last None q' ⊎ PollsOnce last (Some (Ok Closed)) q'
-
-    -- The same, without a poll that finds nothing but the last, which ends it.
-    abbrev pub GoesOn : Result ℕ ShareFault → QueueView → HeapView → CleanView J → Type 0
-    GoesOn (Ok count) q' v' c' =
-        (rs : List (Round J)) × (last : QueueView) × HasGone rs last v' c' × (polls_in_vain rs ≡ 0)
-        × FindsNone last q' × (count ≡ jobs_run rs)
-    GoesOn (Err fault) q' v' c' =
-        (rs : List (Round J)) × (last : QueueView) × (u : HeapView) × (d : CleanView J) × HasGone rs last u d
-        × (polls_in_vain rs ≡ 0)
-        × ((PollsOnce last (Some (Err fault)) q' × (v' ≡ u) × (c' ≡ d))
-        ⊎ ((notice : HeldNotice) × PollsOnce last (Some (Ok (Took notice))) q'
+        × IsQuiet polling rs
+        × ((PollsBy polling last (Some (Err fault)) q' × (v' ≡ u) × (c' ≡ d))
+        ⊎ ((notice : HeldNotice) × PollsBy polling last (Some (Ok (Took notice))) q'
         × CleansDead notice u d (Err fault) v' c'))
+
+    -- so of a thread that waits for each notice, until the queue is closed
+    abbrev pub GoesRound : Result ℕ ShareFault → QueueView → HeapView → CleanView J → Type 0
+    GoesRound = GoesBy Waits
+
+    -- and of one that takes those that stand
+    abbrev pub GoesOn : Result ℕ ShareFault → QueueView → HeapView → CleanView J → Type 0
+    GoesOn = GoesBy Once

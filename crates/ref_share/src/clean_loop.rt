@@ -3,7 +3,7 @@
 ghost use Rattle.std.specs.Prelude.{◌≡◌, ◌+◌, ◌<◌, length};
 ghost use Rattle.ref_turn.specs.Seats.{Longer};
 ghost use Rattle.ref_turn.specs.Turns.{view};
-ghost use Rattle.ref_share.specs.CleanLoops.{GoesRound, GoesOn};
+ghost use Rattle.ref_share.specs.CleanLoops.{GoesBy, GoesRound, GoesOn, PollsBy};
 ghost use Rattle.ref_share.specs.CleanSeats.{IsCleanSeat};
 ghost use Rattle.ref_share.specs.Cleanings.{CleansDead};
 ghost use Rattle.ref_share.specs.HeapSeats.{heap_view, IsHeapSeat};
@@ -25,6 +25,15 @@ pub trait Gate {
 
     /// The job was run.
     fn after(&self, ran: Ran);
+}
+
+// How the rounds ask for the next notice.
+#[derive(Clone, Copy)]
+enum Polling {
+    // They wait until one comes, or the queue is closed.
+    Waits,
+    // They take one that stands.
+    Once,
 }
 
 impl<A: Allocator + Copy> SharedCleaner<A> {
@@ -57,19 +66,16 @@ impl<A: Allocator + Copy> SharedCleaner<A> {
         ensures goes { GoesRound (queue_view queue_seat.old) (heap_view heap_seat.old) (view seat.old.seat)
             result (queue_view queue_seat.new) (heap_view heap_seat.new) (view seat.new.seat) }
     {
-        let mut count = 0;
-        for _ in rt.forever() {
-            match queue.remove_wait(rt, queue_seat)? {
-                Polled::Took(notice) => {
-                    if self.clean_dead(rt, seat, heap, heap_seat, notice, gate)? {
-                        count = self.one_more(seat, count);
-                    }
-                }
-                // Who waits is told of nothing but the end.
-                Polled::Closed | Polled::Empty | Polled::TimedOut => break,
-            }
-        }
-        Ok(count)
+        self.rounds(
+            rt,
+            seat,
+            heap,
+            heap_seat,
+            queue,
+            queue_seat,
+            gate,
+            Polling::Waits,
+        )
     }
 
     /// Runs the jobs of what is gone whose notices stand now, and answers how many it ran: as `clean_loop`, but that it
@@ -94,9 +100,41 @@ impl<A: Allocator + Copy> SharedCleaner<A> {
         ensures goes { GoesOn (queue_view queue_seat.old) (heap_view heap_seat.old) (view seat.old.seat)
             result (queue_view queue_seat.new) (heap_view heap_seat.new) (view seat.new.seat) }
     {
+        self.rounds(
+            rt,
+            seat,
+            heap,
+            heap_seat,
+            queue,
+            queue_seat,
+            gate,
+            Polling::Once,
+        )
+    }
+
+    // Rounds of a poll and what follows its notice, until a poll gives none. How many jobs were run.
+    fn rounds<R: Wait, G: Gate>(
+        &self,
+        rt: &R,
+        seat: &mut CleanSeat<A>,
+        heap: &SharedHeap<A>,
+        heap_seat: &mut HeapSeat<A>,
+        queue: &SharedQueue<A>,
+        queue_seat: &mut QueueSeat<A>,
+        gate: &G,
+        polling: Polling,
+    ) -> Result<u64, ShareFault>
+        requires seats { IsCleanSeat self.now.turn seat.old.seat × IsHeapSeat heap.now heap_seat.old }
+        requires queue_seat { IsQueueSeat queue.now queue_seat.old }
+        ensures seat { IsCleanSeat self.now.turn seat.new.seat }
+        ensures heap_seat { IsHeapSeat heap.now heap_seat.new }
+        ensures queue_seat { IsQueueSeat queue.now queue_seat.new }
+        ensures goes { GoesBy (queue_view queue_seat.old) (heap_view heap_seat.old) (view seat.old.seat) polling
+            result (queue_view queue_seat.new) (heap_view heap_seat.new) (view seat.new.seat) }
+    {
         let mut count = 0;
         for _ in rt.forever() {
-            let Some(answer) = queue.poll(rt, queue_seat) else {
+            let Some(answer) = poll_by(rt, queue, queue_seat, polling) else {
                 break;
             };
             match answer? {
@@ -105,6 +143,7 @@ impl<A: Allocator + Copy> SharedCleaner<A> {
                         count = self.one_more(seat, count);
                     }
                 }
+                // A poll tells of nothing else but the end.
                 Polled::Closed | Polled::Empty | Polled::TimedOut => break,
             }
         }
@@ -153,5 +192,22 @@ impl<A: Allocator + Copy> SharedCleaner<A> {
     {
         let _turns = self.served(seat);
         count + 1
+    }
+}
+
+// A poll of the queue, in this way; none where nothing stood.
+fn poll_by<R: Wait, A: Allocator + Copy>(
+    rt: &R,
+    queue: &SharedQueue<A>,
+    seat: &mut QueueSeat<A>,
+    polling: Polling,
+) -> Option<Result<Polled, ShareFault>>
+    requires { IsQueueSeat queue.now seat.old }
+    ensures seat { IsQueueSeat queue.now seat.new }
+    ensures polls { PollsBy polling (queue_view seat.old) result (queue_view seat.new) }
+{
+    match polling {
+        Polling::Waits => Some(queue.remove_wait(rt, seat)),
+        Polling::Once => queue.poll(rt, seat),
     }
 }

@@ -1,7 +1,8 @@
 use Rattle.std.proofs.Common.{◌≡◌, List}
 use Rattle.ref_share.proofs.Common.{view, Round, HasGone, jobs_run, heap_view, IsHeapSeat, queue_view, IsQueueSeat}
+use Rattle.ref_share.specs.CleanLoops.{IsQuiet}
 use Rattle.ref_share.specs.CleanSeats.{IsCleanSeat}
-use Rattle.ref_share.proofs.shared_cleaner.SharedCleaner.clean_loop.Given as goal
+use Rattle.ref_share.proofs.shared_cleaner.SharedCleaner.rounds.Given as goal
 
 abbrev pub invariant-loop : goal.invariant-loop
 invariant-loop g l =
@@ -13,4 +14,5 @@ invariant-loop g l =
     × IsQueueSeat l.queue l.queue_seat
     × ((rs : List (Round _))
     × HasGone q v c rs (queue_view l.queue_seat) (heap_view l.heap_seat) (view l.seat.seat)
+    × IsQuiet l.polling rs
     × (l.count ≡ jobs_run rs))
