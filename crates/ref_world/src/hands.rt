@@ -4,6 +4,7 @@ ghost use Rattle.std.specs.Prelude.{◌≡◌, IfOk, OnOk, OnErr, Some, None, re
 ghost use Rattle.std.specs.Prelude.{slice_set};
 ghost use Rattle.ref_base.specs.Refusals.{unless, empty_hand_refusal};
 ghost use Rattle.ref_objects.specs.Grounds.{IsRefused};
+ghost use Rattle.ref_world.specs.AskedSteps.{received};
 ghost use Rattle.ref_world.specs.Cores.{first_hands, hand_in, with_hand_in, filling_refusal, emptying_refusal};
 
 use crate::WorldNotice;
@@ -81,6 +82,16 @@ impl<A: Allocator + Copy> Hands<A> {
         match before {
             None => {}
             Some(_) => unreachable!(),
+        }
+    }
+
+    // An empty hand then holds this, if it is a notice.
+    pub(crate) fn fill_if_any(&mut self, who: Actor, notice: Option<WorldNotice>)
+        requires { filling_refusal self.old who ≡ None }
+        ensures { self.new ≡ received self.old who notice }
+    {
+        if let Some(notice) = notice {
+            self.fill(who, notice);
         }
     }
 

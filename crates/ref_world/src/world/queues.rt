@@ -21,9 +21,7 @@ impl<A: Allocator + Copy> World<A> {
         let notice = self.hands.take(from)?;
         let queue = &mut self.queues[notice.queue().0 as usize];
         let (reply, left) = put_one(queue, notice);
-        if let Some(notice) = left {
-            self.hands.fill(back, notice);
-        }
+        self.hands.fill_if_any(back, left);
         reply
     }
 
@@ -34,9 +32,7 @@ impl<A: Allocator + Copy> World<A> {
         self.check_queue(mutator, queue)?;
         self.hands.check_empty(Actor::Mutator(mutator))?;
         let (reply, taken) = poll_one(&mut self.queues[queue.0 as usize]);
-        if let Some(notice) = taken {
-            self.hands.fill(Actor::Mutator(mutator), notice);
-        }
+        self.hands.fill_if_any(Actor::Mutator(mutator), taken);
         Ok(reply)
     }
 

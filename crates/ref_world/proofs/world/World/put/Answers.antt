@@ -1,7 +1,6 @@
-use Rattle.std.proofs.Common.{◌≡◌, None, Some, Option, refl, subst, ◌∙◌, arith}
+use Rattle.std.proofs.Common.{◌≡◌, ◌∙◌, arith}
 use Rattle.std.proofs.lemmas.Result.{err_from_is_err_and}
-use Rattle.ref_world.proofs.Common.{Core, Notice}
-use Rattle.ref_world.specs.QueueReplies.{PutsOne}
+use Rattle.ref_world.proofs.Common.{Core}
 use Rattle.ref_world.proofs.QueueSteps.{put_done}
 use Rattle.ref_world.proofs.ReachedCores.{hand_has_queue}
 use Rattle.ref_world.proofs.Refusals.{empty_at_put}
@@ -28,64 +27,24 @@ index_mut-queue-requires g c =
 pub invariant_of-self : goal.invariant_of-self
 invariant_of-self g c = rw c.in_err-notice.ensures.kept c.self.invariant
 
-pub invariant_of-self-in-Some : goal.invariant_of-self-in-Some
-invariant_of-self-in-Some g c =
+pub invariant_of-self-2 : goal.invariant_of-self-2
+invariant_of-self-2 g c =
     let old : Core =
     record { heap = c.self.inside.heap; hands = c.self.inside.hands; queues = c.self.inside.queues.items } in
     let notice = c.in_ok-notice.notice in
-    let lists = c.index_mut-queue.result.now in
-    let reply = c.put_one-left.result.0 in
     let named : c.index_mut.inside.0 ≡ notice.queue = c.index_mut.view_is ∙ c.queue.ensures in
-    let puts =
-    subst (λ (left : Option Notice). PutsOne lists notice reply left c.put_one-left.new.queue) c.in-Some.is
-    c.put_one-left.ensures in
-    rw (named, c.fill.ensures, c.in_ok-notice.ensures.taken)
-    (put_done old c.self.invariant c.args.actor notice lists c.index_mut.inside.0 named c.in_ok-notice.ensures.refused
-    c.in_ok-notice.ensures.answer c.index_mut-queue.ensures.value reply (Some c.in-Some.notice)
-    c.put_one-left.new.queue puts).1
+    rw (named, c.fill_if_any.ensures, c.in_ok-notice.ensures.taken)
+    (put_done old c.self.invariant c.args.actor notice c.index_mut-queue.result.now c.index_mut.inside.0 named
+    c.in_ok-notice.ensures.refused c.in_ok-notice.ensures.answer c.index_mut-queue.ensures.value
+    c.put_one-left.result.0 c.put_one-left.result.1 c.put_one-left.new.queue c.put_one-left.ensures).1
 
-pub invariant_of-self-in_default : goal.invariant_of-self-in_default
-invariant_of-self-in_default g c =
+pub returns : goal.returns
+returns g c =
     let old : Core =
     record { heap = c.self.inside.heap; hands = c.self.inside.hands; queues = c.self.inside.queues.items } in
     let notice = c.in_ok-notice.notice in
-    let lists = c.index_mut-queue.result.now in
-    let reply = c.put_one-left.result.0 in
     let named : c.index_mut.inside.0 ≡ notice.queue = c.index_mut.view_is ∙ c.queue.ensures in
-    let puts =
-    subst (λ (left : Option Notice). PutsOne lists notice reply left c.put_one-left.new.queue) c.in_default.is
-    c.put_one-left.ensures in
-    rw (named, c.in_ok-notice.ensures.taken)
-    (put_done old c.self.invariant c.args.actor notice lists c.index_mut.inside.0 named c.in_ok-notice.ensures.refused
-    c.in_ok-notice.ensures.answer c.index_mut-queue.ensures.value reply None c.put_one-left.new.queue puts).1
-
-pub returns-in-Some : goal.returns-in-Some
-returns-in-Some g c =
-    let old : Core =
-    record { heap = c.self.inside.heap; hands = c.self.inside.hands; queues = c.self.inside.queues.items } in
-    let notice = c.in_ok-notice.notice in
-    let lists = c.index_mut-queue.result.now in
-    let reply = c.put_one-left.result.0 in
-    let named : c.index_mut.inside.0 ≡ notice.queue = c.index_mut.view_is ∙ c.queue.ensures in
-    let puts =
-    subst (λ (left : Option Notice). PutsOne lists notice reply left c.put_one-left.new.queue) c.in-Some.is
-    c.put_one-left.ensures in
-    rw (← c.self.view_is, named, c.fill.ensures, c.in_ok-notice.ensures.taken)
-    (put_done old c.self.invariant c.args.actor notice lists c.index_mut.inside.0 named c.in_ok-notice.ensures.refused
-    c.in_ok-notice.ensures.answer c.index_mut-queue.ensures.value reply (Some c.in-Some.notice)
-    c.put_one-left.new.queue puts).0
-
-pub returns-in_default : goal.returns-in_default
-returns-in_default g c =
-    let old : Core =
-    record { heap = c.self.inside.heap; hands = c.self.inside.hands; queues = c.self.inside.queues.items } in
-    let notice = c.in_ok-notice.notice in
-    let lists = c.index_mut-queue.result.now in
-    let reply = c.put_one-left.result.0 in
-    let named : c.index_mut.inside.0 ≡ notice.queue = c.index_mut.view_is ∙ c.queue.ensures in
-    let puts =
-    subst (λ (left : Option Notice). PutsOne lists notice reply left c.put_one-left.new.queue) c.in_default.is
-    c.put_one-left.ensures in
-    rw (← c.self.view_is, named, c.in_ok-notice.ensures.taken)
-    (put_done old c.self.invariant c.args.actor notice lists c.index_mut.inside.0 named c.in_ok-notice.ensures.refused
-    c.in_ok-notice.ensures.answer c.index_mut-queue.ensures.value reply None c.put_one-left.new.queue puts).0
+    rw (← c.self.view_is, named, c.fill_if_any.ensures, c.in_ok-notice.ensures.taken)
+    (put_done old c.self.invariant c.args.actor notice c.index_mut-queue.result.now c.index_mut.inside.0 named
+    c.in_ok-notice.ensures.refused c.in_ok-notice.ensures.answer c.index_mut-queue.ensures.value
+    c.put_one-left.result.0 c.put_one-left.result.1 c.put_one-left.new.queue c.put_one-left.ensures).0
