@@ -18,10 +18,9 @@ use Rattle.ref_base.proofs.CountedTraces.{legal_counted}
 use Rattle.ref_base.proofs.NewClears.{IsRising-tail, is_there-rising, has-new_clears}
 use Rattle.ref_base.proofs.OldNames.{legal_numbers}
 use Rattle.ref_base.proofs.OneQueue.{next_heap}
-use Rattle.ref_base.proofs.ReplayKeeps.{but_hands, handed_keeps, queues_keep}
-use Rattle.ref_base.proofs.RowKinds.{queues_lead, row_kind}
+use Rattle.ref_base.proofs.HeapTurns.{at_rest, IsTurn, accepted, turn_keeps, row_turn}
 use Rattle.ref_base.proofs.RunFronts.{goes_on}
-use Rattle.ref_base.proofs.RunLaws.{run_more}
+use Rattle.ref_base.proofs.RunLaws.{run_more, run_on}
 use Rattle.ref_base.proofs.ShownObjects.{shown-no}
 
 -- ---- a reference that has no referent
@@ -168,36 +167,27 @@ heap_cleared n a b step reply is row =
     (omega (arith, under, grows), carries.objects)
 
 -- other hands and queues
-same_cleared : (n : ℕ) (a b : State) → b.next ≡ a.next → but_hands b.world ≡ but_hands a.world → StaysCleared n a
-    → StaysCleared n b
-same_cleared n a b next others is = (
-  subst (λ k. n < k) (sym next) is.0,
-  subst (AllByRecursion (IsCleared n)) (ap (λ (w : World). w.heap.objects) (sym others)) is.1,
+same_cleared : (n : ℕ) (a b : State) → at_rest b ≡ at_rest a → StaysCleared n a → StaysCleared n b
+same_cleared n a b same is = (
+  subst (λ k. n < k) (sym (ap (λ (s : State). s.next) same)) is.0,
+  subst (AllByRecursion (IsCleared n)) (sym (ap (λ (s : State). s.world.heap.objects) same)) is.1,
 )
 
-row_cleared : (n : ℕ) (a : State) (row : Row) (b : State) → AreCounted a.world → StaysCleared n a → IsRow a row b
-    → StaysCleared n b
-row_cleared n a row b counted is h =
-    elim (row_kind a row b counted h) [
-      | inl of ↦ subst (StaysCleared n) (sym of.same) is
-      | inr others ↦ elim others [
-        | inl of ↦
-            same_cleared n a b (ap (λ (s : State). s.next) (queues_lead of))
-            (ap (λ (s : State). but_hands s.world) (queues_lead of) ∙ queues_keep a.world row.step row.reply) is
-        | inr of ↦
-            same_cleared n of.left b (ap (λ (s : State). s.next) of.after)
-            (ap (λ (s : State). but_hands s.world) of.after ∙ handed_keeps of.left.world row.step row.reply)
-            (heap_cleared n a of.left of.asked row.reply is of.accepts)
-      ]
-    ]
+-- so each turn keeps it
+pub turn_cleared : (n : ℕ) (a b : State) (asked : Option NamedStep) (reply : Reply) → IsTurn a asked reply b
+    → StaysCleared n a → StaysCleared n b
+turn_cleared n a b asked reply turn is =
+    turn_keeps (StaysCleared n) (same_cleared n) (λ s c step told none row before. heap_cleared n s c step told before row)
+    a b asked reply turn is
 
-ended_answer : (n : ℕ) (a b : State) (count : ℕ) (fault : Option Fault) → HasOldNumbers a
-    → has (new_clears a.world.heap.objects (doomed_at a)) n ≡ true
-    → IsAnswer a fault steps.EndMark (replies.Doomed count) b → StaysCleared n b
-ended_answer n a b count (Some fault) old new row = let no = row.0 in absurd cc
-ended_answer n a b count None old new row =
-    same_cleared n row.0 b (ap (λ (s : State). s.next) row.2) (ap (λ (s : State). but_hands s.world) row.2)
-    (ended_cleared a row.0 (replies.Doomed count) n old.rising old.objects row.1 new)
+-- and a mark's end begins it
+pub end_clears : (a b : State) (count n : ℕ) → IsRising (numbers a.world.heap.objects)
+    → ((m : ℕ) → is_there a.world.heap.objects m ≡ true → m < a.next)
+    → IsTurn a (Some heap.EndMark) (replies.Doomed count) b
+    → has (new_clears a.world.heap.objects (doomed_at a)) n ≡ true → StaysCleared n b
+end_clears a b count n rising below ends new =
+    let of = accepted a b heap.EndMark (replies.Doomed count) (λ fault no. absurd cc) ends in
+    same_cleared n of.0 b of.3 (ended_cleared a of.0 (replies.Doomed count) n rising below of.2 new)
 
 -- what a mark's end clears reads as cleared from then on
 pub stays_cleared : (config : Config) (front : List Row) (a b : State) (count : ℕ) (rows : List Row) (c : State) (n : ℕ)
@@ -207,11 +197,14 @@ pub stays_cleared : (config : Config) (front : List Row) (a b : State) (count : 
     → referent_of (reference_at c.world.heap n) ≡ None
 stays_cleared config front a b count rows c n first ends later new =
     let row : Row = record { step = steps.EndMark; reply = replies.Doomed count } in
+    let old = legal_numbers config front a first in
     cleared_at c.world.heap.objects n
     (goes_on config (λ past s. StaysCleared n s)
-    (λ past s other t run is h. row_cleared n s other t (legal_counted config past s run) is h)
+    (λ past s other t run is h.
+    turn_cleared n s t _ other.reply (row_turn s other t (legal_counted config past s run) h) is)
     (front ++ row ∷ []) b rows c (run_more (first_state config) front a b row first ends)
-    (ended_answer n a b count (refusal a steps.EndMark) (legal_numbers config front a first) new ends) later).1
+    (end_clears a b count n old.rising old.objects (row_turn a row b (legal_counted config front a first) ends) new)
+    later).1
 
 -- ---- gets
 
@@ -227,27 +220,24 @@ get_none : (c e : State) (m d s k : ℕ) (value : Option ℕ) → value ≡ None
 get_none c e m d s k None is row = let no = row.0 in absurd cc
 get_none c e m d s k (Some n) is row = absurd cc
 
--- a heap answers no object to a get of a reference that has no referent
+-- no get of a reference that has no referent answers an object
 pub no_get : (c e : State) (m d s n k : ℕ) → slot_at c.world.heap m s ≡ Some n
     → referent_of (reference_at c.world.heap n) ≡ None
-    → ¬ (HeapAccepts c (heap.Get m d s) (replies.Object k) e)
-no_get c e m d s n k holds none row =
-    get_none c e m d s k (referent_got (reference_of c.world.heap (slot_at c.world.heap m s)))
+    → ¬ (IsTurn c (Some (heap.Get m d s)) (replies.Object k) e)
+no_get c e m d s n k holds none turn =
+    let of = accepted c e (heap.Get m d s) (replies.Object k) (λ fault no. absurd cc) turn in
+    get_none c of.0 m d s k (referent_got (reference_of c.world.heap (slot_at c.world.heap m s)))
     (ap (λ (held : Option ℕ). referent_got (reference_of c.world.heap held)) holds
-    ∙ got_of (reference_at c.world.heap n) none) row
+    ∙ got_of (reference_at c.world.heap n) none) of.2
 
-get_answers : (c e : State) (m d s n k : ℕ) (fault : Option Fault) → slot_at c.world.heap m s ≡ Some n
-    → referent_of (reference_at c.world.heap n) ≡ None
-    → IsAnswer c fault (steps.Get m d s) (replies.Object k) e → ⊥
-get_answers c e m d s n k (Some fault) holds none row = let no = row.0 in absurd cc
-get_answers c e m d s n k None holds none row = no_get c row.0 m d s n k holds none row.1
-
--- and no get of it answers an object
+-- so none of what a mark's end cleared does
 pub never_got : (config : Config) (front : List Row) (a b : State) (count : ℕ) (rows : List Row) (c : State) (n : ℕ)
     (m d s k : ℕ) (e : State) → IsRun (first_state config) front a
     → IsRow a (record { step = steps.EndMark; reply = replies.Doomed count }) b → IsRun b rows c
     → has (new_clears a.world.heap.objects (doomed_at a)) n ≡ true → slot_at c.world.heap m s ≡ Some n
     → ¬ (IsRow c (record { step = steps.Get m d s; reply = replies.Object k }) e)
 never_got config front a b count rows c n m d s k e first ends later new holds row =
-    get_answers c e m d s n k (refusal c (steps.Get m d s)) holds
-    (stays_cleared config front a b count rows c n first ends later new) row
+    let run = run_on (first_state config) front a b c (record { step = steps.EndMark; reply = replies.Doomed count }) rows
+    first ends later in
+    no_get c e m d s n k holds (stays_cleared config front a b count rows c n first ends later new)
+    (row_turn c (record { step = steps.Get m d s; reply = replies.Object k }) e (legal_counted config _ c run) row)

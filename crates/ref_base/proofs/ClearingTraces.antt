@@ -2,7 +2,7 @@
 use Rattle.std.proofs.Common.{◌≡◌, ℕ, true, false, ◌==◌, ◌&&◌, List, [], ◌∷◌, ◌++◌, length, replicate}
 use Rattle.std.proofs.Common.{zero, suc, ◌<◌, Option, Some, None, inl, inr, refl, sym, ap, ◌∙◌, subst, append_assoc}
 use Rattle.std.specs.Prelude.{slice_index_or, slice_set, is_some}
-use Rattle.std.proofs.lemmas.Bool.{cases_eq, eqb-true, ne_eqb, both_ways, and_right}
+use Rattle.std.proofs.lemmas.Bool.{cases_eq, eqb-true, ltb-true, ne_eqb, both_ways, and_right}
 use Rattle.std.proofs.lemmas.List.{append-nil, get_or-set_same, get_or-set_other}
 use Rattle.ref_base.proofs.Common.{reference_at, registered_in, World, Notice, Pending, SameOthers, first_world}
 use Rattle.ref_base.proofs.Common.{hand_of, told_object, told_notice, is_done, told_taken, heap_step, put_in, after}
@@ -13,10 +13,9 @@ use Rattle.ref_base.specs.WorkerOrder.{cleared_by, cleared_in}
 use Rattle.ref_base.specs.ClearingOrder.{added_by, added_from}
 use Rattle.ref_base.specs.declared.step.Step.TheVariants as steps
 use Rattle.ref_base.specs.declared.reply.Reply.TheVariants as replies
-use Rattle.ref_base.proofs.SoundWorlds.{IsSound, first_hand, first_sound}
+use Rattle.ref_base.proofs.SoundWorlds.{first_hand, first_sound}
 use Rattle.ref_base.proofs.Places.{place_there}
 use Rattle.ref_base.proofs.RowForms.{unless_passes}
-use Rattle.ref_base.proofs.RowLaws.{worker_within}
 use Rattle.ref_base.proofs.CountedTraces.{legal_counted}
 use Rattle.ref_base.proofs.CarryLaws.{OfHand}
 use Rattle.ref_base.proofs.ProvenTraces.{made_at, registered_more, legal_known}
@@ -93,7 +92,7 @@ adds k q a b (Worker j) position tells have hands pends =
 -- ---- rows
 
 hands_on : (k q : ℕ) (a b : State) (j n i : ℕ) (cause : Cause) (fault : Option Fault)
-    → refusal a (steps.Hand j) ≡ fault → IsSound a.world
+    → refusal a (steps.Hand j) ≡ fault → length a.world.worker_hands ≡ a.world.heap.config.workers
     → IsAnswer a fault (steps.Hand j) (replies.Notice n i cause) b
     → hand_of b.world (Worker k)
     ≡ slice_index_or (slice_set a.world.worker_hands j (Some (record { object = n; queue = i; cause = cause }))) k None
@@ -104,10 +103,10 @@ hands_on k q a b j n i cause None is sound row hands moves =
     let tells = hand_given a b j n i cause None is row in
     let first = unless_passes (is_worker a.world.heap j) _ _ is in
     hands_to k q a.world b.world j n i cause tells.first tells.rest tells.pending tells.object tells.queue tells.empty
-    (hand_tells a b j (replies.Notice n i cause) None row) (worker_within a.world j sound first.0) hands moves.pending
+    (hand_tells a b j (replies.Notice n i cause) None row) (rw sound (ltb-true j a.world.heap.config.workers first.0)) hands moves.pending
 
-step_shifts : (whole : List Row) (k q : ℕ) (a b : State) (step : Step) (reply : Reply) → IsSound a.world
-    → HaveCauses a.world
+pub step_shifts : (whole : List Row) (k q : ℕ) (a b : State) (step : Step) (reply : Reply)
+    → length a.world.worker_hands ≡ a.world.heap.config.workers → HaveCauses a.world
     → ((n i : ℕ) → registered_in (reference_at a.world.heap n) ≡ Some i → is_registered whole n i ≡ true)
     → IsAnswer a (refusal a step) step reply b → Moves a (heap_step a.world step) reply b
     → hand_of b.world (Worker k) ≡ hand_of (others_after a.world step reply) (Worker k)
@@ -147,7 +146,7 @@ step_shifts whole k q a b step reply sound have made row moves hands =
 abbrev IsInOrder : ℕ → ℕ → World → (added cleared : List ℕ) → Type 0
 IsInOrder k q w added cleared = Sub (added ++ waiting_in k q w) cleared
 
-row_in_order : (k q : ℕ) (v w : World) (added cleared adds clears : List ℕ) → IsInOrder k q v added cleared
+pub row_in_order : (k q : ℕ) (v w : World) (added cleared adds clears : List ℕ) → IsInOrder k q v added cleared
     → Shifts k q v w adds clears → IsInOrder k q w (added ++ adds) (cleared ++ clears)
 row_in_order k q v w added cleared adds clears before shifts =
     subst (λ ns. Sub ns (cleared ++ clears)) (sym (append_assoc added adds (waiting_in k q w)))
@@ -171,7 +170,7 @@ no_pending_at zero k = refl
 no_pending_at (suc count) zero = refl
 no_pending_at (suc count) (suc k) = no_pending_at count k
 
-nothing_waits : (config : Config) (k q : ℕ) → IsInOrder k q (first_world config) [] []
+pub nothing_waits : (config : Config) (k q : ℕ) → IsInOrder k q (first_world config) [] []
 nothing_waits config k q = rw (first_hand config (Worker k), no_pending_at config.workers k) refl
 
 run_in_order : (config : Config) (whole past : List Row) (a : State) (rows : List Row) (b : State) (k q : ℕ)
@@ -194,7 +193,7 @@ run_in_order config whole past a (row ∷ rows) b k q added cleared is before or
     subst (λ (rs : List Row). is_registered rs n i ≡ true) is
     (registered_more past (row ∷ rows) n i (made_at past a.world.heap.objects n i known.objects there)) in
     let shifts = step_shifts whole k q a mid row.step row.reply
-    (run_sound (first_state config) past a (first_sound config) before) (legal_causes config past a before) made run.1
+    (run_sound (first_state config) past a (first_sound config) before).worker_hands (legal_causes config past a before) made run.1
     (row_moves a row mid (legal_counted config past a before) run.1)
     (same_hand (others_after a.world row.step row.reply) mid.world (Worker k)
     (row_hands a mid row.step row.reply (refusal a row.step) run.1)) in

@@ -41,7 +41,7 @@ unhooked O P C a c m s (Some k) None n q cause mints is row = let no = row.0 in 
 unhooked O P C a c m s (Some k) (Some j) n q cause mints is row =
     as_told P n q cause (replies.Notice k j Own) row.0 (mints k j row.0 is)
 
-answered : (past : List Row) (a b : State) (step : Step) (fault : Option Fault) (n q : ℕ) (cause : Cause)
+pub answered : (past : List Row) (a b : State) (step : Step) (fault : Option Fault) (n q : ℕ) (cause : Cause)
     → gives_notices step ≡ true → Known past a.world → IsAnswer a fault step (replies.Notice n q cause) b
     → IsProven (up_to past step n q cause) (record { object = n; queue = q; cause = cause })
 answered past a b step (Some fault) n q cause gives known row = let no = row.0 in absurd cc

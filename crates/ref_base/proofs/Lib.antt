@@ -38,6 +38,7 @@ pub mod ProvenTraces
 pub mod GivenNotices
 pub mod HeapMoves
 pub mod RowKinds
+pub mod HeapTurns
 pub mod RunFronts
 pub mod OneQueue
 pub mod SeenObjects

@@ -6,7 +6,7 @@ use Rattle.std.proofs.lemmas.Bool.{cases_Bool, false≢true}
 use Rattle.ref_base.proofs.Common.{Object, object_at, is_there, numbers, IsRising, any_referent, is_new_clear, World}
 use Rattle.ref_base.proofs.Common.{pending_of, with_heap, NamedStep, replayed, State, first_state, heap_refusal}
 use Rattle.ref_base.proofs.Common.{HeapAccepts, without, shown, mark_ended, doomed_at, IsRun, is_waiting}
-use Rattle.ref_base.proofs.Common.{HasOldNumbers, Config, Reply, Row}
+use Rattle.ref_base.proofs.Common.{HasOldNumbers, Config, Reply, Row, heap_step}
 use Rattle.ref_base.specs.declared.heap_step.HeapStep.TheVariants as heap
 use Rattle.ref_base.proofs.CarryRows.{all_more, nothing_pending}
 use Rattle.ref_base.proofs.CountedTraces.{legal_counted}
@@ -14,8 +14,8 @@ use Rattle.ref_base.proofs.HeapMoves.{moved, heap_moves, IsNoEnd}
 use Rattle.ref_base.proofs.ShownObjects.{shown-no}
 use Rattle.ref_base.proofs.SeenObjects.{numbers-cleared_if, rising-without}
 use Rattle.ref_base.proofs.ReplayUnder.{made_number}
-use Rattle.ref_base.proofs.ReplayKeeps.{but_hands, handed_keeps, queues_keep}
-use Rattle.ref_base.proofs.RowKinds.{queues_lead, IsRefused, IsOfQueues, IsOfHeap, row_kind}
+use Rattle.ref_base.proofs.HeapTurns.{at_rest, IsTurn, row_turn}
+use Rattle.ref_base.proofs.ReplayKeeps.{but_hands}
 use Rattle.ref_base.proofs.RunFronts.{legal_holds}
 use Rattle.ref_base.proofs.OneQueue.{next_heap}
 use Rattle.ref_base.proofs.AgreeHeaps.{Agreeing, there-numbers}
@@ -119,27 +119,20 @@ heap_old gone w a c heap.EndMark reply is none row closed =
 heap_old gone w a c step reply is none row closed = plain_old gone w a c step reply is tt none row closed
 
 -- other hands and queues
-same_old : (a b : State) → but_hands b.world ≡ but_hands a.world → b.next ≡ a.next
-    → IsClosed (λ n. n < a.next) a.world → IsClosed (λ n. n < b.next) b.world
-same_old a b others next closed =
-    subst (λ (k : ℕ). IsClosed (λ n. n < k) b.world) (sym next)
+same_old : (a b : State) → at_rest b ≡ at_rest a → IsClosed (λ n. n < a.next) a.world
+    → IsClosed (λ n. n < b.next) b.world
+same_old a b same closed =
+    let others : but_hands b.world ≡ but_hands a.world = ap (λ (s : State). s.world) same in
+    subst (λ (k : ℕ). IsClosed (λ n. n < k) b.world) (sym (ap (λ (s : State). s.next) same))
     (closed_same (λ n. n < a.next) a.world b.world (ap (λ (w : World). w.heap.slots) others)
     (ap (λ (w : World). w.heap.holds) others) (ap (λ (w : World). w.pending) others)
     (ap (λ (w : World). w.heap.objects) others) closed)
 
-row_old : (gone : List ℕ) (w : World) (a : State) (row : Row) (b : State) → Agreeing gone w a
-    → IsRefused a row b ⊎ (IsOfQueues a row b ⊎ IsOfHeap a row b) → IsClosed (λ n. n < a.next) a.world
-    → IsClosed (λ n. n < b.next) b.world
-row_old gone w a row b is (inl of) closed =
-    subst (λ (s : State). IsClosed (λ n. n < s.next) s.world) (sym of.same) closed
-row_old gone w a row b is (inr (inl of)) closed =
-    same_old a b (ap (λ (s : State). but_hands s.world) (queues_lead of) ∙ queues_keep a.world row.step row.reply)
-    (ap (λ (s : State). s.next) (queues_lead of)) closed
-row_old gone w a row b is (inr (inr of)) closed =
-    same_old of.left b
-    (ap (λ (s : State). but_hands s.world) of.after ∙ handed_keeps of.left.world row.step row.reply)
-    (ap (λ (s : State). s.next) of.after)
-    (heap_old gone w a of.left of.asked row.reply is of.passes of.accepts closed)
+turn_old : (gone : List ℕ) (w : World) (a b : State) (asked : Option NamedStep) (reply : Reply) → Agreeing gone w a
+    → IsTurn a asked reply b → IsClosed (λ n. n < a.next) a.world → IsClosed (λ n. n < b.next) b.world
+turn_old gone w a b asked reply is (inl of) closed = same_old a b of.after closed
+turn_old gone w a b asked reply is (inr of) closed =
+    same_old of.left b of.after (heap_old gone w a of.left of.step reply is of.passes of.accepts closed)
 
 -- ---- after every legal trace
 
@@ -149,8 +142,8 @@ legal_old config rows b run =
     legal_holds config (λ past a. IsClosed (λ n. n < a.next) a.world)
     (λ past a row c run closed h.
     let known = legal_out config past a run in
-    row_old known.0 (replayed config past) a row c known.1
-    (row_kind a row c (legal_counted config past a run) h) closed)
+    turn_old known.0 (replayed config past) a c (heap_step a.world row.step) row.reply known.1
+    (row_turn a row c (legal_counted config past a run) h) closed)
     (record {
       slots = no_slot (λ n. n < 1) (16 * config.mutators);
       holds = λ n held. absurd (false≢true held);

@@ -2,7 +2,7 @@
 use Rattle.std.proofs.Common.{◌≡◌, ℕ, ◌+◌, false, List, [], ◌∷◌, ◌++◌, length, Option, Some, None, refl, sym}
 use Rattle.std.proofs.Common.{ap, ◌∙◌, subst, inl, inr}
 use Rattle.ref_base.proofs.Common.{has, World, Notice, hand_of, NamedStep, heap_step, spending, replayed, State}
-use Rattle.ref_base.proofs.Common.{heap_refusal, HeapAccepts, IsRow, doomed_at, AreCounted, MarkEnded, WasDoomed}
+use Rattle.ref_base.proofs.Common.{IsDead, heap_refusal, HeapAccepts, IsRow, doomed_at, AreCounted, MarkEnded, WasDoomed}
 use Rattle.ref_base.proofs.Common.{Config, Mutator, Phase, Idle, Marking, Clearing, Sweeping, HoldName, Step, Reply}
 use Rattle.ref_base.proofs.Common.{Row}
 use Rattle.ref_base.specs.declared.heap_step.HeapStep.TheVariants as heap
@@ -10,13 +10,13 @@ use Rattle.ref_base.specs.declared.step.Step.TheVariants as steps
 use Rattle.ref_base.specs.declared.reply.Reply.TheVariants as replies
 use Rattle.ref_base.proofs.HeapMoves.{settled, moved, heap_moves, IsNoEnd}
 use Rattle.ref_base.proofs.PhaseLaws.{of_phase}
-use Rattle.ref_base.proofs.RowKinds.{queues_lead, row_kind}
-use Rattle.ref_base.proofs.ReplayKeeps.{EndsNoPhase, but_hands, handed_keeps, queues_keep}
+use Rattle.ref_base.proofs.HeapTurns.{at_rest, IsIdle, IsTurn, row_turn}
+use Rattle.ref_base.proofs.ReplayKeeps.{EndsNoPhase, but_hands}
 use Rattle.ref_base.proofs.AgreeHeaps.{Agreeing, gone_after, not_in}
 use Rattle.ref_base.proofs.AgreeRuns.{gone_next, gone_refused}
 use Rattle.ref_base.proofs.ApartWorlds.{IsClosed}
 use Rattle.ref_base.proofs.ClosedRows.{closed_same}
-use Rattle.ref_base.proofs.MarkShows.{ended, mark_ended, was_doomed, ended_more, doomed_more}
+use Rattle.ref_base.proofs.MarkShows.{RefersToDead, mark_ended, was_doomed, ended_more, doomed_more}
 use Rattle.ref_base.proofs.OutHeaps.{AreOutBy, AreOut, off, doomed_in}
 use Rattle.ref_base.proofs.OutHeaps.{plain_out, end_out}
 use Rattle.ref_base.proofs.MovedParts.{phase_moved, cycle_moved, cleared_moved, FreesNone, doomed_moved}
@@ -34,17 +34,13 @@ more_out Dead Later Shown Shows gone a later shows out = record {
   shown = λ clearing n cleared. shows a.world.cycle n (out.shown clearing n cleared);
 }
 
-rows_more : (config : Config) (rows more : List Row) (gone : List ℕ) (a : State) → AreOut config rows gone a
-    → AreOut config (rows ++ more) gone a
-rows_more config rows more gone a out =
-    more_out (WasDoomed config rows) (WasDoomed config (rows ++ more)) (MarkEnded config rows)
-    (MarkEnded config (rows ++ more)) gone a (doomed_more config rows more) (ended_more config rows more) out
-
 -- a state of which only hands, queues and what marking looks at are other
 same_out : (Dead : ℕ → Type 0) (Shown : ℕ → ℕ → Type 0) (gone : List ℕ) (a b : State) → AreOutBy Dead Shown gone a
-    → but_hands b.world ≡ but_hands a.world → b.doomed ≡ a.doomed → b.cleared ≡ a.cleared
-    → AreOutBy Dead Shown gone b
-same_out Dead Shown gone a b out others doomed clears =
+    → at_rest b ≡ at_rest a → AreOutBy Dead Shown gone b
+same_out Dead Shown gone a b out same =
+    let others : but_hands b.world ≡ but_hands a.world = ap (λ (s : State). s.world) same in
+    let doomed : b.doomed ≡ a.doomed = ap (λ (s : State). s.doomed) same in
+    let clears : b.cleared ≡ a.cleared = ap (λ (s : State). s.cleared) same in
     let phase : b.world.phase ≡ a.world.phase = ap (λ (w : World). w.phase) others in
     let offs : off gone b ≡ off gone a =
     ap (λ (p : Phase). gone ++ doomed_in p b.doomed) phase ∙ ap (λ ds. gone ++ doomed_in a.world.phase ds) doomed in
@@ -138,55 +134,63 @@ module _ (Dead : ℕ → Type 0) (Shown : ℕ → ℕ → Type 0) (gone : List �
       (λ phase. ap (λ (p : Phase). doomed_in p c.doomed) (phase ∙ sweeping))
   heap_out asked reply plain none row = calm asked reply tt tt none row (calm_whole asked reply tt tt tt row)
 
--- ---- rows
+-- ---- turns
 
-module _ (config : Config) (past : List Row) (gone : List ℕ) (a : State) (row : Row)
-    (is : Agreeing gone (replayed config past) a) (out : AreOut config past gone a) where
-  -- a row of the heap with which a step of the world goes on
-  asked_out : (c : State) (asked : NamedStep) → heap_step a.world row.step ≡ Some asked → heap_refusal 0 a asked ≡ None
-      → HeapAccepts a asked row.reply c → AreOut config (past ++ row ∷ []) (gone_after a gone asked row.reply) c
-  asked_out c heap.EndMark asks none accepts =
-      let later : (r : Row) → Type 0 = λ r. AreOut config (past ++ r ∷ []) gone c in
-      let count : ℕ = length (doomed_at a) in
-      let same : row ≡ record { step = steps.EndMark; reply = replies.Doomed count } =
-      ap (λ (s : Step). record row { step = s }) (is_end a.world row.step asks)
-      ∙ ap (λ (r : Reply). record { step = steps.EndMark; reply = r }) accepts.answer in
-      subst later (sym same)
-      (end_out (WasDoomed config past) (MarkEnded config past) gone (replayed config past) a c is out
-      (WasDoomed config (ended config past count)) (MarkEnded config (ended config past count)) row.reply
-      (doomed_more config past _) (was_doomed config past count) (mark_ended config past count)
-      (of_phase 0 a heap.EndMark none) accepts)
-  asked_out c asked asks none accepts =
-      rows_more config past (row ∷ []) (gone_after a gone asked row.reply) c
-      (heap_out (WasDoomed config past) (MarkEnded config past) gone (replayed config past) a c is out asked row.reply
-      tt none accepts)
+pub idle_gone : (gone : List ℕ) (a b : State) (asked : Option NamedStep) (reply : Reply) → IsIdle a asked reply b
+    → gone_next a gone asked reply ≡ gone
+idle_gone gone a b asked reply of =
+    elim of.tells [
+      | inl none ↦ ap (λ (o : Option NamedStep). gone_next a gone o reply) none
+      | inr refused ↦
+          ap (λ (r : Reply). gone_next a gone asked r) refused.1 ∙ gone_refused a gone asked refused.0
+    ]
 
-  pub row_out : (b : State) → AreCounted a.world → IsRow a row b
-      → AreOut config (past ++ row ∷ []) (gone_next a gone (heap_step a.world row.step) row.reply) b
-  row_out b counted h =
-      let rows : List Row = past ++ row ∷ [] in
-      elim (row_kind a row b counted h) [
+-- after a turn more may be found dead and shown, and at a mark's end what that found and showed
+module _ (Dead Later : ℕ → Type 0) (Shown Shows : ℕ → ℕ → Type 0) (gone : List ℕ) (w : World) (a : State)
+    (asked : Option NamedStep) (reply : Reply) (is : Agreeing gone w a) (out : AreOutBy Dead Shown gone a)
+    (later : (n : ℕ) → Dead n → Later n) (shows : (cycle n : ℕ) → Shown cycle n → Shows cycle n)
+    (ends : (count : ℕ) → asked ≡ Some heap.EndMark → reply ≡ replies.Doomed count
+    → ((n : ℕ) → IsDead w n → Later n) × ((n : ℕ) → RefersToDead w n → Shows w.cycle n)) where
+  taken : (c : State) (step : NamedStep) → asked ≡ Some step → heap_refusal 0 a step ≡ None
+      → HeapAccepts a step reply c → AreOutBy Later Shows (gone_after a gone step reply) c
+  taken c heap.EndMark asks none row =
+      let told = ends (length (doomed_at a)) asks row.answer in
+      end_out Dead Shown gone w a c is out Later Shows reply later told.0 told.1 (of_phase 0 a heap.EndMark none) row
+  taken c step asks none row =
+      more_out Dead Later Shown Shows (gone_after a gone step reply) c later shows
+      (heap_out Dead Shown gone w a c is out step reply tt none row)
+
+  pub turn_out : (b : State) → IsTurn a asked reply b → AreOutBy Later Shows (gone_next a gone asked reply) b
+  turn_out b turn =
+      elim turn [
         | inl of ↦
-            subst (λ (r : Reply). AreOut config rows (gone_next a gone (heap_step a.world row.step) r) b)
-            (sym of.answer)
-            (subst (λ ns. AreOut config rows ns b) (sym (gone_refused a gone (heap_step a.world row.step) of.fault))
-            (subst (λ (s : State). AreOut config rows gone s) (sym of.same)
-            (rows_more config past (row ∷ []) gone a out)))
-        | inr others ↦ elim others [
-          | inl of ↦
-              subst (λ (asked : Option NamedStep). AreOut config rows (gone_next a gone asked row.reply) b)
-              (sym of.asks)
-              (rows_more config past (row ∷ []) gone b
-              (same_out (WasDoomed config past) (MarkEnded config past) gone a b out
-              (ap (λ (s : State). but_hands s.world) (queues_lead of) ∙ queues_keep a.world row.step row.reply)
-              (ap (λ (s : State). s.doomed) (queues_lead of)) (ap (λ (s : State). s.cleared) (queues_lead of))))
-          | inr of ↦
-              let now : List ℕ = gone_after a gone of.asked row.reply in
-              subst (λ (asked : Option NamedStep). AreOut config rows (gone_next a gone asked row.reply) b)
-              (sym of.asks)
-              (same_out (WasDoomed config rows) (MarkEnded config rows) now of.left b
-              (asked_out of.left of.asked of.asks of.passes of.accepts)
-              (ap (λ (s : State). but_hands s.world) of.after ∙ handed_keeps of.left.world row.step row.reply)
-              (ap (λ (s : State). s.doomed) of.after) (ap (λ (s : State). s.cleared) of.after))
-        ]
+            subst (λ (ns : List ℕ). AreOutBy Later Shows ns b) (sym (idle_gone gone a b asked reply of))
+            (same_out Later Shows gone a b (more_out Dead Later Shown Shows gone a later shows out) of.after)
+        | inr of ↦
+            subst (λ (o : Option NamedStep). AreOutBy Later Shows (gone_next a gone o reply) b) (sym of.asks)
+            (same_out Later Shows (gone_after a gone of.step reply) of.left b
+            (taken of.left of.step of.asks of.passes of.accepts) of.after)
       ]
+
+-- of what the rows of a trace tell
+pub row_out : (config : Config) (past : List Row) (gone : List ℕ) (a : State) (row : Row)
+    → Agreeing gone (replayed config past) a → AreOut config past gone a → (b : State) → AreCounted a.world
+    → IsRow a row b → AreOut config (past ++ row ∷ []) (gone_next a gone (heap_step a.world row.step) row.reply) b
+row_out config past gone a row is out b counted h =
+    let asked : Option NamedStep = heap_step a.world row.step in
+    let same : (count : ℕ) → asked ≡ Some heap.EndMark → row.reply ≡ replies.Doomed count
+    → record { step = steps.EndMark; reply = replies.Doomed count } ≡ row =
+    λ count asks told.
+    sym (ap (λ (s : Step). record row { step = s }) (is_end a.world row.step asks)
+    ∙ ap (λ (r : Reply). record { step = steps.EndMark; reply = r }) told) in
+    turn_out (WasDoomed config past) (WasDoomed config (past ++ row ∷ [])) (MarkEnded config past)
+    (MarkEnded config (past ++ row ∷ [])) gone (replayed config past) a asked row.reply is out
+    (doomed_more config past (row ∷ [])) (ended_more config past (row ∷ []))
+    (λ count asks told. (
+      λ n dead.
+          subst (λ (r : Row). WasDoomed config (past ++ r ∷ []) n) (same count asks told)
+          (was_doomed config past count n dead),
+      λ n refers.
+          subst (λ (r : Row). MarkEnded config (past ++ r ∷ []) (replayed config past).cycle n) (same count asks told)
+          (mark_ended config past count n refers),
+    )) b (row_turn a row b counted h)

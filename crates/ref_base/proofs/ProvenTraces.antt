@@ -215,7 +215,7 @@ lifted past a row known =
     (λ o is q there. registered_more past (row ∷ []) o.no q (is q there))
     (λ notice is. proven_more past (row ∷ []) notice is) (stays_at a.world.cycle row.step) known
 
-row_known : (past : List Row) (a : State) (row : Row) (b : State) → Known past a.world → IsRow a row b
+pub row_known : (past : List Row) (a : State) (row : Row) (b : State) → Known past a.world → IsRow a row b
     → Known (past ++ row ∷ []) b.world
 row_known past a row b known h =
     let more : List Row = past ++ row ∷ [] in

@@ -16,6 +16,13 @@ pub run_more : (a : State) (rows : List Row) (b c : State) (row : Row) → IsRun
 run_more a [] b c row run next = (c, subst (λ (s : State). IsRow s row c) run next, refl)
 run_more a (first ∷ rows) b c row run next = (run.0, run.1, run_more run.0 rows b c row run.2 next)
 
+-- and by some more
+pub run_on : (a : State) (front : List Row) (b c d : State) (row : Row) (rows : List Row) → IsRun a front b
+    → IsRow b row c → IsRun c rows d → IsRun a (front ++ row ∷ rows) d
+run_on a [] b c d row rows run next more = (c, subst (λ (s : State). IsRow s row c) run next, more)
+run_on a (first ∷ front) b c d row rows run next more =
+    (run.0, run.1, run_on run.0 front b c d row rows run.2 next more)
+
 -- the front of a legal trace is legal
 pub front_is_legal : (config : Config) (front back : List Row) → IsLegal config (front ++ back) → IsLegal config front
 front_is_legal config front back legal =

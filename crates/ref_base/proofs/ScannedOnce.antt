@@ -11,7 +11,7 @@ use Rattle.ref_base.proofs.Common.{has, Notice, hand_of, NamedStep, heap_step, s
 use Rattle.ref_base.proofs.Common.{unless, heap_refusal, refusal, is_in, is_worker, IsLeft, list_at, emptied}
 use Rattle.ref_base.proofs.Common.{IsHeapAnswer, IsHeapRow, IsAnswer, IsRow, IsRun, AcceptsAsking, IsLegal}
 use Rattle.ref_base.proofs.Common.{scanned_in_cycle, Config, Mutator, Fault, WrongPhase, GreyLeft, Marking, Step}
-use Rattle.ref_base.proofs.Common.{Reply, Row}
+use Rattle.ref_base.proofs.Common.{Reply, Row, World, HoldName, hold_of, HeapAccepts}
 use Rattle.ref_base.specs.ScannedRows.{scanned_with, scanned_from}
 use Rattle.ref_base.specs.declared.heap_step.HeapStep.TheVariants as heap
 use Rattle.ref_base.specs.declared.step.Step.TheVariants as steps
@@ -20,10 +20,11 @@ use Rattle.ref_base.proofs.HasLaws.{has-list_any, has-cases, has-single}
 use Rattle.ref_base.proofs.FoundLists.{has-with_last, length-emptied}
 use Rattle.ref_base.proofs.CountedTraces.{legal_counted}
 use Rattle.ref_base.proofs.LeftObjects.{LeftMeans}
+use Rattle.ref_base.proofs.HeapTurns.{at_rest, IsTurn, row_turn}
 use Rattle.ref_base.proofs.RunFronts.{legal_holds}
 use Rattle.ref_base.proofs.LegalQueues.{distinct_nil}
 use Rattle.ref_base.proofs.RowForms.{unless_passes}
-use Rattle.ref_base.proofs.RowMoves.{scanned_after, Moves, row_moves}
+use Rattle.ref_base.proofs.RowMoves.{scanned_after, Moves, heap_tells, row_moves}
 
 -- ---- a mark goes on only while an object is left
 
@@ -72,7 +73,7 @@ pub record HasScanned (ns : List ℕ) (a : State) : Type 0 where
   pub there : (n : ℕ) → has ns n ≡ true → has (joined a.scanned) n ≡ true
   pub workers : length a.scanned ≡ a.world.heap.config.workers
 
-pub still_scanned : (ns : List ℕ) (a b : State) → HasScanned ns a → b.scanned ≡ a.scanned
+still_scanned : (ns : List ℕ) (a b : State) → HasScanned ns a → b.scanned ≡ a.scanned
     → b.world.heap.config ≡ a.world.heap.config → HasScanned ns b
 still_scanned ns a b scanned same config = record {
   distinct = scanned.distinct;
@@ -84,15 +85,13 @@ still_scanned ns a b scanned same config = record {
 abbrev pub ScansAnew : State → ℕ → ℕ → Type 0
 ScansAnew a k n = (k < a.world.heap.config.workers) × (has (joined a.scanned) n ≡ false)
 
-pub scan_tells : (heap_no : ℕ) (a b : State) (k n : ℕ) (fault : Option Fault)
-    → heap_refusal heap_no a (heap.Scan k) ≡ fault → IsHeapAnswer a fault (heap.Scan k) (replies.Scanned n) b
-    → ScansAnew a k n
-scan_tells heap_no a b k n (Some fault) is row = let no = row.0 in absurd cc
-scan_tells heap_no a b k n None is row =
-    let first = unless_passes (is_worker a.world.heap k) _ _ is in
+pub scan_tells : (a b : State) (k n : ℕ) → heap_refusal 0 a (heap.Scan k) ≡ None
+    → HeapAccepts a (heap.Scan k) (replies.Scanned n) b → ScansAnew a k n
+scan_tells a b k n none row =
+    let first = unless_passes (is_worker a.world.heap k) _ _ none in
     (ltb-true k a.world.heap.config.workers first.0, row.1.2)
 
-pub one_more : (ns : List ℕ) (a b : State) (k n : ℕ) → HasScanned ns a
+one_more : (ns : List ℕ) (a b : State) (k n : ℕ) → HasScanned ns a
     → ScansAnew a k n → b.scanned ≡ scanned_after a.scanned (Some (heap.Scan k)) (replies.Scanned n)
     → b.world.heap.config ≡ a.world.heap.config → HasScanned (ns ++ n ∷ []) b
 one_more ns a b k n scanned tells is config =
@@ -118,7 +117,7 @@ one_more ns a b k n scanned tells is config =
           ∙ scanned.workers ∙ ap (λ (c : Config). c.workers) (sym config);
     }
 
-pub begins : (ns : List ℕ) (a b : State) → HasScanned ns a → b.scanned ≡ emptied a.scanned
+begins : (ns : List ℕ) (a b : State) → HasScanned ns a → b.scanned ≡ emptied a.scanned
     → b.world.heap.config ≡ a.world.heap.config → HasScanned [] b
 begins ns a b scanned is config = record {
   distinct = distinct_nil;
@@ -127,34 +126,69 @@ begins ns a b scanned is config = record {
       ∙ ap (λ (c : Config). c.workers) (sym config);
 }
 
--- what spends a hold scans nothing
-adopt_scans : (hand : Option Notice) (lists : List (List ℕ)) (m d : ℕ) (reply : Reply)
-    → scanned_after lists (spending (λ hold. heap.Adopt m d hold) hand) reply ≡ lists
-adopt_scans None lists m d reply = refl
-adopt_scans (Some notice) lists m d reply = refl
+-- what the cycle scanned after a turn
+abbrev pub scanned_then : List ℕ → Option NamedStep → Reply → List ℕ
+scanned_then ns (Some (heap.Begin now how)) (replies.Cycle n) = []
+scanned_then ns (Some (heap.Scan k)) (replies.Scanned n) = ns ++ n ∷ []
+scanned_then ns asked reply = ns
 
-release_scans : (hand : Option Notice) (lists : List (List ℕ)) (reply : Reply)
-    → scanned_after lists (spending (λ hold. heap.Release hold) hand) reply ≡ lists
-release_scans None lists reply = refl
-release_scans (Some notice) lists reply = refl
+refused_then : (ns : List ℕ) (asked : Option NamedStep) (fault : Fault)
+    → scanned_then ns asked (replies.Refused fault) ≡ ns
+refused_then ns None fault = refl
+refused_then ns (Some (heap.Begin now how)) fault = refl
+refused_then ns (Some asked) fault = refl
 
-step_scanned : (ns : List ℕ) (a b : State) (step : Step) (reply : Reply) → HasScanned ns a
-    → IsAnswer a (refusal a step) step reply b → Moves a (heap_step a.world step) reply b
-    → HasScanned (scanned_with ns step reply) b
-step_scanned ns a b (steps.Scan k) (replies.Scanned n) scanned row moves =
-    let fault : Option Fault = refusal a (steps.Scan k) in
-    let asked = of_heap a b (heap.Scan k) (steps.Scan k) (replies.Scanned n) fault refl row in
-    one_more ns a b k n scanned (scan_tells 0 a asked.0 k n fault refl asked.1) moves.scanned moves.config
-step_scanned ns a b (steps.Begin now how) (replies.Cycle n) scanned row moves =
+taken_scanned : (ns : List ℕ) (a b : State) (step : NamedStep) (reply : Reply) → heap_refusal 0 a step ≡ None
+    → HeapAccepts a step reply b → Moves a (Some step) reply b → HasScanned ns a
+    → HasScanned (scanned_then ns (Some step) reply) b
+taken_scanned ns a b (heap.Scan k) (replies.Scanned n) none row moves scanned =
+    one_more ns a b k n scanned (scan_tells a b k n none row) moves.scanned moves.config
+taken_scanned ns a b (heap.Begin now how) (replies.Cycle n) none row moves scanned =
     begins ns a b scanned moves.scanned moves.config
-step_scanned ns a b (steps.Adopt m d) reply scanned row moves =
-    still_scanned ns a b scanned
-    (moves.scanned ∙ adopt_scans (hand_of a.world (Mutator m)) a.scanned m d reply) moves.config
-step_scanned ns a b (steps.Release who) reply scanned row moves =
-    still_scanned ns a b scanned (moves.scanned ∙ release_scans (hand_of a.world who) a.scanned reply) moves.config
-step_scanned ns a b step reply scanned row moves = still_scanned ns a b scanned moves.scanned moves.config
+taken_scanned ns a b step reply none row moves scanned = still_scanned ns a b scanned moves.scanned moves.config
 
-pub scanned_last : (ns : List ℕ) (past : List Row) (row : Row)
+pub turn_scanned : (ns : List ℕ) (a b : State) (asked : Option NamedStep) (reply : Reply) → IsTurn a asked reply b
+    → HasScanned ns a → HasScanned (scanned_then ns asked reply) b
+turn_scanned ns a b asked reply turn scanned =
+    elim turn [
+      | inl of ↦
+          let none : scanned_then ns asked reply ≡ ns =
+          elim of.tells [
+            | inl none ↦ ap (λ (o : Option NamedStep). scanned_then ns o reply) none
+            | inr refused ↦
+                ap (λ (r : Reply). scanned_then ns asked r) refused.1 ∙ refused_then ns asked refused.0
+          ] in
+          subst (λ ms. HasScanned ms b) (sym none) (like ns a b of.after scanned)
+      | inr of ↦
+          subst (λ (o : Option NamedStep). HasScanned (scanned_then ns o reply) b) (sym of.asks)
+          (like (scanned_then ns (Some of.step) reply) of.left b of.after
+          (taken_scanned ns a of.left of.step reply of.passes of.accepts
+          (heap_tells a of.left of.step reply of.accepts) scanned))
+    ]
+  where
+    like : (ns : List ℕ) (c d : State) → at_rest d ≡ at_rest c → HasScanned ns c → HasScanned ns d
+    like ns c d same scanned =
+        still_scanned ns c d scanned (ap (λ (s : State). s.scanned) same)
+        (ap (λ (s : State). s.world.heap.config) same)
+
+-- what spends a hold scans nothing
+spent_then : (ns : List ℕ) (step : HoldName → NamedStep) (hand : Option Notice) (reply : Reply)
+    → ((hold : HoldName) → scanned_then ns (Some (step hold)) reply ≡ ns)
+    → scanned_then ns (spending step hand) reply ≡ ns
+spent_then ns step None reply none = refl
+spent_then ns step (Some notice) reply none = none (hold_of notice)
+
+row_then : (ns : List ℕ) (w : World) (step : Step) (reply : Reply)
+    → scanned_then ns (heap_step w step) reply ≡ scanned_with ns step reply
+row_then ns w (steps.Begin now how) (replies.Cycle n) = refl
+row_then ns w (steps.Scan k) (replies.Scanned n) = refl
+row_then ns w (steps.Adopt m d) reply =
+    spent_then ns (λ hold. heap.Adopt m d hold) (hand_of w (Mutator m)) reply (λ hold. refl)
+row_then ns w (steps.Release who) reply =
+    spent_then ns (λ hold. heap.Release hold) (hand_of w who) reply (λ hold. refl)
+row_then ns w step reply = refl
+
+scanned_last : (ns : List ℕ) (past : List Row) (row : Row)
     → scanned_from ns (past ++ row ∷ []) ≡ scanned_with (scanned_from ns past) row.step row.reply
 scanned_last ns [] row = refl
 scanned_last ns (other ∷ past) row = scanned_last (scanned_with ns other.step other.reply) past row
@@ -172,8 +206,9 @@ pub legal_scanned_once : (config : Config) (rows : List Row) → IsLegal config 
 legal_scanned_once config rows legal =
     let scanned = legal_holds config (λ past a. HasScanned (scanned_in_cycle past) a)
     (λ past a row b before scanned h.
-    subst (λ ns. HasScanned ns b) (sym (scanned_last [] past row))
-    (step_scanned (scanned_in_cycle past) a b row.step row.reply scanned h
-    (row_moves a row b (legal_counted config past a before) h)))
+    subst (λ ns. HasScanned ns b)
+    (row_then (scanned_in_cycle past) a.world row.step row.reply ∙ sym (scanned_last [] past row))
+    (turn_scanned (scanned_in_cycle past) a b (heap_step a.world row.step) row.reply
+    (row_turn a row b (legal_counted config past a before) h) scanned))
     (first_scanned config) rows legal.0 legal.1 in
     scanned.distinct

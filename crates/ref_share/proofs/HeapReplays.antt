@@ -1,6 +1,6 @@
 -- After every history of a heap the collector has the world of its replay, but for what was swept and for what waits to
 -- be cleared; what is gone or doomed is out of reach; and a mark's end has shown what it cleared.
-use Rattle.std.proofs.Common.{◌≡◌, ℕ, List, [], ◌∷◌, ◌++◌, None, inl, inr, refl, sym, ap, ◌∙◌, subst}
+use Rattle.std.proofs.Common.{◌≡◌, ℕ, List, [], ◌∷◌, ◌++◌, Some, None, inl, inr, refl, sym, ap, ◌∙◌, subst}
 use Rattle.std.proofs.lemmas.List.{append_assoc}
 use Rattle.ref_share.proofs.Common.{HeapAccepts, EndsMark, State, NamedStep, heap_refusal, World, first_world}
 use Rattle.ref_share.proofs.Common.{graph_of, Config, Reply, entry, told_reply, HeapReply, HeapState, IsHeapMove}
@@ -10,16 +10,16 @@ use Rattle.ref_base.specs.Replay.{after_heap}
 use Rattle.ref_base.specs.declared.heap_step.HeapStep.TheVariants as heap
 use Rattle.ref_base.specs.declared.reply.Reply.TheVariants as told
 use Rattle.ref_base.proofs.AgreeHeaps.{Agreeing, gone_after}
-use Rattle.ref_base.proofs.AgreeRuns.{heap_agrees, heap_refused, first_agrees}
-use Rattle.ref_base.proofs.HeapMoves.{IsNoEnd}
+use Rattle.ref_base.proofs.AgreeRuns.{heap_agrees, heap_refused, first_agrees, gone_next, gone_refused}
+use Rattle.ref_base.proofs.HeapTurns.{renumbered, IsRefusedOrAccepted, heap_kind}
 use Rattle.ref_base.proofs.MarkShows.{RefersToDead}
-use Rattle.ref_base.proofs.OutHeaps.{AreOutBy, end_out}
-use Rattle.ref_base.proofs.OutRuns.{more_out, heap_out}
+use Rattle.ref_base.proofs.OutHeaps.{AreOutBy}
+use Rattle.ref_base.proofs.OutRuns.{turn_out}
 use Rattle.ref_base.proofs.OutTraces.{first_out, out_of_reach}
 use Rattle.ref_base.proofs.PhaseLaws.{of_phase}
 use Rattle.ref_world.specs.declared.heap_machine.HeapReply.TheVariants as replies
 use Rattle.ref_share.specs.HeapTraces.{heap_replayed_from}
-use Rattle.ref_share.proofs.HeapRuns.{renumbered, IsRefused, IsAccepted, move_kind, run_holds}
+use Rattle.ref_share.proofs.HeapRuns.{move_turn, run_holds}
 
 -- ---- the replay goes on call by call
 
@@ -69,91 +69,61 @@ IsKnownBut config past gone x =
 abbrev pub IsKnown : Config → List HeapEntry → HeapState → Type 0
 IsKnown config past x = (gone : List ℕ) × IsKnownBut config past gone x
 
-more_known : (config : Config) (past more : List HeapEntry) (gone : List ℕ) (a : State) → IsOut config past gone a
-    → IsOut config (past ++ more) gone a
-more_known config past more gone a out =
-    more_out Anything Anything (HeapMarkEnded config past) (HeapMarkEnded config (past ++ more)) gone a (λ n is. tt)
-    (shown_more config past more) out
+-- a call that is a mark's end shows what it has to
+end_shows : (config : Config) (past : List HeapEntry) (by : ℕ) (step : NamedStep) (reply : HeapReply) (count : ℕ)
+    → Some (renumbered step) ≡ Some heap.EndMark → told_reply reply ≡ told.Doomed count → (n : ℕ)
+    → RefersToDead (heap_replayed config past) n
+    → HeapMarkEnded config (past ++ entry by step reply ∷ []) (heap_replayed config past).cycle n
+end_shows config past by heap.EndMark (replies.Told (told.Doomed k)) count asks is n refers = record {
+  before = past;
+  by = by;
+  count = k;
+  behind = [];
+  is_earlier = refl;
+  of_cycle = refl;
+  referent = refers.0;
+  referred = refers.1;
+  dead = refers.2;
+}
+end_shows config past by heap.EndMark reply count asks is n refers = absurd cc
+end_shows config past by step reply count asks is n refers = absurd cc
 
-module _ (config : Config) (past : List HeapEntry) (gone : List ℕ) (a b : State)
-    (is : Agreeing gone (heap_replayed config past) a) (out : IsOut config past gone a) where
-  ended_out : (by : ℕ) (reply : HeapReply) → heap_refusal 0 a heap.EndMark ≡ None → EndsMark a (told_reply reply) b
-      → IsOut config (past ++ entry by heap.EndMark reply ∷ []) gone b
-  ended_out by (replies.Told (told.Doomed count)) none row =
-      let call : HeapEntry = entry by heap.EndMark (replies.Told (told.Doomed count)) in
-      let shows : (n : ℕ) → RefersToDead (heap_replayed config past) n
-      → HeapMarkEnded config (past ++ call ∷ []) (heap_replayed config past).cycle n =
-      λ n refers. record {
-        before = past;
-        by = by;
-        count = count;
-        behind = [];
-        is_earlier = refl;
-        of_cycle = refl;
-        referent = refers.0;
-        referred = refers.1;
-        dead = refers.2;
-      } in
-      end_out Anything (HeapMarkEnded config past) gone (heap_replayed config past) a b is out Anything
-      (HeapMarkEnded config (past ++ call ∷ [])) (told.Doomed count) (λ n dead. tt) (λ n dead. tt) shows
-      (of_phase 0 a heap.EndMark none) row
-  ended_out by reply none row = let answer = row.answer in absurd cc
+agrees_then : (gone : List ℕ) (w : World) (a b : State) (step : NamedStep) (reply : Reply) → Agreeing gone w a
+    → IsRefusedOrAccepted a step reply b
+    → Agreeing (gone_next a gone (Some (renumbered step)) reply) (after_heap w step reply) b
+agrees_then gone w a b step reply is (inl of) =
+    subst (λ (r : Reply). Agreeing (gone_next a gone (Some (renumbered step)) r) (after_heap w step r) b) (sym of.1)
+    (subst (λ (ns : List ℕ). Agreeing ns (after_heap w step (told.Refused of.0)) b)
+    (sym (gone_refused a gone (Some (renumbered step)) of.0))
+    (subst (λ (v : World). Agreeing gone v b) (sym (heap_refused w step of.0))
+    (subst (λ (s : State). Agreeing gone w s) (sym of.2) is)))
+agrees_then gone w a b step reply is (inr of) =
+    subst (λ (v : World). Agreeing (gone_after a gone (renumbered step) reply) v b) (same_after w step reply)
+    (heap_agrees gone w a b (renumbered step) reply is of.0 of.1)
 
-  plain_out : (call : HeapEntry) → IsNoEnd (renumbered call.step) → heap_refusal 0 a (renumbered call.step) ≡ None
-      → HeapAccepts a (renumbered call.step) (told_reply call.reply) b
-      → IsOut config (past ++ call ∷ []) (gone_after a gone (renumbered call.step) (told_reply call.reply)) b
-  plain_out call plain none row =
-      more_known config past (call ∷ []) (gone_after a gone (renumbered call.step) (told_reply call.reply)) b
-      (heap_out Anything (HeapMarkEnded config past) gone (heap_replayed config past) a b is out (renumbered call.step)
-      (told_reply call.reply) plain none row)
-
-  accepted_out : (by : ℕ) (step : NamedStep) (reply : HeapReply) → heap_refusal 0 a (renumbered step) ≡ None
-      → HeapAccepts a (renumbered step) (told_reply reply) b
-      → IsOut config (past ++ entry by step reply ∷ []) (gone_after a gone (renumbered step) (told_reply reply)) b
-  accepted_out by heap.EndMark reply none row = ended_out by reply none row
-  accepted_out by step reply none row = plain_out (entry by step reply) tt none row
-
--- ---- calls
-
-module _ (config : Config) (past : List HeapEntry) (gone : List ℕ) (x : HeapState) (call : HeapEntry) (y : HeapState)
-    (known : IsKnownBut config past gone x) where
-  abbrev w : World
-  w = heap_replayed config past
-
-  pub refused_known : IsRefused x call.reply y → IsKnownBut config (past ++ call ∷ []) gone y
-  refused_known of =
-      let stays : heap_replayed config (past ++ call ∷ []) ≡ w =
-      replayed_last (first_world config) past call
-      ∙ ap (λ (r : Reply). after_heap w call.step r) of.answer ∙ heap_refused w call.step of.fault in (
-        subst (λ (v : World). Agreeing gone v y.state) (sym stays)
-            (subst (λ (a : State). Agreeing gone w a) (sym of.same) known.0),
-        more_known config past (call ∷ []) gone y.state
-            (subst (λ (a : State). IsOut config past gone a) (sym of.same) known.1),
-      )
-
-  pub accepted_known : IsAccepted x call.step call.reply y
-      → IsKnownBut config (past ++ call ∷ [])
-      (gone_after x.state gone (renumbered call.step) (told_reply call.reply)) y
-  accepted_known of =
-      let reply : Reply = told_reply call.reply in
-      let now : List ℕ = gone_after x.state gone (renumbered call.step) reply in
-      let same : after_heap w (renumbered call.step) reply ≡ heap_replayed config (past ++ call ∷ []) =
-      same_after w call.step reply ∙ sym (replayed_last (first_world config) past call) in (
-        subst (λ (v : World). Agreeing now v y.state) same
-            (heap_agrees gone w x.state y.state (renumbered call.step) reply known.0 of.passes of.accepts),
-        accepted_out config past gone x.state y.state known.0 known.1 call.by call.step call.reply of.passes of.accepts,
-      )
+pub call_known_but : (config : Config) (past : List HeapEntry) (gone : List ℕ) (x : HeapState) (call : HeapEntry)
+    (y : HeapState) → IsKnownBut config past gone x → IsHeapMove x call.step call.reply y
+    → IsKnownBut config (past ++ call ∷ [])
+    (gone_next x.state gone (Some (renumbered call.step)) (told_reply call.reply)) y
+call_known_but config past gone x call y known move =
+    let reply : Reply = told_reply call.reply in
+    let now : List ℕ = gone_next x.state gone (Some (renumbered call.step)) reply in (
+      subst (λ (v : World). Agreeing now v y.state) (sym (replayed_last (first_world config) past call))
+          (agrees_then gone (heap_replayed config past) x.state y.state call.step reply known.0
+          (heap_kind x.number x.state y.state call.step reply move.row)),
+      turn_out Anything Anything (HeapMarkEnded config past) (HeapMarkEnded config (past ++ call ∷ [])) gone
+          (heap_replayed config past) x.state (Some (renumbered call.step)) reply known.0 known.1 (λ n is. tt)
+          (shown_more config past (call ∷ []))
+          (λ count asks is. (λ n dead. tt, end_shows config past call.by call.step call.reply count asks is)) y.state
+          (move_turn x y call.step call.reply move),
+    )
 
 pub call_known : (config : Config) (past : List HeapEntry) (x : HeapState) (call : HeapEntry) (y : HeapState)
     → IsKnown config past x → IsHeapMove x call.step call.reply y → IsKnown config (past ++ call ∷ []) y
-call_known config past x call y known move =
-    elim (move_kind x y call.step call.reply move) [
-      | inl of ↦ (known.0, refused_known config past known.0 x call y known.1 of)
-      | inr of ↦ (
-        gone_after x.state known.0 (renumbered call.step) (told_reply call.reply),
-        accepted_known config past known.0 x call y known.1 of,
-      )
-    ]
+call_known config past x call y known move = (
+  gone_next x.state known.0 (Some (renumbered call.step)) (told_reply call.reply),
+  call_known_but config past known.0 x call y known.1 move,
+)
 
 pub first_known : (config : Config) (number : ℕ) → IsKnown config [] (first_heap_state config number)
 first_known config number = ([], (first_agrees config, first_out Anything (HeapMarkEnded config []) config))

@@ -1,8 +1,16 @@
--- What the calls of a heap tell, call by call.
-use Rattle.std.proofs.Common.{◌≡◌, ℕ, List, [], ◌∷◌, ◌++◌, sym, ap, ◌∙◌}
+-- What the calls of a heap tell, call by call; and a call that tells a row is one of a world, whose hands are empty.
+use Rattle.std.proofs.Common.{◌≡◌, ℕ, List, [], ◌∷◌, ◌++◌, Option, Some, None, refl, sym, ap, ◌∙◌, subst}
 use Rattle.std.proofs.lemmas.List.{append-nil, append_assoc}
 use Rattle.ref_share.proofs.Common.{NamedStep, Row, told_reply, HeapReply, HeapEntry, world_step, row_of, rows_of}
-use Rattle.ref_share.proofs.Common.{gathered}
+use Rattle.ref_share.proofs.Common.{gathered, State, World, Reply, Step}
+use Rattle.ref_base.specs.CollectorRows.{IsHeapRow, IsRow, with_handed}
+use Rattle.ref_base.specs.Worlds.{hand_of}
+use Rattle.ref_base.specs.declared.actor.Actor.{Actor}
+use Rattle.ref_base.specs.declared.actor.Actor.TheVariants.{Mutator, Worker}
+use Rattle.ref_base.specs.declared.heap_step.HeapStep.TheVariants as heap
+use Rattle.ref_base.specs.declared.step.Step.TheVariants as steps
+use Rattle.ref_base.proofs.HeapRowLaws.{carried_row, free_unhook, free_hand, row_others}
+use Rattle.ref_base.proofs.SameOthers.{same_hand}
 
 -- a call more tells its own row last, if it tells one
 pub rows_last : (past : List HeapEntry) (call : HeapEntry)
@@ -21,3 +29,41 @@ gathered_last told_by (other ∷ past) call =
     let first : List ℕ = told_by other.step other.reply in
     ap (λ ns. first ++ ns) (gathered_last told_by past call)
     ∙ sym (append_assoc first (gathered told_by past) (told_by call.step call.reply))
+
+-- ---- as rows of a world
+
+-- no hand has a notice
+abbrev pub HandsFree : World → Type 0
+HandsFree w = (who : Actor) → hand_of w who ≡ None
+
+-- no call changes that
+pub still_free : (number : ℕ) (a b : State) (step : NamedStep) (reply : Reply) → HandsFree a.world
+    → IsHeapRow number a step reply b → HandsFree b.world
+still_free number a b step reply free row who =
+    same_hand a.world b.world who (row_others number a b step reply row) ∙ free who
+
+abbrev some_step : Option Step → Step
+some_step None = steps.EndMark
+some_step (Some step) = step
+
+abbrev IsTold : State → State → Option Step → Reply → Type 0
+IsTold a b None reply = Unit {0}
+IsTold a b (Some step) reply = IsRow a (record { step = step; reply = reply }) (with_handed b step reply)
+
+is_told : (number : ℕ) (a b : State) (asked : NamedStep) (reply : Reply) → HandsFree a.world
+    → IsHeapRow number a asked reply b → IsTold a b (world_step asked) reply
+is_told number a b (heap.Hold m s) reply free row = tt
+is_told number a b (heap.Adopt m d hold) reply free row = tt
+is_told number a b (heap.Release hold) reply free row = tt
+is_told number a b (heap.Unhook m s) reply free row =
+    carried_row a b (heap.Unhook m s) (steps.Unhook m s) reply refl (free_unhook a m s (free (Mutator m))) row
+is_told number a b (heap.Hand k) reply free row =
+    carried_row a b (heap.Hand k) (steps.Hand k) reply refl (free_hand a k (free (Worker k))) row
+is_told number a b asked reply free row = carried_row a b asked (some_step (world_step asked)) reply refl refl row
+
+-- a call that tells a row is that row, in a world whose hands are empty
+pub told_row : (number : ℕ) (a b : State) (asked : NamedStep) (step : Step) (reply : Reply)
+    → world_step asked ≡ Some step → HandsFree a.world → IsHeapRow number a asked reply b
+    → IsRow a (record { step = step; reply = reply }) (with_handed b step reply)
+told_row number a b asked step reply is free row =
+    subst (λ (o : Option Step). IsTold a b o reply) is (is_told number a b asked reply free row)

@@ -10,10 +10,12 @@ use Rattle.ref_base.specs.CollectorRows.{IsHeapRow}
 use Rattle.ref_base.specs.CountedHolds.{holds_after}
 use Rattle.ref_base.specs.Heaps.{one_more, one_fewer}
 use Rattle.ref_base.specs.Told.{told_object}
-use Rattle.ref_base.specs.declared.fault.Fault.TheVariants.{ForeignHold}
+use Rattle.ref_base.specs.declared.heap_step.HoldName.{HoldName}
 use Rattle.ref_base.specs.declared.heap_step.HeapStep.TheVariants as heap
 use Rattle.ref_base.specs.declared.reply.Reply.TheVariants as told
 use Rattle.ref_base.proofs.CountedRows.{heap_holds}
+use Rattle.ref_base.proofs.HeapTurns.{heap_kind}
+use Rattle.ref_base.proofs.RowForms.{unless_passes}
 use Rattle.ref_base.proofs.HoldCounts.{one_if, tally-first, tally-append, tally-one_more}
 use Rattle.ref_turn.proofs.Logs.{leads_cut}
 use Rattle.ref_world.specs.declared.heap_machine.HeapReply.TheVariants as replies
@@ -81,19 +83,17 @@ hold_gave_none : (hs : List ℕ) (m s : ℕ) (reply : Reply) → told_object rep
 hold_gave_none hs m s (told.Object n) none = absurd (false≢true (sym (ap is_some none)))
 hold_gave_none hs m s reply none = refl
 
--- an adopt or a release that is accepted is of a hold that is counted
-counted_if_told : (a b : State) (counted : Bool) (step : NamedStep) (reply : Reply)
-    → ((fault : Fault) → reply ≡ told.Refused fault → ⊥)
-    → IsHeapAnswer a (unless counted ForeignHold None) step reply b → (counted ≡ true) × HeapAccepts a step reply b
-counted_if_told a b true step reply accepted row = (refl, row)
-counted_if_told a b false step reply accepted row = absurd (accepted ForeignHold row.0)
+-- a hold that an accepted release takes back is counted, and so is that of an adopt
+released : (a : State) (hold : HoldName) → heap_refusal 0 a (heap.Release hold) ≡ None
+    → has a.world.heap.holds hold.object ≡ true
+released a hold none =
+    (and_parts _ _ (unless_passes (is_counted 0 a.world.heap hold) _ _ none).0).1
 
-adopt_counted : (a b : State) (may counted : Bool) (step : NamedStep) (reply : Reply)
-    → ((fault : Fault) → reply ≡ told.Refused fault → ⊥)
-    → IsHeapAnswer a (unless may NoSuchActor (unless counted ForeignHold None)) step reply b
-    → (counted ≡ true) × HeapAccepts a step reply b
-adopt_counted a b true counted step reply accepted row = counted_if_told a b counted step reply accepted row
-adopt_counted a b false counted step reply accepted row = absurd (accepted NoSuchActor row.0)
+adopted : (a : State) (m d : ℕ) (hold : HoldName) → heap_refusal 0 a (heap.Adopt m d hold) ≡ None
+    → has a.world.heap.holds hold.object ≡ true
+adopted a m d hold none =
+    let slot = unless_passes (has_slot a.world.heap m d) _ _ none in
+    (and_parts _ _ (unless_passes (is_counted 0 a.world.heap hold) _ _ slot.1).0).1
 
 abbrev holds_in : HeapState → List ℕ
 holds_in x = x.state.world.heap.holds
@@ -123,18 +123,21 @@ module _ (x y : HeapState) (n : ℕ) where
   after_told (heap.Hold m s) reply held row gives =
       no_change (holds_in x) (holds_in y) n (held ∙ hold_gave_none (holds_in x) m s reply gives)
   after_told (heap.Adopt m d hold) (told.Object k) held row gives =
-      let h = x.state.world.heap in
-      let counted = adopt_counted x.state y.state (has_slot h m d) (is_counted x.number h hold) (heap.Adopt m d hold)
-      (told.Object k) (λ fault is. absurd cc) row in
-      let there = and_parts _ _ counted.0 in
-      one_taken (holds_in x) (holds_in y) hold.object n
-      (held ∙ ap (λ (r : Reply). holds_after (holds_in x) (heap.Adopt m d hold) r) counted.1.0) there.1
+      elim (heap_kind x.number x.state y.state (heap.Adopt m d hold) (told.Object k) row) [
+        | inl of ↦ let no = of.1 in absurd cc
+        | inr of ↦
+            one_taken (holds_in x) (holds_in y) hold.object n
+            (held ∙ ap (λ (r : Reply). holds_after (holds_in x) (heap.Adopt m d hold) r) of.1.0)
+            (adopted x.state m d (record { heap_no = 0; object = hold.object }) of.0)
+      ]
   after_told (heap.Adopt m d hold) reply held row gives = absurd cc
   after_told (heap.Release hold) told.Done held row gives =
-      let counted = counted_if_told x.state y.state (is_counted x.number x.state.world.heap hold) (heap.Release hold)
-      told.Done (λ fault is. absurd cc) row in
-      let there = and_parts _ _ counted.0 in
-      one_taken (holds_in x) (holds_in y) hold.object n held there.1
+      elim (heap_kind x.number x.state y.state (heap.Release hold) told.Done row) [
+        | inl of ↦ let no = of.1 in absurd cc
+        | inr of ↦
+            one_taken (holds_in x) (holds_in y) hold.object n held
+            (released x.state (record { heap_no = 0; object = hold.object }) of.0)
+      ]
   after_told (heap.Release hold) reply held row gives = absurd cc
   after_told step reply held row gives = no_change (holds_in x) (holds_in y) n held
 

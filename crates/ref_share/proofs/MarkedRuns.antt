@@ -16,7 +16,8 @@ use Rattle.ref_base.proofs.WaitingClears.{look_tells, Tells}
 use Rattle.ref_turn.proofs.Logs.{leads_cut}
 use Rattle.ref_world.specs.declared.heap_machine.HeapReply.TheVariants as replies
 use Rattle.ref_share.proofs.HeapReplays.{IsKnown, IsOut, call_known, first_known, shown_more}
-use Rattle.ref_share.proofs.HeapRuns.{renumbered, move_kind, run_holds}
+use Rattle.ref_share.proofs.HeapRuns.{move_turn, run_holds}
+use Rattle.ref_base.proofs.HeapTurns.{accepted, renumbered, heap_kind}
 
 -- where its cause is a cycle, that cycle's mark ended before, and showed this of n
 abbrev IsMarked : Config → List HeapEntry → ℕ → Cause → Type 0
@@ -64,13 +65,13 @@ call_marked : (config : Config) (past : List HeapEntry) (x : HeapState) (call : 
 call_marked config past x call y is move = (
   call_known config past x call y is.0 move,
   more_marked config past call y.state.world
-      (elim (move_kind x y call.step call.reply move) [
-        | inl of ↦ subst (λ (a : State). AreMarked config past a.world) (sym of.same) is.1
+      (elim (heap_kind x.number x.state y.state call.step (told_reply call.reply) move.row) [
+        | inl of ↦ subst (λ (a : State). AreMarked config past a.world) (sym of.2) is.1
         | inr of ↦
             heap_carries (λ o. Unit {0}) (Marked config past) (λ c. Unit {0}) any_lasts x.state y.state
             (renumbered call.step) (told_reply call.reply)
-            (anew config past is.0.0 x.state y.state (renumbered call.step) (told_reply call.reply) is.0.1.1 of.passes
-            of.accepts) is.1 of.accepts
+            (anew config past is.0.0 x.state y.state (renumbered call.step) (told_reply call.reply) is.0.1.1 of.0 of.1)
+            is.1 of.1
       ]),
 )
 
@@ -88,20 +89,16 @@ given_at : (config : Config) (front : List HeapEntry) (x y : HeapState) (step : 
     → Marked config front (as_notice notice)
 given_at config front x y (heap.Unhook m s) notice marked move =
     let a : State = x.state in
-    elim (move_kind x y (heap.Unhook m s) (replies.Notice notice) move) [
-      | inl of ↦ let no = of.answer in absurd cc
-      | inr of ↦
-          unhooked (λ o. Unit {0}) (Marked config front) (λ c. Unit {0}) a y.state m s (slot_at a.world.heap m s) _
-          notice.hold.object notice.queue notice.cause (λ n q is there. tt) refl of.accepts
-    ]
+    let of = accepted a y.state (heap.Unhook m s) (told_reply (replies.Notice notice)) (λ fault no. absurd cc)
+    (move_turn x y (heap.Unhook m s) (replies.Notice notice) move) in
+    unhooked (λ o. Unit {0}) (Marked config front) (λ c. Unit {0}) a of.0 m s (slot_at a.world.heap m s) _
+    notice.hold.object notice.queue notice.cause (λ n q is there. tt) refl of.2
 given_at config front x y (heap.Hand k) notice marked move =
     let a : State = x.state in
-    elim (move_kind x y (heap.Hand k) (replies.Notice notice) move) [
-      | inl of ↦ let no = of.answer in absurd cc
-      | inr of ↦
-          handed_on (Marked config front) a y.state k (pending_of a.world k) notice.hold.object notice.queue
-          notice.cause (marked.pendings k) of.accepts
-    ]
+    let of = accepted a y.state (heap.Hand k) (told_reply (replies.Notice notice)) (λ fault no. absurd cc)
+    (move_turn x y (heap.Hand k) (replies.Notice notice) move) in
+    handed_on (Marked config front) a of.0 k (pending_of a.world k) notice.hold.object notice.queue notice.cause
+    (marked.pendings k) of.2
 given_at config front x y step notice marked move = absurd move.gives
 
 pub given_after_mark : (config : Config) (number by : ℕ) (front back : List HeapEntry) (step : NamedStep)

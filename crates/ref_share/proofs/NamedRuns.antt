@@ -17,14 +17,17 @@ use Rattle.ref_base.specs.declared.reply.Reply.TheVariants as told
 use Rattle.ref_base.proofs.AgreeHeaps.{gone_after}
 use Rattle.ref_base.proofs.ApartWorlds.{OfValue, IsClosed}
 use Rattle.ref_base.proofs.ClosedRows.{field_is, got_is}
+use Rattle.ref_base.proofs.AgreeRuns.{gone_next}
+use Rattle.ref_base.proofs.HeapTurns.{IsTurn, accepted, renumbered, heap_kind}
+use Rattle.ref_base.proofs.OutRuns.{idle_gone}
 use Rattle.ref_base.proofs.HasLaws.{has-left, has-right}
 use Rattle.ref_base.proofs.OutHeaps.{off, off_is, off_same, next_out}
 use Rattle.ref_base.proofs.PhaseLaws.{of_phase}
 use Rattle.ref_base.proofs.RowForms.{unless_passes}
 use Rattle.ref_world.specs.declared.heap_machine.HeapReply.TheVariants as replies
 use Rattle.ref_share.specs.HeapTraces.{named_by}
-use Rattle.ref_share.proofs.HeapReplays.{IsKnownBut, run_known, refused_known, accepted_known}
-use Rattle.ref_share.proofs.HeapRuns.{renumbered, move_kind, goes_on}
+use Rattle.ref_share.proofs.HeapReplays.{IsKnownBut, run_known, call_known_but}
+use Rattle.ref_share.proofs.HeapRuns.{move_turn, goes_on}
 
 -- ---- what a row of a heap names
 
@@ -143,21 +146,25 @@ abbrev IsOffIn : Config → ℕ → List HeapEntry → HeapState → Type 0
 IsOffIn config n past x =
     (gone : List ℕ) × IsKnownBut config past gone x × (has (off gone x.state) n ≡ true)
 
+-- what a turn doesn't touch, and a mark's end dooms
+turn_off : (gone : List ℕ) (a b : State) (asked : Option NamedStep) (reply : Reply) (n : ℕ) → IsTurn a asked reply b
+    → has (off gone a) n ≡ true → has (off (gone_next a gone asked reply) b) n ≡ true
+turn_off gone a b asked reply n (inl of) is =
+    subst (λ (ns : List ℕ). has (off ns b) n ≡ true) (sym (idle_gone gone a b asked reply of))
+    (ap (λ (s : State). has (off gone s) n) of.after ∙ is)
+turn_off gone a b asked reply n (inr of) is =
+    subst (λ (o : Option NamedStep). has (off (gone_next a gone o reply) b) n ≡ true) (sym of.asks)
+    (ap (λ (s : State). has (off (gone_after a gone of.step reply) s) n) of.after
+    ∙ stays_off gone a of.left of.step reply n of.passes of.accepts is)
+
 call_off : (config : Config) (n : ℕ) (past : List HeapEntry) (x : HeapState) (call : HeapEntry) (y : HeapState)
     → IsOffIn config n past x → IsHeapMove x call.step call.reply y → IsOffIn config n (past ++ call ∷ []) y
-call_off config n past x call y is move =
-    elim (move_kind x y call.step call.reply move) [
-      | inl of ↦ (
-        is.0,
-        refused_known config past is.0 x call y is.1 of,
-        subst (λ (a : State). has (off is.0 a) n ≡ true) (sym of.same) is.2,
-      )
-      | inr of ↦ (
-        gone_after x.state is.0 (renumbered call.step) (told_reply call.reply),
-        accepted_known config past is.0 x call y is.1 of,
-        stays_off is.0 x.state y.state (renumbered call.step) (told_reply call.reply) n of.passes of.accepts is.2,
-      )
-    ]
+call_off config n past x call y is move = (
+  gone_next x.state is.0 (Some (renumbered call.step)) (told_reply call.reply),
+  call_known_but config past is.0 x call y is.1 move,
+  turn_off is.0 x.state y.state (Some (renumbered call.step)) (told_reply call.reply) n
+      (move_turn x y call.step call.reply move) is.2,
+)
 
 -- what a mark's end dooms is so
 doomed_off : (config : Config) (number by count : ℕ) (front : List HeapEntry) (a b : HeapState) (n : ℕ)
@@ -167,15 +174,14 @@ doomed_off : (config : Config) (number by count : ℕ) (front : List HeapEntry) 
 doomed_off config number by count front a b n first ends doomed =
     let known = run_known config number front a first in
     let gone : List ℕ = known.0 in
-    elim (move_kind a b heap.EndMark (replies.Told (told.Doomed count)) ends) [
-      | inl of ↦ let no = of.answer in absurd cc
-      | inr of ↦ (
-        gone,
-        accepted_known config front gone a (entry by heap.EndMark (replies.Told (told.Doomed count))) b known.1 of,
-        ap (λ ns. has ns n) (ended_off gone a.state b.state (told.Doomed count) of.accepts)
-            ∙ has-right gone (doomed_at a.state) n doomed,
-      )
-    ]
+    let of = accepted a.state b.state heap.EndMark (told.Doomed count) (λ fault no. absurd cc)
+    (move_turn a b heap.EndMark (replies.Told (told.Doomed count)) ends) in (
+      gone,
+      call_known_but config front gone a (entry by heap.EndMark (replies.Told (told.Doomed count))) b known.1 ends,
+      ap (λ (s : State). has (off gone s) n) of.3
+          ∙ ap (λ ns. has ns n) (ended_off gone a.state of.0 (told.Doomed count) of.2)
+          ∙ has-right gone (doomed_at a.state) n doomed,
+    )
 
 -- ---- so no call gives it
 
@@ -183,12 +189,12 @@ names_none : (config : Config) (n : ℕ) (past : List HeapEntry) (c : HeapState)
     (e : HeapState) → IsOffIn config n past c → IsHeapMove c step reply e → named_by (told_reply reply) ≡ Some n → ⊥
 names_none config n past c step reply e is move names =
     let V : ℕ → Type 0 = λ m. has (off is.0 c.state) m ≡ false in
-    elim (move_kind c e step reply move) [
-      | inl of ↦ let no = sym (ap named_by of.answer) ∙ names in absurd cc
+    elim (heap_kind c.number c.state e.state step (told_reply reply) move.row) [
+      | inl of ↦ let no = sym (ap named_by of.1) ∙ names in absurd cc
       | inr of ↦
           let within : OfValue V (named_by (told_reply reply)) =
           named_is V c.state e.state is.1.1.closed (renumbered step) (told_reply reply)
-          (next_out is.0 (heap_replayed config past) c.state is.1.0) of.passes of.accepts in
+          (next_out is.0 (heap_replayed config past) c.state is.1.0) of.0 of.1 in
           both_ways (has (off is.0 c.state) n) (subst (λ (value : Option ℕ). OfValue V value) names within) is.2
     ]
 

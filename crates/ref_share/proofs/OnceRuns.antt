@@ -28,7 +28,8 @@ use Rattle.ref_world.specs.declared.heap_machine.HeapReply.TheVariants as replie
 use Rattle.ref_share.specs.HeapTraces.{handed_by}
 use Rattle.ref_share.proofs.HeapReplays.{IsKnown, call_known, first_known}
 use Rattle.ref_share.proofs.HeapRows.{gathered_last}
-use Rattle.ref_share.proofs.HeapRuns.{renumbered, IsAccepted, move_kind, run_holds}
+use Rattle.ref_share.proofs.HeapRuns.{IsAccepted, run_holds}
+use Rattle.ref_base.proofs.HeapTurns.{renumbered, heap_kind}
 use Rattle.ref_share.proofs.OnceCleared.{Waits, IsPast, heap_keeps, clears_once}
 use Rattle.ref_share.proofs.ScannedRuns.{call_scanned}
 
@@ -118,7 +119,7 @@ module _ (n : ℕ) (x y : HeapState) where
   accepted_counts (heap.Hand k) (replies.Notice notice) of gives moves =
       let m : ℕ = notice.hold.object in
       let less = handed_count x.state y.state k (pending_of x.state.world k) m notice.queue notice.cause n refl
-      of.accepts moves.pending in
+      of.1 moves.pending in
       let one = tally-first m [] n in
       omega (arith, less, one)
   accepted_counts (heap.Hand k) (replies.Told reply) of gives moves =
@@ -147,7 +148,7 @@ module _ (gone : List ℕ) (w : World) (x y : HeapState) (is : Agreeing gone w x
   accepted_clears : (step : NamedStep) (reply : HeapReply) → IsAccepted x step reply y
       → ClearsOne x.state y.state (cleared_by step reply)
   accepted_clears (heap.ClearNext k) (replies.Told (told.Cleared n)) of =
-      let once = clears_once gone w x.state y.state is distinct waits k n of.passes of.accepts in
+      let once = clears_once gone w x.state y.state is distinct waits k n of.0 of.1 in
       inr (n, refl, once.0, once.1)
   accepted_clears step reply of = inl refl
 
@@ -160,7 +161,7 @@ scans_distinct : (a b : State) (step : NamedStep) (reply : Reply) → length a.s
     → heap_refusal 0 a step ≡ None → HeapAccepts a step reply b → Moves a (Some step) reply b
     → AreDistinct (joined a.scanned) → AreDistinct (joined b.scanned)
 scans_distinct a b (heap.Scan k) (told.Scanned n) workers none row moves distinct =
-    let anew : ScansAnew a k n = scan_tells 0 a b k n None none row in
+    let anew : ScansAnew a k n = scan_tells a b k n none row in
     let within : k < length a.scanned = rw workers anew.0 in
     subst (λ (lists : List (List ℕ)). AreDistinct (joined lists)) (sym moves.scanned)
     (AreDistinct-with_last a.scanned k n within distinct anew.1)
@@ -282,20 +283,20 @@ call_once config past x call y is move =
     let known = is.known in
     let cleared = is.cleared in
     let after : ClearedOnce (past ++ call ∷ []) b × ((n : ℕ) → Counts n a b call.step call.reply) =
-    elim (move_kind x y call.step call.reply move) [
+    elim (heap_kind x.number x.state y.state call.step (told_reply call.reply) move.row) [
       | inl of ↦ (
         clears_more past call a b cleared
-            (subst (λ (s : State). AreDistinct (joined s.scanned)) (sym of.same) cleared.distinct)
-            (subst Waits (sym of.same) cleared.waits) (λ n past_it. subst (IsPast n) (sym of.same) past_it)
-            (refused_clears a b call.step call.reply of.fault of.answer),
-        λ n. refused_counts n x y call.step call.reply of.fault of.answer of.same,
+            (subst (λ (s : State). AreDistinct (joined s.scanned)) (sym of.2) cleared.distinct)
+            (subst Waits (sym of.2) cleared.waits) (λ n past_it. subst (IsPast n) (sym of.2) past_it)
+            (refused_clears a b call.step call.reply of.0 of.1),
+        λ n. refused_counts n x y call.step call.reply of.0 of.1 of.2,
       )
       | inr of ↦
-          let tells = heap_tells a b step reply of.accepts in
+          let tells = heap_tells a b step reply of.1 in
           let keeps = heap_keeps known.0 (heap_replayed config past) a b known.1.0 cleared.distinct cleared.waits step
-          reply of.passes of.accepts in (
+          reply of.0 of.1 in (
             clears_more past call a b cleared
-                (scans_distinct a b step reply is.scanned.workers of.passes of.accepts tells cleared.distinct) keeps.0
+                (scans_distinct a b step reply is.scanned.workers of.0 of.1 tells cleared.distinct) keeps.0
                 keeps.1
                 (accepted_clears known.0 (heap_replayed config past) x y known.1.0 cleared.distinct cleared.waits
                 call.step call.reply of),

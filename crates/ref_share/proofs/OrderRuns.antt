@@ -16,20 +16,20 @@ use Rattle.ref_base.specs.Worlds.{Notice, hand_of}
 use Rattle.ref_base.specs.declared.actor.Actor.TheVariants.{Worker}
 use Rattle.ref_base.specs.declared.heap_step.HeapStep.TheVariants as heap
 use Rattle.ref_base.specs.declared.reply.Reply.TheVariants as told
-use Rattle.ref_base.proofs.CarryRows.{nothing_pending}
-use Rattle.ref_base.proofs.ClearingShifts.{all_for, if_for, clears_for, worked_is}
-use Rattle.ref_base.proofs.ClearingTraces.{not_by, none_worked}
+use Rattle.ref_base.proofs.ClearingShifts.{all_for, if_for, waiting_in, Shifts, still, passes, at}
+use Rattle.ref_base.proofs.ClearingShifts.{clears_for, worked_is}
+use Rattle.ref_base.proofs.ClearingTraces.{not_by, none_worked, row_in_order, nothing_waits}
 use Rattle.ref_base.proofs.HeapRowLaws.{row_others}
 use Rattle.ref_base.proofs.Places.{place_there}
 use Rattle.ref_base.proofs.ProvenTraces.{made_at, registered_more}
 use Rattle.ref_base.proofs.RowMoves.{Moves, heap_tells, pending_after}
 use Rattle.ref_base.proofs.SameOthers.{same_hand}
-use Rattle.ref_base.proofs.SoundWorlds.{first_hand}
 use Rattle.ref_base.proofs.Subsequences.{Sub, sub_none, sub_all, sub_through, sub_behind, sub_before, sub_longer}
 use Rattle.ref_base.proofs.Subsequences.{sub_is}
 use Rattle.ref_world.specs.declared.heap_machine.HeapReply.TheVariants as replies
-use Rattle.ref_share.proofs.HeapRows.{rows_last, gathered_last}
-use Rattle.ref_share.proofs.HeapRuns.{renumbered, IsAccepted, move_kind, run_holds}
+use Rattle.ref_share.proofs.HeapRows.{rows_last, gathered_last, HandsFree}
+use Rattle.ref_share.proofs.HeapRuns.{IsAccepted, run_holds}
+use Rattle.ref_base.proofs.HeapTurns.{renumbered, heap_kind}
 use Rattle.ref_share.proofs.ProvenRuns.{IsFrom, call_from, first_from}
 
 -- ---- clearing orders
@@ -63,42 +63,21 @@ cleared-append whole k q (row ∷ rows) more =
     ap (λ ns. first ++ ns) (cleared-append whole k q rows more)
     ∙ sym (append_assoc first (cleared_in whole k q rows) (cleared_in whole k q more))
 
--- what waits, and what is cleared anew, is handed on or waits
-sub_shift : (handed waits cleared gives later clears : List ℕ) → Sub (handed ++ waits) cleared
-    → Sub (gives ++ later) (waits ++ clears) → Sub ((handed ++ gives) ++ later) (cleared ++ clears)
-sub_shift handed waits cleared gives later clears before shifts =
-    subst (λ ns. Sub ns (cleared ++ clears)) (sym (append_assoc handed gives later))
-    (sub_through (handed ++ (gives ++ later)) (handed ++ (waits ++ clears)) (cleared ++ clears)
-    (sub_behind handed (gives ++ later) (waits ++ clears) shifts)
-    (subst (λ ns. Sub ns (cleared ++ clears)) (append_assoc handed waits clears)
-    (sub_before (handed ++ waits) cleared clears before)))
-
 -- ---- calls
 
-abbrev waits_in : ℕ → ℕ → World → List ℕ
-waits_in k q w = all_for q (pending_of w k)
-
--- what is given and what waits after a call waited before, or the call cleared it
-abbrev Shifts : ℕ → ℕ → World → World → (gives clears : List ℕ) → Type 0
-Shifts k q v w gives clears = Sub (gives ++ waits_in k q w) (waits_in k q v ++ clears)
-
-same_waits : (k q : ℕ) (v w : World) (clears : List ℕ) → w.pending ≡ v.pending → Shifts k q v w [] clears
-same_waits k q v w clears pends =
-    subst (λ (lists : List (List Pending)). Sub (all_for q (slice_index_or lists k [])) (waits_in k q v ++ clears))
-    (sym pends) (sub_longer (waits_in k q v) clears)
-
 -- the first that is pending of worker j is handed on
-hands_first : (k q j : ℕ) (v w : World) (notice : Notice) (p : Pending) (rest : List Pending)
-    → pending_of v j ≡ p ∷ rest → (told.Notice notice.object notice.queue notice.cause
-    ≡ told.Notice p.object p.queue (Cycle p.cycle j)) → w.pending ≡ slice_set v.pending j rest
-    → Shifts k q v w (if_worked k q (Some notice)) []
-hands_first k q j v w notice p rest is gives pends =
+hands_first : (k q j : ℕ) (v w : World) (notice : Notice) (p : Pending) (rest : List Pending) → HandsFree v
+    → hand_of w (Worker k) ≡ hand_of v (Worker k) → pending_of v j ≡ p ∷ rest
+    → told.Notice notice.object notice.queue notice.cause ≡ told.Notice p.object p.queue (Cycle p.cycle j)
+    → w.pending ≡ slice_set v.pending j rest → Shifts k q v w (if_worked k q (Some notice)) []
+hands_first k q j v w notice p rest free hands is gives pends =
     let list : pending_of w k ≡ slice_index_or (slice_set v.pending j rest) k [] =
     ap (λ (all : List (List Pending)). slice_index_or all k []) pends in
     let object : notice.object ≡ p.object = cc in
     let queue : notice.queue ≡ p.queue = cc in
     let cause : notice.cause ≡ Cycle p.cycle j = cc in
     let by_it : is_by j notice.cause ≡ true = ap (is_by j) cause ∙ eq-eqb j j refl in
+    let gives : List ℕ = if_worked k q (Some notice) in
     elim (cases_eq k j) [
       | inl same ↦
           let there : j < length v.pending =
@@ -106,56 +85,44 @@ hands_first k q j v w notice p rest is gives pends =
           let now : pending_of w k ≡ rest =
           list ∙ ap (λ m. slice_index_or (slice_set v.pending j rest) m []) same
           ∙ get_or-set_same v.pending j rest [] there in
-          let given : if_worked k q (Some notice) ≡ if_for q p =
+          let given : gives ≡ if_for q p =
           worked_is k q notice.object notice.queue notice.cause p object queue
           (ap (λ i. is_by i notice.cause) same ∙ by_it) in
-          let before : waits_in k q v ≡ if_for q p ++ all_for q rest = rw (same, is) refl in
-          subst (λ ns. Sub ns (waits_in k q v ++ []))
-          (before ∙ ap (λ ns. ns ++ all_for q rest) (sym given)
-          ∙ ap (λ ps. if_worked k q (Some notice) ++ all_for q ps) (sym now))
-          (sub_longer (waits_in k q v) [])
+          let none : hand_of v (Worker j) ≡ None = free (Worker j) in
+          let before : waiting_in k q v ≡ if_for q p ++ all_for q rest = rw (same, none, is) refl in
+          let empty : hand_of w (Worker k) ≡ None = hands ∙ free (Worker k) in
+          rw (empty, now)
+          (subst (λ ns. Sub ns (waiting_in k q v ++ []))
+          (before ∙ ap (λ ns. ns ++ all_for q rest) (sym given)) (sub_longer (waiting_in k q v) []))
       | inr other ↦
-          let none : if_worked k q (Some notice) ≡ [] = none_worked k q notice (not_by k j notice.cause other by_it) in
-          subst (λ ns. Shifts k q v w ns []) (sym none)
-          (subst (λ ps. Sub (all_for q ps) (waits_in k q v ++ []))
-          (sym (list ∙ get_or-set_other v.pending j k rest [] other)) (sub_longer (waits_in k q v) []))
+          passes k q v w gives [] (none_worked k q notice (not_by k j notice.cause other by_it))
+          (still k q v w [] hands (list ∙ get_or-set_other v.pending j k rest [] other))
     ]
 
-hands_shift : (k q j : ℕ) (a b : State) (notice : HeldNotice) (ps : List Pending) → pending_of a.world j ≡ ps
+hands_shift : (k q j : ℕ) (a b : State) (notice : HeldNotice) (ps : List Pending) → HandsFree a.world
+    → hand_of b.world (Worker k) ≡ hand_of a.world (Worker k) → pending_of a.world j ≡ ps
     → HandsOn a j ps (told_reply (replies.Notice notice)) b
     → b.world.pending ≡ slice_set a.world.pending j (without_pending (pending_of a.world j) notice.hold.object)
     → Shifts k q a.world b.world (if_worked k q (Some (as_notice notice))) []
-hands_shift k q j a b notice [] is row pends = let no = row.0 in absurd cc
-hands_shift k q j a b notice (p ∷ rest) is row pends =
+hands_shift k q j a b notice [] free hands is row pends = let no = row.0 in absurd cc
+hands_shift k q j a b notice (p ∷ rest) free hands is row pends =
     let told_as : told.Notice notice.hold.object notice.queue notice.cause
     ≡ told.Notice p.object p.queue (Cycle p.cycle j) = row.0 in
     let object : notice.hold.object ≡ p.object = cc in
     let own : (p.object == notice.hold.object) ≡ true = eq-eqb p.object notice.hold.object (sym object) in
     let left : without_pending (pending_of a.world j) notice.hold.object ≡ rest = rw (is, own) refl in
-    hands_first k q j a.world b.world (as_notice notice) p rest is told_as
+    hands_first k q j a.world b.world (as_notice notice) p rest free hands is told_as
     (pends ∙ ap (slice_set a.world.pending j) left)
 
 -- a hand that tells of no notice gives none
-hand_told : (k q j : ℕ) (a b : State) (reply : Reply) → told_notice reply ≡ None
-    → b.world.pending ≡ pending_after a.world (Some (heap.Hand j)) reply → Shifts k q a.world b.world [] []
-hand_told k q j a b (told.Notice n i cause) none pends = absurd cc
-hand_told k q j a b reply none pends = same_waits k q a.world b.world [] pends
+hand_told : (k q j : ℕ) (a b : State) (reply : Reply) → hand_of b.world (Worker k) ≡ hand_of a.world (Worker k)
+    → told_notice reply ≡ None → b.world.pending ≡ pending_after a.world (Some (heap.Hand j)) reply
+    → Shifts k q a.world b.world [] []
+hand_told k q j a b (told.Notice n i cause) hands none pends = absurd cc
+hand_told k q j a b reply hands none pends = still k q a.world b.world [] hands (at a.world b.world k pends)
 
--- worker j clears n, and hands are empty
-clears_shift : (whole : List Row) (k q j n : ℕ) (v w : World)
-    → ((i : ℕ) → registered_in (reference_at v.heap n) ≡ Some i → is_registered whole n i ≡ true)
-    → hand_of v (Worker k) ≡ None → hand_of w (Worker k) ≡ None
-    → w.pending ≡ (pended v j n (registered_in (reference_at v.heap n))).pending
-    → Shifts k q v w [] (if_registered whole q (if j == k then Some n else None))
-clears_shift whole k q j n v w made free still pends =
-    let clears : List ℕ = if_registered whole q (if j == k then Some n else None) in
-    let worked : Option Notice → World → List ℕ = λ hand u. if_worked k q hand ++ waits_in k q u in
-    subst (λ (hand : Option Notice). Sub (worked hand w) (waits_in k q v ++ clears)) still
-    (subst (λ (hand : Option Notice). Sub (worked (hand_of w (Worker k)) w) (worked hand v ++ clears)) free
-    (clears_for whole k q j n v w (registered_in (reference_at v.heap n)) made (still ∙ sym free) pends))
-
-module _ (whole : List Row) (k q : ℕ) (x y : HeapState) (free : hand_of x.state.world (Worker k) ≡ None)
-    (still : hand_of y.state.world (Worker k) ≡ None)
+module _ (whole : List Row) (k q : ℕ) (x y : HeapState) (free : HandsFree x.state.world)
+    (hands : hand_of y.state.world (Worker k) ≡ hand_of x.state.world (Worker k))
     (made : (n i : ℕ) → registered_in (reference_at x.state.world.heap n) ≡ Some i
     → is_registered whole n i ≡ true) where
   abbrev ShiftsBy : NamedStep → HeapReply → Type 0
@@ -166,48 +133,52 @@ module _ (whole : List Row) (k q : ℕ) (x y : HeapState) (free : hand_of x.stat
   accepted_shifts : (step : NamedStep) (reply : HeapReply) → IsAccepted x step reply y → GivesOut x.number step reply
       → Moves x.state (Some (renumbered step)) (told_reply reply) y.state → ShiftsBy step reply
   accepted_shifts (heap.Hand j) (replies.Notice notice) of gives moves =
-      hands_shift k q j x.state y.state notice (pending_of x.state.world j) refl of.accepts moves.pending
+      hands_shift k q j x.state y.state notice (pending_of x.state.world j) free hands refl of.1 moves.pending
   accepted_shifts (heap.Hand j) (replies.Told reply) of gives moves =
-      hand_told k q j x.state y.state reply gives moves.pending
+      hand_told k q j x.state y.state reply hands gives moves.pending
   accepted_shifts (heap.Hand j) reply of gives moves = absurd gives
   accepted_shifts (heap.ClearNext j) (replies.Told (told.Cleared n)) of gives moves =
       let clears : List ℕ = if_registered whole q (if j == k then Some n else None) in
       subst (λ ns. Shifts k q x.state.world y.state.world [] ns) (sym (append-nil clears))
-      (clears_shift whole k q j n x.state.world y.state.world (made n) free still moves.pending)
-  accepted_shifts step reply of gives moves = same_waits k q x.state.world y.state.world _ moves.pending
+      (clears_for whole k q j n x.state.world y.state.world (registered_in (reference_at x.state.world.heap n))
+      (made n) hands moves.pending)
+  accepted_shifts step reply of gives moves =
+      still k q x.state.world y.state.world _ hands (at x.state.world y.state.world k moves.pending)
 
   -- what is refused gives nothing
   refused_shifts : (step : NamedStep) (reply : HeapReply) (fault : Fault) → told_reply reply ≡ told.Refused fault
       → y.state ≡ x.state → ShiftsBy step reply
   refused_shifts (heap.Hand j) (replies.Notice notice) fault answer same = absurd cc
   refused_shifts step reply fault answer same =
-      same_waits k q x.state.world y.state.world _ (ap (λ (a : State). a.world.pending) same)
+      still k q x.state.world y.state.world _ hands
+      (at x.state.world y.state.world k (ap (λ (a : State). a.world.pending) same))
 
 -- ---- runs
 
--- hands are empty, and what was handed on, followed by what waits, comes in the order of clearing
+-- what was handed on, followed by what waits, comes in the order of clearing
 record IsOrdered (k q : ℕ) (past : List HeapEntry) (x : HeapState) : Type 0 where
   from : IsFrom past x
-  free : hand_of x.state.world (Worker k) ≡ None
-  ordered : Sub (handed_in k q past ++ waits_in k q x.state.world) (clearing_order (rows_of past) k q)
+  ordered : Sub (handed_in k q past ++ waiting_in k q x.state.world) (clearing_order (rows_of past) k q)
 
 call_shifts : (k q : ℕ) (past : List HeapEntry) (x : HeapState) (call : HeapEntry) (y : HeapState)
-    → IsOrdered k q past x → hand_of y.state.world (Worker k) ≡ None → IsHeapMove x call.step call.reply y
+    → IsFrom past x → IsHeapMove x call.step call.reply y
     → Shifts k q x.state.world y.state.world (handed_of k q call.step call.reply)
     (cleared_in (rows_of past ++ row_of (world_step call.step) (told_reply call.reply)) k q
     (row_of (world_step call.step) (told_reply call.reply)))
-call_shifts k q past x call y is still move =
+call_shifts k q past x call y from move =
+    let reply : Reply = told_reply call.reply in
     let rows : List Row = rows_of past in
-    let more : List Row = row_of (world_step call.step) (told_reply call.reply) in
+    let more : List Row = row_of (world_step call.step) reply in
+    let hands = same_hand x.state.world y.state.world (Worker k)
+    (row_others x.number x.state y.state call.step reply move.row) in
     let made : (n i : ℕ) → registered_in (reference_at x.state.world.heap n) ≡ Some i
     → is_registered (rows ++ more) n i ≡ true =
-    λ n i there. registered_more rows more n i (made_at rows x.state.world.heap.objects n i is.from.objects there) in
-    elim (move_kind x y call.step call.reply move) [
-      | inl of ↦
-          refused_shifts (rows ++ more) k q x y is.free still made call.step call.reply of.fault of.answer of.same
+    λ n i there. registered_more rows more n i (made_at rows x.state.world.heap.objects n i from.known.objects there) in
+    elim (heap_kind x.number x.state y.state call.step reply move.row) [
+      | inl of ↦ refused_shifts (rows ++ more) k q x y from.free hands made call.step call.reply of.0 of.1 of.2
       | inr of ↦
-          accepted_shifts (rows ++ more) k q x y is.free still made call.step call.reply of move.gives
-          (heap_tells x.state y.state (renumbered call.step) (told_reply call.reply) of.accepts)
+          accepted_shifts (rows ++ more) k q x y from.free hands made call.step call.reply of move.gives
+          (heap_tells x.state y.state (renumbered call.step) reply of.1)
     ]
 
 call_ordered : (k q : ℕ) (past : List HeapEntry) (x : HeapState) (call : HeapEntry) (y : HeapState)
@@ -215,48 +186,31 @@ call_ordered : (k q : ℕ) (past : List HeapEntry) (x : HeapState) (call : HeapE
 call_ordered k q past x call y is move =
     let rows : List Row = rows_of past in
     let more : List Row = row_of (world_step call.step) (told_reply call.reply) in
-    let still : hand_of y.state.world (Worker k) ≡ None =
-    same_hand x.state.world y.state.world (Worker k)
-    (row_others x.number x.state y.state call.step (told_reply call.reply) move.row) ∙ is.free in
-    let order : List ℕ = cleared_in (rows ++ more) k q rows in
-    let clears : List ℕ = cleared_in (rows ++ more) k q more in
+    let whole : List Row = rows ++ more in
+    let handed : List ℕ = handed_in k q past in
     let gives : List ℕ = handed_of k q call.step call.reply in
-    let waits : List ℕ = waits_in k q y.state.world in
-    let before : Sub (handed_in k q past ++ waits_in k q x.state.world) order =
-    sub_through (handed_in k q past ++ waits_in k q x.state.world) (clearing_order rows k q) order is.ordered
-    (more_cleared rows more k q rows) in
-    let next : Sub ((handed_in k q past ++ gives) ++ waits) (order ++ clears) =
-    sub_shift (handed_in k q past) (waits_in k q x.state.world) order gives waits clears before
-    (call_shifts k q past x call y is still move) in
+    let waits : List ℕ = waiting_in k q y.state.world in
+    let next : Sub ((handed ++ gives) ++ waits) (cleared_in whole k q rows ++ cleared_in whole k q more) =
+    row_in_order k q x.state.world y.state.world handed (cleared_in whole k q rows) gives (cleared_in whole k q more)
+    (sub_through (handed ++ waiting_in k q x.state.world) (clearing_order rows k q) (cleared_in whole k q rows)
+    is.ordered (more_cleared rows more k q rows)) (call_shifts k q past x call y is.from move) in
     record {
       from = call_from past x call y is.from move;
-      free = still;
       ordered =
           subst (λ (rs : List Row). Sub (handed_in k q (past ++ call ∷ []) ++ waits) (clearing_order rs k q))
           (sym (rows_last past call))
-          (subst (λ ns. Sub (ns ++ waits) (clearing_order (rows ++ more) k q))
-          (sym (gathered_last (handed_of k q) past call))
-          (subst (λ ns. Sub ((handed_in k q past ++ gives) ++ waits) ns)
-          (sym (cleared-append (rows ++ more) k q rows more)) next));
+          (subst (λ ns. Sub (ns ++ waits) (clearing_order whole k q)) (sym (gathered_last (handed_of k q) past call))
+          (subst (λ ns. Sub ((handed ++ gives) ++ waits) ns) (sym (cleared-append whole k q rows more)) next));
     }
-
--- at first nothing waits
-none_wait : (q : ℕ) (ps : List Pending) → AllByRecursion (λ (p : Pending). ⊥) ps → all_for q ps ≡ []
-none_wait q [] none = refl
-none_wait q (p ∷ ps) none = absurd none.0
-
-nothing_waits : (config : Config) (k q : ℕ) → waits_in k q (first_world config) ≡ []
-nothing_waits config k q =
-    none_wait q (pending_of (first_world config) k) (nothing_pending (λ (p : Pending). ⊥) config.workers k)
 
 pub handed_in_order : (config : Config) (number : ℕ) (calls : List HeapEntry) (last : HeapState) (k q : ℕ)
     → IsHeapRun config number calls last → Sub (handed_in k q calls) (clearing_order (rows_of calls) k q)
 handed_in_order config number calls last k q run =
-    let first : Sub ([] ++ waits_in k q (first_world config)) [] = nothing_waits config k q in
     let is = run_holds (IsOrdered k q) (call_ordered k q) config number
-    (record { from = first_from config number; free = first_hand config (Worker k); ordered = first }) calls last run in
-    sub_through (handed_in k q calls) (handed_in k q calls ++ waits_in k q last.state.world)
-    (clearing_order (rows_of calls) k q) (sub_longer (handed_in k q calls) (waits_in k q last.state.world)) is.ordered
+    (record { from = first_from config number; ordered = nothing_waits config k q }) calls last run in
+    sub_through (handed_in k q calls) (handed_in k q calls ++ waiting_in k q last.state.world)
+    (clearing_order (rows_of calls) k q) (sub_longer (handed_in k q calls) (waiting_in k q last.state.world))
+    is.ordered
 
 pub in_clearing_order : (config : Config) (number : ℕ) (calls : List HeapEntry) (last : HeapState) (k q : ℕ)
     → IsHeapRun config number calls last

@@ -4,7 +4,7 @@ use Rattle.std.proofs.Common.{◌≡◌, ℕ, List, [], ◌∷◌, ◌++◌, Opt
 use Rattle.std.specs.Prelude.{nat_eq}
 use Rattle.std.specs.List.{IsDistinct}
 use Rattle.std.proofs.lemmas.Bool.{false≢true}
-use Rattle.ref_share.proofs.Common.{State, NamedStep, scanned_in_cycle, Config, Fault, Row, Step, told_reply}
+use Rattle.ref_share.proofs.Common.{State, NamedStep, scanned_in_cycle, Config, Reply, Row, told_reply}
 use Rattle.ref_share.proofs.Common.{HeapReply, HeapState, IsHeapMove, HeapEntry, IsHeapRun, world_step, row_of}
 use Rattle.ref_share.proofs.Common.{rows_of}
 use Rattle.ref_base.specs.CollectorRows.{IsLeft}
@@ -14,21 +14,21 @@ use Rattle.ref_base.specs.declared.heap_step.HeapStep.TheVariants as heap
 use Rattle.ref_base.specs.declared.reply.Reply.TheVariants as told
 use Rattle.ref_base.specs.declared.step.Step.TheVariants as steps
 use Rattle.ref_base.proofs.LeftObjects.{LeftMeans, heap_left}
-use Rattle.ref_base.proofs.RowMoves.{Moves, heap_tells}
-use Rattle.ref_base.proofs.ScannedOnce.{HasScanned, first_scanned, still_scanned, one_more, begins, scan_tells}
+use Rattle.ref_base.proofs.HeapTurns.{renumbered, heap_kind}
+use Rattle.ref_base.proofs.ScannedOnce.{HasScanned, first_scanned, scanned_then, turn_scanned}
 use Rattle.ref_base.proofs.ScannedOnce.{left_if_grey}
 use Rattle.ref_world.specs.declared.heap_machine.HeapReply.TheVariants as replies
 use Rattle.ref_share.proofs.HeapRows.{rows_last}
-use Rattle.ref_share.proofs.HeapRuns.{renumbered, IsAccepted, move_kind, run_holds}
+use Rattle.ref_share.proofs.HeapRuns.{move_turn, run_holds}
 
 -- ---- a mark goes on only while an object is left
 
 call_left : (past : List HeapEntry) (x : HeapState) (call : HeapEntry) (y : HeapState) → LeftMeans x.state
     → IsHeapMove x call.step call.reply y → LeftMeans y.state
 call_left past x call y means move =
-    elim (move_kind x y call.step call.reply move) [
-      | inl of ↦ subst (λ (a : State). LeftMeans a) (sym of.same) means
-      | inr of ↦ heap_left x.state y.state (renumbered call.step) (told_reply call.reply) of.accepts means
+    elim (heap_kind x.number x.state y.state call.step (told_reply call.reply) move.row) [
+      | inl of ↦ subst (λ (a : State). LeftMeans a) (sym of.2) means
+      | inr of ↦ heap_left x.state y.state (renumbered call.step) (told_reply call.reply) of.1 means
     ]
 
 pub refused_left : (config : Config) (number : ℕ) (front : List HeapEntry) (a b : HeapState)
@@ -41,32 +41,17 @@ refused_left config number front a b run move =
 
 -- ---- no object is scanned twice
 
-accepted_scanned : (ns : List ℕ) (x y : HeapState) (step : NamedStep) (reply : HeapReply) → HasScanned ns x.state
-    → IsAccepted x step reply y → Moves x.state (Some (renumbered step)) (told_reply reply) y.state
-    → HasScanned (scanned_from ns (row_of (world_step step) (told_reply reply))) y.state
-accepted_scanned ns x y (heap.Scan k) (replies.Told (told.Scanned n)) scanned of moves =
-    one_more ns x.state y.state k n scanned
-    (scan_tells 0 x.state y.state k n None of.passes of.accepts) moves.scanned moves.config
-accepted_scanned ns x y (heap.Begin now how) (replies.Told (told.Cycle n)) scanned of moves =
-    begins ns x.state y.state scanned moves.scanned moves.config
-accepted_scanned ns x y step reply scanned of moves =
-    still_scanned ns x.state y.state scanned moves.scanned moves.config
+-- a call scans what its row tells
+call_then : (ns : List ℕ) (step : NamedStep) (reply : Reply)
+    → scanned_then ns (Some (renumbered step)) reply ≡ scanned_from ns (row_of (world_step step) reply)
+call_then ns (heap.Begin now how) (told.Cycle n) = refl
+call_then ns (heap.Scan k) (told.Scanned n) = refl
+call_then ns step reply = refl
 
 scanned_append : (ns : List ℕ) (rows more : List Row)
     → scanned_from ns (rows ++ more) ≡ scanned_from (scanned_from ns rows) more
 scanned_append ns [] more = refl
 scanned_append ns (row ∷ rows) more = scanned_append (scanned_with ns row.step row.reply) rows more
-
--- a refused row scans nothing
-refused_with : (ns : List ℕ) (step : Step) (fault : Fault) → scanned_with ns step (told.Refused fault) ≡ ns
-refused_with ns (steps.Begin now how) fault = refl
-refused_with ns (steps.Scan k) fault = refl
-refused_with ns step fault = refl
-
-refused_scans : (ns : List ℕ) (step : Option Step) (fault : Fault)
-    → scanned_from ns (row_of step (told.Refused fault)) ≡ ns
-refused_scans ns None fault = refl
-refused_scans ns (Some step) fault = refused_with ns step fault
 
 pub call_scanned : (past : List HeapEntry) (x : HeapState) (call : HeapEntry) (y : HeapState)
     → HasScanned (scanned_in_cycle (rows_of past)) x.state → IsHeapMove x call.step call.reply y
@@ -74,19 +59,11 @@ pub call_scanned : (past : List HeapEntry) (x : HeapState) (call : HeapEntry) (y
 call_scanned past x call y scanned move =
     let ns : List ℕ = scanned_in_cycle (rows_of past) in
     let more : List Row = row_of (world_step call.step) (told_reply call.reply) in
-    let now : scanned_in_cycle (rows_of (past ++ call ∷ [])) ≡ scanned_from ns more =
-    ap scanned_in_cycle (rows_last past call) ∙ scanned_append [] (rows_of past) more in
-    subst (λ ms. HasScanned ms y.state) (sym now)
-    (elim (move_kind x y call.step call.reply move) [
-      | inl of ↦
-          let none : scanned_from ns more ≡ ns =
-          ap (λ r. scanned_from ns (row_of (world_step call.step) r)) of.answer
-          ∙ refused_scans ns (world_step call.step) of.fault in
-          subst (λ ms. HasScanned ms y.state) (sym none) (subst (λ (a : State). HasScanned ns a) (sym of.same) scanned)
-      | inr of ↦
-          accepted_scanned ns x y call.step call.reply scanned of
-          (heap_tells x.state y.state (renumbered call.step) (told_reply call.reply) of.accepts)
-    ])
+    subst (λ ms. HasScanned ms y.state)
+    (call_then ns call.step (told_reply call.reply)
+    ∙ sym (ap scanned_in_cycle (rows_last past call) ∙ scanned_append [] (rows_of past) more))
+    (turn_scanned ns x.state y.state (Some (renumbered call.step)) (told_reply call.reply)
+    (move_turn x y call.step call.reply move) scanned)
 
 pub scanned_once : (config : Config) (number : ℕ) (calls : List HeapEntry) (last : HeapState)
     → IsHeapRun config number calls last → IsDistinct nat_eq (scanned_in_cycle (rows_of calls))
