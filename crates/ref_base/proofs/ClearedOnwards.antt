@@ -6,9 +6,9 @@ use Rattle.std.proofs.lemmas.Bool.{cases_Bool, or_cases, and_parts, eqb-true, eq
 use Rattle.ref_base.proofs.Common.{has, Object, Reference, object_at, is_there, numbers, IsRising, is_soft, is_phantom}
 use Rattle.ref_base.proofs.Common.{is_new_clear, new_clears, slot_at, reference_in, reference_at, changed_reference}
 use Rattle.ref_base.proofs.Common.{cleared, got_at, World, Notice, Pending, hand_of, queue_at, pending_of, State}
-use Rattle.ref_base.proofs.Common.{first_state, refusal, IsAnswer, IsRow, IsRun, doomed_at, shown, referent_of, Gets}
-use Rattle.ref_base.proofs.Common.{referent_got, reference_of, EndsMark, HeapAccepts, AreCounted, NamedStep}
-use Rattle.ref_base.proofs.Common.{HasOldNumbers, Mutator, Worker, Config, Fault, Reply, Row}
+use Rattle.ref_base.proofs.Common.{first_state, IsRow, IsRun, doomed_at, shown, referent_of, Gets}
+use Rattle.ref_base.proofs.Common.{referent_got, reference_of, EndsMark, HeapAccepts, NamedStep}
+use Rattle.ref_base.proofs.Common.{Mutator, Worker, Config, Reply, Row}
 use Rattle.ref_base.specs.declared.heap_step.HeapStep.TheVariants as heap
 use Rattle.ref_base.specs.declared.step.Step.TheVariants as steps
 use Rattle.ref_base.specs.declared.reply.Reply.TheVariants as replies
@@ -18,7 +18,7 @@ use Rattle.ref_base.proofs.CountedTraces.{legal_counted}
 use Rattle.ref_base.proofs.NewClears.{IsRising-tail, is_there-rising, has-new_clears}
 use Rattle.ref_base.proofs.OldNames.{legal_numbers}
 use Rattle.ref_base.proofs.OneQueue.{next_heap}
-use Rattle.ref_base.proofs.HeapTurns.{at_rest, IsTurn, accepted, turn_keeps, row_turn}
+use Rattle.ref_base.proofs.HeapTurns.{at_rest, IsTurn, accepted, row_turn}
 use Rattle.ref_base.proofs.RunFronts.{goes_on}
 use Rattle.ref_base.proofs.RunLaws.{run_more, run_on}
 use Rattle.ref_base.proofs.ShownObjects.{shown-no}
@@ -176,9 +176,9 @@ same_cleared n a b same is = (
 -- so each turn keeps it
 pub turn_cleared : (n : ℕ) (a b : State) (asked : Option NamedStep) (reply : Reply) → IsTurn a asked reply b
     → StaysCleared n a → StaysCleared n b
-turn_cleared n a b asked reply turn is =
-    turn_keeps (StaysCleared n) (same_cleared n) (λ s c step told none row before. heap_cleared n s c step told before row)
-    a b asked reply turn is
+turn_cleared n a b asked reply (inl of) is = same_cleared n a b of.after is
+turn_cleared n a b asked reply (inr of) is =
+    same_cleared n of.left b of.after (heap_cleared n a of.left of.step reply is of.accepts)
 
 -- and a mark's end begins it
 pub end_clears : (a b : State) (count n : ℕ) → IsRising (numbers a.world.heap.objects)

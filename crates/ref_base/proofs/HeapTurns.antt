@@ -52,17 +52,6 @@ accepted a b step reply never turn =
           )
     ]
 
--- what an accepted step keeps, and what hands and queues are not, each turn keeps
-module _ (Q : State → Type 0) (like : (c d : State) → at_rest d ≡ at_rest c → Q c → Q d)
-    (keeps : (a c : State) (step : NamedStep) (reply : Reply) → heap_refusal 0 a step ≡ None
-    → HeapAccepts a step reply c → Q a → Q c) where
-  pub turn_keeps : (a b : State) (asked : Option NamedStep) (reply : Reply) → IsTurn a asked reply b → Q a → Q b
-  turn_keeps a b asked reply turn is =
-      elim turn [
-        | inl of ↦ like a b of.after is
-        | inr of ↦ like of.left b of.after (keeps a of.left of.step reply of.passes of.accepts is)
-      ]
-
 -- ---- a row of the world
 
 pub row_turn : (a : State) (row : Row) (b : State) → AreCounted a.world → IsRow a row b

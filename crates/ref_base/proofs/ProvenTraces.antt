@@ -4,7 +4,6 @@ use Rattle.std.proofs.Common.{◌≡◌, ℕ, ◌+◌, Bool, true, ◌==◌, ◌
 use Rattle.std.proofs.Common.{Option, Some, None, refl, sym, ap, ◌∙◌, subst, inl, inr}
 use Rattle.std.specs.List.{AllByRecursion}
 use Rattle.std.proofs.lemmas.Bool.{cases_Bool, eq-eqb, eqb-true, and_from}
-use Rattle.std.proofs.lemmas.List.{append-nil, append_assoc}
 use Rattle.ref_base.proofs.Common.{Object, Reference, object_at, is_soft, registered_in, reference_in}
 use Rattle.ref_base.proofs.Common.{changed_reference, got_at, World, Notice, hand_of, State, first_state, begun}
 use Rattle.ref_base.proofs.Common.{refusal, ticked, begun_state, HeapAccepts, IsAnswer, IsRow, IsRun, registers}
@@ -19,6 +18,7 @@ use Rattle.ref_base.proofs.Reshaping.{queue-cleared}
 use Rattle.ref_base.proofs.RowForms.{but_world, ticked_world}
 use Rattle.ref_base.proofs.CarryLaws.{OfHand, Carries, Lasts}
 use Rattle.ref_base.proofs.CarryRows.{Mints, row_carries, first_carries, carries_more}
+use Rattle.ref_base.proofs.RunFronts.{legal_holds}
 
 -- ---- what rows have, more rows have
 
@@ -230,15 +230,6 @@ row_known past a row b known h =
     carries_more (IsMade more) (IsMade more) (IsProven more) (IsProven more) Stay (λ c. cycle_from 0 more ≡ c) b.world
     (λ o is. is) (λ notice is. is) cycle next
 
-run_known : (past : List Row) (a : State) (rows : List Row) (b : State) → Known past a.world → IsRun a rows b
-    → Known (past ++ rows) b.world
-run_known past a [] b known run =
-    subst (λ (rs : List Row). Known rs b.world) (sym (append-nil past))
-    (subst (λ (s : State). Known past s.world) (sym run) known)
-run_known past a (row ∷ rows) b known run =
-    subst (λ (rs : List Row). Known rs b.world) (append_assoc past (row ∷ []) rows)
-    (run_known (past ++ row ∷ []) run.0 rows b (row_known past a row run.0 known run.1) run.2)
-
 -- ---- from the first state
 
 in_hand : (rows : List Row) (hand : Option Notice) → OfHand (IsProven rows) hand → IsProvenIn rows hand
@@ -252,8 +243,9 @@ hand_known rows w (Worker k) known = in_hand rows (hand_of w (Worker k)) (known.
 pub legal_known : (config : Config) (rows : List Row) (b : State) → IsRun (first_state config) rows b
     → Known rows b.world
 legal_known config rows b run =
-    run_known [] (first_state config) rows b
-    (first_carries (IsMade []) (IsProven []) (λ c. cycle_from 0 [] ≡ c) config refl) run
+    legal_holds config (λ past a. Known past a.world)
+    (λ past a row c before known h. row_known past a row c known h)
+    (first_carries (IsMade []) (IsProven []) (λ c. cycle_from 0 [] ≡ c) config refl) rows b run
 
 -- what is out after a legal trace comes from its rows
 pub legal_proven : (config : Config) (rows : List Row) (b : State) → IsRun (first_state config) rows b

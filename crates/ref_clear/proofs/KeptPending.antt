@@ -7,7 +7,7 @@ use Rattle.ref_clear.proofs.Common.{shaded_all, with_mark, seen_heap, IsSoundHea
 use Rattle.ref_clear.proofs.Common.{pending_lists_of, AreRegistered, Worklist, worklists_of}
 use Rattle.ref_base.proofs.HasLaws.{has-first, has-left, has-right}
 use Rattle.ref_objects.specs.Grounds.{Tag, cleared_in_at}
-use Rattle.ref_mark.proofs.KeptTags.{KeepsCycles, shaded_all-tags}
+use Rattle.ref_mark.proofs.KeptParts.{KeepsCycles, same_tags, shaded_all-own}
 use Rattle.ref_mark.proofs.LoopLemmas.{shaded_heap}
 use Rattle.ref_clear.proofs.KeptReferences.{KeepsReferences}
 use Rattle.ref_clear.proofs.PendingFacts.{pending_is_there}
@@ -70,7 +70,7 @@ registered_kept k j lists kept registered n within = subst IsSome (sym (kept n w
 pub kept_shaded : (k j : CycleHeap) (ns : List ℕ) (n : ℕ) → IsKept k j n → IsKept k (shaded_all j ns) n
 kept_shaded k j ns n kept = (
   ap (λ h. registered_in (reference_at h n)) (shaded_heap j (shaded_all j ns) ns refl) ∙ kept.0,
-  ap (λ ts. cleared_in_at ts n) (shaded_all-tags j ns) ∙ kept.1,
+  ap (λ ts. cleared_in_at ts n) (same_tags (shaded_all-own j ns)) ∙ kept.1,
 )
 
 module _ {k : CycleHeap} {lists : List Worklist} {swept_to : ℕ} (sound : IsSoundHeap k lists swept_to) where

@@ -3,7 +3,7 @@ use Rattle.std.proofs.Common.{◌≡◌, ℕ, true, List, sym, ap, subst, ◌∙
 use Rattle.ref_clear.proofs.Common.{NamedStep, joined, pending_numbers, CycleHeap, shaded_all, ClearHeap}
 use Rattle.ref_clear.proofs.Common.{with_mark, after_in, seen_heap, IsSoundHeap, Worklist, worklists_of}
 use Rattle.ref_mark.specs.MarkCalls.{after_in_cycle}
-use Rattle.ref_mark.proofs.KeptTags.{cycles_after}
+use Rattle.ref_mark.proofs.KeptParts.{cycles_after}
 use Rattle.ref_clear.proofs.KeptRows.{goes_on_sweeping}
 use Rattle.ref_clear.proofs.KeptReferences.{after_stays}
 use Rattle.ref_clear.proofs.KeptPending.{AreKept, seen_kept, registered_kept, kept_shaded, kept_by}

@@ -7,12 +7,12 @@ use Rattle.ref_clear.proofs.Common.{ClearHeap, with_mark, pending_at, begun_with
 use Rattle.ref_clear.proofs.Common.{looked_from, cut_at, handed_from, unhooked, swept_some, refusal_in, after_in}
 use Rattle.ref_clear.proofs.Common.{queue_in}
 use Rattle.ref_base.specs.declared.heap_step.HeapStep.TheVariants as heap
-use Rattle.ref_mark.proofs.OwnNumbers.{cleared-number, begun-number, number_after as number_after_marking}
+use Rattle.ref_mark.proofs.KeptParts.{same_number, cleared-own, begun-own, number_after as number_after_marking}
 
 unhooked-number : (k : CycleHeap) (m s : ℕ) (held queue : Option ℕ) → (unhooked k m s held queue).heap_no ≡ k.heap_no
-unhooked-number k m s None queue = cleared-number k m s
-unhooked-number k m s (Some n) None = cleared-number k m s
-unhooked-number k m s (Some n) (Some q) = cleared-number k m s
+unhooked-number k m s None queue = same_number (cleared-own k m s)
+unhooked-number k m s (Some n) None = same_number (cleared-own k m s)
+unhooked-number k m s (Some n) (Some q) = same_number (cleared-own k m s)
 
 pended-number : (c : ClearHeap) (w n : ℕ) (queue : Option ℕ) → (heap_pended c w n queue).mark.heap_no ≡ c.mark.heap_no
 pended-number c w n None = refl
@@ -39,7 +39,8 @@ number-left c after None same = same
 number-left c after (Some fault) same = refl
 
 pub number_after : (c : ClearHeap) (step : NamedStep) → (after_in c step).mark.heap_no ≡ c.mark.heap_no
-number_after c heap.EndClear = search (number-left, refl)
+number_after c (heap.Begin now how) =
+    number-left c (begun_with c now how) (refusal_in c (heap.Begin now how))
+    (same_number (begun-own c.mark now how (pending_numbers c.pending)))
 number_after c step =
-    search
-    (number-left, unhooked-number, looked-number, handed-number, begun-number, number_after_marking c.mark step, refl)
+    search (number-left, unhooked-number, looked-number, handed-number, number_after_marking c.mark step, refl)

@@ -6,7 +6,7 @@ use Rattle.ref_clear.proofs.Common.{after_mint_in, ground_of, holding, unhooked,
 use Rattle.ref_clear.proofs.Common.{after_in, answer_of_unhook, Worklist, seen_heap}
 use Rattle.ref_clear.proofs.Common.{with_mark, AreRegistered, IsSoundHeap}
 use Rattle.ref_objects.specs.Grounds.{cleared_in_at}
-use Rattle.ref_mark.proofs.KeptTags.{cleared-tags}
+use Rattle.ref_mark.proofs.KeptParts.{same_tags, cleared-own}
 use Rattle.ref_clear.proofs.KeptReferences.{cleared_stays}
 use Rattle.ref_clear.proofs.KeptPending.{AreKept, kept_by, seen_kept, registered_kept}
 use Rattle.ref_base.specs.Refusals.{drop_refusal}
@@ -75,7 +75,7 @@ module _ {k : CycleHeap} {lists : List Worklist} {swept_to : ℕ} (sound : IsSou
   unhook_kept : AreKept k (holding (with_cleared k m s) n) lists
   unhook_kept =
       kept_by sound (holding (with_cleared k m s) n) (cleared_stays k m s)
-      (λ i. ap (λ ts. cleared_in_at ts i) (cleared-tags k m s))
+      (λ i. ap (λ ts. cleared_in_at ts i) (same_tags (cleared-own k m s)))
 
   pub unhook_done : {i j : CycleHeap} {object : ℕ} → replies.Object object ≡ mint_answer_in k n
       → i ≡ after_mint_in k n → j ≡ marks.after_in_cycle i (heap.Clear m s)

@@ -28,5 +28,4 @@ pub mod BarrierLemmas
 pub mod RoomLemmas
 pub mod LoopLemmas
 pub mod FirstStates
-pub mod OwnNumbers
-pub mod KeptTags
+pub mod KeptParts

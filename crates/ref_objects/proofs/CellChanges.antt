@@ -9,7 +9,7 @@ use Rattle.ref_objects.proofs.Common.{Tabled, Table, tabled_at, tabled_by, place
 use Rattle.ref_objects.proofs.Common.{Entry, changed_tabled, marked_of, holds_in, is_unheld, is_marked_in, table_freed}
 use Rattle.ref_objects.proofs.PlaceLemmas.{IsPlaceOf, IsPlaceOf-lent, IsMissing, IsMissing-lent}
 use Rattle.ref_objects.proofs.ChangeLemmas.{told_of, seen_changed, placed_changed, tabled_by-changed}
-use Rattle.ref_objects.proofs.ChangeLemmas.{there, room_to_free, held_here, unheld_here, seen_freed, placed_freed}
+use Rattle.ref_objects.proofs.ChangeLemmas.{there, room_to_free, goes, stays, seen_freed, placed_freed}
 use Rattle.ref_objects.proofs.ChangeLemmas.{tabled_by-freed, told_of_none, seen_missing_changed, seen_missing_freed}
 use Rattle.ref_objects.proofs.MarkLemmas.{marks_same, marks_changed, marks_le, marks_fewer}
 
@@ -59,23 +59,21 @@ module _ {cells borrowed : List (Option Tabled)} {es lent : List Entry} {ps : Li
     module _ {t : Table} (view : seen_table cells es last ≡ t) {cell : Option Tabled} (was : cell ≡ get_or cells p cell)
         {held : Bool} (is : held ≡ nat_lt 0 (holds_in cell)) where
       pub kept_answer : held ≡ true → false ≡ is_unheld (tabled_at t.tabled n)
-      kept_answer is_held =
-          sym (held_here sound.placed place was (sym is ∙ is_held))
-          ∙ ap (λ (s : Table). is_unheld (tabled_at s.tabled n)) view
+      kept_answer is_held = answered_there view is_unheld was (sym (stays cell (sym is ∙ is_held)))
 
       pub kept_there : held ≡ true → t ≡ table_freed t n
       kept_there is_held = let stays = sym (kept_answer is_held) in simp stays refl
 
       pub freed_answer : held ≡ false → true ≡ is_unheld (tabled_at t.tabled n)
       freed_answer unheld =
-          sym (unheld_here sound.placed place was (sym is ∙ unheld))
-          ∙ ap (λ (s : Table). is_unheld (tabled_at s.tabled n)) view
+          let some : is_some cell ≡ true = told_of sound.placed place is_some was ∙ sym (there sound.placed place) in
+          answered_there view is_unheld was (sym (goes cell some (sym is ∙ unheld)))
 
       pub freed_there : held ≡ false → {new : Option Tabled} → new ≡ None → {free : List ℕ} → free ≡ ps ++ p ∷ []
           → seen_table (set cells p new) es last ≡ table_freed t n
       freed_there unheld gone more =
-          seen_freed sound.placed place gone more (unheld_here sound.placed place was (sym is ∙ unheld))
-          ∙ ap (λ (s : Table). table_freed s n) view
+          let goes = ap (λ (s : Table). is_unheld (tabled_at s.tabled n)) view ∙ sym (freed_answer unheld) in
+          seen_freed sound.placed place gone more goes ∙ ap (λ (s : Table). table_freed s n) view
 
     -- its mark is counted no more
     module _ {cell : Option Tabled} (was : cell ≡ get_or cells p cell) {less : ℕ}

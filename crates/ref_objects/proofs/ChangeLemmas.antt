@@ -97,11 +97,11 @@ pub changed-past : (t : Table) (n i : ℕ) (value : Option ℕ) → has_field (t
 changed-past t n i value past = ap (λ ks. record t { tabled = ks }) (changed_tabled-past t.tabled n i value past)
 
 -- an object goes where it is there and nobody holds it
-goes : (k : Option Tabled) → is_some k ≡ true → nat_lt 0 (holds_in k) ≡ false → is_unheld k ≡ true
+pub goes : (k : Option Tabled) → is_some k ≡ true → nat_lt 0 (holds_in k) ≡ false → is_unheld k ≡ true
 goes None there unheld = absurd (false≢true there)
 goes (Some k) there unheld = ap not unheld
 
-stays : (k : Option Tabled) → nat_lt 0 (holds_in k) ≡ true → is_unheld k ≡ false
+pub stays : (k : Option Tabled) → nat_lt 0 (holds_in k) ≡ true → is_unheld k ≡ false
 stays None held = refl
 stays (Some k) held = ap not held
 
@@ -170,20 +170,6 @@ module _ {cells : List (Option Tabled)} {es : List Entry} {ps : List ℕ} {last 
           small = omega (arith, placed.small, size);
           few = omega (arith, placed.few, size);
         }
-
-  pub unheld_here : {cell : Option Tabled} → cell ≡ get_or cells p cell → nat_lt 0 (holds_in cell) ≡ false
-      → is_unheld (tabled_at (tabled_by cells es) n) ≡ true
-  unheld_here was unheld =
-      goes (tabled_at (tabled_by cells es) n) (sym there) (sym (told_of (λ k. nat_lt 0 (holds_in k)) was) ∙ unheld)
-
-  pub held_here : {cell : Option Tabled} → cell ≡ get_or cells p cell → nat_lt 0 (holds_in cell) ≡ true
-      → is_unheld (tabled_at (tabled_by cells es) n) ≡ false
-  held_here was held =
-      stays (tabled_at (tabled_by cells es) n) (sym (told_of (λ k. nat_lt 0 (holds_in k)) was) ∙ held)
-
-  pub seen_tabled : is_unheld (tabled_at (tabled_by cells es) n) ≡ false
-      → seen_table cells es last ≡ table_freed (seen_table cells es last) n
-  seen_tabled held = simp held refl
 
   module _ {new : Option Tabled} (is : new ≡ None) {free : List ℕ} (more : free ≡ ps ++ p ∷ []) where
     pub tabled_by-freed : tabled_by (set cells p new) es ≡ without_tabled (tabled_by cells es) n

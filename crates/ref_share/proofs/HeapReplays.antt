@@ -1,8 +1,8 @@
 -- After every history of a heap the collector has the world of its replay, but for what was swept and for what waits to
 -- be cleared; what is gone or doomed is out of reach; and a mark's end has shown what it cleared.
-use Rattle.std.proofs.Common.{◌≡◌, ℕ, List, [], ◌∷◌, ◌++◌, Some, None, inl, inr, refl, sym, ap, ◌∙◌, subst}
+use Rattle.std.proofs.Common.{◌≡◌, ℕ, List, [], ◌∷◌, ◌++◌, Some, inl, inr, refl, sym, ap, ◌∙◌, subst}
 use Rattle.std.proofs.lemmas.List.{append_assoc}
-use Rattle.ref_share.proofs.Common.{HeapAccepts, EndsMark, State, NamedStep, heap_refusal, World, first_world}
+use Rattle.ref_share.proofs.Common.{State, NamedStep, World, first_world}
 use Rattle.ref_share.proofs.Common.{graph_of, Config, Reply, entry, told_reply, HeapReply, HeapState, IsHeapMove}
 use Rattle.ref_share.proofs.Common.{HeapEntry, IsHeapRun, first_heap_state, heap_replayed, HeapMarkEnded}
 use Rattle.ref_base.specs.MarkEnds.{AreOutOfReach}
@@ -16,7 +16,6 @@ use Rattle.ref_base.proofs.MarkShows.{RefersToDead}
 use Rattle.ref_base.proofs.OutHeaps.{AreOutBy}
 use Rattle.ref_base.proofs.OutRuns.{turn_out}
 use Rattle.ref_base.proofs.OutTraces.{first_out, out_of_reach}
-use Rattle.ref_base.proofs.PhaseLaws.{of_phase}
 use Rattle.ref_world.specs.declared.heap_machine.HeapReply.TheVariants as replies
 use Rattle.ref_share.specs.HeapTraces.{heap_replayed_from}
 use Rattle.ref_share.proofs.HeapRuns.{move_turn, run_holds}

@@ -1,9 +1,9 @@
 -- The history of a heap: what is held is what was given out and not taken back.
-use Rattle.std.proofs.Common.{◌≡◌, ℕ, ◌+◌, ◌<◌, ◌==◌, Bool, true, false, List, [], ◌∷◌, ◌++◌}
+use Rattle.std.proofs.Common.{◌≡◌, ℕ, ◌+◌, ◌<◌, ◌==◌, true, List, [], ◌∷◌, ◌++◌}
 use Rattle.std.proofs.Common.{Option, Some, None, is_some, refl, sym, ap, ◌∙◌, arith, inl, inr}
 use Rattle.std.proofs.lemmas.Bool.{cases_Bool, false≢true, eqb-true, eq-eqb, and_parts}
-use Rattle.ref_share.proofs.Common.{State, IsHeapAnswer, HeapAccepts, tally, NamedStep, has, heap_refusal, unless}
-use Rattle.ref_share.proofs.Common.{is_counted, has_slot, told_notice, Config, Fault, NoSuchActor, Reply, Leads}
+use Rattle.ref_share.proofs.Common.{State, IsHeapAnswer, tally, NamedStep, has, heap_refusal}
+use Rattle.ref_share.proofs.Common.{is_counted, has_slot, told_notice, Config, Fault, Reply, Leads}
 use Rattle.ref_share.proofs.Common.{told_reply, GivesOut, HeapReply, HeapState, IsHeapMove, HeapEntry, IsHeapRun}
 use Rattle.ref_share.proofs.Common.{first_heap_state}
 use Rattle.ref_base.specs.CollectorRows.{IsHeapRow}

@@ -2,11 +2,10 @@
 use Rattle.std.proofs.Common.{◌≡◌, ℕ, ◌<◌, ◌==◌, true, if◌then◌else◌, List, [], ◌∷◌, ◌++◌, length, Option, Some, None}
 use Rattle.std.proofs.Common.{inl, inr, refl, sym, ap, ◌∙◌, subst}
 use Rattle.std.specs.Prelude.{slice_index_or, slice_set}
-use Rattle.std.specs.List.{AllByRecursion}
 use Rattle.std.proofs.lemmas.Bool.{cases_Bool, cases_eq, eq-eqb}
 use Rattle.std.proofs.lemmas.List.{append-nil, append_assoc, get_or-set_same, get_or-set_other}
 use Rattle.ref_share.proofs.Common.{is_by, HandsOn, is_subsequence, State, reference_at, registered_in, NamedStep}
-use Rattle.ref_share.proofs.Common.{pended, without_pending, told_notice, clearing_order, World, Pending, first_world}
+use Rattle.ref_share.proofs.Common.{without_pending, told_notice, clearing_order, World, Pending}
 use Rattle.ref_share.proofs.Common.{pending_of, Cycle, Config, Fault, Reply, Row, HeldNotice, as_notice, told_reply}
 use Rattle.ref_share.proofs.Common.{GivesOut, HeapReply, HeapState, IsHeapMove, HeapEntry, IsHeapRun, world_step}
 use Rattle.ref_share.proofs.Common.{row_of, rows_of, handed_of, handed_in}

@@ -1,18 +1,17 @@
 -- The history of a heap: no object is scanned twice in a cycle, and a mark goes on only while an object is left to
 -- scan.
-use Rattle.std.proofs.Common.{◌≡◌, ℕ, List, [], ◌∷◌, ◌++◌, Option, Some, None, inl, inr, refl, sym, ap, ◌∙◌, subst}
+use Rattle.std.proofs.Common.{◌≡◌, ℕ, List, [], ◌∷◌, ◌++◌, Some, inl, inr, refl, sym, ap, ◌∙◌, subst}
 use Rattle.std.specs.Prelude.{nat_eq}
 use Rattle.std.specs.List.{IsDistinct}
 use Rattle.std.proofs.lemmas.Bool.{false≢true}
 use Rattle.ref_share.proofs.Common.{State, NamedStep, scanned_in_cycle, Config, Reply, Row, told_reply}
-use Rattle.ref_share.proofs.Common.{HeapReply, HeapState, IsHeapMove, HeapEntry, IsHeapRun, world_step, row_of}
+use Rattle.ref_share.proofs.Common.{HeapState, IsHeapMove, HeapEntry, IsHeapRun, world_step, row_of}
 use Rattle.ref_share.proofs.Common.{rows_of}
 use Rattle.ref_base.specs.CollectorRows.{IsLeft}
 use Rattle.ref_base.specs.ScannedRows.{scanned_with, scanned_from}
 use Rattle.ref_base.specs.declared.fault.Fault.TheVariants.{GreyLeft}
 use Rattle.ref_base.specs.declared.heap_step.HeapStep.TheVariants as heap
 use Rattle.ref_base.specs.declared.reply.Reply.TheVariants as told
-use Rattle.ref_base.specs.declared.step.Step.TheVariants as steps
 use Rattle.ref_base.proofs.LeftObjects.{LeftMeans, heap_left}
 use Rattle.ref_base.proofs.HeapTurns.{renumbered, heap_kind}
 use Rattle.ref_base.proofs.ScannedOnce.{HasScanned, first_scanned, scanned_then, turn_scanned}
