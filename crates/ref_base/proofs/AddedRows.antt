@@ -1,6 +1,6 @@
 -- What a put that was added tells: whose notice it was, that it is new in its queue, and at which position it stands.
-use Rattle.std.proofs.Common.{◌≡◌, ℕ, Bool, true, false, List, ◌∷◌, ◌++◌, length, Option, Some, None, inl, inr}
-use Rattle.std.proofs.Common.{refl, sym, ap, ◌∙◌, subst}
+use Rattle.std.proofs.Common.{◌≡◌, ℕ, Bool, true, false, List, ◌∷◌, ◌++◌, length, Option, Some, None, inl, inr, refl}
+use Rattle.std.proofs.Common.{sym, ap, ◌∙◌, subst}
 use Rattle.ref_base.proofs.Common.{enqueued, was_put, put_into, taken_from, was_closed, Notice, object_of, hand_of}
 use Rattle.ref_base.proofs.Common.{queue_at, replayed, State, first_state, refusal, PutsInto, Puts, IsAnswer, IsRun}
 use Rattle.ref_base.proofs.Common.{IsLegal, IsProven, IsProvenIn, Config, Actor, Fault, Row}

@@ -1,7 +1,7 @@
 -- A mark's end, a worker's look at a reference and a sweep keep that the collector has the world of the replay, but for
 -- what was swept and for what waits to be cleared.
-use Rattle.std.proofs.Common.{◌≡◌, ℕ, ◌<◌, Bool, true, false, ◌&&◌, ◌==◌, List, ◌++◌, map}
-use Rattle.std.proofs.Common.{take, drop, Option, Some, None, refl, sym, ap, ◌∙◌, subst, inl, inr}
+use Rattle.std.proofs.Common.{◌≡◌, ℕ, ◌<◌, Bool, true, false, ◌&&◌, ◌==◌, List, ◌++◌, map, take, drop, Option, Some}
+use Rattle.std.proofs.Common.{None, refl, sym, ap, ◌∙◌, subst, inl, inr}
 use Rattle.std.specs.Prelude.{slice_set}
 use Rattle.std.proofs.lemmas.Bool.{cases_Bool, and_right, eq-eqb, eqb-true}
 use Rattle.std.proofs.lemmas.List.{map-id, take-append-drop}

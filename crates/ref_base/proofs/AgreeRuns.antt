@@ -1,7 +1,7 @@
 -- Each row keeps that the collector has the world of the replay, but for what was swept and for what waits to be
 -- cleared.
-use Rattle.std.proofs.Common.{◌≡◌, ℕ, Bool, false, ◌&&◌, List, [], Option, Some, None, refl, sym}
-use Rattle.std.proofs.Common.{ap, ◌∙◌, subst, inl, inr}
+use Rattle.std.proofs.Common.{◌≡◌, ℕ, Bool, false, ◌&&◌, List, [], Option, Some, None, refl, sym, ap, ◌∙◌, subst, inl}
+use Rattle.std.proofs.Common.{inr}
 use Rattle.std.proofs.lemmas.Bool.{false≢true}
 use Rattle.ref_base.proofs.Common.{has, IsRising, World, first_world, told_object, NamedStep, heap_step, handed}
 use Rattle.ref_base.proofs.Common.{after_heap, after_queues, after, State, first_state, joined, heap_refusal, is_in}

@@ -1,27 +1,20 @@
 -- What a row of a heap carries on: whatever holds of each object, of each notice and of the cycle holds afterwards
 -- where it holds of what the row makes anew.
-use Rattle.std.proofs.Common.{◌≡◌, ℕ, ◌+◌, Bool, true, false, if◌then◌else◌}
-use Rattle.std.proofs.Common.{List, [], ◌∷◌, ◌++◌, length, map, take, drop, min, Option, Some, None}
-use Rattle.std.proofs.Common.{refl, ap, ◌∙◌, inl, inr}
-use Rattle.std.specs.Prelude.{slice_set}
-use Rattle.std.proofs.lemmas.Bool.{cases_Bool}
-use Rattle.ref_base.proofs.Common.{has, Object, plain_object, Heap, slot_at, reference_at, registered_in, with_slot}
-use Rattle.ref_base.proofs.Common.{with_reference, cleared, got_at, with_field, got, cut, stored, made, nulls}
-use Rattle.ref_base.proofs.Common.{new_reference, with_hold, without_hold, World, Notice, Pending, pending_of}
-use Rattle.ref_base.proofs.Common.{with_heap, NamedStep, adopted, pended, handed_on, begun, with_phase}
-use Rattle.ref_base.proofs.Common.{without_pending, State, Gives, ticked, on_heap, with_world, Makes, Loads, Gets}
-use Rattle.ref_base.proofs.Common.{Unhooks, Holds, Scans, ClearsNext, HandsOn, Sweeps, HeapAccepts, value_reply}
-use Rattle.ref_base.proofs.Common.{looked_at, looked, list_at, begun_state, shown, without, doomed_at, is_in, Own}
-use Rattle.ref_base.proofs.Common.{Cycle, Idle, Marking, Clearing, Sweeping, Reply}
+use Rattle.std.proofs.Common.{◌≡◌, ℕ, ◌+◌, Bool, true, false, if◌then◌else◌, List, [], ◌∷◌, ◌++◌, map, take, Option}
+use Rattle.std.proofs.Common.{Some, None, refl, ap}
+use Rattle.ref_base.proofs.Common.{Object, plain_object, Heap, slot_at, reference_at, registered_in, with_reference}
+use Rattle.ref_base.proofs.Common.{cleared, got_at, with_field, got, cut, stored, made, nulls, new_reference, with_hold}
+use Rattle.ref_base.proofs.Common.{World, Notice, Pending, pending_of, with_heap, NamedStep, pended, handed_on, begun}
+use Rattle.ref_base.proofs.Common.{with_phase, without_pending, State, Makes, HeapAccepts, begun_state, shown, without}
+use Rattle.ref_base.proofs.Common.{doomed_at, Cycle, Clearing, Reply}
 use Rattle.ref_base.specs.declared.heap_step.HeapStep.TheVariants as heap
 use Rattle.ref_base.specs.declared.reply.Reply.TheVariants as replies
 use Rattle.ref_base.specs.Replay.{if_told, after_heap}
 use Rattle.ref_base.proofs.HeapMoves.{IsNoEnd, moved, heap_moves}
 use Rattle.ref_base.proofs.Places.{all_push}
-use Rattle.ref_base.proofs.CarryLaws.{all_map, all_without}
-use Rattle.ref_base.proofs.RowForms.{but_world, ticked_world}
-use Rattle.ref_base.proofs.CarryLaws.{Carries, Lasts, notice_from, all_without_first, shown_lasts, carries_objects}
-use Rattle.ref_base.proofs.CarryLaws.{carries_changed, carries_pending, carries_begun, in_world, given, given_anew}
+use Rattle.ref_base.proofs.CarryLaws.{all_map, all_without, Carries, Lasts, notice_from, all_without_first, shown_lasts}
+use Rattle.ref_base.proofs.CarryLaws.{carries_objects, carries_changed, carries_pending, carries_begun, in_world, given}
+use Rattle.ref_base.proofs.CarryLaws.{given_anew}
 
 module _ (O : Object → Type 0) (P : Notice → Type 0) (C : ℕ → Type 0) where
   -- ---- the rows of a heap

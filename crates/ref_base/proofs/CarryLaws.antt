@@ -1,8 +1,7 @@
 -- What changes of a world carry on: whatever holds of each object, of each notice, in hands, in queues and still to be
 -- handed on, and of the cycle.
-use Rattle.std.proofs.Common.{◌≡◌, ℕ, Bool, true, false, not, ◌&&◌, ◌==◌}
-use Rattle.std.proofs.Common.{List, [], ◌∷◌, map, Option, Some, None}
-use Rattle.std.proofs.Common.{sym, ap, ◌∙◌, subst, inl, inr}
+use Rattle.std.proofs.Common.{◌≡◌, ℕ, Bool, true, false, not, ◌&&◌, ◌==◌, List, [], ◌∷◌, map, Option, Some, None, sym}
+use Rattle.std.proofs.Common.{ap, ◌∙◌, subst, inl, inr}
 use Rattle.std.specs.Prelude.{slice_index_or, slice_set}
 use Rattle.std.specs.List.{AllByRecursion}
 use Rattle.std.proofs.lemmas.Bool.{cases_Bool}
@@ -103,7 +102,7 @@ module _ (O : Object → Type 0) (P : Notice → Type 0) (C : ℕ → Type 0) wh
       → Carries O P C w → Carries O P C (record w { pending = slice_set w.pending k ps })
   carries_pending w k ps all carries =
       let each = set_each (λ j qs. AllByRecursion (λ p. P (notice_from j p)) qs) w.pending k ps (λ _. []) all
-          carries.pendings in
+      carries.pendings in
       assumption (each, carries)
 
   pub carries_hand : (w : World) (who : Actor) (hand : Option Notice) → OfHand P hand → Carries O P C w
@@ -119,7 +118,7 @@ module _ (O : Object → Type 0) (P : Notice → Type 0) (C : ℕ → Type 0) wh
       → Carries O P C (with_queue w q lists)
   carries_queue w q lists all carries =
       let each = set_each (λ _ (l : Lists Notice). AllByRecursion P l.stands) w.queues q lists new_queue all
-          carries.stands in
+      carries.stands in
       assumption (each, carries)
 
   pub carries_begun : (w : World) (now : ℕ) (how : Urgency) (n : ℕ) → C n → Carries O P C w

@@ -1,17 +1,16 @@
 -- What a row of the world carries on: whatever holds of each object, of each notice that is out or will be given, and
 -- of the cycle holds afterwards where it holds of what the row makes anew.
-use Rattle.std.proofs.Common.{◌≡◌, ℕ, Bool, true, false, ◌==◌}
-use Rattle.std.proofs.Common.{List, [], ◌∷◌, length, replicate, zero, suc, Option, Some, None}
-use Rattle.std.proofs.Common.{refl, sym, ap, ◌∙◌, subst, inl, inr}
+use Rattle.std.proofs.Common.{◌≡◌, ℕ, Bool, true, false, ◌==◌, List, [], ◌∷◌, length, replicate, zero, suc, Option}
+use Rattle.std.proofs.Common.{Some, None, refl, sym, ap, ◌∙◌, subst, inl, inr}
 use Rattle.std.specs.Prelude.{slice_index_or}
 use Rattle.std.specs.List.{AllByRecursion}
 use Rattle.std.proofs.lemmas.Bool.{cases_Bool}
 use Rattle.ref_base.proofs.Common.{Object, slot_at, reference_at, registered_in, Lists, enqueued, with_parcel, World}
 use Rattle.ref_base.proofs.Common.{Notice, Pending, first_world, object_of, hand_of, queue_at, pending_of, with_hand}
-use Rattle.ref_base.proofs.Common.{with_queue, NamedStep, hold_of, spending, handed, put_in, took, taken_out}
-use Rattle.ref_base.proofs.Common.{notice_of, closed_queue, State, with_world, with_handed, AcceptsAsking, Unhooks}
-use Rattle.ref_base.proofs.Common.{HandsOn, PutsInto, Puts, Polls, Closes, Accepts, IsAnswer, IsRow, reference_of}
-use Rattle.ref_base.proofs.Common.{refusal, Config, Actor, Mutator, Worker, Own, Cycle, Fault, Step, Reply, Row}
+use Rattle.ref_base.proofs.Common.{with_queue, NamedStep, hold_of, spending, handed, put_in, took, taken_out, notice_of}
+use Rattle.ref_base.proofs.Common.{closed_queue, State, with_world, with_handed, AcceptsAsking, Unhooks, HandsOn}
+use Rattle.ref_base.proofs.Common.{PutsInto, Puts, Polls, Closes, Accepts, IsAnswer, IsRow, reference_of, refusal}
+use Rattle.ref_base.proofs.Common.{Config, Actor, Mutator, Worker, Own, Cycle, Fault, Step, Reply, Row}
 use Rattle.ref_base.specs.declared.heap_step.HeapStep.TheVariants as heap
 use Rattle.ref_base.specs.declared.step.Step.TheVariants as steps
 use Rattle.ref_base.specs.declared.reply.Reply.TheVariants as replies

@@ -1,14 +1,13 @@
 -- What a mark's end clears reads as cleared from then on, in every state after it.
-use Rattle.std.proofs.Common.{◌≡◌, ℕ, ◌<◌, true, false, ◌==◌, List, [], ◌∷◌, ◌++◌, map, Option, Some, None}
-use Rattle.std.proofs.Common.{inl, inr, refl, sym, ap, ◌∙◌, subst, arith}
+use Rattle.std.proofs.Common.{◌≡◌, ℕ, ◌<◌, true, false, ◌==◌, List, [], ◌∷◌, ◌++◌, map, Option, Some, None, inl, inr}
+use Rattle.std.proofs.Common.{refl, sym, ap, ◌∙◌, subst, arith}
 use Rattle.std.specs.List.{AllByRecursion}
 use Rattle.std.proofs.lemmas.Bool.{cases_Bool, or_cases, and_parts, eqb-true, eq-eqb, both_ways, true≢false}
 use Rattle.ref_base.proofs.Common.{has, Object, Reference, object_at, is_there, numbers, IsRising, is_soft, is_phantom}
 use Rattle.ref_base.proofs.Common.{is_new_clear, new_clears, slot_at, reference_in, reference_at, changed_reference}
 use Rattle.ref_base.proofs.Common.{cleared, got_at, World, Notice, Pending, hand_of, queue_at, pending_of, State}
-use Rattle.ref_base.proofs.Common.{first_state, IsRow, IsRun, doomed_at, shown, referent_of, Gets}
-use Rattle.ref_base.proofs.Common.{referent_got, reference_of, EndsMark, HeapAccepts, NamedStep}
-use Rattle.ref_base.proofs.Common.{Mutator, Worker, Config, Reply, Row}
+use Rattle.ref_base.proofs.Common.{first_state, IsRow, IsRun, doomed_at, shown, referent_of, Gets, referent_got}
+use Rattle.ref_base.proofs.Common.{reference_of, EndsMark, HeapAccepts, NamedStep, Mutator, Worker, Config, Reply, Row}
 use Rattle.ref_base.specs.declared.heap_step.HeapStep.TheVariants as heap
 use Rattle.ref_base.specs.declared.step.Step.TheVariants as steps
 use Rattle.ref_base.specs.declared.reply.Reply.TheVariants as replies
@@ -237,7 +236,7 @@ pub never_got : (config : Config) (front : List Row) (a b : State) (count : ℕ)
     → has (new_clears a.world.heap.objects (doomed_at a)) n ≡ true → slot_at c.world.heap m s ≡ Some n
     → ¬ (IsRow c (record { step = steps.Get m d s; reply = replies.Object k }) e)
 never_got config front a b count rows c n m d s k e first ends later new holds row =
-    let run = run_on (first_state config) front a b c (record { step = steps.EndMark; reply = replies.Doomed count }) rows
-    first ends later in
+    let ended : Row = record { step = steps.EndMark; reply = replies.Doomed count } in
+    let run = run_on (first_state config) front a b c ended rows first ends later in
     no_get c e m d s n k holds (stays_cleared config front a b count rows c n first ends later new)
     (row_turn c (record { step = steps.Get m d s; reply = replies.Object k }) e (legal_counted config _ c run) row)

@@ -1,6 +1,6 @@
 -- In every legal trace each queue has a worker's references in the order in which the worker cleared them.
-use Rattle.std.proofs.Common.{◌≡◌, ℕ, true, false, ◌==◌, ◌&&◌, List, [], ◌∷◌, ◌++◌, length, replicate}
-use Rattle.std.proofs.Common.{zero, suc, ◌<◌, Option, Some, None, inl, inr, refl, sym, ap, ◌∙◌, subst, append_assoc}
+use Rattle.std.proofs.Common.{◌≡◌, ℕ, true, false, ◌==◌, ◌&&◌, List, [], ◌∷◌, ◌++◌, length, replicate, zero, suc, ◌<◌}
+use Rattle.std.proofs.Common.{Option, Some, None, inl, inr, refl, sym, ap, ◌∙◌, subst, append_assoc}
 use Rattle.std.specs.Prelude.{slice_index_or, slice_set, is_some}
 use Rattle.std.proofs.lemmas.Bool.{cases_eq, eqb-true, ltb-true, ne_eqb, both_ways, and_right}
 use Rattle.std.proofs.lemmas.List.{append-nil, get_or-set_same, get_or-set_other}
@@ -29,9 +29,9 @@ use Rattle.ref_base.proofs.RowMoves.{Moves, row_moves}
 use Rattle.ref_base.proofs.RowHands.{IsBy, others_after, row_hands, hand_tells, hand_given}
 use Rattle.ref_base.proofs.HandCauses.{IsOwnOrPut, HaveCauses, legal_causes}
 use Rattle.ref_base.proofs.Subsequences.{Sub, sub_none, sub_through, sub_behind, sub_before, sub_is}
-use Rattle.ref_base.proofs.ClearingShifts.{waiting_in, Shifts, still, emptied, put, passes}
-use Rattle.ref_base.proofs.ClearingShifts.{mutator_taking, mutator_emptied, mutator_polled, queue_closed, released}
-use Rattle.ref_base.proofs.ClearingShifts.{adopt_pends, release_pends, at, clears_for, hands_to}
+use Rattle.ref_base.proofs.ClearingShifts.{waiting_in, Shifts, still, emptied, put, passes, mutator_taking}
+use Rattle.ref_base.proofs.ClearingShifts.{mutator_emptied, mutator_polled, queue_closed, released, adopt_pends}
+use Rattle.ref_base.proofs.ClearingShifts.{release_pends, at, clears_for, hands_to}
 
 -- ---- a put that was added
 
@@ -103,7 +103,8 @@ hands_on k q a b j n i cause None is sound row hands moves =
     let tells = hand_given a b j n i cause None is row in
     let first = unless_passes (is_worker a.world.heap j) _ _ is in
     hands_to k q a.world b.world j n i cause tells.first tells.rest tells.pending tells.object tells.queue tells.empty
-    (hand_tells a b j (replies.Notice n i cause) None row) (rw sound (ltb-true j a.world.heap.config.workers first.0)) hands moves.pending
+    (hand_tells a b j (replies.Notice n i cause) None row)
+    (rw sound (ltb-true j a.world.heap.config.workers first.0)) hands moves.pending
 
 pub step_shifts : (whole : List Row) (k q : ℕ) (a b : State) (step : Step) (reply : Reply)
     → length a.world.worker_hands ≡ a.world.heap.config.workers → HaveCauses a.world
@@ -193,7 +194,8 @@ run_in_order config whole past a (row ∷ rows) b k q added cleared is before or
     subst (λ (rs : List Row). is_registered rs n i ≡ true) is
     (registered_more past (row ∷ rows) n i (made_at past a.world.heap.objects n i known.objects there)) in
     let shifts = step_shifts whole k q a mid row.step row.reply
-    (run_sound (first_state config) past a (first_sound config) before).worker_hands (legal_causes config past a before) made run.1
+    (run_sound (first_state config) past a (first_sound config) before).worker_hands
+    (legal_causes config past a before) made run.1
     (row_moves a row mid (legal_counted config past a before) run.1)
     (same_hand (others_after a.world row.step row.reply) mid.world (Worker k)
     (row_hands a mid row.step row.reply (refusal a row.step) run.1)) in

@@ -12,8 +12,7 @@ pub use Rattle.ref_base.specs.Collectors.{State, first_state, joined}
 pub use Rattle.ref_base.specs.CountedHolds.{AreCounted, holds_after, in_hand, in_hands, in_queues, tally}
 pub use Rattle.ref_base.specs.DoomedSets.{MayDoom, any_is, is_new_clear, new_clears, refers_into}
 pub use Rattle.ref_base.specs.GraphViews.{linked_reference, objects_in, stored_object}
-pub use Rattle.ref_base.specs.Graphs.{Graph, Object, Reference, is_there, numbers, object_at, plain_object}
-pub use Rattle.ref_base.specs.Graphs.{with_object}
+pub use Rattle.ref_base.specs.Graphs.{Graph, Object, Reference, is_there, numbers, object_at, plain_object, with_object}
 pub use Rattle.ref_base.specs.HeapSteps.{NamedStep, handed, heap_step, hold_of, spending, taking}
 pub use Rattle.ref_base.specs.Heaps.{Heap, changed_at, changed_in, changed_reference, cleared, cut, got, got_at, made}
 pub use Rattle.ref_base.specs.Heaps.{new_reference, nulls, one_fewer, one_more, reference_at, reference_in}
@@ -36,9 +35,8 @@ pub use Rattle.ref_base.specs.Refusals.{has_slot, has_slots, heap_refusal, held_
 pub use Rattle.ref_base.specs.Refusals.{is_counted, is_empty, is_in, is_mutator, is_queue, is_queue_or_none, is_worker}
 pub use Rattle.ref_base.specs.Refusals.{minting_refusal, object_refusal, reference_refusal, refusal, unhook_refusal}
 pub use Rattle.ref_base.specs.Refusals.{unless, unless_empty, unless_full}
-pub use Rattle.ref_base.specs.Replay.{adopted, after, after_heap, after_queues, begun, closed_queue, handed_on}
-pub use Rattle.ref_base.specs.Replay.{if_told, notice_of, pended, put_in, replayed, taken_out, took, with_phase}
-pub use Rattle.ref_base.specs.Replay.{without_pending}
+pub use Rattle.ref_base.specs.Replay.{adopted, after, after_heap, after_queues, begun, closed_queue, handed_on, if_told}
+pub use Rattle.ref_base.specs.Replay.{notice_of, pended, put_in, replayed, taken_out, took, with_phase, without_pending}
 pub use Rattle.ref_base.specs.ScannedRows.{scanned_in_cycle}
 pub use Rattle.ref_base.specs.Searches.{ArePathEnds, IsSearched, added_all, allowed, fields_of, phantom_referents}
 pub use Rattle.ref_base.specs.Searches.{searched_referents}
@@ -47,8 +45,8 @@ pub use Rattle.ref_base.specs.Told.{is_added, is_done, is_mark_end, is_nothing, 
 pub use Rattle.ref_base.specs.Told.{told_taken, told_value}
 pub use Rattle.ref_base.specs.WorkerOrder.{clearing_order, if_registered, is_registered, registers}
 pub use Rattle.ref_base.specs.Worlds.{Notice, Pending, SameOthers, World, first_world, graph_of, hand_of, object_of}
-pub use Rattle.ref_base.specs.Worlds.{pending_numbers, pending_of, queue_at, with_hand, with_heap}
-pub use Rattle.ref_base.specs.Worlds.{with_pending, with_queue}
+pub use Rattle.ref_base.specs.Worlds.{pending_numbers, pending_of, queue_at, with_hand, with_heap, with_pending}
+pub use Rattle.ref_base.specs.Worlds.{with_queue}
 pub use Rattle.ref_base.specs.declared.actor.Actor.{Actor}
 pub use Rattle.ref_base.specs.declared.actor.Actor.TheVariants.{Mutator, Worker}
 pub use Rattle.ref_base.specs.declared.cause.Cause.{Cause}

@@ -2,8 +2,8 @@
 use Rattle.std.proofs.Common.{◌≡◌, ℕ, List, Option, Some, None, refl, ap, ◌∙◌}
 use Rattle.ref_base.proofs.Common.{Object, Heap, slot_at, reference_at, registered_in, changed_in, with_reference}
 use Rattle.ref_base.proofs.Common.{cleared, got_at, with_field, got, cut, one_more, World, told_object, told_value}
-use Rattle.ref_base.proofs.Common.{is_done, told_cycle, is_mark_end, NamedStep, pended, State, HeapAccepts}
-use Rattle.ref_base.proofs.Common.{holds_after, Reply}
+use Rattle.ref_base.proofs.Common.{is_done, told_cycle, is_mark_end, NamedStep, pended, State, HeapAccepts, holds_after}
+use Rattle.ref_base.proofs.Common.{Reply}
 use Rattle.ref_base.specs.declared.heap_step.HeapStep.TheVariants as heap
 use Rattle.ref_base.specs.declared.reply.Reply.TheVariants as replies
 use Rattle.ref_base.proofs.HeapMoves.{moved, heap_moves}

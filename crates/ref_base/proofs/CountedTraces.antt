@@ -1,15 +1,14 @@
 -- In every legal trace each notice that is out is a hold that the heap counts, row by row.
 use Rattle.std.proofs.Common.{◌≡◌, ℕ, ◌<◌, Bool, true, false, List, [], ◌∷◌, length, Option, Some, None, refl, sym, ap}
-use Rattle.std.proofs.Common.{◌∙◌}
-use Rattle.std.proofs.Common.{subst, inl, inr}
+use Rattle.std.proofs.Common.{◌∙◌, subst, inl, inr}
 use Rattle.std.proofs.lemmas.Bool.{and_parts}
 use Rattle.ref_base.proofs.Common.{one_more, one_fewer, World, Notice, Pending, SameOthers, hand_of, queue_at}
 use Rattle.ref_base.proofs.Common.{with_hand, NamedStep, hold_of, spending, handed, State, first_state, Gives}
 use Rattle.ref_base.proofs.Common.{with_handed, AcceptsAsking, Unhooks, HandsOn, PutsInto, Puts, Polls, Closes}
 use Rattle.ref_base.proofs.Common.{enqueued, object_of, put_in, took, closed_queue, with_world, Accepts, IsAnswer}
 use Rattle.ref_base.proofs.Common.{IsRow, IsRun, unless_full, refusal, is_mutator, is_worker, is_queue, is_actor}
-use Rattle.ref_base.proofs.Common.{has_slot, AreCounted, holds_after, Config, Actor, Mutator, Worker, Own, Cycle}
-use Rattle.ref_base.proofs.Common.{Fault, Step, Reply, Row}
+use Rattle.ref_base.proofs.Common.{has_slot, AreCounted, holds_after, Config, Actor, Mutator, Worker, Own, Cycle, Fault}
+use Rattle.ref_base.proofs.Common.{Step, Reply, Row}
 use Rattle.ref_base.specs.declared.heap_step.HeapStep.TheVariants as heap
 use Rattle.ref_base.specs.declared.step.Step.TheVariants as steps
 use Rattle.ref_base.specs.declared.reply.Reply.TheVariants as replies
@@ -18,8 +17,8 @@ use Rattle.ref_base.proofs.CountedWorlds.{counted_still, counted_given, counted_
 use Rattle.ref_base.proofs.CountedWorlds.{counted_closed, first_counted}
 use Rattle.ref_base.proofs.Common.{heap_step}
 use Rattle.ref_base.proofs.RowForms.{asked_of, ticked_world, unless_passes}
-use Rattle.ref_base.proofs.RowLaws.{heap_keeps, registered, IsRegistered, row_goes}
-use Rattle.ref_base.proofs.RowLaws.{mutator_within, worker_within, actor_has, queue_within}
+use Rattle.ref_base.proofs.RowLaws.{heap_keeps, registered, IsRegistered, row_goes, mutator_within, worker_within}
+use Rattle.ref_base.proofs.RowLaws.{actor_has, queue_within}
 use Rattle.ref_base.proofs.SoundWorlds.{HasHand, IsSound, NoticeBelow, first_sound}
 
 -- ---- the forms of a row

@@ -5,9 +5,9 @@ use Rattle.std.specs.Prelude.{slice_index_or}
 use Rattle.std.proofs.lemmas.Bool.{eq-eqb}
 use Rattle.std.proofs.lemmas.List.{map-append}
 use Rattle.ref_base.proofs.Common.{has, Heap, one_more, one_fewer, Lists, new_queue, new_queues, with_parcel, World}
-use Rattle.ref_base.proofs.Common.{Notice, SameOthers, first_world, object_of, hand_of, queue_at, with_hand}
-use Rattle.ref_base.proofs.Common.{with_queue, put_in, took, taken_out, notice_of, closed_queue, tally, in_hand}
-use Rattle.ref_base.proofs.Common.{in_hands, in_queues, AreCounted, Config, Actor, Mutator, Worker}
+use Rattle.ref_base.proofs.Common.{Notice, SameOthers, first_world, object_of, hand_of, queue_at, with_hand, with_queue}
+use Rattle.ref_base.proofs.Common.{put_in, took, taken_out, notice_of, closed_queue, tally, in_hand, in_hands}
+use Rattle.ref_base.proofs.Common.{in_queues, AreCounted, Config, Actor, Mutator, Worker}
 use Rattle.ref_base.specs.CountedHolds.{reported}
 use Rattle.ref_base.proofs.HoldCounts.{tally-has, tally-first, tally-append, tally-one_more, tally-one_fewer}
 use Rattle.ref_base.proofs.HoldCounts.{tally-hand_set, tally-queue_set}

@@ -1,9 +1,9 @@
 -- How the lists of all workers change as one of them grows, and what each worker found among what it scanned.
-use Rattle.std.proofs.Common.{◌≡◌, ℕ, ◌<◌, true, false, ◌||◌, ◌==◌, refl, sym, ap, subst, ◌∙◌, arith}
-use Rattle.std.proofs.Common.{List, [], ◌∷◌, ◌++◌, length, inl, inr, zero, suc, append_assoc}
+use Rattle.std.proofs.Common.{◌≡◌, ℕ, ◌<◌, true, false, ◌||◌, ◌==◌, refl, sym, ap, subst, ◌∙◌, arith, List, [], ◌∷◌}
+use Rattle.std.proofs.Common.{◌++◌, length, inl, inr, zero, suc, append_assoc}
 use Rattle.std.specs.Prelude.{slice_set, is_some}
-use Rattle.std.proofs.lemmas.Bool.{cases_Bool, or_cases, or_left, or_right, false≢true, true≢false, or_parts}
-use Rattle.std.proofs.lemmas.Bool.{eq-eqb, eqb-true, ne_eqb, or_from}
+use Rattle.std.proofs.lemmas.Bool.{cases_Bool, or_cases, or_left, or_right, false≢true, true≢false, or_parts, eq-eqb}
+use Rattle.std.proofs.lemmas.Bool.{eqb-true, ne_eqb, or_from}
 use Rattle.ref_base.proofs.Common.{has, Object, object_at, reference_in, joined, emptied, AreFound, references_among}
 use Rattle.ref_base.proofs.Common.{is_subsequence, list_at}
 use Rattle.ref_base.specs.Members.{AreDistinct}

@@ -1,7 +1,7 @@
 -- What `has` says of lists that are put together.
-use Rattle.std.proofs.Common.{◌≡◌, ℕ, ◌+◌, ◌<◌, ◌≤◌, Bool, true, false, not, ◌||◌, ◌==◌, nat_eq, nat_lt, refl, sym}
-use Rattle.std.proofs.Common.{ap, subst, ◌∙◌, arith, Some, None}
-use Rattle.std.proofs.Common.{List, [], ◌∷◌, ◌++◌, length, get_or, take, drop, ◌⊎◌, inl, inr, zero, suc}
+use Rattle.std.proofs.Common.{◌≡◌, ℕ, ◌+◌, ◌<◌, ◌≤◌, Bool, true, false, not, ◌||◌, ◌==◌, nat_eq, nat_lt, refl, sym, ap}
+use Rattle.std.proofs.Common.{subst, ◌∙◌, arith, Some, None, List, [], ◌∷◌, ◌++◌, length, get_or, take, drop, ◌⊎◌, inl}
+use Rattle.std.proofs.Common.{inr, zero, suc}
 use Rattle.std.proofs.lemmas.Bool.{cases_Bool, or_cases, or_left, or_right, true≢false, eq-eqb, eqb-true, ltb-true}
 use Rattle.std.proofs.lemmas.List.{take_more, take-append-le, take-append-drop, get_or_default}
 use Rattle.std.proofs.lemmas.List.Sums.{prefix_len_stops}

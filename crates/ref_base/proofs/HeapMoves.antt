@@ -1,15 +1,14 @@
 -- Where a row of a heap leads: to the world that its replay gives, but for what a worker looks at in Clearing and what
 -- a sweep frees; and then a moment of a mark joins the others. A mark's end says itself where it leads.
-use Rattle.std.proofs.Common.{◌≡◌, ℕ, ◌+◌, Bool, true, false, List, [], ◌∷◌, ◌++◌, length, take, drop, min}
-use Rattle.std.proofs.Common.{Option, Some, None, is_some, refl, sym, ap, ◌∙◌, subst, inl, inr, ◌⊎◌}
+use Rattle.std.proofs.Common.{◌≡◌, ℕ, ◌+◌, Bool, true, false, List, [], ◌∷◌, ◌++◌, length, take, drop, min, Option}
+use Rattle.std.proofs.Common.{Some, None, is_some, refl, sym, ap, ◌∙◌, subst, inl, inr, ◌⊎◌}
 use Rattle.std.specs.Prelude.{slice_set}
 use Rattle.std.proofs.lemmas.Bool.{cases_Bool}
-use Rattle.ref_base.proofs.Common.{has, slot_at, reference_at, registered_in, with_slot, got, cut}
-use Rattle.ref_base.proofs.Common.{with_hold, World, Pending, with_heap, NamedStep, pended}
-use Rattle.ref_base.proofs.Common.{handed_on, begun, after_heap, State, Gives, GivesAnewIf, IsBut, ticked}
-use Rattle.ref_base.proofs.Common.{on_heap, with_world, Loads, Gets, Unhooks, Holds, Scans, ClearsNext, HandsOn}
-use Rattle.ref_base.proofs.Common.{Sweeps, HeapAccepts, value_reply, looked_at, looked, list_at, begun_state, without}
-use Rattle.ref_base.proofs.Common.{referent_of, is_in, Own, Cycle, Marking, Reply}
+use Rattle.ref_base.proofs.Common.{has, slot_at, reference_at, registered_in, with_slot, got, cut, with_hold, World}
+use Rattle.ref_base.proofs.Common.{Pending, with_heap, NamedStep, pended, handed_on, begun, after_heap, State, Gives}
+use Rattle.ref_base.proofs.Common.{GivesAnewIf, IsBut, ticked, on_heap, with_world, Loads, Gets, Unhooks, Holds, Scans}
+use Rattle.ref_base.proofs.Common.{ClearsNext, HandsOn, Sweeps, HeapAccepts, value_reply, looked_at, looked, list_at}
+use Rattle.ref_base.proofs.Common.{begun_state, without, referent_of, is_in, Own, Cycle, Marking, Reply}
 use Rattle.ref_base.specs.declared.heap_step.HeapStep.TheVariants as heap
 use Rattle.ref_base.specs.declared.reply.Reply.TheVariants as replies
 

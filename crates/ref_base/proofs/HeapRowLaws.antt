@@ -3,9 +3,9 @@
 use Rattle.std.proofs.Common.{◌≡◌, ℕ, Bool, true, false, Option, Some, None, refl, sym, ap, ◌∙◌, subst}
 use Rattle.ref_base.proofs.Common.{has, World, Notice, SameOthers, hand_of, pending_of, slot_at, NamedStep, hold_of}
 use Rattle.ref_base.proofs.Common.{heap_step, handed, after_queues, State, unless, has_slot, is_worker, is_actor}
-use Rattle.ref_base.proofs.Common.{unless_full, empty_hand_refusal, unhook_refusal, hand_refusal, heap_refusal}
-use Rattle.ref_base.proofs.Common.{refusal, with_world, with_handed, AcceptsAsking, IsHeapAnswer, IsHeapRow, IsAnswer}
-use Rattle.ref_base.proofs.Common.{IsRow, Fault, NoSuchActor, ForeignHold, Actor, Mutator, Worker, Step, Reply}
+use Rattle.ref_base.proofs.Common.{unless_full, empty_hand_refusal, unhook_refusal, hand_refusal, heap_refusal, refusal}
+use Rattle.ref_base.proofs.Common.{with_world, with_handed, AcceptsAsking, IsHeapAnswer, IsHeapRow, IsAnswer, IsRow}
+use Rattle.ref_base.proofs.Common.{Fault, NoSuchActor, ForeignHold, Actor, Mutator, Worker, Step, Reply}
 use Rattle.ref_base.specs.declared.heap_step.HeapStep.TheVariants as heap
 use Rattle.ref_base.specs.declared.step.Step.TheVariants as steps
 use Rattle.ref_base.specs.declared.reply.Reply.TheVariants as replies

@@ -1,5 +1,5 @@
--- A turn at a heap, by a row of its world or by a call from outside: nothing comes of it there, or the heap accepts what
--- is asked. Hands and queues are beside.
+-- A turn at a heap, by a row of its world or by a call from outside: nothing comes of it there, or the heap accepts
+-- what is asked. Hands and queues are beside.
 use Rattle.std.proofs.Common.{◌≡◌, ℕ, ◌==◌, Option, Some, None, refl, sym, ap, ◌∙◌, subst, inl, inr, ◌⊎◌}
 use Rattle.std.proofs.lemmas.Bool.{and_parts}
 use Rattle.std.proofs.lemmas.Option.{same_Some}

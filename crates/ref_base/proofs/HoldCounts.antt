@@ -1,6 +1,6 @@
 -- How often each number stands in the lists of holds, hands and queues as these change.
-use Rattle.std.proofs.Common.{◌≡◌, ℕ, ◌+◌, ◌<◌, ◌≤◌, zero, suc, true, ◌==◌, if◌then◌else◌, nat_lt, refl, ap}
-use Rattle.std.proofs.Common.{List, [], ◌∷◌, ◌++◌, length, map, Option, None, inl, inr, arith}
+use Rattle.std.proofs.Common.{◌≡◌, ℕ, ◌+◌, ◌<◌, ◌≤◌, zero, suc, true, ◌==◌, if◌then◌else◌, nat_lt, refl, ap, List, []}
+use Rattle.std.proofs.Common.{◌∷◌, ◌++◌, length, map, Option, None, inl, inr, arith}
 use Rattle.std.specs.Prelude.{slice_index_or, slice_set}
 use Rattle.std.proofs.lemmas.Bool.{cases_Bool, eqb-true}
 use Rattle.ref_base.proofs.Common.{has, one_more, one_fewer, Lists, Notice, object_of, tally, in_hand, in_hands}

@@ -1,6 +1,6 @@
 -- A path leaves what lives by a reference that the mark's end clears.
-use Rattle.std.proofs.Common.{◌≡◌, ℕ, true, false, ◌==◌, refl, sym, ap, ◌∙◌}
-use Rattle.std.proofs.Common.{List, [], ◌∷◌, Option, Some, None, inl, inr}
+use Rattle.std.proofs.Common.{◌≡◌, ℕ, true, false, ◌==◌, refl, sym, ap, ◌∙◌, List, [], ◌∷◌, Option, Some, None, inl}
+use Rattle.std.proofs.Common.{inr}
 use Rattle.std.proofs.lemmas.Bool.{cases_Bool, or_cases, or_parts, or_left, true≢false, false≢true, eqb-true}
 use Rattle.ref_base.proofs.Common.{has, Graph, Object, Reference, object_at, is_there, Allowed, IsPath}
 use Rattle.ref_base.proofs.Common.{soft_and_weak_referents, targets_at, targets_of, allowed_referent, present, if_any}

@@ -1,11 +1,10 @@
 -- How one shows of a concrete trace that it is legal, row by row.
-use Rattle.std.proofs.Common.{◌≡◌, ℕ, Bool, true, false, not, refl, sym, ap, ◌∙◌, subst}
-use Rattle.std.proofs.Common.{List, [], ◌∷◌, length, Option, None}
+use Rattle.std.proofs.Common.{◌≡◌, ℕ, Bool, true, false, not, refl, sym, ap, ◌∙◌, subst, List, [], ◌∷◌, length, Option}
+use Rattle.std.proofs.Common.{None}
 use Rattle.std.proofs.lemmas.Bool.{false≢true}
-use Rattle.ref_base.proofs.Common.{State, first_state, IsLegal, Config, has, new_clears, MayDoom, graph_of}
-use Rattle.ref_base.proofs.Common.{joined, with_handed, EndsMark, AreFound, mark_ended, doomed_at, IsRow, IsRun}
-use Rattle.ref_base.proofs.Common.{IsAnswer, Row, is_in, refusal, unless, Fault, GreyLeft, WrongPhase, Marking, Step}
-use Rattle.ref_base.proofs.Common.{Reply}
+use Rattle.ref_base.proofs.Common.{State, first_state, IsLegal, Config, has, new_clears, MayDoom, graph_of, joined}
+use Rattle.ref_base.proofs.Common.{with_handed, EndsMark, AreFound, mark_ended, doomed_at, IsRow, IsRun, IsAnswer, Row}
+use Rattle.ref_base.proofs.Common.{is_in, refusal, unless, Fault, GreyLeft, WrongPhase, Marking, Step, Reply}
 use Rattle.ref_base.specs.declared.step.Step.TheVariants.{EndMark}
 use Rattle.ref_base.specs.declared.reply.Reply.TheVariants.{Doomed}
 

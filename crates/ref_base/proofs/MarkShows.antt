@@ -1,12 +1,12 @@
 -- What a mark's end shows of each reference that it clears, in the world of the replay; and what stands after it.
-use Rattle.std.proofs.Common.{◌≡◌, ℕ, Bool, true, false, not, ◌&&◌, List, [], ◌∷◌, ◌++◌, Option, Some, None}
-use Rattle.std.proofs.Common.{refl, sym, ap, ◌∙◌, subst}
+use Rattle.std.proofs.Common.{◌≡◌, ℕ, Bool, true, false, not, ◌&&◌, List, [], ◌∷◌, ◌++◌, Option, Some, None, refl, sym}
+use Rattle.std.proofs.Common.{ap, ◌∙◌, subst}
 use Rattle.std.proofs.lemmas.Bool.{and_parts, false≢true, not-true}
 use Rattle.std.proofs.lemmas.List.{append_assoc}
 use Rattle.ref_base.proofs.Common.{has, Object, Reference, object_at, is_there, numbers, IsRising, IsKept, is_kept}
 use Rattle.ref_base.proofs.Common.{MayDoom, any_is, refers_into, new_clears, reference_in, reference_at, World}
-use Rattle.ref_base.proofs.Common.{graph_of, replayed, State, joined, without, referent_of, doomed_at}
-use Rattle.ref_base.proofs.Common.{IsDead, MarkEnded, WasDoomed, Config, Marking, Row}
+use Rattle.ref_base.proofs.Common.{graph_of, replayed, State, joined, without, referent_of, doomed_at, IsDead}
+use Rattle.ref_base.proofs.Common.{MarkEnded, WasDoomed, Config, Marking, Row}
 use Rattle.ref_base.specs.declared.step.Step.TheVariants as steps
 use Rattle.ref_base.specs.declared.reply.Reply.TheVariants as replies
 use Rattle.ref_base.proofs.NewClears.{has-new_clears}

@@ -1,8 +1,7 @@
 -- What stays where a row of a heap leads.
 use Rattle.std.proofs.Common.{◌≡◌, ℕ, Bool, List, Option, refl, ap, ◌∙◌}
-use Rattle.ref_base.proofs.Common.{Graph, Policy, reference_at, registered_in, World, Pending, is_done}
-use Rattle.ref_base.proofs.Common.{told_cycle, NamedStep, State, Config, Phase, Reply, Notice, Lists, SameOthers}
-use Rattle.ref_base.proofs.Common.{HeapAccepts}
+use Rattle.ref_base.proofs.Common.{Graph, Policy, reference_at, registered_in, World, Pending, is_done, told_cycle}
+use Rattle.ref_base.proofs.Common.{NamedStep, State, Config, Phase, Reply, Notice, Lists, SameOthers, HeapAccepts}
 use Rattle.ref_base.specs.declared.heap_step.HeapStep.TheVariants as heap
 use Rattle.ref_base.specs.declared.reply.Reply.TheVariants as replies
 use Rattle.ref_base.proofs.HeapMoves.{moved, IsNoEnd, heap_moves}

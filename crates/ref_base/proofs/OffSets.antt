@@ -1,14 +1,14 @@
 -- What is gone or doomed is out of reach: no root names it, and nothing else refers to it. A mark's end makes it so.
-use Rattle.std.proofs.Common.{◌≡◌, ℕ, zero, suc, true, false, ◌==◌, List, [], ◌∷◌, ◌++◌, map}
-use Rattle.std.proofs.Common.{Option, Some, None, is_some, refl, sym, ap, ◌∙◌, inl, inr, ◌⊎◌}
+use Rattle.std.proofs.Common.{◌≡◌, ℕ, zero, suc, true, false, ◌==◌, List, [], ◌∷◌, ◌++◌, map, Option, Some, None}
+use Rattle.std.proofs.Common.{is_some, refl, sym, ap, ◌∙◌, inl, inr, ◌⊎◌}
 use Rattle.std.specs.Prelude.{slice_index_or}
 use Rattle.std.specs.List.{AllByRecursion}
-use Rattle.std.proofs.lemmas.Bool.{cases_Bool, or_parts, or_from, or_left, or_right, eqb-true, eq-eqb}
-use Rattle.std.proofs.lemmas.Bool.{false≢true, false_from_ne_true}
+use Rattle.std.proofs.lemmas.Bool.{cases_Bool, or_parts, or_from, or_left, or_right, eqb-true, eq-eqb, false≢true}
+use Rattle.std.proofs.lemmas.Bool.{false_from_ne_true}
 use Rattle.ref_base.proofs.Common.{has, Graph, Object, Reference, object_at, is_there, Allowed, EndsPath, any_referent}
 use Rattle.ref_base.proofs.Common.{no_referents, present, allowed_referent, targets_of, targets_at, is_kept, MayDoom}
-use Rattle.ref_base.proofs.Common.{any_is, refers_into, cleared, changed_reference, World, Pending}
-use Rattle.ref_base.proofs.Common.{graph_of, pending_of, pending_numbers, with_heap, without, shown}
+use Rattle.ref_base.proofs.Common.{any_is, refers_into, cleared, changed_reference, World, Pending, graph_of}
+use Rattle.ref_base.proofs.Common.{pending_of, pending_numbers, with_heap, without, shown}
 use Rattle.ref_base.proofs.CarryRows.{all_more}
 use Rattle.ref_base.proofs.HasLaws.{has-append, has-cases, has-left, has-right}
 use Rattle.ref_base.proofs.Lookups.{has-present_at, allowed_referent-cases}

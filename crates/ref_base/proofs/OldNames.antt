@@ -1,12 +1,12 @@
 -- In every legal trace each number is given once: whatever is named has a number below the next.
-use Rattle.std.proofs.Common.{◌≡◌, ℕ, ◌+◌, ◌*◌, ◌<◌, ◌≤◌, true, false, ◌==◌, List, [], ◌∷◌, map}
-use Rattle.std.proofs.Common.{Option, Some, None, refl, sym, ap, ◌∙◌, subst, arith, inl, inr}
+use Rattle.std.proofs.Common.{◌≡◌, ℕ, ◌+◌, ◌*◌, ◌<◌, ◌≤◌, true, false, ◌==◌, List, [], ◌∷◌, map, Option, Some, None}
+use Rattle.std.proofs.Common.{refl, sym, ap, ◌∙◌, subst, arith, inl, inr}
 use Rattle.std.specs.Prelude.{slice_index_or}
 use Rattle.std.proofs.lemmas.Bool.{cases_Bool, false≢true}
 use Rattle.ref_base.proofs.Common.{Object, object_at, is_there, numbers, IsRising, any_referent, is_new_clear, World}
 use Rattle.ref_base.proofs.Common.{pending_of, with_heap, NamedStep, replayed, State, first_state, heap_refusal}
-use Rattle.ref_base.proofs.Common.{HeapAccepts, without, shown, mark_ended, doomed_at, IsRun, is_waiting}
-use Rattle.ref_base.proofs.Common.{HasOldNumbers, Config, Reply, Row, heap_step}
+use Rattle.ref_base.proofs.Common.{HeapAccepts, without, shown, mark_ended, doomed_at, IsRun, is_waiting, HasOldNumbers}
+use Rattle.ref_base.proofs.Common.{Config, Reply, Row, heap_step}
 use Rattle.ref_base.specs.declared.heap_step.HeapStep.TheVariants as heap
 use Rattle.ref_base.proofs.CarryRows.{all_more, nothing_pending}
 use Rattle.ref_base.proofs.CountedTraces.{legal_counted}

@@ -1,6 +1,6 @@
 -- Each number is given once, so in every legal trace a reference is registered with one queue.
-use Rattle.std.proofs.Common.{◌≡◌, ℕ, ◌+◌, ◌<◌, ◌≤◌, true, ◌==◌, List, [], ◌∷◌, ◌++◌}
-use Rattle.std.proofs.Common.{Option, Some, None, refl, sym, ap, ◌∙◌, arith, inl, inr, ◌⊎◌}
+use Rattle.std.proofs.Common.{◌≡◌, ℕ, ◌+◌, ◌<◌, ◌≤◌, true, ◌==◌, List, [], ◌∷◌, ◌++◌, Option, Some, None, refl, sym, ap}
+use Rattle.std.proofs.Common.{◌∙◌, arith, inl, inr, ◌⊎◌}
 use Rattle.std.proofs.lemmas.Bool.{cases_Bool, and_parts, eqb-true, false≢true}
 use Rattle.ref_base.proofs.Common.{NamedStep, State, first_state, refusal, HeapAccepts, IsAnswer, IsRow, IsRun}
 use Rattle.ref_base.proofs.Common.{registers, is_registered, IsLegal, Config, Fault, Step, Reply, Row}

@@ -1,10 +1,10 @@
 -- Each row keeps that what is gone or doomed is out of reach, and that a mark's end has shown what it cleared.
-use Rattle.std.proofs.Common.{◌≡◌, ℕ, ◌+◌, false, List, [], ◌∷◌, ◌++◌, length, Option, Some, None, refl, sym}
-use Rattle.std.proofs.Common.{ap, ◌∙◌, subst, inl, inr}
+use Rattle.std.proofs.Common.{◌≡◌, ℕ, ◌+◌, false, List, [], ◌∷◌, ◌++◌, length, Option, Some, None, refl, sym, ap, ◌∙◌}
+use Rattle.std.proofs.Common.{subst, inl, inr}
 use Rattle.ref_base.proofs.Common.{has, World, Notice, hand_of, NamedStep, heap_step, spending, replayed, State}
-use Rattle.ref_base.proofs.Common.{IsDead, heap_refusal, HeapAccepts, IsRow, doomed_at, AreCounted, MarkEnded, WasDoomed}
+use Rattle.ref_base.proofs.Common.{heap_refusal, HeapAccepts, IsRow, doomed_at, AreCounted, MarkEnded, WasDoomed}
 use Rattle.ref_base.proofs.Common.{Config, Mutator, Phase, Idle, Marking, Clearing, Sweeping, HoldName, Step, Reply}
-use Rattle.ref_base.proofs.Common.{Row}
+use Rattle.ref_base.proofs.Common.{Row, IsDead}
 use Rattle.ref_base.specs.declared.heap_step.HeapStep.TheVariants as heap
 use Rattle.ref_base.specs.declared.step.Step.TheVariants as steps
 use Rattle.ref_base.specs.declared.reply.Reply.TheVariants as replies
@@ -17,8 +17,7 @@ use Rattle.ref_base.proofs.AgreeRuns.{gone_next, gone_refused}
 use Rattle.ref_base.proofs.ApartWorlds.{IsClosed}
 use Rattle.ref_base.proofs.ClosedRows.{closed_same}
 use Rattle.ref_base.proofs.MarkShows.{RefersToDead, mark_ended, was_doomed, ended_more, doomed_more}
-use Rattle.ref_base.proofs.OutHeaps.{AreOutBy, AreOut, off, doomed_in}
-use Rattle.ref_base.proofs.OutHeaps.{plain_out, end_out}
+use Rattle.ref_base.proofs.OutHeaps.{AreOutBy, AreOut, off, doomed_in, plain_out, end_out}
 use Rattle.ref_base.proofs.MovedParts.{phase_moved, cycle_moved, cleared_moved, FreesNone, doomed_moved}
 
 -- ---- more that was found dead and shown, and other states that are the same

@@ -1,7 +1,6 @@
 -- After every legal trace the collector has the world of the replay, but for what was swept and for what waits to be
 -- cleared; what is gone or doomed is out of reach; and a mark's end has shown what it cleared.
-use Rattle.std.proofs.Common.{◌≡◌, ℕ, ◌*◌, true, false, List, [], ◌++◌, refl, sym}
-use Rattle.std.proofs.Common.{ap, ◌∙◌, subst}
+use Rattle.std.proofs.Common.{◌≡◌, ℕ, ◌*◌, true, false, List, [], ◌++◌, refl, sym, ap, ◌∙◌, subst}
 use Rattle.std.proofs.lemmas.Bool.{false≢true, or_parts, or_from}
 use Rattle.ref_base.proofs.Common.{has, object_at, is_there, any_referent, World, SameOthers, first_world, graph_of}
 use Rattle.ref_base.proofs.Common.{heap_step, replayed, State, first_state, without, IsRun, Agrees, cleared_if}

@@ -1,6 +1,5 @@
 -- How paths begin, go on, and stay within what is closed.
-use Rattle.std.proofs.Common.{◌≡◌, ℕ, true}
-use Rattle.std.proofs.Common.{List, [], ◌∷◌, Option, Some, None, inl, inr}
+use Rattle.std.proofs.Common.{◌≡◌, ℕ, true, List, [], ◌∷◌, Option, Some, None, inl, inr}
 use Rattle.std.proofs.lemmas.Bool.{cases_Bool, false≢true}
 use Rattle.ref_base.proofs.Common.{has, Graph, Object, Reference, object_at, is_there, Allowed, IsPath, EndsPath}
 use Rattle.ref_base.proofs.Common.{targets_at, targets_of, allowed_referent, present, if_any, fields_of}

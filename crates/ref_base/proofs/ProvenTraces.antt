@@ -1,7 +1,7 @@
 -- In every legal trace each notice that is out comes from the rows: one made its reference, registered with the
 -- notice's queue, and one is its cause.
-use Rattle.std.proofs.Common.{◌≡◌, ℕ, ◌+◌, Bool, true, ◌==◌, ◌&&◌, if◌then◌else◌, List, [], ◌∷◌, ◌++◌}
-use Rattle.std.proofs.Common.{Option, Some, None, refl, sym, ap, ◌∙◌, subst, inl, inr}
+use Rattle.std.proofs.Common.{◌≡◌, ℕ, ◌+◌, Bool, true, ◌==◌, ◌&&◌, if◌then◌else◌, List, [], ◌∷◌, ◌++◌, Option, Some}
+use Rattle.std.proofs.Common.{None, refl, sym, ap, ◌∙◌, subst, inl, inr}
 use Rattle.std.specs.List.{AllByRecursion}
 use Rattle.std.proofs.lemmas.Bool.{cases_Bool, eq-eqb, eqb-true, and_from}
 use Rattle.ref_base.proofs.Common.{Object, Reference, object_at, is_soft, registered_in, reference_in}
@@ -9,8 +9,7 @@ use Rattle.ref_base.proofs.Common.{changed_reference, got_at, World, Notice, han
 use Rattle.ref_base.proofs.Common.{refusal, ticked, begun_state, HeapAccepts, IsAnswer, IsRow, IsRun, registers}
 use Rattle.ref_base.proofs.Common.{is_registered, IsProven, IsProvenIn, Config, Actor, Mutator, Worker, Cause, Own}
 use Rattle.ref_base.proofs.Common.{Cycle, Urgency, Fault, Step, Reply, Row}
-use Rattle.ref_base.specs.Provenance.{has_row, unhooks, clears, cycle_after, cleared_from, IsCause}
-use Rattle.ref_base.specs.Provenance.{AreProven}
+use Rattle.ref_base.specs.Provenance.{has_row, unhooks, clears, cycle_after, cleared_from, IsCause, AreProven}
 use Rattle.ref_base.specs.declared.heap_step.HeapStep.TheVariants as heap
 use Rattle.ref_base.specs.declared.step.Step.TheVariants as steps
 use Rattle.ref_base.specs.declared.reply.Reply.TheVariants as replies

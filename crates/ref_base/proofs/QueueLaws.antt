@@ -1,7 +1,6 @@
 -- What a row of the abstract collector does to each queue and each hand: what the row says that it does.
-use Rattle.std.proofs.Common.{◌≡◌, ℕ, ◌<◌, Bool, true, false, if◌then◌else◌, ◌==◌}
-use Rattle.std.proofs.Common.{List, [], ◌∷◌, length, Option, Some, None}
-use Rattle.std.proofs.Common.{refl, sym, ap, ◌∙◌, subst, arith}
+use Rattle.std.proofs.Common.{◌≡◌, ℕ, ◌<◌, Bool, true, false, if◌then◌else◌, ◌==◌, List, [], ◌∷◌, length, Option, Some}
+use Rattle.std.proofs.Common.{None, refl, sym, ap, ◌∙◌, subst, arith}
 use Rattle.std.specs.Prelude.{slice_index_or, slice_set}
 use Rattle.std.specs.List.{AllByRecursion}
 use Rattle.std.proofs.lemmas.Bool.{eq-eqb, ne_eqb}
@@ -13,8 +12,7 @@ use Rattle.ref_base.specs.declared.step.Step.TheVariants as steps
 use Rattle.ref_base.specs.declared.reply.Reply.TheVariants as replies
 use Rattle.ref_base.proofs.Places.{set_at, all_push}
 use Rattle.ref_base.proofs.QueueMoves.{QueueMoves, moves_nothing, moves_added, moves_took, moves_closed}
-use Rattle.ref_base.proofs.SoundWorlds.{NoticeBelow, IsOwn, HasHand, IsSound}
-use Rattle.ref_base.proofs.SoundWorlds.{sound_hand, sound_queue}
+use Rattle.ref_base.proofs.SoundWorlds.{NoticeBelow, IsOwn, HasHand, IsSound, sound_hand, sound_queue}
 
 -- the hands as rows see them
 abbrev pub as_held : Option Notice → Option HandNotice

@@ -1,12 +1,11 @@
 -- What a row of the replay leaves as it was: all but objects, slots, holds and what is pending, but at the ends of
 -- phases; the numbers of objects, but where one is made; and all but hands and queues, where no heap is asked.
-use Rattle.std.proofs.Common.{◌≡◌, ℕ, Bool, true, false, if◌then◌else◌, List, [], ◌∷◌, ◌++◌, Option, Some, None}
-use Rattle.std.proofs.Common.{refl, sym, ap, ◌∙◌, is_some}
+use Rattle.std.proofs.Common.{◌≡◌, ℕ, Bool, true, false, if◌then◌else◌, List, [], ◌∷◌, ◌++◌, Option, Some, None, refl}
+use Rattle.std.proofs.Common.{sym, ap, ◌∙◌, is_some}
 use Rattle.std.proofs.lemmas.List.{map-append, append-nil}
 use Rattle.ref_base.proofs.Common.{Object, numbers, plain_object, if_any, slot_at, reference_at, registered_in}
-use Rattle.ref_base.proofs.Common.{changed_in, with_reference, cleared, got_at, with_field, got, cut, nulls}
-use Rattle.ref_base.proofs.Common.{new_reference, World, Notice, with_heap, hand_of, with_hand, told_object}
-use Rattle.ref_base.proofs.Common.{told_value, is_done, told_notice, is_nothing, told_cycle, is_mark_end, told_taken}
+use Rattle.ref_base.proofs.Common.{changed_in, with_reference, cleared, got_at, got, cut, nulls, new_reference, World}
+use Rattle.ref_base.proofs.Common.{Notice, with_heap, hand_of, with_hand, told_object, is_done, told_notice, told_taken}
 use Rattle.ref_base.proofs.Common.{is_added, NamedStep, handed, taking, if_told, after_heap, after_queues, pended}
 use Rattle.ref_base.proofs.Common.{put_in, Actor, Mutator, Worker, Step, Reply}
 use Rattle.ref_base.specs.Told.{told_cleared}
@@ -67,8 +66,17 @@ pub same_frame : (w : World) (step : NamedStep) (reply : Reply) → EndsNoPhase 
     → frame_of (after_heap w step reply) ≡ frame_of w
 same_frame w heap.EndMark reply plain calm = absurd plain
 same_frame w step reply plain calm =
-    search
-    (told_keeps frame_of, done_keeps frame_of, unhooked_keeps frame_of, frame_changed, frame_cut, frame_got, plain, calm, refl)
+    search (
+      told_keeps frame_of,
+      done_keeps frame_of,
+      unhooked_keeps frame_of,
+      frame_changed,
+      frame_cut,
+      frame_got,
+      plain,
+      calm,
+      refl,
+    )
 
 -- a world but for its objects, slots, holds and what is pending
 abbrev pub stage_of : World → World
@@ -135,8 +143,16 @@ numbers_same w (heap.ClearNext k) reply plain =
     (λ n. numbers_pended _ k n (registered_in (reference_at w.heap n))
     ∙ numbers_in w (Some n) (with_reference cleared) (λ o. refl))
 numbers_same w step reply plain =
-    search
-    (told_keeps numbers_of, done_keeps numbers_of, unhooked_keeps numbers_of, numbers_in, numbers_cut, numbers_got, plain, refl)
+    search (
+      told_keeps numbers_of,
+      done_keeps numbers_of,
+      unhooked_keeps numbers_of,
+      numbers_in,
+      numbers_cut,
+      numbers_got,
+      plain,
+      refl,
+    )
 
 pub numbers_after : (w : World) (step : NamedStep) (reply : Reply)
     → numbers_of (after_heap w step reply) ≡ numbers_of w ++ if_any (made_number step reply)

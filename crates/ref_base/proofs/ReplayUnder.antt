@@ -1,12 +1,12 @@
 -- Each row of the replay goes through where some objects are gone and some references read as cleared.
-use Rattle.std.proofs.Common.{◌≡◌, ℕ, Bool, true, false, if◌then◌else◌, List, Option, Some, None}
-use Rattle.std.proofs.Common.{refl, sym, ap, ◌∙◌, is_some}
-use Rattle.ref_base.proofs.Common.{stored, has, Object, Reference, plain_object, Heap, slot_at, with_slot, got, cut, made}
-use Rattle.ref_base.proofs.Common.{nulls, new_reference, with_hold, changed_in, with_reference, cleared, got_at}
-use Rattle.ref_base.proofs.Common.{with_field, World, Notice, hand_of, with_heap, with_hand, told_object, told_value}
-use Rattle.ref_base.proofs.Common.{is_done, told_notice, is_nothing, told_cycle, is_mark_end, told_taken, is_added}
-use Rattle.ref_base.proofs.Common.{NamedStep, heap_step, handed, taking, if_told, after_heap, after_queues, put_in}
-use Rattle.ref_base.proofs.Common.{under, heap_under, Actor, Mutator, Worker, Step, Reply}
+use Rattle.std.proofs.Common.{◌≡◌, ℕ, Bool, true, false, if◌then◌else◌, List, Option, Some, None, refl, sym, ap, ◌∙◌}
+use Rattle.std.proofs.Common.{is_some}
+use Rattle.ref_base.proofs.Common.{stored, has, Object, Reference, plain_object, Heap, slot_at, with_slot, got, cut}
+use Rattle.ref_base.proofs.Common.{made, nulls, new_reference, with_hold, changed_in, with_reference, cleared, got_at}
+use Rattle.ref_base.proofs.Common.{with_field, World, Notice, hand_of, with_heap, with_hand, told_object, is_done}
+use Rattle.ref_base.proofs.Common.{told_notice, is_mark_end, told_taken, is_added, NamedStep, heap_step, handed, taking}
+use Rattle.ref_base.proofs.Common.{if_told, after_heap, after_queues, put_in, under, heap_under, Actor, Mutator, Worker}
+use Rattle.ref_base.proofs.Common.{Step, Reply}
 use Rattle.ref_base.specs.declared.heap_step.HeapStep.TheVariants as heap
 use Rattle.ref_base.specs.declared.step.Step.TheVariants as steps
 use Rattle.ref_base.proofs.ShownObjects.{cleared_got}

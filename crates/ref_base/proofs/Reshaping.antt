@@ -4,11 +4,11 @@ use Rattle.std.proofs.Common.{List, [], ◌∷◌, map, length, Option, Some, No
 use Rattle.std.proofs.lemmas.Bool.{cases_Bool, true≢false, eqb-true}
 use Rattle.std.proofs.lemmas.List.{length-map}
 use Rattle.ref_base.proofs.Common.{Object, Reference, object_at, is_there, Heap, slot_at, reference_in, registered_in}
-use Rattle.ref_base.proofs.Common.{changed_at, changed_reference, cleared, Pending, pending_of, NamedStep, State}
-use Rattle.ref_base.proofs.Common.{on_heap, unless, unless_empty, is_worker, has_slot, has_slots, is_queue_or_none}
-use Rattle.ref_base.proofs.Common.{field_count, object_refusal, field_refusal, reference_refusal, holds_refusal}
-use Rattle.ref_base.proofs.Common.{minting_refusal, unhook_refusal, held_refusal, hand_refusal, heap_refusal, Fault}
-use Rattle.ref_base.proofs.Common.{NoCell, NumbersSpent, BadField, BadQueue, NoSuchActor, NotAReference}
+use Rattle.ref_base.proofs.Common.{changed_at, changed_reference, cleared, Pending, NamedStep, State, on_heap, unless}
+use Rattle.ref_base.proofs.Common.{unless_empty, has_slot, has_slots, is_queue_or_none, field_count, object_refusal}
+use Rattle.ref_base.proofs.Common.{field_refusal, reference_refusal, holds_refusal, minting_refusal, unhook_refusal}
+use Rattle.ref_base.proofs.Common.{held_refusal, hand_refusal, heap_refusal, Fault, NoCell, NumbersSpent, BadField}
+use Rattle.ref_base.proofs.Common.{BadQueue, NoSuchActor, NotAReference}
 use Rattle.ref_base.specs.Refusals.{new_refusal, refer_refusal}
 use Rattle.ref_base.specs.declared.heap_step.HeapStep.TheVariants as heap
 

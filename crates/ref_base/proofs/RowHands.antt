@@ -2,9 +2,9 @@
 use Rattle.std.proofs.Common.{◌≡◌, ℕ, true, List, [], ◌∷◌, Option, Some, None, refl, sym, ap, ◌∙◌, subst}
 use Rattle.std.proofs.lemmas.Bool.{eq-eqb}
 use Rattle.ref_base.proofs.Common.{World, Notice, Pending, SameOthers, hand_of, pending_of, told_notice, NamedStep}
-use Rattle.ref_base.proofs.Common.{heap_step, handed, after_queues, State, refusal, is_worker, with_world}
-use Rattle.ref_base.proofs.Common.{QueuesAccept, AcceptsAsking, Accepts, IsAnswer, Unhooks, HandsOn, is_by, Worker}
-use Rattle.ref_base.proofs.Common.{Cause, Own, Cycle, Fault, Step, Reply}
+use Rattle.ref_base.proofs.Common.{heap_step, handed, after_queues, State, refusal, is_worker, with_world, QueuesAccept}
+use Rattle.ref_base.proofs.Common.{AcceptsAsking, Accepts, IsAnswer, Unhooks, HandsOn, is_by, Worker, Cause, Own, Cycle}
+use Rattle.ref_base.proofs.Common.{Fault, Step, Reply}
 use Rattle.ref_base.specs.declared.step.Step.TheVariants as steps
 use Rattle.ref_base.specs.declared.reply.Reply.TheVariants as replies
 use Rattle.ref_base.proofs.QueueLaws.{same}

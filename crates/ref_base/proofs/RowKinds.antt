@@ -4,10 +4,10 @@ use Rattle.std.proofs.Common.{refl, sym, ap, ◌∙◌, inl, inr, ◌⊎◌}
 use Rattle.std.proofs.lemmas.Bool.{and_from}
 use Rattle.ref_base.proofs.Common.{has, enqueued, Notice, hand_of, queue_at, object_of, NamedStep, heap_step, hold_of}
 use Rattle.ref_base.proofs.Common.{spending, after_queues, put_in, took, closed_queue, State, refusal, heap_refusal}
-use Rattle.ref_base.proofs.Common.{asked_refusal, unless_full, has_slot, is_worker, is_counted, with_world}
-use Rattle.ref_base.proofs.Common.{with_handed, ticked, HeapAccepts, QueuesAccept, AcceptsAsking, IsAnswer, IsRow}
-use Rattle.ref_base.proofs.Common.{Puts, PutsInto, Polls, Closes, Gives, AreCounted, Actor, Mutator, Worker, Fault}
-use Rattle.ref_base.proofs.Common.{HoldName, Step, Reply, Row}
+use Rattle.ref_base.proofs.Common.{asked_refusal, unless_full, has_slot, is_worker, is_counted, with_world, with_handed}
+use Rattle.ref_base.proofs.Common.{ticked, HeapAccepts, QueuesAccept, AcceptsAsking, IsAnswer, IsRow, Puts, PutsInto}
+use Rattle.ref_base.proofs.Common.{Polls, Closes, Gives, AreCounted, Actor, Mutator, Worker, Fault, HoldName, Step}
+use Rattle.ref_base.proofs.Common.{Reply, Row}
 use Rattle.ref_base.specs.declared.heap_step.HeapStep.TheVariants as heap
 use Rattle.ref_base.specs.declared.step.Step.TheVariants as steps
 use Rattle.ref_base.specs.declared.reply.Reply.TheVariants as replies

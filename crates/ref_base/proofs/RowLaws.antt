@@ -1,20 +1,14 @@
 -- Each row of the abstract collector does to queues and hands what it says.
-use Rattle.std.proofs.Common.{◌≡◌, ℕ, ◌<◌, Bool, true, false, if◌then◌else◌}
-use Rattle.std.proofs.Common.{List, [], ◌∷◌, length, Option, Some, None, inl, inr, refl, sym, ap, ◌∙◌}
-use Rattle.std.proofs.Common.{subst}
+use Rattle.std.proofs.Common.{◌≡◌, ℕ, ◌<◌, Bool, true, false, if◌then◌else◌, List, [], ◌∷◌, length, Option, Some, None}
+use Rattle.std.proofs.Common.{inl, inr, refl, sym, ap, ◌∙◌, subst}
 use Rattle.std.specs.List.{AllByRecursion}
 use Rattle.std.proofs.lemmas.Bool.{ltb-true, and_parts}
-use Rattle.ref_base.proofs.Common.{has, Object, Heap, slot_at}
-use Rattle.ref_base.proofs.Common.{was_put, HandNotices, with_held, held_after, World, Notice, Pending}
-use Rattle.ref_base.proofs.Common.{SameOthers, object_of, hand_of, queue_at, with_hand}
-use Rattle.ref_base.proofs.Common.{NamedStep, hold_of, spending, handed}
-use Rattle.ref_base.proofs.Common.{State, refusal, heap_refusal}
-use Rattle.ref_base.proofs.Common.{is_mutator, is_worker, is_queue, is_actor, is_queue_or_none, has_slot}
-use Rattle.ref_base.proofs.Common.{has_slots, with_handed, Gives, HeapAccepts, Accepts}
-use Rattle.ref_base.proofs.Common.{AcceptsAsking, IsAnswer, IsRow, Unhooks, PutsInto, Puts, Polls}
-use Rattle.ref_base.proofs.Common.{Closes, HandsOn}
-use Rattle.ref_base.proofs.Common.{Fault, NoMemory, Own, Cycle, Actor, Mutator, Worker}
-use Rattle.ref_base.proofs.Common.{Step, Reply, Row}
+use Rattle.ref_base.proofs.Common.{has, Heap, slot_at, was_put, HandNotices, with_held, held_after, World, Notice}
+use Rattle.ref_base.proofs.Common.{Pending, SameOthers, object_of, hand_of, queue_at, with_hand, NamedStep, hold_of}
+use Rattle.ref_base.proofs.Common.{spending, handed, State, refusal, heap_refusal, is_mutator, is_worker, is_queue}
+use Rattle.ref_base.proofs.Common.{is_actor, is_queue_or_none, has_slot, has_slots, with_handed, Gives, HeapAccepts}
+use Rattle.ref_base.proofs.Common.{Accepts, AcceptsAsking, IsAnswer, IsRow, Unhooks, PutsInto, Puts, Polls, Closes}
+use Rattle.ref_base.proofs.Common.{HandsOn, Fault, NoMemory, Own, Cycle, Actor, Mutator, Worker, Step, Reply, Row}
 use Rattle.ref_base.specs.declared.heap_step.HeapStep.TheVariants as heap
 use Rattle.ref_base.specs.declared.step.Step.TheVariants as steps
 use Rattle.ref_base.specs.declared.reply.Reply.TheVariants as replies

@@ -1,10 +1,8 @@
 -- What leaves hands and queues the same: the heap has no say in them.
-use Rattle.std.proofs.Common.{◌≡◌, Bool, true, false, if◌then◌else◌, List, Option, Some, None}
-use Rattle.std.proofs.Common.{ap}
+use Rattle.std.proofs.Common.{◌≡◌, Bool, true, false, if◌then◌else◌, List, Option, Some, None, ap}
 use Rattle.std.specs.Prelude.{slice_index_or, slice_set, is_some}
-use Rattle.ref_base.proofs.Common.{World, Notice, SameOthers, hand_of, with_hand, told_object}
-use Rattle.ref_base.proofs.Common.{is_done, told_notice, taking, handed, Actor, Mutator}
-use Rattle.ref_base.proofs.Common.{Worker, Step, Reply}
+use Rattle.ref_base.proofs.Common.{World, Notice, SameOthers, hand_of, with_hand, told_object, is_done, told_notice}
+use Rattle.ref_base.proofs.Common.{taking, handed, Actor, Mutator, Worker, Step, Reply}
 use Rattle.ref_base.specs.declared.step.Step.TheVariants as steps
 
 -- ---- the same hands and queues

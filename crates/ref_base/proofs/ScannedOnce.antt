@@ -1,6 +1,6 @@
 -- In every legal trace no object is scanned twice in a cycle, and a mark goes on only while an object is left to scan.
-use Rattle.std.proofs.Common.{◌≡◌, ℕ, ◌<◌, Bool, true, false, not, ◌||◌, ◌==◌, List, [], ◌∷◌, ◌++◌, length}
-use Rattle.std.proofs.Common.{Option, Some, None, refl, sym, ap, ◌∙◌, subst, inl, inr}
+use Rattle.std.proofs.Common.{◌≡◌, ℕ, ◌<◌, Bool, true, false, not, ◌||◌, ◌==◌, List, [], ◌∷◌, ◌++◌, length, Option}
+use Rattle.std.proofs.Common.{Some, None, refl, sym, ap, ◌∙◌, subst, inl, inr}
 use Rattle.std.specs.Prelude.{nat_eq}
 use Rattle.std.specs.List.{IsDistinct}
 use Rattle.std.specs.Cmp.{nat_eq_equiv}
@@ -10,8 +10,8 @@ use Rattle.std.proofs.lemmas.Map.Keys.{IsDistinct-push}
 use Rattle.ref_base.proofs.Common.{has, Notice, hand_of, NamedStep, heap_step, spending, State, first_state, joined}
 use Rattle.ref_base.proofs.Common.{unless, heap_refusal, refusal, is_in, is_worker, IsLeft, list_at, emptied}
 use Rattle.ref_base.proofs.Common.{IsHeapAnswer, IsHeapRow, IsAnswer, IsRow, IsRun, AcceptsAsking, IsLegal}
-use Rattle.ref_base.proofs.Common.{scanned_in_cycle, Config, Mutator, Fault, WrongPhase, GreyLeft, Marking, Step}
-use Rattle.ref_base.proofs.Common.{Reply, Row, World, HoldName, hold_of, HeapAccepts}
+use Rattle.ref_base.proofs.Common.{scanned_in_cycle, Config, Mutator, Fault, WrongPhase, GreyLeft, Marking, Step, Reply}
+use Rattle.ref_base.proofs.Common.{Row, World, HoldName, hold_of, HeapAccepts}
 use Rattle.ref_base.specs.ScannedRows.{scanned_with, scanned_from}
 use Rattle.ref_base.specs.declared.heap_step.HeapStep.TheVariants as heap
 use Rattle.ref_base.specs.declared.step.Step.TheVariants as steps

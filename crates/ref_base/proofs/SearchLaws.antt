@@ -1,10 +1,9 @@
 -- A search whose list of what it has seen is its own list of work finds exactly the ends of paths.
-use Rattle.std.proofs.Common.{◌≡◌, ℕ, ◌+◌, ◌-◌, ◌<◌, ◌≤◌, Bool, true}
-use Rattle.std.proofs.Common.{false, ◌==◌, if◌then◌else◌, refl, sym, ap, subst, ◌∙◌, arith}
-use Rattle.std.proofs.Common.{List, [], ◌∷◌, ◌++◌, length, get_or, take, append-nil, append_assoc, length-append}
-use Rattle.std.proofs.Common.{Option, Some, None, ◌⊎◌, inl, inr, zero, suc}
-use Rattle.std.proofs.lemmas.Bool.{cases_Bool, cases_lt, or_cases, or_left}
-use Rattle.std.proofs.lemmas.Bool.{or_right, true≢false, false≢true, eqb-true, eq-eqb}
+use Rattle.std.proofs.Common.{◌≡◌, ℕ, ◌+◌, ◌-◌, ◌<◌, ◌≤◌, Bool, true, false, ◌==◌, if◌then◌else◌, refl, sym, ap, subst}
+use Rattle.std.proofs.Common.{◌∙◌, arith, List, [], ◌∷◌, ◌++◌, length, get_or, take, append-nil, append_assoc}
+use Rattle.std.proofs.Common.{length-append, Option, Some, None, ◌⊎◌, inl, inr, zero, suc}
+use Rattle.std.proofs.lemmas.Bool.{cases_Bool, cases_lt, or_cases, or_left, or_right, true≢false, false≢true, eqb-true}
+use Rattle.std.proofs.lemmas.Bool.{eq-eqb}
 use Rattle.std.proofs.lemmas.List.{take_all, take-append-le, length-take}
 use Rattle.ref_base.proofs.Common.{has, Graph, Object, Reference, object_at, is_there, Allowed, targets_at, targets_of}
 use Rattle.ref_base.proofs.Common.{present, allowed_referent, added_all, fields_of, searched_referents, ArePathEnds}

@@ -1,15 +1,13 @@
 -- That every queue which a world names is one of its configuration's, and what keeps this so.
-use Rattle.std.proofs.Common.{◌≡◌, ℕ, zero, suc, ◌<◌, ◌==◌}
-use Rattle.std.proofs.Common.{List, [], ◌∷◌, length, Option, Some, None, inl, inr}
-use Rattle.std.proofs.Common.{refl, sym, ap, ◌∙◌, subst, arith}
+use Rattle.std.proofs.Common.{◌≡◌, ℕ, zero, suc, ◌<◌, ◌==◌, List, [], ◌∷◌, length, Option, Some, None, inl, inr, refl}
+use Rattle.std.proofs.Common.{sym, ap, ◌∙◌, subst, arith}
 use Rattle.std.specs.Prelude.{slice_index_or, replicate}
 use Rattle.std.specs.List.{AllByRecursion}
 use Rattle.std.proofs.lemmas.Bool.{cases_Bool}
 use Rattle.std.proofs.lemmas.List.{length-set, length-replicate}
-use Rattle.ref_base.proofs.Common.{has, Object, Reference, object_at, is_soft}
-use Rattle.ref_base.proofs.Common.{registered_in, reference_in, changed_reference, cleared}
-use Rattle.ref_base.proofs.Common.{got_at, reference_at, Lists, new_queue, World, Notice, Pending, first_world}
-use Rattle.ref_base.proofs.Common.{hand_of, queue_at, pending_of, with_hand, with_queue}
+use Rattle.ref_base.proofs.Common.{has, Object, Reference, object_at, is_soft, registered_in, reference_in}
+use Rattle.ref_base.proofs.Common.{changed_reference, cleared, got_at, reference_at, Lists, new_queue, World, Notice}
+use Rattle.ref_base.proofs.Common.{Pending, first_world, hand_of, queue_at, pending_of, with_hand, with_queue}
 use Rattle.ref_base.proofs.Common.{SameOthers, reference_of, Config, Actor, Mutator, Worker}
 use Rattle.ref_base.proofs.CarryLaws.{OfHand, Carries, Lasts}
 use Rattle.ref_base.proofs.Places.{set_at, each_or}

@@ -1,6 +1,6 @@
 -- Each number has exactly one strength, and it is read off what was found.
-use Rattle.std.proofs.Common.{◌≡◌, ℕ, ◌+◌, ◌<◌, ◌≤◌, true, false, refl, sym, ap, subst, ◌∙◌, ◌==◌, nat_eq, arith}
-use Rattle.std.proofs.Common.{List, [], ◌∷◌, length, map, take, Option, Some, None, inl, inr}
+use Rattle.std.proofs.Common.{◌≡◌, ℕ, ◌+◌, ◌<◌, ◌≤◌, true, false, refl, sym, ap, subst, ◌∙◌, ◌==◌, nat_eq, arith, List}
+use Rattle.std.proofs.Common.{[], ◌∷◌, length, map, take, Option, Some, None, inl, inr}
 use Rattle.std.proofs.lemmas.Bool.{cases_Bool, true≢false, false≢true}
 use Rattle.std.proofs.lemmas.List.{take-take}
 use Rattle.std.specs.List.{AllByRecursion, position}
@@ -8,10 +8,8 @@ use Rattle.ref_base.proofs.Common.{has, Graph, Object, Reference, object_at, is_
 use Rattle.ref_base.proofs.Common.{no_referents, soft_referents, soft_and_weak_referents, if_any, is_phantom}
 use Rattle.ref_base.proofs.Common.{HasStrength, HangsOnPhantom, IsRising, ArePathEnds, added_all, phantom_referents}
 use Rattle.ref_base.proofs.Common.{Reach, Strong, Soft, Phantom, Unreachable}
-use Rattle.ref_base.specs.Strengths.{IsPhantomObjectTo}
-use Rattle.ref_base.specs.Strengths.{IsPhantomReferenceTo, AreStrengths}
-use Rattle.ref_base.specs.Searches.{AreSearched, found_reach, found_reaches}
-use Rattle.ref_base.specs.Searches.{phantom_referent, phantom_referent_at}
+use Rattle.ref_base.specs.Strengths.{IsPhantomObjectTo, IsPhantomReferenceTo, AreStrengths}
+use Rattle.ref_base.specs.Searches.{AreSearched, found_reach, found_reaches, phantom_referent, phantom_referent_at}
 use Rattle.ref_base.specs.declared.reach.Reach.TheVariants.{Weak}
 use Rattle.ref_base.specs.declared.reach.ObjectReach.{ObjectReach}
 use Rattle.ref_base.proofs.HasLaws.{has-cases, has-first, has-front, has-left, has-right, has-single, has-take}

@@ -1,22 +1,16 @@
 -- Want of memory is answered by puts alone.
-use Rattle.std.proofs.Common.{◌≡◌, ℕ, Bool, true, false, List, [], ◌∷◌, Option, Some, None, refl, sym, ap, ◌∙◌}
-use Rattle.std.proofs.Common.{inl, inr}
-use Rattle.std.specs.Prelude.{is_some, nat_lt, nat_le, length, not, ◌^◌, ◌-◌}
+use Rattle.std.proofs.Common.{◌≡◌, ℕ, Bool, true, false, List, [], ◌∷◌, Option, Some, None, refl, sym, ap, ◌∙◌, inl}
+use Rattle.std.proofs.Common.{inr}
+use Rattle.std.specs.Prelude.{is_some, nat_lt, nat_le, length, ◌^◌, ◌-◌}
 use Rattle.std.proofs.lemmas.Bool.{cases_Bool, false≢true}
-use Rattle.ref_base.proofs.Common.{has, Reference, object_at, Heap, slot_at, reference_at, registered_in, NamedStep}
-use Rattle.ref_base.proofs.Common.{heap_step, Notice, Pending, hand_of, queue_at, pending_of, State, joined, unless}
-use Rattle.ref_base.proofs.Common.{unless_empty, unless_full, has_slot, has_slots, is_queue_or_none, field_count}
-use Rattle.ref_base.proofs.Common.{object_refusal, field_refusal, reference_refusal, holds_refusal, minting_refusal}
-use Rattle.ref_base.proofs.Common.{unhook_refusal, hand_refusal, held_refusal, is_counted, is_worker, is_mutator}
-use Rattle.ref_base.proofs.Common.{is_queue, is_actor, is_in, is_empty, empty_hand_refusal, heap_refusal}
-use Rattle.ref_base.proofs.Common.{asked_refusal, refusal, Gives, GivesAnewIf, Loads, Gets, Unhooks, Holds, Polls, Closes}
-use Rattle.ref_base.proofs.Common.{Scans, ClearsNext, HandsOn, Sweeps, field_in, reference_of, referent_got}
-use Rattle.ref_base.proofs.Common.{referent_of, list_at, looked_at, value_reply, HeapAccepts, AcceptsAsking, IsAnswer}
-use Rattle.ref_base.proofs.Common.{IsRow, Fault, NoMemory, NoSuchActor, BadQueue, BadField, NumbersSpent, NoCell}
-use Rattle.ref_base.proofs.Common.{NotAReference, WrongPhase, GreyLeft, ForeignHold, Actor, Mutator, Worker, Idle}
-use Rattle.ref_base.proofs.Common.{Marking, Clearing, Sweeping, Reply, Step}
-use Rattle.ref_base.specs.declared.fault.Fault.TheVariants.{ClockBack}
-use Rattle.ref_base.specs.declared.fault.Fault.TheVariants.{ClearingLeft, SweepLeft}
+use Rattle.ref_base.proofs.Common.{has, Reference, object_at, Heap, reference_at, NamedStep, heap_step, Notice, Pending}
+use Rattle.ref_base.proofs.Common.{queue_at, State, unless, unless_empty, unless_full, field_count, object_refusal}
+use Rattle.ref_base.proofs.Common.{field_refusal, reference_refusal, holds_refusal, minting_refusal, unhook_refusal}
+use Rattle.ref_base.proofs.Common.{hand_refusal, held_refusal, is_in, empty_hand_refusal, heap_refusal, asked_refusal}
+use Rattle.ref_base.proofs.Common.{refusal, Gives, GivesAnewIf, Loads, Gets, Unhooks, Holds, Polls, Closes, Scans}
+use Rattle.ref_base.proofs.Common.{ClearsNext, HandsOn, Sweeps, referent_of, looked_at, value_reply, HeapAccepts}
+use Rattle.ref_base.proofs.Common.{AcceptsAsking, IsAnswer, IsRow, Fault, NoMemory, BadField, NumbersSpent, NoCell}
+use Rattle.ref_base.proofs.Common.{NotAReference, Actor, Marking, Reply, Step}
 use Rattle.ref_base.specs.declared.heap_step.HeapStep.TheVariants as heap
 use Rattle.ref_base.specs.declared.reply.Reply.TheVariants as replies
 use Rattle.ref_base.specs.declared.step.Step.TheVariants as steps
@@ -175,8 +169,21 @@ accepted_tells : (a : State) (step : NamedStep) (reply : Reply) (b : State) → 
     → tells_want reply ≡ false
 accepted_tells a heap.EndMark reply b ends = told ends.answer refl
 accepted_tells a step reply b gives =
-    search
-    (gives_tells, anew_tells, value_tells, load_tells, get_tells, unhook_tells, hold_tells, scan_tells, clear_tells, handed_tells, sweep_tells, gives, refl)
+    search (
+      gives_tells,
+      anew_tells,
+      value_tells,
+      load_tells,
+      get_tells,
+      unhook_tells,
+      hold_tells,
+      scan_tells,
+      clear_tells,
+      handed_tells,
+      sweep_tells,
+      gives,
+      refl,
+    )
 
 -- ---- rows
 

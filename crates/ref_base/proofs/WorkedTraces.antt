@@ -3,8 +3,7 @@ use Rattle.std.specs.Prelude.{ℕ, List, [], ◌∷◌, Some}
 use Rattle.ref_base.proofs.Common.{Config, Weak, Normal, Own, Cycle, Mutator, Worker, GreyLeft, HandEmpty, BadField}
 use Rattle.ref_base.proofs.Common.{NoSuchActor, NotAReference, BadQueue, WrongPhase, Step, Reply, Row}
 use Rattle.ref_base.specs.declared.strength.Strength.TheVariants.{Soft}
-use Rattle.ref_base.specs.declared.fault.Fault.TheVariants.{EmptySlot}
-use Rattle.ref_base.specs.declared.fault.Fault.TheVariants.{HandFull}
+use Rattle.ref_base.specs.declared.fault.Fault.TheVariants.{EmptySlot, HandFull}
 use Rattle.ref_base.specs.declared.step.Step.TheVariants as steps
 use Rattle.ref_base.specs.declared.reply.Reply.TheVariants as replies
 

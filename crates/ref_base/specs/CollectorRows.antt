@@ -1,10 +1,8 @@
 -- The rows of the abstract collector: which step may be answered how in a state, and what state that leaves (package
 -- `java.lang.ref` of Java SE 17 for what the calls of a reference answer and for clearing at one instant; cycles,
 -- workers and queues: this project's profile).
-use Rattle.std.specs.Prelude.{◌≡◌, ℕ, ◌+◌, ◌<◌, Bool, true, false, ◌==◌, if◌then◌else◌, min}
-use Rattle.std.specs.Prelude.{List, [], ◌∷◌, ◌++◌, map, length, take, drop, Option, Some, None, slice_index_or}
-use Rattle.std.specs.Prelude.{slice_set, ◌⊎◌}
-use Rattle.std.specs.Prelude.{is_some}
+use Rattle.std.specs.Prelude.{◌≡◌, ℕ, ◌+◌, ◌<◌, Bool, true, false, ◌==◌, if◌then◌else◌, min, List, [], ◌∷◌, ◌++◌, map}
+use Rattle.std.specs.Prelude.{length, take, drop, Option, Some, None, slice_index_or, slice_set, ◌⊎◌, is_some}
 use Rattle.ref_base.specs.Members.{has}
 use Rattle.ref_base.specs.Graphs.{Object, Reference, object_at, plain_object}
 use Rattle.ref_base.specs.Paths.{is_phantom}
@@ -13,8 +11,7 @@ use Rattle.ref_base.specs.DoomedSets.{unscanned, MayDoom, is_new_clear, new_clea
 use Rattle.ref_base.specs.Heaps.{Heap, slot_at, reference_at, reference_in, registered_in, with_slot, with_reference}
 use Rattle.ref_base.specs.Heaps.{cleared, nulls, new_reference, made, stored, got, cut, with_hold, without_hold}
 use Rattle.ref_base.specs.QueueLists.{enqueued, was_put}
-use Rattle.ref_base.specs.Worlds.{World, Notice, Pending, graph_of, object_of, hand_of, queue_at, pending_of}
-use Rattle.ref_base.specs.Worlds.{with_heap}
+use Rattle.ref_base.specs.Worlds.{World, Notice, Pending, graph_of, object_of, hand_of, queue_at, pending_of, with_heap}
 use Rattle.ref_base.specs.HeapSteps.{NamedStep, heap_step, handed}
 use Rattle.ref_base.specs.Replay.{put_in, took, adopted, pended, handed_on, begun, with_phase, closed_queue}
 use Rattle.ref_base.specs.Collectors.{State, joined}

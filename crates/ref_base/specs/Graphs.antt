@@ -1,7 +1,7 @@
 -- The object graph: which objects there are, what they refer to, and where a program starts from (Java SE 17, package
 -- `java.lang.ref`; numbers, stamps and queues are this project's profile).
-use Rattle.std.specs.Prelude.{ℕ, Bool, ◌==◌, if◌then◌else◌, nat_lt, is_some}
-use Rattle.std.specs.Prelude.{List, [], ◌∷◌, ◌++◌, map, Option, Some, None}
+use Rattle.std.specs.Prelude.{ℕ, Bool, ◌==◌, if◌then◌else◌, nat_lt, is_some, List, [], ◌∷◌, ◌++◌, map, Option, Some}
+use Rattle.std.specs.Prelude.{None}
 use Rattle.ref_base.specs.Members.{has}
 use Rattle.ref_base.specs.declared.strength.Strength.{Strength}
 

@@ -1,7 +1,7 @@
 -- What mutators see of a heap, as plain data, and the changes that their calls make to it (package `java.lang.ref` of
 -- Java SE 17 for what the calls of a reference do; slots, holds and the clock: this project's profile).
-use Rattle.std.specs.Prelude.{ℕ, ◌+◌, ◌*◌, ◌==◌, if◌then◌else◌, nat_lt}
-use Rattle.std.specs.Prelude.{List, [], ◌∷◌, ◌++◌, replicate, Option, Some, None, slice_index_or, slice_set}
+use Rattle.std.specs.Prelude.{ℕ, ◌+◌, ◌*◌, ◌==◌, if◌then◌else◌, nat_lt, List, [], ◌∷◌, ◌++◌, replicate, Option, Some}
+use Rattle.std.specs.Prelude.{None, slice_index_or, slice_set}
 use Rattle.ref_base.specs.Members.{without_first}
 use Rattle.ref_base.specs.Graphs.{Object, Reference, object_at}
 use Rattle.ref_base.specs.Paths.{is_soft}

@@ -1,7 +1,7 @@
 -- Which step is refused, and with which fault: the first that applies (this project's profile). A number of an actor or
 -- slot outside the configuration comes first.
-use Rattle.std.specs.Prelude.{ℕ, ◌^◌, ◌-◌, Bool, true, false, ◌&&◌, not, ◌==◌, if◌then◌else◌, nat_lt, nat_le}
-use Rattle.std.specs.Prelude.{List, [], ◌∷◌, length, Option, Some, None, is_some}
+use Rattle.std.specs.Prelude.{ℕ, ◌^◌, ◌-◌, Bool, true, false, ◌&&◌, not, ◌==◌, if◌then◌else◌, nat_lt, nat_le, List, []}
+use Rattle.std.specs.Prelude.{◌∷◌, length, Option, Some, None, is_some}
 use Rattle.ref_base.specs.Members.{has}
 use Rattle.ref_base.specs.Graphs.{Object, Reference, object_at}
 use Rattle.ref_base.specs.Heaps.{Heap, slot_at, reference_at}

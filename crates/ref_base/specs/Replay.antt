@@ -6,8 +6,8 @@ use Rattle.ref_base.specs.Members.{without_first}
 use Rattle.ref_base.specs.Graphs.{plain_object}
 use Rattle.ref_base.specs.KeptPaths.{policy_from}
 use Rattle.ref_base.specs.Heaps.{Heap, slot_at, reference_at, registered_in, with_slot, with_hold, without_hold}
-use Rattle.ref_base.specs.Heaps.{with_changed, with_reference, cleared, nulls, with_clock, new_reference, made}
-use Rattle.ref_base.specs.Heaps.{stored, got, cut}
+use Rattle.ref_base.specs.Heaps.{with_changed, with_reference, cleared, nulls, with_clock, new_reference, made, stored}
+use Rattle.ref_base.specs.Heaps.{got, cut}
 use Rattle.ref_base.specs.QueueLists.{Lists, with_parcel}
 use Rattle.ref_base.specs.Worlds.{World, Notice, Pending, first_world, object_of, hand_of, queue_at, pending_of}
 use Rattle.ref_base.specs.Worlds.{with_heap, with_hand, with_queue, with_pending}

@@ -9,9 +9,8 @@ use Rattle.ref_base.specs.declared.strength.Strength.{Strength}
 use Rattle.ref_base.specs.declared.strength.Strength.TheVariants.{Soft, Weak, Phantom}
 use Rattle.ref_base.specs.declared.step.Step.{Step}
 use Rattle.ref_base.specs.declared.step.Step.TheVariants.{New, Refer, Store, Load, Copy, Drop, Get, Clear, RefersTo}
-use Rattle.ref_base.specs.declared.step.Step.TheVariants.{Unhook, Put, Poll, Adopt, Release, Close}
-use Rattle.ref_base.specs.declared.step.Step.TheVariants.{Begin, Scan, EndMark, ClearNext, EndClear, Hand, Sweep}
-use Rattle.ref_base.specs.declared.step.Step.TheVariants.{EndSweep}
+use Rattle.ref_base.specs.declared.step.Step.TheVariants.{Unhook, Put, Poll, Adopt, Release, Close, Begin, Scan}
+use Rattle.ref_base.specs.declared.step.Step.TheVariants.{EndMark, ClearNext, EndClear, Hand, Sweep, EndSweep}
 
 -- the word for whoever has a hand
 abbrev pub actor : Actor → Word

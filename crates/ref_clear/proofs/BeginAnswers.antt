@@ -1,7 +1,7 @@
 -- What a begin leaves, by what its parts leave.
 use Rattle.std.proofs.Common.{◌≡◌, ℕ, ◌+◌, Option, Some, None, ap}
-use Rattle.ref_clear.proofs.Common.{pending_numbers, Fault, Urgency, CycleHeap, cycle_begun, shaded_all}
-use Rattle.ref_clear.proofs.Common.{unless_refused, ClearHeap, with_mark, begun_with, refusal_in, answer_in, after_in}
+use Rattle.ref_clear.proofs.Common.{pending_numbers, Fault, Urgency, CycleHeap, cycle_begun, shaded_all, unless_refused}
+use Rattle.ref_clear.proofs.Common.{ClearHeap, with_mark, begun_with, refusal_in, answer_in, after_in}
 use Rattle.ref_base.specs.declared.heap_step.HeapStep.TheVariants as heap
 use Rattle.ref_base.specs.declared.reply.Reply.TheVariants as replies
 

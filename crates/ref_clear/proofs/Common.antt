@@ -7,14 +7,14 @@ pub use Rattle.ref_base.specs.Forgetting.{forgotten, heap_but}
 pub use Rattle.ref_base.specs.Graphs.{Object, Reference, is_there, numbers, object_at, plain_object}
 pub use Rattle.ref_base.specs.HeapSteps.{NamedStep}
 pub use Rattle.ref_base.specs.Heaps.{Heap, changed_in, changed_reference, cleared, cut, got, got_at, made}
-pub use Rattle.ref_base.specs.Heaps.{new_reference, nulls, one_more, reference_at, reference_in, registered_in}
-pub use Rattle.ref_base.specs.Heaps.{slot_at, stored, with_changed, with_field, with_hold, with_reference}
+pub use Rattle.ref_base.specs.Heaps.{new_reference, nulls, one_more, reference_at, reference_in, registered_in, slot_at}
+pub use Rattle.ref_base.specs.Heaps.{stored, with_changed, with_field, with_hold, with_reference}
 pub use Rattle.ref_base.specs.KeptPaths.{is_kept}
 pub use Rattle.ref_base.specs.Members.{AreDistinct, has}
 pub use Rattle.ref_base.specs.Paths.{Allowed, allowed_referent, present, soft_and_weak_referents, targets_at}
 pub use Rattle.ref_base.specs.Paths.{targets_of}
-pub use Rattle.ref_base.specs.Refusals.{hand_refusal, has_slot, heap_refusal, holds_refusal, is_empty, is_in}
-pub use Rattle.ref_base.specs.Refusals.{is_worker, unless, work_refusal}
+pub use Rattle.ref_base.specs.Refusals.{hand_refusal, has_slot, heap_refusal, holds_refusal, is_empty, is_in, is_worker}
+pub use Rattle.ref_base.specs.Refusals.{unless, work_refusal}
 pub use Rattle.ref_base.specs.Replay.{handed_on}
 pub use Rattle.ref_base.specs.Strengths.{IsRising}
 pub use Rattle.ref_base.specs.Worlds.{Pending, World, graph_of, pending_numbers, pending_of, with_heap}
@@ -27,8 +27,8 @@ pub use Rattle.ref_base.specs.declared.reply.Reply.{Reply}
 pub use Rattle.ref_base.specs.declared.urgency.Urgency.{Urgency}
 pub use Rattle.ref_objects.specs.Grounds.{Ground, least_from, mint_refusal, unmarked}
 pub use Rattle.ref_mark.specs.CycleHeaps.{CycleHeap, cycle_begun, cycle_in_phase, doomed, is_black, is_doomed}
-pub use Rattle.ref_mark.specs.CycleHeaps.{is_in_cycle, is_past_mark, is_white, shaded, shaded_all}
-pub use Rattle.ref_mark.specs.CycleHeaps.{with_cleared, with_found_taken}
+pub use Rattle.ref_mark.specs.CycleHeaps.{is_in_cycle, is_past_mark, is_white, shaded, shaded_all, with_cleared}
+pub use Rattle.ref_mark.specs.CycleHeaps.{with_found_taken}
 pub use Rattle.ref_mark.specs.MarkCalls.{after_mint_in, is_of_marking, mint_answer_in, unless_refused}
 pub use Rattle.ref_mark.specs.MarkRows.{starting_state}
 pub use Rattle.ref_mark.specs.MarkViews.{ground_of, worklists_of}

@@ -1,11 +1,9 @@
 -- A new heap: nothing is pending, and there is room for all that may be.
-use Rattle.std.proofs.Common.{◌≡◌, ℕ, zero, suc, List, [], ◌∷◌, replicate, refl, sym, ap, subst, ◌∙◌}
-use Rattle.std.proofs.Common.{arith}
+use Rattle.std.proofs.Common.{◌≡◌, ℕ, zero, suc, List, [], ◌∷◌, replicate, refl, sym, ap, subst, ◌∙◌, arith}
 use Rattle.std.proofs.lemmas.Bool.{false≢true}
 use Rattle.std.proofs.lemmas.List.{length-replicate}
 use Rattle.ref_clear.proofs.Common.{Object, joined, worklists_of, has, AreDistinct, Pending, pending_numbers, State}
-use Rattle.ref_clear.proofs.Common.{Config, CycleHeap}
-use Rattle.ref_clear.proofs.Common.{starting_state, MarkStands, ClearHeap, Worklist, empty_worklist}
+use Rattle.ref_clear.proofs.Common.{Config, CycleHeap, starting_state, MarkStands, ClearHeap, Worklist, empty_worklist}
 use Rattle.ref_clear.proofs.Common.{pending_lists_of, seen_heap, HaveRoom, IsSoundHeap, HeapStands}
 use Rattle.ref_mark.specs.CycleHeaps.{first_cycle_heap}
 use Rattle.ref_clear.specs.ClearHeaps.{first_clear_heap}

@@ -1,8 +1,8 @@
 -- What is left of some objects, and of their tags, where those of some numbers go.
-use Rattle.std.proofs.Common.{◌≡◌, ℕ, zero, suc, ◌<◌, ◌≤◌, true, false, not, ◌||◌, ◌==◌, if◌then◌else◌}
-use Rattle.std.proofs.Common.{refl, sym, ap, subst, ◌∙◌, arith, List, [], ◌∷◌, ◌++◌, take, drop, Some, None, inl, inr}
-use Rattle.std.proofs.lemmas.Bool.{cases_Bool, cases_lt, false≢true, true≢false, eqb-true, eq-eqb, ne_eqb}
-use Rattle.std.proofs.lemmas.Bool.{or_cases, or_parts, and_right}
+use Rattle.std.proofs.Common.{◌≡◌, ℕ, zero, suc, ◌<◌, ◌≤◌, true, false, not, ◌||◌, ◌==◌, if◌then◌else◌, refl, sym, ap}
+use Rattle.std.proofs.Common.{subst, ◌∙◌, arith, List, [], ◌∷◌, ◌++◌, take, drop, Some, None, inl, inr}
+use Rattle.std.proofs.lemmas.Bool.{cases_Bool, cases_lt, false≢true, true≢false, eqb-true, eq-eqb, ne_eqb, or_cases}
+use Rattle.std.proofs.lemmas.Bool.{or_parts, and_right}
 use Rattle.ref_clear.proofs.Common.{has, Object, object_at, is_there, numbers, IsRising, without, unmarked, first_in}
 use Rattle.ref_objects.specs.Grounds.{Tag, cleared_in_at, without_tag}
 use Rattle.ref_objects.proofs.TagLemmas.{cleared_in_at-without}

@@ -1,6 +1,6 @@
 -- What the code of a hand answers and leaves.
-use Rattle.std.proofs.Common.{◌≡◌, ℕ, ◌<◌, ◌==◌, true, refl, sym, ap, subst, ◌∙◌}
-use Rattle.std.proofs.Common.{List, [], ◌∷◌, set, get_or, Some, None, inl, inr}
+use Rattle.std.proofs.Common.{◌≡◌, ℕ, ◌<◌, ◌==◌, true, refl, sym, ap, subst, ◌∙◌, List, [], ◌∷◌, set, get_or, Some}
+use Rattle.std.proofs.Common.{None, inl, inr}
 use Rattle.std.proofs.lemmas.Bool.{lt-ltb, or_right}
 use Rattle.ref_clear.proofs.Common.{has, Pending, pending_numbers, is_worker, hand_refusal, Cycle, Fault, mint_refusal}
 use Rattle.ref_clear.proofs.Common.{CycleHeap, mint_answer_in, after_mint_in, ground_of, pending_at, holding}

@@ -1,6 +1,5 @@
 -- Each step of a heap is a row of the abstract collector, in every phase.
-use Rattle.std.proofs.Common.{◌≡◌, ℕ, true, false, List, [], Option, Some, None, refl, sym, ap, subst, ◌∙◌}
-use Rattle.std.proofs.Common.{inl, inr}
+use Rattle.std.proofs.Common.{◌≡◌, ℕ, true, false, List, [], Option, Some, None, refl, sym, ap, subst, ◌∙◌, inl, inr}
 use Rattle.std.proofs.lemmas.Bool.{cases_Bool}
 use Rattle.ref_clear.proofs.Common.{Heap, slot_at, NamedStep, Pending, pending_numbers, State, joined, unless, is_in}
 use Rattle.ref_clear.proofs.Common.{is_empty, is_worker, hand_refusal, work_refusal, heap_refusal, HeapAccepts}

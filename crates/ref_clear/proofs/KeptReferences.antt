@@ -1,22 +1,18 @@
 -- No step of marking gives a cleared reference a referent, or changes the queue of one.
-use Rattle.std.proofs.Common.{◌≡◌, ℕ, ◌+◌, true, Option, Some, None, refl, sym, ap, subst, ◌∙◌, inl, inr}
-use Rattle.std.proofs.Common.{List, ◌∷◌, []}
+use Rattle.std.proofs.Common.{◌≡◌, ℕ, ◌+◌, true, Option, Some, None, refl, sym, ap, subst, ◌∙◌, inl, inr, List, ◌∷◌, []}
 use Rattle.std.proofs.lemmas.Bool.{cases_Bool}
 use Rattle.ref_clear.proofs.Common.{refers_into, Object, Reference, object_at, is_there, plain_object, Heap, slot_at}
 use Rattle.ref_clear.proofs.Common.{reference_in, reference_at, changed_in, made, stored, got, cut, with_field}
 use Rattle.ref_clear.proofs.Common.{with_reference, changed_reference, cleared, got_at, nulls, new_reference}
 use Rattle.ref_clear.proofs.Common.{registered_in, with_hold, targets_at, is_kept, NamedStep, is_in, referent_of}
-use Rattle.ref_clear.proofs.Common.{reference_of}
-use Rattle.ref_clear.proofs.Common.{field_in, Fault, Marking, CycleHeap, is_doomed, shaded_all}
+use Rattle.ref_clear.proofs.Common.{reference_of, field_in, Fault, Marking, CycleHeap, is_doomed, shaded_all}
 use Rattle.ref_clear.proofs.Common.{with_cleared, cycle_begun, unless_refused}
 use Rattle.ref_base.specs.Paths.{is_soft}
 use Rattle.ref_base.specs.declared.heap_step.HeapStep.TheVariants as heap
 use Rattle.ref_base.proofs.Lookups.{lookup-changed, object_at-push}
 use Rattle.ref_base.proofs.Reshaping.{queue-cleared}
 use Rattle.ref_objects.specs.Grounds.{with_new_tag}
-use Rattle.ref_mark.specs.CycleHeaps.{barred}
-use Rattle.ref_mark.specs.CycleHeaps.{with_made, value_got, with_got, whitened}
-use Rattle.ref_mark.specs.CycleHeaps.{scanned, grey_scanned, roots_of}
+use Rattle.ref_mark.specs.CycleHeaps.{barred, with_made, value_got, with_got, whitened, scanned, grey_scanned, roots_of}
 use Rattle.ref_mark.specs.MarkCalls.{done_in, after_in_cycle, refusal_in_cycle, with_hold_of}
 use Rattle.ref_mark.proofs.LoopLemmas.{shaded_heap, shaded_once-heap}
 use Rattle.ref_mark.proofs.Scanning.{with_found-only}

@@ -1,6 +1,6 @@
 -- What the code of a look at a found reference asks and leaves, by what it has read of it.
-use Rattle.std.proofs.Common.{◌≡◌, ℕ, ◌<◌, ◌≤◌, Bool, true, false, refl, sym, ap, subst, ◌∙◌, arith}
-use Rattle.std.proofs.Common.{List, [], ◌∷◌, ◌++◌, length, map, get_or, set, Option, Some, None, inl, inr, ◌==◌}
+use Rattle.std.proofs.Common.{◌≡◌, ℕ, ◌<◌, ◌≤◌, Bool, true, false, refl, sym, ap, subst, ◌∙◌, arith, List, [], ◌∷◌}
+use Rattle.std.proofs.Common.{◌++◌, length, map, get_or, set, Option, Some, None, inl, inr, ◌==◌}
 use Rattle.std.proofs.lemmas.List.{set-get_or, map-append, length-map}
 use Rattle.std.proofs.lemmas.Bool.{ne_eqb, true≢false, false≢true}
 use Rattle.std.specs.Option.{unwrap_or, is_some, IsSome}
@@ -9,8 +9,7 @@ use Rattle.ref_clear.proofs.Common.{list_at, work_refusal, Clearing, Ground, Cyc
 use Rattle.ref_clear.proofs.Common.{unless_refused, ground_of, first_in, rest_of, ClearHeap, with_mark, pending_at}
 use Rattle.ref_clear.proofs.Common.{is_to_clear, cut_at, heap_pended, looked_from, after_in, Worklist, seen_heap}
 use Rattle.ref_clear.proofs.Common.{IsSoundHeap, AreRegistered, has, joined, worklists_of, numbers, with_reference}
-use Rattle.ref_clear.proofs.Common.{cleared}
-use Rattle.ref_clear.proofs.Common.{pending_in, pendings_in}
+use Rattle.ref_clear.proofs.Common.{cleared, pending_in, pendings_in}
 use Rattle.ref_base.specs.declared.heap_step.HeapStep.TheVariants as heap
 use Rattle.ref_objects.specs.Grounds.{IsWellFormed, cleared_in_at}
 use Rattle.ref_objects.proofs.TagLemmas.{cleared_in_at-other, cleared_in_at-own}

@@ -1,6 +1,6 @@
 -- The row in which a worker looks at the first reference that it found, and clears it where its referent is doomed.
-use Rattle.std.proofs.Common.{◌≡◌, ℕ, ◌<◌, true, false, if◌then◌else◌, refl, sym, ap, subst, ◌∙◌, arith}
-use Rattle.std.proofs.Common.{List, [], ◌∷◌, length, Some, None, is_some, ◌⊎◌, inl, inr}
+use Rattle.std.proofs.Common.{◌≡◌, ℕ, ◌<◌, true, false, if◌then◌else◌, refl, sym, ap, subst, ◌∙◌, arith, List, [], ◌∷◌}
+use Rattle.std.proofs.Common.{length, Some, None, is_some, ◌⊎◌, inl, inr}
 use Rattle.std.specs.Prelude.{slice_set}
 use Rattle.std.proofs.lemmas.Bool.{cases_Bool, or_left}
 use Rattle.ref_clear.proofs.Common.{has, Object, object_at, present, refers_into, Heap, reference_in, reference_at}
@@ -8,8 +8,7 @@ use Rattle.ref_clear.proofs.Common.{registered_in, with_changed, changed_referen
 use Rattle.ref_clear.proofs.Common.{pending_numbers, State, joined, is_in, HeapAccepts, ClearsNext, ticked, list_at}
 use Rattle.ref_clear.proofs.Common.{reference_of, referent_of, Marking, Clearing, Sweeping, CycleHeap, is_white}
 use Rattle.ref_clear.proofs.Common.{is_past_mark, is_doomed, doomed, with_found_taken, rest_of, unsaid, shown_heap}
-use Rattle.ref_clear.proofs.Common.{ClearHeap, is_to_clear, cut_at, looked_from, refusal_in, answer_of_look}
-use Rattle.ref_clear.proofs.Common.{HeapStands}
+use Rattle.ref_clear.proofs.Common.{ClearHeap, is_to_clear, cut_at, looked_from, refusal_in, answer_of_look, HeapStands}
 use Rattle.ref_base.specs.Replay.{pended as world_pended}
 use Rattle.ref_objects.specs.Grounds.{with_cleared_tag}
 use Rattle.ref_base.specs.CollectorRows.{looked_at as state_answer, looked as state_looked}

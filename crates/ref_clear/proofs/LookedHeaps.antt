@@ -1,6 +1,6 @@
 -- The heap that a look at a found reference leaves, and that it stands for what the row of the collector leaves.
-use Rattle.std.proofs.Common.{◌≡◌, ℕ, true, false, ◌==◌, refl, sym, ap, subst, ◌∙◌}
-use Rattle.std.proofs.Common.{List, [], ◌∷◌, ◌++◌, Option, Some, None, is_some, ◌⊎◌, inl, inr}
+use Rattle.std.proofs.Common.{◌≡◌, ℕ, true, false, ◌==◌, refl, sym, ap, subst, ◌∙◌, List, [], ◌∷◌, ◌++◌, Option, Some}
+use Rattle.std.proofs.Common.{None, is_some, ◌⊎◌, inl, inr}
 use Rattle.std.specs.Prelude.{slice_set}
 use Rattle.std.proofs.lemmas.Bool.{cases_Bool, or_cases, or_left, or_right, eqb-true, false≢true, true≢false}
 use Rattle.std.proofs.lemmas.List.{length-set}
@@ -8,8 +8,8 @@ use Rattle.ref_clear.proofs.Common.{has, Object, Reference, object_at, is_there,
 use Rattle.ref_clear.proofs.Common.{targets_of, targets_at, soft_and_weak_referents, IsRising, is_kept, refers_into}
 use Rattle.ref_clear.proofs.Common.{reference_in, reference_at, with_changed, changed_reference, cleared, Pending}
 use Rattle.ref_clear.proofs.Common.{graph_of, pending_numbers, State, joined, is_in, list_at, Marking, Clearing}
-use Rattle.ref_clear.proofs.Common.{Sweeping, CycleHeap, is_white, is_black, is_past_mark, doomed}
-use Rattle.ref_clear.proofs.Common.{MarkStands, shown_heap}
+use Rattle.ref_clear.proofs.Common.{Sweeping, CycleHeap, is_white, is_black, is_past_mark, doomed, MarkStands}
+use Rattle.ref_clear.proofs.Common.{shown_heap}
 use Rattle.ref_base.specs.Heaps.{changed_at}
 use Rattle.ref_base.proofs.HasLaws.{has-left, has-cases}
 use Rattle.ref_base.proofs.Lookups.{lookup-changed, numbers-changed, allowed_referent-cases}

@@ -1,7 +1,7 @@
 -- A step of marking leaves what is pending, and what holds of a heap.
 use Rattle.std.proofs.Common.{◌≡◌, ℕ, true, List, sym, ap, subst, ◌∙◌}
-use Rattle.ref_clear.proofs.Common.{NamedStep, joined, pending_numbers, CycleHeap, shaded_all, ClearHeap}
-use Rattle.ref_clear.proofs.Common.{with_mark, after_in, seen_heap, IsSoundHeap, Worklist, worklists_of}
+use Rattle.ref_clear.proofs.Common.{NamedStep, joined, pending_numbers, CycleHeap, shaded_all, ClearHeap, with_mark}
+use Rattle.ref_clear.proofs.Common.{after_in, seen_heap, IsSoundHeap, Worklist, worklists_of}
 use Rattle.ref_mark.specs.MarkCalls.{after_in_cycle}
 use Rattle.ref_mark.proofs.KeptParts.{cycles_after}
 use Rattle.ref_clear.proofs.KeptRows.{goes_on_sweeping}

@@ -2,10 +2,9 @@
 use Rattle.std.proofs.Common.{◌≡◌, ℕ, true, false, refl, ap, List, Option, Some, None, inl, inr}
 use Rattle.std.proofs.lemmas.Bool.{cases_Bool}
 use Rattle.ref_clear.proofs.Common.{has, Object, is_there, refers_into, Heap, slot_at, with_hold, changed_in}
-use Rattle.ref_clear.proofs.Common.{with_reference, cleared, pending_numbers, holds_refusal, State, reference_of}
-use Rattle.ref_clear.proofs.Common.{Fault, mint_refusal, CycleHeap, is_doomed, with_cleared, unless_refused}
-use Rattle.ref_clear.proofs.Common.{mint_answer_in, after_mint_in, ground_of, ClearHeap, holding, Worklist}
-use Rattle.ref_clear.proofs.Common.{IsSoundHeap, HeapStands}
+use Rattle.ref_clear.proofs.Common.{with_reference, cleared, pending_numbers, holds_refusal, State, reference_of, Fault}
+use Rattle.ref_clear.proofs.Common.{mint_refusal, CycleHeap, is_doomed, with_cleared, unless_refused, mint_answer_in}
+use Rattle.ref_clear.proofs.Common.{after_mint_in, ground_of, ClearHeap, holding, Worklist, IsSoundHeap, HeapStands}
 use Rattle.ref_base.specs.declared.reply.Reply.TheVariants as replies
 use Rattle.ref_mark.specs.MarkCalls.{names_freed}
 use Rattle.ref_mark.proofs.HoldMoves.{names_none_freed}

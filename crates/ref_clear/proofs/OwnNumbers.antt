@@ -3,9 +3,8 @@ use Rattle.std.proofs.Common.{◌≡◌, ℕ, List, Option, Some, None, refl, in
 use Rattle.std.proofs.lemmas.Bool.{cases_Bool}
 use Rattle.ref_clear.proofs.Common.{slot_at, reference_at, registered_in, Pending, pending_numbers, NamedStep, list_at}
 use Rattle.ref_clear.proofs.Common.{Fault, Idle, Sweeping, CycleHeap, cycle_in_phase, with_found_taken, unless_refused}
-use Rattle.ref_clear.proofs.Common.{ClearHeap, with_mark, pending_at, begun_with, is_to_clear, heap_pended}
-use Rattle.ref_clear.proofs.Common.{looked_from, cut_at, handed_from, unhooked, swept_some, refusal_in, after_in}
-use Rattle.ref_clear.proofs.Common.{queue_in}
+use Rattle.ref_clear.proofs.Common.{ClearHeap, with_mark, pending_at, begun_with, is_to_clear, heap_pended, looked_from}
+use Rattle.ref_clear.proofs.Common.{cut_at, handed_from, unhooked, swept_some, refusal_in, after_in, queue_in}
 use Rattle.ref_base.specs.declared.heap_step.HeapStep.TheVariants as heap
 use Rattle.ref_mark.proofs.KeptParts.{same_number, cleared-own, begun-own, number_after as number_after_marking}
 

@@ -1,6 +1,5 @@
 -- What is pending is there, is reached, and stays cleared.
-use Rattle.std.proofs.Common.{◌≡◌, ℕ, true, false, ◌==◌, refl, sym, ap, subst, ◌∙◌}
-use Rattle.std.proofs.Common.{List, ◌++◌, inl, inr}
+use Rattle.std.proofs.Common.{◌≡◌, ℕ, true, false, ◌==◌, refl, sym, ap, subst, ◌∙◌, List, ◌++◌, inl, inr}
 use Rattle.std.proofs.lemmas.Bool.{cases_Bool, and_right, or_cases, eqb-true}
 use Rattle.ref_clear.proofs.Common.{has, is_there, present, one_more, Pending, pending_numbers, State, CycleHeap}
 use Rattle.ref_clear.proofs.Common.{is_white, is_past_mark, is_in_cycle, is_doomed, Config, ClearHeap, HeapStands}

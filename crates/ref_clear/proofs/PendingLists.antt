@@ -1,6 +1,6 @@
 -- The lists of pending references as they are seen: one of them is read, or replaced, and there is room in each.
-use Rattle.std.proofs.Common.{◌≡◌, ℕ, ◌<◌, ◌≤◌, ◌==◌, nat_lt, refl, sym, ap, subst, ◌∙◌, arith, zero, suc, true}
-use Rattle.std.proofs.Common.{List, [], ◌∷◌, ◌++◌, length, map, get_or, set, Option, Some, None, ◌⊎◌, inl, inr}
+use Rattle.std.proofs.Common.{◌≡◌, ℕ, ◌<◌, ◌≤◌, ◌==◌, nat_lt, refl, sym, ap, subst, ◌∙◌, arith, zero, suc, true, List}
+use Rattle.std.proofs.Common.{[], ◌∷◌, ◌++◌, length, map, get_or, set, Option, Some, None, ◌⊎◌, inl, inr}
 use Rattle.std.proofs.lemmas.Bool.{or_left, or_right, eq-eqb, ltb-true}
 use Rattle.std.proofs.lemmas.List.{length-map, map-set, get_or_read}
 use Rattle.std.proofs.Math.ListN.{get_or-map}

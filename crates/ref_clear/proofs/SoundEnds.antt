@@ -1,12 +1,11 @@
 -- What holds of a heap goes on holding as its clearing ends, by a sweep, and as the sweep ends.
-use Rattle.std.proofs.Common.{◌≡◌, ℕ, Bool, true, false, not, refl, sym, ap, subst, ◌∙◌, arith}
-use Rattle.std.proofs.Common.{List, None, take}
+use Rattle.std.proofs.Common.{◌≡◌, ℕ, Bool, true, false, not, refl, sym, ap, subst, ◌∙◌, arith, List, None, take}
 use Rattle.std.proofs.lemmas.Bool.{not-false}
 use Rattle.ref_clear.proofs.Common.{joined, unless, is_in, is_empty, work_refusal, Fault, WrongPhase, ClearingLeft}
 use Rattle.ref_clear.proofs.Common.{SweepLeft, Idle, Clearing, Sweeping, CycleHeap, doomed, cycle_in_phase}
-use Rattle.ref_clear.proofs.Common.{unless_refused, ClearHeap, with_mark, swept_some, refusal_in, Worklist}
-use Rattle.ref_clear.proofs.Common.{has, reference_in, registered_in, after_in, AreRegistered, HeapStands}
-use Rattle.ref_clear.proofs.Common.{seen_heap, IsSoundHeap, MaySweep}
+use Rattle.ref_clear.proofs.Common.{unless_refused, ClearHeap, with_mark, swept_some, refusal_in, Worklist, has}
+use Rattle.ref_clear.proofs.Common.{reference_in, registered_in, after_in, AreRegistered, HeapStands, seen_heap}
+use Rattle.ref_clear.proofs.Common.{IsSoundHeap, MaySweep}
 use Rattle.ref_base.specs.declared.heap_step.HeapStep.TheVariants as heap
 use Rattle.ref_mark.proofs.Passed.{work_passed}
 use Rattle.ref_clear.proofs.EndRows.{end_clear_row}

@@ -1,7 +1,6 @@
 -- What the loop of a sweep frees, turn by turn.
-use Rattle.std.proofs.Common.{◌≡◌, ℕ, ◌+◌, ◌<◌, ◌≤◌, true, nat_le, ◌==◌, ◌&&◌, not, is_some, refl, sym, ap, subst}
-use Rattle.std.proofs.Common.{◌∙◌, arith, List, [], ◌∷◌, ◌++◌, length, get_or, take, drop, min, Some, None, ◌⊎◌}
-use Rattle.std.proofs.Common.{inl, inr}
+use Rattle.std.proofs.Common.{◌≡◌, ℕ, ◌+◌, ◌<◌, ◌≤◌, true, nat_le, ◌==◌, ◌&&◌, not, is_some, refl, sym, ap, subst, ◌∙◌}
+use Rattle.std.proofs.Common.{arith, List, [], ◌∷◌, ◌++◌, length, get_or, take, drop, min, Some, None, ◌⊎◌, inl, inr}
 use Rattle.std.proofs.lemmas.Bool.{cases_lt, le-leb, and_parts, or_left, eq-eqb}
 use Rattle.std.proofs.lemmas.List.{take_more, drop_more, drop_all, take_all}
 use Rattle.ref_clear.proofs.Common.{has, Object, is_there, numbers, IsRising, without, is_in, Sweeping, unmarked}
@@ -14,8 +13,7 @@ use Rattle.ref_mark.proofs.MovedStates.{sweeping_is_past}
 use Rattle.ref_objects.specs.Grounds.{Tag, without_tag}
 use Rattle.ref_clear.specs.ClearHeaps.{without_tags}
 use Rattle.ref_clear.proofs.GoneObjects.{without-none, without-append, object_at-left, left_from_there, rising-without}
-use Rattle.ref_clear.proofs.GoneObjects.{without_tags-append}
-use Rattle.ref_clear.proofs.GoneObjects.{unmarked-swept, first_unmarked-least}
+use Rattle.ref_clear.proofs.GoneObjects.{without_tags-append, unmarked-swept, first_unmarked-least}
 
 -- ---- lists
 

@@ -1,6 +1,6 @@
 -- A sweep of the abstract collector, and that the heap stands for the state that it leaves.
-use Rattle.std.proofs.Common.{◌≡◌, ℕ, ◌≤◌, Bool, true, false, not, ◌&&◌, ◌||◌, if◌then◌else◌, refl, sym, ap, subst}
-use Rattle.std.proofs.Common.{◌∙◌, List, [], ◌∷◌, map, take, drop, Option, Some, None, is_some, ◌⊎◌, inl, inr}
+use Rattle.std.proofs.Common.{◌≡◌, ℕ, ◌≤◌, Bool, true, false, not, ◌&&◌, ◌||◌, if◌then◌else◌, refl, sym, ap, subst, ◌∙◌}
+use Rattle.std.proofs.Common.{List, [], ◌∷◌, map, take, drop, Option, Some, None, is_some, ◌⊎◌, inl, inr}
 use Rattle.std.proofs.lemmas.Bool.{cond-true, cases_Bool, and_parts, and_right, not-true, false≢true, true≢false}
 use Rattle.std.proofs.lemmas.Bool.{false_from_ne_true}
 use Rattle.std.proofs.lemmas.List.{take-append-drop}
@@ -8,10 +8,9 @@ use Rattle.ref_clear.proofs.Common.{has, Object, Reference, object_at, is_there,
 use Rattle.ref_clear.proofs.Common.{targets_at, allowed_referent, present, soft_and_weak_referents, is_kept, any_is}
 use Rattle.ref_clear.proofs.Common.{refers_into, Heap, reference_at, reference_in, IsRising, graph_of, pending_numbers}
 use Rattle.ref_clear.proofs.Common.{with_heap, is_in, State, HeapAccepts, without, shown, referent_of, forgotten}
-use Rattle.ref_clear.proofs.Common.{heap_but, Marking, Clearing, Sweeping, unmarked, CycleHeap, is_white}
-use Rattle.ref_clear.proofs.Common.{is_black, is_in_cycle, doomed, MarkStands, FactsBut, unsaid, ReadsAs, shown_heap}
-use Rattle.ref_clear.proofs.Common.{ClearHeap, with_mark, swept_some, refusal_in, answer_of_sweep, HeapStands}
-use Rattle.ref_clear.proofs.Common.{MaySweep}
+use Rattle.ref_clear.proofs.Common.{heap_but, Marking, Clearing, Sweeping, unmarked, CycleHeap, is_white, is_black}
+use Rattle.ref_clear.proofs.Common.{is_in_cycle, doomed, MarkStands, FactsBut, unsaid, ReadsAs, shown_heap, ClearHeap}
+use Rattle.ref_clear.proofs.Common.{with_mark, swept_some, refusal_in, answer_of_sweep, HeapStands, MaySweep}
 use Rattle.ref_base.specs.DoomedSets.{is_new_clear, new_clears}
 use Rattle.ref_base.specs.CollectorRows.{Sweeps}
 use Rattle.ref_base.specs.Forgetting.{blanked}

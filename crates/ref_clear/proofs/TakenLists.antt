@@ -1,7 +1,6 @@
 -- How the lists of all workers change as the first of one is taken, or as a pending reference goes last in one.
-use Rattle.std.proofs.Common.{◌≡◌, ℕ, ◌<◌, true, false, ◌||◌, ◌==◌, refl, sym, ap, subst, ◌∙◌}
-use Rattle.std.proofs.Common.{List, [], ◌∷◌, ◌++◌, map, length, zero, suc, append_assoc}
-use Rattle.std.proofs.Common.{Option, Some, None, ◌⊎◌, inl, inr}
+use Rattle.std.proofs.Common.{◌≡◌, ℕ, ◌<◌, true, false, ◌||◌, ◌==◌, refl, sym, ap, subst, ◌∙◌, List, [], ◌∷◌, ◌++◌, map}
+use Rattle.std.proofs.Common.{length, zero, suc, append_assoc, Option, Some, None, ◌⊎◌, inl, inr}
 use Rattle.std.specs.Prelude.{slice_index_or, slice_set}
 use Rattle.std.proofs.Math.ListN.{get_or-map}
 use Rattle.std.proofs.lemmas.Bool.{or_cases, or_parts, or_from, or_left, eqb-true, eq-eqb, ne_eqb, true≢false}

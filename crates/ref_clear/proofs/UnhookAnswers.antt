@@ -3,8 +3,8 @@ use Rattle.std.proofs.Common.{◌≡◌, ℕ, true, refl, sym, ap, subst, ◌∙
 use Rattle.ref_clear.proofs.Common.{Reference, is_there, slot_at, reference_at, registered_in, reference_of, has_slot}
 use Rattle.ref_clear.proofs.Common.{holds_refusal, Own, NoSuchActor, Ground, CycleHeap, with_cleared, mint_answer_in}
 use Rattle.ref_clear.proofs.Common.{after_mint_in, ground_of, holding, unhooked, refusal_in, queue_in, answer_in}
-use Rattle.ref_clear.proofs.Common.{after_in, answer_of_unhook, Worklist, seen_heap}
-use Rattle.ref_clear.proofs.Common.{with_mark, AreRegistered, IsSoundHeap}
+use Rattle.ref_clear.proofs.Common.{after_in, answer_of_unhook, Worklist, seen_heap, with_mark, AreRegistered}
+use Rattle.ref_clear.proofs.Common.{IsSoundHeap}
 use Rattle.ref_objects.specs.Grounds.{cleared_in_at}
 use Rattle.ref_mark.proofs.KeptParts.{same_tags, cleared-own}
 use Rattle.ref_clear.proofs.KeptReferences.{cleared_stays}

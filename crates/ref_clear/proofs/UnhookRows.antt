@@ -1,22 +1,20 @@
 -- The row of an unhook: the reference in the slot is cleared, and where it is registered there is one hold more of it.
-use Rattle.std.proofs.Common.{◌≡◌, ℕ, ◌+◌, ◌*◌, true, false, refl, sym, ap, subst, ◌∙◌}
-use Rattle.std.proofs.Common.{[], ◌++◌, Option, Some, None, is_some, inl, inr}
+use Rattle.std.proofs.Common.{◌≡◌, ℕ, ◌+◌, ◌*◌, true, false, refl, sym, ap, subst, ◌∙◌, [], ◌++◌, Option, Some, None}
+use Rattle.std.proofs.Common.{is_some, inl, inr}
 use Rattle.std.proofs.lemmas.Bool.{cases_Bool}
 use Rattle.ref_clear.proofs.Common.{Object, Reference, present, refers_into, Heap, slot_at, reference_in, reference_at}
-use Rattle.ref_clear.proofs.Common.{registered_in, one_more, with_hold, changed_in, with_reference, cleared, cut}
-use Rattle.ref_clear.proofs.Common.{World, pending_numbers, unless, has_slot, State, ticked, on_heap, shown}
-use Rattle.ref_clear.proofs.Common.{reference_of, Unhooks, HeapAccepts, forgotten, heap_but, NoSuchActor, CycleHeap}
-use Rattle.ref_clear.proofs.Common.{is_doomed, doomed, with_cleared, MarkStands, ReadsAs, unsaid, shown_heap}
-use Rattle.ref_clear.proofs.Common.{ClearHeap, with_mark, holding, unhooked, refusal_in, queue_in, answer_of_unhook}
-use Rattle.ref_clear.proofs.Common.{HeapStands, ArePending}
+use Rattle.ref_clear.proofs.Common.{registered_in, one_more, with_hold, changed_in, with_reference, cleared, cut, World}
+use Rattle.ref_clear.proofs.Common.{pending_numbers, unless, has_slot, State, ticked, on_heap, shown, reference_of}
+use Rattle.ref_clear.proofs.Common.{Unhooks, HeapAccepts, forgotten, heap_but, NoSuchActor, CycleHeap, is_doomed}
+use Rattle.ref_clear.proofs.Common.{doomed, with_cleared, MarkStands, ReadsAs, unsaid, shown_heap, ClearHeap, with_mark}
+use Rattle.ref_clear.proofs.Common.{holding, unhooked, refusal_in, queue_in, answer_of_unhook, HeapStands, ArePending}
 use Rattle.ref_base.specs.Refusals.{reference_refusal, minting_refusal, unhook_refusal, clear_refusal}
 use Rattle.ref_base.specs.declared.fault.Fault.TheVariants.{NotAReference}
 use Rattle.ref_base.specs.declared.heap_step.HeapStep.TheVariants as heap
 use Rattle.ref_base.proofs.Forgetting.{forgotten-shape}
 use Rattle.ref_base.proofs.Lookups.{has-present_at}
 use Rattle.ref_base.proofs.Reshaping.{KeepsShape, reshaped, at-reshaped}
-use Rattle.ref_base.proofs.RowForms.{unless_passes}
-use Rattle.ref_base.proofs.RowForms.{ticked_world}
+use Rattle.ref_base.proofs.RowForms.{unless_passes, ticked_world}
 use Rattle.ref_base.proofs.ShownObjects.{shown-shape, shown-cleared}
 use Rattle.ref_mark.proofs.Agreeing.{agrees_changed, changed_in-agrees, said_slot}
 use Rattle.ref_mark.proofs.DoomedLists.{past_is_in_cycle}

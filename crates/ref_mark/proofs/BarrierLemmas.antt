@@ -1,6 +1,6 @@
 -- What the calls of references leave, step by step of their code.
-use Rattle.std.proofs.Common.{◌≡◌, ℕ, true, refl, sym, ap, ◌∙◌, ◌==◌, List, []}
-use Rattle.std.proofs.Common.{◌∷◌, Option, Some, None, inl, inr, false}
+use Rattle.std.proofs.Common.{◌≡◌, ℕ, true, refl, sym, ap, ◌∙◌, ◌==◌, List, [], ◌∷◌, Option, Some, None, inl, inr}
+use Rattle.std.proofs.Common.{false}
 use Rattle.std.proofs.lemmas.Bool.{cases_Bool, false≢true, true≢false}
 use Rattle.std.specs.Option.{is_some}
 use Rattle.ref_mark.proofs.Common.{Object, Reference, object_at, reference_at, reference_in, got_at, changed_at}

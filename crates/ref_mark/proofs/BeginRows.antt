@@ -1,11 +1,10 @@
 -- A cycle's begin: nothing is marked, then all roots become grey.
-use Rattle.std.proofs.Common.{◌≡◌, ℕ, ◌+◌, ◌<◌, Bool, true, false, not, refl, sym, ap, subst, ◌∙◌, arith}
-use Rattle.std.proofs.Common.{[], ◌∷◌, ◌++◌, length, None, inl, inr}
+use Rattle.std.proofs.Common.{◌≡◌, ℕ, ◌+◌, ◌<◌, Bool, true, false, not, refl, sym, ap, subst, ◌∙◌, arith, [], ◌∷◌, ◌++◌}
+use Rattle.std.proofs.Common.{length, None, inl, inr}
 use Rattle.std.proofs.lemmas.Bool.{and_parts, false≢true}
-use Rattle.ref_mark.proofs.Common.{AreDistinct, has, Graph, is_there, is_kept, graph_of, pending_numbers}
-use Rattle.ref_mark.proofs.Common.{is_in, is_empty, begin_refusal, State, HeapAccepts, Urgency, Idle, Sweeping}
-use Rattle.ref_mark.proofs.Common.{CycleHeap, is_black, shaded_all, roots_of, whitened, cycle_begun}
-use Rattle.ref_mark.proofs.Common.{MarkStands}
+use Rattle.ref_mark.proofs.Common.{AreDistinct, has, Graph, is_there, is_kept, graph_of, pending_numbers, is_in}
+use Rattle.ref_mark.proofs.Common.{is_empty, begin_refusal, State, HeapAccepts, Urgency, Idle, Sweeping, CycleHeap}
+use Rattle.ref_mark.proofs.Common.{is_black, shaded_all, roots_of, whitened, cycle_begun, MarkStands}
 use Rattle.ref_base.specs.Replay.{begun as world_begun}
 use Rattle.ref_base.specs.CollectorRows.{begun_state}
 use Rattle.ref_base.specs.declared.heap_step.HeapStep.TheVariants as heap

@@ -1,6 +1,6 @@
 -- The words of the model that most proofs cite, passed on from one place. Declares nothing.
-pub use Rattle.ref_base.specs.CollectorRows.{HeapAccepts, field_in, list_at, on_heap, reference_of, referent_got}
-pub use Rattle.ref_base.specs.CollectorRows.{shown, ticked, value_reply}
+pub use Rattle.ref_base.specs.CollectorRows.{HeapAccepts, field_in, list_at, on_heap, reference_of, referent_got, shown}
+pub use Rattle.ref_base.specs.CollectorRows.{ticked, value_reply}
 pub use Rattle.ref_base.specs.Collectors.{State, joined}
 pub use Rattle.ref_base.specs.DoomedSets.{MayDoom, any_is, is_new_clear, refers_into}
 pub use Rattle.ref_base.specs.Forgetting.{heap_but}
@@ -29,8 +29,8 @@ pub use Rattle.ref_base.specs.declared.strength.Strength.{Strength}
 pub use Rattle.ref_base.specs.declared.urgency.Urgency.{Urgency}
 pub use Rattle.ref_objects.specs.Grounds.{Ground, IsInOrder, fields_in, least_from, unmarked}
 pub use Rattle.ref_mark.specs.CycleHeaps.{CycleHeap, barred, cycle_begun, doomed, first_cycle_heap, grey_scanned}
-pub use Rattle.ref_mark.specs.CycleHeaps.{is_black, is_doomed, is_due, is_in_cycle, is_past_mark, is_white}
-pub use Rattle.ref_mark.specs.CycleHeaps.{roots_of, shaded, shaded_all, shaded_if_any, undoomed, value_got, whitened}
+pub use Rattle.ref_mark.specs.CycleHeaps.{is_black, is_doomed, is_due, is_in_cycle, is_past_mark, is_white, roots_of}
+pub use Rattle.ref_mark.specs.CycleHeaps.{shaded, shaded_all, shaded_if_any, undoomed, value_got, whitened}
 pub use Rattle.ref_mark.specs.CycleHeaps.{with_cleared, with_found, with_got, with_made, young}
 pub use Rattle.ref_mark.specs.MarkCalls.{done_in, refusal_in_cycle, unless_refused}
 pub use Rattle.ref_mark.specs.MarkViews.{seen_marker, worklists_of}

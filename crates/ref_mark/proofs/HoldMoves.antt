@@ -1,6 +1,6 @@
 -- The rows of holds: they come and go, and what is held comes into a slot.
-use Rattle.std.proofs.Common.{◌≡◌, ℕ, ◌+◌, ◌*◌, true, false, ◌==◌, ◌||◌, refl, sym, ap, subst, ◌∙◌}
-use Rattle.std.proofs.Common.{List, [], ◌∷◌, ◌++◌, length, Option, Some, None, ◌⊎◌, inl, inr}
+use Rattle.std.proofs.Common.{◌≡◌, ℕ, ◌+◌, ◌*◌, true, false, ◌==◌, ◌||◌, refl, sym, ap, subst, ◌∙◌, List, [], ◌∷◌, ◌++◌}
+use Rattle.std.proofs.Common.{length, Option, Some, None, ◌⊎◌, inl, inr}
 use Rattle.std.specs.Prelude.{slice_set}
 use Rattle.std.proofs.lemmas.Bool.{cases_Bool, and_parts, or_cases, or_left, or_right, eqb-true}
 use Rattle.std.proofs.lemmas.List.{length-set}
@@ -24,8 +24,8 @@ use Rattle.ref_base.proofs.RowForms.{unless_passes}
 use Rattle.ref_mark.proofs.Moves.{IsMove}
 use Rattle.ref_mark.proofs.MovedStates.{moved_stands}
 use Rattle.ref_base.proofs.Lookups.{has-present_at, has-present_set}
-use Rattle.ref_mark.proofs.RootFacts.{slot_root, hold_root, pending_root, root_cases, root_is_not_white}
-use Rattle.ref_mark.proofs.RootFacts.{root_is_there, slot_is_there}
+use Rattle.ref_mark.proofs.RootFacts.{slot_root, hold_root, pending_root, root_cases, root_is_not_white, root_is_there}
+use Rattle.ref_mark.proofs.RootFacts.{slot_is_there}
 use Rattle.ref_mark.proofs.MoveKinds.{rooted, rooted_move}
 
 -- what is held after a hold goes was held

@@ -5,8 +5,8 @@ use Rattle.ref_objects.specs.Grounds.{Tag, cleared_in_at, with_new_tag}
 use Rattle.ref_objects.proofs.TagLemmas.{cleared_in_at-new}
 use Rattle.ref_mark.proofs.Common.{refers_into, Object, plain_object, slot_at, made, nulls, new_reference, targets_at}
 use Rattle.ref_mark.proofs.Common.{is_kept, NamedStep, is_in, field_in, reference_of, Fault, Marking, Urgency}
-use Rattle.ref_mark.proofs.Common.{CycleHeap, is_white, is_in_cycle, is_doomed, shaded_all, shaded_if_any}
-use Rattle.ref_mark.proofs.Common.{young, with_made, barred, value_got, with_cleared, whitened, roots_of, grey_scanned}
+use Rattle.ref_mark.proofs.Common.{CycleHeap, is_white, is_in_cycle, is_doomed, shaded_all, shaded_if_any, young}
+use Rattle.ref_mark.proofs.Common.{with_made, barred, value_got, with_cleared, whitened, roots_of, grey_scanned}
 use Rattle.ref_mark.proofs.Common.{done_in, refusal_in_cycle, unless_refused}
 use Rattle.ref_base.specs.declared.heap_step.HeapStep.TheVariants as heap
 use Rattle.ref_mark.specs.MarkCalls.{after_in_cycle}

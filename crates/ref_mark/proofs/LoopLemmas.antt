@@ -1,6 +1,6 @@
 -- What the loops of a begin and of a scan shade, turn by turn.
-use Rattle.std.proofs.Common.{◌≡◌, ℕ, ◌+◌, ◌<◌, ◌≤◌, true, false, nat_le, ◌==◌, refl, sym, ap, subst, ◌∙◌, arith}
-use Rattle.std.proofs.Common.{List, [], ◌∷◌, ◌++◌, length, take, Option, Some, None, inl, inr}
+use Rattle.std.proofs.Common.{◌≡◌, ℕ, ◌+◌, ◌<◌, ◌≤◌, true, false, nat_le, ◌==◌, refl, sym, ap, subst, ◌∙◌, arith, List}
+use Rattle.std.proofs.Common.{[], ◌∷◌, ◌++◌, length, take, Option, Some, None, inl, inr}
 use Rattle.std.specs.Prelude.{slice_index_or, if◌then◌else◌}
 use Rattle.std.proofs.lemmas.Bool.{cases_Bool, le-leb, lt-leb, leb-true, leb-false, eq-eqb}
 use Rattle.std.proofs.lemmas.List.{take_more}
@@ -10,8 +10,8 @@ use Rattle.ref_mark.proofs.Common.{fields_in, least_from, IsInOrder, first_in, C
 use Rattle.ref_mark.proofs.Common.{shaded_if_any, whitened, cycle_begun, roots_of}
 use Rattle.ref_base.specs.Paths.{if_any}
 use Rattle.ref_objects.specs.Grounds.{AllFrom}
-use Rattle.ref_mark.proofs.Shading.{greyed, shaded-only, shaded_all-only, shaded_all-append}
-use Rattle.ref_mark.proofs.Shading.{shaded_other, shaded_white, own-greyed}
+use Rattle.ref_mark.proofs.Shading.{greyed, shaded-only, shaded_all-only, shaded_all-append, shaded_other, shaded_white}
+use Rattle.ref_mark.proofs.Shading.{own-greyed}
 
 -- ---- place by place
 

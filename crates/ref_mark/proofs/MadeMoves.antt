@@ -1,20 +1,18 @@
 -- A mutator makes an object: it is marked where a cycle has begun, and a slot holds it.
-use Rattle.std.proofs.Common.{◌≡◌, ℕ, ◌+◌, ◌*◌, ◌<◌, true, false, ◌==◌, arith}
-use Rattle.std.proofs.Common.{refl, sym, ap, subst, ◌∙◌}
-use Rattle.std.proofs.Common.{[], ◌∷◌, ◌++◌, Option, Some, None, is_some, ◌⊎◌, inl, inr}
+use Rattle.std.proofs.Common.{◌≡◌, ℕ, ◌+◌, ◌*◌, ◌<◌, true, false, ◌==◌, arith, refl, sym, ap, subst, ◌∙◌, [], ◌∷◌, ◌++◌}
+use Rattle.std.proofs.Common.{Option, Some, None, is_some, ◌⊎◌, inl, inr}
 use Rattle.std.specs.Prelude.{slice_set}
 use Rattle.std.proofs.lemmas.Bool.{cases_Bool, or_cases, or_left, or_right, eqb-true, eq-eqb, false≢true, true≢false}
 use Rattle.std.proofs.lemmas.List.{length-set}
 use Rattle.ref_objects.specs.Grounds.{with_new_tag}
 use Rattle.ref_mark.proofs.Common.{refers_into, has, Object, object_at, is_there, present, targets_of, targets_at}
 use Rattle.ref_mark.proofs.Common.{soft_and_weak_referents, is_kept, made, one_more, reference_in, reference_at}
-use Rattle.ref_mark.proofs.Common.{pending_numbers, has_slot, State, is_in_cycle, CycleHeap, is_white}
-use Rattle.ref_mark.proofs.Common.{is_due, doomed, young, with_made, MarkStands}
+use Rattle.ref_mark.proofs.Common.{pending_numbers, has_slot, State, is_in_cycle, CycleHeap, is_white, is_due, doomed}
+use Rattle.ref_mark.proofs.Common.{young, with_made, MarkStands}
 use Rattle.ref_base.proofs.OneMore.{has-one_more}
 use Rattle.ref_mark.proofs.Shading.{not_white_marked}
 use Rattle.ref_mark.proofs.DoomedLists.{doomed-made, is_there-above}
-use Rattle.ref_mark.proofs.Moves.{Change, moved, IsMove, IsNew, MayLead, roots_after}
-use Rattle.ref_mark.proofs.Moves.{referring_is_there}
+use Rattle.ref_mark.proofs.Moves.{Change, moved, IsMove, IsNew, MayLead, roots_after, referring_is_there}
 use Rattle.ref_base.proofs.Lookups.{object_at-push, object_at-pushed, rising-push, has-present_here}
 use Rattle.ref_mark.proofs.RootFacts.{slot_root, roots_of_set, each_root_of_set, root_is_there, slot_within}
 

@@ -1,11 +1,11 @@
 -- A mark's end, where nothing is grey: what isn't marked is doomed, and all references to it are cleared at once.
-use Rattle.std.proofs.Common.{◌≡◌, ℕ, Bool, true, false, not, ◌&&◌, ◌==◌, refl, sym, ap, subst, ◌∙◌}
-use Rattle.std.proofs.Common.{List, [], ◌∷◌, length, None, inl, inr}
+use Rattle.std.proofs.Common.{◌≡◌, ℕ, Bool, true, false, not, ◌&&◌, ◌==◌, refl, sym, ap, subst, ◌∙◌, List, [], ◌∷◌}
+use Rattle.std.proofs.Common.{length, None, inl, inr}
 use Rattle.std.specs.Prelude.{is_some}
 use Rattle.std.proofs.lemmas.Bool.{cases_Bool, and_parts, false≢true, not-true}
 use Rattle.ref_mark.proofs.Common.{has, Object, is_there, object_at, MayDoom, refers_into, reference_at, reference_in}
-use Rattle.ref_mark.proofs.Common.{graph_of, is_in, is_empty, end_mark_refusal, State, joined, Marking}
-use Rattle.ref_mark.proofs.Common.{Clearing, Sweeping, CycleHeap, is_white, is_black, unmarked, MarkStands, InClearing}
+use Rattle.ref_mark.proofs.Common.{graph_of, is_in, is_empty, end_mark_refusal, State, joined, Marking, Clearing}
+use Rattle.ref_mark.proofs.Common.{Sweeping, CycleHeap, is_white, is_black, unmarked, MarkStands, InClearing}
 use Rattle.ref_base.specs.DoomedSets.{new_clears}
 use Rattle.ref_base.specs.CollectorRows.{EndsMark, doomed_at, mark_ended}
 use Rattle.ref_base.specs.declared.reply.Reply.TheVariants as replies

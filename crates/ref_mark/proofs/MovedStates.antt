@@ -1,15 +1,15 @@
 -- A heap that a mutator moved stands for the state that the row of the abstract collector gives.
-use Rattle.std.proofs.Common.{◌≡◌, ℕ, ◌<◌, ◌≤◌, Bool, true, false, not, refl, sym, ap, subst, ◌∙◌, arith}
-use Rattle.std.proofs.Common.{List, [], ◌∷◌, inl, inr}
+use Rattle.std.proofs.Common.{◌≡◌, ℕ, ◌<◌, ◌≤◌, Bool, true, false, not, refl, sym, ap, subst, ◌∙◌, arith, List, [], ◌∷◌}
+use Rattle.std.proofs.Common.{inl, inr}
 use Rattle.std.proofs.lemmas.Bool.{cases_Bool, true≢false, or_left, or_right}
-use Rattle.ref_mark.proofs.Common.{Heap, IsOrderly, World, with_heap, graph_of, pending_numbers, is_in, is_empty}
-use Rattle.ref_mark.proofs.Common.{State, ticked, Phase, Idle, Marking, Clearing, Sweeping, is_in_cycle, CycleHeap}
-use Rattle.ref_mark.proofs.Common.{is_white, is_past_mark, is_due, FactsBut, AreThere, MarkStands, ReadsAs}
+use Rattle.ref_mark.proofs.Common.{Heap, IsOrderly, World, with_heap, graph_of, pending_numbers, is_in, is_empty, State}
+use Rattle.ref_mark.proofs.Common.{ticked, Phase, Idle, Marking, Clearing, Sweeping, is_in_cycle, CycleHeap, is_white}
+use Rattle.ref_mark.proofs.Common.{is_past_mark, is_due, FactsBut, AreThere, MarkStands, ReadsAs}
 use Rattle.ref_mark.proofs.Agreeing.{agrees_same, same_before}
 use Rattle.ref_mark.proofs.Shading.{MarkingBut}
 use Rattle.ref_mark.proofs.DoomedLists.{past_is_in_cycle, shown_heap-before}
-use Rattle.ref_mark.proofs.Moves.{Change, moved, IsMove, graph_after, moved_state, moved_marking}
-use Rattle.ref_mark.proofs.Moves.{same_white, moved_facts, moved_clearing, moved_sweeping}
+use Rattle.ref_mark.proofs.Moves.{Change, moved, IsMove, graph_after, moved_state, moved_marking, same_white}
+use Rattle.ref_mark.proofs.Moves.{moved_facts, moved_clearing, moved_sweeping}
 
 -- ---- phases
 

@@ -1,12 +1,12 @@
 -- What holds of a heap in its cycles goes on holding where a mutator moves.
-use Rattle.std.proofs.Common.{◌≡◌, ℕ, ◌<◌, ◌≤◌, Bool, true, false, not, ◌&&◌, refl, sym, ◌∙◌, arith}
-use Rattle.std.proofs.Common.{List, [], ◌∷◌, ◌++◌, length, Option, Some, None, is_some, ◌⊎◌, inl, inr}
+use Rattle.std.proofs.Common.{◌≡◌, ℕ, ◌<◌, ◌≤◌, Bool, true, false, not, ◌&&◌, refl, sym, ◌∙◌, arith, List, [], ◌∷◌}
+use Rattle.std.proofs.Common.{◌++◌, length, Option, Some, None, is_some, ◌⊎◌, inl, inr}
 use Rattle.std.proofs.lemmas.Bool.{cases_Bool, and_parts, false≢true, true≢false, false_from_ne_true}
 use Rattle.ref_mark.proofs.Common.{refers_into, has, Graph, Object, Reference, object_at, is_there, Allowed, present}
 use Rattle.ref_mark.proofs.Common.{targets_of, targets_at, soft_and_weak_referents, IsRising, is_kept, Heap}
 use Rattle.ref_mark.proofs.Common.{reference_in, reference_at, World, with_heap, graph_of, pending_numbers, State}
-use Rattle.ref_mark.proofs.Common.{is_in_cycle, CycleHeap, is_white, is_black, is_past_mark, is_due, doomed}
-use Rattle.ref_mark.proofs.Common.{FactsBut, Coloured, Reached, FoundBut, InClearing}
+use Rattle.ref_mark.proofs.Common.{is_in_cycle, CycleHeap, is_white, is_black, is_past_mark, is_due, doomed, FactsBut}
+use Rattle.ref_mark.proofs.Common.{Coloured, Reached, FoundBut, InClearing}
 use Rattle.ref_base.specs.Graphs.{numbers}
 use Rattle.ref_base.proofs.PathLaws.{root_ends, target_ends}
 use Rattle.ref_objects.specs.Grounds.{Tag}

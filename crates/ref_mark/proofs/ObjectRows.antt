@@ -1,6 +1,6 @@
 -- The rows that make objects and references, and the rows that store into a field.
-use Rattle.std.proofs.Common.{◌≡◌, ℕ, ◌+◌, ◌*◌, true, false, if◌then◌else◌, zero, suc, refl, sym, ap, subst, ◌∙◌}
-use Rattle.std.proofs.Common.{List, [], ◌++◌, Option, Some, None, inl, inr, nat_lt}
+use Rattle.std.proofs.Common.{◌≡◌, ℕ, ◌+◌, ◌*◌, true, false, if◌then◌else◌, zero, suc, refl, sym, ap, subst, ◌∙◌, List}
+use Rattle.std.proofs.Common.{[], ◌++◌, Option, Some, None, inl, inr, nat_lt}
 use Rattle.std.specs.Prelude.{slice_set}
 use Rattle.std.proofs.lemmas.Bool.{cases_Bool, and_parts, false≢true, true≢false}
 use Rattle.ref_objects.specs.Grounds.{with_new_tag}
@@ -9,11 +9,10 @@ use Rattle.ref_mark.proofs.Common.{allowed_referent, is_soft, soft_and_weak_refe
 use Rattle.ref_mark.proofs.Common.{slot_at, nulls, new_reference, made, changed_in, with_heap, pending_numbers}
 use Rattle.ref_mark.proofs.Common.{has_slot, has_slots, unless, field_refusal, new_refusal, refer_refusal, State}
 use Rattle.ref_mark.proofs.Common.{ticked, on_heap, HeapAccepts, Strength, NoSuchActor, is_in_cycle, CycleHeap}
-use Rattle.ref_mark.proofs.Common.{is_white, is_past_mark, doomed, with_made, is_there, heap_but}
-use Rattle.ref_mark.proofs.Common.{MarkStands, ReadsAs, unsaid, shown_heap}
+use Rattle.ref_mark.proofs.Common.{is_white, is_past_mark, doomed, with_made, is_there, heap_but, MarkStands, ReadsAs}
+use Rattle.ref_mark.proofs.Common.{unsaid, shown_heap}
 use Rattle.ref_base.specs.Heaps.{stored, with_field}
-use Rattle.ref_base.specs.Refusals.{is_queue_or_none, unless_empty, object_refusal}
-use Rattle.ref_base.specs.Refusals.{store_refusal}
+use Rattle.ref_base.specs.Refusals.{is_queue_or_none, unless_empty, object_refusal, store_refusal}
 use Rattle.ref_base.specs.declared.fault.Fault.TheVariants.{BadQueue}
 use Rattle.ref_base.specs.declared.heap_step.HeapStep.TheVariants as heap
 use Rattle.ref_base.specs.declared.reply.Reply.TheVariants as replies
@@ -22,8 +21,7 @@ use Rattle.ref_mark.proofs.DoomedLists.{doomed-made, young-phase}
 use Rattle.ref_mark.proofs.Agreeing.{agrees_changed, made-agrees, said_slot, said_new, agrees_next, unsaid_same}
 use Rattle.ref_mark.proofs.DoomedLists.{past_is_in_cycle, is_there-above}
 use Rattle.ref_base.proofs.ShownObjects.{shown-field, is_new_clear-none}
-use Rattle.ref_mark.proofs.ShownHeaps.{shown_heap-made, shown_heap-made_plain}
-use Rattle.ref_mark.proofs.ShownHeaps.{is_new_clear-reference}
+use Rattle.ref_mark.proofs.ShownHeaps.{shown_heap-made, shown_heap-made_plain, is_new_clear-reference}
 use Rattle.ref_mark.proofs.Moves.{Change, moved}
 use Rattle.ref_mark.proofs.MovedStates.{moved_stands}
 use Rattle.ref_base.proofs.Lookups.{allowed_referent-cases, has-present_set, has-present_at}

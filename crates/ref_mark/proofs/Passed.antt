@@ -1,6 +1,5 @@
 -- What a step of the cycle that isn't refused has passed.
-use Rattle.std.proofs.Common.{◌≡◌, ℕ, ◌<◌, ◌^◌, ◌-◌, true, not, refl, nat_le, nat_lt}
-use Rattle.std.proofs.Common.{List, [], ◌∷◌, None}
+use Rattle.std.proofs.Common.{◌≡◌, ℕ, ◌<◌, ◌^◌, ◌-◌, true, not, refl, nat_le, nat_lt, List, [], ◌∷◌, None}
 use Rattle.std.proofs.lemmas.Bool.{false≢true, ltb-true}
 use Rattle.ref_mark.proofs.Common.{is_in, is_empty, is_worker, unless, begin_refusal, work_refusal, end_mark_refusal}
 use Rattle.ref_mark.proofs.Common.{Phase, Idle, Marking, Clearing, Sweeping, NoSuchActor, CycleHeap}

@@ -1,10 +1,8 @@
 -- Before a mark has ended mutators read the heap as it is, and a state that it stands for has the heap's own parts.
-use Rattle.std.proofs.Common.{◌≡◌, ℕ, ◌≤◌, true, false, not, refl, sym, ap, subst, ◌∙◌}
-use Rattle.std.proofs.Common.{List, [], length}
+use Rattle.std.proofs.Common.{◌≡◌, ℕ, ◌≤◌, true, false, not, refl, sym, ap, subst, ◌∙◌, List, [], length}
 use Rattle.std.proofs.lemmas.Bool.{false≢true}
-use Rattle.ref_mark.proofs.Common.{Heap, IsOrderly, graph_of, is_in, is_empty, State, Policy, Phase, Marking}
-use Rattle.ref_mark.proofs.Common.{Clearing, Sweeping, CycleHeap, is_past_mark, is_in_cycle, doomed, AreThere}
-use Rattle.ref_mark.proofs.Common.{MarkStands}
+use Rattle.ref_mark.proofs.Common.{Heap, IsOrderly, graph_of, is_in, is_empty, State, Policy, Phase, Marking, Clearing}
+use Rattle.ref_mark.proofs.Common.{Sweeping, CycleHeap, is_past_mark, is_in_cycle, doomed, AreThere, MarkStands}
 use Rattle.ref_mark.proofs.Agreeing.{same_before, agrees_same}
 use Rattle.ref_mark.proofs.Shading.{MarkingBut}
 use Rattle.ref_mark.proofs.DoomedLists.{shown_heap-before}

@@ -1,14 +1,13 @@
 -- How references change as they are got or cleared, and what their referents read as.
-use Rattle.std.proofs.Common.{◌≡◌, ℕ, Bool, true, false, not, ◌&&◌, if◌then◌else◌, refl, sym, ap, subst, ◌∙◌}
-use Rattle.std.proofs.Common.{List, [], Option, Some, None, is_some, inl, inr}
+use Rattle.std.proofs.Common.{◌≡◌, ℕ, Bool, true, false, not, ◌&&◌, if◌then◌else◌, refl, sym, ap, subst, ◌∙◌, List, []}
+use Rattle.std.proofs.Common.{Option, Some, None, is_some, inl, inr}
 use Rattle.std.proofs.lemmas.Bool.{cases_Bool, and_parts, false≢true, true≢false}
 use Rattle.ref_mark.proofs.Common.{refers_into, any_is, has, Object, Reference, object_at, is_there, Allowed, present}
 use Rattle.ref_mark.proofs.Common.{allowed_referent, targets_of, targets_at, is_soft, soft_and_weak_referents, Heap}
 use Rattle.ref_mark.proofs.Common.{slot_at, reference_in, changed_in, changed_reference, with_reference, cleared}
-use Rattle.ref_mark.proofs.Common.{got_at, got, is_in, reference_refusal, reference_of, referent_got, Marking}
-use Rattle.ref_mark.proofs.Common.{Strength, CycleHeap, is_white, is_past_mark, is_doomed, undoomed, barred, with_got}
-use Rattle.ref_base.specs.Paths.{is_phantom}
-use Rattle.ref_base.specs.Paths.{is_weak}
+use Rattle.ref_mark.proofs.Common.{got_at, got, is_in, reference_refusal, reference_of, referent_got, Marking, Strength}
+use Rattle.ref_mark.proofs.Common.{CycleHeap, is_white, is_past_mark, is_doomed, undoomed, barred, with_got}
+use Rattle.ref_base.specs.Paths.{is_phantom, is_weak}
 use Rattle.ref_base.specs.declared.strength.Strength.TheVariants.{Soft, Weak, Phantom}
 use Rattle.ref_base.proofs.HasLaws.{has-first, has-left, has-right, has-cases}
 use Rattle.ref_mark.proofs.Shading.{refers_into-wider}

@@ -1,6 +1,6 @@
 -- The rows that get, clear and compare what a reference refers to.
-use Rattle.std.proofs.Common.{◌≡◌, ℕ, ◌+◌, ◌*◌, true, false, ◌==◌, nat_lt, refl, sym, ap, subst, ◌∙◌}
-use Rattle.std.proofs.Common.{List, [], ◌∷◌, ◌++◌, Option, Some, None, ◌⊎◌, inl, inr}
+use Rattle.std.proofs.Common.{◌≡◌, ℕ, ◌+◌, ◌*◌, true, false, ◌==◌, nat_lt, refl, sym, ap, subst, ◌∙◌, List, [], ◌∷◌}
+use Rattle.std.proofs.Common.{◌++◌, Option, Some, None, ◌⊎◌, inl, inr}
 use Rattle.std.specs.Prelude.{slice_set}
 use Rattle.std.proofs.lemmas.Bool.{cases_Bool, and_parts, or_left, eq-eqb}
 use Rattle.std.proofs.lemmas.List.{length-set}
@@ -12,8 +12,7 @@ use Rattle.ref_mark.proofs.Common.{is_white, is_past_mark, is_in_cycle, is_doome
 use Rattle.ref_mark.proofs.Common.{with_got, with_cleared, MarkStands, ReadsAs, unsaid}
 use Rattle.ref_base.specs.Heaps.{cut}
 use Rattle.ref_base.specs.Refusals.{get_refusal, clear_refusal}
-use Rattle.ref_base.specs.CollectorRows.{Gets}
-use Rattle.ref_base.specs.CollectorRows.{referent_of, is_same}
+use Rattle.ref_base.specs.CollectorRows.{Gets, referent_of, is_same}
 use Rattle.ref_base.specs.declared.heap_step.HeapStep.TheVariants as heap
 use Rattle.ref_base.specs.declared.reply.Reply.TheVariants as replies
 use Rattle.ref_base.proofs.Lookups.{has-present_here}

@@ -1,18 +1,17 @@
 -- Why no list of a marker is ever full: with the grey ones it has no more than the marked, and they have room.
-use Rattle.std.proofs.Common.{◌≡◌, ℕ, ◌+◌, ◌<◌, ◌≤◌, true, false, ◌==◌, ◌||◌, not}
-use Rattle.std.proofs.Common.{refl, sym, ◌∙◌, ap, subst}
-use Rattle.std.proofs.Common.{List, [], ◌∷◌, ◌++◌, length, map, take, drop, replicate, get_or, set, Some, None}
-use Rattle.std.proofs.Common.{zero, suc, inl, inr, arith}
+use Rattle.std.proofs.Common.{◌≡◌, ℕ, ◌+◌, ◌<◌, ◌≤◌, true, false, ◌==◌, ◌||◌, not, refl, sym, ◌∙◌, ap, subst, List, []}
+use Rattle.std.proofs.Common.{◌∷◌, ◌++◌, length, map, take, drop, replicate, get_or, set, Some, None, zero, suc, inl}
+use Rattle.std.proofs.Common.{inr, arith}
 use Rattle.std.specs.List.{list_any}
 use Rattle.std.proofs.lemmas.Bool.{cases_Bool, ltb-true, and_parts, not-true, false≢true}
 use Rattle.std.proofs.lemmas.List.{append-nil, drop_all, take_all, length_push, length-map, length-set, map-set}
 use Rattle.std.proofs.lemmas.List.{length-replicate, get_or_read}
 use Rattle.std.proofs.Math.ListN.{get_or-map}
-use Rattle.ref_mark.proofs.Common.{refers_into, has, is_there, Heap, reference_at, one_more, one_fewer, joined}
-use Rattle.ref_mark.proofs.Common.{list_at, is_in, is_empty, is_worker, work_refusal, NoSuchActor, Config, Phase}
-use Rattle.ref_mark.proofs.Common.{Policy, Idle, Marking, Sweeping, Ground, Worklist, empty_worklist, first_in}
-use Rattle.ref_mark.proofs.Common.{emptied_list, CycleHeap, first_cycle_heap, is_white, shaded, shaded_all, with_found}
-use Rattle.ref_mark.proofs.Common.{is_due, seen_marker, worklists_of}
+use Rattle.ref_mark.proofs.Common.{refers_into, has, is_there, Heap, reference_at, one_more, one_fewer, joined, list_at}
+use Rattle.ref_mark.proofs.Common.{is_in, is_empty, is_worker, work_refusal, NoSuchActor, Config, Phase, Policy, Idle}
+use Rattle.ref_mark.proofs.Common.{Marking, Sweeping, Ground, Worklist, empty_worklist, first_in, emptied_list}
+use Rattle.ref_mark.proofs.Common.{CycleHeap, first_cycle_heap, is_white, shaded, shaded_all, with_found, is_due}
+use Rattle.ref_mark.proofs.Common.{seen_marker, worklists_of}
 use Rattle.ref_base.specs.CollectorRows.{emptied as none_found}
 use Rattle.ref_base.specs.declared.urgency.Urgency.TheVariants.{Normal}
 use Rattle.ref_base.specs.KeptPaths.{policy_from}
@@ -20,8 +19,7 @@ use Rattle.ref_objects.specs.Grounds.{first_ground, is_unmarked, ground_marked, 
 use Rattle.ref_objects.specs.Grounds.{IsWellFormed, without_tag}
 use Rattle.ref_objects.proofs.NumberLemmas.{length-one_more}
 use Rattle.ref_mark.specs.Worklists.{with_last, without_first_listed, rest_of}
-use Rattle.ref_mark.specs.CycleHeaps.{with_found_taken}
-use Rattle.ref_mark.specs.CycleHeaps.{swept}
+use Rattle.ref_mark.specs.CycleHeaps.{with_found_taken, swept}
 use Rattle.ref_mark.specs.MarkViews.{AreRoomy, IsRoomy}
 
 -- ---- the marked

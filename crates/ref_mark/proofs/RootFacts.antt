@@ -1,13 +1,13 @@
 -- What a mutator can name isn't white once a cycle has begun, and what a mark has reached leads to nothing white once
 -- the mark has ended.
-use Rattle.std.proofs.Common.{◌≡◌, ℕ, ◌+◌, ◌*◌, ◌<◌, true, false, refl, sym, ap, subst, arith, nat_lt}
-use Rattle.std.proofs.Common.{List, [], ◌++◌, length, Option, Some, None, ◌⊎◌, inl, inr}
+use Rattle.std.proofs.Common.{◌≡◌, ℕ, ◌+◌, ◌*◌, ◌<◌, true, false, refl, sym, ap, subst, arith, nat_lt, List, [], ◌++◌}
+use Rattle.std.proofs.Common.{length, Option, Some, None, ◌⊎◌, inl, inr}
 use Rattle.std.specs.Prelude.{slice_set}
 use Rattle.std.proofs.lemmas.Bool.{cases_Bool, and_parts, false≢true, true≢false, or_left, or_right, ltb-true}
 use Rattle.ref_mark.proofs.Common.{any_is, has, is_there, present, targets_at, soft_and_weak_referents, is_kept, Heap}
 use Rattle.ref_mark.proofs.Common.{slot_at, pending_numbers, is_in, has_slot, State, Phase, Idle, Marking, Clearing}
-use Rattle.ref_mark.proofs.Common.{Sweeping, is_in_cycle, CycleHeap, is_white, is_black, is_past_mark}
-use Rattle.ref_mark.proofs.Common.{is_due, AreThere, MarkStands}
+use Rattle.ref_mark.proofs.Common.{Sweeping, is_in_cycle, CycleHeap, is_white, is_black, is_past_mark, is_due, AreThere}
+use Rattle.ref_mark.proofs.Common.{MarkStands}
 use Rattle.ref_base.specs.Refusals.{is_mutator}
 use Rattle.ref_base.proofs.HasLaws.{has-left, has-right, has-cases}
 use Rattle.ref_mark.proofs.Shading.{not_white_marked}

@@ -1,12 +1,11 @@
 -- Once nothing is grey, what isn't marked may be doomed: nothing that is kept is white, and no marked object leads to a
 -- white one.
-use Rattle.std.proofs.Common.{◌≡◌, ℕ, true, false, not, ◌&&◌, ◌==◌, nat_lt, refl, sym, ap, ◌∙◌}
-use Rattle.std.proofs.Common.{List, [], ◌∷◌, inl, inr}
-use Rattle.std.proofs.lemmas.Bool.{cases_Bool, false≢true, true≢false, false_from_ne_true}
-use Rattle.std.proofs.lemmas.Bool.{eq-eqb, cases_lt, lt-ltb, le-ltb}
+use Rattle.std.proofs.Common.{◌≡◌, ℕ, true, false, not, ◌&&◌, ◌==◌, nat_lt, refl, sym, ap, ◌∙◌, List, [], ◌∷◌, inl, inr}
+use Rattle.std.proofs.lemmas.Bool.{cases_Bool, false≢true, true≢false, false_from_ne_true, eq-eqb, cases_lt, lt-ltb}
+use Rattle.std.proofs.lemmas.Bool.{le-ltb}
 use Rattle.ref_mark.proofs.Common.{has, Graph, Object, is_there, targets_at, is_kept, MayDoom, graph_of, State, joined}
-use Rattle.ref_mark.proofs.Common.{CycleHeap, is_white, is_black, is_in_cycle, unmarked, FactsBut, Coloured}
-use Rattle.ref_mark.proofs.Common.{Reached, MarkStands}
+use Rattle.ref_mark.proofs.Common.{CycleHeap, is_white, is_black, is_in_cycle, unmarked, FactsBut, Coloured, Reached}
+use Rattle.ref_mark.proofs.Common.{MarkStands}
 use Rattle.ref_base.specs.KeptPaths.{IsKept}
 use Rattle.ref_base.specs.DoomedSets.{unscanned}
 use Rattle.ref_base.proofs.PathLaws.{path_within}

@@ -1,12 +1,12 @@
 -- A scan: the first of the grey list becomes black, what it leads to becomes grey, and a reference to what is still
 -- white is found.
-use Rattle.std.proofs.Common.{◌≡◌, ℕ, ◌<◌, Bool, true, false, not, refl, sym, ap, subst, ◌∙◌}
-use Rattle.std.proofs.Common.{List, [], ◌∷◌, ◌++◌, length, None}
+use Rattle.std.proofs.Common.{◌≡◌, ℕ, ◌<◌, Bool, true, false, not, refl, sym, ap, subst, ◌∙◌, List, [], ◌∷◌, ◌++◌}
+use Rattle.std.proofs.Common.{length, None}
 use Rattle.std.proofs.lemmas.Bool.{true≢false, false_from_ne_true}
 use Rattle.std.proofs.lemmas.List.{length-set}
-use Rattle.ref_mark.proofs.Common.{has, targets_at, is_kept, EverKept, graph_of, is_in, is_empty}
-use Rattle.ref_mark.proofs.Common.{work_refusal, State, joined, list_at, Marking, Sweeping, CycleHeap}
-use Rattle.ref_mark.proofs.Common.{shaded_all, with_found, grey_scanned, MarkStands, first_in}
+use Rattle.ref_mark.proofs.Common.{has, targets_at, is_kept, EverKept, graph_of, is_in, is_empty, work_refusal, State}
+use Rattle.ref_mark.proofs.Common.{joined, list_at, Marking, Sweeping, CycleHeap, shaded_all, with_found, grey_scanned}
+use Rattle.ref_mark.proofs.Common.{MarkStands, first_in}
 use Rattle.ref_base.specs.CollectorRows.{Scans}
 use Rattle.ref_base.specs.declared.reply.Reply.TheVariants as replies
 use Rattle.ref_base.proofs.HasLaws.{has-first}

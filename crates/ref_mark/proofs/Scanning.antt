@@ -1,10 +1,10 @@
 -- What holds in a mark while one object is scanned: it is off the grey list, what it leads to is still to be shaded,
 -- and it may be a reference that is found late.
-use Rattle.std.proofs.Common.{◌≡◌, ℕ, ◌<◌, Bool, true, false, not, ◌&&◌, ◌==◌, refl, sym, ap, subst, ◌∙◌}
-use Rattle.std.proofs.Common.{List, [], ◌∷◌, ◌++◌, length, Option, Some, None, ◌⊎◌, inl, inr}
+use Rattle.std.proofs.Common.{◌≡◌, ℕ, ◌<◌, Bool, true, false, not, ◌&&◌, ◌==◌, refl, sym, ap, subst, ◌∙◌, List, [], ◌∷◌}
+use Rattle.std.proofs.Common.{◌++◌, length, Option, Some, None, ◌⊎◌, inl, inr}
 use Rattle.std.specs.Prelude.{is_some}
-use Rattle.std.proofs.lemmas.Bool.{cases_Bool, and_parts, or_cases, or_left, or_right, false≢true, true≢false}
-use Rattle.std.proofs.lemmas.Bool.{eqb-true, eq-eqb, not-true, false_from_ne_true}
+use Rattle.std.proofs.lemmas.Bool.{cases_Bool, and_parts, or_cases, or_left, or_right, false≢true, true≢false, eqb-true}
+use Rattle.std.proofs.lemmas.Bool.{eq-eqb, not-true, false_from_ne_true}
 use Rattle.std.proofs.lemmas.List.{length-set}
 use Rattle.ref_mark.proofs.Common.{refers_into, AreDistinct, has, Object, Reference, Graph, is_there, targets_at}
 use Rattle.ref_mark.proofs.Common.{Policy, is_kept, reference_at, graph_of, State, joined, list_at, Marking, CycleHeap}

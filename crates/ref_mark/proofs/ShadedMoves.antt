@@ -1,10 +1,8 @@
 -- A row that gives out an object: in a mark the barrier shades it, and it is said anew whether an object is left.
-use Rattle.std.proofs.Common.{◌≡◌, ℕ, true, false, not, refl, sym, ap, subst, ◌∙◌, [], ◌∷◌}
-use Rattle.std.proofs.Common.{Some, inl, inr}
+use Rattle.std.proofs.Common.{◌≡◌, ℕ, true, false, not, refl, sym, ap, subst, ◌∙◌, [], ◌∷◌, Some, inl, inr}
 use Rattle.std.proofs.lemmas.Bool.{cases_Bool}
 use Rattle.ref_mark.proofs.Common.{has, is_there, is_kept, EverKept, Heap, World, with_heap, pending_numbers, is_in}
-use Rattle.ref_mark.proofs.Common.{is_empty, State, ticked, Marking, CycleHeap, shaded, barred, ReadsAs}
-use Rattle.ref_mark.proofs.Common.{MarkStands}
+use Rattle.ref_mark.proofs.Common.{is_empty, State, ticked, Marking, CycleHeap, shaded, barred, ReadsAs, MarkStands}
 use Rattle.ref_base.specs.CollectorRows.{with_world, IsBut, GivesAnew, GivesAnewIf}
 use Rattle.ref_base.specs.declared.reply.Reply.{Reply}
 use Rattle.ref_base.proofs.PathLaws.{root_ends}

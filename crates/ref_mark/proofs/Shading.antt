@@ -1,12 +1,12 @@
 -- What holds in a mark goes on holding as white objects become grey.
-use Rattle.std.proofs.Common.{◌≡◌, ℕ, ◌<◌, Bool, true, false, not, ◌&&◌, ◌||◌, ◌==◌, refl, sym, ap, subst, ◌∙◌}
-use Rattle.std.proofs.Common.{List, [], ◌∷◌, ◌++◌, Option, Some, None, ◌⊎◌, inl, inr}
-use Rattle.std.proofs.lemmas.Bool.{cases_Bool, and_parts, or_cases, or_left, or_right, false≢true, true≢false}
-use Rattle.std.proofs.lemmas.Bool.{eqb-true, eq-eqb, ne_eqb, not-true, or_parts, false_from_ne_true, cases_lt}
+use Rattle.std.proofs.Common.{◌≡◌, ℕ, ◌<◌, Bool, true, false, not, ◌&&◌, ◌||◌, ◌==◌, refl, sym, ap, subst, ◌∙◌, List}
+use Rattle.std.proofs.Common.{[], ◌∷◌, ◌++◌, Option, Some, None, ◌⊎◌, inl, inr}
+use Rattle.std.proofs.lemmas.Bool.{cases_Bool, and_parts, or_cases, or_left, or_right, false≢true, true≢false, eqb-true}
+use Rattle.std.proofs.lemmas.Bool.{eq-eqb, ne_eqb, not-true, or_parts, false_from_ne_true, cases_lt}
 use Rattle.ref_mark.proofs.Common.{refers_into, any_is, AreDistinct, has, Reference, is_there, Policy, EverKept, Heap}
-use Rattle.ref_mark.proofs.Common.{one_more, reference_at, graph_of, is_empty, State, joined, Urgency}
-use Rattle.ref_mark.proofs.Common.{CycleHeap, is_white, is_black, shaded, shaded_all, FactsBut, Coloured}
-use Rattle.ref_mark.proofs.Common.{Reached, FoundBut, MarkStands, shown_heap}
+use Rattle.ref_mark.proofs.Common.{one_more, reference_at, graph_of, is_empty, State, joined, Urgency, CycleHeap}
+use Rattle.ref_mark.proofs.Common.{is_white, is_black, shaded, shaded_all, FactsBut, Coloured, Reached, FoundBut}
+use Rattle.ref_mark.proofs.Common.{MarkStands, shown_heap}
 use Rattle.ref_base.specs.CollectorRows.{IsLeft}
 use Rattle.ref_base.proofs.HasLaws.{has-append, has-cases, has-single, has-first}
 use Rattle.ref_base.proofs.OneMore.{has-one_more}

@@ -1,6 +1,6 @@
 -- The rows of copies, drops and loads, and what holds change.
-use Rattle.std.proofs.Common.{◌≡◌, ℕ, ◌+◌, ◌*◌, true, false, ◌==◌, refl, sym, ap, subst, nat_lt}
-use Rattle.std.proofs.Common.{List, [], ◌∷◌, ◌++◌, Option, Some, None, ◌⊎◌, inl, inr}
+use Rattle.std.proofs.Common.{◌≡◌, ℕ, ◌+◌, ◌*◌, true, false, ◌==◌, refl, sym, ap, subst, nat_lt, List, [], ◌∷◌, ◌++◌}
+use Rattle.std.proofs.Common.{Option, Some, None, ◌⊎◌, inl, inr}
 use Rattle.std.specs.Prelude.{slice_set}
 use Rattle.std.proofs.lemmas.Bool.{cases_Bool, and_parts, or_left, eq-eqb}
 use Rattle.std.proofs.lemmas.List.{length-set}
@@ -20,8 +20,8 @@ use Rattle.ref_mark.proofs.Moves.{Change, moved, IsMove}
 use Rattle.ref_mark.proofs.MovedStates.{moved_stands, alongside_itself}
 use Rattle.ref_mark.proofs.ShadedMoves.{barred_row}
 use Rattle.ref_base.proofs.Lookups.{has-present_here, has-present_at}
-use Rattle.ref_mark.proofs.RootFacts.{slot_root, slot_is_not_white, roots_of_set, lead_is_not_white}
-use Rattle.ref_mark.proofs.RootFacts.{slot_within, named_of_set, slot_is_there, slot_is_not_due}
+use Rattle.ref_mark.proofs.RootFacts.{slot_root, slot_is_not_white, roots_of_set, lead_is_not_white, slot_within}
+use Rattle.ref_mark.proofs.RootFacts.{named_of_set, slot_is_there, slot_is_not_due}
 use Rattle.ref_mark.proofs.MoveKinds.{rooted, rooted_move}
 use Rattle.ref_base.proofs.RowForms.{unless_passes}
 

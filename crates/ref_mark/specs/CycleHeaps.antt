@@ -1,8 +1,8 @@
 -- A heap in its cycles, as plain data, and the changes that calls make to it (JEP 333: marking while mutators run, and
 -- load barriers; package `java.lang.ref` of Java SE 17 for what the calls of a reference do; the order of the grey
 -- list, and what is found for clearing: this project's profile).
-use Rattle.std.specs.Prelude.{ℕ, ◌+◌, Bool, true, false, ◌&&◌, ◌||◌, not, if◌then◌else◌}
-use Rattle.std.specs.Prelude.{List, [], ◌∷◌, ◌++◌, replicate, Option, Some, None, slice_set}
+use Rattle.std.specs.Prelude.{ℕ, ◌+◌, Bool, true, false, ◌&&◌, ◌||◌, not, if◌then◌else◌, List, [], ◌∷◌, ◌++◌, replicate}
+use Rattle.std.specs.Prelude.{Option, Some, None, slice_set}
 use Rattle.ref_base.specs.Members.{has}
 use Rattle.ref_base.specs.Graphs.{Object, is_there}
 use Rattle.ref_base.specs.Paths.{present, targets_at}

@@ -1,7 +1,7 @@
 -- What the calls of a heap in its cycles answer and leave, step by step: one table for all of them, by the steps and
 -- refusals of the abstract collector.
-use Rattle.std.specs.Prelude.{ℕ, ◌+◌, Bool, true, false, ◌&&◌, not, List, [], length, Option, Some, None}
-use Rattle.std.specs.Prelude.{Result, Ok, Err}
+use Rattle.std.specs.Prelude.{ℕ, ◌+◌, Bool, true, false, ◌&&◌, not, List, [], length, Option, Some, None, Result, Ok}
+use Rattle.std.specs.Prelude.{Err}
 use Rattle.ref_base.specs.Graphs.{plain_object, is_there}
 use Rattle.ref_base.specs.HeapSteps.{NamedStep}
 use Rattle.ref_base.specs.Heaps.{Heap, slot_at, nulls, new_reference, stored, with_slot, with_hold, without_hold}
@@ -19,8 +19,7 @@ use Rattle.ref_base.specs.declared.reply.Reply.TheVariants as replies
 use Rattle.ref_objects.specs.Grounds.{unmarked, mint_refusal}
 use Rattle.ref_mark.specs.Worklists.{first_in}
 use Rattle.ref_mark.specs.CycleHeaps.{CycleHeap, with_made, loaded, value_got, with_got, with_cleared, reads_same}
-use Rattle.ref_mark.specs.CycleHeaps.{cycle_begun, scanned}
-use Rattle.ref_mark.specs.CycleHeaps.{cycle_in_phase}
+use Rattle.ref_mark.specs.CycleHeaps.{cycle_begun, scanned, cycle_in_phase}
 use Rattle.ref_mark.specs.MarkViews.{ground_of}
 
 -- this where nothing is refused, and else what becomes of the fault

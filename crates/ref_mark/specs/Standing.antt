@@ -1,7 +1,6 @@
 -- Which states of the abstract collector a heap in its cycles stands for (this project's profile, in the manner of JEP
 -- 333: the invariant of three colours).
-use Rattle.std.specs.Prelude.{◌≡◌, ℕ, ◌<◌, ◌≤◌, Bool, true, false, not, if◌then◌else◌, ◌⊎◌}
-use Rattle.std.specs.Prelude.{List, [], length, map}
+use Rattle.std.specs.Prelude.{◌≡◌, ℕ, ◌<◌, ◌≤◌, Bool, true, false, not, if◌then◌else◌, ◌⊎◌, List, [], length, map}
 use Rattle.ref_base.specs.Members.{has, AreDistinct}
 use Rattle.ref_base.specs.Graphs.{Graph, is_there}
 use Rattle.ref_base.specs.Paths.{targets_at, soft_and_weak_referents}

@@ -1,6 +1,6 @@
 -- What a call answers and leaves that changes the cell of one object, where it is found and where there is none.
-use Rattle.std.proofs.Common.{◌≡◌, ℕ, ◌-◌, ◌<◌, ◌≤◌, Bool, true, false, nat_lt, refl, sym, ◌∙◌, ap, arith}
-use Rattle.std.proofs.Common.{List, [], ◌∷◌, ◌++◌, length, get_or, set, Option, Some, None}
+use Rattle.std.proofs.Common.{◌≡◌, ℕ, ◌-◌, ◌<◌, ◌≤◌, Bool, true, false, nat_lt, refl, sym, ◌∙◌, ap, arith, List, []}
+use Rattle.std.proofs.Common.{◌∷◌, ◌++◌, length, get_or, set, Option, Some, None}
 use Rattle.std.proofs.lemmas.List.{length-set}
 use Rattle.std.specs.Option.{option_map, is_some}
 use Rattle.std.specs.Int.{from_bool}
@@ -8,9 +8,9 @@ use Rattle.ref_objects.specs.Places.{IsSoundTable}
 use Rattle.ref_objects.proofs.Common.{Tabled, Table, tabled_at, tabled_by, place_in, place_if_live, seen_table, changed}
 use Rattle.ref_objects.proofs.Common.{Entry, changed_tabled, marked_of, holds_in, is_unheld, is_marked_in, table_freed}
 use Rattle.ref_objects.proofs.PlaceLemmas.{IsPlaceOf, IsPlaceOf-lent, IsMissing, IsMissing-lent}
-use Rattle.ref_objects.proofs.ChangeLemmas.{told_of, seen_changed, placed_changed, tabled_by-changed}
-use Rattle.ref_objects.proofs.ChangeLemmas.{there, room_to_free, goes, stays, seen_freed, placed_freed}
-use Rattle.ref_objects.proofs.ChangeLemmas.{tabled_by-freed, told_of_none, seen_missing_changed, seen_missing_freed}
+use Rattle.ref_objects.proofs.ChangeLemmas.{told_of, seen_changed, placed_changed, tabled_by-changed, there}
+use Rattle.ref_objects.proofs.ChangeLemmas.{room_to_free, goes, stays, seen_freed, placed_freed, tabled_by-freed}
+use Rattle.ref_objects.proofs.ChangeLemmas.{told_of_none, seen_missing_changed, seen_missing_freed}
 use Rattle.ref_objects.proofs.MarkLemmas.{marks_same, marks_changed, marks_le, marks_fewer}
 
 -- the call lends its cells and its index to a search

@@ -1,6 +1,6 @@
 -- What a change of one object, or its end, does to a table's fields.
-use Rattle.std.proofs.Common.{◌≡◌, ℕ, ◌+◌, ◌<◌, true, false, ◌==◌, refl, sym, ◌∙◌, ap, subst}
-use Rattle.std.proofs.Common.{List, [], ◌∷◌, ◌++◌, length, get_or, set, Option, Some, None, suc, inl, inr, arith}
+use Rattle.std.proofs.Common.{◌≡◌, ℕ, ◌+◌, ◌<◌, true, false, ◌==◌, refl, sym, ◌∙◌, ap, subst, List, [], ◌∷◌, ◌++◌}
+use Rattle.std.proofs.Common.{length, get_or, set, Option, Some, None, suc, inl, inr, arith}
 use Rattle.std.proofs.lemmas.Bool.{cases_Bool}
 use Rattle.std.proofs.lemmas.List.{get_or-set_same, get_or_read, length-set, length_push}
 use Rattle.std.specs.Option.{option_map, is_some}
@@ -13,9 +13,8 @@ use Rattle.std.proofs.lemmas.Bool.{ltb-false, false≢true}
 use Rattle.std.proofs.lemmas.List.{set_past}
 use Rattle.ref_objects.proofs.FreeLemmas.{AreFree-apart, AreFree-set, AreFree-push}
 use Rattle.ref_objects.proofs.PlaceLemmas.{at_place, tabled_at-place, tabled_by-replaced, replaced, replaced-none}
-use Rattle.ref_objects.proofs.PlaceLemmas.{replaced-changed}
-use Rattle.ref_objects.proofs.PlaceLemmas.{is_of-some, IsOwn, IsPlaceOf, IsPlaceOf-live, IsPlaceOf-lent, IsMissing}
-use Rattle.ref_objects.proofs.PlaceLemmas.{IsMissing-lent}
+use Rattle.ref_objects.proofs.PlaceLemmas.{replaced-changed, is_of-some, IsOwn, IsPlaceOf, IsPlaceOf-live}
+use Rattle.ref_objects.proofs.PlaceLemmas.{IsPlaceOf-lent, IsMissing, IsMissing-lent}
 
 -- ---- the objects that are listed
 

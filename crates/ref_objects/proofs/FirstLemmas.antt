@@ -1,7 +1,6 @@
 -- Which object is the first from a number on that passes a test, by the cells and the index.
-use Rattle.std.proofs.Common.{◌≡◌, ℕ, ◌-◌, ◌<◌, ◌≤◌, Bool, true, false, ◌==◌, if◌then◌else◌, nat_lt, nat_le}
-use Rattle.std.proofs.Common.{refl, sym, ◌∙◌, ap, List, [], ◌∷◌, length, take, drop, Option, Some, None, inl, inr}
-use Rattle.std.proofs.Common.{arith}
+use Rattle.std.proofs.Common.{◌≡◌, ℕ, ◌-◌, ◌<◌, ◌≤◌, Bool, true, false, ◌==◌, if◌then◌else◌, nat_lt, nat_le, refl, sym}
+use Rattle.std.proofs.Common.{◌∙◌, ap, List, [], ◌∷◌, length, take, drop, Option, Some, None, inl, inr, arith}
 use Rattle.std.proofs.lemmas.Bool.{cases_Bool, ltb-true, ltb-false, le-leb, lt-leb, eqb-true}
 use Rattle.std.proofs.lemmas.List.{take_rest}
 use Rattle.ref_objects.specs.Tables.{first_where}

@@ -1,7 +1,6 @@
 -- Which places are free.
-use Rattle.std.proofs.Common.{◌≡◌, ℕ, ◌+◌, ◌-◌, ◌<◌, ◌≤◌, true, false, ◌==◌, ◌||◌, refl, sym, ◌∙◌, ap}
-use Rattle.std.proofs.Common.{List, [], ◌∷◌, ◌++◌, length, set, replicate, Option, None, zero, suc, inl, inr}
-use Rattle.std.proofs.Common.{arith}
+use Rattle.std.proofs.Common.{◌≡◌, ℕ, ◌+◌, ◌-◌, ◌<◌, ◌≤◌, true, false, ◌==◌, ◌||◌, refl, sym, ◌∙◌, ap, List, [], ◌∷◌}
+use Rattle.std.proofs.Common.{◌++◌, length, set, replicate, Option, None, zero, suc, inl, inr, arith}
 use Rattle.std.proofs.lemmas.Bool.{cases_Bool, eq-eqb, ne_eqb, eqb-true, false≢true}
 use Rattle.std.proofs.lemmas.List.{get_or-set_other, length-set, get_or-replicate, length-replicate, length_push}
 use Rattle.ref_objects.proofs.Common.{has, cell_at, is_of, places_below, AreFree, Tabled}

@@ -1,7 +1,6 @@
 -- What the fields of a heap's objects say as a heap, and what keeps them sound.
-use Rattle.std.proofs.Common.{◌≡◌, ℕ, ◌+◌, ◌-◌, ◌^◌, ◌<◌, ◌≤◌, true, false, not, ◌==◌, ◌&&◌}
-use Rattle.std.proofs.Common.{nat_lt, nat_le, refl, sym, ◌∙◌, ap, subst, arith}
-use Rattle.std.proofs.Common.{List, [], ◌∷◌, length, Option, Some, None, inl, inr}
+use Rattle.std.proofs.Common.{◌≡◌, ℕ, ◌+◌, ◌-◌, ◌^◌, ◌<◌, ◌≤◌, true, false, not, ◌==◌, ◌&&◌, nat_lt, nat_le, refl, sym}
+use Rattle.std.proofs.Common.{◌∙◌, ap, subst, arith, List, [], ◌∷◌, length, Option, Some, None, inl, inr}
 use Rattle.std.specs.Prelude.{slice_set}
 use Rattle.std.specs.Option.{option_map, is_some}
 use Rattle.std.proofs.lemmas.Bool.{cases_Bool, eqb-true, lt-ltb, le-ltb, le-leb, lt-leb, ltb-false, not-true}
@@ -9,14 +8,13 @@ use Rattle.std.proofs.lemmas.Bool.{false≢true}
 use Rattle.std.proofs.lemmas.List.{length-set, length-map, map-append}
 use Rattle.ref_objects.proofs.Common.{has, Object, Reference, object_at, is_there, numbers, IsRising, one_more, Config}
 use Rattle.ref_objects.proofs.Common.{Tabled, Table, tabled_at, objects_of, holds_of, object_in, holds_in, has_field}
-use Rattle.ref_objects.proofs.Common.{is_unheld, on_object, more_held, less_held, changed}
-use Rattle.ref_objects.proofs.Common.{changed_tabled, made_entry, with_tabled, AllUpTo, kind_by, least_from}
-use Rattle.ref_objects.proofs.Common.{seen_ground, IsSoundGround, one_fewer, tags_of}
+use Rattle.ref_objects.proofs.Common.{is_unheld, on_object, more_held, less_held, changed, changed_tabled, made_entry}
+use Rattle.ref_objects.proofs.Common.{with_tabled, AllUpTo, kind_by, least_from, seen_ground, IsSoundGround, one_fewer}
+use Rattle.ref_objects.proofs.Common.{tags_of}
 use Rattle.ref_base.specs.Heaps.{reference_in, with_changed, with_hold, without_hold}
 use Rattle.ref_base.specs.Refusals.{field_count, object_refusal}
 use Rattle.ref_base.specs.declared.fault.Fault.TheVariants.{NoCell}
-use Rattle.ref_objects.specs.Tables.{tabled_fields}
-use Rattle.ref_objects.specs.Tables.{tabled_reference, numbers_by, tag_of, with_cleared_in}
+use Rattle.ref_objects.specs.Tables.{tabled_fields, tabled_reference, numbers_by, tag_of, with_cleared_in}
 use Rattle.std.specs.Int.{from_bool}
 use Rattle.ref_objects.specs.Tables as table
 use Rattle.ref_objects.specs.Grounds.{fields_in, kind_in, ground_with_heap, is_free, after_freeing, with_cleared_tag}

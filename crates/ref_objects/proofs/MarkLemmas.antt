@@ -1,14 +1,14 @@
 -- Which objects of a table are marked, and how a change of the table changes it.
-use Rattle.std.proofs.Common.{◌≡◌, ℕ, ◌+◌, ◌-◌, ◌<◌, ◌≤◌, Bool, true, false, ◌==◌, ◌&&◌, not, if◌then◌else◌}
-use Rattle.std.proofs.Common.{nat_lt, suc, refl, sym, ◌∙◌, ap}
-use Rattle.std.proofs.Common.{List, [], ◌∷◌, ◌++◌, length, replicate, Option, Some, None, inl, inr, arith}
+use Rattle.std.proofs.Common.{◌≡◌, ℕ, ◌+◌, ◌-◌, ◌<◌, ◌≤◌, Bool, true, false, ◌==◌, ◌&&◌, not, if◌then◌else◌, nat_lt}
+use Rattle.std.proofs.Common.{suc, refl, sym, ◌∙◌, ap, List, [], ◌∷◌, ◌++◌, length, replicate, Option, Some, None, inl}
+use Rattle.std.proofs.Common.{inr, arith}
 use Rattle.std.proofs.lemmas.Bool.{cases_Bool, eq-eqb, ne_eqb, false≢true}
 use Rattle.std.specs.Option.{option_map, is_some}
 use Rattle.std.specs.Int.{from_bool}
 use Rattle.ref_objects.specs.Tables.{counted_in}
 use Rattle.ref_objects.proofs.Common.{Object, is_there, numbers, has, IsRising, one_more, one_fewer, Tabled, tabled_at}
-use Rattle.ref_objects.proofs.Common.{objects_of, changed_tabled, without_tabled, is_marked_in}
-use Rattle.ref_objects.proofs.Common.{is_unmarked_in, marked_of, unmarked_of, with_marked, unmarked}
+use Rattle.ref_objects.proofs.Common.{objects_of, changed_tabled, without_tabled, is_marked_in, is_unmarked_in}
+use Rattle.ref_objects.proofs.Common.{marked_of, unmarked_of, with_marked, unmarked}
 use Rattle.ref_objects.proofs.NumberLemmas.{IsRising-tail, has-numbers_by, numbers_by-changed, numbers_by-made}
 use Rattle.ref_objects.proofs.NumberLemmas.{numbers_by-more, numbers_by-gone, length-changed, length-without}
 use Rattle.ref_objects.proofs.TabledLemmas.{is_there-objects_of}

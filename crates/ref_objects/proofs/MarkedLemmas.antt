@@ -1,6 +1,6 @@
 -- What a contract sees of a heap's objects as one is marked, and as no mark is left.
-use Rattle.std.proofs.Common.{◌≡◌, ℕ, ◌<◌, true, false, ◌==◌, refl, sym, ◌∙◌, ap, arith}
-use Rattle.std.proofs.Common.{List, [], ◌∷◌, ◌++◌, length, replicate, Option, inl, inr}
+use Rattle.std.proofs.Common.{◌≡◌, ℕ, ◌<◌, true, false, ◌==◌, refl, sym, ◌∙◌, ap, arith, List, [], ◌∷◌, ◌++◌, length}
+use Rattle.std.proofs.Common.{replicate, Option, inl, inr}
 use Rattle.std.proofs.lemmas.Bool.{cases_Bool, eqb-true, false≢true}
 use Rattle.ref_objects.proofs.Common.{Object, is_there, numbers, IsRising, Config, Tabled, Table, tabled_at, objects_of}
 use Rattle.ref_objects.proofs.Common.{changed, is_unmarked_in, with_marked, AllUpTo, seen_ground, IsSoundGround}

@@ -1,7 +1,7 @@
 -- The numbers of a table's objects, each as often as a count says: so are the holds, the marked, and the others.
-use Rattle.std.proofs.Common.{◌≡◌, ℕ, zero, suc, ◌+◌, ◌<◌, ◌≤◌, Bool, true, false, ◌==◌, ◌||◌, nat_lt, nat_le}
-use Rattle.std.proofs.Common.{refl, sym, ◌∙◌, ap, arith, length-append}
-use Rattle.std.proofs.Common.{List, [], ◌∷◌, ◌++◌, length, replicate, Some, inl, inr}
+use Rattle.std.proofs.Common.{◌≡◌, ℕ, zero, suc, ◌+◌, ◌<◌, ◌≤◌, Bool, true, false, ◌==◌, ◌||◌, nat_lt, nat_le, refl}
+use Rattle.std.proofs.Common.{sym, ◌∙◌, ap, arith, length-append, List, [], ◌∷◌, ◌++◌, length, replicate, Some, inl}
+use Rattle.std.proofs.Common.{inr}
 use Rattle.std.proofs.lemmas.Bool.{cases_Bool, eq-eqb, eqb-true, ne_eqb, lt-ltb, le-ltb, false≢true}
 use Rattle.std.proofs.lemmas.List.{length-replicate}
 use Rattle.std.specs.Option.{option_map, is_some}

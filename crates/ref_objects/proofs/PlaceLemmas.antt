@@ -1,16 +1,12 @@
 -- What the cells and the index say together of the objects that a contract sees.
-use Rattle.std.proofs.Common.{◌≡◌, ℕ, ◌<◌, ◌≤◌, true, false, ◌==◌, if◌then◌else◌, nat_lt}
-use Rattle.std.proofs.Common.{refl, sym, ◌∙◌, ap}
-use Rattle.std.proofs.Common.{List, [], ◌∷◌, ◌++◌, length, get_or, set, Option, Some, None, suc, inl}
-use Rattle.std.proofs.Common.{inr, arith}
-use Rattle.std.proofs.lemmas.Bool.{cases_Bool, cases_eq, cases_lt, ltb-true, ltb-false}
-use Rattle.std.proofs.lemmas.Bool.{eq-eqb, eqb-true, false≢true}
+use Rattle.std.proofs.Common.{◌≡◌, ℕ, ◌<◌, ◌≤◌, true, false, ◌==◌, if◌then◌else◌, nat_lt, refl, sym, ◌∙◌, ap, List, []}
+use Rattle.std.proofs.Common.{◌∷◌, ◌++◌, length, get_or, set, Option, Some, None, suc, inl, inr, arith}
+use Rattle.std.proofs.lemmas.Bool.{cases_Bool, cases_eq, cases_lt, ltb-true, ltb-false, eq-eqb, eqb-true, false≢true}
 use Rattle.std.proofs.lemmas.List.{get_or-set_same, get_or-set_other, get_or_past}
 use Rattle.std.specs.List.{filter}
 use Rattle.std.specs.Cmp.{nat_eq_equiv}
 use Rattle.ref_objects.proofs.Common.{cell_at, is_of, is_live, before, tabled_by, place_in, place_if_live, count_below}
-use Rattle.ref_objects.proofs.Common.{Rises, Tabled, tabled_at}
-use Rattle.ref_objects.proofs.Common.{changed_tabled, without_tabled, Entry}
+use Rattle.ref_objects.proofs.Common.{Rises, Tabled, tabled_at, changed_tabled, without_tabled, Entry}
 use Rattle.ref_objects.proofs.IndexLemmas.{place_in-none, place_in-at, place_in-past}
 
 -- ---- one cell

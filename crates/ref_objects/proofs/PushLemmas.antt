@@ -1,7 +1,6 @@
 -- What closed gaps and a new object do to a table's fields.
-use Rattle.std.proofs.Common.{◌≡◌, ℕ, ◌+◌, ◌*◌, ◌<◌, true, ◌==◌, refl, sym, ◌∙◌, ap}
-use Rattle.std.proofs.Common.{subst}
-use Rattle.std.proofs.Common.{List, [], ◌∷◌, ◌++◌, length, set, Option, Some, None, inl, inr, arith}
+use Rattle.std.proofs.Common.{◌≡◌, ℕ, ◌+◌, ◌*◌, ◌<◌, true, ◌==◌, refl, sym, ◌∙◌, ap, subst, List, [], ◌∷◌, ◌++◌, length}
+use Rattle.std.proofs.Common.{set, Option, Some, None, inl, inr, arith}
 use Rattle.std.proofs.lemmas.Bool.{cases_Bool, eq-eqb, false≢true}
 use Rattle.std.proofs.lemmas.List.{get_or-set_same, length-set, length_push}
 use Rattle.std.specs.List.{filter}
@@ -12,8 +11,7 @@ use Rattle.ref_objects.specs.Places.{with_room}
 use Rattle.ref_objects.proofs.FreeLemmas.{AreFree-set, AreFree-pop, PopsFree}
 use Rattle.ref_objects.proofs.IndexLemmas.{place_in-new, Rises-push, NoneAbove-push, Rises-filter, NoneAbove-filter}
 use Rattle.ref_objects.proofs.PlaceLemmas.{IsAbsent, IsAbsent-own, IsOwn, tabled_by-set, tabled_by-push}
-use Rattle.ref_objects.proofs.PlaceLemmas.{tabled_by-filter}
-use Rattle.ref_objects.proofs.PlaceLemmas.{length-filter_live}
+use Rattle.ref_objects.proofs.PlaceLemmas.{tabled_by-filter, length-filter_live}
 
 -- ---- gaps
 

@@ -1,12 +1,11 @@
 -- What holds of every table, and of a new one.
-use Rattle.std.proofs.Common.{◌≡◌, ℕ, ◌<◌, ◌≤◌, ◌^◌, ◌==◌, sym, ◌∙◌, ap}
-use Rattle.std.proofs.Common.{subst}
-use Rattle.std.proofs.Common.{List, [], ◌∷◌, length, replicate, Option, Some, None, inl, inr, arith}
+use Rattle.std.proofs.Common.{◌≡◌, ℕ, ◌<◌, ◌≤◌, ◌^◌, ◌==◌, sym, ◌∙◌, ap, subst, List, [], ◌∷◌, length, replicate}
+use Rattle.std.proofs.Common.{Option, Some, None, inl, inr, arith}
 use Rattle.std.proofs.lemmas.Bool.{cases_Bool, eqb-true}
 use Rattle.std.proofs.lemmas.List.{length-replicate}
-use Rattle.ref_objects.proofs.Common.{numbers, IsRising, cell_at, before, tabled_by, places_below, seen_table}
-use Rattle.ref_objects.proofs.Common.{AllAbove, NoneAbove, Rises, AreFree, IsPlaced, Tabled, objects_of, AllUpTo}
-use Rattle.ref_objects.proofs.Common.{IsOrderlyTable, Entry}
+use Rattle.ref_objects.proofs.Common.{numbers, IsRising, cell_at, before, tabled_by, places_below, seen_table, AllAbove}
+use Rattle.ref_objects.proofs.Common.{NoneAbove, Rises, AreFree, IsPlaced, Tabled, objects_of, AllUpTo, IsOrderlyTable}
+use Rattle.ref_objects.proofs.Common.{Entry}
 use Rattle.ref_objects.proofs.FreeLemmas.{length-places_below, AreFree-places_below}
 
 -- ---- numbers that rise

@@ -1,14 +1,10 @@
 -- What the table's objects say as the list of a world's objects.
-use Rattle.std.proofs.Common.{◌≡◌, ℕ, ◌<◌, ◌≤◌, true, false, ◌==◌}
-use Rattle.std.proofs.Common.{refl, sym, ◌∙◌, ap}
-use Rattle.std.proofs.Common.{List, [], ◌∷◌, map, Option, Some, None, inl, inr}
-use Rattle.std.proofs.Common.{arith}
-use Rattle.std.proofs.lemmas.Bool.{cases_Bool, eq-eqb, eqb-true, ne_eqb}
-use Rattle.std.proofs.lemmas.Bool.{false≢true}
+use Rattle.std.proofs.Common.{◌≡◌, ℕ, ◌<◌, ◌≤◌, true, false, ◌==◌, refl, sym, ◌∙◌, ap, List, [], ◌∷◌, map, Option, Some}
+use Rattle.std.proofs.Common.{None, inl, inr, arith}
+use Rattle.std.proofs.lemmas.Bool.{cases_Bool, eq-eqb, eqb-true, ne_eqb, false≢true}
 use Rattle.std.specs.Option.{is_some}
-use Rattle.ref_objects.proofs.Common.{Object, object_at, is_there, numbers, IsRising, Tabled}
-use Rattle.ref_objects.proofs.Common.{tabled_at, objects_of, object_in, on_object}
-use Rattle.ref_objects.proofs.Common.{changed_tabled, without_tabled}
+use Rattle.ref_objects.proofs.Common.{Object, object_at, is_there, numbers, IsRising, Tabled, tabled_at, objects_of}
+use Rattle.ref_objects.proofs.Common.{object_in, on_object, changed_tabled, without_tabled}
 use Rattle.ref_base.specs.Heaps.{changed_at}
 use Rattle.ref_base.specs.CollectorRows.{without as without_numbers}
 use Rattle.ref_objects.proofs.NumberLemmas.{IsRising-tail}

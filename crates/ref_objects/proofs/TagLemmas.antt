@@ -1,6 +1,5 @@
 -- The tags of a table's objects, as one of them changes, comes or goes.
-use Rattle.std.proofs.Common.{◌≡◌, ℕ, ◌==◌, refl, ◌∙◌, ap, List, [], ◌∷◌, ◌++◌, Option}
-use Rattle.std.proofs.Common.{map, true, false, inl, inr}
+use Rattle.std.proofs.Common.{◌≡◌, ℕ, ◌==◌, refl, ◌∙◌, ap, List, [], ◌∷◌, ◌++◌, Option, map, true, false, inl, inr}
 use Rattle.std.proofs.lemmas.Bool.{cases_Bool, eqb-true, false≢true}
 use Rattle.std.proofs.lemmas.List.{map-append}
 use Rattle.ref_objects.proofs.Common.{Reference, Tabled, tabled_at, changed_tabled, made_entry, without_tabled, has}

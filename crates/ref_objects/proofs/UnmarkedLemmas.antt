@@ -1,12 +1,10 @@
 -- What the cells hold as no mark is left.
-use Rattle.std.proofs.Common.{◌≡◌, ℕ, ◌<◌, false, ◌==◌}
-use Rattle.std.proofs.Common.{refl, sym, ◌∙◌, ap, subst}
-use Rattle.std.proofs.Common.{List, [], ◌∷◌, length, map, Option, Some, None, inl, inr, arith}
+use Rattle.std.proofs.Common.{◌≡◌, ℕ, ◌<◌, false, ◌==◌, refl, sym, ◌∙◌, ap, subst, List, [], ◌∷◌, length, map, Option}
+use Rattle.std.proofs.Common.{Some, None, inl, inr, arith}
 use Rattle.std.proofs.lemmas.Bool.{cases_Bool}
 use Rattle.std.proofs.lemmas.List.{length-map}
 use Rattle.std.proofs.Math.ListN.{get_or-map}
-use Rattle.ref_objects.proofs.Common.{cell_at, before, tabled_by, unmarked_cell}
-use Rattle.ref_objects.proofs.Common.{seen_table, AreFree, IsPlaced, Tabled}
+use Rattle.ref_objects.proofs.Common.{cell_at, before, tabled_by, unmarked_cell, seen_table, AreFree, IsPlaced, Tabled}
 use Rattle.ref_objects.proofs.Common.{unmarked_tabled, marked_of, table_unmarked, with_marked, Entry}
 
 before-unmarked : (c : Option Tabled) (n : ℕ) (ks : List Tabled)

@@ -1,6 +1,6 @@
 -- What a contract sees of the fields of a heap's objects, and what holds of them.
-use Rattle.std.specs.Prelude.{◌≡◌, ℕ, ◌+◌, ◌*◌, ◌^◌, ◌<◌, ◌≤◌, true}
-use Rattle.std.specs.Prelude.{List, [], ◌∷◌, ◌++◌, length, Option, Some, slice_set}
+use Rattle.std.specs.Prelude.{◌≡◌, ℕ, ◌+◌, ◌*◌, ◌^◌, ◌<◌, ◌≤◌, true, List, [], ◌∷◌, ◌++◌, length, Option, Some}
+use Rattle.std.specs.Prelude.{slice_set}
 use Rattle.ref_base.specs.Graphs.{Object, Reference}
 use Rattle.ref_base.specs.Heaps.{Heap, nulls}
 use Rattle.ref_base.specs.Limits.{is_within_limits}

@@ -1,8 +1,8 @@
 -- What one sees of the objects of a heap: the heap as plain data, what refuses its calls, and what they leave (package
 -- `java.lang.ref` of Java SE 17 for what making a reference does; numbers, slots, holds and cells: this project's
 -- profile). The functions of a heap are those of the model of the whole collector.
-use Rattle.std.specs.Prelude.{◌≡◌, ℕ, ◌+◌, ◌*◌, ◌/◌, ◌^◌, ◌≤◌, Bool, ◌==◌, ◌&&◌, not, if◌then◌else◌, nat_le}
-use Rattle.std.specs.Prelude.{List, [], ◌∷◌, ◌++◌, length, map, Option, Some, None, Result, Ok, Err}
+use Rattle.std.specs.Prelude.{◌≡◌, ℕ, ◌+◌, ◌*◌, ◌/◌, ◌^◌, ◌≤◌, Bool, ◌==◌, ◌&&◌, not, if◌then◌else◌, nat_le, List, []}
+use Rattle.std.specs.Prelude.{◌∷◌, ◌++◌, length, map, Option, Some, None, Result, Ok, Err}
 use Rattle.ref_base.specs.Members.{has, without_first}
 use Rattle.ref_base.specs.Graphs.{Object, Reference, is_there, numbers}
 use Rattle.ref_base.specs.Limits.{is_within_limits}

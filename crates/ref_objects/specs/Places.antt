@@ -1,7 +1,6 @@
 -- How the table lies in memory: cells by place, an index of places by number, and the places that are free.
-use Rattle.std.specs.Prelude.{◌≡◌, ℕ, zero, suc, ◌+◌, ◌-◌, ◌*◌, ◌<◌, ◌≤◌, ◌^◌}
-use Rattle.std.specs.Prelude.{Bool, false, ◌==◌, ◌&&◌, not, if◌then◌else◌, nat_lt}
-use Rattle.std.specs.Prelude.{List, [], ◌∷◌, length, Option, Some, None, slice_index_or, ◌++◌}
+use Rattle.std.specs.Prelude.{◌≡◌, ℕ, zero, suc, ◌+◌, ◌-◌, ◌*◌, ◌<◌, ◌≤◌, ◌^◌, Bool, false, ◌==◌, ◌&&◌, not}
+use Rattle.std.specs.Prelude.{if◌then◌else◌, nat_lt, List, [], ◌∷◌, length, Option, Some, None, slice_index_or, ◌++◌}
 use Rattle.std.specs.List.{filter}
 use Rattle.std.specs.Borrow.{Bor}
 use Rattle.ref_base.specs.Graphs.{Reference}

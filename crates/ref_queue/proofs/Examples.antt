@@ -1,6 +1,6 @@
 -- What the calls of a queue and of a cleaner's table may answer at worked states, and what they may not.
-use Rattle.std.proofs.Common.{◌≡◌, ℕ, true, false, List, [], ◌∷◌, Some, None, Ok, Err, refl, sym, ap}
-use Rattle.std.proofs.Common.{nat_eq, if◌then◌else◌, arith, get_or}
+use Rattle.std.proofs.Common.{◌≡◌, ℕ, true, false, List, [], ◌∷◌, Some, None, Ok, Err, refl, sym, ap, nat_eq}
+use Rattle.std.proofs.Common.{if◌then◌else◌, arith, get_or}
 use Rattle.std.proofs.lemmas.Option.{same_Some}
 use Rattle.std.proofs.lemmas.Bool.{true≢false}
 use Rattle.ref_base.specs.QueueLists.{Lists}

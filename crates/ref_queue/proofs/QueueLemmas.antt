@@ -1,6 +1,6 @@
 -- What a queue's fields say of the lists that its contracts see.
-use Rattle.std.proofs.Common.{◌≡◌, ℕ, Bool, true, false, nat_eq, refl, ap, sym, ◌∙◌, arith}
-use Rattle.std.proofs.Common.{List, [], ◌∷◌, ◌++◌, length, map, append_assoc, length-append}
+use Rattle.std.proofs.Common.{◌≡◌, ℕ, Bool, true, false, nat_eq, refl, ap, sym, ◌∙◌, arith, List, [], ◌∷◌, ◌++◌, length}
+use Rattle.std.proofs.Common.{map, append_assoc, length-append}
 use Rattle.std.proofs.lemmas.List.{take_at, length-map}
 use Rattle.std.specs.List.{list_any}
 use Rattle.ref_base.specs.Members.{has}

@@ -1,6 +1,6 @@
 -- What lookups in a cleaner's table say.
-use Rattle.std.proofs.Common.{◌≡◌, ℕ, Bool, false, List, [], ◌∷◌, Option, None, Some}
-use Rattle.std.proofs.Common.{refl, ap, sym, ◌∙◌, ◌==◌, true, inl, inr, nat_eq, is_some, if◌then◌else◌, slice_get}
+use Rattle.std.proofs.Common.{◌≡◌, ℕ, Bool, false, List, [], ◌∷◌, Option, None, Some, refl, ap, sym, ◌∙◌, ◌==◌, true}
+use Rattle.std.proofs.Common.{inl, inr, nat_eq, is_some, if◌then◌else◌, slice_get}
 use Rattle.std.proofs.lemmas.Bool.{cases_eq, eq-eqb, ne_eqb}
 use Rattle.std.specs.Cmp.{nat_eq_equiv}
 use Rattle.std.specs.Map.{lookup}

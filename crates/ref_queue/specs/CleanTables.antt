@@ -1,7 +1,7 @@
 -- What the table of a cleaner is, as plain data, and what its calls answer and leave (Java SE 17
 -- `java.lang.ref.Cleaner` for an action that runs at most once; that a table closes is this project's profile).
-use Rattle.std.specs.Prelude.{◌≡◌, ℕ, ◌+◌, Bool, true, false, nat_eq, if◌then◌else◌, is_some}
-use Rattle.std.specs.Prelude.{List, [], length, Option, Some, None, Result, Ok, Err, refl}
+use Rattle.std.specs.Prelude.{◌≡◌, ℕ, ◌+◌, Bool, true, false, nat_eq, if◌then◌else◌, is_some, List, [], length, Option}
+use Rattle.std.specs.Prelude.{Some, None, Result, Ok, Err, refl}
 use Rattle.std.specs.Coded.{Coded, code_by, coded×, coded_ℕ, coded_bool, coded_list}
 use Rattle.std.specs.Map.{lookup}
 use Rattle.ref_base.specs.declared.fault.Fault.{Fault}

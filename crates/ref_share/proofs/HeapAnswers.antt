@@ -15,6 +15,7 @@ use Rattle.ref_clear.specs.ClearCalls.{answer_of_unhook, answer_of_hand, queue_i
 use Rattle.ref_clear.specs.ClearHeaps.{pending_at}
 use Rattle.ref_mark.specs.MarkCalls.{unless_refused}
 use Rattle.ref_world.specs.declared.heap_machine.HeapReply.TheVariants as replies
+use Rattle.ref_world.specs.WorldHeaps.{cycles_of, heap_no_of, heap_of}
 use Rattle.ref_share.specs.HeapCalls.{asks_for_a_notice, TellsOfNone, KeepsBack, GivesNotice, takes_a_hold, Spends}
 
 -- ---- a step that may give a notice
@@ -85,15 +86,15 @@ told_either_way (Some fault) reply none own otherwise = own
 tells_of_none : (c d : ClearHeap) (step : NamedStep) (reply : Reply) → asks_for_a_notice step ≡ true
     → Acts c step (replies.Told reply) d → gives_no_notice reply ≡ true
 tells_of_none c d (heap.Unhook m s) reply asks acts =
-    let h = c.mark.heap in
+    let h = heap_of c in
     let slot = slot_at h m s in
-    let queue = queue_in c.mark m s in
+    let queue = queue_in (cycles_of c) m s in
     let own = unless_of_heap (has_slot h m s) NoSuchActor (unhook_refusal h slot) refl (unhook_of_heap h slot) in
     let none = ap told_notice (sym acts.answer) ∙ acts.gives in
     ap gives_no_notice acts.answer
     ∙ told_either_way (refusal_in c (heap.Unhook m s)) (answer_of_unhook slot queue) none own (of_unhook slot queue)
 tells_of_none c d (heap.Hand k) reply asks acts =
-    let h = c.mark.heap in
+    let h = heap_of c in
     let pending = pending_at c k in
     let own = unless_of_heap (is_worker h k) NoSuchActor (hand_refusal pending h) refl (hand_of_heap pending h) in
     let none = ap told_notice (sym acts.answer) ∙ acts.gives in
@@ -153,14 +154,14 @@ pub spends_none : (v w : HeapView) (c d : ClearHeap) (step : NamedStep) (fault :
     → takes_a_hold step ≡ true → Acts c step (replies.Back fault back) d
     → Called v step (replies.Back fault back) w → Spends v step (Err (fault, back)) w
 spends_none v w c d (heap.Adopt m s hold) fault back takes acts called =
-    let h = c.mark.heap in
+    let h = heap_of c in
     let own = fault_of_heap (refusal_in c (heap.Adopt m s hold)) (told.Object hold.object) fault refl
-    (unless_of_heap (has_slot h m s) NoSuchActor (hold_refusal c.mark.heap_no h hold) refl
-    (uncounted_of_heap c.mark.heap_no h hold)) acts.answer in
+    (unless_of_heap (has_slot h m s) NoSuchActor (hold_refusal (heap_no_of c) h hold) refl
+    (uncounted_of_heap (heap_no_of c) h hold)) acts.answer in
     came_back v w (heap.Adopt m s hold) hold back fault acts.gives own called
 spends_none v w c d (heap.Release hold) fault back takes acts called =
     let own = fault_of_heap (refusal_in c (heap.Release hold)) told.Done fault refl
-    (uncounted_of_heap c.mark.heap_no c.mark.heap hold) acts.answer in
+    (uncounted_of_heap (heap_no_of c) (heap_of c) hold) acts.answer in
     came_back v w (heap.Release hold) hold back fault acts.gives own called
 spends_none v w c d step fault back takes acts called = absurd (false≢true takes)
 

@@ -8,6 +8,7 @@ use Rattle.ref_clear.specs.ClearHeaps.{ClearHeap}
 use Rattle.ref_clear.specs.Standing.{HeapStands}
 use Rattle.ref_world.specs.HeapReplies.{told_reply, GivesOut}
 use Rattle.ref_world.specs.declared.heap_machine.HeapReply.{HeapReply}
+use Rattle.ref_world.specs.WorldHeaps.{heap_no_of}
 
 -- a state of the abstract collector, and the number of its heap
 pub record HeapState : Type 0 where
@@ -16,7 +17,7 @@ pub record HeapState : Type 0 where
 
 -- the heap has this number, and stands for the state
 pub record StandsFor (c : ClearHeap) (x : HeapState) : Type 0 where
-  pub number : c.mark.heap_no ≡ x.number
+  pub number : heap_no_of c ≡ x.number
   pub stands : HeapStands c x.state
 
 -- the step, with this reply, is a row of the heap's machine, and gives out what such a step gives
@@ -28,5 +29,5 @@ pub record IsHeapMove (x : HeapState) (step : NamedStep) (reply : HeapReply) (y 
 -- what the step does to the heap itself
 pub record Acts (c : ClearHeap) (step : NamedStep) (reply : HeapReply) (d : ClearHeap) : Type 0 where
   pub answer : told_reply reply ≡ answer_in c step
-  pub gives : GivesOut c.mark.heap_no step reply
+  pub gives : GivesOut (heap_no_of c) step reply
   pub after : d ≡ after_in c step

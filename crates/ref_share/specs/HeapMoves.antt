@@ -9,6 +9,7 @@ use Rattle.ref_clear.proofs.HeapLaws.{each_step}
 use Rattle.ref_clear.proofs.OwnNumbers.{number_after}
 use Rattle.ref_world.specs.declared.heap_machine.HeapReply.{HeapReply}
 use Rattle.ref_world.specs.HeapReplies.{GivesOut, told_reply}
+use Rattle.ref_world.specs.WorldHeaps.{heap_no_of}
 use Rattle.ref_share.specs.HeapMachines.{HeapState, StandsFor, IsHeapMove, Acts}
 
 -- what it does is a row, from each state that it stands for to one that it then stands for
@@ -21,11 +22,11 @@ acts_as_a_row c d step reply acts x stands =
       record {
         number = refl;
         row = subst (λ (no : ℕ). IsHeapRow no x.state step (told_reply reply) row.0) stands.number
-            (subst (λ (r : Reply). IsHeapRow c.mark.heap_no x.state step r row.0) (sym acts.answer) row.1);
+            (subst (λ (r : Reply). IsHeapRow (heap_no_of c) x.state step r row.0) (sym acts.answer) row.1);
         gives = subst (λ (no : ℕ). GivesOut no step reply) stands.number acts.gives;
       },
       record {
-        number = ap (λ (k : ClearHeap). k.mark.heap_no) acts.after ∙ number_after c step ∙ stands.number;
+        number = ap heap_no_of acts.after ∙ number_after c step ∙ stands.number;
         stands = subst (λ (k : ClearHeap). HeapStands k row.0) (sym acts.after) row.2;
       },
     )

@@ -1,6 +1,6 @@
 -- Each step on the table keeps the rule, and what it tells.
-use Rattle.std.proofs.Common.{◌≡◌, ◌≢◌, ℕ, suc, ◌+◌, ◌%◌, ◌^◌, ◌<◌, ◌≤◌, eqb, inr, refl, sym, ap, ◌∙◌}
-use Rattle.std.proofs.Common.{List, [], ◌∷◌, ◌++◌, length, get_or, set, subst, arith, Some, mod-eq_of_lt}
+use Rattle.std.proofs.Common.{◌≡◌, ◌≢◌, ℕ, suc, ◌+◌, ◌%◌, ◌^◌, ◌<◌, ◌≤◌, eqb, inr, refl, sym, ap, ◌∙◌, List, [], ◌∷◌}
+use Rattle.std.proofs.Common.{◌++◌, length, get_or, set, subst, arith, Some, mod-eq_of_lt}
 use Rattle.std.proofs.lemmas.Option.{same_Some}
 use mathlib.Core.Option.{none, some}
 use lib.ListN.{get_elem?}
@@ -18,8 +18,8 @@ use Rattle.ref_turn.specs.History.{calls_by, StartsWith, Reaches, IsLegalLog}
 use Rattle.ref_turn.specs.Rule.{IsOpen, IsOwnView, IsSpent, Knows, Turned}
 use Rattle.ref_turn.specs.Steps.{drew, named, Shows, gave_back, saw, grabbed}
 use Rattle.ref_turn.proofs.Logs.{calls_by-none, starts_self, starts_length, starts_whole}
-use Rattle.ref_turn.proofs.Stays.{at_below, Rests, idle_rests, rests_own, rests_shut, rests_unspent}
-use Rattle.ref_turn.proofs.Stays.{none_within, none_open, settled, after, ended, differs, spent_other}
+use Rattle.ref_turn.proofs.Stays.{at_below, Rests, idle_rests, rests_own, rests_shut, rests_unspent, none_within}
+use Rattle.ref_turn.proofs.Stays.{none_open, settled, after, ended, differs, spent_other}
 
 module _ {M S R : Type 0} (log : List (Entry S R)) (served tickets : ℕ) (views : List (View M S R)) (seat : ℕ)
     (v : View M S R) where

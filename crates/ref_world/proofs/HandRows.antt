@@ -3,8 +3,8 @@ use Rattle.std.proofs.Common.{◌≡◌, ℕ, true, ◌==◌, ◌&&◌, Some, No
 use Rattle.ref_world.proofs.Common.{has, told_notice, Notice, hand_of, unless, unless_full, empty_hand_refusal}
 use Rattle.ref_world.proofs.Common.{has_slot, drop_refusal, Actor, Mutator, Worker, NoSuchActor, Reply, unless_refused}
 use Rattle.ref_world.proofs.Common.{WorldHeap, answer_in, after_in, received, Core, Hands, hand_in, with_hand_in}
-use Rattle.ref_world.proofs.Common.{has_hand, filling_refusal, emptying_refusal, IsReached, IsRowOf}
-use Rattle.ref_world.proofs.Common.{heap_no_of, heap_of}
+use Rattle.ref_world.proofs.Common.{has_hand, filling_refusal, emptying_refusal, IsReached, IsRowOf, heap_no_of}
+use Rattle.ref_world.proofs.Common.{heap_of}
 use Rattle.ref_base.specs.HeapSteps.{hold_of, spending}
 use Rattle.ref_base.specs.declared.fault.Fault.TheVariants.{ForeignHold}
 use Rattle.ref_base.specs.declared.heap_step.HoldName.{HoldName}

@@ -6,9 +6,9 @@ use Rattle.std.proofs.lemmas.Bool.{eq-eqb}
 use Rattle.std.proofs.lemmas.List.{set-set, set-get_or, get_or_read}
 use Rattle.ref_world.proofs.Common.{Lists, enqueued, with_parcel, with_taken, new_queue, World, Notice, object_of}
 use Rattle.ref_world.proofs.Common.{hand_of, with_hand, refusal, is_mutator, is_queue, is_actor, State, with_world}
-use Rattle.ref_world.proofs.Common.{IsRow, Actor, Mutator, Worker, Fault, NoSuchActor, BadQueue, Reply, Step}
-use Rattle.ref_world.proofs.Common.{WorldHeap, HeapStands, Core, Hands, hand_in, with_hand_in, emptying_refusal}
-use Rattle.ref_world.proofs.Common.{calling_refusal, queue_refusal, Stands, IsReached, IsRowOf, cycles_of, heap_of}
+use Rattle.ref_world.proofs.Common.{IsRow, Actor, Mutator, Worker, Fault, NoSuchActor, BadQueue, Reply, Step, WorldHeap}
+use Rattle.ref_world.proofs.Common.{HeapStands, Core, Hands, hand_in, with_hand_in, emptying_refusal, calling_refusal}
+use Rattle.ref_world.proofs.Common.{queue_refusal, Stands, IsReached, IsRowOf, cycles_of, heap_of}
 use Rattle.ref_base.specs.QueueLists.{was_put}
 use Rattle.ref_base.specs.Worlds.{queue_at, with_queue}
 use Rattle.ref_base.specs.Replay.{put_in, took, taken_out, notice_of, without_notice, closed_queue}

@@ -9,8 +9,8 @@ use Rattle.ref_world.specs.Cores.{core_queue_at}
 use Rattle.ref_world.specs.QueueReplies.{PutsOne, PollsOne}
 use Rattle.ref_world.specs.Standing.{Does}
 use Rattle.ref_world.proofs.HandRows.{free_from}
-use Rattle.ref_world.proofs.QueueRows.{core_with, read_here, put_does, put_number, poll_does, poll_number}
-use Rattle.ref_world.proofs.QueueRows.{close_reply, close_does}
+use Rattle.ref_world.proofs.QueueRows.{core_with, read_here, put_does, put_number, poll_does, poll_number, close_reply}
+use Rattle.ref_world.proofs.QueueRows.{close_does}
 use Rattle.ref_world.proofs.ReachedCores.{hand_has_queue}
 use Rattle.ref_world.proofs.Refusals.{queue_within}
 use Rattle.ref_world.proofs.SoundCores.{sound_queue_does}

@@ -21,5 +21,6 @@ pub mod ListingLemmas
 pub mod WriteLemmas
 pub mod ReadLemmas
 pub mod ListChecks
+pub mod NoEvidence
 pub mod SeatLists
 mod ScriptExamples

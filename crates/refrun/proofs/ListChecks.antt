@@ -55,7 +55,7 @@ not_once (m ∷ given) more n there once =
     ]
 
 -- one more of a list, and what comes behind
-one_more : (ns : List ℕ) (i n : ℕ) → i < length ns → n ≡ get_or ns i n → take (i + 1) ns ≡ take i ns ++ n ∷ []
+pub one_more : (ns : List ℕ) (i n : ℕ) → i < length ns → n ≡ get_or ns i n → take (i + 1) ns ≡ take i ns ++ n ∷ []
 one_more ns i n within at = take_more ns i n within ∙ ap (λ m. take i ns ++ m ∷ []) (sym at)
 
 split_at : (ns : List ℕ) (i n : ℕ) → i < length ns → n ≡ get_or ns i n → ns ≡ take i ns ++ n ∷ drop (suc i) ns
@@ -198,7 +198,7 @@ some_left taken (k ∷ keys) given l same =
     absurd (true≢false (sym at.0 ∙ (sym (same k) ∙ at.1)))
 
 module _ {X : Type 0} (numbers : X → List ℕ) where
-  concat-flat_map : (xs : List X) → concat (map numbers xs) ≡ flat_map numbers xs
+  pub concat-flat_map : (xs : List X) → concat (map numbers xs) ≡ flat_map numbers xs
   concat-flat_map [] = refl
   concat-flat_map (x ∷ xs) = ap (λ l. numbers x ++ l) (concat-flat_map xs)
 

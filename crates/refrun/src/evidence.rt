@@ -1,8 +1,11 @@
 //! What shows that a check of a queue's lists fails: which poller, and which two numbers.
 
-ghost use Rattle.std.specs.Prelude.{◌≡◌, ◌<◌, ◌+◌, false, length, slice_range, IfSome};
-ghost use Rattle.std.specs.List.{Contains};
+ghost use Rattle.std.specs.Prelude.{◌≡◌, ℕ, ◌<◌, ◌+◌, [], true, false, map, length, nat_eq, slice_range};
+ghost use Rattle.std.specs.Prelude.{IfSome, IfNone, All};
+ghost use Rattle.std.specs.List.{Contains, IsDistinct, flat_map};
 ghost use Rattle.ref_base.specs.CollectorRows.{is_subsequence};
+ghost use Rattle.ref_base.specs.Members.{has};
+ghost use Rattle.refrun.specs.StressChecks.{Passes, GivesEachOnce};
 ghost use Rattle.refrun.specs.StressEvidence.{before_place, IsEvidence, ShowsTwice, ShowsOrder, ShowsTotal};
 ghost use Rattle.refrun.specs.StressEvidence.{ShowsAgain, ShowsRest};
 
@@ -110,7 +113,7 @@ impl fmt::Display for Told {
     }
 }
 
-/// What shows that this check fails, the first in the order of the lists; none where nothing shows it. `lists` has what
+/// What shows that this check fails, the first in the order of the lists; none where the check holds. `lists` has what
 /// each poller took. In time of the square of the numbers. Takes no memory.
 pub fn evidence_of<B: Allocator>(
     check: Check,
@@ -119,7 +122,8 @@ pub fn evidence_of<B: Allocator>(
     stands: &[ObjNo],
     lists: &[Vec<ObjNo, B>],
 ) -> Option<Evidence>
-    ensures { IfSome result (IsEvidence (λ v. v.items) enqueued.now taken.now stands.now lists.now) }
+    ensures shows { IfSome result (IsEvidence (λ v. v.items) enqueued.now taken.now stands.now lists.now) }
+    ensures passes { IfNone result (Passes enqueued.now taken.now stands.now (map (λ v. v.items) lists.now) check) }
 {
     match check {
         Check::Twice => put_twice(enqueued),
@@ -131,7 +135,8 @@ pub fn evidence_of<B: Allocator>(
 
 /// The first number that was put in a second time.
 fn put_twice(enqueued: &[ObjNo]) -> Option<Evidence>
-    ensures { IfSome result (ShowsTwice enqueued.now) }
+    ensures shows { IfSome result (ShowsTwice enqueued.now) }
+    ensures passes { IfNone result (IsDistinct nat_eq enqueued.now) }
 {
     for again in 0..enqueued.len() {
         let number = enqueued[again];
@@ -150,7 +155,8 @@ fn put_twice(enqueued: &[ObjNo]) -> Option<Evidence>
 
 /// The first number of a poller that is out of order.
 fn out_of_order<B: Allocator>(enqueued: &[ObjNo], lists: &[Vec<ObjNo, B>]) -> Option<Evidence>
-    ensures { IfSome result (ShowsOrder (λ v. v.items) enqueued.now lists.now) }
+    ensures shows { IfSome result (ShowsOrder (λ v. v.items) enqueued.now lists.now) }
+    ensures passes { IfNone result (All (λ v. is_subsequence v.items enqueued.now ≡ true) lists.now) }
 {
     for poller in 0..lists.len() {
         let list = lists[poller].as_slice();
@@ -182,13 +188,20 @@ fn place_out_of_order(list: &[ObjNo], enqueued: &[ObjNo]) -> Option<usize>
     ensures within { IfSome result (λ place. place < length list.now) }
     ensures out { IfSome result (λ place.
         is_subsequence (slice_range list.now 0 (place + 1)) enqueued.now ≡ false) }
+    ensures passes { IfNone result (is_subsequence list.now enqueued.now ≡ true) }
 {
-    (0..list.len()).find(|place| !is_in_order(&list[..*place + 1], enqueued))
+    for place in 0..list.len() {
+        if !is_in_order(&list[..place + 1], enqueued) {
+            return Some(place);
+        }
+    }
+    None
 }
 
 /// A number that no poller took just once, or that the queue did not give.
 fn not_once<B: Allocator>(taken: &[ObjNo], lists: &[Vec<ObjNo, B>]) -> Option<Evidence>
-    ensures { IfSome result (ShowsTotal (λ v. v.items) taken.now lists.now) }
+    ensures shows { IfSome result (ShowsTotal (λ v. v.items) taken.now lists.now) }
+    ensures passes { IfNone result (GivesEachOnce taken.now (map (λ v. v.items) lists.now)) }
 {
     if let Some(evidence) = not_given(taken, lists) {
         return Some(evidence);
@@ -201,7 +214,9 @@ fn not_once<B: Allocator>(taken: &[ObjNo], lists: &[Vec<ObjNo, B>]) -> Option<Ev
 
 /// The first number of a poller that was not taken from the queue.
 fn not_given<B: Allocator>(taken: &[ObjNo], lists: &[Vec<ObjNo, B>]) -> Option<Evidence>
-    ensures { IfSome result (ShowsTotal (λ v. v.items) taken.now lists.now) }
+    ensures shows { IfSome result (ShowsTotal (λ v. v.items) taken.now lists.now) }
+    ensures passes { IfNone result ((n : ℕ) → has (flat_map (λ v. v.items) lists.now) n ≡ true
+        → has taken.now n ≡ true) }
 {
     for poller in 0..lists.len() {
         if let Some(number) = number_outside(lists[poller].as_slice(), taken) {
@@ -213,7 +228,8 @@ fn not_given<B: Allocator>(taken: &[ObjNo], lists: &[Vec<ObjNo, B>]) -> Option<E
 
 /// The first number of the list that is not among the others.
 fn number_outside(list: &[ObjNo], others: &[ObjNo]) -> Option<ObjNo>
-    ensures { IfSome result (λ n. Contains list.now n × ¬ (Contains others.now n)) }
+    ensures shows { IfSome result (λ n. Contains list.now n × ¬ (Contains others.now n)) }
+    ensures passes { IfNone result ((n : ℕ) → has list.now n ≡ true → has others.now n ≡ true) }
 {
     for number in list {
         if !others.contains(number) {
@@ -225,7 +241,8 @@ fn number_outside(list: &[ObjNo], others: &[ObjNo]) -> Option<ObjNo>
 
 /// The first number of a poller that an earlier one took, or it itself before.
 fn taken_twice<B: Allocator>(lists: &[Vec<ObjNo, B>]) -> Option<Evidence>
-    ensures { IfSome result (ShowsAgain (λ v. v.items) lists.now) }
+    ensures shows { IfSome result (ShowsAgain (λ v. v.items) lists.now) }
+    ensures passes { IfNone result (IsDistinct nat_eq (flat_map (λ v. v.items) lists.now)) }
 {
     for poller in 0..lists.len() {
         let list = lists[poller].as_slice();
@@ -251,7 +268,8 @@ fn taken_twice<B: Allocator>(lists: &[Vec<ObjNo, B>]) -> Option<Evidence>
 
 /// The first number of the list that stands in it before.
 fn number_again(list: &[ObjNo]) -> Option<ObjNo>
-    ensures { IfSome result (λ n. Contains list.now n) }
+    ensures shows { IfSome result (λ n. Contains list.now n) }
+    ensures passes { IfNone result (IsDistinct nat_eq list.now) }
 {
     for place in 0..list.len() {
         let number = list[place];
@@ -264,7 +282,8 @@ fn number_again(list: &[ObjNo]) -> Option<ObjNo>
 
 /// The first number of the list that is among the others.
 fn number_of_both(list: &[ObjNo], others: &[ObjNo]) -> Option<ObjNo>
-    ensures { IfSome result (λ n. Contains list.now n × Contains others.now n) }
+    ensures shows { IfSome result (λ n. Contains list.now n × Contains others.now n) }
+    ensures passes { IfNone result ((n : ℕ) → has list.now n ≡ true → has others.now n ≡ false) }
 {
     for number in list {
         if others.contains(number) {
@@ -276,19 +295,34 @@ fn number_of_both(list: &[ObjNo], others: &[ObjNo]) -> Option<ObjNo>
 
 /// The first number that was taken from the queue, and that no poller took.
 fn not_taken<B: Allocator>(taken: &[ObjNo], lists: &[Vec<ObjNo, B>]) -> Option<Evidence>
-    ensures { IfSome result (ShowsTotal (λ v. v.items) taken.now lists.now) }
+    ensures shows { IfSome result (ShowsTotal (λ v. v.items) taken.now lists.now) }
+    ensures passes { IfNone result ((n : ℕ) → has taken.now n ≡ true
+        → has (flat_map (λ v. v.items) lists.now) n ≡ true) }
 {
     for number in taken {
-        if !lists.iter().any(|list| list.contains(number)) {
+        if !is_taken(*number, lists) {
             return Some(Evidence::NotTaken { number: *number });
         }
     }
     None
 }
 
+/// Whether a poller took the number.
+fn is_taken<B: Allocator>(number: ObjNo, lists: &[Vec<ObjNo, B>]) -> bool
+    ensures { result ≡ has (flat_map (λ v. v.items) lists.now) number }
+{
+    for poller in 0..lists.len() {
+        if lists[poller].as_slice().contains(&number) {
+            return true;
+        }
+    }
+    false
+}
+
 /// The first number that stands, or else the first place where another was taken than was put in.
 fn left_over(enqueued: &[ObjNo], taken: &[ObjNo], stands: &[ObjNo]) -> Option<Evidence>
-    ensures { IfSome result (ShowsRest enqueued.now taken.now stands.now) }
+    ensures shows { IfSome result (ShowsRest enqueued.now taken.now stands.now) }
+    ensures passes { IfNone result ((stands.now ≡ []) × (taken.now ≡ enqueued.now)) }
 {
     if let Some(number) = stands.first() {
         return Some(Evidence::Stands { number: *number });

@@ -170,7 +170,11 @@ impl<A: Allocator + Copy> Marker<A> {
     fn is_kept(&self, reference: Reference) -> bool
         ensures { result ≡ is_kept self.now.policy reference }
     {
-        let Policy { clock, urgency, span } = self.policy;
+        let Policy {
+            clock,
+            urgency,
+            span,
+        } = self.policy;
         match (reference.strength, urgency) {
             // No stamp is after the clock.
             (Strength::Soft, Urgency::Normal) => keeps(clock, reference.stamp.min(clock), span),

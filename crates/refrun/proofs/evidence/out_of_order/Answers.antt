@@ -5,8 +5,8 @@ use Rattle.ref_base.specs.CollectorRows.{is_subsequence}
 use Rattle.refrun.specs.StressEvidence.{before_place}
 use Rattle.refrun.proofs.evidence.out_of_order.Goals as goal
 
-pub returns-in-Some : goal.returns-in-Some
-returns-in-Some g c =
+pub returns-in-Some-clause-shows : goal.returns-in-Some-clause-shows
+returns-in-Some-clause-shows g c =
     let lists = c.args.lists.now in
     let v = c.index-lists-poller.result in
     let list = c.as_slice-list.result.now in

@@ -1,27 +1,48 @@
+use Rattle.std.proofs.Common.{◌≡◌, ℕ, true, false, take, flat_map}
+use Rattle.refrun.proofs.Common.{has}
+use Rattle.refrun.proofs.NoEvidence.{none_distinct, next_list_distinct, next_list_lacks}
 use Rattle.std.proofs.Common.{length, refl, subst, arith}
 use Rattle.std.proofs.lemmas.Option.{slice_get_read}
 use Rattle.std.specs.List.{Contains}
 use Rattle.refrun.proofs.evidence.taken_twice.Goals as goal
 
-pub returns-in-Some : goal.returns-in-Some
-returns-in-Some g c =
+pub returns-in-Some-clause-shows : goal.returns-in-Some-clause-shows
+returns-in-Some-clause-shows g c =
     let lists = c.args.lists.now in
     let v = c.index-lists-poller.result in
     let there = slice_get_read lists (length lists) c.loop-poller.poller v refl (omega arith) c.index-lists-poller.is in
-    let has = subst (λ ns. Contains ns c.in-Some.number) c.as_slice-list.ensures.value c.in-Some.ensures in
-    (v, v, there, there, has, has)
+    let stands = subst (λ ns. Contains ns c.in-Some.number) c.as_slice-list.ensures.value c.in-Some.ensures.shows in
+    (v, v, there, there, stands, stands)
 
-pub returns-in-Some-number_of_both : goal.returns-in-Some-number_of_both
-returns-in-Some-number_of_both g c =
+pub returns-in-Some-number_of_both-clause-shows : goal.returns-in-Some-number_of_both-clause-shows
+returns-in-Some-number_of_both-clause-shows g c =
     let lists = c.args.lists.now in
     let v = c.index-lists-poller.result in
     let w = c.index-lists-other.result in
     let n = c.in-Some-number_of_both.number in
-    let has = c.in-Some-number_of_both.ensures in (
+    let both = c.in-Some-number_of_both.ensures.shows in (
       v,
       w,
       slice_get_read lists (length lists) c.loop-poller.poller v refl (omega arith) c.index-lists-poller.is,
       slice_get_read lists (length lists) c.loop-other.other w refl (omega arith) c.index-lists-other.is,
-      subst (λ ns. Contains ns n) c.as_slice-list.ensures.value has.0,
-      subst (λ ns. Contains ns n) c.as_slice.ensures.value has.1,
+      subst (λ ns. Contains ns n) c.as_slice-list.ensures.value both.0,
+      subst (λ ns. Contains ns n) c.as_slice.ensures.value both.1,
     )
+
+pub loop-poller-init : goal.loop-poller-init
+loop-poller-init g c = none_distinct
+
+pub loop-other-preserved : goal.loop-other-preserved
+loop-other-preserved g c = λ n there.
+    next_list_lacks (λ v. v.items) c.args.lists.now c.loop-other.other c.index-lists-other.result
+    c.as_slice.result.now (omega arith) c.index-lists-other.is c.as_slice.ensures.value n
+    (c.loop-other.invariant n there) (c.in_default-number_of_both.ensures.passes n there)
+
+pub loop-poller-preserved : goal.loop-poller-preserved
+loop-poller-preserved g c =
+    let same : c.loop-other.other ≡ c.loop-poller.poller = omega (arith, c.loop-other-test.false) in
+    next_list_distinct (λ v. v.items) c.args.lists.now c.loop-poller.poller c.index-lists-poller.result
+    c.as_slice-list.result.now (omega arith) c.index-lists-poller.is c.as_slice-list.ensures.value
+    c.loop-poller.invariant c.in_default.ensures.passes
+    (subst (λ (k : ℕ). (n : ℕ) → has c.as_slice-list.result.now n ≡ true
+    → has (flat_map (λ v. v.items) (take k c.args.lists.now)) n ≡ false) same c.loop-other.invariant)

@@ -1,6 +1,5 @@
 use Rattle.std.proofs.Common.{◌≡◌, ◌<◌, Some, refl, sym, ap, ◌∙◌, subst}
-use Rattle.ref_mark.proofs.Common.{targets_at, is_kept, Heap, reference_at, first_in, CycleHeap}
-use Rattle.ref_mark.proofs.Common.{seen_marker}
+use Rattle.ref_mark.proofs.Common.{targets_at, is_kept, Heap, reference_at, first_in, CycleHeap, seen_marker}
 use Rattle.ref_mark.proofs.RoomLemmas.{Greys, shaded_greys, scanner_within, roomy_scanned, scan_has_room}
 use Rattle.ref_mark.proofs.marker.Marker.scan.Goals as goal
 

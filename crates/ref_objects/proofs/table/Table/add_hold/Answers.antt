@@ -2,8 +2,8 @@ use Rattle.std.proofs.Common.{refl, arith}
 use Rattle.std.specs.Option.{is_some}
 use Rattle.ref_objects.proofs.Common.{holds_in, more_held}
 use Rattle.ref_objects.proofs.GroundLemmas.{holds_in-le}
-use Rattle.ref_objects.proofs.CellChanges.{sound_there, is_there, answered_there, left_there}
-use Rattle.ref_objects.proofs.CellChanges.{answered_nowhere, left_nowhere}
+use Rattle.ref_objects.proofs.CellChanges.{sound_there, is_there, answered_there, left_there, answered_nowhere}
+use Rattle.ref_objects.proofs.CellChanges.{left_nowhere}
 use Rattle.ref_objects.proofs.table.Table.add_hold.Goals as goal
 
 pub invariant_of-self : goal.invariant_of-self
