@@ -8,8 +8,6 @@ ghost use Rattle.ref_share.specs.HeapSeats.{IsHeapSeat};
 use ref_base::{Fault, HeapStep, Reply};
 use ref_objects::Hold;
 use ref_share::{HeapSeat, ShareFault, SharedHeap};
-use ref_turn::TurnFault;
-use ref_world::HeapReply;
 use std::sync::Wait;
 
 /// The heap, with the seat of one thread.
@@ -42,16 +40,9 @@ impl<'a> HeapUser<'a> {
         requires bare { hands_nothing_over step ≡ true }
         ensures { IsUser self.new }
     {
-        match self.heap.call(rt, &mut self.seat, step) {
-            Ok(HeapReply::Told(Reply::Refused(fault))) => Err(fault),
-            Ok(HeapReply::Told(reply)) => Ok(reply),
-            Ok(_reply) => unreachable!(),
-            Err(TurnFault::Busy(step) | TurnFault::Spent(step)) => match step {
-                HeapStep::Adopt { hold: _hold, .. } | HeapStep::Release { hold: _hold } => {
-                    unreachable!()
-                }
-                _ => Err(Fault::TurnsSpent),
-            },
+        match self.heap.ask(rt, &mut self.seat, step)? {
+            Reply::Refused(fault) => Err(fault),
+            reply => Ok(reply),
         }
     }
 

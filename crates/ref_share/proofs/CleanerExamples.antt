@@ -1,7 +1,6 @@
 -- What `register`, `clean` and a cleaner's thread may have called, and what not: the job 30 of reference 2, whose
 -- notice comes once its object is gone.
-use Rattle.std.proofs.Common.{◌≡◌, ℕ, List, [], ◌∷◌, Option, Some, None, Ok, true}
-use Rattle.std.proofs.Common.{inl, inr, refl, ap, ◌+◌, map, arith}
+use Rattle.std.proofs.Common.{◌≡◌, ℕ, List, [], ◌∷◌, Option, Some, None, Ok, true, inl, inr, refl, ap, ◌+◌, map, arith}
 use Rattle.ref_share.proofs.Common.{Cycle, HoldName, ClearHeap, HeldNotice, new_registry, entry, Entry, Idle, View}
 use Rattle.ref_share.proofs.Common.{new_queue, Round, all_of, jobs_run, takes_in, CleanView, CleanEntry, makes_phantom}
 use Rattle.ref_share.proofs.Common.{CleansDead, HeapView, HeapEntry, QueueView, QueueEntry, Releases}

@@ -1,7 +1,7 @@
 -- The history of a heap: what a mark's end clears reads as cleared from then on, and no get of it answers an object.
 use Rattle.std.proofs.Common.{◌≡◌, ℕ, true, List, [], Some, None}
-use Rattle.ref_share.proofs.Common.{doomed_at, referent_of, new_clears, slot_at, reference_at, has, Config}
-use Rattle.ref_share.proofs.Common.{Leads, told_reply, HeapState, IsHeapMove, HeapEntry, IsHeapRun, heap_replayed}
+use Rattle.ref_share.proofs.Common.{doomed_at, referent_of, new_clears, slot_at, reference_at, has, Config, Leads}
+use Rattle.ref_share.proofs.Common.{told_reply, HeapState, IsHeapMove, HeapEntry, IsHeapRun, heap_replayed}
 use Rattle.ref_base.specs.Worlds.{World}
 use Rattle.ref_base.specs.declared.heap_step.HeapStep.TheVariants as heap
 use Rattle.ref_base.specs.declared.reply.Reply.TheVariants as told

@@ -1,11 +1,10 @@
 -- What deliveries may have called, and what not, with two queues: worker 0 hands on the notice of reference 2, which is
 -- for queue 1, and then that of reference 6.
-use Rattle.std.proofs.Common.{◌≡◌, ℕ, List, [], ◌∷◌, length, Option, Some, Ok, Err, inl, inr, refl, sym, ap, ◌∙◌}
-use Rattle.std.proofs.Common.{arith, get_or, length-append, map, zero, suc}
+use Rattle.std.proofs.Common.{◌≡◌, ℕ, List, [], ◌∷◌, length, Option, Some, Ok, Err, inl, inr, refl, sym, ap, ◌∙◌, arith}
+use Rattle.std.proofs.Common.{get_or, length-append, map, zero, suc}
 use Rattle.ref_share.proofs.Common.{Cycle, BadQueue, HoldName, ClearHeap, HeldNotice, entry, Idle, GoesBack, Sends}
-use Rattle.ref_share.proofs.Common.{Delivers, HeapView, HeapEntry, PutsNotice, QueueEntry, queue_view, KeepsPace}
-use Rattle.ref_share.proofs.Common.{Works, notices_put, references_of, Nothing, Added, Dropped, Notice, QueueSeat}
-use Rattle.ref_share.proofs.Common.{SharedQueue}
+use Rattle.ref_share.proofs.Common.{Delivers, HeapView, HeapEntry, PutsNotice, QueueEntry, queue_view, KeepsPace, Works}
+use Rattle.ref_share.proofs.Common.{notices_put, references_of, Nothing, Added, Dropped, Notice, QueueSeat, SharedQueue}
 use Rattle.ref_base.specs.declared.heap_step.HeapStep.TheVariants as heap
 use Rattle.ref_queue.specs.declared.queue.Put.TheVariants as puts
 use Rattle.ref_world.specs.declared.heap_machine.HeapReply.TheVariants as replies

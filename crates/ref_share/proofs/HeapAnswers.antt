@@ -1,10 +1,10 @@
 -- What a heap answers to the calls that give notices or spend holds. Turns are no fault of its own.
-use Rattle.std.proofs.Common.{◌≡◌, ℕ, ◌-◌, ◌^◌, true, false, Bool, if◌then◌else◌, List, [], ◌∷◌, length, nat_lt}
-use Rattle.std.proofs.Common.{Option, Some, None, is_some, Result, Ok, Err, refl, sym, ap, ◌∙◌, subst}
+use Rattle.std.proofs.Common.{◌≡◌, ℕ, ◌-◌, ◌^◌, true, false, Bool, if◌then◌else◌, List, [], ◌∷◌, length, nat_lt, Option}
+use Rattle.std.proofs.Common.{Some, None, is_some, Result, Ok, Err, refl, sym, ap, ◌∙◌, subst}
 use Rattle.std.proofs.lemmas.Bool.{false≢true}
-use Rattle.ref_share.proofs.Common.{Reference, slot_at, reference_at, NamedStep, unless, has_slot, told_notice}
-use Rattle.ref_share.proofs.Common.{Pending, Fault, HoldName, NoSuchActor, TurnsSpent, Reply, ClearHeap, HeldNotice}
-use Rattle.ref_share.proofs.Common.{is_counted, Acts, HeapView, Called}
+use Rattle.ref_share.proofs.Common.{Reference, slot_at, reference_at, NamedStep, unless, has_slot, told_notice, Pending}
+use Rattle.ref_share.proofs.Common.{Fault, HoldName, NoSuchActor, TurnsSpent, Reply, ClearHeap, HeldNotice, is_counted}
+use Rattle.ref_share.proofs.Common.{Acts, HeapView, Called}
 use Rattle.ref_base.specs.Heaps.{Heap}
 use Rattle.ref_base.specs.Refusals.{holds_refusal, minting_refusal, unhook_refusal, hand_refusal, hold_refusal}
 use Rattle.ref_base.specs.Refusals.{is_worker}
@@ -15,7 +15,7 @@ use Rattle.ref_clear.specs.ClearCalls.{answer_of_unhook, answer_of_hand, queue_i
 use Rattle.ref_clear.specs.ClearHeaps.{pending_at}
 use Rattle.ref_mark.specs.MarkCalls.{unless_refused}
 use Rattle.ref_world.specs.declared.heap_machine.HeapReply.TheVariants as replies
-use Rattle.ref_world.specs.WorldHeaps.{cycles_of, heap_no_of, heap_of}
+use Rattle.ref_world.specs.WorldHeaps.{cycles_of, heap_no_of, model_heap}
 use Rattle.ref_share.specs.HeapCalls.{asks_for_a_notice, TellsOfNone, KeepsBack, GivesNotice, takes_a_hold, Spends}
 
 -- ---- a step that may give a notice
@@ -86,7 +86,7 @@ told_either_way (Some fault) reply none own otherwise = own
 tells_of_none : (c d : ClearHeap) (step : NamedStep) (reply : Reply) → asks_for_a_notice step ≡ true
     → Acts c step (replies.Told reply) d → gives_no_notice reply ≡ true
 tells_of_none c d (heap.Unhook m s) reply asks acts =
-    let h = heap_of c in
+    let h = model_heap c in
     let slot = slot_at h m s in
     let queue = queue_in (cycles_of c) m s in
     let own = unless_of_heap (has_slot h m s) NoSuchActor (unhook_refusal h slot) refl (unhook_of_heap h slot) in
@@ -94,7 +94,7 @@ tells_of_none c d (heap.Unhook m s) reply asks acts =
     ap gives_no_notice acts.answer
     ∙ told_either_way (refusal_in c (heap.Unhook m s)) (answer_of_unhook slot queue) none own (of_unhook slot queue)
 tells_of_none c d (heap.Hand k) reply asks acts =
-    let h = heap_of c in
+    let h = model_heap c in
     let pending = pending_at c k in
     let own = unless_of_heap (is_worker h k) NoSuchActor (hand_refusal pending h) refl (hand_of_heap pending h) in
     let none = ap told_notice (sym acts.answer) ∙ acts.gives in
@@ -154,14 +154,14 @@ pub spends_none : (v w : HeapView) (c d : ClearHeap) (step : NamedStep) (fault :
     → takes_a_hold step ≡ true → Acts c step (replies.Back fault back) d
     → Called v step (replies.Back fault back) w → Spends v step (Err (fault, back)) w
 spends_none v w c d (heap.Adopt m s hold) fault back takes acts called =
-    let h = heap_of c in
+    let h = model_heap c in
     let own = fault_of_heap (refusal_in c (heap.Adopt m s hold)) (told.Object hold.object) fault refl
     (unless_of_heap (has_slot h m s) NoSuchActor (hold_refusal (heap_no_of c) h hold) refl
     (uncounted_of_heap (heap_no_of c) h hold)) acts.answer in
     came_back v w (heap.Adopt m s hold) hold back fault acts.gives own called
 spends_none v w c d (heap.Release hold) fault back takes acts called =
     let own = fault_of_heap (refusal_in c (heap.Release hold)) told.Done fault refl
-    (uncounted_of_heap (heap_no_of c) (heap_of c) hold) acts.answer in
+    (uncounted_of_heap (heap_no_of c) (model_heap c) hold) acts.answer in
     came_back v w (heap.Release hold) hold back fault acts.gives own called
 spends_none v w c d step fault back takes acts called = absurd (false≢true takes)
 

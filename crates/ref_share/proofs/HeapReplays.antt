@@ -2,9 +2,9 @@
 -- be cleared; what is gone or doomed is out of reach; and a mark's end has shown what it cleared.
 use Rattle.std.proofs.Common.{◌≡◌, ℕ, List, [], ◌∷◌, ◌++◌, Some, inl, inr, refl, sym, ap, ◌∙◌, subst}
 use Rattle.std.proofs.lemmas.List.{append_assoc}
-use Rattle.ref_share.proofs.Common.{State, NamedStep, World, first_world}
-use Rattle.ref_share.proofs.Common.{graph_of, Config, Reply, entry, told_reply, HeapReply, HeapState, IsHeapMove}
-use Rattle.ref_share.proofs.Common.{HeapEntry, IsHeapRun, first_heap_state, heap_replayed, HeapMarkEnded}
+use Rattle.ref_share.proofs.Common.{State, NamedStep, World, first_world, graph_of, Config, Reply, entry, told_reply}
+use Rattle.ref_share.proofs.Common.{HeapReply, HeapState, IsHeapMove, HeapEntry, IsHeapRun, first_heap_state}
+use Rattle.ref_share.proofs.Common.{heap_replayed, HeapMarkEnded}
 use Rattle.ref_base.specs.MarkEnds.{AreOutOfReach}
 use Rattle.ref_base.specs.Replay.{after_heap}
 use Rattle.ref_base.specs.declared.heap_step.HeapStep.TheVariants as heap

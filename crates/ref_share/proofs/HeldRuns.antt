@@ -1,11 +1,10 @@
 -- The history of a heap: what is held is what was given out and not taken back.
-use Rattle.std.proofs.Common.{◌≡◌, ℕ, ◌+◌, ◌<◌, ◌==◌, true, List, [], ◌∷◌, ◌++◌}
-use Rattle.std.proofs.Common.{Option, Some, None, is_some, refl, sym, ap, ◌∙◌, arith, inl, inr}
+use Rattle.std.proofs.Common.{◌≡◌, ℕ, ◌+◌, ◌<◌, ◌==◌, true, List, [], ◌∷◌, ◌++◌, Option, Some, None, is_some, refl, sym}
+use Rattle.std.proofs.Common.{ap, ◌∙◌, arith, inl, inr}
 use Rattle.std.proofs.lemmas.Bool.{cases_Bool, false≢true, eqb-true, eq-eqb, and_parts}
-use Rattle.ref_share.proofs.Common.{State, IsHeapAnswer, tally, NamedStep, has, heap_refusal}
-use Rattle.ref_share.proofs.Common.{is_counted, has_slot, told_notice, Config, Fault, Reply, Leads}
-use Rattle.ref_share.proofs.Common.{told_reply, GivesOut, HeapReply, HeapState, IsHeapMove, HeapEntry, IsHeapRun}
-use Rattle.ref_share.proofs.Common.{first_heap_state}
+use Rattle.ref_share.proofs.Common.{State, IsHeapAnswer, tally, NamedStep, has, heap_refusal, is_counted, has_slot}
+use Rattle.ref_share.proofs.Common.{told_notice, Config, Fault, Reply, Leads, told_reply, GivesOut, HeapReply}
+use Rattle.ref_share.proofs.Common.{HeapState, IsHeapMove, HeapEntry, IsHeapRun, first_heap_state}
 use Rattle.ref_base.specs.CollectorRows.{IsHeapRow}
 use Rattle.ref_base.specs.CountedHolds.{holds_after}
 use Rattle.ref_base.specs.Heaps.{one_more, one_fewer}

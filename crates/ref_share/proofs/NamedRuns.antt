@@ -1,7 +1,6 @@
 -- The history of a heap: what a mark's end dooms, no call gives from then on.
-use Rattle.std.proofs.Common.{◌≡◌, ℕ, ◌+◌, ◌*◌, ◌==◌, Bool, true, false, List, [], ◌∷◌, ◌++◌, min, length}
-use Rattle.std.proofs.Common.{Option, Some, None}
-use Rattle.std.proofs.Common.{is_some, inl, inr, refl, sym, ap, ◌∙◌, subst}
+use Rattle.std.proofs.Common.{◌≡◌, ℕ, ◌+◌, ◌*◌, ◌==◌, Bool, true, false, List, [], ◌∷◌, ◌++◌, min, length, Option, Some}
+use Rattle.std.proofs.Common.{None, is_some, inl, inr, refl, sym, ap, ◌∙◌, subst}
 use Rattle.std.specs.List.{AllByRecursion}
 use Rattle.std.proofs.lemmas.Bool.{cases_Bool, and_parts, both_ways}
 use Rattle.std.proofs.lemmas.List.{append-nil}
@@ -9,9 +8,8 @@ use Rattle.ref_share.proofs.Common.{HeapAccepts, HandsOn, EndsMark, doomed_at, l
 use Rattle.ref_share.proofs.Common.{reference_at, NamedStep, has, heap_refusal, has_slot, is_counted, Pending}
 use Rattle.ref_share.proofs.Common.{pending_of, Config, Own, Cycle, Marking, Clearing, Reply, Leads, entry, told_reply}
 use Rattle.ref_share.proofs.Common.{HeapReply, HeapState, IsHeapMove, HeapEntry, IsHeapRun, heap_replayed}
-use Rattle.ref_base.specs.CollectorRows.{GivesAnewIf, Loads, Gets, Unhooks, Holds, Scans, ClearsNext}
-use Rattle.ref_base.specs.CollectorRows.{Sweeps, field_in, looked_at, reference_of, referent_got}
-use Rattle.ref_base.specs.CollectorRows.{value_reply}
+use Rattle.ref_base.specs.CollectorRows.{GivesAnewIf, Loads, Gets, Unhooks, Holds, Scans, ClearsNext, Sweeps, field_in}
+use Rattle.ref_base.specs.CollectorRows.{looked_at, reference_of, referent_got, value_reply}
 use Rattle.ref_base.specs.declared.heap_step.HeapStep.TheVariants as heap
 use Rattle.ref_base.specs.declared.reply.Reply.TheVariants as told
 use Rattle.ref_base.proofs.AgreeHeaps.{gone_after}

@@ -1,14 +1,13 @@
 -- Each row of a heap keeps that what a worker has cleared no worker clears again: it has no referent any more, and
 -- doesn't wait to be cleared.
-use Rattle.std.proofs.Common.{◌≡◌, ℕ, ◌+◌, Bool, true, false, ◌==◌, ◌&&◌, not, List, [], ◌∷◌, ◌++◌, drop, Option}
-use Rattle.std.proofs.Common.{Some, None, inl, inr, refl, sym, ap, ◌∙◌, subst}
+use Rattle.std.proofs.Common.{◌≡◌, ℕ, ◌+◌, Bool, true, false, ◌==◌, ◌&&◌, not, List, [], ◌∷◌, ◌++◌, drop, Option, Some}
+use Rattle.std.proofs.Common.{None, inl, inr, refl, sym, ap, ◌∙◌, subst}
 use Rattle.std.specs.Prelude.{slice_set, is_some}
 use Rattle.std.proofs.lemmas.Bool.{cases_Bool, and_from, and_right, or_parts, or_right, eqb-true, false≢true}
 use Rattle.ref_share.proofs.Common.{is_waiting, EndsMark, HeapAccepts, doomed_at, is_subsequence, list_at, referent_of}
 use Rattle.ref_share.proofs.Common.{State, joined, new_clears, Object, Reference, NamedStep, has, AreDistinct}
 use Rattle.ref_share.proofs.Common.{heap_refusal, World, Marking, Clearing, Reply}
-use Rattle.ref_base.specs.CollectorRows.{AreFound}
-use Rattle.ref_base.specs.CollectorRows.{references_among}
+use Rattle.ref_base.specs.CollectorRows.{AreFound, references_among}
 use Rattle.ref_base.specs.DoomedSets.{any_is, refers_into}
 use Rattle.ref_base.specs.Strengths.{IsRising}
 use Rattle.ref_base.specs.Graphs.{is_there, numbers, object_at}

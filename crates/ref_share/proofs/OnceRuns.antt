@@ -1,8 +1,6 @@
 -- The history of a heap: workers hand each reference on at most once.
 use Rattle.std.proofs.Common.{◌≡◌, ℕ, zero, suc, ◌+◌, ◌<◌, ◌≤◌, true, false, ◌==◌, List, [], ◌∷◌, ◌++◌, length, map}
-use Rattle.std.proofs.Common.{replicate}
-use Rattle.std.proofs.Common.{Option, ◌⊎◌}
-use Rattle.std.proofs.Common.{Some, None, inl, inr, refl, sym, ap, ◌∙◌, subst, arith}
+use Rattle.std.proofs.Common.{replicate, Option, ◌⊎◌, Some, None, inl, inr, refl, sym, ap, ◌∙◌, subst, arith}
 use Rattle.std.specs.Prelude.{nat_eq, slice_index_or, slice_set}
 use Rattle.std.specs.List.{IsDistinct, AllByRecursion}
 use Rattle.std.proofs.lemmas.Map.Keys.{IsDistinct-cons}
@@ -10,11 +8,10 @@ use Rattle.std.proofs.lemmas.Bool.{cases_Bool, both_ways, or_parts, eq-eqb, eqb-
 use Rattle.std.proofs.lemmas.Bool.{ne_eqb}
 use Rattle.std.proofs.lemmas.List.{map-append}
 use Rattle.ref_share.proofs.Common.{is_waiting, HandsOn, HeapAccepts, State, joined, tally, NamedStep, reference_at}
-use Rattle.ref_share.proofs.Common.{registered_in, has, AreDistinct, heap_refusal, pended, without_pending}
-use Rattle.ref_share.proofs.Common.{told_notice, World, Pending, pending_of, Cause, Cycle, Config, Fault, Reply}
-use Rattle.ref_share.proofs.Common.{scanned_in_cycle, told_reply, GivesOut, HeapReply, HeapState, IsHeapMove}
-use Rattle.ref_share.proofs.Common.{HeapEntry, IsHeapRun, first_heap_state, gathered, all_handed_on, heap_replayed}
-use Rattle.ref_share.proofs.Common.{rows_of}
+use Rattle.ref_share.proofs.Common.{registered_in, has, AreDistinct, heap_refusal, pended, without_pending, told_notice}
+use Rattle.ref_share.proofs.Common.{World, Pending, pending_of, Cause, Cycle, Config, Fault, Reply, scanned_in_cycle}
+use Rattle.ref_share.proofs.Common.{told_reply, GivesOut, HeapReply, HeapState, IsHeapMove, HeapEntry, IsHeapRun}
+use Rattle.ref_share.proofs.Common.{first_heap_state, gathered, all_handed_on, heap_replayed, rows_of}
 use Rattle.ref_base.specs.Worlds.{pending_numbers}
 use Rattle.ref_base.specs.declared.heap_step.HeapStep.TheVariants as heap
 use Rattle.ref_base.specs.declared.reply.Reply.TheVariants as told

@@ -5,18 +5,18 @@ use Rattle.std.specs.Prelude.{slice_index_or, slice_set}
 use Rattle.std.proofs.lemmas.Bool.{cases_Bool, cases_eq, eq-eqb}
 use Rattle.std.proofs.lemmas.List.{append-nil, append_assoc, get_or-set_same, get_or-set_other}
 use Rattle.ref_share.proofs.Common.{is_by, HandsOn, is_subsequence, State, reference_at, registered_in, NamedStep}
-use Rattle.ref_share.proofs.Common.{without_pending, told_notice, clearing_order, World, Pending}
-use Rattle.ref_share.proofs.Common.{pending_of, Cycle, Config, Fault, Reply, Row, HeldNotice, as_notice, told_reply}
-use Rattle.ref_share.proofs.Common.{GivesOut, HeapReply, HeapState, IsHeapMove, HeapEntry, IsHeapRun, world_step}
-use Rattle.ref_share.proofs.Common.{row_of, rows_of, handed_of, handed_in}
+use Rattle.ref_share.proofs.Common.{without_pending, told_notice, clearing_order, World, Pending, pending_of, Cycle}
+use Rattle.ref_share.proofs.Common.{Config, Fault, Reply, Row, HeldNotice, as_notice, told_reply, GivesOut, HeapReply}
+use Rattle.ref_share.proofs.Common.{HeapState, IsHeapMove, HeapEntry, IsHeapRun, world_step, row_of, rows_of, handed_of}
+use Rattle.ref_share.proofs.Common.{handed_in}
 use Rattle.ref_base.specs.ClearingOrder.{if_worked}
 use Rattle.ref_base.specs.WorkerOrder.{is_registered, cleared_by, if_registered, cleared_in}
 use Rattle.ref_base.specs.Worlds.{Notice, hand_of}
 use Rattle.ref_base.specs.declared.actor.Actor.TheVariants.{Worker}
 use Rattle.ref_base.specs.declared.heap_step.HeapStep.TheVariants as heap
 use Rattle.ref_base.specs.declared.reply.Reply.TheVariants as told
-use Rattle.ref_base.proofs.ClearingShifts.{all_for, if_for, waiting_in, Shifts, still, passes, at}
-use Rattle.ref_base.proofs.ClearingShifts.{clears_for, worked_is}
+use Rattle.ref_base.proofs.ClearingShifts.{all_for, if_for, waiting_in, Shifts, still, passes, at, clears_for}
+use Rattle.ref_base.proofs.ClearingShifts.{worked_is}
 use Rattle.ref_base.proofs.ClearingTraces.{not_by, none_worked, row_in_order, nothing_waits}
 use Rattle.ref_base.proofs.HeapRowLaws.{row_others}
 use Rattle.ref_base.proofs.Places.{place_there}

@@ -1,9 +1,9 @@
 -- Calls of a seat, one after the other; and polls that found nothing, until one answers.
-use Rattle.std.proofs.Common.{◌≡◌, ℕ, zero, suc, List, [], ◌∷◌, ◌++◌, refl, ap, ◌∙◌, subst, replicate}
-use Rattle.std.proofs.Common.{Result, Ok, Err, Some, None, rules}
+use Rattle.std.proofs.Common.{◌≡◌, ℕ, zero, suc, List, [], ◌∷◌, ◌++◌, refl, ap, ◌∙◌, subst, replicate, Result, Ok, Err}
+use Rattle.std.proofs.Common.{Some, None, rules}
 use Rattle.std.proofs.lemmas.List.{append_assoc}
-use Rattle.ref_share.proofs.Common.{TurnsSpent, entry, Extends, Longer, Entry, View, empty_polls, QueueView}
-use Rattle.ref_share.proofs.Common.{QueueEntry, Made, Took, Closed, ShareFault, Refused}
+use Rattle.ref_share.proofs.Common.{TurnsSpent, entry, Extends, Longer, Entry, View, empty_polls, QueueView, QueueEntry}
+use Rattle.ref_share.proofs.Common.{Made, Took, Closed, ShareFault, Refused}
 use Rattle.ref_queue.specs.declared.queue.Polled.TheVariants as answers
 use Rattle.ref_share.specs.QueueCalls.{PollsOnce, PollsTo, polled}
 use Rattle.ref_share.specs.declared.answers.Polled.{Polled}

@@ -3,9 +3,9 @@ use Rattle.std.proofs.Common.{◌≡◌, ℕ, List, [], ◌∷◌, ◌++◌, Opt
 use Rattle.std.specs.Prelude.{slice_index_or}
 use Rattle.std.specs.List.{AllByRecursion}
 use Rattle.std.proofs.lemmas.List.{append-nil}
-use Rattle.ref_share.proofs.Common.{State, Object, NamedStep, Pending, World, new_queue, Config, Reply}
-use Rattle.ref_share.proofs.Common.{Row, Step, entry, HeldNotice, as_notice, told_reply, HeapState, IsHeapMove}
-use Rattle.ref_share.proofs.Common.{HeapEntry, IsHeapRun, first_heap_state, world_step, row_of, rows_of}
+use Rattle.ref_share.proofs.Common.{State, Object, NamedStep, Pending, World, new_queue, Config, Reply, Row, Step}
+use Rattle.ref_share.proofs.Common.{entry, HeldNotice, as_notice, told_reply, HeapState, IsHeapMove, HeapEntry}
+use Rattle.ref_share.proofs.Common.{IsHeapRun, first_heap_state, world_step, row_of, rows_of}
 use Rattle.ref_base.specs.CollectorRows.{IsHeapRow, IsRow, with_handed}
 use Rattle.ref_base.specs.Provenance.{IsProven}
 use Rattle.ref_base.specs.QueueLists.{Lists}

@@ -1,7 +1,6 @@
 -- What a seat of a shared queue may have called, by what its call answers, and what not: queue 0, in which the notice
 -- of reference 2 is put.
-use Rattle.std.proofs.Common.{ℕ, ◌-◌, ◌^◌, List, [], ◌∷◌, Some, Ok, Err, true, false, refl, ap}
-use Rattle.std.proofs.Common.{arith, map}
+use Rattle.std.proofs.Common.{ℕ, ◌-◌, ◌^◌, List, [], ◌∷◌, Some, Ok, Err, true, false, refl, ap, arith, map}
 use Rattle.ref_share.proofs.Common.{new_queue, Own, TurnsSpent, HeldNotice, entry, Idle, PutsNotice, PollsUntil}
 use Rattle.ref_share.proofs.Common.{QueueView, QueueEntry, Took, Closed, Busy}
 use Rattle.ref_queue.specs.declared.queue.Polled.TheVariants as answers

@@ -1,10 +1,9 @@
 -- The history of a queue: its lists are those of its entries.
-use Rattle.std.proofs.Common.{◌≡◌, ℕ, Bool, true, false, ◌||◌, List, [], ◌∷◌, ◌++◌, length, Ok, Err}
-use Rattle.std.proofs.Common.{refl, sym, ap, ◌∙◌, subst}
+use Rattle.std.proofs.Common.{◌≡◌, ℕ, Bool, true, false, ◌||◌, List, [], ◌∷◌, ◌++◌, length, Ok, Err, refl, sym, ap, ◌∙◌}
+use Rattle.std.proofs.Common.{subst}
 use Rattle.std.specs.List.{IsDistinct}
 use Rattle.std.specs.Prelude.{nat_eq}
-use Rattle.ref_share.proofs.Common.{new_queue, HeldNotice, Leads, entry, IsQueueMove, QueueEntry, QueueStep}
-use Rattle.ref_share.proofs.Common.{QueueReply}
+use Rattle.ref_share.proofs.Common.{new_queue, HeldNotice, Leads, entry, IsQueueMove, QueueEntry, QueueStep, QueueReply}
 use Rattle.ref_base.proofs.LegalQueues.{distinct_nil}
 use Rattle.ref_base.proofs.QueueMoves.{QueueMoves, moves_nothing, moves_more, moves_added, moves_took, moves_closed}
 use Rattle.ref_queue.specs.declared.queue.Put.TheVariants as puts

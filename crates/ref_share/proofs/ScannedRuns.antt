@@ -4,9 +4,8 @@ use Rattle.std.proofs.Common.{◌≡◌, ℕ, List, [], ◌∷◌, ◌++◌, Som
 use Rattle.std.specs.Prelude.{nat_eq}
 use Rattle.std.specs.List.{IsDistinct}
 use Rattle.std.proofs.lemmas.Bool.{false≢true}
-use Rattle.ref_share.proofs.Common.{State, NamedStep, scanned_in_cycle, Config, Reply, Row, told_reply}
-use Rattle.ref_share.proofs.Common.{HeapState, IsHeapMove, HeapEntry, IsHeapRun, world_step, row_of}
-use Rattle.ref_share.proofs.Common.{rows_of}
+use Rattle.ref_share.proofs.Common.{State, NamedStep, scanned_in_cycle, Config, Reply, Row, told_reply, HeapState}
+use Rattle.ref_share.proofs.Common.{IsHeapMove, HeapEntry, IsHeapRun, world_step, row_of, rows_of}
 use Rattle.ref_base.specs.CollectorRows.{IsLeft}
 use Rattle.ref_base.specs.ScannedRows.{scanned_with, scanned_from}
 use Rattle.ref_base.specs.declared.fault.Fault.TheVariants.{GreyLeft}
@@ -14,8 +13,7 @@ use Rattle.ref_base.specs.declared.heap_step.HeapStep.TheVariants as heap
 use Rattle.ref_base.specs.declared.reply.Reply.TheVariants as told
 use Rattle.ref_base.proofs.LeftObjects.{LeftMeans, heap_left}
 use Rattle.ref_base.proofs.HeapTurns.{renumbered, heap_kind}
-use Rattle.ref_base.proofs.ScannedOnce.{HasScanned, first_scanned, scanned_then, turn_scanned}
-use Rattle.ref_base.proofs.ScannedOnce.{left_if_grey}
+use Rattle.ref_base.proofs.ScannedOnce.{HasScanned, first_scanned, scanned_then, turn_scanned, left_if_grey}
 use Rattle.ref_world.specs.declared.heap_machine.HeapReply.TheVariants as replies
 use Rattle.ref_share.proofs.HeapRows.{rows_last}
 use Rattle.ref_share.proofs.HeapRuns.{move_turn, run_holds}

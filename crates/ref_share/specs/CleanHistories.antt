@@ -1,7 +1,6 @@
 -- Which jobs the history of a cleaner registers and takes, read off its entries alone (an action runs at most once:
 -- Java SE 17 `java.lang.ref.Cleaner`; the entries are this project's profile).
-use Rattle.std.specs.Prelude.{ℕ, Bool, false, ◌||◌, nat_eq, if◌then◌else◌}
-use Rattle.std.specs.Prelude.{List, [], ◌∷◌, Option, Some, None, Ok}
+use Rattle.std.specs.Prelude.{ℕ, Bool, false, ◌||◌, nat_eq, if◌then◌else◌, List, [], ◌∷◌, Option, Some, None, Ok}
 use Rattle.ref_turn.specs.declared.history.Entry.{Entry}
 use Rattle.ref_share.specs.declared.clean_machine.CleanStep.{CleanStep}
 use Rattle.ref_share.specs.declared.clean_machine.CleanStep.TheVariants as steps

@@ -1,6 +1,5 @@
 -- What a call of a seat has made, and why it made nothing.
-use Rattle.std.specs.Prelude.{◌≡◌, ◌≢◌, ◌-◌, ◌^◌, List, ◌++◌}
-use Rattle.std.specs.Prelude.{Option, Some, None, Result, Ok, Err}
+use Rattle.std.specs.Prelude.{◌≡◌, ◌≢◌, ◌-◌, ◌^◌, List, ◌++◌, Option, Some, None, Result, Ok, Err}
 use Rattle.ref_base.specs.declared.fault.Fault.{Fault}
 use Rattle.ref_base.specs.declared.fault.Fault.TheVariants.{NoMemory}
 use Rattle.ref_turn.specs.History.{calls_by, StartsWith}

@@ -1,7 +1,7 @@
 -- What a worker's thread hands on and puts into queues, read off the calls of its own seats (this project's profile;
 -- Java SE 17 `java.lang.ref` says of no order).
-use Rattle.std.specs.Prelude.{◌≡◌, ℕ, zero, suc, ◌<◌, ◌⊎◌, ◌==◌, ◌&&◌, Bool, true, false, if◌then◌else◌}
-use Rattle.std.specs.Prelude.{List, [], ◌∷◌, ◌++◌, length, slice_get, Some, Result, Err}
+use Rattle.std.specs.Prelude.{◌≡◌, ℕ, zero, suc, ◌<◌, ◌⊎◌, ◌==◌, ◌&&◌, Bool, true, false, if◌then◌else◌, List, [], ◌∷◌}
+use Rattle.std.specs.Prelude.{◌++◌, length, slice_get, Some, Result, Err}
 use Rattle.ref_base.specs.ClearingOrder.{is_by}
 use Rattle.ref_base.specs.HeapSteps.{NamedStep}
 use Rattle.ref_base.specs.declared.fault.Fault.TheVariants.{TurnsSpent}

@@ -23,6 +23,6 @@ pub use Rattle.ref_clear.specs.Standing.{HeapStands}
 pub use Rattle.ref_world.specs.AskedSteps.{received}
 pub use Rattle.ref_world.specs.Cores.{Core, Hands, calling_refusal, emptying_refusal, filling_refusal, hand_in}
 pub use Rattle.ref_world.specs.Cores.{has_hand, queue_refusal, with_hand_in}
-pub use Rattle.ref_world.specs.WorldHeaps.{WorldHeap, cycles_of, heap_no_of, heap_of}
+pub use Rattle.ref_world.specs.WorldHeaps.{WorldHeap, cycles_of, heap_no_of, model_heap}
 pub use Rattle.ref_world.specs.Runs.{RunsFrom, steps_of}
 pub use Rattle.ref_world.specs.Standing.{IsReached, IsRowOf, IsSound, Stands}

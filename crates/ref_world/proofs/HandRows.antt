@@ -4,7 +4,7 @@ use Rattle.ref_world.proofs.Common.{has, told_notice, Notice, hand_of, unless, u
 use Rattle.ref_world.proofs.Common.{has_slot, drop_refusal, Actor, Mutator, Worker, NoSuchActor, Reply, unless_refused}
 use Rattle.ref_world.proofs.Common.{WorldHeap, answer_in, after_in, received, Core, Hands, hand_in, with_hand_in}
 use Rattle.ref_world.proofs.Common.{has_hand, filling_refusal, emptying_refusal, IsReached, IsRowOf, heap_no_of}
-use Rattle.ref_world.proofs.Common.{heap_of}
+use Rattle.ref_world.proofs.Common.{model_heap}
 use Rattle.ref_base.specs.HeapSteps.{hold_of, spending}
 use Rattle.ref_base.specs.declared.fault.Fault.TheVariants.{ForeignHold}
 use Rattle.ref_base.specs.declared.heap_step.HoldName.{HoldName}
@@ -69,17 +69,17 @@ module _ (c : Core) (reached : IsReached c) where
   zero_no = reached.stands.number
 
   counted : (who : Actor) (notice : Notice) → has_hand c.hands who ≡ true → hand_in c.hands who ≡ Some notice
-      → ((0 == (heap_no_of c.heap)) && has (heap_of c.heap).holds notice.object) ≡ true
+      → ((0 == (heap_no_of c.heap)) && has (model_heap c.heap).holds notice.object) ≡ true
   counted who notice there full = rw (zero_no, hand_is_counted c reached who notice there full) refl
 
-  pub adopted_reply : (m d : ℕ) (notice : Notice) → drop_refusal (heap_of c.heap) m d ≡ None
+  pub adopted_reply : (m d : ℕ) (notice : Notice) → drop_refusal (model_heap c.heap) m d ≡ None
       → has_hand c.hands (Mutator m) ≡ true → hand_in c.hands (Mutator m) ≡ Some notice
       → answer_in c.heap (heap.Adopt m d (hold_of notice)) ≡ replies.Object notice.object
   adopted_reply m d notice slot there full =
-      let within = unless_passes (has_slot (heap_of c.heap) m d) NoSuchActor None slot in
+      let within = unless_passes (has_slot (model_heap c.heap) m d) NoSuchActor None slot in
       ap (λ refused. unless_refused refused replies.Refused (replies.Object notice.object))
       (ap (λ test. unless test NoSuchActor
-      (unless ((0 == (heap_no_of c.heap)) && has (heap_of c.heap).holds notice.object) ForeignHold None)) within.0
+      (unless ((0 == (heap_no_of c.heap)) && has (model_heap c.heap).holds notice.object) ForeignHold None)) within.0
       ∙ ap (λ test. unless test ForeignHold None) (counted (Mutator m) notice there full))
 
   pub released_reply : (who : Actor) (notice : Notice)
@@ -89,7 +89,7 @@ module _ (c : Core) (reached : IsReached c) where
       ap (λ refused. unless_refused refused replies.Refused replies.Done)
       (ap (λ test. unless test ForeignHold None) (counted who notice there full))
 
-  adopt_row : (m d : ℕ) (notice : Notice) → drop_refusal (heap_of c.heap) m d ≡ None
+  adopt_row : (m d : ℕ) (notice : Notice) → drop_refusal (model_heap c.heap) m d ≡ None
       → has_hand c.hands (Mutator m) ≡ true → hand_in c.hands (Mutator m) ≡ Some notice
       → IsRowOf c (steps.Adopt m d) (replies.Object notice.object)
       (asked_core c (heap.Adopt m d (hold_of notice)) (with_hand_in c.hands (Mutator m) None))
@@ -121,7 +121,7 @@ module _ (c : Core) (reached : IsReached c) where
   -- ---- as the calls tell it
 
   pub adopt_reply : (m d : ℕ) (notice : Notice) (hold : HoldName) (reply : Reply)
-      → drop_refusal (heap_of c.heap) m d ≡ None
+      → drop_refusal (model_heap c.heap) m d ≡ None
       → emptying_refusal c.hands (Mutator m) ≡ None → hand_in c.hands (Mutator m) ≡ Some notice → hold ≡ hold_of notice
       → reply ≡ answer_in c.heap (heap.Adopt m d hold) → reply ≡ replies.Object notice.object
   adopt_reply m d notice hold reply slot accepted full is answers =
@@ -129,7 +129,7 @@ module _ (c : Core) (reached : IsReached c) where
       ∙ adopted_reply m d notice slot (there_from c.hands (Mutator m) accepted) full
 
   pub adopt_done : (m d : ℕ) (notice : Notice) (hold : HoldName) {reply : Reply} {k : WorldHeap} {hands : Hands}
-      → drop_refusal (heap_of c.heap) m d ≡ None
+      → drop_refusal (model_heap c.heap) m d ≡ None
       → emptying_refusal c.hands (Mutator m) ≡ None → hand_in c.hands (Mutator m) ≡ Some notice → hold ≡ hold_of notice
       → reply ≡ answer_in c.heap (heap.Adopt m d hold) → k ≡ after_in c.heap (heap.Adopt m d hold)
       → hands ≡ with_hand_in c.hands (Mutator m) None

@@ -8,7 +8,7 @@ use Rattle.ref_world.proofs.Common.{Lists, enqueued, with_parcel, with_taken, ne
 use Rattle.ref_world.proofs.Common.{hand_of, with_hand, refusal, is_mutator, is_queue, is_actor, State, with_world}
 use Rattle.ref_world.proofs.Common.{IsRow, Actor, Mutator, Worker, Fault, NoSuchActor, BadQueue, Reply, Step, WorldHeap}
 use Rattle.ref_world.proofs.Common.{HeapStands, Core, Hands, hand_in, with_hand_in, emptying_refusal, calling_refusal}
-use Rattle.ref_world.proofs.Common.{queue_refusal, Stands, IsReached, IsRowOf, cycles_of, heap_of}
+use Rattle.ref_world.proofs.Common.{queue_refusal, Stands, IsReached, IsRowOf, cycles_of, model_heap}
 use Rattle.ref_base.specs.QueueLists.{was_put}
 use Rattle.ref_base.specs.Worlds.{queue_at, with_queue}
 use Rattle.ref_base.specs.Replay.{put_in, took, taken_out, notice_of, without_notice, closed_queue}
@@ -257,8 +257,8 @@ module _ (c : Core) (m q : ℕ) (lists : Lists Notice) (accepted : calling_refus
     (here : lists ≡ queue_in c q) where
   called : (a : State) → Stands c a → (is_mutator a.world.heap m ≡ true) × (is_queue a.world.heap q ≡ true)
   called a stands =
-      let mutator = unless_passes (is_mutator (heap_of c.heap) m) NoSuchActor (queue_refusal c q) accepted in
-      let queue = unless_passes (is_queue (heap_of c.heap) q) BadQueue None mutator.1 in
+      let mutator = unless_passes (is_mutator (model_heap c.heap) m) NoSuchActor (queue_refusal c q) accepted in
+      let queue = unless_passes (is_queue (model_heap c.heap) q) BadQueue None mutator.1 in
       (same_mutators c a stands m ∙ mutator.0, same_queues c a stands q ∙ queue.0)
 
   poll_answer : (a : State) (reply : Reply) (b : State) → Stands c a → hand_in c.hands (Mutator m) ≡ None

@@ -2,7 +2,8 @@
 use Rattle.std.proofs.Common.{◌≡◌, ◌<◌, true, List, [], ◌∷◌, ◌++◌, length, Option, Some, None, ap, sym, subst, ◌∙◌}
 use Rattle.std.specs.Prelude.{slice_index_or, nat_lt}
 use Rattle.ref_world.proofs.Common.{has, Lists, Notice, hand_of, is_actor, State, first_state, Actor, Mutator, Worker}
-use Rattle.ref_world.proofs.Common.{Config, Reply, Step, Core, has_hand, hand_in, Stands, IsRowOf, IsReached, heap_of}
+use Rattle.ref_world.proofs.Common.{Config, Reply, Step, Core, has_hand, hand_in, Stands, IsRowOf, IsReached}
+use Rattle.ref_world.proofs.Common.{model_heap}
 use Rattle.ref_base.specs.Heaps.{Heap}
 use Rattle.ref_base.specs.CountedHolds.{AreCounted}
 use Rattle.ref_base.proofs.CountedTraces.{legal_counted}
@@ -13,10 +14,10 @@ use Rattle.ref_base.proofs.RunLaws.{run_more}
 use Rattle.ref_base.proofs.SoundWorlds.{IsSound, NoticeBelow, first_sound}
 
 -- the heap as the state has it has the core's configuration and holds
-pub same_config : (c : Core) (a : State) → Stands c a → a.world.heap.config ≡ (heap_of c.heap).config
+pub same_config : (c : Core) (a : State) → Stands c a → a.world.heap.config ≡ (model_heap c.heap).config
 same_config c a stands = ap (λ (h : Heap). h.config) stands.heap.mark.heap
 
-pub same_holds : (c : Core) (a : State) → Stands c a → a.world.heap.holds ≡ (heap_of c.heap).holds
+pub same_holds : (c : Core) (a : State) → Stands c a → a.world.heap.holds ≡ (model_heap c.heap).holds
 same_holds c a stands = ap (λ (h : Heap). h.holds) stands.heap.mark.heap
 
 pub same_hand : (c : Core) (a : State) → Stands c a → (who : Actor) → hand_of a.world who ≡ hand_in c.hands who
@@ -44,11 +45,11 @@ module _ (c : Core) (reached : IsReached c) where
   counted : AreCounted reached.state.world
   counted = legal_counted reached.config reached.rows reached.state reached.run
 
-  config : reached.state.world.heap.config ≡ (heap_of c.heap).config
+  config : reached.state.world.heap.config ≡ (model_heap c.heap).config
   config = same_config c reached.state reached.stands
 
   -- there is a hand for each actor, and no other
-  pub same_actors : (who : Actor) → has_hand c.hands who ≡ is_actor (heap_of c.heap) who
+  pub same_actors : (who : Actor) → has_hand c.hands who ≡ is_actor (model_heap c.heap) who
   same_actors (Mutator m) =
       ap (λ (hs : List (Option Notice)). nat_lt m (length hs)) (sym reached.stands.mutator_hands)
       ∙ ap (nat_lt m) sound.mutator_hands ∙ ap (λ (f : Config). nat_lt m f.mutators) config
@@ -57,14 +58,14 @@ module _ (c : Core) (reached : IsReached c) where
       ∙ ap (nat_lt k) sound.worker_hands ∙ ap (λ (f : Config). nat_lt k f.workers) config
 
   -- and each queue of the configuration
-  pub queue_count : length c.queues ≡ (heap_of c.heap).config.queues
+  pub queue_count : length c.queues ≡ (model_heap c.heap).config.queues
   queue_count =
       ap (λ (qs : List (Lists Notice)). length qs) (sym reached.stands.queues) ∙ sound.queues
       ∙ ap (λ (f : Config). f.queues) config
 
   -- a notice in a hand is a hold that the heap counts, and is for a queue that is there
   pub hand_is_counted : (who : Actor) (notice : Notice) → has_hand c.hands who ≡ true
-      → hand_in c.hands who ≡ Some notice → has (heap_of c.heap).holds notice.object ≡ true
+      → hand_in c.hands who ≡ Some notice → has (model_heap c.heap).holds notice.object ≡ true
   hand_is_counted who notice there full =
       subst (λ ns. has ns notice.object ≡ true) (same_holds c reached.state reached.stands)
       (counted_hand reached.state.world who notice

@@ -7,7 +7,7 @@ use Rattle.ref_world.proofs.Common.{Notice, hand_of, unless, unless_full, empty_
 use Rattle.ref_world.proofs.Common.{is_mutator, is_queue, drop_refusal, heap_refusal, refusal, State, Actor, Mutator}
 use Rattle.ref_world.proofs.Common.{Worker, Config, Fault, NoSuchActor, BadQueue, Step, Core, hand_in, has_hand}
 use Rattle.ref_world.proofs.Common.{filling_refusal, emptying_refusal, calling_refusal, queue_refusal, Stands}
-use Rattle.ref_world.proofs.Common.{IsReached, IsRowOf, heap_of}
+use Rattle.ref_world.proofs.Common.{IsReached, IsRowOf, model_heap}
 use Rattle.ref_base.specs.declared.heap_step.HeapStep.TheVariants as heap
 use Rattle.ref_base.specs.declared.reply.Reply.TheVariants as replies
 use Rattle.ref_base.specs.declared.step.Step.TheVariants as steps
@@ -49,16 +49,16 @@ called false queue told later is = is
 -- ---- what the state refuses as the core does
 
 module _ (c : Core) (a : State) (stands : Stands c a) where
-  pub same_slots : (m s : ℕ) → has_slot a.world.heap m s ≡ has_slot (heap_of c.heap) m s
+  pub same_slots : (m s : ℕ) → has_slot a.world.heap m s ≡ has_slot (model_heap c.heap) m s
   same_slots m s = ap (λ (f : Config). nat_lt m f.mutators && nat_lt s 16) (same_config c a stands)
 
-  pub same_mutators : (m : ℕ) → is_mutator a.world.heap m ≡ is_mutator (heap_of c.heap) m
+  pub same_mutators : (m : ℕ) → is_mutator a.world.heap m ≡ is_mutator (model_heap c.heap) m
   same_mutators m = ap (λ (f : Config). nat_lt m f.mutators) (same_config c a stands)
 
-  pub same_queues : (q : ℕ) → is_queue a.world.heap q ≡ is_queue (heap_of c.heap) q
+  pub same_queues : (q : ℕ) → is_queue a.world.heap q ≡ is_queue (model_heap c.heap) q
   same_queues q = ap (λ (f : Config). nat_lt q f.queues) (same_config c a stands)
 
-  pub same_actor : (who : Actor) → is_actor a.world.heap who ≡ is_actor (heap_of c.heap) who
+  pub same_actor : (who : Actor) → is_actor a.world.heap who ≡ is_actor (model_heap c.heap) who
   same_actor (Mutator m) = same_mutators m
   same_actor (Worker k) = ap (λ (f : Config). nat_lt k f.workers) (same_config c a stands)
 
@@ -70,21 +70,21 @@ pub refused_row : (c : Core) (step : Step) (fault : Fault)
 refused_row c step fault refuses a stands = (a, rw (refuses a stands) (refl, refl), stands)
 
 -- by a slot that isn't there
-no_slot : (c : Core) (m s : ℕ) (fault : Fault) → drop_refusal (heap_of c.heap) m s ≡ Some fault
+no_slot : (c : Core) (m s : ℕ) (fault : Fault) → drop_refusal (model_heap c.heap) m s ≡ Some fault
     → (later : Option Fault) (a : State) → Stands c a
     → unless (has_slot a.world.heap m s) NoSuchActor later ≡ Some fault
 no_slot c m s fault refused later a stands =
-    let fails = unless_fails (has_slot (heap_of c.heap) m s) NoSuchActor fault refused in
+    let fails = unless_fails (has_slot (model_heap c.heap) m s) NoSuchActor fault refused in
     ap (λ test. unless test NoSuchActor later) (same_slots c a stands m s ∙ fails.0) ∙ fails.1
 
-pub no_slot_of_unhook : (c : Core) (m s : ℕ) (fault : Fault) → drop_refusal (heap_of c.heap) m s ≡ Some fault
+pub no_slot_of_unhook : (c : Core) (m s : ℕ) (fault : Fault) → drop_refusal (model_heap c.heap) m s ≡ Some fault
     → IsRowOf c (steps.Unhook m s) (replies.Refused fault) c
 no_slot_of_unhook c m s fault refused =
     refused_row c (steps.Unhook m s) fault (λ a stands.
     no_slot c m s fault refused (unless_full (hand_of a.world (Mutator m)) (heap_refusal 0 a (heap.Unhook m s)))
     a stands)
 
-pub no_slot_of_adopt : (c : Core) (m d : ℕ) (fault : Fault) → drop_refusal (heap_of c.heap) m d ≡ Some fault
+pub no_slot_of_adopt : (c : Core) (m d : ℕ) (fault : Fault) → drop_refusal (model_heap c.heap) m d ≡ Some fault
     → IsRowOf c (steps.Adopt m d) (replies.Refused fault) c
 no_slot_of_adopt c m d fault refused =
     refused_row c (steps.Adopt m d) fault (λ a stands.
@@ -97,7 +97,7 @@ module _ (c : Core) (m q : ℕ) where
   no_queue_of_poll fault refused =
       refused_row c (steps.Poll m q) fault (λ a stands.
       rw (same_mutators c a stands m, same_queues c a stands q)
-      (called (is_mutator (heap_of c.heap) m) (is_queue (heap_of c.heap) q) fault
+      (called (is_mutator (model_heap c.heap) m) (is_queue (model_heap c.heap) q) fault
       (unless_full (hand_of a.world (Mutator m)) None) refused))
 
   pub no_queue_of_close : (fault : Fault) → calling_refusal c m q ≡ Some fault
@@ -121,15 +121,15 @@ module _ (c : Core) (reached : IsReached c) where
       rw (same_actor c a stands who ∙ sym (same_actors c reached who), same_hand c a stands who) refused
 
   -- the mutator of a slot that is there
-  with_slot : (m s : ℕ) → drop_refusal (heap_of c.heap) m s ≡ None → (a : State) → Stands c a
+  with_slot : (m s : ℕ) → drop_refusal (model_heap c.heap) m s ≡ None → (a : State) → Stands c a
       → (has_slot a.world.heap m s ≡ true) × (is_mutator a.world.heap m ≡ true)
   with_slot m s slot a stands =
-      let there = (unless_passes (has_slot (heap_of c.heap) m s) NoSuchActor None slot).0 in (
+      let there = (unless_passes (has_slot (model_heap c.heap) m s) NoSuchActor None slot).0 in (
         same_slots c a stands m s ∙ there,
-        same_mutators c a stands m ∙ (and_parts (is_mutator (heap_of c.heap) m) (nat_lt s 16) there).0,
+        same_mutators c a stands m ∙ (and_parts (is_mutator (model_heap c.heap) m) (nat_lt s 16) there).0,
       )
 
-  pub full_at_unhook : (m s : ℕ) (fault : Fault) → drop_refusal (heap_of c.heap) m s ≡ None
+  pub full_at_unhook : (m s : ℕ) (fault : Fault) → drop_refusal (model_heap c.heap) m s ≡ None
       → filling_refusal c.hands (Mutator m) ≡ Some fault → IsRowOf c (steps.Unhook m s) (replies.Refused fault) c
   full_at_unhook m s fault slot refused =
       refused_row c (steps.Unhook m s) fault (λ a stands.
@@ -149,8 +149,8 @@ module _ (c : Core) (reached : IsReached c) where
       → filling_refusal c.hands (Mutator m) ≡ Some fault → IsRowOf c (steps.Poll m q) (replies.Refused fault) c
   full_at_poll m q fault called refused =
       refused_row c (steps.Poll m q) fault (λ a stands.
-      let mutator = unless_passes (is_mutator (heap_of c.heap) m) NoSuchActor (queue_refusal c q) called in
-      let queue = unless_passes (is_queue (heap_of c.heap) q) BadQueue None mutator.1 in
+      let mutator = unless_passes (is_mutator (model_heap c.heap) m) NoSuchActor (queue_refusal c q) called in
+      let queue = unless_passes (is_queue (model_heap c.heap) q) BadQueue None mutator.1 in
       let there : is_mutator a.world.heap m ≡ true = same_mutators c a stands m ∙ mutator.0 in
       rw (there, same_queues c a stands q ∙ queue.0)
       (subst (λ test. unless test NoSuchActor (unless_full (hand_of a.world (Mutator m)) None) ≡ Some fault) there
@@ -159,11 +159,11 @@ module _ (c : Core) (reached : IsReached c) where
   -- the queue of an accepted call is there
   pub queue_within : (m q : ℕ) → calling_refusal c m q ≡ None → q < length c.queues
   queue_within m q called =
-      let mutator = unless_passes (is_mutator (heap_of c.heap) m) NoSuchActor (queue_refusal c q) called in
-      let queue = unless_passes (is_queue (heap_of c.heap) q) BadQueue None mutator.1 in
-      rw (queue_count c reached) (ltb-true q (heap_of c.heap).config.queues queue.0)
+      let mutator = unless_passes (is_mutator (model_heap c.heap) m) NoSuchActor (queue_refusal c q) called in
+      let queue = unless_passes (is_queue (model_heap c.heap) q) BadQueue None mutator.1 in
+      rw (queue_count c reached) (ltb-true q (model_heap c.heap).config.queues queue.0)
 
-  pub empty_at_adopt : (m d : ℕ) (fault : Fault) → drop_refusal (heap_of c.heap) m d ≡ None
+  pub empty_at_adopt : (m d : ℕ) (fault : Fault) → drop_refusal (model_heap c.heap) m d ≡ None
       → emptying_refusal c.hands (Mutator m) ≡ Some fault → IsRowOf c (steps.Adopt m d) (replies.Refused fault) c
   empty_at_adopt m d fault slot refused =
       refused_row c (steps.Adopt m d) fault (λ a stands.

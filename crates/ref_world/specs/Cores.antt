@@ -9,7 +9,7 @@ use Rattle.ref_base.specs.declared.fault.Fault.{Fault}
 use Rattle.ref_base.specs.declared.fault.Fault.TheVariants.{NoSuchActor, BadQueue}
 use Rattle.ref_base.specs.Refusals.{unless, unless_full, empty_hand_refusal, is_mutator, is_queue}
 use Rattle.ref_clear.specs.ClearHeaps.{HeldNotice, first_clear_heap}
-use Rattle.ref_world.specs.WorldHeaps.{WorldHeap, heap_of}
+use Rattle.ref_world.specs.WorldHeaps.{WorldHeap, model_heap}
 
 -- the hands of mutators and of workers, each in the order of their numbers
 pub record Hands : Type 0 where
@@ -67,8 +67,8 @@ core_queue_at c q = slice_index_or c.queues q (new_queue q)
 
 -- BadQueue where there is no queue of this number
 abbrev pub queue_refusal : Core → ℕ → Option Fault
-queue_refusal c q = unless (is_queue (heap_of c.heap) q) BadQueue None
+queue_refusal c q = unless (is_queue (model_heap c.heap) q) BadQueue None
 
 -- of a mutator that names a queue: NoSuchActor, then BadQueue
 abbrev pub calling_refusal : Core → ℕ → ℕ → Option Fault
-calling_refusal c m q = unless (is_mutator (heap_of c.heap) m) NoSuchActor (queue_refusal c q)
+calling_refusal c m q = unless (is_mutator (model_heap c.heap) m) NoSuchActor (queue_refusal c q)

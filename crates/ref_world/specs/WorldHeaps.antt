@@ -9,8 +9,8 @@ abbrev pub WorldHeap : Type 0
 WorldHeap = ClearHeap
 
 -- its objects, slots, holds and clock
-abbrev pub heap_of : WorldHeap → Heap
-heap_of h = h.mark.heap
+abbrev pub model_heap : WorldHeap → Heap
+model_heap h = h.mark.heap
 
 -- its number
 abbrev pub heap_no_of : WorldHeap → ℕ

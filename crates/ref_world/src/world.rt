@@ -8,7 +8,7 @@ ghost use Rattle.ref_objects.specs.Grounds.{starting_refusal, IsMade, IsRefused}
 ghost use Rattle.ref_base.specs.QueueLists.{new_queues};
 ghost use Rattle.ref_world.specs.Cores.{first_core, core_queue_at, queue_refusal};
 ghost use Rattle.ref_world.specs.Standing.{Stands, IsRowOf};
-ghost use Rattle.ref_world.specs.WorldHeaps.{heap_of};
+ghost use Rattle.ref_world.specs.WorldHeaps.{model_heap};
 
 mod queues;
 mod steps;
@@ -69,8 +69,8 @@ impl<A: Allocator + Copy> World<A> {
 
     /// The reference in a slot. Tried in this order: `NoSuchActor`, `EmptySlot`, `NotAReference`. In logarithmic time.
     pub fn ref_in(&self, mutator: MutNo, slot: SlotNo) -> Result<ObjNo, Fault>
-        ensures refused { IsRefused (clear_refusal (heap_of self.now.heap) mutator slot) result }
-        ensures answer { IfOk result (λ no. slot_at (heap_of self.now.heap) mutator slot ≡ Some no) }
+        ensures refused { IsRefused (clear_refusal (model_heap self.now.heap) mutator slot) result }
+        ensures answer { IfOk result (λ no. slot_at (model_heap self.now.heap) mutator slot ≡ Some no) }
     {
         let no = self.heap.slot_of(mutator, slot)?.ok_or(Fault::EmptySlot)?;
         match self.heap.kind_of(no) {

@@ -13,8 +13,7 @@ pub use Rattle.ref_base.specs.declared.reply.Reply.TheVariants.{Done, Refused}
 pub use Rattle.ref_base.specs.declared.step.Step.{Step}
 pub use Rattle.ref_base.specs.declared.step.Step.TheVariants.{Adopt, Begin, Clear, ClearNext, Close, Copy, Drop}
 pub use Rattle.ref_base.specs.declared.step.Step.TheVariants.{EndClear, EndMark, EndSweep, Get, Hand, Load, New, Poll}
-pub use Rattle.ref_base.specs.declared.step.Step.TheVariants.{Put, Refer, RefersTo, Release, Scan, Store, Sweep}
-pub use Rattle.ref_base.specs.declared.step.Step.TheVariants.{Unhook}
+pub use Rattle.ref_base.specs.declared.step.Step.TheVariants.{Put, Refer, RefersTo, Release, Scan, Store, Sweep, Unhook}
 pub use Rattle.ref_base.specs.declared.strength.Strength.{Strength}
 pub use Rattle.ref_base.specs.declared.strength.Strength.TheVariants.{Phantom, Soft, Weak}
 pub use Rattle.ref_base.specs.declared.urgency.Urgency.{Urgency}

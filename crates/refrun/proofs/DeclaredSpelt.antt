@@ -1,11 +1,11 @@
 -- Words that spell what a line says have no fault.
-use Rattle.std.proofs.Common.{◌≡◌, ℕ, ◌+◌, ◌^◌, ◌≤◌, true, false, nat_lt, List, [], ◌∷◌, length, take, Some, None}
-use Rattle.std.proofs.Common.{refl, arith}
+use Rattle.std.proofs.Common.{◌≡◌, ℕ, ◌+◌, ◌^◌, ◌≤◌, true, false, nat_lt, List, [], ◌∷◌, length, take, Some, None, refl}
+use Rattle.std.proofs.Common.{arith}
 use Rattle.std.proofs.lemmas.Bool.{le-ltb}
 use Rattle.std.proofs.lemmas.List.{take_all}
-use Rattle.refrun.proofs.Common.{Strength, Soft, Weak, Phantom, words_fault, declaration_fault, number_in}
-use Rattle.refrun.proofs.Common.{are_operands, Declared, Root, Plain, Reference, SpellsDeclared, strength_name}
-use Rattle.refrun.proofs.Common.{declared_no, number_below}
+use Rattle.refrun.proofs.Common.{Strength, Soft, Weak, Phantom, words_fault, declaration_fault, number_in, are_operands}
+use Rattle.refrun.proofs.Common.{Declared, Root, Plain, Reference, SpellsDeclared, strength_name, declared_no}
+use Rattle.refrun.proofs.Common.{number_below}
 use Rattle.refrun.proofs.Fields.{object_fits, object_or_none_fits, fields_fit, fields_length}
 
 -- enough words, of their forms, and no more than may stand there

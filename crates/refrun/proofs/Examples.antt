@@ -6,8 +6,7 @@ use Rattle.refrun.proofs.Common.{declaration_fault, Root, Plain, Reference, Spel
 use Rattle.refrun.proofs.Common.{plain_object, ExtraWord, DoubleObject}
 use Rattle.refrun.specs.declared.script_step.ScriptStep.TheVariants as scripts
 use Rattle.ref_base.specs.declared.strength.Strength.TheVariants as strengths
-use Rattle.refrun.specs.declared.fault.LineFault.TheVariants.{UnknownStep, MissingWord, BadWord, BadHeader}
-use Rattle.refrun.specs.declared.fault.LineFault.TheVariants.{UnknownLine}
+use Rattle.refrun.specs.declared.fault.LineFault.TheVariants.{UnknownStep, MissingWord, BadWord, BadHeader, UnknownLine}
 use Rattle.refrun.specs.declared.fault.TextFault.TheVariants.{Line}
 
 -- ---- words and numbers

@@ -11,8 +11,7 @@ use Rattle.refrun.proofs.Common.{DeclareGraph, FailsFor, in_front, fault_from, F
 use Rattle.refrun.proofs.Common.{GraphHeader, Declarations, place_fault, fault_or, first_fault, is_plain_line, told}
 use Rattle.refrun.proofs.Common.{LineFault, DoubleObject, TextFault, Told}
 use Rattle.ref_base.specs.Graphs.{Object, empty_graph, is_there, with_object, reference_object}
-use Rattle.refrun.specs.Declarations.{is_declared}
-use Rattle.refrun.specs.Declarations.{with_declared, with_all}
+use Rattle.refrun.specs.Declarations.{is_declared, with_declared, with_all}
 use Rattle.refrun.specs.GraphReading.{AreNumbersOf, has_object, AddsObject, AddsDeclared, AddsAll, FailsAfter}
 use Rattle.refrun.specs.GraphTexts.{is_graph_header}
 use Rattle.refrun.specs.declared.fault.TextFault.TheVariants as texts

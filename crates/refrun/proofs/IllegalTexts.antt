@@ -1,6 +1,6 @@
 -- Rows and texts that differ in one place from what a script or a graph text prints, and are none of it.
-use Rattle.std.proofs.Common.{◌≡◌, ℕ, ◌+◌, ◌++◌, [], ◌∷◌, List, map, take, Some, None, codes, refl, arith, subst}
-use Rattle.std.proofs.Common.{ap, ◌∙◌, drop, replicate}
+use Rattle.std.proofs.Common.{◌≡◌, ℕ, ◌+◌, ◌++◌, [], ◌∷◌, List, map, take, Some, None, codes, refl, arith, subst, ap}
+use Rattle.std.proofs.Common.{◌∙◌, drop, replicate}
 use Rattle.std.proofs.lemmas.Fmt.{decimal_digit}
 use Rattle.refrun.proofs.Common.{State, first_state, Graph, plain_object, Config, ObjectReach, Refused, New, Refer}
 use Rattle.refrun.proofs.Common.{Copy, Weak, Plain, DeclaresGraph, words_of, PrintsStrengths, listing_text, StageJobs}

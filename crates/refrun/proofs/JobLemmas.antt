@@ -1,6 +1,6 @@
 -- Rows of jobs, from each state that the world stands for.
-use Rattle.std.proofs.Common.{◌≡◌, ℕ, ◌<◌, List, [], ◌∷◌, ◌++◌, length, get_or, Option, Some, None, Ok, Err}
-use Rattle.std.proofs.Common.{refl, sym, ap, ◌∙◌}
+use Rattle.std.proofs.Common.{◌≡◌, ℕ, ◌<◌, List, [], ◌∷◌, ◌++◌, length, get_or, Option, Some, None, Ok, Err, refl, sym}
+use Rattle.std.proofs.Common.{ap, ◌∙◌}
 use Rattle.std.specs.Prelude.{All, HoldsAt, IsPermutation, MatchOption, swap_remove}
 use Rattle.std.specs.List.{AllWithin}
 use Rattle.std.proofs.lemmas.List.Elements.{All-from_all_within}
@@ -17,16 +17,16 @@ use Rattle.ref_mark.proofs.MarkLaws.{on_own_heap}
 use Rattle.ref_queue.specs.CleanTables.{Registry, Registers, Takes}
 use Rattle.ref_queue.specs.declared.job.Ran.{Ran}
 use Rattle.ref_world.specs.Standing.{IsRowOf}
-use Rattle.ref_world.specs.WorldHeaps.{cycles_of, heap_of}
+use Rattle.ref_world.specs.WorldHeaps.{cycles_of, model_heap}
 use Rattle.refrun.specs.declared.script_step.ScriptReply.TheVariants as replies
 use Rattle.refrun.specs.declared.script_step.ScriptStep.TheVariants as scripts
 
 module _ (c : Core) (a : State) (stands : Stands c a) (m s : ℕ) where
   -- what refuses a clear, and what its slot holds, is as the heap has it
-  same_refusal : clear_refusal a.world.heap m s ≡ clear_refusal (heap_of c.heap) m s
+  same_refusal : clear_refusal a.world.heap m s ≡ clear_refusal (model_heap c.heap) m s
   same_refusal = on_own_heap (cycles_of c.heap) a stands.heap.mark (heap.Clear m s)
 
-  same_slot : slot_at a.world.heap m s ≡ slot_at (heap_of c.heap) m s
+  same_slot : slot_at a.world.heap m s ≡ slot_at (model_heap c.heap) m s
   same_slot = ap (λ (h : Heap). slot_at h m s) stands.heap.mark.heap
 
 -- the place of the first of these, if there is one
@@ -71,8 +71,8 @@ module _ {J : Type 0} (number note : J → ℕ) (old new : Core) (before after :
       → IsScriptRowOf number note old before (scripts.World step) (replies.World reply) new after
   world_step_row step reply row same a stands = let next = row a stands in (next.0, (next.1, same), next.2)
 
-  module _ (m s object : ℕ) (refused : clear_refusal (heap_of old.heap) m s ≡ None)
-      (held : slot_at (heap_of old.heap) m s ≡ Some object) where
+  module _ (m s object : ℕ) (refused : clear_refusal (model_heap old.heap) m s ≡ None)
+      (held : slot_at (model_heap old.heap) m s ≡ Some object) where
     -- a job is registered for the reference in the slot
     pub job_row : (n : ℕ) (reply : ScriptReply) → new ≡ old → RegistersStageJob number object n before reply after
         → IsScriptRowOf number note old before (scripts.Job m s n) reply new after
@@ -108,7 +108,7 @@ module _ {J : Type 0} (number note : J → ℕ) (old new : Core) (before after :
         let cleared : IsRow a (record { step = Clear m s; reply = Done }) next.0 = rw answered.1.0 at next.1 in
         (next.0, rw (accepted, same_slot old a stands m s ∙ held) (job, takes, left, ran_is, cleared), next.2)
 
-  module _ (m s : ℕ) (fault : Fault) (refused : clear_refusal (heap_of old.heap) m s ≡ Some fault) (same : new ≡ old)
+  module _ (m s : ℕ) (fault : Fault) (refused : clear_refusal (model_heap old.heap) m s ≡ Some fault) (same : new ≡ old)
       (kept : after ≡ before) where
     -- the slot has no reference
     pub job_refused_row : (n : ℕ)

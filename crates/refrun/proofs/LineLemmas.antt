@@ -1,6 +1,6 @@
 -- How the reading of a text goes on by one line.
-use Rattle.std.proofs.Common.{◌≡◌, ℕ, suc, ◌+◌, ◌≤◌, ◌<◌, Bool, true, false, List, [], ◌∷◌, length, Option}
-use Rattle.std.proofs.Common.{Some, None, OnSome, refl, sym, ap, ◌∙◌, inl, inr, arith}
+use Rattle.std.proofs.Common.{◌≡◌, ℕ, suc, ◌+◌, ◌≤◌, ◌<◌, Bool, true, false, List, [], ◌∷◌, length, Option, Some, None}
+use Rattle.std.proofs.Common.{OnSome, refl, sym, ap, ◌∙◌, inl, inr, arith}
 use Rattle.std.specs.Char.{is_ascii}
 use Rattle.std.specs.Borrow.{Bor}
 use Rattle.std.specs.List.{list_all}

@@ -1,7 +1,7 @@
 -- What the checks of a queue's lists find out, number by number.
-use Rattle.std.proofs.Common.{◌≡◌, ℕ, ◌+◌, ◌<◌, ◌≤◌, zero, suc, nat_eq, ◌==◌, arith, refl, sym, ap, subst, ◌∙◌}
-use Rattle.std.proofs.Common.{Bool, true, false, not, ◌&&◌, ◌||◌, cond, IsTrue, ◌↔◌, inl, inr}
-use Rattle.std.proofs.Common.{List, [], ◌∷◌, ◌++◌, length, get_or, take, drop, map, flat_map, append_assoc}
+use Rattle.std.proofs.Common.{◌≡◌, ℕ, ◌+◌, ◌<◌, ◌≤◌, zero, suc, nat_eq, ◌==◌, arith, refl, sym, ap, subst, ◌∙◌, Bool}
+use Rattle.std.proofs.Common.{true, false, not, ◌&&◌, ◌||◌, cond, IsTrue, ◌↔◌, inl, inr, List, [], ◌∷◌, ◌++◌, length}
+use Rattle.std.proofs.Common.{get_or, take, drop, map, flat_map, append_assoc}
 use Rattle.std.proofs.lemmas.Bool.{cases_Bool, true≢false, ne_eqb, or_cases}
 use Rattle.std.proofs.lemmas.List.{take-append-drop, take_all, take_more, drop_all, get_or-map, length-map}
 use Rattle.std.proofs.lemmas.List.Elements.{All-map}

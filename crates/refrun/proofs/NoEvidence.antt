@@ -1,7 +1,7 @@
 -- What a search of a queue's lists has found out where it tells nothing.
-use Rattle.std.proofs.Common.{◌≡◌, ℕ, ◌+◌, ◌<◌, zero, suc, nat_eq, ◌==◌, refl, sym, ap, subst, ◌∙◌}
-use Rattle.std.proofs.Common.{Bool, true, false, ◌||◌, Option, Some, None, IfNone, inl, inr}
-use Rattle.std.proofs.Common.{List, [], ◌∷◌, ◌++◌, length, get_or, take, drop, map, flat_map, append_assoc, append-nil}
+use Rattle.std.proofs.Common.{◌≡◌, ℕ, ◌+◌, ◌<◌, zero, suc, nat_eq, ◌==◌, refl, sym, ap, subst, ◌∙◌, Bool, true, false}
+use Rattle.std.proofs.Common.{◌||◌, Option, Some, None, IfNone, inl, inr, List, [], ◌∷◌, ◌++◌, length, get_or, take}
+use Rattle.std.proofs.Common.{drop, map, flat_map, append_assoc, append-nil}
 use Rattle.std.proofs.lemmas.Bool.{true≢false, or_cases}
 use Rattle.std.proofs.lemmas.Grind.{flat_map-append}
 use Rattle.std.proofs.lemmas.List.{take_more, take-append-drop}
@@ -87,7 +87,8 @@ distinct-append xs (y ∷ ys) first second none =
 
 -- one more list was looked at
 module _ {X : Type 0} (numbers : X → List ℕ) (xs : List X) where
-  module _ (i : ℕ) (x : X) (ns : List ℕ) (within : i < length xs) (is_x : x ≡ get_or xs i x) (are : ns ≡ numbers x) where
+  module _ (i : ℕ) (x : X) (ns : List ℕ) (within : i < length xs) (is_x : x ≡ get_or xs i x)
+      (are : ns ≡ numbers x) where
     next_list : flat_map numbers (take (i + 1) xs) ≡ flat_map numbers (take i xs) ++ ns
     next_list =
         ap (flat_map numbers) (take_more xs i x within ∙ ap (λ (y : X). take i xs ++ y ∷ []) (sym is_x))

@@ -1,6 +1,6 @@
 -- What the rows of jobs and the checks of a stress run may say at worked states, and what they may not.
-use Rattle.std.proofs.Common.{◌≢◌, ℕ, zero, suc, ◌+◌, ◌<◌, List, [], ◌∷◌, None, Some, get_or, refl, arith}
-use Rattle.std.proofs.Common.{nat_eq, false}
+use Rattle.std.proofs.Common.{◌≢◌, ℕ, zero, suc, ◌+◌, ◌<◌, List, [], ◌∷◌, None, Some, get_or, refl, arith, nat_eq}
+use Rattle.std.proofs.Common.{false}
 use Rattle.std.specs.List.{IsDistinct}
 use Rattle.std.proofs.lemmas.List.Sorted.{IsPermutation-refl}
 use Rattle.refrun.proofs.Common.{IsRow, State, Done, Clear, StageJobs, first_jobs, RegistersStageJob, TookInOrder}

@@ -1,7 +1,6 @@
 -- What is wrong with the words of a line that declares nothing: the first of its faults by kind, and not by place.
 use Rattle.std.specs.Prelude.{ℕ, ◌+◌, ◌^◌, Bool, true, false, not, ◌&&◌, ◌||◌, if◌then◌else◌, nat_lt, List, [], ◌∷◌}
-use Rattle.std.specs.Prelude.{length}
-use Rattle.std.specs.Prelude.{take, Option, Some, None, codes}
+use Rattle.std.specs.Prelude.{length, take, Option, Some, None, codes}
 use Rattle.std.specs.List.{list_all}
 use Rattle.std.specs.Str.{bytes_eq}
 use Rattle.refrun.specs.Numerals.{number_below}

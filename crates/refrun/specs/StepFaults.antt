@@ -1,10 +1,10 @@
 -- What is wrong with the words of a line that spell no step: the first of its faults by kind, and not by place.
-use Rattle.std.specs.Prelude.{ℕ, ◌^◌, Bool, true, false, not, ◌&&◌, ◌||◌, if◌then◌else◌, nat_lt, List, [], ◌∷◌}
-use Rattle.std.specs.Prelude.{length, Option, Some, None, is_some, codes}
+use Rattle.std.specs.Prelude.{ℕ, ◌^◌, Bool, true, false, not, ◌&&◌, ◌||◌, if◌then◌else◌, nat_lt, List, [], ◌∷◌, length}
+use Rattle.std.specs.Prelude.{Option, Some, None, is_some, codes}
 use Rattle.std.specs.Str.{bytes_eq}
 use Rattle.refrun.specs.Numerals.{number_below, number_behind}
-use Rattle.refrun.specs.StepForms.{Operand, Slot, Queue, QueueOrNone, Number, Clock, UrgencyName}
-use Rattle.refrun.specs.StepForms.{operands_in, forms_of_letter, turn_forms}
+use Rattle.refrun.specs.StepForms.{Operand, Slot, Queue, QueueOrNone, Number, Clock, UrgencyName, operands_in}
+use Rattle.refrun.specs.StepForms.{forms_of_letter, turn_forms}
 use Rattle.refrun.specs.declared.fault.LineFault.{LineFault}
 use Rattle.refrun.specs.declared.fault.LineFault.TheVariants.{UnknownStep, MissingWord, BadWord, ExtraWord}
 

@@ -1,6 +1,5 @@
 -- What shows that a check of a stress run's lists fails (this project's own).
-use Rattle.std.specs.Prelude.{◌≡◌, ◌≢◌, ℕ, zero, suc, ◌+◌, ◌<◌, false, List, Option, Some, None}
-use Rattle.std.specs.Prelude.{slice_get, slice_range}
+use Rattle.std.specs.Prelude.{◌≡◌, ◌≢◌, ℕ, zero, suc, ◌+◌, ◌<◌, false, List, Option, Some, None, slice_get, slice_range}
 use Rattle.std.specs.List.{All, Contains}
 use Rattle.ref_base.specs.CollectorRows.{is_subsequence}
 use Rattle.refrun.specs.declared.evidence.Evidence.{Evidence}

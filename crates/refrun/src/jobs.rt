@@ -6,7 +6,7 @@ ghost use Rattle.ref_base.specs.Refusals.{clear_refusal};
 ghost use Rattle.refrun.specs.JobViews.{job_number, note_of};
 ghost use Rattle.refrun.specs.ScriptRuns.{RegistersStageJob};
 ghost use Rattle.refrun.specs.ScriptStanding.{IsScriptRowOf, jobs};
-ghost use Rattle.ref_world.specs.WorldHeaps.{heap_of};
+ghost use Rattle.ref_world.specs.WorldHeaps.{model_heap};
 
 use crate::script_step::{ScriptReply, ScriptStep};
 use ref_base::{MutNo, ObjNo, Reply, SlotNo, Step};
@@ -67,8 +67,8 @@ impl<A: Allocator + Copy> Stage<A> {
     /// Takes the job of the object, which is the reference in the slot, clears the reference, and runs the job. Where
     /// it has none, nothing changes.
     fn run(&mut self, object: ObjNo, mutator: MutNo, reference: SlotNo) -> ScriptReply
-        requires refused { clear_refusal (heap_of self.old.world.heap) mutator reference ≡ None }
-        requires held { slot_at (heap_of self.old.world.heap) mutator reference ≡ Some object }
+        requires refused { clear_refusal (model_heap self.old.world.heap) mutator reference ≡ None }
+        requires held { slot_at (model_heap self.old.world.heap) mutator reference ≡ Some object }
         ensures { IsScriptRowOf job_number note_of self.old.world (jobs self.old.table self.old.left.items)
             (ScriptStep.Run mutator reference) result self.new.world (jobs self.new.table self.new.left.items) }
     {

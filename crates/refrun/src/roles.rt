@@ -8,8 +8,6 @@ use ref_objects::Hold;
 use ref_share::{
     HeapSeat, Polled, QueueSeat, ShareFault, SharedHeap, SharedQueue, deliver_one, enqueue,
 };
-use ref_turn::TurnFault;
-use ref_world::HeapReply;
 use std::sync::Wait;
 use std::sync::atomic::{AtomicU32, Ordering};
 use std::{slice, thread};
@@ -52,7 +50,8 @@ pub(crate) struct Station<'a> {
 }
 
 impl<'a> Station<'a> {
-    ghost use Rattle.std.specs.Prelude.{◌≡◌};
+    ghost use Rattle.std.specs.Prelude.{◌≡◌, true};
+    ghost use Rattle.ref_share.specs.HeapCalls.{hands_nothing_over};
     ghost use Rattle.refrun.specs.StressSeats.{IsSeated, StaysSeated};
 
     /// The station of one thread, with these seats.
@@ -289,30 +288,15 @@ impl<'a> Station<'a> {
         }
     }
 
-    /// One step of the heap. A hold or notice that comes back, or that nobody asked for, is given up.
+    /// One step of the heap by which neither a hold nor a notice changes hands. A refusal is told as a fault.
     fn ask<R: Wait>(&mut self, rt: &R, step: HeapStep<Hold>) -> Result<Reply, Fault>
-        requires { IsSeated self.old }
+        requires seated { IsSeated self.old }
+        requires bare { hands_nothing_over step ≡ true }
         ensures { StaysSeated self.old self.new }
     {
-        match self.shared.heap.call(rt, &mut self.heap_seat, step) {
-            Ok(HeapReply::Told(Reply::Refused(fault))) => Err(fault),
-            Ok(HeapReply::Told(reply)) => Ok(reply),
-            Ok(HeapReply::Notice(notice)) => {
-                notice.into_hold().leak();
-                Ok(Reply::Nothing)
-            }
-            Ok(HeapReply::Held(hold)) => {
-                hold.leak();
-                Ok(Reply::Nothing)
-            }
-            Ok(HeapReply::Back(fault, hold)) => {
-                hold.leak();
-                Err(fault)
-            }
-            Err(TurnFault::Busy(step) | TurnFault::Spent(step)) => {
-                spend(step);
-                Err(Fault::TurnsSpent)
-            }
+        match self.shared.heap.ask(rt, &mut self.heap_seat, step)? {
+            Reply::Refused(fault) => Err(fault),
+            reply => Ok(reply),
         }
     }
 
@@ -343,13 +327,5 @@ impl<'a> Station<'a> {
                 fault
             }
         }
-    }
-}
-
-/// Gives up the hold of a step that was not taken.
-fn spend(step: HeapStep<Hold>) {
-    match step {
-        HeapStep::Adopt { hold, .. } | HeapStep::Release { hold } => hold.leak(),
-        _ => {}
     }
 }

@@ -8,7 +8,7 @@ ghost use Rattle.ref_clear.specs.ClearCalls.{answer_in, after_in};
 ghost use Rattle.ref_world.specs.AskedSteps.{is_quiet, is_plain, Asks, may_give_notice, received};
 ghost use Rattle.ref_world.specs.Cores.{filling_refusal};
 ghost use Rattle.ref_world.specs.Standing.{IsRowOf, Does};
-ghost use Rattle.ref_world.specs.WorldHeaps.{heap_no_of, heap_of};
+ghost use Rattle.ref_world.specs.WorldHeaps.{heap_no_of, model_heap};
 
 use super::World;
 use crate::hands::Hands;
@@ -105,7 +105,7 @@ impl<A: Allocator + Copy> World<A> {
 
     // That there is such a mutator, and it has such a slot: NoSuchActor.
     fn check_slot(&self, mutator: MutNo, slot: SlotNo) -> Result<(), Fault>
-        ensures { IsRefused (drop_refusal (heap_of self.now.heap) mutator slot) result }
+        ensures { IsRefused (drop_refusal (model_heap self.now.heap) mutator slot) result }
     {
         if mutator.0 < self.heap.config().mutators && slot.0 < SLOTS {
             Ok(())

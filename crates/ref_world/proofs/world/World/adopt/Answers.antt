@@ -1,6 +1,6 @@
 use Rattle.std.proofs.Common.{◌≡◌, None, refl, sym, subst, ◌∙◌}
 use Rattle.std.proofs.lemmas.Result.{err_from_is_err_and}
-use Rattle.ref_world.proofs.Common.{drop_refusal, Core, heap_no_of, heap_of}
+use Rattle.ref_world.proofs.Common.{drop_refusal, Core, heap_no_of, model_heap}
 use Rattle.ref_base.specs.declared.step.Step.TheVariants as steps
 use Rattle.ref_world.proofs.HandRows.{adopt_reply, adopt_done, adopted_told}
 use Rattle.ref_world.proofs.Refusals.{empty_at_adopt}
@@ -12,7 +12,7 @@ returns-in_err-take g c =
     let old : Core =
     record { heap = c.self.inside.heap; hands = c.self.inside.hands; queues = c.self.inside.queues.items } in
     let slot =
-    subst (λ (o : Core). drop_refusal (heap_of o.heap) c.args.mutator c.args.slot ≡ None) (sym c.self.view_is)
+    subst (λ (o : Core). drop_refusal (model_heap o.heap) c.args.mutator c.args.slot ≡ None) (sym c.self.view_is)
     c.in_ok-check_slot.ensures in
     let p = err_from_is_err_and c.from_residual-in_err-take.result c.from_residual-in_err-take.ensures.1 in
     rw (p.1, p.2, ← c.self.view_is, c.in_err-take.ensures.kept)
@@ -24,7 +24,7 @@ told-requires g c =
     let old : Core =
     record { heap = c.self.inside.heap; hands = c.self.inside.hands; queues = c.self.inside.queues.items } in
     let slot =
-    subst (λ (o : Core). drop_refusal (heap_of o.heap) c.args.mutator c.args.slot ≡ None) (sym c.self.view_is)
+    subst (λ (o : Core). drop_refusal (model_heap o.heap) c.args.mutator c.args.slot ≡ None) (sym c.self.view_is)
     c.in_ok-check_slot.ensures in
     let notice = c.in_ok-take.field-0 in
     let reply =
@@ -42,7 +42,7 @@ invariant_of-self-2 g c =
     let old : Core =
     record { heap = c.self.inside.heap; hands = c.self.inside.hands; queues = c.self.inside.queues.items } in
     let slot =
-    subst (λ (o : Core). drop_refusal (heap_of o.heap) c.args.mutator c.args.slot ≡ None) (sym c.self.view_is)
+    subst (λ (o : Core). drop_refusal (model_heap o.heap) c.args.mutator c.args.slot ≡ None) (sym c.self.view_is)
     c.in_ok-check_slot.ensures in
     let notice = c.in_ok-take.field-0 in
     sound_after old (record old { heap = c.apply_heap.new.heap; hands = c.take.new.self })
@@ -56,7 +56,7 @@ returns g c =
     let old : Core =
     record { heap = c.self.inside.heap; hands = c.self.inside.hands; queues = c.self.inside.queues.items } in
     let slot =
-    subst (λ (o : Core). drop_refusal (heap_of o.heap) c.args.mutator c.args.slot ≡ None) (sym c.self.view_is)
+    subst (λ (o : Core). drop_refusal (model_heap o.heap) c.args.mutator c.args.slot ≡ None) (sym c.self.view_is)
     c.in_ok-check_slot.ensures in
     let notice = c.in_ok-take.field-0 in
     rw (← c.self.view_is)

@@ -1,6 +1,6 @@
 use Rattle.std.proofs.Common.{◌≡◌, None, refl, sym, subst}
 use Rattle.std.proofs.lemmas.Result.{err_from_is_err_and}
-use Rattle.ref_world.proofs.Common.{drop_refusal, Mutator, Core, heap_of}
+use Rattle.ref_world.proofs.Common.{drop_refusal, Mutator, Core, model_heap}
 use Rattle.ref_base.specs.declared.heap_step.HeapStep.TheVariants as heap
 use Rattle.ref_base.specs.declared.step.Step.TheVariants as steps
 use Rattle.ref_world.proofs.AskedRows.{as_told}
@@ -17,7 +17,7 @@ returns-in_err-check_empty g c =
     in
     rw (p.1, p.2, ← c.self.view_is)
     (full_at_unhook old c.self.invariant.reached c.args.mutator c.args.reference c.in_err-check_empty.field-0.0
-    (subst (λ (o : Core). drop_refusal (heap_of o.heap) c.args.mutator c.args.reference ≡ None) (sym c.self.view_is)
+    (subst (λ (o : Core). drop_refusal (model_heap o.heap) c.args.mutator c.args.reference ≡ None) (sym c.self.view_is)
     c.in_ok-check_slot.ensures) c.in_err-check_empty.ensures)
 
 pub invariant_of-self : goal.invariant_of-self
