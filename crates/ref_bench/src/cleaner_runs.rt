@@ -4,7 +4,6 @@ ghost use Rattle.std.specs.Prelude.{◌≡◌};
 ghost use Rattle.ref_share.specs.CleanSeats.{IsCleanSeat};
 ghost use Rattle.ref_share.specs.HeapSeats.{IsHeapSeat};
 
-use crate::heap_runs::give_up;
 use crate::letters::{CONFIG, QUEUE};
 use crate::timing::{Sample, Timer};
 use ref_base::{Fault, HeapStep, MutNo, SlotNo};
@@ -135,7 +134,7 @@ fn register_and_run<R: Wait + Clock>(
         slot: OBJECT,
         fields: 0,
     };
-    give_up(user.heap.call(rt, &mut user.heap_seat, object));
+    let _ = user.heap.ask(rt, &mut user.heap_seat, object);
     for job in others {
         user.register(rt, job)?;
     }

@@ -7,11 +7,8 @@ use crate::letters::{CONFIG, Letter, QUEUE};
 use crate::timing::{Sample, Timer};
 use ref_base::{Fault, HeapStep, MutNo, SlotNo, Strength, Urgency, WorkerNo};
 use ref_clear::Heap;
-use ref_objects::Hold;
 use ref_queue::{Polled, Queue};
 use ref_share::{HeapSeat, SharedHeap};
-use ref_turn::TurnFault;
-use ref_world::HeapReply;
 use std::alloc::Global;
 use std::sync::Wait;
 use std::thread;
@@ -122,25 +119,7 @@ impl<'a> Caller<'a> {
             slot: SlotNo(1),
             source: SlotNo(0),
         };
-        give_up(self.heap.call(rt, &mut self.seat, step));
-    }
-}
-
-/// Gives up what a call of a heap handed out or gave back.
-pub fn give_up(answer: Result<HeapReply, TurnFault<HeapStep<Hold>>>) {
-    match answer {
-        Ok(HeapReply::Told(_)) => {}
-        Ok(HeapReply::Notice(notice)) => notice.into_hold().leak(),
-        Ok(HeapReply::Held(hold) | HeapReply::Back(_, hold)) => hold.leak(),
-        Err(TurnFault::Busy(step) | TurnFault::Spent(step)) => spend(step),
-    }
-}
-
-/// Gives up the hold of a step that was not taken.
-fn spend(step: HeapStep<Hold>) {
-    match step {
-        HeapStep::Adopt { hold, .. } | HeapStep::Release { hold } => hold.leak(),
-        _ => {}
+        let _ = self.heap.ask(rt, &mut self.seat, step);
     }
 }
 

@@ -160,8 +160,8 @@ impl<A: Allocator + Copy> SharedHeap<A> {
         }
     }
 
-    /// Does a step by which neither a hold nor a notice changes hands, once the turn is free: any but an unhook, a hold,
-    /// an adopt, a release and a hand. The reply is `Reply::Refused` where the heap refuses it. The one error is
+    /// Does a step by which neither a hold nor a notice changes hands, once the turn is free: any but an unhook, a
+    /// hold, an adopt, a release and a hand. The reply is `Reply::Refused` where the heap refuses it. The one error is
     /// `TurnsSpent`, where no turn is left; then the heap is as before. Takes no memory.
     #[inline(always)]
     pub fn ask<R: Wait>(

@@ -1,8 +1,10 @@
 //! A stress run: threads over one heap and one queue, and the queue's lists once they have ended.
 
-ghost use Rattle.std.specs.Prelude.{◌≡◌, All, IfOk};
+ghost use Rattle.std.specs.Prelude.{◌≡◌, All, IfOk, IfSome, IfNone, OnErr, Err, map};
 ghost use Rattle.ref_share.specs.HeapSeats.{IsHeapSeat};
 ghost use Rattle.ref_share.specs.QueueSeats.{IsQueueSeat};
+ghost use Rattle.refrun.specs.StressChecks.{IsFirstFailure, Passes};
+ghost use Rattle.refrun.specs.StressEvidence.{IsEvidence};
 ghost use Rattle.refrun.specs.StressSeats.{IsSeated, IsSeatedAt};
 
 use crate::evidence::{Evidence, evidence_of};
@@ -69,7 +71,11 @@ pub struct StressLists {
 
 impl StressLists {
     /// The first check that fails, or `None` where all hold. The one error is `NoMemory`.
-    pub fn check(&self, alloc: Global) -> Result<Option<Check>, Fault> {
+    pub fn check(&self, alloc: Global) -> Result<Option<Check>, Fault>
+        ensures answer { IfOk result (IsFirstFailure self.now.enqueued.items self.now.taken.items
+            self.now.stands.items (map (λ v. v.items) self.now.pollers.items)) }
+        ensures err { OnErr result (result ≡ Err Fault.NoMemory) }
+    {
         check_lists(
             alloc,
             self.enqueued.as_slice(),
@@ -79,8 +85,13 @@ impl StressLists {
         )
     }
 
-    /// What shows that this check fails. Takes no memory.
-    pub fn evidence(&self, check: Check) -> Option<Evidence> {
+    /// What shows that this check fails, and none where it holds. Takes no memory.
+    pub fn evidence(&self, check: Check) -> Option<Evidence>
+        ensures shows { IfSome result (IsEvidence (λ v. v.items) self.now.enqueued.items self.now.taken.items
+            self.now.stands.items self.now.pollers.items) }
+        ensures passes { IfNone result (Passes self.now.enqueued.items self.now.taken.items self.now.stands.items
+            (map (λ v. v.items) self.now.pollers.items) check) }
+    {
         evidence_of(
             check,
             self.enqueued.as_slice(),

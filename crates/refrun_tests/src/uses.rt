@@ -7,9 +7,10 @@ ghost use Rattle.refrun.specs.declared.fault.TextFault.TheVariants.{Line};
 ghost use Rattle.refrun.specs.declared.fault.LineFault.TheVariants.{ExtraWord, NotAscii, MissingWord};
 
 use crate::fakes::ReadsThenFails;
+use ref_base::ObjNo;
 use refrun::{
-    FromReader, LineFault, ReadError, TextFault, TextSink, TextSource, ToWriter, run_script,
-    strength_text,
+    Check, FromReader, LineFault, ReadError, TextFault, TextSink, TextSource, ToWriter,
+    evidence_of, run_script, strength_text,
 };
 use std::alloc::Global;
 use std::io::{self, ErrorKind, Read, Write};
@@ -72,6 +73,13 @@ pub fn a_failed_read_is_marked<R: Read>(source: &mut FromReader<R>) -> bool
     matches!(source.read(buffer.as_mut_slice()), Err(ReadError::Failed))
 }
 
+/// Where a number stands, something is told that shows it.
+pub fn what_stands_is_told(number: ObjNo, lists: &[Vec<ObjNo>]) -> bool
+    ensures { result ≡ true }
+{
+    evidence_of(Check::Rest, &[], &[], &[number], lists).is_some()
+}
+
 #[test]
 fn a_faulty_line_is_told_of_and_nothing_is_printed(rt: HostRuntime) {
     let alloc = rt.alloc();
@@ -109,6 +117,10 @@ fn what_fails_is_no_success(rt: HostRuntime) {
         (
             "a read that failed",
             a_failed_read_is_marked(&mut FromReader::new(failing)),
+        ),
+        (
+            "a number that stands is told",
+            what_stands_is_told(ObjNo(7), &[]),
         ),
     ];
     for (fact, holds) in facts {

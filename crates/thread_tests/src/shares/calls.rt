@@ -1,5 +1,7 @@
 //! The calls of a shared heap and its queue, with what they answer as plain data.
 
+ghost use Rattle.std.specs.Prelude.{◌≡◌, true};
+ghost use Rattle.ref_share.specs.HeapCalls.{hands_nothing_over};
 ghost use Rattle.ref_share.specs.HeapSeats.{IsHeapSeat};
 ghost use Rattle.ref_share.specs.QueueSeats.{IsQueueSeat};
 ghost use Rattle.ref_share.specs.contracts.shared_queue.SharedQueue.{the_row};
@@ -159,7 +161,9 @@ impl fmt::Debug for Told {
     }
 }
 
-pub fn step_of(step: Do) -> HeapStep<Hold> {
+pub fn step_of(step: Do) -> HeapStep<Hold>
+    ensures { hands_nothing_over result ≡ true }
+{
     match step {
         Do::New(slot) => HeapStep::New {
             mutator: M,
@@ -184,7 +188,9 @@ pub fn step_of(step: Do) -> HeapStep<Hold> {
 }
 
 /// Makes a weak reference: its slot, that of its referent, and its queue.
-pub fn weak(slot: u32, source: u32, queue: Option<QueueNo>) -> HeapStep<Hold> {
+pub fn weak(slot: u32, source: u32, queue: Option<QueueNo>) -> HeapStep<Hold>
+    ensures { hands_nothing_over result ≡ true }
+{
     HeapStep::Refer {
         mutator: M,
         strength: Strength::Weak,
@@ -444,7 +450,10 @@ pub fn answer<R: Wait, A: Allocator + Copy>(
 {
     match call {
         Call::Try(step) => replied(heap.try_call(&mut seats.heap, step_of(step))),
-        Call::Step(step) => replied(heap.call(rt, &mut seats.heap, step_of(step))),
+        Call::Step(step) => match heap.ask(rt, &mut seats.heap, step_of(step)) {
+            Ok(reply) => Told::Reply(reply),
+            Err(fault) => Told::Refused(fault),
+        },
         Call::HeapServed => Told::Served(heap.served(&mut seats.heap)),
         Call::Queue(call) => asked(rt, heap, queue, seats, call),
         Call::Put(slot) => put(rt, heap, queue, seats, slot),
