@@ -10,4 +10,4 @@ returns-in-Ok-clause-enough g c =
     half (heap_view c.served-before.new.seat) goes.0 (heap_view c.clean_loop.new.heap_seat)
     (heap_view c.served.new.seat)
     c.served-before.result c.served.result c.in-Ok.count goes.2.1 before.seat.history.own
-    c.clean_loop.ensures.heap_seat.history.own after.longer goes.4 before.count after.count
+    c.clean_loop.ensures.heap_seat.history.own after.longer goes.5 before.count after.count
