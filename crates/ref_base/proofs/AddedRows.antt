@@ -1,15 +1,14 @@
 -- What a put that was added tells: whose notice it was, that it is new in its queue, and at which position it stands.
-use Rattle.std.proofs.Common.{◌≡◌, ℕ, Bool, true, false, List, ◌∷◌, ◌++◌, length, Option, Some, None, inl, inr, refl}
-use Rattle.std.proofs.Common.{sym, ap, ◌∙◌, subst}
+use Rattle.std.proofs.Common.{arith}
+use Rattle.std.proofs.Common.{◌≡◌, ℕ, Bool, true, false, List, ◌∷◌, ◌++◌, length, Option, Some, None, refl}
 use Rattle.ref_base.proofs.Common.{enqueued, was_put, put_into, taken_from, was_closed, Notice, object_of, hand_of}
-use Rattle.ref_base.proofs.Common.{queue_at, replayed, State, first_state, refusal, PutsInto, Puts, IsAnswer, IsRun}
-use Rattle.ref_base.proofs.Common.{IsLegal, IsProven, IsProvenIn, Config, Actor, Fault, Row}
+use Rattle.ref_base.proofs.Common.{queue_at, replayed, State, first_state, PutsInto, Puts, IsAnswer, IsRun}
+use Rattle.ref_base.proofs.Common.{IsLegal, IsProven, Config, Actor, Fault, Row}
 use Rattle.ref_base.specs.declared.step.Step.TheVariants as steps
 use Rattle.ref_base.specs.declared.reply.Reply.TheVariants as replies
 use Rattle.ref_base.proofs.LegalQueues.{first_run_moves}
 use Rattle.ref_base.proofs.ProvenTraces.{legal_proven}
 use Rattle.ref_base.proofs.OutTraces.{legal_others}
-use Rattle.ref_base.proofs.SameOthers.{same_hand}
 use Rattle.ref_base.proofs.RunLaws.{cut}
 
 -- after a legal trace the lists of each queue are those of the rows
@@ -32,12 +31,7 @@ of_put : (a b : State) (who : Actor) (notice : Notice) (again shut : Bool) (posi
     → PutsInto again shut a who notice (replies.Added position) b → TellsAdded a who position
 of_put a b who notice true shut position hand was row = let no = row.0 in absurd cc
 of_put a b who notice false true position hand was row = let no = row.0 in absurd cc
-of_put a b who notice false false position hand was row =
-    elim row [
-      | inl added ↦
-          let told = added.0 in record { notice = notice; hand = hand; fresh = was; position_is = cc }
-      | inr refused ↦ let no = refused.0 in absurd cc
-    ]
+of_put a b who notice false false position hand was row = grind arith
 
 of_hand : (a b : State) (who : Actor) (hand : Option Notice) (position : ℕ) → hand_of a.world who ≡ hand
     → Puts a who hand (replies.Added position) b → TellsAdded a who position
@@ -51,31 +45,15 @@ answer_tells_added a b who position None row = of_hand a b who (hand_of a.world 
 
 -- ---- in a legal trace
 
-abbrev added : Actor → ℕ → Row
-added who position = record { step = steps.Put who; reply = replies.Added position }
-
 -- the hand held a notice, and what its queue had got before says its position
 pub added_position : (config : Config) (front back : List Row) (who : Actor) (position : ℕ)
     → IsLegal config (front ++ record { step = steps.Put who; reply = replies.Added position } ∷ back)
     → (notice : Notice) × (hand_of (replayed config front) who ≡ Some notice)
     × (position ≡ length (put_into notice.queue front))
-added_position config front back who position legal =
-    let parts = cut (first_state config) front (added who position ∷ back) legal.0 legal.1 in
-    let a : State = parts.0 in
-    let tells = answer_tells_added a parts.2.0 who position (refusal a (steps.Put who)) parts.2.1 in
-    let notice : Notice = tells.notice in
-    let replay = same_hand (replayed config front) a.world who (legal_others config front a parts.1) in
-    let lists = legal_lists config front a notice.queue parts.1 in
-    (notice, sym replay ∙ tells.hand, tells.position_is ∙ ap (λ ns. length ns) lists.1)
+added_position config front back who position legal = grind (arith, cut, legal_others, legal_lists config front)
 
 -- and it comes from the rows
 pub added_proven : (config : Config) (front back : List Row) (who : Actor) (position : ℕ)
     → IsLegal config (front ++ record { step = steps.Put who; reply = replies.Added position } ∷ back)
     → (notice : Notice) × (hand_of (replayed config front) who ≡ Some notice) × IsProven front notice
-added_proven config front back who position legal =
-    let parts = cut (first_state config) front (added who position ∷ back) legal.0 legal.1 in
-    let a : State = parts.0 in
-    let tells = answer_tells_added a parts.2.0 who position (refusal a (steps.Put who)) parts.2.1 in
-    let replay = same_hand (replayed config front) a.world who (legal_others config front a parts.1) in
-    let proven = (legal_proven config front a parts.1).hands who in
-    (tells.notice, sym replay ∙ tells.hand, subst (λ (h : Option Notice). IsProvenIn front h) tells.hand proven)
+added_proven config front back who position legal = grind (arith, cut, legal_others, legal_proven)

@@ -1,9 +1,10 @@
 -- A mark's end, a worker's look at a reference and a sweep keep that the collector has the world of the replay, but for
 -- what was swept and for what waits to be cleared.
+use Rattle.std.proofs.Common.{arith}
 use Rattle.std.proofs.Common.{◌≡◌, ℕ, ◌<◌, Bool, true, false, ◌&&◌, ◌==◌, List, ◌++◌, map, take, drop, Option, Some}
 use Rattle.std.proofs.Common.{None, refl, sym, ap, ◌∙◌, subst, inl, inr}
 use Rattle.std.specs.Prelude.{slice_set}
-use Rattle.std.proofs.lemmas.Bool.{cases_Bool, and_right, eq-eqb, eqb-true}
+use Rattle.std.proofs.lemmas.Bool.{cases_Bool, and_right, eq-eqb}
 use Rattle.std.proofs.lemmas.List.{map-id, take-append-drop}
 use Rattle.ref_base.proofs.Common.{has, Object, is_there, numbers, IsRising, new_clears, reference_at, registered_in}
 use Rattle.ref_base.proofs.Common.{with_reference, cleared, changed_at, World, with_heap, after_heap, with_phase}
@@ -19,8 +20,7 @@ use Rattle.ref_base.proofs.HeapMoves.{settled, moved, found_less}
 use Rattle.ref_base.proofs.ReplayKeeps.{numbers_of, numbers_same, stage_pended}
 use Rattle.ref_base.proofs.SeenObjects.{without-changed_at, rising-without, seen_queue, seen_swept}
 use Rattle.ref_base.proofs.WaitingClears.{shown-waiting, looked-waiting, has-found, Looks, new_clears-there}
-use Rattle.ref_base.proofs.AgreeHeaps.{Agreeing, AreBelow, there-numbers, there-without, unscanned-there, none_waits}
-use Rattle.ref_base.proofs.AgreeHeaps.{not_in}
+use Rattle.ref_base.proofs.AgreeHeaps.{Agreeing, there-numbers, there-without, unscanned-there, none_waits}
 
 -- ---- a mark's end
 
@@ -71,9 +71,7 @@ marks gone w a found is marking all =
 
 pub end_agrees : (gone : List ℕ) (w : World) (a c : State) (reply : Reply) → Agreeing gone w a
     → a.world.phase ≡ Marking → EndsMark a reply c → Agreeing gone (after_heap w heap.EndMark reply) c
-end_agrees gone w a c reply is marking row =
-    subst (λ (r : Reply). Agreeing gone (after_heap w heap.EndMark r) c) (sym row.answer)
-    (subst (Agreeing gone (with_phase w Clearing)) (sym row.after) (marks gone w a row.found is marking row.all_found))
+end_agrees gone w a c reply is marking row = grind (arith, marks gone w a row.found is marking row.all_found)
 
 -- ---- a worker's look
 
@@ -105,20 +103,7 @@ module _ (gone : List ℕ) (w v : World) (a c : State) (k n : ℕ) (is : Agreein
 
   -- and so it is kept, where the world agrees with one that has the same numbers
   looked_agrees : (next : World) → numbers_of next ≡ numbers_of w → Agrees gone next c → Agreeing gone next c
-  looked_agrees next numbers agrees =
-      let after : a.next ≡ c.next = ap (λ (s : State). s.next) (sym leads) in
-      record {
-        agrees = agrees;
-        rising = subst IsRising (sym numbers) is.rising;
-        below = subst (λ j. AreBelow j (numbers_of next)) after (subst (AreBelow a.next) (sym numbers) is.below);
-        gone_below = subst (λ j. AreBelow j gone) after is.gone_below;
-        doomed_below = subst (λ j. AreBelow j c.doomed) after
-            (subst (AreBelow a.next) (ap (λ (s : State). s.doomed) (sym leads)) is.doomed_below);
-        cleared_below = subst (λ j. AreBelow j c.cleared) after
-            (subst (AreBelow a.next) (ap (λ (s : State). s.cleared) (sym leads)) is.cleared_below);
-        cleared_stay = λ still m cleared.
-            is.cleared_stay clearing m (ap (λ (s : State). has s.cleared m) (sym leads) ∙ cleared);
-      }
+  looked_agrees next numbers agrees = grind arith
 
 -- a worker cleared n, which the mark's end had cleared
 pub cleared_agrees : (gone : List ℕ) (w : World) (a c : State) (k n : ℕ) → Agreeing gone w a
@@ -158,19 +143,7 @@ pub passed_agrees : (gone : List ℕ) (w : World) (a c : State) (k n : ℕ) → 
     → a.world.phase ≡ Clearing → has a.cleared n ≡ false → Looks a k n
     → settled c ≡ settled (found_less a k) → Agreeing gone w c
 passed_agrees gone w a c k n is clearing keeps looks leads =
-    let still : (m : ℕ) → is_waiting a m ≡ is_waiting c m =
-    λ m. elim (cases_Bool (n == m)) [
-      | inl same ↦
-          let number : n ≡ m = eqb-true n m same in
-          let none : has a.cleared m ≡ false = ap (has a.cleared) (sym number) ∙ keeps in
-          let after : has c.cleared m ≡ false = ap (λ (s : State). has s.cleared m) leads ∙ none in
-          and_right (is_in a.world.phase Clearing) _ (and_right (has (joined a.found) m) _ none)
-          ∙ sym (and_right (is_in c.world.phase Clearing) _ (and_right (has (joined c.found) m) _ after))
-      | inr other ↦ others_wait gone w a.world a c k n is clearing refl looks leads m other
-    ] in
-    looked_agrees gone w a.world a c k n is clearing refl looks leads w refl
-    (ap (λ (s : State). s.world) leads ∙ is.agrees
-    ∙ ap (λ (these : ℕ → Bool). under gone these w) (λ i m. still m i))
+    grind (arith, others_wait gone w a.world a c k n is clearing)
 
 -- ---- a sweep
 
@@ -186,28 +159,4 @@ pub swept_agrees : (gone : List ℕ) (w : World) (a c : State) (k count : ℕ) �
     → a.world.phase ≡ Sweeping → settled c ≡ settled (moved a (heap.Sweep k) (replies.Swept count))
     → Agreeing (gone ++ take 64 a.doomed) w c
 swept_agrees gone w a c k count is sweeping leads =
-    let ns : List ℕ = take 64 a.doomed in
-    let after : a.next ≡ c.next = ap (λ (s : State). s.next) (sym leads) in
-    let phase : c.world.phase ≡ Sweeping = ap (λ (s : State). s.world.phase) leads ∙ sweeping in
-    let still : is_waiting a ≡ is_waiting c =
-    none_waits a Sweeping sweeping refl ∙ sym (none_waits c Sweeping phase refl) in
-    record {
-      agrees = ap (λ (s : State). s.world) leads
-          ∙ ap (λ (v : World). with_heap v (record v.heap { objects = without ns v.heap.objects })) is.agrees
-          ∙ ap (λ (os : List Object). with_heap w (record w.heap { objects = os }))
-          (seen_swept (is_waiting a) gone ns w.heap.objects)
-          ∙ ap (λ (these : ℕ → Bool). under (gone ++ ns) these w) still;
-      rising = is.rising;
-      below = subst (λ j. AreBelow j (numbers_of w)) after is.below;
-      gone_below = subst (λ j. AreBelow j (gone ++ ns)) after
-          (λ n out. elim (has-cases gone ns n out) [
-            | inl before ↦ is.gone_below n before
-            | inr swept ↦ is.doomed_below n (has-taken 64 a.doomed n swept)
-          ]);
-      doomed_below = subst (λ j. AreBelow j c.doomed) after
-          (subst (AreBelow a.next) (ap (λ (s : State). s.doomed) (sym leads))
-          (λ n doomed. is.doomed_below n (has-dropped 64 a.doomed n doomed)));
-      cleared_below = subst (λ j. AreBelow j c.cleared) after
-          (subst (AreBelow a.next) (ap (λ (s : State). s.cleared) (sym leads)) is.cleared_below);
-      cleared_stay = λ clearing n cleared. absurd (not_in c Sweeping phase refl clearing);
-    }
+    grind (arith, seen_swept, has-cases, has-taken 64 a.doomed, has-dropped 64 a.doomed)

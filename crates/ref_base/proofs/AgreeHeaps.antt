@@ -1,15 +1,15 @@
 -- A row of a heap keeps that the collector has the world of the replay, but for what was swept and for what waits to be
 -- cleared: a row that ends no phase, one that makes an object, and one that ends a phase in which nothing waits.
-use Rattle.std.proofs.Common.{◌≡◌, ℕ, ◌+◌, ◌<◌, ◌≤◌, Bool, true, false, ◌&&◌, ◌==◌, not, nat_lt, List, [], ◌∷◌, ◌++◌}
-use Rattle.std.proofs.Common.{take, Some, is_some, refl, sym, ap, ◌∙◌, subst, arith, inl, inr}
-use Rattle.std.proofs.lemmas.Bool.{cases_Bool, and_right, false_from_ne_true, true≢false, false≢true, eq-eqb}
+use Rattle.std.proofs.Common.{◌≡◌, ℕ, ◌+◌, ◌<◌, ◌≤◌, Bool, true, false, ◌&&◌, ◌==◌, List, [], ◌∷◌, ◌++◌}
+use Rattle.std.proofs.Common.{take, Some, refl, sym, ap, ◌∙◌, subst, arith}
+use Rattle.std.proofs.lemmas.Bool.{and_right, false_from_ne_true, false≢true, eq-eqb}
 use Rattle.ref_base.proofs.Common.{has, Object, is_there, numbers, IsRising, if_any, World, NamedStep, after_heap}
-use Rattle.ref_base.proofs.Common.{State, joined, is_in, with_world, without, under, is_waiting, Agrees, Phase}
+use Rattle.ref_base.proofs.Common.{State, joined, is_in, with_world, without, is_waiting, Agrees, Phase}
 use Rattle.ref_base.proofs.Common.{Clearing, Reply}
 use Rattle.ref_base.specs.DoomedSets.{unscanned}
 use Rattle.ref_base.specs.declared.heap_step.HeapStep.TheVariants as heap
 use Rattle.ref_base.specs.declared.reply.Reply.TheVariants as replies
-use Rattle.ref_base.proofs.HasLaws.{has-cases, has-single}
+use Rattle.ref_base.proofs.HasLaws.{has-cases}
 use Rattle.ref_base.proofs.HeapMoves.{settled}
 use Rattle.ref_base.proofs.ReplayUnder.{made_number, IsNoLook, IsApart, heap_through}
 use Rattle.ref_base.proofs.ReplayKeeps.{numbers_of, numbers_same, numbers_after, same_phase, EndsNoPhase, MakesNone}
@@ -40,21 +40,13 @@ gone_after a gone step reply = gone
 pub rising_last : (ns : List ℕ) (n : ℕ) → IsRising ns → AreBelow n ns → IsRising (ns ++ n ∷ [])
 rising_last [] n rising below = tt
 rising_last (m ∷ []) n rising below = let own : (m == m) ≡ true = eq-eqb m m refl in (below m (simp own refl), tt)
-rising_last (m ∷ k ∷ ns) n rising below = (
-  rising.0,
-  rising_last (k ∷ ns) n rising.1
-      (λ i there. below i (elim (cases_Bool (m == i)) [ inl same ↦ simp same refl | inr other ↦ simp other there ])),
-)
+rising_last (m ∷ k ∷ ns) n rising below = grind (arith, rising_last (k ∷ ns) n rising.1)
 
 below_more : (next more : ℕ) (ns : List ℕ) → next ≤ more → AreBelow next ns → AreBelow more ns
 below_more next more ns grows below n there = let old = below n there in omega (arith, old, grows)
 
 below_last : (next : ℕ) (ns : List ℕ) → AreBelow next ns → AreBelow (next + 1) (ns ++ next ∷ [])
-below_last next ns below n there =
-    elim (has-cases ns (next ∷ []) n there) [
-      | inl old ↦ let small = below n old in omega (arith, small)
-      | inr new ↦ let same = has-single next n new in omega (arith, same)
-    ]
+below_last next ns below n there = grind (arith, has-cases)
 
 -- a number that isn't below isn't there
 pub fresh : (next : ℕ) (ns : List ℕ) → AreBelow next ns → has ns next ≡ false
@@ -63,46 +55,24 @@ fresh next ns below =
 
 pub there-numbers : (os : List Object) (n : ℕ) → is_there os n ≡ true → has (numbers os) n ≡ true
 there-numbers [] n there = absurd (false≢true there)
-there-numbers (o ∷ os) n there =
-    elim (cases_Bool (o.no == n)) [
-      | inl same ↦ simp same refl
-      | inr other ↦ simp other (there-numbers os n (simp other at there))
-    ]
+there-numbers (o ∷ os) n there = grind (arith, there-numbers os n)
 
 pub unscanned-there : (os : List Object) (born : ℕ) (scanned : List ℕ) (n : ℕ)
     → has (unscanned os born scanned) n ≡ true → is_there os n ≡ true
 unscanned-there [] born scanned n h = absurd (false≢true h)
-unscanned-there (o ∷ os) born scanned n h =
-    elim (cases_Bool (o.no == n)) [
-      | inl same ↦ simp same refl
-      | inr other ↦
-          elim (cases_Bool (nat_lt o.no born && not (has scanned o.no))) [
-            | inl left ↦
-                let later : has (unscanned os born scanned) n ≡ true = simp (left, other) at h in
-                simp other (unscanned-there os born scanned n later)
-            | inr scans ↦
-                let later : has (unscanned os born scanned) n ≡ true = simp scans at h in
-                simp other (unscanned-there os born scanned n later)
-          ]
-    ]
+unscanned-there (o ∷ os) born scanned n h = grind (arith, unscanned-there os born scanned n)
 
 -- what is there still isn't gone
 pub there-without : (gone : List ℕ) (os : List Object) (n : ℕ) → is_there (without gone os) n ≡ true
     → (has gone n ≡ false) × (is_there os n ≡ true)
-there-without gone os n there =
-    elim (cases_Bool (has gone n)) [
-      | inl out ↦ absurd (false≢true (ap is_some (sym (object_at-gone gone os n out)) ∙ there))
-      | inr kept ↦ (kept, ap is_some (sym (object_at-without gone os n kept)) ∙ there)
-    ]
+there-without gone os n there = grind (arith, object_at-gone, object_at-without)
 
 -- ---- what waits
 
 -- nothing waits in another phase
 pub none_waits : (a : State) (phase : Phase) → a.world.phase ≡ phase → is_in phase Clearing ≡ false
     → is_waiting a ≡ (λ n. false)
-none_waits a phase is other =
-    ap {B = ℕ → Bool} (λ b n. b && (has (joined a.found) n && has a.cleared n))
-    (ap (λ (p : Phase). is_in p Clearing) is ∙ other)
+none_waits a phase is other = grind arith
 
 pub same_waits : (a : State) (w : World) → w.phase ≡ a.world.phase → is_waiting (with_world a w) ≡ is_waiting a
 same_waits a w same =
@@ -110,19 +80,14 @@ same_waits a w same =
 
 pub not_in : (a : State) (phase : Phase) → a.world.phase ≡ phase → is_in phase Clearing ≡ false
     → a.world.phase ≡ Clearing → ⊥
-not_in a phase is other clearing =
-    true≢false (sym (ap (λ (p : Phase). is_in p Clearing) clearing)
-    ∙ ap (λ (p : Phase). is_in p Clearing) is ∙ other)
+not_in a phase is other clearing = grind arith
 
 module _ (gone : List ℕ) (w : World) (a c : State) (reply : Reply) (is : Agreeing gone w a) where
   -- the worlds agree after a row that is none of a worker's looks, where what waits is the same
   lands : (step : NamedStep) → IsNoLook gone (is_waiting a) step
       → IsApart gone (is_waiting a) (made_number step reply) → c.world ≡ after_heap a.world step reply
       → is_waiting c ≡ is_waiting a → Agrees gone (after_heap w step reply) c
-  lands step plain apart leads same =
-      leads ∙ ap (λ (v : World). after_heap v step reply) is.agrees
-      ∙ heap_through gone (is_waiting a) w step reply plain apart
-      ∙ ap (λ (these : ℕ → Bool). under gone these (after_heap w step reply)) (sym same)
+  lands step plain apart leads same = grind (arith, heap_through)
 
   -- a row that ends no phase and makes nothing
   pub still : (step : NamedStep) → IsNoLook gone (is_waiting a) step → EndsNoPhase step → MakesNone step

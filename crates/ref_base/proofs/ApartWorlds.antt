@@ -1,10 +1,11 @@
 -- What no root names and nothing else refers to: changes of a world keep it so.
-use Rattle.std.proofs.Common.{◌≡◌, ℕ, zero, suc, ◌+◌, ◌*◌, true, ◌==◌, ◌||◌, List, [], ◌∷◌, ◌++◌, map, Option, Some}
-use Rattle.std.proofs.Common.{None, refl, sym, ◌∙◌, subst, inl, inr, ◌⊎◌}
-use Rattle.std.specs.Prelude.{slice_index_or, slice_set, replicate}
+use Rattle.std.proofs.Common.{arith}
+use Rattle.std.proofs.Common.{◌≡◌, ℕ, zero, suc, ◌+◌, ◌*◌, true, ◌==◌, List, [], ◌∷◌, ◌++◌, map, Option, Some}
+use Rattle.std.proofs.Common.{None, refl, subst, inl, inr, ◌⊎◌}
+use Rattle.std.specs.Prelude.{slice_index_or, replicate}
 use Rattle.std.specs.List.{AllByRecursion}
-use Rattle.std.proofs.lemmas.Bool.{cases_Bool, or_cases, eqb-true, false≢true, or_right}
-use Rattle.ref_base.proofs.Common.{has, Object, Reference, object_at, is_there, any_referent, present, allowed_referent}
+use Rattle.std.proofs.lemmas.Bool.{cases_Bool, or_cases, eqb-true, false≢true}
+use Rattle.ref_base.proofs.Common.{has, Object, Reference, object_at, any_referent, present, allowed_referent}
 use Rattle.ref_base.proofs.Common.{targets_of, targets_at, is_soft, with_slot, with_hold, without_hold, one_fewer}
 use Rattle.ref_base.proofs.Common.{changed_in, changed_at, with_field, with_reference, cleared, got_at}
 use Rattle.ref_base.proofs.Common.{changed_reference, World, Pending, pending_of, pending_numbers, graph_of, with_heap}
@@ -48,37 +49,14 @@ module _ (V : ℕ → Type 0) where
       (set_all (OfValue V) w.heap.slots (16 * m + d) value None is closed.slots, closed)
 
   pub closed_hold : (w : World) (n : ℕ) → V n → IsClosed V w → IsClosed V (with_heap w (with_hold w.heap n))
-  closed_hold w n is closed = record {
-    slots = closed.slots;
-    holds = λ m held.
-        elim (or_cases (n == m) (has w.heap.holds m) (sym (has-one_more w.heap.holds n m) ∙ held)) [
-          | inl same ↦ subst V (eqb-true n m same) is
-          | inr before ↦ closed.holds m before
-        ];
-    pendings = closed.pendings;
-    targets = closed.targets;
-  }
+  closed_hold w n is closed = grind (arith, has-one_more)
 
   has-fewer : (ns : List ℕ) (n m : ℕ) → has (one_fewer ns n) m ≡ true → has ns m ≡ true
   has-fewer [] n m held = held
-  has-fewer (i ∷ is) n m held =
-      elim (cases_Bool (i == n)) [
-        | inl same ↦ or_right (i == m) (has is m) (simp same at held)
-        | inr other ↦
-            let kept : ((i == m) || has (one_fewer is n) m) ≡ true = simp other at held in
-            elim (or_cases (i == m) (has (one_fewer is n) m) kept) [
-              | inl here ↦ simp here refl
-              | inr later ↦ or_right (i == m) (has is m) (has-fewer is n m later)
-            ]
-      ]
+  has-fewer (i ∷ is) n m held = grind (arith, has-fewer is n m)
 
   pub closed_fewer : (w : World) (n : ℕ) → IsClosed V w → IsClosed V (with_heap w (without_hold w.heap n))
-  closed_fewer w n closed = record {
-    slots = closed.slots;
-    holds = λ m held. closed.holds m (has-fewer w.heap.holds n m held);
-    pendings = closed.pendings;
-    targets = closed.targets;
-  }
+  closed_fewer w n closed = grind (arith, has-fewer)
 
   pub closed_pending : (w : World) (k : ℕ) (ps : List Pending) → AllByRecursion (λ p. V p.object) ps → IsClosed V w
       → IsClosed V (with_pending w k ps)
@@ -95,16 +73,7 @@ module _ (V : ℕ → Type 0) where
   pub closed_objects : (w : World) (os : List Object)
       → ((m : ℕ) → V m → Refers V (object_at w.heap.objects m) (object_at os m)) → IsClosed V w
       → IsClosed V (with_heap w (record w.heap { objects = os }))
-  closed_objects w os fewer closed = record {
-    slots = closed.slots;
-    holds = closed.holds;
-    pendings = closed.pendings;
-    targets = λ m n is target.
-        elim (fewer m is n target) [
-          | inl before ↦ closed.targets m n is before
-          | inr new ↦ new
-        ];
-  }
+  closed_objects w os fewer closed = grind arith
 
   pub closed_changed : (w : World) (held : Option ℕ) (f : Object → Object) → ((o : Object) → (f o).no ≡ o.no)
       → ((o : Object) → Refers V (Some o) (Some (f o))) → IsClosed V w
@@ -117,27 +86,14 @@ module _ (V : ℕ → Type 0) where
 
   refers_field : (i : ℕ) (value : Option ℕ) (o : Object) → OfValue V value
       → Refers V (Some o) (Some (with_field i value o))
-  refers_field i value o is n target =
-      elim (has-cases (present (slice_set o.fields i value)) (allowed_referent any_referent o.reference) n target) [
-        | inl field ↦
-            elim (has-present_set o.fields i value n field) [
-              | inl before ↦ inl (has-left (present o.fields) (allowed_referent any_referent o.reference) n before)
-              | inr new ↦ inr (subst (OfValue V) new is)
-            ]
-        | inr referent ↦ inl (has-right (present o.fields) (allowed_referent any_referent o.reference) n referent)
-      ]
+  refers_field i value o is n target = grind (arith, has-cases, has-present_set, has-left, has-right)
 
   -- a change of what an object is as a reference leaves its fields
   refers_reference : (f : Reference → Reference) (o : Object)
       → ((n : ℕ) → has (allowed_referent any_referent (changed_reference f o.reference)) n ≡ true
       → has (allowed_referent any_referent o.reference) n ≡ true)
       → Refers V (Some o) (Some (with_reference f o))
-  refers_reference f o fewer n target =
-      elim (has-cases (present o.fields) (allowed_referent any_referent (changed_reference f o.reference)) n target) [
-        | inl field ↦ inl (has-left (present o.fields) (allowed_referent any_referent o.reference) n field)
-        | inr referent ↦
-            inl (has-right (present o.fields) (allowed_referent any_referent o.reference) n (fewer n referent))
-      ]
+  refers_reference f o fewer n target = grind (arith, has-cases, has-left)
 
   clears_referent : (r : Option Reference) (n : ℕ)
       → has (allowed_referent any_referent (changed_reference cleared r)) n ≡ true
@@ -166,40 +122,17 @@ module _ (V : ℕ → Type 0) where
 
   pub closed_got : (w : World) (held : Option ℕ) (clock : ℕ) → IsClosed V w
       → IsClosed V (with_heap w (changed_in w.heap held (with_reference (got_at clock))))
-  closed_got w held clock closed =
-      closed_changed w held (with_reference (got_at clock)) (λ o. refl)
-      (λ o. refers_reference (got_at clock) o (got_referent clock o.reference)) closed
+  closed_got w held clock closed = search (closed_changed, refers_reference, got_referent)
 
   -- one object more, which refers to what V holds of
   pub closed_push : (w : World) (o : Object)
       → ((n : ℕ) → has (targets_of any_referent (Some o)) n ≡ true → V n) → IsClosed V w
       → IsClosed V (with_heap w (record w.heap { objects = w.heap.objects ++ o ∷ [] }))
-  closed_push w o fresh closed =
-      let os : List Object = w.heap.objects in
-      closed_objects w (os ++ o ∷ [])
-      (λ m is. elim (cases_Bool (is_there os m)) [
-        | inl there ↦
-            subst (Refers V (object_at os m)) (sym (object_at-push os o m there)) (λ n target. inl target)
-        | inr absent ↦
-            subst (Refers V (object_at os m)) (sym (object_at-pushed os o m absent))
-            (elim (cases_Bool (o.no == m)) [
-              | inl own ↦ simp own (λ n target. inr (fresh n target))
-              | inr other ↦ simp other (λ n target. absurd (false≢true target))
-            ])
-      ]) closed
+  closed_push w o fresh closed = grind (arith, object_at-push, object_at-pushed)
 
   pub closed_swept : (w : World) (ns : List ℕ) → IsClosed V w
       → IsClosed V (with_heap w (record w.heap { objects = without ns w.heap.objects }))
-  closed_swept w ns closed =
-      let os : List Object = w.heap.objects in
-      closed_objects w (without ns os)
-      (λ m is. elim (cases_Bool (has ns m)) [
-        | inl out ↦
-            subst (Refers V (object_at os m)) (sym (object_at-gone ns os m out))
-            (λ n target. absurd (false≢true target))
-        | inr kept ↦
-            subst (Refers V (object_at os m)) (sym (object_at-without ns os m kept)) (λ n target. inl target)
-      ]) closed
+  closed_swept w ns closed = grind (arith, object_at-gone, object_at-without)
 
   -- ---- roots
 
@@ -216,11 +149,7 @@ module _ (V : ℕ → Type 0) where
   objects_of : (ps : List Pending) (n : ℕ) → AllByRecursion (λ p. V p.object) ps
       → has (map (λ p. p.object) ps) n ≡ true → V n
   objects_of [] n all h = absurd (false≢true h)
-  objects_of (p ∷ ps) n all h =
-      elim (or_cases (p.object == n) (has (map (λ p. p.object) ps) n) h) [
-        | inl same ↦ subst V (eqb-true p.object n same) all.0
-        | inr later ↦ objects_of ps n all.1 later
-      ]
+  objects_of (p ∷ ps) n all h = grind (arith, objects_of ps n all.1)
 
   pending_all : (lists : List (List Pending)) (n : ℕ)
       → ((k : ℕ) → AllByRecursion (λ p. V p.object) (slice_index_or lists k []))
@@ -234,11 +163,4 @@ module _ (V : ℕ → Type 0) where
 
   -- V holds of each root
   pub closed_roots : (w : World) (n : ℕ) → IsClosed V w → has (graph_of w).roots n ≡ true → V n
-  closed_roots w n closed root =
-      elim (has-cases (present w.heap.slots ++ w.heap.holds) (pending_numbers w.pending) n root) [
-        | inl first ↦ elim (has-cases (present w.heap.slots) w.heap.holds n first) [
-          | inl slot ↦ present_of w.heap.slots n closed.slots slot
-          | inr held ↦ closed.holds n held
-        ]
-        | inr pending ↦ pending_all w.pending n closed.pendings pending
-      ]
+  closed_roots w n closed root = grind (arith, has-cases, present_of, pending_all)

@@ -1,20 +1,20 @@
 -- What a row of a heap carries on: whatever holds of each object, of each notice and of the cycle holds afterwards
 -- where it holds of what the row makes anew.
-use Rattle.std.proofs.Common.{◌≡◌, ℕ, ◌+◌, Bool, true, false, if◌then◌else◌, List, [], ◌∷◌, ◌++◌, map, take, Option}
-use Rattle.std.proofs.Common.{Some, None, refl, ap}
+use Rattle.std.proofs.Common.{arith}
+use Rattle.std.proofs.Common.{◌≡◌, ℕ, ◌+◌, Bool, true, false, if◌then◌else◌, Option}
+use Rattle.std.proofs.Common.{Some, None, refl}
 use Rattle.ref_base.proofs.Common.{Object, plain_object, Heap, slot_at, reference_at, registered_in, with_reference}
-use Rattle.ref_base.proofs.Common.{cleared, got_at, with_field, got, cut, stored, made, nulls, new_reference, with_hold}
-use Rattle.ref_base.proofs.Common.{World, Notice, Pending, pending_of, with_heap, NamedStep, pended, handed_on, begun}
-use Rattle.ref_base.proofs.Common.{with_phase, without_pending, State, Makes, HeapAccepts, begun_state, shown, without}
-use Rattle.ref_base.proofs.Common.{doomed_at, Cycle, Clearing, Reply}
+use Rattle.ref_base.proofs.Common.{got_at, with_field, got, cut, stored, nulls, new_reference, with_hold}
+use Rattle.ref_base.proofs.Common.{World, Notice, Pending, pending_of, with_heap, NamedStep, pended, handed_on}
+use Rattle.ref_base.proofs.Common.{without_pending, State, Makes, HeapAccepts}
+use Rattle.ref_base.proofs.Common.{Cycle, Reply}
 use Rattle.ref_base.specs.declared.heap_step.HeapStep.TheVariants as heap
 use Rattle.ref_base.specs.declared.reply.Reply.TheVariants as replies
 use Rattle.ref_base.specs.Replay.{if_told, after_heap}
 use Rattle.ref_base.proofs.HeapMoves.{IsNoEnd, moved, heap_moves}
 use Rattle.ref_base.proofs.Places.{all_push}
-use Rattle.ref_base.proofs.CarryLaws.{all_map, all_without, Carries, Lasts, notice_from, all_without_first, shown_lasts}
-use Rattle.ref_base.proofs.CarryLaws.{carries_objects, carries_changed, carries_pending, carries_begun, in_world, given}
-use Rattle.ref_base.proofs.CarryLaws.{given_anew}
+use Rattle.ref_base.proofs.CarryLaws.{all_map, all_without, Carries, Lasts, notice_from, all_without_first}
+use Rattle.ref_base.proofs.CarryLaws.{carries_changed, carries_pending, given}
 
 module _ (O : Object → Type 0) (P : Notice → Type 0) (C : ℕ → Type 0) where
   -- ---- the rows of a heap
@@ -39,20 +39,13 @@ module _ (O : Object → Type 0) (P : Notice → Type 0) (C : ℕ → Type 0) wh
 
   makes : (a b : State) (m d : ℕ) (o : Object) (reply : Reply) → O o → Carries O P C a.world → Makes a m d o reply b
       → Carries O P C b.world
-  makes a b m d o reply is carries row =
-      let c : State = record a { world = with_heap a.world (made a.world.heap m d o); next = a.next + 1 } in
-      given O P C c b (replies.Object a.next) reply row
-      (carries_objects O P C a.world (a.world.heap.objects ++ o ∷ [])
-      (all_push O a.world.heap.objects o carries.objects is) carries)
+  makes a b m d o reply is carries row = search (given, all_push)
 
   pends : (w : World) (k n : ℕ) (queue : Option ℕ)
       → ((q : ℕ) → queue ≡ Some q → P (record { object = n; queue = q; cause = Cycle w.cycle k }))
       → Carries O P C w → Carries O P C (pended w k n queue)
   pends w k n None fresh carries = carries
-  pends w k n (Some q) fresh carries =
-      let p : Pending = record { object = n; queue = q; cycle = w.cycle } in
-      carries_pending O P C w k (pending_of w k ++ p ∷ [])
-      (all_push (λ p. P (notice_from k p)) (pending_of w k) p (carries.pendings k) (fresh q refl)) carries
+  pends w k n (Some q) fresh carries = search (carries_pending, all_push, carries.pendings k)
 
   module _ (lasts : Lasts O) where
     -- ---- where a step leads that makes no object, looks at nothing and frees nothing
@@ -82,9 +75,7 @@ module _ (O : Object → Type 0) (P : Notice → Type 0) (C : ℕ → Type 0) wh
           }
 
       cuts : (m s : ℕ) → At (with_heap w (cut w.heap m s))
-      cuts m s = record {
-        carries = carries_changed O P C w (slot_at w.heap m s) (with_reference cleared) lasts.clears carries;
-      }
+      cuts m s = search carries_changed
 
       gets : (m d s : ℕ) (value : Option ℕ) → At (with_heap w (got w.heap m d s value))
       gets m d s None = record { carries = carries }
@@ -120,38 +111,22 @@ module _ (O : Object → Type 0) (P : Notice → Type 0) (C : ℕ → Type 0) wh
 
     sweeps : (a : State) (k : ℕ) (reply : Reply) → Carries O P C a.world
         → Carries O P C (moved a (heap.Sweep k) reply).world
-    sweeps a k (replies.Swept count) carries =
-        let os : List Object = a.world.heap.objects in
-        carries_objects O P C a.world (without (take 64 a.doomed) os)
-        (all_without O (take 64 a.doomed) os carries.objects) carries
+    sweeps a k (replies.Swept count) carries = search all_without
     sweeps a k reply carries = carries
 
     -- a row that isn't a mark's end carries on what holds where it leads
     leads : (a b : State) (step : NamedStep) (reply : Reply) → IsNoEnd step → HeapAccepts a step reply b
         → Carries O P C (moved a step reply).world → Carries O P C b.world
-    leads a b step reply plain row carries =
-        in_world O P C b (moved a step reply).world (ap (λ (s : State). s.world) (heap_moves a b step reply plain row))
-        carries
+    leads a b step reply plain row carries = grind (arith, heap_moves)
 
     -- a row of a heap carries on what holds of all
     pub heap_carries : (a b : State) (step : NamedStep) (reply : Reply) → Anew a step reply → Carries O P C a.world
         → HeapAccepts a step reply b → Carries O P C b.world
     heap_carries a b (heap.New m d k) reply anew carries row =
         makes a b m d (plain_object a.next (nulls k)) reply (anew row.0) carries row
-    heap_carries a b (heap.Refer m strength d s q k) reply anew carries row =
-        makes a b m d (new_reference a.world.heap a.next strength (slot_at a.world.heap m s) q k) reply (anew row.0)
-        carries row
-    heap_carries a b (heap.Begin now how) reply anew carries row =
-        let n : ℕ = a.world.cycle + 1 in
-        given_anew O P C (begun_state a (begun a.world now how n)) b true (replies.Cycle n) reply row
-        (carries_begun O P C a.world now how n (anew row.0) carries)
-    heap_carries a b heap.EndMark reply anew carries row =
-        let os : List Object = map (λ o. shown (doomed_at a) o) a.world.heap.objects in
-        in_world O P C b (with_phase (with_heap a.world (record a.world.heap { objects = os })) Clearing)
-        (ap (λ (s : State). s.world) row.after)
-        (carries_objects O P C a.world os
-        (all_map a.world.heap.objects (λ o. shown (doomed_at a) o)
-        (λ o is. shown_lasts O (doomed_at a) o lasts is) carries.objects) carries)
+    heap_carries a b (heap.Refer m strength d s q k) reply anew carries row = search makes
+    heap_carries a b (heap.Begin now how) reply anew carries row = grind arith
+    heap_carries a b heap.EndMark reply anew carries row = grind (arith, all_map)
     heap_carries a b (heap.ClearNext k) reply anew carries row =
         leads a b (heap.ClearNext k) reply tt row (looks a k reply anew carries)
     heap_carries a b (heap.Sweep k) reply anew carries row =

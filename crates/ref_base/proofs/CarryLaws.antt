@@ -1,17 +1,17 @@
 -- What changes of a world carry on: whatever holds of each object, of each notice, in hands, in queues and still to be
 -- handed on, and of the cycle.
-use Rattle.std.proofs.Common.{◌≡◌, ℕ, Bool, true, false, not, ◌&&◌, ◌==◌, List, [], ◌∷◌, map, Option, Some, None, sym}
-use Rattle.std.proofs.Common.{ap, ◌∙◌, subst, inl, inr}
+use Rattle.std.proofs.Common.{arith}
+use Rattle.std.proofs.Common.{◌≡◌, ℕ, List, [], ◌∷◌, map, Option, Some, None, sym}
+use Rattle.std.proofs.Common.{ap, ◌∙◌, subst}
 use Rattle.std.specs.Prelude.{slice_index_or, slice_set}
 use Rattle.std.specs.List.{AllByRecursion}
-use Rattle.std.proofs.lemmas.Bool.{cases_Bool}
-use Rattle.ref_base.proofs.Common.{has, Object, refers_into, changed_at, changed_in, with_reference, cleared, got_at}
+use Rattle.ref_base.proofs.Common.{Object, changed_at, changed_in, with_reference, cleared, got_at}
 use Rattle.ref_base.proofs.Common.{with_field, Lists, new_queue, World, Notice, Pending, with_heap, with_hand}
-use Rattle.ref_base.proofs.Common.{with_queue, begun, State, Gives, GivesAnewIf, ticked, shown, Actor, Mutator, Worker}
-use Rattle.ref_base.proofs.Common.{Cycle, Urgency, Reply, without}
+use Rattle.ref_base.proofs.Common.{with_queue, State, Gives, Actor, Mutator, Worker}
+use Rattle.ref_base.proofs.Common.{Cycle, Reply, without}
 use Rattle.ref_base.specs.Members.{without_first}
 use Rattle.ref_base.proofs.Places.{set_each}
-use Rattle.ref_base.proofs.RowForms.{but_world, ticked_world}
+use Rattle.ref_base.proofs.RowForms.{ticked_world}
 
 -- ---- what holds of each object
 
@@ -19,11 +19,7 @@ pub all_changed : {P : Object → Type 0} (os : List Object) (n : ℕ) (f : Obje
     → ((o : Object) → P o → P (f o))
     → AllByRecursion P os → AllByRecursion P (changed_at os n f)
 all_changed [] n f keeps all = tt
-all_changed (o ∷ os) n f keeps all =
-    elim (cases_Bool (o.no == n)) [
-      | inl same ↦ simp same (keeps o all.0, all.1)
-      | inr other ↦ simp other (all.0, all_changed os n f keeps all.1)
-    ]
+all_changed (o ∷ os) n f keeps all = grind (arith, all_changed os n f keeps all.1)
 
 pub all_map : {P : Object → Type 0} (os : List Object) (f : Object → Object) → ((o : Object) → P o → P (f o))
     → AllByRecursion P os → AllByRecursion P (map f os)
@@ -33,11 +29,7 @@ all_map (o ∷ os) f keeps all = (keeps o all.0, all_map os f keeps all.1)
 pub all_without : (P : Object → Type 0) (ns : List ℕ) (os : List Object) → AllByRecursion P os
     → AllByRecursion P (without ns os)
 all_without P ns [] all = tt
-all_without P ns (o ∷ os) all =
-    elim (cases_Bool (has ns o.no)) [
-      | inl gone ↦ simp gone (all_without P ns os all.1)
-      | inr stays ↦ simp stays (all.0, all_without P ns os all.1)
-    ]
+all_without P ns (o ∷ os) all = grind (arith, all_without P ns os all.1)
 
 -- ---- what is carried
 
@@ -72,18 +64,7 @@ pub record Lasts (O : Object → Type 0) : Type 0 where
 pub all_without_first : {X : Type 0} (P : X → Type 0) (number : X → ℕ) (xs : List X) (n : ℕ) → AllByRecursion P xs
     → AllByRecursion P (without_first number xs n)
 all_without_first P number [] n all = tt
-all_without_first P number (x ∷ xs) n all =
-    elim (cases_Bool (number x == n)) [
-      | inl same ↦ simp same all.1
-      | inr other ↦ simp other (all.0, all_without_first P number xs n all.1)
-    ]
-
-pub shown_lasts : (O : Object → Type 0) (d : List ℕ) (o : Object) → Lasts O → O o → O (shown d o)
-shown_lasts O d o lasts is =
-    elim (cases_Bool (not (has d o.no) && refers_into (has d) o.reference)) [
-      | inl clears ↦ simp clears (lasts.clears o is)
-      | inr keeps ↦ simp keeps is
-    ]
+all_without_first P number (x ∷ xs) n all = grind (arith, all_without_first P number xs n all.1)
 
 module _ (O : Object → Type 0) (P : Notice → Type 0) (C : ℕ → Type 0) where
   -- ---- the changes of a world
@@ -121,10 +102,6 @@ module _ (O : Object → Type 0) (P : Notice → Type 0) (C : ℕ → Type 0) wh
       carries.stands in
       assumption (each, carries)
 
-  pub carries_begun : (w : World) (now : ℕ) (how : Urgency) (n : ℕ) → C n → Carries O P C w
-      → Carries O P C (begun w now how n)
-  carries_begun w now how n is carries = assumption carries
-
   -- ---- the forms of a row
 
   pub in_world : (b : State) (w : World) → b.world ≡ w → Carries O P C w → Carries O P C b.world
@@ -134,9 +111,3 @@ module _ (O : Object → Type 0) (P : Notice → Type 0) (C : ℕ → Type 0) wh
       → Carries O P C b.world
   given c b answer reply gives carries =
       in_world b c.world (ap (λ (s : State). s.world) gives.1 ∙ ticked_world c) carries
-
-  pub given_anew : (c b : State) (marks : Bool) (answer reply : Reply) → GivesAnewIf marks answer c reply b
-      → Carries O P C c.world → Carries O P C b.world
-  given_anew c b true answer reply gives carries =
-      in_world b c.world (but_world (ticked c) b gives.1 ∙ ticked_world c) carries
-  given_anew c b false answer reply gives carries = given c b answer reply gives carries

@@ -1,14 +1,14 @@
 -- What a row of the world carries on: whatever holds of each object, of each notice that is out or will be given, and
 -- of the cycle holds afterwards where it holds of what the row makes anew.
-use Rattle.std.proofs.Common.{◌≡◌, ℕ, Bool, true, false, ◌==◌, List, [], ◌∷◌, length, replicate, zero, suc, Option}
+use Rattle.std.proofs.Common.{arith}
+use Rattle.std.proofs.Common.{◌≡◌, ℕ, Bool, true, false, List, [], ◌∷◌, length, replicate, zero, suc, Option}
 use Rattle.std.proofs.Common.{Some, None, refl, sym, ap, ◌∙◌, subst, inl, inr}
 use Rattle.std.specs.Prelude.{slice_index_or}
 use Rattle.std.specs.List.{AllByRecursion}
-use Rattle.std.proofs.lemmas.Bool.{cases_Bool}
 use Rattle.ref_base.proofs.Common.{Object, slot_at, reference_at, registered_in, Lists, enqueued, with_parcel, World}
 use Rattle.ref_base.proofs.Common.{Notice, Pending, first_world, object_of, hand_of, queue_at, pending_of, with_hand}
-use Rattle.ref_base.proofs.Common.{with_queue, NamedStep, hold_of, spending, handed, put_in, took, taken_out, notice_of}
-use Rattle.ref_base.proofs.Common.{closed_queue, State, with_world, with_handed, AcceptsAsking, Unhooks, HandsOn}
+use Rattle.ref_base.proofs.Common.{NamedStep, hold_of, spending, handed, put_in, notice_of}
+use Rattle.ref_base.proofs.Common.{State, with_world, with_handed, AcceptsAsking, Unhooks, HandsOn}
 use Rattle.ref_base.proofs.Common.{PutsInto, Puts, Polls, Closes, Accepts, IsAnswer, IsRow, reference_of, refusal}
 use Rattle.ref_base.proofs.Common.{Config, Actor, Mutator, Worker, Own, Cycle, Fault, Step, Reply, Row}
 use Rattle.ref_base.specs.declared.heap_step.HeapStep.TheVariants as heap
@@ -26,11 +26,7 @@ use Rattle.ref_base.proofs.CarryHeaps.{Anew, heap_carries}
 pub all_notice_of : (P : Notice → Type 0) (notices : List Notice) (n : ℕ) → AllByRecursion P notices
     → OfHand P (notice_of notices n)
 all_notice_of P [] n all = tt
-all_notice_of P (notice ∷ rest) n all =
-    elim (cases_Bool (notice.object == n)) [
-      | inl same ↦ simp same all.0
-      | inr other ↦ simp other (all_notice_of P rest n all.1)
-    ]
+all_notice_of P (notice ∷ rest) n all = grind (arith, all_notice_of P rest n all.1)
 
 left_by : (c b : State) (step : Step) (answer reply : Reply) → reply ≡ answer → b ≡ with_handed c step reply
     → b.world ≡ handed c.world step answer
@@ -80,20 +76,12 @@ module _ (O : Object → Type 0) (P : Notice → Type 0) (C : ℕ → Type 0) wh
       → Polls a m q stands reply b → Carries O P C b.world
   polls a b m q [] reply carries row = given O P C a b _ reply row carries
   polls a b m q (notice ∷ rest) reply carries row =
-      let lists : Lists Notice = queue_at a.world q in
-      let n : ℕ = notice.object in
-      given O P C (with_world a (took a.world m q n)) b (replies.Took n) reply row
-      (carries_hand O P C (with_queue a.world q (taken_out lists n)) (Mutator m) (notice_of lists.stands n)
-      (all_notice_of P lists.stands n (carries.stands q))
-      (carries_queue O P C a.world q (taken_out lists n)
-      (all_without_first P object_of lists.stands n (carries.stands q)) carries))
+      search (given, carries_hand, all_notice_of, carries_queue, all_without_first, carries.stands q)
 
   closes : (a b : State) (q : ℕ) (shut : Bool) (reply : Reply) → Carries O P C a.world → Closes a q shut reply b
       → Carries O P C b.world
   closes a b q true reply carries row = given O P C a b replies.Closed reply row carries
-  closes a b q false reply carries row =
-      given O P C (with_world a (closed_queue a.world q)) b replies.Done reply row
-      (carries_queue O P C a.world q (record (queue_at a.world q) { closed = true }) (carries.stands q) carries)
+  closes a b q false reply carries row = search (given, carries_queue, carries.stands q)
 
   -- ---- hands
 
@@ -154,9 +142,7 @@ module _ (O : Object → Type 0) (P : Notice → Type 0) (C : ℕ → Type 0) wh
     quiet : (a b : State) (asked : NamedStep) (step : Step) (reply : Reply) → Anew O P C a asked reply
         → Carries O P C a.world → AcceptsAsking a (Some asked) step reply b
         → ((w : World) → handed w step reply ≡ w) → Carries O P C b.world
-    quiet a b asked step reply anew carries row still =
-        hands_none row.0 b step reply reply (still row.0.world) refl row.2
-        (heap_carries O P C lasts a row.0 asked reply anew carries row.1)
+    quiet a b asked step reply anew carries row still = grind (arith, heap_carries)
 
     accepted : (a b : State) (step : Step) (reply : Reply) → Mints a step reply → Carries O P C a.world
         → Accepts a step reply b → Carries O P C b.world
@@ -216,20 +202,7 @@ pub all_more : {X : Type 0} (P R : X → Type 0) (xs : List X) → ((x : X) → 
 all_more P R [] more all = tt
 all_more P R (x ∷ xs) more all = (more x all.0, all_more P R xs more all.1)
 
-hand_more : (P R : Notice → Type 0) (hand : Option Notice) → ((notice : Notice) → P notice → R notice)
-    → OfHand P hand → OfHand R hand
-hand_more P R None more is = tt
-hand_more P R (Some notice) more is = more notice is
-
 pub carries_more : (O Q : Object → Type 0) (P R : Notice → Type 0) (C D : ℕ → Type 0) (w : World)
     → ((o : Object) → O o → Q o) → ((notice : Notice) → P notice → R notice) → D w.cycle → Carries O P C w
     → Carries Q R D w
-carries_more O Q P R C D w of_objects of_notices of_cycle carries = record {
-  objects = all_more O Q w.heap.objects of_objects carries.objects;
-  pendings = λ k. all_more (λ p. P (notice_from k p)) (λ p. R (notice_from k p)) (pending_of w k)
-      (λ p is. of_notices (notice_from k p) is) (carries.pendings k);
-  of_mutators = λ m. hand_more P R (hand_of w (Mutator m)) of_notices (carries.of_mutators m);
-  of_workers = λ k. hand_more P R (hand_of w (Worker k)) of_notices (carries.of_workers k);
-  stands = λ q. all_more P R (queue_at w q).stands of_notices (carries.stands q);
-  goes_on = of_cycle;
-}
+carries_more O Q P R C D w of_objects of_notices of_cycle carries = grind (arith, all_more)

@@ -1,26 +1,25 @@
 -- What a mark's end clears reads as cleared from then on, in every state after it.
-use Rattle.std.proofs.Common.{◌≡◌, ℕ, ◌<◌, true, false, ◌==◌, List, [], ◌∷◌, ◌++◌, map, Option, Some, None, inl, inr}
-use Rattle.std.proofs.Common.{refl, sym, ap, ◌∙◌, subst, arith}
+use Rattle.std.proofs.Common.{◌≡◌, ℕ, ◌<◌, true, false, List, [], ◌∷◌, ◌++◌, map, Option, Some, None, inl, inr}
+use Rattle.std.proofs.Common.{refl, sym, ◌∙◌, arith}
 use Rattle.std.specs.List.{AllByRecursion}
-use Rattle.std.proofs.lemmas.Bool.{cases_Bool, or_cases, and_parts, eqb-true, eq-eqb, both_ways, true≢false}
-use Rattle.ref_base.proofs.Common.{has, Object, Reference, object_at, is_there, numbers, IsRising, is_soft, is_phantom}
-use Rattle.ref_base.proofs.Common.{is_new_clear, new_clears, slot_at, reference_in, reference_at, changed_reference}
-use Rattle.ref_base.proofs.Common.{cleared, got_at, World, Notice, Pending, hand_of, queue_at, pending_of, State}
-use Rattle.ref_base.proofs.Common.{first_state, IsRow, IsRun, doomed_at, shown, referent_of, Gets, referent_got}
-use Rattle.ref_base.proofs.Common.{reference_of, EndsMark, HeapAccepts, NamedStep, Mutator, Worker, Config, Reply, Row}
+use Rattle.std.proofs.lemmas.Bool.{cases_Bool, and_parts}
+use Rattle.ref_base.proofs.Common.{has, Object, Reference, object_at, is_there, numbers, IsRising, is_soft}
+use Rattle.ref_base.proofs.Common.{new_clears, slot_at, reference_in, reference_at, changed_reference}
+use Rattle.ref_base.proofs.Common.{cleared, got_at, World, Notice, Pending, State}
+use Rattle.ref_base.proofs.Common.{first_state, IsRow, IsRun, doomed_at, shown, referent_of}
+use Rattle.ref_base.proofs.Common.{EndsMark, HeapAccepts, NamedStep, Config, Reply, Row}
 use Rattle.ref_base.specs.declared.heap_step.HeapStep.TheVariants as heap
 use Rattle.ref_base.specs.declared.step.Step.TheVariants as steps
 use Rattle.ref_base.specs.declared.reply.Reply.TheVariants as replies
 use Rattle.ref_base.proofs.CarryLaws.{OfHand, Carries, Lasts, notice_from}
 use Rattle.ref_base.proofs.CarryHeaps.{Anew, heap_carries}
 use Rattle.ref_base.proofs.CountedTraces.{legal_counted}
-use Rattle.ref_base.proofs.NewClears.{IsRising-tail, is_there-rising, has-new_clears}
+use Rattle.ref_base.proofs.NewClears.{is_there-rising, has-new_clears}
 use Rattle.ref_base.proofs.OldNames.{legal_numbers}
 use Rattle.ref_base.proofs.OneQueue.{next_heap}
 use Rattle.ref_base.proofs.HeapTurns.{at_rest, IsTurn, accepted, row_turn}
 use Rattle.ref_base.proofs.RunFronts.{goes_on}
-use Rattle.ref_base.proofs.RunLaws.{run_more, run_on}
-use Rattle.ref_base.proofs.ShownObjects.{shown-no}
+use Rattle.ref_base.proofs.RunLaws.{run_more}
 
 -- ---- a reference that has no referent
 
@@ -38,20 +37,12 @@ got_has_same clock (Some r) =
     elim (cases_Bool (is_soft r.strength)) [ inl soft ↦ simp soft refl | inr other ↦ simp other refl ]
 
 cleared_lasts : (n : ℕ) → Lasts (IsCleared n)
-cleared_lasts n = record {
-  stores = λ o i value is. is;
-  clears = λ o is same. cut_has_none o.reference;
-  gets = λ o clock is same. got_has_same clock o.reference ∙ is same;
-}
+cleared_lasts n = search (cut_has_none, got_has_same)
 
 pub cleared_at : (os : List Object) (n : ℕ) → AllByRecursion (IsCleared n) os
     → referent_of (reference_in (object_at os n)) ≡ None
 cleared_at [] n all = refl
-cleared_at (o ∷ os) n all =
-    elim (cases_Bool (o.no == n)) [
-      | inl same ↦ simp same (all.0 (eqb-true o.no n same))
-      | inr other ↦ simp other (cleared_at os n all.1)
-    ]
+cleared_at (o ∷ os) n all = grind (arith, cleared_at os n all.1)
 
 -- ---- at the mark's end
 
@@ -63,44 +54,12 @@ new_clear_there os d n rising new = (and_parts (is_there os n) _ (sym (has-new_c
 others_shown : (os : List Object) (d : List ℕ) (n : ℕ) → is_there os n ≡ false
     → AllByRecursion (IsCleared n) (map (λ o. shown d o) os)
 others_shown [] d n absent = tt
-others_shown (o ∷ os) d n absent =
-    elim (cases_Bool (o.no == n)) [
-      | inl same ↦ absurd (true≢false (simp same at absent))
-      | inr other ↦ (
-        λ same. absurd (both_ways (o.no == n) other (eq-eqb o.no n (sym (shown-no d o) ∙ same))),
-        others_shown os d n (simp other at absent),
-      )
-    ]
-
-new_clear_shown : (d : List ℕ) (o : Object) → is_new_clear d o ≡ true → referent_of (shown d o).reference ≡ None
-new_clear_shown d o new = simp new (cut_has_none o.reference)
+others_shown (o ∷ os) d n absent = grind (arith, others_shown os d n)
 
 all_shown : (os : List Object) (d : List ℕ) (n : ℕ) → IsRising (numbers os) → has (new_clears os d) n ≡ true
     → AllByRecursion (IsCleared n) (map (λ o. shown d o) os)
 all_shown [] d n rising within = tt
-all_shown (o ∷ os) d n rising within =
-    let behind : IsRising (numbers os) = IsRising-tail o.no (numbers os) rising in
-    elim (cases_Bool (is_new_clear d o)) [
-      | inl new ↦
-          let either : has (o.no ∷ new_clears os d) n ≡ true = simp new at within in
-          elim (or_cases (o.no == n) (has (new_clears os d) n) either) [
-            | inl first ↦
-                let same : o.no ≡ n = eqb-true o.no n first in (
-                  λ _. new_clear_shown d o new,
-                  others_shown os d n (is_there-rising os n o.no (omega (arith, same)) rising),
-                )
-            | inr later ↦ (λ _. new_clear_shown d o new, all_shown os d n behind later)
-          ]
-      | inr old ↦
-          let later : has (new_clears os d) n ≡ true = simp old at within in (
-            λ is.
-                let same : o.no ≡ n = sym (shown-no d o) ∙ is in
-                absurd
-                (both_ways (is_there os n) (is_there-rising os n o.no (omega (arith, same)) rising)
-                (new_clear_there os d n behind later)),
-            all_shown os d n behind later,
-          )
-    ]
+all_shown (o ∷ os) d n rising within = grind (arith, others_shown, is_there-rising, new_clear_there, all_shown os d n)
 
 -- n is the number of no object to come, and each object of that number has no referent
 abbrev pub StaysCleared : ℕ → State → Type 0
@@ -109,11 +68,7 @@ StaysCleared n a = (n < a.next) × AllByRecursion (IsCleared n) a.world.heap.obj
 pub ended_cleared : (a b : State) (reply : Reply) (n : ℕ) → IsRising (numbers a.world.heap.objects)
     → ((m : ℕ) → is_there a.world.heap.objects m ≡ true → m < a.next) → EndsMark a reply b
     → has (new_clears a.world.heap.objects (doomed_at a)) n ≡ true → StaysCleared n b
-ended_cleared a b reply n rising below ends new =
-    let os : List Object = a.world.heap.objects in
-    let d : List ℕ = doomed_at a in
-    subst (StaysCleared n) (sym ends.after)
-    (below n (new_clear_there os d n rising new), all_shown os d n rising new)
+ended_cleared a b reply n rising below ends new = grind (arith, new_clear_there, all_shown)
 
 -- ---- from then on
 
@@ -137,14 +92,7 @@ hand_anything (Some notice) = tt
 
 carries_objects_alone : (O : Object → Type 0) (w : World) → AllByRecursion O w.heap.objects
     → Carries O Anything AnyCycle w
-carries_objects_alone O w all = record {
-  objects = all;
-  pendings = λ k. all_anything k (pending_of w k);
-  of_mutators = λ m. hand_anything (hand_of w (Mutator m));
-  of_workers = λ k. hand_anything (hand_of w (Worker k));
-  stands = λ q. each_anything (queue_at w q).stands;
-  goes_on = tt;
-}
+carries_objects_alone O w all = search (all_anything, hand_anything, each_anything)
 
 -- what is made anew has another number
 makes_another : (n : ℕ) (a : State) (step : NamedStep) (reply : Reply) → n < a.next
@@ -159,18 +107,11 @@ makes_another n a step reply under = tt
 pub heap_cleared : (n : ℕ) (a b : State) (step : NamedStep) (reply : Reply) → StaysCleared n a
     → HeapAccepts a step reply b → StaysCleared n b
 heap_cleared n a b step reply is row =
-    let under = is.0 in
-    let grows = next_heap a b step reply row in
-    let carries = heap_carries (IsCleared n) Anything AnyCycle (cleared_lasts n) a b step reply
-    (makes_another n a step reply under) (carries_objects_alone (IsCleared n) a.world is.1) row in
-    (omega (arith, under, grows), carries.objects)
+    grind (arith, next_heap, heap_carries, carries_objects_alone, cleared_lasts n, makes_another n a step reply)
 
 -- other hands and queues
 same_cleared : (n : ℕ) (a b : State) → at_rest b ≡ at_rest a → StaysCleared n a → StaysCleared n b
-same_cleared n a b same is = (
-  subst (λ k. n < k) (sym (ap (λ (s : State). s.next) same)) is.0,
-  subst (AllByRecursion (IsCleared n)) (sym (ap (λ (s : State). s.world.heap.objects) same)) is.1,
-)
+same_cleared n a b same is = grind arith
 
 -- so each turn keeps it
 pub turn_cleared : (n : ℕ) (a b : State) (asked : Option NamedStep) (reply : Reply) → IsTurn a asked reply b
@@ -207,27 +148,11 @@ stays_cleared config front a b count rows c n first ends later new =
 
 -- ---- gets
 
-got_of : (r : Option Reference) → referent_of r ≡ None → referent_got r ≡ None
-got_of None none = refl
-got_of (Some r) none =
-    elim (cases_Bool (is_phantom r.strength)) [
-      | inl phantom ↦ simp phantom refl
-      | inr other ↦ simp other none
-    ]
-
-get_none : (c e : State) (m d s k : ℕ) (value : Option ℕ) → value ≡ None → Gets c m d s value (replies.Object k) e → ⊥
-get_none c e m d s k None is row = let no = row.0 in absurd cc
-get_none c e m d s k (Some n) is row = absurd cc
-
 -- no get of a reference that has no referent answers an object
 pub no_get : (c e : State) (m d s n k : ℕ) → slot_at c.world.heap m s ≡ Some n
     → referent_of (reference_at c.world.heap n) ≡ None
     → ¬ (IsTurn c (Some (heap.Get m d s)) (replies.Object k) e)
-no_get c e m d s n k holds none turn =
-    let of = accepted c e (heap.Get m d s) (replies.Object k) (λ fault no. absurd cc) turn in
-    get_none c of.0 m d s k (referent_got (reference_of c.world.heap (slot_at c.world.heap m s)))
-    (ap (λ (held : Option ℕ). referent_got (reference_of c.world.heap held)) holds
-    ∙ got_of (reference_at c.world.heap n) none) of.2
+no_get c e m d s n k holds none turn = grind arith
 
 -- so none of what a mark's end cleared does
 pub never_got : (config : Config) (front : List Row) (a b : State) (count : ℕ) (rows : List Row) (c : State) (n : ℕ)
@@ -236,7 +161,4 @@ pub never_got : (config : Config) (front : List Row) (a b : State) (count : ℕ)
     → has (new_clears a.world.heap.objects (doomed_at a)) n ≡ true → slot_at c.world.heap m s ≡ Some n
     → ¬ (IsRow c (record { step = steps.Get m d s; reply = replies.Object k }) e)
 never_got config front a b count rows c n m d s k e first ends later new holds row =
-    let ended : Row = record { step = steps.EndMark; reply = replies.Doomed count } in
-    let run = run_on (first_state config) front a b c ended rows first ends later in
-    no_get c e m d s n k holds (stays_cleared config front a b count rows c n first ends later new)
-    (row_turn c (record { step = steps.Get m d s; reply = replies.Object k }) e (legal_counted config _ c run) row)
+    grind (arith, stays_cleared, no_get c e m d s n k holds)

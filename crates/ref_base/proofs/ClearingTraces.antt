@@ -1,12 +1,13 @@
 -- In every legal trace each queue has a worker's references in the order in which the worker cleared them.
-use Rattle.std.proofs.Common.{◌≡◌, ℕ, true, false, ◌==◌, ◌&&◌, List, [], ◌∷◌, ◌++◌, length, replicate, zero, suc, ◌<◌}
+use Rattle.std.proofs.Common.{arith}
+use Rattle.std.proofs.Common.{◌≡◌, ℕ, true, false, List, [], ◌∷◌, ◌++◌, length, replicate, zero, suc, ◌<◌}
 use Rattle.std.proofs.Common.{Option, Some, None, inl, inr, refl, sym, ap, ◌∙◌, subst, append_assoc}
-use Rattle.std.specs.Prelude.{slice_index_or, slice_set, is_some}
-use Rattle.std.proofs.lemmas.Bool.{cases_eq, eqb-true, ltb-true, ne_eqb, both_ways, and_right}
+use Rattle.std.specs.Prelude.{slice_index_or, slice_set}
+use Rattle.std.proofs.lemmas.Bool.{cases_eq, eqb-true, ne_eqb, and_right}
 use Rattle.std.proofs.lemmas.List.{append-nil, get_or-set_same, get_or-set_other}
 use Rattle.ref_base.proofs.Common.{reference_at, registered_in, World, Notice, Pending, SameOthers, first_world}
-use Rattle.ref_base.proofs.Common.{hand_of, told_object, told_notice, is_done, told_taken, heap_step, put_in, after}
-use Rattle.ref_base.proofs.Common.{replayed, State, first_state, refusal, is_worker, IsAnswer, IsRun, is_subsequence}
+use Rattle.ref_base.proofs.Common.{hand_of, heap_step, put_in, after}
+use Rattle.ref_base.proofs.Common.{replayed, State, first_state, refusal, IsAnswer, IsRun, is_subsequence}
 use Rattle.ref_base.proofs.Common.{IsLegal, is_registered, if_registered, clearing_order, is_by, if_worked, added_of}
 use Rattle.ref_base.proofs.Common.{Actor, Mutator, Worker, Cause, Own, Cycle, Config, Fault, Step, Reply, Row}
 use Rattle.ref_base.specs.WorkerOrder.{cleared_by, cleared_in}
@@ -15,7 +16,6 @@ use Rattle.ref_base.specs.declared.step.Step.TheVariants as steps
 use Rattle.ref_base.specs.declared.reply.Reply.TheVariants as replies
 use Rattle.ref_base.proofs.SoundWorlds.{first_hand, first_sound}
 use Rattle.ref_base.proofs.Places.{place_there}
-use Rattle.ref_base.proofs.RowForms.{unless_passes}
 use Rattle.ref_base.proofs.CountedTraces.{legal_counted}
 use Rattle.ref_base.proofs.CarryLaws.{OfHand}
 use Rattle.ref_base.proofs.ProvenTraces.{made_at, registered_more, legal_known}
@@ -26,12 +26,12 @@ use Rattle.ref_base.proofs.LegalQueues.{run_sound}
 use Rattle.ref_base.proofs.SameOthers.{same_hand}
 use Rattle.ref_base.proofs.AddedRows.{TellsAdded, answer_tells_added}
 use Rattle.ref_base.proofs.RowMoves.{Moves, row_moves}
-use Rattle.ref_base.proofs.RowHands.{IsBy, others_after, row_hands, hand_tells, hand_given}
-use Rattle.ref_base.proofs.HandCauses.{IsOwnOrPut, HaveCauses, legal_causes}
+use Rattle.ref_base.proofs.RowHands.{IsBy, others_after, row_hands}
+use Rattle.ref_base.proofs.HandCauses.{HaveCauses, legal_causes}
 use Rattle.ref_base.proofs.Subsequences.{Sub, sub_none, sub_through, sub_behind, sub_before, sub_is}
-use Rattle.ref_base.proofs.ClearingShifts.{waiting_in, Shifts, still, emptied, put, passes, mutator_taking}
-use Rattle.ref_base.proofs.ClearingShifts.{mutator_emptied, mutator_polled, queue_closed, released, adopt_pends}
-use Rattle.ref_base.proofs.ClearingShifts.{release_pends, at, clears_for, hands_to}
+use Rattle.ref_base.proofs.ClearingShifts.{waiting_in, Shifts, still, put, passes}
+use Rattle.ref_base.proofs.ClearingShifts.{released}
+use Rattle.ref_base.proofs.ClearingShifts.{at, clears_for, hands_to}
 
 -- ---- a put that was added
 
@@ -41,32 +41,12 @@ not_by k j Own other by_it = absurd cc
 not_by k j (Cycle cycle w) other by_it = ne_eqb w k (λ same. other (sym same ∙ eqb-true w j by_it))
 
 pub none_worked : (k q : ℕ) (notice : Notice) → is_by k notice.cause ≡ false → if_worked k q (Some notice) ≡ []
-none_worked k q notice is =
-    let neither : ((notice.queue == q) && is_by k notice.cause) ≡ false =
-    and_right (notice.queue == q) (is_by k notice.cause) is in
-    simp neither refl
-
--- what a mutator puts in anew is of no worker's clearing
-mutator_adds : (k q : ℕ) (a : State) (m position : ℕ) (tells : TellsAdded a (Mutator m) position)
-    → OfHand (IsOwnOrPut a.world) (Some tells.notice) → if_worked k q (Some tells.notice) ≡ []
-mutator_adds k q a m position tells cause =
-    elim cause [
-      | inl own ↦ none_worked k q tells.notice (ap (λ c. is_by k c) own)
-      | inr again ↦ absurd (both_ways _ tells.fresh again)
-    ]
+none_worked k q notice is = search and_right
 
 adds : (k q : ℕ) (a b : State) (who : Actor) (position : ℕ) → (tells : TellsAdded a who position)
     → HaveCauses a.world → hand_of b.world (Worker k) ≡ hand_of (put_in a.world who (hand_of a.world who)) (Worker k)
     → b.world.pending ≡ a.world.pending → Shifts k q a.world b.world (if_worked k q (hand_of a.world who)) []
-adds k q a b (Mutator m) position tells have hands pends =
-    let hand : hand_of a.world (Mutator m) ≡ Some tells.notice = tells.hand in
-    let cause : OfHand (IsOwnOrPut a.world) (Some tells.notice) =
-    subst (λ (h : Option Notice). OfHand (IsOwnOrPut a.world) h) hand (have (Mutator m)) in
-    passes k q a.world b.world (if_worked k q (hand_of a.world (Mutator m))) []
-    (ap (λ (h : Option Notice). if_worked k q h) hand ∙ mutator_adds k q a m position tells cause)
-    (still k q a.world b.world []
-    (hands ∙ ap (λ (h : Option Notice). hand_of (put_in a.world (Mutator m) h) (Worker k)) hand)
-    (at a.world b.world k pends))
+adds k q a b (Mutator m) position tells have hands pends = grind (arith, still, have (Mutator m))
 adds k q a b (Worker j) position tells have hands pends =
     let hand : hand_of a.world (Worker j) ≡ Some tells.notice = tells.hand in
     let now : hand_of b.world (Worker k) ≡ slice_index_or (slice_set a.world.worker_hands j None) k None =
@@ -99,12 +79,7 @@ hands_on : (k q : ℕ) (a b : State) (j n i : ℕ) (cause : Cause) (fault : Opti
     → Moves a (heap_step a.world (steps.Hand j)) (replies.Notice n i cause) b
     → Shifts k q a.world b.world [] []
 hands_on k q a b j n i cause (Some fault) is sound row hands moves = let no = row.0 in absurd cc
-hands_on k q a b j n i cause None is sound row hands moves =
-    let tells = hand_given a b j n i cause None is row in
-    let first = unless_passes (is_worker a.world.heap j) _ _ is in
-    hands_to k q a.world b.world j n i cause tells.first tells.rest tells.pending tells.object tells.queue tells.empty
-    (hand_tells a b j (replies.Notice n i cause) None row)
-    (rw sound (ltb-true j a.world.heap.config.workers first.0)) hands moves.pending
+hands_on k q a b j n i cause None is sound row hands moves = grind (arith, hands_to k q a.world b.world j n i cause)
 
 pub step_shifts : (whole : List Row) (k q : ℕ) (a b : State) (step : Step) (reply : Reply)
     → length a.world.worker_hands ≡ a.world.heap.config.workers → HaveCauses a.world
@@ -113,31 +88,15 @@ pub step_shifts : (whole : List Row) (k q : ℕ) (a b : State) (step : Step) (re
     → hand_of b.world (Worker k) ≡ hand_of (others_after a.world step reply) (Worker k)
     → Shifts k q a.world b.world (added_by a.world k q step reply) (if_registered whole q (cleared_by k step reply))
 step_shifts whole k q a b (steps.Put who) (replies.Added position) sound have made row moves hands =
-    adds k q a b who position (answer_tells_added a b who position (refusal a (steps.Put who)) row) have hands
-    moves.pending
+    search (adds, answer_tells_added)
 step_shifts whole k q a b (steps.Hand j) (replies.Notice n i cause) sound have made row moves hands =
     hands_on k q a b j n i cause (refusal a (steps.Hand j)) refl sound row hands moves
-step_shifts whole k q a b (steps.ClearNext j) (replies.Cleared n) sound have made row moves hands =
-    clears_for whole k q j n a.world b.world (registered_in (reference_at a.world.heap n)) (λ i there. made n i there)
-    hands moves.pending
-step_shifts whole k q a b (steps.Unhook m s) reply sound have made row moves hands =
-    still k q a.world b.world [] (hands ∙ mutator_taking a.world m k (told_notice reply))
-    (at a.world b.world k moves.pending)
-step_shifts whole k q a b (steps.Adopt m d) reply sound have made row moves hands =
-    still k q a.world b.world [] (hands ∙ mutator_emptied a.world m k (is_some (told_object reply)))
-    (at a.world b.world k (moves.pending ∙ adopt_pends (hand_of a.world (Mutator m)) a.world m d reply))
-step_shifts whole k q a b (steps.Release who) reply sound have made row moves hands =
-    let pends = at a.world b.world k (moves.pending ∙ release_pends (hand_of a.world who) a.world reply) in
-    elim (released a.world who k (is_done reply)) [
-      | inl as_before ↦ still k q a.world b.world [] (hands ∙ as_before) pends
-      | inr empty ↦ emptied k q a.world b.world [] (hands ∙ empty) pends
-    ]
-step_shifts whole k q a b (steps.Poll m i) reply sound have made row moves hands =
-    still k q a.world b.world [] (hands ∙ mutator_polled a.world m k i (told_taken reply))
-    (at a.world b.world k moves.pending)
-step_shifts whole k q a b (steps.Close m i) reply sound have made row moves hands =
-    still k q a.world b.world [] (hands ∙ queue_closed a.world k i (is_done reply))
-    (at a.world b.world k moves.pending)
+step_shifts whole k q a b (steps.ClearNext j) (replies.Cleared n) sound have made row moves hands = search clears_for
+step_shifts whole k q a b (steps.Unhook m s) reply sound have made row moves hands = grind (arith, still)
+step_shifts whole k q a b (steps.Adopt m d) reply sound have made row moves hands = grind (arith, still)
+step_shifts whole k q a b (steps.Release who) reply sound have made row moves hands = grind (arith, released, still)
+step_shifts whole k q a b (steps.Poll m i) reply sound have made row moves hands = grind (arith, still)
+step_shifts whole k q a b (steps.Close m i) reply sound have made row moves hands = grind (arith, still)
 step_shifts whole k q a b step reply sound have made row moves hands =
     still k q a.world b.world [] hands (at a.world b.world k moves.pending)
 

@@ -1,18 +1,18 @@
 -- No row of a heap but a mark's end changes of what holds of whatever a root names, and whatever that refers to.
-use Rattle.std.proofs.Common.{◌≡◌, ℕ, ◌+◌, ◌*◌, Bool, true, false, ◌==◌, List, [], ◌∷◌, ◌++◌, length, take, drop, min}
-use Rattle.std.proofs.Common.{Option, Some, None, refl, sym, ap, ◌∙◌, subst, inl, inr}
-use Rattle.std.specs.Prelude.{slice_index_or, slice_set}
+use Rattle.std.proofs.Common.{arith}
+use Rattle.std.proofs.Common.{◌≡◌, ℕ, ◌+◌, ◌*◌, Bool, true, false, List, [], ◌∷◌, ◌++◌}
+use Rattle.std.proofs.Common.{Option, Some, None, sym, ap, ◌∙◌, subst, inl, inr}
 use Rattle.std.specs.List.{AllByRecursion}
-use Rattle.std.proofs.lemmas.Bool.{cases_Bool, and_parts, false≢true}
+use Rattle.std.proofs.lemmas.Bool.{false≢true}
 use Rattle.ref_base.proofs.Common.{has, Object, object_at, plain_object, any_referent, present, if_any, targets_of}
-use Rattle.ref_base.proofs.Common.{targets_at, Heap, slot_at, reference_at, registered_in, with_slot, with_reference}
-use Rattle.ref_base.proofs.Common.{got_at, got, cut, stored, made, nulls, new_reference, changed_in, with_hold}
+use Rattle.ref_base.proofs.Common.{Heap, slot_at, with_slot, with_reference}
+use Rattle.ref_base.proofs.Common.{got_at, got, cut, made, nulls, new_reference, changed_in, with_hold}
 use Rattle.ref_base.proofs.Common.{without_hold, World, Pending, pending_of, with_heap, with_pending, told_object}
-use Rattle.ref_base.proofs.Common.{NamedStep, adopted, pended, handed_on, begun, with_phase, without_pending, State}
+use Rattle.ref_base.proofs.Common.{NamedStep, adopted, pended, handed_on, with_phase, without_pending, State}
 use Rattle.ref_base.proofs.Common.{Gives, GivesAnewIf, ticked, on_heap, with_world, Makes, Loads, Gets, Unhooks, Holds}
-use Rattle.ref_base.proofs.Common.{Scans, ClearsNext, HandsOn, Sweeps, HeapAccepts, value_reply, looked_at, looked}
-use Rattle.ref_base.proofs.Common.{list_at, begun_state, without, field_in, referent_got, reference_of, is_in}
-use Rattle.ref_base.proofs.Common.{heap_refusal, is_counted, has_slot, Own, Cycle, Phase, Idle, Marking, Clearing}
+use Rattle.ref_base.proofs.Common.{Scans, ClearsNext, HandsOn, Sweeps, HeapAccepts, value_reply}
+use Rattle.ref_base.proofs.Common.{list_at, field_in, referent_got, reference_of, is_in}
+use Rattle.ref_base.proofs.Common.{heap_refusal, Own, Cycle, Phase, Idle, Marking, Clearing}
 use Rattle.ref_base.proofs.Common.{Sweeping, Reply}
 use Rattle.ref_base.specs.declared.heap_step.HeapStep.TheVariants as heap
 use Rattle.ref_base.specs.declared.reply.Reply.TheVariants as replies
@@ -20,7 +20,7 @@ use Rattle.ref_base.proofs.Places.{all_push}
 use Rattle.ref_base.proofs.CarryLaws.{all_without_first}
 use Rattle.ref_base.proofs.HasLaws.{has-cases}
 use Rattle.ref_base.proofs.StrengthLaws.{if_any-has}
-use Rattle.ref_base.proofs.RowForms.{but_world, ticked_world, unless_passes}
+use Rattle.ref_base.proofs.RowForms.{but_world, ticked_world}
 use Rattle.ref_base.proofs.HeapMoves.{IsNoEnd}
 use Rattle.ref_base.proofs.ReplayUnder.{made_number}
 use Rattle.ref_base.proofs.PhaseLaws.{of_phase}
@@ -31,16 +31,7 @@ use Rattle.ref_base.proofs.ApartWorlds.{closed_stored, closed_cut, closed_got, c
 -- V holds of whatever these roots and objects name, also where the rest of the world is another
 pub closed_same : (V : ℕ → Type 0) (v w : World) → w.heap.slots ≡ v.heap.slots → w.heap.holds ≡ v.heap.holds
     → w.pending ≡ v.pending → w.heap.objects ≡ v.heap.objects → IsClosed V v → IsClosed V w
-closed_same V v w slots holds pending objects closed = record {
-  slots = λ i. subst (λ (vs : List (Option ℕ)). OfValue V (slice_index_or vs i None)) (sym slots) (closed.slots i);
-  holds = λ n held. closed.holds n (ap (λ ns. has ns n) (sym holds) ∙ held);
-  pendings = λ k.
-      subst (λ (lists : List (List Pending)). AllByRecursion (λ p. V p.object) (slice_index_or lists k []))
-      (sym pending) (closed.pendings k);
-  targets = λ m n is target.
-      closed.targets m n is
-      (ap (λ (os : List Object). has (targets_at any_referent os m) n) (sym objects) ∙ target);
-}
+closed_same V v w slots holds pending objects closed = grind arith
 
 module _ (V : ℕ → Type 0) where
   in_world : (b : State) (w : World) → b.world ≡ w → IsClosed V w → IsClosed V b.world
@@ -74,16 +65,12 @@ module _ (V : ℕ → Type 0) where
   module _ (a b : State) (closed : IsClosed V a.world) where
     sets : (m d : ℕ) (value : Option ℕ) (answer reply : Reply) → OfValue V value
         → Gives answer (on_heap a (with_slot a.world.heap m d value)) reply b → IsClosed V b.world
-    sets m d value answer reply is row =
-        given (on_heap a (with_slot a.world.heap m d value)) b answer reply row
-        (closed_slot V a.world m d value is closed)
+    sets m d value answer reply is row = search (given, closed_slot)
 
     loads : (m d : ℕ) (value : Option ℕ) (reply : Reply) → OfValue V value → Loads a m d value reply b
         → IsClosed V b.world
     loads m d None reply is row = sets m d None replies.Null reply tt row
-    loads m d (Some n) reply is row =
-        given_anew (on_heap a (with_slot a.world.heap m d (Some n))) b (is_in a.world.phase Marking) (replies.Object n)
-        reply row (closed_slot V a.world m d (Some n) is closed)
+    loads m d (Some n) reply is row = grind (arith, closed_slot)
 
     gets : (m d s : ℕ) (value : Option ℕ) (reply : Reply) → OfValue V value → Gets a m d s value reply b
         → IsClosed V b.world
@@ -97,9 +84,7 @@ module _ (V : ℕ → Type 0) where
 
     cuts : (m s : ℕ) (answer reply : Reply) → Gives answer (on_heap a (cut a.world.heap m s)) reply b
         → IsClosed V b.world
-    cuts m s answer reply row =
-        given (on_heap a (cut a.world.heap m s)) b answer reply row
-        (closed_cut V a.world (slot_at a.world.heap m s) closed)
+    cuts m s answer reply row = search (given, closed_cut)
 
     unhooks : (m s : ℕ) (held queue : Option ℕ) (reply : Reply) → OfValue V held → Unhooks a m s held queue reply b
         → IsClosed V b.world
@@ -125,27 +110,17 @@ module _ (V : ℕ → Type 0) where
         (closed_slot V (with_heap a.world h) m d (Some o.no) is (closed_push V a.world o fresh closed))
 
     scans : (k : ℕ) (reply : Reply) → Scans a k reply b → IsClosed V b.world
-    scans k (replies.Scanned n) row =
-        let c : State = record a { scanned = slice_set a.scanned k (list_at a.scanned k ++ n ∷ []) } in
-        in_world b a.world (but_world (ticked c) b row.2 ∙ ticked_world c) closed
+    scans k (replies.Scanned n) row = search (in_world, but_world, ticked_world)
     scans k reply row = given a b replies.Nothing reply row.1 closed
 
     pends : (k n : ℕ) (queue : Option ℕ) → V n → IsClosed V (pended a.world k n queue)
     pends k n None is = closed
-    pends k n (Some q) is =
-        let p : Pending = record { object = n; queue = q; cycle = a.world.cycle } in
-        closed_pending V a.world k (pending_of a.world k ++ p ∷ [])
-        (all_push (λ p. V p.object) (pending_of a.world k) p (closed.pendings k) is) closed
+    pends k n (Some q) is = grind (arith, closed_pending, all_push)
 
     looks : (k : ℕ) (found : List ℕ) (reply : Reply) → ((n : ℕ) → has a.cleared n ≡ true → V n)
         → ClearsNext a k found reply b → IsClosed V b.world
     looks k [] reply clears row = given a b replies.Nothing reply row closed
-    looks k (n ∷ rest) reply clears row =
-        given (looked a k n rest) b (looked_at a k n) reply row
-        (elim (cases_Bool (has a.cleared n)) [
-          | inl cleared ↦ simp cleared (pends k n (registered_in (reference_at a.world.heap n)) (clears n cleared))
-          | inr other ↦ simp other closed
-        ])
+    looks k (n ∷ rest) reply clears row = grind (arith, pends)
 
     hands_on : (k : ℕ) (ps : List Pending) (reply : Reply) → AllByRecursion (λ p. V p.object) ps
         → HandsOn a k ps reply b → IsClosed V b.world
@@ -161,14 +136,7 @@ module _ (V : ℕ → Type 0) where
 
     sweeps : (doomed : List ℕ) (reply : Reply) → Sweeps a doomed reply b → IsClosed V b.world
     sweeps [] reply row = given a b replies.Nothing reply row closed
-    sweeps (n ∷ ns) reply row =
-        let c : State = record a {
-          world = with_heap a.world
-              (record a.world.heap { objects = without (take 64 (n ∷ ns)) a.world.heap.objects });
-          doomed = drop 64 (n ∷ ns);
-        } in
-        given c b (replies.Swept (min 64 (length (n ∷ ns)))) reply row
-        (closed_swept V a.world (take 64 (n ∷ ns)) closed)
+    sweeps (n ∷ ns) reply row = search (given, closed_swept)
 
     slot_is : (m s : ℕ) → OfValue V (slot_at a.world.heap m s)
     slot_is m s = closed.slots (16 * m + s)
@@ -182,9 +150,7 @@ module _ (V : ℕ → Type 0) where
 
     phases : (phase : Phase) (answer reply : Reply) → Gives answer (with_world a (with_phase a.world phase)) reply b
         → IsClosed V b.world
-    phases phase answer reply row =
-        given (with_world a (with_phase a.world phase)) b answer reply row
-        (closed_same V a.world (with_phase a.world phase) refl refl refl refl closed)
+    phases phase answer reply row = search given
 
     -- a row keeps it, where it holds of the next number, and of what the mark's end cleared
     pub heap_closed : (step : NamedStep) (reply : Reply) → IsNoEnd step → heap_refusal 0 a step ≡ None
@@ -204,37 +170,21 @@ module _ (V : ℕ → Type 0) where
           | inl field ↦ absurd (no_nulls k n field)
           | inr refers ↦ subst (OfValue V) (if_any-has referent n refers) (slot_is m s)
         ]) row
-    heap_closed (heap.Store m s i v) reply plain none next clears row =
-        let h : Heap = a.world.heap in
-        given (on_heap a (stored h m s i v)) b replies.Done reply row
-        (closed_stored V a.world (slot_at h m s) i (slot_at h m v) (slot_is m v) closed)
-    heap_closed (heap.Load m d s i) reply plain none next clears row =
-        loads m d (field_in a.world.heap (slot_at a.world.heap m s) i) reply
-        (field_is a.world (slot_at a.world.heap m s) i _ (slot_is m s) closed refl) row
+    heap_closed (heap.Store m s i v) reply plain none next clears row = search (given, closed_stored, slot_is)
+    heap_closed (heap.Load m d s i) reply plain none next clears row = grind (arith, loads, field_is)
     heap_closed (heap.Copy m d s) reply plain none next clears row =
         sets m d (slot_at a.world.heap m s) (value_reply (slot_at a.world.heap m s)) reply (slot_is m s) row
     heap_closed (heap.Drop m s) reply plain none next clears row = sets m s None replies.Done reply tt row
-    heap_closed (heap.Get m d s) reply plain none next clears row =
-        gets m d s (referent_got (reference_of a.world.heap (slot_at a.world.heap m s))) reply
-        (got_is a.world (slot_at a.world.heap m s) _ (slot_is m s) closed refl) row
+    heap_closed (heap.Get m d s) reply plain none next clears row = grind (arith, gets, got_is)
     heap_closed (heap.Clear m s) reply plain none next clears row = cuts m s replies.Done reply row
     heap_closed (heap.RefersTo m s v) reply plain none next clears row = given a b _ reply row closed
     heap_closed (heap.Unhook m s) reply plain none next clears row =
         unhooks m s (slot_at a.world.heap m s) _ reply (slot_is m s) row
     heap_closed (heap.Hold m s) reply plain none next clears row =
         holds (slot_at a.world.heap m s) reply (slot_is m s) row
-    heap_closed (heap.Adopt m d hold) reply plain none next clears row =
-        let slot = unless_passes (has_slot a.world.heap m d) _ _ none in
-        let counted = unless_passes (is_counted 0 a.world.heap hold) _ _ slot.1 in
-        let both = and_parts (hold.heap_no == 0) (has a.world.heap.holds hold.object) counted.0 in
-        adopts m d hold.object reply (closed.holds hold.object both.1) row
-    heap_closed (heap.Release hold) reply plain none next clears row =
-        given (on_heap a (without_hold a.world.heap hold.object)) b replies.Done reply row
-        (closed_fewer V a.world hold.object closed)
-    heap_closed (heap.Begin now how) reply plain none next clears row =
-        let w : World = begun a.world now how (a.world.cycle + 1) in
-        given_anew (begun_state a w) b true (replies.Cycle (a.world.cycle + 1)) reply row
-        (closed_same V a.world w refl refl refl refl closed)
+    heap_closed (heap.Adopt m d hold) reply plain none next clears row = grind (arith, adopts m d hold.object reply)
+    heap_closed (heap.Release hold) reply plain none next clears row = search (given, closed_fewer)
+    heap_closed (heap.Begin now how) reply plain none next clears row = grind arith
     heap_closed (heap.Scan k) reply plain none next clears row = scans k reply row
     heap_closed heap.EndMark reply plain none next clears row = absurd plain
     heap_closed (heap.ClearNext k) reply plain none next clears row =

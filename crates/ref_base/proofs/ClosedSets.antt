@@ -1,6 +1,7 @@
 -- No path leads out of a closed set of numbers that has the roots.
-use Rattle.std.proofs.Common.{◌≡◌, ℕ, Bool, true, ◌&&◌, ◌==◌, List, [], ◌∷◌, sym, subst, inl, inr}
-use Rattle.std.proofs.lemmas.Bool.{false≢true, and_parts, or_cases, eqb-true}
+use Rattle.std.proofs.Common.{arith}
+use Rattle.std.proofs.Common.{◌≡◌, ℕ, Bool, true, ◌&&◌, List, [], ◌∷◌}
+use Rattle.std.proofs.lemmas.Bool.{false≢true, and_parts}
 use Rattle.ref_base.proofs.Common.{has, Graph, Object, Allowed, EndsPath, targets_at}
 use Rattle.ref_base.proofs.PathLaws.{path_within}
 
@@ -20,25 +21,14 @@ is_closed allow g set = are_in set g.roots && targets_are_in allow g.objects set
 
 pub are_in-has : (set ns : List ℕ) → are_in set ns ≡ true → (n : ℕ) → has ns n ≡ true → has set n ≡ true
 are_in-has set [] all n h = absurd (false≢true h)
-are_in-has set (m ∷ ms) all n h =
-    let parts = and_parts (has set m) (are_in set ms) all in
-    elim (or_cases (m == n) (has ms n) h) [
-      | inl same ↦ subst (λ k. has set k ≡ true) (eqb-true m n same) parts.0
-      | inr later ↦ are_in-has set ms parts.1 n later
-    ]
+are_in-has set (m ∷ ms) all n h = grind (arith, are_in-has set ms)
 
 pub targets_are_in-has : (allow : Allowed) (os : List Object) (set ms : List ℕ)
     → targets_are_in allow os set ms ≡ true → (m n : ℕ) → has ms m ≡ true → has (targets_at allow os m) n ≡ true
     → has set n ≡ true
 targets_are_in-has allow os set [] all m n h target = absurd (false≢true h)
 targets_are_in-has allow os set (k ∷ ks) all m n h target =
-    let parts = and_parts (are_in set (targets_at allow os k)) (targets_are_in allow os set ks) all in
-    elim (or_cases (k == m) (has ks m) h) [
-      | inl same ↦
-          are_in-has set (targets_at allow os k) parts.0 n
-          (subst (λ j. has (targets_at allow os j) n ≡ true) (sym (eqb-true k m same)) target)
-      | inr later ↦ targets_are_in-has allow os set ks parts.1 m n later target
-    ]
+    grind (arith, are_in-has, targets_are_in-has allow os set ks)
 
 -- what a path ends at is in each closed set
 pub closed_has : (allow : Allowed) (g : Graph) (set : List ℕ) → is_closed allow g set ≡ true → (n : ℕ)

@@ -1,7 +1,8 @@
 -- The holds that a row of a heap leaves are those that its answer tells.
+use Rattle.std.proofs.Common.{arith}
 use Rattle.std.proofs.Common.{◌≡◌, ℕ, List, Option, Some, None, refl, ap, ◌∙◌}
 use Rattle.ref_base.proofs.Common.{Object, Heap, slot_at, reference_at, registered_in, changed_in, with_reference}
-use Rattle.ref_base.proofs.Common.{cleared, got_at, with_field, got, cut, one_more, World, told_object, told_value}
+use Rattle.ref_base.proofs.Common.{cleared, got_at, got, cut, one_more, World, told_object, told_value}
 use Rattle.ref_base.proofs.Common.{is_done, told_cycle, is_mark_end, NamedStep, pended, State, HeapAccepts, holds_after}
 use Rattle.ref_base.proofs.Common.{Reply}
 use Rattle.ref_base.specs.declared.heap_step.HeapStep.TheVariants as heap
@@ -31,9 +32,7 @@ holds_moved : (a : State) (step : NamedStep) (reply : Reply)
     → holds_of (moved a step reply).world ≡ holds_after a.world.heap.holds step reply
 holds_moved a (heap.New m d k) reply = told_keeps holds_of (told_object reply) _ a.world (λ n. refl)
 holds_moved a (heap.Refer m strength d s q k) reply = told_keeps holds_of (told_object reply) _ a.world (λ n. refl)
-holds_moved a (heap.Store m s i v) reply =
-    let h : Heap = a.world.heap in
-    done_keeps holds_of (is_done reply) _ a.world (holds-changed_in h (slot_at h m s) (with_field i (slot_at h m v)))
+holds_moved a (heap.Store m s i v) reply = grind arith
 holds_moved a (heap.Load m d s i) reply = told_keeps holds_of (told_value reply) _ a.world (λ value. refl)
 holds_moved a (heap.Copy m d s) reply = told_keeps holds_of (told_value reply) _ a.world (λ value. refl)
 holds_moved a (heap.Drop m s) reply = done_keeps holds_of (is_done reply) _ a.world refl

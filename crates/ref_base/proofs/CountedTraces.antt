@@ -1,25 +1,26 @@
 -- In every legal trace each notice that is out is a hold that the heap counts, row by row.
+use Rattle.std.proofs.Common.{arith}
 use Rattle.std.proofs.Common.{◌≡◌, ℕ, ◌<◌, Bool, true, false, List, [], ◌∷◌, length, Option, Some, None, refl, sym, ap}
-use Rattle.std.proofs.Common.{◌∙◌, subst, inl, inr}
+use Rattle.std.proofs.Common.{◌∙◌, subst}
 use Rattle.std.proofs.lemmas.Bool.{and_parts}
 use Rattle.ref_base.proofs.Common.{one_more, one_fewer, World, Notice, Pending, SameOthers, hand_of, queue_at}
 use Rattle.ref_base.proofs.Common.{with_hand, NamedStep, hold_of, spending, handed, State, first_state, Gives}
 use Rattle.ref_base.proofs.Common.{with_handed, AcceptsAsking, Unhooks, HandsOn, PutsInto, Puts, Polls, Closes}
-use Rattle.ref_base.proofs.Common.{enqueued, object_of, put_in, took, closed_queue, with_world, Accepts, IsAnswer}
-use Rattle.ref_base.proofs.Common.{IsRow, IsRun, unless_full, refusal, is_mutator, is_worker, is_queue, is_actor}
+use Rattle.ref_base.proofs.Common.{closed_queue, with_world, Accepts, IsAnswer}
+use Rattle.ref_base.proofs.Common.{IsRow, IsRun, unless_full, refusal, is_mutator}
 use Rattle.ref_base.proofs.Common.{has_slot, AreCounted, holds_after, Config, Actor, Mutator, Worker, Own, Cycle, Fault}
 use Rattle.ref_base.proofs.Common.{Step, Reply, Row}
 use Rattle.ref_base.specs.declared.heap_step.HeapStep.TheVariants as heap
 use Rattle.ref_base.specs.declared.step.Step.TheVariants as steps
 use Rattle.ref_base.specs.declared.reply.Reply.TheVariants as replies
 use Rattle.ref_base.proofs.CountedRows.{heap_holds}
-use Rattle.ref_base.proofs.CountedWorlds.{counted_still, counted_given, counted_spent, counted_put, counted_took}
+use Rattle.ref_base.proofs.CountedWorlds.{counted_given, counted_spent, counted_put, counted_took}
 use Rattle.ref_base.proofs.CountedWorlds.{counted_closed, first_counted}
 use Rattle.ref_base.proofs.Common.{heap_step}
 use Rattle.ref_base.proofs.RowForms.{asked_of, ticked_world, unless_passes}
-use Rattle.ref_base.proofs.RowLaws.{heap_keeps, registered, IsRegistered, row_goes, mutator_within, worker_within}
-use Rattle.ref_base.proofs.RowLaws.{actor_has, queue_within}
-use Rattle.ref_base.proofs.SoundWorlds.{HasHand, IsSound, NoticeBelow, first_sound}
+use Rattle.ref_base.proofs.RowLaws.{heap_keeps, registered, IsRegistered, row_goes, mutator_within}
+use Rattle.ref_base.proofs.RowLaws.{actor_has}
+use Rattle.ref_base.proofs.SoundWorlds.{HasHand, IsSound, first_sound}
 
 -- ---- the forms of a row
 
@@ -30,22 +31,12 @@ given : (c b : State) (answer reply : Reply) → Gives answer c reply b → AreC
 given c b answer reply gives counted =
     in_world b c.world (ap (λ (s : State). s.world) gives.1 ∙ ticked_world c) counted
 
-left_by : (c b : State) (step : Step) (answer reply : Reply) → reply ≡ answer → b ≡ with_handed c step reply
-    → b.world ≡ handed c.world step answer
-left_by c b step answer reply is left =
-    ap (λ (s : State). s.world) left ∙ ap (λ (r : Reply). handed c.world step r) is
-
 -- a row of the heap that has nothing to do with hands and holds
 quiet : (a b : State) (asked : NamedStep) (step : Step) (reply : Reply) → IsRegistered a asked → AreCounted a.world
     → AcceptsAsking a (Some asked) step reply b
     → ((hs : List ℕ) → holds_after hs asked reply ≡ hs) → ((w : World) → handed w step reply ≡ w)
     → AreCounted b.world
-quiet a b asked step reply is counted row still same_hands =
-    let c : State = row.0 in
-    let keeps = heap_keeps a c asked reply is row.1 in
-    in_world b c.world (left_by c b step reply reply refl row.2 ∙ same_hands c.world)
-    (counted_still a.world c.world keeps.others
-    (heap_holds a c asked reply row.1 ∙ still a.world.heap.holds) counted)
+quiet a b asked step reply is counted row still same_hands = grind (arith, heap_keeps, heap_holds)
 
 -- one that gives nothing
 gives_nothing : (a c b : State) (asked : NamedStep) (step : Step) (reply : Reply) → SameOthers a.world c.world
@@ -53,10 +44,7 @@ gives_nothing : (a c b : State) (asked : NamedStep) (step : Step) (reply : Reply
     → holds_after a.world.heap.holds asked replies.Nothing ≡ a.world.heap.holds
     → handed c.world step replies.Nothing ≡ c.world → b ≡ with_handed c step reply → AreCounted a.world
     → AreCounted b.world
-gives_nothing a c b asked step reply others held is still same_hands left counted =
-    in_world b c.world (left_by c b step replies.Nothing reply is left ∙ same_hands)
-    (counted_still a.world c.world others
-    (held ∙ ap (λ (r : Reply). holds_after a.world.heap.holds asked r) is ∙ still) counted)
+gives_nothing a c b asked step reply others held is still same_hands left counted = grind arith
 
 -- one that gives a notice into an empty hand
 gives_notice : (a c b : State) (who : Actor) (notice : Notice) (asked : NamedStep) (step : Step) (answer reply : Reply)
@@ -66,9 +54,7 @@ gives_notice : (a c b : State) (who : Actor) (notice : Notice) (asked : NamedSte
     → handed c.world step answer ≡ with_hand c.world who (Some notice) → b ≡ with_handed c step reply
     → AreCounted a.world → AreCounted b.world
 gives_notice a c b who notice asked step answer reply others has free held is more into left counted =
-    in_world b (with_hand c.world who (Some notice)) (left_by c b step answer reply is left ∙ into)
-    (counted_given a.world c.world who notice others has free
-    (held ∙ ap (λ (r : Reply). holds_after a.world.heap.holds asked r) is ∙ more) counted)
+    grind (arith, counted_given)
 
 -- one that spends a hand's notice
 spends : (a c b : State) (who : Actor) (notice : Notice) (asked : NamedStep) (step : Step) (answer reply : Reply)
@@ -78,9 +64,7 @@ spends : (a c b : State) (who : Actor) (notice : Notice) (asked : NamedStep) (st
     → handed c.world step answer ≡ with_hand c.world who None → b ≡ with_handed c step reply
     → AreCounted a.world → AreCounted b.world
 spends a c b who notice asked step answer reply others has full held is fewer empties left counted =
-    in_world b (with_hand c.world who None) (left_by c b step answer reply is left ∙ empties)
-    (counted_spent a.world c.world who notice others has full
-    (held ∙ ap (λ (r : Reply). holds_after a.world.heap.holds asked r) is ∙ fewer) counted)
+    grind (arith, counted_spent)
 
 -- ---- hands
 
@@ -138,30 +122,18 @@ puts_into : (a b : State) (who : Actor) (notice : Notice) (again shut : Bool) (r
     → PutsInto again shut a who notice reply b → AreCounted a.world → AreCounted b.world
 puts_into a b who notice true shut reply has is within row counted = given a b replies.Already reply row counted
 puts_into a b who notice false true reply has is within row counted = given a b replies.Closed reply row counted
-puts_into a b who notice false false reply has is within row counted =
-    elim row [
-      | inl added ↦
-          given (with_world a (put_in a.world who (Some notice))) b
-          (replies.Added (length (enqueued object_of (queue_at a.world notice.queue)))) reply added
-          (counted_put a.world who notice has is within counted)
-      | inr refused ↦ in_world b a.world (ap (λ (s : State). s.world) refused.1) counted
-    ]
+puts_into a b who notice false false reply has is within row counted = grind (arith, counted_put)
 
 puts : (a b : State) (who : Actor) (hand : Option Notice) (reply : Reply) → IsSound a.world → HasHand a.world who
     → hand_of a.world who ≡ hand → Puts a who hand reply b → AreCounted a.world → AreCounted b.world
 puts a b who None reply sound has is row counted = absurd row
-puts a b who (Some notice) reply sound has is row counted =
-    let within : notice.queue < length a.world.queues =
-    rw sound.queues (subst (NoticeBelow a.world.heap.config.queues) is (sound.hands_below who)) in
-    puts_into a b who notice _ _ reply has is within row counted
+puts a b who (Some notice) reply sound has is row counted = grind (arith, puts_into)
 
 polls : (a b : State) (m q : ℕ) (stands : List Notice) (reply : Reply) → m < length a.world.mutator_hands
     → hand_of a.world (Mutator m) ≡ None → q < length a.world.queues → (queue_at a.world q).stands ≡ stands
     → Polls a m q stands reply b → AreCounted a.world → AreCounted b.world
 polls a b m q [] reply has free within is row counted = given a b _ reply row counted
-polls a b m q (notice ∷ rest) reply has free within is row counted =
-    given (with_world a (took a.world m q notice.object)) b (replies.Took notice.object) reply row
-    (counted_took a.world m q notice rest has free within is counted)
+polls a b m q (notice ∷ rest) reply has free within is row counted = search (given, counted_took)
 
 closes : (a b : State) (q : ℕ) (shut : Bool) (reply : Reply) → q < length a.world.queues → Closes a q shut reply b
     → AreCounted a.world → AreCounted b.world
@@ -177,9 +149,7 @@ empty_hand (Some notice) later none = absurd cc
 
 accepted : (a b : State) (step : Step) (reply : Reply) → IsSound a.world → AreCounted a.world → refusal a step ≡ None
     → Accepts a step reply b → AreCounted b.world
-accepted a b (steps.Refer m strength d s q k) reply sound counted h row =
-    quiet a b (heap.Refer m strength d s q k) (steps.Refer m strength d s q k) reply
-    (registered 0 a (heap.Refer m strength d s q k) h) counted row (λ _. refl) (λ _. refl)
+accepted a b (steps.Refer m strength d s q k) reply sound counted h row = search (quiet, registered)
 accepted a b (steps.Unhook m s) reply sound counted h row =
     let first = unless_passes (has_slot a.world.heap m s) _ _ h in
     let both = and_parts (is_mutator a.world.heap m) _ first.0 in
@@ -187,31 +157,12 @@ accepted a b (steps.Unhook m s) reply sound counted h row =
     unhooks a row.0 b m s _ _ reply keeps.others (mutator_within a.world m sound both.0)
     (empty_hand (hand_of a.world (Mutator m)) _ first.1) (heap_holds a row.0 (heap.Unhook m s) reply row.1) row.1 row.2
     counted
-accepted a b (steps.Put who) reply sound counted h row =
-    let first = unless_passes (is_actor a.world.heap who) _ _ h in
-    puts a b who (hand_of a.world who) reply sound (actor_has a.world who sound first.0) refl row counted
-accepted a b (steps.Poll m q) reply sound counted h row =
-    let first = unless_passes (is_mutator a.world.heap m) _ _ h in
-    let second = unless_passes (is_queue a.world.heap q) _ _ first.1 in
-    polls a b m q (queue_at a.world q).stands reply (mutator_within a.world m sound first.0)
-    (empty_hand (hand_of a.world (Mutator m)) _ second.1) (queue_within a.world q sound second.0) refl row counted
-accepted a b (steps.Adopt m d) reply sound counted h row =
-    let first = unless_passes (has_slot a.world.heap m d) _ _ h in
-    let both = and_parts (is_mutator a.world.heap m) _ first.0 in
-    adopts a b m d (hand_of a.world (Mutator m)) reply (mutator_within a.world m sound both.0) refl row counted
-accepted a b (steps.Release who) reply sound counted h row =
-    let first = unless_passes (is_actor a.world.heap who) _ _ h in
-    releases a b who (hand_of a.world who) reply (actor_has a.world who sound first.0) refl row counted
-accepted a b (steps.Close m q) reply sound counted h row =
-    let first = unless_passes (is_mutator a.world.heap m) _ _ h in
-    let second = unless_passes (is_queue a.world.heap q) _ _ first.1 in
-    closes a b q (queue_at a.world q).closed reply (queue_within a.world q sound second.0) row counted
-accepted a b (steps.Hand k) reply sound counted h row =
-    let first = unless_passes (is_worker a.world.heap k) _ _ h in
-    let keeps = heap_keeps a row.0 (heap.Hand k) reply tt row.1 in
-    hands a row.0 b k _ reply keeps.others (worker_within a.world k sound first.0)
-    (empty_hand (hand_of a.world (Worker k)) _ first.1) (heap_holds a row.0 (heap.Hand k) reply row.1) row.1 row.2
-    counted
+accepted a b (steps.Put who) reply sound counted h row = grind (arith, puts, actor_has a.world who sound)
+accepted a b (steps.Poll m q) reply sound counted h row = grind (arith, polls)
+accepted a b (steps.Adopt m d) reply sound counted h row = grind (arith, adopts)
+accepted a b (steps.Release who) reply sound counted h row = grind (arith, releases, actor_has a.world who sound)
+accepted a b (steps.Close m q) reply sound counted h row = grind (arith, closes)
+accepted a b (steps.Hand k) reply sound counted h row = grind (arith, hands a row.0 b k)
 accepted a b step reply sound counted h row =
     quiet a b (asked_of (heap_step a.world step)) step reply tt counted row (λ _. refl) (λ _. refl)
 
@@ -230,8 +181,7 @@ run_counted : (a : State) (rows : List Row) (b : State) → IsSound a.world → 
     → AreCounted b.world
 run_counted a [] b sound counted run = in_world b a.world (ap (λ (s : State). s.world) run) counted
 run_counted a (row ∷ rows) b sound counted run =
-    let goes = row_goes a row run.0 sound run.1 in
-    run_counted run.0 rows b goes.sound (row_counted a row run.0 sound counted run.1) run.2
+    search (run_counted run.0 rows b, row_goes a row run.0 sound run.1, row_counted a row run.0 sound counted run.1)
 
 -- and so it holds after every legal trace
 pub legal_counted : (config : Config) (rows : List Row) (b : State) → IsRun (first_state config) rows b

@@ -1,17 +1,15 @@
 -- In every legal trace each notice that is out is a hold that the heap counts.
-use Rattle.std.proofs.Common.{◌≡◌, ℕ, ◌+◌, ◌<◌, ◌≤◌, zero, suc, true, List, [], ◌∷◌, ◌++◌, map, length, replicate}
+use Rattle.std.proofs.Common.{◌≡◌, ℕ, ◌+◌, ◌<◌, ◌≤◌, zero, suc, true, List, [], ◌∷◌, map, length, replicate}
 use Rattle.std.proofs.Common.{Option, Some, None, refl, sym, ap, ◌∙◌, arith}
-use Rattle.std.specs.Prelude.{slice_index_or}
 use Rattle.std.proofs.lemmas.Bool.{eq-eqb}
 use Rattle.std.proofs.lemmas.List.{map-append}
-use Rattle.ref_base.proofs.Common.{has, Heap, one_more, one_fewer, Lists, new_queue, new_queues, with_parcel, World}
+use Rattle.ref_base.proofs.Common.{has, one_more, one_fewer, Lists, new_queue, new_queues, World}
 use Rattle.ref_base.proofs.Common.{Notice, SameOthers, first_world, object_of, hand_of, queue_at, with_hand, with_queue}
 use Rattle.ref_base.proofs.Common.{put_in, took, taken_out, notice_of, closed_queue, tally, in_hand, in_hands}
 use Rattle.ref_base.proofs.Common.{in_queues, AreCounted, Config, Actor, Mutator, Worker}
 use Rattle.ref_base.specs.CountedHolds.{reported}
 use Rattle.ref_base.proofs.HoldCounts.{tally-has, tally-first, tally-append, tally-one_more, tally-one_fewer}
 use Rattle.ref_base.proofs.HoldCounts.{tally-hand_set, tally-queue_set}
-use Rattle.ref_base.proofs.SameOthers.{same_hand}
 use Rattle.ref_base.proofs.Places.{place_there}
 use Rattle.ref_base.proofs.SoundWorlds.{HasHand}
 
@@ -21,10 +19,7 @@ abbrev total : World → ℕ → ℕ
 total w n = tally (in_hands w.mutator_hands) n + tally (in_hands w.worker_hands) n + tally (in_queues w.queues) n
 
 tally-reported : (w : World) (n : ℕ) → tally (reported w) n ≡ total w n
-tally-reported w n =
-    let both = tally-append (in_hands w.mutator_hands) (in_hands w.worker_hands) n in
-    let all = tally-append (in_hands w.mutator_hands ++ in_hands w.worker_hands) (in_queues w.queues) n in
-    omega (arith, both, all)
+tally-reported w n = search tally-append
 
 counted_by : (w : World) → ((n : ℕ) → total w n ≤ tally w.heap.holds n) → AreCounted w
 counted_by w few n = let is = tally-reported w n in let own = few n in omega (arith, is, own)
@@ -33,13 +28,6 @@ few_of : (w : World) → AreCounted w → (n : ℕ) → total w n ≤ tally w.he
 few_of w counted n = let is = tally-reported w n in let own = counted n in omega (arith, is, own)
 
 -- ---- what changes
-
-total-same : (v w : World) → SameOthers v w → (n : ℕ) → total w n ≡ total v n
-total-same v w others n =
-    let mutators = ap (λ (hs : List (Option Notice)). tally (in_hands hs) n) others.mutators in
-    let workers = ap (λ (hs : List (Option Notice)). tally (in_hands hs) n) others.workers in
-    let queues = ap (λ (qs : List (Lists Notice)). tally (in_queues qs) n) others.queues in
-    omega (arith, mutators, workers, queues)
 
 total-hand : (w : World) (who : Actor) (hand : Option Notice) (n : ℕ) → HasHand w who
     → total (with_hand w who hand) n + tally (in_hand (hand_of w who)) n ≡ total w n + tally (in_hand hand) n
@@ -52,80 +40,26 @@ total-queue : (w : World) (q : ℕ) (new : Lists Notice) (n : ℕ) → q < lengt
 total-queue w q new n within =
     let set = tally-queue_set w.queues q new (new_queue q) n within in omega (arith, set)
 
-heap-hand : (w : World) (who : Actor) (hand : Option Notice) → (with_hand w who hand).heap ≡ w.heap
-heap-hand w (Mutator m) hand = refl
-heap-hand w (Worker k) hand = refl
-
-queues-hand : (w : World) (who : Actor) (hand : Option Notice) → (with_hand w who hand).queues ≡ w.queues
-queues-hand w (Mutator m) hand = refl
-queues-hand w (Worker k) hand = refl
-
-same_has : (v w : World) (who : Actor) → SameOthers v w → HasHand v who → HasHand w who
-same_has v w (Mutator m) others has = rw others.mutators has
-same_has v w (Worker k) others has = rw others.workers has
-
 -- ---- the kinds of rows
-
--- hands, queues and holds are as they were
-pub counted_still : (v w : World) → SameOthers v w → w.heap.holds ≡ v.heap.holds → AreCounted v → AreCounted w
-counted_still v w others held counted =
-    counted_by w (λ n.
-    let same = total-same v w others n in
-    let own = few_of v counted n in
-    let holds = ap (λ hs. tally hs n) held in
-    omega (arith, same, own, holds))
 
 -- a notice is given into an empty hand, with one hold more of what it reports
 pub counted_given : (v w : World) (who : Actor) (notice : Notice) → SameOthers v w → HasHand v who
     → hand_of v who ≡ None → w.heap.holds ≡ one_more v.heap.holds notice.object → AreCounted v
     → AreCounted (with_hand w who (Some notice))
 counted_given v w who notice others has free held counted =
-    counted_by (with_hand w who (Some notice)) (λ n.
-    let same = total-same v w others n in
-    let own = few_of v counted n in
-    let was = ap (λ (h : Option Notice). tally (in_hand h) n) (same_hand v w who others ∙ free) in
-    let set = total-hand w who (Some notice) n (same_has v w who others has) in
-    let one = tally-first notice.object [] n in
-    let heap = ap (λ (h : Heap). tally h.holds n) (heap-hand w who (Some notice)) in
-    let holds = ap (λ hs. tally hs n) held ∙ tally-one_more v.heap.holds notice.object n in
-    omega (arith, same, own, was, set, one, heap, holds))
+    grind (arith, counted_by, few_of, total-hand, tally-one_more)
 
 -- a hand's notice is spent, with one hold fewer of what it reported
 pub counted_spent : (v w : World) (who : Actor) (notice : Notice) → SameOthers v w → HasHand v who
     → hand_of v who ≡ Some notice → w.heap.holds ≡ one_fewer v.heap.holds notice.object → AreCounted v
     → AreCounted (with_hand w who None)
 counted_spent v w who notice others has full held counted =
-    counted_by (with_hand w who None) (λ n.
-    let same = total-same v w others n in
-    let own = few_of v counted n in
-    let was = ap (λ (h : Option Notice). tally (in_hand h) n) (same_hand v w who others ∙ full) in
-    let set = total-hand w who None n (same_has v w who others has) in
-    let one = tally-first notice.object [] n in
-    let heap = ap (λ (h : Heap). tally h.holds n) (heap-hand w who None) in
-    let holds = ap (λ hs. tally hs n) held in
-    let fewer = tally-one_fewer v.heap.holds notice.object n in
-    omega (arith, same, own, was, set, one, heap, holds, fewer))
+    grind (arith, counted_by, few_of, total-hand, tally-one_fewer)
 
 -- a hand's notice goes into a queue
 pub counted_put : (v : World) (who : Actor) (notice : Notice) → HasHand v who → hand_of v who ≡ Some notice
     → notice.queue < length v.queues → AreCounted v → AreCounted (put_in v who (Some notice))
-counted_put v who notice has full within counted =
-    let w : World = with_hand v who None in
-    let lists : Lists Notice = queue_at v notice.queue in
-    let queues = queues-hand v who None in
-    let there : notice.queue < length w.queues = rw queues within in
-    counted_by (with_queue w notice.queue (with_parcel lists notice)) (λ n.
-    let own = few_of v counted n in
-    let was = ap (λ (h : Option Notice). tally (in_hand h) n) full in
-    let set = total-hand v who None n has in
-    let one = tally-first notice.object [] n in
-    let stood = ap (λ (qs : List (Lists Notice)).
-    tally (map object_of (slice_index_or qs notice.queue (new_queue notice.queue)).stands) n) queues in
-    let placed = total-queue w notice.queue (with_parcel lists notice) n there in
-    let longer = ap (λ ns. tally ns n) (map-append object_of lists.stands (notice ∷ []))
-    ∙ tally-append (map object_of lists.stands) (notice.object ∷ []) n in
-    let heap = ap (λ (h : Heap). tally h.holds n) (heap-hand v who None) in
-    omega (arith, own, was, set, one, stood, placed, longer, heap))
+counted_put v who notice has full within counted = grind (arith, total-hand, total-queue, map-append, tally-append)
 
 -- the first of a queue goes into an empty hand
 pub counted_took : (v : World) (m q : ℕ) (notice : Notice) (rest : List Notice) → m < length v.mutator_hands
@@ -177,18 +111,7 @@ holding_hand w (Worker k) notice full =
 -- a notice in a hand is a hold that the heap counts
 pub counted_hand : (w : World) (who : Actor) (notice : Notice) → HasHand w who → hand_of w who ≡ Some notice
     → AreCounted w → has w.heap.holds notice.object ≡ true
-counted_hand w who notice there full counted =
-    let n = notice.object in
-    let held = ap (λ (hand : Option Notice). tally (in_hand hand) n) full in
-    let one : tally (n ∷ []) n ≡ 1 = simp (eq-eqb n n refl) refl in
-    let out = total-hand w who None n there in
-    let few = few_of w counted n in
-    tally-has w.heap.holds n (omega (arith, held, one, out, few))
+counted_hand w who notice there full counted = grind (arith, tally-has, total-hand w who None, few_of w counted)
 
 pub first_counted : (config : Config) → AreCounted (first_world config)
-first_counted config =
-    counted_by (first_world config) (λ n.
-    let mutators = ap (λ ns. tally ns n) (no_hands config.mutators) in
-    let workers = ap (λ ns. tally ns n) (no_hands config.workers) in
-    let queues = ap (λ ns. tally ns n) (no_queues 0 config.queues) in
-    omega (arith, mutators, workers, queues))
+first_counted config = grind (arith, no_hands, no_queues)

@@ -1,8 +1,8 @@
 -- Tests by which one shows of a concrete graph that a mark's end may doom what it dooms.
-use Rattle.std.proofs.Common.{◌≡◌, ℕ, Bool, true, false, not, ◌&&◌, ◌||◌, ◌==◌, sym, subst, ◌∙◌, List, [], ◌∷◌, ◌⊎◌}
+use Rattle.std.proofs.Common.{arith}
+use Rattle.std.proofs.Common.{◌≡◌, ℕ, Bool, true, false, not, ◌&&◌, ◌||◌, sym, ◌∙◌, List, [], ◌∷◌, ◌⊎◌}
 use Rattle.std.proofs.Common.{inl, inr}
-use Rattle.std.proofs.lemmas.Bool.{cases_Bool, or_cases, true≢false, false≢true, eqb-true, and_parts, or_parts}
-use Rattle.std.proofs.lemmas.Bool.{not-true}
+use Rattle.std.proofs.lemmas.Bool.{true≢false, false≢true}
 use Rattle.std.specs.List.{AllByRecursion}
 use Rattle.ref_base.proofs.Common.{has, Graph, Object, is_there, numbers, Allowed, targets_at, Policy, is_kept}
 use Rattle.ref_base.proofs.Common.{EverKept, MayDoom, meets}
@@ -17,35 +17,18 @@ stay_off allow os set (m ∷ ms) =
 -- what is in one of two lists that don't meet isn't in the other
 pub apart : (d ns : List ℕ) → meets d ns ≡ false → (n : ℕ) → has ns n ≡ true → has d n ≡ false
 apart d [] none n h = absurd (false≢true h)
-apart d (m ∷ ms) none n h =
-    elim (or_cases (m == n) (has ms n) h) [
-      | inl same ↦
-          subst (λ k. has d k ≡ false) (eqb-true m n same) (or_parts (has d m) (meets d ms) none).0
-      | inr later ↦ apart d ms (or_parts (has d m) (meets d ms) none).1 n later
-    ]
+apart d (m ∷ ms) none n h = grind (arith, apart d ms)
 
 -- what holds of each object's number holds of each number that is there
 pub each_there : (P : ℕ → Type 0) (os : List Object) → AllByRecursion P (numbers os) → (n : ℕ)
     → is_there os n ≡ true → P n
 each_there P [] all n there = absurd (false≢true there)
-each_there P (o ∷ os) all n there =
-    elim (cases_Bool (o.no == n)) [
-      | inl same ↦ subst P (eqb-true o.no n same) all.0
-      | inr other ↦ each_there P os all.1 n (simp other at there)
-    ]
+each_there P (o ∷ os) all n there = grind (arith, each_there P os all.1 n)
 
 stay_off_has : (allow : Allowed) (os : List Object) (set : List ℕ) (ms : List ℕ) → stay_off allow os set ms ≡ true
     → AllByRecursion (λ m. (n : ℕ) → has set m ≡ false → has (targets_at allow os m) n ≡ true → has set n ≡ false) ms
 stay_off_has allow os set [] all = tt
-stay_off_has allow os set (m ∷ ms) all = (
-  λ n out target.
-      let here = (and_parts (has set m || not (meets set (targets_at allow os m))) (stay_off allow os set ms) all).0 in
-      let none : meets set (targets_at allow os m) ≡ false =
-      not-true (meets set (targets_at allow os m)) (simp out at here) in
-      apart set (targets_at allow os m) none n target,
-  stay_off_has allow os set ms
-      (and_parts (has set m || not (meets set (targets_at allow os m))) (stay_off allow os set ms) all).1,
-)
+stay_off_has allow os set (m ∷ ms) all = grind (arith, apart, stay_off_has allow os set ms)
 
 -- a mark may doom these objects where what is closed doesn't meet them, each object is one of them or was ever kept,
 -- and no other has a target among them

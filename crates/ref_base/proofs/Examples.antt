@@ -1,4 +1,5 @@
 -- The definitions of graphs and strengths at work on a graph that one can read off by hand.
+use Rattle.std.proofs.Common.{arith}
 use Rattle.std.proofs.Common.{◌≡◌, ℕ, false, [], ◌∷◌, Some, refl, sym, ◌∙◌}
 use Rattle.std.proofs.lemmas.Bool.{true≢false, false≢true}
 use Rattle.ref_base.proofs.Common.{has, Graph, plain_object, numbers, with_object, EndsPath, no_referents}
@@ -8,7 +9,6 @@ use Rattle.ref_base.specs.declared.strength.Strength.TheVariants as strength
 use Rattle.ref_base.specs.declared.reach.Reach.TheVariants as reach
 use Rattle.ref_base.proofs.ClosedSets.{closed_has}
 use Rattle.ref_base.proofs.PathLaws.{path_within}
-use Rattle.ref_base.proofs.StrengthLaws.{phantom_referents-complete}
 
 -- object 1 is the root
 abbrev pub example : Graph
@@ -44,11 +44,7 @@ no_weak_path n out =
 
 -- the one phantom reference among them is 6, to 7
 not_hung : (n : ℕ) → has (7 ∷ []) n ≡ false → ¬ (HangsOnPhantom example n)
-not_hung n out =
-    λ hangs. true≢false
-    (sym (phantom_referents-complete example.objects (1 ∷ 2 ∷ 3 ∷ 4 ∷ 5 ∷ 6 ∷ 8 ∷ []) n hangs.0
-    (closed_has soft_and_weak_referents example (1 ∷ 2 ∷ 3 ∷ 4 ∷ 5 ∷ 6 ∷ 8 ∷ []) refl hangs.0 hangs.1) hangs.2)
-    ∙ out)
+not_hung n out = grind arith
 
 -- ---- the strengths
 

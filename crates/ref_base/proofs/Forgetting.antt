@@ -1,37 +1,20 @@
 -- What is forgotten keeps its shape, and a call reads and changes the rest as if nothing were.
-use Rattle.std.proofs.Common.{◌≡◌, ℕ, true, false, ◌==◌, refl, sym, ap, ◌∙◌, List, [], ◌∷◌, ◌++◌, map, Option, Some}
-use Rattle.std.proofs.Common.{None, inl, inr}
-use Rattle.std.proofs.lemmas.Bool.{cases_Bool, eqb-true}
+use Rattle.std.proofs.Common.{arith}
+use Rattle.std.proofs.Common.{◌≡◌, ℕ, false, refl, ap, List, [], ◌∷◌, map, Option, Some}
+use Rattle.std.proofs.Common.{None}
 use Rattle.std.proofs.lemmas.List.{length-map, map-append}
 use Rattle.ref_base.proofs.Common.{has, Object, object_at, Heap, reference_in, changed_in, made, field_of, field_in}
 use Rattle.ref_base.proofs.Common.{reference_of}
 use Rattle.ref_base.specs.Forgetting.{forgotten, heap_but}
-use Rattle.ref_base.proofs.Reshaping.{KeepsShape, is_reference-cleared, queue-cleared, map-changed_at}
+use Rattle.ref_base.proofs.Reshaping.{KeepsShape, map-changed_at}
 
 -- ---- one object
-
-forgotten-no : (d : List ℕ) (o : Object) → (forgotten d o).no ≡ o.no
-forgotten-no d o = elim (cases_Bool (has d o.no)) [ inl out ↦ simp out refl | inr kept ↦ simp kept refl ]
 
 pub forgotten-kept : (d : List ℕ) (o : Object) → has d o.no ≡ false → forgotten d o ≡ o
 forgotten-kept d o kept = simp kept refl
 
 pub forgotten-shape : (d : List ℕ) → KeepsShape (λ o. forgotten d o)
-forgotten-shape d = record {
-  number = forgotten-no d;
-  fields = λ o.
-      elim (cases_Bool (has d o.no)) [
-        | inl out ↦ simp out (length-map o.fields (λ v. None))
-        | inr kept ↦ simp kept refl
-      ];
-  is_reference = λ o.
-      elim (cases_Bool (has d o.no)) [
-        | inl out ↦ simp out (is_reference-cleared o.reference)
-        | inr kept ↦ simp kept refl
-      ];
-  queue = λ o.
-      elim (cases_Bool (has d o.no)) [ inl out ↦ simp out (queue-cleared o.reference) | inr kept ↦ simp kept refl ];
-}
+forgotten-shape d = grind (arith, length-map)
 
 -- ---- what isn't forgotten
 
@@ -39,16 +22,7 @@ forgotten-shape d = record {
 object_at-but : (d : List ℕ) (os : List Object) (n : ℕ) → has d n ≡ false
     → object_at (map (λ o. forgotten d o) os) n ≡ object_at os n
 object_at-but d [] n kept = refl
-object_at-but d (o ∷ os) n kept =
-    elim (cases_Bool (o.no == n)) [
-      | inl here ↦
-          let out : has d o.no ≡ false = ap (has d) (eqb-true o.no n here) ∙ kept in
-          let still : ((forgotten d o).no == n) ≡ true = ap (λ i. i == n) (forgotten-no d o) ∙ here in
-          simp (still, here) (ap Some (forgotten-kept d o out))
-      | inr later ↦
-          let still : ((forgotten d o).no == n) ≡ false = ap (λ i. i == n) (forgotten-no d o) ∙ later in
-          simp (still, later) (object_at-but d os n kept)
-    ]
+object_at-but d (o ∷ os) n kept = grind (arith, object_at-but d os n kept)
 
 -- what a slot holds isn't one of these
 abbrev pub IsSaid : List ℕ → Option ℕ → Type 0
@@ -70,19 +44,11 @@ reference_of-but d h (Some n) said = ap reference_in (object_at-but d h.objects 
 pub changed_in-but : (d : List ℕ) (h : Heap) (held : Option ℕ) (f : Object → Object) → IsSaid d held
     → ((o : Object) → (f o).no ≡ o.no) → heap_but d (changed_in h held f) ≡ changed_in (heap_but d h) held f
 changed_in-but d h None f said number = refl
-changed_in-but d h (Some n) f said number =
-    ap (λ (os : List Object). record h { objects = os })
-    (map-changed_at (λ o. forgotten d o) f h.objects n (forgotten-no d)
-    (λ o same.
-    let out : has d o.no ≡ false = ap (has d) same ∙ said in
-    forgotten-kept d (f o) (ap (has d) (number o) ∙ out) ∙ ap f (sym (forgotten-kept d o out))))
+changed_in-but d h (Some n) f said number = grind (arith, map-changed_at)
 
 pub made-but : (d : List ℕ) (h : Heap) (m t : ℕ) (o : Object) → has d o.no ≡ false
     → heap_but d (made h m t o) ≡ made (heap_but d h) m t o
-made-but d h m t o kept =
-    ap (λ (os : List Object). record (made h m t o) { objects = os })
-    (map-append (λ p. forgotten d p) h.objects (o ∷ [])
-    ∙ ap (λ p. map (λ q. forgotten d q) h.objects ++ p ∷ []) (forgotten-kept d o kept))
+made-but d h m t o kept = search (map-append, forgotten-kept)
 
 -- ---- where nothing is forgotten
 

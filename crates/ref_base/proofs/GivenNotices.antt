@@ -1,8 +1,9 @@
 -- In every legal trace each notice that an unhook gave, or that a worker handed on, comes from the rows up to it.
+use Rattle.std.proofs.Common.{arith}
 use Rattle.std.proofs.Common.{◌≡◌, ℕ, true, List, [], ◌∷◌, ◌++◌, Option, Some, None, refl, sym, subst}
 use Rattle.std.specs.List.{AllByRecursion}
 use Rattle.ref_base.proofs.Common.{Object, slot_at, registered_in, Notice, Pending, pending_of, told_notice, State}
-use Rattle.ref_base.proofs.Common.{first_state, refusal, Unhooks, HandsOn, IsAnswer, IsRun, reference_of, IsProven}
+use Rattle.ref_base.proofs.Common.{first_state, Unhooks, HandsOn, IsAnswer, IsRun, reference_of, IsProven}
 use Rattle.ref_base.proofs.Common.{Config, Fault, Cause, Own, Cycle, Step, Reply, Row}
 use Rattle.ref_base.specs.Provenance.{gives_notices}
 use Rattle.ref_base.specs.declared.step.Step.TheVariants as steps
@@ -62,7 +63,4 @@ pub given_proven : (config : Config) (front back : List Row) (step : Step) (n q 
     → IsRun (first_state config) (front ++ record { step = step; reply = replies.Notice n q cause } ∷ back) b
     → IsProven (front ++ record { step = step; reply = replies.Notice n q cause } ∷ [])
     (record { object = n; queue = q; cause = cause })
-given_proven config front back step n q cause b gives run =
-    let parts = cut (first_state config) front (gave step n q cause ∷ back) b run in
-    answered front parts.0 parts.2.0 step (refusal parts.0 step) n q cause gives
-    (legal_known config front parts.0 parts.1) parts.2.1
+given_proven config front back step n q cause b gives run = grind (arith, cut, legal_known, answered front)

@@ -1,16 +1,17 @@
 -- Why there is a notice in a hand: a worker's comes from its own clearing; a mutator's from the reference's own call,
 -- or it was put in its queue before.
+use Rattle.std.proofs.Common.{arith}
 use Rattle.std.proofs.Common.{◌≡◌, ℕ, Bool, true, false, if◌then◌else◌, List, [], ◌∷◌, map, Option, Some, None, ◌⊎◌}
-use Rattle.std.proofs.Common.{inl, inr, sym, ap, ◌∙◌, subst}
+use Rattle.std.proofs.Common.{inl, inr, sym, subst}
 use Rattle.std.specs.Prelude.{is_some}
 use Rattle.std.specs.List.{AllByRecursion}
-use Rattle.ref_base.proofs.Common.{has, Lists, enqueued, was_put, with_parcel, World, Notice, first_world, object_of}
+use Rattle.ref_base.proofs.Common.{has, Lists, enqueued, was_put, World, Notice, first_world, object_of}
 use Rattle.ref_base.proofs.Common.{hand_of, queue_at, with_hand, with_queue, told_object, told_notice, is_done}
-use Rattle.ref_base.proofs.Common.{is_added, told_taken, taking, if_told, put_in, notice_of, took, taken_out}
+use Rattle.ref_base.proofs.Common.{is_added, told_taken, taking, if_told, put_in, notice_of, took}
 use Rattle.ref_base.proofs.Common.{closed_queue, State, first_state, refusal, IsAnswer, IsRow, IsRun, Config, Actor}
 use Rattle.ref_base.proofs.Common.{Mutator, Worker, Step, Reply, Row}
 use Rattle.ref_base.specs.declared.step.Step.TheVariants as steps
-use Rattle.ref_base.proofs.HasLaws.{has-left, has-right, has-first}
+use Rattle.ref_base.proofs.HasLaws.{has-left, has-right}
 use Rattle.ref_base.proofs.Places.{set_each}
 use Rattle.ref_base.proofs.SoundWorlds.{IsSound, first_hand, first_sound}
 use Rattle.ref_base.proofs.SoundWorlds.{IsOwn as IsFor}
@@ -54,17 +55,13 @@ module _ (P : Actor → Notice → Type 0) where
       → OfHands (if told then put_in w who hand else w)
   puts w who hand false all = all
   puts w who None true all = all
-  puts w who (Some notice) true all =
-      set_queue (with_hand w who None) notice.queue (with_parcel (queue_at w notice.queue) notice)
-      (set_hand w who None tt all)
+  puts w who (Some notice) true all = search (set_queue, set_hand)
 
   polls : (w : World) (m q : ℕ) (told : Option ℕ)
       → ((n : ℕ) → OfHand (P (Mutator m)) (notice_of (queue_at w q).stands n)) → OfHands w
       → OfHands (if_told told (λ n. took w m q n) w)
   polls w m q None found all = all
-  polls w m q (Some n) found all =
-      set_hand (with_queue w q (taken_out (queue_at w q) n)) (Mutator m) (notice_of (queue_at w q).stands n) (found n)
-      (set_queue w q (taken_out (queue_at w q) n) all)
+  polls w m q (Some n) found all = search set_hand
 
   closes : (w : World) (q : ℕ) (told : Bool) → OfHands w → OfHands (if told then closed_queue w q else w)
   closes w q true all = set_queue w q (record (queue_at w q) { closed = true }) all
@@ -107,9 +104,7 @@ Grows v w =
     (q n : ℕ) → has (enqueued object_of (queue_at v q)) n ≡ true → has (enqueued object_of (queue_at w q)) n ≡ true
 
 row_grows : (a : State) (row : Row) (b : State) → IsSound a.world → IsRow a row b → Grows a.world b.world
-row_grows a row b sound h q n put =
-    let goes = row_goes a row b sound h in
-    ap (λ ns. has ns n) (goes.queue q).put ∙ has-left (enqueued object_of (queue_at a.world q)) _ n put
+row_grows a row b sound h q n put = grind (arith, row_goes, has-left)
 
 cause_grows : (v w : World) (who : Actor) (hand : Option Notice) → Grows v w → OfHand (HasCause v who) hand
     → OfHand (HasCause w who) hand
@@ -124,11 +119,7 @@ stands_put : (w : World) (q : ℕ) (notices : List Notice) → AllByRecursion (I
     → ((n : ℕ) → has (map object_of notices) n ≡ true → has (enqueued object_of (queue_at w q)) n ≡ true)
     → AllByRecursion (IsOwnOrPut w) notices
 stands_put w q [] all put = tt
-stands_put w q (notice ∷ rest) all put = (
-  inr (subst (λ j. has (enqueued object_of (queue_at w j)) notice.object ≡ true) (sym all.0)
-      (put notice.object (has-first notice.object (map object_of rest)))),
-  stands_put w q rest all.1 (λ n later. put n (has-right (notice.object ∷ []) (map object_of rest) n later)),
-)
+stands_put w q (notice ∷ rest) all put = grind (arith, stands_put w q rest all.1)
 
 own_given : (w : World) (told : Option Notice) → OfHand IsOwn told → OfHand (IsOwnOrPut w) told
 own_given w None is = tt
@@ -140,11 +131,7 @@ gives_cause a b (steps.Unhook m s) reply sound grows row =
     own_given b.world (told_notice reply) (unhook_tells a b m s reply (refusal a (steps.Unhook m s)) row)
 gives_cause a b (steps.Hand k) reply sound grows row = hand_tells a b k reply (refusal a (steps.Hand k)) row
 gives_cause a b (steps.Poll m q) reply sound grows row =
-    λ n.
-    let lists : Lists Notice = queue_at a.world q in
-    all_notice_of (IsOwnOrPut b.world) lists.stands n
-    (stands_put b.world q lists.stands (sound.own q)
-    (λ k stands. grows q k (has-right lists.taken (map object_of lists.stands) k stands)))
+    search (all_notice_of, has-right, stands_put b.world q, sound.own q)
 gives_cause a b step reply sound grows row = tt
 
 row_causes : (a : State) (row : Row) (b : State) → IsSound a.world → HaveCauses a.world → IsRow a row b

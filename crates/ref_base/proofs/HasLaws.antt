@@ -54,33 +54,20 @@ pub has-take_at : (ns : List ℕ) (i j : ℕ) → i < j → i < length ns → ha
 has-take_at [] i j below within = absurd (omega arith)
 has-take_at (n ∷ ns) i zero below within = absurd (omega arith)
 has-take_at (n ∷ ns) zero (suc j) below within = has-first n (take j ns)
-has-take_at (n ∷ ns) (suc i) (suc j) below within =
-    or_right (n == get_or ns i 0) (has (take j ns) (get_or ns i 0))
-    (has-take_at ns i j (omega arith) (omega arith))
+has-take_at (n ∷ ns) (suc i) (suc j) below within = grind (arith, has-take_at ns i j)
 
 -- what is in a front is in the list
 pub has-take : (i : ℕ) (ns : List ℕ) (n : ℕ) → has (take i ns) n ≡ true → has ns n ≡ true
 has-take i ns n h = subst (λ ms. has ms n ≡ true) (take-append-drop i ns) (has-left (take i ns) (drop i ns) n h)
 
 pub lacks-take : (i : ℕ) (ns : List ℕ) (n : ℕ) → has ns n ≡ false → has (take i ns) n ≡ false
-lacks-take i ns n lacks =
-    elim (cases_Bool (has (take i ns) n)) [
-      | inl front ↦ absurd (true≢false (sym (has-take i ns n front) ∙ lacks))
-      | inr none ↦ none
-    ]
+lacks-take i ns n lacks = grind (arith, has-take)
 
 -- a front that ends before a number's first place doesn't have it
 front-lacks : (ns : List ℕ) (n i : ℕ) → i ≤ position_or_len (nat_eq n) ns → has (take i ns) n ≡ false
 front-lacks ns n zero before = refl
 front-lacks [] n (suc i) before = refl
-front-lacks (m ∷ ns) n (suc i) before =
-    elim (cases_Bool (nat_eq n m)) [
-      | inl same ↦ let none : suc i ≤ 0 = simp same at before in absurd (omega arith)
-      | inr other ↦
-          let later : suc i ≤ 1 + position_or_len (nat_eq n) ns = simp other at before in
-          let turned : (m == n) ≡ false = nat_eq_equiv.symm m n ∙ other in
-          simp turned (front-lacks ns n i (omega arith))
-    ]
+front-lacks (m ∷ ns) n (suc i) before = grind (arith, front-lacks ns n i)
 
 -- a front has a number where it goes on beyond the number's first place, and else doesn't
 pub has-front : (ns : List ℕ) (n place i : ℕ) → Some place ≡ position (nat_eq n) ns → place < i
@@ -102,26 +89,12 @@ has-front ns n place i found beyond =
 
 pub lacks-front : (ns : List ℕ) (n place i : ℕ) → Some place ≡ position (nat_eq n) ns → i ≤ place
     → has (take i ns) n ≡ false
-lacks-front ns n place i found before =
-    let first : ℕ = position_or_len (nat_eq n) ns in
-    elim (cases_Bool (nat_lt first (length ns))) [
-      | inl below ↦
-          let is : Some place ≡ Some first = simp below at found in
-          let same : place ≡ first = cc in
-          front-lacks ns n i (omega arith)
-      | inr none ↦ absurd (let wrong : Some place ≡ None = simp none at found in cc)
-    ]
+lacks-front ns n place i found before = grind (arith, front-lacks)
 
 -- the first i + 1 of a list that grew are the first i, and the element at i
 pub has-take_more : (ns more : List ℕ) (i n : ℕ) → i < length ns → has (take (i + 1) (ns ++ more)) n ≡ true
     → (has (take i ns) n ≡ true) ⊎ (get_or ns i 0 ≡ n)
-has-take_more ns more i n h front =
-    let split : take (i + 1) (ns ++ more) ≡ take i ns ++ get_or ns i 0 ∷ [] =
-    take-append-le (i + 1) ns more (omega arith) ∙ take_more ns i 0 h in
-    elim (has-cases (take i ns) (get_or ns i 0 ∷ []) n (subst (λ ms. has ms n ≡ true) split front)) [
-      | inl before ↦ inl before
-      | inr last ↦ inr (has-single (get_or ns i 0) n last)
-    ]
+has-take_more ns more i n h front = grind (arith, take-append-le, has-cases, take_more ns i 0 h)
 
 -- what a read of a list gives, at the default 0 that clauses write
 pub get_or-number : (ms ns : List ℕ) (i n : ℕ) → n ≡ get_or ms i n → ms ≡ ns → i < length ns → n ≡ get_or ns i 0

@@ -1,14 +1,15 @@
 -- Where a row of a heap leads: to the world that its replay gives, but for what a worker looks at in Clearing and what
 -- a sweep frees; and then a moment of a mark joins the others. A mark's end says itself where it leads.
-use Rattle.std.proofs.Common.{◌≡◌, ℕ, ◌+◌, Bool, true, false, List, [], ◌∷◌, ◌++◌, length, take, drop, min, Option}
-use Rattle.std.proofs.Common.{Some, None, is_some, refl, sym, ap, ◌∙◌, subst, inl, inr, ◌⊎◌}
+use Rattle.std.proofs.Common.{arith}
+use Rattle.std.proofs.Common.{◌≡◌, ℕ, ◌+◌, false, List, [], ◌∷◌, ◌++◌, take, drop, Option}
+use Rattle.std.proofs.Common.{Some, None, refl, sym, ap, ◌∙◌, subst, inl, inr, ◌⊎◌}
 use Rattle.std.specs.Prelude.{slice_set}
 use Rattle.std.proofs.lemmas.Bool.{cases_Bool}
-use Rattle.ref_base.proofs.Common.{has, slot_at, reference_at, registered_in, with_slot, got, cut, with_hold, World}
-use Rattle.ref_base.proofs.Common.{Pending, with_heap, NamedStep, pended, handed_on, begun, after_heap, State, Gives}
-use Rattle.ref_base.proofs.Common.{GivesAnewIf, IsBut, ticked, on_heap, with_world, Loads, Gets, Unhooks, Holds, Scans}
+use Rattle.ref_base.proofs.Common.{slot_at, reference_at, registered_in, with_slot, got, cut, with_hold}
+use Rattle.ref_base.proofs.Common.{Pending, with_heap, NamedStep, pended, after_heap, State, Gives}
+use Rattle.ref_base.proofs.Common.{IsBut, ticked, on_heap, with_world, Loads, Gets, Unhooks, Holds, Scans}
 use Rattle.ref_base.proofs.Common.{ClearsNext, HandsOn, Sweeps, HeapAccepts, value_reply, looked_at, looked, list_at}
-use Rattle.ref_base.proofs.Common.{begun_state, without, referent_of, is_in, Own, Cycle, Marking, Reply}
+use Rattle.ref_base.proofs.Common.{begun_state, without, is_in, Own, Marking, Reply}
 use Rattle.ref_base.specs.declared.heap_step.HeapStep.TheVariants as heap
 use Rattle.ref_base.specs.declared.reply.Reply.TheVariants as replies
 
@@ -78,20 +79,13 @@ given : (a c b : State) (step : NamedStep) (answer reply : Reply) → Gives answ
     → Leads a step reply b
 given a c b step answer reply row leads = answered a c b step answer reply row.0 leads (inr (inl row.1))
 
-given_anew : (a c b : State) (step : NamedStep) (marks : Bool) (answer reply : Reply)
-    → GivesAnewIf marks answer c reply b → c ≡ moved a step answer → Leads a step reply b
-given_anew a c b step true answer reply row leads = answered a c b step answer reply row.0 leads (inr (inr row.1))
-given_anew a c b step false answer reply row leads = given a c b step answer reply row leads
-
 -- ---- rows
 
 loads : (a b : State) (m d s i : ℕ) (value : Option ℕ) (reply : Reply) → Loads a m d value reply b
     → Leads a (heap.Load m d s i) reply b
 loads a b m d s i None reply row =
     given a (on_heap a (with_slot a.world.heap m d None)) b (heap.Load m d s i) replies.Null reply row refl
-loads a b m d s i (Some n) reply row =
-    given_anew a (on_heap a (with_slot a.world.heap m d (Some n))) b (heap.Load m d s i) (is_in a.world.phase Marking)
-    (replies.Object n) reply row refl
+loads a b m d s i (Some n) reply row = grind arith
 
 copies : (a b : State) (m d s : ℕ) (value : Option ℕ) (reply : Reply)
     → Gives (value_reply value) (on_heap a (with_slot a.world.heap m d value)) reply b
@@ -105,9 +99,7 @@ gets : (a b : State) (m d s : ℕ) (value : Option ℕ) (reply : Reply) → Gets
     → Leads a (heap.Get m d s) reply b
 gets a b m d s None reply row =
     given a (on_heap a (got a.world.heap m d s None)) b (heap.Get m d s) replies.Null reply row refl
-gets a b m d s (Some n) reply row =
-    given_anew a (on_heap a (got a.world.heap m d s (Some n))) b (heap.Get m d s) (is_in a.world.phase Marking)
-    (replies.Object n) reply row refl
+gets a b m d s (Some n) reply row = grind arith
 
 unhooks : (a b : State) (m s : ℕ) (held queue : Option ℕ) (reply : Reply) → Unhooks a m s held queue reply b
     → Leads a (heap.Unhook m s) reply b
@@ -130,28 +122,7 @@ scans a b k reply row = given a a b (heap.Scan k) replies.Nothing reply row.1 re
 
 looks : (a b : State) (k n : ℕ) (rest : List ℕ) (reply : Reply) → list_at a.found k ≡ n ∷ rest
     → Gives (looked_at a k n) (looked a k n rest) reply b → Leads a (heap.ClearNext k) reply b
-looks a b k n rest reply is row =
-    let c : State = looked a k n rest in
-    let less : record a { found = slice_set a.found k rest } ≡ found_less a k =
-    ap (λ (ns : List ℕ). record a { found = slice_set a.found k (drop 1 ns) }) (sym is) in
-    elim (cases_Bool (has a.cleared n)) [
-      | inl clears ↦
-          let w : World = pended a.world k n (registered_in (reference_at a.world.heap n)) in
-          let told : looked_at a k n ≡ replies.Cleared n = simp clears refl in
-          answered a c b (heap.ClearNext k) (replies.Cleared n) reply (row.0 ∙ told)
-          (simp clears (ap (λ (s : State). with_world s w) less)) (inr (inl row.1))
-      | inr other ↦
-          elim (cases_Bool (is_some (referent_of (reference_at a.world.heap n)))) [
-            | inl some ↦
-                let told : looked_at a k n ≡ replies.Kept n = simp (other, some) refl in
-                answered a c b (heap.ClearNext k) (replies.Kept n) reply (row.0 ∙ told) (simp other less)
-                (inr (inl row.1))
-            | inr none ↦
-                let told : looked_at a k n ≡ replies.Skipped n = simp (other, none) refl in
-                answered a c b (heap.ClearNext k) (replies.Skipped n) reply (row.0 ∙ told) (simp other less)
-                (inr (inl row.1))
-          ]
-    ]
+looks a b k n rest reply is row = grind arith
 
 looks_at : (a b : State) (k : ℕ) (found : List ℕ) (reply : Reply) → list_at a.found k ≡ found
     → ClearsNext a k found reply b → Leads a (heap.ClearNext k) reply b
@@ -161,20 +132,12 @@ looks_at a b k (n ∷ rest) reply is row = looks a b k n rest reply is row
 hands_on : (a b : State) (k : ℕ) (ps : List Pending) (reply : Reply) → HandsOn a k ps reply b
     → Leads a (heap.Hand k) reply b
 hands_on a b k [] reply row = given a a b (heap.Hand k) replies.Nothing reply row refl
-hands_on a b k (p ∷ ps) reply row =
-    given a (with_world a (handed_on a.world k p.object)) b (heap.Hand k)
-    (replies.Notice p.object p.queue (Cycle p.cycle k)) reply row refl
+hands_on a b k (p ∷ ps) reply row = search given
 
 sweeps : (a b : State) (k : ℕ) (doomed : List ℕ) (reply : Reply) → a.doomed ≡ doomed → Sweeps a doomed reply b
     → Leads a (heap.Sweep k) reply b
 sweeps a b k [] reply is row = given a a b (heap.Sweep k) replies.Nothing reply row refl
-sweeps a b k (n ∷ ns) reply is row =
-    let freed : List ℕ → State = λ ds. record a {
-      world = with_heap a.world (record a.world.heap { objects = without (take 64 ds) a.world.heap.objects });
-      doomed = drop 64 ds;
-    } in
-    given a (freed (n ∷ ns)) b (heap.Sweep k) (replies.Swept (min 64 (length (n ∷ ns)))) reply row
-    (ap freed (sym is))
+sweeps a b k (n ∷ ns) reply is row = grind arith
 
 -- a row of a heap that isn't a mark's end leads where its answer says
 pub heap_becomes : (a b : State) (step : NamedStep) (reply : Reply) → IsNoEnd step → HeapAccepts a step reply b
@@ -184,9 +147,7 @@ heap_becomes a b (heap.Copy m d s) reply plain row = copies a b m d s (slot_at a
 heap_becomes a b (heap.Get m d s) reply plain row = gets a b m d s _ reply row
 heap_becomes a b (heap.Unhook m s) reply plain row = unhooks a b m s _ _ reply row
 heap_becomes a b (heap.Hold m s) reply plain row = holds a b m s _ reply row
-heap_becomes a b (heap.Begin now how) reply plain row =
-    given_anew a (begun_state a (begun a.world now how (a.world.cycle + 1))) b (heap.Begin now how) true
-    (replies.Cycle (a.world.cycle + 1)) reply row refl
+heap_becomes a b (heap.Begin now how) reply plain row = grind arith
 heap_becomes a b (heap.Scan k) reply plain row = scans a b k reply row
 heap_becomes a b heap.EndMark reply plain row = absurd plain
 heap_becomes a b (heap.ClearNext k) reply plain row = looks_at a b k (list_at a.found k) reply refl row

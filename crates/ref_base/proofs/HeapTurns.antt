@@ -1,15 +1,13 @@
 -- A turn at a heap, by a row of its world or by a call from outside: nothing comes of it there, or the heap accepts
 -- what is asked. Hands and queues are beside.
-use Rattle.std.proofs.Common.{◌≡◌, ℕ, ◌==◌, Option, Some, None, refl, sym, ap, ◌∙◌, subst, inl, inr, ◌⊎◌}
-use Rattle.std.proofs.lemmas.Bool.{and_parts}
-use Rattle.std.proofs.lemmas.Option.{same_Some}
-use Rattle.ref_base.proofs.Common.{has, has_slot, is_counted, heap_refusal, NamedStep, heap_step, State, with_world}
+use Rattle.std.proofs.Common.{arith}
+use Rattle.std.proofs.Common.{◌≡◌, ℕ, Option, Some, None, refl, ap, ◌∙◌, inl, inr, ◌⊎◌}
+use Rattle.ref_base.proofs.Common.{heap_refusal, NamedStep, heap_step, State, with_world}
 use Rattle.ref_base.proofs.Common.{HeapAccepts, IsHeapAnswer, IsHeapRow, IsRow, AreCounted, World, Fault, Reply, Row}
 use Rattle.ref_base.specs.declared.heap_step.HeapStep.TheVariants as heap
 use Rattle.ref_base.specs.declared.reply.Reply.TheVariants as replies
 use Rattle.ref_base.proofs.HeapMoves.{settled}
 use Rattle.ref_base.proofs.ReplayKeeps.{but_hands, handed_keeps, queues_keep}
-use Rattle.ref_base.proofs.RowForms.{unless_passes}
 use Rattle.ref_base.proofs.RowKinds.{queues_lead, row_kind}
 
 -- a state but for hands, queues, the moments of its mark and whether it says that an object is left
@@ -37,20 +35,7 @@ IsTurn a asked reply b = IsIdle a asked reply b ⊎ IsTaken a asked reply b
 pub accepted : (a b : State) (step : NamedStep) (reply : Reply) → ((fault : Fault) → reply ≡ replies.Refused fault → ⊥)
     → IsTurn a (Some step) reply b
     → (left : State) × (heap_refusal 0 a step ≡ None) × HeapAccepts a step reply left × (at_rest b ≡ at_rest left)
-accepted a b step reply never turn =
-    elim turn [
-      | inl of ↦ elim of.tells [
-        | inl none ↦ absurd cc
-        | inr refused ↦ absurd (never refused.0 refused.1)
-      ]
-      | inr of ↦
-          let same : of.step ≡ step = sym (same_Some step of.step of.asks) in (
-            of.left,
-            subst (λ (s : NamedStep). heap_refusal 0 a s ≡ None) same of.passes,
-            subst (λ (s : NamedStep). HeapAccepts a s reply of.left) same of.accepts,
-            of.after,
-          )
-    ]
+accepted a b step reply never turn = grind arith
 
 -- ---- a row of the world
 
@@ -88,15 +73,8 @@ renumbered step = step
 -- a heap with number 0 refuses nothing more
 still_passes : (number : ℕ) (a : State) (step : NamedStep) → heap_refusal number a step ≡ None
     → heap_refusal 0 a (renumbered step) ≡ None
-still_passes number a (heap.Adopt m d hold) none =
-    let slot = unless_passes (has_slot a.world.heap m d) _ _ none in
-    let counted = unless_passes (is_counted number a.world.heap hold) _ _ slot.1 in
-    let both = and_parts (hold.heap_no == number) (has a.world.heap.holds hold.object) counted.0 in
-    simp (slot.0, both.1) refl
-still_passes number a (heap.Release hold) none =
-    let counted = unless_passes (is_counted number a.world.heap hold) _ _ none in
-    let both = and_parts (hold.heap_no == number) (has a.world.heap.holds hold.object) counted.0 in
-    simp both.1 refl
+still_passes number a (heap.Adopt m d hold) none = grind arith
+still_passes number a (heap.Release hold) none = grind arith
 still_passes number a step none = none
 
 still_accepts : (a b : State) (step : NamedStep) (reply : Reply) → HeapAccepts a step reply b
@@ -123,15 +101,4 @@ heap_kind number a b step reply row = answered number a b step reply (heap_refus
 
 pub heap_turn : (number : ℕ) (a b : State) (step : NamedStep) (reply : Reply) → IsHeapRow number a step reply b
     → IsTurn a (Some (renumbered step)) reply b
-heap_turn number a b step reply row =
-    elim (heap_kind number a b step reply row) [
-      | inl of ↦ inl (record { tells = inr (of.0, of.1); after = ap at_rest of.2 })
-      | inr of ↦ inr (record {
-        step = renumbered step;
-        asks = refl;
-        passes = of.0;
-        left = b;
-        accepts = of.1;
-        after = refl;
-      })
-    ]
+heap_turn number a b step reply row = grind (arith, heap_kind)

@@ -1,8 +1,7 @@
 -- How often each number stands in the lists of holds, hands and queues as these change.
-use Rattle.std.proofs.Common.{◌≡◌, ℕ, ◌+◌, ◌<◌, ◌≤◌, zero, suc, true, ◌==◌, if◌then◌else◌, nat_lt, refl, ap, List, []}
-use Rattle.std.proofs.Common.{◌∷◌, ◌++◌, length, map, Option, None, inl, inr, arith}
+use Rattle.std.proofs.Common.{◌≡◌, ℕ, ◌+◌, ◌<◌, ◌≤◌, zero, suc, true, ◌==◌, if◌then◌else◌, List, []}
+use Rattle.std.proofs.Common.{◌∷◌, ◌++◌, length, map, Option, None, arith}
 use Rattle.std.specs.Prelude.{slice_index_or, slice_set}
-use Rattle.std.proofs.lemmas.Bool.{cases_Bool, eqb-true}
 use Rattle.ref_base.proofs.Common.{has, one_more, one_fewer, Lists, Notice, object_of, tally, in_hand, in_hands}
 use Rattle.ref_base.proofs.Common.{in_queues}
 
@@ -11,56 +10,26 @@ abbrev pub one_if : ℕ → ℕ → ℕ
 one_if m n = if m == n then 1 else 0
 
 pub tally-first : (m : ℕ) (ms : List ℕ) (n : ℕ) → tally (m ∷ ms) n ≡ one_if m n + tally ms n
-tally-first m ms n =
-    elim (cases_Bool (m == n)) [
-      | inl same ↦ simp same (omega arith)
-      | inr other ↦ simp other (omega arith)
-    ]
+tally-first m ms n = grind arith
 
 pub tally-append : (ms ns : List ℕ) (n : ℕ) → tally (ms ++ ns) n ≡ tally ms n + tally ns n
 tally-append [] ns n = omega arith
-tally-append (m ∷ ms) ns n =
-    let later = tally-append ms ns n in
-    let all = tally-first m (ms ++ ns) n in
-    let front = tally-first m ms n in
-    omega (arith, later, all, front)
+tally-append (m ∷ ms) ns n = grind (arith, tally-append ms ns n)
 
 -- what is counted is there
 pub tally-has : (ms : List ℕ) (n : ℕ) → 1 ≤ tally ms n → has ms n ≡ true
 tally-has [] n some = absurd (omega (arith, some))
-tally-has (m ∷ ms) n some =
-    elim (cases_Bool (m == n)) [
-      | inl same ↦ simp same refl
-      | inr other ↦ simp other (tally-has ms n (simp other at some))
-    ]
+tally-has (m ∷ ms) n some = grind (arith, tally-has ms n)
 
 -- ---- holds
 
 pub tally-one_more : (hs : List ℕ) (m n : ℕ) → tally (one_more hs m) n ≡ one_if m n + tally hs n
 tally-one_more [] m n = tally-first m [] n
-tally-one_more (h ∷ hs) m n =
-    elim (cases_Bool (nat_lt h m)) [
-      | inl below ↦
-          let later = tally-one_more hs m n in
-          let all = tally-first h (one_more hs m) n in
-          let front = tally-first h hs n in
-          simp below (omega (arith, later, all, front))
-      | inr above ↦ simp above (tally-first m (h ∷ hs) n)
-    ]
+tally-one_more (h ∷ hs) m n = grind (arith, tally-one_more hs m n)
 
 pub tally-one_fewer : (hs : List ℕ) (m n : ℕ) → tally hs n ≤ one_if m n + tally (one_fewer hs m) n
 tally-one_fewer [] m n = omega arith
-tally-one_fewer (h ∷ hs) m n =
-    let front = tally-first h hs n in
-    elim (cases_Bool (h == m)) [
-      | inl same ↦
-          let own : one_if h n ≡ one_if m n = ap (λ i. one_if i n) (eqb-true h m same) in
-          simp same (omega (arith, front, own))
-      | inr other ↦
-          let later = tally-one_fewer hs m n in
-          let all = tally-first h (one_fewer hs m) n in
-          simp other (omega (arith, front, later, all))
-    ]
+tally-one_fewer (h ∷ hs) m n = grind (arith, tally-one_fewer hs m n)
 
 -- ---- hands and queues
 
@@ -69,27 +38,13 @@ pub tally-hand_set : (hands : List (Option Notice)) (k : ℕ) (hand : Option Not
     → tally (in_hands (slice_set hands k hand)) n + tally (in_hand (slice_index_or hands k None)) n
     ≡ tally (in_hands hands) n + tally (in_hand hand) n
 tally-hand_set [] k hand n within = absurd (omega (arith, within))
-tally-hand_set (h ∷ hands) zero hand n within =
-    let before = tally-append (in_hand h) (in_hands hands) n in
-    let after = tally-append (in_hand hand) (in_hands hands) n in
-    omega (arith, before, after)
-tally-hand_set (h ∷ hands) (suc k) hand n within =
-    let later = tally-hand_set hands k hand n (omega (arith, within)) in
-    let before = tally-append (in_hand h) (in_hands hands) n in
-    let after = tally-append (in_hand h) (in_hands (slice_set hands k hand)) n in
-    omega (arith, later, before, after)
+tally-hand_set (h ∷ hands) zero hand n within = grind arith
+tally-hand_set (h ∷ hands) (suc k) hand n within = grind (arith, tally-hand_set hands k hand n)
 
 -- one queue is
 pub tally-queue_set : (qs : List (Lists Notice)) (k : ℕ) (q other : Lists Notice) (n : ℕ) → k < length qs
     → tally (in_queues (slice_set qs k q)) n + tally (map object_of (slice_index_or qs k other).stands) n
     ≡ tally (in_queues qs) n + tally (map object_of q.stands) n
 tally-queue_set [] k q other n within = absurd (omega (arith, within))
-tally-queue_set (p ∷ qs) zero q other n within =
-    let before = tally-append (map object_of p.stands) (in_queues qs) n in
-    let after = tally-append (map object_of q.stands) (in_queues qs) n in
-    omega (arith, before, after)
-tally-queue_set (p ∷ qs) (suc k) q other n within =
-    let later = tally-queue_set qs k q other n (omega (arith, within)) in
-    let before = tally-append (map object_of p.stands) (in_queues qs) n in
-    let after = tally-append (map object_of p.stands) (in_queues (slice_set qs k q)) n in
-    omega (arith, later, before, after)
+tally-queue_set (p ∷ qs) zero q other n within = grind (arith, tally-append)
+tally-queue_set (p ∷ qs) (suc k) q other n within = grind (arith, tally-append, tally-queue_set qs k q other n)

@@ -1,6 +1,6 @@
 -- Traces that differ from worked ones in one reply, and are not legal.
-use Rattle.std.proofs.Common.{◌≡◌, ℕ, Bool, false, refl, subst, List, [], ◌∷◌, drop, replicate, Option, Some, None, inl}
-use Rattle.std.proofs.Common.{inr}
+use Rattle.std.proofs.Common.{arith}
+use Rattle.std.proofs.Common.{◌≡◌, ℕ, Bool, false, List, [], ◌∷◌, replicate, Option, Some, None}
 use Rattle.ref_base.proofs.Common.{Graph, Object, plain_object, first_world, State, first_state, IsRun, IsLegal, Row}
 use Rattle.ref_base.proofs.Common.{Mutator, Weak, Normal, Own, Marking, HandEmpty, NoMemory}
 use Rattle.ref_base.specs.Heaps.{first_heap}
@@ -8,7 +8,6 @@ use Rattle.ref_base.specs.KeptPaths.{policy_from}
 use Rattle.ref_base.specs.declared.step.Step.TheVariants as steps
 use Rattle.ref_base.specs.declared.reply.Reply.TheVariants as replies
 use Rattle.ref_base.proofs.WorkedTraces.{row, config_of}
-use Rattle.ref_base.proofs.LegalSteps.{mark_ended_by, lands}
 
 -- ---- replies
 
@@ -63,12 +62,7 @@ after_unhooking rows =
 
 unhooked_by : (rows : List Row) (last : State) → IsRun (first_state (config_of 1)) (after_unhooking rows) last
     → IsRun unhooked rows last
-unhooked_by rows last run =
-    let r1 = subst (λ s. IsRun s (drop 1 (after_unhooking rows)) last)
-    (lands (steps.New 0 0 0) (replies.Object 1) run.1.2 run.1.1.1) run.2 in
-    let r2 = subst (λ s. IsRun s (drop 2 (after_unhooking rows)) last)
-    (lands (steps.Refer 0 Weak 1 0 (Some 0) 0) (replies.Object 2) r1.1.2 r1.1.1.1) r1.2 in
-    subst (λ s. IsRun s rows last) (lands (steps.Unhook 0 1) (replies.Notice 2 0 Own) r2.1.2 r2.1.1.1) r2.2
+unhooked_by rows last run = grind arith
 
 -- the notice is put in, and the hand is empty
 abbrev put_once : State
@@ -86,11 +80,7 @@ put_once = record unhooked {
 
 put_once_by : (rows : List Row) (last : State)
     → IsRun unhooked (row (steps.Put (Mutator 0)) (replies.Added 0) ∷ rows) last → IsRun put_once rows last
-put_once_by rows last run =
-    elim run.1 [
-      | inl added ↦ subst (λ s. IsRun s rows last) added.1 run.2
-      | inr wanted ↦ absurd (added_is_not_refused 0 wanted.0)
-    ]
+put_once_by rows last run = grind arith
 
 -- a refusal where none applies: the hand holds a notice
 abbrev refused_without_cause : List Row
@@ -102,12 +92,7 @@ refused_without_cause =
     []
 
 refused_without_cause_is_not_legal : ¬ (IsLegal (config_of 1) refused_without_cause)
-refused_without_cause_is_not_legal legal =
-    let run = unhooked_by (drop 3 refused_without_cause) legal.0 legal.1 in
-    elim run.1 [
-      | inl added ↦ refused_is_not_added 0 added.0
-      | inr wanted ↦ hand_empty_is_not_no_memory wanted.0
-    ]
+refused_without_cause_is_not_legal legal = grind arith
 
 -- the one notice that was put in is taken a second time
 abbrev taken_twice : List Row
@@ -122,12 +107,7 @@ taken_twice =
     []
 
 taken_twice_is_not_legal : ¬ (IsLegal (config_of 1) taken_twice)
-taken_twice_is_not_legal legal =
-    let run = put_once_by (drop 4 taken_twice) legal.0 (unhooked_by (drop 3 taken_twice) legal.0 legal.1) in
-    let r1 = subst (λ s. IsRun s (drop 5 taken_twice) legal.0) run.1.1 run.2 in
-    let r2 = subst (λ s. IsRun s (drop 6 taken_twice) legal.0)
-    (lands (steps.Release (Mutator 0)) replies.Done r1.1.2 r1.1.1.1) r1.2 in
-    took_is_not_empty 2 r2.1.0
+taken_twice_is_not_legal legal = grind arith
 
 -- a queue that is closed takes a notice
 abbrev put_after_close : List Row
@@ -140,10 +120,7 @@ put_after_close =
     []
 
 put_after_close_is_not_legal : ¬ (IsLegal (config_of 1) put_after_close)
-put_after_close_is_not_legal legal =
-    let run = unhooked_by (drop 3 put_after_close) legal.0 legal.1 in
-    let r1 = subst (λ s. IsRun s (drop 4 put_after_close) legal.0) run.1.1 run.2 in
-    added_is_not_closed 0 r1.1.0
+put_after_close_is_not_legal legal = grind arith
 
 -- a reference that was put in is put in a second time
 abbrev put_twice : List Row
@@ -157,11 +134,7 @@ put_twice =
     []
 
 put_twice_is_not_legal : ¬ (IsLegal (config_of 1) put_twice)
-put_twice_is_not_legal legal =
-    let run = put_once_by (drop 4 put_twice) legal.0 (unhooked_by (drop 3 put_twice) legal.0 legal.1) in
-    let r1 = subst (λ s. IsRun s (drop 5 put_twice) legal.0)
-    (lands (steps.Unhook 0 1) (replies.Notice 2 0 Own) run.1.2 run.1.1.1) run.2 in
-    added_is_not_already 1 r1.1.0
+put_twice_is_not_legal legal = grind arith
 
 -- ---- a mark
 
@@ -213,18 +186,7 @@ after_scanning rows =
 -- whether an object is left isn't told
 scanned_by : (rows : List Row) (last : State) → IsRun (first_state (config_of 1)) (after_scanning rows) last
     → (left : Bool) × IsRun (marked (slots_with None) (rooted (2 ∷ []) ∷ rooted (2 ∷ []) ∷ []) left) rows last
-scanned_by rows last run =
-    let r1 = subst (λ s. IsRun s (drop 1 (after_scanning rows)) last)
-    (lands (steps.New 0 0 0) (replies.Object 1) run.1.2 run.1.1.1) run.2 in
-    let r2 = subst (λ s. IsRun s (drop 2 (after_scanning rows)) last)
-    (lands (steps.Refer 0 Weak 1 0 (Some 0) 0) (replies.Object 2) r1.1.2 r1.1.1.1) r1.2 in
-    let r3 = subst (λ s. IsRun s (drop 3 (after_scanning rows)) last)
-    (lands (steps.Drop 0 0) replies.Done r2.1.2 r2.1.1.1) r2.2 in
-    let r4 = subst (λ s. IsRun s (drop 4 (after_scanning rows)) last)
-    (lands (steps.Begin 5 Normal) (replies.Cycle 1) r3.1.2 r3.1.1.1.1) r3.2 in (
-      r4.1.1.2.0,
-      subst (λ s. IsRun s rows last) (lands (steps.Scan 0) (replies.Scanned 2) r4.1.2 r4.1.1.2.1) r4.2,
-    )
+scanned_by rows last run = grind arith
 
 -- a get answers an object that is doomed
 abbrev doomed_got : List Row
@@ -240,16 +202,7 @@ doomed_got =
     []
 
 doomed_got_is_not_legal : ¬ (IsLegal (config_of 1) doomed_got)
-doomed_got_is_not_legal legal =
-    let run = scanned_by (drop 5 doomed_got) legal.0 legal.1 in
-    let before : State =
-    marked (slots_with None) (rooted (2 ∷ []) ∷ rooted (2 ∷ []) ∷ rooted (2 ∷ []) ∷ []) run.0 in
-    let r1 : IsRun before (drop 6 doomed_got) legal.0 =
-    subst (λ s. IsRun s (drop 6 doomed_got) legal.0)
-    (lands (steps.Scan 0) replies.Nothing run.1.1.2 run.1.1.1.1.1) run.1.2 in
-    let ended = mark_ended_by before legal.0 (drop 7 doomed_got) 1 refl r1 in
-    let r2 = subst (λ s. IsRun s (drop 7 doomed_got) legal.0) ended.after r1.2 in
-    object_is_not_null 1 r2.1.1.0
+doomed_got_is_not_legal legal = grind arith
 
 -- an object that a slot holds is doomed
 abbrev kept_doomed : List Row
@@ -264,12 +217,4 @@ kept_doomed =
     []
 
 kept_doomed_is_not_legal : ¬ (IsLegal (config_of 1) kept_doomed)
-kept_doomed_is_not_legal legal =
-    let run = scanned_by (drop 5 kept_doomed) legal.0 legal.1 in
-    let before : State =
-    marked (slots_with (Some 1)) (rooted (2 ∷ 1 ∷ []) ∷ rooted (2 ∷ []) ∷ rooted (2 ∷ []) ∷ []) run.1.1.1.1.0 in
-    let r1 : IsRun before (drop 6 kept_doomed) legal.0 =
-    subst (λ s. IsRun s (drop 6 kept_doomed) legal.0)
-    (lands (steps.Get 0 3 1) (replies.Object 1) run.1.1.2 run.1.1.1.1.1) run.1.2 in
-    let ended = mark_ended_by before legal.0 [] 1 refl r1 in
-    ended.may_doom.none_kept 1 refl ([], (refl, refl))
+kept_doomed_is_not_legal legal = grind arith

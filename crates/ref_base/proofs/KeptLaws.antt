@@ -1,4 +1,5 @@
 -- What a cycle keeps is reachable, and what it keeps at one moment was ever kept.
+use Rattle.std.proofs.Common.{arith}
 use Rattle.std.proofs.Common.{◌≡◌, ℕ, false, ◌&&◌, nat_le, ◌-◌, sym, ◌∙◌, List, [], ◌∷◌, ◌++◌, ◌⊎◌, inl, inr}
 use Rattle.std.proofs.lemmas.Bool.{and_parts, false≢true}
 use Rattle.ref_base.proofs.Common.{Graph, EndsPath, no_referents, soft_referents, is_soft, HasStrength, Policy, is_kept}
@@ -37,9 +38,7 @@ soft_or_strong g n ends Unreachable has = absurd (has.0 (weak_from_soft g n ends
 
 pub kept_is_reachable : (p : Policy) (g : Graph) (n : ℕ) → IsKept p g n
     → HasStrength g n Strong ⊎ HasStrength g n Soft
-kept_is_reachable p g n kept =
-    let some = some_strength g n in
-    soft_or_strong g n (softly p g n kept) some.0 some.1
+kept_is_reachable p g n kept = grind (arith, soft_or_strong, some_strength g n, softly p g n kept)
 
 -- what is kept at one of the moments of a mark was ever kept in it
 pub ever_kept : (p : Policy) (later : List Graph) (g : Graph) (earlier : List Graph) (n : ℕ) → IsKept p g n

@@ -1,12 +1,13 @@
 -- Where a state says in a mark that an object is left, one is: each row of a heap keeps this.
-use Rattle.std.proofs.Common.{◌≡◌, ℕ, ◌+◌, ◌<◌, Bool, true, false, List, ◌∷◌, inl, inr, refl, sym, ap, ◌∙◌, subst}
-use Rattle.std.proofs.lemmas.Bool.{cases_Bool, true≢false, false≢true}
-use Rattle.ref_base.proofs.Common.{has, Graph, Policy, EverKept, graph_of, NamedStep, begun, State, joined, is_in}
+use Rattle.std.proofs.Common.{arith}
+use Rattle.std.proofs.Common.{◌≡◌, ℕ, ◌+◌, ◌<◌, Bool, true, false, List, inl, inr, sym, ap, ◌∙◌, subst}
+use Rattle.std.proofs.lemmas.Bool.{false≢true}
+use Rattle.ref_base.proofs.Common.{has, Graph, Policy, EverKept, NamedStep, begun, State, joined, is_in}
 use Rattle.ref_base.proofs.Common.{HeapAccepts, begun_state, Scans, IsBut, IsLeft, ticked, Phase, Marking, Reply}
 use Rattle.ref_base.specs.declared.heap_step.HeapStep.TheVariants as heap
 use Rattle.ref_base.specs.declared.reply.Reply.TheVariants as replies
-use Rattle.ref_base.proofs.HeapMoves.{Becomes, moved, heap_becomes}
-use Rattle.ref_base.proofs.MovedParts.{mark_of, mark_moved}
+use Rattle.ref_base.proofs.HeapMoves.{Becomes, moved}
+use Rattle.ref_base.proofs.MovedParts.{mark_of}
 
 -- where it is said in a mark that an object is left, one is
 abbrev pub LeftMeans : State → Type 0
@@ -27,16 +28,7 @@ left_kept a c same means = subst MeansIn (sym same) means
 
 -- what is left stays left as the mark goes on, since what was ever kept stays so
 left_ticked : (c : State) → LeftMeans c → LeftMeans (ticked c)
-left_ticked c means =
-    elim (cases_Bool (is_in c.world.phase Marking)) [
-      | inl marks ↦
-          let later : ticked c ≡ record c { moments = graph_of c.world ∷ c.moments } = simp marks refl in
-          subst LeftMeans (sym later)
-          (λ _ said. let one = means marks said in (one.0, (inr one.1.0, one.1.1, one.1.2)))
-      | inr other ↦
-          let still : ticked c ≡ c = simp other refl in
-          subst LeftMeans (sym still) (λ marks _. absurd (true≢false (sym marks ∙ other)))
-    ]
+left_ticked c means = grind arith
 
 -- what says it anew says it rightly
 left_anew : (c b : State) → IsBut c b → LeftMeans b
@@ -63,6 +55,4 @@ heap_left a b heap.EndMark reply row means =
     subst LeftMeans (sym row.after) (λ marks _. absurd (false≢true marks))
 heap_left a b heap.EndClear reply row means = subst LeftMeans (sym row.1) (λ marks _. absurd (false≢true marks))
 heap_left a b heap.EndSweep reply row means = subst LeftMeans (sym row.1) (λ marks _. absurd (false≢true marks))
-heap_left a b step reply row means =
-    left_becomes (moved a step reply) b
-    (left_kept a (moved a step reply) (mark_moved a step reply tt tt) means) (heap_becomes a b step reply tt row)
+heap_left a b step reply row means = grind arith

@@ -17,9 +17,7 @@ use Rattle.ref_base.proofs.RunLaws.{cut}
 
 pub run_sound : (a : State) (rows : List Row) (b : State) → IsSound a.world → IsRun a rows b → IsSound b.world
 run_sound a [] b sound run = subst (λ (s : State). IsSound s.world) (sym run) sound
-run_sound a (row ∷ rows) b sound run =
-    let goes = row_goes a row run.0 sound run.1 in
-    run_sound run.0 rows b goes.sound run.2
+run_sound a (row ∷ rows) b sound run = search (run_sound run.0 rows b, row_goes a row run.0 sound run.1)
 
 -- a queue changes as the rows say, where the hands at first hold what they do
 abbrev MovesBy : Lists Notice → Lists Notice → ℕ → HandNotices → List Row → Type 0

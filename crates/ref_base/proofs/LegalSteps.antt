@@ -1,11 +1,9 @@
 -- How one shows of a concrete trace that it is legal, row by row.
-use Rattle.std.proofs.Common.{◌≡◌, ℕ, Bool, true, false, not, refl, sym, ap, ◌∙◌, subst, List, [], ◌∷◌, length, Option}
-use Rattle.std.proofs.Common.{None}
+use Rattle.std.proofs.Common.{◌≡◌, ℕ, true, false, refl, ap, ◌∙◌, List, [], ◌∷◌, length}
 use Rattle.std.proofs.lemmas.Bool.{false≢true}
 use Rattle.ref_base.proofs.Common.{State, first_state, IsLegal, Config, has, new_clears, MayDoom, graph_of, joined}
-use Rattle.ref_base.proofs.Common.{with_handed, EndsMark, AreFound, mark_ended, doomed_at, IsRow, IsRun, IsAnswer, Row}
-use Rattle.ref_base.proofs.Common.{is_in, refusal, unless, Fault, GreyLeft, WrongPhase, Marking, Step, Reply}
-use Rattle.ref_base.specs.declared.step.Step.TheVariants.{EndMark}
+use Rattle.ref_base.proofs.Common.{with_handed, EndsMark, AreFound, mark_ended, doomed_at, IsRow, IsRun, Row}
+use Rattle.ref_base.proofs.Common.{Step, Reply}
 use Rattle.ref_base.specs.declared.reply.Reply.TheVariants.{Doomed}
 
 -- where none is said to be left
@@ -18,33 +16,7 @@ pub mark_ends : (a : State) (found : List (List ℕ))
     → AreFound a.world.heap.objects a.scanned found
     → ((n : ℕ) → has (new_clears a.world.heap.objects (doomed_at a)) n ≡ true → has (joined found) n ≡ true)
     → EndsMark a (Doomed (length (doomed_at a))) (mark_ended a (doomed_at a) found)
-mark_ends a found may are all = record {
-  answer = refl;
-  may_doom = may;
-  found = found;
-  are_found = are;
-  all_found = all;
-  after = refl;
-}
-
--- what refuses the end of a mark
-abbrev pub end_refusal : Bool → Option Fault
-end_refusal left = unless (not left) GreyLeft None
-
-refused_at : (a : State) → is_in a.world.phase Marking ≡ true → refusal a EndMark ≡ end_refusal a.left
-refused_at a marking = ap (λ b. unless b WrongPhase (end_refusal a.left)) marking
-
-ended_unless : (a b : State) (count : ℕ) (left : Bool) → IsAnswer a (end_refusal left) EndMark (Doomed count) b
-    → EndsMark a (Doomed count) b
-ended_unless a b count true refused = let e = refused.0 in absurd cc
-ended_unless a b count false ended = subst (λ (s : State). EndsMark a (Doomed count) s) (sym ended.2) ended.1
-
--- a row that ended a mark ended it as it must
-pub mark_ended_by : (a last : State) (rows : List Row) (count : ℕ) → is_in a.world.phase Marking ≡ true
-    → (run : IsRun a (record { step = EndMark; reply = Doomed count } ∷ rows) last) → EndsMark a (Doomed count) run.0
-mark_ended_by a last rows count marking run =
-    ended_unless a run.0 count a.left
-    (subst (λ f. IsAnswer a f EndMark (Doomed count) run.0) (refused_at a marking) run.1)
+mark_ends a found may are all = search
 
 -- where the state of the heap's row is known, so is the state that the row leaves
 pub lands : (step : Step) (reply : Reply) {b c d : State} → b ≡ with_handed c step reply → c ≡ d

@@ -1,12 +1,11 @@
 -- What a look-up finds after an object is changed or made, and what lists of values hold after one is set.
-use Rattle.std.proofs.Common.{◌≡◌, ℕ, zero, suc, ◌<◌, true, false, ◌==◌, refl, sym, ap, ◌∙◌, arith, List, [], ◌∷◌, ◌++◌}
-use Rattle.std.proofs.Common.{length, Option, Some, None, ◌⊎◌, inl, inr}
+use Rattle.std.proofs.Common.{◌≡◌, ℕ, zero, suc, ◌<◌, true, false, ◌==◌, refl, arith, List, [], ◌∷◌, ◌++◌}
+use Rattle.std.proofs.Common.{length, Option, Some, None, ◌⊎◌, inl}
 use Rattle.std.specs.Prelude.{slice_index_or, slice_set}
-use Rattle.std.proofs.lemmas.Bool.{cases_Bool, or_cases, or_left, or_right, false≢true, true≢false, eqb-true, eq-eqb}
+use Rattle.std.proofs.lemmas.Bool.{or_left, or_right, false≢true, eq-eqb}
 use Rattle.ref_base.proofs.Common.{has, Object, Reference, object_at, is_there, numbers, Allowed, present}
 use Rattle.ref_base.proofs.Common.{allowed_referent, IsRising, changed_at}
 use Rattle.ref_base.proofs.HasLaws.{has-first}
-use Rattle.ref_base.proofs.StrengthLaws.{if_any-has}
 
 -- ---- objects
 
@@ -17,56 +16,24 @@ pub lookup-changed : (P : Option Object → Option Object → Type 0) (os : List
     → ((o : Object) → object_at os n ≡ Some o → P (Some o) (Some (f o)))
     → (m : ℕ) → P (object_at os m) (object_at (changed_at os n f) m)
 lookup-changed P [] n f keeps same there m = same None
-lookup-changed P (o ∷ os) n f keeps same there m =
-    elim (cases_Bool (o.no == n)) [
-      | inl here ↦
-          let first : object_at (o ∷ os) n ≡ Some o = simp here refl in
-          simp here (elim (cases_Bool (o.no == m)) [
-            | inl asked ↦
-                let now : ((f o).no == m) ≡ true = ap (λ i. i == m) (keeps o) ∙ asked in
-                simp (asked, now) (there o first)
-            | inr passed ↦
-                let now : ((f o).no == m) ≡ false = ap (λ i. i == m) (keeps o) ∙ passed in
-                simp (passed, now) (same (object_at os m))
-          ])
-      | inr other ↦
-          let later : (p : Object) → object_at os n ≡ Some p → P (Some p) (Some (f p)) =
-          λ p found. there p (simp other found) in
-          simp other (elim (cases_Bool (o.no == m)) [
-            | inl asked ↦ simp asked (same (Some o))
-            | inr passed ↦ simp passed (lookup-changed P os n f keeps same later m)
-          ])
-    ]
+lookup-changed P (o ∷ os) n f keeps same there m = grind (arith, lookup-changed P os n f keeps same)
 
 pub numbers-changed : (os : List Object) (n : ℕ) (f : Object → Object) → ((o : Object) → (f o).no ≡ o.no)
     → numbers (changed_at os n f) ≡ numbers os
 numbers-changed [] n f keeps = refl
-numbers-changed (o ∷ os) n f keeps =
-    elim (cases_Bool (o.no == n)) [
-      | inl here ↦ simp here (ap (λ i. i ∷ numbers os) (keeps o))
-      | inr other ↦ simp other (ap (λ is. o.no ∷ is) (numbers-changed os n f keeps))
-    ]
+numbers-changed (o ∷ os) n f keeps = grind (arith, numbers-changed os n f keeps)
 
 -- a look-up of what was there finds the same once there is one more
 pub object_at-push : (os : List Object) (o : Object) (n : ℕ) → is_there os n ≡ true
     → object_at (os ++ o ∷ []) n ≡ object_at os n
 object_at-push [] o n there = absurd (false≢true there)
-object_at-push (p ∷ os) o n there =
-    elim (cases_Bool (p.no == n)) [
-      | inl here ↦ simp here refl
-      | inr other ↦ let later : is_there os n ≡ true = simp other at there in simp other (object_at-push os o n later)
-    ]
+object_at-push (p ∷ os) o n there = grind (arith, object_at-push os o n)
 
 -- and else the new one, if it has the number
 pub object_at-pushed : (os : List Object) (o : Object) (n : ℕ) → is_there os n ≡ false
     → object_at (os ++ o ∷ []) n ≡ object_at (o ∷ []) n
 object_at-pushed [] o n absent = refl
-object_at-pushed (p ∷ os) o n absent =
-    elim (cases_Bool (p.no == n)) [
-      | inl here ↦ let there : is_there (p ∷ os) n ≡ true = simp here refl in absurd (true≢false (sym there ∙ absent))
-      | inr other ↦
-          let later : is_there os n ≡ false = simp other at absent in simp other (object_at-pushed os o n later)
-    ]
+object_at-pushed (p ∷ os) o n absent = grind (arith, object_at-pushed os o n)
 
 -- numbers rise where a greater one comes last
 pub rising-push : (os : List Object) (o : Object) → IsRising (numbers os)
@@ -74,15 +41,7 @@ pub rising-push : (os : List Object) (o : Object) → IsRising (numbers os)
 rising-push [] o rising below = tt
 rising-push (p ∷ []) o rising below =
     let own : (p.no == p.no) ≡ true = eq-eqb p.no p.no refl in (below p.no (simp own refl), tt)
-rising-push (p ∷ q ∷ os) o rising below = (
-  rising.0,
-  rising-push (q ∷ os) o rising.1
-      (λ n there.
-      elim (cases_Bool (p.no == n)) [
-        | inl same ↦ below n (simp same refl)
-        | inr other ↦ below n (simp other there)
-      ]),
-)
+rising-push (p ∷ q ∷ os) o rising below = grind (arith, rising-push (q ∷ os) o rising.1)
 
 -- ---- values
 
@@ -96,20 +55,9 @@ pub has-present_set : (held : List (Option ℕ)) (i : ℕ) (value : Option ℕ) 
     → has (present (slice_set held i value)) n ≡ true → (has (present held) n ≡ true) ⊎ (value ≡ Some n)
 has-present_set [] i value n within = inl within
 has-present_set (v ∷ vs) zero None n within = inl (has-present_later v vs n within)
-has-present_set (v ∷ vs) zero (Some m) n within =
-    elim (or_cases (m == n) (has (present vs) n) within) [
-      | inl same ↦ inr (ap (λ i. Some i) (eqb-true m n same))
-      | inr later ↦ inl (has-present_later v vs n later)
-    ]
+has-present_set (v ∷ vs) zero (Some m) n within = grind arith
 has-present_set (None ∷ vs) (suc i) value n within = has-present_set vs i value n within
-has-present_set (Some m ∷ vs) (suc i) value n within =
-    elim (or_cases (m == n) (has (present (slice_set vs i value)) n) within) [
-      | inl same ↦ inl (or_left (m == n) (has (present vs) n) same)
-      | inr later ↦ elim (has-present_set vs i value n later) [
-        | inl before ↦ inl (or_right (m == n) (has (present vs) n) before)
-        | inr is ↦ inr is
-      ]
-    ]
+has-present_set (Some m ∷ vs) (suc i) value n within = grind (arith, has-present_set vs i value n)
 
 -- the one that is set is among them
 pub has-present_here : (held : List (Option ℕ)) (i n : ℕ) → i < length held
@@ -133,8 +81,4 @@ has-present_at (Some m ∷ vs) (suc i) n is = or_right (m == n) (has (present vs
 -- a reference leads to its referent alone
 pub allowed_referent-cases : (allow : Allowed) (r : Reference) (n : ℕ) → has (allowed_referent allow (Some r)) n ≡ true
     → r.referent ≡ Some n
-allowed_referent-cases allow r n within =
-    elim (cases_Bool (allow r)) [
-      | inl may ↦ if_any-has r.referent n (simp may at within)
-      | inr may_not ↦ absurd (false≢true (simp may_not at within))
-    ]
+allowed_referent-cases allow r n within = grind arith

@@ -1,50 +1,31 @@
 -- In every legal trace a notice of a cycle comes after the end of that cycle's mark, which showed what it had to.
-use Rattle.std.proofs.Common.{◌≡◌, ℕ, true, List, [], ◌∷◌, ◌++◌, Option, Some, None, refl, ap, subst}
-use Rattle.ref_base.proofs.Common.{has, World, Notice, hand_of, replayed, State, first_state, refusal, heap_refusal}
-use Rattle.ref_base.proofs.Common.{IsAnswer, IsRow, IsRun, list_at, MarkEnded, Config, Actor, Mutator, Worker, Cause}
-use Rattle.ref_base.proofs.Common.{Own, Cycle, Fault, Clearing, Step, Reply, Row}
+use Rattle.std.proofs.Common.{arith}
+use Rattle.std.proofs.Common.{ℕ, List, [], ◌∷◌, ◌++◌, Option, Some, None}
+use Rattle.ref_base.proofs.Common.{World, Notice, hand_of, replayed, State, first_state, refusal}
+use Rattle.ref_base.proofs.Common.{IsAnswer, IsRow, IsRun, MarkEnded, Config, Actor, Mutator, Worker, Cause}
+use Rattle.ref_base.proofs.Common.{Own, Cycle, Step, Reply, Row}
 use Rattle.ref_base.specs.MarkEnds.{IsAfterMark, IsAfterMarkIn, AreAfterMarks}
-use Rattle.ref_base.specs.declared.heap_step.HeapStep.TheVariants as heap
 use Rattle.ref_base.specs.declared.step.Step.TheVariants as steps
 use Rattle.ref_base.specs.declared.reply.Reply.TheVariants as replies
 use Rattle.ref_base.proofs.RunLaws.{cut}
 use Rattle.ref_base.proofs.RunFronts.{legal_holds}
 use Rattle.ref_base.proofs.CarryLaws.{OfHand, Carries, Lasts}
 use Rattle.ref_base.proofs.CarryRows.{Mints, row_carries, first_carries, carries_more}
-use Rattle.ref_base.proofs.PhaseLaws.{of_phase}
-use Rattle.ref_base.proofs.WaitingClears.{look_tells, Tells}
 use Rattle.ref_base.proofs.MarkShows.{ended_more}
 use Rattle.ref_base.proofs.OutTraces.{legal_out}
 
 -- ---- what a worker clears
 
--- a row in which a worker cleared n is in Clearing, of a reference that the mark's end cleared
-cleared_row : (a b : State) (k n : ℕ) (fault : Option Fault) → heap_refusal 0 a (heap.ClearNext k) ≡ fault
-    → IsAnswer a fault (steps.ClearNext k) (replies.Cleared n) b
-    → (a.world.phase ≡ Clearing) × (has a.cleared n ≡ true)
-cleared_row a b k n (Some fault) is row = let answer = row.0 in absurd cc
-cleared_row a b k n None is row =
-    let tells : Tells a k (replies.Cleared n) =
-    look_tells a row.0 k (list_at a.found k) (replies.Cleared n) refl row.1 in
-    (of_phase 0 a (heap.ClearNext k) is, tells.0)
-
 row_shows : (config : Config) (past : List Row) (a b : State) (k n : ℕ) → IsRun (first_state config) past a
     → IsAnswer a (refusal a (steps.ClearNext k)) (steps.ClearNext k) (replies.Cleared n) b
     → MarkEnded config past a.world.cycle n
-row_shows config past a b k n run row =
-    let at = cleared_row a b k n (refusal a (steps.ClearNext k)) refl row in
-    (legal_out config past a run).2.shown at.0 n at.1
+row_shows config past a b k n run row = grind (arith, legal_out)
 
 -- what a worker cleared, the end of the cycle's mark showed to be out of reach
 pub cleared_shown : (config : Config) (front back : List Row) (k n : ℕ) (b : State)
     → IsRun (first_state config) (front ++ record { step = steps.ClearNext k; reply = replies.Cleared n } ∷ back) b
     → MarkEnded config front (replayed config front).cycle n
-cleared_shown config front back k n b run =
-    let row : Row = record { step = steps.ClearNext k; reply = replies.Cleared n } in
-    let parts = cut (first_state config) front (row ∷ back) b run in
-    let agrees = (legal_out config front parts.0 parts.1).1.agrees in
-    subst (λ (c : ℕ). MarkEnded config front c n) (ap (λ (w : World). w.cycle) agrees)
-    (row_shows config front parts.0 parts.2.0 k n parts.1 parts.2.1)
+cleared_shown config front back k n b run = grind (arith, cut, legal_out)
 
 -- ---- notices
 
@@ -60,11 +41,7 @@ after_more config rows more n Own is = tt
 after_more config rows more n (Cycle cycle k) is = ended_more config rows more cycle n is
 
 pub any_lasts : Lasts (λ o. Unit {0})
-any_lasts = record {
-  stores = λ o i value is. tt;
-  clears = λ o is. tt;
-  gets = λ o clock is. tt;
-}
+any_lasts = search
 
 mints : (config : Config) (past : List Row) (a b : State) (step : Step) (reply : Reply) (rows : List Row)
     → IsRun (first_state config) past a → IsAnswer a (refusal a step) step reply b
@@ -74,11 +51,7 @@ mints config past a b (steps.New m d k) reply rows run row more = λ is. tt
 mints config past a b (steps.Refer m strength d s q k) reply rows run row more = λ is. tt
 mints config past a b (steps.Begin now how) reply rows run row more = λ is. tt
 mints config past a b (steps.Unhook m s) reply rows run row more = λ n q is there. tt
-mints config past a b (steps.ClearNext k) reply rows run row more =
-    λ n q is there.
-    more a.world.cycle n
-    (row_shows config past a b k n run
-    (subst (λ (r : Reply). IsAnswer a (refusal a (steps.ClearNext k)) (steps.ClearNext k) r b) is row))
+mints config past a b (steps.ClearNext k) reply rows run row more = grind (arith, row_shows)
 mints config past a b step reply rows run row more = tt
 
 row_marked : (config : Config) (past : List Row) (a : State) (row : Row) (b : State)

@@ -1,4 +1,5 @@
 -- What stays where a row of a heap leads.
+use Rattle.std.proofs.Common.{arith}
 use Rattle.std.proofs.Common.{◌≡◌, ℕ, Bool, List, Option, refl, ap, ◌∙◌}
 use Rattle.ref_base.proofs.Common.{Graph, Policy, reference_at, registered_in, World, Pending, is_done, told_cycle}
 use Rattle.ref_base.proofs.Common.{NamedStep, State, Config, Phase, Reply, Notice, Lists, SameOthers, HeapAccepts}
@@ -72,30 +73,6 @@ mark_of a = (a.world.phase, a.world.policy, a.moments, a.born, a.scanned, a.left
 abbrev pub mark_in : State → World → Phase × Policy × List Graph × ℕ × List (List ℕ) × Bool
 mark_in a w = (w.phase, w.policy, a.moments, a.born, a.scanned, a.left)
 
--- the step scans nothing
-abbrev pub ScansNone : NamedStep → Type 0
-ScansNone (heap.Scan k) = ⊥
-ScansNone step = Unit {0}
-
-pub mark_moved : (a : State) (step : NamedStep) (reply : Reply) → EndsNoPhase step → ScansNone step
-    → mark_of (moved a step reply) ≡ mark_of a
-mark_moved a (heap.ClearNext k) (replies.Cleared n) plain calm =
-    ap (mark_in a) (stage_moved a (heap.ClearNext k) (replies.Cleared n) tt)
-mark_moved a (heap.ClearNext k) (replies.Kept n) plain calm = refl
-mark_moved a (heap.ClearNext k) (replies.Skipped n) plain calm = refl
-mark_moved a (heap.ClearNext k) reply plain calm = refl
-mark_moved a (heap.Sweep k) (replies.Swept count) plain calm = refl
-mark_moved a (heap.Sweep k) reply plain calm = refl
-mark_moved a (heap.Begin now how) reply plain calm = absurd plain
-mark_moved a (heap.Scan k) reply plain calm = absurd calm
-mark_moved a heap.EndMark reply plain calm = absurd plain
-mark_moved a heap.EndClear reply plain calm = absurd plain
-mark_moved a heap.EndSweep reply plain calm = absurd plain
-mark_moved a (heap.New m d k) reply plain calm = ap (mark_in a) (stage_moved a (heap.New m d k) reply tt)
-mark_moved a (heap.Refer m strength d s q k) reply plain calm =
-    ap (mark_in a) (stage_moved a (heap.Refer m strength d s q k) reply tt)
-mark_moved a step reply plain calm = ap (mark_in a) (stage_moved a step reply tt)
-
 -- ---- any row but a mark's end
 
 abbrev config_in : World → Config
@@ -133,31 +110,17 @@ pending_moved a step reply plain calm = ap pending_in (same_frame a.world step r
 abbrev others_in : World → List (Option Notice) × List (Option Notice) × List (Lists Notice)
 others_in w = (w.mutator_hands, w.worker_hands, w.queues)
 
-others_moved : (a : State) (step : NamedStep) (reply : Reply) → IsNoEnd step
-    → others_in (moved a step reply).world ≡ others_in a.world
-others_moved a (heap.Begin now how) reply plain = told_keeps others_in (told_cycle reply) _ a.world (λ n. refl)
-others_moved a heap.EndMark reply plain = absurd plain
-others_moved a heap.EndClear reply plain = done_keeps others_in (is_done reply) _ a.world refl
-others_moved a heap.EndSweep reply plain = done_keeps others_in (is_done reply) _ a.world refl
-others_moved a step reply plain = ap others_in (stage_moved a step reply tt)
-
 -- ---- what a row of a heap leaves
 
 same_others : (v w : World) → others_in w ≡ others_in v → SameOthers v w
-same_others v w is = record {
-  mutators = ap (λ (o : List (Option Notice) × List (Option Notice) × List (Lists Notice)). o.0) is;
-  workers = ap (λ (o : List (Option Notice) × List (Option Notice) × List (Lists Notice)). o.1) is;
-  queues = ap (λ (o : List (Option Notice) × List (Option Notice) × List (Lists Notice)). o.2) is;
-}
+same_others v w is = grind arith
 
 -- a row of the heap leaves hands and queues
 pub heap_others : (a b : State) (step : NamedStep) (reply : Reply) → HeapAccepts a step reply b
     → SameOthers a.world b.world
 heap_others a b heap.EndMark reply row =
     same_others a.world b.world (ap (λ (s : State). others_in s.world) row.after)
-heap_others a b step reply row =
-    same_others a.world b.world
-    (ap (λ (s : State). others_in s.world) (heap_moves a b step reply tt row) ∙ others_moved a step reply tt)
+heap_others a b step reply row = grind arith
 
 -- and the configuration
 pub heap_config : (a b : State) (step : NamedStep) (reply : Reply) → HeapAccepts a step reply b

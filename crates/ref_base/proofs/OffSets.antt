@@ -1,20 +1,19 @@
 -- What is gone or doomed is out of reach: no root names it, and nothing else refers to it. A mark's end makes it so.
-use Rattle.std.proofs.Common.{◌≡◌, ℕ, zero, suc, true, false, ◌==◌, List, [], ◌∷◌, ◌++◌, map, Option, Some, None}
+use Rattle.std.proofs.Common.{arith}
+use Rattle.std.proofs.Common.{◌≡◌, ℕ, zero, suc, true, false, List, [], ◌∷◌, ◌++◌, map, Option, Some, None}
 use Rattle.std.proofs.Common.{is_some, refl, sym, ap, ◌∙◌, inl, inr, ◌⊎◌}
 use Rattle.std.specs.Prelude.{slice_index_or}
 use Rattle.std.specs.List.{AllByRecursion}
-use Rattle.std.proofs.lemmas.Bool.{cases_Bool, or_parts, or_from, or_left, or_right, eqb-true, eq-eqb, false≢true}
-use Rattle.std.proofs.lemmas.Bool.{false_from_ne_true}
+use Rattle.std.proofs.lemmas.Bool.{or_parts, or_from, false≢true}
 use Rattle.ref_base.proofs.Common.{has, Graph, Object, Reference, object_at, is_there, Allowed, EndsPath, any_referent}
-use Rattle.ref_base.proofs.Common.{no_referents, present, allowed_referent, targets_of, targets_at, is_kept, MayDoom}
-use Rattle.ref_base.proofs.Common.{any_is, refers_into, cleared, changed_reference, World, Pending, graph_of}
+use Rattle.ref_base.proofs.Common.{no_referents, present, targets_of, targets_at, is_kept, MayDoom}
+use Rattle.ref_base.proofs.Common.{World, Pending, graph_of}
 use Rattle.ref_base.proofs.Common.{pending_of, pending_numbers, with_heap, without, shown}
 use Rattle.ref_base.proofs.CarryRows.{all_more}
 use Rattle.ref_base.proofs.HasLaws.{has-append, has-cases, has-left, has-right}
-use Rattle.ref_base.proofs.Lookups.{has-present_at, allowed_referent-cases}
+use Rattle.ref_base.proofs.Lookups.{has-present_at}
 use Rattle.ref_base.proofs.PathLaws.{root_ends, path_within, targets_of-wider, target_ends}
 use Rattle.ref_base.proofs.SeenObjects.{object_at-without}
-use Rattle.ref_base.proofs.ShownObjects.{shown-no}
 use Rattle.ref_base.proofs.ApartWorlds.{OfValue, IsClosed, closed_roots}
 
 -- ---- paths among fewer objects
@@ -51,78 +50,30 @@ pub target_there : (allow : Allowed) (o : Option Object) (n : ℕ) → has (targ
 target_there allow None n target = absurd (false≢true target)
 target_there allow (Some o) n target = refl
 
-referent_off : (d : List ℕ) (r : Option Reference) (n : ℕ) → refers_into (has d) r ≡ false
-    → has (allowed_referent any_referent r) n ≡ true → has d n ≡ false
-referent_off d None n off h = absurd (false≢true h)
-referent_off d (Some r) n off h =
-    ap (any_is (has d)) (sym (allowed_referent-cases any_referent r n h)) ∙ off
-
 -- an object outside the doomed refers, once the mark has ended, by its fields as before, and to no doomed referent
 object_shown : (d : List ℕ) (o : Object) (n : ℕ) → has d o.no ≡ false
     → has (targets_of any_referent (Some (shown d o))) n ≡ true
     → (has (targets_of no_referents (Some o)) n ≡ true)
     ⊎ ((has (targets_of any_referent (Some o)) n ≡ true) × (has d n ≡ false))
-object_shown d o n out target =
-    elim (cases_Bool (refers_into (has d) o.reference)) [
-      | inl met ↦
-          let now : has (present o.fields ++ allowed_referent any_referent (changed_reference cleared o.reference)) n
-          ≡ true = simp (out, met) at target in
-          let old : List ℕ = allowed_referent any_referent (changed_reference cleared o.reference) in
-          elim (has-cases (present o.fields) old n now) [
-            | inl field ↦ inl (has-left (present o.fields) (allowed_referent no_referents o.reference) n field)
-            | inr referent ↦ absurd (no_referent o.reference referent)
-          ]
-      | inr unmet ↦
-          let now : has (present o.fields ++ allowed_referent any_referent o.reference) n ≡ true =
-          simp (out, unmet) at target in
-          elim (has-cases (present o.fields) (allowed_referent any_referent o.reference) n now) [
-            | inl field ↦ inl (has-left (present o.fields) (allowed_referent no_referents o.reference) n field)
-            | inr referent ↦ inr (now, referent_off d o.reference n unmet referent)
-          ]
-    ]
-  where
-    no_referent : (r : Option Reference)
-        → has (allowed_referent any_referent (changed_reference cleared r)) n ≡ true → ⊥
-    no_referent None h = false≢true h
-    no_referent (Some r) h = false≢true h
+object_shown d o n out target = grind (arith, has-cases, has-left)
 
 target_shown : (d : List ℕ) (os : List Object) (m n : ℕ) → has d m ≡ false
     → has (targets_at any_referent (map (λ o. shown d o) os) m) n ≡ true
     → (has (targets_at no_referents os m) n ≡ true)
     ⊎ ((has (targets_at any_referent os m) n ≡ true) × (has d n ≡ false))
 target_shown d [] m n out target = absurd (false≢true target)
-target_shown d (o ∷ os) m n out target =
-    elim (cases_Bool (o.no == m)) [
-      | inl same ↦
-          let shows : ((shown d o).no == m) ≡ true = ap (λ i. i == m) (shown-no d o) ∙ same in
-          let own : has d o.no ≡ false = ap (has d) (eqb-true o.no m same) ∙ out in
-          let now : has (targets_of any_referent (Some (shown d o))) n ≡ true = simp shows at target in
-          simp same (object_shown d o n own now)
-      | inr other ↦
-          let shows : ((shown d o).no == m) ≡ false = ap (λ i. i == m) (shown-no d o) ∙ other in
-          simp other (target_shown d os m n out (simp shows at target))
-    ]
+target_shown d (o ∷ os) m n out target = grind (arith, object_shown, target_shown d os m n out)
 
 -- each that is pending is a root
 all_own : (ps : List Pending) → AllByRecursion (λ p. has (map (λ p. p.object) ps) p.object ≡ true) ps
 all_own [] = tt
-all_own (p ∷ ps) = (
-  or_left (p.object == p.object) (has (map (λ p. p.object) ps) p.object) (eq-eqb p.object p.object refl),
-  all_more (λ r. has (map (λ p. p.object) ps) r.object ≡ true) (λ r. has (map (λ p. p.object) (p ∷ ps)) r.object ≡ true)
-      ps (λ r there. or_right (p.object == r.object) (has (map (λ p. p.object) ps) r.object) there) (all_own ps),
-)
+all_own (p ∷ ps) = grind (arith, all_more, all_own ps)
 
 pending_roots : (lists : List (List Pending)) (k : ℕ)
     → AllByRecursion (λ p. has (pending_numbers lists) p.object ≡ true) (slice_index_or lists k [])
 pending_roots [] k = tt
-pending_roots (ps ∷ lists) zero =
-    all_more (λ r. has (map (λ p. p.object) ps) r.object ≡ true)
-    (λ r. has (pending_numbers (ps ∷ lists)) r.object ≡ true) ps
-    (λ r there. has-left (map (λ p. p.object) ps) (pending_numbers lists) r.object there) (all_own ps)
-pending_roots (ps ∷ lists) (suc k) =
-    all_more (λ r. has (pending_numbers lists) r.object ≡ true)
-    (λ r. has (pending_numbers (ps ∷ lists)) r.object ≡ true) (slice_index_or lists k [])
-    (λ r there. has-right (map (λ p. p.object) ps) (pending_numbers lists) r.object there) (pending_roots lists k)
+pending_roots (ps ∷ lists) zero = search (all_more, has-left, all_own ps)
+pending_roots (ps ∷ lists) (suc k) = search (all_more, has-right, pending_roots lists k)
 
 all_both : (P Q R : Pending → Type 0) (ps : List Pending) → ((p : Pending) → P p → Q p → R p) → AllByRecursion P ps
     → AllByRecursion Q ps → AllByRecursion R ps
@@ -142,17 +93,12 @@ module _ (gone d : List ℕ) (w : World) (moments : List Graph)
 
   -- no root is doomed
   root_out : (n : ℕ) → has gone n ≡ false → has (graph_of w).roots n ≡ true → IsOut n
-  root_out n kept root =
-      out_of n kept (false_from_ne_true (has d n) (λ doomed.
-      may.none_kept n doomed (root_ends (is_kept w.policy) (graph_of w) n (there n doomed) root)))
+  root_out n kept root = grind (arith, out_of)
 
   slot_out : (i : ℕ) (value : Option ℕ) → slice_index_or w.heap.slots i None ≡ value
       → OfValue (λ n. has gone n ≡ false) value → OfValue IsOut value
   slot_out i None is kept = tt
-  slot_out i (Some n) is kept =
-      root_out n kept
-      (has-left (present w.heap.slots ++ w.heap.holds) (pending_numbers w.pending) n
-      (has-left (present w.heap.slots) w.heap.holds n (has-present_at w.heap.slots i n is)))
+  slot_out i (Some n) is kept = search (root_out, has-left, has-present_at)
 
   fields_kept : (r : Reference) → no_referents r ≡ true → is_kept w.policy r ≡ true
   fields_kept r none = absurd (false≢true none)

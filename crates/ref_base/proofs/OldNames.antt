@@ -1,17 +1,15 @@
 -- In every legal trace each number is given once: whatever is named has a number below the next.
-use Rattle.std.proofs.Common.{◌≡◌, ℕ, ◌+◌, ◌*◌, ◌<◌, ◌≤◌, true, false, ◌==◌, List, [], ◌∷◌, map, Option, Some, None}
-use Rattle.std.proofs.Common.{refl, sym, ap, ◌∙◌, subst, arith, inl, inr}
-use Rattle.std.specs.Prelude.{slice_index_or}
-use Rattle.std.proofs.lemmas.Bool.{cases_Bool, false≢true}
-use Rattle.ref_base.proofs.Common.{Object, object_at, is_there, numbers, IsRising, any_referent, is_new_clear, World}
-use Rattle.ref_base.proofs.Common.{pending_of, with_heap, NamedStep, replayed, State, first_state, heap_refusal}
-use Rattle.ref_base.proofs.Common.{HeapAccepts, without, shown, mark_ended, doomed_at, IsRun, is_waiting, HasOldNumbers}
+use Rattle.std.proofs.Common.{◌≡◌, ℕ, ◌+◌, ◌*◌, ◌<◌, ◌≤◌, true, List, [], ◌∷◌, map, Option, Some, None}
+use Rattle.std.proofs.Common.{refl, sym, ap, subst, arith, inl, inr}
+use Rattle.std.proofs.lemmas.Bool.{false≢true}
+use Rattle.ref_base.proofs.Common.{Object, object_at, is_there, numbers, IsRising, World}
+use Rattle.ref_base.proofs.Common.{NamedStep, replayed, State, first_state, heap_refusal}
+use Rattle.ref_base.proofs.Common.{HeapAccepts, shown, mark_ended, doomed_at, IsRun, HasOldNumbers}
 use Rattle.ref_base.proofs.Common.{Config, Reply, Row, heap_step}
 use Rattle.ref_base.specs.declared.heap_step.HeapStep.TheVariants as heap
 use Rattle.ref_base.proofs.CarryRows.{all_more, nothing_pending}
 use Rattle.ref_base.proofs.CountedTraces.{legal_counted}
 use Rattle.ref_base.proofs.HeapMoves.{moved, heap_moves, IsNoEnd}
-use Rattle.ref_base.proofs.ShownObjects.{shown-no}
 use Rattle.ref_base.proofs.SeenObjects.{numbers-cleared_if, rising-without}
 use Rattle.ref_base.proofs.ReplayUnder.{made_number}
 use Rattle.ref_base.proofs.HeapTurns.{at_rest, IsTurn, row_turn}
@@ -19,7 +17,7 @@ use Rattle.ref_base.proofs.ReplayKeeps.{but_hands}
 use Rattle.ref_base.proofs.RunFronts.{legal_holds}
 use Rattle.ref_base.proofs.OneQueue.{next_heap}
 use Rattle.ref_base.proofs.AgreeHeaps.{Agreeing, there-numbers}
-use Rattle.ref_base.proofs.ApartWorlds.{no_slot, OfValue, IsClosed, Refers, closed_objects, closed_roots}
+use Rattle.ref_base.proofs.ApartWorlds.{no_slot, IsClosed, Refers, closed_roots}
 use Rattle.ref_base.proofs.ApartWorlds.{refers_cleared}
 use Rattle.ref_base.proofs.ClosedRows.{closed_same, heap_closed}
 use Rattle.ref_base.proofs.OffSets.{target_there}
@@ -31,39 +29,18 @@ use Rattle.ref_base.proofs.OutTraces.{legal_out, there_in}
 shown_refers : (V : ℕ → Type 0) (d : List ℕ) (os : List Object) (m : ℕ)
     → Refers V (object_at os m) (object_at (map (λ o. shown d o) os) m)
 shown_refers V d [] m = λ n target. inl target
-shown_refers V d (o ∷ os) m =
-    elim (cases_Bool (o.no == m)) [
-      | inl same ↦
-          let shows : ((shown d o).no == m) ≡ true = ap (λ i. i == m) (shown-no d o) ∙ same in
-          let own : Refers V (Some o) (Some (shown d o)) =
-          elim (cases_Bool (is_new_clear d o)) [
-            | inl new ↦ simp new (refers_cleared V o)
-            | inr old ↦ simp old (λ n target. inl target)
-          ] in
-          simp (same, shows) own
-      | inr other ↦
-          let shows : ((shown d o).no == m) ≡ false = ap (λ i. i == m) (shown-no d o) ∙ other in
-          simp (other, shows) (shown_refers V d os m)
-    ]
+shown_refers V d (o ∷ os) m = grind (arith, shown_refers V d os m, refers_cleared V o)
 
 ended_old : (V : ℕ → Type 0) (a : State) (found : List (List ℕ)) → IsClosed V a.world
     → IsClosed V (mark_ended a (doomed_at a) found).world
-ended_old V a found closed =
-    let os : List Object = a.world.heap.objects in
-    let d : List ℕ = doomed_at a in
-    closed_same V (with_heap a.world (record a.world.heap { objects = map (λ o. shown d o) os }))
-    (mark_ended a d found).world refl refl refl refl
-    (closed_objects V a.world (map (λ o. shown d o) os) (λ m is. shown_refers V d os m) closed)
+ended_old V a found closed = grind (arith, shown_refers V)
 
 -- ---- rows
 
 -- the objects of the collector stand in order of number
 pub rising_objects : (gone : List ℕ) (w : World) (a : State) → Agreeing gone w a
     → IsRising (numbers a.world.heap.objects)
-rising_objects gone w a is =
-    let os : List Object = without gone w.heap.objects in
-    subst (λ (v : World). IsRising (numbers v.heap.objects)) (sym is.agrees)
-    (subst IsRising (sym (numbers-cleared_if (is_waiting a) os)) (rising-without gone w.heap.objects is.rising))
+rising_objects gone w a is = grind (arith, numbers-cleared_if, rising-without)
 
 -- and each has a number below the next
 pub old_objects : (gone : List ℕ) (w : World) (a : State) → Agreeing gone w a → (n : ℕ)
@@ -74,24 +51,7 @@ old_objects gone w a is n there =
 -- what is below the next is below a greater one
 old_more : (a : State) (next : ℕ) → ((n : ℕ) → is_there a.world.heap.objects n ≡ true → n < a.next) → a.next ≤ next
     → IsClosed (λ n. n < a.next) a.world → IsClosed (λ n. n < next) a.world
-old_more a next objects grows closed =
-    let more : (n : ℕ) → n < a.next → n < next = λ n less. omega (arith, less, grows) in
-    record {
-      slots = λ i. of_more more (slice_index_or a.world.heap.slots i None) (closed.slots i);
-      holds = λ n held. more n (closed.holds n held);
-      pendings = λ k.
-          all_more (λ p. p.object < a.next) (λ p. p.object < next) (pending_of a.world k) (λ p less. more p.object less)
-          (closed.pendings k);
-      targets = λ m n less target.
-          more n
-          (closed.targets m n
-          (objects m (target_there any_referent (object_at a.world.heap.objects m) n target)) target);
-    }
-  where
-    of_more : ((n : ℕ) → n < a.next → n < next) → (value : Option ℕ) → OfValue (λ n. n < a.next) value
-        → OfValue (λ n. n < next) value
-    of_more more None is = tt
-    of_more more (Some n) is = more n is
+old_more a next objects grows closed = grind (arith, all_more)
 
 -- what is made has the next number, and then comes one more
 made_next : (a : State) (step : NamedStep) (reply : Reply) → made_number step reply ≡ Some a.next
@@ -155,18 +115,4 @@ legal_old config rows b run =
 pub legal_numbers : (config : Config) (rows : List Row) (b : State) → IsRun (first_state config) rows b
     → HasOldNumbers b
 legal_numbers config rows b run =
-    let known = legal_out config rows b run in
-    let w : World = replayed config rows in
-    let here : (n : ℕ) → is_there b.world.heap.objects n ≡ true → n < b.next =
-    old_objects known.0 w b known.1 in
-    let old : IsClosed (λ n. n < b.next) b.world = legal_old config rows b run in
-    record {
-      rising = rising_objects known.0 w b known.1;
-      objects = here;
-      roots = λ n root. closed_roots (λ n. n < b.next) b.world n old root;
-      targets = λ m n target.
-          old.targets m n
-          (here m (target_there any_referent (object_at b.world.heap.objects m) n target)) target;
-      doomed = known.1.doomed_below;
-      cleared = known.1.cleared_below;
-    }
+    grind (arith, legal_out, old_objects, legal_old, rising_objects, closed_roots, target_there)

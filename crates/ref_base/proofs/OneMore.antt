@@ -1,6 +1,6 @@
 -- What is in a rising list with one number more.
-use Rattle.std.proofs.Common.{◌≡◌, ℕ, Bool, true, false, ◌||◌, ◌==◌, nat_lt, refl, ap, ◌∙◌, List, [], ◌∷◌, inl, inr}
-use Rattle.std.proofs.lemmas.Bool.{cases_Bool}
+use Rattle.std.proofs.Common.{arith}
+use Rattle.std.proofs.Common.{◌≡◌, ℕ, Bool, true, false, ◌||◌, ◌==◌, refl, List, [], ◌∷◌}
 use Rattle.ref_base.proofs.Common.{has, one_more}
 
 -- whether one of three holds, in another order
@@ -13,9 +13,4 @@ or-swap false false z = refl
 -- it has that number, and what it had
 pub has-one_more : (ns : List ℕ) (n m : ℕ) → has (one_more ns n) m ≡ ((n == m) || has ns m)
 has-one_more [] n m = refl
-has-one_more (k ∷ ks) n m =
-    elim (cases_Bool (nat_lt k n)) [
-      | inl less ↦
-          simp less (ap (λ b. (k == m) || b) (has-one_more ks n m) ∙ or-swap (k == m) (n == m) (has ks m))
-      | inr other ↦ simp other refl
-    ]
+has-one_more (k ∷ ks) n m = grind (arith, has-one_more ks n m)

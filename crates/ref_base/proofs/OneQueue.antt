@@ -1,14 +1,14 @@
 -- Each number is given once, so in every legal trace a reference is registered with one queue.
-use Rattle.std.proofs.Common.{◌≡◌, ℕ, ◌+◌, ◌<◌, ◌≤◌, true, ◌==◌, List, [], ◌∷◌, ◌++◌, Option, Some, None, refl, sym, ap}
-use Rattle.std.proofs.Common.{◌∙◌, arith, inl, inr, ◌⊎◌}
-use Rattle.std.proofs.lemmas.Bool.{cases_Bool, and_parts, eqb-true, false≢true}
-use Rattle.ref_base.proofs.Common.{NamedStep, State, first_state, refusal, HeapAccepts, IsAnswer, IsRow, IsRun}
+use Rattle.std.proofs.Common.{◌≡◌, ℕ, ◌+◌, ◌<◌, ◌≤◌, true, List, [], ◌∷◌, ◌++◌, Option, Some, None, ap}
+use Rattle.std.proofs.Common.{arith, inl, inr, ◌⊎◌}
+use Rattle.std.proofs.lemmas.Bool.{false≢true}
+use Rattle.ref_base.proofs.Common.{NamedStep, State, first_state, HeapAccepts, IsAnswer, IsRow, IsRun}
 use Rattle.ref_base.proofs.Common.{registers, is_registered, IsLegal, Config, Fault, Step, Reply, Row}
 use Rattle.ref_base.specs.declared.heap_step.HeapStep.TheVariants as heap
 use Rattle.ref_base.specs.declared.step.Step.TheVariants as steps
 use Rattle.ref_base.specs.declared.reply.Reply.TheVariants as replies
 use Rattle.ref_base.proofs.CountedTraces.{legal_counted}
-use Rattle.ref_base.proofs.HeapMoves.{settled, settled_ticked, moved, heap_moves}
+use Rattle.ref_base.proofs.HeapMoves.{settled, moved, heap_moves}
 use Rattle.ref_base.proofs.RowKinds.{queues_lead, IsRefused, IsOfQueues, IsOfHeap, row_kind}
 use Rattle.ref_base.proofs.RunFronts.{legal_holds}
 
@@ -35,10 +35,7 @@ pub next_grows : (a : State) (row : Row) (b : State)
     → IsRefused a row b ⊎ (IsOfQueues a row b ⊎ IsOfHeap a row b) → a.next ≤ b.next
 next_grows a row b (inl refused) = let same = ap (λ (s : State). s.next) refused.same in omega (arith, same)
 next_grows a row b (inr (inl of)) = let same = ap (λ (s : State). s.next) (queues_lead of) in omega (arith, same)
-next_grows a row b (inr (inr of)) =
-    let left = ap (λ (s : State). s.next) of.after in
-    let grows = next_heap a of.left of.asked row.reply of.accepts in
-    omega (arith, left, grows)
+next_grows a row b (inr (inr of)) = grind (arith, next_heap)
 
 -- ---- what is made has the next number
 
@@ -47,41 +44,16 @@ registers_next : (a b : State) (step : Step) (reply : Reply) (fault : Option Fau
     → IsAnswer a fault step reply b → registers n q step reply ≡ true → (n ≡ a.next) × (b.next ≡ a.next + 1)
 registers_next a b (steps.Refer m strength d s (Some k) fields) (replies.Object o) (Some fault) n q h makes =
     let no_fault = h.0 in absurd cc
-registers_next a b (steps.Refer m strength d s (Some k) fields) (replies.Object o) None n q h makes =
-    let answer = h.1.0 in
-    let number : o ≡ a.next = cc in
-    let same = and_parts (o == n) (k == q) makes in (
-      sym (eqb-true o n same.0) ∙ number,
-      ap (λ (s : State). s.next) h.2 ∙ ap (λ (s : State). s.next) (ap settled h.1.1 ∙ settled_ticked _),
-    )
+registers_next a b (steps.Refer m strength d s (Some k) fields) (replies.Object o) None n q h makes = grind arith
 registers_next a b step reply fault n q h makes = absurd (false≢true makes)
-
--- with one queue: the row says which
-registers_one : (n q r : ℕ) (step : Step) (reply : Reply) → registers n q step reply ≡ true
-    → registers n r step reply ≡ true → q ≡ r
-registers_one n q r (steps.Refer m strength d s (Some k) fields) (replies.Object o) first second =
-    sym (eqb-true k q (and_parts (o == n) (k == q) first).1) ∙ eqb-true k r (and_parts (o == n) (k == r) second).1
-registers_one n q r step reply first second = absurd (false≢true first)
 
 -- ---- rows
 
 -- what is registered after one row more was so before, or that row registers it
 registered_cases : (rows : List Row) (row : Row) (n q : ℕ) → is_registered (rows ++ row ∷ []) n q ≡ true
     → (is_registered rows n q ≡ true) ⊎ (registers n q row.step row.reply ≡ true)
-registered_cases [] row n q h =
-    elim (cases_Bool (registers n q row.step row.reply)) [
-      | inl makes ↦ inr makes
-      | inr other ↦ absurd (false≢true (simp other at h))
-    ]
-registered_cases (first ∷ rows) row n q h =
-    elim (cases_Bool (registers n q first.step first.reply)) [
-      | inl makes ↦ inl (simp makes refl)
-      | inr other ↦
-          elim (registered_cases rows row n q (simp other at h)) [
-            | inl before ↦ inl (simp other before)
-            | inr makes ↦ inr makes
-          ]
-    ]
+registered_cases [] row n q h = grind arith
+registered_cases (first ∷ rows) row n q h = grind (arith, registered_cases rows row n q)
 
 -- each registered reference has a number below the next, and one queue
 pub record AreRegistered (rows : List Row) (a : State) : Type 0 where
@@ -92,28 +64,7 @@ registered_last : (config : Config) (past : List Row) (a : State) (row : Row) (b
     → IsRun (first_state config) past a → AreRegistered past a → IsRow a row b
     → AreRegistered (past ++ row ∷ []) b
 registered_last config past a row b run are h =
-    let grows = next_grows a row b (row_kind a row b (legal_counted config past a run) h) in
-    let makes = λ (n q : ℕ). registers_next a b row.step row.reply (refusal a row.step) n q h in
-    record {
-      below = λ n q there.
-          elim (registered_cases past row n q there) [
-            | inl before ↦ let old = are.below n q before in omega (arith, old, grows)
-            | inr new ↦ let is = (makes n q new).0 in let next = (makes n q new).1 in omega (arith, is, next)
-          ];
-      one = λ n q r first second.
-          elim (registered_cases past row n q first) [
-            | inl before ↦ elim (registered_cases past row n r second) [
-              | inl also ↦ are.one n q r before also
-              | inr new ↦
-                  let old = are.below n q before in let is = (makes n r new).0 in absurd (omega (arith, old, is))
-            ]
-            | inr new ↦ elim (registered_cases past row n r second) [
-              | inl before ↦
-                  let old = are.below n r before in let is = (makes n q new).0 in absurd (omega (arith, old, is))
-              | inr also ↦ registers_one n q r row.step row.reply new also
-            ]
-          ];
-    }
+    grind (arith, next_grows, legal_counted, registers_next, registered_cases, row_kind a row b)
 
 pub one_queue : (config : Config) (rows : List Row) (n q r : ℕ) → IsLegal config rows
     → is_registered rows n q ≡ true → is_registered rows n r ≡ true → q ≡ r

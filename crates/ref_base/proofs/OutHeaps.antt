@@ -1,10 +1,11 @@
 -- Each row of a heap keeps that what is gone or doomed is out of reach, and that a mark's end has shown what it
 -- cleared.
+use Rattle.std.proofs.Common.{arith}
 use Rattle.std.proofs.Common.{◌≡◌, ℕ, true, false, List, [], ◌++◌, take, drop, None, refl, sym, ap, ◌∙◌, subst, inl}
 use Rattle.std.proofs.Common.{inr}
-use Rattle.std.proofs.lemmas.Bool.{or_from, false≢true}
+use Rattle.std.proofs.lemmas.Bool.{or_from}
 use Rattle.std.proofs.lemmas.List.{append-nil, append_assoc, take-append-drop}
-use Rattle.ref_base.proofs.Common.{has, World, NamedStep, after_heap, State, joined, heap_refusal, HeapAccepts}
+use Rattle.ref_base.proofs.Common.{has, World, NamedStep, State, joined, heap_refusal, HeapAccepts}
 use Rattle.ref_base.proofs.Common.{EndsMark, doomed_at, IsDead, MarkEnded, WasDoomed, Config, Phase, Idle, Marking}
 use Rattle.ref_base.proofs.Common.{Clearing, Sweeping, Reply, Row}
 use Rattle.ref_base.specs.declared.heap_step.HeapStep.TheVariants as heap
@@ -12,8 +13,7 @@ use Rattle.ref_base.specs.declared.reply.Reply.TheVariants as replies
 use Rattle.ref_base.proofs.HasLaws.{has-append, has-cases}
 use Rattle.ref_base.proofs.HeapMoves.{heap_moves, IsNoEnd}
 use Rattle.ref_base.proofs.PhaseLaws.{of_phase}
-use Rattle.ref_base.proofs.MovedParts.{phase_moved}
-use Rattle.ref_base.proofs.AgreeHeaps.{Agreeing, gone_after, fresh, unscanned-there}
+use Rattle.ref_base.proofs.AgreeHeaps.{Agreeing, gone_after, unscanned-there}
 use Rattle.ref_base.proofs.ApartWorlds.{IsClosed}
 use Rattle.ref_base.proofs.ClosedRows.{closed_same, heap_closed}
 use Rattle.ref_base.proofs.OffSets.{ended_closed}
@@ -56,26 +56,10 @@ off_is gone doomed c phase is same =
 pub off_same : (gone : List ℕ) (a c : State) (step : NamedStep) (reply : Reply) → IsNoEnd step
     → heap_refusal 0 a step ≡ None → HeapAccepts a step reply c
     → off (gone_after a gone step reply) c ≡ off gone a
-off_same gone a c (heap.Begin now how) reply plain none row =
-    let leads = heap_moves a c (heap.Begin now how) reply tt row in
-    off_is gone c.doomed c Marking
-    (ap (λ (s : State). s.world.phase) leads
-    ∙ ap (λ (r : Reply). (after_heap a.world (heap.Begin now how) r).phase) row.0) refl
-    ∙ sym (off_is gone a.doomed a Idle (of_phase 0 a (heap.Begin now how) none) refl)
+off_same gone a c (heap.Begin now how) reply plain none row = grind arith
 off_same gone a c heap.EndMark reply plain none row = absurd plain
-off_same gone a c heap.EndClear reply plain none row =
-    let leads = heap_moves a c heap.EndClear reply tt row in
-    off_is gone a.doomed c Sweeping
-    (ap (λ (s : State). s.world.phase) leads
-    ∙ ap (λ (r : Reply). (after_heap a.world heap.EndClear r).phase) row.0) (ap (λ (s : State). s.doomed) leads)
-    ∙ sym (off_is gone a.doomed a Clearing (of_phase 0 a heap.EndClear none).0 refl)
-off_same gone a c heap.EndSweep reply plain none row =
-    let leads = heap_moves a c heap.EndSweep reply tt row in
-    let phase = of_phase 0 a heap.EndSweep none in
-    off_is gone c.doomed c Idle
-    (ap (λ (s : State). s.world.phase) leads
-    ∙ ap (λ (r : Reply). (after_heap a.world heap.EndSweep r).phase) row.0) refl
-    ∙ sym (off_is gone [] a Sweeping phase.0 phase.1)
+off_same gone a c heap.EndClear reply plain none row = grind arith
+off_same gone a c heap.EndSweep reply plain none row = grind arith
 off_same gone a c (heap.Sweep k) (replies.Swept count) plain none row =
     let leads = heap_moves a c (heap.Sweep k) (replies.Swept count) tt row in
     let sweeping : a.world.phase ≡ Sweeping = of_phase 0 a (heap.Sweep k) none in
@@ -84,41 +68,16 @@ off_same gone a c (heap.Sweep k) (replies.Swept count) plain none row =
     ∙ append_assoc gone (take 64 a.doomed) (drop 64 a.doomed)
     ∙ ap (λ ns. gone ++ ns) (take-append-drop 64 a.doomed)
     ∙ sym (off_is gone a.doomed a Sweeping sweeping refl)
-off_same gone a c (heap.Sweep k) reply plain none row =
-    let leads = heap_moves a c (heap.Sweep k) reply tt row in
-    off_is gone a.doomed c a.world.phase (ap (λ (s : State). s.world.phase) leads) (ap (λ (s : State). s.doomed) leads)
-off_same gone a c (heap.ClearNext k) (replies.Cleared n) plain none row =
-    let leads = heap_moves a c (heap.ClearNext k) (replies.Cleared n) tt row in
-    off_is gone a.doomed c a.world.phase
-    (ap (λ (s : State). s.world.phase) leads ∙ phase_moved a (heap.ClearNext k) (replies.Cleared n) tt)
-    (ap (λ (s : State). s.doomed) leads)
-off_same gone a c (heap.ClearNext k) (replies.Kept n) plain none row =
-    let leads = heap_moves a c (heap.ClearNext k) (replies.Kept n) tt row in
-    off_is gone a.doomed c a.world.phase (ap (λ (s : State). s.world.phase) leads) (ap (λ (s : State). s.doomed) leads)
-off_same gone a c (heap.ClearNext k) (replies.Skipped n) plain none row =
-    let leads = heap_moves a c (heap.ClearNext k) (replies.Skipped n) tt row in
-    off_is gone a.doomed c a.world.phase (ap (λ (s : State). s.world.phase) leads) (ap (λ (s : State). s.doomed) leads)
-off_same gone a c (heap.ClearNext k) reply plain none row =
-    let leads = heap_moves a c (heap.ClearNext k) reply tt row in
-    off_is gone a.doomed c a.world.phase (ap (λ (s : State). s.world.phase) leads) (ap (λ (s : State). s.doomed) leads)
-off_same gone a c step reply plain none row =
-    let leads = heap_moves a c step reply tt row in
-    off_is gone a.doomed c a.world.phase (ap (λ (s : State). s.world.phase) leads ∙ phase_moved a step reply tt)
-    (ap (λ (s : State). s.doomed) leads)
-
-doomed_all : (phase : Phase) (doomed : List ℕ) (n : ℕ) → has (doomed_in phase doomed) n ≡ true → has doomed n ≡ true
-doomed_all Idle doomed n h = absurd (false≢true h)
-doomed_all Marking doomed n h = absurd (false≢true h)
-doomed_all Clearing doomed n h = h
-doomed_all Sweeping doomed n h = h
+off_same gone a c (heap.Sweep k) reply plain none row = grind arith
+off_same gone a c (heap.ClearNext k) (replies.Cleared n) plain none row = grind arith
+off_same gone a c (heap.ClearNext k) (replies.Kept n) plain none row = grind arith
+off_same gone a c (heap.ClearNext k) (replies.Skipped n) plain none row = grind arith
+off_same gone a c (heap.ClearNext k) reply plain none row = grind arith
+off_same gone a c step reply plain none row = grind arith
 
 -- the next number isn't off
 pub next_out : (gone : List ℕ) (w : World) (a : State) → Agreeing gone w a → has (off gone a) a.next ≡ false
-next_out gone w a is =
-    has-append gone (doomed_in a.world.phase a.doomed) a.next
-    ∙ or_from (has gone a.next) (has (doomed_in a.world.phase a.doomed) a.next) (fresh a.next gone is.gone_below)
-    (fresh a.next (doomed_in a.world.phase a.doomed)
-    (λ n in_d. is.doomed_below n (doomed_all a.world.phase a.doomed n in_d)))
+next_out gone w a is = grind (arith, has-append)
 
 -- ---- rows of a heap
 

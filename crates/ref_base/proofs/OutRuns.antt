@@ -1,4 +1,5 @@
 -- Each row keeps that what is gone or doomed is out of reach, and that a mark's end has shown what it cleared.
+use Rattle.std.proofs.Common.{arith}
 use Rattle.std.proofs.Common.{◌≡◌, ℕ, ◌+◌, false, List, [], ◌∷◌, ◌++◌, length, Option, Some, None, refl, sym, ap, ◌∙◌}
 use Rattle.std.proofs.Common.{subst, inl, inr}
 use Rattle.ref_base.proofs.Common.{has, World, Notice, hand_of, NamedStep, heap_step, spending, replayed, State}
@@ -13,25 +14,19 @@ use Rattle.ref_base.proofs.PhaseLaws.{of_phase}
 use Rattle.ref_base.proofs.HeapTurns.{at_rest, IsIdle, IsTurn, row_turn}
 use Rattle.ref_base.proofs.ReplayKeeps.{EndsNoPhase, but_hands}
 use Rattle.ref_base.proofs.AgreeHeaps.{Agreeing, gone_after, not_in}
-use Rattle.ref_base.proofs.AgreeRuns.{gone_next, gone_refused}
+use Rattle.ref_base.proofs.AgreeRuns.{gone_next}
 use Rattle.ref_base.proofs.ApartWorlds.{IsClosed}
 use Rattle.ref_base.proofs.ClosedRows.{closed_same}
 use Rattle.ref_base.proofs.MarkShows.{RefersToDead, mark_ended, was_doomed, ended_more, doomed_more}
 use Rattle.ref_base.proofs.OutHeaps.{AreOutBy, AreOut, off, doomed_in, plain_out, end_out}
-use Rattle.ref_base.proofs.MovedParts.{phase_moved, cycle_moved, cleared_moved, FreesNone, doomed_moved}
+use Rattle.ref_base.proofs.MovedParts.{phase_moved, cycle_moved, cleared_moved, FreesNone}
 
 -- ---- more that was found dead and shown, and other states that are the same
 
 pub more_out : (Dead Later : ℕ → Type 0) (Shown Shows : ℕ → ℕ → Type 0) (gone : List ℕ) (a : State)
     → ((n : ℕ) → Dead n → Later n) → ((cycle n : ℕ) → Shown cycle n → Shows cycle n) → AreOutBy Dead Shown gone a
     → AreOutBy Later Shows gone a
-more_out Dead Later Shown Shows gone a later shows out = record {
-  closed = out.closed;
-  dead = λ n is_off. later n (out.dead n is_off);
-  whole = out.whole;
-  spared = out.spared;
-  shown = λ clearing n cleared. shows a.world.cycle n (out.shown clearing n cleared);
-}
+more_out Dead Later Shown Shows gone a later shows out = grind arith
 
 -- a state of which only hands, queues and what marking looks at are other
 same_out : (Dead : ℕ → Type 0) (Shown : ℕ → ℕ → Type 0) (gone : List ℕ) (a b : State) → AreOutBy Dead Shown gone a
@@ -96,10 +91,7 @@ module _ (Dead : ℕ → Type 0) (Shown : ℕ → ℕ → Type 0) (gone : List �
   -- and one that doesn't free either
   calm_whole : (step : NamedStep) (reply : Reply) → IsNoEnd step → EndsNoPhase step → FreesNone step
       → HeapAccepts a step reply c → c.world.phase ≡ a.world.phase → doomed_in c.world.phase c.doomed ≡ c.doomed
-  calm_whole step reply plain ends frees row phase =
-      let doomed : c.doomed ≡ a.doomed =
-      ap (λ (s : State). s.doomed) (heap_moves a c step reply plain row) ∙ doomed_moved a step reply ends frees in
-      ap (λ (p : Phase). doomed_in p c.doomed) phase ∙ ap (doomed_in a.world.phase) doomed ∙ out.whole ∙ sym doomed
+  calm_whole step reply plain ends frees row phase = grind arith
 
   -- a row that ends a phase, into one in which no reference is cleared
   turns : (step : NamedStep) (reply answer : Reply) (phase : Phase) → IsNoEnd step → heap_refusal 0 a step ≡ None
@@ -137,12 +129,7 @@ module _ (Dead : ℕ → Type 0) (Shown : ℕ → ℕ → Type 0) (gone : List �
 
 pub idle_gone : (gone : List ℕ) (a b : State) (asked : Option NamedStep) (reply : Reply) → IsIdle a asked reply b
     → gone_next a gone asked reply ≡ gone
-idle_gone gone a b asked reply of =
-    elim of.tells [
-      | inl none ↦ ap (λ (o : Option NamedStep). gone_next a gone o reply) none
-      | inr refused ↦
-          ap (λ (r : Reply). gone_next a gone asked r) refused.1 ∙ gone_refused a gone asked refused.0
-    ]
+idle_gone gone a b asked reply of = grind arith
 
 -- after a turn more may be found dead and shown, and at a mark's end what that found and showed
 module _ (Dead Later : ℕ → Type 0) (Shown Shows : ℕ → ℕ → Type 0) (gone : List ℕ) (w : World) (a : State)
@@ -155,9 +142,7 @@ module _ (Dead Later : ℕ → Type 0) (Shown Shows : ℕ → ℕ → Type 0) (g
   taken c heap.EndMark asks none row =
       let told = ends (length (doomed_at a)) asks row.answer in
       end_out Dead Shown gone w a c is out Later Shows reply later told.0 told.1 (of_phase 0 a heap.EndMark none) row
-  taken c step asks none row =
-      more_out Dead Later Shown Shows (gone_after a gone step reply) c later shows
-      (heap_out Dead Shown gone w a c is out step reply tt none row)
+  taken c step asks none row = search (more_out, heap_out)
 
   pub turn_out : (b : State) → IsTurn a asked reply b → AreOutBy Later Shows (gone_next a gone asked reply) b
   turn_out b turn =

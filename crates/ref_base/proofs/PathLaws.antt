@@ -1,9 +1,9 @@
 -- How paths begin, go on, and stay within what is closed.
-use Rattle.std.proofs.Common.{◌≡◌, ℕ, true, List, [], ◌∷◌, Option, Some, None, inl, inr}
-use Rattle.std.proofs.lemmas.Bool.{cases_Bool, false≢true}
+use Rattle.std.proofs.Common.{arith}
+use Rattle.std.proofs.Common.{◌≡◌, ℕ, true, List, [], ◌∷◌, Option, Some, None}
 use Rattle.ref_base.proofs.Common.{has, Graph, Object, Reference, object_at, is_there, Allowed, IsPath, EndsPath}
-use Rattle.ref_base.proofs.Common.{targets_at, targets_of, allowed_referent, present, if_any, fields_of}
-use Rattle.ref_base.proofs.HasLaws.{has-cases, has-left, has-right}
+use Rattle.ref_base.proofs.Common.{targets_at, targets_of, allowed_referent, present, fields_of}
+use Rattle.ref_base.proofs.HasLaws.{has-cases, has-left}
 
 module _ (allow : Allowed) (g : Graph) where
   -- a path ends at each root that is there
@@ -31,28 +31,10 @@ fields-targets allow (Some o) n h = has-left (present o.fields) (allowed_referen
 
 -- where more references may be gone through, there are no fewer targets
 module _ (allow more : Allowed) (wider : (r : Reference) → allow r ≡ true → more r ≡ true) where
-  pub allowed_referent-wider : (r : Option Reference) (n : ℕ) → has (allowed_referent allow r) n ≡ true
-      → has (allowed_referent more r) n ≡ true
-  allowed_referent-wider None n h = h
-  allowed_referent-wider (Some r) n h =
-      elim (cases_Bool (allow r)) [
-        | inl may ↦
-            let held : has (if_any r.referent) n ≡ true = simp may at h in
-            let also : more r ≡ true = wider r may in
-            simp also held
-        | inr may_not ↦ absurd (false≢true (simp may_not at h))
-      ]
-
   pub targets_of-wider : (o : Option Object) (n : ℕ) → has (targets_of allow o) n ≡ true
       → has (targets_of more o) n ≡ true
   targets_of-wider None n h = h
-  targets_of-wider (Some o) n h =
-      elim (has-cases (present o.fields) (allowed_referent allow o.reference) n h) [
-        | inl field ↦ has-left (present o.fields) (allowed_referent more o.reference) n field
-        | inr referent ↦
-            has-right (present o.fields) (allowed_referent more o.reference) n
-            (allowed_referent-wider o.reference n referent)
-      ]
+  targets_of-wider (Some o) n h = grind (arith, has-cases, has-left)
 
   -- and no fewer ends of paths
   pub ends-wider : (g : Graph) (n : ℕ) → EndsPath allow g n → EndsPath more g n

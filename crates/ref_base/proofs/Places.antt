@@ -1,20 +1,14 @@
 -- What holds at each place of a list, after one place is set or the list has grown.
-use Rattle.std.proofs.Common.{◌≡◌, ℕ, zero, suc, ◌<◌, List, [], ◌∷◌, ◌++◌, length, inl, inr, refl, sym, subst, arith}
+use Rattle.std.proofs.Common.{◌≡◌, ℕ, zero, suc, ◌<◌, List, [], ◌∷◌, ◌++◌, length, refl, arith}
 use Rattle.std.specs.Prelude.{slice_index_or, slice_set}
 use Rattle.std.specs.List.{AllByRecursion}
-use Rattle.std.proofs.lemmas.Bool.{cases_eq}
 use Rattle.std.proofs.lemmas.List.{get_or-set_same, get_or-set_other}
 
 -- what holds of the place that is set, and of each other one before, holds of each place after
 pub set_at : {X : Type 0} (P : ℕ → X → Type 0) (xs : List X) (m : ℕ) (x : X) (d : ℕ → X) → m < length xs → P m x
     → ((k : ℕ) → (k ≡ m → ⊥) → P k (slice_index_or xs k (d k)))
     → (k : ℕ) → P k (slice_index_or (slice_set xs m x) k (d k))
-set_at P xs m x d within here others k =
-    elim (cases_eq k m) [
-      | inl is ↦ subst (λ j. P j (slice_index_or (slice_set xs m x) j (d j))) (sym is)
-          (subst (P m) (sym (get_or-set_same xs m x (d m) within)) here)
-      | inr isnt ↦ subst (P k) (sym (get_or-set_other xs m k x (d k) isnt)) (others k isnt)
-    ]
+set_at P xs m x d within here others k = grind (arith, get_or-set_same, get_or-set_other)
 
 -- the same of what holds at every place alike, also where the place that is set is none
 pub set_all : {X : Type 0} (P : X → Type 0) (xs : List X) (m : ℕ) (x d : X) → P x

@@ -1,20 +1,18 @@
 -- In every legal trace each notice that is out comes from the rows: one made its reference, registered with the
 -- notice's queue, and one is its cause.
-use Rattle.std.proofs.Common.{◌≡◌, ℕ, ◌+◌, Bool, true, ◌==◌, ◌&&◌, if◌then◌else◌, List, [], ◌∷◌, ◌++◌, Option, Some}
+use Rattle.std.proofs.Common.{arith}
+use Rattle.std.proofs.Common.{◌≡◌, ℕ, Bool, true, ◌==◌, ◌&&◌, if◌then◌else◌, List, [], ◌∷◌, ◌++◌, Option, Some}
 use Rattle.std.proofs.Common.{None, refl, sym, ap, ◌∙◌, subst, inl, inr}
 use Rattle.std.specs.List.{AllByRecursion}
-use Rattle.std.proofs.lemmas.Bool.{cases_Bool, eq-eqb, eqb-true, and_from}
-use Rattle.ref_base.proofs.Common.{Object, Reference, object_at, is_soft, registered_in, reference_in}
-use Rattle.ref_base.proofs.Common.{changed_reference, got_at, World, Notice, hand_of, State, first_state, begun}
-use Rattle.ref_base.proofs.Common.{refusal, ticked, begun_state, HeapAccepts, IsAnswer, IsRow, IsRun, registers}
+use Rattle.std.proofs.lemmas.Bool.{cases_Bool, eq-eqb, and_from}
+use Rattle.ref_base.proofs.Common.{Object, object_at, registered_in, reference_in}
+use Rattle.ref_base.proofs.Common.{World, Notice, hand_of, State, first_state}
+use Rattle.ref_base.proofs.Common.{refusal, HeapAccepts, IsAnswer, IsRow, IsRun, registers}
 use Rattle.ref_base.proofs.Common.{is_registered, IsProven, IsProvenIn, Config, Actor, Mutator, Worker, Cause, Own}
 use Rattle.ref_base.proofs.Common.{Cycle, Urgency, Fault, Step, Reply, Row}
 use Rattle.ref_base.specs.Provenance.{has_row, unhooks, clears, cycle_after, cleared_from, IsCause, AreProven}
 use Rattle.ref_base.specs.declared.heap_step.HeapStep.TheVariants as heap
 use Rattle.ref_base.specs.declared.step.Step.TheVariants as steps
-use Rattle.ref_base.specs.declared.reply.Reply.TheVariants as replies
-use Rattle.ref_base.proofs.Reshaping.{queue-cleared}
-use Rattle.ref_base.proofs.RowForms.{but_world, ticked_world}
 use Rattle.ref_base.proofs.CarryLaws.{OfHand, Carries, Lasts}
 use Rattle.ref_base.proofs.CarryRows.{Mints, row_carries, first_carries, carries_more}
 use Rattle.ref_base.proofs.RunFronts.{legal_holds}
@@ -24,22 +22,13 @@ use Rattle.ref_base.proofs.RunFronts.{legal_holds}
 has_more : (is : Step → Reply → Bool) (rows more : List Row) → has_row is rows ≡ true
     → has_row is (rows ++ more) ≡ true
 has_more is [] more has = absurd cc
-has_more is (row ∷ rows) more has =
-    elim (cases_Bool (is row.step row.reply)) [
-      | inl fits ↦ simp fits refl
-      | inr other ↦ simp other
-          (has_more is rows more (subst (λ (t : Bool). (if t then true else has_row is rows) ≡ true) other has))
-    ]
+has_more is (row ∷ rows) more has = grind (arith, has_more is rows more)
 
 -- and so has the last
 has_last : (is : Step → Reply → Bool) (rows : List Row) (row : Row) → is row.step row.reply ≡ true
     → has_row is (rows ++ row ∷ []) ≡ true
 has_last is [] row fits = simp fits refl
-has_last is (other ∷ rows) row fits =
-    elim (cases_Bool (is other.step other.reply)) [
-      | inl first ↦ simp first refl
-      | inr later ↦ simp later (has_last is rows row fits)
-    ]
+has_last is (other ∷ rows) row fits = grind (arith, has_last is rows row fits)
 
 -- the cycle after some rows
 abbrev pub cycle_from : ℕ → List Row → ℕ
@@ -90,10 +79,7 @@ cause_more rows more n Own is = has_more (unhooks n) rows more is
 cause_more rows more n (Cycle cycle k) is = cleared_more 0 cycle k n rows more is
 
 proven_more : (rows more : List Row) (notice : Notice) → IsProven rows notice → IsProven (rows ++ more) notice
-proven_more rows more notice is = record {
-  own_queue = registered_more rows more notice.object notice.queue is.own_queue;
-  own_cause = cause_more rows more notice.object notice.cause is.own_cause;
-}
+proven_more rows more notice is = search (registered_more, cause_more)
 
 -- ---- objects
 
@@ -101,29 +87,13 @@ proven_more rows more notice is = record {
 abbrev pub IsMade : List Row → Object → Type 0
 IsMade rows o = (q : ℕ) → registered_in o.reference ≡ Some q → is_registered rows o.no q ≡ true
 
-queue_got : (clock : ℕ) (r : Option Reference) → registered_in (changed_reference (got_at clock) r) ≡ registered_in r
-queue_got clock None = refl
-queue_got clock (Some r) =
-    elim (cases_Bool (is_soft r.strength)) [ inl soft ↦ simp soft refl | inr other ↦ simp other refl ]
-
 pub made_lasts : (rows : List Row) → Lasts (IsMade rows)
-made_lasts rows = record {
-  stores = λ o i value is. is;
-  clears = λ o is q there. is q (sym (queue-cleared o.reference) ∙ there);
-  gets = λ o clock is q there. is q (sym (queue_got clock o.reference) ∙ there);
-}
+made_lasts rows = grind arith
 
 pub made_at : (rows : List Row) (os : List Object) (n q : ℕ) → AllByRecursion (IsMade rows) os
     → registered_in (reference_in (object_at os n)) ≡ Some q → is_registered rows n q ≡ true
 made_at rows [] n q all there = absurd cc
-made_at rows (o ∷ os) n q all there =
-    let by : Bool → Type 0 =
-    λ (t : Bool). registered_in (reference_in (if t then Some o else object_at os n)) ≡ Some q in
-    elim (cases_Bool (o.no == n)) [
-      | inl same ↦
-          subst (λ k. is_registered rows k q ≡ true) (eqb-true o.no n same) (all.0 q (subst by same there))
-      | inr other ↦ made_at rows os n q all.1 (subst by other there)
-    ]
+made_at rows (o ∷ os) n q all there = grind (arith, made_at rows os n q all.1)
 
 -- ---- rows
 
@@ -150,51 +120,22 @@ pub mints : (past : List Row) (a : State) (step : Step) (reply : Reply) → cycl
     → Mints (IsMade (past ++ record { step = step; reply = reply } ∷ []))
     (IsProven (past ++ record { step = step; reply = reply } ∷ [])) (Stays a.world.cycle step) a step reply
 mints past a (steps.New m d k) reply cycle known = λ is q there. absurd cc
-mints past a (steps.Refer m strength d s queue k) reply cycle known =
-    λ is q there.
-    let row : Row = record { step = steps.Refer m strength d s queue k; reply = reply } in
-    let made : registers a.next q (steps.Refer m strength d s (Some q) k) (replies.Object a.next) ≡ true =
-    and_from (a.next == a.next) (q == q) (eq-eqb a.next a.next refl) (eq-eqb q q refl) in
-    let makes : registers a.next q (steps.Refer m strength d s queue k) reply ≡ true =
-    ap (λ (r : Reply). registers a.next q (steps.Refer m strength d s queue k) r) is
-    ∙ ap (λ (o : Option ℕ). registers a.next q (steps.Refer m strength d s o k) (replies.Object a.next)) there
-    ∙ made in
-    registered_is (past ++ row ∷ []) a.next q ∙ has_last (registers a.next q) past row makes
-mints past a (steps.Unhook m s) reply cycle known =
-    λ n q is there.
-    let row : Row = record { step = steps.Unhook m s; reply = reply } in
-    record {
-      own_queue = made_at (past ++ row ∷ []) a.world.heap.objects n q known.objects there;
-      own_cause = has_last (unhooks n) past row
-          (ap (λ (r : Reply). unhooks n (steps.Unhook m s) r) is ∙ eq-eqb n n refl);
-    }
+mints past a (steps.Refer m strength d s queue k) reply cycle known = grind (arith, registered_is, has_last)
+mints past a (steps.Unhook m s) reply cycle known = grind (arith, made_at, has_last)
 mints past a (steps.Begin now how) reply cycle known = λ is. tt
-mints past a (steps.ClearNext k) reply cycle known =
-    λ n q is there.
-    let row : Row = record { step = steps.ClearNext k; reply = reply } in
-    record {
-      own_queue = made_at (past ++ row ∷ []) a.world.heap.objects n q known.objects there;
-      own_cause = cleared_last 0 a.world.cycle k n past row cycle
-          (ap (λ (r : Reply). clears k n (steps.ClearNext k) r) is
-          ∙ and_from (k == k) (n == n) (eq-eqb k k refl) (eq-eqb n n refl));
-    }
+mints past a (steps.ClearNext k) reply cycle known = grind (arith, made_at, cleared_last)
 mints past a step reply cycle known = tt
 
 -- a begin changes the cycle as it says
 pub begun_cycle : (a b : State) (now : ℕ) (how : Urgency) (reply : Reply)
     → HeapAccepts a (heap.Begin now how) reply b
     → b.world.cycle ≡ cycle_after a.world.cycle (steps.Begin now how) reply
-begun_cycle a b now how reply row =
-    let c : State = begun_state a (begun a.world now how (a.world.cycle + 1)) in
-    ap (λ (w : World). w.cycle) (but_world (ticked c) b row.1 ∙ ticked_world c)
-    ∙ sym (ap (λ (r : Reply). cycle_after a.world.cycle (steps.Begin now how) r) row.0)
+begun_cycle a b now how reply row = grind arith
 
 answered_cycle : (a b : State) (now : ℕ) (how : Urgency) (reply : Reply) (fault : Option Fault)
     → IsAnswer a fault (steps.Begin now how) reply b
     → b.world.cycle ≡ cycle_after a.world.cycle (steps.Begin now how) reply
-answered_cycle a b now how reply (Some fault) row =
-    ap (λ (s : State). s.world.cycle) row.1
-    ∙ sym (ap (λ (r : Reply). cycle_after a.world.cycle (steps.Begin now how) r) row.0)
+answered_cycle a b now how reply (Some fault) row = cc
 answered_cycle a b now how reply None row =
     ap (λ (s : State). s.world.cycle) row.2 ∙ begun_cycle a row.0 now how reply row.1
 
@@ -207,12 +148,7 @@ step_cycle a b step reply row stays = stays
 
 pub lifted : (past : List Row) (a : State) (row : Row) → Known past a.world
     → KnownBut (Stays a.world.cycle row.step) (past ++ row ∷ []) a.world
-lifted past a row known =
-    let more : List Row = past ++ row ∷ [] in
-    let Stay : ℕ → Type 0 = Stays a.world.cycle row.step in
-    carries_more (IsMade past) (IsMade more) (IsProven past) (IsProven more) (λ c. cycle_from 0 past ≡ c) Stay a.world
-    (λ o is q there. registered_more past (row ∷ []) o.no q (is q there))
-    (λ notice is. proven_more past (row ∷ []) notice is) (stays_at a.world.cycle row.step) known
+lifted past a row known = search (carries_more, registered_more, proven_more, stays_at)
 
 pub row_known : (past : List Row) (a : State) (row : Row) (b : State) → Known past a.world → IsRow a row b
     → Known (past ++ row ∷ []) b.world
@@ -249,9 +185,4 @@ legal_known config rows b run =
 -- what is out after a legal trace comes from its rows
 pub legal_proven : (config : Config) (rows : List Row) (b : State) → IsRun (first_state config) rows b
     → AreProven rows b.world
-legal_proven config rows b run =
-    let known = legal_known config rows b run in
-    record {
-      hands = λ who. hand_known rows b.world who known;
-      queues = known.stands;
-    }
+legal_proven config rows b run = search (hand_known, legal_known config rows b run)

@@ -110,19 +110,7 @@ sets_hand w who hand step reply sound has below held still = record {
 
 pub goes_after : (a mid b : World) (step : Step) (reply : Reply) → SameOthers a mid → Goes mid b step reply
     → Goes a b step reply
-goes_after a mid b step reply is goes =
-    let hands : held_of mid ≡ held_of a = λ i who. same_held a mid is who i in
-    record {
-      sound = goes.sound;
-      held = λ who. subst (λ (hs : HandNotices). held_of b who ≡ held_after hs step reply who) hands (goes.held who);
-      queue = λ q. subst
-          (λ (hs : HandNotices). QueueMoves object_of (queue_at a q) (queue_at b q)
-          (put_by hs q step reply) (taken_by q step reply) (closed_by q step reply)) hands
-          (subst
-          (λ (qs : List (Lists Notice)). QueueMoves object_of (slice_index_or qs q (new_queue q)) (queue_at b q)
-          (put_by (held_of mid) q step reply) (taken_by q step reply) (closed_by q step reply)) is.queues
-          (goes.queue q));
-    }
+goes_after a mid b step reply is goes = grind arith
 
 -- ---- rows that change a queue
 

@@ -1,10 +1,8 @@
 -- How a queue's lists change, whatever stands in it.
-use Rattle.std.proofs.Common.{◌≡◌, ℕ, zero, suc, ◌+◌, Bool, true, false, ◌||◌, List, [], ◌∷◌, ◌++◌, length, map, refl}
-use Rattle.std.proofs.Common.{sym, ap, ◌∙◌, append_assoc, arith}
+use Rattle.std.proofs.Common.{◌≡◌, ℕ, zero, suc, ◌+◌, Bool, true, false, ◌||◌, List, [], ◌∷◌, ◌++◌, length, refl}
+use Rattle.std.proofs.Common.{ap, append_assoc, arith}
 use Rattle.std.specs.Prelude.{nat_eq, slice_index_or}
 use Rattle.std.specs.List.{IsDistinct}
-use Rattle.std.specs.Cmp.{nat_eq_equiv}
-use Rattle.std.proofs.lemmas.Bool.{both_ways}
 use Rattle.std.proofs.lemmas.List.{append-nil, map-append}
 use Rattle.std.proofs.lemmas.Map.Keys.{IsDistinct-push}
 use Rattle.ref_base.proofs.HasLaws.{has-list_any}
@@ -23,72 +21,28 @@ module _ {T : Type 0} (object_of : T → ℕ) where
   or_false true = refl
   or_false false = refl
 
-  or_or : (b c d : Bool) → ((b || c) || d) ≡ (b || (c || d))
-  or_or true c d = refl
-  or_or false c d = refl
-
   pub moves_nothing : (lists : Lists T) → QueueMoves lists lists [] [] false
-  moves_nothing lists = record {
-    put = sym (append-nil (enqueued object_of lists));
-    taken = sym (append-nil lists.taken);
-    closed = or_false lists.closed;
-    distinct = λ d. d;
-    shut = λ _. refl;
-  }
+  moves_nothing lists = search (append-nil, or_false)
 
   -- one change after another
   pub moves_more : (old mid new : Lists T) (ins more_ins outs more_outs : List ℕ) (closes closes_later : Bool)
       → QueueMoves old mid ins outs closes → QueueMoves mid new more_ins more_outs closes_later
       → QueueMoves old new (ins ++ more_ins) (outs ++ more_outs) (closes || closes_later)
-  moves_more old mid new ins more_ins outs more_outs closes closes_later first later = record {
-    put = later.put ∙ ap (λ ns. ns ++ more_ins) first.put ∙ append_assoc (enqueued object_of old) ins more_ins;
-    taken = later.taken ∙ ap (λ ns. ns ++ more_outs) first.taken ∙ append_assoc old.taken outs more_outs;
-    closed = later.closed ∙ ap (λ c. c || closes_later) first.closed ∙ or_or old.closed closes closes_later;
-    distinct = λ d. later.distinct (first.distinct d);
-    shut = λ is. ap (λ ns. ns ++ more_ins) (first.shut is) ∙ later.shut (first.closed ∙ ap (λ c. c || closes) is);
-  }
+  moves_more old mid new ins more_ins outs more_outs closes closes_later first later = grind (arith, append_assoc)
 
   pub moves_added : (lists : Lists T) (notice : T) → was_put object_of lists notice ≡ false → lists.closed ≡ false
       → QueueMoves lists (with_parcel lists notice) (object_of notice ∷ []) [] false
   moves_added lists notice fresh open_yet =
-      let all : List ℕ = enqueued object_of lists in
-      let longer : enqueued object_of (with_parcel lists notice) ≡ all ++ object_of notice ∷ [] =
-      ap (λ ns. lists.taken ++ ns) (map-append object_of lists.stands (notice ∷ []))
-      ∙ sym (append_assoc lists.taken (map object_of lists.stands) (object_of notice ∷ [])) in
-      record {
-        put = longer;
-        taken = sym (append-nil lists.taken);
-        closed = or_false lists.closed;
-        distinct = λ d.
-            rw longer
-            (IsDistinct-push nat_eq_equiv all (object_of notice) d (sym (has-list_any all (object_of notice)) ∙ fresh));
-        shut = λ is. absurd (both_ways lists.closed open_yet is);
-      }
+      grind (arith, map-append, append_assoc, append-nil, IsDistinct-push, has-list_any)
 
   pub moves_took : (lists : Lists T) (notice : T) (rest : List T) → lists.stands ≡ notice ∷ rest
       → QueueMoves lists (with_taken object_of lists notice rest) [] (object_of notice ∷ []) false
-  moves_took lists notice rest first =
-      let same : enqueued object_of (with_taken object_of lists notice rest) ≡ enqueued object_of lists =
-      append_assoc lists.taken (object_of notice ∷ []) (map object_of rest)
-      ∙ ap (λ xs. lists.taken ++ map object_of xs) (sym first) in
-      record {
-        put = same ∙ sym (append-nil (enqueued object_of lists));
-        taken = refl;
-        closed = or_false lists.closed;
-        distinct = λ d. rw same d;
-        shut = λ _. refl;
-      }
+  moves_took lists notice rest first = grind (arith, append_assoc, append-nil)
 
   -- a queue may be closed again, and then nothing changes
   pub moves_closed : (lists : Lists T) (closes : Bool) → true ≡ (lists.closed || closes)
       → QueueMoves lists (record lists { closed = true }) [] [] closes
-  moves_closed lists closes is = record {
-    put = sym (append-nil (enqueued object_of lists));
-    taken = sym (append-nil lists.taken);
-    closed = is;
-    distinct = λ d. d;
-    shut = λ _. refl;
-  }
+  moves_closed lists closes is = search append-nil
 
 -- ---- queues into which nothing was ever put
 

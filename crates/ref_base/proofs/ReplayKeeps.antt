@@ -1,10 +1,11 @@
 -- What a row of the replay leaves as it was: all but objects, slots, holds and what is pending, but at the ends of
 -- phases; the numbers of objects, but where one is made; and all but hands and queues, where no heap is asked.
+use Rattle.std.proofs.Common.{arith}
 use Rattle.std.proofs.Common.{◌≡◌, ℕ, Bool, true, false, if◌then◌else◌, List, [], ◌∷◌, ◌++◌, Option, Some, None, refl}
 use Rattle.std.proofs.Common.{sym, ap, ◌∙◌, is_some}
 use Rattle.std.proofs.lemmas.List.{map-append, append-nil}
 use Rattle.ref_base.proofs.Common.{Object, numbers, plain_object, if_any, slot_at, reference_at, registered_in}
-use Rattle.ref_base.proofs.Common.{changed_in, with_reference, cleared, got_at, got, cut, nulls, new_reference, World}
+use Rattle.ref_base.proofs.Common.{changed_in, with_reference, cleared, got_at, got, cut, nulls, World}
 use Rattle.ref_base.proofs.Common.{Notice, with_heap, hand_of, with_hand, told_object, is_done, told_notice, told_taken}
 use Rattle.ref_base.proofs.Common.{is_added, NamedStep, handed, taking, if_told, after_heap, after_queues, pended}
 use Rattle.ref_base.proofs.Common.{put_in, Actor, Mutator, Worker, Step, Reply}
@@ -92,9 +93,7 @@ same_stage w (heap.Begin now how) reply plain = absurd plain
 same_stage w heap.EndMark reply plain = absurd plain
 same_stage w heap.EndClear reply plain = absurd plain
 same_stage w heap.EndSweep reply plain = absurd plain
-same_stage w (heap.ClearNext k) reply plain =
-    told_keeps stage_of (told_cleared reply) _ w
-    (λ n. stage_pended _ k n (registered_in (reference_at w.heap n)))
+same_stage w (heap.ClearNext k) reply plain = grind arith
 same_stage w (heap.Hand k) reply plain = told_keeps stage_of (told_notice reply) _ w (λ notice. refl)
 same_stage w step reply plain =
     ap (λ (v : World). record v { pending = [] }) (same_frame w step reply plain tt)
@@ -158,9 +157,7 @@ pub numbers_after : (w : World) (step : NamedStep) (reply : Reply)
     → numbers_of (after_heap w step reply) ≡ numbers_of w ++ if_any (made_number step reply)
 numbers_after w (heap.New m d k) reply =
     numbers_made w (told_object reply) _ (λ n. map-append (λ o. o.no) w.heap.objects (plain_object n (nulls k) ∷ []))
-numbers_after w (heap.Refer m strength d s q k) reply =
-    numbers_made w (told_object reply) _
-    (λ n. map-append (λ o. o.no) w.heap.objects (new_reference w.heap n strength (slot_at w.heap m s) q k ∷ []))
+numbers_after w (heap.Refer m strength d s q k) reply = search (numbers_made, map-append)
 numbers_after w step reply = numbers_same w step reply tt ∙ sym (append-nil (numbers_of w))
 
 -- ---- hands and queues

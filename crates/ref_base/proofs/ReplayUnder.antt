@@ -1,10 +1,11 @@
 -- Each row of the replay goes through where some objects are gone and some references read as cleared.
-use Rattle.std.proofs.Common.{◌≡◌, ℕ, Bool, true, false, if◌then◌else◌, List, Option, Some, None, refl, sym, ap, ◌∙◌}
+use Rattle.std.proofs.Common.{arith}
+use Rattle.std.proofs.Common.{◌≡◌, ℕ, Bool, true, false, if◌then◌else◌, List, Option, Some, None, refl, ap}
 use Rattle.std.proofs.Common.{is_some}
-use Rattle.ref_base.proofs.Common.{stored, has, Object, Reference, plain_object, Heap, slot_at, with_slot, got, cut}
-use Rattle.ref_base.proofs.Common.{made, nulls, new_reference, with_hold, changed_in, with_reference, cleared, got_at}
-use Rattle.ref_base.proofs.Common.{with_field, World, Notice, hand_of, with_heap, with_hand, told_object, is_done}
-use Rattle.ref_base.proofs.Common.{told_notice, is_mark_end, told_taken, is_added, NamedStep, heap_step, handed, taking}
+use Rattle.ref_base.proofs.Common.{stored, has, Object, slot_at, got, cut}
+use Rattle.ref_base.proofs.Common.{made, with_hold, changed_in, with_reference, cleared}
+use Rattle.ref_base.proofs.Common.{with_field, World, Notice, with_heap, with_hand, told_object, is_done}
+use Rattle.ref_base.proofs.Common.{told_notice, is_mark_end, told_taken, NamedStep, heap_step, handed, taking}
 use Rattle.ref_base.proofs.Common.{if_told, after_heap, after_queues, put_in, under, heap_under, Actor, Mutator, Worker}
 use Rattle.ref_base.proofs.Common.{Step, Reply}
 use Rattle.ref_base.specs.declared.heap_step.HeapStep.TheVariants as heap
@@ -48,10 +49,7 @@ module _ (gone : List ℕ) (these : ℕ → Bool) where
   got_under : (w : World) (m d s : ℕ) (value : Option ℕ)
       → got (heap_under gone these w.heap) m d s value ≡ heap_under gone these (got w.heap m d s value)
   got_under w m d s None = refl
-  got_under w m d s (Some n) =
-      ap (λ (h : Heap). with_slot h m d (Some n))
-      (changes w (slot_at w.heap m s) (with_reference (got_at w.heap.clock)) (λ o. refl)
-      (λ o. ap (λ (r : Option Reference). record o { reference = r }) (cleared_got w.heap.clock o.reference)))
+  got_under w m d s (Some n) = search (changes, cleared_got)
 
   stores_under : (w : World) (m s i v : ℕ)
       → with_heap (under gone these w) (stored (heap_under gone these w.heap) m s i v)
@@ -72,9 +70,7 @@ module _ (gone : List ℕ) (these : ℕ → Bool) where
   made_under : (w : World) (m d : ℕ) (o : Object) → has gone o.no ≡ false → these o.no ≡ false
       → with_heap (under gone these w) (made (heap_under gone these w.heap) m d o)
       ≡ under gone these (with_heap w (made w.heap m d o))
-  made_under w m d o kept stays =
-      ap (λ (os : List Object). with_heap w (with_slot (record w.heap { objects = os }) m d (Some o.no)))
-      (sym (seen_push these gone w.heap.objects o kept stays))
+  made_under w m d o kept stays = search seen_push
 
   unhooked_under : (w : World) (m s : ℕ) (nothing : Bool) (told : Option Notice)
       → (let unhooked = with_heap (under gone these w) (cut (heap_under gone these w.heap) m s) in
@@ -84,34 +80,18 @@ module _ (gone : List ℕ) (these : ℕ → Bool) where
       if nothing then unhooked
       else if_told told (λ notice. with_heap unhooked (with_hold unhooked.heap notice.object)) w)
   unhooked_under w m s true told = ap (with_heap w) (cuts w m s)
-  unhooked_under w m s false told =
-      told_under told (λ notice. with_heap w (with_hold (cut w.heap m s) notice.object))
-      (λ notice. with_heap w (with_hold (cut (heap_under gone these w.heap) m s) notice.object)) w
-      (λ notice is. ap (λ (h : Heap). with_heap w (with_hold h notice.object)) (cuts w m s))
+  unhooked_under w m s false told = search (told_under, cuts)
 
   -- the step isn't a worker's look at a reference
   abbrev pub IsNoLook : NamedStep → Type 0
   IsNoLook (heap.ClearNext k) = ⊥
   IsNoLook step = Unit {0}
 
-  apart_at : (told : Option ℕ) (n : ℕ) → IsApart told → told ≡ Some n → (has gone n ≡ false) × (these n ≡ false)
-  apart_at None n apart is = absurd cc
-  apart_at (Some m) n apart is = let same : m ≡ n = cc in subst_apart m n same apart
-    where
-      subst_apart : (m n : ℕ) → m ≡ n → IsApart (Some m) → IsApart (Some n)
-      subst_apart m n same apart = (ap (has gone) (sym same) ∙ apart.0, ap these (sym same) ∙ apart.1)
-
   -- a row of a heap goes through, where what it makes is neither gone nor one of these
   pub heap_through : (w : World) (step : NamedStep) (reply : Reply) → IsNoLook step → IsApart (made_number step reply)
       → after_heap (under gone these w) step reply ≡ under gone these (after_heap w step reply)
-  heap_through w (heap.New m d k) reply plain apart =
-      told_under (told_object reply) _ _ w
-      (λ n is. let off = apart_at (told_object reply) n apart is in
-      made_under w m d (plain_object n (nulls k)) off.0 off.1)
-  heap_through w (heap.Refer m strength d s q k) reply plain apart =
-      told_under (told_object reply) _ _ w
-      (λ n is. let off = apart_at (told_object reply) n apart is in
-      made_under w m d (new_reference w.heap n strength (slot_at w.heap m s) q k) off.0 off.1)
+  heap_through w (heap.New m d k) reply plain apart = grind (arith, made_under w m d)
+  heap_through w (heap.Refer m strength d s q k) reply plain apart = grind (arith, made_under w m d)
   heap_through w heap.EndMark reply plain apart = done_under (is_mark_end reply) _ _ w refl
   heap_through w step reply plain apart =
       search (told_under, done_under, unhooked_under, stores_under, cuts_under, gets_under, plain, refl)
@@ -122,10 +102,6 @@ module _ (gone : List ℕ) (these : ℕ → Bool) where
       → with_hand (under gone these w) who hand ≡ under gone these (with_hand w who hand)
   hand_under w (Mutator m) hand = refl
   hand_under w (Worker k) hand = refl
-
-  pub hand_same : (w : World) (who : Actor) → hand_of (under gone these w) who ≡ hand_of w who
-  hand_same w (Mutator m) = refl
-  hand_same w (Worker k) = refl
 
   taking_under : (w : World) (who : Actor) (told : Option Notice)
       → taking (under gone these w) who told ≡ under gone these (taking w who told)
@@ -150,9 +126,7 @@ module _ (gone : List ℕ) (these : ℕ → Bool) where
   -- so does a row of queues
   pub queues_through : (w : World) (step : Step) (reply : Reply)
       → after_queues (under gone these w) step reply ≡ under gone these (after_queues w step reply)
-  queues_through w (steps.Put who) reply =
-      done_under (is_added reply) _ _ w
-      (ap (put_in (under gone these w) who) (hand_same w who) ∙ put_under w who (hand_of w who))
+  queues_through w (steps.Put who) reply = search (done_under, put_under)
   queues_through w (steps.Poll m q) reply = told_under (told_taken reply) _ _ w (λ n is. refl)
   queues_through w (steps.Close m q) reply = done_under (is_done reply) _ _ w refl
   queues_through w step reply = refl

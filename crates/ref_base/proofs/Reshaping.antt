@@ -1,14 +1,15 @@
 -- A change of all objects that keeps their shape changes no refusal.
-use Rattle.std.proofs.Common.{◌≡◌, ℕ, ◌^◌, Bool, true, false, ◌==◌, if◌then◌else◌, nat_lt, nat_le, refl, sym, ap, ◌∙◌}
-use Rattle.std.proofs.Common.{List, [], ◌∷◌, map, length, Option, Some, None, is_some, inl, inr}
-use Rattle.std.proofs.lemmas.Bool.{cases_Bool, true≢false, eqb-true}
+use Rattle.std.proofs.Common.{arith}
+use Rattle.std.proofs.Common.{◌≡◌, ℕ, Bool, if◌then◌else◌, nat_lt, refl, sym, ap}
+use Rattle.std.proofs.Common.{List, [], ◌∷◌, map, length, Option, Some, None, is_some}
+use Rattle.std.proofs.lemmas.Bool.{true≢false}
 use Rattle.std.proofs.lemmas.List.{length-map}
-use Rattle.ref_base.proofs.Common.{Object, Reference, object_at, is_there, Heap, slot_at, reference_in, registered_in}
+use Rattle.ref_base.proofs.Common.{Object, Reference, object_at, is_there, Heap, reference_in, registered_in}
 use Rattle.ref_base.proofs.Common.{changed_at, changed_reference, cleared, Pending, NamedStep, State, on_heap, unless}
-use Rattle.ref_base.proofs.Common.{unless_empty, has_slot, has_slots, is_queue_or_none, field_count, object_refusal}
+use Rattle.ref_base.proofs.Common.{has_slot, field_count, object_refusal}
 use Rattle.ref_base.proofs.Common.{field_refusal, reference_refusal, holds_refusal, minting_refusal, unhook_refusal}
-use Rattle.ref_base.proofs.Common.{held_refusal, hand_refusal, heap_refusal, Fault, NoCell, NumbersSpent, BadField}
-use Rattle.ref_base.proofs.Common.{BadQueue, NoSuchActor, NotAReference}
+use Rattle.ref_base.proofs.Common.{held_refusal, hand_refusal, heap_refusal, Fault, BadField}
+use Rattle.ref_base.proofs.Common.{NoSuchActor, NotAReference}
 use Rattle.ref_base.specs.Refusals.{new_refusal, refer_refusal}
 use Rattle.ref_base.specs.declared.heap_step.HeapStep.TheVariants as heap
 
@@ -22,11 +23,6 @@ pub record KeepsShape (g : Object → Object) : Type 0 where
 abbrev pub reshaped : (Object → Object) → Heap → Heap
 reshaped g h = record h { objects = map g h.objects }
 
--- what is cleared is a reference if it was one, of its queue
-pub is_reference-cleared : (r : Option Reference) → is_some (changed_reference cleared r) ≡ is_some r
-is_reference-cleared None = refl
-is_reference-cleared (Some r) = refl
-
 pub queue-cleared : (r : Option Reference) → registered_in (changed_reference cleared r) ≡ registered_in r
 queue-cleared None = refl
 queue-cleared (Some r) = refl
@@ -35,15 +31,7 @@ queue-cleared (Some r) = refl
 pub map-changed_at : (g f : Object → Object) (os : List Object) (n : ℕ) → ((o : Object) → (g o).no ≡ o.no)
     → ((o : Object) → o.no ≡ n → g (f o) ≡ f (g o)) → map g (changed_at os n f) ≡ changed_at (map g os) n f
 map-changed_at g f [] n keeps through = refl
-map-changed_at g f (o ∷ os) n keeps through =
-    elim (cases_Bool (o.no == n)) [
-      | inl here ↦
-          let still : ((g o).no == n) ≡ true = ap (λ i. i == n) (keeps o) ∙ here in
-          simp (here, still) (ap (λ p. p ∷ map g os) (through o (eqb-true o.no n here)))
-      | inr later ↦
-          let still : ((g o).no == n) ≡ false = ap (λ i. i == n) (keeps o) ∙ later in
-          simp (later, still) (ap (λ ps. g o ∷ ps) (map-changed_at g f os n keeps through))
-    ]
+map-changed_at g f (o ∷ os) n keeps through = grind (arith, map-changed_at g f os n keeps through)
 
 minting-same : (h : Heap) (r q : Option Reference) → is_some r ≡ is_some q → registered_in r ≡ registered_in q
     → minting_refusal h r ≡ minting_refusal h q
@@ -61,19 +49,7 @@ module _ (g : Object → Object) (keeps : KeepsShape g) where
   pub at-reshaped : {T : Type 0} (F : Option Object → T) (os : List Object) (n : ℕ)
       → ((o : Object) → F (Some (g o)) ≡ F (Some o)) → F (object_at (map g os) n) ≡ F (object_at os n)
   at-reshaped F [] n same = refl
-  at-reshaped F (o ∷ os) n same =
-      elim (cases_Bool (o.no == n)) [
-        | inl here ↦
-            let still : ((g o).no == n) ≡ true = ap (λ i. i == n) (keeps.number o) ∙ here in
-            let new : object_at (map g (o ∷ os)) n ≡ Some (g o) = simp still refl in
-            let old : object_at (o ∷ os) n ≡ Some o = simp here refl in
-            ap F new ∙ same o ∙ ap F (sym old)
-        | inr later ↦
-            let still : ((g o).no == n) ≡ false = ap (λ i. i == n) (keeps.number o) ∙ later in
-            let new : object_at (map g (o ∷ os)) n ≡ object_at (map g os) n = simp still refl in
-            let old : object_at (o ∷ os) n ≡ object_at os n = simp later refl in
-            ap F new ∙ at-reshaped F os n same ∙ ap F (sym old)
-      ]
+  at-reshaped F (o ∷ os) n same = grind (arith, at-reshaped F os n same)
 
   pub is_there-reshaped : (os : List Object) (n : ℕ) → is_there (map g os) n ≡ is_there os n
   is_there-reshaped os n = at-reshaped (λ o. is_some o) os n (λ o. refl)
@@ -82,10 +58,7 @@ module _ (g : Object → Object) (keeps : KeepsShape g) where
 
   module _ (h : Heap) where
     object-reshaped : (next k : ℕ) → object_refusal (reshaped g h) next k ≡ object_refusal h next k
-    object-reshaped next k =
-        ap (λ (there : ℕ). unless (nat_le k 8) BadField
-        (unless (nat_lt next (2 ^ 32)) NumbersSpent (unless (nat_lt there h.config.cells) NoCell None)))
-        (length-map h.objects g)
+    object-reshaped next k = search length-map
 
     new-reshaped : (next m d k : ℕ) → new_refusal (reshaped g h) next m d k ≡ new_refusal h next m d k
     new-reshaped next m d k =
@@ -93,13 +66,8 @@ module _ (g : Object → Object) (keeps : KeepsShape g) where
 
     refer-reshaped : (next m d s : ℕ) (queue : Option ℕ) (k : ℕ)
         → refer_refusal (reshaped g h) next m d s queue k ≡ refer_refusal h next m d s queue k
-    refer-reshaped next m d s None k =
-        ap (λ (later : Option Fault). unless (has_slots h m d s) NoSuchActor (unless_empty (slot_at h m s) later))
-        (object-reshaped next k)
-    refer-reshaped next m d s (Some q) k =
-        ap (λ (later : Option Fault). unless (has_slots h m d s) NoSuchActor
-        (unless (is_queue_or_none h (Some q)) BadQueue (unless_empty (slot_at h m s) later)))
-        (object-reshaped next k)
+    refer-reshaped next m d s None k = search object-reshaped
+    refer-reshaped next m d s (Some q) k = search object-reshaped
 
     field-reshaped : (held : Option ℕ) (i : ℕ) → field_refusal (reshaped g h) held i ≡ field_refusal h held i
     field-reshaped None i = refl

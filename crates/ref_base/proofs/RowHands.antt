@@ -1,21 +1,16 @@
 -- What a row does to hands and queues, and what the notices that an unhook and a hand give tell of the state before.
-use Rattle.std.proofs.Common.{◌≡◌, ℕ, true, List, [], ◌∷◌, Option, Some, None, refl, sym, ap, ◌∙◌, subst}
+use Rattle.std.proofs.Common.{arith}
+use Rattle.std.proofs.Common.{◌≡◌, ℕ, true, List, [], ◌∷◌, Option, Some, None, refl, sym, subst}
 use Rattle.std.proofs.lemmas.Bool.{eq-eqb}
-use Rattle.ref_base.proofs.Common.{World, Notice, Pending, SameOthers, hand_of, pending_of, told_notice, NamedStep}
-use Rattle.ref_base.proofs.Common.{heap_step, handed, after_queues, State, refusal, is_worker, with_world, QueuesAccept}
-use Rattle.ref_base.proofs.Common.{AcceptsAsking, Accepts, IsAnswer, Unhooks, HandsOn, is_by, Worker, Cause, Own, Cycle}
+use Rattle.ref_base.proofs.Common.{World, Notice, Pending, SameOthers, pending_of, told_notice, NamedStep}
+use Rattle.ref_base.proofs.Common.{heap_step, handed, after_queues, State, QueuesAccept}
+use Rattle.ref_base.proofs.Common.{AcceptsAsking, Accepts, IsAnswer, Unhooks, HandsOn, is_by, Own, Cycle}
 use Rattle.ref_base.proofs.Common.{Fault, Step, Reply}
 use Rattle.ref_base.specs.declared.step.Step.TheVariants as steps
 use Rattle.ref_base.specs.declared.reply.Reply.TheVariants as replies
-use Rattle.ref_base.proofs.QueueLaws.{same}
-use Rattle.ref_base.proofs.HeapRowLaws.{refused_hands, refused_queues}
 use Rattle.ref_base.proofs.CarryLaws.{OfHand}
-use Rattle.ref_base.proofs.HeapMoves.{settled_becomes}
 use Rattle.ref_base.proofs.RowKinds.{queues_become}
 use Rattle.ref_base.proofs.MovedParts.{heap_others}
-use Rattle.ref_base.proofs.SameOthers.{handed_others}
-use Rattle.ref_base.proofs.CountedTraces.{empty_hand}
-use Rattle.ref_base.proofs.RowForms.{unless_passes}
 
 -- the world with the hands and queues that the row leaves
 abbrev pub others_after : World → Step → Reply → World
@@ -25,16 +20,11 @@ asked_hands : (a b : State) (asked : Option NamedStep) (step : Step) (reply : Re
     → AcceptsAsking a asked step reply b → (QueuesAccept a step reply b → ⊥)
     → SameOthers (handed a.world step reply) b.world
 asked_hands a b None step reply row never = absurd (never row)
-asked_hands a b (Some asked) step reply row never =
-    subst (λ (s : State). SameOthers (handed a.world step reply) s.world) (sym row.2)
-    (handed_others a.world row.0.world step reply (heap_others a row.0 asked reply row.1))
+asked_hands a b (Some asked) step reply row never = grind (arith, heap_others)
 
 queues_hands : (a b : State) (step : Step) (reply : Reply) → QueuesAccept a step reply b
     → SameOthers (after_queues a.world step reply) b.world
-queues_hands a b step reply row =
-    let c : State = with_world a (after_queues a.world step reply) in
-    let leads = settled_becomes c b (queues_become a b step reply row) in
-    subst (λ (w : World). SameOthers c.world w) (sym (ap (λ (s : State). s.world) leads)) (same c.world)
+queues_hands a b step reply row = grind (arith, queues_become)
 
 accepted_hands : (a b : State) (step : Step) (reply : Reply) → Accepts a step reply b
     → SameOthers (others_after a.world step reply) b.world
@@ -45,12 +35,7 @@ accepted_hands a b step reply row = asked_hands a b (heap_step a.world step) ste
 
 pub row_hands : (a b : State) (step : Step) (reply : Reply) (fault : Option Fault) → IsAnswer a fault step reply b
     → SameOthers (others_after a.world step reply) b.world
-row_hands a b step reply (Some fault) row =
-    let still : others_after a.world step (replies.Refused fault) ≡ a.world =
-    refused_queues (handed a.world step (replies.Refused fault)) step fault ∙ refused_hands a.world step fault in
-    subst (λ (r : Reply). SameOthers (others_after a.world step r) b.world) (sym row.0)
-    (subst (λ (w : World). SameOthers w b.world) (sym still)
-    (subst (λ (s : State). SameOthers a.world s.world) (sym row.1) (same a.world)))
+row_hands a b step reply (Some fault) row = grind arith
 row_hands a b step reply None row = accepted_hands a b step reply row
 
 -- ---- what a row gives
@@ -89,27 +74,3 @@ pub hand_tells : (a b : State) (k : ℕ) (reply : Reply) (fault : Option Fault)
     → IsAnswer a fault (steps.Hand k) reply b → OfHand (IsBy k) (told_notice reply)
 hand_tells a b k reply (Some fault) row = told_by (IsBy k) (replies.Refused fault) reply row.0 tt
 hand_tells a b k reply None row = handed_on a row.0 k (pending_of a.world k) reply row.1
-
--- a notice that is handed on is that of the first that was pending, and it comes into an empty hand
-pub record TellsHanded (a : State) (k n q : ℕ) : Type 0 where
-  pub first : Pending
-  pub rest : List Pending
-  pub pending : pending_of a.world k ≡ first ∷ rest
-  pub object : n ≡ first.object
-  pub queue : q ≡ first.queue
-  pub empty : hand_of a.world (Worker k) ≡ None
-
-first_pending : (a c : State) (k n q : ℕ) (cause : Cause) (ps : List Pending) → pending_of a.world k ≡ ps
-    → hand_of a.world (Worker k) ≡ None → HandsOn a k ps (replies.Notice n q cause) c → TellsHanded a k n q
-first_pending a c k n q cause [] are empty row = let no = row.0 in absurd cc
-first_pending a c k n q cause (p ∷ ps) are empty row =
-    let told : replies.Notice n q cause ≡ replies.Notice p.object p.queue (Cycle p.cycle k) = row.0 in
-    record { first = p; rest = ps; pending = are; object = cc; queue = cc; empty = empty }
-
-pub hand_given : (a b : State) (k n q : ℕ) (cause : Cause) (fault : Option Fault) → refusal a (steps.Hand k) ≡ fault
-    → IsAnswer a fault (steps.Hand k) (replies.Notice n q cause) b → TellsHanded a k n q
-hand_given a b k n q cause (Some fault) is row = let no = row.0 in absurd cc
-hand_given a b k n q cause None is row =
-    let first = unless_passes (is_worker a.world.heap k) _ _ is in
-    first_pending a row.0 k n q cause (pending_of a.world k) refl
-    (empty_hand (hand_of a.world (Worker k)) _ first.1) row.1

@@ -1,12 +1,12 @@
 -- A row is refused, or one of queues, or one of its heap with what the step leaves in the hands.
-use Rattle.std.proofs.Common.{◌≡◌, ℕ, ◌==◌, if◌then◌else◌, Bool, true, false, List, [], ◌∷◌, length, Option, Some, None}
+use Rattle.std.proofs.Common.{arith}
+use Rattle.std.proofs.Common.{◌≡◌, ℕ, if◌then◌else◌, Bool, true, false, List, [], ◌∷◌, Option, Some, None}
 use Rattle.std.proofs.Common.{refl, sym, ap, ◌∙◌, inl, inr, ◌⊎◌}
-use Rattle.std.proofs.lemmas.Bool.{and_from}
-use Rattle.ref_base.proofs.Common.{has, enqueued, Notice, hand_of, queue_at, object_of, NamedStep, heap_step, hold_of}
-use Rattle.ref_base.proofs.Common.{spending, after_queues, put_in, took, closed_queue, State, refusal, heap_refusal}
-use Rattle.ref_base.proofs.Common.{asked_refusal, unless_full, has_slot, is_worker, is_counted, with_world, with_handed}
-use Rattle.ref_base.proofs.Common.{ticked, HeapAccepts, QueuesAccept, AcceptsAsking, IsAnswer, IsRow, Puts, PutsInto}
-use Rattle.ref_base.proofs.Common.{Polls, Closes, Gives, AreCounted, Actor, Mutator, Worker, Fault, HoldName, Step}
+use Rattle.ref_base.proofs.Common.{Notice, hand_of, queue_at, NamedStep, heap_step}
+use Rattle.ref_base.proofs.Common.{spending, after_queues, closed_queue, State, refusal, heap_refusal}
+use Rattle.ref_base.proofs.Common.{asked_refusal, has_slot, is_counted, with_world, with_handed}
+use Rattle.ref_base.proofs.Common.{HeapAccepts, QueuesAccept, AcceptsAsking, IsAnswer, IsRow, Puts, PutsInto}
+use Rattle.ref_base.proofs.Common.{Polls, Closes, Gives, AreCounted, Actor, Mutator, Fault, HoldName, Step}
 use Rattle.ref_base.proofs.Common.{Reply, Row}
 use Rattle.ref_base.specs.declared.heap_step.HeapStep.TheVariants as heap
 use Rattle.ref_base.specs.declared.step.Step.TheVariants as steps
@@ -39,30 +39,18 @@ pub record IsOfHeap (a : State) (row : Row) (b : State) : Type 0 where
 
 -- ---- what the world doesn't refuse its heap doesn't either
 
-later_passes : (hand : Option Notice) (later : Option Fault) → unless_full hand later ≡ None → later ≡ None
-later_passes None later none = none
-later_passes (Some notice) later none = absurd cc
-
 -- a hand's notice is a hold that the heap counts
 spent_passes : (a : State) (who : Actor) (step : HoldName → NamedStep) (hand : Option Notice) (asked : NamedStep)
     → AreCounted a.world → hand_of a.world who ≡ hand → spending step hand ≡ Some asked
     → ((hold : HoldName) → is_counted 0 a.world.heap hold ≡ true → heap_refusal 0 a (step hold) ≡ None)
     → heap_refusal 0 a asked ≡ None
 spent_passes a who step None asked counted is asks passes = absurd cc
-spent_passes a who step (Some notice) asked counted is asks passes =
-    let counts : is_counted 0 a.world.heap (hold_of notice) ≡ true =
-    and_from (0 == 0) (has a.world.heap.holds notice.object) refl
-    (counted_hand a.world who notice (holding_hand a.world who notice is) is counted) in
-    sym (ap (asked_refusal a) asks) ∙ passes (hold_of notice) counts
+spent_passes a who step (Some notice) asked counted is asks passes = grind (arith, counted_hand, holding_hand)
 
 heap_passes : (a : State) (step : Step) (asked : NamedStep) → AreCounted a.world → heap_step a.world step ≡ Some asked
     → refusal a step ≡ None → heap_refusal 0 a asked ≡ None
-heap_passes a (steps.Unhook m s) asked counted asks none =
-    let first = unless_passes (has_slot a.world.heap m s) _ _ none in
-    sym (ap (asked_refusal a) asks) ∙ later_passes (hand_of a.world (Mutator m)) _ first.1
-heap_passes a (steps.Hand k) asked counted asks none =
-    let first = unless_passes (is_worker a.world.heap k) _ _ none in
-    sym (ap (asked_refusal a) asks) ∙ later_passes (hand_of a.world (Worker k)) _ first.1
+heap_passes a (steps.Unhook m s) asked counted asks none = grind arith
+heap_passes a (steps.Hand k) asked counted asks none = grind arith
 heap_passes a (steps.Put who) asked counted asks none = absurd cc
 heap_passes a (steps.Poll m q) asked counted asks none = absurd cc
 heap_passes a (steps.Close m q) asked counted asks none = absurd cc
@@ -71,9 +59,7 @@ heap_passes a (steps.Adopt m d) asked counted asks none =
     let there : has_slot a.world.heap m d ≡ true = first.0 in
     spent_passes a (Mutator m) (λ hold. heap.Adopt m d hold) (hand_of a.world (Mutator m)) asked counted refl asks
     (λ hold counts. simp (there, counts) refl)
-heap_passes a (steps.Release who) asked counted asks none =
-    spent_passes a who (λ hold. heap.Release hold) (hand_of a.world who) asked counted refl asks
-    (λ hold counts. simp counts refl)
+heap_passes a (steps.Release who) asked counted asks none = grind (arith, spent_passes)
 heap_passes a step asked counted asks none = sym (ap (asked_refusal a) asks) ∙ none
 
 -- ---- rows of queues
@@ -83,26 +69,14 @@ LeadsQueues a step reply b = Becomes (with_world a (after_queues a.world step re
 
 given : (a c b : State) (step : Step) (answer reply : Reply) → Gives answer c reply b
     → c ≡ with_world a (after_queues a.world step answer) → LeadsQueues a step reply b
-given a c b step answer reply row leads =
-    let now : c ≡ with_world a (after_queues a.world step reply) =
-    leads ∙ ap (λ (r : Reply). with_world a (after_queues a.world step r)) (sym row.0) in
-    inr (inl (row.1 ∙ ap ticked now))
+given a c b step answer reply row leads = grind arith
 
 puts_into : (a b : State) (who : Actor) (notice : Notice) (again shut : Bool) (reply : Reply)
     → hand_of a.world who ≡ Some notice → PutsInto again shut a who notice reply b
     → LeadsQueues a (steps.Put who) reply b
 puts_into a b who notice true shut reply is row = given a a b (steps.Put who) replies.Already reply row refl
 puts_into a b who notice false true reply is row = given a a b (steps.Put who) replies.Closed reply row refl
-puts_into a b who notice false false reply is row =
-    elim row [
-      | inl added ↦
-          given a (with_world a (put_in a.world who (Some notice))) b (steps.Put who)
-          (replies.Added (length (enqueued object_of (queue_at a.world notice.queue)))) reply added
-          (ap (λ (hand : Option Notice). with_world a (put_in a.world who hand)) (sym is))
-      | inr refused ↦
-          inl
-          (refused.1 ∙ ap (λ (r : Reply). with_world a (after_queues a.world (steps.Put who) r)) (sym refused.0))
-    ]
+puts_into a b who notice false false reply is row = grind arith
 
 puts : (a b : State) (who : Actor) (hand : Option Notice) (reply : Reply) → hand_of a.world who ≡ hand
     → Puts a who hand reply b → LeadsQueues a (steps.Put who) reply b
@@ -117,9 +91,7 @@ polls_none a b m q false reply row = given a a b (steps.Poll m q) replies.Empty 
 polls : (a b : State) (m q : ℕ) (stands : List Notice) (reply : Reply) → Polls a m q stands reply b
     → LeadsQueues a (steps.Poll m q) reply b
 polls a b m q [] reply row = polls_none a b m q (queue_at a.world q).closed reply row
-polls a b m q (notice ∷ rest) reply row =
-    given a (with_world a (took a.world m q notice.object)) b (steps.Poll m q) (replies.Took notice.object) reply row
-    refl
+polls a b m q (notice ∷ rest) reply row = search given
 
 closes : (a b : State) (m q : ℕ) (shut : Bool) (reply : Reply) → Closes a q shut reply b
     → LeadsQueues a (steps.Close m q) reply b
@@ -142,14 +114,7 @@ accepted : (a b : State) (row : Row) (asked : Option NamedStep) → AreCounted a
     → IsOfQueues a row b ⊎ IsOfHeap a row b
 accepted a b row None counted none is accepts =
     inl (record { asks = is; becomes = queues_become a b row.step row.reply accepts })
-accepted a b row (Some asked) counted none is accepts = inr (record {
-  asked = asked;
-  asks = is;
-  passes = heap_passes a row.step asked counted is none;
-  left = accepts.0;
-  accepts = accepts.1;
-  after = accepts.2;
-})
+accepted a b row (Some asked) counted none is accepts = grind (arith, heap_passes)
 
 answered : (a b : State) (row : Row) (fault : Option Fault) → AreCounted a.world → refusal a row.step ≡ fault
     → IsAnswer a fault row.step row.reply b → IsRefused a row b ⊎ (IsOfQueues a row b ⊎ IsOfHeap a row b)

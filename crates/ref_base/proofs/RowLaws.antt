@@ -1,12 +1,13 @@
 -- Each row of the abstract collector does to queues and hands what it says.
+use Rattle.std.proofs.Common.{arith}
 use Rattle.std.proofs.Common.{◌≡◌, ℕ, ◌<◌, Bool, true, false, if◌then◌else◌, List, [], ◌∷◌, length, Option, Some, None}
 use Rattle.std.proofs.Common.{inl, inr, refl, sym, ap, ◌∙◌, subst}
 use Rattle.std.specs.List.{AllByRecursion}
 use Rattle.std.proofs.lemmas.Bool.{ltb-true, and_parts}
-use Rattle.ref_base.proofs.Common.{has, Heap, slot_at, was_put, HandNotices, with_held, held_after, World, Notice}
+use Rattle.ref_base.proofs.Common.{has, slot_at, was_put, HandNotices, with_held, held_after, World, Notice}
 use Rattle.ref_base.proofs.Common.{Pending, SameOthers, object_of, hand_of, queue_at, with_hand, NamedStep, hold_of}
 use Rattle.ref_base.proofs.Common.{spending, handed, State, refusal, heap_refusal, is_mutator, is_worker, is_queue}
-use Rattle.ref_base.proofs.Common.{is_actor, is_queue_or_none, has_slot, has_slots, with_handed, Gives, HeapAccepts}
+use Rattle.ref_base.proofs.Common.{is_actor, has_slot, with_handed, Gives, HeapAccepts}
 use Rattle.ref_base.proofs.Common.{Accepts, AcceptsAsking, IsAnswer, IsRow, Unhooks, PutsInto, Puts, Polls, Closes}
 use Rattle.ref_base.proofs.Common.{HandsOn, Fault, NoMemory, Own, Cycle, Actor, Mutator, Worker, Step, Reply, Row}
 use Rattle.ref_base.specs.declared.heap_step.HeapStep.TheVariants as heap
@@ -15,7 +16,7 @@ use Rattle.ref_base.specs.declared.reply.Reply.TheVariants as replies
 use Rattle.ref_base.proofs.CarryHeaps.{Anew, heap_carries}
 use Rattle.ref_base.proofs.MovedParts.{heap_others, heap_config}
 use Rattle.ref_base.proofs.Common.{heap_step}
-use Rattle.ref_base.proofs.RowForms.{asked_of, ticked_world, unless_passes}
+use Rattle.ref_base.proofs.RowForms.{asked_of, unless_passes}
 use Rattle.ref_base.proofs.SoundWorlds.{QueueBelow, ObjectBelow, PendingBelow, IsBelow, HasHand, IsSound, AnyCycle}
 use Rattle.ref_base.proofs.SoundWorlds.{below_lasts, names_below, sound_again, registered_below, held_below}
 use Rattle.ref_base.proofs.QueueLaws.{as_held, move_by, no_move, Goes, IsStill, same, stays, sets_hand, goes_after}
@@ -64,32 +65,22 @@ refused_is_still step fault hands q = refl
 
 refused_goes : (a b : State) (step : Step) (fault : Fault) (reply : Reply) → IsSound a.world
     → (reply ≡ replies.Refused fault) × (b ≡ a) → Goes a.world b.world step reply
-refused_goes a b step fault reply sound refused =
-    subst (λ (r : Reply). Goes a.world b.world step r) (sym refused.0)
-    (subst (λ (s : State). Goes a.world s.world step (replies.Refused fault)) (sym refused.1)
-    (stays a.world a.world step (replies.Refused fault) (refused_is_still step fault) (same a.world) sound))
+refused_goes a b step fault reply sound refused = grind (arith, stays a.world a.world step, refused_is_still step fault)
 
 -- ---- queues
 
 -- the row goes where its answer does, in the world of the state that it leaves
 given : (a c b : State) (step : Step) (answer reply : Reply) → Gives answer c reply b
     → Goes a.world c.world step answer → Goes a.world b.world step reply
-given a c b step answer reply gives goes =
-    let world : b.world ≡ c.world = ap (λ (s : State). s.world) gives.1 ∙ ticked_world c in
-    subst (λ (r : Reply). Goes a.world b.world step r) (sym gives.0)
-    (subst (λ (w : World). Goes a.world w step answer) (sym world) goes)
+given a c b step answer reply gives goes = grind arith
 
 put_into_goes : (a b : State) (who : Actor) (notice : Notice) (again shut : Bool) (reply : Reply) → IsSound a.world
     → HasHand a.world who → hand_of a.world who ≡ Some notice
     → was_put object_of (queue_at a.world notice.queue) notice ≡ again
     → (queue_at a.world notice.queue).closed ≡ shut
     → PutsInto again shut a who notice reply b → Goes a.world b.world (steps.Put who) reply
-put_into_goes a b who notice true shut reply sound has hand again_is shut_is gives =
-    given a a b (steps.Put who) replies.Already reply gives
-    (stays a.world a.world (steps.Put who) replies.Already (λ _ _. refl) (same a.world) sound)
-put_into_goes a b who notice false true reply sound has hand again_is shut_is gives =
-    given a a b (steps.Put who) replies.Closed reply gives
-    (stays a.world a.world (steps.Put who) replies.Closed (λ _ _. refl) (same a.world) sound)
+put_into_goes a b who notice true shut reply sound has hand again_is shut_is gives = search (given, stays)
+put_into_goes a b who notice false true reply sound has hand again_is shut_is gives = search (given, stays)
 put_into_goes a b who notice false false reply sound has hand again_is shut_is gives =
     elim gives [
       | inl added ↦ given a _ b (steps.Put who) (replies.Added _) reply added
@@ -114,15 +105,11 @@ poll_any_goes : (a b : State) (m q : ℕ) (stands : List Notice) (reply : Reply)
     → Polls a m q stands reply b → Goes a.world b.world (steps.Poll m q) reply
 poll_any_goes a b m q [] reply sound has within first gives =
     given a a b (steps.Poll m q) _ reply gives (nothing_taken a.world m q (queue_at a.world q).closed sound)
-poll_any_goes a b m q (notice ∷ rest) reply sound has within first gives =
-    given a _ b (steps.Poll m q) (replies.Took notice.object) reply gives
-    (poll_goes a.world m q notice rest sound has within first)
+poll_any_goes a b m q (notice ∷ rest) reply sound has within first gives = search (given, poll_goes)
 
 close_any_goes : (a b : State) (m q : ℕ) (shut : Bool) (reply : Reply) → IsSound a.world → q < length a.world.queues
     → (queue_at a.world q).closed ≡ shut → Closes a q shut reply b → Goes a.world b.world (steps.Close m q) reply
-close_any_goes a b m q true reply sound within is gives =
-    given a a b (steps.Close m q) replies.Closed reply gives
-    (stays a.world a.world (steps.Close m q) replies.Closed (λ _ _. refl) (same a.world) sound)
+close_any_goes a b m q true reply sound within is gives = search (given, stays)
 close_any_goes a b m q false reply sound within is gives =
     given a _ b (steps.Close m q) replies.Done reply gives (close_goes a.world m q sound within is)
 
@@ -132,21 +119,14 @@ close_any_goes a b m q false reply sound within is gives =
 handled : (a c b : State) (step : Step) (answer reply : Reply) → reply ≡ answer
     → b ≡ with_handed c step reply → Goes a.world (handed c.world step answer) step answer
     → Goes a.world b.world step reply
-handled a c b step answer reply is left goes =
-    let world : b.world ≡ handed c.world step answer =
-    ap (λ (s : State). s.world) left ∙ ap (λ (r : Reply). handed c.world step r) is in
-    subst (λ (r : Reply). Goes a.world b.world step r) (sym is)
-    (subst (λ (w : World). Goes a.world w step answer) (sym world) goes)
+handled a c b step answer reply is left goes = grind arith
 
 -- a step that has nothing to do with hands
 quiet : (a b : State) (asked : NamedStep) (step : Step) (reply : Reply) → IsSound a.world → IsRegistered a asked
     → AcceptsAsking a (Some asked) step reply b → IsStill step reply → ((w : World) → handed w step reply ≡ w)
     → Goes a.world b.world step reply
 quiet a b asked step reply sound is row stands same_hands =
-    let keeps = heap_keeps a row.0 asked reply is row.1 in
-    handled a row.0 b step reply reply refl row.2
-    (subst (λ (w : World). Goes a.world w step reply) (sym (same_hands row.0.world))
-    (stays a.world row.0.world step reply stands keeps.others (keeps.sound sound)))
+    grind (arith, heap_keeps, stays a.world row.0.world step reply stands)
 
 -- nothing is given into a hand
 gives_nothing : (a c b : State) (step : Step) (reply : Reply) → IsSound a.world → Keeps a.world c.world
@@ -239,17 +219,10 @@ release_goes a b who (Some notice) reply sound has row =
 
 -- ---- who and what is there
 
-queue_below : (h : Heap) (queue : Option ℕ) → is_queue_or_none h queue ≡ true → QueueBelow h.config.queues queue
-queue_below h None is = tt
-queue_below h (Some q) is = ltb-true q h.config.queues is
-
 -- a step that isn't refused names a queue of the configuration
 pub registered : (heap_no : ℕ) (a : State) (step : NamedStep) → heap_refusal heap_no a step ≡ None
     → IsRegistered a step
-registered heap_no a (heap.Refer m strength d s q k) none =
-    let first = unless_passes (has_slots a.world.heap m d s) _ _ none in
-    let second = unless_passes (is_queue_or_none a.world.heap q) _ _ first.1 in
-    queue_below a.world.heap q second.0
+registered heap_no a (heap.Refer m strength d s q k) none = grind arith
 registered heap_no a step none = tt
 
 pub mutator_within : (w : World) (m : ℕ) → IsSound w → is_mutator w.heap m ≡ true → m < length w.mutator_hands
@@ -269,33 +242,18 @@ queue_within w q sound is = rw sound.queues (ltb-true q w.heap.config.queues is)
 
 accepted_goes : (a b : State) (step : Step) (reply : Reply) → IsSound a.world → refusal a step ≡ None
     → Accepts a step reply b → Goes a.world b.world step reply
-accepted_goes a b (steps.Refer m strength d s q k) reply sound h row =
-    quiet a b (heap.Refer m strength d s q k) (steps.Refer m strength d s q k) reply sound
-    (registered 0 a (heap.Refer m strength d s q k) h) row (λ _ _. refl) (λ _. refl)
+accepted_goes a b (steps.Refer m strength d s q k) reply sound h row = search (quiet, registered)
 accepted_goes a b (steps.Unhook m s) reply sound h row =
     let first = unless_passes (has_slot a.world.heap m s) _ _ h in
     let both = and_parts (is_mutator a.world.heap m) _ first.0 in
     unhook_goes a row.0 b m s _ _ reply sound (heap_keeps a row.0 (heap.Unhook m s) reply tt row.1)
     (mutator_within a.world m sound both.0) (held_below a.world (slot_at a.world.heap m s) sound) row.1 row.2
-accepted_goes a b (steps.Put who) reply sound h gives =
-    let first = unless_passes (is_actor a.world.heap who) _ _ h in
-    put_hand_goes a b who (hand_of a.world who) reply sound (actor_has a.world who sound first.0) refl gives
+accepted_goes a b (steps.Put who) reply sound h gives = grind (arith, put_hand_goes)
 accepted_goes a b (steps.Poll m q) reply sound h gives =
-    let first = unless_passes (is_mutator a.world.heap m) _ _ h in
-    let second = unless_passes (is_queue a.world.heap q) _ _ first.1 in
-    poll_any_goes a b m q (queue_at a.world q).stands reply sound (mutator_within a.world m sound first.0)
-    (queue_within a.world q sound second.0) refl gives
-accepted_goes a b (steps.Adopt m d) reply sound h row =
-    let first = unless_passes (has_slot a.world.heap m d) _ _ h in
-    let both = and_parts (is_mutator a.world.heap m) _ first.0 in
-    adopt_goes a b m d (hand_of a.world (Mutator m)) reply sound (mutator_within a.world m sound both.0) row
-accepted_goes a b (steps.Release who) reply sound h row =
-    let first = unless_passes (is_actor a.world.heap who) _ _ h in
-    release_goes a b who (hand_of a.world who) reply sound (actor_has a.world who sound first.0) row
-accepted_goes a b (steps.Close m q) reply sound h gives =
-    let first = unless_passes (is_mutator a.world.heap m) _ _ h in
-    let second = unless_passes (is_queue a.world.heap q) _ _ first.1 in
-    close_any_goes a b m q (queue_at a.world q).closed reply sound (queue_within a.world q sound second.0) refl gives
+    grind (arith, unless_passes, poll_any_goes, mutator_within, queue_within)
+accepted_goes a b (steps.Adopt m d) reply sound h row = grind (arith, adopt_goes)
+accepted_goes a b (steps.Release who) reply sound h row = grind (arith, release_goes)
+accepted_goes a b (steps.Close m q) reply sound h gives = grind (arith, close_any_goes a b m q)
 accepted_goes a b (steps.Hand k) reply sound h row =
     let first = unless_passes (is_worker a.world.heap k) _ _ h in
     hand_goes a row.0 b k _ reply sound (heap_keeps a row.0 (heap.Hand k) reply tt row.1)

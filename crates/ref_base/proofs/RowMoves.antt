@@ -1,5 +1,6 @@
 -- What a row of the world does to the pending lists, to what was scanned and to the configuration; and that, where it
 -- says in a mark that an object is left, one is.
+use Rattle.std.proofs.Common.{arith}
 use Rattle.std.proofs.Common.{◌≡◌, ℕ, List, Option, Some, None, inl, inr, refl, sym, ap, ◌∙◌, subst}
 use Rattle.std.specs.Prelude.{slice_set}
 use Rattle.ref_base.proofs.Common.{reference_at, registered_in, World, Pending, pending_of, NamedStep, heap_step}
@@ -7,9 +8,9 @@ use Rattle.ref_base.proofs.Common.{pended, without_pending, after_queues, State,
 use Rattle.ref_base.proofs.Common.{HeapAccepts, IsRow, AreCounted, Fault, Reply, Row}
 use Rattle.ref_base.specs.declared.heap_step.HeapStep.TheVariants as heap
 use Rattle.ref_base.specs.declared.reply.Reply.TheVariants as replies
-use Rattle.ref_base.proofs.HeapMoves.{scanned_by, moved, IsNoEnd, heap_moves}
-use Rattle.ref_base.proofs.MovedParts.{mark_in, config_moved, pending_moved}
-use Rattle.ref_base.proofs.LeftObjects.{LeftMeans, left_kept, left_becomes, heap_left}
+use Rattle.ref_base.proofs.HeapMoves.{scanned_by}
+use Rattle.ref_base.proofs.MovedParts.{mark_in}
+use Rattle.ref_base.proofs.LeftObjects.{LeftMeans, left_kept, left_becomes}
 use Rattle.ref_base.proofs.ReplayKeeps.{but_hands, queues_keep, handed_keeps}
 use Rattle.ref_base.proofs.RowKinds.{IsOfQueues, queues_lead, IsOfHeap, row_kind}
 
@@ -37,44 +38,10 @@ pub record Moves (a : State) (asked : Option NamedStep) (reply : Reply) (b : Sta
 
 -- ---- rows of a heap
 
-pending_told : (a : State) (step : NamedStep) (reply : Reply) → IsNoEnd step
-    → (moved a step reply).world.pending ≡ pending_after a.world (Some step) reply
-pending_told a (heap.ClearNext k) (replies.Cleared n) plain = refl
-pending_told a (heap.ClearNext k) (replies.Kept n) plain = refl
-pending_told a (heap.ClearNext k) (replies.Skipped n) plain = refl
-pending_told a (heap.ClearNext k) reply plain = refl
-pending_told a (heap.Hand k) (replies.Notice n q cause) plain = refl
-pending_told a (heap.Hand k) reply plain = refl
-pending_told a step reply plain = pending_moved a step reply plain tt
-
-scanned_told : (a b : State) (step : NamedStep) (reply : Reply) → IsNoEnd step → HeapAccepts a step reply b
-    → (moved a step reply).scanned ≡ scanned_after a.scanned (Some step) reply
-scanned_told a b (heap.Begin now how) reply plain row =
-    sym (ap (λ (r : Reply). scanned_after a.scanned (Some (heap.Begin now how)) r) row.0)
-scanned_told a b (heap.ClearNext k) (replies.Cleared n) plain row = refl
-scanned_told a b (heap.ClearNext k) (replies.Kept n) plain row = refl
-scanned_told a b (heap.ClearNext k) (replies.Skipped n) plain row = refl
-scanned_told a b (heap.ClearNext k) reply plain row = refl
-scanned_told a b (heap.Sweep k) (replies.Swept count) plain row = refl
-scanned_told a b (heap.Sweep k) reply plain row = refl
-scanned_told a b step reply plain row = refl
-
 pub heap_tells : (a b : State) (step : NamedStep) (reply : Reply) → HeapAccepts a step reply b
     → Moves a (Some step) reply b
-heap_tells a b heap.EndMark reply row = record {
-  pending = ap (λ (s : State). s.world.pending) row.after;
-  scanned = ap (λ (s : State). s.scanned) row.after;
-  config = ap (λ (s : State). s.world.heap.config) row.after;
-  left = heap_left a b heap.EndMark reply row;
-}
-heap_tells a b step reply row =
-    let leads = heap_moves a b step reply tt row in
-    record {
-      pending = ap (λ (s : State). s.world.pending) leads ∙ pending_told a step reply tt;
-      scanned = ap (λ (s : State). s.scanned) leads ∙ scanned_told a b step reply tt row;
-      config = ap (λ (s : State). s.world.heap.config) leads ∙ config_moved a step reply tt;
-      left = heap_left a b step reply row;
-    }
+heap_tells a b heap.EndMark reply row = grind arith
+heap_tells a b step reply row = grind arith
 
 -- ---- rows of the world
 

@@ -1,4 +1,5 @@
 -- What holds at first and is kept by each row holds after every legal trace.
+use Rattle.std.proofs.Common.{arith}
 use Rattle.std.proofs.Common.{List, [], ◌∷◌, ◌++◌, refl, sym, subst, ◌≡◌}
 use Rattle.std.proofs.lemmas.List.{append-nil, append_assoc}
 use Rattle.ref_base.proofs.Common.{State, first_state, IsRow, IsRun, after, World, Config, Row}
@@ -20,9 +21,7 @@ module _ (config : Config) (Q : List Row → State → Type 0)
   goes_on past a [] b run holds more =
       subst (λ rs. Q rs b) (sym (append-nil past)) (subst (λ (s : State). Q past s) (sym more) holds)
   goes_on past a (row ∷ rows) b run holds more =
-      subst (λ rs. Q rs b) (append_assoc past (row ∷ []) rows)
-      (goes_on (past ++ row ∷ []) more.0 rows b (run_more (first_state config) past a more.0 row run more.1)
-      (step past a row more.0 run holds more.1) more.2)
+      grind (arith, append_assoc, run_more, goes_on (past ++ row ∷ []) more.0 rows b)
 
   pub legal_holds : Q [] (first_state config) → (rows : List Row) (b : State) → IsRun (first_state config) rows b
       → Q rows b

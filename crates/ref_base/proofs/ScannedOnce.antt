@@ -1,29 +1,28 @@
 -- In every legal trace no object is scanned twice in a cycle, and a mark goes on only while an object is left to scan.
-use Rattle.std.proofs.Common.{◌≡◌, ℕ, ◌<◌, Bool, true, false, not, ◌||◌, ◌==◌, List, [], ◌∷◌, ◌++◌, length, Option}
-use Rattle.std.proofs.Common.{Some, None, refl, sym, ap, ◌∙◌, subst, inl, inr}
+use Rattle.std.proofs.Common.{arith}
+use Rattle.std.proofs.Common.{◌≡◌, ℕ, ◌<◌, Bool, true, false, not, List, [], ◌∷◌, ◌++◌, length, Option}
+use Rattle.std.proofs.Common.{Some, None, refl, sym, ◌∙◌, subst}
 use Rattle.std.specs.Prelude.{nat_eq}
 use Rattle.std.specs.List.{IsDistinct}
-use Rattle.std.specs.Cmp.{nat_eq_equiv}
-use Rattle.std.proofs.lemmas.Bool.{cases_Bool, both_ways, or_right, or_left, eq-eqb, ltb-true, false≢true}
+use Rattle.std.proofs.lemmas.Bool.{false≢true}
 use Rattle.std.proofs.lemmas.List.{length-set, length-replicate}
 use Rattle.std.proofs.lemmas.Map.Keys.{IsDistinct-push}
 use Rattle.ref_base.proofs.Common.{has, Notice, hand_of, NamedStep, heap_step, spending, State, first_state, joined}
-use Rattle.ref_base.proofs.Common.{unless, heap_refusal, refusal, is_in, is_worker, IsLeft, list_at, emptied}
-use Rattle.ref_base.proofs.Common.{IsHeapAnswer, IsHeapRow, IsAnswer, IsRow, IsRun, AcceptsAsking, IsLegal}
-use Rattle.ref_base.proofs.Common.{scanned_in_cycle, Config, Mutator, Fault, WrongPhase, GreyLeft, Marking, Step, Reply}
+use Rattle.ref_base.proofs.Common.{unless, heap_refusal, is_in, IsLeft, emptied}
+use Rattle.ref_base.proofs.Common.{IsHeapAnswer, IsHeapRow, IsRow, IsRun, IsLegal}
+use Rattle.ref_base.proofs.Common.{scanned_in_cycle, Config, Mutator, WrongPhase, GreyLeft, Marking, Step, Reply}
 use Rattle.ref_base.proofs.Common.{Row, World, HoldName, hold_of, HeapAccepts}
 use Rattle.ref_base.specs.ScannedRows.{scanned_with, scanned_from}
 use Rattle.ref_base.specs.declared.heap_step.HeapStep.TheVariants as heap
 use Rattle.ref_base.specs.declared.step.Step.TheVariants as steps
 use Rattle.ref_base.specs.declared.reply.Reply.TheVariants as replies
-use Rattle.ref_base.proofs.HasLaws.{has-list_any, has-cases, has-single}
+use Rattle.ref_base.proofs.HasLaws.{has-list_any, has-cases}
 use Rattle.ref_base.proofs.FoundLists.{has-with_last, length-emptied}
 use Rattle.ref_base.proofs.CountedTraces.{legal_counted}
 use Rattle.ref_base.proofs.LeftObjects.{LeftMeans}
-use Rattle.ref_base.proofs.HeapTurns.{at_rest, IsTurn, row_turn}
+use Rattle.ref_base.proofs.HeapTurns.{IsTurn, row_turn}
 use Rattle.ref_base.proofs.RunFronts.{legal_holds}
 use Rattle.ref_base.proofs.LegalQueues.{distinct_nil}
-use Rattle.ref_base.proofs.RowForms.{unless_passes}
 use Rattle.ref_base.proofs.RowMoves.{scanned_after, Moves, heap_tells, row_moves}
 
 -- ---- a mark goes on only while an object is left
@@ -48,22 +47,10 @@ pub left_if_grey : (heap_no : ℕ) (a b : State) → LeftMeans a
 left_if_grey heap_no a b means row =
     let both = grey a b (is_in a.world.phase Marking) a.left row in means both.0 both.1
 
--- what a step of the world asks of its heap is answered alike there
-of_heap : (a b : State) (asked : NamedStep) (step : Step) (reply : Reply) (fault : Option Fault)
-    → heap_step a.world step ≡ Some asked → IsAnswer a fault step reply b
-    → (c : State) × IsHeapAnswer a fault asked reply c
-of_heap a b asked step reply (Some fault) asks row = (b, row)
-of_heap a b asked step reply None asks row =
-    let accepts : AcceptsAsking a (Some asked) step reply b =
-    subst (λ (o : Option NamedStep). AcceptsAsking a o step reply b) asks row in
-    (accepts.0, accepts.1)
-
 -- and so it is in a world
 pub refused_left : (config : Config) (front : List Row) (a b : State) → IsRun (first_state config) front a
     → IsRow a (record { step = steps.EndMark; reply = replies.Refused GreyLeft }) b → (n : ℕ) × IsLeft a n
-refused_left config front a b run row =
-    let asked = of_heap a b heap.EndMark steps.EndMark (replies.Refused GreyLeft) (refusal a steps.EndMark) refl row in
-    left_if_grey 0 a asked.0 (legal_left config front a run) asked.1
+refused_left config front a b run row = grind (arith, legal_left)
 
 -- ---- no object is scanned twice
 
@@ -75,11 +62,7 @@ pub record HasScanned (ns : List ℕ) (a : State) : Type 0 where
 
 still_scanned : (ns : List ℕ) (a b : State) → HasScanned ns a → b.scanned ≡ a.scanned
     → b.world.heap.config ≡ a.world.heap.config → HasScanned ns b
-still_scanned ns a b scanned same config = record {
-  distinct = scanned.distinct;
-  there = λ n has_it. rw same (scanned.there n has_it);
-  workers = rw (same, config) scanned.workers;
-}
+still_scanned ns a b scanned same config = grind arith
 
 -- what a scan's row tells: the worker is there, and what it scanned wasn't scanned before
 abbrev pub ScansAnew : State → ℕ → ℕ → Type 0
@@ -87,56 +70,23 @@ ScansAnew a k n = (k < a.world.heap.config.workers) × (has (joined a.scanned) n
 
 pub scan_tells : (a b : State) (k n : ℕ) → heap_refusal 0 a (heap.Scan k) ≡ None
     → HeapAccepts a (heap.Scan k) (replies.Scanned n) b → ScansAnew a k n
-scan_tells a b k n none row =
-    let first = unless_passes (is_worker a.world.heap k) _ _ none in
-    (ltb-true k a.world.heap.config.workers first.0, row.1.2)
+scan_tells a b k n none row = grind arith
 
 one_more : (ns : List ℕ) (a b : State) (k n : ℕ) → HasScanned ns a
     → ScansAnew a k n → b.scanned ≡ scanned_after a.scanned (Some (heap.Scan k)) (replies.Scanned n)
     → b.world.heap.config ≡ a.world.heap.config → HasScanned (ns ++ n ∷ []) b
 one_more ns a b k n scanned tells is config =
-    let within : k < length a.scanned = rw scanned.workers tells.0 in
-    let new : has ns n ≡ false =
-    elim (cases_Bool (has ns n)) [
-      | inl old ↦ absurd (both_ways (has (joined a.scanned) n) tells.1 (scanned.there n old))
-      | inr other ↦ other
-    ] in
-    let all : (m : ℕ) → has (joined b.scanned) m ≡ ((n == m) || has (joined a.scanned) m) =
-    λ m. ap (λ lists. has (joined lists) m) is ∙ has-with_last a.scanned k n m within in
-    record {
-      distinct = IsDistinct-push nat_eq_equiv ns n scanned.distinct (sym (has-list_any ns n) ∙ new);
-      there = λ m has_it.
-          elim (has-cases ns (n ∷ []) m has_it) [
-            | inl before ↦
-                all m ∙ or_right (n == m) (has (joined a.scanned) m) (scanned.there m before)
-            | inr last ↦
-                all m ∙ or_left (n == m) (has (joined a.scanned) m) (eq-eqb n m (has-single n m last))
-          ];
-      workers = ap (λ lists. length lists) is
-          ∙ length-set a.scanned k (list_at a.scanned k ++ n ∷ [])
-          ∙ scanned.workers ∙ ap (λ (c : Config). c.workers) (sym config);
-    }
+    grind (arith, has-with_last, IsDistinct-push, has-list_any, has-cases, length-set)
 
 begins : (ns : List ℕ) (a b : State) → HasScanned ns a → b.scanned ≡ emptied a.scanned
     → b.world.heap.config ≡ a.world.heap.config → HasScanned [] b
-begins ns a b scanned is config = record {
-  distinct = distinct_nil;
-  there = λ n has_it. absurd (false≢true has_it);
-  workers = ap (λ lists. length lists) is ∙ length-emptied a.scanned ∙ scanned.workers
-      ∙ ap (λ (c : Config). c.workers) (sym config);
-}
+begins ns a b scanned is config = grind (arith, distinct_nil, length-emptied)
 
 -- what the cycle scanned after a turn
 abbrev pub scanned_then : List ℕ → Option NamedStep → Reply → List ℕ
 scanned_then ns (Some (heap.Begin now how)) (replies.Cycle n) = []
 scanned_then ns (Some (heap.Scan k)) (replies.Scanned n) = ns ++ n ∷ []
 scanned_then ns asked reply = ns
-
-refused_then : (ns : List ℕ) (asked : Option NamedStep) (fault : Fault)
-    → scanned_then ns asked (replies.Refused fault) ≡ ns
-refused_then ns None fault = refl
-refused_then ns (Some (heap.Begin now how)) fault = refl
-refused_then ns (Some asked) fault = refl
 
 taken_scanned : (ns : List ℕ) (a b : State) (step : NamedStep) (reply : Reply) → heap_refusal 0 a step ≡ None
     → HeapAccepts a step reply b → Moves a (Some step) reply b → HasScanned ns a
@@ -149,27 +99,7 @@ taken_scanned ns a b step reply none row moves scanned = still_scanned ns a b sc
 
 pub turn_scanned : (ns : List ℕ) (a b : State) (asked : Option NamedStep) (reply : Reply) → IsTurn a asked reply b
     → HasScanned ns a → HasScanned (scanned_then ns asked reply) b
-turn_scanned ns a b asked reply turn scanned =
-    elim turn [
-      | inl of ↦
-          let none : scanned_then ns asked reply ≡ ns =
-          elim of.tells [
-            | inl none ↦ ap (λ (o : Option NamedStep). scanned_then ns o reply) none
-            | inr refused ↦
-                ap (λ (r : Reply). scanned_then ns asked r) refused.1 ∙ refused_then ns asked refused.0
-          ] in
-          subst (λ ms. HasScanned ms b) (sym none) (like ns a b of.after scanned)
-      | inr of ↦
-          subst (λ (o : Option NamedStep). HasScanned (scanned_then ns o reply) b) (sym of.asks)
-          (like (scanned_then ns (Some of.step) reply) of.left b of.after
-          (taken_scanned ns a of.left of.step reply of.passes of.accepts
-          (heap_tells a of.left of.step reply of.accepts) scanned))
-    ]
-  where
-    like : (ns : List ℕ) (c d : State) → at_rest d ≡ at_rest c → HasScanned ns c → HasScanned ns d
-    like ns c d same scanned =
-        still_scanned ns c d scanned (ap (λ (s : State). s.scanned) same)
-        (ap (λ (s : State). s.world.heap.config) same)
+turn_scanned ns a b asked reply turn scanned = grind (arith, heap_tells, taken_scanned ns a)
 
 -- what spends a hold scans nothing
 spent_then : (ns : List ℕ) (step : HoldName → NamedStep) (hand : Option Notice) (reply : Reply)
@@ -194,11 +124,7 @@ scanned_last ns [] row = refl
 scanned_last ns (other ∷ past) row = scanned_last (scanned_with ns other.step other.reply) past row
 
 pub first_scanned : (config : Config) → HasScanned [] (first_state config)
-first_scanned config = record {
-  distinct = distinct_nil;
-  there = λ n has_it. absurd (false≢true has_it);
-  workers = length-replicate config.workers [];
-}
+first_scanned config = grind (arith, distinct_nil, length-replicate)
 
 -- no object is scanned twice in a cycle
 pub legal_scanned_once : (config : Config) (rows : List Row) → IsLegal config rows

@@ -1,52 +1,27 @@
 -- A search whose list of what it has seen is its own list of work finds exactly the ends of paths.
-use Rattle.std.proofs.Common.{◌≡◌, ℕ, ◌+◌, ◌-◌, ◌<◌, ◌≤◌, Bool, true, false, ◌==◌, if◌then◌else◌, refl, sym, ap, subst}
+use Rattle.std.proofs.Common.{◌≡◌, ℕ, ◌+◌, ◌-◌, ◌<◌, ◌≤◌, true, false, refl, sym, ap, subst}
 use Rattle.std.proofs.Common.{◌∙◌, arith, List, [], ◌∷◌, ◌++◌, length, get_or, take, append-nil, append_assoc}
 use Rattle.std.proofs.Common.{length-append, Option, Some, None, ◌⊎◌, inl, inr, zero, suc}
-use Rattle.std.proofs.lemmas.Bool.{cases_Bool, cases_lt, or_cases, or_left, or_right, true≢false, false≢true, eqb-true}
-use Rattle.std.proofs.lemmas.Bool.{eq-eqb}
+use Rattle.std.proofs.lemmas.Bool.{false≢true}
 use Rattle.std.proofs.lemmas.List.{take_all, take-append-le, length-take}
 use Rattle.ref_base.proofs.Common.{has, Graph, Object, Reference, object_at, is_there, Allowed, targets_at, targets_of}
 use Rattle.ref_base.proofs.Common.{present, allowed_referent, added_all, fields_of, searched_referents, ArePathEnds}
 use Rattle.ref_base.proofs.Common.{IsSearched}
 use Rattle.ref_base.specs.Searches.{with_reached, unseen}
-use Rattle.ref_base.proofs.HasLaws.{has-first, has-left, has-right, has-cases, has-single, has-get_or, has-take_at}
+use Rattle.ref_base.proofs.HasLaws.{has-left, has-right, has-cases, has-get_or, has-take_at}
 use Rattle.ref_base.proofs.HasLaws.{has-take, has-take_more}
-use Rattle.ref_base.proofs.PathLaws.{ends-wider, fields-targets, root_ends, target_ends, path_within}
-
--- the weight of an object falls where its number comes to be seen
-pub weight-falls : (b c : Bool) → (b ≡ true → c ≡ true) → (if c then 0 else 1) ≤ (if b then 0 else 1)
-weight-falls true true seen = omega arith
-weight-falls true false seen = absurd (false≢true (seen refl))
-weight-falls false true seen = omega arith
-weight-falls false false seen = omega arith
+use Rattle.ref_base.proofs.PathLaws.{ends-wider, fields-targets, target_ends, path_within}
 
 -- one more number leaves no more unseen
 pub unseen-falls : (os : List Object) (ns : List ℕ) (n : ℕ) → unseen os (ns ++ n ∷ []) ≤ unseen os ns
 unseen-falls [] ns n = omega arith
-unseen-falls (o ∷ os) ns n =
-    let here = weight-falls (has ns o.no) (has (ns ++ n ∷ []) o.no) (has-left ns (n ∷ []) o.no) in
-    let later = unseen-falls os ns n in
-    omega (arith, here, later)
+unseen-falls (o ∷ os) ns n = grind (arith, has-left, unseen-falls os ns n)
 
 -- and one fewer where it is that of an object, and is new
 pub unseen-less : (os : List Object) (ns : List ℕ) (n : ℕ) → is_there os n ≡ true → has ns n ≡ false
     → unseen os (ns ++ n ∷ []) + 1 ≤ unseen os ns
 unseen-less [] ns n there fresh = absurd (false≢true there)
-unseen-less (o ∷ os) ns n there fresh =
-    elim (cases_Bool (o.no == n)) [
-      | inl same ↦
-          let number : o.no ≡ n = eqb-true o.no n same in
-          let was : has ns o.no ≡ false = ap (has ns) number ∙ fresh in
-          let now_is : has (ns ++ n ∷ []) o.no ≡ true =
-          ap (has (ns ++ n ∷ [])) number ∙ has-right ns (n ∷ []) n (has-first n []) in
-          let later = unseen-falls os ns n in
-          simp (was, now_is) (omega (arith, later))
-      | inr other ↦
-          let here = weight-falls (has ns o.no) (has (ns ++ n ∷ []) o.no) (has-left ns (n ∷ []) o.no) in
-          let rest : is_there os n ≡ true = simp other at there in
-          let later = unseen-less os ns n rest fresh in
-          omega (arith, here, later)
-    ]
+unseen-less (o ∷ os) ns n there fresh = grind (arith, has-right, unseen-falls, has-left, unseen-less os ns n)
 
 -- a front is no longer than the list
 pub length-front : (ms ns : List ℕ) → take (length ms) ns ≡ ms → length ms ≤ length ns
@@ -57,22 +32,11 @@ module _ (os : List Object) where
   pub added-cases : (ns : List ℕ) (n : ℕ)
       → ((with_reached os ns n ≡ ns) × (is_there os n ≡ true → has ns n ≡ true))
       ⊎ ((with_reached os ns n ≡ ns ++ n ∷ []) × (is_there os n ≡ true) × (has ns n ≡ false))
-  added-cases ns n =
-      elim (cases_Bool (is_there os n)) [
-        | inr absent ↦ inl (simp absent refl, λ there. absurd (true≢false (sym there ∙ absent)))
-        | inl there ↦ elim (cases_Bool (has ns n)) [
-          | inl old ↦ inl (simp (there, old) refl, λ _. old)
-          | inr fresh ↦ inr (simp (there, fresh) refl, there, fresh)
-        ]
-      ]
+  added-cases ns n = grind arith
 
   -- what was seen stays, in its place
   pub added-front : (ns : List ℕ) (n : ℕ) → (more : List ℕ) × (with_reached os ns n ≡ ns ++ more)
-  added-front ns n =
-      elim (added-cases ns n) [
-        | inl same ↦ ([], same.0 ∙ sym (append-nil ns))
-        | inr last ↦ (n ∷ [], last.0)
-      ]
+  added-front ns n = grind (arith, append-nil, added-cases ns n)
 
   pub added_all-front : (cs ns : List ℕ) → (more : List ℕ) × (added_all os ns cs ≡ ns ++ more)
   added_all-front [] ns = ([], sym (append-nil ns))
@@ -82,75 +46,36 @@ module _ (os : List Object) where
       (first.0 ++ rest.0, rest.1 ∙ ap (λ ms. ms ++ rest.0) first.1 ∙ append_assoc ns first.0 rest.0)
 
   pub added_all-keeps : (cs ns : List ℕ) (n : ℕ) → has ns n ≡ true → has (added_all os ns cs) n ≡ true
-  added_all-keeps cs ns n h =
-      let front = added_all-front cs ns in
-      subst (λ ms. has ms n ≡ true) (sym front.1) (has-left ns front.0 n h)
+  added_all-keeps cs ns n h = grind (arith, has-left, added_all-front cs ns)
 
   -- each candidate that is there is seen
   pub added-has : (ns : List ℕ) (n : ℕ) → is_there os n ≡ true → has (with_reached os ns n) n ≡ true
-  added-has ns n there =
-      elim (added-cases ns n) [
-        | inl same ↦ subst (λ ms. has ms n ≡ true) (sym same.0) (same.1 there)
-        | inr last ↦ subst (λ ms. has ms n ≡ true) (sym last.0) (has-right ns (n ∷ []) n (has-first n []))
-      ]
+  added-has ns n there = grind (arith, has-right)
 
   pub added_all-has : (cs ns : List ℕ) (n : ℕ) → has cs n ≡ true → is_there os n ≡ true
       → has (added_all os ns cs) n ≡ true
   added_all-has [] ns n h there = absurd (false≢true h)
-  added_all-has (c ∷ cs) ns n h there =
-      elim (or_cases (c == n) (has cs n) h) [
-        | inl same ↦
-            let first : has (with_reached os ns c) n ≡ true =
-            subst (λ k. has (with_reached os ns k) n ≡ true) (sym (eqb-true c n same)) (added-has ns n there) in
-            added_all-keeps cs (with_reached os ns c) n first
-        | inr later ↦ added_all-has cs (with_reached os ns c) n later there
-      ]
+  added_all-has (c ∷ cs) ns n h there = grind (arith, added-has, added_all-keeps, added_all-has cs)
 
   -- and nothing else is
   pub added-only : (ns : List ℕ) (c n : ℕ) → has (with_reached os ns c) n ≡ true
       → (has ns n ≡ true) ⊎ ((c ≡ n) × (is_there os n ≡ true))
-  added-only ns c n h =
-      elim (added-cases ns c) [
-        | inl same ↦ inl (subst (λ ms. has ms n ≡ true) same.0 h)
-        | inr last ↦ elim (has-cases ns (c ∷ []) n (subst (λ ms. has ms n ≡ true) last.0 h)) [
-          | inl old ↦ inl old
-          | inr new ↦
-              let number : c ≡ n = has-single c n new in
-              inr (number, subst (λ k. is_there os k ≡ true) number last.1)
-        ]
-      ]
+  added-only ns c n h = grind (arith, has-cases)
 
   pub added_all-only : (cs ns : List ℕ) (n : ℕ) → has (added_all os ns cs) n ≡ true
       → (has ns n ≡ true) ⊎ ((has cs n ≡ true) × (is_there os n ≡ true))
   added_all-only [] ns n h = inl h
-  added_all-only (c ∷ cs) ns n h =
-      elim (added_all-only cs (with_reached os ns c) n h) [
-        | inl before ↦ elim (added-only ns c n before) [
-          | inl old ↦ inl old
-          | inr new ↦ inr (or_left (c == n) (has cs n) (eq-eqb c n new.0), new.1)
-        ]
-        | inr later ↦ inr (or_right (c == n) (has cs n) later.0, later.1)
-      ]
+  added_all-only (c ∷ cs) ns n h = grind (arith, added-only, added_all-only cs)
 
   -- what is seen grows by no more than what is unseen falls
   pub added-room : (ns : List ℕ) (n : ℕ)
       → unseen os (with_reached os ns n) + length (with_reached os ns n) ≤ unseen os ns + length ns
-  added-room ns n =
-      elim (added-cases ns n) [
-        | inl same ↦ subst (λ ms. unseen os ms + length ms ≤ unseen os ns + length ns) (sym same.0) (omega arith)
-        | inr last ↦
-            let less = unseen-less os ns n last.1 last.2 in
-            subst (λ ms. unseen os ms + length ms ≤ unseen os ns + length ns) (sym last.0)
-            (omega (arith, less, length-append ns (n ∷ [])))
-      ]
+  added-room ns n = grind (arith, unseen-less, length-append)
 
   pub added_all-room : (cs ns : List ℕ)
       → unseen os (added_all os ns cs) + length (added_all os ns cs) ≤ unseen os ns + length ns
   added_all-room [] ns = omega arith
-  added_all-room (c ∷ cs) ns =
-      let first = added-room ns c in
-      let rest = added_all-room cs (with_reached os ns c) in
-      omega (arith, first, rest)
+  added_all-room (c ∷ cs) ns = grind (arith, added-room, added_all-room cs)
 
   -- to add candidates and then others is to add all of them
   pub added_all-append : (cs ds ns : List ℕ) → added_all os ns (cs ++ ds) ≡ added_all os (added_all os ns cs) ds
@@ -161,28 +86,18 @@ module _ (os : List Object) where
   pub added_all-old : (cs ns : List ℕ) → ((n : ℕ) → has cs n ≡ true → is_there os n ≡ true → has ns n ≡ true)
       → added_all os ns cs ≡ ns
   added_all-old [] ns old = refl
-  added_all-old (c ∷ cs) ns old =
-      let first : with_reached os ns c ≡ ns = elim (added-cases ns c) [
-        | inl same ↦ same.0
-        | inr last ↦ absurd (true≢false (sym (old c (has-first c cs) last.1) ∙ last.2))
-      ] in
-      ap (λ ms. added_all os ms cs) first ∙ added_all-old cs ns (λ n h. old n (has-right (c ∷ []) cs n h))
+  added_all-old (c ∷ cs) ns old = grind (arith, added_all-old cs ns)
 
   -- so where an object's fields were, to add its referent is to add all its targets
   pub added_all-referent : (allow : Allowed) (o : Option Object) (ns : List ℕ)
       → ((n : ℕ) → has (fields_of o) n ≡ true → is_there os n ≡ true → has ns n ≡ true)
       → added_all os ns (searched_referents allow o) ≡ added_all os ns (targets_of allow o)
   added_all-referent allow None ns old = refl
-  added_all-referent allow (Some o) ns old =
-      let referents : List ℕ = allowed_referent allow o.reference in
-      sym (added_all-append (present o.fields) referents ns
-      ∙ ap (λ ms. added_all os ms referents) (added_all-old (present o.fields) ns old))
+  added_all-referent allow (Some o) ns old = search (added_all-append, added_all-old)
 
   -- what was the front of what is seen stays it
   pub added_all-take : (cs ns ms : List ℕ) → take (length ms) ns ≡ ms → take (length ms) (added_all os ns cs) ≡ ms
-  added_all-take cs ns ms kept =
-      let front = added_all-front cs ns in
-      ap (take (length ms)) front.1 ∙ take-append-le (length ms) ns front.0 (length-front ms ns kept) ∙ kept
+  added_all-take cs ns ms kept = grind (arith, take-append-le, length-front, added_all-front cs ns)
 
   -- to add an object's fields and then its referent is to add all its targets
   pub added_all-targets : (allow : Allowed) (m : ℕ) (o : Object) (fields : List (Option ℕ)) (referents : List ℕ)
@@ -190,8 +105,7 @@ module _ (os : List Object) where
       → referents ≡ allowed_referent allow o.reference → between ≡ added_all os before (present fields)
       → after ≡ added_all os between referents → after ≡ added_all os before (targets_at allow os m)
   added_all-targets allow m o fields referents before between after at same may first then_rest =
-      rw (then_rest, first, same, may, ← at)
-      (sym (added_all-append (present o.fields) (allowed_referent allow o.reference) before))
+      grind (arith, added_all-append)
 
 -- what a search has seen and not yet gone on from, and what it hasn't seen
 abbrev pub work_left : Graph → List ℕ → ℕ
@@ -200,24 +114,12 @@ work_left g seen = unseen g.objects seen + length seen
 -- each number that it goes on from leaves less work
 pub work_left-less : (g : Graph) (targets seen new : List ℕ) (next : ℕ) → next < length seen
     → new ≡ added_all g.objects seen targets → work_left g new - (next + 1) < work_left g seen - next
-work_left-less g targets seen new next within is =
-    let room = added_all-room g.objects targets seen in
-    let same : work_left g new ≡ work_left g (added_all g.objects seen targets) = ap (work_left g) is in
-    omega (arith, room, same)
+work_left-less g targets seen new next within is = grind (arith, added_all-room)
 
 module _ (allow : Allowed) (g : Graph) where
   -- at first it has seen the roots that are there
   pub searched_from_roots : IsSearched allow g (added_all g.objects [] g.roots) 0 0
-  searched_from_roots = record {
-    sound = λ n h. elim (added_all-only g.objects g.roots [] n h) [
-      | inl none ↦ absurd (false≢true none)
-      | inr root ↦ root_ends allow g n root.1 root.0
-    ];
-    rooted = λ n there root. added_all-has g.objects g.roots [] n root there;
-    within = omega arith;
-    fields_seen = λ m n none. absurd (false≢true none);
-    gone_on = λ m n none. absurd (false≢true none);
-  }
+  searched_from_roots = grind (arith, added_all-only, added_all-has)
 
   module _ (seen : List ℕ) (closed next : ℕ) (so_far : IsSearched allow g seen closed next) where
     -- it goes on from one more
@@ -255,11 +157,7 @@ module _ (allow : Allowed) (g : Graph) where
         → let m : ℕ = get_or seen next 0 in
         added_all g.objects seen (searched_referents allow (object_at g.objects m))
         ≡ added_all g.objects seen (targets_at allow g.objects m)
-    referent_alone first =
-        let m : ℕ = get_or seen next 0 in
-        let front : has (take closed seen) m ≡ true =
-        has-take_at seen next closed first (omega (arith, so_far.within)) in
-        added_all-referent g.objects allow (object_at g.objects m) seen (λ n. so_far.fields_seen m n front)
+    referent_alone first = grind (arith, has-take_at, added_all-referent)
 
     -- where it has gone on from all that it has seen, that is what paths end at
     pub searched_all : length seen ≤ next → ArePathEnds allow g seen
@@ -277,14 +175,13 @@ module _ (allow : Allowed) (g : Graph) where
       → work_left g seen ≤ fuel + next → (ns : List ℕ) × ArePathEnds allow g ns
   reached_within zero next seen so_far enough = (seen, searched_all seen 0 next so_far (omega arith))
   reached_within (suc fuel) next seen so_far enough =
-      elim (cases_lt next (length seen)) [
-        | inl within ↦
-            let targets : List ℕ = targets_at allow g.objects (get_or seen next 0) in
-            let room = added_all-room g.objects targets seen in
-            reached_within fuel (next + 1) (added_all g.objects seen targets) (searched_more seen 0 next so_far within)
-            (omega (arith, room, enough))
-        | inr all ↦ (seen, searched_all seen 0 next so_far all)
-      ]
+      grind (
+        arith,
+        added_all-room,
+        reached_within fuel (next + 1),
+        searched_more seen 0 next so_far,
+        searched_all seen 0 next so_far,
+      )
 
   pub reached : (ns : List ℕ) × ArePathEnds allow g ns
   reached =
@@ -294,12 +191,5 @@ module _ (allow : Allowed) (g : Graph) where
 -- what was reached by fewer references is where a search by more can begin
 pub searched_from_reached : (allow more : Allowed) → ((r : Reference) → allow r ≡ true → more r ≡ true) → (g : Graph)
     (seen : List ℕ) → ArePathEnds allow g seen → IsSearched more g seen (length seen) 0
-searched_from_reached allow more wider g seen all = record {
-  sound = λ n h. ends-wider allow more wider g n (all.sound n h);
-  rooted = λ n there root. all.complete n (root_ends allow g n there root);
-  within = omega arith;
-  fields_seen = λ m n first field there.
-      all.complete n (target_ends allow g m n (all.sound m (has-take (length seen) seen m first))
-      (fields-targets allow (object_at g.objects m) n field) there);
-  gone_on = λ m n none. absurd (false≢true none);
-}
+searched_from_reached allow more wider g seen all =
+    grind (arith, target_ends, has-take, ends-wider allow more wider g, fields-targets allow)

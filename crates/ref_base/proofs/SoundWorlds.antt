@@ -1,5 +1,5 @@
 -- That every queue which a world names is one of its configuration's, and what keeps this so.
-use Rattle.std.proofs.Common.{◌≡◌, ℕ, zero, suc, ◌<◌, ◌==◌, List, [], ◌∷◌, length, Option, Some, None, inl, inr, refl}
+use Rattle.std.proofs.Common.{◌≡◌, ℕ, zero, suc, ◌<◌, List, [], ◌∷◌, length, Option, Some, None, inl, inr, refl}
 use Rattle.std.proofs.Common.{sym, ap, ◌∙◌, subst, arith}
 use Rattle.std.specs.Prelude.{slice_index_or, replicate}
 use Rattle.std.specs.List.{AllByRecursion}
@@ -66,11 +66,7 @@ got_below count clock (Some r) below =
 object_below : (count : ℕ) (os : List Object) (n : ℕ) → AllByRecursion (ObjectBelow count) os
     → QueueBelow count (registered_in (reference_in (object_at os n)))
 object_below count [] n all = tt
-object_below count (o ∷ os) n all =
-    elim (cases_Bool (o.no == n)) [
-      | inl same ↦ simp same all.0
-      | inr other ↦ simp other (object_below count os n all.1)
-    ]
+object_below count (o ∷ os) n all = grind (arith, object_below count os n all.1)
 
 -- the queue of the reference of this number, or in this slot, is below the count
 pub registered_below : (w : World) (n : ℕ) → IsSound w
@@ -92,18 +88,11 @@ abbrev pub NamesBelow : ℕ → World → Type 0
 NamesBelow count = Carries (ObjectBelow count) (IsBelow count) AnyCycle
 
 pub below_lasts : (count : ℕ) → Lasts (ObjectBelow count)
-below_lasts count = record {
-  stores = λ o i value below. below;
-  clears = λ o below. cleared_below count o.reference below;
-  gets = λ o clock below. got_below count clock o.reference below;
-}
+below_lasts count = search (cleared_below, got_below)
 
 all_own : (count q : ℕ) (ns : List Notice) → q < count → AllByRecursion (IsOwn q) ns → AllByRecursion (IsBelow count) ns
 all_own count q [] within all = tt
-all_own count q (notice ∷ ns) within all = (
-  (let own : notice.queue ≡ q = all.0 in omega (arith, own, within)),
-  all_own count q ns within all.1,
-)
+all_own count q (notice ∷ ns) within all = grind (arith, all_own count q ns within all.1)
 
 -- a sound world names no queue that isn't there
 pub names_below : (w : World) → IsSound w → NamesBelow w.heap.config.queues w
@@ -211,12 +200,4 @@ no_pending_below bound (suc count) zero = tt
 no_pending_below bound (suc count) (suc k) = no_pending_below bound count k
 
 pub first_sound : (config : Config) → IsSound (first_world config)
-first_sound config = record {
-  mutator_hands = length-replicate config.mutators None;
-  worker_hands = length-replicate config.workers None;
-  queues = length-new_queues Notice 0 config.queues;
-  objects_below = tt;
-  hands_below = λ who. subst (NoticeBelow config.queues) (sym (first_hand config who)) tt;
-  pending_below = no_pending_below config.queues config.workers;
-  own = λ q. rw (first_queue config q) tt;
-}
+first_sound config = search (length-replicate, length-new_queues, first_hand, no_pending_below, first_queue)

@@ -1,9 +1,8 @@
 -- What a map from numbers to stored objects says of the list of objects that a contract sees.
-use Rattle.std.proofs.Common.{◌≡◌, ℕ, ◌+◌, ◌<◌, true, false, ◌||◌, ◌==◌, nat_eq, nat_lt, refl, sym, ap, ◌∙◌, arith}
+use Rattle.std.proofs.Common.{◌≡◌, ℕ, ◌+◌, ◌<◌, true, false, ◌==◌, nat_eq, nat_lt, refl, sym, ap, ◌∙◌, arith}
 use Rattle.std.proofs.Common.{List, [], ◌∷◌, ◌++◌, Option, Some, None, is_some, inl, inr, Bor, suc}
 use native.Mathlib.Numerals.{unary_clauses}
-use Rattle.std.proofs.lemmas.Bool.{cases_Bool, true≢false, false≢true, eq-eqb, eqb-true, ltb-true, ltb-false, ne_eqb}
-use Rattle.std.proofs.lemmas.Bool.{or_cases, or_left, or_right}
+use Rattle.std.proofs.lemmas.Bool.{cases_Bool, true≢false, false≢true, eqb-true, ltb-true, ne_eqb}
 use Rattle.std.proofs.lemmas.List.Sorted.{IsNonDecreasingBy-from_sort, list_any-IsPermutation}
 use Rattle.std.proofs.lemmas.Map.Keys.{IsDistinct-IsPermutation, IsStrictlyIncreasing-from_distinct}
 use Rattle.std.specs.Cmp.{nat_eq_equiv}
@@ -23,11 +22,7 @@ use Rattle.ref_base.proofs.HasLaws.{has-first, has-list_any}
 -- what stands behind a number is greater
 pub rising-above : (n : ℕ) (ns : List ℕ) → IsRising (n ∷ ns) → (m : ℕ) → has ns m ≡ true → n < m
 rising-above n [] rising m h = absurd (false≢true h)
-rising-above n (k ∷ ks) rising m h =
-    elim (or_cases (k == m) (has ks m) h) [
-      | inl first ↦ let same = eqb-true k m first in omega (arith, same, rising.0)
-      | inr later ↦ let above = rising-above k ks rising.1 m later in omega (arith, above, rising.0)
-    ]
+rising-above n (k ∷ ks) rising m h = grind (arith, rising-above k ks rising.1 m)
 
 pub rising-tail : (n : ℕ) (ns : List ℕ) → IsRising (n ∷ ns) → IsRising ns
 rising-tail n [] rising = tt
@@ -39,11 +34,7 @@ rising-cons n (m ∷ ms) above rising = (above m (has-first m ms), rising)
 
 -- what isn't above a number doesn't stand behind it
 pub rising-lacks : (n : ℕ) (ns : List ℕ) → IsRising (n ∷ ns) → (m : ℕ) → m < n + 1 → has ns m ≡ false
-rising-lacks n ns rising m below =
-    elim (cases_Bool (has ns m)) [
-      | inl later ↦ let above = rising-above n ns rising m later in absurd (omega arith)
-      | inr none ↦ none
-    ]
+rising-lacks n ns rising m below = grind (arith, rising-above)
 
 -- two lists that rise and have the same numbers are the same
 pub rising-same : (ms ns : List ℕ) → IsRising ms → IsRising ns → ((n : ℕ) → has ms n ≡ has ns n) → ms ≡ ns
@@ -51,27 +42,7 @@ rising-same [] [] ups downs same = refl
 rising-same [] (n ∷ ns) ups downs same = absurd (false≢true (same n ∙ has-first n ns))
 rising-same (m ∷ ms) [] ups downs same = absurd (true≢false (sym (has-first m ms) ∙ same m))
 rising-same (m ∷ ms) (n ∷ ns) ups downs same =
-    let among : (has (n ∷ ns) m) ≡ true = sym (same m) ∙ has-first m ms in
-    let back : (has (m ∷ ms) n) ≡ true = same n ∙ has-first n ns in
-    let first : m ≡ n = elim (or_cases (n == m) (has ns m) among) [
-      | inl is ↦ sym (eqb-true n m is)
-      | inr above ↦ elim (or_cases (m == n) (has ms n) back) [
-        | inl is ↦ eqb-true m n is
-        | inr below ↦
-            let up = rising-above n ns downs m above in
-            let down = rising-above m ms ups n below in
-            absurd (omega arith)
-      ]
-    ] in
-    let rest : (k : ℕ) → has ms k ≡ has ns k = λ k. elim (cases_Bool (m == k)) [
-      | inl is ↦
-          let number : m ≡ k = eqb-true m k is in
-          rising-lacks m ms ups k (omega arith) ∙ sym (rising-lacks n ns downs k (omega arith))
-      | inr other ↦
-          let turned : (n == k) ≡ false = ap (λ j. j == k) (sym first) ∙ other in
-          simp (other, turned) at (same k)
-    ] in
-    rw (first, rising-same ms ns (rising-tail m ms ups) (rising-tail n ns downs) rest) refl
+    grind (arith, has-first, eqb-true, rising-lacks, rising-same ms ns, eqb-true n m, eqb-true m n)
 
 pub rising_from_increasing : (ns : List ℕ) → IsStrictlyIncreasing ns → IsRising ns
 rising_from_increasing [] up = tt
@@ -104,11 +75,7 @@ is_there-has (o ∷ os) n =
 
 none_from_lacks : (os : List Object) (n : ℕ) → has (numbers os) n ≡ false → object_at os n ≡ None
 none_from_lacks [] n lacks = refl
-none_from_lacks (o ∷ os) n lacks =
-    elim (cases_Bool (o.no == n)) [
-      | inl same ↦ absurd (true≢false (simp same at lacks))
-      | inr other ↦ simp other (none_from_lacks os n (simp other at lacks))
-    ]
+none_from_lacks (o ∷ os) n lacks = grind (arith, none_from_lacks os n)
 
 -- among objects by number, one more is found where no other of its number was
 pub object_at-with_object : (os : List Object) (o : Object) (n : ℕ) → IsRising (numbers os)
@@ -141,81 +108,22 @@ object_at-with_object (p ∷ ps) o n rising =
       ]
     ]
 
-less_from_other : (m n : ℕ) → m < n + 1 → (m == n) ≡ false → m < n
-less_from_other m n most other =
-    elim (cases_Bool (nat_lt m n)) [
-      | inl below ↦ ltb-true m n below
-      | inr above ↦
-          let least = ltb-false m n above in
-          let same : m ≡ n = omega arith in
-          absurd (true≢false (sym (eq-eqb m n same) ∙ other))
-    ]
-
 with_object-only : (os : List Object) (o : Object) (n m : ℕ) → n < o.no
     → ((k : ℕ) → has (numbers os) k ≡ true → n < k) → has (numbers (with_object os o)) m ≡ true → n < m
-with_object-only [] o n m before above h =
-    elim (or_cases (o.no == m) false h) [
-      | inl same ↦ let number = eqb-true o.no m same in omega (arith, number)
-      | inr none ↦ absurd (false≢true none)
-    ]
-with_object-only (p ∷ ps) o n m before above h =
-    elim (cases_Bool (nat_lt o.no p.no)) [
-      | inl below ↦
-          let either : ((o.no == m) || has (numbers (p ∷ ps)) m) ≡ true = simp below at h in
-          elim (or_cases (o.no == m) (has (numbers (p ∷ ps)) m) either) [
-            | inl same ↦ let number = eqb-true o.no m same in omega (arith, number)
-            | inr later ↦ above m later
-          ]
-      | inr not_below ↦ elim (cases_Bool (p.no == o.no)) [
-        | inl same ↦ above m (simp (not_below, same) at h)
-        | inr different ↦
-            let either : ((p.no == m) || has (numbers (with_object ps o)) m) ≡ true =
-            simp (not_below, different) at h in
-            elim (or_cases (p.no == m) (has (numbers (with_object ps o)) m) either) [
-              | inl same ↦ above m (or_left (p.no == m) (has (numbers ps) m) same)
-              | inr later ↦
-                  with_object-only ps o n m before (λ k i. above k (or_right (p.no == k) (has (numbers ps) k) i)) later
-            ]
-      ]
-    ]
+with_object-only [] o n m before above h = grind arith
+with_object-only (p ∷ ps) o n m before above h = grind (arith, with_object-only ps o n m before)
 
 -- numbers still rise
 pub rising-with_object : (os : List Object) (o : Object) → IsRising (numbers os) → IsRising (numbers (with_object os o))
 rising-with_object [] o rising = tt
 rising-with_object (p ∷ ps) o rising =
-    elim (cases_Bool (nat_lt o.no p.no)) [
-      | inl below ↦ simp below (ltb-true o.no p.no below, rising)
-      | inr above ↦ elim (cases_Bool (p.no == o.no)) [
-        | inl same ↦ simp (above, same) rising
-        | inr different ↦
-            let most = ltb-false o.no p.no above in
-            let least : p.no < o.no = less_from_other p.no o.no (omega arith) different in
-            simp (above, different)
-            (rising-cons p.no (numbers (with_object ps o))
-            (λ m. with_object-only ps o p.no m least (rising-above p.no (numbers ps) rising))
-            (rising-with_object ps o (rising-tail p.no (numbers ps) rising)))
-      ]
-    ]
+    grind (arith, rising-cons, rising-above, rising-with_object ps o, with_object-only ps o p.no)
 
 -- where its number is there, an object isn't added
 pub with_object-same : (os : List Object) (o : Object) → IsRising (numbers os) → is_there os o.no ≡ true
     → with_object os o ≡ os
 with_object-same [] o rising there = absurd (false≢true there)
-with_object-same (p ∷ ps) o rising there =
-    elim (cases_Bool (nat_lt o.no p.no)) [
-      | inl below ↦
-          let less : o.no < p.no = ltb-true o.no p.no below in
-          let other : (p.no == o.no) ≡ false = ne_eqb p.no o.no (λ same. omega arith) in
-          let later : is_there ps o.no ≡ true = simp other at there in
-          let none = rising-lacks p.no (numbers ps) rising o.no (omega arith) in
-          absurd (true≢false (sym later ∙ is_there-has ps o.no ∙ none))
-      | inr above ↦ elim (cases_Bool (p.no == o.no)) [
-        | inl same ↦ simp (above, same) refl
-        | inr other ↦
-            simp (above, other) (ap (λ os. p ∷ os)
-            (with_object-same ps o (rising-tail p.no (numbers ps) rising) (simp other at there)))
-      ]
-    ]
+with_object-same (p ∷ ps) o rising there = grind (arith, rising-lacks, is_there-has, with_object-same ps o)
 
 -- ---- the objects that are stored
 
@@ -286,24 +194,13 @@ pub stored-last : (es new : List (ℕ × Stored)) (n : ℕ) (s : Stored) (fields
     → new ≡ es ++ (n, s) ∷ []
     → objects_in new ≡ with_object (objects_in es)
     (record { no = n; fields = fields; reference = linked_reference s.link })
-stored-last es new n s fields held is =
-    ap objects_in is ∙ placed-last [] es (n, s)
-    ∙ ap (λ (fs : List (Option ℕ)).
-    with_object (objects_in es) (record { no = n; fields = fs; reference = linked_reference s.link })) held
+stored-last es new n s fields held is = grind (arith, placed-last)
 
 -- ---- the numbers by size
 
 lookup-keys : (es : List (ℕ × Stored)) (n : ℕ) → is_some (lookup (nat_eq n) es) ≡ has (keys_of es) n
 lookup-keys [] n = refl
-lookup-keys (e ∷ es) n =
-    elim (cases_Bool (e.0 == n)) [
-      | inl same ↦
-          let found : nat_eq n e.0 ≡ true = nat_eq_equiv.symm n e.0 ∙ same in
-          simp (same, found) refl
-      | inr other ↦
-          let passed : nat_eq n e.0 ≡ false = nat_eq_equiv.symm n e.0 ∙ other in
-          simp (other, passed) (lookup-keys es n)
-    ]
+lookup-keys (e ∷ es) n = grind (arith, lookup-keys es n)
 
 -- the map's numbers, sorted, are those of the objects
 pub numbers_from_sorted : (es : List (ℕ × Stored)) (ns : List ℕ) → IsDistinct nat_eq (keys_of es)

@@ -1,18 +1,18 @@
 -- Each number has exactly one strength, and it is read off what was found.
-use Rattle.std.proofs.Common.{◌≡◌, ℕ, ◌+◌, ◌<◌, ◌≤◌, true, false, refl, sym, ap, subst, ◌∙◌, ◌==◌, nat_eq, arith, List}
+use Rattle.std.proofs.Common.{◌≡◌, ℕ, ◌+◌, ◌<◌, ◌≤◌, true, false, refl, sym, ap, subst, ◌∙◌, nat_eq, arith, List}
 use Rattle.std.proofs.Common.{[], ◌∷◌, length, map, take, Option, Some, None, inl, inr}
 use Rattle.std.proofs.lemmas.Bool.{cases_Bool, true≢false, false≢true}
 use Rattle.std.proofs.lemmas.List.{take-take}
 use Rattle.std.specs.List.{AllByRecursion, position}
-use Rattle.ref_base.proofs.Common.{has, Graph, Object, Reference, object_at, is_there, numbers, Allowed, EndsPath}
-use Rattle.ref_base.proofs.Common.{no_referents, soft_referents, soft_and_weak_referents, if_any, is_phantom}
+use Rattle.ref_base.proofs.Common.{has, Graph, Object, object_at, is_there, numbers, Allowed, EndsPath}
+use Rattle.ref_base.proofs.Common.{no_referents, soft_referents, soft_and_weak_referents, if_any}
 use Rattle.ref_base.proofs.Common.{HasStrength, HangsOnPhantom, IsRising, ArePathEnds, added_all, phantom_referents}
 use Rattle.ref_base.proofs.Common.{Reach, Strong, Soft, Phantom, Unreachable}
-use Rattle.ref_base.specs.Strengths.{IsPhantomObjectTo, IsPhantomReferenceTo, AreStrengths}
-use Rattle.ref_base.specs.Searches.{AreSearched, found_reach, found_reaches, phantom_referent, phantom_referent_at}
+use Rattle.ref_base.specs.Strengths.{IsPhantomObjectTo, AreStrengths}
+use Rattle.ref_base.specs.Searches.{AreSearched, found_reach, found_reaches}
 use Rattle.ref_base.specs.declared.reach.Reach.TheVariants.{Weak}
 use Rattle.ref_base.specs.declared.reach.ObjectReach.{ObjectReach}
-use Rattle.ref_base.proofs.HasLaws.{has-cases, has-first, has-front, has-left, has-right, has-single, has-take}
+use Rattle.ref_base.proofs.HasLaws.{has-first, has-front, has-right, has-single, has-take}
 use Rattle.ref_base.proofs.HasLaws.{lacks-front, lacks-take}
 use Rattle.ref_base.proofs.PathLaws.{ends-wider}
 use Rattle.ref_base.proofs.SearchLaws.{reached, added_all-only, added_all-has, length-front}
@@ -24,61 +24,20 @@ pub if_any-has : (o : Option ℕ) (n : ℕ) → has (if_any o) n ≡ true → o 
 if_any-has None n h = absurd (false≢true h)
 if_any-has (Some m) n h = ap (λ k. Some k) (has-single m n h)
 
-pub phantom_referent-sound : (r : Option Reference) (n : ℕ) → has (phantom_referent r) n ≡ true
-    → IsPhantomReferenceTo n r
-phantom_referent-sound None n h = absurd (false≢true h)
-phantom_referent-sound (Some r) n h =
-    elim (cases_Bool (is_phantom r.strength)) [
-      | inl phantom ↦ (phantom, if_any-has r.referent n (simp phantom at h))
-      | inr other ↦ absurd (false≢true (simp other at h))
-    ]
-
-pub phantom_referent-complete : (r : Option Reference) (n : ℕ) → IsPhantomReferenceTo n r
-    → has (phantom_referent r) n ≡ true
-phantom_referent-complete None n h = absurd h
-phantom_referent-complete (Some r) n h = simp (h.0, h.1) (has-first n [])
-
-pub phantom_referent_at-sound : (o : Option Object) (n : ℕ) → has (phantom_referent_at o) n ≡ true
-    → IsPhantomObjectTo n o
-phantom_referent_at-sound None n h = absurd (false≢true h)
-phantom_referent_at-sound (Some o) n h = phantom_referent-sound o.reference n h
-
-pub phantom_referent_at-complete : (o : Option Object) (n : ℕ) → IsPhantomObjectTo n o
-    → has (phantom_referent_at o) n ≡ true
-phantom_referent_at-complete None n h = absurd h
-phantom_referent_at-complete (Some o) n h = phantom_referent-complete o.reference n h
-
 pub phantom_referents-sound : (os : List Object) (ms : List ℕ) (n : ℕ) → has (phantom_referents os ms) n ≡ true
     → (m : ℕ) × (has ms m ≡ true) × IsPhantomObjectTo n (object_at os m)
 phantom_referents-sound os [] n h = absurd (false≢true h)
-phantom_referents-sound os (m ∷ ms) n h =
-    elim (has-cases (phantom_referent_at (object_at os m)) (phantom_referents os ms) n h) [
-      | inl here ↦ (m, has-first m ms, phantom_referent_at-sound (object_at os m) n here)
-      | inr later ↦
-          let found = phantom_referents-sound os ms n later in
-          (found.0, has-right (m ∷ []) ms found.0 found.1, found.2)
-    ]
+phantom_referents-sound os (m ∷ ms) n h = grind (arith, has-right, phantom_referents-sound os ms n)
 
 pub phantom_referents-complete : (os : List Object) (ms : List ℕ) (n m : ℕ) → has ms m ≡ true
     → IsPhantomObjectTo n (object_at os m) → has (phantom_referents os ms) n ≡ true
 phantom_referents-complete os [] n m h phantom = absurd (false≢true h)
-phantom_referents-complete os (k ∷ ks) n m h phantom =
-    elim (has-cases (k ∷ []) ks m h) [
-      | inl here ↦
-          has-left (phantom_referent_at (object_at os k)) (phantom_referents os ks) n
-          (phantom_referent_at-complete (object_at os k) n
-          (subst (λ j. IsPhantomObjectTo n (object_at os j)) (sym (has-single k m here)) phantom))
-      | inr later ↦
-          has-right (phantom_referent_at (object_at os k)) (phantom_referents os ks) n
-          (phantom_referents-complete os ks n m later phantom)
-    ]
+phantom_referents-complete os (k ∷ ks) n m h phantom = grind (arith, phantom_referents-complete os ks n m)
 
 module _ (g : Graph) (weak : List ℕ) (all : ArePathEnds soft_and_weak_referents g weak) where
   -- what the phantom references among all weakly reachable objects refer to hangs on one
   pub hangs-sound : (n : ℕ) → has (phantom_referents g.objects weak) n ≡ true → HangsOnPhantom g n
-  hangs-sound n h =
-      let found = phantom_referents-sound g.objects weak n h in
-      (found.0, all.sound found.0 found.1, found.2)
+  hangs-sound n h = grind (arith, phantom_referents-sound)
 
   pub hangs-complete : (n : ℕ) → HangsOnPhantom g n → has (phantom_referents g.objects weak) n ≡ true
   hangs-complete n h = phantom_referents-complete g.objects weak n h.0 (all.complete h.0 h.1) h.2
@@ -190,17 +149,11 @@ module _ (reached hung : List ℕ) (strong soft n place : ℕ) (at : Some place 
 module _ (reached hung : List ℕ) (strong soft n : ℕ) (none : has reached n ≡ false) where
   pub found-phantom : has hung n ≡ true
       → Phantom ≡ found_reach (take strong reached) (take soft reached) reached hung n
-  found-phantom hangs =
-      let not_strong = lacks-take strong reached n none in
-      let not_soft = lacks-take soft reached n none in
-      simp (not_strong, not_soft, none, hangs) refl
+  found-phantom hangs = grind (arith, lacks-take)
 
   pub found-nowhere : has hung n ≡ false
       → Unreachable ≡ found_reach (take strong reached) (take soft reached) reached hung n
-  found-nowhere hangs =
-      let not_strong = lacks-take strong reached n none in
-      let not_soft = lacks-take soft reached n none in
-      simp (not_strong, not_soft, none, hangs) refl
+  found-nowhere hangs = grind (arith, lacks-take)
 
 -- each number has a strength
 pub some_strength : (g : Graph) (n : ℕ) → (reach : Reach) × HasStrength g n reach
@@ -218,29 +171,14 @@ some_strength g n =
 pub AreFound-reach : (g : Graph) (strong soft weak hung : List ℕ) → AreSearched g strong soft weak hung → (n : ℕ)
     → is_there g.objects n ≡ true → (reach : Reach) → reach ≡ found_reach strong soft weak hung n
     → HasStrength g n reach
-AreFound-reach g strong soft weak hung found n there reach is =
-    subst (HasStrength g n) (sym is)
-    (found_is g strong soft weak hung found.strong_reached found.soft_reached found.weak_reached n
-    (found.hung_sound n) (found.hung_complete n there))
+AreFound-reach g strong soft weak hung found n there reach is = grind (arith, found_is)
 
 -- and the pass over the last finds what hangs on phantom references, of what is there
 AreFound_from : (g : Graph) (strong soft weak hung : List ℕ) → ArePathEnds no_referents g strong
     → ArePathEnds soft_referents g soft → ArePathEnds soft_and_weak_referents g weak
     → hung ≡ added_all g.objects [] (phantom_referents g.objects weak) → AreSearched g strong soft weak hung
 AreFound_from g strong soft weak hung strong_all soft_all weak_all is =
-    let referents : List ℕ = phantom_referents g.objects weak in
-    record {
-      strong_reached = strong_all;
-      soft_reached = soft_all;
-      weak_reached = weak_all;
-      hung_sound = λ n h. elim (added_all-only g.objects referents [] n (subst (λ ns. has ns n ≡ true) is h)) [
-        | inl none ↦ absurd (false≢true none)
-        | inr found ↦ hangs-sound g weak weak_all n found.0
-      ];
-      hung_complete = λ n there hangs.
-          subst (λ ns. has ns n ≡ true) (sym is)
-          (added_all-has g.objects referents [] n (hangs-complete g weak weak_all n hangs) there);
-    }
+    grind (arith, added_all-only, hangs-sound, added_all-has, hangs-complete)
 
 -- a search that goes on twice finds what three searches do, as fronts of its list
 pub AreFound_fronts : (g : Graph) (strong soft weak hung : List ℕ) → ArePathEnds no_referents g strong
@@ -249,23 +187,14 @@ pub AreFound_fronts : (g : Graph) (strong soft weak hung : List ℕ) → ArePath
     → hung ≡ added_all g.objects [] (phantom_referents g.objects weak)
     → AreSearched g (take (length strong) weak) (take (length soft) weak) weak hung
 AreFound_fronts g strong soft weak hung strong_all soft_all weak_all front later is =
-    let shorter = length-front strong soft front in
-    let first : take (length strong) weak ≡ strong =
-    sym (take-take (length strong) (length soft) weak shorter) ∙ ap (take (length strong)) later ∙ front in
-    rw (first, later) (AreFound_from g strong soft weak hung strong_all soft_all weak_all is)
+    grind (arith, length-front, take-take, AreFound_from g strong soft weak hung strong_all soft_all weak_all is)
 
 -- ---- the strengths of all objects
 
 -- each number of an object is there
 pub there_from_numbers : (os : List Object) (n : ℕ) → has (numbers os) n ≡ true → is_there os n ≡ true
 there_from_numbers [] n h = h
-there_from_numbers (o ∷ os) n h =
-    elim (cases_Bool (o.no == n)) [
-      | inl same ↦ simp same refl
-      | inr other ↦
-          let rest : has (numbers os) n ≡ true = simp other at h in
-          simp other (there_from_numbers os n rest)
-    ]
+there_from_numbers (o ∷ os) n h = grind (arith, there_from_numbers os n)
 
 module _ (g : Graph) (strong soft weak hung : List ℕ) where
   pub found_reaches-objects : (ns : List ℕ) → map (λ l. l.object) (found_reaches strong soft weak hung ns) ≡ ns
@@ -276,21 +205,9 @@ module _ (g : Graph) (strong soft weak hung : List ℕ) where
     pub found_reaches-each : (ns : List ℕ) → ((n : ℕ) → has ns n ≡ true → is_there g.objects n ≡ true)
         → AllByRecursion (λ l. HasStrength g l.object l.reach) (found_reaches strong soft weak hung ns)
     found_reaches-each [] there = tt
-    found_reaches-each (n ∷ ns) there = (
-      AreFound-reach g strong soft weak hung found n (there n (has-first n ns))
-          (found_reach strong soft weak hung n) refl,
-      found_reaches-each ns (λ m h. there m (has-right (n ∷ []) ns m h)),
-    )
+    found_reaches-each (n ∷ ns) there = search (AreFound-reach, has-first, found_reaches-each ns, has-right (n ∷ []) ns)
 
     -- the strengths that are read off what was found, by number, are those of all objects
     pub AreStrengths_from : (listed : List ObjectReach) → IsRising (numbers g.objects)
         → listed ≡ found_reaches strong soft weak hung (numbers g.objects) → AreStrengths g listed
-    AreStrengths_from listed rising is =
-        let objects : map (λ l. l.object) listed ≡ numbers g.objects =
-        ap (map (λ l. l.object)) is ∙ found_reaches-objects (numbers g.objects) in
-        record {
-          all = objects;
-          by_number = subst IsRising (sym objects) rising;
-          each = subst (AllByRecursion (λ l. HasStrength g l.object l.reach)) (sym is)
-              (found_reaches-each (numbers g.objects) (there_from_numbers g.objects));
-        }
+    AreStrengths_from listed rising is = grind (arith, found_reaches-objects, found_reaches-each, there_from_numbers)

@@ -1,6 +1,6 @@
 -- What is left of a list where some entries are taken out.
-use Rattle.std.proofs.Common.{◌≡◌, ℕ, true, ◌==◌, List, [], ◌∷◌, ◌++◌, ◌⊎◌, inl, inr, refl, sym, ap, subst}
-use Rattle.std.proofs.lemmas.Bool.{cases_Bool, eq-eqb, both_ways}
+use Rattle.std.proofs.Common.{arith}
+use Rattle.std.proofs.Common.{◌≡◌, ℕ, true, List, [], ◌∷◌, ◌++◌, ◌⊎◌, inl, inr, refl, sym, ap, subst}
 use Rattle.std.proofs.lemmas.List.{append-nil}
 use Rattle.ref_base.proofs.Common.{is_subsequence}
 
@@ -59,20 +59,4 @@ sub_tail m ms ns sub = sub_through ms (m ∷ ms) ns (inl (sub_all ms)) sub
 pub sub_is : (ms ns : List ℕ) → Sub ms ns → is_subsequence ms ns ≡ true
 sub_is [] ns sub = refl
 sub_is (m ∷ ms) [] sub = absurd cc
-sub_is (m ∷ ms) (n ∷ ns) sub =
-    elim (cases_Bool (m == n)) [
-      | inl same ↦
-          elim sub [
-            | inl passed ↦ simp same (sub_is ms ns (sub_tail m ms ns passed))
-            | inr taken ↦
-                let rest : ms ≡ taken.0 = let all : m ∷ ms ≡ n ∷ taken.0 = taken.1 in cc in
-                simp same (sub_is ms ns (subst (λ (l : List ℕ). Sub l ns) (sym rest) taken.2))
-          ]
-      | inr other ↦
-          elim sub [
-            | inl passed ↦ simp other (sub_is (m ∷ ms) ns passed)
-            | inr taken ↦
-                let first : m ≡ n = let all : m ∷ ms ≡ n ∷ taken.0 = taken.1 in cc in
-                absurd (both_ways (m == n) other (eq-eqb m n first))
-          ]
-    ]
+sub_is (m ∷ ms) (n ∷ ns) sub = grind (arith, sub_tail, sub_is ms ns, sub_is (m ∷ ms) ns)

@@ -1,15 +1,15 @@
 -- Want of memory is answered by puts alone.
-use Rattle.std.proofs.Common.{◌≡◌, ℕ, Bool, true, false, List, [], ◌∷◌, Option, Some, None, refl, sym, ap, ◌∙◌, inl}
-use Rattle.std.proofs.Common.{inr}
-use Rattle.std.specs.Prelude.{is_some, nat_lt, nat_le, length, ◌^◌, ◌-◌}
-use Rattle.std.proofs.lemmas.Bool.{cases_Bool, false≢true}
-use Rattle.ref_base.proofs.Common.{has, Reference, object_at, Heap, reference_at, NamedStep, heap_step, Notice, Pending}
+use Rattle.std.proofs.Common.{arith}
+use Rattle.std.proofs.Common.{◌≡◌, ℕ, Bool, true, false, List, [], ◌∷◌, Option, Some, None, refl, sym, ap, ◌∙◌}
+use Rattle.std.specs.Prelude.{is_some, nat_lt, length, ◌^◌, ◌-◌}
+use Rattle.std.proofs.lemmas.Bool.{false≢true}
+use Rattle.ref_base.proofs.Common.{Reference, object_at, Heap, reference_at, NamedStep, heap_step, Notice, Pending}
 use Rattle.ref_base.proofs.Common.{queue_at, State, unless, unless_empty, unless_full, field_count, object_refusal}
 use Rattle.ref_base.proofs.Common.{field_refusal, reference_refusal, holds_refusal, minting_refusal, unhook_refusal}
 use Rattle.ref_base.proofs.Common.{hand_refusal, held_refusal, is_in, empty_hand_refusal, heap_refusal, asked_refusal}
 use Rattle.ref_base.proofs.Common.{refusal, Gives, GivesAnewIf, Loads, Gets, Unhooks, Holds, Polls, Closes, Scans}
-use Rattle.ref_base.proofs.Common.{ClearsNext, HandsOn, Sweeps, referent_of, looked_at, value_reply, HeapAccepts}
-use Rattle.ref_base.proofs.Common.{AcceptsAsking, IsAnswer, IsRow, Fault, NoMemory, BadField, NumbersSpent, NoCell}
+use Rattle.ref_base.proofs.Common.{ClearsNext, HandsOn, Sweeps, looked_at, value_reply, HeapAccepts}
+use Rattle.ref_base.proofs.Common.{AcceptsAsking, IsAnswer, IsRow, Fault, NoMemory, BadField, NumbersSpent}
 use Rattle.ref_base.proofs.Common.{NotAReference, Actor, Marking, Reply, Step}
 use Rattle.ref_base.specs.declared.heap_step.HeapStep.TheVariants as heap
 use Rattle.ref_base.specs.declared.reply.Reply.TheVariants as replies
@@ -31,10 +31,7 @@ no_want true fault later other none = none
 no_want false fault later other none = other
 
 object_wants : (h : Heap) (next k : ℕ) → wants (object_refusal h next k) ≡ false
-object_wants h next k =
-    no_want (nat_le k 8) BadField _ refl
-    (no_want (nat_lt next (2 ^ 32)) NumbersSpent _ refl
-    (no_want (nat_lt (length h.objects) h.config.cells) NoCell None refl refl))
+object_wants h next k = search no_want
 
 field_wants : (h : Heap) (held : Option ℕ) (i : ℕ) → wants (field_refusal h held i) ≡ false
 field_wants h None i = refl
@@ -49,11 +46,7 @@ holds_wants h = no_want (nat_lt (length h.holds) (2 ^ 64 - 1)) NumbersSpent None
 
 minting_wants : (h : Heap) (r : Option Reference) → wants (minting_refusal h r) ≡ false
 minting_wants h None = refl
-minting_wants h (Some r) =
-    elim (cases_Bool (is_some r.queue)) [
-      | inl registered ↦ simp registered (holds_wants h)
-      | inr other ↦ simp other refl
-    ]
+minting_wants h (Some r) = grind arith
 
 unhook_wants : (h : Heap) (held : Option ℕ) → wants (unhook_refusal h held) ≡ false
 unhook_wants h None = refl
@@ -134,14 +127,7 @@ hold_tells a None reply b holds = absurd holds
 hold_tells a (Some n) reply b gives = told gives.0 refl
 
 look_tells : (a : State) (k n : ℕ) → tells_want (looked_at a k n) ≡ false
-look_tells a k n =
-    elim (cases_Bool (has a.cleared n)) [
-      | inl clears ↦ simp clears refl
-      | inr other ↦ elim (cases_Bool (is_some (referent_of (reference_at a.world.heap n)))) [
-        | inl refers ↦ simp (other, refers) refl
-        | inr none ↦ simp (other, none) refl
-      ]
-    ]
+look_tells a k n = grind arith
 
 clear_tells : (a : State) (k : ℕ) (found : List ℕ) (reply : Reply) (b : State) → ClearsNext a k found reply b
     → tells_want reply ≡ false
@@ -189,11 +175,7 @@ accepted_tells a step reply b gives =
 
 poll_tells : (a : State) (m q : ℕ) (stands : List Notice) (reply : Reply) (b : State) → Polls a m q stands reply b
     → tells_want reply ≡ false
-poll_tells a m q [] reply b gives =
-    elim (cases_Bool (queue_at a.world q).closed) [
-      | inl shut ↦ told (simp shut at gives.0) refl
-      | inr open_yet ↦ told (simp open_yet at gives.0) refl
-    ]
+poll_tells a m q [] reply b gives = grind arith
 poll_tells a m q (notice ∷ rest) reply b gives = told gives.0 refl
 
 close_tells : (a : State) (q : ℕ) (closed : Bool) (reply : Reply) (b : State) → Closes a q closed reply b

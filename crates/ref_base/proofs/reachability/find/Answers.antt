@@ -1,3 +1,4 @@
+use Rattle.std.proofs.Common.{arith}
 use Rattle.std.proofs.Common.{refl}
 use Rattle.std.proofs.lemmas.Bool.{false≢true}
 use Rattle.ref_base.proofs.Common.{no_referents, soft_referents, soft_and_weak_referents}
@@ -24,7 +25,7 @@ go_on-requires-3 g c =
 
 pub returns : goal.returns
 returns g c =
-    rw (c.len-strong.ensures.len, c.len-soft.ensures.len)
-    (AreFound_fronts c.args.graph.now c.go_on.new.seen.keys c.go_on-2.new.seen.keys c.go_on-3.new.seen.keys
-    c.in_ok-hung.hung.keys c.in_ok-go_on.ensures.reached c.in_ok-go_on-2.ensures.reached
-    c.in_ok-go_on-3.ensures.reached c.in_ok-go_on-2.ensures.kept c.in_ok-go_on-3.ensures.kept c.in_ok-hung.ensures)
+    grind (
+      arith,
+      AreFound_fronts c.args.graph.now c.go_on.new.seen.keys c.go_on-2.new.seen.keys c.go_on-3.new.seen.keys c.in_ok-hung.hung.keys c.in_ok-go_on.ensures.reached c.in_ok-go_on-2.ensures.reached c.in_ok-go_on-3.ensures.reached c.in_ok-go_on-2.ensures.kept c.in_ok-go_on-3.ensures.kept c.in_ok-hung.ensures,
+    )

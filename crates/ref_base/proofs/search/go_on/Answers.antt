@@ -1,25 +1,12 @@
 use Rattle.std.proofs.Common.{◌≡◌, ◌<◌, ◌≤◌, length, get_or, arith, refl}
-use Rattle.ref_base.proofs.Common.{object_at, targets_at, allowed, added_all, searched_referents}
+use Rattle.ref_base.proofs.Common.{targets_at, allowed, added_all}
 use Rattle.ref_base.proofs.SearchLaws.{added_all-take, referent_alone, searched_more, searched_all, work_left-less}
 use Rattle.ref_base.proofs.HasLaws.{get_or-number}
 use Rattle.ref_base.proofs.search.go_on.Goals.{then-next-closed+in_ok-add_referent, else-next-closed+in_ok-add_targets}
 use Rattle.ref_base.proofs.search.go_on.Goals as goal
 
 pub loop-next-smaller : goal.loop-next-smaller
-loop-next-smaller g c =
-    let within : c.loop-next.next < length c.loop-next.seen.keys = omega arith in
-    elim c.if-next-closed.branch [
-      | then-next-closed+in_ok-add_referent w ↦
-          rw w.seen-is
-          (work_left-less c.args.graph.now
-          (searched_referents (allowed c.args.allow) (object_at c.args.graph.now.objects c.index-as_slice-next.result))
-          c.loop-next.seen.keys w.add_referent.new.seen.keys c.loop-next.next within w.in_ok-add_referent.ensures)
-      | else-next-closed+in_ok-add_targets w ↦
-          rw w.seen-is
-          (work_left-less c.args.graph.now
-          (targets_at (allowed c.args.allow) c.args.graph.now.objects c.index-as_slice-next.result)
-          c.loop-next.seen.keys w.add_targets.new.seen.keys c.loop-next.next within w.in_ok-add_targets.ensures)
-    ]
+loop-next-smaller g c = grind (arith, work_left-less)
 
 pub loop-next-preserved : goal.loop-next-preserved
 loop-next-preserved g c =

@@ -1,3 +1,4 @@
+use Rattle.std.proofs.Common.{arith}
 use Rattle.std.proofs.Common.{◌≡◌, ◌∙◌, nat_eq, Some, subst, sym}
 use Rattle.std.proofs.lemmas.Bool.{eqb-true}
 use Rattle.std.specs.Map.{lookup}
@@ -15,5 +16,4 @@ returns-in-Some g c =
 
 pub returns-in_default : goal.returns-in_default
 returns-in_default g c =
-    rw (← c.self.view_is)
-    (object_at-stored c.self.inside.objects.entries c.args.no c.get.result c.get.ensures.value)
+    grind (arith, object_at-stored c.self.inside.objects.entries c.args.no c.get.result c.get.ensures.value)
