@@ -1,20 +1,14 @@
 -- What workers found is there and isn't doomed, and once a sweep has begun nothing that stays refers to the doomed.
-use Rattle.std.proofs.Common.{◌≡◌, ℕ, true, false, not, ◌&&◌, refl, sym, ap, ◌∙◌}
-use Rattle.std.proofs.lemmas.Bool.{and_parts, and_right, or_right, true≢false, false_from_ne_true}
+use Rattle.std.proofs.Common.{arith}
+use Rattle.std.proofs.Common.{◌≡◌, ℕ, true, false, refl}
 use Rattle.ref_clear.proofs.Common.{has, is_there, refers_into, reference_at, is_in, State, joined, Clearing, Sweeping}
 use Rattle.ref_clear.proofs.Common.{CycleHeap, is_white, is_black, is_past_mark, is_doomed, ClearHeap, HeapStands}
 use Rattle.ref_base.proofs.NewClears.{refers_into-same}
-use Rattle.ref_mark.proofs.DoomedLists.{past_is_in_cycle, past_is_not_marking}
-use Rattle.ref_mark.proofs.Moves.{referring_is_there}
-use Rattle.ref_mark.proofs.RootFacts.{not_white_is_black}
 
 -- what is black is there, and isn't white
 pub black_parts : (k : CycleHeap) (n : ℕ) → is_black k n ≡ true
     → (is_there k.heap.objects n ≡ true) × (is_white k n ≡ false)
-black_parts k n black =
-    let parts = and_parts (is_there k.heap.objects n) (has k.marked n && not (has k.grey n)) black in
-    let marked : has k.marked n ≡ true = (and_parts (has k.marked n) (not (has k.grey n)) parts.1).0 in
-    (parts.0, and_right (is_there k.heap.objects n) (not (has k.marked n)) (ap not marked))
+black_parts k n black = grind arith
 
 -- once a mark has ended, the doomed are the white
 pub past_refers : (k : CycleHeap) (n : ℕ) → is_past_mark k.phase ≡ true
@@ -31,23 +25,11 @@ found_is_there c a n stands clearing found =
 
 pub found_is_not_doomed : (c : ClearHeap) (a : State) (n : ℕ) → HeapStands c a → is_in c.mark.phase Clearing ≡ true
     → has (joined c.mark.found) n ≡ true → is_doomed c.mark n ≡ false
-found_is_not_doomed c a n stands clearing found =
-    and_right (is_past_mark c.mark.phase) (is_white c.mark n)
-    (black_parts c.mark n ((stands.mark.clearing clearing).black n found)).1
+found_is_not_doomed c a n stands clearing found = grind arith
 
 -- ---- what is left once a sweep has begun
 
 pub nothing_refers_to_the_doomed : (c : ClearHeap) (a : State) (n : ℕ) → HeapStands c a
     → is_in c.mark.phase Sweeping ≡ true → is_doomed c.mark n ≡ false
     → refers_into (is_doomed c.mark) (reference_at c.mark.heap n) ≡ false
-nothing_refers_to_the_doomed c a n stands sweeping stays =
-    let k = c.mark in
-    let past : is_past_mark k.phase ≡ true = or_right (is_in k.phase Clearing) (is_in k.phase Sweeping) sweeping in
-    let other : is_white k n ≡ false = simp past at stays in
-    past_refers k n past
-    ∙ false_from_ne_true (refers_into (is_white k) (reference_at k.heap n))
-    (λ refers.
-    let black : is_black k n ≡ true =
-    not_white_is_black k a stands.mark (past_is_in_cycle k.phase past) (past_is_not_marking k.phase past) n
-    (referring_is_there (is_white k) k.heap n refers) other in
-    true≢false (sym refers ∙ (stands.mark.sweeping sweeping).none_left n black))
+nothing_refers_to_the_doomed c a n stands sweeping stays = grind arith

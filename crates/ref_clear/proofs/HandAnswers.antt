@@ -1,4 +1,5 @@
 -- What the code of a hand answers and leaves.
+use Rattle.std.proofs.Common.{arith}
 use Rattle.std.proofs.Common.{◌≡◌, ℕ, ◌<◌, ◌==◌, true, refl, sym, ap, subst, ◌∙◌, List, [], ◌∷◌, set, get_or, Some}
 use Rattle.std.proofs.Common.{None, inl, inr}
 use Rattle.std.proofs.lemmas.Bool.{lt-ltb, or_right}
@@ -9,12 +10,12 @@ use Rattle.ref_clear.proofs.Common.{pending_lists_of, pendings_in, seen_heap, Ar
 use Rattle.ref_clear.proofs.Common.{Object, rest_of}
 use Rattle.ref_base.specs.declared.heap_step.HeapStep.TheVariants as heap
 use Rattle.ref_base.specs.declared.reply.Reply.TheVariants as replies
-use Rattle.ref_base.proofs.HasLaws.{has-first, has-right}
+use Rattle.ref_base.proofs.HasLaws.{has-right}
 use Rattle.ref_clear.specs.ClearViews.{first_pending}
 use Rattle.ref_objects.specs.Grounds.{Tag}
 use Rattle.ref_mark.specs.Worklists.{without_first_listed}
 use Rattle.ref_clear.proofs.HandRows.{pending_numbers-rest}
-use Rattle.ref_clear.proofs.NoticeAnswers.{mint_of_pending, mint_refused, minted}
+use Rattle.ref_clear.proofs.NoticeAnswers.{mint_of_pending, minted}
 use Rattle.ref_clear.proofs.PendingLists.{lists_of-set, stands_as_seen, has-replaced}
 
 abbrev pub rest_pending : List Pending → List Pending
@@ -31,11 +32,6 @@ has-rest : (ns : List ℕ) (n : ℕ) → has (rest_of ns) n ≡ true → has ns 
 has-rest [] n within = within
 has-rest (m ∷ ns) n within = or_right (m == n) (has ns n) within
 
--- a list by its first
-none_first : (ps : List Pending) → first_pending ps ≡ None → ps ≡ []
-none_first [] none = refl
-none_first (p ∷ ps) none = absurd (let wrong : Some p ≡ None = none in cc)
-
 some_first : (ps : List Pending) (p : Pending) → first_pending ps ≡ Some p → ps ≡ p ∷ rest_pending ps
 some_first [] p some = absurd (let wrong : None ≡ Some p = some in cc)
 some_first (q ∷ qs) p some =
@@ -50,9 +46,7 @@ module _ {k : CycleHeap} {lists : List Worklist} {swept_to : ℕ} (w : ℕ) (sou
   pub none_to_hand : pending_from (pending_at (seen_heap k lists) w) 0 ≡ None
       → (replies.Nothing ≡ answer_in (seen_heap k lists) (heap.Hand w))
       × (seen_heap k lists ≡ after_in (seen_heap k lists) (heap.Hand w))
-  none_to_hand none =
-      let is = none_first (pending_at (seen_heap k lists) w) none in
-      (simp (there, is) refl, simp (there, is) refl)
+  none_to_hand none = grind arith
 
   -- with a first that is pending, the mint of its hold decides
   module _ {p : Pending} (first : pending_from (pending_at (seen_heap k lists) w) 0 ≡ Some p) where
@@ -63,10 +57,7 @@ module _ {k : CycleHeap} {lists : List Worklist} {swept_to : ℕ} (w : ℕ) (sou
     pss = pending_lists_of k.heap.objects k.tags lists
 
     waits : has (pending_numbers pss) p.object ≡ true
-    waits =
-        let parts = pending_numbers-rest pss w p (rest_pending (pending_at (seen_heap k lists) w)) are in
-        ap (λ ns. has ns p.object) parts.2
-        ∙ has-right parts.0 (p.object ∷ parts.1) p.object (has-first p.object parts.1)
+    waits = grind (arith, pending_numbers-rest, has-right)
 
     refusal : refusal_in (seen_heap k lists) (heap.Hand w) ≡ mint_refusal (ground_of k) p.object
     refusal =
@@ -80,13 +71,7 @@ module _ {k : CycleHeap} {lists : List Worklist} {swept_to : ℕ} (w : ℕ) (sou
         → j ≡ after_mint_in k p.object
         → (replies.Refused fault ≡ answer_in (seen_heap k lists) (heap.Hand w))
         × (seen_heap j lists ≡ after_in (seen_heap k lists) (heap.Hand w)) × AreRegistered j.heap.objects lists
-    hand_refused {j} {fault} answer after =
-        let mint = mint_refused k p.object fault answer after in
-        let is : refusal_in (seen_heap k lists) (heap.Hand w) ≡ Some fault = refusal ∙ mint.0 in (
-          simp is refl,
-          ap (λ (i : CycleHeap). seen_heap i lists) mint.1 ∙ simp is refl,
-          subst (λ (i : CycleHeap). AreRegistered i.heap.objects lists) (sym mint.1) sound.registered,
-        )
+    hand_refused {j} {fault} answer after = grind (arith, refusal)
 
     pub handed : {j : CycleHeap} {l m : Worklist} {n : ℕ} → replies.Object n ≡ mint_answer_in k p.object
         → j ≡ after_mint_in k p.object → l ≡ get_or lists w l → m ≡ without_first_listed l

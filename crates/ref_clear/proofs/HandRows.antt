@@ -1,8 +1,9 @@
 -- The row of a hand: the first pending reference of a worker leaves its list, and there is one hold more of it.
+use Rattle.std.proofs.Common.{arith}
 use Rattle.std.proofs.Common.{◌≡◌, ℕ, zero, suc, true, ◌==◌, refl, sym, ap, subst, ◌∙◌, List, [], ◌∷◌, ◌++◌, map, None}
-use Rattle.std.proofs.Common.{inl, inr, append_assoc}
+use Rattle.std.proofs.Common.{inl, append_assoc}
 use Rattle.std.specs.Prelude.{slice_index_or, slice_set}
-use Rattle.std.proofs.lemmas.Bool.{or_right, true≢false, false_from_ne_true, eq-eqb}
+use Rattle.std.proofs.lemmas.Bool.{eq-eqb}
 use Rattle.std.proofs.lemmas.List.{length-set}
 use Rattle.ref_clear.proofs.Common.{has, AreDistinct, present, Heap, one_more, with_hold, World, Pending}
 use Rattle.ref_clear.proofs.Common.{pending_numbers, pending_of, handed_on, State, ticked, with_world, HandsOn}
@@ -24,20 +25,12 @@ use Rattle.ref_clear.proofs.PendingFacts.{root_before, pending_is_root}
 
 -- what is in a list without one number is in that list
 pub has-but_one : (front back : List ℕ) (n m : ℕ) → has (front ++ back) m ≡ true → has (front ++ (n ∷ back)) m ≡ true
-has-but_one front back n m h =
-    elim (has-cases front back m h) [
-      | inl before ↦ has-left front (n ∷ back) m before
-      | inr later ↦ has-right front (n ∷ back) m (or_right (n == m) (has back m) later)
-    ]
+has-but_one front back n m h = grind (arith, has-cases, has-left, has-right)
 
 pub AreDistinct-but_one : (front back : List ℕ) (n : ℕ) → AreDistinct (front ++ (n ∷ back))
     → AreDistinct (front ++ back)
 AreDistinct-but_one [] back n distinct = distinct.1
-AreDistinct-but_one (m ∷ ms) back n distinct = (
-  false_from_ne_true (has (ms ++ back) m)
-      (λ within. true≢false (sym (has-but_one ms back n m within) ∙ distinct.0)),
-  AreDistinct-but_one ms back n distinct.1,
-)
+AreDistinct-but_one (m ∷ ms) back n distinct = grind (arith, has-but_one, AreDistinct-but_one ms back n distinct.1)
 
 -- where one list of pending references loses its first, all as one lose one number
 pub pending_numbers-rest : (pss : List (List Pending)) (w : ℕ) (p : Pending) (ps : List Pending)
@@ -64,11 +57,7 @@ without_pending-first p ps = let own : (p.object == p.object) ≡ true = eq-eqb 
 
 module _ (c : ClearHeap) (a : State) (w : ℕ) (stands : HeapStands c a) where
   none_handed : HeapStands c (ticked a)
-  none_handed = record {
-    mark = unmoved_stands c.mark a stands.mark a.world.heap stands.mark.heap;
-    pending = ap (λ (v : World). v.pending) (ticked_world a) ∙ stands.pending;
-    waiting = stands.waiting;
-  }
+  none_handed = grind (arith, unmoved_stands, ticked_world)
 
   first_handed : (p : Pending) (ps : List Pending) → pending_at c w ≡ p ∷ ps
       → HeapStands (handed_from c w (p ∷ ps)) (ticked (with_world a (handed_on a.world w p.object)))

@@ -1,13 +1,12 @@
 -- Each step of a heap is a row of the abstract collector, in every phase.
-use Rattle.std.proofs.Common.{◌≡◌, ℕ, true, false, List, [], Option, Some, None, refl, sym, ap, subst, ◌∙◌, inl, inr}
-use Rattle.std.proofs.lemmas.Bool.{cases_Bool}
-use Rattle.ref_clear.proofs.Common.{Heap, slot_at, NamedStep, Pending, pending_numbers, State, joined, unless, is_in}
-use Rattle.ref_clear.proofs.Common.{is_empty, is_worker, hand_refusal, work_refusal, heap_refusal, HeapAccepts}
-use Rattle.ref_clear.proofs.Common.{IsHeapRow, list_at, Fault, NoSuchActor, WrongPhase, ClearingLeft, SweepLeft, Idle}
-use Rattle.ref_clear.proofs.Common.{Clearing, Sweeping, Urgency, Reply, CycleHeap, cycle_begun, doomed, shaded_all}
-use Rattle.ref_clear.proofs.Common.{cycle_in_phase, is_of_marking, unless_refused, MarkStands, ClearHeap, with_mark}
-use Rattle.ref_clear.proofs.Common.{pending_at, begun_with, looked_from, handed_from, unhooked, swept_some, refusal_in}
-use Rattle.ref_clear.proofs.Common.{answer_of_look, answer_of_hand, answer_of_unhook, answer_of_sweep, queue_in}
+use Rattle.std.proofs.Common.{arith}
+use Rattle.std.proofs.Common.{◌≡◌, ℕ, true, false, List, [], Option, Some, None, refl, sym, ap, subst, ◌∙◌}
+use Rattle.ref_clear.proofs.Common.{Heap, NamedStep, pending_numbers, State, joined, unless, is_in}
+use Rattle.ref_clear.proofs.Common.{is_empty, heap_refusal, HeapAccepts}
+use Rattle.ref_clear.proofs.Common.{IsHeapRow, Fault, WrongPhase, ClearingLeft}
+use Rattle.ref_clear.proofs.Common.{Clearing, Urgency, Reply, CycleHeap, cycle_begun, shaded_all}
+use Rattle.ref_clear.proofs.Common.{is_of_marking, unless_refused, MarkStands, ClearHeap, with_mark}
+use Rattle.ref_clear.proofs.Common.{begun_with, refusal_in}
 use Rattle.ref_clear.proofs.Common.{HeapStands}
 use Rattle.ref_base.specs.declared.heap_step.HeapStep.TheVariants as heap
 use Rattle.ref_base.specs.declared.reply.Reply.TheVariants as replies
@@ -18,7 +17,7 @@ use Rattle.ref_mark.proofs.MarkLaws.{each_step as each_marking_step, on_own_heap
 use Rattle.ref_clear.specs.ClearCalls.{reply_or_fault, left}
 use Rattle.ref_clear.specs.ClearRows.{IsHeapRowOf}
 use Rattle.ref_clear.proofs.KeptRows.{row_keeps}
-use Rattle.ref_clear.proofs.KeptReferences.{after_stays, begun-heap, same_objects}
+use Rattle.ref_clear.proofs.KeptReferences.{after_stays, begun-heap}
 use Rattle.ref_clear.proofs.PendingFacts.{waiting_still}
 use Rattle.ref_clear.proofs.UnhookRows.{unhook_row}
 use Rattle.ref_clear.proofs.HandRows.{hand_row}
@@ -65,18 +64,7 @@ module _ (c : ClearHeap) (a : State) (stands : HeapStands c a) where
       (shaded_all (unless_refused refused (λ fault. c.mark) (cycle_begun c.mark now how))
       (unless_refused refused (λ fault. []) (pending_numbers a.world.pending))) b
       → HeapStands (unless_refused refused (λ fault. c) (begun_with c now how)) b
-  begun_stands b now how None same after =
-      let j : CycleHeap = shaded_all (cycle_begun c.mark now how) (pending_numbers c.pending) in
-      let heap = begun-heap c.mark now how (pending_numbers c.pending) in
-      record {
-        mark =
-            subst (λ pss. MarkStands (shaded_all (cycle_begun c.mark now how) (pending_numbers pss)) b)
-            stands.pending after;
-        pending = same ∙ stands.pending;
-        waiting =
-            waiting_still c a stands j (ap (λ (h : Heap). h.config) heap)
-            (same_objects c.mark.heap j.heap (ap (λ (h : Heap). h.objects) heap));
-      }
+  begun_stands b now how None same after = grind (arith, begun-heap)
   begun_stands b now how (Some fault) same after =
       record { mark = after; pending = same ∙ stands.pending; waiting = stands.waiting }
 
@@ -96,34 +84,15 @@ module _ (c : ClearHeap) (a : State) (stands : HeapStands c a) where
   same_end_clear : unless (is_in a.world.phase Clearing) WrongPhase
       (unless (is_empty (joined a.found)) ClearingLeft None)
       ≡ unless (is_in c.mark.phase Clearing) WrongPhase (unless (is_empty (joined c.mark.found)) ClearingLeft None)
-  same_end_clear =
-      ap (λ p. unless (is_in p Clearing) WrongPhase (unless (is_empty (joined a.found)) ClearingLeft None))
-      stands.mark.phase
-      ∙ elim (cases_Bool (is_in c.mark.phase Clearing)) [
-        | inl clearing ↦
-            ap (λ lists. unless (is_in c.mark.phase Clearing) WrongPhase
-            (unless (is_empty (joined lists)) ClearingLeft None)) (stands.mark.clearing clearing).same
-        | inr other ↦ simp other refl
-      ]
+  same_end_clear = grind arith
 
   own_refusal : (step : NamedStep) → is_of_marking step ≡ false → heap_refusal c.mark.heap_no a step ≡ refusal_in c step
   own_refusal (heap.Unhook m s) own = on_own_heap c.mark a stands.mark (heap.Unhook m s)
-  own_refusal (heap.ClearNext w) own =
-      on_own_heap c.mark a stands.mark (heap.ClearNext w)
-      ∙ ap (λ p. work_refusal c.mark.heap p Clearing w) stands.mark.phase
+  own_refusal (heap.ClearNext w) own = grind arith
   own_refusal heap.EndClear own = same_end_clear
-  own_refusal (heap.Hand w) own =
-      on_own_heap c.mark a stands.mark (heap.Hand w)
-      ∙ ap (λ (pss : List (List Pending)).
-      unless (is_worker c.mark.heap w) NoSuchActor
-      (hand_refusal (pending_at (record c { pending = pss }) w) c.mark.heap)) stands.pending
-  own_refusal (heap.Sweep w) own =
-      on_own_heap c.mark a stands.mark (heap.Sweep w)
-      ∙ ap (λ p. work_refusal c.mark.heap p Sweeping w) stands.mark.phase
-  own_refusal heap.EndSweep own =
-      ap (λ p. unless (is_in p Sweeping) WrongPhase (unless (is_empty a.doomed) SweepLeft None)) stands.mark.phase
-      ∙ ap (λ ns. unless (is_in c.mark.phase Sweeping) WrongPhase (unless (is_empty ns) SweepLeft None))
-      stands.mark.doomed
+  own_refusal (heap.Hand w) own = grind arith
+  own_refusal (heap.Sweep w) own = grind arith
+  own_refusal heap.EndSweep own = cc
   own_refusal step own = absurd (cc)
 
   -- a row by whether it is refused
@@ -132,9 +101,7 @@ module _ (c : ClearHeap) (a : State) (stands : HeapStands c a) where
       → (refusal_in c step ≡ None → (b : State) × HeapAccepts a step reply b × HeapStands after b)
       → (b : State) × IsHeapRow c.mark.heap_no a step (unless_refused refused replies.Refused reply) b
       × HeapStands (unless_refused refused (λ fault. c) after) b
-  row_by step reply after None own is accepted =
-      let row = accepted is in
-      (row.0, accepted_row c.mark.heap_no a step reply row.0 (own_refusal step own ∙ is) row.1, row.2)
+  row_by step reply after None own is accepted = search (accepted_row, own_refusal, accepted is)
   row_by step reply after (Some fault) own is accepted =
       (a, refused_row c.mark.heap_no a step fault (own_refusal step own ∙ is), stands)
 

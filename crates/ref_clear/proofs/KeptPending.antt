@@ -1,5 +1,6 @@
 -- What is pending is seen as before where each reference keeps its queue and the cycle in which it was cleared.
-use Rattle.std.proofs.Common.{◌≡◌, ℕ, ◌==◌, true, List, [], ◌∷◌, refl, ap, subst, sym, ◌∙◌}
+use Rattle.std.proofs.Common.{arith}
+use Rattle.std.proofs.Common.{◌≡◌, ℕ, true, List, [], ◌∷◌, refl, ap, subst, sym}
 use Rattle.std.specs.Option.{unwrap_or, IsSome}
 use Rattle.std.proofs.lemmas.Bool.{or_right}
 use Rattle.ref_clear.proofs.Common.{has, is_there, Object, reference_at, registered_in, Pending, joined, CycleHeap}
@@ -7,11 +8,9 @@ use Rattle.ref_clear.proofs.Common.{shaded_all, with_mark, seen_heap, IsSoundHea
 use Rattle.ref_clear.proofs.Common.{pending_lists_of, AreRegistered, Worklist, worklists_of}
 use Rattle.ref_base.proofs.HasLaws.{has-first, has-left, has-right}
 use Rattle.ref_objects.specs.Grounds.{Tag, cleared_in_at}
-use Rattle.ref_mark.proofs.KeptParts.{KeepsCycles, same_tags, shaded_all-own}
+use Rattle.ref_mark.proofs.KeptParts.{KeepsCycles, shaded_all-own}
 use Rattle.ref_mark.proofs.LoopLemmas.{shaded_heap}
 use Rattle.ref_clear.proofs.KeptReferences.{KeepsReferences}
-use Rattle.ref_clear.proofs.PendingFacts.{pending_is_there}
-use Rattle.ref_clear.proofs.PendingLists.{pending_numbers-seen}
 
 -- ---- one reference
 
@@ -35,20 +34,13 @@ module _ (os us : List Object) (ts vs : List Tag) where
   pub pendings_in-same : (ns : List ℕ) → ((n : ℕ) → has ns n ≡ true → pending_in us vs n ≡ pending_in os ts n)
       → pendings_in us vs ns ≡ pendings_in os ts ns
   pendings_in-same [] same = refl
-  pendings_in-same (n ∷ ns) same =
-      ap (λ p. p ∷ pendings_in us vs ns) (same n (has-first n ns))
-      ∙ ap (λ ps. pending_in os ts n ∷ ps)
-      (pendings_in-same ns (λ m within. same m (or_right (n == m) (has ns m) within)))
+  pendings_in-same (n ∷ ns) same = search (has-first, or_right, pendings_in-same ns)
 
   lists_of-same : (ls : List Worklist)
       → ((n : ℕ) → has (joined (worklists_of ls)) n ≡ true → pending_in us vs n ≡ pending_in os ts n)
       → pending_lists_of us vs ls ≡ pending_lists_of os ts ls
   lists_of-same [] same = refl
-  lists_of-same (l ∷ ls) same =
-      ap (λ ps. ps ∷ pending_lists_of us vs ls)
-      (pendings_in-same l.stands (λ n within. same n (has-left l.stands (joined (worklists_of ls)) n within)))
-      ∙ ap (λ pss. pendings_in os ts l.stands ∷ pss)
-      (lists_of-same ls (λ n within. same n (has-right l.stands (joined (worklists_of ls)) n within)))
+  lists_of-same (l ∷ ls) same = search (pendings_in-same, has-left, has-right, lists_of-same ls)
 
 pub lists_kept : (k j : CycleHeap) (lists : List Worklist) → AreKept k j lists
     → pending_lists_of j.heap.objects j.tags lists ≡ pending_lists_of k.heap.objects k.tags lists
@@ -68,17 +60,12 @@ registered_kept k j lists kept registered n within = subst IsSome (sym (kept n w
 
 -- shading does
 pub kept_shaded : (k j : CycleHeap) (ns : List ℕ) (n : ℕ) → IsKept k j n → IsKept k (shaded_all j ns) n
-kept_shaded k j ns n kept = (
-  ap (λ h. registered_in (reference_at h n)) (shaded_heap j (shaded_all j ns) ns refl) ∙ kept.0,
-  ap (λ ts. cleared_in_at ts n) (same_tags (shaded_all-own j ns)) ∙ kept.1,
-)
+kept_shaded k j ns n kept = grind (arith, shaded_all-own, shaded_heap j)
 
 module _ {k : CycleHeap} {lists : List Worklist} {swept_to : ℕ} (sound : IsSoundHeap k lists swept_to) where
   -- what is pending is there
   pub waits_there : (n : ℕ) → has (joined (worklists_of lists)) n ≡ true → is_there k.heap.objects n ≡ true
-  waits_there n within =
-      pending_is_there (seen_heap k lists) sound.stands.0 n sound.stands.1
-      (ap (λ ns. has ns n) (pending_numbers-seen k.heap.objects k.tags lists) ∙ within)
+  waits_there n within = grind arith
 
   -- and so does whatever keeps the reference and the cycle of each object
   pub kept_by : (j : CycleHeap) → KeepsReferences k.heap j.heap → KeepsCycles k.tags j.tags → AreKept k j lists

@@ -1,22 +1,20 @@
 -- No step of marking gives a cleared reference a referent, or changes the queue of one.
-use Rattle.std.proofs.Common.{◌≡◌, ℕ, ◌+◌, true, Option, Some, None, refl, sym, ap, subst, ◌∙◌, inl, inr, List, ◌∷◌, []}
+use Rattle.std.proofs.Common.{arith}
+use Rattle.std.proofs.Common.{◌≡◌, ℕ, true, Option, Some, None, refl, ap, ◌∙◌, inl, inr, List, ◌∷◌, []}
 use Rattle.std.proofs.lemmas.Bool.{cases_Bool}
-use Rattle.ref_clear.proofs.Common.{refers_into, Object, Reference, object_at, is_there, plain_object, Heap, slot_at}
+use Rattle.ref_clear.proofs.Common.{Object, Reference, is_there, plain_object, Heap, slot_at}
 use Rattle.ref_clear.proofs.Common.{reference_in, reference_at, changed_in, made, stored, got, cut, with_field}
 use Rattle.ref_clear.proofs.Common.{with_reference, changed_reference, cleared, got_at, nulls, new_reference}
 use Rattle.ref_clear.proofs.Common.{registered_in, with_hold, targets_at, is_kept, NamedStep, is_in, referent_of}
-use Rattle.ref_clear.proofs.Common.{reference_of, field_in, Fault, Marking, CycleHeap, is_doomed, shaded_all}
+use Rattle.ref_clear.proofs.Common.{Fault, Marking, CycleHeap, shaded_all}
 use Rattle.ref_clear.proofs.Common.{with_cleared, cycle_begun, unless_refused}
-use Rattle.ref_base.specs.Paths.{is_soft}
 use Rattle.ref_base.specs.declared.heap_step.HeapStep.TheVariants as heap
 use Rattle.ref_base.proofs.Lookups.{lookup-changed, object_at-push}
 use Rattle.ref_base.proofs.Reshaping.{queue-cleared}
-use Rattle.ref_objects.specs.Grounds.{with_new_tag}
-use Rattle.ref_mark.specs.CycleHeaps.{barred, with_made, value_got, with_got, whitened, scanned, grey_scanned, roots_of}
+use Rattle.ref_mark.specs.CycleHeaps.{barred, with_made, whitened, scanned, grey_scanned, roots_of}
 use Rattle.ref_mark.specs.MarkCalls.{done_in, after_in_cycle, refusal_in_cycle, with_hold_of}
-use Rattle.ref_mark.proofs.LoopLemmas.{shaded_heap, shaded_once-heap}
+use Rattle.ref_mark.proofs.LoopLemmas.{shaded_heap}
 use Rattle.ref_mark.proofs.Scanning.{with_found-only}
-use Rattle.ref_mark.proofs.ShownHeaps.{young-heap}
 
 -- a reference gets no referent where it had none, and its queue is the same
 abbrev pub IsKeptAs : Option Reference → Option Reference → Type 0
@@ -30,18 +28,12 @@ abbrev pub KeepsReferences : Heap → Heap → Type 0
 KeepsReferences h g = (n : ℕ) → is_there h.objects n ≡ true → IsKeptAs (reference_at h n) (reference_at g n)
 
 pub same_objects : (h g : Heap) → g.objects ≡ h.objects → KeepsReferences h g
-same_objects h g same n there =
-    subst (λ os. IsKeptAs (reference_at h n) (reference_in (object_at os n))) (sym same)
-    (same_reference (reference_at h n))
+same_objects h g same n there = grind arith
 
 same_heap : (h g : Heap) → g ≡ h → KeepsReferences h g
 same_heap h g same = same_objects h g (ap (λ (i : Heap). i.objects) same)
 
 -- ---- changes of one object
-
-pub config-changed_in : (h : Heap) (held : Option ℕ) (f : Object → Object) → (changed_in h held f).config ≡ h.config
-config-changed_in h None f = refl
-config-changed_in h (Some n) f = refl
 
 -- that keep its reference
 pub stays-changed : (h : Heap) (held : Option ℕ) (f : Object → Object) → ((o : Object) → (f o).no ≡ o.no)
@@ -60,11 +52,7 @@ cleared-kept r = (λ none. cleared-none r, queue-cleared r)
 
 got-kept : (clock : ℕ) (r : Option Reference) → IsKeptAs r (changed_reference (got_at clock) r)
 got-kept clock None = same_reference None
-got-kept clock (Some r) =
-    elim (cases_Bool (is_soft r.strength)) [
-      | inl soft ↦ (λ none. simp soft none, simp soft refl)
-      | inr other ↦ (λ none. simp other none, simp other refl)
-    ]
+got-kept clock (Some r) = grind arith
 
 stays-cut : (h : Heap) (m s : ℕ) → KeepsReferences h (cut h m s)
 stays-cut h m s =
@@ -80,20 +68,14 @@ stays-got h m d s (Some n) =
     stays-changed h (slot_at h m s) (with_reference (got_at h.clock)) (λ o. refl) (λ o. got-kept h.clock o.reference)
 
 stays-made : (h : Heap) (m d : ℕ) (o : Object) → KeepsReferences h (made h m d o)
-stays-made h m d o n there =
-    subst (λ (p : Option Object). IsKeptAs (reference_at h n) (reference_in p))
-    (sym (object_at-push h.objects o n there)) (same_reference (reference_at h n))
+stays-made h m d o n there = search object_at-push
 
 -- ---- what leaves the heap as it is
 
 barred-heap : (k : CycleHeap) (value : Option ℕ) → (barred k value).heap ≡ k.heap
 barred-heap k None =
     elim (cases_Bool (is_in k.phase Marking)) [ inl marking ↦ simp marking refl | inr other ↦ simp other refl ]
-barred-heap k (Some n) =
-    elim (cases_Bool (is_in k.phase Marking)) [
-      | inl marking ↦ simp marking (shaded_once-heap k n)
-      | inr other ↦ simp other refl
-    ]
+barred-heap k (Some n) = grind arith
 
 scanned-heap : (k : CycleHeap) (w : ℕ) (grey : List ℕ) → (grey_scanned k w grey).heap ≡ k.heap
 scanned-heap k w [] = refl
@@ -116,45 +98,24 @@ held_stays h None = same_heap h h refl
 held_stays h (Some n) = same_objects h (with_hold h n) refl
 
 made_stays : (k : CycleHeap) (m d : ℕ) (o : Object) → KeepsReferences k.heap (with_made k m d o).heap
-made_stays k m d o =
-    let more : CycleHeap =
-    record k { heap = made k.heap m d o; next = k.next + 1; tags = with_new_tag k.tags o.no } in
-    subst (λ (h : Heap). KeepsReferences k.heap h) (sym (young-heap more o.no)) (stays-made k.heap m d o)
+made_stays k m d o = grind (arith, stays-made k.heap m d o)
 
 pub cleared_stays : (k : CycleHeap) (m s : ℕ) → KeepsReferences k.heap (with_cleared k m s).heap
-cleared_stays k m s =
-    elim (cases_Bool (refers_into (is_doomed k) (reference_of k.heap (slot_at k.heap m s)))) [
-      | inl met ↦
-          let is : (with_cleared k m s).heap ≡ k.heap = simp met refl in
-          same_heap k.heap (with_cleared k m s).heap is
-      | inr other ↦
-          let is : (with_cleared k m s).heap ≡ cut k.heap m s = simp other refl in
-          subst (λ (h : Heap). KeepsReferences k.heap h) (sym is) (stays-cut k.heap m s)
-    ]
+cleared_stays k m s = grind (arith, stays-cut k.heap m s)
 
 -- a clear keeps the configuration
 pub config-cleared : (k : CycleHeap) (m s : ℕ) → (with_cleared k m s).heap.config ≡ k.heap.config
-config-cleared k m s =
-    elim (cases_Bool (refers_into (is_doomed k) (reference_of k.heap (slot_at k.heap m s)))) [
-      | inl met ↦ simp met refl
-      | inr other ↦ simp other (config-changed_in k.heap (slot_at k.heap m s) (with_reference cleared))
-    ]
+config-cleared k m s = grind arith
 
 done_stays : (k : CycleHeap) (step : NamedStep) → KeepsReferences k.heap (done_in k step).heap
 done_stays k (heap.New m d f) = made_stays k m d (plain_object k.next (nulls f))
 done_stays k (heap.Refer m strength d s q f) =
     made_stays k m d (new_reference k.heap k.next strength (slot_at k.heap m s) q f)
 done_stays k (heap.Store m d i s) = stays-stored k.heap m d i s
-done_stays k (heap.Load m d s i) =
-    same_objects k.heap (done_in k (heap.Load m d s i)).heap
-    (ap (λ (h : Heap). h.objects) (barred-heap k (field_in k.heap (slot_at k.heap m s) i)))
+done_stays k (heap.Load m d s i) = search barred-heap
 done_stays k (heap.Copy m d s) = same_objects k.heap (done_in k (heap.Copy m d s)).heap refl
 done_stays k (heap.Drop m s) = same_objects k.heap (done_in k (heap.Drop m s)).heap refl
-done_stays k (heap.Get m d s) =
-    let value = value_got k m s in
-    let is : (with_got k m d s value).heap ≡ got k.heap m d s value =
-    ap (λ (h : Heap). got h m d s value) (barred-heap k value) in
-    subst (λ (h : Heap). KeepsReferences k.heap h) (sym is) (stays-got k.heap m d s value)
+done_stays k (heap.Get m d s) = grind (arith, stays-got k.heap m d s)
 done_stays k (heap.Clear m s) = cleared_stays k m s
 done_stays k (heap.Hold m s) = held_stays k.heap (slot_at k.heap m s)
 done_stays k (heap.Adopt m d hold) = same_objects k.heap (done_in k (heap.Adopt m d hold)).heap refl

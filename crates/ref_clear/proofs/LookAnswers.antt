@@ -2,11 +2,11 @@
 use Rattle.std.proofs.Common.{◌≡◌, ℕ, ◌<◌, ◌≤◌, Bool, true, false, refl, sym, ap, subst, ◌∙◌, arith, List, [], ◌∷◌}
 use Rattle.std.proofs.Common.{◌++◌, length, map, get_or, set, Option, Some, None, inl, inr, ◌==◌}
 use Rattle.std.proofs.lemmas.List.{set-get_or, map-append, length-map}
-use Rattle.std.proofs.lemmas.Bool.{ne_eqb, true≢false, false≢true}
+use Rattle.std.proofs.lemmas.Bool.{true≢false, false≢true}
 use Rattle.std.specs.Option.{unwrap_or, is_some, IsSome}
 use Rattle.ref_clear.proofs.Common.{Reference, is_there, reference_at, registered_in, any_is, refers_into, Pending}
 use Rattle.ref_clear.proofs.Common.{list_at, work_refusal, Clearing, Ground, CycleHeap, is_doomed, with_found_taken}
-use Rattle.ref_clear.proofs.Common.{unless_refused, ground_of, first_in, rest_of, ClearHeap, with_mark, pending_at}
+use Rattle.ref_clear.proofs.Common.{ground_of, first_in, rest_of, ClearHeap, with_mark, pending_at}
 use Rattle.ref_clear.proofs.Common.{is_to_clear, cut_at, heap_pended, looked_from, after_in, Worklist, seen_heap}
 use Rattle.ref_clear.proofs.Common.{IsSoundHeap, AreRegistered, has, joined, worklists_of, numbers, with_reference}
 use Rattle.ref_clear.proofs.Common.{cleared, pending_in, pendings_in}
@@ -16,7 +16,6 @@ use Rattle.ref_objects.proofs.TagLemmas.{cleared_in_at-other, cleared_in_at-own}
 use Rattle.ref_base.proofs.HasLaws.{has-cases, has-single}
 use Rattle.ref_base.proofs.StoreLaws.{is_there-has}
 use Rattle.ref_mark.proofs.Moves.{referring_is_there}
-use Rattle.ref_mark.proofs.Passed.{work_passed}
 use Rattle.ref_clear.specs.ClearHeaps.{heap_looked_at}
 use Rattle.ref_mark.specs.Worklists.{with_last}
 use Rattle.ref_clear.proofs.KeptPending.{AreKept, waits_there, seen_kept, registered_kept, lists_kept, told_same}
@@ -24,7 +23,7 @@ use Rattle.ref_clear.proofs.KeptPending.{pendings_in-same}
 use Rattle.ref_clear.proofs.KeptReferences.{stays-changed, cleared-kept}
 use Rattle.ref_clear.proofs.PendingLists.{length-lists_of, lists_of-set, pending_at-seen, room_at, HaveRoom-set}
 use Rattle.ref_clear.proofs.PendingLists.{pending_numbers-seen, has-list, has-replaced}
-use Rattle.ref_clear.proofs.PendingRoom.{pending_has_room, to_clear_is_not_pending}
+use Rattle.ref_clear.proofs.PendingRoom.{pending_has_room}
 use Rattle.ref_clear.proofs.SoundHeaps.{sound_after}
 
 -- ---- the first of a list
@@ -32,10 +31,6 @@ use Rattle.ref_clear.proofs.SoundHeaps.{sound_after}
 first_is : (ns : List ℕ) (n : ℕ) → first_in ns ≡ Some n → ns ≡ n ∷ rest_of ns
 first_is [] n first = absurd (let wrong : None ≡ Some n = first in cc)
 first_is (m ∷ ms) n first = let is : Some m ≡ Some n = first in let same : m ≡ n = cc in ap (λ i. i ∷ ms) same
-
-none_is : (ns : List ℕ) → first_in ns ≡ None → ns ≡ []
-none_is [] first = refl
-none_is (n ∷ ns) first = absurd (let wrong : Some n ≡ None = first in cc)
 
 -- ---- what is left
 
@@ -47,10 +42,7 @@ module _ {k : CycleHeap} {lists : List Worklist} {swept_to : ℕ} (w : ℕ)
 
   after_by : (ns : List ℕ) (d : ClearHeap) → list_at k.found w ≡ ns → looked_from c w ns ≡ d
       → d ≡ after_in c (heap.ClearNext w)
-  after_by ns d is looked =
-      sym
-      (ap (λ refused. unless_refused refused (λ fault. c) (looked_from c w (list_at k.found w))) accepted
-      ∙ ap (looked_from c w) is ∙ looked)
+  after_by ns d is looked = cc
 
   registered_taken : {j : CycleHeap} → j ≡ with_found_taken k w → AreRegistered j.heap.objects lists
   registered_taken after =
@@ -59,23 +51,11 @@ module _ {k : CycleHeap} {lists : List Worklist} {swept_to : ℕ} (w : ℕ)
   -- it found nothing more
   pub sound_none : {j : CycleHeap} → first_in (list_at k.found w) ≡ None → j ≡ with_found_taken k w
       → IsSoundHeap j lists swept_to
-  sound_none {j} first after =
-      let none : list_at k.found w ≡ [] = none_is (list_at k.found w) first in
-      let same : set k.found w (rest_of (list_at k.found w)) ≡ k.found =
-      ap (λ (ns : List ℕ). set k.found w (rest_of ns)) none
-      ∙ ap (λ (ns : List ℕ). set k.found w ns) (sym none) ∙ set-get_or k.found w [] in
-      sound_after (heap.ClearNext w) refl sound
-      (ap (λ (i : CycleHeap). seen_heap i lists) after
-      ∙ ap (λ (found : List (List ℕ)). seen_heap (record k { found = found }) lists) same ∙ after_by [] c none refl)
-      sound.room (registered_taken after)
+  sound_none {j} first after = grind (arith, set-get_or)
 
   -- there is a list for each worker
   pub look_within : w < length lists
-  look_within =
-      let own : w < k.heap.config.workers = (work_passed k Clearing w accepted).0 in
-      let workers = sound.stands.1.waiting.workers in
-      let same = length-lists_of k.heap.objects k.tags lists in
-      omega (arith, own, workers, same)
+  look_within = grind (arith, length-lists_of)
 
   -- this is the first that it found
   module _ (n : ℕ) (first : first_in (list_at k.found w) ≡ Some n) where
@@ -108,13 +88,7 @@ module _ {k : CycleHeap} {lists : List Worklist} {swept_to : ℕ} (w : ℕ)
 
       -- it isn't pending
       apart : (m : ℕ) → has (joined (worklists_of lists)) m ≡ true → (n == m) ≡ false
-      apart m within =
-          ne_eqb n m
-          (λ same.
-          true≢false
-          (sym within ∙ ap (has (joined (worklists_of lists))) (sym same)
-          ∙ ap (λ ns. has ns n) (sym (pending_numbers-seen k.heap.objects k.tags lists))
-          ∙ to_clear_is_not_pending c sound.stands.0 n sound.stands.1 goes))
+      apart m within = grind (arith, pending_numbers-seen)
 
       there : is_there k.heap.objects n ≡ true
       there = referring_is_there (is_doomed k) k.heap n goes
@@ -168,9 +142,7 @@ module _ {k : CycleHeap} {lists : List Worklist} {swept_to : ℕ} (w : ℕ)
           queue_told = queue_still n there ∙ registered
 
           cycle_told : cleared_in_at cut.tags n ≡ k.cycle
-          cycle_told =
-              cleared_in_at-own k.tags n k.cycle
-              (ap (λ ns. has ns n) tagged ∙ sym (is_there-has k.heap.objects n) ∙ there)
+          cycle_told = grind (arith, cleared_in_at-own, is_there-has)
 
           own_told : pending_in cut.heap.objects cut.tags n ≡ pended
           own_told = λ i. record { object = n; queue = unwrap_or (queue_told i) 0; cycle = cycle_told i }
@@ -240,9 +212,7 @@ module _ (k : CycleHeap) (w : ℕ) {t : CycleHeap} {g : Ground} (taken : t ≡ w
       subst (λ (h : Ground). length h.heap.objects ≤ h.heap.config.cells) (objects ∙ ap ground_of taken) formed.few
 
   pub tagged_taken : IsWellFormed g → map (λ i. i.no) k.tags ≡ numbers k.heap.objects
-  tagged_taken formed =
-      subst (λ (h : Ground). map (λ i. i.no) h.tags ≡ numbers h.heap.objects) (objects ∙ ap ground_of taken)
-      formed.tagged
+  tagged_taken formed = cc
 
   module _ (n : ℕ) {read : Option Reference} (reads : read ≡ reference_at g.heap n) where
     read_before : reference_at k.heap n ≡ read
@@ -257,9 +227,7 @@ module _ (k : CycleHeap) (w : ℕ) {t : CycleHeap} {g : Ground} (taken : t ≡ w
 
       -- it is to be cleared exactly where its referent is doomed
       pub clears_by : {m : ℕ} {goes : Bool} → r.referent ≡ Some m → is_doomed t m ≡ goes → is_to_clear k n ≡ goes
-      clears_by {m} {goes} referent doomed =
-          ap (refers_into (is_doomed k)) (read_before ∙ is) ∙ ap (any_is (is_doomed k)) referent
-          ∙ ap (λ (i : CycleHeap). is_doomed i m) (sym taken) ∙ doomed
+      clears_by {m} {goes} referent doomed = grind arith
 
       pub queue_read : is_some r.queue ≡ true → registered_in (reference_at k.heap n) ≡ Some (unwrap_or r.queue 0)
       queue_read some = ap registered_in (read_before ∙ is) ∙ some_is r.queue some

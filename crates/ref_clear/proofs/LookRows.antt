@@ -2,11 +2,11 @@
 use Rattle.std.proofs.Common.{◌≡◌, ℕ, ◌<◌, true, false, if◌then◌else◌, refl, sym, ap, subst, ◌∙◌, arith, List, [], ◌∷◌}
 use Rattle.std.proofs.Common.{length, Some, None, is_some, ◌⊎◌, inl, inr}
 use Rattle.std.specs.Prelude.{slice_set}
-use Rattle.std.proofs.lemmas.Bool.{cases_Bool, or_left}
+use Rattle.std.proofs.lemmas.Bool.{or_left}
 use Rattle.ref_clear.proofs.Common.{has, Object, object_at, present, refers_into, Heap, reference_in, reference_at}
 use Rattle.ref_clear.proofs.Common.{registered_in, with_changed, changed_reference, with_reference, cleared}
-use Rattle.ref_clear.proofs.Common.{pending_numbers, State, joined, is_in, HeapAccepts, ClearsNext, ticked, list_at}
-use Rattle.ref_clear.proofs.Common.{reference_of, referent_of, Marking, Clearing, Sweeping, CycleHeap, is_white}
+use Rattle.ref_clear.proofs.Common.{pending_numbers, State, joined, is_in, HeapAccepts, ClearsNext, list_at}
+use Rattle.ref_clear.proofs.Common.{reference_of, referent_of, Clearing, Sweeping, CycleHeap, is_white}
 use Rattle.ref_clear.proofs.Common.{is_past_mark, is_doomed, doomed, with_found_taken, rest_of, unsaid, shown_heap}
 use Rattle.ref_clear.proofs.Common.{ClearHeap, is_to_clear, cut_at, looked_from, refusal_in, answer_of_look, HeapStands}
 use Rattle.ref_base.specs.Replay.{pended as world_pended}
@@ -20,7 +20,6 @@ use Rattle.ref_base.proofs.NewClears.{refers_into-same}
 use Rattle.ref_base.proofs.Reshaping.{queue-cleared}
 use Rattle.ref_base.proofs.ShownObjects.{shown_reference, shown-cleared}
 use Rattle.ref_mark.proofs.DoomedLists.{has-doomed}
-use Rattle.ref_mark.proofs.MovedStates.{ticked_other}
 use Rattle.ref_mark.proofs.Passed.{work_passed}
 use Rattle.ref_mark.proofs.ShownHeaps.{shown_heap-changed_in, cut-shown}
 use Rattle.ref_mark.proofs.ShownReads.{reference_of-shown}
@@ -76,13 +75,7 @@ module _ (c : ClearHeap) (a : State) (w n : ℕ) (rest : List ℕ) (stands : Hea
   row_of : (d : ClearHeap) (b : State) → looked_from c w (n ∷ rest) ≡ d → state_looked a w n rest ≡ b
       → state_answer a w n ≡ answer_of_look c.mark (n ∷ rest) → b.world.phase ≡ a.world.phase → HeapStands d b
       → HasLookRow
-  row_of d b left after answer phase standing =
-      let quiet : is_in b.world.phase Marking ≡ false =
-      ap (λ p. is_in p Marking) (phase ∙ stands.mark.phase ∙ is_clearing c.mark.phase clearing) in (
-        b,
-        (sym answer, sym (ap ticked after ∙ ticked_other b quiet)),
-        subst (λ (e : ClearHeap). HeapStands e b) (sym left) standing,
-      )
+  row_of d b left after answer phase standing = grind arith
 
   -- it is kept, or skipped
   passed_row : is_to_clear c.mark n ≡ false → HasLookRow
@@ -191,15 +184,9 @@ module _ (c : ClearHeap) (a : State) (w n : ℕ) (rest : List ℕ) (stands : Hea
 looked_row : (c : ClearHeap) (a : State) (w : ℕ) (found : List ℕ) → HeapStands c a → w < length c.pending
     → is_in c.mark.phase Clearing ≡ true → list_at c.mark.found w ≡ found
     → (b : State) × ClearsNext a w found (answer_of_look c.mark found) b × HeapStands (looked_from c w found) b
-looked_row c a w [] stands within clearing is =
-    let quiet : is_in a.world.phase Marking ≡ false =
-    ap (λ p. is_in p Marking) (stands.mark.phase ∙ is_clearing c.mark.phase clearing) in
-    (a, (refl, sym (ticked_other a quiet)), stands)
+looked_row c a w [] stands within clearing is = grind arith
 looked_row c a w (n ∷ rest) stands within clearing is =
-    elim (cases_Bool (is_to_clear c.mark n)) [
-      | inl goes ↦ cleared_row c a w n rest stands within clearing is goes
-      | inr stays ↦ passed_row c a w n rest stands within clearing is stays
-    ]
+    grind (arith, cleared_row c a w n rest stands within clearing is, passed_row c a w n rest stands within clearing is)
 
 pub look_row : (c : ClearHeap) (a : State) (w : ℕ) → HeapStands c a → refusal_in c (heap.ClearNext w) ≡ None
     → (b : State) × HeapAccepts a (heap.ClearNext w) (answer_of_look c.mark (list_at c.mark.found w)) b

@@ -1,10 +1,11 @@
 -- The heap that a look at a found reference leaves, and that it stands for what the row of the collector leaves.
+use Rattle.std.proofs.Common.{arith}
 use Rattle.std.proofs.Common.{◌≡◌, ℕ, true, false, ◌==◌, refl, sym, ap, subst, ◌∙◌, List, [], ◌∷◌, ◌++◌, Option, Some}
 use Rattle.std.proofs.Common.{None, is_some, ◌⊎◌, inl, inr}
 use Rattle.std.specs.Prelude.{slice_set}
 use Rattle.std.proofs.lemmas.Bool.{cases_Bool, or_cases, or_left, or_right, eqb-true, false≢true, true≢false}
 use Rattle.std.proofs.lemmas.List.{length-set}
-use Rattle.ref_clear.proofs.Common.{has, Object, Reference, object_at, is_there, Allowed, present, allowed_referent}
+use Rattle.ref_clear.proofs.Common.{has, Object, Reference, object_at, is_there, Allowed, allowed_referent}
 use Rattle.ref_clear.proofs.Common.{targets_of, targets_at, soft_and_weak_referents, IsRising, is_kept, refers_into}
 use Rattle.ref_clear.proofs.Common.{reference_in, reference_at, with_changed, changed_reference, cleared, Pending}
 use Rattle.ref_clear.proofs.Common.{graph_of, pending_numbers, State, joined, is_in, list_at, Marking, Clearing}
@@ -12,7 +13,7 @@ use Rattle.ref_clear.proofs.Common.{Sweeping, CycleHeap, is_white, is_black, is_
 use Rattle.ref_clear.proofs.Common.{shown_heap}
 use Rattle.ref_base.specs.Heaps.{changed_at}
 use Rattle.ref_base.proofs.HasLaws.{has-left, has-cases}
-use Rattle.ref_base.proofs.Lookups.{lookup-changed, numbers-changed, allowed_referent-cases}
+use Rattle.ref_base.proofs.Lookups.{lookup-changed, numbers-changed}
 use Rattle.ref_base.proofs.NewClears.{refers_into-same}
 use Rattle.ref_objects.specs.Grounds.{Tag}
 use Rattle.ref_mark.specs.Standing.{InClearing}
@@ -30,42 +31,18 @@ pub changed_here : (P : Option Object → Type 0) (os : List Object) (n : ℕ) (
     → ((o : Object) → (f o).no ≡ o.no) → P None → ((o : Object) → object_at os n ≡ Some o → P (Some (f o)))
     → P (object_at (changed_at os n f) n)
 changed_here P [] n f keeps none there = none
-changed_here P (o ∷ os) n f keeps none there =
-    elim (cases_Bool (o.no == n)) [
-      | inl here ↦
-          let still : ((f o).no == n) ≡ true = ap (λ i. i == n) (keeps o) ∙ here in
-          let first : object_at (o ∷ os) n ≡ Some o = simp here refl in
-          simp (here, still) (there o first)
-      | inr other ↦
-          let later : (p : Object) → object_at os n ≡ Some p → P (Some (f p)) =
-          λ p found. there p (simp other found) in
-          simp other (changed_here P os n f keeps none later)
-    ]
+changed_here P (o ∷ os) n f keeps none there = grind (arith, changed_here P os n f keeps none)
 
 -- and one of another what it did
 changed_elsewhere : (os : List Object) (n m : ℕ) (f : Object → Object) → ((o : Object) → (f o).no ≡ o.no)
     → (n == m) ≡ false → object_at (changed_at os n f) m ≡ object_at os m
 changed_elsewhere [] n m f keeps other = refl
-changed_elsewhere (o ∷ os) n m f keeps other =
-    elim (cases_Bool (o.no == n)) [
-      | inl here ↦
-          let passed : (o.no == m) ≡ false = ap (λ i. i == m) (eqb-true o.no n here) ∙ other in
-          let still : ((f o).no == m) ≡ false = ap (λ i. i == m) (keeps o) ∙ passed in
-          simp (here, passed, still) refl
-      | inr before ↦ elim (cases_Bool (o.no == m)) [
-        | inl asked ↦ simp (before, asked) refl
-        | inr passed ↦ simp (before, passed) (changed_elsewhere os n m f keeps other)
-      ]
-    ]
+changed_elsewhere (o ∷ os) n m f keeps other = grind (arith, changed_elsewhere os n m f keeps other)
 
 -- and where it becomes what it is, nothing changes
 pub changed_to_itself : (os : List Object) (n : ℕ) → changed_at os n (λ o. o) ≡ os
 changed_to_itself [] n = refl
-changed_to_itself (o ∷ os) n =
-    elim (cases_Bool (o.no == n)) [
-      | inl here ↦ simp here refl
-      | inr other ↦ simp other (ap (λ ps. o ∷ ps) (changed_to_itself os n))
-    ]
+changed_to_itself (o ∷ os) n = grind (arith, changed_to_itself os n)
 
 -- ---- what is cleared
 
@@ -76,11 +53,7 @@ pub leads-cleared : (allow : Allowed) (fields : List ℕ) (r : Option Reference)
     → has (fields ++ allowed_referent allow (changed_reference cleared r)) n ≡ true
     → has (fields ++ allowed_referent allow r) n ≡ true
 leads-cleared allow fields None n target = target
-leads-cleared allow fields (Some r) n target =
-    elim (has-cases fields (allowed_referent allow (Some (cleared r))) n target) [
-      | inl field ↦ has-left fields (allowed_referent allow (Some r)) n field
-      | inr referent ↦ absurd (let none : None ≡ Some n = allowed_referent-cases allow (cleared r) n referent in cc)
-    ]
+leads-cleared allow fields (Some r) n target = grind (arith, has-cases, has-left)
 
 -- ---- the heap that a look leaves
 
@@ -134,9 +107,7 @@ module _ (k : CycleHeap) (a : State) (w n : ℕ) (rest : List ℕ) (f : Object �
   refers_now : (m : ℕ)
       → refers_into (is_white (looked_heap k w n rest f tags)) (reference_at (looked_heap k w n rest f tags).heap m)
       ≡ refers_into (is_white k) (reference_at (looked_heap k w n rest f tags).heap m)
-  refers_now m =
-      refers_into-same (is_white (looked_heap k w n rest f tags)) (is_white k) same_white
-      (reference_at (looked_heap k w n rest f tags).heap m)
+  refers_now m = search (refers_into-same, same_white)
 
   own_off : refers_into (is_white k) (reference_at (looked_heap k w n rest f tags).heap n) ≡ false
   own_off =
@@ -146,9 +117,7 @@ module _ (k : CycleHeap) (a : State) (w n : ℕ) (rest : List ℕ) (f : Object �
   others_same : (m : ℕ) → (n == m) ≡ false
       → refers_into (is_white (looked_heap k w n rest f tags)) (reference_at (looked_heap k w n rest f tags).heap m)
       ≡ refers_into (is_white k) (reference_at k.heap m)
-  others_same m other =
-      refers_now m
-      ∙ ap (λ o. refers_into (is_white k) (reference_in o)) (changed_elsewhere k.heap.objects n m f keeps other)
+  others_same m other = grind (arith, refers_now, changed_elsewhere)
 
   -- what is found still was found
   found_before : (m : ℕ) → has (joined (slice_set k.found w rest)) m ≡ true → has (joined k.found) m ≡ true
@@ -158,20 +127,7 @@ module _ (k : CycleHeap) (a : State) (w n : ℕ) (rest : List ℕ) (f : Object �
   -- a root then was one, or is that one
   roots_before : (m : ℕ) → has (graph_of (state_with a pss (slice_set a.found w rest)).world).roots m ≡ true
       → (n ≡ m) ⊎ (has (graph_of a.world).roots m ≡ true)
-  roots_before m root =
-      let slots = present a.world.heap.slots in
-      let held = a.world.heap.holds in
-      let before = pending_numbers a.world.pending in
-      elim (root_cases slots held (pending_numbers pss) m root) [
-        | inl slot ↦ inr (slot_root slots held before m slot)
-        | inr others ↦ elim others [
-          | inl hold ↦ inr (hold_root slots held before m hold)
-          | inr last ↦ elim (pends m last) [
-            | inl own ↦ inl own
-            | inr pending ↦ inr (pending_root slots held before m pending)
-          ]
-        ]
-      ]
+  roots_before m root = grind (arith, root_cases, slot_root, hold_root, pending_root)
 
   -- what holds in Clearing goes on holding
   looked_clearing : InClearing (looked_heap k w n rest f tags) (slice_set a.found w rest) a.cleared

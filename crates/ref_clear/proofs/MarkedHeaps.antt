@@ -28,9 +28,7 @@ module _ {j k : CycleHeap} {lists : List Worklist} {swept_to : ℕ} (step : Name
   pub sound_marked : goes_on_sweeping step ≡ true
       → with_mark (seen_heap k lists) (after_in_cycle k step) ≡ after_in (seen_heap k lists) step
       → IsSoundHeap j lists swept_to
-  sound_marked own same =
-      sound_after step own sound (seen_marked ∙ same) sound.room
-      (registered_kept k j lists marked_kept sound.registered)
+  sound_marked own same = search (sound_after, seen_marked, registered_kept, marked_kept)
 
   -- and so it is where what is pending is shaded then
   module _ {i : CycleHeap} (shades : i ≡ shaded_all j (joined (worklists_of lists))) where

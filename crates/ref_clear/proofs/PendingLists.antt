@@ -1,7 +1,7 @@
 -- The lists of pending references as they are seen: one of them is read, or replaced, and there is room in each.
 use Rattle.std.proofs.Common.{◌≡◌, ℕ, ◌<◌, ◌≤◌, ◌==◌, nat_lt, refl, sym, ap, subst, ◌∙◌, arith, zero, suc, true, List}
-use Rattle.std.proofs.Common.{[], ◌∷◌, ◌++◌, length, map, get_or, set, Option, Some, None, ◌⊎◌, inl, inr}
-use Rattle.std.proofs.lemmas.Bool.{or_left, or_right, eq-eqb, ltb-true}
+use Rattle.std.proofs.Common.{[], ◌∷◌, length, map, get_or, set, Option, Some, None, ◌⊎◌, inr}
+use Rattle.std.proofs.lemmas.Bool.{or_left, or_right, eq-eqb}
 use Rattle.std.proofs.lemmas.List.{length-map, map-set, get_or_read}
 use Rattle.std.proofs.Math.ListN.{get_or-map}
 use Rattle.std.specs.Option.{option_map, IsSome}
@@ -25,9 +25,7 @@ module _ (os : List Object) (ts : List Tag) where
   pub pending_numbers-seen : (ls : List Worklist)
       → pending_numbers (pending_lists_of os ts ls) ≡ joined (worklists_of ls)
   pending_numbers-seen [] = refl
-  pending_numbers-seen (l ∷ ls) =
-      ap (λ ns. ns ++ pending_numbers (pending_lists_of os ts ls)) (numbers_in-pendings l.stands)
-      ∙ ap (λ ns. l.stands ++ ns) (pending_numbers-seen ls)
+  pending_numbers-seen (l ∷ ls) = search (numbers_in-pendings, pending_numbers-seen ls)
 
   -- one is told of the number at its place
   pub told_at : (ns : List ℕ) (place : ℕ)
@@ -50,9 +48,7 @@ module _ (os : List Object) (ts : List Tag) where
   -- one is replaced
   pub lists_of-set : (ls : List Worklist) (w : ℕ) (l : Worklist)
       → pending_lists_of os ts (set ls w l) ≡ set (pending_lists_of os ts ls) w (pendings_in os ts l.stands)
-  lists_of-set ls w l =
-      lists_of-map (set ls w l) ∙ map-set (λ (m : Worklist). pendings_in os ts m.stands) ls w l
-      ∙ ap (λ (pss : List (List Pending)). set pss w (pendings_in os ts l.stands)) (sym (lists_of-map ls))
+  lists_of-set ls w l = search (lists_of-map, map-set)
 
   -- one is read
   list_read : (ls : List Worklist) (w : ℕ) (l : Worklist) → w < length ls → l ≡ get_or ls w l
@@ -75,19 +71,14 @@ pending_at-seen k ls w l within is = list_read k.heap.objects k.tags ls w l with
 -- a list that is found where they are lent
 pub found_list : {ls lent : List Worklist} {l : Worklist} (w : ℕ) → lent ≡ ls → nat_lt w (length lent) ≡ true
     → l ≡ get_or lent w l → (w < length ls) × (l ≡ get_or ls w l)
-found_list {ls} {lent} {l} w same within is = (
-  subst (λ (ms : List Worklist). w < length ms) same (ltb-true w (length lent) within),
-  is ∙ ap (λ (ms : List Worklist). get_or ms w l) same,
-)
+found_list {ls} {lent} {l} w same within is = grind arith
 
 -- what is told of the number that is read at a place
 pub told_as_seen : (k : CycleHeap) (ls : List Worklist) (w place : ℕ) {l : Worklist} {read other : Option ℕ}
     → w < length ls → l ≡ get_or ls w l → read ≡ listed_at l.stands place → read ≡ other
     → pending_from (pending_at (seen_heap k ls) w) place ≡ option_map (pending_in k.heap.objects k.tags) other
 told_as_seen k ls w place {l} within is reads same =
-    ap (λ ps. pending_from ps place) (sym (pending_at-seen k ls w l within is))
-    ∙ told_at k.heap.objects k.tags l.stands place
-    ∙ ap (option_map (pending_in k.heap.objects k.tags)) (sym reads ∙ same)
+    search (pending_at-seen k ls w l within is, told_at k.heap.objects k.tags l.stands place)
 
 from_nothing : (place : ℕ) → pending_from [] place ≡ None
 from_nothing zero = refl
@@ -95,9 +86,7 @@ from_nothing (suc place) = refl
 
 pub none_past : (k : CycleHeap) (ls : List Worklist) (w place : ℕ) → (w < length ls → ⊥)
     → pending_from (pending_at (seen_heap k ls) w) place ≡ None
-none_past k ls w place past =
-    ap (λ (ps : List Pending). pending_from ps place) (lists_of-past k.heap.objects k.tags ls w past)
-    ∙ from_nothing place
+none_past k ls w place past = search (lists_of-past, from_nothing)
 
 -- ---- the numbers in the lists
 
@@ -123,25 +112,9 @@ pub has-replaced : (P : ℕ → Type 0) (ls : List Worklist) (w : ℕ) (l m : Wo
     → ((n : ℕ) → has m.stands n ≡ true → P n ⊎ (has l.stands n ≡ true)) → (n : ℕ)
     → has (joined (worklists_of (set ls w m))) n ≡ true → P n ⊎ (has (joined (worklists_of ls)) n ≡ true)
 has-replaced P [] w l m is each n stands = inr stands
-has-replaced P (i ∷ ls) zero l m is each n stands =
-    elim (has-cases m.stands (joined (worklists_of ls)) n stands) [
-      | inl here ↦ elim (each n here) [
-        | inl new ↦ inl new
-        | inr before ↦
-            inr
-            (has-left i.stands (joined (worklists_of ls)) n
-            (subst (λ (j : Worklist). has j.stands n ≡ true) is before))
-      ]
-      | inr other ↦ inr (has-right i.stands (joined (worklists_of ls)) n other)
-    ]
+has-replaced P (i ∷ ls) zero l m is each n stands = grind (arith, has-cases, has-left, has-right)
 has-replaced P (i ∷ ls) (suc w) l m is each n stands =
-    elim (has-cases i.stands (joined (worklists_of (set ls w m))) n stands) [
-      | inl here ↦ inr (has-left i.stands (joined (worklists_of ls)) n here)
-      | inr later ↦ elim (has-replaced P ls w l m is each n later) [
-        | inl new ↦ inl new
-        | inr before ↦ inr (has-right i.stands (joined (worklists_of ls)) n before)
-      ]
-    ]
+    grind (arith, has-cases, has-left, has-right, has-replaced P ls w l m is each n)
 
 -- ---- room
 
@@ -168,23 +141,16 @@ module _ {k : CycleHeap} {lists : List Worklist} {swept_to : ℕ} (w : ℕ) (sou
   -- a worker, by the configuration that is read
   pub worker_within : {now : ClearHeap} {config : Config} → seen_heap k lists ≡ now → config ≡ now.mark.heap.config
       → w < config.workers → w < k.heap.config.workers
-  worker_within same is within =
-      subst (λ (c : ClearHeap). w < c.mark.heap.config.workers) (sym same)
-      (subst (λ (i : Config). w < i.workers) is within)
+  worker_within same is within = grind arith
 
   -- what stands at a place of a worker's list is registered with a queue
   pub listed_registered : {l : Worklist} {read : Option ℕ} (place n : ℕ) → w < length lists → l ≡ get_or lists w l
       → read ≡ listed_at l.stands place → read ≡ Some n → IsSome (registered_in (reference_at k.heap n))
-  listed_registered {l} place n within is reads same =
-      sound.registered n
-      (has-list lists w l n within is (has-listed l.stands place n (sym reads ∙ same)))
+  listed_registered {l} place n within is reads same = grind (arith, has-list, has-listed)
 
   module _ (within : w < k.heap.config.workers) where
     pub worker_has_list : w < length lists
-    worker_has_list =
-        let count = length-lists_of k.heap.objects k.tags lists in
-        let workers = sound.stands.1.waiting.workers in
-        omega (arith, within, count, workers)
+    worker_has_list = grind (arith, length-lists_of)
 
     -- what stands in the list that is read
     pub stands_as_seen : {l : Worklist} → l ≡ get_or lists w l
@@ -201,6 +167,4 @@ module _ {k : CycleHeap} {lists : List Worklist} {swept_to : ℕ} (w : ℕ) (sou
     pub room_taken : {l m : Worklist} (cells : ℕ) → l ≡ get_or lists w l → m ≡ without_first_listed l
         → HaveRoom lists cells
         → HaveRoom (set lists w m) cells
-    room_taken {l} {m} cells is taken room =
-        let own = room_at lists cells w l worker_has_list is room in
-        HaveRoom-set lists cells w m (subst (λ n. cells ≤ n) (sym (ap (λ (i : Worklist). i.room) taken)) own) room
+    room_taken {l} {m} cells is taken room = grind (arith, room_at, worker_has_list, HaveRoom-set)

@@ -1,14 +1,14 @@
 -- There is always room for one more pending reference: each stands in the lists once, and is there.
-use Rattle.std.proofs.Common.{◌≡◌, ℕ, ◌+◌, ◌<◌, ◌≤◌, Bool, true, false, ◌==◌, refl, sym, ap, subst, ◌∙◌, arith, List}
-use Rattle.std.proofs.Common.{[], ◌∷◌, ◌++◌, map, length, length-append, Option, Some, None, inl, inr, zero, suc}
+use Rattle.std.proofs.Common.{◌≡◌, ℕ, ◌<◌, ◌≤◌, Bool, true, false, ◌==◌, refl, ap, subst, arith, List}
+use Rattle.std.proofs.Common.{[], ◌∷◌, ◌++◌, length, length-append, Option, Some, None, inl, inr, zero, suc}
 use Rattle.std.specs.Prelude.{slice_index_or}
-use Rattle.std.proofs.lemmas.Bool.{or_cases, or_right, ne_eqb, eqb-true, true≢false, false_from_ne_true}
+use Rattle.std.proofs.lemmas.Bool.{or_cases, eqb-true}
 use Rattle.std.proofs.lemmas.List.{length-map}
-use Rattle.ref_clear.proofs.Common.{has, AreDistinct, Object, Reference, is_there, any_is, refers_into, reference_at}
-use Rattle.ref_clear.proofs.Common.{Pending, pending_numbers, State, referent_of, is_doomed, ClearHeap, pending_at}
+use Rattle.ref_clear.proofs.Common.{has, AreDistinct, Object, Reference, is_there, any_is, refers_into}
+use Rattle.ref_clear.proofs.Common.{Pending, pending_numbers, State, referent_of, ClearHeap, pending_at}
 use Rattle.ref_clear.proofs.Common.{is_to_clear, HeapStands}
 use Rattle.ref_base.specs.Searches.{unseen}
-use Rattle.ref_base.proofs.HasLaws.{has-first, has-append}
+use Rattle.ref_base.proofs.HasLaws.{has-append}
 use Rattle.ref_base.proofs.SearchLaws.{unseen-less}
 use Rattle.ref_clear.proofs.PendingFacts.{pending_is_there}
 
@@ -23,24 +23,12 @@ distinct_unseen : (os : List Object) (seen ns : List ℕ) → AreDistinct ns
     → ((n : ℕ) → has ns n ≡ true → (is_there os n ≡ true) × (has seen n ≡ false)) → length ns ≤ unseen os seen
 distinct_unseen os seen [] distinct new = omega arith
 distinct_unseen os seen (n ∷ ns) distinct new =
-    let own = new n (has-first n ns) in
-    let less : unseen os (seen ++ n ∷ []) + 1 ≤ unseen os seen = unseen-less os seen n own.0 own.1 in
-    let later : length ns ≤ unseen os (seen ++ n ∷ []) =
-    distinct_unseen os (seen ++ n ∷ []) ns distinct.1
-    (λ m within.
-    let before = new m (or_right (n == m) (has ns m) within) in
-    let other : (n == m) ≡ false =
-    ne_eqb n m (λ same. true≢false (sym within ∙ ap (has ns) (sym same) ∙ distinct.0)) in
-    (before.0, has-append seen (n ∷ []) m ∙ simp (before.1, other) refl)) in
-    omega (arith, less, later)
+    grind (arith, unseen-less, has-append, distinct_unseen os (seen ++ n ∷ []) ns distinct.1)
 
 -- so many numbers of objects, each once, are no more than the objects
 pub distinct_fit : (os : List Object) (ns : List ℕ) → AreDistinct ns
     → ((n : ℕ) → has ns n ≡ true → is_there os n ≡ true) → length ns ≤ length os
-distinct_fit os ns distinct there =
-    let few = distinct_unseen os [] ns distinct (λ n within. (there n within, refl)) in
-    let all = unseen-first os in
-    omega (arith, few, all)
+distinct_fit os ns distinct there = grind (arith, distinct_unseen, unseen-first os)
 
 -- ---- pending references
 
@@ -53,25 +41,14 @@ cleared_refers_to_none test (Some r) none = ap (any_is test) none
 -- a reference to the doomed isn't pending
 pub to_clear_is_not_pending : (c : ClearHeap) (a : State) (n : ℕ) → HeapStands c a → is_to_clear c.mark n ≡ true
     → has (pending_numbers c.pending) n ≡ false
-to_clear_is_not_pending c a n stands refers =
-    false_from_ne_true (has (pending_numbers c.pending) n)
-    (λ within.
-    true≢false
-    (sym refers
-    ∙ cleared_refers_to_none (is_doomed c.mark) (reference_at c.mark.heap n) (stands.waiting.cleared n within)))
+to_clear_is_not_pending c a n stands refers = grind arith
 
 -- one list has no more than all
 list_within : (pss : List (List Pending)) (w : ℕ)
     → length (slice_index_or pss w []) ≤ length (pending_numbers pss)
 list_within [] w = omega arith
-list_within (ps ∷ pss) zero =
-    let own = length-map ps (λ p. p.object) in
-    let all = length-append (map (λ p. p.object) ps) (pending_numbers pss) in
-    omega (arith, own, all)
-list_within (ps ∷ pss) (suc w) =
-    let later = list_within pss w in
-    let all = length-append (map (λ p. p.object) ps) (pending_numbers pss) in
-    omega (arith, later, all)
+list_within (ps ∷ pss) zero = grind (arith, length-map, length-append)
+list_within (ps ∷ pss) (suc w) = grind (arith, length-append, list_within pss w)
 
 pub pending_has_room : (c : ClearHeap) (a : State) (n w : ℕ) → HeapStands c a
     → is_there c.mark.heap.objects n ≡ true → is_to_clear c.mark n ≡ true

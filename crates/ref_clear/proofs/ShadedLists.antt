@@ -1,15 +1,12 @@
 -- As a cycle begins the pending references become grey, worker by worker in list order.
 use Rattle.std.proofs.Common.{◌≡◌, ℕ, ◌+◌, ◌<◌, ◌≤◌, zero, suc, List, [], ◌∷◌, ◌++◌, length, take, get_or, Some, None}
-use Rattle.std.proofs.Common.{sym, ap, ◌∙◌, arith}
+use Rattle.std.proofs.Common.{ap, ◌∙◌, arith}
 use Rattle.std.proofs.lemmas.List.{append-nil, append_assoc, take_all}
 use Rattle.ref_clear.proofs.Common.{joined, CycleHeap, shaded, shaded_all, Worklist, worklists_of}
 use Rattle.ref_mark.specs.Worklists.{listed_at}
 use Rattle.ref_mark.proofs.Shading.{shaded_all-append}
 
 -- ---- of one worker
-
-next_place : (place : ℕ) → place + 1 ≡ suc place
-next_place place = omega arith
 
 listed-more : (ns : List ℕ) (place n : ℕ) → listed_at ns place ≡ Some n → take (suc place) ns ≡ take place ns ++ n ∷ []
 listed-more [] zero n is = absurd (cc)
@@ -19,9 +16,7 @@ listed-more (m ∷ ns) (suc place) n is = ap (λ ms. m ∷ ms) (listed-more ns p
 
 pub listed_more : (start k : CycleHeap) (ns : List ℕ) (place n : ℕ) → listed_at ns place ≡ Some n
     → k ≡ shaded_all start (take place ns) → shaded k n ≡ shaded_all start (take (place + 1) ns)
-listed_more start k ns place n is so_far =
-    ap (λ (j : CycleHeap). shaded j n) so_far ∙ sym (shaded_all-append start (take place ns) (n ∷ []))
-    ∙ ap (shaded_all start) (sym (ap (λ i. take i ns) (next_place place) ∙ listed-more ns place n is))
+listed_more start k ns place n is so_far = grind (arith, shaded_all-append, listed-more ns place n is)
 
 -- a place within the list has one
 pub listed_there : (ns : List ℕ) (place : ℕ) → place < length ns → listed_at ns place ≡ None → ⊥
@@ -39,18 +34,12 @@ joined-more : (ls : List Worklist) (w : ℕ) (l : Worklist) → w < length ls
     → joined (worklists_of (take (suc w) ls)) ≡ joined (worklists_of (take w ls)) ++ (get_or ls w l).stands
 joined-more [] w l within = absurd (omega (arith, within))
 joined-more (m ∷ ls) zero l within = append-nil m.stands
-joined-more (m ∷ ls) (suc w) l within =
-    ap (λ ns. m.stands ++ ns) (joined-more ls w l (omega (arith, within)))
-    ∙ sym (append_assoc m.stands (joined (worklists_of (take w ls))) (get_or ls w l).stands)
+joined-more (m ∷ ls) (suc w) l within = grind (arith, append_assoc, joined-more ls w l)
 
 pub worker_more : (start k : CycleHeap) (ls : List Worklist) (w : ℕ) (l : Worklist) → w < length ls
     → k ≡ shaded_all start (joined (worklists_of (take w ls)))
     → shaded_all k (get_or ls w l).stands ≡ shaded_all start (joined (worklists_of (take (w + 1) ls)))
-worker_more start k ls w l within so_far =
-    ap (λ (j : CycleHeap). shaded_all j (get_or ls w l).stands) so_far
-    ∙ sym (shaded_all-append start (joined (worklists_of (take w ls))) (get_or ls w l).stands)
-    ∙ ap (shaded_all start)
-    (sym (ap (λ i. joined (worklists_of (take i ls))) (next_place w) ∙ joined-more ls w l within))
+worker_more start k ls w l within so_far = grind (arith, joined-more, shaded_all-append start)
 
 pub all_workers : (start k : CycleHeap) (ls : List Worklist) (w : ℕ) → length ls ≤ w
     → k ≡ shaded_all start (joined (worklists_of (take w ls))) → k ≡ shaded_all start (joined (worklists_of ls))

@@ -94,7 +94,4 @@ sound_swept {j} {k} {lists} {swept_to} {reached} w none after may sound =
 pub seen_swept : {j k : CycleHeap} {lists : List Worklist} {swept_to : ℕ} (w : ℕ)
     → work_refusal k.heap k.phase Sweeping w ≡ None → j ≡ swept_some k → IsSoundHeap k lists swept_to
     → seen_heap j lists ≡ after_in (seen_heap k lists) (heap.Sweep w)
-seen_swept {j} {k} {lists} {swept_to} w none after sound =
-    let c : ClearHeap = seen_heap k lists in
-    ap (λ (i : CycleHeap). seen_heap i lists) after ∙ seen_kept k (swept_some k) lists (kept_swept w none sound)
-    ∙ sym (ap (λ refused. unless_refused refused (λ fault. c) (with_mark c (swept_some k))) none)
+seen_swept {j} {k} {lists} {swept_to} w none after sound = grind (arith, seen_kept, kept_swept w none sound)

@@ -1,8 +1,8 @@
 -- What holds of a heap goes on holding by each of its steps.
-use Rattle.std.proofs.Common.{◌≡◌, ℕ, ◌≤◌, true, List, refl, sym, ap, subst, ◌∙◌}
-use Rattle.std.proofs.lemmas.Bool.{or_right}
-use Rattle.ref_clear.proofs.Common.{has, NamedStep, State, is_in, Config, Clearing, Sweeping, CycleHeap, is_white}
-use Rattle.ref_clear.proofs.Common.{is_past_mark, doomed, MarkStands, ClearHeap, answer_in, after_in, Worklist}
+use Rattle.std.proofs.Common.{arith}
+use Rattle.std.proofs.Common.{◌≡◌, ℕ, ◌≤◌, true, List, sym, subst, ◌∙◌}
+use Rattle.ref_clear.proofs.Common.{has, NamedStep, State, is_in, Config, Sweeping, CycleHeap, is_white}
+use Rattle.ref_clear.proofs.Common.{doomed, MarkStands, ClearHeap, answer_in, after_in, Worklist}
 use Rattle.ref_clear.proofs.Common.{seen_heap, AreRegistered, HaveRoom, IsSoundHeap, HeapStands}
 use Rattle.ref_mark.proofs.DoomedLists.{has-doomed}
 use Rattle.ref_clear.proofs.KeptRows.{goes_on_sweeping, SweepsOn, sweeps_on}
@@ -10,22 +10,14 @@ use Rattle.ref_clear.proofs.HeapLaws.{each_step, config_of}
 
 -- in a sweep what is doomed is what is white
 doomed_in_sweep : (k : CycleHeap) (n : ℕ) → is_in k.phase Sweeping ≡ true → has (doomed k) n ≡ is_white k n
-doomed_in_sweep k n sweeping =
-    let past : is_past_mark k.phase ≡ true = or_right (is_in k.phase Clearing) (is_in k.phase Sweeping) sweeping in
-    has-doomed k n ∙ simp past refl
+doomed_in_sweep k n sweeping = grind (arith, has-doomed)
 
 -- where a sweep goes on with the doomed as they were, nothing below where it has come to is left
 swept_still : (j k : CycleHeap) (a b : State) (swept_to : ℕ) → MarkStands k a → MarkStands j b → SweepsOn a b
     → (is_in k.phase Sweeping ≡ true → (n : ℕ) → is_white k n ≡ true → swept_to ≤ n)
     → is_in j.phase Sweeping ≡ true → (n : ℕ) → is_white j n ≡ true → swept_to ≤ n
 swept_still j k a b swept_to before after on swept sweeping n white =
-    let now : is_in b.world.phase Sweeping ≡ true = ap (λ p. is_in p Sweeping) after.phase ∙ sweeping in
-    let was : is_in k.phase Sweeping ≡ true =
-    ap (λ p. is_in p Sweeping) (sym before.phase) ∙ (on.swept now).1 in
-    let same : doomed j ≡ doomed k = sym after.doomed ∙ (on.swept now).0 ∙ before.doomed in
-    let still : is_white k n ≡ true =
-    sym (doomed_in_sweep k n was) ∙ ap (λ ds. has ds n) (sym same) ∙ doomed_in_sweep j n sweeping ∙ white in
-    swept was n still
+    grind (arith, doomed_in_sweep, doomed_in_sweep k n)
 
 -- each step but a sweep, and the one that begins it
 pub sound_after : {j k : CycleHeap} {lists now : List Worklist} {swept_to : ℕ} (step : NamedStep)

@@ -1,24 +1,21 @@
 -- What the loop of a sweep frees, turn by turn.
-use Rattle.std.proofs.Common.{◌≡◌, ℕ, ◌+◌, ◌<◌, ◌≤◌, true, nat_le, ◌==◌, ◌&&◌, not, is_some, refl, sym, ap, subst, ◌∙◌}
-use Rattle.std.proofs.Common.{arith, List, [], ◌∷◌, ◌++◌, length, get_or, take, drop, min, Some, None, ◌⊎◌, inl, inr}
-use Rattle.std.proofs.lemmas.Bool.{cases_lt, le-leb, and_parts, or_left, eq-eqb}
+use Rattle.std.proofs.Common.{◌≡◌, ℕ, ◌+◌, ◌<◌, ◌≤◌, true, nat_le, ◌&&◌, not, is_some, refl, sym, ap, ◌∙◌}
+use Rattle.std.proofs.Common.{arith, List, [], ◌∷◌, ◌++◌, length, take, drop, min, Some, None, ◌⊎◌, inl, inr}
+use Rattle.std.proofs.lemmas.Bool.{le-leb, and_parts}
 use Rattle.std.proofs.lemmas.List.{take_more, drop_more, drop_all, take_all}
 use Rattle.ref_clear.proofs.Common.{has, Object, is_there, numbers, IsRising, without, is_in, Sweeping, unmarked}
-use Rattle.ref_clear.proofs.Common.{least_from, first_in, CycleHeap, is_white, is_past_mark, doomed, swept_some}
+use Rattle.ref_clear.proofs.Common.{least_from, first_in, CycleHeap, is_white, doomed, swept_some}
 use Rattle.ref_clear.proofs.Common.{MaySweep}
 use Rattle.ref_base.proofs.HasLaws.{has-first}
-use Rattle.ref_mark.specs.CycleHeaps.{is_swept, swept}
+use Rattle.ref_mark.specs.CycleHeaps.{swept}
 use Rattle.ref_mark.proofs.DoomedLists.{has-unmarked, has-doomed}
 use Rattle.ref_mark.proofs.MovedStates.{sweeping_is_past}
-use Rattle.ref_objects.specs.Grounds.{Tag, without_tag}
+use Rattle.ref_objects.specs.Grounds.{Tag}
 use Rattle.ref_clear.specs.ClearHeaps.{without_tags}
 use Rattle.ref_clear.proofs.GoneObjects.{without-none, without-append, object_at-left, left_from_there, rising-without}
 use Rattle.ref_clear.proofs.GoneObjects.{without_tags-append, unmarked-swept, first_unmarked-least}
 
 -- ---- lists
-
-some_is_not_none : {n : ℕ} → None ≡ Some n → ⊥
-some_is_not_none is = absurd (cc)
 
 -- where all numbers are from this one on, the least from it on is the first
 least_from-first : (ns : List ℕ) (from : ℕ) → ((n : ℕ) → has ns n ≡ true → from ≤ n)
@@ -30,28 +27,10 @@ least_from-first (n ∷ ns) from all =
 -- the first of what is left of a list where so many are taken
 first_left : (ns : List ℕ) (i n : ℕ) → first_in (drop i ns) ≡ Some n
     → (i < length ns) × (take (i + 1) ns ≡ take i ns ++ n ∷ [])
-first_left ns i n first =
-    elim (cases_lt i (length ns)) [
-      | inl within ↦
-          let is : Some (get_or ns i 0) ≡ Some n = sym (ap first_in (drop_more ns i 0 within)) ∙ first in
-          let same : get_or ns i 0 ≡ n = cc in
-          (within, take_more ns i 0 within ∙ ap (λ m. take i ns ++ m ∷ []) same)
-      | inr all ↦ absurd (some_is_not_none (sym (ap first_in (drop_all i ns all)) ∙ first))
-    ]
-
--- the first of a list is in it
-first_within : (ns : List ℕ) (n : ℕ) → first_in ns ≡ Some n → has ns n ≡ true
-first_within [] n first = absurd (some_is_not_none first)
-first_within (m ∷ ns) n first =
-    let is : Some m ≡ Some n = first in let same : m ≡ n = cc in or_left (m == n) (has ns n) (eq-eqb m n same)
+first_left ns i n first = grind (arith, drop_more, drop_all, take_more ns i 0)
 
 none_left : (ns : List ℕ) (i : ℕ) → first_in (drop i ns) ≡ None → length ns ≤ i
-none_left ns i first =
-    elim (cases_lt i (length ns)) [
-      | inl within ↦
-          absurd (some_is_not_none (sym first ∙ ap first_in (drop_more ns i 0 within)))
-      | inr all ↦ all
-    ]
+none_left ns i first = grind (arith, drop_more ns i 0)
 
 -- ---- heaps
 
@@ -68,18 +47,12 @@ swept_so_many k i = without_objects k (take i (doomed k))
 
 -- in a sweep what isn't marked is doomed
 pub doomed-sweeping : (k : CycleHeap) → is_in k.phase Sweeping ≡ true → doomed k ≡ unmarked k.heap.objects k.marked
-doomed-sweeping k sweeping =
-    let past : is_past_mark k.phase ≡ true = sweeping_is_past k.phase sweeping in
-    simp past refl
+doomed-sweeping k sweeping = search sweeping_is_past
 
 -- and the later ones are still doomed
 pub doomed-so_many : (k : CycleHeap) (i : ℕ) → is_in k.phase Sweeping ≡ true → IsRising (numbers k.heap.objects)
     → doomed (swept_so_many k i) ≡ drop i (doomed k)
-doomed-so_many k i sweeping rising =
-    let all = doomed-sweeping k sweeping in
-    doomed-sweeping (swept_so_many k i) sweeping
-    ∙ ap (λ (d : List ℕ). unmarked (without (take i d) k.heap.objects) k.marked) all
-    ∙ unmarked-swept i k.heap.objects k.marked rising ∙ ap (drop i) (sym all)
+doomed-so_many k i sweeping rising = grind (arith, unmarked-swept)
 
 -- what is white in a sweep is doomed
 pub white_is_doomed : (k : CycleHeap) → is_in k.phase Sweeping ≡ true → (n : ℕ) → has (doomed k) n ≡ is_white k n
@@ -96,34 +69,16 @@ pub record IsSwept (start k : CycleHeap) (i from : ℕ) : Type 0 where
   pub may : MaySweep k from
 
 pub nothing_swept : (k : CycleHeap) (from : ℕ) → MaySweep k from → IsSwept k k 0 from
-nothing_swept k from may = record {
-  so_far = ap (λ os. with_objects k os k.tags) (sym (without-none k.heap.objects));
-  few = omega arith;
-  at_most = omega arith;
-  may = may;
-}
+nothing_swept k from may = grind (arith, without-none)
 
 -- what is left is doomed still
 left_doomed : (start k : CycleHeap) (i from : ℕ) → IsRising (numbers start.heap.objects) → IsSwept start k i from
     → doomed k ≡ drop i (doomed start)
-left_doomed start k i from rising swept_so_far =
-    let sweeping : is_in start.phase Sweeping ≡ true =
-    ap (λ (j : CycleHeap). is_in j.phase Sweeping) (sym swept_so_far.so_far) ∙ swept_so_far.may.sweeping in
-    ap doomed swept_so_far.so_far ∙ doomed-so_many start i sweeping rising
+left_doomed start k i from rising swept_so_far = grind (arith, doomed-so_many)
 
 -- the first of it is what a look from this number on finds
 first_doomed : (k : CycleHeap) (from : ℕ) → MaySweep k from → least_from (doomed k) from ≡ first_in (doomed k)
-first_doomed k from may =
-    least_from-first (doomed k) from
-    (λ n within. may.swept n (sym (white_is_doomed k may.sweeping n) ∙ within))
-
--- a white object is freed
-swept_white : (k : CycleHeap) (from n : ℕ) → MaySweep k from → is_white k n ≡ true
-    → swept k n ≡ without_objects k (n ∷ [])
-swept_white k from n may white =
-    let sweeping = may.sweeping in
-    let free = may.free n white in
-    let is : is_swept k n ≡ true = simp (sweeping, white, free) refl in simp is refl
+first_doomed k from may = grind (arith, least_from-first, white_is_doomed)
 
 may_go_on : (k : CycleHeap) (from n : ℕ) → MaySweep k from → first_in (doomed k) ≡ Some n
     → MaySweep (without_objects k (n ∷ [])) n
@@ -148,23 +103,16 @@ may_go_on k from n may first =
 pub one_more_swept : (start k : CycleHeap) (i from n : ℕ) → IsRising (numbers start.heap.objects) → i < 64
     → IsSwept start k i from → Some n ≡ least_from (doomed k) from → IsSwept start (swept k n) (i + 1) n
 one_more_swept start k i from n rising more so_far next =
-    let may : MaySweep k from = so_far.may in
-    let first : first_in (doomed k) ≡ Some n = sym (next ∙ first_doomed k from may) in
-    let parts =
-    first_left (doomed start) i n (ap first_in (sym (left_doomed start k i from rising so_far)) ∙ first) in
-    let white : is_white k n ≡ true = sym (white_is_doomed k may.sweeping n) ∙ first_within (doomed k) n first in
-    let is : swept k n ≡ without_objects k (n ∷ []) = swept_white k from n may white in
-    record {
-      so_far = is ∙ ap (λ (j : CycleHeap). without_objects j (n ∷ [])) so_far.so_far
-          ∙ ap (λ os. with_objects start os (without_tag (without_tags (take i (doomed start)) start.tags) n))
-          (without-append (take i (doomed start)) (n ∷ []) start.heap.objects)
-          ∙ ap (with_objects start (without (take i (doomed start) ++ n ∷ []) start.heap.objects))
-          (without_tags-append (take i (doomed start)) n start.tags)
-          ∙ ap (without_objects start) (sym parts.1);
-      few = let within : i < length (doomed start) = parts.0 in omega (arith, within);
-      at_most = omega (arith, more);
-      may = subst (λ (j : CycleHeap). MaySweep j n) (sym is) (may_go_on k from n may first);
-    }
+    grind (
+      arith,
+      first_doomed,
+      first_left,
+      without-append,
+      without_tags-append,
+      left_doomed start k i from rising so_far,
+      white_is_doomed k,
+      may_go_on k from n,
+    )
 
 -- ---- the end
 

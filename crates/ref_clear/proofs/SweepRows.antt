@@ -1,38 +1,35 @@
 -- A sweep of the abstract collector, and that the heap stands for the state that it leaves.
-use Rattle.std.proofs.Common.{◌≡◌, ℕ, ◌≤◌, Bool, true, false, not, ◌&&◌, ◌||◌, if◌then◌else◌, refl, sym, ap, subst, ◌∙◌}
+use Rattle.std.proofs.Common.{arith}
+use Rattle.std.proofs.Common.{◌≡◌, ℕ, ◌≤◌, Bool, true, false, not, ◌&&◌, ◌||◌, refl, sym, ap, subst, ◌∙◌}
 use Rattle.std.proofs.Common.{List, [], ◌∷◌, map, take, drop, Option, Some, None, is_some, ◌⊎◌, inl, inr}
-use Rattle.std.proofs.lemmas.Bool.{cond-true, cases_Bool, and_parts, and_right, not-true, false≢true, true≢false}
+use Rattle.std.proofs.lemmas.Bool.{cond-true, and_parts, not-true, false≢true, true≢false}
 use Rattle.std.proofs.lemmas.Bool.{false_from_ne_true}
 use Rattle.std.proofs.lemmas.List.{take-append-drop}
-use Rattle.ref_clear.proofs.Common.{has, Object, Reference, object_at, is_there, numbers, Allowed, targets_of}
-use Rattle.ref_clear.proofs.Common.{targets_at, allowed_referent, present, soft_and_weak_referents, is_kept, any_is}
-use Rattle.ref_clear.proofs.Common.{refers_into, Heap, reference_at, reference_in, IsRising, graph_of, pending_numbers}
+use Rattle.ref_clear.proofs.Common.{has, Object, object_at, is_there, numbers, Allowed, targets_of}
+use Rattle.ref_clear.proofs.Common.{targets_at, soft_and_weak_referents, is_kept}
+use Rattle.ref_clear.proofs.Common.{refers_into, Heap, reference_at, reference_in, IsRising, graph_of}
 use Rattle.ref_clear.proofs.Common.{with_heap, is_in, State, HeapAccepts, without, shown, referent_of, forgotten}
-use Rattle.ref_clear.proofs.Common.{heap_but, Marking, Clearing, Sweeping, unmarked, CycleHeap, is_white, is_black}
+use Rattle.ref_clear.proofs.Common.{heap_but, Marking, Sweeping, unmarked, CycleHeap, is_white, is_black}
 use Rattle.ref_clear.proofs.Common.{is_in_cycle, doomed, MarkStands, FactsBut, unsaid, ReadsAs, shown_heap, ClearHeap}
 use Rattle.ref_clear.proofs.Common.{with_mark, swept_some, refusal_in, answer_of_sweep, HeapStands, MaySweep}
-use Rattle.ref_base.specs.DoomedSets.{is_new_clear, new_clears}
+use Rattle.ref_base.specs.DoomedSets.{new_clears}
 use Rattle.ref_base.specs.CollectorRows.{Sweeps}
-use Rattle.ref_base.specs.Forgetting.{blanked}
 use Rattle.ref_base.specs.declared.heap_step.HeapStep.TheVariants as heap
 use Rattle.ref_base.proofs.HasLaws.{has-append, has-cases, has-left, has-first}
-use Rattle.ref_base.proofs.Lookups.{allowed_referent-cases}
 use Rattle.ref_base.proofs.NewClears.{has-new_clears, refers_into-same}
-use Rattle.ref_base.proofs.Forgetting.{forgotten-shape}
 use Rattle.ref_mark.specs.CycleHeaps.{is_due}
 use Rattle.ref_mark.specs.Standing.{AreThere, InSweeping}
 use Rattle.ref_mark.proofs.DoomedLists.{has-unmarked, past_is_in_cycle, past_is_not_marking}
 use Rattle.ref_mark.proofs.Moves.{leading_is_there}
 use Rattle.ref_mark.proofs.MovedStates.{ticked_other}
 use Rattle.ref_mark.proofs.Passed.{work_passed}
-use Rattle.ref_mark.proofs.RootFacts.{root_is_not_white, hold_root}
+use Rattle.ref_mark.proofs.RootFacts.{hold_root}
 use Rattle.ref_mark.proofs.SafeMarks.{marked_is_black}
-use Rattle.ref_mark.proofs.Shading.{not_white_marked, refers_into-wider}
+use Rattle.ref_mark.proofs.Shading.{not_white_marked}
 use Rattle.ref_clear.proofs.GoneObjects.{without-none, has-take, object_at-gone, object_at-left, left_from_there}
 use Rattle.ref_clear.proofs.GoneObjects.{rising-without}
 use Rattle.ref_clear.proofs.SweepLoops.{doomed-so_many, doomed-sweeping, white_is_doomed}
 use Rattle.ref_mark.proofs.MovedStates.{sweeping_is_past}
-use Rattle.ref_mark.proofs.Passed.{is_sweeping}
 
 -- ---- in a sweep mutators read the heap as it is
 
@@ -42,13 +39,7 @@ none_within (n ∷ ns) none = absurd (none n (has-first n ns))
 
 map-shown_no_clears : (d : List ℕ) (os : List Object) → new_clears os d ≡ [] → map (λ o. shown d o) os ≡ os
 map-shown_no_clears d [] none = refl
-map-shown_no_clears d (o ∷ os) none =
-    elim (cases_Bool (is_new_clear d o)) [
-      | inl clear ↦ let some : o.no ∷ new_clears os d ≡ [] = simp clear at none in absurd (cc)
-      | inr keeps ↦
-          let later : new_clears os d ≡ [] = simp keeps at none in
-          simp keeps (ap (λ ps. o ∷ ps) (map-shown_no_clears d os later))
-    ]
+map-shown_no_clears d (o ∷ os) none = grind (arith, map-shown_no_clears d os)
 
 -- no black reference refers to a white object, so none is shown as cleared
 shown-sweeping : (k : CycleHeap) → IsRising (numbers k.heap.objects) → InSweeping k
@@ -75,20 +66,7 @@ forgotten-without : (d rest gone : List ℕ) (os : List Object)
     → ((n : ℕ) → has gone n ≡ false → has d n ≡ has rest n)
     → map (λ o. forgotten rest o) (without gone os) ≡ without gone (map (λ o. forgotten d o) os)
 forgotten-without d rest gone [] split = refl
-forgotten-without d rest gone (o ∷ os) split =
-    let number : (forgotten d o).no ≡ o.no = (forgotten-shape d).number o in
-    elim (cases_Bool (has gone o.no)) [
-      | inl out ↦
-          let still : has gone (forgotten d o).no ≡ true = ap (has gone) number ∙ out in
-          simp (out, still) (forgotten-without d rest gone os split)
-      | inr left ↦
-          let still : has gone (forgotten d o).no ≡ false = ap (has gone) number ∙ left in
-          let same : forgotten rest o ≡ forgotten d o =
-          ap (λ b. if b then blanked o else o) (sym (split o.no left)) in
-          simp (left, still)
-          (ap (λ p. p ∷ map (λ q. forgotten rest q) (without gone os)) same
-          ∙ ap (λ ps. forgotten d o ∷ ps) (forgotten-without d rest gone os split))
-    ]
+forgotten-without d rest gone (o ∷ os) split = grind (arith, forgotten-without d rest gone os split)
 
 -- what agrees but for some agrees when some of these are gone, but for the rest
 without_agrees : (d rest gone : List ℕ) (h g : Heap) → ((n : ℕ) → has gone n ≡ false → has d n ≡ has rest n)
@@ -96,31 +74,16 @@ without_agrees : (d rest gone : List ℕ) (h g : Heap) → ((n : ℕ) → has go
     → heap_but rest (record h { objects = without gone h.objects })
     ≡ heap_but rest (record g { objects = without gone g.objects })
 without_agrees d rest gone h g split same =
-    ap (λ (os : List Object). record h { objects = os }) (forgotten-without d rest gone h.objects split)
-    ∙ ap (λ (i : Heap). record i { objects = without gone i.objects }) same
-    ∙ sym (ap (λ (os : List Object). record g { objects = os }) (forgotten-without d rest gone g.objects split))
+    grind (arith, forgotten-without, forgotten-without d rest gone g.objects split)
 
 -- ---- what is left
-
-any_off : (test : ℕ → Bool) (value : Option ℕ) (n : ℕ) → any_is test value ≡ false → value ≡ Some n → test n ≡ false
-any_off test value n unmet is = sym (ap (any_is test) is) ∙ unmet
-
-referent_off : (allow : Allowed) (test : ℕ → Bool) (r : Option Reference) (n : ℕ) → refers_into test r ≡ false
-    → has (allowed_referent allow r) n ≡ true → test n ≡ false
-referent_off allow test None n unmet within = absurd (false≢true within)
-referent_off allow test (Some r) n unmet within =
-    any_off test r.referent n unmet (allowed_referent-cases allow r n within)
 
 -- what an object leads to as a soft or weak reference, where it doesn't refer to what passes the test
 soft_weak-cases : (allow : Allowed) (test : ℕ → Bool) (o : Option Object) (n : ℕ)
     → refers_into test (reference_in o) ≡ false → has (targets_of soft_and_weak_referents o) n ≡ true
     → (has (targets_of allow o) n ≡ true) ⊎ (test n ≡ false)
 soft_weak-cases allow test None n unmet target = absurd (false≢true target)
-soft_weak-cases allow test (Some o) n unmet target =
-    elim (has-cases (present o.fields) (allowed_referent soft_and_weak_referents o.reference) n target) [
-      | inl field ↦ inl (has-left (present o.fields) (allowed_referent allow o.reference) n field)
-      | inr referent ↦ inr (referent_off soft_and_weak_referents test o.reference n unmet referent)
-    ]
+soft_weak-cases allow test (Some o) n unmet target = grind (arith, has-cases, has-left)
 
 -- the state with the 64 least of these swept, or all
 abbrev state_swept : State → List ℕ → State
@@ -131,15 +94,10 @@ state_swept a ds = record a {
 
 shown_heap-sweeping : (k : CycleHeap) → is_in k.phase Sweeping ≡ true → IsRising (numbers k.heap.objects)
     → InSweeping k → shown_heap k ≡ k.heap
-shown_heap-sweeping k sweeping rising sweeps =
-    ap (λ (d : List ℕ). record k.heap { objects = map (λ o. shown d o) k.heap.objects }) (doomed-sweeping k sweeping)
-    ∙ ap (λ (os : List Object). record k.heap { objects = os }) (shown-sweeping k rising sweeps)
+shown_heap-sweeping k sweeping rising sweeps = search (doomed-sweeping, shown-sweeping)
 
 black_is_not_white : (k : CycleHeap) (n : ℕ) → is_black k n ≡ true → is_white k n ≡ false
-black_is_not_white k n black =
-    let parts = and_parts (is_there k.heap.objects n) (has k.marked n && not (has k.grey n)) black in
-    let marked : has k.marked n ≡ true = (and_parts (has k.marked n) (not (has k.grey n)) parts.1).0 in
-    and_right (is_there k.heap.objects n) (not (has k.marked n)) (ap not marked)
+black_is_not_white k n black = grind arith
 
 -- in a sweep
 module _ (k : CycleHeap) (a : State) (stands : MarkStands k a) (sweeping : is_in k.phase Sweeping ≡ true) where
@@ -172,25 +130,18 @@ module _ (k : CycleHeap) (a : State) (stands : MarkStands k a) (sweeping : is_in
   there_still n there other = ap is_some (object_at-left gone os n (not_gone n other)) ∙ there
 
   white_was : (n : ℕ) → is_white (swept_some k) n ≡ true → is_white k n ≡ true
-  white_was n white =
-      let parts = and_parts (is_there (without gone os) n) (not (has k.marked n)) white in
-      let there : is_there os n ≡ true = there_was n parts.0 in simp (there, parts.1) refl
+  white_was n white = grind (arith, there_was)
 
   still_not_white : (n : ℕ) → is_white k n ≡ false → is_white (swept_some k) n ≡ false
   still_not_white n other =
       false_from_ne_true (is_white (swept_some k) n) (λ white. true≢false (sym (white_was n white) ∙ other))
 
   black_was : (n : ℕ) → is_black (swept_some k) n ≡ true → is_black k n ≡ true
-  black_was n black =
-      let parts = and_parts (is_there (without gone os) n) (has k.marked n && not (has k.grey n)) black in
-      let there : is_there os n ≡ true = there_was n parts.0 in simp (there, parts.1) refl
+  black_was n black = grind (arith, there_was)
 
   leads_was : (allow : Allowed) (m n : ℕ) → has (targets_at allow (without gone os) m) n ≡ true
       → has (targets_at allow os m) n ≡ true
-  leads_was allow m n target =
-      let there : is_there (without gone os) m ≡ true = leading_is_there allow (without gone os) m n target in
-      subst (λ (o : Option Object). has (targets_of allow o) n ≡ true)
-      (object_at-left gone os m (left_from_there gone os m there)) target
+  leads_was allow m n target = grind (arith, leading_is_there, object_at-left, left_from_there)
 
   root_off : (n : ℕ) → has (graph_of a.world).roots n ≡ true → is_white k n ≡ false
   root_off n root =
@@ -204,21 +155,11 @@ module _ (k : CycleHeap) (a : State) (stands : MarkStands k a) (sweeping : is_in
   -- a black object leads to nothing white
   black_off : (m n : ℕ) → is_black k m ≡ true → has (targets_at soft_and_weak_referents os m) n ≡ true
       → is_white k n ≡ false
-  black_off m n black target =
-      elim
-      (soft_weak-cases (is_kept k.policy) (is_white k) (object_at os m) n
-      ((stands.sweeping sweeping).none_left m black) target) [
-        | inl kept ↦ kept_off m n black kept
-        | inr other ↦ other
-      ]
+  black_off m n black target = grind (arith, soft_weak-cases, kept_off m n black)
 
   -- what isn't due stays, and is black
   stays_black : (m : ℕ) → is_there (without gone os) m ≡ true → is_due (swept_some k) m ≡ false → is_black k m ≡ true
-  stays_black m there due =
-      let other : is_white (swept_some k) m ≡ false =
-      sym (ap (λ b. b && is_white (swept_some k) m) sweeping) ∙ due in
-      let was : is_there os m ≡ true = there_was m there in
-      marked_is_black k (stands.sweeping sweeping).no_grey m was (not_white_marked (swept_some k) m there other)
+  stays_black m there due = grind (arith, there_was)
 
   swept_there : AreThere (swept_some k) (graph_of a.world).roots
   swept_there = record {
@@ -242,19 +183,7 @@ module _ (k : CycleHeap) (a : State) (stands : MarkStands k a) (sweeping : is_in
   }
 
   swept_sweeping : InSweeping (swept_some k)
-  swept_sweeping = record {
-    no_grey = (stands.sweeping sweeping).no_grey;
-    none_left = λ n black.
-        let was : is_black k n ≡ true = black_was n black in
-        let left = not_gone n (black_is_not_white k n was) in
-        subst (λ (o : Option Object). refers_into (is_white (swept_some k)) (reference_in o) ≡ false)
-        (sym (object_at-left gone os n left))
-        (false_from_ne_true (refers_into (is_white (swept_some k)) (reference_at k.heap n))
-        (λ refers.
-        true≢false
-        (sym (refers_into-wider (is_white k) (is_white (swept_some k)) white_was (reference_at k.heap n) refers)
-        ∙ (stands.sweeping sweeping).none_left n was)));
-  }
+  swept_sweeping = grind (arith, not_gone, object_at-left)
 
   swept_rising : IsRising (numbers (without gone os))
   swept_rising = rising-without gone os stands.orderly.rising
@@ -278,49 +207,19 @@ module _ (k : CycleHeap) (a : State) (stands : MarkStands k a) (sweeping : is_in
 
   swept_stands : MarkStands (swept_some k) (state_swept a (doomed k))
   swept_stands =
-      let past = sweeping_is_past k.phase sweeping in
-      record {
-        heap = swept_agrees;
-        next = stands.next;
-        policy = stands.policy;
-        cycle = stands.cycle;
-        phase = stands.phase;
-        doomed = sym swept_doomed;
-        born = stands.born;
-        orderly = record {
-          rising = swept_rising;
-          below = λ n there. stands.orderly.below n (there_was n there);
-          slots = stands.orderly.slots;
-        };
-        scanners = stands.scanners;
-        finders = stands.finders;
-        there = swept_there;
-        facts = λ now. swept_facts;
-        marking = λ now. absurd (true≢false (sym now ∙ past_is_not_marking k.phase past));
-        clearing = λ now. absurd (true≢false (sym now ∙ ap (λ p. is_in p Clearing) (is_sweeping k.phase sweeping)));
-        sweeping = λ now. swept_sweeping;
-      }
+      grind (arith, swept_agrees, swept_doomed, swept_rising, there_was, swept_there, swept_facts, swept_sweeping)
 
 -- ---- rows
 
 sweeps : (a : State) (ds : List ℕ) → a.doomed ≡ ds → is_in a.world.phase Marking ≡ false
     → Sweeps a ds (answer_of_sweep ds) (state_swept a ds)
-sweeps a [] same quiet = (
-  refl,
-  ap (λ (os : List Object). record a { world = with_heap a.world (record a.world.heap { objects = os }); doomed = [] })
-      (without-none a.world.heap.objects)
-      ∙ ap (λ (d : List ℕ). record a { doomed = d }) (sym same) ∙ sym (ticked_other a quiet),
-)
+sweeps a [] same quiet = grind (arith, without-none)
 sweeps a (n ∷ ns) same quiet = (refl, sym (ticked_other (state_swept a (n ∷ ns)) quiet))
 
 -- a reference without a referent has none once it is gone
 referent-without : (gone : List ℕ) (os : List Object) (n : ℕ) → referent_of (reference_in (object_at os n)) ≡ None
     → referent_of (reference_in (object_at (without gone os) n)) ≡ None
-referent-without gone os n none =
-    elim (cases_Bool (has gone n)) [
-      | inl out ↦ ap (λ (o : Option Object). referent_of (reference_in o)) (object_at-gone gone os n out)
-      | inr left ↦ ap (λ (o : Option Object). referent_of (reference_in o)) (object_at-left gone os n left) ∙ none
-    ]
+referent-without gone os n none = grind (arith, object_at-gone, object_at-left)
 
 pub sweep_row : (c : ClearHeap) (a : State) (w : ℕ) → HeapStands c a → refusal_in c (heap.Sweep w) ≡ None
     → (b : State) × HeapAccepts a (heap.Sweep w) (answer_of_sweep (doomed c.mark)) b
@@ -350,18 +249,4 @@ sweep_row c a w stands none =
 -- what is held is a root, so nothing white is
 pub may_sweep : (c : ClearHeap) (a : State) (from : ℕ) → HeapStands c a → is_in c.mark.phase Sweeping ≡ true
     → ((n : ℕ) → is_white c.mark n ≡ true → from ≤ n) → MaySweep c.mark from
-may_sweep c a from stands sweeping swept =
-    let k = c.mark in
-    let begun : is_in_cycle k.phase ≡ true = past_is_in_cycle k.phase (sweeping_is_past k.phase sweeping) in
-    record {
-      sweeping = sweeping;
-      rising = stands.mark.orderly.rising;
-      free = λ n white.
-          false_from_ne_true (has k.heap.holds n)
-          (λ held.
-          true≢false
-          (sym white
-          ∙ root_is_not_white k a stands.mark begun n
-          (hold_root (present k.heap.slots) k.heap.holds (pending_numbers a.world.pending) n held)));
-      swept = swept;
-    }
+may_sweep c a from stands sweeping swept = grind (arith, hold_root)

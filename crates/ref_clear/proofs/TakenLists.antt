@@ -1,9 +1,10 @@
 -- How the lists of all workers change as the first of one is taken, or as a pending reference goes last in one.
+use Rattle.std.proofs.Common.{arith}
 use Rattle.std.proofs.Common.{◌≡◌, ℕ, ◌<◌, true, false, ◌||◌, ◌==◌, refl, sym, ap, subst, ◌∙◌, List, [], ◌∷◌, ◌++◌, map}
-use Rattle.std.proofs.Common.{length, zero, suc, append_assoc, Option, Some, None, ◌⊎◌, inl, inr}
+use Rattle.std.proofs.Common.{length, zero, suc, append_assoc, Option, Some, None, ◌⊎◌, inr}
 use Rattle.std.specs.Prelude.{slice_index_or, slice_set}
 use Rattle.std.proofs.Math.ListN.{get_or-map}
-use Rattle.std.proofs.lemmas.Bool.{or_cases, or_parts, or_from, or_left, eqb-true, eq-eqb, ne_eqb, true≢false}
+use Rattle.std.proofs.lemmas.Bool.{or_left, eq-eqb}
 use Rattle.std.proofs.lemmas.List.{length-map, length-set, map-append, map-set}
 use Rattle.ref_clear.proofs.Common.{has, AreDistinct, World, Pending, pending_numbers, joined, list_at, ClearHeap}
 use Rattle.ref_clear.proofs.Common.{heap_pended}
@@ -18,31 +19,18 @@ joined-taken : (lists : List (List ℕ)) (w n : ℕ) (rest : List ℕ) → list_
     × (joined (slice_set lists w rest) ≡ front ++ back)
 joined-taken [] w n rest is = absurd (cc)
 joined-taken (ns ∷ lists) zero n rest is = ([], rest ++ joined lists, ap (λ ms. ms ++ joined lists) is, refl)
-joined-taken (ns ∷ lists) (suc w) n rest is =
-    let later = joined-taken lists w n rest is in (
-      ns ++ later.0,
-      later.1,
-      ap (λ ms. ns ++ ms) later.2 ∙ sym (append_assoc ns later.0 (n ∷ later.1)),
-      ap (λ ms. ns ++ ms) later.3 ∙ sym (append_assoc ns later.0 later.1),
-    )
+joined-taken (ns ∷ lists) (suc w) n rest is = grind (arith, joined-taken lists w n rest is, append_assoc ns)
 
 -- one of them goes
 AreDistinct-less : (front back : List ℕ) (n : ℕ) → AreDistinct (front ++ (n ∷ back))
     → (has (front ++ back) n ≡ false) × AreDistinct (front ++ back)
 AreDistinct-less [] back n distinct = distinct
-AreDistinct-less (m ∷ ms) back n distinct =
-    let parts = or_parts (n == m) (has (ms ++ back) m) (sym (has-between ms back n m) ∙ distinct.0) in
-    let turned : (m == n) ≡ false = ne_eqb m n (λ same. true≢false (sym (eq-eqb n m (sym same)) ∙ parts.0)) in
-    let later = AreDistinct-less ms back n distinct.1 in
-    (or_from (m == n) (has (ms ++ back) n) turned later.0, (parts.1, later.1))
+AreDistinct-less (m ∷ ms) back n distinct = grind (arith, has-between, AreDistinct-less ms back n distinct.1)
 
 -- all lists had that one, and what they have still
 pub has-taken : (lists : List (List ℕ)) (w n : ℕ) (rest : List ℕ) → list_at lists w ≡ n ∷ rest → (m : ℕ)
     → has (joined lists) m ≡ ((n == m) || has (joined (slice_set lists w rest)) m)
-has-taken lists w n rest is m =
-    let parts = joined-taken lists w n rest is in
-    ap (λ ns. has ns m) parts.2 ∙ has-between parts.0 parts.1 n m
-    ∙ ap (λ ns. (n == m) || has ns m) (sym parts.3)
+has-taken lists w n rest is m = grind (arith, joined-taken, has-between)
 
 pub has-first_taken : (lists : List (List ℕ)) (w n : ℕ) (rest : List ℕ) → list_at lists w ≡ n ∷ rest
     → has (joined lists) n ≡ true
@@ -53,10 +41,7 @@ has-first_taken lists w n rest is =
 pub AreDistinct-taken : (lists : List (List ℕ)) (w n : ℕ) (rest : List ℕ) → list_at lists w ≡ n ∷ rest
     → AreDistinct (joined lists)
     → (has (joined (slice_set lists w rest)) n ≡ false) × AreDistinct (joined (slice_set lists w rest))
-AreDistinct-taken lists w n rest is distinct =
-    let parts = joined-taken lists w n rest is in
-    subst (λ ns. (has ns n ≡ false) × AreDistinct ns) (sym parts.3)
-    (AreDistinct-less parts.0 parts.1 n (subst AreDistinct parts.2 distinct))
+AreDistinct-taken lists w n rest is distinct = grind (arith, joined-taken, AreDistinct-less)
 
 -- ---- a pending reference goes last
 
@@ -105,24 +90,14 @@ module _ (pss : List (List Pending)) (w : ℕ) (within : w < length pss) where
       → (n ≡ m) ⊎ (has (pending_numbers pss) m ≡ true)
   has-pended n None cycle m pending = inr pending
   has-pended n (Some q) cycle m pending =
-      let p : Pending = record { object = n; queue = q; cycle = cycle } in
-      elim
-      (or_cases (n == m) (has (joined (map numbers_in pss)) m)
-      (sym (ap (λ ns. has ns m) (pended-joined pss w p) ∙ has-with_last (map numbers_in pss) w n m worker_has_list)
-      ∙ pending)) [
-        | inl same ↦ inl (eqb-true n m same)
-        | inr before ↦ inr (ap (λ ns. has ns m) (pending_numbers-joined pss) ∙ before)
-      ]
+      grind (arith, pended-joined, has-with_last, worker_has_list, pending_numbers-joined)
 
   -- and none stands twice where that one is new
   pub AreDistinct-pended : (n : ℕ) (queue : Option ℕ) (cycle : ℕ) → AreDistinct (pending_numbers pss)
       → has (pending_numbers pss) n ≡ false → AreDistinct (pending_numbers (pended_lists pss w n queue cycle))
   AreDistinct-pended n None cycle distinct new = distinct
   AreDistinct-pended n (Some q) cycle distinct new =
-      subst AreDistinct (sym (pended-joined pss w (record { object = n; queue = q; cycle = cycle })))
-      (AreDistinct-with_last (map numbers_in pss) w n worker_has_list
-      (subst AreDistinct (pending_numbers-joined pss) distinct)
-      (ap (λ ns. has ns n) (sym (pending_numbers-joined pss)) ∙ new))
+      grind (arith, pended-joined, AreDistinct-with_last, worker_has_list, pending_numbers-joined)
 
 -- the changes of a world and of a heap have these lists
 pub world-pended : (v : World) (w n : ℕ) (queue : Option ℕ)

@@ -1,7 +1,8 @@
 -- What the code of an unhook answers and leaves: where the reference is registered, the hold comes first, then the cut.
+use Rattle.std.proofs.Common.{arith}
 use Rattle.std.proofs.Common.{◌≡◌, ℕ, true, refl, sym, ap, subst, ◌∙◌, List, Option, Some, None}
 use Rattle.ref_clear.proofs.Common.{Reference, is_there, slot_at, reference_at, registered_in, reference_of, has_slot}
-use Rattle.ref_clear.proofs.Common.{holds_refusal, Own, NoSuchActor, Ground, CycleHeap, with_cleared, mint_answer_in}
+use Rattle.ref_clear.proofs.Common.{holds_refusal, Own, Ground, CycleHeap, with_cleared, mint_answer_in}
 use Rattle.ref_clear.proofs.Common.{after_mint_in, ground_of, holding, unhooked, refusal_in, queue_in, answer_in}
 use Rattle.ref_clear.proofs.Common.{after_in, answer_of_unhook, Worklist, seen_heap, with_mark, AreRegistered}
 use Rattle.ref_clear.proofs.Common.{IsSoundHeap}
@@ -21,9 +22,7 @@ use Rattle.ref_clear.proofs.NoticeAnswers.{minted, clear_holding}
 
 module _ (k : CycleHeap) (m s : ℕ) {g : Ground} (view : g ≡ ground_of k) where
   pub slot_is_there : drop_refusal g.heap m s ≡ None → has_slot k.heap m s ≡ true
-  slot_is_there none =
-      (unless_passes (has_slot k.heap m s) NoSuchActor None
-      (subst (λ (h : Ground). drop_refusal h.heap m s ≡ None) view none)).0
+  slot_is_there none = grind arith
 
   pub slot_holds : {value : Option ℕ} {n : ℕ} → value ≡ slot_at g.heap m s → value ≡ Some n
       → slot_at k.heap m s ≡ Some n
@@ -38,22 +37,9 @@ reference_is k n view reads is = sym (reads ∙ ap (λ (h : Ground). reference_a
 -- of the reference r in a slot, that has no queue
 module _ (k : CycleHeap) (lists : List Worklist) (m s : ℕ) {n : ℕ} {r : Reference} (has : has_slot k.heap m s ≡ true)
     (held : slot_at k.heap m s ≡ Some n) (found : reference_at k.heap n ≡ Some r) (queue : r.queue ≡ None) where
-  unregistered : queue_in k m s ≡ None
-  unregistered = ap (λ v. registered_in (reference_of k.heap v)) held ∙ ap registered_in found ∙ queue
-
-  may_cut : marks.refusal_in_cycle k (heap.Clear m s) ≡ None
-  may_cut = simp (has, held, found) refl
-
-  may_unhook : refusal_in (seen_heap k lists) (heap.Unhook m s) ≡ None
-  may_unhook = simp (has, held, found, queue) refl
-
   pub unhook_cut : with_mark (seen_heap k lists) (marks.after_in_cycle k (heap.Clear m s))
       ≡ after_in (seen_heap k lists) (heap.Unhook m s)
-  unhook_cut =
-      let left : unhooked k m s (slot_at k.heap m s) (queue_in k m s) ≡ with_cleared k m s =
-      ap (λ v. unhooked k m s v (queue_in k m s)) held ∙ ap (unhooked k m s (Some n)) unregistered in
-      let now : marks.after_in_cycle k (heap.Clear m s) ≡ with_cleared k m s = simp may_cut refl in
-      ap (with_mark (seen_heap k lists)) (now ∙ sym left) ∙ simp may_unhook refl
+  unhook_cut = grind arith
 
 -- ---- the hold and the cut
 

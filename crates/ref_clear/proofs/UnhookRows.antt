@@ -1,20 +1,20 @@
 -- The row of an unhook: the reference in the slot is cleared, and where it is registered there is one hold more of it.
-use Rattle.std.proofs.Common.{◌≡◌, ℕ, ◌+◌, ◌*◌, true, false, refl, sym, ap, subst, ◌∙◌, [], ◌++◌, Option, Some, None}
-use Rattle.std.proofs.Common.{is_some, inl, inr}
+use Rattle.std.proofs.Common.{arith}
+use Rattle.std.proofs.Common.{◌≡◌, ℕ, ◌+◌, ◌*◌, false, refl, sym, ap, subst, ◌∙◌, [], ◌++◌, Option, Some, None}
+use Rattle.std.proofs.Common.{inl, inr}
 use Rattle.std.proofs.lemmas.Bool.{cases_Bool}
-use Rattle.ref_clear.proofs.Common.{Object, Reference, present, refers_into, Heap, slot_at, reference_in, reference_at}
+use Rattle.ref_clear.proofs.Common.{Object, present, refers_into, Heap, slot_at, reference_in}
 use Rattle.ref_clear.proofs.Common.{registered_in, one_more, with_hold, changed_in, with_reference, cleared, cut, World}
 use Rattle.ref_clear.proofs.Common.{pending_numbers, unless, has_slot, State, ticked, on_heap, shown, reference_of}
 use Rattle.ref_clear.proofs.Common.{Unhooks, HeapAccepts, forgotten, heap_but, NoSuchActor, CycleHeap, is_doomed}
 use Rattle.ref_clear.proofs.Common.{doomed, with_cleared, MarkStands, ReadsAs, unsaid, shown_heap, ClearHeap, with_mark}
 use Rattle.ref_clear.proofs.Common.{holding, unhooked, refusal_in, queue_in, answer_of_unhook, HeapStands, ArePending}
-use Rattle.ref_base.specs.Refusals.{reference_refusal, minting_refusal, unhook_refusal, clear_refusal}
-use Rattle.ref_base.specs.declared.fault.Fault.TheVariants.{NotAReference}
+use Rattle.ref_base.specs.Refusals.{unhook_refusal, clear_refusal}
 use Rattle.ref_base.specs.declared.heap_step.HeapStep.TheVariants as heap
 use Rattle.ref_base.proofs.Forgetting.{forgotten-shape}
 use Rattle.ref_base.proofs.Lookups.{has-present_at}
 use Rattle.ref_base.proofs.Reshaping.{KeepsShape, reshaped, at-reshaped}
-use Rattle.ref_base.proofs.RowForms.{unless_passes, ticked_world}
+use Rattle.ref_base.proofs.RowForms.{ticked_world}
 use Rattle.ref_base.proofs.ShownObjects.{shown-shape, shown-cleared}
 use Rattle.ref_mark.proofs.Agreeing.{agrees_changed, changed_in-agrees, said_slot}
 use Rattle.ref_mark.proofs.DoomedLists.{past_is_in_cycle}
@@ -30,22 +30,9 @@ use Rattle.ref_clear.proofs.KeptReferences.{config-cleared, cleared_stays}
 
 -- ---- refusals
 
--- what may be unhooked is a reference, which may be cleared
-minted_reference : (h : Heap) (r : Option Reference) → minting_refusal h r ≡ None
-    → unless (is_some r) NotAReference None ≡ None
-minted_reference h None none = absurd (cc)
-minted_reference h (Some r) none = refl
-
-unhooked_reference : (h : Heap) (held : Option ℕ) → unhook_refusal h held ≡ None → reference_refusal h held ≡ None
-unhooked_reference h None none = none
-unhooked_reference h (Some n) none = minted_reference h (reference_at h n) none
-
 may_clear : (h : Heap) (m s : ℕ) → unless (has_slot h m s) NoSuchActor (unhook_refusal h (slot_at h m s)) ≡ None
     → clear_refusal h m s ≡ None
-may_clear h m s none =
-    let parts = unless_passes (has_slot h m s) NoSuchActor (unhook_refusal h (slot_at h m s)) none in
-    let there : has_slot h m s ≡ true = parts.0 in
-    simp there (unhooked_reference h (slot_at h m s) parts.1)
+may_clear h m s none = grind arith
 
 -- ---- the queue
 
@@ -141,13 +128,7 @@ pending_stays c a h stands = ap (λ (w : World). w.pending) (ticked_world (on_he
 -- the reference in the slot is cleared
 cut_stands : (c : ClearHeap) (a : State) (m s : ℕ) → HeapStands c a → clear_refusal c.mark.heap m s ≡ None
     → HeapStands (with_mark c (with_cleared c.mark m s)) (ticked (on_heap a (cut a.world.heap m s)))
-cut_stands c a m s stands accepted =
-    let row = clear_row c.mark a m s stands.mark accepted in
-    record {
-      mark = subst (λ (b : State). MarkStands (with_cleared c.mark m s) b) row.1.1 row.2;
-      pending = pending_stays c a (cut a.world.heap m s) stands;
-      waiting = pending-cleared c a m s stands;
-    }
+cut_stands c a m s stands accepted = grind (arith, clear_row, pending-cleared)
 
 -- by what the slot holds, and the queue that this is registered with
 unhook_by : (c : ClearHeap) (a : State) (m s : ℕ) (held queue : Option ℕ) → HeapStands c a

@@ -1,7 +1,6 @@
 -- What agrees with the heap as mutators read it reads and changes as it does.
-use Rattle.std.proofs.Common.{◌≡◌, ℕ, true, false, refl, sym, ap, ◌∙◌, List, [], Option, Some, None, inl, inr}
-use Rattle.std.proofs.Common.{if◌then◌else◌}
-use Rattle.std.proofs.lemmas.Bool.{cond-true, cases_Bool, and_right, or_parts}
+use Rattle.std.proofs.Common.{arith}
+use Rattle.std.proofs.Common.{◌≡◌, ℕ, true, false, refl, sym, ap, ◌∙◌, List, [], Option, Some, None}
 use Rattle.ref_mark.proofs.Common.{has, Object, is_there, any_is, Heap, slot_at, changed_in, made, shown, field_in}
 use Rattle.ref_mark.proofs.Common.{reference_of, heap_but, is_in, State, Phase, Idle, Marking, Clearing, Sweeping}
 use Rattle.ref_mark.proofs.Common.{CycleHeap, is_white, is_past_mark, is_in_cycle, doomed, MarkStands, ReadsAs, unsaid}
@@ -15,10 +14,7 @@ use Rattle.ref_mark.proofs.RootFacts.{slot_off}
 -- ---- before the sweep nothing is forgotten
 
 unsaid-before : (k : CycleHeap) → is_past_mark k.phase ≡ false → unsaid k ≡ []
-unsaid-before k before =
-    let other : is_in k.phase Sweeping ≡ false =
-    (or_parts (is_in k.phase Clearing) (is_in k.phase Sweeping) before).1 in
-    simp other refl
+unsaid-before k before = grind arith
 
 pub same_before : (k : CycleHeap) (h : Heap) → is_past_mark k.phase ≡ false → ReadsAs k h → h ≡ shown_heap k
 same_before k h before agrees =
@@ -38,9 +34,7 @@ agrees_next k j h g same shows agrees =
     ap (λ d. heap_but d h) same ∙ agrees ∙ sym (ap (λ d. heap_but d g) same) ∙ ap (heap_but (unsaid j)) (sym shows)
 
 pub unsaid_same : (k j : CycleHeap) → j.phase ≡ k.phase → doomed j ≡ doomed k → unsaid j ≡ unsaid k
-unsaid_same k j phase dooms =
-    ap (λ p. if is_in p Sweeping then doomed j else []) phase
-    ∙ ap (λ (d : List ℕ). if is_in k.phase Sweeping then d else []) dooms
+unsaid_same k j phase dooms = cc
 
 -- ---- what is read and changed of what isn't forgotten
 
@@ -64,19 +58,14 @@ module _ (k : CycleHeap) (h : Heap) (agrees : ReadsAs k h) where
   pub changed_in-agrees : (held : Option ℕ) (f : Object → Object) → IsSaid (unsaid k) held
       → ((o : Object) → (f o).no ≡ o.no)
       → heap_but (unsaid k) (changed_in h held f) ≡ heap_but (unsaid k) (changed_in (shown_heap k) held f)
-  changed_in-agrees held f said number =
-      changed_in-but (unsaid k) h held f said number ∙ ap (λ (g : Heap). changed_in g held f) agrees
-      ∙ sym (changed_in-but (unsaid k) (shown_heap k) held f said number)
+  changed_in-agrees held f said number = grind (arith, changed_in-but)
 
   -- the heap that is changed so reads as the one in which an object is
   pub agrees_changed : (held : Option ℕ) (f : Object → Object) → IsSaid (unsaid k) held
       → ((o : Object) → (f o).no ≡ o.no) → ((d : List ℕ) (o : Object) → shown d (f o) ≡ f (shown d o))
       → ReadsAs (record k { heap = changed_in k.heap held f }) (changed_in h held f)
   agrees_changed held f said number through =
-      agrees_next k (record k { heap = changed_in k.heap held f }) (changed_in h held f)
-      (changed_in (shown_heap k) held f)
-      (unsaid_same k (record k { heap = changed_in k.heap held f }) refl (doomed-changed_in k held f number))
-      (shown_heap-changed_in k held f number through) (changed_in-agrees held f said number)
+      search (agrees_next, doomed-changed_in, shown_heap-changed_in, changed_in-agrees held f said number)
 
   pub made-agrees : (m t : ℕ) (o : Object) → has (unsaid k) o.no ≡ false
       → heap_but (unsaid k) (made h m t o) ≡ heap_but (unsaid k) (made (shown_heap k) m t o)
@@ -86,19 +75,10 @@ module _ (k : CycleHeap) (h : Heap) (agrees : ReadsAs k h) where
 
 -- ---- what slots hold is said
 
-unsaid_sweeping : (k : CycleHeap) → is_in k.phase Sweeping ≡ true → unsaid k ≡ doomed k
-unsaid_sweeping k sweeping = cond-true (is_in k.phase Sweeping) (doomed k) [] sweeping
-
 said_held : (k : CycleHeap) (held : Option ℕ) → (is_in k.phase Sweeping ≡ true → any_is (is_white k) held ≡ false)
     → IsSaid (unsaid k) held
 said_held k None other = tt
-said_held k (Some n) other =
-    elim (cases_Bool (is_in k.phase Sweeping)) [
-      | inl sweeping ↦
-          ap (λ (d : List ℕ). has d n) (unsaid_sweeping k sweeping) ∙ has-doomed k n
-          ∙ and_right (is_past_mark k.phase) (is_white k n) (other sweeping)
-      | inr quiet ↦ simp quiet refl
-    ]
+said_held k (Some n) other = grind (arith, has-doomed)
 
 sweeping_begun : (phase : Phase) → is_in phase Sweeping ≡ true → is_in_cycle phase ≡ true
 sweeping_begun Idle sweeping = sweeping
@@ -112,11 +92,4 @@ said_slot k a m s stands =
 
 -- what isn't there isn't doomed
 pub said_new : (k : CycleHeap) (n : ℕ) → is_there k.heap.objects n ≡ false → has (unsaid k) n ≡ false
-said_new k n new =
-    elim (cases_Bool (is_in k.phase Sweeping)) [
-      | inl sweeping ↦
-          let white : is_white k n ≡ false = simp new refl in
-          ap (λ (d : List ℕ). has d n) (unsaid_sweeping k sweeping) ∙ has-doomed k n
-          ∙ and_right (is_past_mark k.phase) (is_white k n) white
-      | inr quiet ↦ simp quiet refl
-    ]
+said_new k n new = grind (arith, has-doomed)

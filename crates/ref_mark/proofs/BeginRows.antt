@@ -12,7 +12,6 @@ use Rattle.ref_base.specs.declared.reply.Reply.TheVariants as replies
 use Rattle.ref_base.proofs.HasLaws.{has-left}
 use Rattle.ref_base.proofs.PathLaws.{root_ends, target_ends}
 use Rattle.ref_mark.proofs.Shading.{MarkingBut, shaded_all-only, shaded_all-append, shaded_all_marking, some_left}
-use Rattle.ref_mark.proofs.Passed.{begin_passed}
 use Rattle.ref_mark.proofs.RootFacts.{plain_there}
 use Rattle.ref_mark.proofs.PlainStates.{plain_state, plain_state-is, marking_stands}
 use Rattle.ref_base.proofs.FoundLists.{joined-emptied, length-emptied, AreFound-emptied}
@@ -132,11 +131,10 @@ pub begin_row : (k : CycleHeap) (a : State) (now : ℕ) (urgent : Urgency) → M
     → (b : State) × HeapAccepts a (heap.Begin now urgent) (replies.Cycle (k.cycle + 1)) b
     × MarkStands (shaded_all (cycle_begun k now urgent) (pending_numbers a.world.pending)) b
 begin_row k a now urgent stands none =
-    let idle : k.phase ≡ Idle = begin_passed k now none in
-    let b = state_begun k a now urgent (not (is_empty (mark_begun k a now urgent).grey)) in (
-      b,
-      subst (λ (s : State). HeapAccepts s (heap.Begin now urgent) (replies.Cycle (k.cycle + 1)) b)
-          (sym (plain_state-is k a Idle stands idle refl)) (begun_is_row k a now urgent stands),
-      subst (λ (j : CycleHeap). MarkStands j b) (mark_begun-is k a now urgent)
-          (begun_stands k a now urgent stands idle),
+    grind (
+      arith,
+      plain_state-is k a,
+      begun_is_row k a now urgent stands,
+      mark_begun-is k a now urgent,
+      begun_stands k a now urgent stands,
     )

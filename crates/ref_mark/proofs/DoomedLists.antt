@@ -1,10 +1,10 @@
 -- The list of the doomed: its members are the doomed, and what doesn't change it.
-use Rattle.std.proofs.Common.{◌≡◌, ℕ, ◌+◌, ◌<◌, true, false, ◌&&◌, ◌||◌, not, ◌==◌, if◌then◌else◌, refl, sym, ◌∙◌, ap}
-use Rattle.std.proofs.Common.{arith, inl, inr, List, [], ◌∷◌, ◌++◌, map, Option, Some, None}
-use Rattle.std.proofs.lemmas.Bool.{cases_Bool, false≢true, true≢false, eqb-true, eq-eqb, ne_eqb, and_right, or_left}
+use Rattle.std.proofs.Common.{◌≡◌, ℕ, ◌+◌, ◌<◌, true, false, ◌&&◌, not, ◌==◌, if◌then◌else◌, refl, sym, ◌∙◌, ap}
+use Rattle.std.proofs.Common.{arith, inl, inr, List, [], ◌∷◌, ◌++◌, Option, Some, None}
+use Rattle.std.proofs.lemmas.Bool.{cases_Bool, eq-eqb}
 use Rattle.ref_objects.specs.Grounds.{with_new_tag}
-use Rattle.ref_mark.proofs.Common.{has, Object, is_there, changed_at, with_changed, changed_in, one_more, made, shown}
-use Rattle.ref_mark.proofs.Common.{is_in, Phase, Idle, Marking, Clearing, Sweeping, is_in_cycle, CycleHeap, is_white}
+use Rattle.ref_mark.proofs.Common.{has, Object, is_there, changed_at, with_changed, changed_in, made}
+use Rattle.ref_mark.proofs.Common.{is_in, Phase, Idle, Marking, Clearing, Sweeping, is_in_cycle, CycleHeap}
 use Rattle.ref_mark.proofs.Common.{is_past_mark, is_doomed, doomed, young, with_made, unmarked, shown_heap}
 use Rattle.ref_base.proofs.OneMore.{has-one_more}
 use Rattle.ref_base.proofs.ShownObjects.{map-shown_none}
@@ -15,65 +15,26 @@ use Rattle.ref_base.proofs.ShownObjects.{map-shown_none}
 pub has-unmarked : (os : List Object) (marked : List ℕ) (n : ℕ)
     → has (unmarked os marked) n ≡ (is_there os n && not (has marked n))
 has-unmarked [] marked n = refl
-has-unmarked (o ∷ os) marked n =
-    elim (cases_Bool (o.no == n)) [
-      | inl same ↦
-          let number : has marked o.no ≡ has marked n = ap (has marked) (eqb-true o.no n same) in
-          elim (cases_Bool (has marked n)) [
-            | inl within ↦
-                let own : has marked o.no ≡ true = number ∙ within in
-                simp (same, own, within)
-                (has-unmarked os marked n ∙ and_right (is_there os n) (not (has marked n)) (ap not within))
-            | inr outside ↦
-                let own : has marked o.no ≡ false = number ∙ outside in simp (same, own, outside) refl
-          ]
-      | inr other ↦ elim (cases_Bool (has marked o.no)) [
-        | inl within ↦ simp (other, within) (has-unmarked os marked n)
-        | inr outside ↦ simp (other, outside) (has-unmarked os marked n)
-      ]
-    ]
+has-unmarked (o ∷ os) marked n = grind (arith, has-unmarked os marked n)
 
 -- a changed object that keeps its number changes nothing of it
 pub unmarked-changed : (os : List Object) (marked : List ℕ) (n : ℕ) (f : Object → Object)
     → ((o : Object) → (f o).no ≡ o.no) → unmarked (changed_at os n f) marked ≡ unmarked os marked
 unmarked-changed [] marked n f keeps = refl
-unmarked-changed (o ∷ os) marked n f keeps =
-    elim (cases_Bool (o.no == n)) [
-      | inl same ↦
-          simp same
-          (ap (λ i. if has marked i then unmarked os marked else i ∷ unmarked os marked) (keeps o))
-      | inr other ↦
-          simp other
-          (ap (λ (ns : List ℕ). if has marked o.no then ns else o.no ∷ ns) (unmarked-changed os marked n f keeps))
-    ]
+unmarked-changed (o ∷ os) marked n f keeps = grind (arith, unmarked-changed os marked n f keeps)
 
 -- nor does one more object that is marked
 pub unmarked-push : (os : List Object) (o : Object) (marked more : List ℕ) → is_there os o.no ≡ false
     → has more o.no ≡ true → ((n : ℕ) → (o.no == n) ≡ false → has more n ≡ has marked n)
     → unmarked (os ++ o ∷ []) more ≡ unmarked os marked
 unmarked-push [] o marked more new within others = simp within refl
-unmarked-push (p ∷ os) o marked more new within others =
-    elim (cases_Bool (p.no == o.no)) [
-      | inl same ↦
-          let there : is_there (p ∷ os) o.no ≡ true = simp same refl in absurd (true≢false (sym there ∙ new))
-      | inr other ↦
-          let later : is_there os o.no ≡ false = simp other at new in
-          let turned : (o.no == p.no) ≡ false =
-          ne_eqb o.no p.no (λ same. false≢true (sym other ∙ eq-eqb p.no o.no (sym same))) in
-          simp (others p.no turned)
-          (ap (λ (ns : List ℕ). if has marked p.no then ns else p.no ∷ ns)
-          (unmarked-push os o marked more later within others))
-    ]
+unmarked-push (p ∷ os) o marked more new within others = grind (arith, unmarked-push os o marked more)
 
 -- ---- the doomed
 
 -- the list of the doomed has the doomed
 pub has-doomed : (k : CycleHeap) (n : ℕ) → has (doomed k) n ≡ is_doomed k n
-has-doomed k n =
-    elim (cases_Bool (is_past_mark k.phase)) [
-      | inl past ↦ simp past (has-unmarked k.heap.objects k.marked n)
-      | inr before ↦ simp before refl
-    ]
+has-doomed k n = grind (arith, has-unmarked)
 
 -- nor does a changed object that keeps its number
 pub doomed-changed : (k : CycleHeap) (n : ℕ) (f : Object → Object) → ((o : Object) → (f o).no ≡ o.no)
@@ -102,49 +63,20 @@ past_is_not_marking Sweeping past = refl
 
 is_there-push : (os : List Object) (o : Object) → is_there (os ++ o ∷ []) o.no ≡ true
 is_there-push [] o = let own : (o.no == o.no) ≡ true = eq-eqb o.no o.no refl in simp own refl
-is_there-push (p ∷ os) o =
-    elim (cases_Bool (p.no == o.no)) [
-      | inl same ↦ simp same refl
-      | inr other ↦ simp other (is_there-push os o)
-    ]
+is_there-push (p ∷ os) o = grind (arith, is_there-push os o)
 
 -- a number that all objects are below is that of none
 pub is_there-above : (os : List Object) (n : ℕ) → ((m : ℕ) → is_there os m ≡ true → m < n) → is_there os n ≡ false
-is_there-above os n below =
-    elim (cases_Bool (is_there os n)) [
-      | inl there ↦ let less : n < n = below n there in absurd (omega (arith, less))
-      | inr absent ↦ absent
-    ]
+is_there-above os n below = grind arith
 
 -- past the mark, what is made is marked
 unmarked-young : (k : CycleHeap) (os : List Object) (o : Object) → is_in_cycle k.phase ≡ true → is_there os o.no ≡ false
     → k.heap.objects ≡ os ++ o ∷ []
     → unmarked (young k o.no).heap.objects (young k o.no).marked ≡ unmarked os k.marked
-unmarked-young k os o begun new is =
-    let there : is_there k.heap.objects o.no ≡ true = ap (λ ps. is_there ps o.no) is ∙ is_there-push os o in
-    elim (cases_Bool (has k.marked o.no)) [
-      | inl within ↦
-          simp (begun, there, within)
-          (ap (λ ps. unmarked ps k.marked) is
-          ∙ unmarked-push os o k.marked k.marked new within (λ n other. refl))
-      | inr outside ↦
-          let own : (o.no == o.no) ≡ true = eq-eqb o.no o.no refl in
-          simp (begun, there, outside)
-          (ap (λ ps. unmarked ps (one_more k.marked o.no)) is
-          ∙ unmarked-push os o k.marked (one_more k.marked o.no) new
-          (has-one_more k.marked o.no o.no ∙ or_left (o.no == o.no) (has k.marked o.no) own)
-          (λ n other. has-one_more k.marked o.no n ∙ ap (λ b. b || has k.marked n) other))
-    ]
+unmarked-young k os o begun new is = grind (arith, is_there-push, unmarked-push, has-one_more)
 
 pub young-phase : (k : CycleHeap) (n : ℕ) → (young k n).phase ≡ k.phase
-young-phase k n =
-    elim (cases_Bool (is_in_cycle k.phase)) [
-      | inl begun ↦ elim (cases_Bool (is_white k n)) [
-        | inl white ↦ simp (begun, white) refl
-        | inr marked ↦ simp (begun, marked) refl
-      ]
-      | inr idle ↦ simp idle refl
-    ]
+young-phase k n = grind arith
 
 -- what is made is not doomed, and dooms nothing
 pub doomed-made : (k : CycleHeap) (m d : ℕ) (o : Object) → is_there k.heap.objects o.no ≡ false
@@ -164,7 +96,4 @@ doomed-made k m d o new =
 
 -- before a mark has ended, mutators read the heap as it is
 pub shown_heap-before : (k : CycleHeap) → is_past_mark k.phase ≡ false → shown_heap k ≡ k.heap
-shown_heap-before k before =
-    let none : doomed k ≡ [] = simp before refl in
-    ap (λ (d : List ℕ). record k.heap { objects = map (λ o. shown d o) k.heap.objects }) none
-    ∙ ap (λ (os : List Object). record k.heap { objects = os }) (map-shown_none k.heap.objects)
+shown_heap-before k before = grind (arith, map-shown_none k.heap.objects)

@@ -1,17 +1,17 @@
 -- No step of marking changes the number of a heap, nor in which cycle an object was cleared.
-use Rattle.std.proofs.Common.{◌≡◌, ℕ, ◌+◌, List, Option, Some, None, refl, ap, ◌∙◌, inl, inr, [], ◌∷◌}
-use Rattle.std.proofs.lemmas.Bool.{cases_Bool}
-use Rattle.ref_objects.specs.Grounds.{Tag, cleared_in_at, with_new_tag}
+use Rattle.std.proofs.Common.{arith}
+use Rattle.std.proofs.Common.{◌≡◌, ℕ, List, Option, Some, None, refl, ap, [], ◌∷◌}
+use Rattle.ref_objects.specs.Grounds.{Tag, cleared_in_at}
 use Rattle.ref_objects.proofs.TagLemmas.{cleared_in_at-new}
-use Rattle.ref_mark.proofs.Common.{refers_into, Object, plain_object, slot_at, made, nulls, new_reference, targets_at}
-use Rattle.ref_mark.proofs.Common.{is_kept, NamedStep, is_in, field_in, reference_of, Fault, Marking, Urgency}
-use Rattle.ref_mark.proofs.Common.{CycleHeap, is_white, is_in_cycle, is_doomed, shaded_all, shaded_if_any, young}
+use Rattle.ref_mark.proofs.Common.{Object, plain_object, slot_at, nulls, new_reference}
+use Rattle.ref_mark.proofs.Common.{NamedStep, field_in, Fault, Urgency}
+use Rattle.ref_mark.proofs.Common.{CycleHeap, shaded_all}
 use Rattle.ref_mark.proofs.Common.{with_made, barred, value_got, with_cleared, whitened, roots_of, grey_scanned}
 use Rattle.ref_mark.proofs.Common.{done_in, refusal_in_cycle, unless_refused}
 use Rattle.ref_base.specs.declared.heap_step.HeapStep.TheVariants as heap
 use Rattle.ref_mark.specs.MarkCalls.{after_in_cycle}
 use Rattle.ref_mark.proofs.Scanning.{with_found-only}
-use Rattle.ref_mark.proofs.Shading.{shaded-only, shaded_all-only}
+use Rattle.ref_mark.proofs.Shading.{shaded_all-only}
 
 -- ---- what leaves number and tags as they are
 
@@ -28,46 +28,19 @@ same_tags same = ap (λ (q : ℕ × List Tag). q.1) same
 pub shaded_all-own : (k : CycleHeap) (ns : List ℕ) → own (shaded_all k ns) ≡ own k
 shaded_all-own k ns = ap own (shaded_all-only k ns)
 
-young-own : (k : CycleHeap) (n : ℕ) → own (young k n) ≡ own k
-young-own k n =
-    elim (cases_Bool (is_in_cycle k.phase)) [
-      | inl begun ↦ elim (cases_Bool (is_white k n)) [
-        | inl white ↦ simp (begun, white) refl
-        | inr marked ↦ simp (begun, marked) refl
-      ]
-      | inr idle ↦ simp idle refl
-    ]
-
-shaded_if_any-own : (k : CycleHeap) (value : Option ℕ) → own (shaded_if_any k value) ≡ own k
-shaded_if_any-own k None = refl
-shaded_if_any-own k (Some n) = ap own (shaded-only k n)
-
 barred-own : (k : CycleHeap) (value : Option ℕ) → own (barred k value) ≡ own k
-barred-own k value =
-    elim (cases_Bool (is_in k.phase Marking)) [
-      | inl marking ↦ simp marking (shaded_if_any-own k value)
-      | inr other ↦ simp other refl
-    ]
+barred-own k value = grind arith
 
 pub cleared-own : (k : CycleHeap) (m s : ℕ) → own (with_cleared k m s) ≡ own k
-cleared-own k m s =
-    elim (cases_Bool (refers_into (is_doomed k) (reference_of k.heap (slot_at k.heap m s)))) [
-      | inl dead ↦ simp dead refl
-      | inr other ↦ simp other refl
-    ]
+cleared-own k m s = grind arith
 
 scanned-own : (k : CycleHeap) (w : ℕ) (grey : List ℕ) → own (grey_scanned k w grey) ≡ own k
 scanned-own k w [] = refl
-scanned-own k w (n ∷ rest) =
-    let left : CycleHeap = record k { grey = rest } in
-    let targets = targets_at (is_kept k.policy) k.heap.objects n in
-    ap own (with_found-only (shaded_all left targets) w n) ∙ shaded_all-own left targets
+scanned-own k w (n ∷ rest) = search (with_found-only, shaded_all-own)
 
 pub begun-own : (k : CycleHeap) (now : ℕ) (how : Urgency) (late : List ℕ)
     → own (shaded_all (shaded_all (whitened k now how) (roots_of k.heap)) late) ≡ own k
-begun-own k now how late =
-    shaded_all-own (shaded_all (whitened k now how) (roots_of k.heap)) late
-    ∙ shaded_all-own (whitened k now how) (roots_of k.heap)
+begun-own k now how late = search shaded_all-own
 
 -- ---- the steps of marking
 
@@ -80,18 +53,11 @@ record KeepsOwn (before after : CycleHeap) : Type 0 where
   cycles : KeepsCycles before.tags after.tags
 
 keeps_own : {j k : CycleHeap} → own j ≡ own k → KeepsOwn k j
-keeps_own same = record {
-  number = same_number same;
-  cycles = λ n. ap (λ (ts : List Tag). cleared_in_at ts n) (same_tags same);
-}
+keeps_own same = search (same_number, same_tags same)
 
 -- a new object was never cleared
 made-own : (k : CycleHeap) (m d : ℕ) (o : Object) → KeepsOwn k (with_made k m d o)
-made-own k m d o =
-    let more : CycleHeap =
-    record k { heap = made k.heap m d o; next = k.next + 1; tags = with_new_tag k.tags o.no } in
-    let kept : KeepsOwn more (with_made k m d o) = keeps_own (young-own more o.no) in
-    record { number = kept.number; cycles = λ n. kept.cycles n ∙ cleared_in_at-new k.tags o.no n }
+made-own k m d o = grind (arith, cleared_in_at-new)
 
 done-own : (k : CycleHeap) (step : NamedStep) → KeepsOwn k (done_in k step)
 done-own k (heap.New m d f) = made-own k m d (plain_object k.next (nulls f))

@@ -2,16 +2,15 @@
 use Rattle.std.proofs.Common.{◌≡◌, ℕ, ◌+◌, ◌*◌, ◌<◌, true, false, ◌==◌, arith, refl, sym, ap, subst, ◌∙◌, [], ◌∷◌, ◌++◌}
 use Rattle.std.proofs.Common.{Option, Some, None, is_some, ◌⊎◌, inl, inr}
 use Rattle.std.specs.Prelude.{slice_set}
-use Rattle.std.proofs.lemmas.Bool.{cases_Bool, or_cases, or_left, or_right, eqb-true, eq-eqb, false≢true, true≢false}
+use Rattle.std.proofs.lemmas.Bool.{cases_Bool, eqb-true, eq-eqb, false≢true, true≢false}
 use Rattle.std.proofs.lemmas.List.{length-set}
 use Rattle.ref_objects.specs.Grounds.{with_new_tag}
-use Rattle.ref_mark.proofs.Common.{refers_into, has, Object, object_at, is_there, present, targets_of, targets_at}
-use Rattle.ref_mark.proofs.Common.{soft_and_weak_referents, is_kept, made, one_more, reference_in, reference_at}
+use Rattle.ref_mark.proofs.Common.{refers_into, has, Object, object_at, is_there, targets_of, targets_at}
+use Rattle.ref_mark.proofs.Common.{soft_and_weak_referents, is_kept, made, reference_in, reference_at}
 use Rattle.ref_mark.proofs.Common.{pending_numbers, has_slot, State, is_in_cycle, CycleHeap, is_white, is_due, doomed}
 use Rattle.ref_mark.proofs.Common.{young, with_made, MarkStands}
 use Rattle.ref_base.proofs.OneMore.{has-one_more}
-use Rattle.ref_mark.proofs.Shading.{not_white_marked}
-use Rattle.ref_mark.proofs.DoomedLists.{doomed-made, is_there-above}
+use Rattle.ref_mark.proofs.DoomedLists.{doomed-made}
 use Rattle.ref_mark.proofs.Moves.{Change, moved, IsMove, IsNew, MayLead, roots_after, referring_is_there}
 use Rattle.ref_base.proofs.Lookups.{object_at-push, object_at-pushed, rising-push, has-present_here}
 use Rattle.ref_mark.proofs.RootFacts.{slot_root, roots_of_set, each_root_of_set, root_is_there, slot_within}
@@ -19,48 +18,17 @@ use Rattle.ref_mark.proofs.RootFacts.{slot_root, roots_of_set, each_root_of_set,
 -- ---- what is made is marked
 
 young-only : (k : CycleHeap) (n : ℕ) → young k n ≡ record k { marked = (young k n).marked }
-young-only k n =
-    elim (cases_Bool (is_in_cycle k.phase)) [
-      | inl begun ↦ elim (cases_Bool (is_white k n)) [
-        | inl white ↦ simp (begun, white) refl
-        | inr other ↦ simp (begun, other) refl
-      ]
-      | inr idle ↦ simp idle refl
-    ]
+young-only k n = grind arith
 
 young-stays : (k : CycleHeap) (n m : ℕ) → has k.marked m ≡ true → has (young k n).marked m ≡ true
-young-stays k n m marked =
-    elim (cases_Bool (is_in_cycle k.phase)) [
-      | inl begun ↦ elim (cases_Bool (is_white k n)) [
-        | inl white ↦ simp (begun, white) (has-one_more k.marked n m ∙ or_right (n == m) (has k.marked m) marked)
-        | inr other ↦ simp (begun, other) marked
-      ]
-      | inr idle ↦ simp idle marked
-    ]
+young-stays k n m marked = grind (arith, has-one_more)
 
 young-was : (k : CycleHeap) (n m : ℕ) → has (young k n).marked m ≡ true → (has k.marked m ≡ true) ⊎ (n ≡ m)
-young-was k n m marked =
-    elim (cases_Bool (is_in_cycle k.phase)) [
-      | inl begun ↦ elim (cases_Bool (is_white k n)) [
-        | inl white ↦
-            let more : has (one_more k.marked n) m ≡ true = simp (begun, white) at marked in
-            elim (or_cases (n == m) (has k.marked m) (sym (has-one_more k.marked n m) ∙ more)) [
-              | inl same ↦ inr (eqb-true n m same)
-              | inr before ↦ inl before
-            ]
-        | inr other ↦ inl (simp (begun, other) at marked)
-      ]
-      | inr idle ↦ inl (simp idle at marked)
-    ]
+young-was k n m marked = grind (arith, has-one_more)
 
 young-marked : (k : CycleHeap) (n : ℕ) → is_in_cycle k.phase ≡ true → is_there k.heap.objects n ≡ true
     → has (young k n).marked n ≡ true
-young-marked k n begun there =
-    elim (cases_Bool (is_white k n)) [
-      | inl white ↦
-          simp (begun, white) (has-one_more k.marked n n ∙ or_left (n == n) (has k.marked n) (eq-eqb n n refl))
-      | inr other ↦ simp (begun, other) (not_white_marked k n there other)
-    ]
+young-marked k n begun there = grind (arith, has-one_more)
 
 -- ---- the move
 
@@ -91,14 +59,10 @@ module _ (k : CycleHeap) (a : State) (m d : ℕ) (o : Object) (stands : MarkStan
     (led_there : (n : ℕ) → has (targets_of soft_and_weak_referents (Some o)) n ≡ true
     → is_there k.heap.objects n ≡ true) where
   new_is_absent : is_there k.heap.objects o.no ≡ false
-  new_is_absent =
-      subst (λ n. is_there k.heap.objects n ≡ false) (sym number)
-      (is_there-above k.heap.objects k.next stands.orderly.below)
+  new_is_absent = grind arith
 
   new_is_there : is_there (k.heap.objects ++ o ∷ []) o.no ≡ true
-  new_is_there =
-      let own : (o.no == o.no) ≡ true = eq-eqb o.no o.no refl in
-      ap (λ (p : Option Object). is_some p) (object_at-pushed k.heap.objects o o.no new_is_absent) ∙ simp own refl
+  new_is_there = search (eq-eqb, object_at-pushed, new_is_absent)
 
   -- what is at a number that wasn't there is the new object
   only_new : (P : Option Object → Type 0) (n : ℕ) → is_there k.heap.objects n ≡ false
@@ -114,10 +78,7 @@ module _ (k : CycleHeap) (a : State) (m d : ℕ) (o : Object) (stands : MarkStan
   still_object P n there = subst P (sym (object_at-push k.heap.objects o n there))
 
   new_root : has (roots_after (making k m d o) (pending_numbers a.world.pending)) o.no ≡ true
-  new_root =
-      let set = slice_set k.heap.slots (16 * m + d) (Some o.no) in
-      slot_root (present set) k.heap.holds (pending_numbers a.world.pending) o.no
-      (has-present_here k.heap.slots (16 * m + d) o.no (slot_within k a m d stands slot))
+  new_root = search (slot_root, has-present_here, slot_within)
 
   new_one : IsNew k (making k m d o) (pending_numbers a.world.pending) o.no
   new_one = record {

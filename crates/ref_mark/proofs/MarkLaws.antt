@@ -1,7 +1,7 @@
 -- Each step that is a call of a heap in its cycles is a row of the abstract collector.
 use Rattle.std.proofs.Common.{◌≡◌, true, sym, ap, ◌∙◌, [], Option, Some, None, refl}
 use Rattle.std.proofs.lemmas.Bool.{false≢true}
-use Rattle.ref_mark.proofs.Common.{Heap, NamedStep, new_refusal, refer_refusal, begin_refusal, work_refusal, State}
+use Rattle.ref_mark.proofs.Common.{Heap, NamedStep, new_refusal, refer_refusal, work_refusal, State}
 use Rattle.ref_mark.proofs.Common.{HeapAccepts, on_heap, shown, Fault, Marking, CycleHeap, doomed, shaded_all}
 use Rattle.ref_mark.proofs.Common.{refusal_in_cycle, done_in, unless_refused, MarkStands, unsaid, shown_heap}
 use Rattle.ref_base.specs.Refusals.{heap_refusal}
@@ -40,9 +40,7 @@ module _ (k : CycleHeap) (a : State) (stands : MarkStands k a) where
       → heap_refusal k.heap_no (on_heap a k.heap) step ≡ refusal_in_cycle k step
   own_refusal (heap.New m d f) own = ap (λ n. new_refusal k.heap n m d f) stands.next
   own_refusal (heap.Refer m strength d s q f) own = ap (λ n. refer_refusal k.heap n m d s q f) stands.next
-  own_refusal (heap.Begin now how) own =
-      ap (λ p. begin_refusal p k.heap.clock a.world.cycle now) stands.phase
-      ∙ ap (λ c. begin_refusal k.phase k.heap.clock c now) stands.cycle
+  own_refusal (heap.Begin now how) own = cc
   own_refusal (heap.Scan w) own = ap (λ p. work_refusal k.heap p Marking w) stands.phase
   own_refusal heap.EndMark own = same_end_mark k a stands
   own_refusal step own = search (own, refl)
@@ -75,10 +73,7 @@ module _ (k : CycleHeap) (a : State) (stands : MarkStands k a) where
       × MarkStands
       (shaded_all (unless_refused refused (λ fault. k) (done_in k step))
       (unless_refused refused (λ fault. []) (late_roots a step))) b
-  row_by step None own is =
-      let row = accepted step own is in
-      let none = on_own_heap step ∙ own_refusal step own ∙ is in
-      (row.0, accepted_row k.heap_no a step (reply_in k step) row.0 none row.1, row.2)
+  row_by step None own is = search (on_own_heap, own_refusal, accepted_row, accepted step own is)
   row_by step (Some fault) own is =
       (a, refused_row k.heap_no a step fault (on_own_heap step ∙ own_refusal step own ∙ is), stands)
 

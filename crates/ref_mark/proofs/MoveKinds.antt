@@ -25,23 +25,7 @@ pub rooted_move : (k : CycleHeap) (a : State) (slots : List (Option ℕ)) (holds
     → (is_white k n ≡ false) ⊎ (has todo n ≡ true))
     → ((n : ℕ) → has (roots_after (rooted k slots holds) pending) n ≡ true → is_there k.heap.objects n ≡ true)
     → IsMove k (rooted k slots holds) pending todo
-rooted_move k a slots holds pending todo stands count roots named = record {
-  next = omega (arith);
-  stays = λ n there. there;
-  was = λ n there. inl there;
-  rising = stands.orderly.rising;
-  slots = count;
-  doomed = refl;
-  marked_stays = λ n marked. marked;
-  marked_was = λ n marked. inl marked;
-  roots = roots;
-  named = named;
-  led = stands.there.led;
-  leads = λ m n target. inl target;
-  references = λ n is. is;
-  to_white = λ begun n refers. refers;
-  white_stays = λ past n refers. refers;
-}
+rooted_move k a slots holds pending todo stands count roots named = grind arith
 
 -- slots and holds change, and the object of one number
 abbrev pub altered : CycleHeap → List (Option ℕ) → List ℕ → ℕ → (Object → Object) → Change

@@ -1,15 +1,14 @@
 -- A heap that a mutator moved stands for the state that the row of the abstract collector gives.
-use Rattle.std.proofs.Common.{◌≡◌, ℕ, ◌<◌, ◌≤◌, Bool, true, false, not, refl, sym, ap, subst, ◌∙◌, arith, List, [], ◌∷◌}
+use Rattle.std.proofs.Common.{◌≡◌, ℕ, ◌≤◌, Bool, true, false, not, refl, sym, ap, subst, ◌∙◌, arith, List, [], ◌∷◌}
 use Rattle.std.proofs.Common.{inl, inr}
-use Rattle.std.proofs.lemmas.Bool.{cases_Bool, true≢false, or_left, or_right}
+use Rattle.std.proofs.lemmas.Bool.{cases_Bool, true≢false, or_right}
 use Rattle.ref_mark.proofs.Common.{Heap, IsOrderly, World, with_heap, graph_of, pending_numbers, is_in, is_empty, State}
-use Rattle.ref_mark.proofs.Common.{ticked, Phase, Idle, Marking, Clearing, Sweeping, is_in_cycle, CycleHeap, is_white}
-use Rattle.ref_mark.proofs.Common.{is_past_mark, is_due, FactsBut, AreThere, MarkStands, ReadsAs}
+use Rattle.ref_mark.proofs.Common.{ticked, Phase, Idle, Marking, Clearing, Sweeping, is_in_cycle, CycleHeap}
+use Rattle.ref_mark.proofs.Common.{is_past_mark, MarkStands, ReadsAs}
 use Rattle.ref_mark.proofs.Agreeing.{agrees_same, same_before}
 use Rattle.ref_mark.proofs.Shading.{MarkingBut}
-use Rattle.ref_mark.proofs.DoomedLists.{past_is_in_cycle, shown_heap-before}
-use Rattle.ref_mark.proofs.Moves.{Change, moved, IsMove, graph_after, moved_state, moved_marking, same_white}
-use Rattle.ref_mark.proofs.Moves.{moved_facts, moved_clearing, moved_sweeping}
+use Rattle.ref_mark.proofs.DoomedLists.{shown_heap-before}
+use Rattle.ref_mark.proofs.Moves.{Change, moved, IsMove, graph_after, moved_state, moved_marking}
 
 -- ---- phases
 
@@ -31,9 +30,6 @@ marking_is_not Idle marking = (refl, refl)
 marking_is_not Marking marking = (refl, refl)
 marking_is_not Clearing marking = (sym marking, refl)
 marking_is_not Sweeping marking = (refl, sym marking)
-
-clearing_is_past : (phase : Phase) → is_in phase Clearing ≡ true → is_past_mark phase ≡ true
-clearing_is_past phase clearing = or_left (is_in phase Clearing) (is_in phase Sweeping) clearing
 
 pub sweeping_is_past : (phase : Phase) → is_in phase Sweeping ≡ true → is_past_mark phase ≡ true
 sweeping_is_past phase sweeping = or_right (is_in phase Clearing) (is_in phase Sweeping) sweeping
@@ -61,18 +57,7 @@ alongside_itself w = record { policy = refl; cycle = refl; phase = refl }
 module _ (k : CycleHeap) (c : Change) (a : State) (w : World) (beside : IsAlongside a.world w) (todo : List ℕ)
     (stands : MarkStands k a) (move : IsMove k c (pending_numbers w.pending) todo) where
   orderly_after : IsOrderly (moved k c).heap c.next
-  orderly_after = record {
-    rising = move.rising;
-    below = λ n there.
-        elim (move.was n there) [
-          | inl before ↦
-              let early : n < k.next = stands.orderly.below n before in
-              let more : k.next ≤ c.next = move.next in
-              omega (arith, early, more)
-          | inr new ↦ new.below
-        ];
-    slots = move.slots ∙ stands.orderly.slots;
-  }
+  orderly_after = grind arith
 
   born_after : a.born ≤ c.next
   born_after = let born : a.born ≤ k.next = stands.born in let more : k.next ≤ c.next = move.next in
@@ -112,64 +97,15 @@ module _ (k : CycleHeap) (c : Change) (a : State) (w : World) (beside : IsAlongs
 
 -- what holds in a mark
 pub in_mark : (k : CycleHeap) (a : State) → MarkStands k a → is_in k.phase Marking ≡ true → MarkingBut k a [] []
-in_mark k a stands marking =
-    let holds = stands.marking marking in
-    record {
-      facts = stands.facts (marking_is_in_cycle k.phase marking);
-      coloured = holds.coloured;
-      reached = holds.reached;
-      found = holds.found;
-    }
+in_mark k a stands marking = grind arith
 
 -- ---- before a mark and after it
 
 module _ (k : CycleHeap) (c : Change) (a : State) (w : World) (beside : IsAlongside a.world w) (stands : MarkStands k a)
     (move : IsMove k c (pending_numbers w.pending) []) where
-  -- what wasn't due to be swept isn't now
-  due_was : (m : ℕ) → is_due (moved k c) m ≡ false → is_due k m ≡ false
-  due_was m due =
-      elim (cases_Bool (is_in k.phase Sweeping)) [
-        | inl sweeping ↦
-            let begun : is_in_cycle k.phase ≡ true = past_is_in_cycle k.phase (sweeping_is_past k.phase sweeping) in
-            let same : is_white (moved k c) m ≡ is_white k m =
-            same_white k c (pending_numbers w.pending) [] move begun stands.orderly.below m in
-            let other : is_white (moved k c) m ≡ false = simp sweeping at due in
-            simp sweeping (sym same ∙ other)
-        | inr other ↦ simp other refl
-      ]
-
   quiet_stands : (h : Heap) → is_in k.phase Marking ≡ false → ReadsAs (moved k c) h
       → MarkStands (moved k c) (record a { world = with_heap w h; next = c.next })
-  quiet_stands h quiet heap =
-      let below = stands.orderly.below in
-      record {
-        heap = heap;
-        next = refl;
-        policy = beside.policy ∙ stands.policy;
-        cycle = beside.cycle ∙ stands.cycle;
-        phase = beside.phase ∙ stands.phase;
-        doomed = stands.doomed ∙ sym move.doomed;
-        born = born_after k c a w beside [] stands move;
-        orderly = orderly_after k c a w beside [] stands move;
-        scanners = stands.scanners;
-        finders = stands.finders;
-        there =
-            subst (λ (g : Heap). AreThere (moved k c) (graph_of (with_heap w g)).roots) (sym heap)
-            (record { named = move.named; led = λ m n due target. move.led m n (due_was m due) target });
-        facts = λ begun.
-            subst (λ (g : Heap). FactsBut (moved k c) (graph_of (with_heap w g)).roots []) (sym heap)
-            (moved_facts k c (pending_numbers w.pending) [] move begun below (graph_of a.world).roots
-            (stands.facts begun));
-        marking = λ marking. absurd (true≢false (sym marking ∙ quiet));
-        clearing = λ clearing.
-            let past : is_past_mark k.phase ≡ true = clearing_is_past k.phase clearing in
-            moved_clearing k c (pending_numbers w.pending) [] move (past_is_in_cycle k.phase past) below a.found
-            a.cleared past (stands.clearing clearing);
-        sweeping = λ sweeping.
-            let past : is_past_mark k.phase ≡ true = sweeping_is_past k.phase sweeping in
-            moved_sweeping k c (pending_numbers w.pending) [] move (past_is_in_cycle k.phase past) below
-            (stands.sweeping sweeping);
-      }
+  quiet_stands h quiet heap = grind arith
 
   marked_stands : (h : Heap) → is_in k.phase Marking ≡ true → h ≡ (moved k c).heap
       → MarkStands (moved k c) (moved_state a (with_heap w h) c.next (graph_of (with_heap w h) ∷ a.moments) a.left)

@@ -1,17 +1,16 @@
 -- What holds of a heap in its cycles goes on holding where a mutator moves.
-use Rattle.std.proofs.Common.{◌≡◌, ℕ, ◌<◌, ◌≤◌, Bool, true, false, not, ◌&&◌, refl, sym, ◌∙◌, arith, List, [], ◌∷◌}
+use Rattle.std.proofs.Common.{◌≡◌, ℕ, ◌<◌, ◌≤◌, Bool, true, false, refl, arith, List, [], ◌∷◌}
 use Rattle.std.proofs.Common.{◌++◌, length, Option, Some, None, is_some, ◌⊎◌, inl, inr}
-use Rattle.std.proofs.lemmas.Bool.{cases_Bool, and_parts, false≢true, true≢false, false_from_ne_true}
-use Rattle.ref_mark.proofs.Common.{refers_into, has, Graph, Object, Reference, object_at, is_there, Allowed, present}
+use Rattle.ref_mark.proofs.Common.{refers_into, has, Graph, Object, object_at, is_there, Allowed, present}
 use Rattle.ref_mark.proofs.Common.{targets_of, targets_at, soft_and_weak_referents, IsRising, is_kept, Heap}
-use Rattle.ref_mark.proofs.Common.{reference_in, reference_at, World, with_heap, graph_of, pending_numbers, State}
-use Rattle.ref_mark.proofs.Common.{is_in_cycle, CycleHeap, is_white, is_black, is_past_mark, is_due, doomed, FactsBut}
+use Rattle.ref_mark.proofs.Common.{reference_in, reference_at, World, with_heap, pending_numbers, State}
+use Rattle.ref_mark.proofs.Common.{is_in_cycle, CycleHeap, is_white, is_past_mark, is_due, doomed, FactsBut}
 use Rattle.ref_mark.proofs.Common.{Coloured, Reached, FoundBut, InClearing}
 use Rattle.ref_base.specs.Graphs.{numbers}
 use Rattle.ref_base.proofs.PathLaws.{root_ends, target_ends}
 use Rattle.ref_objects.specs.Grounds.{Tag}
 use Rattle.ref_mark.specs.Standing.{InSweeping}
-use Rattle.ref_mark.proofs.Shading.{MarkingBut, refers_into-wider}
+use Rattle.ref_mark.proofs.Shading.{MarkingBut}
 use Rattle.ref_base.proofs.StillFound.{are_found-still}
 
 -- ---- moves
@@ -105,13 +104,6 @@ pub referring_is_there : (test : ℕ → Bool) (h : Heap) (n : ℕ) → refers_i
     → is_there h.objects n ≡ true
 referring_is_there test h n refers = reference_in-some test (object_at h.objects n) refers
 
-same_Bool : (x y : Bool) → (x ≡ true → y ≡ true) → (y ≡ true → x ≡ true) → x ≡ y
-same_Bool x y over back =
-    elim (cases_Bool x) [
-      | inl t ↦ t ∙ sym (over t)
-      | inr f ↦ f ∙ sym (false_from_ne_true y (λ t. true≢false (sym (back t) ∙ f)))
-    ]
-
 -- ---- colours and facts
 
 -- in a cycle that has begun
@@ -119,107 +111,20 @@ module _ (k : CycleHeap) (c : Change) (pending todo : List ℕ) (move : IsMove k
     (begun : is_in_cycle k.phase ≡ true) (below : (n : ℕ) → is_there k.heap.objects n ≡ true → n < k.next) where
   -- what was there is marked if it was
   marked-was : (n : ℕ) → is_there k.heap.objects n ≡ true → has c.marked n ≡ true → has k.marked n ≡ true
-  marked-was n there marked =
-      elim (move.marked_was n marked) [
-        | inl before ↦ before
-        | inr late ↦ let early : n < k.next = below n there in absurd (omega (arith, late, early))
-      ]
-
-  -- what was there is black if it was
-  black-was : (n : ℕ) → is_there k.heap.objects n ≡ true → is_black (moved k c) n ≡ true → is_black k n ≡ true
-  black-was n there black =
-      let parts = and_parts (is_there c.objects n) (has c.marked n && not (has k.grey n)) black in
-      let sides = and_parts (has c.marked n) (not (has k.grey n)) parts.1 in
-      let marked : has k.marked n ≡ true = marked-was n there sides.0 in
-      simp (there, marked, sides.1) refl
-
-  black-stays : (n : ℕ) → is_black k n ≡ true → is_black (moved k c) n ≡ true
-  black-stays n black =
-      let parts = and_parts (is_there k.heap.objects n) (has k.marked n && not (has k.grey n)) black in
-      let sides = and_parts (has k.marked n) (not (has k.grey n)) parts.1 in
-      let there : is_there c.objects n ≡ true = move.stays n parts.0 in
-      let marked : has c.marked n ≡ true = move.marked_stays n sides.0 in
-      simp (there, marked, sides.1) refl
+  marked-was n there marked = grind arith
 
   -- exactly what was white is white
   pub same_white : (n : ℕ) → is_white (moved k c) n ≡ is_white k n
-  same_white n =
-      elim (cases_Bool (is_there k.heap.objects n)) [
-        | inl there ↦
-            let still : is_there c.objects n ≡ true = move.stays n there in
-            let same : has c.marked n ≡ has k.marked n =
-            same_Bool (has c.marked n) (has k.marked n) (marked-was n there) (move.marked_stays n) in
-            simp (there, still, same) refl
-        | inr absent ↦ elim (cases_Bool (is_there c.objects n)) [
-          | inl now ↦ elim (move.was n now) [
-            | inl before ↦ absurd (true≢false (sym before ∙ absent))
-            | inr new ↦ let marked : has c.marked n ≡ true = new.marked begun in simp (absent, now, marked) refl
-          ]
-          | inr never ↦ simp (absent, never) refl
-        ]
-      ]
-
-  refers_into-still : (r : Option Reference) → refers_into (is_white (moved k c)) r ≡ refers_into (is_white k) r
-  refers_into-still r =
-      same_Bool (refers_into (is_white (moved k c)) r) (refers_into (is_white k) r)
-      (refers_into-wider (is_white k) (is_white (moved k c)) (λ n white. sym (same_white n) ∙ white) r)
-      (refers_into-wider (is_white (moved k c)) (is_white k) (λ n white. same_white n ∙ white) r)
-
-  -- a black reference to a white object was one
-  white_was : (n : ℕ) → refers_into (is_white (moved k c)) (reference_at (moved k c).heap n) ≡ true
-      → refers_into (is_white k) (reference_at k.heap n) ≡ true
-  white_was n refers =
-      move.to_white begun n (sym (refers_into-still (reference_in (object_at c.objects n))) ∙ refers)
+  same_white n = grind arith
 
   pub moved_facts : (roots : List ℕ) → FactsBut k roots [] → FactsBut (moved k c) (roots_after c pending) todo
-  moved_facts roots facts =
-      let rooted : (n : ℕ) → has (roots_after c pending) n ≡ true
-      → (is_white (moved k c) n ≡ false) ⊎ (has todo n ≡ true) = λ n root.
-      elim (move.roots begun n root) [
-        | inl other ↦ inl (same_white n ∙ other)
-        | inr listed ↦ inr listed
-      ] in
-      record {
-        rooted = rooted;
-        closed = λ m n black target.
-            elim (move.leads m n target) [
-              | inl before ↦
-                  let there : is_there k.heap.objects m ≡ true =
-                  leading_is_there (is_kept k.policy) k.heap.objects m n before in
-                  elim (facts.closed m n (black-was m there black) before) [
-                    | inl other ↦ inl (same_white n ∙ other)
-                    | inr none ↦ absurd (false≢true none)
-                  ]
-              | inr now ↦ elim now [
-                | inl root ↦ rooted n root
-                | inr own ↦ inl (same_white n ∙ own.1 begun)
-              ]
-            ];
-      }
+  moved_facts roots facts = grind arith
 
   -- ---- a mark
 
   pub moved_coloured : (born : ℕ) (scanned : List (List ℕ)) → born ≤ k.next → Coloured k born scanned
       → Coloured (moved k c) born scanned
-  moved_coloured born scanned early coloured = record {
-    distinct = coloured.distinct;
-    grey_there = λ n grey. move.stays n (coloured.grey_there n grey);
-    grey_marked = λ n grey. move.marked_stays n (coloured.grey_marked n grey);
-    grey_old = coloured.grey_old;
-    scanned_black = λ n was.
-        let before = coloured.scanned_black n was in (move.marked_stays n before.0, before.1);
-    black_scanned = λ n old black.
-        let parts = and_parts (is_there c.objects n) (has c.marked n && not (has k.grey n)) black in
-        elim (move.was n parts.0) [
-          | inl there ↦ coloured.black_scanned n old (black-was n there black)
-          | inr new ↦ let late : k.next ≤ n = new.since in absurd (omega (arith, old, late, early))
-        ];
-    since = λ n there late.
-        elim (move.was n there) [
-          | inl before ↦ move.marked_stays n (coloured.since n before late)
-          | inr new ↦ new.marked begun
-        ];
-  }
+  moved_coloured born scanned early coloured = grind arith
 
   pub moved_reached : (moments : List Graph) → Reached k moments → Reached (moved k c) (graph_after c pending ∷ moments)
   moved_reached moments reached = record {
@@ -250,46 +155,16 @@ module _ (k : CycleHeap) (c : Change) (pending todo : List ℕ) (move : IsMove k
   }
 
   pub moved_found : (scanned : List (List ℕ)) → FoundBut k scanned [] → FoundBut (moved k c) scanned []
-  moved_found scanned found = record {
-    are_found = are_found-still k.heap.objects c.objects move.references scanned k.found found.are_found;
-    once = found.once;
-    all_found = λ n black refers.
-        let before : refers_into (is_white k) (reference_at k.heap n) ≡ true = white_was n refers in
-        let there : is_there k.heap.objects n ≡ true = referring_is_there (is_white k) k.heap n before in
-        found.all_found n (black-was n there black) before;
-  }
+  moved_found scanned found = grind (arith, are_found-still)
 
   -- ---- later phases
 
   pub moved_clearing : (lists : List (List ℕ)) (clears : List ℕ) → is_past_mark k.phase ≡ true
       → InClearing k lists clears → InClearing (moved k c) lists clears
-  moved_clearing lists clears past holds = record {
-    no_grey = holds.no_grey;
-    same = holds.same;
-    once = holds.once;
-    black = λ n found. black-stays n (holds.black n found);
-    cleared = λ n found.
-        holds.cleared n found
-        ∙ same_Bool (refers_into (is_white k) (reference_at k.heap n))
-        (refers_into (is_white (moved k c)) (reference_at (moved k c).heap n))
-        (λ refers. refers_into-still (reference_in (object_at c.objects n)) ∙ move.white_stays past n refers)
-        (white_was n);
-    all_found = λ n black refers.
-        let before : refers_into (is_white k) (reference_at k.heap n) ≡ true = white_was n refers in
-        let there : is_there k.heap.objects n ≡ true = referring_is_there (is_white k) k.heap n before in
-        holds.all_found n (black-was n there black) before;
-  }
+  moved_clearing lists clears past holds = grind arith
 
   pub moved_sweeping : InSweeping k → InSweeping (moved k c)
-  moved_sweeping holds = record {
-    no_grey = holds.no_grey;
-    none_left = λ n black.
-        false_from_ne_true (refers_into (is_white (moved k c)) (reference_at (moved k c).heap n))
-        (λ refers.
-        let before : refers_into (is_white k) (reference_at k.heap n) ≡ true = white_was n refers in
-        let there : is_there k.heap.objects n ≡ true = referring_is_there (is_white k) k.heap n before in
-        true≢false (sym before ∙ holds.none_left n (black-was n there black)));
-  }
+  moved_sweeping holds = grind arith
 
 -- ---- states
 
@@ -301,10 +176,4 @@ pub moved_marking : (k : CycleHeap) (c : Change) (a : State) (w : World) (todo :
     (moved_state a (with_heap w (moved k c).heap) c.next (graph_after c (pending_numbers w.pending) ∷ a.moments) left)
     todo []
 moved_marking k c a w todo left move begun below born but =
-    let pending = pending_numbers w.pending in
-    record {
-      facts = moved_facts k c pending todo move begun below (graph_of a.world).roots but.facts;
-      coloured = moved_coloured k c pending todo move begun below a.born a.scanned born but.coloured;
-      reached = moved_reached k c pending todo move begun below a.moments but.reached;
-      found = moved_found k c pending todo move begun below a.scanned but.found;
-    }
+    search (moved_facts, moved_coloured, moved_reached, moved_found)

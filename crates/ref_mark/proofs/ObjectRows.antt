@@ -1,11 +1,11 @@
 -- The rows that make objects and references, and the rows that store into a field.
-use Rattle.std.proofs.Common.{◌≡◌, ℕ, ◌+◌, ◌*◌, true, false, if◌then◌else◌, zero, suc, refl, sym, ap, subst, ◌∙◌, List}
+use Rattle.std.proofs.Common.{arith}
+use Rattle.std.proofs.Common.{◌≡◌, ℕ, ◌+◌, ◌*◌, true, false, zero, suc, refl, sym, ap, subst, ◌∙◌, List}
 use Rattle.std.proofs.Common.{[], ◌++◌, Option, Some, None, inl, inr, nat_lt}
-use Rattle.std.specs.Prelude.{slice_set}
 use Rattle.std.proofs.lemmas.Bool.{cases_Bool, and_parts, false≢true, true≢false}
 use Rattle.ref_objects.specs.Grounds.{with_new_tag}
 use Rattle.ref_mark.proofs.Common.{refers_into, has, Object, plain_object, Allowed, present, targets_of}
-use Rattle.ref_mark.proofs.Common.{allowed_referent, is_soft, soft_and_weak_referents, is_kept, is_new_clear, Heap}
+use Rattle.ref_mark.proofs.Common.{allowed_referent, soft_and_weak_referents, is_kept, is_new_clear, Heap}
 use Rattle.ref_mark.proofs.Common.{slot_at, nulls, new_reference, made, changed_in, with_heap, pending_numbers}
 use Rattle.ref_mark.proofs.Common.{has_slot, has_slots, unless, field_refusal, new_refusal, refer_refusal, State}
 use Rattle.ref_mark.proofs.Common.{ticked, on_heap, HeapAccepts, Strength, NoSuchActor, is_in_cycle, CycleHeap}
@@ -99,13 +99,7 @@ new_row k a m d f stands accepted =
 reference_goes_to : (k : CycleHeap) (allow : Allowed) (strength : Strength) (held q : Option ℕ) (n : ℕ)
     → has (allowed_referent allow (new_reference k.heap k.next strength held q 0).reference) n ≡ true
     → held ≡ Some n
-reference_goes_to k allow strength held q n within =
-    allowed_referent-cases allow (record {
-      strength = strength;
-      referent = held;
-      stamp = if is_soft strength then k.heap.clock else 0;
-      queue = q;
-    }) n within
+reference_goes_to k allow strength held q n within = search allowed_referent-cases
 
 -- a reference to what a slot holds is read as it is
 reference_shows : (k : CycleHeap) (a : State) (m d s f : ℕ) (strength : Strength) (q : Option ℕ) → MarkStands k a
@@ -170,20 +164,7 @@ field_refusal-there h (Some n) i none = (n, refl)
 -- an object leads to what is stored, which is a root, or where it did
 stored_becomes : (k : CycleHeap) (i : ℕ) (value : Option ℕ) (roots : List ℕ) (o : Object)
     → ((n : ℕ) → value ≡ Some n → has roots n ≡ true) → MayBecome k roots o (with_field i value o)
-stored_becomes k i value roots o rooted =
-    record {
-      leads = λ allow n target.
-          elim (has-cases (present (slice_set o.fields i value)) (allowed_referent allow o.reference) n target) [
-            | inl field ↦ elim (has-present_set o.fields i value n field) [
-              | inl before ↦ inl (has-left (present o.fields) (allowed_referent allow o.reference) n before)
-              | inr is ↦ inr (rooted n is)
-            ]
-            | inr referent ↦ inl (has-right (present o.fields) (allowed_referent allow o.reference) n referent)
-          ];
-      references = λ is. is;
-      to_white = λ refers. refers;
-      white_stays = λ past refers. refers;
-    }
+stored_becomes k i value roots o rooted = grind (arith, has-cases, has-present_set, has-left, has-right)
 
 pub store_row : (k : CycleHeap) (a : State) (m s i v : ℕ) → MarkStands k a → store_refusal k.heap m s i v ≡ None
     → (b : State) × HeapAccepts a (heap.Store m s i v) replies.Done b

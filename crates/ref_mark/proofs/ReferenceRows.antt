@@ -1,4 +1,5 @@
 -- The rows that get, clear and compare what a reference refers to.
+use Rattle.std.proofs.Common.{arith}
 use Rattle.std.proofs.Common.{◌≡◌, ℕ, ◌+◌, ◌*◌, true, false, ◌==◌, nat_lt, refl, sym, ap, subst, ◌∙◌, List, [], ◌∷◌}
 use Rattle.std.proofs.Common.{◌++◌, Option, Some, None, ◌⊎◌, inl, inr}
 use Rattle.std.specs.Prelude.{slice_set}
@@ -6,8 +7,8 @@ use Rattle.std.proofs.lemmas.Bool.{cases_Bool, and_parts, or_left, eq-eqb}
 use Rattle.std.proofs.lemmas.List.{length-set}
 use Rattle.ref_mark.proofs.Common.{has, Object, Reference, is_there, present, refers_into, Heap, slot_at, with_slot}
 use Rattle.ref_mark.proofs.Common.{reference_in, changed_in, with_reference, cleared, got_at, got, pending_numbers}
-use Rattle.ref_mark.proofs.Common.{is_in, has_slot, has_slots, reference_refusal, State, ticked, on_heap, value_reply}
-use Rattle.ref_mark.proofs.Common.{HeapAccepts, reference_of, referent_got, heap_but, Marking, NoSuchActor, CycleHeap}
+use Rattle.ref_mark.proofs.Common.{has_slot, has_slots, reference_refusal, State, ticked, on_heap, value_reply}
+use Rattle.ref_mark.proofs.Common.{HeapAccepts, reference_of, referent_got, heap_but, NoSuchActor, CycleHeap}
 use Rattle.ref_mark.proofs.Common.{is_white, is_past_mark, is_in_cycle, is_doomed, doomed, undoomed, value_got, barred}
 use Rattle.ref_mark.proofs.Common.{with_got, with_cleared, MarkStands, ReadsAs, unsaid}
 use Rattle.ref_base.specs.Heaps.{cut}
@@ -29,7 +30,7 @@ use Rattle.ref_mark.proofs.MovedStates.{moved_stands, alongside_itself}
 use Rattle.ref_mark.proofs.ShadedMoves.{barred_row}
 use Rattle.ref_mark.proofs.RootFacts.{slot_off, slot_root, root_is_not_white, root_is_there, roots_of_set, named_of_set}
 use Rattle.ref_mark.proofs.RootFacts.{slot_is_not_due, slot_within, past_from}
-use Rattle.ref_mark.proofs.MoveKinds.{rooted, rooted_move, altered, altered_move}
+use Rattle.ref_mark.proofs.MoveKinds.{rooted, altered, altered_move}
 use Rattle.ref_mark.proofs.SlotRows.{set_stands}
 use Rattle.ref_mark.proofs.ReferenceMoves.{reference_refusal-there, refers_into_doomed-past, cleared_becomes}
 use Rattle.ref_mark.proofs.ReferenceMoves.{got_becomes, gives_target, undoomed-some, with_got-barred, reference_of-held}
@@ -56,9 +57,7 @@ module _ (k : CycleHeap) (a : State) (stands : MarkStands k a) where
   -- ---- where the heap stays as it is
 
   unmoved : IsMove k (rooted k k.heap.slots k.heap.holds) (pending_numbers a.world.pending) []
-  unmoved =
-      rooted_move k a k.heap.slots k.heap.holds (pending_numbers a.world.pending) [] stands refl
-      (λ begun n root. inl (root_is_not_white k a stands begun n root)) (root_is_there k a stands)
+  unmoved = grind arith
 
   -- what mutators read stays as it is
   pub unmoved_stands : (h : Heap) → ReadsAs k h → MarkStands k (ticked (on_heap a h))
@@ -127,14 +126,7 @@ clear_row k a m s stands accepted =
 get_values : (k : CycleHeap) (a : State) (m d s : ℕ) (value : Option ℕ) → MarkStands k a → value_got k m s ≡ value
     → has_slot k.heap m d ≡ true
     → (b : State) × Gets a m d s value (value_reply value) b × MarkStands (with_got k m d s value) b
-get_values k a m d s None stands is there =
-    let same : with_got k m d s None ≡ record k { heap = with_slot k.heap m d None } =
-    elim (cases_Bool (is_in k.phase Marking)) [ inl marking ↦ simp marking refl | inr quiet ↦ simp quiet refl ] in (
-      ticked (on_heap a (with_slot a.world.heap m d None)),
-      (refl, refl),
-      subst (λ (j : CycleHeap). MarkStands j (ticked (on_heap a (with_slot a.world.heap m d None)))) (sym same)
-          (set_stands k a m d None stands (λ begun n none. absurd (cc)) (λ n none. absurd (cc))),
-    )
+get_values k a m d s None stands is there = grind (arith, set_stands k a m d None stands)
 get_values k a m d s (Some n) stands is there =
     let pending = pending_numbers a.world.pending in
     let set : List (Option ℕ) = slice_set k.heap.slots (16 * m + d) (Some n) in

@@ -1,24 +1,24 @@
 -- Why no list of a marker is ever full: with the grey ones it has no more than the marked, and they have room.
-use Rattle.std.proofs.Common.{◌≡◌, ℕ, ◌+◌, ◌<◌, ◌≤◌, true, false, ◌==◌, ◌||◌, not, refl, sym, ◌∙◌, ap, subst, List, []}
-use Rattle.std.proofs.Common.{◌∷◌, ◌++◌, length, map, take, drop, replicate, get_or, set, Some, None, zero, suc, inl}
-use Rattle.std.proofs.Common.{inr, arith}
+use Rattle.std.proofs.Common.{◌≡◌, ℕ, ◌+◌, ◌<◌, ◌≤◌, true, false, ◌||◌, not, refl, sym, ◌∙◌, ap, subst, List, []}
+use Rattle.std.proofs.Common.{◌∷◌, ◌++◌, length, map, take, drop, replicate, get_or, set, Some, None, zero, suc}
+use Rattle.std.proofs.Common.{arith}
 use Rattle.std.specs.List.{list_any}
-use Rattle.std.proofs.lemmas.Bool.{cases_Bool, ltb-true, and_parts, not-true, false≢true}
+use Rattle.std.proofs.lemmas.Bool.{and_parts, not-true}
 use Rattle.std.proofs.lemmas.List.{append-nil, drop_all, take_all, length_push, length-map, length-set, map-set}
 use Rattle.std.proofs.lemmas.List.{length-replicate, get_or_read}
 use Rattle.std.proofs.Math.ListN.{get_or-map}
 use Rattle.ref_mark.proofs.Common.{refers_into, has, is_there, Heap, reference_at, one_more, one_fewer, joined, list_at}
-use Rattle.ref_mark.proofs.Common.{is_in, is_empty, is_worker, work_refusal, NoSuchActor, Config, Phase, Policy, Idle}
+use Rattle.ref_mark.proofs.Common.{is_in, is_empty, work_refusal, Config, Phase, Policy, Idle}
 use Rattle.ref_mark.proofs.Common.{Marking, Sweeping, Ground, Worklist, empty_worklist, first_in, emptied_list}
 use Rattle.ref_mark.proofs.Common.{CycleHeap, first_cycle_heap, is_white, shaded, shaded_all, with_found, is_due}
 use Rattle.ref_mark.proofs.Common.{seen_marker, worklists_of}
 use Rattle.ref_base.specs.CollectorRows.{emptied as none_found}
 use Rattle.ref_base.specs.declared.urgency.Urgency.TheVariants.{Normal}
 use Rattle.ref_base.specs.KeptPaths.{policy_from}
-use Rattle.ref_objects.specs.Grounds.{first_ground, is_unmarked, ground_marked, after_freeing, is_free, freed}
-use Rattle.ref_objects.specs.Grounds.{IsWellFormed, without_tag}
+use Rattle.ref_objects.specs.Grounds.{first_ground, is_unmarked, ground_marked, after_freeing}
+use Rattle.ref_objects.specs.Grounds.{IsWellFormed}
 use Rattle.ref_objects.proofs.NumberLemmas.{length-one_more}
-use Rattle.ref_mark.specs.Worklists.{with_last, without_first_listed, rest_of}
+use Rattle.ref_mark.specs.Worklists.{with_last, without_first_listed}
 use Rattle.ref_mark.specs.CycleHeaps.{with_found_taken, swept}
 use Rattle.ref_mark.specs.MarkViews.{AreRoomy, IsRoomy}
 
@@ -27,19 +27,12 @@ use Rattle.ref_mark.specs.MarkViews.{AreRoomy, IsRoomy}
 -- nothing goes that isn't there
 pub one_fewer-missing : (ns : List ℕ) (n : ℕ) → has ns n ≡ false → one_fewer ns n ≡ ns
 one_fewer-missing [] n missing = refl
-one_fewer-missing (m ∷ ms) n missing =
-    elim (cases_Bool (m == n)) [
-      | inl same ↦ absurd (let wrong : true ≡ false = simp same at missing in false≢true (sym wrong))
-      | inr other ↦ simp other (ap (λ ls. m ∷ ls) (one_fewer-missing ms n (simp other at missing)))
-    ]
+one_fewer-missing (m ∷ ms) n missing = grind (arith, one_fewer-missing ms n)
 
 -- a mark is one more, or changes nothing
 pub marked_new : (g : Ground) (n : ℕ) → is_unmarked g n ≡ true
     → ground_marked g n ≡ record g { marked = one_more g.marked n }
 marked_new g n new = simp new refl
-
-pub marked_again : (g : Ground) (n : ℕ) → is_unmarked g n ≡ false → ground_marked g n ≡ g
-marked_again g n old = simp old refl
 
 -- ---- what is seen of the lists
 
@@ -49,9 +42,7 @@ lists_of-map (l ∷ ls) = ap (λ ms. l.stands ∷ ms) (lists_of-map ls)
 
 pub lists_of-set : (ls : List Worklist) (w : ℕ) (l : Worklist)
     → worklists_of (set ls w l) ≡ set (worklists_of ls) w l.stands
-lists_of-set ls w l =
-    lists_of-map (set ls w l) ∙ map-set (λ (m : Worklist). m.stands) ls w l
-    ∙ ap (λ (ms : List (List ℕ)). set ms w l.stands) (sym (lists_of-map ls))
+lists_of-set ls w l = search (lists_of-map, map-set)
 
 list_at-lists_of : (ls : List Worklist) (w : ℕ) → list_at (worklists_of ls) w ≡ (get_or ls w (empty_worklist 0)).stands
 list_at-lists_of ls w =
@@ -61,9 +52,7 @@ list_at-lists_of ls w =
 -- once each list was cleared, all are
 pub all_cleared : (ls : List Worklist) {ms : List Worklist} (count : ℕ) → length ls ≤ count
     → ms ≡ map emptied_list (take count ls) ++ drop count ls → ms ≡ map emptied_list ls
-all_cleared ls count all are =
-    are ∙ ap (λ (ms : List Worklist). map emptied_list (take count ls) ++ ms) (drop_all count ls all)
-    ∙ append-nil (map emptied_list (take count ls)) ∙ ap (map emptied_list) (take_all count ls all)
+all_cleared ls count all are = grind (arith, drop_all, append-nil, take_all)
 
 pub lists_of-emptied : (ls : List Worklist) → worklists_of (map emptied_list ls) ≡ none_found (worklists_of ls)
 lists_of-emptied [] = refl
@@ -71,11 +60,7 @@ lists_of-emptied (l ∷ ls) = ap (λ ms. [] ∷ ms) (lists_of-emptied ls)
 
 -- a step that isn't refused is one of a worker
 pub worker_within : (h : Heap) (now phase : Phase) (w : ℕ) → work_refusal h now phase w ≡ None → w < h.config.workers
-worker_within h now phase w accepted =
-    elim (cases_Bool (is_worker h w)) [
-      | inl is ↦ ltb-true w h.config.workers is
-      | inr isnt ↦ absurd (let wrong : Some NoSuchActor ≡ None = simp isnt at accepted in cc)
-    ]
+worker_within h now phase w accepted = grind arith
 
 pub lists_of-replicate : (count room : ℕ) → worklists_of (replicate count (empty_worklist room)) ≡ replicate count []
 lists_of-replicate zero room = refl
@@ -92,10 +77,6 @@ any_found [] = refl
 any_found (l ∷ ls) =
     ap (λ b. not (is_empty l.stands) || b) (any_found ls) ∙ sym (is_empty-append l.stands (joined (worklists_of ls)))
 
-length-rest_of : (ns : List ℕ) → length (rest_of ns) ≤ length ns
-length-rest_of [] = omega arith
-length-rest_of (n ∷ ns) = omega arith
-
 -- ---- the lists keep their room
 
 -- the others as they were: as the grey ones grow, the marked grow by as many
@@ -103,31 +84,14 @@ AreRoomy-grown : (found : List Worklist) (cells grey marked cells_then grey_then
     → grey_then + marked ≤ grey + marked_then → AreRoomy found cells grey marked
     → AreRoomy found cells_then grey_then marked_then
 AreRoomy-grown [] cells grey marked cells_then grey_then marked_then same grown roomy = tt
-AreRoomy-grown (l ∷ ls) cells grey marked cells_then grey_then marked_then same grown roomy = (
-  omega (arith, same, roomy.0),
-  omega (arith, grown, roomy.1),
-  AreRoomy-grown ls cells grey marked cells_then grey_then marked_then same grown roomy.2,
-)
-
-freed-config : (h : Heap) (n : ℕ) → (freed h n).config ≡ h.config
-freed-config h n =
-    elim (cases_Bool (is_free h n)) [ inl free ↦ simp free refl | inr kept ↦ simp kept refl ]
+AreRoomy-grown (l ∷ ls) cells grey marked cells_then grey_then marked_then same grown roomy =
+    grind (arith, AreRoomy-grown ls cells grey marked cells_then grey_then marked_then same grown roomy.2)
 
 pub roomy_grown : {g after : Ground} {grey l : Worklist} {found : List Worklist}
     → after.heap.config ≡ g.heap.config → length after.marked ≤ after.heap.config.cells → l.room ≡ grey.room
     → length l.stands + length g.marked ≤ length grey.stands + length after.marked
     → IsRoomy g grey found → IsRoomy after l found
-roomy_grown {g} {after} {grey} {l} {found} config few room grown roomy =
-    let cells : after.heap.config.cells ≡ g.heap.config.cells = ap (λ f. f.cells) config in
-    let workers : after.heap.config.workers ≡ g.heap.config.workers = ap (λ f. f.workers) config in
-    record {
-      few = few;
-      grey_fits = omega (arith, cells, room, roomy.grey_fits);
-      grey_marked = omega (arith, grown, roomy.grey_marked);
-      found_fit = AreRoomy-grown found g.heap.config.cells (length grey.stands) (length g.marked)
-          after.heap.config.cells (length l.stands) (length after.marked) cells grown roomy.found_fit;
-      finders = roomy.finders ∙ sym workers;
-    }
+roomy_grown {g} {after} {grey} {l} {found} config few room grown roomy = grind (arith, AreRoomy-grown)
 
 -- what holds of each list holds of one of them
 AreRoomy-at : (found : List Worklist) (cells grey marked w : ℕ) (l : Worklist) → w < length found
@@ -149,52 +113,27 @@ AreRoomy-set (m ∷ ms) cells grey marked (suc w) l room few roomy =
 -- a worker's list, as it is read
 module _ {g : Ground} {grey : Worklist} {found : List Worklist} (w : ℕ) {l : Worklist}
     (within : w < g.heap.config.workers) (is : l ≡ get_or found w l) (roomy : IsRoomy g grey found) where
-  worker_has_list : w < length found
-  worker_has_list = omega (arith, within, roomy.finders)
-
   list_fits : (g.heap.config.cells ≤ l.room) × (length l.stands + length grey.stands ≤ length g.marked)
-  list_fits =
-      subst
-      (λ (m : Worklist). (g.heap.config.cells ≤ m.room) × (length m.stands + length grey.stands ≤ length g.marked))
-      (sym is)
-      (AreRoomy-at found g.heap.config.cells (length grey.stands) (length g.marked) w l worker_has_list roomy.found_fit)
+  list_fits = grind (arith, AreRoomy-at)
 
   pub stands_as_seen : l.stands ≡ list_at (worklists_of found) w
-  stands_as_seen =
-      ap (λ (m : Worklist). m.stands) (get_or_read found w l worker_has_list is (empty_worklist 0))
-      ∙ sym (list_at-lists_of found w)
+  stands_as_seen = grind (arith, get_or_read, list_at-lists_of)
 
   roomy_replaced : (m : Worklist) → m.room ≡ l.room → length m.stands + length grey.stands ≤ length g.marked
       → IsRoomy g grey (set found w m)
-  roomy_replaced m room few = record {
-    few = roomy.few;
-    grey_fits = roomy.grey_fits;
-    grey_marked = roomy.grey_marked;
-    found_fit = AreRoomy-set found g.heap.config.cells (length grey.stands) (length g.marked) w m
-        (omega (arith, room, list_fits.0)) few roomy.found_fit;
-    finders = length-set found w m ∙ roomy.finders;
-  }
+  roomy_replaced m room few = grind (arith, AreRoomy-set, list_fits, length-set)
 
   pub roomy_taken : {m : Worklist} → m ≡ without_first_listed l → IsRoomy g grey (set found w m)
-  roomy_taken {m} taken =
-      let stands : length m.stands ≤ length l.stands =
-      subst (λ (n : Worklist). length n.stands ≤ length l.stands) (sym taken) (length-rest_of l.stands) in
-      roomy_replaced m (ap (λ (n : Worklist). n.room) taken) (omega (arith, stands, list_fits.1))
+  roomy_taken {m} taken = grind (arith, list_fits, roomy_replaced m)
 
   pub found_has_room : length (list_at (worklists_of found) w) + length grey.stands < length g.marked
       → length l.stands < l.room
-  found_has_room spare =
-      let stands : length l.stands ≡ length (list_at (worklists_of found) w) = ap length stands_as_seen in
-      omega (arith, spare, stands, list_fits.0, roomy.few)
+  found_has_room spare = grind (arith, stands_as_seen, list_fits)
 
   pub roomy_found : {m : Worklist} (n : ℕ)
       → length (list_at (worklists_of found) w) + length grey.stands < length g.marked
       → m ≡ with_last l n → IsRoomy g grey (set found w m)
-  roomy_found {m} n spare pushed =
-      let was : length l.stands ≡ length (list_at (worklists_of found) w) = ap length stands_as_seen in
-      let stands : length m.stands ≡ length l.stands + 1 =
-      ap (λ (m : Worklist). length m.stands) pushed ∙ length_push l.stands n in
-      roomy_replaced m (ap (λ (k : Worklist). k.room) pushed) (omega (arith, spare, was, stands))
+  roomy_found {m} n spare pushed = grind (arith, stands_as_seen, length_push, roomy_replaced m)
 
 -- no worker has found anything
 AreRoomy-emptied : (found : List Worklist) (cells grey marked : ℕ) → grey ≤ marked → AreRoomy found cells grey marked
@@ -205,54 +144,17 @@ AreRoomy-emptied (l ∷ ls) cells grey marked few roomy =
 
 pub roomy_emptied : {g : Ground} {grey : Worklist} {found : List Worklist} → IsRoomy g grey found
     → IsRoomy g grey (map emptied_list found)
-roomy_emptied {g} {grey} {found} roomy = record {
-  few = roomy.few;
-  grey_fits = roomy.grey_fits;
-  grey_marked = roomy.grey_marked;
-  found_fit = AreRoomy-emptied found g.heap.config.cells (length grey.stands) (length g.marked) roomy.grey_marked
-      roomy.found_fit;
-  finders = length-map found emptied_list ∙ roomy.finders;
-}
+roomy_emptied {g} {grey} {found} roomy = search (AreRoomy-emptied, length-map)
 
 -- an unmarked object goes
 pub roomy_freed : {g after : Ground} {grey : Worklist} {found : List Worklist} (n : ℕ) → has g.marked n ≡ false
     → after ≡ after_freeing g n → IsRoomy g grey found → IsRoomy after grey found
-roomy_freed {g} {after} {grey} {found} n plain is roomy =
-    elim (cases_Bool (is_free g.heap n)) [
-      | inl free ↦
-          let now : after_freeing g n
-          ≡ record g { heap = freed g.heap n; marked = one_fewer g.marked n; tags = without_tag g.tags n } =
-          simp free refl in
-          let config : after.heap.config ≡ g.heap.config =
-          ap (λ (h : Ground). h.heap.config) (is ∙ now) ∙ freed-config g.heap n in
-          let marked : length after.marked ≡ length g.marked =
-          ap (λ (h : Ground). length h.marked) (is ∙ now) ∙ ap length (one_fewer-missing g.marked n plain) in
-          let cells : after.heap.config.cells ≡ g.heap.config.cells = ap (λ f. f.cells) config in
-          roomy_grown config (omega (arith, marked, cells, roomy.few)) refl (omega (arith, marked)) roomy
-      | inr kept ↦
-          let now : after ≡ g = is ∙ (let same : after_freeing g n ≡ g = simp kept refl in same) in
-          let marked : length after.marked ≡ length g.marked = ap (λ (h : Ground). length h.marked) now in
-          let cells : after.heap.config.cells ≡ g.heap.config.cells = ap (λ (h : Ground). h.heap.config.cells) now in
-          roomy_grown (ap (λ (h : Ground). h.heap.config) now) (omega (arith, marked, cells, roomy.few)) refl
-          (omega (arith, marked)) roomy
-    ]
+roomy_freed {g} {after} {grey} {found} n plain is roomy = grind (arith, one_fewer-missing)
 
 -- one more object is marked, or none
 pub roomy_marked : {g after : Ground} {grey : Worklist} {found : List Worklist} (n : ℕ) → after ≡ ground_marked g n
     → IsWellFormed after → IsRoomy g grey found → IsRoomy after grey found
-roomy_marked {g} {after} {grey} {found} n is formed roomy =
-    let few : length after.marked ≤ after.heap.config.cells = omega (arith, formed.marks, formed.few) in
-    elim (cases_Bool (is_unmarked g n)) [
-      | inl new ↦
-          let now : after ≡ record g { marked = one_more g.marked n } = is ∙ marked_new g n new in
-          let count : length after.marked ≡ length g.marked + 1 =
-          ap (λ (h : Ground). length h.marked) now ∙ length-one_more g.marked n in
-          roomy_grown (ap (λ (h : Ground). h.heap.config) now) few refl (omega (arith, count)) roomy
-      | inr old ↦
-          let now : after ≡ g = is ∙ marked_again g n old in
-          let count : length after.marked ≡ length g.marked = ap (λ (h : Ground). length h.marked) now in
-          roomy_grown (ap (λ (h : Ground). h.heap.config) now) few refl (omega (arith, count)) roomy
-    ]
+roomy_marked {g} {after} {grey} {found} n is formed roomy = grind (arith, length-one_more, roomy_grown)
 
 -- one more is marked and grey
 module _ {g after : Ground} {grey : Worklist} {found : List Worklist} (n : ℕ) (new : is_unmarked g n ≡ true)
@@ -264,26 +166,16 @@ module _ {g after : Ground} {grey : Worklist} {found : List Worklist} (n : ℕ) 
   one_marked =
       ap (λ (h : Ground). length h.marked) (is ∙ marked_new g n new) ∙ length-one_more g.marked n
 
-  same_config : after.heap.config ≡ g.heap.config
-  same_config = ap (λ (h : Ground). h.heap.config) (is ∙ marked_new g n new)
-
   pub grey_has_room : length grey.stands < grey.room
-  grey_has_room =
-      let cells : after.heap.config.cells ≡ g.heap.config.cells = ap (λ f. f.cells) same_config in
-      omega (arith, one_marked, few, cells, roomy.grey_fits, roomy.grey_marked)
+  grey_has_room = grind (arith, one_marked)
 
   pub roomy_shaded : {l : Worklist} → l ≡ with_last grey n → IsRoomy after l found
-  roomy_shaded {l} pushed =
-      let stands : length l.stands ≡ length grey.stands + 1 =
-      ap (λ (w : Worklist). length w.stands) pushed ∙ length_push grey.stands n in
-      roomy_grown same_config few (ap (λ (w : Worklist). w.room) pushed) (omega (arith, stands, one_marked)) roomy
+  roomy_shaded {l} pushed = grind (arith, length_push, roomy_grown, one_marked)
 
 -- the grey list is emptied
 pub roomy_cleared : {g : Ground} {grey l : Worklist} {found : List Worklist} → l ≡ emptied_list grey
     → IsRoomy g grey found → IsRoomy g l found
-roomy_cleared {g} {grey} {l} {found} cleared roomy =
-    let stands : length l.stands ≡ 0 = ap (λ (w : Worklist). length w.stands) cleared in
-    roomy_grown refl roomy.few (ap (λ (w : Worklist). w.room) cleared) (omega (arith, stands)) roomy
+roomy_cleared {g} {grey} {l} {found} cleared roomy = grind (arith, roomy_grown)
 
 -- no list has anything
 AreRoomy-none : (found : List Worklist) (ms : List (List ℕ)) (cells grey marked : ℕ)
@@ -292,30 +184,12 @@ AreRoomy-none : (found : List Worklist) (ms : List (List ℕ)) (cells grey marke
 AreRoomy-none [] ms cells grey marked none roomy = tt
 AreRoomy-none (l ∷ ls) [] cells grey marked none roomy =
     absurd (let wrong : l.stands ∷ worklists_of ls ≡ [] = none in cc)
-AreRoomy-none (l ∷ ls) (m ∷ ms) cells grey marked none roomy =
-    let first : l.stands ≡ [] = (let both : l.stands ∷ worklists_of ls ≡ [] ∷ none_found ms = none in cc) in
-    let rest : worklists_of ls ≡ none_found ms =
-    (let both : l.stands ∷ worklists_of ls ≡ [] ∷ none_found ms = none in cc) in
-    let size : length l.stands ≡ 0 = ap length first in
-    (roomy.0, omega (arith, size), AreRoomy-none ls ms cells grey marked rest roomy.2)
+AreRoomy-none (l ∷ ls) (m ∷ ms) cells grey marked none roomy = grind (arith, AreRoomy-none ls ms cells grey marked)
 
 pub roomy_whitened : {g after : Ground} {grey : Worklist} {found : List Worklist} (ms : List (List ℕ))
     → after.heap.config ≡ g.heap.config → after.marked ≡ [] → grey.stands ≡ [] → worklists_of found ≡ none_found ms
     → IsRoomy g grey found → IsRoomy after grey found
-roomy_whitened {g} {after} {grey} {found} ms config unmarked white none roomy =
-    let cells : after.heap.config.cells ≡ g.heap.config.cells = ap (λ f. f.cells) config in
-    let workers : after.heap.config.workers ≡ g.heap.config.workers = ap (λ f. f.workers) config in
-    let marks : length after.marked ≡ 0 = ap length unmarked in
-    let greys : length grey.stands ≡ 0 = ap length white in
-    let fit = AreRoomy-none found ms g.heap.config.cells (length grey.stands) (length g.marked) none roomy.found_fit in
-    record {
-      few = omega (arith, marks);
-      grey_fits = omega (arith, cells, roomy.grey_fits);
-      grey_marked = omega (arith, marks, greys);
-      found_fit = AreRoomy-grown found g.heap.config.cells 0 0 after.heap.config.cells (length grey.stands)
-          (length after.marked) cells (omega (arith, marks, greys)) fit;
-      finders = roomy.finders ∙ sym workers;
-    }
+roomy_whitened {g} {after} {grey} {found} ms config unmarked white none roomy = grind (arith, AreRoomy-none)
 
 AreRoomy-replicate : (count cells : ℕ) → AreRoomy (replicate count (empty_worklist cells)) cells 0 0
 AreRoomy-replicate zero cells = tt
@@ -325,13 +199,7 @@ AreRoomy-replicate (suc count) cells = (omega arith, omega arith, AreRoomy-repli
 pub roomy_first : (config : Config) (heap_no next : ℕ)
     → IsRoomy (first_ground config heap_no next) (empty_worklist config.cells)
     (replicate config.workers (empty_worklist config.cells))
-roomy_first config heap_no next = record {
-  few = omega arith;
-  grey_fits = omega arith;
-  grey_marked = omega arith;
-  found_fit = AreRoomy-replicate config.workers config.cells;
-  finders = length-replicate config.workers (empty_worklist config.cells);
-}
+roomy_first config heap_no next = grind (arith, AreRoomy-replicate, length-replicate)
 
 -- ---- what is seen
 
@@ -347,16 +215,7 @@ module _ (g : Ground) (grey : Worklist) (found : List Worklist) (phase : Phase) 
 
   pub seen_swept : seen_marker (after_freeing g n) grey found phase how cycle
       ≡ swept (seen_marker g grey found phase how cycle) n
-  seen_swept =
-      let there : is_there g.heap.objects n ≡ true =
-      (and_parts (is_there g.heap.objects n) (not (has g.marked n)) white).0 in
-      let past : is_in phase Sweeping ≡ true = (and_parts (is_in phase Sweeping) (is_unmarked g n) due).0 in
-      elim (cases_Bool (has g.heap.holds n)) [
-        | inl held ↦ simp (there, held, past, due_unmarked) refl
-        | inr unheld ↦
-            simp (there, unheld, past, due_unmarked)
-            (rw (one_fewer-missing g.marked n due_unmarked) refl)
-      ]
+  seen_swept = grind (arith, one_fewer-missing)
 
 -- a worker's list is replaced
 pub seen_replaced : (g : Ground) (grey : Worklist) (found : List Worklist) (phase : Phase) (how : Policy)
@@ -370,13 +229,7 @@ pub seen_taken : (g : Ground) (grey : Worklist) (found : List Worklist) (phase :
     (cycle w : ℕ) (l m : Worklist) → l.stands ≡ list_at (worklists_of found) w → m ≡ without_first_listed l
     → seen_marker g grey (set found w m) phase how cycle ≡ with_found_taken (seen_marker g grey found phase how cycle) w
 seen_taken g grey found phase how cycle w l m stands taken =
-    seen_replaced g grey found phase how cycle w m
-    ∙ ap (λ (ns : List ℕ). record (seen_marker g grey found phase how cycle) { found = set (worklists_of found) w ns })
-    (ap (λ (k : Worklist). k.stands) taken ∙ ap rest_of stands)
-
-found_white : (k : CycleHeap) (w n : ℕ) → refers_into (is_white k) (reference_at k.heap n) ≡ true
-    → with_found k w n ≡ record k { found = set k.found w (list_at k.found w ++ n ∷ []) }
-found_white k w n white = simp white refl
+    grind (arith, seen_replaced g grey found phase how cycle w m)
 
 -- a reference is found whose referent is white
 pub seen_found : (g : Ground) (grey : Worklist) (found : List Worklist) (phase : Phase) (how : Policy)
@@ -385,10 +238,7 @@ pub seen_found : (g : Ground) (grey : Worklist) (found : List Worklist) (phase :
     → l.stands ≡ list_at (worklists_of found) w → m ≡ with_last l n
     → seen_marker g grey (set found w m) phase how cycle ≡ with_found (seen_marker g grey found phase how cycle) w n
 seen_found g grey found phase how cycle w n l m white stands pushed =
-    seen_replaced g grey found phase how cycle w m
-    ∙ ap (λ (ns : List ℕ). record (seen_marker g grey found phase how cycle) { found = set (worklists_of found) w ns })
-    (ap (λ (k : Worklist). k.stands) pushed ∙ ap (λ (ns : List ℕ). ns ++ n ∷ []) stands)
-    ∙ sym (found_white (seen_marker g grey found phase how cycle) w n white)
+    grind (arith, seen_replaced g grey found phase how cycle w m)
 
 -- no worker has found anything
 pub seen_emptied : (g : Ground) (grey : Worklist) (found : List Worklist) (phase : Phase) (how : Policy) (cycle : ℕ)
@@ -402,9 +252,7 @@ pub seen_first : (config : Config) (heap_no next cycle : ℕ) {g : Ground} {grey
     → found ≡ replicate config.workers (empty_worklist config.cells)
     → seen_marker g grey found Idle policy cycle ≡ first_cycle_heap config heap_no next cycle
 seen_first config heap_no next cycle {g} {grey} {found} {policy} fixed objects greys lists =
-    let none : worklists_of found ≡ replicate config.workers [] =
-    ap worklists_of lists ∙ lists_of-replicate config.workers config.cells in
-    rw (objects, greys, none, fixed) refl
+    search (lists_of-replicate config.workers config.cells)
 
 -- ---- a scan
 
@@ -415,14 +263,7 @@ pub record Greys (k l : CycleHeap) : Type 0 where
   pub as_many : length l.grey + length k.marked ≡ length k.grey + length l.marked
 
 greys_one : (k : CycleHeap) (n : ℕ) → Greys k (shaded k n)
-greys_one k n =
-    elim (cases_Bool (is_white k n)) [
-      | inl white ↦
-          let one : length (one_more k.marked n) ≡ length k.marked + 1 = length-one_more k.marked n in
-          let last : length (k.grey ++ n ∷ []) ≡ length k.grey + 1 = length_push k.grey n in
-          simp white (record { heap = refl; found = refl; as_many = omega (arith, one, last) })
-      | inr other ↦ simp other (record { heap = refl; found = refl; as_many = omega arith })
-    ]
+greys_one k n = grind (arith, length-one_more, length_push)
 
 pub greys_all : (k : CycleHeap) (ns : List ℕ) → Greys k (shaded_all k ns)
 greys_all k [] = record { heap = refl; found = refl; as_many = omega arith }
@@ -435,17 +276,10 @@ greys_all k (n ∷ ns) =
       as_many = omega (arith, first.as_many, later.as_many);
     }
 
-length-first_in : (ns : List ℕ) (n : ℕ) → first_in ns ≡ Some n → length ns ≡ length (rest_of ns) + 1
-length-first_in [] n first = absurd (let wrong : None ≡ Some n = first in cc)
-length-first_in (m ∷ ms) n first = omega arith
-
 -- the first of the grey list is taken
 pub roomy_scanned : {g : Ground} {grey l : Worklist} {found : List Worklist} → l ≡ without_first_listed grey
     → IsRoomy g grey found → IsRoomy g l found
-roomy_scanned {g} {grey} {l} {found} taken roomy =
-    let stands : length l.stands ≤ length grey.stands =
-    subst (λ (n : Worklist). length n.stands ≤ length grey.stands) (sym taken) (length-rest_of grey.stands) in
-    roomy_grown refl roomy.few (ap (λ (n : Worklist). n.room) taken) (omega (arith, stands)) roomy
+roomy_scanned {g} {grey} {l} {found} taken roomy = grind (arith, roomy_grown)
 
 -- then each worker's list has room for it, also once its targets are grey
 pub scan_has_room : {g : Ground} {grey l : Worklist} {found : List Worklist} (k after : CycleHeap) (w n : ℕ)
@@ -453,15 +287,7 @@ pub scan_has_room : {g : Ground} {grey l : Worklist} {found : List Worklist} (k 
     → k.marked ≡ g.marked → k.grey ≡ l.stands → k.found ≡ worklists_of found → Greys k after
     → length (list_at after.found w) + length after.grey < length after.marked
 scan_has_room {g} {grey} {l} {found} k after w n within roomy taken first marked greys lists grown =
-    let few = (AreRoomy-at found g.heap.config.cells (length grey.stands) (length g.marked) w (empty_worklist 0)
-    (omega (arith, within, roomy.finders)) roomy.found_fit).1 in
-    let one : length grey.stands ≡ length (rest_of grey.stands) + 1 = length-first_in grey.stands n first in
-    let rest : length k.grey ≡ length (rest_of grey.stands) =
-    ap length (greys ∙ ap (λ (n : Worklist). n.stands) taken) in
-    let own : length (list_at after.found w) ≡ length (get_or found w (empty_worklist 0)).stands =
-    ap (λ (ls : List (List ℕ)). length (list_at ls w)) (grown.found ∙ lists) ∙ ap length (list_at-lists_of found w) in
-    let marks : length k.marked ≡ length g.marked = ap length marked in
-    omega (arith, few, one, rest, own, marks, grown.as_many)
+    grind (arith, AreRoomy-at, list_at-lists_of)
 
 -- ---- what calls know of the heap as it is seen
 

@@ -1,5 +1,6 @@
 -- A scan: the first of the grey list becomes black, what it leads to becomes grey, and a reference to what is still
 -- white is found.
+use Rattle.std.proofs.Common.{arith}
 use Rattle.std.proofs.Common.{◌≡◌, ℕ, ◌<◌, Bool, true, false, not, refl, sym, ap, subst, ◌∙◌, List, [], ◌∷◌, ◌++◌}
 use Rattle.std.proofs.Common.{length, None}
 use Rattle.std.proofs.lemmas.Bool.{true≢false, false_from_ne_true}
@@ -13,7 +14,6 @@ use Rattle.ref_base.proofs.HasLaws.{has-first}
 use Rattle.ref_mark.specs.CycleHeaps.{scanned}
 use Rattle.ref_mark.specs.MarkCalls.{scan_reply}
 use Rattle.ref_mark.proofs.Shading.{MarkingBut, shaded_all-only, shaded_all_marking, some_left, grey_is_left}
-use Rattle.ref_mark.proofs.Passed.{is_marking, work_passed}
 use Rattle.ref_mark.proofs.RootFacts.{plain_there}
 use Rattle.ref_mark.proofs.PlainStates.{plain_state, plain_state-is, marking_stands, plain_marking}
 use Rattle.ref_base.proofs.FoundLists.{AreFound-scanned, AreFound-more_found}
@@ -106,8 +106,4 @@ scan_row_from k a w (n ∷ rest) stands phase within is = scan_some k a w n rest
 -- a scan that isn't refused
 pub scan_row : (k : CycleHeap) (a : State) (w : ℕ) → MarkStands k a → work_refusal k.heap k.phase Marking w ≡ None
     → (b : State) × Scans a w (scan_reply (first_in k.grey)) b × MarkStands (scanned k w) b
-scan_row k a w stands none =
-    let passed = work_passed k Marking w none in
-    let phase : k.phase ≡ Marking = is_marking k.phase passed.1 in
-    subst (λ (s : State). (b : State) × Scans s w (scan_reply (first_in k.grey)) b × MarkStands (scanned k w) b)
-    (sym (plain_state-is k a Marking stands phase refl)) (scan_row_from k a w k.grey stands phase passed.0 refl)
+scan_row k a w stands none = grind (arith, plain_state-is, scan_row_from k a w k.grey stands)

@@ -1,4 +1,5 @@
 -- A row that gives out an object: in a mark the barrier shades it, and it is said anew whether an object is left.
+use Rattle.std.proofs.Common.{arith}
 use Rattle.std.proofs.Common.{◌≡◌, ℕ, true, false, not, refl, sym, ap, subst, ◌∙◌, [], ◌∷◌, Some, inl, inr}
 use Rattle.std.proofs.lemmas.Bool.{cases_Bool}
 use Rattle.ref_mark.proofs.Common.{has, is_there, is_kept, EverKept, Heap, World, with_heap, pending_numbers, is_in}
@@ -10,7 +11,7 @@ use Rattle.ref_mark.proofs.Agreeing.{same_before}
 use Rattle.ref_mark.proofs.Shading.{MarkingBut, shaded_marking, shaded-only, some_left}
 use Rattle.ref_mark.proofs.DoomedLists.{shown_heap-before}
 use Rattle.ref_mark.proofs.Moves.{Change, moved, IsMove, roots_after, graph_after, moved_state, moved_marking}
-use Rattle.ref_mark.proofs.MovedStates.{IsAlongside, in_mark, marking_stands, moved_beside, ticked_marking}
+use Rattle.ref_mark.proofs.MovedStates.{IsAlongside, in_mark, marking_stands, moved_beside}
 use Rattle.ref_mark.proofs.MovedStates.{marking_is_in_cycle, marking_is_not_past}
 
 module _ (k : CycleHeap) (c : Change) (a : State) (w : World) (beside : IsAlongside a.world w) (n : ℕ)
@@ -43,26 +44,7 @@ module _ (k : CycleHeap) (c : Change) (a : State) (w : World) (beside : IsAlongs
   anew_in_mark : IsMove k c (pending_numbers w.pending) (n ∷ []) → is_in k.phase Marking ≡ true → a.next ≡ c.next
       → (b : State) × IsBut (ticked (with_world a (with_heap w (moved k c).heap))) b
       × MarkStands (shaded (moved k c) n) b
-  anew_in_mark move marking next =
-      let b : State = state_anew in
-      let moments = graph_after c (pending_numbers w.pending) ∷ a.moments in
-      let base : State = with_world a (with_heap w (moved k c).heap) in
-      let after : MarkStands (shaded (moved k c) n) b = shaded_stands move marking in
-      let now : is_in w.phase Marking ≡ true = ap (λ p. is_in p Marking) (beside.phase ∙ stands.phase) ∙ marking in
-      let same : (shaded (moved k c) n).phase ≡ k.phase = ap (λ (j : CycleHeap). j.phase) (shaded-only (moved k c) n) in
-      let holds = after.marking (ap (λ p. is_in p Marking) same ∙ marking) in
-      let is : b ≡ record (ticked base) { left = b.left } =
-      ap (λ i. moved_state a (with_heap w (moved k c).heap) i moments b.left) (sym next)
-      ∙ ap (λ (s : State). record s { left = b.left }) (sym (ticked_marking base now)) in (
-        b,
-        (
-          b.left,
-          is,
-          λ some. some_left (shaded (moved k c) n) b holds.coloured holds.reached
-              after.policy some,
-        ),
-        after,
-      )
+  anew_in_mark move marking next = grind (arith, shaded_stands, some_left)
 
   -- The row gives out n, which is a root after the move: in a mark it may be white until it is shaded.
   pub barred_row : (h : Heap) (answer : Reply)

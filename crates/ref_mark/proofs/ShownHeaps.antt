@@ -1,11 +1,12 @@
 -- What mutators do to a heap, they do to the heap as they read it.
-use Rattle.std.proofs.Common.{◌≡◌, ℕ, ◌+◌, ◌<◌, true, false, not, refl, ◌∙◌, ap, inl, inr, List, map, Option, Some}
+use Rattle.std.proofs.Common.{arith}
+use Rattle.std.proofs.Common.{◌≡◌, ℕ, ◌+◌, ◌<◌, true, false, not, refl, ◌∙◌, ap, List, map, Option, Some}
 use Rattle.std.proofs.Common.{None}
-use Rattle.std.proofs.lemmas.Bool.{cases_Bool, and_right}
+use Rattle.std.proofs.lemmas.Bool.{and_right}
 use Rattle.ref_objects.specs.Grounds.{with_new_tag}
 use Rattle.ref_mark.proofs.Common.{has, Object, is_there, plain_object, any_is, refers_into, is_new_clear, Heap}
-use Rattle.ref_mark.proofs.Common.{reference_at, changed_at, changed_in, with_reference, cleared, new_reference, made}
-use Rattle.ref_mark.proofs.Common.{shown, reference_of, Strength, CycleHeap, is_white, is_past_mark, is_in_cycle}
+use Rattle.ref_mark.proofs.Common.{reference_at, changed_in, with_reference, cleared, new_reference, made}
+use Rattle.ref_mark.proofs.Common.{shown, reference_of, Strength, CycleHeap, is_white, is_past_mark}
 use Rattle.ref_mark.proofs.Common.{is_doomed, doomed, young, with_made, shown_heap}
 use Rattle.ref_base.proofs.NewClears.{refers_into-same}
 use Rattle.ref_base.proofs.Reshaping.{map-changed_at}
@@ -17,12 +18,7 @@ pub shown_heap-changed_in : (k : CycleHeap) (held : Option ℕ) (f : Object → 
     → ((d : List ℕ) (o : Object) → shown d (f o) ≡ f (shown d o))
     → shown_heap (record k { heap = changed_in k.heap held f }) ≡ changed_in (shown_heap k) held f
 shown_heap-changed_in k None f keeps through = refl
-shown_heap-changed_in k (Some n) f keeps through =
-    ap (λ (d : List ℕ). record k.heap { objects = map (λ o. shown d o) (changed_at k.heap.objects n f) })
-    (doomed-changed_in k (Some n) f keeps)
-    ∙ ap (λ (os : List Object). record k.heap { objects = os })
-    (map-changed_at (λ o. shown (doomed k) o) f k.heap.objects n (shown-no (doomed k))
-    (λ o same. through (doomed k) o))
+shown_heap-changed_in k (Some n) f keeps through = search (doomed-changed_in, map-changed_at, shown-no)
 
 -- ---- what is made
 
@@ -45,14 +41,7 @@ is_new_clear-reference k h n strength referent queue count unmet =
     and_right (not (has (doomed k) n)) (any_is (has (doomed k)) referent) (any_doomed k referent unmet)
 
 pub young-heap : (k : CycleHeap) (n : ℕ) → (young k n).heap ≡ k.heap
-young-heap k n =
-    elim (cases_Bool (is_in_cycle k.phase)) [
-      | inl begun ↦ elim (cases_Bool (is_white k n)) [
-        | inl white ↦ simp (begun, white) refl
-        | inr marked ↦ simp (begun, marked) refl
-      ]
-      | inr idle ↦ simp idle refl
-    ]
+young-heap k n = grind arith
 
 -- one more object that is no new clear is read as it is
 pub shown_heap-made : (k : CycleHeap) (m d : ℕ) (o : Object) → is_there k.heap.objects o.no ≡ false
@@ -70,9 +59,7 @@ shown_heap-made k m d o new keeps =
 pub shown_heap-made_plain : (k : CycleHeap) (m d : ℕ) (fields : List (Option ℕ))
     → ((n : ℕ) → is_there k.heap.objects n ≡ true → n < k.next)
     → shown_heap (with_made k m d (plain_object k.next fields)) ≡ made (shown_heap k) m d (plain_object k.next fields)
-shown_heap-made_plain k m d fields below =
-    shown_heap-made k m d (plain_object k.next fields) (is_there-above k.heap.objects k.next below)
-    (is_new_clear-plain (doomed k) k.next fields)
+shown_heap-made_plain k m d fields below = search (shown_heap-made, is_there-above, is_new_clear-plain)
 
 -- ---- clears
 

@@ -1,5 +1,5 @@
 -- What a heap reads as, of what isn't white.
-use Rattle.std.proofs.Common.{◌≡◌, ℕ, false, refl, ◌∙◌, ap, if◌then◌else◌, Option, Some, None}
+use Rattle.std.proofs.Common.{◌≡◌, ℕ, false, refl, ap, if◌then◌else◌, Option, Some, None}
 use Rattle.std.proofs.lemmas.Bool.{and_right}
 use Rattle.ref_mark.proofs.Common.{any_is, reference_of, CycleHeap, is_white, is_past_mark, doomed, undoomed}
 use Rattle.ref_mark.proofs.Common.{shown_heap}
@@ -10,9 +10,7 @@ use Rattle.ref_mark.proofs.DoomedLists.{has-doomed}
 pub reference_of-shown : (k : CycleHeap) (held : Option ℕ) → any_is (is_white k) held ≡ false
     → reference_of (shown_heap k) held ≡ shown_reference (doomed k) (reference_of k.heap held)
 reference_of-shown k None unmet = refl
-reference_of-shown k (Some n) unmet =
-    reference_in-shown (doomed k) k.heap.objects n
-    (has-doomed k n ∙ and_right (is_past_mark k.phase) (is_white k n) unmet)
+reference_of-shown k (Some n) unmet = search (reference_in-shown, has-doomed, and_right)
 
 pub undoomed-among : (k : CycleHeap) (value : Option ℕ) → unless_among (doomed k) value ≡ undoomed k value
 undoomed-among k None = refl

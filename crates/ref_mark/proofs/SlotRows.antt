@@ -1,4 +1,5 @@
 -- The rows of copies, drops and loads, and what holds change.
+use Rattle.std.proofs.Common.{arith}
 use Rattle.std.proofs.Common.{◌≡◌, ℕ, ◌+◌, ◌*◌, true, false, ◌==◌, refl, sym, ap, subst, nat_lt, List, [], ◌∷◌, ◌++◌}
 use Rattle.std.proofs.Common.{Option, Some, None, ◌⊎◌, inl, inr}
 use Rattle.std.specs.Prelude.{slice_set}
@@ -32,10 +33,7 @@ pub slot_move : (k : CycleHeap) (a : State) (i : ℕ) (value : Option ℕ) (todo
     → (is_in_cycle k.phase ≡ true → (n : ℕ) → value ≡ Some n → (is_white k n ≡ false) ⊎ (has todo n ≡ true))
     → ((n : ℕ) → value ≡ Some n → is_there k.heap.objects n ≡ true)
     → IsMove k (rooted k (slice_set k.heap.slots i value) k.heap.holds) (pending_numbers a.world.pending) todo
-slot_move k a i value todo stands allowed there =
-    rooted_move k a (slice_set k.heap.slots i value) k.heap.holds (pending_numbers a.world.pending) todo stands
-    (length-set k.heap.slots i value)
-    (λ begun. roots_of_set k a stands begun i value todo (allowed begun)) (named_of_set k a stands i value there)
+slot_move k a i value todo stands allowed there = search (rooted_move, length-set, roots_of_set, named_of_set)
 
 pub set_stands : (k : CycleHeap) (a : State) (m d : ℕ) (value : Option ℕ) → MarkStands k a
     → (is_in_cycle k.phase ≡ true → (n : ℕ) → value ≡ Some n → is_white k n ≡ false)
@@ -68,11 +66,7 @@ copy_row k a m d s stands =
 pub drop_row : (k : CycleHeap) (a : State) (m s : ℕ) → MarkStands k a
     → (b : State) × HeapAccepts a (heap.Drop m s) replies.Done b
     × MarkStands (record k { heap = with_slot k.heap m s None }) b
-drop_row k a m s stands = (
-  ticked (on_heap a (with_slot a.world.heap m s None)),
-  (refl, refl),
-  set_stands k a m s None stands (λ begun n is. absurd (cc)) (λ n is. absurd (cc)),
-)
+drop_row k a m s stands = grind (arith, set_stands k a m s None stands)
 
 -- ---- loads
 
@@ -91,14 +85,7 @@ field_of-leads allow h (Some m) i n is = (m, refl, field_of-target allow (object
 load_values : (k : CycleHeap) (a : State) (m d s i : ℕ) (value : Option ℕ) → MarkStands k a
     → field_in k.heap (slot_at k.heap m s) i ≡ value → has_slot k.heap m d ≡ true
     → (b : State) × Loads a m d value (value_reply value) b × MarkStands (loaded k m d value) b
-load_values k a m d s i None stands is there =
-    let same : loaded k m d None ≡ record k { heap = with_slot k.heap m d None } =
-    elim (cases_Bool (is_in k.phase Marking)) [ inl marking ↦ simp marking refl | inr quiet ↦ simp quiet refl ] in (
-      ticked (on_heap a (with_slot a.world.heap m d None)),
-      (refl, refl),
-      subst (λ (j : CycleHeap). MarkStands j (ticked (on_heap a (with_slot a.world.heap m d None)))) (sym same)
-          (set_stands k a m d None stands (λ begun n none. absurd (cc)) (λ n none. absurd (cc))),
-    )
+load_values k a m d s i None stands is there = grind (arith, set_stands k a m d None stands)
 load_values k a m d s i (Some n) stands is there =
     let pending = pending_numbers a.world.pending in
     let set : List (Option ℕ) = slice_set k.heap.slots (16 * m + d) (Some n) in

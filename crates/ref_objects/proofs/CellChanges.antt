@@ -42,12 +42,7 @@ module _ {cells borrowed : List (Option Tabled)} {es lent : List Entry} {ps : Li
       -- the marked are counted anew
       pub sound_counted : {count : ℕ} → count ≡ length (marked_of (changed_tabled (tabled_by cells es) n f))
           → IsSoundTable (set cells p new) es ps last index_room places_room count
-      sound_counted counted = record {
-        placed = placed_changed sound.placed place f keeps was is;
-        index_fits = omega (arith, sound.index_fits, length-set cells p new);
-        places_fit = omega (arith, sound.places_fit, length-set cells p new);
-        marks_counted = marks_same (tabled_by-changed sound.placed place f keeps was is) counted;
-      }
+      sound_counted counted = search (placed_changed, place, length-set, marks_same, tabled_by-changed)
 
       -- or stay as many, where the change leaves the mark
       pub sound_there : ((k : Tabled) → (f k).marked ≡ k.marked)

@@ -1,15 +1,13 @@
 -- What a change of one object, or its end, does to a table's fields.
-use Rattle.std.proofs.Common.{◌≡◌, ℕ, ◌+◌, ◌<◌, true, false, ◌==◌, refl, sym, ◌∙◌, ap, subst, List, [], ◌∷◌, ◌++◌}
-use Rattle.std.proofs.Common.{length, get_or, set, Option, Some, None, suc, inl, inr, arith}
-use Rattle.std.proofs.lemmas.Bool.{cases_Bool}
+use Rattle.std.proofs.Common.{◌≡◌, ℕ, ◌<◌, true, false, refl, sym, ◌∙◌, ap, List, [], ◌∷◌, ◌++◌}
+use Rattle.std.proofs.Common.{length, get_or, set, Option, Some, None, suc, arith}
 use Rattle.std.proofs.lemmas.List.{get_or-set_same, get_or_read, length-set, length_push}
 use Rattle.std.specs.Option.{option_map, is_some}
-use Rattle.ref_objects.proofs.Common.{has, cell_at, tabled_by, place_in, place_if_live, seen_table, AreFree, IsPlaced}
+use Rattle.ref_objects.proofs.Common.{has, cell_at, tabled_by, place_in, place_if_live, seen_table, IsPlaced}
 use Rattle.ref_objects.proofs.Common.{Tabled, Table, tabled_at, has_field, holds_in, is_unheld, changed_tabled}
 use Rattle.ref_objects.proofs.Common.{without_tabled, on_object, less_held, changed, table_freed, with_field, Entry}
-use Rattle.ref_objects.specs.Tables.{without_object}
-use Rattle.std.proofs.Common.{◌-◌, ◌≤◌, nat_lt, not}
-use Rattle.std.proofs.lemmas.Bool.{ltb-false, false≢true}
+use Rattle.std.proofs.Common.{nat_lt, not}
+use Rattle.std.proofs.lemmas.Bool.{false≢true}
 use Rattle.std.proofs.lemmas.List.{set_past}
 use Rattle.ref_objects.proofs.FreeLemmas.{AreFree-apart, AreFree-set, AreFree-push}
 use Rattle.ref_objects.proofs.PlaceLemmas.{at_place, tabled_at-place, tabled_by-replaced, replaced, replaced-none}
@@ -21,22 +19,12 @@ use Rattle.ref_objects.proofs.PlaceLemmas.{IsPlaceOf-lent, IsMissing, IsMissing-
 pub length-changed_tabled : (ks : List Tabled) (n : ℕ) (f : Tabled → Tabled)
     → length (changed_tabled ks n f) ≡ length ks
 length-changed_tabled [] n f = refl
-length-changed_tabled (k ∷ ks) n f =
-    elim (cases_Bool (k.object.no == n)) [
-      | inl same ↦ simp same refl
-      | inr other ↦ simp other (ap suc (length-changed_tabled ks n f))
-    ]
+length-changed_tabled (k ∷ ks) n f = grind (arith, length-changed_tabled ks n f)
 
 pub length-without_tabled : (ks : List Tabled) (n : ℕ) (k : Tabled) → tabled_at ks n ≡ Some k
     → suc (length (without_tabled ks n)) ≡ length ks
 length-without_tabled [] n k at = absurd (cc)
-length-without_tabled (l ∷ ls) n k at =
-    elim (cases_Bool (l.object.no == n)) [
-      | inl same ↦ simp same refl
-      | inr other ↦
-          let later : tabled_at ls n ≡ Some k = simp other at at in
-          simp other (ap suc (length-without_tabled ls n k later))
-    ]
+length-without_tabled (l ∷ ls) n k at = grind (arith, length-without_tabled ls n k)
 
 is_none : (k : Option Tabled) → is_some k ≡ false → k ≡ None
 is_none None none = refl
@@ -46,13 +34,7 @@ is_none (Some k) none = absurd (false≢true (sym none))
 pub changed_tabled-none : (ks : List Tabled) (n : ℕ) (f : Tabled → Tabled) → tabled_at ks n ≡ None
     → changed_tabled ks n f ≡ ks
 changed_tabled-none [] n f none = refl
-changed_tabled-none (k ∷ ks) n f none =
-    elim (cases_Bool (k.object.no == n)) [
-      | inl same ↦ absurd (let wrong : Some k ≡ None = simp same at none in cc)
-      | inr other ↦
-          let later : tabled_at ks n ≡ None = simp other at none in
-          simp other (ap (λ ls. k ∷ ls) (changed_tabled-none ks n f later))
-    ]
+changed_tabled-none (k ∷ ks) n f none = grind (arith, changed_tabled-none ks n f)
 
 pub changed-none : (t : Table) (n : ℕ) (f : Tabled → Tabled) → is_some (tabled_at t.tabled n) ≡ false
     → changed t n f ≡ t
@@ -62,34 +44,17 @@ changed-none t n f none =
 -- so is one hold fewer of an object that nobody holds
 changed_tabled-unheld : (ks : List Tabled) (n : ℕ) → holds_in (tabled_at ks n) ≡ 0 → changed_tabled ks n less_held ≡ ks
 changed_tabled-unheld [] n none = refl
-changed_tabled-unheld (k ∷ ks) n none =
-    elim (cases_Bool (k.object.no == n)) [
-      | inl same ↦
-          let own : k.holds ≡ 0 = simp same at none in
-          let less : k.holds - 1 ≡ k.holds = omega (arith, own) in
-          simp same (ap (λ count. record k { holds = count } ∷ ks) less)
-      | inr other ↦ simp other (ap (λ ls. k ∷ ls) (changed_tabled-unheld ks n (simp other at none)))
-    ]
+changed_tabled-unheld (k ∷ ks) n none = grind (arith, changed_tabled-unheld ks n)
 
 pub changed-unheld : (t : Table) (n : ℕ) → nat_lt 0 (holds_in (tabled_at t.tabled n)) ≡ false
     → changed t n less_held ≡ t
-changed-unheld t n unheld =
-    let most : holds_in (tabled_at t.tabled n) ≤ 0 = ltb-false 0 (holds_in (tabled_at t.tabled n)) unheld in
-    ap (λ ks. record t { tabled = ks }) (changed_tabled-unheld t.tabled n (omega (arith, most)))
+changed-unheld t n unheld = grind (arith, changed_tabled-unheld)
 
 -- and a write to a field that isn't there
 changed_tabled-past : (ks : List Tabled) (n i : ℕ) (value : Option ℕ) → has_field (tabled_at ks n) i ≡ false
     → changed_tabled ks n (on_object (with_field i value)) ≡ ks
 changed_tabled-past [] n i value past = refl
-changed_tabled-past (k ∷ ks) n i value past =
-    elim (cases_Bool (k.object.no == n)) [
-      | inl same ↦
-          let own : nat_lt i (length k.object.fields) ≡ false = simp same at past in
-          let tabled : set k.object.fields i value ≡ k.object.fields =
-          set_past k.object.fields i value (ltb-false i (length k.object.fields) own) in
-          simp same (ap (λ fields. record k { object = record k.object { fields = fields } } ∷ ks) tabled)
-      | inr other ↦ simp other (ap (λ ls. k ∷ ls) (changed_tabled-past ks n i value (simp other at past)))
-    ]
+changed_tabled-past (k ∷ ks) n i value past = grind (arith, set_past, changed_tabled-past ks n i value)
 
 pub changed-past : (t : Table) (n i : ℕ) (value : Option ℕ) → has_field (tabled_at t.tabled n) i ≡ false
     → changed t n (on_object (with_field i value)) ≡ t
@@ -135,40 +100,19 @@ module _ {cells : List (Option Tabled)} {es : List Entry} {ps : List ℕ} {last 
 
   -- not every cell is free, since that object has one
   pub room_to_free : length ps < length cells
-  room_to_free =
-      let k = found_tabled in
-      let one : suc (length (without_tabled (tabled_by cells es) n)) ≡ length (tabled_by cells es) =
-      length-without_tabled (tabled_by cells es) n k.0 (found_at k.0 k.1) in
-      omega (arith, placed.counted, one)
+  room_to_free = grind (arith, length-without_tabled, found_at)
 
   module _ (f : Tabled → Tabled) (keeps : (k : Tabled) → (f k).object.no ≡ k.object.no) {old new : Option Tabled}
       (was : old ≡ get_or cells p old) (is : new ≡ option_map f old) where
     pub tabled_by-changed : tabled_by (set cells p new) es ≡ changed_tabled (tabled_by cells es) n f
-    tabled_by-changed =
-        let k = found_tabled in
-        let before_it : old ≡ Some k.0 = get_or_read cells p old place.within was None ∙ k.1 in
-        let after_it : new ≡ Some (f k.0) = is ∙ ap (option_map f) before_it in
-        let own : (f k.0).object.no ≡ n = keeps k.0 ∙ k.2 in
-        ap (λ c. tabled_by (set cells p c) es) after_it ∙ tabled_by-written (Some (f k.0)) own
-        ∙ replaced-changed (tabled_by cells es) n f k.0 (found_at k.0 k.1) own
+    tabled_by-changed = grind (arith, get_or_read, tabled_by-written, replaced-changed, found_at)
 
     pub seen_changed : seen_table (set cells p new) es last ≡ changed (seen_table cells es last) n f
     seen_changed =
         λ i. record { tabled = tabled_by-changed i; room = length-set cells p new i; last = last }
 
     pub placed_changed : IsPlaced (set cells p new) es ps last
-    placed_changed =
-        let size : length (set cells p new) ≡ length cells = length-set cells p new in
-        let count : length (tabled_by (set cells p new) es) ≡ length (tabled_by cells es) =
-        ap length tabled_by-changed ∙ length-changed_tabled (tabled_by cells es) n f in
-        record {
-          rises = placed.rises;
-          given = placed.given;
-          free = AreFree-set cells ps p new placed.free found_apart;
-          counted = omega (arith, placed.counted, size, count);
-          small = omega (arith, placed.small, size);
-          few = omega (arith, placed.few, size);
-        }
+    placed_changed = search (length-set, tabled_by-changed, length-changed_tabled, AreFree-set, found_apart)
 
   module _ {new : Option Tabled} (is : new ≡ None) {free : List ℕ} (more : free ≡ ps ++ p ∷ []) where
     pub tabled_by-freed : tabled_by (set cells p new) es ≡ without_tabled (tabled_by cells es) n
@@ -177,32 +121,22 @@ module _ {cells : List (Option Tabled)} {es : List Entry} {ps : List ℕ} {last 
 
     pub seen_freed : is_unheld (tabled_at (tabled_by cells es) n) ≡ true
         → seen_table (set cells p new) es last ≡ table_freed (seen_table cells es last) n
-    seen_freed unheld =
-        let gone : seen_table (set cells p new) es last ≡ without_object (seen_table cells es last) n =
-        λ i. record { tabled = tabled_by-freed i; room = length-set cells p new i; last = last } in
-        gone ∙ simp unheld refl
+    seen_freed unheld = grind (arith, tabled_by-freed, length-set)
 
     pub placed_freed : IsPlaced (set cells p new) es free last
     placed_freed =
-        let size : length (set cells p new) ≡ length cells = length-set cells p new in
-        let within : p < length (set cells p new) = omega (arith, place.within, size) in
-        let none : cell_at (set cells p new) p ≡ None = get_or-set_same cells p new None place.within ∙ is in
-        let k = found_tabled in
-        let one : suc (length (without_tabled (tabled_by cells es) n)) ≡ length (tabled_by cells es) =
-        length-without_tabled (tabled_by cells es) n k.0 (found_at k.0 k.1) in
-        let count : length (tabled_by (set cells p new) es) ≡ length (without_tabled (tabled_by cells es) n) =
-        ap length tabled_by-freed in
-        let places : length free ≡ length ps + 1 = ap length more ∙ length_push ps p in
-        record {
-          rises = placed.rises;
-          given = placed.given;
-          free = subst (AreFree (set cells p new)) (sym more)
-              (AreFree-push (set cells p new) ps p (AreFree-set cells ps p new placed.free found_apart) within none
-              found_apart);
-          counted = omega (arith, placed.counted, size, count, one, places);
-          small = omega (arith, placed.small, size);
-          few = omega (arith, placed.few, size);
-        }
+        grind (
+          arith,
+          length-set,
+          get_or-set_same,
+          length-without_tabled,
+          found_at,
+          tabled_by-freed,
+          length_push,
+          AreFree-push,
+          AreFree-set,
+          found_apart,
+        )
 
 module _ {cells : List (Option Tabled)} {es : List Entry} {ps : List ℕ} {last : ℕ} (placed : IsPlaced cells es ps last)
     {n : ℕ} (missing : IsMissing cells es n) where
@@ -216,9 +150,7 @@ module _ {cells : List (Option Tabled)} {es : List Entry} {ps : List ℕ} {last 
 
   -- and a change of it is none
   pub seen_missing_changed : (f : Tabled → Tabled) → seen_table cells es last ≡ changed (seen_table cells es last) n f
-  seen_missing_changed f =
-      ap (λ ks. record { tabled = ks; room = length cells; last = last })
-      (sym (changed_tabled-none (tabled_by cells es) n f missing_at))
+  seen_missing_changed f = search (changed_tabled-none, missing_at)
 
   pub seen_missing_freed : seen_table cells es last ≡ table_freed (seen_table cells es last) n
   seen_missing_freed =

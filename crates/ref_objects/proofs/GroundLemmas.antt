@@ -1,9 +1,9 @@
 -- What the fields of a heap's objects say as a heap, and what keeps them sound.
-use Rattle.std.proofs.Common.{◌≡◌, ℕ, ◌+◌, ◌-◌, ◌^◌, ◌<◌, ◌≤◌, true, false, not, ◌==◌, ◌&&◌, nat_lt, nat_le, refl, sym}
-use Rattle.std.proofs.Common.{◌∙◌, ap, subst, arith, List, [], ◌∷◌, length, Option, Some, None, inl, inr}
+use Rattle.std.proofs.Common.{◌≡◌, ℕ, ◌+◌, ◌-◌, ◌^◌, ◌<◌, ◌≤◌, true, not, ◌==◌, ◌&&◌, nat_lt, refl, sym}
+use Rattle.std.proofs.Common.{ap, arith, List, [], ◌∷◌, length, Option, Some, None, inl, inr}
 use Rattle.std.specs.Prelude.{slice_set}
-use Rattle.std.specs.Option.{option_map, is_some}
-use Rattle.std.proofs.lemmas.Bool.{cases_Bool, eqb-true, lt-ltb, le-ltb, le-leb, lt-leb, ltb-false, not-true}
+use Rattle.std.specs.Option.{is_some}
+use Rattle.std.proofs.lemmas.Bool.{cases_Bool, le-ltb}
 use Rattle.std.proofs.lemmas.Bool.{false≢true}
 use Rattle.std.proofs.lemmas.List.{length-set, length-map, map-append}
 use Rattle.ref_objects.proofs.Common.{has, Object, Reference, object_at, is_there, numbers, IsRising, one_more, Config}
@@ -15,9 +15,8 @@ use Rattle.ref_base.specs.Heaps.{reference_in, with_changed, with_hold, without_
 use Rattle.ref_base.specs.Refusals.{field_count, object_refusal}
 use Rattle.ref_base.specs.declared.fault.Fault.TheVariants.{NoCell}
 use Rattle.ref_objects.specs.Tables.{tabled_fields, tabled_reference, numbers_by, tag_of, with_cleared_in}
-use Rattle.std.specs.Int.{from_bool}
 use Rattle.ref_objects.specs.Tables as table
-use Rattle.ref_objects.specs.Grounds.{fields_in, kind_in, ground_with_heap, is_free, after_freeing, with_cleared_tag}
+use Rattle.ref_objects.specs.Grounds.{fields_in, kind_in, ground_with_heap, after_freeing, with_cleared_tag}
 use Rattle.ref_objects.specs.GroundViews.{heap_of, made_at}
 use Rattle.ref_objects.proofs.TabledLemmas.{object_at-objects_of, is_there-objects_of, objects_of-changed, map-changed}
 use Rattle.ref_objects.proofs.TabledLemmas.{objects_of-without}
@@ -25,7 +24,7 @@ use Rattle.ref_objects.proofs.NumberLemmas.{has-numbers_by, length-changed, leng
 use Rattle.ref_objects.proofs.NumberLemmas.{numbers_by-made, numbers_by-without, numbers_by-more, numbers_by-fewer}
 use Rattle.ref_objects.proofs.NumberLemmas.{least_from-below}
 use Rattle.ref_objects.proofs.MarkLemmas.{marked_of-without}
-use Rattle.ref_objects.proofs.TagLemmas.{tags_of-made, tags_of-without, tags_of-cleared}
+use Rattle.ref_objects.proofs.TagLemmas.{tags_of-without, tags_of-cleared}
 
 -- ---- what is read
 
@@ -59,55 +58,31 @@ numbers-all (k ∷ ks) = ap (λ ns. k.object.no ∷ ns) (numbers-all ks)
 pub least_from-past : (ks : List Tabled) (last n : ℕ) → AllUpTo last (numbers (objects_of ks)) → last < n
     → least_from (holds_of ks) n ≡ None
 least_from-past [] last n given past = refl
-least_from-past (k ∷ ks) last n given past =
-    let below : nat_le n k.object.no ≡ false = lt-leb n k.object.no (omega (arith, given.0, past)) in
-    least_from-below k.holds k.object.no n (holds_of ks) below ∙ least_from-past ks last n given.1 past
+least_from-past (k ∷ ks) last n given past = grind (arith, least_from-below, least_from-past ks last n given.1 past)
 
 -- ---- a new object
 
 pub no_cell : (config : Config) (t : Table) (slots : List (Option ℕ)) (holds clock next k : ℕ)
     → IsSoundGround config t slots holds next → k ≤ 8 → next < 2 ^ 32 → (length t.tabled == t.room) ≡ true
     → object_refusal (heap_of config t slots clock) next k ≡ Some NoCell
-no_cell config t slots holds clock next k sound few below full =
-    let count : length t.tabled ≡ t.room = eqb-true (length t.tabled) t.room full in
-    let same : length (objects_of t.tabled) ≡ length t.tabled = length-map t.tabled (λ k. k.object) in
-    let taken : nat_lt (length (objects_of t.tabled)) config.cells ≡ false =
-    le-ltb (length (objects_of t.tabled)) config.cells (omega (arith, count, same, sound.room)) in
-    rw (le-leb k 8 few, lt-ltb next (2 ^ 32) below, taken) refl
+no_cell config t slots holds clock next k sound few below full = grind (arith, length-map)
 
 pub has_cell : (config : Config) (t : Table) (slots : List (Option ℕ)) (holds clock next k : ℕ)
     → IsSoundGround config t slots holds next → k ≤ 8 → next < 2 ^ 32 → length t.tabled < t.room
     → object_refusal (heap_of config t slots clock) next k ≡ None
-has_cell config t slots holds clock next k sound few below spare =
-    let same : length (objects_of t.tabled) ≡ length t.tabled = length-map t.tabled (λ k. k.object) in
-    let room : nat_lt (length (objects_of t.tabled)) config.cells ≡ true =
-    lt-ltb (length (objects_of t.tabled)) config.cells (omega (arith, spare, same, sound.room)) in
-    rw (le-leb k 8 few, lt-ltb next (2 ^ 32) below, room) refl
+has_cell config t slots holds clock next k sound few below spare = grind (arith, length-map)
 
 pub sound_made : {config : Config} {t : Table} {slots : List (Option ℕ)} {holds next : ℕ} (place k : ℕ)
     (r : Option Reference) → IsSoundGround config t slots holds next → next < 2 ^ 32
     → IsSoundGround config (with_tabled t (made_entry next k r)) (slice_set slots place (Some next)) holds (next + 1)
-sound_made {config} {t} {slots} {holds} {next} place k r sound below = record {
-  within = sound.within;
-  room = sound.room;
-  slot_count = length-set slots place (Some next) ∙ sound.slot_count;
-  counted = sound.counted ∙ ap length (sym (numbers_by-made (λ k. k.holds) t.tabled (made_entry next k r) refl));
-  given = omega arith;
-  bounded = omega (arith, below);
-}
+sound_made {config} {t} {slots} {holds} {next} place k r sound below = grind (arith, length-set, numbers_by-made)
 
 pub seen_made : (config : Config) (heap_no : ℕ) (t : Table) (slots : List (Option ℕ)) (clock next place k : ℕ)
     (r : Option Reference)
     → seen_ground config heap_no (with_tabled t (made_entry next k r)) (slice_set slots place (Some next)) clock
     (next + 1)
     ≡ made_at (seen_ground config heap_no t slots clock next) place k r
-seen_made config heap_no t slots clock next place k r =
-    rw (
-      map-append (λ k. k.object) t.tabled (made_entry next k r ∷ []),
-      numbers_by-made (λ k. k.holds) t.tabled (made_entry next k r) refl,
-      numbers_by-made (λ k. from_bool k.marked) t.tabled (made_entry next k r) refl,
-      tags_of-made t.tabled next k r,
-    ) refl
+seen_made config heap_no t slots clock next place k r = search (map-append, numbers_by-made)
 
 -- ---- an object changed
 
@@ -115,44 +90,24 @@ seen_made config heap_no t slots clock next place k r =
 pub sound_counted : {config : Config} {t : Table} {slots : List (Option ℕ)} {holds next : ℕ}
     → IsSoundGround config t slots holds next → {ks : List Tabled} {count : ℕ} → count ≡ length (holds_of ks)
     → IsSoundGround config (record t { tabled = ks }) slots count next
-sound_counted sound counted = record {
-  within = sound.within;
-  room = sound.room;
-  slot_count = sound.slot_count;
-  counted = counted;
-  given = sound.given;
-  bounded = sound.bounded;
-}
+sound_counted sound counted = search
 
 pub sound_changed : {config : Config} {t : Table} {slots : List (Option ℕ)} {holds next : ℕ} (n : ℕ)
     (f : Tabled → Tabled) → ((k : Tabled) → (f k).object.no ≡ k.object.no) → ((k : Tabled) → (f k).holds ≡ k.holds)
     → IsSoundGround config t slots holds next → IsSoundGround config (changed t n f) slots holds next
-sound_changed {config} {t} n f keeps leaves sound =
-    sound_counted sound
-    (sound.counted ∙ ap length (sym (numbers_by-changed (λ k. k.holds) t.tabled n f keeps leaves)))
+sound_changed {config} {t} n f keeps leaves sound = search numbers_by-changed
 
 pub seen_changed : (config : Config) (heap_no : ℕ) (t : Table) (slots : List (Option ℕ)) (clock next n : ℕ)
     (f : Object → Object) → ((o : Object) → (f o).no ≡ o.no)
     → seen_ground config heap_no (changed t n (on_object f)) slots clock next
     ≡ ground_with_heap (seen_ground config heap_no t slots clock next) (with_changed (heap_of config t slots clock) n f)
 seen_changed config heap_no t slots clock next n f keeps =
-    rw (
-      objects_of-changed t.tabled n f,
-      numbers_by-changed (λ k. k.holds) t.tabled n (on_object f) (λ k. keeps k.object) (λ k. refl),
-      numbers_by-changed (λ k. from_bool k.marked) t.tabled n (on_object f) (λ k. keeps k.object) (λ k. refl),
-      map-changed tag_of (on_object f) (λ k. rw (keeps k.object) refl) t.tabled n,
-    ) refl
+    grind (arith, objects_of-changed, numbers_by-changed, map-changed)
 
 pub seen_cleared_in : (config : Config) (heap_no : ℕ) (t : Table) (slots : List (Option ℕ)) (clock next n cycle : ℕ)
     → seen_ground config heap_no (changed t n (with_cleared_in cycle)) slots clock next
     ≡ record (seen_ground config heap_no t slots clock next) { tags = with_cleared_tag (tags_of t.tabled) n cycle }
-seen_cleared_in config heap_no t slots clock next n cycle =
-    rw (
-      map-changed (λ k. k.object) (with_cleared_in cycle) (λ k. refl) t.tabled n,
-      numbers_by-changed (λ k. k.holds) t.tabled n (with_cleared_in cycle) (λ k. refl) (λ k. refl),
-      numbers_by-changed (λ k. from_bool k.marked) t.tabled n (with_cleared_in cycle) (λ k. refl) (λ k. refl),
-      tags_of-cleared t.tabled n cycle,
-    ) refl
+seen_cleared_in config heap_no t slots clock next n cycle = search (map-changed, numbers_by-changed, tags_of-cleared)
 
 -- ---- holds
 
@@ -174,55 +129,23 @@ holds_of-added ks n rising there =
 -- and one less of one that is held is one fewer
 holds_of-dropped : (ks : List Tabled) (n : ℕ) → 0 < holds_in (tabled_at ks n)
     → holds_of (changed_tabled ks n less_held) ≡ one_fewer (holds_of ks) n
-holds_of-dropped ks n held =
-    numbers_by-fewer (λ k. k.holds) less_held (λ k. refl) ks n (is_there (tabled_at ks n) held)
-    (λ k is. let own : 0 < k.holds = subst (λ o. 0 < holds_in o) is held in omega (arith, own))
-  where
-    is_there : (k : Option Tabled) → 0 < holds_in k → is_some k ≡ true
-    is_there None held = absurd (omega (arith, held))
-    is_there (Some k) held = refl
-
-one_held : (k : Option Tabled) → is_some k ≡ true → holds_in (option_map more_held k) ≡ holds_in k + 1
-one_held None there = absurd (false≢true there)
-one_held (Some k) there = refl
-
-one_dropped : (k : Option Tabled) → holds_in (option_map less_held k) ≡ holds_in k - 1
-one_dropped None = refl
-one_dropped (Some k) = refl
+holds_of-dropped ks n held = grind (arith, numbers_by-fewer)
 
 module _ {config : Config} {t : Table} {slots : List (Option ℕ)} {holds next : ℕ} (n : ℕ)
     (sound : IsSoundGround config t slots holds next) where
   pub sound_added : is_some (tabled_at t.tabled n) ≡ true
       → IsSoundGround config (changed t n more_held) slots (holds + 1) next
-  sound_added there =
-      sound_counted sound
-      (omega (
-        arith,
-        length-changed (λ k. k.holds) t.tabled n more_held,
-        one_held (tabled_at t.tabled n) there,
-        sound.counted,
-      ))
+  sound_added there = grind (arith, length-changed)
 
   pub sound_dropped : 0 < holds_in (tabled_at t.tabled n)
       → IsSoundGround config (changed t n less_held) slots (holds - 1) next
-  sound_dropped held =
-      sound_counted sound
-      (omega (
-        arith,
-        length-changed (λ k. k.holds) t.tabled n less_held,
-        one_dropped (tabled_at t.tabled n),
-        sound.counted,
-        held,
-      ))
+  sound_dropped held = grind (arith, length-changed)
 
 -- ---- an object goes
 
 unheld_count : (k : Option Tabled) → is_unheld k ≡ true → holds_in k ≡ 0
 unheld_count None unheld = absurd (false≢true unheld)
-unheld_count (Some k) unheld =
-    let none : nat_lt 0 k.holds ≡ false = not-true (nat_lt 0 k.holds) unheld in
-    let most : k.holds ≤ 0 = ltb-false 0 k.holds none in
-    omega (arith, most)
+unheld_count (Some k) unheld = grind arith
 
 unheld_in : (k : Option Tabled) → is_unheld k ≡ (is_some k && not (nat_lt 0 (holds_in k)))
 unheld_in None = refl
@@ -231,10 +154,7 @@ unheld_in (Some k) = refl
 -- an object may go where it is there and nobody holds it
 pub is_unheld-tabled : (ks : List Tabled) (n : ℕ) → IsRising (numbers (objects_of ks))
     → is_unheld (tabled_at ks n) ≡ (is_there (objects_of ks) n && not (has (holds_of ks) n))
-is_unheld-tabled ks n rising =
-    unheld_in (tabled_at ks n)
-    ∙ ap (λ b. b && not (nat_lt 0 (holds_in (tabled_at ks n)))) (sym (is_there-objects_of ks n))
-    ∙ ap (λ b. is_there (objects_of ks) n && not b) (sym (has-holds_of ks n rising))
+is_unheld-tabled ks n rising = search (unheld_in, is_there-objects_of, has-holds_of)
 
 pub sound_freed : {config : Config} {t : Table} {slots : List (Option ℕ)} {holds next : ℕ} (n : ℕ)
     → IsSoundGround config t slots holds next → IsSoundGround config (table.table_freed t n) slots holds next
@@ -252,42 +172,14 @@ module _ (config : Config) (heap_no : ℕ) (t : Table) (slots : List (Option ℕ
   pub seen_added : is_some (tabled_at t.tabled n) ≡ true
       → seen_ground config heap_no (changed t n more_held) slots clock next
       ≡ ground_with_heap (seen_ground config heap_no t slots clock next) (with_hold (heap_of config t slots clock) n)
-  seen_added there =
-      rw (
-        map-changed (λ k. k.object) more_held (λ k. refl) t.tabled n,
-        holds_of-added t.tabled n rising there,
-        numbers_by-changed (λ k. from_bool k.marked) t.tabled n more_held (λ k. refl) (λ k. refl),
-        map-changed tag_of more_held (λ k. refl) t.tabled n,
-      ) refl
+  seen_added there = search (map-changed, holds_of-added, numbers_by-changed)
 
   pub seen_dropped : 0 < holds_in (tabled_at t.tabled n)
       → seen_ground config heap_no (changed t n less_held) slots clock next
       ≡ ground_with_heap (seen_ground config heap_no t slots clock next) (without_hold (heap_of config t slots clock) n)
-  seen_dropped held =
-      rw (
-        map-changed (λ k. k.object) less_held (λ k. refl) t.tabled n,
-        holds_of-dropped t.tabled n held,
-        numbers_by-changed (λ k. from_bool k.marked) t.tabled n less_held (λ k. refl) (λ k. refl),
-        map-changed tag_of less_held (λ k. refl) t.tabled n,
-      ) refl
+  seen_dropped held = search (map-changed, holds_of-dropped, numbers_by-changed)
 
   pub seen_freed : seen_ground config heap_no (table.table_freed t n) slots clock next
       ≡ after_freeing (seen_ground config heap_no t slots clock next) n
   seen_freed =
-      elim (cases_Bool (is_unheld (tabled_at t.tabled n))) [
-        | inl unheld ↦
-            let free : is_free (heap_of config t slots clock) n ≡ true =
-            sym (is_unheld-tabled t.tabled n rising) ∙ unheld in
-            let none : holds_in (tabled_at t.tabled n) ≡ 0 = unheld_count (tabled_at t.tabled n) unheld in
-            simp (unheld, free)
-            (rw (
-              objects_of-without t.tabled n rising,
-              numbers_by-without (λ k. k.holds) t.tabled n none,
-              marked_of-without t.tabled n rising,
-              tags_of-without t.tabled n,
-            ) refl)
-        | inr held ↦
-            let stays : is_free (heap_of config t slots clock) n ≡ false =
-            sym (is_unheld-tabled t.tabled n rising) ∙ held in
-            simp (held, stays) refl
-      ]
+      grind (arith, is_unheld-tabled, objects_of-without, numbers_by-without, marked_of-without, tags_of-without)

@@ -1,7 +1,6 @@
 -- What the index says of a number, and how it changes.
-use Rattle.std.proofs.Common.{◌≡◌, ℕ, ◌<◌, ◌≤◌, Bool, true, false, ◌==◌, if◌then◌else◌, nat_lt, refl, ap, sym, ◌∙◌}
-use Rattle.std.proofs.Common.{List, [], ◌∷◌, ◌++◌, length, get_or, Some, None, zero, suc, inl, inr, arith}
-use Rattle.std.proofs.lemmas.Bool.{cases_Bool, ltb-true, ltb-false, lt-ltb, le-ltb, ne_eqb}
+use Rattle.std.proofs.Common.{◌≡◌, ℕ, ◌<◌, ◌≤◌, Bool, true, false, ◌==◌, if◌then◌else◌, nat_lt, refl, ap}
+use Rattle.std.proofs.Common.{List, [], ◌∷◌, ◌++◌, length, get_or, Some, None, zero, suc, arith}
 use Rattle.std.specs.List.{filter}
 use Rattle.std.specs.List.Sorted.{IsPartitionedBy, IsPartitionPoint}
 use Rattle.ref_objects.proofs.Common.{place_in, count_below, AllAbove, NoneAbove, Rises, Entry}
@@ -25,10 +24,7 @@ rises-at (e ∷ es) rises (suc i) (suc j) d order h = rises-at es rises.1 i j d 
 
 -- the entries below a number come first, as a binary search asks
 pub partitioned : (es : List Entry) (n : ℕ) → Rises es → IsPartitionedBy (λ e. nat_lt e.no n) es
-partitioned es n rises i j d order h below =
-    let less : (get_or es j d).no < n = ltb-true (get_or es j d).no n below in
-    let no_less : (get_or es i d).no ≤ (get_or es j d).no = rises-at es rises i j d order h in
-    lt-ltb (get_or es i d).no n (omega arith)
+partitioned es n rises i j d order h below = grind (arith, rises-at)
 
 -- where a binary search ends is how many are below
 pub count_below-point : (es : List Entry) (n i : ℕ) → i ≤ length es
@@ -46,67 +42,30 @@ count_below-point (e ∷ es) n (suc i) h point =
 pub count_below-at : (es : List Entry) (n i : ℕ) (e : Entry) → Rises es → i < length es → e ≡ get_or es i e → e.no ≡ n
     → i ≡ count_below es n
 count_below-at [] n i e rises h at is = absurd (omega arith)
-count_below-at (x ∷ xs) n zero e rises h at is =
-    let same : x.no ≡ n = ap (λ (d : Entry). d.no) (sym at) ∙ is in
-    let above : nat_lt x.no n ≡ false = le-ltb x.no n (omega (arith, same)) in
-    simp above refl
-count_below-at (x ∷ xs) n (suc i) e rises h at is =
-    let over : x.no < (get_or xs i e).no = above-at x.no xs rises.0 i e (omega arith) in
-    let same : (get_or xs i e).no ≡ n = ap (λ (d : Entry). d.no) (sym at) ∙ is in
-    let below : nat_lt x.no n ≡ true = lt-ltb x.no n (omega (arith, over, same)) in
-    simp below (ap suc (count_below-at xs n i e rises.1 (omega arith) at is))
+count_below-at (x ∷ xs) n zero e rises h at is = grind arith
+count_below-at (x ∷ xs) n (suc i) e rises h at is = grind (arith, above-at, count_below-at xs n i e rises.1)
 
 -- ---- a number's place
 
 -- a number that is no more than those of the entries has none
 pub place_in-none : (es : List Entry) (n m : ℕ) → n ≤ m → AllAbove m es → place_in es n ≡ None
 place_in-none [] n m order above = refl
-place_in-none (e ∷ es) n m order above =
-    let over : m < e.no = above.0 in
-    let other : (e.no == n) ≡ false = ne_eqb e.no n (λ same. omega arith) in
-    simp other (place_in-none es n m order above.1)
+place_in-none (e ∷ es) n m order above = grind (arith, place_in-none es n m order above.1)
 
 -- nor has one that is above them
 pub place_in-new : (es : List Entry) (n last : ℕ) → NoneAbove last es → last < n → place_in es n ≡ None
 place_in-new [] n last given new = refl
-place_in-new (e ∷ es) n last given new =
-    let under : e.no ≤ last = given.0 in
-    let other : (e.no == n) ≡ false = ne_eqb e.no n (λ same. omega arith) in
-    simp other (place_in-new es n last given.1 new)
+place_in-new (e ∷ es) n last given new = grind (arith, place_in-new es n last given.1 new)
 
 -- the place of a number is that of the first entry that is not below it, if that is the number's
 pub place_in-at : (es : List Entry) (n : ℕ) (e : Entry) → Rises es → count_below es n < length es
     → e ≡ get_or es (count_below es n) e → place_in es n ≡ (if e.no == n then Some e.place else None)
 place_in-at [] n e rises h at = absurd (omega arith)
-place_in-at (x ∷ xs) n e rises h at =
-    elim (cases_Bool (nat_lt x.no n)) [
-      | inl below ↦
-          let less : x.no < n = ltb-true x.no n below in
-          let other : (x.no == n) ≡ false = ne_eqb x.no n (λ same. omega arith) in
-          let within : suc (count_below xs n) < suc (length xs) = simp below at h in
-          let later : e ≡ get_or xs (count_below xs n) e = simp below at at in
-          simp other (place_in-at xs n e rises.1 (omega arith) later)
-      | inr above ↦
-          let no_less : n ≤ x.no = ltb-false x.no n above in
-          let first : e ≡ x = simp above at at in
-          rw first
-          (elim (cases_Bool (x.no == n)) [
-            | inl same ↦ simp same refl
-            | inr other ↦ simp other (place_in-none xs n x.no no_less rises.0)
-          ])
-    ]
+place_in-at (x ∷ xs) n e rises h at = grind (arith, place_in-none, place_in-at xs n e rises.1)
 
 pub place_in-past : (es : List Entry) (n : ℕ) → length es ≤ count_below es n → place_in es n ≡ None
 place_in-past [] n h = refl
-place_in-past (x ∷ xs) n h =
-    elim (cases_Bool (nat_lt x.no n)) [
-      | inl below ↦
-          let less : x.no < n = ltb-true x.no n below in
-          let other : (x.no == n) ≡ false = ne_eqb x.no n (λ same. omega arith) in
-          let within : suc (length xs) ≤ suc (count_below xs n) = simp below at h in
-          simp other (place_in-past xs n (omega arith))
-      | inr above ↦ absurd (let wrong : suc (length xs) ≤ 0 = simp above at h in omega arith)
-    ]
+place_in-past (x ∷ xs) n h = grind (arith, place_in-past xs n)
 
 -- ---- one more entry
 
@@ -117,9 +76,7 @@ AllAbove-push n (x ∷ xs) e above h = (above.0, AllAbove-push n xs e above.1 h)
 pub Rises-push : (es : List Entry) (e : Entry) (last : ℕ) → Rises es → NoneAbove last es → last < e.no
     → Rises (es ++ e ∷ [])
 Rises-push [] e last rises given new = (tt, tt)
-Rises-push (x ∷ xs) e last rises given new =
-    let under : x.no ≤ last = given.0 in
-    (AllAbove-push x.no xs e rises.0 (omega arith), Rises-push xs e last rises.1 given.1 new)
+Rises-push (x ∷ xs) e last rises given new = grind (arith, AllAbove-push, Rises-push xs e last rises.1 given.1 new)
 
 pub NoneAbove-push : (es : List Entry) (e : Entry) (last : ℕ) → NoneAbove last es → last < e.no
     → NoneAbove e.no (es ++ e ∷ [])
@@ -132,24 +89,12 @@ NoneAbove-push (x ∷ xs) e last given new =
 module _ (test : Entry → Bool) where
   AllAbove-filter : (n : ℕ) (es : List Entry) → AllAbove n es → AllAbove n (filter test es)
   AllAbove-filter n [] above = tt
-  AllAbove-filter n (e ∷ es) above =
-      elim (cases_Bool (test e)) [
-        | inl passes ↦ simp passes (above.0, AllAbove-filter n es above.1)
-        | inr fails ↦ simp fails (AllAbove-filter n es above.1)
-      ]
+  AllAbove-filter n (e ∷ es) above = grind (arith, AllAbove-filter n es above.1)
 
   pub Rises-filter : (es : List Entry) → Rises es → Rises (filter test es)
   Rises-filter [] rises = tt
-  Rises-filter (e ∷ es) rises =
-      elim (cases_Bool (test e)) [
-        | inl passes ↦ simp passes (AllAbove-filter e.no es rises.0, Rises-filter es rises.1)
-        | inr fails ↦ simp fails (Rises-filter es rises.1)
-      ]
+  Rises-filter (e ∷ es) rises = grind (arith, AllAbove-filter, Rises-filter es rises.1)
 
   pub NoneAbove-filter : (last : ℕ) (es : List Entry) → NoneAbove last es → NoneAbove last (filter test es)
   NoneAbove-filter last [] given = tt
-  NoneAbove-filter last (e ∷ es) given =
-      elim (cases_Bool (test e)) [
-        | inl passes ↦ simp passes (given.0, NoneAbove-filter last es given.1)
-        | inr fails ↦ simp fails (NoneAbove-filter last es given.1)
-      ]
+  NoneAbove-filter last (e ∷ es) given = grind (arith, NoneAbove-filter last es given.1)

@@ -1,15 +1,15 @@
 -- Which objects of a table are marked, and how a change of the table changes it.
-use Rattle.std.proofs.Common.{◌≡◌, ℕ, ◌+◌, ◌-◌, ◌<◌, ◌≤◌, Bool, true, false, ◌==◌, ◌&&◌, not, if◌then◌else◌, nat_lt}
-use Rattle.std.proofs.Common.{suc, refl, sym, ◌∙◌, ap, List, [], ◌∷◌, ◌++◌, length, replicate, Option, Some, None, inl}
+use Rattle.std.proofs.Common.{◌≡◌, ℕ, ◌+◌, ◌-◌, ◌≤◌, Bool, true, false, ◌&&◌, not, nat_lt}
+use Rattle.std.proofs.Common.{refl, sym, ◌∙◌, ap, List, [], ◌∷◌, ◌++◌, length, Option, Some, None, inl}
 use Rattle.std.proofs.Common.{inr, arith}
-use Rattle.std.proofs.lemmas.Bool.{cases_Bool, eq-eqb, ne_eqb, false≢true}
+use Rattle.std.proofs.lemmas.Bool.{cases_Bool}
 use Rattle.std.specs.Option.{option_map, is_some}
 use Rattle.std.specs.Int.{from_bool}
 use Rattle.ref_objects.specs.Tables.{counted_in}
 use Rattle.ref_objects.proofs.Common.{Object, is_there, numbers, has, IsRising, one_more, one_fewer, Tabled, tabled_at}
 use Rattle.ref_objects.proofs.Common.{objects_of, changed_tabled, without_tabled, is_marked_in, is_unmarked_in}
 use Rattle.ref_objects.proofs.Common.{marked_of, unmarked_of, with_marked, unmarked}
-use Rattle.ref_objects.proofs.NumberLemmas.{IsRising-tail, has-numbers_by, numbers_by-changed, numbers_by-made}
+use Rattle.ref_objects.proofs.NumberLemmas.{has-numbers_by, numbers_by-changed, numbers_by-made}
 use Rattle.ref_objects.proofs.NumberLemmas.{numbers_by-more, numbers_by-gone, length-changed, length-without}
 use Rattle.ref_objects.proofs.TabledLemmas.{is_there-objects_of}
 
@@ -34,9 +34,7 @@ mark_count-in (Some k) = refl
 -- a number is among the marked exactly where its object is
 pub has-marked_of : (ks : List Tabled) (n : ℕ) → IsRising (numbers (objects_of ks))
     → has (marked_of ks) n ≡ is_marked_in (tabled_at ks n)
-has-marked_of ks n rising =
-    has-numbers_by mark_count ks n rising ∙ ap (nat_lt 0) (mark_count-in (tabled_at ks n))
-    ∙ sym (from_bool-counts (is_marked_in (tabled_at ks n)))
+has-marked_of ks n rising = grind (arith, has-numbers_by)
 
 there_unmarked : (k : Option Tabled) → (is_some k && not (is_marked_in k)) ≡ is_unmarked_in k
 there_unmarked None = refl
@@ -45,9 +43,7 @@ there_unmarked (Some k) = refl
 -- and is unmarked where there is an object that isn't among them
 pub is_unmarked-tabled : (ks : List Tabled) (n : ℕ) → IsRising (numbers (objects_of ks))
     → (is_there (objects_of ks) n && not (has (marked_of ks) n)) ≡ is_unmarked_in (tabled_at ks n)
-is_unmarked-tabled ks n rising =
-    ap (λ b. b && not (has (marked_of ks) n)) (is_there-objects_of ks n)
-    ∙ ap (λ b. is_some (tabled_at ks n) && not b) (has-marked_of ks n rising) ∙ there_unmarked (tabled_at ks n)
+is_unmarked-tabled ks n rising = search (is_there-objects_of, has-marked_of, there_unmarked)
 
 -- ---- the others
 
@@ -55,44 +51,18 @@ is_unmarked-tabled ks n rising =
 unmarked-above : (os : List Object) (m : ℕ) (ms : List ℕ) → IsRising (m ∷ numbers os)
     → unmarked os (m ∷ ms) ≡ unmarked os ms
 unmarked-above [] m ms rising = refl
-unmarked-above (o ∷ os) m ms rising =
-    let over : m < o.no = rising.0 in
-    let other : (m == o.no) ≡ false = ne_eqb m o.no (λ same. omega arith) in
-    let rest : unmarked os (m ∷ ms) ≡ unmarked os ms =
-    unmarked-above os m ms (IsRising-skip m o.no (numbers os) rising) in
-    simp other (ap (λ (ns : List ℕ). if has ms o.no then ns else o.no ∷ ns) rest)
-  where
-    IsRising-skip : (m n : ℕ) (ns : List ℕ) → IsRising (m ∷ n ∷ ns) → IsRising (m ∷ ns)
-    IsRising-skip m n [] rising = tt
-    IsRising-skip m n (l ∷ ls) rising = (omega (arith, rising.0, rising.1.0), rising.1.1)
+unmarked-above (o ∷ os) m ms rising = grind (arith, unmarked-above os m ms)
 
 -- the objects that aren't among the marked are those that aren't marked
 pub unmarked-tabled : (ks : List Tabled) → IsRising (numbers (objects_of ks))
     → unmarked (objects_of ks) (marked_of ks) ≡ unmarked_of ks
 unmarked-tabled [] rising = refl
 unmarked-tabled (k ∷ ks) rising =
-    let own : (k.object.no == k.object.no) ≡ true = eq-eqb k.object.no k.object.no refl in
-    let rest : unmarked (objects_of ks) (marked_of ks) ≡ unmarked_of ks =
-    unmarked-tabled ks (IsRising-tail k.object.no (numbers (objects_of ks)) rising) in
-    elim (cases_Bool k.marked) [
-      | inl marked ↦
-          simp (marked, own) (unmarked-above (objects_of ks) k.object.no (marked_of ks) rising ∙ rest)
-      | inr plain ↦
-          let first : tabled_at (k ∷ ks) k.object.no ≡ Some k = simp own refl in
-          let none : has (marked_of ks) k.object.no ≡ false =
-          simp plain at
-          (has-marked_of (k ∷ ks) k.object.no rising ∙ ap is_marked_in first ∙ plain) in
-          simp (plain, none) (ap (λ ns. k.object.no ∷ ns) rest)
-    ]
+    grind (arith, unmarked-above, unmarked-tabled ks, has-marked_of (k ∷ ks) k.object.no rising)
 
 pub length-unmarked_of : (ks : List Tabled) → length (unmarked_of ks) + length (marked_of ks) ≡ length ks
 length-unmarked_of [] = refl
-length-unmarked_of (k ∷ ks) =
-    let rest : length (unmarked_of ks) + length (marked_of ks) ≡ length ks = length-unmarked_of ks in
-    elim (cases_Bool k.marked) [
-      | inl marked ↦ simp marked (omega (arith, rest))
-      | inr plain ↦ simp plain (omega (arith, rest))
-    ]
+length-unmarked_of (k ∷ ks) = grind (arith, length-unmarked_of ks)
 
 -- ---- the count of the marked
 
@@ -136,36 +106,13 @@ module _ (ks : List Tabled) (n : ℕ) {count less : ℕ} (one : less ≡ from_bo
 pub marked_of-marked : (ks : List Tabled) (n : ℕ) → IsRising (numbers (objects_of ks))
     → is_unmarked_in (tabled_at ks n) ≡ true
     → marked_of (changed_tabled ks n (with_marked true)) ≡ one_more (marked_of ks) n
-marked_of-marked ks n rising new =
-    numbers_by-more mark_count (with_marked true) (λ k. refl) ks n rising (is_there (tabled_at ks n) new)
-    (λ k is. up k (sym (ap is_unmarked_in is) ∙ new))
-  where
-    is_there : (k : Option Tabled) → is_unmarked_in k ≡ true → is_some k ≡ true
-    is_there None new = absurd (false≢true new)
-    is_there (Some k) new = refl
-
-    up : (k : Tabled) → not k.marked ≡ true → 1 ≡ suc (mark_count k)
-    up k new =
-        elim (cases_Bool k.marked) [
-          | inl marked ↦ absurd (let wrong : false ≡ true = simp marked at new in false≢true wrong)
-          | inr plain ↦ simp plain refl
-        ]
+marked_of-marked ks n rising new = grind (arith, numbers_by-more)
 
 -- one that was, or isn't there: nothing changes among them
 pub marked_of-marked_again : (ks : List Tabled) (n : ℕ) → is_unmarked_in (tabled_at ks n) ≡ false
     → marked_of (changed_tabled ks n (with_marked true)) ≡ marked_of ks
 marked_of-marked_again [] n was = refl
-marked_of-marked_again (k ∷ ks) n was =
-    elim (cases_Bool (k.object.no == n)) [
-      | inl same ↦ elim (cases_Bool k.marked) [
-        | inl marked ↦ simp (same, marked) refl
-        | inr plain ↦ absurd (let wrong : true ≡ false = simp (same, plain) at was in false≢true (sym wrong))
-      ]
-      | inr other ↦
-          let later : is_unmarked_in (tabled_at ks n) ≡ false = simp other at was in
-          simp other
-          (ap (λ ms. replicate (mark_count k) k.object.no ++ ms) (marked_of-marked_again ks n later))
-    ]
+marked_of-marked_again (k ∷ ks) n was = grind (arith, marked_of-marked_again ks n)
 
 -- its mark goes with it
 pub marked_of-without : (ks : List Tabled) (n : ℕ) → IsRising (numbers (objects_of ks))

@@ -1,8 +1,8 @@
 -- The numbers of a table's objects, each as often as a count says: so are the holds, the marked, and the others.
-use Rattle.std.proofs.Common.{◌≡◌, ℕ, zero, suc, ◌+◌, ◌<◌, ◌≤◌, Bool, true, false, ◌==◌, ◌||◌, nat_lt, nat_le, refl}
+use Rattle.std.proofs.Common.{◌≡◌, ℕ, zero, suc, ◌+◌, ◌<◌, ◌≤◌, Bool, true, false, ◌==◌, nat_lt, nat_le, refl}
 use Rattle.std.proofs.Common.{sym, ◌∙◌, ap, arith, length-append, List, [], ◌∷◌, ◌++◌, length, replicate, Some, inl}
 use Rattle.std.proofs.Common.{inr}
-use Rattle.std.proofs.lemmas.Bool.{cases_Bool, eq-eqb, eqb-true, ne_eqb, lt-ltb, le-ltb, false≢true}
+use Rattle.std.proofs.lemmas.Bool.{cases_Bool, eq-eqb, eqb-true, lt-ltb, le-ltb, false≢true}
 use Rattle.std.proofs.lemmas.List.{length-replicate}
 use Rattle.std.specs.Option.{option_map, is_some}
 use Rattle.ref_base.proofs.HasLaws.{has-append}
@@ -15,9 +15,7 @@ use Rattle.ref_objects.proofs.Common.{objects_of, changed_tabled, without_tabled
 
 has-from : (ns : List ℕ) (n : ℕ) → AllFrom (suc n) ns → has ns n ≡ false
 has-from [] n all = refl
-has-from (m ∷ ms) n all =
-    let other : (m == n) ≡ false = ne_eqb m n (λ same. omega (arith, all.0, same)) in
-    simp other (has-from ms n all.1)
+has-from (m ∷ ms) n all = grind (arith, has-from ms n all.1)
 
 one_more-from : (ns : List ℕ) (n : ℕ) → AllFrom n ns → one_more ns n ≡ n ∷ ns
 one_more-from [] n all = refl
@@ -25,17 +23,11 @@ one_more-from (m ∷ ms) n all = let above : nat_lt m n ≡ false = le-ltb m n a
 
 pub length-one_more : (ns : List ℕ) (n : ℕ) → length (one_more ns n) ≡ length ns + 1
 length-one_more [] n = refl
-length-one_more (m ∷ ms) n =
-    elim (cases_Bool (nat_lt m n)) [
-      | inl below ↦ simp below (omega (arith, length-one_more ms n))
-      | inr above ↦ simp above (omega arith)
-    ]
+length-one_more (m ∷ ms) n = grind (arith, length-one_more ms n)
 
 one_fewer-none : (ns : List ℕ) (n : ℕ) → AllFrom (suc n) ns → one_fewer ns n ≡ ns
 one_fewer-none [] n all = refl
-one_fewer-none (m ∷ ms) n all =
-    let other : (m == n) ≡ false = ne_eqb m n (λ same. omega (arith, all.0, same)) in
-    simp other (ap (λ ns. m ∷ ns) (one_fewer-none ms n all.1))
+one_fewer-none (m ∷ ms) n all = grind (arith, one_fewer-none ms n all.1)
 
 AllFrom-replicate : (count n m : ℕ) (ms : List ℕ) → n ≤ m → AllFrom n ms → AllFrom n (replicate count m ++ ms)
 AllFrom-replicate zero n m ms order all = all
@@ -55,9 +47,7 @@ least_from-below (suc count) m n ms below = simp below (least_from-below count m
 one_more-past : (count m n : ℕ) (ms : List ℕ) → m < n
     → one_more (replicate count m ++ ms) n ≡ replicate count m ++ one_more ms n
 one_more-past zero m n ms below = refl
-one_more-past (suc count) m n ms below =
-    let under : nat_lt m n ≡ true = lt-ltb m n below in
-    simp under (ap (λ ns. m ∷ ns) (one_more-past count m n ms below))
+one_more-past (suc count) m n ms below = search (lt-ltb, one_more-past count m n ms below)
 
 one_fewer-past : (count m n : ℕ) (ms : List ℕ) → (m == n) ≡ false
     → one_fewer (replicate count m ++ ms) n ≡ replicate count m ++ one_fewer ms n
@@ -73,10 +63,6 @@ has-replicate_other : (count m n : ℕ) → (m == n) ≡ false → has (replicat
 has-replicate_other zero m n other = refl
 has-replicate_other (suc count) m n other = simp other (has-replicate_other count m n other)
 
-or-false : (b : Bool) → (b || false) ≡ b
-or-false true = refl
-or-false false = refl
-
 pub IsRising-tail : (n : ℕ) (ns : List ℕ) → IsRising (n ∷ ns) → IsRising ns
 IsRising-tail n [] rising = tt
 IsRising-tail n (m ∷ ms) rising = rising.1
@@ -85,14 +71,7 @@ IsRising-tail n (m ∷ ms) rising = rising.1
 below_found : (ks : List Tabled) (m n : ℕ) → IsRising (m ∷ numbers (objects_of ks)) → is_some (tabled_at ks n) ≡ true
     → m < n
 below_found [] m n rising there = absurd (false≢true there)
-below_found (k ∷ ks) m n rising there =
-    let over : m < k.object.no = rising.0 in
-    elim (cases_Bool (k.object.no == n)) [
-      | inl same ↦ let is : k.object.no ≡ n = eqb-true k.object.no n same in omega (arith, over, is)
-      | inr other ↦
-          let later : k.object.no < n = below_found ks k.object.no n rising.1 (simp other at there) in
-          omega (arith, over, later)
-    ]
+below_found (k ∷ ks) m n rising there = grind (arith, below_found ks k.object.no n rising.1)
 
 module _ (count : Tabled → ℕ) where
   -- ---- what is read
@@ -101,54 +80,26 @@ module _ (count : Tabled → ℕ) where
   AllFrom-numbers_by : (ks : List Tabled) (n m : ℕ) → n ≤ suc m → IsRising (m ∷ numbers (objects_of ks))
       → AllFrom n (numbers_by count ks)
   AllFrom-numbers_by [] n m order rising = tt
-  AllFrom-numbers_by (k ∷ ks) n m order rising =
-      let over : n ≤ k.object.no = omega (arith, order, rising.0) in
-      AllFrom-replicate (count k) n k.object.no (numbers_by count ks) over
-      (AllFrom-numbers_by ks n k.object.no (omega (arith, over)) rising.1)
+  AllFrom-numbers_by (k ∷ ks) n m order rising = grind (arith, AllFrom-replicate, AllFrom-numbers_by ks n k.object.no)
 
   pub numbers_in_order : (ks : List Tabled) → IsRising (numbers (objects_of ks)) → IsInOrder (numbers_by count ks)
   numbers_in_order [] rising = tt
   numbers_in_order (k ∷ ks) rising =
-      IsInOrder-replicate (count k) k.object.no (numbers_by count ks)
-      (AllFrom-numbers_by ks k.object.no k.object.no (omega arith) rising)
-      (numbers_in_order ks (IsRising-tail k.object.no (numbers (objects_of ks)) rising))
+      grind (arith, IsInOrder-replicate, numbers_in_order ks, AllFrom-numbers_by ks k.object.no k.object.no)
 
   -- a number is among them exactly where its object counts
   pub has-numbers_by : (ks : List Tabled) (n : ℕ) → IsRising (numbers (objects_of ks))
       → has (numbers_by count ks) n ≡ nat_lt 0 (counted_in count (tabled_at ks n))
   has-numbers_by [] n rising = refl
   has-numbers_by (k ∷ ks) n rising =
-      has-append (replicate (count k) k.object.no) (numbers_by count ks) n
-      ∙ elim (cases_Bool (k.object.no == n)) [
-        | inl same ↦
-            let number : k.object.no ≡ n = eqb-true k.object.no n same in
-            let others : has (numbers_by count ks) n ≡ false =
-            has-from (numbers_by count ks) n (AllFrom-numbers_by ks (suc n) k.object.no (omega (arith, number)) rising)
-            in
-            ap (λ b. has (replicate (count k) k.object.no) n || b) others
-            ∙ or-false (has (replicate (count k) k.object.no) n)
-            ∙ ap (λ m. has (replicate (count k) m) n) number ∙ has-replicate (count k) n ∙ simp same refl
-        | inr other ↦
-            ap (λ b. b || has (numbers_by count ks) n) (has-replicate_other (count k) k.object.no n other)
-            ∙ has-numbers_by ks n (IsRising-tail k.object.no (numbers (objects_of ks)) rising) ∙ simp other refl
-      ]
+      grind (arith, has-append, has-from, AllFrom-numbers_by, has-replicate, has-replicate_other, has-numbers_by ks n)
 
   -- the least of them is that of the first object that counts
   least_at : (keeps : Tabled → Bool) (k : Tabled) (ks : List Tabled) (n times : ℕ) → count k ≡ times
       → keeps k ≡ nat_lt 0 times → first_where keeps ks n ≡ least_from (numbers_by count ks) n
       → first_where keeps (k ∷ ks) n ≡ least_from (replicate times k.object.no ++ numbers_by count ks) n
-  least_at keeps k ks n zero is kept rest =
-      elim (cases_Bool (nat_le n k.object.no)) [
-        | inl here ↦ simp (here, kept) rest
-        | inr later ↦ simp later rest
-      ]
-  least_at keeps k ks n (suc times) is kept rest =
-      let yes : keeps k ≡ true = kept ∙ lt-ltb 0 (suc times) (omega arith) in
-      elim (cases_Bool (nat_le n k.object.no)) [
-        | inl here ↦ simp (here, yes) refl
-        | inr later ↦
-            simp later (rest ∙ sym (least_from-below times k.object.no n (numbers_by count ks) later))
-      ]
+  least_at keeps k ks n zero is kept rest = grind arith
+  least_at keeps k ks n (suc times) is kept rest = grind (arith, least_from-below)
 
   pub least_where : (keeps : Tabled → Bool) → ((k : Tabled) → keeps k ≡ nat_lt 0 (count k)) → (ks : List Tabled) (n : ℕ)
       → first_where keeps ks n ≡ least_from (numbers_by count ks) n
@@ -162,23 +113,14 @@ module _ (count : Tabled → ℕ) where
       → length (numbers_by count (changed_tabled ks n f)) + counted_in count (tabled_at ks n)
       ≡ length (numbers_by count ks) + counted_in count (option_map f (tabled_at ks n))
   length-changed [] n f = refl
-  length-changed (k ∷ ks) n f =
-      elim (cases_Bool (k.object.no == n)) [
-        | inl same ↦ simp (same, length-append, length-replicate) (omega arith)
-        | inr other ↦
-            simp (other, length-append, length-replicate) (omega (arith, length-changed ks n f))
-      ]
+  length-changed (k ∷ ks) n f = grind (arith, length-append, length-replicate, length-changed ks n f)
 
   -- and so is its end
   pub length-without : (ks : List Tabled) (n : ℕ)
       → length (numbers_by count ks)
       ≡ counted_in count (tabled_at ks n) + length (numbers_by count (without_tabled ks n))
   length-without [] n = refl
-  length-without (k ∷ ks) n =
-      elim (cases_Bool (k.object.no == n)) [
-        | inl same ↦ simp (same, length-append, length-replicate) (omega arith)
-        | inr other ↦ simp (other, length-append, length-replicate) (omega (arith, length-without ks n))
-      ]
+  length-without (k ∷ ks) n = grind (arith, length-append, length-replicate, length-without ks n)
 
   -- ---- changes that leave them
 
@@ -186,16 +128,7 @@ module _ (count : Tabled → ℕ) where
       → ((k : Tabled) → (f k).object.no ≡ k.object.no) → ((k : Tabled) → count (f k) ≡ count k)
       → numbers_by count (changed_tabled ks n f) ≡ numbers_by count ks
   numbers_by-changed [] n f keeps leaves = refl
-  numbers_by-changed (k ∷ ks) n f keeps leaves =
-      elim (cases_Bool (k.object.no == n)) [
-        | inl same ↦
-            simp same
-            (ap (λ times. replicate times (f k).object.no ++ numbers_by count ks) (leaves k)
-            ∙ ap (λ m. replicate (count k) m ++ numbers_by count ks) (keeps k))
-        | inr other ↦
-            simp other
-            (ap (λ ms. replicate (count k) k.object.no ++ ms) (numbers_by-changed ks n f keeps leaves))
-      ]
+  numbers_by-changed (k ∷ ks) n f keeps leaves = grind (arith, numbers_by-changed ks n f keeps leaves)
 
   pub numbers_by-made : (ks : List Tabled) (k : Tabled) → count k ≡ 0
       → numbers_by count (ks ++ k ∷ []) ≡ numbers_by count ks
@@ -206,15 +139,7 @@ module _ (count : Tabled → ℕ) where
   pub numbers_by-without : (ks : List Tabled) (n : ℕ) → counted_in count (tabled_at ks n) ≡ 0
       → numbers_by count (without_tabled ks n) ≡ numbers_by count ks
   numbers_by-without [] n none = refl
-  numbers_by-without (k ∷ ks) n none =
-      elim (cases_Bool (k.object.no == n)) [
-        | inl same ↦
-            let zeros : count k ≡ 0 = simp same at none in
-            simp same (sym (ap (λ times. replicate times k.object.no ++ numbers_by count ks) zeros))
-        | inr other ↦
-            simp other
-            (ap (λ ms. replicate (count k) k.object.no ++ ms) (numbers_by-without ks n (simp other at none)))
-      ]
+  numbers_by-without (k ∷ ks) n none = grind (arith, numbers_by-without ks n)
 
   -- ---- one more, and one fewer
 
@@ -224,48 +149,21 @@ module _ (count : Tabled → ℕ) where
         → numbers_by count (changed_tabled ks n f) ≡ one_more (numbers_by count ks) n
     numbers_by-more [] n rising there up = absurd (false≢true there)
     numbers_by-more (k ∷ ks) n rising there up =
-        elim (cases_Bool (k.object.no == n)) [
-          | inl same ↦
-              let number : k.object.no ≡ n = eqb-true k.object.no n same in
-              let more : count (f k) ≡ suc (count k) = up k (simp same refl) in
-              let from : AllFrom k.object.no (numbers_by count (k ∷ ks)) =
-              AllFrom-replicate (count k) k.object.no k.object.no (numbers_by count ks) (omega arith)
-              (AllFrom-numbers_by ks k.object.no k.object.no (omega arith) rising) in
-              simp same
-              (ap (λ times. replicate times (f k).object.no ++ numbers_by count ks) more
-              ∙ ap (λ m. replicate (suc (count k)) m ++ numbers_by count ks) (keeps k)
-              ∙ sym (one_more-from (numbers_by count (k ∷ ks)) k.object.no from)
-              ∙ ap (one_more (numbers_by count (k ∷ ks))) number)
-          | inr other ↦
-              let later : is_some (tabled_at ks n) ≡ true = simp other at there in
-              let rest : numbers_by count (changed_tabled ks n f) ≡ one_more (numbers_by count ks) n =
-              numbers_by-more ks n (IsRising-tail k.object.no (numbers (objects_of ks)) rising) later
-              (λ l is. up l (simp other is)) in
-              simp other
-              (ap (λ ms. replicate (count k) k.object.no ++ ms) rest
-              ∙ sym (one_more-past (count k) k.object.no n (numbers_by count ks)
-              (below_found ks k.object.no n rising later)))
-        ]
+        grind (
+          arith,
+          AllFrom-replicate,
+          one_more-from,
+          one_more-past,
+          below_found,
+          numbers_by-more ks n,
+          AllFrom-numbers_by ks k.object.no k.object.no,
+        )
 
     pub numbers_by-fewer : (ks : List Tabled) (n : ℕ)
         → is_some (tabled_at ks n) ≡ true → ((k : Tabled) → tabled_at ks n ≡ Some k → count k ≡ suc (count (f k)))
         → numbers_by count (changed_tabled ks n f) ≡ one_fewer (numbers_by count ks) n
     numbers_by-fewer [] n there down = absurd (false≢true there)
-    numbers_by-fewer (k ∷ ks) n there down =
-        elim (cases_Bool (k.object.no == n)) [
-          | inl same ↦
-              let less : count k ≡ suc (count (f k)) = down k (simp same refl) in
-              let first : one_fewer (k.object.no ∷ replicate (count (f k)) k.object.no ++ numbers_by count ks) n
-              ≡ replicate (count (f k)) k.object.no ++ numbers_by count ks = simp same refl in
-              simp same
-              (ap (λ m. replicate (count (f k)) m ++ numbers_by count ks) (keeps k)
-              ∙ sym (ap (λ times. one_fewer (replicate times k.object.no ++ numbers_by count ks) n) less ∙ first))
-          | inr other ↦
-              simp other
-              (ap (λ ms. replicate (count k) k.object.no ++ ms)
-              (numbers_by-fewer ks n (simp other at there) (λ l is. down l (simp other is)))
-              ∙ sym (one_fewer-past (count k) k.object.no n (numbers_by count ks) other))
-        ]
+    numbers_by-fewer (k ∷ ks) n there down = grind (arith, one_fewer-past, numbers_by-fewer ks n)
 
   -- an object that counts once, or not at all, takes one with it, or none
   pub numbers_by-gone : ((k : Tabled) → count k ≤ 1) → (ks : List Tabled) (n : ℕ) → IsRising (numbers (objects_of ks))

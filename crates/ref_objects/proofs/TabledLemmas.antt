@@ -1,24 +1,18 @@
 -- What the table's objects say as the list of a world's objects.
-use Rattle.std.proofs.Common.{◌≡◌, ℕ, ◌<◌, ◌≤◌, true, false, ◌==◌, refl, sym, ◌∙◌, ap, List, [], ◌∷◌, map, Option, Some}
-use Rattle.std.proofs.Common.{None, inl, inr, arith}
-use Rattle.std.proofs.lemmas.Bool.{cases_Bool, eq-eqb, eqb-true, ne_eqb, false≢true}
+use Rattle.std.proofs.Common.{◌≡◌, ℕ, ◌≤◌, refl, ◌∙◌, ap, List, [], ◌∷◌, map, Option, Some}
+use Rattle.std.proofs.Common.{None, arith}
 use Rattle.std.specs.Option.{is_some}
 use Rattle.ref_objects.proofs.Common.{Object, object_at, is_there, numbers, IsRising, Tabled, tabled_at, objects_of}
 use Rattle.ref_objects.proofs.Common.{object_in, on_object, changed_tabled, without_tabled}
 use Rattle.ref_base.specs.Heaps.{changed_at}
 use Rattle.ref_base.specs.CollectorRows.{without as without_numbers}
-use Rattle.ref_objects.proofs.NumberLemmas.{IsRising-tail}
 
 -- ---- the objects
 
 -- a look-up among the objects is that of the table
 pub object_at-objects_of : (ks : List Tabled) (n : ℕ) → object_at (objects_of ks) n ≡ object_in (tabled_at ks n)
 object_at-objects_of [] n = refl
-object_at-objects_of (k ∷ ks) n =
-    elim (cases_Bool (k.object.no == n)) [
-      | inl same ↦ simp same refl
-      | inr other ↦ simp other (object_at-objects_of ks n)
-    ]
+object_at-objects_of (k ∷ ks) n = grind (arith, object_at-objects_of ks n)
 
 pub is_some-object_in : (k : Option Tabled) → is_some (object_in k) ≡ is_some k
 is_some-object_in None = refl
@@ -31,21 +25,13 @@ is_there-objects_of ks n = ap is_some (object_at-objects_of ks n) ∙ is_some-ob
 pub objects_of-changed : (ks : List Tabled) (n : ℕ) (f : Object → Object)
     → objects_of (changed_tabled ks n (on_object f)) ≡ changed_at (objects_of ks) n f
 objects_of-changed [] n f = refl
-objects_of-changed (k ∷ ks) n f =
-    elim (cases_Bool (k.object.no == n)) [
-      | inl same ↦ simp same refl
-      | inr other ↦ simp other (ap (λ os. k.object ∷ os) (objects_of-changed ks n f))
-    ]
+objects_of-changed (k ∷ ks) n f = grind (arith, objects_of-changed ks n f)
 
 -- a change that keeps what is told of each object, as the object itself, is none of what is told
 module _ {X : Type 0} (told : Tabled → X) (f : Tabled → Tabled) (keeps : (k : Tabled) → told (f k) ≡ told k) where
   pub map-changed : (ks : List Tabled) (n : ℕ) → map told (changed_tabled ks n f) ≡ map told ks
   map-changed [] n = refl
-  map-changed (k ∷ ks) n =
-      elim (cases_Bool (k.object.no == n)) [
-        | inl same ↦ simp same (ap (λ x. x ∷ map told ks) (keeps k))
-        | inr other ↦ simp other (ap (λ xs. told k ∷ xs) (map-changed ks n))
-      ]
+  map-changed (k ∷ ks) n = grind (arith, map-changed ks n)
 
   pub map-each : (ks : List Tabled) → map told (map f ks) ≡ map told ks
   map-each [] = refl
@@ -55,26 +41,10 @@ module _ {X : Type 0} (told : Tabled → X) (f : Tabled → Tabled) (keeps : (k 
 without_numbers-above : (os : List Object) (n m : ℕ) → n ≤ m → IsRising (m ∷ numbers os)
     → without_numbers (n ∷ []) os ≡ os
 without_numbers-above [] n m order rising = refl
-without_numbers-above (o ∷ os) n m order rising =
-    let over : m < o.no = rising.0 in
-    let other : (n == o.no) ≡ false = ne_eqb n o.no (λ same. omega arith) in
-    simp other (ap (λ ps. o ∷ ps) (without_numbers-above os n o.no (omega arith) rising.1))
+without_numbers-above (o ∷ os) n m order rising = grind (arith, without_numbers-above os n o.no)
 
 -- an object that goes is gone from among the objects
 pub objects_of-without : (ks : List Tabled) (n : ℕ) → IsRising (numbers (objects_of ks))
     → objects_of (without_tabled ks n) ≡ without_numbers (n ∷ []) (objects_of ks)
 objects_of-without [] n rising = refl
-objects_of-without (k ∷ ks) n rising =
-    elim (cases_Bool (k.object.no == n)) [
-      | inl same ↦
-          let number : k.object.no ≡ n = eqb-true k.object.no n same in
-          let turned : (n == k.object.no) ≡ true = eq-eqb n k.object.no (sym number) in
-          simp (same, turned)
-          (sym (without_numbers-above (objects_of ks) n k.object.no (omega arith) rising))
-      | inr other ↦
-          let turned : (n == k.object.no) ≡ false =
-          ne_eqb n k.object.no (λ same. false≢true (sym other ∙ eq-eqb k.object.no n (sym same))) in
-          simp (other, turned)
-          (ap (λ os. k.object ∷ os)
-          (objects_of-without ks n (IsRising-tail k.object.no (numbers (objects_of ks)) rising)))
-    ]
+objects_of-without (k ∷ ks) n rising = grind (arith, without_numbers-above, objects_of-without ks n)

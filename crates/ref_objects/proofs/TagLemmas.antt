@@ -1,6 +1,7 @@
 -- The tags of a table's objects, as one of them changes, comes or goes.
-use Rattle.std.proofs.Common.{◌≡◌, ℕ, ◌==◌, refl, ◌∙◌, ap, List, [], ◌∷◌, ◌++◌, Option, map, true, false, inl, inr}
-use Rattle.std.proofs.lemmas.Bool.{cases_Bool, eqb-true, false≢true}
+use Rattle.std.proofs.Common.{arith}
+use Rattle.std.proofs.Common.{◌≡◌, ℕ, ◌==◌, refl, ap, List, [], ◌∷◌, ◌++◌, Option, map, true, false, inl, inr}
+use Rattle.std.proofs.lemmas.Bool.{cases_Bool, false≢true}
 use Rattle.std.proofs.lemmas.List.{map-append}
 use Rattle.ref_objects.proofs.Common.{Reference, Tabled, tabled_at, changed_tabled, made_entry, without_tabled, has}
 use Rattle.ref_objects.proofs.Common.{numbers, objects_of, tags_of}
@@ -13,31 +14,19 @@ tags_of-made ks n count r = map-append tag_of ks (made_entry n count r ∷ [])
 
 pub tags_of-without : (ks : List Tabled) (n : ℕ) → tags_of (without_tabled ks n) ≡ without_tag (tags_of ks) n
 tags_of-without [] n = refl
-tags_of-without (k ∷ ks) n =
-    elim (cases_Bool (k.object.no == n)) [
-      | inl same ↦ simp same refl
-      | inr other ↦ simp other (ap (λ ts. tag_of k ∷ ts) (tags_of-without ks n))
-    ]
+tags_of-without (k ∷ ks) n = grind (arith, tags_of-without ks n)
 
 -- ---- the cycle in which an object was cleared
 
 pub cleared_in-tabled : (ks : List Tabled) (n : ℕ)
     → tabled_cleared_in (tabled_at ks n) ≡ cleared_in_at (tags_of ks) n
 cleared_in-tabled [] n = refl
-cleared_in-tabled (k ∷ ks) n =
-    elim (cases_Bool (k.object.no == n)) [
-      | inl same ↦ simp same refl
-      | inr other ↦ simp other (cleared_in-tabled ks n)
-    ]
+cleared_in-tabled (k ∷ ks) n = grind (arith, cleared_in-tabled ks n)
 
 pub tags_of-cleared : (ks : List Tabled) (n cycle : ℕ)
     → tags_of (changed_tabled ks n (with_cleared_in cycle)) ≡ with_cleared_tag (tags_of ks) n cycle
 tags_of-cleared [] n cycle = refl
-tags_of-cleared (k ∷ ks) n cycle =
-    elim (cases_Bool (k.object.no == n)) [
-      | inl same ↦ simp same refl
-      | inr other ↦ simp other (ap (λ ts. tag_of k ∷ ts) (tags_of-cleared ks n cycle))
-    ]
+tags_of-cleared (k ∷ ks) n cycle = grind (arith, tags_of-cleared ks n cycle)
 
 -- ---- what is read of tags
 
@@ -50,48 +39,22 @@ numbers-tags_of (k ∷ ks) = ap (λ ns. k.object.no ∷ ns) (numbers-tags_of ks)
 pub cleared_in_at-new : (ts : List Tag) (m n : ℕ) → cleared_in_at (with_new_tag ts m) n ≡ cleared_in_at ts n
 cleared_in_at-new [] m n =
     elim (cases_Bool (m == n)) [ inl same ↦ simp same refl | inr other ↦ simp other refl ]
-cleared_in_at-new (t ∷ ts) m n =
-    elim (cases_Bool (t.no == n)) [
-      | inl same ↦ simp same refl
-      | inr other ↦ simp other (cleared_in_at-new ts m n)
-    ]
+cleared_in_at-new (t ∷ ts) m n = search (cleared_in_at-new ts m n)
 
 -- where one object goes, the others are as they were
 pub cleared_in_at-without : (ts : List Tag) (m n : ℕ) → (m == n) ≡ false
     → cleared_in_at (without_tag ts m) n ≡ cleared_in_at ts n
 cleared_in_at-without [] m n apart = refl
-cleared_in_at-without (t ∷ ts) m n apart =
-    elim (cases_Bool (t.no == m)) [
-      | inl gone ↦
-          let other : (t.no == n) ≡ false = ap (λ i. i == n) (eqb-true t.no m gone) ∙ apart in
-          simp (gone, other) refl
-      | inr stays ↦ elim (cases_Bool (t.no == n)) [
-        | inl same ↦ simp (stays, same) refl
-        | inr other ↦ simp (stays, other) (cleared_in_at-without ts m n apart)
-      ]
-    ]
+cleared_in_at-without (t ∷ ts) m n apart = grind (arith, cleared_in_at-without ts m n apart)
 
 -- where one is cleared, the others are as they were
 pub cleared_in_at-other : (ts : List Tag) (m n cycle : ℕ) → (m == n) ≡ false
     → cleared_in_at (with_cleared_tag ts m cycle) n ≡ cleared_in_at ts n
 cleared_in_at-other [] m n cycle apart = refl
-cleared_in_at-other (t ∷ ts) m n cycle apart =
-    elim (cases_Bool (t.no == m)) [
-      | inl here ↦
-          let other : (t.no == n) ≡ false = ap (λ i. i == n) (eqb-true t.no m here) ∙ apart in
-          simp (here, other) refl
-      | inr later ↦ elim (cases_Bool (t.no == n)) [
-        | inl same ↦ simp (later, same) refl
-        | inr other ↦ simp (later, other) (cleared_in_at-other ts m n cycle apart)
-      ]
-    ]
+cleared_in_at-other (t ∷ ts) m n cycle apart = grind (arith, cleared_in_at-other ts m n cycle apart)
 
 -- and that one in this cycle
 pub cleared_in_at-own : (ts : List Tag) (n cycle : ℕ) → has (map (λ t. t.no) ts) n ≡ true
     → cleared_in_at (with_cleared_tag ts n cycle) n ≡ cycle
 cleared_in_at-own [] n cycle there = absurd (false≢true there)
-cleared_in_at-own (t ∷ ts) n cycle there =
-    elim (cases_Bool (t.no == n)) [
-      | inl same ↦ simp same refl
-      | inr other ↦ simp other (cleared_in_at-own ts n cycle (simp other at there))
-    ]
+cleared_in_at-own (t ∷ ts) n cycle there = grind (arith, cleared_in_at-own ts n cycle)

@@ -1,11 +1,11 @@
 -- What the cells hold as no mark is left.
-use Rattle.std.proofs.Common.{◌≡◌, ℕ, ◌<◌, false, ◌==◌, refl, sym, ◌∙◌, ap, subst, List, [], ◌∷◌, length, map, Option}
+use Rattle.std.proofs.Common.{◌≡◌, ℕ, ◌<◌, ◌==◌, refl, ◌∙◌, ap, List, [], ◌∷◌, length, map, Option}
 use Rattle.std.proofs.Common.{Some, None, inl, inr, arith}
 use Rattle.std.proofs.lemmas.Bool.{cases_Bool}
 use Rattle.std.proofs.lemmas.List.{length-map}
 use Rattle.std.proofs.Math.ListN.{get_or-map}
 use Rattle.ref_objects.proofs.Common.{cell_at, before, tabled_by, unmarked_cell, seen_table, AreFree, IsPlaced, Tabled}
-use Rattle.ref_objects.proofs.Common.{unmarked_tabled, marked_of, table_unmarked, with_marked, Entry}
+use Rattle.ref_objects.proofs.Common.{unmarked_tabled, marked_of, table_unmarked, Entry}
 
 before-unmarked : (c : Option Tabled) (n : ℕ) (ks : List Tabled)
     → before (unmarked_cell c) n (unmarked_tabled ks) ≡ unmarked_tabled (before c n ks)
@@ -49,19 +49,7 @@ module _ (cells : List (Option Tabled)) {ds : List (Option Tabled)} (is : ds ≡
       λ i. record { tabled = tabled_by-without_marks i; room = length-without_marks i; last = last }
 
   pub none_marked : 0 ≡ length (marked_of (tabled_by ds es))
-  none_marked =
-      sym (ap (λ ks. length (marked_of ks)) tabled_by-without_marks
-      ∙ ap length (marked_of-unmarked_tabled (tabled_by cells es)))
+  none_marked = search (tabled_by-without_marks, marked_of-unmarked_tabled)
 
   pub placed_without_marks : {ps : List ℕ} {last : ℕ} → IsPlaced cells es ps last → IsPlaced ds es ps last
-  placed_without_marks {ps} {last} placed =
-      let count : length (tabled_by ds es) ≡ length (tabled_by cells es) =
-      ap length tabled_by-without_marks ∙ length-map (tabled_by cells es) (with_marked false) in
-      record {
-        rises = placed.rises;
-        given = placed.given;
-        free = subst (λ cs. AreFree cs ps) (sym is) (AreFree-unmarked cells ps placed.free);
-        counted = omega (arith, placed.counted, length-without_marks, count);
-        small = omega (arith, placed.small, length-without_marks);
-        few = omega (arith, placed.few, length-without_marks);
-      }
+  placed_without_marks {ps} {last} placed = grind (arith, tabled_by-without_marks, length-map, AreFree-unmarked)

@@ -1,5 +1,5 @@
-use Rattle.std.proofs.Common.{nat_lt, length, sym, ◌∙◌, rules}
-use Rattle.std.proofs.lemmas.Bool.{eqb-true, ltb-true}
+use Rattle.std.proofs.Common.{arith}
+use Rattle.std.proofs.Common.{nat_lt, rules}
 use Rattle.std.proofs.lemmas.List.Sorted.{IsPartitionPoint-from_clause}
 use Rattle.ref_objects.proofs.IndexLemmas.{partitioned, count_below-point, count_below-at}
 use Rattle.ref_objects.proofs.index.count_below.Goals as goal
@@ -12,8 +12,4 @@ returns-in_default-clause-count c =
     (λ a r f' k. search rules))
 
 pub returns-in-Some-clause-count : goal.returns-in-Some-clause-count
-returns-in-Some-clause-count c =
-    let e = c.in-Some.entry.now in
-    count_below-at c.args.index.now c.args.no c.likely_place-likely.result e c.requires
-    (ltb-true c.likely_place-likely.result (length c.args.index.now) (sym c.in-Some.ensures.lookup.0))
-    c.in-Some.ensures.lookup.1 (eqb-true e.no c.args.no (sym c.eq.ensures ∙ c.if-eq.true))
+returns-in-Some-clause-count c = grind (arith, count_below-at)

@@ -1,9 +1,10 @@
+use Rattle.std.proofs.Common.{arith}
 use Rattle.std.proofs.Common.{◌≡◌, ◌∙◌, List, ap, refl}
 use Rattle.ref_base.specs.declared.heap_step.HeapStep.TheVariants as heap
 use Rattle.ref_clear.proofs.Common.{joined, shaded_all, Worklist, worklists_of, seen_heap}
 use Rattle.ref_mark.specs.MarkCalls.{after_in_cycle}
 use Rattle.ref_clear.proofs.BeginAnswers.{refused_begin, begun_begin}
-use Rattle.ref_clear.proofs.MarkedHeaps.{seen_marked, sound_marked, seen_shaded, sound_shaded}
+use Rattle.ref_clear.proofs.MarkedHeaps.{sound_marked, seen_shaded, sound_shaded}
 use Rattle.ref_clear.proofs.heap.Heap.begin.Goals as goal
 
 pub invariant_of-self : goal.invariant_of-self
@@ -14,12 +15,7 @@ invariant_of-self g c =
     (after_in_cycle c.self.inside.marker step) c.in_err-cycle.field-0.0 c.in_err-cycle.ensures.answer refl)
 
 pub returns-in_err-cycle-clause-after : goal.returns-in_err-cycle-clause-after
-returns-in_err-cycle-clause-after g c =
-    let step = heap.Begin c.args.now c.args.urgency in
-    rw (← c.self.view_is)
-    (seen_marked step c.self.invariant c.begin.ensures.after
-    ∙ refused_begin (seen_heap c.self.inside.marker c.self.inside.pending.items) c.args.now c.args.urgency
-    (after_in_cycle c.self.inside.marker step) c.in_err-cycle.field-0.0 c.in_err-cycle.ensures.answer refl)
+returns-in_err-cycle-clause-after g c = grind arith
 
 pub invariant_of-self-2 : goal.invariant_of-self-2
 invariant_of-self-2 g c =

@@ -1,8 +1,9 @@
-use Rattle.std.proofs.Common.{◌≡◌, true, false, is_some, set, sym, ap, ◌∙◌}
-use Rattle.ref_clear.proofs.Common.{Reference, is_to_clear, seen_heap}
+use Rattle.std.proofs.Common.{arith}
+use Rattle.std.proofs.Common.{◌≡◌, true, is_some, sym, ap, ◌∙◌}
+use Rattle.ref_clear.proofs.Common.{Reference, is_to_clear}
 use Rattle.ref_clear.proofs.LookAnswers.{sound_none, sound_passed, seen_cut, sound_cut, seen_pended, sound_pended}
-use Rattle.ref_clear.proofs.LookAnswers.{look_within, look_has_room, few_taken, tagged_taken, no_queue_read}
-use Rattle.ref_clear.proofs.LookAnswers.{no_reference, no_referent, clears_by, queue_read}
+use Rattle.ref_clear.proofs.LookAnswers.{look_within, look_has_room, tagged_taken, no_queue_read}
+use Rattle.ref_clear.proofs.LookAnswers.{clears_by, queue_read}
 use Rattle.ref_clear.proofs.heap.Heap.clear_next.Goals as goal
 use Rattle.ref_clear.proofs.heap.Heap.clear_next.Goals.{then-is_some, else-is_some}
 
@@ -13,46 +14,21 @@ invariant_of-self-in_default g c =
 
 pub invariant_of-self-in_default-reference_of : goal.invariant_of-self-in_default-reference_of
 invariant_of-self-in_default-reference_of g c =
-    let stays : is_to_clear c.self.inside.marker c.in-Some.no ≡ false =
-    no_reference c.self.inside.marker c.args.worker c.in_ok-no.ensures.after c.objects.ensures c.in-Some.no
-    c.reference_of.ensures c.in_default-reference_of.is in
-    sound_passed c.args.worker c.in_ok-no.ensures.refused c.self.invariant c.in-Some.no
-    (sym c.in_ok-no.ensures.answer ∙ c.in-Some.is) stays c.in_ok-no.ensures.after
+    grind (arith, sound_passed c.args.worker c.in_ok-no.ensures.refused c.self.invariant c.in-Some.no)
 
 pub invariant_of-self-in_default-referent : goal.invariant_of-self-in_default-referent
 invariant_of-self-in_default-referent g c =
-    let stays : is_to_clear c.self.inside.marker c.in-Some.no ≡ false =
-    no_referent c.self.inside.marker c.args.worker c.in_ok-no.ensures.after c.objects.ensures c.in-Some.no
-    c.reference_of.ensures c.in-Some-reference_of.is
-    (ap (λ (r : Reference). r.referent) (sym c.reference.view_is) ∙ c.in_default-referent.is) in
-    sound_passed c.args.worker c.in_ok-no.ensures.refused c.self.invariant c.in-Some.no
-    (sym c.in_ok-no.ensures.answer ∙ c.in-Some.is) stays c.in_ok-no.ensures.after
+    grind (arith, sound_passed c.args.worker c.in_ok-no.ensures.refused c.self.invariant c.in-Some.no)
 
 pub invariant_of-self-then-not-is_doomed : goal.invariant_of-self-then-not-is_doomed
 invariant_of-self-then-not-is_doomed g c =
-    let stays : is_to_clear c.self.inside.marker c.in-Some.no ≡ false =
-    clears_by c.self.inside.marker c.args.worker c.in_ok-no.ensures.after c.objects.ensures c.in-Some.no
-    c.reference_of.ensures c.in-Some-reference_of.is
-    (ap (λ (r : Reference). r.referent) (sym c.reference.view_is) ∙ c.in-Some-referent.is)
-    (sym c.is_doomed.ensures ∙ c.if-not-is_doomed.true) in
-    sound_passed c.args.worker c.in_ok-no.ensures.refused c.self.invariant c.in-Some.no
-    (sym c.in_ok-no.ensures.answer ∙ c.in-Some.is) stays c.in_ok-no.ensures.after
+    grind (arith, sound_passed c.args.worker c.in_ok-no.ensures.refused c.self.invariant c.in-Some.no)
 
 pub index_mut-requires : goal.index_mut-requires
-index_mut-requires g c =
-    rw (c.worker.view_is, c.self.inside.pending.ok.0)
-    (look_within c.args.worker c.in_ok-no.ensures.refused c.self.invariant)
+index_mut-requires g c = grind (arith, look_within c.args.worker c.in_ok-no.ensures.refused c.self.invariant)
 
 pub push-requires : goal.push-requires
-push-requires g c =
-    let goes : is_to_clear c.self.inside.marker c.in-Some.no ≡ true =
-    clears_by c.self.inside.marker c.args.worker c.in_ok-no.ensures.after c.objects.ensures c.in-Some.no
-    c.reference_of.ensures c.in-Some-reference_of.is
-    (ap (λ (r : Reference). r.referent) (sym c.reference.view_is) ∙ c.in-Some-referent.is)
-    (sym c.is_doomed.ensures ∙ c.if-not-is_doomed.false) in
-    look_has_room c.args.worker c.in_ok-no.ensures.refused c.self.invariant c.in-Some.no
-    (sym c.in_ok-no.ensures.answer ∙ c.in-Some.is) goes (rw c.worker.view_is at c.index_mut.ensures.value)
-    (few_taken c.self.inside.marker c.args.worker c.in_ok-no.ensures.after c.objects-2.ensures c.facts.ensures)
+push-requires g c = grind (arith, look_has_room c.args.worker c.in_ok-no.ensures.refused c.self.invariant c.in-Some.no)
 
 pub invariant_of-self-then-is_some : goal.invariant_of-self-then-is_some
 invariant_of-self-then-is_some g c =
@@ -88,33 +64,8 @@ invariant_of-self-else-is_some g c =
 
 pub returns-clause-after : goal.returns-clause-after
 returns-clause-after g c =
-    let goes : is_to_clear c.self.inside.marker c.in-Some.no ≡ true =
-    clears_by c.self.inside.marker c.args.worker c.in_ok-no.ensures.after c.objects.ensures c.in-Some.no
-    c.reference_of.ensures c.in-Some-reference_of.is
-    (ap (λ (r : Reference). r.referent) (sym c.reference.view_is) ∙ c.in-Some-referent.is)
-    (sym c.is_doomed.ensures ∙ c.if-not-is_doomed.false) in
-    let tagged =
-    tagged_taken c.self.inside.marker c.args.worker c.in_ok-no.ensures.after c.objects-2.ensures c.facts.ensures in
-    rw (← c.self.view_is)
-    (elim c.if-is_some.branch [
-      | then-is_some w ↦
-          let queue =
-          queue_read c.self.inside.marker c.args.worker c.in_ok-no.ensures.after c.objects.ensures c.in-Some.no
-          c.reference_of.ensures c.in-Some-reference_of.is
-          (ap (λ (r : Reference). is_some r.queue) (sym c.reference.view_is) ∙ sym c.is_some.ensures
-          ∙ w.if-is_some.true) in
-          w.self-is
-          ∙ ap (λ i. seen_heap c.cut.new.self (set c.self.inside.pending.items i w.push.new.self)) c.worker.view_is
-          ∙ seen_pended c.args.worker c.in_ok-no.ensures.refused c.self.invariant c.in-Some.no
-          (sym c.in_ok-no.ensures.answer ∙ c.in-Some.is) goes (rw c.worker.view_is at w.index_mut.ensures.value) _ queue
-          c.in_ok-no.ensures.after c.cut.ensures w.push.ensures tagged
-      | else-is_some w ↦
-          let none =
-          no_queue_read c.self.inside.marker c.args.worker c.in_ok-no.ensures.after c.objects.ensures c.in-Some.no
-          c.reference_of.ensures c.in-Some-reference_of.is
-          (ap (λ (r : Reference). is_some r.queue) (sym c.reference.view_is) ∙ sym c.is_some.ensures
-          ∙ w.if-is_some.false) in
-          w.self-is
-          ∙ seen_cut c.args.worker c.in_ok-no.ensures.refused c.self.invariant c.in-Some.no
-          (sym c.in_ok-no.ensures.answer ∙ c.in-Some.is) goes none c.in_ok-no.ensures.after c.cut.ensures
-    ])
+    grind (
+      arith,
+      seen_pended c.args.worker c.in_ok-no.ensures.refused c.self.invariant c.in-Some.no,
+      seen_cut c.args.worker c.in_ok-no.ensures.refused c.self.invariant c.in-Some.no,
+    )

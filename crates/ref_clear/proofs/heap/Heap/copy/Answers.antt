@@ -8,6 +8,4 @@ invariant_of-self g c =
     sound_marked (heap.Copy c.args.mutator c.args.into c.args.from) c.self.invariant c.copy.ensures.after refl refl
 
 pub returns-clause-after : goal.returns-clause-after
-returns-clause-after g c =
-    after_marked (heap.Copy c.args.mutator c.args.into c.args.from)
-    c.self.invariant c.copy.ensures.after refl c.self.view_is
+returns-clause-after g c = search after_marked

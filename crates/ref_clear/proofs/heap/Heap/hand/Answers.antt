@@ -35,11 +35,7 @@ returns-in_default-clause-after g c =
     rw (← c.self.view_is, ← c.worker.view_is) (none_to_hand w c.self.invariant within none).1
 
 pub of-first-requires : goal.of-first-requires
-of-first-requires g c =
-    let w = c.worker.inside.0 in
-    let within = worker_within w c.self.invariant c.self.view_is c.config.ensures c.if-worker-config.false in
-    listed_registered w c.self.invariant 0 c.in-Some.no (worker_has_list w c.self.invariant within) c.index.ensures
-    c.get.ensures c.in-Some.is
+of-first-requires g c = search (worker_within, listed_registered, worker_has_list)
 
 pub invariant_of-self : goal.invariant_of-self
 invariant_of-self g c =

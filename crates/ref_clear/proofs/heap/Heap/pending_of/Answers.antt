@@ -1,17 +1,10 @@
-use Rattle.std.proofs.Common.{◌<◌, List, length, sym, ap, subst, ◌∙◌, Some}
-use Rattle.std.proofs.lemmas.Bool.{lt-ltb, false≢true}
-use Rattle.ref_clear.proofs.Common.{Worklist}
+use Rattle.std.proofs.Common.{arith}
+use Rattle.std.proofs.Common.{sym, ap, ◌∙◌, Some}
 use Rattle.ref_clear.proofs.PendingLists.{told_as_seen, found_list, listed_registered, none_past}
 use Rattle.ref_clear.proofs.heap.Heap.pending_of.Goals as goal
 
 pub returns-in_err-get : goal.returns-in_err-get
-returns-in_err-get g c =
-    let w = c.worker.inside.0 in
-    rw (← c.self.view_is, ← c.worker.view_is, c.from_residual.ensures)
-    (sym (none_past c.self.inside.marker c.self.inside.pending.items w c.args.place (λ within.
-    false≢true (c.in_err-get.ensures.lookup.0
-    ∙ lt-ltb w (length c.deref.result.now)
-    (subst (λ (ls : List Worklist). w < length ls) (sym c.deref.ensures.value) within)))))
+returns-in_err-get g c = grind (arith, none_past)
 
 pub returns-in_err-no : goal.returns-in_err-no
 returns-in_err-no g c =

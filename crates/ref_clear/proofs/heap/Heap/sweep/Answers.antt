@@ -1,6 +1,4 @@
-use Rattle.std.proofs.Common.{ap, ◌∙◌}
-use Rattle.ref_base.specs.declared.heap_step.HeapStep.TheVariants as heap
-use Rattle.ref_clear.proofs.Common.{ClearHeap, after_in}
+use Rattle.std.proofs.Common.{arith}
 use Rattle.ref_clear.proofs.SoundEnds.{may_free, sound_swept, seen_swept}
 use Rattle.ref_clear.proofs.heap.Heap.sweep.Goals as goal
 
@@ -9,20 +7,16 @@ free_some-freed-requires g c = may_free c.args.worker c.in_ok-check_work.ensures
 
 pub invariant_of-self : goal.invariant_of-self
 invariant_of-self g c =
-    sound_swept c.args.worker c.in_ok-check_work.ensures c.free_some-freed.ensures.after
-    c.free_some-freed.ensures.reached c.self.invariant
+    search (sound_swept c.args.worker c.in_ok-check_work.ensures c.free_some-freed.ensures.after c.free_some-freed.ensures.reached c.self.invariant)
 
 pub invariant_of-self-2 : goal.invariant_of-self-2
 invariant_of-self-2 g c =
-    sound_swept c.args.worker c.in_ok-check_work.ensures c.free_some-freed.ensures.after
-    c.free_some-freed.ensures.reached c.self.invariant
+    search (sound_swept c.args.worker c.in_ok-check_work.ensures c.free_some-freed.ensures.after c.free_some-freed.ensures.reached c.self.invariant)
 
 pub returns-then-freed-eq0-clause-after : goal.returns-then-freed-eq0-clause-after
 returns-then-freed-eq0-clause-after g c =
-    seen_swept c.args.worker c.in_ok-check_work.ensures c.free_some-freed.ensures.after c.self.invariant
-    ∙ ap (λ (d : ClearHeap). after_in d (heap.Sweep c.args.worker)) c.self.view_is
+    grind (arith, seen_swept c.args.worker c.in_ok-check_work.ensures c.free_some-freed.ensures.after c.self.invariant)
 
 pub returns-clause-after : goal.returns-clause-after
 returns-clause-after g c =
-    seen_swept c.args.worker c.in_ok-check_work.ensures c.free_some-freed.ensures.after c.self.invariant
-    ∙ ap (λ (d : ClearHeap). after_in d (heap.Sweep c.args.worker)) c.self.view_is
+    grind (arith, seen_swept c.args.worker c.in_ok-check_work.ensures c.free_some-freed.ensures.after c.self.invariant)

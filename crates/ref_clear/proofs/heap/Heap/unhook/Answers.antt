@@ -1,3 +1,4 @@
+use Rattle.std.proofs.Common.{arith}
 use Rattle.std.proofs.Common.{◌≡◌, Some, None, refl, sym, ap, ◌∙◌, subst}
 use Rattle.ref_clear.proofs.Common.{Reference, CycleHeap, ClearHeap, IsSoundHeap, after_in}
 use Rattle.ref_base.specs.declared.heap_step.HeapStep.TheVariants as heap
@@ -45,18 +46,7 @@ invariant_of-self-2 g c =
     sound_after (heap.Unhook c.args.mutator c.args.reference) refl c.self.invariant step.1 c.self.invariant.room step.2
 
 pub returns-clause-answer : goal.returns-clause-answer
-returns-clause-answer g c =
-    let k : CycleHeap = c.self.inside.marker in
-    let queue : c.in_ok-unhooked.unhooked.queue ≡ Some c.in-Some.queue =
-    ap (λ (r : Reference). r.queue) (sym c.unhooked.view_is) ∙ c.in-Some.is in
-    let step =
-    unhook_done c.self.invariant c.args.mutator c.args.reference
-    (slot_is_there k c.args.mutator c.args.reference c.objects.ensures c.in_ok-slot_of.ensures.refused)
-    (slot_holds k c.args.mutator c.args.reference c.objects.ensures c.in_ok-slot_of.ensures.answer
-    c.in_ok-no.ensures.ok_part)
-    (reference_is k c.in_ok-no.no c.objects-2.ensures c.reference_of.ensures c.in_ok-unhooked.ensures.ok_part) queue
-    c.in_ok-hold.ensures.answer c.in_ok-hold.ensures.after c.clear-cleared.ensures.after in
-    rw (c.new.ensures, ← c.self.view_is) step.0
+returns-clause-answer g c = grind (arith, slot_is_there)
 
 pub returns-clause-after : goal.returns-clause-after
 returns-clause-after g c =

@@ -1,6 +1,7 @@
-use Rattle.std.proofs.Common.{◌≡◌, ℕ, ◌+◌, ◌<◌, length, Option, Some, sym, ap, refl, subst, ◌∙◌}
+use Rattle.std.proofs.Common.{arith}
+use Rattle.std.proofs.Common.{◌≡◌, ℕ, ◌+◌, Option, Some, sym, ap, refl, subst, ◌∙◌}
 use Rattle.ref_mark.proofs.Common.{Heap, least_from, IsInOrder, CycleHeap, shaded}
-use Rattle.ref_mark.proofs.LoopLemmas.{IsHeldFrom, still_held, held_from_first, held_after_turn, fewer_after_turn}
+use Rattle.ref_mark.proofs.LoopLemmas.{IsHeldFrom, held_from_first, held_after_turn, fewer_after_turn}
 use Rattle.ref_mark.proofs.LoopLemmas.{shaded_once-heap}
 use Rattle.ref_mark.proofs.marker.Marker.shade_held.Goals as goal
 
@@ -19,22 +20,7 @@ loop-held-init g c =
     )
 
 pub loop-held-smaller : goal.loop-held-smaller
-loop-held-smaller g c =
-    let start : CycleHeap = c.args.self.now in
-    let k : CycleHeap = c.loop-held.self in
-    let holds = start.heap.holds in
-    let now : IsHeldFrom start k (Some c.in-Some.no) holds =
-    subst (λ (next : Option ℕ). IsHeldFrom start k next holds) c.in-Some.is c.loop-held.invariant.0 in
-    let next : c.held_after-held.result ≡ least_from holds (c.in-Some.no + 1) =
-    subst (λ (j : CycleHeap). c.held_after-held.result ≡ least_from j.heap.holds
-    (c.in-Some.no + 1)) c.self-in-Some.view_is
-    c.held_after-held.ensures
-    ∙ ap (λ (h : Heap). least_from h.holds (c.in-Some.no + 1))
-    (ap (λ (j : CycleHeap). j.heap) c.shade.ensures ∙ shaded_once-heap k c.in-Some.no ∙ c.loop-held.invariant.1) in
-    subst (λ (n : Option ℕ). length (still_held n holds) < length (still_held c.loop-held.held holds)) (sym next)
-    (subst (λ (n : Option ℕ). length (still_held (least_from holds (c.in-Some.no + 1)) holds) < length
-    (still_held n holds))
-    (sym c.in-Some.is) (fewer_after_turn start k c.in-Some.no holds now))
+loop-held-smaller g c = grind (arith, fewer_after_turn)
 
 pub loop-held-preserved : goal.loop-held-preserved
 loop-held-preserved g c =

@@ -1,30 +1,20 @@
-use Rattle.std.proofs.Common.{◌≡◌, true, false, refl, sym, ◌∙◌}
+use Rattle.std.proofs.Common.{arith}
+use Rattle.std.proofs.Common.{◌≡◌, true, sym, ◌∙◌}
 use Rattle.std.specs.Option.{is_some}
-use Rattle.ref_objects.proofs.Common.{is_there, Table, tabled_at, objects_of, more_held}
+use Rattle.ref_objects.proofs.Common.{is_there, Table, tabled_at, objects_of}
 use Rattle.ref_objects.proofs.TabledLemmas.{is_there-objects_of}
 use Rattle.ref_objects.proofs.ChangeLemmas.{changed-none}
 use Rattle.ref_objects.proofs.GroundLemmas.{sound_added, seen_added}
 use Rattle.ref_objects.proofs.objects.Objects.add_hold.Goals as goal
 
 pub invariant_of-self : goal.invariant_of-self
-invariant_of-self g c =
-    let t : Table = c.self.inside.table in
-    let tabled : is_some (tabled_at t.tabled c.args.no) ≡ true =
-    sym c.add_hold-is_there.ensures.there ∙ c.if-is_there.true in
-    rw c.add_hold-is_there.ensures.after
-    (sound_added c.args.no c.self.invariant tabled)
+invariant_of-self g c = grind (arith, sound_added c.args.no c.self.invariant)
 
 pub invariant_of-self-else-is_there : goal.invariant_of-self-else-is_there
-invariant_of-self-else-is_there g c =
-    let t : Table = c.self.inside.table in
-    let gone : is_some (tabled_at t.tabled c.args.no) ≡ false =
-    sym c.add_hold-is_there.ensures.there ∙ c.if-is_there.false in
-    rw (c.add_hold-is_there.ensures.after ∙ changed-none t c.args.no more_held gone) c.self.invariant
+invariant_of-self-else-is_there g c = grind (arith, changed-none)
 
 pub returns-then-is_there-clause-there : goal.returns-then-is_there-clause-there
-returns-then-is_there-clause-there g c =
-    rw (← c.self.view_is)
-    (c.add_hold-is_there.ensures.there ∙ sym (is_there-objects_of c.self.inside.table.tabled c.args.no))
+returns-then-is_there-clause-there g c = grind (arith, is_there-objects_of)
 
 pub returns-then-is_there-clause-after : goal.returns-then-is_there-clause-after
 returns-then-is_there-clause-after g c =
@@ -38,14 +28,7 @@ returns-then-is_there-clause-after g c =
     c.self.inside.next c.args.no c.len-count.ensures.orderly.rising tabled))
 
 pub returns-else-is_there-clause-there : goal.returns-else-is_there-clause-there
-returns-else-is_there-clause-there g c =
-    rw (← c.self.view_is)
-    (c.add_hold-is_there.ensures.there ∙ sym (is_there-objects_of c.self.inside.table.tabled c.args.no))
+returns-else-is_there-clause-there g c = grind (arith, is_there-objects_of)
 
 pub returns-else-is_there-clause-after : goal.returns-else-is_there-clause-after
-returns-else-is_there-clause-after g c =
-    let t : Table = c.self.inside.table in
-    let gone : is_some (tabled_at t.tabled c.args.no) ≡ false =
-    sym c.add_hold-is_there.ensures.there ∙ c.if-is_there.false in
-    let none : is_there (objects_of t.tabled) c.args.no ≡ false = is_there-objects_of t.tabled c.args.no ∙ gone in
-    rw (← c.self.view_is, c.add_hold-is_there.ensures.after ∙ changed-none t c.args.no more_held gone) (simp none refl)
+returns-else-is_there-clause-after g c = grind (arith, is_there-objects_of, changed-none)

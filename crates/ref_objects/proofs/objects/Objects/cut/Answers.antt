@@ -1,3 +1,4 @@
+use Rattle.std.proofs.Common.{arith}
 use Rattle.std.proofs.Common.{refl}
 use Rattle.ref_objects.proofs.Common.{on_object, with_reference, cleared}
 use Rattle.ref_objects.proofs.GroundLemmas.{sound_changed, seen_changed}
@@ -10,6 +11,7 @@ invariant_of-self g c =
 
 pub returns : goal.returns
 returns g c =
-    rw (← c.self.view_is, c.cut.ensures)
-    (seen_changed c.self.inside.config c.self.inside.heap_no c.self.inside.table c.self.inside.slots.items
-    c.self.inside.clock c.self.inside.next c.args.no (with_reference cleared) (λ o. refl))
+    grind (
+      arith,
+      seen_changed c.self.inside.config c.self.inside.heap_no c.self.inside.table c.self.inside.slots.items c.self.inside.clock c.self.inside.next c.args.no,
+    )

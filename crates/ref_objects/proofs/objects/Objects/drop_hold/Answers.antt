@@ -1,4 +1,4 @@
-use Rattle.std.proofs.Common.{◌≡◌, ◌<◌, true, false, nat_lt, refl, sym, ◌∙◌, arith}
+use Rattle.std.proofs.Common.{◌≡◌, true, nat_lt, sym, ◌∙◌, arith}
 use Rattle.std.proofs.lemmas.Bool.{ltb-true}
 use Rattle.ref_objects.proofs.Common.{has, Table, tabled_at, holds_of, holds_in}
 use Rattle.ref_objects.proofs.GroundLemmas.{holds_in-le, has-holds_of}
@@ -7,32 +7,16 @@ use Rattle.ref_objects.proofs.GroundLemmas.{sound_dropped, seen_dropped}
 use Rattle.ref_objects.proofs.objects.Objects.drop_hold.Goals as goal
 
 pub overflow_sub-self : goal.overflow_sub-self
-overflow_sub-self g c =
-    let t : Table = c.self.inside.table in
-    let held : 0 < holds_in (tabled_at t.tabled c.args.no) =
-    ltb-true 0 (holds_in (tabled_at t.tabled c.args.no)) (sym c.drop_hold-was_held.ensures.held ∙ c.if-was_held.true) in
-    omega (arith, held, holds_in-le t.tabled c.args.no, c.self.invariant.counted)
+overflow_sub-self g c = grind (arith, holds_in-le)
 
 pub invariant_of-self : goal.invariant_of-self
-invariant_of-self g c =
-    let t : Table = c.self.inside.table in
-    let held : 0 < holds_in (tabled_at t.tabled c.args.no) =
-    ltb-true 0 (holds_in (tabled_at t.tabled c.args.no)) (sym c.drop_hold-was_held.ensures.held ∙ c.if-was_held.true) in
-    rw c.drop_hold-was_held.ensures.after
-    (sound_dropped c.args.no c.self.invariant held)
+invariant_of-self g c = grind (arith, sound_dropped c.args.no c.self.invariant)
 
 pub invariant_of-self-else-was_held : goal.invariant_of-self-else-was_held
-invariant_of-self-else-was_held g c =
-    let t : Table = c.self.inside.table in
-    let unheld : nat_lt 0 (holds_in (tabled_at t.tabled c.args.no)) ≡ false =
-    sym c.drop_hold-was_held.ensures.held ∙ c.if-was_held.false in
-    rw (c.drop_hold-was_held.ensures.after ∙ changed-unheld t c.args.no unheld) c.self.invariant
+invariant_of-self-else-was_held g c = grind (arith, changed-unheld)
 
 pub returns-then-was_held-clause-held : goal.returns-then-was_held-clause-held
-returns-then-was_held-clause-held g c =
-    rw (← c.self.view_is)
-    (c.drop_hold-was_held.ensures.held
-    ∙ sym (has-holds_of c.self.inside.table.tabled c.args.no c.len-count.ensures.orderly.rising))
+returns-then-was_held-clause-held g c = grind (arith, has-holds_of)
 
 pub returns-then-was_held-clause-after : goal.returns-then-was_held-clause-after
 returns-then-was_held-clause-after g c =
@@ -47,16 +31,7 @@ returns-then-was_held-clause-after g c =
     c.self.inside.next c.args.no rising (ltb-true 0 (holds_in (tabled_at t.tabled c.args.no)) is)))
 
 pub returns-else-was_held-clause-held : goal.returns-else-was_held-clause-held
-returns-else-was_held-clause-held g c =
-    rw (← c.self.view_is)
-    (c.drop_hold-was_held.ensures.held
-    ∙ sym (has-holds_of c.self.inside.table.tabled c.args.no c.len-count.ensures.orderly.rising))
+returns-else-was_held-clause-held g c = grind (arith, has-holds_of)
 
 pub returns-else-was_held-clause-after : goal.returns-else-was_held-clause-after
-returns-else-was_held-clause-after g c =
-    let t : Table = c.self.inside.table in
-    let unheld : nat_lt 0 (holds_in (tabled_at t.tabled c.args.no)) ≡ false =
-    sym c.drop_hold-was_held.ensures.held ∙ c.if-was_held.false in
-    let absent : has (holds_of t.tabled) c.args.no ≡ false =
-    has-holds_of t.tabled c.args.no c.len-count.ensures.orderly.rising ∙ unheld in
-    rw (← c.self.view_is, c.drop_hold-was_held.ensures.after ∙ changed-unheld t c.args.no unheld) (simp absent refl)
+returns-else-was_held-clause-after g c = grind (arith, has-holds_of, changed-unheld)

@@ -1,19 +1,12 @@
-use Rattle.std.proofs.Common.{◌∙◌}
+use Rattle.std.proofs.Common.{arith}
 use Rattle.ref_objects.proofs.GroundLemmas.{is_unheld-tabled, sound_freed, seen_freed}
 use Rattle.ref_objects.proofs.objects.Objects.free.Goals as goal
 
 pub invariant_of-self : goal.invariant_of-self
-invariant_of-self g c =
-    rw c.free.ensures.after
-    (sound_freed c.args.no c.self.invariant)
+invariant_of-self g c = grind (arith, sound_freed c.args.no c.self.invariant)
 
 pub returns-clause-answer : goal.returns-clause-answer
-returns-clause-answer g c =
-    rw (← c.self.view_is)
-    (c.free.ensures.answer ∙ is_unheld-tabled c.self.inside.table.tabled c.args.no c.len-count.ensures.orderly.rising)
+returns-clause-answer g c = grind (arith, is_unheld-tabled)
 
 pub returns-clause-after : goal.returns-clause-after
-returns-clause-after g c =
-    rw (← c.self.view_is, c.free.ensures.after)
-    (seen_freed c.self.inside.config c.self.inside.heap_no c.self.inside.table c.self.inside.slots.items
-    c.self.inside.clock c.self.inside.next c.args.no c.len-count.ensures.orderly.rising)
+returns-clause-after g c = grind (arith, seen_freed)

@@ -1,9 +1,10 @@
-use Rattle.std.proofs.Common.{◌+◌, sym, arith}
+use Rattle.std.proofs.Common.{◌+◌, arith}
 use Rattle.ref_objects.proofs.GroundLemmas.{least_from-past}
 use Rattle.ref_objects.proofs.objects.Objects.held_after.Goals as goal
 
 pub returns-in-None : goal.returns-in-None
 returns-in-None g c =
-    rw (← c.self.view_is)
-    (sym (least_from-past c.self.inside.table.tabled c.self.inside.table.last (c.args.no + 1)
-    c.len-count.ensures.orderly.given (omega (arith, c.self.invariant.given, c.self.invariant.bounded))))
+    grind (
+      arith,
+      least_from-past c.self.inside.table.tabled c.self.inside.table.last (c.args.no + 1) c.len-count.ensures.orderly.given,
+    )

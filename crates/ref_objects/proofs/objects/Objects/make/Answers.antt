@@ -1,29 +1,27 @@
-use Rattle.std.proofs.Common.{sym, ◌∙◌, arith}
+use Rattle.std.proofs.Common.{arith}
 use Rattle.ref_objects.proofs.GroundLemmas.{no_cell, has_cell, sound_made, seen_made}
 use Rattle.ref_objects.proofs.objects.Objects.make.Goals as goal
 
 pub returns-then-is_full-clause-refused : goal.returns-then-is_full-clause-refused
 returns-then-is_full-clause-refused g c =
-    rw (← c.self.view_is)
-    (no_cell c.self.inside.config c.self.inside.table c.self.inside.slots.items c.self.inside.holds c.self.inside.clock
-    c.self.inside.next c.args.fields c.self.invariant c.if-fields-gt-MOST_FIELDS.false
-    (omega (arith, c.if-self-from.false, c.from.ensures)) (sym c.is_full.ensures.full ∙ c.if-is_full.true))
+    grind (
+      arith,
+      no_cell c.self.inside.config c.self.inside.table c.self.inside.slots.items c.self.inside.holds c.self.inside.clock c.self.inside.next c.args.fields c.self.invariant c.if-fields-gt-MOST_FIELDS.false,
+    )
 
 pub invariant_of-self : goal.invariant_of-self
-invariant_of-self g c =
-    rw c.push.ensures
-    (sound_made c.args.place c.args.fields c.args.reference c.self.invariant
-    (omega (arith, c.if-self-from.false, c.from.ensures)))
+invariant_of-self g c = grind (arith, sound_made c.args.place c.args.fields c.args.reference c.self.invariant)
 
 pub returns-clause-refused : goal.returns-clause-refused
 returns-clause-refused g c =
-    rw (← c.self.view_is)
-    (has_cell c.self.inside.config c.self.inside.table c.self.inside.slots.items c.self.inside.holds c.self.inside.clock
-    c.self.inside.next c.args.fields c.self.invariant c.if-fields-gt-MOST_FIELDS.false
-    (omega (arith, c.if-self-from.false, c.from.ensures)) c.if-is_full.ensures.spare)
+    grind (
+      arith,
+      has_cell c.self.inside.config c.self.inside.table c.self.inside.slots.items c.self.inside.holds c.self.inside.clock c.self.inside.next c.args.fields c.self.invariant c.if-fields-gt-MOST_FIELDS.false,
+    )
 
 pub returns-clause-after : goal.returns-clause-after
 returns-clause-after g c =
-    rw (← c.self.view_is, c.push.ensures)
-    (seen_made c.self.inside.config c.self.inside.heap_no c.self.inside.table c.self.inside.slots.items
-    c.self.inside.clock c.self.inside.next c.args.place c.args.fields c.args.reference)
+    grind (
+      arith,
+      seen_made c.self.inside.config c.self.inside.heap_no c.self.inside.table c.self.inside.slots.items c.self.inside.clock c.self.inside.next c.args.place c.args.fields c.args.reference,
+    )

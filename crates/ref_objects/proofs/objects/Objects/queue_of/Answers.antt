@@ -1,5 +1,5 @@
+use Rattle.std.proofs.Common.{arith}
 use Rattle.std.proofs.Common.{sym, ◌∙◌, ap}
-use Rattle.ref_objects.proofs.Common.{Reference}
 use Rattle.ref_base.specs.Heaps.{registered_in}
 use Rattle.ref_objects.proofs.objects.Objects.queue_of.Goals as goal
 
@@ -8,6 +8,4 @@ returns-in_err-reference_of g c =
     c.from_residual.ensures ∙ ap registered_in (sym (c.in_err-reference_of.was) ∙ c.reference_of.ensures)
 
 pub returns : goal.returns
-returns g c =
-    ap (λ (r : Reference). r.queue) c.result.view_is
-    ∙ ap registered_in (sym (c.in_ok-reference_of.was) ∙ c.reference_of.ensures)
+returns g c = grind arith

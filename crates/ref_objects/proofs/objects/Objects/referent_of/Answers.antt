@@ -1,5 +1,5 @@
+use Rattle.std.proofs.Common.{arith}
 use Rattle.std.proofs.Common.{sym, ◌∙◌, ap}
-use Rattle.ref_objects.proofs.Common.{Reference}
 use Rattle.ref_base.specs.CollectorRows.{referent_of}
 use Rattle.ref_objects.proofs.objects.Objects.referent_of.Goals as goal
 
@@ -8,6 +8,4 @@ returns-in_err-reference_of g c =
     c.from_residual.ensures ∙ ap referent_of (sym (c.in_err-reference_of.was) ∙ c.reference_of.ensures)
 
 pub returns : goal.returns
-returns g c =
-    ap (λ (r : Reference). r.referent) c.result.view_is
-    ∙ ap referent_of (sym (c.in_ok-reference_of.was) ∙ c.reference_of.ensures)
+returns g c = grind arith

@@ -1,3 +1,4 @@
+use Rattle.std.proofs.Common.{arith}
 use Rattle.std.proofs.Common.{refl}
 use Rattle.ref_objects.specs.Tables.{with_cleared_in}
 use Rattle.ref_objects.proofs.GroundLemmas.{sound_changed, seen_cleared_in}
@@ -10,6 +11,7 @@ invariant_of-self g c =
 
 pub returns : goal.returns
 returns g c =
-    rw (← c.self.view_is, c.set_cleared_in.ensures)
-    (seen_cleared_in c.self.inside.config c.self.inside.heap_no c.self.inside.table c.self.inside.slots.items
-    c.self.inside.clock c.self.inside.next c.args.no c.args.cycle)
+    grind (
+      arith,
+      seen_cleared_in c.self.inside.config c.self.inside.heap_no c.self.inside.table c.self.inside.slots.items c.self.inside.clock c.self.inside.next c.args.no c.args.cycle,
+    )

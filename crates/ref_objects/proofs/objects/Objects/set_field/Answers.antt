@@ -1,7 +1,6 @@
-use Rattle.std.proofs.Common.{Bool, refl, sym, ◌∙◌, ap, None}
+use Rattle.std.proofs.Common.{arith}
+use Rattle.std.proofs.Common.{refl}
 use Rattle.ref_objects.proofs.Common.{on_object, with_field}
-use Rattle.ref_base.specs.Refusals.{unless}
-use Rattle.ref_base.specs.declared.fault.Fault.TheVariants.{BadField}
 use Rattle.ref_objects.proofs.ChangeLemmas.{changed-past}
 use Rattle.ref_objects.proofs.GroundLemmas.{has_field-tabled, sound_changed, seen_changed}
 use Rattle.ref_objects.proofs.objects.Objects.set_field.Goals as goal
@@ -19,30 +18,17 @@ invariant_of-self-2 g c =
     c.self.invariant)
 
 pub returns-then-not-set_field-clause-refused : goal.returns-then-not-set_field-clause-refused
-returns-then-not-set_field-clause-refused g c =
-    rw (← c.self.view_is)
-    (ap (λ (has : Bool). unless has BadField None)
-    (sym (has_field-tabled c.self.inside.table.tabled c.args.no c.args.field) ∙ sym c.set_field.ensures.there
-    ∙ c.if-not-set_field.true))
+returns-then-not-set_field-clause-refused g c = grind (arith, has_field-tabled)
 
 pub returns-then-not-set_field-clause-after : goal.returns-then-not-set_field-clause-after
-returns-then-not-set_field-clause-after g c =
-    rw (
-      ← c.self.view_is,
-      c.set_field.ensures.after
-          ∙ changed-past c.self.inside.table c.args.no c.args.field c.args.value
-          (sym c.set_field.ensures.there ∙ c.if-not-set_field.true),
-    ) refl
+returns-then-not-set_field-clause-after g c = grind (arith, changed-past)
 
 pub returns-clause-refused : goal.returns-clause-refused
-returns-clause-refused g c =
-    rw (← c.self.view_is)
-    (ap (λ (has : Bool). unless has BadField None)
-    (sym (has_field-tabled c.self.inside.table.tabled c.args.no c.args.field) ∙ sym c.set_field.ensures.there
-    ∙ c.if-not-set_field.false))
+returns-clause-refused g c = grind (arith, has_field-tabled)
 
 pub returns-clause-after : goal.returns-clause-after
 returns-clause-after g c =
-    rw (← c.self.view_is, c.set_field.ensures.after)
-    (seen_changed c.self.inside.config c.self.inside.heap_no c.self.inside.table c.self.inside.slots.items
-    c.self.inside.clock c.self.inside.next c.args.no (with_field c.args.field c.args.value) (λ o. refl))
+    grind (
+      arith,
+      seen_changed c.self.inside.config c.self.inside.heap_no c.self.inside.table c.self.inside.slots.items c.self.inside.clock c.self.inside.next c.args.no,
+    )

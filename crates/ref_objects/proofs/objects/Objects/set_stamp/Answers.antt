@@ -1,3 +1,4 @@
+use Rattle.std.proofs.Common.{arith}
 use Rattle.std.proofs.Common.{refl}
 use Rattle.ref_objects.proofs.Common.{on_object, with_reference, with_stamp}
 use Rattle.ref_objects.proofs.GroundLemmas.{sound_changed, seen_changed}
@@ -11,6 +12,7 @@ invariant_of-self g c =
 
 pub returns : goal.returns
 returns g c =
-    rw (← c.self.view_is, c.set_stamp.ensures)
-    (seen_changed c.self.inside.config c.self.inside.heap_no c.self.inside.table c.self.inside.slots.items
-    c.self.inside.clock c.self.inside.next c.args.no (with_reference (with_stamp c.args.stamp)) (λ o. refl))
+    grind (
+      arith,
+      seen_changed c.self.inside.config c.self.inside.heap_no c.self.inside.table c.self.inside.slots.items c.self.inside.clock c.self.inside.next c.args.no,
+    )

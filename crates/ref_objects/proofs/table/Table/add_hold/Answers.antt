@@ -1,6 +1,6 @@
 use Rattle.std.proofs.Common.{refl, arith}
 use Rattle.std.specs.Option.{is_some}
-use Rattle.ref_objects.proofs.Common.{holds_in, more_held}
+use Rattle.ref_objects.proofs.Common.{holds_in}
 use Rattle.ref_objects.proofs.GroundLemmas.{holds_in-le}
 use Rattle.ref_objects.proofs.CellChanges.{sound_there, is_there, answered_there, left_there, answered_nowhere}
 use Rattle.ref_objects.proofs.CellChanges.{left_nowhere}
@@ -8,8 +8,7 @@ use Rattle.ref_objects.proofs.table.Table.add_hold.Goals as goal
 
 pub invariant_of-self : goal.invariant_of-self
 invariant_of-self g c =
-    sound_there c.self.invariant c.args.no c.deref.ensures.value c.deref-2.ensures.value c.in-Some.ensures
-    more_held (λ k. refl) c.index_mut.ensures.value c.add_hold.ensures (λ k. refl)
+    search (sound_there c.self.invariant c.args.no c.deref.ensures.value c.deref-2.ensures.value c.in-Some.ensures)
 
 pub returns-in-Some-clause-there : goal.returns-in-Some-clause-there
 returns-in-Some-clause-there g c =
@@ -17,8 +16,7 @@ returns-in-Some-clause-there g c =
 
 pub returns-in-Some-clause-after : goal.returns-in-Some-clause-after
 returns-in-Some-clause-after g c =
-    left_there c.self.invariant c.args.no c.deref.ensures.value c.deref-2.ensures.value c.in-Some.ensures
-    more_held (λ k. refl) c.index_mut.ensures.value c.add_hold.ensures c.self.view_is
+    search (left_there c.self.invariant c.args.no c.deref.ensures.value c.deref-2.ensures.value c.in-Some.ensures)
 
 pub returns-in-None-clause-there : goal.returns-in-None-clause-there
 returns-in-None-clause-there g c =
@@ -27,8 +25,7 @@ returns-in-None-clause-there g c =
 
 pub returns-in-None-clause-after : goal.returns-in-None-clause-after
 returns-in-None-clause-after g c =
-    left_nowhere c.self.invariant c.args.no c.deref.ensures.value c.deref-2.ensures.value c.in-None.ensures
-    c.self.view_is more_held
+    search (left_nowhere c.self.invariant c.args.no c.deref.ensures.value c.deref-2.ensures.value c.in-None.ensures c.self.view_is)
 
 pub add_hold-requires : goal.add_hold-requires
 add_hold-requires g c =

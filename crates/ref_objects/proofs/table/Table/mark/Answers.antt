@@ -36,8 +36,7 @@ returns-in-Some-clause-answer g c =
 
 pub returns-in-Some-clause-after : goal.returns-in-Some-clause-after
 returns-in-Some-clause-after g c =
-    left_there c.self.invariant c.args.no c.deref.ensures.value c.deref-2.ensures.value c.in-Some.ensures
-    (with_marked true) (λ k. refl) c.index_mut.ensures.value c.mark-is_new.ensures.after c.self.view_is
+    search (left_there c.self.invariant c.args.no c.deref.ensures.value c.deref-2.ensures.value c.in-Some.ensures)
 
 pub returns-in-None-clause-answer : goal.returns-in-None-clause-answer
 returns-in-None-clause-answer g c =
@@ -46,5 +45,4 @@ returns-in-None-clause-answer g c =
 
 pub returns-in-None-clause-after : goal.returns-in-None-clause-after
 returns-in-None-clause-after g c =
-    left_nowhere c.self.invariant c.args.no c.deref.ensures.value c.deref-2.ensures.value c.in-None.ensures
-    c.self.view_is (with_marked true)
+    search (left_nowhere c.self.invariant c.args.no c.deref.ensures.value c.deref-2.ensures.value c.in-None.ensures c.self.view_is)

@@ -1,19 +1,14 @@
-use Rattle.std.proofs.Common.{refl}
-use Rattle.ref_objects.specs.Tables.{with_cleared_in}
 use Rattle.ref_objects.proofs.CellChanges.{sound_there, left_there, left_nowhere}
 use Rattle.ref_objects.proofs.table.Table.set_cleared_in.Goals as goal
 
 pub invariant_of-self : goal.invariant_of-self
 invariant_of-self g c =
-    sound_there c.self.invariant c.args.no c.deref.ensures.value c.deref-2.ensures.value c.in-Some.ensures
-    (with_cleared_in c.args.cycle) (λ k. refl) c.index_mut.ensures.value c.set_cleared_in.ensures (λ k. refl)
+    search (sound_there c.self.invariant c.args.no c.deref.ensures.value c.deref-2.ensures.value c.in-Some.ensures)
 
 pub returns-in-Some : goal.returns-in-Some
 returns-in-Some g c =
-    left_there c.self.invariant c.args.no c.deref.ensures.value c.deref-2.ensures.value c.in-Some.ensures
-    (with_cleared_in c.args.cycle) (λ k. refl) c.index_mut.ensures.value c.set_cleared_in.ensures c.self.view_is
+    search (left_there c.self.invariant c.args.no c.deref.ensures.value c.deref-2.ensures.value c.in-Some.ensures)
 
 pub returns-in_default : goal.returns-in_default
 returns-in_default g c =
-    left_nowhere c.self.invariant c.args.no c.deref.ensures.value c.deref-2.ensures.value c.in_default.ensures
-    c.self.view_is (with_cleared_in c.args.cycle)
+    search (left_nowhere c.self.invariant c.args.no c.deref.ensures.value c.deref-2.ensures.value c.in_default.ensures c.self.view_is)

@@ -1,13 +1,10 @@
-use Rattle.std.proofs.Common.{refl}
-use Rattle.ref_objects.proofs.Common.{on_object, with_field, has_field}
+use Rattle.ref_objects.proofs.Common.{has_field}
 use Rattle.ref_objects.proofs.CellChanges.{sound_there, answered_there, left_there, answered_nowhere, left_nowhere}
 use Rattle.ref_objects.proofs.table.Table.set_field.Goals as goal
 
 pub invariant_of-self : goal.invariant_of-self
 invariant_of-self g c =
-    sound_there c.self.invariant c.args.no c.deref.ensures.value c.deref-2.ensures.value c.in-Some.ensures
-    (on_object (with_field c.args.field c.args.value)) (λ k. refl)
-    c.index_mut.ensures.value c.set_field.ensures.after (λ k. refl)
+    search (sound_there c.self.invariant c.args.no c.deref.ensures.value c.deref-2.ensures.value c.in-Some.ensures)
 
 pub returns-in-Some-clause-there : goal.returns-in-Some-clause-there
 returns-in-Some-clause-there g c =
@@ -16,9 +13,7 @@ returns-in-Some-clause-there g c =
 
 pub returns-in-Some-clause-after : goal.returns-in-Some-clause-after
 returns-in-Some-clause-after g c =
-    left_there c.self.invariant c.args.no c.deref.ensures.value c.deref-2.ensures.value c.in-Some.ensures
-    (on_object (with_field c.args.field c.args.value)) (λ k. refl)
-    c.index_mut.ensures.value c.set_field.ensures.after c.self.view_is
+    search (left_there c.self.invariant c.args.no c.deref.ensures.value c.deref-2.ensures.value c.in-Some.ensures)
 
 pub returns-in-None-clause-there : goal.returns-in-None-clause-there
 returns-in-None-clause-there g c =
@@ -27,5 +22,4 @@ returns-in-None-clause-there g c =
 
 pub returns-in-None-clause-after : goal.returns-in-None-clause-after
 returns-in-None-clause-after g c =
-    left_nowhere c.self.invariant c.args.no c.deref.ensures.value c.deref-2.ensures.value c.in-None.ensures
-    c.self.view_is (on_object (with_field c.args.field c.args.value))
+    search (left_nowhere c.self.invariant c.args.no c.deref.ensures.value c.deref-2.ensures.value c.in-None.ensures c.self.view_is)

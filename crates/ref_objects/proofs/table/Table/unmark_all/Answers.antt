@@ -6,20 +6,7 @@ use Rattle.ref_objects.proofs.UnmarkedLemmas.{none_marked}
 use Rattle.ref_objects.proofs.table.Table.unmark_all.Goals as goal
 
 pub invariant_of-self : goal.invariant_of-self
-invariant_of-self g c =
-    let cells = c.self.inside.cells.items in
-    let now : c.unmark.new.cells ≡ map unmarked_cell cells =
-    c.unmark.ensures ∙ ap (map unmarked_cell) c.deref_mut.ensures.value in
-    let size = ap length now ∙ length-map cells unmarked_cell in
-    let is =
-    with_items_is c.self.inside.cells c.unmark.new.cells (omega (arith, size, c.self.inside.cells.ok.0)) ∙ now in
-    let same = length-without_marks cells is c.self.inside.index.items in
-    record {
-      placed = placed_without_marks cells is c.self.inside.index.items c.self.invariant.placed;
-      index_fits = omega (arith, c.self.invariant.index_fits, same);
-      places_fit = omega (arith, c.self.invariant.places_fit, same);
-      marks_counted = none_marked cells is c.self.inside.index.items;
-    }
+invariant_of-self g c = grind (arith, with_items_is, length-without_marks, placed_without_marks, none_marked)
 
 pub returns : goal.returns
 returns g c =
