@@ -35,23 +35,13 @@ module _ {T : Type 0} {object_of queue_of : T → ℕ} {queue : ℕ} {ns : List 
   -- what `contains` of the set answers says whether the number was ever put in
   pub was_put-contains : (x : T) {object : ℕ} {found b : Bool} → object ≡ object_of x
       → found ≡ list_any (nat_eq object) ns → found ≡ b → has (front ns xs ++ map object_of xs) (object_of x) ≡ b
-  was_put-contains x {object} of search answer =
-      ap (λ ms. has ms (object_of x)) sound.order ∙ has-list_any ns (object_of x)
-      ∙ ap (λ n. list_any (nat_eq n) ns) (sym of) ∙ sym search ∙ answer
+  was_put-contains x {object} of search answer = grind (arith, has-list_any)
 
   module _ {closed : Bool} {rest : List T} where
     -- a poll where something stands
     pub Polls-Took : {x : T} → xs ≡ x ∷ rest
         → AnswersPoll object_of (seen_queue queue ns xs closed) (Took x) (seen_queue queue ns rest closed)
-    Polls-Took {x} first = (
-      first,
-      λ j. record {
-        queue = queue;
-        taken = front-tail object_of ns xs x rest first sound.order j;
-        stands = rest;
-        closed = closed;
-      },
-    )
+    Polls-Took {x} first = grind (arith, front-tail)
 
     -- a poll of a closed queue where nothing stands
     pub Polls-Closed : length xs ≡ 0 → xs ≡ rest → closed ≡ true

@@ -1,20 +1,17 @@
 -- What the calls of a cleaner have made.
-use Rattle.std.proofs.Common.{◌≡◌, ℕ, false, Option, Some, None, Result, Ok, Err, IfOk, IfErr, inl, inr, refl, subst}
+use Rattle.std.proofs.Common.{arith}
+use Rattle.std.proofs.Common.{◌≡◌, ℕ, Option, Some, Result, Ok, Err, IfOk, IfErr, inl, inr}
 use Rattle.ref_share.proofs.Common.{NamedStep, Fault, HoldName, Reply, HeldNotice, CleanView, TakesJob, makes_phantom}
 use Rattle.ref_share.proofs.Common.{HeapView, Releases, Called}
 use Rattle.ref_base.specs.declared.reply.Reply.TheVariants as told
 use Rattle.ref_world.specs.declared.heap_machine.HeapReply.TheVariants as replies
 use Rattle.ref_share.specs.Cleanings.{HasMade, HasNotMade, Tries, HasTaken}
-use Rattle.ref_share.specs.HeapCalls.{AsksHeap, Accepted, HoldsSlot, is_refusal}
+use Rattle.ref_share.specs.HeapCalls.{AsksHeap, Accepted, HoldsSlot}
 
 -- a step whose reply tells of no refusal is accepted
 pub accepts_unless_refused : (v w : HeapView) (step : NamedStep) (reply : Reply)
     → ((fault : Fault) → reply ≡ told.Refused fault → ⊥) → Called v step (replies.Told reply) w → Accepted v step w
-accepts_unless_refused v w step reply other called = (reply, not_refusal reply other, called)
-  where
-    not_refusal : (reply : Reply) → ((fault : Fault) → reply ≡ told.Refused fault → ⊥) → is_refusal reply ≡ false
-    not_refusal (told.Refused fault) other = absurd (other fault refl)
-    not_refusal reply other = refl
+accepts_unless_refused v w step reply other called = grind arith
 
 -- a step that is asked of a heap is tried
 pub tries_of_ask : (v w : HeapView) (step : NamedStep) (result : Result Reply Fault) → AsksHeap v step result w
@@ -35,8 +32,4 @@ pub has_taken : {J : Type 0} (notice : HeldNotice) (v w : HeapView) (c d : Clean
     (object : ℕ) (job : J) (taken : Option (HoldName × J)) → held ≡ notice.hold → Releases v held (Ok tt) w
     → object ≡ notice.hold.object → taken ≡ Some (hold, job) → TakesJob c object taken d
     → HasTaken notice v c hold job w d
-has_taken notice v w c d held hold object job taken own releases same is takes = (
-  subst (λ (h : HoldName). Releases v h (Ok tt) w) own releases,
-  subst (λ (n : ℕ). TakesJob c n (Some (hold, job)) d) same
-      (subst (λ (t : Option (HoldName × _)). TakesJob c object t d) is takes),
-)
+has_taken notice v w c d held hold object job taken own releases same is takes = grind arith

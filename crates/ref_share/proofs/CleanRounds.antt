@@ -22,9 +22,7 @@ use Rattle.ref_share.specs.declared.queue_machine.QueueReply.TheVariants as gets
 all_of_one_more : {R T : Type 0} (part : R → List T) (rs : List R) (r : R)
     → all_of part (rs ++ r ∷ []) ≡ all_of part rs ++ part r
 all_of_one_more part [] r = append-nil (part r)
-all_of_one_more {T = T} part (s ∷ rs) r =
-    ap (λ (ts : List T). part s ++ ts) (all_of_one_more part rs r)
-    ∙ sym (append_assoc (part s) (all_of part rs) (part r))
+all_of_one_more {T = T} part (s ∷ rs) r = search (append_assoc, all_of_one_more part rs r)
 
 -- the polls of a round, the last of which finds its notice
 abbrev pub until_found : (polling : Polling) (notice : HeldNotice) (u w : QueueView)
@@ -37,9 +35,7 @@ until_found Once notice u w polls =
 pub took : (polling : Polling) (u w : QueueView) {answer : Result Polled ShareFault} {found : Polled}
     (notice : HeldNotice) → answer ≡ Ok found → found ≡ Took notice → PollsBy polling u (Some answer) w
     → PollsBy polling u (Some (Ok (Took notice))) w
-took polling u w notice was is polls =
-    subst (λ found. PollsBy polling u (Some (Ok found)) w) is
-    (subst (λ answer. PollsBy polling u (Some answer) w) was polls)
+took polling u w notice was is polls = grind arith
 
 -- no poll was in vain before the first round
 pub still_quiet : (J : Type 0) (polling : Polling) → IsQuiet {J = J} polling []
@@ -70,9 +66,7 @@ module _ {J : Type 0} where
 
   pub jobs_of_one_more : (rs : List (Round J)) (r : Round J)
       → jobs_run (rs ++ r ∷ []) ≡ jobs_run rs + length (job_in r.taken)
-  jobs_of_one_more rs r =
-      ap length (all_of_one_more (λ (s : Round J). job_in s.taken) rs r)
-      ∙ length-append (all_of (λ (s : Round J). job_in s.taken) rs) (job_in r.taken)
+  jobs_of_one_more rs r = search (all_of_one_more, length-append)
 
   vain_of_one_more : (rs : List (Round J)) (r : Round J)
       → polls_in_vain (rs ++ r ∷ []) ≡ polls_in_vain rs + r.empties
@@ -123,9 +117,7 @@ module _ {J : Type 0} where
 
       next_release : (u : HeapView) → Releases v1 notice.hold (Ok tt) u
           → Made v (all_of (releases_in v) rs ++ released v notice.hold ∷ []) u
-      next_release u releases =
-          made_more v v1 u (all_of (releases_in v) rs) (heap.Release notice.hold) (replies.Told told.Done)
-          gone.1 releases
+      next_release u releases = search made_more
 
       -- a round without a job
       pub gone_in_vain : CleansDead notice v1 c1 (Ok false) v2 c2

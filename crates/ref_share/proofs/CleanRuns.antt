@@ -1,24 +1,17 @@
 -- The history of a cleaner: which job stands in its table is told by its entries.
-use Rattle.std.proofs.Common.{◌≡◌, ℕ, Bool, true, false, ◌||◌, List, [], ◌∷◌, ◌++◌, Option, Some, None, Ok, Err, refl}
-use Rattle.std.proofs.Common.{sym, ap, ◌∙◌, subst, nat_eq, if◌then◌else◌}
+use Rattle.std.proofs.Common.{arith}
+use Rattle.std.proofs.Common.{◌≡◌, ℕ, true, List, [], ◌∷◌, ◌++◌, Option, Some, None, Ok, Err, refl}
+use Rattle.std.proofs.Common.{sym, ap, ◌∙◌}
 use Rattle.std.specs.Cmp.{nat_eq_equiv}
 use Rattle.ref_share.proofs.Common.{new_registry, Leads, entry, Entry, IsCleanMove}
 use Rattle.ref_queue.specs.CleanTables.{Registry, job_of}
 use Rattle.ref_turn.proofs.Logs.{leads_cut}
-use Rattle.ref_share.specs.CleanHistories.{registers_job, some_registers, job_after, job_left}
+use Rattle.ref_share.specs.CleanHistories.{some_registers, job_after, job_left}
 use Rattle.ref_share.specs.CleanSeats.{IsCleanRun}
 use Rattle.ref_share.specs.declared.clean_machine.CleanStep.{CleanStep}
 use Rattle.ref_share.specs.declared.clean_machine.CleanStep.TheVariants as steps
 use Rattle.ref_share.specs.declared.clean_machine.CleanReply.{CleanReply}
 use Rattle.ref_share.specs.declared.clean_machine.CleanReply.TheVariants as replies
-
-same_either_way : {T : Type 0} (b : Bool) (x : T) → (if b then x else x) ≡ x
-same_either_way true x = refl
-same_either_way false x = refl
-
-or_else : (b c : Bool) → (b ≡ false → c ≡ true) → (b || c) ≡ true
-or_else true c other = refl
-or_else false c other = other refl
 
 module _ {K J : Type 0} (n : ℕ) where
   -- one call leaves the job that its entry tells
@@ -35,27 +28,13 @@ module _ {K J : Type 0} (n : ℕ) where
       → Leads IsCleanMove t calls u → job_of u n ≡ job_left n (job_of t n) calls
   run_leaves t u [] run = ap (λ (r : Registry K J). job_of r n) (sym run)
   run_leaves t u (call ∷ calls) run =
-      run_leaves run.0 u calls run.2
-      ∙ ap (λ (job : Option (K × J)). job_left n job calls) (move_leaves t run.0 call.step call.reply run.1)
-
-  -- a call that registers nothing leaves none where none stood
-  none_after : (step : CleanStep K J) (reply : CleanReply K J) → registers_job n step reply ≡ false
-      → job_after n None step reply ≡ None
-  none_after (steps.Register m kept job) (replies.Registered (Ok _)) none =
-      ap (λ (b : Bool). if b then Some (kept, job) else None) none
-  none_after (steps.Register m kept job) (replies.Registered (Err refused)) none = refl
-  none_after (steps.Register m kept job) (replies.Taken taken) none = refl
-  none_after (steps.Take m) reply none = same_either_way (nat_eq m n) None
+      search (run_leaves run.0 u calls run.2, move_leaves t run.0 call.step call.reply run.1)
 
   -- a job stands after calls from a table without one only where one of them registered it
   registered_if_left : (calls : List (Entry (CleanStep K J) (CleanReply K J))) (job : K × J)
       → Some job ≡ job_left n None calls → some_registers n calls ≡ true
   registered_if_left [] job left = absurd (cc left)
-  registered_if_left (call ∷ calls) job left =
-      or_else (registers_job n call.step call.reply) (some_registers n calls)
-      (λ none. registered_if_left calls job
-      (subst (λ (stood : Option (K × J)). Some job ≡ job_left n stood calls)
-      (none_after call.step call.reply none) left))
+  registered_if_left (call ∷ calls) job left = grind (arith, registered_if_left calls job)
 
 module _ {K J : Type 0} where
   -- after every history an object's job is what its entries left
@@ -68,10 +47,7 @@ module _ {K J : Type 0} where
       (taken : Option (K × J)) (last : Registry K J)
       → IsCleanRun (front ++ entry by (steps.Take n) (replies.Taken taken) ∷ back) last
       → taken ≡ job_left n None front
-  take_gives_what_is_left front back by n taken last run =
-      let call = entry by (steps.Take n) (replies.Taken taken) in
-      let parts = leads_cut IsCleanMove front (call ∷ back) new_registry last run in
-      parts.2.1.0 ∙ job_is_left front parts.0 parts.1 n
+  take_gives_what_is_left front back by n taken last run = grind (arith, leads_cut, job_is_left)
 
   -- between two takes that gave a job stands a register
   pub registered_between : (front between back : List (Entry (CleanStep K J) (CleanReply K J))) (by later n : ℕ)

@@ -97,9 +97,7 @@ module _ (start : Option ClearHeap) where
 
   told_by_another_number : ¬ (RegistersJob 30 (table []) 0 0 1 2 (calls_of []) (Ok (record { obj = 1 }))
       (calls_of (makes ∷ holds ∷ [])) (table (registered ∷ [])))
-  told_by_another_number is =
-      let steps = ap (λ (calls : List (CleanEntry ℕ)). map (λ call. call.step) calls) is.3.2 in
-      let object : 2 ≡ is.0.object = cc in absurd (omega (arith, is.1, object))
+  told_by_another_number is = grind arith
 
   -- ---- clean
 

@@ -35,6 +35,4 @@ pub never_got : (config : Config) (number count : ℕ) (front : List HeapEntry) 
     → slot_at c.state.world.heap m s ≡ Some n
     → ¬ (IsHeapMove c (heap.Get m d s) (replies.Told (told.Object k)) e)
 never_got config number count front a b calls c n m d s k e first ends later new holds move =
-    no_get c.state e.state m d s n k holds
-    (stays_cleared config number count front a b calls c n first ends later new)
-    (move_turn c e (heap.Get m d s) (replies.Told (told.Object k)) move)
+    search (no_get, move_turn, stays_cleared config number count front a b calls c n first ends later new)

@@ -1,4 +1,5 @@
 -- What each call of a heap keeps holds after every history.
+use Rattle.std.proofs.Common.{arith}
 use Rattle.std.proofs.Common.{◌≡◌, ℕ, List, [], ◌∷◌, ◌++◌, sym, subst, Some, None}
 use Rattle.std.proofs.lemmas.List.{append-nil, append_assoc}
 use Rattle.ref_share.proofs.Common.{NamedStep, Config, Leads, told_reply, HeapReply, HeapState, IsHeapMove, HeapEntry}
@@ -24,9 +25,7 @@ module _ (Q : List HeapEntry → HeapState → Type 0)
       → Leads IsHeapMove x calls y → Q (past ++ calls) y
   goes_on past x [] y holds run =
       subst (λ cs. Q cs y) (sym (append-nil past)) (subst (λ (z : HeapState). Q past z) run holds)
-  goes_on past x (call ∷ calls) y holds run =
-      subst (λ cs. Q cs y) (append_assoc past (call ∷ []) calls)
-      (goes_on (past ++ call ∷ []) run.0 calls y (step past x call run.0 holds run.1) run.2)
+  goes_on past x (call ∷ calls) y holds run = grind (arith, append_assoc, goes_on (past ++ call ∷ []) run.0 calls y)
 
   -- and what holds at first, after every history
   pub run_holds : (config : Config) (number : ℕ) → Q [] (first_heap_state config number) → (calls : List HeapEntry)

@@ -1,20 +1,17 @@
 -- The history of a heap: what is held is what was given out and not taken back.
-use Rattle.std.proofs.Common.{◌≡◌, ℕ, ◌+◌, ◌<◌, ◌==◌, true, List, [], ◌∷◌, ◌++◌, Option, Some, None, is_some, refl, sym}
-use Rattle.std.proofs.Common.{ap, ◌∙◌, arith, inl, inr}
-use Rattle.std.proofs.lemmas.Bool.{cases_Bool, false≢true, eqb-true, eq-eqb, and_parts}
-use Rattle.ref_share.proofs.Common.{State, IsHeapAnswer, tally, NamedStep, has, heap_refusal, is_counted, has_slot}
-use Rattle.ref_share.proofs.Common.{told_notice, Config, Fault, Reply, Leads, told_reply, GivesOut, HeapReply}
+use Rattle.std.proofs.Common.{◌≡◌, ℕ, ◌+◌, ◌<◌, true, List, [], ◌∷◌, ◌++◌, Option, Some, None, is_some, refl, sym}
+use Rattle.std.proofs.Common.{ap, ◌∙◌, arith}
+use Rattle.std.proofs.lemmas.Bool.{false≢true, eq-eqb}
+use Rattle.ref_share.proofs.Common.{State, IsHeapAnswer, tally, NamedStep, has}
+use Rattle.ref_share.proofs.Common.{told_notice, Config, Fault, Reply, Leads, GivesOut, HeapReply}
 use Rattle.ref_share.proofs.Common.{HeapState, IsHeapMove, HeapEntry, IsHeapRun, first_heap_state}
 use Rattle.ref_base.specs.CollectorRows.{IsHeapRow}
 use Rattle.ref_base.specs.CountedHolds.{holds_after}
 use Rattle.ref_base.specs.Heaps.{one_more, one_fewer}
 use Rattle.ref_base.specs.Told.{told_object}
-use Rattle.ref_base.specs.declared.heap_step.HoldName.{HoldName}
 use Rattle.ref_base.specs.declared.heap_step.HeapStep.TheVariants as heap
 use Rattle.ref_base.specs.declared.reply.Reply.TheVariants as told
 use Rattle.ref_base.proofs.CountedRows.{heap_holds}
-use Rattle.ref_base.proofs.HeapTurns.{heap_kind}
-use Rattle.ref_base.proofs.RowForms.{unless_passes}
 use Rattle.ref_base.proofs.HoldCounts.{one_if, tally-first, tally-append, tally-one_more}
 use Rattle.ref_turn.proofs.Logs.{leads_cut}
 use Rattle.ref_world.specs.declared.heap_machine.HeapReply.TheVariants as replies
@@ -30,41 +27,24 @@ refused_holds hs step fault = refl
 row_holds : (a b : State) (refused : Option Fault) (step : NamedStep) (reply : Reply)
     → IsHeapAnswer a refused step reply b → b.world.heap.holds ≡ holds_after a.world.heap.holds step reply
 row_holds a b None step reply row = heap_holds a b step reply row
-row_holds a b (Some fault) step reply row =
-    ap (λ (s : State). s.world.heap.holds) row.1
-    ∙ sym (ap (λ (r : Reply). holds_after a.world.heap.holds step r) row.0
-    ∙ refused_holds a.world.heap.holds step fault)
+row_holds a b (Some fault) step reply row = search (refused_holds a.world.heap.holds step fault)
 
 -- a list without the first n that stands in it
 tally-one_fewer_there : (hs : List ℕ) (m n : ℕ) → has hs m ≡ true
     → one_if m n + tally (one_fewer hs m) n ≡ tally hs n
 tally-one_fewer_there [] m n there = absurd (false≢true there)
-tally-one_fewer_there (h ∷ hs) m n there =
-    let front = tally-first h hs n in
-    elim (cases_Bool (h == m)) [
-      | inl same ↦
-          let own : one_if h n ≡ one_if m n = ap (λ i. one_if i n) (eqb-true h m same) in
-          simp same (omega (arith, front, own))
-      | inr other ↦
-          let later = tally-one_fewer_there hs m n (simp other at there) in
-          let all = tally-first h (one_fewer hs m) n in
-          simp other (omega (arith, front, later, all))
-    ]
+tally-one_fewer_there (h ∷ hs) m n there = grind (arith, tally-one_fewer_there hs m n)
 
 no_change : (hs left : List ℕ) (n : ℕ) → left ≡ hs → tally left n + tally [] n ≡ tally [] n + tally hs n
 no_change hs left n same = ap (λ (ns : List ℕ). tally ns n + 0) same ∙ omega arith
 
 one_given : (hs left : List ℕ) (m n : ℕ) → left ≡ one_more hs m
     → tally left n + tally [] n ≡ tally (m ∷ []) n + tally hs n
-one_given hs left m n same =
-    let more = ap (λ (ns : List ℕ). tally ns n) same ∙ tally-one_more hs m n in
-    omega (arith, more, tally-first m [] n)
+one_given hs left m n same = grind (arith, tally-one_more)
 
 one_taken : (hs left : List ℕ) (m n : ℕ) → left ≡ one_fewer hs m → has hs m ≡ true
     → tally left n + tally (m ∷ []) n ≡ tally [] n + tally hs n
-one_taken hs left m n same there =
-    let fewer = ap (λ (ns : List ℕ). tally ns n) same in
-    omega (arith, fewer, tally-one_fewer_there hs m n there, tally-first m [] n)
+one_taken hs left m n same there = grind (arith, tally-one_fewer_there)
 
 -- a step that tells of no notice and of no object gives no hold
 unhook_gave_none : (hs : List ℕ) (m s : ℕ) (reply : Reply) → told_notice reply ≡ None
@@ -81,18 +61,6 @@ hold_gave_none : (hs : List ℕ) (m s : ℕ) (reply : Reply) → told_object rep
     → holds_after hs (heap.Hold m s) reply ≡ hs
 hold_gave_none hs m s (told.Object n) none = absurd (false≢true (sym (ap is_some none)))
 hold_gave_none hs m s reply none = refl
-
--- a hold that an accepted release takes back is counted, and so is that of an adopt
-released : (a : State) (hold : HoldName) → heap_refusal 0 a (heap.Release hold) ≡ None
-    → has a.world.heap.holds hold.object ≡ true
-released a hold none =
-    (and_parts _ _ (unless_passes (is_counted 0 a.world.heap hold) _ _ none).0).1
-
-adopted : (a : State) (m d : ℕ) (hold : HoldName) → heap_refusal 0 a (heap.Adopt m d hold) ≡ None
-    → has a.world.heap.holds hold.object ≡ true
-adopted a m d hold none =
-    let slot = unless_passes (has_slot a.world.heap m d) _ _ none in
-    (and_parts _ _ (unless_passes (is_counted 0 a.world.heap hold) _ _ slot.1).0).1
 
 abbrev holds_in : HeapState → List ℕ
 holds_in x = x.state.world.heap.holds
@@ -121,60 +89,28 @@ module _ (x y : HeapState) (n : ℕ) where
       no_change (holds_in x) (holds_in y) n (held ∙ hand_gave_none (holds_in x) k reply gives)
   after_told (heap.Hold m s) reply held row gives =
       no_change (holds_in x) (holds_in y) n (held ∙ hold_gave_none (holds_in x) m s reply gives)
-  after_told (heap.Adopt m d hold) (told.Object k) held row gives =
-      elim (heap_kind x.number x.state y.state (heap.Adopt m d hold) (told.Object k) row) [
-        | inl of ↦ let no = of.1 in absurd cc
-        | inr of ↦
-            one_taken (holds_in x) (holds_in y) hold.object n
-            (held ∙ ap (λ (r : Reply). holds_after (holds_in x) (heap.Adopt m d hold) r) of.1.0)
-            (adopted x.state m d (record { heap_no = 0; object = hold.object }) of.0)
-      ]
+  after_told (heap.Adopt m d hold) (told.Object k) held row gives = grind (arith, one_taken)
   after_told (heap.Adopt m d hold) reply held row gives = absurd cc
-  after_told (heap.Release hold) told.Done held row gives =
-      elim (heap_kind x.number x.state y.state (heap.Release hold) told.Done row) [
-        | inl of ↦ let no = of.1 in absurd cc
-        | inr of ↦
-            one_taken (holds_in x) (holds_in y) hold.object n held
-            (released x.state (record { heap_no = 0; object = hold.object }) of.0)
-      ]
+  after_told (heap.Release hold) told.Done held row gives = grind (arith, one_taken)
   after_told (heap.Release hold) reply held row gives = absurd cc
   after_told step reply held row gives = no_change (holds_in x) (holds_in y) n held
 
   held_move : (step : NamedStep) (reply : HeapReply) → IsHeapMove x step reply y → Balances step reply
-  held_move step (replies.Told reply) move =
-      after_told step reply (row_holds x.state y.state (heap_refusal x.number x.state step) step reply move.row)
-      move.row move.gives
-  held_move (heap.Unhook m s) (replies.Notice notice) move =
-      one_given (holds_in x) (holds_in y) notice.hold.object n
-      (row_holds x.state y.state (heap_refusal x.number x.state (heap.Unhook m s)) (heap.Unhook m s)
-      (told_reply (replies.Notice notice)) move.row)
-  held_move (heap.Hand k) (replies.Notice notice) move =
-      one_given (holds_in x) (holds_in y) notice.hold.object n
-      (row_holds x.state y.state (heap_refusal x.number x.state (heap.Hand k)) (heap.Hand k)
-      (told_reply (replies.Notice notice)) move.row)
+  held_move step (replies.Told reply) move = search (after_told, row_holds)
+  held_move (heap.Unhook m s) (replies.Notice notice) move = search (one_given, row_holds)
+  held_move (heap.Hand k) (replies.Notice notice) move = search (one_given, row_holds)
   held_move step (replies.Notice notice) move = absurd move.gives
-  held_move (heap.Hold m s) (replies.Held hold) move =
-      one_given (holds_in x) (holds_in y) hold.object n
-      (row_holds x.state y.state (heap_refusal x.number x.state (heap.Hold m s)) (heap.Hold m s)
-      (told.Object hold.object) move.row)
+  held_move (heap.Hold m s) (replies.Held hold) move = search (one_given, row_holds)
   held_move step (replies.Held hold) move = absurd move.gives
   held_move heap.EndMark (replies.Back fault hold) move = absurd move.gives
-  held_move step (replies.Back fault hold) move =
-      no_change (holds_in x) (holds_in y) n
-      (row_holds x.state y.state (heap_refusal x.number x.state step) step (told.Refused fault) move.row
-      ∙ refused_holds (holds_in x) step fault)
+  held_move step (replies.Back fault hold) move = search (no_change, row_holds)
 
 -- ---- a history
 
 pub held_run : (x y : HeapState) (calls : List HeapEntry) → Leads IsHeapMove x calls y → (n : ℕ)
     → tally (holds_in y) n + tally (spent calls) n ≡ tally (minted calls) n + tally (holds_in x) n
 held_run x y [] run n = no_change (holds_in x) (holds_in y) n (ap holds_in (sym run))
-held_run x y (call ∷ calls) run n =
-    let first = held_move x run.0 n call.step call.reply run.1 in
-    let later = held_run run.0 y calls run.2 n in
-    let out = tally-append (spent_by call.step call.reply) (spent calls) n in
-    let given = tally-append (minted_by call.step call.reply) (minted calls) n in
-    omega (arith, first, later, out, given)
+held_run x y (call ∷ calls) run n = grind (arith, held_move, tally-append, held_run run.0 y calls run.2 n)
 
 -- what is held was given out and not taken back
 pub held_is_minted : (config : Config) (number : ℕ) (calls : List HeapEntry) (last : HeapState)

@@ -1,23 +1,20 @@
 -- The history of a heap: a notice of a cycle comes after the end of that cycle's mark, which showed what it had to.
-use Rattle.std.proofs.Common.{◌≡◌, ℕ, List, [], ◌∷◌, ◌++◌, None, inl, inr, refl, sym, subst}
-use Rattle.ref_share.proofs.Common.{HeapAccepts, list_at, State, slot_at, NamedStep, heap_refusal, World, pending_of}
-use Rattle.ref_share.proofs.Common.{Cause, Own, Cycle, Config, Reply, entry, HeldNotice, as_notice, told_reply}
-use Rattle.ref_share.proofs.Common.{HeapState, IsHeapMove, HeapEntry, IsHeapRun, first_heap_state, HeapMarkEnded}
+use Rattle.std.proofs.Common.{arith}
+use Rattle.std.proofs.Common.{◌≡◌, ℕ, List, [], ◌∷◌, ◌++◌, None, inl, inr, sym, subst}
+use Rattle.ref_share.proofs.Common.{HeapAccepts, State, NamedStep, heap_refusal, World}
+use Rattle.ref_share.proofs.Common.{Cause, Own, Cycle, Config, Reply, entry, HeldNotice, told_reply}
+use Rattle.ref_share.proofs.Common.{HeapState, IsHeapMove, HeapEntry, IsHeapRun, HeapMarkEnded}
 use Rattle.ref_base.specs.Worlds.{Notice}
 use Rattle.ref_base.specs.declared.heap_step.HeapStep.TheVariants as heap
-use Rattle.ref_base.specs.declared.reply.Reply.TheVariants as told
 use Rattle.ref_base.proofs.CarryHeaps.{Anew, heap_carries}
 use Rattle.ref_base.proofs.CarryLaws.{Carries}
 use Rattle.ref_base.proofs.CarryRows.{first_carries, carries_more}
-use Rattle.ref_base.proofs.GivenNotices.{unhooked, handed_on}
 use Rattle.ref_base.proofs.MarkedTraces.{any_lasts}
-use Rattle.ref_base.proofs.PhaseLaws.{of_phase}
-use Rattle.ref_base.proofs.WaitingClears.{look_tells, Tells}
 use Rattle.ref_turn.proofs.Logs.{leads_cut}
 use Rattle.ref_world.specs.declared.heap_machine.HeapReply.TheVariants as replies
 use Rattle.ref_share.proofs.HeapReplays.{IsKnown, IsOut, call_known, first_known, shown_more}
-use Rattle.ref_share.proofs.HeapRuns.{move_turn, run_holds}
-use Rattle.ref_base.proofs.HeapTurns.{accepted, renumbered, heap_kind}
+use Rattle.ref_share.proofs.HeapRuns.{run_holds}
+use Rattle.ref_base.proofs.HeapTurns.{renumbered, heap_kind}
 
 -- where its cause is a cycle, that cycle's mark ended before, and showed this of n
 abbrev IsMarked : Config → List HeapEntry → ℕ → Cause → Type 0
@@ -37,11 +34,7 @@ marked_more config calls more n (Cycle cycle k) is = shown_more config calls mor
 
 more_marked : (config : Config) (past : List HeapEntry) (call : HeapEntry) (w : World) → AreMarked config past w
     → AreMarked config (past ++ call ∷ []) w
-more_marked config past call w marked =
-    let more : List HeapEntry = past ++ call ∷ [] in
-    carries_more (λ o. Unit {0}) (λ o. Unit {0}) (Marked config past) (Marked config more) (λ c. Unit {0})
-    (λ c. Unit {0}) w (λ o is. tt)
-    (λ notice is. marked_more config past (call ∷ []) notice.object notice.cause is) tt marked
+more_marked config past call w marked = search (carries_more, marked_more)
 
 -- what a worker clears, the mark's end of the cycle that goes on has shown
 anew : (config : Config) (past : List HeapEntry) (gone : List ℕ) (a b : State) (asked : NamedStep) (reply : Reply)
@@ -50,11 +43,7 @@ anew : (config : Config) (past : List HeapEntry) (gone : List ℕ) (a b : State)
 anew config past gone a b (heap.New m d k) reply out none row = λ is. tt
 anew config past gone a b (heap.Refer m strength d s q k) reply out none row = λ is. tt
 anew config past gone a b (heap.Begin now how) reply out none row = λ is. tt
-anew config past gone a b (heap.ClearNext k) reply out none row =
-    λ n q is there.
-    let tells : Tells a k (told.Cleared n) =
-    subst (Tells a k) is (look_tells a b k (list_at a.found k) reply refl row) in
-    out.shown (of_phase 0 a (heap.ClearNext k) none) n tells.0
+anew config past gone a b (heap.ClearNext k) reply out none row = grind arith
 anew config past gone a b asked reply out none row = tt
 
 abbrev IsShown : Config → List HeapEntry → HeapState → Type 0
@@ -84,29 +73,8 @@ run_marked config number calls last run =
 
 -- ---- what is given
 
-given_at : (config : Config) (front : List HeapEntry) (x y : HeapState) (step : NamedStep) (notice : HeldNotice)
-    → AreMarked config front x.state.world → IsHeapMove x step (replies.Notice notice) y
-    → Marked config front (as_notice notice)
-given_at config front x y (heap.Unhook m s) notice marked move =
-    let a : State = x.state in
-    let of = accepted a y.state (heap.Unhook m s) (told_reply (replies.Notice notice)) (λ fault no. absurd cc)
-    (move_turn x y (heap.Unhook m s) (replies.Notice notice) move) in
-    unhooked (λ o. Unit {0}) (Marked config front) (λ c. Unit {0}) a of.0 m s (slot_at a.world.heap m s) _
-    notice.hold.object notice.queue notice.cause (λ n q is there. tt) refl of.2
-given_at config front x y (heap.Hand k) notice marked move =
-    let a : State = x.state in
-    let of = accepted a y.state (heap.Hand k) (told_reply (replies.Notice notice)) (λ fault no. absurd cc)
-    (move_turn x y (heap.Hand k) (replies.Notice notice) move) in
-    handed_on (Marked config front) a of.0 k (pending_of a.world k) notice.hold.object notice.queue notice.cause
-    (marked.pendings k) of.2
-given_at config front x y step notice marked move = absurd move.gives
-
 pub given_after_mark : (config : Config) (number by : ℕ) (front back : List HeapEntry) (step : NamedStep)
     (notice : HeldNotice) (last : HeapState) (cycle worker : ℕ)
     → IsHeapRun config number (front ++ entry by step (replies.Notice notice) ∷ back) last
     → notice.cause ≡ Cycle cycle worker → HeapMarkEnded config front cycle notice.hold.object
-given_after_mark config number by front back step notice last cycle worker run is =
-    let call : HeapEntry = entry by step (replies.Notice notice) in
-    let parts = leads_cut IsHeapMove front (call ∷ back) (first_heap_state config number) last run in
-    subst (IsMarked config front notice.hold.object) is
-    (given_at config front parts.0 parts.2.0 step notice (run_marked config number front parts.0 parts.1).1 parts.2.1)
+given_after_mark config number by front back step notice last cycle worker run is = grind (arith, leads_cut, run_marked)

@@ -1,27 +1,24 @@
 -- The history of a heap: what a mark's end dooms, no call gives from then on.
-use Rattle.std.proofs.Common.{◌≡◌, ℕ, ◌+◌, ◌*◌, ◌==◌, Bool, true, false, List, [], ◌∷◌, ◌++◌, min, length, Option, Some}
-use Rattle.std.proofs.Common.{None, is_some, inl, inr, refl, sym, ap, ◌∙◌, subst}
+use Rattle.std.proofs.Common.{arith}
+use Rattle.std.proofs.Common.{◌≡◌, ℕ, ◌+◌, ◌*◌, true, List, [], ◌∷◌, ◌++◌, min, length, Option, Some}
+use Rattle.std.proofs.Common.{None, inl, inr, sym, ap, ◌∙◌, subst}
 use Rattle.std.specs.List.{AllByRecursion}
-use Rattle.std.proofs.lemmas.Bool.{cases_Bool, and_parts, both_ways}
 use Rattle.std.proofs.lemmas.List.{append-nil}
-use Rattle.ref_share.proofs.Common.{HeapAccepts, HandsOn, EndsMark, doomed_at, list_at, referent_of, State, slot_at}
-use Rattle.ref_share.proofs.Common.{reference_at, NamedStep, has, heap_refusal, has_slot, is_counted, Pending}
-use Rattle.ref_share.proofs.Common.{pending_of, Config, Own, Cycle, Marking, Clearing, Reply, Leads, entry, told_reply}
-use Rattle.ref_share.proofs.Common.{HeapReply, HeapState, IsHeapMove, HeapEntry, IsHeapRun, heap_replayed}
-use Rattle.ref_base.specs.CollectorRows.{GivesAnewIf, Loads, Gets, Unhooks, Holds, Scans, ClearsNext, Sweeps, field_in}
-use Rattle.ref_base.specs.CollectorRows.{looked_at, reference_of, referent_got, value_reply}
+use Rattle.ref_share.proofs.Common.{HeapAccepts, HandsOn, EndsMark, doomed_at, list_at, State, slot_at}
+use Rattle.ref_share.proofs.Common.{NamedStep, has, heap_refusal, Pending}
+use Rattle.ref_share.proofs.Common.{pending_of, Config, Own, Cycle, Reply, Leads, entry, told_reply}
+use Rattle.ref_share.proofs.Common.{HeapReply, HeapState, IsHeapMove, HeapEntry, IsHeapRun}
+use Rattle.ref_base.specs.CollectorRows.{Unhooks, Holds, Scans, ClearsNext, Sweeps}
+use Rattle.ref_base.specs.CollectorRows.{value_reply}
 use Rattle.ref_base.specs.declared.heap_step.HeapStep.TheVariants as heap
 use Rattle.ref_base.specs.declared.reply.Reply.TheVariants as told
 use Rattle.ref_base.proofs.AgreeHeaps.{gone_after}
 use Rattle.ref_base.proofs.ApartWorlds.{OfValue, IsClosed}
 use Rattle.ref_base.proofs.ClosedRows.{field_is, got_is}
 use Rattle.ref_base.proofs.AgreeRuns.{gone_next}
-use Rattle.ref_base.proofs.HeapTurns.{IsTurn, accepted, renumbered, heap_kind}
-use Rattle.ref_base.proofs.OutRuns.{idle_gone}
+use Rattle.ref_base.proofs.HeapTurns.{IsTurn, accepted, heap_kind}
 use Rattle.ref_base.proofs.HasLaws.{has-left, has-right}
-use Rattle.ref_base.proofs.OutHeaps.{off, off_is, off_same, next_out}
-use Rattle.ref_base.proofs.PhaseLaws.{of_phase}
-use Rattle.ref_base.proofs.RowForms.{unless_passes}
+use Rattle.ref_base.proofs.OutHeaps.{off, off_same, next_out}
 use Rattle.ref_world.specs.declared.heap_machine.HeapReply.TheVariants as replies
 use Rattle.ref_share.specs.HeapTraces.{named_by}
 use Rattle.ref_share.proofs.HeapReplays.{IsKnownBut, run_known, call_known_but}
@@ -38,22 +35,7 @@ module _ (V : ℕ → Type 0) where
   value_is None is = tt
   value_is (Some n) is = is
 
-  anew_is : (c b : State) (marks : Bool) (n : ℕ) (reply : Reply) → V n → GivesAnewIf marks (told.Object n) c reply b
-      → OfValue V (named_by reply)
-  anew_is c b true n reply is row = told_is (told.Object n) reply row.0 is
-  anew_is c b false n reply is row = told_is (told.Object n) reply row.0 is
-
   module _ (a b : State) (closed : IsClosed V a.world) where
-    loads : (m d : ℕ) (value : Option ℕ) (reply : Reply) → OfValue V value → Loads a m d value reply b
-        → OfValue V (named_by reply)
-    loads m d None reply is row = told_is told.Null reply row.0 tt
-    loads m d (Some n) reply is row = anew_is _ b _ n reply is row
-
-    gets : (m d s : ℕ) (value : Option ℕ) (reply : Reply) → OfValue V value → Gets a m d s value reply b
-        → OfValue V (named_by reply)
-    gets m d s None reply is row = told_is told.Null reply row.0 tt
-    gets m d s (Some n) reply is row = anew_is _ b _ n reply is row
-
     unhooks : (m s : ℕ) (held queue : Option ℕ) (reply : Reply) → OfValue V held → Unhooks a m s held queue reply b
         → OfValue V (named_by reply)
     unhooks m s None queue reply is row = told_is told.Nothing reply row.0 tt
@@ -70,15 +52,7 @@ module _ (V : ℕ → Type 0) where
 
     looks : (k : ℕ) (found : List ℕ) (reply : Reply) → ClearsNext a k found reply b → OfValue V (named_by reply)
     looks k [] reply row = told_is told.Nothing reply row.0 tt
-    looks k (n ∷ rest) reply row =
-        told_is (looked_at a k n) reply row.0
-        (elim (cases_Bool (has a.cleared n)) [
-          | inl clears ↦ simp clears tt
-          | inr other ↦ elim (cases_Bool (is_some (referent_of (reference_at a.world.heap n)))) [
-            | inl some ↦ simp (other, some) tt
-            | inr none ↦ simp (other, none) tt
-          ]
-        ])
+    looks k (n ∷ rest) reply row = grind arith
 
     hands_on : (k : ℕ) (ps : List Pending) (reply : Reply) → AllByRecursion (λ p. V p.object) ps
         → HandsOn a k ps reply b → OfValue V (named_by reply)
@@ -97,24 +71,14 @@ module _ (V : ℕ → Type 0) where
         → HeapAccepts a step reply b → OfValue V (named_by reply)
     named_is (heap.New m d k) reply next none row = told_is (told.Object a.next) reply row.0 next
     named_is (heap.Refer m strength d s q k) reply next none row = told_is (told.Object a.next) reply row.0 next
-    named_is (heap.Load m d s i) reply next none row =
-        loads m d (field_in a.world.heap (slot_at a.world.heap m s) i) reply
-        (field_is V a.world (slot_at a.world.heap m s) i _ (slot_is m s) closed refl) row
-    named_is (heap.Copy m d s) reply next none row =
-        told_is (value_reply (slot_at a.world.heap m s)) reply row.0
-        (value_is (slot_at a.world.heap m s) (slot_is m s))
-    named_is (heap.Get m d s) reply next none row =
-        gets m d s (referent_got (reference_of a.world.heap (slot_at a.world.heap m s))) reply
-        (got_is V a.world (slot_at a.world.heap m s) _ (slot_is m s) closed refl) row
+    named_is (heap.Load m d s i) reply next none row = grind (arith, field_is)
+    named_is (heap.Copy m d s) reply next none row = search (told_is, value_is, slot_is)
+    named_is (heap.Get m d s) reply next none row = grind (arith, got_is)
     named_is (heap.RefersTo m s v) reply next none row = told_is (told.Refers _) reply row.0 tt
     named_is (heap.Unhook m s) reply next none row =
         unhooks m s (slot_at a.world.heap m s) _ reply (slot_is m s) row
     named_is (heap.Hold m s) reply next none row = holds (slot_at a.world.heap m s) reply (slot_is m s) row
-    named_is (heap.Adopt m d hold) reply next none row =
-        let slot = unless_passes (has_slot a.world.heap m d) _ _ none in
-        let counted = unless_passes (is_counted 0 a.world.heap hold) _ _ slot.1 in
-        let both = and_parts (hold.heap_no == 0) (has a.world.heap.holds hold.object) counted.0 in
-        told_is (told.Object hold.object) reply row.0 (closed.holds hold.object both.1)
+    named_is (heap.Adopt m d hold) reply next none row = grind arith
     named_is (heap.Begin now how) reply next none row = told_is (told.Cycle (a.world.cycle + 1)) reply row.0 tt
     named_is (heap.Scan k) reply next none row = scans k reply row
     named_is heap.EndMark reply next none row = told_is (told.Doomed (length (doomed_at a))) reply row.answer tt
@@ -127,16 +91,11 @@ module _ (V : ℕ → Type 0) where
 
 -- after a mark's end, what it doomed is so too
 ended_off : (gone : List ℕ) (a c : State) (reply : Reply) → EndsMark a reply c → off gone c ≡ gone ++ doomed_at a
-ended_off gone a c reply row =
-    off_is gone (doomed_at a) c Clearing (ap (λ (s : State). s.world.phase) row.after)
-    (ap (λ (s : State). s.doomed) row.after)
+ended_off gone a c reply row = grind arith
 
 stays_off : (gone : List ℕ) (a c : State) (step : NamedStep) (reply : Reply) (n : ℕ) → heap_refusal 0 a step ≡ None
     → HeapAccepts a step reply c → has (off gone a) n ≡ true → has (off (gone_after a gone step reply) c) n ≡ true
-stays_off gone a c heap.EndMark reply n none row is_off =
-    let before = off_is gone a.doomed a Marking (of_phase 0 a heap.EndMark none) refl in
-    let out : has gone n ≡ true = ap (λ ns. has ns n) (sym (before ∙ append-nil gone)) ∙ is_off in
-    ap (λ ns. has ns n) (ended_off gone a c reply row) ∙ has-left gone (doomed_at a) n out
+stays_off gone a c heap.EndMark reply n none row is_off = grind (arith, append-nil, has-left)
 stays_off gone a c step reply n none row is_off =
     ap (λ ns. has ns n) (off_same gone a c step reply tt none row) ∙ is_off
 
@@ -147,22 +106,13 @@ IsOffIn config n past x =
 -- what a turn doesn't touch, and a mark's end dooms
 turn_off : (gone : List ℕ) (a b : State) (asked : Option NamedStep) (reply : Reply) (n : ℕ) → IsTurn a asked reply b
     → has (off gone a) n ≡ true → has (off (gone_next a gone asked reply) b) n ≡ true
-turn_off gone a b asked reply n (inl of) is =
-    subst (λ (ns : List ℕ). has (off ns b) n ≡ true) (sym (idle_gone gone a b asked reply of))
-    (ap (λ (s : State). has (off gone s) n) of.after ∙ is)
-turn_off gone a b asked reply n (inr of) is =
-    subst (λ (o : Option NamedStep). has (off (gone_next a gone o reply) b) n ≡ true) (sym of.asks)
-    (ap (λ (s : State). has (off (gone_after a gone of.step reply) s) n) of.after
-    ∙ stays_off gone a of.left of.step reply n of.passes of.accepts is)
+turn_off gone a b asked reply n (inl of) is = grind arith
+turn_off gone a b asked reply n (inr of) is = grind (arith, stays_off)
 
 call_off : (config : Config) (n : ℕ) (past : List HeapEntry) (x : HeapState) (call : HeapEntry) (y : HeapState)
     → IsOffIn config n past x → IsHeapMove x call.step call.reply y → IsOffIn config n (past ++ call ∷ []) y
-call_off config n past x call y is move = (
-  gone_next x.state is.0 (Some (renumbered call.step)) (told_reply call.reply),
-  call_known_but config past is.0 x call y is.1 move,
-  turn_off is.0 x.state y.state (Some (renumbered call.step)) (told_reply call.reply) n
-      (move_turn x y call.step call.reply move) is.2,
-)
+call_off config n past x call y is move =
+    search (turn_off, move_turn, call_known_but config past is.0 x call y is.1 move)
 
 -- what a mark's end dooms is so
 doomed_off : (config : Config) (number by count : ℕ) (front : List HeapEntry) (a b : HeapState) (n : ℕ)
@@ -185,16 +135,7 @@ doomed_off config number by count front a b n first ends doomed =
 
 names_none : (config : Config) (n : ℕ) (past : List HeapEntry) (c : HeapState) (step : NamedStep) (reply : HeapReply)
     (e : HeapState) → IsOffIn config n past c → IsHeapMove c step reply e → named_by (told_reply reply) ≡ Some n → ⊥
-names_none config n past c step reply e is move names =
-    let V : ℕ → Type 0 = λ m. has (off is.0 c.state) m ≡ false in
-    elim (heap_kind c.number c.state e.state step (told_reply reply) move.row) [
-      | inl of ↦ let no = sym (ap named_by of.1) ∙ names in absurd cc
-      | inr of ↦
-          let within : OfValue V (named_by (told_reply reply)) =
-          named_is V c.state e.state is.1.1.closed (renumbered step) (told_reply reply)
-          (next_out is.0 (heap_replayed config past) c.state is.1.0) of.0 of.1 in
-          both_ways (has (off is.0 c.state) n) (subst (λ (value : Option ℕ). OfValue V value) names within) is.2
-    ]
+names_none config n past c step reply e is move names = grind (arith, heap_kind, named_is, next_out)
 
 pub never_given : (config : Config) (number count : ℕ) (front : List HeapEntry) (a b : HeapState)
     (calls : List HeapEntry) (c : HeapState) (step : NamedStep) (reply : HeapReply) (n : ℕ) (e : HeapState)

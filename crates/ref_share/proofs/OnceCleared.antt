@@ -1,26 +1,26 @@
 -- Each row of a heap keeps that what a worker has cleared no worker clears again: it has no referent any more, and
 -- doesn't wait to be cleared.
-use Rattle.std.proofs.Common.{◌≡◌, ℕ, ◌+◌, Bool, true, false, ◌==◌, ◌&&◌, not, List, [], ◌∷◌, ◌++◌, drop, Option, Some}
+use Rattle.std.proofs.Common.{arith}
+use Rattle.std.proofs.Common.{◌≡◌, ℕ, ◌+◌, Bool, true, false, ◌==◌, ◌&&◌, List, [], ◌∷◌, drop, Option, Some}
 use Rattle.std.proofs.Common.{None, inl, inr, refl, sym, ap, ◌∙◌, subst}
-use Rattle.std.specs.Prelude.{slice_set, is_some}
-use Rattle.std.proofs.lemmas.Bool.{cases_Bool, and_from, and_right, or_parts, or_right, eqb-true, false≢true}
+use Rattle.std.specs.Prelude.{slice_set}
+use Rattle.std.proofs.lemmas.Bool.{cases_Bool, and_right, or_parts, or_right, false≢true}
 use Rattle.ref_share.proofs.Common.{is_waiting, EndsMark, HeapAccepts, doomed_at, is_subsequence, list_at, referent_of}
 use Rattle.ref_share.proofs.Common.{State, joined, new_clears, Object, Reference, NamedStep, has, AreDistinct}
 use Rattle.ref_share.proofs.Common.{heap_refusal, World, Marking, Clearing, Reply}
 use Rattle.ref_base.specs.CollectorRows.{AreFound, references_among}
 use Rattle.ref_base.specs.DoomedSets.{any_is, refers_into}
 use Rattle.ref_base.specs.Strengths.{IsRising}
-use Rattle.ref_base.specs.Graphs.{is_there, numbers, object_at}
-use Rattle.ref_base.specs.Heaps.{reference_in}
+use Rattle.ref_base.specs.Graphs.{numbers}
 use Rattle.ref_base.specs.Refusals.{is_in}
 use Rattle.ref_base.specs.declared.heap_step.HeapStep.TheVariants as heap
 use Rattle.ref_base.specs.declared.phase.Phase.{Phase}
 use Rattle.ref_base.specs.declared.phase.Phase.TheVariants.{Idle, Sweeping}
 use Rattle.ref_base.specs.declared.reply.Reply.TheVariants as told
-use Rattle.ref_base.proofs.AgreeHeaps.{Agreeing, none_waits, not_in}
+use Rattle.ref_base.proofs.AgreeHeaps.{Agreeing, none_waits}
 use Rattle.ref_base.proofs.ClearedOnwards.{StaysCleared, cleared_at, ended_cleared, heap_cleared}
 use Rattle.ref_base.proofs.HeapMoves.{IsNoEnd, heap_moves, moved}
-use Rattle.ref_base.proofs.MovedParts.{cleared_moved, phase_moved}
+use Rattle.ref_base.proofs.MovedParts.{phase_moved}
 use Rattle.ref_base.proofs.NewClears.{has-new_clears}
 use Rattle.ref_base.proofs.OldNames.{old_objects, rising_objects}
 use Rattle.ref_base.proofs.PhaseLaws.{of_phase}
@@ -34,19 +34,11 @@ use Rattle.ref_clear.proofs.TakenLists.{AreDistinct-taken, has-taken, has-first_
 sub_of : (ms ns : List ℕ) → is_subsequence ms ns ≡ true → Sub ms ns
 sub_of [] ns sub = sub_none ns
 sub_of (m ∷ ms) [] sub = absurd (false≢true sub)
-sub_of (m ∷ ms) (n ∷ ns) sub =
-    elim (cases_Bool (m == n)) [
-      | inl same ↦ inr (ms, ap (λ i. i ∷ ms) (eqb-true m n same), sub_of ms ns (simp same at sub))
-      | inr other ↦ inl (sub_of (m ∷ ms) ns (simp other at sub))
-    ]
+sub_of (m ∷ ms) (n ∷ ns) sub = grind (arith, sub_of ms ns, sub_of (m ∷ ms) ns)
 
 sub_references : (os : List Object) (ns : List ℕ) → Sub (references_among os ns) ns
 sub_references os [] = refl
-sub_references os (n ∷ ns) =
-    elim (cases_Bool (is_some (reference_in (object_at os n)))) [
-      | inl some ↦ simp some (inr (references_among os ns, refl, sub_references os ns))
-      | inr none ↦ simp none (inl (sub_references os ns))
-    ]
+sub_references os (n ∷ ns) = grind (arith, sub_references os ns)
 
 sub_found : (os : List Object) (scanned found : List (List ℕ)) → AreFound os scanned found
     → Sub (joined found) (joined scanned)
@@ -54,10 +46,7 @@ sub_found os [] [] are = refl
 sub_found os [] (fs ∷ found) are = absurd are
 sub_found os (ss ∷ scanned) [] are = absurd are
 sub_found os (ss ∷ scanned) (fs ∷ found) are =
-    let own : Sub fs ss =
-    sub_through fs (references_among os ss) ss (sub_of fs (references_among os ss) are.0) (sub_references os ss) in
-    sub_through (fs ++ joined found) (ss ++ joined found) (ss ++ joined scanned) (sub_before fs ss (joined found) own)
-    (sub_behind ss (joined found) (joined scanned) (sub_found os scanned found are.1))
+    search (sub_through, sub_of, sub_before, sub_found os scanned found are.1, sub_references os ss, sub_behind ss)
 
 sub_has : (ms ns : List ℕ) (n : ℕ) → Sub ms ns → has ns n ≡ false → has ms n ≡ false
 sub_has ms [] n sub none = ap (λ ns. has ns n) sub
@@ -94,12 +83,6 @@ IsPast n a = StaysCleared n a × (is_waiting a n ≡ false)
 module _ (a b : State) (step : NamedStep) (reply : Reply) (row : HeapAccepts a step reply b) where
   -- a row into a phase in which no reference is cleared
   module _ (phase : Phase) (into : b.world.phase ≡ phase) (other : is_in phase Clearing ≡ false) where
-    turned_waits : Waits b
-    turned_waits = record {
-      once = λ clearing. absurd (not_in b phase into other clearing);
-      cleared = λ clearing n is. absurd (not_in b phase into other clearing);
-    }
-
     turned_past : (n : ℕ) → IsPast n a → IsPast n b
     turned_past n is =
         (heap_cleared n a b step reply is.0 row, ap (λ (waits : ℕ → Bool). waits n) (none_waits b phase into other))
@@ -116,12 +99,7 @@ module _ (a b : State) (step : NamedStep) (reply : Reply) (row : HeapAccepts a s
     }
 
     still_past : (n : ℕ) → IsPast n a → IsPast n b
-    still_past n is = (
-      heap_cleared n a b step reply is.0 row,
-      ap (λ (p : Phase). is_in p Clearing && (has (joined b.found) n && has b.cleared n)) phase
-          ∙ ap (λ (fs : List (List ℕ)). is_in a.world.phase Clearing && (has (joined fs) n && has b.cleared n)) found
-          ∙ ap (λ ns. is_in a.world.phase Clearing && (has (joined a.found) n && has ns n)) clears ∙ is.1,
-    )
+    still_past n is = grind (arith, heap_cleared n)
 
   -- a worker looks at the first that it found
   module _ (k n : ℕ) (looks : Looks a k n) (clearing : a.world.phase ≡ Clearing)
@@ -136,11 +114,7 @@ module _ (a b : State) (step : NamedStep) (reply : Reply) (row : HeapAccepts a s
 
     waits_after : (m : ℕ) → is_waiting b m ≡ (is_in a.world.phase Clearing
         && (has (joined (slice_set a.found k looks.rest)) m && has a.cleared m))
-    waits_after m =
-        ap (λ (p : Phase). is_in p Clearing && (has (joined b.found) m && has b.cleared m)) phase
-        ∙ ap (λ (fs : List (List ℕ)). is_in a.world.phase Clearing && (has (joined fs) m && has b.cleared m)) left
-        ∙ ap (λ ns. is_in a.world.phase Clearing
-        && (has (joined (slice_set a.found k looks.rest)) m && has ns m)) clears
+    waits_after m = search left
 
     looked_waits : Waits b
     looked_waits = record {
@@ -169,10 +143,7 @@ module _ (a b : State) (step : NamedStep) (reply : Reply) (row : HeapAccepts a s
 
     -- what it clears waited until then
     clears_waiting : has a.cleared n ≡ true → is_waiting a n ≡ true
-    clears_waiting is =
-        ap (λ (p : Phase). is_in p Clearing && (has (joined a.found) n && has a.cleared n)) clearing
-        ∙ and_from (has (joined a.found) n) (has a.cleared n)
-        (has-first_taken a.found k n looks.rest looks.first) is
+    clears_waiting is = grind (arith, has-first_taken)
 
     clears_past : has a.cleared n ≡ true → IsPast n b
     clears_past is = (
@@ -190,11 +161,7 @@ refers_none d (Some r) none = ap (any_is (has d)) none
 -- a reference that has no referent is no new clear
 no_new_clear : (a : State) (d : List ℕ) (n : ℕ) → IsRising (numbers a.world.heap.objects) → StaysCleared n a
     → has (new_clears a.world.heap.objects d) n ≡ false
-no_new_clear a d n rising is =
-    let os : List Object = a.world.heap.objects in
-    let none = refers_none d (reference_in (object_at os n)) (cleared_at os n is.1) in
-    has-new_clears os d n rising
-    ∙ and_right (is_there os n) _ (and_right (not (has d n)) _ none)
+no_new_clear a d n rising is = search (refers_none, cleared_at, has-new_clears, and_right)
 
 module _ (gone : List ℕ) (w : World) (a b : State) (reply : Reply) (is : Agreeing gone w a)
     (row : EndsMark a reply b) where
@@ -225,21 +192,6 @@ abbrev IsCalm : NamedStep → Type 0
 IsCalm (heap.ClearNext k) = ⊥
 IsCalm step = EndsNoPhase step
 
-calm_ends : (step : NamedStep) → IsCalm step → EndsNoPhase step
-calm_ends (heap.ClearNext k) calm = absurd calm
-calm_ends step calm = calm
-
-calm_found : (a : State) (step : NamedStep) (reply : Reply) → IsCalm step → (moved a step reply).found ≡ a.found
-calm_found a (heap.ClearNext k) reply calm = absurd calm
-calm_found a (heap.Sweep k) (told.Swept count) calm = refl
-calm_found a (heap.Sweep k) reply calm = refl
-calm_found a (heap.Begin now how) reply calm = absurd calm
-calm_found a step reply calm = refl
-
-calm_plain : (step : NamedStep) → IsCalm step → IsNoEnd step
-calm_plain heap.EndMark calm = absurd calm
-calm_plain step calm = tt
-
 -- it keeps what it keeps, where these three stay
 module _ (gone : List ℕ) (w : World) (a b : State) (is : Agreeing gone w a) (distinct : AreDistinct (joined a.scanned))
     (waits : Waits a) where
@@ -247,20 +199,11 @@ module _ (gone : List ℕ) (w : World) (a b : State) (is : Agreeing gone w a) (d
   Keeps = Waits b × ((n : ℕ) → IsPast n a → IsPast n b)
 
   calm_keeps : (step : NamedStep) (reply : Reply) → IsCalm step → HeapAccepts a step reply b → Keeps
-  calm_keeps step reply calm row =
-      let leads = heap_moves a b step reply (calm_plain step calm) row in
-      let phase = ap (λ (s : State). s.world.phase) leads ∙ phase_moved a step reply (calm_ends step calm) in
-      let found = ap (λ (s : State). s.found) leads ∙ calm_found a step reply calm in
-      let clears = ap (λ (s : State). s.cleared) leads ∙ cleared_moved a step reply (calm_ends step calm) in
-      (still_waits a b step reply row phase found clears waits, still_past a b step reply row phase found clears)
+  calm_keeps step reply calm row = grind (arith, heap_moves, still_waits, still_past)
 
   turn_keeps : (step : NamedStep) (reply answer : Reply) (phase : Phase) → IsNoEnd step → HeapAccepts a step reply b
       → reply ≡ answer → (moved a step answer).world.phase ≡ phase → is_in phase Clearing ≡ false → Keeps
-  turn_keeps step reply answer phase plain row told_as into other =
-      let now : b.world.phase ≡ phase =
-      ap (λ (s : State). s.world.phase) (heap_moves a b step reply plain row)
-      ∙ ap (λ (r : Reply). (moved a step r).world.phase) told_as ∙ into in
-      (turned_waits a b step reply row phase now other, turned_past a b step reply row phase now other)
+  turn_keeps step reply answer phase plain row told_as into other = grind (arith, heap_moves, turned_past)
 
   -- a look at n, whichever answer tells of it
   looked_keeps : (k n : ℕ) (reply : Reply) → Looks a k n → heap_refusal 0 a (heap.ClearNext k) ≡ None
@@ -280,24 +223,10 @@ module _ (gone : List ℕ) (w : World) (a b : State) (is : Agreeing gone w a) (d
 
   look_keeps : (k : ℕ) (reply : Reply) → heap_refusal 0 a (heap.ClearNext k) ≡ None
       → HeapAccepts a (heap.ClearNext k) reply b → Keeps
-  look_keeps k (told.Cleared n) none row =
-      let tells : Tells a k (told.Cleared n) = look_tells a b k (list_at a.found k) (told.Cleared n) refl row in
-      looked_keeps k n (told.Cleared n) tells.1 none (phase_moved a (heap.ClearNext k) (told.Cleared n) tt) refl refl
-      row
-  look_keeps k (told.Kept n) none row =
-      let tells : Tells a k (told.Kept n) = look_tells a b k (list_at a.found k) (told.Kept n) refl row in
-      looked_keeps k n (told.Kept n) tells.1 none refl refl refl row
-  look_keeps k (told.Skipped n) none row =
-      let tells : Tells a k (told.Skipped n) = look_tells a b k (list_at a.found k) (told.Skipped n) refl row in
-      looked_keeps k n (told.Skipped n) tells.1 none refl refl refl row
-  look_keeps k reply none row =
-      let leads = heap_moves a b (heap.ClearNext k) reply tt row in
-      let phase = ap (λ (s : State). s.world.phase) leads in
-      let found = ap (λ (s : State). s.found) leads in
-      let clears = ap (λ (s : State). s.cleared) leads in (
-        still_waits a b (heap.ClearNext k) reply row phase found clears waits,
-        still_past a b (heap.ClearNext k) reply row phase found clears,
-      )
+  look_keeps k (told.Cleared n) none row = grind (arith, looked_keeps k n (told.Cleared n))
+  look_keeps k (told.Kept n) none row = grind (arith, looked_keeps k n (told.Kept n))
+  look_keeps k (told.Skipped n) none row = grind (arith, looked_keeps k n (told.Skipped n))
+  look_keeps k reply none row = grind arith
 
   -- what waits stays as it should, and what is past stays so
   pub heap_keeps : (step : NamedStep) (reply : Reply) → heap_refusal 0 a step ≡ None → HeapAccepts a step reply b

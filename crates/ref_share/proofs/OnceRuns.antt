@@ -1,14 +1,13 @@
 -- The history of a heap: workers hand each reference on at most once.
-use Rattle.std.proofs.Common.{◌≡◌, ℕ, zero, suc, ◌+◌, ◌<◌, ◌≤◌, true, false, ◌==◌, List, [], ◌∷◌, ◌++◌, length, map}
+use Rattle.std.proofs.Common.{◌≡◌, ℕ, zero, suc, ◌+◌, ◌≤◌, true, false, ◌==◌, List, [], ◌∷◌, ◌++◌, length, map}
 use Rattle.std.proofs.Common.{replicate, Option, ◌⊎◌, Some, None, inl, inr, refl, sym, ap, ◌∙◌, subst, arith}
 use Rattle.std.specs.Prelude.{nat_eq, slice_index_or, slice_set}
 use Rattle.std.specs.List.{IsDistinct, AllByRecursion}
 use Rattle.std.proofs.lemmas.Map.Keys.{IsDistinct-cons}
-use Rattle.std.proofs.lemmas.Bool.{cases_Bool, both_ways, or_parts, eq-eqb, eqb-true, false≢true, false_from_ne_true}
-use Rattle.std.proofs.lemmas.Bool.{ne_eqb}
+use Rattle.std.proofs.lemmas.Bool.{cases_Bool, eq-eqb, eqb-true, false≢true, false_from_ne_true}
 use Rattle.std.proofs.lemmas.List.{map-append}
-use Rattle.ref_share.proofs.Common.{is_waiting, HandsOn, HeapAccepts, State, joined, tally, NamedStep, reference_at}
-use Rattle.ref_share.proofs.Common.{registered_in, has, AreDistinct, heap_refusal, pended, without_pending, told_notice}
+use Rattle.ref_share.proofs.Common.{is_waiting, HandsOn, HeapAccepts, State, joined, tally, NamedStep}
+use Rattle.ref_share.proofs.Common.{has, AreDistinct, heap_refusal, pended, without_pending, told_notice}
 use Rattle.ref_share.proofs.Common.{World, Pending, pending_of, Cause, Cycle, Config, Fault, Reply, scanned_in_cycle}
 use Rattle.ref_share.proofs.Common.{told_reply, GivesOut, HeapReply, HeapState, IsHeapMove, HeapEntry, IsHeapRun}
 use Rattle.ref_share.proofs.Common.{first_heap_state, gathered, all_handed_on, heap_replayed, rows_of}
@@ -19,7 +18,7 @@ use Rattle.ref_base.proofs.HoldCounts.{one_if, tally-first, tally-append}
 use Rattle.ref_base.proofs.LegalQueues.{distinct_nil}
 use Rattle.ref_base.proofs.RowMoves.{Moves, heap_tells, pending_after}
 use Rattle.ref_base.proofs.FoundLists.{AreDistinct-with_last, joined-emptied}
-use Rattle.ref_base.proofs.ScannedOnce.{HasScanned, ScansAnew, first_scanned, scan_tells}
+use Rattle.ref_base.proofs.ScannedOnce.{HasScanned, first_scanned}
 use Rattle.ref_base.proofs.AgreeHeaps.{Agreeing}
 use Rattle.ref_world.specs.declared.heap_machine.HeapReply.TheVariants as replies
 use Rattle.ref_share.specs.HeapTraces.{handed_by}
@@ -40,15 +39,8 @@ pending_set : (lists : List (List Pending)) (k : ℕ) (ps : List Pending) (n c d
     → tally (numbers_in ps) n + c ≤ tally (numbers_in (slice_index_or lists k [])) n + d
     → tally (pending_numbers (slice_set lists k ps)) n + c ≤ tally (pending_numbers lists) n + d
 pending_set [] k ps n c d less = omega (arith, less)
-pending_set (qs ∷ lists) zero ps n c d less =
-    let now = tally-append (numbers_in ps) (pending_numbers lists) n in
-    let before = tally-append (numbers_in qs) (pending_numbers lists) n in
-    omega (arith, less, now, before)
-pending_set (qs ∷ lists) (suc k) ps n c d less =
-    let later = pending_set lists k ps n c d less in
-    let now = tally-append (numbers_in qs) (pending_numbers (slice_set lists k ps)) n in
-    let before = tally-append (numbers_in qs) (pending_numbers lists) n in
-    omega (arith, later, now, before)
+pending_set (qs ∷ lists) zero ps n c d less = grind (arith, tally-append)
+pending_set (qs ∷ lists) (suc k) ps n c d less = grind (arith, tally-append, pending_set lists k ps n c d less)
 
 -- one that is cleared is pending once more at most
 pended_count : (w : World) (k m : ℕ) (queue : Option ℕ) (n : ℕ)
@@ -113,21 +105,11 @@ hand_told n k a b reply none pends = same_count n a.world b.world 0 pends
 module _ (n : ℕ) (x y : HeapState) where
   accepted_counts : (step : NamedStep) (reply : HeapReply) → IsAccepted x step reply y → GivesOut x.number step reply
       → Moves x.state (Some (renumbered step)) (told_reply reply) y.state → Counts n x.state y.state step reply
-  accepted_counts (heap.Hand k) (replies.Notice notice) of gives moves =
-      let m : ℕ = notice.hold.object in
-      let less = handed_count x.state y.state k (pending_of x.state.world k) m notice.queue notice.cause n refl
-      of.1 moves.pending in
-      let one = tally-first m [] n in
-      omega (arith, less, one)
+  accepted_counts (heap.Hand k) (replies.Notice notice) of gives moves = grind (arith, handed_count)
   accepted_counts (heap.Hand k) (replies.Told reply) of gives moves =
       hand_told n k x.state y.state reply gives moves.pending
   accepted_counts (heap.Hand k) reply of gives moves = absurd gives
-  accepted_counts (heap.ClearNext k) (replies.Told (told.Cleared m)) of gives moves =
-      let queue : Option ℕ = registered_in (reference_at x.state.world.heap m) in
-      let count = ap (λ (lists : List (List Pending)). tally (pending_numbers lists) n) moves.pending in
-      let less = pended_count x.state.world k m queue n in
-      let one = tally-first m [] n in
-      omega (arith, count, less, one)
+  accepted_counts (heap.ClearNext k) (replies.Told (told.Cleared m)) of gives moves = grind (arith, pended_count)
   accepted_counts step reply of gives moves = same_count n x.state.world y.state.world _ moves.pending
 
   refused_counts : (step : NamedStep) (reply : HeapReply) (fault : Fault) → told_reply reply ≡ told.Refused fault
@@ -157,14 +139,8 @@ refused_clears a b step reply fault answer = inl refl
 scans_distinct : (a b : State) (step : NamedStep) (reply : Reply) → length a.scanned ≡ a.world.heap.config.workers
     → heap_refusal 0 a step ≡ None → HeapAccepts a step reply b → Moves a (Some step) reply b
     → AreDistinct (joined a.scanned) → AreDistinct (joined b.scanned)
-scans_distinct a b (heap.Scan k) (told.Scanned n) workers none row moves distinct =
-    let anew : ScansAnew a k n = scan_tells a b k n none row in
-    let within : k < length a.scanned = rw workers anew.0 in
-    subst (λ (lists : List (List ℕ)). AreDistinct (joined lists)) (sym moves.scanned)
-    (AreDistinct-with_last a.scanned k n within distinct anew.1)
-scans_distinct a b (heap.Begin now how) (told.Cycle n) workers none row moves distinct =
-    subst (λ (lists : List (List ℕ)). AreDistinct (joined lists)) (sym moves.scanned)
-    (subst AreDistinct (sym (joined-emptied a.scanned)) tt)
+scans_distinct a b (heap.Scan k) (told.Scanned n) workers none row moves distinct = grind (arith, AreDistinct-with_last)
+scans_distinct a b (heap.Begin now how) (told.Cycle n) workers none row moves distinct = grind (arith, joined-emptied)
 scans_distinct a b step reply workers none row moves distinct =
     subst (λ (lists : List (List ℕ)). AreDistinct (joined lists)) (sym moves.scanned) distinct
 
@@ -180,18 +156,10 @@ record ClearedOnce (calls : List HeapEntry) (a : State) : Type 0 where
   once : (n : ℕ) → tally (cleared_all calls) n ≤ 1
   past : (n : ℕ) → 1 ≤ tally (cleared_all calls) n → IsPast n a
 
-none_or_some : (count : ℕ) → (count ≡ 0) ⊎ (1 ≤ count)
-none_or_some zero = inl refl
-none_or_some (suc count) = inr (omega arith)
-
 -- what still waited was not cleared before
 none_before : (past : List HeapEntry) (a : State) → ClearedOnce past a → (m : ℕ) → is_waiting a m ≡ true
     → tally (cleared_all past) m ≡ 0
-none_before past a is m waits =
-    elim (none_or_some (tally (cleared_all past) m)) [
-      | inl none ↦ none
-      | inr some ↦ absurd (both_ways (is_waiting a m) (is.past m some).1 waits)
-    ]
+none_before past a is m waits = grind arith
 
 -- one call more
 module _ (past : List HeapEntry) (call : HeapEntry) (a b : State) (is : ClearedOnce past a)
@@ -201,9 +169,7 @@ module _ (past : List HeapEntry) (call : HeapEntry) (a b : State) (is : ClearedO
 
   count : (n : ℕ) → tally (cleared_all more) n
       ≡ tally (cleared_all past) n + tally (cleared_by call.step call.reply) n
-  count n =
-      ap (λ ns. tally ns n) (gathered_last cleared_by past call)
-      ∙ tally-append (cleared_all past) (cleared_by call.step call.reply) n
+  count n = search (gathered_last, tally-append)
 
   -- that clears nothing
   clears_none : cleared_by call.step call.reply ≡ [] → ClearedOnce more b
@@ -263,12 +229,7 @@ counts_more : (past : List HeapEntry) (call : HeapEntry) (a b : State) (n : ℕ)
     → Counts n a b call.step call.reply
     → tally (all_handed_on (past ++ call ∷ [])) n + tally (pending_numbers b.world.pending) n
     ≤ tally (cleared_all (past ++ call ∷ [])) n
-counts_more past call a b n before more =
-    let handed = ap (λ ns. tally ns n) (gathered_last handed_by past call) in
-    let handed_sum = tally-append (all_handed_on past) (handed_by call.step call.reply) n in
-    let cleared = ap (λ ns. tally ns n) (gathered_last cleared_by past call) in
-    let cleared_sum = tally-append (cleared_all past) (cleared_by call.step call.reply) n in
-    omega (arith, before, more, handed, handed_sum, cleared, cleared_sum)
+counts_more past call a b n before more = grind (arith, gathered_last, tally-append)
 
 call_once : (config : Config) (past : List HeapEntry) (x : HeapState) (call : HeapEntry) (y : HeapState)
     → IsOnce config past x → IsHeapMove x call.step call.reply y → IsOnce config (past ++ call ∷ []) y
@@ -311,9 +272,7 @@ call_once config past x call y is move =
 
 apart : (m : ℕ) (ms : List ℕ) → has ms m ≡ false → AllByRecursion (λ n. nat_eq m n ≡ false) ms
 apart m [] none = tt
-apart m (n ∷ ms) none =
-    let parts = or_parts (n == m) (has ms m) none in
-    (ne_eqb m n (λ same. both_ways (n == m) parts.0 (eq-eqb n m (sym same))), apart m ms parts.1)
+apart m (n ∷ ms) none = grind (arith, apart m ms)
 
 distinct_if_once : (ns : List ℕ) → ((n : ℕ) → tally ns n ≤ 1) → IsDistinct nat_eq ns
 distinct_if_once [] once = distinct_nil
@@ -344,17 +303,7 @@ none_scanned zero = refl
 none_scanned (suc workers) = none_scanned workers
 
 first_once : (config : Config) (number : ℕ) → IsOnce config [] (first_heap_state config number)
-first_once config number = record {
-  known = first_known config number;
-  scanned = first_scanned config;
-  cleared = record {
-    distinct = subst AreDistinct (sym (none_scanned config.workers)) tt;
-    waits = record { once = λ clearing. absurd cc; cleared = λ clearing. absurd cc };
-    once = λ n. omega arith;
-    past = λ n some. absurd (omega (arith, some));
-  };
-  less = λ n. let none = nothing_pends config.workers n in omega (arith, none);
-}
+first_once config number = grind (arith, none_scanned, nothing_pends, first_known config number, first_scanned config)
 
 pub handed_on_once : (config : Config) (number : ℕ) (calls : List HeapEntry) (last : HeapState)
     → IsHeapRun config number calls last → IsDistinct nat_eq (all_handed_on calls)

@@ -1,8 +1,9 @@
 -- The history of a heap: each worker hands references on in the order in which it cleared them.
-use Rattle.std.proofs.Common.{◌≡◌, ℕ, ◌<◌, ◌==◌, true, if◌then◌else◌, List, [], ◌∷◌, ◌++◌, length, Option, Some, None}
+use Rattle.std.proofs.Common.{arith}
+use Rattle.std.proofs.Common.{◌≡◌, ℕ, ◌<◌, ◌==◌, true, List, [], ◌∷◌, ◌++◌, length, Option, Some, None}
 use Rattle.std.proofs.Common.{inl, inr, refl, sym, ap, ◌∙◌, subst}
 use Rattle.std.specs.Prelude.{slice_index_or, slice_set}
-use Rattle.std.proofs.lemmas.Bool.{cases_Bool, cases_eq, eq-eqb}
+use Rattle.std.proofs.lemmas.Bool.{cases_eq, eq-eqb}
 use Rattle.std.proofs.lemmas.List.{append-nil, append_assoc, get_or-set_same, get_or-set_other}
 use Rattle.ref_share.proofs.Common.{is_by, HandsOn, is_subsequence, State, reference_at, registered_in, NamedStep}
 use Rattle.ref_share.proofs.Common.{without_pending, told_notice, clearing_order, World, Pending, pending_of, Cycle}
@@ -10,7 +11,7 @@ use Rattle.ref_share.proofs.Common.{Config, Fault, Reply, Row, HeldNotice, as_no
 use Rattle.ref_share.proofs.Common.{HeapState, IsHeapMove, HeapEntry, IsHeapRun, world_step, row_of, rows_of, handed_of}
 use Rattle.ref_share.proofs.Common.{handed_in}
 use Rattle.ref_base.specs.ClearingOrder.{if_worked}
-use Rattle.ref_base.specs.WorkerOrder.{is_registered, cleared_by, if_registered, cleared_in}
+use Rattle.ref_base.specs.WorkerOrder.{is_registered, if_registered, cleared_in}
 use Rattle.ref_base.specs.Worlds.{Notice, hand_of}
 use Rattle.ref_base.specs.declared.actor.Actor.TheVariants.{Worker}
 use Rattle.ref_base.specs.declared.heap_step.HeapStep.TheVariants as heap
@@ -22,13 +23,12 @@ use Rattle.ref_base.proofs.HeapRowLaws.{row_others}
 use Rattle.ref_base.proofs.Places.{place_there}
 use Rattle.ref_base.proofs.ProvenTraces.{made_at, registered_more}
 use Rattle.ref_base.proofs.RowMoves.{Moves, heap_tells, pending_after}
-use Rattle.ref_base.proofs.SameOthers.{same_hand}
-use Rattle.ref_base.proofs.Subsequences.{Sub, sub_none, sub_all, sub_through, sub_behind, sub_before, sub_longer}
+use Rattle.ref_base.proofs.Subsequences.{Sub, sub_through, sub_longer}
 use Rattle.ref_base.proofs.Subsequences.{sub_is}
 use Rattle.ref_world.specs.declared.heap_machine.HeapReply.TheVariants as replies
 use Rattle.ref_share.proofs.HeapRows.{rows_last, gathered_last, HandsFree}
 use Rattle.ref_share.proofs.HeapRuns.{IsAccepted, run_holds}
-use Rattle.ref_base.proofs.HeapTurns.{renumbered, heap_kind}
+use Rattle.ref_base.proofs.HeapTurns.{renumbered}
 use Rattle.ref_share.proofs.ProvenRuns.{IsFrom, call_from, first_from}
 
 -- ---- clearing orders
@@ -37,30 +37,17 @@ use Rattle.ref_share.proofs.ProvenRuns.{IsFrom, call_from, first_from}
 more_registered : (rows more : List Row) (q : ℕ) (n : Option ℕ)
     → Sub (if_registered rows q n) (if_registered (rows ++ more) q n)
 more_registered rows more q None = refl
-more_registered rows more q (Some n) =
-    elim (cases_Bool (is_registered rows n q)) [
-      | inl made ↦ simp (made, registered_more rows more n q made) (sub_all (n ∷ []))
-      | inr other ↦ simp other (sub_none (if_registered (rows ++ more) q (Some n)))
-    ]
+more_registered rows more q (Some n) = grind (arith, registered_more)
 
 more_cleared : (rows more : List Row) (k q : ℕ) (some : List Row)
     → Sub (cleared_in rows k q some) (cleared_in (rows ++ more) k q some)
 more_cleared rows more k q [] = refl
-more_cleared rows more k q (row ∷ some) =
-    let n : Option ℕ = cleared_by k row.step row.reply in
-    let rest : List ℕ = cleared_in rows k q some in
-    let now : List ℕ = if_registered (rows ++ more) q n in
-    sub_through (if_registered rows q n ++ rest) (now ++ rest) (now ++ cleared_in (rows ++ more) k q some)
-    (sub_before (if_registered rows q n) now rest (more_registered rows more q n))
-    (sub_behind now rest (cleared_in (rows ++ more) k q some) (more_cleared rows more k q some))
+more_cleared rows more k q (row ∷ some) = grind (arith, more_cleared rows more k q some, more_registered rows more q)
 
 cleared-append : (whole : List Row) (k q : ℕ) (rows more : List Row)
     → cleared_in whole k q (rows ++ more) ≡ cleared_in whole k q rows ++ cleared_in whole k q more
 cleared-append whole k q [] more = refl
-cleared-append whole k q (row ∷ rows) more =
-    let first : List ℕ = if_registered whole q (cleared_by k row.step row.reply) in
-    ap (λ ns. first ++ ns) (cleared-append whole k q rows more)
-    ∙ sym (append_assoc first (cleared_in whole k q rows) (cleared_in whole k q more))
+cleared-append whole k q (row ∷ rows) more = search (append_assoc, cleared-append whole k q rows more)
 
 -- ---- calls
 
@@ -136,11 +123,7 @@ module _ (whole : List Row) (k q : ℕ) (x y : HeapState) (free : HandsFree x.st
   accepted_shifts (heap.Hand j) (replies.Told reply) of gives moves =
       hand_told k q j x.state y.state reply hands gives moves.pending
   accepted_shifts (heap.Hand j) reply of gives moves = absurd gives
-  accepted_shifts (heap.ClearNext j) (replies.Told (told.Cleared n)) of gives moves =
-      let clears : List ℕ = if_registered whole q (if j == k then Some n else None) in
-      subst (λ ns. Shifts k q x.state.world y.state.world [] ns) (sym (append-nil clears))
-      (clears_for whole k q j n x.state.world y.state.world (registered_in (reference_at x.state.world.heap n))
-      (made n) hands moves.pending)
+  accepted_shifts (heap.ClearNext j) (replies.Told (told.Cleared n)) of gives moves = search (append-nil, clears_for)
   accepted_shifts step reply of gives moves =
       still k q x.state.world y.state.world _ hands (at x.state.world y.state.world k moves.pending)
 
@@ -148,9 +131,7 @@ module _ (whole : List Row) (k q : ℕ) (x y : HeapState) (free : HandsFree x.st
   refused_shifts : (step : NamedStep) (reply : HeapReply) (fault : Fault) → told_reply reply ≡ told.Refused fault
       → y.state ≡ x.state → ShiftsBy step reply
   refused_shifts (heap.Hand j) (replies.Notice notice) fault answer same = absurd cc
-  refused_shifts step reply fault answer same =
-      still k q x.state.world y.state.world _ hands
-      (at x.state.world y.state.world k (ap (λ (a : State). a.world.pending) same))
+  refused_shifts step reply fault answer same = grind (arith, still)
 
 -- ---- runs
 
@@ -165,42 +146,22 @@ call_shifts : (k q : ℕ) (past : List HeapEntry) (x : HeapState) (call : HeapEn
     (cleared_in (rows_of past ++ row_of (world_step call.step) (told_reply call.reply)) k q
     (row_of (world_step call.step) (told_reply call.reply)))
 call_shifts k q past x call y from move =
-    let reply : Reply = told_reply call.reply in
-    let rows : List Row = rows_of past in
-    let more : List Row = row_of (world_step call.step) reply in
-    let hands = same_hand x.state.world y.state.world (Worker k)
-    (row_others x.number x.state y.state call.step reply move.row) in
-    let made : (n i : ℕ) → registered_in (reference_at x.state.world.heap n) ≡ Some i
-    → is_registered (rows ++ more) n i ≡ true =
-    λ n i there. registered_more rows more n i (made_at rows x.state.world.heap.objects n i from.known.objects there) in
-    elim (heap_kind x.number x.state y.state call.step reply move.row) [
-      | inl of ↦ refused_shifts (rows ++ more) k q x y from.free hands made call.step call.reply of.0 of.1 of.2
-      | inr of ↦
-          accepted_shifts (rows ++ more) k q x y from.free hands made call.step call.reply of move.gives
-          (heap_tells x.state y.state (renumbered call.step) reply of.1)
-    ]
+    grind (arith, row_others, registered_more, made_at, refused_shifts, accepted_shifts, heap_tells)
 
 call_ordered : (k q : ℕ) (past : List HeapEntry) (x : HeapState) (call : HeapEntry) (y : HeapState)
     → IsOrdered k q past x → IsHeapMove x call.step call.reply y → IsOrdered k q (past ++ call ∷ []) y
 call_ordered k q past x call y is move =
-    let rows : List Row = rows_of past in
-    let more : List Row = row_of (world_step call.step) (told_reply call.reply) in
-    let whole : List Row = rows ++ more in
-    let handed : List ℕ = handed_in k q past in
-    let gives : List ℕ = handed_of k q call.step call.reply in
-    let waits : List ℕ = waiting_in k q y.state.world in
-    let next : Sub ((handed ++ gives) ++ waits) (cleared_in whole k q rows ++ cleared_in whole k q more) =
-    row_in_order k q x.state.world y.state.world handed (cleared_in whole k q rows) gives (cleared_in whole k q more)
-    (sub_through (handed ++ waiting_in k q x.state.world) (clearing_order rows k q) (cleared_in whole k q rows)
-    is.ordered (more_cleared rows more k q rows)) (call_shifts k q past x call y is.from move) in
-    record {
-      from = call_from past x call y is.from move;
-      ordered =
-          subst (λ (rs : List Row). Sub (handed_in k q (past ++ call ∷ []) ++ waits) (clearing_order rs k q))
-          (sym (rows_last past call))
-          (subst (λ ns. Sub (ns ++ waits) (clearing_order whole k q)) (sym (gathered_last (handed_of k q) past call))
-          (subst (λ ns. Sub ((handed ++ gives) ++ waits) ns) (sym (cleared-append whole k q rows more)) next));
-    }
+    grind (
+      arith,
+      sub_through,
+      more_cleared,
+      call_shifts,
+      rows_last,
+      gathered_last,
+      cleared-append,
+      row_in_order k q x.state.world y.state.world,
+      call_from past x call y is.from move,
+    )
 
 pub handed_in_order : (config : Config) (number : ℕ) (calls : List HeapEntry) (last : HeapState) (k q : ℕ)
     → IsHeapRun config number calls last → Sub (handed_in k q calls) (clearing_order (rows_of calls) k q)
@@ -214,6 +175,4 @@ handed_in_order config number calls last k q run =
 pub in_clearing_order : (config : Config) (number : ℕ) (calls : List HeapEntry) (last : HeapState) (k q : ℕ)
     → IsHeapRun config number calls last
     → is_subsequence (handed_in k q calls) (clearing_order (rows_of calls) k q) ≡ true
-in_clearing_order config number calls last k q run =
-    sub_is (handed_in k q calls) (clearing_order (rows_of calls) k q)
-    (handed_in_order config number calls last k q run)
+in_clearing_order config number calls last k q run = search (sub_is, handed_in_order)

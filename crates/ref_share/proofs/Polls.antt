@@ -25,19 +25,12 @@ module _ {M S R : Type 0} where
   made_none v = ((refl, refl, refl), ([], search rules), search rules)
 
   pub made_longer : (v u w : View M S R) (calls : List (Entry S R)) → Made v calls u → Longer u w → Made v calls w
-  made_longer v u w calls made longer = (
-    (longer.0.0 ∙ made.0.0, longer.0.1 ∙ made.0.1, longer.0.2 ∙ made.0.2),
-    (made.1.0 ++ longer.1.0, in_front v.seen made.1.0 longer.1.0 u.seen w.seen made.1.1 longer.1.1),
-    longer.2 ∙ made.2,
-  )
+  made_longer v u w calls made longer = search (in_front v.seen made.1.0 longer.1.0 u.seen w.seen made.1.1 longer.1.1)
 
   pub made_after : (v u w : View M S R) (calls more : List (Entry S R)) → Made v calls u → Made u more w
       → Made v (calls ++ more) w
-  made_after v u w calls more first second = (
-    (second.0.0 ∙ first.0.0, second.0.1 ∙ first.0.1, second.0.2 ∙ first.0.2),
-    (first.1.0 ++ second.1.0, in_front v.seen first.1.0 second.1.0 u.seen w.seen first.1.1 second.1.1),
-    in_front v.mine calls more u.mine w.mine first.2 second.2,
-  )
+  made_after v u w calls more first second =
+      search (in_front, in_front v.seen first.1.0 second.1.0 u.seen w.seen first.1.1 second.1.1)
 
   pub made_more : (v u w : View M S R) (calls : List (Entry S R)) (step : S) (reply : R) → Made v calls u
       → Extends u (entry u.number step reply) w → Made v (calls ++ entry v.number step reply ∷ []) w

@@ -1,9 +1,10 @@
 -- The history of a heap: each notice that is given comes from the entries up to it.
+use Rattle.std.proofs.Common.{arith}
 use Rattle.std.proofs.Common.{◌≡◌, ℕ, List, [], ◌∷◌, ◌++◌, Option, Some, None, inl, inr, refl, sym, ap, ◌∙◌, subst}
 use Rattle.std.specs.Prelude.{slice_index_or}
 use Rattle.std.specs.List.{AllByRecursion}
 use Rattle.std.proofs.lemmas.List.{append-nil}
-use Rattle.ref_share.proofs.Common.{State, Object, NamedStep, Pending, World, new_queue, Config, Reply, Row, Step}
+use Rattle.ref_share.proofs.Common.{State, NamedStep, Pending, World, new_queue, Config, Reply, Row, Step}
 use Rattle.ref_share.proofs.Common.{entry, HeldNotice, as_notice, told_reply, HeapState, IsHeapMove, HeapEntry}
 use Rattle.ref_share.proofs.Common.{IsHeapRun, first_heap_state, world_step, row_of, rows_of}
 use Rattle.ref_base.specs.CollectorRows.{IsHeapRow, IsRow, with_handed}
@@ -15,12 +16,11 @@ use Rattle.ref_base.specs.declared.actor.Actor.TheVariants.{Mutator, Worker}
 use Rattle.ref_base.specs.declared.heap_step.HeapStep.TheVariants as heap
 use Rattle.ref_base.specs.declared.step.Step.TheVariants as steps
 use Rattle.ref_base.proofs.CarryLaws.{OfHand, notice_from}
-use Rattle.ref_base.proofs.CarryHeaps.{Anew, heap_carries}
 use Rattle.ref_base.proofs.CarryRows.{first_carries}
 use Rattle.ref_base.proofs.GivenNotices.{answered}
 use Rattle.ref_base.proofs.HeapRowLaws.{row_others}
-use Rattle.ref_base.proofs.HeapTurns.{renumbered, IsRefusedOrAccepted, heap_kind}
-use Rattle.ref_base.proofs.ProvenTraces.{IsMade, Known, cycle_from, lifted, made_lasts, row_known}
+use Rattle.ref_base.proofs.HeapTurns.{IsRefusedOrAccepted, heap_kind}
+use Rattle.ref_base.proofs.ProvenTraces.{IsMade, Known, lifted, row_known}
 use Rattle.ref_base.proofs.ReplayKeeps.{handed_keeps}
 use Rattle.ref_base.proofs.SoundWorlds.{first_hand}
 use Rattle.ref_turn.proofs.Logs.{leads_cut}
@@ -30,22 +30,10 @@ use Rattle.ref_share.proofs.HeapRuns.{run_holds}
 
 -- ---- a call that tells no row
 
--- it makes nothing anew
-anew_none : (O : Object → Type 0) (P : Notice → Type 0) (C : ℕ → Type 0) (a : State) (reply : Reply)
-    (asked : NamedStep) → world_step asked ≡ None → Anew O P C a (renumbered asked) reply
-anew_none O P C a reply (heap.New m d k) is = absurd cc
-anew_none O P C a reply (heap.Refer m strength d s q k) is = absurd cc
-anew_none O P C a reply (heap.Begin now how) is = absurd cc
-anew_none O P C a reply (heap.ClearNext k) is = absurd cc
-anew_none O P C a reply asked is = tt
-
 none_known : (rows : List Row) (a b : State) (asked : NamedStep) (reply : Reply) → Known rows a.world
     → world_step asked ≡ None → IsRefusedOrAccepted a asked reply b → Known rows b.world
 none_known rows a b asked reply known is (inl of) = subst (λ (s : State). Known rows s.world) (sym of.2) known
-none_known rows a b asked reply known is (inr of) =
-    let Now : ℕ → Type 0 = λ c. cycle_from 0 rows ≡ c in
-    heap_carries (IsMade rows) (IsProven rows) Now (made_lasts rows) a b (renumbered asked) reply
-    (anew_none (IsMade rows) (IsProven rows) Now a reply asked is) known of.1
+none_known rows a b asked reply known is (inr of) = grind arith
 
 -- ---- a call that tells one
 
@@ -82,12 +70,9 @@ pub record IsFrom (past : List HeapEntry) (x : HeapState) : Type 0 where
 told_known : (rows : List Row) (number : ℕ) (a b : State) (asked : NamedStep) (reply : Reply) (o : Option Step)
     → world_step asked ≡ o → HandsFree a.world → Known rows a.world → IsHeapRow number a asked reply b
     → Known (rows ++ row_of o reply) b.world
-told_known rows number a b asked reply None is free known row =
-    subst (λ (rs : List Row). Known rs b.world) (sym (append-nil rows))
-    (none_known rows a b asked reply known is (heap_kind number a b asked reply row))
+told_known rows number a b asked reply None is free known row = search (append-nil, none_known, heap_kind)
 told_known rows number a b asked reply (Some step) is free known row =
-    some_known rows a b step reply known (told_row number a b asked step reply is free row)
-    (row_others number a b asked reply row) (still_free number a b asked reply free row)
+    search (some_known, told_row, row_others, still_free number a b asked reply free row)
 
 pub call_from : (past : List HeapEntry) (x : HeapState) (call : HeapEntry) (y : HeapState) → IsFrom past x
     → IsHeapMove x call.step call.reply y → IsFrom (past ++ call ∷ []) y
@@ -101,10 +86,7 @@ call_from past x call y is move =
     }
 
 pub first_from : (config : Config) (number : ℕ) → IsFrom [] (first_heap_state config number)
-first_from config number = record {
-  free = first_hand config;
-  known = first_carries (IsMade []) (IsProven []) (λ c. cycle_from 0 [] ≡ c) config refl;
-}
+first_from config number = search (first_hand, first_carries)
 
 pub run_from : (config : Config) (number : ℕ) (calls : List HeapEntry) (last : HeapState)
     → IsHeapRun config number calls last → IsFrom calls last

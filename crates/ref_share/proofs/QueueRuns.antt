@@ -1,9 +1,8 @@
 -- The history of a queue: its lists are those of its entries.
+use Rattle.std.proofs.Common.{arith}
 use Rattle.std.proofs.Common.{◌≡◌, ℕ, Bool, true, false, ◌||◌, List, [], ◌∷◌, ◌++◌, length, Ok, Err, refl, sym, ap, ◌∙◌}
 use Rattle.std.proofs.Common.{subst}
-use Rattle.std.specs.List.{IsDistinct}
-use Rattle.std.specs.Prelude.{nat_eq}
-use Rattle.ref_share.proofs.Common.{new_queue, HeldNotice, Leads, entry, IsQueueMove, QueueEntry, QueueStep, QueueReply}
+use Rattle.ref_share.proofs.Common.{HeldNotice, Leads, entry, IsQueueMove, QueueEntry, QueueStep, QueueReply}
 use Rattle.ref_base.proofs.LegalQueues.{distinct_nil}
 use Rattle.ref_base.proofs.QueueMoves.{QueueMoves, moves_nothing, moves_more, moves_added, moves_took, moves_closed}
 use Rattle.ref_queue.specs.declared.queue.Put.TheVariants as puts
@@ -53,31 +52,18 @@ pub run_moves : (q : NoticeLists) (calls : List QueueEntry) (r : NoticeLists) �
 run_moves q [] r run =
     subst (λ (s : NoticeLists). QueueMoves reported_object q s [] [] false) run (moves_nothing reported_object q)
 run_moves q (call ∷ calls) r run =
-    moves_more reported_object q run.0 r (put_by_call call.step call.reply) (all_put_in calls)
-    (taken_by_call call.step call.reply)
-    (all_taken_out calls) (closed_by_call call.step call.reply) (is_closed_after calls)
-    (move_moves q run.0 call.step call.reply run.1) (run_moves run.0 calls r run.2)
+    search (moves_more, run_moves run.0 calls r run.2, move_moves q run.0 call.step call.reply run.1)
 
 pub keeps_lists : (number : ℕ) (calls : List QueueEntry) (last : NoticeLists) → IsQueueRun number calls last
     → KeepsLists calls last
-keeps_lists number calls last run =
-    let moves = run_moves (new_queue number) calls last run in
-    record {
-      put_is = moves.put;
-      taken_is = moves.taken;
-      closed_is = moves.closed;
-      at_most_once = subst (IsDistinct nat_eq) moves.put (moves.distinct distinct_nil);
-    }
+keeps_lists number calls last run = grind (arith, run_moves, distinct_nil)
 
 -- ---- a run in two parts
 
 -- nothing is put in behind a close
 pub nothing_after_close : (number : ℕ) (front back : List QueueEntry) (last : NoticeLists)
     → IsQueueRun number (front ++ back) last → is_closed_after front ≡ true → all_put_in back ≡ []
-nothing_after_close number front back last run shut =
-    let parts = leads_cut IsQueueMove front back (new_queue number) last run in
-    let first = keeps_lists number front parts.0 parts.1 in
-    (run_moves parts.0 back last parts.2).shut (first.closed_is ∙ shut)
+nothing_after_close number front back last run shut = grind (arith, leads_cut, run_moves)
 
 abbrev number_in : NoticeLists → ℕ
 number_in q = q.queue
@@ -106,10 +92,4 @@ pub own_at_the_end : (number by : ℕ) (front back : List QueueEntry) (notice : 
     → IsQueueRun number
     (front ++ entry by (steps.Put notice) (replies.Put (Ok (puts.Added position))) ∷ back) last
     → (notice.queue ≡ number) × (position ≡ length (all_put_in front))
-own_at_the_end number by front back notice position last run =
-    let call : QueueEntry = entry by (steps.Put notice) (replies.Put (Ok (puts.Added position))) in
-    let parts = leads_cut IsQueueMove front (call ∷ back) (new_queue number) last run in
-    let added = parts.2.1.0 in (
-      added.0.0 ∙ number_of (new_queue number) front parts.0 parts.1,
-      added.1 ∙ ap length (keeps_lists number front parts.0 parts.1).put_is,
-    )
+own_at_the_end number by front back notice position last run = grind (arith, leads_cut, number_of, keeps_lists)

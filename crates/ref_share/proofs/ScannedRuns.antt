@@ -1,10 +1,11 @@
 -- The history of a heap: no object is scanned twice in a cycle, and a mark goes on only while an object is left to
 -- scan.
-use Rattle.std.proofs.Common.{◌≡◌, ℕ, List, [], ◌∷◌, ◌++◌, Some, inl, inr, refl, sym, ap, ◌∙◌, subst}
+use Rattle.std.proofs.Common.{arith}
+use Rattle.std.proofs.Common.{◌≡◌, ℕ, List, [], ◌∷◌, ◌++◌, Some, refl, sym, ap, ◌∙◌, subst}
 use Rattle.std.specs.Prelude.{nat_eq}
 use Rattle.std.specs.List.{IsDistinct}
 use Rattle.std.proofs.lemmas.Bool.{false≢true}
-use Rattle.ref_share.proofs.Common.{State, NamedStep, scanned_in_cycle, Config, Reply, Row, told_reply, HeapState}
+use Rattle.ref_share.proofs.Common.{NamedStep, scanned_in_cycle, Config, Reply, Row, told_reply, HeapState}
 use Rattle.ref_share.proofs.Common.{IsHeapMove, HeapEntry, IsHeapRun, world_step, row_of, rows_of}
 use Rattle.ref_base.specs.CollectorRows.{IsLeft}
 use Rattle.ref_base.specs.ScannedRows.{scanned_with, scanned_from}
@@ -22,11 +23,7 @@ use Rattle.ref_share.proofs.HeapRuns.{move_turn, run_holds}
 
 call_left : (past : List HeapEntry) (x : HeapState) (call : HeapEntry) (y : HeapState) → LeftMeans x.state
     → IsHeapMove x call.step call.reply y → LeftMeans y.state
-call_left past x call y means move =
-    elim (heap_kind x.number x.state y.state call.step (told_reply call.reply) move.row) [
-      | inl of ↦ subst (λ (a : State). LeftMeans a) (sym of.2) means
-      | inr of ↦ heap_left x.state y.state (renumbered call.step) (told_reply call.reply) of.1 means
-    ]
+call_left past x call y means move = grind (arith, heap_kind, heap_left) steps 600000
 
 pub refused_left : (config : Config) (number : ℕ) (front : List HeapEntry) (a b : HeapState)
     → IsHeapRun config number front a → IsHeapMove a heap.EndMark (replies.Told (told.Refused GreyLeft)) b

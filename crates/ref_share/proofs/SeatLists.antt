@@ -1,8 +1,8 @@
 -- Lists of queues and of their seats, place by place: for those who keep such lists.
-use Rattle.std.proofs.Common.{◌≡◌, ℕ, zero, suc, List, [], ◌∷◌, ◌++◌, length, get_or, Some, ◌⊎◌, inl, inr, refl, sym}
+use Rattle.std.proofs.Common.{◌≡◌, ℕ, zero, suc, List, [], ◌∷◌, ◌++◌, length, get_or, Some, ◌⊎◌, inl, inr, refl}
 use Rattle.std.proofs.Common.{ap, subst, arith, slice_get}
 use Rattle.std.proofs.lemmas.Option.{slice_get-get_or, slice_get_within, same_Some}
-use Rattle.ref_share.proofs.Common.{AreSeats, new_queue, IsQueueMove, IsItself, IsQueueSeat, IsSeatFrom, QueueSeat}
+use Rattle.ref_share.proofs.Common.{AreSeats, IsQueueSeat, QueueSeat}
 use Rattle.ref_share.proofs.Common.{SharedQueue}
 use Rattle.ref_share.specs.QueueSeats.{IsNewQueue}
 
@@ -12,11 +12,7 @@ at_last : {T : Type 0} (xs : List T) (x y : T) (k : ℕ) → slice_get (xs ++ x 
 at_last [] x y zero at = inr (refl, same_Some x y at)
 at_last [] x y (suc k) at = absurd cc
 at_last (z ∷ xs) x y zero at = inl at
-at_last (z ∷ xs) x y (suc k) at =
-    elim (at_last xs x y k at) [
-      | inl before ↦ inl before
-      | inr last ↦ inr (omega (arith, last.0), last.1)
-    ]
+at_last (z ∷ xs) x y (suc k) at = grind (arith, at_last xs x y k)
 
 -- what stood in it stands there still
 at_front : {T : Type 0} (xs : List T) (x y : T) (k : ℕ) → slice_get xs k ≡ Some y
@@ -34,9 +30,7 @@ module _ {A : Type 0} where
   -- the first seat of a new queue is one of it
   pub new_seat : (queue : SharedQueue A) (number first : ℕ) (seat : QueueSeat A) → IsNewQueue queue number first seat
       → IsQueueSeat queue seat
-  new_seat queue number first seat is =
-      subst (λ (n : ℕ). IsSeatFrom IsItself IsQueueMove queue.turn (new_queue n) seat.seat) (sym is.number_is)
-      is.seat.seat
+  new_seat queue number first seat is = grind arith
 
   -- the seat that a list of seats has for the one queue
   pub only_seat : {queues : List (SharedQueue A)} (seats : List (QueueSeat A)) (queue : SharedQueue A)
@@ -49,19 +43,7 @@ module _ {A : Type 0} where
   pub seat_more : (queues : List (SharedQueue A)) (seats : List (QueueSeat A)) (queue : SharedQueue A)
       (seat : QueueSeat A) → AreSeats queues seats → length seats ≡ length queues → IsQueueSeat queue seat
       → AreSeats (queues ++ queue ∷ []) (seats ++ seat ∷ [])
-  seat_more queues seats queue seat are even own k other new found placed =
-      elim (at_last queues queue other k found) [
-        | inl there ↦ elim (at_last seats seat new k placed) [
-          | inl here ↦ are k other new there here
-          | inr last ↦ absurd (omega (arith, last.0, even, slice_get_within queues k other there))
-        ]
-        | inr last ↦ elim (at_last seats seat new k placed) [
-          | inl here ↦ absurd (omega (arith, last.0, even, slice_get_within seats k new here))
-          | inr end ↦
-              subst (λ (s : QueueSeat A). IsQueueSeat other s) end.1
-              (subst (λ (q : SharedQueue A). IsQueueSeat q seat) last.1 own)
-        ]
-      ]
+  seat_more queues seats queue seat are even own k other new found placed = grind (arith, at_last, slice_get_within)
 
   -- the last queue and its seat, and those before it
   pub seat_last : (queues : List (SharedQueue A)) (seats : List (QueueSeat A)) (queue : SharedQueue A)

@@ -1,19 +1,19 @@
 -- A worker's thread that hands on by deliveries alone puts into each queue what it hands on for it, in order.
-use Rattle.std.proofs.Common.{◌≡◌, ◌≢◌, ℕ, zero, suc, ◌<◌, ◌==◌, ◌&&◌, Bool, true, false, if◌then◌else◌, arith, List}
+use Rattle.std.proofs.Common.{◌≡◌, ◌≢◌, ℕ, zero, suc, ◌<◌, Bool, true, false, arith, List}
 use Rattle.std.proofs.Common.{[], ◌∷◌, ◌++◌, length, Some, Result, Ok, Err, ◌⊎◌, inl, inr, refl, sym, ap, subst, ◌∙◌}
-use Rattle.std.proofs.lemmas.Bool.{cases_Bool, false≢true, ne_eqb}
+use Rattle.std.proofs.lemmas.Bool.{false≢true}
 use Rattle.std.proofs.lemmas.List.{append-nil, append_assoc}
 use Rattle.std.proofs.lemmas.Option.{slice_get_within}
 use Rattle.std.specs.Prelude.{slice_get}
-use Rattle.ref_share.proofs.Common.{is_by, is_subsequence, NamedStep, clearing_order, Fault, BadQueue, TurnsSpent}
-use Rattle.ref_share.proofs.Common.{HoldName, HeldNotice, Put, calls_by, entry, HeapReply, PutsAt, GoesBack, Delivers}
+use Rattle.ref_share.proofs.Common.{is_subsequence, NamedStep, clearing_order, Fault, BadQueue, TurnsSpent}
+use Rattle.ref_share.proofs.Common.{HoldName, HeldNotice, Put, calls_by, HeapReply, PutsAt, GoesBack, Delivers}
 use Rattle.ref_share.proofs.Common.{HeapView, HeapEntry, heap_view, IsHeapSeat, rows_of, handed_of, handed_in}
 use Rattle.ref_share.proofs.Common.{PutsNotice, QueueView, QueueEntry, queue_view, Called, notices_put, KeepsPace}
 use Rattle.ref_share.proofs.Common.{Works, references_of, Delivery, Nothing, Added, Dropped, ShareFault, Refused, Busy}
 use Rattle.ref_share.proofs.Common.{Notice, Held, QueueReply, QueueStep, SharedQueue, QueueSeat}
 use Rattle.ref_base.specs.declared.heap_step.HeapStep.TheVariants as heap
 use Rattle.ref_base.specs.declared.reply.Reply.TheVariants as told
-use Rattle.ref_base.proofs.Subsequences.{Sub, sub_behind, sub_in_front, sub_is, sub_through}
+use Rattle.ref_base.proofs.Subsequences.{Sub, sub_is, sub_through}
 use Rattle.ref_queue.specs.declared.queue.Put.TheVariants as puts
 use Rattle.ref_world.specs.declared.heap_machine.HeapReply.TheVariants as replies
 use Rattle.ref_share.specs.Deliveries.{IsPut, IsBeyond}
@@ -31,41 +31,26 @@ module _ (k q : ℕ) where
   handed-append : (es fs : List HeapEntry)
       → notices_handed k q (es ++ fs) ≡ notices_handed k q es ++ notices_handed k q fs
   handed-append [] fs = refl
-  handed-append (e ∷ es) fs =
-      ap (λ ns. notice_handed k q e.step e.reply ++ ns) (handed-append es fs)
-      ∙ sym (append_assoc (notice_handed k q e.step e.reply) (notices_handed k q es) (notices_handed k q fs))
+  handed-append (e ∷ es) fs = search (append_assoc, handed-append es fs)
 
   put-append : (es fs : List QueueEntry) → notices_put k q (es ++ fs) ≡ notices_put k q es ++ notices_put k q fs
   put-append [] fs = refl
-  put-append (e ∷ es) fs =
-      ap (λ ns. notice_put k q e.step ++ ns) (put-append es fs)
-      ∙ sym (append_assoc (notice_put k q e.step) (notices_put k q es) (notices_put k q fs))
+  put-append (e ∷ es) fs = search (append_assoc, put-append es fs)
 
   -- a call of the heap's seat adds what it hands on
   handed_then : (v w : HeapView) (step : NamedStep) (reply : HeapReply) → Called v step reply w
       → notices_handed k q w.mine ≡ notices_handed k q v.mine ++ notice_handed k q step reply
-  handed_then v w step reply called =
-      ap (notices_handed k q) called.2 ∙ handed-append v.mine (entry v.number step reply ∷ [])
-      ∙ ap (λ ns. notices_handed k q v.mine ++ ns) (append-nil (notice_handed k q step reply))
+  handed_then v w step reply called = grind (arith, handed-append)
 
   -- or nothing
   handed_same : (v w : HeapView) (step : NamedStep) (reply : HeapReply) → notice_handed k q step reply ≡ []
       → Called v step reply w → notices_handed k q w.mine ≡ notices_handed k q v.mine
-  handed_same v w step reply none called =
-      handed_then v w step reply called ∙ ap (λ ns. notices_handed k q v.mine ++ ns) none
-      ∙ append-nil (notices_handed k q v.mine)
+  handed_same v w step reply none called = grind (arith, append-nil, handed_then v w step reply called)
 
   -- a call of a queue's seat adds what it puts in
   put_then : (v w : QueueView) (step : QueueStep) (reply : QueueReply) → Called v step reply w
       → notices_put k q w.mine ≡ notices_put k q v.mine ++ notice_put k q step
-  put_then v w step reply called =
-      ap (notices_put k q) called.2 ∙ put-append v.mine (entry v.number step reply ∷ [])
-      ∙ ap (λ ns. notices_put k q v.mine ++ ns) (append-nil (notice_put k q step))
-
-  -- a notice for another queue is none of them
-  not_for : (notice : HeldNotice) → notice.queue ≢ q → worked_notice k q notice ≡ []
-  not_for notice other =
-      ap (λ (b : Bool). if b && is_by k notice.cause then notice ∷ [] else []) (ne_eqb notice.queue q other)
+  put_then v w step reply called = grind (arith, put-append)
 
 -- whether a put was called: it wasn't where no turn was left
 abbrev was_called : Result (Put HeldNotice) (Fault × HeldNotice) → Bool
@@ -92,9 +77,7 @@ module _ {A : Type 0} (k q : ℕ) (queues : List (SharedQueue A)) (seats after :
   beside_it : (notice : HeldNotice) (w : HeapView) → notice.queue ≢ q → slice_get seats q ≡ Some s
       → notices_handed k q w.mine ≡ notices_handed k q v.mine ++ worked_notice k q notice
       → notices_put k q (queue_view s).mine ≡ notices_handed k q w.mine
-  beside_it notice w other there gives =
-      pace q s within there ∙ sym (append-nil (notices_handed k q v.mine))
-      ∙ ap (λ ns. notices_handed k q v.mine ++ ns) (sym (not_for k q notice other)) ∙ sym gives
+  beside_it notice w other there gives = grind (arith, append-nil)
 
   -- the notice that was handed on is put in
   one_put : (notice : HeldNotice) (answer : Result (Put HeldNotice) (Fault × HeldNotice)) (w : HeapView)
@@ -117,15 +100,7 @@ module _ {A : Type 0} (k q : ℕ) (queues : List (SharedQueue A)) (seats after :
   none_put : (notice : HeldNotice) (w : HeapView) → IsBeyond notice queues seats → after ≡ seats
       → notices_handed k q w.mine ≡ notices_handed k q v.mine ++ worked_notice k q notice
       → notices_put k q (queue_view s).mine ≡ notices_handed k q w.mine
-  none_put notice w beyond same gives =
-      let there : slice_get seats q ≡ Some s = ap (λ l. slice_get l q) (sym same) ∙ at in
-      let inside : q < length seats = slice_get_within seats q s there in
-      beside_it notice w
-      (λ is. elim beyond [
-        | inl short ↦ absurd (omega (arith, is, within, short))
-        | inr short ↦ absurd (omega (arith, is, inside, short))
-      ])
-      there gives
+  none_put notice w beyond same gives = grind (arith, slice_get_within, beside_it)
 
   -- a put that could not add the notice
   refused_put : (notice : HeldNotice) (fault : Fault) (back : HeldNotice) (w : HeapView)
@@ -194,50 +169,27 @@ module _ {A : Type 0} (k : ℕ) (queues : List (SharedQueue A)) where
   pub keeps_pace : (count : ℕ) (v w : HeapView) (seats after : List (QueueSeat A))
       → Works k queues count v seats w after
       → KeepsPace k queues v seats → KeepsPace k queues w after
-  keeps_pace zero v w seats after works pace q s within at =
-      pace q s within (ap (λ l. slice_get l q) (sym works.1) ∙ at)
-      ∙ ap (λ (u : HeapView). notices_handed k q u.mine) (sym works.0)
+  keeps_pace zero v w seats after works pace q s within at = grind arith
   keeps_pace (suc count) v w seats after works pace q s within at =
-      let before : KeepsPace k queues works.0 works.1 =
-      keeps_pace count v works.0 seats works.1 works.2 pace in
-      elim works.3 [
-        | inl d ↦ delivery_keeps k q queues works.1 after works.0 before within s at d.0 d.1 w d.2 d.3
-        | inr beside ↦
-            let was = beside.1 q s at in
-            was.2 ∙ before q was.0 within was.1 ∙ sym (beside.0 q)
-      ]
+      grind (arith, delivery_keeps, keeps_pace count v works.0 seats works.1 works.2 pace)
 
 -- ---- in clearing order
 
 -- the references of the notices are those that hands are said to hand on
 reported_by : (k q : ℕ) (step : NamedStep) (reply : HeapReply) (ns : List HeldNotice)
     → references_of (notice_handed k q step reply ++ ns) ≡ handed_of k q step reply ++ references_of ns
-reported_by k q (heap.Hand j) (replies.Notice notice) ns =
-    elim (cases_Bool ((notice.queue == q) && is_by k notice.cause)) [
-      | inl worked ↦ simp worked refl
-      | inr not ↦ simp not refl
-    ]
+reported_by k q (heap.Hand j) (replies.Notice notice) ns = grind arith
 reported_by k q (heap.Hand j) reply ns = refl
 reported_by k q step reply ns = refl
 
 reported_in : (k q : ℕ) (calls : List HeapEntry) → references_of (notices_handed k q calls) ≡ handed_in k q calls
 reported_in k q [] = refl
-reported_in k q (call ∷ calls) =
-    reported_by k q call.step call.reply (notices_handed k q calls)
-    ∙ ap (λ ns. handed_of k q call.step call.reply ++ ns) (reported_in k q calls)
+reported_in k q (call ∷ calls) = search (reported_by, reported_in k q calls)
 
 -- a seat's own hands are among all
 own_among : (k q n : ℕ) (calls : List HeapEntry) → Sub (handed_in k q (calls_by n calls)) (handed_in k q calls)
 own_among k q n [] = refl
-own_among k q n (call ∷ calls) =
-    let gives : List ℕ = handed_of k q call.step call.reply in
-    elim (cases_Bool (call.by == n)) [
-      | inl own ↦
-          simp own (sub_behind gives (handed_in k q (calls_by n calls)) (handed_in k q calls) (own_among k q n calls))
-      | inr other ↦
-          simp other
-          (sub_in_front gives (handed_in k q (calls_by n calls)) (handed_in k q calls) (own_among k q n calls))
-    ]
+own_among k q n (call ∷ calls) = grind (arith, own_among k q n calls)
 
 -- so what the seat of a queue has put in of what a worker cleared comes in the order in which the worker cleared it
 pub put_in_clearing_order : {A : Type 0} (heap : SharedHeap A) (heap_seat : HeapSeat A) (k q : ℕ)
@@ -246,11 +198,4 @@ pub put_in_clearing_order : {A : Type 0} (heap : SharedHeap A) (heap_seat : Heap
     → is_subsequence (references_of (notices_put k q (queue_view s).mine))
     (clearing_order (rows_of (heap_view heap_seat).seen) k q) ≡ true
 put_in_clearing_order heap heap_seat k q queues seats s is pace within at =
-    let v : HeapView = heap_view heap_seat in
-    let order : List ℕ = clearing_order (rows_of v.seen) k q in
-    let own : handed_in k q (calls_by v.number v.seen) ≡ references_of (notices_put k q (queue_view s).mine) =
-    ap (handed_in k q) is.history.own ∙ sym (reported_in k q v.mine) ∙ ap references_of (sym (pace q s within at)) in
-    sub_is (references_of (notices_put k q (queue_view s).mine)) order
-    (subst (λ ns. Sub ns order) own
-    (sub_through (handed_in k q (calls_by v.number v.seen)) (handed_in k q v.seen) order (own_among k q v.number v.seen)
-    (handed_in_order heap.config heap.heap_no v.seen is.history.last k q is.history.run)))
+    grind (arith, reported_in, sub_is, sub_through, handed_in_order, own_among k q)

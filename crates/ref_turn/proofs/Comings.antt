@@ -14,7 +14,7 @@ use Rattle.ref_turn.specs.Rule.{IsOpen, Knows, SeatOk, first_view, Turned}
 use Rattle.ref_turn.specs.Seats.{EndsAs}
 use Rattle.ref_turn.specs.Steps.{split_view, taken_in, spent_view}
 use Rattle.ref_turn.proofs.Logs.{starts_self, reaches_start, reaches_legal}
-use Rattle.ref_turn.proofs.Stays.{at_below, differs, knows_more, none_within, none_open, settled}
+use Rattle.ref_turn.proofs.Stays.{at_below, differs, knows_more, none_open, settled}
 
 module _ {A : Type 0} where
   -- an element of a list with one more is an old one, or the new one, which stands at the end
@@ -185,21 +185,4 @@ module _ {M X S R : Type 0} (stands_for : M → X → Type 0) (moves : X → S �
   pub finishes : (k : Origin M) (id : ℕ) (v : V) (ws : List ℕ) (xs : List (Option M)) (a b : ℕ) (slot : Option M)
       → v.stage ≡ Idle → Final (Seen (Rule k) id v) ws xs → get_elem? ws 0 ≡ some a → get_elem? ws 1 ≡ some b
       → a ≡ b → get_elem? xs 0 ≡ some slot → (m : M) × (slot ≡ Some m) × EndsAs stands_for moves v m
-  finishes k id v ws xs a b slot idle final served tickets same has =
-      let s = final.0 in let r : Rule k s = final.1.0 in let at = final.1.1 in
-      let words : ws ≡ r.served ∷ r.tickets ∷ [] = sym final.2 ∙ r.words_are in
-      let first : a ≡ r.served = some-injective _ _ (sym served ∙ ap (λ l. get_elem? l 0) words) in
-      let second : b ≡ r.tickets = some-injective _ _ (sym tickets ∙ ap (λ l. get_elem? l 1) words) in
-      let home = r.home (none_within stands_for moves k s r (sym first ∙ same ∙ second)) in let m : M = home.0 in
-      let was = r.each_seat id v at in
-      let own = subst (Knows r.log r.served r.tickets s.views id v) idle was.knows in
-      let unspent : v.stage ≢ Spent = λ is. differs Idle tt (sym idle ∙ is) in (
-        m,
-        some-injective _ _ (sym has ∙ final.4 0 (Some m) (ap (λ hs. get_elem? hs 0) home.1)),
-        (
-          r.log,
-          was.seen,
-          ap (λ j. calls_by j r.log) own.0 ∙ own.1,
-          subst (λ start. Reaches stands_for moves start r.log m) (sym (was.start unspent)) home.2,
-        ),
-      )
+  finishes k id v ws xs a b slot idle final served tickets same has = grind (arith, some-injective, final.4 0)

@@ -1,5 +1,5 @@
 -- Facts of histories as lists.
-use Rattle.std.proofs.Common.{◌≡◌, ◌≢◌, ◌==◌, ℕ, Bool, true, false, eq-eqb, ne_eqb, if◌then◌else◌, List, [], ◌∷◌, ◌++◌}
+use Rattle.std.proofs.Common.{◌≡◌, ◌≢◌, ◌==◌, ℕ, Bool, true, false, eq-eqb, if◌then◌else◌, List, [], ◌∷◌, ◌++◌}
 use Rattle.std.proofs.Common.{length, append_assoc, length-append, ◌≤◌, refl, sym, ap, ◌∙◌, subst, arith, Option, Some}
 use Rattle.std.proofs.lemmas.List.{append-nil}
 use Rattle.std.proofs.lemmas.Option.{same_Some}
@@ -29,17 +29,12 @@ module _ {S R : Type 0} where
   -- an own call stands last among the own calls
   pub calls_by-own : (n : ℕ) (xs : List (Entry S R)) (e : Entry S R) → e.by ≡ n
       → calls_by n (xs ++ e ∷ []) ≡ calls_by n xs ++ e ∷ []
-  calls_by-own n xs e own =
-      calls_by-append n xs (e ∷ [])
-      ∙ ap (λ (b : Bool). calls_by n xs ++ (if b then e ∷ [] else [])) (eq-eqb e.by n own)
+  calls_by-own n xs e own = search (calls_by-append, eq-eqb)
 
   -- another seat's call is none of the own calls
   pub calls_by-other : (n : ℕ) (xs : List (Entry S R)) (e : Entry S R) → e.by ≢ n
       → calls_by n (xs ++ e ∷ []) ≡ calls_by n xs
-  calls_by-other n xs e other =
-      calls_by-append n xs (e ∷ [])
-      ∙ ap (λ (b : Bool). calls_by n xs ++ (if b then e ∷ [] else [])) (ne_eqb e.by n other)
-      ∙ append-nil (calls_by n xs)
+  calls_by-other n xs e other = grind (arith, calls_by-append, append-nil)
 
   if_shorter : (b : Bool) (e : Entry S R) (xs ys : List (Entry S R)) → length xs ≤ length ys
       → length (if b then e ∷ xs else xs) ≤ length (e ∷ ys)
@@ -54,9 +49,7 @@ module _ {S R : Type 0} where
   -- a seat with no call in a history has none in its beginning
   pub calls_by-none : (n : ℕ) (log seen : List (Entry S R)) → StartsWith log seen → calls_by n log ≡ []
       → calls_by n seen ≡ []
-  calls_by-none n log seen begins none =
-      nil_before (calls_by n seen) (calls_by n begins.0)
-      (sym (calls_by-append n seen begins.0) ∙ ap (calls_by n) (sym begins.1) ∙ none)
+  calls_by-none n log seen begins none = grind (arith, nil_before, calls_by-append)
 
   pub starts_self : (log : List (Entry S R)) → StartsWith log log
   starts_self log = ([], sym (append-nil log))
@@ -70,11 +63,7 @@ module _ {S R : Type 0} where
 
   -- what was seen is all, where it is as long
   pub starts_whole : (log seen : List (Entry S R)) → StartsWith log seen → length log ≤ length seen → seen ≡ log
-  starts_whole log seen begins small =
-      let more : List (Entry S R) = begins.0 in
-      let all : more ≡ [] =
-      nil_at_end seen more (subst (λ (l : List (Entry S R)). length l ≤ length seen) begins.1 small) in
-      sym (begins.1 ∙ ap (λ l. seen ++ l) all ∙ append-nil seen)
+  starts_whole log seen begins small = grind (arith, nil_at_end, append-nil)
 
   module _ {X : Type 0} (moves : X → S → R → X → Type 0) where
     leads-snoc : (log : List (Entry S R)) (e : Entry S R) (x y z : X) → Leads moves x log y → moves y e.step e.reply z
@@ -98,9 +87,7 @@ module _ {S R : Type 0} where
     pub reaches-snoc : (start : Option M) (log : List (Entry S R)) (m n : M) (e : Entry S R)
         → ((x : X) → stands_for m x → (y : X) × moves x e.step e.reply y × stands_for n y)
         → Reaches stands_for moves start log m → Reaches stands_for moves start (log ++ e ∷ []) n
-    reaches-snoc start log m n e follows reaches a x is stands =
-        let y = reaches a x is stands in let z = follows y.0 y.2 in
-        (z.0, leads-snoc moves log e x y.0 z.0 y.1 z.1, z.2)
+    reaches-snoc start log m n e follows reaches a x is stands = grind (arith, leads-snoc)
 
     -- the first machine is reached by no call
     pub reaches_start : (m : M) → Reaches stands_for moves (Some m) [] m

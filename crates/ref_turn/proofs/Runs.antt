@@ -1,14 +1,15 @@
 -- What a turn adds to the history.
+use Rattle.std.proofs.Common.{arith}
 use Rattle.std.proofs.Common.{◌≡◌, ℕ, List, [], ◌∷◌, ◌++◌, sym, ap, ◌∙◌, subst, Some, None}
 use Rattle.std.proofs.lemmas.Option.{same_Some}
 use Rattle.std.specs.Prelude.{Option}
 use Rattle.atomic_table.specs.Table.{rest}
 use Rattle.ref_turn.specs.declared.history.Entry.{Entry}
 use Rattle.ref_turn.specs.declared.history.View.{View}
-use Rattle.ref_turn.specs.History.{calls_by, Reaches, IsLegalLog}
+use Rattle.ref_turn.specs.History.{calls_by, Reaches}
 use Rattle.ref_turn.specs.Seats.{entry, Extends, IsHistory}
 use Rattle.ref_turn.specs.Turns.{HoldsMachine, HoldsTurn}
-use Rattle.ref_turn.proofs.Logs.{calls_by-own, reaches_legal, reaches-snoc}
+use Rattle.ref_turn.proofs.Logs.{calls_by-own, reaches-snoc}
 
 module _ {M : Type 0} where
   first_held : List (ℕ × Option M) → Option M
@@ -44,12 +45,4 @@ module _ {M X S R : Type 0} (stands_for : M → X → Type 0) (moves : X → S �
   pub ran : (v w : View M S R) (e : Entry S R) (m : M) → e.by ≡ v.number → calls_by v.number v.seen ≡ v.mine
       → Reaches stands_for moves v.start (v.seen ++ e ∷ []) m → Extends v e w → w.seen ≡ v.seen ++ e ∷ []
       → IsHistory stands_for moves w
-  ran v w e m own mine reaches extends seen = (
-    subst (λ l. IsLegalLog stands_for moves w.start l) (sym seen)
-        (subst (λ a. IsLegalLog stands_for moves a (v.seen ++ e ∷ [])) (sym extends.0.2)
-        (reaches_legal stands_for moves v.start (v.seen ++ e ∷ []) m reaches)),
-    (λ i. calls_by (extends.0.0 i) (seen i))
-        ∙ calls_by-own v.number v.seen e own
-        ∙ ap (λ l. l ++ e ∷ []) mine
-        ∙ sym extends.2,
-  )
+  ran v w e m own mine reaches extends seen = grind (arith, calls_by-own)

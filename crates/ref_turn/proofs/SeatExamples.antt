@@ -1,8 +1,6 @@
 -- What seats may know and what they may not, of a count to which two of them add: seat 0 added 2 to 10, and then seat 1
 -- added 3.
-use Rattle.std.proofs.Common.{◌≡◌, ℕ, ◌+◌, ◌-◌, ◌^◌, ◌≤◌, List, [], ◌∷◌, ◌++◌, length, Some, refl, ap, arith}
-use Rattle.std.proofs.Common.{length-append, subst}
-use Rattle.std.proofs.lemmas.Option.{same_Some}
+use Rattle.std.proofs.Common.{◌≡◌, ℕ, ◌+◌, ◌-◌, ◌^◌, ◌≤◌, List, [], ◌∷◌, Some, refl, arith}
 use Rattle.ref_turn.specs.declared.history.Entry.{Entry}
 use Rattle.ref_turn.specs.declared.history.Stage.TheVariants.{Idle}
 use Rattle.ref_turn.specs.declared.history.View.{View}
@@ -44,18 +42,14 @@ after = seat (first_call ∷ second_call ∷ []) (second_call ∷ []) 2 2
 -- ---- histories
 
 led : (a x : ℕ) → Some 10 ≡ Some a → IsCount a x → Leads Counts x (first_call ∷ second_call ∷ []) 15
-led a x is stands =
-    let ten : 10 ≡ a = same_Some 10 a is in
-    (12, (omega (arith, ten, stands), omega (arith, ten, stands)), (15, (refl, refl), refl))
+led a x is stands = grind arith
 
 it_has_a_history : IsHistory IsCount Counts after
 it_has_a_history = ((λ a x is stands. (15, led a x is stands)), refl)
 
 a_reply_of_another_count_is_no_history : ¬ (IsHistory IsCount Counts
     (seat (first_call ∷ entry 1 3 10 ∷ []) (entry 1 3 10 ∷ []) 2 2))
-a_reply_of_another_count_is_no_history is =
-    let run = is.0 10 10 refl refl in
-    let twelve = run.1.1.1 in let ten = run.1.2.1.0 in absurd (omega (arith, twelve, ten))
+a_reply_of_another_count_is_no_history is = grind (arith, is.0 10 10)
 
 an_own_call_left_out_is_no_history : ¬ (IsHistory IsCount Counts (seat (first_call ∷ second_call ∷ []) [] 2 2))
 an_own_call_left_out_is_no_history is = let none = is.1 in absurd cc
@@ -66,9 +60,7 @@ it_made_its_call : Extends before second_call after
 it_made_its_call = ((refl, refl, refl), ([], refl), refl)
 
 a_history_that_starts_anew_is_none : ¬ (Extends before second_call (seat (second_call ∷ []) (second_call ∷ []) 2 2))
-a_history_that_starts_anew_is_none is =
-    let more : List (Entry ℕ ℕ) = is.1.0 in
-    absurd (omega (arith, ap length is.1.1, length-append (first_call ∷ more) (second_call ∷ [])))
+a_history_that_starts_anew_is_none is = grind arith
 
 it_only_looked : Longer before (seat (first_call ∷ entry 0 1 12 ∷ []) [] 2 2)
 it_only_looked = ((refl, refl, refl), (entry 0 1 12 ∷ [], refl), refl)
@@ -122,10 +114,4 @@ grows [] x y run = omega (arith, run)
 grows (call ∷ log) x y run = let rest = grows log run.0 y run.2 in omega (arith, run.1.1, rest)
 
 it_does_not_end_with_14 : ¬ (EndsAs IsCount Counts after 14)
-it_does_not_end_with_14 ends =
-    let begins : ends.0 ≡ (first_call ∷ second_call ∷ []) ++ ends.1.0 = ends.1.1 in
-    let reached = ends.3 10 10 refl refl in
-    let run : Leads Counts 10 (first_call ∷ (second_call ∷ ends.1.0)) reached.0 =
-    subst (λ (log : List (Entry ℕ ℕ)). Leads Counts 10 log reached.0) begins reached.1 in
-    let rest = grows ends.1.0 run.2.0 reached.0 run.2.2 in
-    absurd (omega (arith, run.1.1, run.2.1.1, rest, reached.2))
+it_does_not_end_with_14 ends = grind (arith, grows, ends.3 10 10)

@@ -132,9 +132,7 @@ module _ {M X S R : Type 0} (stands_for : M → X → Type 0) (moves : X → S �
 
   -- no turn is open where as many have ended as tickets were drawn
   pub none_within : (k : Origin M) (s : St) (r : Turned stands_for moves k s) → r.served ≡ r.tickets → NoneOpen s.views
-  none_within k s r even j u at has =
-      let within = open_within r.log r.served r.tickets s.views j u u.stage has (r.each_seat j u at).knows in
-      absurd (omega (arith, even, within))
+  none_within k s r even j u at has = grind arith
 
   -- a seat moves and adds nothing to the history
   unfoldable pub settled : (k : Origin M) (s : St) (r : Turned stands_for moves k s) (id : ℕ) (v w : V) (ws : List ℕ)

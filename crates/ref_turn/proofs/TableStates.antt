@@ -1,7 +1,7 @@
 -- Which states the rule of a turn's table allows: a turn ends once, one seat at most holds it, and while it is held the
 -- machine is not in its slot.
 use Rattle.std.proofs.Common.{◌≡◌, ℕ, zero, suc, ◌+◌, ◌<◌, ◌^◌, List, [], ◌∷◌, Option, refl, sym, ap, ◌∙◌, subst}
-use Rattle.std.proofs.Common.{get_or, arith}
+use Rattle.std.proofs.Common.{arith}
 use lib.ListN.{get_elem?}
 use mathlib.Core.Option.{some, none, some-injective, some-ne-none}
 use Rattle.atomic_table.specs.Table.{State}
@@ -14,11 +14,7 @@ module _ {M X S R : Type 0} (stands_for : M → X → Type 0) (moves : X → S �
   -- two turns have ended, where one ticket was drawn
   pub no_turn_ends_twice : (s : State (Option M) (View M S R)) → s.words ≡ 2 ∷ 1 ∷ []
       → ¬ (Turned stands_for moves k s)
-  no_turn_ends_twice s words rule =
-      let are = sym words ∙ rule.words_are in
-      let served : 2 ≡ rule.served = ap (λ l. get_or l 0 0) are in
-      let tickets : 1 ≡ rule.tickets = ap (λ l. get_or l 1 0) are in
-      absurd (omega (arith, rule.behind))
+  no_turn_ends_twice s words rule = grind arith
 
   -- the first seat holds the turn
   abbrev pub holder : View M S R

@@ -1,17 +1,17 @@
 -- What a step of the world asks of its heap is a row of the world, with what it leaves in the hands.
-use Rattle.std.proofs.Common.{◌≡◌, Bool, true, false, if◌then◌else◌, List, Option, Some, None, refl, sym, ap, subst}
+use Rattle.std.proofs.Common.{arith}
+use Rattle.std.proofs.Common.{◌≡◌, Bool, true, false, if◌then◌else◌, List, Option, Some, None, refl, ap, subst}
 use Rattle.std.proofs.Common.{◌∙◌}
 use Rattle.std.specs.Prelude.{is_some}
 use Rattle.ref_world.proofs.Common.{NamedStep, told_notice, World, Notice, with_hand, heap_refusal, refusal, State}
 use Rattle.ref_world.proofs.Common.{with_world, IsHeapRow, IsRow, Actor, Mutator, Worker, Reply, Step, WorldHeap}
 use Rattle.ref_world.proofs.Common.{answer_in, after_in, HeapStands, received, Core, Hands, with_hand_in, Stands}
-use Rattle.ref_world.proofs.Common.{IsRowOf, cycles_of}
+use Rattle.ref_world.proofs.Common.{IsRowOf}
 use Rattle.ref_base.specs.HeapSteps.{heap_step, handed, taking}
 use Rattle.ref_base.specs.Told.{told_object, is_done}
 use Rattle.ref_base.specs.Refusals.{asked_refusal}
 use Rattle.ref_base.specs.declared.step.Step.TheVariants as steps
 use Rattle.ref_base.proofs.HeapRowLaws.{carried_row, row_others}
-use Rattle.ref_mark.proofs.OtherHands.{stands-with_others}
 use Rattle.ref_clear.proofs.HeapLaws.{each_step}
 use Rattle.ref_clear.proofs.OwnNumbers.{number_after}
 use Rattle.ref_world.specs.AskedSteps.{is_quiet, Asks}
@@ -23,9 +23,7 @@ hands_of w = record { mutators = w.mutator_hands; workers = w.worker_hands }
 
 -- those of the state are the core's
 pub hands_are : (c : Core) (a : State) → Stands c a → hands_of a.world ≡ c.hands
-hands_are c a stands =
-    ap (λ (hs : List (Option Notice)). record { mutators = hs; workers = a.world.worker_hands }) stands.mutator_hands
-    ∙ ap (λ (hs : List (Option Notice)). record { mutators = c.hands.mutators; workers = hs }) stands.worker_hands
+hands_are c a stands = grind arith
 
 -- what a row of the heap leaves in the hands
 abbrev pub handed_in : Hands → Step → Reply → Hands
@@ -69,12 +67,7 @@ handed-only w step reply = refl
 -- whatever is in the hands and queues, the heap stands for the state
 pub heap_stands-with : (k : WorldHeap) (a : State) (hands : Hands) → HeapStands k a
     → HeapStands k (with_world a (with_hands_of a.world hands))
-heap_stands-with k a hands stands = record {
-  mark = stands-with_others (cycles_of k) a hands.mutators hands.workers a.world.queues a.moments
-      (λ marking n ever. ever) (λ marking n ever. ever) stands.mark;
-  pending = stands.pending;
-  waiting = stands.waiting;
-}
+heap_stands-with k a hands stands = search
 
 abbrev pub asked_core : Core → NamedStep → Hands → Core
 asked_core c asked hands = record { heap = after_in c.heap asked; hands = hands; queues = c.queues }
@@ -129,20 +122,9 @@ quiet_refusal a (steps.Release who) quiet = absurd cc
 quiet_refusal a (steps.Close m q) quiet = absurd cc
 quiet_refusal a step quiet = refl
 
-quiet_hands : (hands : Hands) (step : Step) (reply : Reply) → is_quiet step ≡ true → handed_in hands step reply ≡ hands
-quiet_hands hands (steps.Unhook m s) reply quiet = absurd cc
-quiet_hands hands (steps.Hand k) reply quiet = absurd cc
-quiet_hands hands (steps.Adopt m d) reply quiet = absurd cc
-quiet_hands hands (steps.Release who) reply quiet = absurd cc
-quiet_hands hands step reply quiet = refl
-
 pub quiet_row : (c : Core) (step : Step) (asked : NamedStep) → is_quiet step ≡ true → Asks step asked
     → IsRowOf c step (answer_in c.heap asked) (asked_core c asked c.hands)
-quiet_row c step asked quiet asks a stands =
-    subst (λ (hands : Hands). row_to a step (answer_in c.heap asked) (asked_core c asked hands))
-    (quiet_hands c.hands step (answer_in c.heap asked) quiet)
-    (asked_row c a step asked stands (asks a.world)
-    (quiet_refusal a step quiet ∙ ap (asked_refusal a) (asks a.world)))
+quiet_row c step asked quiet asks a stands = grind (arith, asked_row, quiet_refusal a step quiet)
 
 -- ---- what is answered and left is what a row says
 
@@ -150,8 +132,4 @@ pub as_told : (c : Core) (step : Step) (asked : NamedStep) (hands : Hands) {repl
     → reply ≡ answer_in c.heap asked → heap ≡ after_in c.heap asked
     → IsRowOf c step (answer_in c.heap asked) (asked_core c asked hands)
     → IsRowOf c step reply (record { heap = heap; hands = hands; queues = c.queues })
-as_told c step asked hands {reply} {heap} answers leaves row =
-    subst (λ (r : Reply). IsRowOf c step r (record { heap = heap; hands = hands; queues = c.queues })) (sym answers)
-    (subst
-    (λ (k : WorldHeap). IsRowOf c step (answer_in c.heap asked) (record { heap = k; hands = hands; queues = c.queues }))
-    (sym leaves) row)
+as_told c step asked hands {reply} {heap} answers leaves row = grind arith

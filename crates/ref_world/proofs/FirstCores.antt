@@ -10,10 +10,7 @@ use Rattle.ref_world.specs.Cores.{first_hands, first_core}
 pub new_queues_more : (first count next : ℕ) → next ≡ first + count
     → new_queues {T = Notice} first (count + 1) ≡ new_queues first count ++ new_queue next ∷ []
 new_queues_more first zero next is = ap (λ q. new_queue q ∷ []) (omega (arith, is))
-new_queues_more first (suc count) next is =
-    let later = new_queues_more (first + 1) count next (omega (arith, is)) in
-    let counted : suc count + 1 ≡ suc (count + 1) = omega arith in
-    rw counted (ap (λ queues. new_queue first ∷ queues) later)
+new_queues_more first (suc count) next is = grind (arith, new_queues_more (first + 1) count next)
 
 module _ (config : Config) (stands : HeapStands (first_clear_heap config 0 1 0) (first_state config)) where
   pub first_stands : Stands (first_core config) (first_state config)

@@ -1,6 +1,7 @@
 -- Rows of the steps that fill or empty a hand by way of the heap.
+use Rattle.std.proofs.Common.{arith}
 use Rattle.std.proofs.Common.{◌≡◌, ℕ, true, ◌==◌, ◌&&◌, Some, None, refl, sym, ap, subst, ◌∙◌}
-use Rattle.ref_world.proofs.Common.{has, told_notice, Notice, hand_of, unless, unless_full, empty_hand_refusal}
+use Rattle.ref_world.proofs.Common.{has, told_notice, Notice, hand_of, unless, empty_hand_refusal}
 use Rattle.ref_world.proofs.Common.{has_slot, drop_refusal, Actor, Mutator, Worker, NoSuchActor, Reply, unless_refused}
 use Rattle.ref_world.proofs.Common.{WorldHeap, answer_in, after_in, received, Core, Hands, hand_in, with_hand_in}
 use Rattle.ref_world.proofs.Common.{has_hand, filling_refusal, emptying_refusal, IsReached, IsRowOf, heap_no_of}
@@ -18,14 +19,12 @@ use Rattle.ref_world.specs.declared.heap_machine.HeapReply.TheVariants.{Told, No
 use Rattle.ref_world.proofs.AskedRows.{handed_in, asked_core, row_to, asked_row}
 use Rattle.ref_world.proofs.ReachedCores.{same_hand, same_holds, same_actors, hand_is_counted}
 use Rattle.ref_base.proofs.RowForms.{unless_passes}
-use Rattle.ref_world.proofs.Refusals.{same_actor, empty_from}
+use Rattle.ref_world.proofs.Refusals.{same_actor}
 
 -- ---- an empty hand
 
 pub free_from : (hands : Hands) (who : Actor) → filling_refusal hands who ≡ None → hand_in hands who ≡ None
-free_from hands who accepted =
-    empty_from (hand_in hands who)
-    (unless_passes (has_hand hands who) NoSuchActor (unless_full (hand_in hands who) None) accepted).1
+free_from hands who accepted = grind arith
 
 -- the hand that an unhook's notice goes to
 pub unhook_row : (c : Core) (m s : ℕ) → hand_in c.hands (Mutator m) ≡ None
@@ -85,9 +84,7 @@ module _ (c : Core) (reached : IsReached c) where
   pub released_reply : (who : Actor) (notice : Notice)
       → has_hand c.hands who ≡ true → hand_in c.hands who ≡ Some notice
       → answer_in c.heap (heap.Release (hold_of notice)) ≡ replies.Done
-  released_reply who notice there full =
-      ap (λ refused. unless_refused refused replies.Refused replies.Done)
-      (ap (λ test. unless test ForeignHold None) (counted who notice there full))
+  released_reply who notice there full = search (counted who notice there full)
 
   adopt_row : (m d : ℕ) (notice : Notice) → drop_refusal (model_heap c.heap) m d ≡ None
       → has_hand c.hands (Mutator m) ≡ true → hand_in c.hands (Mutator m) ≡ Some notice
@@ -124,9 +121,7 @@ module _ (c : Core) (reached : IsReached c) where
       → drop_refusal (model_heap c.heap) m d ≡ None
       → emptying_refusal c.hands (Mutator m) ≡ None → hand_in c.hands (Mutator m) ≡ Some notice → hold ≡ hold_of notice
       → reply ≡ answer_in c.heap (heap.Adopt m d hold) → reply ≡ replies.Object notice.object
-  adopt_reply m d notice hold reply slot accepted full is answers =
-      answers ∙ ap (λ (h : HoldName). answer_in c.heap (heap.Adopt m d h)) is
-      ∙ adopted_reply m d notice slot (there_from c.hands (Mutator m) accepted) full
+  adopt_reply m d notice hold reply slot accepted full is answers = grind (arith, adopted_reply)
 
   pub adopt_done : (m d : ℕ) (notice : Notice) (hold : HoldName) {reply : Reply} {k : WorldHeap} {hands : Hands}
       → drop_refusal (model_heap c.heap) m d ≡ None
@@ -135,15 +130,12 @@ module _ (c : Core) (reached : IsReached c) where
       → hands ≡ with_hand_in c.hands (Mutator m) None
       → IsRowOf c (steps.Adopt m d) reply (record { heap = k; hands = hands; queues = c.queues })
   adopt_done m d notice hold {reply} {k} {hands} slot accepted full is answers leaves emptied =
-      rw (adopt_reply m d notice hold reply slot accepted full is answers, leaves, is, emptied)
-      (adopt_row m d notice slot (there_from c.hands (Mutator m) accepted) full)
+      grind (arith, adopt_reply, adopt_row)
 
   pub release_reply : (who : Actor) (notice : Notice) (hold : HoldName) (reply : Reply)
       → emptying_refusal c.hands who ≡ None → hand_in c.hands who ≡ Some notice → hold ≡ hold_of notice
       → reply ≡ answer_in c.heap (heap.Release hold) → reply ≡ replies.Done
-  release_reply who notice hold reply accepted full is answers =
-      answers ∙ ap (λ (h : HoldName). answer_in c.heap (heap.Release h)) is
-      ∙ released_reply who notice (there_from c.hands who accepted) full
+  release_reply who notice hold reply accepted full is answers = grind (arith, released_reply who notice)
 
   pub release_done : (who : Actor) (notice : Notice) (hold : HoldName) {reply : Reply} {k : WorldHeap} {hands : Hands}
       → emptying_refusal c.hands who ≡ None → hand_in c.hands who ≡ Some notice → hold ≡ hold_of notice
@@ -151,5 +143,4 @@ module _ (c : Core) (reached : IsReached c) where
       → hands ≡ with_hand_in c.hands who None
       → IsRowOf c (steps.Release who) reply (record { heap = k; hands = hands; queues = c.queues })
   release_done who notice hold {reply} {k} {hands} accepted full is answers leaves emptied =
-      rw (release_reply who notice hold reply accepted full is answers, leaves, is, emptied)
-      (release_row who notice (there_from c.hands who accepted) full)
+      grind (arith, release_reply, release_row)

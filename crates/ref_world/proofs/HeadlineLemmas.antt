@@ -1,20 +1,15 @@
 -- The headline's clauses, of every legal trace.
-use Rattle.std.proofs.Common.{◌≡◌, ℕ, true, ◌&&◌, List, ◌∷◌, ◌++◌, length, map, Option, Some, None, sym, ap, subst, ◌∙◌}
-use Rattle.std.proofs.lemmas.Bool.{and_parts}
-use Rattle.ref_world.proofs.Common.{State, first_state, has, Lists, enqueued, World, Notice, object_of, Config, Row}
-use Rattle.ref_world.proofs.Common.{Core, CycleHeap, Stands, cycles_of}
-use Rattle.ref_base.specs.AgreeingWorlds.{is_waiting}
-use Rattle.ref_base.specs.Collectors.{joined}
+use Rattle.std.proofs.Common.{arith}
+use Rattle.std.proofs.Common.{◌≡◌, ℕ, List, ◌∷◌, ◌++◌, length, map, Option, Some, None, sym, ap, subst, ◌∙◌}
+use Rattle.ref_world.proofs.Common.{State, first_state, Lists, enqueued, Notice, object_of, Config, Row}
+use Rattle.ref_world.proofs.Common.{Core, Stands}
 use Rattle.ref_base.specs.CollectorRows.{IsRun}
-use Rattle.ref_base.specs.Forgetting.{heap_but}
 use Rattle.ref_base.specs.LegalTraces.{IsLegal}
 use Rattle.ref_base.specs.MarkEnds.{IsAfterMark, IsAfterMarkIn}
 use Rattle.ref_base.specs.Provenance.{IsCause, IsProven}
 use Rattle.ref_base.specs.QueueRows.{put_into}
 use Rattle.ref_base.specs.Replay.{replayed}
-use Rattle.ref_base.specs.Refusals.{is_in}
 use Rattle.ref_base.specs.declared.cause.Cause.{Cause}
-use Rattle.ref_base.specs.declared.phase.Phase.TheVariants.{Clearing}
 use Rattle.ref_base.specs.declared.reply.Reply.TheVariants as replies
 use Rattle.ref_base.specs.declared.step.Step.TheVariants as steps
 use Rattle.ref_base.proofs.AddedRows.{legal_lists, added_position, added_proven}
@@ -29,7 +24,6 @@ use Rattle.ref_base.proofs.SameOthers.{same_hand}
 use Rattle.ref_world.specs.Cores.{core_queue_at}
 use Rattle.ref_world.specs.Headline.{Adds, TakenThenStanding, QueuesTell, Positions, InClearingOrder, AtMostOnce}
 use Rattle.ref_world.specs.Headline.{OwnQueue, OwnEnqueueCall, AfterAMarkEnded, NothingAfterClose, ScannedOnce}
-use Rattle.ref_mark.specs.Standing.{unsaid}
 use Rattle.ref_world.specs.HeapOfRows.{HeapTells}
 use Rattle.ref_world.proofs.QueueRows.{queue_is}
 
@@ -52,25 +46,7 @@ module _ (config : Config) (rows : List Row) (last : Core) (b : State) (run : Is
 
   -- the heap as its rows give it
   pub heap_tells : HeapTells config rows last
-  heap_tells =
-      let agrees = legal_agrees config rows b run in
-      let k : CycleHeap = cycles_of last.heap in
-      record {
-        gone = agrees.0;
-        waiting = is_waiting b;
-        heap =
-            sym stands.heap.mark.heap ∙ ap (λ (w : World). heap_but (unsaid k) w.heap) agrees.1;
-        were_doomed = agrees.2;
-        are_found = λ n waits.
-            let parts = and_parts (is_in b.world.phase Clearing) (has (joined b.found) n && has b.cleared n) waits in
-            let clearing : is_in k.phase Clearing ≡ true =
-            subst (λ p. is_in p Clearing ≡ true) stands.heap.mark.phase parts.0 in
-            let found = (and_parts (has (joined b.found) n) (has b.cleared n) parts.1).0 in (
-              clearing,
-              subst (λ (lists : List (List ℕ)). has (joined lists) n ≡ true)
-                  (stands.heap.mark.clearing clearing).same found,
-            );
-      }
+  heap_tells = grind (arith, legal_agrees)
 
 -- ---- the rows of a legal trace
 
@@ -130,6 +106,4 @@ module _ (config : Config) (rows : List Row) (legal : IsLegal config rows) where
       subst (λ (cause : Cause). IsCause front notice.object cause) own (proven front position notice adds).own_cause
 
   pub after_a_mark_ended : AfterAMarkEnded config rows
-  after_a_mark_ended front position notice adds cycle worker is =
-      subst (λ (cause : Cause). IsAfterMark config front notice.object cause) is
-      (after_mark front position notice adds)
+  after_a_mark_ended front position notice adds cycle worker is = grind (arith, after_mark front position notice adds)

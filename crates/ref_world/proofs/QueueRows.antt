@@ -1,23 +1,23 @@
 -- Rows of the steps of queues.
-use Rattle.std.proofs.Common.{◌≡◌, ℕ, ◌<◌, Bool, true, false, List, [], ◌∷◌, ◌++◌, not, length, Option, Some, None}
+use Rattle.std.proofs.Common.{arith}
+use Rattle.std.proofs.Common.{◌≡◌, ℕ, ◌<◌, Bool, true, false, List, [], ◌∷◌, not, length, Option, Some, None}
 use Rattle.std.proofs.Common.{Result, Ok, Err, refl, sym, ap, subst, ◌∙◌, inl, inr}
 use Rattle.std.specs.Prelude.{slice_index_or, slice_set}
-use Rattle.std.proofs.lemmas.Bool.{eq-eqb}
 use Rattle.std.proofs.lemmas.List.{set-set, set-get_or, get_or_read}
-use Rattle.ref_world.proofs.Common.{Lists, enqueued, with_parcel, with_taken, new_queue, World, Notice, object_of}
-use Rattle.ref_world.proofs.Common.{hand_of, with_hand, refusal, is_mutator, is_queue, is_actor, State, with_world}
-use Rattle.ref_world.proofs.Common.{IsRow, Actor, Mutator, Worker, Fault, NoSuchActor, BadQueue, Reply, Step, WorldHeap}
+use Rattle.ref_world.proofs.Common.{Lists, enqueued, with_parcel, with_taken, new_queue, Notice, object_of}
+use Rattle.ref_world.proofs.Common.{State, with_world}
+use Rattle.ref_world.proofs.Common.{IsRow, Actor, Mutator, Worker, Fault, Reply, Step, WorldHeap}
 use Rattle.ref_world.proofs.Common.{HeapStands, Core, Hands, hand_in, with_hand_in, emptying_refusal, calling_refusal}
-use Rattle.ref_world.proofs.Common.{queue_refusal, Stands, IsReached, IsRowOf, cycles_of, model_heap}
+use Rattle.ref_world.proofs.Common.{Stands, IsReached, IsRowOf}
 use Rattle.ref_base.specs.QueueLists.{was_put}
-use Rattle.ref_base.specs.Worlds.{queue_at, with_queue}
-use Rattle.ref_base.specs.Replay.{put_in, took, taken_out, notice_of, without_notice, closed_queue}
-use Rattle.ref_base.specs.CollectorRows.{ticked, PutsInto, Puts, Polls, Closes, IsAnswer}
+use Rattle.ref_base.specs.Worlds.{queue_at}
+use Rattle.ref_base.specs.Replay.{put_in, took, closed_queue}
+use Rattle.ref_base.specs.CollectorRows.{ticked, PutsInto, Polls, Closes}
 use Rattle.ref_base.specs.declared.fault.Fault.TheVariants.{NoMemory, WrongQueue}
 use Rattle.ref_base.specs.declared.reply.Reply.TheVariants as replies
 use Rattle.ref_base.specs.declared.step.Step.TheVariants as steps
-use Rattle.ref_base.proofs.RowForms.{ticked_world, unless_passes}
-use Rattle.ref_mark.proofs.OtherHands.{with_others, stands-with_others}
+use Rattle.ref_base.proofs.RowForms.{ticked_world}
+use Rattle.ref_mark.proofs.OtherHands.{with_others}
 use Rattle.ref_mark.proofs.ReferenceRows.{unmoved_stands}
 use Rattle.ref_queue.specs.QueueAnswers.{RefusesPut, AnswersPut, after_put, AnswersPoll}
 use Rattle.ref_queue.specs.declared.queue.Put.{Put}
@@ -29,23 +29,15 @@ use Rattle.ref_world.specs.Standing.{Does}
 use Rattle.ref_world.specs.AskedSteps.{received}
 use Rattle.ref_world.specs.Cores.{core_queue_at as queue_in}
 use Rattle.ref_world.proofs.AskedRows.{hands_of, hands_are, row_to}
-use Rattle.ref_world.proofs.HandRows.{there_from}
-use Rattle.ref_world.proofs.ReachedCores.{same_hand, same_actors}
-use Rattle.ref_world.proofs.Refusals.{same_actor, same_mutators, same_queues}
+use Rattle.ref_world.proofs.ReachedCores.{same_actors}
 
 -- ---- hands and queues
 
 -- what was taken out of a hand and put back
 pub put_back : (hands : Hands) (who : Actor) (notice : Notice) → hand_in hands who ≡ Some notice
     → with_hand_in (with_hand_in hands who None) who (Some notice) ≡ hands
-put_back hands (Mutator m) notice full =
-    ap (λ (hs : List (Option Notice)). record hands { mutators = hs })
-    (set-set hands.mutators m None (Some notice) ∙ ap (slice_set hands.mutators m) (sym full)
-    ∙ set-get_or hands.mutators m None)
-put_back hands (Worker k) notice full =
-    ap (λ (hs : List (Option Notice)). record hands { workers = hs })
-    (set-set hands.workers k None (Some notice) ∙ ap (slice_set hands.workers k) (sym full)
-    ∙ set-get_or hands.workers k None)
+put_back hands (Mutator m) notice full = grind (arith, set-set, set-get_or)
+put_back hands (Worker k) notice full = grind (arith, set-set, set-get_or)
 
 -- a queue as it is read, and as the core has it
 pub read_here : (qs : List (Lists Notice)) (q : ℕ) (lists : Lists Notice) → q < length qs
@@ -73,16 +65,7 @@ pub heap_stands_on : (k : WorldHeap) (a : State) (mutators workers : List (Optio
     (queues : List (Lists Notice))
     → HeapStands k a → HeapStands k (ticked (with_others a mutators workers queues))
 heap_stands_on k a mutators workers queues stands =
-    let b : State = with_others a mutators workers queues in
-    let mark =
-    stands-with_others (cycles_of k) a mutators workers queues a.moments (λ marking n ever. ever)
-    (λ marking n ever. ever)
-    stands.mark in
-    record {
-      mark = unmoved_stands (cycles_of k) b mark b.world.heap mark.heap;
-      pending = ap (λ (w : World). w.pending) (ticked_world b) ∙ stands.pending;
-      waiting = stands.waiting;
-    }
+    search (unmoved_stands, ticked_world, with_others a mutators workers queues)
 
 abbrev pub core_with : Core → Hands → List (Lists Notice) → Core
 core_with c hands queues = record c { hands = hands; queues = queues }
@@ -91,14 +74,7 @@ core_with c hands queues = record c { hands = hands; queues = queues }
 stands_on : (c : Core) (a : State) (hands : Hands) (queues : List (Lists Notice)) → Stands c a
     → Stands (core_with c hands queues) (ticked (with_others a hands.mutators hands.workers queues))
 stands_on c a hands queues stands =
-    let is = ticked_world (with_others a hands.mutators hands.workers queues) in
-    record {
-      heap = heap_stands_on c.heap a hands.mutators hands.workers queues stands.heap;
-      number = stands.number;
-      mutator_hands = ap (λ (w : World). w.mutator_hands) is;
-      worker_hands = ap (λ (w : World). w.worker_hands) is;
-      queues = ap (λ (w : World). w.queues) is;
-    }
+    search (ticked_world, heap_stands_on, with_others a hands.mutators hands.workers queues)
 
 -- a row that changes hands and queues so, and nothing else
 others_row : (c : Core) (a : State) (step : Step) (reply : Reply) (hold : Hands → Hands)
@@ -141,15 +117,7 @@ module _ (c : Core) (reached : IsReached c) (who : Actor) (notice : Notice) (lis
   put_answer : (a : State) (reply : Reply) (b : State) → Stands c a
       → PutsInto (was_put object_of lists notice) lists.closed a who notice reply b
       → IsRow a (record { step = steps.Put who; reply = reply }) b
-  put_answer a reply b stands puts =
-      let there : is_actor a.world.heap who ≡ true =
-      same_actor c a stands who ∙ sym (same_actors c reached who) ∙ there_from c.hands who accepted in
-      let hand : hand_of a.world who ≡ Some notice = same_hand c a stands who ∙ full in
-      let accepts : refusal a (steps.Put who) ≡ None = rw (there, hand) refl in
-      subst (λ (o : Option Fault). IsAnswer a o (steps.Put who) reply b) (sym accepts)
-      (subst (λ (h : Option Notice). Puts a who h reply b) (sym hand)
-      (subst (λ (l : Lists Notice). PutsInto (was_put object_of l notice) l.closed a who notice reply b)
-      (here ∙ sym (queue_is c a notice.queue stands)) puts))
+  put_answer a reply b stands puts = grind (arith, same_actors)
 
   put_in_is : (a : State) (actor : Actor) → with_world a (put_in a.world actor (Some notice))
       ≡ with_others a (with_hand_in (hands_of a.world) actor None).mutators
@@ -204,13 +172,7 @@ module _ (c : Core) (reached : IsReached c) (who : Actor) (notice : Notice) (lis
   as_before : (back : Notice) → back ≡ notice
       → c ≡ core_with c (with_hand_in (with_hand_in c.hands who None) who (Some back))
       (slice_set c.queues notice.queue lists)
-  as_before back same =
-      let hands =
-      ap (λ (n : Notice). with_hand_in (with_hand_in c.hands who None) who (Some n)) same
-      ∙ put_back c.hands who notice full in
-      sym (ap (λ (hs : Hands). core_with c hs (slice_set c.queues notice.queue lists)) hands
-      ∙ ap (λ (qs : List (Lists Notice)). core_with c c.hands qs)
-      (queue_back c.queues notice.queue lists lists here refl))
+  as_before back same = grind (arith, put_back, queue_back)
 
   put_case : lists.queue ≡ notice.queue → (put : Result (Put Notice) (Fault × Notice))
       → AnswersPut object_of (λ n. n.queue) lists notice put
@@ -255,38 +217,16 @@ close_reply false = replies.Closed
 
 module _ (c : Core) (m q : ℕ) (lists : Lists Notice) (accepted : calling_refusal c m q ≡ None)
     (here : lists ≡ queue_in c q) where
-  called : (a : State) → Stands c a → (is_mutator a.world.heap m ≡ true) × (is_queue a.world.heap q ≡ true)
-  called a stands =
-      let mutator = unless_passes (is_mutator (model_heap c.heap) m) NoSuchActor (queue_refusal c q) accepted in
-      let queue = unless_passes (is_queue (model_heap c.heap) q) BadQueue None mutator.1 in
-      (same_mutators c a stands m ∙ mutator.0, same_queues c a stands q ∙ queue.0)
-
   poll_answer : (a : State) (reply : Reply) (b : State) → Stands c a → hand_in c.hands (Mutator m) ≡ None
       → Polls a m q lists.stands reply b → IsRow a (record { step = steps.Poll m q; reply = reply }) b
-  poll_answer a reply b stands free polls =
-      let there = called a stands in
-      let hand : hand_of a.world (Mutator m) ≡ None = same_hand c a stands (Mutator m) ∙ free in
-      let accepts : refusal a (steps.Poll m q) ≡ None = rw (there.0, there.1, hand) refl in
-      subst (λ (o : Option Fault). IsAnswer a o (steps.Poll m q) reply b) (sym accepts)
-      (subst (λ (l : Lists Notice). Polls a m q l.stands reply b) (here ∙ sym (queue_is c a q stands)) polls)
+  poll_answer a reply b stands free polls = grind arith
 
   -- what a poll takes
   took_is : (a : State) (notice : Notice) (rest : List Notice) → Stands c a → lists.stands ≡ notice ∷ rest
       → with_world a (took a.world m q notice.object)
       ≡ with_others a (with_hand_in (hands_of a.world) (Mutator m) (Some notice)).mutators a.world.worker_hands
       (slice_set a.world.queues q (with_taken object_of (queue_at a.world q) notice rest))
-  took_is a notice rest stands first =
-      let stood : (queue_at a.world q).stands ≡ notice ∷ rest =
-      ap (λ (l : Lists Notice). l.stands) (queue_is c a q stands ∙ sym here) ∙ first in
-      let own = eq-eqb notice.object notice.object refl in
-      let found : notice_of (queue_at a.world q).stands notice.object ≡ Some notice = rw (stood, own) refl in
-      let left : without_notice (queue_at a.world q).stands notice.object ≡ rest = rw (stood, own) refl in
-      ap (λ (h : Option Notice). with_world a
-      (with_hand (with_queue a.world q (taken_out (queue_at a.world q) notice.object)) (Mutator m) h)) found
-      ∙ ap (λ (ns : List Notice). with_world a
-      (with_hand (with_queue a.world q
-      (record (queue_at a.world q) { taken = (queue_at a.world q).taken ++ notice.object ∷ []; stands = ns }))
-      (Mutator m) (Some notice))) left
+  took_is a notice rest stands first = grind arith
 
   pub took_row : (notice : Notice) (rest : List Notice) → hand_in c.hands (Mutator m) ≡ None
       → lists.stands ≡ notice ∷ rest
@@ -326,10 +266,7 @@ module _ (c : Core) (m q : ℕ) (lists : Lists Notice) (accepted : calling_refus
       → AnswersPoll object_of lists polled r
       → IsRowOf c (steps.Poll m q) (poll_reply polled)
       (core_with c (received c.hands (Mutator m) (taken_by_poll polled)) (slice_set c.queues q r))
-  poll_case free (Took notice) r is =
-      subst (λ (l : Lists Notice). IsRowOf c (steps.Poll m q) (replies.Took notice.object)
-      (core_with c (with_hand_in c.hands (Mutator m) (Some notice)) (slice_set c.queues q l)))
-      (sym is.1) (took_row notice r.stands free is.0)
+  poll_case free (Took notice) r is = grind (arith, took_row notice r.stands free is.0)
   poll_case free Empty r is =
       subst (λ (d : Core). IsRowOf c (steps.Poll m q) replies.Empty d) (as_it_was r is.2) (empty_row free is.0 is.1)
   poll_case free Ended r is =
@@ -344,11 +281,7 @@ module _ (c : Core) (m q : ℕ) (lists : Lists Notice) (accepted : calling_refus
 
   close_answer : (a : State) (reply : Reply) (b : State) → Stands c a → Closes a q lists.closed reply b
       → IsRow a (record { step = steps.Close m q; reply = reply }) b
-  close_answer a reply b stands closes =
-      let there = called a stands in
-      let accepts : refusal a (steps.Close m q) ≡ None = rw (there.0, there.1) refl in
-      subst (λ (o : Option Fault). IsAnswer a o (steps.Close m q) reply b) (sym accepts)
-      (subst (λ (l : Lists Notice). Closes a q l.closed reply b) (here ∙ sym (queue_is c a q stands)) closes)
+  close_answer a reply b stands closes = grind arith
 
   pub close_row : lists.closed ≡ false
       → IsRowOf c (steps.Close m q) replies.Done

@@ -1,5 +1,6 @@
 -- A step of a queue is a row, and what it leaves is sound.
-use Rattle.std.proofs.Common.{◌≡◌, ℕ, ◌<◌, Bool, true, not, length, Result, Ok, Option, Some, None, refl, ap, ◌∙◌}
+use Rattle.std.proofs.Common.{arith}
+use Rattle.std.proofs.Common.{◌≡◌, ℕ, ◌<◌, Bool, true, not, length, Result, Ok, Option, Some, None, refl, ◌∙◌}
 use Rattle.std.specs.Prelude.{slice_index_or, slice_set}
 use Rattle.ref_world.proofs.Common.{Lists, Notice, Actor, Mutator, Fault, Reply, Core, calling_refusal}
 use Rattle.ref_world.proofs.Common.{emptying_refusal, filling_refusal, hand_in, received, with_hand_in, IsSound}
@@ -28,9 +29,7 @@ module _ (c : Core) (sound : IsSound c) where
   -- what is read at the place of a queue that is there
   here : (q i : ℕ) (lists : Lists Notice) → q < length c.queues → i ≡ q → lists ≡ slice_index_or c.queues i lists
       → (lists ≡ core_queue_at c q) × (lists.queue ≡ q)
-  here q i lists within named read =
-      let is = read_here c.queues q lists within (read ∙ ap (λ k. slice_index_or c.queues k lists) named) in
-      (is, ap (λ (l : Lists Notice). l.queue) is ∙ sound.numbered q)
+  here q i lists within named read = grind (arith, read_here)
 
   pub put_done : (who : Actor) (notice : Notice) (lists : Lists Notice) (i : ℕ) → i ≡ notice.queue
       → emptying_refusal c.hands who ≡ None → hand_in c.hands who ≡ Some notice

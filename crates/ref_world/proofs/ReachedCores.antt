@@ -1,8 +1,8 @@
 -- What holds of every world to which a legal trace leads.
 use Rattle.std.proofs.Common.{◌≡◌, ◌<◌, true, List, [], ◌∷◌, ◌++◌, length, Option, Some, None, ap, sym, subst, ◌∙◌}
-use Rattle.std.specs.Prelude.{slice_index_or, nat_lt}
+use Rattle.std.specs.Prelude.{slice_index_or}
 use Rattle.ref_world.proofs.Common.{has, Lists, Notice, hand_of, is_actor, State, first_state, Actor, Mutator, Worker}
-use Rattle.ref_world.proofs.Common.{Config, Reply, Step, Core, has_hand, hand_in, Stands, IsRowOf, IsReached}
+use Rattle.ref_world.proofs.Common.{Reply, Step, Core, has_hand, hand_in, Stands, IsRowOf, IsReached}
 use Rattle.ref_world.proofs.Common.{model_heap}
 use Rattle.ref_base.specs.Heaps.{Heap}
 use Rattle.ref_base.specs.CountedHolds.{AreCounted}
@@ -50,18 +50,12 @@ module _ (c : Core) (reached : IsReached c) where
 
   -- there is a hand for each actor, and no other
   pub same_actors : (who : Actor) → has_hand c.hands who ≡ is_actor (model_heap c.heap) who
-  same_actors (Mutator m) =
-      ap (λ (hs : List (Option Notice)). nat_lt m (length hs)) (sym reached.stands.mutator_hands)
-      ∙ ap (nat_lt m) sound.mutator_hands ∙ ap (λ (f : Config). nat_lt m f.mutators) config
-  same_actors (Worker k) =
-      ap (λ (hs : List (Option Notice)). nat_lt k (length hs)) (sym reached.stands.worker_hands)
-      ∙ ap (nat_lt k) sound.worker_hands ∙ ap (λ (f : Config). nat_lt k f.workers) config
+  same_actors (Mutator m) = search (sound, config)
+  same_actors (Worker k) = search (sound, config)
 
   -- and each queue of the configuration
   pub queue_count : length c.queues ≡ (model_heap c.heap).config.queues
-  queue_count =
-      ap (λ (qs : List (Lists Notice)). length qs) (sym reached.stands.queues) ∙ sound.queues
-      ∙ ap (λ (f : Config). f.queues) config
+  queue_count = search (sound, config)
 
   -- a notice in a hand is a hold that the heap counts, and is for a queue that is there
   pub hand_is_counted : (who : Actor) (notice : Notice) → has_hand c.hands who ≡ true

@@ -1,11 +1,11 @@
 -- Where a step of the world is refused before its heap or a queue is asked.
-use Rattle.std.proofs.Common.{◌≡◌, ℕ, ◌<◌, length, Bool, true, false, ◌&&◌, Option, Some, None, refl, sym, ap, subst}
+use Rattle.std.proofs.Common.{arith}
+use Rattle.std.proofs.Common.{◌≡◌, ℕ, ◌<◌, length, Bool, true, false, Option, Some, None, refl, sym, ap, subst}
 use Rattle.std.proofs.Common.{◌∙◌}
 use Rattle.std.specs.Prelude.{nat_lt}
-use Rattle.std.proofs.lemmas.Bool.{and_parts, ltb-true}
 use Rattle.ref_world.proofs.Common.{Notice, hand_of, unless, unless_full, empty_hand_refusal, has_slot, is_actor}
 use Rattle.ref_world.proofs.Common.{is_mutator, is_queue, drop_refusal, heap_refusal, refusal, State, Actor, Mutator}
-use Rattle.ref_world.proofs.Common.{Worker, Config, Fault, NoSuchActor, BadQueue, Step, Core, hand_in, has_hand}
+use Rattle.ref_world.proofs.Common.{Worker, Config, Fault, NoSuchActor, BadQueue, Step, Core}
 use Rattle.ref_world.proofs.Common.{filling_refusal, emptying_refusal, calling_refusal, queue_refusal, Stands}
 use Rattle.ref_world.proofs.Common.{IsReached, IsRowOf, model_heap}
 use Rattle.ref_base.specs.declared.heap_step.HeapStep.TheVariants as heap
@@ -16,27 +16,9 @@ use Rattle.ref_world.proofs.ReachedCores.{same_config, same_hand, same_actors, q
 
 -- ---- tests
 
-pub unless_fails : (test : Bool) (fault told : Fault) → unless test fault None ≡ Some told
-    → (test ≡ false) × (Some fault ≡ Some told)
-unless_fails true fault told is = absurd cc
-unless_fails false fault told is = (refl, is)
-
 pub empty_from : (hand : Option Notice) → unless_full hand None ≡ None → hand ≡ None
 empty_from None is = refl
 empty_from (Some notice) is = absurd cc
-
--- a hand that is there and full is refused before what comes later
-full_first : (hand : Option Notice) (told : Fault) (later : Option Fault) → unless_full hand None ≡ Some told
-    → unless_full hand later ≡ Some told
-full_first None told later is = absurd cc
-full_first (Some notice) told later is = is
-
--- so is an actor that isn't there
-full_or_none : (there : Bool) (hand : Option Notice) (told : Fault) (later : Option Fault)
-    → unless there NoSuchActor (unless_full hand None) ≡ Some told
-    → unless there NoSuchActor (unless_full hand later) ≡ Some told
-full_or_none true hand told later is = full_first hand told later is
-full_or_none false hand told later is = is
 
 -- a mutator and a queue come before what is later
 called : (mutator queue : Bool) (told : Fault) (later : Option Fault)
@@ -49,9 +31,6 @@ called false queue told later is = is
 -- ---- what the state refuses as the core does
 
 module _ (c : Core) (a : State) (stands : Stands c a) where
-  pub same_slots : (m s : ℕ) → has_slot a.world.heap m s ≡ has_slot (model_heap c.heap) m s
-  same_slots m s = ap (λ (f : Config). nat_lt m f.mutators && nat_lt s 16) (same_config c a stands)
-
   pub same_mutators : (m : ℕ) → is_mutator a.world.heap m ≡ is_mutator (model_heap c.heap) m
   same_mutators m = ap (λ (f : Config). nat_lt m f.mutators) (same_config c a stands)
 
@@ -73,47 +52,32 @@ refused_row c step fault refuses a stands = (a, rw (refuses a stands) (refl, ref
 no_slot : (c : Core) (m s : ℕ) (fault : Fault) → drop_refusal (model_heap c.heap) m s ≡ Some fault
     → (later : Option Fault) (a : State) → Stands c a
     → unless (has_slot a.world.heap m s) NoSuchActor later ≡ Some fault
-no_slot c m s fault refused later a stands =
-    let fails = unless_fails (has_slot (model_heap c.heap) m s) NoSuchActor fault refused in
-    ap (λ test. unless test NoSuchActor later) (same_slots c a stands m s ∙ fails.0) ∙ fails.1
+no_slot c m s fault refused later a stands = grind arith
 
 pub no_slot_of_unhook : (c : Core) (m s : ℕ) (fault : Fault) → drop_refusal (model_heap c.heap) m s ≡ Some fault
     → IsRowOf c (steps.Unhook m s) (replies.Refused fault) c
-no_slot_of_unhook c m s fault refused =
-    refused_row c (steps.Unhook m s) fault (λ a stands.
-    no_slot c m s fault refused (unless_full (hand_of a.world (Mutator m)) (heap_refusal 0 a (heap.Unhook m s)))
-    a stands)
+no_slot_of_unhook c m s fault refused = search (refused_row, no_slot)
 
 pub no_slot_of_adopt : (c : Core) (m d : ℕ) (fault : Fault) → drop_refusal (model_heap c.heap) m d ≡ Some fault
     → IsRowOf c (steps.Adopt m d) (replies.Refused fault) c
-no_slot_of_adopt c m d fault refused =
-    refused_row c (steps.Adopt m d) fault (λ a stands.
-    no_slot c m d fault refused (empty_hand_refusal (hand_of a.world (Mutator m))) a stands)
+no_slot_of_adopt c m d fault refused = search (refused_row, no_slot)
 
 module _ (c : Core) (m q : ℕ) where
   -- by a mutator or a queue that isn't there
   pub no_queue_of_poll : (fault : Fault) → calling_refusal c m q ≡ Some fault
       → IsRowOf c (steps.Poll m q) (replies.Refused fault) c
-  no_queue_of_poll fault refused =
-      refused_row c (steps.Poll m q) fault (λ a stands.
-      rw (same_mutators c a stands m, same_queues c a stands q)
-      (called (is_mutator (model_heap c.heap) m) (is_queue (model_heap c.heap) q) fault
-      (unless_full (hand_of a.world (Mutator m)) None) refused))
+  no_queue_of_poll fault refused = grind arith
 
   pub no_queue_of_close : (fault : Fault) → calling_refusal c m q ≡ Some fault
       → IsRowOf c (steps.Close m q) (replies.Refused fault) c
-  no_queue_of_close fault refused =
-      refused_row c (steps.Close m q) fault (λ a stands.
-      rw (same_mutators c a stands m, same_queues c a stands q) refused)
+  no_queue_of_close fault refused = grind arith
 
 module _ (c : Core) (reached : IsReached c) where
   -- by an actor that isn't there, or a hand that is full
   filling : (who : Actor) (fault : Fault) → filling_refusal c.hands who ≡ Some fault → (later : Option Fault)
       → (a : State) → Stands c a
       → unless (is_actor a.world.heap who) NoSuchActor (unless_full (hand_of a.world who) later) ≡ Some fault
-  filling who fault refused later a stands =
-      rw (same_actor c a stands who ∙ sym (same_actors c reached who), same_hand c a stands who)
-      (full_or_none (has_hand c.hands who) (hand_in c.hands who) fault later refused)
+  filling who fault refused later a stands = grind (arith, same_actors)
 
   emptying : (who : Actor) (fault : Fault) → emptying_refusal c.hands who ≡ Some fault → (a : State) → Stands c a
       → unless (is_actor a.world.heap who) NoSuchActor (empty_hand_refusal (hand_of a.world who)) ≡ Some fault
@@ -123,11 +87,7 @@ module _ (c : Core) (reached : IsReached c) where
   -- the mutator of a slot that is there
   with_slot : (m s : ℕ) → drop_refusal (model_heap c.heap) m s ≡ None → (a : State) → Stands c a
       → (has_slot a.world.heap m s ≡ true) × (is_mutator a.world.heap m ≡ true)
-  with_slot m s slot a stands =
-      let there = (unless_passes (has_slot (model_heap c.heap) m s) NoSuchActor None slot).0 in (
-        same_slots c a stands m s ∙ there,
-        same_mutators c a stands m ∙ (and_parts (is_mutator (model_heap c.heap) m) (nat_lt s 16) there).0,
-      )
+  with_slot m s slot a stands = grind arith
 
   pub full_at_unhook : (m s : ℕ) (fault : Fault) → drop_refusal (model_heap c.heap) m s ≡ None
       → filling_refusal c.hands (Mutator m) ≡ Some fault → IsRowOf c (steps.Unhook m s) (replies.Refused fault) c
@@ -158,10 +118,7 @@ module _ (c : Core) (reached : IsReached c) where
 
   -- the queue of an accepted call is there
   pub queue_within : (m q : ℕ) → calling_refusal c m q ≡ None → q < length c.queues
-  queue_within m q called =
-      let mutator = unless_passes (is_mutator (model_heap c.heap) m) NoSuchActor (queue_refusal c q) called in
-      let queue = unless_passes (is_queue (model_heap c.heap) q) BadQueue None mutator.1 in
-      rw (queue_count c reached) (ltb-true q (model_heap c.heap).config.queues queue.0)
+  queue_within m q called = grind (arith, queue_count)
 
   pub empty_at_adopt : (m d : ℕ) (fault : Fault) → drop_refusal (model_heap c.heap) m d ≡ None
       → emptying_refusal c.hands (Mutator m) ≡ Some fault → IsRowOf c (steps.Adopt m d) (replies.Refused fault) c

@@ -1,4 +1,5 @@
 -- What holds of every world still holds after a row.
+use Rattle.std.proofs.Common.{arith}
 use Rattle.std.proofs.Common.{◌≡◌, ℕ, List, Result, Ok, Err, ap, ◌∙◌}
 use Rattle.std.specs.Prelude.{slice_index_or, slice_set}
 use Rattle.ref_world.proofs.Common.{Lists, new_queue, Notice, Fault, Reply, Step, Core, IsRowOf, IsSound}
@@ -10,10 +11,7 @@ use Rattle.ref_world.proofs.ReachedCores.{reached_after}
 -- where the queues stay
 pub sound_after : (old new : Core) (step : Step) (reply : Reply) → new.queues ≡ old.queues → IsSound old
     → IsRowOf old step reply new → IsSound new
-sound_after old new step reply same sound row = record {
-  reached = reached_after old new step reply sound.reached row;
-  numbered = λ q. ap (λ (qs : List (Lists Notice)). (slice_index_or qs q (new_queue q)).queue) same ∙ sound.numbered q;
-}
+sound_after old new step reply same sound row = grind (arith, reached_after old new step reply sound.reached row)
 
 -- where one of them changes, and keeps its number
 pub sound_queue_after : (old new : Core) (step : Step) (reply : Reply) (i : ℕ) (queue : Lists Notice)

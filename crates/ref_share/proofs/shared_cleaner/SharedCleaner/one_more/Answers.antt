@@ -1,11 +1,6 @@
-use Rattle.std.proofs.Common.{length, ap, arith, subst, ◌≤◌}
+use Rattle.std.proofs.Common.{arith}
 use Rattle.ref_turn.proofs.Logs.{calls_by-shorter}
-use Rattle.ref_share.proofs.Common.{view}
 use Rattle.ref_share.proofs.shared_cleaner.SharedCleaner.one_more.Goals as goal
 
 pub overflow_add-result : goal.overflow_add-result
-overflow_add-result g c =
-    let w = view c.served-turns.new.seat.seat in
-    let few = subst (λ calls. length calls ≤ length w.seen) c.served-turns.ensures.seat.history.own
-    (calls_by-shorter w.number w.seen) in
-    omega (arith, few, ap length c.served-turns.ensures.longer.2, c.served-turns.ensures.count, c.requires.calls)
+overflow_add-result g c = grind (arith, calls_by-shorter)

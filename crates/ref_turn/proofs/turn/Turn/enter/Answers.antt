@@ -1,3 +1,4 @@
+use Rattle.std.proofs.Common.{arith}
 use Rattle.std.proofs.Common.{rules}
 use Rattle.ref_turn.proofs.Keeps.{draws, looks, grabs}
 use Rattle.ref_turn.proofs.Stays.{idle_rests}
@@ -11,8 +12,4 @@ pub load-tickets-requires : goal.load-tickets-requires
 load-tickets-requires g c = (search rules, search rules, draws _ _ _ _ _ c.load-served.new.seat.me (search rules))
 
 pub compare_exchange-found-requires : goal.compare_exchange-found-requires
-compare_exchange-found-requires g c = (
-  search rules,
-  search rules,
-  grabs _ _ _ _ _ c.load-tickets.new.seat.me _ _ (search rules) (search rules) (search rules) (search rules),
-)
+compare_exchange-found-requires g c = grind (arith, grabs)

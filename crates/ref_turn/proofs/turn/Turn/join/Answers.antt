@@ -1,3 +1,4 @@
+use Rattle.std.proofs.Common.{arith}
 use Rattle.std.proofs.Common.{rules, subst, sym, ap}
 use Rattle.ref_turn.proofs.Comings.{joins}
 use Rattle.ref_turn.proofs.Keeps.{looks}
@@ -5,13 +6,7 @@ use Rattle.ref_turn.proofs.Stays.{Rests}
 use Rattle.ref_turn.proofs.turn.Turn.join.Goals as goal
 
 pub join_seat-requires : goal.join_seat-requires
-join_seat-requires g c = (
-  search rules,
-  search rules,
-  search rules,
-  search rules,
-  joins _ _ _ _ c.args.seat.now.place.me.0 _ c.into_place.result.me.0 c.args.seat.now.between.0 (search rules),
-)
+join_seat-requires g c = grind (arith, joins)
 
 pub load-requires : goal.load-requires
 load-requires g c = (

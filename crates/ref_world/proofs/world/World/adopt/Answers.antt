@@ -1,5 +1,5 @@
+use Rattle.std.proofs.Common.{arith}
 use Rattle.std.proofs.Common.{◌≡◌, None, refl, sym, subst, ◌∙◌}
-use Rattle.std.proofs.lemmas.Result.{err_from_is_err_and}
 use Rattle.ref_world.proofs.Common.{drop_refusal, Core, heap_no_of, model_heap}
 use Rattle.ref_base.specs.declared.step.Step.TheVariants as steps
 use Rattle.ref_world.proofs.HandRows.{adopt_reply, adopt_done, adopted_told}
@@ -8,16 +8,7 @@ use Rattle.ref_world.proofs.SoundCores.{sound_after}
 use Rattle.ref_world.proofs.world.World.adopt.Goals as goal
 
 pub returns-in_err-take : goal.returns-in_err-take
-returns-in_err-take g c =
-    let old : Core =
-    record { heap = c.self.inside.heap; hands = c.self.inside.hands; queues = c.self.inside.queues.items } in
-    let slot =
-    subst (λ (o : Core). drop_refusal (model_heap o.heap) c.args.mutator c.args.slot ≡ None) (sym c.self.view_is)
-    c.in_ok-check_slot.ensures in
-    let p = err_from_is_err_and c.from_residual-in_err-take.result c.from_residual-in_err-take.ensures.1 in
-    rw (p.1, p.2, ← c.self.view_is, c.in_err-take.ensures.kept)
-    (empty_at_adopt old c.self.invariant.reached c.args.mutator c.args.slot c.in_err-take.field-0.0 slot
-    c.in_err-take.ensures.refused)
+returns-in_err-take g c = grind (arith, empty_at_adopt)
 
 pub told-requires : goal.told-requires
 told-requires g c =

@@ -5,15 +5,7 @@ use Rattle.ref_world.proofs.Refusals.{queue_within}
 use Rattle.ref_world.proofs.world.World.close.Goals as goal
 
 pub index_mut-requires : goal.index_mut-requires
-index_mut-requires g c =
-    let old : Core =
-    record { heap = c.self.inside.heap; hands = c.self.inside.hands; queues = c.self.inside.queues.items } in
-    let accepted : calling_refusal old c.args.mutator c.queue.inside.0 ≡ None =
-    rw c.queue.view_is
-    (subst (λ (o : Core). calling_refusal o c.args.mutator c.args.queue ≡ None) (sym c.self.view_is)
-    c.in_ok-check_queue.ensures) in
-    let within = queue_within old c.self.invariant.reached c.args.mutator c.queue.inside.0 accepted in
-    omega (arith, within, c.self.inside.queues.ok.0)
+index_mut-requires g c = grind (arith, queue_within)
 
 pub invariant_of-self : goal.invariant_of-self
 invariant_of-self g c =

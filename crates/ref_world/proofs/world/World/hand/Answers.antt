@@ -1,5 +1,5 @@
+use Rattle.std.proofs.Common.{arith}
 use Rattle.std.proofs.Common.{refl}
-use Rattle.std.proofs.lemmas.Result.{err_from_is_err_and}
 use Rattle.ref_base.specs.declared.heap_step.HeapStep.TheVariants as heap
 use Rattle.ref_base.specs.declared.step.Step.TheVariants as steps
 use Rattle.ref_world.proofs.Common.{Worker, Core}
@@ -10,13 +10,7 @@ use Rattle.ref_world.proofs.SoundCores.{sound_after}
 use Rattle.ref_world.proofs.world.World.hand.Goals as goal
 
 pub returns-in_err-check_empty : goal.returns-in_err-check_empty
-returns-in_err-check_empty g c =
-    let old : Core =
-    record { heap = c.self.inside.heap; hands = c.self.inside.hands; queues = c.self.inside.queues.items } in
-    let p = err_from_is_err_and c.from_residual.result c.from_residual.ensures.1 in
-    rw (p.1, p.2, ← c.self.view_is)
-    (full_at_hand old c.self.invariant.reached c.args.worker c.in_err-check_empty.field-0.0
-    c.in_err-check_empty.ensures)
+returns-in_err-check_empty g c = grind (arith, full_at_hand)
 
 pub invariant_of-self : goal.invariant_of-self
 invariant_of-self g c =

@@ -1,35 +1,14 @@
 use Rattle.std.proofs.Common.{◌≡◌, None, refl, sym, subst, arith}
-use Rattle.std.proofs.lemmas.Result.{err_from_is_err_and}
 use Rattle.ref_world.proofs.Common.{Core, calling_refusal}
 use Rattle.ref_world.proofs.QueueSteps.{poll_done}
 use Rattle.ref_world.proofs.Refusals.{full_at_poll, queue_within}
 use Rattle.ref_world.proofs.world.World.poll.Goals as goal
 
 pub returns-in_err-check_empty : goal.returns-in_err-check_empty
-returns-in_err-check_empty g c =
-    let old : Core =
-    record { heap = c.self.inside.heap; hands = c.self.inside.hands; queues = c.self.inside.queues.items } in
-    let q = c.args.queue in
-    let accepted : calling_refusal old c.args.mutator q ≡ None =
-    subst (λ (o : Core). calling_refusal o c.args.mutator c.args.queue ≡ None) (sym c.self.view_is)
-    c.in_ok-check_queue.ensures in
-    let p =
-    err_from_is_err_and c.from_residual-in_err-check_empty.result c.from_residual-in_err-check_empty.ensures.1 in
-    rw (p.1, p.2, ← c.self.view_is)
-    (full_at_poll old c.self.invariant.reached c.args.mutator q c.in_err-check_empty.field-0.0 accepted
-    c.in_err-check_empty.ensures)
+returns-in_err-check_empty g c = grind (arith, full_at_poll)
 
 pub index_mut-requires : goal.index_mut-requires
-index_mut-requires g c =
-    let old : Core =
-    record { heap = c.self.inside.heap; hands = c.self.inside.hands; queues = c.self.inside.queues.items } in
-    let q = c.queue.inside.0 in
-    let accepted : calling_refusal old c.args.mutator q ≡ None =
-    rw c.queue.view_is
-    (subst (λ (o : Core). calling_refusal o c.args.mutator c.args.queue ≡ None) (sym c.self.view_is)
-    c.in_ok-check_queue.ensures) in
-    let within = queue_within old c.self.invariant.reached c.args.mutator q accepted in
-    omega (arith, within, c.self.inside.queues.ok.0)
+index_mut-requires g c = grind (arith, queue_within)
 
 pub invariant_of-self : goal.invariant_of-self
 invariant_of-self g c =

@@ -1,5 +1,4 @@
 use Rattle.std.proofs.Common.{◌≡◌, ◌∙◌, arith}
-use Rattle.std.proofs.lemmas.Result.{err_from_is_err_and}
 use Rattle.ref_world.proofs.Common.{Core}
 use Rattle.ref_world.proofs.QueueSteps.{put_done}
 use Rattle.ref_world.proofs.ReachedCores.{hand_has_queue}
@@ -7,12 +6,7 @@ use Rattle.ref_world.proofs.Refusals.{empty_at_put}
 use Rattle.ref_world.proofs.world.World.put.Goals as goal
 
 pub returns-in_err-notice : goal.returns-in_err-notice
-returns-in_err-notice g c =
-    let old : Core =
-    record { heap = c.self.inside.heap; hands = c.self.inside.hands; queues = c.self.inside.queues.items } in
-    let p = err_from_is_err_and c.from_residual.result c.from_residual.ensures.1 in
-    rw (p.1, p.2, ← c.self.view_is, c.in_err-notice.ensures.kept)
-    (empty_at_put old c.self.invariant.reached c.args.actor c.in_err-notice.field-0.0 c.in_err-notice.ensures.refused)
+returns-in_err-notice g c = grind (arith, empty_at_put)
 
 pub index_mut-queue-requires : goal.index_mut-queue-requires
 index_mut-queue-requires g c =
@@ -39,12 +33,4 @@ invariant_of-self-2 g c =
     c.put_one-left.result.0 c.put_one-left.result.1 c.put_one-left.new.queue c.put_one-left.ensures).1
 
 pub returns : goal.returns
-returns g c =
-    let old : Core =
-    record { heap = c.self.inside.heap; hands = c.self.inside.hands; queues = c.self.inside.queues.items } in
-    let notice = c.in_ok-notice.notice in
-    let named : c.index_mut.inside.0 ≡ notice.queue = c.index_mut.view_is ∙ c.queue.ensures in
-    rw (← c.self.view_is, named, c.fill_if_any.ensures, c.in_ok-notice.ensures.taken)
-    (put_done old c.self.invariant c.args.actor notice c.index_mut-queue.result.now c.index_mut.inside.0 named
-    c.in_ok-notice.ensures.refused c.in_ok-notice.ensures.answer c.index_mut-queue.ensures.value
-    c.put_one-left.result.0 c.put_one-left.result.1 c.put_one-left.new.queue c.put_one-left.ensures).0
+returns g c = grind (arith, put_done)

@@ -1,5 +1,5 @@
+use Rattle.std.proofs.Common.{arith}
 use Rattle.std.proofs.Common.{refl, ◌∙◌}
-use Rattle.std.proofs.lemmas.Result.{err_from_is_err_and}
 use Rattle.ref_base.specs.declared.step.Step.TheVariants as steps
 use Rattle.ref_world.proofs.Common.{Core, heap_no_of}
 use Rattle.ref_world.proofs.HandRows.{release_reply, release_done, released_told}
@@ -8,12 +8,7 @@ use Rattle.ref_world.proofs.SoundCores.{sound_after}
 use Rattle.ref_world.proofs.world.World.release.Goals as goal
 
 pub returns-in_err-take : goal.returns-in_err-take
-returns-in_err-take g c =
-    let old : Core =
-    record { heap = c.self.inside.heap; hands = c.self.inside.hands; queues = c.self.inside.queues.items } in
-    let p = err_from_is_err_and c.from_residual.result c.from_residual.ensures.1 in
-    rw (p.1, p.2, ← c.self.view_is, c.in_err-take.ensures.kept)
-    (empty_at_release old c.self.invariant.reached c.args.actor c.in_err-take.field-0.0 c.in_err-take.ensures.refused)
+returns-in_err-take g c = grind (arith, empty_at_release)
 
 pub told-requires : goal.told-requires
 told-requires g c =
