@@ -16,6 +16,7 @@ use Rattle.ref_base.specs.HeapSteps.{NamedStep, heap_step, handed}
 use Rattle.ref_base.specs.Replay.{put_in, took, adopted, pended, handed_on, begun, with_phase, closed_queue}
 use Rattle.ref_base.specs.Collectors.{State, joined}
 use Rattle.ref_base.specs.Refusals.{heap_refusal, refusal, is_in}
+use Rattle.ref_base.specs.Runs.{LeadsThrough}
 use Rattle.ref_base.specs.declared.cause.Cause.TheVariants.{Own, Cycle}
 use Rattle.ref_base.specs.declared.actor.Actor.{Actor}
 use Rattle.ref_base.specs.declared.phase.Phase.TheVariants.{Idle, Marking, Clearing, Sweeping}
@@ -349,5 +350,4 @@ IsRow a row b = IsAnswer a (refusal a row.step) row.step row.reply b
 
 -- the rows lead from the one state to the other
 abbrev pub IsRun : State → List Row → State → Type 0
-IsRun a [] b = b ≡ a
-IsRun a (row ∷ rows) b = (mid : State) × IsRow a row mid × IsRun mid rows b
+IsRun = LeadsThrough IsRow

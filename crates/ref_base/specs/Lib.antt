@@ -24,6 +24,7 @@ pub mod Worlds
 pub mod Told
 pub mod HeapSteps
 pub mod Replay
+pub mod Runs
 pub mod CountedHolds
 pub mod Collectors
 pub mod Refusals

@@ -1,7 +1,7 @@
 -- The history of a cleaner: which job stands in its table is told by its entries.
 use Rattle.std.proofs.Common.{arith}
 use Rattle.std.proofs.Common.{◌≡◌, ℕ, true, List, [], ◌∷◌, ◌++◌, Option, Some, None, Ok, Err, refl}
-use Rattle.std.proofs.Common.{sym, ap, ◌∙◌}
+use Rattle.std.proofs.Common.{ap, ◌∙◌}
 use Rattle.std.specs.Cmp.{nat_eq_equiv}
 use Rattle.ref_share.proofs.Common.{new_registry, Leads, entry, Entry, IsCleanMove}
 use Rattle.ref_queue.specs.CleanTables.{Registry, job_of}
@@ -26,7 +26,7 @@ module _ {K J : Type 0} (n : ℕ) where
 
   run_leaves : (t u : Registry K J) (calls : List (Entry (CleanStep K J) (CleanReply K J)))
       → Leads IsCleanMove t calls u → job_of u n ≡ job_left n (job_of t n) calls
-  run_leaves t u [] run = ap (λ (r : Registry K J). job_of r n) (sym run)
+  run_leaves t u [] run = ap (λ (r : Registry K J). job_of r n) run
   run_leaves t u (call ∷ calls) run =
       search (run_leaves run.0 u calls run.2, move_leaves t run.0 call.step call.reply run.1)
 

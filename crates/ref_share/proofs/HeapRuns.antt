@@ -1,10 +1,9 @@
 -- What each call of a heap keeps holds after every history.
-use Rattle.std.proofs.Common.{arith}
-use Rattle.std.proofs.Common.{◌≡◌, ℕ, List, [], ◌∷◌, ◌++◌, sym, subst, Some, None}
-use Rattle.std.proofs.lemmas.List.{append-nil, append_assoc}
+use Rattle.std.proofs.Common.{◌≡◌, ℕ, List, [], ◌∷◌, ◌++◌, Some, None}
 use Rattle.ref_share.proofs.Common.{NamedStep, Config, Leads, told_reply, HeapReply, HeapState, IsHeapMove, HeapEntry}
 use Rattle.ref_share.proofs.Common.{HeapAccepts, heap_refusal, IsHeapRun, first_heap_state}
 use Rattle.ref_base.proofs.HeapTurns.{IsTurn, renumbered, heap_turn}
+use Rattle.ref_base.proofs.RunLaws.{holds_on}
 
 -- a call is a turn at the heap
 pub move_turn : (x y : HeapState) (step : NamedStep) (reply : HeapReply) → IsHeapMove x step reply y
@@ -23,9 +22,8 @@ module _ (Q : List HeapEntry → HeapState → Type 0)
   -- what each call keeps holds after some calls more
   pub goes_on : (past : List HeapEntry) (x : HeapState) (calls : List HeapEntry) (y : HeapState) → Q past x
       → Leads IsHeapMove x calls y → Q (past ++ calls) y
-  goes_on past x [] y holds run =
-      subst (λ cs. Q cs y) (sym (append-nil past)) (subst (λ (z : HeapState). Q past z) run holds)
-  goes_on past x (call ∷ calls) y holds run = grind (arith, append_assoc, goes_on (past ++ call ∷ []) run.0 calls y)
+  goes_on past x calls y holds run =
+      holds_on (λ a (call : HeapEntry) b. IsHeapMove a call.step call.reply b) Q step past x calls y holds run
 
   -- and what holds at first, after every history
   pub run_holds : (config : Config) (number : ℕ) → Q [] (first_heap_state config number) → (calls : List HeapEntry)

@@ -109,7 +109,7 @@ module _ (x y : HeapState) (n : ℕ) where
 
 pub held_run : (x y : HeapState) (calls : List HeapEntry) → Leads IsHeapMove x calls y → (n : ℕ)
     → tally (holds_in y) n + tally (spent calls) n ≡ tally (minted calls) n + tally (holds_in x) n
-held_run x y [] run n = no_change (holds_in x) (holds_in y) n (ap holds_in (sym run))
+held_run x y [] run n = no_change (holds_in x) (holds_in y) n (ap holds_in run)
 held_run x y (call ∷ calls) run n = grind (arith, held_move, tally-append, held_run run.0 y calls run.2 n)
 
 -- what is held was given out and not taken back

@@ -50,7 +50,7 @@ move_moves q r step reply move = absurd move
 pub run_moves : (q : NoticeLists) (calls : List QueueEntry) (r : NoticeLists) → Leads IsQueueMove q calls r
     → QueueMoves reported_object q r (all_put_in calls) (all_taken_out calls) (is_closed_after calls)
 run_moves q [] r run =
-    subst (λ (s : NoticeLists). QueueMoves reported_object q s [] [] false) run (moves_nothing reported_object q)
+    stays q r run
 run_moves q (call ∷ calls) r run =
     search (moves_more, run_moves run.0 calls r run.2, move_moves q run.0 call.step call.reply run.1)
 
@@ -82,7 +82,7 @@ number_stays q r step reply move = absurd move
 
 number_of : (q : NoticeLists) (calls : List QueueEntry) (r : NoticeLists) → Leads IsQueueMove q calls r
     → r.queue ≡ q.queue
-number_of q [] r run = ap number_in (sym run)
+number_of q [] r run = ap number_in run
 number_of q (call ∷ calls) r run =
     number_of run.0 calls r run.2 ∙ number_stays q run.0 call.step call.reply run.1
 

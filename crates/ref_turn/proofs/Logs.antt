@@ -3,6 +3,7 @@ use Rattle.std.proofs.Common.{◌≡◌, ◌≢◌, ◌==◌, ℕ, Bool, true, f
 use Rattle.std.proofs.Common.{length, append_assoc, length-append, ◌≤◌, refl, sym, ap, ◌∙◌, subst, arith, Option, Some}
 use Rattle.std.proofs.lemmas.List.{append-nil}
 use Rattle.std.proofs.lemmas.Option.{same_Some}
+use Rattle.ref_base.proofs.RunLaws.{cut_at, one_on}
 use Rattle.ref_turn.specs.declared.history.Entry.{Entry}
 use Rattle.ref_turn.specs.History.{calls_by, StartsWith, Leads, Reaches, IsLegalLog}
 
@@ -68,15 +69,12 @@ module _ {S R : Type 0} where
   module _ {X : Type 0} (moves : X → S → R → X → Type 0) where
     leads-snoc : (log : List (Entry S R)) (e : Entry S R) (x y z : X) → Leads moves x log y → moves y e.step e.reply z
         → Leads moves x (log ++ e ∷ []) z
-    leads-snoc [] e x y z led did = (z, subst (λ (w : X). moves w e.step e.reply z) (sym led) did, refl)
-    leads-snoc (d ∷ log) e x y z led did = (led.0, led.1, leads-snoc log e led.0 y z led.2 did)
+    leads-snoc log e x y z led did = one_on (λ w (d : Entry S R) v. moves w d.step d.reply v) x log y z e led did
 
     -- entries that stand in two parts lead through a state between them
     pub leads_cut : (front back : List (Entry S R)) (x y : X) → Leads moves x (front ++ back) y
         → (mid : X) × Leads moves x front mid × Leads moves mid back y
-    leads_cut [] back x y led = (x, refl, led)
-    leads_cut (e ∷ front) back x y led =
-        let rest = leads_cut front back led.0 y led.2 in (rest.0, (led.0, led.1, rest.1), rest.2)
+    leads_cut front back x y led = cut_at (λ w (d : Entry S R) v. moves w d.step d.reply v) x front back y led
 
   module _ {M X : Type 0} (stands_for : M → X → Type 0) (moves : X → S → R → X → Type 0) where
     pub reaches_legal : (start : Option M) (log : List (Entry S R)) (m : M) → Reaches stands_for moves start log m

@@ -1,5 +1,6 @@
 -- Histories: lists of entries, each with the number of the seat that made the call, its step and its reply.
 use Rattle.std.specs.Prelude.{◌≡◌, ◌==◌, ℕ, List, [], ◌∷◌, ◌++◌, Option, Some, if◌then◌else◌}
+use Rattle.ref_base.specs.Runs.{LeadsThrough}
 use Rattle.ref_turn.specs.declared.history.Entry.{Entry}
 
 module _ {S R : Type 0} where
@@ -15,8 +16,7 @@ module _ {S R : Type 0} where
   module _ {X : Type 0} (moves : X → S → R → X → Type 0) where
     -- the entries lead from one state to another, step by step
     abbrev pub Leads : X → List (Entry S R) → X → Type 0
-    Leads x [] y = x ≡ y
-    Leads x (e ∷ es) y = (z : X) × moves x e.step e.reply z × Leads z es y
+    Leads = LeadsThrough (λ x (e : Entry S R) y. moves x e.step e.reply y)
 
   module _ {M X : Type 0} (stands_for : M → X → Type 0) (moves : X → S → R → X → Type 0) where
     -- from each state that the first machine stands for the entries lead to one that m stands for

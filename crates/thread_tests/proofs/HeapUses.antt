@@ -22,7 +22,7 @@ one_config None a step reply b row = (heap_tells a b step reply row).config
 
 config_kept : (x : HeapState) (calls : List HeapEntry) (y : HeapState) → Leads IsHeapMove x calls y
     → y.state.world.heap.config ≡ x.state.world.heap.config
-config_kept x [] y same = ap (λ (s : HeapState). s.state.world.heap.config) (sym same)
+config_kept x [] y same = ap (λ (s : HeapState). s.state.world.heap.config) same
 config_kept x (call ∷ calls) y run =
     config_kept run.0 calls y run.2
     ∙ one_config (heap_refusal x.number x.state call.step) x.state call.step (told_reply call.reply) run.0.state
