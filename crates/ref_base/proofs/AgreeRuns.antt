@@ -7,7 +7,7 @@ use Rattle.std.proofs.lemmas.Bool.{false≢true}
 use Rattle.ref_base.proofs.Common.{has, World, first_world, told_object, NamedStep, heap_step, handed}
 use Rattle.ref_base.proofs.Common.{after_heap, after_queues, after, State, first_state, heap_refusal}
 use Rattle.ref_base.proofs.Common.{HeapAccepts, with_world, list_at, IsRow, AreCounted, under, is_waiting, Config}
-use Rattle.ref_base.proofs.Common.{Fault, Reply, Row}
+use Rattle.ref_base.proofs.Common.{Reply, Row}
 use Rattle.ref_base.specs.Replay.{after_asking}
 use Rattle.ref_base.specs.declared.heap_step.HeapStep.TheVariants as heap
 use Rattle.ref_base.specs.declared.reply.Reply.TheVariants as replies
@@ -72,16 +72,6 @@ with_others gone w a v next is agrees others = grind arith
 abbrev pub gone_next : State → List ℕ → Option NamedStep → Reply → List ℕ
 gone_next a gone None reply = gone
 gone_next a gone (Some asked) reply = gone_after a gone asked reply
-
-pub gone_refused : (a : State) (gone : List ℕ) (asked : Option NamedStep) (fault : Fault)
-    → gone_next a gone asked (replies.Refused fault) ≡ gone
-gone_refused a gone None fault = refl
-gone_refused a gone (Some (heap.Sweep k)) fault = refl
-gone_refused a gone (Some asked) fault = refl
-
-pub heap_refused : (w : World) (step : NamedStep) (fault : Fault) → after_heap w step (replies.Refused fault) ≡ w
-heap_refused w heap.EndMark fault = refl
-heap_refused w step fault = refl
 
 module _ (gone : List ℕ) (w : World) (a : State) (row : Row) (b : State) (is : Agreeing gone w a) where
   -- the replay asks its heap for the same

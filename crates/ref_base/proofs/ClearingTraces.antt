@@ -92,13 +92,7 @@ step_shifts whole k q a b (steps.Put who) (replies.Added position) sound have ma
 step_shifts whole k q a b (steps.Hand j) (replies.Notice n i cause) sound have made row moves hands =
     hands_on k q a b j n i cause (refusal a (steps.Hand j)) refl sound row hands moves
 step_shifts whole k q a b (steps.ClearNext j) (replies.Cleared n) sound have made row moves hands = search clears_for
-step_shifts whole k q a b (steps.Unhook m s) reply sound have made row moves hands = grind (arith, still)
-step_shifts whole k q a b (steps.Adopt m d) reply sound have made row moves hands = grind (arith, still)
-step_shifts whole k q a b (steps.Release who) reply sound have made row moves hands = grind (arith, released, still)
-step_shifts whole k q a b (steps.Poll m i) reply sound have made row moves hands = grind (arith, still)
-step_shifts whole k q a b (steps.Close m i) reply sound have made row moves hands = grind (arith, still)
-step_shifts whole k q a b step reply sound have made row moves hands =
-    still k q a.world b.world [] hands (at a.world b.world k moves.pending)
+step_shifts whole k q a b step reply sound have made row moves hands = grind (arith, still, released, at)
 
 -- ---- runs
 

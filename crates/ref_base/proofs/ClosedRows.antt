@@ -11,9 +11,9 @@ use Rattle.ref_base.proofs.Common.{without_hold, World, Pending, pending_of, wit
 use Rattle.ref_base.proofs.Common.{NamedStep, adopted, pended, handed_on, with_phase, without_pending, State}
 use Rattle.ref_base.proofs.Common.{Gives, GivesAnewIf, ticked, on_heap, with_world, Makes, Loads, Gets, Unhooks, Holds}
 use Rattle.ref_base.proofs.Common.{Scans, ClearsNext, HandsOn, Sweeps, HeapAccepts, value_reply}
-use Rattle.ref_base.proofs.Common.{list_at, field_in, referent_got, reference_of, is_in}
-use Rattle.ref_base.proofs.Common.{heap_refusal, Own, Cycle, Phase, Idle, Marking, Clearing}
-use Rattle.ref_base.proofs.Common.{Sweeping, Reply}
+use Rattle.ref_base.proofs.Common.{field_in, referent_got, reference_of, is_in}
+use Rattle.ref_base.proofs.Common.{heap_refusal, Own, Cycle, Phase, Marking, Clearing}
+use Rattle.ref_base.proofs.Common.{Reply}
 use Rattle.ref_base.specs.declared.heap_step.HeapStep.TheVariants as heap
 use Rattle.ref_base.specs.declared.reply.Reply.TheVariants as replies
 use Rattle.ref_base.proofs.Places.{all_push}
@@ -170,27 +170,10 @@ module _ (V : ℕ → Type 0) where
           | inl field ↦ absurd (no_nulls k n field)
           | inr refers ↦ subst (OfValue V) (if_any-has referent n refers) (slot_is m s)
         ]) row
-    heap_closed (heap.Store m s i v) reply plain none next clears row = search (given, closed_stored, slot_is)
-    heap_closed (heap.Load m d s i) reply plain none next clears row = grind (arith, loads, field_is)
     heap_closed (heap.Copy m d s) reply plain none next clears row =
         sets m d (slot_at a.world.heap m s) (value_reply (slot_at a.world.heap m s)) reply (slot_is m s) row
     heap_closed (heap.Drop m s) reply plain none next clears row = sets m s None replies.Done reply tt row
-    heap_closed (heap.Get m d s) reply plain none next clears row = grind (arith, gets, got_is)
     heap_closed (heap.Clear m s) reply plain none next clears row = cuts m s replies.Done reply row
-    heap_closed (heap.RefersTo m s v) reply plain none next clears row = given a b _ reply row closed
-    heap_closed (heap.Unhook m s) reply plain none next clears row =
-        unhooks m s (slot_at a.world.heap m s) _ reply (slot_is m s) row
-    heap_closed (heap.Hold m s) reply plain none next clears row =
-        holds (slot_at a.world.heap m s) reply (slot_is m s) row
     heap_closed (heap.Adopt m d hold) reply plain none next clears row = grind (arith, adopts m d hold.object reply)
-    heap_closed (heap.Release hold) reply plain none next clears row = search (given, closed_fewer)
-    heap_closed (heap.Begin now how) reply plain none next clears row = grind arith
-    heap_closed (heap.Scan k) reply plain none next clears row = scans k reply row
-    heap_closed heap.EndMark reply plain none next clears row = absurd plain
-    heap_closed (heap.ClearNext k) reply plain none next clears row =
-        looks k (list_at a.found k) reply (clears (of_phase 0 a (heap.ClearNext k) none)) row
-    heap_closed heap.EndClear reply plain none next clears row = phases Sweeping replies.Done reply row
-    heap_closed (heap.Hand k) reply plain none next clears row =
-        hands_on k (pending_of a.world k) reply (closed.pendings k) row
-    heap_closed (heap.Sweep k) reply plain none next clears row = sweeps a.doomed reply row
-    heap_closed heap.EndSweep reply plain none next clears row = phases Idle replies.Done reply row
+    heap_closed step reply plain none next clears row =
+        grind (arith, makes, has-cases, no_nulls, false≢true, OfValue, if_any-has, slot_is, given, closed_stored, loads, field_is, sets, gets, got_is, cuts, unhooks, holds, adopts, closed_fewer, scans, looks, of_phase, phases, hands_on, sweeps)

@@ -2,8 +2,8 @@
 use Rattle.std.proofs.Common.{arith}
 use Rattle.std.proofs.Common.{◌≡◌, ℕ, List, Option, Some, None, refl, ap, ◌∙◌}
 use Rattle.ref_base.proofs.Common.{Object, Heap, slot_at, reference_at, registered_in, changed_in, with_reference}
-use Rattle.ref_base.proofs.Common.{cleared, got_at, got, cut, one_more, World, told_object, told_value}
-use Rattle.ref_base.proofs.Common.{is_done, told_cycle, is_mark_end, NamedStep, pended, State, HeapAccepts, holds_after}
+use Rattle.ref_base.proofs.Common.{cleared, got_at, got, cut, one_more, World}
+use Rattle.ref_base.proofs.Common.{NamedStep, pended, State, HeapAccepts, holds_after}
 use Rattle.ref_base.proofs.Common.{Reply}
 use Rattle.ref_base.specs.declared.heap_step.HeapStep.TheVariants as heap
 use Rattle.ref_base.specs.declared.reply.Reply.TheVariants as replies
@@ -30,39 +30,18 @@ holds_pended w k n (Some q) = refl
 
 holds_moved : (a : State) (step : NamedStep) (reply : Reply)
     → holds_of (moved a step reply).world ≡ holds_after a.world.heap.holds step reply
-holds_moved a (heap.New m d k) reply = told_keeps holds_of (told_object reply) _ a.world (λ n. refl)
-holds_moved a (heap.Refer m strength d s q k) reply = told_keeps holds_of (told_object reply) _ a.world (λ n. refl)
-holds_moved a (heap.Store m s i v) reply = grind arith
-holds_moved a (heap.Load m d s i) reply = told_keeps holds_of (told_value reply) _ a.world (λ value. refl)
-holds_moved a (heap.Copy m d s) reply = told_keeps holds_of (told_value reply) _ a.world (λ value. refl)
-holds_moved a (heap.Drop m s) reply = done_keeps holds_of (is_done reply) _ a.world refl
-holds_moved a (heap.Get m d s) reply =
-    told_keeps holds_of (told_value reply) _ a.world (λ value. holds_got a.world.heap m d s value)
-holds_moved a (heap.Clear m s) reply = done_keeps holds_of (is_done reply) _ a.world (holds_cut a.world.heap m s)
-holds_moved a (heap.RefersTo m s v) reply = refl
 holds_moved a (heap.Unhook m s) (replies.Notice n q cause) = ap (λ hs. one_more hs n) (holds_cut a.world.heap m s)
 holds_moved a (heap.Unhook m s) replies.Nothing = holds_cut a.world.heap m s
-holds_moved a (heap.Unhook m s) reply = refl
 holds_moved a (heap.Hold m s) (replies.Object n) = refl
-holds_moved a (heap.Hold m s) reply = refl
 holds_moved a (heap.Adopt m d hold) (replies.Object n) = refl
-holds_moved a (heap.Adopt m d hold) reply = refl
 holds_moved a (heap.Release hold) replies.Done = refl
-holds_moved a (heap.Release hold) reply = refl
-holds_moved a (heap.Begin now how) reply = told_keeps holds_of (told_cycle reply) _ a.world (λ n. refl)
-holds_moved a (heap.Scan k) reply = refl
-holds_moved a heap.EndMark reply = done_keeps holds_of (is_mark_end reply) _ a.world refl
 holds_moved a (heap.ClearNext k) (replies.Cleared n) =
     holds_pended a.world k n (registered_in (reference_at a.world.heap n))
 holds_moved a (heap.ClearNext k) (replies.Kept n) = refl
 holds_moved a (heap.ClearNext k) (replies.Skipped n) = refl
-holds_moved a (heap.ClearNext k) reply = refl
-holds_moved a heap.EndClear reply = done_keeps holds_of (is_done reply) _ a.world refl
 holds_moved a (heap.Hand k) (replies.Notice n q cause) = refl
-holds_moved a (heap.Hand k) reply = refl
 holds_moved a (heap.Sweep k) (replies.Swept count) = refl
-holds_moved a (heap.Sweep k) reply = refl
-holds_moved a heap.EndSweep reply = done_keeps holds_of (is_done reply) _ a.world refl
+holds_moved a step reply = grind (arith, told_keeps, done_keeps, holds_got, holds_cut)
 
 -- the holds that a row of a heap leaves are those that it tells
 pub heap_holds : (a b : State) (step : NamedStep) (reply : Reply) → HeapAccepts a step reply b

@@ -16,7 +16,6 @@ use Rattle.ref_base.specs.declared.reply.Reply.TheVariants as replies
 use Rattle.ref_base.proofs.CountedRows.{heap_holds}
 use Rattle.ref_base.proofs.CountedWorlds.{counted_given, counted_spent, counted_put, counted_took}
 use Rattle.ref_base.proofs.CountedWorlds.{counted_closed, first_counted}
-use Rattle.ref_base.proofs.Common.{heap_step}
 use Rattle.ref_base.proofs.RowForms.{asked_of, ticked_world, unless_passes}
 use Rattle.ref_base.proofs.RowLaws.{heap_keeps, registered, IsRegistered, row_goes, mutator_within}
 use Rattle.ref_base.proofs.RowLaws.{actor_has}
@@ -149,7 +148,6 @@ empty_hand (Some notice) later none = absurd cc
 
 accepted : (a b : State) (step : Step) (reply : Reply) → IsSound a.world → AreCounted a.world → refusal a step ≡ None
     → Accepts a step reply b → AreCounted b.world
-accepted a b (steps.Refer m strength d s q k) reply sound counted h row = search (quiet, registered)
 accepted a b (steps.Unhook m s) reply sound counted h row =
     let first = unless_passes (has_slot a.world.heap m s) _ _ h in
     let both = and_parts (is_mutator a.world.heap m) _ first.0 in
@@ -158,13 +156,10 @@ accepted a b (steps.Unhook m s) reply sound counted h row =
     (empty_hand (hand_of a.world (Mutator m)) _ first.1) (heap_holds a row.0 (heap.Unhook m s) reply row.1) row.1 row.2
     counted
 accepted a b (steps.Put who) reply sound counted h row = grind (arith, puts, actor_has a.world who sound)
-accepted a b (steps.Poll m q) reply sound counted h row = grind (arith, polls)
-accepted a b (steps.Adopt m d) reply sound counted h row = grind (arith, adopts)
 accepted a b (steps.Release who) reply sound counted h row = grind (arith, releases, actor_has a.world who sound)
-accepted a b (steps.Close m q) reply sound counted h row = grind (arith, closes)
 accepted a b (steps.Hand k) reply sound counted h row = grind (arith, hands a row.0 b k)
 accepted a b step reply sound counted h row =
-    quiet a b (asked_of (heap_step a.world step)) step reply tt counted row (λ _. refl) (λ _. refl)
+    grind (arith, quiet, registered, unless_passes, and_parts, heap_keeps, unhooks, mutator_within, empty_hand, heap_holds, puts, actor_has, polls, adopts, releases, closes, hands, asked_of)
 
 answered : (a b : State) (step : Step) (reply : Reply) (fault : Option Fault) → IsSound a.world → AreCounted a.world
     → refusal a step ≡ fault → IsAnswer a fault step reply b → AreCounted b.world

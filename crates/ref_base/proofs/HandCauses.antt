@@ -3,11 +3,10 @@
 use Rattle.std.proofs.Common.{arith}
 use Rattle.std.proofs.Common.{◌≡◌, ℕ, Bool, true, false, if◌then◌else◌, List, [], ◌∷◌, map, Option, Some, None, ◌⊎◌}
 use Rattle.std.proofs.Common.{inl, inr, sym, subst}
-use Rattle.std.specs.Prelude.{is_some}
 use Rattle.std.specs.List.{AllByRecursion}
 use Rattle.ref_base.proofs.Common.{has, Lists, enqueued, was_put, World, Notice, first_world, object_of}
-use Rattle.ref_base.proofs.Common.{hand_of, queue_at, with_hand, with_queue, told_object, told_notice, is_done}
-use Rattle.ref_base.proofs.Common.{is_added, told_taken, taking, if_told, put_in, notice_of, took}
+use Rattle.ref_base.proofs.Common.{hand_of, queue_at, with_hand, with_queue, told_notice}
+use Rattle.ref_base.proofs.Common.{taking, if_told, put_in, notice_of, took}
 use Rattle.ref_base.proofs.Common.{closed_queue, State, first_state, refusal, IsAnswer, IsRow, IsRun, Config, Actor}
 use Rattle.ref_base.proofs.Common.{Mutator, Worker, Step, Reply, Row}
 use Rattle.ref_base.specs.declared.step.Step.TheVariants as steps
@@ -77,13 +76,7 @@ module _ (P : Actor → Notice → Type 0) where
   row_of_hands : (w : World) (step : Step) (reply : Reply) → IsGiven w step reply → OfHands w
       → OfHands (others_after w step reply)
   row_of_hands w (steps.Unhook m s) reply is all = takes w (Mutator m) (told_notice reply) is all
-  row_of_hands w (steps.Hand k) reply is all = takes w (Worker k) (told_notice reply) is all
-  row_of_hands w (steps.Adopt m d) reply is all = empties w (Mutator m) (is_some (told_object reply)) all
-  row_of_hands w (steps.Release who) reply is all = empties w who (is_done reply) all
-  row_of_hands w (steps.Put who) reply is all = puts w who (hand_of w who) (is_added reply) all
-  row_of_hands w (steps.Poll m q) reply is all = polls w m q (told_taken reply) is all
-  row_of_hands w (steps.Close m q) reply is all = closes w q (is_done reply) all
-  row_of_hands w step reply is all = all
+  row_of_hands w step reply is all = search (takes, empties, puts, polls, closes, refl)
 
 -- ---- causes
 

@@ -5,7 +5,7 @@ use Rattle.std.proofs.Common.{◌≡◌, ℕ, ◌+◌, false, List, [], ◌∷�
 use Rattle.std.proofs.Common.{Some, None, refl, sym, ap, ◌∙◌, subst, inl, inr, ◌⊎◌}
 use Rattle.std.specs.Prelude.{slice_set}
 use Rattle.std.proofs.lemmas.Bool.{cases_Bool}
-use Rattle.ref_base.proofs.Common.{slot_at, reference_at, registered_in, with_slot, got, cut, with_hold}
+use Rattle.ref_base.proofs.Common.{reference_at, registered_in, with_slot, got, cut, with_hold}
 use Rattle.ref_base.proofs.Common.{Pending, with_heap, NamedStep, pended, after_heap, State, Gives}
 use Rattle.ref_base.proofs.Common.{IsBut, ticked, on_heap, with_world, Loads, Gets, Unhooks, Holds, Scans}
 use Rattle.ref_base.proofs.Common.{ClearsNext, HandsOn, Sweeps, HeapAccepts, value_reply, looked_at, looked, list_at}
@@ -143,17 +143,8 @@ sweeps a b k (n ∷ ns) reply is row = grind arith
 pub heap_becomes : (a b : State) (step : NamedStep) (reply : Reply) → IsNoEnd step → HeapAccepts a step reply b
     → Becomes (moved a step reply) b
 heap_becomes a b (heap.Load m d s i) reply plain row = loads a b m d s i _ reply row
-heap_becomes a b (heap.Copy m d s) reply plain row = copies a b m d s (slot_at a.world.heap m s) reply row
-heap_becomes a b (heap.Get m d s) reply plain row = gets a b m d s _ reply row
-heap_becomes a b (heap.Unhook m s) reply plain row = unhooks a b m s _ _ reply row
-heap_becomes a b (heap.Hold m s) reply plain row = holds a b m s _ reply row
-heap_becomes a b (heap.Begin now how) reply plain row = grind arith
-heap_becomes a b (heap.Scan k) reply plain row = scans a b k reply row
-heap_becomes a b heap.EndMark reply plain row = absurd plain
-heap_becomes a b (heap.ClearNext k) reply plain row = looks_at a b k (list_at a.found k) reply refl row
-heap_becomes a b (heap.Hand k) reply plain row = hands_on a b k _ reply row
-heap_becomes a b (heap.Sweep k) reply plain row = sweeps a b k a.doomed reply refl row
-heap_becomes a b step reply plain row = given a _ b step _ reply row refl
+heap_becomes a b step reply plain row =
+    grind (arith, loads, copies, gets, unhooks, holds, scans, looks_at, hands_on, sweeps, given)
 
 -- in one equation
 pub heap_moves : (a b : State) (step : NamedStep) (reply : Reply) → IsNoEnd step → HeapAccepts a step reply b

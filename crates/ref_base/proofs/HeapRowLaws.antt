@@ -2,31 +2,17 @@
 -- and queues.
 use Rattle.std.proofs.Common.{arith}
 use Rattle.std.proofs.Common.{◌≡◌, ℕ, true, Option, Some, None, refl, sym, subst}
-use Rattle.ref_base.proofs.Common.{has, World, Notice, SameOthers, hand_of, NamedStep, hold_of}
-use Rattle.ref_base.proofs.Common.{heap_step, handed, after_queues, State, is_actor}
+use Rattle.ref_base.proofs.Common.{has, Notice, SameOthers, hand_of, NamedStep, hold_of}
+use Rattle.ref_base.proofs.Common.{heap_step, State, is_actor}
 use Rattle.ref_base.proofs.Common.{heap_refusal, refusal}
 use Rattle.ref_base.proofs.Common.{with_handed, AcceptsAsking, IsHeapAnswer, IsHeapRow, IsAnswer, IsRow}
 use Rattle.ref_base.proofs.Common.{Fault, Actor, Mutator, Worker, Step, Reply}
 use Rattle.ref_base.specs.declared.heap_step.HeapStep.TheVariants as heap
 use Rattle.ref_base.specs.declared.step.Step.TheVariants as steps
-use Rattle.ref_base.specs.declared.reply.Reply.TheVariants as replies
 use Rattle.ref_base.proofs.QueueLaws.{same}
 use Rattle.ref_base.proofs.MovedParts.{heap_others}
 
 -- ---- from a row of the heap to one of the world
-
--- a refusal leaves the hands
-pub refused_hands : (w : World) (step : Step) (fault : Fault) → handed w step (replies.Refused fault) ≡ w
-refused_hands w (steps.Unhook m s) fault = refl
-refused_hands w (steps.Hand k) fault = refl
-refused_hands w (steps.Adopt m d) fault = refl
-refused_hands w (steps.Release who) fault = refl
-refused_hands w step fault = refl
-
--- and the queues
-pub refused_queues : (w : World) (step : Step) (fault : Fault) → after_queues w step (replies.Refused fault) ≡ w
-refused_queues w (steps.Put who) fault = refl
-refused_queues w step fault = refl
 
 carried_answer : (a c : State) (asked : NamedStep) (step : Step) (reply : Reply) (fault : Option Fault)
     → heap_step a.world step ≡ Some asked → IsHeapAnswer a fault asked reply c

@@ -6,7 +6,7 @@ use Rattle.ref_base.proofs.Common.{NamedStep, State, Config, Phase, Reply, Notic
 use Rattle.ref_base.specs.declared.heap_step.HeapStep.TheVariants as heap
 use Rattle.ref_base.specs.declared.reply.Reply.TheVariants as replies
 use Rattle.ref_base.proofs.HeapMoves.{moved, IsNoEnd, heap_moves}
-use Rattle.ref_base.proofs.ReplayKeeps.{EndsNoPhase, PendsNone, stage_of, stage_pended, same_frame, same_stage}
+use Rattle.ref_base.proofs.ReplayKeeps.{EndsNoPhase, stage_of, stage_pended, same_stage}
 use Rattle.ref_base.proofs.ReplayKeeps.{told_keeps, done_keeps}
 
 -- ---- a row that ends no phase
@@ -17,17 +17,8 @@ stage_moved a (heap.ClearNext k) (replies.Cleared n) plain =
     stage_pended a.world k n (registered_in (reference_at a.world.heap n))
 stage_moved a (heap.ClearNext k) (replies.Kept n) plain = refl
 stage_moved a (heap.ClearNext k) (replies.Skipped n) plain = refl
-stage_moved a (heap.ClearNext k) reply plain = refl
 stage_moved a (heap.Sweep k) (replies.Swept count) plain = refl
-stage_moved a (heap.Sweep k) reply plain = refl
-stage_moved a (heap.Begin now how) reply plain = absurd plain
-stage_moved a heap.EndMark reply plain = absurd plain
-stage_moved a heap.EndClear reply plain = absurd plain
-stage_moved a heap.EndSweep reply plain = absurd plain
-stage_moved a (heap.New m d k) reply plain = same_stage a.world (heap.New m d k) reply tt
-stage_moved a (heap.Refer m strength d s q k) reply plain =
-    same_stage a.world (heap.Refer m strength d s q k) reply tt
-stage_moved a step reply plain = same_stage a.world step reply tt
+stage_moved a step reply plain = search (same_stage, refl)
 
 pub phase_moved : (a : State) (step : NamedStep) (reply : Reply) → EndsNoPhase step
     → (moved a step reply).world.phase ≡ a.world.phase
@@ -53,16 +44,6 @@ abbrev pub FreesNone : NamedStep → Type 0
 FreesNone (heap.Sweep k) = ⊥
 FreesNone step = Unit {0}
 
-pub doomed_moved : (a : State) (step : NamedStep) (reply : Reply) → EndsNoPhase step → FreesNone step
-    → (moved a step reply).doomed ≡ a.doomed
-doomed_moved a (heap.ClearNext k) (replies.Cleared n) plain frees = refl
-doomed_moved a (heap.ClearNext k) (replies.Kept n) plain frees = refl
-doomed_moved a (heap.ClearNext k) (replies.Skipped n) plain frees = refl
-doomed_moved a (heap.ClearNext k) reply plain frees = refl
-doomed_moved a (heap.Sweep k) reply plain frees = absurd frees
-doomed_moved a (heap.Begin now how) reply plain frees = absurd plain
-doomed_moved a step reply plain frees = refl
-
 -- ---- what the end of a mark goes by
 
 -- the phase, and what tells which objects are left
@@ -85,26 +66,6 @@ config_moved a heap.EndMark reply plain = absurd plain
 config_moved a heap.EndClear reply plain = done_keeps config_in (is_done reply) _ a.world refl
 config_moved a heap.EndSweep reply plain = done_keeps config_in (is_done reply) _ a.world refl
 config_moved a step reply plain = ap config_in (stage_moved a step reply tt)
-
-abbrev pending_in : World → List (List Pending)
-pending_in w = w.pending
-
-pub pending_moved : (a : State) (step : NamedStep) (reply : Reply) → IsNoEnd step → PendsNone step
-    → pending_in (moved a step reply).world ≡ pending_in a.world
-pending_moved a (heap.ClearNext k) reply plain calm = absurd calm
-pending_moved a (heap.Hand k) reply plain calm = absurd calm
-pending_moved a (heap.Begin now how) reply plain calm = told_keeps pending_in (told_cycle reply) _ a.world (λ n. refl)
-pending_moved a heap.EndMark reply plain calm = absurd plain
-pending_moved a heap.EndClear reply plain calm = done_keeps pending_in (is_done reply) _ a.world refl
-pending_moved a heap.EndSweep reply plain calm = done_keeps pending_in (is_done reply) _ a.world refl
-pending_moved a (heap.Scan k) reply plain calm = refl
-pending_moved a (heap.Sweep k) (replies.Swept count) plain calm = refl
-pending_moved a (heap.Sweep k) reply plain calm = refl
-pending_moved a (heap.New m d k) reply plain calm =
-    ap pending_in (same_frame a.world (heap.New m d k) reply tt tt)
-pending_moved a (heap.Refer m strength d s q k) reply plain calm =
-    ap pending_in (same_frame a.world (heap.Refer m strength d s q k) reply tt tt)
-pending_moved a step reply plain calm = ap pending_in (same_frame a.world step reply tt tt)
 
 -- hands and queues
 abbrev others_in : World → List (Option Notice) × List (Option Notice) × List (Lists Notice)

@@ -4,11 +4,6 @@ use Rattle.std.proofs.Common.{Option, Some, None}
 use Rattle.ref_base.proofs.Common.{has, Object, Reference, object_at, is_there, numbers, IsRising, any_is, refers_into}
 use Rattle.ref_base.proofs.Common.{new_clears, reference_in}
 
--- numbers that rise do so behind the first
-pub IsRising-tail : (n : ℕ) (ns : List ℕ) → IsRising (n ∷ ns) → IsRising ns
-IsRising-tail n [] rising = tt
-IsRising-tail n (m ∷ ms) rising = rising.1
-
 -- numbers that rise from one on don't have it again
 pub is_there-rising : (os : List Object) (n m : ℕ) → n ≤ m → IsRising (m ∷ numbers os) → is_there os n ≡ false
 is_there-rising [] n m order rising = refl

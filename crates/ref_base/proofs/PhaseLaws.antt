@@ -28,11 +28,4 @@ IsOfPhase a step = Unit {0}
 pub of_phase : (heap_no : ℕ) (a : State) (step : NamedStep) → heap_refusal heap_no a step ≡ None → IsOfPhase a step
 of_phase heap_no a (heap.Begin now how) none =
     is_phase a.world.phase Idle (unless_passes (is_in a.world.phase Idle) _ _ none).0
-of_phase heap_no a (heap.Scan k) none = grind arith
-of_phase heap_no a heap.EndMark none =
-    is_phase a.world.phase Marking (unless_passes (is_in a.world.phase Marking) _ _ none).0
-of_phase heap_no a (heap.ClearNext k) none = grind arith
-of_phase heap_no a heap.EndClear none = grind arith
-of_phase heap_no a (heap.Sweep k) none = grind arith
-of_phase heap_no a heap.EndSweep none = grind arith
-of_phase heap_no a step none = tt
+of_phase heap_no a step none = grind (arith, is_phase, unless_passes)

@@ -1,10 +1,10 @@
 -- A row is refused, or one of queues, or one of its heap with what the step leaves in the hands.
 use Rattle.std.proofs.Common.{arith}
 use Rattle.std.proofs.Common.{◌≡◌, ℕ, if◌then◌else◌, Bool, true, false, List, [], ◌∷◌, Option, Some, None}
-use Rattle.std.proofs.Common.{refl, sym, ap, ◌∙◌, inl, inr, ◌⊎◌}
+use Rattle.std.proofs.Common.{refl, inl, inr, ◌⊎◌}
 use Rattle.ref_base.proofs.Common.{Notice, hand_of, queue_at, NamedStep, heap_step}
 use Rattle.ref_base.proofs.Common.{spending, after_queues, closed_queue, State, refusal, heap_refusal}
-use Rattle.ref_base.proofs.Common.{asked_refusal, has_slot, is_counted, with_world, with_handed}
+use Rattle.ref_base.proofs.Common.{has_slot, is_counted, with_world, with_handed}
 use Rattle.ref_base.proofs.Common.{HeapAccepts, QueuesAccept, AcceptsAsking, IsAnswer, IsRow, Puts, PutsInto}
 use Rattle.ref_base.proofs.Common.{Polls, Closes, Gives, AreCounted, Actor, Mutator, Fault, HoldName, Step}
 use Rattle.ref_base.proofs.Common.{Reply, Row}
@@ -49,18 +49,12 @@ spent_passes a who step (Some notice) asked counted is asks passes = grind (arit
 
 heap_passes : (a : State) (step : Step) (asked : NamedStep) → AreCounted a.world → heap_step a.world step ≡ Some asked
     → refusal a step ≡ None → heap_refusal 0 a asked ≡ None
-heap_passes a (steps.Unhook m s) asked counted asks none = grind arith
-heap_passes a (steps.Hand k) asked counted asks none = grind arith
-heap_passes a (steps.Put who) asked counted asks none = absurd cc
-heap_passes a (steps.Poll m q) asked counted asks none = absurd cc
-heap_passes a (steps.Close m q) asked counted asks none = absurd cc
 heap_passes a (steps.Adopt m d) asked counted asks none =
     let first = unless_passes (has_slot a.world.heap m d) _ _ none in
     let there : has_slot a.world.heap m d ≡ true = first.0 in
     spent_passes a (Mutator m) (λ hold. heap.Adopt m d hold) (hand_of a.world (Mutator m)) asked counted refl asks
     (λ hold counts. simp (there, counts) refl)
-heap_passes a (steps.Release who) asked counted asks none = grind (arith, spent_passes)
-heap_passes a step asked counted asks none = sym (ap (asked_refusal a) asks) ∙ none
+heap_passes a step asked counted asks none = grind (arith, unless_passes, spent_passes)
 
 -- ---- rows of queues
 

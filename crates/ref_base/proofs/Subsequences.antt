@@ -42,11 +42,6 @@ sub_before ms (n ∷ ns) back sub =
           inr (taken.0 ++ back, ap (λ l. l ++ back) taken.1, sub_before taken.0 ns back taken.2)
     ]
 
--- or more in front of the other
-pub sub_in_front : (front ms ns : List ℕ) → Sub ms ns → Sub ms (front ++ ns)
-sub_in_front [] ms ns sub = sub
-sub_in_front (f ∷ front) ms ns sub = inl (sub_in_front front ms ns sub)
-
 -- a longer list has all
 pub sub_longer : (ns more : List ℕ) → Sub ns (ns ++ more)
 sub_longer ns more =

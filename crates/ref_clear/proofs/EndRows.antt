@@ -1,9 +1,9 @@
 -- The ends of the clearing and of the sweep: nothing found is left, and then nothing doomed.
 use Rattle.std.proofs.Common.{arith}
-use Rattle.std.proofs.Common.{◌≡◌, ℕ, refl, sym, ap, ◌∙◌, List, [], map, None}
+use Rattle.std.proofs.Common.{◌≡◌, refl, sym, ap, ◌∙◌, [], None}
 use Rattle.std.proofs.lemmas.Bool.{false≢true, false_from_ne_true}
-use Rattle.ref_clear.proofs.Common.{has, refers_into, Heap, reference_at, graph_of, State}
-use Rattle.ref_clear.proofs.Common.{joined, HeapAccepts, with_world, shown, heap_but}
+use Rattle.ref_clear.proofs.Common.{has, refers_into, reference_at, graph_of, State}
+use Rattle.ref_clear.proofs.Common.{joined, HeapAccepts, with_world, heap_but}
 use Rattle.ref_clear.proofs.Common.{Idle, Clearing, Sweeping, unmarked, CycleHeap, is_white}
 use Rattle.ref_clear.proofs.Common.{cycle_in_phase, MarkStands, FactsBut, shown_heap, ClearHeap, with_mark, refusal_in}
 use Rattle.ref_clear.proofs.Common.{HeapStands}

@@ -2,16 +2,16 @@
 use Rattle.std.proofs.Common.{arith}
 use Rattle.std.proofs.Common.{◌≡◌, ℕ, true, Option, Some, None, refl, ap, ◌∙◌, inl, inr, List, ◌∷◌, []}
 use Rattle.std.proofs.lemmas.Bool.{cases_Bool}
-use Rattle.ref_clear.proofs.Common.{Object, Reference, is_there, plain_object, Heap, slot_at}
+use Rattle.ref_clear.proofs.Common.{Object, Reference, is_there, Heap, slot_at}
 use Rattle.ref_clear.proofs.Common.{reference_in, reference_at, changed_in, made, stored, got, cut, with_field}
-use Rattle.ref_clear.proofs.Common.{with_reference, changed_reference, cleared, got_at, nulls, new_reference}
+use Rattle.ref_clear.proofs.Common.{with_reference, changed_reference, cleared, got_at}
 use Rattle.ref_clear.proofs.Common.{registered_in, with_hold, targets_at, is_kept, NamedStep, is_in, referent_of}
 use Rattle.ref_clear.proofs.Common.{Fault, Marking, CycleHeap, shaded_all}
 use Rattle.ref_clear.proofs.Common.{with_cleared, cycle_begun, unless_refused}
 use Rattle.ref_base.specs.declared.heap_step.HeapStep.TheVariants as heap
 use Rattle.ref_base.proofs.Lookups.{lookup-changed, object_at-push}
 use Rattle.ref_base.proofs.Reshaping.{queue-cleared}
-use Rattle.ref_mark.specs.CycleHeaps.{barred, with_made, whitened, scanned, grey_scanned, roots_of}
+use Rattle.ref_mark.specs.CycleHeaps.{barred, with_made, whitened, grey_scanned, roots_of}
 use Rattle.ref_mark.specs.MarkCalls.{done_in, after_in_cycle, refusal_in_cycle, with_hold_of}
 use Rattle.ref_mark.proofs.LoopLemmas.{shaded_heap}
 use Rattle.ref_mark.proofs.Scanning.{with_found-only}
@@ -108,24 +108,12 @@ pub config-cleared : (k : CycleHeap) (m s : ℕ) → (with_cleared k m s).heap.c
 config-cleared k m s = grind arith
 
 done_stays : (k : CycleHeap) (step : NamedStep) → KeepsReferences k.heap (done_in k step).heap
-done_stays k (heap.New m d f) = made_stays k m d (plain_object k.next (nulls f))
-done_stays k (heap.Refer m strength d s q f) =
-    made_stays k m d (new_reference k.heap k.next strength (slot_at k.heap m s) q f)
-done_stays k (heap.Store m d i s) = stays-stored k.heap m d i s
-done_stays k (heap.Load m d s i) = search barred-heap
-done_stays k (heap.Copy m d s) = same_objects k.heap (done_in k (heap.Copy m d s)).heap refl
-done_stays k (heap.Drop m s) = same_objects k.heap (done_in k (heap.Drop m s)).heap refl
 done_stays k (heap.Get m d s) = grind (arith, stays-got k.heap m d s)
-done_stays k (heap.Clear m s) = cleared_stays k m s
-done_stays k (heap.Hold m s) = held_stays k.heap (slot_at k.heap m s)
-done_stays k (heap.Adopt m d hold) = same_objects k.heap (done_in k (heap.Adopt m d hold)).heap refl
-done_stays k (heap.Release hold) = same_objects k.heap (done_in k (heap.Release hold)).heap refl
 done_stays k (heap.Begin now how) =
     same_objects k.heap (cycle_begun k now how).heap
     (ap (λ (h : Heap). h.objects) (shaded_heap (whitened k now how) (cycle_begun k now how) (roots_of k.heap) refl))
-done_stays k (heap.Scan w) = same_heap k.heap (scanned k w).heap (scanned-heap k w k.grey)
-done_stays k heap.EndMark = same_heap k.heap k.heap refl
-done_stays k step = same_heap k.heap k.heap refl
+done_stays k step =
+    search (made_stays, stays-stored, barred-heap, same_objects, stays-got, cleared_stays, held_stays, shaded_heap, same_heap, scanned-heap, refl)
 
 stays_by : (k : CycleHeap) (step : NamedStep) (refused : Option Fault)
     → KeepsReferences k.heap (unless_refused refused (λ fault. k) (done_in k step)).heap

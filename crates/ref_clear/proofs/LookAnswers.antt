@@ -4,7 +4,7 @@ use Rattle.std.proofs.Common.{◌++◌, length, map, get_or, set, Option, Some, 
 use Rattle.std.proofs.lemmas.List.{set-get_or, map-append, length-map}
 use Rattle.std.proofs.lemmas.Bool.{true≢false, false≢true}
 use Rattle.std.specs.Option.{unwrap_or, is_some, IsSome}
-use Rattle.ref_clear.proofs.Common.{Reference, is_there, reference_at, registered_in, any_is, refers_into, Pending}
+use Rattle.ref_clear.proofs.Common.{Reference, is_there, reference_at, registered_in, Pending}
 use Rattle.ref_clear.proofs.Common.{list_at, work_refusal, Clearing, Ground, CycleHeap, is_doomed, with_found_taken}
 use Rattle.ref_clear.proofs.Common.{ground_of, first_in, rest_of, ClearHeap, with_mark, pending_at}
 use Rattle.ref_clear.proofs.Common.{is_to_clear, cut_at, heap_pended, looked_from, after_in, Worklist, seen_heap}
@@ -207,10 +207,6 @@ no_queue_is (Some q) none = absurd (true≢false none)
 -- once a reference is taken, all objects are as before
 module _ (k : CycleHeap) (w : ℕ) {t : CycleHeap} {g : Ground} (taken : t ≡ with_found_taken k w)
     (objects : g ≡ ground_of t) where
-  pub few_taken : IsWellFormed g → length k.heap.objects ≤ k.heap.config.cells
-  few_taken formed =
-      subst (λ (h : Ground). length h.heap.objects ≤ h.heap.config.cells) (objects ∙ ap ground_of taken) formed.few
-
   pub tagged_taken : IsWellFormed g → map (λ i. i.no) k.tags ≡ numbers k.heap.objects
   tagged_taken formed = cc
 
@@ -218,13 +214,7 @@ module _ (k : CycleHeap) (w : ℕ) {t : CycleHeap} {g : Ground} (taken : t ≡ w
     read_before : reference_at k.heap n ≡ read
     read_before = sym (reads ∙ ap (λ (h : Ground). reference_at h.heap n) (objects ∙ ap ground_of taken))
 
-    pub no_reference : read ≡ None → is_to_clear k n ≡ false
-    no_reference none = ap (refers_into (is_doomed k)) (read_before ∙ none)
-
     module _ {r : Reference} (is : read ≡ Some r) where
-      pub no_referent : r.referent ≡ None → is_to_clear k n ≡ false
-      no_referent none = ap (refers_into (is_doomed k)) (read_before ∙ is) ∙ ap (any_is (is_doomed k)) none
-
       -- it is to be cleared exactly where its referent is doomed
       pub clears_by : {m : ℕ} {goes : Bool} → r.referent ≡ Some m → is_doomed t m ≡ goes → is_to_clear k n ≡ goes
       clears_by {m} {goes} referent doomed = grind arith

@@ -2,7 +2,7 @@
 use Rattle.std.proofs.Common.{arith}
 use Rattle.std.proofs.Common.{◌≡◌, ℕ, true, refl, List, [], ◌∷◌, Option, Some, None}
 use Rattle.std.proofs.Common.{false}
-use Rattle.std.proofs.lemmas.Bool.{false≢true, true≢false}
+use Rattle.std.proofs.lemmas.Bool.{false≢true}
 use Rattle.std.specs.Option.{is_some}
 use Rattle.ref_mark.proofs.Common.{Object, Reference, object_at, reference_at, reference_in, changed_at}
 use Rattle.ref_mark.proofs.Common.{with_changed, with_reference, is_soft, CycleHeap}
@@ -36,8 +36,3 @@ pub unstamped_renewed : (k : CycleHeap) (n : ℕ) (r : Reference) (value : Optio
     → is_soft r.strength ≡ false → k ≡ renewed k n value
 unstamped_renewed k n r None found other = refl
 unstamped_renewed k n r (Some value) found other = grind (arith, changed_same)
-
--- nor is one that answered null
-pub unrenewed : (k : CycleHeap) (n : ℕ) (value : Option ℕ) → is_some value ≡ false → k ≡ renewed k n value
-unrenewed k n None none = refl
-unrenewed k n (Some value) none = absurd (true≢false none)

@@ -3,10 +3,10 @@ use Rattle.std.proofs.Common.{arith}
 use Rattle.std.proofs.Common.{◌≡◌, ℕ, List, Option, Some, None, refl, ap, [], ◌∷◌}
 use Rattle.ref_objects.specs.Grounds.{Tag, cleared_in_at}
 use Rattle.ref_objects.proofs.TagLemmas.{cleared_in_at-new}
-use Rattle.ref_mark.proofs.Common.{Object, plain_object, slot_at, nulls, new_reference}
-use Rattle.ref_mark.proofs.Common.{NamedStep, field_in, Fault, Urgency}
+use Rattle.ref_mark.proofs.Common.{Object, plain_object, nulls}
+use Rattle.ref_mark.proofs.Common.{NamedStep, Fault, Urgency}
 use Rattle.ref_mark.proofs.Common.{CycleHeap, shaded_all}
-use Rattle.ref_mark.proofs.Common.{with_made, barred, value_got, with_cleared, whitened, roots_of, grey_scanned}
+use Rattle.ref_mark.proofs.Common.{with_made, barred, with_cleared, whitened, roots_of, grey_scanned}
 use Rattle.ref_mark.proofs.Common.{done_in, refusal_in_cycle, unless_refused}
 use Rattle.ref_base.specs.declared.heap_step.HeapStep.TheVariants as heap
 use Rattle.ref_mark.specs.MarkCalls.{after_in_cycle}
@@ -61,21 +61,7 @@ made-own k m d o = grind (arith, cleared_in_at-new)
 
 done-own : (k : CycleHeap) (step : NamedStep) → KeepsOwn k (done_in k step)
 done-own k (heap.New m d f) = made-own k m d (plain_object k.next (nulls f))
-done-own k (heap.Refer m strength d s q f) =
-    made-own k m d (new_reference k.heap k.next strength (slot_at k.heap m s) q f)
-done-own k (heap.Store m d i s) = keeps_own refl
-done-own k (heap.Load m d s i) = keeps_own (barred-own k (field_in k.heap (slot_at k.heap m s) i))
-done-own k (heap.Copy m d s) = keeps_own refl
-done-own k (heap.Drop m s) = keeps_own refl
-done-own k (heap.Get m d s) = keeps_own (barred-own k (value_got k m s))
-done-own k (heap.Clear m s) = keeps_own (cleared-own k m s)
-done-own k (heap.Hold m s) = keeps_own refl
-done-own k (heap.Adopt m d hold) = keeps_own refl
-done-own k (heap.Release hold) = keeps_own refl
-done-own k (heap.Begin now how) = keeps_own (shaded_all-own (whitened k now how) (roots_of k.heap))
-done-own k (heap.Scan w) = keeps_own (scanned-own k w k.grey)
-done-own k heap.EndMark = keeps_own refl
-done-own k step = keeps_own refl
+done-own k step = search (made-own, keeps_own, barred-own, cleared-own, shaded_all-own, scanned-own, refl)
 
 own-unless : (k done : CycleHeap) (refused : Option Fault) → KeepsOwn k done
     → KeepsOwn k (unless_refused refused (λ fault. k) done)

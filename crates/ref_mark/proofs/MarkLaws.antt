@@ -50,22 +50,9 @@ module _ (k : CycleHeap) (a : State) (stands : MarkStands k a) where
   accepted : (step : NamedStep) → is_of_marking step ≡ true → refusal_in_cycle k step ≡ None
       → (b : State) × HeapAccepts a step (reply_in k step) b
       × MarkStands (shaded_all (done_in k step) (late_roots a step)) b
-  accepted (heap.New m d f) own none = new_row k a m d f stands none
-  accepted (heap.Refer m strength d s q f) own none = refer_row k a m strength d s q f stands none
-  accepted (heap.Store m d i s) own none = store_row k a m d i s stands none
-  accepted (heap.Load m d s i) own none = load_row k a m d s i stands none
-  accepted (heap.Copy m d s) own none = copy_row k a m d s stands
-  accepted (heap.Drop m s) own none = drop_row k a m s stands
-  accepted (heap.Get m d s) own none = get_row k a m d s stands none
-  accepted (heap.Clear m s) own none = clear_row k a m s stands none
   accepted (heap.RefersTo m s v) own none = refers_to_row k a stands m s v
-  accepted (heap.Hold m s) own none = hold_row k a m s stands none
-  accepted (heap.Adopt m d hold) own none = adopt_row k a m d hold stands none
-  accepted (heap.Release hold) own none = release_row k a hold stands
-  accepted (heap.Begin now how) own none = begin_row k a now how stands none
-  accepted (heap.Scan w) own none = scan_row k a w stands none
-  accepted heap.EndMark own none = end_mark_row k a stands none
-  accepted step own none = absurd (false≢true own)
+  accepted step own none =
+      search (new_row, refer_row, store_row, load_row, copy_row, drop_row, get_row, clear_row, refers_to_row, hold_row, adopt_row, release_row, begin_row, scan_row, end_mark_row, false≢true, refl)
 
   row_by : (step : NamedStep) (refused : Option Fault) → is_of_marking step ≡ true → refusal_in_cycle k step ≡ refused
       → (b : State)

@@ -5,11 +5,10 @@ use Rattle.ref_mark.proofs.Common.{refers_into, has, Graph, Object, object_at, i
 use Rattle.ref_mark.proofs.Common.{targets_of, targets_at, soft_and_weak_referents, IsRising, is_kept, Heap}
 use Rattle.ref_mark.proofs.Common.{reference_in, reference_at, World, with_heap, pending_numbers, State}
 use Rattle.ref_mark.proofs.Common.{is_in_cycle, CycleHeap, is_white, is_past_mark, is_due, doomed, FactsBut}
-use Rattle.ref_mark.proofs.Common.{Coloured, Reached, FoundBut, InClearing}
+use Rattle.ref_mark.proofs.Common.{Coloured, Reached, FoundBut}
 use Rattle.ref_base.specs.Graphs.{numbers}
 use Rattle.ref_base.proofs.PathLaws.{root_ends, target_ends}
 use Rattle.ref_objects.specs.Grounds.{Tag}
-use Rattle.ref_mark.specs.Standing.{InSweeping}
 use Rattle.ref_mark.proofs.Shading.{MarkingBut}
 use Rattle.ref_base.proofs.StillFound.{are_found-still}
 
@@ -113,10 +112,6 @@ module _ (k : CycleHeap) (c : Change) (pending todo : List ℕ) (move : IsMove k
   marked-was : (n : ℕ) → is_there k.heap.objects n ≡ true → has c.marked n ≡ true → has k.marked n ≡ true
   marked-was n there marked = grind arith
 
-  -- exactly what was white is white
-  pub same_white : (n : ℕ) → is_white (moved k c) n ≡ is_white k n
-  same_white n = grind arith
-
   pub moved_facts : (roots : List ℕ) → FactsBut k roots [] → FactsBut (moved k c) (roots_after c pending) todo
   moved_facts roots facts = grind arith
 
@@ -156,15 +151,7 @@ module _ (k : CycleHeap) (c : Change) (pending todo : List ℕ) (move : IsMove k
 
   pub moved_found : (scanned : List (List ℕ)) → FoundBut k scanned [] → FoundBut (moved k c) scanned []
   moved_found scanned found = grind (arith, are_found-still)
-
   -- ---- later phases
-
-  pub moved_clearing : (lists : List (List ℕ)) (clears : List ℕ) → is_past_mark k.phase ≡ true
-      → InClearing k lists clears → InClearing (moved k c) lists clears
-  moved_clearing lists clears past holds = grind arith
-
-  pub moved_sweeping : InSweeping k → InSweeping (moved k c)
-  moved_sweeping holds = grind arith
 
 -- ---- states
 

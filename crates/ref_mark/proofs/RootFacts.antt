@@ -5,7 +5,7 @@ use Rattle.std.proofs.Common.{length, Option, Some, None, ◌⊎◌, inl}
 use Rattle.std.specs.Prelude.{slice_set}
 use Rattle.ref_mark.proofs.Common.{any_is, has, is_there, present, targets_at, is_kept}
 use Rattle.ref_mark.proofs.Common.{slot_at, pending_numbers, is_in, has_slot, State, Phase, Marking}
-use Rattle.ref_mark.proofs.Common.{Sweeping, is_in_cycle, CycleHeap, is_white, is_black, is_past_mark, is_due, AreThere}
+use Rattle.ref_mark.proofs.Common.{Sweeping, is_in_cycle, CycleHeap, is_white, is_past_mark, is_due, AreThere}
 use Rattle.ref_mark.proofs.Common.{MarkStands}
 use Rattle.ref_base.proofs.HasLaws.{has-left, has-right, has-cases}
 use Rattle.ref_base.proofs.Lookups.{has-present_set, has-present_at}
@@ -87,11 +87,6 @@ module _ (k : CycleHeap) (a : State) (stands : MarkStands k a) (begun : is_in_cy
   roots_of_set i value todo allowed =
       each_root_of_set k a stands (λ n. (is_white k n ≡ false) ⊎ (has todo n ≡ true)) i value
       (λ n root. inl (root_is_not_white n root)) allowed
-
-  -- and what isn't white is black
-  pub not_white_is_black : is_in k.phase Marking ≡ false → (n : ℕ) → is_there k.heap.objects n ≡ true
-      → is_white k n ≡ false → is_black k n ≡ true
-  not_white_is_black quiet n there other = grind arith
 
   -- and leads to nothing white
   pub lead_is_not_white : is_in k.phase Marking ≡ false → (m n : ℕ) → is_white k m ≡ false

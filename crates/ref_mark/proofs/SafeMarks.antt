@@ -1,8 +1,8 @@
 -- Once nothing is grey, what isn't marked may be doomed: nothing that is kept is white, and no marked object leads to a
 -- white one.
 use Rattle.std.proofs.Common.{arith}
-use Rattle.std.proofs.Common.{◌≡◌, ℕ, true, false, not, ◌&&◌, ◌==◌, nat_lt, refl, ap, List, [], ◌∷◌, inl, inr}
-use Rattle.std.proofs.lemmas.Bool.{false≢true, eq-eqb}
+use Rattle.std.proofs.Common.{◌≡◌, ℕ, true, false, not, ◌&&◌, nat_lt, refl, ap, List, [], ◌∷◌, inl, inr}
+use Rattle.std.proofs.lemmas.Bool.{false≢true}
 use Rattle.ref_mark.proofs.Common.{has, Graph, Object, is_there, targets_at, is_kept, MayDoom, graph_of, State, joined}
 use Rattle.ref_mark.proofs.Common.{CycleHeap, is_white, is_black, is_in_cycle, unmarked, FactsBut, Coloured, Reached}
 use Rattle.ref_mark.proofs.Common.{MarkStands}

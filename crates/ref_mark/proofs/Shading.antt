@@ -1,9 +1,9 @@
 -- What holds in a mark goes on holding as white objects become grey.
 use Rattle.std.proofs.Common.{arith}
-use Rattle.std.proofs.Common.{◌≡◌, ℕ, Bool, true, false, not, ◌==◌, refl, sym, ap, subst, ◌∙◌, List}
-use Rattle.std.proofs.Common.{[], ◌∷◌, ◌++◌, Option, Some, None, inl, inr}
+use Rattle.std.proofs.Common.{◌≡◌, ℕ, true, false, not, ◌==◌, refl, sym, ap, subst, ◌∙◌, List}
+use Rattle.std.proofs.Common.{[], ◌∷◌, ◌++◌, inl, inr}
 use Rattle.std.proofs.lemmas.Bool.{cases_Bool, and_parts, or_right, false≢true}
-use Rattle.ref_mark.proofs.Common.{refers_into, any_is, AreDistinct, has, Reference, is_there, EverKept}
+use Rattle.ref_mark.proofs.Common.{AreDistinct, has, is_there, EverKept}
 use Rattle.ref_mark.proofs.Common.{one_more, graph_of, is_empty, State, CycleHeap}
 use Rattle.ref_mark.proofs.Common.{is_white, is_black, shaded, shaded_all, FactsBut, Coloured, Reached, FoundBut}
 use Rattle.ref_base.specs.CollectorRows.{IsLeft}
@@ -71,17 +71,6 @@ white_there k n white = (and_parts (is_there k.heap.objects n) (not (has k.marke
 -- nothing becomes black
 pub black-greyed : (k : CycleHeap) (n m : ℕ) → is_black (greyed k n) m ≡ true → is_black k m ≡ true
 black-greyed k n m black = grind (arith, has-one_more, has-append)
-
--- what refers to something white did so before
-pub any_is-wider : (before after : ℕ → Bool) → ((n : ℕ) → after n ≡ true → before n ≡ true) → (value : Option ℕ)
-    → any_is after value ≡ true → any_is before value ≡ true
-any_is-wider before after wider None some = some
-any_is-wider before after wider (Some n) some = wider n some
-
-pub refers_into-wider : (before after : ℕ → Bool) → ((n : ℕ) → after n ≡ true → before n ≡ true)
-    → (r : Option Reference) → refers_into after r ≡ true → refers_into before r ≡ true
-refers_into-wider before after wider None some = some
-refers_into-wider before after wider (Some r) some = any_is-wider before after wider r.referent some
 
 -- ---- lists
 

@@ -4,9 +4,9 @@ use Rattle.std.proofs.Common.{◌≡◌, ℕ, ◌+◌, ◌*◌, true, List, [], 
 use Rattle.std.proofs.Common.{None, inl, inr, sym, ap, ◌∙◌, subst}
 use Rattle.std.specs.List.{AllByRecursion}
 use Rattle.std.proofs.lemmas.List.{append-nil}
-use Rattle.ref_share.proofs.Common.{HeapAccepts, HandsOn, EndsMark, doomed_at, list_at, State, slot_at}
+use Rattle.ref_share.proofs.Common.{HeapAccepts, HandsOn, EndsMark, doomed_at, State, slot_at}
 use Rattle.ref_share.proofs.Common.{NamedStep, has, heap_refusal, Pending}
-use Rattle.ref_share.proofs.Common.{pending_of, Config, Own, Cycle, Reply, Leads, entry, told_reply}
+use Rattle.ref_share.proofs.Common.{Config, Own, Cycle, Reply, Leads, entry, told_reply}
 use Rattle.ref_share.proofs.Common.{HeapReply, HeapState, IsHeapMove, HeapEntry, IsHeapRun}
 use Rattle.ref_base.specs.CollectorRows.{Unhooks, Holds, Scans, ClearsNext, Sweeps}
 use Rattle.ref_base.specs.CollectorRows.{value_reply}
@@ -70,22 +70,8 @@ module _ (V : ℕ → Type 0) where
     named_is : (step : NamedStep) (reply : Reply) → V a.next → heap_refusal 0 a step ≡ None
         → HeapAccepts a step reply b → OfValue V (named_by reply)
     named_is (heap.New m d k) reply next none row = told_is (told.Object a.next) reply row.0 next
-    named_is (heap.Refer m strength d s q k) reply next none row = told_is (told.Object a.next) reply row.0 next
-    named_is (heap.Load m d s i) reply next none row = grind (arith, field_is)
-    named_is (heap.Copy m d s) reply next none row = search (told_is, value_is, slot_is)
-    named_is (heap.Get m d s) reply next none row = grind (arith, got_is)
-    named_is (heap.RefersTo m s v) reply next none row = told_is (told.Refers _) reply row.0 tt
-    named_is (heap.Unhook m s) reply next none row =
-        unhooks m s (slot_at a.world.heap m s) _ reply (slot_is m s) row
-    named_is (heap.Hold m s) reply next none row = holds (slot_at a.world.heap m s) reply (slot_is m s) row
-    named_is (heap.Adopt m d hold) reply next none row = grind arith
-    named_is (heap.Begin now how) reply next none row = told_is (told.Cycle (a.world.cycle + 1)) reply row.0 tt
-    named_is (heap.Scan k) reply next none row = scans k reply row
-    named_is heap.EndMark reply next none row = told_is (told.Doomed (length (doomed_at a))) reply row.answer tt
-    named_is (heap.ClearNext k) reply next none row = looks k (list_at a.found k) reply row
-    named_is (heap.Hand k) reply next none row = hands_on k (pending_of a.world k) reply (closed.pendings k) row
-    named_is (heap.Sweep k) reply next none row = sweeps a.doomed reply row
-    named_is step reply next none row = told_is told.Done reply row.0 tt
+    named_is step reply next none row =
+        grind (arith, told_is, field_is, value_is, slot_is, got_is, unhooks, holds, scans, looks, hands_on, sweeps)
 
 -- ---- what is gone or doomed stays so
 
