@@ -24,7 +24,7 @@ hands n = entry 0 (heap.Hand 0) (replies.Notice (notice n))
 abbrev puts_in : ℕ → (position : ℕ) → QueueEntry
 puts_in n position = entry 0 (queue.Put (notice n)) (answers.Put (Ok (puts.Added position)))
 
-module _ {A : Type 0} (start : Option ClearHeap) (first second : SharedQueue A) (s t u : QueueSeat A) where
+module _ {A : Type 0} (start : Option ClearHeap) (first second : SharedQueue A) (s t u : QueueSeat) where
   -- the heap's one seat, which has made these calls
   abbrev seat : List HeapEntry → HeapView
   seat calls = record {
@@ -58,7 +58,7 @@ module _ {A : Type 0} (start : Option ClearHeap) (first second : SharedQueue A) 
   )
 
   -- queue 1 is there, so that the notice is not refused for want of it
-  its_queue_is_there : (w : HeapView) (after : List (QueueSeat A))
+  its_queue_is_there : (w : HeapView) (after : List QueueSeat)
       → ¬ (Delivers (heap.Hand 0) (seat []) queues (s ∷ t ∷ []) (Err (Notice (notice 2) BadQueue)) w after)
   its_queue_is_there w after d =
       let is : 1 ≡ d.0.queue = ap (λ (n : HeldNotice). n.queue) d.3.0 in
@@ -83,7 +83,7 @@ module _ {A : Type 0} (start : Option ClearHeap) (first second : SharedQueue A) 
       let put = sends.3 in
       let old : put.old ≡ t = let there : Some t ≡ Some put.old = put.there in cc in
       let new : put.new ≡ t = let after : s ∷ t ∷ [] ≡ s ∷ put.new ∷ [] = put.after_is in cc in
-      let mine = ap (λ (q : QueueSeat A). length (queue_view q).mine) (new ∙ sym old) in
+      let mine = ap (λ (q : QueueSeat). length (queue_view q).mine) (new ∙ sym old) in
       absurd
       (omega (
         arith,
@@ -108,10 +108,10 @@ module _ {A : Type 0} (start : Option ClearHeap) (first second : SharedQueue A) 
       → KeepsPace 0 queues (seat []) (s ∷ t ∷ [])
   fresh_seats_keep_pace none other zero r within at =
       let is : s ≡ r = let there : Some s ≡ Some r = at in cc in
-      ap (λ (x : QueueSeat A). notices_put 0 0 (queue_view x).mine) (sym is) ∙ ap (notices_put 0 0) none
+      ap (λ (x : QueueSeat). notices_put 0 0 (queue_view x).mine) (sym is) ∙ ap (notices_put 0 0) none
   fresh_seats_keep_pace none other (suc zero) r within at =
       let is : t ≡ r = let there : Some t ≡ Some r = at in cc in
-      ap (λ (x : QueueSeat A). notices_put 0 1 (queue_view x).mine) (sym is) ∙ ap (notices_put 0 1) other
+      ap (λ (x : QueueSeat). notices_put 0 1 (queue_view x).mine) (sym is) ∙ ap (notices_put 0 1) other
   fresh_seats_keep_pace none other (suc (suc i)) r within at = absurd (omega (arith, within))
 
   it_works_by_one_delivery : PutsNotice (queue_view t) (notice 2) (Ok (puts.Added 0)) (queue_view u)

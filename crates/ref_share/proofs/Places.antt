@@ -22,8 +22,8 @@ changed_there (x ∷ xs) (suc k) (suc j) t y there =
     ]
 
 -- a seat that is one of its queue still stands for the one that did
-pub still_seats : {A : Type 0} (queues : List (SharedQueue A)) (seats : List (QueueSeat A)) (k : ℕ)
-    (queue : SharedQueue A) (seat : QueueSeat A) → AreSeats queues seats → slice_get queues k ≡ Some queue
+pub still_seats : {A : Type 0} (queues : List (SharedQueue A)) (seats : List QueueSeat) (k : ℕ)
+    (queue : SharedQueue A) (seat : QueueSeat) → AreSeats queues seats → slice_get queues k ≡ Some queue
     → IsQueueSeat queue seat → AreSeats queues (slice_set seats k seat)
 still_seats {A = A} queues seats k queue seat are there own j other new found placed =
     elim (changed_there seats k j seat new placed) [
@@ -31,13 +31,13 @@ still_seats {A = A} queues seats k queue seat are there own j other new found pl
           let found_here = subst (λ (i : ℕ). slice_get queues i ≡ Some other) here.0 found in
           let same : queue ≡ other = ap (λ (o : Option (SharedQueue A)). unwrap_or o other) (sym there ∙ found_here) in
           let own_here = subst (λ (q : SharedQueue A). IsQueueSeat q seat) same own in
-          subst (λ (s : QueueSeat A). IsQueueSeat other s) (sym here.1) own_here
+          subst (λ (s : QueueSeat). IsQueueSeat other s) (sym here.1) own_here
       | inr before ↦ are j other new found before.1
     ]
 
 -- a put of the seat at a place
-pub put_at_place : {A : Type 0} (notice : HeldNotice) (queues : List (SharedQueue A)) (seats : List (QueueSeat A))
-    (old new : QueueSeat A) (result : Result (Put HeldNotice) (Fault × HeldNotice)) → notice.queue < length queues
+pub put_at_place : {A : Type 0} (notice : HeldNotice) (queues : List (SharedQueue A)) (seats : List QueueSeat)
+    (old new : QueueSeat) (result : Result (Put HeldNotice) (Fault × HeldNotice)) → notice.queue < length queues
     → slice_get seats notice.queue ≡ Some old → PutsNotice (queue_view old) notice result (queue_view new)
     → IfErr result (λ refused. refuses_put refused.0 ≡ true)
     → PutsAt notice queues seats result (slice_set seats notice.queue new)

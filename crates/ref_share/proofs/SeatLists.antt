@@ -32,22 +32,22 @@ at_end (z ∷ xs) x = at_end xs x
 
 module _ {A : Type 0} where
   -- the first seat of a new queue is one of it
-  pub new_seat : (queue : SharedQueue A) (number first : ℕ) (seat : QueueSeat A) → IsNewQueue queue number first seat
+  pub new_seat : (queue : SharedQueue A) (number first : ℕ) (seat : QueueSeat) → IsNewQueue queue number first seat
       → IsQueueSeat queue seat
   new_seat queue number first seat is =
       subst (λ (n : ℕ). IsSeatFrom IsItself IsQueueMove queue.turn (new_queue n) seat.seat) (sym is.number_is)
       is.seat.seat
 
   -- the seat that a list of seats has for the one queue
-  pub only_seat : {queues : List (SharedQueue A)} (seats : List (QueueSeat A)) (queue : SharedQueue A)
-      (seat : QueueSeat A) → AreSeats queues seats → queues ≡ queue ∷ [] → length seats ≡ 1
+  pub only_seat : {queues : List (SharedQueue A)} (seats : List QueueSeat) (queue : SharedQueue A)
+      (seat : QueueSeat) → AreSeats queues seats → queues ≡ queue ∷ [] → length seats ≡ 1
       → IsQueueSeat queue (get_or seats 0 seat)
   only_seat seats queue seat are one count =
       are 0 queue (get_or seats 0 seat) (ap (λ l. slice_get l 0) one) (slice_get-get_or seats 0 seat (omega arith))
 
   -- one queue more, with its seat
-  pub seat_more : (queues : List (SharedQueue A)) (seats : List (QueueSeat A)) (queue : SharedQueue A)
-      (seat : QueueSeat A) → AreSeats queues seats → length seats ≡ length queues → IsQueueSeat queue seat
+  pub seat_more : (queues : List (SharedQueue A)) (seats : List QueueSeat) (queue : SharedQueue A)
+      (seat : QueueSeat) → AreSeats queues seats → length seats ≡ length queues → IsQueueSeat queue seat
       → AreSeats (queues ++ queue ∷ []) (seats ++ seat ∷ [])
   seat_more queues seats queue seat are even own k other new found placed =
       elim (at_last queues queue other k found) [
@@ -58,20 +58,20 @@ module _ {A : Type 0} where
         | inr last ↦ elim (at_last seats seat new k placed) [
           | inl here ↦ absurd (omega (arith, last.0, even, slice_get_within seats k new here))
           | inr end ↦
-              subst (λ (s : QueueSeat A). IsQueueSeat other s) end.1
+              subst (λ (s : QueueSeat). IsQueueSeat other s) end.1
               (subst (λ (q : SharedQueue A). IsQueueSeat q seat) last.1 own)
         ]
       ]
 
   -- the last queue and its seat, and those before it
-  pub seat_last : (queues : List (SharedQueue A)) (seats : List (QueueSeat A)) (queue : SharedQueue A)
-      (seat : QueueSeat A) → AreSeats (queues ++ queue ∷ []) (seats ++ seat ∷ []) → length seats ≡ length queues
+  pub seat_last : (queues : List (SharedQueue A)) (seats : List QueueSeat) (queue : SharedQueue A)
+      (seat : QueueSeat) → AreSeats (queues ++ queue ∷ []) (seats ++ seat ∷ []) → length seats ≡ length queues
       → IsQueueSeat queue seat
   seat_last queues seats queue seat are even =
       are (length queues) queue seat (at_end queues queue)
       (subst (λ (k : ℕ). slice_get (seats ++ seat ∷ []) k ≡ Some seat) even (at_end seats seat))
 
-  pub seats_before : (queues : List (SharedQueue A)) (seats : List (QueueSeat A)) (queue : SharedQueue A)
-      (seat : QueueSeat A) → AreSeats (queues ++ queue ∷ []) (seats ++ seat ∷ []) → AreSeats queues seats
+  pub seats_before : (queues : List (SharedQueue A)) (seats : List QueueSeat) (queue : SharedQueue A)
+      (seat : QueueSeat) → AreSeats (queues ++ queue ∷ []) (seats ++ seat ∷ []) → AreSeats queues seats
   seats_before queues seats queue seat are k other new found placed =
       are k other new (at_front queues queue other k found) (at_front seats seat new k placed)

@@ -14,7 +14,7 @@ same_either_way (Ok r) v w made extends longer = extends.0
 same_either_way (Err e) v w made extends longer = longer.0
 
 module _ {M S R X : Type 0} (stands_for : M → X → Type 0) (moves : X → S → R → X → Type 0) where
-  module _ {A : Type 0} (t : Turn M A S R) (x : X) where
+  module _ {A F : Type 0} (t : Turn M A S R F) (x : X) where
     -- a seat after a call of its turn
     pub seat_stays : (s u : SeatOf M S R) → IsSeatFrom stands_for moves t x s → IsBeside s u
         → IsSame (view s) (view u) → IsHistory stands_for moves (view u) → IsSeatFrom stands_for moves t x u
@@ -38,38 +38,6 @@ module _ {M S R X : Type 0} (stands_for : M → X → Type 0) (moves : X → S �
     call_stays s u step result seat beside extends longer history =
         let same = same_either_way result (view s) (view u) (λ r. entry (view s).number step r) extends longer in
         seat_stays s u seat beside same history
-
-    -- a seat that has seen and made what another has
-    pub same_seat : (s u : SeatOf M S R) → IsSeatFrom stands_for moves t x s → IsBeside s u → view u ≡ view s
-        → IsSeatFrom stands_for moves t x u
-    same_seat s u seat beside same =
-        record {
-          turn = beside ∙ seat.turn;
-          machine = seat.machine;
-          start = subst (λ (v : View M S R). v.start ≡ Some seat.machine) (sym same) seat.start;
-          stands = seat.stands;
-          history = subst (λ (v : View M S R). IsHistoryFrom stands_for moves x v) (sym same) seat.history;
-        }
-
-    -- a seat that was cut off another
-    pub seat_begins : (s u : SeatOf M S R) → IsSeatFrom stands_for moves t x s → IsSeatOf t u
-        → Begins (view s) (view u) → IsSeatFrom stands_for moves t x u
-    seat_begins s u seat own begins =
-        let start = begins.2 in
-        let seen = begins.3 in
-        let mine = begins.4 in
-        let none = begins.5 in
-        record {
-          turn = own;
-          machine = seat.machine;
-          start = start ∙ seat.start;
-          stands = seat.stands;
-          history = record {
-            last = seat.history.last;
-            run = subst (λ (log : List (Entry S R)). Leads moves x log seat.history.last) (sym seen) seat.history.run;
-            own = none ∙ sym mine;
-          };
-        }
 
     -- the first seat of a turn
     pub first_seat : (s : SeatOf M S R) (first : ℕ) (m : M) → IsSeatOf t s → IsFirst first m (view s)
