@@ -119,9 +119,9 @@ fn run<R: Threads + Wait + Sync>(
     seat: &mut CleanSeat,
 ) -> Result<(u64, u64, u64), Fault>
     requires user { IsUser user × AreTwo queues.old }
-    requires seat { IsCleanSeat cleaner.now.turn seat.old.seat }
+    requires seat { IsCleanSeat cleaner.now seat.old }
     ensures queues { AreTwo queues.new }
-    ensures seat { IsCleanSeat cleaner.now.turn seat.new.seat }
+    ensures seat { IsCleanSeat cleaner.now seat.new }
 {
     let mut user = user;
     let (telling, other) = queues.split();
@@ -152,7 +152,7 @@ fn clean<R: Threads + Wait + Sync>(
     requires user { IsUser user }
     requires collector { IsCollector collector }
     requires worker { IsUser worker.user × IsQueueSeat worker.queue.now worker.queue_seat
-        × IsCleanSeat worker.cleaner.now.turn worker.seat.seat }
+        × IsCleanSeat worker.cleaner.now worker.seat }
 {
     let (worked, by_worker) = thread::join(
         rt,
@@ -162,7 +162,7 @@ fn clean<R: Threads + Wait + Sync>(
         { work(rt, user, collector) },
         || -> Result<u64, Fault>
             requires user { IsUser worker.user × IsQueueSeat worker.queue.now worker.queue_seat }
-            requires seat { IsCleanSeat worker.cleaner.now.turn worker.seat.seat }
+            requires seat { IsCleanSeat worker.cleaner.now worker.seat }
         { worker.run(rt) },
     );
     worked?;

@@ -29,8 +29,8 @@ pub struct Program<'a> {
 
 impl<'a> Program<'a> {
     pub fn new(user: HeapUser<'a>, cleaner: &'a SharedCleaner, seat: CleanSeat) -> Self
-        requires { IsUser user × IsCleanSeat cleaner.now.turn seat.seat }
-        ensures { IsUser result.user × IsCleanSeat result.cleaner.now.turn result.seat.seat }
+        requires { IsUser user × IsCleanSeat cleaner.now seat }
+        ensures { IsUser result.user × IsCleanSeat result.cleaner.now result.seat }
     {
         Program {
             user,
@@ -42,8 +42,8 @@ impl<'a> Program<'a> {
     /// Makes an object for each buffer. It is done with the first, and gives that buffer back itself. How many it gave
     /// back.
     pub fn open_all<R: Wait>(&mut self, rt: &R, jobs: Vec<Job>) -> Result<u64, Fault>
-        requires { IsUser self.old.user × IsCleanSeat self.old.cleaner.now.turn self.old.seat.seat }
-        ensures { IsUser self.new.user × IsCleanSeat self.new.cleaner.now.turn self.new.seat.seat }
+        requires { IsUser self.old.user × IsCleanSeat self.old.cleaner.now self.old.seat }
+        ensures { IsUser self.new.user × IsCleanSeat self.new.cleaner.now self.new.seat }
     {
         let mut given_back = 0;
         for (slot, job) in (0..BUFFERS).zip(jobs) {
@@ -68,8 +68,8 @@ impl<'a> Program<'a> {
 
     /// An object in the slot, whose buffer the job gives back once the object is gone, if not before.
     fn open<R: Wait>(&mut self, rt: &R, slot: SlotNo, job: Job) -> Result<Cleanable, Fault>
-        requires { IsUser self.old.user × IsCleanSeat self.old.cleaner.now.turn self.old.seat.seat }
-        ensures { IsUser self.new.user × IsCleanSeat self.new.cleaner.now.turn self.new.seat.seat }
+        requires { IsUser self.old.user × IsCleanSeat self.old.cleaner.now self.old.seat }
+        ensures { IsUser self.new.user × IsCleanSeat self.new.cleaner.now self.new.seat }
     {
         let new = HeapStep::New {
             mutator: PROGRAM,
@@ -99,8 +99,8 @@ impl<'a> Program<'a> {
 
     /// Gives a buffer back without waiting for its object's death.
     fn close<R: Wait>(&mut self, rt: &R, cleanable: Cleanable) -> Result<Option<Ran>, Fault>
-        requires { IsUser self.old.user × IsCleanSeat self.old.cleaner.now.turn self.old.seat.seat }
-        ensures { IsUser self.new.user × IsCleanSeat self.new.cleaner.now.turn self.new.seat.seat }
+        requires { IsUser self.old.user × IsCleanSeat self.old.cleaner.now self.old.seat }
+        ensures { IsUser self.new.user × IsCleanSeat self.new.cleaner.now self.new.seat }
     {
         let Program {
             user,

@@ -33,7 +33,7 @@ impl Worker<'_> {
     /// Runs the job of each reference that the queue reports, until the queue is closed. How many it ran.
     pub fn run<R: Wait>(self, rt: &R) -> Result<u64, Fault>
         requires user { IsUser self.user × IsQueueSeat self.queue.now self.queue_seat }
-        requires seat { IsCleanSeat self.cleaner.now.turn self.seat.seat }
+        requires seat { IsCleanSeat self.cleaner.now self.seat }
     {
         let Worker {
             user,

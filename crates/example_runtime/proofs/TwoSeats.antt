@@ -4,9 +4,7 @@ use Rattle.std.proofs.Common.{arith}
 use Rattle.std.proofs.Common.{slice_get, sym}
 use Rattle.std.proofs.lemmas.Option.{same_Some}
 use Rattle.ref_share.specs.Deliveries.{AreSeats}
-use Rattle.ref_share.specs.QueueSeats.{IsQueueSeat}
-use Rattle.ref_share.specs.declared.shared_queue.QueueSeat.{QueueSeat}
-use Rattle.ref_share.specs.declared.shared_queue.SharedQueue.{SharedQueue}
+use Rattle.ref_share.specs.QueueSeats.{IsQueueSeat, QueueSeat, SharedQueue}
 
 -- the first and the second of two that were taken off the end
 pub two_last : {T : Type 0} (all rest front : List T) (first second : T) → all ≡ front ++ second ∷ []
@@ -19,12 +17,12 @@ two_last all (x ∷ rest) front first second whole most count =
 
 module _ {A : Type 0} where
   -- a seat of a queue is one of what is the same queue, and so is what is the same seat
-  moved : (a b : SharedQueue A) (s t : QueueSeat A) → a ≡ b → s ≡ t → IsQueueSeat a s → IsQueueSeat b t
+  moved : (a b : SharedQueue A) (s t : QueueSeat) → a ≡ b → s ≡ t → IsQueueSeat a s → IsQueueSeat b t
   moved a b s t same alike own =
-      subst (λ (u : QueueSeat A). IsQueueSeat b u) alike (subst (λ (q : SharedQueue A). IsQueueSeat q s) same own)
+      subst (λ (u : QueueSeat). IsQueueSeat b u) alike (subst (λ (q : SharedQueue A). IsQueueSeat q s) same own)
 
   -- seats of the queues that stand at places 0 and 1
-  pub two_at : (queues : List (SharedQueue A)) (first second : SharedQueue A) (s t : QueueSeat A)
+  pub two_at : (queues : List (SharedQueue A)) (first second : SharedQueue A) (s t : QueueSeat)
       → slice_get queues 0 ≡ Some first → slice_get queues 1 ≡ Some second → IsQueueSeat first s
       → IsQueueSeat second t → AreSeats queues (s ∷ t ∷ [])
   two_at queues first second s t here there own other zero queue seat found placed =

@@ -33,9 +33,9 @@ struct User<'a> {
 impl User<'_> {
     /// Registers a job for the object.
     fn register<R: Wait>(&mut self, rt: &R, job: Job) -> Result<Cleanable, Fault>
-        requires seats { IsCleanSeat self.old.cleaner.now.turn self.old.seat.seat
+        requires seats { IsCleanSeat self.old.cleaner.now self.old.seat
             × IsHeapSeat self.old.heap.now self.old.heap_seat }
-        ensures seats { IsCleanSeat self.new.cleaner.now.turn self.new.seat.seat
+        ensures seats { IsCleanSeat self.new.cleaner.now self.new.seat
             × IsHeapSeat self.new.heap.now self.new.heap_seat }
     {
         let User {
@@ -55,9 +55,9 @@ impl User<'_> {
 
     /// Runs its job.
     fn clean<R: Wait>(&mut self, rt: &R, cleanable: Cleanable) -> Result<(), Fault>
-        requires seats { IsCleanSeat self.old.cleaner.now.turn self.old.seat.seat
+        requires seats { IsCleanSeat self.old.cleaner.now self.old.seat
             × IsHeapSeat self.old.heap.now self.old.heap_seat }
-        ensures seats { IsCleanSeat self.new.cleaner.now.turn self.new.seat.seat
+        ensures seats { IsCleanSeat self.new.cleaner.now self.new.seat
             × IsHeapSeat self.new.heap.now self.new.heap_seat }
     {
         let User {
@@ -125,7 +125,7 @@ fn register_and_run<R: Wait + Clock>(
     others: Vec<Job>,
     jobs: Vec<Job>,
 ) -> Result<Sample, Fault>
-    requires seats { IsCleanSeat user.cleaner.now.turn user.seat.seat
+    requires seats { IsCleanSeat user.cleaner.now user.seat
         × IsHeapSeat user.heap.now user.heap_seat }
 {
     let mut user = user;

@@ -40,19 +40,20 @@ pub use Rattle.ref_turn.specs.declared.history.Entry.{Entry}
 pub use Rattle.ref_turn.specs.declared.history.Stage.TheVariants.{Idle}
 pub use Rattle.ref_turn.specs.declared.history.View.{View}
 pub use Rattle.ref_share.specs.CleanLoops.{HasGone, Round, all_of, jobs_run, takes_in}
-pub use Rattle.ref_share.specs.CleanMachines.{IsCleanMove, IsTheTable}
-pub use Rattle.ref_share.specs.CleanSeats.{CleanEntry, CleanView}
+pub use Rattle.ref_share.specs.CleanMachines.{IsCleanMove}
+pub use Rattle.ref_share.specs.CleanSeats.{CleanEntry, CleanView, clean_view}
 pub use Rattle.ref_share.specs.Cleanings.{CleansDead, TakesJob, makes_phantom}
 pub use Rattle.ref_share.specs.Deliveries.{AreSeats, Delivers, GoesBack, PutsAt, Sends}
 pub use Rattle.ref_share.specs.HeapCalls.{Releases}
-pub use Rattle.ref_share.specs.HeapMachines.{Acts, HeapState, IsHeapMove, StandsFor}
-pub use Rattle.ref_share.specs.HeapSeats.{HeapEntry, HeapView, IsHeapRun, IsHeapSeat, first_heap_state, heap_view}
+pub use Rattle.ref_share.specs.HeapMachines.{Acts, HeapState, IsHeapMove, StandsFor, first_heap_state}
+pub use Rattle.ref_share.specs.HeapSeats.{HeapEntry, HeapView, IsHeapRun, IsHeapSeat, heap_view}
 pub use Rattle.ref_share.specs.HeapTraces.{HeapMarkEnded, all_handed_on, gathered, handed_in, handed_of, heap_replayed}
 pub use Rattle.ref_share.specs.HeapTraces.{row_of, rows_of, world_step}
 pub use Rattle.ref_share.specs.QueueCalls.{PollsUntil, PutsNotice, empty_polls}
 pub use Rattle.ref_share.specs.QueueMachines.{IsQueueMove}
-pub use Rattle.ref_share.specs.QueueSeats.{IsItself, IsQueueSeat, QueueEntry, QueueView, queue_view}
+pub use Rattle.ref_share.specs.QueueSeats.{IsQueueSeat, QueueEntry, QueueSeat, QueueView, SharedQueue, queue_view}
 pub use Rattle.ref_share.specs.SeatCalls.{Called, Made}
+pub use Rattle.ref_share.specs.Selves.{IsItself}
 pub use Rattle.ref_share.specs.StartedSeats.{IsSeatFrom}
 pub use Rattle.ref_share.specs.WorkerCalls.{KeepsPace, Works, notices_put, references_of}
 pub use Rattle.ref_share.specs.declared.answers.Delivery.{Delivery}
@@ -62,5 +63,3 @@ pub use Rattle.ref_share.specs.declared.answers.ShareFault.{ShareFault}
 pub use Rattle.ref_share.specs.declared.answers.ShareFault.TheVariants.{Busy, Held, Notice, Refused}
 pub use Rattle.ref_share.specs.declared.queue_machine.QueueReply.{QueueReply}
 pub use Rattle.ref_share.specs.declared.queue_machine.QueueStep.{QueueStep}
-pub use Rattle.ref_share.specs.declared.shared_queue.QueueSeat.{QueueSeat}
-pub use Rattle.ref_share.specs.declared.shared_queue.SharedQueue.{SharedQueue}

@@ -1,10 +1,10 @@
 -- What deliveries may have called, and what not, with two queues: worker 0 hands on the notice of reference 2, which is
 -- for queue 1, and then that of reference 6.
-use Rattle.std.proofs.Common.{◌≡◌, ℕ, List, [], ◌∷◌, length, Option, Some, Ok, Err, inl, refl, sym, ap, ◌∙◌, arith}
-use Rattle.std.proofs.Common.{length-append, map, zero, suc}
+use Rattle.std.proofs.Common.{◌≡◌, ℕ, List, [], ◌∷◌, length, Option, Some, Ok, Err, inl, inr, refl, sym, ap, ◌∙◌, arith}
+use Rattle.std.proofs.Common.{get_or, length-append, map, zero, suc}
 use Rattle.ref_share.proofs.Common.{Cycle, BadQueue, HoldName, ClearHeap, HeldNotice, entry, Idle, GoesBack, Sends}
 use Rattle.ref_share.proofs.Common.{Delivers, HeapView, HeapEntry, PutsNotice, QueueEntry, queue_view, KeepsPace, Works}
-use Rattle.ref_share.proofs.Common.{Nothing, Added, Dropped, Notice, QueueSeat, SharedQueue}
+use Rattle.ref_share.proofs.Common.{notices_put, references_of, Nothing, Added, Dropped, Notice, QueueSeat, SharedQueue}
 use Rattle.ref_base.specs.declared.heap_step.HeapStep.TheVariants as heap
 use Rattle.ref_queue.specs.declared.queue.Put.TheVariants as puts
 use Rattle.ref_world.specs.declared.heap_machine.HeapReply.TheVariants as replies
@@ -24,7 +24,7 @@ hands n = entry 0 (heap.Hand 0) (replies.Notice (notice n))
 abbrev puts_in : ℕ → (position : ℕ) → QueueEntry
 puts_in n position = entry 0 (queue.Put (notice n)) (answers.Put (Ok (puts.Added position)))
 
-module _ {A : Type 0} (start : Option ClearHeap) (first second : SharedQueue A) (s t u : QueueSeat A) where
+module _ {A : Type 0} (start : Option ClearHeap) (first second : SharedQueue A) (s t u : QueueSeat) where
   -- the heap's one seat, which has made these calls
   abbrev seat : List HeapEntry → HeapView
   seat calls = record {
@@ -58,14 +58,24 @@ module _ {A : Type 0} (start : Option ClearHeap) (first second : SharedQueue A) 
   )
 
   -- queue 1 is there, so that the notice is not refused for want of it
-  its_queue_is_there : (w : HeapView) (after : List (QueueSeat A))
+  its_queue_is_there : (w : HeapView) (after : List QueueSeat)
       → ¬ (Delivers (heap.Hand 0) (seat []) queues (s ∷ t ∷ []) (Err (Notice (notice 2) BadQueue)) w after)
-  its_queue_is_there w after d = grind arith
+  its_queue_is_there w after d =
+      let is : 1 ≡ d.0.queue = ap (λ (n : HeldNotice). n.queue) d.3.0 in
+      elim d.3.2.0 [
+        | inl short ↦ absurd (omega (arith, is, short))
+        | inr short ↦ absurd (omega (arith, is, short))
+      ]
 
   -- with a list of one queue it may be
   its_queue_is_beyond_a_list_of_one : Delivers (heap.Hand 0) (seat []) (first ∷ []) (s ∷ [])
       (Err (Notice (notice 2) BadQueue)) (seat (hands 2 ∷ [])) (s ∷ [])
-  its_queue_is_beyond_a_list_of_one = grind arith
+  its_queue_is_beyond_a_list_of_one = (
+    notice 2,
+    seat (hands 2 ∷ []),
+    ((refl, refl, refl), ([], refl), refl),
+    (refl, refl, (inl (omega arith), refl)),
+  )
 
   -- no seat of a queue made a call
   added_and_never_put : ¬ (Sends (notice 2) queues (s ∷ t ∷ []) (seat []) (Ok (Added 2 1 0)) (seat []) (s ∷ t ∷ []))
@@ -73,7 +83,7 @@ module _ {A : Type 0} (start : Option ClearHeap) (first second : SharedQueue A) 
       let put = sends.3 in
       let old : put.old ≡ t = let there : Some t ≡ Some put.old = put.there in cc in
       let new : put.new ≡ t = let after : s ∷ t ∷ [] ≡ s ∷ put.new ∷ [] = put.after_is in cc in
-      let mine = ap (λ (q : QueueSeat A). length (queue_view q).mine) (new ∙ sym old) in
+      let mine = ap (λ (q : QueueSeat). length (queue_view q).mine) (new ∙ sym old) in
       absurd
       (omega (
         arith,
@@ -96,8 +106,12 @@ module _ {A : Type 0} (start : Option ClearHeap) (first second : SharedQueue A) 
 
   fresh_seats_keep_pace : (queue_view s).mine ≡ [] → (queue_view t).mine ≡ []
       → KeepsPace 0 queues (seat []) (s ∷ t ∷ [])
-  fresh_seats_keep_pace none other zero r within at = cc
-  fresh_seats_keep_pace none other (suc zero) r within at = cc
+  fresh_seats_keep_pace none other zero r within at =
+      let is : s ≡ r = let there : Some s ≡ Some r = at in cc in
+      ap (λ (x : QueueSeat). notices_put 0 0 (queue_view x).mine) (sym is) ∙ ap (notices_put 0 0) none
+  fresh_seats_keep_pace none other (suc zero) r within at =
+      let is : t ≡ r = let there : Some t ≡ Some r = at in cc in
+      ap (λ (x : QueueSeat). notices_put 0 1 (queue_view x).mine) (sym is) ∙ ap (notices_put 0 1) other
   fresh_seats_keep_pace none other (suc (suc i)) r within at = absurd (omega (arith, within))
 
   it_works_by_one_delivery : PutsNotice (queue_view t) (notice 2) (Ok (puts.Added 0)) (queue_view u)
@@ -108,4 +122,8 @@ module _ {A : Type 0} (start : Option ClearHeap) (first second : SharedQueue A) 
   -- what was handed on second was put in first
   another_order_keeps_no_pace : (queue_view u).mine ≡ puts_in 6 0 ∷ puts_in 2 1 ∷ []
       → ¬ (KeepsPace 0 queues (seat (hands 2 ∷ hands 6 ∷ [])) (s ∷ u ∷ []))
-  another_order_keeps_no_pace mine pace = grind arith
+  another_order_keeps_no_pace mine pace =
+      let are : notice 6 ∷ notice 2 ∷ [] ≡ notice 2 ∷ notice 6 ∷ [] =
+      ap (notices_put 0 1) (sym mine) ∙ pace 1 u (omega arith) refl in
+      let first : 6 ≡ 2 = ap (λ (notices : List HeldNotice). get_or (references_of notices) 0 0) are in
+      absurd (omega (arith, first))

@@ -20,8 +20,7 @@ use Rattle.ref_share.specs.Deliveries.{IsPut, IsBeyond}
 use Rattle.ref_share.specs.WorkerCalls.{worked_notice, notice_handed, notice_put, notices_handed, had_turn}
 use Rattle.ref_share.specs.declared.queue_machine.QueueReply.TheVariants as answers
 use Rattle.ref_share.specs.declared.queue_machine.QueueStep.TheVariants as queue
-use Rattle.ref_share.specs.declared.shared_heap.SharedHeap.{SharedHeap}
-use Rattle.ref_share.specs.declared.shared_heap.HeapSeat.{HeapSeat}
+use Rattle.ref_share.specs.HeapSeats.{SharedHeap, HeapSeat}
 use Rattle.ref_share.proofs.OrderRuns.{handed_in_order}
 use Rattle.ref_share.proofs.Places.{changed_there}
 
@@ -65,8 +64,8 @@ puts_called v w notice (Err (fault, back)) turn puts = puts
 
 -- ---- a delivery
 
-module _ {A : Type 0} (k q : ℕ) (queues : List (SharedQueue A)) (seats after : List (QueueSeat A)) (v : HeapView)
-    (pace : KeepsPace k queues v seats) (within : q < length queues) (s : QueueSeat A)
+module _ {A : Type 0} (k q : ℕ) (queues : List (SharedQueue A)) (seats after : List QueueSeat) (v : HeapView)
+    (pace : KeepsPace k queues v seats) (within : q < length queues) (s : QueueSeat)
     (at : slice_get after q ≡ Some s) where
   -- where no seat of a queue made a call, and nothing was handed on
   no_seat_put : (w : HeapView) → after ≡ seats → notices_handed k q w.mine ≡ notices_handed k q v.mine
@@ -90,7 +89,7 @@ module _ {A : Type 0} (k q : ℕ) (queues : List (SharedQueue A)) (seats after :
             let called = puts_called (queue_view puts.old) (queue_view puts.new) notice answer turn puts.puts in
             let there : slice_get seats q ≡ Some puts.old =
             subst (λ (i : ℕ). slice_get seats i ≡ Some puts.old) (sym here.0) puts.there in
-            ap (λ (r : QueueSeat A). notices_put k q (queue_view r).mine) here.1
+            ap (λ (r : QueueSeat). notices_put k q (queue_view r).mine) here.1
             ∙ put_then k q (queue_view puts.old) (queue_view puts.new) (queue.Put notice) (answers.Put answer) called
             ∙ ap (λ ns. ns ++ worked_notice k q notice) (pace q puts.old within there) ∙ sym gives
         | inr other ↦ beside_it notice w (λ is. other.0 (sym is)) other.1 gives
@@ -166,7 +165,7 @@ module _ {A : Type 0} (k q : ℕ) (queues : List (SharedQueue A)) (seats after :
 -- ---- a worker's thread
 
 module _ {A : Type 0} (k : ℕ) (queues : List (SharedQueue A)) where
-  pub keeps_pace : (count : ℕ) (v w : HeapView) (seats after : List (QueueSeat A))
+  pub keeps_pace : (count : ℕ) (v w : HeapView) (seats after : List QueueSeat)
       → Works k queues count v seats w after
       → KeepsPace k queues v seats → KeepsPace k queues w after
   keeps_pace zero v w seats after works pace q s within at = grind arith
@@ -192,8 +191,8 @@ own_among k q n [] = refl
 own_among k q n (call ∷ calls) = grind (arith, own_among k q n calls)
 
 -- so what the seat of a queue has put in of what a worker cleared comes in the order in which the worker cleared it
-pub put_in_clearing_order : {A : Type 0} (heap : SharedHeap A) (heap_seat : HeapSeat A) (k q : ℕ)
-    (queues : List (SharedQueue A)) (seats : List (QueueSeat A)) (s : QueueSeat A) → IsHeapSeat heap heap_seat
+pub put_in_clearing_order : {A : Type 0} (heap : SharedHeap A) (heap_seat : HeapSeat) (k q : ℕ)
+    (queues : List (SharedQueue A)) (seats : List QueueSeat) (s : QueueSeat) → IsHeapSeat heap heap_seat
     → KeepsPace k queues (heap_view heap_seat) seats → q < length queues → slice_get seats q ≡ Some s
     → is_subsequence (references_of (notices_put k q (queue_view s).mine))
     (clearing_order (rows_of (heap_view heap_seat).seen) k q) ≡ true

@@ -1,5 +1,4 @@
 -- The machine of a cleaner's table, one step of it in one turn (this project's profile).
-use Rattle.std.specs.Prelude.{◌≡◌}
 use Rattle.ref_queue.specs.CleanTables.{Registry, Registers, Takes}
 use Rattle.ref_share.specs.declared.clean_machine.CleanStep.{CleanStep}
 use Rattle.ref_share.specs.declared.clean_machine.CleanStep.TheVariants as steps
@@ -12,7 +11,3 @@ module _ {K J : Type 0} where
   IsCleanMove t (steps.Register n kept job) (replies.Registered answer) u = Registers t n kept job answer u
   IsCleanMove t (steps.Take n) (replies.Taken answer) u = Takes t n answer u
   IsCleanMove t step reply u = ⊥
-
-  -- a table stands for itself
-  abbrev pub IsTheTable : Registry K J → Registry K J → Type 0
-  IsTheTable m t = t ≡ m

@@ -12,18 +12,16 @@ use Rattle.ref_queue.specs.declared.queue.Put.TheVariants as puts
 use Rattle.ref_share.specs.HeapCalls.{GivesNotice, Releases}
 use Rattle.ref_share.specs.HeapSeats.{HeapView}
 use Rattle.ref_share.specs.QueueCalls.{PutsNotice}
-use Rattle.ref_share.specs.QueueSeats.{queue_view, IsQueueSeat}
+use Rattle.ref_share.specs.QueueSeats.{SharedQueue, QueueSeat, queue_view, IsQueueSeat}
 use Rattle.ref_share.specs.declared.answers.Delivery.{Delivery}
 use Rattle.ref_share.specs.declared.answers.Delivery.TheVariants.{Nothing, Added, Dropped}
 use Rattle.ref_share.specs.declared.answers.ShareFault.{ShareFault}
 use Rattle.ref_share.specs.declared.answers.ShareFault.TheVariants.{Refused, Notice, Held}
-use Rattle.ref_share.specs.declared.shared_queue.SharedQueue.{SharedQueue}
-use Rattle.ref_share.specs.declared.shared_queue.QueueSeat.{QueueSeat}
 
 -- the seats are those of the queues, place by place
-abbrev pub AreSeats : {A : Type 0} → List (SharedQueue A) → List (QueueSeat A) → Type 0
+abbrev pub AreSeats : {A : Type 0} → List (SharedQueue A) → List QueueSeat → Type 0
 AreSeats {A = A} queues seats =
-    (k : ℕ) (queue : SharedQueue A) (seat : QueueSeat A)
+    (k : ℕ) (queue : SharedQueue A) (seat : QueueSeat)
     → slice_get queues k ≡ Some queue → slice_get seats k ≡ Some seat → IsQueueSeat queue seat
 
 -- what an enqueue answers
@@ -39,11 +37,11 @@ GoesBack n hold v (Ok (Dropped m)) w = (m ≡ n) × Releases v hold (Ok tt) w
 GoesBack n hold v (Err (Held back fault)) w = Releases v hold (Err (fault, back)) w
 GoesBack n hold v result w = ⊥
 
-module _ {A : Type 0} (notice : HeldNotice) (queues : List (SharedQueue A)) (seats : List (QueueSeat A)) where
+module _ {A : Type 0} (notice : HeldNotice) (queues : List (SharedQueue A)) (seats : List QueueSeat) where
   -- there is a queue at the place of the notice's own, and its seat puts it in, with this answer; the others do nothing
-  pub record IsPut (answer : Result (Put HeldNotice) (Fault × HeldNotice)) (after : List (QueueSeat A)) : Type 0 where
-    pub old : QueueSeat A
-    pub new : QueueSeat A
+  pub record IsPut (answer : Result (Put HeldNotice) (Fault × HeldNotice)) (after : List QueueSeat) : Type 0 where
+    pub old : QueueSeat
+    pub new : QueueSeat
     pub within : notice.queue < length queues
     pub there : slice_get seats notice.queue ≡ Some old
     pub after_is : after ≡ slice_set seats notice.queue new
@@ -54,26 +52,26 @@ module _ {A : Type 0} (notice : HeldNotice) (queues : List (SharedQueue A)) (sea
   IsBeyond = (length queues ≤ notice.queue) ⊎ (length seats ≤ notice.queue)
 
   -- the notice is put in at its place; or there is none for it, and no queue does anything
-  abbrev pub PutsAt : Result (Put HeldNotice) (Fault × HeldNotice) → List (QueueSeat A) → Type 0
+  abbrev pub PutsAt : Result (Put HeldNotice) (Fault × HeldNotice) → List QueueSeat → Type 0
   PutsAt (Err (BadQueue, back)) after = IsBeyond × (after ≡ seats)
   PutsAt answer after = IsPut answer after
 
   -- no queue takes it: it was put in before, or its queue is closed
-  abbrev pub IsNotTaken : List (QueueSeat A) → Type 0
+  abbrev pub IsNotTaken : List QueueSeat → Type 0
   IsNotTaken after = IsPut (Ok (puts.Already notice)) after ⊎ IsPut (Ok (puts.Closed notice)) after
 
   -- the notice goes into its queue, and the heap does nothing; or no queue takes it, and its hold goes back to the
   -- heap; or it could not be put in, and comes back
-  abbrev pub Sends : HeapView → Result Delivery ShareFault → HeapView → List (QueueSeat A) → Type 0
+  abbrev pub Sends : HeapView → Result Delivery ShareFault → HeapView → List QueueSeat → Type 0
   Sends v (Ok (Added n q position)) w after =
       (n ≡ notice.hold.object) × (q ≡ notice.queue) × (w ≡ v) × IsPut (Ok (puts.Added position)) after
   Sends v (Err (Notice back fault)) w after = (back ≡ notice) × (w ≡ v) × PutsAt (Err (fault, notice)) after
   Sends v result w after = IsNotTaken after × GoesBack notice.hold.object notice.hold v result w
 
-module _ {A : Type 0} (step : NamedStep) (v : HeapView) (queues : List (SharedQueue A)) (seats : List (QueueSeat A))
+module _ {A : Type 0} (step : NamedStep) (v : HeapView) (queues : List (SharedQueue A)) (seats : List QueueSeat)
   where
     -- the heap's step is called; the notice that it gives, if it gives one, is sent; or no turn is left for the step
-    abbrev pub Delivers : Result Delivery ShareFault → HeapView → List (QueueSeat A) → Type 0
+    abbrev pub Delivers : Result Delivery ShareFault → HeapView → List QueueSeat → Type 0
     Delivers (Ok Nothing) w after = GivesNotice v step (Ok None) w × (after ≡ seats)
     Delivers (Err (Refused fault)) w after = GivesNotice v step (Err fault) w × (after ≡ seats)
     Delivers result w after =

@@ -1,8 +1,9 @@
 -- The heap's own machine, one step of it in one turn (this project's profile).
 use Rattle.std.specs.Prelude.{◌≡◌, ℕ}
-use Rattle.ref_base.specs.Collectors.{State}
+use Rattle.ref_base.specs.Collectors.{State, first_state}
 use Rattle.ref_base.specs.CollectorRows.{IsHeapRow}
 use Rattle.ref_base.specs.HeapSteps.{NamedStep}
+use Rattle.ref_base.specs.declared.config.Config.{Config}
 use Rattle.ref_clear.specs.ClearCalls.{answer_in, after_in}
 use Rattle.ref_clear.specs.ClearHeaps.{ClearHeap}
 use Rattle.ref_clear.specs.Standing.{HeapStands}
@@ -14,6 +15,10 @@ use Rattle.ref_world.specs.WorldHeaps.{heap_no_of}
 pub record HeapState : Type 0 where
   pub number : ℕ
   pub state : State
+
+-- the first state of a heap of this configuration and number
+abbrev pub first_heap_state : Config → ℕ → HeapState
+first_heap_state config number = record { number = number; state = first_state config }
 
 -- the heap has this number, and stands for the state
 pub record StandsFor (c : ClearHeap) (x : HeapState) : Type 0 where

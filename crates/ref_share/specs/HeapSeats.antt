@@ -1,6 +1,5 @@
 -- The seats of a shared heap (this project's profile).
 use Rattle.std.specs.Prelude.{◌≡◌, ℕ, List}
-use Rattle.ref_base.specs.Collectors.{first_state}
 use Rattle.ref_base.specs.HeapSteps.{NamedStep}
 use Rattle.ref_base.specs.declared.config.Config.{Config}
 use Rattle.ref_clear.specs.ClearHeaps.{ClearHeap}
@@ -9,10 +8,18 @@ use Rattle.ref_turn.specs.Turns.{view}
 use Rattle.ref_turn.specs.declared.history.Entry.{Entry}
 use Rattle.ref_turn.specs.declared.history.View.{View}
 use Rattle.ref_world.specs.declared.heap_machine.HeapReply.{HeapReply}
-use Rattle.ref_share.specs.HeapMachines.{HeapState, StandsFor, IsHeapMove}
-use Rattle.ref_share.specs.StartedSeats.{IsSeatFrom, IsFirstFrom, IsLeftFrom}
-use Rattle.ref_share.specs.declared.shared_heap.SharedHeap.{SharedHeap}
-use Rattle.ref_share.specs.declared.shared_heap.HeapSeat.{HeapSeat}
+use Rattle.ref_share.specs.HeapMachines.{HeapState, StandsFor, IsHeapMove, first_heap_state}
+use Rattle.ref_share.specs.SharedSeats.{IsSeatIn}
+use Rattle.ref_share.specs.StartedSeats.{IsFirstFrom, IsLeftFrom}
+use Rattle.ref_share.specs.declared.shared.SeatFor.{SeatFor}
+use Rattle.ref_share.specs.declared.shared.Shared.{Shared}
+use Rattle.ref_share.specs.declared.shared_heap.HeapFrame.{HeapFrame}
+
+abbrev pub SharedHeap : Type 0 → Type 0
+SharedHeap A = Shared ClearHeap A NamedStep HeapReply HeapFrame
+
+abbrev pub HeapSeat : Type 0
+HeapSeat = SeatFor ClearHeap NamedStep HeapReply HeapFrame
 
 abbrev pub HeapView : Type 0
 HeapView = View ClearHeap NamedStep HeapReply
@@ -22,30 +29,28 @@ abbrev pub HeapEntry : Type 0
 HeapEntry = Entry NamedStep HeapReply
 
 -- what a seat knows
-abbrev pub heap_view : {A : Type 0} → HeapSeat A → HeapView
+abbrev pub heap_view : HeapSeat → HeapView
 heap_view s = view s.seat
-
--- the first state of a heap of this configuration and number
-abbrev pub first_heap_state : Config → ℕ → HeapState
-first_heap_state config number = record { number = number; state = first_state config }
 
 -- the calls are a run of the heap's machine, from its first state
 abbrev pub IsHeapRun : Config → ℕ → List HeapEntry → HeapState → Type 0
 IsHeapRun config number calls last = Leads IsHeapMove (first_heap_state config number) calls last
 
+-- the state in which a shared heap began
+abbrev pub heap_start : HeapFrame → HeapState
+heap_start f = first_heap_state f.config f.heap_no
+
 module _ {A : Type 0} (heap : SharedHeap A) where
   -- the seat is one of this heap, and what it has seen is a run of the heap's machine from its first state
-  abbrev pub IsHeapSeat : HeapSeat A → Type 0
-  IsHeapSeat s =
-      IsSeatFrom StandsFor IsHeapMove heap.turn (first_heap_state heap.config heap.heap_no) s.seat
+  abbrev pub IsHeapSeat : HeapSeat → Type 0
+  IsHeapSeat s = IsSeatIn StandsFor IsHeapMove heap_start heap s
 
   -- the heap was just made, so, with its first seat
-  pub record IsNewHeap (config : Config) (number first : ℕ) (s : HeapSeat A) : Type 0 where
-    pub config_is : heap.config ≡ config
-    pub number_is : heap.heap_no ≡ number
+  pub record IsNewHeap (config : Config) (number first : ℕ) (s : HeapSeat) : Type 0 where
+    pub config_is : heap.frame.config ≡ config
+    pub number_is : heap.frame.heap_no ≡ number
     pub seat : IsFirstFrom StandsFor IsHeapMove heap.turn (first_heap_state config number) first s.seat
 
   -- a run of the heap's machine that begins with what was seen leaves the heap
   abbrev pub LeavesHeap : HeapView → ClearHeap → Type 0
-  LeavesHeap v c =
-      IsLeftFrom StandsFor IsHeapMove (first_heap_state heap.config heap.heap_no) v c
+  LeavesHeap v c = IsLeftFrom StandsFor IsHeapMove (heap_start heap.frame) v c

@@ -1,9 +1,10 @@
 pub mod HeapMachines
 pub mod HeapMoves
+pub mod Selves
 pub mod QueueMachines
-pub mod QueueMoves
 pub mod SeatCalls
 pub mod StartedSeats
+pub mod SharedSeats
 pub mod HeapSeats
 pub mod QueueSeats
 pub mod QueueCalls
@@ -14,7 +15,6 @@ pub mod QueueHistories
 pub mod HeapHistories
 pub mod HeapTraces
 pub mod CleanMachines
-pub mod CleanMoves
 pub mod CleanSeats
 pub mod HeapCalls
 pub mod Answers

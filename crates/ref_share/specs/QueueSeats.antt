@@ -7,11 +7,20 @@ use Rattle.ref_turn.specs.declared.history.Entry.{Entry}
 use Rattle.ref_turn.specs.declared.history.View.{View}
 use Rattle.ref_share.specs.QueueMachines.{IsQueueMove}
 use Rattle.ref_share.specs.QueueStates.{NoticeLists}
-use Rattle.ref_share.specs.StartedSeats.{IsSeatFrom, IsFirstFrom, IsLeftFrom}
+use Rattle.ref_share.specs.Selves.{IsItself}
+use Rattle.ref_share.specs.SharedSeats.{IsSeatIn}
+use Rattle.ref_share.specs.StartedSeats.{IsFirstFrom, IsLeftFrom}
 use Rattle.ref_share.specs.declared.queue_machine.QueueStep.{QueueStep}
 use Rattle.ref_share.specs.declared.queue_machine.QueueReply.{QueueReply}
-use Rattle.ref_share.specs.declared.shared_queue.SharedQueue.{SharedQueue}
-use Rattle.ref_share.specs.declared.shared_queue.QueueSeat.{QueueSeat}
+use Rattle.ref_share.specs.declared.shared.SeatFor.{SeatFor}
+use Rattle.ref_share.specs.declared.shared.Shared.{Shared}
+use Rattle.ref_share.specs.declared.shared_queue.QueueFrame.{QueueFrame}
+
+abbrev pub SharedQueue : Type 0 → Type 0
+SharedQueue A = Shared NoticeLists A QueueStep QueueReply QueueFrame
+
+abbrev pub QueueSeat : Type 0
+QueueSeat = SeatFor NoticeLists QueueStep QueueReply QueueFrame
 
 abbrev pub QueueView : Type 0
 QueueView = View NoticeLists QueueStep QueueReply
@@ -21,27 +30,27 @@ abbrev pub QueueEntry : Type 0
 QueueEntry = Entry QueueStep QueueReply
 
 -- what a seat knows
-abbrev pub queue_view : {A : Type 0} → QueueSeat A → QueueView
+abbrev pub queue_view : QueueSeat → QueueView
 queue_view s = view s.seat
-
--- a queue stands for its own lists
-abbrev pub IsItself : NoticeLists → NoticeLists → Type 0
-IsItself m q = q ≡ m
 
 -- the calls make this queue of the new queue of the number
 abbrev pub IsQueueRun : ℕ → List QueueEntry → NoticeLists → Type 0
 IsQueueRun number calls q = Leads IsQueueMove (new_queue number) calls q
 
+-- the queue that a shared queue began as
+abbrev pub queue_start : QueueFrame → NoticeLists
+queue_start f = new_queue f.queue
+
 module _ {A : Type 0} (queue : SharedQueue A) where
   -- the seat is one of this queue, and what it has seen is what one queue does, from a new one on
-  abbrev pub IsQueueSeat : QueueSeat A → Type 0
-  IsQueueSeat s = IsSeatFrom IsItself IsQueueMove queue.turn (new_queue queue.queue) s.seat
+  abbrev pub IsQueueSeat : QueueSeat → Type 0
+  IsQueueSeat s = IsSeatIn IsItself IsQueueMove queue_start queue s
 
   -- the queue was just made, so, with its first seat
-  pub record IsNewQueue (number first : ℕ) (s : QueueSeat A) : Type 0 where
-    pub number_is : queue.queue ≡ number
+  pub record IsNewQueue (number first : ℕ) (s : QueueSeat) : Type 0 where
+    pub number_is : queue.frame.queue ≡ number
     pub seat : IsFirstFrom IsItself IsQueueMove queue.turn (new_queue number) first s.seat
 
   -- a history that begins with what was seen leaves the queue
   abbrev pub LeavesQueue : QueueView → NoticeLists → Type 0
-  LeavesQueue v q = IsLeftFrom IsItself IsQueueMove (new_queue queue.queue) v q
+  LeavesQueue v q = IsLeftFrom IsItself IsQueueMove (queue_start queue.frame) v q

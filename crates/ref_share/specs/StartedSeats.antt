@@ -16,7 +16,7 @@ module _ {M S R X : Type 0} (stands_for : M → X → Type 0) (moves : X → S �
     pub own : calls_by v.number v.seen ≡ v.mine
 
   -- the seat is of this turn, which began with a machine that stands for x, and what it has seen is a history of it
-  pub record IsSeatFrom {A : Type 0} (t : Turn M A S R) (x : X) (s : SeatOf M S R) : Type 0 where
+  pub record IsSeatFrom {A F : Type 0} (t : Turn M A S R F) (x : X) (s : SeatOf M S R) : Type 0 where
     pub turn : IsSeatOf t s
     pub machine : M
     pub start : (view s).start ≡ Some machine
@@ -24,7 +24,7 @@ module _ {M S R X : Type 0} (stands_for : M → X → Type 0) (moves : X → S �
     pub history : IsHistoryFrom x (view s)
 
   -- it is the first seat of a turn whose tickets begin so: it has seen and made nothing
-  pub record IsFirstFrom {A : Type 0} (t : Turn M A S R) (x : X) (first : ℕ) (s : SeatOf M S R) : Type 0 where
+  pub record IsFirstFrom {A F : Type 0} (t : Turn M A S R F) (x : X) (first : ℕ) (s : SeatOf M S R) : Type 0 where
     pub seat : IsSeatFrom t x s
     pub first_is : (view s).first ≡ first
     pub seen : (view s).seen ≡ []

@@ -11,14 +11,12 @@ use Rattle.ref_world.specs.declared.heap_machine.HeapReply.{HeapReply}
 use Rattle.ref_world.specs.declared.heap_machine.HeapReply.TheVariants as replies
 use Rattle.ref_share.specs.Deliveries.{Delivers}
 use Rattle.ref_share.specs.HeapSeats.{HeapView, HeapEntry}
-use Rattle.ref_share.specs.QueueSeats.{QueueEntry, queue_view}
+use Rattle.ref_share.specs.QueueSeats.{SharedQueue, QueueSeat, QueueEntry, queue_view}
 use Rattle.ref_share.specs.declared.answers.Delivery.{Delivery}
 use Rattle.ref_share.specs.declared.answers.ShareFault.{ShareFault}
 use Rattle.ref_share.specs.declared.answers.ShareFault.TheVariants.{Notice}
 use Rattle.ref_share.specs.declared.queue_machine.QueueStep.{QueueStep}
 use Rattle.ref_share.specs.declared.queue_machine.QueueStep.TheVariants as queue
-use Rattle.ref_share.specs.declared.shared_queue.SharedQueue.{SharedQueue}
-use Rattle.ref_share.specs.declared.shared_queue.QueueSeat.{QueueSeat}
 
 -- ---- notices of what worker k cleared, for queue q
 
@@ -55,30 +53,30 @@ had_turn result = true
 module _ {A : Type 0} (k : ℕ) (queues : List (SharedQueue A)) where
   -- of what worker k cleared each queue's seat has put in just what the heap's has handed on for that queue, in this
   -- order
-  abbrev pub KeepsPace : HeapView → List (QueueSeat A) → Type 0
+  abbrev pub KeepsPace : HeapView → List QueueSeat → Type 0
   KeepsPace v seats =
-      (q : ℕ) (s : QueueSeat A) → q < length queues → slice_get seats q ≡ Some s
+      (q : ℕ) (s : QueueSeat) → q < length queues → slice_get seats q ≡ Some s
       → notices_put k q (queue_view s).mine ≡ notices_handed k q v.mine
 
   -- a worker's hand is delivered, while turns are left
-  abbrev pub IsDelivered : HeapView → List (QueueSeat A) → HeapView → List (QueueSeat A) → Type 0
+  abbrev pub IsDelivered : HeapView → List QueueSeat → HeapView → List QueueSeat → Type 0
   IsDelivered v seats w after =
       (j : ℕ) × (result : Result Delivery ShareFault) × (had_turn result ≡ true)
       × Delivers (heap.Hand j) v queues seats result w after
 
   -- other calls were made, which neither hand on nor put in what worker k cleared
-  abbrev pub IsAside : HeapView → List (QueueSeat A) → HeapView → List (QueueSeat A) → Type 0
+  abbrev pub IsAside : HeapView → List QueueSeat → HeapView → List QueueSeat → Type 0
   IsAside v seats w after =
       ((q : ℕ) → notices_handed k q w.mine ≡ notices_handed k q v.mine)
-      × ((q : ℕ) (s : QueueSeat A) → slice_get after q ≡ Some s
-      → (r : QueueSeat A) × (slice_get seats q ≡ Some r)
+      × ((q : ℕ) (s : QueueSeat) → slice_get after q ≡ Some s
+      → (r : QueueSeat) × (slice_get seats q ≡ Some r)
       × (notices_put k q (queue_view s).mine ≡ notices_put k q (queue_view r).mine))
 
   -- so often the one or the other
-  abbrev pub Works : ℕ → HeapView → List (QueueSeat A) → HeapView → List (QueueSeat A) → Type 0
+  abbrev pub Works : ℕ → HeapView → List QueueSeat → HeapView → List QueueSeat → Type 0
   Works zero v seats w after = (w ≡ v) × (after ≡ seats)
   Works (suc count) v seats w after =
-      (u : HeapView) × (between : List (QueueSeat A)) × Works count v seats u between
+      (u : HeapView) × (between : List QueueSeat) × Works count v seats u between
       × (IsDelivered u between w after ⊎ IsAside u between w after)
 
 -- the references that the notices report

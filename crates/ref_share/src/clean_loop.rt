@@ -2,9 +2,8 @@
 
 ghost use Rattle.std.specs.Prelude.{◌≡◌, ◌+◌, ◌<◌, length};
 ghost use Rattle.ref_turn.specs.Seats.{Longer};
-ghost use Rattle.ref_turn.specs.Turns.{view};
 ghost use Rattle.ref_share.specs.CleanLoops.{GoesBy, GoesRound, GoesOn, PollsBy};
-ghost use Rattle.ref_share.specs.CleanSeats.{IsCleanSeat};
+ghost use Rattle.ref_share.specs.CleanSeats.{clean_view, IsCleanSeat};
 ghost use Rattle.ref_share.specs.Cleanings.{CleansDead};
 ghost use Rattle.ref_share.specs.HeapSeats.{heap_view, IsHeapSeat};
 ghost use Rattle.ref_share.specs.QueueSeats.{queue_view, IsQueueSeat};
@@ -58,13 +57,13 @@ impl<A: Allocator + Copy> SharedCleaner<A> {
         queue_seat: &mut QueueSeat<A>,
         gate: &G,
     ) -> Result<u64, ShareFault>
-        requires seats { IsCleanSeat self.now.turn seat.old.seat × IsHeapSeat heap.now heap_seat.old }
+        requires seats { IsCleanSeat self.now seat.old × IsHeapSeat heap.now heap_seat.old }
         requires queue_seat { IsQueueSeat queue.now queue_seat.old }
-        ensures seat { IsCleanSeat self.now.turn seat.new.seat }
+        ensures seat { IsCleanSeat self.now seat.new }
         ensures heap_seat { IsHeapSeat heap.now heap_seat.new }
         ensures queue_seat { IsQueueSeat queue.now queue_seat.new }
-        ensures goes { GoesRound (queue_view queue_seat.old) (heap_view heap_seat.old) (view seat.old.seat)
-            result (queue_view queue_seat.new) (heap_view heap_seat.new) (view seat.new.seat) }
+        ensures goes { GoesRound (queue_view queue_seat.old) (heap_view heap_seat.old) (clean_view seat.old)
+            result (queue_view queue_seat.new) (heap_view heap_seat.new) (clean_view seat.new) }
     {
         self.rounds(
             rt,
@@ -92,13 +91,13 @@ impl<A: Allocator + Copy> SharedCleaner<A> {
         queue_seat: &mut QueueSeat<A>,
         gate: &G,
     ) -> Result<u64, ShareFault>
-        requires seats { IsCleanSeat self.now.turn seat.old.seat × IsHeapSeat heap.now heap_seat.old }
+        requires seats { IsCleanSeat self.now seat.old × IsHeapSeat heap.now heap_seat.old }
         requires queue_seat { IsQueueSeat queue.now queue_seat.old }
-        ensures seat { IsCleanSeat self.now.turn seat.new.seat }
+        ensures seat { IsCleanSeat self.now seat.new }
         ensures heap_seat { IsHeapSeat heap.now heap_seat.new }
         ensures queue_seat { IsQueueSeat queue.now queue_seat.new }
-        ensures goes { GoesOn (queue_view queue_seat.old) (heap_view heap_seat.old) (view seat.old.seat)
-            result (queue_view queue_seat.new) (heap_view heap_seat.new) (view seat.new.seat) }
+        ensures goes { GoesOn (queue_view queue_seat.old) (heap_view heap_seat.old) (clean_view seat.old)
+            result (queue_view queue_seat.new) (heap_view heap_seat.new) (clean_view seat.new) }
     {
         self.rounds(
             rt,
@@ -124,13 +123,13 @@ impl<A: Allocator + Copy> SharedCleaner<A> {
         gate: &G,
         polling: Polling,
     ) -> Result<u64, ShareFault>
-        requires seats { IsCleanSeat self.now.turn seat.old.seat × IsHeapSeat heap.now heap_seat.old }
+        requires seats { IsCleanSeat self.now seat.old × IsHeapSeat heap.now heap_seat.old }
         requires queue_seat { IsQueueSeat queue.now queue_seat.old }
-        ensures seat { IsCleanSeat self.now.turn seat.new.seat }
+        ensures seat { IsCleanSeat self.now seat.new }
         ensures heap_seat { IsHeapSeat heap.now heap_seat.new }
         ensures queue_seat { IsQueueSeat queue.now queue_seat.new }
-        ensures goes { GoesBy (queue_view queue_seat.old) (heap_view heap_seat.old) (view seat.old.seat) polling
-            result (queue_view queue_seat.new) (heap_view heap_seat.new) (view seat.new.seat) }
+        ensures goes { GoesBy (queue_view queue_seat.old) (heap_view heap_seat.old) (clean_view seat.old) polling
+            result (queue_view queue_seat.new) (heap_view heap_seat.new) (clean_view seat.new) }
     {
         let mut count = 0;
         for _ in rt.forever() {
@@ -160,11 +159,11 @@ impl<A: Allocator + Copy> SharedCleaner<A> {
         notice: Notice,
         gate: &G,
     ) -> Result<bool, ShareFault>
-        requires { IsCleanSeat self.now.turn seat.old.seat × IsHeapSeat heap.now heap_seat.old }
-        ensures seat { IsCleanSeat self.now.turn seat.new.seat }
+        requires { IsCleanSeat self.now seat.old × IsHeapSeat heap.now heap_seat.old }
+        ensures seat { IsCleanSeat self.now seat.new }
         ensures heap_seat { IsHeapSeat heap.now heap_seat.new }
-        ensures cleans { CleansDead notice (heap_view heap_seat.old) (view seat.old.seat) result
-            (heap_view heap_seat.new) (view seat.new.seat) }
+        ensures cleans { CleansDead notice (heap_view heap_seat.old) (clean_view seat.old) result
+            (heap_view heap_seat.new) (clean_view seat.new) }
     {
         let object = notice.obj();
         if let Err((fault, hold)) = heap.release(rt, heap_seat, notice.into_hold()) {
@@ -184,10 +183,10 @@ impl<A: Allocator + Copy> SharedCleaner<A> {
 
     // One more than a count of calls of this seat: there are no more of them than turns that have ended.
     fn one_more(&self, seat: &mut CleanSeat<A>, count: u64) -> u64
-        requires seat { IsCleanSeat self.now.turn seat.old.seat }
-        requires calls { count < length (view seat.old.seat).mine }
-        ensures seat { IsCleanSeat self.now.turn seat.new.seat }
-        ensures longer { Longer (view seat.old.seat) (view seat.new.seat) }
+        requires seat { IsCleanSeat self.now seat.old }
+        requires calls { count < length (clean_view seat.old).mine }
+        ensures seat { IsCleanSeat self.now seat.new }
+        ensures longer { Longer (clean_view seat.old) (clean_view seat.new) }
         ensures more { result ≡ count + 1 }
     {
         let _turns = self.served(seat);

@@ -1,6 +1,6 @@
 //! A cleaner's table as a machine of turns.
 
-use ref_base::{Fault, ObjNo};
+use ref_base::{Fault, ObjNo, QueueNo};
 use ref_queue::CleanTable;
 use ref_turn::Machine;
 use std::alloc::{Allocator, Global};
@@ -50,18 +50,21 @@ impl<K, J, A: Allocator> CleanMachine<K, J, A> {
 }
 
 impl<K, J, A: Allocator + Copy> Machine for CleanMachine<K, J, A> {
-    ghost use Rattle.std.specs.Prelude.{◌≡◌};
-    ghost use Rattle.ref_queue.specs.CleanTables.{Registry};
+    ghost use Rattle.ref_queue.specs.CleanTables.{Registry, new_registry};
     ghost use Rattle.ref_share.specs.CleanMachines.{IsCleanMove};
-    ghost use Rattle.ref_share.specs.CleanMoves.{table_moves_as_it_acts};
+    ghost use Rattle.ref_share.specs.Selves.{IsItself, moves_as_it_acts};
 
     type Step = CleanStep<K, J>;
 
     type Reply = CleanReply<K, J>;
 
+    type Frame = QueueNo;
+
     ghost State = { Registry K J };
 
-    ghost stands_for = { λ m x. x ≡ m };
+    ghost stands_for = { IsItself };
+
+    ghost first_state = { λ queue. new_registry };
 
     ghost moves = { IsCleanMove };
 
@@ -77,5 +80,5 @@ impl<K, J, A: Allocator + Copy> Machine for CleanMachine<K, J, A> {
         }
     }
 
-    ghost follows = { table_moves_as_it_acts };
+    ghost follows = { moves_as_it_acts IsCleanMove };
 }

@@ -3,8 +3,7 @@
 ghost use Rattle.std.specs.Prelude.{◌≡◌, Err, IfOk, IfErr};
 ghost use Rattle.ref_base.specs.declared.fault.Fault.TheVariants.{NoSuchActor};
 ghost use Rattle.ref_share.specs.declared.answers.ShareFault.TheVariants.{Refused};
-ghost use Rattle.ref_turn.specs.Turns.{view};
-ghost use Rattle.ref_share.specs.CleanSeats.{IsCleanSeat};
+ghost use Rattle.ref_share.specs.CleanSeats.{clean_view, IsCleanSeat};
 ghost use Rattle.ref_share.specs.Cleanings.{RegistersJob, HasMade, HasNotMade, EntersOnce};
 ghost use Rattle.ref_share.specs.Cleanings.{CleansNow, TakesOnce, IsOutside, IsWithoutTurn, Retires};
 ghost use Rattle.ref_share.specs.HeapSeats.{heap_view, IsHeapSeat};
@@ -42,13 +41,13 @@ impl<A: Allocator + Copy> SharedCleaner<A> {
         slot: SlotNo,
         job: Job,
     ) -> Result<Cleanable, (ShareFault, Job)>
-        requires seats { IsCleanSeat self.now.turn seat.old.seat × IsHeapSeat heap.now heap_seat.old }
-        ensures seat { IsCleanSeat self.now.turn seat.new.seat }
+        requires seats { IsCleanSeat self.now seat.old × IsHeapSeat heap.now heap_seat.old }
+        ensures seat { IsCleanSeat self.now seat.new }
         ensures heap_seat { IsHeapSeat heap.now heap_seat.new }
-        ensures registers { RegistersJob job (view seat.old.seat) self.now.queue mutator source slot
-            (heap_view heap_seat.old) result (heap_view heap_seat.new) (view seat.new.seat) }
+        ensures registers { RegistersJob job (clean_view seat.old) self.now.frame mutator source slot
+            (heap_view heap_seat.old) result (heap_view heap_seat.new) (clean_view seat.new) }
     {
-        let hold = match refer(rt, heap, heap_seat, self.queue, mutator, source, slot) {
+        let hold = match refer(rt, heap, heap_seat, self.frame, mutator, source, slot) {
             Ok(hold) => hold,
             Err(fault) => return Err((ShareFault::Refused(fault), job)),
         };
@@ -82,14 +81,14 @@ impl<A: Allocator + Copy> SharedCleaner<A> {
         slot: SlotNo,
         cleanable: Cleanable,
     ) -> Result<Cleaned, ShareFault>
-        requires { IsCleanSeat self.now.turn seat.old.seat × IsHeapSeat heap.now heap_seat.old }
-        ensures seat { IsCleanSeat self.now.turn seat.new.seat }
+        requires { IsCleanSeat self.now seat.old × IsHeapSeat heap.now heap_seat.old }
+        ensures seat { IsCleanSeat self.now seat.new }
         ensures heap_seat { IsHeapSeat heap.now heap_seat.new }
-        ensures outside { IsOutside heap.now.config mutator slot → (result ≡ Err (Refused NoSuchActor))
-            × (view seat.new.seat ≡ view seat.old.seat) × (heap_view heap_seat.new ≡ heap_view heap_seat.old) }
-        ensures cleans { ¬ (IsOutside heap.now.config mutator slot)
+        ensures outside { IsOutside heap.now.frame.config mutator slot → (result ≡ Err (Refused NoSuchActor))
+            × (clean_view seat.new ≡ clean_view seat.old) × (heap_view heap_seat.new ≡ heap_view heap_seat.old) }
+        ensures cleans { ¬ (IsOutside heap.now.frame.config mutator slot)
             → CleansNow (λ job. record { number = job.number; answer = job.note }) cleanable.obj mutator slot
-            (heap_view heap_seat.old) (view seat.old.seat) result (heap_view heap_seat.new) (view seat.new.seat) }
+            (heap_view heap_seat.old) (clean_view seat.old) result (heap_view heap_seat.new) (clean_view seat.new) }
     {
         if mutator.0 >= heap.config().mutators || slot.0 as usize >= SLOTS {
             return Err(ShareFault::Refused(Fault::NoSuchActor));
@@ -111,11 +110,11 @@ impl<A: Allocator + Copy> SharedCleaner<A> {
         hold: Hold,
         job: Job,
     ) -> Result<(), (Fault, Hold, Job)>
-        requires { IsCleanSeat self.now.turn seat.old.seat }
-        ensures seat { IsCleanSeat self.now.turn seat.new.seat }
-        ensures enters { EntersOnce job (view seat.old.seat) hold result (view seat.new.seat) }
+        requires { IsCleanSeat self.now seat.old }
+        ensures seat { IsCleanSeat self.now seat.new }
+        ensures enters { EntersOnce job (clean_view seat.old) hold result (clean_view seat.new) }
     {
-        match self.call(rt, seat, CleanStep::Register(hold.obj(), hold, job)) {
+        match self.step(rt, seat, CleanStep::Register(hold.obj(), hold, job)) {
             Ok(CleanReply::Registered(answer)) => answer,
             Err(TurnFault::Spent(CleanStep::Register(_, hold, job))) => {
                 Err((Fault::TurnsSpent, hold, job))
@@ -131,11 +130,11 @@ impl<A: Allocator + Copy> SharedCleaner<A> {
         seat: &mut CleanSeat<A>,
         object: ObjNo,
     ) -> Result<Option<(Hold, Job)>, ShareFault>
-        requires { IsCleanSeat self.now.turn seat.old.seat }
-        ensures seat { IsCleanSeat self.now.turn seat.new.seat }
-        ensures takes { TakesOnce (view seat.old.seat) object result (view seat.new.seat) }
+        requires { IsCleanSeat self.now seat.old }
+        ensures seat { IsCleanSeat self.now seat.new }
+        ensures takes { TakesOnce (clean_view seat.old) object result (clean_view seat.new) }
     {
-        match self.call(rt, seat, CleanStep::Take(object)) {
+        match self.step(rt, seat, CleanStep::Take(object)) {
             Ok(CleanReply::Taken(taken)) => Ok(taken),
             Ok(CleanReply::Registered(_answer)) => unreachable!(),
             Err(TurnFault::Busy(step) | TurnFault::Spent(step)) => Err(without_turn(step)),

@@ -1,5 +1,6 @@
 //! The heap as a machine of turns.
 
+use crate::shared_heap::HeapFrame;
 use ref_base::HeapStep;
 use ref_objects::Hold;
 use ref_turn::Machine;
@@ -22,16 +23,20 @@ impl<A: Allocator> Model for HeapMachine<A> {
 }
 
 impl<A: Allocator + Copy> Machine for HeapMachine<A> {
-    ghost use Rattle.ref_share.specs.HeapMachines.{HeapState, StandsFor, IsHeapMove, Acts};
+    ghost use Rattle.ref_share.specs.HeapMachines.{HeapState, StandsFor, first_heap_state, IsHeapMove, Acts};
     ghost use Rattle.ref_share.specs.HeapMoves.{acts_as_a_row};
 
     type Step = HeapStep<Hold>;
 
     type Reply = HeapReply;
 
+    type Frame = HeapFrame;
+
     ghost State = { HeapState };
 
     ghost stands_for = { StandsFor };
+
+    ghost first_state = { λ f. first_heap_state f.config f.heap_no };
 
     ghost moves = { IsHeapMove };
 

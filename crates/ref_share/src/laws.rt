@@ -36,16 +36,12 @@ ghost use Rattle.ref_share.specs.CleanHistories.{some_registers, job_left};
 ghost use Rattle.ref_share.specs.CleanSeats.{Jobs, CleanEntry, IsCleanRun};
 ghost use Rattle.ref_share.specs.HeapHistories.{minted, spent, spent_by};
 ghost use Rattle.ref_share.specs.HeapMachines.{HeapState, IsHeapMove};
-ghost use Rattle.ref_share.specs.HeapSeats.{HeapEntry, HeapView, heap_view, IsHeapRun, IsHeapSeat};
+ghost use Rattle.ref_share.specs.HeapSeats.{HeapEntry, HeapSeat, HeapView, SharedHeap, heap_view, IsHeapRun, IsHeapSeat};
 ghost use Rattle.ref_share.specs.HeapTraces.{HeapMarkEnded, handed_in, all_handed_on, named_by, rows_of};
 ghost use Rattle.ref_share.specs.QueueHistories.{KeepsLists, all_put_in, is_closed_after};
-ghost use Rattle.ref_share.specs.QueueSeats.{QueueEntry, IsQueueRun, queue_view};
+ghost use Rattle.ref_share.specs.QueueSeats.{QueueEntry, QueueSeat, SharedQueue, IsQueueRun, queue_view};
 ghost use Rattle.ref_share.specs.QueueStates.{NoticeLists};
 ghost use Rattle.ref_share.specs.WorkerCalls.{KeepsPace, Works, notices_put, references_of};
-ghost use Rattle.ref_share.specs.declared.shared_heap.SharedHeap.{SharedHeap};
-ghost use Rattle.ref_share.specs.declared.shared_heap.HeapSeat.{HeapSeat};
-ghost use Rattle.ref_share.specs.declared.shared_queue.SharedQueue.{SharedQueue};
-ghost use Rattle.ref_share.specs.declared.shared_queue.QueueSeat.{QueueSeat};
 ghost use Rattle.ref_share.specs.declared.clean_machine.CleanStep.TheVariants.{Take};
 ghost use Rattle.ref_share.specs.declared.clean_machine.CleanReply.TheVariants.{Taken};
 ghost use Rattle.ref_share.specs.declared.queue_machine.QueueStep.TheVariants as steps;
@@ -183,14 +179,14 @@ pub fn each_worker_hands_on_in_its_clearing_order()
 /// calls in between. Then, while turns are left, each queue's seat has put in just the notices that the heap's has
 /// handed on for that queue of what the worker cleared, in the same order.
 pub fn each_queue_gets_what_a_worker_hands_on<A>()
-    ensures { (k : ℕ) (queues : List (SharedQueue A)) (count : ℕ) (v w : HeapView) (seats after : List (QueueSeat A))
+    ensures { (k : ℕ) (queues : List (SharedQueue A)) (count : ℕ) (v w : HeapView) (seats after : List QueueSeat)
         → Works k queues count v seats w after → KeepsPace k queues v seats → KeepsPace k queues w after }
 {}
 
 /// So what it puts into a queue comes in the order in which the worker cleared it.
 pub fn each_queue_gets_it_in_the_workers_clearing_order<A>()
-    ensures { (heap : SharedHeap A) (heap_seat : HeapSeat A) (k q : ℕ) (queues : List (SharedQueue A))
-        (seats : List (QueueSeat A)) (s : QueueSeat A) → IsHeapSeat heap heap_seat
+    ensures { (heap : SharedHeap A) (heap_seat : HeapSeat) (k q : ℕ) (queues : List (SharedQueue A))
+        (seats : List QueueSeat) (s : QueueSeat) → IsHeapSeat heap heap_seat
         → KeepsPace k queues (heap_view heap_seat) seats → q < length queues → slice_get seats q ≡ Some s
         → is_subsequence (references_of (notices_put k q (queue_view s).mine))
         (clearing_order (rows_of (heap_view heap_seat).seen) k q) ≡ true }

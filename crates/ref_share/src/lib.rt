@@ -2,9 +2,9 @@
 //! step of it, and stands once in the one legal history of that value. So what is proved of lists of steps holds of
 //! what threads do, turn by turn; and a thread that polls a queue never waits for the heap.
 //!
-//! `heap_machine` and `queue_machine` say what one step is, `shared_heap` and `shared_queue` are the shared values with
-//! their seats, `heap_calls` has the heap's calls by what they answer, and `delivery` carries a notice from the heap to
-//! its queue.
+//! `heap_machine`, `queue_machine` and `clean_machine` say what one step is, `shared` is such a machine behind a turn,
+//! with its seats, and `shared_heap`, `shared_queue` and `shared_cleaner` are that at each of the three. `heap_calls` has
+//! the heap's calls by what they answer, and `delivery` carries a notice from the heap to its queue.
 #![tactic(auto)]
 
 mod answers;
@@ -18,6 +18,7 @@ mod heap_calls;
 mod heap_machine;
 pub mod laws;
 mod queue_machine;
+mod shared;
 mod shared_cleaner;
 mod shared_heap;
 mod shared_queue;
@@ -29,6 +30,7 @@ pub use delivery::{deliver_one, enqueue};
 pub use endings::{end_queue, run_jobs_left};
 pub use heap_machine::HeapMachine;
 pub use queue_machine::{QueueMachine, QueueReply, QueueStep};
+pub use shared::{SeatFor, Shared};
 pub use shared_cleaner::{CleanSeat, SharedCleaner};
-pub use shared_heap::{HeapSeat, SharedHeap};
-pub use shared_queue::{MOST_POLLS, QueueSeat, SharedQueue};
+pub use shared_heap::{HeapFrame, HeapSeat, SharedHeap};
+pub use shared_queue::{MOST_POLLS, QueueFrame, QueueSeat, SharedQueue};

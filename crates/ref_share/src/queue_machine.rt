@@ -1,5 +1,6 @@
 //! A queue as a machine of turns.
 
+use crate::shared_queue::QueueFrame;
 use ref_base::Fault;
 use ref_clear::Notice;
 use ref_queue::{Polled, Put, Queue};
@@ -55,18 +56,22 @@ impl<A: Allocator> QueueMachine<A> {
 }
 
 impl<A: Allocator + Copy> Machine for QueueMachine<A> {
-    ghost use Rattle.std.specs.Prelude.{◌≡◌};
+    ghost use Rattle.ref_base.specs.QueueLists.{new_queue};
     ghost use Rattle.ref_share.specs.QueueMachines.{IsQueueMove};
     ghost use Rattle.ref_share.specs.QueueStates.{NoticeLists};
-    ghost use Rattle.ref_share.specs.QueueMoves.{moves_as_it_acts};
+    ghost use Rattle.ref_share.specs.Selves.{IsItself, moves_as_it_acts};
 
     type Step = QueueStep;
 
     type Reply = QueueReply;
 
+    type Frame = QueueFrame;
+
     ghost State = { NoticeLists };
 
-    ghost stands_for = { λ m x. x ≡ m };
+    ghost stands_for = { IsItself };
+
+    ghost first_state = { λ f. new_queue f.queue };
 
     ghost moves = { IsQueueMove };
 
@@ -81,5 +86,5 @@ impl<A: Allocator + Copy> Machine for QueueMachine<A> {
         }
     }
 
-    ghost follows = { moves_as_it_acts };
+    ghost follows = { moves_as_it_acts IsQueueMove };
 }

@@ -1,18 +1,17 @@
 //! The heap that threads share.
 
-ghost use Rattle.std.specs.Prelude.{◌≡◌, ◌+◌, IfOk, IfErr, OnErr, length};
+ghost use Rattle.std.specs.Prelude.{◌≡◌, IfOk, IfErr};
 ghost use Rattle.ref_objects.specs.Grounds.{starting_refusal};
 ghost use Rattle.ref_clear.specs.ClearHeaps.{ClearHeap};
-ghost use Rattle.ref_turn.specs.Seats.{Longer, Begins};
 ghost use Rattle.ref_turn.specs.declared.turn.TurnFault.TheVariants as faults;
 ghost use Rattle.ref_share.specs.HeapMachines.{Acts};
-ghost use Rattle.ref_share.specs.SeatCalls.{Called, RanOut, IsTryFault, MakesUnless, TookIn};
+ghost use Rattle.ref_share.specs.SeatCalls.{Called, RanOut, IsTryFault, MakesUnless};
 ghost use Rattle.ref_share.specs.HeapSeats.{heap_view, IsHeapSeat, IsNewHeap, LeavesHeap};
 
-use crate::HeapMachine;
+use crate::{HeapMachine, SeatFor, Shared};
 use ref_base::{Config, Fault, HeapStep};
 use ref_objects::Hold;
-use ref_turn::{Turn, TurnFault, TurnSeat};
+use ref_turn::{Turn, TurnFault};
 use ref_world::{HeapReply, WorldHeap};
 use std::alloc::{Allocator, Global};
 use std::sync::Wait;
@@ -21,17 +20,16 @@ use std::sync::Wait;
 /// call is one turn: one step of the heap.
 ///
 /// All its memory is taken as it is made.
-#[derive(Drop)]
-pub struct SharedHeap<A: Allocator + Copy = Global> {
-    turn: Turn<HeapMachine<A>, A>,
-    config: Config,
-    heap_no: u64,
-}
+pub type SharedHeap<A = Global> = Shared<HeapMachine<A>, A>;
 
-/// What one thread uses a shared heap with. It has no bytes.
+/// What one thread uses a shared heap with.
+pub type HeapSeat<A = Global> = SeatFor<HeapMachine<A>>;
+
+/// What a shared heap was made with.
 #[derive(Drop)]
-pub struct HeapSeat<A: Allocator + Copy = Global> {
-    seat: TurnSeat<HeapMachine<A>>,
+pub struct HeapFrame {
+    pub(crate) config: Config,
+    pub(crate) heap_no: u64,
 }
 
 impl<A: Allocator + Copy> SharedHeap<A> {
@@ -57,12 +55,8 @@ impl<A: Allocator + Copy> SharedHeap<A> {
         let heap = WorldHeap::new(alloc, config, heap_no)?;
         match Turn::starting(alloc, HeapMachine { heap }, first) {
             Ok((turn, seat)) => {
-                let shared = SharedHeap {
-                    turn,
-                    config,
-                    heap_no,
-                };
-                Ok((shared, HeapSeat { seat }))
+                let frame = HeapFrame { config, heap_no };
+                Ok((Shared { turn, frame }, SeatFor { seat, number: heap_no }))
             }
             Err((fault, _)) => Err(fault),
         }
@@ -70,9 +64,9 @@ impl<A: Allocator + Copy> SharedHeap<A> {
 
     /// What it was made with. Takes no turn.
     pub fn config(&self) -> Config
-        ensures { result ≡ self.now.config }
+        ensures { result ≡ self.now.frame.config }
     {
-        self.config
+        self.frame.config
     }
 
     /// Does one step of the heap, once the turn is free. The one refusal is `Spent`, where no turn is left. Takes no
@@ -91,7 +85,7 @@ impl<A: Allocator + Copy> SharedHeap<A> {
         ensures err { IfErr result (λ fault. (fault ≡ faults.Spent step)
             × RanOut (heap_view seat.old) (heap_view seat.new)) }
     {
-        self.turn.call(rt, &mut seat.seat, step)
+        self.step(rt, seat, step)
     }
 
     /// The same at once or not at all: `Busy` where another turn is open, or took this one. `Spent` comes before.
@@ -106,38 +100,7 @@ impl<A: Allocator + Copy> SharedHeap<A> {
         ensures acted { IfOk result (λ reply. (c d : ClearHeap) × Acts c step reply d) }
         ensures err { IfErr result (λ fault. IsTryFault (heap_view seat.old) step fault (heap_view seat.new)) }
     {
-        self.turn.try_call(&mut seat.seat, step)
-    }
-
-    /// How many turns have ended, and the first ticket with them.
-    pub fn served(&self, seat: &mut HeapSeat<A>) -> u64
-        requires { IsHeapSeat self.now seat.old }
-        ensures seat { IsHeapSeat self.now seat.new }
-        ensures longer { Longer (heap_view seat.old) (heap_view seat.new) }
-        ensures count { result ≡ (heap_view seat.new).first + length (heap_view seat.new).seen }
-    {
-        self.turn.served(&mut seat.seat)
-    }
-
-    /// A seat for one thread more. It has seen what this one has.
-    pub fn split(&self, seat: &mut HeapSeat<A>) -> HeapSeat<A>
-        requires { IsHeapSeat self.now seat.old }
-        ensures seat { IsHeapSeat self.now seat.new × IsHeapSeat self.now result }
-        ensures same { heap_view seat.new ≡ heap_view seat.old }
-        ensures begins { Begins (heap_view seat.old) (heap_view result) }
-    {
-        HeapSeat {
-            seat: self.turn.split(&mut seat.seat),
-        }
-    }
-
-    /// Takes a seat in: this one has then seen what either had.
-    pub fn join(&self, seat: &mut HeapSeat<A>, other: HeapSeat<A>)
-        requires { IsHeapSeat self.now seat.old × IsHeapSeat self.now other }
-        ensures seat { IsHeapSeat self.now seat.new }
-        ensures joined { TookIn (heap_view seat.old) (heap_view other) (heap_view seat.new) }
-    {
-        self.turn.join(&mut seat.seat, other.into_seat())
+        self.try_step(seat, step)
     }
 
     /// Gives the heap back. Where a turn is open, which is only while another thread is in a call, what the slot of the
@@ -146,19 +109,10 @@ impl<A: Allocator + Copy> SharedHeap<A> {
         requires { IsHeapSeat self seat }
         ensures { IfOk result (λ heap. LeavesHeap self (heap_view seat) heap) }
     {
-        match self.turn.finish(seat.into_seat()) {
+        match self.end(seat) {
             Ok(machine) => Ok(machine.heap),
             Err(Some(machine)) => Err(Some(machine.heap)),
             Err(None) => Err(None),
         }
-    }
-}
-
-impl<A: Allocator + Copy> HeapSeat<A> {
-    fn into_seat(self) -> TurnSeat<HeapMachine<A>>
-        ensures { result ≡ self.seat }
-    {
-        let HeapSeat { seat } = self;
-        seat
     }
 }

@@ -1,23 +1,18 @@
 //! The queue that threads share.
 
-ghost use Rattle.std.specs.Prelude.{◌≡◌, ◌+◌, ◌<◌, ◌≤◌, ◌⊎◌, true, IfOk, IfErr, OnErr, Err, length};
+ghost use Rattle.std.specs.Prelude.{◌≡◌, ◌<◌, ◌≤◌, ◌⊎◌, true, IfOk, IfErr, OnErr, Err};
 ghost use Rattle.ref_base.specs.declared.fault.Fault.TheVariants.{BadConfig, NoMemory};
-ghost use Rattle.ref_turn.specs.Seats.{Longer, Begins};
 ghost use Rattle.ref_share.specs.declared.answers.ShareFault.TheVariants.{Refused, Busy};
-ghost use Rattle.ref_turn.specs.declared.turn.TurnFault.TheVariants.{Spent};
-ghost use Rattle.ref_share.specs.SeatCalls.{Called, RanOut, TookIn};
-ghost use Rattle.ref_share.specs.QueueMachines.{IsQueueMove};
-ghost use Rattle.ref_share.specs.QueueStates.{NoticeLists};
 ghost use Rattle.ref_share.specs.QueueSeats.{queue_view, IsQueueSeat, IsNewQueue, LeavesQueue};
 ghost use Rattle.ref_share.specs.QueueCalls.{PutsNotice, PollsNow, PollsWithin, PollsUntil, ClosesQueue};
 ghost use Rattle.ref_share.specs.QueueCalls.{ComesBack, IsPollAnswer, IsUnmade, PollsOnce, TellsPoll, refuses_put};
 
 use crate::bell::Bell;
-use crate::{Polled, QueueMachine, QueueReply, QueueStep, ShareFault};
+use crate::{Polled, QueueMachine, QueueReply, QueueStep, SeatFor, ShareFault, Shared};
 use ref_base::{Fault, QueueNo};
 use ref_clear::Notice;
 use ref_queue::{Polled as Answer, Put, Queue};
-use ref_turn::{Turn, TurnFault, TurnSeat};
+use ref_turn::{Turn, TurnFault};
 use std::alloc::{Allocator, Global};
 use std::sync::Wait;
 use std::thread;
@@ -27,18 +22,17 @@ pub const MOST_POLLS: u32 = 1_000_000;
 
 /// A queue that threads share: those that put notices in, and those that poll. Each call is one turn: one step of the
 /// queue. It must be ended by `finish`, since what stands in it must be.
-pub struct SharedQueue<A: Allocator + Copy = Global> {
-    turn: Turn<QueueMachine<A>, A>,
-    queue: QueueNo,
-    // Rung where something may have come for those that wait in `remove_wait`.
-    bell: Bell,
-}
+pub type SharedQueue<A = Global> = Shared<QueueMachine<A>, A>;
 
-/// What one thread uses a shared queue with: a few bytes, with the queue's number.
+/// What one thread uses a shared queue with.
+pub type QueueSeat<A = Global> = SeatFor<QueueMachine<A>>;
+
+/// What stands around the turn of a shared queue.
 #[derive(Drop)]
-pub struct QueueSeat<A: Allocator + Copy = Global> {
-    queue: QueueNo,
-    seat: TurnSeat<QueueMachine<A>>,
+pub struct QueueFrame {
+    pub(crate) queue: QueueNo,
+    // Rung where something may have come for those that wait in `remove_wait`.
+    pub(crate) bell: Bell,
 }
 
 impl<A: Allocator + Copy> SharedQueue<A> {
@@ -60,12 +54,10 @@ impl<A: Allocator + Copy> SharedQueue<A> {
         };
         match Turn::starting(alloc, machine, first) {
             Ok((turn, seat)) => {
-                let shared = SharedQueue {
-                    turn,
-                    queue,
-                    bell: Bell::new(),
-                };
-                Ok((shared, QueueSeat { queue, seat }))
+                let bell = Bell::new();
+                let frame = QueueFrame { queue, bell };
+                let number = u64::from(queue.0);
+                Ok((Shared { turn, frame }, SeatFor { seat, number }))
             }
             Err((fault, machine)) => {
                 machine.into_queue().end().destroy_empty();
@@ -76,27 +68,9 @@ impl<A: Allocator + Copy> SharedQueue<A> {
 
     /// Its number. Takes no turn.
     pub fn number(&self) -> QueueNo
-        ensures { result ≡ self.now.queue }
+        ensures { result ≡ self.now.frame.queue }
     {
-        self.queue
-    }
-
-    // Does one step of the queue, once the turn is free.
-    #[inline(always)]
-    fn call<R: Wait>(
-        &self,
-        rt: &R,
-        seat: &mut QueueSeat<A>,
-        step: QueueStep,
-    ) -> Result<QueueReply, TurnFault<QueueStep>>
-        requires { IsQueueSeat self.now seat.old }
-        ensures seat { IsQueueSeat self.now seat.new }
-        ensures ok { IfOk result (λ reply. Called (queue_view seat.old) step reply (queue_view seat.new)) }
-        ensures acted { IfOk result (λ reply. (q r : NoticeLists) × IsQueueMove q step reply r) }
-        ensures err { IfErr result (λ fault. (fault ≡ Spent step)
-            × RanOut (queue_view seat.old) (queue_view seat.new)) }
-    {
-        self.turn.call(rt, &mut seat.seat, step)
+        self.frame.queue
     }
 
     /// Puts a notice in, last, once the turn is free. Its refusals are those of `Queue::put`, with `TurnsSpent` before
@@ -114,9 +88,9 @@ impl<A: Allocator + Copy> SharedQueue<A> {
         ensures back { ComesBack notice result }
         ensures faults { IfErr result (λ refused. refuses_put refused.0 ≡ true) }
     {
-        match self.call(rt, seat, QueueStep::Put(notice)) {
+        match self.step(rt, seat, QueueStep::Put(notice)) {
             Ok(QueueReply::Put(answer)) => {
-                self.bell.ring(rt);
+                self.frame.bell.ring(rt);
                 answer
             }
             Err(TurnFault::Spent(QueueStep::Put(notice))) => Err((Fault::TurnsSpent, notice)),
@@ -131,7 +105,7 @@ impl<A: Allocator + Copy> SharedQueue<A> {
         ensures seat { IsQueueSeat self.now seat.new }
         ensures polls { PollsNow (queue_view seat.old) result (queue_view seat.new) }
     {
-        polled(self.turn.try_call(&mut seat.seat, QueueStep::Poll))
+        polled(self.try_step(seat, QueueStep::Poll))
     }
 
     // One poll, once the turn is free: its answer, or none where nothing stood.
@@ -144,7 +118,7 @@ impl<A: Allocator + Copy> SharedQueue<A> {
         ensures seat { IsQueueSeat self.now seat.new }
         ensures polls { PollsOnce (queue_view seat.old) result (queue_view seat.new) }
     {
-        match polled(self.call(rt, seat, QueueStep::Poll)) {
+        match polled(self.step(rt, seat, QueueStep::Poll)) {
             Ok(Polled::Empty) => None,
             answer => Some(answer),
         }
@@ -191,7 +165,7 @@ impl<A: Allocator + Copy> SharedQueue<A> {
         ensures seat { IsQueueSeat self.now seat.new }
         ensures polls { PollsUntil (queue_view seat.old) result (queue_view seat.new) }
     {
-        let mut caller = self.bell.caller();
+        let mut caller = self.frame.bell.caller();
         for _ in rt.forever() {
             caller.begin_poll(rt);
             if let Some(answer) = self.poll(rt, seat) {
@@ -210,46 +184,14 @@ impl<A: Allocator + Copy> SharedQueue<A> {
         ensures seat { IsQueueSeat self.now seat.new }
         ensures closes { ClosesQueue (queue_view seat.old) result (queue_view seat.new) }
     {
-        match self.call(rt, seat, QueueStep::Close) {
+        match self.step(rt, seat, QueueStep::Close) {
             Ok(QueueReply::Closed(was_open)) => {
-                self.bell.ring_for_all(rt);
+                self.frame.bell.ring_for_all(rt);
                 Ok(was_open)
             }
             Ok(_reply) => unreachable!(),
             Err(fault) => Err(unmade(fault)),
         }
-    }
-
-    /// How many turns have ended, and the first ticket with them.
-    pub fn served(&self, seat: &mut QueueSeat<A>) -> u64
-        requires { IsQueueSeat self.now seat.old }
-        ensures seat { IsQueueSeat self.now seat.new }
-        ensures longer { Longer (queue_view seat.old) (queue_view seat.new) }
-        ensures count { result ≡ (queue_view seat.new).first + length (queue_view seat.new).seen }
-    {
-        self.turn.served(&mut seat.seat)
-    }
-
-    /// A seat for one thread more. It has seen what this one has.
-    pub fn split(&self, seat: &mut QueueSeat<A>) -> QueueSeat<A>
-        requires { IsQueueSeat self.now seat.old }
-        ensures seat { IsQueueSeat self.now seat.new × IsQueueSeat self.now result }
-        ensures same { queue_view seat.new ≡ queue_view seat.old }
-        ensures begins { Begins (queue_view seat.old) (queue_view result) }
-    {
-        QueueSeat {
-            queue: self.queue,
-            seat: self.turn.split(&mut seat.seat),
-        }
-    }
-
-    /// Takes a seat in: this one has then seen what either had.
-    pub fn join(&self, seat: &mut QueueSeat<A>, other: QueueSeat<A>)
-        requires { IsQueueSeat self.now seat.old × IsQueueSeat self.now other }
-        ensures seat { IsQueueSeat self.now seat.new }
-        ensures joined { TookIn (queue_view seat.old) (queue_view other) (queue_view seat.new) }
-    {
-        self.turn.join(&mut seat.seat, other.into_seat())
     }
 
     /// Gives the queue back, with what stands in it. Where a turn is open, which is only while another thread is in a
@@ -258,25 +200,11 @@ impl<A: Allocator + Copy> SharedQueue<A> {
         requires { IsQueueSeat self seat }
         ensures { IfOk result (λ queue. LeavesQueue self (queue_view seat) queue) }
     {
-        let SharedQueue {
-            turn,
-            queue: _,
-            bell: _,
-        } = self;
-        match turn.finish(seat.into_seat()) {
+        match self.end(seat) {
             Ok(machine) => Ok(machine.into_queue()),
             Err(Some(machine)) => Err(Some(machine.into_queue())),
             Err(None) => Err(None),
         }
-    }
-}
-
-impl<A: Allocator + Copy> QueueSeat<A> {
-    fn into_seat(self) -> TurnSeat<QueueMachine<A>>
-        ensures { result ≡ self.seat }
-    {
-        let QueueSeat { queue: _, seat } = self;
-        seat
     }
 }
 

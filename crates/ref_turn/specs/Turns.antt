@@ -37,11 +37,11 @@ module _ {M S R : Type 0} where
       IsHistory stands_for moves me.0
       × ((m : M) × HoldsMachine me m × Reaches stands_for moves me.0.start me.0.seen m)
 
-module _ {M S R A : Type 0} where
+module _ {M S R F A : Type 0} where
   -- the seat is of this turn
-  abbrev pub IsSeatOf : Turn M A S R → SeatOf M S R → Type 0
+  abbrev pub IsSeatOf : Turn M A S R F → SeatOf M S R → Type 0
   IsSeatOf t s = s.place.table_id ≡ t.table.shared.table_id
 
   -- the place is at this turn's table
-  abbrev pub IsPlaceOf : Turn M A S R → Seat (Option M) (View M S R) → Type 0
+  abbrev pub IsPlaceOf : Turn M A S R F → Seat (Option M) (View M S R) → Type 0
   IsPlaceOf t p = p.table_id ≡ t.table.shared.table_id

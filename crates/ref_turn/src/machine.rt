@@ -11,11 +11,17 @@ pub trait Machine {
     /// What it answers.
     type Reply;
 
+    /// What stands around the value while threads share it, and tells the state in which it began.
+    type Frame: Drop;
+
     /// What contracts see of the value.
     ghost State: { Type 0 };
 
     /// Whether the value stands for the state. It may stand for several.
     ghost stands_for: { Self → State → Type 0 };
+
+    /// The state in which it began.
+    ghost first_state: { Self.Frame → State };
 
     /// Whether a step may lead from one state to another, with this reply.
     ghost moves: { State → Self.Step → Self.Reply → State → Type 0 };

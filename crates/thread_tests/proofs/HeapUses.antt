@@ -12,8 +12,8 @@ use Rattle.ref_clear.proofs.HeapLaws.{config_of}
 use Rattle.ref_clear.specs.ClearHeaps.{ClearHeap}
 use Rattle.ref_turn.specs.History.{Leads}
 use Rattle.ref_world.specs.HeapReplies.{told_reply}
-use Rattle.ref_share.specs.HeapMachines.{HeapState, StandsFor, IsHeapMove}
-use Rattle.ref_share.specs.HeapSeats.{HeapEntry, IsHeapRun, first_heap_state}
+use Rattle.ref_share.specs.HeapMachines.{HeapState, StandsFor, IsHeapMove, first_heap_state}
+use Rattle.ref_share.specs.HeapSeats.{HeapEntry, IsHeapRun}
 
 one_config : (refusal : Option Fault) (a : State) (step : NamedStep) (reply : Reply) (b : State)
     → IsHeapAnswer a refusal step reply b → b.world.heap.config ≡ a.world.heap.config

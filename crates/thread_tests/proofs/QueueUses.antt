@@ -9,7 +9,8 @@ use Rattle.ref_turn.specs.Seats.{entry}
 use Rattle.ref_share.specs.QueueCalls.{PutsNotice, ClosesQueue}
 use Rattle.ref_share.specs.QueueHistories.{closed_by_call, is_closed_after}
 use Rattle.ref_share.specs.QueueMachines.{IsQueueMove}
-use Rattle.ref_share.specs.QueueSeats.{QueueEntry, QueueView, IsItself, IsQueueRun}
+use Rattle.ref_share.specs.QueueSeats.{QueueEntry, QueueView, IsQueueRun}
+use Rattle.ref_share.specs.Selves.{IsItself}
 use Rattle.ref_share.specs.QueueStates.{NoticeLists}
 use Rattle.ref_share.specs.StartedSeats.{IsLeftFrom}
 use Rattle.ref_share.specs.declared.answers.ShareFault.{ShareFault}

@@ -1,1 +1,2 @@
 pub mod QueueLists
+pub mod QueueRows

@@ -2,8 +2,8 @@
 
 ghost use Rattle.ref_share.specs.HeapSeats.{IsHeapSeat};
 ghost use Rattle.ref_share.specs.QueueSeats.{IsQueueSeat};
-ghost use Rattle.ref_share.specs.contracts.shared_queue.SharedQueue.{the_row};
 ghost use Rattle.std.specs.Mem.{FitsInMemory};
+ghost use Rattle.thread_tests.specs.QueueRows.{queue_row};
 
 use calls::{Call, Do, Seats, Told, answer};
 use ref_base::{Config, Fault, MutNo, ObjNo, QueueNo, Reply, WorkerNo};
@@ -85,7 +85,7 @@ pub fn make_calls<R: Wait + Abort, A: Allocator + Copy>(
     story: &[(Call, Told)],
 )
     requires seats { IsHeapSeat heap.now seats.old.heap × IsQueueSeat queue.now seats.old.queue }
-    requires fits { FitsInMemory (the_row A.row A.Allocator A.Clone) }
+    requires fits { FitsInMemory (queue_row A.row A.Allocator A.Clone) }
     ensures { IsHeapSeat heap.now seats.new.heap × IsQueueSeat queue.now seats.new.queue }
 {
     for (row, &(call, want)) in story.iter().enumerate() {

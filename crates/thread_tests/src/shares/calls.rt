@@ -4,8 +4,8 @@ ghost use Rattle.std.specs.Prelude.{◌≡◌, true};
 ghost use Rattle.ref_share.specs.HeapCalls.{hands_nothing_over};
 ghost use Rattle.ref_share.specs.HeapSeats.{IsHeapSeat};
 ghost use Rattle.ref_share.specs.QueueSeats.{IsQueueSeat};
-ghost use Rattle.ref_share.specs.contracts.shared_queue.SharedQueue.{the_row};
 ghost use Rattle.std.specs.Mem.{FitsInMemory};
+ghost use Rattle.thread_tests.specs.QueueRows.{queue_row};
 
 use super::{M, Q, W};
 use ref_base::{Fault, HeapStep, Parcel, QueueNo, Reply, SlotNo, Strength, Urgency, WorkerNo};
@@ -361,7 +361,7 @@ fn enqueued<R: Wait, A: Allocator + Copy>(
     slot: u32,
 ) -> Told
     requires seats { IsHeapSeat heap.now seats.old.heap × IsQueueSeat queue.now seats.old.queue }
-    requires fits { FitsInMemory (the_row A.row A.Allocator A.Clone) }
+    requires fits { FitsInMemory (queue_row A.row A.Allocator A.Clone) }
     ensures { IsHeapSeat heap.now seats.new.heap × IsQueueSeat queue.now seats.new.queue }
 {
     let queues = slice::from_ref(queue);
@@ -381,7 +381,7 @@ fn enqueued_apart<R: Wait, A: Allocator + Copy>(
     slot: u32,
 ) -> Told
     requires seats { IsHeapSeat heap.now seats.old.heap × IsQueueSeat queue.now seats.old.queue }
-    requires fits { FitsInMemory (the_row A.row A.Allocator A.Clone) }
+    requires fits { FitsInMemory (queue_row A.row A.Allocator A.Clone) }
     ensures { IsHeapSeat heap.now seats.new.heap × IsQueueSeat queue.now seats.new.queue }
 {
     let second = queue.split(&mut seats.queue);
@@ -401,7 +401,7 @@ fn delivered<R: Wait, A: Allocator + Copy>(
     worker: u32,
 ) -> Told
     requires seats { IsHeapSeat heap.now seats.old.heap × IsQueueSeat queue.now seats.old.queue }
-    requires fits { FitsInMemory (the_row A.row A.Allocator A.Clone) }
+    requires fits { FitsInMemory (queue_row A.row A.Allocator A.Clone) }
     ensures { IsHeapSeat heap.now seats.new.heap × IsQueueSeat queue.now seats.new.queue }
 {
     let queues = slice::from_ref(queue);
@@ -445,7 +445,7 @@ pub fn answer<R: Wait, A: Allocator + Copy>(
     call: Call,
 ) -> Told
     requires seats { IsHeapSeat heap.now seats.old.heap × IsQueueSeat queue.now seats.old.queue }
-    requires fits { FitsInMemory (the_row A.row A.Allocator A.Clone) }
+    requires fits { FitsInMemory (queue_row A.row A.Allocator A.Clone) }
     ensures { IsHeapSeat heap.now seats.new.heap × IsQueueSeat queue.now seats.new.queue }
 {
     match call {

@@ -76,10 +76,10 @@ fn do_all<R: Wait + Abort>(
 )
     requires { IsHeapSeat shared.heap.now chair.old.seats.heap
         × IsQueueSeat shared.queue.now chair.old.seats.queue
-        × IsCleanSeat shared.cleaner.now.turn chair.old.cleaner.seat }
+        × IsCleanSeat shared.cleaner.now chair.old.cleaner }
     ensures { IsHeapSeat shared.entry.heap.now chair.new.seats.heap
         × IsQueueSeat shared.entry.queue.now chair.new.seats.queue
-        × IsCleanSeat shared.entry.cleaner.now.turn chair.new.cleaner.seat }
+        × IsCleanSeat shared.entry.cleaner.now chair.new.cleaner }
 {
     for (row, &(act, want)) in acts.iter().enumerate() {
         assert_eq!(rt;
@@ -100,10 +100,10 @@ fn tell<R: Threads + Wait + Abort + Sync>(
 ) -> Chair
     requires { IsHeapSeat shared.heap.now chair.seats.heap
         × IsQueueSeat shared.queue.now chair.seats.queue
-        × IsCleanSeat shared.cleaner.now.turn chair.cleaner.seat }
+        × IsCleanSeat shared.cleaner.now chair.cleaner }
     ensures { IsHeapSeat shared.entry.heap.now result.seats.heap
         × IsQueueSeat shared.entry.queue.now result.seats.queue
-        × IsCleanSeat shared.entry.cleaner.now.turn result.cleaner.seat }
+        × IsCleanSeat shared.entry.cleaner.now result.cleaner }
 {
     let hearing = Hearing::new(!story.meanwhile.is_empty());
     let mut chair = chair;

@@ -16,9 +16,13 @@ impl Machine for Counter {
 
     type Reply = u64;
 
+    type Frame = u64;
+
     ghost State = { ℕ };
 
     ghost stands_for = { λ m x. m.count ≡ x };
+
+    ghost first_state = { λ start. start };
 
     ghost moves = { λ x s r y. (r ≡ x) × (y ≡ (x + s) % 2 ^ 64) };
 

@@ -62,9 +62,13 @@ impl Machine for Gated {
 
     type Reply = u64;
 
+    type Frame = u64;
+
     ghost State = { ℕ };
 
     ghost stands_for = { λ m x. m.steps ≡ x };
+
+    ghost first_state = { λ start. start };
 
     ghost moves = { λ x s r y. (r ≡ x) × (y ≡ (x + 1) % 2 ^ 64) };
 

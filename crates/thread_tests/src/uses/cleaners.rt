@@ -36,8 +36,8 @@ fn retires_what_it_cleans<R: Wait>(
     heap_seat: &mut HeapSeat,
     cleanable: Cleanable,
 ) -> Option<bool>
-    requires { IsCleanSeat cleaner.now.turn seat.old.seat × IsHeapSeat heap.now heap_seat.old }
-    ensures seat { IsCleanSeat cleaner.now.turn seat.new.seat }
+    requires { IsCleanSeat cleaner.now seat.old × IsHeapSeat heap.now heap_seat.old }
+    ensures seat { IsCleanSeat cleaner.now seat.new }
     ensures heap_seat { IsHeapSeat heap.now heap_seat.new }
     ensures more { IfSome result (λ is_more. is_more ≡ true) }
 {
@@ -65,12 +65,12 @@ fn holds_the_reference<R: Wait>(
     heap_seat: &mut HeapSeat,
     job: Job,
 ) -> Option<Cleanable>
-    requires { IsCleanSeat cleaner.now.turn seat.old.seat × IsHeapSeat heap.now heap_seat.old }
-    ensures seat { IsCleanSeat cleaner.now.turn seat.new.seat }
+    requires { IsCleanSeat cleaner.now seat.old × IsHeapSeat heap.now heap_seat.old }
+    ensures seat { IsCleanSeat cleaner.now seat.new }
     ensures heap_seat { IsHeapSeat heap.now heap_seat.new }
     ensures calls { IfSome result (λ cleanable. (made : Reply) × (hold : HoldName) × (hold.object ≡ cleanable.obj)
         × ((heap_view heap_seat.new).mine ≡ (heap_view heap_seat.old).mine
-        ++ entry (heap_view heap_seat.old).number (makes_phantom cleaner.now.queue 0 0 1) (replies.Told made)
+        ++ entry (heap_view heap_seat.old).number (makes_phantom cleaner.now.frame 0 0 1) (replies.Told made)
         ∷ entry (heap_view heap_seat.old).number (steps.Hold 0 1) (replies.Held hold) ∷ [])) }
 {
     match cleaner.register(rt, seat, heap, heap_seat, M, SlotNo(0), SlotNo(1), job) {
@@ -93,9 +93,9 @@ fn releases_twice_for_each_job<R: Wait, G: Gate>(
     queue_seat: &mut QueueSeat,
     gate: &G,
 ) -> Option<bool>
-    requires seats { IsCleanSeat cleaner.now.turn seat.old.seat × IsHeapSeat heap.now heap_seat.old }
+    requires seats { IsCleanSeat cleaner.now seat.old × IsHeapSeat heap.now heap_seat.old }
     requires queue { IsQueueSeat queue.now queue_seat.old }
-    ensures seat { IsCleanSeat cleaner.now.turn seat.new.seat }
+    ensures seat { IsCleanSeat cleaner.now seat.new }
     ensures queue_seat { IsQueueSeat queue.now queue_seat.new }
     ensures enough { IfSome result (λ is_enough. is_enough ≡ true) }
 {
@@ -119,8 +119,8 @@ fn cleaned_twice<R: Wait + Abort>(
     jobs: (Job, Job),
 ) -> ([Option<Cleanable>; 2], Option<bool>, Option<bool>)
     requires { IsHeapSeat shared.0.now seats.old.heap × IsQueueSeat shared.1.now seats.old.queue
-        × IsCleanSeat shared.2.now.turn seat.old.seat }
-    ensures { IsQueueSeat shared.entry.1.now seats.new.queue × IsCleanSeat shared.entry.2.now.turn seat.new.seat }
+        × IsCleanSeat shared.2.now seat.old }
+    ensures { IsQueueSeat shared.entry.1.now seats.new.queue × IsCleanSeat shared.entry.2.now seat.new }
 {
     let (heap, queue, cleaner) = shared;
     make_calls(rt, heap, queue, seats, &[new(0, 1)]);

@@ -118,10 +118,10 @@ impl fmt::Debug for Answer {
 fn refusal<R: Wait>(rt: &R, shared: Shared, chair: &mut Chair, fault: ShareFault) -> Told
     requires { IsHeapSeat shared.heap.now chair.old.seats.heap
         × IsQueueSeat shared.queue.now chair.old.seats.queue
-        × IsCleanSeat shared.cleaner.now.turn chair.old.cleaner.seat }
+        × IsCleanSeat shared.cleaner.now chair.old.cleaner }
     ensures { IsHeapSeat shared.entry.heap.now chair.new.seats.heap
         × IsQueueSeat shared.entry.queue.now chair.new.seats.queue
-        × IsCleanSeat shared.entry.cleaner.now.turn chair.new.cleaner.seat }
+        × IsCleanSeat shared.entry.cleaner.now chair.new.cleaner }
 {
     refused(rt, shared.heap, &mut chair.seats.heap, fault)
 }
@@ -137,10 +137,10 @@ fn registered<R: Wait>(
 ) -> Answer
     requires { IsHeapSeat shared.heap.now chair.old.seats.heap
         × IsQueueSeat shared.queue.now chair.old.seats.queue
-        × IsCleanSeat shared.cleaner.now.turn chair.old.cleaner.seat }
+        × IsCleanSeat shared.cleaner.now chair.old.cleaner }
     ensures { IsHeapSeat shared.entry.heap.now chair.new.seats.heap
         × IsQueueSeat shared.entry.queue.now chair.new.seats.queue
-        × IsCleanSeat shared.entry.cleaner.now.turn chair.new.cleaner.seat }
+        × IsCleanSeat shared.entry.cleaner.now chair.new.cleaner }
 {
     let Shared { heap, cleaner, .. } = shared;
     let own = &mut chair.cleaner;
@@ -157,10 +157,10 @@ fn registered<R: Wait>(
 fn cleaned<R: Wait>(rt: &R, shared: Shared, chair: &mut Chair, reference: u32, slot: u32) -> Answer
     requires { IsHeapSeat shared.heap.now chair.old.seats.heap
         × IsQueueSeat shared.queue.now chair.old.seats.queue
-        × IsCleanSeat shared.cleaner.now.turn chair.old.cleaner.seat }
+        × IsCleanSeat shared.cleaner.now chair.old.cleaner }
     ensures { IsHeapSeat shared.entry.heap.now chair.new.seats.heap
         × IsQueueSeat shared.entry.queue.now chair.new.seats.queue
-        × IsCleanSeat shared.entry.cleaner.now.turn chair.new.cleaner.seat }
+        × IsCleanSeat shared.entry.cleaner.now chair.new.cleaner }
 {
     let Shared { heap, cleaner, .. } = shared;
     let own = &mut chair.cleaner;
@@ -184,10 +184,10 @@ fn cleaned<R: Wait>(rt: &R, shared: Shared, chair: &mut Chair, reference: u32, s
 pub fn looped<R: Wait>(rt: &R, shared: Shared, chair: &mut Chair, hearing: &Hearing) -> Answer
     requires { IsHeapSeat shared.heap.now chair.old.seats.heap
         × IsQueueSeat shared.queue.now chair.old.seats.queue
-        × IsCleanSeat shared.cleaner.now.turn chair.old.cleaner.seat }
+        × IsCleanSeat shared.cleaner.now chair.old.cleaner }
     ensures { IsHeapSeat shared.entry.heap.now chair.new.seats.heap
         × IsQueueSeat shared.entry.queue.now chair.new.seats.queue
-        × IsCleanSeat shared.entry.cleaner.now.turn chair.new.cleaner.seat }
+        × IsCleanSeat shared.entry.cleaner.now chair.new.cleaner }
 {
     let Shared {
         heap,
@@ -209,10 +209,10 @@ pub fn looped<R: Wait>(rt: &R, shared: Shared, chair: &mut Chair, hearing: &Hear
 fn cleaned_some<R: Wait>(rt: &R, shared: Shared, chair: &mut Chair, hearing: &Hearing) -> Answer
     requires { IsHeapSeat shared.heap.now chair.old.seats.heap
         × IsQueueSeat shared.queue.now chair.old.seats.queue
-        × IsCleanSeat shared.cleaner.now.turn chair.old.cleaner.seat }
+        × IsCleanSeat shared.cleaner.now chair.old.cleaner }
     ensures { IsHeapSeat shared.entry.heap.now chair.new.seats.heap
         × IsQueueSeat shared.entry.queue.now chair.new.seats.queue
-        × IsCleanSeat shared.entry.cleaner.now.turn chair.new.cleaner.seat }
+        × IsCleanSeat shared.entry.cleaner.now chair.new.cleaner }
 {
     let Shared {
         heap,
@@ -241,10 +241,10 @@ pub fn done<R: Wait>(
 ) -> Answer
     requires { IsHeapSeat shared.heap.now chair.old.seats.heap
         × IsQueueSeat shared.queue.now chair.old.seats.queue
-        × IsCleanSeat shared.cleaner.now.turn chair.old.cleaner.seat }
+        × IsCleanSeat shared.cleaner.now chair.old.cleaner }
     ensures { IsHeapSeat shared.entry.heap.now chair.new.seats.heap
         × IsQueueSeat shared.entry.queue.now chair.new.seats.queue
-        × IsCleanSeat shared.entry.cleaner.now.turn chair.new.cleaner.seat }
+        × IsCleanSeat shared.entry.cleaner.now chair.new.cleaner }
 {
     match act {
         Act::Share(call) => {

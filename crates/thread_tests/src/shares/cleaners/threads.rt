@@ -25,7 +25,7 @@ struct Beside<'a> {
 
 /// Runs the jobs of what is gone, until the queue is closed.
 fn ended<R: Wait>(rt: &R, cleaner: &SharedCleaner, seat: CleanSeat, beside: Beside) -> Answer
-    requires cleaner { IsCleanSeat cleaner.now.turn seat.seat }
+    requires cleaner { IsCleanSeat cleaner.now seat }
     requires beside { IsHeapSeat beside.heap.now beside.seats.heap
         × IsQueueSeat beside.queue.now beside.seats.queue }
 {
@@ -51,13 +51,13 @@ fn ended<R: Wait>(rt: &R, cleaner: &SharedCleaner, seat: CleanSeat, beside: Besi
 fn split(shared: Shared, chair: &mut Chair) -> Chair
     requires { IsHeapSeat shared.heap.now chair.old.seats.heap
         × IsQueueSeat shared.queue.now chair.old.seats.queue
-        × IsCleanSeat shared.cleaner.now.turn chair.old.cleaner.seat }
+        × IsCleanSeat shared.cleaner.now chair.old.cleaner }
     ensures old { IsHeapSeat shared.entry.heap.now chair.new.seats.heap
         × IsQueueSeat shared.entry.queue.now chair.new.seats.queue
-        × IsCleanSeat shared.entry.cleaner.now.turn chair.new.cleaner.seat }
+        × IsCleanSeat shared.entry.cleaner.now chair.new.cleaner }
     ensures new { IsHeapSeat shared.entry.heap.now result.seats.heap
         × IsQueueSeat shared.entry.queue.now result.seats.queue
-        × IsCleanSeat shared.entry.cleaner.now.turn result.cleaner.seat }
+        × IsCleanSeat shared.entry.cleaner.now result.cleaner }
 {
     let seats = Seats {
         heap: shared.heap.split(&mut chair.seats.heap),
@@ -101,8 +101,8 @@ fn both_ended<R: Threads + Wait + Sync>(
     beside_left: Beside,
     beside_right: Beside,
 ) -> (Answer, Answer)
-    requires left { IsCleanSeat cleaner.now.turn left.seat }
-    requires right { IsCleanSeat cleaner.now.turn right.seat }
+    requires left { IsCleanSeat cleaner.now left }
+    requires right { IsCleanSeat cleaner.now right }
     requires beside_left { IsHeapSeat beside_left.heap.now beside_left.seats.heap
         × IsQueueSeat beside_left.queue.now beside_left.seats.queue }
     requires beside_right { IsHeapSeat beside_right.heap.now beside_right.seats.heap
@@ -114,12 +114,12 @@ fn both_ended<R: Threads + Wait + Sync>(
         left,
         beside_left,
         |cleaner: &SharedCleaner, seat: CleanSeat, beside: Beside| -> Answer
-            requires cleaner { IsCleanSeat cleaner.now.turn seat.seat }
+            requires cleaner { IsCleanSeat cleaner.now seat }
             requires beside { IsHeapSeat beside.heap.now beside.seats.heap
                 × IsQueueSeat beside.queue.now beside.seats.queue }
         { ended(rt, cleaner, seat, beside) },
         || -> Answer
-            requires cleaner { IsCleanSeat cleaner.now.turn right.seat }
+            requires cleaner { IsCleanSeat cleaner.now right }
             requires beside { IsHeapSeat beside_right.heap.now beside_right.seats.heap
                 × IsQueueSeat beside_right.queue.now beside_right.seats.queue }
         { ended(rt, cleaner, right, beside_right) },
@@ -138,10 +138,10 @@ pub fn clean_meanwhile<R: Threads + Wait + Abort + Sync>(
 )
     requires { IsHeapSeat shared.heap.now chair.old.seats.heap
         × IsQueueSeat shared.queue.now chair.old.seats.queue
-        × IsCleanSeat shared.cleaner.now.turn chair.old.cleaner.seat }
+        × IsCleanSeat shared.cleaner.now chair.old.cleaner }
     ensures { IsHeapSeat shared.entry.heap.now chair.new.seats.heap
         × IsQueueSeat shared.entry.queue.now chair.new.seats.queue
-        × IsCleanSeat shared.entry.cleaner.now.turn chair.new.cleaner.seat }
+        × IsCleanSeat shared.entry.cleaner.now chair.new.cleaner }
 {
     let Shared {
         heap,
@@ -170,8 +170,8 @@ pub fn clean_meanwhile<R: Threads + Wait + Abort + Sync>(
             requires { IsHeapSeat heap.now seats.heap × IsQueueSeat queue.now seats.queue }
         { make_calls(rt, heap, queue, &mut seats, calls) },
         || -> (Answer, Answer)
-            requires left { IsCleanSeat cleaner.now.turn left.seat }
-            requires right { IsCleanSeat cleaner.now.turn right.seat }
+            requires left { IsCleanSeat cleaner.now left }
+            requires right { IsCleanSeat cleaner.now right }
             requires beside_left { IsHeapSeat beside_left.heap.now beside_left.seats.heap
                 × IsQueueSeat beside_left.queue.now beside_left.seats.queue }
             requires beside_right { IsHeapSeat beside_right.heap.now beside_right.seats.heap

@@ -1,0 +1,14 @@
+use Rattle.std.proofs.Common.{subst}
+use Rattle.std.proofs.lemmas.Result.{IfOk-weaker}
+use Rattle.ref_share.proofs.Common.{EndsAs, view}
+use Rattle.ref_share.proofs.Seats.{left_so}
+use Rattle.ref_share.proofs.shared.Shared.end.Goals as goal
+
+pub returns : goal.returns
+returns g c =
+    let stands_for = g.M.Machine.stands_for in
+    let moves = g.M.Machine.moves in
+    IfOk-weaker c.finish.result _ _
+    (λ m ends. left_so stands_for moves c.args.self.turn _ c.args.seat.seat m c.requires
+    (subst (λ s. EndsAs stands_for moves (view s) m) c.into_seat.ensures ends))
+    c.finish.ensures

@@ -1,0 +1,7 @@
+use Rattle.ref_share.proofs.Seats.{seat_stays}
+use Rattle.ref_share.proofs.shared.Shared.served.Goals as goal
+
+pub returns-clause-seat : goal.returns-clause-seat
+returns-clause-seat g c =
+    seat_stays g.M.Machine.stands_for g.M.Machine.moves c.args.self.now.turn _ c.args.seat.now.seat c.served.new.seat
+    c.requires c.served.ensures.turn c.served.ensures.longer.0 c.served.ensures.history
