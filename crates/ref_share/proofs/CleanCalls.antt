@@ -1,5 +1,5 @@
 -- What the calls of a cleaner have made.
-use Rattle.std.proofs.Common.{◌≡◌, ℕ, false, Option, Some, None, Result, Ok, Err, IfOk, IfErr, inl, inr, refl, subst}
+use Rattle.std.proofs.Common.{◌≡◌, ℕ, false, Option, Some, Result, Ok, Err, IfOk, IfErr, inl, inr, refl, subst}
 use Rattle.ref_share.proofs.Common.{NamedStep, Fault, HoldName, Reply, HeldNotice, CleanView, TakesJob, makes_phantom}
 use Rattle.ref_share.proofs.Common.{HeapView, Releases, Called}
 use Rattle.ref_base.specs.declared.reply.Reply.TheVariants as told

@@ -1,5 +1,5 @@
 -- What callers do about the faults of shared heaps and queues, and what is left in what ends (this project's profile).
-use Rattle.std.specs.Prelude.{ℕ, List, length, Option, Some, None, Result, Ok, Err}
+use Rattle.std.specs.Prelude.{ℕ, length, Option, Some, None, Result, Ok, Err}
 use Rattle.ref_base.specs.declared.fault.Fault.{Fault}
 use Rattle.ref_share.specs.QueueStates.{NoticeLists}
 use Rattle.ref_share.specs.declared.answers.ShareFault.{ShareFault}

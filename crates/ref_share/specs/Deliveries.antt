@@ -1,6 +1,6 @@
 -- From the heap to a queue: which calls `enqueue` and `deliver_one` have made, and what they answer (this project's
 -- profile; Java SE 17 has `Reference.enqueue`).
-use Rattle.std.specs.Prelude.{◌≡◌, ℕ, ◌<◌, ◌≤◌, ◌⊎◌, Bool, true, false, List, length, Option, Some, None, Result, Ok}
+use Rattle.std.specs.Prelude.{◌≡◌, ℕ, ◌<◌, ◌≤◌, ◌⊎◌, Bool, true, false, List, length, Some, None, Result, Ok}
 use Rattle.std.specs.Prelude.{Err, slice_get, slice_set}
 use Rattle.ref_base.specs.HeapSteps.{NamedStep}
 use Rattle.ref_base.specs.declared.fault.Fault.{Fault}

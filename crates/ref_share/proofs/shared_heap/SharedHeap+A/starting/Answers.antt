@@ -1,5 +1,5 @@
 use Rattle.std.proofs.Common.{refl, ap}
-use Rattle.ref_share.proofs.Common.{ClearHeap, StandsFor, IsHeapMove, first_heap_state}
+use Rattle.ref_share.proofs.Common.{StandsFor, IsHeapMove, first_heap_state}
 use Rattle.ref_share.proofs.Seats.{first_seat}
 use Rattle.ref_share.proofs.shared_heap.SharedHeap+A.starting.Goals as goal
 use Rattle.ref_world.specs.WorldHeaps.{heap_no_of}
