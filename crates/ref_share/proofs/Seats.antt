@@ -1,11 +1,11 @@
 -- The seats of a turn that began with a machine in a known state stay such seats.
-use Rattle.std.proofs.Common.{◌≡◌, ℕ, List, Some, refl, sym, ◌∙◌, subst, Result, Ok, Err, IfOk, IfErr}
+use Rattle.std.proofs.Common.{◌≡◌, ℕ, List, refl, sym, ◌∙◌, subst, Result, Ok, Err, IfOk, IfErr}
 use Rattle.ref_share.proofs.Common.{Leads, calls_by, entry, EndsAs, Extends, Longer, view, Entry, View, IsSeatFrom}
-use Rattle.ref_turn.specs.Seats.{IsSame, IsHistory, Begins, IsFirst}
+use Rattle.ref_turn.specs.Seats.{IsSame, IsHistory, IsFirst}
 use Rattle.ref_turn.specs.Turns.{IsBeside, IsSeatOf}
 use Rattle.ref_turn.specs.declared.turn.SeatOf.{SeatOf}
 use Rattle.ref_turn.specs.declared.turn.Turn.{Turn}
-use Rattle.ref_share.specs.StartedSeats.{IsHistoryFrom, IsFirstFrom, IsLeftFrom}
+use Rattle.ref_share.specs.StartedSeats.{IsFirstFrom, IsLeftFrom}
 
 -- a call that was made, or was not, leaves its own seat
 pub same_either_way : {M S R T E : Type 0} (result : Result T E) (v w : View M S R) (made : T → Entry S R)

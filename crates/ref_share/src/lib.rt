@@ -3,8 +3,8 @@
 //! what threads do, turn by turn; and a thread that polls a queue never waits for the heap.
 //!
 //! `heap_machine`, `queue_machine` and `clean_machine` say what one step is, `shared` is such a machine behind a turn,
-//! with its seats, and `shared_heap`, `shared_queue` and `shared_cleaner` are that at each of the three. `heap_calls` has
-//! the heap's calls by what they answer, and `delivery` carries a notice from the heap to its queue.
+//! with its seats, and `shared_heap`, `shared_queue` and `shared_cleaner` are that at each of the three. `heap_calls`
+//! has the heap's calls by what they answer, and `delivery` carries a notice from the heap to its queue.
 #![tactic(auto)]
 
 mod answers;

@@ -56,7 +56,13 @@ impl<A: Allocator + Copy> SharedHeap<A> {
         match Turn::starting(alloc, HeapMachine { heap }, first) {
             Ok((turn, seat)) => {
                 let frame = HeapFrame { config, heap_no };
-                Ok((Shared { turn, frame }, SeatFor { seat, number: heap_no }))
+                Ok((
+                    Shared { turn, frame },
+                    SeatFor {
+                        seat,
+                        number: heap_no,
+                    },
+                ))
             }
             Err((fault, _)) => Err(fault),
         }
