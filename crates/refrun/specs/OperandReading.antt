@@ -5,7 +5,7 @@ use Rattle.ref_base.specs.Texts.{Word, Letters}
 use Rattle.refrun.specs.Lines.{words_of}
 use Rattle.refrun.specs.Spelling.{AreSpelt}
 use Rattle.refrun.specs.StepFaults.{fits}
-use Rattle.refrun.specs.StepForms.{Operand}
+use Rattle.refrun.specs.StepForms.{Operand, Form, operands_in}
 use Rattle.refrun.specs.declared.fault.LineFault.{LineFault}
 use Rattle.refrun.specs.declared.fault.LineFault.TheVariants.{MissingWord, BadWord, ExtraWord}
 use Rattle.refrun.specs.declared.operands.Operands.{Operands}
@@ -77,3 +77,9 @@ IsReadNamed operands name a b other = ⊥
 abbrev pub IsReadBehind : Option (List Operand) → Word → List ℕ → Reading → Reading → List Word → Type 0
 IsReadBehind operands actor name a b [] = ⊥
 IsReadBehind operands actor name a b (first ∷ words) = (first ≡ actor) × IsReadNamed operands name a b words
+
+-- the step of an actor with a name, if it is one of these, and how its operands were read
+abbrev pub IsReadAs : {A : Type 0} → (A → List Word) → List Form → Word → List ℕ → Operands → Operands → Option A → Type 0
+IsReadAs words forms actor name old new None = operands_in forms name ≡ None
+IsReadAs words forms actor name old new (Some step) =
+    IsReadBehind (operands_in forms name) actor name (reading old) (reading new) (words step)

@@ -4,12 +4,13 @@ ghost use Rattle.std.specs.Prelude.{◌≡◌, ◌∷◌, [], ◌++◌, MatchRes
 ghost use Rattle.ref_base.specs.Steps.{strength_name, step_words};
 ghost use Rattle.ref_base.specs.Texts.{Numbered, mutator, worker};
 ghost use Rattle.refrun.specs.Lines.{words_of};
-ghost use Rattle.refrun.specs.OperandReading.{reading, IsReadNamed, IsReadBehind};
+ghost use Rattle.refrun.specs.OperandReading.{reading, IsReadNamed, IsReadBehind, IsReadAs};
 ghost use Rattle.refrun.specs.ScriptSteps.{script_step_words};
 ghost use Rattle.refrun.specs.Spelling.{SpellsScriptStep};
 ghost use Rattle.refrun.specs.StepFaults.{actor_fault, step_fault};
 ghost use Rattle.refrun.specs.StepForms.{operands_in, forms_of_letter, job_forms, mutator_forms, slot_forms};
-ghost use Rattle.refrun.specs.StepForms.{reference_forms, notice_forms, worker_forms, turn_forms, Slot, QueueOrNone, Number};
+ghost use Rattle.refrun.specs.StepForms.{reference_forms, notice_forms, worker_forms, turn_forms};
+ghost use Rattle.refrun.specs.StepForms.{Slot, QueueOrNone, Number};
 
 use crate::fault::LineFault;
 use crate::lines::next_word;
@@ -51,9 +52,8 @@ fn named_step(
     name: &[u8],
     operands: &mut Operands<'_>,
 ) -> Option<ScriptStep>
-    ensures { MatchOption result (operands_in (forms_of_letter letter) name.now ≡ None)
-        (λ step. IsReadBehind (operands_in (forms_of_letter letter) name.now) (Numbered (letter ∷ []) number) name.now
-        (reading operands.old) (reading operands.new) (script_step_words step)) }
+    ensures { IsReadAs script_step_words (forms_of_letter letter) (Numbered (letter ∷ []) number) name.now operands.old
+        operands.new result }
 {
     match letter {
         b'm' => job_step(MutNo(number), name, operands),
@@ -64,9 +64,8 @@ fn named_step(
 
 /// The step of a mutator: with a job, or of the world.
 fn job_step(by: MutNo, name: &[u8], operands: &mut Operands<'_>) -> Option<ScriptStep>
-    ensures { MatchOption result (operands_in (job_forms ++ mutator_forms) name.now ≡ None)
-        (λ step. IsReadBehind (operands_in (job_forms ++ mutator_forms) name.now) (mutator by) name.now (reading operands.old)
-        (reading operands.new) (script_step_words step)) }
+    ensures { IsReadAs script_step_words (job_forms ++ mutator_forms) (mutator by) name.now operands.old
+        operands.new result }
 {
     if name == b"job".as_slice() {
         return Some(ScriptStep::Job {
@@ -86,9 +85,7 @@ fn job_step(by: MutNo, name: &[u8], operands: &mut Operands<'_>) -> Option<Scrip
 
 /// The step of a mutator in the world: one that makes an object, or another.
 fn making_step(by: MutNo, name: &[u8], operands: &mut Operands<'_>) -> Option<Step>
-    ensures { MatchOption result (operands_in mutator_forms name.now ≡ None)
-        (λ step. IsReadBehind (operands_in mutator_forms name.now) (mutator by) name.now (reading operands.old)
-        (reading operands.new) (step_words step)) }
+    ensures { IsReadAs step_words mutator_forms (mutator by) name.now operands.old operands.new result }
 {
     if name == b"new".as_slice() {
         return Some(Step::New {
@@ -126,9 +123,8 @@ fn refer(by: MutNo, strength: Strength, operands: &mut Operands<'_>) -> Step
 
 /// The step of a mutator with slots and fields, or with what stands in them.
 fn slot_step(by: MutNo, name: &[u8], operands: &mut Operands<'_>) -> Option<Step>
-    ensures { MatchOption result (operands_in (slot_forms ++ reference_forms ++ notice_forms) name.now ≡ None)
-        (λ step. IsReadBehind (operands_in (slot_forms ++ reference_forms ++ notice_forms) name.now) (mutator by) name.now (reading operands.old)
-        (reading operands.new) (step_words step)) }
+    ensures { IsReadAs step_words (slot_forms ++ reference_forms ++ notice_forms) (mutator by) name.now operands.old
+        operands.new result }
 {
     if name == b"store".as_slice() {
         return Some(Step::Store {
@@ -164,9 +160,8 @@ fn slot_step(by: MutNo, name: &[u8], operands: &mut Operands<'_>) -> Option<Step
 
 /// The step of a mutator with a reference, or with a queue or a notice.
 fn reference_step(by: MutNo, name: &[u8], operands: &mut Operands<'_>) -> Option<Step>
-    ensures { MatchOption result (operands_in (reference_forms ++ notice_forms) name.now ≡ None)
-        (λ step. IsReadBehind (operands_in (reference_forms ++ notice_forms) name.now) (mutator by) name.now (reading operands.old)
-        (reading operands.new) (step_words step)) }
+    ensures { IsReadAs step_words (reference_forms ++ notice_forms) (mutator by) name.now operands.old
+        operands.new result }
 {
     if name == b"get".as_slice() {
         return Some(Step::Get {
@@ -199,9 +194,7 @@ fn reference_step(by: MutNo, name: &[u8], operands: &mut Operands<'_>) -> Option
 
 /// The step of a mutator with a queue or a notice.
 fn notice_step(by: MutNo, name: &[u8], operands: &mut Operands<'_>) -> Option<Step>
-    ensures { MatchOption result (operands_in notice_forms name.now ≡ None)
-        (λ step. IsReadBehind (operands_in notice_forms name.now) (mutator by) name.now (reading operands.old)
-        (reading operands.new) (step_words step)) }
+    ensures { IsReadAs step_words notice_forms (mutator by) name.now operands.old operands.new result }
 {
     if name == b"put".as_slice() {
         return Some(Step::Put {
@@ -236,9 +229,7 @@ fn notice_step(by: MutNo, name: &[u8], operands: &mut Operands<'_>) -> Option<St
 
 /// The step of a worker, which has no operands.
 fn worker_step(by: WorkerNo, name: &[u8], operands: &mut Operands<'_>) -> Option<Step>
-    ensures { MatchOption result (operands_in worker_forms name.now ≡ None)
-        (λ step. IsReadBehind (operands_in worker_forms name.now) (worker by) name.now (reading operands.old)
-        (reading operands.new) (step_words step)) }
+    ensures { IsReadAs step_words worker_forms (worker by) name.now operands.old operands.new result }
 {
     if name == b"scan".as_slice() {
         return Some(Step::Scan { worker: by });
