@@ -5,6 +5,7 @@ pub mod Cuts
 pub mod Digits
 pub mod Fields
 pub mod StepForms
+pub mod OperandReads
 pub mod Spelt
 pub mod LineLemmas
 pub mod DeclaredSpelt

@@ -1,15 +1,15 @@
 -- A text spells at most one script.
-use Rattle.std.proofs.Common.{◌≡◌, ℕ, ◌^◌, false, List, [], ◌∷◌, Option, Some, None, codes, refl, sym, ap, ◌∙◌, subst}
+use Rattle.std.proofs.Common.{◌≡◌, ℕ, ◌^◌, false, List, [], ◌∷◌, Option, Some, None, refl, sym, ap, ◌∙◌, subst}
 use Rattle.std.specs.Str.{bytes_eq}
 use Rattle.std.proofs.lemmas.Bool.{false≢true}
 use Rattle.std.proofs.lemmas.Slice.Eq.{bytes_eq-Decides}
-use Rattle.refrun.proofs.Common.{Word, Letters, Long, slot, queue, queue_or_none, number, urgency_name, Config}
-use Rattle.refrun.proofs.Common.{lines_of, number_below, number_behind, IsSpelt, AreSpelt, SpellsScriptStep, Operand}
-use Rattle.refrun.proofs.Common.{Slot, Queue, QueueOrNone, Number, Clock, UrgencyName, operands_in, forms_of_letter}
+use Rattle.refrun.proofs.Common.{Word, Config}
+use Rattle.refrun.proofs.Common.{lines_of, number_below, IsSpelt, AreSpelt, SpellsScriptStep, Operand}
+use Rattle.refrun.proofs.Common.{operands_in, forms_of_letter}
 use Rattle.refrun.proofs.Common.{turn_forms, told, script_step_words, ScriptStep, config_of, SpellSteps, SpellScript}
 use Rattle.refrun.proofs.Common.{IsScript}
 use Rattle.refrun.proofs.Rebuilding.{rebuild, rebuilt}
-use Rattle.refrun.proofs.Spelt.{actor_number, no_turn}
+use Rattle.refrun.proofs.Spelt.{actor_number, no_turn, word_as, says_it}
 use Rattle.refrun.proofs.StepForms.{IsOf, AreOf, Lead, By, Turn, words_behind, forms_of, form_of_step}
 
 pub some_is : {A : Type 0} (o : Option A) (x y : A) → o ≡ Some x → o ≡ Some y → x ≡ y
@@ -32,38 +32,10 @@ pub other_name : (word name other : List ℕ) → word ≡ name → word ≡ oth
 other_name word name other h k differ = let same = (bytes_eq-Decides name other).1 (sym h
     ∙ k) in absurd (false≢true (sym differ ∙ same))
 
--- the queue that a word spells, or none
-one_queue : (w : List ℕ) (q r : Option ℕ) → IsSpelt w (queue_or_none q) → IsSpelt w (queue_or_none r) → q ≡ r
-one_queue w None None h k = refl
-one_queue w (Some q) (Some r) h k = ap (λ x. Some x) (some_is (number_behind (codes "q") w) q r h k)
-one_queue w None (Some r) h k = absurd (not_both _ r (ap (number_behind (codes "q")) h) k)
-one_queue w (Some q) None h k = absurd (not_both _ q (ap (number_behind (codes "q")) k) h)
-
 -- a word spells at most one of an operand
 one_word : (operand : Operand) (w : List ℕ) (u v : Word) → IsOf operand u → IsOf operand v → IsSpelt w u → IsSpelt w v
     → u ≡ v
-one_word Slot w u v of og h k =
-    let hs : IsSpelt w (slot of.0) = subst (IsSpelt w) of.1 h in
-    let ks : IsSpelt w (slot og.0) = subst (IsSpelt w) og.1 k in
-    of.1 ∙ ap slot (some_is _ of.0 og.0 hs ks) ∙ sym og.1
-one_word Queue w u v of og h k =
-    let hs : IsSpelt w (queue of.0) = subst (IsSpelt w) of.1 h in
-    let ks : IsSpelt w (queue og.0) = subst (IsSpelt w) og.1 k in
-    of.1 ∙ ap queue (some_is _ of.0 og.0 hs ks) ∙ sym og.1
-one_word QueueOrNone w u v of og h k =
-    of.1 ∙ ap queue_or_none (one_queue w of.0 og.0 (subst (IsSpelt w) of.1 h) (subst (IsSpelt w) og.1 k)) ∙ sym og.1
-one_word Number w u v of og h k =
-    let hs : IsSpelt w (number of.0) = subst (IsSpelt w) of.1 h in
-    let ks : IsSpelt w (number og.0) = subst (IsSpelt w) og.1 k in
-    of.1 ∙ ap number (some_is _ of.0 og.0 hs ks) ∙ sym og.1
-one_word Clock w u v of og h k =
-    let hs : IsSpelt w (Long of.0) = subst (IsSpelt w) of.1 h in
-    let ks : IsSpelt w (Long og.0) = subst (IsSpelt w) og.1 k in
-    of.1 ∙ ap (λ n. Long n) (some_is _ of.0 og.0 hs ks) ∙ sym og.1
-one_word UrgencyName w u v of og h k =
-    let hs : w ≡ urgency_name of.0 = subst (IsSpelt w) of.1 h in
-    let ks : w ≡ urgency_name og.0 = subst (IsSpelt w) og.1 k in
-    of.1 ∙ ap (λ (name : List ℕ). Letters name) (sym hs ∙ ks) ∙ sym og.1
+one_word operand w u v of og h k = some_is (word_as operand w) u v (says_it operand w u of h) (says_it operand w v og k)
 
 one_spelling : (operands : List Operand) (words : List (List ℕ)) (us vs : List Word) → AreOf operands us
     → AreOf operands vs → AreSpelt words us → AreSpelt words vs → us ≡ vs

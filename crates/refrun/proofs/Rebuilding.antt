@@ -85,37 +85,19 @@ rebuild ws = scripts.World EndMark
 
 world_rebuilt : (step : Step) → rebuild (step_words step) ≡ scripts.World step
 unfolding rebuild behind_actor by_mutator by_mutator_of_world by_worker turn number_in queue_in urgency_in at queue_of
-world_rebuilt (New m s n) = refl
 world_rebuilt (Refer m Soft s r None n) = refl
 world_rebuilt (Refer m Soft s r (Some q) n) = refl
 world_rebuilt (Refer m Weak s r None n) = refl
 world_rebuilt (Refer m Weak s r (Some q) n) = refl
 world_rebuilt (Refer m Phantom s r None n) = refl
 world_rebuilt (Refer m Phantom s r (Some q) n) = refl
-world_rebuilt (Store m s i v) = refl
-world_rebuilt (Load m d s i) = refl
-world_rebuilt (Copy m d s) = refl
-world_rebuilt (Drop m s) = refl
-world_rebuilt (Get m d r) = refl
-world_rebuilt (Clear m r) = refl
-world_rebuilt (RefersTo m r s) = refl
-world_rebuilt (Unhook m r) = refl
 world_rebuilt (Put (Mutator m)) = refl
 world_rebuilt (Put (Worker w)) = refl
-world_rebuilt (Poll m q) = refl
-world_rebuilt (Adopt m s) = refl
 world_rebuilt (Release (Mutator m)) = refl
 world_rebuilt (Release (Worker w)) = refl
-world_rebuilt (Close m q) = refl
 world_rebuilt (Begin now Normal) = refl
 world_rebuilt (Begin now Urgent) = refl
-world_rebuilt (Scan w) = refl
-world_rebuilt EndMark = refl
-world_rebuilt (ClearNext w) = refl
-world_rebuilt EndClear = refl
-world_rebuilt (Hand w) = refl
-world_rebuilt (Sweep w) = refl
-world_rebuilt EndSweep = refl
+world_rebuilt step = refl
 
 pub rebuilt : (step : ScriptStep) → rebuild (script_step_words step) ≡ step
 unfolding rebuild behind_actor by_mutator number_in at

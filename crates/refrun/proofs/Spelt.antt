@@ -1,8 +1,10 @@
 -- Words that spell a step have no fault.
 use Rattle.std.proofs.Common.{◌≡◌, ℕ, suc, ◌^◌, true, false, ◌==◌, nat_lt, List, [], ◌∷◌, length, Option, Some, None}
-use Rattle.std.proofs.Common.{is_some, codes, refl, ap, subst, inl, inr, arith}
-use Rattle.std.proofs.lemmas.Bool.{cases_Bool, le-ltb, eqb-true, or_right}
-use Rattle.refrun.proofs.Common.{Word, Long, slot, queue, number, queue_or_none, urgency_name, Urgency, Normal, Urgent}
+use Rattle.std.proofs.Common.{is_some, codes, refl, ap, ◌∙◌, subst, if◌then◌else◌, inl, inr, arith}
+use Rattle.std.proofs.lemmas.Bool.{cases_Bool, le-ltb, eqb-true}
+use Rattle.std.specs.Str.{bytes_eq}
+use Rattle.std.proofs.lemmas.Slice.Eq.{bytes_eq-Decides}
+use Rattle.refrun.proofs.Common.{Word, Letters, Long, slot, queue, number, queue_or_none, Normal, Urgent}
 use Rattle.refrun.proofs.Common.{number_below, number_behind, IsSpelt, AreSpelt, SpellsScriptStep, ScriptStep, Operand}
 use Rattle.refrun.proofs.Common.{Slot, Queue, QueueOrNone, Number, Clock, UrgencyName, operands_in, forms_of_letter}
 use Rattle.refrun.proofs.Common.{turn_forms, step_fault}
@@ -31,25 +33,53 @@ no_turn letter number name operands known =
       ]
     ]
 
-urgency_fits : (urgency : Urgency) → fits UrgencyName (urgency_name urgency) ≡ true
-urgency_fits Normal = refl
-urgency_fits Urgent = refl
+-- what a word says as an operand
+abbrev said : (ℕ → Word) → Option ℕ → Option Word
+said spell None = None
+said spell (Some n) = Some (spell n)
 
-queue_or_none_fits : (word : List ℕ) (q : Option ℕ) → IsSpelt word (queue_or_none q) → fits QueueOrNone word ≡ true
-queue_or_none_fits word (Some n) h = let number : is_some (number_behind (codes "q") word) ≡ true =
-    ap is_some h in or_right _ _ number
-queue_or_none_fits word None h = rw h refl
+abbrev pub word_as : Operand → List ℕ → Option Word
+word_as Slot word = said slot (number_behind (codes "s") word)
+word_as Queue word = said queue (number_behind (codes "q") word)
+word_as QueueOrNone word =
+    if bytes_eq word (codes "-") then Some (Letters word) else said queue (number_behind (codes "q") word)
+word_as Number word = said number (number_below (2 ^ 32) word)
+word_as Clock word = said (λ n. Long n) (number_below (2 ^ 64) word)
+word_as UrgencyName word = if fits UrgencyName word then Some (Letters word) else None
 
--- a word that spells one of the operand is of its form
-operand_fits : (operand : Operand) (word : List ℕ) (v : Word) → IsOf operand v → IsSpelt word v
-    → fits operand word ≡ true
-operand_fits Slot word v of h = let same : IsSpelt word (slot of.0) = subst (IsSpelt word) of.1 h in ap is_some same
-operand_fits Queue word v of h = let same : IsSpelt word (queue of.0) = subst (IsSpelt word) of.1 h in ap is_some same
-operand_fits QueueOrNone word v of h = queue_or_none_fits word of.0 (subst (IsSpelt word) of.1 h)
-operand_fits Number word v of h = let same : IsSpelt word (number of.0) = subst (IsSpelt word) of.1 h in ap is_some same
-operand_fits Clock word v of h = let same : IsSpelt word (Long of.0) = subst (IsSpelt word) of.1 h in ap is_some same
-operand_fits UrgencyName word v of h =
-    let same : word ≡ urgency_name of.0 = subst (IsSpelt word) of.1 h in rw same (urgency_fits of.0)
+-- a word that spells one of the operand says it
+pub says_it : (operand : Operand) (word : List ℕ) (v : Word) → IsOf operand v → IsSpelt word v
+    → word_as operand word ≡ Some v
+says_it Slot word v (n, is) h = rw (is, subst (IsSpelt word) is h) refl
+says_it Queue word v (n, is) h = rw (is, subst (IsSpelt word) is h) refl
+says_it QueueOrNone word v (q, is) h = rw is (queue_said q (subst (IsSpelt word) is h))
+  where
+    queue_said : (r : Option ℕ) → IsSpelt word (queue_or_none r) → word_as QueueOrNone word ≡ Some (queue_or_none r)
+    queue_said None k = rw k refl
+    queue_said (Some n) k = elim (cases_Bool (bytes_eq word (codes "-"))) [
+      | inl is_dash ↦ let none : number_behind (codes "q") word ≡ None =
+          rw ((bytes_eq-Decides word (codes "-")).0 is_dash) refl in absurd cc
+      | inr isnt ↦ simp (isnt, k) refl
+    ]
+says_it Number word v (n, is) h = rw (is, subst (IsSpelt word) is h) refl
+says_it Clock word v (n, is) h = rw (is, subst (IsSpelt word) is h) refl
+says_it UrgencyName word v (Normal, is) h = rw (is, subst (IsSpelt word) is h) refl
+says_it UrgencyName word v (Urgent, is) h = rw (is, subst (IsSpelt word) is h) refl
+
+some_said : (spell : ℕ → Word) (o : Option ℕ) → is_some o ≡ is_some (said spell o)
+some_said spell None = refl
+some_said spell (Some n) = refl
+
+fits_as : (operand : Operand) (word : List ℕ) → fits operand word ≡ is_some (word_as operand word)
+fits_as Slot word = some_said slot (number_behind (codes "s") word)
+fits_as Queue word = some_said queue (number_behind (codes "q") word)
+fits_as QueueOrNone word = elim (cases_Bool (bytes_eq word (codes "-"))) [
+  | inl is ↦ simp is refl
+  | inr isnt ↦ simp isnt (some_said queue (number_behind (codes "q") word))
+]
+fits_as Number word = some_said number (number_below (2 ^ 32) word)
+fits_as Clock word = some_said (λ n. Long n) (number_below (2 ^ 64) word)
+fits_as UrgencyName word = elim (cases_Bool (fits UrgencyName word)) [ inl is ↦ simp is refl | inr isnt ↦ simp isnt refl ]
 
 operands_fit : (operands : List Operand) (words : List (List ℕ)) (vs : List Word) → AreOf operands vs
     → AreSpelt words vs → (length words ≡ length operands) × (all_fit operands words ≡ true)
@@ -60,7 +90,7 @@ operands_fit (o ∷ operands) words [] of h = absurd of
 operands_fit (o ∷ operands) [] (v ∷ vs) of h = absurd h
 operands_fit (o ∷ operands) (w ∷ ws) (v ∷ vs) of h =
     let rest = operands_fit operands ws vs of.1 h.1 in
-    (ap suc rest.0, simp (operand_fits o w v of.0 h.0) rest.1)
+    (ap suc rest.0, simp (fits_as o w ∙ ap is_some (says_it o w v of.0 h.0)) rest.1)
 
 operands_without_fault : (operands : List Operand) (words : List (List ℕ)) (vs : List Word) → AreOf operands vs
     → AreSpelt words vs → operand_fault operands words ≡ None

@@ -1,9 +1,9 @@
 -- Each step has a form of the table: an actor or none, a name, and operands behind it.
-use Rattle.std.proofs.Common.{◌≡◌, ℕ, List, [], ◌∷◌, Option, Some, codes, refl}
+use Rattle.std.proofs.Common.{◌≡◌, ℕ, List, [], ◌∷◌, Option, Some, codes, refl, rules}
 use Rattle.refrun.proofs.Common.{Word, Letters, Numbered, Long, slot, queue, queue_or_none, number, step_words}
 use Rattle.refrun.proofs.Common.{strength_name, urgency_name, Mutator, Worker, Strength, Soft, Weak, Phantom, Urgency}
-use Rattle.refrun.proofs.Common.{Step, New, Refer, Store, Load, Copy, Drop, Get, Clear, RefersTo, Unhook, Put, Poll}
-use Rattle.refrun.proofs.Common.{Adopt, Release, Close, Begin, Scan, EndMark, ClearNext, EndClear, Hand, Sweep}
+use Rattle.refrun.proofs.Common.{Step, New, Refer, Store, Load, Put}
+use Rattle.refrun.proofs.Common.{Release, Begin, EndMark, EndClear}
 use Rattle.refrun.proofs.Common.{EndSweep, script_step_words, ScriptStep, Operand, Slot, Queue, QueueOrNone, Number}
 use Rattle.refrun.proofs.Common.{Clock, UrgencyName, operands_in, forms_of_letter, turn_forms}
 use Rattle.refrun.specs.declared.script_step.ScriptStep.TheVariants as scripts
@@ -103,29 +103,17 @@ form_of_world_step (Store m s i v) =
 form_of_world_step (Load m d s i) =
     has_form (By 109 m) (codes "load") (Slot ∷ Slot ∷ Number ∷ []) (slot d ∷ slot s ∷ number i ∷ []) refl
     ((d, refl), ((s, refl), ((i, refl), tt)))
-form_of_world_step (Copy m d s) = at_slots m d s (codes "copy") refl
-form_of_world_step (Drop m s) = at_slot m s (codes "drop") refl
-form_of_world_step (Get m d r) = at_slots m d r (codes "get") refl
-form_of_world_step (Clear m r) = at_slot m r (codes "clear") refl
-form_of_world_step (RefersTo m r s) = at_slots m r s (codes "refers") refl
-form_of_world_step (Unhook m r) = at_slot m r (codes "unhook") refl
 form_of_world_step (Put (Mutator m)) = alone 109 m (codes "put") refl
 form_of_world_step (Put (Worker w)) = alone 119 w (codes "put") refl
-form_of_world_step (Poll m q) = at_queue m q (codes "poll") refl
-form_of_world_step (Adopt m s) = at_slot m s (codes "adopt") refl
 form_of_world_step (Release (Mutator m)) = alone 109 m (codes "release") refl
 form_of_world_step (Release (Worker w)) = alone 119 w (codes "release") refl
-form_of_world_step (Close m q) = at_queue m q (codes "close") refl
 form_of_world_step (Begin now urgency) =
     has_form Turn (codes "begin") (Clock ∷ UrgencyName ∷ []) (Long now ∷ Letters (urgency_name urgency) ∷ []) refl
     ((now, refl), ((urgency, refl), tt))
-form_of_world_step (Scan w) = alone 119 w (codes "scan") refl
 form_of_world_step EndMark = has_form Turn (codes "endmark") [] [] refl tt
-form_of_world_step (ClearNext w) = alone 119 w (codes "clearnext") refl
 form_of_world_step EndClear = has_form Turn (codes "endclear") [] [] refl tt
-form_of_world_step (Hand w) = alone 119 w (codes "hand") refl
-form_of_world_step (Sweep w) = alone 119 w (codes "sweep") refl
 form_of_world_step EndSweep = has_form Turn (codes "endsweep") [] [] refl tt
+form_of_world_step step = search (rules, alone, at_slot, at_slots, at_queue)
 
 pub form_of_step : (step : ScriptStep) → HasForm (script_step_words step)
 form_of_step (scripts.World step) = form_of_world_step step

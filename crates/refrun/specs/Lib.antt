@@ -6,6 +6,7 @@ pub mod ScriptSteps
 pub mod Spelling
 pub mod StepForms
 pub mod StepFaults
+pub mod OperandReading
 pub mod ToldLines
 pub mod Scripts
 pub mod Declarations

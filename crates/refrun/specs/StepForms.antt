@@ -19,14 +19,19 @@ pub record Form : Type 0 where
 abbrev pub form : List ℕ → List Operand → Form
 form name operands = record { name = name; operands = operands }
 
--- the steps of a mutator: those of objects, those of references, and those of queues and notices
-abbrev pub object_forms : List Form
-object_forms =
+-- the steps of a mutator: those that make objects, those of slots and fields, those of references, and those of queues
+-- and notices
+abbrev pub making_forms : List Form
+making_forms =
     form (codes "new") (Slot ∷ Number ∷ [])
     ∷ form (codes "soft") (Slot ∷ Slot ∷ QueueOrNone ∷ Number ∷ [])
     ∷ form (codes "weak") (Slot ∷ Slot ∷ QueueOrNone ∷ Number ∷ [])
     ∷ form (codes "phantom") (Slot ∷ Slot ∷ QueueOrNone ∷ Number ∷ [])
-    ∷ form (codes "store") (Slot ∷ Number ∷ Slot ∷ [])
+    ∷ []
+
+abbrev pub slot_forms : List Form
+slot_forms =
+    form (codes "store") (Slot ∷ Number ∷ Slot ∷ [])
     ∷ form (codes "load") (Slot ∷ Slot ∷ Number ∷ [])
     ∷ form (codes "copy") (Slot ∷ Slot ∷ [])
     ∷ form (codes "drop") (Slot ∷ [])
@@ -51,7 +56,7 @@ notice_forms =
 
 -- the steps of a mutator in the world
 abbrev pub mutator_forms : List Form
-mutator_forms = object_forms ++ reference_forms ++ notice_forms
+mutator_forms = making_forms ++ slot_forms ++ reference_forms ++ notice_forms
 
 -- and its steps of jobs
 abbrev pub job_forms : List Form

@@ -1,19 +1,22 @@
-//! A line of a script, read as a step.
+//! A line of a script, read as a step: each function over names has one list of the steps.
 
-ghost use Rattle.std.specs.Prelude.{◌≡◌, ◌∷◌, MatchResult, IfOk, IfErr, Some};
+ghost use Rattle.std.specs.Prelude.{◌≡◌, ◌∷◌, [], ◌++◌, MatchResult, MatchOption, Some, None};
+ghost use Rattle.ref_base.specs.Steps.{strength_name, step_words};
+ghost use Rattle.ref_base.specs.Texts.{Numbered, mutator, worker};
 ghost use Rattle.refrun.specs.Lines.{words_of};
-ghost use Rattle.refrun.specs.Spelling.{SpellsScriptStep, SpellsStep};
-ghost use Rattle.refrun.specs.StepFaults.{named_fault, actor_fault, step_fault};
-ghost use Rattle.std.specs.Prelude.{◌++◌};
-ghost use Rattle.refrun.specs.StepForms.{operands_in, job_forms, mutator_forms, worker_forms};
+ghost use Rattle.refrun.specs.OperandReading.{reading, IsReadNamed, IsReadBehind, IsReadAs};
+ghost use Rattle.refrun.specs.ScriptSteps.{script_step_words};
+ghost use Rattle.refrun.specs.Spelling.{SpellsScriptStep};
+ghost use Rattle.refrun.specs.StepFaults.{actor_fault, step_fault};
+ghost use Rattle.refrun.specs.StepForms.{operands_in, forms_of_letter, job_forms, mutator_forms, slot_forms};
+ghost use Rattle.refrun.specs.StepForms.{reference_forms, notice_forms, worker_forms, turn_forms};
+ghost use Rattle.refrun.specs.StepForms.{Slot, QueueOrNone, Number};
 
 use crate::fault::LineFault;
 use crate::lines::next_word;
-use crate::mutator_steps::mutator_step;
-use crate::operands::ends;
+use crate::operands::Operands;
 use crate::script_step::ScriptStep;
-use crate::shapes::{alone, at_slot, at_slot_and_count, clock_and_urgency};
-use ref_base::{Actor, Step, WorkerNo};
+use ref_base::{Actor, MutNo, Step, Strength, WorkerNo};
 
 /// The step that a line spells, or the first of its faults by kind.
 pub fn step_of(line: &[u8]) -> Result<ScriptStep, LineFault>
@@ -21,88 +24,258 @@ pub fn step_of(line: &[u8]) -> Result<ScriptStep, LineFault>
         (words_of line.now) ≡ Some fault) }
 {
     let (first, rest) = next_word(line).ok_or(LineFault::UnknownStep)?;
-    if first == b"begin".as_slice() {
-        let (now, urgency) = clock_and_urgency(rest)?;
-        return Ok(ScriptStep::World(Step::Begin { now, urgency }));
-    }
-    if first == b"endmark".as_slice() {
-        ends(rest)?;
-        return Ok(ScriptStep::World(Step::EndMark));
-    }
-    if first == b"endclear".as_slice() {
-        ends(rest)?;
-        return Ok(ScriptStep::World(Step::EndClear));
-    }
-    if first == b"endsweep".as_slice() {
-        ends(rest)?;
-        return Ok(ScriptStep::World(Step::EndSweep));
-    }
-    actor_step(first, rest)
+    let mut operands = Operands::new(rest);
+    let Some(step) = turn(first, &mut operands) else {
+        return actor_step(first, rest);
+    };
+    operands.end(ScriptStep::World(step))
 }
 
 /// The step of a mutator or a worker.
 fn actor_step(actor: &[u8], rest: &[u8]) -> Result<ScriptStep, LineFault>
-    ensures found { IfOk result (SpellsScriptStep (actor.now ∷ words_of rest.now)) }
-    ensures fault { IfErr result (λ fault. actor_fault actor.now (words_of rest.now) ≡ Some fault) }
+    ensures { MatchResult result (SpellsScriptStep (actor.now ∷ words_of rest.now)) (λ fault. actor_fault actor.now
+        (words_of rest.now) ≡ Some fault) }
 {
     let (name, rest) = next_word(rest).ok_or(LineFault::UnknownStep)?;
-    match actor.split_first() {
-        Some((b'm', number)) => job_step(number, name, rest),
-        Some((b'w', number)) => Ok(ScriptStep::World(worker_step(number, name, rest)?)),
-        _ => Err(LineFault::UnknownStep),
+    let (letter, number) = actor.split_first().ok_or(LineFault::UnknownStep)?;
+    let (number, mut operands) = Operands::of_actor(number, rest);
+    let Some(step) = named_step(*letter, number, name, &mut operands) else {
+        return Err(LineFault::UnknownStep);
+    };
+    operands.end(step)
+}
+
+/// The step of an actor of this letter and number.
+fn named_step(
+    letter: u8,
+    number: u32,
+    name: &[u8],
+    operands: &mut Operands<'_>,
+) -> Option<ScriptStep>
+    ensures { IsReadAs script_step_words (forms_of_letter letter) (Numbered (letter ∷ []) number) name.now operands.old
+        operands.new result }
+{
+    match letter {
+        b'm' => job_step(MutNo(number), name, operands),
+        b'w' => Some(ScriptStep::World(worker_step(WorkerNo(number), name, operands)?)),
+        _ => None,
     }
 }
 
-/// The step of a mutator with a job, or else of the world.
-fn job_step(number: &[u8], name: &[u8], rest: &[u8]) -> Result<ScriptStep, LineFault>
-    ensures found { IfOk result (SpellsScriptStep ((109 ∷ number.now) ∷ name.now ∷ words_of rest.now)) }
-    ensures fault { IfErr result (λ fault. named_fault (operands_in (job_forms ++ mutator_forms) name.now) number.now
-        (words_of rest.now) ≡ Some fault) }
+/// The step of a mutator: with a job, or of the world.
+fn job_step(by: MutNo, name: &[u8], operands: &mut Operands<'_>) -> Option<ScriptStep>
+    ensures { IsReadAs script_step_words (job_forms ++ mutator_forms) (mutator by) name.now operands.old
+        operands.new result }
 {
     if name == b"job".as_slice() {
-        let (mutator, slot, number) = at_slot_and_count(number, rest)?;
-        return Ok(ScriptStep::Job {
-            mutator,
-            slot,
-            number,
+        return Some(ScriptStep::Job {
+            mutator: by,
+            slot: operands.slot(),
+            number: operands.number(),
         });
     }
     if name == b"run".as_slice() {
-        let (mutator, slot) = at_slot(number, rest)?;
-        return Ok(ScriptStep::Run { mutator, slot });
+        return Some(ScriptStep::Run {
+            mutator: by,
+            slot: operands.slot(),
+        });
     }
-    Ok(ScriptStep::World(mutator_step(number, name, rest)?))
+    Some(ScriptStep::World(making_step(by, name, operands)?))
 }
 
-/// The step of a worker.
-fn worker_step(number: &[u8], name: &[u8], rest: &[u8]) -> Result<Step, LineFault>
-    ensures found { IfOk result (SpellsStep ((119 ∷ number.now) ∷ name.now ∷ words_of rest.now)) }
-    ensures fault { IfErr result (λ fault. named_fault (operands_in worker_forms name.now) number.now
-        (words_of rest.now) ≡ Some fault) }
+/// The step of a mutator in the world: one that makes an object, or another.
+fn making_step(by: MutNo, name: &[u8], operands: &mut Operands<'_>) -> Option<Step>
+    ensures { IsReadAs step_words mutator_forms (mutator by) name.now operands.old operands.new result }
 {
-    if name == b"scan".as_slice() {
-        let worker = WorkerNo(alone(number, rest)?);
-        return Ok(Step::Scan { worker });
+    if name == b"new".as_slice() {
+        return Some(Step::New {
+            mutator: by,
+            slot: operands.slot(),
+            fields: operands.number(),
+        });
     }
-    if name == b"clearnext".as_slice() {
-        let worker = WorkerNo(alone(number, rest)?);
-        return Ok(Step::ClearNext { worker });
+    if name == b"soft".as_slice() {
+        return Some(refer(by, Strength::Soft, operands));
     }
-    if name == b"hand".as_slice() {
-        let worker = WorkerNo(alone(number, rest)?);
-        return Ok(Step::Hand { worker });
+    if name == b"weak".as_slice() {
+        return Some(refer(by, Strength::Weak, operands));
     }
-    if name == b"sweep".as_slice() {
-        let worker = WorkerNo(alone(number, rest)?);
-        return Ok(Step::Sweep { worker });
+    if name == b"phantom".as_slice() {
+        return Some(refer(by, Strength::Phantom, operands));
     }
+    slot_step(by, name, operands)
+}
+
+/// The step that makes a reference.
+fn refer(by: MutNo, strength: Strength, operands: &mut Operands<'_>) -> Step
+    ensures { IsReadBehind (Some (Slot ∷ Slot ∷ QueueOrNone ∷ Number ∷ [])) (mutator by) (strength_name strength)
+        (reading operands.old) (reading operands.new) (step_words result) }
+{
+    Step::Refer {
+        mutator: by,
+        strength,
+        slot: operands.slot(),
+        source: operands.slot(),
+        queue: operands.queue_or_none(),
+        fields: operands.number(),
+    }
+}
+
+/// The step of a mutator with slots and fields, or with what stands in them.
+fn slot_step(by: MutNo, name: &[u8], operands: &mut Operands<'_>) -> Option<Step>
+    ensures { IsReadAs step_words (slot_forms ++ reference_forms ++ notice_forms) (mutator by) name.now operands.old
+        operands.new result }
+{
+    if name == b"store".as_slice() {
+        return Some(Step::Store {
+            mutator: by,
+            object: operands.slot(),
+            field: operands.number(),
+            value: operands.slot(),
+        });
+    }
+    if name == b"load".as_slice() {
+        return Some(Step::Load {
+            mutator: by,
+            slot: operands.slot(),
+            object: operands.slot(),
+            field: operands.number(),
+        });
+    }
+    if name == b"copy".as_slice() {
+        return Some(Step::Copy {
+            mutator: by,
+            slot: operands.slot(),
+            source: operands.slot(),
+        });
+    }
+    if name == b"drop".as_slice() {
+        return Some(Step::Drop {
+            mutator: by,
+            slot: operands.slot(),
+        });
+    }
+    reference_step(by, name, operands)
+}
+
+/// The step of a mutator with a reference, or with a queue or a notice.
+fn reference_step(by: MutNo, name: &[u8], operands: &mut Operands<'_>) -> Option<Step>
+    ensures { IsReadAs step_words (reference_forms ++ notice_forms) (mutator by) name.now operands.old
+        operands.new result }
+{
+    if name == b"get".as_slice() {
+        return Some(Step::Get {
+            mutator: by,
+            slot: operands.slot(),
+            reference: operands.slot(),
+        });
+    }
+    if name == b"clear".as_slice() {
+        return Some(Step::Clear {
+            mutator: by,
+            reference: operands.slot(),
+        });
+    }
+    if name == b"refers".as_slice() {
+        return Some(Step::RefersTo {
+            mutator: by,
+            reference: operands.slot(),
+            other: operands.slot(),
+        });
+    }
+    if name == b"unhook".as_slice() {
+        return Some(Step::Unhook {
+            mutator: by,
+            reference: operands.slot(),
+        });
+    }
+    notice_step(by, name, operands)
+}
+
+/// The step of a mutator with a queue or a notice.
+fn notice_step(by: MutNo, name: &[u8], operands: &mut Operands<'_>) -> Option<Step>
+    ensures { IsReadAs step_words notice_forms (mutator by) name.now operands.old operands.new result }
+{
     if name == b"put".as_slice() {
-        let actor = Actor::Worker(WorkerNo(alone(number, rest)?));
-        return Ok(Step::Put { actor });
+        return Some(Step::Put {
+            actor: Actor::Mutator(by),
+        });
+    }
+    if name == b"poll".as_slice() {
+        return Some(Step::Poll {
+            mutator: by,
+            queue: operands.queue(),
+        });
+    }
+    if name == b"adopt".as_slice() {
+        return Some(Step::Adopt {
+            mutator: by,
+            slot: operands.slot(),
+        });
     }
     if name == b"release".as_slice() {
-        let actor = Actor::Worker(WorkerNo(alone(number, rest)?));
-        return Ok(Step::Release { actor });
+        return Some(Step::Release {
+            actor: Actor::Mutator(by),
+        });
     }
-    Err(LineFault::UnknownStep)
+    if name == b"close".as_slice() {
+        return Some(Step::Close {
+            mutator: by,
+            queue: operands.queue(),
+        });
+    }
+    None
+}
+
+/// The step of a worker, which has no operands.
+fn worker_step(by: WorkerNo, name: &[u8], operands: &mut Operands<'_>) -> Option<Step>
+    ensures { IsReadAs step_words worker_forms (worker by) name.now operands.old operands.new result }
+{
+    if name == b"scan".as_slice() {
+        return Some(Step::Scan { worker: by });
+    }
+    if name == b"clearnext".as_slice() {
+        return Some(Step::ClearNext { worker: by });
+    }
+    if name == b"hand".as_slice() {
+        return Some(Step::Hand { worker: by });
+    }
+    if name == b"sweep".as_slice() {
+        return Some(Step::Sweep { worker: by });
+    }
+    if name == b"put".as_slice() {
+        return Some(Step::Put {
+            actor: Actor::Worker(by),
+        });
+    }
+    if name == b"release".as_slice() {
+        return Some(Step::Release {
+            actor: Actor::Worker(by),
+        });
+    }
+    None
+}
+
+/// The turn of a cycle of this name.
+fn turn(name: &[u8], operands: &mut Operands<'_>) -> Option<Step>
+    ensures { MatchOption result (operands_in turn_forms name.now ≡ None)
+        (λ step. IsReadNamed (operands_in turn_forms name.now) name.now (reading operands.old)
+        (reading operands.new) (step_words step)) }
+{
+    if name == b"begin".as_slice() {
+        return Some(Step::Begin {
+            now: operands.clock(),
+            urgency: operands.urgency(),
+        });
+    }
+    if name == b"endmark".as_slice() {
+        return Some(Step::EndMark);
+    }
+    if name == b"endclear".as_slice() {
+        return Some(Step::EndClear);
+    }
+    if name == b"endsweep".as_slice() {
+        return Some(Step::EndSweep);
+    }
+    None
 }

@@ -1,0 +1,159 @@
+-- What was read of the operands of a step.
+use Rattle.std.proofs.Common.{◌≡◌, ℕ, Bool, true, false, not, ◌&&◌, ◌||◌, if◌then◌else◌, nat_lt, List, [], ◌∷◌, length}
+use Rattle.std.proofs.Common.{Option, Some, None, Result, Ok, Err, suc, refl, sym, ap, ◌∙◌, arith}
+use Rattle.std.proofs.lemmas.List.{append-nil}
+use Rattle.std.specs.Prelude.{MatchResult}
+use Rattle.std.proofs.lemmas.Bool.{eq-eqb, le-ltb, lt-ltb}
+use Rattle.std.proofs.lemmas.Bool.Decides.{nat_tests}
+use Rattle.refrun.proofs.Common.{Word, Letters, Numbered, Long, step_words, script_step_words, Step, ScriptStep}
+use Rattle.refrun.proofs.Common.{SpellsScriptStep, AreSpelt, number, Operand, Number, LineFault, operands_in, forms_of_letter}
+use Rattle.refrun.proofs.Common.{turn_forms, step_fault}
+use Rattle.refrun.specs.OperandReading.{Reading, unread, taken, all_taken, end_fault, IsLeft, IsRead, IsReadNamed}
+use Rattle.refrun.specs.OperandReading.{IsReadBehind}
+use Rattle.refrun.specs.StepFaults.{fits, all_fit, operand_fault, actor_fault}
+use Rattle.refrun.specs.declared.script_step.ScriptStep.TheVariants as scripts
+use Rattle.refrun.specs.declared.fault.LineFault.TheVariants.{MissingWord, BadWord, ExtraWord}
+
+-- operands are read one after the other
+pub reads_none : (a : Reading) → IsRead [] a a []
+reads_none a = record { taken = refl; spelt = λ more left. left }
+
+pub reads_more : (o : Operand) (operands : List Operand) (a b c : Reading) (v : Word) (words : List Word)
+    → IsRead (o ∷ []) a b (v ∷ []) → IsRead operands b c words → IsRead (o ∷ operands) a c (v ∷ words)
+reads_more o operands a b c v words r s = record {
+  taken = cc (r.taken, s.taken);
+  spelt = λ more left. r.spelt _ (s.spelt more left);
+}
+
+-- nothing is missing yet
+abbrev begun : List (List ℕ) → Bool → Reading
+begun words is_bad = record { words = words; is_missing = false; is_bad = is_bad }
+
+missing : (operands : List Operand) (r : Reading) → r.is_missing ≡ true
+    → end_fault (all_taken operands r) ≡ Some MissingWord
+missing [] r h = simp h
+missing (o ∷ operands) r h = missing operands (taken o r) (simp h refl)
+
+both_fit : (a b c : Bool) → ((a || not b) || not c) ≡ (a || not (b && c))
+both_fit true b c = refl
+both_fit false true c = refl
+both_fit false false c = refl
+
+one_less : (a b : ℕ) → nat_lt (suc a) (suc b) ≡ nat_lt a b
+one_less a b = grind (arith, nat_tests)
+
+-- the faults by kind are those of all words
+ended : (operands : List Operand) (words : List (List ℕ)) (bad : Bool) → end_fault (all_taken operands (begun words bad))
+    ≡ (if nat_lt (length words) (length operands) then Some MissingWord else
+    (if bad || not (all_fit operands words) then Some BadWord else
+    (if nat_lt (length operands) (length words) then Some ExtraWord else None)))
+ended [] [] true = refl
+ended [] [] false = refl
+ended [] (w ∷ words) true = simp (le-ltb (suc (length words)) 0 (omega arith))
+ended [] (w ∷ words) false = simp (le-ltb (suc (length words)) 0 (omega arith), lt-ltb 0 (suc (length words)) (omega arith))
+ended (o ∷ operands) [] bad =
+    missing operands (taken o (begun [] bad)) refl ∙ simp (lt-ltb 0 (suc (length operands)) (omega arith))
+ended (o ∷ operands) (w ∷ words) bad =
+    ended operands words (bad || not (fits o w)) ∙ simp (
+      both_fit bad (fits o w) (all_fit operands words),
+      one_less (length words) (length operands),
+      one_less (length operands) (length words),
+    )
+
+-- what was read behind a name: a form of these, and the words of its operands
+pub record ReadsForm (o : Option (List Operand)) (name : List ℕ) (a b : Reading) (spelling : List Word) : Type 0 where
+  pub operands : List Operand
+  pub words : List Word
+  pub is_known : o ≡ Some operands
+  pub spelling_is : spelling ≡ Letters name ∷ words
+  pub is_read : IsRead operands a b words
+
+pub reads_form : (o : Option (List Operand)) (name : List ℕ) (a b : Reading) (spelling : List Word)
+    → IsReadNamed o name a b spelling → ReadsForm o name a b spelling
+reads_form None name a b (Letters n ∷ words) h = absurd h.1
+reads_form (Some operands) name a b (Letters n ∷ words) h = record {
+  operands = operands;
+  words = words;
+  is_known = refl;
+  spelling_is = rw h.0 refl;
+  is_read = h.1;
+}
+reads_form o name a b [] h = absurd h
+reads_form o name a b (Numbered l n ∷ words) h = absurd h
+reads_form o name a b (Long n ∷ words) h = absurd h
+
+-- nothing is wrong at the end
+whole : (b : Reading) → end_fault b ≡ None → IsLeft b []
+whole b h = nothing b.words b.is_missing b.is_bad h
+  where
+    nothing : (words : List (List ℕ)) (is_missing is_bad : Bool)
+        → end_fault (record { words = words; is_missing = is_missing; is_bad = is_bad }) ≡ None
+        → IsLeft (record { words = words; is_missing = is_missing; is_bad = is_bad }) []
+    nothing [] false false e = record { is_enough = refl; is_good = refl; spelt = tt }
+    nothing (w ∷ ws) false false e = absurd cc
+    nothing words false true e = absurd cc
+    nothing words true is_bad e = absurd cc
+
+-- what was read is the step that it ends with, or the fault
+abbrev EndsWith : Result ScriptStep LineFault → ScriptStep → Reading → Type 0
+EndsWith result step b = MatchResult result (λ s. (s ≡ step) × (end_fault b ≡ None)) (λ e. end_fault b ≡ Some e)
+
+abbrev StepOrFault : Result ScriptStep LineFault → List (List ℕ) → Option LineFault → Type 0
+StepOrFault result words fault = MatchResult result (SpellsScriptStep words) (λ e. fault ≡ Some e)
+
+operands_read : (result : Result ScriptStep LineFault) (step : ScriptStep) (operands : List Operand)
+    (words : List (List ℕ)) (b : Reading) (vs : List Word) → IsRead operands (unread words) b vs
+    → EndsWith result step b
+    → MatchResult result (λ s. (s ≡ step) × AreSpelt words vs) (λ e. operand_fault operands words ≡ Some e)
+operands_read (Ok s) step operands words b vs h e =
+    let left = h.spelt [] (whole b e.1) in
+    (e.0, rw append-nil at left.spelt)
+operands_read (Err fault) step operands words b vs h e =
+    sym (ended operands words false) ∙ ap end_fault (sym h.taken) ∙ e
+
+-- a turn of a cycle
+pub turn_read : (result : Result ScriptStep LineFault) (step : Step) (name : List ℕ) (line words : List (List ℕ))
+    (b : Reading) → line ≡ name ∷ words
+    → IsReadNamed (operands_in turn_forms name) name (unread words) b (step_words step)
+    → EndsWith result (scripts.World step) b → StepOrFault result line (step_fault line)
+turn_read result step name line words b line_is h e =
+    let f = reads_form (operands_in turn_forms name) name (unread words) b (step_words step) h in
+    rw line_is (read result f.operands f.words f.is_known f.spelling_is
+    (operands_read result (scripts.World step) f.operands words b f.words f.is_read e))
+  where
+    read : (r : Result ScriptStep LineFault) (operands : List Operand) (vs : List Word)
+        → operands_in turn_forms name ≡ Some operands → step_words step ≡ Letters name ∷ vs
+        → MatchResult r (λ s. (s ≡ scripts.World step) × AreSpelt words vs) (λ e. operand_fault operands words ≡ Some e)
+        → StepOrFault r (name ∷ words) (step_fault (name ∷ words))
+    read (Ok s) operands vs known spelling_is m = rw (m.0, spelling_is) (refl, m.1)
+    read (Err fault) operands vs known spelling_is m = rw known m
+
+-- a step of an actor
+pub actor_read : (result : Result ScriptStep LineFault) (step : ScriptStep) (letter n : ℕ) (actor digits name : List ℕ)
+    (line words : List (List ℕ)) (a b : Reading) → actor ≡ letter ∷ digits → line ≡ name ∷ words
+    → IsRead (Number ∷ []) (unread (digits ∷ words)) a (number n ∷ [])
+    → IsReadBehind (operands_in (forms_of_letter letter) name) (Numbered (letter ∷ []) n) name a b
+    (script_step_words step) → EndsWith result step b → StepOrFault result (actor ∷ line) (actor_fault actor line)
+actor_read result step letter n actor digits name line words a b actor_is line_is numbered h e =
+    rw (actor_is, line_is) (behind (script_step_words step) refl h)
+  where
+    read : (r : Result ScriptStep LineFault) (operands : List Operand) (vs : List Word)
+        → operands_in (forms_of_letter letter) name ≡ Some operands
+        → script_step_words step ≡ Numbered (letter ∷ []) n ∷ Letters name ∷ vs
+        → MatchResult r (λ s. (s ≡ step) × AreSpelt (digits ∷ words) (number n ∷ vs))
+        (λ e. operand_fault (Number ∷ operands) (digits ∷ words) ≡ Some e)
+        → StepOrFault r ((letter ∷ digits) ∷ name ∷ words) (actor_fault (letter ∷ digits) (name ∷ words))
+    read (Ok s) operands vs known spelling_is m =
+        rw (m.0, spelling_is) (simp (eq-eqb letter letter refl, m.1.0), (refl, m.1.1))
+    read (Err fault) operands vs known spelling_is m = rw known m
+
+    behind : (spelling : List Word) → script_step_words step ≡ spelling
+        → IsReadBehind (operands_in (forms_of_letter letter) name) (Numbered (letter ∷ []) n) name a b spelling
+        → StepOrFault result ((letter ∷ digits) ∷ name ∷ words) (actor_fault (letter ∷ digits) (name ∷ words))
+    behind [] same k = absurd k
+    behind (first ∷ spelling) same k =
+        let f = reads_form (operands_in (forms_of_letter letter) name) name a b spelling k.1 in
+        read result f.operands f.words f.is_known (same ∙ ap (λ v. v ∷ spelling) k.0
+        ∙ ap (λ (vs : List Word). Numbered (letter ∷ []) n ∷ vs) f.spelling_is)
+        (operands_read result step (Number ∷ f.operands) (digits ∷ words) b (number n ∷ f.words)
+        (reads_more Number f.operands (unread (digits ∷ words)) a b (number n) f.words numbered f.is_read) e)
