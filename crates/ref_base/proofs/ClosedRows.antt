@@ -176,4 +176,31 @@ module _ (V : ℕ → Type 0) where
     heap_closed (heap.Clear m s) reply plain none next clears row = cuts m s replies.Done reply row
     heap_closed (heap.Adopt m d hold) reply plain none next clears row = grind (arith, adopts m d hold.object reply)
     heap_closed step reply plain none next clears row =
-        grind (arith, makes, has-cases, no_nulls, false≢true, OfValue, if_any-has, slot_is, given, closed_stored, loads, field_is, sets, gets, got_is, cuts, unhooks, holds, adopts, closed_fewer, scans, looks, of_phase, phases, hands_on, sweeps)
+        grind (
+          arith,
+          makes,
+          has-cases,
+          no_nulls,
+          false≢true,
+          OfValue,
+          if_any-has,
+          slot_is,
+          given,
+          closed_stored,
+          loads,
+          field_is,
+          sets,
+          gets,
+          got_is,
+          cuts,
+          unhooks,
+          holds,
+          adopts,
+          closed_fewer,
+          scans,
+          looks,
+          of_phase,
+          phases,
+          hands_on,
+          sweeps,
+        )

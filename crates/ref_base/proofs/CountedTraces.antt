@@ -159,7 +159,26 @@ accepted a b (steps.Put who) reply sound counted h row = grind (arith, puts, act
 accepted a b (steps.Release who) reply sound counted h row = grind (arith, releases, actor_has a.world who sound)
 accepted a b (steps.Hand k) reply sound counted h row = grind (arith, hands a row.0 b k)
 accepted a b step reply sound counted h row =
-    grind (arith, quiet, registered, unless_passes, and_parts, heap_keeps, unhooks, mutator_within, empty_hand, heap_holds, puts, actor_has, polls, adopts, releases, closes, hands, asked_of)
+    grind (
+      arith,
+      quiet,
+      registered,
+      unless_passes,
+      and_parts,
+      heap_keeps,
+      unhooks,
+      mutator_within,
+      empty_hand,
+      heap_holds,
+      puts,
+      actor_has,
+      polls,
+      adopts,
+      releases,
+      closes,
+      hands,
+      asked_of,
+    )
 
 answered : (a b : State) (step : Step) (reply : Reply) (fault : Option Fault) → IsSound a.world → AreCounted a.world
     → refusal a step ≡ fault → IsAnswer a fault step reply b → AreCounted b.world

@@ -18,8 +18,8 @@ module _ (config : Config) (Q : List Row → State → Type 0)
       → Q past a → IsRun a rows b → Q (past ++ rows) b
   goes_on past a rows b run holds more =
       (holds_on IsRow (λ rs s. IsRun (first_state config) rs s × Q rs s)
-      (λ rs s row t is next. (run_more (first_state config) rs s t row is.0 next, step rs s row t is.0 is.1 next)) past a
-      rows b (run, holds) more).1
+      (λ rs s row t is next. (run_more (first_state config) rs s t row is.0 next, step rs s row t is.0 is.1 next))
+      past a rows b (run, holds) more).1
 
   pub legal_holds : Q [] (first_state config) → (rows : List Row) (b : State) → IsRun (first_state config) rows b
       → Q rows b

@@ -113,7 +113,19 @@ done_stays k (heap.Begin now how) =
     same_objects k.heap (cycle_begun k now how).heap
     (ap (λ (h : Heap). h.objects) (shaded_heap (whitened k now how) (cycle_begun k now how) (roots_of k.heap) refl))
 done_stays k step =
-    search (made_stays, stays-stored, barred-heap, same_objects, stays-got, cleared_stays, held_stays, shaded_heap, same_heap, scanned-heap, refl)
+    search (
+      made_stays,
+      stays-stored,
+      barred-heap,
+      same_objects,
+      stays-got,
+      cleared_stays,
+      held_stays,
+      shaded_heap,
+      same_heap,
+      scanned-heap,
+      refl,
+    )
 
 stays_by : (k : CycleHeap) (step : NamedStep) (refused : Option Fault)
     → KeepsReferences k.heap (unless_refused refused (λ fault. k) (done_in k step)).heap

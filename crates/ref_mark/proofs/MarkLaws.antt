@@ -52,7 +52,25 @@ module _ (k : CycleHeap) (a : State) (stands : MarkStands k a) where
       × MarkStands (shaded_all (done_in k step) (late_roots a step)) b
   accepted (heap.RefersTo m s v) own none = refers_to_row k a stands m s v
   accepted step own none =
-      search (new_row, refer_row, store_row, load_row, copy_row, drop_row, get_row, clear_row, refers_to_row, hold_row, adopt_row, release_row, begin_row, scan_row, end_mark_row, false≢true, refl)
+      search (
+        new_row,
+        refer_row,
+        store_row,
+        load_row,
+        copy_row,
+        drop_row,
+        get_row,
+        clear_row,
+        refers_to_row,
+        hold_row,
+        adopt_row,
+        release_row,
+        begin_row,
+        scan_row,
+        end_mark_row,
+        false≢true,
+        refl,
+      )
 
   row_by : (step : NamedStep) (refused : Option Fault) → is_of_marking step ≡ true → refusal_in_cycle k step ≡ refused
       → (b : State)

@@ -27,5 +27,8 @@ pub returns : goal.returns
 returns g c =
     grind (
       arith,
-      AreFound_fronts c.args.graph.now c.go_on.new.seen.keys c.go_on-2.new.seen.keys c.go_on-3.new.seen.keys c.in_ok-hung.hung.keys c.in_ok-go_on.ensures.reached c.in_ok-go_on-2.ensures.reached c.in_ok-go_on-3.ensures.reached c.in_ok-go_on-2.ensures.kept c.in_ok-go_on-3.ensures.kept c.in_ok-hung.ensures,
+      AreFound_fronts c.args.graph.now c.go_on.new.seen.keys c.go_on-2.new.seen.keys c.go_on-3.new.seen.keys
+          c.in_ok-hung.hung.keys c.in_ok-go_on.ensures.reached c.in_ok-go_on-2.ensures.reached
+          c.in_ok-go_on-3.ensures.reached c.in_ok-go_on-2.ensures.kept c.in_ok-go_on-3.ensures.kept
+          c.in_ok-hung.ensures,
     )

@@ -7,11 +7,13 @@ free_some-freed-requires g c = may_free c.args.worker c.in_ok-check_work.ensures
 
 pub invariant_of-self : goal.invariant_of-self
 invariant_of-self g c =
-    search (sound_swept c.args.worker c.in_ok-check_work.ensures c.free_some-freed.ensures.after c.free_some-freed.ensures.reached c.self.invariant)
+    search (sound_swept c.args.worker c.in_ok-check_work.ensures c.free_some-freed.ensures.after
+    c.free_some-freed.ensures.reached c.self.invariant)
 
 pub invariant_of-self-2 : goal.invariant_of-self-2
 invariant_of-self-2 g c =
-    search (sound_swept c.args.worker c.in_ok-check_work.ensures c.free_some-freed.ensures.after c.free_some-freed.ensures.reached c.self.invariant)
+    search (sound_swept c.args.worker c.in_ok-check_work.ensures c.free_some-freed.ensures.after
+    c.free_some-freed.ensures.reached c.self.invariant)
 
 pub returns-then-freed-eq0-clause-after : goal.returns-then-freed-eq0-clause-after
 returns-then-freed-eq0-clause-after g c =

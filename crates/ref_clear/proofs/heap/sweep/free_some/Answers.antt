@@ -10,7 +10,8 @@ pub loop-freed-preserved : goal.loop-freed-preserved
 loop-freed-preserved g c =
     grind (
       arith,
-      one_more_swept c.args.marker.now c.loop-freed.marker c.loop-freed.freed c.loop-freed.reached c.in-Some.no c.requires.rising c.loop-freed-test.true c.loop-freed.invariant,
+      one_more_swept c.args.marker.now c.loop-freed.marker c.loop-freed.freed c.loop-freed.reached c.in-Some.no
+          c.requires.rising c.loop-freed-test.true c.loop-freed.invariant,
     )
 
 pub returns-clause-count : goal.returns-clause-count
@@ -20,5 +21,6 @@ pub returns-clause-after : goal.returns-clause-after
 returns-clause-after g c =
     grind (
       arith,
-      sweep_is_done c.args.marker.now c.loop-freed.marker c.loop-freed.freed c.loop-freed.reached c.requires.rising c.loop-freed.invariant,
+      sweep_is_done c.args.marker.now c.loop-freed.marker c.loop-freed.freed c.loop-freed.reached c.requires.rising
+          c.loop-freed.invariant,
     )

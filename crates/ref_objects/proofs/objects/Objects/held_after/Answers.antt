@@ -6,5 +6,6 @@ pub returns-in-None : goal.returns-in-None
 returns-in-None g c =
     grind (
       arith,
-      least_from-past c.self.inside.table.tabled c.self.inside.table.last (c.args.no + 1) c.len-count.ensures.orderly.given,
+      least_from-past c.self.inside.table.tabled c.self.inside.table.last (c.args.no + 1)
+          c.len-count.ensures.orderly.given,
     )

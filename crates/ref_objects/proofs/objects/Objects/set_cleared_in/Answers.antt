@@ -13,5 +13,6 @@ pub returns : goal.returns
 returns g c =
     grind (
       arith,
-      seen_cleared_in c.self.inside.config c.self.inside.heap_no c.self.inside.table c.self.inside.slots.items c.self.inside.clock c.self.inside.next c.args.no c.args.cycle,
+      seen_cleared_in c.self.inside.config c.self.inside.heap_no c.self.inside.table c.self.inside.slots.items
+          c.self.inside.clock c.self.inside.next c.args.no c.args.cycle,
     )

@@ -14,5 +14,6 @@ pub returns : goal.returns
 returns g c =
     grind (
       arith,
-      seen_changed c.self.inside.config c.self.inside.heap_no c.self.inside.table c.self.inside.slots.items c.self.inside.clock c.self.inside.next c.args.no,
+      seen_changed c.self.inside.config c.self.inside.heap_no c.self.inside.table c.self.inside.slots.items
+          c.self.inside.clock c.self.inside.next c.args.no,
     )

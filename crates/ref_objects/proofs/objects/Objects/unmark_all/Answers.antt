@@ -9,5 +9,6 @@ pub returns : goal.returns
 returns g c =
     grind (
       arith,
-      seen_without_marks c.self.inside.config c.self.inside.heap_no c.self.inside.table c.self.inside.slots.items c.self.inside.clock c.self.inside.next,
+      seen_without_marks c.self.inside.config c.self.inside.heap_no c.self.inside.table c.self.inside.slots.items
+          c.self.inside.clock c.self.inside.next,
     )

@@ -11,4 +11,5 @@ returns-in-Some g c =
 
 pub returns-in_default : goal.returns-in_default
 returns-in_default g c =
-    search (left_nowhere c.self.invariant c.args.no c.deref.ensures.value c.deref-2.ensures.value c.in_default.ensures c.self.view_is)
+    search (left_nowhere c.self.invariant c.args.no c.deref.ensures.value c.deref-2.ensures.value c.in_default.ensures
+    c.self.view_is)

@@ -12,15 +12,18 @@ returns-in_default-clause-answer g c =
 
 pub returns-in_default-clause-after : goal.returns-in_default-clause-after
 returns-in_default-clause-after g c =
-    search (freed_nowhere c.self.invariant c.args.no c.deref.ensures.value c.deref-2.ensures.value c.in_default.ensures c.self.view_is)
+    search (freed_nowhere c.self.invariant c.args.no c.deref.ensures.value c.deref-2.ensures.value
+    c.in_default.ensures c.self.view_is)
 
 pub returns-then-is_held-clause-answer : goal.returns-then-is_held-clause-answer
 returns-then-is_held-clause-answer g c =
-    search (kept_answer c.self.invariant c.args.no c.deref.ensures.value c.deref-2.ensures.value c.in-Some.ensures c.self.view_is c.index.ensures c.is_held.ensures c.if-is_held.true)
+    search (kept_answer c.self.invariant c.args.no c.deref.ensures.value c.deref-2.ensures.value c.in-Some.ensures
+    c.self.view_is c.index.ensures c.is_held.ensures c.if-is_held.true)
 
 pub returns-then-is_held-clause-after : goal.returns-then-is_held-clause-after
 returns-then-is_held-clause-after g c =
-    search (kept_there c.self.invariant c.args.no c.deref.ensures.value c.deref-2.ensures.value c.in-Some.ensures c.self.view_is c.index.ensures c.is_held.ensures c.if-is_held.true)
+    search (kept_there c.self.invariant c.args.no c.deref.ensures.value c.deref-2.ensures.value c.in-Some.ensures
+    c.self.view_is c.index.ensures c.is_held.ensures c.if-is_held.true)
 
 pub push_reserved-requires : goal.push_reserved-requires
 push_reserved-requires g c =
@@ -35,7 +38,8 @@ pub overflow_sub-self : goal.overflow_sub-self
 overflow_sub-self g c =
     grind (
       arith,
-      mark_counted c.self.invariant c.args.no c.deref.ensures.value c.deref-2.ensures.value c.in-Some.ensures c.index-2.ensures,
+      mark_counted c.self.invariant c.args.no c.deref.ensures.value c.deref-2.ensures.value c.in-Some.ensures
+          c.index-2.ensures,
     )
 
 pub invariant_of-self : goal.invariant_of-self
@@ -46,8 +50,11 @@ invariant_of-self g c =
 
 pub returns-clause-answer : goal.returns-clause-answer
 returns-clause-answer g c =
-    search (freed_answer c.self.invariant c.args.no c.deref.ensures.value c.deref-2.ensures.value c.in-Some.ensures c.self.view_is c.index.ensures c.is_held.ensures c.if-is_held.false)
+    search (freed_answer c.self.invariant c.args.no c.deref.ensures.value c.deref-2.ensures.value c.in-Some.ensures
+    c.self.view_is c.index.ensures c.is_held.ensures c.if-is_held.false)
 
 pub returns-clause-after : goal.returns-clause-after
 returns-clause-after g c =
-    search (freed_there c.self.invariant c.args.no c.deref.ensures.value c.deref-2.ensures.value c.in-Some.ensures c.self.view_is c.index.ensures c.is_held.ensures c.if-is_held.false c.vacate.ensures c.push_reserved.ensures.items)
+    search (freed_there c.self.invariant c.args.no c.deref.ensures.value c.deref-2.ensures.value c.in-Some.ensures
+    c.self.view_is c.index.ensures c.is_held.ensures c.if-is_held.false c.vacate.ensures
+    c.push_reserved.ensures.items)

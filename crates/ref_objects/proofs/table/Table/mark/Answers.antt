@@ -45,4 +45,5 @@ returns-in-None-clause-answer g c =
 
 pub returns-in-None-clause-after : goal.returns-in-None-clause-after
 returns-in-None-clause-after g c =
-    search (left_nowhere c.self.invariant c.args.no c.deref.ensures.value c.deref-2.ensures.value c.in-None.ensures c.self.view_is)
+    search (left_nowhere c.self.invariant c.args.no c.deref.ensures.value c.deref-2.ensures.value c.in-None.ensures
+    c.self.view_is)
