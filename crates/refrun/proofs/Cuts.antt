@@ -37,19 +37,8 @@ ended_line (b ∷ bs) x behind h =
 last_line : (text : List ℕ) → 0 < length text → length text ≤ line_length text
     → lines_of text ≡ record { bytes = text; is_ended = false } ∷ []
 last_line [] h le = absurd (omega arith)
-last_line (b ∷ []) h le =
-    elim (cases_Bool (b == 10)) [
-      | inl is ↦ let k : line_length (b ∷ []) ≡ 0 = simp is refl in absurd (omega arith)
-      | inr isnt ↦ simp isnt refl
-    ]
-last_line (b ∷ c ∷ bs) h le =
-    elim (cases_Bool (b == 10)) [
-      | inl is ↦ let k : line_length (b ∷ c ∷ bs) ≡ 0 = simp is refl in absurd (omega arith)
-      | inr isnt ↦
-          let k : line_length (b ∷ c ∷ bs) ≡ 1 + line_length (c ∷ bs) = simp isnt refl in
-          let rest = last_line (c ∷ bs) (omega arith) (omega arith) in
-          simp (isnt, rest) refl
-    ]
+last_line (b ∷ []) h le = grind arith
+last_line (b ∷ c ∷ bs) h le = grind (arith, last_line (c ∷ bs))
 
 -- a text that is cut at its first LF
 pub line_cut : (text : List ℕ) (n : ℕ) (bytes rest behind : List ℕ) (x : ℕ) → n ≡ line_length text
@@ -63,12 +52,7 @@ pub last_cut : (text : List ℕ) (n : ℕ) (bytes rest : List ℕ) → (length t
     → bytes ≡ take n text → rest ≡ drop n text → length rest ≡ 0
     → lines_of text ≡ record { bytes = bytes; is_ended = false } ∷ lines_of rest
 last_cut text n bytes rest some length_is bytes_is rest_is none =
-    let left : length (drop n text) ≡ 0 = ap length (sym rest_is) ∙ none in
-    let whole : length text ≤ n = omega (arith, length-drop n text) in
-    let all : take n text ≡ text = take_all n text whole in
-    let empty : rest ≡ [] = nil_from_length rest none in
-    let positive : 0 < length text = positive_from (length text) some in
-    rw (bytes_is, empty, all) (last_line text positive (omega (arith, length_is, whole)))
+    grind (arith, length-drop, take_all, nil_from_length, last_line)
 
 -- no word begins among spaces
 abbrev pub space_length : List ℕ → ℕ
@@ -103,11 +87,7 @@ word_length line = prefix_len (λ b. not (b == 32)) line
 first_word : (line : List ℕ) → goes_on line ≡ true
     → words_of line ≡ take (word_length line) line ∷ words_of (drop (word_length line) line)
 first_word [] h = absurd cc
-first_word (b ∷ []) h =
-    elim (cases_Bool (b == 32)) [
-      | inl is ↦ let k : goes_on (b ∷ []) ≡ false = simp is refl in absurd cc
-      | inr isnt ↦ simp isnt refl
-    ]
+first_word (b ∷ []) h = grind arith
 first_word (b ∷ c ∷ bs) h =
     elim (cases_Bool (b == 32)) [
       | inl is ↦ let k : goes_on (b ∷ c ∷ bs) ≡ false = simp is refl in absurd cc
@@ -127,18 +107,12 @@ pub word_cut : (line : List ℕ) (spaces n : ℕ) (behind word rest : List ℕ) 
     → behind ≡ drop spaces line → (length behind == 0) ≡ false
     → n ≡ word_length behind → word ≡ take n behind → rest ≡ drop n behind → words_of line ≡ word ∷ words_of rest
 word_cut line spaces n behind word rest spaces_are behind_is some length_is word_is rest_is =
-    let e : behind ≡ drop (space_length line) line = behind_is ∙ ap (λ k. drop k line) spaces_are in
-    let positive : 0 < length (drop (space_length line) line) = let k : length behind ≡ length (drop
-    (space_length line) line) = ap length e in omega (arith, positive_from (length behind) some) in
-    rw (word_is, rest_is, length_is) (words_behind_spaces line ∙ ap words_of (sym e)
-    ∙ first_word behind (ap goes_on e ∙ goes_on_behind line positive))
+    grind (arith, words_behind_spaces, goes_on_behind, first_word behind)
 
 -- a line of spaces has no word
 pub no_word_cut : (line : List ℕ) (spaces : ℕ) (behind : List ℕ) → spaces ≡ space_length line
     → behind ≡ drop spaces line → (length behind == 0) ≡ true → words_of line ≡ []
-no_word_cut line spaces behind spaces_are behind_is none =
-    let e : behind ≡ drop (space_length line) line = behind_is ∙ ap (λ k. drop k line) spaces_are in
-    no_space_first line (sym e ∙ nil_from_length behind (eqb-true _ _ none))
+no_word_cut line spaces behind spaces_are behind_is none = grind (arith, no_space_first, nil_from_length)
 
 -- the last byte of a line is a CR or it stays
 pub without_last_cr : (front : List ℕ) → without_cr (front ++ 13 ∷ []) ≡ front

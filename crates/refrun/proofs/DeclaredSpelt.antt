@@ -11,11 +11,7 @@ use Rattle.refrun.proofs.Fields.{object_fits, object_or_none_fits, fields_fit, f
 -- enough words, of their forms, and no more than may stand there
 words_without_fault : (least more : ℕ) (words : List (List ℕ)) → least ≤ length words → length words ≤ least + more
     → are_operands words ≡ true → words_fault least more words ≡ None
-words_without_fault least more words enough most fit =
-    let none_missing : nat_lt (length words) least ≡ false = le-ltb _ _ enough in
-    let none_left : nat_lt (least + more) (length words) ≡ false = le-ltb _ _ most in
-    let all : take (least + more) words ≡ words = take_all (least + more) words most in
-    simp (none_missing, all, fit, none_left) refl
+words_without_fault least more words enough most fit = grind (arith, take_all)
 
 pub declared_without_fault : (d : Declared) (words : List (List ℕ)) → SpellsDeclared words d
     → declaration_fault words ≡ None
@@ -27,24 +23,13 @@ declared_without_fault (Root n) (name ∷ word ∷ []) h =
 declared_without_fault (Plain n fields) [] h = absurd h
 declared_without_fault (Plain n fields) (name ∷ []) h = absurd h
 declared_without_fault (Plain n fields) (name ∷ word ∷ words) h =
-    let many : length words ≡ length fields = fields_length words fields h.2 in
-    rw h.0 (words_without_fault 1 8 (word ∷ words) (omega arith) (omega (arith, many, h.3))
-    (simp (object_fits word n h.1) (fields_fit words fields h.2)))
+    grind (arith, fields_length, fields_fit, words_without_fault 1 8 (word ∷ words), object_fits word n h.1)
 declared_without_fault (Reference n s r fields) [] h = absurd h
 declared_without_fault (Reference n s r fields) (name ∷ []) h = absurd h
 declared_without_fault (Reference n s r fields) (name ∷ word ∷ []) h = absurd h
 declared_without_fault (Reference n s r fields) (name ∷ word ∷ other ∷ words) h =
-    let many : length words ≡ length fields = fields_length words fields h.3 in
-    let none : words_fault 2 8 (word ∷ other ∷ words) ≡ None =
-    words_without_fault 2 8 (word ∷ other ∷ words) (omega arith) (omega (arith, many, h.4))
-    (simp (object_fits word n h.1, object_or_none_fits other r h.2) (fields_fit words fields h.3)) in
-    rw h.0 (named s none)
-  where
-    named : (t : Strength) → words_fault 2 8 (word ∷ other ∷ words) ≡ None
-        → declaration_fault (strength_name t ∷ word ∷ other ∷ words) ≡ None
-    named Soft k = k
-    named Weak k = k
-    named Phantom k = k
+    grind (arith, fields_length, object_or_none_fits, fields_fit, words_without_fault 2 8 (word ∷ other ∷ words),
+    object_fits word n h.1)
 
 -- the number that the words have is that of what they say
 pub number_of_words : (d : Declared) (words : List (List ℕ)) → SpellsDeclared words d
@@ -59,10 +44,4 @@ number_of_words (Plain n fields) (name ∷ word ∷ words) h = rw h.0 h.1.0
 number_of_words (Reference n s r fields) [] h = absurd h
 number_of_words (Reference n s r fields) (name ∷ []) h = absurd h
 number_of_words (Reference n s r fields) (name ∷ word ∷ []) h = absurd h
-number_of_words (Reference n s r fields) (name ∷ word ∷ other ∷ words) h = rw h.0 (named s h.1.0)
-  where
-    named : (t : Strength) → number_below (2 ^ 32) word ≡ Some n
-        → number_in (strength_name t ∷ word ∷ other ∷ words) ≡ Some n
-    named Soft k = k
-    named Weak k = k
-    named Phantom k = k
+number_of_words (Reference n s r fields) (name ∷ word ∷ other ∷ words) h = grind arith

@@ -19,13 +19,7 @@ digit_at (c ∷ w) (suc i) h within = digit_at w i (and_parts _ _ h).1 (omega ar
 -- a digit more makes ten times the number, and the digit
 pub one_digit_more : (w : List ℕ) (i : ℕ) → list_all is_ascii_digit w ≡ true → i < length w
     → digits_value 10 (take (i + 1) w) ≡ digits_value 10 (take i w) * 10 + (get_or w i 0 - 48)
-one_digit_more w i h within =
-    let c : ℕ = get_or w i 0 in
-    let r = digit_range c (digit_at w i h within) in
-    let low : ltb c 48 ≡ false = le-ltb _ _ r.0 in
-    let high : ltb c 58 ≡ true = lt-ltb _ _ (omega (arith, r.1)) in
-    let value : digit_value c ≡ c - 48 = simp (low, high) refl in
-    digits_value_more 10 w i within ∙ ap (λ d. digits_value 10 (take i w) * 10 + d) value
+one_digit_more w i h within = grind (arith, digits_value_more, digit_at w i h within)
 
 -- and no front of the digits writes a greater number than all of them
 pub front_value : (w : List ℕ) (i : ℕ) → list_all is_ascii_digit w ≡ true → i < length w

@@ -1,4 +1,5 @@
 -- A text that spells a script, or declares a graph, has no fault.
+use Rattle.std.proofs.Common.{arith}
 use Rattle.refrun.proofs.Common.{Graph, Declared, NoneTwice, SpellAll, SpellGraph, DeclaresGraph, GraphHeader}
 use Rattle.refrun.proofs.Common.{Declarations, Place, place_after, place_fault, graph_fault, Config, ScriptStep}
 use Rattle.refrun.proofs.Common.{TextLine, lines_of, ScriptHeader, Configuration, Steps, plain_fault, first_fault}
@@ -82,5 +83,4 @@ script_without_fault text config steps h =
     simp h.short (without_fault ScriptHeader (lines_of text) 1 h.lines.plain (config, steps, h.lines.told))
 
 pub graph_without_fault : (text : List ℕ) (graph : Graph) → DeclaresGraph text graph → graph_fault text ≡ None
-graph_without_fault text graph h = simp h.short (without_fault GraphHeader (lines_of text) 1 h.lines.said.plain
-    (h.lines.declared, h.lines.said.told, h.lines.said.none_twice))
+graph_without_fault text graph h = grind (arith, without_fault)

@@ -47,12 +47,7 @@ bad_among : (n : ℕ) (read : List (List ℕ)) (word : List ℕ) (more : List (L
     → is_object_or_none word ≡ false → list_all is_object_or_none (take n (read ++ word ∷ more)) ≡ false
 bad_among zero read word more less bad = absurd (omega (arith, less))
 bad_among (suc n) [] word more less bad = simp bad refl
-bad_among (suc n) (w ∷ read) word more less bad =
-    let rest = bad_among n read word more (omega (arith, less)) bad in
-    elim (cases_Bool (is_object_or_none w)) [
-      | inl good ↦ simp good rest
-      | inr other ↦ simp other refl
-    ]
+bad_among (suc n) (w ∷ read) word more less bad = grind (arith, bad_among n read word more)
 
 -- the words so far spell the fields so far
 pub record HasFields (words : List (List ℕ)) (fields : List (Option ℕ)) (rest : List (List ℕ)) : Type 0 where
@@ -67,26 +62,13 @@ has_no_fields words = record { read = []; parts = refl; spelt = tt; most = omega
 pub has_field_more : (words rest behind : List (List ℕ)) (fields more : List (Option ℕ)) (word : List ℕ)
     (field : Option ℕ) → HasFields words fields rest → rest ≡ word ∷ behind → length fields < 8
     → SpellsObjectOrNone word field → more ≡ fields ++ field ∷ [] → HasFields words more behind
-has_field_more words rest behind fields more word field h cut less spells more_is = record {
-  read = h.read ++ word ∷ [];
-  parts = h.parts ∙ ap (λ (r : List (List ℕ)). h.read ++ r) cut ∙ sym (append_assoc h.read (word ∷ []) behind);
-  spelt = rw more_is (spell_push h.read fields word field h.spelt spells);
-  most = rw more_is (omega (arith, less, length-append fields (field ∷ [])));
-}
+has_field_more words rest behind fields more word field h cut less spells more_is =
+    grind (arith, append_assoc, spell_push, length-append)
 
 -- no word is left, or there are 8 fields
 pub reads_fields : (words rest : List (List ℕ)) (fields : List (Option ℕ)) → HasFields words fields rest
     → (rest ≡ []) ⊎ (8 ≤ length fields) → ReadsFields words fields rest
-reads_fields words rest fields h end = record {
-  read = h.read;
-  parts = h.parts;
-  spelt = h.spelt;
-  most = omega (arith, h.most, fields_length h.read fields h.spelt);
-  whole = elim end [
-    | inl none ↦ inl none
-    | inr full ↦ inr (omega (arith, h.most, full, fields_length h.read fields h.spelt))
-  ];
-}
+reads_fields words rest fields h end = grind (arith, fields_length)
 
 -- the next word is a bad one
 pub has_bad_field : (words rest behind : List (List ℕ)) (fields : List (Option ℕ)) (word : List ℕ)
@@ -98,9 +80,7 @@ has_bad_field words rest behind fields word h cut less bad =
 -- where no word is left the words spell the fields
 pub all_fields : (words rest : List (List ℕ)) (fields : List (Option ℕ)) → ReadsFields words fields rest → rest ≡ []
     → SpellFields words fields × (length fields ≤ 8)
-all_fields words rest fields h none =
-    let whole : words ≡ h.read = h.parts ∙ rw none (append-nil h.read) in
-    (rw whole h.spelt, omega (arith, h.most, fields_length h.read fields h.spelt))
+all_fields words rest fields h none = grind (arith, append-nil, fields_length)
 
 -- where a word is left behind the fields it is one too many
 pub extra_words : (front words rest more : List (List ℕ)) (word : List ℕ) (fields : List (Option ℕ))
@@ -108,18 +88,4 @@ pub extra_words : (front words rest more : List (List ℕ)) (word : List ℕ) (f
     → ReadsFields words fields rest → rest ≡ word ∷ more
     → words_fault (length front) 8 (front ++ words) ≡ Some ExtraWord
 extra_words front words rest more word fields fit h left =
-    let full : length h.read ≡ 8 = elim h.whole [
-      | inl none ↦ let clash : (word ∷ more) ≡ [] = sym left ∙ none in absurd cc
-      | inr all ↦ all
-    ] in
-    let taken : List (List ℕ) = front ++ h.read in
-    let parts : front ++ words ≡ taken ++ rest =
-    ap (λ (ws : List (List ℕ)). front ++ ws) h.parts ∙ sym (append_assoc front h.read rest) in
-    let count : length front + 8 ≡ length taken = omega (arith, full, length-append front h.read) in
-    let many : length (taken ++ rest) ≡ length taken + suc (length more) =
-    length-append taken rest ∙ ap (λ (ws : List (List ℕ)). length taken + length ws) left in
-    let good : are_operands taken ≡ true = fit h.read (fields_fit h.read fields h.spelt) in
-    let cut : take (length taken) (taken ++ rest) ≡ taken = take-append_seam taken rest in
-    let enough : nat_lt (length (taken ++ rest)) (length front) ≡ false = le-ltb _ _ (omega (arith, many, count)) in
-    let over : nat_lt (length taken) (length (taken ++ rest)) ≡ true = lt-ltb _ _ (omega (arith, many)) in
-    rw (parts, count) (simp (enough, cut, good, over) refl)
+    grind (arith, append_assoc, length-append, fields_fit, take-append_seam, le-ltb, lt-ltb)

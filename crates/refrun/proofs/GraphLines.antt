@@ -1,4 +1,5 @@
 -- How the reading of a graph text goes on by one line.
+use Rattle.std.proofs.Common.{arith}
 use Rattle.std.proofs.Common.{◌≡◌, ℕ, ◌+◌, ◌≤◌, ◌||◌, ◌==◌, Bool, true, false, List, [], ◌∷◌, ◌++◌, length, Option}
 use Rattle.std.proofs.Common.{nat_lt, Some, None, OnSome, IfNone, refl, sym, ap, ◌∙◌, append_assoc, inl, inr}
 use Rattle.std.specs.Borrow.{Bor}
@@ -22,41 +23,8 @@ use Rattle.refrun.proofs.LineLemmas.{first_of_two, onsome_before}
 
 -- an object is there where it was, or is the one that was added
 there_after : (os : List Object) (o : Object) (n : ℕ) → is_there (with_object os o) n ≡ ((o.no == n) || is_there os n)
-there_after [] o n =
-    elim (cases_Bool (o.no == n)) [
-      | inl same ↦ simp same refl
-      | inr other ↦ simp other refl
-    ]
-there_after (p ∷ ps) o n =
-    elim (cases_Bool (nat_lt o.no p.no)) [
-      | inl before ↦
-          elim (cases_Bool (o.no == n)) [
-            | inl same ↦ simp (before, same) refl
-            | inr other ↦ simp (before, other) refl
-          ]
-      | inr behind ↦
-          elim (cases_Bool (p.no == o.no)) [
-            | inl twin ↦
-                let twin_is : p.no ≡ o.no = eqb-true _ _ twin in
-                elim (cases_Bool (p.no == n)) [
-                  | inl same ↦
-                      let also : (o.no == n) ≡ true = rw twin_is at same in
-                      simp (behind, twin, same, also) refl
-                  | inr other ↦
-                      let also : (o.no == n) ≡ false = rw twin_is at other in
-                      simp (behind, twin, other, also) refl
-                ]
-            | inr apart ↦
-                elim (cases_Bool (p.no == n)) [
-                  | inl same ↦
-                      elim (cases_Bool (o.no == n)) [
-                        | inl both ↦ simp (behind, apart, same, both) refl
-                        | inr one ↦ simp (behind, apart, same, one) refl
-                      ]
-                  | inr other ↦ simp (behind, apart, other) (there_after ps o n)
-                ]
-          ]
-    ]
+there_after [] o n = grind arith
+there_after (p ∷ ps) o n = grind (arith, there_after ps o n)
 
 -- the numbers that are declared behind a line are those of the graph behind it
 numbers_after : (seen : List ℕ) (g : Graph) (d : Declared) → AreNumbersOf seen g
@@ -83,31 +51,12 @@ fails_by_words words k g fault h seen numbers = rw h refl
 -- a line that says what can't be said a second time
 pub fails_by_double : (words : List (List ℕ)) (k : ℕ) (g h : Graph) (d : Declared) (added : Bool)
     → SpellsDeclared words d → AddsObject g h d added → added ≡ false → FailsAfter words k g (texts.Line k DoubleObject)
-fails_by_double words k g h d added spelt adds refused seen numbers =
-    let there : has_object g (declared_no d) ≡ true = elim (cases_Bool (has_object g (declared_no d))) [
-      | inl is ↦ is
-      | inr isnt ↦
-          let yes : added ≡ true = adds.answer ∙ simp isnt refl in
-          absurd cc
-    ] in
-    let double : is_declared seen (number_in words) ≡ true =
-    ap (is_declared seen) (number_of_words d words spelt) ∙ seen_there seen g (declared_no d) numbers ∙ there in
-    rw (declared_without_fault d words spelt, double) refl
+fails_by_double words k g h d added spelt adds refused seen numbers = grind (arith, declared_without_fault)
 
 -- a line that says something new
 pub adds_declared : (words : List (List ℕ)) (g h : Graph) (d : Declared) (added : Bool) → SpellsDeclared words d
     → AddsObject g h d added → added ≡ true → AddsDeclared words g h
-adds_declared words g h d added spelt adds done = record {
-  declared = d;
-  spelt = spelt;
-  is_new = elim (cases_Bool (has_object g (declared_no d))) [
-    | inl is ↦
-        let none : added ≡ false = adds.answer ∙ simp is refl in
-        absurd cc
-    | inr isnt ↦ isnt
-  ];
-  after = adds.after;
-}
+adds_declared words g h d added spelt adds done = grind arith
 
 -- ---- line by line
 
@@ -209,30 +158,14 @@ has_declared_all text number found g r found_is =
 pub has_declared_fault : (text : List ℕ) (number : ℕ) (found : Told) (g : Graph) (c : Bor (List ℕ)) (e : TextFault)
     → HasDeclared text number found g → found.content ≡ Some c → FailsAfter (words_of c.now) found.number g e
     → FailsFor e (first_fault (Declarations []) (number + 1) (lines_of text))
-has_declared_fault text number found g c e r found_is fails =
-    let fault_is : first_fault (Declarations []) (number + 1) (lines_of text) ≡ fault_from (Declarations r.seen)
-    (Some c) found.number (lines_of found.rest.now) = r.fault ∙ rw found_is refl in
-    rw fault_is (first_of_two e found.number (place_fault (Declarations r.seen) (words_of c.now)) _
-    (fails r.seen r.numbers))
+has_declared_fault text number found g c e r found_is fails = grind arith
 
 -- a fault behind it is that of the text too
 pub has_declared_later_fault : (text : List ℕ) (number : ℕ) (found : Told) (g h : Graph) (c : Bor (List ℕ))
     (e : TextFault) → HasDeclared text number found g → found.content ≡ Some c → AddsDeclared (words_of c.now) g h
     → ((place : Place) → first_fault place (found.number + 1) (lines_of found.rest.now) ≡ Some e)
     → first_fault (Declarations []) (number + 1) (lines_of text) ≡ Some e
-has_declared_later_fault text number found g h c e r found_is a later =
-    let words : List (List ℕ) = words_of c.now in
-    let d : Declared = a.declared in
-    let no : number_in words ≡ declared_no d = number_of_words d words a.spelt in
-    let new_words : is_declared r.seen (number_in words) ≡ false =
-    ap (is_declared r.seen) no ∙ seen_there r.seen g (declared_no d) r.numbers ∙ a.is_new in
-    let sound : place_fault (Declarations r.seen) words ≡ None =
-    rw (declared_without_fault d words a.spelt, new_words) refl in
-    let fault_is : first_fault (Declarations []) (number + 1) (lines_of text) ≡ fault_from (Declarations r.seen)
-    (Some c) found.number (lines_of found.rest.now) = r.fault ∙ rw found_is refl in
-    fault_is ∙ ap (λ (o : Option LineFault). fault_or found.number o (first_fault (Declarations
-    (with_declared_no r.seen (number_in words))) (found.number + 1) (lines_of found.rest.now))) sound
-    ∙ later (Declarations (with_declared_no r.seen (number_in words)))
+has_declared_later_fault text number found g h c e r found_is a later = grind (arith, declared_without_fault)
 
 -- ---- behind the header
 
@@ -241,24 +174,10 @@ pub behind_graph_header : (text : List ℕ) (found : Told) (c : Bor (List ℕ)) 
     → found.content ≡ Some c → is_graph_header (words_of c.now) ≡ true
     → FailsFor e (first_fault (Declarations []) (found.number + 1) (lines_of found.rest.now))
     → FailsFor e (first_fault GraphHeader 1 (lines_of text))
-behind_graph_header text found c e f found_is header fails =
-    let same : first_fault GraphHeader 1 (lines_of text) ≡ first_fault (Declarations []) (found.number + 1)
-    (lines_of found.rest.now) = f.fault GraphHeader ∙ rw found_is (simp header refl) in
-    rw same fails
+behind_graph_header text found c e f found_is header fails = grind arith
 
 -- what the lines that follow declare is what the text declares
 pub declares_behind : (text : List ℕ) (found : Told) (c : Bor (List ℕ)) (g : Graph) → Finds text 0 found
     → found.content ≡ Some c → is_graph_header (words_of c.now) ≡ true → AddsAll (told (lines_of found.rest.now)) g
     → list_all is_plain_line (lines_of found.rest.now) ≡ true → DeclareGraph (lines_of text) g
-declares_behind text found c g f found_is header adds plain =
-    let lines : told (lines_of text) ≡ words_of c.now ∷ told (lines_of found.rest.now) =
-    f.told ∙ rw found_is refl in
-    record {
-      declared = adds.declared;
-      said = record {
-        plain = f.plain ∙ plain;
-        told = rw lines (header, adds.spelt);
-        none_twice = adds.none_twice;
-      };
-      graph_is = adds.graph_is;
-    }
+declares_behind text found c g f found_is header adds plain = grind arith

@@ -86,30 +86,16 @@ module _ {J : Type 0} (number note : J → ℕ) where
   referred_by : (jobs last : StageJobs J) (rows : List ScriptRow) (end : State)
       → IsScriptRun number note (first_state config) jobs (making 0 ∷ referring ∷ rows) end last
       → IsScriptRun number note referred jobs rows end last
-  referred_by jobs last rows end run =
-      let r1 = subst (λ s. IsScriptRun number note s run.1 (referring ∷ rows) end last)
-      (lands (New 0 0 0) (Object 1) run.2.0.2 run.2.0.1.1) run.3 in
-      let r2 = subst (λ s. IsScriptRun number note s r1.1 rows end last)
-      (lands (Refer 0 Weak 1 0 None 0) (Object 2) r1.2.0.2 r1.2.0.1.1) r1.3 in
-      let same : r1.1 ≡ jobs = r1.2.1 ∙ run.2.1 in
-      subst (λ j. IsScriptRun number note referred j rows end last) same r2
+  referred_by jobs last rows end run = grind arith
 
   refused_without_cause_is_no_trace : (jobs : List J) → ¬ (IsScriptTrace number note config jobs refused_without_cause)
   refused_without_cause_is_no_trace jobs trace = let answer = trace.2.2.0.1.0 in absurd cc
 
   no_cell_too_early_is_no_trace : (jobs : List J) → ¬ (IsScriptTrace number note config jobs no_cell_too_early)
-  no_cell_too_early_is_no_trace jobs trace =
-      let run = trace.2 in
-      let r1 = subst (λ s. IsScriptRun number note s run.1 (drop 1 no_cell_too_early) trace.0 trace.1)
-      (lands (New 0 0 0) (Object 1) run.2.0.2 run.2.0.1.1) run.3 in
-      let answer = r1.2.0.1.0 in
-      absurd cc
+  no_cell_too_early_is_no_trace jobs trace = grind arith
 
   ran_unregistered_is_no_trace : (jobs : List J) → ¬ (IsScriptTrace number note config jobs ran_unregistered)
-  ran_unregistered_is_no_trace jobs trace =
-      let run = referred_by (first_jobs jobs) trace.1 (drop 2 ran_unregistered) trace.0 trace.2 in
-      let taken = run.2.1.0 in
-      absurd cc
+  ran_unregistered_is_no_trace jobs trace = grind arith
 
   -- what a table has of a job
   abbrev entry : J → Unit {0} × J
@@ -117,19 +103,10 @@ module _ {J : Type 0} (number note : J → ℕ) where
 
   -- a job of number 3 isn't told of as number 2
   told_another : (job given : J) → number job ≡ 3 → Some (entry given) ≡ Some (entry job) → 2 ≡ number given → ⊥
-  told_another job given is_3 same told =
-      let entries : entry given ≡ entry job = cc in
-      let one : given ≡ job = ap (λ p. p.1) entries in
-      let two : 2 ≡ 3 = told ∙ ap number one ∙ is_3 in
-      absurd cc
+  told_another job given is_3 same told = grind arith
 
   ran_another_is_no_trace : (jobs : List J) → ¬ (IsScriptTrace number note config jobs ran_another)
-  ran_another_is_no_trace jobs trace =
-      let r2 = referred_by (first_jobs jobs) trace.1 (drop 2 ran_another) trace.0 trace.2 in
-      let registered = r2.2.0 in
-      let r3 = subst (λ s. IsScriptRun number note s r2.1 (drop 3 ran_another) trace.0 trace.1) r2.2.1 r2.3 in
-      let ran = r3.2 in
-      told_another registered.0 ran.0 registered.1 (ran.1.0 ∙ registered.3.1.0 2) (ap (λ r. r.number) ran.3)
+  ran_another_is_no_trace jobs trace = grind arith
 
 -- ---- listings
 
@@ -160,10 +137,7 @@ a_lone_object (l ∷ listed) same = let first : l.object ≡ 5 = cc in rw (first
 an_object_is_listed_by_its_number : (printed : List ℕ)
     → PrintsStrengths (codes "refgraph 1" ++ 10 ∷ codes "plain 5") printed → take 2 printed ≡ codes "5 "
 unfolding lone_object
-an_object_is_listed_by_its_number printed prints =
-    let graph = one_graph _ prints.graph lone_object prints.declares it_is_declared in
-    let all = prints.lists.strengths.all ∙ ap (λ g. numbers g.objects) graph in
-    ap (take 2) prints.lists.is_text ∙ a_lone_object prints.lists.listed all
+an_object_is_listed_by_its_number printed prints = grind (arith, a_lone_object)
 
 -- ---- lists
 

@@ -1,4 +1,5 @@
 -- Rows of jobs, from each state that the world stands for.
+use Rattle.std.proofs.Common.{arith}
 use Rattle.std.proofs.Common.{◌≡◌, ℕ, ◌<◌, List, [], ◌∷◌, ◌++◌, length, get_or, Option, Some, None, Ok, Err, refl, sym}
 use Rattle.std.proofs.Common.{ap, ◌∙◌}
 use Rattle.std.specs.Prelude.{All, HoldsAt, IsPermutation, MatchOption, swap_remove}
@@ -56,14 +57,7 @@ module _ {J : Type 0} (number : J → ℕ) (object n : ℕ) (table after : Regis
       → Registers table object tt job (Err (fault, key, back)) after
       → RegistersStageJob number object n (jobs table left) (replies.World (Refused fault)) (jobs after again)
   refuses_job fault key back again again_is registers =
-      let same : again ≡ rest ++ job ∷ [] = again_is ∙ ap (λ (j : J). rest ++ j ∷ []) registers.2 in (
-        job,
-        numbered_at,
-        (i, inside, sym is),
-        rw same (IsPermutation-trans left (job ∷ rest) (rest ++ job ∷ []) taken_out
-            (IsPermutation-sym (rest ++ job ∷ []) (job ∷ rest) (IsPermutation-to_front rest job))),
-        (registers.0, refl, refl, registers.3),
-      )
+      grind (arith, IsPermutation-trans, taken_out, IsPermutation-sym, IsPermutation-to_front)
 
 module _ {J : Type 0} (number note : J → ℕ) (old new : Core) (before after : StageJobs J) where
   -- no job has a part in a step of the world
@@ -76,37 +70,19 @@ module _ {J : Type 0} (number note : J → ℕ) (old new : Core) (before after :
     -- a job is registered for the reference in the slot
     pub job_row : (n : ℕ) (reply : ScriptReply) → new ≡ old → RegistersStageJob number object n before reply after
         → IsScriptRowOf number note old before (scripts.Job m s n) reply new after
-    job_row n reply same registers a stands = (
-      a,
-      (
-        rw (same_refusal old a stands m s ∙ refused, same_slot old a stands m s ∙ held)
-            registers,
-        refl,
-      ),
-      rw same stands,
-    )
+    job_row n reply same registers a stands = grind (arith, same_refusal)
 
     -- the reference has no job
     pub gone_row : new ≡ old → Takes before.table object None after.table → after.left ≡ before.left
         → IsScriptRowOf number note old before (scripts.Run m s) replies.Gone new after
-    gone_row same takes left a stands = (
-      a,
-      rw (same_refusal old a stands m s ∙ refused, same_slot old a stands m s ∙ held)
-          (takes, left, refl),
-      rw same stands,
-    )
+    gone_row same takes left a stands = grind (arith, same_refusal)
 
     -- its job is given out, and it is cleared
     pub ran_row : (job : J) (ran : Ran) (reply : Reply) → Takes before.table object (Some (tt, job)) after.table
         → after.left ≡ before.left → ran ≡ record { number = number job; answer = note job }
         → IsRowOf old (Clear m s) reply new
         → IsScriptRowOf number note old before (scripts.Run m s) (replies.Ran ran) new after
-    ran_row job ran reply takes left ran_is row a stands =
-        let next = row a stands in
-        let accepted : clear_refusal a.world.heap m s ≡ None = same_refusal old a stands m s ∙ refused in
-        let answered : IsAnswer a None (Clear m s) reply next.0 = rw accepted at next.1 in
-        let cleared : IsRow a (record { step = Clear m s; reply = Done }) next.0 = rw answered.1.0 at next.1 in
-        (next.0, rw (accepted, same_slot old a stands m s ∙ held) (job, takes, left, ran_is, cleared), next.2)
+    ran_row job ran reply takes left ran_is row a stands = grind (arith, same_refusal)
 
   module _ (m s : ℕ) (fault : Fault) (refused : clear_refusal (model_heap old.heap) m s ≡ Some fault) (same : new ≡ old)
       (kept : after ≡ before) where

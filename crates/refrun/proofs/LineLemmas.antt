@@ -58,49 +58,24 @@ pub record Skips (text : List ℕ) (number : ℕ) (rest : List ℕ) (k : ℕ) : 
   pub no_longer : length rest ≤ length text
 
 pub skips_nothing : (text : List ℕ) (number : ℕ) → Skips text number text number
-skips_nothing text number = record {
-  told = refl;
-  plain = refl;
-  fault = λ _. refl;
-  behind = omega arith;
-  no_longer =
-      omega arith;
-}
+skips_nothing text number = grind arith
 
 -- a line without a fault of its own is plain
 plain_line : (line : TextLine) → plain_fault line ≡ None → is_plain_line line ≡ true
-plain_line line h =
-    elim (cases_Bool (is_short line)) [
-      | inl short ↦
-          elim (cases_Bool (list_all is_ascii line.bytes)) [
-            | inl ascii ↦ simp (short, ascii) refl
-            | inr other ↦ let some : plain_fault line ≡ Some NotAscii = simp (short, other) refl in absurd cc
-          ]
-      | inr long ↦ let some : plain_fault line ≡ Some LineTooLong = simp long refl in absurd cc
-    ]
+plain_line line h = grind arith
 
 -- a line with a fault of its own
 pub faulty_line : (text rest behind : List ℕ) (number k : ℕ) (line : TextLine) (fault : LineFault)
     → Skips text number rest k → lines_of rest ≡ line ∷ lines_of behind → plain_fault line ≡ Some fault
     → (place : Place) → first_fault place (number + 1) (lines_of text) ≡ Some (texts.Line (k + 1) fault)
-faulty_line text rest behind number k line fault s cut h place = s.fault place ∙ ap (first_fault place (k + 1)) cut
-    ∙ simp h refl
+faulty_line text rest behind number k line fault s cut h place = search (s.fault place)
 
 -- a line that says nothing
 pub skips_line : (text rest behind : List ℕ) (number k : ℕ) (line : TextLine) (content : List ℕ)
     → Skips text number rest k → lines_of rest ≡ line ∷ lines_of behind → length behind < length rest
     → plain_fault line ≡ None
     → content ≡ content_of line → says_nothing (words_of content) ≡ true → Skips text number behind (k + 1)
-skips_line text rest behind number k line content s cut shorter h content_is nothing =
-    let silent : says_nothing (line_words line) ≡ true = ap (λ (c : List ℕ). says_nothing (words_of c))
-    (sym content_is) ∙ nothing in
-    record {
-      told = s.told ∙ ap told cut ∙ simp silent refl;
-      plain = s.plain ∙ ap (list_all is_plain_line) cut ∙ simp (plain_line line h) refl;
-      fault = λ place. s.fault place ∙ ap (first_fault place (k + 1)) cut ∙ simp (h, silent) refl;
-      behind = omega (arith, s.behind);
-      no_longer = omega (arith, s.no_longer);
-    }
+skips_line text rest behind number k line content s cut shorter h content_is nothing = grind arith
 
 -- a line that says something is found
 pub finds_line : (text rest behind content : List ℕ) (number k : ℕ) (line : TextLine) (found : Told)
@@ -109,31 +84,12 @@ pub finds_line : (text rest behind content : List ℕ) (number k : ℕ) (line : 
     → (c : Bor (List ℕ)) → found.content ≡ Some c → c.now ≡ content → found.number ≡ k + 1
     → found.rest.now ≡ behind → Finds text number found
 finds_line text rest behind content number k line found s cut h content_is says c found_is c_is number_is rest_is =
-    let words : line_words line ≡ words_of c.now = ap words_of (sym content_is ∙ sym c_is) in
-    let said : says_nothing (line_words line) ≡ false = ap (λ (x : List ℕ). says_nothing (words_of x))
-    (sym content_is) ∙ says in
-    record {
-      told = s.told ∙ ap told cut ∙ simp said (rw (found_is, rest_is) (ap (λ (w : List (List ℕ)). w ∷ told
-          (lines_of behind)) words));
-      plain = s.plain ∙ ap (list_all is_plain_line) cut ∙ simp (plain_line line h) (rw rest_is refl);
-      fault = λ place. s.fault place ∙ ap (first_fault place (k + 1)) cut
-          ∙ simp (h, said) (rw (found_is, rest_is, number_is)
-          (ap (λ (w : List (List ℕ)). fault_or (k + 1) (place_fault place w)
-          (first_fault (place_after place w) (k + 1 + 1)
-          (lines_of behind))) words));
-      done = rw found_is tt;
-    }
+    grind arith
 
 -- no line is left
 pub finds_none : (text rest : List ℕ) (number k : ℕ) (found : Told) → Skips text number rest k → lines_of rest ≡ []
     → found.content ≡ None → found.number ≡ k + 1 → found.rest.now ≡ rest → Finds text number found
-finds_none text rest number k found s cut found_is number_is rest_is =
-    record {
-      told = s.told ∙ ap told cut ∙ rw (found_is, rest_is) (ap told (sym cut));
-      plain = s.plain ∙ rw rest_is refl;
-      fault = λ place. s.fault place ∙ ap (first_fault place (k + 1)) cut ∙ rw (found_is, number_is) refl;
-      done = rw (found_is, rest_is) cut;
-    }
+finds_none text rest number k found s cut found_is number_is rest_is = grind arith
 
 -- what fails for the first of two faults, or for none, fails for the first that there is
 pub first_of_two : (e : TextFault) (k : ℕ) (fault : Option LineFault) (later : Option TextFault)

@@ -35,9 +35,7 @@ same_of_nots false false same = refl
 pub end_reached : (rest enqueued : List ℕ) (i : ℕ) → length enqueued ≤ i
     → is_subsequence rest (drop i enqueued) ≡ (length rest == 0)
 end_reached [] enqueued i past = refl
-end_reached (m ∷ rest) enqueued i past =
-    let none : drop i enqueued ≡ [] = drop_all i enqueued past in
-    rw none (sym (ne_eqb (length (m ∷ rest)) 0 (λ e. omega arith)))
+end_reached (m ∷ rest) enqueued i past = grind (arith, drop_all)
 
 -- what holds of each number of a list holds of the one at a place
 at_place : (P : ℕ → Type 0) (xs ys : List ℕ) (y : ℕ) → AllByRecursion P (xs ++ y ∷ ys) → P y
@@ -59,9 +57,7 @@ pub one_more : (ns : List ℕ) (i n : ℕ) → i < length ns → n ≡ get_or ns
 one_more ns i n within at = take_more ns i n within ∙ ap (λ m. take i ns ++ m ∷ []) (sym at)
 
 split_at : (ns : List ℕ) (i n : ℕ) → i < length ns → n ≡ get_or ns i n → ns ≡ take i ns ++ n ∷ drop (suc i) ns
-split_at ns i n within at =
-    sym (take-append-drop i ns) ∙ ap (λ l. take i ns ++ l) (drop-cons ns i n within)
-    ∙ ap (λ m. take i ns ++ m ∷ drop (suc i) ns) (sym at)
+split_at ns i n within at = search (take-append-drop i ns, drop-cons ns i n within)
 
 -- a set into which a number was put, or from which one was taken out
 put_or : (same before : Bool) → cond same true before ≡ (before || (same || false))
@@ -123,11 +119,7 @@ and_true false = refl
 pub nothing_given : {keys : List ℕ} (taken : List ℕ) (i : ℕ) → length taken ≤ i
     → ((q : ℕ) → has keys q ≡ has (take i taken) q) → Left taken [] keys
 unfolding IsDistinct
-nothing_given taken i past so_far = record {
-  once = tt;
-  within = λ n h. absurd (true≢false (sym h));
-  left = λ n. so_far n ∙ ap (λ l. has l n) (take_all i taken past) ∙ and_true (has taken n);
-}
+nothing_given taken i past so_far = grind (arith, take_all)
 
 -- the next number of a list is given
 after_one : (taken given same : Bool) {before after all : Bool} → before ≡ (taken && not given)
@@ -167,16 +159,7 @@ given_next {taken} {keys} front ns i n within at l there new step =
 -- a number that isn't left can't be given
 not_given : {taken given keys : List ℕ} (n : ℕ) (more : List ℕ) (lists : List (List ℕ)) → Left taken given keys
     → has keys n ≡ false → concat lists ≡ given ++ n ∷ more → ¬ GivesEachOnce taken lists
-not_given {taken} {given} {keys} n more lists l none all gives =
-    elim (cases_Bool (has given n)) [
-      | inl before ↦ not_once given more n before (subst (IsDistinct nat_eq) all gives.0)
-      | inr new ↦
-          let there : has (concat lists) n ≡ true =
-          ap (λ ns. has ns n) all ∙ has-right given (n ∷ more) n (has-first n more) in
-          let taken_too : has taken n ≡ true = sym (gives.1 n) ∙ there in
-          let left : has keys n ≡ true = l.left n ∙ rw (taken_too, new) refl in
-          true≢false (sym left ∙ none)
-    ]
+not_given {taken} {given} {keys} n more lists l none all gives = grind (arith, not_once, has-right)
 
 -- each number that was taken was given once where none is left, and not where one is
 same_of : (given taken : Bool) → (given ≡ true → taken ≡ true) → false ≡ (taken && not given) → given ≡ taken
@@ -193,9 +176,7 @@ none_left taken (k ∷ keys) given l none = absurd (omega arith)
 some_left : (taken keys given : List ℕ) → Left taken given keys → ((n : ℕ) → has given n ≡ has taken n)
     → length keys ≡ 0
 some_left taken [] given l same = refl
-some_left taken (k ∷ keys) given l same =
-    let at = is_left (has taken k) (has given k) (sym (l.left k) ∙ has-first k keys) in
-    absurd (true≢false (sym at.0 ∙ (sym (same k) ∙ at.1)))
+some_left taken (k ∷ keys) given l same = grind (arith, same k)
 
 module _ {X : Type 0} (numbers : X → List ℕ) where
   pub concat-flat_map : (xs : List X) → concat (map numbers xs) ≡ flat_map numbers xs
@@ -214,14 +195,7 @@ module _ {X : Type 0} (numbers : X → List ℕ) where
         (sym (take-append-drop j (numbers x)) ∙ ap (λ l. take j (numbers x) ++ l) (drop-cons (numbers x) j e there))
         ∙ append_assoc (take j (numbers x)) (get_or (numbers x) j e ∷ drop (suc j) (numbers x)) (flat_map numbers xs),
   )
-  at_a_place (x ∷ xs) (suc i) j d e within there =
-      let rest = at_a_place xs i j d e (omega arith) there in (
-        rest.0,
-        ap (λ l. numbers x ++ l) rest.1
-            ∙ sym (append_assoc (numbers x) (flat_map numbers (take i xs) ++ take j (numbers (get_or xs i d))) _)
-            ∙ ap (λ l. l ++ get_or (numbers (get_or xs i d)) j e ∷ rest.0)
-            (sym (append_assoc (numbers x) (flat_map numbers (take i xs)) (take j (numbers (get_or xs i d))))),
-      )
+  at_a_place (x ∷ xs) (suc i) j d e within there = grind (arith, append_assoc, at_a_place xs i j d e)
 
   module _ (xs : List X) (i : ℕ) {taken keys : List ℕ} where
     -- a number of a list isn't left

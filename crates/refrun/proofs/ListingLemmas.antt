@@ -1,4 +1,5 @@
 -- The listing so far, and the listing of a whole graph text.
+use Rattle.std.proofs.Common.{arith}
 use Rattle.std.proofs.Common.{◌≡◌, ℕ, ◌+◌, ◌<◌, List, [], ◌∷◌, ◌++◌, length, take, get_or, sym, ap, ◌∙◌, append_assoc}
 use Rattle.std.proofs.Common.{◌≤◌}
 use Rattle.std.proofs.lemmas.Bool.{le-leb}
@@ -9,19 +10,14 @@ use Rattle.refrun.specs.Listings.{listing_line}
 listing_push : (ls : List ObjectReach) (l : ObjectReach)
     → listing_text (ls ++ l ∷ []) ≡ listing_text ls ++ listing_line l
 listing_push [] l = append-nil (listing_line l)
-listing_push (k ∷ ls) l =
-    ap (λ (t : List ℕ). listing_line k ++ t) (listing_push ls l)
-    ∙ sym (append_assoc (listing_line k) (listing_text ls) (listing_line l))
+listing_push (k ∷ ls) l = search (append_assoc, listing_push ls l)
 
 -- one object more
 pub listed_more : (listed : List ObjectReach) (i : ℕ) (next : ObjectReach) (text more : List ℕ)
     → text ≡ listing_text (take i listed) → i < length listed → next ≡ get_or listed i next
     → more ≡ text ++ listing_line next → more ≡ listing_text (take (i + 1) listed)
 listed_more listed i next text more text_is within next_is more_is =
-    let longer : take (i + 1) listed ≡ take i listed ++ next ∷ [] =
-    take_more listed i next within ∙ ap (λ (l : ObjectReach). take i listed ++ l ∷ []) (sym next_is) in
-    more_is ∙ ap (λ (t : List ℕ). t ++ listing_line next) text_is
-    ∙ sym (listing_push (take i listed) next) ∙ ap listing_text (sym longer)
+    grind (arith, listing_push, take_more listed i next within)
 
 -- ---- the answer
 

@@ -1,4 +1,5 @@
 -- What a search of a queue's lists has found out where it tells nothing.
+use Rattle.std.proofs.Common.{arith}
 use Rattle.std.proofs.Common.{◌≡◌, ℕ, ◌+◌, ◌<◌, nat_eq, ◌==◌, refl, sym, ap, subst, ◌∙◌, Bool, true, false}
 use Rattle.std.proofs.Common.{◌||◌, Option, Some, None, IfNone, inl, inr, List, [], ◌∷◌, ◌++◌, length, get_or, take}
 use Rattle.std.proofs.Common.{drop, map, flat_map, append_assoc, append-nil}
@@ -60,11 +61,7 @@ module _ (ns : List ℕ) (i n : ℕ) (within : i < length ns) (at : n ≡ get_or
 apart : (y : ℕ) (ys : List ℕ) → AllByRecursion (λ z. nat_eq y z ≡ false) ys → (n : ℕ) → has ys n ≡ true
     → (y == n) ≡ false
 apart y [] all n there = absurd (true≢false (sym there))
-apart y (z ∷ ys) all n there =
-    elim (has-cases (z ∷ []) ys n there) [
-      | inl this ↦ subst (λ (m : ℕ). (y == m) ≡ false) (has-single z n this) all.0
-      | inr later ↦ apart y ys all.1 n later
-    ]
+apart y (z ∷ ys) all n there = grind (arith, apart y ys all.1 n)
 
 distinct-append : (xs ys : List ℕ) → IsDistinct nat_eq xs → IsDistinct nat_eq ys
     → ((n : ℕ) → has ys n ≡ true → has xs n ≡ false) → IsDistinct nat_eq (xs ++ ys)
@@ -97,11 +94,7 @@ module _ {X : Type 0} (numbers : X → List ℕ) (xs : List X) where
 
     pub next_list_of_all : (P : ℕ → Type 0) → ((m : ℕ) → has (flat_map numbers (take i xs)) m ≡ true → P m)
         → ((m : ℕ) → has ns m ≡ true → P m) → (m : ℕ) → has (flat_map numbers (take (i + 1) xs)) m ≡ true → P m
-    next_list_of_all P so_far these m there =
-        elim (has-cases (flat_map numbers (take i xs)) ns m (sym (ap (λ l. has l m) next_list) ∙ there)) [
-          | inl before ↦ so_far m before
-          | inr last ↦ these m last
-        ]
+    next_list_of_all P so_far these m there = grind (arith, has-cases, next_list)
 
     pub next_list_distinct : IsDistinct nat_eq (flat_map numbers (take i xs)) → IsDistinct nat_eq ns
         → ((n : ℕ) → has ns n ≡ true → has (flat_map numbers (take i xs)) n ≡ false)
@@ -111,9 +104,7 @@ module _ {X : Type 0} (numbers : X → List ℕ) (xs : List X) where
 
     pub next_list_lacks : (m : ℕ) → has (flat_map numbers (take i xs)) m ≡ false → has ns m ≡ false
         → has (flat_map numbers (take (i + 1) xs)) m ≡ false
-    next_list_lacks m before here =
-        ap (λ l. has l m) next_list ∙ has-append (flat_map numbers (take i xs)) ns m
-        ∙ both_false (has (flat_map numbers (take i xs)) m) (has ns m) before here
+    next_list_lacks m before here = search (next_list, has-append, both_false)
 
     -- a number of one list is given
     pub is_given : (m : ℕ) → has ns m ≡ true → has (flat_map numbers xs) m ≡ true
@@ -141,8 +132,4 @@ module _ {X : Type 0} (numbers : X → List ℕ) (xs : List X) where
       → ((n : ℕ) → has (flat_map numbers xs) n ≡ true → has taken n ≡ true)
       → ((n : ℕ) → has taken n ≡ true → has (flat_map numbers xs) n ≡ true)
       → GivesEachOnce taken (map numbers xs)
-  each_once taken once given all =
-      let same = concat-flat_map numbers xs in (
-        subst (IsDistinct nat_eq) (sym same) once,
-        λ n. ap (λ l. has l n) same ∙ same_truth (has (flat_map numbers xs) n) (has taken n) (given n) (all n),
-      )
+  each_once taken once given all = search (concat-flat_map, same_truth)

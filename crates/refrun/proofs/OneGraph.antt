@@ -1,4 +1,5 @@
 -- A text declares at most one graph.
+use Rattle.std.proofs.Common.{arith}
 use Rattle.std.proofs.Common.{◌≡◌, ℕ, ◌^◌, List, [], ◌∷◌, Option, Some, None, codes, refl, sym, ap, ◌∙◌}
 use Rattle.refrun.proofs.Common.{Graph, Strength, Soft, Weak, Phantom, Declared, Root, Plain, Reference, SpellsObject}
 use Rattle.refrun.proofs.Common.{SpellsObjectOrNone, SpellFields, strength_name, SpellsDeclared, declared_graph}
@@ -13,10 +14,7 @@ no_number = None
 
 -- `-` is no number
 no_hyphen : (word : List ℕ) (n : ℕ) → word ≡ codes "-" → SpellsObject word n → ⊥
-no_hyphen word n h k =
-    let none : number_below (2 ^ 32) word ≡ None = rw h refl in
-    let clash : no_number ≡ Some n = sym none ∙ k.0 in
-    cc
+no_hyphen word n h k = cc
 
 one_object_or_none : (word : List ℕ) (f g : Option ℕ) → SpellsObjectOrNone word f → SpellsObjectOrNone word g → f ≡ g
 one_object_or_none word None None h k = refl
@@ -30,10 +28,7 @@ one_row [] [] (y ∷ g) h k = absurd k
 one_row [] (x ∷ f) g h k = absurd h
 one_row (word ∷ words) [] g h k = absurd h
 one_row (word ∷ words) (x ∷ f) [] h k = absurd k
-one_row (word ∷ words) (x ∷ f) (y ∷ g) h k =
-    let first : x ≡ y = one_object_or_none word x y h.0 k.0 in
-    let others : f ≡ g = one_row words f g h.1 k.1 in
-    cc
+one_row (word ∷ words) (x ∷ f) (y ∷ g) h k = search (one_object_or_none, one_row words f g h.1 k.1)
 
 -- a reference's name is that of one strength, and of no other line
 one_strength : (name : List ℕ) (s t : Strength) → name ≡ strength_name s → name ≡ strength_name t → s ≡ t
@@ -59,23 +54,14 @@ no_plain name Phantom h k = other_name name _ _ h k refl
 
 -- words spell at most one thing
 one_declared : (d e : Declared) (words : List (List ℕ)) → SpellsDeclared words d → SpellsDeclared words e → d ≡ e
-one_declared (Root n) (Root m) (name ∷ word ∷ []) h k =
-    let same : n ≡ m = one_object word n m h.1 k.1 in
-    cc
+one_declared (Root n) (Root m) (name ∷ word ∷ []) h k = search
 one_declared (Root n) (Plain m g) (name ∷ word ∷ []) h k = absurd (other_name name _ _ h.0 k.0 refl)
 one_declared (Plain n f) (Root m) (name ∷ word ∷ []) h k = absurd (other_name name _ _ h.0 k.0 refl)
-one_declared (Plain n f) (Plain m g) (name ∷ word ∷ words) h k =
-    let same : n ≡ m = one_object word n m h.1 k.1 in
-    let fields : f ≡ g = one_row words f g h.2 k.2 in
-    cc
+one_declared (Plain n f) (Plain m g) (name ∷ word ∷ words) h k = search (one_row words f g h.2 k.2)
 one_declared (Plain n f) (Reference m t q g) (name ∷ word ∷ other ∷ words) h k = absurd (no_plain name t h.0 k.0)
 one_declared (Reference n s r f) (Plain m g) (name ∷ word ∷ other ∷ words) h k = absurd (no_plain name s k.0 h.0)
 one_declared (Reference n s r f) (Reference m t q g) (name ∷ word ∷ other ∷ words) h k =
-    let same : n ≡ m = one_object word n m h.1 k.1 in
-    let strength : s ≡ t = one_strength name s t h.0 k.0 in
-    let referent : r ≡ q = one_object_or_none other r q h.2 k.2 in
-    let fields : f ≡ g = one_row words f g h.3 k.3 in
-    cc
+    search (one_object, one_strength, one_object_or_none, one_row words f g h.3 k.3)
 one_declared (Root n) e [] h k = absurd h
 one_declared (Root n) e (name ∷ []) h k = absurd h
 one_declared (Root n) e (name ∷ word ∷ other ∷ words) h k = absurd h
@@ -95,17 +81,11 @@ one_list [] [] (e ∷ s) h k = absurd k
 one_list [] (d ∷ r) s h k = absurd h
 one_list (words ∷ lines) [] s h k = absurd h
 one_list (words ∷ lines) (d ∷ r) [] h k = absurd k
-one_list (words ∷ lines) (d ∷ r) (e ∷ s) h k =
-    let first : d ≡ e = one_declared d e words h.0 k.0 in
-    let others : r ≡ s = one_list lines r s h.1 k.1 in
-    cc
+one_list (words ∷ lines) (d ∷ r) (e ∷ s) h k = search (one_declared, one_list lines r s h.1 k.1)
 
 one_body : (lines : List (List (List ℕ))) (r s : List Declared) → SpellGraph lines r → SpellGraph lines s → r ≡ s
 one_body [] r s h k = absurd h
 one_body (header ∷ lines) r s h k = one_list lines r s h.1 k.1
 
 pub one_graph : (text : List ℕ) (g h : Graph) → DeclaresGraph text g → DeclaresGraph text h → g ≡ h
-one_graph text g h a b =
-    let same : a.lines.declared ≡ b.lines.declared =
-    one_body (told (lines_of text)) _ _ a.lines.said.told b.lines.said.told in
-    a.lines.graph_is ∙ ap declared_graph same ∙ sym b.lines.graph_is
+one_graph text g h a b = grind (arith, one_body)

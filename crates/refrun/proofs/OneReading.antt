@@ -1,4 +1,5 @@
 -- A text spells at most one script.
+use Rattle.std.proofs.Common.{arith}
 use Rattle.std.proofs.Common.{◌≡◌, ℕ, ◌^◌, false, List, [], ◌∷◌, Option, Some, None, refl, sym, ap, ◌∙◌, subst}
 use Rattle.std.specs.Str.{bytes_eq}
 use Rattle.std.proofs.lemmas.Bool.{false≢true}
@@ -29,8 +30,7 @@ not_both o x h k = let same : none ≡ some x = sym h ∙ k in cc
 
 -- a word is not two names
 pub other_name : (word name other : List ℕ) → word ≡ name → word ≡ other → bytes_eq name other ≡ false → ⊥
-other_name word name other h k differ = let same = (bytes_eq-Decides name other).1 (sym h
-    ∙ k) in absurd (false≢true (sym differ ∙ same))
+other_name word name other h k differ = grind (arith, bytes_eq-Decides)
 
 -- a word spells at most one of an operand
 one_word : (operand : Operand) (w : List ℕ) (u v : Word) → IsOf operand u → IsOf operand v → IsSpelt w u → IsSpelt w v
@@ -46,17 +46,13 @@ one_spelling (o ∷ operands) words [] vs of og h k = absurd of
 one_spelling (o ∷ operands) words (u ∷ us) [] of og h k = absurd og
 one_spelling (o ∷ operands) [] (u ∷ us) (v ∷ vs) of og h k = absurd h
 one_spelling (o ∷ operands) (w ∷ ws) (u ∷ us) (v ∷ vs) of og h k =
-    let first : u ≡ v = one_word o w u v of.0 og.0 h.0 k.0 in
-    let others : us ≡ vs = one_spelling operands ws us vs of.1 og.1 h.1 k.1 in
-    cc
+    search (one_spelling operands ws us vs of.1 og.1 h.1 k.1, one_word o w u v of.0 og.0 h.0 k.0)
 
 -- the operands behind one name are the same, and so are the words that are spelt by the same
 behind_one_name : (o p : Option (List Operand)) (operands others : List Operand) (words : List (List ℕ))
     (us vs : List Word) → o ≡ p → o ≡ Some operands → p ≡ Some others → AreOf operands us → AreOf others vs
     → AreSpelt words us → AreSpelt words vs → us ≡ vs
-behind_one_name o p operands others words us vs same known also of og h k =
-    let same_operands : operands ≡ others = some_is o operands others known (same ∙ also) in
-    one_spelling operands words us vs of (subst (λ (os : List Operand). AreOf os vs) (sym same_operands) og) h k
+behind_one_name o p operands others words us vs same known also of og h k = grind (arith, one_spelling)
 
 -- words that are spelt by forms of the table are spelt by one
 one_form : (l r : Lead) (x y : List ℕ) (operands others : List Operand) (us vs : List Word) (words : List (List ℕ))
@@ -96,14 +92,7 @@ one_form Turn Turn x y operands others us vs (a ∷ ws) known also of og h k =
 
 -- words spell at most one step
 one_step : (s t : ScriptStep) (words : List (List ℕ)) → SpellsScriptStep words s → SpellsScriptStep words t → s ≡ t
-one_step s t words h k =
-    let f = form_of_step s in
-    let g = form_of_step t in
-    let same : words_behind f.lead f.name f.words ≡ words_behind g.lead g.name g.words =
-    one_form f.lead g.lead f.name g.name f.operands g.operands f.words g.words words f.is_known g.is_known f.are_of
-    g.are_of (subst (AreSpelt words) f.spelling_is h) (subst (AreSpelt words) g.spelling_is k) in
-    let same_words : script_step_words s ≡ script_step_words t = f.spelling_is ∙ same ∙ sym g.spelling_is in
-    sym (rebuilt s) ∙ ap rebuild same_words ∙ rebuilt t
+one_step s t words h k = grind (arith, one_form, form_of_step s, form_of_step t)
 
 one_list : (lines : List (List (List ℕ))) (r s : List ScriptStep) → SpellSteps lines r → SpellSteps lines s → r ≡ s
 one_list [] [] [] h k = refl
@@ -111,10 +100,7 @@ one_list [] [] (t ∷ s) h k = absurd k
 one_list [] (u ∷ r) s h k = absurd h
 one_list (words ∷ lines) [] s h k = absurd h
 one_list (words ∷ lines) (u ∷ r) [] h k = absurd k
-one_list (words ∷ lines) (u ∷ r) (t ∷ s) h k =
-    let first : u ≡ t = one_step u t words h.0 k.0 in
-    let others : r ≡ s = one_list lines r s h.1 k.1 in
-    cc
+one_list (words ∷ lines) (u ∷ r) (t ∷ s) h k = search (one_list lines r s h.1 k.1, one_step u t words h.0 k.0)
 
 one_body : (lines : List (List (List ℕ))) (c d : Config) (r s : List ScriptStep) → SpellScript lines c r
     → SpellScript lines d s → (c ≡ d) × (r ≡ s)

@@ -20,10 +20,7 @@ reads_none a = record { taken = refl; spelt = λ more left. left }
 
 pub reads_more : (o : Operand) (operands : List Operand) (a b c : Reading) (v : Word) (words : List Word)
     → IsRead (o ∷ []) a b (v ∷ []) → IsRead operands b c words → IsRead (o ∷ operands) a c (v ∷ words)
-reads_more o operands a b c v words r s = record {
-  taken = cc (r.taken, s.taken);
-  spelt = λ more left. r.spelt _ (s.spelt more left);
-}
+reads_more o operands a b c v words r s = grind arith
 
 -- nothing is missing yet
 abbrev begun : List (List ℕ) → Bool → Reading
@@ -53,12 +50,7 @@ ended [] (w ∷ words) true = simp (le-ltb (suc (length words)) 0 (omega arith))
 ended [] (w ∷ words) false = simp (le-ltb (suc (length words)) 0 (omega arith), lt-ltb 0 (suc (length words)) (omega arith))
 ended (o ∷ operands) [] bad =
     missing operands (taken o (begun [] bad)) refl ∙ simp (lt-ltb 0 (suc (length operands)) (omega arith))
-ended (o ∷ operands) (w ∷ words) bad =
-    ended operands words (bad || not (fits o w)) ∙ simp (
-      both_fit bad (fits o w) (all_fit operands words),
-      one_less (length words) (length operands),
-      one_less (length operands) (length words),
-    )
+ended (o ∷ operands) (w ∷ words) bad = search (both_fit, one_less, ended operands words)
 
 -- what was read behind a name: a form of these, and the words of its operands
 pub record ReadsForm (o : Option (List Operand)) (name : List ℕ) (a b : Reading) (spelling : List Word) : Type 0 where
@@ -71,28 +63,14 @@ pub record ReadsForm (o : Option (List Operand)) (name : List ℕ) (a b : Readin
 pub reads_form : (o : Option (List Operand)) (name : List ℕ) (a b : Reading) (spelling : List Word)
     → IsReadNamed o name a b spelling → ReadsForm o name a b spelling
 reads_form None name a b (Letters n ∷ words) h = absurd h.1
-reads_form (Some operands) name a b (Letters n ∷ words) h = record {
-  operands = operands;
-  words = words;
-  is_known = refl;
-  spelling_is = rw h.0 refl;
-  is_read = h.1;
-}
+reads_form (Some operands) name a b (Letters n ∷ words) h = search
 reads_form o name a b [] h = absurd h
 reads_form o name a b (Numbered l n ∷ words) h = absurd h
 reads_form o name a b (Long n ∷ words) h = absurd h
 
 -- nothing is wrong at the end
 whole : (b : Reading) → end_fault b ≡ None → IsLeft b []
-whole b h = nothing b.words b.is_missing b.is_bad h
-  where
-    nothing : (words : List (List ℕ)) (is_missing is_bad : Bool)
-        → end_fault (record { words = words; is_missing = is_missing; is_bad = is_bad }) ≡ None
-        → IsLeft (record { words = words; is_missing = is_missing; is_bad = is_bad }) []
-    nothing [] false false e = record { is_enough = refl; is_good = refl; spelt = tt }
-    nothing (w ∷ ws) false false e = absurd cc
-    nothing words false true e = absurd cc
-    nothing words true is_bad e = absurd cc
+whole b h = grind arith
 
 -- what was read is the step that it ends with, or the fault
 abbrev EndsWith : Result ScriptStep LineFault → ScriptStep → Reading → Type 0
@@ -105,9 +83,7 @@ operands_read : (result : Result ScriptStep LineFault) (step : ScriptStep) (oper
     (words : List (List ℕ)) (b : Reading) (vs : List Word) → IsRead operands (unread words) b vs
     → EndsWith result step b
     → MatchResult result (λ s. (s ≡ step) × AreSpelt words vs) (λ e. operand_fault operands words ≡ Some e)
-operands_read (Ok s) step operands words b vs h e =
-    let left = h.spelt [] (whole b e.1) in
-    (e.0, rw append-nil at left.spelt)
+operands_read (Ok s) step operands words b vs h e = grind (arith, append-nil, whole b e.1)
 operands_read (Err fault) step operands words b vs h e =
     sym (ended operands words false) ∙ ap end_fault (sym h.taken) ∙ e
 

@@ -28,12 +28,7 @@ abbrev one_left : StageJobs ℕ
 one_left = first_jobs (4 ∷ [])
 
 job_3_is_registered : RegistersStageJob number 2 3 unused replies.Registered one_registered
-job_3_is_registered = (
-  3,
-  refl,
-  IsPermutation-refl (3 ∷ 4 ∷ []),
-  (refl, ((λ m. either_first 2 m (Some (tt, 3)) None), refl)),
-)
+job_3_is_registered = grind arith
 
 it_is_not_used_while_it_is_left : ¬ (RegistersStageJob number 2 3 unused replies.Used unused)
 it_is_not_used_while_it_is_left is = is.0 0 0 (omega arith) refl
@@ -84,12 +79,7 @@ one_in_order zero d below = refl
 one_in_order (suc k) d below = absurd (omega (arith, below))
 
 the_last_check_fails : IsFirstFailure (2 ∷ 3 ∷ []) (2 ∷ []) (3 ∷ []) ((2 ∷ []) ∷ []) (Some Rest)
-the_last_check_fails = (
-  two_are_distinct,
-  one_in_order,
-  (one_is_distinct, λ n. refl),
-  λ rest. let none = rest.0 in absurd cc,
-)
+the_last_check_fails = grind (arith, two_are_distinct, one_is_distinct)
 
 -- 2 was put in twice, which is told before all else
 an_order_is_not_told_before_a_repeat : ¬ (IsFirstFailure (2 ∷ 2 ∷ []) (2 ∷ 2 ∷ []) [] lists (Some Order))

@@ -1,4 +1,5 @@
 -- How the reading of a script goes on by one line.
+use Rattle.std.proofs.Common.{arith}
 use Rattle.std.proofs.Common.{◌≡◌, ℕ, ◌+◌, ◌≤◌, true, List, [], ◌∷◌, ◌++◌, length, Some, None, OnSome, IfNone, refl}
 use Rattle.std.proofs.Common.{◌∙◌, append_assoc}
 use Rattle.std.specs.Borrow.{Bor}
@@ -22,13 +23,7 @@ pub record HasRead (text : List ℕ) (number : ℕ) (found : Told) (steps : List
 
 pub has_read_none : (text : List ℕ) (number : ℕ) (found : Told) → Finds text number found
     → OnSome found.content (found.number + length found.rest.now ≤ number + length text) → HasRead text number found []
-has_read_none text number found f behind = record {
-  spelt = λ more spelt. rw f.told spelt;
-  plain = f.plain;
-  fault = f.fault Steps;
-  behind = behind;
-  done = f.done;
-}
+has_read_none text number found f behind = grind arith
 
 -- one step more
 pub has_read_more : (text : List ℕ) (number : ℕ) (found next : Told) (steps items : List ScriptStep) (c : Bor (List ℕ))
@@ -38,19 +33,7 @@ pub has_read_more : (text : List ℕ) (number : ℕ) (found next : Told) (steps 
     → Finds found.rest.now found.number next → OnSome next.content
     (next.number + length next.rest.now ≤ found.number + length found.rest.now) → HasRead text number next items
 has_read_more text number found next steps items c step r found_is spells items_are f behind =
-    let sound : step_fault (words_of c.now) ≡ None = spelt_without_fault (words_of c.now) step spells in
-    let here : found.number + length found.rest.now ≤ number + length text = rw found_is at r.behind in
-    let far : (more : List ScriptStep) → SpellSteps (in_front (Some c) (told (lines_of found.rest.now))) more
-    → SpellSteps (told (lines_of text)) (steps ++ more) = rw found_is at r.spelt in
-    let fault_is : first_fault Steps (number + 1) (lines_of text) ≡ fault_from Steps (Some c) found.number
-    (lines_of found.rest.now) = r.fault ∙ rw found_is refl in
-    record {
-      spelt = λ more spelt. rw (items_are, append_assoc) (far (step ∷ more) (spells, rw f.told spelt));
-      plain = r.plain ∙ f.plain;
-      fault = fault_is ∙ simp sound (f.fault Steps);
-      behind = onsome_before next.content _ _ _ behind here;
-      done = f.done;
-    }
+    grind (arith, spelt_without_fault, append_assoc)
 
 -- nothing is left
 pub has_read_all : (text : List ℕ) (number : ℕ) (found : Told) (steps : List ScriptStep)
@@ -66,21 +49,14 @@ pub has_read_fault : (text : List ℕ) (number : ℕ) (found : Told) (steps : Li
     (e : TextFault) → HasRead text number found steps → found.content ≡ Some c
     → FailsFor e (fault_or found.number (step_fault (words_of c.now)) None)
     → FailsFor e (first_fault Steps (number + 1) (lines_of text))
-has_read_fault text number found steps c e r found_is fails =
-    let fault_is : first_fault Steps (number + 1) (lines_of text) ≡ fault_or found.number (step_fault
-    (words_of c.now)) (first_fault Steps (found.number + 1) (lines_of found.rest.now)) = r.fault
-    ∙ rw found_is refl in
-    rw fault_is (first_of_two e found.number (step_fault (words_of c.now)) (first_fault Steps (found.number + 1)
-    (lines_of found.rest.now)) fails)
+has_read_fault text number found steps c e r found_is fails = grind arith
 
 -- a fault behind it is that of the text too
 pub has_read_later_fault : (text : List ℕ) (number : ℕ) (found : Told) (steps : List ScriptStep) (c : Bor (List ℕ))
     (step : ScriptStep) (e : TextFault) → HasRead text number found steps → found.content ≡ Some c
     → SpellsScriptStep (words_of c.now) step → ((place : Place) → first_fault place (found.number + 1)
     (lines_of found.rest.now) ≡ Some e) → first_fault Steps (number + 1) (lines_of text) ≡ Some e
-has_read_later_fault text number found steps c step e r found_is spells later =
-    let sound : step_fault (words_of c.now) ≡ None = spelt_without_fault (words_of c.now) step spells in
-    r.fault ∙ rw found_is (simp sound (later Steps))
+has_read_later_fault text number found steps c step e r found_is spells later = grind (arith, spelt_without_fault)
 
 -- behind a header, the fault of the lines that follow is that of the text
 pub behind_header : (text : List ℕ) (found : Told) (c : Bor (List ℕ)) (e : TextFault) → Finds text 0 found

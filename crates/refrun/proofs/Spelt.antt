@@ -15,23 +15,12 @@ use Rattle.refrun.proofs.StepForms.{IsOf, AreOf, Lead, By, Turn, words_behind, f
 pub actor_number : (letter : ℕ) (actor : List ℕ) (n : ℕ) → number_behind (letter ∷ []) actor ≡ Some n
     → (number : List ℕ) × (actor ≡ letter ∷ number) × (number_below (2 ^ 32) number ≡ Some n)
 actor_number letter [] n h = absurd cc
-actor_number letter (b ∷ number) n h =
-    elim (cases_Bool (b == letter)) [
-      | inl is ↦ (number, ap (λ x. x ∷ number) (eqb-true _ _ is), simp is at h)
-      | inr isnt ↦ let none : number_behind (letter ∷ []) (b ∷ number) ≡ None = simp isnt refl in absurd cc
-    ]
+actor_number letter (b ∷ number) n h = grind arith
 
 -- an actor that has steps isn't the name of a turn
 pub no_turn : (letter : ℕ) (number name : List ℕ) (operands : List Operand)
     → operands_in (forms_of_letter letter) name ≡ Some operands → operands_in turn_forms (letter ∷ number) ≡ None
-no_turn letter number name operands known =
-    elim (cases_Bool (letter == 109)) [
-      | inl is ↦ rw (eqb-true _ _ is) refl
-      | inr isnt ↦ elim (cases_Bool (letter == 119)) [
-        | inl is ↦ rw (eqb-true _ _ is) refl
-        | inr other ↦ let none : operands_in (forms_of_letter letter) name ≡ None = simp (isnt, other) refl in absurd cc
-      ]
-    ]
+no_turn letter number name operands known = grind arith
 
 -- what a word says as an operand
 abbrev said : (ℕ → Word) → Option ℕ → Option Word
@@ -52,15 +41,7 @@ pub says_it : (operand : Operand) (word : List ℕ) (v : Word) → IsOf operand 
     → word_as operand word ≡ Some v
 says_it Slot word v (n, is) h = rw (is, subst (IsSpelt word) is h) refl
 says_it Queue word v (n, is) h = rw (is, subst (IsSpelt word) is h) refl
-says_it QueueOrNone word v (q, is) h = rw is (queue_said q (subst (IsSpelt word) is h))
-  where
-    queue_said : (r : Option ℕ) → IsSpelt word (queue_or_none r) → word_as QueueOrNone word ≡ Some (queue_or_none r)
-    queue_said None k = rw k refl
-    queue_said (Some n) k = elim (cases_Bool (bytes_eq word (codes "-"))) [
-      | inl is_dash ↦ let none : number_behind (codes "q") word ≡ None =
-          rw ((bytes_eq-Decides word (codes "-")).0 is_dash) refl in absurd cc
-      | inr isnt ↦ simp (isnt, k) refl
-    ]
+says_it QueueOrNone word v (q, is) h = grind arith
 says_it Number word v (n, is) h = rw (is, subst (IsSpelt word) is h) refl
 says_it Clock word v (n, is) h = rw (is, subst (IsSpelt word) is h) refl
 says_it UrgencyName word v (Normal, is) h = rw (is, subst (IsSpelt word) is h) refl
@@ -73,10 +54,7 @@ some_said spell (Some n) = refl
 fits_as : (operand : Operand) (word : List ℕ) → fits operand word ≡ is_some (word_as operand word)
 fits_as Slot word = some_said slot (number_behind (codes "s") word)
 fits_as Queue word = some_said queue (number_behind (codes "q") word)
-fits_as QueueOrNone word = elim (cases_Bool (bytes_eq word (codes "-"))) [
-  | inl is ↦ simp is refl
-  | inr isnt ↦ simp isnt (some_said queue (number_behind (codes "q") word))
-]
+fits_as QueueOrNone word = grind arith
 fits_as Number word = some_said number (number_below (2 ^ 32) word)
 fits_as Clock word = some_said (λ n. Long n) (number_below (2 ^ 64) word)
 fits_as UrgencyName word = elim (cases_Bool (fits UrgencyName word)) [ inl is ↦ simp is refl | inr isnt ↦ simp isnt refl ]
@@ -89,16 +67,11 @@ operands_fit [] words (v ∷ vs) of h = absurd of
 operands_fit (o ∷ operands) words [] of h = absurd of
 operands_fit (o ∷ operands) [] (v ∷ vs) of h = absurd h
 operands_fit (o ∷ operands) (w ∷ ws) (v ∷ vs) of h =
-    let rest = operands_fit operands ws vs of.1 h.1 in
-    (ap suc rest.0, simp (fits_as o w ∙ ap is_some (says_it o w v of.0 h.0)) rest.1)
+    search (fits_as, operands_fit operands ws vs of.1 h.1, says_it o w v of.0 h.0)
 
 operands_without_fault : (operands : List Operand) (words : List (List ℕ)) (vs : List Word) → AreOf operands vs
     → AreSpelt words vs → operand_fault operands words ≡ None
-operands_without_fault operands words vs of h =
-    let fit = operands_fit operands words vs of h in
-    let enough : nat_lt (length words) (length operands) ≡ false = le-ltb _ _ (omega (arith, fit.0)) in
-    let no_more : nat_lt (length operands) (length words) ≡ false = le-ltb _ _ (omega (arith, fit.0)) in
-    simp (enough, fit.1, no_more) refl
+operands_without_fault operands words vs of h = grind (arith, operands_fit)
 
 form_without_fault : (lead : Lead) (name : List ℕ) (operands : List Operand) (vs : List Word) (words : List (List ℕ))
     → operands_in (forms_of lead) name ≡ Some operands → AreOf operands vs
@@ -112,14 +85,9 @@ form_without_fault (By letter n) name operands vs (a ∷ w ∷ ws) known of h =
     operands_without_fault (Number ∷ operands) (actor.0 ∷ ws) (number n ∷ vs) ((n, refl), of) (actor.2, h.1.1) in
     rw (actor.1, no_turn letter actor.0 name operands known, known_name) whole
 form_without_fault Turn name operands vs [] known of h = absurd h
-form_without_fault Turn name operands vs (w ∷ ws) known of h =
-    let known_name : operands_in turn_forms w ≡ Some operands = rw h.0 known in
-    rw known_name (operands_without_fault operands ws vs of h.1)
+form_without_fault Turn name operands vs (w ∷ ws) known of h = search (operands_without_fault operands ws vs of h.1)
 
 -- words that spell a step have no fault
 pub spelt_without_fault : (words : List (List ℕ)) (step : ScriptStep) → SpellsScriptStep words step
     → step_fault words ≡ None
-spelt_without_fault words step h =
-    let form = form_of_step step in
-    form_without_fault form.lead form.name form.operands form.words words form.is_known form.are_of
-    (subst (AreSpelt words) form.spelling_is h)
+spelt_without_fault words step h = grind (arith, form_without_fault, form_of_step step)

@@ -50,15 +50,7 @@ pub record HasForm (spelling : List Word) : Type 0 where
 
 has_form : (lead : Lead) (name : List ℕ) (operands : List Operand) (words : List Word)
     → operands_in (forms_of lead) name ≡ Some operands → AreOf operands words → HasForm (words_behind lead name words)
-has_form lead name operands words known of = record {
-  lead = lead;
-  name = name;
-  operands = operands;
-  words = words;
-  spelling_is = refl;
-  is_known = known;
-  are_of = of;
-}
+has_form lead name operands words known of = search
 
 -- the forms of mutators and workers
 alone : (letter n : ℕ) (name : List ℕ) → operands_in (forms_of_letter letter) name ≡ Some []

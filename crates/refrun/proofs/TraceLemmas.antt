@@ -22,21 +22,13 @@ numbered_push : (k : ℕ) (rows : List ScriptRow) (row : ScriptRow) → numbered
     (rows ++ row ∷ []) ≡ numbered k rows ++ line_of_row (k + length rows) row
 unfolding line_of_row
 numbered_push k [] row = let same : k ≡ k + 0 = omega arith in ap (λ n. line_of_row n row) same
-numbered_push k (r ∷ rows) row =
-    let begun = decimal k ++ 32 ∷ script_row_text r in
-    let next : k + 1 + length rows ≡ k + length (r ∷ rows) = omega arith in
-    ap (λ (t : List ℕ). begun ++ 10 ∷ t) (numbered_push (k + 1) rows row)
-    ∙ sym (append_assoc begun (10 ∷ numbered (k + 1) rows) (line_of_row (k + 1 + length rows) row))
-    ∙ ap (λ n. (begun ++ 10 ∷ numbered (k + 1) rows) ++ line_of_row n row) next
+numbered_push k (r ∷ rows) row = grind (arith, append_assoc, numbered_push (k + 1) rows row)
 
 -- the steps that have their rows are one more
 step_taken : (steps : List ScriptStep) (i : ℕ) (next : ScriptStep) (rows : List ScriptRow) (reply : ScriptReply)
     → i < length steps → next ≡ get_or steps i next → script_steps_of rows ≡ take i steps
     → script_steps_of (rows ++ record { step = next; reply = reply } ∷ []) ≡ take (i + 1) steps
-step_taken steps i next rows reply within is so_far =
-    map-append (λ (row : ScriptRow). row.step) rows (record { step = next; reply = reply } ∷ [])
-    ∙ ap (λ (s : List ScriptStep). s ++ next ∷ []) so_far
-    ∙ sym (take_more steps i next within ∙ ap (λ (s : ScriptStep). take i steps ++ s ∷ []) (sym is))
+step_taken steps i next rows reply within is so_far = grind (arith, map-append, take_more)
 
 module _ {J : Type 0} (number note : J → ℕ) where
   -- ---- a run, row by row
@@ -79,9 +71,7 @@ module _ {J : Type 0} (number note : J → ℕ) where
   run_of_world : (a : State) (before : StageJobs J) (rows : List ScriptRow) (b : State) (after : StageJobs J)
       → IsScriptRun number note a before rows b after → IsRun a (world_rows rows) b
   run_of_world a before [] b after run = run.0
-  run_of_world a before (row ∷ rows) b after run =
-      row_in_world a before row.step row.reply run.0 run.1 (world_rows rows) b run.2
-      (run_of_world run.0 run.1 rows b after run.3)
+  run_of_world a before (row ∷ rows) b after run = search (row_in_world, run_of_world run.0 run.1 rows b after run.3)
 
   -- ---- its text
 
@@ -132,17 +122,7 @@ module _ {J : Type 0} (number note : J → ℕ) where
   pub prints_trace : (jobs : List J) (text printed : List ℕ) (config : Config) (steps : List ScriptStep)
       → IsScript text config steps → TellsTrace number note config jobs steps printed
       → PrintsTrace number note jobs text printed
-  prints_trace jobs text printed config steps script told =
-      let trace = told.2 in
-      record {
-        config = config;
-        rows = told.0;
-        script = rw told.1 script;
-        legal =
-            (trace.0, run_of_world (first_state config) (first_jobs jobs) told.0 trace.0 trace.1 trace.2);
-        with_jobs = trace;
-        is_text = told.3;
-      }
+  prints_trace jobs text printed config steps script told = grind (arith, run_of_world)
 
 -- a short enough text whose lines are a script spells it
 pub is_script : (text : List ℕ) (config : Config) (steps : List ScriptStep) → length text ≤ most_bytes

@@ -1,4 +1,5 @@
 -- A text that goes out in several writes.
+use Rattle.std.proofs.Common.{arith}
 use Rattle.std.proofs.Common.{◌≡◌, ℕ, List, [], ◌++◌, length, take, drop, Option, Some, None, refl, sym, ap, ◌∙◌}
 use Rattle.std.proofs.Common.{append_assoc}
 use Rattle.std.specs.Io.KnownBytes.{Keeps, Appends}
@@ -44,18 +45,11 @@ written_nothing known text = record { gone = []; parts = refl; appends = appends
 pub written_more : (old mid new : Option (List ℕ)) (text rest behind : List ℕ) (n : ℕ)
     → HasWritten old mid text rest → Appends mid new (take n rest) → behind ≡ drop n rest
     → HasWritten old new text behind
-written_more old mid new text rest behind n h k behind_is = record {
-  gone = h.gone ++ take n rest;
-  parts = h.parts ∙ ap (λ (t : List ℕ). h.gone ++ t) (sym (take-append-drop n rest))
-      ∙ sym (append_assoc h.gone (take n rest) (drop n rest)) ∙ rw behind_is refl;
-  appends = appends_then old mid new h.gone (take n rest) h.appends k;
-}
+written_more old mid new text rest behind n h k behind_is = grind (arith, take-append-drop, append_assoc, appends_then)
 
 pub written_all : (old mid new : Option (List ℕ)) (text rest : List ℕ) → HasWritten old mid text rest → rest ≡ []
     → Keeps mid new → Appends old new text
-written_all old mid new text rest h none k =
-    let whole : text ≡ h.gone = h.parts ∙ rw none (append-nil h.gone) in
-    rw whole (appends_kept old mid new h.gone h.appends k)
+written_all old mid new text rest h none k = grind (arith, append-nil)
 
 pub written_prefix : (old mid new : Option (List ℕ)) (text rest : List ℕ) → HasWritten old mid text rest
     → Keeps mid new → AppendsPrefix old new text

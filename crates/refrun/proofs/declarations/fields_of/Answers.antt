@@ -16,14 +16,7 @@ returns-in_err-object_or_none_of-clause-fault g c =
     )
 
 pub loop-rest-preserved : goal.loop-rest-preserved
-loop-rest-preserved g c =
-    has_field_more (words_of c.args.operands.now) (words_of c.loop-rest.rest.now) _ c.loop-rest.fields.items _ _ _
-    c.loop-rest.invariant c.in-Some.ensures (omega arith) c.in_ok-object_or_none_of.ensures c.in_ok-push.ensures.items
+loop-rest-preserved g c = grind (arith, has_field_more)
 
 pub returns-clause-found : goal.returns-clause-found
-returns-clause-found g c =
-    reads_fields (words_of c.args.operands.now) (words_of c.loop-rest.rest.now) c.loop-rest.fields.items
-    c.loop-rest.invariant (elim c.loop-rest-test.branch [
-      | else-loop-rest-test w ↦ inr (omega arith)
-      | then-loop-rest-test+in_default w ↦ inl w.in_default.ensures
-    ])
+returns-clause-found g c = grind (arith, reads_fields)

@@ -1,3 +1,4 @@
+use Rattle.std.proofs.Common.{arith}
 use Rattle.std.proofs.Common.{◌∷◌, [], refl}
 use Rattle.std.proofs.lemmas.Result.{err_from_is_err_and}
 use Rattle.refrun.proofs.Common.{words_of}
@@ -16,8 +17,4 @@ returns-in_err-ends-clause-fault g c =
     good) c.in_ok-fields.ensures.found left.2)
 
 pub returns-clause-found : goal.returns-clause-found
-returns-clause-found g c =
-    let fields = all_fields (words_of c.in_ok-referent.rest.now)
-    _ _ c.in_ok-fields.ensures.found c.in_ok-ends.ensures in
-    rw (c.in_ok-no.ensures, c.in_ok-referent.ensures)
-    (refl, c.in_ok-no-2.ensures, c.in_ok-referent-2.ensures, fields.0, fields.1)
+returns-clause-found g c = grind (arith, all_fields)

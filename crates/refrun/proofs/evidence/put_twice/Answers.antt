@@ -11,8 +11,4 @@ loop-first-preserved c =
     next_lacks _ _ _ (omega arith) c.index-enqueued-first.is _ c.loop-first.invariant (sym c.if-eq.ensures)
 
 pub loop-again-preserved : goal.loop-again-preserved
-loop-again-preserved c =
-    let same : c.loop-first.first ≡ c.loop-again.again = omega (arith, c.loop-first-test.false) in
-    next_distinct c.args.enqueued.now c.loop-again.again c.index-enqueued-again.result (omega arith)
-    c.index-enqueued-again.is c.loop-again.invariant
-    (subst (λ k. has (take k c.args.enqueued.now) c.index-enqueued-again.result ≡ false) same c.loop-first.invariant)
+loop-again-preserved c = grind (arith, next_distinct)

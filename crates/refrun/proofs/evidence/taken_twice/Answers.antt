@@ -33,16 +33,7 @@ pub loop-poller-init : goal.loop-poller-init
 loop-poller-init g c = none_distinct
 
 pub loop-other-preserved : goal.loop-other-preserved
-loop-other-preserved g c = λ n there.
-    next_list_lacks (λ v. v.items) c.args.lists.now c.loop-other.other c.index-lists-other.result
-    c.as_slice.result.now (omega arith) c.index-lists-other.is c.as_slice.ensures.value n
-    (c.loop-other.invariant n there) (c.in_default-number_of_both.ensures.passes n there)
+loop-other-preserved g c = grind (arith, next_list_lacks)
 
 pub loop-poller-preserved : goal.loop-poller-preserved
-loop-poller-preserved g c =
-    let same : c.loop-other.other ≡ c.loop-poller.poller = omega (arith, c.loop-other-test.false) in
-    next_list_distinct (λ v. v.items) c.args.lists.now c.loop-poller.poller c.index-lists-poller.result
-    c.as_slice-list.result.now (omega arith) c.index-lists-poller.is c.as_slice-list.ensures.value
-    c.loop-poller.invariant c.in_default.ensures.passes
-    (subst (λ (k : ℕ). (n : ℕ) → has c.as_slice-list.result.now n ≡ true
-    → has (flat_map (λ v. v.items) (take k c.args.lists.now)) n ≡ false) same c.loop-other.invariant)
+loop-poller-preserved g c = grind (arith, next_list_distinct)

@@ -1,3 +1,4 @@
+use Rattle.std.proofs.Common.{arith}
 use Rattle.std.proofs.Common.{◌+◌}
 use Rattle.std.proofs.lemmas.Result.{err_from_is_err_and}
 use Rattle.refrun.proofs.Common.{lines_of, Steps}
@@ -6,15 +7,12 @@ use Rattle.refrun.proofs.ScriptLines.{has_read_more, has_read_all, has_read_faul
 use Rattle.refrun.proofs.script.steps_of.Goals as goal
 
 pub returns-in_err-told-clause-fault : goal.returns-in_err-told-clause-fault
-returns-in_err-told-clause-fault g c =
-    let p = err_from_is_err_and c.from_residual.result c.from_residual.ensures.1 in
-    rw (p.1, p.2) (fails_for Steps (c.args.number + 1) (lines_of c.args.text.now) _ (c.in_err-told.ensures.fault Steps))
+returns-in_err-told-clause-fault g c = grind (arith, fails_for)
 
 pub returns-in_err-add_step-clause-fault : goal.returns-in_err-add_step-clause-fault
 returns-in_err-add_step-clause-fault g c =
-    let p = err_from_is_err_and c.from_residual-in_err-add_step.result c.from_residual-in_err-add_step.ensures.1 in
-    rw (p.1, p.2) (has_read_fault c.args.text.now c.args.number c.loop-told.told c.loop-told.steps.items
-    c.in-Some.content _ c.loop-told.invariant c.in-Some.is c.in_err-add_step.ensures.fault)
+    grind (arith,
+    has_read_fault c.args.text.now c.args.number c.loop-told.told c.loop-told.steps.items c.in-Some.content)
 
 pub returns-in_err-told-2-clause-fault : goal.returns-in_err-told-2-clause-fault
 returns-in_err-told-2-clause-fault g c =
@@ -32,9 +30,11 @@ loop-told-preserved g c =
     c.loop-told.invariant c.in-Some.is added.1 added.2 c.in_ok-told-2.ensures.found c.in_ok-told-2.ensures.behind
 
 pub returns-clause-spelt : goal.returns-clause-spelt
-returns-clause-spelt g c = (has_read_all c.args.text.now c.args.number c.loop-told.told c.loop-told.steps.items
-    c.loop-told.invariant c.in_default.is).0
+returns-clause-spelt g c =
+
+    search (has_read_all c.args.text.now c.args.number c.loop-told.told c.loop-told.steps.items c.loop-told.invariant c.in_default.is)
 
 pub returns-clause-plain : goal.returns-clause-plain
-returns-clause-plain g c = (has_read_all c.args.text.now c.args.number c.loop-told.told c.loop-told.steps.items
-    c.loop-told.invariant c.in_default.is).1
+returns-clause-plain g c =
+
+    search (has_read_all c.args.text.now c.args.number c.loop-told.told c.loop-told.steps.items c.loop-told.invariant c.in_default.is)

@@ -1,12 +1,11 @@
+use Rattle.std.proofs.Common.{arith}
 use Rattle.refrun.proofs.Common.{job_number, note_of}
 use Rattle.refrun.proofs.FaultLaws.{script_without_fault}
 use Rattle.refrun.proofs.TraceLemmas.{is_script, prints_trace}
 use Rattle.refrun.proofs.trace.trace_behind.Goals as goal
 
 pub returns-clause-prints : goal.returns-clause-prints
-returns-clause-prints g c =
-    prints_trace job_number note_of c.args.jobs.items _ _ c.in_ok-script.script.config c.in_ok-script.script.steps.items
-    (is_script _ _ _ c.requires c.in_ok-script.ensures.found) c.in_ok-trace.ensures.told
+returns-clause-prints g c = grind (arith, prints_trace, is_script)
 
 pub returns-clause-sound : goal.returns-clause-sound
 returns-clause-sound g c = script_without_fault _ _ _ (is_script _ _ _ c.requires c.in_ok-script.ensures.found)

@@ -1,3 +1,4 @@
+use Rattle.std.proofs.Common.{arith}
 use Rattle.std.proofs.Common.{rules}
 use Rattle.std.proofs.lemmas.Result.{err_from_is_err_and}
 use Rattle.refrun.proofs.WriteLemmas.{written_more, written_prefix, written_then}
@@ -10,13 +11,7 @@ returns-in_err-count-clause-err g c =
     c.loop-rest.invariant.0 c.in_err-count.ensures.err)
 
 pub loop-rest-preserved : goal.loop-rest-preserved
-loop-rest-preserved g c = (
-  written_more _ (g.W.Write.contents c.loop-rest.self.writer) _ c.args.text.now c.loop-rest.rest.now _ _
-      c.loop-rest.invariant.0 c.in_ok-count.ensures.ok.2 c.split_at.ensures.back,
-  search rules,
-)
+loop-rest-preserved g c = grind (arith, written_more)
 
 pub returns-then-is_err-clause-err : goal.returns-then-is_err-clause-err
-returns-then-is_err-clause-err g c =
-    written_prefix _ (g.W.Write.contents c.loop-rest.self.writer) _ c.args.text.now c.loop-rest.rest.now
-    c.loop-rest.invariant.0 c.flush.ensures.bytes
+returns-then-is_err-clause-err g c = search written_prefix
