@@ -6,8 +6,8 @@ use Rattle.std.specs.Prelude.{MatchResult}
 use Rattle.std.proofs.lemmas.Bool.{eq-eqb, le-ltb, lt-ltb}
 use Rattle.std.proofs.lemmas.Bool.Decides.{nat_tests}
 use Rattle.refrun.proofs.Common.{Word, Letters, Numbered, Long, step_words, script_step_words, Step, ScriptStep}
-use Rattle.refrun.proofs.Common.{SpellsScriptStep, AreSpelt, number, Operand, Number, LineFault, operands_in, forms_of_letter}
-use Rattle.refrun.proofs.Common.{turn_forms, step_fault}
+use Rattle.refrun.proofs.Common.{SpellsScriptStep, AreSpelt, number, Operand, Number, LineFault, operands_in}
+use Rattle.refrun.proofs.Common.{forms_of_letter, turn_forms, step_fault}
 use Rattle.refrun.specs.OperandReading.{Reading, unread, taken, all_taken, end_fault, IsLeft, IsRead, IsReadNamed}
 use Rattle.refrun.specs.OperandReading.{IsReadBehind}
 use Rattle.refrun.specs.StepFaults.{fits, all_fit, operand_fault, actor_fault}
@@ -40,14 +40,16 @@ one_less : (a b : ℕ) → nat_lt (suc a) (suc b) ≡ nat_lt a b
 one_less a b = grind (arith, nat_tests)
 
 -- the faults by kind are those of all words
-ended : (operands : List Operand) (words : List (List ℕ)) (bad : Bool) → end_fault (all_taken operands (begun words bad))
+ended : (operands : List Operand) (words : List (List ℕ)) (bad : Bool)
+    → end_fault (all_taken operands (begun words bad))
     ≡ (if nat_lt (length words) (length operands) then Some MissingWord else
     (if bad || not (all_fit operands words) then Some BadWord else
     (if nat_lt (length operands) (length words) then Some ExtraWord else None)))
 ended [] [] true = refl
 ended [] [] false = refl
 ended [] (w ∷ words) true = simp (le-ltb (suc (length words)) 0 (omega arith))
-ended [] (w ∷ words) false = simp (le-ltb (suc (length words)) 0 (omega arith), lt-ltb 0 (suc (length words)) (omega arith))
+ended [] (w ∷ words) false =
+    simp (le-ltb (suc (length words)) 0 (omega arith), lt-ltb 0 (suc (length words)) (omega arith))
 ended (o ∷ operands) [] bad =
     missing operands (taken o (begun [] bad)) refl ∙ simp (lt-ltb 0 (suc (length operands)) (omega arith))
 ended (o ∷ operands) (w ∷ words) bad = search (both_fit, one_less, ended operands words)

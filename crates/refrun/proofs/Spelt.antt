@@ -57,7 +57,10 @@ fits_as Queue word = some_said queue (number_behind (codes "q") word)
 fits_as QueueOrNone word = grind arith
 fits_as Number word = some_said number (number_below (2 ^ 32) word)
 fits_as Clock word = some_said (λ n. Long n) (number_below (2 ^ 64) word)
-fits_as UrgencyName word = elim (cases_Bool (fits UrgencyName word)) [ inl is ↦ simp is refl | inr isnt ↦ simp isnt refl ]
+fits_as UrgencyName word = elim (cases_Bool (fits UrgencyName word)) [
+  | inl is ↦ simp is refl
+  | inr isnt ↦ simp isnt refl
+]
 
 operands_fit : (operands : List Operand) (words : List (List ℕ)) (vs : List Word) → AreOf operands vs
     → AreSpelt words vs → (length words ≡ length operands) × (all_fit operands words ≡ true)

@@ -79,7 +79,8 @@ IsReadBehind operands actor name a b [] = ⊥
 IsReadBehind operands actor name a b (first ∷ words) = (first ≡ actor) × IsReadNamed operands name a b words
 
 -- the step of an actor with a name, if it is one of these, and how its operands were read
-abbrev pub IsReadAs : {A : Type 0} → (A → List Word) → List Form → Word → List ℕ → Operands → Operands → Option A → Type 0
+abbrev pub IsReadAs : {A : Type 0} → (A → List Word) → List Form → Word → List ℕ → Operands → Operands → Option A
+    → Type 0
 IsReadAs words forms actor name old new None = operands_in forms name ≡ None
 IsReadAs words forms actor name old new (Some step) =
     IsReadBehind (operands_in forms name) actor name (reading old) (reading new) (words step)
