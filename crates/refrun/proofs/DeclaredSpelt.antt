@@ -1,11 +1,9 @@
 -- Words that spell what a line says have no fault.
-use Rattle.std.proofs.Common.{◌≡◌, ℕ, ◌+◌, ◌^◌, ◌≤◌, true, false, nat_lt, List, [], ◌∷◌, length, take, Some, None, refl}
+use Rattle.std.proofs.Common.{◌≡◌, ℕ, ◌+◌, ◌≤◌, true, List, [], ◌∷◌, length, None, refl}
 use Rattle.std.proofs.Common.{arith}
-use Rattle.std.proofs.lemmas.Bool.{le-ltb}
 use Rattle.std.proofs.lemmas.List.{take_all}
-use Rattle.refrun.proofs.Common.{Strength, Soft, Weak, Phantom, words_fault, declaration_fault, number_in, are_operands}
-use Rattle.refrun.proofs.Common.{Declared, Root, Plain, Reference, SpellsDeclared, strength_name, declared_no}
-use Rattle.refrun.proofs.Common.{number_below}
+use Rattle.refrun.proofs.Common.{words_fault, declaration_fault, number_in, are_operands}
+use Rattle.refrun.proofs.Common.{Declared, Root, Plain, Reference, SpellsDeclared, declared_no}
 use Rattle.refrun.proofs.Fields.{object_fits, object_or_none_fits, fields_fit, fields_length}
 
 -- enough words, of their forms, and no more than may stand there
@@ -28,8 +26,14 @@ declared_without_fault (Reference n s r fields) [] h = absurd h
 declared_without_fault (Reference n s r fields) (name ∷ []) h = absurd h
 declared_without_fault (Reference n s r fields) (name ∷ word ∷ []) h = absurd h
 declared_without_fault (Reference n s r fields) (name ∷ word ∷ other ∷ words) h =
-    grind (arith, fields_length, object_or_none_fits, fields_fit, words_without_fault 2 8 (word ∷ other ∷ words),
-    object_fits word n h.1)
+    grind (
+      arith,
+      fields_length,
+      object_or_none_fits,
+      fields_fit,
+      words_without_fault 2 8 (word ∷ other ∷ words),
+      object_fits word n h.1,
+    )
 
 -- the number that the words have is that of what they say
 pub number_of_words : (d : Declared) (words : List (List ℕ)) → SpellsDeclared words d

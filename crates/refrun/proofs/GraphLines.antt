@@ -1,10 +1,9 @@
 -- How the reading of a graph text goes on by one line.
 use Rattle.std.proofs.Common.{arith}
 use Rattle.std.proofs.Common.{◌≡◌, ℕ, ◌+◌, ◌≤◌, ◌||◌, ◌==◌, Bool, true, false, List, [], ◌∷◌, ◌++◌, length, Option}
-use Rattle.std.proofs.Common.{nat_lt, Some, None, OnSome, IfNone, refl, sym, ap, ◌∙◌, append_assoc, inl, inr}
+use Rattle.std.proofs.Common.{Some, None, OnSome, IfNone, refl, sym, ap, ◌∙◌, append_assoc}
 use Rattle.std.specs.Borrow.{Bor}
 use Rattle.std.specs.List.{list_all}
-use Rattle.std.proofs.lemmas.Bool.{cases_Bool, eqb-true}
 use Rattle.std.proofs.lemmas.List.{append-nil}
 use Rattle.refrun.proofs.Common.{Graph, plain_object, declaration_fault, number_in, Declared, Root, Plain, Reference}
 use Rattle.refrun.proofs.Common.{SpellsDeclared, declared_no, with_declared_no, NoneTwice, declared_graph, SpellAll}
@@ -17,7 +16,7 @@ use Rattle.refrun.specs.GraphReading.{AreNumbersOf, has_object, AddsObject, Adds
 use Rattle.refrun.specs.GraphTexts.{is_graph_header}
 use Rattle.refrun.specs.declared.fault.TextFault.TheVariants as texts
 use Rattle.refrun.proofs.DeclaredSpelt.{declared_without_fault, number_of_words}
-use Rattle.refrun.proofs.LineLemmas.{first_of_two, onsome_before}
+use Rattle.refrun.proofs.LineLemmas.{onsome_before}
 
 -- ---- the numbers of a graph's objects
 

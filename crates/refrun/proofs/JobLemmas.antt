@@ -1,17 +1,16 @@
 -- Rows of jobs, from each state that the world stands for.
 use Rattle.std.proofs.Common.{arith}
-use Rattle.std.proofs.Common.{◌≡◌, ℕ, ◌<◌, List, [], ◌∷◌, ◌++◌, length, get_or, Option, Some, None, Ok, Err, refl, sym}
+use Rattle.std.proofs.Common.{◌≡◌, ℕ, ◌<◌, List, [], ◌∷◌, ◌++◌, length, get_or, Option, Some, None, Ok, Err, refl}
 use Rattle.std.proofs.Common.{ap, ◌∙◌}
 use Rattle.std.specs.Prelude.{All, HoldsAt, IsPermutation, MatchOption, swap_remove}
 use Rattle.std.specs.List.{AllWithin}
 use Rattle.std.proofs.lemmas.List.Elements.{All-from_all_within}
 use Rattle.std.proofs.lemmas.List.Sorted.{IsPermutation-swap_remove, IsPermutation-to_front, IsPermutation-sym}
 use Rattle.std.proofs.lemmas.List.Sorted.{IsPermutation-trans}
-use Rattle.refrun.proofs.Common.{State, IsRow, Fault, Done, Refused, Step, Clear, Core, Stands, StageJobs}
+use Rattle.refrun.proofs.Common.{State, Fault, Refused, Step, Clear, Core, Stands, StageJobs}
 use Rattle.refrun.proofs.Common.{RegistersStageJob, IsScriptRowOf, jobs, ScriptReply}
-use Rattle.ref_base.specs.Heaps.{Heap, slot_at}
+use Rattle.ref_base.specs.Heaps.{slot_at}
 use Rattle.ref_base.specs.Refusals.{clear_refusal}
-use Rattle.ref_base.specs.CollectorRows.{IsAnswer}
 use Rattle.ref_base.specs.declared.heap_step.HeapStep.TheVariants as heap
 use Rattle.ref_base.specs.declared.reply.Reply.{Reply}
 use Rattle.ref_mark.proofs.MarkLaws.{on_own_heap}
@@ -26,9 +25,6 @@ module _ (c : Core) (a : State) (stands : Stands c a) (m s : ℕ) where
   -- what refuses a clear, and what its slot holds, is as the heap has it
   same_refusal : clear_refusal a.world.heap m s ≡ clear_refusal (model_heap c.heap) m s
   same_refusal = on_own_heap (cycles_of c.heap) a stands.heap.mark (heap.Clear m s)
-
-  same_slot : slot_at a.world.heap m s ≡ slot_at (model_heap c.heap) m s
-  same_slot = ap (λ (h : Heap). slot_at h m s) stands.heap.mark.heap
 
 -- the place of the first of these, if there is one
 pub place_or_none : {X : Type 0} (Yes No : X → Type 0) (xs : List X) (r : Option ℕ)

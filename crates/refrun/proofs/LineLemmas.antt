@@ -1,15 +1,13 @@
 -- How the reading of a text goes on by one line.
 use Rattle.std.proofs.Common.{◌≡◌, ℕ, suc, ◌+◌, ◌≤◌, ◌<◌, Bool, true, false, List, [], ◌∷◌, length, Option, Some, None}
 use Rattle.std.proofs.Common.{OnSome, refl, sym, ap, ◌∙◌, inl, inr, arith}
-use Rattle.std.specs.Char.{is_ascii}
 use Rattle.std.specs.Borrow.{Bor}
 use Rattle.std.specs.List.{list_all}
 use Rattle.std.proofs.lemmas.Bool.{cases_Bool, false≢true}
 use Rattle.refrun.proofs.Common.{TextLine, lines_of, content_of, words_of, Place, place_after, place_fault, fault_or}
-use Rattle.refrun.proofs.Common.{plain_fault, first_fault, is_short, is_plain_line, says_nothing, line_words, told}
+use Rattle.refrun.proofs.Common.{plain_fault, first_fault, is_plain_line, says_nothing, line_words, told}
 use Rattle.refrun.proofs.Common.{FailsFor, Finds, LineFault, TextFault, Told}
 use Rattle.refrun.specs.TextFaults.{end_fault}
-use Rattle.refrun.specs.declared.fault.LineFault.TheVariants.{LineTooLong, NotAscii}
 use Rattle.refrun.specs.declared.fault.TextFault.TheVariants as texts
 
 -- a text's lines have the fault of a line and no other
@@ -59,10 +57,6 @@ pub record Skips (text : List ℕ) (number : ℕ) (rest : List ℕ) (k : ℕ) : 
 
 pub skips_nothing : (text : List ℕ) (number : ℕ) → Skips text number text number
 skips_nothing text number = grind arith
-
--- a line without a fault of its own is plain
-plain_line : (line : TextLine) → plain_fault line ≡ None → is_plain_line line ≡ true
-plain_line line h = grind arith
 
 -- a line with a fault of its own
 pub faulty_line : (text rest behind : List ℕ) (number k : ℕ) (line : TextLine) (fault : LineFault)

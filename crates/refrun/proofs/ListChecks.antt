@@ -2,7 +2,7 @@
 use Rattle.std.proofs.Common.{◌≡◌, ℕ, ◌+◌, ◌<◌, ◌≤◌, zero, suc, nat_eq, ◌==◌, arith, refl, sym, ap, subst, ◌∙◌, Bool}
 use Rattle.std.proofs.Common.{true, false, not, ◌&&◌, ◌||◌, cond, IsTrue, ◌↔◌, inl, inr, List, [], ◌∷◌, ◌++◌, length}
 use Rattle.std.proofs.Common.{get_or, take, drop, map, flat_map, append_assoc}
-use Rattle.std.proofs.lemmas.Bool.{cases_Bool, true≢false, ne_eqb, or_cases}
+use Rattle.std.proofs.lemmas.Bool.{true≢false, ne_eqb, or_cases}
 use Rattle.std.proofs.lemmas.List.{take-append-drop, take_all, take_more, drop_all, get_or-map, length-map}
 use Rattle.std.proofs.lemmas.List.Elements.{All-map}
 use Rattle.std.proofs.lemmas.Map.Keys.{IsDistinct-push}
@@ -12,7 +12,7 @@ use Rattle.std.specs.List.{All, AllByRecursion, IsDistinct, list_any, concat}
 use Rattle.std.specs.Cmp.{nat_eq_equiv}
 use Rattle.std.specs.Cmp.Lexicographic.{pointwise}
 use Rattle.refrun.proofs.Common.{has, is_subsequence, TookInOrder}
-use Rattle.ref_base.proofs.HasLaws.{has-list_any, has-first, has-right, has-cases, has-single, has-append}
+use Rattle.ref_base.proofs.HasLaws.{has-list_any, has-right, has-cases, has-single, has-append}
 use Rattle.refrun.specs.StressChecks.{GivesEachOnce}
 
 -- what a test says of the fact that it decides
@@ -110,11 +110,6 @@ is_left : (taken given : Bool) → (taken && not given) ≡ true → (taken ≡ 
 is_left true true left = absurd (true≢false (sym left))
 is_left true false left = (refl, refl)
 is_left false given left = absurd (true≢false (sym left))
-
--- nothing is given at first
-and_true : (b : Bool) → b ≡ (b && true)
-and_true true = refl
-and_true false = refl
 
 pub nothing_given : {keys : List ℕ} (taken : List ℕ) (i : ℕ) → length taken ≤ i
     → ((q : ℕ) → has keys q ≡ has (take i taken) q) → Left taken [] keys

@@ -5,18 +5,13 @@ use Rattle.std.proofs.lemmas.List.{append-nil}
 use Rattle.std.specs.Prelude.{MatchResult}
 use Rattle.std.proofs.lemmas.Bool.{eq-eqb, le-ltb, lt-ltb}
 use Rattle.std.proofs.lemmas.Bool.Decides.{nat_tests}
-use Rattle.refrun.proofs.Common.{Word, Letters, Numbered, Long, step_words, script_step_words, Step, ScriptStep}
+use Rattle.refrun.proofs.Common.{Word, Letters, Numbered, Long, script_step_words, ScriptStep}
 use Rattle.refrun.proofs.Common.{SpellsScriptStep, AreSpelt, number, Operand, Number, LineFault, operands_in}
-use Rattle.refrun.proofs.Common.{forms_of_letter, turn_forms, step_fault}
+use Rattle.refrun.proofs.Common.{forms_of_letter}
 use Rattle.refrun.specs.OperandReading.{Reading, unread, taken, all_taken, end_fault, IsLeft, IsRead, IsReadNamed}
 use Rattle.refrun.specs.OperandReading.{IsReadBehind}
-use Rattle.refrun.specs.StepFaults.{fits, all_fit, operand_fault, actor_fault}
-use Rattle.refrun.specs.declared.script_step.ScriptStep.TheVariants as scripts
+use Rattle.refrun.specs.StepFaults.{all_fit, operand_fault, actor_fault}
 use Rattle.refrun.specs.declared.fault.LineFault.TheVariants.{MissingWord, BadWord, ExtraWord}
-
--- operands are read one after the other
-pub reads_none : (a : Reading) → IsRead [] a a []
-reads_none a = record { taken = refl; spelt = λ more left. left }
 
 pub reads_more : (o : Operand) (operands : List Operand) (a b c : Reading) (v : Word) (words : List Word)
     → IsRead (o ∷ []) a b (v ∷ []) → IsRead operands b c words → IsRead (o ∷ operands) a c (v ∷ words)
@@ -88,23 +83,6 @@ operands_read : (result : Result ScriptStep LineFault) (step : ScriptStep) (oper
 operands_read (Ok s) step operands words b vs h e = grind (arith, append-nil, whole b e.1)
 operands_read (Err fault) step operands words b vs h e =
     sym (ended operands words false) ∙ ap end_fault (sym h.taken) ∙ e
-
--- a turn of a cycle
-pub turn_read : (result : Result ScriptStep LineFault) (step : Step) (name : List ℕ) (line words : List (List ℕ))
-    (b : Reading) → line ≡ name ∷ words
-    → IsReadNamed (operands_in turn_forms name) name (unread words) b (step_words step)
-    → EndsWith result (scripts.World step) b → StepOrFault result line (step_fault line)
-turn_read result step name line words b line_is h e =
-    let f = reads_form (operands_in turn_forms name) name (unread words) b (step_words step) h in
-    rw line_is (read result f.operands f.words f.is_known f.spelling_is
-    (operands_read result (scripts.World step) f.operands words b f.words f.is_read e))
-  where
-    read : (r : Result ScriptStep LineFault) (operands : List Operand) (vs : List Word)
-        → operands_in turn_forms name ≡ Some operands → step_words step ≡ Letters name ∷ vs
-        → MatchResult r (λ s. (s ≡ scripts.World step) × AreSpelt words vs) (λ e. operand_fault operands words ≡ Some e)
-        → StepOrFault r (name ∷ words) (step_fault (name ∷ words))
-    read (Ok s) operands vs known spelling_is m = rw (m.0, spelling_is) (refl, m.1)
-    read (Err fault) operands vs known spelling_is m = rw known m
 
 -- a step of an actor
 pub actor_read : (result : Result ScriptStep LineFault) (step : ScriptStep) (letter n : ℕ) (actor digits name : List ℕ)

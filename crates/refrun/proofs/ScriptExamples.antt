@@ -2,10 +2,9 @@
 use Rattle.std.proofs.Common.{◌≢◌, ℕ, zero, suc, ◌+◌, ◌<◌, List, [], ◌∷◌, None, Some, get_or, refl, arith, nat_eq}
 use Rattle.std.proofs.Common.{false}
 use Rattle.std.specs.List.{IsDistinct}
-use Rattle.std.proofs.lemmas.List.Sorted.{IsPermutation-refl}
 use Rattle.refrun.proofs.Common.{IsRow, State, Done, Clear, StageJobs, first_jobs, RegistersStageJob, TookInOrder}
 use Rattle.refrun.proofs.Common.{IsFirstFailure}
-use Rattle.ref_queue.proofs.TableLemmas.{either_first, first_out}
+use Rattle.ref_queue.proofs.TableLemmas.{first_out}
 use Rattle.refrun.specs.ScriptRuns.{RunsJob}
 use Rattle.refrun.specs.declared.lists.Check.TheVariants.{Order, Rest}
 use Rattle.refrun.specs.declared.script_step.ScriptReply.TheVariants as replies

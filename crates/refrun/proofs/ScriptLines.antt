@@ -9,7 +9,6 @@ use Rattle.refrun.proofs.Common.{lines_of, words_of, SpellsScriptStep, Place, Sc
 use Rattle.refrun.proofs.Common.{fault_or, first_fault, is_header, SpellSteps, is_plain_line, told, step_fault}
 use Rattle.refrun.proofs.Common.{FailsFor, in_front, fault_from, Finds, TextFault, Told, ScriptStep}
 use Rattle.refrun.proofs.Spelt.{spelt_without_fault}
-use Rattle.refrun.proofs.LineLemmas.{first_of_two, onsome_before}
 
 -- the steps so far, whatever spells what is left
 pub record HasRead (text : List ℕ) (number : ℕ) (found : Told) (steps : List ScriptStep) : Type 0 where

@@ -1,10 +1,9 @@
 -- Words that spell a step have no fault.
-use Rattle.std.proofs.Common.{◌≡◌, ℕ, suc, ◌^◌, true, false, ◌==◌, nat_lt, List, [], ◌∷◌, length, Option, Some, None}
-use Rattle.std.proofs.Common.{is_some, codes, refl, ap, ◌∙◌, subst, if◌then◌else◌, inl, inr, arith}
-use Rattle.std.proofs.lemmas.Bool.{cases_Bool, le-ltb, eqb-true}
+use Rattle.std.proofs.Common.{◌≡◌, ℕ, ◌^◌, true, List, [], ◌∷◌, length, Option, Some, None}
+use Rattle.std.proofs.Common.{is_some, codes, refl, subst, if◌then◌else◌, inl, inr, arith}
+use Rattle.std.proofs.lemmas.Bool.{cases_Bool}
 use Rattle.std.specs.Str.{bytes_eq}
-use Rattle.std.proofs.lemmas.Slice.Eq.{bytes_eq-Decides}
-use Rattle.refrun.proofs.Common.{Word, Letters, Long, slot, queue, number, queue_or_none, Normal, Urgent}
+use Rattle.refrun.proofs.Common.{Word, Letters, Long, slot, queue, number, Normal, Urgent}
 use Rattle.refrun.proofs.Common.{number_below, number_behind, IsSpelt, AreSpelt, SpellsScriptStep, ScriptStep, Operand}
 use Rattle.refrun.proofs.Common.{Slot, Queue, QueueOrNone, Number, Clock, UrgencyName, operands_in, forms_of_letter}
 use Rattle.refrun.proofs.Common.{turn_forms, step_fault}

@@ -1,5 +1,4 @@
-use Rattle.std.proofs.Common.{◌≡◌, false, take, sym, subst, arith}
-use Rattle.refrun.proofs.Common.{has}
+use Rattle.std.proofs.Common.{sym, arith}
 use Rattle.refrun.proofs.NoEvidence.{next_distinct, next_lacks, none_distinct}
 use Rattle.refrun.proofs.evidence.put_twice.Goals as goal
 

@@ -1,5 +1,3 @@
-use Rattle.std.proofs.Common.{◌≡◌, ℕ, true, false, take, flat_map}
-use Rattle.refrun.proofs.Common.{has}
 use Rattle.refrun.proofs.NoEvidence.{none_distinct, next_list_distinct, next_list_lacks}
 use Rattle.std.proofs.Common.{length, refl, subst, arith}
 use Rattle.std.proofs.lemmas.Option.{slice_get_read}

@@ -1,6 +1,4 @@
 use Rattle.std.proofs.Common.{arith}
-use Rattle.std.proofs.lemmas.Result.{err_from_is_err_and}
-use Rattle.refrun.proofs.Common.{lines_of, GraphHeader}
 use Rattle.refrun.proofs.LineLemmas.{fails_for}
 use Rattle.refrun.proofs.graph_text.declared_graph.Goals as goal
 

@@ -1,5 +1,4 @@
 use Rattle.std.proofs.Common.{arith}
-use Rattle.std.proofs.Common.{sym, ◌∙◌}
 use Rattle.refrun.proofs.Cuts.{line_cut, last_cut}
 use Rattle.refrun.proofs.lines.next_line.Goals as goal
 

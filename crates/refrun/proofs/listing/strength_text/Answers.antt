@@ -1,6 +1,4 @@
 use Rattle.std.proofs.Common.{arith}
-use Rattle.refrun.proofs.Common.{graph_fault, PrintsStrengths}
-use Rattle.refrun.proofs.AnswerLemmas.{answers_done, answers_prefix, tells_nothing}
 use Rattle.refrun.proofs.listing.strength_text.Goals as goal
 
 pub returns-in-Ok-clause-answer : goal.returns-in-Ok-clause-answer

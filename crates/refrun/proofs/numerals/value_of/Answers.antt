@@ -1,6 +1,5 @@
-use Rattle.std.proofs.Common.{◌≡◌, ◌<◌, ◌^◌, ◌∙◌, ap, arith, subst, take}
+use Rattle.std.proofs.Common.{arith}
 use Rattle.std.proofs.lemmas.List.{take_all}
-use Rattle.std.specs.Str.Parse.{digits_value}
 use Rattle.refrun.proofs.Digits.{front_value, one_digit_more}
 use Rattle.refrun.proofs.numerals.value_of.Goals as goal
 

@@ -1,9 +1,5 @@
 use Rattle.std.proofs.Common.{arith}
-use Rattle.std.proofs.Common.{sym, ◌∙◌}
-use Rattle.std.proofs.lemmas.Result.{err_from_is_err_and}
-use Rattle.refrun.proofs.Common.{lines_of, ScriptHeader, Configuration}
 use Rattle.refrun.proofs.LineLemmas.{fails_for}
-use Rattle.refrun.proofs.ScriptLines.{behind_header}
 use Rattle.refrun.proofs.script.script_of.Goals as goal
 
 pub returns-in_err-header-clause-fault : goal.returns-in_err-header-clause-fault

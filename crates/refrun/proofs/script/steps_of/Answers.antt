@@ -11,8 +11,10 @@ returns-in_err-told-clause-fault g c = grind (arith, fails_for)
 
 pub returns-in_err-add_step-clause-fault : goal.returns-in_err-add_step-clause-fault
 returns-in_err-add_step-clause-fault g c =
-    grind (arith,
-    has_read_fault c.args.text.now c.args.number c.loop-told.told c.loop-told.steps.items c.in-Some.content)
+    grind (
+      arith,
+      has_read_fault c.args.text.now c.args.number c.loop-told.told c.loop-told.steps.items c.in-Some.content,
+    )
 
 pub returns-in_err-told-2-clause-fault : goal.returns-in_err-told-2-clause-fault
 returns-in_err-told-2-clause-fault g c =
@@ -31,10 +33,8 @@ loop-told-preserved g c =
 
 pub returns-clause-spelt : goal.returns-clause-spelt
 returns-clause-spelt g c =
-
     search (has_read_all c.args.text.now c.args.number c.loop-told.told c.loop-told.steps.items c.loop-told.invariant c.in_default.is)
 
 pub returns-clause-plain : goal.returns-clause-plain
 returns-clause-plain g c =
-
     search (has_read_all c.args.text.now c.args.number c.loop-told.told c.loop-told.steps.items c.loop-told.invariant c.in_default.is)

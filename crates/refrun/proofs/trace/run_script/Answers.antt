@@ -1,6 +1,4 @@
 use Rattle.std.proofs.Common.{arith}
-use Rattle.refrun.proofs.Common.{job_number, note_of, script_fault, PrintsTrace}
-use Rattle.refrun.proofs.AnswerLemmas.{answers_done, answers_prefix, tells_nothing}
 use Rattle.refrun.proofs.trace.run_script.Goals as goal
 
 pub returns-in-Ok-clause-answer : goal.returns-in-Ok-clause-answer
