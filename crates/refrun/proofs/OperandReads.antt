@@ -5,19 +5,15 @@ use Rattle.std.proofs.lemmas.List.{append-nil}
 use Rattle.std.specs.Prelude.{MatchResult}
 use Rattle.std.proofs.lemmas.Bool.{eq-eqb, le-ltb, lt-ltb}
 use Rattle.std.proofs.lemmas.Bool.Decides.{nat_tests}
-use Rattle.refrun.proofs.Common.{Word, Letters, Numbered, Long, step_words, script_step_words, Step, ScriptStep}
+use Rattle.refrun.proofs.Common.{Word, Letters, Numbered, Long, script_step_words, ScriptStep}
 use Rattle.refrun.proofs.Common.{SpellsScriptStep, AreSpelt, number, Operand, Number, LineFault, operands_in}
-use Rattle.refrun.proofs.Common.{forms_of_letter, turn_forms, step_fault}
-use Rattle.refrun.specs.OperandReading.{Reading, unread, taken, all_taken, end_fault, IsLeft, IsRead, IsReadNamed}
-use Rattle.refrun.specs.OperandReading.{IsReadBehind}
+use Rattle.refrun.proofs.Common.{forms_of_letter}
+use Rattle.refrun.specs.OperandReading.{Reading, unread, taken, all_taken, fault_at_end, IsUnfaulted, IsRead}
+use Rattle.refrun.specs.OperandReading.{IsReadNamed, IsReadBehind}
 use Rattle.refrun.specs.StepFaults.{fits, all_fit, operand_fault, actor_fault}
-use Rattle.refrun.specs.declared.script_step.ScriptStep.TheVariants as scripts
 use Rattle.refrun.specs.declared.fault.LineFault.TheVariants.{MissingWord, BadWord, ExtraWord}
 
 -- operands are read one after the other
-pub reads_none : (a : Reading) → IsRead [] a a []
-reads_none a = record { taken = refl; spelt = λ more left. left }
-
 pub reads_more : (o : Operand) (operands : List Operand) (a b c : Reading) (v : Word) (words : List Word)
     → IsRead (o ∷ []) a b (v ∷ []) → IsRead operands b c words → IsRead (o ∷ operands) a c (v ∷ words)
 reads_more o operands a b c v words r s = record {
@@ -30,7 +26,7 @@ abbrev begun : List (List ℕ) → Bool → Reading
 begun words is_bad = record { words = words; is_missing = false; is_bad = is_bad }
 
 missing : (operands : List Operand) (r : Reading) → r.is_missing ≡ true
-    → end_fault (all_taken operands r) ≡ Some MissingWord
+    → fault_at_end (all_taken operands r) ≡ Some MissingWord
 missing [] r h = simp h
 missing (o ∷ operands) r h = missing operands (taken o r) (simp h refl)
 
@@ -44,7 +40,7 @@ one_less a b = grind (arith, nat_tests)
 
 -- the faults by kind are those of all words
 ended : (operands : List Operand) (words : List (List ℕ)) (bad : Bool)
-    → end_fault (all_taken operands (begun words bad))
+    → fault_at_end (all_taken operands (begun words bad))
     ≡ (if nat_lt (length words) (length operands) then Some MissingWord else
     (if bad || not (all_fit operands words) then Some BadWord else
     (if nat_lt (length operands) (length words) then Some ExtraWord else None)))
@@ -85,12 +81,12 @@ reads_form o name a b (Numbered l n ∷ words) h = absurd h
 reads_form o name a b (Long n ∷ words) h = absurd h
 
 -- nothing is wrong at the end
-whole : (b : Reading) → end_fault b ≡ None → IsLeft b []
+whole : (b : Reading) → fault_at_end b ≡ None → IsUnfaulted b []
 whole b h = nothing b.words b.is_missing b.is_bad h
   where
     nothing : (words : List (List ℕ)) (is_missing is_bad : Bool)
-        → end_fault (record { words = words; is_missing = is_missing; is_bad = is_bad }) ≡ None
-        → IsLeft (record { words = words; is_missing = is_missing; is_bad = is_bad }) []
+        → fault_at_end (record { words = words; is_missing = is_missing; is_bad = is_bad }) ≡ None
+        → IsUnfaulted (record { words = words; is_missing = is_missing; is_bad = is_bad }) []
     nothing [] false false e = record { is_enough = refl; is_good = refl; spelt = tt }
     nothing (w ∷ ws) false false e = absurd cc
     nothing words false true e = absurd cc
@@ -98,7 +94,7 @@ whole b h = nothing b.words b.is_missing b.is_bad h
 
 -- what was read is the step that it ends with, or the fault
 abbrev EndsWith : Result ScriptStep LineFault → ScriptStep → Reading → Type 0
-EndsWith result step b = MatchResult result (λ s. (s ≡ step) × (end_fault b ≡ None)) (λ e. end_fault b ≡ Some e)
+EndsWith result step b = MatchResult result (λ s. (s ≡ step) × (fault_at_end b ≡ None)) (λ e. fault_at_end b ≡ Some e)
 
 abbrev StepOrFault : Result ScriptStep LineFault → List (List ℕ) → Option LineFault → Type 0
 StepOrFault result words fault = MatchResult result (SpellsScriptStep words) (λ e. fault ≡ Some e)
@@ -111,24 +107,7 @@ operands_read (Ok s) step operands words b vs h e =
     let left = h.spelt [] (whole b e.1) in
     (e.0, rw append-nil at left.spelt)
 operands_read (Err fault) step operands words b vs h e =
-    sym (ended operands words false) ∙ ap end_fault (sym h.taken) ∙ e
-
--- a turn of a cycle
-pub turn_read : (result : Result ScriptStep LineFault) (step : Step) (name : List ℕ) (line words : List (List ℕ))
-    (b : Reading) → line ≡ name ∷ words
-    → IsReadNamed (operands_in turn_forms name) name (unread words) b (step_words step)
-    → EndsWith result (scripts.World step) b → StepOrFault result line (step_fault line)
-turn_read result step name line words b line_is h e =
-    let f = reads_form (operands_in turn_forms name) name (unread words) b (step_words step) h in
-    rw line_is (read result f.operands f.words f.is_known f.spelling_is
-    (operands_read result (scripts.World step) f.operands words b f.words f.is_read e))
-  where
-    read : (r : Result ScriptStep LineFault) (operands : List Operand) (vs : List Word)
-        → operands_in turn_forms name ≡ Some operands → step_words step ≡ Letters name ∷ vs
-        → MatchResult r (λ s. (s ≡ scripts.World step) × AreSpelt words vs) (λ e. operand_fault operands words ≡ Some e)
-        → StepOrFault r (name ∷ words) (step_fault (name ∷ words))
-    read (Ok s) operands vs known spelling_is m = rw (m.0, spelling_is) (refl, m.1)
-    read (Err fault) operands vs known spelling_is m = rw known m
+    sym (ended operands words false) ∙ ap fault_at_end (sym h.taken) ∙ e
 
 -- a step of an actor
 pub actor_read : (result : Result ScriptStep LineFault) (step : ScriptStep) (letter n : ℕ) (actor digits name : List ℕ)
