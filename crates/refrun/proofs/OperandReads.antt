@@ -8,7 +8,8 @@ use Rattle.std.proofs.lemmas.Bool.Decides.{nat_tests}
 use Rattle.refrun.proofs.Common.{Word, Letters, Numbered, Long, script_step_words, ScriptStep}
 use Rattle.refrun.proofs.Common.{SpellsScriptStep, AreSpelt, number, Operand, Number, LineFault, operands_in}
 use Rattle.refrun.proofs.Common.{forms_of_letter}
-use Rattle.refrun.specs.OperandReading.{Reading, unread, taken, all_taken, end_fault, IsLeft, IsRead, IsReadNamed}
+use Rattle.refrun.specs.OperandReading.{Reading, unread, taken, all_taken, fault_at_end, IsUnfaulted, IsRead}
+use Rattle.refrun.specs.OperandReading.{IsReadNamed}
 use Rattle.refrun.specs.OperandReading.{IsReadBehind}
 use Rattle.refrun.specs.StepFaults.{all_fit, operand_fault, actor_fault}
 use Rattle.refrun.specs.declared.fault.LineFault.TheVariants.{MissingWord, BadWord, ExtraWord}
@@ -22,7 +23,7 @@ abbrev begun : List (List ℕ) → Bool → Reading
 begun words is_bad = record { words = words; is_missing = false; is_bad = is_bad }
 
 missing : (operands : List Operand) (r : Reading) → r.is_missing ≡ true
-    → end_fault (all_taken operands r) ≡ Some MissingWord
+    → fault_at_end (all_taken operands r) ≡ Some MissingWord
 missing [] r h = simp h
 missing (o ∷ operands) r h = missing operands (taken o r) (simp h refl)
 
@@ -36,7 +37,7 @@ one_less a b = grind (arith, nat_tests)
 
 -- the faults by kind are those of all words
 ended : (operands : List Operand) (words : List (List ℕ)) (bad : Bool)
-    → end_fault (all_taken operands (begun words bad))
+    → fault_at_end (all_taken operands (begun words bad))
     ≡ (if nat_lt (length words) (length operands) then Some MissingWord else
     (if bad || not (all_fit operands words) then Some BadWord else
     (if nat_lt (length operands) (length words) then Some ExtraWord else None)))
@@ -66,12 +67,12 @@ reads_form o name a b (Numbered l n ∷ words) h = absurd h
 reads_form o name a b (Long n ∷ words) h = absurd h
 
 -- nothing is wrong at the end
-whole : (b : Reading) → end_fault b ≡ None → IsLeft b []
+whole : (b : Reading) → fault_at_end b ≡ None → IsUnfaulted b []
 whole b h = grind arith
 
 -- what was read is the step that it ends with, or the fault
 abbrev EndsWith : Result ScriptStep LineFault → ScriptStep → Reading → Type 0
-EndsWith result step b = MatchResult result (λ s. (s ≡ step) × (end_fault b ≡ None)) (λ e. end_fault b ≡ Some e)
+EndsWith result step b = MatchResult result (λ s. (s ≡ step) × (fault_at_end b ≡ None)) (λ e. fault_at_end b ≡ Some e)
 
 abbrev StepOrFault : Result ScriptStep LineFault → List (List ℕ) → Option LineFault → Type 0
 StepOrFault result words fault = MatchResult result (SpellsScriptStep words) (λ e. fault ≡ Some e)
@@ -82,7 +83,7 @@ operands_read : (result : Result ScriptStep LineFault) (step : ScriptStep) (oper
     → MatchResult result (λ s. (s ≡ step) × AreSpelt words vs) (λ e. operand_fault operands words ≡ Some e)
 operands_read (Ok s) step operands words b vs h e = grind (arith, append-nil, whole b e.1)
 operands_read (Err fault) step operands words b vs h e =
-    sym (ended operands words false) ∙ ap end_fault (sym h.taken) ∙ e
+    sym (ended operands words false) ∙ ap fault_at_end (sym h.taken) ∙ e
 
 -- a step of an actor
 pub actor_read : (result : Result ScriptStep LineFault) (step : ScriptStep) (letter n : ℕ) (actor digits name : List ℕ)

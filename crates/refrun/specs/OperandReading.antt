@@ -49,13 +49,13 @@ all_taken [] r = r
 all_taken (o ∷ operands) r = all_taken operands (taken o r)
 
 -- what is wrong where no more is wanted
-abbrev pub end_fault : Reading → Option LineFault
-end_fault r =
+abbrev pub fault_at_end : Reading → Option LineFault
+fault_at_end r =
     if r.is_missing then Some MissingWord else
     (if r.is_bad then Some BadWord else (if is_over r.words then None else Some ExtraWord))
 
 -- nothing was wrong so far, and the words that are left spell these
-pub record IsLeft (r : Reading) (words : List Word) : Type 0 where
+pub record IsUnfaulted (r : Reading) (words : List Word) : Type 0 where
   pub is_enough : r.is_missing ≡ false
   pub is_good : r.is_bad ≡ false
   pub spelt : AreSpelt r.words words
@@ -63,7 +63,7 @@ pub record IsLeft (r : Reading) (words : List Word) : Type 0 where
 -- from one reading to the other, words are taken for these operands; they spell these, unless something is wrong
 pub record IsRead (operands : List Operand) (a b : Reading) (words : List Word) : Type 0 where
   pub taken : b ≡ all_taken operands a
-  pub spelt : (more : List Word) → IsLeft b more → IsLeft a (words ++ more)
+  pub spelt : (more : List Word) → IsUnfaulted b more → IsUnfaulted a (words ++ more)
 
 abbrev pub IsReadBy : Option (List Operand) → Reading → Reading → List Word → Type 0
 IsReadBy None a b words = ⊥

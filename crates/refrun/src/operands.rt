@@ -6,7 +6,7 @@ ghost use Rattle.ref_base.specs.Steps.{urgency_name};
 ghost use Rattle.ref_base.specs.Texts as texts;
 ghost use Rattle.refrun.specs.Lines.{words_of};
 ghost use Rattle.refrun.specs.Numerals.{number_behind};
-ghost use Rattle.refrun.specs.OperandReading.{reading, unread, first_of, behind_first, is_over, end_fault, IsRead};
+ghost use Rattle.refrun.specs.OperandReading.{reading, unread, first_of, behind_first, is_over, fault_at_end, IsRead};
 ghost use Rattle.refrun.specs.StepForms.{Slot, Queue, QueueOrNone, Number, Clock, UrgencyName};
 
 use crate::fault::LineFault;
@@ -124,8 +124,8 @@ impl<'a> Operands<'a> {
 
     /// The step, where no more words are wanted, or the first fault by kind.
     pub fn end(&self, step: ScriptStep) -> Result<ScriptStep, LineFault>
-        ensures { MatchResult result (λ ended. (ended ≡ step) × (end_fault (reading self.now) ≡ None))
-            (λ fault. end_fault (reading self.now) ≡ Some fault) }
+        ensures { MatchResult result (λ ended. (ended ≡ step) × (fault_at_end (reading self.now) ≡ None))
+            (λ fault. fault_at_end (reading self.now) ≡ Some fault) }
     {
         if self.is_missing {
             return Err(LineFault::MissingWord);
