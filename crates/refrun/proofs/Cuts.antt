@@ -1,7 +1,7 @@
 -- Where a text is cut into its first line and the rest, and a line into its first word and the rest.
 use Rattle.std.proofs.Common.{◌≡◌, ℕ, suc, ◌+◌, ◌<◌, ◌≤◌, true, false, not, ◌==◌, List, [], ◌∷◌, ◌++◌, length, take}
 use Rattle.std.proofs.Common.{drop, refl, sym, ap, ◌∙◌, inl, inr, arith}
-use Rattle.std.proofs.lemmas.Bool.{cases_Bool, eqb-false}
+use Rattle.std.proofs.lemmas.Bool.{cases_Bool}
 use Rattle.std.proofs.lemmas.List.{nil_from_length, length-drop, take_all}
 use Rattle.std.specs.List.{prefix_len}
 use Rattle.refrun.proofs.Common.{TextLine, lines_of, content_of, words_of}
@@ -10,9 +10,6 @@ use Rattle.refrun.specs.Lines.{onto_line, without_cr, goes_on, onto_word}
 -- no byte before the first LF
 abbrev pub line_length : List ℕ → ℕ
 line_length text = prefix_len (λ b. not (b == 10)) text
-
-positive_from : (n : ℕ) → (n == 0) ≡ false → 0 < n
-positive_from n h = let ne : n ≡ 0 → ⊥ = eqb-false n 0 h in omega arith
 
 one_more : (n : ℕ) → 1 + n ≡ suc n
 one_more n = omega arith

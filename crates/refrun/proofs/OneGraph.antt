@@ -9,9 +9,6 @@ use Rattle.refrun.proofs.OneReading.{some_is, other_name}
 one_object : (word : List ℕ) (n m : ℕ) → SpellsObject word n → SpellsObject word m → n ≡ m
 one_object word n m h k = some_is _ n m h.0 k.0
 
-abbrev no_number : Option ℕ
-no_number = None
-
 -- `-` is no number
 no_hyphen : (word : List ℕ) (n : ℕ) → word ≡ codes "-" → SpellsObject word n → ⊥
 no_hyphen word n h k = cc

@@ -12,7 +12,8 @@ returns-in_err-told-clause-fault g c = grind (arith, fails_for)
 
 pub loop-told-init : goal.loop-told-init
 loop-told-init g c =
-    search (has_declared_none c.args.text.now c.args.number c.in_ok-told.told c.new-graph.result c.new-graph.ensures c.in_ok-told.ensures.found c.in_ok-told.ensures.behind)
+    search (has_declared_none c.args.text.now c.args.number c.in_ok-told.told c.new-graph.result c.new-graph.ensures
+    c.in_ok-told.ensures.found c.in_ok-told.ensures.behind)
 
 pub returns-in_err-add_line-clause-fault : goal.returns-in_err-add_line-clause-fault
 returns-in_err-add_line-clause-fault g c = grind arith
@@ -27,12 +28,16 @@ returns-in_err-told-2-clause-fault g c =
 
 pub loop-told-preserved : goal.loop-told-preserved
 loop-told-preserved g c =
-    search (has_declared_more c.args.text.now c.args.number c.loop-told.told c.in_ok-told-2.told c.loop-told.graph c.add_line.new.graph c.in-Some.content c.loop-told.invariant c.in-Some.is c.in_ok-add_line.ensures.ok c.in_ok-told-2.ensures.found c.in_ok-told-2.ensures.behind)
+    search (has_declared_more c.args.text.now c.args.number c.loop-told.told c.in_ok-told-2.told c.loop-told.graph
+    c.add_line.new.graph c.in-Some.content c.loop-told.invariant c.in-Some.is c.in_ok-add_line.ensures.ok
+    c.in_ok-told-2.ensures.found c.in_ok-told-2.ensures.behind)
 
 pub returns-clause-spelt : goal.returns-clause-spelt
 returns-clause-spelt g c =
-    search (has_declared_all c.args.text.now c.args.number c.loop-told.told c.loop-told.graph c.loop-told.invariant c.in_default.is)
+    search (has_declared_all c.args.text.now c.args.number c.loop-told.told c.loop-told.graph c.loop-told.invariant
+    c.in_default.is)
 
 pub returns-clause-plain : goal.returns-clause-plain
 returns-clause-plain g c =
-    search (has_declared_all c.args.text.now c.args.number c.loop-told.told c.loop-told.graph c.loop-told.invariant c.in_default.is)
+    search (has_declared_all c.args.text.now c.args.number c.loop-told.told c.loop-told.graph c.loop-told.invariant
+    c.in_default.is)

@@ -33,8 +33,10 @@ loop-told-preserved g c =
 
 pub returns-clause-spelt : goal.returns-clause-spelt
 returns-clause-spelt g c =
-    search (has_read_all c.args.text.now c.args.number c.loop-told.told c.loop-told.steps.items c.loop-told.invariant c.in_default.is)
+    search (has_read_all c.args.text.now c.args.number c.loop-told.told c.loop-told.steps.items c.loop-told.invariant
+    c.in_default.is)
 
 pub returns-clause-plain : goal.returns-clause-plain
 returns-clause-plain g c =
-    search (has_read_all c.args.text.now c.args.number c.loop-told.told c.loop-told.steps.items c.loop-told.invariant c.in_default.is)
+    search (has_read_all c.args.text.now c.args.number c.loop-told.told c.loop-told.steps.items c.loop-told.invariant
+    c.in_default.is)
