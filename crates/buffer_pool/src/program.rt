@@ -6,7 +6,7 @@ ghost use Rattle.ref_share.specs.QueueSeats.{IsQueueSeat};
 
 use crate::pool::BUFFERS;
 use example_runtime::HeapUser;
-use ref_base::{Fault, HeapStep, MutNo, Parcel, QueueNo, SlotNo, Strength};
+use ref_base::{Fault, MutNo, Parcel, PlainStep, QueueNo, SlotNo, Strength};
 use ref_queue::{Job, Ran};
 use ref_share::{CleanSeat, Cleanable, Cleaned, Polled, QueueSeat, SharedCleaner, SharedQueue};
 use std::sync::Wait;
@@ -71,7 +71,7 @@ impl<'a> Program<'a> {
         requires { IsUser self.old.user × IsCleanSeat self.old.cleaner.now self.old.seat }
         ensures { IsUser self.new.user × IsCleanSeat self.new.cleaner.now self.new.seat }
     {
-        let new = HeapStep::New {
+        let new = PlainStep::New {
             mutator: PROGRAM,
             slot,
             fields: 0,
@@ -132,7 +132,7 @@ pub fn let_go<R: Wait>(rt: &R, mut user: HeapUser) -> Result<(), Fault>
     requires { IsUser user }
 {
     for slot in 1..BUFFERS / 2 {
-        let refer = HeapStep::Refer {
+        let refer = PlainStep::Refer {
             mutator: PROGRAM,
             strength: Strength::Weak,
             slot: SlotNo(BUFFERS + slot),
@@ -141,7 +141,7 @@ pub fn let_go<R: Wait>(rt: &R, mut user: HeapUser) -> Result<(), Fault>
             fields: 0,
         };
         user.ask(rt, refer)?;
-        let drop = HeapStep::Drop {
+        let drop = PlainStep::Drop {
             mutator: PROGRAM,
             slot: SlotNo(slot),
         };

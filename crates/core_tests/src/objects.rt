@@ -53,6 +53,8 @@ enum Set {
     Stamp(u32, u64),
     Cut(u32),
     Cleared(u32, u64),
+    /// The object of this number links to this one.
+    Link(u32, u32),
     UnmarkAll,
     CloseGaps,
 }
@@ -79,6 +81,7 @@ enum Ask {
     StampOf(u32),
     QueueOf(u32),
     ClearedIn(u32),
+    LinkOf(u32),
     FirstFrom(u32),
     IsHeld(u32),
     HeldFrom(u32),
@@ -141,6 +144,7 @@ fn after_setting<A: Allocator + Copy>(heap: &mut Objects<A>, call: Set) -> Told 
         Set::Stamp(no, stamp) => heap.set_stamp(ObjNo(no), stamp),
         Set::Cut(no) => heap.cut(ObjNo(no)),
         Set::Cleared(no, cycle) => heap.set_cleared_in(ObjNo(no), cycle),
+        Set::Link(no, to) => heap.set_link(ObjNo(no), to),
         Set::UnmarkAll => heap.unmark_all(),
         Set::CloseGaps => heap.close_gaps(),
     }
@@ -167,6 +171,7 @@ fn asked<A: Allocator + Copy>(heap: &Objects<A>, call: Ask) -> Told {
         Ask::StampOf(no) => Told::Time(heap.stamp_of(ObjNo(no))),
         Ask::QueueOf(no) => queue(heap.queue_of(ObjNo(no))),
         Ask::ClearedIn(no) => Told::Began(heap.cleared_in(ObjNo(no))),
+        Ask::LinkOf(no) => Told::Count(heap.link_of(ObjNo(no)) as u64),
         Ask::FirstFrom(no) => found(heap.first_from(ObjNo(no))),
         Ask::IsHeld(no) => is(heap.is_held(ObjNo(no))),
         Ask::HeldFrom(no) => found(heap.held_from(ObjNo(no))),

@@ -1,14 +1,11 @@
 //! The collector's thread.
 
-ghost use Rattle.std.specs.Prelude.{◌≡◌, true};
 ghost use Rattle.ref_share.specs.Deliveries.{AreSeats};
-ghost use Rattle.ref_share.specs.HeapCalls.{hands_nothing_over};
 ghost use Rattle.example_runtime.specs.Users.{IsUser, IsCollector};
 
 use crate::heap_user::HeapUser;
 use crate::queue_end::close_all;
-use ref_base::{Fault, HeapStep, Reply, Urgency, WorkerNo};
-use ref_objects::Hold;
+use ref_base::{Fault, PlainStep, Reply, Urgency, WorkerNo};
 use ref_share::{Delivery, QueueSeat, SharedQueue, deliver_one};
 use std::sync::Wait;
 use std::sync::atomic::{AtomicU64, Ordering};
@@ -24,14 +21,12 @@ enum Work {
 }
 
 impl Work {
-    fn step(self) -> HeapStep<Hold>
-        ensures { hands_nothing_over result ≡ true }
-    {
+    fn step(self) -> PlainStep {
         let worker = WORKER;
         match self {
-            Work::Scan => HeapStep::Scan { worker },
-            Work::Clear => HeapStep::ClearNext { worker },
-            Work::Sweep => HeapStep::Sweep { worker },
+            Work::Scan => PlainStep::Scan { worker },
+            Work::Clear => PlainStep::ClearNext { worker },
+            Work::Sweep => PlainStep::Sweep { worker },
         }
     }
 }
@@ -93,13 +88,13 @@ impl<'a> Collector<'a> {
         ensures { IsCollector self.new }
     {
         let urgency = Urgency::Normal;
-        self.user.ask(rt, HeapStep::Begin { now, urgency })?;
+        self.user.ask(rt, PlainStep::Begin { now, urgency })?;
         self.mark(rt)?;
         self.finish(rt, Work::Clear)?;
-        self.user.ask(rt, HeapStep::EndClear)?;
+        self.user.ask(rt, PlainStep::EndClear)?;
         self.deliver(rt)?;
         self.finish(rt, Work::Sweep)?;
-        self.user.ask(rt, HeapStep::EndSweep)?;
+        self.user.ask(rt, PlainStep::EndSweep)?;
         Ok(())
     }
 
@@ -110,7 +105,7 @@ impl<'a> Collector<'a> {
     {
         for _ in rt.forever() {
             self.finish(rt, Work::Scan)?;
-            match self.user.ask(rt, HeapStep::EndMark) {
+            match self.user.ask(rt, PlainStep::EndMark) {
                 Ok(_) => return Ok(()),
                 Err(Fault::GreyLeft) => {}
                 Err(fault) => return Err(fault),

@@ -1,11 +1,9 @@
 //! What a thread uses the heap with.
 
-ghost use Rattle.std.specs.Prelude.{◌≡◌, true};
-ghost use Rattle.ref_share.specs.HeapCalls.{hands_nothing_over};
 ghost use Rattle.example_runtime.specs.Users.{IsUser};
 ghost use Rattle.ref_share.specs.HeapSeats.{IsHeapSeat};
 
-use ref_base::{Fault, HeapStep, Reply};
+use ref_base::{Fault, PlainStep, Reply};
 use ref_objects::Hold;
 use ref_share::{HeapSeat, ShareFault, SharedHeap};
 use std::sync::Wait;
@@ -35,9 +33,8 @@ impl<'a> HeapUser<'a> {
     }
 
     /// One step by which neither a hold nor a notice changes hands. A refusal is told as a fault.
-    pub fn ask<R: Wait>(&mut self, rt: &R, step: HeapStep<Hold>) -> Result<Reply, Fault>
-        requires user { IsUser self.old }
-        requires bare { hands_nothing_over step ≡ true }
+    pub fn ask<R: Wait>(&mut self, rt: &R, step: PlainStep) -> Result<Reply, Fault>
+        requires { IsUser self.old }
         ensures { IsUser self.new }
     {
         match self.heap.ask(rt, &mut self.seat, step)? {

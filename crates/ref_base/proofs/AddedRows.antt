@@ -1,15 +1,16 @@
 -- What a put that was added tells: whose notice it was, that it is new in its queue, and at which position it stands.
 use Rattle.std.proofs.Common.{arith}
-use Rattle.std.proofs.Common.{◌≡◌, ℕ, Bool, true, false, List, ◌∷◌, ◌++◌, length, Option, Some, None, refl}
+use Rattle.std.proofs.Common.{◌≡◌, ℕ, Bool, true, false, List, [], ◌∷◌, ◌++◌, length, Option, Some, None, refl}
 use Rattle.ref_base.proofs.Common.{enqueued, was_put, put_into, taken_from, was_closed, Notice, object_of, hand_of}
 use Rattle.ref_base.proofs.Common.{queue_at, replayed, State, first_state, PutsInto, Puts, IsAnswer, IsRun}
 use Rattle.ref_base.proofs.Common.{IsLegal, IsProven, Config, Actor, Fault, Row}
 use Rattle.ref_base.specs.declared.step.Step.TheVariants as steps
 use Rattle.ref_base.specs.declared.reply.Reply.TheVariants as replies
-use Rattle.ref_base.proofs.LegalQueues.{first_run_moves}
+use Rattle.ref_base.proofs.LegalQueues.{first_run_changes}
 use Rattle.ref_base.proofs.ProvenTraces.{legal_proven}
 use Rattle.ref_base.proofs.OutTraces.{legal_others}
 use Rattle.ref_base.proofs.RunLaws.{cut}
+use Rattle.ref_base.proofs.SameOthers.{same_hand}
 
 -- after a legal trace the lists of each queue are those of the rows
 pub legal_lists : (config : Config) (rows : List Row) (b : State) (q : ℕ) → IsRun (first_state config) rows b
@@ -17,26 +18,27 @@ pub legal_lists : (config : Config) (rows : List Row) (b : State) (q : ℕ) → 
     × (enqueued object_of (queue_at b.world q) ≡ put_into q rows)
     × ((queue_at b.world q).closed ≡ was_closed q rows)
 legal_lists config rows b q run =
-    let moves = first_run_moves config rows b run q in (moves.taken, moves.put, moves.closed)
+    let changes = first_run_changes config rows b run q in (changes.taken, changes.put, changes.closed)
 
 -- what a put that was added at this position tells of the state before it
 pub record TellsAdded (a : State) (who : Actor) (position : ℕ) : Type 0 where
   pub notice : Notice
-  pub hand : hand_of a.world who ≡ Some notice
+  pub rest : List Notice
+  pub hand : hand_of a.world who ≡ notice ∷ rest
   pub fresh : was_put object_of (queue_at a.world notice.queue) notice ≡ false
   pub position_is : position ≡ length (enqueued object_of (queue_at a.world notice.queue))
 
-of_put : (a b : State) (who : Actor) (notice : Notice) (again shut : Bool) (position : ℕ)
-    → hand_of a.world who ≡ Some notice → was_put object_of (queue_at a.world notice.queue) notice ≡ again
-    → PutsInto again shut a who notice (replies.Added position) b → TellsAdded a who position
-of_put a b who notice true shut position hand was row = let no = row.0 in absurd cc
-of_put a b who notice false true position hand was row = let no = row.0 in absurd cc
-of_put a b who notice false false position hand was row = grind arith
+of_put : (a b : State) (who : Actor) (notice : Notice) (rest : List Notice) (again shut : Bool) (position : ℕ)
+    → hand_of a.world who ≡ notice ∷ rest → was_put object_of (queue_at a.world notice.queue) notice ≡ again
+    → PutsInto again shut a who notice rest (replies.Added position) b → TellsAdded a who position
+of_put a b who notice rest true shut position hand was row = let no = row.0 in absurd cc
+of_put a b who notice rest false true position hand was row = let no = row.0 in absurd cc
+of_put a b who notice rest false false position hand was row = grind arith
 
-of_hand : (a b : State) (who : Actor) (hand : Option Notice) (position : ℕ) → hand_of a.world who ≡ hand
+of_hand : (a b : State) (who : Actor) (hand : List Notice) (position : ℕ) → hand_of a.world who ≡ hand
     → Puts a who hand (replies.Added position) b → TellsAdded a who position
-of_hand a b who None position is row = absurd row
-of_hand a b who (Some notice) position is row = of_put a b who notice _ _ position is refl row
+of_hand a b who [] position is row = absurd row
+of_hand a b who (notice ∷ rest) position is row = of_put a b who notice rest _ _ position is refl row
 
 pub answer_tells_added : (a b : State) (who : Actor) (position : ℕ) (fault : Option Fault)
     → IsAnswer a fault (steps.Put who) (replies.Added position) b → TellsAdded a who position
@@ -45,15 +47,28 @@ answer_tells_added a b who position None row = of_hand a b who (hand_of a.world 
 
 -- ---- in a legal trace
 
--- the hand held a notice, and what its queue had got before says its position
+-- a put that was added comes behind a state of which it tells so
+in_front : (config : Config) (front back : List Row) (who : Actor) (position : ℕ)
+    → IsLegal config (front ++ record { step = steps.Put who; reply = replies.Added position } ∷ back)
+    → (a : State) × IsRun (first_state config) front a × TellsAdded a who position
+in_front config front back who position legal =
+    let parts = cut (first_state config) front _ legal.0 legal.1 in
+    (parts.0, parts.1, answer_tells_added parts.0 parts.2.0 who position _ parts.2.1)
+
+-- the hand's first was a notice, and what its queue had got before says its position
 pub added_position : (config : Config) (front back : List Row) (who : Actor) (position : ℕ)
     → IsLegal config (front ++ record { step = steps.Put who; reply = replies.Added position } ∷ back)
-    → (notice : Notice) × (hand_of (replayed config front) who ≡ Some notice)
+    → (notice : Notice) × (rest : List Notice) × (hand_of (replayed config front) who ≡ notice ∷ rest)
     × (position ≡ length (put_into notice.queue front))
-added_position config front back who position legal = grind (arith, cut, legal_others, legal_lists config front)
+added_position config front back who position legal =
+    let told = in_front config front back who position legal in
+    (told.2.notice, told.2.rest, grind (arith, legal_others, same_hand), grind (arith, legal_lists config front))
 
 -- and it comes from the rows
 pub added_proven : (config : Config) (front back : List Row) (who : Actor) (position : ℕ)
     → IsLegal config (front ++ record { step = steps.Put who; reply = replies.Added position } ∷ back)
-    → (notice : Notice) × (hand_of (replayed config front) who ≡ Some notice) × IsProven front notice
-added_proven config front back who position legal = grind (arith, cut, legal_others, legal_proven)
+    → (notice : Notice) × (rest : List Notice) × (hand_of (replayed config front) who ≡ notice ∷ rest)
+    × IsProven front notice
+added_proven config front back who position legal =
+    let told = in_front config front back who position legal in
+    (told.2.notice, told.2.rest, grind (arith, legal_others, same_hand), grind (arith, legal_proven))

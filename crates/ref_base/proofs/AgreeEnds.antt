@@ -14,9 +14,10 @@ use Rattle.ref_base.proofs.Common.{Sweeping, Reply}
 use Rattle.ref_base.specs.Heaps.{with_changed}
 use Rattle.ref_base.specs.Replay.{cleared_for}
 use Rattle.ref_base.specs.declared.heap_step.HeapStep.TheVariants as heap
+use Rattle.ref_base.specs.declared.plain_step.PlainStep.TheVariants as plain
 use Rattle.ref_base.specs.declared.reply.Reply.TheVariants as replies
 use Rattle.ref_base.proofs.HasLaws.{has-left, has-right, has-cases}
-use Rattle.ref_base.proofs.HeapMoves.{settled, moved, found_less}
+use Rattle.ref_base.proofs.Outcomes.{settled, outcome, found_less}
 use Rattle.ref_base.proofs.ReplayKeeps.{numbers_of, numbers_same, stage_pended}
 use Rattle.ref_base.proofs.SeenObjects.{without-changed_at, rising-without, seen_queue, seen_swept}
 use Rattle.ref_base.proofs.WaitingClears.{shown-waiting, looked-waiting, has-found, Looks, new_clears-there}
@@ -70,7 +71,7 @@ marks gone w a found is marking all =
     }
 
 pub end_agrees : (gone : List ℕ) (w : World) (a c : State) (reply : Reply) → Agreeing gone w a
-    → a.world.phase ≡ Marking → EndsMark a reply c → Agreeing gone (after_heap w heap.EndMark reply) c
+    → a.world.phase ≡ Marking → EndsMark a reply c → Agreeing gone (after_heap w (heap.Plain plain.EndMark) reply) c
 end_agrees gone w a c reply is marking row = grind (arith, marks gone w a row.found is marking row.all_found)
 
 -- ---- a worker's look
@@ -108,7 +109,8 @@ module _ (gone : List ℕ) (w v : World) (a c : State) (k n : ℕ) (is : Agreein
 -- a worker cleared n, which the mark's end had cleared
 pub cleared_agrees : (gone : List ℕ) (w : World) (a c : State) (k n : ℕ) → Agreeing gone w a
     → a.world.phase ≡ Clearing → has a.cleared n ≡ true → Looks a k n
-    → settled c ≡ settled (moved a (heap.ClearNext k) (replies.Cleared n)) → Agreeing gone (cleared_for w k n) c
+    → settled c ≡ settled (outcome a (heap.Plain (plain.ClearNext k)) (replies.Cleared n))
+    → Agreeing gone (cleared_for w k n) c
 cleared_agrees gone w a c k n is clearing clears looks leads =
     let os : List Object = w.heap.objects in
     let mine : Option ℕ = registered_in (reference_at a.world.heap n) in
@@ -132,7 +134,7 @@ cleared_agrees gone w a c k n is clearing clears looks leads =
     ap (λ (u : World). registered_in (reference_at u.heap n)) is.agrees
     ∙ seen_queue (is_waiting a) gone os n (is.cleared_stay clearing n clears) in
     looked_agrees gone w v a c k n is clearing phase looks leads (cleared_for w k n)
-    (numbers_same w (heap.ClearNext k) (replies.Cleared n) tt)
+    (numbers_same w (heap.Plain (plain.ClearNext k)) (replies.Cleared n) tt)
     (ap (λ (s : State). s.world) leads ∙ ap (pended a.world k n) same_queue
     ∙ ap (λ (u : World). pended u k n queue)
     (is.agrees ∙ ap (λ (ps : List Object). with_heap w (record w.heap { objects = ps })) objects)
@@ -156,7 +158,7 @@ has-dropped i ns n h =
     subst (λ ms. has ms n ≡ true) (take-append-drop i ns) (has-right (take i ns) (drop i ns) n h)
 
 pub swept_agrees : (gone : List ℕ) (w : World) (a c : State) (k count : ℕ) → Agreeing gone w a
-    → a.world.phase ≡ Sweeping → settled c ≡ settled (moved a (heap.Sweep k) (replies.Swept count))
+    → a.world.phase ≡ Sweeping → settled c ≡ settled (outcome a (heap.Plain (plain.Sweep k)) (replies.Swept count))
     → Agreeing (gone ++ take 64 a.doomed) w c
 swept_agrees gone w a c k count is sweeping leads =
     grind (arith, seen_swept, has-cases, has-taken 64 a.doomed, has-dropped 64 a.doomed)

@@ -8,9 +8,10 @@ use Rattle.ref_base.proofs.Common.{State, joined, is_in, with_world, without, is
 use Rattle.ref_base.proofs.Common.{Clearing, Reply}
 use Rattle.ref_base.specs.DoomedSets.{unscanned}
 use Rattle.ref_base.specs.declared.heap_step.HeapStep.TheVariants as heap
+use Rattle.ref_base.specs.declared.plain_step.PlainStep.TheVariants as plain
 use Rattle.ref_base.specs.declared.reply.Reply.TheVariants as replies
 use Rattle.ref_base.proofs.HasLaws.{has-cases}
-use Rattle.ref_base.proofs.HeapMoves.{settled}
+use Rattle.ref_base.proofs.Outcomes.{settled}
 use Rattle.ref_base.proofs.ReplayUnder.{made_number, IsNoLook, IsApart, heap_through}
 use Rattle.ref_base.proofs.ReplayKeeps.{numbers_of, numbers_same, numbers_after, same_phase, EndsNoPhase, MakesNone}
 use Rattle.ref_base.proofs.SeenObjects.{object_at-without, object_at-gone}
@@ -32,7 +33,7 @@ pub record Agreeing (gone : List ℕ) (w : World) (a : State) : Type 0 where
 
 -- what is gone after a row of a heap
 abbrev pub gone_after : State → List ℕ → NamedStep → Reply → List ℕ
-gone_after a gone (heap.Sweep k) (replies.Swept count) = gone ++ take 64 a.doomed
+gone_after a gone (heap.Plain (plain.Sweep k)) (replies.Swept count) = gone ++ take 64 a.doomed
 gone_after a gone step reply = gone
 
 -- ---- numbers
@@ -84,23 +85,23 @@ not_in a phase is other clearing = grind arith
 
 module _ (gone : List ℕ) (w : World) (a c : State) (reply : Reply) (is : Agreeing gone w a) where
   -- the worlds agree after a row that is none of a worker's looks, where what waits is the same
-  lands : (step : NamedStep) → IsNoLook gone (is_waiting a) step
+  lands : (step : NamedStep) → IsNoLook step
       → IsApart gone (is_waiting a) (made_number step reply) → c.world ≡ after_heap a.world step reply
       → is_waiting c ≡ is_waiting a → Agrees gone (after_heap w step reply) c
-  lands step plain apart leads same = grind (arith, heap_through)
+  lands step no_end apart leads same = grind (arith, heap_through)
 
   -- a row that ends no phase and makes nothing
-  pub still : (step : NamedStep) → IsNoLook gone (is_waiting a) step → EndsNoPhase step → MakesNone step
+  pub still : (step : NamedStep) → IsNoLook step → EndsNoPhase step → MakesNone step
       → IsApart gone (is_waiting a) (made_number step reply)
       → settled c ≡ settled (with_world a (after_heap a.world step reply))
       → Agreeing gone (after_heap w step reply) c
-  still step plain ends makes apart leads =
+  still step no_end ends makes apart leads =
       let next : a.next ≡ c.next = ap (λ (s : State). s.next) (sym leads) in
       let phase : c.world.phase ≡ a.world.phase =
       ap (λ (s : State). s.world.phase) leads ∙ same_phase a.world step reply ends in
       let old : numbers_of w ≡ numbers_of (after_heap w step reply) = sym (numbers_same w step reply makes) in
       record {
-        agrees = lands step plain apart (ap (λ (s : State). s.world) leads)
+        agrees = lands step no_end apart (ap (λ (s : State). s.world) leads)
             (ap (λ (s : State). is_waiting s) leads ∙ same_waits a (after_heap a.world step reply)
             (same_phase a.world step reply ends));
         rising = subst IsRising old is.rising;
@@ -117,11 +118,11 @@ module _ (gone : List ℕ) (w : World) (a c : State) (reply : Reply) (is : Agree
       }
 
   -- a row that makes an object
-  pub makes : (step : NamedStep) → IsNoLook gone (is_waiting a) step → EndsNoPhase step
+  pub makes : (step : NamedStep) → IsNoLook step → EndsNoPhase step
       → made_number step reply ≡ Some a.next
       → settled c ≡ settled (record a { world = after_heap a.world step reply; next = a.next + 1 })
       → Agreeing gone (after_heap w step reply) c
-  makes step plain ends number leads =
+  makes step no_end ends number leads =
       let next : a.next + 1 ≡ c.next = ap (λ (s : State). s.next) (sym leads) in
       let grows : a.next ≤ c.next = omega (arith, next) in
       let phase : c.world.phase ≡ a.world.phase =
@@ -134,7 +135,7 @@ module _ (gone : List ℕ) (w : World) (a c : State) (reply : Reply) (is : Agree
       let more : numbers_of w ++ a.next ∷ [] ≡ numbers_of (after_heap w step reply) =
       sym (numbers_after w step reply ∙ ap (λ o. numbers_of w ++ if_any o) number) in
       record {
-        agrees = lands step plain (subst (IsApart gone (is_waiting a)) (sym number) apart)
+        agrees = lands step no_end (subst (IsApart gone (is_waiting a)) (sym number) apart)
             (ap (λ (s : State). s.world) leads)
             (ap (λ (s : State). is_waiting s) leads ∙ same_waits a (after_heap a.world step reply)
             (same_phase a.world step reply ends));
@@ -152,15 +153,15 @@ module _ (gone : List ℕ) (w : World) (a c : State) (reply : Reply) (is : Agree
       }
 
   -- a row that ends a phase in which nothing waits, into another
-  pub ends : (step : NamedStep) (phase : Phase) → IsNoLook gone (is_waiting a) step → MakesNone step
+  pub ends : (step : NamedStep) (phase : Phase) → IsNoLook step → MakesNone step
       → IsApart gone (is_waiting a) (made_number step reply) → is_waiting a ≡ (λ n. false)
       → c.world ≡ after_heap a.world step reply → c.world.phase ≡ phase → is_in phase Clearing ≡ false
       → c.next ≡ a.next → AreBelow a.next c.doomed → AreBelow a.next c.cleared
       → Agreeing gone (after_heap w step reply) c
-  ends step phase plain makes apart none leads into other next doomed clears =
+  ends step phase no_end makes apart none leads into other next doomed clears =
       let old : numbers_of w ≡ numbers_of (after_heap w step reply) = sym (numbers_same w step reply makes) in
       record {
-        agrees = lands step plain apart leads (none_waits c phase into other ∙ sym none);
+        agrees = lands step no_end apart leads (none_waits c phase into other ∙ sym none);
         rising = subst IsRising old is.rising;
         below = subst (λ k. AreBelow k (numbers_of (after_heap w step reply))) (sym next)
             (subst (AreBelow a.next) old is.below);

@@ -4,14 +4,15 @@ use Rattle.std.proofs.Common.{arith}
 use Rattle.std.proofs.Common.{◌≡◌, ℕ, List, [], Option, Some, None, refl, sym, ap, ◌∙◌, subst, inl}
 use Rattle.std.proofs.Common.{inr}
 use Rattle.std.proofs.lemmas.Bool.{false≢true}
-use Rattle.ref_base.proofs.Common.{has, World, first_world, told_object, NamedStep, heap_step, handed}
-use Rattle.ref_base.proofs.Common.{after_heap, after_queues, after, State, first_state, heap_refusal}
+use Rattle.ref_base.proofs.Common.{has, World, first_world_of, told_object, NamedStep, heap_step, handed}
+use Rattle.ref_base.proofs.Common.{after_heap, after_queues, after, State, first_state_of, heap_refusal}
 use Rattle.ref_base.proofs.Common.{HeapAccepts, with_world, list_at, IsRow, AreCounted, under, is_waiting, Config}
 use Rattle.ref_base.proofs.Common.{Reply, Row}
 use Rattle.ref_base.specs.Replay.{after_asking}
 use Rattle.ref_base.specs.declared.heap_step.HeapStep.TheVariants as heap
+use Rattle.ref_base.specs.declared.plain_step.PlainStep.TheVariants as plain
 use Rattle.ref_base.specs.declared.reply.Reply.TheVariants as replies
-use Rattle.ref_base.proofs.HeapMoves.{settled, scanned_by, heap_moves}
+use Rattle.ref_base.proofs.Outcomes.{settled, scanned_by, heap_outcome}
 use Rattle.ref_base.proofs.PhaseLaws.{of_phase}
 use Rattle.ref_base.proofs.ReplayUnder.{handed_through, queues_through, asks_same}
 use Rattle.ref_base.proofs.ReplayKeeps.{but_hands, handed_keeps, queues_keep}
@@ -32,34 +33,37 @@ none_below : (next : ℕ) (ns : List ℕ) → ns ≡ [] → AreBelow next ns
 none_below next ns is n there = absurd (false≢true (ap (λ ms. has ms n) (sym is) ∙ there))
 
 pub heap_agrees : (gone : List ℕ) (w : World) (a c : State) (step : NamedStep) (reply : Reply) → Agreeing gone w a
-    → heap_refusal 0 a step ≡ None → HeapAccepts a step reply c
+    → heap_refusal a step ≡ None → HeapAccepts a step reply c
     → Agreeing (gone_after a gone step reply) (after_heap w step reply) c
-heap_agrees gone w a c (heap.New m d k) reply is none row =
-    makes gone w a c reply is (heap.New m d k) tt tt (ap told_object row.0)
-    (heap_moves a c (heap.New m d k) reply tt row)
-heap_agrees gone w a c (heap.Refer m strength d s q k) reply is none row =
-    makes gone w a c reply is (heap.Refer m strength d s q k) tt tt (ap told_object row.0)
-    (heap_moves a c (heap.Refer m strength d s q k) reply tt row)
-heap_agrees gone w a c (heap.Begin now how) reply is none row = grind arith
-heap_agrees gone w a c (heap.Scan k) reply is none row =
-    settles gone w a c (scanned_by a.scanned k reply) is (heap_moves a c (heap.Scan k) reply tt row)
-heap_agrees gone w a c heap.EndMark reply is none row =
-    end_agrees gone w a c reply is (of_phase 0 a heap.EndMark none) row
-heap_agrees gone w a c (heap.ClearNext k) (replies.Cleared n) is none row =
+heap_agrees gone w a c (heap.Plain (plain.New m d k)) reply is none row =
+    makes gone w a c reply is (heap.Plain (plain.New m d k)) tt tt (ap told_object row.0)
+    (heap_outcome a c (heap.Plain (plain.New m d k)) reply tt row)
+heap_agrees gone w a c (heap.Plain (plain.Refer m strength d s q k)) reply is none row =
+    makes gone w a c reply is (heap.Plain (plain.Refer m strength d s q k)) tt tt (ap told_object row.0)
+    (heap_outcome a c (heap.Plain (plain.Refer m strength d s q k)) reply tt row)
+heap_agrees gone w a c (heap.Plain (plain.Begin now how)) reply is none row = grind arith
+heap_agrees gone w a c (heap.Plain (plain.Scan k)) reply is none row =
+    settles gone w a c (scanned_by a.scanned k reply) is (heap_outcome a c (heap.Plain (plain.Scan k)) reply tt row)
+heap_agrees gone w a c (heap.Plain plain.EndMark) reply is none row =
+    end_agrees gone w a c reply is (of_phase a (heap.Plain plain.EndMark) none) row
+heap_agrees gone w a c (heap.Plain (plain.ClearNext k)) (replies.Cleared n) is none row =
     let tells = look_tells a c k (list_at a.found k) (replies.Cleared n) refl row in
-    cleared_agrees gone w a c k n is (of_phase 0 a (heap.ClearNext k) none) tells.0 tells.1
-    (heap_moves a c (heap.ClearNext k) (replies.Cleared n) tt row)
-heap_agrees gone w a c (heap.ClearNext k) (replies.Kept n) is none row = grind (arith, look_tells, passed_agrees)
-heap_agrees gone w a c (heap.ClearNext k) (replies.Skipped n) is none row = grind (arith, look_tells, passed_agrees)
-heap_agrees gone w a c (heap.ClearNext k) reply is none row =
-    settles gone w a c a.scanned is (heap_moves a c (heap.ClearNext k) reply tt row)
-heap_agrees gone w a c heap.EndClear reply is none row = grind arith
-heap_agrees gone w a c (heap.Sweep k) (replies.Swept count) is none row = search (swept_agrees, of_phase, heap_moves)
-heap_agrees gone w a c (heap.Sweep k) reply is none row =
-    settles gone w a c a.scanned is (heap_moves a c (heap.Sweep k) reply tt row)
-heap_agrees gone w a c heap.EndSweep reply is none row = grind arith
+    cleared_agrees gone w a c k n is (of_phase a (heap.Plain (plain.ClearNext k)) none) tells.0 tells.1
+    (heap_outcome a c (heap.Plain (plain.ClearNext k)) (replies.Cleared n) tt row)
+heap_agrees gone w a c (heap.Plain (plain.ClearNext k)) (replies.Kept n) is none row =
+    grind (arith, look_tells, passed_agrees)
+heap_agrees gone w a c (heap.Plain (plain.ClearNext k)) (replies.Skipped n) is none row =
+    grind (arith, look_tells, passed_agrees)
+heap_agrees gone w a c (heap.Plain (plain.ClearNext k)) reply is none row =
+    settles gone w a c a.scanned is (heap_outcome a c (heap.Plain (plain.ClearNext k)) reply tt row)
+heap_agrees gone w a c (heap.Plain plain.EndClear) reply is none row = grind arith
+heap_agrees gone w a c (heap.Plain (plain.Sweep k)) (replies.Swept count) is none row =
+    search (swept_agrees, of_phase, heap_outcome)
+heap_agrees gone w a c (heap.Plain (plain.Sweep k)) reply is none row =
+    settles gone w a c a.scanned is (heap_outcome a c (heap.Plain (plain.Sweep k)) reply tt row)
+heap_agrees gone w a c (heap.Plain plain.EndSweep) reply is none row = grind arith
 heap_agrees gone w a c step reply is none row =
-    still gone w a c reply is step tt tt tt tt (heap_moves a c step reply tt row)
+    still gone w a c reply is step tt tt tt tt (heap_outcome a c step reply tt row)
 
 -- ---- rows
 
@@ -126,5 +130,6 @@ module _ (gone : List ℕ) (w : World) (a : State) (row : Row) (b : State) (is :
 
 -- ---- at first
 
-pub first_agrees : (config : Config) → Agreeing [] (first_world config) (first_state config)
-first_agrees config = search none_below
+pub first_agrees : (config : Config) (number : ℕ)
+    → Agreeing [] (first_world_of config number) (first_state_of config number)
+first_agrees config number = search none_below

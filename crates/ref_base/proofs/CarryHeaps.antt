@@ -9,9 +9,10 @@ use Rattle.ref_base.proofs.Common.{World, Notice, Pending, pending_of, with_heap
 use Rattle.ref_base.proofs.Common.{without_pending, State, Makes, HeapAccepts}
 use Rattle.ref_base.proofs.Common.{Cycle, Reply}
 use Rattle.ref_base.specs.declared.heap_step.HeapStep.TheVariants as heap
+use Rattle.ref_base.specs.declared.plain_step.PlainStep.TheVariants as plain
 use Rattle.ref_base.specs.declared.reply.Reply.TheVariants as replies
 use Rattle.ref_base.specs.Replay.{if_told, after_heap}
-use Rattle.ref_base.proofs.HeapMoves.{IsNoEnd, moved, heap_moves}
+use Rattle.ref_base.proofs.Outcomes.{IsNoEnd, outcome, heap_outcome}
 use Rattle.ref_base.proofs.Places.{all_push}
 use Rattle.ref_base.proofs.CarryLaws.{all_map, all_without, Carries, Lasts, notice_from, all_without_first}
 use Rattle.ref_base.proofs.CarryLaws.{carries_changed, carries_pending, given}
@@ -21,20 +22,20 @@ module _ (O : Object → Type 0) (P : Notice → Type 0) (C : ℕ → Type 0) wh
 
   -- what a row of a heap makes anew: an object, a pending reference, or the cycle that goes on
   abbrev pub Anew : State → NamedStep → Reply → Type 0
-  Anew a (heap.New m d k) reply = reply ≡ replies.Object a.next → O (plain_object a.next (nulls k))
-  Anew a (heap.Refer m strength d s q k) reply =
+  Anew a (heap.Plain (plain.New m d k)) reply = reply ≡ replies.Object a.next → O (plain_object a.next (nulls k))
+  Anew a (heap.Plain (plain.Refer m strength d s q k)) reply =
       reply ≡ replies.Object a.next → O (new_reference a.world.heap a.next strength (slot_at a.world.heap m s) q k)
-  Anew a (heap.ClearNext k) reply =
+  Anew a (heap.Plain (plain.ClearNext k)) reply =
       (n q : ℕ) → reply ≡ replies.Cleared n → registered_in (reference_at a.world.heap n) ≡ Some q
       → P (record { object = n; queue = q; cause = Cycle a.world.cycle k })
-  Anew a (heap.Begin now how) reply = reply ≡ replies.Cycle (a.world.cycle + 1) → C (a.world.cycle + 1)
+  Anew a (heap.Plain (plain.Begin now how)) reply = reply ≡ replies.Cycle (a.world.cycle + 1) → C (a.world.cycle + 1)
   Anew a step reply = Unit {0}
 
   abbrev MakesNothing : NamedStep → Type 0
-  MakesNothing (heap.New m d k) = ⊥
-  MakesNothing (heap.Refer m strength d s q k) = ⊥
-  MakesNothing (heap.Begin now how) = ⊥
-  MakesNothing (heap.ClearNext k) = ⊥
+  MakesNothing (heap.Plain (plain.New m d k)) = ⊥
+  MakesNothing (heap.Plain (plain.Refer m strength d s q k)) = ⊥
+  MakesNothing (heap.Plain (plain.Begin now how)) = ⊥
+  MakesNothing (heap.Plain (plain.ClearNext k)) = ⊥
   MakesNothing step = Unit {0}
 
   makes : (a b : State) (m d : ℕ) (o : Object) (reply : Reply) → O o → Carries O P C a.world → Makes a m d o reply b
@@ -98,11 +99,11 @@ module _ (O : Object → Type 0) (P : Notice → Type 0) (C : ℕ → Type 0) wh
       slots h = record { carries = carries }
 
       after_carries : (step : NamedStep) (reply : Reply) → MakesNothing step → At (after_heap w step reply)
-      after_carries (heap.New m d k) reply plain = absurd plain
-      after_carries step reply plain = search (told, done, before, stores, cuts, gets, unhooks, hands_on, slots)
+      after_carries (heap.Plain (plain.New m d k)) reply no_end = absurd no_end
+      after_carries step reply no_end = search (told, done, before, stores, cuts, gets, unhooks, hands_on, slots)
 
-    looks : (a : State) (k : ℕ) (reply : Reply) → Anew a (heap.ClearNext k) reply → Carries O P C a.world
-        → Carries O P C (moved a (heap.ClearNext k) reply).world
+    looks : (a : State) (k : ℕ) (reply : Reply) → Anew a (heap.Plain (plain.ClearNext k)) reply → Carries O P C a.world
+        → Carries O P C (outcome a (heap.Plain (plain.ClearNext k)) reply).world
     looks a k (replies.Cleared n) anew carries =
         pends a.world k n (registered_in (reference_at a.world.heap n)) (λ q there. anew n q refl there) carries
     looks a k (replies.Kept n) anew carries = carries
@@ -110,26 +111,26 @@ module _ (O : Object → Type 0) (P : Notice → Type 0) (C : ℕ → Type 0) wh
     looks a k reply anew carries = carries
 
     sweeps : (a : State) (k : ℕ) (reply : Reply) → Carries O P C a.world
-        → Carries O P C (moved a (heap.Sweep k) reply).world
+        → Carries O P C (outcome a (heap.Plain (plain.Sweep k)) reply).world
     sweeps a k (replies.Swept count) carries = search all_without
     sweeps a k reply carries = carries
 
     -- a row that isn't a mark's end carries on what holds where it leads
     leads : (a b : State) (step : NamedStep) (reply : Reply) → IsNoEnd step → HeapAccepts a step reply b
-        → Carries O P C (moved a step reply).world → Carries O P C b.world
-    leads a b step reply plain row carries = grind (arith, heap_moves)
+        → Carries O P C (outcome a step reply).world → Carries O P C b.world
+    leads a b step reply no_end row carries = grind (arith, heap_outcome)
 
     -- a row of a heap carries on what holds of all
     pub heap_carries : (a b : State) (step : NamedStep) (reply : Reply) → Anew a step reply → Carries O P C a.world
         → HeapAccepts a step reply b → Carries O P C b.world
-    heap_carries a b (heap.New m d k) reply anew carries row =
+    heap_carries a b (heap.Plain (plain.New m d k)) reply anew carries row =
         makes a b m d (plain_object a.next (nulls k)) reply (anew row.0) carries row
-    heap_carries a b (heap.Refer m strength d s q k) reply anew carries row = search makes
-    heap_carries a b (heap.Begin now how) reply anew carries row = grind arith
-    heap_carries a b heap.EndMark reply anew carries row = grind (arith, all_map)
-    heap_carries a b (heap.ClearNext k) reply anew carries row =
-        leads a b (heap.ClearNext k) reply tt row (looks a k reply anew carries)
-    heap_carries a b (heap.Sweep k) reply anew carries row =
-        leads a b (heap.Sweep k) reply tt row (sweeps a k reply carries)
+    heap_carries a b (heap.Plain (plain.Refer m strength d s q k)) reply anew carries row = search makes
+    heap_carries a b (heap.Plain (plain.Begin now how)) reply anew carries row = grind arith
+    heap_carries a b (heap.Plain plain.EndMark) reply anew carries row = grind (arith, all_map)
+    heap_carries a b (heap.Plain (plain.ClearNext k)) reply anew carries row =
+        leads a b (heap.Plain (plain.ClearNext k)) reply tt row (looks a k reply anew carries)
+    heap_carries a b (heap.Plain (plain.Sweep k)) reply anew carries row =
+        leads a b (heap.Plain (plain.Sweep k)) reply tt row (sweeps a k reply carries)
     heap_carries a b step reply anew carries row =
         leads a b step reply tt row (after_carries a.world carries step reply tt).carries

@@ -37,23 +37,28 @@ all_without P ns (o ∷ os) all = grind (arith, all_without P ns os all.1)
 abbrev pub notice_from : ℕ → Pending → Notice
 notice_from k p = record { object = p.object; queue = p.queue; cause = Cycle p.cycle k }
 
-abbrev pub OfHand : (Notice → Type 0) → Option Notice → Type 0
-OfHand P None = Unit {0}
-OfHand P (Some notice) = P notice
+-- it holds of the notice that was told, if one was
+abbrev pub OfTold : (Notice → Type 0) → Option Notice → Type 0
+OfTold P None = Unit {0}
+OfTold P (Some notice) = P notice
 
 -- O holds of each object, P of each notice that is out or that a worker will give, and C of the cycle that goes on
 pub record CarriesIn (O : Object → Type 0) (P : Notice → Type 0) (C : ℕ → Type 0) (os : List Object)
-    (pending : List (List Pending)) (mutator_hands worker_hands : List (Option Notice)) (queues : List (Lists Notice))
+    (pending : List (List Pending)) (mutator_hands worker_hands : List (List Notice)) (queues : List (Lists Notice))
     (cycle : ℕ) : Type 0 where
   pub objects : AllByRecursion O os
   pub pendings : (k : ℕ) → AllByRecursion (λ p. P (notice_from k p)) (slice_index_or pending k [])
-  pub of_mutators : (m : ℕ) → OfHand P (slice_index_or mutator_hands m None)
-  pub of_workers : (k : ℕ) → OfHand P (slice_index_or worker_hands k None)
+  pub of_mutators : (m : ℕ) → AllByRecursion P (slice_index_or mutator_hands m [])
+  pub of_workers : (k : ℕ) → AllByRecursion P (slice_index_or worker_hands k [])
   pub stands : (q : ℕ) → AllByRecursion P (slice_index_or queues q (new_queue q)).stands
   pub goes_on : C cycle
 
 abbrev pub Carries : (Object → Type 0) → (Notice → Type 0) → (ℕ → Type 0) → World → Type 0
 Carries O P C w = CarriesIn O P C w.heap.objects w.pending w.mutator_hands w.worker_hands w.queues w.cycle
+
+-- nothing is asked of the cycle
+abbrev pub AnyCycle : ℕ → Type 0
+AnyCycle cycle = Unit {0}
 
 -- O lasts through each change of an object
 pub record Lasts (O : Object → Type 0) : Type 0 where
@@ -86,13 +91,13 @@ module _ (O : Object → Type 0) (P : Notice → Type 0) (C : ℕ → Type 0) wh
       carries.pendings in
       assumption (each, carries)
 
-  pub carries_hand : (w : World) (who : Actor) (hand : Option Notice) → OfHand P hand → Carries O P C w
+  pub carries_hand : (w : World) (who : Actor) (hand : List Notice) → AllByRecursion P hand → Carries O P C w
       → Carries O P C (with_hand w who hand)
   carries_hand w (Mutator m) hand is carries =
-      let each = set_each (λ _ h. OfHand P h) w.mutator_hands m hand (λ _. None) is carries.of_mutators in
+      let each = set_each (λ _ h. AllByRecursion P h) w.mutator_hands m hand (λ _. []) is carries.of_mutators in
       assumption (each, carries)
   carries_hand w (Worker k) hand is carries =
-      let each = set_each (λ _ h. OfHand P h) w.worker_hands k hand (λ _. None) is carries.of_workers in
+      let each = set_each (λ _ h. AllByRecursion P h) w.worker_hands k hand (λ _. []) is carries.of_workers in
       assumption (each, carries)
 
   pub carries_queue : (w : World) (q : ℕ) (lists : Lists Notice) → AllByRecursion P lists.stands → Carries O P C w

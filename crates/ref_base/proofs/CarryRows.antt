@@ -1,9 +1,8 @@
 -- What a row of the world carries on: whatever holds of each object, of each notice that is out or will be given, and
 -- of the cycle holds afterwards where it holds of what the row makes anew.
 use Rattle.std.proofs.Common.{arith}
-use Rattle.std.proofs.Common.{◌≡◌, ℕ, Bool, true, false, List, [], ◌∷◌, length, replicate, zero, suc, Option}
+use Rattle.std.proofs.Common.{◌≡◌, ℕ, Bool, true, false, List, [], ◌∷◌, length, Option}
 use Rattle.std.proofs.Common.{Some, None, refl, sym, ap, ◌∙◌, subst, inl, inr}
-use Rattle.std.specs.Prelude.{slice_index_or}
 use Rattle.std.specs.List.{AllByRecursion}
 use Rattle.ref_base.proofs.Common.{Object, slot_at, reference_at, registered_in, Lists, enqueued, with_parcel, World}
 use Rattle.ref_base.proofs.Common.{Notice, Pending, first_world, object_of, hand_of, queue_at, pending_of, with_hand}
@@ -14,17 +13,17 @@ use Rattle.ref_base.proofs.Common.{Config, Actor, Mutator, Worker, Own, Cycle, F
 use Rattle.ref_base.specs.declared.heap_step.HeapStep.TheVariants as heap
 use Rattle.ref_base.specs.declared.step.Step.TheVariants as steps
 use Rattle.ref_base.specs.declared.reply.Reply.TheVariants as replies
-use Rattle.ref_base.proofs.Places.{all_push}
-use Rattle.ref_base.proofs.Common.{heap_step}
+use Rattle.ref_base.proofs.Places.{all_push, all_rest}
+use Rattle.ref_base.proofs.Common.{heap_step, rest_of, with_rest}
 use Rattle.ref_base.proofs.RowForms.{asked_of}
-use Rattle.ref_base.proofs.SoundWorlds.{first_queue, first_hand}
-use Rattle.ref_base.proofs.CarryLaws.{OfHand, Carries, Lasts, notice_from, all_without_first, carries_hand}
+use Rattle.ref_base.proofs.SoundWorlds.{first_queue, first_hand, first_pending}
+use Rattle.ref_base.proofs.CarryLaws.{Carries, Lasts, notice_from, all_without_first, carries_hand}
 use Rattle.ref_base.proofs.CarryLaws.{carries_queue, in_world, given}
 use Rattle.ref_base.proofs.CarryHeaps.{Anew, heap_carries}
 
 -- the notice of that number among these is one of them
 pub all_notice_of : (P : Notice → Type 0) (notices : List Notice) (n : ℕ) → AllByRecursion P notices
-    → OfHand P (notice_of notices n)
+    → AllByRecursion P (notice_of notices n)
 all_notice_of P [] n all = tt
 all_notice_of P (notice ∷ rest) n all = grind (arith, all_notice_of P rest n all.1)
 
@@ -36,10 +35,7 @@ left_by c b step answer reply is left =
 module _ (O : Object → Type 0) (P : Notice → Type 0) (C : ℕ → Type 0) where
   -- what a row makes anew: an object, a pending reference, or a notice of a reference that was unhooked
   abbrev pub Mints : State → Step → Reply → Type 0
-  Mints a (steps.New m d k) reply = Anew O P C a (heap.New m d k) reply
-  Mints a (steps.Refer m strength d s q k) reply = Anew O P C a (heap.Refer m strength d s q k) reply
-  Mints a (steps.Begin now how) reply = Anew O P C a (heap.Begin now how) reply
-  Mints a (steps.ClearNext k) reply = Anew O P C a (heap.ClearNext k) reply
+  Mints a (steps.Plain step) reply = Anew O P C a (heap.Plain step) reply
   Mints a (steps.Unhook m s) reply =
       (n q : ℕ) → reply ≡ replies.Notice n q Own → registered_in (reference_at a.world.heap n) ≡ Some q
       → P (record { object = n; queue = q; cause = Own })
@@ -47,30 +43,32 @@ module _ (O : Object → Type 0) (P : Notice → Type 0) (C : ℕ → Type 0) wh
 
   -- ---- queues
 
-  puts_into : (a b : State) (who : Actor) (notice : Notice) (again shut : Bool) (reply : Reply) → P notice
-      → Carries O P C a.world → PutsInto again shut a who notice reply b → Carries O P C b.world
-  puts_into a b who notice true shut reply is carries row = given O P C a b replies.Already reply row carries
-  puts_into a b who notice false true reply is carries row = given O P C a b replies.Closed reply row carries
-  puts_into a b who notice false false reply is carries row =
+  puts_into : (a b : State) (who : Actor) (notice : Notice) (rest : List Notice) (again shut : Bool) (reply : Reply)
+      → AllByRecursion P (notice ∷ rest) → Carries O P C a.world → PutsInto again shut a who notice rest reply b
+      → Carries O P C b.world
+  puts_into a b who notice rest true shut reply all carries row = given O P C a b replies.Already reply row carries
+  puts_into a b who notice rest false true reply all carries row = given O P C a b replies.Closed reply row carries
+  puts_into a b who notice rest false false reply all carries row =
       let lists : Lists Notice = queue_at a.world notice.queue in
       elim row [
         | inl added ↦
-            given O P C (with_world a (put_in a.world who (Some notice))) b
+            given O P C (with_world a (put_in a.world who (notice ∷ rest))) b
             (replies.Added (length (enqueued object_of lists))) reply added
-            (carries_queue O P C (with_hand a.world who None) notice.queue (with_parcel lists notice)
-            (all_push P lists.stands notice (carries.stands notice.queue) is)
-            (carries_hand O P C a.world who None tt carries))
+            (carries_queue O P C (with_hand a.world who rest) notice.queue (with_parcel lists notice)
+            (all_push P lists.stands notice (carries.stands notice.queue) all.0)
+            (carries_hand O P C a.world who rest all.1 carries))
         | inr refused ↦ in_world O P C b a.world (ap (λ (s : State). s.world) refused.1) carries
       ]
 
-  hand_carries : (w : World) (who : Actor) → Carries O P C w → OfHand P (hand_of w who)
+  -- what holds of each notice holds of a hand's
+  pub hand_carries : (w : World) (who : Actor) → Carries O P C w → AllByRecursion P (hand_of w who)
   hand_carries w (Mutator m) carries = carries.of_mutators m
   hand_carries w (Worker k) carries = carries.of_workers k
 
-  puts : (a b : State) (who : Actor) (hand : Option Notice) (reply : Reply) → OfHand P hand → Carries O P C a.world
-      → Puts a who hand reply b → Carries O P C b.world
-  puts a b who None reply is carries row = absurd row
-  puts a b who (Some notice) reply is carries row = puts_into a b who notice _ _ reply is carries row
+  puts : (a b : State) (who : Actor) (hand : List Notice) (reply : Reply) → AllByRecursion P hand
+      → Carries O P C a.world → Puts a who hand reply b → Carries O P C b.world
+  puts a b who [] reply all carries row = absurd row
+  puts a b who (notice ∷ rest) reply all carries row = puts_into a b who notice rest _ _ reply all carries row
 
   polls : (a b : State) (m q : ℕ) (stands : List Notice) (reply : Reply) → Carries O P C a.world
       → Polls a m q stands reply b → Carries O P C b.world
@@ -86,8 +84,8 @@ module _ (O : Object → Type 0) (P : Notice → Type 0) (C : ℕ → Type 0) wh
   -- ---- hands
 
   -- a row that gives this to a hand
-  hands_over : (c b : State) (who : Actor) (hand : Option Notice) (step : Step) (answer reply : Reply)
-      → handed c.world step answer ≡ with_hand c.world who hand → OfHand P hand → reply ≡ answer
+  hands_over : (c b : State) (who : Actor) (hand : List Notice) (step : Step) (answer reply : Reply)
+      → handed c.world step answer ≡ with_hand c.world who hand → AllByRecursion P hand → reply ≡ answer
       → b ≡ with_handed c step reply → Carries O P C c.world → Carries O P C b.world
   hands_over c b who hand step answer reply into is told left carries =
       in_world O P C b (with_hand c.world who hand) (left_by c b step answer reply told left ∙ into)
@@ -107,8 +105,8 @@ module _ (O : Object → Type 0) (P : Notice → Type 0) (C : ℕ → Type 0) wh
   unhooks a c b m s (Some n) None reply mints is row left carries =
       hands_none c b (steps.Unhook m s) replies.Nothing reply refl row.0 left carries
   unhooks a c b m s (Some n) (Some q) reply mints is row left carries =
-      hands_over c b (Mutator m) (Some (record { object = n; queue = q; cause = Own })) (steps.Unhook m s)
-      (replies.Notice n q Own) reply refl (mints n q row.0 is) row.0 left carries
+      hands_over c b (Mutator m) (record { object = n; queue = q; cause = Own } ∷ []) (steps.Unhook m s)
+      (replies.Notice n q Own) reply refl (mints n q row.0 is, tt) row.0 left carries
 
   hands : (a c b : State) (k : ℕ) (ps : List Pending) (reply : Reply)
       → AllByRecursion (λ p. P (notice_from k p)) ps → HandsOn a k ps reply c
@@ -116,27 +114,35 @@ module _ (O : Object → Type 0) (P : Notice → Type 0) (C : ℕ → Type 0) wh
   hands a c b k [] reply all row left carries =
       hands_none c b (steps.Hand k) replies.Nothing reply refl row.0 left carries
   hands a c b k (p ∷ ps) reply all row left carries =
-      hands_over c b (Worker k) (Some (notice_from k p)) (steps.Hand k)
-      (replies.Notice p.object p.queue (Cycle p.cycle k)) reply refl all.0 row.0 left carries
+      hands_over c b (Worker k) (notice_from k p ∷ []) (steps.Hand k)
+      (replies.Notice p.object p.queue (Cycle p.cycle k)) reply refl (all.0, tt) row.0 left carries
+
+  -- a row that takes the first from a hand
+  hands_back : (c b : State) (who : Actor) (step : Step) (answer reply : Reply)
+      → handed c.world step answer ≡ with_rest c.world who → reply ≡ answer → b ≡ with_handed c step reply
+      → Carries O P C c.world → Carries O P C b.world
+  hands_back c b who step answer reply shorter told left carries =
+      hands_over c b who (rest_of (hand_of c.world who)) step answer reply shorter
+      (all_rest P (hand_of c.world who) (hand_carries c.world who carries)) told left carries
 
   -- ---- rows
 
   module _ (lasts : Lasts O) where
-    adopts : (a b : State) (m d : ℕ) (hand : Option Notice) (reply : Reply) → Carries O P C a.world
-        → AcceptsAsking a (spending (λ hold. heap.Adopt m d hold) hand) (steps.Adopt m d) reply b
+    adopts : (a b : State) (m d : ℕ) (hand : List Notice) (reply : Reply) → Carries O P C a.world
+        → AcceptsAsking a (spending a.world (λ hold. heap.Adopt m d hold) hand) (steps.Adopt m d) reply b
         → Carries O P C b.world
-    adopts a b m d None reply carries row = absurd row
-    adopts a b m d (Some notice) reply carries row =
-        hands_over row.0 b (Mutator m) None (steps.Adopt m d) (replies.Object notice.object) reply refl tt row.1.0 row.2
-        (heap_carries O P C lasts a row.0 (heap.Adopt m d (hold_of notice)) reply tt carries row.1)
+    adopts a b m d [] reply carries row = absurd row
+    adopts a b m d (notice ∷ rest) reply carries row =
+        hands_back row.0 b (Mutator m) (steps.Adopt m d) (replies.Object notice.object) reply refl row.1.0 row.2
+        (heap_carries O P C lasts a row.0 (heap.Adopt m d (hold_of a.world notice)) reply tt carries row.1)
 
-    releases : (a b : State) (who : Actor) (hand : Option Notice) (reply : Reply) → Carries O P C a.world
-        → AcceptsAsking a (spending (λ hold. heap.Release hold) hand) (steps.Release who) reply b
+    releases : (a b : State) (who : Actor) (hand : List Notice) (reply : Reply) → Carries O P C a.world
+        → AcceptsAsking a (spending a.world (λ hold. heap.Release hold) hand) (steps.Release who) reply b
         → Carries O P C b.world
-    releases a b who None reply carries row = absurd row
-    releases a b who (Some notice) reply carries row =
-        hands_over row.0 b who None (steps.Release who) replies.Done reply refl tt row.1.0 row.2
-        (heap_carries O P C lasts a row.0 (heap.Release (hold_of notice)) reply tt carries row.1)
+    releases a b who [] reply carries row = absurd row
+    releases a b who (notice ∷ rest) reply carries row =
+        hands_back row.0 b who (steps.Release who) replies.Done reply refl row.1.0 row.2
+        (heap_carries O P C lasts a row.0 (heap.Release (hold_of a.world notice)) reply tt carries row.1)
 
     -- a row of the heap that leaves the hands
     quiet : (a b : State) (asked : NamedStep) (step : Step) (reply : Reply) → Anew O P C a asked reply
@@ -178,19 +184,17 @@ module _ (O : Object → Type 0) (P : Notice → Type 0) (C : ℕ → Type 0) wh
 
 -- ---- at first
 
-pub nothing_pending : (P : Pending → Type 0) (count k : ℕ)
-    → AllByRecursion P (slice_index_or (replicate count []) k [])
-nothing_pending P zero k = tt
-nothing_pending P (suc count) zero = tt
-nothing_pending P (suc count) (suc k) = nothing_pending P count k
+pub nothing_pending : (P : Pending → Type 0) (config : Config) (k : ℕ)
+    → AllByRecursion P (pending_of (first_world config) k)
+nothing_pending P config k = subst (AllByRecursion P) (sym (first_pending config k)) tt
 
 pub first_carries : (O : Object → Type 0) (P : Notice → Type 0) (C : ℕ → Type 0) (config : Config) → C 0
     → Carries O P C (first_world config)
 first_carries O P C config is = record {
   objects = tt;
-  pendings = λ k. nothing_pending (λ p. P (notice_from k p)) config.workers k;
-  of_mutators = λ m. subst (OfHand P) (sym (first_hand config (Mutator m))) tt;
-  of_workers = λ k. subst (OfHand P) (sym (first_hand config (Worker k))) tt;
+  pendings = λ k. nothing_pending (λ p. P (notice_from k p)) config k;
+  of_mutators = λ m. subst (AllByRecursion P) (sym (first_hand config (Mutator m))) tt;
+  of_workers = λ k. subst (AllByRecursion P) (sym (first_hand config (Worker k))) tt;
   stands = λ q. rw (first_queue config q) tt;
   goes_on = is;
 }

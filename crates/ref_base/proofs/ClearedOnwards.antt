@@ -9,17 +9,17 @@ use Rattle.ref_base.proofs.Common.{cleared, got_at, World, Notice, Pending, Stat
 use Rattle.ref_base.proofs.Common.{first_state, IsRow, IsRun, doomed_at, shown, referent_of}
 use Rattle.ref_base.proofs.Common.{EndsMark, HeapAccepts, NamedStep, Config, Reply, Row}
 use Rattle.ref_base.specs.declared.heap_step.HeapStep.TheVariants as heap
+use Rattle.ref_base.specs.declared.plain_step.PlainStep.TheVariants as plain
 use Rattle.ref_base.specs.declared.step.Step.TheVariants as steps
 use Rattle.ref_base.specs.declared.reply.Reply.TheVariants as replies
-use Rattle.ref_base.proofs.CarryLaws.{OfHand, Carries, Lasts, notice_from}
+use Rattle.ref_base.proofs.CarryLaws.{AnyCycle, Carries, Lasts, notice_from}
 use Rattle.ref_base.proofs.CarryHeaps.{Anew, heap_carries}
 use Rattle.ref_base.proofs.CountedTraces.{legal_counted}
 use Rattle.ref_base.proofs.NewClears.{is_there-rising, has-new_clears}
 use Rattle.ref_base.proofs.OldNames.{legal_numbers}
 use Rattle.ref_base.proofs.OneQueue.{next_heap}
 use Rattle.ref_base.proofs.HeapTurns.{at_rest, IsTurn, accepted, row_turn}
-use Rattle.ref_base.proofs.RunFronts.{goes_on}
-use Rattle.ref_base.proofs.RunLaws.{run_more}
+use Rattle.ref_base.proofs.RunLaws.{run_more, holds_on}
 
 -- ---- a reference that has no referent
 
@@ -75,9 +75,6 @@ ended_cleared a b reply n rising below ends new = grind (arith, new_clear_there,
 abbrev Anything : Notice → Type 0
 Anything notice = Unit {0}
 
-abbrev AnyCycle : ℕ → Type 0
-AnyCycle cycle = Unit {0}
-
 all_anything : (k : ℕ) (ps : List Pending) → AllByRecursion (λ p. Anything (notice_from k p)) ps
 all_anything k [] = tt
 all_anything k (p ∷ ps) = (tt, all_anything k ps)
@@ -86,21 +83,18 @@ each_anything : (notices : List Notice) → AllByRecursion Anything notices
 each_anything [] = tt
 each_anything (notice ∷ rest) = (tt, each_anything rest)
 
-hand_anything : (hand : Option Notice) → OfHand Anything hand
-hand_anything None = tt
-hand_anything (Some notice) = tt
-
 carries_objects_alone : (O : Object → Type 0) (w : World) → AllByRecursion O w.heap.objects
     → Carries O Anything AnyCycle w
-carries_objects_alone O w all = search (all_anything, hand_anything, each_anything)
+carries_objects_alone O w all = search (all_anything, each_anything)
 
 -- what is made anew has another number
 makes_another : (n : ℕ) (a : State) (step : NamedStep) (reply : Reply) → n < a.next
     → Anew (IsCleared n) Anything AnyCycle a step reply
-makes_another n a (heap.New m d k) reply under = λ is same. refl
-makes_another n a (heap.Refer m strength d s q k) reply under = λ is same. absurd (omega (arith, same, under))
-makes_another n a (heap.Begin now how) reply under = λ is. tt
-makes_another n a (heap.ClearNext k) reply under = λ o q is there. tt
+makes_another n a (heap.Plain (plain.New m d k)) reply under = λ is same. refl
+makes_another n a (heap.Plain (plain.Refer m strength d s q k)) reply under =
+    λ is same. absurd (omega (arith, same, under))
+makes_another n a (heap.Plain (plain.Begin now how)) reply under = λ is. tt
+makes_another n a (heap.Plain (plain.ClearNext k)) reply under = λ o q is there. tt
 makes_another n a step reply under = tt
 
 -- a row of a heap keeps it
@@ -123,23 +117,23 @@ turn_cleared n a b asked reply (inr of) is =
 -- and a mark's end begins it
 pub end_clears : (a b : State) (count n : ℕ) → IsRising (numbers a.world.heap.objects)
     → ((m : ℕ) → is_there a.world.heap.objects m ≡ true → m < a.next)
-    → IsTurn a (Some heap.EndMark) (replies.Doomed count) b
+    → IsTurn a (Some (heap.Plain plain.EndMark)) (replies.Doomed count) b
     → has (new_clears a.world.heap.objects (doomed_at a)) n ≡ true → StaysCleared n b
 end_clears a b count n rising below ends new =
-    let of = accepted a b heap.EndMark (replies.Doomed count) (λ fault no. absurd cc) ends in
+    let of = accepted a b (heap.Plain plain.EndMark) (replies.Doomed count) (λ fault no. absurd cc) ends in
     same_cleared n of.0 b of.3 (ended_cleared a of.0 (replies.Doomed count) n rising below of.2 new)
 
 -- what a mark's end clears reads as cleared from then on
 pub stays_cleared : (config : Config) (front : List Row) (a b : State) (count : ℕ) (rows : List Row) (c : State) (n : ℕ)
     → IsRun (first_state config) front a
-    → IsRow a (record { step = steps.EndMark; reply = replies.Doomed count }) b → IsRun b rows c
+    → IsRow a (record { step = steps.Plain plain.EndMark; reply = replies.Doomed count }) b → IsRun b rows c
     → has (new_clears a.world.heap.objects (doomed_at a)) n ≡ true
     → referent_of (reference_at c.world.heap n) ≡ None
 stays_cleared config front a b count rows c n first ends later new =
-    let row : Row = record { step = steps.EndMark; reply = replies.Doomed count } in
+    let row : Row = record { step = steps.Plain plain.EndMark; reply = replies.Doomed count } in
     let old = legal_numbers config front a first in
     cleared_at c.world.heap.objects n
-    (goes_on config (λ past s. StaysCleared n s)
+    (holds_on IsRow (first_state config) (λ past s. StaysCleared n s)
     (λ past s other t run is h.
     turn_cleared n s t _ other.reply (row_turn s other t (legal_counted config past s run) h) is)
     (front ++ row ∷ []) b rows c (run_more (first_state config) front a b row first ends)
@@ -151,14 +145,14 @@ stays_cleared config front a b count rows c n first ends later new =
 -- no get of a reference that has no referent answers an object
 pub no_get : (c e : State) (m d s n k : ℕ) → slot_at c.world.heap m s ≡ Some n
     → referent_of (reference_at c.world.heap n) ≡ None
-    → ¬ (IsTurn c (Some (heap.Get m d s)) (replies.Object k) e)
+    → ¬ (IsTurn c (Some (heap.Plain (plain.Get m d s))) (replies.Object k) e)
 no_get c e m d s n k holds none turn = grind arith
 
 -- so none of what a mark's end cleared does
 pub never_got : (config : Config) (front : List Row) (a b : State) (count : ℕ) (rows : List Row) (c : State) (n : ℕ)
     (m d s k : ℕ) (e : State) → IsRun (first_state config) front a
-    → IsRow a (record { step = steps.EndMark; reply = replies.Doomed count }) b → IsRun b rows c
+    → IsRow a (record { step = steps.Plain plain.EndMark; reply = replies.Doomed count }) b → IsRun b rows c
     → has (new_clears a.world.heap.objects (doomed_at a)) n ≡ true → slot_at c.world.heap m s ≡ Some n
-    → ¬ (IsRow c (record { step = steps.Get m d s; reply = replies.Object k }) e)
+    → ¬ (IsRow c (record { step = steps.Plain (plain.Get m d s); reply = replies.Object k }) e)
 never_got config front a b count rows c n m d s k e first ends later new holds row =
     grind (arith, stays_cleared, no_get c e m d s n k holds)

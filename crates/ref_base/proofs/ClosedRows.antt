@@ -1,28 +1,31 @@
--- No row of a heap but a mark's end changes of what holds of whatever a root names, and whatever that refers to.
+-- No row of a heap but a mark's end changes of what holds of whatever a root names, and whatever that refers to; and it
+-- holds of what a reply names.
 use Rattle.std.proofs.Common.{arith}
-use Rattle.std.proofs.Common.{◌≡◌, ℕ, ◌+◌, ◌*◌, Bool, true, false, List, [], ◌∷◌, ◌++◌}
+use Rattle.std.proofs.Common.{◌≡◌, ℕ, ◌+◌, ◌*◌, Bool, true, false, if◌then◌else◌, List, [], ◌∷◌, ◌++◌, min, length}
 use Rattle.std.proofs.Common.{Option, Some, None, sym, ap, ◌∙◌, subst, inl, inr}
 use Rattle.std.specs.List.{AllByRecursion}
-use Rattle.std.proofs.lemmas.Bool.{false≢true}
 use Rattle.ref_base.proofs.Common.{has, Object, object_at, plain_object, any_referent, present, if_any, targets_of}
 use Rattle.ref_base.proofs.Common.{Heap, slot_at, with_slot, with_reference}
-use Rattle.ref_base.proofs.Common.{got_at, got, cut, made, nulls, new_reference, changed_in, with_hold}
+use Rattle.ref_base.proofs.Common.{got_at, got, cut, stored, made, nulls, new_reference, changed_in, with_hold}
 use Rattle.ref_base.proofs.Common.{without_hold, World, Pending, pending_of, with_heap, with_pending, told_object}
-use Rattle.ref_base.proofs.Common.{NamedStep, adopted, pended, handed_on, with_phase, without_pending, State}
-use Rattle.ref_base.proofs.Common.{Gives, GivesAnewIf, ticked, on_heap, with_world, Makes, Loads, Gets, Unhooks, Holds}
-use Rattle.ref_base.proofs.Common.{Scans, ClearsNext, HandsOn, Sweeps, HeapAccepts, value_reply}
-use Rattle.ref_base.proofs.Common.{field_in, referent_got, reference_of, is_in}
-use Rattle.ref_base.proofs.Common.{heap_refusal, Own, Cycle, Phase, Marking, Clearing}
+use Rattle.ref_base.proofs.Common.{Notice, told_value, told_notice, told_cycle, is_done, begun, with_phase}
+use Rattle.ref_base.proofs.Common.{named_by, NamedStep, adopted, pended, handed_on, without_pending, after_heap, State}
+use Rattle.ref_base.proofs.Common.{Gives, Unhooks, Holds, Scans, ClearsNext, HandsOn, Sweeps, HeapAccepts, value_reply}
+use Rattle.ref_base.proofs.Common.{list_at, field_in, referent_got, reference_of}
+use Rattle.ref_base.specs.declared.strength.Strength.{Strength}
+use Rattle.ref_base.specs.Replay.{if_told}
+use Rattle.ref_base.proofs.Common.{heap_refusal, Own, Cycle, Phase, Clearing, Urgency}
 use Rattle.ref_base.proofs.Common.{Reply}
 use Rattle.ref_base.specs.declared.heap_step.HeapStep.TheVariants as heap
+use Rattle.ref_base.specs.declared.plain_step.PlainStep.TheVariants as plain
 use Rattle.ref_base.specs.declared.reply.Reply.TheVariants as replies
 use Rattle.ref_base.proofs.Places.{all_push}
 use Rattle.ref_base.proofs.CarryLaws.{all_without_first}
 use Rattle.ref_base.proofs.HasLaws.{has-cases}
 use Rattle.ref_base.proofs.StrengthLaws.{if_any-has}
-use Rattle.ref_base.proofs.RowForms.{but_world, ticked_world}
-use Rattle.ref_base.proofs.HeapMoves.{IsNoEnd}
-use Rattle.ref_base.proofs.ReplayUnder.{made_number}
+use Rattle.ref_base.proofs.RowForms.{ticked_world}
+use Rattle.ref_base.proofs.Outcomes.{IsNoEnd, outcome, heap_outcome}
+use Rattle.ref_base.proofs.ReplayUnder.{IsNoLook, made_number}
 use Rattle.ref_base.proofs.PhaseLaws.{of_phase}
 use Rattle.ref_base.proofs.ObjectTargets.{field_target, got_target, no_nulls}
 use Rattle.ref_base.proofs.ApartWorlds.{OfValue, IsClosed, closed_slot, closed_hold, closed_fewer, closed_pending}
@@ -41,12 +44,6 @@ module _ (V : ℕ → Type 0) where
   given c b answer reply row closed =
       in_world b c.world (ap (λ (s : State). s.world) row.1 ∙ ticked_world c) closed
 
-  given_anew : (c b : State) (marks : Bool) (answer reply : Reply) → GivesAnewIf marks answer c reply b
-      → IsClosed V c.world → IsClosed V b.world
-  given_anew c b true answer reply row closed =
-      in_world b c.world (but_world (ticked c) b row.1 ∙ ticked_world c) closed
-  given_anew c b false answer reply row closed = given c b answer reply row closed
-
   -- what the object in a slot refers to
   pub field_is : (w : World) (held : Option ℕ) (i : ℕ) (value : Option ℕ) → OfValue V held → IsClosed V w
       → field_in w.heap held i ≡ value → OfValue V value
@@ -62,145 +59,208 @@ module _ (V : ℕ → Type 0) where
   got_is w (Some m) (Some n) of closed is =
       closed.targets m n of (got_target (object_at w.heap.objects m) n is)
 
+  -- ---- what a reply names
+
+  told_is : (answer reply : Reply) → reply ≡ answer → OfValue V (named_by answer) → OfValue V (named_by reply)
+  told_is answer reply is holds = subst (λ (r : Reply). OfValue V (named_by r)) (sym is) holds
+
+  value_is : (value : Option ℕ) → OfValue V value → OfValue V (named_by (value_reply value))
+  value_is None is = tt
+  value_is (Some n) is = is
+
   module _ (a b : State) (closed : IsClosed V a.world) where
-    sets : (m d : ℕ) (value : Option ℕ) (answer reply : Reply) → OfValue V value
-        → Gives answer (on_heap a (with_slot a.world.heap m d value)) reply b → IsClosed V b.world
-    sets m d value answer reply is row = search (given, closed_slot)
-
-    loads : (m d : ℕ) (value : Option ℕ) (reply : Reply) → OfValue V value → Loads a m d value reply b
-        → IsClosed V b.world
-    loads m d None reply is row = sets m d None replies.Null reply tt row
-    loads m d (Some n) reply is row = grind (arith, closed_slot)
-
-    gets : (m d s : ℕ) (value : Option ℕ) (reply : Reply) → OfValue V value → Gets a m d s value reply b
-        → IsClosed V b.world
-    gets m d s None reply is row = sets m d None replies.Null reply tt row
-    gets m d s (Some n) reply is row =
-        let h : Heap = a.world.heap in
-        let f : Object → Object = with_reference (got_at h.clock) in
-        given_anew (on_heap a (got h m d s (Some n))) b (is_in a.world.phase Marking) (replies.Object n) reply row
-        (closed_slot V (with_heap a.world (changed_in h (slot_at h m s) f)) m d (Some n) is
-        (closed_got V a.world (slot_at h m s) h.clock closed))
-
-    cuts : (m s : ℕ) (answer reply : Reply) → Gives answer (on_heap a (cut a.world.heap m s)) reply b
-        → IsClosed V b.world
-    cuts m s answer reply row = search (given, closed_cut)
-
     unhooks : (m s : ℕ) (held queue : Option ℕ) (reply : Reply) → OfValue V held → Unhooks a m s held queue reply b
-        → IsClosed V b.world
-    unhooks m s None queue reply is row = cuts m s replies.Nothing reply row
-    unhooks m s (Some n) None reply is row = cuts m s replies.Nothing reply row
-    unhooks m s (Some n) (Some q) reply is row =
-        let h : Heap = a.world.heap in
-        given (on_heap a (with_hold (cut h m s) n)) b (replies.Notice n q Own) reply row
-        (closed_hold V (with_heap a.world (cut h m s)) n is (closed_cut V a.world (slot_at h m s) closed))
+        → OfValue V (named_by reply)
+    unhooks m s None queue reply is row = told_is replies.Nothing reply row.0 tt
+    unhooks m s (Some n) None reply is row = told_is replies.Nothing reply row.0 tt
+    unhooks m s (Some n) (Some q) reply is row = told_is (replies.Notice n q Own) reply row.0 is
 
-    holds : (held : Option ℕ) (reply : Reply) → OfValue V held → Holds a held reply b → IsClosed V b.world
+    holds : (held : Option ℕ) (reply : Reply) → OfValue V held → Holds a held reply b → OfValue V (named_by reply)
     holds None reply is row = absurd row
-    holds (Some n) reply is row =
-        given (on_heap a (with_hold a.world.heap n)) b (replies.Object n) reply row (closed_hold V a.world n is closed)
+    holds (Some n) reply is row = told_is (replies.Object n) reply row.0 is
 
-    makes : (m d : ℕ) (o : Object) (reply : Reply) → V o.no
-        → ((n : ℕ) → has (targets_of any_referent (Some o)) n ≡ true → V n) → Makes a m d o reply b
-        → IsClosed V b.world
-    makes m d o reply is fresh row =
-        let h : Heap = record a.world.heap { objects = a.world.heap.objects ++ o ∷ [] } in
-        let c : State = record a { world = with_heap a.world (made a.world.heap m d o); next = a.next + 1 } in
-        given c b (replies.Object a.next) reply row
-        (closed_slot V (with_heap a.world h) m d (Some o.no) is (closed_push V a.world o fresh closed))
+    scans : (k : ℕ) (reply : Reply) → Scans a k reply b → OfValue V (named_by reply)
+    scans k (replies.Scanned n) row = tt
+    scans k reply row = told_is replies.Nothing reply row.1.0 tt
 
-    scans : (k : ℕ) (reply : Reply) → Scans a k reply b → IsClosed V b.world
-    scans k (replies.Scanned n) row = search (in_world, but_world, ticked_world)
-    scans k reply row = given a b replies.Nothing reply row.1 closed
-
-    pends : (k n : ℕ) (queue : Option ℕ) → V n → IsClosed V (pended a.world k n queue)
-    pends k n None is = closed
-    pends k n (Some q) is = grind (arith, closed_pending, all_push)
-
-    looks : (k : ℕ) (found : List ℕ) (reply : Reply) → ((n : ℕ) → has a.cleared n ≡ true → V n)
-        → ClearsNext a k found reply b → IsClosed V b.world
-    looks k [] reply clears row = given a b replies.Nothing reply row closed
-    looks k (n ∷ rest) reply clears row = grind (arith, pends)
+    looks : (k : ℕ) (found : List ℕ) (reply : Reply) → ClearsNext a k found reply b → OfValue V (named_by reply)
+    looks k [] reply row = told_is replies.Nothing reply row.0 tt
+    looks k (n ∷ rest) reply row = grind arith
 
     hands_on : (k : ℕ) (ps : List Pending) (reply : Reply) → AllByRecursion (λ p. V p.object) ps
-        → HandsOn a k ps reply b → IsClosed V b.world
-    hands_on k [] reply all row = given a b replies.Nothing reply row closed
+        → HandsOn a k ps reply b → OfValue V (named_by reply)
+    hands_on k [] reply all row = told_is replies.Nothing reply row.0 tt
     hands_on k (p ∷ ps) reply all row =
-        let left : List Pending = without_pending (pending_of a.world k) p.object in
-        given (with_world a (handed_on a.world k p.object)) b (replies.Notice p.object p.queue (Cycle p.cycle k)) reply
-        row
-        (closed_hold V (with_pending a.world k left) p.object all.0
-        (closed_pending V a.world k left
-        (all_without_first (λ p. V p.object) (λ (p : Pending). p.object) (pending_of a.world k) p.object
-        (closed.pendings k)) closed))
+        told_is (replies.Notice p.object p.queue (Cycle p.cycle k)) reply row.0 all.0
 
-    sweeps : (doomed : List ℕ) (reply : Reply) → Sweeps a doomed reply b → IsClosed V b.world
-    sweeps [] reply row = given a b replies.Nothing reply row closed
-    sweeps (n ∷ ns) reply row = search (given, closed_swept)
+    sweeps : (doomed : List ℕ) (reply : Reply) → Sweeps a doomed reply b → OfValue V (named_by reply)
+    sweeps [] reply row = told_is replies.Nothing reply row.0 tt
+    sweeps (n ∷ ns) reply row = told_is (replies.Swept (min 64 (length (n ∷ ns)))) reply row.0 tt
 
     slot_is : (m s : ℕ) → OfValue V (slot_at a.world.heap m s)
     slot_is m s = closed.slots (16 * m + s)
 
-    adopts : (m d n : ℕ) (reply : Reply) → V n
-        → Gives (replies.Object n) (on_heap a (adopted a.world.heap m d n)) reply b → IsClosed V b.world
-    adopts m d n reply is row =
-        given (on_heap a (adopted a.world.heap m d n)) b (replies.Object n) reply row
-        (closed_slot V (with_heap a.world (without_hold a.world.heap n)) m d (Some n) is
-        (closed_fewer V a.world n closed))
+    -- it holds of what the reply names, where it holds of the number of what is made
+    pub named_is : (step : NamedStep) (reply : Reply) → (made_number step reply ≡ Some a.next → V a.next)
+        → heap_refusal a step ≡ None → HeapAccepts a step reply b → OfValue V (named_by reply)
+    named_is (heap.Plain (plain.New m d k)) reply next none row =
+        told_is (replies.Object a.next) reply row.0 (next (ap told_object row.0))
+    named_is (heap.Plain (plain.Refer m strength d s q k)) reply next none row =
+        told_is (replies.Object a.next) reply row.0 (next (ap told_object row.0))
+    named_is step reply next none row =
+        grind (arith, told_is, field_is, value_is, slot_is, got_is, unhooks, holds, scans, looks, hands_on, sweeps)
 
-    phases : (phase : Phase) (answer reply : Reply) → Gives answer (with_world a (with_phase a.world phase)) reply b
-        → IsClosed V b.world
-    phases phase answer reply row = search given
+  -- ---- where a row leads
+
+  -- it is so of this world, as a record that search can see
+  record At (w : World) : Type 0 where
+    pub closed : IsClosed V w
+
+  module _ (w : World) (closed : IsClosed V w) where
+    before : At w
+    before = record { closed = closed }
+
+    sets : (m d : ℕ) (value : Option ℕ) → OfValue V value → At (with_heap w (with_slot w.heap m d value))
+    sets m d value is = record { closed = closed_slot V w m d value is closed }
+
+    stores : (m s i v : ℕ) → At (with_heap w (stored w.heap m s i v))
+    stores m s i v = grind (arith, closed_stored)
+
+    cuts : (m s : ℕ) → At (with_heap w (cut w.heap m s))
+    cuts m s = record { closed = closed_cut V w (slot_at w.heap m s) closed }
+
+    gets : (m d s : ℕ) (value : Option ℕ) → OfValue V value → At (with_heap w (got w.heap m d s value))
+    gets m d s None is = sets m d None tt
+    gets m d s (Some n) is =
+        let f : Object → Object = with_reference (got_at w.heap.clock) in record {
+          closed = closed_slot V (with_heap w (changed_in w.heap (slot_at w.heap m s) f)) m d (Some n) is
+              (closed_got V w (slot_at w.heap m s) w.heap.clock closed);
+        }
+
+    makes : (m d : ℕ) (o : Object) → V o.no → ((n : ℕ) → has (targets_of any_referent (Some o)) n ≡ true → V n)
+        → At (with_heap w (made w.heap m d o))
+    makes m d o is fresh =
+        let h : Heap = record w.heap { objects = w.heap.objects ++ o ∷ [] } in record {
+          closed = closed_slot V (with_heap w h) m d (Some o.no) is (closed_push V w o fresh closed);
+        }
+
+    holds_one : (n : ℕ) → V n → At (with_heap w (with_hold w.heap n))
+    holds_one n is = record { closed = closed_hold V w n is closed }
+
+    cuts_holding : (m s n : ℕ) → V n → At (with_heap w (with_hold (cut w.heap m s) n))
+    cuts_holding m s n is = record {
+      closed = closed_hold V (with_heap w (cut w.heap m s)) n is (cuts m s).closed;
+    }
+
+    releases : (n : ℕ) → At (with_heap w (without_hold w.heap n))
+    releases n = record { closed = closed_fewer V w n closed }
+
+    adopts : (m d n : ℕ) → V n → At (with_heap w (adopted w.heap m d n))
+    adopts m d n is = record {
+      closed = closed_slot V (with_heap w (without_hold w.heap n)) m d (Some n) is (closed_fewer V w n closed);
+    }
+
+    gives : (k n : ℕ) → V n → At (handed_on w k n)
+    gives k n is =
+        let left : List Pending = without_pending (pending_of w k) n in record {
+          closed = closed_hold V (with_pending w k left) n is
+              (closed_pending V w k left
+              (all_without_first (λ p. V p.object) (λ (p : Pending). p.object) (pending_of w k) n (closed.pendings k))
+              closed);
+        }
+
+    plain_targets : (i k n : ℕ) → has (targets_of any_referent (Some (plain_object i (nulls k)))) n ≡ true → V n
+    plain_targets i k n target = grind (arith, has-cases, no_nulls)
+
+    reference_targets : (i m s k n : ℕ) (strength : Strength) (q : Option ℕ)
+        → has (targets_of any_referent (Some (new_reference w.heap i strength (slot_at w.heap m s) q k))) n ≡ true
+        → V n
+    reference_targets i m s k n strength q target = grind (arith, has-cases, no_nulls)
+
+    done : (is : Bool) (u : World) → At u → At (if is then u else w)
+    done true u after = after
+    done false u after = before
+
+    objects : (reply : Reply) (change : ℕ → World) → OfValue V (named_by reply) → ((n : ℕ) → V n → At (change n))
+        → At (if_told (told_object reply) change w)
+    objects (replies.Object n) change is after = after n is
+    objects reply change is after = before
+
+    values : (reply : Reply) (change : Option ℕ → World) → OfValue V (named_by reply)
+        → ((value : Option ℕ) → OfValue V value → At (change value)) → At (if_told (told_value reply) change w)
+    values (replies.Object n) change is after = after (Some n) is
+    values replies.Null change is after = after None tt
+    values reply change is after = before
+
+    notices : (reply : Reply) (change : Notice → World) → OfValue V (named_by reply)
+        → ((notice : Notice) → V notice.object → At (change notice)) → At (if_told (told_notice reply) change w)
+    notices (replies.Notice n q cause) change is after = after (record { object = n; queue = q; cause = cause }) is
+    notices reply change is after = before
+
+    begins : (now : ℕ) (urgency : Urgency) (reply : Reply)
+        → At (if_told (told_cycle reply) (λ n. begun w now urgency n) w)
+    begins now urgency (replies.Cycle n) = record { closed = assumption closed }
+    begins now urgency reply = before
+
+    phases : (phase : Phase) → At (with_phase w phase)
+    phases phase = record { closed = assumption closed }
+
+    -- a row that looks at nothing leads to the world that its replay gives, and there it is so
+    after_closed : (step : NamedStep) (reply : Reply) → IsNoLook step → OfValue V (named_by reply)
+        → At (after_heap w step reply)
+    after_closed (heap.Plain (plain.New m d k)) reply no_look is = search (objects, makes, plain_targets)
+    after_closed (heap.Plain (plain.Refer m strength d s q k)) reply no_look is =
+        search (objects, makes, reference_targets)
+    after_closed (heap.Plain (plain.ClearNext k)) reply no_look is = absurd no_look
+    after_closed (heap.Unhook m s) reply no_look is = grind (arith, cuts, before, notices, cuts_holding)
+    after_closed step reply no_look is =
+        search (
+          before,
+          done,
+          objects,
+          values,
+          notices,
+          begins,
+          phases,
+          sets,
+          stores,
+          gets,
+          cuts,
+          holds_one,
+          releases,
+          adopts,
+          gives,
+          is,
+          tt,
+        )
+
+  module _ (a b : State) (closed : IsClosed V a.world) where
+    pends : (k n : ℕ) (queue : Option ℕ) → V n → IsClosed V (pended a.world k n queue)
+    pends k n None is = closed
+    pends k n (Some q) is = grind (arith, closed_pending, all_push)
+
+    looks_at : (k : ℕ) (found : List ℕ) (reply : Reply) → ((n : ℕ) → has a.cleared n ≡ true → V n)
+        → ClearsNext a k found reply b → IsClosed V b.world
+    looks_at k [] reply clears row = given a b replies.Nothing reply row closed
+    looks_at k (n ∷ rest) reply clears row = grind (arith, pends)
+
+    frees : (doomed : List ℕ) (reply : Reply) → Sweeps a doomed reply b → IsClosed V b.world
+    frees [] reply row = given a b replies.Nothing reply row closed
+    frees (n ∷ ns) reply row = search (given, closed_swept)
+
+    leads : (step : NamedStep) (reply : Reply) → IsNoEnd step → HeapAccepts a step reply b
+        → IsClosed V (outcome a step reply).world → IsClosed V b.world
+    leads step reply no_end row after = grind (arith, heap_outcome)
 
     -- a row keeps it, where it holds of the next number, and of what the mark's end cleared
-    pub heap_closed : (step : NamedStep) (reply : Reply) → IsNoEnd step → heap_refusal 0 a step ≡ None
+    pub heap_closed : (step : NamedStep) (reply : Reply) → IsNoEnd step → heap_refusal a step ≡ None
         → (made_number step reply ≡ Some a.next → V a.next)
         → (a.world.phase ≡ Clearing → (n : ℕ) → has a.cleared n ≡ true → V n) → HeapAccepts a step reply b
         → IsClosed V b.world
-    heap_closed (heap.New m d k) reply plain none next clears row =
-        makes m d (plain_object a.next (nulls k)) reply (next (ap told_object row.0))
-        (λ n target. elim (has-cases (present (nulls k)) [] n target) [
-          | inl field ↦ absurd (no_nulls k n field)
-          | inr nothing ↦ absurd (false≢true nothing)
-        ]) row
-    heap_closed (heap.Refer m strength d s q k) reply plain none next clears row =
-        let referent : Option ℕ = slot_at a.world.heap m s in
-        makes m d (new_reference a.world.heap a.next strength referent q k) reply (next (ap told_object row.0))
-        (λ n target. elim (has-cases (present (nulls k)) (if_any referent) n target) [
-          | inl field ↦ absurd (no_nulls k n field)
-          | inr refers ↦ subst (OfValue V) (if_any-has referent n refers) (slot_is m s)
-        ]) row
-    heap_closed (heap.Copy m d s) reply plain none next clears row =
-        sets m d (slot_at a.world.heap m s) (value_reply (slot_at a.world.heap m s)) reply (slot_is m s) row
-    heap_closed (heap.Drop m s) reply plain none next clears row = sets m s None replies.Done reply tt row
-    heap_closed (heap.Clear m s) reply plain none next clears row = cuts m s replies.Done reply row
-    heap_closed (heap.Adopt m d hold) reply plain none next clears row = grind (arith, adopts m d hold.object reply)
-    heap_closed step reply plain none next clears row =
-        grind (
-          arith,
-          makes,
-          has-cases,
-          no_nulls,
-          false≢true,
-          OfValue,
-          if_any-has,
-          slot_is,
-          given,
-          closed_stored,
-          loads,
-          field_is,
-          sets,
-          gets,
-          got_is,
-          cuts,
-          unhooks,
-          holds,
-          adopts,
-          closed_fewer,
-          scans,
-          looks,
-          of_phase,
-          phases,
-          hands_on,
-          sweeps,
-        )
+    heap_closed (heap.Plain (plain.ClearNext k)) reply no_end none next clears row =
+        looks_at k (list_at a.found k) reply (clears (of_phase a (heap.Plain (plain.ClearNext k)) none)) row
+    heap_closed (heap.Plain (plain.Sweep k)) reply no_end none next clears row = frees a.doomed reply row
+    heap_closed (heap.Plain plain.EndMark) reply no_end none next clears row = absurd no_end
+    heap_closed step reply no_end none next clears row =
+        leads step reply no_end row
+        (after_closed a.world closed step reply tt (named_is a b closed step reply next none row)).closed

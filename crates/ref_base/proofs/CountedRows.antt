@@ -6,8 +6,9 @@ use Rattle.ref_base.proofs.Common.{cleared, got_at, got, cut, one_more, World}
 use Rattle.ref_base.proofs.Common.{NamedStep, pended, State, HeapAccepts, holds_after}
 use Rattle.ref_base.proofs.Common.{Reply}
 use Rattle.ref_base.specs.declared.heap_step.HeapStep.TheVariants as heap
+use Rattle.ref_base.specs.declared.plain_step.PlainStep.TheVariants as plain
 use Rattle.ref_base.specs.declared.reply.Reply.TheVariants as replies
-use Rattle.ref_base.proofs.HeapMoves.{moved, heap_moves}
+use Rattle.ref_base.proofs.Outcomes.{outcome, heap_outcome}
 use Rattle.ref_base.proofs.ReplayKeeps.{told_keeps, done_keeps}
 
 abbrev holds_of : World → List ℕ
@@ -28,24 +29,24 @@ holds_pended : (w : World) (k n : ℕ) (queue : Option ℕ) → holds_of (pended
 holds_pended w k n None = refl
 holds_pended w k n (Some q) = refl
 
-holds_moved : (a : State) (step : NamedStep) (reply : Reply)
-    → holds_of (moved a step reply).world ≡ holds_after a.world.heap.holds step reply
-holds_moved a (heap.Unhook m s) (replies.Notice n q cause) = ap (λ hs. one_more hs n) (holds_cut a.world.heap m s)
-holds_moved a (heap.Unhook m s) replies.Nothing = holds_cut a.world.heap m s
-holds_moved a (heap.Hold m s) (replies.Object n) = refl
-holds_moved a (heap.Adopt m d hold) (replies.Object n) = refl
-holds_moved a (heap.Release hold) replies.Done = refl
-holds_moved a (heap.ClearNext k) (replies.Cleared n) =
+outcome_holds : (a : State) (step : NamedStep) (reply : Reply)
+    → holds_of (outcome a step reply).world ≡ holds_after a.world.heap.holds step reply
+outcome_holds a (heap.Unhook m s) (replies.Notice n q cause) = ap (λ hs. one_more hs n) (holds_cut a.world.heap m s)
+outcome_holds a (heap.Unhook m s) replies.Nothing = holds_cut a.world.heap m s
+outcome_holds a (heap.Hold m s) (replies.Object n) = refl
+outcome_holds a (heap.Adopt m d hold) (replies.Object n) = refl
+outcome_holds a (heap.Release hold) replies.Done = refl
+outcome_holds a (heap.Plain (plain.ClearNext k)) (replies.Cleared n) =
     holds_pended a.world k n (registered_in (reference_at a.world.heap n))
-holds_moved a (heap.ClearNext k) (replies.Kept n) = refl
-holds_moved a (heap.ClearNext k) (replies.Skipped n) = refl
-holds_moved a (heap.Hand k) (replies.Notice n q cause) = refl
-holds_moved a (heap.Sweep k) (replies.Swept count) = refl
-holds_moved a step reply = grind (arith, told_keeps, done_keeps, holds_got, holds_cut)
+outcome_holds a (heap.Plain (plain.ClearNext k)) (replies.Kept n) = refl
+outcome_holds a (heap.Plain (plain.ClearNext k)) (replies.Skipped n) = refl
+outcome_holds a (heap.Hand k) (replies.Notice n q cause) = refl
+outcome_holds a (heap.Plain (plain.Sweep k)) (replies.Swept count) = refl
+outcome_holds a step reply = grind (arith, told_keeps, done_keeps, holds_got, holds_cut)
 
 -- the holds that a row of a heap leaves are those that it tells
 pub heap_holds : (a b : State) (step : NamedStep) (reply : Reply) → HeapAccepts a step reply b
     → b.world.heap.holds ≡ holds_after a.world.heap.holds step reply
-heap_holds a b heap.EndMark reply row = ap (λ (s : State). s.world.heap.holds) row.after
+heap_holds a b (heap.Plain plain.EndMark) reply row = ap (λ (s : State). s.world.heap.holds) row.after
 heap_holds a b step reply row =
-    ap (λ (s : State). s.world.heap.holds) (heap_moves a b step reply tt row) ∙ holds_moved a step reply
+    ap (λ (s : State). s.world.heap.holds) (heap_outcome a b step reply tt row) ∙ outcome_holds a step reply

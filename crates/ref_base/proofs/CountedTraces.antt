@@ -11,15 +11,20 @@ use Rattle.ref_base.proofs.Common.{IsRow, IsRun, unless_full, refusal, is_mutato
 use Rattle.ref_base.proofs.Common.{has_slot, AreCounted, holds_after, Config, Actor, Mutator, Worker, Own, Cycle, Fault}
 use Rattle.ref_base.proofs.Common.{Step, Reply, Row}
 use Rattle.ref_base.specs.declared.heap_step.HeapStep.TheVariants as heap
+use Rattle.ref_base.specs.declared.plain_step.PlainStep.TheVariants as plain
 use Rattle.ref_base.specs.declared.step.Step.TheVariants as steps
 use Rattle.ref_base.specs.declared.reply.Reply.TheVariants as replies
 use Rattle.ref_base.proofs.CountedRows.{heap_holds}
 use Rattle.ref_base.proofs.CountedWorlds.{counted_given, counted_spent, counted_put, counted_took}
 use Rattle.ref_base.proofs.CountedWorlds.{counted_closed, first_counted}
+use Rattle.ref_base.proofs.Common.{heap_step, with_rest}
 use Rattle.ref_base.proofs.RowForms.{asked_of, ticked_world, unless_passes}
-use Rattle.ref_base.proofs.RowLaws.{heap_keeps, registered, IsRegistered, row_goes, mutator_within}
+use Rattle.ref_base.proofs.RowLaws.{heap_keeps, registered, IsRegistered, mutator_within}
 use Rattle.ref_base.proofs.RowLaws.{actor_has}
+use Rattle.ref_base.proofs.SameOthers.{same_hand}
 use Rattle.ref_base.proofs.SoundWorlds.{HasHand, IsSound, first_sound}
+use Rattle.ref_base.proofs.LegalQueues.{run_sound}
+use Rattle.ref_base.proofs.RunFronts.{legal_holds}
 
 -- ---- the forms of a row
 
@@ -47,28 +52,29 @@ gives_nothing a c b asked step reply others held is still same_hands left counte
 
 -- one that gives a notice into an empty hand
 gives_notice : (a c b : State) (who : Actor) (notice : Notice) (asked : NamedStep) (step : Step) (answer reply : Reply)
-    → SameOthers a.world c.world → HasHand a.world who → hand_of a.world who ≡ None
+    → SameOthers a.world c.world → HasHand a.world who → hand_of a.world who ≡ []
     → c.world.heap.holds ≡ holds_after a.world.heap.holds asked reply → reply ≡ answer
     → holds_after a.world.heap.holds asked answer ≡ one_more a.world.heap.holds notice.object
-    → handed c.world step answer ≡ with_hand c.world who (Some notice) → b ≡ with_handed c step reply
+    → handed c.world step answer ≡ with_hand c.world who (notice ∷ []) → b ≡ with_handed c step reply
     → AreCounted a.world → AreCounted b.world
 gives_notice a c b who notice asked step answer reply others has free held is more into left counted =
     grind (arith, counted_given)
 
--- one that spends a hand's notice
-spends : (a c b : State) (who : Actor) (notice : Notice) (asked : NamedStep) (step : Step) (answer reply : Reply)
-    → SameOthers a.world c.world → HasHand a.world who → hand_of a.world who ≡ Some notice
+-- one that spends a hand's first notice
+spends : (a c b : State) (who : Actor) (notice : Notice) (rest : List Notice) (asked : NamedStep) (step : Step)
+    (answer reply : Reply)
+    → SameOthers a.world c.world → HasHand a.world who → hand_of a.world who ≡ notice ∷ rest
     → c.world.heap.holds ≡ holds_after a.world.heap.holds asked reply → reply ≡ answer
     → holds_after a.world.heap.holds asked answer ≡ one_fewer a.world.heap.holds notice.object
-    → handed c.world step answer ≡ with_hand c.world who None → b ≡ with_handed c step reply
+    → handed c.world step answer ≡ with_rest c.world who → b ≡ with_handed c step reply
     → AreCounted a.world → AreCounted b.world
-spends a c b who notice asked step answer reply others has full held is fewer empties left counted =
-    grind (arith, counted_spent)
+spends a c b who notice rest asked step answer reply others has full held is fewer spends_it left counted =
+    grind (arith, counted_spent, same_hand)
 
 -- ---- hands
 
 unhooks : (a c b : State) (m s : ℕ) (held queue : Option ℕ) (reply : Reply) → SameOthers a.world c.world
-    → m < length a.world.mutator_hands → hand_of a.world (Mutator m) ≡ None
+    → m < length a.world.mutator_hands → hand_of a.world (Mutator m) ≡ []
     → c.world.heap.holds ≡ holds_after a.world.heap.holds (heap.Unhook m s) reply
     → Unhooks a m s held queue reply c → b ≡ with_handed c (steps.Unhook m s) reply → AreCounted a.world
     → AreCounted b.world
@@ -81,7 +87,7 @@ unhooks a c b m s (Some n) (Some q) reply others has free holds row left counted
     (replies.Notice n q Own) reply others has free holds row.0 refl refl left counted
 
 hands : (a c b : State) (k : ℕ) (ps : List Pending) (reply : Reply) → SameOthers a.world c.world
-    → k < length a.world.worker_hands → hand_of a.world (Worker k) ≡ None
+    → k < length a.world.worker_hands → hand_of a.world (Worker k) ≡ []
     → c.world.heap.holds ≡ holds_after a.world.heap.holds (heap.Hand k) reply
     → HandsOn a k ps reply c → b ≡ with_handed c (steps.Hand k) reply → AreCounted a.world
     → AreCounted b.world
@@ -92,44 +98,44 @@ hands a c b k (p ∷ ps) reply others has free holds row left counted =
     (heap.Hand k) (steps.Hand k) (replies.Notice p.object p.queue (Cycle p.cycle k)) reply others has free holds row.0
     refl refl left counted
 
-adopts : (a b : State) (m d : ℕ) (hand : Option Notice) (reply : Reply) → m < length a.world.mutator_hands
+adopts : (a b : State) (m d : ℕ) (hand : List Notice) (reply : Reply) → m < length a.world.mutator_hands
     → hand_of a.world (Mutator m) ≡ hand
-    → AcceptsAsking a (spending (λ hold. heap.Adopt m d hold) hand) (steps.Adopt m d) reply b → AreCounted a.world
-    → AreCounted b.world
-adopts a b m d None reply has is row counted = absurd row
-adopts a b m d (Some notice) reply has is row counted =
-    let asked : NamedStep = heap.Adopt m d (hold_of notice) in
+    → AcceptsAsking a (spending a.world (λ hold. heap.Adopt m d hold) hand) (steps.Adopt m d) reply b
+    → AreCounted a.world → AreCounted b.world
+adopts a b m d [] reply has is row counted = absurd row
+adopts a b m d (notice ∷ rest) reply has is row counted =
+    let asked : NamedStep = heap.Adopt m d (hold_of a.world notice) in
     let keeps = heap_keeps a row.0 asked reply tt row.1 in
-    spends a row.0 b (Mutator m) notice asked (steps.Adopt m d) (replies.Object notice.object) reply keeps.others has is
-    (heap_holds a row.0 asked reply row.1) row.1.0 refl refl row.2 counted
+    spends a row.0 b (Mutator m) notice rest asked (steps.Adopt m d) (replies.Object notice.object) reply keeps.others
+    has is (heap_holds a row.0 asked reply row.1) row.1.0 refl refl row.2 counted
 
-releases : (a b : State) (who : Actor) (hand : Option Notice) (reply : Reply) → HasHand a.world who
+releases : (a b : State) (who : Actor) (hand : List Notice) (reply : Reply) → HasHand a.world who
     → hand_of a.world who ≡ hand
-    → AcceptsAsking a (spending (λ hold. heap.Release hold) hand) (steps.Release who) reply b → AreCounted a.world
-    → AreCounted b.world
-releases a b who None reply has is row counted = absurd row
-releases a b who (Some notice) reply has is row counted =
-    let asked : NamedStep = heap.Release (hold_of notice) in
+    → AcceptsAsking a (spending a.world (λ hold. heap.Release hold) hand) (steps.Release who) reply b
+    → AreCounted a.world → AreCounted b.world
+releases a b who [] reply has is row counted = absurd row
+releases a b who (notice ∷ rest) reply has is row counted =
+    let asked : NamedStep = heap.Release (hold_of a.world notice) in
     let keeps = heap_keeps a row.0 asked reply tt row.1 in
-    spends a row.0 b who notice asked (steps.Release who) replies.Done reply keeps.others has is
+    spends a row.0 b who notice rest asked (steps.Release who) replies.Done reply keeps.others has is
     (heap_holds a row.0 asked reply row.1) row.1.0 refl refl row.2 counted
 
 -- ---- queues
 
-puts_into : (a b : State) (who : Actor) (notice : Notice) (again shut : Bool) (reply : Reply) → HasHand a.world who
-    → hand_of a.world who ≡ Some notice → notice.queue < length a.world.queues
-    → PutsInto again shut a who notice reply b → AreCounted a.world → AreCounted b.world
-puts_into a b who notice true shut reply has is within row counted = given a b replies.Already reply row counted
-puts_into a b who notice false true reply has is within row counted = given a b replies.Closed reply row counted
-puts_into a b who notice false false reply has is within row counted = grind (arith, counted_put)
+puts_into : (a b : State) (who : Actor) (notice : Notice) (rest : List Notice) (again shut : Bool) (reply : Reply)
+    → HasHand a.world who → hand_of a.world who ≡ notice ∷ rest → notice.queue < length a.world.queues
+    → PutsInto again shut a who notice rest reply b → AreCounted a.world → AreCounted b.world
+puts_into a b who notice rest true shut reply has is within row counted = given a b replies.Already reply row counted
+puts_into a b who notice rest false true reply has is within row counted = given a b replies.Closed reply row counted
+puts_into a b who notice rest false false reply has is within row counted = grind (arith, counted_put)
 
-puts : (a b : State) (who : Actor) (hand : Option Notice) (reply : Reply) → IsSound a.world → HasHand a.world who
+puts : (a b : State) (who : Actor) (hand : List Notice) (reply : Reply) → IsSound a.world → HasHand a.world who
     → hand_of a.world who ≡ hand → Puts a who hand reply b → AreCounted a.world → AreCounted b.world
-puts a b who None reply sound has is row counted = absurd row
-puts a b who (Some notice) reply sound has is row counted = grind (arith, puts_into)
+puts a b who [] reply sound has is row counted = absurd row
+puts a b who (notice ∷ rest) reply sound has is row counted = grind (arith, puts_into)
 
 polls : (a b : State) (m q : ℕ) (stands : List Notice) (reply : Reply) → m < length a.world.mutator_hands
-    → hand_of a.world (Mutator m) ≡ None → q < length a.world.queues → (queue_at a.world q).stands ≡ stands
+    → hand_of a.world (Mutator m) ≡ [] → q < length a.world.queues → (queue_at a.world q).stands ≡ stands
     → Polls a m q stands reply b → AreCounted a.world → AreCounted b.world
 polls a b m q [] reply has free within is row counted = given a b _ reply row counted
 polls a b m q (notice ∷ rest) reply has free within is row counted = search (given, counted_took)
@@ -142,12 +148,13 @@ closes a b q false reply within row counted =
 
 -- ---- rows
 
-pub empty_hand : (hand : Option Notice) (later : Option Fault) → unless_full hand later ≡ None → hand ≡ None
-empty_hand None later none = refl
-empty_hand (Some notice) later none = absurd cc
+pub empty_hand : (hand : List Notice) (later : Option Fault) → unless_full hand later ≡ None → hand ≡ []
+empty_hand [] later none = refl
+empty_hand (notice ∷ rest) later none = absurd cc
 
 accepted : (a b : State) (step : Step) (reply : Reply) → IsSound a.world → AreCounted a.world → refusal a step ≡ None
     → Accepts a step reply b → AreCounted b.world
+accepted a b (steps.Plain (plain.Refer m strength d s q k)) reply sound counted h row = search (quiet, registered)
 accepted a b (steps.Unhook m s) reply sound counted h row =
     let first = unless_passes (has_slot a.world.heap m s) _ _ h in
     let both = and_parts (is_mutator a.world.heap m) _ first.0 in
@@ -156,29 +163,13 @@ accepted a b (steps.Unhook m s) reply sound counted h row =
     (empty_hand (hand_of a.world (Mutator m)) _ first.1) (heap_holds a row.0 (heap.Unhook m s) reply row.1) row.1 row.2
     counted
 accepted a b (steps.Put who) reply sound counted h row = grind (arith, puts, actor_has a.world who sound)
+accepted a b (steps.Poll m q) reply sound counted h row = grind (arith, polls)
+accepted a b (steps.Adopt m d) reply sound counted h row = grind (arith, adopts)
 accepted a b (steps.Release who) reply sound counted h row = grind (arith, releases, actor_has a.world who sound)
+accepted a b (steps.Close m q) reply sound counted h row = grind (arith, closes)
 accepted a b (steps.Hand k) reply sound counted h row = grind (arith, hands a row.0 b k)
 accepted a b step reply sound counted h row =
-    grind (
-      arith,
-      quiet,
-      registered,
-      unless_passes,
-      and_parts,
-      heap_keeps,
-      unhooks,
-      mutator_within,
-      empty_hand,
-      heap_holds,
-      puts,
-      actor_has,
-      polls,
-      adopts,
-      releases,
-      closes,
-      hands,
-      asked_of,
-    )
+    quiet a b (asked_of (heap_step a.world step)) step reply tt counted row (λ _. refl) (λ _. refl)
 
 answered : (a b : State) (step : Step) (reply : Reply) (fault : Option Fault) → IsSound a.world → AreCounted a.world
     → refusal a step ≡ fault → IsAnswer a fault step reply b → AreCounted b.world
@@ -191,14 +182,11 @@ pub row_counted : (a : State) (row : Row) (b : State) → IsSound a.world → Ar
     → AreCounted b.world
 row_counted a row b sound counted h = answered a b row.step row.reply (refusal a row.step) sound counted refl h
 
-run_counted : (a : State) (rows : List Row) (b : State) → IsSound a.world → AreCounted a.world → IsRun a rows b
-    → AreCounted b.world
-run_counted a [] b sound counted run = in_world b a.world (ap (λ (s : State). s.world) run) counted
-run_counted a (row ∷ rows) b sound counted run =
-    search (run_counted run.0 rows b, row_goes a row run.0 sound run.1, row_counted a row run.0 sound counted run.1)
-
 -- and so it holds after every legal trace
 pub legal_counted : (config : Config) (rows : List Row) (b : State) → IsRun (first_state config) rows b
     → AreCounted b.world
 legal_counted config rows b run =
-    run_counted (first_state config) rows b (first_sound config) (first_counted config) run
+    legal_holds config (λ past a. AreCounted a.world)
+    (λ past a row c before counted h.
+    row_counted a row c (run_sound (first_state config) past a (first_sound config) before) counted h)
+    (first_counted config) rows b run

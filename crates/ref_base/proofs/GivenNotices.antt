@@ -9,7 +9,7 @@ use Rattle.ref_base.specs.Provenance.{gives_notices}
 use Rattle.ref_base.specs.declared.step.Step.TheVariants as steps
 use Rattle.ref_base.specs.declared.reply.Reply.TheVariants as replies
 use Rattle.ref_base.proofs.RunLaws.{cut}
-use Rattle.ref_base.proofs.CarryLaws.{OfHand, notice_from}
+use Rattle.ref_base.proofs.CarryLaws.{OfTold, notice_from}
 use Rattle.ref_base.proofs.CarryRows.{Mints}
 use Rattle.ref_base.proofs.ProvenTraces.{IsMade, Known, Stays, lifted, legal_known, mints}
 
@@ -22,8 +22,8 @@ up_to front step n q cause = front ++ gave step n q cause ∷ []
 
 -- what an answer tells is what P holds of, and it tells this notice
 as_told : (P : Notice → Type 0) (n q : ℕ) (cause : Cause) (reply : Reply) → replies.Notice n q cause ≡ reply
-    → OfHand P (told_notice reply) → P (record { object = n; queue = q; cause = cause })
-as_told P n q cause reply is holds = subst (λ (r : Reply). OfHand P (told_notice r)) (sym is) holds
+    → OfTold P (told_notice reply) → P (record { object = n; queue = q; cause = cause })
+as_told P n q cause reply is holds = subst (λ (r : Reply). OfTold P (told_notice r)) (sym is) holds
 
 pub handed_on : (P : Notice → Type 0) (a c : State) (k : ℕ) (ps : List Pending) (n q : ℕ) (cause : Cause)
     → AllByRecursion (λ p. P (notice_from k p)) ps → HandsOn a k ps (replies.Notice n q cause) c

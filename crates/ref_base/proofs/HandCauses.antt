@@ -6,58 +6,58 @@ use Rattle.std.proofs.Common.{inl, inr, sym, subst}
 use Rattle.std.specs.List.{AllByRecursion}
 use Rattle.ref_base.proofs.Common.{has, Lists, enqueued, was_put, World, Notice, first_world, object_of}
 use Rattle.ref_base.proofs.Common.{hand_of, queue_at, with_hand, with_queue, told_notice}
-use Rattle.ref_base.proofs.Common.{taking, if_told, put_in, notice_of, took}
+use Rattle.ref_base.proofs.Common.{taking, with_rest, rest_of, if_told, put_in, notice_of, took}
 use Rattle.ref_base.proofs.Common.{closed_queue, State, first_state, refusal, IsAnswer, IsRow, IsRun, Config, Actor}
 use Rattle.ref_base.proofs.Common.{Mutator, Worker, Step, Reply, Row}
 use Rattle.ref_base.specs.declared.step.Step.TheVariants as steps
 use Rattle.ref_base.proofs.HasLaws.{has-left, has-right}
-use Rattle.ref_base.proofs.Places.{set_each}
+use Rattle.ref_base.proofs.Places.{set_each, all_rest}
 use Rattle.ref_base.proofs.SoundWorlds.{IsSound, first_hand, first_sound}
 use Rattle.ref_base.proofs.SoundWorlds.{IsOwn as IsFor}
-use Rattle.ref_base.proofs.CarryLaws.{OfHand}
-use Rattle.ref_base.proofs.CarryRows.{all_notice_of}
+use Rattle.ref_base.proofs.CarryLaws.{OfTold}
+use Rattle.ref_base.proofs.CarryRows.{all_notice_of, all_more}
 use Rattle.ref_base.proofs.RowLaws.{row_goes}
 use Rattle.ref_base.proofs.LegalQueues.{run_sound}
 use Rattle.ref_base.proofs.RunFronts.{legal_holds}
 use Rattle.ref_base.proofs.SameOthers.{same_hand}
 use Rattle.ref_base.proofs.RowHands.{others_after, row_hands, IsOwn, IsBy, unhook_tells, hand_tells}
 
--- ---- what holds of each hand's notice in its own way
+-- ---- what holds of each notice in each hand in its own way
 
 module _ (P : Actor → Notice → Type 0) where
   abbrev pub OfHands : World → Type 0
-  OfHands w = (who : Actor) → OfHand (P who) (hand_of w who)
+  OfHands w = (who : Actor) → AllByRecursion (P who) (hand_of w who)
 
-  set_hand : (w : World) (who : Actor) (hand : Option Notice) → OfHand (P who) hand → OfHands w
+  set_hand : (w : World) (who : Actor) (hand : List Notice) → AllByRecursion (P who) hand → OfHands w
       → OfHands (with_hand w who hand)
   set_hand w (Mutator m) hand is all (Mutator k) =
-      set_each (λ i h. OfHand (P (Mutator i)) h) w.mutator_hands m hand (λ _. None) is (λ i. all (Mutator i)) k
+      set_each (λ i h. AllByRecursion (P (Mutator i)) h) w.mutator_hands m hand (λ _. []) is (λ i. all (Mutator i)) k
   set_hand w (Mutator m) hand is all (Worker k) = all (Worker k)
   set_hand w (Worker m) hand is all (Mutator k) = all (Mutator k)
   set_hand w (Worker m) hand is all (Worker k) =
-      set_each (λ i h. OfHand (P (Worker i)) h) w.worker_hands m hand (λ _. None) is (λ i. all (Worker i)) k
+      set_each (λ i h. AllByRecursion (P (Worker i)) h) w.worker_hands m hand (λ _. []) is (λ i. all (Worker i)) k
 
   set_queue : (w : World) (q : ℕ) (lists : Lists Notice) → OfHands w → OfHands (with_queue w q lists)
   set_queue w q lists all (Mutator m) = all (Mutator m)
   set_queue w q lists all (Worker k) = all (Worker k)
 
-  takes : (w : World) (who : Actor) (told : Option Notice) → OfHand (P who) told → OfHands w
+  takes : (w : World) (who : Actor) (told : Option Notice) → OfTold (P who) told → OfHands w
       → OfHands (taking w who told)
   takes w who None is all = all
-  takes w who (Some notice) is all = set_hand w who (Some notice) is all
+  takes w who (Some notice) is all = set_hand w who (notice ∷ []) (is, tt) all
 
-  empties : (w : World) (who : Actor) (told : Bool) → OfHands w → OfHands (if told then with_hand w who None else w)
-  empties w who true all = set_hand w who None tt all
-  empties w who false all = all
+  spends : (w : World) (who : Actor) (told : Bool) → OfHands w → OfHands (if told then with_rest w who else w)
+  spends w who true all = set_hand w who (rest_of (hand_of w who)) (all_rest (P who) (hand_of w who) (all who)) all
+  spends w who false all = all
 
-  puts : (w : World) (who : Actor) (hand : Option Notice) (told : Bool) → OfHands w
+  puts : (w : World) (who : Actor) (hand : List Notice) (told : Bool) → AllByRecursion (P who) hand → OfHands w
       → OfHands (if told then put_in w who hand else w)
-  puts w who hand false all = all
-  puts w who None true all = all
-  puts w who (Some notice) true all = search (set_queue, set_hand)
+  puts w who hand false its all = all
+  puts w who [] true its all = all
+  puts w who (notice ∷ rest) true its all = search (set_queue, set_hand)
 
   polls : (w : World) (m q : ℕ) (told : Option ℕ)
-      → ((n : ℕ) → OfHand (P (Mutator m)) (notice_of (queue_at w q).stands n)) → OfHands w
+      → ((n : ℕ) → AllByRecursion (P (Mutator m)) (notice_of (queue_at w q).stands n)) → OfHands w
       → OfHands (if_told told (λ n. took w m q n) w)
   polls w m q None found all = all
   polls w m q (Some n) found all = search set_hand
@@ -68,15 +68,15 @@ module _ (P : Actor → Notice → Type 0) where
 
   -- what a row gives into a hand
   abbrev IsGiven : World → Step → Reply → Type 0
-  IsGiven w (steps.Unhook m s) reply = OfHand (P (Mutator m)) (told_notice reply)
-  IsGiven w (steps.Hand k) reply = OfHand (P (Worker k)) (told_notice reply)
-  IsGiven w (steps.Poll m q) reply = (n : ℕ) → OfHand (P (Mutator m)) (notice_of (queue_at w q).stands n)
+  IsGiven w (steps.Unhook m s) reply = OfTold (P (Mutator m)) (told_notice reply)
+  IsGiven w (steps.Hand k) reply = OfTold (P (Worker k)) (told_notice reply)
+  IsGiven w (steps.Poll m q) reply = (n : ℕ) → AllByRecursion (P (Mutator m)) (notice_of (queue_at w q).stands n)
   IsGiven w step reply = Unit {0}
 
   row_of_hands : (w : World) (step : Step) (reply : Reply) → IsGiven w step reply → OfHands w
       → OfHands (others_after w step reply)
   row_of_hands w (steps.Unhook m s) reply is all = takes w (Mutator m) (told_notice reply) is all
-  row_of_hands w step reply is all = search (takes, empties, puts, polls, closes, refl)
+  row_of_hands w step reply is all = search (takes, spends, puts, polls, closes, refl)
 
 -- ---- causes
 
@@ -99,13 +99,10 @@ Grows v w =
 row_grows : (a : State) (row : Row) (b : State) → IsSound a.world → IsRow a row b → Grows a.world b.world
 row_grows a row b sound h q n put = grind (arith, row_goes, has-left)
 
-cause_grows : (v w : World) (who : Actor) (hand : Option Notice) → Grows v w → OfHand (HasCause v who) hand
-    → OfHand (HasCause w who) hand
-cause_grows v w (Mutator m) None grows is = tt
-cause_grows v w (Mutator m) (Some notice) grows is =
+cause_grows : (v w : World) (who : Actor) (notice : Notice) → Grows v w → HasCause v who notice → HasCause w who notice
+cause_grows v w (Mutator m) notice grows is =
     elim is [ inl own ↦ inl own | inr put ↦ inr (grows notice.queue notice.object put) ]
-cause_grows v w (Worker k) None grows is = tt
-cause_grows v w (Worker k) (Some notice) grows is = is
+cause_grows v w (Worker k) notice grows is = is
 
 -- what stands in a queue was put in it
 stands_put : (w : World) (q : ℕ) (notices : List Notice) → AllByRecursion (IsFor q) notices
@@ -114,7 +111,7 @@ stands_put : (w : World) (q : ℕ) (notices : List Notice) → AllByRecursion (I
 stands_put w q [] all put = tt
 stands_put w q (notice ∷ rest) all put = grind (arith, stands_put w q rest all.1)
 
-own_given : (w : World) (told : Option Notice) → OfHand IsOwn told → OfHand (IsOwnOrPut w) told
+own_given : (w : World) (told : Option Notice) → OfTold IsOwn told → OfTold (IsOwnOrPut w) told
 own_given w None is = tt
 own_given w (Some notice) is = inl is
 
@@ -134,13 +131,14 @@ row_causes a row b sound have h who =
     let next : World = others_after a.world row.step row.reply in
     let all = row_of_hands (HasCause b.world) a.world row.step row.reply
     (gives_cause a b row.step row.reply sound grows h)
-    (λ other. cause_grows a.world b.world other (hand_of a.world other) grows (have other)) in
-    subst (λ (hand : Option Notice). OfHand (HasCause b.world who) hand)
+    (λ other. all_more (HasCause a.world other) (HasCause b.world other) (hand_of a.world other)
+    (λ notice is. cause_grows a.world b.world other notice grows is) (have other)) in
+    subst (AllByRecursion (HasCause b.world who))
     (sym (same_hand next b.world who (row_hands a b row.step row.reply (refusal a row.step) h))) (all who)
 
 first_causes : (config : Config) → HaveCauses (first_world config)
 first_causes config who =
-    subst (λ (hand : Option Notice). OfHand (HasCause (first_world config) who) hand) (sym (first_hand config who)) tt
+    subst (AllByRecursion (HasCause (first_world config) who)) (sym (first_hand config who)) tt
 
 -- and so it is after every legal trace
 pub legal_causes : (config : Config) (rows : List Row) (b : State) → IsRun (first_state config) rows b

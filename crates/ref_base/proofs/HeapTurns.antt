@@ -1,12 +1,12 @@
 -- A turn at a heap, by a row of its world or by a call from outside: nothing comes of it there, or the heap accepts
 -- what is asked. Hands and queues are beside.
 use Rattle.std.proofs.Common.{arith}
-use Rattle.std.proofs.Common.{◌≡◌, ℕ, Option, Some, None, refl, ap, ◌∙◌, inl, inr, ◌⊎◌}
+use Rattle.std.proofs.Common.{◌≡◌, Option, Some, None, refl, ap, ◌∙◌, inl, inr, ◌⊎◌}
 use Rattle.ref_base.proofs.Common.{heap_refusal, NamedStep, heap_step, State, with_world}
 use Rattle.ref_base.proofs.Common.{HeapAccepts, IsHeapAnswer, IsHeapRow, IsRow, AreCounted, World, Fault, Reply, Row}
-use Rattle.ref_base.specs.declared.heap_step.HeapStep.TheVariants as heap
 use Rattle.ref_base.specs.declared.reply.Reply.TheVariants as replies
-use Rattle.ref_base.proofs.HeapMoves.{settled}
+use Rattle.ref_base.proofs.OutcomeParts.{heap_number}
+use Rattle.ref_base.proofs.Outcomes.{settled}
 use Rattle.ref_base.proofs.ReplayKeeps.{but_hands, handed_keeps, queues_keep}
 use Rattle.ref_base.proofs.RowKinds.{queues_lead, row_kind}
 
@@ -19,11 +19,11 @@ pub record IsIdle (a : State) (asked : Option NamedStep) (reply : Reply) (b : St
   pub tells : (asked ≡ None) ⊎ ((fault : Fault) × (reply ≡ replies.Refused fault))
   pub after : at_rest b ≡ at_rest a
 
--- the heap, which has number 0, accepts what is asked
+-- the heap accepts what is asked
 pub record IsTaken (a : State) (asked : Option NamedStep) (reply : Reply) (b : State) : Type 0 where
   pub step : NamedStep
   pub asks : asked ≡ Some step
-  pub passes : heap_refusal 0 a step ≡ None
+  pub passes : heap_refusal a step ≡ None
   pub left : State
   pub accepts : HeapAccepts a step reply left
   pub after : at_rest b ≡ at_rest left
@@ -34,7 +34,7 @@ IsTurn a asked reply b = IsIdle a asked reply b ⊎ IsTaken a asked reply b
 -- what is asked and not refused is accepted
 pub accepted : (a b : State) (step : NamedStep) (reply : Reply) → ((fault : Fault) → reply ≡ replies.Refused fault → ⊥)
     → IsTurn a (Some step) reply b
-    → (left : State) × (heap_refusal 0 a step ≡ None) × HeapAccepts a step reply left × (at_rest b ≡ at_rest left)
+    → (left : State) × (heap_refusal a step ≡ None) × HeapAccepts a step reply left × (at_rest b ≡ at_rest left)
 accepted a b step reply never turn = grind arith
 
 -- ---- a row of the world
@@ -62,43 +62,28 @@ row_turn a row b counted h =
       ]
     ]
 
--- ---- a row of a heap of any number
-
--- the step of a heap that has number 0: the hold that it names is one of that heap
-abbrev pub renumbered : NamedStep → NamedStep
-renumbered (heap.Adopt m d hold) = heap.Adopt m d (record { heap_no = 0; object = hold.object })
-renumbered (heap.Release hold) = heap.Release (record { heap_no = 0; object = hold.object })
-renumbered step = step
-
--- a heap with number 0 refuses nothing more
-still_passes : (number : ℕ) (a : State) (step : NamedStep) → heap_refusal number a step ≡ None
-    → heap_refusal 0 a (renumbered step) ≡ None
-still_passes number a (heap.Adopt m d hold) none = grind arith
-still_passes number a (heap.Release hold) none = grind arith
-still_passes number a step none = none
-
-still_accepts : (a b : State) (step : NamedStep) (reply : Reply) → HeapAccepts a step reply b
-    → HeapAccepts a (renumbered step) reply b
-still_accepts a b (heap.Adopt m d hold) reply row = row
-still_accepts a b (heap.Release hold) reply row = row
-still_accepts a b step reply row = row
+-- ---- a row of a heap
 
 -- it is refused or accepted
 abbrev pub IsRefusedOrAccepted : State → NamedStep → Reply → State → Type 0
 IsRefusedOrAccepted a step reply b =
     ((fault : Fault) × (reply ≡ replies.Refused fault) × (b ≡ a))
-    ⊎ ((heap_refusal 0 a (renumbered step) ≡ None) × HeapAccepts a (renumbered step) reply b)
+    ⊎ ((heap_refusal a step ≡ None) × HeapAccepts a step reply b)
 
-answered : (number : ℕ) (a b : State) (step : NamedStep) (reply : Reply) (fault : Option Fault)
-    → heap_refusal number a step ≡ fault → IsHeapAnswer a fault step reply b → IsRefusedOrAccepted a step reply b
-answered number a b step reply (Some fault) is row = inl (fault, row.0, row.1)
-answered number a b step reply None is row =
-    inr (still_passes number a step is, still_accepts a b step reply row)
+answered : (a b : State) (step : NamedStep) (reply : Reply) (fault : Option Fault) → heap_refusal a step ≡ fault
+    → IsHeapAnswer a fault step reply b → IsRefusedOrAccepted a step reply b
+answered a b step reply (Some fault) is row = inl (fault, row.0, row.1)
+answered a b step reply None is row = inr (is, row)
 
-pub heap_kind : (number : ℕ) (a b : State) (step : NamedStep) (reply : Reply) → IsHeapRow number a step reply b
+pub heap_kind : (a b : State) (step : NamedStep) (reply : Reply) → IsHeapRow a step reply b
     → IsRefusedOrAccepted a step reply b
-heap_kind number a b step reply row = answered number a b step reply (heap_refusal number a step) refl row
+heap_kind a b step reply row = answered a b step reply (heap_refusal a step) refl row
 
-pub heap_turn : (number : ℕ) (a b : State) (step : NamedStep) (reply : Reply) → IsHeapRow number a step reply b
-    → IsTurn a (Some (renumbered step)) reply b
-heap_turn number a b step reply row = grind (arith, heap_kind)
+pub heap_turn : (a b : State) (step : NamedStep) (reply : Reply) → IsHeapRow a step reply b
+    → IsTurn a (Some step) reply b
+heap_turn a b step reply row = grind (arith, heap_kind)
+
+-- and leaves the heap its number
+pub row_number : (a b : State) (step : NamedStep) (reply : Reply) → IsHeapRow a step reply b
+    → b.world.heap.no ≡ a.world.heap.no
+row_number a b step reply row = grind (arith, heap_kind, heap_number)

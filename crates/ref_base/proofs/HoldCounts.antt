@@ -1,8 +1,8 @@
 -- How often each number stands in the lists of holds, hands and queues as these change.
 use Rattle.std.proofs.Common.{◌≡◌, ℕ, ◌+◌, ◌<◌, ◌≤◌, zero, suc, true, ◌==◌, if◌then◌else◌, List, []}
-use Rattle.std.proofs.Common.{◌∷◌, ◌++◌, length, map, Option, None, arith}
+use Rattle.std.proofs.Common.{◌∷◌, ◌++◌, length, map, arith}
 use Rattle.std.specs.Prelude.{slice_index_or, slice_set}
-use Rattle.ref_base.proofs.Common.{has, one_more, one_fewer, Lists, Notice, object_of, tally, in_hand, in_hands}
+use Rattle.ref_base.proofs.Common.{has, one_more, one_fewer, Lists, Notice, object_of, tally, in_hands}
 use Rattle.ref_base.proofs.Common.{in_queues}
 
 -- one or none
@@ -34,12 +34,12 @@ tally-one_fewer (h ∷ hs) m n = grind (arith, tally-one_fewer hs m n)
 -- ---- hands and queues
 
 -- one hand is set
-pub tally-hand_set : (hands : List (Option Notice)) (k : ℕ) (hand : Option Notice) (n : ℕ) → k < length hands
-    → tally (in_hands (slice_set hands k hand)) n + tally (in_hand (slice_index_or hands k None)) n
-    ≡ tally (in_hands hands) n + tally (in_hand hand) n
+pub tally-hand_set : (hands : List (List Notice)) (k : ℕ) (hand : List Notice) (n : ℕ) → k < length hands
+    → tally (in_hands (slice_set hands k hand)) n + tally (map object_of (slice_index_or hands k [])) n
+    ≡ tally (in_hands hands) n + tally (map object_of hand) n
 tally-hand_set [] k hand n within = absurd (omega (arith, within))
-tally-hand_set (h ∷ hands) zero hand n within = grind arith
-tally-hand_set (h ∷ hands) (suc k) hand n within = grind (arith, tally-hand_set hands k hand n)
+tally-hand_set (h ∷ hands) zero hand n within = grind (arith, tally-append)
+tally-hand_set (h ∷ hands) (suc k) hand n within = grind (arith, tally-append, tally-hand_set hands k hand n)
 
 -- one queue is
 pub tally-queue_set : (qs : List (Lists Notice)) (k : ℕ) (q other : Lists Notice) (n : ℕ) → k < length qs

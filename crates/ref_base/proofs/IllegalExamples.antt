@@ -5,6 +5,7 @@ use Rattle.ref_base.proofs.Common.{Graph, Object, plain_object, first_world, Sta
 use Rattle.ref_base.proofs.Common.{Mutator, Weak, Normal, Own, Marking, HandEmpty, NoMemory}
 use Rattle.ref_base.specs.Heaps.{first_heap}
 use Rattle.ref_base.specs.KeptPaths.{policy_from}
+use Rattle.ref_base.specs.declared.plain_step.PlainStep.TheVariants as plain
 use Rattle.ref_base.specs.declared.step.Step.TheVariants as steps
 use Rattle.ref_base.specs.declared.reply.Reply.TheVariants as replies
 use Rattle.ref_base.proofs.WorkedTraces.{row, config_of}
@@ -38,7 +39,7 @@ object_is_not_null n same = absurd cc
 abbrev unhooked : State
 unhooked = record (first_state (config_of 1)) {
   world = record (first_world (config_of 1)) {
-    heap = record (first_heap (config_of 1)) {
+    heap = record (first_heap (config_of 1) 0) {
       objects = plain_object 1 [] ∷ record {
         no = 2;
         fields = [];
@@ -47,7 +48,7 @@ unhooked = record (first_state (config_of 1)) {
       slots = Some 1 ∷ Some 2 ∷ replicate 14 None;
       holds = 2 ∷ [];
     };
-    mutator_hands = Some (record { object = 2; queue = 0; cause = Own }) ∷ [];
+    mutator_hands = (record { object = 2; queue = 0; cause = Own } ∷ []) ∷ [];
   };
   next = 3;
 }
@@ -55,8 +56,8 @@ unhooked = record (first_state (config_of 1)) {
 -- the rows that lead there, and others behind
 abbrev after_unhooking : List Row → List Row
 after_unhooking rows =
-    row (steps.New 0 0 0) (replies.Object 1) ∷
-    row (steps.Refer 0 Weak 1 0 (Some 0) 0) (replies.Object 2) ∷
+    row (steps.Plain (plain.New 0 0 0)) (replies.Object 1) ∷
+    row (steps.Plain (plain.Refer 0 Weak 1 0 (Some 0) 0)) (replies.Object 2) ∷
     row (steps.Unhook 0 1) (replies.Notice 2 0 Own) ∷
     rows
 
@@ -68,7 +69,7 @@ unhooked_by rows last run = grind arith
 abbrev put_once : State
 put_once = record unhooked {
   world = record unhooked.world {
-    mutator_hands = None ∷ [];
+    mutator_hands = [] ∷ [];
     queues = record {
       queue = 0;
       taken = [];
@@ -85,8 +86,8 @@ put_once_by rows last run = grind arith
 -- a refusal where none applies: the hand holds a notice
 abbrev refused_without_cause : List Row
 refused_without_cause =
-    row (steps.New 0 0 0) (replies.Object 1) ∷
-    row (steps.Refer 0 Weak 1 0 (Some 0) 0) (replies.Object 2) ∷
+    row (steps.Plain (plain.New 0 0 0)) (replies.Object 1) ∷
+    row (steps.Plain (plain.Refer 0 Weak 1 0 (Some 0) 0)) (replies.Object 2) ∷
     row (steps.Unhook 0 1) (replies.Notice 2 0 Own) ∷
     row (steps.Put (Mutator 0)) (replies.Refused HandEmpty) ∷
     []
@@ -97,8 +98,8 @@ refused_without_cause_is_not_legal legal = grind arith
 -- the one notice that was put in is taken a second time
 abbrev taken_twice : List Row
 taken_twice =
-    row (steps.New 0 0 0) (replies.Object 1) ∷
-    row (steps.Refer 0 Weak 1 0 (Some 0) 0) (replies.Object 2) ∷
+    row (steps.Plain (plain.New 0 0 0)) (replies.Object 1) ∷
+    row (steps.Plain (plain.Refer 0 Weak 1 0 (Some 0) 0)) (replies.Object 2) ∷
     row (steps.Unhook 0 1) (replies.Notice 2 0 Own) ∷
     row (steps.Put (Mutator 0)) (replies.Added 0) ∷
     row (steps.Poll 0 0) (replies.Took 2) ∷
@@ -112,8 +113,8 @@ taken_twice_is_not_legal legal = grind arith
 -- a queue that is closed takes a notice
 abbrev put_after_close : List Row
 put_after_close =
-    row (steps.New 0 0 0) (replies.Object 1) ∷
-    row (steps.Refer 0 Weak 1 0 (Some 0) 0) (replies.Object 2) ∷
+    row (steps.Plain (plain.New 0 0 0)) (replies.Object 1) ∷
+    row (steps.Plain (plain.Refer 0 Weak 1 0 (Some 0) 0)) (replies.Object 2) ∷
     row (steps.Unhook 0 1) (replies.Notice 2 0 Own) ∷
     row (steps.Close 0 0) replies.Done ∷
     row (steps.Put (Mutator 0)) (replies.Added 0) ∷
@@ -125,8 +126,8 @@ put_after_close_is_not_legal legal = grind arith
 -- a reference that was put in is put in a second time
 abbrev put_twice : List Row
 put_twice =
-    row (steps.New 0 0 0) (replies.Object 1) ∷
-    row (steps.Refer 0 Weak 1 0 (Some 0) 0) (replies.Object 2) ∷
+    row (steps.Plain (plain.New 0 0 0)) (replies.Object 1) ∷
+    row (steps.Plain (plain.Refer 0 Weak 1 0 (Some 0) 0)) (replies.Object 2) ∷
     row (steps.Unhook 0 1) (replies.Notice 2 0 Own) ∷
     row (steps.Put (Mutator 0)) (replies.Added 0) ∷
     row (steps.Unhook 0 1) (replies.Notice 2 0 Own) ∷
@@ -152,7 +153,7 @@ objects = plain_object 1 [] ∷ reference_to_1 ∷ []
 abbrev marked : List (Option ℕ) → List Graph → Bool → State
 marked slots moments left = record {
   world = record (first_world (config_of 1)) {
-    heap = record (first_heap (config_of 1)) { objects = objects; slots = slots; clock = 5 };
+    heap = record (first_heap (config_of 1) 0) { objects = objects; slots = slots; clock = 5 };
     policy = policy_from (config_of 1) 5 Normal;
     cycle = 1;
     phase = Marking;
@@ -176,11 +177,11 @@ rooted roots = record { objects = objects; roots = roots }
 -- the rows that lead there, and others behind
 abbrev after_scanning : List Row → List Row
 after_scanning rows =
-    row (steps.New 0 0 0) (replies.Object 1) ∷
-    row (steps.Refer 0 Weak 1 0 (Some 0) 0) (replies.Object 2) ∷
-    row (steps.Drop 0 0) replies.Done ∷
-    row (steps.Begin 5 Normal) (replies.Cycle 1) ∷
-    row (steps.Scan 0) (replies.Scanned 2) ∷
+    row (steps.Plain (plain.New 0 0 0)) (replies.Object 1) ∷
+    row (steps.Plain (plain.Refer 0 Weak 1 0 (Some 0) 0)) (replies.Object 2) ∷
+    row (steps.Plain (plain.Drop 0 0)) replies.Done ∷
+    row (steps.Plain (plain.Begin 5 Normal)) (replies.Cycle 1) ∷
+    row (steps.Plain (plain.Scan 0)) (replies.Scanned 2) ∷
     rows
 
 -- whether an object is left isn't told
@@ -191,14 +192,14 @@ scanned_by rows last run = grind arith
 -- a get answers an object that is doomed
 abbrev doomed_got : List Row
 doomed_got =
-    row (steps.New 0 0 0) (replies.Object 1) ∷
-    row (steps.Refer 0 Weak 1 0 (Some 0) 0) (replies.Object 2) ∷
-    row (steps.Drop 0 0) replies.Done ∷
-    row (steps.Begin 5 Normal) (replies.Cycle 1) ∷
-    row (steps.Scan 0) (replies.Scanned 2) ∷
-    row (steps.Scan 0) replies.Nothing ∷
-    row steps.EndMark (replies.Doomed 1) ∷
-    row (steps.Get 0 3 1) (replies.Object 1) ∷
+    row (steps.Plain (plain.New 0 0 0)) (replies.Object 1) ∷
+    row (steps.Plain (plain.Refer 0 Weak 1 0 (Some 0) 0)) (replies.Object 2) ∷
+    row (steps.Plain (plain.Drop 0 0)) replies.Done ∷
+    row (steps.Plain (plain.Begin 5 Normal)) (replies.Cycle 1) ∷
+    row (steps.Plain (plain.Scan 0)) (replies.Scanned 2) ∷
+    row (steps.Plain (plain.Scan 0)) replies.Nothing ∷
+    row (steps.Plain plain.EndMark) (replies.Doomed 1) ∷
+    row (steps.Plain (plain.Get 0 3 1)) (replies.Object 1) ∷
     []
 
 doomed_got_is_not_legal : ¬ (IsLegal (config_of 1) doomed_got)
@@ -207,13 +208,13 @@ doomed_got_is_not_legal legal = grind arith
 -- an object that a slot holds is doomed
 abbrev kept_doomed : List Row
 kept_doomed =
-    row (steps.New 0 0 0) (replies.Object 1) ∷
-    row (steps.Refer 0 Weak 1 0 (Some 0) 0) (replies.Object 2) ∷
-    row (steps.Drop 0 0) replies.Done ∷
-    row (steps.Begin 5 Normal) (replies.Cycle 1) ∷
-    row (steps.Scan 0) (replies.Scanned 2) ∷
-    row (steps.Get 0 3 1) (replies.Object 1) ∷
-    row steps.EndMark (replies.Doomed 1) ∷
+    row (steps.Plain (plain.New 0 0 0)) (replies.Object 1) ∷
+    row (steps.Plain (plain.Refer 0 Weak 1 0 (Some 0) 0)) (replies.Object 2) ∷
+    row (steps.Plain (plain.Drop 0 0)) replies.Done ∷
+    row (steps.Plain (plain.Begin 5 Normal)) (replies.Cycle 1) ∷
+    row (steps.Plain (plain.Scan 0)) (replies.Scanned 2) ∷
+    row (steps.Plain (plain.Get 0 3 1)) (replies.Object 1) ∷
+    row (steps.Plain plain.EndMark) (replies.Doomed 1) ∷
     []
 
 kept_doomed_is_not_legal : ¬ (IsLegal (config_of 1) kept_doomed)

@@ -5,9 +5,10 @@ use Rattle.std.proofs.lemmas.Bool.{false≢true}
 use Rattle.ref_base.proofs.Common.{has, Graph, Policy, EverKept, NamedStep, begun, State, joined, is_in}
 use Rattle.ref_base.proofs.Common.{HeapAccepts, begun_state, Scans, IsBut, IsLeft, ticked, Phase, Marking, Reply}
 use Rattle.ref_base.specs.declared.heap_step.HeapStep.TheVariants as heap
+use Rattle.ref_base.specs.declared.plain_step.PlainStep.TheVariants as plain
 use Rattle.ref_base.specs.declared.reply.Reply.TheVariants as replies
-use Rattle.ref_base.proofs.HeapMoves.{Becomes, moved}
-use Rattle.ref_base.proofs.MovedParts.{mark_of}
+use Rattle.ref_base.proofs.Outcomes.{Becomes, outcome}
+use Rattle.ref_base.proofs.OutcomeParts.{mark_of}
 
 -- where it is said in a mark that an object is left, one is
 abbrev pub LeftMeans : State → Type 0
@@ -43,16 +44,18 @@ left_becomes c b means (inr (inr but)) = left_anew (ticked c) b but
 
 scan_left : (a b : State) (k : ℕ) (reply : Reply) → Scans a k reply b → LeftMeans a → LeftMeans b
 scan_left a b k (replies.Scanned n) row means =
-    left_anew (ticked (moved a (heap.Scan k) (replies.Scanned n))) b row.2
+    left_anew (ticked (outcome a (heap.Plain (plain.Scan k)) (replies.Scanned n))) b row.2
 scan_left a b k reply row means = left_becomes a b means (inr (inl row.1.1))
 
 pub heap_left : (a b : State) (step : NamedStep) (reply : Reply) → HeapAccepts a step reply b → LeftMeans a
     → LeftMeans b
-heap_left a b (heap.Begin now how) reply row means =
+heap_left a b (heap.Plain (plain.Begin now how)) reply row means =
     left_anew (ticked (begun_state a (begun a.world now how (a.world.cycle + 1)))) b row.1
-heap_left a b (heap.Scan k) reply row means = scan_left a b k reply row means
-heap_left a b heap.EndMark reply row means =
+heap_left a b (heap.Plain (plain.Scan k)) reply row means = scan_left a b k reply row means
+heap_left a b (heap.Plain plain.EndMark) reply row means =
     subst LeftMeans (sym row.after) (λ marks _. absurd (false≢true marks))
-heap_left a b heap.EndClear reply row means = subst LeftMeans (sym row.1) (λ marks _. absurd (false≢true marks))
-heap_left a b heap.EndSweep reply row means = subst LeftMeans (sym row.1) (λ marks _. absurd (false≢true marks))
+heap_left a b (heap.Plain plain.EndClear) reply row means =
+    subst LeftMeans (sym row.1) (λ marks _. absurd (false≢true marks))
+heap_left a b (heap.Plain plain.EndSweep) reply row means =
+    subst LeftMeans (sym row.1) (λ marks _. absurd (false≢true marks))
 heap_left a b step reply row means = grind arith

@@ -10,7 +10,7 @@ pub mod SearchLaws
 pub mod StrengthLaws
 pub mod KeptLaws
 pub mod Places
-pub mod QueueMoves
+pub mod QueueChanges
 pub mod SoundWorlds
 pub mod QueueLaws
 pub mod RowLaws
@@ -36,7 +36,7 @@ pub mod CarryHeaps
 pub mod CarryRows
 pub mod ProvenTraces
 pub mod GivenNotices
-pub mod HeapMoves
+pub mod Outcomes
 pub mod RowKinds
 pub mod HeapTurns
 pub mod RunFronts
@@ -54,21 +54,23 @@ pub mod ObjectTargets
 pub mod ClosedRows
 pub mod OffSets
 pub mod MarkShows
-pub mod MovedParts
+pub mod OutcomeParts
 pub mod OutHeaps
 pub mod OutRuns
 pub mod OutTraces
 pub mod OldNames
+pub mod MarkedTurns
 pub mod MarkedTraces
 pub mod SameOthers
 pub mod AddedRows
 pub mod LeftObjects
-pub mod RowMoves
+pub mod RowChanges
 pub mod ScannedOnce
 pub mod Subsequences
 pub mod RowHands
 pub mod HandCauses
 pub mod ClearingShifts
+pub mod ClearingOrders
 pub mod ClearingTraces
 pub mod ClearedOnwards
 mod ReplayExamples

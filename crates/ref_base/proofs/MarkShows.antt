@@ -7,6 +7,7 @@ use Rattle.ref_base.proofs.Common.{has, Object, is_there, IsKept, is_kept}
 use Rattle.ref_base.proofs.Common.{MayDoom, new_clears, reference_at, World}
 use Rattle.ref_base.proofs.Common.{graph_of, replayed, State, joined, without, referent_of, doomed_at, IsDead}
 use Rattle.ref_base.proofs.Common.{MarkEnded, WasDoomed, Config, Marking, Row}
+use Rattle.ref_base.specs.declared.plain_step.PlainStep.TheVariants as plain
 use Rattle.ref_base.specs.declared.step.Step.TheVariants as steps
 use Rattle.ref_base.specs.declared.reply.Reply.TheVariants as replies
 use Rattle.ref_base.proofs.NewClears.{has-new_clears}
@@ -56,7 +57,7 @@ module _ (gone : List ℕ) (w : World) (a : State) (is : Agreeing gone w a) (mar
 -- the row of a mark's end shows what it shows in the world that the rows before it give by replay
 module _ (config : Config) (past : List Row) (count : ℕ) where
   abbrev pub ended : List Row
-  ended = past ++ record { step = steps.EndMark; reply = replies.Doomed count } ∷ []
+  ended = past ++ record { step = steps.Plain plain.EndMark; reply = replies.Doomed count } ∷ []
 
   pub mark_ended : (n : ℕ) → RefersToDead (replayed config past) n
       → MarkEnded config ended (replayed config past).cycle n

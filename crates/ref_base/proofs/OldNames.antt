@@ -7,9 +7,10 @@ use Rattle.ref_base.proofs.Common.{NamedStep, replayed, State, first_state, heap
 use Rattle.ref_base.proofs.Common.{HeapAccepts, shown, mark_ended, doomed_at, IsRun, HasOldNumbers}
 use Rattle.ref_base.proofs.Common.{Config, Reply, Row, heap_step}
 use Rattle.ref_base.specs.declared.heap_step.HeapStep.TheVariants as heap
+use Rattle.ref_base.specs.declared.plain_step.PlainStep.TheVariants as plain
 use Rattle.ref_base.proofs.CarryRows.{all_more, nothing_pending}
 use Rattle.ref_base.proofs.CountedTraces.{legal_counted}
-use Rattle.ref_base.proofs.HeapMoves.{moved, heap_moves, IsNoEnd}
+use Rattle.ref_base.proofs.Outcomes.{outcome, heap_outcome, IsNoEnd}
 use Rattle.ref_base.proofs.SeenObjects.{numbers-cleared_if, rising-without}
 use Rattle.ref_base.proofs.ReplayUnder.{made_number}
 use Rattle.ref_base.proofs.HeapTurns.{at_rest, IsTurn, row_turn}
@@ -55,25 +56,26 @@ old_more a next objects grows closed = grind (arith, all_more)
 
 -- what is made has the next number, and then comes one more
 made_next : (a : State) (step : NamedStep) (reply : Reply) → made_number step reply ≡ Some a.next
-    → (moved a step reply).next ≡ a.next + 1
-made_next a (heap.New m d k) reply made = refl
-made_next a (heap.Refer m strength d s q k) reply made = refl
+    → (outcome a step reply).next ≡ a.next + 1
+made_next a (heap.Plain (plain.New m d k)) reply made = refl
+made_next a (heap.Plain (plain.Refer m strength d s q k)) reply made = refl
 made_next a step reply made = absurd cc
 
 plain_old : (gone : List ℕ) (w : World) (a c : State) (step : NamedStep) (reply : Reply) → Agreeing gone w a
-    → IsNoEnd step → heap_refusal 0 a step ≡ None → HeapAccepts a step reply c → IsClosed (λ n. n < a.next) a.world
+    → IsNoEnd step → heap_refusal a step ≡ None → HeapAccepts a step reply c → IsClosed (λ n. n < a.next) a.world
     → IsClosed (λ n. n < c.next) c.world
-plain_old gone w a c step reply is plain none row closed =
+plain_old gone w a c step reply is no_end none row closed =
     let grows : a.next ≤ c.next = next_heap a c step reply row in
-    let leads : c.next ≡ (moved a step reply).next = ap (λ (s : State). s.next) (heap_moves a c step reply plain row) in
-    heap_closed (λ n. n < c.next) a c (old_more a c.next (old_objects gone w a is) grows closed) step reply plain none
+    let leads : c.next ≡ (outcome a step reply).next =
+    ap (λ (s : State). s.next) (heap_outcome a c step reply no_end row) in
+    heap_closed (λ n. n < c.next) a c (old_more a c.next (old_objects gone w a is) grows closed) step reply no_end none
     (λ made. let next = made_next a step reply made in omega (arith, leads, next))
     (λ clearing n cleared. let less = is.cleared_below n cleared in omega (arith, less, grows)) row
 
 heap_old : (gone : List ℕ) (w : World) (a c : State) (step : NamedStep) (reply : Reply) → Agreeing gone w a
-    → heap_refusal 0 a step ≡ None → HeapAccepts a step reply c → IsClosed (λ n. n < a.next) a.world
+    → heap_refusal a step ≡ None → HeapAccepts a step reply c → IsClosed (λ n. n < a.next) a.world
     → IsClosed (λ n. n < c.next) c.world
-heap_old gone w a c heap.EndMark reply is none row closed =
+heap_old gone w a c (heap.Plain plain.EndMark) reply is none row closed =
     subst (λ (s : State). IsClosed (λ n. n < s.next) s.world) (sym row.after)
     (ended_old (λ n. n < a.next) a row.found closed)
 heap_old gone w a c step reply is none row closed = plain_old gone w a c step reply is tt none row closed
@@ -107,7 +109,7 @@ legal_old config rows b run =
     (record {
       slots = no_slot (λ n. n < 1) (16 * config.mutators);
       holds = λ n held. absurd (false≢true held);
-      pendings = λ k. nothing_pending (λ p. p.object < 1) config.workers k;
+      pendings = λ k. nothing_pending (λ p. p.object < 1) config k;
       targets = λ m n is target. absurd (false≢true target);
     }) rows b run
 

@@ -5,31 +5,33 @@ use Rattle.std.proofs.lemmas.Bool.{false≢true}
 use Rattle.ref_base.proofs.Common.{NamedStep, State, first_state, HeapAccepts, IsAnswer, IsRow, IsRun}
 use Rattle.ref_base.proofs.Common.{registers, is_registered, IsLegal, Config, Fault, Step, Reply, Row}
 use Rattle.ref_base.specs.declared.heap_step.HeapStep.TheVariants as heap
+use Rattle.ref_base.specs.declared.plain_step.PlainStep.TheVariants as plain
 use Rattle.ref_base.specs.declared.step.Step.TheVariants as steps
 use Rattle.ref_base.specs.declared.reply.Reply.TheVariants as replies
 use Rattle.ref_base.proofs.CountedTraces.{legal_counted}
-use Rattle.ref_base.proofs.HeapMoves.{settled, moved, heap_moves}
+use Rattle.ref_base.proofs.Outcomes.{settled, outcome, heap_outcome}
 use Rattle.ref_base.proofs.RowKinds.{queues_lead, IsRefused, IsOfQueues, IsOfHeap, row_kind}
 use Rattle.ref_base.proofs.RunFronts.{legal_holds}
 
 -- ---- the next number grows
 
-next_moved : (a : State) (step : NamedStep) (reply : Reply) → a.next ≤ (moved a step reply).next
-next_moved a (heap.New m d k) reply = omega arith
-next_moved a (heap.Refer m strength d s q k) reply = omega arith
-next_moved a (heap.ClearNext k) (replies.Cleared n) = omega arith
-next_moved a (heap.ClearNext k) reply = omega arith
-next_moved a (heap.Sweep k) (replies.Swept count) = omega arith
-next_moved a (heap.Sweep k) reply = omega arith
-next_moved a step reply = omega arith
+outcome_next : (a : State) (step : NamedStep) (reply : Reply) → a.next ≤ (outcome a step reply).next
+outcome_next a (heap.Plain (plain.New m d k)) reply = omega arith
+outcome_next a (heap.Plain (plain.Refer m strength d s q k)) reply = omega arith
+outcome_next a (heap.Plain (plain.ClearNext k)) (replies.Cleared n) = omega arith
+outcome_next a (heap.Plain (plain.ClearNext k)) reply = omega arith
+outcome_next a (heap.Plain (plain.Sweep k)) (replies.Swept count) = omega arith
+outcome_next a (heap.Plain (plain.Sweep k)) reply = omega arith
+outcome_next a step reply = omega arith
 
 next_by : (a b c : State) → settled b ≡ settled c → a.next ≤ c.next → a.next ≤ b.next
 next_by a b c leads grows = let same = ap (λ (s : State). s.next) leads in omega (arith, same, grows)
 
 pub next_heap : (a b : State) (step : NamedStep) (reply : Reply) → HeapAccepts a step reply b → a.next ≤ b.next
-next_heap a b heap.EndMark reply row = let same = ap (λ (s : State). s.next) row.after in omega (arith, same)
+next_heap a b (heap.Plain plain.EndMark) reply row =
+    let same = ap (λ (s : State). s.next) row.after in omega (arith, same)
 next_heap a b step reply row =
-    next_by a b (moved a step reply) (heap_moves a b step reply tt row) (next_moved a step reply)
+    next_by a b (outcome a step reply) (heap_outcome a b step reply tt row) (outcome_next a step reply)
 
 pub next_grows : (a : State) (row : Row) (b : State)
     → IsRefused a row b ⊎ (IsOfQueues a row b ⊎ IsOfHeap a row b) → a.next ≤ b.next
@@ -42,9 +44,10 @@ next_grows a row b (inr (inr of)) = grind (arith, next_heap)
 -- a row that made a reference gave it the next number, and the one after comes next
 registers_next : (a b : State) (step : Step) (reply : Reply) (fault : Option Fault) (n q : ℕ)
     → IsAnswer a fault step reply b → registers n q step reply ≡ true → (n ≡ a.next) × (b.next ≡ a.next + 1)
-registers_next a b (steps.Refer m strength d s (Some k) fields) (replies.Object o) (Some fault) n q h makes =
+registers_next a b (steps.Plain (plain.Refer m strength d s (Some k) f)) (replies.Object o) (Some x) n q h makes =
     let no_fault = h.0 in absurd cc
-registers_next a b (steps.Refer m strength d s (Some k) fields) (replies.Object o) None n q h makes = grind arith
+registers_next a b (steps.Plain (plain.Refer m strength d s (Some k) f)) (replies.Object o) None n q h makes =
+    grind arith
 registers_next a b step reply fault n q h makes = absurd (false≢true makes)
 
 -- ---- rows

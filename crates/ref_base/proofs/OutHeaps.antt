@@ -9,9 +9,10 @@ use Rattle.ref_base.proofs.Common.{has, World, NamedStep, State, joined, heap_re
 use Rattle.ref_base.proofs.Common.{EndsMark, doomed_at, IsDead, MarkEnded, WasDoomed, Config, Phase, Idle, Marking}
 use Rattle.ref_base.proofs.Common.{Clearing, Sweeping, Reply, Row}
 use Rattle.ref_base.specs.declared.heap_step.HeapStep.TheVariants as heap
+use Rattle.ref_base.specs.declared.plain_step.PlainStep.TheVariants as plain
 use Rattle.ref_base.specs.declared.reply.Reply.TheVariants as replies
 use Rattle.ref_base.proofs.HasLaws.{has-append, has-cases}
-use Rattle.ref_base.proofs.HeapMoves.{heap_moves, IsNoEnd}
+use Rattle.ref_base.proofs.Outcomes.{heap_outcome, IsNoEnd}
 use Rattle.ref_base.proofs.PhaseLaws.{of_phase}
 use Rattle.ref_base.proofs.AgreeHeaps.{Agreeing, gone_after, unscanned-there}
 use Rattle.ref_base.proofs.ApartWorlds.{IsClosed}
@@ -54,26 +55,26 @@ off_is gone doomed c phase is same =
 
 -- no row but a mark's end changes what is off
 pub off_same : (gone : List ℕ) (a c : State) (step : NamedStep) (reply : Reply) → IsNoEnd step
-    → heap_refusal 0 a step ≡ None → HeapAccepts a step reply c
+    → heap_refusal a step ≡ None → HeapAccepts a step reply c
     → off (gone_after a gone step reply) c ≡ off gone a
-off_same gone a c (heap.Begin now how) reply plain none row = grind arith
-off_same gone a c heap.EndMark reply plain none row = absurd plain
-off_same gone a c heap.EndClear reply plain none row = grind arith
-off_same gone a c heap.EndSweep reply plain none row = grind arith
-off_same gone a c (heap.Sweep k) (replies.Swept count) plain none row =
-    let leads = heap_moves a c (heap.Sweep k) (replies.Swept count) tt row in
-    let sweeping : a.world.phase ≡ Sweeping = of_phase 0 a (heap.Sweep k) none in
+off_same gone a c (heap.Plain (plain.Begin now how)) reply no_end none row = grind arith
+off_same gone a c (heap.Plain plain.EndMark) reply no_end none row = absurd no_end
+off_same gone a c (heap.Plain plain.EndClear) reply no_end none row = grind arith
+off_same gone a c (heap.Plain plain.EndSweep) reply no_end none row = grind arith
+off_same gone a c (heap.Plain (plain.Sweep k)) (replies.Swept count) no_end none row =
+    let leads = heap_outcome a c (heap.Plain (plain.Sweep k)) (replies.Swept count) tt row in
+    let sweeping : a.world.phase ≡ Sweeping = of_phase a (heap.Plain (plain.Sweep k)) none in
     off_is (gone ++ take 64 a.doomed) (drop 64 a.doomed) c Sweeping
     (ap (λ (s : State). s.world.phase) leads ∙ sweeping) (ap (λ (s : State). s.doomed) leads)
     ∙ append_assoc gone (take 64 a.doomed) (drop 64 a.doomed)
     ∙ ap (λ ns. gone ++ ns) (take-append-drop 64 a.doomed)
     ∙ sym (off_is gone a.doomed a Sweeping sweeping refl)
-off_same gone a c (heap.Sweep k) reply plain none row = grind arith
-off_same gone a c (heap.ClearNext k) (replies.Cleared n) plain none row = grind arith
-off_same gone a c (heap.ClearNext k) (replies.Kept n) plain none row = grind arith
-off_same gone a c (heap.ClearNext k) (replies.Skipped n) plain none row = grind arith
-off_same gone a c (heap.ClearNext k) reply plain none row = grind arith
-off_same gone a c step reply plain none row = grind arith
+off_same gone a c (heap.Plain (plain.Sweep k)) reply no_end none row = grind arith
+off_same gone a c (heap.Plain (plain.ClearNext k)) (replies.Cleared n) no_end none row = grind arith
+off_same gone a c (heap.Plain (plain.ClearNext k)) (replies.Kept n) no_end none row = grind arith
+off_same gone a c (heap.Plain (plain.ClearNext k)) (replies.Skipped n) no_end none row = grind arith
+off_same gone a c (heap.Plain (plain.ClearNext k)) reply no_end none row = grind arith
+off_same gone a c step reply no_end none row = grind arith
 
 -- the next number isn't off
 pub next_out : (gone : List ℕ) (w : World) (a : State) → Agreeing gone w a → has (off gone a) a.next ≡ false
@@ -84,17 +85,17 @@ next_out gone w a is = grind (arith, has-append)
 module _ (Dead : ℕ → Type 0) (Shown : ℕ → ℕ → Type 0) (gone : List ℕ) (w : World) (a c : State)
     (is : Agreeing gone w a) (out : AreOutBy Dead Shown gone a) where
   -- a row that isn't a mark's end
-  pub plain_out : (step : NamedStep) (reply : Reply) → IsNoEnd step → heap_refusal 0 a step ≡ None
+  pub plain_out : (step : NamedStep) (reply : Reply) → IsNoEnd step → heap_refusal a step ≡ None
       → HeapAccepts a step reply c
       → (c.world.phase ≡ Clearing
       → (a.world.phase ≡ Clearing) × (c.cleared ≡ a.cleared) × (c.world.cycle ≡ a.world.cycle))
       → doomed_in c.world.phase c.doomed ≡ c.doomed → AreOutBy Dead Shown (gone_after a gone step reply) c
-  plain_out step reply plain none row still whole =
+  plain_out step reply no_end none row still whole =
       let now : List ℕ = gone_after a gone step reply in
-      let same : off now c ≡ off gone a = off_same gone a c step reply plain none row in
+      let same : off now c ≡ off gone a = off_same gone a c step reply no_end none row in
       record {
         closed = subst (λ ns. IsClosed (λ n. has ns n ≡ false) c.world) (sym same)
-            (heap_closed (λ n. has (off gone a) n ≡ false) a c out.closed step reply plain none
+            (heap_closed (λ n. has (off gone a) n ≡ false) a c out.closed step reply no_end none
             (λ made. next_out gone w a is) out.spared row);
         dead = λ n is_off. out.dead n (ap (λ ns. has ns n) (sym same) ∙ is_off);
         whole = whole;

@@ -5,11 +5,12 @@ use Rattle.std.proofs.Common.{subst, inl, inr}
 use Rattle.ref_base.proofs.Common.{has, World, Notice, hand_of, NamedStep, heap_step, spending, replayed, State}
 use Rattle.ref_base.proofs.Common.{heap_refusal, HeapAccepts, IsRow, doomed_at, AreCounted, MarkEnded, WasDoomed}
 use Rattle.ref_base.proofs.Common.{Config, Mutator, Phase, Idle, Marking, Clearing, Sweeping, HoldName, Step, Reply}
-use Rattle.ref_base.proofs.Common.{Row, IsDead}
+use Rattle.ref_base.proofs.Common.{Row, IsDead, hold_of}
 use Rattle.ref_base.specs.declared.heap_step.HeapStep.TheVariants as heap
+use Rattle.ref_base.specs.declared.plain_step.PlainStep.TheVariants as plain
 use Rattle.ref_base.specs.declared.step.Step.TheVariants as steps
 use Rattle.ref_base.specs.declared.reply.Reply.TheVariants as replies
-use Rattle.ref_base.proofs.HeapMoves.{settled, moved, heap_moves, IsNoEnd}
+use Rattle.ref_base.proofs.Outcomes.{settled, outcome, heap_outcome, IsNoEnd}
 use Rattle.ref_base.proofs.PhaseLaws.{of_phase}
 use Rattle.ref_base.proofs.HeapTurns.{at_rest, IsIdle, IsTurn, row_turn}
 use Rattle.ref_base.proofs.ReplayKeeps.{EndsNoPhase, but_hands}
@@ -19,7 +20,7 @@ use Rattle.ref_base.proofs.ApartWorlds.{IsClosed}
 use Rattle.ref_base.proofs.ClosedRows.{closed_same}
 use Rattle.ref_base.proofs.MarkShows.{RefersToDead, mark_ended, was_doomed, ended_more, doomed_more}
 use Rattle.ref_base.proofs.OutHeaps.{AreOutBy, AreOut, off, doomed_in, plain_out, end_out}
-use Rattle.ref_base.proofs.MovedParts.{phase_moved, cycle_moved, cleared_moved, FreesNone}
+use Rattle.ref_base.proofs.OutcomeParts.{outcome_phase, outcome_cycle, outcome_cleared, FreesNone}
 
 -- ---- more that was found dead and shown, and other states that are the same
 
@@ -56,74 +57,77 @@ same_out Dead Shown gone a b out same =
 
 -- ---- rows of a heap
 
-spends_no_end : (step : HoldName → NamedStep) (hand : Option Notice)
-    → ((hold : HoldName) → Some (step hold) ≡ Some heap.EndMark → ⊥) → spending step hand ≡ Some heap.EndMark → ⊥
-spends_no_end step None never asks = cc
-spends_no_end step (Some notice) never asks = never (record { heap_no = 0; object = notice.object }) asks
+spends_no_end : (w : World) (step : HoldName → NamedStep) (hand : List Notice)
+    → ((hold : HoldName) → Some (step hold) ≡ Some (heap.Plain plain.EndMark) → ⊥)
+    → spending w step hand ≡ Some (heap.Plain plain.EndMark) → ⊥
+spends_no_end w step [] never asks = cc
+spends_no_end w step (notice ∷ rest) never asks = never (hold_of w notice) asks
 
 -- only a mark's end asks its heap for one
-is_end : (w : World) (step : Step) → heap_step w step ≡ Some heap.EndMark → step ≡ steps.EndMark
-is_end w steps.EndMark asks = refl
+is_end : (w : World) (step : Step) → heap_step w step ≡ Some (heap.Plain plain.EndMark)
+    → step ≡ steps.Plain plain.EndMark
+is_end w (steps.Plain plain.EndMark) asks = refl
 is_end w (steps.Adopt m d) asks =
-    absurd (spends_no_end (λ hold. heap.Adopt m d hold) (hand_of w (Mutator m)) (λ hold is. cc) asks)
+    absurd (spends_no_end w (λ hold. heap.Adopt m d hold) (hand_of w (Mutator m)) (λ hold is. cc) asks)
 is_end w (steps.Release who) asks =
-    absurd (spends_no_end (λ hold. heap.Release hold) (hand_of w who) (λ hold is. cc) asks)
+    absurd (spends_no_end w (λ hold. heap.Release hold) (hand_of w who) (λ hold is. cc) asks)
 is_end w step asks = absurd cc
 
 module _ (Dead : ℕ → Type 0) (Shown : ℕ → ℕ → Type 0) (gone : List ℕ) (w : World) (a c : State)
     (is : Agreeing gone w a) (out : AreOutBy Dead Shown gone a) where
   -- a row that ends no phase
-  calm : (step : NamedStep) (reply : Reply) → IsNoEnd step → EndsNoPhase step → heap_refusal 0 a step ≡ None
+  calm : (step : NamedStep) (reply : Reply) → IsNoEnd step → EndsNoPhase step → heap_refusal a step ≡ None
       → HeapAccepts a step reply c
       → (c.world.phase ≡ a.world.phase → doomed_in c.world.phase c.doomed ≡ c.doomed)
       → AreOutBy Dead Shown (gone_after a gone step reply) c
-  calm step reply plain ends none row whole =
-      let leads : settled c ≡ settled (moved a step reply) = heap_moves a c step reply plain row in
+  calm step reply no_end ends none row whole =
+      let leads : settled c ≡ settled (outcome a step reply) = heap_outcome a c step reply no_end row in
       let phase : c.world.phase ≡ a.world.phase =
-      ap (λ (s : State). s.world.phase) leads ∙ phase_moved a step reply ends in
-      plain_out Dead Shown gone w a c is out step reply plain none row
+      ap (λ (s : State). s.world.phase) leads ∙ outcome_phase a step reply ends in
+      plain_out Dead Shown gone w a c is out step reply no_end none row
       (λ clearing. (
         sym phase ∙ clearing,
-        ap (λ (s : State). s.cleared) leads ∙ cleared_moved a step reply ends,
-        ap (λ (s : State). s.world.cycle) leads ∙ cycle_moved a step reply ends,
+        ap (λ (s : State). s.cleared) leads ∙ outcome_cleared a step reply ends,
+        ap (λ (s : State). s.world.cycle) leads ∙ outcome_cycle a step reply ends,
       )) (whole phase)
 
   -- and one that doesn't free either
   calm_whole : (step : NamedStep) (reply : Reply) → IsNoEnd step → EndsNoPhase step → FreesNone step
       → HeapAccepts a step reply c → c.world.phase ≡ a.world.phase → doomed_in c.world.phase c.doomed ≡ c.doomed
-  calm_whole step reply plain ends frees row phase = grind arith
+  calm_whole step reply no_end ends frees row phase = grind arith
 
   -- a row that ends a phase, into one in which no reference is cleared
-  turns : (step : NamedStep) (reply answer : Reply) (phase : Phase) → IsNoEnd step → heap_refusal 0 a step ≡ None
-      → HeapAccepts a step reply c → reply ≡ answer → (moved a step answer).world.phase ≡ phase
+  turns : (step : NamedStep) (reply answer : Reply) (phase : Phase) → IsNoEnd step → heap_refusal a step ≡ None
+      → HeapAccepts a step reply c → reply ≡ answer → (outcome a step answer).world.phase ≡ phase
       → (c.world.phase ≡ phase → c.world.phase ≡ Clearing → ⊥) → doomed_in phase c.doomed ≡ c.doomed
       → AreOutBy Dead Shown (gone_after a gone step reply) c
-  turns step reply answer phase plain none row is_answer into other whole =
-      let leads : settled c ≡ settled (moved a step reply) = heap_moves a c step reply plain row in
+  turns step reply answer phase no_end none row is_answer into other whole =
+      let leads : settled c ≡ settled (outcome a step reply) = heap_outcome a c step reply no_end row in
       let now : c.world.phase ≡ phase =
-      ap (λ (s : State). s.world.phase) leads ∙ ap (λ (r : Reply). (moved a step r).world.phase) is_answer ∙ into in
-      plain_out Dead Shown gone w a c is out step reply plain none row (λ clearing. absurd (other now clearing))
+      ap (λ (s : State). s.world.phase) leads ∙ ap (λ (r : Reply). (outcome a step r).world.phase) is_answer ∙ into in
+      plain_out Dead Shown gone w a c is out step reply no_end none row (λ clearing. absurd (other now clearing))
       (ap (λ (p : Phase). doomed_in p c.doomed) now ∙ whole)
 
   -- a row that isn't a mark's end
-  pub heap_out : (asked : NamedStep) (reply : Reply) → IsNoEnd asked → heap_refusal 0 a asked ≡ None
+  pub heap_out : (asked : NamedStep) (reply : Reply) → IsNoEnd asked → heap_refusal a asked ≡ None
       → HeapAccepts a asked reply c → AreOutBy Dead Shown (gone_after a gone asked reply) c
-  heap_out (heap.Begin now how) reply plain none row =
-      turns (heap.Begin now how) reply (replies.Cycle (a.world.cycle + 1)) Marking tt none row row.0 refl
+  heap_out (heap.Plain (plain.Begin now how)) reply no_end none row =
+      turns (heap.Plain (plain.Begin now how)) reply (replies.Cycle (a.world.cycle + 1)) Marking tt none row row.0 refl
       (λ into. not_in c Marking into refl)
-      (sym (ap (λ (s : State). s.doomed) (heap_moves a c (heap.Begin now how) reply tt row)))
-  heap_out heap.EndMark reply plain none row = absurd plain
-  heap_out heap.EndClear reply plain none row =
-      turns heap.EndClear reply replies.Done Sweeping tt none row row.0 refl (λ into. not_in c Sweeping into refl) refl
-  heap_out heap.EndSweep reply plain none row =
-      turns heap.EndSweep reply replies.Done Idle tt none row row.0 refl (λ into. not_in c Idle into refl)
-      (sym (ap (λ (s : State). s.doomed) (heap_moves a c heap.EndSweep reply tt row)
-      ∙ (of_phase 0 a heap.EndSweep none).1))
-  heap_out (heap.Sweep k) reply plain none row =
-      let sweeping : a.world.phase ≡ Sweeping = of_phase 0 a (heap.Sweep k) none in
-      calm (heap.Sweep k) reply tt tt none row
+      (sym (ap (λ (s : State). s.doomed) (heap_outcome a c (heap.Plain (plain.Begin now how)) reply tt row)))
+  heap_out (heap.Plain plain.EndMark) reply no_end none row = absurd no_end
+  heap_out (heap.Plain plain.EndClear) reply no_end none row =
+      turns (heap.Plain plain.EndClear) reply replies.Done Sweeping tt none row row.0 refl
+      (λ into. not_in c Sweeping into refl) refl
+  heap_out (heap.Plain plain.EndSweep) reply no_end none row =
+      turns (heap.Plain plain.EndSweep) reply replies.Done Idle tt none row row.0 refl (λ into. not_in c Idle into refl)
+      (sym (ap (λ (s : State). s.doomed) (heap_outcome a c (heap.Plain plain.EndSweep) reply tt row)
+      ∙ (of_phase a (heap.Plain plain.EndSweep) none).1))
+  heap_out (heap.Plain (plain.Sweep k)) reply no_end none row =
+      let sweeping : a.world.phase ≡ Sweeping = of_phase a (heap.Plain (plain.Sweep k)) none in
+      calm (heap.Plain (plain.Sweep k)) reply tt tt none row
       (λ phase. ap (λ (p : Phase). doomed_in p c.doomed) (phase ∙ sweeping))
-  heap_out asked reply plain none row = calm asked reply tt tt none row (calm_whole asked reply tt tt tt row)
+  heap_out asked reply no_end none row = calm asked reply tt tt none row (calm_whole asked reply tt tt tt row)
 
 -- ---- turns
 
@@ -135,13 +139,14 @@ idle_gone gone a b asked reply of = grind arith
 module _ (Dead Later : ℕ → Type 0) (Shown Shows : ℕ → ℕ → Type 0) (gone : List ℕ) (w : World) (a : State)
     (asked : Option NamedStep) (reply : Reply) (is : Agreeing gone w a) (out : AreOutBy Dead Shown gone a)
     (later : (n : ℕ) → Dead n → Later n) (shows : (cycle n : ℕ) → Shown cycle n → Shows cycle n)
-    (ends : (count : ℕ) → asked ≡ Some heap.EndMark → reply ≡ replies.Doomed count
+    (ends : (count : ℕ) → asked ≡ Some (heap.Plain plain.EndMark) → reply ≡ replies.Doomed count
     → ((n : ℕ) → IsDead w n → Later n) × ((n : ℕ) → RefersToDead w n → Shows w.cycle n)) where
-  taken : (c : State) (step : NamedStep) → asked ≡ Some step → heap_refusal 0 a step ≡ None
+  taken : (c : State) (step : NamedStep) → asked ≡ Some step → heap_refusal a step ≡ None
       → HeapAccepts a step reply c → AreOutBy Later Shows (gone_after a gone step reply) c
-  taken c heap.EndMark asks none row =
+  taken c (heap.Plain plain.EndMark) asks none row =
       let told = ends (length (doomed_at a)) asks row.answer in
-      end_out Dead Shown gone w a c is out Later Shows reply later told.0 told.1 (of_phase 0 a heap.EndMark none) row
+      end_out Dead Shown gone w a c is out Later Shows reply later told.0 told.1
+      (of_phase a (heap.Plain plain.EndMark) none) row
   taken c step asks none row = search (more_out, heap_out)
 
   pub turn_out : (b : State) → IsTurn a asked reply b → AreOutBy Later Shows (gone_next a gone asked reply) b
@@ -162,11 +167,11 @@ pub row_out : (config : Config) (past : List Row) (gone : List ℕ) (a : State) 
     → IsRow a row b → AreOut config (past ++ row ∷ []) (gone_next a gone (heap_step a.world row.step) row.reply) b
 row_out config past gone a row is out b counted h =
     let asked : Option NamedStep = heap_step a.world row.step in
-    let same : (count : ℕ) → asked ≡ Some heap.EndMark → row.reply ≡ replies.Doomed count
-    → record { step = steps.EndMark; reply = replies.Doomed count } ≡ row =
+    let same : (count : ℕ) → asked ≡ Some (heap.Plain plain.EndMark) → row.reply ≡ replies.Doomed count
+    → record { step = steps.Plain plain.EndMark; reply = replies.Doomed count } ≡ row =
     λ count asks told.
     sym (ap (λ (s : Step). record row { step = s }) (is_end a.world row.step asks)
-    ∙ ap (λ (r : Reply). record { step = steps.EndMark; reply = r }) told) in
+    ∙ ap (λ (r : Reply). record { step = steps.Plain plain.EndMark; reply = r }) told) in
     turn_out (WasDoomed config past) (WasDoomed config (past ++ row ∷ [])) (MarkEnded config past)
     (MarkEnded config (past ++ row ∷ [])) gone (replayed config past) a asked row.reply is out
     (doomed_more config past (row ∷ [])) (ended_more config past (row ∷ []))

@@ -4,7 +4,7 @@ use Rattle.std.proofs.Common.{arith}
 use Rattle.std.proofs.Common.{◌≡◌, ℕ, ◌*◌, true, false, List, [], ◌++◌, refl, sym, subst}
 use Rattle.std.proofs.lemmas.Bool.{false≢true}
 use Rattle.ref_base.proofs.Common.{has, is_there, World, SameOthers, first_world, graph_of}
-use Rattle.ref_base.proofs.Common.{heap_step, replayed, State, first_state, IsRun, Agrees}
+use Rattle.ref_base.proofs.Common.{heap_step, replayed, State, first_state, first_state_of, IsRun, Agrees}
 use Rattle.ref_base.proofs.Common.{MarkEnded, WasDoomed, Config, Row}
 use Rattle.ref_base.specs.MarkEnds.{AreOutOfReach}
 use Rattle.ref_base.proofs.CountedTraces.{legal_counted}
@@ -18,13 +18,13 @@ use Rattle.ref_base.proofs.CarryRows.{nothing_pending}
 use Rattle.ref_base.proofs.OutHeaps.{AreOutBy, AreOut, doomed_in}
 use Rattle.ref_base.proofs.OutRuns.{row_out}
 
-pub first_out : (Dead : ℕ → Type 0) (Shown : ℕ → ℕ → Type 0) (config : Config)
-    → AreOutBy Dead Shown [] (first_state config)
-first_out Dead Shown config = record {
+pub first_out : (Dead : ℕ → Type 0) (Shown : ℕ → ℕ → Type 0) (config : Config) (number : ℕ)
+    → AreOutBy Dead Shown [] (first_state_of config number)
+first_out Dead Shown config number = record {
   closed = record {
     slots = no_slot (λ n. has [] n ≡ false) (16 * config.mutators);
     holds = λ n held. refl;
-    pendings = λ k. nothing_pending (λ p. has [] p.object ≡ false) config.workers k;
+    pendings = λ k. nothing_pending (λ p. has [] p.object ≡ false) config k;
     targets = λ m n is target. refl;
   };
   dead = λ n is_off. absurd (false≢true is_off);
@@ -45,7 +45,7 @@ legal_out config rows b run =
           (row_agrees known.0 (replayed config past) a row b known.1 counted h),
       row_out config past known.0 a row known.1 known.2 b counted h,
     ))
-    ([], first_agrees config, first_out (WasDoomed config []) (MarkEnded config []) config) rows b run
+    ([], first_agrees config 0, first_out (WasDoomed config []) (MarkEnded config []) config 0) rows b run
 
 -- an object of the collector is one of the replay that isn't gone
 pub there_in : (gone : List ℕ) (w : World) (b : State) → Agrees gone w b → (n : ℕ)

@@ -1,10 +1,11 @@
 -- In which phase a row of a heap is accepted.
 use Rattle.std.proofs.Common.{arith}
-use Rattle.std.proofs.Common.{◌≡◌, ℕ, true, [], None, refl}
+use Rattle.std.proofs.Common.{◌≡◌, true, [], None, refl}
 use Rattle.std.proofs.lemmas.Bool.{false≢true}
 use Rattle.ref_base.proofs.Common.{NamedStep, State, joined, heap_refusal, is_in, Phase, Idle}
 use Rattle.ref_base.proofs.Common.{Marking, Clearing, Sweeping}
 use Rattle.ref_base.specs.declared.heap_step.HeapStep.TheVariants as heap
+use Rattle.ref_base.specs.declared.plain_step.PlainStep.TheVariants as plain
 use Rattle.ref_base.proofs.RowForms.{unless_passes}
 
 is_phase : (p q : Phase) → is_in p q ≡ true → p ≡ q
@@ -16,16 +17,16 @@ is_phase p q h = absurd (false≢true h)
 
 -- the phase that the step is of, and what else it asks of the state
 abbrev pub IsOfPhase : State → NamedStep → Type 0
-IsOfPhase a (heap.Begin now how) = a.world.phase ≡ Idle
-IsOfPhase a (heap.Scan k) = a.world.phase ≡ Marking
-IsOfPhase a heap.EndMark = a.world.phase ≡ Marking
-IsOfPhase a (heap.ClearNext k) = a.world.phase ≡ Clearing
-IsOfPhase a heap.EndClear = (a.world.phase ≡ Clearing) × (joined a.found ≡ [])
-IsOfPhase a (heap.Sweep k) = a.world.phase ≡ Sweeping
-IsOfPhase a heap.EndSweep = (a.world.phase ≡ Sweeping) × (a.doomed ≡ [])
+IsOfPhase a (heap.Plain (plain.Begin now how)) = a.world.phase ≡ Idle
+IsOfPhase a (heap.Plain (plain.Scan k)) = a.world.phase ≡ Marking
+IsOfPhase a (heap.Plain plain.EndMark) = a.world.phase ≡ Marking
+IsOfPhase a (heap.Plain (plain.ClearNext k)) = a.world.phase ≡ Clearing
+IsOfPhase a (heap.Plain plain.EndClear) = (a.world.phase ≡ Clearing) × (joined a.found ≡ [])
+IsOfPhase a (heap.Plain (plain.Sweep k)) = a.world.phase ≡ Sweeping
+IsOfPhase a (heap.Plain plain.EndSweep) = (a.world.phase ≡ Sweeping) × (a.doomed ≡ [])
 IsOfPhase a step = Unit {0}
 
-pub of_phase : (heap_no : ℕ) (a : State) (step : NamedStep) → heap_refusal heap_no a step ≡ None → IsOfPhase a step
-of_phase heap_no a (heap.Begin now how) none =
+pub of_phase : (a : State) (step : NamedStep) → heap_refusal a step ≡ None → IsOfPhase a step
+of_phase a (heap.Plain (plain.Begin now how)) none =
     is_phase a.world.phase Idle (unless_passes (is_in a.world.phase Idle) _ _ none).0
-of_phase heap_no a step none = grind (arith, is_phase, unless_passes)
+of_phase a step none = grind (arith, is_phase, unless_passes)

@@ -1,8 +1,15 @@
 -- What holds at each place of a list, after one place is set or the list has grown.
 use Rattle.std.proofs.Common.{◌≡◌, ℕ, zero, suc, ◌<◌, List, [], ◌∷◌, ◌++◌, length, refl, arith}
-use Rattle.std.specs.Prelude.{slice_index_or, slice_set}
+use Rattle.std.specs.Prelude.{slice_index_or, slice_set, replicate}
 use Rattle.std.specs.List.{AllByRecursion}
 use Rattle.std.proofs.lemmas.List.{get_or-set_same, get_or-set_other}
+use Rattle.ref_base.proofs.Common.{rest_of}
+
+-- where there is the same at each place, and at none, it is everywhere
+pub same_at : {X : Type 0} (x : X) (count k : ℕ) → slice_index_or (replicate count x) k x ≡ x
+same_at x zero k = refl
+same_at x (suc count) zero = refl
+same_at x (suc count) (suc k) = same_at x count k
 
 -- what holds of the place that is set, and of each other one before, holds of each place after
 pub set_at : {X : Type 0} (P : ℕ → X → Type 0) (xs : List X) (m : ℕ) (x : X) (d : ℕ → X) → m < length xs → P m x
@@ -23,6 +30,11 @@ pub all_push : {X : Type 0} (P : X → Type 0) (xs : List X) (x : X) → AllByRe
     → AllByRecursion P (xs ++ x ∷ [])
 all_push P [] x all here = (here, tt)
 all_push P (y ∷ ys) x all here = (all.0, all_push P ys x all.1 here)
+
+-- what holds of each holds of the rest
+pub all_rest : {X : Type 0} (P : X → Type 0) (xs : List X) → AllByRecursion P xs → AllByRecursion P (rest_of xs)
+all_rest P [] all = tt
+all_rest P (x ∷ xs) all = all.1
 
 -- the same of what holds at each place in its own way
 pub set_each : {X : Type 0} (P : ℕ → X → Type 0) (xs : List X) (m : ℕ) (x : X) (d : ℕ → X) → P m x

@@ -5,15 +5,16 @@ use Rattle.std.proofs.Common.{◌≡◌, ℕ, Bool, true, ◌==◌, ◌&&◌, if
 use Rattle.std.proofs.Common.{None, refl, sym, ap, ◌∙◌, subst, inl, inr}
 use Rattle.std.specs.List.{AllByRecursion}
 use Rattle.std.proofs.lemmas.Bool.{cases_Bool, eq-eqb, and_from}
-use Rattle.ref_base.proofs.Common.{Object, object_at, registered_in, reference_in}
+use Rattle.ref_base.proofs.Common.{Object, object_at, registered_in, reference_in, reference_at}
 use Rattle.ref_base.proofs.Common.{World, Notice, hand_of, State, first_state}
 use Rattle.ref_base.proofs.Common.{refusal, HeapAccepts, IsAnswer, IsRow, IsRun, registers}
-use Rattle.ref_base.proofs.Common.{is_registered, IsProven, IsProvenIn, Config, Actor, Mutator, Worker, Cause, Own}
+use Rattle.ref_base.proofs.Common.{is_registered, IsProven, Config, Actor, Mutator, Worker, Cause, Own}
 use Rattle.ref_base.proofs.Common.{Cycle, Urgency, Fault, Step, Reply, Row}
 use Rattle.ref_base.specs.Provenance.{has_row, unhooks, clears, cycle_after, cleared_from, IsCause, AreProven}
 use Rattle.ref_base.specs.declared.heap_step.HeapStep.TheVariants as heap
+use Rattle.ref_base.specs.declared.plain_step.PlainStep.TheVariants as plain
 use Rattle.ref_base.specs.declared.step.Step.TheVariants as steps
-use Rattle.ref_base.proofs.CarryLaws.{OfHand, Carries, Lasts}
+use Rattle.ref_base.proofs.CarryLaws.{Carries, Lasts}
 use Rattle.ref_base.proofs.CarryRows.{Mints, row_carries, first_carries, carries_more}
 use Rattle.ref_base.proofs.RunFronts.{legal_holds}
 
@@ -90,7 +91,7 @@ IsMade rows o = (q : ℕ) → registered_in o.reference ≡ Some q → is_regist
 pub made_lasts : (rows : List Row) → Lasts (IsMade rows)
 made_lasts rows = grind arith
 
-pub made_at : (rows : List Row) (os : List Object) (n q : ℕ) → AllByRecursion (IsMade rows) os
+made_at : (rows : List Row) (os : List Object) (n q : ℕ) → AllByRecursion (IsMade rows) os
     → registered_in (reference_in (object_at os n)) ≡ Some q → is_registered rows n q ≡ true
 made_at rows [] n q all there = absurd cc
 made_at rows (o ∷ os) n q all there = grind (arith, made_at rows os n q all.1)
@@ -105,13 +106,19 @@ KnownBut C rows w = Carries (IsMade rows) (IsProven rows) C w
 abbrev pub Known : List Row → World → Type 0
 Known rows w = KnownBut (λ c. cycle_from 0 rows ≡ c) rows w
 
+-- so each reference that is registered was made so by one of these rows, and of more
+pub made_more : (rows more : List Row) (w : World) → Known rows w → (n q : ℕ)
+    → registered_in (reference_at w.heap n) ≡ Some q → is_registered (rows ++ more) n q ≡ true
+made_more rows more w known n q there =
+    registered_more rows more n q (made_at rows w.heap.objects n q known.objects there)
+
 -- no row but a begin changes the cycle
 abbrev pub Stays : ℕ → Step → ℕ → Type 0
-Stays before (steps.Begin now how) c = Unit {0}
+Stays before (steps.Plain (plain.Begin now how)) c = Unit {0}
 Stays before step c = c ≡ before
 
 stays_at : (before : ℕ) (step : Step) → Stays before step before
-stays_at before (steps.Begin now how) = tt
+stays_at before (steps.Plain (plain.Begin now how)) = tt
 stays_at before step = refl
 
 -- what the last row makes anew comes from it
@@ -119,22 +126,23 @@ pub mints : (past : List Row) (a : State) (step : Step) (reply : Reply) → cycl
     → KnownBut (Stays a.world.cycle step) (past ++ record { step = step; reply = reply } ∷ []) a.world
     → Mints (IsMade (past ++ record { step = step; reply = reply } ∷ []))
     (IsProven (past ++ record { step = step; reply = reply } ∷ [])) (Stays a.world.cycle step) a step reply
-mints past a (steps.New m d k) reply cycle known = λ is q there. absurd cc
-mints past a (steps.Refer m strength d s queue k) reply cycle known = grind (arith, registered_is, has_last)
+mints past a (steps.Plain (plain.New m d k)) reply cycle known = λ is q there. absurd cc
+mints past a (steps.Plain (plain.Refer m strength d s queue k)) reply cycle known =
+    grind (arith, registered_is, has_last)
 mints past a (steps.Unhook m s) reply cycle known = grind (arith, made_at, has_last)
-mints past a (steps.Begin now how) reply cycle known = λ is. tt
-mints past a (steps.ClearNext k) reply cycle known = grind (arith, made_at, cleared_last)
+mints past a (steps.Plain (plain.Begin now how)) reply cycle known = λ is. tt
+mints past a (steps.Plain (plain.ClearNext k)) reply cycle known = grind (arith, made_at, cleared_last)
 mints past a step reply cycle known = tt
 
 -- a begin changes the cycle as it says
 pub begun_cycle : (a b : State) (now : ℕ) (how : Urgency) (reply : Reply)
-    → HeapAccepts a (heap.Begin now how) reply b
-    → b.world.cycle ≡ cycle_after a.world.cycle (steps.Begin now how) reply
+    → HeapAccepts a (heap.Plain (plain.Begin now how)) reply b
+    → b.world.cycle ≡ cycle_after a.world.cycle (steps.Plain (plain.Begin now how)) reply
 begun_cycle a b now how reply row = grind arith
 
 answered_cycle : (a b : State) (now : ℕ) (how : Urgency) (reply : Reply) (fault : Option Fault)
-    → IsAnswer a fault (steps.Begin now how) reply b
-    → b.world.cycle ≡ cycle_after a.world.cycle (steps.Begin now how) reply
+    → IsAnswer a fault (steps.Plain (plain.Begin now how)) reply b
+    → b.world.cycle ≡ cycle_after a.world.cycle (steps.Plain (plain.Begin now how)) reply
 answered_cycle a b now how reply (Some fault) row = cc
 answered_cycle a b now how reply None row =
     ap (λ (s : State). s.world.cycle) row.2 ∙ begun_cycle a row.0 now how reply row.1
@@ -142,8 +150,8 @@ answered_cycle a b now how reply None row =
 -- and so each row does
 step_cycle : (a b : State) (step : Step) (reply : Reply) → IsAnswer a (refusal a step) step reply b
     → Stays a.world.cycle step b.world.cycle → b.world.cycle ≡ cycle_after a.world.cycle step reply
-step_cycle a b (steps.Begin now how) reply row stays =
-    answered_cycle a b now how reply (refusal a (steps.Begin now how)) row
+step_cycle a b (steps.Plain (plain.Begin now how)) reply row stays =
+    answered_cycle a b now how reply (refusal a (steps.Plain (plain.Begin now how))) row
 step_cycle a b step reply row stays = stays
 
 pub lifted : (past : List Row) (a : State) (row : Row) → Known past a.world
@@ -167,13 +175,10 @@ row_known past a row b known h =
 
 -- ---- from the first state
 
-in_hand : (rows : List Row) (hand : Option Notice) → OfHand (IsProven rows) hand → IsProvenIn rows hand
-in_hand rows None is = tt
-in_hand rows (Some notice) is = is
-
-hand_known : (rows : List Row) (w : World) (who : Actor) → Known rows w → IsProvenIn rows (hand_of w who)
-hand_known rows w (Mutator m) known = in_hand rows (hand_of w (Mutator m)) (known.of_mutators m)
-hand_known rows w (Worker k) known = in_hand rows (hand_of w (Worker k)) (known.of_workers k)
+hand_known : (rows : List Row) (w : World) (who : Actor) → Known rows w
+    → AllByRecursion (IsProven rows) (hand_of w who)
+hand_known rows w (Mutator m) known = known.of_mutators m
+hand_known rows w (Worker k) known = known.of_workers k
 
 pub legal_known : (config : Config) (rows : List Row) (b : State) → IsRun (first_state config) rows b
     → Known rows b.world

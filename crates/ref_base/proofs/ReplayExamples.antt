@@ -35,7 +35,7 @@ both_were_put_in = refl
 both_were_taken : taken_from 0 two_enqueued_in_order ≡ 2 ∷ 3 ∷ []
 both_were_taken = refl
 
-the_hand_is_empty_again : hand_of enqueued (Mutator 0) ≡ None
+the_hand_is_empty_again : hand_of enqueued (Mutator 0) ≡ []
 the_hand_is_empty_again = refl
 
 -- ---- a death, reported after a cycle
@@ -91,7 +91,7 @@ all_three_were_taken : taken_from 0 two_workers_in_clearing_order ≡ 2 ∷ 6 �
 all_three_were_taken = refl
 
 the_last_notice_is_in_the_hand :
-    hand_of delivered (Mutator 0) ≡ Some (record { object = 4; queue = 0; cause = Cycle 1 1 })
+    hand_of delivered (Mutator 0) ≡ record { object = 4; queue = 0; cause = Cycle 1 1 } ∷ []
 the_last_notice_is_in_the_hand = refl
 
 what_is_held_is_a_root : (graph_of delivered).roots ≡ 2 ∷ 4 ∷ 6 ∷ 4 ∷ []
@@ -117,7 +117,7 @@ abbrev cleared_at_once : World
 cleared_at_once = replayed (config_of 2) cleared_for_every_mutator_at_once
 
 the_programs_notice_comes_too_late :
-    hand_of cleared_at_once (Mutator 0) ≡ Some (record { object = 3; queue = 0; cause = Own })
+    hand_of cleared_at_once (Mutator 0) ≡ record { object = 3; queue = 0; cause = Own } ∷ []
 the_programs_notice_comes_too_late = refl
 
 the_workers_notice_was_put_in : put_into 0 cleared_for_every_mutator_at_once ≡ 3 ∷ []

@@ -11,6 +11,7 @@ use Rattle.ref_base.proofs.Common.{is_added, NamedStep, handed, taking, if_told,
 use Rattle.ref_base.proofs.Common.{put_in, Actor, Mutator, Worker, Step, Reply}
 use Rattle.ref_base.specs.Told.{told_cleared}
 use Rattle.ref_base.specs.declared.heap_step.HeapStep.TheVariants as heap
+use Rattle.ref_base.specs.declared.plain_step.PlainStep.TheVariants as plain
 use Rattle.ref_base.specs.declared.step.Step.TheVariants as steps
 use Rattle.ref_base.proofs.Lookups.{numbers-changed}
 use Rattle.ref_base.proofs.ReplayUnder.{made_number}
@@ -39,15 +40,15 @@ frame_of w = with_heap w (record w.heap { objects = []; slots = []; holds = [] }
 
 -- the step ends no phase
 abbrev pub EndsNoPhase : NamedStep → Type 0
-EndsNoPhase (heap.Begin now how) = ⊥
-EndsNoPhase heap.EndMark = ⊥
-EndsNoPhase heap.EndClear = ⊥
-EndsNoPhase heap.EndSweep = ⊥
+EndsNoPhase (heap.Plain (plain.Begin now how)) = ⊥
+EndsNoPhase (heap.Plain plain.EndMark) = ⊥
+EndsNoPhase (heap.Plain plain.EndClear) = ⊥
+EndsNoPhase (heap.Plain plain.EndSweep) = ⊥
 EndsNoPhase step = Unit {0}
 
 -- the step neither clears for a worker nor hands on
 abbrev pub PendsNone : NamedStep → Type 0
-PendsNone (heap.ClearNext k) = ⊥
+PendsNone (heap.Plain (plain.ClearNext k)) = ⊥
 PendsNone (heap.Hand k) = ⊥
 PendsNone step = Unit {0}
 
@@ -65,8 +66,8 @@ frame_got w m d s (Some n) = frame_changed w (slot_at w.heap m s) (with_referenc
 
 pub same_frame : (w : World) (step : NamedStep) (reply : Reply) → EndsNoPhase step → PendsNone step
     → frame_of (after_heap w step reply) ≡ frame_of w
-same_frame w heap.EndMark reply plain calm = absurd plain
-same_frame w step reply plain calm =
+same_frame w (heap.Plain plain.EndMark) reply no_end calm = absurd no_end
+same_frame w step reply no_end calm =
     search (
       told_keeps frame_of,
       done_keeps frame_of,
@@ -74,7 +75,7 @@ same_frame w step reply plain calm =
       frame_changed,
       frame_cut,
       frame_got,
-      plain,
+      no_end,
       calm,
       refl,
     )
@@ -89,18 +90,18 @@ stage_pended w k n (Some q) = refl
 
 pub same_stage : (w : World) (step : NamedStep) (reply : Reply) → EndsNoPhase step
     → stage_of (after_heap w step reply) ≡ stage_of w
-same_stage w (heap.Begin now how) reply plain = absurd plain
-same_stage w heap.EndMark reply plain = absurd plain
-same_stage w heap.EndClear reply plain = absurd plain
-same_stage w heap.EndSweep reply plain = absurd plain
-same_stage w (heap.ClearNext k) reply plain = grind arith
-same_stage w (heap.Hand k) reply plain = told_keeps stage_of (told_notice reply) _ w (λ notice. refl)
-same_stage w step reply plain =
-    ap (λ (v : World). record v { pending = [] }) (same_frame w step reply plain tt)
+same_stage w (heap.Plain (plain.Begin now how)) reply no_end = absurd no_end
+same_stage w (heap.Plain plain.EndMark) reply no_end = absurd no_end
+same_stage w (heap.Plain plain.EndClear) reply no_end = absurd no_end
+same_stage w (heap.Plain plain.EndSweep) reply no_end = absurd no_end
+same_stage w (heap.Plain (plain.ClearNext k)) reply no_end = grind arith
+same_stage w (heap.Hand k) reply no_end = told_keeps stage_of (told_notice reply) _ w (λ notice. refl)
+same_stage w step reply no_end =
+    ap (λ (v : World). record v { pending = [] }) (same_frame w step reply no_end tt)
 
 pub same_phase : (w : World) (step : NamedStep) (reply : Reply) → EndsNoPhase step
     → (after_heap w step reply).phase ≡ w.phase
-same_phase w step reply plain = ap (λ (v : World). v.phase) (same_stage w step reply plain)
+same_phase w step reply no_end = ap (λ (v : World). v.phase) (same_stage w step reply no_end)
 
 -- ---- the numbers of objects
 
@@ -131,17 +132,17 @@ numbers_made w (Some n) change pushes = pushes n
 
 -- the step makes no object
 abbrev pub MakesNone : NamedStep → Type 0
-MakesNone (heap.New m d k) = ⊥
-MakesNone (heap.Refer m strength d s q k) = ⊥
+MakesNone (heap.Plain (plain.New m d k)) = ⊥
+MakesNone (heap.Plain (plain.Refer m strength d s q k)) = ⊥
 MakesNone step = Unit {0}
 
 pub numbers_same : (w : World) (step : NamedStep) (reply : Reply) → MakesNone step
     → numbers_of (after_heap w step reply) ≡ numbers_of w
-numbers_same w (heap.ClearNext k) reply plain =
+numbers_same w (heap.Plain (plain.ClearNext k)) reply no_end =
     told_keeps numbers_of (told_cleared reply) _ w
     (λ n. numbers_pended _ k n (registered_in (reference_at w.heap n))
     ∙ numbers_in w (Some n) (with_reference cleared) (λ o. refl))
-numbers_same w step reply plain =
+numbers_same w step reply no_end =
     search (
       told_keeps numbers_of,
       done_keeps numbers_of,
@@ -149,15 +150,15 @@ numbers_same w step reply plain =
       numbers_in,
       numbers_cut,
       numbers_got,
-      plain,
+      no_end,
       refl,
     )
 
 pub numbers_after : (w : World) (step : NamedStep) (reply : Reply)
     → numbers_of (after_heap w step reply) ≡ numbers_of w ++ if_any (made_number step reply)
-numbers_after w (heap.New m d k) reply =
+numbers_after w (heap.Plain (plain.New m d k)) reply =
     numbers_made w (told_object reply) _ (λ n. map-append (λ o. o.no) w.heap.objects (plain_object n (nulls k) ∷ []))
-numbers_after w (heap.Refer m strength d s q k) reply = search (numbers_made, map-append)
+numbers_after w (heap.Plain (plain.Refer m strength d s q k)) reply = search (numbers_made, map-append)
 numbers_after w step reply = numbers_same w step reply tt ∙ sym (append-nil (numbers_of w))
 
 -- ---- hands and queues
@@ -166,25 +167,25 @@ numbers_after w step reply = numbers_same w step reply tt ∙ sym (append-nil (n
 abbrev pub but_hands : World → World
 but_hands w = record w { mutator_hands = []; worker_hands = []; queues = [] }
 
-hand_keeps : (w : World) (who : Actor) (hand : Option Notice) → but_hands (with_hand w who hand) ≡ but_hands w
+hand_keeps : (w : World) (who : Actor) (hand : List Notice) → but_hands (with_hand w who hand) ≡ but_hands w
 hand_keeps w (Mutator m) hand = refl
 hand_keeps w (Worker k) hand = refl
 
 taking_keeps : (w : World) (who : Actor) (told : Option Notice) → but_hands (taking w who told) ≡ but_hands w
 taking_keeps w who None = refl
-taking_keeps w who (Some notice) = hand_keeps w who (Some notice)
+taking_keeps w who (Some notice) = hand_keeps w who (notice ∷ [])
 
 pub handed_keeps : (w : World) (step : Step) (reply : Reply) → but_hands (handed w step reply) ≡ but_hands w
 handed_keeps w (steps.Unhook m s) reply = taking_keeps w (Mutator m) (told_notice reply)
 handed_keeps w (steps.Hand k) reply = taking_keeps w (Worker k) (told_notice reply)
 handed_keeps w (steps.Adopt m d) reply = done_keeps but_hands (is_some (told_object reply)) _ w refl
-handed_keeps w (steps.Release who) reply = done_keeps but_hands (is_done reply) _ w (hand_keeps w who None)
+handed_keeps w (steps.Release who) reply = done_keeps but_hands (is_done reply) _ w (hand_keeps w who _)
 handed_keeps w step reply = refl
 
-put_keeps : (w : World) (who : Actor) (hand : Option Notice) → but_hands (put_in w who hand) ≡ but_hands w
-put_keeps w who None = refl
-put_keeps w (Mutator m) (Some notice) = refl
-put_keeps w (Worker k) (Some notice) = refl
+put_keeps : (w : World) (who : Actor) (hand : List Notice) → but_hands (put_in w who hand) ≡ but_hands w
+put_keeps w who [] = refl
+put_keeps w (Mutator m) (notice ∷ rest) = refl
+put_keeps w (Worker k) (notice ∷ rest) = refl
 
 pub queues_keep : (w : World) (step : Step) (reply : Reply) → but_hands (after_queues w step reply) ≡ but_hands w
 queues_keep w (steps.Put who) reply = done_keeps but_hands (is_added reply) _ w (put_keeps w who (hand_of w who))

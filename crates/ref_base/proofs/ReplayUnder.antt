@@ -1,23 +1,30 @@
 -- Each row of the replay goes through where some objects are gone and some references read as cleared.
 use Rattle.std.proofs.Common.{arith}
-use Rattle.std.proofs.Common.{◌≡◌, ℕ, Bool, true, false, if◌then◌else◌, List, Option, Some, None, refl, ap}
+use Rattle.std.proofs.Common.{◌≡◌, ℕ, Bool, true, false, if◌then◌else◌, List, [], ◌∷◌, Option, Some, None, refl, ap}
 use Rattle.std.proofs.Common.{is_some}
 use Rattle.ref_base.proofs.Common.{stored, has, Object, slot_at, got, cut}
 use Rattle.ref_base.proofs.Common.{made, with_hold, changed_in, with_reference, cleared}
 use Rattle.ref_base.proofs.Common.{with_field, World, Notice, with_heap, with_hand, told_object, is_done}
 use Rattle.ref_base.proofs.Common.{told_notice, is_mark_end, told_taken, NamedStep, heap_step, handed, taking}
+use Rattle.ref_base.proofs.Common.{with_rest}
 use Rattle.ref_base.proofs.Common.{if_told, after_heap, after_queues, put_in, under, heap_under, Actor, Mutator, Worker}
 use Rattle.ref_base.proofs.Common.{Step, Reply}
 use Rattle.ref_base.specs.declared.heap_step.HeapStep.TheVariants as heap
+use Rattle.ref_base.specs.declared.plain_step.PlainStep.TheVariants as plain
 use Rattle.ref_base.specs.declared.step.Step.TheVariants as steps
 use Rattle.ref_base.proofs.ShownObjects.{cleared_got}
 use Rattle.ref_base.proofs.SeenObjects.{heap_changed, seen_push}
 
 -- the number of what a row made
 abbrev pub made_number : NamedStep → Reply → Option ℕ
-made_number (heap.New m d k) reply = told_object reply
-made_number (heap.Refer m strength d s q k) reply = told_object reply
+made_number (heap.Plain (plain.New m d k)) reply = told_object reply
+made_number (heap.Plain (plain.Refer m strength d s q k)) reply = told_object reply
 made_number step reply = None
+
+-- the step isn't a worker's look at a reference
+abbrev pub IsNoLook : NamedStep → Type 0
+IsNoLook (heap.Plain (plain.ClearNext k)) = ⊥
+IsNoLook step = Unit {0}
 
 -- ---- where some objects are gone and some references read as cleared
 
@@ -82,23 +89,18 @@ module _ (gone : List ℕ) (these : ℕ → Bool) where
   unhooked_under w m s true told = ap (with_heap w) (cuts w m s)
   unhooked_under w m s false told = search (told_under, cuts)
 
-  -- the step isn't a worker's look at a reference
-  abbrev pub IsNoLook : NamedStep → Type 0
-  IsNoLook (heap.ClearNext k) = ⊥
-  IsNoLook step = Unit {0}
-
   -- a row of a heap goes through, where what it makes is neither gone nor one of these
   pub heap_through : (w : World) (step : NamedStep) (reply : Reply) → IsNoLook step → IsApart (made_number step reply)
       → after_heap (under gone these w) step reply ≡ under gone these (after_heap w step reply)
-  heap_through w (heap.New m d k) reply plain apart = grind (arith, made_under w m d)
-  heap_through w (heap.Refer m strength d s q k) reply plain apart = grind (arith, made_under w m d)
-  heap_through w heap.EndMark reply plain apart = done_under (is_mark_end reply) _ _ w refl
-  heap_through w step reply plain apart =
-      search (told_under, done_under, unhooked_under, stores_under, cuts_under, gets_under, plain, refl)
+  heap_through w (heap.Plain (plain.New m d k)) reply no_end apart = grind (arith, made_under w m d)
+  heap_through w (heap.Plain (plain.Refer m strength d s q k)) reply no_end apart = grind (arith, made_under w m d)
+  heap_through w (heap.Plain plain.EndMark) reply no_end apart = done_under (is_mark_end reply) _ _ w refl
+  heap_through w step reply no_end apart =
+      search (told_under, done_under, unhooked_under, stores_under, cuts_under, gets_under, no_end, refl)
 
   -- ---- hands and queues
 
-  hand_under : (w : World) (who : Actor) (hand : Option Notice)
+  hand_under : (w : World) (who : Actor) (hand : List Notice)
       → with_hand (under gone these w) who hand ≡ under gone these (with_hand w who hand)
   hand_under w (Mutator m) hand = refl
   hand_under w (Worker k) hand = refl
@@ -106,7 +108,11 @@ module _ (gone : List ℕ) (these : ℕ → Bool) where
   taking_under : (w : World) (who : Actor) (told : Option Notice)
       → taking (under gone these w) who told ≡ under gone these (taking w who told)
   taking_under w who None = refl
-  taking_under w who (Some notice) = hand_under w who (Some notice)
+  taking_under w who (Some notice) = hand_under w who (notice ∷ [])
+
+  rest_under : (w : World) (who : Actor) → with_rest (under gone these w) who ≡ under gone these (with_rest w who)
+  rest_under w (Mutator m) = refl
+  rest_under w (Worker k) = refl
 
   -- what a row leaves in the hands goes through
   pub handed_through : (w : World) (step : Step) (reply : Reply)
@@ -114,14 +120,14 @@ module _ (gone : List ℕ) (these : ℕ → Bool) where
   handed_through w (steps.Unhook m s) reply = taking_under w (Mutator m) (told_notice reply)
   handed_through w (steps.Hand k) reply = taking_under w (Worker k) (told_notice reply)
   handed_through w (steps.Adopt m d) reply = done_under (is_some (told_object reply)) _ _ w refl
-  handed_through w (steps.Release who) reply = done_under (is_done reply) _ _ w (hand_under w who None)
+  handed_through w (steps.Release who) reply = done_under (is_done reply) _ _ w (rest_under w who)
   handed_through w step reply = refl
 
-  put_under : (w : World) (who : Actor) (hand : Option Notice)
+  put_under : (w : World) (who : Actor) (hand : List Notice)
       → put_in (under gone these w) who hand ≡ under gone these (put_in w who hand)
-  put_under w who None = refl
-  put_under w (Mutator m) (Some notice) = refl
-  put_under w (Worker k) (Some notice) = refl
+  put_under w who [] = refl
+  put_under w (Mutator m) (notice ∷ rest) = refl
+  put_under w (Worker k) (notice ∷ rest) = refl
 
   -- so does a row of queues
   pub queues_through : (w : World) (step : Step) (reply : Reply)
@@ -135,5 +141,5 @@ module _ (gone : List ℕ) (these : ℕ → Bool) where
   pub asks_same : (w : World) (step : Step) → heap_step (under gone these w) step ≡ heap_step w step
   asks_same w (steps.Release (Mutator m)) = refl
   asks_same w (steps.Release (Worker k)) = refl
-  asks_same w (steps.New m d k) = refl
+  asks_same w (steps.Plain (plain.New m d k)) = refl
   asks_same w step = refl

@@ -12,6 +12,7 @@ use Rattle.ref_base.proofs.Common.{held_refusal, hand_refusal, heap_refusal, Fau
 use Rattle.ref_base.proofs.Common.{NoSuchActor, NotAReference}
 use Rattle.ref_base.specs.Refusals.{new_refusal, refer_refusal}
 use Rattle.ref_base.specs.declared.heap_step.HeapStep.TheVariants as heap
+use Rattle.ref_base.specs.declared.plain_step.PlainStep.TheVariants as plain
 
 -- each object keeps its number, how many fields it has, whether it is a reference, and that one's queue
 pub record KeepsShape (g : Object → Object) : Type 0 where
@@ -95,10 +96,10 @@ module _ (g : Object → Object) (keeps : KeepsShape g) where
     hand-reshaped (p ∷ ps) = refl
 
   -- no step's refusal changes
-  pub same_refusal : (heap_no : ℕ) (a : State) (step : NamedStep)
-      → heap_refusal heap_no (on_heap a (reshaped g a.world.heap)) step ≡ heap_refusal heap_no a step
-  same_refusal heap_no a (heap.New m d k) = new-reshaped a.world.heap a.next m d k
-  same_refusal heap_no a (heap.Refer m strength d s q k) = refer-reshaped a.world.heap a.next m d s q k
-  same_refusal heap_no a step =
+  pub same_refusal : (a : State) (step : NamedStep)
+      → heap_refusal (on_heap a (reshaped g a.world.heap)) step ≡ heap_refusal a step
+  same_refusal a (heap.Plain (plain.New m d k)) = new-reshaped a.world.heap a.next m d k
+  same_refusal a (heap.Plain (plain.Refer m strength d s q k)) = refer-reshaped a.world.heap a.next m d s q k
+  same_refusal a step =
       search
       (later_same, field-reshaped, reference-reshaped, unhook-reshaped, held-reshaped, hand-reshaped, refl)

@@ -1,18 +1,19 @@
 -- How a row of a heap is accepted or refused.
-use Rattle.std.proofs.Common.{◌≡◌, ℕ, Bool, true, false, refl, sym, ap, subst, Option, Some, None, inl, inr}
+use Rattle.std.proofs.Common.{◌≡◌, Bool, true, false, refl, sym, ap, subst, Option, Some, None, inl, inr}
 use Rattle.std.proofs.lemmas.Bool.{cases_Bool}
 use Rattle.ref_base.proofs.Common.{heap_refusal, unless, NamedStep, State, IsHeapRow, IsHeapAnswer, HeapAccepts, Fault}
-use Rattle.ref_base.proofs.Common.{Reply, IsBut, ticked, is_in, Marking}
+use Rattle.ref_base.proofs.Common.{Reply, ticked, is_in, Marking}
 use Rattle.ref_base.specs.declared.heap_step.HeapStep.TheVariants as heap
+use Rattle.ref_base.specs.declared.plain_step.PlainStep.TheVariants as plain
 use Rattle.ref_base.specs.declared.reply.Reply.TheVariants as replies
 
-pub accepted_row : (heap_no : ℕ) (a : State) (step : NamedStep) (reply : Reply) (b : State)
-    → heap_refusal heap_no a step ≡ None → HeapAccepts a step reply b → IsHeapRow heap_no a step reply b
-accepted_row heap_no a step reply b none accepted = subst (λ o. IsHeapAnswer a o step reply b) (sym none) accepted
+pub accepted_row : (a : State) (step : NamedStep) (reply : Reply) (b : State)
+    → heap_refusal a step ≡ None → HeapAccepts a step reply b → IsHeapRow a step reply b
+accepted_row a step reply b none accepted = subst (λ o. IsHeapAnswer a o step reply b) (sym none) accepted
 
-pub refused_row : (heap_no : ℕ) (a : State) (step : NamedStep) (fault : Fault)
-    → heap_refusal heap_no a step ≡ Some fault → IsHeapRow heap_no a step (replies.Refused fault) a
-refused_row heap_no a step fault refused =
+pub refused_row : (a : State) (step : NamedStep) (fault : Fault)
+    → heap_refusal a step ≡ Some fault → IsHeapRow a step (replies.Refused fault) a
+refused_row a step fault refused =
     subst (λ o. IsHeapAnswer a o step (replies.Refused fault) a) (sym refused) (refl, refl)
 
 -- where nothing is refused, the test holds, and what comes later isn't refused either
@@ -26,10 +27,7 @@ pub ticked_world : (c : State) → (ticked c).world ≡ c.world
 ticked_world c =
     elim (cases_Bool (is_in c.world.phase Marking)) [ inl marks ↦ simp marks refl | inr other ↦ simp other refl ]
 
-pub but_world : (c b : State) → IsBut c b → b.world ≡ c.world
-but_world c b but = ap (λ (s : State). s.world) but.1
-
 -- what a step asks of its heap, where it asks anything
 abbrev pub asked_of : Option NamedStep → NamedStep
-asked_of None = heap.EndMark
+asked_of None = heap.Plain plain.EndMark
 asked_of (Some asked) = asked

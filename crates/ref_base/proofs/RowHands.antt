@@ -8,9 +8,9 @@ use Rattle.ref_base.proofs.Common.{AcceptsAsking, Accepts, IsAnswer, Unhooks, Ha
 use Rattle.ref_base.proofs.Common.{Fault, Step, Reply}
 use Rattle.ref_base.specs.declared.step.Step.TheVariants as steps
 use Rattle.ref_base.specs.declared.reply.Reply.TheVariants as replies
-use Rattle.ref_base.proofs.CarryLaws.{OfHand}
+use Rattle.ref_base.proofs.CarryLaws.{OfTold}
 use Rattle.ref_base.proofs.RowKinds.{queues_become}
-use Rattle.ref_base.proofs.MovedParts.{heap_others}
+use Rattle.ref_base.proofs.OutcomeParts.{heap_others}
 
 -- the world with the hands and queues that the row leaves
 abbrev pub others_after : World → Step → Reply → World
@@ -41,22 +41,22 @@ row_hands a b step reply None row = accepted_hands a b step reply row
 -- ---- what a row gives
 
 -- what holds of what an answer tells holds of what the reply tells
-told_by : (P : Notice → Type 0) (answer reply : Reply) → reply ≡ answer → OfHand P (told_notice answer)
-    → OfHand P (told_notice reply)
-told_by P answer reply is holds = subst (λ (r : Reply). OfHand P (told_notice r)) (sym is) holds
+told_by : (P : Notice → Type 0) (answer reply : Reply) → reply ≡ answer → OfTold P (told_notice answer)
+    → OfTold P (told_notice reply)
+told_by P answer reply is holds = subst (λ (r : Reply). OfTold P (told_notice r)) (sym is) holds
 
 abbrev pub IsOwn : Notice → Type 0
 IsOwn notice = notice.cause ≡ Own
 
 unhooked : (a c : State) (m s : ℕ) (held queue : Option ℕ) (reply : Reply) → Unhooks a m s held queue reply c
-    → OfHand IsOwn (told_notice reply)
+    → OfTold IsOwn (told_notice reply)
 unhooked a c m s None queue reply row = told_by IsOwn replies.Nothing reply row.0 tt
 unhooked a c m s (Some n) None reply row = told_by IsOwn replies.Nothing reply row.0 tt
 unhooked a c m s (Some n) (Some q) reply row = told_by IsOwn (replies.Notice n q Own) reply row.0 refl
 
 -- what an unhook gives is of the reference's own call
 pub unhook_tells : (a b : State) (m s : ℕ) (reply : Reply) (fault : Option Fault)
-    → IsAnswer a fault (steps.Unhook m s) reply b → OfHand IsOwn (told_notice reply)
+    → IsAnswer a fault (steps.Unhook m s) reply b → OfTold IsOwn (told_notice reply)
 unhook_tells a b m s reply (Some fault) row = told_by IsOwn (replies.Refused fault) reply row.0 tt
 unhook_tells a b m s reply None row = unhooked a row.0 m s _ _ reply row.1
 
@@ -64,13 +64,13 @@ abbrev pub IsBy : ℕ → Notice → Type 0
 IsBy k notice = is_by k notice.cause ≡ true
 
 handed_on : (a c : State) (k : ℕ) (ps : List Pending) (reply : Reply) → HandsOn a k ps reply c
-    → OfHand (IsBy k) (told_notice reply)
+    → OfTold (IsBy k) (told_notice reply)
 handed_on a c k [] reply row = told_by (IsBy k) replies.Nothing reply row.0 tt
 handed_on a c k (p ∷ ps) reply row =
     told_by (IsBy k) (replies.Notice p.object p.queue (Cycle p.cycle k)) reply row.0 (eq-eqb k k refl)
 
 -- what a worker hands on is of its own clearing
 pub hand_tells : (a b : State) (k : ℕ) (reply : Reply) (fault : Option Fault)
-    → IsAnswer a fault (steps.Hand k) reply b → OfHand (IsBy k) (told_notice reply)
+    → IsAnswer a fault (steps.Hand k) reply b → OfTold (IsBy k) (told_notice reply)
 hand_tells a b k reply (Some fault) row = told_by (IsBy k) (replies.Refused fault) reply row.0 tt
 hand_tells a b k reply None row = handed_on a row.0 k (pending_of a.world k) reply row.1

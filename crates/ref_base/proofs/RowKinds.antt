@@ -11,9 +11,10 @@ use Rattle.ref_base.proofs.Common.{Reply, Row}
 use Rattle.ref_base.specs.declared.heap_step.HeapStep.TheVariants as heap
 use Rattle.ref_base.specs.declared.step.Step.TheVariants as steps
 use Rattle.ref_base.specs.declared.reply.Reply.TheVariants as replies
+use Rattle.std.proofs.lemmas.Bool.{eq-eqb}
 use Rattle.ref_base.proofs.RowForms.{unless_passes}
 use Rattle.ref_base.proofs.CountedWorlds.{holding_hand, counted_hand}
-use Rattle.ref_base.proofs.HeapMoves.{Becomes, settled, settled_becomes}
+use Rattle.ref_base.proofs.Outcomes.{Becomes, settled, settled_becomes}
 
 pub record IsRefused (a : State) (row : Row) (b : State) : Type 0 where
   pub fault : Fault
@@ -32,7 +33,7 @@ queues_lead of = settled_becomes _ _ of.becomes
 pub record IsOfHeap (a : State) (row : Row) (b : State) : Type 0 where
   pub asked : NamedStep
   pub asks : heap_step a.world row.step ≡ Some asked
-  pub passes : heap_refusal 0 a asked ≡ None
+  pub passes : heap_refusal a asked ≡ None
   pub left : State
   pub accepts : HeapAccepts a asked row.reply left
   pub after : b ≡ with_handed left row.step row.reply
@@ -40,15 +41,15 @@ pub record IsOfHeap (a : State) (row : Row) (b : State) : Type 0 where
 -- ---- what the world doesn't refuse its heap doesn't either
 
 -- a hand's notice is a hold that the heap counts
-spent_passes : (a : State) (who : Actor) (step : HoldName → NamedStep) (hand : Option Notice) (asked : NamedStep)
-    → AreCounted a.world → hand_of a.world who ≡ hand → spending step hand ≡ Some asked
-    → ((hold : HoldName) → is_counted 0 a.world.heap hold ≡ true → heap_refusal 0 a (step hold) ≡ None)
-    → heap_refusal 0 a asked ≡ None
-spent_passes a who step None asked counted is asks passes = absurd cc
-spent_passes a who step (Some notice) asked counted is asks passes = grind (arith, counted_hand, holding_hand)
+spent_passes : (a : State) (who : Actor) (step : HoldName → NamedStep) (hand : List Notice) (asked : NamedStep)
+    → AreCounted a.world → hand_of a.world who ≡ hand → spending a.world step hand ≡ Some asked
+    → ((hold : HoldName) → is_counted a.world.heap hold ≡ true → heap_refusal a (step hold) ≡ None)
+    → heap_refusal a asked ≡ None
+spent_passes a who step [] asked counted is asks passes = absurd cc
+spent_passes a who step (notice ∷ rest) asked counted is asks passes = grind (arith, eq-eqb, counted_hand, holding_hand)
 
 heap_passes : (a : State) (step : Step) (asked : NamedStep) → AreCounted a.world → heap_step a.world step ≡ Some asked
-    → refusal a step ≡ None → heap_refusal 0 a asked ≡ None
+    → refusal a step ≡ None → heap_refusal a asked ≡ None
 heap_passes a (steps.Adopt m d) asked counted asks none =
     let first = unless_passes (has_slot a.world.heap m d) _ _ none in
     let there : has_slot a.world.heap m d ≡ true = first.0 in
@@ -65,17 +66,17 @@ given : (a c b : State) (step : Step) (answer reply : Reply) → Gives answer c 
     → c ≡ with_world a (after_queues a.world step answer) → LeadsQueues a step reply b
 given a c b step answer reply row leads = grind arith
 
-puts_into : (a b : State) (who : Actor) (notice : Notice) (again shut : Bool) (reply : Reply)
-    → hand_of a.world who ≡ Some notice → PutsInto again shut a who notice reply b
+puts_into : (a b : State) (who : Actor) (notice : Notice) (rest : List Notice) (again shut : Bool) (reply : Reply)
+    → hand_of a.world who ≡ notice ∷ rest → PutsInto again shut a who notice rest reply b
     → LeadsQueues a (steps.Put who) reply b
-puts_into a b who notice true shut reply is row = given a a b (steps.Put who) replies.Already reply row refl
-puts_into a b who notice false true reply is row = given a a b (steps.Put who) replies.Closed reply row refl
-puts_into a b who notice false false reply is row = grind arith
+puts_into a b who notice rest true shut reply is row = given a a b (steps.Put who) replies.Already reply row refl
+puts_into a b who notice rest false true reply is row = given a a b (steps.Put who) replies.Closed reply row refl
+puts_into a b who notice rest false false reply is row = grind arith
 
-puts : (a b : State) (who : Actor) (hand : Option Notice) (reply : Reply) → hand_of a.world who ≡ hand
+puts : (a b : State) (who : Actor) (hand : List Notice) (reply : Reply) → hand_of a.world who ≡ hand
     → Puts a who hand reply b → LeadsQueues a (steps.Put who) reply b
-puts a b who None reply is row = absurd row
-puts a b who (Some notice) reply is row = puts_into a b who notice _ _ reply is row
+puts a b who [] reply is row = absurd row
+puts a b who (notice ∷ rest) reply is row = puts_into a b who notice rest _ _ reply is row
 
 polls_none : (a b : State) (m q : ℕ) (shut : Bool) (reply : Reply)
     → Gives (if shut then replies.Closed else replies.Empty) a reply b → LeadsQueues a (steps.Poll m q) reply b

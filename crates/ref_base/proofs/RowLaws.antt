@@ -11,15 +11,19 @@ use Rattle.ref_base.proofs.Common.{is_actor, has_slot, with_handed, Gives, HeapA
 use Rattle.ref_base.proofs.Common.{Accepts, AcceptsAsking, IsAnswer, IsRow, Unhooks, PutsInto, Puts, Polls, Closes}
 use Rattle.ref_base.proofs.Common.{HandsOn, Fault, NoMemory, Own, Cycle, Actor, Mutator, Worker, Step, Reply, Row}
 use Rattle.ref_base.specs.declared.heap_step.HeapStep.TheVariants as heap
+use Rattle.ref_base.specs.declared.plain_step.PlainStep.TheVariants as plain
 use Rattle.ref_base.specs.declared.step.Step.TheVariants as steps
 use Rattle.ref_base.specs.declared.reply.Reply.TheVariants as replies
 use Rattle.ref_base.proofs.CarryHeaps.{Anew, heap_carries}
-use Rattle.ref_base.proofs.MovedParts.{heap_others, heap_config}
-use Rattle.ref_base.proofs.Common.{heap_step}
+use Rattle.ref_base.proofs.CarryLaws.{AnyCycle}
+use Rattle.ref_base.proofs.OutcomeParts.{heap_others, heap_config}
+use Rattle.ref_base.proofs.Common.{heap_step, rest_of, with_rest, with_held_rest}
+use Rattle.ref_base.proofs.Places.{all_rest}
 use Rattle.ref_base.proofs.RowForms.{asked_of, unless_passes}
-use Rattle.ref_base.proofs.SoundWorlds.{QueueBelow, ObjectBelow, PendingBelow, IsBelow, HasHand, IsSound, AnyCycle}
+use Rattle.ref_base.proofs.SoundWorlds.{QueueBelow, ObjectBelow, PendingBelow, IsBelow, HasHand, IsSound}
 use Rattle.ref_base.proofs.SoundWorlds.{below_lasts, names_below, sound_again, registered_below, held_below}
-use Rattle.ref_base.proofs.QueueLaws.{as_held, move_by, no_move, Goes, IsStill, same, stays, sets_hand, goes_after}
+use Rattle.ref_base.proofs.QueueLaws.{as_held, held_of, rest_held, queue_change_by, no_queue_change, Goes, IsStill}
+use Rattle.ref_base.proofs.QueueLaws.{same, stays, sets_hand, goes_after}
 use Rattle.ref_base.proofs.QueueLaws.{put_goes, close_goes, poll_goes}
 
 -- ---- the rows of a heap
@@ -31,16 +35,16 @@ pub record Keeps (a b : World) : Type 0 where
 
 -- what is made is registered with a queue of the configuration
 abbrev pub IsRegistered : State → NamedStep → Type 0
-IsRegistered a (heap.Refer m strength d s q k) = QueueBelow a.world.heap.config.queues q
+IsRegistered a (heap.Plain (plain.Refer m strength d s q k)) = QueueBelow a.world.heap.config.queues q
 IsRegistered a step = Unit {0}
 
 -- so what a row makes anew names no queue that isn't there
 below_anew : (a : State) (step : NamedStep) (reply : Reply) → IsRegistered a step → IsSound a.world
     → Anew (ObjectBelow a.world.heap.config.queues) (IsBelow a.world.heap.config.queues) AnyCycle a step reply
-below_anew a (heap.New m d k) reply is sound = λ told. tt
-below_anew a (heap.Refer m strength d s q k) reply is sound = λ told. is
-below_anew a (heap.Begin now how) reply is sound = λ told. tt
-below_anew a (heap.ClearNext k) reply is sound =
+below_anew a (heap.Plain (plain.New m d k)) reply is sound = λ told. tt
+below_anew a (heap.Plain (plain.Refer m strength d s q k)) reply is sound = λ told. is
+below_anew a (heap.Plain (plain.Begin now how)) reply is sound = λ told. tt
+below_anew a (heap.Plain (plain.ClearNext k)) reply is sound =
     λ n q told there. subst (QueueBelow a.world.heap.config.queues) there (registered_below a.world n sound)
 below_anew a step reply is sound = tt
 
@@ -60,7 +64,7 @@ heap_keeps a b step reply is row =
 -- ---- refusals
 
 refused_is_still : (step : Step) (fault : Fault) → IsStill step (replies.Refused fault)
-refused_is_still (steps.New m d k) fault hands q = refl
+refused_is_still (steps.Plain (plain.New m d k)) fault hands q = refl
 refused_is_still step fault hands q = refl
 
 refused_goes : (a b : State) (step : Step) (fault : Fault) (reply : Reply) → IsSound a.world
@@ -74,26 +78,26 @@ given : (a c b : State) (step : Step) (answer reply : Reply) → Gives answer c 
     → Goes a.world c.world step answer → Goes a.world b.world step reply
 given a c b step answer reply gives goes = grind arith
 
-put_into_goes : (a b : State) (who : Actor) (notice : Notice) (again shut : Bool) (reply : Reply) → IsSound a.world
-    → HasHand a.world who → hand_of a.world who ≡ Some notice
+put_into_goes : (a b : State) (who : Actor) (notice : Notice) (rest : List Notice) (again shut : Bool) (reply : Reply)
+    → IsSound a.world → HasHand a.world who → hand_of a.world who ≡ notice ∷ rest
     → was_put object_of (queue_at a.world notice.queue) notice ≡ again
     → (queue_at a.world notice.queue).closed ≡ shut
-    → PutsInto again shut a who notice reply b → Goes a.world b.world (steps.Put who) reply
-put_into_goes a b who notice true shut reply sound has hand again_is shut_is gives = search (given, stays)
-put_into_goes a b who notice false true reply sound has hand again_is shut_is gives = search (given, stays)
-put_into_goes a b who notice false false reply sound has hand again_is shut_is gives =
+    → PutsInto again shut a who notice rest reply b → Goes a.world b.world (steps.Put who) reply
+put_into_goes a b who notice rest true shut reply sound has hand again_is shut_is gives = search (given, stays)
+put_into_goes a b who notice rest false true reply sound has hand again_is shut_is gives = search (given, stays)
+put_into_goes a b who notice rest false false reply sound has hand again_is shut_is gives =
     elim gives [
       | inl added ↦ given a _ b (steps.Put who) (replies.Added _) reply added
-          (put_goes a.world who _ notice sound has hand again_is shut_is)
+          (put_goes a.world who _ notice rest sound has hand again_is shut_is)
       | inr refused ↦ refused_goes a b (steps.Put who) NoMemory reply sound refused
     ]
 
-put_hand_goes : (a b : State) (who : Actor) (hand : Option Notice) (reply : Reply) → IsSound a.world
+put_hand_goes : (a b : State) (who : Actor) (hand : List Notice) (reply : Reply) → IsSound a.world
     → HasHand a.world who → hand_of a.world who ≡ hand → Puts a who hand reply b
     → Goes a.world b.world (steps.Put who) reply
-put_hand_goes a b who None reply sound has hand puts = absurd puts
-put_hand_goes a b who (Some notice) reply sound has hand puts =
-    put_into_goes a b who notice _ _ reply sound has hand refl refl puts
+put_hand_goes a b who [] reply sound has hand puts = absurd puts
+put_hand_goes a b who (notice ∷ rest) reply sound has hand puts =
+    put_into_goes a b who notice rest _ _ reply sound has hand refl refl puts
 
 nothing_taken : (w : World) (m q : ℕ) (shut : Bool) → IsSound w
     → Goes w w (steps.Poll m q) (if shut then replies.Closed else replies.Empty)
@@ -149,31 +153,34 @@ same_queues a b sound keeps = sym (keeps.sound sound).queues ∙ ap length keeps
 gives_notice : (a c b : State) (who : Actor) (notice : Notice) (step : Step) (answer reply : Reply) → IsSound a.world
     → Keeps a.world c.world → HasHand a.world who → notice.queue < a.world.heap.config.queues → reply ≡ answer
     → b ≡ with_handed c step reply
-    → handed c.world step answer ≡ with_hand c.world who (Some notice)
-    → ((hands : HandNotices) → held_after hands step answer ≡ with_held hands who (as_held (Some notice)))
-    → ((hands : HandNotices) (q : ℕ) → move_by hands q step answer ≡ no_move)
+    → handed c.world step answer ≡ with_hand c.world who (notice ∷ [])
+    → ((hands : HandNotices) → held_after hands step answer ≡ with_held hands who (as_held (notice ∷ [])))
+    → ((hands : HandNotices) (q : ℕ) → queue_change_by hands q step answer ≡ no_queue_change)
     → Goes a.world b.world step reply
 gives_notice a c b who notice step answer reply sound keeps has below is left gives held stands =
     let bound : notice.queue < c.world.heap.config.queues = rw (same_queues a.world c.world sound keeps) below in
     handled a c b step answer reply is left
     (subst (λ (w : World). Goes a.world w step answer) (sym gives)
-    (goes_after a.world c.world (with_hand c.world who (Some notice)) step answer keeps.others
-    (sets_hand c.world who (Some notice) step answer (keeps.sound sound)
-    (same_has a.world c.world who keeps.others has) bound held stands)))
+    (goes_after a.world c.world (with_hand c.world who (notice ∷ [])) step answer keeps.others
+    (sets_hand c.world who (notice ∷ []) step answer (keeps.sound sound)
+    (same_has a.world c.world who keeps.others has) (bound, tt) (held (held_of c.world)) stands)))
 
--- a hand's notice is spent
+-- a hand's first notice is spent
 spends : (a c b : State) (who : Actor) (step : Step) (answer reply : Reply) → IsSound a.world → Keeps a.world c.world
     → HasHand a.world who → reply ≡ answer → b ≡ with_handed c step reply
-    → handed c.world step answer ≡ with_hand c.world who None
-    → ((hands : HandNotices) → held_after hands step answer ≡ with_held hands who None)
-    → ((hands : HandNotices) (q : ℕ) → move_by hands q step answer ≡ no_move)
+    → handed c.world step answer ≡ with_rest c.world who
+    → ((hands : HandNotices) → held_after hands step answer ≡ with_held_rest hands who)
+    → ((hands : HandNotices) (q : ℕ) → queue_change_by hands q step answer ≡ no_queue_change)
     → Goes a.world b.world step reply
-spends a c b who step answer reply sound keeps has is left empty held stands =
+spends a c b who step answer reply sound keeps has is left shorter held stands =
+    let rest : List Notice = rest_of (hand_of c.world who) in
+    let now = keeps.sound sound in
     handled a c b step answer reply is left
-    (subst (λ (w : World). Goes a.world w step answer) (sym empty)
-    (goes_after a.world c.world (with_hand c.world who None) step answer keeps.others
-    (sets_hand c.world who None step answer (keeps.sound sound) (same_has a.world c.world who keeps.others has) tt held
-    stands)))
+    (subst (λ (w : World). Goes a.world w step answer) (sym shorter)
+    (goes_after a.world c.world (with_rest c.world who) step answer keeps.others
+    (sets_hand c.world who rest step answer now (same_has a.world c.world who keeps.others has)
+    (all_rest (IsBelow c.world.heap.config.queues) (hand_of c.world who) (now.hands_below who))
+    (held (held_of c.world) ∙ ap (with_held (held_of c.world) who) (rest_held (hand_of c.world who))) stands)))
 
 unhook_goes : (a c b : State) (m s : ℕ) (held queue : Option ℕ) (reply : Reply) → IsSound a.world
     → Keeps a.world c.world → m < length a.world.mutator_hands → QueueBelow a.world.heap.config.queues queue
@@ -198,32 +205,33 @@ hand_goes a c b k (p ∷ ps) reply sound keeps has below gives left =
     (steps.Hand k) (replies.Notice p.object p.queue (Cycle p.cycle k)) reply sound keeps has below.0 gives.0 left refl
     (λ _. refl) (λ _ _. refl)
 
-adopt_goes : (a b : State) (m d : ℕ) (hand : Option Notice) (reply : Reply) → IsSound a.world
+adopt_goes : (a b : State) (m d : ℕ) (hand : List Notice) (reply : Reply) → IsSound a.world
     → m < length a.world.mutator_hands
-    → AcceptsAsking a (spending (λ hold. heap.Adopt m d hold) hand) (steps.Adopt m d) reply b
+    → AcceptsAsking a (spending a.world (λ hold. heap.Adopt m d hold) hand) (steps.Adopt m d) reply b
     → Goes a.world b.world (steps.Adopt m d) reply
-adopt_goes a b m d None reply sound has row = absurd row
-adopt_goes a b m d (Some notice) reply sound has row =
-    let keeps = heap_keeps a row.0 (heap.Adopt m d (hold_of notice)) reply tt row.1 in
+adopt_goes a b m d [] reply sound has row = absurd row
+adopt_goes a b m d (notice ∷ rest) reply sound has row =
+    let keeps = heap_keeps a row.0 (heap.Adopt m d (hold_of a.world notice)) reply tt row.1 in
     spends a row.0 b (Mutator m) (steps.Adopt m d) (replies.Object notice.object) reply sound keeps has row.1.0 row.2
     refl (λ _. refl) (λ _ _. refl)
 
-release_goes : (a b : State) (who : Actor) (hand : Option Notice) (reply : Reply) → IsSound a.world
-    → HasHand a.world who → AcceptsAsking a (spending (λ hold. heap.Release hold) hand) (steps.Release who) reply b
+release_goes : (a b : State) (who : Actor) (hand : List Notice) (reply : Reply) → IsSound a.world
+    → HasHand a.world who
+    → AcceptsAsking a (spending a.world (λ hold. heap.Release hold) hand) (steps.Release who) reply b
     → Goes a.world b.world (steps.Release who) reply
-release_goes a b who None reply sound has row = absurd row
-release_goes a b who (Some notice) reply sound has row =
-    let keeps = heap_keeps a row.0 (heap.Release (hold_of notice)) reply tt row.1 in
+release_goes a b who [] reply sound has row = absurd row
+release_goes a b who (notice ∷ rest) reply sound has row =
+    let keeps = heap_keeps a row.0 (heap.Release (hold_of a.world notice)) reply tt row.1 in
     spends a row.0 b who (steps.Release who) replies.Done reply sound keeps has row.1.0 row.2 refl (λ _. refl)
     (λ _ _. refl)
 
 -- ---- who and what is there
 
 -- a step that isn't refused names a queue of the configuration
-pub registered : (heap_no : ℕ) (a : State) (step : NamedStep) → heap_refusal heap_no a step ≡ None
+pub registered : (a : State) (step : NamedStep) → heap_refusal a step ≡ None
     → IsRegistered a step
-registered heap_no a (heap.Refer m strength d s q k) none = grind arith
-registered heap_no a step none = tt
+registered a (heap.Plain (plain.Refer m strength d s q k)) none = grind arith
+registered a step none = tt
 
 pub mutator_within : (w : World) (m : ℕ) → IsSound w → is_mutator w.heap m ≡ true → m < length w.mutator_hands
 mutator_within w m sound is = rw sound.mutator_hands (ltb-true m w.heap.config.mutators is)
@@ -242,7 +250,7 @@ queue_within w q sound is = rw sound.queues (ltb-true q w.heap.config.queues is)
 
 accepted_goes : (a b : State) (step : Step) (reply : Reply) → IsSound a.world → refusal a step ≡ None
     → Accepts a step reply b → Goes a.world b.world step reply
-accepted_goes a b (steps.Refer m strength d s q k) reply sound h row = search (quiet, registered)
+accepted_goes a b (steps.Plain (plain.Refer m strength d s q k)) reply sound h row = search (quiet, registered)
 accepted_goes a b (steps.Unhook m s) reply sound h row =
     let first = unless_passes (has_slot a.world.heap m s) _ _ h in
     let both = and_parts (is_mutator a.world.heap m) _ first.0 in

@@ -1,34 +1,47 @@
--- A run of a machine can be cut at any entry, and goes on entry by entry; so what each entry keeps holds after all of
--- them. The laws of legal traces and of histories all rest on this induction.
+-- A run of a machine can be cut at any entry, and goes on entry by entry; so what each entry keeps holds after all, and
+-- what goes on over each entry holds over all. The laws of legal traces and of histories rest on these two inductions.
 use Rattle.std.proofs.Common.{arith}
 use Rattle.std.proofs.Common.{List, [], ◌∷◌, ◌++◌, refl, sym, subst}
 use Rattle.std.proofs.lemmas.List.{append-nil, append_assoc}
 use Rattle.ref_base.proofs.Common.{State, IsRow, IsRun, IsLegal, Config, Row}
 use Rattle.ref_base.specs.Runs.{LeadsThrough}
 
-module _ {S E : Type 0} (moves : S → E → S → Type 0) where
+module _ {S E : Type 0} (leads : S → E → S → Type 0) where
   -- the entries in front lead to a state from which the others go on
-  pub cut_at : (x : S) (front back : List E) (y : S) → LeadsThrough moves x (front ++ back) y
-      → (mid : S) × LeadsThrough moves x front mid × LeadsThrough moves mid back y
+  pub cut_at : (x : S) (front back : List E) (y : S) → LeadsThrough leads x (front ++ back) y
+      → (mid : S) × LeadsThrough leads x front mid × LeadsThrough leads mid back y
   cut_at x [] back y run = (x, refl, run)
   cut_at x (e ∷ es) back y run = search (cut_at run.0 es back y run.2)
 
   -- a run goes on by one more entry
-  pub one_on : (x : S) (es : List E) (y z : S) (e : E) → LeadsThrough moves x es y → moves y e z
-      → LeadsThrough moves x (es ++ e ∷ []) z
-  one_on x [] y z e run next = (z, subst (λ (s : S). moves s e z) run next, refl)
+  pub one_on : (x : S) (es : List E) (y z : S) (e : E) → LeadsThrough leads x es y → leads y e z
+      → LeadsThrough leads x (es ++ e ∷ []) z
+  one_on x [] y z e run next = (z, subst (λ (s : S). leads s e z) run next, refl)
   one_on x (first ∷ es) y z e run next = (run.0, run.1, one_on run.0 es y z e run.2 next)
 
-  module _ (Q : List E → S → Type 0)
-      (keeps : (past : List E) (x : S) (e : E) (y : S) → Q past x → moves x e y → Q (past ++ e ∷ []) y) where
-    -- what each entry keeps, and holds after some entries, holds after all
-    pub holds_on : (past : List E) (x : S) (es : List E) (y : S) → Q past x → LeadsThrough moves x es y
-        → Q (past ++ es) y
-    holds_on past x [] y holds run =
+  module _ (first : S) (Q : List E → S → Type 0)
+      (keeps : (past : List E) (x : S) (e : E) (y : S) → LeadsThrough leads first past x → Q past x → leads x e y
+      → Q (past ++ e ∷ []) y) where
+    -- what each entry keeps, and holds after the first entries of a run, holds after all
+    pub holds_on : (past : List E) (x : S) (es : List E) (y : S) → LeadsThrough leads first past x → Q past x
+        → LeadsThrough leads x es y → Q (past ++ es) y
+    holds_on past x [] y before holds run =
         subst (λ rs. Q rs y) (sym (append-nil past)) (subst (λ (s : S). Q past s) (sym run) holds)
-    holds_on past x (e ∷ es) y holds run =
+    holds_on past x (e ∷ es) y before holds run =
         subst (λ rs. Q rs y) (append_assoc past (e ∷ []) es)
-        (holds_on (past ++ e ∷ []) run.0 es y (keeps past x e run.0 holds run.1) run.2)
+        (holds_on (past ++ e ∷ []) run.0 es y (one_on first past x run.0 e before run.1)
+        (keeps past x e run.0 before holds run.1) run.2)
+
+    -- and so does what holds at first
+    pub holds_after : Q [] first → (es : List E) (y : S) → LeadsThrough leads first es y → Q es y
+    holds_after holds es y run = holds_on [] first es y refl holds run
+
+  module _ (R : S → List E → S → Type 0) (none : (x : S) → R x [] x)
+      (goes : (x : S) (e : E) (y : S) (es : List E) (z : S) → leads x e y → R y es z → R x (e ∷ es) z) where
+    -- what holds of no entries, and of one more in front, holds of each run
+    pub holds_over : (x : S) (es : List E) (y : S) → LeadsThrough leads x es y → R x es y
+    holds_over x [] y run = subst (λ (s : S). R x [] s) (sym run) (none x)
+    holds_over x (e ∷ es) y run = goes x e run.0 es y run.1 (holds_over run.0 es y run.2)
 
 -- ---- of the abstract collector
 

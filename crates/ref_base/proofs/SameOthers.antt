@@ -1,5 +1,5 @@
 -- What leaves hands and queues the same: the heap has no say in them.
-use Rattle.std.proofs.Common.{◌≡◌, List, Option, None, ap}
+use Rattle.std.proofs.Common.{◌≡◌, List, [], ap}
 use Rattle.std.specs.Prelude.{slice_index_or}
 use Rattle.ref_base.proofs.Common.{World, Notice, SameOthers, hand_of}
 use Rattle.ref_base.proofs.Common.{Actor, Mutator, Worker}
@@ -7,7 +7,7 @@ use Rattle.ref_base.proofs.Common.{Actor, Mutator, Worker}
 -- ---- the same hands and queues
 
 pub same_hand : (v w : World) (who : Actor) → SameOthers v w → hand_of w who ≡ hand_of v who
-same_hand v w (Mutator m) is = ap (λ (hs : List (Option Notice)). slice_index_or hs m None) is.mutators
-same_hand v w (Worker k) is = ap (λ (hs : List (Option Notice)). slice_index_or hs k None) is.workers
+same_hand v w (Mutator m) is = ap (λ (hs : List (List Notice)). slice_index_or hs m []) is.mutators
+same_hand v w (Worker k) is = ap (λ (hs : List (List Notice)). slice_index_or hs k []) is.workers
 
 -- ---- hands

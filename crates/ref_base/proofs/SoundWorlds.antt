@@ -1,7 +1,7 @@
 -- That every queue which a world names is one of its configuration's, and what keeps this so.
-use Rattle.std.proofs.Common.{◌≡◌, ℕ, zero, suc, ◌<◌, List, [], ◌∷◌, length, Option, Some, None, inl, inr, refl}
+use Rattle.std.proofs.Common.{◌≡◌, ℕ, ◌<◌, List, [], ◌∷◌, length, Option, Some, None, inl, inr}
 use Rattle.std.proofs.Common.{sym, ap, ◌∙◌, subst, arith}
-use Rattle.std.specs.Prelude.{slice_index_or, replicate}
+use Rattle.std.specs.Prelude.{slice_index_or}
 use Rattle.std.specs.List.{AllByRecursion}
 use Rattle.std.proofs.lemmas.Bool.{cases_Bool}
 use Rattle.std.proofs.lemmas.List.{length-set, length-replicate}
@@ -9,9 +9,9 @@ use Rattle.ref_base.proofs.Common.{has, Object, Reference, object_at, is_soft, r
 use Rattle.ref_base.proofs.Common.{changed_reference, cleared, got_at, reference_at, Lists, new_queue, World, Notice}
 use Rattle.ref_base.proofs.Common.{Pending, first_world, hand_of, queue_at, pending_of, with_hand, with_queue}
 use Rattle.ref_base.proofs.Common.{SameOthers, reference_of, Config, Actor, Mutator, Worker}
-use Rattle.ref_base.proofs.CarryLaws.{OfHand, Carries, Lasts}
-use Rattle.ref_base.proofs.Places.{set_at, each_or}
-use Rattle.ref_base.proofs.QueueMoves.{length-new_queues, new_queues_at}
+use Rattle.ref_base.proofs.CarryLaws.{AnyCycle, Carries, Lasts}
+use Rattle.ref_base.proofs.Places.{same_at, set_at, each_or}
+use Rattle.ref_base.proofs.QueueChanges.{length-new_queues, new_queues_at}
 
 -- ---- what is asked of each part, where there are so many queues
 
@@ -25,8 +25,8 @@ ObjectBelow count o = QueueBelow count (registered_in o.reference)
 abbrev pub IsBelow : ℕ → Notice → Type 0
 IsBelow count notice = notice.queue < count
 
-abbrev pub NoticeBelow : ℕ → Option Notice → Type 0
-NoticeBelow count = OfHand (IsBelow count)
+abbrev pub NoticesBelow : ℕ → List Notice → Type 0
+NoticesBelow count = AllByRecursion (IsBelow count)
 
 abbrev pub PendingBelow : ℕ → Pending → Type 0
 PendingBelow count p = p.queue < count
@@ -46,7 +46,7 @@ pub record IsSound (w : World) : Type 0 where
   pub worker_hands : length w.worker_hands ≡ w.heap.config.workers
   pub queues : length w.queues ≡ w.heap.config.queues
   pub objects_below : AllByRecursion (ObjectBelow w.heap.config.queues) w.heap.objects
-  pub hands_below : (who : Actor) → NoticeBelow w.heap.config.queues (hand_of w who)
+  pub hands_below : (who : Actor) → NoticesBelow w.heap.config.queues (hand_of w who)
   pub pending_below : (k : ℕ) → AllByRecursion (PendingBelow w.heap.config.queues) (pending_of w k)
   pub own : (q : ℕ) → AllByRecursion (IsOwn q) (queue_at w q).stands
 
@@ -80,9 +80,6 @@ held_below w (Some n) sound = registered_below w n sound
 
 -- ---- what is carried
 
-abbrev pub AnyCycle : ℕ → Type 0
-AnyCycle cycle = Unit {0}
-
 -- objects, notices and pending references name queues below the count
 abbrev pub NamesBelow : ℕ → World → Type 0
 NamesBelow count = Carries (ObjectBelow count) (IsBelow count) AnyCycle
@@ -111,7 +108,7 @@ names_below w sound =
       goes_on = tt;
     }
 
-hand_below : (count : ℕ) (w : World) → NamesBelow count w → (who : Actor) → NoticeBelow count (hand_of w who)
+hand_below : (count : ℕ) (w : World) → NamesBelow count w → (who : Actor) → NoticesBelow count (hand_of w who)
 hand_below count w below (Mutator m) = below.of_mutators m
 hand_below count w below (Worker k) = below.of_workers k
 
@@ -122,9 +119,9 @@ sound_again v w others config sound below =
     let here : NamesBelow w.heap.config.queues w =
     subst (λ (c : Config). NamesBelow c.queues w) (sym config) below in
     record {
-      mutator_hands = ap (λ (hs : List (Option Notice)). length hs) others.mutators ∙ sound.mutator_hands
+      mutator_hands = ap (λ (hs : List (List Notice)). length hs) others.mutators ∙ sound.mutator_hands
           ∙ ap (λ (c : Config). c.mutators) (sym config);
-      worker_hands = ap (λ (hs : List (Option Notice)). length hs) others.workers ∙ sound.worker_hands
+      worker_hands = ap (λ (hs : List (List Notice)). length hs) others.workers ∙ sound.worker_hands
           ∙ ap (λ (c : Config). c.workers) (sym config);
       queues = ap (λ (qs : List (Lists Notice)). length qs) others.queues ∙ sound.queues
           ∙ ap (λ (c : Config). c.queues) (sym config);
@@ -138,24 +135,24 @@ sound_again v w others config sound below =
 
 -- ---- changes of hands and queues
 
-mutator_hand_below : (w : World) (m : ℕ) (hand : Option Notice) → IsSound w → m < length w.mutator_hands
-    → NoticeBelow w.heap.config.queues hand → (who : Actor)
-    → NoticeBelow w.heap.config.queues (hand_of (with_hand w (Mutator m) hand) who)
+mutator_hand_below : (w : World) (m : ℕ) (hand : List Notice) → IsSound w → m < length w.mutator_hands
+    → NoticesBelow w.heap.config.queues hand → (who : Actor)
+    → NoticesBelow w.heap.config.queues (hand_of (with_hand w (Mutator m) hand) who)
 mutator_hand_below w m hand sound has below (Mutator k) =
-    set_at (λ _ h. NoticeBelow w.heap.config.queues h) w.mutator_hands m hand (λ _. None) has below
+    set_at (λ _ h. NoticesBelow w.heap.config.queues h) w.mutator_hands m hand (λ _. []) has below
     (λ j _. sound.hands_below (Mutator j)) k
 mutator_hand_below w m hand sound has below (Worker k) = sound.hands_below (Worker k)
 
-worker_hand_below : (w : World) (m : ℕ) (hand : Option Notice) → IsSound w → m < length w.worker_hands
-    → NoticeBelow w.heap.config.queues hand → (who : Actor)
-    → NoticeBelow w.heap.config.queues (hand_of (with_hand w (Worker m) hand) who)
+worker_hand_below : (w : World) (m : ℕ) (hand : List Notice) → IsSound w → m < length w.worker_hands
+    → NoticesBelow w.heap.config.queues hand → (who : Actor)
+    → NoticesBelow w.heap.config.queues (hand_of (with_hand w (Worker m) hand) who)
 worker_hand_below w m hand sound has below (Mutator k) = sound.hands_below (Mutator k)
 worker_hand_below w m hand sound has below (Worker k) =
-    set_at (λ _ h. NoticeBelow w.heap.config.queues h) w.worker_hands m hand (λ _. None) has below
+    set_at (λ _ h. NoticesBelow w.heap.config.queues h) w.worker_hands m hand (λ _. []) has below
     (λ j _. sound.hands_below (Worker j)) k
 
-pub sound_hand : (w : World) (who : Actor) (hand : Option Notice) → IsSound w → HasHand w who
-    → NoticeBelow w.heap.config.queues hand → IsSound (with_hand w who hand)
+pub sound_hand : (w : World) (who : Actor) (hand : List Notice) → IsSound w → HasHand w who
+    → NoticesBelow w.heap.config.queues hand → IsSound (with_hand w who hand)
 sound_hand w (Mutator m) hand sound has below =
     assumption
     (length-set w.mutator_hands m hand ∙ sound.mutator_hands, mutator_hand_below w m hand sound has below, sound)
@@ -178,26 +175,15 @@ sound_queue w q lists sound within own = record {
 
 -- ---- the first world
 
-abbrev no_notice : Option Notice
-no_notice = None
-
-no_notice_at : (count m : ℕ) → slice_index_or (replicate count no_notice) m None ≡ None
-no_notice_at zero m = refl
-no_notice_at (suc count) zero = refl
-no_notice_at (suc count) (suc m) = no_notice_at count m
-
-pub first_hand : (config : Config) (who : Actor) → hand_of (first_world config) who ≡ None
-first_hand config (Mutator m) = no_notice_at config.mutators m
-first_hand config (Worker k) = no_notice_at config.workers k
+pub first_hand : (config : Config) (who : Actor) → hand_of (first_world config) who ≡ []
+first_hand config (Mutator m) = same_at {X = List Notice} [] config.mutators m
+first_hand config (Worker k) = same_at {X = List Notice} [] config.workers k
 
 pub first_queue : (config : Config) (q : ℕ) → queue_at (first_world config) q ≡ new_queue q
 first_queue config q = new_queues_at Notice 0 config.queues q q (omega arith)
 
-no_pending_below : (bound count k : ℕ)
-    → AllByRecursion (PendingBelow bound) (slice_index_or (replicate count []) k [])
-no_pending_below bound zero k = tt
-no_pending_below bound (suc count) zero = tt
-no_pending_below bound (suc count) (suc k) = no_pending_below bound count k
+pub first_pending : (config : Config) (k : ℕ) → pending_of (first_world config) k ≡ []
+first_pending config k = same_at {X = List Pending} [] config.workers k
 
 pub first_sound : (config : Config) → IsSound (first_world config)
-first_sound config = search (length-replicate, length-new_queues, first_hand, no_pending_below, first_queue)
+first_sound config = search (length-replicate, length-new_queues, first_hand, first_pending, first_queue)

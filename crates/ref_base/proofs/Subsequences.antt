@@ -47,6 +47,11 @@ pub sub_longer : (ns more : List ℕ) → Sub ns (ns ++ more)
 sub_longer ns more =
     subst (λ (l : List ℕ). Sub l (ns ++ more)) (append-nil ns) (sub_behind ns [] more (sub_none more))
 
+-- and so has one with more in front
+pub sub_after : (front ns : List ℕ) → Sub ns (front ++ ns)
+sub_after [] ns = sub_all ns
+sub_after (f ∷ front) ns = inl (sub_after front ns)
+
 pub sub_tail : (m : ℕ) (ms ns : List ℕ) → Sub (m ∷ ms) ns → Sub ms ns
 sub_tail m ms ns sub = sub_through ms (m ∷ ms) ns (inl (sub_all ms)) sub
 

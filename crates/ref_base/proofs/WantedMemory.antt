@@ -13,6 +13,7 @@ use Rattle.ref_base.proofs.Common.{AcceptsAsking, IsAnswer, IsRow, Fault, NoMemo
 use Rattle.ref_base.proofs.Common.{NotAReference, Actor, Marking, Reply, Step}
 use Rattle.ref_base.specs.declared.heap_step.HeapStep.TheVariants as heap
 use Rattle.ref_base.specs.declared.reply.Reply.TheVariants as replies
+use Rattle.ref_base.specs.declared.plain_step.PlainStep.TheVariants as plain
 use Rattle.ref_base.specs.declared.step.Step.TheVariants as steps
 
 -- ---- no refusal is for want of memory
@@ -64,17 +65,17 @@ empty_wants : (held : Option ℕ) (later : Option Fault) → wants later ≡ fal
 empty_wants None later none = refl
 empty_wants (Some n) later none = none
 
-full_wants : (hand : Option Notice) (later : Option Fault) → wants later ≡ false
+full_wants : (hand : List Notice) (later : Option Fault) → wants later ≡ false
     → wants (unless_full hand later) ≡ false
-full_wants None later none = none
-full_wants (Some notice) later none = refl
+full_wants [] later none = none
+full_wants (notice ∷ rest) later none = refl
 
-empty_hand_wants : (hand : Option Notice) → wants (empty_hand_refusal hand) ≡ false
-empty_hand_wants None = refl
-empty_hand_wants (Some notice) = refl
+empty_hand_wants : (hand : List Notice) → wants (empty_hand_refusal hand) ≡ false
+empty_hand_wants [] = refl
+empty_hand_wants (notice ∷ rest) = refl
 
-heap_wants : (a : State) (step : NamedStep) → wants (heap_refusal 0 a step) ≡ false
-heap_wants a (heap.New m d k) = search (no_want, object_wants, refl)
+heap_wants : (a : State) (step : NamedStep) → wants (heap_refusal a step) ≡ false
+heap_wants a (heap.Plain (plain.New m d k)) = search (no_want, object_wants, refl)
 heap_wants a step =
     search
     (no_want, object_wants, empty_wants, field_wants, reference_wants, unhook_wants, held_wants, hand_wants, refl)
@@ -153,7 +154,7 @@ gives_tells answer c reply b gives other = told gives.0 other
 
 accepted_tells : (a : State) (step : NamedStep) (reply : Reply) (b : State) → HeapAccepts a step reply b
     → tells_want reply ≡ false
-accepted_tells a heap.EndMark reply b ends = told ends.answer refl
+accepted_tells a (heap.Plain plain.EndMark) reply b ends = told ends.answer refl
 accepted_tells a step reply b gives =
     search (
       gives_tells,

@@ -4,6 +4,7 @@ use Rattle.ref_base.proofs.Common.{Config, Weak, Normal, Own, Cycle, Mutator, Wo
 use Rattle.ref_base.proofs.Common.{NoSuchActor, NotAReference, BadQueue, WrongPhase, Step, Reply, Row}
 use Rattle.ref_base.specs.declared.strength.Strength.TheVariants.{Soft}
 use Rattle.ref_base.specs.declared.fault.Fault.TheVariants.{EmptySlot, HandFull}
+use Rattle.ref_base.specs.declared.plain_step.PlainStep.TheVariants as plain
 use Rattle.ref_base.specs.declared.step.Step.TheVariants as steps
 use Rattle.ref_base.specs.declared.reply.Reply.TheVariants as replies
 
@@ -17,9 +18,9 @@ config_of workers = record { mutators = 1; workers = workers; queues = 1; cells 
 -- config 1 1 1 8 10
 abbrev pub two_enqueued_in_order : List Row
 two_enqueued_in_order =
-    row (steps.New 0 0 0) (replies.Object 1) ∷
-    row (steps.Refer 0 Weak 1 0 (Some 0) 0) (replies.Object 2) ∷
-    row (steps.Refer 0 Weak 2 0 (Some 0) 0) (replies.Object 3) ∷
+    row (steps.Plain (plain.New 0 0 0)) (replies.Object 1) ∷
+    row (steps.Plain (plain.Refer 0 Weak 1 0 (Some 0) 0)) (replies.Object 2) ∷
+    row (steps.Plain (plain.Refer 0 Weak 2 0 (Some 0) 0)) (replies.Object 3) ∷
     row (steps.Unhook 0 1) (replies.Notice 2 0 Own) ∷
     row (steps.Put (Mutator 0)) (replies.Added 0) ∷
     row (steps.Unhook 0 2) (replies.Notice 3 0 Own) ∷
@@ -34,15 +35,15 @@ two_enqueued_in_order =
 -- config 1 1 1 8 10
 abbrev pub death_reported_after_a_cycle : List Row
 death_reported_after_a_cycle =
-    row (steps.New 0 0 0) (replies.Object 1) ∷
-    row (steps.Refer 0 Weak 1 0 (Some 0) 0) (replies.Object 2) ∷
-    row (steps.Drop 0 0) replies.Done ∷
-    row (steps.Begin 5 Normal) (replies.Cycle 1) ∷
-    row (steps.Scan 0) (replies.Scanned 2) ∷
-    row (steps.Scan 0) replies.Nothing ∷
-    row (steps.EndMark) (replies.Doomed 1) ∷
-    row (steps.ClearNext 0) (replies.Cleared 2) ∷
-    row (steps.EndClear) replies.Done ∷
+    row (steps.Plain (plain.New 0 0 0)) (replies.Object 1) ∷
+    row (steps.Plain (plain.Refer 0 Weak 1 0 (Some 0) 0)) (replies.Object 2) ∷
+    row (steps.Plain (plain.Drop 0 0)) replies.Done ∷
+    row (steps.Plain (plain.Begin 5 Normal)) (replies.Cycle 1) ∷
+    row (steps.Plain (plain.Scan 0)) (replies.Scanned 2) ∷
+    row (steps.Plain (plain.Scan 0)) replies.Nothing ∷
+    row (steps.Plain plain.EndMark) (replies.Doomed 1) ∷
+    row (steps.Plain (plain.ClearNext 0)) (replies.Cleared 2) ∷
+    row (steps.Plain plain.EndClear) replies.Done ∷
     row (steps.Hand 0) (replies.Notice 2 0 (Cycle 1 0)) ∷
     row (steps.Put (Worker 0)) (replies.Added 0) ∷
     row (steps.Poll 0 0) (replies.Took 2) ∷
@@ -52,39 +53,39 @@ death_reported_after_a_cycle =
 -- config 1 1 1 8 10
 abbrev pub get_keeps_the_referent : List Row
 get_keeps_the_referent =
-    row (steps.New 0 0 0) (replies.Object 1) ∷
-    row (steps.Refer 0 Weak 1 0 (Some 0) 0) (replies.Object 2) ∷
-    row (steps.Drop 0 0) replies.Done ∷
-    row (steps.Begin 5 Normal) (replies.Cycle 1) ∷
-    row (steps.Scan 0) (replies.Scanned 2) ∷
-    row (steps.Get 0 3 1) (replies.Object 1) ∷
-    row (steps.EndMark) (replies.Refused GreyLeft) ∷
-    row (steps.Scan 0) (replies.Scanned 1) ∷
-    row (steps.Scan 0) replies.Nothing ∷
-    row (steps.EndMark) (replies.Doomed 0) ∷
-    row (steps.ClearNext 0) (replies.Kept 2) ∷
-    row (steps.ClearNext 0) replies.Nothing ∷
+    row (steps.Plain (plain.New 0 0 0)) (replies.Object 1) ∷
+    row (steps.Plain (plain.Refer 0 Weak 1 0 (Some 0) 0)) (replies.Object 2) ∷
+    row (steps.Plain (plain.Drop 0 0)) replies.Done ∷
+    row (steps.Plain (plain.Begin 5 Normal)) (replies.Cycle 1) ∷
+    row (steps.Plain (plain.Scan 0)) (replies.Scanned 2) ∷
+    row (steps.Plain (plain.Get 0 3 1)) (replies.Object 1) ∷
+    row (steps.Plain plain.EndMark) (replies.Refused GreyLeft) ∷
+    row (steps.Plain (plain.Scan 0)) (replies.Scanned 1) ∷
+    row (steps.Plain (plain.Scan 0)) replies.Nothing ∷
+    row (steps.Plain plain.EndMark) (replies.Doomed 0) ∷
+    row (steps.Plain (plain.ClearNext 0)) (replies.Kept 2) ∷
+    row (steps.Plain (plain.ClearNext 0)) replies.Nothing ∷
     []
 
 -- config 1 2 1 8 10
 abbrev pub two_workers_in_clearing_order : List Row
 two_workers_in_clearing_order =
-    row (steps.New 0 0 0) (replies.Object 1) ∷
-    row (steps.Refer 0 Weak 1 0 (Some 0) 0) (replies.Object 2) ∷
-    row (steps.New 0 0 0) (replies.Object 3) ∷
-    row (steps.Refer 0 Weak 2 0 (Some 0) 0) (replies.Object 4) ∷
-    row (steps.New 0 0 0) (replies.Object 5) ∷
-    row (steps.Refer 0 Weak 3 0 (Some 0) 0) (replies.Object 6) ∷
-    row (steps.Drop 0 0) replies.Done ∷
-    row (steps.Begin 1 Normal) (replies.Cycle 1) ∷
-    row (steps.Scan 0) (replies.Scanned 2) ∷
-    row (steps.Scan 1) (replies.Scanned 4) ∷
-    row (steps.Scan 0) (replies.Scanned 6) ∷
-    row (steps.EndMark) (replies.Doomed 3) ∷
-    row (steps.ClearNext 1) (replies.Cleared 4) ∷
-    row (steps.ClearNext 0) (replies.Cleared 2) ∷
-    row (steps.ClearNext 0) (replies.Cleared 6) ∷
-    row (steps.EndClear) replies.Done ∷
+    row (steps.Plain (plain.New 0 0 0)) (replies.Object 1) ∷
+    row (steps.Plain (plain.Refer 0 Weak 1 0 (Some 0) 0)) (replies.Object 2) ∷
+    row (steps.Plain (plain.New 0 0 0)) (replies.Object 3) ∷
+    row (steps.Plain (plain.Refer 0 Weak 2 0 (Some 0) 0)) (replies.Object 4) ∷
+    row (steps.Plain (plain.New 0 0 0)) (replies.Object 5) ∷
+    row (steps.Plain (plain.Refer 0 Weak 3 0 (Some 0) 0)) (replies.Object 6) ∷
+    row (steps.Plain (plain.Drop 0 0)) replies.Done ∷
+    row (steps.Plain (plain.Begin 1 Normal)) (replies.Cycle 1) ∷
+    row (steps.Plain (plain.Scan 0)) (replies.Scanned 2) ∷
+    row (steps.Plain (plain.Scan 1)) (replies.Scanned 4) ∷
+    row (steps.Plain (plain.Scan 0)) (replies.Scanned 6) ∷
+    row (steps.Plain plain.EndMark) (replies.Doomed 3) ∷
+    row (steps.Plain (plain.ClearNext 1)) (replies.Cleared 4) ∷
+    row (steps.Plain (plain.ClearNext 0)) (replies.Cleared 2) ∷
+    row (steps.Plain (plain.ClearNext 0)) (replies.Cleared 6) ∷
+    row (steps.Plain plain.EndClear) replies.Done ∷
     row (steps.Hand 0) (replies.Notice 2 0 (Cycle 1 0)) ∷
     row (steps.Hand 1) (replies.Notice 4 0 (Cycle 1 1)) ∷
     row (steps.Put (Worker 0)) (replies.Added 0) ∷
@@ -101,41 +102,41 @@ two_workers_in_clearing_order =
 -- config 1 1 1 8 10
 abbrev pub soft_kept_within_the_span : List Row
 soft_kept_within_the_span =
-    row (steps.Begin 90 Normal) (replies.Cycle 1) ∷
-    row (steps.EndMark) (replies.Doomed 0) ∷
-    row (steps.EndClear) replies.Done ∷
-    row (steps.EndSweep) replies.Done ∷
-    row (steps.New 0 0 0) (replies.Object 1) ∷
-    row (steps.Refer 0 Soft 1 0 (Some 0) 0) (replies.Object 2) ∷
-    row (steps.Drop 0 0) replies.Done ∷
-    row (steps.Begin 100 Normal) (replies.Cycle 2) ∷
-    row (steps.Scan 0) (replies.Scanned 2) ∷
-    row (steps.Scan 0) (replies.Scanned 1) ∷
-    row (steps.EndMark) (replies.Doomed 0) ∷
-    row (steps.EndClear) replies.Done ∷
-    row (steps.EndSweep) replies.Done ∷
-    row (steps.Begin 101 Normal) (replies.Cycle 3) ∷
-    row (steps.Scan 0) (replies.Scanned 2) ∷
-    row (steps.EndMark) (replies.Doomed 1) ∷
-    row (steps.ClearNext 0) (replies.Cleared 2) ∷
+    row (steps.Plain (plain.Begin 90 Normal)) (replies.Cycle 1) ∷
+    row (steps.Plain plain.EndMark) (replies.Doomed 0) ∷
+    row (steps.Plain plain.EndClear) replies.Done ∷
+    row (steps.Plain plain.EndSweep) replies.Done ∷
+    row (steps.Plain (plain.New 0 0 0)) (replies.Object 1) ∷
+    row (steps.Plain (plain.Refer 0 Soft 1 0 (Some 0) 0)) (replies.Object 2) ∷
+    row (steps.Plain (plain.Drop 0 0)) replies.Done ∷
+    row (steps.Plain (plain.Begin 100 Normal)) (replies.Cycle 2) ∷
+    row (steps.Plain (plain.Scan 0)) (replies.Scanned 2) ∷
+    row (steps.Plain (plain.Scan 0)) (replies.Scanned 1) ∷
+    row (steps.Plain plain.EndMark) (replies.Doomed 0) ∷
+    row (steps.Plain plain.EndClear) replies.Done ∷
+    row (steps.Plain plain.EndSweep) replies.Done ∷
+    row (steps.Plain (plain.Begin 101 Normal)) (replies.Cycle 3) ∷
+    row (steps.Plain (plain.Scan 0)) (replies.Scanned 2) ∷
+    row (steps.Plain plain.EndMark) (replies.Doomed 1) ∷
+    row (steps.Plain (plain.ClearNext 0)) (replies.Cleared 2) ∷
     []
 
 -- config 1 2 1 8 10
 abbrev pub cleared_for_every_mutator_at_once : List Row
 cleared_for_every_mutator_at_once =
-    row (steps.New 0 0 0) (replies.Object 1) ∷
-    row (steps.Refer 0 Weak 1 0 (Some 0) 0) (replies.Object 2) ∷
-    row (steps.Refer 0 Soft 2 0 (Some 0) 0) (replies.Object 3) ∷
-    row (steps.Drop 0 0) replies.Done ∷
-    row (steps.Begin 11 Normal) (replies.Cycle 1) ∷
-    row (steps.Scan 0) (replies.Scanned 2) ∷
-    row (steps.Scan 1) (replies.Scanned 3) ∷
-    row (steps.EndMark) (replies.Doomed 1) ∷
-    row (steps.ClearNext 0) (replies.Cleared 2) ∷
-    row (steps.Get 0 3 2) replies.Null ∷
+    row (steps.Plain (plain.New 0 0 0)) (replies.Object 1) ∷
+    row (steps.Plain (plain.Refer 0 Weak 1 0 (Some 0) 0)) (replies.Object 2) ∷
+    row (steps.Plain (plain.Refer 0 Soft 2 0 (Some 0) 0)) (replies.Object 3) ∷
+    row (steps.Plain (plain.Drop 0 0)) replies.Done ∷
+    row (steps.Plain (plain.Begin 11 Normal)) (replies.Cycle 1) ∷
+    row (steps.Plain (plain.Scan 0)) (replies.Scanned 2) ∷
+    row (steps.Plain (plain.Scan 1)) (replies.Scanned 3) ∷
+    row (steps.Plain plain.EndMark) (replies.Doomed 1) ∷
+    row (steps.Plain (plain.ClearNext 0)) (replies.Cleared 2) ∷
+    row (steps.Plain (plain.Get 0 3 2)) replies.Null ∷
     row (steps.Unhook 0 2) (replies.Notice 3 0 Own) ∷
-    row (steps.ClearNext 1) (replies.Cleared 3) ∷
-    row (steps.EndClear) replies.Done ∷
+    row (steps.Plain (plain.ClearNext 1)) (replies.Cleared 3) ∷
+    row (steps.Plain plain.EndClear) replies.Done ∷
     row (steps.Hand 1) (replies.Notice 3 0 (Cycle 1 1)) ∷
     row (steps.Put (Worker 1)) (replies.Added 0) ∷
     row (steps.Put (Mutator 0)) replies.Already ∷
@@ -145,37 +146,37 @@ cleared_for_every_mutator_at_once =
 abbrev pub order_of_refusals : List Row
 order_of_refusals =
     row (steps.Put (Mutator 0)) (replies.Refused HandEmpty) ∷
-    row (steps.New 0 0 9) (replies.Refused BadField) ∷
-    row (steps.New 0 16 0) (replies.Refused NoSuchActor) ∷
-    row (steps.New 1 0 0) (replies.Refused NoSuchActor) ∷
-    row (steps.Refer 0 Weak 1 0 (Some 0) 0) (replies.Refused EmptySlot) ∷
-    row (steps.New 0 0 8) (replies.Object 1) ∷
-    row (steps.Get 0 1 0) (replies.Refused NotAReference) ∷
-    row (steps.Load 0 1 0 8) (replies.Refused BadField) ∷
-    row (steps.Refer 0 Weak 1 0 (Some 1) 0) (replies.Refused BadQueue) ∷
-    row (steps.Refer 0 Weak 1 0 (Some 0) 0) (replies.Object 2) ∷
+    row (steps.Plain (plain.New 0 0 9)) (replies.Refused BadField) ∷
+    row (steps.Plain (plain.New 0 16 0)) (replies.Refused NoSuchActor) ∷
+    row (steps.Plain (plain.New 1 0 0)) (replies.Refused NoSuchActor) ∷
+    row (steps.Plain (plain.Refer 0 Weak 1 0 (Some 0) 0)) (replies.Refused EmptySlot) ∷
+    row (steps.Plain (plain.New 0 0 8)) (replies.Object 1) ∷
+    row (steps.Plain (plain.Get 0 1 0)) (replies.Refused NotAReference) ∷
+    row (steps.Plain (plain.Load 0 1 0 8)) (replies.Refused BadField) ∷
+    row (steps.Plain (plain.Refer 0 Weak 1 0 (Some 1) 0)) (replies.Refused BadQueue) ∷
+    row (steps.Plain (plain.Refer 0 Weak 1 0 (Some 0) 0)) (replies.Object 2) ∷
     row (steps.Unhook 0 1) (replies.Notice 2 0 Own) ∷
     row (steps.Poll 0 0) (replies.Refused HandFull) ∷
-    row (steps.Scan 0) (replies.Refused WrongPhase) ∷
+    row (steps.Plain (plain.Scan 0)) (replies.Refused WrongPhase) ∷
     []
 
 -- config 1 1 1 8 10
 abbrev pub first_leaving_edge : List Row
 first_leaving_edge =
-    row (steps.New 0 0 0) (replies.Object 1) ∷
-    row (steps.Refer 0 Soft 1 0 (Some 0) 0) (replies.Object 2) ∷
-    row (steps.Refer 0 Weak 2 1 (Some 0) 0) (replies.Object 3) ∷
-    row (steps.Drop 0 0) replies.Done ∷
-    row (steps.Drop 0 1) replies.Done ∷
-    row (steps.Begin 11 Normal) (replies.Cycle 1) ∷
-    row (steps.Scan 0) (replies.Scanned 3) ∷
-    row (steps.Scan 0) replies.Nothing ∷
-    row (steps.EndMark) (replies.Doomed 2) ∷
-    row (steps.ClearNext 0) (replies.Cleared 3) ∷
-    row (steps.ClearNext 0) replies.Nothing ∷
-    row (steps.EndClear) replies.Done ∷
+    row (steps.Plain (plain.New 0 0 0)) (replies.Object 1) ∷
+    row (steps.Plain (plain.Refer 0 Soft 1 0 (Some 0) 0)) (replies.Object 2) ∷
+    row (steps.Plain (plain.Refer 0 Weak 2 1 (Some 0) 0)) (replies.Object 3) ∷
+    row (steps.Plain (plain.Drop 0 0)) replies.Done ∷
+    row (steps.Plain (plain.Drop 0 1)) replies.Done ∷
+    row (steps.Plain (plain.Begin 11 Normal)) (replies.Cycle 1) ∷
+    row (steps.Plain (plain.Scan 0)) (replies.Scanned 3) ∷
+    row (steps.Plain (plain.Scan 0)) replies.Nothing ∷
+    row (steps.Plain plain.EndMark) (replies.Doomed 2) ∷
+    row (steps.Plain (plain.ClearNext 0)) (replies.Cleared 3) ∷
+    row (steps.Plain (plain.ClearNext 0)) replies.Nothing ∷
+    row (steps.Plain plain.EndClear) replies.Done ∷
     row (steps.Hand 0) (replies.Notice 3 0 (Cycle 1 0)) ∷
-    row (steps.Sweep 0) (replies.Swept 2) ∷
+    row (steps.Plain (plain.Sweep 0)) (replies.Swept 2) ∷
     row (steps.Put (Worker 0)) (replies.Added 0) ∷
     row (steps.Hand 0) replies.Nothing ∷
     []

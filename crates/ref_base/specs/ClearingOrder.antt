@@ -1,6 +1,6 @@
 -- The order in which a worker's notices were added to a queue, read off the rows and their replay (this project's
 -- profile).
-use Rattle.std.specs.Prelude.{ℕ, Bool, false, ◌==◌, ◌&&◌, if◌then◌else◌, List, [], ◌∷◌, ◌++◌, Option, Some, None}
+use Rattle.std.specs.Prelude.{ℕ, Bool, false, ◌==◌, ◌&&◌, if◌then◌else◌, List, [], ◌∷◌, ◌++◌}
 use Rattle.ref_base.specs.Worlds.{World, Notice, first_world, hand_of}
 use Rattle.ref_base.specs.Replay.{after}
 use Rattle.ref_base.specs.declared.cause.Cause.{Cause}
@@ -18,13 +18,17 @@ is_by k Own = false
 is_by k (Cycle cycle w) = w == k
 
 -- the reference that the notice reports, where worker k cleared it and it is for queue q
-abbrev pub if_worked : ℕ → ℕ → Option Notice → List ℕ
-if_worked k q None = []
-if_worked k q (Some notice) = if (notice.queue == q) && is_by k notice.cause then notice.object ∷ [] else []
+abbrev pub if_worked : ℕ → ℕ → Notice → List ℕ
+if_worked k q notice = if (notice.queue == q) && is_by k notice.cause then notice.object ∷ [] else []
 
--- what one row adds to queue q of what worker k cleared: the reference of the notice in the hand that puts
+-- that of the first notice in a hand
+abbrev pub first_worked : ℕ → ℕ → List Notice → List ℕ
+first_worked k q [] = []
+first_worked k q (notice ∷ rest) = if_worked k q notice
+
+-- what one row adds to queue q of what worker k cleared: the reference of the first notice in the hand that puts
 abbrev pub added_by : World → ℕ → ℕ → Step → Reply → List ℕ
-added_by w k q (steps.Put who) (replies.Added position) = if_worked k q (hand_of w who)
+added_by w k q (steps.Put who) (replies.Added position) = first_worked k q (hand_of w who)
 added_by w k q step reply = []
 
 abbrev pub added_from : World → ℕ → ℕ → List Row → List ℕ

@@ -23,6 +23,8 @@ use Rattle.ref_base.specs.declared.phase.Phase.TheVariants.{Idle, Marking, Clear
 use Rattle.ref_base.specs.declared.fault.Fault.{Fault}
 use Rattle.ref_base.specs.declared.fault.Fault.TheVariants.{NoMemory}
 use Rattle.ref_base.specs.declared.heap_step.HeapStep.TheVariants as heap
+use Rattle.ref_base.specs.declared.plain_step.PlainStep.{PlainStep}
+use Rattle.ref_base.specs.declared.plain_step.PlainStep.TheVariants as plain
 use Rattle.ref_base.specs.declared.step.Step.{Step}
 use Rattle.ref_base.specs.declared.step.Step.TheVariants as steps
 use Rattle.ref_base.specs.declared.reply.Reply.{Reply}
@@ -130,20 +132,20 @@ Holds a (Some n) reply b = Gives (replies.Object n) (on_heap a (with_hold a.worl
 
 -- a put is Already where the reference was ever put in, else Closed where the queue is closed, else Added; only then
 -- it may be refused for want of memory
-abbrev pub PutsInto : Bool → Bool → State → Actor → Notice → Reply → State → Type 0
-PutsInto true closed a who notice reply b = Gives replies.Already a reply b
-PutsInto false true a who notice reply b = Gives replies.Closed a reply b
-PutsInto false false a who notice reply b =
+abbrev pub PutsInto : Bool → Bool → State → Actor → Notice → List Notice → Reply → State → Type 0
+PutsInto true closed a who notice rest reply b = Gives replies.Already a reply b
+PutsInto false true a who notice rest reply b = Gives replies.Closed a reply b
+PutsInto false false a who notice rest reply b =
     Gives (replies.Added (length (enqueued object_of (queue_at a.world notice.queue))))
-    (with_world a (put_in a.world who (Some notice))) reply b
+    (with_world a (put_in a.world who (notice ∷ rest))) reply b
     ⊎ ((reply ≡ replies.Refused NoMemory) × (b ≡ a))
 
--- a put of the hand's notice
-abbrev pub Puts : State → Actor → Option Notice → Reply → State → Type 0
-Puts a who None reply b = ⊥
-Puts a who (Some notice) reply b =
+-- a put of the hand's first notice
+abbrev pub Puts : State → Actor → List Notice → Reply → State → Type 0
+Puts a who [] reply b = ⊥
+Puts a who (notice ∷ rest) reply b =
     let q = queue_at a.world notice.queue in
-    PutsInto (was_put object_of q notice) q.closed a who notice reply b
+    PutsInto (was_put object_of q notice) q.closed a who notice rest reply b
 
 -- a poll takes the first that stands
 abbrev pub Polls : State → ℕ → ℕ → List Notice → Reply → State → Type 0
@@ -273,22 +275,35 @@ Sweeps a (n ∷ ns) =
 
 -- ---- the rows of a heap
 
--- a step that isn't refused may be answered so, and leaves this state
-abbrev pub HeapAccepts : State → NamedStep → Reply → State → Type 0
-HeapAccepts a (heap.New m d k) = Makes a m d (plain_object a.next (nulls k))
-HeapAccepts a (heap.Refer m strength d s q k) =
+-- a step that hands nothing over and isn't refused may be answered so, and leaves this state
+abbrev pub PlainAccepts : State → PlainStep → Reply → State → Type 0
+PlainAccepts a (plain.New m d k) = Makes a m d (plain_object a.next (nulls k))
+PlainAccepts a (plain.Refer m strength d s q k) =
     Makes a m d (new_reference a.world.heap a.next strength (slot_at a.world.heap m s) q k)
-HeapAccepts a (heap.Store m s i v) = Gives replies.Done (on_heap a (stored a.world.heap m s i v))
-HeapAccepts a (heap.Load m d s i) = Loads a m d (field_in a.world.heap (slot_at a.world.heap m s) i)
-HeapAccepts a (heap.Copy m d s) =
+PlainAccepts a (plain.Store m s i v) = Gives replies.Done (on_heap a (stored a.world.heap m s i v))
+PlainAccepts a (plain.Load m d s i) = Loads a m d (field_in a.world.heap (slot_at a.world.heap m s) i)
+PlainAccepts a (plain.Copy m d s) =
     Gives (value_reply (slot_at a.world.heap m s)) (on_heap a (with_slot a.world.heap m d (slot_at a.world.heap m s)))
-HeapAccepts a (heap.Drop m s) = Gives replies.Done (on_heap a (with_slot a.world.heap m s None))
-HeapAccepts a (heap.Get m d s) =
+PlainAccepts a (plain.Drop m s) = Gives replies.Done (on_heap a (with_slot a.world.heap m s None))
+PlainAccepts a (plain.Get m d s) =
     Gets a m d s (referent_got (reference_of a.world.heap (slot_at a.world.heap m s)))
-HeapAccepts a (heap.Clear m s) = Gives replies.Done (on_heap a (cut a.world.heap m s))
-HeapAccepts a (heap.RefersTo m s v) =
+PlainAccepts a (plain.Clear m s) = Gives replies.Done (on_heap a (cut a.world.heap m s))
+PlainAccepts a (plain.RefersTo m s v) =
     let reference = reference_of a.world.heap (slot_at a.world.heap m s) in
     Gives (replies.Refers (is_same (referent_of reference) (slot_at a.world.heap m v))) a
+PlainAccepts a (plain.Begin now urgency) =
+    let n = a.world.cycle + 1 in
+    GivesAnew (replies.Cycle n) (begun_state a (begun a.world now urgency n))
+PlainAccepts a (plain.Scan k) = Scans a k
+PlainAccepts a plain.EndMark = EndsMark a
+PlainAccepts a (plain.ClearNext k) = ClearsNext a k (list_at a.found k)
+PlainAccepts a plain.EndClear = Gives replies.Done (with_world a (with_phase a.world Sweeping))
+PlainAccepts a (plain.Sweep k) = Sweeps a a.doomed
+PlainAccepts a plain.EndSweep = Gives replies.Done (with_world a (with_phase a.world Idle))
+
+-- a step that isn't refused may be answered so, and leaves this state
+abbrev pub HeapAccepts : State → NamedStep → Reply → State → Type 0
+HeapAccepts a (heap.Plain step) = PlainAccepts a step
 HeapAccepts a (heap.Unhook m s) =
     let held = slot_at a.world.heap m s in
     Unhooks a m s held (registered_in (reference_of a.world.heap held))
@@ -296,25 +311,16 @@ HeapAccepts a (heap.Hold m s) = Holds a (slot_at a.world.heap m s)
 HeapAccepts a (heap.Adopt m d hold) =
     Gives (replies.Object hold.object) (on_heap a (adopted a.world.heap m d hold.object))
 HeapAccepts a (heap.Release hold) = Gives replies.Done (on_heap a (without_hold a.world.heap hold.object))
-HeapAccepts a (heap.Begin now urgency) =
-    let n = a.world.cycle + 1 in
-    GivesAnew (replies.Cycle n) (begun_state a (begun a.world now urgency n))
-HeapAccepts a (heap.Scan k) = Scans a k
-HeapAccepts a heap.EndMark = EndsMark a
-HeapAccepts a (heap.ClearNext k) = ClearsNext a k (list_at a.found k)
-HeapAccepts a heap.EndClear = Gives replies.Done (with_world a (with_phase a.world Sweeping))
 HeapAccepts a (heap.Hand k) = HandsOn a k (pending_of a.world k)
-HeapAccepts a (heap.Sweep k) = Sweeps a a.doomed
-HeapAccepts a heap.EndSweep = Gives replies.Done (with_world a (with_phase a.world Idle))
 
 -- the row of a step that is refused or not
 abbrev pub IsHeapAnswer : State → Option Fault → NamedStep → Reply → State → Type 0
 IsHeapAnswer a (Some fault) step reply b = (reply ≡ replies.Refused fault) × (b ≡ a)
 IsHeapAnswer a None step reply b = HeapAccepts a step reply b
 
--- from this state, the step of the heap of this number may be answered so, and then leaves the state b
-abbrev pub IsHeapRow : (heap_no : ℕ) → State → NamedStep → Reply → State → Type 0
-IsHeapRow heap_no a step reply b = IsHeapAnswer a (heap_refusal heap_no a step) step reply b
+-- from this state, the step of the heap may be answered so, and then leaves the state b
+abbrev pub IsHeapRow : State → NamedStep → Reply → State → Type 0
+IsHeapRow a step reply b = IsHeapAnswer a (heap_refusal a step) step reply b
 
 -- ---- the rows
 

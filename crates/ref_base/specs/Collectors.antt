@@ -1,7 +1,7 @@
 -- The abstract collector, as plain data: a machine without marks (this project's profile, in the manner of JEP 333).
 use Rattle.std.specs.Prelude.{ℕ, Bool, false, List, [], ◌∷◌, ◌++◌, replicate}
 use Rattle.ref_base.specs.Graphs.{Graph}
-use Rattle.ref_base.specs.Worlds.{World, first_world}
+use Rattle.ref_base.specs.Worlds.{World, first_world_of}
 use Rattle.ref_base.specs.declared.config.Config.{Config}
 
 -- The state of the collector. Its world is that of the replay but for two things: the new clears are cleared from the
@@ -21,10 +21,10 @@ pub record State : Type 0 where
   pub cleared : List ℕ
   pub found : List (List ℕ)
 
--- at first no object is there, and the first has number 1
-abbrev pub first_state : Config → State
-first_state config = record {
-  world = first_world config;
+-- at first no object is there, and the first has number 1: of a heap of this number
+abbrev pub first_state_of : Config → ℕ → State
+first_state_of config number = record {
+  world = first_world_of config number;
   next = 1;
   born = 1;
   moments = [];
@@ -34,6 +34,10 @@ first_state config = record {
   cleared = [];
   found = replicate config.workers [];
 }
+
+-- and of a world with queues
+abbrev pub first_state : Config → State
+first_state config = first_state_of config 0
 
 -- the lists of all workers as one
 abbrev pub joined : List (List ℕ) → List ℕ

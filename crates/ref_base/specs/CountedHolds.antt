@@ -1,5 +1,5 @@
 -- That each notice which is out is a hold that the heap counts (this project's profile).
-use Rattle.std.specs.Prelude.{ℕ, suc, ◌==◌, ◌≤◌, if◌then◌else◌, List, [], ◌∷◌, ◌++◌, map, Option, Some, None}
+use Rattle.std.specs.Prelude.{ℕ, suc, ◌==◌, ◌≤◌, if◌then◌else◌, List, [], ◌∷◌, ◌++◌, map}
 use Rattle.ref_base.specs.Heaps.{one_more, one_fewer}
 use Rattle.ref_base.specs.HeapSteps.{NamedStep}
 use Rattle.ref_base.specs.QueueLists.{Lists}
@@ -13,14 +13,10 @@ abbrev pub tally : List ℕ → ℕ → ℕ
 tally [] n = 0
 tally (m ∷ ms) n = if m == n then suc (tally ms n) else tally ms n
 
--- what a hand's notice reports, if there is one
-abbrev pub in_hand : Option Notice → List ℕ
-in_hand None = []
-in_hand (Some notice) = notice.object ∷ []
-
-abbrev pub in_hands : List (Option Notice) → List ℕ
+-- what the notices of these hands report
+abbrev pub in_hands : List (List Notice) → List ℕ
 in_hands [] = []
-in_hands (hand ∷ hands) = in_hand hand ++ in_hands hands
+in_hands (hand ∷ hands) = map object_of hand ++ in_hands hands
 
 abbrev pub in_queues : List (Lists Notice) → List ℕ
 in_queues [] = []

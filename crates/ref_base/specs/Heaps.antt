@@ -8,19 +8,21 @@ use Rattle.ref_base.specs.Paths.{is_soft}
 use Rattle.ref_base.specs.declared.config.Config.{Config}
 use Rattle.ref_base.specs.declared.strength.Strength.{Strength}
 
--- A heap: its configuration; the objects in order of number; slot s of mutator m, at 16 * m + s of the slots; one
--- number for each hold that is out, in order; and the clock.
+-- A heap: its configuration and number; the objects in order of number; slot s of mutator m, at 16 * m + s of the
+-- slots; one number for each hold that is out, in order; and the clock.
 pub record Heap : Type 0 where
   pub config : Config
+  pub no : ℕ
   pub objects : List Object
   pub slots : List (Option ℕ)
   pub holds : List ℕ
   pub clock : ℕ
 
 -- at first there is no object, and each slot is empty
-abbrev pub first_heap : Config → Heap
-first_heap config = record {
+abbrev pub first_heap : Config → ℕ → Heap
+first_heap config number = record {
   config = config;
+  no = number;
   objects = [];
   slots = replicate (16 * config.mutators) None;
   holds = [];

@@ -1,6 +1,6 @@
 -- What a mark's end has shown of a reference that a cycle clears (package `java.lang.ref` of Java SE 17: a reference is
 -- cleared, and enqueued, once its referent is no longer reachable; cycles and kept paths: this project's profile).
-use Rattle.std.specs.Prelude.{◌≡◌, ℕ, true, false, List, ◌∷◌, ◌++◌, Option, Some, None}
+use Rattle.std.specs.Prelude.{◌≡◌, ℕ, true, false, List, ◌∷◌, ◌++◌, Some}
 use Rattle.std.specs.List.{AllByRecursion}
 use Rattle.ref_base.specs.Members.{has}
 use Rattle.ref_base.specs.Graphs.{Graph, is_there}
@@ -14,6 +14,7 @@ use Rattle.ref_base.specs.declared.config.Config.{Config}
 use Rattle.ref_base.specs.declared.actor.Actor.{Actor}
 use Rattle.ref_base.specs.declared.cause.Cause.{Cause}
 use Rattle.ref_base.specs.declared.cause.Cause.TheVariants.{Own, Cycle}
+use Rattle.ref_base.specs.declared.plain_step.PlainStep.TheVariants as plain
 use Rattle.ref_base.specs.declared.step.Step.TheVariants as steps
 use Rattle.ref_base.specs.declared.reply.Reply.TheVariants as replies
 use Rattle.ref_base.specs.declared.row.Row.{Row}
@@ -29,7 +30,7 @@ pub record MarkEnded (config : Config) (rows : List Row) (cycle n : ℕ) : Type 
   pub before : List Row
   pub count : ℕ
   pub behind : List Row
-  pub is_earlier : before ++ record { step = steps.EndMark; reply = replies.Doomed count } ∷ behind ≡ rows
+  pub is_earlier : before ++ record { step = steps.Plain plain.EndMark; reply = replies.Doomed count } ∷ behind ≡ rows
   pub of_cycle : (replayed config before).cycle ≡ cycle
   pub referent : ℕ
   pub referred : referent_of (reference_at (replayed config before).heap n) ≡ Some referent
@@ -40,7 +41,7 @@ pub record WasDoomed (config : Config) (rows : List Row) (n : ℕ) : Type 0 wher
   pub before : List Row
   pub count : ℕ
   pub behind : List Row
-  pub is_earlier : before ++ record { step = steps.EndMark; reply = replies.Doomed count } ∷ behind ≡ rows
+  pub is_earlier : before ++ record { step = steps.Plain plain.EndMark; reply = replies.Doomed count } ∷ behind ≡ rows
   pub dead : IsDead (replayed config before) n
 
 -- no root is one of these, and no other object refers to one of them, by a field or as a reference
@@ -54,14 +55,11 @@ abbrev pub IsAfterMark : Config → List Row → ℕ → Cause → Type 0
 IsAfterMark config rows n Own = Unit {0}
 IsAfterMark config rows n (Cycle cycle k) = MarkEnded config rows cycle n
 
--- a hand is empty, or so it is of its notice
-abbrev pub IsAfterMarkIn : Config → List Row → Option Notice → Type 0
-IsAfterMarkIn config rows None = Unit {0}
-IsAfterMarkIn config rows (Some notice) = IsAfterMark config rows notice.object notice.cause
+-- so it is of each of these notices
+abbrev pub AllAfterMarks : Config → List Row → List Notice → Type 0
+AllAfterMarks config rows = AllByRecursion (λ notice. IsAfterMark config rows notice.object notice.cause)
 
 -- and so it is of each notice that is out, in a hand or in a queue
 pub record AreAfterMarks (config : Config) (rows : List Row) (w : World) : Type 0 where
-  pub hands : (who : Actor) → IsAfterMarkIn config rows (hand_of w who)
-  pub queues :
-      (q : ℕ)
-      → AllByRecursion (λ (notice : Notice). IsAfterMark config rows notice.object notice.cause) (queue_at w q).stands
+  pub hands : (who : Actor) → AllAfterMarks config rows (hand_of w who)
+  pub queues : (q : ℕ) → AllAfterMarks config rows (queue_at w q).stands

@@ -1,4 +1,4 @@
--- Whether a number is in a list, and a list without the first entry of a number.
+-- Whether a number is in a list, and a list without its first entry, or without the first of a number.
 use Rattle.std.specs.Prelude.{◌≡◌, ℕ, Bool, false, ◌||◌, ◌==◌, if◌then◌else◌, List, [], ◌∷◌}
 
 -- whether n is among the numbers
@@ -10,6 +10,11 @@ has (m ∷ ms) n = (m == n) || has ms n
 abbrev pub AreDistinct : List ℕ → Type 0
 AreDistinct [] = Unit {0}
 AreDistinct (n ∷ ns) = (has ns n ≡ false) × AreDistinct ns
+
+-- the list without its first entry, where there is one
+abbrev pub rest_of : {T : Type 0} → List T → List T
+rest_of [] = []
+rest_of (x ∷ xs) = xs
 
 -- the list without the first entry whose number is n, where there is one
 abbrev pub without_first : {T : Type 0} → (T → ℕ) → List T → ℕ → List T

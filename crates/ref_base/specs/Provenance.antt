@@ -1,13 +1,14 @@
 -- Where a notice comes from, read off the rows alone: which row made its reference, and which one is its cause
 -- (package `java.lang.ref` of Java SE 17 for what registers a reference and what enqueues it; cycles and workers: this
 -- project's profile).
-use Rattle.std.specs.Prelude.{◌≡◌, ℕ, Bool, true, false, ◌&&◌, ◌==◌, if◌then◌else◌, List, [], ◌∷◌, Option, Some, None}
+use Rattle.std.specs.Prelude.{◌≡◌, ℕ, Bool, true, false, ◌&&◌, ◌==◌, if◌then◌else◌, List, [], ◌∷◌}
 use Rattle.std.specs.List.{AllByRecursion}
 use Rattle.ref_base.specs.Worlds.{World, Notice, hand_of, queue_at}
 use Rattle.ref_base.specs.WorkerOrder.{is_registered}
 use Rattle.ref_base.specs.declared.actor.Actor.{Actor}
 use Rattle.ref_base.specs.declared.cause.Cause.{Cause}
 use Rattle.ref_base.specs.declared.cause.Cause.TheVariants.{Own, Cycle}
+use Rattle.ref_base.specs.declared.plain_step.PlainStep.TheVariants as plain
 use Rattle.ref_base.specs.declared.step.Step.{Step}
 use Rattle.ref_base.specs.declared.step.Step.TheVariants as steps
 use Rattle.ref_base.specs.declared.reply.Reply.{Reply}
@@ -26,12 +27,12 @@ unhooks n step reply = false
 
 -- whether the row cleared reference n for worker k
 abbrev pub clears : ℕ → ℕ → Step → Reply → Bool
-clears k n (steps.ClearNext w) (replies.Cleared o) = (w == k) && (o == n)
+clears k n (steps.Plain (plain.ClearNext w)) (replies.Cleared o) = (w == k) && (o == n)
 clears k n step reply = false
 
 -- the cycle after one more row, where it was this one before: a begin answers the number of the next
 abbrev pub cycle_after : ℕ → Step → Reply → ℕ
-cycle_after now (steps.Begin clock how) (replies.Cycle n) = n
+cycle_after now (steps.Plain (plain.Begin clock how)) (replies.Cycle n) = n
 cycle_after now step reply = now
 
 -- whether one of the rows cleared reference n for worker k in this cycle, where it is cycle now at first
@@ -57,14 +58,9 @@ pub record IsProven (rows : List Row) (notice : Notice) : Type 0 where
   pub own_queue : is_registered rows notice.object notice.queue ≡ true
   pub own_cause : IsCause rows notice.object notice.cause
 
--- a hand is empty, or its notice comes from the rows
-abbrev pub IsProvenIn : List Row → Option Notice → Type 0
-IsProvenIn rows None = Unit {0}
-IsProvenIn rows (Some notice) = IsProven rows notice
-
 -- each notice that is out, in a hand or in a queue, comes from the rows
 pub record AreProven (rows : List Row) (w : World) : Type 0 where
-  pub hands : (who : Actor) → IsProvenIn rows (hand_of w who)
+  pub hands : (who : Actor) → AllByRecursion (IsProven rows) (hand_of w who)
   pub queues : (q : ℕ) → AllByRecursion (IsProven rows) (queue_at w q).stands
 
 -- whether the step may give a notice: an unhook, or a worker that hands one on

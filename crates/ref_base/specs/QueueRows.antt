@@ -1,8 +1,8 @@
 -- The lists of a queue, read off the rows of a trace alone: what was put in and what was taken, in order, and whether
 -- the queue was closed (this project's profile; Java SE 17 `java.lang.ref` has the queue without its order and end).
-use Rattle.std.specs.Prelude.{◌≡◌, ℕ, Bool, true, false, ◌||◌, if◌then◌else◌, ◌==◌, nat_eq, List, [], ◌∷◌, ◌++◌, Option}
-use Rattle.std.specs.Prelude.{Some, None}
+use Rattle.std.specs.Prelude.{◌≡◌, ℕ, Bool, true, false, ◌||◌, if◌then◌else◌, ◌==◌, nat_eq, List, [], ◌∷◌, ◌++◌}
 use Rattle.std.specs.List.{IsDistinct}
+use Rattle.ref_base.specs.Members.{rest_of}
 use Rattle.ref_base.specs.declared.step.Step.{Step}
 use Rattle.ref_base.specs.declared.step.Step.TheVariants.{Unhook, Put, Release, Poll, Adopt, Close, Hand}
 use Rattle.ref_base.specs.declared.actor.Actor.{Actor}
@@ -16,9 +16,9 @@ pub record HandNotice : Type 0 where
   pub object : ℕ
   pub queue : ℕ
 
--- what the hand of each mutator and worker holds
+-- what the hand of each mutator and worker holds, first first
 abbrev pub HandNotices : Type 0
-HandNotices = Actor → Option HandNotice
+HandNotices = Actor → List HandNotice
 
 abbrev pub is_same_actor : Actor → Actor → Bool
 is_same_actor (Mutator m) (Mutator k) = m == k
@@ -27,31 +27,35 @@ is_same_actor who other = false
 
 -- the hands at first: each is empty
 abbrev pub empty_hands : HandNotices
-empty_hands who = None
+empty_hands who = []
 
 -- the hands with what one of them holds replaced
-abbrev pub with_held : HandNotices → Actor → Option HandNotice → HandNotices
+abbrev pub with_held : HandNotices → Actor → List HandNotice → HandNotices
 with_held hands who held other = if is_same_actor other who then held else hands other
 
--- the hands after one more row: an unhook, a hand or a poll that gave a notice fills one; an added put, an adopt or a
--- release empties it
+-- the hands with what one of them holds but for its first
+abbrev pub with_held_rest : HandNotices → Actor → HandNotices
+with_held_rest hands who = with_held hands who (rest_of (hands who))
+
+-- the hands after one more row: an unhook, a hand or a poll that gave a notice fills one, which was empty; an added
+-- put, an adopt or a release takes the first from it
 abbrev pub held_after : HandNotices → Step → Reply → HandNotices
 held_after hands (Unhook m slot) (replies.Notice n q cause) =
-    with_held hands (Mutator m) (Some (record { object = n; queue = q }))
+    with_held hands (Mutator m) (record { object = n; queue = q } ∷ [])
 held_after hands (Hand w) (replies.Notice n q cause) =
-    with_held hands (Worker w) (Some (record { object = n; queue = q }))
-held_after hands (Poll m q) (replies.Took n) = with_held hands (Mutator m) (Some (record { object = n; queue = q }))
-held_after hands (Put who) (replies.Added position) = with_held hands who None
-held_after hands (Adopt m slot) (replies.Object n) = with_held hands (Mutator m) None
-held_after hands (Release who) replies.Done = with_held hands who None
+    with_held hands (Worker w) (record { object = n; queue = q } ∷ [])
+held_after hands (Poll m q) (replies.Took n) = with_held hands (Mutator m) (record { object = n; queue = q } ∷ [])
+held_after hands (Put who) (replies.Added position) = with_held_rest hands who
+held_after hands (Adopt m slot) (replies.Object n) = with_held_rest hands (Mutator m)
+held_after hands (Release who) replies.Done = with_held_rest hands who
 held_after hands step reply = hands
 
--- the reference that the held notice reports, where there is one and it is for queue q
-abbrev pub if_for : ℕ → Option HandNotice → List ℕ
-if_for q None = []
-if_for q (Some held) = if held.queue == q then held.object ∷ [] else []
+-- the reference that the first held notice reports, where there is one and it is for queue q
+abbrev pub if_for : ℕ → List HandNotice → List ℕ
+if_for q [] = []
+if_for q (held ∷ rest) = if held.queue == q then held.object ∷ [] else []
 
--- what one row puts into queue q: the reference that the hand's notice reports
+-- what one row puts into queue q: the reference that the hand's first notice reports
 abbrev pub put_by : HandNotices → ℕ → Step → Reply → List ℕ
 put_by hands q (Put who) (replies.Added position) = if_for q (hands who)
 put_by hands q step reply = []

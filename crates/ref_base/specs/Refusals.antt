@@ -18,6 +18,8 @@ use Rattle.ref_base.specs.declared.fault.Fault.TheVariants.{NoSuchActor, BadQueu
 use Rattle.ref_base.specs.declared.fault.Fault.TheVariants.{ClearingLeft, SweepLeft, HandFull, HandEmpty, ForeignHold}
 use Rattle.ref_base.specs.declared.heap_step.HoldName.{HoldName}
 use Rattle.ref_base.specs.declared.heap_step.HeapStep.TheVariants as heap
+use Rattle.ref_base.specs.declared.plain_step.PlainStep.{PlainStep}
+use Rattle.ref_base.specs.declared.plain_step.PlainStep.TheVariants as plain
 use Rattle.ref_base.specs.declared.step.Step.{Step}
 use Rattle.ref_base.specs.declared.step.Step.TheVariants as steps
 
@@ -122,13 +124,14 @@ abbrev pub is_actor : Heap → Actor → Bool
 is_actor h (Mutator m) = is_mutator h m
 is_actor h (Worker k) = is_worker h k
 
-abbrev pub unless_full : Option Notice → Option Fault → Option Fault
-unless_full None later = later
-unless_full (Some notice) later = Some HandFull
+-- HandFull where the hand holds a notice, and else what comes later
+abbrev pub unless_full : List Notice → Option Fault → Option Fault
+unless_full [] later = later
+unless_full (notice ∷ rest) later = Some HandFull
 
-abbrev pub empty_hand_refusal : Option Notice → Option Fault
-empty_hand_refusal None = Some HandEmpty
-empty_hand_refusal (Some notice) = None
+abbrev pub empty_hand_refusal : List Notice → Option Fault
+empty_hand_refusal [] = Some HandEmpty
+empty_hand_refusal (notice ∷ rest) = None
 
 abbrev pub hand_refusal : List Pending → Heap → Option Fault
 hand_refusal [] h = None
@@ -171,50 +174,54 @@ abbrev pub held_refusal : Heap → Option ℕ → Option Fault
 held_refusal h None = Some EmptySlot
 held_refusal h (Some n) = holds_refusal h
 
--- whether the heap of this number counts the hold
-abbrev pub is_counted : ℕ → Heap → HoldName → Bool
-is_counted heap_no h hold = (hold.heap_no == heap_no) && has h.holds hold.object
+-- whether the heap counts the hold
+abbrev pub is_counted : Heap → HoldName → Bool
+is_counted h hold = (hold.heap_no == h.no) && has h.holds hold.object
 
 -- of a hold that comes back
-abbrev pub hold_refusal : ℕ → Heap → HoldName → Option Fault
-hold_refusal heap_no h hold = unless (is_counted heap_no h hold) ForeignHold None
+abbrev pub hold_refusal : Heap → HoldName → Option Fault
+hold_refusal h hold = unless (is_counted h hold) ForeignHold None
 
 -- ---- the steps of a heap
 
--- the fault of a step of the heap of this number, or none where it is accepted
-abbrev pub heap_refusal : (heap_no : ℕ) → State → NamedStep → Option Fault
-heap_refusal heap_no a (heap.New m d k) = new_refusal a.world.heap a.next m d k
-heap_refusal heap_no a (heap.Refer m strength d s q k) = refer_refusal a.world.heap a.next m d s q k
-heap_refusal heap_no a (heap.Store m s i v) = store_refusal a.world.heap m s i v
-heap_refusal heap_no a (heap.Load m d s i) = load_refusal a.world.heap m d s i
-heap_refusal heap_no a (heap.Copy m d s) = copy_refusal a.world.heap m d s
-heap_refusal heap_no a (heap.Drop m s) = drop_refusal a.world.heap m s
-heap_refusal heap_no a (heap.Get m d s) = get_refusal a.world.heap m d s
-heap_refusal heap_no a (heap.Clear m s) = clear_refusal a.world.heap m s
-heap_refusal heap_no a (heap.RefersTo m s v) = get_refusal a.world.heap m v s
-heap_refusal heap_no a (heap.Unhook m s) =
+-- the fault of a step that hands nothing over, or none where it is accepted
+abbrev pub plain_refusal : State → PlainStep → Option Fault
+plain_refusal a (plain.New m d k) = new_refusal a.world.heap a.next m d k
+plain_refusal a (plain.Refer m strength d s q k) = refer_refusal a.world.heap a.next m d s q k
+plain_refusal a (plain.Store m s i v) = store_refusal a.world.heap m s i v
+plain_refusal a (plain.Load m d s i) = load_refusal a.world.heap m d s i
+plain_refusal a (plain.Copy m d s) = copy_refusal a.world.heap m d s
+plain_refusal a (plain.Drop m s) = drop_refusal a.world.heap m s
+plain_refusal a (plain.Get m d s) = get_refusal a.world.heap m d s
+plain_refusal a (plain.Clear m s) = clear_refusal a.world.heap m s
+plain_refusal a (plain.RefersTo m s v) = get_refusal a.world.heap m v s
+plain_refusal a (plain.Begin now how) = begin_refusal a.world.phase a.world.heap.clock a.world.cycle now
+plain_refusal a (plain.Scan k) = work_refusal a.world.heap a.world.phase Marking k
+plain_refusal a plain.EndMark = end_mark_refusal a.world.phase a.left
+plain_refusal a (plain.ClearNext k) = work_refusal a.world.heap a.world.phase Clearing k
+plain_refusal a plain.EndClear = in_phase a Clearing (unless (is_empty (joined a.found)) ClearingLeft None)
+plain_refusal a (plain.Sweep k) = work_refusal a.world.heap a.world.phase Sweeping k
+plain_refusal a plain.EndSweep = in_phase a Sweeping (unless (is_empty a.doomed) SweepLeft None)
+
+-- the fault of a step of the heap, or none where it is accepted
+abbrev pub heap_refusal : State → NamedStep → Option Fault
+heap_refusal a (heap.Plain step) = plain_refusal a step
+heap_refusal a (heap.Unhook m s) =
     unless (has_slot a.world.heap m s) NoSuchActor (unhook_refusal a.world.heap (slot_at a.world.heap m s))
-heap_refusal heap_no a (heap.Hold m s) =
+heap_refusal a (heap.Hold m s) =
     unless (has_slot a.world.heap m s) NoSuchActor (held_refusal a.world.heap (slot_at a.world.heap m s))
-heap_refusal heap_no a (heap.Adopt m d hold) =
-    unless (has_slot a.world.heap m d) NoSuchActor (hold_refusal heap_no a.world.heap hold)
-heap_refusal heap_no a (heap.Release hold) = hold_refusal heap_no a.world.heap hold
-heap_refusal heap_no a (heap.Begin now how) = begin_refusal a.world.phase a.world.heap.clock a.world.cycle now
-heap_refusal heap_no a (heap.Scan k) = work_refusal a.world.heap a.world.phase Marking k
-heap_refusal heap_no a heap.EndMark = end_mark_refusal a.world.phase a.left
-heap_refusal heap_no a (heap.ClearNext k) = work_refusal a.world.heap a.world.phase Clearing k
-heap_refusal heap_no a heap.EndClear = in_phase a Clearing (unless (is_empty (joined a.found)) ClearingLeft None)
-heap_refusal heap_no a (heap.Hand k) =
+heap_refusal a (heap.Adopt m d hold) =
+    unless (has_slot a.world.heap m d) NoSuchActor (hold_refusal a.world.heap hold)
+heap_refusal a (heap.Release hold) = hold_refusal a.world.heap hold
+heap_refusal a (heap.Hand k) =
     unless (is_worker a.world.heap k) NoSuchActor (hand_refusal (pending_of a.world k) a.world.heap)
-heap_refusal heap_no a (heap.Sweep k) = work_refusal a.world.heap a.world.phase Sweeping k
-heap_refusal heap_no a heap.EndSweep = in_phase a Sweeping (unless (is_empty a.doomed) SweepLeft None)
 
 -- ---- the steps
 
 -- what a step of the world asks of its heap may be refused there
 abbrev pub asked_refusal : State → Option NamedStep → Option Fault
 asked_refusal a None = None
-asked_refusal a (Some asked) = heap_refusal 0 a asked
+asked_refusal a (Some asked) = heap_refusal a asked
 
 -- The fault of a step, or none where it is accepted. That a hand is full or empty comes behind the actor and in front
 -- of what the heap refuses. A hand's notice is a hold that the heap counts, so an adopt and a release are refused for
@@ -222,10 +229,10 @@ asked_refusal a (Some asked) = heap_refusal 0 a asked
 abbrev pub refusal : State → Step → Option Fault
 refusal a (steps.Unhook m s) =
     unless (has_slot a.world.heap m s) NoSuchActor
-    (unless_full (hand_of a.world (Mutator m)) (heap_refusal 0 a (heap.Unhook m s)))
+    (unless_full (hand_of a.world (Mutator m)) (heap_refusal a (heap.Unhook m s)))
 refusal a (steps.Hand k) =
     unless (is_worker a.world.heap k) NoSuchActor
-    (unless_full (hand_of a.world (Worker k)) (heap_refusal 0 a (heap.Hand k)))
+    (unless_full (hand_of a.world (Worker k)) (heap_refusal a (heap.Hand k)))
 refusal a (steps.Put who) = unless (is_actor a.world.heap who) NoSuchActor (empty_hand_refusal (hand_of a.world who))
 refusal a (steps.Poll m q) =
     unless (is_mutator a.world.heap m) NoSuchActor

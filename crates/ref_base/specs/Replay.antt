@@ -21,6 +21,8 @@ use Rattle.ref_base.specs.declared.urgency.Urgency.{Urgency}
 use Rattle.ref_base.specs.declared.phase.Phase.{Phase}
 use Rattle.ref_base.specs.declared.phase.Phase.TheVariants.{Idle, Marking, Clearing, Sweeping}
 use Rattle.ref_base.specs.declared.heap_step.HeapStep.TheVariants as heap
+use Rattle.ref_base.specs.declared.plain_step.PlainStep.{PlainStep}
+use Rattle.ref_base.specs.declared.plain_step.PlainStep.TheVariants as plain
 use Rattle.ref_base.specs.declared.step.Step.{Step}
 use Rattle.ref_base.specs.declared.step.Step.TheVariants as steps
 use Rattle.ref_base.specs.declared.reply.Reply.{Reply}
@@ -33,16 +35,16 @@ if_told (Some told) change before = change told
 
 -- ---- what each kind of row changes
 
--- the hand's notice stands last in its queue
-abbrev pub put_in : World → Actor → Option Notice → World
-put_in w a None = w
-put_in w a (Some notice) =
-    with_queue (with_hand w a None) notice.queue (with_parcel (queue_at w notice.queue) notice)
+-- the hand's first notice stands last in its queue, and the hand holds the rest
+abbrev pub put_in : World → Actor → List Notice → World
+put_in w a [] = w
+put_in w a (notice ∷ rest) =
+    with_queue (with_hand w a rest) notice.queue (with_parcel (queue_at w notice.queue) notice)
 
--- the notice of n among these
-abbrev pub notice_of : List Notice → ℕ → Option Notice
-notice_of [] n = None
-notice_of (notice ∷ rest) n = if notice.object == n then Some notice else notice_of rest n
+-- the notice of n among these, alone
+abbrev pub notice_of : List Notice → ℕ → List Notice
+notice_of [] n = []
+notice_of (notice ∷ rest) n = if notice.object == n then notice ∷ [] else notice_of rest n
 
 -- these without the notice of n
 abbrev pub without_notice : List Notice → ℕ → List Notice
@@ -52,7 +54,7 @@ without_notice = without_first object_of
 abbrev pub taken_out : Lists Notice → ℕ → Lists Notice
 taken_out q n = record q { taken = q.taken ++ n ∷ []; stands = without_notice q.stands n }
 
--- the hand holds the notice of n, which stood in the queue
+-- the hand, which was empty, holds the notice of n, which stood in the queue
 abbrev pub took : World → ℕ → ℕ → ℕ → World
 took w m q n =
     with_hand (with_queue w q (taken_out (queue_at w q) n)) (Mutator m) (notice_of (queue_at w q).stands n)
@@ -100,20 +102,31 @@ closed_queue w q = with_queue w q (let k = queue_at w q in record k { closed = t
 
 -- ---- the replay
 
--- the world after one more row of its heap, but for its hands
-abbrev pub after_heap : World → NamedStep → Reply → World
-after_heap w (heap.New m d k) r =
+-- the world after one more row of a step that hands nothing over
+abbrev pub after_plain : World → PlainStep → Reply → World
+after_plain w (plain.New m d k) r =
     if_told (told_object r) (λ n. with_heap w (made w.heap m d (plain_object n (nulls k)))) w
-after_heap w (heap.Refer m strength d s q k) r =
+after_plain w (plain.Refer m strength d s q k) r =
     if_told (told_object r)
     (λ n. with_heap w (made w.heap m d (new_reference w.heap n strength (slot_at w.heap m s) q k))) w
-after_heap w (heap.Store m s i v) r = if is_done r then with_heap w (stored w.heap m s i v) else w
-after_heap w (heap.Load m d s i) r = if_told (told_value r) (λ value. with_heap w (with_slot w.heap m d value)) w
-after_heap w (heap.Copy m d s) r = if_told (told_value r) (λ value. with_heap w (with_slot w.heap m d value)) w
-after_heap w (heap.Drop m s) r = if is_done r then with_heap w (with_slot w.heap m s None) else w
-after_heap w (heap.Get m d s) r = if_told (told_value r) (λ value. with_heap w (got w.heap m d s value)) w
-after_heap w (heap.Clear m s) r = if is_done r then with_heap w (cut w.heap m s) else w
-after_heap w (heap.RefersTo m s v) r = w
+after_plain w (plain.Store m s i v) r = if is_done r then with_heap w (stored w.heap m s i v) else w
+after_plain w (plain.Load m d s i) r = if_told (told_value r) (λ value. with_heap w (with_slot w.heap m d value)) w
+after_plain w (plain.Copy m d s) r = if_told (told_value r) (λ value. with_heap w (with_slot w.heap m d value)) w
+after_plain w (plain.Drop m s) r = if is_done r then with_heap w (with_slot w.heap m s None) else w
+after_plain w (plain.Get m d s) r = if_told (told_value r) (λ value. with_heap w (got w.heap m d s value)) w
+after_plain w (plain.Clear m s) r = if is_done r then with_heap w (cut w.heap m s) else w
+after_plain w (plain.RefersTo m s v) r = w
+after_plain w (plain.Begin now urgency) r = if_told (told_cycle r) (λ n. begun w now urgency n) w
+after_plain w (plain.Scan k) r = w
+after_plain w plain.EndMark r = if is_mark_end r then with_phase w Clearing else w
+after_plain w (plain.ClearNext k) r = if_told (told_cleared r) (λ n. cleared_for w k n) w
+after_plain w plain.EndClear r = if is_done r then with_phase w Sweeping else w
+after_plain w (plain.Sweep k) r = w
+after_plain w plain.EndSweep r = if is_done r then with_phase w Idle else w
+
+-- the world after one more row of its heap, but for its hands
+abbrev pub after_heap : World → NamedStep → Reply → World
+after_heap w (heap.Plain step) r = after_plain w step r
 after_heap w (heap.Unhook m s) r =
     let unhooked = with_heap w (cut w.heap m s) in
     if is_nothing r then unhooked
@@ -121,14 +134,7 @@ after_heap w (heap.Unhook m s) r =
 after_heap w (heap.Hold m s) r = if_told (told_object r) (λ n. with_heap w (with_hold w.heap n)) w
 after_heap w (heap.Adopt m d hold) r = if_told (told_object r) (λ n. with_heap w (adopted w.heap m d n)) w
 after_heap w (heap.Release hold) r = if is_done r then with_heap w (without_hold w.heap hold.object) else w
-after_heap w (heap.Begin now urgency) r = if_told (told_cycle r) (λ n. begun w now urgency n) w
-after_heap w (heap.Scan k) r = w
-after_heap w heap.EndMark r = if is_mark_end r then with_phase w Clearing else w
-after_heap w (heap.ClearNext k) r = if_told (told_cleared r) (λ n. cleared_for w k n) w
-after_heap w heap.EndClear r = if is_done r then with_phase w Sweeping else w
 after_heap w (heap.Hand k) r = if_told (told_notice r) (λ notice. handed_on w k notice.object) w
-after_heap w (heap.Sweep k) r = w
-after_heap w heap.EndSweep r = if is_done r then with_phase w Idle else w
 
 -- the world after one more row of its queues
 abbrev pub after_queues : World → Step → Reply → World

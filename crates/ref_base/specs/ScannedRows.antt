@@ -1,5 +1,6 @@
 -- What a cycle scanned, read off the rows alone (this project's profile).
 use Rattle.std.specs.Prelude.{ℕ, List, [], ◌∷◌, ◌++◌}
+use Rattle.ref_base.specs.declared.plain_step.PlainStep.TheVariants as plain
 use Rattle.ref_base.specs.declared.step.Step.{Step}
 use Rattle.ref_base.specs.declared.step.Step.TheVariants as steps
 use Rattle.ref_base.specs.declared.reply.Reply.{Reply}
@@ -8,8 +9,8 @@ use Rattle.ref_base.specs.declared.row.Row.{Row}
 
 -- what the cycle scanned after one more row, where it scanned these before: a cycle that begins has scanned nothing
 abbrev pub scanned_with : List ℕ → Step → Reply → List ℕ
-scanned_with ns (steps.Begin now how) (replies.Cycle n) = []
-scanned_with ns (steps.Scan k) (replies.Scanned n) = ns ++ n ∷ []
+scanned_with ns (steps.Plain (plain.Begin now how)) (replies.Cycle n) = []
+scanned_with ns (steps.Plain (plain.Scan k)) (replies.Scanned n) = ns ++ n ∷ []
 scanned_with ns step reply = ns
 
 abbrev pub scanned_from : List ℕ → List Row → List ℕ

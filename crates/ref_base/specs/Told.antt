@@ -54,3 +54,9 @@ is_mark_end r = false
 abbrev pub told_cleared : Reply → Option ℕ
 told_cleared (replies.Cleared n) = Some n
 told_cleared r = None
+
+-- the object that a reply names: one that a slot or a hold then has, or the reference of a notice
+abbrev pub named_by : Reply → Option ℕ
+named_by (replies.Object n) = Some n
+named_by (replies.Notice n q cause) = Some n
+named_by reply = None

@@ -1,5 +1,6 @@
 -- The order in which a worker cleared references, read off the rows alone (this project's profile).
 use Rattle.std.specs.Prelude.{ℕ, Bool, true, false, ◌==◌, ◌&&◌, if◌then◌else◌, List, [], ◌∷◌, ◌++◌, Option, Some, None}
+use Rattle.ref_base.specs.declared.plain_step.PlainStep.TheVariants as plain
 use Rattle.ref_base.specs.declared.step.Step.{Step}
 use Rattle.ref_base.specs.declared.step.Step.TheVariants as steps
 use Rattle.ref_base.specs.declared.reply.Reply.{Reply}
@@ -8,7 +9,7 @@ use Rattle.ref_base.specs.declared.row.Row.{Row}
 
 -- whether the row made reference n, registered with queue q
 abbrev pub registers : ℕ → ℕ → Step → Reply → Bool
-registers n q (steps.Refer m strength d s (Some k) fields) (replies.Object o) = (o == n) && (k == q)
+registers n q (steps.Plain (plain.Refer m strength d s (Some k) fields)) (replies.Object o) = (o == n) && (k == q)
 registers n q step reply = false
 
 -- whether a row made reference n, registered with queue q
@@ -18,7 +19,7 @@ is_registered (row ∷ rows) n q = if registers n q row.step row.reply then true
 
 -- the reference that the row cleared for worker k
 abbrev pub cleared_by : ℕ → Step → Reply → Option ℕ
-cleared_by k (steps.ClearNext w) (replies.Cleared n) = if w == k then Some n else None
+cleared_by k (steps.Plain (plain.ClearNext w)) (replies.Cleared n) = if w == k then Some n else None
 cleared_by k step reply = None
 
 abbrev pub if_registered : List Row → ℕ → Option ℕ → List ℕ

@@ -1,6 +1,6 @@
 -- A heap, its queues and everybody's hands, as plain data, and the changes that steps make to them (hands, pending
 -- references, cycles and the order of queues: this project's profile).
-use Rattle.std.specs.Prelude.{◌≡◌, ℕ, List, [], ◌∷◌, ◌++◌, map, replicate, Option, None, slice_index_or, slice_set}
+use Rattle.std.specs.Prelude.{◌≡◌, ℕ, List, [], ◌∷◌, ◌++◌, map, replicate, slice_index_or, slice_set}
 use Rattle.ref_base.specs.Graphs.{Graph}
 use Rattle.ref_base.specs.Paths.{present}
 use Rattle.ref_base.specs.KeptPaths.{policy_from}
@@ -28,30 +28,34 @@ pub record Pending : Type 0 where
   pub queue : ℕ
   pub cycle : ℕ
 
--- A heap, the hands of mutators and workers, the queues, the pending references of each worker, and the policy of the
--- cycle, its number and its phase. Hands, queues and pending lists stand in the order of their numbers.
+-- A heap, the notices in the hands of mutators and workers, the queues, the pending references of each worker, and the
+-- policy of the cycle, its number and its phase. Hands, queues and pending lists stand in the order of their numbers.
 pub record World : Type 0 where
   pub heap : Heap
-  pub mutator_hands : List (Option Notice)
-  pub worker_hands : List (Option Notice)
+  pub mutator_hands : List (List Notice)
+  pub worker_hands : List (List Notice)
   pub queues : List (Lists Notice)
   pub pending : List (List Pending)
   pub policy : Policy
   pub cycle : ℕ
   pub phase : Phase
 
--- at first there is nothing anywhere
-abbrev pub first_world : Config → World
-first_world config = record {
-  heap = first_heap config;
-  mutator_hands = replicate config.mutators None;
-  worker_hands = replicate config.workers None;
+-- at first there is nothing anywhere, with a heap of this number
+abbrev pub first_world_of : Config → ℕ → World
+first_world_of config number = record {
+  heap = first_heap config number;
+  mutator_hands = replicate config.mutators [];
+  worker_hands = replicate config.workers [];
   queues = new_queues 0 config.queues;
   pending = replicate config.workers [];
   policy = policy_from config 0 Normal;
   cycle = 0;
   phase = Idle;
 }
+
+-- the heap of a world with queues has number 0
+abbrev pub first_world : Config → World
+first_world config = first_world_of config 0
 
 -- the numbers of pending references, worker by worker
 abbrev pub pending_numbers : List (List Pending) → List ℕ
@@ -77,9 +81,10 @@ object_of notice = notice.object
 
 -- ---- what is read
 
-abbrev pub hand_of : World → Actor → Option Notice
-hand_of w (Mutator m) = slice_index_or w.mutator_hands m None
-hand_of w (Worker k) = slice_index_or w.worker_hands k None
+-- the notices in the actor's hand, first first
+abbrev pub hand_of : World → Actor → List Notice
+hand_of w (Mutator m) = slice_index_or w.mutator_hands m []
+hand_of w (Worker k) = slice_index_or w.worker_hands k []
 
 abbrev pub queue_at : World → ℕ → Lists Notice
 queue_at w q = slice_index_or w.queues q (new_queue q)
@@ -92,7 +97,7 @@ pending_of w k = slice_index_or w.pending k []
 abbrev pub with_heap : World → Heap → World
 with_heap w heap = record w { heap = heap }
 
-abbrev pub with_hand : World → Actor → Option Notice → World
+abbrev pub with_hand : World → Actor → List Notice → World
 with_hand w (Mutator m) hand = record w { mutator_hands = slice_set w.mutator_hands m hand }
 with_hand w (Worker k) hand = record w { worker_hands = slice_set w.worker_hands k hand }
 

@@ -2,10 +2,10 @@
 
 ghost use Rattle.std.specs.Prelude.{◌≡◌, [], ◌∷◌, Some};
 ghost use Rattle.std.specs.Fmt.{DisplaysOnOk};
-ghost use Rattle.ref_base.specs.Texts.{Letters, word_text, text_of};
+ghost use Rattle.ref_base.specs.Texts.{Letters, word_text, text_of, mutator, worker, slot};
 ghost use Rattle.ref_base.specs.Words.{word_of, spelt};
 
-use self::Word::{End, Name};
+use self::Word::{End, Mutator, Name, Slot, Worker};
 use crate::{Actor, MutNo, QueueNo, SlotNo, WorkerNo};
 use std::fmt;
 
@@ -46,6 +46,20 @@ pub(crate) fn alone(name: &'static str) -> [Word; 6]
     ensures { spelt result ≡ Letters name.now ∷ [] }
 {
     [Name(name), End, End, End, End, End]
+}
+
+/// As `w0 scan`.
+pub(crate) fn by_worker(by: WorkerNo, name: &'static str) -> [Word; 6]
+    ensures { spelt result ≡ worker by ∷ Letters name.now ∷ [] }
+{
+    [Worker(by), Name(name), End, End, End, End]
+}
+
+/// As `m0 drop s0`.
+pub(crate) fn at_slot(by: MutNo, name: &'static str, at: SlotNo) -> [Word; 6]
+    ensures { spelt result ≡ mutator by ∷ Letters name.now ∷ slot at ∷ [] }
+{
+    [Mutator(by), Name(name), Slot(at), End, End, End]
 }
 
 /// Prints the words up to the first `End`, with one space between each two.

@@ -6,7 +6,7 @@ ghost use Rattle.ref_share.specs.HeapSeats.{IsHeapSeat};
 
 use crate::letters::{CONFIG, QUEUE};
 use crate::timing::{Sample, Timer};
-use ref_base::{Fault, HeapStep, MutNo, SlotNo};
+use ref_base::{Fault, MutNo, PlainStep, SlotNo};
 use ref_queue::{Action, Job};
 use ref_share::{
     CleanSeat, Cleanable, Cleaned, HeapSeat, SharedCleaner, SharedHeap, run_jobs_left,
@@ -129,7 +129,7 @@ fn register_and_run<R: Wait + Clock>(
         × IsHeapSeat user.heap.now user.heap_seat }
 {
     let mut user = user;
-    let object = HeapStep::New {
+    let object = PlainStep::New {
         mutator: MUTATOR,
         slot: OBJECT,
         fields: 0,

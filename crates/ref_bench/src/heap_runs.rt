@@ -5,7 +5,7 @@ ghost use Rattle.ref_share.specs.HeapSeats.{IsHeapSeat};
 
 use crate::letters::{CONFIG, Letter, QUEUE};
 use crate::timing::{Sample, Timer};
-use ref_base::{Fault, HeapStep, MutNo, SlotNo, Strength, Urgency, WorkerNo};
+use ref_base::{Fault, MutNo, PlainStep, SlotNo, Strength, Urgency, WorkerNo};
 use ref_clear::Heap;
 use ref_queue::{Polled, Queue};
 use ref_share::{HeapSeat, SharedHeap};
@@ -114,7 +114,7 @@ impl<'a> Caller<'a> {
         requires { IsHeapSeat self.old.heap.now self.old.seat }
         ensures { IsHeapSeat self.new.heap.now self.new.seat }
     {
-        let step = HeapStep::Copy {
+        let step = PlainStep::Copy {
             mutator: self.mutator,
             slot: SlotNo(1),
             source: SlotNo(0),

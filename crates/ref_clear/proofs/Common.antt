@@ -10,7 +10,7 @@ pub use Rattle.ref_base.specs.Heaps.{Heap, changed_in, changed_reference, cleare
 pub use Rattle.ref_base.specs.Heaps.{new_reference, nulls, one_more, reference_at, reference_in, registered_in, slot_at}
 pub use Rattle.ref_base.specs.Heaps.{stored, with_changed, with_field, with_hold, with_reference}
 pub use Rattle.ref_base.specs.KeptPaths.{is_kept}
-pub use Rattle.ref_base.specs.Members.{AreDistinct, has}
+pub use Rattle.ref_base.specs.Members.{AreDistinct, has, rest_of}
 pub use Rattle.ref_base.specs.Paths.{Allowed, allowed_referent, present, soft_and_weak_referents, targets_at}
 pub use Rattle.ref_base.specs.Paths.{targets_of}
 pub use Rattle.ref_base.specs.Refusals.{hand_refusal, has_slot, heap_refusal, holds_refusal, is_empty, is_in, is_worker}
@@ -33,7 +33,7 @@ pub use Rattle.ref_mark.specs.MarkCalls.{after_mint_in, is_of_marking, mint_answ
 pub use Rattle.ref_mark.specs.MarkRows.{starting_state}
 pub use Rattle.ref_mark.specs.MarkViews.{ground_of, worklists_of}
 pub use Rattle.ref_mark.specs.Standing.{FactsBut, MarkStands, ReadsAs, shown_heap, unsaid}
-pub use Rattle.ref_mark.specs.Worklists.{Worklist, empty_worklist, first_in, rest_of}
+pub use Rattle.ref_mark.specs.Worklists.{Worklist, empty_worklist, first_in}
 pub use Rattle.ref_clear.specs.ClearCalls.{after_in, answer_in, answer_of_hand, answer_of_look, answer_of_sweep}
 pub use Rattle.ref_clear.specs.ClearCalls.{answer_of_unhook, queue_in, refusal_in}
 pub use Rattle.ref_clear.specs.ClearHeaps.{ClearHeap, begun_with, cut_at, handed_from, heap_pended, holding}

@@ -9,6 +9,7 @@ use Rattle.ref_clear.proofs.Common.{cycle_in_phase, MarkStands, FactsBut, shown_
 use Rattle.ref_clear.proofs.Common.{HeapStands}
 use Rattle.ref_base.specs.Replay.{with_phase as world_with_phase}
 use Rattle.ref_base.specs.declared.heap_step.HeapStep.TheVariants as heap
+use Rattle.ref_base.specs.declared.plain_step.PlainStep.TheVariants as plain
 use Rattle.ref_base.specs.declared.reply.Reply.TheVariants as replies
 use Rattle.ref_base.proofs.Forgetting.{heap_but-none}
 use Rattle.ref_mark.proofs.DoomedLists.{has-unmarked}
@@ -49,8 +50,8 @@ clear_ended_stands k a stands none =
       };
     }
 
-pub end_clear_row : (c : ClearHeap) (a : State) → HeapStands c a → refusal_in c heap.EndClear ≡ None
-    → (b : State) × HeapAccepts a heap.EndClear replies.Done b
+pub end_clear_row : (c : ClearHeap) (a : State) → HeapStands c a → refusal_in c (heap.Plain plain.EndClear) ≡ None
+    → (b : State) × HeapAccepts a (heap.Plain plain.EndClear) replies.Done b
     × HeapStands (with_mark c (cycle_in_phase c.mark Sweeping)) b
 end_clear_row c a stands none = grind (arith, clear_ended_stands)
 
@@ -61,6 +62,7 @@ sweep_ended_stands : (k : CycleHeap) (a : State) → MarkStands (cycle_in_phase 
     → MarkStands (cycle_in_phase k Idle) (with_world a (world_with_phase a.world Idle))
 sweep_ended_stands k a stands none = grind (arith, has-unmarked)
 
-pub end_sweep_row : (c : ClearHeap) (a : State) → HeapStands c a → refusal_in c heap.EndSweep ≡ None
-    → (b : State) × HeapAccepts a heap.EndSweep replies.Done b × HeapStands (with_mark c (cycle_in_phase c.mark Idle)) b
+pub end_sweep_row : (c : ClearHeap) (a : State) → HeapStands c a → refusal_in c (heap.Plain plain.EndSweep) ≡ None
+    → (b : State) × HeapAccepts a (heap.Plain plain.EndSweep) replies.Done b
+    × HeapStands (with_mark c (cycle_in_phase c.mark Idle)) b
 end_sweep_row c a stands none = grind (arith, sweep_ended_stands)

@@ -31,11 +31,11 @@ module _ (config : Config) (heap_no obj cycle : ℕ) where
       → seen_heap k lists ≡ first_clear_heap config heap_no obj cycle
   seen_first {k} {lists} first are = grind (arith, lists_of-replicate)
 
-  pub first_stands : MarkStands (first_cycle_heap config heap_no obj cycle) (starting_state config obj cycle)
-      → HeapStands (first_clear_heap config heap_no obj cycle) (starting_state config obj cycle)
+  pub first_stands : MarkStands (first_cycle_heap config heap_no obj cycle) (starting_state config heap_no obj cycle)
+      → HeapStands (first_clear_heap config heap_no obj cycle) (starting_state config heap_no obj cycle)
   first_stands stands = search (length-replicate, none_pending)
 
   pub first_sound : {k : CycleHeap} {lists : List Worklist} → k ≡ first_cycle_heap config heap_no obj cycle
-      → MarkStands k (starting_state config obj cycle)
+      → MarkStands k (starting_state config heap_no obj cycle)
       → lists ≡ replicate config.workers (empty_worklist config.cells) → IsSoundHeap k lists 0
   first_sound {k} {lists} first stands are = grind (arith, have_room, none_listed, seen_first, first_stands)

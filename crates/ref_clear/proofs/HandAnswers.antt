@@ -5,12 +5,13 @@ use Rattle.std.proofs.Common.{None, inl, inr}
 use Rattle.std.proofs.lemmas.Bool.{lt-ltb, or_right}
 use Rattle.ref_clear.proofs.Common.{has, Pending, pending_numbers, is_worker, hand_refusal, Cycle, Fault, mint_refusal}
 use Rattle.ref_clear.proofs.Common.{CycleHeap, mint_answer_in, after_mint_in, ground_of, pending_at, holding}
-use Rattle.ref_clear.proofs.Common.{handed_from, refusal_in, answer_in, after_in, answer_of_hand, Worklist}
+use Rattle.ref_clear.proofs.Common.{handed_from, refusal_in, answer_of_hand, Worklist}
 use Rattle.ref_clear.proofs.Common.{pending_lists_of, pendings_in, seen_heap, AreRegistered, IsSoundHeap, pending_from}
 use Rattle.ref_clear.proofs.Common.{Object, rest_of}
 use Rattle.ref_base.specs.declared.heap_step.HeapStep.TheVariants as heap
 use Rattle.ref_base.specs.declared.reply.Reply.TheVariants as replies
 use Rattle.ref_base.proofs.HasLaws.{has-right}
+use Rattle.ref_clear.specs.ClearCalls.{HeapDoes}
 use Rattle.ref_clear.specs.ClearViews.{first_pending}
 use Rattle.ref_objects.specs.Grounds.{Tag}
 use Rattle.ref_mark.specs.Worklists.{without_first_listed}
@@ -44,8 +45,7 @@ module _ {k : CycleHeap} {lists : List Worklist} {swept_to : ℕ} (w : ℕ) (sou
 
   -- nothing is pending
   pub none_to_hand : pending_from (pending_at (seen_heap k lists) w) 0 ≡ None
-      → (replies.Nothing ≡ answer_in (seen_heap k lists) (heap.Hand w))
-      × (seen_heap k lists ≡ after_in (seen_heap k lists) (heap.Hand w))
+      → HeapDoes (seen_heap k lists) (heap.Hand w) replies.Nothing (seen_heap k lists)
   none_to_hand none = grind arith
 
   -- with a first that is pending, the mint of its hold decides
@@ -69,14 +69,14 @@ module _ {k : CycleHeap} {lists : List Worklist} {swept_to : ℕ} (w : ℕ) (sou
 
     pub hand_refused : {j : CycleHeap} {fault : Fault} → replies.Refused fault ≡ mint_answer_in k p.object
         → j ≡ after_mint_in k p.object
-        → (replies.Refused fault ≡ answer_in (seen_heap k lists) (heap.Hand w))
-        × (seen_heap j lists ≡ after_in (seen_heap k lists) (heap.Hand w)) × AreRegistered j.heap.objects lists
+        → HeapDoes (seen_heap k lists) (heap.Hand w) (replies.Refused fault) (seen_heap j lists)
+        × AreRegistered j.heap.objects lists
     hand_refused {j} {fault} answer after = grind (arith, refusal)
 
     pub handed : {j : CycleHeap} {l m : Worklist} {n : ℕ} → replies.Object n ≡ mint_answer_in k p.object
         → j ≡ after_mint_in k p.object → l ≡ get_or lists w l → m ≡ without_first_listed l
-        → (replies.Notice n p.queue (Cycle p.cycle w) ≡ answer_in (seen_heap k lists) (heap.Hand w))
-        × (seen_heap j (set lists w m) ≡ after_in (seen_heap k lists) (heap.Hand w))
+        → HeapDoes (seen_heap k lists) (heap.Hand w) (replies.Notice n p.queue (Cycle p.cycle w))
+        (seen_heap j (set lists w m))
         × AreRegistered j.heap.objects (set lists w m)
     handed {j} {l} {m} {n} answer after read taken =
         let mint = minted k p.object n answer after in
@@ -91,10 +91,13 @@ module _ {k : CycleHeap} {lists : List Worklist} {swept_to : ℕ} (w : ℕ) (sou
         let left = ap (handed_from (seen_heap k lists) w) are in
         let now =
         lists_of-set k.heap.objects k.tags lists w m ∙ ap (λ (ps : List Pending). set pss w ps) rest in (
-          ap (λ i. replies.Notice i p.queue (Cycle p.cycle w)) mint.1 ∙ sym reply ∙ simp is refl,
-          ap (λ (i : CycleHeap). seen_heap i (set lists w m)) mint.2
-              ∙ ap (λ (qss : List (List Pending)). record { mark = holding k p.object; pending = qss }) now
-              ∙ sym left ∙ simp is refl,
+          record {
+            answer = ap (λ i. replies.Notice i p.queue (Cycle p.cycle w)) mint.1 ∙ sym reply ∙ simp is refl;
+            after =
+                ap (λ (i : CycleHeap). seen_heap i (set lists w m)) mint.2
+                ∙ ap (λ (qss : List (List Pending)). record { mark = holding k p.object; pending = qss }) now
+                ∙ sym left ∙ simp is refl;
+          },
           subst (λ (i : CycleHeap). AreRegistered i.heap.objects (set lists w m)) (sym mint.2) (λ i stands.
               elim
               (has-replaced (λ n. ⊥) lists w l m read

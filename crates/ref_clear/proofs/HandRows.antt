@@ -14,11 +14,11 @@ use Rattle.ref_base.specs.Replay.{without_pending}
 use Rattle.ref_base.specs.declared.heap_step.HeapStep.TheVariants as heap
 use Rattle.ref_base.proofs.HasLaws.{has-first, has-left, has-right, has-cases}
 use Rattle.ref_base.proofs.RowForms.{ticked_world}
-use Rattle.ref_mark.proofs.Moves.{Change, IsMove}
-use Rattle.ref_mark.proofs.MovedStates.{moved_beside}
-use Rattle.ref_mark.proofs.MoveKinds.{rooted, rooted_move}
+use Rattle.ref_mark.proofs.Mutations.{Change, IsMutation}
+use Rattle.ref_mark.proofs.MutatedStates.{mutated_beside}
+use Rattle.ref_mark.proofs.MutationKinds.{rooted, rooted_mutation}
 use Rattle.ref_mark.proofs.RootFacts.{root_is_there, root_is_not_white}
-use Rattle.ref_mark.proofs.ReferenceRows.{unmoved_stands}
+use Rattle.ref_mark.proofs.ReferenceRows.{unmutated_stands}
 use Rattle.ref_clear.proofs.PendingFacts.{root_before, pending_is_root}
 
 -- ---- lists of which one is without its first
@@ -57,7 +57,7 @@ without_pending-first p ps = let own : (p.object == p.object) ≡ true = eq-eqb 
 
 module _ (c : ClearHeap) (a : State) (w : ℕ) (stands : HeapStands c a) where
   none_handed : HeapStands c (ticked a)
-  none_handed = grind (arith, unmoved_stands, ticked_world)
+  none_handed = grind (arith, unmutated_stands, ticked_world)
 
   first_handed : (p : Pending) (ps : List Pending) → pending_at c w ≡ p ∷ ps
       → HeapStands (handed_from c w (p ∷ ps)) (ticked (with_world a (handed_on a.world w p.object)))
@@ -85,13 +85,13 @@ module _ (c : ClearHeap) (a : State) (w : ℕ) (stands : HeapStands c a) where
       subst (λ (pss : List (List Pending)). has (pending_numbers pss) m ≡ true) (sym stands.pending)
       (fewer m (subst (λ (pss : List (List Pending)). has (pending_numbers pss) m ≡ true) after within))) in
       let change : Change = rooted k k.heap.slots (one_more k.heap.holds n) in
-      let move : IsMove k change (pending_numbers v.pending) [] =
-      rooted_move k a k.heap.slots (one_more k.heap.holds n) (pending_numbers v.pending) [] stands.mark refl
+      let mutation : IsMutation k change (pending_numbers v.pending) [] =
+      rooted_mutation k a k.heap.slots (one_more k.heap.holds n) (pending_numbers v.pending) [] stands.mark refl
       (λ begun m root. inl (root_is_not_white k a stands.mark begun m (was m root)))
       (λ m root. root_is_there k a stands.mark m (was m root)) in
       record {
         mark =
-            moved_beside k change a v (record { policy = refl; cycle = refl; phase = refl }) stands.mark move
+            mutated_beside k change a v (record { policy = refl; cycle = refl; phase = refl }) stands.mark mutation
             (with_hold a.world.heap n) a.next (ap (λ (h : Heap). with_hold h n) stands.mark.heap) stands.mark.next;
         pending =
             ap (λ (u : World). u.pending) (ticked_world (with_world a (handed_on a.world w n))) ∙ after;

@@ -8,7 +8,7 @@ use Rattle.ref_clear.proofs.Common.{shaded_all, with_mark, seen_heap, IsSoundHea
 use Rattle.ref_clear.proofs.Common.{pending_lists_of, AreRegistered, Worklist, worklists_of}
 use Rattle.ref_base.proofs.HasLaws.{has-first, has-left, has-right}
 use Rattle.ref_objects.specs.Grounds.{Tag, cleared_in_at}
-use Rattle.ref_mark.proofs.KeptParts.{KeepsCycles, shaded_all-own}
+use Rattle.ref_mark.proofs.KeptParts.{KeepsCycles, shaded_all-tags}
 use Rattle.ref_mark.proofs.LoopLemmas.{shaded_heap}
 use Rattle.ref_clear.proofs.KeptReferences.{KeepsReferences}
 
@@ -60,7 +60,7 @@ registered_kept k j lists kept registered n within = subst IsSome (sym (kept n w
 
 -- shading does
 pub kept_shaded : (k j : CycleHeap) (ns : List ℕ) (n : ℕ) → IsKept k j n → IsKept k (shaded_all j ns) n
-kept_shaded k j ns n kept = grind (arith, shaded_all-own, shaded_heap j)
+kept_shaded k j ns n kept = grind (arith, shaded_all-tags, shaded_heap j)
 
 module _ {k : CycleHeap} {lists : List Worklist} {swept_to : ℕ} (sound : IsSoundHeap k lists swept_to) where
   -- what is pending is there

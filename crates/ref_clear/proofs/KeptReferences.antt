@@ -9,6 +9,7 @@ use Rattle.ref_clear.proofs.Common.{registered_in, with_hold, targets_at, is_kep
 use Rattle.ref_clear.proofs.Common.{Fault, Marking, CycleHeap, shaded_all}
 use Rattle.ref_clear.proofs.Common.{with_cleared, cycle_begun, unless_refused}
 use Rattle.ref_base.specs.declared.heap_step.HeapStep.TheVariants as heap
+use Rattle.ref_base.specs.declared.plain_step.PlainStep.TheVariants as plain
 use Rattle.ref_base.proofs.Lookups.{lookup-changed, object_at-push}
 use Rattle.ref_base.proofs.Reshaping.{queue-cleared}
 use Rattle.ref_mark.specs.CycleHeaps.{barred, with_made, whitened, grey_scanned, roots_of}
@@ -108,8 +109,8 @@ pub config-cleared : (k : CycleHeap) (m s : ℕ) → (with_cleared k m s).heap.c
 config-cleared k m s = grind arith
 
 done_stays : (k : CycleHeap) (step : NamedStep) → KeepsReferences k.heap (done_in k step).heap
-done_stays k (heap.Get m d s) = grind (arith, stays-got k.heap m d s)
-done_stays k (heap.Begin now how) =
+done_stays k (heap.Plain (plain.Get m d s)) = grind (arith, stays-got k.heap m d s)
+done_stays k (heap.Plain (plain.Begin now how)) =
     same_objects k.heap (cycle_begun k now how).heap
     (ap (λ (h : Heap). h.objects) (shaded_heap (whitened k now how) (cycle_begun k now how) (roots_of k.heap) refl))
 done_stays k step =

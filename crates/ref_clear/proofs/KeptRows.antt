@@ -7,9 +7,10 @@ use Rattle.ref_clear.proofs.Common.{World, NamedStep, State, is_in, heap_refusal
 use Rattle.ref_clear.proofs.Common.{Sweeping, Reply, is_of_marking}
 use Rattle.ref_base.specs.CollectorRows.{IsHeapAnswer}
 use Rattle.ref_base.specs.declared.heap_step.HeapStep.TheVariants as heap
+use Rattle.ref_base.specs.declared.plain_step.PlainStep.TheVariants as plain
 use Rattle.ref_base.specs.declared.phase.Phase.{Phase}
 use Rattle.ref_base.specs.declared.phase.Phase.TheVariants.{Clearing}
-use Rattle.ref_base.proofs.RowMoves.{pending_after, heap_tells}
+use Rattle.ref_base.proofs.RowChanges.{pending_after, heap_tells}
 
 -- ---- the steps of marking
 
@@ -20,7 +21,7 @@ pub record Keeps (a b : State) : Type 0 where
 
 same_pending : (w : World) (step : NamedStep) (reply : Reply) → is_of_marking step ≡ true
     → pending_after w (Some step) reply ≡ w.pending
-same_pending w (heap.ClearNext k) reply own = absurd (false≢true own)
+same_pending w (heap.Plain (plain.ClearNext k)) reply own = absurd (false≢true own)
 same_pending w (heap.Hand k) reply own = absurd (false≢true own)
 same_pending w step reply own = refl
 
@@ -29,16 +30,16 @@ answer_keeps : (a b : State) (step : NamedStep) (reply : Reply) (fault : Option 
 answer_keeps a b step reply (Some fault) own row = search
 answer_keeps a b step reply None own row = search (heap_tells a b step reply row, same_pending a.world step reply own)
 
-pub row_keeps : (heap_no : ℕ) (a b : State) (step : NamedStep) (reply : Reply) → is_of_marking step ≡ true
-    → IsHeapRow heap_no a step reply b → Keeps a b
-row_keeps heap_no a b step reply own row = answer_keeps a b step reply (heap_refusal heap_no a step) own row
+pub row_keeps : (a b : State) (step : NamedStep) (reply : Reply) → is_of_marking step ≡ true
+    → IsHeapRow a step reply b → Keeps a b
+row_keeps a b step reply own row = answer_keeps a b step reply (heap_refusal a step) own row
 
 -- ---- the steps that don't change what a sweep has still to do
 
 -- all but a sweep, and the one that begins it
 abbrev pub goes_on_sweeping : NamedStep → Bool
-goes_on_sweeping heap.EndClear = false
-goes_on_sweeping (heap.Sweep w) = false
+goes_on_sweeping (heap.Plain plain.EndClear) = false
+goes_on_sweeping (heap.Plain (plain.Sweep w)) = false
 goes_on_sweeping step = true
 
 -- where the one state is in a sweep, the other is, with the same doomed
@@ -56,12 +57,12 @@ in_no_sweep a b phase is other sweeping =
 
 accepted_sweeps : (a b : State) (step : NamedStep) (reply : Reply) → goes_on_sweeping step ≡ true
     → HeapAccepts a step reply b → StillSweeps a b
-accepted_sweeps a b (heap.Begin now how) reply own row = grind arith
-accepted_sweeps a b heap.EndMark reply own row =
+accepted_sweeps a b (heap.Plain (plain.Begin now how)) reply own row = grind arith
+accepted_sweeps a b (heap.Plain plain.EndMark) reply own row =
     in_no_sweep a b Clearing (ap (λ (s : State). s.world.phase) row.after) refl
-accepted_sweeps a b heap.EndClear reply own row = absurd (false≢true own)
-accepted_sweeps a b (heap.Sweep w) reply own row = absurd (false≢true own)
-accepted_sweeps a b heap.EndSweep reply own row = grind arith
+accepted_sweeps a b (heap.Plain plain.EndClear) reply own row = absurd (false≢true own)
+accepted_sweeps a b (heap.Plain (plain.Sweep w)) reply own row = absurd (false≢true own)
+accepted_sweeps a b (heap.Plain plain.EndSweep) reply own row = grind arith
 accepted_sweeps a b step reply own row = grind arith
 
 answer_sweeps : (a b : State) (step : NamedStep) (reply : Reply) (fault : Option Fault) → goes_on_sweeping step ≡ true
@@ -70,6 +71,6 @@ answer_sweeps a b step reply (Some fault) own row =
     subst (λ (s : State). SweepsOn a s) (sym row.1) (record { config = refl; swept = λ sweeping. (refl, sweeping) })
 answer_sweeps a b step reply None own row = search (accepted_sweeps, heap_tells a b step reply row)
 
-pub sweeps_on : (heap_no : ℕ) (a b : State) (step : NamedStep) (reply : Reply) → goes_on_sweeping step ≡ true
-    → IsHeapRow heap_no a step reply b → SweepsOn a b
-sweeps_on heap_no a b step reply own row = answer_sweeps a b step reply (heap_refusal heap_no a step) own row
+pub sweeps_on : (a b : State) (step : NamedStep) (reply : Reply) → goes_on_sweeping step ≡ true
+    → IsHeapRow a step reply b → SweepsOn a b
+sweeps_on a b step reply own row = answer_sweeps a b step reply (heap_refusal a step) own row

@@ -26,4 +26,3 @@ pub mod NoticeAnswers
 pub mod HandAnswers
 pub mod UnhookAnswers
 pub mod SweepLoops
-pub mod OwnNumbers

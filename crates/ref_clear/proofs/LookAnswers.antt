@@ -11,11 +11,12 @@ use Rattle.ref_clear.proofs.Common.{is_to_clear, cut_at, heap_pended, looked_fro
 use Rattle.ref_clear.proofs.Common.{IsSoundHeap, AreRegistered, has, joined, worklists_of, numbers, with_reference}
 use Rattle.ref_clear.proofs.Common.{cleared, pending_in, pendings_in}
 use Rattle.ref_base.specs.declared.heap_step.HeapStep.TheVariants as heap
+use Rattle.ref_base.specs.declared.plain_step.PlainStep.TheVariants as plain
 use Rattle.ref_objects.specs.Grounds.{IsWellFormed, cleared_in_at}
 use Rattle.ref_objects.proofs.TagLemmas.{cleared_in_at-other, cleared_in_at-own}
 use Rattle.ref_base.proofs.HasLaws.{has-cases, has-single}
 use Rattle.ref_base.proofs.StoreLaws.{is_there-has}
-use Rattle.ref_mark.proofs.Moves.{referring_is_there}
+use Rattle.ref_mark.proofs.Mutations.{referring_is_there}
 use Rattle.ref_clear.specs.ClearHeaps.{heap_looked_at}
 use Rattle.ref_mark.specs.Worklists.{with_last}
 use Rattle.ref_clear.proofs.KeptPending.{AreKept, waits_there, seen_kept, registered_kept, lists_kept, told_same}
@@ -41,7 +42,7 @@ module _ {k : CycleHeap} {lists : List Worklist} {swept_to : ℕ} (w : ℕ)
   c = seen_heap k lists
 
   after_by : (ns : List ℕ) (d : ClearHeap) → list_at k.found w ≡ ns → looked_from c w ns ≡ d
-      → d ≡ after_in c (heap.ClearNext w)
+      → d ≡ after_in c (heap.Plain (plain.ClearNext w))
   after_by ns d is looked = cc
 
   registered_taken : {j : CycleHeap} → j ≡ with_found_taken k w → AreRegistered j.heap.objects lists
@@ -60,7 +61,7 @@ module _ {k : CycleHeap} {lists : List Worklist} {swept_to : ℕ} (w : ℕ)
   -- this is the first that it found
   module _ (n : ℕ) (first : first_in (list_at k.found w) ≡ Some n) where
     after_look : (d : ClearHeap) → heap_looked_at (with_mark c (with_found_taken k w)) w n ≡ d
-        → d ≡ after_in c (heap.ClearNext w)
+        → d ≡ after_in c (heap.Plain (plain.ClearNext w))
     after_look d looked =
         let ns : List ℕ = list_at k.found w in after_by (n ∷ rest_of ns) d (first_is ns n first) looked
 
@@ -68,7 +69,7 @@ module _ {k : CycleHeap} {lists : List Worklist} {swept_to : ℕ} (w : ℕ)
     pub sound_passed : {j : CycleHeap} → is_to_clear k n ≡ false → j ≡ with_found_taken k w
         → IsSoundHeap j lists swept_to
     sound_passed {j} stays after =
-        sound_after (heap.ClearNext w) refl sound
+        sound_after (heap.Plain (plain.ClearNext w)) refl sound
         (ap (λ (i : CycleHeap). seen_heap i lists) after
         ∙ after_look (with_mark c (with_found_taken k w)) (simp stays refl))
         sound.room (registered_taken after)
@@ -79,7 +80,7 @@ module _ {k : CycleHeap} {lists : List Worklist} {swept_to : ℕ} (w : ℕ)
       cut = cut_at (with_found_taken k w) n
 
       after_cut : (queue : Option ℕ) → registered_in (reference_at k.heap n) ≡ queue
-          → heap_pended (with_mark c cut) w n queue ≡ after_in c (heap.ClearNext w)
+          → heap_pended (with_mark c cut) w n queue ≡ after_in c (heap.Plain (plain.ClearNext w))
       after_cut queue is =
           after_look (heap_pended (with_mark c cut) w n queue) (simp goes (ap (heap_pended (with_mark c cut) w n) is))
 
@@ -106,7 +107,7 @@ module _ {k : CycleHeap} {lists : List Worklist} {swept_to : ℕ} (w : ℕ)
 
       -- without a queue nothing comes of it
       pub seen_cut : {j t : CycleHeap} → registered_in (reference_at k.heap n) ≡ None → t ≡ with_found_taken k w
-          → j ≡ cut_at t n → seen_heap j lists ≡ after_in c (heap.ClearNext w)
+          → j ≡ cut_at t n → seen_heap j lists ≡ after_in c (heap.Plain (plain.ClearNext w))
       seen_cut none taken after =
           ap (λ (i : CycleHeap). seen_heap i lists) (left_cut taken after) ∙ seen_kept k cut lists cut_kept
           ∙ after_cut None none
@@ -114,7 +115,7 @@ module _ {k : CycleHeap} {lists : List Worklist} {swept_to : ℕ} (w : ℕ)
       pub sound_cut : {j t : CycleHeap} → registered_in (reference_at k.heap n) ≡ None → t ≡ with_found_taken k w
           → j ≡ cut_at t n → IsSoundHeap j lists swept_to
       sound_cut none taken after =
-          sound_after (heap.ClearNext w) refl sound (seen_cut none taken after) sound.room
+          sound_after (heap.Plain (plain.ClearNext w)) refl sound (seen_cut none taken after) sound.room
           (subst (λ (i : CycleHeap). AreRegistered i.heap.objects lists) (sym (left_cut taken after))
           (registered_kept k cut lists cut_kept sound.registered))
 
@@ -158,7 +159,7 @@ module _ {k : CycleHeap} {lists : List Worklist} {swept_to : ℕ} (w : ℕ)
               (λ i stands. told_same k cut i (cut_kept i (has-list lists w l i look_within is stands)))
               ∙ pending_at-seen k lists w l look_within is)
 
-          pub seen_pended : seen_heap j (set lists w m) ≡ after_in c (heap.ClearNext w)
+          pub seen_pended : seen_heap j (set lists w m) ≡ after_in c (heap.Plain (plain.ClearNext w))
           seen_pended =
               ap (λ (i : CycleHeap). seen_heap i (set lists w m)) (left_cut taken after)
               ∙ ap (λ (pss : List (List Pending)). record { mark = cut; pending = pss })
@@ -188,7 +189,7 @@ module _ {k : CycleHeap} {lists : List Worklist} {swept_to : ℕ} (w : ℕ)
           sound_pended =
               let own = room_at lists k.heap.config.cells w l look_within is sound.room in
               let same : m.room ≡ l.room = ap (λ (i : Worklist). i.room) pushed in
-              sound_after (heap.ClearNext w) refl sound seen_pended
+              sound_after (heap.Plain (plain.ClearNext w)) refl sound seen_pended
               (HaveRoom-set lists k.heap.config.cells w m (omega (arith, own, same)) sound.room)
               (subst (λ (i : CycleHeap). AreRegistered i.heap.objects (set lists w m)) (sym (left_cut taken after))
               all_registered)

@@ -13,6 +13,7 @@ use Rattle.ref_base.specs.Replay.{pended as world_pended}
 use Rattle.ref_objects.specs.Grounds.{with_cleared_tag}
 use Rattle.ref_base.specs.CollectorRows.{looked_at as state_answer, looked as state_looked}
 use Rattle.ref_base.specs.declared.heap_step.HeapStep.TheVariants as heap
+use Rattle.ref_base.specs.declared.plain_step.PlainStep.TheVariants as plain
 use Rattle.ref_base.specs.declared.reply.Reply.TheVariants as replies
 use Rattle.ref_base.proofs.Forgetting.{reference_of-but}
 use Rattle.ref_base.proofs.Lookups.{lookup-changed}
@@ -188,8 +189,9 @@ looked_row c a w [] stands within clearing is = grind arith
 looked_row c a w (n ∷ rest) stands within clearing is =
     grind (arith, cleared_row c a w n rest stands within clearing is, passed_row c a w n rest stands within clearing is)
 
-pub look_row : (c : ClearHeap) (a : State) (w : ℕ) → HeapStands c a → refusal_in c (heap.ClearNext w) ≡ None
-    → (b : State) × HeapAccepts a (heap.ClearNext w) (answer_of_look c.mark (list_at c.mark.found w)) b
+pub look_row : (c : ClearHeap) (a : State) (w : ℕ) → HeapStands c a
+    → refusal_in c (heap.Plain (plain.ClearNext w)) ≡ None
+    → (b : State) × HeapAccepts a (heap.Plain (plain.ClearNext w)) (answer_of_look c.mark (list_at c.mark.found w)) b
     × HeapStands (looked_from c w (list_at c.mark.found w)) b
 look_row c a w stands accepted =
     let k = c.mark in

@@ -1,8 +1,9 @@
 -- A step of marking leaves what is pending, and what holds of a heap.
 use Rattle.std.proofs.Common.{◌≡◌, ℕ, true, List, sym, ap, subst, ◌∙◌}
 use Rattle.ref_clear.proofs.Common.{NamedStep, joined, pending_numbers, CycleHeap, shaded_all, ClearHeap, with_mark}
-use Rattle.ref_clear.proofs.Common.{after_in, seen_heap, IsSoundHeap, Worklist, worklists_of}
-use Rattle.ref_mark.specs.MarkCalls.{after_in_cycle}
+use Rattle.ref_clear.proofs.Common.{Reply, after_in, answer_in, seen_heap, IsSoundHeap, Worklist, worklists_of}
+use Rattle.ref_mark.specs.MarkCalls.{MarkerDoes, answer_in_cycle, after_in_cycle}
+use Rattle.ref_clear.specs.ClearCalls.{HeapDoes}
 use Rattle.ref_mark.proofs.KeptParts.{cycles_after}
 use Rattle.ref_clear.proofs.KeptRows.{goes_on_sweeping}
 use Rattle.ref_clear.proofs.KeptReferences.{after_stays}
@@ -10,20 +11,21 @@ use Rattle.ref_clear.proofs.KeptPending.{AreKept, seen_kept, registered_kept, ke
 use Rattle.ref_clear.proofs.PendingLists.{pending_numbers-seen}
 use Rattle.ref_clear.proofs.SoundHeaps.{sound_after}
 
-module _ {j k : CycleHeap} {lists : List Worklist} {swept_to : ℕ} (step : NamedStep)
-    (sound : IsSoundHeap k lists swept_to) (after : j ≡ after_in_cycle k step) where
+module _ {j k : CycleHeap} {lists : List Worklist} {swept_to : ℕ} {step : NamedStep} {reply : Reply}
+    (sound : IsSoundHeap k lists swept_to) (does : MarkerDoes k step reply j) where
   marked_kept : AreKept k j lists
   marked_kept =
-      subst (λ (i : CycleHeap). AreKept k i lists) (sym after)
+      subst (λ (i : CycleHeap). AreKept k i lists) (sym does.after)
       (kept_by sound (after_in_cycle k step) (after_stays k step) (cycles_after k step))
 
   pub seen_marked : seen_heap j lists ≡ with_mark (seen_heap k lists) (after_in_cycle k step)
-  seen_marked = seen_kept k j lists marked_kept ∙ ap (with_mark (seen_heap k lists)) after
+  seen_marked = seen_kept k j lists marked_kept ∙ ap (with_mark (seen_heap k lists)) does.after
 
-  pub after_marked : {c : ClearHeap}
+  pub does_marked : {c : ClearHeap} → answer_in_cycle k step ≡ answer_in (seen_heap k lists) step
       → with_mark (seen_heap k lists) (after_in_cycle k step) ≡ after_in (seen_heap k lists) step
-      → seen_heap k lists ≡ c → seen_heap j lists ≡ after_in c step
-  after_marked same view = seen_marked ∙ same ∙ ap (λ (d : ClearHeap). after_in d step) view
+      → seen_heap k lists ≡ c → HeapDoes c step reply (seen_heap j lists)
+  does_marked told same view =
+      rw (← view) (record { answer = does.answer ∙ told; after = seen_marked ∙ same })
 
   pub sound_marked : goes_on_sweeping step ≡ true
       → with_mark (seen_heap k lists) (after_in_cycle k step) ≡ after_in (seen_heap k lists) step

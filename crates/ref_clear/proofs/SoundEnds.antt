@@ -7,6 +7,7 @@ use Rattle.ref_clear.proofs.Common.{unless_refused, ClearHeap, with_mark, swept_
 use Rattle.ref_clear.proofs.Common.{reference_in, registered_in, after_in, AreRegistered, HeapStands, seen_heap}
 use Rattle.ref_clear.proofs.Common.{IsSoundHeap, MaySweep}
 use Rattle.ref_base.specs.declared.heap_step.HeapStep.TheVariants as heap
+use Rattle.ref_base.specs.declared.plain_step.PlainStep.TheVariants as plain
 use Rattle.ref_mark.proofs.Passed.{work_passed}
 use Rattle.ref_clear.proofs.EndRows.{end_clear_row}
 use Rattle.ref_clear.proofs.SweepRows.{sweep_row, may_sweep}
@@ -27,7 +28,7 @@ pub sound_clear_ended : {j k : CycleHeap} {lists : List Worklist} {swept_to : �
     → not (is_empty (joined k.found)) ≡ false → j ≡ cycle_in_phase k Sweeping → IsSoundHeap k lists swept_to
     → IsSoundHeap j lists 0
 sound_clear_ended {j} {k} {lists} {swept_to} clearing looked after sound =
-    let none : refusal_in (seen_heap k lists) heap.EndClear ≡ None =
+    let none : refusal_in (seen_heap k lists) (heap.Plain plain.EndClear) ≡ None =
     both_hold (is_in k.phase Clearing) (is_empty (joined k.found)) WrongPhase ClearingLeft clearing
     (not-false (is_empty (joined k.found)) looked) in
     let row = end_clear_row (seen_heap k lists) sound.stands.0 sound.stands.1 none in
@@ -45,10 +46,10 @@ pub sound_sweep_ended : {j k : CycleHeap} {lists : List Worklist} {swept_to : �
     → IsSoundHeap j lists swept_to
 sound_sweep_ended {j} {k} {lists} {swept_to} sweeping swept after sound =
     let c : ClearHeap = seen_heap k lists in
-    let none : refusal_in c heap.EndSweep ≡ None =
+    let none : refusal_in c (heap.Plain plain.EndSweep) ≡ None =
     both_hold (is_in k.phase Sweeping) (is_empty (doomed k)) WrongPhase SweepLeft sweeping
     (not-false (is_empty (doomed k)) swept) in
-    sound_after heap.EndSweep refl sound
+    sound_after (heap.Plain plain.EndSweep) refl sound
     (ap (λ (i : CycleHeap). seen_heap i lists) after
     ∙ sym (ap (λ refused. unless_refused refused (λ fault. c) (with_mark c (cycle_in_phase k Idle))) none)) sound.room
     (subst (λ (i : CycleHeap). AreRegistered i.heap.objects lists) (sym after) sound.registered)
@@ -93,5 +94,5 @@ sound_swept {j} {k} {lists} {swept_to} {reached} w none after may sound =
 -- what is seen then is what the sweep leaves
 pub seen_swept : {j k : CycleHeap} {lists : List Worklist} {swept_to : ℕ} (w : ℕ)
     → work_refusal k.heap k.phase Sweeping w ≡ None → j ≡ swept_some k → IsSoundHeap k lists swept_to
-    → seen_heap j lists ≡ after_in (seen_heap k lists) (heap.Sweep w)
+    → seen_heap j lists ≡ after_in (seen_heap k lists) (heap.Plain (plain.Sweep w))
 seen_swept {j} {k} {lists} {swept_to} w none after sound = grind (arith, seen_kept, kept_swept w none sound)

@@ -29,7 +29,7 @@ sound_after {j} {k} {lists} {now} {swept_to} step own sound after room registere
     let row = each_step c step a sound.stands.1 in
     let b : State = row.0 in
     let stands : HeapStands (seen_heap j now) b = subst (λ (d : ClearHeap). HeapStands d b) (sym after) row.2 in
-    let on : SweepsOn a b = sweeps_on k.heap_no a b step (answer_in c step) own row.1 in
+    let on : SweepsOn a b = sweeps_on a b step (answer_in c step) own row.1 in
     let config : j.heap.config ≡ k.heap.config =
     sym (config_of j b stands.mark) ∙ on.config ∙ config_of k a sound.stands.1.mark in
     record {

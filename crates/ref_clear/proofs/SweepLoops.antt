@@ -9,7 +9,7 @@ use Rattle.ref_clear.proofs.Common.{MaySweep}
 use Rattle.ref_base.proofs.HasLaws.{has-first}
 use Rattle.ref_mark.specs.CycleHeaps.{swept}
 use Rattle.ref_mark.proofs.DoomedLists.{has-unmarked, has-doomed}
-use Rattle.ref_mark.proofs.MovedStates.{sweeping_is_past}
+use Rattle.ref_mark.proofs.MutatedStates.{sweeping_is_past}
 use Rattle.ref_objects.specs.Grounds.{Tag}
 use Rattle.ref_clear.specs.ClearHeaps.{without_tags}
 use Rattle.ref_clear.proofs.GoneObjects.{without-none, without-append, object_at-left, left_from_there, rising-without}

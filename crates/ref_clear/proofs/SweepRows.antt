@@ -15,13 +15,14 @@ use Rattle.ref_clear.proofs.Common.{with_mark, swept_some, refusal_in, answer_of
 use Rattle.ref_base.specs.DoomedSets.{new_clears}
 use Rattle.ref_base.specs.CollectorRows.{Sweeps}
 use Rattle.ref_base.specs.declared.heap_step.HeapStep.TheVariants as heap
+use Rattle.ref_base.specs.declared.plain_step.PlainStep.TheVariants as plain
 use Rattle.ref_base.proofs.HasLaws.{has-append, has-cases, has-left, has-first}
 use Rattle.ref_base.proofs.NewClears.{has-new_clears, refers_into-same}
 use Rattle.ref_mark.specs.CycleHeaps.{is_due}
 use Rattle.ref_mark.specs.Standing.{AreThere, InSweeping}
 use Rattle.ref_mark.proofs.DoomedLists.{has-unmarked, past_is_in_cycle, past_is_not_marking}
-use Rattle.ref_mark.proofs.Moves.{leading_is_there}
-use Rattle.ref_mark.proofs.MovedStates.{ticked_other}
+use Rattle.ref_mark.proofs.Mutations.{leading_is_there}
+use Rattle.ref_mark.proofs.MutatedStates.{ticked_other}
 use Rattle.ref_mark.proofs.Passed.{work_passed}
 use Rattle.ref_mark.proofs.RootFacts.{hold_root}
 use Rattle.ref_mark.proofs.SafeMarks.{marked_is_black}
@@ -29,7 +30,7 @@ use Rattle.ref_mark.proofs.Shading.{not_white_marked}
 use Rattle.ref_clear.proofs.GoneObjects.{without-none, has-take, object_at-gone, object_at-left, left_from_there}
 use Rattle.ref_clear.proofs.GoneObjects.{rising-without}
 use Rattle.ref_clear.proofs.SweepLoops.{doomed-so_many, doomed-sweeping, white_is_doomed}
-use Rattle.ref_mark.proofs.MovedStates.{sweeping_is_past}
+use Rattle.ref_mark.proofs.MutatedStates.{sweeping_is_past}
 
 -- ---- in a sweep mutators read the heap as it is
 
@@ -221,8 +222,8 @@ referent-without : (gone : List ℕ) (os : List Object) (n : ℕ) → referent_o
     → referent_of (reference_in (object_at (without gone os) n)) ≡ None
 referent-without gone os n none = grind (arith, object_at-gone, object_at-left)
 
-pub sweep_row : (c : ClearHeap) (a : State) (w : ℕ) → HeapStands c a → refusal_in c (heap.Sweep w) ≡ None
-    → (b : State) × HeapAccepts a (heap.Sweep w) (answer_of_sweep (doomed c.mark)) b
+pub sweep_row : (c : ClearHeap) (a : State) (w : ℕ) → HeapStands c a → refusal_in c (heap.Plain (plain.Sweep w)) ≡ None
+    → (b : State) × HeapAccepts a (heap.Plain (plain.Sweep w)) (answer_of_sweep (doomed c.mark)) b
     × HeapStands (with_mark c (swept_some c.mark)) b
 sweep_row c a w stands none =
     let k = c.mark in

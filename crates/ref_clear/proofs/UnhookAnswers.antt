@@ -2,20 +2,24 @@
 use Rattle.std.proofs.Common.{arith}
 use Rattle.std.proofs.Common.{◌≡◌, ℕ, true, refl, sym, ap, subst, ◌∙◌, List, Option, Some, None}
 use Rattle.ref_clear.proofs.Common.{Reference, is_there, slot_at, reference_at, registered_in, reference_of, has_slot}
-use Rattle.ref_clear.proofs.Common.{holds_refusal, Own, Ground, CycleHeap, with_cleared, mint_answer_in}
-use Rattle.ref_clear.proofs.Common.{after_mint_in, ground_of, holding, unhooked, refusal_in, queue_in, answer_in}
+use Rattle.ref_clear.proofs.Common.{Reply, holds_refusal, Own, Ground, CycleHeap, with_cleared, mint_answer_in}
+use Rattle.ref_clear.proofs.Common.{after_mint_in, ground_of, holding, unhooked, refusal_in, queue_in}
 use Rattle.ref_clear.proofs.Common.{after_in, answer_of_unhook, Worklist, seen_heap, with_mark, AreRegistered}
 use Rattle.ref_clear.proofs.Common.{IsSoundHeap}
 use Rattle.ref_objects.specs.Grounds.{cleared_in_at}
-use Rattle.ref_mark.proofs.KeptParts.{same_tags, cleared-own}
+use Rattle.ref_mark.proofs.KeptParts.{cleared-tags}
 use Rattle.ref_clear.proofs.KeptReferences.{cleared_stays}
 use Rattle.ref_clear.proofs.KeptPending.{AreKept, kept_by, seen_kept, registered_kept}
 use Rattle.ref_base.specs.Refusals.{drop_refusal}
 use Rattle.ref_base.specs.declared.fault.Fault.TheVariants.{NoSuchObject}
 use Rattle.ref_base.specs.declared.heap_step.HeapStep.TheVariants as heap
+use Rattle.ref_base.specs.declared.plain_step.PlainStep.TheVariants as plain
 use Rattle.ref_base.specs.declared.reply.Reply.TheVariants as replies
 use Rattle.ref_base.proofs.RowForms.{unless_passes}
 use Rattle.ref_mark.specs.MarkCalls as marks
+use Rattle.ref_mark.specs.MarkCalls.{MarkerDoes}
+use Rattle.ref_clear.specs.ClearCalls.{HeapDoes}
+use Rattle.ref_clear.proofs.MarkedHeaps.{seen_marked}
 use Rattle.ref_clear.proofs.NoticeAnswers.{minted, clear_holding}
 
 -- ---- what is read through the view of the objects
@@ -37,9 +41,14 @@ reference_is k n view reads is = sym (reads ∙ ap (λ (h : Ground). reference_a
 -- of the reference r in a slot, that has no queue
 module _ (k : CycleHeap) (lists : List Worklist) (m s : ℕ) {n : ℕ} {r : Reference} (has : has_slot k.heap m s ≡ true)
     (held : slot_at k.heap m s ≡ Some n) (found : reference_at k.heap n ≡ Some r) (queue : r.queue ≡ None) where
-  pub unhook_cut : with_mark (seen_heap k lists) (marks.after_in_cycle k (heap.Clear m s))
+  left_cut : with_mark (seen_heap k lists) (marks.after_in_cycle k (heap.Plain (plain.Clear m s)))
       ≡ after_in (seen_heap k lists) (heap.Unhook m s)
-  unhook_cut = grind arith
+  left_cut = grind arith
+
+  pub unhook_cut : {j : CycleHeap} {reply : Reply} {swept_to : ℕ} → IsSoundHeap k lists swept_to
+      → MarkerDoes k (heap.Plain (plain.Clear m s)) reply j
+      → HeapDoes (seen_heap k lists) (heap.Unhook m s) replies.Nothing (seen_heap j lists)
+  unhook_cut sound does = record { answer = grind arith; after = seen_marked sound does ∙ left_cut }
 
 -- ---- the hold and the cut
 
@@ -54,19 +63,18 @@ module _ {k : CycleHeap} {lists : List Worklist} {swept_to : ℕ} (sound : IsSou
   refusal : refusal_in (seen_heap k lists) (heap.Unhook m s) ≡ holds_refusal k.heap
   refusal = simp (has, held, found, queue) refl
 
-  clears : marks.refusal_in_cycle (holding k n) (heap.Clear m s) ≡ None
+  clears : marks.refusal_in_cycle (holding k n) (heap.Plain (plain.Clear m s)) ≡ None
   clears = simp (has, held, found) refl
 
   -- nothing pending is changed by it
   unhook_kept : AreKept k (holding (with_cleared k m s) n) lists
   unhook_kept =
       kept_by sound (holding (with_cleared k m s) n) (cleared_stays k m s)
-      (λ i. ap (λ ts. cleared_in_at ts i) (same_tags (cleared-own k m s)))
+      (λ i. ap (λ ts. cleared_in_at ts i) (cleared-tags k m s))
 
   pub unhook_done : {i j : CycleHeap} {object : ℕ} → replies.Object object ≡ mint_answer_in k n
-      → i ≡ after_mint_in k n → j ≡ marks.after_in_cycle i (heap.Clear m s)
-      → (replies.Notice object q Own ≡ answer_in (seen_heap k lists) (heap.Unhook m s))
-      × (seen_heap j lists ≡ after_in (seen_heap k lists) (heap.Unhook m s))
+      → i ≡ after_mint_in k n → j ≡ marks.after_in_cycle i (heap.Plain (plain.Clear m s))
+      → HeapDoes (seen_heap k lists) (heap.Unhook m s) (replies.Notice object q Own) (seen_heap j lists)
       × AreRegistered j.heap.objects lists
   unhook_done {i} {j} {object} answer after cut =
       let mint = minted k n object answer after in
@@ -78,12 +86,15 @@ module _ {k : CycleHeap} {lists : List Worklist} {swept_to : ℕ} (sound : IsSou
       let left : unhooked k m s (slot_at k.heap m s) (queue_in k m s) ≡ holding (with_cleared k m s) n =
       ap (λ v. unhooked k m s v (queue_in k m s)) held ∙ ap (unhooked k m s (Some n)) registered in
       let now : j ≡ holding (with_cleared k m s) n =
-      cut ∙ ap (λ (h : CycleHeap). marks.after_in_cycle h (heap.Clear m s)) mint.2 ∙ simp clears refl
+      cut ∙ ap (λ (h : CycleHeap). marks.after_in_cycle h (heap.Plain (plain.Clear m s))) mint.2 ∙ simp clears refl
       ∙ clear_holding k m s n in (
-        ap (λ (o : ℕ). replies.Notice o q Own) mint.1 ∙ sym reply ∙ simp none refl,
-        ap (λ (h : CycleHeap). seen_heap h lists) now
-            ∙ seen_kept k (holding (with_cleared k m s) n) lists unhook_kept
-            ∙ ap (with_mark (seen_heap k lists)) (sym left) ∙ simp none refl,
+        record {
+          answer = ap (λ (o : ℕ). replies.Notice o q Own) mint.1 ∙ sym reply ∙ simp none refl;
+          after =
+              ap (λ (h : CycleHeap). seen_heap h lists) now
+              ∙ seen_kept k (holding (with_cleared k m s) n) lists unhook_kept
+              ∙ ap (with_mark (seen_heap k lists)) (sym left) ∙ simp none refl;
+        },
         subst (λ (h : CycleHeap). AreRegistered h.heap.objects lists) (sym now)
             (registered_kept k (holding (with_cleared k m s) n) lists unhook_kept sound.registered),
       )

@@ -19,11 +19,11 @@ use Rattle.ref_base.proofs.ShownObjects.{shown-shape, shown-cleared}
 use Rattle.ref_mark.proofs.Agreeing.{agrees_changed, changed_in-agrees, said_slot}
 use Rattle.ref_mark.proofs.DoomedLists.{past_is_in_cycle}
 use Rattle.ref_mark.proofs.ShownHeaps.{cut-shown}
-use Rattle.ref_mark.proofs.Moves.{Change, moved, IsMove}
-use Rattle.ref_mark.proofs.MovedStates.{moved_stands}
-use Rattle.ref_mark.proofs.MoveKinds.{rooted, rooted_move, altered, altered_move}
+use Rattle.ref_mark.proofs.Mutations.{Change, mutated, IsMutation}
+use Rattle.ref_mark.proofs.MutatedStates.{mutated_stands}
+use Rattle.ref_mark.proofs.MutationKinds.{rooted, rooted_mutation, altered, altered_mutation}
 use Rattle.ref_mark.proofs.RootFacts.{slot_root, slot_off, root_is_there, root_is_not_white}
-use Rattle.ref_mark.proofs.ReferenceMoves.{refers_into_doomed-past, cleared_becomes}
+use Rattle.ref_mark.proofs.ReferenceChanges.{refers_into_doomed-past, cleared_becomes}
 use Rattle.ref_mark.proofs.ReferenceRows.{clear_row}
 use Rattle.ref_clear.proofs.PendingFacts.{root_before, waiting_still}
 use Rattle.ref_clear.proofs.KeptReferences.{config-cleared, cleared_stays}
@@ -86,20 +86,20 @@ cut_and_held k a m s n stands is =
           ap (heap_but (unsaid k)) (sym same) ∙ changed_in-agrees k h stands.heap held f said (λ o. refl)
           ∙ ap (heap_but (unsaid k)) (cut-shown k held off met) in
           let c : Change = rooted k k.heap.slots holds in
-          let move : IsMove k c pending [] =
-          rooted_move k a k.heap.slots holds pending [] stands refl
+          let mutation : IsMutation k c pending [] =
+          rooted_mutation k a k.heap.slots holds pending [] stands refl
           (λ begun i root. inl (root_is_not_white k a stands begun i (was i root)))
           (λ i root. root_is_there k a stands i (was i root)) in
           subst (λ (j : CycleHeap). MarkStands (holding j n) b) (sym stays)
-          (moved_stands k c a stands move (with_hold (cut h m s) n) a.next
+          (mutated_stands k c a stands mutation (with_hold (cut h m s) n) a.next
           (ap (λ (g : Heap). with_hold g n) heap) stands.next)
       | inr keeps ↦
           let c : Change = altered k k.heap.slots holds n f in
-          let is_moved : holding (record k { heap = cut k.heap m s }) n ≡ moved k c =
+          let is_mutated : holding (record k { heap = cut k.heap m s }) n ≡ mutated k c =
           ap (λ (held : Option ℕ). holding (record k { heap = changed_in k.heap held f }) n) is in
           let cuts : with_cleared k m s ≡ record k { heap = cut k.heap m s } = simp keeps refl in
-          let move : IsMove k c pending [] =
-          altered_move k a k.heap.slots holds n f pending [] stands (λ o. refl) refl
+          let mutation : IsMutation k c pending [] =
+          altered_mutation k a k.heap.slots holds n f pending [] stands (λ o. refl) refl
           (λ begun i root. inl (root_is_not_white k a stands begun i (was i root)))
           (λ i root. root_is_there k a stands i (was i root))
           (λ o found.
@@ -110,12 +110,12 @@ cut_and_held k a m s n stands is =
           let cut_agrees : ReadsAs (record k { heap = cut k.heap m s }) (cut h m s) =
           subst (λ (g : Heap). ReadsAs (record k { heap = cut k.heap m s }) g) same
           (agrees_changed k h stands.heap held f said (λ o. refl) shown-cleared) in
-          let heap : ReadsAs (moved k c) (with_hold (cut h m s) n) =
-          subst (λ (j : CycleHeap). ReadsAs j (with_hold (cut h m s) n)) is_moved
+          let heap : ReadsAs (mutated k c) (with_hold (cut h m s) n) =
+          subst (λ (j : CycleHeap). ReadsAs j (with_hold (cut h m s) n)) is_mutated
           (ap (λ (g : Heap). with_hold g n) cut_agrees) in
           subst (λ (j : CycleHeap). MarkStands j b)
-          (sym (ap (λ (j : CycleHeap). holding j n) cuts ∙ is_moved))
-          (moved_stands k c a stands move (with_hold (cut h m s) n) a.next heap stands.next)
+          (sym (ap (λ (j : CycleHeap). holding j n) cuts ∙ is_mutated))
+          (mutated_stands k c a stands mutation (with_hold (cut h m s) n) a.next heap stands.next)
     ]
 
 -- ---- the row

@@ -11,6 +11,7 @@ use Rattle.ref_base.specs.declared.fault.Fault.{Fault}
 use Rattle.ref_base.specs.declared.cause.Cause.TheVariants.{Own, Cycle}
 use Rattle.ref_base.specs.declared.phase.Phase.TheVariants.{Idle, Sweeping}
 use Rattle.ref_base.specs.declared.heap_step.HeapStep.TheVariants as heap
+use Rattle.ref_base.specs.declared.plain_step.PlainStep.TheVariants as plain
 use Rattle.ref_base.specs.declared.reply.Reply.{Reply}
 use Rattle.ref_base.specs.declared.reply.Reply.TheVariants as replies
 use Rattle.ref_mark.specs.CycleHeaps.{CycleHeap, doomed, cycle_in_phase}
@@ -55,7 +56,7 @@ refusing_state c =
 
 -- the fault of a step, or none where it is accepted: the abstract collector's own
 abbrev pub refusal_in : ClearHeap → NamedStep → Option Fault
-refusal_in c step = heap_refusal c.mark.heap_no (refusing_state c) step
+refusal_in c step = heap_refusal (refusing_state c) step
 
 -- ---- answers
 
@@ -100,21 +101,31 @@ left c step after = unless_refused (refusal_in c step) (λ fault. c) after
 abbrev pub answer_in : ClearHeap → NamedStep → Reply
 answer_in c (heap.Unhook m s) =
     reply_or_fault c (heap.Unhook m s) (answer_of_unhook (slot_at c.mark.heap m s) (queue_in c.mark m s))
-answer_in c (heap.ClearNext w) = reply_or_fault c (heap.ClearNext w) (answer_of_look c.mark (list_at c.mark.found w))
-answer_in c heap.EndClear = reply_or_fault c heap.EndClear replies.Done
 answer_in c (heap.Hand w) = reply_or_fault c (heap.Hand w) (answer_of_hand w (pending_at c w))
-answer_in c (heap.Sweep w) = reply_or_fault c (heap.Sweep w) (answer_of_sweep (doomed c.mark))
-answer_in c heap.EndSweep = reply_or_fault c heap.EndSweep replies.Done
+answer_in c (heap.Plain (plain.ClearNext w)) =
+    reply_or_fault c (heap.Plain (plain.ClearNext w)) (answer_of_look c.mark (list_at c.mark.found w))
+answer_in c (heap.Plain plain.EndClear) = reply_or_fault c (heap.Plain plain.EndClear) replies.Done
+answer_in c (heap.Plain (plain.Sweep w)) =
+    reply_or_fault c (heap.Plain (plain.Sweep w)) (answer_of_sweep (doomed c.mark))
+answer_in c (heap.Plain plain.EndSweep) = reply_or_fault c (heap.Plain plain.EndSweep) replies.Done
 answer_in c step = marks.answer_in_cycle c.mark step
 
 -- the heap after it
 abbrev pub after_in : ClearHeap → NamedStep → ClearHeap
 after_in c (heap.Unhook m s) =
     left c (heap.Unhook m s) (with_mark c (unhooked c.mark m s (slot_at c.mark.heap m s) (queue_in c.mark m s)))
-after_in c (heap.Begin now how) = left c (heap.Begin now how) (begun_with c now how)
-after_in c (heap.ClearNext w) = left c (heap.ClearNext w) (looked_from c w (list_at c.mark.found w))
-after_in c heap.EndClear = left c heap.EndClear (with_mark c (cycle_in_phase c.mark Sweeping))
 after_in c (heap.Hand w) = left c (heap.Hand w) (handed_from c w (pending_at c w))
-after_in c (heap.Sweep w) = left c (heap.Sweep w) (with_mark c (swept_some c.mark))
-after_in c heap.EndSweep = left c heap.EndSweep (with_mark c (cycle_in_phase c.mark Idle))
+after_in c (heap.Plain (plain.Begin now how)) = left c (heap.Plain (plain.Begin now how)) (begun_with c now how)
+after_in c (heap.Plain (plain.ClearNext w)) =
+    left c (heap.Plain (plain.ClearNext w)) (looked_from c w (list_at c.mark.found w))
+after_in c (heap.Plain plain.EndClear) =
+    left c (heap.Plain plain.EndClear) (with_mark c (cycle_in_phase c.mark Sweeping))
+after_in c (heap.Plain (plain.Sweep w)) = left c (heap.Plain (plain.Sweep w)) (with_mark c (swept_some c.mark))
+after_in c (heap.Plain plain.EndSweep) =
+    left c (heap.Plain plain.EndSweep) (with_mark c (cycle_in_phase c.mark Idle))
 after_in c step = with_mark c (marks.after_in_cycle c.mark step)
+
+-- from the heap as it was, this step, with this reply, leaves this one
+pub record HeapDoes (c : ClearHeap) (step : NamedStep) (reply : Reply) (d : ClearHeap) : Type 0 where
+  pub answer : reply ≡ answer_in c step
+  pub after : d ≡ after_in c step

@@ -28,8 +28,8 @@ pub record HeldNotice : Type 0 where
 
 -- at first nothing is pending
 abbrev pub first_clear_heap : Config → ℕ → ℕ → ℕ → ClearHeap
-first_clear_heap config heap_no next cycle = record {
-  mark = first_cycle_heap config heap_no next cycle;
+first_clear_heap config number next cycle = record {
+  mark = first_cycle_heap config number next cycle;
   pending = replicate config.workers [];
 }
 

@@ -11,4 +11,4 @@ use Rattle.ref_clear.specs.Standing.{HeapStands}
 abbrev pub IsHeapRowOf : ClearHeap → NamedStep → Type 0
 IsHeapRowOf c step =
     (a : State) → HeapStands c a
-    → (b : State) × IsHeapRow c.mark.heap_no a step (answer_in c step) b × HeapStands (after_in c step) b
+    → (b : State) × IsHeapRow a step (answer_in c step) b × HeapStands (after_in c step) b

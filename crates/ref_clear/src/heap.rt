@@ -1,7 +1,7 @@
 //! The heap.
 
 ghost use Rattle.std.specs.Prelude.{◌≡◌, IfOk, length, replicate};
-ghost use Rattle.ref_base.specs.Collectors.{first_state};
+ghost use Rattle.ref_base.specs.Collectors.{first_state_of};
 ghost use Rattle.ref_base.specs.Graphs.{object_at};
 ghost use Rattle.ref_base.specs.Heaps.{slot_at, reference_at, registered_in};
 ghost use Rattle.ref_base.specs.Refusals.{drop_refusal};
@@ -56,7 +56,7 @@ impl<A: Allocator + Copy> Heap<A> {
     pub fn new(alloc: A, config: Config, heap_no: u64) -> Result<Self, Fault>
         ensures made { IsMade (starting_refusal config (record { obj = 1; cycle = 0; page = 1 }))
             (first_clear_heap config heap_no 1 0) result }
-        ensures stands { IfOk result (λ heap. HeapStands heap (first_state config)) }
+        ensures stands { IfOk result (λ heap. HeapStands heap (first_state_of config heap_no)) }
     {
         Self::starting(alloc, config, heap_no, Start::FIRST)
     }
@@ -65,7 +65,7 @@ impl<A: Allocator + Copy> Heap<A> {
     pub fn starting(alloc: A, config: Config, heap_no: u64, start: Start) -> Result<Self, Fault>
         ensures made { IsMade (starting_refusal config start)
             (first_clear_heap config heap_no start.obj start.cycle) result }
-        ensures stands { IfOk result (λ heap. HeapStands heap (starting_state config start.obj start.cycle)) }
+        ensures stands { IfOk result (λ heap. HeapStands heap (starting_state config heap_no start.obj start.cycle)) }
     {
         let marker = Marker::starting(alloc, config, heap_no, start)?;
         match pending_lists(alloc, config) {
@@ -104,7 +104,7 @@ impl<A: Allocator + Copy> Heap<A> {
 
     /// Its number among the heaps of its program.
     pub fn heap_no(&self) -> u64
-        ensures { result ≡ self.now.mark.heap_no }
+        ensures { result ≡ self.now.mark.heap.no }
     {
         self.marker.objects().heap_no()
     }

@@ -8,6 +8,7 @@ use Rattle.ref_mark.proofs.Common.{is_black, shaded_all, roots_of, whitened, cyc
 use Rattle.ref_base.specs.Replay.{begun as world_begun}
 use Rattle.ref_base.specs.CollectorRows.{begun_state}
 use Rattle.ref_base.specs.declared.heap_step.HeapStep.TheVariants as heap
+use Rattle.ref_base.specs.declared.plain_step.PlainStep.TheVariants as plain
 use Rattle.ref_base.specs.declared.reply.Reply.TheVariants as replies
 use Rattle.ref_base.proofs.HasLaws.{has-left}
 use Rattle.ref_base.proofs.PathLaws.{root_ends, target_ends}
@@ -114,7 +115,7 @@ begun_stands k a now urgent stands idle =
     (begun_marking k a now urgent (not (is_empty j.grey)) stands)))
 
 begun_is_row : (k : CycleHeap) (a : State) (now : ℕ) (urgent : Urgency) → MarkStands k a
-    → HeapAccepts (plain_state k Idle a) (heap.Begin now urgent) (replies.Cycle (k.cycle + 1))
+    → HeapAccepts (plain_state k Idle a) (heap.Plain (plain.Begin now urgent)) (replies.Cycle (k.cycle + 1))
     (state_begun k a now urgent (not (is_empty (mark_begun k a now urgent).grey)))
 begun_is_row k a now urgent stands =
     let j : CycleHeap = mark_begun k a now urgent in
@@ -128,7 +129,7 @@ begun_is_row k a now urgent stands =
 -- a begin that isn't refused
 pub begin_row : (k : CycleHeap) (a : State) (now : ℕ) (urgent : Urgency) → MarkStands k a
     → begin_refusal k.phase k.heap.clock k.cycle now ≡ None
-    → (b : State) × HeapAccepts a (heap.Begin now urgent) (replies.Cycle (k.cycle + 1)) b
+    → (b : State) × HeapAccepts a (heap.Plain (plain.Begin now urgent)) (replies.Cycle (k.cycle + 1)) b
     × MarkStands (shaded_all (cycle_begun k now urgent) (pending_numbers a.world.pending)) b
 begin_row k a now urgent stands none =
     grind (

@@ -12,5 +12,5 @@ none_pending zero = refl
 none_pending (suc workers) = none_pending workers
 
 pub first_stands : (config : Config) (heap_no obj cycle : ℕ)
-    → MarkStands (first_cycle_heap config heap_no obj cycle) (starting_state config obj cycle)
+    → MarkStands (first_cycle_heap config heap_no obj cycle) (starting_state config heap_no obj cycle)
 first_stands config heap_no obj cycle = grind (arith, length-replicate, root_cases, has-present_nulls, none_pending)

@@ -15,6 +15,7 @@ use Rattle.ref_base.specs.Heaps.{stored, with_field}
 use Rattle.ref_base.specs.Refusals.{is_queue_or_none, unless_empty, object_refusal, store_refusal}
 use Rattle.ref_base.specs.declared.fault.Fault.TheVariants.{BadQueue}
 use Rattle.ref_base.specs.declared.heap_step.HeapStep.TheVariants as heap
+use Rattle.ref_base.specs.declared.plain_step.PlainStep.TheVariants as plain
 use Rattle.ref_base.specs.declared.reply.Reply.TheVariants as replies
 use Rattle.ref_base.proofs.HasLaws.{has-left, has-right, has-cases}
 use Rattle.ref_mark.proofs.DoomedLists.{doomed-made, young-phase}
@@ -22,13 +23,13 @@ use Rattle.ref_mark.proofs.Agreeing.{agrees_changed, made-agrees, said_slot, sai
 use Rattle.ref_mark.proofs.DoomedLists.{past_is_in_cycle, is_there-above}
 use Rattle.ref_base.proofs.ShownObjects.{shown-field, is_new_clear-none}
 use Rattle.ref_mark.proofs.ShownHeaps.{shown_heap-made, shown_heap-made_plain, is_new_clear-reference}
-use Rattle.ref_mark.proofs.Moves.{Change, moved}
-use Rattle.ref_mark.proofs.MovedStates.{moved_stands}
+use Rattle.ref_mark.proofs.Mutations.{Change, mutated}
+use Rattle.ref_mark.proofs.MutatedStates.{mutated_stands}
 use Rattle.ref_base.proofs.Lookups.{allowed_referent-cases, has-present_set, has-present_at}
 use Rattle.ref_mark.proofs.RootFacts.{slot_off, slot_root, root_is_not_white, slot_is_not_white, root_is_there}
 use Rattle.ref_mark.proofs.RootFacts.{slot_is_there}
-use Rattle.ref_mark.proofs.MoveKinds.{altered, MayBecome, altered_move}
-use Rattle.ref_mark.proofs.MadeMoves.{making, moved-making, made_move}
+use Rattle.ref_mark.proofs.MutationKinds.{altered, MayBecome, altered_mutation}
+use Rattle.ref_mark.proofs.MadeObjects.{making, mutated-making, made_mutation}
 use Rattle.ref_base.proofs.RowForms.{unless_passes}
 
 -- ---- what is made
@@ -45,10 +46,10 @@ pub made_stands : (k : CycleHeap) (a : State) (m d : ℕ) (o p : Object) → Mar
     (ticked (record a { world = with_heap a.world (made a.world.heap m d p); next = a.next + 1 }))
 made_stands k a m d o p stands slot number leads_off refers_off led shows same =
     let c : Change = making k m d o in
-    let is = moved-making k m d o in
+    let is = mutated-making k m d o in
     let new : is_there k.heap.objects o.no ≡ false =
     ap (is_there k.heap.objects) number ∙ is_there-above k.heap.objects k.next stands.orderly.below in
-    let heap : ReadsAs (moved k c) (made a.world.heap m d p) =
+    let heap : ReadsAs (mutated k c) (made a.world.heap m d p) =
     subst (λ (j : CycleHeap). ReadsAs j (made a.world.heap m d p)) is
     (agrees_next k (with_made k m d o) (made a.world.heap m d p) (made (shown_heap k) m d o)
     (unsaid_same k (with_made k m d o)
@@ -60,7 +61,7 @@ made_stands k a m d o p stands slot number leads_off refers_off led shows same =
     subst
     (λ (j : CycleHeap). MarkStands j
     (ticked (record a { world = with_heap a.world (made a.world.heap m d p); next = a.next + 1 }))) (sym is)
-    (moved_stands k c a stands (made_move k a m d o stands slot number leads_off refers_off led)
+    (mutated_stands k c a stands (made_mutation k a m d o stands slot number leads_off refers_off led)
     (made a.world.heap m d p) (a.next + 1) heap (ap (λ n. n + 1) stands.next))
 
 -- a plain object leads nowhere
@@ -69,7 +70,7 @@ has-present_nulls zero n = refl
 has-present_nulls (suc count) n = has-present_nulls count n
 
 pub new_row : (k : CycleHeap) (a : State) (m d f : ℕ) → MarkStands k a → new_refusal k.heap k.next m d f ≡ None
-    → (b : State) × HeapAccepts a (heap.New m d f) (replies.Object k.next) b
+    → (b : State) × HeapAccepts a (heap.Plain (plain.New m d f)) (replies.Object k.next) b
     × MarkStands (with_made k m d (plain_object k.next (nulls f))) b
 new_row k a m d f stands accepted =
     let o : Object = plain_object k.next (nulls f) in
@@ -120,7 +121,7 @@ reference_shows k a m d s f strength q stands =
 pub refer_row : (k : CycleHeap) (a : State) (m : ℕ) (strength : Strength) (d s : ℕ) (q : Option ℕ) (f : ℕ)
     → MarkStands k a
     → refer_refusal k.heap k.next m d s q f ≡ None
-    → (b : State) × HeapAccepts a (heap.Refer m strength d s q f) (replies.Object k.next) b
+    → (b : State) × HeapAccepts a (heap.Plain (plain.Refer m strength d s q f)) (replies.Object k.next) b
     × MarkStands (with_made k m d (new_reference k.heap k.next strength (slot_at k.heap m s) q f)) b
 refer_row k a m strength d s q f stands accepted =
     let o : Object = new_reference k.heap k.next strength (slot_at k.heap m s) q f in
@@ -167,7 +168,7 @@ stored_becomes : (k : CycleHeap) (i : ℕ) (value : Option ℕ) (roots : List �
 stored_becomes k i value roots o rooted = grind (arith, has-cases, has-present_set, has-left, has-right)
 
 pub store_row : (k : CycleHeap) (a : State) (m s i v : ℕ) → MarkStands k a → store_refusal k.heap m s i v ≡ None
-    → (b : State) × HeapAccepts a (heap.Store m s i v) replies.Done b
+    → (b : State) × HeapAccepts a (heap.Plain (plain.Store m s i v)) replies.Done b
     × MarkStands (record k { heap = stored k.heap m s i v }) b
 store_row k a m s i v stands accepted =
     let pending = pending_numbers a.world.pending in
@@ -176,10 +177,10 @@ store_row k a m s i v stands accepted =
     let holder = field_refusal-there k.heap (slot_at k.heap m s) i
     (unless_passes (has_slots k.heap m s v) NoSuchActor (field_refusal k.heap (slot_at k.heap m s) i) accepted).1 in
     let c : Change = altered k k.heap.slots k.heap.holds holder.0 (with_field i value) in
-    let is : record k { heap = stored k.heap m s i v } ≡ moved k c =
+    let is : record k { heap = stored k.heap m s i v } ≡ mutated k c =
     ap (λ (held : Option ℕ). record k { heap = changed_in k.heap held (with_field i value) }) holder.1 in
-    let move =
-    altered_move k a k.heap.slots k.heap.holds holder.0 (with_field i value) pending [] stands (λ o. refl) refl
+    let mutation =
+    altered_mutation k a k.heap.slots k.heap.holds holder.0 (with_field i value) pending [] stands (λ o. refl) refl
     (λ begun n root. inl (root_is_not_white k a stands begun n root)) (root_is_there k a stands)
     (λ o found.
     stored_becomes k i value (present k.heap.slots ++ k.heap.holds ++ pending) o
@@ -187,7 +188,7 @@ store_row k a m s i v stands accepted =
     slot_root (present k.heap.slots) k.heap.holds pending n (has-present_at k.heap.slots (16 * m + v) n own))) in
     let same : changed_in h (slot_at k.heap m s) (with_field i value) ≡ stored h m s i v =
     sym (ap (λ (g : Heap). changed_in h (slot_at g m s) (with_field i (slot_at g m v))) stands.heap) in
-    let heap : ReadsAs (moved k c) (stored h m s i v) =
+    let heap : ReadsAs (mutated k c) (stored h m s i v) =
     subst (λ (j : CycleHeap). ReadsAs j (stored h m s i v)) is
     (subst (λ (g : Heap). ReadsAs (record k { heap = stored k.heap m s i v }) g) same
     (agrees_changed k h stands.heap (slot_at k.heap m s) (with_field i value) (said_slot k a m s stands) (λ o. refl)
@@ -196,5 +197,5 @@ store_row k a m s i v stands accepted =
       b,
       (refl, refl),
       subst (λ (j : CycleHeap). MarkStands j b) (sym is)
-          (moved_stands k c a stands move (stored h m s i v) a.next heap stands.next),
+          (mutated_stands k c a stands mutation (stored h m s i v) a.next heap stands.next),
     )

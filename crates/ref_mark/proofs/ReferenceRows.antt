@@ -15,6 +15,7 @@ use Rattle.ref_base.specs.Heaps.{cut}
 use Rattle.ref_base.specs.Refusals.{get_refusal, clear_refusal}
 use Rattle.ref_base.specs.CollectorRows.{Gets, referent_of, is_same}
 use Rattle.ref_base.specs.declared.heap_step.HeapStep.TheVariants as heap
+use Rattle.ref_base.specs.declared.plain_step.PlainStep.TheVariants as plain
 use Rattle.ref_base.specs.declared.reply.Reply.TheVariants as replies
 use Rattle.ref_base.proofs.Lookups.{has-present_here}
 use Rattle.ref_base.proofs.RowForms.{unless_passes}
@@ -25,15 +26,16 @@ use Rattle.ref_mark.proofs.Agreeing.{reference_of-agrees, changed_in-agrees, agr
 use Rattle.ref_mark.proofs.DoomedLists.{past_is_in_cycle, shown_heap-before}
 use Rattle.ref_mark.proofs.ShownHeaps.{cut-shown}
 use Rattle.ref_mark.proofs.ShownReads.{reference_of-shown, undoomed-among, undoomed-before}
-use Rattle.ref_mark.proofs.Moves.{Change, moved, IsMove}
-use Rattle.ref_mark.proofs.MovedStates.{moved_stands, alongside_itself}
-use Rattle.ref_mark.proofs.ShadedMoves.{barred_row}
+use Rattle.ref_mark.proofs.Mutations.{Change, mutated, IsMutation}
+use Rattle.ref_mark.proofs.MutatedStates.{mutated_stands, alongside_itself}
+use Rattle.ref_mark.proofs.ShadedRows.{barred_row}
 use Rattle.ref_mark.proofs.RootFacts.{slot_off, slot_root, root_is_not_white, root_is_there, roots_of_set, named_of_set}
 use Rattle.ref_mark.proofs.RootFacts.{slot_is_not_due, slot_within, past_from}
-use Rattle.ref_mark.proofs.MoveKinds.{rooted, altered, altered_move}
+use Rattle.ref_mark.proofs.MutationKinds.{rooted, altered, altered_mutation}
 use Rattle.ref_mark.proofs.SlotRows.{set_stands}
-use Rattle.ref_mark.proofs.ReferenceMoves.{reference_refusal-there, refers_into_doomed-past, cleared_becomes}
-use Rattle.ref_mark.proofs.ReferenceMoves.{got_becomes, gives_target, undoomed-some, with_got-barred, reference_of-held}
+use Rattle.ref_mark.proofs.ReferenceChanges.{reference_refusal-there, refers_into_doomed-past, cleared_becomes}
+use Rattle.ref_mark.proofs.ReferenceChanges.{got_becomes, gives_target, undoomed-some, with_got-barred}
+use Rattle.ref_mark.proofs.ReferenceChanges.{reference_of-held}
 
 module _ (k : CycleHeap) (a : State) (stands : MarkStands k a) where
   -- what is told of a reference in a slot, told so of what is shown, is told of it as it reads
@@ -56,28 +58,29 @@ module _ (k : CycleHeap) (a : State) (stands : MarkStands k a) where
 
   -- ---- where the heap stays as it is
 
-  unmoved : IsMove k (rooted k k.heap.slots k.heap.holds) (pending_numbers a.world.pending) []
-  unmoved = grind arith
+  unmutated : IsMutation k (rooted k k.heap.slots k.heap.holds) (pending_numbers a.world.pending) []
+  unmutated = grind arith
 
   -- what mutators read stays as it is
-  pub unmoved_stands : (h : Heap) → ReadsAs k h → MarkStands k (ticked (on_heap a h))
-  unmoved_stands h heap =
-      moved_stands k (rooted k k.heap.slots k.heap.holds) a stands unmoved h a.next heap stands.next
+  pub unmutated_stands : (h : Heap) → ReadsAs k h → MarkStands k (ticked (on_heap a h))
+  unmutated_stands h heap =
+      mutated_stands k (rooted k k.heap.slots k.heap.holds) a stands unmutated h a.next heap stands.next
 
   pub refers_to_row : (m s v : ℕ)
-      → (b : State) × HeapAccepts a (heap.RefersTo m s v) (replies.Refers (reads_same k m s v)) b × MarkStands k b
+      → (b : State) × HeapAccepts a (heap.Plain (plain.RefersTo m s v)) (replies.Refers (reads_same k m s v)) b
+      × MarkStands k b
   refers_to_row m s v =
       let same : is_same (referent_of (reference_of a.world.heap (slot_at a.world.heap m s))) (slot_at a.world.heap m v)
       ≡ reads_same k m s v =
       ap (λ (value : Option ℕ). is_same value (slot_at a.world.heap m v)) (read_same referent_of referent_of-shown m s)
       ∙ ap (λ (h : Heap).
       is_same (undoomed k (referent_of (reference_of k.heap (slot_at k.heap m s)))) (slot_at h m v)) stands.heap in
-      (ticked a, (ap (λ b. replies.Refers b) (sym same), refl), unmoved_stands a.world.heap stands.heap)
+      (ticked a, (ap (λ b. replies.Refers b) (sym same), refl), unmutated_stands a.world.heap stands.heap)
 
 -- ---- clears
 
 pub clear_row : (k : CycleHeap) (a : State) (m s : ℕ) → MarkStands k a → clear_refusal k.heap m s ≡ None
-    → (b : State) × HeapAccepts a (heap.Clear m s) replies.Done b × MarkStands (with_cleared k m s) b
+    → (b : State) × HeapAccepts a (heap.Plain (plain.Clear m s)) replies.Done b × MarkStands (with_cleared k m s) b
 clear_row k a m s stands accepted =
     let pending = pending_numbers a.world.pending in
     let h = a.world.heap in
@@ -98,26 +101,26 @@ clear_row k a m s stands accepted =
           let heap : ReadsAs k (cut h m s) =
           ap (heap_but (unsaid k)) (sym same) ∙ changed_in-agrees k h stands.heap held f said (λ o. refl)
           ∙ ap (heap_but (unsaid k)) (cut-shown k held off met) in
-          subst (λ (j : CycleHeap). MarkStands j b) (sym stays) (unmoved_stands k a stands (cut h m s) heap)
+          subst (λ (j : CycleHeap). MarkStands j b) (sym stays) (unmutated_stands k a stands (cut h m s) heap)
       | inr keeps ↦
           let c : Change = altered k k.heap.slots k.heap.holds holder.0 f in
-          let is : record k { heap = cut k.heap m s } ≡ moved k c =
+          let is : record k { heap = cut k.heap m s } ≡ mutated k c =
           ap (λ (held : Option ℕ). record k { heap = changed_in k.heap held f }) holder.1 in
           let cuts : with_cleared k m s ≡ record k { heap = cut k.heap m s } = simp keeps refl in
-          let move : IsMove k c pending [] =
-          altered_move k a k.heap.slots k.heap.holds holder.0 f pending [] stands (λ o. refl) refl
+          let mutation : IsMutation k c pending [] =
+          altered_mutation k a k.heap.slots k.heap.holds holder.0 f pending [] stands (λ o. refl) refl
           (λ begun n root. inl (root_is_not_white k a stands begun n root)) (root_is_there k a stands)
           (λ o found.
           let own : refers_into (is_doomed k) o.reference ≡ false =
           ap (λ (p : Option Object). refers_into (is_doomed k) (reference_in p)) (sym found)
           ∙ ap (λ (held : Option ℕ). refers_into (is_doomed k) (reference_of k.heap held)) (sym holder.1) ∙ keeps in
           cleared_becomes k (present k.heap.slots ++ k.heap.holds ++ pending) o own) in
-          let heap : ReadsAs (moved k c) (cut h m s) =
+          let heap : ReadsAs (mutated k c) (cut h m s) =
           subst (λ (j : CycleHeap). ReadsAs j (cut h m s)) is
           (subst (λ (g : Heap). ReadsAs (record k { heap = cut k.heap m s }) g) same
           (agrees_changed k h stands.heap held f said (λ o. refl) shown-cleared)) in
           subst (λ (j : CycleHeap). MarkStands j b) (sym (cuts ∙ is))
-          (moved_stands k c a stands move (cut h m s) a.next heap stands.next)
+          (mutated_stands k c a stands mutation (cut h m s) a.next heap stands.next)
     ] in
     (b, (refl, refl), goal)
 
@@ -133,7 +136,7 @@ get_values k a m d s (Some n) stands is there =
     let holder = reference_of-held k (slot_at k.heap m s) n is in
     let f : Object → Object = with_reference (got_at k.heap.clock) in
     let c : Change = altered k set k.heap.holds holder.0 f in
-    let same : record k { heap = got k.heap m d s (Some n) } ≡ moved k c =
+    let same : record k { heap = got k.heap m d s (Some n) } ≡ mutated k c =
     ap (λ (held : Option ℕ). record k { heap = with_slot (changed_in k.heap held f) m d (Some n) }) holder.1 in
     let root : has (present set ++ k.heap.holds ++ pending) n ≡ true =
     slot_root (present set) k.heap.holds pending n
@@ -144,10 +147,10 @@ get_values k a m d s (Some n) stands is there =
     stands.there.led holder.0 n (slot_is_not_due k a m s holder.0 stands holder.1)
     (gives_target k.heap holder.0 n
     (ap (λ (held : Option ℕ). referent_got (reference_of k.heap held)) (sym holder.1) ∙ gives)) in
-    let move : (todo : List ℕ)
+    let mutation : (todo : List ℕ)
     → (is_in_cycle k.phase ≡ true → (i : ℕ) → Some n ≡ Some i → (is_white k i ≡ false) ⊎ (has todo i ≡ true))
-    → IsMove k c pending todo = λ todo allowed.
-    altered_move k a set k.heap.holds holder.0 f pending todo stands (λ o. refl)
+    → IsMutation k c pending todo = λ todo allowed.
+    altered_mutation k a set k.heap.holds holder.0 f pending todo stands (λ o. refl)
     (length-set k.heap.slots (16 * m + d) (Some n))
     (λ begun. roots_of_set k a stands begun (16 * m + d) (Some n) todo (allowed begun))
     (named_of_set k a stands (16 * m + d) (Some n)
@@ -164,15 +167,15 @@ get_values k a m d s (Some n) stands is there =
     ReadsAs (record k { heap = changed_in k.heap (slot_at k.heap m s) f }) (changed_in h (slot_at k.heap m s) f) =
     agrees_changed k h stands.heap (slot_at k.heap m s) f (said_slot k a m s stands) (λ o. refl)
     (λ e o. shown-got e k.heap.clock o) in
-    let heap : ReadsAs (moved k c) (got h m d s (Some n)) =
+    let heap : ReadsAs (mutated k c) (got h m d s (Some n)) =
     subst (λ (j : CycleHeap). ReadsAs j (got h m d s (Some n))) same
     (subst (λ (g : Heap). ReadsAs (record k { heap = got k.heap m d s (Some n) }) (with_slot g m d (Some n))) at_slot
     (ap (λ (g : Heap). with_slot g m d (Some n)) changes)) in
     let row = barred_row k c a a.world (alongside_itself a.world) n stands root (got h m d s (Some n))
     (replies.Object n)
-    (λ marking. move (n ∷ [])
+    (λ marking. mutation (n ∷ [])
     (λ begun j own. inr (or_left (n == j) false (eq-eqb n j (let e : Some n ≡ Some j = own in cc)))))
-    (λ quiet. move []
+    (λ quiet. mutation []
     (λ begun j own.
     let past : is_past_mark k.phase ≡ true = past_from k.phase begun quiet in
     let stays : is_doomed k n ≡ false =
@@ -188,7 +191,8 @@ get_values k a m d s (Some n) stands is there =
 
 pub get_row : (k : CycleHeap) (a : State) (m d s : ℕ) → MarkStands k a → get_refusal k.heap m d s ≡ None
     → let value = value_got k m s in
-    (b : State) × HeapAccepts a (heap.Get m d s) (value_reply value) b × MarkStands (with_got k m d s value) b
+    (b : State) × HeapAccepts a (heap.Plain (plain.Get m d s)) (value_reply value) b
+    × MarkStands (with_got k m d s value) b
 get_row k a m d s stands accepted =
     let value = value_got k m s in
     let same : referent_got (reference_of a.world.heap (slot_at a.world.heap m s)) ≡ value =

@@ -13,27 +13,28 @@ use Rattle.ref_mark.proofs.Common.{is_white, barred, MarkStands}
 use Rattle.ref_base.specs.Refusals.{load_refusal}
 use Rattle.ref_base.specs.CollectorRows.{field_of, Loads}
 use Rattle.ref_base.specs.declared.heap_step.HeapStep.TheVariants as heap
+use Rattle.ref_base.specs.declared.plain_step.PlainStep.TheVariants as plain
 use Rattle.ref_base.specs.declared.reply.Reply.TheVariants as replies
 use Rattle.ref_base.proofs.HasLaws.{has-left}
 use Rattle.ref_mark.specs.CycleHeaps.{loaded}
 use Rattle.ref_mark.proofs.Agreeing.{field_in-agrees, said_slot}
-use Rattle.ref_mark.proofs.Moves.{Change, moved, IsMove}
-use Rattle.ref_mark.proofs.MovedStates.{moved_stands, alongside_itself}
-use Rattle.ref_mark.proofs.ShadedMoves.{barred_row}
+use Rattle.ref_mark.proofs.Mutations.{Change, mutated, IsMutation}
+use Rattle.ref_mark.proofs.MutatedStates.{mutated_stands, alongside_itself}
+use Rattle.ref_mark.proofs.ShadedRows.{barred_row}
 use Rattle.ref_base.proofs.Lookups.{has-present_here, has-present_at}
 use Rattle.ref_mark.proofs.RootFacts.{slot_root, slot_is_not_white, roots_of_set, lead_is_not_white, slot_within}
 use Rattle.ref_mark.proofs.RootFacts.{named_of_set, slot_is_there, slot_is_not_due}
-use Rattle.ref_mark.proofs.MoveKinds.{rooted, rooted_move}
+use Rattle.ref_mark.proofs.MutationKinds.{rooted, rooted_mutation}
 use Rattle.ref_base.proofs.RowForms.{unless_passes}
 
 -- ---- slots
 
 -- a slot is set to a value that isn't white, but for what is still to be shaded
-pub slot_move : (k : CycleHeap) (a : State) (i : ℕ) (value : Option ℕ) (todo : List ℕ) → MarkStands k a
+pub slot_mutation : (k : CycleHeap) (a : State) (i : ℕ) (value : Option ℕ) (todo : List ℕ) → MarkStands k a
     → (is_in_cycle k.phase ≡ true → (n : ℕ) → value ≡ Some n → (is_white k n ≡ false) ⊎ (has todo n ≡ true))
     → ((n : ℕ) → value ≡ Some n → is_there k.heap.objects n ≡ true)
-    → IsMove k (rooted k (slice_set k.heap.slots i value) k.heap.holds) (pending_numbers a.world.pending) todo
-slot_move k a i value todo stands allowed there = search (rooted_move, length-set, roots_of_set, named_of_set)
+    → IsMutation k (rooted k (slice_set k.heap.slots i value) k.heap.holds) (pending_numbers a.world.pending) todo
+slot_mutation k a i value todo stands allowed there = search (rooted_mutation, length-set, roots_of_set, named_of_set)
 
 pub set_stands : (k : CycleHeap) (a : State) (m d : ℕ) (value : Option ℕ) → MarkStands k a
     → (is_in_cycle k.phase ≡ true → (n : ℕ) → value ≡ Some n → is_white k n ≡ false)
@@ -42,14 +43,14 @@ pub set_stands : (k : CycleHeap) (a : State) (m d : ℕ) (value : Option ℕ) �
     (ticked (on_heap a (with_slot a.world.heap m d value)))
 set_stands k a m d value stands allowed there =
     let c : Change = rooted k (slice_set k.heap.slots (16 * m + d) value) k.heap.holds in
-    moved_stands k c a stands
-    (slot_move k a (16 * m + d) value [] stands (λ begun n is. inl (allowed begun n is)) there)
+    mutated_stands k c a stands
+    (slot_mutation k a (16 * m + d) value [] stands (λ begun n is. inl (allowed begun n is)) there)
     (with_slot a.world.heap m d value) a.next (ap (λ (h : Heap). with_slot h m d value) stands.heap) stands.next
 
 -- ---- copies and drops
 
 pub copy_row : (k : CycleHeap) (a : State) (m d s : ℕ) → MarkStands k a
-    → (b : State) × HeapAccepts a (heap.Copy m d s) (value_reply (slot_at k.heap m s)) b
+    → (b : State) × HeapAccepts a (heap.Plain (plain.Copy m d s)) (value_reply (slot_at k.heap m s)) b
     × MarkStands (record k { heap = with_slot k.heap m d (slot_at k.heap m s) }) b
 copy_row k a m d s stands =
     let value = slot_at k.heap m s in
@@ -64,7 +65,7 @@ copy_row k a m d s stands =
     )
 
 pub drop_row : (k : CycleHeap) (a : State) (m s : ℕ) → MarkStands k a
-    → (b : State) × HeapAccepts a (heap.Drop m s) replies.Done b
+    → (b : State) × HeapAccepts a (heap.Plain (plain.Drop m s)) replies.Done b
     × MarkStands (record k { heap = with_slot k.heap m s None }) b
 drop_row k a m s stands = grind (arith, set_stands k a m s None stands)
 
@@ -93,7 +94,7 @@ load_values k a m d s i (Some n) stands is there =
     let root : has (present set ++ k.heap.holds ++ pending) n ≡ true =
     slot_root (present set) k.heap.holds pending n
     (has-present_here k.heap.slots (16 * m + d) n (slot_within k a m d stands there)) in
-    let same : loaded k m d (Some n) ≡ barred (moved k c) (Some n) =
+    let same : loaded k m d (Some n) ≡ barred (mutated k c) (Some n) =
     elim (cases_Bool (is_in k.phase Marking)) [
       | inl marking ↦ elim (cases_Bool (is_white k n)) [
         | inl white ↦ simp (marking, white) refl
@@ -109,9 +110,9 @@ load_values k a m d s i (Some n) stands is there =
     λ j own. subst (λ o. is_there k.heap.objects o ≡ true) (let e : Some n ≡ Some j = own in cc) given in
     let row = barred_row k c a a.world (alongside_itself a.world) n stands root
     (with_slot a.world.heap m d (Some n)) (replies.Object n)
-    (λ marking. slot_move k a (16 * m + d) (Some n) (n ∷ []) stands
+    (λ marking. slot_mutation k a (16 * m + d) (Some n) (n ∷ []) stands
     (λ begun j own. inr (or_left (n == j) false (eq-eqb n j (let e : Some n ≡ Some j = own in cc)))) own_there)
-    (λ quiet. slot_move k a (16 * m + d) (Some n) [] stands
+    (λ quiet. slot_mutation k a (16 * m + d) (Some n) [] stands
     (λ begun j own.
     inl
     (subst (λ o. is_white k o ≡ false) (let e : Some n ≡ Some j = own in cc)
@@ -122,7 +123,8 @@ load_values k a m d s i (Some n) stands is there =
 
 pub load_row : (k : CycleHeap) (a : State) (m d s i : ℕ) → MarkStands k a → load_refusal k.heap m d s i ≡ None
     → let value = field_in k.heap (slot_at k.heap m s) i in
-    (b : State) × HeapAccepts a (heap.Load m d s i) (value_reply value) b × MarkStands (loaded k m d value) b
+    (b : State) × HeapAccepts a (heap.Plain (plain.Load m d s i)) (value_reply value) b
+    × MarkStands (loaded k m d value) b
 load_row k a m d s i stands accepted =
     let value = field_in k.heap (slot_at k.heap m s) i in
     let same : field_in a.world.heap (slot_at a.world.heap m s) i ≡ value =

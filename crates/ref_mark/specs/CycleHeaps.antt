@@ -3,7 +3,7 @@
 -- list, and what is found for clearing: this project's profile).
 use Rattle.std.specs.Prelude.{ℕ, ◌+◌, Bool, true, false, ◌&&◌, ◌||◌, not, if◌then◌else◌, List, [], ◌∷◌, ◌++◌, replicate}
 use Rattle.std.specs.Prelude.{Option, Some, None, slice_set}
-use Rattle.ref_base.specs.Members.{has}
+use Rattle.ref_base.specs.Members.{has, rest_of}
 use Rattle.ref_base.specs.Graphs.{Object, is_there}
 use Rattle.ref_base.specs.Paths.{present, targets_at}
 use Rattle.ref_base.specs.KeptPaths.{is_kept, policy_from}
@@ -19,15 +19,13 @@ use Rattle.ref_base.specs.declared.policy.Policy.{Policy}
 use Rattle.ref_base.specs.declared.urgency.Urgency.{Urgency}
 use Rattle.ref_base.specs.declared.urgency.Urgency.TheVariants.{Normal}
 use Rattle.ref_objects.specs.Grounds.{Tag, unmarked, with_new_tag, without_tag}
-use Rattle.ref_mark.specs.Worklists.{rest_of}
 
--- A heap, its number, the number of its next object; the objects that the cycle has reached, or that were made in it
+-- A heap, the number of its next object; the objects that the cycle has reached, or that were made in it
 -- once it had begun; the tag of each object; the grey list: those of the reached that are still to be scanned, in
 -- order; for each worker the references that it found, and that weren't looked at since; the phase, the policy of
 -- the cycle, and its number.
 pub record CycleHeap : Type 0 where
   pub heap : Heap
-  pub heap_no : ℕ
   pub next : ℕ
   pub marked : List ℕ
   pub tags : List Tag
@@ -39,9 +37,8 @@ pub record CycleHeap : Type 0 where
 
 -- at first there is nothing, and so many cycles were there
 abbrev pub first_cycle_heap : Config → ℕ → ℕ → ℕ → CycleHeap
-first_cycle_heap config heap_no next cycle = record {
-  heap = first_heap config;
-  heap_no = heap_no;
+first_cycle_heap config number next cycle = record {
+  heap = first_heap config number;
   next = next;
   marked = [];
   tags = [];

@@ -1,7 +1,7 @@
 -- What the calls of a heap in its cycles answer and leave, step by step: one table for all of them, by the steps and
 -- refusals of the abstract collector.
-use Rattle.std.specs.Prelude.{ℕ, ◌+◌, Bool, true, false, ◌&&◌, not, List, [], length, Option, Some, None, Result, Ok}
-use Rattle.std.specs.Prelude.{Err}
+use Rattle.std.specs.Prelude.{◌≡◌, ℕ, ◌+◌, Bool, true, false, ◌&&◌, not, List, [], length, Option, Some, None}
+use Rattle.std.specs.Prelude.{Result, Ok, Err}
 use Rattle.ref_base.specs.Graphs.{plain_object, is_there}
 use Rattle.ref_base.specs.HeapSteps.{NamedStep}
 use Rattle.ref_base.specs.Heaps.{Heap, slot_at, nulls, new_reference, stored, with_slot, with_hold, without_hold}
@@ -14,6 +14,7 @@ use Rattle.ref_base.specs.declared.fault.Fault.{Fault}
 use Rattle.ref_base.specs.declared.phase.Phase.TheVariants.{Clearing}
 use Rattle.ref_base.specs.declared.heap_step.HoldName.{HoldName}
 use Rattle.ref_base.specs.declared.heap_step.HeapStep.TheVariants as heap
+use Rattle.ref_base.specs.declared.plain_step.PlainStep.TheVariants as plain
 use Rattle.ref_base.specs.declared.reply.Reply.{Reply}
 use Rattle.ref_base.specs.declared.reply.Reply.TheVariants as replies
 use Rattle.ref_objects.specs.Grounds.{unmarked, mint_refusal}
@@ -54,22 +55,13 @@ hold_reply hold = replies.Object hold.object
 
 -- the steps that are calls of a heap in its cycles
 abbrev pub is_of_marking : NamedStep → Bool
-is_of_marking (heap.New m d f) = true
-is_of_marking (heap.Refer m strength d s q f) = true
-is_of_marking (heap.Store m d i s) = true
-is_of_marking (heap.Load m d s i) = true
-is_of_marking (heap.Copy m d s) = true
-is_of_marking (heap.Drop m s) = true
-is_of_marking (heap.Get m d s) = true
-is_of_marking (heap.Clear m s) = true
-is_of_marking (heap.RefersTo m s v) = true
-is_of_marking (heap.Hold m s) = true
-is_of_marking (heap.Adopt m d hold) = true
-is_of_marking (heap.Release hold) = true
-is_of_marking (heap.Begin now how) = true
-is_of_marking (heap.Scan w) = true
-is_of_marking heap.EndMark = true
-is_of_marking step = false
+is_of_marking (heap.Unhook m s) = false
+is_of_marking (heap.Plain (plain.ClearNext w)) = false
+is_of_marking (heap.Plain plain.EndClear) = false
+is_of_marking (heap.Hand w) = false
+is_of_marking (heap.Plain (plain.Sweep w)) = false
+is_of_marking (heap.Plain plain.EndSweep) = false
+is_of_marking step = true
 
 -- a state with all that their refusals depend on
 abbrev pub refusing_cycle : CycleHeap → State
@@ -81,21 +73,21 @@ refusing_cycle k = record (first_state k.heap.config) {
 
 -- the fault of a step, or none where it is accepted: the abstract collector's own
 abbrev pub refusal_in_cycle : CycleHeap → NamedStep → Option Fault
-refusal_in_cycle k step = heap_refusal k.heap_no (refusing_cycle k) step
+refusal_in_cycle k step = heap_refusal (refusing_cycle k) step
 
 -- what a step that isn't refused answers
 abbrev pub reply_in : CycleHeap → NamedStep → Reply
-reply_in k (heap.New m d f) = replies.Object k.next
-reply_in k (heap.Refer m strength d s q f) = replies.Object k.next
-reply_in k (heap.Load m d s i) = value_reply (field_in k.heap (slot_at k.heap m s) i)
-reply_in k (heap.Copy m d s) = value_reply (slot_at k.heap m s)
-reply_in k (heap.Get m d s) = value_reply (value_got k m s)
-reply_in k (heap.RefersTo m s v) = replies.Refers (reads_same k m s v)
+reply_in k (heap.Plain (plain.New m d f)) = replies.Object k.next
+reply_in k (heap.Plain (plain.Refer m strength d s q f)) = replies.Object k.next
+reply_in k (heap.Plain (plain.Load m d s i)) = value_reply (field_in k.heap (slot_at k.heap m s) i)
+reply_in k (heap.Plain (plain.Copy m d s)) = value_reply (slot_at k.heap m s)
+reply_in k (heap.Plain (plain.Get m d s)) = value_reply (value_got k m s)
+reply_in k (heap.Plain (plain.RefersTo m s v)) = replies.Refers (reads_same k m s v)
 reply_in k (heap.Hold m s) = value_reply (slot_at k.heap m s)
 reply_in k (heap.Adopt m d hold) = replies.Object hold.object
-reply_in k (heap.Begin now how) = replies.Cycle (k.cycle + 1)
-reply_in k (heap.Scan w) = scan_reply (first_in k.grey)
-reply_in k heap.EndMark = replies.Doomed (length (unmarked k.heap.objects k.marked))
+reply_in k (heap.Plain (plain.Begin now how)) = replies.Cycle (k.cycle + 1)
+reply_in k (heap.Plain (plain.Scan w)) = scan_reply (first_in k.grey)
+reply_in k (heap.Plain plain.EndMark) = replies.Doomed (length (unmarked k.heap.objects k.marked))
 reply_in k step = replies.Done
 
 -- one more hold of what is there
@@ -105,21 +97,21 @@ with_hold_of h (Some n) = with_hold h n
 
 -- and what it leaves
 abbrev pub done_in : CycleHeap → NamedStep → CycleHeap
-done_in k (heap.New m d f) = with_made k m d (plain_object k.next (nulls f))
-done_in k (heap.Refer m strength d s q f) =
+done_in k (heap.Plain (plain.New m d f)) = with_made k m d (plain_object k.next (nulls f))
+done_in k (heap.Plain (plain.Refer m strength d s q f)) =
     with_made k m d (new_reference k.heap k.next strength (slot_at k.heap m s) q f)
-done_in k (heap.Store m d i s) = record k { heap = stored k.heap m d i s }
-done_in k (heap.Load m d s i) = loaded k m d (field_in k.heap (slot_at k.heap m s) i)
-done_in k (heap.Copy m d s) = record k { heap = with_slot k.heap m d (slot_at k.heap m s) }
-done_in k (heap.Drop m s) = record k { heap = with_slot k.heap m s None }
-done_in k (heap.Get m d s) = with_got k m d s (value_got k m s)
-done_in k (heap.Clear m s) = with_cleared k m s
+done_in k (heap.Plain (plain.Store m d i s)) = record k { heap = stored k.heap m d i s }
+done_in k (heap.Plain (plain.Load m d s i)) = loaded k m d (field_in k.heap (slot_at k.heap m s) i)
+done_in k (heap.Plain (plain.Copy m d s)) = record k { heap = with_slot k.heap m d (slot_at k.heap m s) }
+done_in k (heap.Plain (plain.Drop m s)) = record k { heap = with_slot k.heap m s None }
+done_in k (heap.Plain (plain.Get m d s)) = with_got k m d s (value_got k m s)
+done_in k (heap.Plain (plain.Clear m s)) = with_cleared k m s
 done_in k (heap.Hold m s) = record k { heap = with_hold_of k.heap (slot_at k.heap m s) }
 done_in k (heap.Adopt m d hold) = record k { heap = adopted k.heap m d hold.object }
 done_in k (heap.Release hold) = record k { heap = without_hold k.heap hold.object }
-done_in k (heap.Begin now how) = cycle_begun k now how
-done_in k (heap.Scan w) = scanned k w
-done_in k heap.EndMark = cycle_in_phase k Clearing
+done_in k (heap.Plain (plain.Begin now how)) = cycle_begun k now how
+done_in k (heap.Plain (plain.Scan w)) = scanned k w
+done_in k (heap.Plain plain.EndMark) = cycle_in_phase k Clearing
 done_in k step = k
 
 -- the reply to a step, refused or not
@@ -130,9 +122,14 @@ answer_in_cycle k step = unless_refused (refusal_in_cycle k step) replies.Refuse
 abbrev pub after_in_cycle : CycleHeap → NamedStep → CycleHeap
 after_in_cycle k step = unless_refused (refusal_in_cycle k step) (λ fault. k) (done_in k step)
 
+-- from the heap as it was, this step, with this reply, leaves this one
+pub record MarkerDoes (k : CycleHeap) (step : NamedStep) (reply : Reply) (j : CycleHeap) : Type 0 where
+  pub answer : reply ≡ answer_in_cycle k step
+  pub after : j ≡ after_in_cycle k step
+
 -- the roots that the layer above has still to shade: as a cycle begins, the pending references
 abbrev pub late_roots : State → NamedStep → List ℕ
-late_roots a (heap.Begin now how) = pending_numbers a.world.pending
+late_roots a (heap.Plain (plain.Begin now how)) = pending_numbers a.world.pending
 late_roots a step = []
 
 -- ---- holds

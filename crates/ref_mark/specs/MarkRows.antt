@@ -2,8 +2,8 @@
 use Rattle.std.specs.Prelude.{◌≡◌, ℕ, true, []}
 use Rattle.ref_base.specs.Members.{has}
 use Rattle.ref_base.specs.Heaps.{with_hold}
-use Rattle.ref_base.specs.Worlds.{first_world, graph_of}
-use Rattle.ref_base.specs.Collectors.{State, first_state}
+use Rattle.ref_base.specs.Worlds.{first_world_of, graph_of}
+use Rattle.ref_base.specs.Collectors.{State, first_state_of}
 use Rattle.ref_base.specs.HeapSteps.{NamedStep}
 use Rattle.ref_base.specs.CollectorRows.{IsHeapRow, ticked, on_heap}
 use Rattle.ref_base.specs.declared.config.Config.{Config}
@@ -14,10 +14,10 @@ use Rattle.ref_mark.specs.MarkCalls.{after_mint_in}
 use Rattle.ref_mark.specs.MarkViews.{ground_of}
 use Rattle.ref_mark.specs.Standing.{MarkStands}
 
--- the first state, where objects and cycles are numbered from these on
-abbrev pub starting_state : Config → ℕ → ℕ → State
-starting_state config obj cycle = record (first_state config) {
-  world = record (first_world config) { cycle = cycle };
+-- the first state of a heap of this number, where objects and cycles are numbered from these on
+abbrev pub starting_state : Config → ℕ → ℕ → ℕ → State
+starting_state config number obj cycle = record (first_state_of config number) {
+  world = record (first_world_of config number) { cycle = cycle };
   next = obj;
   born = obj;
 }
@@ -27,7 +27,7 @@ starting_state config obj cycle = record (first_state config) {
 abbrev pub IsMarkRowOf : CycleHeap → NamedStep → Type 0
 IsMarkRowOf k step =
     (a : State) → MarkStands k a
-    → (b : State) × IsHeapRow k.heap_no a step (answer_in_cycle k step) b
+    → (b : State) × IsHeapRow a step (answer_in_cycle k step) b
     × MarkStands (shaded_all (after_in_cycle k step)
     (unless_refused (refusal_in_cycle k step) (λ fault. []) (late_roots a step))) b
 

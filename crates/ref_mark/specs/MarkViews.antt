@@ -14,7 +14,6 @@ worklists_of (l ∷ ls) = l.stands ∷ worklists_of ls
 abbrev pub seen_marker : Ground → Worklist → List Worklist → Phase → Policy → ℕ → CycleHeap
 seen_marker g grey found phase policy cycle = record {
   heap = g.heap;
-  heap_no = g.heap_no;
   next = g.next;
   marked = g.marked;
   tags = g.tags;
@@ -27,7 +26,7 @@ seen_marker g grey found phase policy cycle = record {
 
 -- the objects, slots and holds of the heap, with marks and tags
 abbrev pub ground_of : CycleHeap → Ground
-ground_of k = record { heap = k.heap; heap_no = k.heap_no; next = k.next; marked = k.marked; tags = k.tags }
+ground_of k = record { heap = k.heap; next = k.next; marked = k.marked; tags = k.tags }
 
 -- in each list there is room for as many as there are cells, and with the grey ones it has no more than the marked
 abbrev pub AreRoomy : List Worklist → ℕ → ℕ → ℕ → Type 0

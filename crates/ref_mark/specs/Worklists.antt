@@ -1,5 +1,6 @@
 -- A list of numbers that is filled at its end and taken from at its front.
 use Rattle.std.specs.Prelude.{ℕ, List, [], ◌∷◌, ◌++◌, drop, Option, Some, None}
+use Rattle.ref_base.specs.Members.{rest_of}
 
 -- the numbers that stand in it, first first, and how many it has room for
 pub record Worklist : Type 0 where
@@ -19,10 +20,6 @@ first_in (n ∷ ns) = Some n
 -- the one at this place, from 0 on
 abbrev pub listed_at : List ℕ → ℕ → Option ℕ
 listed_at ns place = first_in (drop place ns)
-
-abbrev pub rest_of : List ℕ → List ℕ
-rest_of [] = []
-rest_of (n ∷ ns) = ns
 
 abbrev pub without_first_listed : Worklist → Worklist
 without_first_listed l = record l { stands = rest_of l.stands }

@@ -1,12 +1,14 @@
 //! The marker: a heap in its cycles, and the calls of mutators that make and change objects.
 
 ghost use Rattle.std.specs.Prelude.{◌≡◌, IfOk, replicate};
-ghost use Rattle.ref_base.specs.Collectors.{first_state};
+ghost use Rattle.ref_base.specs.Collectors.{first_state_of};
 ghost use Rattle.ref_base.specs.CollectorRows.{value_reply};
+ghost use Rattle.ref_base.specs.declared.heap_step.HeapStep.TheVariants.{Plain};
+ghost use Rattle.ref_base.specs.declared.plain_step.PlainStep.TheVariants.{Copy, Drop, New, Refer, Store};
 ghost use Rattle.ref_objects.specs.Grounds.{starting_refusal, IsMade};
 ghost use Rattle.ref_mark.specs.Worklists.{empty_worklist};
 ghost use Rattle.ref_mark.specs.CycleHeaps.{first_cycle_heap, is_in_cycle, shaded, shaded_if_any, young};
-ghost use Rattle.ref_mark.specs.MarkCalls.{answer_in_cycle, after_in_cycle, reply_of, done_reply};
+ghost use Rattle.ref_mark.specs.MarkCalls.{MarkerDoes, reply_of, done_reply};
 ghost use Rattle.ref_mark.specs.MarkViews.{ground_of};
 ghost use Rattle.ref_mark.specs.Standing.{MarkStands};
 ghost use Rattle.ref_mark.specs.MarkRows.{starting_state};
@@ -18,7 +20,7 @@ mod layer;
 
 use crate::worklist::Worklist;
 use ref_base::{
-    Config, Fault, HeapStep, MutNo, ObjNo, Phase, Policy, QueueNo, Reply, SlotNo, Strength, Urgency,
+    Config, Fault, MutNo, ObjNo, Phase, Policy, QueueNo, Reply, SlotNo, Strength, Urgency,
 };
 use ref_objects::{Objects, Start};
 use std::alloc::{AllocError, Allocator, Global};
@@ -59,7 +61,7 @@ impl<A: Allocator + Copy> Marker<A> {
     pub fn new(alloc: A, config: Config, heap_no: u64) -> Result<Self, Fault>
         ensures made { IsMade (starting_refusal config (record { obj = 1; cycle = 0; page = 1 }))
             (first_cycle_heap config heap_no 1 0) result }
-        ensures stands { IfOk result (λ heap. MarkStands heap (first_state config)) }
+        ensures stands { IfOk result (λ heap. MarkStands heap (first_state_of config heap_no)) }
     {
         Self::starting(alloc, config, heap_no, Start::FIRST)
     }
@@ -68,7 +70,7 @@ impl<A: Allocator + Copy> Marker<A> {
     pub fn starting(alloc: A, config: Config, heap_no: u64, start: Start) -> Result<Self, Fault>
         ensures made { IsMade (starting_refusal config start)
             (first_cycle_heap config heap_no start.obj start.cycle) result }
-        ensures stands { IfOk result (λ heap. MarkStands heap (starting_state config start.obj start.cycle)) }
+        ensures stands { IfOk result (λ heap. MarkStands heap (starting_state config heap_no start.obj start.cycle)) }
     {
         let objects = Objects::starting(alloc, config, heap_no, start)?;
         match worklists(alloc, config) {
@@ -108,8 +110,7 @@ impl<A: Allocator + Copy> Marker<A> {
     /// Makes a plain object, as `Objects::alloc_obj` does: `NoSuchActor`, `BadField`, `NumbersSpent`, `NoCell`. It is
     /// black from the start once a cycle has begun.
     pub fn alloc_obj(&mut self, mutator: MutNo, into: SlotNo, fields: u32) -> Result<ObjNo, Fault>
-        ensures answer { reply_of Reply.Object result ≡ answer_in_cycle self.old (HeapStep.New mutator into fields) }
-        ensures after { self.new ≡ after_in_cycle self.old (HeapStep.New mutator into fields) }
+        ensures { MarkerDoes self.old (Plain (New mutator into fields)) (reply_of Reply.Object result) self.new }
     {
         let no = self.objects.alloc_obj(mutator, into, fields)?;
         self.make_young(no);
@@ -127,9 +128,8 @@ impl<A: Allocator + Copy> Marker<A> {
         queue: Option<QueueNo>,
         fields: u32,
     ) -> Result<ObjNo, Fault>
-        ensures answer { reply_of Reply.Object result
-            ≡ answer_in_cycle self.old (HeapStep.Refer mutator strength into from queue fields) }
-        ensures after { self.new ≡ after_in_cycle self.old (HeapStep.Refer mutator strength into from queue fields) }
+        ensures { MarkerDoes self.old (Plain (Refer mutator strength into from queue fields))
+            (reply_of Reply.Object result) self.new }
     {
         let no = self
             .objects
@@ -147,9 +147,7 @@ impl<A: Allocator + Copy> Marker<A> {
         field: u32,
         from: SlotNo,
     ) -> Result<(), Fault>
-        ensures answer { reply_of done_reply result ≡
-            answer_in_cycle self.old (HeapStep.Store mutator into field from) }
-        ensures after { self.new ≡ after_in_cycle self.old (HeapStep.Store mutator into field from) }
+        ensures { MarkerDoes self.old (Plain (Store mutator into field from)) (reply_of done_reply result) self.new }
     {
         self.objects.store(mutator, into, field, from)
     }
@@ -161,16 +159,14 @@ impl<A: Allocator + Copy> Marker<A> {
         into: SlotNo,
         from: SlotNo,
     ) -> Result<Option<ObjNo>, Fault>
-        ensures answer { reply_of value_reply result ≡ answer_in_cycle self.old (HeapStep.Copy mutator into from) }
-        ensures after { self.new ≡ after_in_cycle self.old (HeapStep.Copy mutator into from) }
+        ensures { MarkerDoes self.old (Plain (Copy mutator into from)) (reply_of value_reply result) self.new }
     {
         self.objects.copy(mutator, into, from)
     }
 
     /// Empties a slot: `NoSuchActor`.
     pub fn drop_slot(&mut self, mutator: MutNo, slot: SlotNo) -> Result<(), Fault>
-        ensures answer { reply_of done_reply result ≡ answer_in_cycle self.old (HeapStep.Drop mutator slot) }
-        ensures after { self.new ≡ after_in_cycle self.old (HeapStep.Drop mutator slot) }
+        ensures { MarkerDoes self.old (Plain (Drop mutator slot)) (reply_of done_reply result) self.new }
     {
         self.objects.drop_slot(mutator, slot)
     }

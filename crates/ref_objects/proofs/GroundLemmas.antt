@@ -14,9 +14,9 @@ use Rattle.ref_objects.proofs.Common.{tags_of}
 use Rattle.ref_base.specs.Heaps.{reference_in, with_changed, with_hold, without_hold}
 use Rattle.ref_base.specs.Refusals.{field_count, object_refusal}
 use Rattle.ref_base.specs.declared.fault.Fault.TheVariants.{NoCell}
-use Rattle.ref_objects.specs.Tables.{tabled_fields, tabled_reference, numbers_by, tag_of, with_cleared_in}
+use Rattle.ref_objects.specs.Tables.{tabled_fields, tabled_reference, numbers_by, tag_of}
 use Rattle.ref_objects.specs.Tables as table
-use Rattle.ref_objects.specs.Grounds.{fields_in, kind_in, ground_with_heap, after_freeing, with_cleared_tag}
+use Rattle.ref_objects.specs.Grounds.{Tag, fields_in, kind_in, ground_with_heap, after_freeing, changed_tag}
 use Rattle.ref_objects.specs.GroundViews.{heap_of, made_at}
 use Rattle.ref_objects.proofs.TabledLemmas.{object_at-objects_of, is_there-objects_of, objects_of-changed, map-changed}
 use Rattle.ref_objects.proofs.TabledLemmas.{objects_of-without}
@@ -24,7 +24,7 @@ use Rattle.ref_objects.proofs.NumberLemmas.{has-numbers_by, length-changed, leng
 use Rattle.ref_objects.proofs.NumberLemmas.{numbers_by-made, numbers_by-without, numbers_by-more, numbers_by-fewer}
 use Rattle.ref_objects.proofs.NumberLemmas.{least_from-below}
 use Rattle.ref_objects.proofs.MarkLemmas.{marked_of-without}
-use Rattle.ref_objects.proofs.TagLemmas.{tags_of-without, tags_of-cleared}
+use Rattle.ref_objects.proofs.TagLemmas.{tags_of-without, tags_of-changed}
 
 -- ---- what is read
 
@@ -62,15 +62,15 @@ least_from-past (k ∷ ks) last n given past = grind (arith, least_from-below, l
 
 -- ---- a new object
 
-pub no_cell : (config : Config) (t : Table) (slots : List (Option ℕ)) (holds clock next k : ℕ)
+pub no_cell : (config : Config) (heap_no : ℕ) (t : Table) (slots : List (Option ℕ)) (holds clock next k : ℕ)
     → IsSoundGround config t slots holds next → k ≤ 8 → next < 2 ^ 32 → (length t.tabled == t.room) ≡ true
-    → object_refusal (heap_of config t slots clock) next k ≡ Some NoCell
-no_cell config t slots holds clock next k sound few below full = grind (arith, length-map)
+    → object_refusal (heap_of config heap_no t slots clock) next k ≡ Some NoCell
+no_cell config heap_no t slots holds clock next k sound few below full = grind (arith, length-map)
 
-pub has_cell : (config : Config) (t : Table) (slots : List (Option ℕ)) (holds clock next k : ℕ)
+pub has_cell : (config : Config) (heap_no : ℕ) (t : Table) (slots : List (Option ℕ)) (holds clock next k : ℕ)
     → IsSoundGround config t slots holds next → k ≤ 8 → next < 2 ^ 32 → length t.tabled < t.room
-    → object_refusal (heap_of config t slots clock) next k ≡ None
-has_cell config t slots holds clock next k sound few below spare = grind (arith, length-map)
+    → object_refusal (heap_of config heap_no t slots clock) next k ≡ None
+has_cell config heap_no t slots holds clock next k sound few below spare = grind (arith, length-map)
 
 pub sound_made : {config : Config} {t : Table} {slots : List (Option ℕ)} {holds next : ℕ} (place k : ℕ)
     (r : Option Reference) → IsSoundGround config t slots holds next → next < 2 ^ 32
@@ -100,14 +100,20 @@ sound_changed {config} {t} n f keeps leaves sound = search numbers_by-changed
 pub seen_changed : (config : Config) (heap_no : ℕ) (t : Table) (slots : List (Option ℕ)) (clock next n : ℕ)
     (f : Object → Object) → ((o : Object) → (f o).no ≡ o.no)
     → seen_ground config heap_no (changed t n (on_object f)) slots clock next
-    ≡ ground_with_heap (seen_ground config heap_no t slots clock next) (with_changed (heap_of config t slots clock) n f)
+    ≡ ground_with_heap (seen_ground config heap_no t slots clock next)
+    (with_changed (heap_of config heap_no t slots clock) n f)
 seen_changed config heap_no t slots clock next n f keeps =
     grind (arith, objects_of-changed, numbers_by-changed, map-changed)
 
-pub seen_cleared_in : (config : Config) (heap_no : ℕ) (t : Table) (slots : List (Option ℕ)) (clock next n cycle : ℕ)
-    → seen_ground config heap_no (changed t n (with_cleared_in cycle)) slots clock next
-    ≡ record (seen_ground config heap_no t slots clock next) { tags = with_cleared_tag (tags_of t.tabled) n cycle }
-seen_cleared_in config heap_no t slots clock next n cycle = search (map-changed, numbers_by-changed, tags_of-cleared)
+-- a change of an object's tag alone
+pub seen_tagged : (config : Config) (heap_no : ℕ) (t : Table) (slots : List (Option ℕ)) (clock next n : ℕ)
+    (f : Tabled → Tabled) (g : Tag → Tag) → ((k : Tabled) → (f k).object ≡ k.object)
+    → ((k : Tabled) → (f k).holds ≡ k.holds) → ((k : Tabled) → (f k).marked ≡ k.marked)
+    → ((k : Tabled) → tag_of (f k) ≡ g (tag_of k))
+    → seen_ground config heap_no (changed t n f) slots clock next
+    ≡ record (seen_ground config heap_no t slots clock next) { tags = changed_tag (tags_of t.tabled) n g }
+seen_tagged config heap_no t slots clock next n f g object holds marked is =
+    grind (arith, map-changed, numbers_by-changed, tags_of-changed t.tabled n f g is)
 
 -- ---- holds
 
@@ -171,12 +177,14 @@ module _ (config : Config) (heap_no : ℕ) (t : Table) (slots : List (Option ℕ
     (rising : IsRising (numbers (objects_of t.tabled))) where
   pub seen_added : is_some (tabled_at t.tabled n) ≡ true
       → seen_ground config heap_no (changed t n more_held) slots clock next
-      ≡ ground_with_heap (seen_ground config heap_no t slots clock next) (with_hold (heap_of config t slots clock) n)
+      ≡ ground_with_heap (seen_ground config heap_no t slots clock next)
+      (with_hold (heap_of config heap_no t slots clock) n)
   seen_added there = search (map-changed, holds_of-added, numbers_by-changed)
 
   pub seen_dropped : 0 < holds_in (tabled_at t.tabled n)
       → seen_ground config heap_no (changed t n less_held) slots clock next
-      ≡ ground_with_heap (seen_ground config heap_no t slots clock next) (without_hold (heap_of config t slots clock) n)
+      ≡ ground_with_heap (seen_ground config heap_no t slots clock next)
+      (without_hold (heap_of config heap_no t slots clock) n)
   seen_dropped held = search (map-changed, holds_of-dropped, numbers_by-changed)
 
   pub seen_freed : seen_ground config heap_no (table.table_freed t n) slots clock next

@@ -5,8 +5,9 @@ use Rattle.std.proofs.lemmas.Bool.{cases_Bool, false≢true}
 use Rattle.std.proofs.lemmas.List.{map-append}
 use Rattle.ref_objects.proofs.Common.{Reference, Tabled, tabled_at, changed_tabled, made_entry, without_tabled, has}
 use Rattle.ref_objects.proofs.Common.{numbers, objects_of, tags_of}
-use Rattle.ref_objects.specs.Tables.{tag_of, tabled_cleared_in, with_cleared_in}
-use Rattle.ref_objects.specs.Grounds.{Tag, cleared_in_at, with_new_tag, without_tag, with_cleared_tag}
+use Rattle.ref_objects.specs.Tables.{tag_of, tabled_cleared_in, tabled_link}
+use Rattle.ref_objects.specs.Grounds.{Tag, cleared_in_at, link_at, with_new_tag, without_tag, changed_tag}
+use Rattle.ref_objects.specs.Grounds.{with_cleared_tag, with_link}
 
 pub tags_of-made : (ks : List Tabled) (n count : ℕ) (r : Option Reference)
     → tags_of (ks ++ made_entry n count r ∷ []) ≡ with_new_tag (tags_of ks) n
@@ -23,10 +24,18 @@ pub cleared_in-tabled : (ks : List Tabled) (n : ℕ)
 cleared_in-tabled [] n = refl
 cleared_in-tabled (k ∷ ks) n = grind (arith, cleared_in-tabled ks n)
 
-pub tags_of-cleared : (ks : List Tabled) (n cycle : ℕ)
-    → tags_of (changed_tabled ks n (with_cleared_in cycle)) ≡ with_cleared_tag (tags_of ks) n cycle
-tags_of-cleared [] n cycle = refl
-tags_of-cleared (k ∷ ks) n cycle = grind (arith, tags_of-cleared ks n cycle)
+-- ---- its link
+
+pub link-tabled : (ks : List Tabled) (n : ℕ) → tabled_link (tabled_at ks n) ≡ link_at (tags_of ks) n
+link-tabled [] n = refl
+link-tabled (k ∷ ks) n = grind (arith, link-tabled ks n)
+
+-- ---- a change of one object is one of its tag
+
+pub tags_of-changed : (ks : List Tabled) (n : ℕ) (f : Tabled → Tabled) (g : Tag → Tag)
+    → ((k : Tabled) → tag_of (f k) ≡ g (tag_of k)) → tags_of (changed_tabled ks n f) ≡ changed_tag (tags_of ks) n g
+tags_of-changed [] n f g is = refl
+tags_of-changed (k ∷ ks) n f g is = grind (arith, tags_of-changed ks n f g is)
 
 -- ---- what is read of tags
 

@@ -8,10 +8,11 @@ use Rattle.ref_base.specs.declared.config.Config.{Config}
 use Rattle.ref_objects.specs.Tables.{Table, objects_of, holds_of, marked_of, tags_of}
 use Rattle.ref_objects.specs.Grounds.{Ground, with_new_tag}
 
--- the heap that a table, slots and the clock are
-abbrev pub heap_of : Config → Table → List (Option ℕ) → ℕ → Heap
-heap_of config table slots clock = record {
+-- the heap of this number that a table, slots and the clock are
+abbrev pub heap_of : Config → ℕ → Table → List (Option ℕ) → ℕ → Heap
+heap_of config number table slots clock = record {
   config = config;
+  no = number;
   objects = objects_of table.tabled;
   slots = slots;
   holds = holds_of table.tabled;
@@ -20,8 +21,7 @@ heap_of config table slots clock = record {
 
 abbrev pub seen_ground : Config → ℕ → Table → List (Option ℕ) → ℕ → ℕ → Ground
 seen_ground config heap_no table slots clock next = record {
-  heap = heap_of config table slots clock;
-  heap_no = heap_no;
+  heap = heap_of config heap_no table slots clock;
   next = next;
   marked = marked_of table.tabled;
   tags = tags_of table.tabled;

@@ -18,17 +18,17 @@ use Rattle.ref_objects.specs.declared.start.Start.{Start}
 use Rattle.ref_objects.specs.declared.kind.Kind.{Kind}
 use Rattle.ref_objects.specs.declared.kind.Kind.TheVariants as kind
 
--- what a heap knows of an object that the model doesn't: of that of this number, the cycle in which a worker cleared it
--- last, or 0
+-- what a heap knows of an object that the model doesn't: of that of this number, its link, which is the number of the
+-- object behind it in the list that it stands in, or 0, and the cycle in which a worker cleared it last, or 0
 pub record Tag : Type 0 where
   pub no : ℕ
+  pub link : ℕ
   pub cleared_in : ℕ
 
--- a heap, its number among the heaps of a program, the number of its next object, the numbers of the objects that are
--- marked, and the tag of each object, both in order
+-- a heap, the number of its next object, the numbers of the objects that are marked, and the tag of each object, both
+-- in order
 pub record Ground : Type 0 where
   pub heap : Heap
-  pub heap_no : ℕ
   pub next : ℕ
   pub marked : List ℕ
   pub tags : List Tag
@@ -50,8 +50,8 @@ starting_refusal config start =
 
 -- a heap in which nothing was made yet
 abbrev pub first_ground : Config → ℕ → ℕ → Ground
-first_ground config heap_no next =
-    record { heap = first_heap config; heap_no = heap_no; next = next; marked = []; tags = [] }
+first_ground config number next =
+    record { heap = first_heap config number; next = next; marked = []; tags = [] }
 
 -- this is made, unless it is refused with just this fault, or memory isn't there
 abbrev pub IsMade : {T : Type 0} → Option Fault → T → Result T Fault → Type 0
@@ -84,14 +84,14 @@ holding_refusal g m s = unless (has_slot g.heap m s) NoSuchActor (held_mint_refu
 
 -- the hold is one of this heap, which counts it
 abbrev pub release_refusal : Ground → HoldName → Option Fault
-release_refusal g hold = returned_refusal g.heap_no g.heap hold
+release_refusal g hold = returned_refusal g.heap hold
 
 abbrev pub adopt_refusal : Ground → ℕ → ℕ → HoldName → Option Fault
 adopt_refusal g m d hold = unless (has_slot g.heap m d) NoSuchActor (release_refusal g hold)
 
 -- a hold of this heap, and of the object that is named
 abbrev pub IsHoldOf : Ground → Option ℕ → HoldName → Type 0
-IsHoldOf g named hold = (hold.heap_no ≡ g.heap_no) × (Some hold.object ≡ named)
+IsHoldOf g named hold = (hold.heap_no ≡ g.heap.no) × (Some hold.object ≡ named)
 
 -- ---- what is read
 
@@ -120,6 +120,11 @@ abbrev pub cleared_in_at : List Tag → ℕ → ℕ
 cleared_in_at [] n = 0
 cleared_in_at (t ∷ ts) n = if t.no == n then t.cleared_in else cleared_in_at ts n
 
+-- the link of object n: 0 where it isn't there
+abbrev pub link_at : List Tag → ℕ → ℕ
+link_at [] n = 0
+link_at (t ∷ ts) n = if t.no == n then t.link else link_at ts n
+
 -- the first of these numbers that is at least n: the least, where they are in order
 abbrev pub least_from : List ℕ → ℕ → Option ℕ
 least_from [] n = None
@@ -145,19 +150,26 @@ if_done (Err fault) after before = before
 abbrev pub ground_with_heap : Ground → Heap → Ground
 ground_with_heap g heap = record g { heap = heap }
 
--- the tags with that of a new object n, which was never cleared
+-- the tags with that of a new object n, which links to nothing and was never cleared
 abbrev pub with_new_tag : List Tag → ℕ → List Tag
-with_new_tag ts n = ts ++ record { no = n; cleared_in = 0 } ∷ []
+with_new_tag ts n = ts ++ record { no = n; link = 0; cleared_in = 0 } ∷ []
 
 -- the tags but that of object n
 abbrev pub without_tag : List Tag → ℕ → List Tag
 without_tag = without_first (λ t. t.no)
 
+-- the tags with that of object n changed
+abbrev pub changed_tag : List Tag → ℕ → (Tag → Tag) → List Tag
+changed_tag [] n change = []
+changed_tag (t ∷ ts) n change = if t.no == n then change t ∷ ts else t ∷ changed_tag ts n change
+
 -- object n was cleared in this cycle
 abbrev pub with_cleared_tag : List Tag → ℕ → ℕ → List Tag
-with_cleared_tag [] n cycle = []
-with_cleared_tag (t ∷ ts) n cycle =
-    if t.no == n then record t { cleared_in = cycle } ∷ ts else t ∷ with_cleared_tag ts n cycle
+with_cleared_tag ts n cycle = changed_tag ts n (λ t. record t { cleared_in = cycle })
+
+-- object n links to this
+abbrev pub with_link : List Tag → ℕ → ℕ → List Tag
+with_link ts n to = changed_tag ts n (λ t. record t { link = to })
 
 -- one more object, in the slot
 abbrev pub with_new_object : Ground → ℕ → ℕ → Object → Ground

@@ -9,12 +9,13 @@ use Rattle.ref_objects.specs.Tables.{Tabled, Table, marked_of, with_marked}
 use Rattle.ref_objects.specs.declared.index.Entry.{Entry}
 
 -- what a cell holds: an object, or nothing where it has no number
-abbrev pub tabled_in : Option ℕ → List (Option ℕ) → Option Reference → ℕ → Bool → ℕ → Option Tabled
-tabled_in None fields reference holds marked cleared_in = None
-tabled_in (Some n) fields reference holds marked cleared_in = Some (record {
+abbrev pub tabled_in : Option ℕ → List (Option ℕ) → Option Reference → ℕ → Bool → ℕ → ℕ → Option Tabled
+tabled_in None fields reference holds marked link cleared_in = None
+tabled_in (Some n) fields reference holds marked link cleared_in = Some (record {
   object = record { no = n; fields = fields; reference = reference };
   holds = holds;
   marked = marked;
+  link = link;
   cleared_in = cleared_in;
 })
 

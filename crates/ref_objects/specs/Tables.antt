@@ -9,12 +9,13 @@ use Rattle.ref_base.specs.Strengths.{IsRising}
 use Rattle.ref_base.specs.Heaps.{reference_in}
 use Rattle.ref_objects.specs.Grounds.{fields_in, Tag}
 
--- an object of the table, how many holds of it are out, whether it is marked, and the cycle in which a worker cleared
--- it last, or 0
+-- an object of the table, how many holds of it are out, whether it is marked, its link, which is the number of another
+-- object or 0, and the cycle in which a worker cleared it last, or 0
 pub record Tabled : Type 0 where
   pub object : Object
   pub holds : ℕ
   pub marked : Bool
+  pub link : ℕ
   pub cleared_in : ℕ
 
 -- the objects that there are, in order of number, how many there may be, and the greatest number that was ever given
@@ -139,12 +140,13 @@ without_object t n = record t { tabled = without_tabled t.tabled n }
 abbrev pub table_freed : Table → ℕ → Table
 table_freed t n = if is_unheld (tabled_at t.tabled n) then without_object t n else t
 
--- an object that nobody holds, unmarked, never cleared and of so many null fields
+-- an object that nobody holds, unmarked, without a link, never cleared and of so many null fields
 abbrev pub made_entry : ℕ → ℕ → Option Reference → Tabled
 made_entry n count reference = record {
   object = record { no = n; fields = replicate count None; reference = reference };
   holds = 0;
   marked = false;
+  link = 0;
   cleared_in = 0;
 }
 
@@ -192,7 +194,7 @@ table_unmarked t = record t { tabled = unmarked_tabled t.tabled }
 
 -- an object's tag
 abbrev pub tag_of : Tabled → Tag
-tag_of k = record { no = k.object.no; cleared_in = k.cleared_in }
+tag_of k = record { no = k.object.no; link = k.link; cleared_in = k.cleared_in }
 
 -- the tag of each object, in order
 abbrev pub tags_of : List Tabled → List Tag
@@ -206,3 +208,12 @@ tabled_cleared_in (Some k) = k.cleared_in
 -- cleared in this cycle
 abbrev pub with_cleared_in : ℕ → Tabled → Tabled
 with_cleared_in cycle k = record k { cleared_in = cycle }
+
+-- the object's link: 0 where there is none
+abbrev pub tabled_link : Option Tabled → ℕ
+tabled_link None = 0
+tabled_link (Some k) = k.link
+
+-- linked to this
+abbrev pub linked_to : ℕ → Tabled → Tabled
+linked_to to k = record k { link = to }

@@ -7,7 +7,7 @@ ghost use Rattle.ref_objects.specs.Places.{is_of, is_held_as, is_unmarked_as, un
 ghost use Rattle.ref_objects.specs.Tables.{made_entry, tabled_fields, has_field, tabled_reference, holds_in};
 ghost use Rattle.ref_objects.specs.Tables.{on_object, more_held, less_held};
 ghost use Rattle.ref_objects.specs.Tables.{is_marked_in, is_unmarked_in, with_marked};
-ghost use Rattle.ref_objects.specs.Tables.{tabled_cleared_in, with_cleared_in};
+ghost use Rattle.ref_objects.specs.Tables.{tabled_cleared_in, with_cleared_in, tabled_link, linked_to};
 
 use crate::fields::Fields;
 use crate::reference::Reference;
@@ -23,6 +23,8 @@ pub(crate) struct Cell {
     reference: Option<Reference>,
     holds: u64,
     marked: bool,
+    // The number of the object behind it in the list that it stands in, or 0.
+    link: u32,
     // The cycle in which a worker cleared it last, or 0.
     cleared_in: u64,
 }
@@ -35,7 +37,7 @@ impl Model for Cell {
 
     ghost use Rattle.ref_objects.specs.Places.{tabled_in};
 
-    ghost view = { λ c. tabled_in c.no c.fields c.reference c.holds c.marked c.cleared_in };
+    ghost view = { λ c. tabled_in c.no c.fields c.reference c.holds c.marked c.link c.cleared_in };
 }
 
 impl Cell {
@@ -49,11 +51,12 @@ impl Cell {
             reference: None,
             holds: 0,
             marked: false,
+            link: 0,
             cleared_in: 0,
         }
     }
 
-    /// The cell of a new object that nobody holds, unmarked, never cleared, with so many null fields.
+    /// The cell of a new object that nobody holds, unmarked, without a link, never cleared, with so many null fields.
     pub(crate) fn of(no: ObjNo, count: usize, reference: Option<Reference>) -> Self
         requires { count ≤ 8 }
         ensures { result ≡ Some (made_entry no count reference) }
@@ -64,6 +67,7 @@ impl Cell {
             reference,
             holds: 0,
             marked: false,
+            link: 0,
             cleared_in: 0,
         }
     }
@@ -187,6 +191,23 @@ impl Cell {
         ensures { self.new ≡ option_map (with_cleared_in cycle) self.old }
     {
         self.cleared_in = cycle;
+    }
+
+    /// The object's link: 0 where it has none, and where there is no object.
+    pub(crate) fn link(&self) -> u32
+        ensures { result ≡ tabled_link self.now }
+    {
+        match self.no {
+            Some(_) => self.link,
+            None => 0,
+        }
+    }
+
+    /// Writes the link.
+    pub(crate) fn set_link(&mut self, to: u32)
+        ensures { self.new ≡ option_map (linked_to to) self.old }
+    {
+        self.link = to;
     }
 
     /// The cell has no object any more.

@@ -56,6 +56,7 @@ impl<A: Allocator + Copy> Table<A> {
     ghost use Rattle.ref_objects.specs.Tables.{changed, table_freed, made_entry, with_tabled};
     ghost use Rattle.ref_objects.specs.Tables.{is_marked_in, is_unmarked_in, marked_of, unmarked_from, with_marked};
     ghost use Rattle.ref_objects.specs.Tables.{table_unmarked, tabled_cleared_in, with_cleared_in};
+    ghost use Rattle.ref_objects.specs.Tables.{tabled_link, linked_to};
 
     /// A table of no objects, with so many free cells. The one error is `NoMemory`.
     pub(crate) fn new(alloc: A, room: usize) -> Result<Self, Fault>
@@ -200,6 +201,25 @@ impl<A: Allocator + Copy> Table<A> {
     {
         if let Some(place) = place_of(&self.cells, &self.index, no) {
             self.cells[place].set_cleared_in(cycle);
+        }
+    }
+
+    /// The link of the object of this number: 0 where it has none, and where there is no such object.
+    pub(crate) fn link_of(&self, no: ObjNo) -> u32
+        ensures { result ≡ tabled_link (tabled_at self.now.tabled no) }
+    {
+        match cell_of(&self.cells, &self.index, no) {
+            Some(cell) => cell.link(),
+            None => 0,
+        }
+    }
+
+    /// Writes that link. Nothing changes where there is no such object.
+    pub(crate) fn set_link(&mut self, no: ObjNo, to: u32)
+        ensures { self.new ≡ changed self.old no (linked_to to) }
+    {
+        if let Some(place) = place_of(&self.cells, &self.index, no) {
+            self.cells[place].set_link(to);
         }
     }
 

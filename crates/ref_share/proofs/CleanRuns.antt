@@ -3,8 +3,9 @@ use Rattle.std.proofs.Common.{arith}
 use Rattle.std.proofs.Common.{◌≡◌, ℕ, true, List, [], ◌∷◌, ◌++◌, Option, Some, None, Ok, Err, refl}
 use Rattle.std.proofs.Common.{ap, ◌∙◌}
 use Rattle.std.specs.Cmp.{nat_eq_equiv}
-use Rattle.ref_share.proofs.Common.{new_registry, Leads, entry, Entry, IsCleanMove}
+use Rattle.ref_share.proofs.Common.{new_registry, Leads, entry, Entry, IsCleanTurn}
 use Rattle.ref_queue.specs.CleanTables.{Registry, job_of}
+use Rattle.ref_base.proofs.RunLaws.{holds_over}
 use Rattle.ref_turn.proofs.Logs.{leads_cut}
 use Rattle.ref_share.specs.CleanHistories.{some_registers, job_after, job_left}
 use Rattle.ref_share.specs.CleanSeats.{IsCleanRun}
@@ -15,20 +16,21 @@ use Rattle.ref_share.specs.declared.clean_machine.CleanReply.TheVariants as repl
 
 module _ {K J : Type 0} (n : ℕ) where
   -- one call leaves the job that its entry tells
-  move_leaves : (t u : Registry K J) (step : CleanStep K J) (reply : CleanReply K J) → IsCleanMove t step reply u
+  turn_leaves : (t u : Registry K J) (step : CleanStep K J) (reply : CleanReply K J) → IsCleanTurn t step reply u
       → job_of u n ≡ job_after n (job_of t n) step reply
-  move_leaves t u (steps.Register m kept job) (replies.Registered (Ok _)) move = move.1.0 n
-  move_leaves t u (steps.Register m kept job) (replies.Registered (Err (fault, kept_back, job_back))) move =
-      ap (λ (r : Registry K J). job_of r n) move.3
-  move_leaves t u (steps.Register m kept job) (replies.Taken taken) move = absurd move
-  move_leaves t u (steps.Take m) (replies.Taken taken) move = move.1.0 n
-  move_leaves t u (steps.Take m) (replies.Registered answer) move = absurd move
+  turn_leaves t u (steps.Register m kept job) (replies.Registered (Ok _)) turn = turn.1.0 n
+  turn_leaves t u (steps.Register m kept job) (replies.Registered (Err (fault, kept_back, job_back))) turn =
+      ap (λ (r : Registry K J). job_of r n) turn.3
+  turn_leaves t u (steps.Register m kept job) (replies.Taken taken) turn = absurd turn
+  turn_leaves t u (steps.Take m) (replies.Taken taken) turn = turn.1.0 n
+  turn_leaves t u (steps.Take m) (replies.Registered answer) turn = absurd turn
 
   run_leaves : (t u : Registry K J) (calls : List (Entry (CleanStep K J) (CleanReply K J)))
-      → Leads IsCleanMove t calls u → job_of u n ≡ job_left n (job_of t n) calls
-  run_leaves t u [] run = ap (λ (r : Registry K J). job_of r n) run
-  run_leaves t u (call ∷ calls) run =
-      search (run_leaves run.0 u calls run.2, move_leaves t run.0 call.step call.reply run.1)
+      → Leads IsCleanTurn t calls u → job_of u n ≡ job_left n (job_of t n) calls
+  run_leaves t u calls run =
+      holds_over (λ v (call : Entry (CleanStep K J) (CleanReply K J)) w. IsCleanTurn v call.step call.reply w)
+      (λ v some w. job_of w n ≡ job_left n (job_of v n) some) (λ v. refl)
+      (λ v call w more z turn later. search (later, turn_leaves v w call.step call.reply turn)) t calls u run
 
   -- a job stands after calls from a table without one only where one of them registered it
   registered_if_left : (calls : List (Entry (CleanStep K J) (CleanReply K J))) (job : K × J)
@@ -58,10 +60,10 @@ module _ {K J : Type 0} where
   registered_between front between back by later n job next last run =
       let second = entry later (steps.Take n) (replies.Taken (Some next)) ∷ back in
       let first = entry by (steps.Take n) (replies.Taken (Some job)) ∷ (between ++ second) in
-      let parts = leads_cut IsCleanMove front first new_registry last run in
+      let parts = leads_cut IsCleanTurn front first new_registry last run in
       let t : Registry K J = parts.2.0 in
       let none : job_of t n ≡ None = rw (parts.2.1.1.0 n, nat_eq_equiv.refl n) refl in
-      let rest = leads_cut IsCleanMove between second t last parts.2.2 in
+      let rest = leads_cut IsCleanTurn between second t last parts.2.2 in
       let stood = run_leaves n t rest.0 between rest.1 in
       registered_if_left n between next
       (rest.2.1.0 ∙ stood ∙ ap (λ (before : Option (K × J)). job_left n before between) none)

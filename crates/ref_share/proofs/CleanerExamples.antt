@@ -5,6 +5,7 @@ use Rattle.ref_share.proofs.Common.{Cycle, HoldName, ClearHeap, HeldNotice, new_
 use Rattle.ref_share.proofs.Common.{new_queue, Round, all_of, jobs_run, takes_in, CleanView, CleanEntry, makes_phantom}
 use Rattle.ref_share.proofs.Common.{CleansDead, HeapView, HeapEntry, QueueView, QueueEntry, Releases}
 use Rattle.ref_base.specs.declared.heap_step.HeapStep.TheVariants as heap
+use Rattle.ref_base.specs.declared.plain_step.PlainStep.TheVariants as plain
 use Rattle.ref_base.specs.declared.reply.Reply.TheVariants as told
 use Rattle.ref_queue.specs.declared.job.Ran.{Ran}
 use Rattle.ref_queue.specs.declared.queue.Polled.TheVariants as found
@@ -52,7 +53,7 @@ abbrev none_taken : CleanEntry ℕ
 none_taken = entry 0 (steps.Take 2) (answers.Taken None)
 
 abbrev makes : HeapEntry
-makes = entry 0 (makes_phantom 0 0 1 2) (replies.Told (told.Object 2))
+makes = entry 0 (heap.Plain (makes_phantom 0 0 1 2)) (replies.Told (told.Object 2))
 
 abbrev holds : HeapEntry
 holds = entry 0 (heap.Hold 0 2) (replies.Held hold)
@@ -104,8 +105,8 @@ module _ (start : Option ClearHeap) where
   it_ran : CleansNow ran_of 2 0 5 (calls_of []) (table []) (Ok (DidRun (record { number = 30; answer = 1030 }) None))
       (calls_of
       (entry 0 (heap.Adopt 0 5 hold) (replies.Told (told.Object 2)) ∷
-      entry 0 (heap.Clear 0 5) (replies.Told told.Done) ∷
-      entry 0 (heap.Drop 0 5) (replies.Told told.Done) ∷ []))
+      entry 0 (heap.Plain (plain.Clear 0 5)) (replies.Told told.Done) ∷
+      entry 0 (heap.Plain (plain.Drop 0 5)) (replies.Told told.Done) ∷ []))
       (table (taken ∷ []))
   it_ran = (
     hold,
@@ -116,7 +117,7 @@ module _ (start : Option ClearHeap) where
       calls_of (entry 0 (heap.Adopt 0 5 hold) (replies.Told (told.Object 2)) ∷ []),
       calls_of
           (entry 0 (heap.Adopt 0 5 hold) (replies.Told (told.Object 2)) ∷
-          entry 0 (heap.Clear 0 5) (replies.Told told.Done) ∷ []),
+          entry 0 (heap.Plain (plain.Clear 0 5)) (replies.Told told.Done) ∷ []),
       ((refl, refl, refl), ([], refl), refl),
       inl (told.Done, ((refl, refl, refl), ([], refl), refl)),
       inl (told.Done, ((refl, refl, refl), ([], refl), refl)),

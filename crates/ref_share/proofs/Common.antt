@@ -3,7 +3,7 @@ pub use Rattle.ref_base.specs.AgreeingWorlds.{is_waiting}
 pub use Rattle.ref_base.specs.ClearingOrder.{is_by}
 pub use Rattle.ref_base.specs.CollectorRows.{EndsMark, HandsOn, HeapAccepts, IsHeapAnswer, doomed_at, is_subsequence}
 pub use Rattle.ref_base.specs.CollectorRows.{list_at, referent_of}
-pub use Rattle.ref_base.specs.Collectors.{State, joined}
+pub use Rattle.ref_base.specs.Collectors.{State, first_state_of, joined}
 pub use Rattle.ref_base.specs.CountedHolds.{tally}
 pub use Rattle.ref_base.specs.DoomedSets.{new_clears}
 pub use Rattle.ref_base.specs.Graphs.{Object, Reference}
@@ -28,6 +28,7 @@ pub use Rattle.ref_base.specs.declared.reply.Reply.{Reply}
 pub use Rattle.ref_base.specs.declared.row.Row.{Row}
 pub use Rattle.ref_base.specs.declared.step.Step.{Step}
 pub use Rattle.ref_clear.specs.ClearHeaps.{ClearHeap, HeldNotice}
+pub use Rattle.ref_clear.specs.Standing.{HeapStands}
 pub use Rattle.ref_queue.specs.CleanTables.{new_registry}
 pub use Rattle.ref_queue.specs.declared.queue.Put.{Put}
 pub use Rattle.ref_world.specs.Cores.{as_notice}
@@ -40,17 +41,17 @@ pub use Rattle.ref_turn.specs.declared.history.Entry.{Entry}
 pub use Rattle.ref_turn.specs.declared.history.Stage.TheVariants.{Idle}
 pub use Rattle.ref_turn.specs.declared.history.View.{View}
 pub use Rattle.ref_share.specs.CleanLoops.{HasGone, Round, all_of, jobs_run, takes_in}
-pub use Rattle.ref_share.specs.CleanMachines.{IsCleanMove}
+pub use Rattle.ref_share.specs.CleanMachines.{IsCleanTurn}
 pub use Rattle.ref_share.specs.CleanSeats.{CleanEntry, CleanView, clean_view}
 pub use Rattle.ref_share.specs.Cleanings.{CleansDead, TakesJob, makes_phantom}
 pub use Rattle.ref_share.specs.Deliveries.{AreSeats, Delivers, GoesBack, PutsAt, Sends}
 pub use Rattle.ref_share.specs.HeapCalls.{Releases}
-pub use Rattle.ref_share.specs.HeapMachines.{Acts, HeapState, IsHeapMove, StandsFor, first_heap_state}
+pub use Rattle.ref_share.specs.HeapMachines.{Acts, IsHeapTurn}
 pub use Rattle.ref_share.specs.HeapSeats.{HeapEntry, HeapView, IsHeapRun, IsHeapSeat, heap_view}
 pub use Rattle.ref_share.specs.HeapTraces.{HeapMarkEnded, all_handed_on, gathered, handed_in, handed_of, heap_replayed}
 pub use Rattle.ref_share.specs.HeapTraces.{row_of, rows_of, world_step}
 pub use Rattle.ref_share.specs.QueueCalls.{PollsUntil, PutsNotice, empty_polls}
-pub use Rattle.ref_share.specs.QueueMachines.{IsQueueMove}
+pub use Rattle.ref_share.specs.QueueMachines.{IsQueueTurn}
 pub use Rattle.ref_share.specs.QueueSeats.{IsQueueSeat, QueueEntry, QueueSeat, QueueView, SharedQueue, queue_view}
 pub use Rattle.ref_share.specs.SeatCalls.{Called, Made}
 pub use Rattle.ref_share.specs.Selves.{IsItself}

@@ -1,6 +1,6 @@
 -- What a heap answers to the calls that give notices or spend holds. Turns are no fault of its own.
 use Rattle.std.proofs.Common.{arith}
-use Rattle.std.proofs.Common.{◌≡◌, ℕ, true, false, Bool, Option}
+use Rattle.std.proofs.Common.{◌≡◌, true, false, Bool, Option}
 use Rattle.std.proofs.Common.{Some, None, Result, Ok, Err, refl, sym, subst}
 use Rattle.std.proofs.lemmas.Bool.{false≢true}
 use Rattle.ref_share.proofs.Common.{NamedStep, unless}
@@ -66,8 +66,8 @@ gives_none v w c d step reply result asks acts tells called =
 
 -- ---- a step that spends a hold
 
-uncounted_of_heap : (heap_no : ℕ) (h : Heap) (hold : HoldName) → are_of_heap (hold_refusal heap_no h hold) ≡ true
-uncounted_of_heap heap_no h hold = unless_of_heap (is_counted heap_no h hold) ForeignHold None refl refl
+uncounted_of_heap : (h : Heap) (hold : HoldName) → are_of_heap (hold_refusal h hold) ≡ true
+uncounted_of_heap h hold = unless_of_heap (is_counted h hold) ForeignHold None refl refl
 
 abbrev told_fault : Reply → Option Fault
 told_fault (told.Refused fault) = Some fault

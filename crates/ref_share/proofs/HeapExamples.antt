@@ -6,6 +6,7 @@ use Rattle.ref_share.proofs.Common.{Reply, Row, Step, entry, HeapEntry, rows_of,
 use Rattle.ref_share.proofs.Common.{handed_in}
 use Rattle.ref_base.specs.declared.heap_step.HeapStep.TheVariants as heap
 use Rattle.ref_base.specs.declared.reply.Reply.TheVariants as told
+use Rattle.ref_base.specs.declared.plain_step.PlainStep.TheVariants as plain
 use Rattle.ref_base.specs.declared.step.Step.TheVariants as steps
 use Rattle.ref_base.specs.declared.strength.Strength.TheVariants.{Weak}
 use Rattle.ref_base.specs.declared.urgency.Urgency.TheVariants.{Normal}
@@ -26,24 +27,24 @@ hands by k n = entry by (heap.Hand k) (replies.Notice (record { hold = hold n; q
 
 abbrev history : List HeapEntry
 history =
-    tells 0 (heap.New 0 0 0) (told.Object 1) ∷
-    tells 0 (heap.Refer 0 Weak 1 0 (Some 0) 0) (told.Object 2) ∷
-    tells 0 (heap.New 0 0 0) (told.Object 3) ∷
-    tells 0 (heap.Refer 0 Weak 2 0 (Some 0) 0) (told.Object 4) ∷
-    tells 0 (heap.New 0 0 0) (told.Object 5) ∷
-    tells 0 (heap.Refer 0 Weak 3 0 (Some 0) 0) (told.Object 6) ∷
+    tells 0 (heap.Plain (plain.New 0 0 0)) (told.Object 1) ∷
+    tells 0 (heap.Plain (plain.Refer 0 Weak 1 0 (Some 0) 0)) (told.Object 2) ∷
+    tells 0 (heap.Plain (plain.New 0 0 0)) (told.Object 3) ∷
+    tells 0 (heap.Plain (plain.Refer 0 Weak 2 0 (Some 0) 0)) (told.Object 4) ∷
+    tells 0 (heap.Plain (plain.New 0 0 0)) (told.Object 5) ∷
+    tells 0 (heap.Plain (plain.Refer 0 Weak 3 0 (Some 0) 0)) (told.Object 6) ∷
     entry 0 (heap.Hold 0 3) (replies.Held (hold 6)) ∷
-    tells 0 (heap.Drop 0 0) told.Done ∷
-    tells 0 (heap.Drop 0 3) told.Done ∷
-    tells 1 (heap.Begin 5 Normal) (told.Cycle 1) ∷
-    tells 1 (heap.Scan 0) (told.Scanned 2) ∷
-    tells 2 (heap.Scan 1) (told.Scanned 4) ∷
-    tells 1 (heap.Scan 0) (told.Scanned 6) ∷
-    tells 1 heap.EndMark (told.Doomed 3) ∷
-    tells 2 (heap.ClearNext 1) (told.Cleared 4) ∷
-    tells 1 (heap.ClearNext 0) (told.Cleared 2) ∷
-    tells 1 (heap.ClearNext 0) (told.Cleared 6) ∷
-    tells 1 heap.EndClear told.Done ∷
+    tells 0 (heap.Plain (plain.Drop 0 0)) told.Done ∷
+    tells 0 (heap.Plain (plain.Drop 0 3)) told.Done ∷
+    tells 1 (heap.Plain (plain.Begin 5 Normal)) (told.Cycle 1) ∷
+    tells 1 (heap.Plain (plain.Scan 0)) (told.Scanned 2) ∷
+    tells 2 (heap.Plain (plain.Scan 1)) (told.Scanned 4) ∷
+    tells 1 (heap.Plain (plain.Scan 0)) (told.Scanned 6) ∷
+    tells 1 (heap.Plain plain.EndMark) (told.Doomed 3) ∷
+    tells 2 (heap.Plain (plain.ClearNext 1)) (told.Cleared 4) ∷
+    tells 1 (heap.Plain (plain.ClearNext 0)) (told.Cleared 2) ∷
+    tells 1 (heap.Plain (plain.ClearNext 0)) (told.Cleared 6) ∷
+    tells 1 (heap.Plain plain.EndClear) told.Done ∷
     hands 1 0 2 ∷
     hands 1 0 6 ∷
     hands 2 1 4 ∷
@@ -57,23 +58,23 @@ abbrev row : Step → Reply → Row
 row step reply = record { step = step; reply = reply }
 
 the_hold_the_adopt_and_the_release_tell_no_row : rows_of history ≡
-    row (steps.New 0 0 0) (told.Object 1) ∷
-    row (steps.Refer 0 Weak 1 0 (Some 0) 0) (told.Object 2) ∷
-    row (steps.New 0 0 0) (told.Object 3) ∷
-    row (steps.Refer 0 Weak 2 0 (Some 0) 0) (told.Object 4) ∷
-    row (steps.New 0 0 0) (told.Object 5) ∷
-    row (steps.Refer 0 Weak 3 0 (Some 0) 0) (told.Object 6) ∷
-    row (steps.Drop 0 0) told.Done ∷
-    row (steps.Drop 0 3) told.Done ∷
-    row (steps.Begin 5 Normal) (told.Cycle 1) ∷
-    row (steps.Scan 0) (told.Scanned 2) ∷
-    row (steps.Scan 1) (told.Scanned 4) ∷
-    row (steps.Scan 0) (told.Scanned 6) ∷
-    row steps.EndMark (told.Doomed 3) ∷
-    row (steps.ClearNext 1) (told.Cleared 4) ∷
-    row (steps.ClearNext 0) (told.Cleared 2) ∷
-    row (steps.ClearNext 0) (told.Cleared 6) ∷
-    row steps.EndClear told.Done ∷
+    row (steps.Plain (plain.New 0 0 0)) (told.Object 1) ∷
+    row (steps.Plain (plain.Refer 0 Weak 1 0 (Some 0) 0)) (told.Object 2) ∷
+    row (steps.Plain (plain.New 0 0 0)) (told.Object 3) ∷
+    row (steps.Plain (plain.Refer 0 Weak 2 0 (Some 0) 0)) (told.Object 4) ∷
+    row (steps.Plain (plain.New 0 0 0)) (told.Object 5) ∷
+    row (steps.Plain (plain.Refer 0 Weak 3 0 (Some 0) 0)) (told.Object 6) ∷
+    row (steps.Plain (plain.Drop 0 0)) told.Done ∷
+    row (steps.Plain (plain.Drop 0 3)) told.Done ∷
+    row (steps.Plain (plain.Begin 5 Normal)) (told.Cycle 1) ∷
+    row (steps.Plain (plain.Scan 0)) (told.Scanned 2) ∷
+    row (steps.Plain (plain.Scan 1)) (told.Scanned 4) ∷
+    row (steps.Plain (plain.Scan 0)) (told.Scanned 6) ∷
+    row (steps.Plain plain.EndMark) (told.Doomed 3) ∷
+    row (steps.Plain (plain.ClearNext 1)) (told.Cleared 4) ∷
+    row (steps.Plain (plain.ClearNext 0)) (told.Cleared 2) ∷
+    row (steps.Plain (plain.ClearNext 0)) (told.Cleared 6) ∷
+    row (steps.Plain plain.EndClear) told.Done ∷
     row (steps.Hand 0) (told.Notice 2 0 (Cycle 1 0)) ∷
     row (steps.Hand 0) (told.Notice 6 0 (Cycle 1 0)) ∷
     row (steps.Hand 1) (told.Notice 4 0 (Cycle 1 1)) ∷
@@ -89,13 +90,13 @@ abbrev config : Config
 config = config_of 2
 
 -- at the mark's end object 6 is held, though no slot names it
-what_is_held_is_a_root : (graph_of (heap_replayed config (take 13 history))).roots ≡ 2 ∷ 4 ∷ 6 ∷ []
+what_is_held_is_a_root : (graph_of (heap_replayed config 7 (take 13 history))).roots ≡ 2 ∷ 4 ∷ 6 ∷ []
 what_is_held_is_a_root = refl
 
-each_notice_is_a_hold : (heap_replayed config (take 21 history)).heap.holds ≡ 2 ∷ 4 ∷ 6 ∷ 6 ∷ []
+each_notice_is_a_hold : (heap_replayed config 7 (take 21 history)).heap.holds ≡ 2 ∷ 4 ∷ 6 ∷ 6 ∷ []
 each_notice_is_a_hold = refl
 
-an_adopt_and_a_release_take_one_back : (heap_replayed config history).heap.holds ≡ 4 ∷ 6 ∷ []
+an_adopt_and_a_release_take_one_back : (heap_replayed config 7 history).heap.holds ≡ 4 ∷ 6 ∷ []
 an_adopt_and_a_release_take_one_back = refl
 
 -- ---- what it gives

@@ -28,36 +28,33 @@ gathered_last told_by (other ∷ past) call = search (append_assoc, gathered_las
 
 -- no hand has a notice
 abbrev pub HandsFree : World → Type 0
-HandsFree w = (who : Actor) → hand_of w who ≡ None
+HandsFree w = (who : Actor) → hand_of w who ≡ []
 
 -- no call changes that
-pub still_free : (number : ℕ) (a b : State) (step : NamedStep) (reply : Reply) → HandsFree a.world
-    → IsHeapRow number a step reply b → HandsFree b.world
-still_free number a b step reply free row who =
-    same_hand a.world b.world who (row_others number a b step reply row) ∙ free who
-
-abbrev some_step : Option Step → Step
-some_step None = steps.EndMark
-some_step (Some step) = step
+pub still_free : (a b : State) (step : NamedStep) (reply : Reply) → HandsFree a.world
+    → IsHeapRow a step reply b → HandsFree b.world
+still_free a b step reply free row who =
+    same_hand a.world b.world who (row_others a b step reply row) ∙ free who
 
 abbrev IsTold : State → State → Option Step → Reply → Type 0
 IsTold a b None reply = Unit {0}
 IsTold a b (Some step) reply = IsRow a (record { step = step; reply = reply }) (with_handed b step reply)
 
-is_told : (number : ℕ) (a b : State) (asked : NamedStep) (reply : Reply) → HandsFree a.world
-    → IsHeapRow number a asked reply b → IsTold a b (world_step asked) reply
-is_told number a b (heap.Hold m s) reply free row = tt
-is_told number a b (heap.Adopt m d hold) reply free row = tt
-is_told number a b (heap.Release hold) reply free row = tt
-is_told number a b (heap.Unhook m s) reply free row =
+is_told : (a b : State) (asked : NamedStep) (reply : Reply) → HandsFree a.world
+    → IsHeapRow a asked reply b → IsTold a b (world_step asked) reply
+is_told a b (heap.Hold m s) reply free row = tt
+is_told a b (heap.Adopt m d hold) reply free row = tt
+is_told a b (heap.Release hold) reply free row = tt
+is_told a b (heap.Unhook m s) reply free row =
     carried_row a b (heap.Unhook m s) (steps.Unhook m s) reply refl (free_unhook a m s (free (Mutator m))) row
-is_told number a b (heap.Hand k) reply free row =
+is_told a b (heap.Hand k) reply free row =
     carried_row a b (heap.Hand k) (steps.Hand k) reply refl (free_hand a k (free (Worker k))) row
-is_told number a b asked reply free row = carried_row a b asked (some_step (world_step asked)) reply refl refl row
+is_told a b (heap.Plain step) reply free row =
+    carried_row a b (heap.Plain step) (steps.Plain step) reply refl refl row
 
 -- a call that tells a row is that row, in a world whose hands are empty
-pub told_row : (number : ℕ) (a b : State) (asked : NamedStep) (step : Step) (reply : Reply)
-    → world_step asked ≡ Some step → HandsFree a.world → IsHeapRow number a asked reply b
+pub told_row : (a b : State) (asked : NamedStep) (step : Step) (reply : Reply)
+    → world_step asked ≡ Some step → HandsFree a.world → IsHeapRow a asked reply b
     → IsRow a (record { step = step; reply = reply }) (with_handed b step reply)
-told_row number a b asked step reply is free row =
-    subst (λ (o : Option Step). IsTold a b o reply) is (is_told number a b asked reply free row)
+told_row a b asked step reply is free row =
+    subst (λ (o : Option Step). IsTold a b o reply) is (is_told a b asked reply free row)

@@ -4,23 +4,26 @@ use Rattle.std.proofs.Common.{ap, ◌∙◌, arith}
 use Rattle.std.proofs.lemmas.Bool.{false≢true, eq-eqb}
 use Rattle.ref_share.proofs.Common.{State, IsHeapAnswer, tally, NamedStep, has}
 use Rattle.ref_share.proofs.Common.{told_notice, Config, Fault, Reply, Leads, GivesOut, HeapReply}
-use Rattle.ref_share.proofs.Common.{HeapState, IsHeapMove, HeapEntry, IsHeapRun, first_heap_state}
+use Rattle.ref_share.proofs.Common.{IsHeapTurn, HeapEntry, IsHeapRun, first_state_of}
 use Rattle.ref_base.specs.CollectorRows.{IsHeapRow}
 use Rattle.ref_base.specs.CountedHolds.{holds_after}
 use Rattle.ref_base.specs.Heaps.{one_more, one_fewer}
 use Rattle.ref_base.specs.Told.{told_object}
 use Rattle.ref_base.specs.declared.heap_step.HeapStep.TheVariants as heap
+use Rattle.ref_base.specs.declared.plain_step.PlainStep.TheVariants as plain
 use Rattle.ref_base.specs.declared.reply.Reply.TheVariants as told
 use Rattle.ref_base.proofs.CountedRows.{heap_holds}
 use Rattle.ref_base.proofs.HoldCounts.{one_if, tally-first, tally-append, tally-one_more}
+use Rattle.ref_base.proofs.RunLaws.{holds_over}
 use Rattle.ref_turn.proofs.Logs.{leads_cut}
 use Rattle.ref_world.specs.declared.heap_machine.HeapReply.TheVariants as replies
+use Rattle.ref_share.proofs.HeapRuns.{IsCall}
 use Rattle.ref_share.specs.HeapHistories.{minted_by, spent_by, minted, spent}
 
 -- ---- one row
 
 refused_holds : (hs : List ℕ) (step : NamedStep) (fault : Fault) → holds_after hs step (told.Refused fault) ≡ hs
-refused_holds hs heap.EndMark fault = refl
+refused_holds hs (heap.Plain plain.EndMark) fault = refl
 refused_holds hs step fault = refl
 
 -- the holds that a row leaves are those that it tells
@@ -62,26 +65,26 @@ hold_gave_none : (hs : List ℕ) (m s : ℕ) (reply : Reply) → told_object rep
 hold_gave_none hs m s (told.Object n) none = absurd (false≢true (sym (ap is_some none)))
 hold_gave_none hs m s reply none = refl
 
-abbrev holds_in : HeapState → List ℕ
-holds_in x = x.state.world.heap.holds
+abbrev holds_in : State → List ℕ
+holds_in x = x.world.heap.holds
 
 -- a call that takes a hold back gives none
 gives_none : (step : NamedStep) (reply : HeapReply) (n : ℕ) → spent_by step reply ≡ n ∷ [] → minted_by step reply ≡ []
 gives_none step (replies.Told reply) n spends = refl
 gives_none step (replies.Back fault hold) n spends = refl
-gives_none heap.EndMark (replies.Notice notice) n spends = absurd cc
+gives_none (heap.Plain plain.EndMark) (replies.Notice notice) n spends = absurd cc
 gives_none step (replies.Notice notice) n spends = absurd cc
-gives_none heap.EndMark (replies.Held hold) n spends = absurd cc
+gives_none (heap.Plain plain.EndMark) (replies.Held hold) n spends = absurd cc
 gives_none step (replies.Held hold) n spends = absurd cc
 
 -- what one call of the heap does to what is held
-module _ (x y : HeapState) (n : ℕ) where
+module _ (x y : State) (n : ℕ) where
   abbrev Balances : NamedStep → HeapReply → Type 0
   Balances step reply =
       tally (holds_in y) n + tally (spent_by step reply) n ≡ tally (minted_by step reply) n + tally (holds_in x) n
 
   after_told : (step : NamedStep) (reply : Reply) → holds_in y ≡ holds_after (holds_in x) step reply
-      → IsHeapRow x.number x.state step reply y.state → GivesOut x.number step (replies.Told reply)
+      → IsHeapRow x step reply y → GivesOut x.world.heap.no step (replies.Told reply)
       → Balances step (replies.Told reply)
   after_told (heap.Unhook m s) reply held row gives =
       no_change (holds_in x) (holds_in y) n (held ∙ unhook_gave_none (holds_in x) m s reply gives)
@@ -95,39 +98,42 @@ module _ (x y : HeapState) (n : ℕ) where
   after_told (heap.Release hold) reply held row gives = absurd cc
   after_told step reply held row gives = no_change (holds_in x) (holds_in y) n held
 
-  held_move : (step : NamedStep) (reply : HeapReply) → IsHeapMove x step reply y → Balances step reply
-  held_move step (replies.Told reply) move = search (after_told, row_holds)
-  held_move (heap.Unhook m s) (replies.Notice notice) move = search (one_given, row_holds)
-  held_move (heap.Hand k) (replies.Notice notice) move = search (one_given, row_holds)
-  held_move step (replies.Notice notice) move = absurd move.gives
-  held_move (heap.Hold m s) (replies.Held hold) move = search (one_given, row_holds)
-  held_move step (replies.Held hold) move = absurd move.gives
-  held_move heap.EndMark (replies.Back fault hold) move = absurd move.gives
-  held_move step (replies.Back fault hold) move = search (no_change, row_holds)
+  held_turn : (step : NamedStep) (reply : HeapReply) → IsHeapTurn x step reply y → Balances step reply
+  held_turn step (replies.Told reply) turn = search (after_told, row_holds)
+  held_turn (heap.Unhook m s) (replies.Notice notice) turn = search (one_given, row_holds)
+  held_turn (heap.Hand k) (replies.Notice notice) turn = search (one_given, row_holds)
+  held_turn step (replies.Notice notice) turn = absurd turn.gives
+  held_turn (heap.Hold m s) (replies.Held hold) turn = search (one_given, row_holds)
+  held_turn step (replies.Held hold) turn = absurd turn.gives
+  held_turn (heap.Plain plain.EndMark) (replies.Back fault hold) turn = absurd turn.gives
+  held_turn step (replies.Back fault hold) turn = search (no_change, row_holds)
 
 -- ---- a history
 
-pub held_run : (x y : HeapState) (calls : List HeapEntry) → Leads IsHeapMove x calls y → (n : ℕ)
+pub held_run : (x y : State) (calls : List HeapEntry) → Leads IsHeapTurn x calls y → (n : ℕ)
     → tally (holds_in y) n + tally (spent calls) n ≡ tally (minted calls) n + tally (holds_in x) n
-held_run x y [] run n = no_change (holds_in x) (holds_in y) n (ap holds_in run)
-held_run x y (call ∷ calls) run n = grind (arith, held_move, tally-append, held_run run.0 y calls run.2 n)
+held_run x y calls run n =
+    holds_over IsCall
+    (λ v some w. tally (holds_in w) n + tally (spent some) n ≡ tally (minted some) n + tally (holds_in v) n)
+    (λ v. no_change (holds_in v) (holds_in v) n refl)
+    (λ v call w more z turn later. grind (arith, held_turn, tally-append)) x calls y run
 
 -- what is held was given out and not taken back
-pub held_is_minted : (config : Config) (number : ℕ) (calls : List HeapEntry) (last : HeapState)
+pub held_is_minted : (config : Config) (number : ℕ) (calls : List HeapEntry) (last : State)
     → IsHeapRun config number calls last → (n : ℕ)
     → tally (holds_in last) n + tally (spent calls) n ≡ tally (minted calls) n
 held_is_minted config number calls last run n =
-    let all = held_run (first_heap_state config number) last calls run n in omega (arith, all)
+    let all = held_run (first_state_of config number) last calls run n in omega (arith, all)
 
 -- a call that takes a hold back takes back one that was given out
 pub spent_was_minted : (config : Config) (number : ℕ) (front back : List HeapEntry) (call : HeapEntry)
-    (last : HeapState) (n : ℕ) → IsHeapRun config number (front ++ call ∷ back) last
+    (last : State) (n : ℕ) → IsHeapRun config number (front ++ call ∷ back) last
     → spent_by call.step call.reply ≡ n ∷ [] → tally (spent front) n < tally (minted front) n
 spent_was_minted config number front back call last n run spends =
-    let parts = leads_cut IsHeapMove front (call ∷ back) (first_heap_state config number) last run in
+    let parts = leads_cut IsHeapTurn front (call ∷ back) (first_state_of config number) last run in
     let before = held_is_minted config number front parts.0 parts.1 n in
-    let move = held_move parts.0 parts.2.0 n call.step call.reply parts.2.1 in
+    let turn = held_turn parts.0 parts.2.0 n call.step call.reply parts.2.1 in
     let out = ap (λ (ns : List ℕ). tally ns n) spends in
     let none = ap (λ (ns : List ℕ). tally ns n) (gives_none call.step call.reply n spends) in
     let one : one_if n n ≡ 1 = rw (eq-eqb n n refl) refl in
-    omega (arith, before, move, out, none, tally-first n [] n, one)
+    omega (arith, before, turn, out, none, tally-first n [] n, one)

@@ -14,13 +14,14 @@ use Rattle.ref_base.specs.Strengths.{IsRising}
 use Rattle.ref_base.specs.Graphs.{numbers}
 use Rattle.ref_base.specs.Refusals.{is_in}
 use Rattle.ref_base.specs.declared.heap_step.HeapStep.TheVariants as heap
+use Rattle.ref_base.specs.declared.plain_step.PlainStep.TheVariants as plain
 use Rattle.ref_base.specs.declared.phase.Phase.{Phase}
 use Rattle.ref_base.specs.declared.phase.Phase.TheVariants.{Idle, Sweeping}
 use Rattle.ref_base.specs.declared.reply.Reply.TheVariants as told
 use Rattle.ref_base.proofs.AgreeHeaps.{Agreeing, none_waits}
 use Rattle.ref_base.proofs.ClearedOnwards.{StaysCleared, cleared_at, ended_cleared, heap_cleared}
-use Rattle.ref_base.proofs.HeapMoves.{IsNoEnd, heap_moves, moved}
-use Rattle.ref_base.proofs.MovedParts.{phase_moved}
+use Rattle.ref_base.proofs.Outcomes.{IsNoEnd, heap_outcome, outcome}
+use Rattle.ref_base.proofs.OutcomeParts.{outcome_phase}
 use Rattle.ref_base.proofs.NewClears.{has-new_clears}
 use Rattle.ref_base.proofs.OldNames.{old_objects, rising_objects}
 use Rattle.ref_base.proofs.PhaseLaws.{of_phase}
@@ -178,7 +179,7 @@ module _ (gone : List ℕ) (w : World) (a b : State) (reply : Reply) (is : Agree
 
   ended_past : (n : ℕ) → IsPast n a → IsPast n b
   ended_past n past = (
-    heap_cleared n a b heap.EndMark reply past.0 row,
+    heap_cleared n a b (heap.Plain plain.EndMark) reply past.0 row,
     and_right (is_in b.world.phase Clearing) _
         (and_right (has (joined b.found) n) (has b.cleared n)
         (ap (λ (s : State). has s.cleared n) row.after
@@ -189,7 +190,7 @@ module _ (gone : List ℕ) (w : World) (a b : State) (reply : Reply) (is : Agree
 
 -- the row begins no phase, and isn't a look
 abbrev IsCalm : NamedStep → Type 0
-IsCalm (heap.ClearNext k) = ⊥
+IsCalm (heap.Plain (plain.ClearNext k)) = ⊥
 IsCalm step = EndsNoPhase step
 
 -- it keeps what it keeps, where these three stay
@@ -199,58 +200,65 @@ module _ (gone : List ℕ) (w : World) (a b : State) (is : Agreeing gone w a) (d
   Keeps = Waits b × ((n : ℕ) → IsPast n a → IsPast n b)
 
   calm_keeps : (step : NamedStep) (reply : Reply) → IsCalm step → HeapAccepts a step reply b → Keeps
-  calm_keeps step reply calm row = grind (arith, heap_moves, still_waits, still_past)
+  calm_keeps step reply calm row = grind (arith, heap_outcome, still_waits, still_past)
 
   turn_keeps : (step : NamedStep) (reply answer : Reply) (phase : Phase) → IsNoEnd step → HeapAccepts a step reply b
-      → reply ≡ answer → (moved a step answer).world.phase ≡ phase → is_in phase Clearing ≡ false → Keeps
-  turn_keeps step reply answer phase plain row told_as into other = grind (arith, heap_moves, turned_past)
+      → reply ≡ answer → (outcome a step answer).world.phase ≡ phase → is_in phase Clearing ≡ false → Keeps
+  turn_keeps step reply answer phase no_end row told_as into other = grind (arith, heap_outcome, turned_past)
 
   -- a look at n, whichever answer tells of it
-  looked_keeps : (k n : ℕ) (reply : Reply) → Looks a k n → heap_refusal 0 a (heap.ClearNext k) ≡ None
-      → (moved a (heap.ClearNext k) reply).world.phase ≡ a.world.phase
-      → (moved a (heap.ClearNext k) reply).found ≡ slice_set a.found k (drop 1 (list_at a.found k))
-      → (moved a (heap.ClearNext k) reply).cleared ≡ a.cleared → HeapAccepts a (heap.ClearNext k) reply b → Keeps
+  looked_keeps : (k n : ℕ) (reply : Reply) → Looks a k n → heap_refusal a (heap.Plain (plain.ClearNext k)) ≡ None
+      → (outcome a (heap.Plain (plain.ClearNext k)) reply).world.phase ≡ a.world.phase
+      → (outcome a (heap.Plain (plain.ClearNext k)) reply).found ≡ slice_set a.found k (drop 1 (list_at a.found k))
+      → (outcome a (heap.Plain (plain.ClearNext k)) reply).cleared ≡ a.cleared
+      → HeapAccepts a (heap.Plain (plain.ClearNext k)) reply b → Keeps
   looked_keeps k n reply looks none phase found clears row =
-      let step : NamedStep = heap.ClearNext k in
-      let leads = heap_moves a b step reply tt row in
+      let step : NamedStep = heap.Plain (plain.ClearNext k) in
+      let leads = heap_outcome a b step reply tt row in
       let now = ap (λ (s : State). s.world.phase) leads ∙ phase in
       let left = ap (λ (s : State). s.found) leads ∙ found in
       let same = ap (λ (s : State). s.cleared) leads ∙ clears in
-      let clearing = of_phase 0 a step none in (
+      let clearing = of_phase a step none in (
         looked_waits a b step reply row k n looks clearing now left same waits,
         looked_past a b step reply row k n looks clearing now left same waits,
       )
 
-  look_keeps : (k : ℕ) (reply : Reply) → heap_refusal 0 a (heap.ClearNext k) ≡ None
-      → HeapAccepts a (heap.ClearNext k) reply b → Keeps
+  look_keeps : (k : ℕ) (reply : Reply) → heap_refusal a (heap.Plain (plain.ClearNext k)) ≡ None
+      → HeapAccepts a (heap.Plain (plain.ClearNext k)) reply b → Keeps
   look_keeps k (told.Cleared n) none row = grind (arith, looked_keeps k n (told.Cleared n))
   look_keeps k (told.Kept n) none row = grind (arith, looked_keeps k n (told.Kept n))
   look_keeps k (told.Skipped n) none row = grind (arith, looked_keeps k n (told.Skipped n))
   look_keeps k reply none row = grind arith
 
   -- what waits stays as it should, and what is past stays so
-  pub heap_keeps : (step : NamedStep) (reply : Reply) → heap_refusal 0 a step ≡ None → HeapAccepts a step reply b
+  pub heap_keeps : (step : NamedStep) (reply : Reply) → heap_refusal a step ≡ None → HeapAccepts a step reply b
       → Keeps
-  heap_keeps heap.EndMark reply none row =
+  heap_keeps (heap.Plain plain.EndMark) reply none row =
       (ended_waits gone w a b reply is row distinct, ended_past gone w a b reply is row)
-  heap_keeps (heap.ClearNext k) reply none row = look_keeps k reply none row
-  heap_keeps (heap.Begin now how) reply none row =
-      turn_keeps (heap.Begin now how) reply (told.Cycle (a.world.cycle + 1)) Marking tt row row.0 refl refl
-  heap_keeps heap.EndClear reply none row = turn_keeps heap.EndClear reply told.Done Sweeping tt row row.0 refl refl
-  heap_keeps heap.EndSweep reply none row = turn_keeps heap.EndSweep reply told.Done Idle tt row row.0 refl refl
+  heap_keeps (heap.Plain (plain.ClearNext k)) reply none row = look_keeps k reply none row
+  heap_keeps (heap.Plain (plain.Begin now how)) reply none row =
+      turn_keeps (heap.Plain (plain.Begin now how)) reply (told.Cycle (a.world.cycle + 1)) Marking tt row row.0 refl
+      refl
+  heap_keeps (heap.Plain plain.EndClear) reply none row =
+      turn_keeps (heap.Plain plain.EndClear) reply told.Done Sweeping tt row row.0 refl refl
+  heap_keeps (heap.Plain plain.EndSweep) reply none row =
+      turn_keeps (heap.Plain plain.EndSweep) reply told.Done Idle tt row row.0 refl refl
   heap_keeps step reply none row = calm_keeps step reply tt row
 
   -- and what a worker clears waited, and is past then
-  pub clears_once : (k n : ℕ) → heap_refusal 0 a (heap.ClearNext k) ≡ None
-      → HeapAccepts a (heap.ClearNext k) (told.Cleared n) b → (is_waiting a n ≡ true) × IsPast n b
+  pub clears_once : (k n : ℕ) → heap_refusal a (heap.Plain (plain.ClearNext k)) ≡ None
+      → HeapAccepts a (heap.Plain (plain.ClearNext k)) (told.Cleared n) b → (is_waiting a n ≡ true) × IsPast n b
   clears_once k n none row =
       let tells : Tells a k (told.Cleared n) = look_tells a b k (list_at a.found k) (told.Cleared n) refl row in
-      let leads = heap_moves a b (heap.ClearNext k) (told.Cleared n) tt row in
-      let phase = ap (λ (s : State). s.world.phase) leads ∙ phase_moved a (heap.ClearNext k) (told.Cleared n) tt in
+      let leads = heap_outcome a b (heap.Plain (plain.ClearNext k)) (told.Cleared n) tt row in
+      let phase = ap (λ (s : State). s.world.phase) leads
+      ∙ outcome_phase a (heap.Plain (plain.ClearNext k)) (told.Cleared n) tt in
       let found = ap (λ (s : State). s.found) leads in
       let clears = ap (λ (s : State). s.cleared) leads in
-      let clearing = of_phase 0 a (heap.ClearNext k) none in (
-        clears_waiting a b (heap.ClearNext k) (told.Cleared n) row k n tells.1 clearing phase found clears waits
+      let clearing = of_phase a (heap.Plain (plain.ClearNext k)) none in (
+        clears_waiting a b (heap.Plain (plain.ClearNext k)) (told.Cleared n) row k n tells.1 clearing phase found clears
+            waits
             tells.0,
-        clears_past a b (heap.ClearNext k) (told.Cleared n) row k n tells.1 clearing phase found clears waits tells.0,
+        clears_past a b (heap.Plain (plain.ClearNext k)) (told.Cleared n) row k n tells.1 clearing phase found clears
+            waits tells.0,
       )

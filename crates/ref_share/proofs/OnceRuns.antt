@@ -8,26 +8,27 @@ use Rattle.std.proofs.lemmas.Bool.{cases_Bool, eq-eqb, eqb-true, false≢true, f
 use Rattle.std.proofs.lemmas.List.{map-append}
 use Rattle.ref_share.proofs.Common.{is_waiting, HandsOn, HeapAccepts, State, joined, tally, NamedStep}
 use Rattle.ref_share.proofs.Common.{has, AreDistinct, heap_refusal, pended, without_pending, told_notice}
-use Rattle.ref_share.proofs.Common.{World, Pending, pending_of, Cause, Cycle, Config, Fault, Reply, scanned_in_cycle}
-use Rattle.ref_share.proofs.Common.{told_reply, GivesOut, HeapReply, HeapState, IsHeapMove, HeapEntry, IsHeapRun}
-use Rattle.ref_share.proofs.Common.{first_heap_state, gathered, all_handed_on, heap_replayed, rows_of}
+use Rattle.ref_share.proofs.Common.{World, Pending, pending_of, Cause, Cycle, Config, Fault, Reply}
+use Rattle.ref_share.proofs.Common.{told_reply, GivesOut, HeapReply, HeapEntry, IsHeapRun}
+use Rattle.ref_share.proofs.Common.{gathered, all_handed_on, heap_replayed}
+use Rattle.ref_base.specs.Collectors.{first_state_of}
 use Rattle.ref_base.specs.Worlds.{pending_numbers}
 use Rattle.ref_base.specs.declared.heap_step.HeapStep.TheVariants as heap
+use Rattle.ref_base.specs.declared.plain_step.PlainStep.TheVariants as plain
 use Rattle.ref_base.specs.declared.reply.Reply.TheVariants as told
 use Rattle.ref_base.proofs.HoldCounts.{one_if, tally-first, tally-append}
 use Rattle.ref_base.proofs.LegalQueues.{distinct_nil}
-use Rattle.ref_base.proofs.RowMoves.{Moves, heap_tells, pending_after}
+use Rattle.ref_base.proofs.RowChanges.{Changes, heap_tells, pending_after}
 use Rattle.ref_base.proofs.FoundLists.{AreDistinct-with_last, joined-emptied}
-use Rattle.ref_base.proofs.ScannedOnce.{HasScanned, first_scanned}
 use Rattle.ref_base.proofs.AgreeHeaps.{Agreeing}
 use Rattle.ref_world.specs.declared.heap_machine.HeapReply.TheVariants as replies
 use Rattle.ref_share.specs.HeapTraces.{handed_by}
-use Rattle.ref_share.proofs.HeapReplays.{IsKnown, call_known, first_known}
+use Rattle.ref_share.proofs.HeapReplays.{run_known}
 use Rattle.ref_share.proofs.HeapRows.{gathered_last}
-use Rattle.ref_share.proofs.HeapRuns.{IsAccepted, run_holds}
-use Rattle.ref_base.proofs.HeapTurns.{renumbered, heap_kind}
+use Rattle.ref_share.proofs.HeapRuns.{IsAccepted, IsCall, run_holds}
+use Rattle.ref_base.proofs.HeapTurns.{heap_kind}
 use Rattle.ref_share.proofs.OnceCleared.{Waits, IsPast, heap_keeps, clears_once}
-use Rattle.ref_share.proofs.ScannedRuns.{call_scanned}
+use Rattle.ref_share.proofs.ScannedRuns.{run_scanned}
 
 -- ---- counts of what is pending
 
@@ -82,7 +83,7 @@ handed_count a b k (p ∷ rest) m q cause n is row pends =
 
 -- the reference that a call clears for a worker
 abbrev cleared_by : NamedStep → HeapReply → List ℕ
-cleared_by (heap.ClearNext k) (replies.Told (told.Cleared n)) = n ∷ []
+cleared_by (heap.Plain (plain.ClearNext k)) (replies.Told (told.Cleared n)) = n ∷ []
 cleared_by step reply = []
 
 -- what is handed on was pending, and what is pending was cleared
@@ -102,47 +103,51 @@ hand_told : (n k : ℕ) (a b : State) (reply : Reply) → told_notice reply ≡ 
 hand_told n k a b (told.Notice m q cause) none pends = absurd cc
 hand_told n k a b reply none pends = same_count n a.world b.world 0 pends
 
-module _ (n : ℕ) (x y : HeapState) where
-  accepted_counts : (step : NamedStep) (reply : HeapReply) → IsAccepted x step reply y → GivesOut x.number step reply
-      → Moves x.state (Some (renumbered step)) (told_reply reply) y.state → Counts n x.state y.state step reply
-  accepted_counts (heap.Hand k) (replies.Notice notice) of gives moves = grind (arith, handed_count)
-  accepted_counts (heap.Hand k) (replies.Told reply) of gives moves =
-      hand_told n k x.state y.state reply gives moves.pending
-  accepted_counts (heap.Hand k) reply of gives moves = absurd gives
-  accepted_counts (heap.ClearNext k) (replies.Told (told.Cleared m)) of gives moves = grind (arith, pended_count)
-  accepted_counts step reply of gives moves = same_count n x.state.world y.state.world _ moves.pending
+module _ (n : ℕ) (x y : State) where
+  accepted_counts : (step : NamedStep) (reply : HeapReply) → IsAccepted x step reply y
+      → GivesOut x.world.heap.no step reply
+      → Changes x (Some step) (told_reply reply) y → Counts n x y step reply
+  accepted_counts (heap.Hand k) (replies.Notice notice) of gives changes = grind (arith, handed_count)
+  accepted_counts (heap.Hand k) (replies.Told reply) of gives changes =
+      hand_told n k x y reply gives changes.pending
+  accepted_counts (heap.Hand k) reply of gives changes = absurd gives
+  accepted_counts (heap.Plain (plain.ClearNext k)) (replies.Told (told.Cleared m)) of gives changes =
+      grind (arith, pended_count)
+  accepted_counts step reply of gives changes = same_count n x.world y.world _ changes.pending
 
   refused_counts : (step : NamedStep) (reply : HeapReply) (fault : Fault) → told_reply reply ≡ told.Refused fault
-      → y.state ≡ x.state → Counts n x.state y.state step reply
+      → y ≡ x → Counts n x y step reply
   refused_counts (heap.Hand k) (replies.Notice notice) fault answer same = absurd cc
   refused_counts step reply fault answer same =
-      same_count n x.state.world y.state.world _ (ap (λ (a : State). a.world.pending) same)
+      same_count n x.world y.world _ (ap (λ (a : State). a.world.pending) same)
 
 -- a call clears nothing, or one that waited and is past then
 abbrev ClearsOne : State → State → List ℕ → Type 0
 ClearsOne a b ns = (ns ≡ []) ⊎ ((n : ℕ) × (ns ≡ n ∷ []) × (is_waiting a n ≡ true) × IsPast n b)
 
-module _ (gone : List ℕ) (w : World) (x y : HeapState) (is : Agreeing gone w x.state)
-    (distinct : AreDistinct (joined x.state.scanned)) (waits : Waits x.state) where
+module _ (gone : List ℕ) (w : World) (x y : State) (is : Agreeing gone w x)
+    (distinct : AreDistinct (joined x.scanned)) (waits : Waits x) where
   accepted_clears : (step : NamedStep) (reply : HeapReply) → IsAccepted x step reply y
-      → ClearsOne x.state y.state (cleared_by step reply)
-  accepted_clears (heap.ClearNext k) (replies.Told (told.Cleared n)) of =
-      let once = clears_once gone w x.state y.state is distinct waits k n of.0 of.1 in
+      → ClearsOne x y (cleared_by step reply)
+  accepted_clears (heap.Plain (plain.ClearNext k)) (replies.Told (told.Cleared n)) of =
+      let once = clears_once gone w x y is distinct waits k n of.0 of.1 in
       inr (n, refl, once.0, once.1)
   accepted_clears step reply of = inl refl
 
 refused_clears : (a b : State) (step : NamedStep) (reply : HeapReply) (fault : Fault)
     → told_reply reply ≡ told.Refused fault → ClearsOne a b (cleared_by step reply)
-refused_clears a b (heap.ClearNext k) (replies.Told (told.Cleared n)) fault answer = absurd cc
+refused_clears a b (heap.Plain (plain.ClearNext k)) (replies.Told (told.Cleared n)) fault answer = absurd cc
 refused_clears a b step reply fault answer = inl refl
 
 scans_distinct : (a b : State) (step : NamedStep) (reply : Reply) → length a.scanned ≡ a.world.heap.config.workers
-    → heap_refusal 0 a step ≡ None → HeapAccepts a step reply b → Moves a (Some step) reply b
+    → heap_refusal a step ≡ None → HeapAccepts a step reply b → Changes a (Some step) reply b
     → AreDistinct (joined a.scanned) → AreDistinct (joined b.scanned)
-scans_distinct a b (heap.Scan k) (told.Scanned n) workers none row moves distinct = grind (arith, AreDistinct-with_last)
-scans_distinct a b (heap.Begin now how) (told.Cycle n) workers none row moves distinct = grind (arith, joined-emptied)
-scans_distinct a b step reply workers none row moves distinct =
-    subst (λ (lists : List (List ℕ)). AreDistinct (joined lists)) (sym moves.scanned) distinct
+scans_distinct a b (heap.Plain (plain.Scan k)) (told.Scanned n) workers none row changes distinct =
+    grind (arith, AreDistinct-with_last)
+scans_distinct a b (heap.Plain (plain.Begin now how)) (told.Cycle n) workers none row changes distinct =
+    grind (arith, joined-emptied)
+scans_distinct a b step reply workers none row changes distinct =
+    subst (λ (lists : List (List ℕ)). AreDistinct (joined lists)) (sym changes.scanned) distinct
 
 -- ---- runs
 
@@ -215,13 +220,11 @@ module _ (past : List HeapEntry) (call : HeapEntry) (a b : State) (is : ClearedO
       elim clears [ inl none ↦ clears_none none | inr one ↦ clears_one one.0 one.1 one.2 one.3 ]
 
 -- what was handed on or is pending was cleared, and that once
-record IsOnce (config : Config) (past : List HeapEntry) (x : HeapState) : Type 0 where
-  known : IsKnown config past x
-  scanned : HasScanned (scanned_in_cycle (rows_of past)) x.state
-  cleared : ClearedOnce past x.state
+record IsOnce (past : List HeapEntry) (a : State) : Type 0 where
+  cleared : ClearedOnce past a
   less :
       (n : ℕ)
-      → tally (all_handed_on past) n + tally (pending_numbers x.state.world.pending) n ≤ tally (cleared_all past) n
+      → tally (all_handed_on past) n + tally (pending_numbers a.world.pending) n ≤ tally (cleared_all past) n
 
 -- what a call leaves to count
 counts_more : (past : List HeapEntry) (call : HeapEntry) (a b : State) (n : ℕ)
@@ -231,17 +234,18 @@ counts_more : (past : List HeapEntry) (call : HeapEntry) (a b : State) (n : ℕ)
     ≤ tally (cleared_all (past ++ call ∷ [])) n
 counts_more past call a b n before more = grind (arith, gathered_last, tally-append)
 
-call_once : (config : Config) (past : List HeapEntry) (x : HeapState) (call : HeapEntry) (y : HeapState)
-    → IsOnce config past x → IsHeapMove x call.step call.reply y → IsOnce config (past ++ call ∷ []) y
-call_once config past x call y is move =
-    let a : State = x.state in
-    let b : State = y.state in
-    let step : NamedStep = renumbered call.step in
+call_once : (config : Config) (number : ℕ) (past : List HeapEntry) (x : State) (call : HeapEntry) (y : State)
+    → IsHeapRun config number past x → IsOnce past x → IsCall x call y → IsOnce (past ++ call ∷ []) y
+call_once config number past x call y run is turn =
+    let a : State = x in
+    let b : State = y in
+    let step : NamedStep = call.step in
     let reply : Reply = told_reply call.reply in
-    let known = is.known in
+    let known = run_known config number past x run in
+    let workers = (run_scanned config number past x run).workers in
     let cleared = is.cleared in
     let after : ClearedOnce (past ++ call ∷ []) b × ((n : ℕ) → Counts n a b call.step call.reply) =
-    elim (heap_kind x.number x.state y.state call.step (told_reply call.reply) move.row) [
+    elim (heap_kind x y call.step (told_reply call.reply) turn.row) [
       | inl of ↦ (
         clears_more past call a b cleared
             (subst (λ (s : State). AreDistinct (joined s.scanned)) (sym of.2) cleared.distinct)
@@ -251,19 +255,18 @@ call_once config past x call y is move =
       )
       | inr of ↦
           let tells = heap_tells a b step reply of.1 in
-          let keeps = heap_keeps known.0 (heap_replayed config past) a b known.1.0 cleared.distinct cleared.waits step
+          let keeps = heap_keeps known.0 (heap_replayed config number past) a b known.1.0
+          cleared.distinct cleared.waits step
           reply of.0 of.1 in (
             clears_more past call a b cleared
-                (scans_distinct a b step reply is.scanned.workers of.0 of.1 tells cleared.distinct) keeps.0
+                (scans_distinct a b step reply workers of.0 of.1 tells cleared.distinct) keeps.0
                 keeps.1
-                (accepted_clears known.0 (heap_replayed config past) x y known.1.0 cleared.distinct cleared.waits
+                (accepted_clears known.0 (heap_replayed config number past) x y known.1.0 cleared.distinct cleared.waits
                 call.step call.reply of),
-            λ n. accepted_counts n x y call.step call.reply of move.gives tells,
+            λ n. accepted_counts n x y call.step call.reply of turn.gives tells,
           )
     ] in
     record {
-      known = call_known config past x call y known move;
-      scanned = call_scanned past x call y is.scanned move;
       cleared = after.0;
       less = λ n. counts_more past call a b n (is.less n) (after.1 n);
     }
@@ -302,12 +305,14 @@ none_scanned : (workers : ℕ) → joined (replicate workers []) ≡ []
 none_scanned zero = refl
 none_scanned (suc workers) = none_scanned workers
 
-first_once : (config : Config) (number : ℕ) → IsOnce config [] (first_heap_state config number)
-first_once config number = grind (arith, none_scanned, nothing_pends, first_known config number, first_scanned config)
+first_once : (config : Config) (number : ℕ) → IsOnce [] (first_state_of config number)
+first_once config number = grind (arith, none_scanned, nothing_pends)
 
-pub handed_on_once : (config : Config) (number : ℕ) (calls : List HeapEntry) (last : HeapState)
+pub handed_on_once : (config : Config) (number : ℕ) (calls : List HeapEntry) (last : State)
     → IsHeapRun config number calls last → IsDistinct nat_eq (all_handed_on calls)
 handed_on_once config number calls last run =
-    let is = run_holds (IsOnce config) (call_once config) config number (first_once config number) calls last run in
+    let is = run_holds config number (λ past x. IsOnce past x) (call_once config number)
+    (first_once config number) calls
+    last run in
     distinct_if_once (all_handed_on calls)
     (λ n. let less = is.less n in let once = is.cleared.once n in omega (arith, less, once))

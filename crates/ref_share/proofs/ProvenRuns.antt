@@ -5,8 +5,8 @@ use Rattle.std.specs.Prelude.{slice_index_or}
 use Rattle.std.specs.List.{AllByRecursion}
 use Rattle.std.proofs.lemmas.List.{append-nil}
 use Rattle.ref_share.proofs.Common.{State, NamedStep, Pending, World, new_queue, Config, Reply, Row, Step}
-use Rattle.ref_share.proofs.Common.{entry, HeldNotice, as_notice, told_reply, HeapState, IsHeapMove, HeapEntry}
-use Rattle.ref_share.proofs.Common.{IsHeapRun, first_heap_state, world_step, row_of, rows_of}
+use Rattle.ref_share.proofs.Common.{entry, HeldNotice, as_notice, told_reply, IsHeapTurn, HeapEntry}
+use Rattle.ref_share.proofs.Common.{IsHeapRun, first_state_of, world_step, row_of, rows_of}
 use Rattle.ref_base.specs.CollectorRows.{IsHeapRow, IsRow, with_handed}
 use Rattle.ref_base.specs.Provenance.{IsProven}
 use Rattle.ref_base.specs.QueueLists.{Lists}
@@ -15,7 +15,7 @@ use Rattle.ref_base.specs.Worlds.{Notice, SameOthers}
 use Rattle.ref_base.specs.declared.actor.Actor.TheVariants.{Mutator, Worker}
 use Rattle.ref_base.specs.declared.heap_step.HeapStep.TheVariants as heap
 use Rattle.ref_base.specs.declared.step.Step.TheVariants as steps
-use Rattle.ref_base.proofs.CarryLaws.{OfHand, notice_from}
+use Rattle.ref_base.proofs.CarryLaws.{notice_from}
 use Rattle.ref_base.proofs.CarryRows.{first_carries}
 use Rattle.ref_base.proofs.GivenNotices.{answered}
 use Rattle.ref_base.proofs.HeapRowLaws.{row_others}
@@ -52,8 +52,8 @@ some_known rows a b step reply known row others free =
       pendings = λ k.
           subst (λ (lists : List (List Pending)). AllByRecursion (λ p. P (notice_from k p)) (slice_index_or lists k []))
           (ap (λ (w : World). w.pending) keeps) (next.pendings k);
-      of_mutators = λ m. subst (OfHand P) (sym (free (Mutator m))) tt;
-      of_workers = λ k. subst (OfHand P) (sym (free (Worker k))) tt;
+      of_mutators = λ m. subst (AllByRecursion P) (sym (free (Mutator m))) tt;
+      of_workers = λ k. subst (AllByRecursion P) (sym (free (Worker k))) tt;
       stands = λ q.
           subst (λ (lists : List (Lists Notice)). AllByRecursion P (slice_index_or lists q (new_queue q)).stands)
           (sym others.queues) ((lifted rows a last known).stands q);
@@ -63,60 +63,61 @@ some_known rows a b step reply known row others free =
 -- ---- histories
 
 -- hands are empty, and each object and each notice comes from the rows
-pub record IsFrom (past : List HeapEntry) (x : HeapState) : Type 0 where
-  pub free : HandsFree x.state.world
-  pub known : Known (rows_of past) x.state.world
+pub record IsFrom (past : List HeapEntry) (x : State) : Type 0 where
+  pub free : HandsFree x.world
+  pub known : Known (rows_of past) x.world
 
-told_known : (rows : List Row) (number : ℕ) (a b : State) (asked : NamedStep) (reply : Reply) (o : Option Step)
-    → world_step asked ≡ o → HandsFree a.world → Known rows a.world → IsHeapRow number a asked reply b
+told_known : (rows : List Row) (a b : State) (asked : NamedStep) (reply : Reply) (o : Option Step)
+    → world_step asked ≡ o → HandsFree a.world → Known rows a.world → IsHeapRow a asked reply b
     → Known (rows ++ row_of o reply) b.world
-told_known rows number a b asked reply None is free known row = search (append-nil, none_known, heap_kind)
-told_known rows number a b asked reply (Some step) is free known row =
-    search (some_known, told_row, row_others, still_free number a b asked reply free row)
+told_known rows a b asked reply None is free known row = search (append-nil, none_known, heap_kind)
+told_known rows a b asked reply (Some step) is free known row =
+    search (some_known, told_row, row_others, still_free a b asked reply free row)
 
-pub call_from : (past : List HeapEntry) (x : HeapState) (call : HeapEntry) (y : HeapState) → IsFrom past x
-    → IsHeapMove x call.step call.reply y → IsFrom (past ++ call ∷ []) y
-call_from past x call y is move =
+call_from : (past : List HeapEntry) (x : State) (call : HeapEntry) (y : State) → IsFrom past x
+    → IsHeapTurn x call.step call.reply y → IsFrom (past ++ call ∷ []) y
+call_from past x call y is turn =
     let reply : Reply = told_reply call.reply in
     record {
-      free = still_free x.number x.state y.state call.step reply is.free move.row;
-      known = subst (λ (rs : List Row). Known rs y.state.world) (sym (rows_last past call))
-          (told_known (rows_of past) x.number x.state y.state call.step reply (world_step call.step) refl is.free
-          is.known move.row);
+      free = still_free x y call.step reply is.free turn.row;
+      known = subst (λ (rs : List Row). Known rs y.world) (sym (rows_last past call))
+          (told_known (rows_of past) x y call.step reply (world_step call.step) refl is.free
+          is.known turn.row);
     }
 
-pub first_from : (config : Config) (number : ℕ) → IsFrom [] (first_heap_state config number)
+first_from : (config : Config) (number : ℕ) → IsFrom [] (first_state_of config number)
 first_from config number = search (first_hand, first_carries)
 
-pub run_from : (config : Config) (number : ℕ) (calls : List HeapEntry) (last : HeapState)
+pub run_from : (config : Config) (number : ℕ) (calls : List HeapEntry) (last : State)
     → IsHeapRun config number calls last → IsFrom calls last
 run_from config number calls last run =
-    run_holds IsFrom call_from config number (first_from config number) calls last run
+    run_holds config number IsFrom (λ past x call y before is turn. call_from past x call y is turn)
+    (first_from config number) calls last run
 
 -- ---- what is given
 
-given_at : (rows : List Row) (x y : HeapState) (step : NamedStep) (notice : HeldNotice) → HandsFree x.state.world
-    → Known rows x.state.world → IsHeapMove x step (replies.Notice notice) y
+given_at : (rows : List Row) (x y : State) (step : NamedStep) (notice : HeldNotice) → HandsFree x.world
+    → Known rows x.world → IsHeapTurn x step (replies.Notice notice) y
     → IsProven (rows ++ row_of (world_step step) (told_reply (replies.Notice notice))) (as_notice notice)
-given_at rows x y (heap.Unhook m s) notice free known move =
+given_at rows x y (heap.Unhook m s) notice free known turn =
     let step : Step = steps.Unhook m s in
     let reply : Reply = told_reply (replies.Notice notice) in
-    answered rows x.state (with_handed y.state step reply) step (refusal x.state step) notice.hold.object notice.queue
-    notice.cause refl known (told_row x.number x.state y.state (heap.Unhook m s) step reply refl free move.row)
-given_at rows x y (heap.Hand k) notice free known move =
+    answered rows x (with_handed y step reply) step (refusal x step) notice.hold.object notice.queue
+    notice.cause refl known (told_row x y (heap.Unhook m s) step reply refl free turn.row)
+given_at rows x y (heap.Hand k) notice free known turn =
     let step : Step = steps.Hand k in
     let reply : Reply = told_reply (replies.Notice notice) in
-    answered rows x.state (with_handed y.state step reply) step (refusal x.state step) notice.hold.object notice.queue
-    notice.cause refl known (told_row x.number x.state y.state (heap.Hand k) step reply refl free move.row)
-given_at rows x y step notice free known move = absurd move.gives
+    answered rows x (with_handed y step reply) step (refusal x step) notice.hold.object notice.queue
+    notice.cause refl known (told_row x y (heap.Hand k) step reply refl free turn.row)
+given_at rows x y step notice free known turn = absurd turn.gives
 
 pub given_proven : (config : Config) (number by : ℕ) (front back : List HeapEntry) (step : NamedStep)
-    (notice : HeldNotice) (last : HeapState)
+    (notice : HeldNotice) (last : State)
     → IsHeapRun config number (front ++ entry by step (replies.Notice notice) ∷ back) last
     → IsProven (rows_of (front ++ entry by step (replies.Notice notice) ∷ [])) (as_notice notice)
 given_proven config number by front back step notice last run =
     let call : HeapEntry = entry by step (replies.Notice notice) in
-    let parts = leads_cut IsHeapMove front (call ∷ back) (first_heap_state config number) last run in
+    let parts = leads_cut IsHeapTurn front (call ∷ back) (first_state_of config number) last run in
     let is = run_from config number front parts.0 parts.1 in
     subst (λ (rs : List Row). IsProven rs (as_notice notice)) (sym (rows_last front call))
     (given_at (rows_of front) parts.0 parts.2.0 step notice is.free is.known parts.2.1)

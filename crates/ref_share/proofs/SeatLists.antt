@@ -2,7 +2,7 @@
 use Rattle.std.proofs.Common.{◌≡◌, ℕ, zero, suc, List, [], ◌∷◌, ◌++◌, length, get_or, Some, ◌⊎◌, inl, inr, refl, sym}
 use Rattle.std.proofs.Common.{ap, subst, arith, slice_get}
 use Rattle.std.proofs.lemmas.Option.{slice_get-get_or, slice_get_within, same_Some}
-use Rattle.ref_share.proofs.Common.{AreSeats, new_queue, IsQueueMove, IsItself, IsQueueSeat, IsSeatFrom, QueueSeat}
+use Rattle.ref_share.proofs.Common.{AreSeats, new_queue, IsQueueTurn, IsItself, IsQueueSeat, IsSeatFrom, QueueSeat}
 use Rattle.ref_share.proofs.Common.{SharedQueue}
 use Rattle.ref_share.specs.QueueSeats.{IsNewQueue}
 
@@ -35,7 +35,7 @@ module _ {A : Type 0} where
   pub new_seat : (queue : SharedQueue A) (number first : ℕ) (seat : QueueSeat) → IsNewQueue queue number first seat
       → IsQueueSeat queue seat
   new_seat queue number first seat is =
-      subst (λ (n : ℕ). IsSeatFrom IsItself IsQueueMove queue.turn (new_queue n) seat.seat) (sym is.number_is)
+      subst (λ (n : ℕ). IsSeatFrom IsItself IsQueueTurn queue.turn (new_queue n) seat.seat) (sym is.number_is)
       is.seat.seat
 
   -- the seat that a list of seats has for the one queue

@@ -7,7 +7,7 @@ use Rattle.ref_share.specs.declared.clean_machine.CleanReply.TheVariants as repl
 
 module _ {K J : Type 0} where
   -- the step, with this reply, makes one table of the other, as the table's own call does
-  abbrev pub IsCleanMove : Registry K J → CleanStep K J → CleanReply K J → Registry K J → Type 0
-  IsCleanMove t (steps.Register n kept job) (replies.Registered answer) u = Registers t n kept job answer u
-  IsCleanMove t (steps.Take n) (replies.Taken answer) u = Takes t n answer u
-  IsCleanMove t step reply u = ⊥
+  abbrev pub IsCleanTurn : Registry K J → CleanStep K J → CleanReply K J → Registry K J → Type 0
+  IsCleanTurn t (steps.Register n kept job) (replies.Registered answer) u = Registers t n kept job answer u
+  IsCleanTurn t (steps.Take n) (replies.Taken answer) u = Takes t n answer u
+  IsCleanTurn t step reply u = ⊥

@@ -6,7 +6,7 @@ use Rattle.ref_turn.specs.History.{Leads}
 use Rattle.ref_turn.specs.Turns.{view}
 use Rattle.ref_turn.specs.declared.history.Entry.{Entry}
 use Rattle.ref_turn.specs.declared.history.View.{View}
-use Rattle.ref_share.specs.CleanMachines.{IsCleanMove}
+use Rattle.ref_share.specs.CleanMachines.{IsCleanTurn}
 use Rattle.ref_share.specs.Selves.{IsItself}
 use Rattle.ref_share.specs.SharedSeats.{IsSeatIn, IsFirstIn}
 use Rattle.ref_share.specs.StartedSeats.{IsLeftFrom}
@@ -38,7 +38,7 @@ clean_view s = view s.seat
 
 -- the calls make this table of one where nothing is registered
 abbrev pub IsCleanRun : {K J : Type 0} → List (Entry (CleanStep K J) (CleanReply K J)) → Registry K J → Type 0
-IsCleanRun calls t = Leads IsCleanMove new_registry calls t
+IsCleanRun calls t = Leads IsCleanTurn new_registry calls t
 
 -- the table that a shared cleaner began as
 abbrev pub clean_start : {J : Type 0} → ℕ → Jobs J
@@ -47,12 +47,12 @@ clean_start queue = new_registry
 module _ {J A : Type 0} (cleaner : SharedCleaner J A) where
   -- the seat is one of this cleaner, and what it has seen is what one table does, from an empty one on
   abbrev pub IsCleanSeat : CleanSeat J → Type 0
-  IsCleanSeat s = IsSeatIn IsItself IsCleanMove clean_start cleaner s
+  IsCleanSeat s = IsSeatIn IsItself IsCleanTurn clean_start cleaner s
 
   -- the cleaner was just made, its tickets beginning so, with its first seat
   abbrev pub IsFirstCleanSeat : ℕ → CleanSeat J → Type 0
-  IsFirstCleanSeat first s = IsFirstIn IsItself IsCleanMove clean_start cleaner first s
+  IsFirstCleanSeat first s = IsFirstIn IsItself IsCleanTurn clean_start cleaner first s
 
 -- a history that begins with what was seen leaves the table
 abbrev pub LeavesTable : {J : Type 0} → CleanView J → Jobs J → Type 0
-LeavesTable v t = IsLeftFrom IsItself IsCleanMove new_registry v t
+LeavesTable v t = IsLeftFrom IsItself IsCleanTurn new_registry v t

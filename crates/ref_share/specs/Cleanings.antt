@@ -1,12 +1,13 @@
 -- What `register`, `clean` and a cleaner's thread have called, and what they answer (Java SE 17
 -- `java.lang.ref.Cleaner`; the turns are this project's profile).
 use Rattle.std.specs.Prelude.{◌≡◌, ℕ, ◌≤◌, ◌⊎◌, Bool, true, false, Option, Some, None, Result, Ok, Err}
-use Rattle.ref_base.specs.HeapSteps.{NamedStep}
 use Rattle.ref_base.specs.declared.config.Config.{Config}
 use Rattle.ref_base.specs.declared.fault.Fault.{Fault}
 use Rattle.ref_base.specs.declared.fault.Fault.TheVariants.{TurnsSpent}
 use Rattle.ref_base.specs.declared.heap_step.HeapStep.TheVariants as heap
 use Rattle.ref_base.specs.declared.heap_step.HoldName.{HoldName}
+use Rattle.ref_base.specs.declared.plain_step.PlainStep.{PlainStep}
+use Rattle.ref_base.specs.declared.plain_step.PlainStep.TheVariants as plain
 use Rattle.ref_base.specs.declared.reply.Reply.{Reply}
 use Rattle.ref_base.specs.declared.strength.Strength.TheVariants.{Phantom}
 use Rattle.ref_clear.specs.ClearHeaps.{HeldNotice}
@@ -28,8 +29,8 @@ use Rattle.ref_share.specs.declared.clean_machine.CleanReply.TheVariants as answ
 -- ---- register
 
 -- a phantom reference with the cleaner's queue, to what `src` holds, is made in `dst`
-abbrev pub makes_phantom : (queue m src dst : ℕ) → NamedStep
-makes_phantom queue m src dst = heap.Refer m Phantom dst src (Some queue) 0
+abbrev pub makes_phantom : (queue m src dst : ℕ) → PlainStep
+makes_phantom queue m src dst = plain.Refer m Phantom dst src (Some queue) 0
 
 module _ (queue m src dst : ℕ) (v : HeapView) where
   -- the reference was made, and a hold of it taken
@@ -96,14 +97,14 @@ TakesOnce c object (Err (Refused TurnsSpent)) d = RanOut c d
 TakesOnce c object result d = ⊥
 
 -- the step is the heap's one call, whatever it answers; or no turn is left for it
-abbrev pub Tries : HeapView → NamedStep → HeapView → Type 0
-Tries v step w = ((reply : Reply) × Called v step (replies.Told reply) w) ⊎ RanOut v w
+abbrev pub Tries : HeapView → PlainStep → HeapView → Type 0
+Tries v step w = ((reply : Reply) × Called v (heap.Plain step) (replies.Told reply) w) ⊎ RanOut v w
 
 -- the reference is adopted into `dst`, cleared, and dropped, as far as turns are left; or the heap doesn't adopt it
 abbrev pub Retires : (m dst : ℕ) → HeapView → HoldName → Option HoldName → HeapView → Type 0
 Retires m dst v hold None w =
     (u : HeapView) × (x : HeapView) × Adopts v m dst hold (Ok tt) u
-    × Tries u (heap.Clear m dst) x × Tries x (heap.Drop m dst) w
+    × Tries u (plain.Clear m dst) x × Tries x (plain.Drop m dst) w
 Retires m dst v hold (Some back) w = (fault : Fault) × Adopts v m dst hold (Err (fault, back)) w
 
 -- the mutator or the slot is outside the heap's

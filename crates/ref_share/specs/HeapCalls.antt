@@ -5,6 +5,7 @@ use Rattle.ref_base.specs.declared.fault.Fault.{Fault}
 use Rattle.ref_base.specs.declared.fault.Fault.TheVariants.{TurnsSpent}
 use Rattle.ref_base.specs.declared.heap_step.HeapStep.TheVariants as heap
 use Rattle.ref_base.specs.declared.heap_step.HoldName.{HoldName}
+use Rattle.ref_base.specs.declared.plain_step.PlainStep.{PlainStep}
 use Rattle.ref_base.specs.declared.reply.Reply.{Reply}
 use Rattle.ref_base.specs.declared.reply.Reply.TheVariants as told
 use Rattle.ref_clear.specs.ClearHeaps.{HeldNotice}
@@ -20,26 +21,17 @@ is_refusal (told.Refused fault) = true
 is_refusal reply = false
 
 -- the step is the heap's one call, and it is not refused
-abbrev pub Accepted : HeapView → NamedStep → HeapView → Type 0
-Accepted v step w = (reply : Reply) × (is_refusal reply ≡ false) × Called v step (replies.Told reply) w
+abbrev pub Accepted : HeapView → PlainStep → HeapView → Type 0
+Accepted v step w = (reply : Reply) × (is_refusal reply ≡ false) × Called v (heap.Plain step) (replies.Told reply) w
 
 -- the step is refused with this fault; or no turn is left for it
-abbrev pub Declined : HeapView → NamedStep → Fault → HeapView → Type 0
+abbrev pub Declined : HeapView → PlainStep → Fault → HeapView → Type 0
 Declined v step fault w =
-    Called v step (replies.Told (told.Refused fault)) w ⊎ ((fault ≡ TurnsSpent) × RanOut v w)
+    Called v (heap.Plain step) (replies.Told (told.Refused fault)) w ⊎ ((fault ≡ TurnsSpent) × RanOut v w)
 
--- a step that neither gives a hold or a notice nor takes one
-abbrev pub hands_nothing_over : NamedStep → Bool
-hands_nothing_over (heap.Unhook m s) = false
-hands_nothing_over (heap.Hold m s) = false
-hands_nothing_over (heap.Adopt m d hold) = false
-hands_nothing_over (heap.Release hold) = false
-hands_nothing_over (heap.Hand k) = false
-hands_nothing_over step = true
-
--- such a step is the heap's one call, and answers so; or no turn is left for it
-abbrev pub AsksHeap : HeapView → NamedStep → Result Reply Fault → HeapView → Type 0
-AsksHeap v step (Ok reply) w = Called v step (replies.Told reply) w
+-- the step is the heap's one call, and answers so; or no turn is left for it
+abbrev pub AsksHeap : HeapView → PlainStep → Result Reply Fault → HeapView → Type 0
+AsksHeap v step (Ok reply) w = Called v (heap.Plain step) (replies.Told reply) w
 AsksHeap v step (Err fault) w = (fault ≡ TurnsSpent) × RanOut v w
 
 -- ---- holds and notices: turns are no fault of a heap's own, so with TurnsSpent no call was made

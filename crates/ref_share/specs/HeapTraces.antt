@@ -7,12 +7,13 @@ use Rattle.ref_base.specs.Heaps.{reference_at}
 use Rattle.ref_base.specs.HeapSteps.{NamedStep}
 use Rattle.ref_base.specs.MarkEnds.{IsDead}
 use Rattle.ref_base.specs.Replay.{after_heap}
-use Rattle.ref_base.specs.Worlds.{World, first_world}
+use Rattle.ref_base.specs.Worlds.{World, first_world_of}
 use Rattle.ref_base.specs.declared.config.Config.{Config}
 use Rattle.ref_base.specs.declared.heap_step.HeapStep.TheVariants as heap
 use Rattle.ref_base.specs.declared.reply.Reply.{Reply}
 use Rattle.ref_base.specs.declared.reply.Reply.TheVariants as told
 use Rattle.ref_base.specs.declared.row.Row.{Row}
+use Rattle.ref_base.specs.declared.plain_step.PlainStep.TheVariants as plain
 use Rattle.ref_base.specs.declared.step.Step.{Step}
 use Rattle.ref_base.specs.declared.step.Step.TheVariants as steps
 use Rattle.ref_turn.specs.Seats.{entry}
@@ -26,27 +27,12 @@ use Rattle.ref_share.specs.HeapSeats.{HeapEntry}
 
 -- the step of the world of the same name: none for a step that takes or names a hold, since a world has hands for these
 abbrev pub world_step : NamedStep → Option Step
-world_step (heap.New m d k) = Some (steps.New m d k)
-world_step (heap.Refer m strength d s q k) = Some (steps.Refer m strength d s q k)
-world_step (heap.Store m s i v) = Some (steps.Store m s i v)
-world_step (heap.Load m d s i) = Some (steps.Load m d s i)
-world_step (heap.Copy m d s) = Some (steps.Copy m d s)
-world_step (heap.Drop m s) = Some (steps.Drop m s)
-world_step (heap.Get m d s) = Some (steps.Get m d s)
-world_step (heap.Clear m s) = Some (steps.Clear m s)
-world_step (heap.RefersTo m s v) = Some (steps.RefersTo m s v)
+world_step (heap.Plain step) = Some (steps.Plain step)
 world_step (heap.Unhook m s) = Some (steps.Unhook m s)
 world_step (heap.Hold m s) = None
 world_step (heap.Adopt m d hold) = None
 world_step (heap.Release hold) = None
-world_step (heap.Begin now how) = Some (steps.Begin now how)
-world_step (heap.Scan k) = Some (steps.Scan k)
-world_step heap.EndMark = Some steps.EndMark
-world_step (heap.ClearNext k) = Some (steps.ClearNext k)
-world_step heap.EndClear = Some steps.EndClear
 world_step (heap.Hand k) = Some (steps.Hand k)
-world_step (heap.Sweep k) = Some (steps.Sweep k)
-world_step heap.EndSweep = Some steps.EndSweep
 
 abbrev pub row_of : Option Step → Reply → List Row
 row_of None reply = []
@@ -64,30 +50,24 @@ abbrev pub heap_replayed_from : World → List HeapEntry → World
 heap_replayed_from w [] = w
 heap_replayed_from w (call ∷ calls) = heap_replayed_from (after_heap w call.step (told_reply call.reply)) calls
 
--- the world after a history of a heap, whose hands and queues are empty
-abbrev pub heap_replayed : Config → List HeapEntry → World
-heap_replayed config calls = heap_replayed_from (first_world config) calls
+-- the world after a history of a heap of this number, whose hands and queues are empty
+abbrev pub heap_replayed : Config → ℕ → List HeapEntry → World
+heap_replayed config number calls = heap_replayed_from (first_world_of config number) calls
 
 -- One of the calls is the end of this cycle's mark; and in the world that the calls before it give by replay, n is a
 -- reference, and its referent is dead.
-pub record HeapMarkEnded (config : Config) (calls : List HeapEntry) (cycle n : ℕ) : Type 0 where
+pub record HeapMarkEnded (config : Config) (number : ℕ) (calls : List HeapEntry) (cycle n : ℕ) : Type 0 where
   pub before : List HeapEntry
   pub by : ℕ
   pub count : ℕ
   pub behind : List HeapEntry
-  pub is_earlier : before ++ entry by heap.EndMark (replies.Told (told.Doomed count)) ∷ behind ≡ calls
-  pub of_cycle : (heap_replayed config before).cycle ≡ cycle
+  pub is_earlier : before ++ entry by (heap.Plain plain.EndMark) (replies.Told (told.Doomed count)) ∷ behind ≡ calls
+  pub of_cycle : (heap_replayed config number before).cycle ≡ cycle
   pub referent : ℕ
-  pub referred : referent_of (reference_at (heap_replayed config before).heap n) ≡ Some referent
-  pub dead : IsDead (heap_replayed config before) referent
+  pub referred : referent_of (reference_at (heap_replayed config number before).heap n) ≡ Some referent
+  pub dead : IsDead (heap_replayed config number before) referent
 
 -- ---- what it gives
-
--- the object that a reply names: one that a slot or a hold then has, or the reference of a notice
-abbrev pub named_by : Reply → Option ℕ
-named_by (told.Object n) = Some n
-named_by (told.Notice n q cause) = Some n
-named_by reply = None
 
 -- what calls tell, one after the other
 abbrev pub gathered : (NamedStep → HeapReply → List ℕ) → List HeapEntry → List ℕ
@@ -105,7 +85,7 @@ all_handed_on calls = gathered handed_by calls
 
 -- and of these the ones that worker k cleared and that are for queue q
 abbrev pub handed_of : ℕ → ℕ → NamedStep → HeapReply → List ℕ
-handed_of k q (heap.Hand worker) (replies.Notice notice) = if_worked k q (Some (as_notice notice))
+handed_of k q (heap.Hand worker) (replies.Notice notice) = if_worked k q (as_notice notice)
 handed_of k q step reply = []
 
 abbrev pub handed_in : ℕ → ℕ → List HeapEntry → List ℕ

@@ -1,5 +1,5 @@
 pub mod HeapMachines
-pub mod HeapMoves
+pub mod HeapTurns
 pub mod Selves
 pub mod QueueMachines
 pub mod SeatCalls

@@ -16,10 +16,10 @@ abbrev pub queue_of : HeldNotice → ℕ
 queue_of notice = notice.queue
 
 -- the step, with this reply, makes one queue of the other, as the queue's own call does
-abbrev pub IsQueueMove : NoticeLists → QueueStep → QueueReply → NoticeLists → Type 0
-IsQueueMove q (steps.Put notice) (replies.Put answer) r =
+abbrev pub IsQueueTurn : NoticeLists → QueueStep → QueueReply → NoticeLists → Type 0
+IsQueueTurn q (steps.Put notice) (replies.Put answer) r =
     AnswersPut reported_object queue_of q notice answer × (r ≡ after_put reported_object queue_of q notice answer)
-IsQueueMove q steps.Poll (replies.Polled answer) r = AnswersPoll reported_object q answer r
-IsQueueMove q steps.Close (replies.Closed was_open) r =
+IsQueueTurn q steps.Poll (replies.Polled answer) r = AnswersPoll reported_object q answer r
+IsQueueTurn q steps.Close (replies.Closed was_open) r =
     (was_open ≡ not q.closed) × (r ≡ record q { closed = true })
-IsQueueMove q step reply r = ⊥
+IsQueueTurn q step reply r = ⊥

@@ -5,7 +5,7 @@ use Rattle.ref_turn.specs.History.{Leads}
 use Rattle.ref_turn.specs.Turns.{view}
 use Rattle.ref_turn.specs.declared.history.Entry.{Entry}
 use Rattle.ref_turn.specs.declared.history.View.{View}
-use Rattle.ref_share.specs.QueueMachines.{IsQueueMove}
+use Rattle.ref_share.specs.QueueMachines.{IsQueueTurn}
 use Rattle.ref_share.specs.QueueStates.{NoticeLists}
 use Rattle.ref_share.specs.Selves.{IsItself}
 use Rattle.ref_share.specs.SharedSeats.{IsSeatIn}
@@ -35,7 +35,7 @@ queue_view s = view s.seat
 
 -- the calls make this queue of the new queue of the number
 abbrev pub IsQueueRun : ℕ → List QueueEntry → NoticeLists → Type 0
-IsQueueRun number calls q = Leads IsQueueMove (new_queue number) calls q
+IsQueueRun number calls q = Leads IsQueueTurn (new_queue number) calls q
 
 -- the queue that a shared queue began as
 abbrev pub queue_start : QueueFrame → NoticeLists
@@ -44,13 +44,13 @@ queue_start f = new_queue f.queue
 module _ {A : Type 0} (queue : SharedQueue A) where
   -- the seat is one of this queue, and what it has seen is what one queue does, from a new one on
   abbrev pub IsQueueSeat : QueueSeat → Type 0
-  IsQueueSeat s = IsSeatIn IsItself IsQueueMove queue_start queue s
+  IsQueueSeat s = IsSeatIn IsItself IsQueueTurn queue_start queue s
 
   -- the queue was just made, so, with its first seat
   pub record IsNewQueue (number first : ℕ) (s : QueueSeat) : Type 0 where
     pub number_is : queue.frame.queue ≡ number
-    pub seat : IsFirstFrom IsItself IsQueueMove queue.turn (new_queue number) first s.seat
+    pub seat : IsFirstFrom IsItself IsQueueTurn queue.turn (new_queue number) first s.seat
 
   -- a history that begins with what was seen leaves the queue
   abbrev pub LeavesQueue : QueueView → NoticeLists → Type 0
-  LeavesQueue v q = IsLeftFrom IsItself IsQueueMove (queue_start queue.frame) v q
+  LeavesQueue v q = IsLeftFrom IsItself IsQueueTurn (queue_start queue.frame) v q

@@ -4,12 +4,12 @@ use Rattle.ref_share.specs.StartedSeats.{IsSeatFrom, IsFirstFrom}
 use Rattle.ref_share.specs.declared.shared.SeatFor.{SeatFor}
 use Rattle.ref_share.specs.declared.shared.Shared.{Shared}
 
-module _ {M A S R F X : Type 0} (stands_for : M → X → Type 0) (moves : X → S → R → X → Type 0) (first_state : F → X)
+module _ {M A S R F X : Type 0} (stands_for : M → X → Type 0) (steps_to : X → S → R → X → Type 0) (first_state : F → X)
     (shared : Shared M A S R F) where
   -- the seat is one of it, and what it has seen is a run of the machine from its first state
   abbrev pub IsSeatIn : SeatFor M S R F → Type 0
-  IsSeatIn s = IsSeatFrom stands_for moves shared.turn (first_state shared.frame) s.seat
+  IsSeatIn s = IsSeatFrom stands_for steps_to shared.turn (first_state shared.frame) s.seat
 
   -- it was just made, its tickets beginning so, with its first seat
   abbrev pub IsFirstIn : ℕ → SeatFor M S R F → Type 0
-  IsFirstIn first s = IsFirstFrom stands_for moves shared.turn (first_state shared.frame) first s.seat
+  IsFirstIn first s = IsFirstFrom stands_for steps_to shared.turn (first_state shared.frame) first s.seat

@@ -7,12 +7,12 @@ use Rattle.ref_turn.specs.declared.history.View.{View}
 use Rattle.ref_turn.specs.declared.turn.Turn.{Turn}
 use Rattle.ref_turn.specs.declared.turn.SeatOf.{SeatOf}
 
-module _ {M S R X : Type 0} (stands_for : M → X → Type 0) (moves : X → S → R → X → Type 0) where
+module _ {M S R X : Type 0} (stands_for : M → X → Type 0) (steps_to : X → S → R → X → Type 0) where
   -- what a seat has seen is a run of the machine from the state x, and its own calls are all that stand there under its
   -- number
   pub record IsHistoryFrom (x : X) (v : View M S R) : Type 0 where
     pub last : X
-    pub run : Leads moves x v.seen last
+    pub run : Leads steps_to x v.seen last
     pub own : calls_by v.number v.seen ≡ v.mine
 
   -- the seat is of this turn, which began with a machine that stands for x, and what it has seen is a history of it
@@ -35,5 +35,5 @@ module _ {M S R X : Type 0} (stands_for : M → X → Type 0) (moves : X → S �
     pub log : List (Entry S R)
     pub begins : StartsWith log v.seen
     pub last : X
-    pub run : Leads moves x log last
+    pub run : Leads steps_to x log last
     pub stands : stands_for m last

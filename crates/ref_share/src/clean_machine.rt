@@ -51,8 +51,8 @@ impl<K, J, A: Allocator> CleanMachine<K, J, A> {
 
 impl<K, J, A: Allocator + Copy> Machine for CleanMachine<K, J, A> {
     ghost use Rattle.ref_queue.specs.CleanTables.{Registry, new_registry};
-    ghost use Rattle.ref_share.specs.CleanMachines.{IsCleanMove};
-    ghost use Rattle.ref_share.specs.Selves.{IsItself, moves_as_it_acts};
+    ghost use Rattle.ref_share.specs.CleanMachines.{IsCleanTurn};
+    ghost use Rattle.ref_share.specs.Selves.{IsItself, steps_as_it_acts};
 
     type Step = CleanStep<K, J>;
 
@@ -66,9 +66,9 @@ impl<K, J, A: Allocator + Copy> Machine for CleanMachine<K, J, A> {
 
     ghost first_state = { λ queue. new_registry };
 
-    ghost moves = { IsCleanMove };
+    ghost steps_to = { IsCleanTurn };
 
-    ghost acts = { IsCleanMove };
+    ghost acts = { IsCleanTurn };
 
     #[inline(always)]
     fn apply(&mut self, step: CleanStep<K, J>) -> CleanReply<K, J> {
@@ -80,5 +80,5 @@ impl<K, J, A: Allocator + Copy> Machine for CleanMachine<K, J, A> {
         }
     }
 
-    ghost follows = { moves_as_it_acts IsCleanMove };
+    ghost follows = { steps_as_it_acts IsCleanTurn };
 }

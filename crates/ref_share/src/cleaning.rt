@@ -12,7 +12,7 @@ use crate::{
     CleanReply, CleanSeat, CleanStep, Cleanable, Cleaned, HeapSeat, ShareFault, SharedCleaner,
     SharedHeap,
 };
-use ref_base::{Fault, HeapStep, MutNo, ObjNo, QueueNo, Reply, SLOTS, SlotNo, Strength};
+use ref_base::{Fault, MutNo, ObjNo, PlainStep, QueueNo, Reply, SLOTS, SlotNo, Strength};
 use ref_objects::Hold;
 use ref_queue::Job;
 use ref_turn::TurnFault;
@@ -169,7 +169,7 @@ fn refer<R: Wait, A: Allocator + Copy>(
     ensures not { IfErr result (λ fault.
         HasNotMade queue mutator source slot (heap_view seat.old) fault (heap_view seat.new)) }
 {
-    let step = HeapStep::Refer {
+    let step = PlainStep::Refer {
         mutator,
         strength: Strength::Phantom,
         slot,
@@ -201,7 +201,7 @@ fn retire<R: Wait, A: Allocator + Copy>(
         return Some(hold);
     }
     let reference = slot;
-    let _ = heap.ask(rt, seat, HeapStep::Clear { mutator, reference });
-    let _ = heap.ask(rt, seat, HeapStep::Drop { mutator, slot });
+    let _ = heap.ask(rt, seat, PlainStep::Clear { mutator, reference });
+    let _ = heap.ask(rt, seat, PlainStep::Drop { mutator, slot });
     None
 }

@@ -4,14 +4,14 @@ ghost use Rattle.std.specs.Prelude.{◌≡◌, true, false, IfOk, IfErr};
 ghost use Rattle.ref_base.specs.declared.fault.Fault.TheVariants.{TurnsSpent};
 ghost use Rattle.ref_base.specs.declared.heap_step.HeapStep.TheVariants as steps;
 ghost use Rattle.ref_share.specs.HeapSeats.{heap_view, IsHeapSeat};
-ghost use Rattle.ref_share.specs.HeapCalls.{hands_nothing_over, AsksHeap, HoldsSlot, asks_for_a_notice};
+ghost use Rattle.ref_share.specs.HeapCalls.{AsksHeap, HoldsSlot, asks_for_a_notice};
 ghost use Rattle.ref_share.specs.HeapCalls.{GivesNotice, TellsOfNone, takes_a_hold, Spends, Adopts, Releases};
 ghost use Rattle.ref_share.specs.HeapMachines.{Acts};
 ghost use Rattle.ref_share.specs.SeatCalls.{Called, RanOut};
 ghost use Rattle.ref_clear.specs.ClearHeaps.{ClearHeap};
 
 use crate::{HeapSeat, SharedHeap};
-use ref_base::{Fault, HeapStep, MutNo, Reply, SlotNo, WorkerNo};
+use ref_base::{Fault, HeapStep, MutNo, PlainStep, Reply, SlotNo, WorkerNo};
 use ref_clear::Notice;
 use ref_objects::Hold;
 use ref_turn::TurnFault;
@@ -160,22 +160,21 @@ impl<A: Allocator + Copy> SharedHeap<A> {
         }
     }
 
-    /// Does a step by which neither a hold nor a notice changes hands, once the turn is free: any but an unhook, a
-    /// hold, an adopt, a release and a hand. The reply is `Reply::Refused` where the heap refuses it. The one error is
-    /// `TurnsSpent`, where no turn is left; then the heap is as before. Takes no memory.
+    /// Does a step by which neither a hold nor a notice changes hands, once the turn is free. The reply is
+    /// `Reply::Refused` where the heap refuses it. The one error is `TurnsSpent`, where no turn is left; then the heap
+    /// is as before. Takes no memory.
     #[inline(always)]
     pub fn ask<R: Wait>(
         &self,
         rt: &R,
         seat: &mut HeapSeat<A>,
-        step: HeapStep<Hold>,
+        step: PlainStep,
     ) -> Result<Reply, Fault>
-        requires seat { IsHeapSeat self.now seat.old }
-        requires step { hands_nothing_over step ≡ true }
+        requires { IsHeapSeat self.now seat.old }
         ensures seat { IsHeapSeat self.now seat.new }
         ensures asks { AsksHeap (heap_view seat.old) step result (heap_view seat.new) }
     {
-        match self.without_hold(rt, seat, step)? {
+        match self.without_hold(rt, seat, HeapStep::Plain(step))? {
             HeapReply::Told(reply) => Ok(reply),
             _reply => unreachable!(),
         }

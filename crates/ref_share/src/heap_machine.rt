@@ -23,8 +23,10 @@ impl<A: Allocator> Model for HeapMachine<A> {
 }
 
 impl<A: Allocator + Copy> Machine for HeapMachine<A> {
-    ghost use Rattle.ref_share.specs.HeapMachines.{HeapState, StandsFor, first_heap_state, IsHeapMove, Acts};
-    ghost use Rattle.ref_share.specs.HeapMoves.{acts_as_a_row};
+    ghost use Rattle.ref_base.specs.Collectors.{State, first_state_of};
+    ghost use Rattle.ref_clear.specs.Standing.{HeapStands};
+    ghost use Rattle.ref_share.specs.HeapMachines.{IsHeapTurn, Acts};
+    ghost use Rattle.ref_share.specs.HeapTurns.{acts_as_a_row};
 
     type Step = HeapStep<Hold>;
 
@@ -32,13 +34,13 @@ impl<A: Allocator + Copy> Machine for HeapMachine<A> {
 
     type Frame = HeapFrame;
 
-    ghost State = { HeapState };
+    ghost State = { State };
 
-    ghost stands_for = { StandsFor };
+    ghost stands_for = { HeapStands };
 
-    ghost first_state = { λ f. first_heap_state f.config f.heap_no };
+    ghost first_state = { λ f. first_state_of f.config f.heap_no };
 
-    ghost moves = { IsHeapMove };
+    ghost steps_to = { IsHeapTurn };
 
     ghost acts = { Acts };
 

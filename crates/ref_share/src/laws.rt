@@ -5,6 +5,7 @@ ghost use Rattle.std.specs.Prelude.{◌≡◌, ℕ, ◌+◌, ◌<◌, true, List
 ghost use Rattle.std.specs.Prelude.{nat_eq, slice_get};
 ghost use Rattle.std.specs.List.{IsDistinct};
 ghost use Rattle.ref_base.specs.CollectorRows.{IsLeft, doomed_at, referent_of, is_subsequence};
+ghost use Rattle.ref_base.specs.Collectors.{State};
 ghost use Rattle.ref_base.specs.CountedHolds.{tally};
 ghost use Rattle.ref_base.specs.DoomedSets.{new_clears};
 ghost use Rattle.ref_base.specs.Heaps.{slot_at, reference_at};
@@ -20,8 +21,9 @@ ghost use Rattle.ref_base.specs.Worlds.{graph_of};
 ghost use Rattle.ref_base.specs.declared.cause.Cause.TheVariants.{Cycle};
 ghost use Rattle.ref_base.specs.declared.config.Config.{Config};
 ghost use Rattle.ref_base.specs.declared.fault.Fault.TheVariants.{GreyLeft};
-ghost use Rattle.ref_base.specs.declared.heap_step.HeapStep.TheVariants.{EndMark, Get};
+ghost use Rattle.ref_base.specs.declared.heap_step.HeapStep.TheVariants.{Plain};
 ghost use Rattle.ref_base.specs.declared.heap_step.HoldName.{HoldName};
+ghost use Rattle.ref_base.specs.declared.plain_step.PlainStep.TheVariants.{EndMark, Get};
 ghost use Rattle.ref_base.specs.declared.reply.Reply.TheVariants.{Refused, Doomed, Object};
 ghost use Rattle.ref_clear.specs.ClearHeaps.{HeldNotice};
 ghost use Rattle.ref_queue.specs.CleanTables.{job_of};
@@ -35,10 +37,11 @@ ghost use Rattle.ref_world.specs.declared.heap_machine.HeapReply.TheVariants.{To
 ghost use Rattle.ref_share.specs.CleanHistories.{some_registers, job_left};
 ghost use Rattle.ref_share.specs.CleanSeats.{Jobs, CleanEntry, IsCleanRun};
 ghost use Rattle.ref_share.specs.HeapHistories.{minted, spent, spent_by};
-ghost use Rattle.ref_share.specs.HeapMachines.{HeapState, IsHeapMove};
+ghost use Rattle.ref_share.specs.HeapMachines.{IsHeapTurn};
 ghost use Rattle.ref_share.specs.HeapSeats.{HeapEntry, HeapSeat, HeapView, SharedHeap, heap_view};
 ghost use Rattle.ref_share.specs.HeapSeats.{IsHeapRun, IsHeapSeat};
-ghost use Rattle.ref_share.specs.HeapTraces.{HeapMarkEnded, handed_in, all_handed_on, named_by, rows_of};
+ghost use Rattle.ref_share.specs.HeapTraces.{HeapMarkEnded, handed_in, all_handed_on, rows_of};
+ghost use Rattle.ref_base.specs.Told.{named_by};
 ghost use Rattle.ref_share.specs.QueueHistories.{KeepsLists, all_put_in, is_closed_after};
 ghost use Rattle.ref_share.specs.QueueSeats.{QueueEntry, QueueSeat, SharedQueue, IsQueueRun, queue_view};
 ghost use Rattle.ref_share.specs.QueueStates.{NoticeLists};
@@ -71,15 +74,15 @@ pub fn each_added_notice_is_for_its_queue()
 /// After every history of a heap what is held is what its entries gave out and did not take back: an unhook or a hand
 /// that gave a notice, and a hold, give a hold of its object; an accepted adopt or release takes one back.
 pub fn what_is_held_was_given_out_and_not_taken_back()
-    ensures { (config : Config) (number : ℕ) (calls : List HeapEntry) (last : HeapState)
+    ensures { (config : Config) (number : ℕ) (calls : List HeapEntry) (last : State)
         → IsHeapRun config number calls last → (n : ℕ)
-        → tally last.state.world.heap.holds n + tally (spent calls) n ≡ tally (minted calls) n }
+        → tally last.world.heap.holds n + tally (spent calls) n ≡ tally (minted calls) n }
 {}
 
 /// So where an entry of a heap's history takes a hold back, of a notice that a thread carried or of another, an entry
 /// before it gave one out of this object which was not taken back yet.
 pub fn each_hold_that_is_taken_back_was_given_out()
-    ensures { (config : Config) (number : ℕ) (front back : List HeapEntry) (call : HeapEntry) (last : HeapState) (n : ℕ)
+    ensures { (config : Config) (number : ℕ) (front back : List HeapEntry) (call : HeapEntry) (last : State) (n : ℕ)
         → IsHeapRun config number (front ++ call ∷ back) last → spent_by call.step call.reply ≡ n ∷ []
         → tally (spent front) n < tally (minted front) n }
 {}
@@ -87,28 +90,29 @@ pub fn each_hold_that_is_taken_back_was_given_out()
 /// What a mark's end clears in the history of a heap, it clears at one instant and for good, whichever seats make the
 /// calls: each new clear reads as cleared in every state from then on, or it is no longer there.
 pub fn what_a_marks_end_clears_reads_as_cleared_from_then_on()
-    ensures { (config : Config) (number count : ℕ) (front : List HeapEntry) (a b : HeapState) (calls : List HeapEntry)
-        (c : HeapState) (n : ℕ) → IsHeapRun config number front a → IsHeapMove a EndMark (Told (Doomed count)) b
-        → Leads IsHeapMove b calls c → has (new_clears a.state.world.heap.objects (doomed_at a.state)) n ≡ true
-        → referent_of (reference_at c.state.world.heap n) ≡ None }
+    ensures { (config : Config) (number count : ℕ) (front : List HeapEntry) (a b : State) (calls : List HeapEntry)
+        (c : State) (n : ℕ) → IsHeapRun config number front a → IsHeapTurn a (Plain EndMark) (Told (Doomed count)) b
+        → Leads IsHeapTurn b calls c → has (new_clears a.world.heap.objects (doomed_at a)) n ≡ true
+        → referent_of (reference_at c.world.heap n) ≡ None }
 {}
 
 /// And no get of it answers an object from then on, whoever holds it.
 pub fn no_get_answers_what_a_marks_end_cleared()
-    ensures { (config : Config) (number count : ℕ) (front : List HeapEntry) (a b : HeapState) (calls : List HeapEntry)
-        (c : HeapState) (n m d s k : ℕ) (e : HeapState) → IsHeapRun config number front a
-        → IsHeapMove a EndMark (Told (Doomed count)) b → Leads IsHeapMove b calls c
-        → has (new_clears a.state.world.heap.objects (doomed_at a.state)) n ≡ true
-        → slot_at c.state.world.heap m s ≡ Some n → ¬ (IsHeapMove c (Get m d s) (Told (Object k)) e) }
+    ensures { (config : Config) (number count : ℕ) (front : List HeapEntry) (a b : State) (calls : List HeapEntry)
+        (c : State) (n m d s k : ℕ) (e : State) → IsHeapRun config number front a
+        → IsHeapTurn a (Plain EndMark) (Told (Doomed count)) b → Leads IsHeapTurn b calls c
+        → has (new_clears a.world.heap.objects (doomed_at a)) n ≡ true
+        → slot_at c.world.heap m s ≡ Some n → ¬ (IsHeapTurn c (Plain (Get m d s)) (Told (Object k)) e) }
 {}
 
 /// What a mark's end dooms in the history of a heap, no call gives from then on, neither into a slot nor as a hold or a
 /// notice, whichever seat makes it.
 pub fn no_call_gives_what_a_marks_end_doomed()
-    ensures { (config : Config) (number count : ℕ) (front : List HeapEntry) (a b : HeapState) (calls : List HeapEntry)
-        (c : HeapState) (step : NamedStep) (reply : HeapReply) (n : ℕ) (e : HeapState)
-        → IsHeapRun config number front a → IsHeapMove a EndMark (Told (Doomed count)) b → Leads IsHeapMove b calls c
-        → has (doomed_at a.state) n ≡ true → IsHeapMove c step reply e → named_by (told_reply reply) ≡ Some n
+    ensures { (config : Config) (number count : ℕ) (front : List HeapEntry) (a b : State) (calls : List HeapEntry)
+        (c : State) (step : NamedStep) (reply : HeapReply) (n : ℕ) (e : State)
+        → IsHeapRun config number front a → IsHeapTurn a (Plain EndMark) (Told (Doomed count)) b
+        → Leads IsHeapTurn b calls c
+        → has (doomed_at a) n ≡ true → IsHeapTurn c step reply e → named_by (told_reply reply) ≡ Some n
         → ⊥ }
 {}
 
@@ -116,32 +120,32 @@ pub fn no_call_gives_what_a_marks_end_doomed()
 /// is doomed and not swept yet: no slot, hold or pending reference names it, and no other object has it as a field or
 /// as its referent.
 pub fn nothing_else_refers_to_the_doomed()
-    ensures { (config : Config) (number : ℕ) (calls : List HeapEntry) (last : HeapState)
-        → IsHeapRun config number calls last → AreOutOfReach last.state.doomed (graph_of last.state.world) }
+    ensures { (config : Config) (number : ℕ) (calls : List HeapEntry) (last : State)
+        → IsHeapRun config number calls last → AreOutOfReach last.doomed (graph_of last.world) }
 {}
 
 /// Where a mark ends in the history of a heap, each path through soft and weak referents to what it dooms has a first
 /// step to the doomed, and that is by the referent of a soft or weak reference that is a new clear.
 pub fn each_path_to_what_a_marks_end_dooms_leaves_by_a_new_clear()
-    ensures { (a : HeapState) (count : ℕ) (b : HeapState) (n : ℕ) (before : List ℕ)
-        → IsHeapMove a EndMark (Told (Doomed count)) b
-        → IsPath soft_and_weak_referents (graph_of a.state.world) n before → has (doomed_at a.state) n ≡ true
-        → (outer inner : ℕ) × FirstLeaves (doomed_at a.state) n before outer inner
-        × LeavesBy a.state.world.heap.objects (doomed_at a.state) outer inner }
+    ensures { (a : State) (count : ℕ) (b : State) (n : ℕ) (before : List ℕ)
+        → IsHeapTurn a (Plain EndMark) (Told (Doomed count)) b
+        → IsPath soft_and_weak_referents (graph_of a.world) n before → has (doomed_at a) n ≡ true
+        → (outer inner : ℕ) × FirstLeaves (doomed_at a) n before outer inner
+        × LeavesBy a.world.heap.objects (doomed_at a) outer inner }
 {}
 
 /// In the history of a heap no object is scanned twice in a cycle.
 pub fn no_object_is_scanned_twice_in_a_cycle()
-    ensures { (config : Config) (number : ℕ) (calls : List HeapEntry) (last : HeapState)
+    ensures { (config : Config) (number : ℕ) (calls : List HeapEntry) (last : State)
         → IsHeapRun config number calls last → IsDistinct nat_eq (scanned_in_cycle (rows_of calls)) }
 {}
 
 /// And where a mark's end is refused because an object is left to scan, one is: it was ever kept in the mark, it was
 /// made before the cycle began, and no call of the cycle scanned it.
 pub fn a_mark_goes_on_only_while_an_object_is_left()
-    ensures { (config : Config) (number : ℕ) (front : List HeapEntry) (a b : HeapState)
-        → IsHeapRun config number front a → IsHeapMove a EndMark (Told (Refused GreyLeft)) b
-        → (n : ℕ) × IsLeft a.state n }
+    ensures { (config : Config) (number : ℕ) (front : List HeapEntry) (a b : State)
+        → IsHeapRun config number front a → IsHeapTurn a (Plain EndMark) (Told (Refused GreyLeft)) b
+        → (n : ℕ) × IsLeft a n }
 {}
 
 /// In the history of a heap each notice that an unhook or a hand gives comes from the entries up to that one: one of
@@ -149,7 +153,7 @@ pub fn a_mark_goes_on_only_while_an_object_is_left()
 /// the reference, or its clearing, in the cycle and by the worker that the cause names.
 pub fn each_notice_that_is_given_has_its_own_queue_and_cause()
     ensures { (config : Config) (number by : ℕ) (front back : List HeapEntry) (step : NamedStep) (notice : HeldNotice)
-        (last : HeapState) → IsHeapRun config number (front ++ entry by step (Notice notice) ∷ back) last
+        (last : State) → IsHeapRun config number (front ++ entry by step (Notice notice) ∷ back) last
         → IsProven (rows_of (front ++ entry by step (Notice notice) ∷ [])) (as_notice notice) }
 {}
 
@@ -157,21 +161,21 @@ pub fn each_notice_that_is_given_has_its_own_queue_and_cause()
 /// that end give by replay, the notice's reference has a referent, an object to which no kept path leads.
 pub fn each_notice_of_a_cycle_comes_after_its_mark_ended()
     ensures { (config : Config) (number by : ℕ) (front back : List HeapEntry) (step : NamedStep) (notice : HeldNotice)
-        (last : HeapState) (cycle worker : ℕ)
+        (last : State) (cycle worker : ℕ)
         → IsHeapRun config number (front ++ entry by step (Notice notice) ∷ back) last
-        → notice.cause ≡ Cycle cycle worker → HeapMarkEnded config front cycle notice.hold.object }
+        → notice.cause ≡ Cycle cycle worker → HeapMarkEnded config number front cycle notice.hold.object }
 {}
 
 /// In the history of a heap workers hand each reference on at most once, over all cycles.
 pub fn each_reference_is_handed_on_at_most_once()
-    ensures { (config : Config) (number : ℕ) (calls : List HeapEntry) (last : HeapState)
+    ensures { (config : Config) (number : ℕ) (calls : List HeapEntry) (last : State)
         → IsHeapRun config number calls last → IsDistinct nat_eq (all_handed_on calls) }
 {}
 
 /// And of what is registered with a queue, a worker hands the references on in the order in which it cleared them: none
 /// comes before one that was cleared earlier, though some may never come.
 pub fn each_worker_hands_on_in_its_clearing_order()
-    ensures { (config : Config) (number : ℕ) (calls : List HeapEntry) (last : HeapState) (k q : ℕ)
+    ensures { (config : Config) (number : ℕ) (calls : List HeapEntry) (last : State) (k q : ℕ)
         → IsHeapRun config number calls last
         → is_subsequence (handed_in k q calls) (clearing_order (rows_of calls) k q) ≡ true }
 {}

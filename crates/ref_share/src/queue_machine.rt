@@ -57,9 +57,9 @@ impl<A: Allocator> QueueMachine<A> {
 
 impl<A: Allocator + Copy> Machine for QueueMachine<A> {
     ghost use Rattle.ref_base.specs.QueueLists.{new_queue};
-    ghost use Rattle.ref_share.specs.QueueMachines.{IsQueueMove};
+    ghost use Rattle.ref_share.specs.QueueMachines.{IsQueueTurn};
     ghost use Rattle.ref_share.specs.QueueStates.{NoticeLists};
-    ghost use Rattle.ref_share.specs.Selves.{IsItself, moves_as_it_acts};
+    ghost use Rattle.ref_share.specs.Selves.{IsItself, steps_as_it_acts};
 
     type Step = QueueStep;
 
@@ -73,9 +73,9 @@ impl<A: Allocator + Copy> Machine for QueueMachine<A> {
 
     ghost first_state = { λ f. new_queue f.queue };
 
-    ghost moves = { IsQueueMove };
+    ghost steps_to = { IsQueueTurn };
 
-    ghost acts = { IsQueueMove };
+    ghost acts = { IsQueueTurn };
 
     #[inline(always)]
     fn apply(&mut self, step: QueueStep) -> QueueReply {
@@ -86,5 +86,5 @@ impl<A: Allocator + Copy> Machine for QueueMachine<A> {
         }
     }
 
-    ghost follows = { moves_as_it_acts IsQueueMove };
+    ghost follows = { steps_as_it_acts IsQueueTurn };
 }

@@ -35,8 +35,8 @@ impl<M: Machine, A: Allocator + Copy> Shared<M, A> {
         seat: &mut SeatFor<M>,
         step: M::Step,
     ) -> Result<M::Reply, TurnFault<M::Step>>
-        requires { IsSeatIn M.stands_for M.moves M.first_state self.now seat.old }
-        ensures seat { IsSeatIn M.stands_for M.moves M.first_state self.now seat.new }
+        requires { IsSeatIn M.stands_for M.steps_to M.first_state self.now seat.old }
+        ensures seat { IsSeatIn M.stands_for M.steps_to M.first_state self.now seat.new }
         ensures ok { IfOk result (λ reply. Called (view seat.old.seat) step reply (view seat.new.seat)) }
         ensures acted { IfOk result (λ reply. (m n : M) × M.acts m step reply n) }
         ensures err { IfErr result (λ fault. (fault ≡ Spent step)
@@ -51,8 +51,8 @@ impl<M: Machine, A: Allocator + Copy> Shared<M, A> {
         seat: &mut SeatFor<M>,
         step: M::Step,
     ) -> Result<M::Reply, TurnFault<M::Step>>
-        requires { IsSeatIn M.stands_for M.moves M.first_state self.now seat.old }
-        ensures seat { IsSeatIn M.stands_for M.moves M.first_state self.now seat.new }
+        requires { IsSeatIn M.stands_for M.steps_to M.first_state self.now seat.old }
+        ensures seat { IsSeatIn M.stands_for M.steps_to M.first_state self.now seat.new }
         ensures ok { IfOk result (λ reply. Called (view seat.old.seat) step reply (view seat.new.seat)) }
         ensures acted { IfOk result (λ reply. (m n : M) × M.acts m step reply n) }
         ensures err { IfErr result (λ fault. IsTryFault (view seat.old.seat) step fault (view seat.new.seat)) }
@@ -62,8 +62,8 @@ impl<M: Machine, A: Allocator + Copy> Shared<M, A> {
 
     /// How many turns have ended, and the first ticket with them.
     pub fn served(&self, seat: &mut SeatFor<M>) -> u64
-        requires { IsSeatIn M.stands_for M.moves M.first_state self.now seat.old }
-        ensures seat { IsSeatIn M.stands_for M.moves M.first_state self.now seat.new }
+        requires { IsSeatIn M.stands_for M.steps_to M.first_state self.now seat.old }
+        ensures seat { IsSeatIn M.stands_for M.steps_to M.first_state self.now seat.new }
         ensures longer { Longer (view seat.old.seat) (view seat.new.seat) }
         ensures count { result ≡ (view seat.new.seat).first + length (view seat.new.seat).seen }
     {
@@ -72,9 +72,9 @@ impl<M: Machine, A: Allocator + Copy> Shared<M, A> {
 
     /// A seat for one thread more. It has seen what this one has.
     pub fn split(&self, seat: &mut SeatFor<M>) -> SeatFor<M>
-        requires { IsSeatIn M.stands_for M.moves M.first_state self.now seat.old }
-        ensures seat { IsSeatIn M.stands_for M.moves M.first_state self.now seat.new
-            × IsSeatIn M.stands_for M.moves M.first_state self.now result }
+        requires { IsSeatIn M.stands_for M.steps_to M.first_state self.now seat.old }
+        ensures seat { IsSeatIn M.stands_for M.steps_to M.first_state self.now seat.new
+            × IsSeatIn M.stands_for M.steps_to M.first_state self.now result }
         ensures same { view seat.new.seat ≡ view seat.old.seat }
         ensures begins { Begins (view seat.old.seat) (view result.seat) }
     {
@@ -86,9 +86,9 @@ impl<M: Machine, A: Allocator + Copy> Shared<M, A> {
 
     /// Takes a seat in: this one has then seen what either had.
     pub fn join(&self, seat: &mut SeatFor<M>, other: SeatFor<M>)
-        requires { IsSeatIn M.stands_for M.moves M.first_state self.now seat.old
-            × IsSeatIn M.stands_for M.moves M.first_state self.now other }
-        ensures seat { IsSeatIn M.stands_for M.moves M.first_state self.now seat.new }
+        requires { IsSeatIn M.stands_for M.steps_to M.first_state self.now seat.old
+            × IsSeatIn M.stands_for M.steps_to M.first_state self.now other }
+        ensures seat { IsSeatIn M.stands_for M.steps_to M.first_state self.now seat.new }
         ensures joined { TookIn (view seat.old.seat) (view other.seat) (view seat.new.seat) }
     {
         self.turn.join(&mut seat.seat, other.into_seat())
@@ -96,9 +96,9 @@ impl<M: Machine, A: Allocator + Copy> Shared<M, A> {
 
     // Ends it, and gives the machine back. Where a turn is open, what its slot held comes back.
     pub(crate) fn end(self, seat: SeatFor<M>) -> Result<M, Option<M>>
-        requires { IsSeatIn M.stands_for M.moves M.first_state self seat }
+        requires { IsSeatIn M.stands_for M.steps_to M.first_state self seat }
         ensures { IfOk result (λ machine.
-            IsLeftFrom M.stands_for M.moves (M.first_state self.frame) (view seat.seat) machine) }
+            IsLeftFrom M.stands_for M.steps_to (M.first_state self.frame) (view seat.seat) machine) }
     {
         let Shared { turn, frame: _ } = self;
         turn.finish(seat.into_seat())

@@ -33,7 +33,7 @@ module _ {A : Type 0} where
   set_swap (x ∷ xs) (suc i) zero a b apart = refl
   set_swap (x ∷ xs) (suc i) (suc j) a b apart = λ n. x ∷ set_swap xs i j a b (λ is. apart (ap suc is)) n
 
-module _ {M X S R : Type 0} (stands_for : M → X → Type 0) (moves : X → S → R → X → Type 0) where
+module _ {M X S R : Type 0} (stands_for : M → X → Type 0) (steps_to : X → S → R → X → Type 0) where
   abbrev V : Type 0
   V = View M S R
 
@@ -41,7 +41,7 @@ module _ {M X S R : Type 0} (stands_for : M → X → Type 0) (moves : X → S �
   St = State (Option M) V
 
   abbrev Rule : Origin M → St → Type 0
-  Rule = Turned stands_for moves
+  Rule = Turned stands_for steps_to
 
   -- a new seat is cut off
   pub splits : (k : Origin M) (id : ℕ) (v : V) → v.stage ≡ Idle → Splits (Rule k) id v v (split_view v)
@@ -96,7 +96,7 @@ module _ {M X S R : Type 0} (stands_for : M → X → Type 0) (moves : X → S �
   unfoldable spends : (k : Origin M) (s : St) (r : Rule k s) (id : ℕ) (w : V) → get_elem? s.views id ≡ some w
       → w.stage ≡ Idle → Rule k record { words = s.words; homes = s.homes; views = set s.views id spent_view }
   spends k s r id w at idle =
-      settled stands_for moves k s r id w spent_view s.words s.homes r.tickets at
+      settled stands_for steps_to k s r id w spent_view s.words s.homes r.tickets at
       (λ is. differs Idle tt (sym idle ∙ is)) r.words_are (le_refl r.tickets) r.small
       record {
         first = λ unspent. absurd (unspent refl);
@@ -125,7 +125,7 @@ module _ {M X S R : Type 0} (stands_for : M → X → Type 0) (moves : X → S �
       let unspent : v.stage ≢ Spent = λ is. differs Idle tt (sym idle ∙ is) in
       subst (λ (us : List V). Rule k record { words = s.words; homes = s.homes; views = us })
       (set_swap s.views other id spent_view both apart)
-      (settled stands_for moves k s' r' id v both s.words s.homes r.tickets here unspent r.words_are
+      (settled stands_for steps_to k s' r' id v both s.words s.homes r.tickets here unspent r.words_are
       (le_refl r.tickets) r.small
       record {
         first = λ _. was.first unspent;
@@ -153,7 +153,8 @@ module _ {M X S R : Type 0} (stands_for : M → X → Type 0) (moves : X → S �
       → Rule k (opening (k.first ∷ k.first ∷ []) (Some m ∷ []) (first_view k))
   starts k m is small =
       let v : V = first_view k in
-      let reached = subst (λ a. Reaches stands_for moves a [] m) (sym is) (reaches_start stands_for moves m) in record {
+      let reached =
+      subst (λ a. Reaches stands_for steps_to a [] m) (sym is) (reaches_start stands_for steps_to m) in record {
         log = [];
         served = k.first;
         tickets = k.first;
@@ -161,7 +162,7 @@ module _ {M X S R : Type 0} (stands_for : M → X → Type 0) (moves : X → S �
         counted = omega arith;
         behind = le_refl k.first;
         small = small;
-        legal = reaches_legal stands_for moves k.start.value [] m reached;
+        legal = reaches_legal stands_for steps_to k.start.value [] m reached;
         home = λ _. (m, refl, reached);
         each_seat = λ j u at. ⊎_elim
             (λ old. absurd (some-ne-none u (sym old)))
@@ -184,5 +185,5 @@ module _ {M X S R : Type 0} (stands_for : M → X → Type 0) (moves : X → S �
   -- as the table ends with no turn open, the slot has the machine
   pub finishes : (k : Origin M) (id : ℕ) (v : V) (ws : List ℕ) (xs : List (Option M)) (a b : ℕ) (slot : Option M)
       → v.stage ≡ Idle → Final (Seen (Rule k) id v) ws xs → get_elem? ws 0 ≡ some a → get_elem? ws 1 ≡ some b
-      → a ≡ b → get_elem? xs 0 ≡ some slot → (m : M) × (slot ≡ Some m) × EndsAs stands_for moves v m
+      → a ≡ b → get_elem? xs 0 ≡ some slot → (m : M) × (slot ≡ Some m) × EndsAs stands_for steps_to v m
   finishes k id v ws xs a b slot idle final served tickets same has = grind (arith, some-injective, final.4 0)

@@ -37,7 +37,7 @@ one_slot [] x one = absurd (omega arith)
 one_slot (h ∷ []) x one = refl
 one_slot (h ∷ (i ∷ hs)) x one = absurd (omega arith)
 
-module _ {M X S R : Type 0} (stands_for : M → X → Type 0) (moves : X → S → R → X → Type 0) where
+module _ {M X S R : Type 0} (stands_for : M → X → Type 0) (steps_to : X → S → R → X → Type 0) where
   abbrev V : Type 0
   V = View M S R
 
@@ -53,15 +53,15 @@ module _ {M X S R : Type 0} (stands_for : M → X → Type 0) (moves : X → S �
       record v { stage = Idle; number = number; seen = seen; drawn = drawn; looks = looks }
 
   -- a seat that holds no turn sees more of what there is
-  quiet : (k : Origin M) (s : St) (r : Turned stands_for moves k s) (id : ℕ) (v : V) (number : ℕ)
+  quiet : (k : Origin M) (s : St) (r : Turned stands_for steps_to k s) (id : ℕ) (v : V) (number : ℕ)
       (seen : List (Entry S R)) (drawn looks : ℕ) (ws : List ℕ) → get_elem? s.views id ≡ some v → v.stage ≢ Spent
       → ¬ (IsOpen v.stage) → ws ≡ r.served ∷ r.tickets ∷ [] → IsOwnView r.log id (resting v number seen drawn looks)
       → StartsWith r.log seen → drawn ≤ r.tickets
-      → Turned stands_for moves k
+      → Turned stands_for steps_to k
       record { words = ws; homes = s.homes; views = set s.views id (resting v number seen drawn looks) }
   quiet k s r id v number seen drawn looks ws at unspent shut words own begins small =
       let w : V = resting v number seen drawn looks in let was = r.each_seat id v at in
-      settled stands_for moves k s r id v w ws s.homes r.tickets at unspent words (omega arith) r.small
+      settled stands_for steps_to k s r id v w ws s.homes r.tickets at unspent words (omega arith) r.small
       record {
         first = λ _. was.first unspent;
         start = λ _. was.start unspent;
@@ -74,7 +74,7 @@ module _ {M X S R : Type 0} (stands_for : M → X → Type 0) (moves : X → S �
 
   -- a load of the tickets
   pub draws : (k : Origin M) (slots id : ℕ) (me : Known) → me.0.stage ≡ Idle
-      → Allows (Turned stands_for moves k) slots id me 1 (λ x. x) (drew (step slots 1 0 0 none) me)
+      → Allows (Turned stands_for steps_to k) slots id me 1 (λ x. x) (drew (step slots 1 0 0 none) me)
   draws k slots id me idle s r _ at _ =
       let x : ℕ = get_or s.words 1 0 in let is : x ≡ r.tickets = ap (λ ws. get_or ws 1 0) r.words_are in
       let v : V = me.0 in let was = r.each_seat id v at in
@@ -93,7 +93,7 @@ module _ {M X S R : Type 0} (stands_for : M → X → Type 0) (moves : X → S �
 
   -- the first load of a new seat
   pub names : (k : Origin M) (slots id : ℕ) (me : Known) → me.0.stage ≡ Fresh
-      → Allows (Turned stands_for moves k) slots id me 1 (λ x. x) (named (step slots 1 0 0 none) me)
+      → Allows (Turned stands_for steps_to k) slots id me 1 (λ x. x) (named (step slots 1 0 0 none) me)
   names k slots id me fresh s r _ at _ =
       let x : ℕ = get_or s.words 1 0 in let is : x ≡ r.tickets = ap (λ ws. get_or ws 1 0) r.words_are in
       let v : V = me.0 in let was = r.each_seat id v at in
@@ -109,8 +109,8 @@ module _ {M X S R : Type 0} (stands_for : M → X → Type 0) (moves : X → S �
 
   -- a load of the count of ended turns
   pub looks : (k : Origin M) (slots id : ℕ) (me : Known) → Rests me.0.stage
-      → Allows (Turned stands_for moves k) slots id me 0 (λ x. x)
-      (saw stands_for moves (step slots 0 0 0 none) me)
+      → Allows (Turned stands_for steps_to k) slots id me 0 (λ x. x)
+      (saw stands_for steps_to (step slots 0 0 0 none) me)
   looks k slots id me rests s r _ at _ =
       let x : ℕ = get_or s.words 0 0 in let is : x ≡ r.served = ap (λ ws. get_or ws 0 0) r.words_are in
       let v : V = me.0 in let was = r.each_seat id v at in
@@ -124,7 +124,7 @@ module _ {M X S R : Type 0} (stands_for : M → X → Type 0) (moves : X → S �
         (
           is ∙ r.counted ∙ ap (λ n. n + length r.log) (sym (was.first unspent)),
           was.seen,
-          subst (λ a. IsLegalLog stands_for moves a r.log) (sym (was.start unspent)) r.legal,
+          subst (λ a. IsLegalLog stands_for steps_to a r.log) (sym (was.start unspent)) r.legal,
           ap (λ n. calls_by n r.log) own.0 ∙ own.1,
           shows r.log r.served r.tickets s.views id v v.stage (spent_other s.views id v v at unspent) was.knows,
           refl,
@@ -136,14 +136,14 @@ module _ {M X S R : Type 0} (stands_for : M → X → Type 0) (moves : X → S �
       (w : V)
       × (a : Act (Option M))
       × Valid s.homes me.1 a
-      × Turned stands_for moves k (stepped s i x id me.1 w a)
+      × Turned stands_for steps_to k (stepped s i x id me.1 w a)
       × then (get_or s.words i 0) (w, carried_after me.1 a)
 
   -- the turn is taken
   took : (k : Origin M) (slots id : ℕ) (me : Known) (old new : ℕ) → me.0.stage ≡ Idle
       → old ≡ me.0.first + length me.0.seen → new ≡ old + 1 → new < 2 ^ 64
-      → (s : St) (r : Turned stands_for moves k s) → get_elem? s.views id ≡ some me.0 → get_or s.words 1 0 ≡ old
-      → Goes k s 1 id me (grabbed stands_for moves (step slots 1 old new none) me) new
+      → (s : St) (r : Turned stands_for steps_to k s) → get_elem? s.views id ≡ some me.0 → get_or s.words 1 0 ≡ old
+      → Goes k s 1 id me (grabbed stands_for steps_to (step slots 1 old new none) me) new
   took k slots id me old new idle seen next small s r at hit =
       let x : ℕ = get_or s.words 1 0 in let is : x ≡ r.tickets = ap (λ ws. get_or ws 1 0) r.words_are in
       let v : V = me.0 in let was = r.each_seat id v at in
@@ -154,15 +154,15 @@ module _ {M X S R : Type 0} (stands_for : M → X → Type 0) (moves : X → S �
       let even : r.served ≡ r.tickets = omega (arith, is, hit, seen, first, long, r.counted, r.behind) in
       let whole : v.seen ≡ r.log =
       starts_whole r.log v.seen was.seen (omega (arith, is, hit, seen, first, r.counted, even)) in
-      let home = r.home (none_within stands_for moves k s r even) in let m : M = home.0 in
-      let reached : Reaches stands_for moves v.start v.seen m =
-      subst (λ a. Reaches stands_for moves a v.seen m) (sym (was.start unspent))
-      (subst (λ l. Reaches stands_for moves k.start.value l m) (sym whole) home.2) in
+      let home = r.home (none_within stands_for steps_to k s r even) in let m : M = home.0 in
+      let reached : Reaches stands_for steps_to v.start v.seen m =
+      subst (λ a. Reaches stands_for steps_to a v.seen m) (sym (was.start unspent))
+      (subst (λ l. Reaches stands_for steps_to k.start.value l m) (sym whole) home.2) in
       let w : V = record v { stage = Open; drawn = x + 1 } in (
         w,
         takes 0 (Some m),
         ap (λ hs. get_elem? hs 0) home.1,
-        settled stands_for moves k s r id v w _ _ new at unspent (ap (λ ws. set ws 1 new) r.words_are)
+        settled stands_for steps_to k s r id v w _ _ new at unspent (ap (λ ws. set ws 1 new) r.words_are)
             (omega (arith, is, hit, next)) small
             record {
               first = λ _. was.first unspent;
@@ -183,8 +183,8 @@ module _ {M X S R : Type 0} (stands_for : M → X → Type 0) (moves : X → S �
   -- a compare-exchange on the tickets
   pub grabs : (k : Origin M) (slots id : ℕ) (me : Known) (old new : ℕ) → me.0.stage ≡ Idle
       → old ≡ me.0.first + length me.0.seen → new ≡ old + 1 → new < 2 ^ 64
-      → Allows (Turned stands_for moves k) slots id me 1 (λ y. either (eqb y old) new y)
-      (grabbed stands_for moves (step slots 1 old new none) me)
+      → Allows (Turned stands_for steps_to k) slots id me 1 (λ y. either (eqb y old) new y)
+      (grabbed stands_for steps_to (step slots 1 old new none) me)
   grabs k slots id me old new idle seen next small s r _ at _ =
       let x : ℕ = get_or s.words 1 0 in let is : x ≡ r.tickets = ap (λ ws. get_or ws 1 0) r.words_are in
       let v : V = me.0 in let was = r.each_seat id v at in
@@ -192,7 +192,7 @@ module _ {M X S R : Type 0} (stands_for : M → X → Type 0) (moves : X → S �
       let unspent = rests_unspent v.stage rests in
       let first : v.first ≡ k.first = was.first unspent in
       let long = starts_length r.log v.seen was.seen in
-      exchanged x old new (Goes k s 1 id me (grabbed stands_for moves (step slots 1 old new none) me))
+      exchanged x old new (Goes k s 1 id me (grabbed stands_for steps_to (step slots 1 old new none) me))
       (took k slots id me old new idle seen next small s r at)
       (λ miss. (
         resting v v.number v.seen x v.looks,
@@ -210,8 +210,8 @@ module _ {M X S R : Type 0} (stands_for : M → X → Type 0) (moves : X → S �
   -- the add that ends a turn
   pub adds : (k : Origin M) (slots id : ℕ) (me : Known) (said : Option (Entry S R)) (e : Entry S R) (m : M)
       → slots ≡ 1 → me.0.stage ≡ Open → me.1 ≡ (0, Some m) ∷ [] → said ≡ Some e → e.by ≡ me.0.number
-      → Reaches stands_for moves me.0.start (me.0.seen ++ e ∷ []) m
-      → Allows (Turned stands_for moves k) slots id me 0 (λ n. (n + 1) % 2 ^ 64)
+      → Reaches stands_for steps_to me.0.start (me.0.seen ++ e ∷ []) m
+      → Allows (Turned stands_for steps_to k) slots id me 0 (λ n. (n + 1) % 2 ^ 64)
       (gave_back said (step slots 0 1 0 none) me)
   adds k slots id me said e m one has carries says own reaches s r wide at _ =
       let x : ℕ = get_or s.words 0 0 in let is : x ≡ r.served = ap (λ ws. get_or ws 0 0) r.words_are in
@@ -220,11 +220,11 @@ module _ {M X S R : Type 0} (stands_for : M → X → Type 0) (moves : X → S �
       let within = knows.1 in
       let next : (x + 1) % 2 ^ 64 ≡ suc r.served =
       mod-eq_of_lt (omega (arith, is, within, r.small)) ∙ omega (arith, is) in (
-        after stands_for moves v e,
+        after stands_for steps_to v e,
         gives,
         tt,
-        ended stands_for moves k s r id v e m _ _ at has (own ∙ knows.0.0)
+        ended stands_for steps_to k s r id v e m _ _ at has (own ∙ knows.0.0)
             (λ i. set (r.words_are i) 0 (next i))
             (ap (put_back s.homes) carries ∙ one_slot s.homes (some (Some m)) (wide ∙ one)) reaches,
-        λ d is_d. ap (λ f. (after stands_for moves v f, rest me.1)) (same_Some e d (sym says ∙ is_d)),
+        λ d is_d. ap (λ f. (after stands_for steps_to v f, rest me.1)) (same_Some e d (sym says ∙ is_d)),
       )

@@ -66,27 +66,27 @@ module _ {S R : Type 0} where
   pub starts_whole : (log seen : List (Entry S R)) → StartsWith log seen → length log ≤ length seen → seen ≡ log
   starts_whole log seen begins small = grind (arith, nil_at_end, append-nil)
 
-  module _ {X : Type 0} (moves : X → S → R → X → Type 0) where
-    leads-snoc : (log : List (Entry S R)) (e : Entry S R) (x y z : X) → Leads moves x log y → moves y e.step e.reply z
-        → Leads moves x (log ++ e ∷ []) z
-    leads-snoc log e x y z led did = one_on (λ w (d : Entry S R) v. moves w d.step d.reply v) x log y z e led did
+  module _ {X : Type 0} (steps_to : X → S → R → X → Type 0) where
+    leads-snoc : (log : List (Entry S R)) (e : Entry S R) (x y z : X) → Leads steps_to x log y
+        → steps_to y e.step e.reply z → Leads steps_to x (log ++ e ∷ []) z
+    leads-snoc log e x y z led did = one_on (λ w (d : Entry S R) v. steps_to w d.step d.reply v) x log y z e led did
 
     -- entries that stand in two parts lead through a state between them
-    pub leads_cut : (front back : List (Entry S R)) (x y : X) → Leads moves x (front ++ back) y
-        → (mid : X) × Leads moves x front mid × Leads moves mid back y
-    leads_cut front back x y led = cut_at (λ w (d : Entry S R) v. moves w d.step d.reply v) x front back y led
+    pub leads_cut : (front back : List (Entry S R)) (x y : X) → Leads steps_to x (front ++ back) y
+        → (mid : X) × Leads steps_to x front mid × Leads steps_to mid back y
+    leads_cut front back x y led = cut_at (λ w (d : Entry S R) v. steps_to w d.step d.reply v) x front back y led
 
-  module _ {M X : Type 0} (stands_for : M → X → Type 0) (moves : X → S → R → X → Type 0) where
-    pub reaches_legal : (start : Option M) (log : List (Entry S R)) (m : M) → Reaches stands_for moves start log m
-        → IsLegalLog stands_for moves start log
+  module _ {M X : Type 0} (stands_for : M → X → Type 0) (steps_to : X → S → R → X → Type 0) where
+    pub reaches_legal : (start : Option M) (log : List (Entry S R)) (m : M) → Reaches stands_for steps_to start log m
+        → IsLegalLog stands_for steps_to start log
     reaches_legal start log m reaches a x is stands = let y = reaches a x is stands in (y.0, y.1)
 
     -- one step more leads to the machine after it
     pub reaches-snoc : (start : Option M) (log : List (Entry S R)) (m n : M) (e : Entry S R)
-        → ((x : X) → stands_for m x → (y : X) × moves x e.step e.reply y × stands_for n y)
-        → Reaches stands_for moves start log m → Reaches stands_for moves start (log ++ e ∷ []) n
+        → ((x : X) → stands_for m x → (y : X) × steps_to x e.step e.reply y × stands_for n y)
+        → Reaches stands_for steps_to start log m → Reaches stands_for steps_to start (log ++ e ∷ []) n
     reaches-snoc start log m n e follows reaches a x is stands = grind (arith, leads-snoc)
 
     -- the first machine is reached by no call
-    pub reaches_start : (m : M) → Reaches stands_for moves (Some m) [] m
+    pub reaches_start : (m : M) → Reaches stands_for steps_to (Some m) [] m
     reaches_start m a x is stands = (x, refl, subst (λ (b : M). stands_for b x) (sym (same_Some m a is)) stands)

@@ -21,28 +21,28 @@ module _ {M : Type 0} where
   unfolding first_held
   one_held cs x m n carries has is = same_Some m n (ap first_held (sym carries ∙ has) ∙ is)
 
-module _ {M X S R : Type 0} (stands_for : M → X → Type 0) (moves : X → S → R → X → Type 0) where
+module _ {M X S R : Type 0} (stands_for : M → X → Type 0) (steps_to : X → S → R → X → Type 0) where
   -- the machine that was applied is in a state after its entry
   pub reached : (acts : M → S → R → M → Type 0)
       → ((m n : M) (s : S) (r : R) → acts m s r n → (x : X) → stands_for m x
-      → (y : X) × moves x s r y × stands_for n y)
+      → (y : X) × steps_to x s r y × stands_for n y)
       → (v : View M S R) (cs : List (ℕ × Option M)) (x : Option M) (m n : M) (asked s : S) (r : R)
-      → HoldsTurn stands_for moves (v, cs) → cs ≡ (0, x) ∷ rest cs → x ≡ Some m → asked ≡ s → acts m s r n
+      → HoldsTurn stands_for steps_to (v, cs) → cs ≡ (0, x) ∷ rest cs → x ≡ Some m → asked ≡ s → acts m s r n
       → (k : M)
       × HoldsMachine (v, (0, Some n) ∷ rest cs) k
-      × Reaches stands_for moves v.start (v.seen ++ entry v.number asked r ∷ []) k
+      × Reaches stands_for steps_to v.start (v.seen ++ entry v.number asked r ∷ []) k
   reached acts follows v cs x m n asked s r turn has is says did =
       let held = turn.1 in let carries = held.1.1 in
-      let before : Reaches stands_for moves v.start v.seen m =
-      subst (λ k. Reaches stands_for moves v.start v.seen k) (one_held cs x held.0 m carries has is) held.2 in
+      let before : Reaches stands_for steps_to v.start v.seen m =
+      subst (λ k. Reaches stands_for steps_to v.start v.seen k) (one_held cs x held.0 m carries has is) held.2 in
       let did' : acts m asked r n = subst (λ z. acts m z r n) (sym says) did in (
         n,
         (held.1.0, ap (λ l. (0, Some n) ∷ rest l) carries),
-        reaches-snoc stands_for moves v.start v.seen m n (entry v.number asked r) (follows m n asked r did') before,
+        reaches-snoc stands_for steps_to v.start v.seen m n (entry v.number asked r) (follows m n asked r did') before,
       )
 
   -- after its turn the seat has a legal history, with its own calls
   pub ran : (v w : View M S R) (e : Entry S R) (m : M) → e.by ≡ v.number → calls_by v.number v.seen ≡ v.mine
-      → Reaches stands_for moves v.start (v.seen ++ e ∷ []) m → Extends v e w → w.seen ≡ v.seen ++ e ∷ []
-      → IsHistory stands_for moves w
+      → Reaches stands_for steps_to v.start (v.seen ++ e ∷ []) m → Extends v e w → w.seen ≡ v.seen ++ e ∷ []
+      → IsHistory stands_for steps_to w
   ran v w e m own mine reaches extends seen = grind (arith, calls_by-own)

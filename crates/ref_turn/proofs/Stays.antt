@@ -104,18 +104,18 @@ module _ {M S R : Type 0} (log : List (Entry S R)) (served tickets : ℕ) (views
 
 module _ {M S R : Type 0} (views : List (View M S R)) (id : ℕ) (v w : View M S R)
     (at : get_elem? views id ≡ some v) where
-  abbrev moved : List (View M S R)
-  moved = set views id w
+  abbrev outcome : List (View M S R)
+  outcome = set views id w
 
   pub spent_other : v.stage ≢ Spent → (k : ℕ) → IsSpent views k → k ≢ id
   spent_other unspent k spent is =
       unspent (ap (λ u. u.stage) (some-injective _ _ (sym at ∙ ap (get_elem? views) (sym is) ∙ spent.1)) ∙ spent.2)
 
-  pub spent_stays : v.stage ≢ Spent → (k : ℕ) → IsSpent views k → IsSpent moved k
+  pub spent_stays : v.stage ≢ Spent → (k : ℕ) → IsSpent views k → IsSpent outcome k
   spent_stays unspent k spent =
       (spent.0, set_else views id k w (spent_other unspent k spent) ∙ spent.1, spent.2)
 
-  pub none_open : (IsOpen v.stage → IsOpen w.stage) → NoneOpen moved → NoneOpen views
+  pub none_open : (IsOpen v.stage → IsOpen w.stage) → NoneOpen outcome → NoneOpen views
   none_open same none j u at' has =
       dite (ℕ_discrete j id)
       (λ is. none id w (set_here views id w (at_below views id v at))
@@ -123,7 +123,7 @@ module _ {M S R : Type 0} (views : List (View M S R)) (id : ℕ) (v w : View M S
       (some-injective _ _ (sym at' ∙ ap (get_elem? views) is ∙ at)) has)))
       (λ other. none j u (set_else views id j w other ∙ at') has)
 
-module _ {M X S R : Type 0} (stands_for : M → X → Type 0) (moves : X → S → R → X → Type 0) where
+module _ {M X S R : Type 0} (stands_for : M → X → Type 0) (steps_to : X → S → R → X → Type 0) where
   abbrev V : Type 0
   V = View M S R
 
@@ -131,17 +131,18 @@ module _ {M X S R : Type 0} (stands_for : M → X → Type 0) (moves : X → S �
   St = State (Option M) V
 
   -- no turn is open where as many have ended as tickets were drawn
-  pub none_within : (k : Origin M) (s : St) (r : Turned stands_for moves k s) → r.served ≡ r.tickets → NoneOpen s.views
+  pub none_within : (k : Origin M) (s : St) (r : Turned stands_for steps_to k s) → r.served ≡ r.tickets
+      → NoneOpen s.views
   none_within k s r even j u at has = grind arith
 
   -- a seat moves and adds nothing to the history
-  unfoldable pub settled : (k : Origin M) (s : St) (r : Turned stands_for moves k s) (id : ℕ) (v w : V) (ws : List ℕ)
+  unfoldable pub settled : (k : Origin M) (s : St) (r : Turned stands_for steps_to k s) (id : ℕ) (v w : V) (ws : List ℕ)
       (hs : List (maybe.Option (Option M))) (tickets : ℕ) → get_elem? s.views id ≡ some v → v.stage ≢ Spent
       → ws ≡ r.served ∷ tickets ∷ [] → r.tickets ≤ tickets → tickets < 2 ^ 64
       → SeatOk k r.log r.served tickets (set s.views id w) id w
       → (IsOpen w.stage → IsOpen v.stage ⊎ (r.served ≡ r.tickets))
-      → (NoneOpen (set s.views id w) → IsHome stands_for moves k r.log hs)
-      → Turned stands_for moves k record { words = ws; homes = hs; views = set s.views id w }
+      → (NoneOpen (set s.views id w) → IsHome stands_for steps_to k r.log hs)
+      → Turned stands_for steps_to k record { words = ws; homes = hs; views = set s.views id w }
   settled k s r id v w ws hs tickets at unspent words more small ok opens home =
       let views : List V = set s.views id w in record {
         log = r.log;
@@ -188,11 +189,11 @@ module _ {M X S R : Type 0} (stands_for : M → X → Type 0) (moves : X → S �
   after v e = record v { stage = Idle; seen = v.seen ++ e ∷ []; mine = v.mine ++ e ∷ [] }
 
   -- the seat that holds the turn ends it
-  pub ended : (k : Origin M) (s : St) (r : Turned stands_for moves k s) (id : ℕ) (v : V) (e : Entry S R) (m : M)
+  pub ended : (k : Origin M) (s : St) (r : Turned stands_for steps_to k s) (id : ℕ) (v : V) (e : Entry S R) (m : M)
       (ws : List ℕ) (hs : List (maybe.Option (Option M))) → get_elem? s.views id ≡ some v → v.stage ≡ Open
       → e.by ≡ id → ws ≡ suc r.served ∷ r.tickets ∷ [] → hs ≡ some (Some m) ∷ []
-      → Reaches stands_for moves v.start (v.seen ++ e ∷ []) m
-      → Turned stands_for moves k record { words = ws; homes = hs; views = set s.views id (after v e) }
+      → Reaches stands_for steps_to v.start (v.seen ++ e ∷ []) m
+      → Turned stands_for steps_to k record { words = ws; homes = hs; views = set s.views id (after v e) }
   ended k s r id v e m ws hs at has own words homes reaches =
       let w : V = after v e in let views : List V = set s.views id w in
       let is_open : IsOpen v.stage = subst IsOpen (sym has) tt in
@@ -200,9 +201,9 @@ module _ {M X S R : Type 0} (stands_for : M → X → Type 0) (moves : X → S �
       let knows = subst (Knows r.log r.served r.tickets s.views id v) has was.knows in
       let longer : List (Entry S R) = r.log ++ e ∷ [] in
       let shown : v.seen ++ e ∷ [] ≡ longer = ap (λ l. l ++ e ∷ []) knows.2 in
-      let reached : Reaches stands_for moves k.start.value longer m =
-      subst (λ l. Reaches stands_for moves k.start.value l m) shown
-      (subst (λ a. Reaches stands_for moves a (v.seen ++ e ∷ []) m) (was.start unspent) reaches) in record {
+      let reached : Reaches stands_for steps_to k.start.value longer m =
+      subst (λ l. Reaches stands_for steps_to k.start.value l m) shown
+      (subst (λ a. Reaches stands_for steps_to a (v.seen ++ e ∷ []) m) (was.start unspent) reaches) in record {
         log = longer;
         served = suc r.served;
         tickets = r.tickets;
@@ -210,7 +211,7 @@ module _ {M X S R : Type 0} (stands_for : M → X → Type 0) (moves : X → S �
         counted = omega (arith, r.counted, length-append r.log (e ∷ []));
         behind = let within = knows.1 in omega arith;
         small = r.small;
-        legal = reaches_legal stands_for moves k.start.value longer m reached;
+        legal = reaches_legal stands_for steps_to k.start.value longer m reached;
         home = λ _. (m, homes, reached);
         each_seat = λ j u at'. ⊎_elim
             (λ t. subst (λ (z : ℕ × V). SeatOk k longer (suc r.served) r.tickets views z.0 z.1)

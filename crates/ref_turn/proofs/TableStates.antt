@@ -10,10 +10,10 @@ use Rattle.ref_turn.specs.declared.history.Stage.TheVariants.{Open}
 use Rattle.ref_turn.specs.declared.history.View.{View}
 use Rattle.ref_turn.specs.Rule.{first_view, SeatOk, Turned}
 
-module _ {M X S R : Type 0} (stands_for : M → X → Type 0) (moves : X → S → R → X → Type 0) (k : Origin M) where
+module _ {M X S R : Type 0} (stands_for : M → X → Type 0) (steps_to : X → S → R → X → Type 0) (k : Origin M) where
   -- two turns have ended, where one ticket was drawn
   pub no_turn_ends_twice : (s : State (Option M) (View M S R)) → s.words ≡ 2 ∷ 1 ∷ []
-      → ¬ (Turned stands_for moves k s)
+      → ¬ (Turned stands_for steps_to k s)
   no_turn_ends_twice s words rule = grind arith
 
   -- the first seat holds the turn
@@ -22,7 +22,7 @@ module _ {M X S R : Type 0} (stands_for : M → X → Type 0) (moves : X → S �
 
   -- a second seat holds the turn as well
   pub no_two_hold_the_turn : (s : State (Option M) (View M S R)) → s.views ≡ holder ∷ holder ∷ []
-      → ¬ (Turned stands_for moves k s)
+      → ¬ (Turned stands_for steps_to k s)
   no_two_hold_the_turn s views rule =
       let there : (j : ℕ) → get_elem? s.views j ≡ get_elem? (holder ∷ holder ∷ []) j =
       λ j. ap (λ (l : List (View M S R)). get_elem? l j) views in
@@ -37,7 +37,7 @@ module _ {M X S R : Type 0} (stands_for : M → X → Type 0) (moves : X → S �
   abbrev pub away : State (Option M) (View M S R)
   away = record { words = k.first ∷ (k.first + 1) ∷ []; homes = none ∷ []; views = holder ∷ [] }
 
-  pub an_open_turn_has_the_machine_away : k.first + 1 < 2 ^ 64 → (Turned stands_for moves k away)
+  pub an_open_turn_has_the_machine_away : k.first + 1 < 2 ^ 64 → (Turned stands_for steps_to k away)
   an_open_turn_has_the_machine_away small = record {
     log = [];
     served = k.first;

@@ -13,17 +13,17 @@ module _ {S R : Type 0} where
   abbrev pub StartsWith : List (Entry S R) → List (Entry S R) → Type 0
   StartsWith log seen = (more : List (Entry S R)) × (log ≡ seen ++ more)
 
-  module _ {X : Type 0} (moves : X → S → R → X → Type 0) where
+  module _ {X : Type 0} (steps_to : X → S → R → X → Type 0) where
     -- the entries lead from one state to another, step by step
     abbrev pub Leads : X → List (Entry S R) → X → Type 0
-    Leads = LeadsThrough (λ x (e : Entry S R) y. moves x e.step e.reply y)
+    Leads = LeadsThrough (λ x (e : Entry S R) y. steps_to x e.step e.reply y)
 
-  module _ {M X : Type 0} (stands_for : M → X → Type 0) (moves : X → S → R → X → Type 0) where
+  module _ {M X : Type 0} (stands_for : M → X → Type 0) (steps_to : X → S → R → X → Type 0) where
     -- from each state that the first machine stands for the entries lead to one that m stands for
     abbrev pub Reaches : Option M → List (Entry S R) → M → Type 0
     Reaches start log m =
-        (a : M) (x : X) → start ≡ Some a → stands_for a x → (y : X) × Leads moves x log y × stands_for m y
+        (a : M) (x : X) → start ≡ Some a → stands_for a x → (y : X) × Leads steps_to x log y × stands_for m y
 
     -- from each state that the first machine stands for the entries lead somewhere
     abbrev pub IsLegalLog : Option M → List (Entry S R) → Type 0
-    IsLegalLog start log = (a : M) (x : X) → start ≡ Some a → stands_for a x → (y : X) × Leads moves x log y
+    IsLegalLog start log = (a : M) (x : X) → start ≡ Some a → stands_for a x → (y : X) × Leads steps_to x log y

@@ -64,10 +64,10 @@ module _ {M S R : Type 0} where
     looks = 0;
   }
 
-module _ {M X S R : Type 0} (stands_for : M → X → Type 0) (moves : X → S → R → X → Type 0) where
+module _ {M X S R : Type 0} (stands_for : M → X → Type 0) (steps_to : X → S → R → X → Type 0) where
   -- the machine is in its slot, in a state after the history
   abbrev pub IsHome : Origin M → List (Entry S R) → List (maybe.Option (Option M)) → Type 0
-  IsHome k log homes = (m : M) × (homes ≡ some (Some m) ∷ []) × Reaches stands_for moves k.start.value log m
+  IsHome k log homes = (m : M) × (homes ≡ some (Some m) ∷ []) × Reaches stands_for steps_to k.start.value log m
 
   -- the rule
   pub record Turned (k : Origin M) (s : State (Option M) (View M S R)) : Type 0 where
@@ -78,7 +78,7 @@ module _ {M X S R : Type 0} (stands_for : M → X → Type 0) (moves : X → S �
     pub counted : served ≡ k.first + length log
     pub behind : served ≤ tickets
     pub small : tickets < 2 ^ 64
-    pub legal : IsLegalLog stands_for moves k.start.value log
+    pub legal : IsLegalLog stands_for steps_to k.start.value log
     pub home : NoneOpen s.views → IsHome k log s.homes
     pub each_seat : (j : ℕ) (v : View M S R) → get_elem? s.views j ≡ some v
         → SeatOk k log served tickets s.views j v

@@ -59,13 +59,13 @@ module _ {M S R : Type 0} where
     looks = 0;
   }
 
-module _ {M X S R : Type 0} (stands_for : M → X → Type 0) (moves : X → S → R → X → Type 0) where
+module _ {M X S R : Type 0} (stands_for : M → X → Type 0) (steps_to : X → S → R → X → Type 0) where
   -- r turns have ended: the seat has seen the whole history
   abbrev pub saw : Step (Option M) → Known M S R → ℕ → Known M S R → Type 0
   saw s m r n =
       (r ≡ m.0.first + length n.0.seen)
       × StartsWith n.0.seen m.0.seen
-      × IsLegalLog stands_for moves m.0.start n.0.seen
+      × IsLegalLog stands_for steps_to m.0.start n.0.seen
       × (calls_by m.0.number n.0.seen ≡ m.0.mine)
       × Shows m.0.number n.0.seen m.0.stage
       × (n ≡ (record m.0 { stage = Idle; seen = n.0.seen; looks = m.0.looks + 1 }, m.1))
@@ -75,6 +75,6 @@ module _ {M X S R : Type 0} (stands_for : M → X → Type 0) (moves : X → S �
   grabbed s m r n =
       (r ≡ s.first
       → (x : M)
-      × Reaches stands_for moves m.0.start m.0.seen x
+      × Reaches stands_for steps_to m.0.start m.0.seen x
       × (n ≡ (record m.0 { stage = Open; drawn = r + 1 }, (0, Some x) ∷ m.1)))
       × (r ≢ s.first → (s.first < r) × (n ≡ (record m.0 { stage = Idle; drawn = r }, m.1)))

@@ -33,9 +33,9 @@ module _ {M S R : Type 0} where
   -- it holds the turn, has seen the whole history, and the machine is in a state after that
   abbrev pub HoldsTurn : {X : Type 0} → (M → X → Type 0) → (X → S → R → X → Type 0) → Me (Option M) (View M S R)
       → Type 0
-  HoldsTurn stands_for moves me =
-      IsHistory stands_for moves me.0
-      × ((m : M) × HoldsMachine me m × Reaches stands_for moves me.0.start me.0.seen m)
+  HoldsTurn stands_for steps_to me =
+      IsHistory stands_for steps_to me.0
+      × ((m : M) × HoldsMachine me m × Reaches stands_for steps_to me.0.start me.0.seen m)
 
 module _ {M S R F A : Type 0} where
   -- the seat is of this turn

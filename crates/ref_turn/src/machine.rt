@@ -24,7 +24,7 @@ pub trait Machine {
     ghost first_state: { Self.Frame → State };
 
     /// Whether a step may lead from one state to another, with this reply.
-    ghost moves: { State → Self.Step → Self.Reply → State → Type 0 };
+    ghost steps_to: { State → Self.Step → Self.Reply → State → Type 0 };
 
     /// What `apply` does, of the values themselves: before, step, reply, after.
     ghost acts: { Self → Self.Step → Self.Reply → Self → Type 0 };
@@ -35,5 +35,5 @@ pub trait Machine {
 
     /// Whatever state the value stood for, the relation leads from it to one that the value stands for afterwards.
     ghost follows: { (m n : Self) (s : Self.Step) (r : Self.Reply) → acts m s r n
-        → (x : State) → stands_for m x → (y : State) × moves x s r y × stands_for n y };
+        → (x : State) → stands_for m x → (y : State) × steps_to x s r y × stands_for n y };
 }

@@ -31,7 +31,7 @@ pub struct Law<M> {
 impl<M: Machine> TableRule<Option<M>, View<M, M::Step, M::Reply>, Origin<M>> for Law<M> {
     ghost use Rattle.ref_turn.specs.Rule.{Turned, first_view};
 
-    ghost holds = { Turned M.stands_for M.moves };
+    ghost holds = { Turned M.stands_for M.steps_to };
 
     ghost first = { first_view };
 }

@@ -1,12 +1,16 @@
 -- Rows of the steps that fill or empty a hand by way of the heap.
 use Rattle.std.proofs.Common.{arith}
-use Rattle.std.proofs.Common.{◌≡◌, ℕ, true, ◌==◌, ◌&&◌, Some, None, refl, sym, ap, subst, ◌∙◌}
+use Rattle.std.proofs.Common.{◌≡◌, ℕ, true, ◌==◌, ◌&&◌, List, [], ◌∷◌, Some, None, refl, sym, ap, subst, ◌∙◌}
 use Rattle.ref_world.proofs.Common.{has, told_notice, Notice, hand_of, unless, empty_hand_refusal}
 use Rattle.ref_world.proofs.Common.{has_slot, drop_refusal, Actor, Mutator, Worker, NoSuchActor, Reply, unless_refused}
-use Rattle.ref_world.proofs.Common.{WorldHeap, answer_in, after_in, received, Core, Hands, hand_in, with_hand_in}
+use Rattle.ref_world.proofs.Common.{HeapDoes, WorldHeap, answer_in, received, Core, Hands, hand_in, with_rest_in}
 use Rattle.ref_world.proofs.Common.{has_hand, filling_refusal, emptying_refusal, IsReached, IsRowOf, heap_no_of}
 use Rattle.ref_world.proofs.Common.{model_heap}
+use Rattle.ref_base.specs.Collectors.{State}
 use Rattle.ref_base.specs.HeapSteps.{hold_of, spending}
+use Rattle.ref_base.specs.Refusals.{heap_refusal}
+use Rattle.ref_clear.proofs.HeapLaws.{stands_number}
+use Rattle.ref_world.specs.Standing.{Stands}
 use Rattle.ref_base.specs.declared.fault.Fault.TheVariants.{ForeignHold}
 use Rattle.ref_base.specs.declared.heap_step.HoldName.{HoldName}
 use Rattle.ref_base.specs.declared.heap_step.HeapStep.TheVariants as heap
@@ -23,27 +27,27 @@ use Rattle.ref_world.proofs.Refusals.{same_actor}
 
 -- ---- an empty hand
 
-pub free_from : (hands : Hands) (who : Actor) → filling_refusal hands who ≡ None → hand_in hands who ≡ None
+pub free_from : (hands : Hands) (who : Actor) → filling_refusal hands who ≡ None → hand_in hands who ≡ []
 free_from hands who accepted = grind arith
 
 -- the hand that an unhook's notice goes to
-pub unhook_row : (c : Core) (m s : ℕ) → hand_in c.hands (Mutator m) ≡ None
+pub unhook_row : (c : Core) (m s : ℕ) → hand_in c.hands (Mutator m) ≡ []
     → IsRowOf c (steps.Unhook m s) (answer_in c.heap (heap.Unhook m s))
     (asked_core c (heap.Unhook m s) (received c.hands (Mutator m) (told_notice (answer_in c.heap (heap.Unhook m s)))))
 unhook_row c m s free a stands =
     asked_row c a (steps.Unhook m s) (heap.Unhook m s) stands refl
     (free_unhook a m s (same_hand c a stands (Mutator m) ∙ free))
 
-pub hand_row : (c : Core) (k : ℕ) → hand_in c.hands (Worker k) ≡ None
+pub hand_row : (c : Core) (k : ℕ) → hand_in c.hands (Worker k) ≡ []
     → IsRowOf c (steps.Hand k) (answer_in c.heap (heap.Hand k))
     (asked_core c (heap.Hand k) (received c.hands (Worker k) (told_notice (answer_in c.heap (heap.Hand k)))))
 hand_row c k free a stands =
     asked_row c a (steps.Hand k) (heap.Hand k) stands refl
     (free_hand a k (same_hand c a stands (Worker k) ∙ free))
 
--- ---- a full hand: its notice is a hold that the heap counts, so an adopt and a release are accepted
+-- ---- a full hand: its first notice is a hold that the heap counts, so an adopt and a release are accepted
 
--- a hand that is emptied is there
+-- a hand that is taken from is there
 pub there_from : (hands : Hands) (who : Actor) → emptying_refusal hands who ≡ None → has_hand hands who ≡ true
 there_from hands who accepted =
     (unless_passes (has_hand hands who) NoSuchActor (empty_hand_refusal (hand_in hands who)) accepted).0
@@ -63,84 +67,100 @@ released_told number hold (Given notice) gives is = absurd gives
 released_told number hold (Held held) gives is = absurd gives
 released_told number hold (Back fault back) gives is = absurd cc
 
+-- the hold of what a notice reports: the world's heap has number 0
+abbrev own_hold : Notice → HoldName
+own_hold notice = record { heap_no = 0; object = notice.object }
+
 module _ (c : Core) (reached : IsReached c) where
+  own_is : (a : State) (notice : Notice) → Stands c a → hold_of a.world notice ≡ own_hold notice
+  own_is a notice stands =
+      ap (λ no. record { heap_no = no; object = notice.object }) (stands_number c.heap a stands.heap ∙ stands.number)
+
   zero_no : heap_no_of c.heap ≡ 0
   zero_no = reached.stands.number
 
-  counted : (who : Actor) (notice : Notice) → has_hand c.hands who ≡ true → hand_in c.hands who ≡ Some notice
+  counted : (who : Actor) (notice : Notice) (rest : List Notice) → has_hand c.hands who ≡ true
+      → hand_in c.hands who ≡ notice ∷ rest
       → ((0 == (heap_no_of c.heap)) && has (model_heap c.heap).holds notice.object) ≡ true
-  counted who notice there full = rw (zero_no, hand_is_counted c reached who notice there full) refl
+  counted who notice rest there full = rw (zero_no, hand_is_counted c reached who notice rest there full) refl
 
-  pub adopted_reply : (m d : ℕ) (notice : Notice) → drop_refusal (model_heap c.heap) m d ≡ None
-      → has_hand c.hands (Mutator m) ≡ true → hand_in c.hands (Mutator m) ≡ Some notice
-      → answer_in c.heap (heap.Adopt m d (hold_of notice)) ≡ replies.Object notice.object
-  adopted_reply m d notice slot there full =
+  pub adopted_reply : (m d : ℕ) (notice : Notice) (rest : List Notice) → drop_refusal (model_heap c.heap) m d ≡ None
+      → has_hand c.hands (Mutator m) ≡ true → hand_in c.hands (Mutator m) ≡ notice ∷ rest
+      → answer_in c.heap (heap.Adopt m d (own_hold notice)) ≡ replies.Object notice.object
+  adopted_reply m d notice rest slot there full =
       let within = unless_passes (has_slot (model_heap c.heap) m d) NoSuchActor None slot in
       ap (λ refused. unless_refused refused replies.Refused (replies.Object notice.object))
       (ap (λ test. unless test NoSuchActor
       (unless ((0 == (heap_no_of c.heap)) && has (model_heap c.heap).holds notice.object) ForeignHold None)) within.0
-      ∙ ap (λ test. unless test ForeignHold None) (counted (Mutator m) notice there full))
+      ∙ ap (λ test. unless test ForeignHold None) (counted (Mutator m) notice rest there full))
 
-  pub released_reply : (who : Actor) (notice : Notice)
-      → has_hand c.hands who ≡ true → hand_in c.hands who ≡ Some notice
-      → answer_in c.heap (heap.Release (hold_of notice)) ≡ replies.Done
-  released_reply who notice there full = search (counted who notice there full)
+  pub released_reply : (who : Actor) (notice : Notice) (rest : List Notice)
+      → has_hand c.hands who ≡ true → hand_in c.hands who ≡ notice ∷ rest
+      → answer_in c.heap (heap.Release (own_hold notice)) ≡ replies.Done
+  released_reply who notice rest there full = search (counted who notice rest there full)
 
-  adopt_row : (m d : ℕ) (notice : Notice) → drop_refusal (model_heap c.heap) m d ≡ None
-      → has_hand c.hands (Mutator m) ≡ true → hand_in c.hands (Mutator m) ≡ Some notice
+  adopt_row : (m d : ℕ) (notice : Notice) (rest : List Notice) → drop_refusal (model_heap c.heap) m d ≡ None
+      → has_hand c.hands (Mutator m) ≡ true → hand_in c.hands (Mutator m) ≡ notice ∷ rest
       → IsRowOf c (steps.Adopt m d) (replies.Object notice.object)
-      (asked_core c (heap.Adopt m d (hold_of notice)) (with_hand_in c.hands (Mutator m) None))
-  adopt_row m d notice slot there full a stands =
-      let asked = heap.Adopt m d (hold_of notice) in
-      let hand : hand_of a.world (Mutator m) ≡ Some notice = same_hand c a stands (Mutator m) ∙ full in
+      (asked_core c (heap.Adopt m d (own_hold notice)) (with_rest_in c.hands (Mutator m)))
+  adopt_row m d notice rest slot there full a stands =
+      let asked = heap.Adopt m d (own_hold notice) in
+      let hand : hand_of a.world (Mutator m) ≡ notice ∷ rest = same_hand c a stands (Mutator m) ∙ full in
       let held : has a.world.heap.holds notice.object ≡ true =
       ap (λ ns. has ns notice.object) (same_holds c a stands)
-      ∙ hand_is_counted c reached (Mutator m) notice there full in
+      ∙ hand_is_counted c reached (Mutator m) notice rest there full in
       subst (λ (r : Reply). row_to a (steps.Adopt m d) r (asked_core c asked (handed_in c.hands (steps.Adopt m d) r)))
-      (adopted_reply m d notice slot there full)
-      (asked_row c a (steps.Adopt m d) asked stands (ap (spending (λ hold. heap.Adopt m d hold)) hand)
-      (full_adopt a m d notice hand held))
+      (adopted_reply m d notice rest slot there full)
+      (asked_row c a (steps.Adopt m d) asked stands
+      (ap (spending a.world (λ hold. heap.Adopt m d hold)) hand
+      ∙ ap (λ hold. Some (heap.Adopt m d hold)) (own_is a notice stands))
+      (full_adopt a m d notice rest hand held
+      ∙ ap (λ hold. heap_refusal a (heap.Adopt m d hold)) (own_is a notice stands)))
 
-  release_row : (who : Actor) (notice : Notice) → has_hand c.hands who ≡ true → hand_in c.hands who ≡ Some notice
+  release_row : (who : Actor) (notice : Notice) (rest : List Notice) → has_hand c.hands who ≡ true
+      → hand_in c.hands who ≡ notice ∷ rest
       → IsRowOf c (steps.Release who) replies.Done
-      (asked_core c (heap.Release (hold_of notice)) (with_hand_in c.hands who None))
-  release_row who notice there full a stands =
-      let asked = heap.Release (hold_of notice) in
-      let hand : hand_of a.world who ≡ Some notice = same_hand c a stands who ∙ full in
+      (asked_core c (heap.Release (own_hold notice)) (with_rest_in c.hands who))
+  release_row who notice rest there full a stands =
+      let asked = heap.Release (own_hold notice) in
+      let hand : hand_of a.world who ≡ notice ∷ rest = same_hand c a stands who ∙ full in
       let held : has a.world.heap.holds notice.object ≡ true =
-      ap (λ ns. has ns notice.object) (same_holds c a stands) ∙ hand_is_counted c reached who notice there full in
+      ap (λ ns. has ns notice.object) (same_holds c a stands) ∙ hand_is_counted c reached who notice rest there full in
       subst (λ (r : Reply). row_to a (steps.Release who) r
       (asked_core c asked (handed_in c.hands (steps.Release who) r)))
-      (released_reply who notice there full)
-      (asked_row c a (steps.Release who) asked stands (ap (spending (λ hold. heap.Release hold)) hand)
-      (full_release a who notice (same_actor c a stands who ∙ sym (same_actors c reached who) ∙ there) hand held))
+      (released_reply who notice rest there full)
+      (asked_row c a (steps.Release who) asked stands
+      (ap (spending a.world (λ hold. heap.Release hold)) hand
+      ∙ ap (λ hold. Some (heap.Release hold)) (own_is a notice stands))
+      (full_release a who notice rest (same_actor c a stands who ∙ sym (same_actors c reached who) ∙ there) hand held
+      ∙ ap (λ hold. heap_refusal a (heap.Release hold)) (own_is a notice stands)))
 
   -- ---- as the calls tell it
 
-  pub adopt_reply : (m d : ℕ) (notice : Notice) (hold : HoldName) (reply : Reply)
-      → drop_refusal (model_heap c.heap) m d ≡ None
-      → emptying_refusal c.hands (Mutator m) ≡ None → hand_in c.hands (Mutator m) ≡ Some notice → hold ≡ hold_of notice
-      → reply ≡ answer_in c.heap (heap.Adopt m d hold) → reply ≡ replies.Object notice.object
-  adopt_reply m d notice hold reply slot accepted full is answers = grind (arith, adopted_reply)
+  pub adopt_reply : (m d : ℕ) (notice : Notice) (rest : List Notice) (hold : HoldName) (reply : Reply) {k : WorldHeap}
+      → drop_refusal (model_heap c.heap) m d ≡ None → emptying_refusal c.hands (Mutator m) ≡ None
+      → hand_in c.hands (Mutator m) ≡ notice ∷ rest → hold ≡ own_hold notice
+      → HeapDoes c.heap (heap.Adopt m d hold) reply k → reply ≡ replies.Object notice.object
+  adopt_reply m d notice rest hold reply slot accepted full is does = grind (arith, adopted_reply)
 
-  pub adopt_done : (m d : ℕ) (notice : Notice) (hold : HoldName) {reply : Reply} {k : WorldHeap} {hands : Hands}
-      → drop_refusal (model_heap c.heap) m d ≡ None
-      → emptying_refusal c.hands (Mutator m) ≡ None → hand_in c.hands (Mutator m) ≡ Some notice → hold ≡ hold_of notice
-      → reply ≡ answer_in c.heap (heap.Adopt m d hold) → k ≡ after_in c.heap (heap.Adopt m d hold)
-      → hands ≡ with_hand_in c.hands (Mutator m) None
+  pub adopt_done : (m d : ℕ) (notice : Notice) (rest : List Notice) (hold : HoldName) {reply told : Reply}
+      {k : WorldHeap} {hands : Hands}
+      → drop_refusal (model_heap c.heap) m d ≡ None → emptying_refusal c.hands (Mutator m) ≡ None
+      → hand_in c.hands (Mutator m) ≡ notice ∷ rest → hold ≡ own_hold notice
+      → reply ≡ told → HeapDoes c.heap (heap.Adopt m d hold) told k → hands ≡ with_rest_in c.hands (Mutator m)
       → IsRowOf c (steps.Adopt m d) reply (record { heap = k; hands = hands; queues = c.queues })
-  adopt_done m d notice hold {reply} {k} {hands} slot accepted full is answers leaves emptied =
+  adopt_done m d notice rest hold {reply} {told} {k} {hands} slot accepted full is tells does emptied =
       grind (arith, adopt_reply, adopt_row)
 
-  pub release_reply : (who : Actor) (notice : Notice) (hold : HoldName) (reply : Reply)
-      → emptying_refusal c.hands who ≡ None → hand_in c.hands who ≡ Some notice → hold ≡ hold_of notice
-      → reply ≡ answer_in c.heap (heap.Release hold) → reply ≡ replies.Done
-  release_reply who notice hold reply accepted full is answers = grind (arith, released_reply who notice)
+  pub release_reply : (who : Actor) (notice : Notice) (rest : List Notice) (hold : HoldName) (reply : Reply)
+      {k : WorldHeap} → emptying_refusal c.hands who ≡ None → hand_in c.hands who ≡ notice ∷ rest
+      → hold ≡ own_hold notice → HeapDoes c.heap (heap.Release hold) reply k → reply ≡ replies.Done
+  release_reply who notice rest hold reply accepted full is does = grind (arith, released_reply who notice rest)
 
-  pub release_done : (who : Actor) (notice : Notice) (hold : HoldName) {reply : Reply} {k : WorldHeap} {hands : Hands}
-      → emptying_refusal c.hands who ≡ None → hand_in c.hands who ≡ Some notice → hold ≡ hold_of notice
-      → reply ≡ answer_in c.heap (heap.Release hold) → k ≡ after_in c.heap (heap.Release hold)
-      → hands ≡ with_hand_in c.hands who None
+  pub release_done : (who : Actor) (notice : Notice) (rest : List Notice) (hold : HoldName) {reply told : Reply}
+      {k : WorldHeap} {hands : Hands}
+      → emptying_refusal c.hands who ≡ None → hand_in c.hands who ≡ notice ∷ rest → hold ≡ own_hold notice
+      → reply ≡ told → HeapDoes c.heap (heap.Release hold) told k → hands ≡ with_rest_in c.hands who
       → IsRowOf c (steps.Release who) reply (record { heap = k; hands = hands; queues = c.queues })
-  release_done who notice hold {reply} {k} {hands} accepted full is answers leaves emptied =
+  release_done who notice rest hold {reply} {told} {k} {hands} accepted full is tells does emptied =
       grind (arith, release_reply, release_row)

@@ -1,11 +1,11 @@
 -- The headline's clauses, of every legal trace.
 use Rattle.std.proofs.Common.{arith}
-use Rattle.std.proofs.Common.{◌≡◌, ℕ, List, ◌∷◌, ◌++◌, length, map, Option, Some, None, sym, ap, subst, ◌∙◌}
+use Rattle.std.proofs.Common.{◌≡◌, ℕ, List, [], ◌∷◌, ◌++◌, length, map, sym, ap, subst, ◌∙◌}
 use Rattle.ref_world.proofs.Common.{State, first_state, Lists, enqueued, Notice, object_of, Config, Row}
 use Rattle.ref_world.proofs.Common.{Core, Stands}
 use Rattle.ref_base.specs.CollectorRows.{IsRun}
 use Rattle.ref_base.specs.LegalTraces.{IsLegal}
-use Rattle.ref_base.specs.MarkEnds.{IsAfterMark, IsAfterMarkIn}
+use Rattle.ref_base.specs.MarkEnds.{IsAfterMark, AllAfterMarks}
 use Rattle.ref_base.specs.Provenance.{IsCause, IsProven}
 use Rattle.ref_base.specs.QueueRows.{put_into}
 use Rattle.ref_base.specs.Replay.{replayed}
@@ -50,10 +50,10 @@ module _ (config : Config) (rows : List Row) (last : Core) (b : State) (run : Is
 
 -- ---- the rows of a legal trace
 
--- the notice that a hand holds, or another where it holds none
-abbrev held : Notice → Option Notice → Notice
-held other None = other
-held other (Some notice) = notice
+-- the first notice in a hand, or another where it holds none
+abbrev held : Notice → List Notice → Notice
+held other [] = other
+held other (notice ∷ rest) = notice
 
 module _ (config : Config) (rows : List Row) (legal : IsLegal config rows) where
   pub in_clearing_order : InClearingOrder config rows
@@ -76,12 +76,12 @@ module _ (config : Config) (rows : List Row) (legal : IsLegal config rows) where
     position_told : position ≡ length (put_into notice.queue front)
     position_told =
         let told = added_position config front adds.behind adds.who position here in
-        told.2 ∙ ap (λ hand. length (put_into (held notice hand).queue front)) (sym told.1 ∙ adds.in_hand)
+        told.3 ∙ ap (λ hand. length (put_into (held notice hand).queue front)) (sym told.2 ∙ adds.in_hand)
 
     proven : IsProven front notice
     proven =
         let told = added_proven config front adds.behind adds.who position here in
-        subst (λ hand. IsProven front (held notice hand)) (sym told.1 ∙ adds.in_hand) told.2
+        subst (λ hand. IsProven front (held notice hand)) (sym told.2 ∙ adds.in_hand) told.3
 
     after_mark : IsAfterMark config front notice.object notice.cause
     after_mark =
@@ -89,8 +89,7 @@ module _ (config : Config) (rows : List Row) (legal : IsLegal config rows) where
         let hand =
         same_hand (replayed config front) before.0.world adds.who (legal_others config front before.0 before.1)
         ∙ adds.in_hand in
-        subst (λ h. IsAfterMarkIn config front h) hand
-        ((legal_marked config front before.0 before.1).hands adds.who)
+        (subst (AllAfterMarks config front) hand ((legal_marked config front before.0 before.1).hands adds.who)).0
 
   pub positions : Positions config rows
   positions front position notice adds = position_told front position notice adds

@@ -3,11 +3,12 @@ use Rattle.std.proofs.Common.{arith}
 use Rattle.std.proofs.Common.{◌≡◌, ℕ, ◌<◌, Bool, true, false, List, [], ◌∷◌, not, length, Option, Some, None}
 use Rattle.std.proofs.Common.{Result, Ok, Err, refl, sym, ap, subst, ◌∙◌, inl, inr}
 use Rattle.std.specs.Prelude.{slice_index_or, slice_set}
-use Rattle.std.proofs.lemmas.List.{set-set, set-get_or, get_or_read}
+use Rattle.std.proofs.lemmas.List.{set-set, set-get_or, get_or_read, get_or-set_same}
 use Rattle.ref_world.proofs.Common.{Lists, enqueued, with_parcel, with_taken, new_queue, Notice, object_of}
 use Rattle.ref_world.proofs.Common.{State, with_world}
 use Rattle.ref_world.proofs.Common.{IsRow, Actor, Mutator, Worker, Fault, Reply, Step, WorldHeap}
 use Rattle.ref_world.proofs.Common.{HeapStands, Core, Hands, hand_in, with_hand_in, emptying_refusal, calling_refusal}
+use Rattle.ref_world.proofs.Common.{taken_back}
 use Rattle.ref_world.proofs.Common.{Stands, IsReached, IsRowOf}
 use Rattle.ref_base.specs.QueueLists.{was_put}
 use Rattle.ref_base.specs.Worlds.{queue_at}
@@ -16,9 +17,10 @@ use Rattle.ref_base.specs.CollectorRows.{ticked, PutsInto, Polls, Closes}
 use Rattle.ref_base.specs.declared.fault.Fault.TheVariants.{NoMemory, WrongQueue}
 use Rattle.ref_base.specs.declared.reply.Reply.TheVariants as replies
 use Rattle.ref_base.specs.declared.step.Step.TheVariants as steps
+use Rattle.ref_base.proofs.Places.{place_there}
 use Rattle.ref_base.proofs.RowForms.{ticked_world}
 use Rattle.ref_mark.proofs.OtherHands.{with_others}
-use Rattle.ref_mark.proofs.ReferenceRows.{unmoved_stands}
+use Rattle.ref_mark.proofs.ReferenceRows.{unmutated_stands}
 use Rattle.ref_queue.specs.QueueAnswers.{RefusesPut, AnswersPut, after_put, AnswersPoll}
 use Rattle.ref_queue.specs.declared.queue.Put.{Put}
 use Rattle.ref_queue.specs.declared.queue.Put.TheVariants.{Added, Already, Closed as Shut}
@@ -34,10 +36,10 @@ use Rattle.ref_world.proofs.ReachedCores.{same_actors}
 -- ---- hands and queues
 
 -- what was taken out of a hand and put back
-pub put_back : (hands : Hands) (who : Actor) (notice : Notice) → hand_in hands who ≡ Some notice
-    → with_hand_in (with_hand_in hands who None) who (Some notice) ≡ hands
-put_back hands (Mutator m) notice full = grind (arith, set-set, set-get_or)
-put_back hands (Worker k) notice full = grind (arith, set-set, set-get_or)
+pub put_back : (hands : Hands) (who : Actor) (notice : Notice) (rest : List Notice) → hand_in hands who ≡ notice ∷ rest
+    → taken_back (with_hand_in hands who rest) who (Some notice) ≡ hands
+put_back hands (Mutator m) notice rest full = grind (arith, set-set, set-get_or, place_there, get_or-set_same)
+put_back hands (Worker k) notice rest full = grind (arith, set-set, set-get_or, place_there, get_or-set_same)
 
 -- a queue as it is read, and as the core has it
 pub read_here : (qs : List (Lists Notice)) (q : ℕ) (lists : Lists Notice) → q < length qs
@@ -61,11 +63,11 @@ closed_from false is = absurd cc
 -- ---- nothing that the heap is asked
 
 -- the heap stands for the state as it was, with other hands and queues, one moment later
-pub heap_stands_on : (k : WorldHeap) (a : State) (mutators workers : List (Option Notice))
+pub heap_stands_on : (k : WorldHeap) (a : State) (mutators workers : List (List Notice))
     (queues : List (Lists Notice))
     → HeapStands k a → HeapStands k (ticked (with_others a mutators workers queues))
 heap_stands_on k a mutators workers queues stands =
-    search (unmoved_stands, ticked_world, with_others a mutators workers queues)
+    search (unmutated_stands, ticked_world, with_others a mutators workers queues)
 
 abbrev pub core_with : Core → Hands → List (Lists Notice) → Core
 core_with c hands queues = record c { hands = hands; queues = queues }
@@ -110,18 +112,18 @@ queue_is c a q stands = ap (λ (qs : List (Lists Notice)). slice_index_or qs q (
 
 -- ---- puts
 
-module _ (c : Core) (reached : IsReached c) (who : Actor) (notice : Notice) (lists : Lists Notice)
-    (accepted : emptying_refusal c.hands who ≡ None) (full : hand_in c.hands who ≡ Some notice)
-    (here : lists ≡ queue_in c notice.queue) where
-  -- what a put of the hand's notice may answer, it answers
+module _ (c : Core) (reached : IsReached c) (who : Actor) (notice : Notice) (rest : List Notice)
+    (lists : Lists Notice) (accepted : emptying_refusal c.hands who ≡ None)
+    (full : hand_in c.hands who ≡ notice ∷ rest) (here : lists ≡ queue_in c notice.queue) where
+  -- what a put of the hand's first notice may answer, it answers
   put_answer : (a : State) (reply : Reply) (b : State) → Stands c a
-      → PutsInto (was_put object_of lists notice) lists.closed a who notice reply b
+      → PutsInto (was_put object_of lists notice) lists.closed a who notice rest reply b
       → IsRow a (record { step = steps.Put who; reply = reply }) b
   put_answer a reply b stands puts = grind (arith, same_actors)
 
-  put_in_is : (a : State) (actor : Actor) → with_world a (put_in a.world actor (Some notice))
-      ≡ with_others a (with_hand_in (hands_of a.world) actor None).mutators
-      (with_hand_in (hands_of a.world) actor None).workers
+  put_in_is : (a : State) (actor : Actor) → with_world a (put_in a.world actor (notice ∷ rest))
+      ≡ with_others a (with_hand_in (hands_of a.world) actor rest).mutators
+      (with_hand_in (hands_of a.world) actor rest).workers
       (slice_set a.world.queues notice.queue (with_parcel (queue_at a.world notice.queue) notice))
   put_in_is a (Mutator m) = refl
   put_in_is a (Worker k) = refl
@@ -129,11 +131,11 @@ module _ (c : Core) (reached : IsReached c) (who : Actor) (notice : Notice) (lis
   pub added_row : (position : ℕ) → was_put object_of lists notice ≡ false → lists.closed ≡ false
       → position ≡ length (enqueued object_of lists)
       → IsRowOf c (steps.Put who) (replies.Added position)
-      (core_with c (with_hand_in c.hands who None) (slice_set c.queues notice.queue (with_parcel lists notice)))
+      (core_with c (with_hand_in c.hands who rest) (slice_set c.queues notice.queue (with_parcel lists notice)))
   added_row position fresh open_yet is a stands =
-      let b : State = with_world a (put_in a.world who (Some notice)) in
+      let b : State = with_world a (put_in a.world who (notice ∷ rest)) in
       rw here
-      (others_row c a (steps.Put who) (replies.Added position) (λ hands. with_hand_in hands who None)
+      (others_row c a (steps.Put who) (replies.Added position) (λ hands. with_hand_in hands who rest)
       (λ qs. slice_set qs notice.queue (with_parcel (slice_index_or qs notice.queue (new_queue notice.queue)) notice)) b
       stands (put_in_is a who)
       (put_answer a (replies.Added position) (ticked b) stands
@@ -170,14 +172,14 @@ module _ (c : Core) (reached : IsReached c) (who : Actor) (notice : Notice) (lis
 
   -- a notice that comes back is in the hand again, and the queue as it was
   as_before : (back : Notice) → back ≡ notice
-      → c ≡ core_with c (with_hand_in (with_hand_in c.hands who None) who (Some back))
+      → c ≡ core_with c (taken_back (with_hand_in c.hands who rest) who (Some back))
       (slice_set c.queues notice.queue lists)
   as_before back same = grind (arith, put_back, queue_back)
 
   put_case : lists.queue ≡ notice.queue → (put : Result (Put Notice) (Fault × Notice))
       → AnswersPut object_of (λ n. n.queue) lists notice put
       → Does c (steps.Put who) (put_reply put)
-      (core_with c (received (with_hand_in c.hands who None) who (left_by_put put))
+      (core_with c (taken_back (with_hand_in c.hands who rest) who (left_by_put put))
       (slice_set c.queues notice.queue (after_put object_of (λ n. n.queue) lists notice put)))
   put_case own (Ok (Added position)) is = added_row position is.0.1 is.0.2 is.1
   put_case own (Ok (Already back)) is =
@@ -192,7 +194,7 @@ module _ (c : Core) (reached : IsReached c) (who : Actor) (notice : Notice) (lis
   pub put_does : (reply : Result Reply Fault) (left : Option Notice) (r : Lists Notice)
       → lists.queue ≡ notice.queue → PutsOne lists notice reply left r
       → Does c (steps.Put who) reply
-      (core_with c (received (with_hand_in c.hands who None) who left) (slice_set c.queues notice.queue r))
+      (core_with c (taken_back (with_hand_in c.hands who rest) who left) (slice_set c.queues notice.queue r))
   put_does reply left r own puts = rw (puts.reply_is, puts.left_is, puts.after) (put_case own puts.put puts.answers)
 
 -- a put leaves a queue its number
@@ -217,32 +219,32 @@ close_reply false = replies.Closed
 
 module _ (c : Core) (m q : ℕ) (lists : Lists Notice) (accepted : calling_refusal c m q ≡ None)
     (here : lists ≡ queue_in c q) where
-  poll_answer : (a : State) (reply : Reply) (b : State) → Stands c a → hand_in c.hands (Mutator m) ≡ None
+  poll_answer : (a : State) (reply : Reply) (b : State) → Stands c a → hand_in c.hands (Mutator m) ≡ []
       → Polls a m q lists.stands reply b → IsRow a (record { step = steps.Poll m q; reply = reply }) b
   poll_answer a reply b stands free polls = grind arith
 
   -- what a poll takes
   took_is : (a : State) (notice : Notice) (rest : List Notice) → Stands c a → lists.stands ≡ notice ∷ rest
       → with_world a (took a.world m q notice.object)
-      ≡ with_others a (with_hand_in (hands_of a.world) (Mutator m) (Some notice)).mutators a.world.worker_hands
+      ≡ with_others a (with_hand_in (hands_of a.world) (Mutator m) (notice ∷ [])).mutators a.world.worker_hands
       (slice_set a.world.queues q (with_taken object_of (queue_at a.world q) notice rest))
   took_is a notice rest stands first = grind arith
 
-  pub took_row : (notice : Notice) (rest : List Notice) → hand_in c.hands (Mutator m) ≡ None
+  pub took_row : (notice : Notice) (rest : List Notice) → hand_in c.hands (Mutator m) ≡ []
       → lists.stands ≡ notice ∷ rest
       → IsRowOf c (steps.Poll m q) (replies.Took notice.object)
-      (core_with c (with_hand_in c.hands (Mutator m) (Some notice))
+      (core_with c (with_hand_in c.hands (Mutator m) (notice ∷ []))
       (slice_set c.queues q (with_taken object_of lists notice rest)))
   took_row notice rest free first a stands =
       let b : State = with_world a (took a.world m q notice.object) in
       rw here
       (others_row c a (steps.Poll m q) (replies.Took notice.object)
-      (λ hands. with_hand_in hands (Mutator m) (Some notice))
+      (λ hands. with_hand_in hands (Mutator m) (notice ∷ []))
       (λ qs. slice_set qs q (with_taken object_of (slice_index_or qs q (new_queue q)) notice rest)) b stands
       (took_is a notice rest stands first)
       (poll_answer a (replies.Took notice.object) (ticked b) stands free (rw first (refl, refl))))
 
-  pub empty_row : hand_in c.hands (Mutator m) ≡ None → lists.stands ≡ [] → lists.closed ≡ false
+  pub empty_row : hand_in c.hands (Mutator m) ≡ [] → lists.stands ≡ [] → lists.closed ≡ false
       → IsRowOf c (steps.Poll m q) replies.Empty c
   empty_row free none open_yet a stands =
       let shut : (queue_at a.world q).closed ≡ false =
@@ -250,7 +252,7 @@ module _ (c : Core) (m q : ℕ) (lists : Lists Notice) (accepted : calling_refus
       still_row c a (steps.Poll m q) replies.Empty stands
       (poll_answer a replies.Empty (ticked a) stands free (rw (none, shut) (refl, refl)))
 
-  pub ended_row : hand_in c.hands (Mutator m) ≡ None → lists.stands ≡ [] → lists.closed ≡ true
+  pub ended_row : hand_in c.hands (Mutator m) ≡ [] → lists.stands ≡ [] → lists.closed ≡ true
       → IsRowOf c (steps.Poll m q) replies.Closed c
   ended_row free none closed a stands =
       let shut : (queue_at a.world q).closed ≡ true =
@@ -262,7 +264,7 @@ module _ (c : Core) (m q : ℕ) (lists : Lists Notice) (accepted : calling_refus
   as_it_was r same =
       sym (ap (λ (qs : List (Lists Notice)). core_with c c.hands qs) (queue_back c.queues q lists r here same))
 
-  poll_case : hand_in c.hands (Mutator m) ≡ None → (polled : Polled Notice) (r : Lists Notice)
+  poll_case : hand_in c.hands (Mutator m) ≡ [] → (polled : Polled Notice) (r : Lists Notice)
       → AnswersPoll object_of lists polled r
       → IsRowOf c (steps.Poll m q) (poll_reply polled)
       (core_with c (received c.hands (Mutator m) (taken_by_poll polled)) (slice_set c.queues q r))
@@ -273,7 +275,7 @@ module _ (c : Core) (m q : ℕ) (lists : Lists Notice) (accepted : calling_refus
       subst (λ (d : Core). IsRowOf c (steps.Poll m q) replies.Closed d) (as_it_was r is.2) (ended_row free is.0 is.1)
 
   -- a poll is a row, whatever the queue answers
-  pub poll_does : hand_in c.hands (Mutator m) ≡ None → (reply : Reply) (taken : Option Notice) (r : Lists Notice)
+  pub poll_does : hand_in c.hands (Mutator m) ≡ [] → (reply : Reply) (taken : Option Notice) (r : Lists Notice)
       → PollsOne lists reply taken r
       → IsRowOf c (steps.Poll m q) reply
       (core_with c (received c.hands (Mutator m) taken) (slice_set c.queues q r))

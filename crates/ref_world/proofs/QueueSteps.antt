@@ -1,9 +1,11 @@
 -- A step of a queue is a row, and what it leaves is sound.
 use Rattle.std.proofs.Common.{arith}
-use Rattle.std.proofs.Common.{◌≡◌, ℕ, ◌<◌, Bool, true, not, length, Result, Ok, Option, Some, None, refl, ◌∙◌}
+use Rattle.std.proofs.Common.{◌≡◌, ℕ, ◌<◌, Bool, true, not, List, ◌∷◌, length, Result, Ok, Option, None, refl}
+use Rattle.std.proofs.Common.{◌∙◌}
 use Rattle.std.specs.Prelude.{slice_index_or, slice_set}
 use Rattle.ref_world.proofs.Common.{Lists, Notice, Actor, Mutator, Fault, Reply, Core, calling_refusal}
-use Rattle.ref_world.proofs.Common.{emptying_refusal, filling_refusal, hand_in, received, with_hand_in, IsSound}
+use Rattle.ref_world.proofs.Common.{emptying_refusal, filling_refusal, hand_in, received, taken_back, with_hand_in}
+use Rattle.ref_world.proofs.Common.{with_rest_in, IsSound}
 use Rattle.ref_base.specs.declared.step.Step.{Step}
 use Rattle.ref_base.specs.declared.step.Step.TheVariants as steps
 use Rattle.ref_world.specs.Cores.{core_queue_at}
@@ -31,18 +33,19 @@ module _ (c : Core) (sound : IsSound c) where
       → (lists ≡ core_queue_at c q) × (lists.queue ≡ q)
   here q i lists within named read = grind (arith, read_here)
 
-  pub put_done : (who : Actor) (notice : Notice) (lists : Lists Notice) (i : ℕ) → i ≡ notice.queue
-      → emptying_refusal c.hands who ≡ None → hand_in c.hands who ≡ Some notice
+  pub put_done : (who : Actor) (notice : Notice) (rest : List Notice) (lists : Lists Notice) (i : ℕ)
+      → i ≡ notice.queue → emptying_refusal c.hands who ≡ None → hand_in c.hands who ≡ notice ∷ rest
       → lists ≡ slice_index_or c.queues i lists → (reply : Result Reply Fault) (left : Option Notice)
       (r : Lists Notice) → PutsOne lists notice reply left r
       → Done c (steps.Put who) reply
-      (core_with c (received (with_hand_in c.hands who None) who left) (slice_set c.queues notice.queue r))
-  put_done who notice lists i named accepted full read reply left r puts =
-      let at = here notice.queue i lists (hand_has_queue c sound.reached who notice full) named read in
-      done c (steps.Put who) reply notice.queue r
-      (core_with c (received (with_hand_in c.hands who None) who left) (slice_set c.queues notice.queue r)) sound refl
+      (core_with c (taken_back (with_rest_in c.hands who) who left) (slice_set c.queues notice.queue r))
+  put_done who notice rest lists i named accepted full read reply left r puts =
+      let at = here notice.queue i lists (hand_has_queue c sound.reached who notice rest full) named read in
+      rw full
+      (done c (steps.Put who) reply notice.queue r
+      (core_with c (taken_back (with_hand_in c.hands who rest) who left) (slice_set c.queues notice.queue r)) sound refl
       (put_number lists notice reply left r puts ∙ at.1)
-      (put_does c sound.reached who notice lists accepted full at.0 reply left r at.1 puts)
+      (put_does c sound.reached who notice rest lists accepted full at.0 reply left r at.1 puts))
 
   pub poll_done : (m q : ℕ) (lists : Lists Notice) (i : ℕ) → i ≡ q → calling_refusal c m q ≡ None
       → filling_refusal c.hands (Mutator m) ≡ None → lists ≡ slice_index_or c.queues i lists → (reply : Reply)

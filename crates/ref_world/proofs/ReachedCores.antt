@@ -1,5 +1,5 @@
 -- What holds of every world to which a legal trace leads.
-use Rattle.std.proofs.Common.{◌≡◌, ◌<◌, true, List, [], ◌∷◌, ◌++◌, length, Option, Some, None, ap, sym, subst, ◌∙◌}
+use Rattle.std.proofs.Common.{◌≡◌, ◌<◌, true, List, [], ◌∷◌, ◌++◌, length, ap, sym, subst, ◌∙◌}
 use Rattle.std.specs.Prelude.{slice_index_or}
 use Rattle.ref_world.proofs.Common.{has, Lists, Notice, hand_of, is_actor, State, first_state, Actor, Mutator, Worker}
 use Rattle.ref_world.proofs.Common.{Reply, Step, Core, has_hand, hand_in, Stands, IsRowOf, IsReached}
@@ -11,7 +11,7 @@ use Rattle.ref_base.proofs.CountedWorlds.{counted_hand}
 use Rattle.ref_base.proofs.LegalQueues.{run_sound}
 use Rattle.ref_base.proofs.RowLaws.{actor_has}
 use Rattle.ref_base.proofs.RunLaws.{run_more}
-use Rattle.ref_base.proofs.SoundWorlds.{IsSound, NoticeBelow, first_sound}
+use Rattle.ref_base.proofs.SoundWorlds.{IsSound, NoticesBelow, first_sound}
 
 -- the heap as the state has it has the core's configuration and holds
 pub same_config : (c : Core) (a : State) → Stands c a → a.world.heap.config ≡ (model_heap c.heap).config
@@ -21,8 +21,8 @@ pub same_holds : (c : Core) (a : State) → Stands c a → a.world.heap.holds �
 same_holds c a stands = ap (λ (h : Heap). h.holds) stands.heap.mark.heap
 
 pub same_hand : (c : Core) (a : State) → Stands c a → (who : Actor) → hand_of a.world who ≡ hand_in c.hands who
-same_hand c a stands (Mutator m) = ap (λ (hs : List (Option Notice)). slice_index_or hs m None) stands.mutator_hands
-same_hand c a stands (Worker k) = ap (λ (hs : List (Option Notice)). slice_index_or hs k None) stands.worker_hands
+same_hand c a stands (Mutator m) = ap (λ (hs : List (List Notice)). slice_index_or hs m []) stands.mutator_hands
+same_hand c a stands (Worker k) = ap (λ (hs : List (List Notice)). slice_index_or hs k []) stands.worker_hands
 
 -- one more row leads further
 pub reached_after : (old new : Core) (step : Step) (reply : Reply) → IsReached old → IsRowOf old step reply new
@@ -57,19 +57,19 @@ module _ (c : Core) (reached : IsReached c) where
   pub queue_count : length c.queues ≡ (model_heap c.heap).config.queues
   queue_count = search (sound, config)
 
-  -- a notice in a hand is a hold that the heap counts, and is for a queue that is there
-  pub hand_is_counted : (who : Actor) (notice : Notice) → has_hand c.hands who ≡ true
-      → hand_in c.hands who ≡ Some notice → has (model_heap c.heap).holds notice.object ≡ true
-  hand_is_counted who notice there full =
+  -- the first notice in a hand is a hold that the heap counts, and is for a queue that is there
+  pub hand_is_counted : (who : Actor) (notice : Notice) (rest : List Notice) → has_hand c.hands who ≡ true
+      → hand_in c.hands who ≡ notice ∷ rest → has (model_heap c.heap).holds notice.object ≡ true
+  hand_is_counted who notice rest there full =
       subst (λ ns. has ns notice.object ≡ true) (same_holds c reached.state reached.stands)
-      (counted_hand reached.state.world who notice
+      (counted_hand reached.state.world who notice rest
       (actor_has reached.state.world who sound (rw config (sym (same_actors who) ∙ there)))
       (same_hand c reached.state reached.stands who ∙ full) counted)
 
-  pub hand_has_queue : (who : Actor) (notice : Notice) → hand_in c.hands who ≡ Some notice
+  pub hand_has_queue : (who : Actor) (notice : Notice) (rest : List Notice) → hand_in c.hands who ≡ notice ∷ rest
       → notice.queue < length c.queues
-  hand_has_queue who notice full =
+  hand_has_queue who notice rest full =
       let below =
-      subst (NoticeBelow reached.state.world.heap.config.queues) (same_hand c reached.state reached.stands who ∙ full)
+      subst (NoticesBelow reached.state.world.heap.config.queues) (same_hand c reached.state reached.stands who ∙ full)
       (sound.hands_below who) in
-      subst (λ (qs : List (Lists Notice)). notice.queue < length qs) reached.stands.queues (rw sound.queues below)
+      subst (λ (qs : List (Lists Notice)). notice.queue < length qs) reached.stands.queues (rw sound.queues below.0)

@@ -1,7 +1,7 @@
 -- Where a step of the world is refused before its heap or a queue is asked.
 use Rattle.std.proofs.Common.{arith}
-use Rattle.std.proofs.Common.{◌≡◌, ℕ, ◌<◌, length, Bool, true, false, Option, Some, None, refl, sym, ap, subst}
-use Rattle.std.proofs.Common.{◌∙◌}
+use Rattle.std.proofs.Common.{◌≡◌, ℕ, ◌<◌, length, Bool, true, false, List, [], ◌∷◌, Option, Some, None, refl, sym, ap}
+use Rattle.std.proofs.Common.{subst, ◌∙◌}
 use Rattle.std.specs.Prelude.{nat_lt}
 use Rattle.ref_world.proofs.Common.{Notice, hand_of, unless, unless_full, empty_hand_refusal, has_slot, is_actor}
 use Rattle.ref_world.proofs.Common.{is_mutator, is_queue, drop_refusal, heap_refusal, refusal, State, Actor, Mutator}
@@ -16,9 +16,9 @@ use Rattle.ref_world.proofs.ReachedCores.{same_config, same_hand, same_actors, q
 
 -- ---- tests
 
-pub empty_from : (hand : Option Notice) → unless_full hand None ≡ None → hand ≡ None
-empty_from None is = refl
-empty_from (Some notice) is = absurd cc
+pub empty_from : (hand : List Notice) → unless_full hand None ≡ None → hand ≡ []
+empty_from [] is = refl
+empty_from (notice ∷ rest) is = absurd cc
 
 -- a mutator and a queue come before what is later
 called : (mutator queue : Bool) (told : Fault) (later : Option Fault)
@@ -94,7 +94,7 @@ module _ (c : Core) (reached : IsReached c) where
   full_at_unhook m s fault slot refused =
       refused_row c (steps.Unhook m s) fault (λ a stands.
       let there = with_slot m s slot a stands in
-      let later = heap_refusal 0 a (heap.Unhook m s) in
+      let later = heap_refusal a (heap.Unhook m s) in
       ap (λ test. unless test NoSuchActor (unless_full (hand_of a.world (Mutator m)) later)) there.0
       ∙ subst (λ test. unless test NoSuchActor (unless_full (hand_of a.world (Mutator m)) later) ≡ Some fault) there.1
       (filling (Mutator m) fault refused later a stands))
@@ -103,7 +103,7 @@ module _ (c : Core) (reached : IsReached c) where
       → IsRowOf c (steps.Hand k) (replies.Refused fault) c
   full_at_hand k fault refused =
       refused_row c (steps.Hand k) fault (λ a stands.
-      filling (Worker k) fault refused (heap_refusal 0 a (heap.Hand k)) a stands)
+      filling (Worker k) fault refused (heap_refusal a (heap.Hand k)) a stands)
 
   pub full_at_poll : (m q : ℕ) (fault : Fault) → calling_refusal c m q ≡ None
       → filling_refusal c.hands (Mutator m) ≡ Some fault → IsRowOf c (steps.Poll m q) (replies.Refused fault) c

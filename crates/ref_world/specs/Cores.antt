@@ -1,5 +1,7 @@
 -- The core, as plain data: the heap, everybody's hands and the queues (this project's profile).
-use Rattle.std.specs.Prelude.{ℕ, Bool, nat_lt, List, Option, None, length, replicate, slice_index_or, slice_set}
+use Rattle.std.specs.Prelude.{ℕ, Bool, ◌&&◌, nat_lt, List, [], ◌∷◌, Option, Some, None, length, replicate}
+use Rattle.std.specs.Prelude.{slice_index_or, slice_set}
+use Rattle.ref_base.specs.Members.{rest_of}
 use Rattle.ref_base.specs.QueueLists.{Lists, new_queue, new_queues}
 use Rattle.ref_base.specs.Worlds.{Notice}
 use Rattle.ref_base.specs.declared.actor.Actor.{Actor}
@@ -11,10 +13,10 @@ use Rattle.ref_base.specs.Refusals.{unless, unless_full, empty_hand_refusal, is_
 use Rattle.ref_clear.specs.ClearHeaps.{HeldNotice, first_clear_heap}
 use Rattle.ref_world.specs.WorldHeaps.{WorldHeap, model_heap}
 
--- the hands of mutators and of workers, each in the order of their numbers
+-- the notices in the hands of mutators and of workers, each in the order of their numbers
 pub record Hands : Type 0 where
-  pub mutators : List (Option Notice)
-  pub workers : List (Option Notice)
+  pub mutators : List (List Notice)
+  pub workers : List (List Notice)
 
 -- a heap, the hands, and the queues in the order of their numbers
 pub record Core : Type 0 where
@@ -29,7 +31,7 @@ as_notice held = record { object = held.hold.object; queue = held.queue; cause =
 -- ---- at first there is nothing anywhere
 
 abbrev pub first_hands : Config → Hands
-first_hands config = record { mutators = replicate config.mutators None; workers = replicate config.workers None }
+first_hands config = record { mutators = replicate config.mutators []; workers = replicate config.workers [] }
 
 -- the heap has number 0
 abbrev pub first_core : Config → Core
@@ -46,19 +48,32 @@ abbrev pub has_hand : Hands → Actor → Bool
 has_hand hands (Mutator m) = nat_lt m (length hands.mutators)
 has_hand hands (Worker k) = nat_lt k (length hands.workers)
 
-abbrev pub hand_in : Hands → Actor → Option Notice
-hand_in hands (Mutator m) = slice_index_or hands.mutators m None
-hand_in hands (Worker k) = slice_index_or hands.workers k None
+-- what one value or none is as a list
+abbrev pub one_or_none : {T : Type 0} → Option T → List T
+one_or_none None = []
+one_or_none (Some x) = x ∷ []
 
-abbrev pub with_hand_in : Hands → Actor → Option Notice → Hands
+abbrev pub hand_in : Hands → Actor → List Notice
+hand_in hands (Mutator m) = slice_index_or hands.mutators m []
+hand_in hands (Worker k) = slice_index_or hands.workers k []
+
+abbrev pub with_hand_in : Hands → Actor → List Notice → Hands
 with_hand_in hands (Mutator m) hand = record hands { mutators = slice_set hands.mutators m hand }
 with_hand_in hands (Worker k) hand = record hands { workers = slice_set hands.workers k hand }
+
+-- the hand without its first notice
+abbrev pub with_rest_in : Hands → Actor → Hands
+with_rest_in hands who = with_hand_in hands who (rest_of (hand_in hands who))
+
+-- whether there is such a hand, and it has room for one more notice
+abbrev pub has_room : Hands → Actor → Bool
+has_room hands who = has_hand hands who && nat_lt (length (hand_in hands who)) 1
 
 -- of a step that fills a hand: NoSuchActor, then HandFull
 abbrev pub filling_refusal : Hands → Actor → Option Fault
 filling_refusal hands who = unless (has_hand hands who) NoSuchActor (unless_full (hand_in hands who) None)
 
--- and of one that empties it: NoSuchActor, then HandEmpty
+-- and of one that takes its first notice: NoSuchActor, then HandEmpty
 abbrev pub emptying_refusal : Hands → Actor → Option Fault
 emptying_refusal hands who = unless (has_hand hands who) NoSuchActor (empty_hand_refusal (hand_in hands who))
 

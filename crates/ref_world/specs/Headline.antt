@@ -1,7 +1,7 @@
 -- The headline, clause by clause, of the rows of a trace and of the world that they give by replay (package
 -- `java.lang.ref` of Java SE 17: a reference is enqueued at most once, with its own queue, by its own call or once its
 -- referent is no longer reachable; order, cycles, kept paths and closed queues: this project's profile).
-use Rattle.std.specs.Prelude.{◌≡◌, ℕ, true, nat_eq, List, ◌∷◌, ◌++◌, length, map, Some}
+use Rattle.std.specs.Prelude.{◌≡◌, ℕ, true, nat_eq, List, ◌∷◌, ◌++◌, length, map}
 use Rattle.std.specs.List.{IsDistinct}
 use Rattle.ref_base.specs.ClearingOrder.{added_of}
 use Rattle.ref_base.specs.CollectorRows.{is_subsequence}
@@ -21,12 +21,13 @@ use Rattle.ref_base.specs.declared.row.Row.{Row}
 use Rattle.ref_base.specs.declared.step.Step.TheVariants as steps
 use Rattle.ref_world.specs.Cores.{Core, core_queue_at}
 
--- behind these front rows of a trace comes a put that adds the notice, which the actor's hand holds there
+-- behind these front rows of a trace comes a put that adds the notice, which is there the first in the actor's hand
 pub record Adds (config : Config) (rows front : List Row) (position : ℕ) (notice : Notice) : Type 0 where
   pub who : Actor
   pub behind : List Row
   pub is_here : front ++ record { step = steps.Put who; reply = replies.Added position } ∷ behind ≡ rows
-  pub in_hand : hand_of (replayed config front) who ≡ Some notice
+  pub rest : List Notice
+  pub in_hand : hand_of (replayed config front) who ≡ notice ∷ rest
 
 -- P holds of each notice that is added, and of the rows in front of the put
 abbrev pub OfAdded : Config → List Row → (List Row → ℕ → Notice → Type 0) → Type 0

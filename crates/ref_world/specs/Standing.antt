@@ -31,6 +31,11 @@ abbrev pub Does : Core → Step → Result Reply Fault → Core → Type 0
 Does old step (Ok reply) new = IsRowOf old step reply new
 Does old step (Err fault) new = IsRowOf old step (Refused fault) new
 
+-- what such a call answers
+abbrev pub answered : Result Reply Fault → Reply
+answered (Ok reply) = reply
+answered (Err fault) = Refused fault
+
 -- a legal trace leads to a state for which the world stands
 pub record IsReached (c : Core) : Type 0 where
   pub config : Config

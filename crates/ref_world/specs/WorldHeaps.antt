@@ -14,7 +14,7 @@ model_heap h = h.mark.heap
 
 -- its number
 abbrev pub heap_no_of : WorldHeap → ℕ
-heap_no_of h = h.mark.heap_no
+heap_no_of h = h.mark.heap.no
 
 -- and how far its cycle is
 abbrev pub cycles_of : WorldHeap → CycleHeap

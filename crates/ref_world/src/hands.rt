@@ -1,13 +1,16 @@
-//! Everybody's hands: each holds a notice of the world's heap, or nothing.
+//! Everybody's hands, which hold notices of the world's heap.
 
-ghost use Rattle.std.specs.Prelude.{◌≡◌, IfOk, OnOk, OnErr, Some, None, replicate, length, nat_lt, slice_index_or};
-ghost use Rattle.std.specs.Prelude.{slice_set};
+ghost use Rattle.std.specs.Prelude.{◌≡◌, true, ◌&&◌, IfOk, OnOk, OnErr, [], ◌∷◌, replicate, length, nat_lt};
+ghost use Rattle.std.specs.Prelude.{slice_index_or, slice_set};
+ghost use Rattle.ref_base.specs.Members.{rest_of};
 ghost use Rattle.ref_base.specs.Refusals.{unless, empty_hand_refusal};
 ghost use Rattle.ref_objects.specs.Grounds.{IsRefused};
-ghost use Rattle.ref_world.specs.AskedSteps.{received};
-ghost use Rattle.ref_world.specs.Cores.{first_hands, hand_in, with_hand_in, filling_refusal, emptying_refusal};
+ghost use Rattle.ref_world.specs.AskedSteps.{received, taken_back};
+ghost use Rattle.ref_world.specs.Cores.{first_hands, hand_in, with_hand_in, with_rest_in, has_room};
+ghost use Rattle.ref_world.specs.Cores.{filling_refusal, emptying_refusal};
 
 use crate::WorldNotice;
+use crate::hand::Hand;
 use ref_base::{Actor, Config, Fault};
 use std::alloc::{AllocError, Allocator};
 use std::marker::Model;
@@ -15,8 +18,8 @@ use std::marker::Model;
 // The hands of mutators and of workers, each in the order of their numbers. All memory is taken by `new`, and each call
 // takes constant time.
 pub(crate) struct Hands<A: Allocator> {
-    mutators: Vec<Option<WorldNotice>, A>,
-    workers: Vec<Option<WorldNotice>, A>,
+    mutators: Vec<Hand, A>,
+    workers: Vec<Hand, A>,
 }
 
 impl<A: Allocator> Model for Hands<A> {
@@ -52,16 +55,17 @@ impl<A: Allocator + Copy> Hands<A> {
         };
         match hand {
             None => Err(Fault::NoSuchActor),
-            Some(hand) if hand.is_some() => Err(Fault::HandFull),
-            Some(_) => Ok(()),
+            Some(hand) if hand.is_empty() => Ok(()),
+            Some(_) => Err(Fault::HandFull),
         }
     }
 
-    // Takes what it holds: NoSuchActor, HandEmpty.
+    // Takes the first notice that it holds: NoSuchActor, HandEmpty. There is then room for one more.
     pub(crate) fn take(&mut self, who: Actor) -> Result<WorldNotice, Fault>
         ensures refused { IsRefused (emptying_refusal self.old who) result }
-        ensures answer { IfOk result (λ notice. hand_in self.old who ≡ Some notice) }
-        ensures taken { OnOk result (self.new ≡ with_hand_in self.old who None) }
+        ensures answer { IfOk result (λ notice. hand_in self.old who ≡ notice ∷ rest_of (hand_in self.old who)) }
+        ensures taken { OnOk result (self.new ≡ with_rest_in self.old who) }
+        ensures room { OnOk result (has_room self.new who ≡ true) }
         ensures kept { OnErr result (self.new ≡ self.old) }
     {
         match who {
@@ -73,15 +77,11 @@ impl<A: Allocator + Copy> Hands<A> {
     // An empty hand then holds this.
     pub(crate) fn fill(&mut self, who: Actor, notice: WorldNotice)
         requires { filling_refusal self.old who ≡ None }
-        ensures { self.new ≡ with_hand_in self.old who (Some notice) }
+        ensures { self.new ≡ with_hand_in self.old who (notice ∷ []) }
     {
-        let before = match who {
-            Actor::Mutator(mutator) => self.mutators[mutator.0 as usize].replace(notice),
-            Actor::Worker(worker) => self.workers[worker.0 as usize].replace(notice),
-        };
-        match before {
-            None => {}
-            Some(_) => unreachable!(),
+        match who {
+            Actor::Mutator(mutator) => self.mutators[mutator.0 as usize].fill(notice),
+            Actor::Worker(worker) => self.workers[worker.0 as usize].fill(notice),
         }
     }
 
@@ -95,6 +95,20 @@ impl<A: Allocator + Copy> Hands<A> {
         }
     }
 
+    // Takes a notice back, if there is one, in front of the others.
+    pub(crate) fn take_back(&mut self, who: Actor, notice: Option<WorldNotice>)
+        requires { has_room self.old who ≡ true }
+        ensures { self.new ≡ taken_back self.old who notice }
+    {
+        let Some(notice) = notice else {
+            return;
+        };
+        match who {
+            Actor::Mutator(mutator) => self.mutators[mutator.0 as usize].put_back(notice),
+            Actor::Worker(worker) => self.workers[worker.0 as usize].put_back(notice),
+        }
+    }
+
     // Gives up what they hold.
     pub(crate) fn end(self) {
         let Hands { mutators, workers } = self;
@@ -104,42 +118,39 @@ impl<A: Allocator + Copy> Hands<A> {
 }
 
 // So many empty hands.
-fn empty_hands<A: Allocator>(
-    alloc: A,
-    count: usize,
-) -> Result<Vec<Option<WorldNotice>, A>, AllocError>
-    ensures { IfOk result (λ hands. hands.items ≡ replicate count None) }
+fn empty_hands<A: Allocator>(alloc: A, count: usize) -> Result<Vec<Hand, A>, AllocError>
+    ensures { IfOk result (λ hands. hands.items ≡ replicate count []) }
 {
     let mut hands = Vec::with_capacity(alloc, count)?;
     for _hand in 0..count {
-        hands.push_reserved(None);
+        hands.push_reserved(Hand::new());
     }
     Ok(hands)
 }
 
-// Takes what the hand at this place holds: NoSuchActor where there is none, HandEmpty.
-fn take_from(hands: &mut [Option<WorldNotice>], place: u32) -> Result<WorldNotice, Fault>
+// Takes the first notice that the hand at this place holds: NoSuchActor where there is none, HandEmpty.
+fn take_from(hands: &mut [Hand], place: u32) -> Result<WorldNotice, Fault>
     ensures refused { IsRefused (unless (nat_lt place (length hands.old)) Fault.NoSuchActor
-        (empty_hand_refusal (slice_index_or hands.old place None))) result }
-    ensures answer { IfOk result (λ notice. slice_index_or hands.old place None ≡ Some notice) }
-    ensures taken { OnOk result (hands.new ≡ slice_set hands.old place None) }
+        (empty_hand_refusal (slice_index_or hands.old place []))) result }
+    ensures answer { IfOk result (λ notice.
+        slice_index_or hands.old place [] ≡ notice ∷ rest_of (slice_index_or hands.old place [])) }
+    ensures taken { OnOk result (hands.new ≡ slice_set hands.old place (rest_of (slice_index_or hands.old place []))) }
+    ensures room { OnOk result
+        ((nat_lt place (length hands.new) && nat_lt (length (slice_index_or hands.new place [])) 1) ≡ true) }
     ensures kept { OnErr result (hands.new ≡ hands.old) }
 {
     let place = place as usize;
     if place >= hands.len() {
         return Err(Fault::NoSuchActor);
     }
-    hands[place].take().ok_or(Fault::HandEmpty)
+    hands[place].take_first().ok_or(Fault::HandEmpty)
 }
 
 // Gives up what these hands hold.
-fn end_all<A: Allocator>(hands: Vec<Option<WorldNotice>, A>) {
+fn end_all<A: Allocator>(hands: Vec<Hand, A>) {
     let mut hands = hands;
     while let Some(hand) = hands.pop() {
-        match hand {
-            Some(notice) => notice.into_hold().leak(),
-            None => {}
-        }
+        hand.end();
     }
     hands.destroy_empty();
 }

@@ -4,13 +4,14 @@ ghost use Rattle.std.specs.Prelude.{◌≡◌, true};
 ghost use Rattle.ref_base.specs.Collectors.{State};
 ghost use Rattle.ref_base.specs.CollectorRows.{IsHeapRow};
 ghost use Rattle.ref_mark.specs.MarkCalls.{reply_of, reply_or_back, hold_reply, done_reply};
-ghost use Rattle.ref_clear.specs.ClearCalls.{answer_in, after_in, notice_reply, IsOfHeap};
+ghost use Rattle.ref_clear.specs.ClearCalls.{HeapDoes, notice_reply, IsOfHeap};
 ghost use Rattle.ref_clear.specs.Standing.{HeapStands};
 ghost use Rattle.ref_world.specs.HeapReplies.{told_reply, GivesOut, IsGiven, IsHeld, IsBack, IsTold};
+ghost use Rattle.ref_world.specs.Standing.{answered};
 ghost use Rattle.ref_world.specs.WorldHeaps.{heap_no_of};
 
 use crate::replies::{began, done, doomed, looked, made, refers, scanned, swept, value};
-use ref_base::{Fault, HeapStep, ObjNo, Reply};
+use ref_base::{Fault, HeapStep, ObjNo, PlainStep, Reply};
 use ref_clear::{Heap, Notice};
 use ref_objects::Hold;
 use std::alloc::{Allocator, Global};
@@ -34,24 +35,23 @@ pub enum HeapReply {
 /// Does one step of a heap, and answers it. Refused, with the first fault that applies, it has changed nothing, and the
 /// hold of an adopt or a release comes back. Costs are those of the heap's calls. Takes no memory.
 pub fn apply_heap<A: Allocator + Copy>(heap: &mut WorldHeap<A>, step: HeapStep<Hold>) -> HeapReply
-    ensures answer { told_reply result ≡ answer_in heap.old step }
+    ensures does { HeapDoes heap.old step (told_reply result) heap.new }
     ensures gives { GivesOut (heap_no_of heap.old) step result }
-    ensures after { heap.new ≡ after_in heap.old step }
 
     // One row of the heap's machine, from each state that the heap stands for to one that it then stands for.
     ensures row { (a : State) → HeapStands heap.old a
-        → (b : State) × IsHeapRow (heap_no_of heap.old) a step (told_reply result) b × HeapStands heap.new b }
+        → (b : State) × IsHeapRow a step (told_reply result) b × HeapStands heap.new b }
 {
     called(heap, step)
 }
 
 // The call of the heap that does the step. That it is a row follows from these clauses, once for all steps.
 fn called<A: Allocator + Copy>(heap: &mut WorldHeap<A>, step: HeapStep<Hold>) -> HeapReply
-    ensures answer { told_reply result ≡ answer_in heap.old step }
+    ensures does { HeapDoes heap.old step (told_reply result) heap.new }
     ensures gives { GivesOut (heap_no_of heap.old) step result }
-    ensures after { heap.new ≡ after_in heap.old step }
 {
     match step {
+        HeapStep::Plain(step) => HeapReply::Told(plain_call(heap, step)),
         HeapStep::Hold { mutator, slot } => held(heap.hold(mutator, slot)),
         HeapStep::Adopt {
             mutator,
@@ -61,57 +61,63 @@ fn called<A: Allocator + Copy>(heap: &mut WorldHeap<A>, step: HeapStep<Hold>) ->
         HeapStep::Release { hold } => released(heap.release(hold)),
         HeapStep::Unhook { mutator, reference } => given(heap.unhook(mutator, reference)),
         HeapStep::Hand { worker } => given(heap.hand(worker)),
-        HeapStep::New {
+    }
+}
+
+// The call of the heap that does a step which hands nothing over.
+fn plain_call<A: Allocator + Copy>(heap: &mut WorldHeap<A>, step: PlainStep) -> Reply
+    ensures { HeapDoes heap.old (HeapStep.Plain step) result heap.new }
+{
+    match step {
+        PlainStep::New {
             mutator,
             slot,
             fields,
-        } => HeapReply::Told(made(heap.alloc_obj(mutator, slot, fields))),
-        HeapStep::Refer {
+        } => made(heap.alloc_obj(mutator, slot, fields)),
+        PlainStep::Refer {
             mutator,
             strength,
             slot,
             source,
             queue,
             fields,
-        } => HeapReply::Told(made(heap.alloc_ref(mutator, slot, strength, source, queue, fields))),
-        HeapStep::Store {
+        } => made(heap.alloc_ref(mutator, slot, strength, source, queue, fields)),
+        PlainStep::Store {
             mutator,
             object,
             field,
             value,
-        } => HeapReply::Told(done(heap.store(mutator, object, field, value))),
-        HeapStep::Load {
+        } => done(heap.store(mutator, object, field, value)),
+        PlainStep::Load {
             mutator,
             slot,
             object,
             field,
-        } => HeapReply::Told(value(heap.load(mutator, slot, object, field))),
-        HeapStep::Copy {
+        } => value(heap.load(mutator, slot, object, field)),
+        PlainStep::Copy {
             mutator,
             slot,
             source,
-        } => HeapReply::Told(value(heap.copy(mutator, slot, source))),
-        HeapStep::Drop { mutator, slot } => HeapReply::Told(done(heap.drop_slot(mutator, slot))),
-        HeapStep::Get {
+        } => value(heap.copy(mutator, slot, source)),
+        PlainStep::Drop { mutator, slot } => done(heap.drop_slot(mutator, slot)),
+        PlainStep::Get {
             mutator,
             slot,
             reference,
-        } => HeapReply::Told(value(heap.get(mutator, slot, reference))),
-        HeapStep::Clear { mutator, reference } => {
-            HeapReply::Told(done(heap.clear(mutator, reference)))
-        }
-        HeapStep::RefersTo {
+        } => value(heap.get(mutator, slot, reference)),
+        PlainStep::Clear { mutator, reference } => done(heap.clear(mutator, reference)),
+        PlainStep::RefersTo {
             mutator,
             reference,
             other,
-        } => HeapReply::Told(refers(heap.refers_to(mutator, reference, other))),
-        HeapStep::Begin { now, urgency } => HeapReply::Told(began(heap.begin(now, urgency))),
-        HeapStep::Scan { worker } => HeapReply::Told(scanned(heap.scan(worker))),
-        HeapStep::EndMark => HeapReply::Told(doomed(heap.end_mark())),
-        HeapStep::ClearNext { worker } => HeapReply::Told(looked(heap.clear_next(worker))),
-        HeapStep::EndClear => HeapReply::Told(done(heap.end_clear())),
-        HeapStep::Sweep { worker } => HeapReply::Told(swept(heap.sweep(worker))),
-        HeapStep::EndSweep => HeapReply::Told(done(heap.end_sweep())),
+        } => refers(heap.refers_to(mutator, reference, other)),
+        PlainStep::Begin { now, urgency } => began(heap.begin(now, urgency)),
+        PlainStep::Scan { worker } => scanned(heap.scan(worker)),
+        PlainStep::EndMark => doomed(heap.end_mark()),
+        PlainStep::ClearNext { worker } => looked(heap.clear_next(worker)),
+        PlainStep::EndClear => done(heap.end_clear()),
+        PlainStep::Sweep { worker } => swept(heap.sweep(worker)),
+        PlainStep::EndSweep => done(heap.end_sweep()),
     }
 }
 
@@ -160,13 +166,14 @@ fn released(answer: Result<(), (Fault, Hold)>) -> HeapReply
     }
 }
 
-// The reply of a step that gives nothing out.
-pub(crate) fn told(reply: HeapReply) -> Reply
+// The reply of a step that gives nothing out, or why it is refused.
+pub(crate) fn told(reply: HeapReply) -> Result<Reply, Fault>
     requires { IsTold reply }
-    ensures { result ≡ told_reply reply }
+    ensures { answered result ≡ told_reply reply }
 {
     match reply {
-        HeapReply::Told(reply) => reply,
+        HeapReply::Told(Reply::Refused(fault)) => Err(fault),
+        HeapReply::Told(reply) => Ok(reply),
         _ => unreachable!(),
     }
 }

@@ -2,6 +2,7 @@
 //! a list, and each is answered by a row of the abstract collector.
 #![tactic(auto)]
 
+mod hand;
 mod hands;
 mod heap_machine;
 mod notice;
@@ -11,6 +12,6 @@ mod world;
 
 pub use heap_machine::{HeapReply, WorldHeap, apply_heap};
 pub use notice::WorldNotice;
-pub use ref_base::{HeapStep, Reply, Row, Step};
+pub use ref_base::{HeapStep, PlainStep, Reply, Row, Step};
 pub use trace::{Trace, run};
 pub use world::World;

@@ -10,10 +10,11 @@ pub use Rattle.ref_base.specs.declared.config.Config.{Config}
 pub use Rattle.ref_base.specs.declared.fault.Fault.{Fault}
 pub use Rattle.ref_base.specs.declared.reach.ObjectReach.{ObjectReach}
 pub use Rattle.ref_base.specs.declared.reply.Reply.TheVariants.{Done, Refused}
+pub use Rattle.ref_base.specs.declared.plain_step.PlainStep.TheVariants.{Begin, Clear, ClearNext, Copy, Drop, EndClear}
+pub use Rattle.ref_base.specs.declared.plain_step.PlainStep.TheVariants.{EndMark, EndSweep, Get, Load, New, Refer}
+pub use Rattle.ref_base.specs.declared.plain_step.PlainStep.TheVariants.{RefersTo, Scan, Store, Sweep}
 pub use Rattle.ref_base.specs.declared.step.Step.{Step}
-pub use Rattle.ref_base.specs.declared.step.Step.TheVariants.{Adopt, Begin, Clear, ClearNext, Close, Copy, Drop}
-pub use Rattle.ref_base.specs.declared.step.Step.TheVariants.{EndClear, EndMark, EndSweep, Get, Hand, Load, New, Poll}
-pub use Rattle.ref_base.specs.declared.step.Step.TheVariants.{Put, Refer, RefersTo, Release, Scan, Store, Sweep, Unhook}
+pub use Rattle.ref_base.specs.declared.step.Step.TheVariants.{Adopt, Close, Hand, Poll, Put, Release, Unhook}
 pub use Rattle.ref_base.specs.declared.strength.Strength.{Strength}
 pub use Rattle.ref_base.specs.declared.strength.Strength.TheVariants.{Phantom, Soft, Weak}
 pub use Rattle.ref_base.specs.declared.urgency.Urgency.{Urgency}

@@ -4,6 +4,7 @@ use Rattle.refrun.proofs.Common.{Worker, Urgent, Refer, Put, Begin, lines_of, co
 use Rattle.refrun.proofs.Common.{number_behind, script_fault, graph_fault, SpellsScriptStep, step_fault}
 use Rattle.refrun.proofs.Common.{declaration_fault, Root, Plain, Reference, SpellsDeclared, DeclaresGraph, Graph}
 use Rattle.refrun.proofs.Common.{plain_object, ExtraWord, DoubleObject}
+use Rattle.ref_base.specs.declared.step.Step.TheVariants as steps
 use Rattle.refrun.specs.declared.script_step.ScriptStep.TheVariants as scripts
 use Rattle.ref_base.specs.declared.strength.Strength.TheVariants as strengths
 use Rattle.refrun.specs.declared.fault.LineFault.TheVariants.{UnknownStep, MissingWord, BadWord, BadHeader, UnknownLine}
@@ -32,7 +33,7 @@ twenty_digits_at_most = refl
 -- ---- faults go by kind and not by place
 
 a_step_is_spelt : SpellsScriptStep (words_of (codes "m0 weak s1 s00 - 2"))
-    (scripts.World (Refer 0 strengths.Weak 1 0 None 2))
+    (scripts.World (steps.Plain (Refer 0 strengths.Weak 1 0 None 2)))
 a_step_is_spelt = (refl, (refl, (refl, (refl, (refl, (refl, tt))))))
 
 a_job_has_a_number : SpellsScriptStep (words_of (codes "m0 job s1 063")) (scripts.Job 0 1 63)
@@ -42,7 +43,7 @@ a_worker_puts : SpellsScriptStep (words_of (codes "w03 put")) (scripts.World (Pu
 a_worker_puts = (refl, (refl, tt))
 
 the_clock_is_below_two_to_the_64 : SpellsScriptStep (words_of (codes "begin 18446744073709551615 urgent"))
-    (scripts.World (Begin 18446744073709551615 Urgent))
+    (scripts.World (steps.Plain (Begin 18446744073709551615 Urgent)))
 the_clock_is_below_two_to_the_64 = (refl, (refl, (refl, tt)))
 
 a_greater_clock_is_a_bad_word : step_fault (words_of (codes "begin 18446744073709551616 urgent")) ≡ Some BadWord

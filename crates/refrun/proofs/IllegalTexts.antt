@@ -6,6 +6,8 @@ use Rattle.refrun.proofs.Common.{State, first_state, Graph, plain_object, Config
 use Rattle.refrun.proofs.Common.{Copy, Weak, Plain, DeclaresGraph, words_of, PrintsStrengths, listing_text, StageJobs}
 use Rattle.refrun.proofs.Common.{IsScriptRun, SpellsScriptStep, IsFirstFailure, trace_text, ScriptReply}
 use Rattle.refrun.proofs.Common.{ScriptRow, ScriptStep}
+use Rattle.ref_base.specs.declared.step.Step.TheVariants as world
+use Rattle.ref_base.specs.Graphs.{numbers}
 use Rattle.ref_base.specs.Heaps.{first_heap}
 use Rattle.ref_base.specs.Worlds.{first_world}
 use Rattle.ref_base.specs.declared.fault.Fault.TheVariants.{NoCell, NoSuchActor}
@@ -22,7 +24,8 @@ the_first_row_has_number_1 : (row : ScriptRow) (rows : List ScriptRow)
 the_first_row_has_number_1 row rows = rw (decimal_digit 1 (omega arith)) refl
 
 -- `m0 copy s1 s0` is no copy into slot 0
-slots_exchanged_are_not_spelt : ¬ (SpellsScriptStep (words_of (codes "m0 copy s1 s0")) (steps.World (Copy 0 0 1)))
+slots_exchanged_are_not_spelt :
+    ¬ (SpellsScriptStep (words_of (codes "m0 copy s1 s0")) (steps.World (world.Plain (Copy 0 0 1))))
 slots_exchanged_are_not_spelt spelt = let into = spelt.1.1.0 in absurd cc
 
 -- ---- rows
@@ -36,19 +39,19 @@ config = record { mutators = 1; workers = 1; queues = 1; cells = 8; span = 10 }
 
 -- an object is made
 abbrev making : ℕ → ScriptRow
-making slot = row (steps.World (New 0 slot 0)) (replies.World (Object (slot + 1)))
+making slot = row (steps.World (world.Plain (New 0 slot 0))) (replies.World (Object (slot + 1)))
 
 -- a weak reference to it is made, in slot 1
 abbrev referring : ScriptRow
-referring = row (steps.World (Refer 0 Weak 1 0 None 0)) (replies.World (Object 2))
+referring = row (steps.World (world.Plain (Refer 0 Weak 1 0 None 0))) (replies.World (Object 2))
 
 -- a refusal where none applies
 abbrev refused_without_cause : List ScriptRow
-refused_without_cause = row (steps.World (New 0 0 0)) (replies.World (Refused NoSuchActor)) ∷ []
+refused_without_cause = row (steps.World (world.Plain (New 0 0 0))) (replies.World (Refused NoSuchActor)) ∷ []
 
 -- there are eight cells, and only one is taken
 abbrev no_cell_too_early : List ScriptRow
-no_cell_too_early = making 0 ∷ row (steps.World (New 0 1 0)) (replies.World (Refused NoCell)) ∷ []
+no_cell_too_early = making 0 ∷ row (steps.World (world.Plain (New 0 1 0))) (replies.World (Refused NoCell)) ∷ []
 
 -- a job that was never registered
 abbrev ran_unregistered : List ScriptRow
@@ -66,7 +69,7 @@ ran_another =
 abbrev referred : State
 referred = record (first_state config) {
   world = record (first_world config) {
-    heap = record (first_heap config) {
+    heap = record (first_heap config 0) {
       objects = plain_object 1 [] ∷ record {
         no = 2;
         fields = [];

@@ -7,12 +7,14 @@ use Rattle.std.specs.List.{AllWithin}
 use Rattle.std.proofs.lemmas.List.Elements.{All-from_all_within}
 use Rattle.std.proofs.lemmas.List.Sorted.{IsPermutation-swap_remove, IsPermutation-to_front, IsPermutation-sym}
 use Rattle.std.proofs.lemmas.List.Sorted.{IsPermutation-trans}
-use Rattle.refrun.proofs.Common.{State, Fault, Refused, Step, Clear, Core, Stands, StageJobs}
+use Rattle.refrun.proofs.Common.{State, Fault, Refused, Step, Core, Stands, StageJobs}
 use Rattle.refrun.proofs.Common.{RegistersStageJob, IsScriptRowOf, jobs, ScriptReply}
 use Rattle.ref_base.specs.Heaps.{slot_at}
 use Rattle.ref_base.specs.Refusals.{clear_refusal}
 use Rattle.ref_base.specs.declared.heap_step.HeapStep.TheVariants as heap
+use Rattle.ref_base.specs.declared.plain_step.PlainStep.TheVariants as plain
 use Rattle.ref_base.specs.declared.reply.Reply.{Reply}
+use Rattle.ref_base.specs.declared.step.Step.TheVariants as steps
 use Rattle.ref_mark.proofs.MarkLaws.{on_own_heap}
 use Rattle.ref_queue.specs.CleanTables.{Registry, Registers, Takes}
 use Rattle.ref_queue.specs.declared.job.Ran.{Ran}
@@ -24,7 +26,7 @@ use Rattle.refrun.specs.declared.script_step.ScriptStep.TheVariants as scripts
 module _ (c : Core) (a : State) (stands : Stands c a) (m s : ℕ) where
   -- what refuses a clear, and what its slot holds, is as the heap has it
   same_refusal : clear_refusal a.world.heap m s ≡ clear_refusal (model_heap c.heap) m s
-  same_refusal = on_own_heap (cycles_of c.heap) a stands.heap.mark (heap.Clear m s)
+  same_refusal = on_own_heap (cycles_of c.heap) a stands.heap.mark (heap.Plain (plain.Clear m s))
 
 -- the place of the first of these, if there is one
 pub place_or_none : {X : Type 0} (Yes No : X → Type 0) (xs : List X) (r : Option ℕ)
@@ -76,7 +78,7 @@ module _ {J : Type 0} (number note : J → ℕ) (old new : Core) (before after :
     -- its job is given out, and it is cleared
     pub ran_row : (job : J) (ran : Ran) (reply : Reply) → Takes before.table object (Some (tt, job)) after.table
         → after.left ≡ before.left → ran ≡ record { number = number job; answer = note job }
-        → IsRowOf old (Clear m s) reply new
+        → IsRowOf old (steps.Plain (plain.Clear m s)) reply new
         → IsScriptRowOf number note old before (scripts.Run m s) (replies.Ran ran) new after
     ran_row job ran reply takes left ran_is row a stands = grind (arith, same_refusal)
 

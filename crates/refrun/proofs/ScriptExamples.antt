@@ -4,6 +4,7 @@ use Rattle.std.proofs.Common.{false}
 use Rattle.std.specs.List.{IsDistinct}
 use Rattle.refrun.proofs.Common.{IsRow, State, Done, Clear, StageJobs, first_jobs, RegistersStageJob, TookInOrder}
 use Rattle.refrun.proofs.Common.{IsFirstFailure}
+use Rattle.ref_base.specs.declared.step.Step.TheVariants as world
 use Rattle.ref_queue.proofs.TableLemmas.{first_out}
 use Rattle.refrun.specs.ScriptRuns.{RunsJob}
 use Rattle.refrun.specs.declared.lists.Check.TheVariants.{Order, Rest}
@@ -39,7 +40,7 @@ only_4 (suc k) d below is = absurd (omega (arith, below))
 it_is_used_once_it_is_registered : RegistersStageJob number 2 3 one_registered replies.Used one_registered
 it_is_used_once_it_is_registered = (only_4, refl)
 
-it_ran : (a b : State) → IsRow a (record { step = Clear 0 1; reply = Done }) b
+it_ran : (a b : State) → IsRow a (record { step = world.Plain (Clear 0 1); reply = Done }) b
     → RunsJob number note 2 0 1 a one_registered (replies.Ran (record { number = 3; answer = 1003 })) b one_left
 it_ran a b row = (3, (refl, ((λ m. first_out 2 (tt, 3) [] refl m), refl)), refl, refl, row)
 

@@ -6,6 +6,7 @@ use Rattle.refrun.proofs.Common.{Step, New, Refer, Store, Load, Put}
 use Rattle.refrun.proofs.Common.{Release, Begin, EndMark, EndClear}
 use Rattle.refrun.proofs.Common.{EndSweep, script_step_words, ScriptStep, Operand, Slot, Queue, QueueOrNone, Number}
 use Rattle.refrun.proofs.Common.{Clock, UrgencyName, operands_in, forms_of_letter, turn_forms}
+use Rattle.ref_base.specs.declared.step.Step.TheVariants as steps
 use Rattle.refrun.specs.declared.script_step.ScriptStep.TheVariants as scripts
 use Rattle.refrun.specs.StepForms.{Form}
 
@@ -86,25 +87,25 @@ refers m s r q n strength =
     known Phantom = refl
 
 form_of_world_step : (step : Step) → HasForm (step_words step)
-form_of_world_step (New m s n) =
+form_of_world_step (steps.Plain (New m s n)) =
     has_form (By 109 m) (codes "new") (Slot ∷ Number ∷ []) (slot s ∷ number n ∷ []) refl ((s, refl), ((n, refl), tt))
-form_of_world_step (Refer m strength s r q n) = refers m s r q n strength
-form_of_world_step (Store m s i v) =
+form_of_world_step (steps.Plain (Refer m strength s r q n)) = refers m s r q n strength
+form_of_world_step (steps.Plain (Store m s i v)) =
     has_form (By 109 m) (codes "store") (Slot ∷ Number ∷ Slot ∷ []) (slot s ∷ number i ∷ slot v ∷ []) refl
     ((s, refl), ((i, refl), ((v, refl), tt)))
-form_of_world_step (Load m d s i) =
+form_of_world_step (steps.Plain (Load m d s i)) =
     has_form (By 109 m) (codes "load") (Slot ∷ Slot ∷ Number ∷ []) (slot d ∷ slot s ∷ number i ∷ []) refl
     ((d, refl), ((s, refl), ((i, refl), tt)))
 form_of_world_step (Put (Mutator m)) = alone 109 m (codes "put") refl
 form_of_world_step (Put (Worker w)) = alone 119 w (codes "put") refl
 form_of_world_step (Release (Mutator m)) = alone 109 m (codes "release") refl
 form_of_world_step (Release (Worker w)) = alone 119 w (codes "release") refl
-form_of_world_step (Begin now urgency) =
+form_of_world_step (steps.Plain (Begin now urgency)) =
     has_form Turn (codes "begin") (Clock ∷ UrgencyName ∷ []) (Long now ∷ Letters (urgency_name urgency) ∷ []) refl
     ((now, refl), ((urgency, refl), tt))
-form_of_world_step EndMark = has_form Turn (codes "endmark") [] [] refl tt
-form_of_world_step EndClear = has_form Turn (codes "endclear") [] [] refl tt
-form_of_world_step EndSweep = has_form Turn (codes "endsweep") [] [] refl tt
+form_of_world_step (steps.Plain EndMark) = has_form Turn (codes "endmark") [] [] refl tt
+form_of_world_step (steps.Plain EndClear) = has_form Turn (codes "endclear") [] [] refl tt
+form_of_world_step (steps.Plain EndSweep) = has_form Turn (codes "endsweep") [] [] refl tt
 form_of_world_step step = search (rules, alone, at_slot, at_slots, at_queue)
 
 pub form_of_step : (step : ScriptStep) → HasForm (script_step_words step)

@@ -9,9 +9,10 @@ use Rattle.ref_base.specs.Collectors.{State, first_state}
 use Rattle.ref_base.specs.CollectorRows.{IsRow}
 use Rattle.ref_base.specs.declared.config.Config.{Config}
 use Rattle.ref_base.specs.declared.fault.Fault.{Fault}
+use Rattle.ref_base.specs.declared.plain_step.PlainStep.TheVariants.{Clear}
 use Rattle.ref_base.specs.declared.reply.Reply.TheVariants.{Done, Refused}
 use Rattle.ref_base.specs.declared.row.Row.{Row}
-use Rattle.ref_base.specs.declared.step.Step.TheVariants.{Clear}
+use Rattle.ref_base.specs.declared.step.Step.TheVariants.{Plain}
 use Rattle.ref_queue.specs.CleanTables.{Registry, new_registry, Registers, Takes}
 use Rattle.refrun.specs.declared.script_step.ScriptReply.{ScriptReply}
 use Rattle.refrun.specs.declared.script_step.ScriptReply.TheVariants as replies
@@ -24,7 +25,7 @@ use Rattle.refrun.specs.declared.script_step.ScriptStep.TheVariants as steps
 -- a row of the world is itself; a job that was run cleared its reference; any other row of jobs is none of the world's
 abbrev pub world_row : ScriptStep → ScriptReply → List Row
 world_row (steps.World step) (replies.World reply) = record { step = step; reply = reply } ∷ []
-world_row (steps.Run m s) (replies.Ran ran) = record { step = Clear m s; reply = Done } ∷ []
+world_row (steps.Run m s) (replies.Ran ran) = record { step = Plain (Clear m s); reply = Done } ∷ []
 world_row step reply = []
 
 abbrev pub world_rows : List ScriptRow → List Row
@@ -69,7 +70,7 @@ module _ {J : Type 0} (number note : J → ℕ) where
   RunsJob object m s a old (replies.Ran ran) b new =
       (job : J) × Takes old.table object (Some (tt, job)) new.table × (new.left ≡ old.left)
       × (ran ≡ record { number = number job; answer = note job })
-      × IsRow a (record { step = Clear m s; reply = Done }) b
+      × IsRow a (record { step = Plain (Clear m s); reply = Done }) b
   RunsJob object m s a old reply b new = ⊥
 
   -- the same by why the slot has no reference, if it hasn't, and by what the slot holds

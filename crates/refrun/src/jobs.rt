@@ -9,7 +9,7 @@ ghost use Rattle.refrun.specs.ScriptStanding.{IsScriptRowOf, jobs};
 ghost use Rattle.ref_world.specs.WorldHeaps.{model_heap};
 
 use crate::script_step::{ScriptReply, ScriptStep};
-use ref_base::{MutNo, ObjNo, Reply, SlotNo, Step};
+use ref_base::{MutNo, ObjNo, PlainStep, Reply, SlotNo, Step};
 use ref_queue::{CleanTable, Job};
 use ref_world::World;
 use std::alloc::Allocator;
@@ -75,7 +75,9 @@ impl<A: Allocator + Copy> Stage<A> {
         match self.table.take(object) {
             None => ScriptReply::Gone,
             Some(((), job)) => {
-                let _ = self.world.step(Step::Clear { mutator, reference });
+                let _ = self
+                    .world
+                    .step(Step::Plain(PlainStep::Clear { mutator, reference }));
                 ScriptReply::Ran(job.run())
             }
         }

@@ -2,7 +2,7 @@
 
 use crate::tally::Tally;
 use ref_base::{
-    Fault, HeapStep, MutNo, ObjNo, Parcel, QueueNo, Reply, SlotNo, Strength, Urgency, WorkerNo,
+    Fault, MutNo, ObjNo, Parcel, PlainStep, QueueNo, Reply, SlotNo, Strength, Urgency, WorkerNo,
 };
 use ref_objects::Hold;
 use ref_share::{
@@ -50,8 +50,7 @@ pub(crate) struct Station<'a> {
 }
 
 impl<'a> Station<'a> {
-    ghost use Rattle.std.specs.Prelude.{◌≡◌, true};
-    ghost use Rattle.ref_share.specs.HeapCalls.{hands_nothing_over};
+    ghost use Rattle.std.specs.Prelude.{◌≡◌};
     ghost use Rattle.refrun.specs.StressSeats.{IsSeated, StaysSeated};
 
     /// The station of one thread, with these seats.
@@ -119,13 +118,13 @@ impl<'a> Station<'a> {
         requires { IsSeated self.old }
         ensures { StaysSeated self.old self.new }
     {
-        let object = HeapStep::New {
+        let object = PlainStep::New {
             mutator,
             slot: NEWEST,
             fields: 0,
         };
         self.ask(rt, object)?;
-        let reference = HeapStep::Refer {
+        let reference = PlainStep::Refer {
             mutator,
             strength: Strength::Weak,
             slot,
@@ -143,7 +142,7 @@ impl<'a> Station<'a> {
         ensures { StaysSeated self.old self.new }
     {
         let slot = NEWEST;
-        self.ask(rt, HeapStep::Drop { mutator, slot })?;
+        self.ask(rt, PlainStep::Drop { mutator, slot })?;
         Ok(())
     }
 
@@ -193,14 +192,14 @@ impl<'a> Station<'a> {
         requires { IsSeated self.old }
         ensures { StaysSeated self.old self.new }
     {
-        let _ = self.ask(rt, HeapStep::EndMark);
-        let _ = self.ask(rt, HeapStep::EndClear);
-        if self.ask(rt, HeapStep::EndSweep).is_ok() {
+        let _ = self.ask(rt, PlainStep::EndMark);
+        let _ = self.ask(rt, PlainStep::EndClear);
+        if self.ask(rt, PlainStep::EndSweep).is_ok() {
             self.shared.tally.count_cycle();
         }
         if !is_last {
             let urgency = Urgency::Normal;
-            let _ = self.ask(rt, HeapStep::Begin { now, urgency });
+            let _ = self.ask(rt, PlainStep::Begin { now, urgency });
         }
     }
 
@@ -209,9 +208,9 @@ impl<'a> Station<'a> {
         requires { IsSeated self.old }
         ensures { StaysSeated self.old self.new }
     {
-        let _ = self.ask(rt, HeapStep::Scan { worker });
-        let _ = self.ask(rt, HeapStep::ClearNext { worker });
-        let _ = self.ask(rt, HeapStep::Sweep { worker });
+        let _ = self.ask(rt, PlainStep::Scan { worker });
+        let _ = self.ask(rt, PlainStep::ClearNext { worker });
+        let _ = self.ask(rt, PlainStep::Sweep { worker });
         let answer = deliver_one(
             rt,
             self.shared.heap,
@@ -289,9 +288,8 @@ impl<'a> Station<'a> {
     }
 
     /// One step of the heap by which neither a hold nor a notice changes hands. A refusal is told as a fault.
-    fn ask<R: Wait>(&mut self, rt: &R, step: HeapStep<Hold>) -> Result<Reply, Fault>
-        requires seated { IsSeated self.old }
-        requires bare { hands_nothing_over step ≡ true }
+    fn ask<R: Wait>(&mut self, rt: &R, step: PlainStep) -> Result<Reply, Fault>
+        requires { IsSeated self.old }
         ensures { StaysSeated self.old self.new }
     {
         match self.shared.heap.ask(rt, &mut self.heap_seat, step)? {

@@ -16,7 +16,7 @@ use crate::fault::LineFault;
 use crate::lines::next_word;
 use crate::operands::Operands;
 use crate::script_step::ScriptStep;
-use ref_base::{Actor, MutNo, Step, Strength, WorkerNo};
+use ref_base::{Actor, MutNo, PlainStep, Step, Strength, WorkerNo};
 
 /// The step that a line spells, or the first of its faults by kind.
 pub fn step_of(line: &[u8]) -> Result<ScriptStep, LineFault>
@@ -88,11 +88,11 @@ fn making_step(by: MutNo, name: &[u8], operands: &mut Operands<'_>) -> Option<St
     ensures { IsReadAs step_words mutator_forms (mutator by) name.now operands.old operands.new result }
 {
     if name == b"new".as_slice() {
-        return Some(Step::New {
+        return Some(Step::Plain(PlainStep::New {
             mutator: by,
             slot: operands.slot(),
             fields: operands.number(),
-        });
+        }));
     }
     if name == b"soft".as_slice() {
         return Some(refer(by, Strength::Soft, operands));
@@ -111,14 +111,14 @@ fn refer(by: MutNo, strength: Strength, operands: &mut Operands<'_>) -> Step
     ensures { IsReadBehind (Some (Slot ∷ Slot ∷ QueueOrNone ∷ Number ∷ [])) (mutator by) (strength_name strength)
         (reading operands.old) (reading operands.new) (step_words result) }
 {
-    Step::Refer {
+    Step::Plain(PlainStep::Refer {
         mutator: by,
         strength,
         slot: operands.slot(),
         source: operands.slot(),
         queue: operands.queue_or_none(),
         fields: operands.number(),
-    }
+    })
 }
 
 /// The step of a mutator with slots and fields, or with what stands in them.
@@ -127,33 +127,33 @@ fn slot_step(by: MutNo, name: &[u8], operands: &mut Operands<'_>) -> Option<Step
         operands.new result }
 {
     if name == b"store".as_slice() {
-        return Some(Step::Store {
+        return Some(Step::Plain(PlainStep::Store {
             mutator: by,
             object: operands.slot(),
             field: operands.number(),
             value: operands.slot(),
-        });
+        }));
     }
     if name == b"load".as_slice() {
-        return Some(Step::Load {
+        return Some(Step::Plain(PlainStep::Load {
             mutator: by,
             slot: operands.slot(),
             object: operands.slot(),
             field: operands.number(),
-        });
+        }));
     }
     if name == b"copy".as_slice() {
-        return Some(Step::Copy {
+        return Some(Step::Plain(PlainStep::Copy {
             mutator: by,
             slot: operands.slot(),
             source: operands.slot(),
-        });
+        }));
     }
     if name == b"drop".as_slice() {
-        return Some(Step::Drop {
+        return Some(Step::Plain(PlainStep::Drop {
             mutator: by,
             slot: operands.slot(),
-        });
+        }));
     }
     reference_step(by, name, operands)
 }
@@ -164,24 +164,24 @@ fn reference_step(by: MutNo, name: &[u8], operands: &mut Operands<'_>) -> Option
         operands.new result }
 {
     if name == b"get".as_slice() {
-        return Some(Step::Get {
+        return Some(Step::Plain(PlainStep::Get {
             mutator: by,
             slot: operands.slot(),
             reference: operands.slot(),
-        });
+        }));
     }
     if name == b"clear".as_slice() {
-        return Some(Step::Clear {
+        return Some(Step::Plain(PlainStep::Clear {
             mutator: by,
             reference: operands.slot(),
-        });
+        }));
     }
     if name == b"refers".as_slice() {
-        return Some(Step::RefersTo {
+        return Some(Step::Plain(PlainStep::RefersTo {
             mutator: by,
             reference: operands.slot(),
             other: operands.slot(),
-        });
+        }));
     }
     if name == b"unhook".as_slice() {
         return Some(Step::Unhook {
@@ -232,16 +232,16 @@ fn worker_step(by: WorkerNo, name: &[u8], operands: &mut Operands<'_>) -> Option
     ensures { IsReadAs step_words worker_forms (worker by) name.now operands.old operands.new result }
 {
     if name == b"scan".as_slice() {
-        return Some(Step::Scan { worker: by });
+        return Some(Step::Plain(PlainStep::Scan { worker: by }));
     }
     if name == b"clearnext".as_slice() {
-        return Some(Step::ClearNext { worker: by });
+        return Some(Step::Plain(PlainStep::ClearNext { worker: by }));
     }
     if name == b"hand".as_slice() {
         return Some(Step::Hand { worker: by });
     }
     if name == b"sweep".as_slice() {
-        return Some(Step::Sweep { worker: by });
+        return Some(Step::Plain(PlainStep::Sweep { worker: by }));
     }
     if name == b"put".as_slice() {
         return Some(Step::Put {
@@ -263,19 +263,19 @@ fn turn(name: &[u8], operands: &mut Operands<'_>) -> Option<Step>
         (reading operands.new) (step_words step)) }
 {
     if name == b"begin".as_slice() {
-        return Some(Step::Begin {
+        return Some(Step::Plain(PlainStep::Begin {
             now: operands.clock(),
             urgency: operands.urgency(),
-        });
+        }));
     }
     if name == b"endmark".as_slice() {
-        return Some(Step::EndMark);
+        return Some(Step::Plain(PlainStep::EndMark));
     }
     if name == b"endclear".as_slice() {
-        return Some(Step::EndClear);
+        return Some(Step::Plain(PlainStep::EndClear));
     }
     if name == b"endsweep".as_slice() {
-        return Some(Step::EndSweep);
+        return Some(Step::Plain(PlainStep::EndSweep));
     }
     None
 }

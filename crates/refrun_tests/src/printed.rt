@@ -1,8 +1,8 @@
 //! The texts of numbers, faults, strengths, steps, replies and rows.
 
 use ref_base::{
-    Actor, Cause, Fault, MutNo, ObjNo, QueueNo, Reach, Reply, Row, SlotNo, Step, Strength, Urgency,
-    WorkerNo,
+    Actor, Cause, Fault, MutNo, ObjNo, PlainStep, QueueNo, Reach, Reply, Row, SlotNo, Step,
+    Strength, Urgency, WorkerNo,
 };
 use std::alloc::Global;
 use std::fmt;
@@ -85,14 +85,14 @@ fn each_fault_has_its_number_and_prints_as_its_name(rt: HostRuntime) -> Result<(
 
 /// A reference in slot 1 to what slot 0 holds, of this strength.
 fn refer(strength: Strength, queue: Option<QueueNo>) -> Step {
-    Step::Refer {
+    Step::Plain(PlainStep::Refer {
         mutator: MutNo(7),
         strength,
         slot: SlotNo(1),
         source: SlotNo(0),
         queue,
         fields: 2,
-    }
+    })
 }
 
 /// The mutator of these steps.
@@ -101,44 +101,44 @@ const M: MutNo = MutNo(0);
 /// Steps of objects, and how they are spelled in a script.
 const STEPS_OF_OBJECTS: [(Step, &str); 5] = [
     (
-        Step::New {
+        Step::Plain(PlainStep::New {
             mutator: M,
             slot: SlotNo(2),
             fields: 2,
-        },
+        }),
         "m0 new s2 2",
     ),
     (
-        Step::Store {
+        Step::Plain(PlainStep::Store {
             mutator: M,
             object: SlotNo(0),
             field: 7,
             value: SlotNo(2),
-        },
+        }),
         "m0 store s0 7 s2",
     ),
     (
-        Step::Load {
+        Step::Plain(PlainStep::Load {
             mutator: M,
             slot: SlotNo(2),
             object: SlotNo(0),
             field: 7,
-        },
+        }),
         "m0 load s2 s0 7",
     ),
     (
-        Step::Copy {
+        Step::Plain(PlainStep::Copy {
             mutator: M,
             slot: SlotNo(2),
             source: SlotNo(0),
-        },
+        }),
         "m0 copy s2 s0",
     ),
     (
-        Step::Drop {
+        Step::Plain(PlainStep::Drop {
             mutator: M,
             slot: SlotNo(2),
-        },
+        }),
         "m0 drop s2",
     ),
 ];
@@ -163,26 +163,26 @@ fn each_step_of_objects_prints_as_in_a_script(rt: HostRuntime) -> Result<(), Fai
 /// Steps of references.
 const STEPS_OF_REFERENCES: [(Step, &str); 5] = [
     (
-        Step::Get {
+        Step::Plain(PlainStep::Get {
             mutator: M,
             slot: SlotNo(3),
             reference: SlotNo(1),
-        },
+        }),
         "m0 get s3 s1",
     ),
     (
-        Step::Clear {
+        Step::Plain(PlainStep::Clear {
             mutator: M,
             reference: SlotNo(1),
-        },
+        }),
         "m0 clear s1",
     ),
     (
-        Step::RefersTo {
+        Step::Plain(PlainStep::RefersTo {
             mutator: M,
             reference: SlotNo(1),
             other: SlotNo(3),
-        },
+        }),
         "m0 refers s1 s3",
     ),
     (
@@ -254,26 +254,26 @@ fn each_step_of_the_collector_prints_as_in_a_script(rt: HostRuntime) -> Result<(
     let worker = WorkerNo(0);
     let table = [
         (
-            Step::Begin {
+            Step::Plain(PlainStep::Begin {
                 now: 5,
                 urgency: Urgency::Normal,
-            },
+            }),
             "begin 5 normal",
         ),
         (
-            Step::Begin {
+            Step::Plain(PlainStep::Begin {
                 now: u64::MAX,
                 urgency: Urgency::Urgent,
-            },
+            }),
             "begin 18446744073709551615 urgent",
         ),
-        (Step::Scan { worker }, "w0 scan"),
-        (Step::EndMark, "endmark"),
-        (Step::ClearNext { worker }, "w0 clearnext"),
-        (Step::EndClear, "endclear"),
+        (Step::Plain(PlainStep::Scan { worker }), "w0 scan"),
+        (Step::Plain(PlainStep::EndMark), "endmark"),
+        (Step::Plain(PlainStep::ClearNext { worker }), "w0 clearnext"),
+        (Step::Plain(PlainStep::EndClear), "endclear"),
         (Step::Hand { worker }, "w0 hand"),
-        (Step::Sweep { worker }, "w0 sweep"),
-        (Step::EndSweep, "endsweep"),
+        (Step::Plain(PlainStep::Sweep { worker }), "w0 sweep"),
+        (Step::Plain(PlainStep::EndSweep), "endsweep"),
     ];
     agree(&rt, rt.alloc(), &table)
 }
@@ -329,11 +329,11 @@ fn each_reply_of_the_collector_prints_as_in_a_trace(rt: HostRuntime) -> Result<(
 
 #[test]
 fn a_row_prints_its_step_a_colon_and_its_reply(rt: HostRuntime) -> Result<(), Fail> {
-    let step = Step::New {
+    let step = Step::Plain(PlainStep::New {
         mutator: MutNo(0),
         slot: SlotNo(0),
         fields: 0,
-    };
+    });
     let row = Row {
         step,
         reply: Reply::Object(ObjNo(1)),

@@ -8,7 +8,7 @@ use Rattle.ref_turn.proofs.Logs.{leads_cut}
 use Rattle.ref_turn.specs.Seats.{entry}
 use Rattle.ref_share.specs.QueueCalls.{PutsNotice, ClosesQueue}
 use Rattle.ref_share.specs.QueueHistories.{closed_by_call, is_closed_after}
-use Rattle.ref_share.specs.QueueMachines.{IsQueueMove}
+use Rattle.ref_share.specs.QueueMachines.{IsQueueTurn}
 use Rattle.ref_share.specs.QueueSeats.{QueueEntry, QueueView, IsQueueRun}
 use Rattle.ref_share.specs.Selves.{IsItself}
 use Rattle.ref_share.specs.QueueStates.{NoticeLists}
@@ -48,7 +48,7 @@ pub closes_again : (u v w : QueueView) (number : ℕ) (was : Bool) (result : Res
     → ClosesQueue u (Ok was) v → ClosesQueue v result w → IsQueueRun number w.seen last → IfOk result (λ is. is ≡ false)
 closes_again u v w number was (Ok is) last first then run =
     let front : List QueueEntry = v.seen ++ then.1.0 in
-    let parts = leads_cut IsQueueMove front (entry v.number steps.Close (replies.Closed is) ∷ []) (new_queue number)
+    let parts = leads_cut IsQueueTurn front (entry v.number steps.Close (replies.Closed is) ∷ []) (new_queue number)
     last
     (subst (λ (l : List QueueEntry). IsQueueRun number l last) then.1.1 run) in
     let shut = closed_later v.seen then.1.0 (has_closed u v was first) in
@@ -57,7 +57,7 @@ closes_again u v w number was (Err fault) last first then run = tt
 
 -- a queue that is left after a close is closed
 pub left_closed : (u v : QueueView) (number : ℕ) (was : Bool) (q : NoticeLists) → ClosesQueue u (Ok was) v
-    → IsLeftFrom IsItself IsQueueMove (new_queue number) v q → q.closed ≡ true
+    → IsLeftFrom IsItself IsQueueTurn (new_queue number) v q → q.closed ≡ true
 left_closed u v number was q first left =
     let shut = closed_later v.seen left.begins.0 (has_closed u v was first) in
     ap (λ (r : NoticeLists). r.closed) (sym left.stands)

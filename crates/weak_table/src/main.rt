@@ -11,7 +11,7 @@ ghost use Rattle.weak_table.specs.Cleaners.{IsCleaner};
 
 use cleaner::Cleaner;
 use example_runtime::{Collector, HeapUser, Queues};
-use ref_base::{Config, Fault, HeapStep, MutNo, ObjNo, QueueNo, Reply, SlotNo, Strength};
+use ref_base::{Config, Fault, MutNo, ObjNo, PlainStep, QueueNo, Reply, SlotNo, Strength};
 use ref_share::SharedHeap;
 use std::collections::BTreeMap;
 use std::sync::atomic::{AtomicU64, Ordering};
@@ -151,13 +151,13 @@ fn fill<R: Wait>(rt: &R, program: HeapUser, table: &Table) -> Result<(), Fault>
 {
     let mut heap = program;
     for key in 0..KEYS {
-        let new = HeapStep::New {
+        let new = PlainStep::New {
             mutator: PROGRAM,
             slot: SlotNo(key),
             fields: 0,
         };
         heap.ask(rt, new)?;
-        let refer = HeapStep::Refer {
+        let refer = PlainStep::Refer {
             mutator: PROGRAM,
             strength: Strength::Weak,
             slot: SlotNo(KEYS + key),
@@ -171,7 +171,7 @@ fn fill<R: Wait>(rt: &R, program: HeapUser, table: &Table) -> Result<(), Fault>
         }
     }
     for key in (1..KEYS).step_by(2) {
-        let drop = HeapStep::Drop {
+        let drop = PlainStep::Drop {
             mutator: PROGRAM,
             slot: SlotNo(key),
         };

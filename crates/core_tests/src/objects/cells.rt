@@ -1,12 +1,12 @@
 //! What lies in the cells of a heap: objects found by number, their fields and references, gaps, cells used again.
 
 use super::Ask::{
-    ClearedIn, FieldCount, FieldOf, FirstFrom, HasObject, IsHeld, IsMarked, NextNo, ObjectCount,
-    ReferenceOf, UnmarkedCount, UnmarkedFrom,
+    ClearedIn, FieldCount, FieldOf, FirstFrom, HasObject, IsHeld, IsMarked, LinkOf, NextNo,
+    ObjectCount, ReferenceOf, UnmarkedCount, UnmarkedFrom,
 };
 use super::Call::{Ask, Do, Set};
 use super::Do::{Free, Mark, New, Refer, Store};
-use super::Set::{Cleared, ClockTo, CloseGaps, Cut, Stamp, UnmarkAll};
+use super::Set::{Cleared, ClockTo, CloseGaps, Cut, Link, Stamp, UnmarkAll};
 use super::{agree, agree_from, config};
 use crate::told::Told;
 use ref_base::{Config, Fault, ObjNo, QueueNo, Strength};
@@ -217,6 +217,32 @@ fn a_clear_is_told_till_its_object_goes(rt: HostRuntime) -> Result<(), Fail> {
         // It lies in the same cell.
         (Do(New(0, 0)), Told::Object(3)),
         (Ask(ClearedIn(3)), Told::Began(0)),
+    ];
+    agree(&rt, rt.alloc(), 2, &story)
+}
+
+#[test]
+fn a_link_is_told_till_its_object_goes(rt: HostRuntime) -> Result<(), Fail> {
+    let story = [
+        (Do(New(0, 0)), Told::Object(1)),
+        (Do(New(1, 0)), Told::Object(2)),
+        // A new object links to nothing.
+        (Ask(LinkOf(1)), Told::Count(0)),
+        (Set(Link(1, 2)), Told::Done),
+        (Ask(LinkOf(1)), Told::Count(2)),
+        (Ask(LinkOf(2)), Told::Count(0)),
+        (Set(Link(2, 4294967295)), Told::Done),
+        (Ask(LinkOf(2)), Told::Count(4294967295)),
+        (Set(Cleared(1, 7)), Told::Done),
+        (Ask(LinkOf(1)), Told::Count(2)),
+        // There is none.
+        (Set(Link(3, 1)), Told::Done),
+        (Ask(LinkOf(3)), Told::Count(0)),
+        (Do(Free(1)), Told::Yes),
+        (Ask(LinkOf(1)), Told::Count(0)),
+        // It lies in the same cell.
+        (Do(New(0, 0)), Told::Object(3)),
+        (Ask(LinkOf(3)), Told::Count(0)),
     ];
     agree(&rt, rt.alloc(), 2, &story)
 }

@@ -83,6 +83,17 @@ fn a_clear_is_told_of_its_object_alone(objects: &mut Objects) -> bool
     objects.cleared_in(ObjNo(1)) == 7 && objects.cleared_in(ObjNo(2)) == 0
 }
 
+/// The link of an object is told of it, and of no other.
+fn a_link_is_told_of_its_object_alone(objects: &mut Objects) -> bool
+    requires { objects.old ≡ first_ground CONFIG 1 1 }
+    ensures { result ≡ true }
+{
+    let _first = objects.alloc_obj(MutNo(0), SlotNo(0), 0);
+    let _second = objects.alloc_obj(MutNo(0), SlotNo(1), 0);
+    objects.set_link(ObjNo(1), 2);
+    objects.link_of(ObjNo(1)) == 2 && objects.link_of(ObjNo(2)) == 0
+}
+
 /// A hold is counted once, and no more once it is released.
 fn a_hold_is_counted_till_its_release(objects: &mut Objects) -> bool
     requires { objects.old ≡ first_ground CONFIG 1 1 }
@@ -104,7 +115,7 @@ fn a_hold_is_counted_till_its_release(objects: &mut Objects) -> bool
 
 /// A heap adopts no hold of another heap.
 fn adopts_no_hold_of_another_heap(objects: &mut Objects, hold: Hold) -> bool
-    requires { hold.heap_no ≢ objects.old.heap_no }
+    requires { hold.heap_no ≢ objects.old.heap.no }
     ensures { result ≡ true }
 {
     match objects.adopt(MutNo(0), SlotNo(0), hold) {
@@ -153,6 +164,10 @@ fn what_callers_of_objects_see(rt: HostRuntime) {
         (
             "a clear is told of its object alone",
             a_clear_is_told_of_its_object_alone(&mut heap(&rt, alloc, 1)),
+        ),
+        (
+            "a link is told of its object alone",
+            a_link_is_told_of_its_object_alone(&mut heap(&rt, alloc, 1)),
         ),
         (
             "a hold is counted till its release",

@@ -4,8 +4,8 @@ use super::CONFIG;
 use crate::hand::{keep, leak};
 use ref_base::Cause::{Cycle, Own};
 use ref_base::{
-    Cause, Fault, HeapStep, MutNo, ObjNo, Parcel, QueueNo, Reply, SlotNo, Strength, Urgency,
-    WorkerNo,
+    Cause, Fault, HeapStep, MutNo, ObjNo, Parcel, PlainStep, QueueNo, Reply, SlotNo, Strength,
+    Urgency, WorkerNo,
 };
 use ref_objects::{Hold, Start};
 use ref_world::{HeapReply, WorldHeap, apply_heap};
@@ -104,29 +104,29 @@ fn released<A: Allocator + Copy>(bench: &mut Bench<A>) -> Told {
 }
 
 fn new(slot: u32) -> HeapStep<Hold> {
-    HeapStep::New {
+    HeapStep::Plain(PlainStep::New {
         mutator: M,
         slot: SlotNo(slot),
         fields: 0,
-    }
+    })
 }
 
 fn weak(slot: u32, source: u32) -> HeapStep<Hold> {
-    HeapStep::Refer {
+    HeapStep::Plain(PlainStep::Refer {
         mutator: M,
         strength: Strength::Weak,
         slot: SlotNo(slot),
         source: SlotNo(source),
         queue: Some(QueueNo(0)),
         fields: 0,
-    }
+    })
 }
 
 fn begin() -> HeapStep<Hold> {
-    HeapStep::Begin {
+    HeapStep::Plain(PlainStep::Begin {
         now: 5,
         urgency: Urgency::Normal,
-    }
+    })
 }
 
 fn answer<A: Allocator + Copy>(bench: &mut Bench<A>, ask: Ask) -> Told {
@@ -136,7 +136,7 @@ fn answer<A: Allocator + Copy>(bench: &mut Bench<A>, ask: Ask) -> Told {
         Ask::Weak(slot, source) => asked(bench, weak(slot, source)),
         Ask::DropSlot(slot) => {
             let slot = SlotNo(slot);
-            asked(bench, HeapStep::Drop { mutator, slot })
+            asked(bench, HeapStep::Plain(PlainStep::Drop { mutator, slot }))
         }
         Ask::Hold(slot) => {
             let slot = SlotNo(slot);
@@ -150,9 +150,9 @@ fn answer<A: Allocator + Copy>(bench: &mut Bench<A>, ask: Ask) -> Told {
         }
         Ask::Hand => asked(bench, HeapStep::Hand { worker }),
         Ask::Begin => asked(bench, begin()),
-        Ask::Scan => asked(bench, HeapStep::Scan { worker }),
-        Ask::EndMark => asked(bench, HeapStep::EndMark),
-        Ask::ClearNext => asked(bench, HeapStep::ClearNext { worker }),
+        Ask::Scan => asked(bench, HeapStep::Plain(PlainStep::Scan { worker })),
+        Ask::EndMark => asked(bench, HeapStep::Plain(PlainStep::EndMark)),
+        Ask::ClearNext => asked(bench, HeapStep::Plain(PlainStep::ClearNext { worker })),
         Ask::TurnToOther => {
             mem::swap(&mut bench.heap, &mut bench.other);
             Told::Turned

@@ -8,7 +8,7 @@ use super::rows::{
 use super::{CONFIG, are_rows, do_steps, steps_of};
 use crate::arena::{all_but, all_that_is_left, limited};
 use bumpalo::Bump;
-use ref_base::{Cause, Config, Fault, ObjNo, QueueNo, Reply, Step, WorkerNo};
+use ref_base::{Cause, Config, Fault, ObjNo, PlainStep, QueueNo, Reply, Step, WorkerNo};
 use ref_world::{Trace, World, run};
 use std::process::Abort;
 use std::test::Fail;
@@ -204,11 +204,11 @@ fn each_step() -> [(Step, Reply); 32] {
         (scan(0), scanned(3)),
         (scan(0), scanned(4)),
         (scan(0), scanned(6)),
-        (Step::EndMark, Reply::Doomed(1)),
+        (Step::Plain(PlainStep::EndMark), Reply::Doomed(1)),
         (clear_next(0), cleared(6)),
-        (Step::EndClear, Reply::Done),
+        (Step::Plain(PlainStep::EndClear), Reply::Done),
         (sweep(0), Reply::Swept(1)),
-        (Step::EndSweep, Reply::Done),
+        (Step::Plain(PlainStep::EndSweep), Reply::Done),
         (hand(0), OF_6),
         (worker_puts(0), NO_MEMORY),
         (worker_releases(0), Reply::Done),

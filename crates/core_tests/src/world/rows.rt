@@ -2,7 +2,8 @@
 //! fields, there are none.
 
 use ref_base::{
-    Actor, Cause, Fault, MutNo, ObjNo, QueueNo, Reply, SlotNo, Step, Strength, Urgency, WorkerNo,
+    Actor, Cause, Fault, MutNo, ObjNo, PlainStep, QueueNo, Reply, SlotNo, Step, Strength, Urgency,
+    WorkerNo,
 };
 
 /// The mutator of these steps.
@@ -19,22 +20,22 @@ pub const RELEASE: Step = Step::Release {
 };
 
 pub const fn new(slot: u32, fields: u32) -> Step {
-    Step::New {
+    Step::Plain(PlainStep::New {
         mutator: M,
         slot: SlotNo(slot),
         fields,
-    }
+    })
 }
 
 const fn refer(strength: Strength, slot: u32, source: u32, queue: Option<QueueNo>) -> Step {
-    Step::Refer {
+    Step::Plain(PlainStep::Refer {
         mutator: M,
         strength,
         slot: SlotNo(slot),
         source: SlotNo(source),
         queue,
         fields: 0,
-    }
+    })
 }
 
 /// A weak reference in this slot to what this one holds, for this queue.
@@ -43,59 +44,59 @@ pub const fn weak(slot: u32, source: u32, queue: u32) -> Step {
 }
 
 pub const fn store(object: u32, field: u32, value: u32) -> Step {
-    Step::Store {
+    Step::Plain(PlainStep::Store {
         mutator: M,
         object: SlotNo(object),
         field,
         value: SlotNo(value),
-    }
+    })
 }
 
 pub const fn load(slot: u32, object: u32, field: u32) -> Step {
-    Step::Load {
+    Step::Plain(PlainStep::Load {
         mutator: M,
         slot: SlotNo(slot),
         object: SlotNo(object),
         field,
-    }
+    })
 }
 
 pub const fn copy(slot: u32, source: u32) -> Step {
-    Step::Copy {
+    Step::Plain(PlainStep::Copy {
         mutator: M,
         slot: SlotNo(slot),
         source: SlotNo(source),
-    }
+    })
 }
 
 pub const fn drop_slot(slot: u32) -> Step {
-    Step::Drop {
+    Step::Plain(PlainStep::Drop {
         mutator: M,
         slot: SlotNo(slot),
-    }
+    })
 }
 
 pub const fn get(slot: u32, reference: u32) -> Step {
-    Step::Get {
+    Step::Plain(PlainStep::Get {
         mutator: M,
         slot: SlotNo(slot),
         reference: SlotNo(reference),
-    }
+    })
 }
 
 pub const fn clear(reference: u32) -> Step {
-    Step::Clear {
+    Step::Plain(PlainStep::Clear {
         mutator: M,
         reference: SlotNo(reference),
-    }
+    })
 }
 
 pub const fn refers_to(reference: u32, other: u32) -> Step {
-    Step::RefersTo {
+    Step::Plain(PlainStep::RefersTo {
         mutator: M,
         reference: SlotNo(reference),
         other: SlotNo(other),
-    }
+    })
 }
 
 pub const fn unhook(reference: u32) -> Step {
@@ -128,22 +129,22 @@ pub const fn close(queue: u32) -> Step {
 
 /// A normal cycle, at this clock.
 pub const fn begin(now: u64) -> Step {
-    Step::Begin {
+    Step::Plain(PlainStep::Begin {
         now,
         urgency: Urgency::Normal,
-    }
+    })
 }
 
 pub const fn scan(worker: u32) -> Step {
-    Step::Scan {
+    Step::Plain(PlainStep::Scan {
         worker: WorkerNo(worker),
-    }
+    })
 }
 
 pub const fn clear_next(worker: u32) -> Step {
-    Step::ClearNext {
+    Step::Plain(PlainStep::ClearNext {
         worker: WorkerNo(worker),
-    }
+    })
 }
 
 pub const fn hand(worker: u32) -> Step {
@@ -153,9 +154,9 @@ pub const fn hand(worker: u32) -> Step {
 }
 
 pub const fn sweep(worker: u32) -> Step {
-    Step::Sweep {
+    Step::Plain(PlainStep::Sweep {
         worker: WorkerNo(worker),
-    }
+    })
 }
 
 pub const fn worker_puts(worker: u32) -> Step {

@@ -6,7 +6,7 @@ use super::rows::{
     poll, scan, scanned, took, unhook, weak, worker_puts,
 };
 use super::{CONFIG, TWO_WORKERS, do_steps, runs_as};
-use ref_base::{Reply, Step};
+use ref_base::{PlainStep, Reply, Step};
 use ref_world::World;
 use std::test::Fail;
 
@@ -19,9 +19,9 @@ fn a_death_is_reported_after_a_cycle(rt: HostRuntime) -> Result<(), Fail> {
         (begin(5), Reply::Cycle(1)),
         (scan(0), scanned(2)),
         (scan(0), Reply::Nothing),
-        (Step::EndMark, Reply::Doomed(1)),
+        (Step::Plain(PlainStep::EndMark), Reply::Doomed(1)),
         (clear_next(0), cleared(2)),
-        (Step::EndClear, Reply::Done),
+        (Step::Plain(PlainStep::EndClear), Reply::Done),
         (hand(0), of_cycle(2, 1, 0)),
         (worker_puts(0), Reply::Added(0)),
         (poll(0), took(2)),
@@ -63,11 +63,11 @@ fn two_workers_put_in_what_each_cleared_in_its_order(rt: HostRuntime) -> Result<
         (scan(0), scanned(2)),
         (scan(1), scanned(4)),
         (scan(0), scanned(6)),
-        (Step::EndMark, Reply::Doomed(3)),
+        (Step::Plain(PlainStep::EndMark), Reply::Doomed(3)),
         (clear_next(1), cleared(4)),
         (clear_next(0), cleared(2)),
         (clear_next(0), cleared(6)),
-        (Step::EndClear, Reply::Done),
+        (Step::Plain(PlainStep::EndClear), Reply::Done),
         (hand(0), of_cycle(2, 1, 0)),
         (hand(1), of_cycle(4, 1, 1)),
         (worker_puts(0), Reply::Added(0)),

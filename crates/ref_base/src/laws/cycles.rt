@@ -15,6 +15,7 @@ ghost use Rattle.ref_base.specs.declared.fault.Fault.{Fault};
 ghost use Rattle.ref_base.specs.declared.config.Config.{Config};
 ghost use Rattle.ref_base.specs.declared.row.Row.{Row};
 ghost use Rattle.ref_base.specs.declared.reply.Reply.{Reply};
+ghost use Rattle.ref_base.specs.declared.plain_step.PlainStep.{PlainStep};
 ghost use Rattle.ref_base.specs.declared.step.Step.{Step};
 
 /// In a legal trace no object is scanned twice in a cycle.
@@ -26,7 +27,7 @@ pub fn no_object_is_scanned_twice_in_a_cycle()
 /// mark, it was made before the cycle began, and no row of the cycle scanned it.
 pub fn a_mark_goes_on_only_while_an_object_is_left()
     ensures { (config : Config) (front : List Row) (a b : State) → IsRun (first_state config) front a
-        → IsRow a (record { step = Step.EndMark; reply = Reply.Refused Fault.GreyLeft }) b
+        → IsRow a (record { step = Step.Plain PlainStep.EndMark; reply = Reply.Refused Fault.GreyLeft }) b
         → (n : ℕ) × IsLeft a n }
 {}
 
@@ -35,7 +36,7 @@ pub fn a_mark_goes_on_only_while_an_object_is_left()
 pub fn what_a_marks_end_clears_reads_as_cleared_from_then_on()
     ensures { (config : Config) (front : List Row) (a b : State) (count : ℕ) (rows : List Row) (c : State) (n : ℕ)
         → IsRun (first_state config) front a
-        → IsRow a (record { step = Step.EndMark; reply = Reply.Doomed count }) b → IsRun b rows c
+        → IsRow a (record { step = Step.Plain PlainStep.EndMark; reply = Reply.Doomed count }) b → IsRun b rows c
         → has (new_clears a.world.heap.objects (doomed_at a)) n ≡ true
         → referent_of (reference_at c.world.heap n) ≡ None }
 {}
@@ -44,9 +45,9 @@ pub fn what_a_marks_end_clears_reads_as_cleared_from_then_on()
 pub fn no_get_answers_what_a_marks_end_cleared()
     ensures { (config : Config) (front : List Row) (a b : State) (count : ℕ) (rows : List Row) (c : State) (n : ℕ)
         (m d s k : ℕ) (e : State) → IsRun (first_state config) front a
-        → IsRow a (record { step = Step.EndMark; reply = Reply.Doomed count }) b → IsRun b rows c
+        → IsRow a (record { step = Step.Plain PlainStep.EndMark; reply = Reply.Doomed count }) b → IsRun b rows c
         → has (new_clears a.world.heap.objects (doomed_at a)) n ≡ true → slot_at c.world.heap m s ≡ Some n
-        → ¬ (IsRow c (record { step = Step.Get m d s; reply = Reply.Object k }) e) }
+        → ¬ (IsRow c (record { step = Step.Plain (PlainStep.Get m d s); reply = Reply.Object k }) e) }
 {}
 
 /// After every legal trace, also while references are cleared and while the sweep goes on, nothing reaches what is

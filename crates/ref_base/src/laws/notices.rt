@@ -1,6 +1,6 @@
 //! Legal traces: for which queue a notice is, what its cause is, and when it may come.
 
-ghost use Rattle.std.specs.Prelude.{◌≡◌, ℕ, true, List, [], ◌∷◌, ◌++◌, Some};
+ghost use Rattle.std.specs.Prelude.{◌≡◌, ℕ, true, List, [], ◌∷◌, ◌++◌};
 ghost use Rattle.ref_base.specs.LegalTraces.{IsLegal};
 ghost use Rattle.ref_base.specs.WorkerOrder.{is_registered};
 ghost use Rattle.ref_base.specs.Worlds.{Notice, hand_of};
@@ -15,6 +15,7 @@ ghost use Rattle.ref_base.specs.declared.cause.Cause.{Cause};
 ghost use Rattle.ref_base.specs.declared.config.Config.{Config};
 ghost use Rattle.ref_base.specs.declared.row.Row.{Row};
 ghost use Rattle.ref_base.specs.declared.reply.Reply.{Reply};
+ghost use Rattle.ref_base.specs.declared.plain_step.PlainStep.{PlainStep};
 ghost use Rattle.ref_base.specs.declared.step.Step.{Step};
 
 /// In a legal trace a reference is registered with one queue.
@@ -23,12 +24,13 @@ pub fn a_reference_is_registered_with_one_queue()
         → is_registered rows n q ≡ true → is_registered rows n r ≡ true → q ≡ r }
 {}
 
-/// In a legal trace each notice that was put in, which is what the hand holds in the replay, comes from the rows
+/// In a legal trace each notice that was put in, which is the first of the hand in the replay, comes from the rows
 /// before: one of them made its reference, registered with the notice's queue; and one is its cause.
 pub fn each_notice_that_is_put_in_has_its_own_queue_and_cause()
     ensures { (config : Config) (front back : List Row) (who : Actor) (position : ℕ)
         → IsLegal config (front ++ record { step = Step.Put who; reply = Reply.Added position } ∷ back)
-        → (notice : Notice) × (hand_of (replayed config front) who ≡ Some notice) × IsProven front notice }
+        → (notice : Notice) × (rest : List Notice) × (hand_of (replayed config front) who ≡ notice ∷ rest)
+        × IsProven front notice }
 {}
 
 /// After every legal trace each notice that is out, in a hand or in a queue, comes from the rows: one of them made its
@@ -61,7 +63,8 @@ pub fn each_notice_of_a_cycle_comes_after_its_mark_ended()
 /// that goes on there.
 pub fn what_a_worker_clears_was_shown_by_its_mark_end()
     ensures { (config : Config) (front back : List Row) (k n : ℕ) (b : State)
-        → IsRun (first_state config) (front ++ record { step = Step.ClearNext k; reply = Reply.Cleared n } ∷ back) b
+        → IsRun (first_state config)
+        (front ++ record { step = Step.Plain (PlainStep.ClearNext k); reply = Reply.Cleared n } ∷ back) b
         → MarkEnded config front (replayed config front).cycle n }
 {}
 

@@ -1,6 +1,6 @@
 //! Legal traces: what comes into each queue, in which order, and what is taken from it.
 
-ghost use Rattle.std.specs.Prelude.{◌≡◌, ℕ, true, List, [], ◌∷◌, ◌++◌, Some, length};
+ghost use Rattle.std.specs.Prelude.{◌≡◌, ℕ, true, List, [], ◌∷◌, ◌++◌, length};
 ghost use Rattle.ref_base.specs.LegalTraces.{IsLegal};
 ghost use Rattle.ref_base.specs.QueueRows.{KeepsQueue, put_into, taken_from, was_closed};
 ghost use Rattle.ref_base.specs.WorkerOrder.{clearing_order};
@@ -32,11 +32,11 @@ pub fn the_lists_of_a_queue_are_those_of_the_rows()
 {}
 
 /// In a legal trace a put that was added answers how many references its queue got before, where the queue is that of
-/// the notice which the hand holds in the replay.
+/// the notice which is the first of the hand in the replay.
 pub fn added_answers_the_position()
     ensures { (config : Config) (front back : List Row) (who : Actor) (position : ℕ)
         → IsLegal config (front ++ record { step = Step.Put who; reply = Reply.Added position } ∷ back)
-        → (notice : Notice) × (hand_of (replayed config front) who ≡ Some notice)
+        → (notice : Notice) × (rest : List Notice) × (hand_of (replayed config front) who ≡ notice ∷ rest)
         × (position ≡ length (put_into notice.queue front)) }
 {}
 

@@ -35,14 +35,14 @@ pub fn memory_is_wanting_at_puts_alone()
 /// the world refuses the step just as its heap does.
 pub fn a_row_of_a_heap_is_a_row_of_its_world()
     ensures { (a c : State) (asked : NamedStep) (step : Step) (reply : Reply)
-        → heap_step a.world step ≡ Some asked → refusal a step ≡ heap_refusal 0 a asked
-        → IsHeapRow 0 a asked reply c
+        → heap_step a.world step ≡ Some asked → refusal a step ≡ heap_refusal a asked
+        → IsHeapRow a asked reply c
         → IsRow a (record { step = step; reply = reply }) (with_handed c step reply) }
 {}
 
 /// No row of a heap touches hands and queues.
 pub fn no_row_of_a_heap_touches_hands_and_queues()
-    ensures { (heap_no : ℕ) (a b : State) (step : NamedStep) (reply : Reply) → IsHeapRow heap_no a step reply b
+    ensures { (a b : State) (step : NamedStep) (reply : Reply) → IsHeapRow a step reply b
         → SameOthers a.world b.world }
 {}
 

@@ -1,12 +1,13 @@
 //! Clearing: each worker looks at the references that it found.
 
-ghost use Rattle.std.specs.Prelude.{◌≡◌};
+ghost use Rattle.ref_base.specs.declared.heap_step.HeapStep.TheVariants.{Plain};
+ghost use Rattle.ref_base.specs.declared.plain_step.PlainStep.TheVariants.{ClearNext, EndClear};
 ghost use Rattle.ref_mark.specs.MarkCalls.{reply_of, done_reply};
-ghost use Rattle.ref_clear.specs.ClearCalls.{answer_in, after_in, looked_reply};
+ghost use Rattle.ref_clear.specs.ClearCalls.{HeapDoes, looked_reply};
 
 use super::Heap;
 use crate::Looked;
-use ref_base::{Fault, HeapStep, ObjNo, Phase, Reply, WorkerNo};
+use ref_base::{Fault, ObjNo, Phase, WorkerNo};
 use ref_objects::Reference;
 use std::alloc::Allocator;
 
@@ -16,8 +17,7 @@ impl<A: Allocator + Copy> Heap<A> {
     /// another referent it is kept; where it has none it is skipped. None where nothing is left. Tried in this order:
     /// `NoSuchActor`, `WrongPhase`. In logarithmic time.
     pub fn clear_next(&mut self, worker: WorkerNo) -> Result<Option<Looked>, Fault>
-        ensures answer { reply_of looked_reply result ≡ answer_in self.old (HeapStep.ClearNext worker) }
-        ensures after { self.new ≡ after_in self.old (HeapStep.ClearNext worker) }
+        ensures { HeapDoes self.old (Plain (ClearNext worker)) (reply_of looked_reply result) self.new }
     {
         let Some(no) = self.marker.take_found(worker)? else {
             return Ok(None);
@@ -43,8 +43,7 @@ impl<A: Allocator + Copy> Heap<A> {
     /// Ends clearing: the sweep may begin. Tried in this order: `WrongPhase`, `ClearingLeft` while a worker has found a
     /// reference that it didn't look at. In time of the workers.
     pub fn end_clear(&mut self) -> Result<(), Fault>
-        ensures answer { reply_of done_reply result ≡ answer_in self.old HeapStep.EndClear }
-        ensures after { self.new ≡ after_in self.old HeapStep.EndClear }
+        ensures { HeapDoes self.old (Plain EndClear) (reply_of done_reply result) self.new }
     {
         if self.marker.phase() != Phase::Clearing {
             return Err(Fault::WrongPhase);

@@ -2,13 +2,15 @@
 
 ghost use Rattle.std.specs.Prelude.{◌≡◌};
 ghost use Rattle.ref_base.specs.Collectors.{joined};
+ghost use Rattle.ref_base.specs.declared.heap_step.HeapStep.TheVariants.{Plain};
+ghost use Rattle.ref_base.specs.declared.plain_step.PlainStep.TheVariants.{Begin, EndMark, Scan};
 ghost use Rattle.ref_mark.specs.CycleHeaps.{shaded_all};
 ghost use Rattle.ref_mark.specs.MarkCalls.{reply_of, scan_reply};
 ghost use Rattle.ref_mark.specs.MarkViews.{worklists_of};
-ghost use Rattle.ref_clear.specs.ClearCalls.{answer_in, after_in};
+ghost use Rattle.ref_clear.specs.ClearCalls.{HeapDoes};
 
 use super::Heap;
-use ref_base::{Fault, HeapStep, ObjNo, Reply, Urgency, WorkerNo};
+use ref_base::{Fault, ObjNo, Reply, Urgency, WorkerNo};
 use ref_mark::{Marker, Worklist};
 use std::alloc::Allocator;
 
@@ -18,8 +20,7 @@ impl<A: Allocator + Copy> Heap<A> {
     /// list order. Tried in this order: `WrongPhase` where a cycle hasn't ended, `ClockBack` where the clock is later,
     /// `NumbersSpent` after 2^64 - 1 cycles. In time of the cells.
     pub fn begin(&mut self, now: u64, urgency: Urgency) -> Result<u64, Fault>
-        ensures answer { reply_of Reply.Cycle result ≡ answer_in self.old (HeapStep.Begin now urgency) }
-        ensures after { self.new ≡ after_in self.old (HeapStep.Begin now urgency) }
+        ensures { HeapDoes self.old (Plain (Begin now urgency)) (reply_of Reply.Cycle result) self.new }
     {
         let cycle = self.marker.begin(now, urgency)?;
         shade_pending(&mut self.marker, &self.pending);
@@ -28,16 +29,14 @@ impl<A: Allocator + Copy> Heap<A> {
 
     /// Scans the first of the grey list for this worker, as `Marker::scan` does: `NoSuchActor`, `WrongPhase`.
     pub fn scan(&mut self, worker: WorkerNo) -> Result<Option<ObjNo>, Fault>
-        ensures answer { reply_of scan_reply result ≡ answer_in self.old (HeapStep.Scan worker) }
-        ensures after { self.new ≡ after_in self.old (HeapStep.Scan worker) }
+        ensures { HeapDoes self.old (Plain (Scan worker)) (reply_of scan_reply result) self.new }
     {
         self.marker.scan(worker)
     }
 
     /// Ends the mark, and answers how many objects are doomed, as `Marker::end_mark` does: `WrongPhase`, `GreyLeft`.
     pub fn end_mark(&mut self) -> Result<u32, Fault>
-        ensures answer { reply_of Reply.Doomed result ≡ answer_in self.old HeapStep.EndMark }
-        ensures after { self.new ≡ after_in self.old HeapStep.EndMark }
+        ensures { HeapDoes self.old (Plain EndMark) (reply_of Reply.Doomed result) self.new }
     {
         self.marker.end_mark()
     }

@@ -1,8 +1,9 @@
 //! Holds: what is held is a root.
 
 ghost use Rattle.std.specs.Prelude.{◌≡◌, IfOk, IfErr};
+ghost use Rattle.ref_base.specs.declared.heap_step.HeapStep.TheVariants.{Adopt, Release};
 ghost use Rattle.ref_mark.specs.MarkCalls.{reply_of, reply_or_back, hold_reply, done_reply};
-ghost use Rattle.ref_clear.specs.ClearCalls.{answer_in, after_in};
+ghost use Rattle.ref_clear.specs.ClearCalls.{HeapDoes};
 
 use super::Heap;
 use ref_base::{Fault, HeapStep, MutNo, ObjNo, Reply, SlotNo};
@@ -13,9 +14,8 @@ impl<A: Allocator + Copy> Heap<A> {
     /// Takes a hold of the object in a slot: while it is out, the object is a root. Tried in this order: `NoSuchActor`,
     /// `EmptySlot`, `NumbersSpent` where 2^64 - 1 holds are out. In logarithmic time.
     pub fn hold(&mut self, mutator: MutNo, slot: SlotNo) -> Result<Hold, Fault>
-        ensures answer { reply_of hold_reply result ≡ answer_in self.old (HeapStep.Hold mutator slot) }
-        ensures own { IfOk result (λ hold. hold.heap_no ≡ self.old.mark.heap_no) }
-        ensures after { self.new ≡ after_in self.old (HeapStep.Hold mutator slot) }
+        ensures does { HeapDoes self.old (HeapStep.Hold mutator slot) (reply_of hold_reply result) self.new }
+        ensures own { IfOk result (λ hold. hold.heap_no ≡ self.old.mark.heap.no) }
     {
         self.marker.hold(mutator, slot)
     }
@@ -28,9 +28,8 @@ impl<A: Allocator + Copy> Heap<A> {
         into: SlotNo,
         hold: Hold,
     ) -> Result<ObjNo, (Fault, Hold)>
-        ensures answer { reply_or_back Reply.Object result ≡ answer_in self.old (HeapStep.Adopt mutator into hold) }
+        ensures does { HeapDoes self.old (Adopt mutator into hold) (reply_or_back Reply.Object result) self.new }
         ensures back { IfErr result (λ refused. refused.1 ≡ hold) }
-        ensures after { self.new ≡ after_in self.old (HeapStep.Adopt mutator into hold) }
     {
         self.marker.adopt(mutator, into, hold)
     }
@@ -38,9 +37,8 @@ impl<A: Allocator + Copy> Heap<A> {
     /// Takes a hold back. The one error is `ForeignHold`, where the heap counts no such hold. The hold then comes back.
     /// In logarithmic time.
     pub fn release(&mut self, hold: Hold) -> Result<(), (Fault, Hold)>
-        ensures answer { reply_or_back done_reply result ≡ answer_in self.old (HeapStep.Release hold) }
+        ensures does { HeapDoes self.old (Release hold) (reply_or_back done_reply result) self.new }
         ensures back { IfErr result (λ refused. refused.1 ≡ hold) }
-        ensures after { self.new ≡ after_in self.old (HeapStep.Release hold) }
     {
         self.marker.release(hold)
     }

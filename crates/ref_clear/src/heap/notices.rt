@@ -1,12 +1,13 @@
 //! Notices: of what a worker cleared, and of what the program unhooks.
 
-ghost use Rattle.std.specs.Prelude.{◌≡◌, IfOk};
+ghost use Rattle.std.specs.Prelude.{IfOk};
+ghost use Rattle.ref_base.specs.declared.heap_step.HeapStep.TheVariants.{Hand, Unhook};
 ghost use Rattle.ref_mark.specs.MarkCalls.{reply_of};
-ghost use Rattle.ref_clear.specs.ClearCalls.{answer_in, after_in, notice_reply, IsOfHeap};
+ghost use Rattle.ref_clear.specs.ClearCalls.{HeapDoes, notice_reply, IsOfHeap};
 
 use super::Heap;
 use crate::{Notice, Pending};
-use ref_base::{Cause, Fault, HeapStep, MutNo, SlotNo, WorkerNo};
+use ref_base::{Cause, Fault, MutNo, SlotNo, WorkerNo};
 use std::alloc::Allocator;
 
 impl<A: Allocator + Copy> Heap<A> {
@@ -14,9 +15,8 @@ impl<A: Allocator + Copy> Heap<A> {
     /// cleared. None where nothing is pending. Tried in this order: `NoSuchActor`; where something is pending,
     /// `NumbersSpent` where 2^64 - 1 holds are out. In logarithmic time.
     pub fn hand(&mut self, worker: WorkerNo) -> Result<Option<Notice>, Fault>
-        ensures answer { reply_of notice_reply result ≡ answer_in self.old (HeapStep.Hand worker) }
-        ensures own { IfOk result (λ notice. IsOfHeap self.old.mark.heap_no notice) }
-        ensures after { self.new ≡ after_in self.old (HeapStep.Hand worker) }
+        ensures does { HeapDoes self.old (Hand worker) (reply_of notice_reply result) self.new }
+        ensures own { IfOk result (λ notice. IsOfHeap self.old.mark.heap.no notice) }
     {
         if worker.0 >= self.config().workers {
             return Err(Fault::NoSuchActor);
@@ -36,9 +36,8 @@ impl<A: Allocator + Copy> Heap<A> {
     /// this order: `NoSuchActor`, `EmptySlot`, `NotAReference`; where it is registered, `NumbersSpent` where 2^64 - 1
     /// holds are out. In logarithmic time.
     pub fn unhook(&mut self, mutator: MutNo, reference: SlotNo) -> Result<Option<Notice>, Fault>
-        ensures answer { reply_of notice_reply result ≡ answer_in self.old (HeapStep.Unhook mutator reference) }
-        ensures own { IfOk result (λ notice. IsOfHeap self.old.mark.heap_no notice) }
-        ensures after { self.new ≡ after_in self.old (HeapStep.Unhook mutator reference) }
+        ensures does { HeapDoes self.old (Unhook mutator reference) (reply_of notice_reply result) self.new }
+        ensures own { IfOk result (λ notice. IsOfHeap self.old.mark.heap.no notice) }
     {
         let no = self
             .marker

@@ -2,19 +2,21 @@
 
 ghost use Rattle.std.specs.Prelude.{◌≡◌};
 ghost use Rattle.ref_base.specs.CollectorRows.{value_reply};
+ghost use Rattle.ref_base.specs.declared.heap_step.HeapStep.TheVariants.{Plain};
+ghost use Rattle.ref_base.specs.declared.plain_step.PlainStep.TheVariants.{Clear, Copy, Drop, Get, Load, New};
+ghost use Rattle.ref_base.specs.declared.plain_step.PlainStep.TheVariants.{Refer, RefersTo, Store};
 ghost use Rattle.ref_mark.specs.MarkCalls.{reply_of, done_reply};
-ghost use Rattle.ref_clear.specs.ClearCalls.{answer_in, after_in};
+ghost use Rattle.ref_clear.specs.ClearCalls.{answer_in, HeapDoes};
 
 use super::Heap;
-use ref_base::{Fault, HeapStep, MutNo, ObjNo, QueueNo, Reply, SlotNo, Strength};
+use ref_base::{Fault, MutNo, ObjNo, QueueNo, Reply, SlotNo, Strength};
 use std::alloc::Allocator;
 
 impl<A: Allocator + Copy> Heap<A> {
     /// Makes a plain object, as `Marker::alloc_obj` does: `NoSuchActor`, `BadField`, `NumbersSpent`, `NoCell`. A doomed
     /// object takes its cell until it is swept.
     pub fn alloc_obj(&mut self, mutator: MutNo, into: SlotNo, fields: u32) -> Result<ObjNo, Fault>
-        ensures answer { reply_of Reply.Object result ≡ answer_in self.old (HeapStep.New mutator into fields) }
-        ensures after { self.new ≡ after_in self.old (HeapStep.New mutator into fields) }
+        ensures { HeapDoes self.old (Plain (New mutator into fields)) (reply_of Reply.Object result) self.new }
     {
         self.marker.alloc_obj(mutator, into, fields)
     }
@@ -30,9 +32,8 @@ impl<A: Allocator + Copy> Heap<A> {
         queue: Option<QueueNo>,
         fields: u32,
     ) -> Result<ObjNo, Fault>
-        ensures answer { reply_of Reply.Object result
-            ≡ answer_in self.old (HeapStep.Refer mutator strength into from queue fields) }
-        ensures after { self.new ≡ after_in self.old (HeapStep.Refer mutator strength into from queue fields) }
+        ensures { HeapDoes self.old (Plain (Refer mutator strength into from queue fields))
+            (reply_of Reply.Object result) self.new }
     {
         self.marker
             .alloc_ref(mutator, into, strength, from, queue, fields)
@@ -47,8 +48,7 @@ impl<A: Allocator + Copy> Heap<A> {
         field: u32,
         from: SlotNo,
     ) -> Result<(), Fault>
-        ensures answer { reply_of done_reply result ≡ answer_in self.old (HeapStep.Store mutator into field from) }
-        ensures after { self.new ≡ after_in self.old (HeapStep.Store mutator into field from) }
+        ensures { HeapDoes self.old (Plain (Store mutator into field from)) (reply_of done_reply result) self.new }
     {
         self.marker.store(mutator, into, field, from)
     }
@@ -62,8 +62,7 @@ impl<A: Allocator + Copy> Heap<A> {
         from: SlotNo,
         field: u32,
     ) -> Result<Option<ObjNo>, Fault>
-        ensures answer { reply_of value_reply result ≡ answer_in self.old (HeapStep.Load mutator into from field) }
-        ensures after { self.new ≡ after_in self.old (HeapStep.Load mutator into from field) }
+        ensures { HeapDoes self.old (Plain (Load mutator into from field)) (reply_of value_reply result) self.new }
     {
         self.marker.load(mutator, into, from, field)
     }
@@ -75,16 +74,14 @@ impl<A: Allocator + Copy> Heap<A> {
         into: SlotNo,
         from: SlotNo,
     ) -> Result<Option<ObjNo>, Fault>
-        ensures answer { reply_of value_reply result ≡ answer_in self.old (HeapStep.Copy mutator into from) }
-        ensures after { self.new ≡ after_in self.old (HeapStep.Copy mutator into from) }
+        ensures { HeapDoes self.old (Plain (Copy mutator into from)) (reply_of value_reply result) self.new }
     {
         self.marker.copy(mutator, into, from)
     }
 
     /// Empties a slot: `NoSuchActor`.
     pub fn drop_slot(&mut self, mutator: MutNo, slot: SlotNo) -> Result<(), Fault>
-        ensures answer { reply_of done_reply result ≡ answer_in self.old (HeapStep.Drop mutator slot) }
-        ensures after { self.new ≡ after_in self.old (HeapStep.Drop mutator slot) }
+        ensures { HeapDoes self.old (Plain (Drop mutator slot)) (reply_of done_reply result) self.new }
     {
         self.marker.drop_slot(mutator, slot)
     }
@@ -97,8 +94,7 @@ impl<A: Allocator + Copy> Heap<A> {
         into: SlotNo,
         reference: SlotNo,
     ) -> Result<Option<ObjNo>, Fault>
-        ensures answer { reply_of value_reply result ≡ answer_in self.old (HeapStep.Get mutator into reference) }
-        ensures after { self.new ≡ after_in self.old (HeapStep.Get mutator into reference) }
+        ensures { HeapDoes self.old (Plain (Get mutator into reference)) (reply_of value_reply result) self.new }
     {
         self.marker.get(mutator, into, reference)
     }
@@ -106,8 +102,7 @@ impl<A: Allocator + Copy> Heap<A> {
     /// Clears the reference in a slot, and gives no notice, as `Marker::clear` does: `NoSuchActor`, `EmptySlot`,
     /// `NotAReference`.
     pub fn clear(&mut self, mutator: MutNo, reference: SlotNo) -> Result<(), Fault>
-        ensures answer { reply_of done_reply result ≡ answer_in self.old (HeapStep.Clear mutator reference) }
-        ensures after { self.new ≡ after_in self.old (HeapStep.Clear mutator reference) }
+        ensures { HeapDoes self.old (Plain (Clear mutator reference)) (reply_of done_reply result) self.new }
     {
         self.marker.clear(mutator, reference)
     }
@@ -115,7 +110,7 @@ impl<A: Allocator + Copy> Heap<A> {
     /// Whether the reference in a slot refers to what slot `other` holds, as `Marker::refers_to` does: to null once it
     /// is cleared, or its referent doomed. `NoSuchActor`, `EmptySlot`, `NotAReference`.
     pub fn refers_to(&self, mutator: MutNo, reference: SlotNo, other: SlotNo) -> Result<bool, Fault>
-        ensures answer { reply_of Reply.Refers result ≡ answer_in self.now (HeapStep.RefersTo mutator reference other) }
+        ensures { reply_of Reply.Refers result ≡ answer_in self.now (Plain (RefersTo mutator reference other)) }
     {
         self.marker.refers_to(mutator, reference, other)
     }

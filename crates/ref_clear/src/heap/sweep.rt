@@ -1,14 +1,16 @@
 //! The sweep: what is doomed is freed.
 
 ghost use Rattle.std.specs.Prelude.{◌≡◌, min, length};
+ghost use Rattle.ref_base.specs.declared.heap_step.HeapStep.TheVariants.{Plain};
+ghost use Rattle.ref_base.specs.declared.plain_step.PlainStep.TheVariants.{EndSweep, Sweep};
 ghost use Rattle.ref_mark.specs.MarkCalls.{reply_of, done_reply};
 ghost use Rattle.ref_mark.specs.CycleHeaps.{doomed};
 ghost use Rattle.ref_clear.specs.ClearHeaps.{swept_some};
-ghost use Rattle.ref_clear.specs.ClearCalls.{answer_in, after_in, swept_reply};
+ghost use Rattle.ref_clear.specs.ClearCalls.{HeapDoes, swept_reply};
 ghost use Rattle.ref_clear.specs.ClearViews.{MaySweep};
 
 use super::Heap;
-use ref_base::{Fault, HeapStep, ObjNo, Phase, Reply, WorkerNo};
+use ref_base::{Fault, ObjNo, Phase, WorkerNo};
 use ref_mark::Marker;
 use std::alloc::Allocator;
 
@@ -20,8 +22,7 @@ impl<A: Allocator + Copy> Heap<A> {
     /// is left. Tried in this order: `NoSuchActor`, `WrongPhase`. In logarithmic time for each that it frees, and all
     /// sweeps of a cycle together in time of the objects that are there.
     pub fn sweep(&mut self, worker: WorkerNo) -> Result<Option<u32>, Fault>
-        ensures answer { reply_of swept_reply result ≡ answer_in self.old (HeapStep.Sweep worker) }
-        ensures after { self.new ≡ after_in self.old (HeapStep.Sweep worker) }
+        ensures { HeapDoes self.old (Plain (Sweep worker)) (reply_of swept_reply result) self.new }
     {
         self.marker.check_work(worker, Phase::Sweeping)?;
         let (freed, reached) = free_some(&mut self.marker, self.swept_to);
@@ -35,8 +36,7 @@ impl<A: Allocator + Copy> Heap<A> {
     /// Ends the sweep, and the cycle with it. Tried in this order: `WrongPhase`, `SweepLeft` while an object is doomed.
     /// In time of the objects that are there and of those that were freed.
     pub fn end_sweep(&mut self) -> Result<(), Fault>
-        ensures answer { reply_of done_reply result ≡ answer_in self.old HeapStep.EndSweep }
-        ensures after { self.new ≡ after_in self.old HeapStep.EndSweep }
+        ensures { HeapDoes self.old (Plain EndSweep) (reply_of done_reply result) self.new }
     {
         if self.marker.phase() != Phase::Sweeping {
             return Err(Fault::WrongPhase);

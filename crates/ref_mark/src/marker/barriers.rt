@@ -6,12 +6,14 @@ ghost use Rattle.ref_base.specs.Paths.{is_soft};
 ghost use Rattle.ref_base.specs.Heaps.{slot_at, reference_at, with_slot};
 ghost use Rattle.ref_base.specs.CollectorRows.{field_in, referent_got, value_reply};
 ghost use Rattle.ref_base.specs.Refusals.{has_slot, load_refusal, get_refusal, clear_refusal};
+ghost use Rattle.ref_base.specs.declared.heap_step.HeapStep.TheVariants.{Plain};
+ghost use Rattle.ref_base.specs.declared.plain_step.PlainStep.TheVariants.{Clear, Get, Load, RefersTo};
 ghost use Rattle.ref_objects.specs.Grounds.{IsRefused};
 ghost use Rattle.ref_mark.specs.CycleHeaps.{barred, is_white, is_doomed, undoomed, renewed};
-ghost use Rattle.ref_mark.specs.MarkCalls.{answer_in_cycle, after_in_cycle, reply_of, done_reply};
+ghost use Rattle.ref_mark.specs.MarkCalls.{answer_in_cycle, MarkerDoes, reply_of, done_reply};
 
 use super::Marker;
-use ref_base::{Fault, HeapStep, MutNo, ObjNo, Phase, Reply, SlotNo, Strength};
+use ref_base::{Fault, MutNo, ObjNo, Phase, Reply, SlotNo, Strength};
 use ref_objects::Reference;
 use std::alloc::Allocator;
 
@@ -26,9 +28,7 @@ impl<A: Allocator + Copy> Marker<A> {
         from: SlotNo,
         field: u32,
     ) -> Result<Option<ObjNo>, Fault>
-        ensures answer { reply_of value_reply result ≡
-            answer_in_cycle self.old (HeapStep.Load mutator into from field) }
-        ensures after { self.new ≡ after_in_cycle self.old (HeapStep.Load mutator into from field) }
+        ensures { MarkerDoes self.old (Plain (Load mutator into from field)) (reply_of value_reply result) self.new }
     {
         let value = self.loadable(mutator, into, from, field)?;
         // The prover takes an Option that is passed on by value as spent.
@@ -48,8 +48,7 @@ impl<A: Allocator + Copy> Marker<A> {
         into: SlotNo,
         reference: SlotNo,
     ) -> Result<Option<ObjNo>, Fault>
-        ensures answer { reply_of value_reply result ≡ answer_in_cycle self.old (HeapStep.Get mutator into reference) }
-        ensures after { self.new ≡ after_in_cycle self.old (HeapStep.Get mutator into reference) }
+        ensures { MarkerDoes self.old (Plain (Get mutator into reference)) (reply_of value_reply result) self.new }
     {
         let (no, got) = self.gettable(mutator, into, reference)?;
         let value = self.read(got);
@@ -64,8 +63,7 @@ impl<A: Allocator + Copy> Marker<A> {
     /// that is left to a worker. Tried in this order: `NoSuchActor`, `EmptySlot`, `NotAReference`. In logarithmic
     /// time.
     pub fn clear(&mut self, mutator: MutNo, reference: SlotNo) -> Result<(), Fault>
-        ensures answer { reply_of done_reply result ≡ answer_in_cycle self.old (HeapStep.Clear mutator reference) }
-        ensures after { self.new ≡ after_in_cycle self.old (HeapStep.Clear mutator reference) }
+        ensures { MarkerDoes self.old (Plain (Clear mutator reference)) (reply_of done_reply result) self.new }
     {
         let (no, cleared) = self.clearable(mutator, reference)?;
         if !self.is_any_doomed(cleared.referent) {
@@ -78,8 +76,7 @@ impl<A: Allocator + Copy> Marker<A> {
     /// is doomed. It makes nothing grey. Tried in this order: `NoSuchActor`, `EmptySlot`, `NotAReference`. In
     /// logarithmic time.
     pub fn refers_to(&self, mutator: MutNo, reference: SlotNo, other: SlotNo) -> Result<bool, Fault>
-        ensures answer { reply_of Reply.Refers result ≡
-            answer_in_cycle self.now (HeapStep.RefersTo mutator reference other) }
+        ensures { reply_of Reply.Refers result ≡ answer_in_cycle self.now (Plain (RefersTo mutator reference other)) }
     {
         let (_no, read) = self.gettable(mutator, other, reference)?;
         let value = self.objects.slot_of(mutator, other)?;

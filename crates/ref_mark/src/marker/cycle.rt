@@ -8,12 +8,14 @@ ghost use Rattle.ref_base.specs.DoomedSets.{refers_into};
 ghost use Rattle.ref_base.specs.Heaps.{reference_at};
 ghost use Rattle.ref_base.specs.CollectorRows.{list_at, emptied};
 ghost use Rattle.ref_base.specs.Refusals.{is_empty, begin_refusal, work_refusal, end_mark_refusal};
+ghost use Rattle.ref_base.specs.declared.heap_step.HeapStep.TheVariants.{Plain};
+ghost use Rattle.ref_base.specs.declared.plain_step.PlainStep.TheVariants.{Begin, EndMark, Scan};
 ghost use Rattle.ref_objects.specs.Grounds.{IsRefused, fields_in};
-ghost use Rattle.ref_mark.specs.MarkCalls.{answer_in_cycle, after_in_cycle, reply_of, scan_reply};
+ghost use Rattle.ref_mark.specs.MarkCalls.{MarkerDoes, reply_of, scan_reply};
 ghost use Rattle.ref_mark.specs.CycleHeaps.{shaded_all, whitened, with_found, is_white};
 
 use super::Marker;
-use ref_base::{Fault, HeapStep, ObjNo, Phase, Policy, Reply, Strength, Urgency, WorkerNo, keeps};
+use ref_base::{Fault, ObjNo, Phase, Policy, Reply, Strength, Urgency, WorkerNo, keeps};
 use ref_objects::Reference;
 use std::alloc::Allocator;
 
@@ -23,8 +25,7 @@ impl<A: Allocator + Copy> Marker<A> {
     /// cycle hasn't ended, `ClockBack` where the clock is later, `NumbersSpent` after 2^64 - 1 cycles. In time of the
     /// cells.
     pub fn begin(&mut self, now: u64, urgency: Urgency) -> Result<u64, Fault>
-        ensures answer { reply_of Reply.Cycle result ≡ answer_in_cycle self.old (HeapStep.Begin now urgency) }
-        ensures after { self.new ≡ after_in_cycle self.old (HeapStep.Begin now urgency) }
+        ensures { MarkerDoes self.old (Plain (Begin now urgency)) (reply_of Reply.Cycle result) self.new }
     {
         self.check_begin(now)?;
         self.whiten(now, urgency);
@@ -38,8 +39,7 @@ impl<A: Allocator + Copy> Marker<A> {
     /// the worker. Answers the object, or none where the list is empty. Tried in this order: `NoSuchActor`,
     /// `WrongPhase`. In logarithmic time for each field.
     pub fn scan(&mut self, worker: WorkerNo) -> Result<Option<ObjNo>, Fault>
-        ensures answer { reply_of scan_reply result ≡ answer_in_cycle self.old (HeapStep.Scan worker) }
-        ensures after { self.new ≡ after_in_cycle self.old (HeapStep.Scan worker) }
+        ensures { MarkerDoes self.old (Plain (Scan worker)) (reply_of scan_reply result) self.new }
     {
         self.check_work(worker, Phase::Marking)?;
         let Some(no) = self.grey.take_first() else {
@@ -56,8 +56,7 @@ impl<A: Allocator + Copy> Marker<A> {
     /// Ends the mark: the white objects are doomed now, and it answers how many they are. Tried in this order:
     /// `WrongPhase`, `GreyLeft` while the grey list has objects. In constant time.
     pub fn end_mark(&mut self) -> Result<u32, Fault>
-        ensures answer { reply_of Reply.Doomed result ≡ answer_in_cycle self.old HeapStep.EndMark }
-        ensures after { self.new ≡ after_in_cycle self.old HeapStep.EndMark }
+        ensures { MarkerDoes self.old (Plain EndMark) (reply_of Reply.Doomed result) self.new }
     {
         self.check_end_mark()?;
         self.phase = Phase::Clearing;

@@ -1,7 +1,9 @@
 //! Holds: what is held is a root.
 
 ghost use Rattle.std.specs.Prelude.{◌≡◌, if◌then◌else◌, IfOk, IfErr};
-ghost use Rattle.ref_mark.specs.MarkCalls.{answer_in_cycle, after_in_cycle, names_freed, mint_answer_in, after_mint_in};
+ghost use Rattle.ref_base.specs.declared.heap_step.HeapStep.TheVariants.{Adopt, Release};
+ghost use Rattle.ref_mark.specs.MarkCalls.{MarkerDoes, answer_in_cycle, after_in_cycle, names_freed};
+ghost use Rattle.ref_mark.specs.MarkCalls.{mint_answer_in, after_mint_in};
 ghost use Rattle.ref_mark.specs.MarkCalls.{reply_of, reply_or_back, hold_reply, done_reply};
 
 use super::Marker;
@@ -16,7 +18,7 @@ impl<A: Allocator + Copy> Marker<A> {
         ensures answer { reply_of hold_reply result
             ≡ (if names_freed self.old mutator slot then Reply.Refused Fault.NoSuchObject
             else answer_in_cycle self.old (HeapStep.Hold mutator slot)) }
-        ensures own { IfOk result (λ hold. hold.heap_no ≡ self.old.heap_no) }
+        ensures own { IfOk result (λ hold. hold.heap_no ≡ self.old.heap.no) }
         ensures after { self.new
             ≡ (if names_freed self.old mutator slot then self.old
             else after_in_cycle self.old (HeapStep.Hold mutator slot)) }
@@ -31,19 +33,16 @@ impl<A: Allocator + Copy> Marker<A> {
         into: SlotNo,
         hold: Hold,
     ) -> Result<ObjNo, (Fault, Hold)>
-        ensures answer { reply_or_back Reply.Object result ≡
-            answer_in_cycle self.old (HeapStep.Adopt mutator into hold) }
+        ensures does { MarkerDoes self.old (Adopt mutator into hold) (reply_or_back Reply.Object result) self.new }
         ensures back { IfErr result (λ refused. refused.1 ≡ hold) }
-        ensures after { self.new ≡ after_in_cycle self.old (HeapStep.Adopt mutator into hold) }
     {
         self.objects.adopt(mutator, into, hold)
     }
 
     /// Takes a hold back, as `Objects::release` does: `ForeignHold`. The hold then comes back.
     pub fn release(&mut self, hold: Hold) -> Result<(), (Fault, Hold)>
-        ensures answer { reply_or_back done_reply result ≡ answer_in_cycle self.old (HeapStep.Release hold) }
+        ensures does { MarkerDoes self.old (Release hold) (reply_or_back done_reply result) self.new }
         ensures back { IfErr result (λ refused. refused.1 ≡ hold) }
-        ensures after { self.new ≡ after_in_cycle self.old (HeapStep.Release hold) }
     {
         self.objects.release(hold)
     }
@@ -52,7 +51,7 @@ impl<A: Allocator + Copy> Marker<A> {
     /// layer above, of an object that a root names.
     pub fn mint(&mut self, no: ObjNo) -> Result<Hold, Fault>
         ensures answer { reply_of hold_reply result ≡ mint_answer_in self.old no }
-        ensures own { IfOk result (λ hold. hold.heap_no ≡ self.old.heap_no) }
+        ensures own { IfOk result (λ hold. hold.heap_no ≡ self.old.heap.no) }
         ensures after { self.new ≡ after_mint_in self.old no }
     {
         self.objects.mint(no)

@@ -5,7 +5,7 @@ ghost use Rattle.std.specs.Prelude.{◌≡◌, true};
 ghost use Rattle.ref_base.specs.Heaps.{with_slot, with_changed, with_reference, with_stamp, cleared, with_clock};
 ghost use Rattle.ref_base.specs.Refusals.{drop_refusal};
 ghost use Rattle.ref_objects.specs.Grounds.{IsRefused, if_done, ground_with_heap, is_free, after_freeing};
-ghost use Rattle.ref_objects.specs.Grounds.{with_cleared_tag};
+ghost use Rattle.ref_objects.specs.Grounds.{with_cleared_tag, with_link};
 
 use super::Objects;
 use ref_base::{Fault, MutNo, ObjNo, SlotNo};
@@ -56,6 +56,15 @@ impl<A: Allocator + Copy> Objects<A> {
         ensures { self.new ≡ record self.old { tags = with_cleared_tag self.old.tags no cycle } }
     {
         self.table.set_cleared_in(no, cycle);
+    }
+
+    /// Writes the link of the object of this number, which names another object or is 0; nothing changes where there is
+    /// no such object. A link means what the layer above reads in it: of an object that stands in no list nothing is
+    /// said. In logarithmic time.
+    pub fn set_link(&mut self, no: ObjNo, to: u32)
+        ensures { self.new ≡ record self.old { tags = with_link self.old.tags no to } }
+    {
+        self.table.set_link(no, to);
     }
 
     /// Frees the object of this number, and its cell; its mark goes. True exactly where there is one and nobody holds

@@ -7,7 +7,7 @@ ghost use Rattle.ref_base.specs.Heaps.{slot_at, reference_at, registered_in};
 ghost use Rattle.ref_base.specs.CollectorRows.{referent_of};
 ghost use Rattle.ref_base.specs.Refusals.{drop_refusal};
 ghost use Rattle.ref_objects.specs.Grounds.{IsRefused, fields_in, kind_in, stamp_in, least_from, IsWellFormed};
-ghost use Rattle.ref_objects.specs.Grounds.{cleared_in_at};
+ghost use Rattle.ref_objects.specs.Grounds.{cleared_in_at, link_at};
 
 use super::Objects;
 use crate::fields::Fields;
@@ -26,7 +26,7 @@ impl<A: Allocator + Copy> Objects<A> {
 
     /// The number of the heap.
     pub fn heap_no(&self) -> u64
-        ensures { result ≡ self.now.heap_no }
+        ensures { result ≡ self.now.heap.no }
     {
         self.heap_no
     }
@@ -156,6 +156,13 @@ impl<A: Allocator + Copy> Objects<A> {
         ensures { result ≡ cleared_in_at self.now.tags no }
     {
         self.table.cleared_in(no)
+    }
+
+    /// The link of the object of this number: 0 where it was never written, and where there is no such object.
+    pub fn link_of(&self, no: ObjNo) -> u32
+        ensures { result ≡ link_at self.now.tags no }
+    {
+        self.table.link_of(no)
     }
 
     /// The least number from this one on of an object that is there. In logarithmic time, and that of the gaps that

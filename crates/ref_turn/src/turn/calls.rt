@@ -80,7 +80,7 @@ impl<M: Machine, A: Allocator> Turn<M, A> {
         ensures turn { IsBeside seat.old seat.new }
         ensures ok { IfOk result (λ r.
             Extends (view seat.old) (entry (view seat.old).number step r) (view seat.new)) }
-        ensures history { IsHistory M.stands_for M.moves (view seat.new) }
+        ensures history { IsHistory M.stands_for M.steps_to (view seat.new) }
         ensures acted { IfOk result (λ r. (m n : M) × M.acts m step r n) }
         ensures longer { IfErr result (λ _. Longer (view seat.old) (view seat.new)) }
         ensures err { IfErr result (λ e. (e ≡ Spent step) × ((view seat.new).drawn ≡ 2 ^ 64 - 1)) }
@@ -105,7 +105,7 @@ impl<M: Machine, A: Allocator> Turn<M, A> {
         ensures turn { IsBeside seat.old seat.new }
         ensures ok { IfOk result (λ r.
             Extends (view seat.old) (entry (view seat.old).number step r) (view seat.new)) }
-        ensures history { IsHistory M.stands_for M.moves (view seat.new) }
+        ensures history { IsHistory M.stands_for M.steps_to (view seat.new) }
         ensures acted { IfOk result (λ r. (m n : M) × M.acts m step r n) }
         ensures longer { IfErr result (λ _. Longer (view seat.old) (view seat.new)) }
         ensures err { IfErr result (λ e. (e ≡ Busy step × SawBusy (view seat.old) (view seat.new))
@@ -123,7 +123,7 @@ impl<M: Machine, A: Allocator> Turn<M, A> {
         requires { IsSeatOf self.now seat.old }
         ensures turn { IsBeside seat.old seat.new }
         ensures longer { Longer (view seat.old) (view seat.new) }
-        ensures history { IsHistory M.stands_for M.moves (view seat.new) }
+        ensures history { IsHistory M.stands_for M.steps_to (view seat.new) }
         ensures count { result ≡ (view seat.new).first + length (view seat.new).seen }
     {
         self.table.shared.load::<Look<M>>(&mut seat.place, SERVED)
@@ -149,7 +149,7 @@ impl<M: Machine, A: Allocator> Turn<M, A> {
         requires { IsSeatOf self.now seat.old × IsSeatOf self.now other }
         ensures turn { IsBeside seat.old seat.new }
         ensures longer { Longer (view seat.old) (view seat.new) }
-        ensures history { IsHistory M.stands_for M.moves (view seat.new) }
+        ensures history { IsHistory M.stands_for M.steps_to (view seat.new) }
         ensures other { StartsWith (view seat.new).seen (view other).seen
             × (calls_by (view other).number (view seat.new).seen ≡ (view other).mine) }
         ensures two { (view other).number ≢ (view seat.old).number }
@@ -164,7 +164,7 @@ impl<M: Machine, A: Allocator> Turn<M, A> {
     /// `Err` only where a turn is open, with whatever the slot held: a thread that stopped within its turn left it so.
     pub fn finish(self, seat: TurnSeat<M>) -> Result<M, Option<M>>
         requires { IsSeatOf self seat }
-        ensures { IfOk result (λ m. EndsAs M.stands_for M.moves (view seat) m) }
+        ensures { IfOk result (λ m. EndsAs M.stands_for M.steps_to (view seat) m) }
     {
         let Turn { table, .. } = self;
         let mut closed = table.close_with(seat.into_place());

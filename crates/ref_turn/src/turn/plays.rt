@@ -27,7 +27,7 @@ pub(super) struct Look<M> {
 }
 
 impl<M: Machine> Play<Option<M>, View<M, M::Step, M::Reply>> for Look<M> {
-    ghost then = { saw M.stands_for M.moves };
+    ghost then = { saw M.stands_for M.steps_to };
 }
 
 /// A compare-exchange on the tickets, which takes the turn and the machine, or loses.
@@ -36,7 +36,7 @@ pub(super) struct Grab<M> {
 }
 
 impl<M: Machine> Play<Option<M>, View<M, M::Step, M::Reply>> for Grab<M> {
-    ghost then = { grabbed M.stands_for M.moves };
+    ghost then = { grabbed M.stands_for M.steps_to };
 }
 
 // The entry that ends a turn. A call at `Brand` picks it from its `requires`.

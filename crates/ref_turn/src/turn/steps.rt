@@ -24,8 +24,8 @@ impl<M: Machine, A: Allocator> Turn<M, A> {
         requires idle { IsIdle place.old.me }
         ensures place { IsSamePlace place.old place.new }
         ensures longer { Longer place.old.me.0 place.new.me.0 }
-        ensures history { IsHistory M.stands_for M.moves place.new.me.0 }
-        ensures ok { IfOk result (λ _. HoldsTurn M.stands_for M.moves place.new.me) }
+        ensures history { IsHistory M.stands_for M.steps_to place.new.me.0 }
+        ensures ok { IfOk result (λ _. HoldsTurn M.stands_for M.steps_to place.new.me) }
         ensures idle { IfErr result (λ _. IsIdle place.new.me) }
         ensures err { IfErr result (λ e. (e ≡ Busy tt × SawBusy place.old.me.0 place.new.me.0)
             ⊎ (e ≡ Spent tt × place.new.me.0.drawn ≡ 2 ^ 64 - 1)) }
@@ -56,8 +56,8 @@ impl<M: Machine, A: Allocator> Turn<M, A> {
         requires idle { IsIdle place.old.me }
         ensures place { IsSamePlace place.old place.new }
         ensures longer { Longer place.old.me.0 place.new.me.0 }
-        ensures history { IsHistory M.stands_for M.moves place.new.me.0 }
-        ensures taken { IsTrue result → HoldsTurn M.stands_for M.moves place.new.me }
+        ensures history { IsHistory M.stands_for M.steps_to place.new.me.0 }
+        ensures taken { IsTrue result → HoldsTurn M.stands_for M.steps_to place.new.me }
         ensures spent { IsFalse result → IsIdle place.new.me × (place.new.me.0.drawn ≡ 2 ^ 64 - 1) }
     {
         let mut round = 0;
@@ -82,11 +82,11 @@ impl<M: Machine, A: Allocator> Turn<M, A> {
     #[inline(always)]
     pub(super) fn run(&self, place: &mut Place<M>, step: M::Step) -> M::Reply
         requires place { IsPlaceOf self.now place.old }
-        requires turn { HoldsTurn M.stands_for M.moves place.old.me }
+        requires turn { HoldsTurn M.stands_for M.steps_to place.old.me }
         ensures place { IsSamePlace place.old place.new }
         ensures idle { IsIdle place.new.me }
         ensures extends { Extends place.old.me.0 (entry place.old.me.0.number step result) place.new.me.0 }
-        ensures history { IsHistory M.stands_for M.moves place.new.me.0 }
+        ensures history { IsHistory M.stands_for M.steps_to place.new.me.0 }
         ensures acted { (m n : M) × M.acts m step result n }
     {
         let asked = Snapshot::of(&step);
@@ -109,7 +109,7 @@ impl<M: Machine, A: Allocator> Turn<M, A> {
         requires place { IsPlaceOf self.now place.old }
         requires said { W.entry ≡ Some (entry place.old.me.0.number asked.now.value reply.now) }
         requires turn { (m : M) × HoldsMachine place.old.me m
-            × Reaches M.stands_for M.moves place.old.me.0.start
+            × Reaches M.stands_for M.steps_to place.old.me.0.start
             (place.old.me.0.seen ++ entry place.old.me.0.number asked.now.value reply.now ∷ []) m }
         ensures place { IsSamePlace place.old place.new }
         ensures idle { IsIdle place.new.me }

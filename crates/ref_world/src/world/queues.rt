@@ -12,7 +12,7 @@ use ref_queue::{Polled, Put, Queue};
 use std::alloc::Allocator;
 
 impl<A: Allocator + Copy> World<A> {
-    // Puts the hand's notice into its own queue. It is in the hand again where the queue doesn't take it.
+    // Puts the hand's first notice into its own queue. It is the hand's first again where the queue doesn't take it.
     pub(crate) fn put(&mut self, actor: Actor) -> Result<Reply, Fault>
         ensures { Does self.old (Step.Put actor) result self.new }
     {
@@ -21,7 +21,7 @@ impl<A: Allocator + Copy> World<A> {
         let notice = self.hands.take(from)?;
         let queue = &mut self.queues[notice.queue().0 as usize];
         let (reply, left) = put_one(queue, notice);
-        self.hands.fill_if_any(back, left);
+        self.hands.take_back(back, left);
         reply
     }
 

@@ -4,17 +4,17 @@ ghost use Rattle.std.specs.Prelude.{◌≡◌, true, None};
 ghost use Rattle.ref_base.specs.Told.{told_notice};
 ghost use Rattle.ref_base.specs.Refusals.{drop_refusal};
 ghost use Rattle.ref_objects.specs.Grounds.{IsRefused};
-ghost use Rattle.ref_clear.specs.ClearCalls.{answer_in, after_in};
-ghost use Rattle.ref_world.specs.AskedSteps.{is_quiet, is_plain, Asks, may_give_notice, received};
+ghost use Rattle.ref_clear.specs.ClearCalls.{HeapDoes};
+ghost use Rattle.ref_world.specs.AskedSteps.{may_give_notice, received};
 ghost use Rattle.ref_world.specs.Cores.{filling_refusal};
-ghost use Rattle.ref_world.specs.Standing.{IsRowOf, Does};
+ghost use Rattle.ref_world.specs.Standing.{IsRowOf, answered, Does};
 ghost use Rattle.ref_world.specs.WorldHeaps.{heap_no_of, model_heap};
 
 use super::World;
 use crate::hands::Hands;
 use crate::heap_machine::told;
 use crate::{HeapReply, WorldHeap, WorldNotice, apply_heap};
-use ref_base::{Actor, Fault, HeapStep, MutNo, QueueNo, Reply, SlotNo, Step, WorkerNo};
+use ref_base::{Actor, Fault, HeapStep, MutNo, PlainStep, Reply, SlotNo, Step, WorkerNo};
 use ref_objects::Hold;
 use std::alloc::Allocator;
 
@@ -40,6 +40,7 @@ impl<A: Allocator + Copy> World<A> {
         ensures { Does self.old step result self.new }
     {
         match step {
+            Step::Plain(step) => self.ask(step),
             Step::Unhook { mutator, reference } => self.unhook(mutator, reference),
             Step::Hand { worker } => self.hand(worker),
             Step::Put { actor } => self.put(actor),
@@ -47,16 +48,14 @@ impl<A: Allocator + Copy> World<A> {
             Step::Adopt { mutator, slot } => self.adopt(mutator, slot),
             Step::Release { actor } => self.release(actor),
             Step::Close { mutator, queue } => self.close(mutator, queue),
-            _ => Ok(self.ask(step)),
         }
     }
 
     // A step that is the heap's alone.
-    fn ask(&mut self, step: Step) -> Reply
-        requires { is_quiet step ≡ true }
-        ensures { IsRowOf self.old step result self.new }
+    fn ask(&mut self, step: PlainStep) -> Result<Reply, Fault>
+        ensures { Does self.old (Step.Plain step) result self.new }
     {
-        told(apply_heap(&mut self.heap, asked_by(step)))
+        told(apply_heap(&mut self.heap, HeapStep::Plain(step)))
     }
 
     // Clears the reference in a slot, and takes its notice into the hand if it has a queue.
@@ -67,7 +66,7 @@ impl<A: Allocator + Copy> World<A> {
         self.hands.check_empty(Actor::Mutator(mutator))?;
         let asked = HeapStep::Unhook { mutator, reference };
         let actor = Actor::Mutator(mutator);
-        Ok(receive(&mut self.heap, &mut self.hands, actor, asked))
+        receive(&mut self.heap, &mut self.hands, actor, asked)
     }
 
     // Takes the notice of the next reference that the worker cleared into its hand.
@@ -77,10 +76,10 @@ impl<A: Allocator + Copy> World<A> {
         self.hands.check_empty(Actor::Worker(worker))?;
         let asked = HeapStep::Hand { worker };
         let actor = Actor::Worker(worker);
-        Ok(receive(&mut self.heap, &mut self.hands, actor, asked))
+        receive(&mut self.heap, &mut self.hands, actor, asked)
     }
 
-    // The slot then holds what the hand's notice reports.
+    // The slot then holds what the hand's first notice reports.
     fn adopt(&mut self, mutator: MutNo, slot: SlotNo) -> Result<Reply, Fault>
         ensures { Does self.old (Step.Adopt mutator slot) result self.new }
     {
@@ -91,16 +90,16 @@ impl<A: Allocator + Copy> World<A> {
             slot,
             hold,
         };
-        Ok(told(apply_heap(&mut self.heap, asked)))
+        told(apply_heap(&mut self.heap, asked))
     }
 
-    // Gives the hand's notice up.
+    // Gives the hand's first notice up.
     fn release(&mut self, actor: Actor) -> Result<Reply, Fault>
         ensures { Does self.old (Step.Release actor) result self.new }
     {
         let hold = self.hands.take(actor)?.into_hold();
         let asked = HeapStep::Release { hold };
-        Ok(told(apply_heap(&mut self.heap, asked)))
+        told(apply_heap(&mut self.heap, asked))
     }
 
     // That there is such a mutator, and it has such a slot: NoSuchActor.
@@ -121,115 +120,20 @@ fn receive<A: Allocator + Copy>(
     hands: &mut Hands<A>,
     actor: Actor,
     asked: HeapStep<Hold>,
-) -> Reply
+) -> Result<Reply, Fault>
     requires own { heap_no_of heap.old ≡ 0 }
     requires gives { may_give_notice asked ≡ true }
     requires empty { filling_refusal hands.old actor ≡ None }
-    ensures answer { result ≡ answer_in heap.old asked }
-    ensures heap { heap.new ≡ after_in heap.old asked }
-    ensures hands { hands.new ≡ received hands.old actor (told_notice result) }
+    ensures does { HeapDoes heap.old asked (answered result) heap.new }
+    ensures hands { hands.new ≡ received hands.old actor (told_notice (answered result)) }
 {
     match apply_heap(heap, asked) {
-        HeapReply::Told(reply) => reply,
         HeapReply::Notice(notice) => {
             let notice = WorldNotice::new(notice);
             let reply = notice.reply();
             hands.fill(actor, notice);
-            reply
+            Ok(reply)
         }
-        _ => unreachable!(),
-    }
-}
-
-// What a step that is the heap's alone asks of it.
-fn asked_by(step: Step) -> HeapStep<Hold>
-    requires { is_quiet step ≡ true }
-    ensures asked { Asks step result }
-    ensures plain { is_plain result ≡ true }
-{
-    match step {
-        Step::New {
-            mutator,
-            slot,
-            fields,
-        } => HeapStep::New {
-            mutator,
-            slot,
-            fields,
-        },
-        Step::Refer {
-            mutator,
-            strength,
-            slot,
-            source,
-            queue,
-            fields,
-        } => HeapStep::Refer {
-            mutator,
-            strength,
-            slot,
-            source,
-            queue,
-            fields,
-        },
-        Step::Store {
-            mutator,
-            object,
-            field,
-            value,
-        } => HeapStep::Store {
-            mutator,
-            object,
-            field,
-            value,
-        },
-        Step::Load {
-            mutator,
-            slot,
-            object,
-            field,
-        } => HeapStep::Load {
-            mutator,
-            slot,
-            object,
-            field,
-        },
-        Step::Copy {
-            mutator,
-            slot,
-            source,
-        } => HeapStep::Copy {
-            mutator,
-            slot,
-            source,
-        },
-        Step::Drop { mutator, slot } => HeapStep::Drop { mutator, slot },
-        Step::Get {
-            mutator,
-            slot,
-            reference,
-        } => HeapStep::Get {
-            mutator,
-            slot,
-            reference,
-        },
-        Step::Clear { mutator, reference } => HeapStep::Clear { mutator, reference },
-        Step::RefersTo {
-            mutator,
-            reference,
-            other,
-        } => HeapStep::RefersTo {
-            mutator,
-            reference,
-            other,
-        },
-        Step::Begin { now, urgency } => HeapStep::Begin { now, urgency },
-        Step::Scan { worker } => HeapStep::Scan { worker },
-        Step::EndMark => HeapStep::EndMark,
-        Step::ClearNext { worker } => HeapStep::ClearNext { worker },
-        Step::EndClear => HeapStep::EndClear,
-        Step::Sweep { worker } => HeapStep::Sweep { worker },
-        Step::EndSweep => HeapStep::EndSweep,
-        _ => unreachable!(),
+        reply => told(reply),
     }
 }

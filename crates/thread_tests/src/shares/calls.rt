@@ -1,14 +1,14 @@
 //! The calls of a shared heap and its queue, with what they answer as plain data.
 
-ghost use Rattle.std.specs.Prelude.{◌≡◌, true};
-ghost use Rattle.ref_share.specs.HeapCalls.{hands_nothing_over};
 ghost use Rattle.ref_share.specs.HeapSeats.{IsHeapSeat};
 ghost use Rattle.ref_share.specs.QueueSeats.{IsQueueSeat};
 ghost use Rattle.std.specs.Mem.{FitsInMemory};
 ghost use Rattle.thread_tests.specs.QueueRows.{queue_row};
 
 use super::{M, Q, W};
-use ref_base::{Fault, HeapStep, Parcel, QueueNo, Reply, SlotNo, Strength, Urgency, WorkerNo};
+use ref_base::{
+    Fault, HeapStep, Parcel, PlainStep, QueueNo, Reply, SlotNo, Strength, Urgency, WorkerNo,
+};
 use ref_clear::Notice;
 use ref_objects::Hold;
 use ref_queue::Put;
@@ -161,37 +161,33 @@ impl fmt::Debug for Told {
     }
 }
 
-pub fn step_of(step: Do) -> HeapStep<Hold>
-    ensures { hands_nothing_over result ≡ true }
-{
+pub fn step_of(step: Do) -> PlainStep {
     match step {
-        Do::New(slot) => HeapStep::New {
+        Do::New(slot) => PlainStep::New {
             mutator: M,
             slot: SlotNo(slot),
             fields: 0,
         },
         Do::Weak(slot, source) => weak(slot, source, Some(Q)),
         Do::Alone(slot, source) => weak(slot, source, None),
-        Do::Drop(slot) => HeapStep::Drop {
+        Do::Drop(slot) => PlainStep::Drop {
             mutator: M,
             slot: SlotNo(slot),
         },
-        Do::Begin => HeapStep::Begin {
+        Do::Begin => PlainStep::Begin {
             now: 5,
             urgency: Urgency::Normal,
         },
-        Do::Scan => HeapStep::Scan { worker: W },
-        Do::EndMark => HeapStep::EndMark,
-        Do::ClearNext => HeapStep::ClearNext { worker: W },
-        Do::EndClear => HeapStep::EndClear,
+        Do::Scan => PlainStep::Scan { worker: W },
+        Do::EndMark => PlainStep::EndMark,
+        Do::ClearNext => PlainStep::ClearNext { worker: W },
+        Do::EndClear => PlainStep::EndClear,
     }
 }
 
 /// Makes a weak reference: its slot, that of its referent, and its queue.
-pub fn weak(slot: u32, source: u32, queue: Option<QueueNo>) -> HeapStep<Hold>
-    ensures { hands_nothing_over result ≡ true }
-{
-    HeapStep::Refer {
+pub fn weak(slot: u32, source: u32, queue: Option<QueueNo>) -> PlainStep {
+    PlainStep::Refer {
         mutator: M,
         strength: Strength::Weak,
         slot: SlotNo(slot),
@@ -449,7 +445,7 @@ pub fn answer<R: Wait, A: Allocator + Copy>(
     ensures { IsHeapSeat heap.now seats.new.heap × IsQueueSeat queue.now seats.new.queue }
 {
     match call {
-        Call::Try(step) => replied(heap.try_call(&mut seats.heap, step_of(step))),
+        Call::Try(step) => replied(heap.try_call(&mut seats.heap, HeapStep::Plain(step_of(step)))),
         Call::Step(step) => match heap.ask(rt, &mut seats.heap, step_of(step)) {
             Ok(reply) => Told::Reply(reply),
             Err(fault) => Told::Refused(fault),

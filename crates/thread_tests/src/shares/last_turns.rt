@@ -6,7 +6,7 @@ ghost use Rattle.ref_share.specs.QueueSeats.{IsQueueSeat};
 
 use super::calls::{Do, Told, replied, step_of};
 use super::{CONFIG, Q};
-use ref_base::{Fault, ObjNo, Reply};
+use ref_base::{Fault, HeapStep, ObjNo, Reply};
 use ref_share::{HeapSeat, Polled, QueueSeat, ShareFault, SharedHeap, SharedQueue, end_queue};
 use std::alloc::Global;
 use std::process::Abort;
@@ -31,7 +31,7 @@ enum Outcome {
 fn tried(heap: &SharedHeap, mut seat: HeapSeat) -> Outcome
     requires { IsHeapSeat heap.now seat }
 {
-    match replied(heap.try_call(&mut seat, step_of(Do::New(0)))) {
+    match replied(heap.try_call(&mut seat, HeapStep::Plain(step_of(Do::New(0))))) {
         Told::Reply(Reply::Object(ObjNo(1))) => Outcome::Made,
         Told::Refused(Fault::TurnsSpent) => Outcome::Spent,
         Told::Busy => Outcome::Busy,

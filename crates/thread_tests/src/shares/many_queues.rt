@@ -7,8 +7,7 @@ ghost use Rattle.thread_tests.specs.QueueLists.{AreSeated};
 
 use super::calls::{Do, Told, replied, step_of, weak};
 use super::{CONFIG, M, W};
-use ref_base::{Config, HeapStep, ObjNo, QueueNo, Reply, SlotNo};
-use ref_objects::Hold;
+use ref_base::{Config, HeapStep, ObjNo, PlainStep, QueueNo, Reply, SlotNo};
 use ref_share::{
     Delivery, HeapSeat, QueueSeat, SharedHeap, SharedQueue, deliver_one, end_queue, enqueue,
 };
@@ -115,11 +114,14 @@ fn make_references<R: Abort>(rt: &R, heap: &SharedHeap, seat: &mut HeapSeat, que
 }
 
 /// The step is answered so.
-fn tell<R: Abort>(rt: &R, heap: &SharedHeap, seat: &mut HeapSeat, step: HeapStep<Hold>, want: Reply)
+fn tell<R: Abort>(rt: &R, heap: &SharedHeap, seat: &mut HeapSeat, step: PlainStep, want: Reply)
     requires { IsHeapSeat heap.now seat.old }
     ensures { IsHeapSeat heap.now seat.new }
 {
-    assert_eq!(rt; replied(heap.try_call(seat, step)), Told::Reply(want));
+    assert_eq!(rt;
+        replied(heap.try_call(seat, HeapStep::Plain(step))),
+        Told::Reply(want)
+    );
 }
 
 /// The slot of the reference for this queue.

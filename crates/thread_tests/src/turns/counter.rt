@@ -24,7 +24,7 @@ impl Machine for Counter {
 
     ghost first_state = { λ start. start };
 
-    ghost moves = { λ x s r y. (r ≡ x) × (y ≡ (x + s) % 2 ^ 64) };
+    ghost steps_to = { λ x s r y. (r ≡ x) × (y ≡ (x + s) % 2 ^ 64) };
 
     ghost acts = { λ m s r n. (r ≡ m.count) × (n.count ≡ (m.count + s) % 2 ^ 64) };
 

@@ -70,7 +70,7 @@ impl Machine for Gated {
 
     ghost first_state = { λ start. start };
 
-    ghost moves = { λ x s r y. (r ≡ x) × (y ≡ (x + 1) % 2 ^ 64) };
+    ghost steps_to = { λ x s r y. (r ≡ x) × (y ≡ (x + 1) % 2 ^ 64) };
 
     ghost acts = { λ m s r n. (r ≡ m.steps) × (n.steps ≡ (m.steps + 1) % 2 ^ 64) };
 

@@ -70,7 +70,8 @@ fn holds_the_reference<R: Wait>(
     ensures heap_seat { IsHeapSeat heap.now heap_seat.new }
     ensures calls { IfSome result (λ cleanable. (made : Reply) × (hold : HoldName) × (hold.object ≡ cleanable.obj)
         × ((heap_view heap_seat.new).mine ≡ (heap_view heap_seat.old).mine
-        ++ entry (heap_view heap_seat.old).number (makes_phantom cleaner.now.frame 0 0 1) (replies.Told made)
+        ++ entry (heap_view heap_seat.old).number (steps.Plain (makes_phantom cleaner.now.frame 0 0 1))
+        (replies.Told made)
         ∷ entry (heap_view heap_seat.old).number (steps.Hold 0 1) (replies.Held hold) ∷ [])) }
 {
     match cleaner.register(rt, seat, heap, heap_seat, M, SlotNo(0), SlotNo(1), job) {

@@ -10,7 +10,7 @@ ghost use Rattle.ref_world.specs.declared.heap_machine.HeapReply.TheVariants as 
 
 use crate::shares::calls::{Seats, replied};
 use crate::shares::{CONFIG, M, Q, W, death, make_calls};
-use ref_base::{Config, HeapStep, SlotNo};
+use ref_base::{Config, HeapStep, PlainStep, SlotNo};
 use ref_share::{Delivery, HeapSeat, SharedHeap, SharedQueue, deliver_one, end_queue, enqueue};
 use ref_turn::TurnFault;
 use std::alloc::Global;
@@ -25,7 +25,7 @@ fn serves_each_step<R: Wait>(rt: &R, heap: &SharedHeap, seat: &mut HeapSeat) -> 
     ensures { IfSome result (λ is_more. is_more ≡ true) }
 {
     let before = heap.served(seat);
-    let answer = heap.call(rt, seat, HeapStep::EndSweep);
+    let answer = heap.call(rt, seat, HeapStep::Plain(PlainStep::EndSweep));
     let is_made = answer.is_ok();
     replied(answer);
     let after = heap.served(seat);
@@ -39,7 +39,7 @@ pub fn is_busy_at_the_last_turn(heap: &SharedHeap, seat: &mut HeapSeat) -> bool
     ensures seat { IsHeapSeat heap.now seat.new }
     ensures not { result ≡ false }
 {
-    let answer = heap.try_call(seat, HeapStep::EndSweep);
+    let answer = heap.try_call(seat, HeapStep::Plain(PlainStep::EndSweep));
     let is_busy = matches!(&answer, Err(TurnFault::Busy(_)));
     replied(answer);
     is_busy

@@ -194,8 +194,8 @@ fn a_queue_that_was_closed_stays_so(rt: HostRuntime) -> Result<(), Fail> {
 fn notice_of<R: Wait>(rt: &R, heap: &SharedHeap, seat: &mut HeapSeat) -> Option<Notice>
     requires { IsHeapSeat heap.now seat.old }
 {
-    replied(heap.call(rt, seat, step_of(Do::New(0))));
-    replied(heap.call(rt, seat, step_of(Do::Weak(1, 0))));
+    replied(heap.call(rt, seat, HeapStep::Plain(step_of(Do::New(0)))));
+    replied(heap.call(rt, seat, HeapStep::Plain(step_of(Do::Weak(1, 0)))));
     let step = HeapStep::Unhook {
         mutator: M,
         reference: SlotNo(1),

@@ -1,6 +1,8 @@
 //! Steps that are drawn at random, by a generator whose seed is given.
 
-use ref_base::{Actor, Config, MutNo, QueueNo, SlotNo, Step, Strength, Urgency, WorkerNo};
+use ref_base::{
+    Actor, Config, MutNo, PlainStep, QueueNo, SlotNo, Step, Strength, Urgency, WorkerNo,
+};
 
 /// Draws for a world of this size. A few numbers that it draws are outside the size.
 #[derive(Drop)]
@@ -99,35 +101,35 @@ impl Draws {
         let mutator = self.mutator();
         let slot = self.slot();
         match self.below(16) {
-            0..=4 => Step::Refer {
+            0..=4 => Step::Plain(PlainStep::Refer {
                 mutator,
                 strength: self.strength(),
                 slot,
                 source: self.slot(),
                 queue: self.queue_or_none(),
                 fields: self.fields(),
-            },
-            5..=6 => Step::Store {
+            }),
+            5..=6 => Step::Plain(PlainStep::Store {
                 mutator,
                 object: slot,
                 field: self.below(3),
                 value: self.slot(),
-            },
-            7 => Step::Copy {
+            }),
+            7 => Step::Plain(PlainStep::Copy {
                 mutator,
                 slot,
                 source: self.slot(),
-            },
-            8 => Step::Clear {
+            }),
+            8 => Step::Plain(PlainStep::Clear {
                 mutator,
                 reference: slot,
-            },
-            9..=10 => Step::Drop { mutator, slot },
-            _ => Step::New {
+            }),
+            9..=10 => Step::Plain(PlainStep::Drop { mutator, slot }),
+            _ => Step::Plain(PlainStep::New {
                 mutator,
                 slot,
                 fields: self.fields(),
-            },
+            }),
         }
     }
 
@@ -136,22 +138,22 @@ impl Draws {
         let mutator = self.mutator();
         let reference = self.slot();
         match self.below(5) {
-            0 => Step::Load {
+            0 => Step::Plain(PlainStep::Load {
                 mutator,
                 slot: self.slot(),
                 object: reference,
                 field: self.below(3),
-            },
-            1 => Step::Get {
+            }),
+            1 => Step::Plain(PlainStep::Get {
                 mutator,
                 slot: self.slot(),
                 reference,
-            },
-            2 => Step::RefersTo {
+            }),
+            2 => Step::Plain(PlainStep::RefersTo {
                 mutator,
                 reference,
                 other: self.slot(),
-            },
+            }),
             _ => Step::Unhook { mutator, reference },
         }
     }
@@ -192,14 +194,14 @@ impl Draws {
                 } else {
                     Urgency::Normal
                 };
-                Step::Begin {
+                Step::Plain(PlainStep::Begin {
                     now: self.clock.saturating_sub(back),
                     urgency,
-                }
+                })
             }
-            1 => Step::EndMark,
-            2 => Step::EndClear,
-            _ => Step::EndSweep,
+            1 => Step::Plain(PlainStep::EndMark),
+            2 => Step::Plain(PlainStep::EndClear),
+            _ => Step::Plain(PlainStep::EndSweep),
         }
     }
 
@@ -207,10 +209,10 @@ impl Draws {
     fn work(&mut self) -> Step {
         let worker = self.worker();
         match self.below(8) {
-            0..=3 => Step::Scan { worker },
-            4..=5 => Step::ClearNext { worker },
+            0..=3 => Step::Plain(PlainStep::Scan { worker }),
+            4..=5 => Step::Plain(PlainStep::ClearNext { worker }),
             6 => Step::Hand { worker },
-            _ => Step::Sweep { worker },
+            _ => Step::Plain(PlainStep::Sweep { worker }),
         }
     }
 

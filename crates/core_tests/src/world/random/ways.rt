@@ -6,7 +6,7 @@ use Way::{
     NotAReference, Nothing, NoticeOfCycle, Null, Object, Otherwise, OwnNotice, RefersElsewhere,
     RefersToIt, Scanned, Skipped, SomeDoomed, SweepLeft, Swept, Took, WrongPhase,
 };
-use ref_base::{Cause, Fault, Reply, Step};
+use ref_base::{Cause, Fault, PlainStep, Reply, Step};
 
 /// The ways in which steps are answered: each reply, and each refusal that these worlds can meet.
 ///
@@ -116,29 +116,29 @@ pub static ANSWERS: [(&'static str, &'static [Way]); 23] = [
 /// The place of the step's kind in `ANSWERS`.
 pub fn place_of(step: Step) -> usize {
     match step {
-        Step::New { .. } => 0,
-        Step::Refer { .. } => 1,
-        Step::Store { .. } => 2,
-        Step::Load { .. } => 3,
-        Step::Copy { .. } => 4,
-        Step::Drop { .. } => 5,
-        Step::Get { .. } => 6,
-        Step::Clear { .. } => 7,
-        Step::RefersTo { .. } => 8,
+        Step::Plain(PlainStep::New { .. }) => 0,
+        Step::Plain(PlainStep::Refer { .. }) => 1,
+        Step::Plain(PlainStep::Store { .. }) => 2,
+        Step::Plain(PlainStep::Load { .. }) => 3,
+        Step::Plain(PlainStep::Copy { .. }) => 4,
+        Step::Plain(PlainStep::Drop { .. }) => 5,
+        Step::Plain(PlainStep::Get { .. }) => 6,
+        Step::Plain(PlainStep::Clear { .. }) => 7,
+        Step::Plain(PlainStep::RefersTo { .. }) => 8,
         Step::Unhook { .. } => 9,
         Step::Put { .. } => 10,
         Step::Poll { .. } => 11,
         Step::Adopt { .. } => 12,
         Step::Release { .. } => 13,
         Step::Close { .. } => 14,
-        Step::Begin { .. } => 15,
-        Step::Scan { .. } => 16,
-        Step::EndMark => 17,
-        Step::ClearNext { .. } => 18,
-        Step::EndClear => 19,
+        Step::Plain(PlainStep::Begin { .. }) => 15,
+        Step::Plain(PlainStep::Scan { .. }) => 16,
+        Step::Plain(PlainStep::EndMark) => 17,
+        Step::Plain(PlainStep::ClearNext { .. }) => 18,
+        Step::Plain(PlainStep::EndClear) => 19,
         Step::Hand { .. } => 20,
-        Step::Sweep { .. } => 21,
-        Step::EndSweep => 22,
+        Step::Plain(PlainStep::Sweep { .. }) => 21,
+        Step::Plain(PlainStep::EndSweep) => 22,
     }
 }
 

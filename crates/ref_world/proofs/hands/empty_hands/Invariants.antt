@@ -1,11 +1,11 @@
-use Rattle.std.proofs.Common.{◌≡◌, None, replicate, vec_len}
+use Rattle.std.proofs.Common.{◌≡◌, [], replicate, vec_len}
 use Rattle.std.specs.Vec.{vec_capacity}
 use Rattle.ref_world.proofs.hands.empty_hands.Given as goal
 
 -- the hands so far are empty, and there is room for the others
 abbrev pub invariant-loop-hand : goal.invariant-loop-hand
 invariant-loop-hand g l = record {
-  are : l.hands.items ≡ replicate l._hand None;
+  are : l.hands.items ≡ replicate l._hand [];
   length : vec_len l.hands ≡ l._hand;
   capacity : vec_capacity l.hands ≡ l.count;
 }

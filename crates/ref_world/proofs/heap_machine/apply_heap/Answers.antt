@@ -8,6 +8,6 @@ returns-clause-row g c a stands =
     let old : WorldHeap = c.args.heap.now in
     let row = each_step old c.args.step a stands in (
       row.0,
-      subst (λ (r : Reply). IsHeapRow (heap_no_of old) a c.args.step r row.0) (sym c.called.ensures.answer) row.1,
-      subst (λ (k : WorldHeap). HeapStands k row.0) (sym c.called.ensures.after) row.2,
+      subst (λ (r : Reply). IsHeapRow a c.args.step r row.0) (sym c.called.ensures.does.answer) row.1,
+      subst (λ (k : WorldHeap). HeapStands k row.0) (sym c.called.ensures.does.after) row.2,
     )

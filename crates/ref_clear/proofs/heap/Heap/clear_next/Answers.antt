@@ -5,7 +5,7 @@ use Rattle.ref_clear.proofs.LookAnswers.{sound_none, sound_passed, seen_cut, sou
 use Rattle.ref_clear.proofs.LookAnswers.{look_within, look_has_room, tagged_taken, no_queue_read}
 use Rattle.ref_clear.proofs.LookAnswers.{clears_by, queue_read}
 use Rattle.ref_clear.proofs.heap.Heap.clear_next.Goals as goal
-use Rattle.ref_clear.proofs.heap.Heap.clear_next.Goals.{then-is_some, else-is_some}
+use Rattle.ref_clear.proofs.heap.Heap.clear_next.Goals.{Then-is_some, Else-is_some}
 
 pub invariant_of-self-in_default : goal.invariant_of-self-in_default
 invariant_of-self-in_default g c =
@@ -62,8 +62,8 @@ invariant_of-self-else-is_some g c =
     sound_cut c.args.worker c.in_ok-no.ensures.refused c.self.invariant c.in-Some.no
     (sym c.in_ok-no.ensures.answer ∙ c.in-Some.is) goes none c.in_ok-no.ensures.after c.cut.ensures
 
-pub returns-clause-after : goal.returns-clause-after
-returns-clause-after g c =
+pub returns : goal.returns
+returns g c =
     grind (
       arith,
       seen_pended c.args.worker c.in_ok-no.ensures.refused c.self.invariant c.in-Some.no,

@@ -1,11 +1,8 @@
-use Rattle.std.proofs.Common.{refl}
-use Rattle.ref_base.specs.declared.heap_step.HeapStep.TheVariants as heap
-use Rattle.ref_clear.proofs.MarkedHeaps.{after_marked, sound_marked}
+use Rattle.ref_clear.proofs.MarkedHeaps.{does_marked, sound_marked}
 use Rattle.ref_clear.proofs.heap.Heap.copy.Goals as goal
 
 pub invariant_of-self : goal.invariant_of-self
-invariant_of-self g c =
-    sound_marked (heap.Copy c.args.mutator c.args.into c.args.from) c.self.invariant c.copy.ensures.after refl refl
+invariant_of-self g c = search sound_marked
 
-pub returns-clause-after : goal.returns-clause-after
-returns-clause-after g c = search after_marked
+pub returns : goal.returns
+returns g c = search does_marked

@@ -20,19 +20,12 @@ index_mut-requires g c =
     let has_list = worker_has_list w c.self.invariant within in
     omega (arith, has_list, c.self.inside.pending.ok.0)
 
-pub returns-in_default-clause-answer : goal.returns-in_default-clause-answer
-returns-in_default-clause-answer g c =
+pub returns-in_default-clause-does : goal.returns-in_default-clause-does
+returns-in_default-clause-does g c =
     let w = c.worker.inside.0 in
     let within = worker_within w c.self.invariant c.self.view_is c.config.ensures c.if-worker-config.false in
     let none = first_as_seen w c.self.invariant within c.index.ensures c.get.ensures c.in_default.is in
-    rw (← c.self.view_is, ← c.worker.view_is) (none_to_hand w c.self.invariant within none).0
-
-pub returns-in_default-clause-after : goal.returns-in_default-clause-after
-returns-in_default-clause-after g c =
-    let w = c.worker.inside.0 in
-    let within = worker_within w c.self.invariant c.self.view_is c.config.ensures c.if-worker-config.false in
-    let none = first_as_seen w c.self.invariant within c.index.ensures c.get.ensures c.in_default.is in
-    rw (← c.self.view_is, ← c.worker.view_is) (none_to_hand w c.self.invariant within none).1
+    rw (← c.self.view_is, ← c.worker.view_is) (none_to_hand w c.self.invariant within none)
 
 pub of-first-requires : goal.of-first-requires
 of-first-requires g c = search (worker_within, listed_registered, worker_has_list)
@@ -45,10 +38,10 @@ invariant_of-self g c =
     first_as_seen w c.self.invariant within c.index.ensures c.get.ensures c.in-Some.is
     ∙ ap (λ p. Some p) (sym (c.first.view_is ∙ c.of-first.ensures)) in
     let step = hand_refused w c.self.invariant within first c.in_err-hold.ensures.answer c.in_err-hold.ensures.after in
-    sound_after (heap.Hand w) refl c.self.invariant step.1 c.self.invariant.room step.2
+    sound_after (heap.Hand w) refl c.self.invariant step.0.after c.self.invariant.room step.1
 
-pub returns-in_err-hold-clause-answer : goal.returns-in_err-hold-clause-answer
-returns-in_err-hold-clause-answer g c =
+pub returns-in_err-hold-clause-does : goal.returns-in_err-hold-clause-does
+returns-in_err-hold-clause-does g c =
     let w = c.worker.inside.0 in
     let within = worker_within w c.self.invariant c.self.view_is c.config.ensures c.if-worker-config.false in
     let first =
@@ -57,16 +50,6 @@ returns-in_err-hold-clause-answer g c =
     let step = hand_refused w c.self.invariant within first c.in_err-hold.ensures.answer c.in_err-hold.ensures.after in
     let p = err_from_is_err_and c.from_residual.result c.from_residual.ensures.1 in
     rw (← c.self.view_is, ← c.worker.view_is, p.1, p.2) step.0
-
-pub returns-in_err-hold-clause-after : goal.returns-in_err-hold-clause-after
-returns-in_err-hold-clause-after g c =
-    let w = c.worker.inside.0 in
-    let within = worker_within w c.self.invariant c.self.view_is c.config.ensures c.if-worker-config.false in
-    let first =
-    first_as_seen w c.self.invariant within c.index.ensures c.get.ensures c.in-Some.is
-    ∙ ap (λ p. Some p) (sym (c.first.view_is ∙ c.of-first.ensures)) in
-    let step = hand_refused w c.self.invariant within first c.in_err-hold.ensures.answer c.in_err-hold.ensures.after in
-    rw (← c.self.view_is, ← c.worker.view_is) step.1
 
 pub invariant_of-self-2 : goal.invariant_of-self-2
 invariant_of-self-2 g c =
@@ -78,12 +61,12 @@ invariant_of-self-2 g c =
     let step =
     handed w c.self.invariant within first c.in_ok-hold.ensures.answer c.in_ok-hold.ensures.after
     c.index_mut.ensures.value c.take_first-first.ensures.after in
-    sound_after (heap.Hand w) refl c.self.invariant step.1
+    sound_after (heap.Hand w) refl c.self.invariant step.0.after
     (room_taken w c.self.invariant within _ c.index_mut.ensures.value c.take_first-first.ensures.after
-    c.self.invariant.room) step.2
+    c.self.invariant.room) step.1
 
-pub returns-clause-answer : goal.returns-clause-answer
-returns-clause-answer g c =
+pub returns-clause-does : goal.returns-clause-does
+returns-clause-does g c =
     let w = c.worker.inside.0 in
     let within = worker_within w c.self.invariant c.self.view_is c.config.ensures c.if-worker-config.false in
     let first =
@@ -93,15 +76,3 @@ returns-clause-answer g c =
     handed w c.self.invariant within first c.in_ok-hold.ensures.answer c.in_ok-hold.ensures.after
     c.index_mut.ensures.value c.take_first-first.ensures.after in
     rw (c.new.ensures, ← c.self.view_is, ← c.worker.view_is) step.0
-
-pub returns-clause-after : goal.returns-clause-after
-returns-clause-after g c =
-    let w = c.worker.inside.0 in
-    let within = worker_within w c.self.invariant c.self.view_is c.config.ensures c.if-worker-config.false in
-    let first =
-    first_as_seen w c.self.invariant within c.index.ensures c.get.ensures c.in-Some.is
-    ∙ ap (λ p. Some p) (sym (c.first.view_is ∙ c.of-first.ensures)) in
-    let step =
-    handed w c.self.invariant within first c.in_ok-hold.ensures.answer c.in_ok-hold.ensures.after
-    c.index_mut.ensures.value c.take_first-first.ensures.after in
-    rw (← c.self.view_is, ← c.worker.view_is) step.1

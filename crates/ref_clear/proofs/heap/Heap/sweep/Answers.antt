@@ -15,10 +15,10 @@ invariant_of-self-2 g c =
     search (sound_swept c.args.worker c.in_ok-check_work.ensures c.free_some-freed.ensures.after
     c.free_some-freed.ensures.reached c.self.invariant)
 
-pub returns-then-freed-eq0-clause-after : goal.returns-then-freed-eq0-clause-after
-returns-then-freed-eq0-clause-after g c =
+pub returns-then-freed-eq0 : goal.returns-then-freed-eq0
+returns-then-freed-eq0 g c =
     grind (arith, seen_swept c.args.worker c.in_ok-check_work.ensures c.free_some-freed.ensures.after c.self.invariant)
 
-pub returns-clause-after : goal.returns-clause-after
-returns-clause-after g c =
+pub returns : goal.returns
+returns g c =
     grind (arith, seen_swept c.args.worker c.in_ok-check_work.ensures c.free_some-freed.ensures.after c.self.invariant)

@@ -1,29 +1,28 @@
 use Rattle.std.proofs.Common.{arith}
 use Rattle.std.proofs.Common.{◌≡◌, Some, None, refl, sym, ap, ◌∙◌, subst}
-use Rattle.ref_clear.proofs.Common.{Reference, CycleHeap, ClearHeap, IsSoundHeap, after_in}
+use Rattle.ref_clear.proofs.Common.{Reference, CycleHeap, IsSoundHeap}
 use Rattle.ref_base.specs.declared.heap_step.HeapStep.TheVariants as heap
 use Rattle.ref_clear.proofs.NoticeAnswers.{mint_refused}
 use Rattle.ref_clear.proofs.SoundHeaps.{sound_after}
-use Rattle.ref_clear.proofs.MarkedHeaps.{seen_marked, sound_marked}
+use Rattle.ref_clear.proofs.MarkedHeaps.{sound_marked}
 use Rattle.ref_clear.proofs.UnhookAnswers.{slot_is_there, slot_holds, reference_is, unhook_cut, unhook_done}
 use Rattle.ref_clear.proofs.heap.Heap.unhook.Goals as goal
 
 pub invariant_of-self-in_default : goal.invariant_of-self-in_default
-invariant_of-self-in_default g c =
-    sound_marked (heap.Clear c.args.mutator c.args.reference) c.self.invariant c.clear.ensures.after refl refl
+invariant_of-self-in_default g c = search sound_marked
 
-pub returns-in_default-clause-after : goal.returns-in_default-clause-after
-returns-in_default-clause-after g c =
+pub returns-in_default-clause-does : goal.returns-in_default-clause-does
+returns-in_default-clause-does g c =
     let k : CycleHeap = c.self.inside.marker in
     let queue : c.in_ok-unhooked.unhooked.queue ≡ None =
     ap (λ (r : Reference). r.queue) (sym c.unhooked.view_is) ∙ c.in_default.is in
-    seen_marked (heap.Clear c.args.mutator c.args.reference) c.self.invariant c.clear.ensures.after
-    ∙ unhook_cut k c.self.inside.pending.items c.args.mutator c.args.reference
+    rw (← c.self.view_is)
+    (unhook_cut k c.self.inside.pending.items c.args.mutator c.args.reference
     (slot_is_there k c.args.mutator c.args.reference c.objects.ensures c.in_ok-slot_of.ensures.refused)
     (slot_holds k c.args.mutator c.args.reference c.objects.ensures c.in_ok-slot_of.ensures.answer
     c.in_ok-no.ensures.ok_part)
     (reference_is k c.in_ok-no.no c.objects-2.ensures c.reference_of.ensures c.in_ok-unhooked.ensures.ok_part) queue
-    ∙ ap (λ (d : ClearHeap). after_in d (heap.Unhook c.args.mutator c.args.reference)) c.self.view_is
+    c.self.invariant c.clear.ensures)
 
 pub invariant_of-self-in_err-hold : goal.invariant_of-self-in_err-hold
 invariant_of-self-in_err-hold g c =
@@ -43,13 +42,14 @@ invariant_of-self-2 g c =
     c.in_ok-no.ensures.ok_part)
     (reference_is k c.in_ok-no.no c.objects-2.ensures c.reference_of.ensures c.in_ok-unhooked.ensures.ok_part) queue
     c.in_ok-hold.ensures.answer c.in_ok-hold.ensures.after c.clear-cleared.ensures.after in
-    sound_after (heap.Unhook c.args.mutator c.args.reference) refl c.self.invariant step.1 c.self.invariant.room step.2
+    sound_after (heap.Unhook c.args.mutator c.args.reference) refl c.self.invariant step.0.after
+    c.self.invariant.room step.1
 
-pub returns-clause-answer : goal.returns-clause-answer
-returns-clause-answer g c = grind (arith, slot_is_there)
+pub returns-in_err-hold-clause-does : goal.returns-in_err-hold-clause-does
+returns-in_err-hold-clause-does g c = grind (arith, slot_is_there)
 
-pub returns-clause-after : goal.returns-clause-after
-returns-clause-after g c =
+pub returns-clause-does : goal.returns-clause-does
+returns-clause-does g c =
     let k : CycleHeap = c.self.inside.marker in
     let queue : c.in_ok-unhooked.unhooked.queue ≡ Some c.in-Some.queue =
     ap (λ (r : Reference). r.queue) (sym c.unhooked.view_is) ∙ c.in-Some.is in
@@ -60,4 +60,4 @@ returns-clause-after g c =
     c.in_ok-no.ensures.ok_part)
     (reference_is k c.in_ok-no.no c.objects-2.ensures c.reference_of.ensures c.in_ok-unhooked.ensures.ok_part) queue
     c.in_ok-hold.ensures.answer c.in_ok-hold.ensures.after c.clear-cleared.ensures.after in
-    rw (← c.self.view_is) step.1
+    rw (c.new.ensures, ← c.self.view_is) step.0

@@ -2,8 +2,5 @@ use Rattle.std.proofs.Common.{arith}
 use Rattle.ref_mark.proofs.LoopLemmas.{begun_by_parts, begun_cycle}
 use Rattle.ref_mark.proofs.marker.Marker.begin.Goals as goal
 
-pub returns-clause-after : goal.returns-clause-after
-returns-clause-after g c = grind (arith, begun_by_parts)
-
-pub returns-clause-answer : goal.returns-clause-answer
-returns-clause-answer g c = grind (arith, begun_by_parts, begun_cycle c.args.self.now c.args.now c.args.urgency)
+pub returns : goal.returns
+returns g c = grind (arith, begun_by_parts, begun_cycle c.args.self.now c.args.now c.args.urgency)

@@ -6,8 +6,9 @@ pub returns-then-is_full-clause-refused : goal.returns-then-is_full-clause-refus
 returns-then-is_full-clause-refused g c =
     grind (
       arith,
-      no_cell c.self.inside.config c.self.inside.table c.self.inside.slots.items c.self.inside.holds
-          c.self.inside.clock c.self.inside.next c.args.fields c.self.invariant c.if-fields-gt-MOST_FIELDS.false,
+      no_cell c.self.inside.config c.self.inside.heap_no c.self.inside.table c.self.inside.slots.items
+          c.self.inside.holds c.self.inside.clock c.self.inside.next c.args.fields c.self.invariant
+          c.if-fields-gt-MOST_FIELDS.false,
     )
 
 pub invariant_of-self : goal.invariant_of-self
@@ -17,8 +18,9 @@ pub returns-clause-refused : goal.returns-clause-refused
 returns-clause-refused g c =
     grind (
       arith,
-      has_cell c.self.inside.config c.self.inside.table c.self.inside.slots.items c.self.inside.holds
-          c.self.inside.clock c.self.inside.next c.args.fields c.self.invariant c.if-fields-gt-MOST_FIELDS.false,
+      has_cell c.self.inside.config c.self.inside.heap_no c.self.inside.table c.self.inside.slots.items
+          c.self.inside.holds c.self.inside.clock c.self.inside.next c.args.fields c.self.invariant
+          c.if-fields-gt-MOST_FIELDS.false,
     )
 
 pub returns-clause-after : goal.returns-clause-after

@@ -3,5 +3,5 @@ use Rattle.ref_share.proofs.shared.Shared.served.Goals as goal
 
 pub returns-clause-seat : goal.returns-clause-seat
 returns-clause-seat g c =
-    seat_stays g.M.Machine.stands_for g.M.Machine.moves c.args.self.now.turn _ c.args.seat.now.seat c.served.new.seat
+    seat_stays g.M.Machine.stands_for g.M.Machine.steps_to c.args.self.now.turn _ c.args.seat.now.seat c.served.new.seat
     c.requires c.served.ensures.turn c.served.ensures.longer.0 c.served.ensures.history

@@ -4,5 +4,5 @@ use Rattle.ref_share.proofs.shared.Shared.step.Goals as goal
 pub returns-clause-seat : goal.returns-clause-seat
 returns-clause-seat g c =
     let told = c.call.ensures in
-    call_stays g.M.Machine.stands_for g.M.Machine.moves c.args.self.now.turn _ c.args.seat.now.seat c.call.new.seat
+    call_stays g.M.Machine.stands_for g.M.Machine.steps_to c.args.self.now.turn _ c.args.seat.now.seat c.call.new.seat
     c.args.step c.call.result c.requires told.turn told.ok told.longer told.history

@@ -18,6 +18,6 @@ returns g c =
     let end =
     finishes _ _ _ _ c.into_place.result.me.0 _ _ _ _ _ idle c.close_with-closed.ensures.values.2 c.word.ensures
     c.word-2.ensures c.if-is_open.false c.take-slot.ensures.value in
-    subst (λ p. EndsAs g.M.Machine.stands_for g.M.Machine.moves p.me.0 c.unwrap.result) c.into_place.ensures
-    (subst (EndsAs g.M.Machine.stands_for g.M.Machine.moves c.into_place.result.me.0)
+    subst (λ p. EndsAs g.M.Machine.stands_for g.M.Machine.steps_to p.me.0 c.unwrap.result) c.into_place.ensures
+    (subst (EndsAs g.M.Machine.stands_for g.M.Machine.steps_to c.into_place.result.me.0)
     (same_Some _ _ (sym end.1 ∙ c.unwrap.ensures)) end.2)

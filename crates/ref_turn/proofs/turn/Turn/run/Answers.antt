@@ -10,7 +10,7 @@ slot_mut-requires g c =
 
 pub append-requires-clause-turn : goal.append-requires-clause-turn
 append-requires-clause-turn g c =
-    reached g.M.Machine.stands_for g.M.Machine.moves g.M.Machine.acts g.met.M.Machine.follows c.args.place.now.me.0
+    reached g.M.Machine.stands_for g.M.Machine.steps_to g.M.Machine.acts g.met.M.Machine.follows c.args.place.now.me.0
     c.args.place.now.me.1 _ _ _ _ _ _ c.requires.turn c.slot_mut.ensures.value c.in-Some.is c.of-asked.ensures
     c.apply-reply.ensures
 
@@ -18,7 +18,7 @@ pub returns-clause-history : goal.returns-clause-history
 returns-clause-history g c =
     let v = c.args.place.now.me.0 in
     let after =
-    reached g.M.Machine.stands_for g.M.Machine.moves g.M.Machine.acts g.met.M.Machine.follows v
+    reached g.M.Machine.stands_for g.M.Machine.steps_to g.M.Machine.acts g.met.M.Machine.follows v
     c.args.place.now.me.1 _ _ _ _ _ _ c.requires.turn c.slot_mut.ensures.value c.in-Some.is c.of-asked.ensures
     c.apply-reply.ensures in
     ran _ _ v c.append.new.place.me.0 _ after.0 refl c.requires.turn.0.1 after.2

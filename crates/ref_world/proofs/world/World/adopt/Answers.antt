@@ -1,10 +1,12 @@
 use Rattle.std.proofs.Common.{arith}
-use Rattle.std.proofs.Common.{◌≡◌, None, refl, sym, subst, ◌∙◌}
+use Rattle.std.proofs.Common.{◌≡◌, None, refl, sym, subst}
 use Rattle.ref_world.proofs.Common.{drop_refusal, Core, heap_no_of, model_heap}
 use Rattle.ref_base.specs.declared.step.Step.TheVariants as steps
+use Rattle.ref_world.proofs.AskedRows.{does_answered}
 use Rattle.ref_world.proofs.HandRows.{adopt_reply, adopt_done, adopted_told}
 use Rattle.ref_world.proofs.Refusals.{empty_at_adopt}
 use Rattle.ref_world.proofs.SoundCores.{sound_after}
+use Rattle.ref_world.specs.Standing.{answered}
 use Rattle.ref_world.proofs.world.World.adopt.Goals as goal
 
 pub returns-in_err-take : goal.returns-in_err-take
@@ -19,8 +21,8 @@ told-requires g c =
     c.in_ok-check_slot.ensures in
     let notice = c.in_ok-take.field-0 in
     let reply =
-    adopt_reply old c.self.invariant.reached c.args.mutator c.args.slot notice c.into_hold-hold.result _ slot
-    c.in_ok-take.ensures.refused c.in_ok-take.ensures.answer c.into_hold-hold.ensures c.apply_heap.ensures.answer in
+    adopt_reply old c.self.invariant.reached c.args.mutator c.args.slot notice _ c.into_hold-hold.result _ slot
+    c.in_ok-take.ensures.refused c.in_ok-take.ensures.answer c.into_hold-hold.ensures c.apply_heap.ensures.does in
     adopted_told (heap_no_of old.heap) c.args.mutator c.args.slot c.into_hold-hold.result c.apply_heap.result
     notice.object
     c.apply_heap.ensures.gives reply
@@ -37,10 +39,10 @@ invariant_of-self-2 g c =
     c.in_ok-check_slot.ensures in
     let notice = c.in_ok-take.field-0 in
     sound_after old (record old { heap = c.apply_heap.new.heap; hands = c.take.new.self })
-    (steps.Adopt c.args.mutator c.args.slot) c.told.result refl c.self.invariant
-    (adopt_done old c.self.invariant.reached c.args.mutator c.args.slot notice c.into_hold-hold.result slot
+    (steps.Adopt c.args.mutator c.args.slot) (answered c.told.result) refl c.self.invariant
+    (adopt_done old c.self.invariant.reached c.args.mutator c.args.slot notice _ c.into_hold-hold.result slot
     c.in_ok-take.ensures.refused c.in_ok-take.ensures.answer c.into_hold-hold.ensures
-    (c.told.ensures ∙ c.apply_heap.ensures.answer) c.apply_heap.ensures.after c.in_ok-take.ensures.taken)
+    c.told.ensures c.apply_heap.ensures.does c.in_ok-take.ensures.taken)
 
 pub returns : goal.returns
 returns g c =
@@ -51,6 +53,7 @@ returns g c =
     c.in_ok-check_slot.ensures in
     let notice = c.in_ok-take.field-0 in
     rw (← c.self.view_is)
-    (adopt_done old c.self.invariant.reached c.args.mutator c.args.slot notice c.into_hold-hold.result slot
+    (does_answered old (steps.Adopt c.args.mutator c.args.slot) c.told.result _
+    (adopt_done old c.self.invariant.reached c.args.mutator c.args.slot notice _ c.into_hold-hold.result slot
     c.in_ok-take.ensures.refused c.in_ok-take.ensures.answer c.into_hold-hold.ensures
-    (c.told.ensures ∙ c.apply_heap.ensures.answer) c.apply_heap.ensures.after c.in_ok-take.ensures.taken)
+    c.told.ensures c.apply_heap.ensures.does c.in_ok-take.ensures.taken))

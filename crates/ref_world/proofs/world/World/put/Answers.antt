@@ -15,7 +15,7 @@ index_mut-queue-requires g c =
     let notice = c.in_ok-notice.notice in
     let named : c.index_mut.inside.0 ≡ notice.queue = c.index_mut.view_is ∙ c.queue.ensures in
     let within =
-    hand_has_queue old c.self.invariant.reached c.args.actor notice c.in_ok-notice.ensures.answer in
+    hand_has_queue old c.self.invariant.reached c.args.actor notice _ c.in_ok-notice.ensures.answer in
     omega (arith, within, named, c.self.inside.queues.ok.0)
 
 pub invariant_of-self : goal.invariant_of-self
@@ -27,10 +27,18 @@ invariant_of-self-2 g c =
     record { heap = c.self.inside.heap; hands = c.self.inside.hands; queues = c.self.inside.queues.items } in
     let notice = c.in_ok-notice.notice in
     let named : c.index_mut.inside.0 ≡ notice.queue = c.index_mut.view_is ∙ c.queue.ensures in
-    rw (named, c.fill_if_any.ensures, c.in_ok-notice.ensures.taken)
-    (put_done old c.self.invariant c.args.actor notice c.index_mut-queue.result.now c.index_mut.inside.0 named
+    rw (named, c.take_back.ensures, c.in_ok-notice.ensures.taken)
+    (put_done old c.self.invariant c.args.actor notice _ c.index_mut-queue.result.now c.index_mut.inside.0 named
     c.in_ok-notice.ensures.refused c.in_ok-notice.ensures.answer c.index_mut-queue.ensures.value
     c.put_one-left.result.0 c.put_one-left.result.1 c.put_one-left.new.queue c.put_one-left.ensures).1
 
 pub returns : goal.returns
-returns g c = grind (arith, put_done)
+returns g c =
+    let old : Core =
+    record { heap = c.self.inside.heap; hands = c.self.inside.hands; queues = c.self.inside.queues.items } in
+    let notice = c.in_ok-notice.notice in
+    let named : c.index_mut.inside.0 ≡ notice.queue = c.index_mut.view_is ∙ c.queue.ensures in
+    rw (← c.self.view_is, named, c.take_back.ensures, c.in_ok-notice.ensures.taken)
+    (put_done old c.self.invariant c.args.actor notice _ c.index_mut-queue.result.now c.index_mut.inside.0 named
+    c.in_ok-notice.ensures.refused c.in_ok-notice.ensures.answer c.index_mut-queue.ensures.value
+    c.put_one-left.result.0 c.put_one-left.result.1 c.put_one-left.new.queue c.put_one-left.ensures).0

@@ -3,10 +3,11 @@ use Rattle.std.proofs.Common.{refl}
 use Rattle.ref_world.proofs.Common.{Mutator, Core}
 use Rattle.ref_base.specs.declared.heap_step.HeapStep.TheVariants as heap
 use Rattle.ref_base.specs.declared.step.Step.TheVariants as steps
-use Rattle.ref_world.proofs.AskedRows.{as_told}
+use Rattle.ref_world.proofs.AskedRows.{as_told, does_answered}
 use Rattle.ref_world.proofs.HandRows.{unhook_row, free_from}
 use Rattle.ref_world.proofs.Refusals.{full_at_unhook}
 use Rattle.ref_world.proofs.SoundCores.{sound_after}
+use Rattle.ref_world.specs.Standing.{answered}
 use Rattle.ref_world.proofs.world.World.unhook.Goals as goal
 
 pub returns-in_err-check_empty : goal.returns-in_err-check_empty
@@ -19,10 +20,11 @@ invariant_of-self g c =
     let free = free_from old.hands (Mutator c.args.mutator) c.in_ok-check_empty.ensures in
     sound_after old (record old { heap = c.receive.new.heap; hands = c.receive.new.hands })
     (steps.Unhook c.args.mutator c.args.reference)
-    c.receive.result refl c.self.invariant
+    (answered c.receive.result) refl c.self.invariant
     (as_told old (steps.Unhook c.args.mutator c.args.reference) (heap.Unhook c.args.mutator c.args.reference)
-    c.receive.new.hands c.receive.ensures.answer c.receive.ensures.heap
-    (rw (c.receive.ensures.hands, c.receive.ensures.answer) (unhook_row old c.args.mutator c.args.reference free)))
+    c.receive.new.hands refl c.receive.ensures.does
+    (rw (c.receive.ensures.hands, c.receive.ensures.does.answer)
+    (unhook_row old c.args.mutator c.args.reference free)))
 
 pub returns : goal.returns
 returns g c =
@@ -30,6 +32,8 @@ returns g c =
     record { heap = c.self.inside.heap; hands = c.self.inside.hands; queues = c.self.inside.queues.items } in
     let free = free_from old.hands (Mutator c.args.mutator) c.in_ok-check_empty.ensures in
     rw (← c.self.view_is)
+    (does_answered old (steps.Unhook c.args.mutator c.args.reference) c.receive.result _
     (as_told old (steps.Unhook c.args.mutator c.args.reference) (heap.Unhook c.args.mutator c.args.reference)
-    c.receive.new.hands c.receive.ensures.answer c.receive.ensures.heap
-    (rw (c.receive.ensures.hands, c.receive.ensures.answer) (unhook_row old c.args.mutator c.args.reference free)))
+    c.receive.new.hands refl c.receive.ensures.does
+    (rw (c.receive.ensures.hands, c.receive.ensures.does.answer)
+    (unhook_row old c.args.mutator c.args.reference free))))

@@ -7,9 +7,10 @@ use Rattle.ref_base.proofs.Common.{reference_at, registered_in, World, Pending, 
 use Rattle.ref_base.proofs.Common.{pended, without_pending, after_queues, State, emptied, with_world, with_handed}
 use Rattle.ref_base.proofs.Common.{HeapAccepts, IsRow, AreCounted, Fault, Reply, Row}
 use Rattle.ref_base.specs.declared.heap_step.HeapStep.TheVariants as heap
+use Rattle.ref_base.specs.declared.plain_step.PlainStep.TheVariants as plain
 use Rattle.ref_base.specs.declared.reply.Reply.TheVariants as replies
-use Rattle.ref_base.proofs.HeapMoves.{scanned_by}
-use Rattle.ref_base.proofs.MovedParts.{mark_in}
+use Rattle.ref_base.proofs.Outcomes.{scanned_by}
+use Rattle.ref_base.proofs.OutcomeParts.{mark_in}
 use Rattle.ref_base.proofs.LeftObjects.{LeftMeans, left_kept, left_becomes}
 use Rattle.ref_base.proofs.ReplayKeeps.{but_hands, queues_keep, handed_keeps}
 use Rattle.ref_base.proofs.RowKinds.{IsOfQueues, queues_lead, IsOfHeap, row_kind}
@@ -18,7 +19,7 @@ use Rattle.ref_base.proofs.RowKinds.{IsOfQueues, queues_lead, IsOfHeap, row_kind
 
 -- the pending lists after a row
 abbrev pub pending_after : World → Option NamedStep → Reply → List (List Pending)
-pending_after w (Some (heap.ClearNext k)) (replies.Cleared n) =
+pending_after w (Some (heap.Plain (plain.ClearNext k))) (replies.Cleared n) =
     (pended w k n (registered_in (reference_at w.heap n))).pending
 pending_after w (Some (heap.Hand k)) (replies.Notice n q cause) =
     slice_set w.pending k (without_pending (pending_of w k) n)
@@ -26,11 +27,11 @@ pending_after w asked reply = w.pending
 
 -- what was scanned
 abbrev pub scanned_after : List (List ℕ) → Option NamedStep → Reply → List (List ℕ)
-scanned_after lists (Some (heap.Scan k)) reply = scanned_by lists k reply
-scanned_after lists (Some (heap.Begin now how)) (replies.Cycle n) = emptied lists
+scanned_after lists (Some (heap.Plain (plain.Scan k))) reply = scanned_by lists k reply
+scanned_after lists (Some (heap.Plain (plain.Begin now how))) (replies.Cycle n) = emptied lists
 scanned_after lists asked reply = lists
 
-pub record Moves (a : State) (asked : Option NamedStep) (reply : Reply) (b : State) : Type 0 where
+pub record Changes (a : State) (asked : Option NamedStep) (reply : Reply) (b : State) : Type 0 where
   pub pending : b.world.pending ≡ pending_after a.world asked reply
   pub scanned : b.scanned ≡ scanned_after a.scanned asked reply
   pub config : b.world.heap.config ≡ a.world.heap.config
@@ -39,21 +40,21 @@ pub record Moves (a : State) (asked : Option NamedStep) (reply : Reply) (b : Sta
 -- ---- rows of a heap
 
 pub heap_tells : (a b : State) (step : NamedStep) (reply : Reply) → HeapAccepts a step reply b
-    → Moves a (Some step) reply b
-heap_tells a b heap.EndMark reply row = grind arith
+    → Changes a (Some step) reply b
+heap_tells a b (heap.Plain plain.EndMark) reply row = grind arith
 heap_tells a b step reply row = grind arith
 
 -- ---- rows of the world
 
 -- a refusal tells nothing of these
-refused_moves : (a : State) (asked : Option NamedStep) (fault : Fault) → Moves a asked (replies.Refused fault) a
-refused_moves a None fault = record { pending = refl; scanned = refl; config = refl; left = λ means. means }
-refused_moves a (Some (heap.RefersTo m s v)) fault =
+refused_changes : (a : State) (asked : Option NamedStep) (fault : Fault) → Changes a asked (replies.Refused fault) a
+refused_changes a None fault = record { pending = refl; scanned = refl; config = refl; left = λ means. means }
+refused_changes a (Some (heap.Plain (plain.RefersTo m s v))) fault =
     record { pending = refl; scanned = refl; config = refl; left = λ means. means }
-refused_moves a (Some asked) fault =
+refused_changes a (Some asked) fault =
     record { pending = refl; scanned = refl; config = refl; left = λ means. means }
 
-queues_tell : (a : State) (row : Row) (b : State) → IsOfQueues a row b → Moves a None row.reply b
+queues_tell : (a : State) (row : Row) (b : State) → IsOfQueues a row b → Changes a None row.reply b
 queues_tell a row b of =
     let v : World = after_queues a.world row.step row.reply in
     let leads = queues_lead of in
@@ -66,7 +67,7 @@ queues_tell a row b of =
           left_becomes (with_world a v) b (left_kept a (with_world a v) (ap (mark_in a) keeps) means) of.becomes;
     }
 
-asked_tells : (a : State) (row : Row) (b : State) → (of : IsOfHeap a row b) → Moves a (Some of.asked) row.reply b
+asked_tells : (a : State) (row : Row) (b : State) → (of : IsOfHeap a row b) → Changes a (Some of.asked) row.reply b
 asked_tells a row b of =
     let c : State = of.left in
     let tells = heap_tells a c of.asked row.reply of.accepts in
@@ -82,16 +83,16 @@ asked_tells a row b of =
     }
 
 -- a row does what it tells
-pub row_moves : (a : State) (row : Row) (b : State) → AreCounted a.world → IsRow a row b
-    → Moves a (heap_step a.world row.step) row.reply b
-row_moves a row b counted h =
+pub row_changes : (a : State) (row : Row) (b : State) → AreCounted a.world → IsRow a row b
+    → Changes a (heap_step a.world row.step) row.reply b
+row_changes a row b counted h =
     let asks : Option NamedStep = heap_step a.world row.step in
-    let asking : Option NamedStep → Type 0 = λ asked. Moves a asked row.reply b in
+    let asking : Option NamedStep → Type 0 = λ asked. Changes a asked row.reply b in
     elim (row_kind a row b counted h) [
       | inl of ↦
-          subst (λ (r : Reply). Moves a asks r b) (sym of.answer)
-          (subst (λ (s : State). Moves a asks (replies.Refused of.fault) s) (sym of.same)
-          (refused_moves a asks of.fault))
+          subst (λ (r : Reply). Changes a asks r b) (sym of.answer)
+          (subst (λ (s : State). Changes a asks (replies.Refused of.fault) s) (sym of.same)
+          (refused_changes a asks of.fault))
       | inr others ↦ elim others [
         | inl of ↦ subst asking (sym of.asks) (queues_tell a row b of)
         | inr of ↦ subst asking (sym of.asks) (asked_tells a row b of)

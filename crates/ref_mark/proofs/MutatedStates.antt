@@ -1,4 +1,4 @@
--- A heap that a mutator moved stands for the state that the row of the abstract collector gives.
+-- A heap that a mutator changed stands for the state that the row of the abstract collector gives.
 use Rattle.std.proofs.Common.{◌≡◌, ℕ, ◌≤◌, Bool, true, false, not, refl, sym, ap, subst, ◌∙◌, arith, List, [], ◌∷◌}
 use Rattle.std.proofs.Common.{inl, inr}
 use Rattle.std.proofs.lemmas.Bool.{cases_Bool, true≢false, or_right}
@@ -8,7 +8,7 @@ use Rattle.ref_mark.proofs.Common.{is_past_mark, MarkStands, ReadsAs}
 use Rattle.ref_mark.proofs.Agreeing.{agrees_same, same_before}
 use Rattle.ref_mark.proofs.Shading.{MarkingBut}
 use Rattle.ref_mark.proofs.DoomedLists.{shown_heap-before}
-use Rattle.ref_mark.proofs.Moves.{Change, moved, IsMove, graph_after, moved_state, moved_marking}
+use Rattle.ref_mark.proofs.Mutations.{Change, mutated, IsMutation, graph_after, mutated_state, mutated_marking}
 
 -- ---- phases
 
@@ -55,39 +55,39 @@ pub alongside_itself : (w : World) → IsAlongside w w
 alongside_itself w = record { policy = refl; cycle = refl; phase = refl }
 
 module _ (k : CycleHeap) (c : Change) (a : State) (w : World) (beside : IsAlongside a.world w) (todo : List ℕ)
-    (stands : MarkStands k a) (move : IsMove k c (pending_numbers w.pending) todo) where
-  orderly_after : IsOrderly (moved k c).heap c.next
+    (stands : MarkStands k a) (mutation : IsMutation k c (pending_numbers w.pending) todo) where
+  orderly_after : IsOrderly (mutated k c).heap c.next
   orderly_after = grind arith
 
   born_after : a.born ≤ c.next
-  born_after = let born : a.born ≤ k.next = stands.born in let more : k.next ≤ c.next = move.next in
+  born_after = let born : a.born ≤ k.next = stands.born in let more : k.next ≤ c.next = mutation.next in
       omega (arith, born, more)
 
-  -- what holds in a mark makes a state that the moved heap stands for, also where more of it is marked and grey
+  -- what holds in a mark makes a state that the mutated heap stands for, also where more of it is marked and grey
   pub marking_stands : (marked grey : List ℕ) (left : Bool) → is_in k.phase Marking ≡ true
-      → let b = moved_state a (with_heap w (moved k c).heap) c.next
+      → let b = mutated_state a (with_heap w (mutated k c).heap) c.next
       (graph_after c (pending_numbers w.pending) ∷ a.moments) left in
-      MarkingBut (record (moved k c) { marked = marked; grey = grey }) b [] []
-      → left ≡ not (is_empty grey) → MarkStands (record (moved k c) { marked = marked; grey = grey }) b
+      MarkingBut (record (mutated k c) { marked = marked; grey = grey }) b [] []
+      → left ≡ not (is_empty grey) → MarkStands (record (mutated k c) { marked = marked; grey = grey }) b
   marking_stands marked grey left marking but left_is =
-      let j : CycleHeap = record (moved k c) { marked = marked; grey = grey } in
+      let j : CycleHeap = record (mutated k c) { marked = marked; grey = grey } in
       let before : is_past_mark k.phase ≡ false = marking_is_not_past k.phase marking in
       record {
-        heap = agrees_same j (moved k c).heap (sym (shown_heap-before j before));
+        heap = agrees_same j (mutated k c).heap (sym (shown_heap-before j before));
         next = refl;
         policy = beside.policy ∙ stands.policy;
         cycle = beside.cycle ∙ stands.cycle;
         phase = beside.phase ∙ stands.phase;
         doomed = stands.doomed ∙ simp before refl;
         born = born_after;
-        orderly = record { rising = move.rising; below = orderly_after.below; slots = orderly_after.slots };
+        orderly = record { rising = mutation.rising; below = orderly_after.below; slots = orderly_after.slots };
         scanners = stands.scanners;
         finders = stands.finders;
         there = record {
-          named = move.named;
+          named = mutation.named;
           led = λ m n due target.
               let quiet : is_in k.phase Sweeping ≡ false = (marking_is_not k.phase marking).1 in
-              move.led m n (simp quiet refl) target;
+              mutation.led m n (simp quiet refl) target;
         };
         facts = λ begun. but.facts;
         marking = λ again. record { coloured = but.coloured; reached = but.reached; found = but.found; left = left_is };
@@ -102,43 +102,43 @@ in_mark k a stands marking = grind arith
 -- ---- before a mark and after it
 
 module _ (k : CycleHeap) (c : Change) (a : State) (w : World) (beside : IsAlongside a.world w) (stands : MarkStands k a)
-    (move : IsMove k c (pending_numbers w.pending) []) where
-  quiet_stands : (h : Heap) → is_in k.phase Marking ≡ false → ReadsAs (moved k c) h
-      → MarkStands (moved k c) (record a { world = with_heap w h; next = c.next })
+    (mutation : IsMutation k c (pending_numbers w.pending) []) where
+  quiet_stands : (h : Heap) → is_in k.phase Marking ≡ false → ReadsAs (mutated k c) h
+      → MarkStands (mutated k c) (record a { world = with_heap w h; next = c.next })
   quiet_stands h quiet heap = grind arith
 
-  marked_stands : (h : Heap) → is_in k.phase Marking ≡ true → h ≡ (moved k c).heap
-      → MarkStands (moved k c) (moved_state a (with_heap w h) c.next (graph_of (with_heap w h) ∷ a.moments) a.left)
+  marked_stands : (h : Heap) → is_in k.phase Marking ≡ true → h ≡ (mutated k c).heap
+      → MarkStands (mutated k c) (mutated_state a (with_heap w h) c.next (graph_of (with_heap w h) ∷ a.moments) a.left)
   marked_stands h marking heap =
       subst
       (λ (g : Heap).
-      MarkStands (moved k c) (moved_state a (with_heap w g) c.next (graph_of (with_heap w g) ∷ a.moments) a.left))
+      MarkStands (mutated k c) (mutated_state a (with_heap w g) c.next (graph_of (with_heap w g) ∷ a.moments) a.left))
       (sym heap)
-      (marking_stands k c a w beside [] stands move c.marked k.grey a.left marking
-      (moved_marking k c a w [] a.left move (marking_is_in_cycle k.phase marking) stands.orderly.below stands.born
+      (marking_stands k c a w beside [] stands mutation c.marked k.grey a.left marking
+      (mutated_marking k c a w [] a.left mutation (marking_is_in_cycle k.phase marking) stands.orderly.below stands.born
       (in_mark k a stands marking)) (stands.marking marking).left)
 
   -- the row says nothing anew
-  pub moved_beside : (h : Heap) (next : ℕ) → ReadsAs (moved k c) h → next ≡ c.next
-      → MarkStands (moved k c) (ticked (record a { world = with_heap w h; next = next }))
-  moved_beside h next heap same =
+  pub mutated_beside : (h : Heap) (next : ℕ) → ReadsAs (mutated k c) h → next ≡ c.next
+      → MarkStands (mutated k c) (ticked (record a { world = with_heap w h; next = next }))
+  mutated_beside h next heap same =
       let b : State = record a { world = with_heap w h; next = c.next } in
       let phase : w.phase ≡ k.phase = beside.phase ∙ stands.phase in
-      let goal : MarkStands (moved k c) (ticked b) =
+      let goal : MarkStands (mutated k c) (ticked b) =
       elim (cases_Bool (is_in k.phase Marking)) [
         | inl marking ↦
             let now : is_in w.phase Marking ≡ true = ap (λ p. is_in p Marking) phase ∙ marking in
             let early : is_past_mark k.phase ≡ false = marking_is_not_past k.phase marking in
-            subst (MarkStands (moved k c)) (sym (ticked_marking b now))
-            (marked_stands h marking (same_before (moved k c) h early heap ∙ shown_heap-before (moved k c) early))
+            subst (MarkStands (mutated k c)) (sym (ticked_marking b now))
+            (marked_stands h marking (same_before (mutated k c) h early heap ∙ shown_heap-before (mutated k c) early))
         | inr quiet ↦
             let still : is_in w.phase Marking ≡ false = ap (λ p. is_in p Marking) phase ∙ quiet in
-            subst (MarkStands (moved k c)) (sym (ticked_other b still)) (quiet_stands h quiet heap)
+            subst (MarkStands (mutated k c)) (sym (ticked_other b still)) (quiet_stands h quiet heap)
       ] in
-      subst (λ n. MarkStands (moved k c) (ticked (record a { world = with_heap w h; next = n }))) (sym same) goal
+      subst (λ n. MarkStands (mutated k c) (ticked (record a { world = with_heap w h; next = n }))) (sym same) goal
 
 -- where hands, queues and pending references stay as they are
-pub moved_stands : (k : CycleHeap) (c : Change) (a : State) → MarkStands k a
-    → IsMove k c (pending_numbers a.world.pending) [] → (h : Heap) (next : ℕ) → ReadsAs (moved k c) h → next ≡ c.next
-    → MarkStands (moved k c) (ticked (record a { world = with_heap a.world h; next = next }))
-moved_stands k c a stands move = moved_beside k c a a.world (alongside_itself a.world) stands move
+pub mutated_stands : (k : CycleHeap) (c : Change) (a : State) → MarkStands k a
+    → IsMutation k c (pending_numbers a.world.pending) [] → (h : Heap) (next : ℕ) → ReadsAs (mutated k c) h
+    → next ≡ c.next → MarkStands (mutated k c) (ticked (record a { world = with_heap a.world h; next = next }))
+mutated_stands k c a stands mutation = mutated_beside k c a a.world (alongside_itself a.world) stands mutation

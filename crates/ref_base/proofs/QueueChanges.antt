@@ -10,7 +10,7 @@ use Rattle.ref_base.proofs.Common.{Lists, new_queue, new_queues, enqueued, was_p
 
 module _ {T : Type 0} (object_of : T → ℕ) where
   -- how a queue's lists change where this is put in and that taken, and where it is closed or not
-  pub record QueueMoves (old new : Lists T) (ins outs : List ℕ) (closes : Bool) : Type 0 where
+  pub record QueueChanges (old new : Lists T) (ins outs : List ℕ) (closes : Bool) : Type 0 where
     pub put : enqueued object_of new ≡ enqueued object_of old ++ ins
     pub taken : new.taken ≡ old.taken ++ outs
     pub closed : new.closed ≡ (old.closed || closes)
@@ -21,28 +21,28 @@ module _ {T : Type 0} (object_of : T → ℕ) where
   or_false true = refl
   or_false false = refl
 
-  pub moves_nothing : (lists : Lists T) → QueueMoves lists lists [] [] false
-  moves_nothing lists = search (append-nil, or_false)
+  pub changes_nothing : (lists : Lists T) → QueueChanges lists lists [] [] false
+  changes_nothing lists = search (append-nil, or_false)
 
   -- one change after another
-  pub moves_more : (old mid new : Lists T) (ins more_ins outs more_outs : List ℕ) (closes closes_later : Bool)
-      → QueueMoves old mid ins outs closes → QueueMoves mid new more_ins more_outs closes_later
-      → QueueMoves old new (ins ++ more_ins) (outs ++ more_outs) (closes || closes_later)
-  moves_more old mid new ins more_ins outs more_outs closes closes_later first later = grind (arith, append_assoc)
+  pub changes_more : (old mid new : Lists T) (ins more_ins outs more_outs : List ℕ) (closes closes_later : Bool)
+      → QueueChanges old mid ins outs closes → QueueChanges mid new more_ins more_outs closes_later
+      → QueueChanges old new (ins ++ more_ins) (outs ++ more_outs) (closes || closes_later)
+  changes_more old mid new ins more_ins outs more_outs closes closes_later first later = grind (arith, append_assoc)
 
-  pub moves_added : (lists : Lists T) (notice : T) → was_put object_of lists notice ≡ false → lists.closed ≡ false
-      → QueueMoves lists (with_parcel lists notice) (object_of notice ∷ []) [] false
-  moves_added lists notice fresh open_yet =
+  pub changes_added : (lists : Lists T) (notice : T) → was_put object_of lists notice ≡ false → lists.closed ≡ false
+      → QueueChanges lists (with_parcel lists notice) (object_of notice ∷ []) [] false
+  changes_added lists notice fresh open_yet =
       grind (arith, map-append, append_assoc, append-nil, IsDistinct-push, has-list_any)
 
-  pub moves_took : (lists : Lists T) (notice : T) (rest : List T) → lists.stands ≡ notice ∷ rest
-      → QueueMoves lists (with_taken object_of lists notice rest) [] (object_of notice ∷ []) false
-  moves_took lists notice rest first = grind (arith, append_assoc, append-nil)
+  pub changes_took : (lists : Lists T) (notice : T) (rest : List T) → lists.stands ≡ notice ∷ rest
+      → QueueChanges lists (with_taken object_of lists notice rest) [] (object_of notice ∷ []) false
+  changes_took lists notice rest first = grind (arith, append_assoc, append-nil)
 
   -- a queue may be closed again, and then nothing changes
-  pub moves_closed : (lists : Lists T) (closes : Bool) → true ≡ (lists.closed || closes)
-      → QueueMoves lists (record lists { closed = true }) [] [] closes
-  moves_closed lists closes is = search append-nil
+  pub changes_closed : (lists : Lists T) (closes : Bool) → true ≡ (lists.closed || closes)
+      → QueueChanges lists (record lists { closed = true }) [] [] closes
+  changes_closed lists closes is = search append-nil
 
 -- ---- queues into which nothing was ever put
 

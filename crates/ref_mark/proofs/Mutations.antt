@@ -1,4 +1,4 @@
--- What holds of a heap in its cycles goes on holding where a mutator moves.
+-- What holds of a heap in its cycles goes on holding after a step of a mutator.
 use Rattle.std.proofs.Common.{◌≡◌, ℕ, ◌<◌, ◌≤◌, Bool, true, false, refl, arith, List, [], ◌∷◌}
 use Rattle.std.proofs.Common.{◌++◌, length, Option, Some, None, is_some, ◌⊎◌, inl, inr}
 use Rattle.ref_mark.proofs.Common.{refers_into, has, Graph, Object, object_at, is_there, Allowed, present}
@@ -12,7 +12,7 @@ use Rattle.ref_objects.specs.Grounds.{Tag}
 use Rattle.ref_mark.proofs.Shading.{MarkingBut}
 use Rattle.ref_base.proofs.StillFound.{are_found-still}
 
--- ---- moves
+-- ---- mutations
 
 -- what a mutator may change: the rest of a heap in its cycles is as it was
 pub record Change : Type 0 where
@@ -23,8 +23,8 @@ pub record Change : Type 0 where
   pub marked : List ℕ
   pub tags : List Tag
 
-abbrev pub moved : CycleHeap → Change → CycleHeap
-moved k c = record k {
+abbrev pub mutated : CycleHeap → Change → CycleHeap
+mutated k c = record k {
   heap = record k.heap { objects = c.objects; slots = c.slots; holds = c.holds };
   next = c.next;
   marked = c.marked;
@@ -52,17 +52,17 @@ MayLead k c pending m n =
     (has (targets_at (is_kept k.policy) k.heap.objects m) n ≡ true) ⊎ (has (roots_after c pending) n ≡ true)
     ⊎ ((has (roots_after c pending) m ≡ true) × (is_in_cycle k.phase ≡ true → is_white k n ≡ false))
 
--- A mutator moves: no object goes, and what comes is new; nothing else is doomed than before; no root is white but for
--- some numbers that are still to be shaded; what is named is there; where an object leads to another, this is allowed;
--- references stay references, and none refers to a white object that didn't before; and once a mark has ended
+-- A step of a mutator: no object goes, and what comes is new; nothing else is doomed than before; no root is white but
+-- for some numbers that are still to be shaded; what is named is there; where an object leads to another, this is
+-- allowed; references stay references, and none refers to a white object that didn't before; and once a mark has ended
 -- none stops to.
-pub record IsMove (k : CycleHeap) (c : Change) (pending todo : List ℕ) : Type 0 where
+pub record IsMutation (k : CycleHeap) (c : Change) (pending todo : List ℕ) : Type 0 where
   pub next : k.next ≤ c.next
   pub stays : (n : ℕ) → is_there k.heap.objects n ≡ true → is_there c.objects n ≡ true
   pub was : (n : ℕ) → is_there c.objects n ≡ true → (is_there k.heap.objects n ≡ true) ⊎ IsNew k c pending n
   pub rising : IsRising (numbers c.objects)
   pub slots : length c.slots ≡ length k.heap.slots
-  pub doomed : doomed (moved k c) ≡ doomed k
+  pub doomed : doomed (mutated k c) ≡ doomed k
   pub marked_stays : (n : ℕ) → has k.marked n ≡ true → has c.marked n ≡ true
   pub marked_was : (n : ℕ) → has c.marked n ≡ true → (has k.marked n ≡ true) ⊎ (k.next ≤ n)
   pub roots : is_in_cycle k.phase ≡ true → (n : ℕ) → has (roots_after c pending) n ≡ true
@@ -80,8 +80,8 @@ pub record IsMove (k : CycleHeap) (c : Change) (pending todo : List ℕ) : Type 
       → refers_into (is_white k) (reference_in (object_at c.objects n)) ≡ true
 
 -- the state after it, in which hands, queues and pending references may be others
-abbrev pub moved_state : State → World → ℕ → List Graph → Bool → State
-moved_state a w next moments left = record a { world = w; next = next; moments = moments; left = left }
+abbrev pub mutated_state : State → World → ℕ → List Graph → Bool → State
+mutated_state a w next moments left = record a { world = w; next = next; moments = moments; left = left }
 
 -- ---- small facts
 
@@ -106,33 +106,34 @@ referring_is_there test h n refers = reference_in-some test (object_at h.objects
 -- ---- colours and facts
 
 -- in a cycle that has begun
-module _ (k : CycleHeap) (c : Change) (pending todo : List ℕ) (move : IsMove k c pending todo)
+module _ (k : CycleHeap) (c : Change) (pending todo : List ℕ) (mutation : IsMutation k c pending todo)
     (begun : is_in_cycle k.phase ≡ true) (below : (n : ℕ) → is_there k.heap.objects n ≡ true → n < k.next) where
   -- what was there is marked if it was
   marked-was : (n : ℕ) → is_there k.heap.objects n ≡ true → has c.marked n ≡ true → has k.marked n ≡ true
   marked-was n there marked = grind arith
 
-  pub moved_facts : (roots : List ℕ) → FactsBut k roots [] → FactsBut (moved k c) (roots_after c pending) todo
-  moved_facts roots facts = grind arith
+  pub mutated_facts : (roots : List ℕ) → FactsBut k roots [] → FactsBut (mutated k c) (roots_after c pending) todo
+  mutated_facts roots facts = grind arith
 
   -- ---- a mark
 
-  pub moved_coloured : (born : ℕ) (scanned : List (List ℕ)) → born ≤ k.next → Coloured k born scanned
-      → Coloured (moved k c) born scanned
-  moved_coloured born scanned early coloured = grind arith
+  pub mutated_coloured : (born : ℕ) (scanned : List (List ℕ)) → born ≤ k.next → Coloured k born scanned
+      → Coloured (mutated k c) born scanned
+  mutated_coloured born scanned early coloured = grind arith
 
-  pub moved_reached : (moments : List Graph) → Reached k moments → Reached (moved k c) (graph_after c pending ∷ moments)
-  moved_reached moments reached = record {
+  pub mutated_reached : (moments : List Graph) → Reached k moments
+      → Reached (mutated k c) (graph_after c pending ∷ moments)
+  mutated_reached moments reached = record {
     marked_ever = λ n there marked.
-        elim (move.was n there) [
+        elim (mutation.was n there) [
           | inl before ↦ inr (reached.marked_ever n before (marked-was n before marked))
           | inr new ↦ inl (root_ends (is_kept k.policy) (graph_after c pending) n there new.root)
         ];
     goes_on = λ m n ever target there.
-        elim (move.leads m n target) [
+        elim (mutation.leads m n target) [
           | inl before ↦ elim ever [
             | inl kept ↦ inl (target_ends (is_kept k.policy) (graph_after c pending) m n kept target there)
-            | inr earlier ↦ elim (move.was n there) [
+            | inr earlier ↦ elim (mutation.was n there) [
               | inl old ↦ inr (reached.goes_on m n earlier before old)
               | inr new ↦ inl (root_ends (is_kept k.policy) (graph_after c pending) n there new.root)
             ]
@@ -149,18 +150,18 @@ module _ (k : CycleHeap) (c : Change) (pending todo : List ℕ) (move : IsMove k
         ];
   }
 
-  pub moved_found : (scanned : List (List ℕ)) → FoundBut k scanned [] → FoundBut (moved k c) scanned []
-  moved_found scanned found = grind (arith, are_found-still)
+  pub mutated_found : (scanned : List (List ℕ)) → FoundBut k scanned [] → FoundBut (mutated k c) scanned []
+  mutated_found scanned found = grind (arith, are_found-still)
   -- ---- later phases
 
 -- ---- states
 
 -- in a mark, what holds goes on holding, but for what is still to be shaded
-pub moved_marking : (k : CycleHeap) (c : Change) (a : State) (w : World) (todo : List ℕ) (left : Bool)
-    → IsMove k c (pending_numbers w.pending) todo → is_in_cycle k.phase ≡ true
+pub mutated_marking : (k : CycleHeap) (c : Change) (a : State) (w : World) (todo : List ℕ) (left : Bool)
+    → IsMutation k c (pending_numbers w.pending) todo → is_in_cycle k.phase ≡ true
     → ((n : ℕ) → is_there k.heap.objects n ≡ true → n < k.next) → a.born ≤ k.next → MarkingBut k a [] []
-    → MarkingBut (moved k c)
-    (moved_state a (with_heap w (moved k c).heap) c.next (graph_after c (pending_numbers w.pending) ∷ a.moments) left)
-    todo []
-moved_marking k c a w todo left move begun below born but =
-    search (moved_facts, moved_coloured, moved_reached, moved_found)
+    → MarkingBut (mutated k c)
+    (mutated_state a (with_heap w (mutated k c).heap) c.next (graph_after c (pending_numbers w.pending) ∷ a.moments)
+    left) todo []
+mutated_marking k c a w todo left mutation begun below born but =
+    search (mutated_facts, mutated_coloured, mutated_reached, mutated_found)

@@ -11,6 +11,7 @@ use Rattle.ref_base.proofs.Common.{IsBut, ticked, on_heap, with_world, Loads, Ge
 use Rattle.ref_base.proofs.Common.{ClearsNext, HandsOn, Sweeps, HeapAccepts, value_reply, looked_at, looked, list_at}
 use Rattle.ref_base.proofs.Common.{begun_state, without, is_in, Own, Marking, Reply}
 use Rattle.ref_base.specs.declared.heap_step.HeapStep.TheVariants as heap
+use Rattle.ref_base.specs.declared.plain_step.PlainStep.TheVariants as plain
 use Rattle.ref_base.specs.declared.reply.Reply.TheVariants as replies
 
 -- b is c, or what c is as a moment of its mark, or that but that it says anew whether an object is left
@@ -31,28 +32,29 @@ abbrev pub found_less : State → ℕ → State
 found_less a k = record a { found = slice_set a.found k (drop 1 (list_at a.found k)) }
 
 -- where a step of a heap with this answer leads
-abbrev pub moved : State → NamedStep → Reply → State
-moved a (heap.New m d k) reply =
-    record a { world = after_heap a.world (heap.New m d k) reply; next = a.next + 1 }
-moved a (heap.Refer m strength d s q k) reply =
-    record a { world = after_heap a.world (heap.Refer m strength d s q k) reply; next = a.next + 1 }
-moved a (heap.Begin now how) reply = begun_state a (after_heap a.world (heap.Begin now how) reply)
-moved a (heap.Scan k) reply = record a { scanned = scanned_by a.scanned k reply }
-moved a (heap.ClearNext k) (replies.Cleared n) =
+abbrev pub outcome : State → NamedStep → Reply → State
+outcome a (heap.Plain (plain.New m d k)) reply =
+    record a { world = after_heap a.world (heap.Plain (plain.New m d k)) reply; next = a.next + 1 }
+outcome a (heap.Plain (plain.Refer m strength d s q k)) reply =
+    record a { world = after_heap a.world (heap.Plain (plain.Refer m strength d s q k)) reply; next = a.next + 1 }
+outcome a (heap.Plain (plain.Begin now how)) reply =
+    begun_state a (after_heap a.world (heap.Plain (plain.Begin now how)) reply)
+outcome a (heap.Plain (plain.Scan k)) reply = record a { scanned = scanned_by a.scanned k reply }
+outcome a (heap.Plain (plain.ClearNext k)) (replies.Cleared n) =
     with_world (found_less a k) (pended a.world k n (registered_in (reference_at a.world.heap n)))
-moved a (heap.ClearNext k) (replies.Kept n) = found_less a k
-moved a (heap.ClearNext k) (replies.Skipped n) = found_less a k
-moved a (heap.ClearNext k) reply = a
-moved a (heap.Sweep k) (replies.Swept count) = record a {
+outcome a (heap.Plain (plain.ClearNext k)) (replies.Kept n) = found_less a k
+outcome a (heap.Plain (plain.ClearNext k)) (replies.Skipped n) = found_less a k
+outcome a (heap.Plain (plain.ClearNext k)) reply = a
+outcome a (heap.Plain (plain.Sweep k)) (replies.Swept count) = record a {
   world = with_heap a.world (record a.world.heap { objects = without (take 64 a.doomed) a.world.heap.objects });
   doomed = drop 64 a.doomed;
 }
-moved a (heap.Sweep k) reply = a
-moved a step reply = with_world a (after_heap a.world step reply)
+outcome a (heap.Plain (plain.Sweep k)) reply = a
+outcome a step reply = with_world a (after_heap a.world step reply)
 
 -- the step isn't a mark's end
 abbrev pub IsNoEnd : NamedStep → Type 0
-IsNoEnd heap.EndMark = ⊥
+IsNoEnd (heap.Plain plain.EndMark) = ⊥
 IsNoEnd step = Unit {0}
 
 -- ---- the forms of a row
@@ -68,37 +70,39 @@ settled_becomes c b (inr (inr but)) = ap settled but.1 ∙ settled_ticked c
 
 -- b is where this answer to the step leads
 abbrev Leads : State → NamedStep → Reply → State → Type 0
-Leads a step reply b = Becomes (moved a step reply) b
+Leads a step reply b = Becomes (outcome a step reply) b
 
-answered : (a c b : State) (step : NamedStep) (answer reply : Reply) → reply ≡ answer → c ≡ moved a step answer
+answered : (a c b : State) (step : NamedStep) (answer reply : Reply) → reply ≡ answer → c ≡ outcome a step answer
     → Becomes c b → Leads a step reply b
 answered a c b step answer reply is leads becomes =
-    subst (λ (s : State). Becomes s b) (leads ∙ ap (λ (r : Reply). moved a step r) (sym is)) becomes
+    subst (λ (s : State). Becomes s b) (leads ∙ ap (λ (r : Reply). outcome a step r) (sym is)) becomes
 
-given : (a c b : State) (step : NamedStep) (answer reply : Reply) → Gives answer c reply b → c ≡ moved a step answer
+given : (a c b : State) (step : NamedStep) (answer reply : Reply) → Gives answer c reply b → c ≡ outcome a step answer
     → Leads a step reply b
 given a c b step answer reply row leads = answered a c b step answer reply row.0 leads (inr (inl row.1))
 
 -- ---- rows
 
 loads : (a b : State) (m d s i : ℕ) (value : Option ℕ) (reply : Reply) → Loads a m d value reply b
-    → Leads a (heap.Load m d s i) reply b
+    → Leads a (heap.Plain (plain.Load m d s i)) reply b
 loads a b m d s i None reply row =
-    given a (on_heap a (with_slot a.world.heap m d None)) b (heap.Load m d s i) replies.Null reply row refl
+    given a (on_heap a (with_slot a.world.heap m d None)) b (heap.Plain (plain.Load m d s i)) replies.Null reply row
+    refl
 loads a b m d s i (Some n) reply row = grind arith
 
 copies : (a b : State) (m d s : ℕ) (value : Option ℕ) (reply : Reply)
     → Gives (value_reply value) (on_heap a (with_slot a.world.heap m d value)) reply b
-    → Leads a (heap.Copy m d s) reply b
+    → Leads a (heap.Plain (plain.Copy m d s)) reply b
 copies a b m d s None reply row =
-    given a (on_heap a (with_slot a.world.heap m d None)) b (heap.Copy m d s) replies.Null reply row refl
+    given a (on_heap a (with_slot a.world.heap m d None)) b (heap.Plain (plain.Copy m d s)) replies.Null reply row refl
 copies a b m d s (Some n) reply row =
-    given a (on_heap a (with_slot a.world.heap m d (Some n))) b (heap.Copy m d s) (replies.Object n) reply row refl
+    given a (on_heap a (with_slot a.world.heap m d (Some n))) b (heap.Plain (plain.Copy m d s)) (replies.Object n) reply
+    row refl
 
 gets : (a b : State) (m d s : ℕ) (value : Option ℕ) (reply : Reply) → Gets a m d s value reply b
-    → Leads a (heap.Get m d s) reply b
+    → Leads a (heap.Plain (plain.Get m d s)) reply b
 gets a b m d s None reply row =
-    given a (on_heap a (got a.world.heap m d s None)) b (heap.Get m d s) replies.Null reply row refl
+    given a (on_heap a (got a.world.heap m d s None)) b (heap.Plain (plain.Get m d s)) replies.Null reply row refl
 gets a b m d s (Some n) reply row = grind arith
 
 unhooks : (a b : State) (m s : ℕ) (held queue : Option ℕ) (reply : Reply) → Unhooks a m s held queue reply b
@@ -116,17 +120,17 @@ holds a b m s None reply row = absurd row
 holds a b m s (Some n) reply row =
     given a (on_heap a (with_hold a.world.heap n)) b (heap.Hold m s) (replies.Object n) reply row refl
 
-scans : (a b : State) (k : ℕ) (reply : Reply) → Scans a k reply b → Leads a (heap.Scan k) reply b
+scans : (a b : State) (k : ℕ) (reply : Reply) → Scans a k reply b → Leads a (heap.Plain (plain.Scan k)) reply b
 scans a b k (replies.Scanned n) row = inr (inr row.2)
-scans a b k reply row = given a a b (heap.Scan k) replies.Nothing reply row.1 refl
+scans a b k reply row = given a a b (heap.Plain (plain.Scan k)) replies.Nothing reply row.1 refl
 
 looks : (a b : State) (k n : ℕ) (rest : List ℕ) (reply : Reply) → list_at a.found k ≡ n ∷ rest
-    → Gives (looked_at a k n) (looked a k n rest) reply b → Leads a (heap.ClearNext k) reply b
+    → Gives (looked_at a k n) (looked a k n rest) reply b → Leads a (heap.Plain (plain.ClearNext k)) reply b
 looks a b k n rest reply is row = grind arith
 
 looks_at : (a b : State) (k : ℕ) (found : List ℕ) (reply : Reply) → list_at a.found k ≡ found
-    → ClearsNext a k found reply b → Leads a (heap.ClearNext k) reply b
-looks_at a b k [] reply is row = given a a b (heap.ClearNext k) replies.Nothing reply row refl
+    → ClearsNext a k found reply b → Leads a (heap.Plain (plain.ClearNext k)) reply b
+looks_at a b k [] reply is row = given a a b (heap.Plain (plain.ClearNext k)) replies.Nothing reply row refl
 looks_at a b k (n ∷ rest) reply is row = looks a b k n rest reply is row
 
 hands_on : (a b : State) (k : ℕ) (ps : List Pending) (reply : Reply) → HandsOn a k ps reply b
@@ -135,18 +139,19 @@ hands_on a b k [] reply row = given a a b (heap.Hand k) replies.Nothing reply ro
 hands_on a b k (p ∷ ps) reply row = search given
 
 sweeps : (a b : State) (k : ℕ) (doomed : List ℕ) (reply : Reply) → a.doomed ≡ doomed → Sweeps a doomed reply b
-    → Leads a (heap.Sweep k) reply b
-sweeps a b k [] reply is row = given a a b (heap.Sweep k) replies.Nothing reply row refl
+    → Leads a (heap.Plain (plain.Sweep k)) reply b
+sweeps a b k [] reply is row = given a a b (heap.Plain (plain.Sweep k)) replies.Nothing reply row refl
 sweeps a b k (n ∷ ns) reply is row = grind arith
 
 -- a row of a heap that isn't a mark's end leads where its answer says
 pub heap_becomes : (a b : State) (step : NamedStep) (reply : Reply) → IsNoEnd step → HeapAccepts a step reply b
-    → Becomes (moved a step reply) b
-heap_becomes a b (heap.Load m d s i) reply plain row = loads a b m d s i _ reply row
-heap_becomes a b step reply plain row =
+    → Becomes (outcome a step reply) b
+heap_becomes a b (heap.Plain (plain.Load m d s i)) reply no_end row = loads a b m d s i _ reply row
+heap_becomes a b step reply no_end row =
     grind (arith, loads, copies, gets, unhooks, holds, scans, looks_at, hands_on, sweeps, given)
 
 -- in one equation
-pub heap_moves : (a b : State) (step : NamedStep) (reply : Reply) → IsNoEnd step → HeapAccepts a step reply b
-    → settled b ≡ settled (moved a step reply)
-heap_moves a b step reply plain row = settled_becomes (moved a step reply) b (heap_becomes a b step reply plain row)
+pub heap_outcome : (a b : State) (step : NamedStep) (reply : Reply) → IsNoEnd step → HeapAccepts a step reply b
+    → settled b ≡ settled (outcome a step reply)
+heap_outcome a b step reply no_end row =
+    settled_becomes (outcome a step reply) b (heap_becomes a b step reply no_end row)

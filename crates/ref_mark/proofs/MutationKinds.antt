@@ -1,11 +1,11 @@
--- The kinds of moves: of slots and holds alone, of one object, and of one more object.
+-- The kinds of mutations: of slots and holds alone, of one object, and of one more object.
 use Rattle.std.proofs.Common.{◌≡◌, ℕ, true, false, refl, sym, subst, arith, List, length, Option, Some, is_some, ◌⊎◌}
 use Rattle.std.proofs.Common.{inl, inr}
 use Rattle.ref_mark.proofs.Common.{refers_into, has, Object, object_at, is_there, Allowed, targets_of}
 use Rattle.ref_mark.proofs.Common.{soft_and_weak_referents, IsRising, is_kept, changed_at, reference_in, State}
 use Rattle.ref_mark.proofs.Common.{is_in_cycle, CycleHeap, is_white, is_past_mark, MarkStands}
 use Rattle.ref_mark.proofs.DoomedLists.{doomed-changed}
-use Rattle.ref_mark.proofs.Moves.{Change, IsMove, roots_after}
+use Rattle.ref_mark.proofs.Mutations.{Change, IsMutation, roots_after}
 use Rattle.ref_base.proofs.Lookups.{lookup-changed, numbers-changed}
 
 -- slots and holds change
@@ -19,13 +19,13 @@ rooted k slots holds = record {
   tags = k.tags;
 }
 
-pub rooted_move : (k : CycleHeap) (a : State) (slots : List (Option ℕ)) (holds pending todo : List ℕ) → MarkStands k a
-    → length slots ≡ length k.heap.slots
+pub rooted_mutation : (k : CycleHeap) (a : State) (slots : List (Option ℕ)) (holds pending todo : List ℕ)
+    → MarkStands k a → length slots ≡ length k.heap.slots
     → (is_in_cycle k.phase ≡ true → (n : ℕ) → has (roots_after (rooted k slots holds) pending) n ≡ true
     → (is_white k n ≡ false) ⊎ (has todo n ≡ true))
     → ((n : ℕ) → has (roots_after (rooted k slots holds) pending) n ≡ true → is_there k.heap.objects n ≡ true)
-    → IsMove k (rooted k slots holds) pending todo
-rooted_move k a slots holds pending todo stands count roots named = grind arith
+    → IsMutation k (rooted k slots holds) pending todo
+rooted_mutation k a slots holds pending todo stands count roots named = grind arith
 
 -- slots and holds change, and the object of one number
 abbrev pub altered : CycleHeap → List (Option ℕ) → List ℕ → ℕ → (Object → Object) → Change
@@ -48,15 +48,16 @@ pub record MayBecome (k : CycleHeap) (roots : List ℕ) (o p : Object) : Type 0 
   pub white_stays : is_past_mark k.phase ≡ true → refers_into (is_white k) o.reference ≡ true
       → refers_into (is_white k) p.reference ≡ true
 
-pub altered_move : (k : CycleHeap) (a : State) (slots : List (Option ℕ)) (holds : List ℕ) (i : ℕ) (f : Object → Object)
-    (pending todo : List ℕ) → MarkStands k a → ((o : Object) → (f o).no ≡ o.no) → length slots ≡ length k.heap.slots
+pub altered_mutation : (k : CycleHeap) (a : State) (slots : List (Option ℕ)) (holds : List ℕ) (i : ℕ)
+    (f : Object → Object) (pending todo : List ℕ) → MarkStands k a → ((o : Object) → (f o).no ≡ o.no)
+    → length slots ≡ length k.heap.slots
     → (is_in_cycle k.phase ≡ true → (n : ℕ) → has (roots_after (altered k slots holds i f) pending) n ≡ true
     → (is_white k n ≡ false) ⊎ (has todo n ≡ true))
     → ((n : ℕ) → has (roots_after (altered k slots holds i f) pending) n ≡ true → is_there k.heap.objects n ≡ true)
     → ((o : Object) → object_at k.heap.objects i ≡ Some o
     → MayBecome k (roots_after (altered k slots holds i f) pending) o (f o))
-    → IsMove k (altered k slots holds i f) pending todo
-altered_move k a slots holds i f pending todo stands keeps count roots named become =
+    → IsMutation k (altered k slots holds i f) pending todo
+altered_mutation k a slots holds i f pending todo stands keeps count roots named become =
     let os = k.heap.objects in
     let after = roots_after (altered k slots holds i f) pending in
     let goes_to = is_kept k.policy in

@@ -11,7 +11,7 @@ use Rattle.ref_mark.proofs.Common.{pending_numbers, has_slot, State, is_in_cycle
 use Rattle.ref_mark.proofs.Common.{young, with_made, MarkStands}
 use Rattle.ref_base.proofs.OneMore.{has-one_more}
 use Rattle.ref_mark.proofs.DoomedLists.{doomed-made}
-use Rattle.ref_mark.proofs.Moves.{Change, moved, IsMove, IsNew, MayLead, roots_after, referring_is_there}
+use Rattle.ref_mark.proofs.Mutations.{Change, mutated, IsMutation, IsNew, MayLead, roots_after, referring_is_there}
 use Rattle.ref_base.proofs.Lookups.{object_at-push, object_at-pushed, rising-push, has-present_here}
 use Rattle.ref_mark.proofs.RootFacts.{slot_root, roots_of_set, each_root_of_set, root_is_there, slot_within}
 
@@ -30,7 +30,7 @@ young-marked : (k : CycleHeap) (n : ℕ) → is_in_cycle k.phase ≡ true → is
     → has (young k n).marked n ≡ true
 young-marked k n begun there = grind (arith, has-one_more)
 
--- ---- the move
+-- ---- the mutation
 
 -- the heap with one more object, before that is marked
 abbrev pub grown : CycleHeap → ℕ → ℕ → Object → CycleHeap
@@ -46,8 +46,8 @@ making k m d o = record {
   tags = with_new_tag k.tags o.no;
 }
 
-pub moved-making : (k : CycleHeap) (m d : ℕ) (o : Object) → with_made k m d o ≡ moved k (making k m d o)
-moved-making k m d o = young-only (grown k m d o) o.no
+pub mutated-making : (k : CycleHeap) (m d : ℕ) (o : Object) → with_made k m d o ≡ mutated k (making k m d o)
+mutated-making k m d o = young-only (grown k m d o) o.no
 
 -- the object has the next number, and leads and refers to nothing white
 module _ (k : CycleHeap) (a : State) (m d : ℕ) (o : Object) (stands : MarkStands k a)
@@ -175,15 +175,15 @@ module _ (k : CycleHeap) (a : State) (m d : ℕ) (o : Object) (stands : MarkStan
   is_reference-there None is = is
   is_reference-there (Some p) is = refl
 
-  pub made_move : IsMove k (making k m d o) (pending_numbers a.world.pending) []
-  made_move = record {
+  pub made_mutation : IsMutation k (making k m d o) (pending_numbers a.world.pending) []
+  made_mutation = record {
     next = omega (arith);
     stays = was_there;
     was = made_was;
     rising = rising-push k.heap.objects o stands.orderly.rising
         (λ n there. subst (λ i. n < i) (sym number) (stands.orderly.below n there));
     slots = length-set k.heap.slots (16 * m + d) (Some o.no);
-    doomed = ap doomed (sym (moved-making k m d o)) ∙ doomed-made k m d o new_is_absent;
+    doomed = ap doomed (sym (mutated-making k m d o)) ∙ doomed-made k m d o new_is_absent;
     marked_stays = λ n marked. young-stays (grown k m d o) o.no n marked;
     marked_was = λ n marked.
         elim (young-was (grown k m d o) o.no n marked) [

@@ -10,9 +10,10 @@ use Rattle.ref_base.proofs.PathLaws.{root_ends}
 use Rattle.ref_mark.proofs.Agreeing.{same_before}
 use Rattle.ref_mark.proofs.Shading.{MarkingBut, shaded_marking, shaded-only, some_left}
 use Rattle.ref_mark.proofs.DoomedLists.{shown_heap-before}
-use Rattle.ref_mark.proofs.Moves.{Change, moved, IsMove, roots_after, graph_after, moved_state, moved_marking}
-use Rattle.ref_mark.proofs.MovedStates.{IsAlongside, in_mark, marking_stands, moved_beside}
-use Rattle.ref_mark.proofs.MovedStates.{marking_is_in_cycle, marking_is_not_past}
+use Rattle.ref_mark.proofs.Mutations.{Change, mutated, IsMutation, roots_after, graph_after, mutated_state}
+use Rattle.ref_mark.proofs.Mutations.{mutated_marking}
+use Rattle.ref_mark.proofs.MutatedStates.{IsAlongside, in_mark, marking_stands, mutated_beside}
+use Rattle.ref_mark.proofs.MutatedStates.{marking_is_in_cycle, marking_is_not_past}
 
 module _ (k : CycleHeap) (c : Change) (a : State) (w : World) (beside : IsAlongside a.world w) (n : ℕ)
     (stands : MarkStands k a)
@@ -20,50 +21,50 @@ module _ (k : CycleHeap) (c : Change) (a : State) (w : World) (beside : IsAlongs
   -- the state that says anew whether an object is left
   abbrev state_anew : State
   state_anew =
-      moved_state a (with_heap w (moved k c).heap) c.next (graph_after c (pending_numbers w.pending) ∷ a.moments)
-      (not (is_empty (shaded (moved k c) n).grey))
+      mutated_state a (with_heap w (mutated k c).heap) c.next (graph_after c (pending_numbers w.pending) ∷ a.moments)
+      (not (is_empty (shaded (mutated k c) n).grey))
 
-  -- in a mark: the object is a root after the move, and becomes grey if it is white
-  shaded_stands : IsMove k c (pending_numbers w.pending) (n ∷ []) → is_in k.phase Marking ≡ true
-      → MarkStands (shaded (moved k c) n) state_anew
-  shaded_stands move marking =
+  -- in a mark: the object is a root after the mutation, and becomes grey if it is white
+  shaded_stands : IsMutation k c (pending_numbers w.pending) (n ∷ []) → is_in k.phase Marking ≡ true
+      → MarkStands (shaded (mutated k c) n) state_anew
+  shaded_stands mutation marking =
       let g = graph_after c (pending_numbers w.pending) in
-      let new : CycleHeap = shaded (moved k c) n in
+      let new : CycleHeap = shaded (mutated k c) n in
       let left = not (is_empty new.grey) in
       let ever : is_there c.objects n ≡ true → EverKept k.policy (g ∷ a.moments) n =
       λ there. inl (root_ends (is_kept k.policy) g n there root) in
       let after : MarkingBut new state_anew [] [] =
-      shaded_marking (moved k c) state_anew n [] [] ever
-      (moved_marking k c a w (n ∷ []) left move (marking_is_in_cycle k.phase marking) stands.orderly.below stands.born
-      (in_mark k a stands marking)) in
-      let only = shaded-only (moved k c) n in
+      shaded_marking (mutated k c) state_anew n [] [] ever
+      (mutated_marking k c a w (n ∷ []) left mutation (marking_is_in_cycle k.phase marking) stands.orderly.below
+      stands.born (in_mark k a stands marking)) in
+      let only = shaded-only (mutated k c) n in
       subst (λ (j : CycleHeap). MarkStands j state_anew) (sym only)
-      (marking_stands k c a w beside (n ∷ []) stands move new.marked new.grey left marking
+      (marking_stands k c a w beside (n ∷ []) stands mutation new.marked new.grey left marking
       (subst (λ (j : CycleHeap). MarkingBut j state_anew [] []) only after) refl)
 
-  anew_in_mark : IsMove k c (pending_numbers w.pending) (n ∷ []) → is_in k.phase Marking ≡ true → a.next ≡ c.next
-      → (b : State) × IsBut (ticked (with_world a (with_heap w (moved k c).heap))) b
-      × MarkStands (shaded (moved k c) n) b
-  anew_in_mark move marking next = grind (arith, shaded_stands, some_left)
+  anew_in_mark : IsMutation k c (pending_numbers w.pending) (n ∷ []) → is_in k.phase Marking ≡ true → a.next ≡ c.next
+      → (b : State) × IsBut (ticked (with_world a (with_heap w (mutated k c).heap))) b
+      × MarkStands (shaded (mutated k c) n) b
+  anew_in_mark mutation marking next = grind (arith, shaded_stands, some_left)
 
-  -- The row gives out n, which is a root after the move: in a mark it may be white until it is shaded.
+  -- The row gives out n, which is a root after the mutation: in a mark it may be white until it is shaded.
   pub barred_row : (h : Heap) (answer : Reply)
-      → (is_in k.phase Marking ≡ true → IsMove k c (pending_numbers w.pending) (n ∷ []))
-      → (is_in k.phase Marking ≡ false → IsMove k c (pending_numbers w.pending) [])
-      → c.next ≡ k.next → ReadsAs (moved k c) h
+      → (is_in k.phase Marking ≡ true → IsMutation k c (pending_numbers w.pending) (n ∷ []))
+      → (is_in k.phase Marking ≡ false → IsMutation k c (pending_numbers w.pending) [])
+      → c.next ≡ k.next → ReadsAs (mutated k c) h
       → (b : State) × GivesAnew answer (with_world a (with_heap w h)) answer b
-      × MarkStands (barred (moved k c) (Some n)) b
-  barred_row h answer move_in_mark move_else next heap =
+      × MarkStands (barred (mutated k c) (Some n)) b
+  barred_row h answer mutation_in_mark mutation_else next heap =
       let base : State = with_world a (with_heap w h) in
       elim (cases_Bool (is_in k.phase Marking)) [
         | inl marking ↦
             let now : is_in w.phase Marking ≡ true = ap (λ p. is_in p Marking) (beside.phase ∙ stands.phase)
             ∙ marking in
-            let shades : barred (moved k c) (Some n) ≡ shaded (moved k c) n = simp marking refl in
+            let shades : barred (mutated k c) (Some n) ≡ shaded (mutated k c) n = simp marking refl in
             let early = marking_is_not_past k.phase marking in
-            let is : h ≡ (moved k c).heap =
-            same_before (moved k c) h early heap ∙ shown_heap-before (moved k c) early in
-            let row = anew_in_mark (move_in_mark marking) marking (stands.next ∙ sym next) in (
+            let is : h ≡ (mutated k c).heap =
+            same_before (mutated k c) h early heap ∙ shown_heap-before (mutated k c) early in
+            let row = anew_in_mark (mutation_in_mark marking) marking (stands.next ∙ sym next) in (
               row.0,
               subst (λ x. GivesAnewIf x answer base answer row.0) (sym now)
                   (refl, subst (λ (g : Heap). IsBut (ticked (with_world a (with_heap w g))) row.0) (sym is) row.1),
@@ -71,10 +72,10 @@ module _ (k : CycleHeap) (c : Change) (a : State) (w : World) (beside : IsAlongs
             )
         | inr quiet ↦
             let now : is_in w.phase Marking ≡ false = ap (λ p. is_in p Marking) (beside.phase ∙ stands.phase) ∙ quiet in
-            let rests : barred (moved k c) (Some n) ≡ moved k c = simp quiet refl in (
+            let rests : barred (mutated k c) (Some n) ≡ mutated k c = simp quiet refl in (
               ticked base,
               subst (λ x. GivesAnewIf x answer base answer (ticked base)) (sym now) (refl, refl),
               subst (λ (j : CycleHeap). MarkStands j (ticked base)) (sym rests)
-                  (moved_beside k c a w beside stands (move_else quiet) h a.next heap (stands.next ∙ sym next)),
+                  (mutated_beside k c a w beside stands (mutation_else quiet) h a.next heap (stands.next ∙ sym next)),
             )
       ]

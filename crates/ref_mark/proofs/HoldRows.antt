@@ -19,12 +19,12 @@ use Rattle.ref_mark.specs.MarkCalls.{with_hold_of, is_freed, names_freed}
 use Rattle.ref_mark.specs.MarkRows.{KeepsStanding}
 use Rattle.ref_mark.specs.MarkViews.{ground_of}
 use Rattle.ref_base.proofs.OneMore.{has-one_more}
-use Rattle.ref_mark.proofs.Moves.{IsMove}
-use Rattle.ref_mark.proofs.MovedStates.{moved_stands}
+use Rattle.ref_mark.proofs.Mutations.{IsMutation}
+use Rattle.ref_mark.proofs.MutatedStates.{mutated_stands}
 use Rattle.ref_base.proofs.Lookups.{has-present_at, has-present_set}
 use Rattle.ref_mark.proofs.RootFacts.{slot_root, hold_root, pending_root, root_cases}
 use Rattle.ref_mark.proofs.RootFacts.{slot_is_there}
-use Rattle.ref_mark.proofs.MoveKinds.{rooted}
+use Rattle.ref_mark.proofs.MutationKinds.{rooted}
 
 -- what is held after a hold goes was held
 pub has-one_fewer : (ns : List ℕ) (n m : ℕ) → has (one_fewer ns n) m ≡ true → has ns m ≡ true
@@ -32,15 +32,15 @@ has-one_fewer [] n m held = held
 has-one_fewer (i ∷ is) n m held = grind (arith, has-one_fewer is n m)
 
 module _ (k : CycleHeap) (a : State) (stands : MarkStands k a) where
-  hold_move : (n : ℕ) → has (graph_of a.world).roots n ≡ true
-      → IsMove k (rooted k k.heap.slots (one_more k.heap.holds n)) (pending_numbers a.world.pending) []
-  hold_move n root = grind (arith, root_cases, slot_root, has-one_more, hold_root, pending_root)
+  hold_mutation : (n : ℕ) → has (graph_of a.world).roots n ≡ true
+      → IsMutation k (rooted k k.heap.slots (one_more k.heap.holds n)) (pending_numbers a.world.pending) []
+  hold_mutation n root = grind (arith, root_cases, slot_root, has-one_more, hold_root, pending_root)
 
   -- one hold more of a root
   pub hold_stands : (n : ℕ) → has (graph_of a.world).roots n ≡ true
       → MarkStands (record k { heap = with_hold k.heap n }) (ticked (on_heap a (with_hold a.world.heap n)))
   hold_stands n root =
-      moved_stands k (rooted k k.heap.slots (one_more k.heap.holds n)) a stands (hold_move n root)
+      mutated_stands k (rooted k k.heap.slots (one_more k.heap.holds n)) a stands (hold_mutation n root)
       (with_hold a.world.heap n) a.next (ap (λ (h : Heap). with_hold h n) stands.heap) stands.next
 
   -- one of what a slot holds
@@ -50,17 +50,17 @@ module _ (k : CycleHeap) (a : State) (stands : MarkStands k a) where
   slot_hold_row m s (Some n) is accepted = grind (arith, hold_stands, slot_root, has-present_at)
 
   -- no slot that is set comes to hold what wasn't held, and one hold goes
-  fewer_move : (slots : List (Option ℕ)) (n : ℕ) → length slots ≡ length k.heap.slots
+  fewer_mutation : (slots : List (Option ℕ)) (n : ℕ) → length slots ≡ length k.heap.slots
       → ((m : ℕ) → has (present slots) m ≡ true → (has (present k.heap.slots) m ≡ true) ⊎ (has k.heap.holds m ≡ true))
-      → IsMove k (rooted k slots (one_fewer k.heap.holds n)) (pending_numbers a.world.pending) []
-  fewer_move slots n count held = grind (arith, root_cases, slot_root, hold_root, has-one_fewer, pending_root)
+      → IsMutation k (rooted k slots (one_fewer k.heap.holds n)) (pending_numbers a.world.pending) []
+  fewer_mutation slots n count held = grind (arith, root_cases, slot_root, hold_root, has-one_fewer, pending_root)
 
   -- one hold fewer
   pub without_hold_stands : (n : ℕ)
       → MarkStands (record k { heap = without_hold k.heap n }) (ticked (on_heap a (without_hold a.world.heap n)))
   without_hold_stands n =
-      moved_stands k (rooted k k.heap.slots (one_fewer k.heap.holds n)) a stands
-      (fewer_move k.heap.slots n refl (λ m slot. inl slot))
+      mutated_stands k (rooted k k.heap.slots (one_fewer k.heap.holds n)) a stands
+      (fewer_mutation k.heap.slots n refl (λ m slot. inl slot))
       (without_hold a.world.heap n) a.next (ap (λ (h : Heap). without_hold h n) stands.heap) stands.next
 
   -- and a slot holds what was held
@@ -69,8 +69,8 @@ module _ (k : CycleHeap) (a : State) (stands : MarkStands k a) where
       (ticked (on_heap a (with_slot (without_hold a.world.heap n) m d (Some n))))
   adopted_stands m d n held =
       let slots = slice_set k.heap.slots (16 * m + d) (Some n) in
-      moved_stands k (rooted k slots (one_fewer k.heap.holds n)) a stands
-      (fewer_move slots n (length-set k.heap.slots (16 * m + d) (Some n))
+      mutated_stands k (rooted k slots (one_fewer k.heap.holds n)) a stands
+      (fewer_mutation slots n (length-set k.heap.slots (16 * m + d) (Some n))
       (λ j slot.
       elim (has-present_set k.heap.slots (16 * m + d) (Some n) j slot) [
         | inl before ↦ inl before
@@ -88,7 +88,7 @@ pub hold_row : (k : CycleHeap) (a : State) (m s : ℕ) → MarkStands k a
 hold_row k a m s stands accepted = grind (arith, slot_hold_row)
 
 pub adopt_row : (k : CycleHeap) (a : State) (m d : ℕ) (hold : HoldName) → MarkStands k a
-    → unless (has_slot k.heap m d) NoSuchActor (hold_refusal k.heap_no k.heap hold) ≡ None
+    → unless (has_slot k.heap m d) NoSuchActor (hold_refusal k.heap hold) ≡ None
     → (b : State) × HeapAccepts a (heap.Adopt m d hold) (replies.Object hold.object) b
     × MarkStands (record k { heap = adopted k.heap m d hold.object }) b
 adopt_row k a m d hold stands accepted = grind (arith, adopted_stands k a stands m d hold.object)

@@ -10,7 +10,7 @@ use Rattle.ref_mark.proofs.Common.{got_at, got, reference_refusal, reference_of,
 use Rattle.ref_mark.proofs.Common.{CycleHeap, is_white, is_past_mark, is_doomed, undoomed, barred, with_got}
 use Rattle.ref_base.proofs.HasLaws.{has-left, has-right, has-cases}
 use Rattle.ref_base.proofs.Lookups.{lookup-changed}
-use Rattle.ref_mark.proofs.MoveKinds.{MayBecome}
+use Rattle.ref_mark.proofs.MutationKinds.{MayBecome}
 
 -- ---- what is read
 
