@@ -1,5 +1,6 @@
 //! A whole heap, call by call.
 
+mod chains;
 mod cycles;
 mod deaths;
 mod memory;
@@ -322,6 +323,11 @@ fn make_calls<A: Allocator + Copy>(
     for (row, &(call, want)) in story.iter().enumerate() {
         expect(rt, row, answer(&mut bench, call), want);
     }
+    finish(bench);
+}
+
+/// Both heaps end, and what is still held is leaked.
+fn finish<A: Allocator + Copy>(bench: Bench<A>) {
     let Bench { heap, other, hands } = bench;
     heap.end();
     other.end();

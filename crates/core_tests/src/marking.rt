@@ -1,5 +1,6 @@
 //! A heap in its cycles, call by call.
 
+mod chains;
 mod cycles;
 mod refusals;
 
@@ -138,7 +139,12 @@ fn collected(heap: &mut Marker, call: Collect) -> Told {
         Collect::Free(no) => return is(heap.free(ObjNo(no))),
         Collect::GreyRoot(no) => heap.grey_root(ObjNo(no)),
         Collect::Cut(no) => heap.cut(ObjNo(no)),
-        Collect::ToSweeping => heap.to_sweeping(),
+        Collect::ToSweeping => {
+            if heap.has_found() {
+                return Told::No;
+            }
+            heap.to_sweeping();
+        }
         Collect::ToIdle => {
             if heap.has_doomed() {
                 return Told::No;

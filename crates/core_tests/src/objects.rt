@@ -171,7 +171,7 @@ fn asked<A: Allocator + Copy>(heap: &Objects<A>, call: Ask) -> Told {
         Ask::StampOf(no) => Told::Time(heap.stamp_of(ObjNo(no))),
         Ask::QueueOf(no) => queue(heap.queue_of(ObjNo(no))),
         Ask::ClearedIn(no) => Told::Began(heap.cleared_in(ObjNo(no))),
-        Ask::LinkOf(no) => Told::Count(heap.link_of(ObjNo(no)) as u64),
+        Ask::LinkOf(no) => Told::Count(u64::from(heap.link_of(ObjNo(no)))),
         Ask::FirstFrom(no) => found(heap.first_from(ObjNo(no))),
         Ask::IsHeld(no) => is(heap.is_held(ObjNo(no))),
         Ask::HeldFrom(no) => found(heap.held_from(ObjNo(no))),

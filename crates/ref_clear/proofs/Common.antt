@@ -31,13 +31,17 @@ pub use Rattle.ref_mark.specs.CycleHeaps.{is_in_cycle, is_past_mark, is_white, s
 pub use Rattle.ref_mark.specs.CycleHeaps.{with_found_taken}
 pub use Rattle.ref_mark.specs.MarkCalls.{after_mint_in, is_of_marking, mint_answer_in, unless_refused}
 pub use Rattle.ref_mark.specs.MarkRows.{starting_state}
-pub use Rattle.ref_mark.specs.MarkViews.{ground_of, worklists_of}
+pub use Rattle.ref_mark.specs.MarkViews.{ground_of}
 pub use Rattle.ref_mark.specs.Standing.{FactsBut, MarkStands, ReadsAs, shown_heap, unsaid}
-pub use Rattle.ref_mark.specs.Worklists.{Worklist, empty_worklist, first_in}
+pub use Rattle.ref_mark.specs.Worklists.{first_in}
+pub use Rattle.ref_mark.specs.declared.chain.Chain.{Chain}
+pub use Rattle.ref_mark.specs.Chains.{AreChains, chain_first, chain_with, chain_without_first, linked_last}
+pub use Rattle.ref_mark.specs.Chains.{linked_last_of, listed, no_chain, walk}
 pub use Rattle.ref_clear.specs.ClearCalls.{after_in, answer_in, answer_of_hand, answer_of_look, answer_of_sweep}
 pub use Rattle.ref_clear.specs.ClearCalls.{answer_of_unhook, queue_in, refusal_in}
 pub use Rattle.ref_clear.specs.ClearHeaps.{ClearHeap, begun_with, cut_at, handed_from, heap_pended, holding}
 pub use Rattle.ref_clear.specs.ClearHeaps.{is_to_clear, looked_from, pending_at, swept_some, unhooked, with_mark}
-pub use Rattle.ref_clear.specs.ClearViews.{AreRegistered, HaveRoom, IsSoundHeap, MaySweep, pending_from, pending_in}
+pub use Rattle.ref_clear.specs.ClearViews.{AreApart, AreRegistered, AreSoundLists, IsSoundHeap, MaySweep, lists_in}
+pub use Rattle.ref_clear.specs.ClearViews.{pending_from, pending_in, seen_lists}
 pub use Rattle.ref_clear.specs.ClearViews.{pending_lists_of, pendings_in, seen_heap}
 pub use Rattle.ref_clear.specs.Standing.{ArePending, HeapStands}

@@ -3,7 +3,9 @@ use Rattle.std.proofs.Common.{◌≡◌, ℕ, zero, suc, ◌≤◌, true, false,
 use Rattle.std.proofs.Common.{arith, List, [], ◌∷◌, ◌++◌, take, drop, Some, None}
 use Rattle.std.proofs.lemmas.Bool.{false≢true}
 use Rattle.ref_clear.proofs.Common.{has, Object, object_at, is_there, numbers, IsRising, without, unmarked, first_in}
-use Rattle.ref_objects.specs.Grounds.{Tag, cleared_in_at, without_tag}
+use Rattle.ref_mark.specs.Chains.{is_tagged}
+use Rattle.ref_mark.proofs.LinkLemmas.{link_at-gone, is_tagged-gone}
+use Rattle.ref_objects.specs.Grounds.{link_at, Tag, cleared_in_at, without_tag}
 use Rattle.ref_objects.proofs.TagLemmas.{cleared_in_at-without}
 use Rattle.ref_clear.specs.ClearHeaps.{without_tags}
 use Rattle.ref_base.proofs.HasLaws.{has-append}
@@ -32,6 +34,17 @@ pub cleared_in_at-left : (gone : List ℕ) (ts : List Tag) (n : ℕ) → has gon
     → cleared_in_at (without_tags gone ts) n ≡ cleared_in_at ts n
 cleared_in_at-left [] ts n left = refl
 cleared_in_at-left (m ∷ ms) ts n left = grind (arith, cleared_in_at-without, cleared_in_at-left ms)
+
+-- and have their links
+pub link_at-left : (gone : List ℕ) (ts : List Tag) (n : ℕ) → has gone n ≡ false
+    → link_at (without_tags gone ts) n ≡ link_at ts n
+link_at-left [] ts n left = refl
+link_at-left (m ∷ ms) ts n left = grind (arith, link_at-gone, link_at-left ms)
+
+pub is_tagged-left : (gone : List ℕ) (ts : List Tag) (n : ℕ) → has gone n ≡ false
+    → is_tagged (without_tags gone ts) n ≡ is_tagged ts n
+is_tagged-left [] ts n left = refl
+is_tagged-left (m ∷ ms) ts n left = grind (arith, is_tagged-gone, is_tagged-left ms)
 
 -- what goes isn't there any more
 pub object_at-gone : (gone : List ℕ) (os : List Object) (n : ℕ) → has gone n ≡ true

@@ -5,8 +5,9 @@ use Rattle.std.proofs.Common.{None, inl, inr}
 use Rattle.std.proofs.lemmas.Bool.{lt-ltb, or_right}
 use Rattle.ref_clear.proofs.Common.{has, Pending, pending_numbers, is_worker, hand_refusal, Cycle, Fault, mint_refusal}
 use Rattle.ref_clear.proofs.Common.{CycleHeap, mint_answer_in, after_mint_in, ground_of, pending_at, holding}
-use Rattle.ref_clear.proofs.Common.{handed_from, refusal_in, answer_of_hand, Worklist}
-use Rattle.ref_clear.proofs.Common.{pending_lists_of, pendings_in, seen_heap, AreRegistered, IsSoundHeap, pending_from}
+use Rattle.ref_clear.proofs.Common.{handed_from, refusal_in, answer_of_hand}
+use Rattle.ref_clear.proofs.Common.{pending_lists_of, pendings_in, seen_lists, AreRegistered, AreSoundLists}
+use Rattle.ref_clear.proofs.Common.{pending_from}
 use Rattle.ref_clear.proofs.Common.{Object, rest_of}
 use Rattle.ref_base.specs.declared.heap_step.HeapStep.TheVariants as heap
 use Rattle.ref_base.specs.declared.reply.Reply.TheVariants as replies
@@ -14,7 +15,6 @@ use Rattle.ref_base.proofs.HasLaws.{has-right}
 use Rattle.ref_clear.specs.ClearCalls.{HeapDoes}
 use Rattle.ref_clear.specs.ClearViews.{first_pending}
 use Rattle.ref_objects.specs.Grounds.{Tag}
-use Rattle.ref_mark.specs.Worklists.{without_first_listed}
 use Rattle.ref_clear.proofs.HandRows.{pending_numbers-rest}
 use Rattle.ref_clear.proofs.NoticeAnswers.{mint_of_pending, minted}
 use Rattle.ref_clear.proofs.PendingLists.{lists_of-set, stands_as_seen, has-replaced}
@@ -38,20 +38,20 @@ some_first [] p some = absurd (let wrong : None ≡ Some p = some in cc)
 some_first (q ∷ qs) p some =
     let same : q ≡ p = let e : Some q ≡ Some p = some in cc in ap (λ (r : Pending). r ∷ qs) same
 
-module _ {k : CycleHeap} {lists : List Worklist} {swept_to : ℕ} (w : ℕ) (sound : IsSoundHeap k lists swept_to)
+module _ {k : CycleHeap} {lists : List (List ℕ)} {swept_to : ℕ} (w : ℕ) (sound : AreSoundLists k lists swept_to)
     (within : w < k.heap.config.workers) where
   there : is_worker k.heap w ≡ true
   there = lt-ltb w k.heap.config.workers within
 
   -- nothing is pending
-  pub none_to_hand : pending_from (pending_at (seen_heap k lists) w) 0 ≡ None
-      → HeapDoes (seen_heap k lists) (heap.Hand w) replies.Nothing (seen_heap k lists)
+  pub none_to_hand : pending_from (pending_at (seen_lists k lists) w) 0 ≡ None
+      → HeapDoes (seen_lists k lists) (heap.Hand w) replies.Nothing (seen_lists k lists)
   none_to_hand none = grind arith
 
   -- with a first that is pending, the mint of its hold decides
-  module _ {p : Pending} (first : pending_from (pending_at (seen_heap k lists) w) 0 ≡ Some p) where
-    are : pending_at (seen_heap k lists) w ≡ p ∷ rest_pending (pending_at (seen_heap k lists) w)
-    are = some_first (pending_at (seen_heap k lists) w) p first
+  module _ {p : Pending} (first : pending_from (pending_at (seen_lists k lists) w) 0 ≡ Some p) where
+    are : pending_at (seen_lists k lists) w ≡ p ∷ rest_pending (pending_at (seen_lists k lists) w)
+    are = some_first (pending_at (seen_lists k lists) w) p first
 
     abbrev pss : List (List Pending)
     pss = pending_lists_of k.heap.objects k.tags lists
@@ -59,49 +59,49 @@ module _ {k : CycleHeap} {lists : List Worklist} {swept_to : ℕ} (w : ℕ) (sou
     waits : has (pending_numbers pss) p.object ≡ true
     waits = grind (arith, pending_numbers-rest, has-right)
 
-    refusal : refusal_in (seen_heap k lists) (heap.Hand w) ≡ mint_refusal (ground_of k) p.object
+    refusal : refusal_in (seen_lists k lists) (heap.Hand w) ≡ mint_refusal (ground_of k) p.object
     refusal =
-        let own : refusal_in (seen_heap k lists) (heap.Hand w) ≡ hand_refusal (pending_at (seen_heap k lists) w)
+        let own : refusal_in (seen_lists k lists) (heap.Hand w) ≡ hand_refusal (pending_at (seen_lists k lists) w)
         k.heap =
         simp there refl in
         own ∙ ap (λ (ps : List Pending). hand_refusal ps k.heap) are
-        ∙ sym (mint_of_pending (seen_heap k lists) sound.stands.0 p.object sound.stands.1 waits)
+        ∙ sym (mint_of_pending (seen_lists k lists) sound.stands.0 p.object sound.stands.1 waits)
 
     pub hand_refused : {j : CycleHeap} {fault : Fault} → replies.Refused fault ≡ mint_answer_in k p.object
         → j ≡ after_mint_in k p.object
-        → HeapDoes (seen_heap k lists) (heap.Hand w) (replies.Refused fault) (seen_heap j lists)
+        → HeapDoes (seen_lists k lists) (heap.Hand w) (replies.Refused fault) (seen_lists j lists)
         × AreRegistered j.heap.objects lists
     hand_refused {j} {fault} answer after = grind (arith, refusal)
 
-    pub handed : {j : CycleHeap} {l m : Worklist} {n : ℕ} → replies.Object n ≡ mint_answer_in k p.object
-        → j ≡ after_mint_in k p.object → l ≡ get_or lists w l → m ≡ without_first_listed l
-        → HeapDoes (seen_heap k lists) (heap.Hand w) (replies.Notice n p.queue (Cycle p.cycle w))
-        (seen_heap j (set lists w m))
+    pub handed : {j : CycleHeap} {l m : List ℕ} {n : ℕ} → replies.Object n ≡ mint_answer_in k p.object
+        → j ≡ after_mint_in k p.object → l ≡ get_or lists w l → m ≡ rest_of l
+        → HeapDoes (seen_lists k lists) (heap.Hand w) (replies.Notice n p.queue (Cycle p.cycle w))
+        (seen_lists j (set lists w m))
         × AreRegistered j.heap.objects (set lists w m)
     handed {j} {l} {m} {n} answer after read taken =
         let mint = minted k p.object n answer after in
-        let is : refusal_in (seen_heap k lists) (heap.Hand w) ≡ None = refusal ∙ mint.0 in
-        let rest : pendings_in k.heap.objects k.tags m.stands ≡ rest_pending (pending_at (seen_heap k lists) w) =
-        ap (λ (i : Worklist). pendings_in k.heap.objects k.tags i.stands) taken
-        ∙ pendings_in-rest k.heap.objects k.tags l.stands
+        let is : refusal_in (seen_lists k lists) (heap.Hand w) ≡ None = refusal ∙ mint.0 in
+        let rest : pendings_in k.heap.objects k.tags m ≡ rest_pending (pending_at (seen_lists k lists) w) =
+        ap (λ (i : List ℕ). pendings_in k.heap.objects k.tags i) taken
+        ∙ pendings_in-rest k.heap.objects k.tags l
         ∙ ap rest_pending (stands_as_seen w sound within read) in
-        let reply : answer_of_hand w (pending_at (seen_heap k lists) w) ≡ replies.Notice p.object p.queue
+        let reply : answer_of_hand w (pending_at (seen_lists k lists) w) ≡ replies.Notice p.object p.queue
         (Cycle p.cycle w) =
         ap (answer_of_hand w) are in
-        let left = ap (handed_from (seen_heap k lists) w) are in
+        let left = ap (handed_from (seen_lists k lists) w) are in
         let now =
         lists_of-set k.heap.objects k.tags lists w m ∙ ap (λ (ps : List Pending). set pss w ps) rest in (
           record {
             answer = ap (λ i. replies.Notice i p.queue (Cycle p.cycle w)) mint.1 ∙ sym reply ∙ simp is refl;
             after =
-                ap (λ (i : CycleHeap). seen_heap i (set lists w m)) mint.2
+                ap (λ (i : CycleHeap). seen_lists i (set lists w m)) mint.2
                 ∙ ap (λ (qss : List (List Pending)). record { mark = holding k p.object; pending = qss }) now
                 ∙ sym left ∙ simp is refl;
           },
           subst (λ (i : CycleHeap). AreRegistered i.heap.objects (set lists w m)) (sym mint.2) (λ i stands.
               elim
               (has-replaced (λ n. ⊥) lists w l m read
-              (λ n own. inr (has-rest l.stands n (subst (λ (i : Worklist). has i.stands n ≡ true) taken own))) i
+              (λ n own. inr (has-rest l n (subst (λ (i : List ℕ). has i n ≡ true) taken own))) i
               stands) [
                 | inl none ↦ absurd none
                 | inr before ↦ sound.registered i before

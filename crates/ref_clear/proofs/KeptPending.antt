@@ -4,8 +4,8 @@ use Rattle.std.proofs.Common.{◌≡◌, ℕ, true, List, [], ◌∷◌, refl, a
 use Rattle.std.specs.Option.{unwrap_or, IsSome}
 use Rattle.std.proofs.lemmas.Bool.{or_right}
 use Rattle.ref_clear.proofs.Common.{has, is_there, Object, reference_at, registered_in, Pending, joined, CycleHeap}
-use Rattle.ref_clear.proofs.Common.{shaded_all, with_mark, seen_heap, IsSoundHeap, pending_in, pendings_in}
-use Rattle.ref_clear.proofs.Common.{pending_lists_of, AreRegistered, Worklist, worklists_of}
+use Rattle.ref_clear.proofs.Common.{shaded_all, with_mark, seen_lists, AreSoundLists, pending_in, pendings_in}
+use Rattle.ref_clear.proofs.Common.{pending_lists_of, AreRegistered}
 use Rattle.ref_base.proofs.HasLaws.{has-first, has-left, has-right}
 use Rattle.ref_objects.specs.Grounds.{Tag, cleared_in_at}
 use Rattle.ref_mark.proofs.KeptParts.{KeepsCycles, shaded_all-tags}
@@ -27,8 +27,8 @@ told_same k j n kept = λ i. record { object = n; queue = unwrap_or (kept.0 i) 0
 -- ---- all
 
 -- each number in the lists is that of one that is kept so
-abbrev pub AreKept : CycleHeap → CycleHeap → List Worklist → Type 0
-AreKept k j lists = (n : ℕ) → has (joined (worklists_of lists)) n ≡ true → IsKept k j n
+abbrev pub AreKept : CycleHeap → CycleHeap → List (List ℕ) → Type 0
+AreKept k j lists = (n : ℕ) → has (joined lists) n ≡ true → IsKept k j n
 
 module _ (os us : List Object) (ts vs : List Tag) where
   pub pendings_in-same : (ns : List ℕ) → ((n : ℕ) → has ns n ≡ true → pending_in us vs n ≡ pending_in os ts n)
@@ -36,23 +36,23 @@ module _ (os us : List Object) (ts vs : List Tag) where
   pendings_in-same [] same = refl
   pendings_in-same (n ∷ ns) same = search (has-first, or_right, pendings_in-same ns)
 
-  lists_of-same : (ls : List Worklist)
-      → ((n : ℕ) → has (joined (worklists_of ls)) n ≡ true → pending_in us vs n ≡ pending_in os ts n)
+  lists_of-same : (ls : List (List ℕ))
+      → ((n : ℕ) → has (joined ls) n ≡ true → pending_in us vs n ≡ pending_in os ts n)
       → pending_lists_of us vs ls ≡ pending_lists_of os ts ls
   lists_of-same [] same = refl
   lists_of-same (l ∷ ls) same = search (pendings_in-same, has-left, has-right, lists_of-same ls)
 
-pub lists_kept : (k j : CycleHeap) (lists : List Worklist) → AreKept k j lists
+pub lists_kept : (k j : CycleHeap) (lists : List (List ℕ)) → AreKept k j lists
     → pending_lists_of j.heap.objects j.tags lists ≡ pending_lists_of k.heap.objects k.tags lists
 lists_kept k j lists kept =
     lists_of-same k.heap.objects j.heap.objects k.tags j.tags lists (λ n within. told_same k j n (kept n within))
 
-pub seen_kept : (k j : CycleHeap) (lists : List Worklist) → AreKept k j lists
-    → seen_heap j lists ≡ with_mark (seen_heap k lists) j
+pub seen_kept : (k j : CycleHeap) (lists : List (List ℕ)) → AreKept k j lists
+    → seen_lists j lists ≡ with_mark (seen_lists k lists) j
 seen_kept k j lists kept =
     ap (λ (pss : List (List Pending)). record { mark = j; pending = pss }) (lists_kept k j lists kept)
 
-pub registered_kept : (k j : CycleHeap) (lists : List Worklist) → AreKept k j lists
+pub registered_kept : (k j : CycleHeap) (lists : List (List ℕ)) → AreKept k j lists
     → AreRegistered k.heap.objects lists → AreRegistered j.heap.objects lists
 registered_kept k j lists kept registered n within = subst IsSome (sym (kept n within).0) (registered n within)
 
@@ -62,9 +62,9 @@ registered_kept k j lists kept registered n within = subst IsSome (sym (kept n w
 pub kept_shaded : (k j : CycleHeap) (ns : List ℕ) (n : ℕ) → IsKept k j n → IsKept k (shaded_all j ns) n
 kept_shaded k j ns n kept = grind (arith, shaded_all-tags, shaded_heap j)
 
-module _ {k : CycleHeap} {lists : List Worklist} {swept_to : ℕ} (sound : IsSoundHeap k lists swept_to) where
+module _ {k : CycleHeap} {lists : List (List ℕ)} {swept_to : ℕ} (sound : AreSoundLists k lists swept_to) where
   -- what is pending is there
-  pub waits_there : (n : ℕ) → has (joined (worklists_of lists)) n ≡ true → is_there k.heap.objects n ≡ true
+  pub waits_there : (n : ℕ) → has (joined lists) n ≡ true → is_there k.heap.objects n ≡ true
   waits_there n within = grind arith
 
   -- and so does whatever keeps the reference and the cycle of each object

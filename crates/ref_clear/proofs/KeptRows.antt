@@ -1,7 +1,7 @@
 -- What steps don't change: no step the configuration, one of marking not the pending references, and one in a sweep
 -- that isn't one of its own not the doomed.
 use Rattle.std.proofs.Common.{arith}
-use Rattle.std.proofs.Common.{◌≡◌, ℕ, Bool, true, false, Option, Some, None, refl, sym, ap, subst, ◌∙◌}
+use Rattle.std.proofs.Common.{◌≡◌, Bool, true, false, Option, Some, None, refl, sym, ap, subst, ◌∙◌}
 use Rattle.std.proofs.lemmas.Bool.{false≢true}
 use Rattle.ref_clear.proofs.Common.{World, NamedStep, State, is_in, heap_refusal, HeapAccepts, IsHeapRow, Fault}
 use Rattle.ref_clear.proofs.Common.{Sweeping, Reply, is_of_marking}

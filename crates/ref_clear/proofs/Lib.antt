@@ -18,9 +18,13 @@ pub mod FirstHeaps
 pub mod PendingLists
 pub mod PendingRoom
 pub mod KeptPending
+pub mod PendingChains
 pub mod MarkedHeaps
 pub mod ShadedLists
 pub mod BeginAnswers
+pub mod ChainedHeaps
+pub mod ChainedNotices
+pub mod ChainedLooks
 pub mod LookAnswers
 pub mod NoticeAnswers
 pub mod HandAnswers

@@ -1,14 +1,14 @@
 -- What the code of a look at a found reference asks and leaves, by what it has read of it.
 use Rattle.std.proofs.Common.{◌≡◌, ℕ, ◌<◌, ◌≤◌, Bool, true, false, refl, sym, ap, subst, ◌∙◌, arith, List, [], ◌∷◌}
 use Rattle.std.proofs.Common.{◌++◌, length, map, get_or, set, Option, Some, None, inl, inr, ◌==◌}
-use Rattle.std.proofs.lemmas.List.{set-get_or, map-append, length-map}
+use Rattle.std.proofs.lemmas.List.{set-get_or, map-append}
 use Rattle.std.proofs.lemmas.Bool.{true≢false, false≢true}
 use Rattle.std.specs.Option.{unwrap_or, is_some, IsSome}
 use Rattle.ref_clear.proofs.Common.{Reference, is_there, reference_at, registered_in, Pending}
 use Rattle.ref_clear.proofs.Common.{list_at, work_refusal, Clearing, Ground, CycleHeap, is_doomed, with_found_taken}
 use Rattle.ref_clear.proofs.Common.{ground_of, first_in, rest_of, ClearHeap, with_mark, pending_at}
-use Rattle.ref_clear.proofs.Common.{is_to_clear, cut_at, heap_pended, looked_from, after_in, Worklist, seen_heap}
-use Rattle.ref_clear.proofs.Common.{IsSoundHeap, AreRegistered, has, joined, worklists_of, numbers, with_reference}
+use Rattle.ref_clear.proofs.Common.{is_to_clear, cut_at, heap_pended, looked_from, after_in, seen_lists}
+use Rattle.ref_clear.proofs.Common.{AreSoundLists, AreRegistered, has, joined, numbers, with_reference}
 use Rattle.ref_clear.proofs.Common.{cleared, pending_in, pendings_in}
 use Rattle.ref_base.specs.declared.heap_step.HeapStep.TheVariants as heap
 use Rattle.ref_base.specs.declared.plain_step.PlainStep.TheVariants as plain
@@ -18,28 +18,33 @@ use Rattle.ref_base.proofs.HasLaws.{has-cases, has-single}
 use Rattle.ref_base.proofs.StoreLaws.{is_there-has}
 use Rattle.ref_mark.proofs.Mutations.{referring_is_there}
 use Rattle.ref_clear.specs.ClearHeaps.{heap_looked_at}
-use Rattle.ref_mark.specs.Worklists.{with_last}
+use Rattle.ref_clear.proofs.Common.{linked_last_of}
+use Rattle.ref_clear.proofs.TakenLists.{numbers_in}
 use Rattle.ref_clear.proofs.KeptPending.{AreKept, waits_there, seen_kept, registered_kept, lists_kept, told_same}
 use Rattle.ref_clear.proofs.KeptPending.{pendings_in-same}
 use Rattle.ref_clear.proofs.KeptReferences.{stays-changed, cleared-kept}
-use Rattle.ref_clear.proofs.PendingLists.{length-lists_of, lists_of-set, pending_at-seen, room_at, HaveRoom-set}
-use Rattle.ref_clear.proofs.PendingLists.{pending_numbers-seen, has-list, has-replaced}
-use Rattle.ref_clear.proofs.PendingRoom.{pending_has_room}
+use Rattle.ref_clear.proofs.PendingLists.{length-lists_of, lists_of-set, pending_at-seen, pending_numbers-seen}
+use Rattle.ref_clear.proofs.PendingLists.{has-list, has-replaced}
+use Rattle.ref_clear.proofs.PendingLists.{numbers_in-pendings}
+use Rattle.ref_mark.proofs.KeptParts.{linked-cycles}
+use Rattle.ref_mark.specs.Chains.{is_tagged}
+use Rattle.ref_clear.proofs.Common.{refers_into, referent_of}
+use Rattle.ref_clear.proofs.PendingRoom.{cleared_refers_to_none}
 use Rattle.ref_clear.proofs.SoundHeaps.{sound_after}
 
 -- ---- the first of a list
 
-first_is : (ns : List ℕ) (n : ℕ) → first_in ns ≡ Some n → ns ≡ n ∷ rest_of ns
+pub first_is : (ns : List ℕ) (n : ℕ) → first_in ns ≡ Some n → ns ≡ n ∷ rest_of ns
 first_is [] n first = absurd (let wrong : None ≡ Some n = first in cc)
 first_is (m ∷ ms) n first = let is : Some m ≡ Some n = first in let same : m ≡ n = cc in ap (λ i. i ∷ ms) same
 
 -- ---- what is left
 
 -- where a worker may look at what it found
-module _ {k : CycleHeap} {lists : List Worklist} {swept_to : ℕ} (w : ℕ)
-    (accepted : work_refusal k.heap k.phase Clearing w ≡ None) (sound : IsSoundHeap k lists swept_to) where
+module _ {k : CycleHeap} {lists : List (List ℕ)} {swept_to : ℕ} (w : ℕ)
+    (accepted : work_refusal k.heap k.phase Clearing w ≡ None) (sound : AreSoundLists k lists swept_to) where
   abbrev c : ClearHeap
-  c = seen_heap k lists
+  c = seen_lists k lists
 
   after_by : (ns : List ℕ) (d : ClearHeap) → list_at k.found w ≡ ns → looked_from c w ns ≡ d
       → d ≡ after_in c (heap.Plain (plain.ClearNext w))
@@ -51,7 +56,7 @@ module _ {k : CycleHeap} {lists : List Worklist} {swept_to : ℕ} (w : ℕ)
 
   -- it found nothing more
   pub sound_none : {j : CycleHeap} → first_in (list_at k.found w) ≡ None → j ≡ with_found_taken k w
-      → IsSoundHeap j lists swept_to
+      → AreSoundLists j lists swept_to
   sound_none {j} first after = grind (arith, set-get_or)
 
   -- there is a list for each worker
@@ -67,12 +72,12 @@ module _ {k : CycleHeap} {lists : List Worklist} {swept_to : ℕ} (w : ℕ)
 
     -- it is kept, or skipped
     pub sound_passed : {j : CycleHeap} → is_to_clear k n ≡ false → j ≡ with_found_taken k w
-        → IsSoundHeap j lists swept_to
+        → AreSoundLists j lists swept_to
     sound_passed {j} stays after =
         sound_after (heap.Plain (plain.ClearNext w)) refl sound
-        (ap (λ (i : CycleHeap). seen_heap i lists) after
+        (ap (λ (i : CycleHeap). seen_lists i lists) after
         ∙ after_look (with_mark c (with_found_taken k w)) (simp stays refl))
-        sound.room (registered_taken after)
+        (registered_taken after)
 
     -- it is cleared
     module _ (goes : is_to_clear k n ≡ true) where
@@ -88,7 +93,7 @@ module _ {k : CycleHeap} {lists : List Worklist} {swept_to : ℕ} (w : ℕ)
       left_cut taken after = after ∙ ap (λ (i : CycleHeap). cut_at i n) taken
 
       -- it isn't pending
-      apart : (m : ℕ) → has (joined (worklists_of lists)) m ≡ true → (n == m) ≡ false
+      apart : (m : ℕ) → has (joined lists) m ≡ true → (n == m) ≡ false
       apart m within = grind (arith, pending_numbers-seen)
 
       there : is_there k.heap.objects n ≡ true
@@ -107,33 +112,36 @@ module _ {k : CycleHeap} {lists : List Worklist} {swept_to : ℕ} (w : ℕ)
 
       -- without a queue nothing comes of it
       pub seen_cut : {j t : CycleHeap} → registered_in (reference_at k.heap n) ≡ None → t ≡ with_found_taken k w
-          → j ≡ cut_at t n → seen_heap j lists ≡ after_in c (heap.Plain (plain.ClearNext w))
+          → j ≡ cut_at t n → seen_lists j lists ≡ after_in c (heap.Plain (plain.ClearNext w))
       seen_cut none taken after =
-          ap (λ (i : CycleHeap). seen_heap i lists) (left_cut taken after) ∙ seen_kept k cut lists cut_kept
+          ap (λ (i : CycleHeap). seen_lists i lists) (left_cut taken after) ∙ seen_kept k cut lists cut_kept
           ∙ after_cut None none
 
       pub sound_cut : {j t : CycleHeap} → registered_in (reference_at k.heap n) ≡ None → t ≡ with_found_taken k w
-          → j ≡ cut_at t n → IsSoundHeap j lists swept_to
+          → j ≡ cut_at t n → AreSoundLists j lists swept_to
       sound_cut none taken after =
-          sound_after (heap.Plain (plain.ClearNext w)) refl sound (seen_cut none taken after) sound.room
+          sound_after (heap.Plain (plain.ClearNext w)) refl sound (seen_cut none taken after)
           (subst (λ (i : CycleHeap). AreRegistered i.heap.objects lists) (sym (left_cut taken after))
           (registered_kept k cut lists cut_kept sound.registered))
 
       -- with one it goes last in the worker's list
-      module _ {l : Worklist} (is : l ≡ get_or lists w l) where
-        -- which has room
-        pub look_has_room : length k.heap.objects ≤ k.heap.config.cells → length l.stands < l.room
-        look_has_room few =
-            let spare = pending_has_room c sound.stands.0 n w sound.stands.1 there goes few in
-            let own : length (pendings_in k.heap.objects k.tags l.stands) ≡ length (pending_at c w) =
-            ap length (pending_at-seen k lists w l look_within is) in
-            let same = length-map l.stands (pending_in k.heap.objects k.tags) in
-            let room = room_at lists k.heap.config.cells w l look_within is sound.room in
-            omega (arith, spare, own, same, room)
+      module _ {l : List ℕ} (is : l ≡ get_or lists w l) where
+        -- the links lead to it then
+        abbrev linked : CycleHeap
+        linked = record cut { tags = linked_last_of cut.tags l n }
 
-        module _ {j t : CycleHeap} {m : Worklist} (q : ℕ)
+        same_list : numbers_in (pending_at c w) ≡ l
+        same_list =
+            ap numbers_in (sym (pending_at-seen k lists w l look_within is))
+            ∙ numbers_in-pendings k.heap.objects k.tags l
+
+        linked_kept : AreKept k linked lists
+        linked_kept m within =
+            ((cut_kept m within).0, linked-cycles cut.tags l n m ∙ (cut_kept m within).1)
+
+        module _ {j t : CycleHeap} {m : List ℕ} (q : ℕ)
             (registered : registered_in (reference_at k.heap n) ≡ Some q) (taken : t ≡ with_found_taken k w)
-            (after : j ≡ cut_at t n) (pushed : m ≡ with_last l n)
+            (after : j ≡ record (cut_at t n) { tags = linked_last_of (cut_at t n).tags l n }) (pushed : m ≡ l ++ n ∷ [])
             (tagged : map (λ i. i.no) k.tags ≡ numbers k.heap.objects) where
           -- what is told of it then
           abbrev pended : Pending
@@ -142,31 +150,39 @@ module _ {k : CycleHeap} {lists : List Worklist} {swept_to : ℕ} (w : ℕ)
           queue_told : registered_in (reference_at cut.heap n) ≡ Some q
           queue_told = queue_still n there ∙ registered
 
-          cycle_told : cleared_in_at cut.tags n ≡ k.cycle
-          cycle_told = grind (arith, cleared_in_at-own, is_there-has)
+          cycle_told : cleared_in_at linked.tags n ≡ k.cycle
+          cycle_told = grind (arith, cleared_in_at-own, is_there-has, linked-cycles)
 
-          own_told : pending_in cut.heap.objects cut.tags n ≡ pended
+          left_linked : j ≡ linked
+          left_linked =
+              after ∙ ap (λ (i : CycleHeap). record (cut_at i n) { tags = linked_last_of (cut_at i n).tags l n }) taken
+
+          own_told : pending_in cut.heap.objects linked.tags n ≡ pended
           own_told = λ i. record { object = n; queue = unwrap_or (queue_told i) 0; cycle = cycle_told i }
 
           -- and of all in the list
-          list_told : pendings_in cut.heap.objects cut.tags m.stands ≡ pending_at c w ++ pended ∷ []
+          list_told : pendings_in cut.heap.objects linked.tags m ≡ pending_at c w ++ pended ∷ []
           list_told =
-              ap (λ (i : Worklist). pendings_in cut.heap.objects cut.tags i.stands) pushed
-              ∙ map-append (pending_in cut.heap.objects cut.tags) l.stands (n ∷ [])
-              ∙ ap (λ p. pendings_in cut.heap.objects cut.tags l.stands ++ p ∷ []) own_told
+              ap (λ (i : List ℕ). pendings_in cut.heap.objects linked.tags i) pushed
+              ∙ map-append (pending_in cut.heap.objects linked.tags) l (n ∷ [])
+              ∙ ap (λ p. pendings_in cut.heap.objects linked.tags l ++ p ∷ []) own_told
               ∙ ap (λ ps. ps ++ pended ∷ [])
-              (pendings_in-same k.heap.objects cut.heap.objects k.tags cut.tags l.stands
-              (λ i stands. told_same k cut i (cut_kept i (has-list lists w l i look_within is stands)))
+              (pendings_in-same k.heap.objects cut.heap.objects k.tags linked.tags l
+              (λ i stands. told_same k linked i (linked_kept i (has-list lists w l i look_within is stands)))
               ∙ pending_at-seen k lists w l look_within is)
 
-          pub seen_pended : seen_heap j (set lists w m) ≡ after_in c (heap.Plain (plain.ClearNext w))
+          pub seen_pended : seen_lists j (set lists w m) ≡ after_in c (heap.Plain (plain.ClearNext w))
           seen_pended =
-              ap (λ (i : CycleHeap). seen_heap i (set lists w m)) (left_cut taken after)
-              ∙ ap (λ (pss : List (List Pending)). record { mark = cut; pending = pss })
-              (lists_of-set cut.heap.objects cut.tags lists w m
-              ∙ ap (λ (pss : List (List Pending)). set pss w (pendings_in cut.heap.objects cut.tags m.stands))
-              (lists_kept k cut lists cut_kept)
+              ap (λ (i : CycleHeap). seen_lists i (set lists w m)) left_linked
+              ∙ ap (λ (pss : List (List Pending)). record { mark = linked; pending = pss })
+              (lists_of-set cut.heap.objects linked.tags lists w m
+              ∙ ap (λ (pss : List (List Pending)). set pss w (pendings_in cut.heap.objects linked.tags m))
+              (lists_kept k linked lists linked_kept)
               ∙ ap (set c.pending w) list_told)
+              ∙ ap (λ ns. record {
+                mark = record cut { tags = linked_last_of cut.tags ns n };
+                pending = set c.pending w (pending_at c w ++ pended ∷ []);
+              }) (sym same_list)
               ∙ after_cut (Some q) registered
 
           all_registered : AreRegistered cut.heap.objects (set lists w m)
@@ -175,7 +191,7 @@ module _ {k : CycleHeap} {lists : List Worklist} {swept_to : ℕ} (w : ℕ)
               (has-replaced (λ o. n ≡ o) lists w l m is
               (λ o own.
               elim
-              (has-cases l.stands (n ∷ []) o (subst (λ (h : Worklist). has h.stands o ≡ true) pushed own)) [
+              (has-cases l (n ∷ []) o (subst (λ (h : List ℕ). has h o ≡ true) pushed own)) [
                 | inl before ↦ inr before
                 | inr last ↦ inl (has-single n o last)
               ]) i within) [
@@ -185,14 +201,10 @@ module _ {k : CycleHeap} {lists : List Worklist} {swept_to : ℕ} (w : ℕ)
                 | inr before ↦ registered_kept k cut lists cut_kept sound.registered i before
               ]
 
-          pub sound_pended : IsSoundHeap j (set lists w m) swept_to
+          pub sound_pended : AreSoundLists j (set lists w m) swept_to
           sound_pended =
-              let own = room_at lists k.heap.config.cells w l look_within is sound.room in
-              let same : m.room ≡ l.room = ap (λ (i : Worklist). i.room) pushed in
               sound_after (heap.Plain (plain.ClearNext w)) refl sound seen_pended
-              (HaveRoom-set lists k.heap.config.cells w m (omega (arith, own, same)) sound.room)
-              (subst (λ (i : CycleHeap). AreRegistered i.heap.objects (set lists w m)) (sym (left_cut taken after))
-              all_registered)
+              (subst (λ (i : CycleHeap). AreRegistered i.heap.objects (set lists w m)) (sym left_linked) all_registered)
 
 -- ---- what the code has read
 
@@ -211,11 +223,23 @@ module _ (k : CycleHeap) (w : ℕ) {t : CycleHeap} {g : Ground} (taken : t ≡ w
   pub tagged_taken : IsWellFormed g → map (λ i. i.no) k.tags ≡ numbers k.heap.objects
   tagged_taken formed = cc
 
+  pub few_taken : IsWellFormed g → length k.heap.objects ≤ k.heap.config.cells
+  few_taken formed = let few = formed.few in rw (objects, taken) at few
+
   module _ (n : ℕ) {read : Option Reference} (reads : read ≡ reference_at g.heap n) where
     read_before : reference_at k.heap n ≡ read
     read_before = sym (reads ∙ ap (λ (h : Ground). reference_at h.heap n) (objects ∙ ap ground_of taken))
 
+    -- nothing is cleared of what is no reference
+    pub plain_stays : read ≡ None → is_to_clear k n ≡ false
+    plain_stays none = ap (refers_into (is_doomed k)) (read_before ∙ none)
+
     module _ {r : Reference} (is : read ≡ Some r) where
+      -- nor of one without a referent
+      pub cleared_stays : r.referent ≡ None → is_to_clear k n ≡ false
+      cleared_stays none = cleared_refers_to_none (is_doomed k) (reference_at k.heap n)
+          (ap referent_of (read_before ∙ is) ∙ none)
+
       -- it is to be cleared exactly where its referent is doomed
       pub clears_by : {m : ℕ} {goes : Bool} → r.referent ≡ Some m → is_doomed t m ≡ goes → is_to_clear k n ≡ goes
       clears_by {m} {goes} referent doomed = grind arith
@@ -225,3 +249,8 @@ module _ (k : CycleHeap) (w : ℕ) {t : CycleHeap} {g : Ground} (taken : t ≡ w
 
       pub no_queue_read : is_some r.queue ≡ false → registered_in (reference_at k.heap n) ≡ None
       no_queue_read none = ap registered_in (read_before ∙ is) ∙ no_queue_is r.queue none
+
+-- no object has number 0
+pub none_0_taken : (k : CycleHeap) (w : ℕ) {t : CycleHeap} → t ≡ with_found_taken k w → is_tagged t.tags 0 ≡ false
+    → is_tagged k.tags 0 ≡ false
+none_0_taken k w taken none = rw taken at none

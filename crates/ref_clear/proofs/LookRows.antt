@@ -8,7 +8,8 @@ use Rattle.ref_clear.proofs.Common.{registered_in, with_changed, changed_referen
 use Rattle.ref_clear.proofs.Common.{pending_numbers, State, joined, is_in, HeapAccepts, ClearsNext, list_at}
 use Rattle.ref_clear.proofs.Common.{reference_of, referent_of, Clearing, Sweeping, CycleHeap, is_white}
 use Rattle.ref_clear.proofs.Common.{is_past_mark, is_doomed, doomed, with_found_taken, rest_of, unsaid, shown_heap}
-use Rattle.ref_clear.proofs.Common.{ClearHeap, is_to_clear, cut_at, looked_from, refusal_in, answer_of_look, HeapStands}
+use Rattle.ref_clear.proofs.Common.{ClearHeap, pending_at, is_to_clear, cut_at, looked_from, refusal_in}
+use Rattle.ref_clear.proofs.Common.{answer_of_look, HeapStands}
 use Rattle.ref_base.specs.Replay.{pended as world_pended}
 use Rattle.ref_objects.specs.Grounds.{with_cleared_tag}
 use Rattle.ref_base.specs.CollectorRows.{looked_at as state_answer, looked as state_looked}
@@ -27,8 +28,10 @@ use Rattle.ref_mark.proofs.ShownReads.{reference_of-shown}
 use Rattle.ref_mark.proofs.Passed.{is_clearing}
 use Rattle.ref_clear.proofs.FoundFacts.{black_parts, past_refers}
 use Rattle.ref_clear.proofs.PendingRoom.{cleared_refers_to_none, to_clear_is_not_pending}
-use Rattle.ref_clear.proofs.TakenLists.{has-first_taken, pended_lists, length-pended, has-pended, AreDistinct-pended}
+use Rattle.ref_clear.proofs.TakenLists.{numbers_in, pended_tags, pended_lists, length-pended, has-pended}
+use Rattle.ref_clear.proofs.TakenLists.{AreDistinct-pended}
 use Rattle.ref_clear.proofs.TakenLists.{world-pended, heap-pended}
+use Rattle.ref_mark.proofs.DistinctLists.{has-first_taken}
 use Rattle.ref_clear.proofs.LookedHeaps.{changed_here, changed_to_itself, leads-cleared}
 use Rattle.ref_clear.proofs.KeptReferences.{cleared-none}
 use Rattle.ref_clear.proofs.LookedHeaps.{MayLook, looked_heap, state_with, looked_stands}
@@ -122,9 +125,10 @@ module _ (c : ClearHeap) (a : State) (w n : ℕ) (rest : List ℕ) (stands : Hea
   cleared_row goes =
       let k = c.mark in
       let f : Object → Object = with_reference cleared in
-      let tags = with_cleared_tag k.tags n k.cycle in
-      let j : CycleHeap = looked_heap k w n rest f tags in
+      let cut_tags = with_cleared_tag k.tags n k.cycle in
       let queue = registered_in (reference_at k.heap n) in
+      let tags = pended_tags cut_tags (numbers_in (pending_at c w)) n queue in
+      let j : CycleHeap = looked_heap k w n rest f tags in
       let pss = pended_lists c.pending w n queue k.cycle in
       let b : State = state_with a pss (slice_set a.found w rest) in
       let clear : has a.cleared n ≡ true = same_clear ∙ goes in

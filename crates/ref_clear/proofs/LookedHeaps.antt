@@ -22,7 +22,7 @@ use Rattle.ref_mark.proofs.DoomedLists.{doomed-changed, past_is_in_cycle}
 use Rattle.ref_mark.proofs.Passed.{is_clearing}
 use Rattle.ref_mark.proofs.RootFacts.{root_cases, slot_root, hold_root, pending_root}
 use Rattle.ref_clear.proofs.FoundFacts.{black_parts}
-use Rattle.ref_clear.proofs.TakenLists.{has-taken, has-first_taken, AreDistinct-taken}
+use Rattle.ref_mark.proofs.DistinctLists.{has-taken, has-first_taken, AreDistinct-taken}
 
 -- ---- one object changes
 

@@ -4,7 +4,7 @@ use Rattle.std.proofs.Common.{◌≡◌, ℕ, true, false, refl, List, Option, S
 use Rattle.ref_clear.proofs.Common.{has, is_there}
 use Rattle.ref_clear.proofs.Common.{pending_numbers, holds_refusal, Reply, State, Fault}
 use Rattle.ref_clear.proofs.Common.{mint_refusal, CycleHeap, with_cleared, unless_refused, mint_answer_in}
-use Rattle.ref_clear.proofs.Common.{after_mint_in, ground_of, ClearHeap, holding, Worklist, IsSoundHeap, HeapStands}
+use Rattle.ref_clear.proofs.Common.{after_mint_in, ground_of, ClearHeap, holding, AreSoundLists, HeapStands}
 use Rattle.ref_base.specs.declared.fault.Fault.TheVariants.{NoSuchObject}
 use Rattle.ref_base.specs.declared.heap_step.HeapStep.TheVariants as heap
 use Rattle.ref_base.specs.declared.reply.Reply.TheVariants as replies
@@ -13,8 +13,8 @@ use Rattle.ref_mark.proofs.HoldRows.{names_none_freed}
 use Rattle.ref_clear.proofs.PendingFacts.{pending_is_there}
 
 -- no slot of a heap names an object that was freed
-pub no_slot_of_freed : {k : CycleHeap} {lists : List Worklist} {swept_to : ℕ} (m s : ℕ)
-    → IsSoundHeap k lists swept_to
+pub no_slot_of_freed : {k : CycleHeap} {lists : List (List ℕ)} {swept_to : ℕ} (m s : ℕ)
+    → AreSoundLists k lists swept_to
     → names_freed k m s ≡ false
 no_slot_of_freed {k} m s sound = names_none_freed k sound.stands.0 m s sound.stands.1.mark
 

@@ -1,47 +1,85 @@
 -- As a cycle begins the pending references become grey, worker by worker in list order.
-use Rattle.std.proofs.Common.{◌≡◌, ℕ, ◌+◌, ◌<◌, ◌≤◌, zero, suc, List, [], ◌∷◌, ◌++◌, length, take, get_or, Some, None}
-use Rattle.std.proofs.Common.{ap, ◌∙◌, arith}
-use Rattle.std.proofs.lemmas.List.{append-nil, append_assoc, take_all}
-use Rattle.ref_clear.proofs.Common.{joined, CycleHeap, shaded, shaded_all, Worklist, worklists_of}
-use Rattle.ref_mark.specs.Worklists.{listed_at}
+use Rattle.std.proofs.Common.{◌≡◌, ℕ, ◌+◌, ◌<◌, ◌≤◌, ◌==◌, true, false, zero, suc, List, [], ◌∷◌, ◌++◌, length, take}
+use Rattle.std.proofs.Common.{get_or, sym, ap, ◌∙◌, arith}
+use Rattle.std.proofs.lemmas.List.{append-nil, append_assoc, take_all, get_or_default}
+use Rattle.ref_clear.proofs.Common.{joined, CycleHeap, shaded, shaded_all, Chain, listed, lists_in, walk}
+use Rattle.ref_objects.specs.Grounds.{link_at}
+use Rattle.ref_mark.proofs.ChainLemmas.{walk-none, list_at-lists_of}
+use Rattle.ref_mark.proofs.KeptParts.{shaded_all-tags}
+use Rattle.ref_mark.proofs.LoopLemmas.{shaded_heap, shaded_once-heap}
+use Rattle.ref_mark.proofs.MarkerLemmas.{length-lists_of}
 use Rattle.ref_mark.proofs.Shading.{shaded_all-append}
 
 -- ---- of one worker
 
-listed-more : (ns : List ℕ) (place n : ℕ) → listed_at ns place ≡ Some n → take (suc place) ns ≡ take place ns ++ n ∷ []
-listed-more [] zero n is = absurd (cc)
-listed-more [] (suc place) n is = absurd (cc)
-listed-more (m ∷ ns) zero n is = ap (λ (i : ℕ). i ∷ []) (let e : Some m ≡ Some n = is in cc)
-listed-more (m ∷ ns) (suc place) n is = ap (λ ms. m ∷ ms) (listed-more ns place n is)
+-- once the numbers from next on are shaded, at most so many, all are that the chain has
+pub record IsShading (start k : CycleHeap) (list : Chain) (left next : ℕ) : Type 0 where
+  pub shades :
+      shaded_all k (walk start.tags left next) ≡ shaded_all start (listed start.tags start.heap.config.cells list)
+  pub tags : k.tags ≡ start.tags
+  pub heap : k.heap ≡ start.heap
 
-pub listed_more : (start k : CycleHeap) (ns : List ℕ) (place n : ℕ) → listed_at ns place ≡ Some n
-    → k ≡ shaded_all start (take place ns) → shaded k n ≡ shaded_all start (take (place + 1) ns)
-listed_more start k ns place n is so_far = grind (arith, shaded_all-append, listed-more ns place n is)
+shaded-tags : (k : CycleHeap) (n : ℕ) → (shaded k n).tags ≡ k.tags
+shaded-tags k n = grind arith
 
--- a place within the list has one
-pub listed_there : (ns : List ℕ) (place : ℕ) → place < length ns → listed_at ns place ≡ None → ⊥
-listed_there [] place within none = omega (arith, within)
-listed_there (m ∷ ns) zero within none = cc
-listed_there (m ∷ ns) (suc place) within none = listed_there ns place (omega (arith, within)) none
+pub shading_more : (start k : CycleHeap) (list : Chain) (left less next : ℕ) → left ≡ less + 1 → (next == 0) ≡ false
+    → IsShading start k list left next → IsShading start (shaded k next) list less (link_at start.tags next)
+shading_more start k list left less next size some shading = record {
+  shades = sym (step less next some) ∙ ap (λ i. shaded_all k (walk start.tags i next)) (sym size) ∙ shading.shades;
+  tags = shaded-tags k next ∙ shading.tags;
+  heap = shaded_once-heap k next ∙ shading.heap;
+}
+  where
+    step : (less next : ℕ) → (next == 0) ≡ false
+        → shaded_all k (walk start.tags (less + 1) next)
+        ≡ shaded_all (shaded k next) (walk start.tags less (link_at start.tags next))
+    step less next some = grind arith
 
-pub all_listed : (start k : CycleHeap) (ns : List ℕ) (place : ℕ) → length ns ≤ place
-    → k ≡ shaded_all start (take place ns) → k ≡ shaded_all start ns
-all_listed start k ns place all so_far = so_far ∙ ap (shaded_all start) (take_all place ns all)
+pub shading_done : (start k : CycleHeap) (list : Chain) (left next : ℕ) → (next == 0) ≡ true
+    → IsShading start k list left next → k ≡ shaded_all start (listed start.tags start.heap.config.cells list)
+shading_done start k list left next none shading =
+    ap (shaded_all k) (sym (walk-none start.tags left next none)) ∙ shading.shades
+
+pub shading_all : (start k : CycleHeap) (list : Chain) (left next : ℕ) → left ≡ 0
+    → IsShading start k list left next → k ≡ shaded_all start (listed start.tags start.heap.config.cells list)
+shading_all start k list left next none shading =
+    ap (λ i. shaded_all k (walk start.tags i next)) (sym none) ∙ shading.shades
 
 -- ---- of all workers
 
-joined-more : (ls : List Worklist) (w : ℕ) (l : Worklist) → w < length ls
-    → joined (worklists_of (take (suc w) ls)) ≡ joined (worklists_of (take w ls)) ++ (get_or ls w l).stands
+joined-more : (ls : List (List ℕ)) (w : ℕ) (l : List ℕ) → w < length ls
+    → joined (take (suc w) ls) ≡ joined (take w ls) ++ get_or ls w l
 joined-more [] w l within = absurd (omega (arith, within))
-joined-more (m ∷ ls) zero l within = append-nil m.stands
+joined-more (m ∷ ls) zero l within = append-nil m
 joined-more (m ∷ ls) (suc w) l within = grind (arith, append_assoc, joined-more ls w l)
 
-pub worker_more : (start k : CycleHeap) (ls : List Worklist) (w : ℕ) (l : Worklist) → w < length ls
-    → k ≡ shaded_all start (joined (worklists_of (take w ls)))
-    → shaded_all k (get_or ls w l).stands ≡ shaded_all start (joined (worklists_of (take (w + 1) ls)))
+worker_more : (start k : CycleHeap) (ls : List (List ℕ)) (w : ℕ) (l : List ℕ) → w < length ls
+    → k ≡ shaded_all start (joined (take w ls))
+    → shaded_all k (get_or ls w l) ≡ shaded_all start (joined (take (w + 1) ls))
 worker_more start k ls w l within so_far = grind (arith, joined-more, shaded_all-append start)
 
-pub all_workers : (start k : CycleHeap) (ls : List Worklist) (w : ℕ) → length ls ≤ w
-    → k ≡ shaded_all start (joined (worklists_of (take w ls))) → k ≡ shaded_all start (joined (worklists_of ls))
-all_workers start k ls w all so_far =
-    so_far ∙ ap (λ ms. shaded_all start (joined (worklists_of ms))) (take_all w ls all)
+-- the chain of one worker more
+pub chain_more : (start k j : CycleHeap) (chains : List Chain) (w : ℕ) (c : Chain) → w < length chains
+    → k ≡ shaded_all start (joined (take w (lists_in start chains)))
+    → j ≡ shaded_all k (listed k.tags k.heap.config.cells (get_or chains w c))
+    → j ≡ shaded_all start (joined (take (w + 1) (lists_in start chains)))
+chain_more start k j chains w d within so_far now =
+    let c : Chain = get_or chains w d in
+    let read : c ≡ get_or chains w c = get_or_default chains w d c within in
+    let ns : List ℕ = joined (take w (lists_in start chains)) in
+    let size = length-lists_of start.tags start.heap.config.cells chains in
+    let inside : w < length (lists_in start chains) = omega (arith, within, size) in
+    let tags : k.tags ≡ start.tags = ap (λ (i : CycleHeap). i.tags) so_far ∙ shaded_all-tags start ns in
+    let heap = shaded_heap start k ns so_far in
+    let own : listed k.tags k.heap.config.cells c ≡ get_or (lists_in start chains) w [] =
+    ap (λ ts. listed ts k.heap.config.cells c) tags ∙ ap (λ h. listed start.tags h.config.cells c) heap
+    ∙ sym (list_at-lists_of start.tags start.heap.config.cells chains w c within read) in
+    now ∙ ap (shaded_all k) own ∙ worker_more start k (lists_in start chains) w [] inside so_far
+
+pub all_workers : (start k : CycleHeap) (chains : List Chain) (w : ℕ) → length chains ≤ w
+    → k ≡ shaded_all start (joined (take w (lists_in start chains)))
+    → k ≡ shaded_all start (joined (lists_in start chains))
+all_workers start k chains w all so_far =
+    let size = length-lists_of start.tags start.heap.config.cells chains in
+    let whole : length (lists_in start chains) ≤ w = omega (arith, all, size) in
+    so_far ∙ ap (λ mss. shaded_all start (joined mss)) (take_all w (lists_in start chains) whole)

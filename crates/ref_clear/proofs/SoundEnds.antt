@@ -3,9 +3,9 @@ use Rattle.std.proofs.Common.{◌≡◌, ℕ, Bool, true, false, not, refl, sym,
 use Rattle.std.proofs.lemmas.Bool.{not-false}
 use Rattle.ref_clear.proofs.Common.{joined, unless, is_in, is_empty, work_refusal, Fault, WrongPhase, ClearingLeft}
 use Rattle.ref_clear.proofs.Common.{SweepLeft, Idle, Clearing, Sweeping, CycleHeap, doomed, cycle_in_phase}
-use Rattle.ref_clear.proofs.Common.{unless_refused, ClearHeap, with_mark, swept_some, refusal_in, Worklist, has}
-use Rattle.ref_clear.proofs.Common.{reference_in, registered_in, after_in, AreRegistered, HeapStands, seen_heap}
-use Rattle.ref_clear.proofs.Common.{IsSoundHeap, MaySweep}
+use Rattle.ref_clear.proofs.Common.{unless_refused, ClearHeap, with_mark, swept_some, refusal_in, has}
+use Rattle.ref_clear.proofs.Common.{reference_in, registered_in, after_in, AreRegistered, HeapStands, seen_lists}
+use Rattle.ref_clear.proofs.Common.{AreSoundLists, MaySweep}
 use Rattle.ref_base.specs.declared.heap_step.HeapStep.TheVariants as heap
 use Rattle.ref_base.specs.declared.plain_step.PlainStep.TheVariants as plain
 use Rattle.ref_mark.proofs.Passed.{work_passed}
@@ -15,7 +15,8 @@ use Rattle.ref_mark.proofs.DoomedLists.{has-doomed}
 use Rattle.ref_clear.proofs.SoundHeaps.{sound_after}
 use Rattle.ref_clear.proofs.PendingFacts.{pending_is_not_doomed}
 use Rattle.ref_clear.proofs.PendingLists.{pending_numbers-seen}
-use Rattle.ref_clear.proofs.GoneObjects.{has-take, object_at-left, cleared_in_at-left}
+use Rattle.ref_clear.proofs.GoneObjects.{has-take, object_at-left, cleared_in_at-left, link_at-left, is_tagged-left}
+use Rattle.ref_mark.proofs.ChainLemmas.{IsSame}
 use Rattle.ref_clear.proofs.KeptPending.{AreKept, seen_kept, registered_kept}
 
 -- where both tests hold nothing is refused
@@ -24,65 +25,74 @@ both_hold : (first second : Bool) (early late : Fault) → first ≡ true → se
 both_hold first second early late holds too = simp (holds, too) refl
 
 -- the clearing ends: the sweep starts from the first number
-pub sound_clear_ended : {j k : CycleHeap} {lists : List Worklist} {swept_to : ℕ} → is_in k.phase Clearing ≡ true
-    → not (is_empty (joined k.found)) ≡ false → j ≡ cycle_in_phase k Sweeping → IsSoundHeap k lists swept_to
-    → IsSoundHeap j lists 0
+pub sound_clear_ended : {j k : CycleHeap} {lists : List (List ℕ)} {swept_to : ℕ} → is_in k.phase Clearing ≡ true
+    → not (is_empty (joined k.found)) ≡ false → j ≡ cycle_in_phase k Sweeping → AreSoundLists k lists swept_to
+    → AreSoundLists j lists 0
 sound_clear_ended {j} {k} {lists} {swept_to} clearing looked after sound =
-    let none : refusal_in (seen_heap k lists) (heap.Plain plain.EndClear) ≡ None =
+    let none : refusal_in (seen_lists k lists) (heap.Plain plain.EndClear) ≡ None =
     both_hold (is_in k.phase Clearing) (is_empty (joined k.found)) WrongPhase ClearingLeft clearing
     (not-false (is_empty (joined k.found)) looked) in
-    let row = end_clear_row (seen_heap k lists) sound.stands.0 sound.stands.1 none in
-    subst (λ (i : CycleHeap). IsSoundHeap i lists 0) (sym after)
+    let row = end_clear_row (seen_lists k lists) sound.stands.0 sound.stands.1 none in
+    subst (λ (i : CycleHeap). AreSoundLists i lists 0) (sym after)
     (record {
-      room = sound.room;
       registered = sound.registered;
       stands = (row.0, row.2);
       swept = λ now n white. omega arith;
     })
 
 -- the sweep ends
-pub sound_sweep_ended : {j k : CycleHeap} {lists : List Worklist} {swept_to : ℕ} → is_in k.phase Sweeping ≡ true
-    → not (is_empty (doomed k)) ≡ false → j ≡ cycle_in_phase k Idle → IsSoundHeap k lists swept_to
-    → IsSoundHeap j lists swept_to
+pub sound_sweep_ended : {j k : CycleHeap} {lists : List (List ℕ)} {swept_to : ℕ} → is_in k.phase Sweeping ≡ true
+    → not (is_empty (doomed k)) ≡ false → j ≡ cycle_in_phase k Idle → AreSoundLists k lists swept_to
+    → AreSoundLists j lists swept_to
 sound_sweep_ended {j} {k} {lists} {swept_to} sweeping swept after sound =
-    let c : ClearHeap = seen_heap k lists in
+    let c : ClearHeap = seen_lists k lists in
     let none : refusal_in c (heap.Plain plain.EndSweep) ≡ None =
     both_hold (is_in k.phase Sweeping) (is_empty (doomed k)) WrongPhase SweepLeft sweeping
     (not-false (is_empty (doomed k)) swept) in
     sound_after (heap.Plain plain.EndSweep) refl sound
-    (ap (λ (i : CycleHeap). seen_heap i lists) after
-    ∙ sym (ap (λ refused. unless_refused refused (λ fault. c) (with_mark c (cycle_in_phase k Idle))) none)) sound.room
+    (ap (λ (i : CycleHeap). seen_lists i lists) after
+    ∙ sym (ap (λ refused. unless_refused refused (λ fault. c) (with_mark c (cycle_in_phase k Idle))) none))
     (subst (λ (i : CycleHeap). AreRegistered i.heap.objects lists) (sym after) sound.registered)
 
 -- a sweep: what is doomed is held by nobody, and what is left of it isn't below the number that the sweep comes to
-pub may_free : {k : CycleHeap} {lists : List Worklist} {swept_to : ℕ} (w : ℕ)
-    → work_refusal k.heap k.phase Sweeping w ≡ None → IsSoundHeap k lists swept_to → MaySweep k swept_to
+pub may_free : {k : CycleHeap} {lists : List (List ℕ)} {swept_to : ℕ} (w : ℕ)
+    → work_refusal k.heap k.phase Sweeping w ≡ None → AreSoundLists k lists swept_to → MaySweep k swept_to
 may_free {k} {lists} {swept_to} w none sound =
     let sweeping : is_in k.phase Sweeping ≡ true = (work_passed k Sweeping w none).1 in
-    may_sweep (seen_heap k lists) sound.stands.0 swept_to sound.stands.1 sweeping (sound.swept sweeping)
+    may_sweep (seen_lists k lists) sound.stands.0 swept_to sound.stands.1 sweeping (sound.swept sweeping)
 
 -- nothing pending is freed by it
-kept_swept : {k : CycleHeap} {lists : List Worklist} {swept_to : ℕ} (w : ℕ)
-    → work_refusal k.heap k.phase Sweeping w ≡ None → IsSoundHeap k lists swept_to → AreKept k (swept_some k) lists
+kept_swept : {k : CycleHeap} {lists : List (List ℕ)} {swept_to : ℕ} (w : ℕ)
+    → work_refusal k.heap k.phase Sweeping w ≡ None → AreSoundLists k lists swept_to → AreKept k (swept_some k) lists
 kept_swept {k} {lists} w none sound n within =
     let waits = ap (λ ns. has ns n) (pending_numbers-seen k.heap.objects k.tags lists) ∙ within in
     let stays : has (take 64 (doomed k)) n ≡ false =
     has-take 64 (doomed k) n
-    (has-doomed k n ∙ pending_is_not_doomed (seen_heap k lists) sound.stands.0 n sound.stands.1 waits) in (
+    (has-doomed k n ∙ pending_is_not_doomed (seen_lists k lists) sound.stands.0 n sound.stands.1 waits) in (
       ap (λ o. registered_in (reference_in o)) (object_at-left (take 64 (doomed k)) k.heap.objects n stays),
       cleared_in_at-left (take 64 (doomed k)) k.tags n stays,
     )
 
-pub sound_swept : {j k : CycleHeap} {lists : List Worklist} {swept_to reached : ℕ} (w : ℕ)
+-- and no link of what is pending
+pub links_swept : {k : CycleHeap} {lists : List (List ℕ)} {swept_to : ℕ} (w : ℕ)
+    → work_refusal k.heap k.phase Sweeping w ≡ None → AreSoundLists k lists swept_to
+    → IsSame k.tags (swept_some k).tags (joined lists)
+links_swept {k} {lists} w none sound n within tagged =
+    let waits = ap (λ ns. has ns n) (pending_numbers-seen k.heap.objects k.tags lists) ∙ within in
+    let stays : has (take 64 (doomed k)) n ≡ false =
+    has-take 64 (doomed k) n
+    (has-doomed k n ∙ pending_is_not_doomed (seen_lists k lists) sound.stands.0 n sound.stands.1 waits) in
+    (link_at-left (take 64 (doomed k)) k.tags n stays, is_tagged-left (take 64 (doomed k)) k.tags n stays ∙ tagged)
+
+pub sound_swept : {j k : CycleHeap} {lists : List (List ℕ)} {swept_to reached : ℕ} (w : ℕ)
     → work_refusal k.heap k.phase Sweeping w ≡ None → j ≡ swept_some k → MaySweep j reached
-    → IsSoundHeap k lists swept_to → IsSoundHeap j lists reached
+    → AreSoundLists k lists swept_to → AreSoundLists j lists reached
 sound_swept {j} {k} {lists} {swept_to} {reached} w none after may sound =
-    let row = sweep_row (seen_heap k lists) sound.stands.0 w sound.stands.1 none in
+    let row = sweep_row (seen_lists k lists) sound.stands.0 w sound.stands.1 none in
     let left : MaySweep (swept_some k) reached = subst (λ (i : CycleHeap). MaySweep i reached) after may in
     let kept = kept_swept w none sound in
-    subst (λ (i : CycleHeap). IsSoundHeap i lists reached) (sym after)
+    subst (λ (i : CycleHeap). AreSoundLists i lists reached) (sym after)
     (record {
-      room = sound.room;
       registered = registered_kept k (swept_some k) lists kept sound.registered;
       stands = (
         row.0,
@@ -92,7 +102,7 @@ sound_swept {j} {k} {lists} {swept_to} {reached} w none after may sound =
     })
 
 -- what is seen then is what the sweep leaves
-pub seen_swept : {j k : CycleHeap} {lists : List Worklist} {swept_to : ℕ} (w : ℕ)
-    → work_refusal k.heap k.phase Sweeping w ≡ None → j ≡ swept_some k → IsSoundHeap k lists swept_to
-    → seen_heap j lists ≡ after_in (seen_heap k lists) (heap.Plain (plain.Sweep w))
+pub seen_swept : {j k : CycleHeap} {lists : List (List ℕ)} {swept_to : ℕ} (w : ℕ)
+    → work_refusal k.heap k.phase Sweeping w ≡ None → j ≡ swept_some k → AreSoundLists k lists swept_to
+    → seen_lists j lists ≡ after_in (seen_lists k lists) (heap.Plain (plain.Sweep w))
 seen_swept {j} {k} {lists} {swept_to} w none after sound = grind (arith, seen_kept, kept_swept w none sound)

@@ -1,9 +1,9 @@
 -- What holds of a heap goes on holding by each of its steps.
 use Rattle.std.proofs.Common.{arith}
 use Rattle.std.proofs.Common.{◌≡◌, ℕ, ◌≤◌, true, List, sym, subst, ◌∙◌}
-use Rattle.ref_clear.proofs.Common.{has, NamedStep, State, is_in, Config, Sweeping, CycleHeap, is_white}
-use Rattle.ref_clear.proofs.Common.{doomed, MarkStands, ClearHeap, answer_in, after_in, Worklist}
-use Rattle.ref_clear.proofs.Common.{seen_heap, AreRegistered, HaveRoom, IsSoundHeap, HeapStands}
+use Rattle.ref_clear.proofs.Common.{has, NamedStep, State, is_in, Sweeping, CycleHeap, is_white}
+use Rattle.ref_clear.proofs.Common.{doomed, MarkStands, ClearHeap, answer_in, after_in}
+use Rattle.ref_clear.proofs.Common.{seen_lists, AreRegistered, AreSoundLists, HeapStands}
 use Rattle.ref_mark.proofs.DoomedLists.{has-doomed}
 use Rattle.ref_clear.proofs.KeptRows.{goes_on_sweeping, SweepsOn, sweeps_on}
 use Rattle.ref_clear.proofs.HeapLaws.{each_step, config_of}
@@ -19,21 +19,32 @@ swept_still : (j k : CycleHeap) (a b : State) (swept_to : ℕ) → MarkStands k 
 swept_still j k a b swept_to before after on swept sweeping n white =
     grind (arith, doomed_in_sweep, doomed_in_sweep k n)
 
--- each step but a sweep, and the one that begins it
-pub sound_after : {j k : CycleHeap} {lists now : List Worklist} {swept_to : ℕ} (step : NamedStep)
-    → goes_on_sweeping step ≡ true → IsSoundHeap k lists swept_to → seen_heap j now ≡ after_in (seen_heap k lists) step
-    → HaveRoom now k.heap.config.cells → AreRegistered j.heap.objects now → IsSoundHeap j now swept_to
-sound_after {j} {k} {lists} {now} {swept_to} step own sound after room registered =
-    let c : ClearHeap = seen_heap k lists in
+-- each step keeps the configuration
+pub config_after : {j k : CycleHeap} {lists : List (List ℕ)} {swept_to : ℕ} (now : List (List ℕ)) (step : NamedStep)
+    → goes_on_sweeping step ≡ true → AreSoundLists k lists swept_to
+    → seen_lists j now ≡ after_in (seen_lists k lists) step → j.heap.config ≡ k.heap.config
+config_after {j} {k} {lists} now step own sound after =
+    let c : ClearHeap = seen_lists k lists in
     let a : State = sound.stands.0 in
     let row = each_step c step a sound.stands.1 in
     let b : State = row.0 in
-    let stands : HeapStands (seen_heap j now) b = subst (λ (d : ClearHeap). HeapStands d b) (sym after) row.2 in
+    let stands : HeapStands (seen_lists j now) b = subst (λ (d : ClearHeap). HeapStands d b) (sym after) row.2 in
     let on : SweepsOn a b = sweeps_on a b step (answer_in c step) own row.1 in
-    let config : j.heap.config ≡ k.heap.config =
-    sym (config_of j b stands.mark) ∙ on.config ∙ config_of k a sound.stands.1.mark in
+    sym (config_of j b stands.mark) ∙ on.config ∙ config_of k a sound.stands.1.mark
+
+-- each step but a sweep, and the one that begins it
+pub sound_after : {j k : CycleHeap} {lists now : List (List ℕ)} {swept_to : ℕ} (step : NamedStep)
+    → goes_on_sweeping step ≡ true → AreSoundLists k lists swept_to
+    → seen_lists j now ≡ after_in (seen_lists k lists) step
+    → AreRegistered j.heap.objects now → AreSoundLists j now swept_to
+sound_after {j} {k} {lists} {now} {swept_to} step own sound after registered =
+    let c : ClearHeap = seen_lists k lists in
+    let a : State = sound.stands.0 in
+    let row = each_step c step a sound.stands.1 in
+    let b : State = row.0 in
+    let stands : HeapStands (seen_lists j now) b = subst (λ (d : ClearHeap). HeapStands d b) (sym after) row.2 in
+    let on : SweepsOn a b = sweeps_on a b step (answer_in c step) own row.1 in
     record {
-      room = subst (λ (i : Config). HaveRoom now i.cells) (sym config) room;
       registered = registered;
       stands = (b, stands);
       swept = swept_still j k a b swept_to sound.stands.1.mark stands.mark on sound.swept;

@@ -1,47 +1,15 @@
--- How the lists of all workers change as the first of one is taken, or as a pending reference goes last in one.
+-- How the lists of all workers change as a pending reference goes last in one.
 use Rattle.std.proofs.Common.{arith}
-use Rattle.std.proofs.Common.{◌≡◌, ℕ, ◌<◌, true, false, ◌||◌, ◌==◌, refl, sym, ap, subst, ◌∙◌, List, [], ◌∷◌, ◌++◌, map}
-use Rattle.std.proofs.Common.{length, zero, suc, append_assoc, Option, Some, None, ◌⊎◌, inr}
+use Rattle.std.proofs.Common.{◌≡◌, ℕ, ◌<◌, true, false, refl, sym, ap, subst, ◌∙◌, List, [], ◌∷◌, ◌++◌, map}
+use Rattle.std.proofs.Common.{length, Option, Some, None, ◌⊎◌, inr}
 use Rattle.std.specs.Prelude.{slice_index_or, slice_set}
 use Rattle.std.proofs.Math.ListN.{get_or-map}
-use Rattle.std.proofs.lemmas.Bool.{or_left, eq-eqb}
 use Rattle.std.proofs.lemmas.List.{length-map, length-set, map-append, map-set}
-use Rattle.ref_clear.proofs.Common.{has, AreDistinct, World, Pending, pending_numbers, joined, list_at, ClearHeap}
-use Rattle.ref_clear.proofs.Common.{heap_pended}
+use Rattle.ref_clear.proofs.Common.{has, AreDistinct, World, Pending, pending_numbers, joined, ClearHeap}
+use Rattle.ref_clear.proofs.Common.{heap_pended, pending_at, linked_last_of}
+use Rattle.ref_objects.specs.Grounds.{Tag}
 use Rattle.ref_base.specs.Replay.{pended as world_pended}
-use Rattle.ref_base.proofs.FoundLists.{with_last, has-between, has-with_last, AreDistinct-with_last}
-
--- ---- the first of a list is taken
-
--- where one list loses its first, so do all as one, somewhere
-joined-taken : (lists : List (List ℕ)) (w n : ℕ) (rest : List ℕ) → list_at lists w ≡ n ∷ rest
-    → (front : List ℕ) × (back : List ℕ) × (joined lists ≡ front ++ (n ∷ back))
-    × (joined (slice_set lists w rest) ≡ front ++ back)
-joined-taken [] w n rest is = absurd (cc)
-joined-taken (ns ∷ lists) zero n rest is = ([], rest ++ joined lists, ap (λ ms. ms ++ joined lists) is, refl)
-joined-taken (ns ∷ lists) (suc w) n rest is = grind (arith, joined-taken lists w n rest is, append_assoc ns)
-
--- one of them goes
-AreDistinct-less : (front back : List ℕ) (n : ℕ) → AreDistinct (front ++ (n ∷ back))
-    → (has (front ++ back) n ≡ false) × AreDistinct (front ++ back)
-AreDistinct-less [] back n distinct = distinct
-AreDistinct-less (m ∷ ms) back n distinct = grind (arith, has-between, AreDistinct-less ms back n distinct.1)
-
--- all lists had that one, and what they have still
-pub has-taken : (lists : List (List ℕ)) (w n : ℕ) (rest : List ℕ) → list_at lists w ≡ n ∷ rest → (m : ℕ)
-    → has (joined lists) m ≡ ((n == m) || has (joined (slice_set lists w rest)) m)
-has-taken lists w n rest is m = grind (arith, joined-taken, has-between)
-
-pub has-first_taken : (lists : List (List ℕ)) (w n : ℕ) (rest : List ℕ) → list_at lists w ≡ n ∷ rest
-    → has (joined lists) n ≡ true
-has-first_taken lists w n rest is =
-    has-taken lists w n rest is n ∙ or_left (n == n) (has (joined (slice_set lists w rest)) n) (eq-eqb n n refl)
-
--- and where none stood twice, they don't have that one any more
-pub AreDistinct-taken : (lists : List (List ℕ)) (w n : ℕ) (rest : List ℕ) → list_at lists w ≡ n ∷ rest
-    → AreDistinct (joined lists)
-    → (has (joined (slice_set lists w rest)) n ≡ false) × AreDistinct (joined (slice_set lists w rest))
-AreDistinct-taken lists w n rest is distinct = grind (arith, joined-taken, AreDistinct-less)
+use Rattle.ref_base.proofs.FoundLists.{with_last, has-with_last, AreDistinct-with_last}
 
 -- ---- a pending reference goes last
 
@@ -99,6 +67,11 @@ module _ (pss : List (List Pending)) (w : ℕ) (within : w < length pss) where
   AreDistinct-pended n (Some q) cycle distinct new =
       grind (arith, pended-joined, AreDistinct-with_last, worker_has_list, pending_numbers-joined)
 
+-- and then the links lead to it from the last, if it is registered
+abbrev pub pended_tags : List Tag → List ℕ → ℕ → Option ℕ → List Tag
+pended_tags ts ns n None = ts
+pended_tags ts ns n (Some q) = linked_last_of ts ns n
+
 -- the changes of a world and of a heap have these lists
 pub world-pended : (v : World) (w n : ℕ) (queue : Option ℕ)
     → world_pended v w n queue ≡ record v { pending = pended_lists v.pending w n queue v.cycle }
@@ -106,6 +79,9 @@ world-pended v w n None = refl
 world-pended v w n (Some q) = refl
 
 pub heap-pended : (c : ClearHeap) (w n : ℕ) (queue : Option ℕ)
-    → heap_pended c w n queue ≡ record c { pending = pended_lists c.pending w n queue c.mark.cycle }
+    → heap_pended c w n queue ≡ record {
+      mark = record c.mark { tags = pended_tags c.mark.tags (numbers_in (pending_at c w)) n queue };
+      pending = pended_lists c.pending w n queue c.mark.cycle;
+    }
 heap-pended c w n None = refl
 heap-pended c w n (Some q) = refl

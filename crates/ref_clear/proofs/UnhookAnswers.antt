@@ -4,8 +4,8 @@ use Rattle.std.proofs.Common.{◌≡◌, ℕ, true, refl, sym, ap, subst, ◌∙
 use Rattle.ref_clear.proofs.Common.{Reference, is_there, slot_at, reference_at, registered_in, reference_of, has_slot}
 use Rattle.ref_clear.proofs.Common.{Reply, holds_refusal, Own, Ground, CycleHeap, with_cleared, mint_answer_in}
 use Rattle.ref_clear.proofs.Common.{after_mint_in, ground_of, holding, unhooked, refusal_in, queue_in}
-use Rattle.ref_clear.proofs.Common.{after_in, answer_of_unhook, Worklist, seen_heap, with_mark, AreRegistered}
-use Rattle.ref_clear.proofs.Common.{IsSoundHeap}
+use Rattle.ref_clear.proofs.Common.{after_in, answer_of_unhook, seen_lists, with_mark, AreRegistered}
+use Rattle.ref_clear.proofs.Common.{AreSoundLists}
 use Rattle.ref_objects.specs.Grounds.{cleared_in_at}
 use Rattle.ref_mark.proofs.KeptParts.{cleared-tags}
 use Rattle.ref_clear.proofs.KeptReferences.{cleared_stays}
@@ -39,28 +39,28 @@ reference_is k n view reads is = sym (reads ∙ ap (λ (h : Ground). reference_a
 -- ---- the cut alone
 
 -- of the reference r in a slot, that has no queue
-module _ (k : CycleHeap) (lists : List Worklist) (m s : ℕ) {n : ℕ} {r : Reference} (has : has_slot k.heap m s ≡ true)
+module _ (k : CycleHeap) (lists : List (List ℕ)) (m s : ℕ) {n : ℕ} {r : Reference} (has : has_slot k.heap m s ≡ true)
     (held : slot_at k.heap m s ≡ Some n) (found : reference_at k.heap n ≡ Some r) (queue : r.queue ≡ None) where
-  left_cut : with_mark (seen_heap k lists) (marks.after_in_cycle k (heap.Plain (plain.Clear m s)))
-      ≡ after_in (seen_heap k lists) (heap.Unhook m s)
+  left_cut : with_mark (seen_lists k lists) (marks.after_in_cycle k (heap.Plain (plain.Clear m s)))
+      ≡ after_in (seen_lists k lists) (heap.Unhook m s)
   left_cut = grind arith
 
-  pub unhook_cut : {j : CycleHeap} {reply : Reply} {swept_to : ℕ} → IsSoundHeap k lists swept_to
+  pub unhook_cut : {j : CycleHeap} {reply : Reply} {swept_to : ℕ} → AreSoundLists k lists swept_to
       → MarkerDoes k (heap.Plain (plain.Clear m s)) reply j
-      → HeapDoes (seen_heap k lists) (heap.Unhook m s) replies.Nothing (seen_heap j lists)
+      → HeapDoes (seen_lists k lists) (heap.Unhook m s) replies.Nothing (seen_lists j lists)
   unhook_cut sound does = record { answer = grind arith; after = seen_marked sound does ∙ left_cut }
 
 -- ---- the hold and the cut
 
 -- of the reference r in a slot, that has a queue
-module _ {k : CycleHeap} {lists : List Worklist} {swept_to : ℕ} (sound : IsSoundHeap k lists swept_to) (m s : ℕ)
+module _ {k : CycleHeap} {lists : List (List ℕ)} {swept_to : ℕ} (sound : AreSoundLists k lists swept_to) (m s : ℕ)
     {n q : ℕ} {r : Reference} (has : has_slot k.heap m s ≡ true) (held : slot_at k.heap m s ≡ Some n)
     (found : reference_at k.heap n ≡ Some r)
     (queue : r.queue ≡ Some q) where
   registered : queue_in k m s ≡ Some q
   registered = ap (λ v. registered_in (reference_of k.heap v)) held ∙ ap registered_in found ∙ queue
 
-  refusal : refusal_in (seen_heap k lists) (heap.Unhook m s) ≡ holds_refusal k.heap
+  refusal : refusal_in (seen_lists k lists) (heap.Unhook m s) ≡ holds_refusal k.heap
   refusal = simp (has, held, found, queue) refl
 
   clears : marks.refusal_in_cycle (holding k n) (heap.Plain (plain.Clear m s)) ≡ None
@@ -74,13 +74,13 @@ module _ {k : CycleHeap} {lists : List Worklist} {swept_to : ℕ} (sound : IsSou
 
   pub unhook_done : {i j : CycleHeap} {object : ℕ} → replies.Object object ≡ mint_answer_in k n
       → i ≡ after_mint_in k n → j ≡ marks.after_in_cycle i (heap.Plain (plain.Clear m s))
-      → HeapDoes (seen_heap k lists) (heap.Unhook m s) (replies.Notice object q Own) (seen_heap j lists)
-      × AreRegistered j.heap.objects lists
+      → HeapDoes (seen_lists k lists) (heap.Unhook m s) (replies.Notice object q Own) (seen_lists j lists)
+      × AreRegistered j.heap.objects lists × (j ≡ holding (with_cleared k m s) n)
   unhook_done {i} {j} {object} answer after cut =
       let mint = minted k n object answer after in
       let counted : holds_refusal k.heap ≡ None =
       (unless_passes (is_there k.heap.objects n) NoSuchObject (holds_refusal k.heap) mint.0).1 in
-      let none : refusal_in (seen_heap k lists) (heap.Unhook m s) ≡ None = refusal ∙ counted in
+      let none : refusal_in (seen_lists k lists) (heap.Unhook m s) ≡ None = refusal ∙ counted in
       let reply : answer_of_unhook (slot_at k.heap m s) (queue_in k m s) ≡ replies.Notice n q Own =
       ap (λ v. answer_of_unhook v (queue_in k m s)) held ∙ ap (answer_of_unhook (Some n)) registered in
       let left : unhooked k m s (slot_at k.heap m s) (queue_in k m s) ≡ holding (with_cleared k m s) n =
@@ -91,10 +91,11 @@ module _ {k : CycleHeap} {lists : List Worklist} {swept_to : ℕ} (sound : IsSou
         record {
           answer = ap (λ (o : ℕ). replies.Notice o q Own) mint.1 ∙ sym reply ∙ simp none refl;
           after =
-              ap (λ (h : CycleHeap). seen_heap h lists) now
+              ap (λ (h : CycleHeap). seen_lists h lists) now
               ∙ seen_kept k (holding (with_cleared k m s) n) lists unhook_kept
-              ∙ ap (with_mark (seen_heap k lists)) (sym left) ∙ simp none refl;
+              ∙ ap (with_mark (seen_lists k lists)) (sym left) ∙ simp none refl;
         },
         subst (λ (h : CycleHeap). AreRegistered h.heap.objects lists) (sym now)
             (registered_kept k (holding (with_cleared k m s) n) lists unhook_kept sound.registered),
+        now,
       )

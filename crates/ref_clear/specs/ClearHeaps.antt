@@ -1,7 +1,7 @@
 -- A whole heap, as plain data: a heap in its cycles, and the references that its workers cleared and haven't handed on;
 -- and the changes that calls make to it (package `java.lang.ref` of Java SE 17 for what clears a reference and what
 -- comes of it; pending lists, notices and sweeps by 64: this project's profile).
-use Rattle.std.specs.Prelude.{ℕ, if◌then◌else◌, Bool, List, [], ◌∷◌, ◌++◌, take, replicate, Option, Some, None}
+use Rattle.std.specs.Prelude.{ℕ, if◌then◌else◌, Bool, List, [], ◌∷◌, ◌++◌, map, take, replicate, Option, Some, None}
 use Rattle.std.specs.Prelude.{slice_index_or, slice_set}
 use Rattle.ref_base.specs.DoomedSets.{refers_into}
 use Rattle.ref_base.specs.Heaps.{reference_at, registered_in, with_hold, with_changed, with_reference, cleared}
@@ -12,6 +12,7 @@ use Rattle.ref_base.specs.declared.config.Config.{Config}
 use Rattle.ref_base.specs.declared.heap_step.HoldName.{HoldName}
 use Rattle.ref_base.specs.declared.urgency.Urgency.{Urgency}
 use Rattle.ref_objects.specs.Grounds.{Tag, with_cleared_tag, without_tag}
+use Rattle.ref_mark.specs.Chains.{linked_last_of}
 use Rattle.ref_mark.specs.CycleHeaps.{CycleHeap, first_cycle_heap, is_doomed, doomed, with_cleared, with_found_taken}
 use Rattle.ref_mark.specs.CycleHeaps.{cycle_begun, shaded_all}
 
@@ -68,8 +69,10 @@ cut_at k n = record k {
 -- it goes last in the worker's pending list, if it is registered with a queue
 abbrev pub heap_pended : ClearHeap → ℕ → ℕ → Option ℕ → ClearHeap
 heap_pended c w n None = c
-heap_pended c w n (Some q) =
-    with_pending_at c w (pending_at c w ++ record { object = n; queue = q; cycle = c.mark.cycle } ∷ [])
+heap_pended c w n (Some q) = record {
+  mark = record c.mark { tags = linked_last_of c.mark.tags (map (λ p. p.object) (pending_at c w)) n };
+  pending = slice_set c.pending w (pending_at c w ++ record { object = n; queue = q; cycle = c.mark.cycle } ∷ []);
+}
 
 -- the worker looks at reference n, and clears it where its referent is doomed
 abbrev pub heap_looked_at : ClearHeap → ℕ → ℕ → ClearHeap

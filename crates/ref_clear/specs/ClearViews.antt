@@ -11,8 +11,8 @@ use Rattle.ref_base.specs.Collectors.{State, joined}
 use Rattle.ref_base.specs.declared.phase.Phase.TheVariants.{Sweeping}
 use Rattle.ref_objects.specs.Grounds.{Tag, cleared_in_at}
 use Rattle.ref_mark.specs.CycleHeaps.{CycleHeap, is_white}
-use Rattle.ref_mark.specs.MarkViews.{worklists_of}
-use Rattle.ref_mark.specs.Worklists.{Worklist}
+use Rattle.ref_mark.specs.declared.chain.Chain.{Chain}
+use Rattle.ref_mark.specs.Chains.{AreChains, lists_of}
 use Rattle.ref_clear.specs.ClearHeaps.{ClearHeap}
 use Rattle.ref_clear.specs.Standing.{HeapStands}
 
@@ -37,30 +37,42 @@ abbrev pub pendings_in : List Object → List Tag → List ℕ → List Pending
 pendings_in os ts ns = map (pending_in os ts) ns
 
 -- and those of each of the lists
-abbrev pub pending_lists_of : List Object → List Tag → List Worklist → List (List Pending)
+abbrev pub pending_lists_of : List Object → List Tag → List (List ℕ) → List (List Pending)
 pending_lists_of os ts [] = []
-pending_lists_of os ts (l ∷ ls) = pendings_in os ts l.stands ∷ pending_lists_of os ts ls
+pending_lists_of os ts (ns ∷ lists) = pendings_in os ts ns ∷ pending_lists_of os ts lists
 
-abbrev pub seen_heap : CycleHeap → List Worklist → ClearHeap
-seen_heap k lists = record { mark = k; pending = pending_lists_of k.heap.objects k.tags lists }
+-- the heap in which references of these numbers are pending
+abbrev pub seen_lists : CycleHeap → List (List ℕ) → ClearHeap
+seen_lists k lists = record { mark = k; pending = pending_lists_of k.heap.objects k.tags lists }
 
--- in each list there is room for as many as there are cells
-abbrev pub HaveRoom : List Worklist → ℕ → Type 0
-HaveRoom [] cells = Unit {0}
-HaveRoom (l ∷ ls) cells = (cells ≤ l.room) × HaveRoom ls cells
+-- the numbers in each of the chains
+abbrev pub lists_in : CycleHeap → List Chain → List (List ℕ)
+lists_in k chains = lists_of k.tags k.heap.config.cells chains
+
+abbrev pub seen_heap : CycleHeap → List Chain → ClearHeap
+seen_heap k chains = seen_lists k (lists_in k chains)
 
 -- each number in the lists is that of a reference that is registered with a queue
-abbrev pub AreRegistered : List Object → List Worklist → Type 0
+abbrev pub AreRegistered : List Object → List (List ℕ) → Type 0
 AreRegistered os lists =
-    (n : ℕ) → has (joined (worklists_of lists)) n ≡ true → IsSome (registered_in (reference_in (object_at os n)))
+    (n : ℕ) → has (joined lists) n ≡ true → IsSome (registered_in (reference_in (object_at os n)))
 
--- The heap stands for some state of the abstract collector; no list is ever full; what is pending is registered with a
--- queue; and once a sweep has begun nothing below the number that it has come to is left to free.
-pub record IsSoundHeap (k : CycleHeap) (lists : List Worklist) (swept_to : ℕ) : Type 0 where
-  pub room : HaveRoom lists k.heap.config.cells
+-- The heap stands for some state of the abstract collector; what is pending is registered with a queue; and once a
+-- sweep has begun nothing below the number that it has come to is left to free.
+pub record AreSoundLists (k : CycleHeap) (lists : List (List ℕ)) (swept_to : ℕ) : Type 0 where
   pub registered : AreRegistered k.heap.objects lists
-  pub stands : (a : State) × HeapStands (seen_heap k lists) a
+  pub stands : (a : State) × HeapStands (seen_lists k lists) a
   pub swept : is_in k.phase Sweeping ≡ true → (n : ℕ) → is_white k n ≡ true → swept_to ≤ n
+
+-- what workers found isn't pending
+abbrev pub AreApart : CycleHeap → List (List ℕ) → Type 0
+AreApart k lists = (n : ℕ) → has (joined k.found) n ≡ true → has (joined lists) n ≡ false
+
+-- The lists of pending references are chains, through which nothing leads that is still to be looked at.
+pub record IsSoundHeap (k : CycleHeap) (chains : List Chain) (swept_to : ℕ) : Type 0 where
+  pub linked : AreChains k.tags k.heap.config.cells chains
+  pub apart : AreApart k (lists_in k chains)
+  pub lists : AreSoundLists k (lists_in k chains) swept_to
 
 -- once a sweep has begun, what is doomed is held by nobody, and none of it is below the number that the sweep has come
 -- to

@@ -7,7 +7,7 @@ ghost use Rattle.ref_base.specs.Heaps.{slot_at, reference_at, registered_in};
 ghost use Rattle.ref_base.specs.Refusals.{drop_refusal};
 ghost use Rattle.ref_objects.specs.Grounds.{starting_refusal, IsMade, IsRefused, kind_in};
 ghost use Rattle.ref_mark.specs.MarkRows.{starting_state};
-ghost use Rattle.ref_mark.specs.Worklists.{empty_worklist};
+ghost use Rattle.ref_mark.specs.Chains.{no_chain};
 ghost use Rattle.ref_clear.specs.ClearHeaps.{first_clear_heap, pending_at};
 ghost use Rattle.ref_clear.specs.ClearViews.{pending_from};
 ghost use Rattle.ref_clear.specs.Standing.{HeapStands};
@@ -21,20 +21,20 @@ mod sweep;
 
 use crate::Pending;
 use ref_base::{Config, Fault, MutNo, ObjNo, Phase, QueueNo, SlotNo, WorkerNo};
-use ref_mark::{Marker, Worklist};
+use ref_mark::{Chain, Marker};
 use ref_objects::{Kind, Start};
 use std::alloc::{AllocError, Allocator, Global};
 use std::marker::Model;
 
 /// A heap.
 ///
-/// All its memory is taken as it is made: that of its `Marker`, and 4 bytes for each cell and worker, which are the
-/// workers' pending lists. No other call takes any.
+/// All its memory is taken as it is made: that of its `Marker`, and 8 bytes for each worker. No other call takes any.
 #[derive(Drop)]
 pub struct Heap<A: Allocator = Global> {
     marker: Marker<A>,
-    // For each worker, the references that it cleared and hasn't handed on. Their objects tell queue and cycle.
-    pending: Vec<Worklist<A>, A>,
+    // For each worker, the references that it cleared and hasn't handed on, linked in their records. Their objects tell
+    // queue and cycle.
+    pending: Vec<Chain, A>,
     // Once a sweep has begun, what is below this number isn't doomed.
     swept_to: ObjNo,
 }
@@ -154,27 +154,24 @@ impl<A: Allocator + Copy> Heap<A> {
     }
 
     /// That of this worker's pending references which stands at this place, from 0 on: none behind the last, and of a
-    /// worker that isn't there. In logarithmic time.
+    /// worker that isn't there. In logarithmic time for each place before it.
     pub fn pending_of(&self, worker: WorkerNo, place: usize) -> Option<Pending>
         ensures { result ≡ pending_from (pending_at self.now worker) place }
     {
-        let no = self.pending.get(worker.0 as usize)?.get(place)?;
+        let list = self.pending.get(worker.0 as usize)?;
+        let no = list.get(self.marker.objects(), place)?;
         Some(Pending::of(&self.marker, no))
     }
 }
 
 // An empty list for each worker.
-fn pending_lists<A: Allocator + Copy>(
-    alloc: A,
-    config: Config,
-) -> Result<Vec<Worklist<A>, A>, AllocError>
-    ensures { IfOk result (λ made. made.items ≡ replicate config.workers (empty_worklist config.cells)) }
+fn pending_lists<A: Allocator + Copy>(alloc: A, config: Config) -> Result<Vec<Chain, A>, AllocError>
+    ensures { IfOk result (λ made. made.items ≡ replicate config.workers no_chain) }
 {
-    let room = config.cells as usize;
     let workers = config.workers as usize;
     let mut pending = Vec::with_capacity(alloc, workers)?;
     for _worker in 0..workers {
-        pending.push_reserved(Worklist::new(alloc, room)?);
+        pending.push_reserved(Chain::new());
     }
     Ok(pending)
 }

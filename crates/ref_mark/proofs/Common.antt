@@ -33,7 +33,10 @@ pub use Rattle.ref_mark.specs.CycleHeaps.{is_black, is_doomed, is_due, is_in_cyc
 pub use Rattle.ref_mark.specs.CycleHeaps.{shaded, shaded_all, shaded_if_any, undoomed, value_got, whitened}
 pub use Rattle.ref_mark.specs.CycleHeaps.{with_cleared, with_found, with_got, with_made, young}
 pub use Rattle.ref_mark.specs.MarkCalls.{done_in, refusal_in_cycle, unless_refused}
-pub use Rattle.ref_mark.specs.MarkViews.{seen_marker, worklists_of}
+pub use Rattle.ref_mark.specs.MarkViews.{AreListed, IsSoundMarker, MayFind, found_in, seen_marker}
 pub use Rattle.ref_mark.specs.Standing.{AreThere, Coloured, FactsBut, FoundBut, InClearing, MarkStands, Reached}
 pub use Rattle.ref_mark.specs.Standing.{ReadsAs, shown_heap, unsaid}
 pub use Rattle.ref_mark.specs.Worklists.{Worklist, emptied_list, empty_worklist, first_in}
+pub use Rattle.ref_mark.specs.declared.chain.Chain.{Chain}
+pub use Rattle.ref_mark.specs.Chains.{AreChains, IsChain, chain_first, chain_with, chain_without_first, is_tagged}
+pub use Rattle.ref_mark.specs.Chains.{last_of, linked_last, linked_last_of, listed, lists_of, no_chain, walk}

@@ -4,14 +4,14 @@ use Rattle.std.proofs.Common.{◌≡◌, ℕ, List, Option, Some, None, refl, ap
 use Rattle.ref_objects.specs.Grounds.{Tag, cleared_in_at}
 use Rattle.ref_objects.proofs.TagLemmas.{cleared_in_at-new}
 use Rattle.ref_mark.proofs.Common.{Object, plain_object, nulls}
-use Rattle.ref_mark.proofs.Common.{NamedStep, Fault, Urgency}
-use Rattle.ref_mark.proofs.Common.{CycleHeap, shaded_all}
-use Rattle.ref_mark.proofs.Common.{with_made, barred, with_cleared, whitened, roots_of, grey_scanned}
+use Rattle.ref_mark.proofs.Common.{NamedStep, Fault}
+use Rattle.ref_mark.proofs.Common.{CycleHeap, shaded_all, with_found, linked_last_of}
+use Rattle.ref_mark.proofs.Common.{with_made, barred, with_cleared, grey_scanned}
 use Rattle.ref_mark.proofs.Common.{done_in, refusal_in_cycle, unless_refused}
 use Rattle.ref_base.specs.declared.heap_step.HeapStep.TheVariants as heap
 use Rattle.ref_base.specs.declared.plain_step.PlainStep.TheVariants as plain
 use Rattle.ref_mark.specs.MarkCalls.{after_in_cycle}
-use Rattle.ref_mark.proofs.Scanning.{with_found-only}
+use Rattle.ref_mark.proofs.LinkLemmas.{cleared_in_at-written}
 use Rattle.ref_mark.proofs.Shading.{shaded_all-only}
 
 -- ---- what leaves the tags as they are
@@ -24,10 +24,6 @@ barred-tags k value = grind arith
 
 pub cleared-tags : (k : CycleHeap) (m s : ℕ) → (with_cleared k m s).tags ≡ k.tags
 cleared-tags k m s = grind arith
-
-scanned-tags : (k : CycleHeap) (w : ℕ) (grey : List ℕ) → (grey_scanned k w grey).tags ≡ k.tags
-scanned-tags k w [] = refl
-scanned-tags k w (n ∷ rest) = grind (arith, with_found-only, shaded_all-tags)
 
 -- ---- the steps of marking
 
@@ -42,10 +38,21 @@ same_cycles same n = ap (λ tags. cleared_in_at tags n) same
 made-cycles : (k : CycleHeap) (m d : ℕ) (o : Object) → KeepsCycles k.tags (with_made k m d o).tags
 made-cycles k m d o = grind (arith, cleared_in_at-new)
 
+-- a link tells of no clear
+pub linked-cycles : (ts : List Tag) (ms : List ℕ) (n : ℕ) → KeepsCycles ts (linked_last_of ts ms n)
+linked-cycles ts ms n m = grind (arith, cleared_in_at-written)
+
+found-cycles : (k : CycleHeap) (w n : ℕ) → KeepsCycles k.tags (with_found k w n).tags
+found-cycles k w n m = grind (arith, linked-cycles)
+
+scanned-cycles : (k : CycleHeap) (w : ℕ) (grey : List ℕ) → KeepsCycles k.tags (grey_scanned k w grey).tags
+scanned-cycles k w [] m = refl
+scanned-cycles k w (n ∷ rest) m = grind (arith, found-cycles, shaded_all-tags)
+
 done-cycles : (k : CycleHeap) (step : NamedStep) → KeepsCycles k.tags (done_in k step).tags
 done-cycles k (heap.Plain (plain.New m d f)) = made-cycles k m d (plain_object k.next (nulls f))
 done-cycles k step =
-    search (made-cycles, same_cycles, barred-tags, cleared-tags, shaded_all-tags, scanned-tags, refl)
+    search (made-cycles, same_cycles, barred-tags, cleared-tags, shaded_all-tags, scanned-cycles, refl)
 
 cycles-unless : (k done : CycleHeap) (refused : Option Fault) → KeepsCycles k.tags done.tags
     → KeepsCycles k.tags (unless_refused refused (λ fault. k) done).tags

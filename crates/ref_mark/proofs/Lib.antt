@@ -25,7 +25,10 @@ pub mod ReferenceRows
 pub mod OtherHands
 pub mod MarkLaws
 pub mod BarrierLemmas
-pub mod RoomLemmas
+pub mod DistinctLists
+pub mod LinkLemmas
+pub mod ChainLemmas
+pub mod MarkerLemmas
 pub mod LoopLemmas
 pub mod FirstStates
 pub mod KeptParts

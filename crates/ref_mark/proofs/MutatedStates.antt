@@ -60,8 +60,7 @@ module _ (k : CycleHeap) (c : Change) (a : State) (w : World) (beside : IsAlongs
   orderly_after = grind arith
 
   born_after : a.born ≤ c.next
-  born_after = let born : a.born ≤ k.next = stands.born in let more : k.next ≤ c.next = mutation.next in
-      omega (arith, born, more)
+  born_after = grind arith
 
   -- what holds in a mark makes a state that the mutated heap stands for, also where more of it is marked and grey
   pub marking_stands : (marked grey : List ℕ) (left : Bool) → is_in k.phase Marking ≡ true

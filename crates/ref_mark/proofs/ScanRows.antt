@@ -11,6 +11,7 @@ use Rattle.ref_mark.proofs.Common.{MarkStands, first_in}
 use Rattle.ref_base.specs.CollectorRows.{Scans}
 use Rattle.ref_base.specs.declared.reply.Reply.TheVariants as replies
 use Rattle.ref_base.proofs.HasLaws.{has-first}
+use Rattle.ref_objects.specs.Grounds.{Tag}
 use Rattle.ref_mark.specs.CycleHeaps.{scanned}
 use Rattle.ref_mark.specs.MarkCalls.{scan_reply}
 use Rattle.ref_mark.proofs.Shading.{MarkingBut, shaded_all-only, shaded_all_marking, some_left, grey_is_left}
@@ -76,13 +77,15 @@ scan_some k a w n rest stands phase within is =
     (λ some. AreFound-more_found k.heap.objects a.scanned k.found w n some but.found.are_found)
     (subst (λ (l : CycleHeap). MarkingBut l b [] (n ∷ [])) only all_shaded) in
     let found : List (List ℕ) = (with_found i w n).found in
-    let found_only : with_found i w n ≡ record i { found = found } = with_found-only i w n in
+    let tags : List Tag = (with_found i w n).tags in
+    let found_only : with_found i w n ≡ record i { found = found; tags = tags } = with_found-only i w n in
     let scanners : length b.scanned ≡ k.heap.config.workers =
     length-set a.scanned w (list_at a.scanned w ++ n ∷ []) ∙ stands.scanners in
     let finders : length found ≡ k.heap.config.workers = length-with_found i w n ∙ stands.finders in
-    let stands_then : MarkStands (record i { found = found }) b =
-    marking_stands (record i { found = found }) b phase refl refl stands.born stands.orderly scanners finders
-    (plain_there k a stands (ap (λ p. is_in p Sweeping) phase) (record i { found = found }) refl)
+    let stands_then : MarkStands (record i { found = found; tags = tags }) b =
+    marking_stands (record i { found = found; tags = tags }) b phase refl refl stands.born stands.orderly scanners
+    finders
+    (plain_there k a stands (ap (λ p. is_in p Sweeping) phase) (record i { found = found; tags = tags }) refl)
     (subst (λ (l : CycleHeap). MarkingBut l b [] []) found_only done) in
     let now : is_in k.phase Marking ≡ true = ap (λ p. is_in p Marking) phase in
     let was_left : a.left ≡ true = (stands.marking now).left ∙ ap (λ ns. not (is_empty ns)) is in

@@ -8,6 +8,7 @@ use Rattle.std.proofs.lemmas.List.{length-set}
 use Rattle.ref_mark.proofs.Common.{refers_into, has, Graph, targets_at}
 use Rattle.ref_mark.proofs.Common.{is_kept, reference_at, graph_of, State, joined, Marking, CycleHeap}
 use Rattle.ref_mark.proofs.Common.{is_white, is_black, with_found, FactsBut, Coloured, Reached, FoundBut}
+use Rattle.ref_mark.proofs.Common.{list_at, linked_last_of}
 use Rattle.ref_base.specs.CollectorRows.{AreFound}
 use Rattle.ref_base.proofs.HasLaws.{has-left}
 use Rattle.ref_base.proofs.PathLaws.{target_ends}
@@ -63,10 +64,12 @@ without_first_marking k a w n rest left is within but =
 
 -- worker w found n
 abbrev with_one_found : CycleHeap → ℕ → ℕ → CycleHeap
-with_one_found j w n = record j { found = with_last j.found w n }
+with_one_found j w n =
+    record j { found = with_last j.found w n; tags = linked_last_of j.tags (list_at j.found w) n }
 
--- only what is found changes, and no worker comes or goes
-pub with_found-only : (j : CycleHeap) (w n : ℕ) → with_found j w n ≡ record j { found = (with_found j w n).found }
+-- only what is found changes, and the links; and no worker comes or goes
+pub with_found-only : (j : CycleHeap) (w n : ℕ)
+    → with_found j w n ≡ record j { found = (with_found j w n).found; tags = (with_found j w n).tags }
 with_found-only j w n = grind arith
 
 pub length-with_found : (j : CycleHeap) (w n : ℕ) → length (with_found j w n).found ≡ length j.found

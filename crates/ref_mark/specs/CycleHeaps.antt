@@ -19,6 +19,7 @@ use Rattle.ref_base.specs.declared.policy.Policy.{Policy}
 use Rattle.ref_base.specs.declared.urgency.Urgency.{Urgency}
 use Rattle.ref_base.specs.declared.urgency.Urgency.TheVariants.{Normal}
 use Rattle.ref_objects.specs.Grounds.{Tag, unmarked, with_new_tag, without_tag}
+use Rattle.ref_mark.specs.Chains.{linked_last_of}
 
 -- A heap, the number of its next object; the objects that the cycle has reached, or that were made in it
 -- once it had begun; the tag of each object; the grey list: those of the reached that are still to be scanned, in
@@ -167,11 +168,14 @@ whitened k now urgency = record k {
 abbrev pub cycle_begun : CycleHeap → ℕ → Urgency → CycleHeap
 cycle_begun k now urgency = shaded_all (whitened k now urgency) (roots_of k.heap)
 
--- the worker found the reference, if its referent is still white
+-- the worker found the reference, if its referent is still white: it goes last in the worker's list
 abbrev pub with_found : CycleHeap → ℕ → ℕ → CycleHeap
 with_found k w n =
     if refers_into (is_white k) (reference_at k.heap n)
-    then record k { found = slice_set k.found w (list_at k.found w ++ n ∷ []) }
+    then record k {
+      found = slice_set k.found w (list_at k.found w ++ n ∷ []);
+      tags = linked_last_of k.tags (list_at k.found w) n;
+    }
     else k
 
 -- the first of the grey list becomes black, and what its fields and it, as a kept soft reference, refer to becomes grey

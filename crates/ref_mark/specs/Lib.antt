@@ -1,4 +1,5 @@
 pub mod Worklists
+pub mod Chains
 pub mod CycleHeaps
 pub mod Standing
 pub mod MarkCalls

@@ -1,24 +1,29 @@
 -- What a contract sees of a marker's fields, and what holds of them.
-use Rattle.std.specs.Prelude.{◌≡◌, ℕ, ◌+◌, ◌≤◌, List, [], ◌∷◌, length}
+use Rattle.std.specs.Prelude.{◌≡◌, ℕ, ◌<◌, ◌≤◌, true, false, List, [], length}
+use Rattle.ref_base.specs.Members.{has, AreDistinct}
+use Rattle.ref_base.specs.Collectors.{joined}
+use Rattle.ref_base.specs.Refusals.{is_in}
 use Rattle.ref_base.specs.declared.phase.Phase.{Phase}
+use Rattle.ref_base.specs.declared.phase.Phase.TheVariants.{Sweeping}
 use Rattle.ref_base.specs.declared.policy.Policy.{Policy}
 use Rattle.ref_objects.specs.Grounds.{Ground}
 use Rattle.ref_mark.specs.Worklists.{Worklist}
+use Rattle.ref_mark.specs.declared.chain.Chain.{Chain}
+use Rattle.ref_mark.specs.Chains.{lists_of, is_tagged, AreChains}
 use Rattle.ref_mark.specs.CycleHeaps.{CycleHeap}
 
--- what stands in each of the lists
-abbrev pub worklists_of : List Worklist → List (List ℕ)
-worklists_of [] = []
-worklists_of (l ∷ ls) = l.stands ∷ worklists_of ls
+-- what stands in each of the workers' lists
+abbrev pub found_in : Ground → List Chain → List (List ℕ)
+found_in g found = lists_of g.tags g.heap.config.cells found
 
-abbrev pub seen_marker : Ground → Worklist → List Worklist → Phase → Policy → ℕ → CycleHeap
+abbrev pub seen_marker : Ground → Worklist → List Chain → Phase → Policy → ℕ → CycleHeap
 seen_marker g grey found phase policy cycle = record {
   heap = g.heap;
   next = g.next;
   marked = g.marked;
   tags = g.tags;
   grey = grey.stands;
-  found = worklists_of found;
+  found = found_in g found;
   phase = phase;
   policy = policy;
   cycle = cycle;
@@ -28,17 +33,31 @@ seen_marker g grey found phase policy cycle = record {
 abbrev pub ground_of : CycleHeap → Ground
 ground_of k = record { heap = k.heap; next = k.next; marked = k.marked; tags = k.tags }
 
--- in each list there is room for as many as there are cells, and with the grey ones it has no more than the marked
-abbrev pub AreRoomy : List Worklist → ℕ → ℕ → ℕ → Type 0
-AreRoomy [] cells grey marked = Unit {0}
-AreRoomy (l ∷ ls) cells grey marked =
-    (cells ≤ l.room) × (length l.stands + grey ≤ marked) × AreRoomy ls cells grey marked
+-- What is grey and what workers found are marked objects, each of which stands in one list and there once; and in a
+-- sweep nothing is left that was found.
+pub record AreListed (marked grey : List ℕ) (found : List (List ℕ)) (phase : Phase) : Type 0 where
+  pub grey_once : AreDistinct grey
+  pub grey_marked : (n : ℕ) → has grey n ≡ true → has marked n ≡ true
+  pub found_once : AreDistinct (joined found)
+  pub found_marked : (n : ℕ) → has (joined found) n ≡ true → has marked n ≡ true
+  pub apart : (n : ℕ) → has grey n ≡ true → has (joined found) n ≡ false
+  pub none_left : is_in phase Sweeping ≡ true → joined found ≡ []
 
--- No list is ever full: each has room for as many as there are cells, each grey object is marked, and so was each one
--- that a worker found; and there is a list for each worker.
-pub record IsRoomy (g : Ground) (grey : Worklist) (found : List Worklist) : Type 0 where
+-- No list is ever full: the grey list has room for as many as there are cells, and no more are marked. There is a chain
+-- for each worker, and it is one. No object has number 0.
+pub record IsSoundMarker (g : Ground) (grey : Worklist) (found : List Chain) (phase : Phase) : Type 0 where
   pub few : length g.marked ≤ g.heap.config.cells
   pub grey_fits : g.heap.config.cells ≤ grey.room
-  pub grey_marked : length grey.stands ≤ length g.marked
-  pub found_fit : AreRoomy found g.heap.config.cells (length grey.stands) (length g.marked)
   pub finders : length found ≡ g.heap.config.workers
+  pub begins : 1 ≤ g.next
+  pub none_0 : is_tagged g.tags 0 ≡ false
+  pub chains : AreChains g.tags g.heap.config.cells found
+  pub listed : AreListed g.marked grey.stands (found_in g found) phase
+
+-- A worker may find object n: it is black, and nobody has found it, while the cycle marks.
+pub record MayFind (k : CycleHeap) (w n : ℕ) : Type 0 where
+  pub worker : w < k.heap.config.workers
+  pub going : is_in k.phase Sweeping ≡ false
+  pub marked : has k.marked n ≡ true
+  pub black : has k.grey n ≡ false
+  pub new : has (joined k.found) n ≡ false

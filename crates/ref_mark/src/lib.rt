@@ -13,9 +13,10 @@
 //! answer and leave stands in one table, `specs/MarkCalls.antt`; by `laws` each of them is a row of that collector.
 #![tactic(auto)]
 
+mod chain;
 pub mod laws;
 mod marker;
 mod worklist;
 
+pub use chain::Chain;
 pub use marker::Marker;
-pub use worklist::Worklist;

@@ -1,12 +1,13 @@
 //! The marker: a heap in its cycles, and the calls of mutators that make and change objects.
 
-ghost use Rattle.std.specs.Prelude.{◌≡◌, IfOk, replicate};
+ghost use Rattle.std.specs.Prelude.{◌≡◌, false, IfOk, replicate};
 ghost use Rattle.ref_base.specs.Collectors.{first_state_of};
 ghost use Rattle.ref_base.specs.CollectorRows.{value_reply};
 ghost use Rattle.ref_base.specs.declared.heap_step.HeapStep.TheVariants.{Plain};
 ghost use Rattle.ref_base.specs.declared.plain_step.PlainStep.TheVariants.{Copy, Drop, New, Refer, Store};
 ghost use Rattle.ref_objects.specs.Grounds.{starting_refusal, IsMade};
 ghost use Rattle.ref_mark.specs.Worklists.{empty_worklist};
+ghost use Rattle.ref_mark.specs.Chains.{no_chain, is_tagged};
 ghost use Rattle.ref_mark.specs.CycleHeaps.{first_cycle_heap, is_in_cycle, shaded, shaded_if_any, young};
 ghost use Rattle.ref_mark.specs.MarkCalls.{MarkerDoes, reply_of, done_reply};
 ghost use Rattle.ref_mark.specs.MarkViews.{ground_of};
@@ -18,6 +19,7 @@ mod cycle;
 mod holds;
 mod layer;
 
+use crate::chain::Chain;
 use crate::worklist::Worklist;
 use ref_base::{
     Config, Fault, MutNo, ObjNo, Phase, Policy, QueueNo, Reply, SlotNo, Strength, Urgency,
@@ -28,16 +30,16 @@ use std::marker::Model;
 
 /// A heap in its cycles.
 ///
-/// All its memory is taken as it is made: that of `Objects`, and 4 bytes for each cell and list, which are the grey
-/// list and one for each worker. No other call takes any.
+/// All its memory is taken as it is made: that of `Objects`, 4 bytes for each cell, which are the grey list, and 8 for
+/// each worker. No other call takes any.
 #[derive(Drop)]
 pub struct Marker<A: Allocator = Global> {
     // An object is marked as the cycle reaches it, or as it is made once a cycle has begun.
     objects: Objects<A>,
     // The marked objects that are still to be scanned.
     grey: Worklist<A>,
-    // For each worker, the references that it found.
-    found: Vec<Worklist<A>, A>,
+    // For each worker, the references that it found, linked in their records.
+    found: Vec<Chain, A>,
     phase: Phase,
     // What the cycle goes by, since its begin.
     policy: Policy,
@@ -46,13 +48,13 @@ pub struct Marker<A: Allocator = Global> {
 
 impl<A: Allocator> Model for Marker<A> {
     ghost use Rattle.ref_mark.specs.CycleHeaps.{CycleHeap};
-    ghost use Rattle.ref_mark.specs.MarkViews.{seen_marker, IsRoomy};
+    ghost use Rattle.ref_mark.specs.MarkViews.{seen_marker, IsSoundMarker};
 
     ghost Value = { CycleHeap };
 
     ghost view = { λ m. seen_marker m.objects m.grey m.found.items m.phase m.policy m.cycle };
 
-    ghost invariant = { λ m. IsRoomy m.objects m.grey m.found.items };
+    ghost invariant = { λ m. IsSoundMarker m.objects m.grey m.found.items m.phase };
 }
 
 impl<A: Allocator + Copy> Marker<A> {
@@ -91,6 +93,14 @@ impl<A: Allocator + Copy> Marker<A> {
         ensures { result.now ≡ ground_of self.now }
     {
         &self.objects
+    }
+
+    /// What holds of every heap, for whoever proves something of one: no object has number 0. It does nothing.
+    pub fn facts(&self)
+        ensures { is_tagged self.now.tags 0 ≡ false }
+    {
+        // A function knows the invariant only where it uses a field.
+        let _ = &self.objects;
     }
 
     /// The phase.
@@ -216,16 +226,16 @@ impl<A: Allocator + Copy> Marker<A> {
 fn worklists<A: Allocator + Copy>(
     alloc: A,
     config: Config,
-) -> Result<(Worklist<A>, Vec<Worklist<A>, A>), AllocError>
+) -> Result<(Worklist<A>, Vec<Chain, A>), AllocError>
     ensures grey { IfOk result (λ made. made.0 ≡ empty_worklist config.cells) }
-    ensures found { IfOk result (λ made. made.1.items ≡ replicate config.workers (empty_worklist config.cells)) }
+    ensures found { IfOk result (λ made. made.1.items ≡ replicate config.workers no_chain) }
 {
     let room = config.cells as usize;
     let grey = Worklist::new(alloc, room)?;
     let workers = config.workers as usize;
     let mut found = Vec::with_capacity(alloc, workers)?;
     for _worker in 0..workers {
-        found.push_reserved(Worklist::new(alloc, room)?);
+        found.push_reserved(Chain::new());
     }
     Ok((grey, found))
 }

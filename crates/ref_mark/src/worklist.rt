@@ -3,7 +3,6 @@
 ghost use Rattle.std.specs.Prelude.{◌≡◌, ◌<◌, IfOk, length};
 ghost use Rattle.std.specs.VecDeque.{deque_capacity};
 ghost use Rattle.ref_mark.specs.Worklists.{empty_worklist, with_last, without_first_listed, first_in, emptied_list};
-ghost use Rattle.ref_mark.specs.Worklists.{listed_at};
 ghost use Rattle.ref_base.specs.Refusals.{is_empty};
 
 use ref_base::ObjNo;
@@ -38,20 +37,6 @@ impl<A: Allocator> Worklist<A> {
     {
         let numbers = VecDeque::with_capacity(alloc, room)?;
         Ok(Worklist { numbers, room })
-    }
-
-    /// How many stand in it.
-    pub fn len(&self) -> usize
-        ensures { result ≡ length self.now.stands }
-    {
-        self.numbers.len()
-    }
-
-    /// That at this place, from 0 on.
-    pub fn get(&self, place: usize) -> Option<ObjNo>
-        ensures { result ≡ listed_at self.now.stands place }
-    {
-        self.numbers.get(place).copied()
     }
 
     /// Whether nothing stands in it.

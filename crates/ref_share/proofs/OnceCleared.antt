@@ -28,7 +28,7 @@ use Rattle.ref_base.proofs.PhaseLaws.{of_phase}
 use Rattle.ref_base.proofs.ReplayKeeps.{EndsNoPhase}
 use Rattle.ref_base.proofs.Subsequences.{Sub, sub_none, sub_through, sub_behind, sub_before}
 use Rattle.ref_base.proofs.WaitingClears.{Looks, Tells, look_tells}
-use Rattle.ref_clear.proofs.TakenLists.{AreDistinct-taken, has-taken, has-first_taken}
+use Rattle.ref_mark.proofs.DistinctLists.{AreDistinct-taken, has-taken, has-first_taken}
 
 -- ---- what workers found stands once, as what they scanned does
 

@@ -17,6 +17,7 @@ use ref_base::Cause::{Cycle, Own};
 use ref_base::{Config, Fault, Phase, Strength, Urgency, WorkerNo};
 use ref_clear::Heap;
 use ref_objects::Kind;
+use std::alloc::Global;
 use std::process::Abort;
 use std::test::Fail;
 
@@ -145,5 +146,37 @@ fn a_heap_out_of_limits_is_refused_before_memory_is_taken(rt: HostRuntime) -> Re
     for (row, &(config, want)) in refused.iter().enumerate() {
         assert_eq!(rt; Heap::new(&none, config, 1).err(), Some(want), "row {row}");
     }
+    Ok(())
+}
+
+/// How many bytes a heap of 4,096 cells and of so many workers takes.
+fn taken_by(alloc: Global, workers: u32) -> Result<usize, Fail> {
+    let memory = limited(alloc, 1_048_576)?;
+    let before = memory.chunk_capacity();
+    let config = Config {
+        workers,
+        cells: 4_096,
+        ..SMALL
+    };
+    let heap = Heap::new(&memory, config, 1)?;
+    let left = memory.chunk_capacity();
+    heap.end();
+    Ok(before.saturating_sub(left))
+}
+
+#[test]
+fn a_heap_takes_168_bytes_a_cell_and_16_a_worker(rt: HostRuntime) -> Result<(), Fail> {
+    // Beside them are the 16 slots of one mutator.
+    let slots = 128;
+    assert_eq!(rt;
+        taken_by(rt.alloc(), 1)?,
+        4_096 * 168 + 16 + slots,
+        "one worker"
+    );
+    assert_eq!(rt;
+        taken_by(rt.alloc(), 8)?,
+        4_096 * 168 + 8 * 16 + slots,
+        "eight workers"
+    );
     Ok(())
 }

@@ -150,6 +150,7 @@ fn get_renews_a_soft_reference(rt: HostRuntime) -> Result<(), Fail> {
         (Mutate(DropSlot(3)), Told::Done),
         (Collect(Scan(0)), Told::Scanned(1)),
         (Collect(EndMark), Told::Doomed(0)),
+        (Collect(TakeFound(0)), Told::Found(2)),
         (Collect(ToSweeping), Told::Done),
         (Collect(ToIdle), Told::Done),
         (Collect(Begin(21, NORMAL)), Told::Began(2)),

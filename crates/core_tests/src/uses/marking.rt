@@ -80,6 +80,7 @@ fn a_doomed_referent_reads_as_null(heap: &mut Marker) -> bool
     };
     let _cleared = heap.clear(MutNo(0), SlotNo(1));
     let is_kept = heap.objects().referent_of(ObjNo(2)).is_some();
+    let _looked_at = heap.take_found(WorkerNo(0));
     heap.to_sweeping();
     is_null && is_kept && !heap.free(ObjNo(2))
 }

@@ -31,11 +31,14 @@ impl<A: Allocator + Copy> Heap<A> {
         if !self.marker.is_doomed(referent) {
             return Ok(Some(Looked::Kept(no)));
         }
-        // Gives the proof that no more are pending than there is room for, and that the object tells the cycle.
+        // Gives the proof that the object has a record for the link and the cycle, and that its number isn't 0.
         self.marker.objects().facts();
+        self.marker.facts();
         self.marker.cut(no);
         if reference.queue.is_some() {
-            self.pending[worker.0 as usize].push(no);
+            let mut list = self.pending[worker.0 as usize];
+            self.marker.list_last(&mut list, no);
+            self.pending[worker.0 as usize] = list;
         }
         Ok(Some(Looked::Cleared(no)))
     }

@@ -6,12 +6,13 @@ ghost use Rattle.ref_base.specs.declared.heap_step.HeapStep.TheVariants.{Plain};
 ghost use Rattle.ref_base.specs.declared.plain_step.PlainStep.TheVariants.{Begin, EndMark, Scan};
 ghost use Rattle.ref_mark.specs.CycleHeaps.{shaded_all};
 ghost use Rattle.ref_mark.specs.MarkCalls.{reply_of, scan_reply};
-ghost use Rattle.ref_mark.specs.MarkViews.{worklists_of};
+ghost use Rattle.ref_mark.specs.Chains.{listed};
+ghost use Rattle.ref_clear.specs.ClearViews.{lists_in};
 ghost use Rattle.ref_clear.specs.ClearCalls.{HeapDoes};
 
 use super::Heap;
 use ref_base::{Fault, ObjNo, Reply, Urgency, WorkerNo};
-use ref_mark::{Marker, Worklist};
+use ref_mark::{Chain, Marker};
 use std::alloc::Allocator;
 
 impl<A: Allocator + Copy> Heap<A> {
@@ -43,8 +44,8 @@ impl<A: Allocator + Copy> Heap<A> {
 }
 
 // The pending references become grey, worker by worker.
-fn shade_pending<A: Allocator + Copy>(marker: &mut Marker<A>, pending: &[Worklist<A>])
-    ensures { marker.new ≡ shaded_all marker.old (joined (worklists_of pending.now)) }
+fn shade_pending<A: Allocator + Copy>(marker: &mut Marker<A>, pending: &[Chain])
+    ensures { marker.new ≡ shaded_all marker.old (joined (lists_in marker.old pending.now)) }
 {
     for worker in 0..pending.len() {
         shade_listed(marker, &pending[worker]);
@@ -52,12 +53,15 @@ fn shade_pending<A: Allocator + Copy>(marker: &mut Marker<A>, pending: &[Worklis
 }
 
 // What is pending of one worker becomes grey.
-fn shade_listed<A: Allocator + Copy>(marker: &mut Marker<A>, list: &Worklist<A>)
-    ensures { marker.new ≡ shaded_all marker.old list.now.stands }
+fn shade_listed<A: Allocator + Copy>(marker: &mut Marker<A>, list: &Chain)
+    ensures { marker.new ≡ shaded_all marker.old (listed marker.old.tags marker.old.heap.config.cells list.now) }
 {
-    for place in 0..list.len() {
-        if let Some(no) = list.get(place) {
-            marker.grey_root(no);
+    let mut next = list.first;
+    for _step in 0..marker.objects().config().cells {
+        if next == 0 {
+            return;
         }
+        marker.grey_root(ObjNo(next));
+        next = marker.objects().link_of(ObjNo(next));
     }
 }

@@ -21,12 +21,13 @@ impl<A: Allocator + Copy> Heap<A> {
         if worker.0 >= self.config().workers {
             return Err(Fault::NoSuchActor);
         }
-        let Some(no) = self.pending[worker.0 as usize].get(0) else {
+        let mut list = self.pending[worker.0 as usize];
+        let Some(no) = list.take_first(self.marker.objects()) else {
             return Ok(None);
         };
         let first = Pending::of(&self.marker, no);
         let hold = self.marker.mint(first.object)?;
-        let _first = self.pending[worker.0 as usize].take_first();
+        self.pending[worker.0 as usize] = list;
         let cause = Cause::Cycle(first.cycle, worker);
         Ok(Some(Notice::new(hold, first.queue, cause)))
     }

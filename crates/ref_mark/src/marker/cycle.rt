@@ -1,20 +1,22 @@
 //! The cycle: its begin, the scans of its workers, and the mark's end.
 
-ghost use Rattle.std.specs.Prelude.{◌≡◌, ◌+◌, ◌-◌, ◌^◌, ◌<◌, not, Some, length};
+ghost use Rattle.std.specs.Prelude.{◌≡◌, ◌-◌, ◌^◌, ◌<◌, not, Some, length};
 ghost use Rattle.ref_base.specs.Graphs.{object_at};
 ghost use Rattle.ref_base.specs.Paths.{present, targets_at, allowed_referent, if_any};
 ghost use Rattle.ref_base.specs.KeptPaths.{is_kept};
 ghost use Rattle.ref_base.specs.DoomedSets.{refers_into};
 ghost use Rattle.ref_base.specs.Heaps.{reference_at};
-ghost use Rattle.ref_base.specs.CollectorRows.{list_at, emptied};
+ghost use Rattle.ref_base.specs.CollectorRows.{emptied};
 ghost use Rattle.ref_base.specs.Refusals.{is_empty, begin_refusal, work_refusal, end_mark_refusal};
 ghost use Rattle.ref_base.specs.declared.heap_step.HeapStep.TheVariants.{Plain};
 ghost use Rattle.ref_base.specs.declared.plain_step.PlainStep.TheVariants.{Begin, EndMark, Scan};
 ghost use Rattle.ref_objects.specs.Grounds.{IsRefused, fields_in};
 ghost use Rattle.ref_mark.specs.MarkCalls.{MarkerDoes, reply_of, scan_reply};
+ghost use Rattle.ref_mark.specs.MarkViews.{MayFind};
 ghost use Rattle.ref_mark.specs.CycleHeaps.{shaded_all, whitened, with_found, is_white};
 
 use super::Marker;
+use crate::chain::Chain;
 use ref_base::{Fault, ObjNo, Phase, Policy, Reply, Strength, Urgency, WorkerNo, keeps};
 use ref_objects::Reference;
 use std::alloc::Allocator;
@@ -100,7 +102,7 @@ impl<A: Allocator + Copy> Marker<A> {
         ensures { self.new ≡ record self.old { found = emptied self.old.found } }
     {
         for worker in 0..self.found.len() {
-            self.found[worker].clear();
+            self.found[worker] = Chain::new();
         }
     }
 
@@ -184,12 +186,14 @@ impl<A: Allocator + Copy> Marker<A> {
     // The worker finds a reference whose referent is still white.
     fn list_found(&mut self, worker: WorkerNo, no: ObjNo, reference: Option<Reference>)
         requires reference { reference_at self.old.heap no ≡ reference }
-        requires worker { worker < self.old.heap.config.workers }
-        requires room { length (list_at self.old.found worker) + length self.old.grey < length self.old.marked }
+        requires may { MayFind self.old worker no }
         ensures { self.new ≡ with_found self.old worker no }
     {
         if self.refers_to_white(reference) {
-            self.found[worker.0 as usize].push(no);
+            self.objects.facts();
+            let mut list = self.found[worker.0 as usize];
+            list.push(&mut self.objects, no);
+            self.found[worker.0 as usize] = list;
         }
     }
 

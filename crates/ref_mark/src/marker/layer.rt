@@ -1,16 +1,19 @@
 //! What the layer above does to a heap in its cycles.
 
-ghost use Rattle.std.specs.Prelude.{◌≡◌, IfOk, not, true};
+ghost use Rattle.std.specs.Prelude.{◌≡◌, ◌==◌, IfOk, not, true, false};
+ghost use Rattle.ref_base.specs.Members.{has};
 ghost use Rattle.ref_base.specs.Heaps.{with_changed, with_reference, cleared};
 ghost use Rattle.ref_base.specs.Collectors.{joined};
 ghost use Rattle.ref_base.specs.CollectorRows.{list_at};
 ghost use Rattle.ref_base.specs.Refusals.{is_empty, work_refusal};
 ghost use Rattle.ref_objects.specs.Grounds.{IsRefused, if_done, least_from, with_cleared_tag};
 ghost use Rattle.ref_mark.specs.Worklists.{first_in};
+ghost use Rattle.ref_mark.specs.Chains.{linked_last, chain_with};
 ghost use Rattle.ref_mark.specs.CycleHeaps.{shaded, cycle_in_phase, with_found_taken, doomed, is_due};
 ghost use Rattle.ref_mark.specs.CycleHeaps.{is_swept, swept, is_past_mark};
 
 use super::Marker;
+use crate::chain::Chain;
 use ref_base::{Fault, ObjNo, Phase, WorkerNo};
 use std::alloc::Allocator;
 
@@ -38,21 +41,24 @@ impl<A: Allocator + Copy> Marker<A> {
     }
 
     /// Takes the first reference that a worker found and that wasn't looked at since; none where there is none. Tried
-    /// in this order: `NoSuchActor`, `WrongPhase` but in Clearing. In constant time.
+    /// in this order: `NoSuchActor`, `WrongPhase` but in Clearing. In logarithmic time.
     pub fn take_found(&mut self, worker: WorkerNo) -> Result<Option<ObjNo>, Fault>
         ensures refused { IsRefused (work_refusal self.old.heap self.old.phase Phase.Clearing worker) result }
         ensures answer { IfOk result (λ taken. taken ≡ first_in (list_at self.old.found worker)) }
         ensures after { self.new ≡ if_done result (with_found_taken self.old worker) self.old }
     {
         self.check_work(worker, Phase::Clearing)?;
-        Ok(self.found[worker.0 as usize].take_first())
+        let mut list = self.found[worker.0 as usize];
+        let first = list.take_first(&self.objects);
+        self.found[worker.0 as usize] = list;
+        Ok(first)
     }
 
     /// Whether some worker found a reference that wasn't looked at since. In time of the workers.
     pub fn has_found(&self) -> bool
         ensures { result ≡ not (is_empty (joined self.now.found)) }
     {
-        self.found.iter().any(|list| !list.is_empty())
+        self.found.iter().any(|list| list.first != 0)
     }
 
     /// Clears the reference of this number, for a worker, in this cycle; nothing changes where there is no such object.
@@ -65,6 +71,16 @@ impl<A: Allocator + Copy> Marker<A> {
     {
         self.objects.cut(no);
         self.objects.set_cleared_in(no, self.cycle);
+    }
+
+    /// One more in a list of the layer above, last; it has none of what workers found. In logarithmic time.
+    pub fn list_last(&mut self, chain: &mut Chain, no: ObjNo)
+        requires new { has (joined self.old.found) no ≡ false }
+        requires apart { (chain.old.first == 0) ≡ false → has (joined self.old.found) chain.old.last ≡ false }
+        ensures links { self.new ≡ record self.old { tags = linked_last self.old.tags chain.old no } }
+        ensures chain { chain.new ≡ chain_with chain.old no }
+    {
+        chain.push(&mut self.objects, no);
     }
 
     /// The least number from this one on of a doomed object. In logarithmic time, and that of the objects between.
@@ -103,6 +119,7 @@ impl<A: Allocator + Copy> Marker<A> {
 
     /// Clearing ends. The layer above has looked at all that was found.
     pub fn to_sweeping(&mut self)
+        requires { is_empty (joined self.old.found) ≡ true }
         ensures { self.new ≡ cycle_in_phase self.old Phase.Sweeping }
     {
         self.phase = Phase::Sweeping;

@@ -1,5 +1,5 @@
 use Rattle.std.proofs.Common.{arith}
-use Rattle.ref_clear.proofs.BeginAnswers.{does_refused, sound_refused, does_begun, sound_begun}
+use Rattle.ref_clear.proofs.ChainedHeaps.{does_refused, sound_refused, does_begun, sound_begun}
 use Rattle.ref_clear.proofs.heap.Heap.begin.Goals as goal
 
 pub invariant_of-self : goal.invariant_of-self
@@ -10,8 +10,9 @@ returns-in_err-cycle g c = grind (arith, does_refused c.self.invariant c.in_err-
 
 pub invariant_of-self-2 : goal.invariant_of-self-2
 invariant_of-self-2 g c =
-    sound_begun c.self.invariant c.in_ok-cycle.ensures c.shade_pending.ensures c.deref.ensures.value
+    sound_begun c.self.invariant c.in_ok-cycle.ensures (rw c.deref.ensures.value at c.shade_pending.ensures)
 
 pub returns : goal.returns
 returns g c =
-    does_begun c.self.invariant c.in_ok-cycle.ensures c.shade_pending.ensures c.deref.ensures.value c.self.view_is
+    does_begun c.self.invariant c.in_ok-cycle.ensures (rw c.deref.ensures.value at c.shade_pending.ensures)
+    c.self.view_is

@@ -1,51 +1,55 @@
-use Rattle.std.proofs.Common.{Some, refl, sym, ap, ◌∙◌, arith}
+use Rattle.std.proofs.Common.{Some, sym, ap, ◌∙◌, arith}
 use Rattle.std.proofs.lemmas.Result.{err_from_is_err_and}
-use Rattle.ref_base.specs.declared.heap_step.HeapStep.TheVariants as heap
-use Rattle.ref_clear.proofs.HandAnswers.{none_to_hand, hand_refused, handed}
-use Rattle.ref_clear.proofs.PendingLists.{worker_within, worker_has_list, first_as_seen, room_taken, listed_registered}
-use Rattle.ref_clear.proofs.SoundHeaps.{sound_after}
+use Rattle.ref_clear.proofs.HandAnswers.{none_to_hand}
+use Rattle.ref_clear.proofs.PendingLists.{worker_within}
+use Rattle.ref_clear.proofs.ChainedNotices.{worker_has_chain, first_seen, first_registered, hand_refused, handed}
+use Rattle.ref_clear.proofs.ChainedNotices.{sound_handed}
 use Rattle.ref_clear.proofs.heap.Heap.hand.Goals as goal
 
 pub index-requires : goal.index-requires
 index-requires g c =
     let w = c.worker.inside.0 in
-    let within = worker_within w c.self.invariant c.self.view_is c.config.ensures c.if-worker-config.false in
-    let has_list = worker_has_list w c.self.invariant within in
-    omega (arith, has_list, c.self.inside.pending.ok.0)
+    let within = worker_within w c.self.invariant.lists c.self.view_is c.config.ensures c.if-worker-config.false in
+    let has_chain = worker_has_chain w c.self.invariant within in
+    omega (arith, has_chain, c.self.inside.pending.ok.0)
 
 pub index_mut-requires : goal.index_mut-requires
 index_mut-requires g c =
     let w = c.worker.inside.0 in
-    let within = worker_within w c.self.invariant c.self.view_is c.config.ensures c.if-worker-config.false in
-    let has_list = worker_has_list w c.self.invariant within in
-    omega (arith, has_list, c.self.inside.pending.ok.0)
+    let within = worker_within w c.self.invariant.lists c.self.view_is c.config.ensures c.if-worker-config.false in
+    let has_chain = worker_has_chain w c.self.invariant within in
+    omega (arith, has_chain, c.self.inside.pending.ok.0)
 
 pub returns-in_default-clause-does : goal.returns-in_default-clause-does
 returns-in_default-clause-does g c =
     let w = c.worker.inside.0 in
-    let within = worker_within w c.self.invariant c.self.view_is c.config.ensures c.if-worker-config.false in
-    let none = first_as_seen w c.self.invariant within c.index.ensures c.get.ensures c.in_default.is in
-    rw (← c.self.view_is, ← c.worker.view_is) (none_to_hand w c.self.invariant within none)
+    let within = worker_within w c.self.invariant.lists c.self.view_is c.config.ensures c.if-worker-config.false in
+    let none =
+    first_seen w c.self.invariant within c.index.ensures (sym c.take_first.ensures.answer ∙ c.in_default.is) in
+    rw (← c.self.view_is, ← c.worker.view_is) (none_to_hand w c.self.invariant.lists within none)
 
 pub of-first-requires : goal.of-first-requires
-of-first-requires g c = search (worker_within, listed_registered, worker_has_list)
+of-first-requires g c =
+    let w = c.worker.inside.0 in
+    let within = worker_within w c.self.invariant.lists c.self.view_is c.config.ensures c.if-worker-config.false in
+    first_registered w c.self.invariant within c.index.ensures c.in-Some.no
+    (sym c.take_first.ensures.answer ∙ c.in-Some.is)
 
 pub invariant_of-self : goal.invariant_of-self
 invariant_of-self g c =
     let w = c.worker.inside.0 in
-    let within = worker_within w c.self.invariant c.self.view_is c.config.ensures c.if-worker-config.false in
+    let within = worker_within w c.self.invariant.lists c.self.view_is c.config.ensures c.if-worker-config.false in
     let first =
-    first_as_seen w c.self.invariant within c.index.ensures c.get.ensures c.in-Some.is
+    first_seen w c.self.invariant within c.index.ensures (sym c.take_first.ensures.answer ∙ c.in-Some.is)
     ∙ ap (λ p. Some p) (sym (c.first.view_is ∙ c.of-first.ensures)) in
-    let step = hand_refused w c.self.invariant within first c.in_err-hold.ensures.answer c.in_err-hold.ensures.after in
-    sound_after (heap.Hand w) refl c.self.invariant step.0.after c.self.invariant.room step.1
+    (hand_refused w c.self.invariant within first c.in_err-hold.ensures.answer c.in_err-hold.ensures.after).1
 
 pub returns-in_err-hold-clause-does : goal.returns-in_err-hold-clause-does
 returns-in_err-hold-clause-does g c =
     let w = c.worker.inside.0 in
-    let within = worker_within w c.self.invariant c.self.view_is c.config.ensures c.if-worker-config.false in
+    let within = worker_within w c.self.invariant.lists c.self.view_is c.config.ensures c.if-worker-config.false in
     let first =
-    first_as_seen w c.self.invariant within c.index.ensures c.get.ensures c.in-Some.is
+    first_seen w c.self.invariant within c.index.ensures (sym c.take_first.ensures.answer ∙ c.in-Some.is)
     ∙ ap (λ p. Some p) (sym (c.first.view_is ∙ c.of-first.ensures)) in
     let step = hand_refused w c.self.invariant within first c.in_err-hold.ensures.answer c.in_err-hold.ensures.after in
     let p = err_from_is_err_and c.from_residual.result c.from_residual.ensures.1 in
@@ -54,25 +58,21 @@ returns-in_err-hold-clause-does g c =
 pub invariant_of-self-2 : goal.invariant_of-self-2
 invariant_of-self-2 g c =
     let w = c.worker.inside.0 in
-    let within = worker_within w c.self.invariant c.self.view_is c.config.ensures c.if-worker-config.false in
+    let within = worker_within w c.self.invariant.lists c.self.view_is c.config.ensures c.if-worker-config.false in
     let first =
-    first_as_seen w c.self.invariant within c.index.ensures c.get.ensures c.in-Some.is
+    first_seen w c.self.invariant within c.index.ensures (sym c.take_first.ensures.answer ∙ c.in-Some.is)
     ∙ ap (λ p. Some p) (sym (c.first.view_is ∙ c.of-first.ensures)) in
-    let step =
-    handed w c.self.invariant within first c.in_ok-hold.ensures.answer c.in_ok-hold.ensures.after
-    c.index_mut.ensures.value c.take_first-first.ensures.after in
-    sound_after (heap.Hand w) refl c.self.invariant step.0.after
-    (room_taken w c.self.invariant within _ c.index_mut.ensures.value c.take_first-first.ensures.after
-    c.self.invariant.room) step.1
+    sound_handed w c.self.invariant within c.index.ensures first c.in_ok-hold.ensures.answer c.in_ok-hold.ensures.after
+    (rw c.objects.ensures at c.take_first.ensures.after)
 
 pub returns-clause-does : goal.returns-clause-does
 returns-clause-does g c =
     let w = c.worker.inside.0 in
-    let within = worker_within w c.self.invariant c.self.view_is c.config.ensures c.if-worker-config.false in
+    let within = worker_within w c.self.invariant.lists c.self.view_is c.config.ensures c.if-worker-config.false in
     let first =
-    first_as_seen w c.self.invariant within c.index.ensures c.get.ensures c.in-Some.is
+    first_seen w c.self.invariant within c.index.ensures (sym c.take_first.ensures.answer ∙ c.in-Some.is)
     ∙ ap (λ p. Some p) (sym (c.first.view_is ∙ c.of-first.ensures)) in
     let step =
-    handed w c.self.invariant within first c.in_ok-hold.ensures.answer c.in_ok-hold.ensures.after
-    c.index_mut.ensures.value c.take_first-first.ensures.after in
-    rw (c.new.ensures, ← c.self.view_is, ← c.worker.view_is) step.0
+    handed w c.self.invariant within c.index.ensures first c.in_ok-hold.ensures.answer c.in_ok-hold.ensures.after
+    (rw c.objects.ensures at c.take_first.ensures.after) in
+    rw (c.new.ensures, ← c.self.view_is, ← c.worker.view_is) step

@@ -1,4 +1,4 @@
-use Rattle.ref_clear.proofs.MarkedHeaps.{does_marked, sound_marked}
+use Rattle.ref_clear.proofs.ChainedHeaps.{does_marked, sound_marked}
 use Rattle.ref_clear.proofs.heap.Heap.scan.Goals as goal
 
 pub invariant_of-self : goal.invariant_of-self

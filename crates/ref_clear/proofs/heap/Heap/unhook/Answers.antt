@@ -1,11 +1,10 @@
 use Rattle.std.proofs.Common.{arith}
-use Rattle.std.proofs.Common.{◌≡◌, Some, None, refl, sym, ap, ◌∙◌, subst}
+use Rattle.std.proofs.Common.{◌≡◌, Some, None, sym, ap, ◌∙◌, subst}
 use Rattle.ref_clear.proofs.Common.{Reference, CycleHeap, IsSoundHeap}
-use Rattle.ref_base.specs.declared.heap_step.HeapStep.TheVariants as heap
 use Rattle.ref_clear.proofs.NoticeAnswers.{mint_refused}
-use Rattle.ref_clear.proofs.SoundHeaps.{sound_after}
-use Rattle.ref_clear.proofs.MarkedHeaps.{sound_marked}
-use Rattle.ref_clear.proofs.UnhookAnswers.{slot_is_there, slot_holds, reference_is, unhook_cut, unhook_done}
+use Rattle.ref_clear.proofs.ChainedHeaps.{sound_marked}
+use Rattle.ref_clear.proofs.UnhookAnswers.{slot_is_there, slot_holds, reference_is}
+use Rattle.ref_clear.proofs.ChainedNotices.{unhook_cut, unhook_done, sound_unhooked}
 use Rattle.ref_clear.proofs.heap.Heap.unhook.Goals as goal
 
 pub invariant_of-self-in_default : goal.invariant_of-self-in_default
@@ -17,12 +16,12 @@ returns-in_default-clause-does g c =
     let queue : c.in_ok-unhooked.unhooked.queue ≡ None =
     ap (λ (r : Reference). r.queue) (sym c.unhooked.view_is) ∙ c.in_default.is in
     rw (← c.self.view_is)
-    (unhook_cut k c.self.inside.pending.items c.args.mutator c.args.reference
+    (unhook_cut c.self.invariant c.args.mutator c.args.reference
     (slot_is_there k c.args.mutator c.args.reference c.objects.ensures c.in_ok-slot_of.ensures.refused)
     (slot_holds k c.args.mutator c.args.reference c.objects.ensures c.in_ok-slot_of.ensures.answer
     c.in_ok-no.ensures.ok_part)
     (reference_is k c.in_ok-no.no c.objects-2.ensures c.reference_of.ensures c.in_ok-unhooked.ensures.ok_part) queue
-    c.self.invariant c.clear.ensures)
+    c.clear.ensures)
 
 pub invariant_of-self-in_err-hold : goal.invariant_of-self-in_err-hold
 invariant_of-self-in_err-hold g c =
@@ -35,15 +34,12 @@ invariant_of-self-2 g c =
     let k : CycleHeap = c.self.inside.marker in
     let queue : c.in_ok-unhooked.unhooked.queue ≡ Some c.in-Some.queue =
     ap (λ (r : Reference). r.queue) (sym c.unhooked.view_is) ∙ c.in-Some.is in
-    let step =
-    unhook_done c.self.invariant c.args.mutator c.args.reference
+    sound_unhooked c.self.invariant c.args.mutator c.args.reference
     (slot_is_there k c.args.mutator c.args.reference c.objects.ensures c.in_ok-slot_of.ensures.refused)
     (slot_holds k c.args.mutator c.args.reference c.objects.ensures c.in_ok-slot_of.ensures.answer
     c.in_ok-no.ensures.ok_part)
     (reference_is k c.in_ok-no.no c.objects-2.ensures c.reference_of.ensures c.in_ok-unhooked.ensures.ok_part) queue
-    c.in_ok-hold.ensures.answer c.in_ok-hold.ensures.after c.clear-cleared.ensures.after in
-    sound_after (heap.Unhook c.args.mutator c.args.reference) refl c.self.invariant step.0.after
-    c.self.invariant.room step.1
+    c.in_ok-hold.ensures.answer c.in_ok-hold.ensures.after c.clear-cleared.ensures.after
 
 pub returns-in_err-hold-clause-does : goal.returns-in_err-hold-clause-does
 returns-in_err-hold-clause-does g c = grind (arith, slot_is_there)
@@ -60,4 +56,4 @@ returns-clause-does g c =
     c.in_ok-no.ensures.ok_part)
     (reference_is k c.in_ok-no.no c.objects-2.ensures c.reference_of.ensures c.in_ok-unhooked.ensures.ok_part) queue
     c.in_ok-hold.ensures.answer c.in_ok-hold.ensures.after c.clear-cleared.ensures.after in
-    rw (c.new.ensures, ← c.self.view_is) step.0
+    rw (c.new.ensures, ← c.self.view_is) step

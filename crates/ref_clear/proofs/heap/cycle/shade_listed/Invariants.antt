@@ -1,6 +1,8 @@
-use Rattle.std.proofs.Common.{◌≡◌, take}
-use Rattle.ref_clear.proofs.Common.{shaded_all}
+use Rattle.std.proofs.Common.{◌-◌}
+use Rattle.ref_clear.proofs.ShadedLists.{IsShading}
 use Rattle.ref_clear.proofs.heap.cycle.shade_listed.Given as goal
 
-abbrev pub invariant-loop-place : goal.invariant-loop-place
-invariant-loop-place g l = l.marker ≡ shaded_all l.fn.marker (take l.place l.list.stands)
+-- the chain is shaded once the numbers from the next on are
+abbrev pub invariant-loop-step : goal.invariant-loop-step
+invariant-loop-step g l =
+    IsShading l.fn.marker l.marker l.fn.list (l.fn.marker.heap.config.cells - l._step) l.next

@@ -1,14 +1,34 @@
-use Rattle.std.proofs.Common.{arith}
-use Rattle.ref_mark.proofs.RoomLemmas.{listing_asks, stands_as_seen, found_has_room, roomy_found, seen_found}
+use Rattle.std.proofs.Common.{◌≡◌, true, sym, ◌∙◌, ap, subst}
+use Rattle.ref_mark.proofs.Common.{CycleHeap, MayFind, is_white, refers_into, reference_at, seen_marker}
+use Rattle.ref_mark.proofs.MarkerLemmas.{may_find, referring_is_there, tagged_if_there, sound_found, seen_found}
 use Rattle.ref_mark.proofs.marker.Marker.list_found.Goals as goal
-
-pub push-requires : goal.push-requires
-push-requires g c = grind (arith, found_has_room)
 
 pub invariant_of-self : goal.invariant_of-self
 invariant_of-self g c =
-    let asks = listing_asks _ _ _ _ c.self.view_is c.worker.view_is c.requires.worker c.requires.room in
-    roomy_found c.worker.inside.0 asks.0 c.index_mut.ensures.value c.self.invariant c.args.no asks.1 c.push.ensures
+    let k : CycleHeap = seen_marker c.self.inside.objects c.self.inside.grey c.self.inside.found.items
+    c.self.inside.phase c.self.inside.policy c.self.inside.cycle in
+    let asks : MayFind k c.worker.inside.0 c.args.no =
+    may_find c.args.no c.self.view_is c.worker.view_is c.requires.may in
+    let white : refers_into (is_white k) (reference_at k.heap c.args.no) ≡ true =
+    subst (λ (j : CycleHeap). refers_into (is_white j) (reference_at j.heap c.args.no) ≡ true) (sym c.self.view_is)
+    (ap (refers_into (is_white c.args.self.now)) c.requires.reference ∙ sym c.refers_to_white.ensures
+    ∙ c.if-refers_to_white.true) in
+    sound_found c.worker.inside.0 c.args.no asks.worker c.index.ensures
+    (tagged_if_there _ c.args.no c.facts.ensures (referring_is_there (is_white k) k.heap c.args.no white)) asks.going
+    asks.marked asks.black asks.new c.push.ensures.links c.push.ensures.chain c.self.invariant
 
 pub returns-then-refers_to_white : goal.returns-then-refers_to_white
-returns-then-refers_to_white g c = grind (arith, stands_as_seen, seen_found)
+returns-then-refers_to_white g c =
+    let k : CycleHeap = seen_marker c.self.inside.objects c.self.inside.grey c.self.inside.found.items
+    c.self.inside.phase c.self.inside.policy c.self.inside.cycle in
+    let asks : MayFind k c.worker.inside.0 c.args.no =
+    may_find c.args.no c.self.view_is c.worker.view_is c.requires.may in
+    let white : refers_into (is_white k) (reference_at k.heap c.args.no) ≡ true =
+    subst (λ (j : CycleHeap). refers_into (is_white j) (reference_at j.heap c.args.no) ≡ true) (sym c.self.view_is)
+    (ap (refers_into (is_white c.args.self.now)) c.requires.reference ∙ sym c.refers_to_white.ensures
+    ∙ c.if-refers_to_white.true) in
+    rw (← c.self.view_is, ← c.worker.view_is)
+    (seen_found c.worker.inside.0 c.args.no asks.worker c.index.ensures
+    (tagged_if_there _ c.args.no c.facts.ensures (referring_is_there (is_white k) k.heap c.args.no white)) asks.going
+    asks.marked asks.black asks.new c.push.ensures.links c.push.ensures.chain c.self.invariant
+    c.self.inside.policy c.self.inside.cycle white)

@@ -1,10 +1,10 @@
 use Rattle.std.proofs.Common.{arith}
-use Rattle.ref_mark.proofs.RoomLemmas.{roomy_first, seen_first}
+use Rattle.ref_mark.proofs.MarkerLemmas.{sound_first, seen_first}
 use Rattle.ref_mark.proofs.FirstStates.{first_stands}
 use Rattle.ref_mark.proofs.marker.Marker.starting.Goals as goal
 
 pub invariant_of-result : goal.invariant_of-result
-invariant_of-result g c = grind (arith, roomy_first c.args.config c.args.heap_no c.args.start.obj)
+invariant_of-result g c = grind (arith, sound_first c.args.config c.args.heap_no c.args.start.obj)
 
 pub returns-in-Ok-clause-made : goal.returns-in-Ok-clause-made
 returns-in-Ok-clause-made g c =

@@ -1,0 +1,158 @@
+-- What holds of a heap, its chains among it, goes on holding by the steps of marking and as phases end.
+use Rattle.std.proofs.Common.{◌≡◌, ℕ, true, false, not, refl, sym, ap, subst, ◌∙◌, List, [], Option, Some, None}
+use Rattle.ref_clear.proofs.Common.{has, joined, NamedStep, Reply, is_in, is_empty, work_refusal, Fault, Urgency}
+use Rattle.ref_clear.proofs.Common.{CycleHeap, Clearing, Idle, Sweeping, shaded_all, cycle_in_phase, doomed}
+use Rattle.ref_clear.proofs.Common.{ClearHeap, with_mark, answer_in, after_in, refusal_in, swept_some, Chain, lists_in}
+use Rattle.ref_clear.proofs.Common.{seen_heap, seen_lists, IsSoundHeap, MaySweep}
+use Rattle.ref_base.specs.declared.heap_step.HeapStep.TheVariants as heap
+use Rattle.ref_base.specs.declared.plain_step.PlainStep.TheVariants as plain
+use Rattle.ref_base.specs.declared.reply.Reply.TheVariants as replies
+use Rattle.ref_mark.specs.MarkCalls.{MarkerDoes, answer_in_cycle, after_in_cycle, refusal_in_cycle}
+use Rattle.ref_clear.proofs.Common.{Heap, unless_refused, cycle_begun}
+use Rattle.ref_clear.proofs.KeptReferences.{begun-heap}
+use Rattle.ref_clear.specs.ClearCalls.{HeapDoes}
+use Rattle.ref_clear.proofs.KeptRows.{goes_on_sweeping}
+use Rattle.ref_clear.proofs.PendingLists.{pending_numbers-seen}
+use Rattle.ref_clear.proofs.SoundHeaps.{config_after}
+use Rattle.ref_clear.proofs.MarkedHeaps.{seen_marked, does_marked as does_listed, sound_marked as sound_listed}
+use Rattle.ref_clear.proofs.BeginAnswers.{refused_by, left, does_begun as begun_lists, sound_begun as sound_begun_lists}
+use Rattle.ref_clear.proofs.SoundEnds.{sound_clear_ended as clear_ended, sound_sweep_ended as sweep_ended}
+use Rattle.ref_clear.proofs.SoundEnds.{sound_swept as sound_swept_lists, seen_swept as seen_swept_lists}
+use Rattle.ref_clear.proofs.SoundEnds.{may_free as may_free_lists, links_swept}
+use Rattle.ref_clear.proofs.PendingChains.{KeepsLinks, AreCleared, keeps_parts, marks_keep, shading_keeps, chains_stay}
+use Rattle.ref_clear.proofs.PendingChains.{seen_still, sound_still}
+
+begin_config : (k : CycleHeap) (now : ℕ) (how : Urgency) (refused : Option Fault)
+    → (unless_refused refused (λ fault. k) (cycle_begun k now how)).heap.config ≡ k.heap.config
+begin_config k now how None = ap (λ (h : Heap). h.config) (begun-heap k now how [])
+begin_config k now how (Some fault) = refl
+
+module _ {k : CycleHeap} {chains : List Chain} {swept_to : ℕ} (sound : IsSoundHeap k chains swept_to) where
+  -- nothing pending has a referent, or is found
+  pub none_found : AreCleared (joined (lists_in k chains)) k
+  none_found = record {
+    cleared = λ n within.
+        sound.lists.stands.1.waiting.cleared n
+        (ap (λ ns. has ns n) (pending_numbers-seen k.heap.objects k.tags (lists_in k chains)) ∙ within);
+    apart = sound.apart;
+  }
+
+  -- ---- a step of marking
+
+  module _ {j : CycleHeap} {step : NamedStep} {reply : Reply} (does : MarkerDoes k step reply j)
+      (own : goes_on_sweeping step ≡ true)
+      (same : with_mark (seen_heap k chains) (after_in_cycle k step) ≡ after_in (seen_heap k chains) step) where
+    marked_keeps : KeepsLinks k j (joined (lists_in k chains))
+    marked_keeps =
+        subst (λ (i : CycleHeap). KeepsLinks k i (joined (lists_in k chains))) (sym does.after)
+        (marks_keep (joined (lists_in k chains)) k step none_found)
+
+    marked_config : j.heap.config ≡ k.heap.config
+    marked_config = config_after (lists_in k chains) step own sound.lists (seen_marked sound.lists does ∙ same)
+
+    pub seen_chains : seen_heap j chains ≡ seen_lists j (lists_in k chains)
+    seen_chains = seen_still marked_config marked_keeps sound
+
+    pub sound_marked : IsSoundHeap j chains swept_to
+    sound_marked = sound_still marked_config marked_keeps sound swept_to (sound_listed sound.lists does own same)
+
+    pub does_marked : {c : ClearHeap} → answer_in_cycle k step ≡ answer_in (seen_heap k chains) step
+        → seen_heap k chains ≡ c → HeapDoes c step reply (seen_heap j chains)
+    does_marked {c} told view =
+        subst (λ (d : ClearHeap). HeapDoes c step reply d) (sym (seen_still marked_config marked_keeps sound))
+        (does_listed sound.lists does told same view)
+
+  -- ---- a begin
+
+  module _ {j : CycleHeap} {now : ℕ} {how : Urgency} where
+    -- where the marker refuses it, nothing changes
+    module _ {fault : Fault} (does : MarkerDoes k (heap.Plain (plain.Begin now how)) (replies.Refused fault) j) where
+      pub does_refused : {d : ClearHeap} → seen_heap k chains ≡ d
+          → HeapDoes d (heap.Plain (plain.Begin now how)) (replies.Refused fault) (seen_heap j chains)
+      does_refused view =
+          does_marked does refl
+          (refused_by sound.lists does (refusal_in (seen_heap k chains) (heap.Plain (plain.Begin now how))) does.answer)
+          refl view
+
+      pub sound_refused : IsSoundHeap j chains swept_to
+      sound_refused =
+          sound_marked does refl
+          (refused_by sound.lists does (refusal_in (seen_heap k chains) (heap.Plain (plain.Begin now how))) does.answer)
+
+    -- and else the pending references are shaded
+    module _ {n : ℕ} {i : CycleHeap} (does : MarkerDoes k (heap.Plain (plain.Begin now how)) (replies.Cycle n) j)
+        (shades : i ≡ shaded_all j (joined (lists_in j chains))) where
+      config : j.heap.config ≡ k.heap.config
+      config =
+          ap (λ (h : CycleHeap). h.heap.config) does.after
+          ∙ begin_config k now how (refusal_in_cycle k (heap.Plain (plain.Begin now how)))
+
+      keeps : KeepsLinks k j (joined (lists_in k chains))
+      keeps =
+          subst (λ (h : CycleHeap). KeepsLinks k h (joined (lists_in k chains))) (sym does.after)
+          (marks_keep (joined (lists_in k chains)) k (heap.Plain (plain.Begin now how)) none_found)
+
+      begun_keeps : KeepsLinks k i (joined (lists_in k chains))
+      begun_keeps =
+          subst (λ (h : CycleHeap). KeepsLinks k h (joined (lists_in k chains))) (sym shades)
+          (shading_keeps k j (joined (lists_in k chains)) (joined (lists_in j chains)) keeps)
+
+      begun_config : i.heap.config ≡ k.heap.config
+      begun_config =
+          config_after (lists_in k chains) (heap.Plain (plain.Begin now how)) refl sound.lists
+          (left sound.lists does shades (chains_stay config keeps sound))
+
+      pub does_begun : {d : ClearHeap} → seen_heap k chains ≡ d
+          → HeapDoes d (heap.Plain (plain.Begin now how)) (replies.Cycle n) (seen_heap i chains)
+      does_begun {d} view =
+          subst (λ (e : ClearHeap). HeapDoes d (heap.Plain (plain.Begin now how)) (replies.Cycle n) e)
+          (sym (seen_still begun_config begun_keeps sound))
+          (begun_lists sound.lists does shades (chains_stay config keeps sound) view)
+
+      pub sound_begun : IsSoundHeap i chains swept_to
+      sound_begun =
+          sound_still begun_config begun_keeps sound swept_to
+          (sound_begun_lists sound.lists does shades (chains_stay config keeps sound))
+
+  -- ---- the ends of phases
+
+  pub sound_clear_ended : {j : CycleHeap} → is_in k.phase Clearing ≡ true → not (is_empty (joined k.found)) ≡ false
+      → j ≡ cycle_in_phase k Sweeping → IsSoundHeap j chains 0
+  sound_clear_ended {j} clearing looked after =
+      subst (λ (i : CycleHeap). IsSoundHeap i chains 0) (sym after)
+      (sound_still refl
+      (keeps_parts k (cycle_in_phase k Sweeping) (joined (lists_in k chains)) refl refl sound.apart) sound 0
+      (clear_ended clearing looked refl sound.lists))
+
+  pub sound_sweep_ended : {j : CycleHeap} → is_in k.phase Sweeping ≡ true → not (is_empty (doomed k)) ≡ false
+      → j ≡ cycle_in_phase k Idle → IsSoundHeap j chains swept_to
+  sound_sweep_ended {j} sweeping swept after =
+      subst (λ (i : CycleHeap). IsSoundHeap i chains swept_to) (sym after)
+      (sound_still refl
+      (keeps_parts k (cycle_in_phase k Idle) (joined (lists_in k chains)) refl refl sound.apart) sound swept_to
+      (sweep_ended sweeping swept refl sound.lists))
+
+  -- ---- a sweep
+
+  module _ (w : ℕ) (none : work_refusal k.heap k.phase Sweeping w ≡ None) where
+    pub may_free : MaySweep k swept_to
+    may_free = may_free_lists w none sound.lists
+
+    swept_keeps : KeepsLinks k (swept_some k) (joined (lists_in k chains))
+    swept_keeps = record {
+      same = links_swept w none sound.lists;
+      apart = sound.apart;
+    }
+
+    pub sound_swept : {j : CycleHeap} {reached : ℕ} → j ≡ swept_some k → MaySweep j reached
+        → IsSoundHeap j chains reached
+    sound_swept {j} {reached} after may =
+        subst (λ (i : CycleHeap). IsSoundHeap i chains reached) (sym after)
+        (sound_still refl swept_keeps sound reached
+        (sound_swept_lists w none refl (subst (λ (i : CycleHeap). MaySweep i reached) after may) sound.lists))
+
+    pub seen_swept : {j : CycleHeap} → j ≡ swept_some k
+        → seen_heap j chains ≡ after_in (seen_heap k chains) (heap.Plain (plain.Sweep w))
+    seen_swept {j} after =
+        ap (λ (i : CycleHeap). seen_heap i chains) after ∙ seen_still refl swept_keeps sound
+        ∙ seen_swept_lists w none refl sound.lists

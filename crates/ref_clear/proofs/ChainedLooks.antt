@@ -1,0 +1,248 @@
+-- What a look at a found reference leaves of a heap, its chains among it: one that is pending then goes last in one.
+use Rattle.std.proofs.Common.{◌≡◌, ℕ, ◌<◌, ◌≤◌, true, false, refl, sym, ap, subst, ◌∙◌, arith, List}
+use Rattle.std.proofs.Common.{[], ◌∷◌, ◌++◌, length, map, get_or, set, Some, None, inl, inr, ◌==◌}
+use Rattle.std.proofs.lemmas.Bool.{or_cases, eqb-true, ne_eqb, true≢false, false_from_ne_true}
+use Rattle.std.proofs.lemmas.List.{get_or_default, length-map}
+use Rattle.ref_clear.proofs.Common.{has, AreDistinct, Object, is_there, numbers, joined, list_at, rest_of, work_refusal}
+use Rattle.ref_clear.proofs.Common.{reference_at, registered_in, first_in, Clearing, CycleHeap}
+use Rattle.ref_clear.proofs.Common.{with_found_taken, is_to_clear, cut_at, after_in, Chain, AreChains, chain_with}
+use Rattle.ref_clear.proofs.Common.{listed}
+use Rattle.ref_clear.proofs.Common.{linked_last, linked_last_of, lists_in, seen_heap, seen_lists, AreApart}
+use Rattle.ref_clear.proofs.Common.{AreSoundLists}
+use Rattle.ref_clear.proofs.Common.{IsSoundHeap}
+use Rattle.ref_base.specs.declared.heap_step.HeapStep.TheVariants as heap
+use Rattle.ref_base.specs.declared.plain_step.PlainStep.TheVariants as plain
+use Rattle.ref_base.proofs.StoreLaws.{is_there-has}
+use Rattle.ref_mark.specs.Chains.{is_tagged}
+use Rattle.ref_mark.proofs.ChainLemmas.{ArePushed, pushes_one, chain_at, chain-linked, has-last}
+use Rattle.ref_mark.proofs.ChainLemmas.{listed_within, list_at-lists_of, lists-same}
+use Rattle.ref_mark.proofs.DistinctLists.{distinct_fit, AreDistinct-taken}
+use Rattle.ref_mark.proofs.LinkLemmas.{link_at-cleared, is_tagged-cleared}
+use Rattle.ref_mark.proofs.MarkerLemmas.{length-lists_of, length-joined}
+use Rattle.ref_mark.proofs.Mutations.{referring_is_there}
+use Rattle.ref_mark.proofs.Passed.{work_passed}
+use Rattle.ref_clear.proofs.LookAnswers as lists
+use Rattle.ref_clear.proofs.LookAnswers.{first_is}
+use Rattle.ref_base.specs.declared.reply.Reply.TheVariants as replies
+use Rattle.ref_clear.proofs.Common.{answer_in, answer_of_look}
+use Rattle.ref_clear.proofs.KeptPending.{waits_there}
+use Rattle.ref_clear.proofs.PendingRoom.{to_clear_is_not_pending}
+use Rattle.ref_clear.proofs.PendingLists.{pending_numbers-seen}
+use Rattle.ref_clear.proofs.PendingChains.{KeepsLinks, chains_stay, seen_still, sound_still, grown-has}
+use Rattle.ref_clear.proofs.ChainedNotices.{less-has}
+
+module _ {k : CycleHeap} {chains : List Chain} {swept_to : ℕ} (w : ℕ)
+    (accepted : work_refusal k.heap k.phase Clearing w ≡ None) (sound : IsSoundHeap k chains swept_to) where
+  abbrev taken : CycleHeap
+  taken = with_found_taken k w
+
+  taken_apart : AreApart taken (lists_in k chains)
+  taken_apart n within = sound.apart n (less-has k.found w (list_at k.found w) refl n within)
+
+  taken_keeps : KeepsLinks k taken (joined (lists_in k chains))
+  taken_keeps = record { same = λ n within there. (refl, there); apart = taken_apart }
+
+  -- there is a chain for each worker
+  pub look_within : w < length chains
+  look_within =
+      subst (λ count. w < count) (length-lists_of k.tags k.heap.config.cells chains)
+      (lists.look_within w accepted sound.lists)
+
+  -- it found nothing more
+  pub sound_none : {j : CycleHeap} → first_in (list_at k.found w) ≡ None → j ≡ taken → IsSoundHeap j chains swept_to
+  sound_none {j} first after =
+      subst (λ (i : CycleHeap). IsSoundHeap i chains swept_to) (sym after)
+      (sound_still refl taken_keeps sound swept_to (lists.sound_none w accepted sound.lists first refl))
+
+  -- this is the first that it found
+  module _ (n : ℕ) (first : first_in (list_at k.found w) ≡ Some n) where
+    -- it is kept, or skipped
+    pub sound_passed : {j : CycleHeap} → is_to_clear k n ≡ false → j ≡ taken → IsSoundHeap j chains swept_to
+    sound_passed {j} stays after =
+        subst (λ (i : CycleHeap). IsSoundHeap i chains swept_to) (sym after)
+        (sound_still refl taken_keeps sound swept_to (lists.sound_passed w accepted sound.lists n first stays refl))
+
+    -- it is cleared
+    abbrev cut : CycleHeap
+    cut = cut_at taken n
+
+    cut_keeps : KeepsLinks k cut (joined (lists_in k chains))
+    cut_keeps = record {
+      same = λ m within there. (link_at-cleared k.tags n k.cycle m, is_tagged-cleared k.tags n k.cycle m ∙ there);
+      apart = taken_apart;
+    }
+
+    left_cut : {j t : CycleHeap} → t ≡ taken → j ≡ cut_at t n → j ≡ cut
+    left_cut took after = after ∙ ap (λ (i : CycleHeap). cut_at i n) took
+
+    -- none found is that one, or pending
+    new_found : has (joined cut.found) n ≡ false
+    new_found =
+        (AreDistinct-taken k.found w n (rest_of (list_at k.found w)) (first_is (list_at k.found w) n first)
+        (sound.lists.stands.1.mark.clearing (work_passed k Clearing w accepted).1).once).0
+
+    pub may_list : {j t : CycleHeap} → t ≡ taken → j ≡ cut_at t n → has (joined j.found) n ≡ false
+    may_list took after =
+        ap (λ (i : CycleHeap). has (joined i.found) n) (left_cut took after) ∙ new_found
+
+    pub last_apart : {j t : CycleHeap} {c : Chain} → c ≡ get_or chains w c → t ≡ taken → j ≡ cut_at t n
+        → (c.first == 0) ≡ false → has (joined j.found) c.last ≡ false
+    last_apart {j} {t} {c} read took after full =
+        ap (λ (i : CycleHeap). has (joined i.found) c.last) (left_cut took after)
+        ∙ false_from_ne_true (has (joined cut.found) c.last)
+        (λ found.
+        true≢false
+        (sym
+        (listed_within k.tags k.heap.config.cells chains w c.last c look_within read
+        (has-last k.tags k.heap.config.cells c
+        (chain_at k.tags k.heap.config.cells chains w c look_within read sound.linked) full))
+        ∙ taken_apart c.last found))
+
+    module _ (goes : is_to_clear k n ≡ true) where
+      pub answers_cleared : replies.Cleared n ≡ answer_in (seen_heap k chains) (heap.Plain (plain.ClearNext w))
+      answers_cleared =
+          let is = first_is (list_at k.found w) n first in
+          sym (simp accepted (ap (answer_of_look k) is ∙ simp goes refl))
+
+      -- without a queue nothing comes of it
+      pub seen_cut : {j t : CycleHeap} → registered_in (reference_at k.heap n) ≡ None → t ≡ taken → j ≡ cut_at t n
+          → seen_heap j chains ≡ after_in (seen_heap k chains) (heap.Plain (plain.ClearNext w))
+      seen_cut none took after =
+          ap (λ (i : CycleHeap). seen_heap i chains) (left_cut took after) ∙ seen_still refl cut_keeps sound
+          ∙ lists.seen_cut w accepted sound.lists n first goes none refl refl
+
+      pub sound_cut : {j t : CycleHeap} → registered_in (reference_at k.heap n) ≡ None → t ≡ taken → j ≡ cut_at t n
+          → IsSoundHeap j chains swept_to
+      sound_cut none took after =
+          subst (λ (i : CycleHeap). IsSoundHeap i chains swept_to) (sym (left_cut took after))
+          (sound_still refl cut_keeps sound swept_to
+          (lists.sound_cut w accepted sound.lists n first goes none refl refl))
+
+      -- with one it goes last in the worker's chain
+      module _ {c : Chain} (read : c ≡ get_or chains w c) (q : ℕ)
+          (registered : registered_in (reference_at k.heap n) ≡ Some q)
+          (tagged : map (λ i. i.no) k.tags ≡ numbers k.heap.objects) (none_0 : is_tagged k.tags 0 ≡ false)
+          (few : length k.heap.objects ≤ k.heap.config.cells) where
+        abbrev own : List ℕ
+        own = listed k.tags k.heap.config.cells c
+
+        own_is : list_at (lists_in k chains) w ≡ own
+        own_is = list_at-lists_of k.tags k.heap.config.cells chains w c look_within read
+
+        own_read : own ≡ get_or (lists_in k chains) w own
+        own_read =
+            sym own_is
+            ∙ get_or_default (lists_in k chains) w [] own (lists.look_within w accepted sound.lists)
+
+        stay : lists_in cut chains ≡ lists_in k chains
+        stay = chains_stay refl cut_keeps sound
+
+        cut_linked : AreChains cut.tags k.heap.config.cells chains
+        cut_linked = (lists-same k.tags cut.tags k.heap.config.cells chains sound.linked cut_keeps.same).1
+
+        same_own : listed cut.tags k.heap.config.cells c ≡ own
+        same_own =
+            sym (list_at-lists_of cut.tags k.heap.config.cells chains w c look_within read)
+            ∙ ap (λ mss. list_at mss w) stay ∙ own_is
+
+        once : AreDistinct (joined (lists_in k chains))
+        once =
+            subst AreDistinct (pending_numbers-seen k.heap.objects k.tags (lists_in k chains))
+            sound.lists.stands.1.waiting.once
+
+        lacks : has (joined (lists_in k chains)) n ≡ false
+        lacks =
+            ap (λ ns. has ns n) (sym (pending_numbers-seen k.heap.objects k.tags (lists_in k chains)))
+            ∙ to_clear_is_not_pending (seen_heap k chains) sound.lists.stands.0 n sound.lists.stands.1 goes
+
+        there : is_there k.heap.objects n ≡ true
+        there = referring_is_there _ k.heap n goes
+
+        numbered : (m : ℕ) → is_there k.heap.objects m ≡ true → has (numbers k.heap.objects) m ≡ true
+        numbered m is = grind (arith, is_there-has)
+
+        room : length (listed cut.tags k.heap.config.cells c) < k.heap.config.cells
+        room =
+            let fit = distinct_fit (n ∷ joined (lists_in k chains)) (numbers k.heap.objects) (lacks, once) all in
+            let count = length-map k.heap.objects (λ (o : Object). o.no) in
+            let less = length-joined (lists_in k chains) w in
+            let size : length (listed cut.tags k.heap.config.cells c) ≡ length (list_at (lists_in k chains) w) =
+            ap length (same_own ∙ sym own_is) in
+            omega (arith, fit, count, less, size, few)
+          where
+            all : (m : ℕ) → has (n ∷ joined (lists_in k chains)) m ≡ true → has (numbers k.heap.objects) m ≡ true
+            all m within =
+                elim (or_cases (n == m) (has (joined (lists_in k chains)) m) within) [
+                  | inl same ↦ subst (λ i. has (numbers k.heap.objects) i ≡ true) (eqb-true n m same) (numbered n there)
+                  | inr before ↦ numbered m (waits_there sound.lists m before)
+                ]
+
+        own_tagged : is_tagged k.tags n ≡ true
+        own_tagged = ap (λ ns. has ns n) tagged ∙ numbered n there
+
+        pushed : ArePushed cut.tags k.heap.config.cells chains w c n
+        pushed =
+            pushes_one cut.tags k.heap.config.cells chains w c n look_within read cut_linked
+            (subst (λ mss. AreDistinct (joined mss)) (sym stay) once)
+            (record {
+              some = ne_eqb n 0 (λ zero. true≢false (sym own_tagged ∙ ap (is_tagged k.tags) zero ∙ none_0));
+              there = is_tagged-cleared k.tags n k.cycle n ∙ own_tagged;
+              lacks = ap (λ mss. has (joined mss) n) stay ∙ lacks;
+            }) room
+
+        module _ {i j t : CycleHeap} {d : Chain} (took : t ≡ taken) (after : j ≡ cut_at t n)
+            (links : i ≡ record j { tags = linked_last j.tags c n }) (last : d ≡ chain_with c n) where
+          abbrev linked : CycleHeap
+          linked = record cut { tags = linked_last cut.tags c n }
+
+          left_linked : i ≡ linked
+          left_linked =
+              links ∙ ap (λ (h : CycleHeap). record h { tags = linked_last h.tags c n }) (left_cut took after)
+
+          same_links : linked_last cut.tags c n ≡ linked_last_of cut.tags own n
+          same_links =
+              chain-linked cut.tags k.heap.config.cells c n
+              (chain_at cut.tags k.heap.config.cells chains w c look_within read cut_linked)
+              ∙ ap (λ ns. linked_last_of cut.tags ns n) same_own
+
+          linked_as_told : i ≡ record cut { tags = linked_last_of cut.tags own n }
+          linked_as_told = left_linked ∙ ap (λ ts. record cut { tags = ts }) same_links
+
+          left_lists : lists_in i (set chains w d) ≡ set (lists_in k chains) w (own ++ n ∷ [])
+          left_lists =
+              ap (λ (h : CycleHeap). lists_in h (set chains w d)) left_linked
+              ∙ ap (λ (e : Chain). lists_in linked (set chains w e)) last ∙ pushed.lists
+              ∙ ap (λ mss. set mss w (list_at mss w ++ n ∷ [])) stay
+              ∙ ap (λ ns. set (lists_in k chains) w (ns ++ n ∷ [])) own_is
+
+          pub seen_pended : seen_heap i (set chains w d)
+              ≡ after_in (seen_heap k chains) (heap.Plain (plain.ClearNext w))
+          seen_pended =
+              ap (seen_lists i) left_lists
+              ∙ lists.seen_pended w accepted sound.lists n first goes own_read q registered refl linked_as_told refl
+              tagged
+
+          pub sound_pended : IsSoundHeap i (set chains w d) swept_to
+          sound_pended = record {
+            linked = rw (left_linked, last) pushed.chains;
+            apart = λ m found.
+                ap (λ mss. has (joined mss) m) left_lists
+                ∙ false_from_ne_true (has (joined (set (lists_in k chains) w (own ++ n ∷ []))) m)
+                (λ stands. none_grown m (ap (λ (h : CycleHeap). has (joined h.found) m) (sym left_linked) ∙ found)
+                stands);
+            lists = subst (λ mss. AreSoundLists i mss swept_to) (sym left_lists)
+                (lists.sound_pended w accepted sound.lists n first goes own_read q registered refl linked_as_told refl
+                tagged);
+          }
+            where
+              none_grown : (m : ℕ) → has (joined cut.found) m ≡ true
+                  → has (joined (set (lists_in k chains) w (own ++ n ∷ []))) m ≡ true → ⊥
+              none_grown m found stands =
+                  elim
+                  (grown-has (lists_in k chains) w n m
+                  (subst (λ ns. has (joined (set (lists_in k chains) w (ns ++ n ∷ []))) m ≡ true) (sym own_is)
+                  stands)) [
+                    | inl same ↦
+                        true≢false (sym (subst (λ o. has (joined cut.found) o ≡ true) (sym same) found) ∙ new_found)
+                    | inr before ↦ true≢false (sym before ∙ taken_apart m found)
+                  ]

@@ -1,0 +1,224 @@
+-- What a hand and an unhook answer and leave of a heap, its chains among it.
+use Rattle.std.proofs.Common.{◌≡◌, ℕ, ◌<◌, true, refl, sym, ap, subst, ◌∙◌, arith, List, [], ◌∷◌, zero}
+use Rattle.std.proofs.Common.{length, get_or, set, Option, Some, None, suc, ◌==◌, nat_lt}
+use Rattle.std.specs.Option.{option_map, IsSome}
+use Rattle.std.proofs.lemmas.Bool.{or_right, true≢false, false_from_ne_true}
+use Rattle.std.proofs.lemmas.List.{get_or_default}
+use Rattle.ref_clear.proofs.Common.{has, joined, list_at, rest_of, Pending, pending_at, pending_from, pending_in, Reply}
+use Rattle.ref_clear.proofs.Common.{Fault, Cycle, Own, Reference, reference_at, registered_in, slot_at, has_slot}
+use Rattle.ref_clear.proofs.Common.{CycleHeap, with_cleared, holding, mint_answer_in, after_mint_in, first_in}
+use Rattle.ref_clear.proofs.Common.{Chain, chain_first, chain_without_first, listed, lists_in, seen_heap}
+use Rattle.ref_clear.proofs.Common.{seen_lists, IsSoundHeap, AreSoundLists, ClearHeap, AreRegistered}
+use Rattle.ref_base.specs.declared.heap_step.HeapStep.TheVariants as heap
+use Rattle.ref_base.specs.declared.plain_step.PlainStep.TheVariants as plain
+use Rattle.ref_base.specs.declared.reply.Reply.TheVariants as replies
+use Rattle.ref_base.proofs.HasLaws.{has-left, has-right, has-cases}
+use Rattle.ref_mark.specs.MarkCalls as marks
+use Rattle.ref_mark.specs.MarkCalls.{MarkerDoes}
+use Rattle.ref_mark.specs.Worklists.{listed_at}
+use Rattle.ref_mark.proofs.ChainLemmas.{list_at-lists_of, chain_at, chain-first, takes_one}
+use Rattle.ref_mark.proofs.MarkerLemmas.{length-lists_of}
+use Rattle.ref_mark.proofs.KeptParts.{cleared-tags}
+use Rattle.ref_clear.specs.ClearCalls.{HeapDoes}
+use Rattle.ref_clear.proofs.KeptReferences.{config-cleared}
+use Rattle.ref_clear.proofs.NoticeAnswers.{minted, mint_refused}
+use Rattle.ref_clear.proofs.PendingLists.{worker_has_list, first_as_seen, listed_registered}
+use Rattle.ref_clear.proofs.PendingLists.{told_as_seen, none_past}
+use Rattle.ref_clear.proofs.Common.{Ground, ground_of}
+use Rattle.ref_clear.proofs.HandAnswers.{handed as handed_lists, hand_refused as hand_refused_lists}
+use Rattle.ref_clear.proofs.UnhookAnswers.{unhook_cut as cut_lists, unhook_done as done_lists}
+use Rattle.ref_clear.proofs.SoundHeaps.{sound_after}
+use Rattle.ref_clear.proofs.PendingChains.{KeepsLinks, keeps_parts, cleared_found, seen_still, sound_still}
+use Rattle.ref_clear.proofs.ChainedHeaps.{seen_chains}
+
+first-listed : (ns : List ℕ) → first_in ns ≡ listed_at ns 0
+first-listed [] = refl
+first-listed (n ∷ ns) = refl
+
+-- what stands in the lists as one loses its first stood there
+pub less-has : (lists : List (List ℕ)) (w : ℕ) (ns : List ℕ) → list_at lists w ≡ ns → (m : ℕ)
+    → has (joined (set lists w (rest_of ns))) m ≡ true → has (joined lists) m ≡ true
+less-has [] w ns is m within = within
+less-has (ms ∷ lists) zero ns is m within = grind (arith, has-cases, has-left, has-right, rest-has)
+  where
+    rest-has : (ns : List ℕ) (m : ℕ) → has (rest_of ns) m ≡ true → has ns m ≡ true
+    rest-has [] m within = within
+    rest-has (n ∷ ns) m within = or_right (n == m) (has ns m) within
+less-has (ms ∷ lists) (suc w) ns is m within =
+    grind (arith, has-cases, has-left, has-right, less-has lists w ns is m)
+
+-- ---- a chain that is read at a place
+
+-- one that is found where they are lent
+pub found_chain : {chains lent : List Chain} {c : Chain} (w : ℕ) → lent ≡ chains → nat_lt w (length lent) ≡ true
+    → c ≡ get_or lent w c → (w < length chains) × (c ≡ get_or chains w c)
+found_chain {chains} {lent} {c} w same within is = grind arith
+
+module _ (k : CycleHeap) (chains : List Chain) (w place : ℕ) {c : Chain} (within : w < length chains)
+    (read : c ≡ get_or chains w c) where
+  inside : w < length (lists_in k chains)
+  inside = let size = length-lists_of k.tags k.heap.config.cells chains in omega (arith, within, size)
+
+  listed_read : listed k.tags k.heap.config.cells c ≡ get_or (lists_in k chains) w (listed k.tags k.heap.config.cells c)
+  listed_read =
+      sym (list_at-lists_of k.tags k.heap.config.cells chains w c within read)
+      ∙ get_or_default (lists_in k chains) w [] (listed k.tags k.heap.config.cells c) inside
+
+  -- what is told of the number that is read
+  pub told_of : {found other : Option ℕ} {g : Ground} → g ≡ ground_of k
+      → found ≡ listed_at (listed g.tags g.heap.config.cells c) place → found ≡ other
+      → pending_from (pending_at (seen_heap k chains) w) place ≡ option_map (pending_in k.heap.objects k.tags) other
+  told_of {found} {other} {g} objects is same =
+      told_as_seen k (lists_in k chains) w place inside listed_read
+      (is ∙ ap (λ (h : Ground). listed_at (listed h.tags h.heap.config.cells c) place) objects) same
+
+  pub registered_of : {swept_to : ℕ} {found : Option ℕ} {g : Ground} (n : ℕ) → IsSoundHeap k chains swept_to
+      → g ≡ ground_of k → found ≡ listed_at (listed g.tags g.heap.config.cells c) place → found ≡ Some n
+      → IsSome (registered_in (reference_at k.heap n))
+  registered_of {swept_to} {found} {g} n sound objects is same =
+      listed_registered w sound.lists place n inside listed_read
+      (is ∙ ap (λ (h : Ground). listed_at (listed h.tags h.heap.config.cells c) place) objects) same
+
+-- of a worker that isn't there nothing is pending
+pub none_behind : (k : CycleHeap) (chains : List Chain) (w place : ℕ) → (w < length chains → ⊥)
+    → pending_from (pending_at (seen_heap k chains) w) place ≡ None
+none_behind k chains w place past =
+    none_past k (lists_in k chains) w place
+    (λ within. past (subst (λ count. w < count) (length-lists_of k.tags k.heap.config.cells chains) within))
+
+-- ---- a worker's chain
+
+module _ {k : CycleHeap} {chains : List Chain} {swept_to : ℕ} (w : ℕ) (sound : IsSoundHeap k chains swept_to)
+    (within : w < k.heap.config.workers) where
+  pub worker_has_chain : w < length chains
+  worker_has_chain =
+      subst (λ count. w < count) (length-lists_of k.tags k.heap.config.cells chains)
+      (worker_has_list w sound.lists within)
+
+  module _ {c : Chain} (read : c ≡ get_or chains w c) where
+    abbrev pub own : List ℕ
+    own = listed k.tags k.heap.config.cells c
+
+    pub own_is : list_at (lists_in k chains) w ≡ own
+    own_is = list_at-lists_of k.tags k.heap.config.cells chains w c worker_has_chain read
+
+    pub own_read : own ≡ get_or (lists_in k chains) w own
+    own_read =
+        sym own_is
+        ∙ get_or_default (lists_in k chains) w [] own (worker_has_list w sound.lists within)
+
+    first_at : chain_first c ≡ listed_at own 0
+    first_at =
+        chain-first k.tags k.heap.config.cells c
+        (chain_at k.tags k.heap.config.cells chains w c worker_has_chain read sound.linked)
+        ∙ first-listed own
+
+    -- the first of it, as its number is read
+    pub first_seen : {other : Option ℕ} → chain_first c ≡ other
+        → pending_from (pending_at (seen_heap k chains) w) 0 ≡ option_map (pending_in k.heap.objects k.tags) other
+    first_seen same = first_as_seen w sound.lists within own_read first_at same
+
+    pub first_registered : (n : ℕ) → chain_first c ≡ Some n → IsSome (registered_in (reference_at k.heap n))
+    first_registered n same =
+        listed_registered w sound.lists 0 n (worker_has_list w sound.lists within) own_read first_at same
+
+    -- it is handed on
+    module _ {p : Pending} (first : pending_from (pending_at (seen_heap k chains) w) 0 ≡ Some p) {j : CycleHeap}
+        {d : Chain} {n : ℕ} (answer : replies.Object n ≡ mint_answer_in k p.object)
+        (after : j ≡ after_mint_in k p.object) (taken : d ≡ chain_without_first k.tags c) where
+      minted_now : j ≡ holding k p.object
+      minted_now = (minted k p.object n answer after).2
+
+      left_lists : lists_in k (set chains w d) ≡ set (lists_in k chains) w (rest_of own)
+      left_lists =
+          rw taken
+          ((takes_one k.tags k.heap.config.cells chains w c worker_has_chain read sound.linked).0
+          ∙ ap (λ ns. set (lists_in k chains) w (rest_of ns)) own_is)
+
+      step : HeapDoes (seen_lists k (lists_in k chains)) (heap.Hand w) (replies.Notice n p.queue (Cycle p.cycle w))
+          (seen_lists j (set (lists_in k chains) w (rest_of own)))
+          × AreRegistered j.heap.objects (set (lists_in k chains) w (rest_of own))
+      step = handed_lists w sound.lists within first answer after own_read refl
+
+      left_in : lists_in j (set chains w d) ≡ set (lists_in k chains) w (rest_of own)
+      left_in = ap (λ (i : CycleHeap). lists_in i (set chains w d)) minted_now ∙ left_lists
+
+      pub handed : HeapDoes (seen_heap k chains) (heap.Hand w) (replies.Notice n p.queue (Cycle p.cycle w))
+          (seen_heap j (set chains w d))
+      handed =
+          subst (λ mss. HeapDoes (seen_heap k chains) (heap.Hand w) (replies.Notice n p.queue (Cycle p.cycle w))
+          (seen_lists j mss)) (sym left_in) step.0
+
+      pub sound_handed : IsSoundHeap j (set chains w d) swept_to
+      sound_handed = record {
+        linked = rw (minted_now, taken)
+            (takes_one k.tags k.heap.config.cells chains w c worker_has_chain read sound.linked).1;
+        apart = λ m found.
+            ap (λ mss. has (joined mss) m) left_in
+            ∙ false_from_ne_true (has (joined (set (lists_in k chains) w (rest_of own))) m)
+            (λ stands.
+            true≢false
+            (sym (less-has (lists_in k chains) w own own_is m stands)
+            ∙ sound.apart m (ap (λ (i : CycleHeap). has (joined i.found) m) (sym minted_now) ∙ found)));
+        lists = subst (λ mss. AreSoundLists j mss swept_to) (sym left_in)
+            (sound_after (heap.Hand w) refl sound.lists step.0.after step.1);
+      }
+
+  -- where the mint of its hold is refused nothing changes
+  pub hand_refused : {p : Pending} {j : CycleHeap} {fault : Fault}
+      → pending_from (pending_at (seen_heap k chains) w) 0 ≡ Some p
+      → replies.Refused fault ≡ mint_answer_in k p.object → j ≡ after_mint_in k p.object
+      → HeapDoes (seen_heap k chains) (heap.Hand w) (replies.Refused fault) (seen_heap j chains)
+      × IsSoundHeap j chains swept_to
+  hand_refused {p} {j} {fault} first answer after =
+      let same : j ≡ k = (mint_refused k p.object fault answer after).1 in
+      let step = (hand_refused_lists w sound.lists within first answer refl).0 in
+      let does : HeapDoes (seen_heap k chains) (heap.Hand w) (replies.Refused fault) (seen_heap k chains) =
+      subst (λ (i : CycleHeap). HeapDoes (seen_heap k chains) (heap.Hand w) (replies.Refused fault)
+      (seen_lists i (lists_in k chains))) (mint_refused k p.object fault answer refl).1 step in (
+        subst (λ (i : CycleHeap). HeapDoes (seen_heap k chains) (heap.Hand w) (replies.Refused fault)
+            (seen_heap i chains))
+            (sym same) does,
+        subst (λ (i : CycleHeap). IsSoundHeap i chains swept_to) (sym same) sound,
+      )
+
+-- ---- an unhook
+
+module _ {k : CycleHeap} {chains : List Chain} {swept_to : ℕ} (sound : IsSoundHeap k chains swept_to) (m s : ℕ)
+    {n : ℕ} {r : Reference} (has : has_slot k.heap m s ≡ true) (held : slot_at k.heap m s ≡ Some n)
+    (found : reference_at k.heap n ≡ Some r) where
+  -- the cut alone
+  pub unhook_cut : {j : CycleHeap} {reply : Reply} → r.queue ≡ None
+      → MarkerDoes k (heap.Plain (plain.Clear m s)) reply j
+      → HeapDoes (seen_heap k chains) (heap.Unhook m s) replies.Nothing (seen_heap j chains)
+  unhook_cut {j} queue does =
+      subst (λ (d : ClearHeap). HeapDoes (seen_heap k chains) (heap.Unhook m s) replies.Nothing d)
+      (sym (seen_chains sound does refl refl))
+      (cut_lists k (lists_in k chains) m s has held found queue sound.lists does)
+
+  -- the hold and the cut
+  module _ {q : ℕ} (queue : r.queue ≡ Some q) {i j : CycleHeap} {object : ℕ}
+      (answer : replies.Object object ≡ mint_answer_in k n) (after : i ≡ after_mint_in k n)
+      (cut : j ≡ marks.after_in_cycle i (heap.Plain (plain.Clear m s))) where
+    unhook_step : HeapDoes (seen_lists k (lists_in k chains)) (heap.Unhook m s) (replies.Notice object q Own)
+        (seen_lists j (lists_in k chains))
+        × AreRegistered j.heap.objects (lists_in k chains) × (j ≡ holding (with_cleared k m s) n)
+    unhook_step = done_lists sound.lists m s has held found queue answer after cut
+
+    unhook_config : j.heap.config ≡ k.heap.config
+    unhook_config = ap (λ (h : CycleHeap). h.heap.config) unhook_step.2 ∙ config-cleared k m s
+
+    unhook_keeps : KeepsLinks k j (joined (lists_in k chains))
+    unhook_keeps =
+        keeps_parts k j (joined (lists_in k chains)) (ap (λ (h : CycleHeap). h.tags) unhook_step.2 ∙ cleared-tags k m s)
+        (ap (λ (h : CycleHeap). h.found) unhook_step.2 ∙ cleared_found k m s) sound.apart
+
+    pub unhook_done : HeapDoes (seen_heap k chains) (heap.Unhook m s) (replies.Notice object q Own) (seen_heap j chains)
+    unhook_done =
+        subst (λ (d : ClearHeap). HeapDoes (seen_heap k chains) (heap.Unhook m s) (replies.Notice object q Own) d)
+        (sym (seen_still unhook_config unhook_keeps sound)) unhook_step.0
+
+    pub sound_unhooked : IsSoundHeap j chains swept_to
+    sound_unhooked =
+        sound_still unhook_config unhook_keeps sound swept_to
+        (sound_after (heap.Unhook m s) refl sound.lists unhook_step.0.after unhook_step.1)

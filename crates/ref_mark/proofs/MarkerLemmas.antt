@@ -1,0 +1,569 @@
+-- What holds of a marker's lists, as objects are marked, found, taken and freed.
+use Rattle.std.proofs.Common.{◌≡◌, ℕ, ◌+◌, ◌<◌, ◌≤◌, Bool, true, false, ◌==◌, ◌||◌, not, refl, sym, ◌∙◌, ap, subst}
+use Rattle.std.proofs.Common.{List, [], ◌∷◌, ◌++◌, length, map, take, drop, replicate, get_or, set, Some, None, zero}
+use Rattle.std.proofs.Common.{suc}
+use Rattle.std.proofs.Common.{inl, inr, arith}
+use Rattle.std.specs.Prelude.{slice_set}
+use Rattle.std.specs.List.{list_any}
+use Rattle.std.proofs.lemmas.Bool.{cases_Bool, and_parts, not-true, true≢false, ne_eqb}
+use Rattle.std.proofs.lemmas.List.{append-nil, drop_all, take_all, length_push, length-map, length-set}
+use Rattle.std.proofs.lemmas.List.{length-replicate, length-append}
+use Rattle.ref_mark.proofs.Common.{refers_into, has, is_there, made, Heap, Object, reference_at, one_more, one_fewer}
+use Rattle.ref_mark.proofs.Common.{joined}
+use Rattle.ref_mark.proofs.Common.{AreDistinct, list_at, is_in, is_empty, work_refusal, Config, Phase, Policy, Idle}
+use Rattle.ref_mark.proofs.Common.{Marking, Sweeping, Ground, Worklist, empty_worklist, first_in, emptied_list}
+use Rattle.ref_mark.proofs.Common.{CycleHeap, first_cycle_heap, is_white, shaded, shaded_all, with_found, is_due}
+use Rattle.ref_mark.proofs.Common.{Chain, AreChains, chain_first, linked_last_of, chain_with, chain_without_first}
+use Rattle.ref_mark.proofs.Common.{is_tagged, linked_last, listed}
+use Rattle.ref_mark.proofs.Common.{lists_of, no_chain, seen_marker, found_in, AreListed, IsSoundMarker, MayFind}
+use Rattle.ref_base.specs.Members.{rest_of}
+use Rattle.ref_base.specs.Graphs.{numbers}
+use Rattle.ref_base.specs.CollectorRows.{emptied as none_found}
+use Rattle.ref_base.specs.declared.urgency.Urgency.TheVariants.{Normal}
+use Rattle.ref_base.specs.KeptPaths.{policy_from}
+use Rattle.ref_base.proofs.HasLaws.{has-append}
+use Rattle.ref_base.proofs.FoundLists.{with_last, has-with_last, AreDistinct-with_last, joined-emptied}
+use Rattle.ref_objects.specs.declared.start.Start.{Start}
+use Rattle.ref_objects.specs.Grounds.{starting_refusal}
+use Rattle.ref_objects.specs.Grounds.{Tag, first_ground, is_unmarked, ground_marked, after_freeing, with_new_object}
+use Rattle.ref_objects.specs.Grounds.{IsWellFormed, with_cleared_tag, with_new_tag}
+use Rattle.ref_mark.specs.Worklists.{with_last as list_with, without_first_listed}
+use Rattle.ref_mark.specs.CycleHeaps.{with_found_taken, swept}
+use Rattle.ref_mark.proofs.Shading.{AreDistinct-push}
+use Rattle.ref_base.proofs.OneMore.{has-one_more}
+use Rattle.ref_mark.proofs.DistinctLists.{distinct_fit, has-taken, AreDistinct-taken}
+use Rattle.ref_mark.proofs.LinkLemmas.{link_at-cleared, is_tagged-cleared, is_tagged-written, untagged-new}
+use Rattle.ref_mark.proofs.LinkLemmas.{untagged-gone}
+use Rattle.ref_mark.proofs.ChainLemmas.{ArePushed, IsSame, lists-same, same_last, same_new, pushes_one, takes_one}
+use Rattle.ref_mark.proofs.ChainLemmas.{emptied_lists, list_at-lists_of, chain-is_empty, chain-first, chain-linked}
+use Rattle.ref_mark.proofs.ChainLemmas.{walk-none}
+use Rattle.ref_mark.proofs.ChainLemmas.{chain_at}
+
+-- ---- the lists themselves
+
+pub length-joined : (lists : List (List ℕ)) (w : ℕ) → length (list_at lists w) ≤ length (joined lists)
+length-joined [] w = omega arith
+length-joined (ns ∷ lists) zero = grind (arith, length-append)
+length-joined (ns ∷ lists) (suc w) = grind (arith, length-append, length-joined lists w)
+
+-- one more is marked and grey
+listed_shaded : (marked grey : List ℕ) (found : List (List ℕ)) (phase : Phase) (n : ℕ) → has marked n ≡ false
+    → AreListed marked grey found phase → AreListed (one_more marked n) (grey ++ n ∷ []) found phase
+listed_shaded marked grey found phase n new listed = grind (arith, AreDistinct-push, has-one_more, has-append)
+
+listed_marked : (marked grey : List ℕ) (found : List (List ℕ)) (phase : Phase) (n : ℕ)
+    → AreListed marked grey found phase → AreListed (one_more marked n) grey found phase
+listed_marked marked grey found phase n listed = grind (arith, has-one_more)
+
+-- the first of the grey list is taken
+listed_scanned : (marked grey : List ℕ) (found : List (List ℕ)) (phase : Phase) → AreListed marked grey found phase
+    → AreListed marked (rest_of grey) found phase
+listed_scanned marked [] found phase listed = listed
+listed_scanned marked (n ∷ grey) found phase listed = grind arith
+
+-- a worker finds one of the marked that stands in no list
+listed_found : (marked grey : List ℕ) (found : List (List ℕ)) (phase : Phase) (w n : ℕ) → w < length found
+    → is_in phase Sweeping ≡ false → has marked n ≡ true → has grey n ≡ false → has (joined found) n ≡ false
+    → AreListed marked grey found phase → AreListed marked grey (with_last found w n) phase
+listed_found marked grey found phase w n within going there black new listed =
+    grind (arith, has-with_last, AreDistinct-with_last)
+
+-- a worker's first is taken
+listed_taken : (marked grey : List ℕ) (found : List (List ℕ)) (phase : Phase) (w : ℕ) (ms : List ℕ)
+    → list_at found w ≡ ms → AreListed marked grey found phase
+    → AreListed marked grey (slice_set found w (rest_of ms)) phase
+listed_taken marked grey found phase w [] is listed =
+    subst (λ ns. AreListed marked grey ns phase) (sym (nothing_taken found w is)) listed
+  where
+    nothing_taken : (found : List (List ℕ)) (w : ℕ) → list_at found w ≡ [] → slice_set found w [] ≡ found
+    nothing_taken [] w is = refl
+    nothing_taken (ns ∷ rest) zero is = ap (λ ms. ms ∷ rest) (sym is)
+    nothing_taken (ns ∷ rest) (suc w) is = ap (λ mss. ns ∷ mss) (nothing_taken rest w is)
+listed_taken marked grey found phase w (n ∷ ms) is listed =
+    grind (arith, has-taken found w n ms is, AreDistinct-taken found w n ms is listed.found_once)
+
+-- nothing is found
+listed_none : (marked grey : List ℕ) (found : List (List ℕ)) (phase then : Phase) → joined found ≡ []
+    → AreDistinct grey → ((n : ℕ) → has grey n ≡ true → has marked n ≡ true) → AreListed marked grey found then
+listed_none marked grey found phase then none once marks = grind arith
+
+-- ---- objects come, go and are cleared
+
+-- each object has its tag
+pub tagged_if_there : (g : Ground) (n : ℕ) → IsWellFormed g → is_there g.heap.objects n ≡ true
+    → is_tagged g.tags n ≡ true
+tagged_if_there g n formed there = ap (λ ns. has ns n) formed.tagged ∙ numbered g.heap.objects n there
+  where
+    numbered : (os : List Object) (n : ℕ) → is_there os n ≡ true → has (numbers os) n ≡ true
+    numbered [] n there = absurd (true≢false (sym there))
+    numbered (o ∷ os) n there = grind (arith, numbered os n)
+
+module _ {g : Ground} (after : Ground) {grey : Worklist} {found : List Chain} {phase : Phase}
+    (config : after.heap.config ≡ g.heap.config) (marks : after.marked ≡ g.marked) (begins : 1 ≤ after.next)
+    (none : is_tagged after.tags 0 ≡ false) (same : IsSame g.tags after.tags (joined (found_in g found)))
+    (sound : IsSoundMarker g grey found phase) where
+  -- the lists are as they were where the links are of what stands in them
+  found_retagged : found_in after found ≡ found_in g found
+  found_retagged = grind (arith, lists-same)
+
+  sound_retagged : IsSoundMarker after grey found phase
+  sound_retagged = grind (arith, lists-same, found_retagged)
+
+-- a new object
+module _ {g after : Ground} {grey : Worklist} {found : List Chain} {phase : Phase} (m d : ℕ) (o : Object)
+    (first : o.no ≡ g.next) (is : after ≡ with_new_object g m d o) (sound : IsSoundMarker g grey found phase) where
+  made_same : IsSame g.tags after.tags (joined (found_in g found))
+  made_same =
+      subst (λ (h : Ground). IsSame g.tags h.tags (joined (found_in g found))) (sym is)
+      (same_new g.tags o.no (joined (found_in g found)))
+
+  made_begins : 1 ≤ after.next
+  made_begins = let begins = sound.begins in grind arith
+
+  made_none : is_tagged after.tags 0 ≡ false
+  made_none = let begins = sound.begins in grind (arith, untagged-new)
+
+  made_config : after.heap.config ≡ g.heap.config
+  made_config = ap (λ (h : Ground). h.heap.config) is
+
+  made_marks : after.marked ≡ g.marked
+  made_marks = ap (λ (h : Ground). h.marked) is
+
+  pub sound_made : IsSoundMarker after grey found phase
+  sound_made = sound_retagged after made_config made_marks made_begins made_none made_same sound
+
+  pub found_made : found_in after found ≡ found_in g found
+  found_made = found_retagged after made_config made_marks made_begins made_none made_same sound
+
+  pub seen_made : (how : Policy) (cycle : ℕ)
+      → seen_marker after grey found phase how cycle
+      ≡ record (seen_marker g grey found phase how cycle) {
+        heap = made g.heap m d o;
+        next = g.next + 1;
+        tags = with_new_tag g.tags o.no;
+      }
+  seen_made how cycle = rw found_made (rw is refl)
+
+-- a reference is cleared
+module _ {g after : Ground} {grey : Worklist} {found : List Chain} {phase : Phase} (n cycle : ℕ) (h : Heap)
+    (config : h.config ≡ g.heap.config)
+    (is : after ≡ record g { heap = h; tags = with_cleared_tag g.tags n cycle })
+    (sound : IsSoundMarker g grey found phase) where
+  cut_same : IsSame g.tags after.tags (joined (found_in g found))
+  cut_same = grind (arith, link_at-cleared, is_tagged-cleared)
+
+  cut_none : is_tagged after.tags 0 ≡ false
+  cut_none =
+      ap (λ (k : Ground). is_tagged k.tags 0) is ∙ is_tagged-cleared g.tags n cycle 0 ∙ sound.none_0
+
+  cut_config : after.heap.config ≡ g.heap.config
+  cut_config = ap (λ (k : Ground). k.heap.config) is ∙ config
+
+  cut_begins : 1 ≤ after.next
+  cut_begins = subst (λ (k : Ground). 1 ≤ k.next) (sym is) sound.begins
+
+  pub sound_cut : IsSoundMarker after grey found phase
+  sound_cut = sound_retagged after cut_config (ap (λ (k : Ground). k.marked) is) cut_begins cut_none cut_same sound
+
+  pub found_cut : found_in after found ≡ found_in g found
+  found_cut = found_retagged after cut_config (ap (λ (k : Ground). k.marked) is) cut_begins cut_none cut_same sound
+
+  pub seen_cut : (how : Policy) (of : ℕ)
+      → seen_marker after grey found phase how of
+      ≡ record (seen_marker g grey found phase how of) { heap = h; tags = with_cleared_tag g.tags n cycle }
+  seen_cut how of = rw found_cut (rw is refl)
+
+pub is_tagged-linked : (ts : List Tag) (c : Chain) (n m : ℕ) → is_tagged (linked_last ts c n) m ≡ is_tagged ts m
+is_tagged-linked ts c n m = grind (arith, is_tagged-written)
+
+-- one goes last in a list of the layer above
+module _ {g after : Ground} {grey : Worklist} {found : List Chain} {phase : Phase} (c : Chain) (n : ℕ)
+    (is : after ≡ record g { tags = linked_last g.tags c n }) (lacks : has (joined (found_in g found)) n ≡ false)
+    (apart : (c.first == 0) ≡ false → has (joined (found_in g found)) c.last ≡ false)
+    (sound : IsSoundMarker g grey found phase) where
+  linked_same : IsSame g.tags after.tags (joined (found_in g found))
+  linked_same =
+      subst (λ (k : Ground). IsSame g.tags k.tags (joined (found_in g found))) (sym is)
+      (same_last g.tags c n (joined (found_in g found)) lacks apart)
+
+  linked_none : is_tagged after.tags 0 ≡ false
+  linked_none = ap (λ (k : Ground). is_tagged k.tags 0) is ∙ is_tagged-linked g.tags c n 0 ∙ sound.none_0
+
+  linked_begins : 1 ≤ after.next
+  linked_begins = subst (λ (k : Ground). 1 ≤ k.next) (sym is) sound.begins
+
+  pub sound_linked : IsSoundMarker after grey found phase
+  sound_linked =
+      sound_retagged after (ap (λ (k : Ground). k.heap.config) is) (ap (λ (k : Ground). k.marked) is) linked_begins
+      linked_none
+      linked_same sound
+
+  pub found_linked : found_in after found ≡ found_in g found
+  found_linked =
+      found_retagged after (ap (λ (k : Ground). k.heap.config) is) (ap (λ (k : Ground). k.marked) is) linked_begins
+      linked_none
+      linked_same sound
+
+  pub seen_linked : (how : Policy) (cycle : ℕ)
+      → seen_marker after grey found phase how cycle
+      ≡ record (seen_marker g grey found phase how cycle) { tags = linked_last g.tags c n }
+  seen_linked how cycle = rw found_linked (rw is refl)
+
+-- ---- the marked
+
+-- nothing goes that isn't there
+pub one_fewer-missing : (ns : List ℕ) (n : ℕ) → has ns n ≡ false → one_fewer ns n ≡ ns
+one_fewer-missing [] n missing = refl
+one_fewer-missing (m ∷ ms) n missing = grind (arith, one_fewer-missing ms n)
+
+-- an unmarked object goes in a sweep
+module _ {g after : Ground} {grey : Worklist} {found : List Chain} {phase : Phase} (n : ℕ)
+    (plain : has g.marked n ≡ false) (sweeps : is_in phase Sweeping ≡ true) (is : after ≡ after_freeing g n)
+    (sound : IsSoundMarker g grey found phase) where
+  freed_same : IsSame g.tags after.tags (joined (found_in g found))
+  freed_same m within there =
+      absurd (true≢false (sym within ∙ ap (λ ns. has ns m) (sound.listed.none_left sweeps)))
+
+  freed_none : is_tagged after.tags 0 ≡ false
+  freed_none = let none = sound.none_0 in grind (arith, untagged-gone)
+
+  freed_config : after.heap.config ≡ g.heap.config
+  freed_config = grind arith
+
+  freed_marks : after.marked ≡ g.marked
+  freed_marks = grind (arith, one_fewer-missing)
+
+  freed_begins : 1 ≤ after.next
+  freed_begins = let begins = sound.begins in grind arith
+
+  pub sound_freed : IsSoundMarker after grey found phase
+  sound_freed = sound_retagged after freed_config freed_marks freed_begins freed_none freed_same sound
+
+  pub found_freed : found_in after found ≡ found_in g found
+  found_freed = found_retagged after freed_config freed_marks freed_begins freed_none freed_same sound
+
+  pub seen_freed : (how : Policy) (cycle : ℕ)
+      → is_due (seen_marker g grey found phase how cycle) n ≡ true
+      → seen_marker after grey found phase how cycle ≡ swept (seen_marker g grey found phase how cycle) n
+  seen_freed how cycle due = rw found_freed (grind (arith, one_fewer-missing))
+
+-- one more object is marked, or none
+pub sound_marked : {g after : Ground} {grey : Worklist} {found : List Chain} {phase : Phase} (n : ℕ)
+    → after ≡ ground_marked g n → IsWellFormed after → IsSoundMarker g grey found phase
+    → IsSoundMarker after grey found phase
+sound_marked {g} {after} {grey} {found} {phase} n is formed sound =
+    elim (cases_Bool (is_unmarked g n)) [
+      | inl new ↦
+          let one : after ≡ record g { marked = one_more g.marked n } = is ∙ simp new refl in
+          remarked g after grey found phase n one formed sound
+      | inr none ↦
+          let same : after ≡ g = is ∙ simp none refl in
+          subst (λ (h : Ground). IsSoundMarker h grey found phase) (sym same) sound
+    ]
+  where
+    remarked : (g after : Ground) (grey : Worklist) (found : List Chain) (phase : Phase) (n : ℕ)
+        → after ≡ record g { marked = one_more g.marked n } → IsWellFormed after → IsSoundMarker g grey found phase
+        → IsSoundMarker after grey found phase
+    remarked g after grey found phase n is formed sound =
+        let few = formed.marks in
+        let cells = formed.few in
+        record {
+          few = omega (arith, few, cells);
+          grey_fits = rw is sound.grey_fits;
+          finders = rw is sound.finders;
+          begins = rw is sound.begins;
+          none_0 = rw is sound.none_0;
+          chains = rw is sound.chains;
+          listed = rw is (listed_marked g.marked grey.stands (found_in g found) phase n sound.listed);
+        }
+
+-- one more is marked and grey
+module _ {g after : Ground} {grey : Worklist} {found : List Chain} {phase : Phase} (n : ℕ)
+    (new : is_unmarked g n ≡ true) (is : after ≡ ground_marked g n) (formed : IsWellFormed after)
+    (sound : IsSoundMarker g grey found phase) where
+  one : after ≡ record g { marked = one_more g.marked n }
+  one = is ∙ simp new refl
+
+  unmarked : has g.marked n ≡ false
+  unmarked =
+      not-true (has g.marked n) (and_parts (is_there g.heap.objects n) (not (has g.marked n)) new).1
+
+  few : length after.marked ≤ after.heap.config.cells
+  few = omega (arith, formed.marks, formed.few)
+
+  shaded_listed : AreListed after.marked (grey.stands ++ n ∷ []) (found_in after found) phase
+  shaded_listed = rw one (listed_shaded g.marked grey.stands (found_in g found) phase n unmarked sound.listed)
+
+  pub grey_has_room : length grey.stands < grey.room
+  grey_has_room =
+      let fit = distinct_fit (grey.stands ++ n ∷ []) after.marked shaded_listed.grey_once shaded_listed.grey_marked in
+      let size = length_push grey.stands n in
+      let cells : after.heap.config.cells ≡ g.heap.config.cells = ap (λ (h : Ground). h.heap.config.cells) one in
+      let fits = sound.grey_fits in
+      omega (arith, fit, size, few, cells, fits)
+
+  pub sound_shaded : {l : Worklist} → l ≡ list_with grey n → IsSoundMarker after l found phase
+  sound_shaded {l} pushed = grind (arith, shaded_listed)
+
+-- ---- the grey list is taken from, or emptied
+
+pub sound_scanned : {g : Ground} {grey l : Worklist} {found : List Chain} {phase : Phase}
+    → l ≡ without_first_listed grey → IsSoundMarker g grey found phase → IsSoundMarker g l found phase
+sound_scanned {g} {grey} {l} {found} {phase} taken sound = grind arith
+
+pub sound_cleared : {g : Ground} {grey l : Worklist} {found : List Chain} {phase : Phase}
+    → l ≡ emptied_list grey → IsSoundMarker g grey found phase → IsSoundMarker g l found phase
+sound_cleared {g} {grey} {l} {found} {phase} cleared sound = grind arith
+
+-- ---- what workers found
+
+-- a step that isn't refused is one of a worker
+pub worker_within : (h : Heap) (now phase : Phase) (w : ℕ) → work_refusal h now phase w ≡ None → w < h.config.workers
+worker_within h now phase w accepted = grind arith
+
+-- once each list was emptied, all are
+pub all_cleared : (cs : List Chain) {ds : List Chain} (count : ℕ) → length cs ≤ count
+    → ds ≡ map (λ c. no_chain) (take count cs) ++ drop count cs → ds ≡ map (λ c. no_chain) cs
+all_cleared cs count all are = grind (arith, drop_all, append-nil, take_all)
+
+-- no worker has found anything
+pub sound_emptied : {g : Ground} {grey : Worklist} {found : List Chain} {phase : Phase}
+    → IsSoundMarker g grey found phase → IsSoundMarker g grey (map (λ c. no_chain) found) phase
+sound_emptied {g} {grey} {found} {phase} sound =
+    let none = emptied_lists g.tags g.heap.config.cells found in
+    record {
+      few = sound.few;
+      grey_fits = sound.grey_fits;
+      finders = length-map found (λ c. no_chain) ∙ sound.finders;
+      begins = sound.begins;
+      none_0 = sound.none_0;
+      chains = none.1;
+      listed = listed_none g.marked grey.stands (found_in g (map (λ c. no_chain) found)) phase phase
+          (ap joined none.0 ∙ joined-emptied (found_in g found)) sound.listed.grey_once sound.listed.grey_marked;
+    }
+
+pub seen_emptied : (g : Ground) (grey : Worklist) (found : List Chain) (phase : Phase) (how : Policy) (cycle : ℕ)
+    → seen_marker g grey (map (λ c. no_chain) found) phase how cycle
+    ≡ record (seen_marker g grey found phase how cycle) { found = none_found (found_in g found) }
+seen_emptied g grey found phase how cycle = rw (emptied_lists g.tags g.heap.config.cells found).0 refl
+
+-- all objects are white
+pub sound_whitened : {g after : Ground} {grey : Worklist} {found : List Chain} {phase : Phase} (then : Phase)
+    (ms : List (List ℕ)) → after.heap.config ≡ g.heap.config → after.next ≡ g.next → after.tags ≡ g.tags
+    → after.marked ≡ [] → grey.stands ≡ [] → found_in g found ≡ none_found ms
+    → IsSoundMarker g grey found phase → IsSoundMarker after grey found then
+sound_whitened {g} {after} {grey} {found} {phase} then ms config next tags unmarked white none sound =
+    grind (arith, joined-emptied)
+
+pub length-lists_of : (ts : List Tag) (most : ℕ) (cs : List Chain) → length (lists_of ts most cs) ≡ length cs
+length-lists_of ts most [] = refl
+length-lists_of ts most (e ∷ cs) = ap (λ count. suc count) (length-lists_of ts most cs)
+
+-- a worker finds one of the marked that stands in no list
+module _ {g after : Ground} {grey : Worklist} {found : List Chain} {phase : Phase} (w n : ℕ) {c d : Chain}
+    (within : w < g.heap.config.workers) (read : c ≡ get_or found w c) (tagged : is_tagged g.tags n ≡ true)
+    (going : is_in phase Sweeping ≡ false) (there : has g.marked n ≡ true) (black : has grey.stands n ≡ false)
+    (new : has (joined (found_in g found)) n ≡ false)
+    (is : after ≡ record g { tags = linked_last g.tags c n }) (pushed : d ≡ chain_with c n)
+    (sound : IsSoundMarker g grey found phase) where
+  is_within : w < length found
+  is_within = let count = sound.finders in omega (arith, within, count)
+
+  has_list : list_at (found_in g found) w ≡ listed g.tags g.heap.config.cells c
+  has_list = list_at-lists_of g.tags g.heap.config.cells found w c is_within read
+
+  room : length (listed g.tags g.heap.config.cells c) < g.heap.config.cells
+  room =
+      let fit = distinct_fit (n ∷ joined (found_in g found)) g.marked (new, sound.listed.found_once) all in
+      let own = subst (λ ms. length ms ≤ length (joined (found_in g found))) has_list
+      (length-joined (found_in g found) w) in
+      let few = sound.few in
+      omega (arith, fit, own, few)
+    where
+      all : (m : ℕ) → has (n ∷ joined (found_in g found)) m ≡ true → has g.marked m ≡ true
+      all m within = let marks = sound.listed.found_marked in grind arith
+
+  some : (n == 0) ≡ false
+  some = ne_eqb n 0 (λ zero. true≢false (sym tagged ∙ ap (is_tagged g.tags) zero ∙ sound.none_0))
+
+  one_found : ArePushed g.tags g.heap.config.cells found w c n
+  one_found = search (pushes_one, is_within, some, room)
+
+  pub sound_found : IsSoundMarker after grey (set found w d) phase
+  sound_found = rw is (record {
+    few = sound.few;
+    grey_fits = sound.grey_fits;
+    finders = length-set found w d ∙ sound.finders;
+    begins = sound.begins;
+    none_0 = is_tagged-linked g.tags c n 0 ∙ sound.none_0;
+    chains = rw pushed one_found.chains;
+    listed = rw (pushed, one_found.lists)
+        (listed_found g.marked grey.stands (found_in g found) phase w n finder going there black new sound.listed);
+  })
+    where
+      finder : w < length (found_in g found)
+      finder = subst (λ count. w < count) (sym (length-lists_of g.tags g.heap.config.cells found)) is_within
+
+  pub links_found : linked_last g.tags c n ≡ linked_last_of g.tags (list_at (found_in g found) w) n
+  links_found = search (chain-linked, chain_at, is_within, has_list)
+
+  -- a reference is found whose referent is white
+  pub seen_found : (how : Policy) (cycle : ℕ)
+      → refers_into (is_white (seen_marker g grey found phase how cycle)) (reference_at g.heap n) ≡ true
+      → seen_marker after grey (set found w d) phase how cycle
+      ≡ with_found (seen_marker g grey found phase how cycle) w n
+  seen_found how cycle white = rw (is, pushed) (simp white (rw (one_found.lists, links_found) refl))
+
+-- a worker's first is taken
+module _ {g : Ground} {grey : Worklist} {found : List Chain} {phase : Phase} (w : ℕ) {c d : Chain}
+    (within : w < g.heap.config.workers) (read : c ≡ get_or found w c)
+    (taken : d ≡ chain_without_first g.tags c) (sound : IsSoundMarker g grey found phase) where
+  taker_within : w < length found
+  taker_within = let count = sound.finders in omega (arith, within, count)
+
+  pub first_found : chain_first c ≡ first_in (list_at (found_in g found) w)
+  first_found =
+      chain-first g.tags g.heap.config.cells c
+      (chain_at g.tags g.heap.config.cells found w c taker_within read sound.chains)
+      ∙ ap first_in (sym (list_at-lists_of g.tags g.heap.config.cells found w c taker_within read))
+
+  one_taken : (lists_of g.tags g.heap.config.cells (set found w (chain_without_first g.tags c))
+      ≡ slice_set (found_in g found) w (rest_of (list_at (found_in g found) w)))
+      × AreChains g.tags g.heap.config.cells (set found w (chain_without_first g.tags c))
+  one_taken = takes_one g.tags g.heap.config.cells found w c taker_within read sound.chains
+
+  pub taken_lists : found_in g (set found w d)
+      ≡ slice_set (found_in g found) w (rest_of (list_at (found_in g found) w))
+  taken_lists = rw taken one_taken.0
+
+  pub sound_taken : IsSoundMarker g grey (set found w d) phase
+  sound_taken = record {
+    few = sound.few;
+    grey_fits = sound.grey_fits;
+    finders = length-set found w d ∙ sound.finders;
+    begins = sound.begins;
+    none_0 = sound.none_0;
+    chains = rw taken one_taken.1;
+    listed = rw taken_lists
+        (listed_taken g.marked grey.stands (found_in g found) phase w (list_at (found_in g found) w) refl sound.listed);
+  }
+
+  pub seen_taken : (how : Policy) (cycle : ℕ)
+      → seen_marker g grey (set found w d) phase how cycle
+      ≡ with_found_taken (seen_marker g grey found phase how cycle) w
+  seen_taken how cycle = rw taken_lists refl
+
+-- some worker has found something where a chain isn't empty
+is_empty-append : (ns ms : List ℕ) → not (is_empty (ns ++ ms)) ≡ (not (is_empty ns) || not (is_empty ms))
+is_empty-append [] ms = refl
+is_empty-append (n ∷ ns) ms = refl
+
+pub any_found : (ts : List Tag) (most : ℕ) (cs : List Chain) → AreChains ts most cs
+    → list_any (λ (c : Chain). not (c.first == 0)) cs ≡ not (is_empty (joined (lists_of ts most cs)))
+any_found ts most [] chains = refl
+any_found ts most (c ∷ cs) chains =
+    search (is_empty-append, any_found ts most cs chains.1, chain-is_empty ts most c chains.0)
+
+-- ---- a new marker
+
+pub are_none : (ts : List Tag) (most count : ℕ) → AreChains ts most (replicate count no_chain)
+    × (lists_of ts most (replicate count no_chain) ≡ replicate count [])
+are_none ts most zero = (tt, refl)
+are_none ts most (suc count) = search (walk-none, are_none ts most count)
+
+pub joined-none : (count : ℕ) → joined (replicate count []) ≡ []
+joined-none zero = refl
+joined-none (suc count) = joined-none count
+
+-- at first all lists are empty
+pub sound_first : (config : Config) (heap_no next : ℕ) → 1 ≤ next
+    → IsSoundMarker (first_ground config heap_no next) (empty_worklist config.cells)
+    (replicate config.workers no_chain) Idle
+sound_first config heap_no next begins =
+    let none = are_none [] config.cells config.workers in
+    record {
+      few = omega arith;
+      grey_fits = omega arith;
+      finders = length-replicate config.workers no_chain;
+      begins = begins;
+      none_0 = refl;
+      chains = none.0;
+      listed = listed_none [] [] _ Idle Idle (ap joined none.1 ∙ joined-none config.workers) tt
+          (λ n there. absurd (true≢false (sym there)));
+    }
+
+-- numbers begin at 1 or later
+pub starts_at : (config : Config) (start : Start) → starting_refusal config start ≡ None → 1 ≤ start.obj
+starts_at config start accepted = grind arith
+
+pub seen_first : (config : Config) (heap_no next cycle : ℕ) {g : Ground} {grey : Worklist} {found : List Chain}
+    {policy : Policy} → policy ≡ policy_from config 0 Normal
+    → g ≡ first_ground config heap_no next → grey ≡ empty_worklist config.cells
+    → found ≡ replicate config.workers no_chain
+    → seen_marker g grey found Idle policy cycle ≡ first_cycle_heap config heap_no next cycle
+seen_first config heap_no next cycle {g} {grey} {found} {policy} fixed objects greys lists =
+    rw (fixed, objects, greys, lists, (are_none [] config.cells config.workers).1) refl
+
+-- ---- a scan
+
+-- what grows as objects become grey: no list but the grey, and that by the unmarked alone
+pub record Greys (k l : CycleHeap) : Type 0 where
+  pub heap : l.heap ≡ k.heap
+  pub found : l.found ≡ k.found
+  pub phase : l.phase ≡ k.phase
+  pub black : (n : ℕ) → has k.marked n ≡ true → has k.grey n ≡ false
+      → (has l.marked n ≡ true) × (has l.grey n ≡ false)
+
+greys_one : (k : CycleHeap) (n : ℕ) → Greys k (shaded k n)
+greys_one k n = grind (arith, has-one_more, has-append)
+
+pub greys_all : (k : CycleHeap) (ns : List ℕ) → Greys k (shaded_all k ns)
+greys_all k [] = record { heap = refl; found = refl; phase = refl; black = λ n there black. (there, black) }
+greys_all k (n ∷ ns) =
+    let first : Greys k (shaded k n) = greys_one k n in
+    let later : Greys (shaded k n) (shaded_all (shaded k n) ns) = greys_all (shaded k n) ns in
+    record {
+      heap = later.heap ∙ first.heap;
+      found = later.found ∙ first.found;
+      phase = later.phase ∙ first.phase;
+      black = λ m there black. let own = first.black m there black in later.black m own.0 own.1;
+    }
+
+-- of what was shaded
+pub shaded_greys : (k j : CycleHeap) (ns : List ℕ) → j ≡ shaded_all k ns → Greys k j
+shaded_greys k j ns is = subst (λ (m : CycleHeap). Greys k m) (sym is) (greys_all k ns)
+
+-- the first of the grey list may be found by the worker that scans it, also once its targets are grey
+pub scan_may_find : {g : Ground} {grey l : Worklist} {found : List Chain} {phase : Phase} {how : Policy} {cycle : ℕ}
+    {now after : CycleHeap} (w n : ℕ) → seen_marker g grey found phase how cycle ≡ now
+    → work_refusal now.heap now.phase Marking w ≡ None → IsSoundMarker g grey found phase
+    → first_in grey.stands ≡ Some n → l ≡ without_first_listed grey
+    → Greys (seen_marker g l found phase how cycle) after → MayFind after w n
+scan_may_find {g} {grey} {l} {found} {phase} {how} {cycle} {now} {after} w n is accepted sound first taken grown =
+    grind arith
+
+-- ---- the sweep
+
+-- a doomed object goes, unless somebody holds it
+module _ (g : Ground) (grey : Worklist) (found : List Chain) (phase : Phase) (how : Policy) (cycle n : ℕ)
+    (due : is_due (seen_marker g grey found phase how cycle) n ≡ true) where
+  white : is_unmarked g n ≡ true
+  white = (and_parts (is_in phase Sweeping) (is_unmarked g n) due).1
+
+  pub due_sweeps : is_in phase Sweeping ≡ true
+  due_sweeps = (and_parts (is_in phase Sweeping) (is_unmarked g n) due).0
+
+  pub due_unmarked : has g.marked n ≡ false
+  due_unmarked =
+      not-true (has g.marked n) (and_parts (is_there g.heap.objects n) (not (has g.marked n)) white).1
+
+-- ---- what calls know of the heap as it is seen
+
+-- of what a worker may find
+pub may_find : {k now : CycleHeap} {v w : ℕ} (n : ℕ) → k ≡ now → v ≡ w → MayFind now w n → MayFind k v n
+may_find n is same may = rw (is, same) may
+
+-- a reference with a referent is there
+pub referring_is_there : (test : ℕ → Bool) (h : Heap) (n : ℕ) → refers_into test (reference_at h n) ≡ true
+    → is_there h.objects n ≡ true
+referring_is_there test h n refers = grind arith
