@@ -10,7 +10,7 @@ use crate::told::{
 };
 use ref_base::{Config, Fault, MutNo, ObjNo, QueueNo, SlotNo, Strength, Urgency, WorkerNo};
 use ref_mark::Marker;
-use ref_objects::{Hold, Start};
+use ref_objects::{Hold, Linked, Start};
 use std::alloc::Global;
 use std::process::Abort;
 use std::test::Fail;
@@ -93,9 +93,10 @@ enum Keep {
     Leak,
 }
 
-fn found_or_fault(answer: Result<Option<ObjNo>, Fault>) -> Told {
+fn found_or_fault(answer: Result<Option<Linked>, Fault>) -> Told {
     match answer {
-        Ok(answer) => found(answer),
+        Ok(Some(linked)) => Told::Found(linked.no.0),
+        Ok(None) => Told::Nothing,
         Err(fault) => Told::Refused(fault),
     }
 }

@@ -53,6 +53,8 @@ enum Set {
     Stamp(u32, u64),
     Cut(u32),
     Cleared(u32, u64),
+    /// The reference of this number is cleared in this cycle.
+    ClearIn(u32, u64),
     /// The object of this number links to this one.
     Link(u32, u32),
     UnmarkAll,
@@ -144,6 +146,7 @@ fn after_setting<A: Allocator + Copy>(heap: &mut Objects<A>, call: Set) -> Told 
         Set::Stamp(no, stamp) => heap.set_stamp(ObjNo(no), stamp),
         Set::Cut(no) => heap.cut(ObjNo(no)),
         Set::Cleared(no, cycle) => heap.set_cleared_in(ObjNo(no), cycle),
+        Set::ClearIn(no, cycle) => heap.clear_in(ObjNo(no), cycle),
         Set::Link(no, to) => heap.set_link(ObjNo(no), to),
         Set::UnmarkAll => heap.unmark_all(),
         Set::CloseGaps => heap.close_gaps(),

@@ -6,7 +6,7 @@ ghost use Rattle.ref_share.specs.HeapSeats.{IsHeapSeat};
 use crate::letters::{CONFIG, Letter, QUEUE};
 use crate::timing::{Sample, Timer};
 use ref_base::{Fault, MutNo, PlainStep, SlotNo, Strength, Urgency, WorkerNo};
-use ref_clear::Heap;
+use ref_clear::{Heap, Notice};
 use ref_queue::{Polled, Queue};
 use ref_share::{HeapSeat, SharedHeap};
 use std::alloc::Global;
@@ -19,29 +19,65 @@ const MUTATOR: MutNo = MutNo(0);
 
 const WORKER: WorkerNo = WorkerNo(0);
 
-/// As many references to one dead object as the heap has room for: from the mark's end until the notice of each was
-/// polled and given back.
-pub fn dead_references<R: Clock>(rt: &R, alloc: Global) -> Result<Sample, Fault> {
-    let count = CONFIG.cells - 1;
-    let mut heap = Heap::new(alloc, CONFIG, 0)?;
-    let mut queue = Queue::new(alloc, QUEUE);
-    fill(&mut heap, count)?;
-    heap.begin(0, Urgency::Normal)?;
-    for _ in 0..count {
-        heap.scan(WORKER)?;
-    }
+/// So many references to one dead object there are: as many as the heap has room for.
+const DEAD: u32 = CONFIG.cells - 1;
+
+/// Scans, each of which finds a reference to the dead object.
+pub fn scans<R: Clock>(rt: &R, alloc: Global) -> Result<Sample, Fault> {
+    let mut heap = begun(alloc)?;
     let timer = Timer::start(rt);
-    clear_all(&mut heap, count)?;
-    deliver_all(&mut heap, &mut queue, count)?;
-    take_all(&mut heap, &mut queue, count);
-    Ok(timer.stop(rt, u64::from(count)))
+    scan_all(&mut heap)?;
+    Ok(timer.stop(rt, u64::from(DEAD)))
 }
 
-/// An object that is dead, and so many weak references to it, each of which has the one before in a field.
-fn fill(heap: &mut Heap, count: u32) -> Result<(), Fault> {
+/// Looks, each of which clears a reference and lists it as pending.
+pub fn looks<R: Clock>(rt: &R, alloc: Global) -> Result<Sample, Fault> {
+    let mut heap = begun(alloc)?;
+    scan_all(&mut heap)?;
+    let timer = Timer::start(rt);
+    clear_all(&mut heap)?;
+    Ok(timer.stop(rt, u64::from(DEAD)))
+}
+
+/// Hands, each with the release of the hold that it gave.
+pub fn hands<R: Clock>(rt: &R, alloc: Global) -> Result<Sample, Fault> {
+    let mut heap = begun(alloc)?;
+    scan_all(&mut heap)?;
+    clear_all(&mut heap)?;
+    let timer = Timer::start(rt);
+    for _ in 0..DEAD {
+        if let Some(notice) = heap.hand(WORKER)? {
+            give_back(&mut heap, notice);
+        }
+    }
+    Ok(timer.stop(rt, u64::from(DEAD)))
+}
+
+/// All of it, from the mark's end until the notice of each reference was polled and given back.
+pub fn dead_references<R: Clock>(rt: &R, alloc: Global) -> Result<Sample, Fault> {
+    let mut heap = begun(alloc)?;
+    let mut queue = Queue::new(alloc, QUEUE);
+    scan_all(&mut heap)?;
+    let timer = Timer::start(rt);
+    clear_all(&mut heap)?;
+    deliver_all(&mut heap, &mut queue)?;
+    take_all(&mut heap, &mut queue);
+    Ok(timer.stop(rt, u64::from(DEAD)))
+}
+
+/// A heap in a mark, in which nothing is scanned yet.
+fn begun(alloc: Global) -> Result<Heap, Fault> {
+    let mut heap = Heap::new(alloc, CONFIG, 0)?;
+    fill(&mut heap)?;
+    heap.begin(0, Urgency::Normal)?;
+    Ok(heap)
+}
+
+/// An object that is dead, and weak references to it, each of which has the one before in a field.
+fn fill(heap: &mut Heap) -> Result<(), Fault> {
     let (target, newest, last) = (SlotNo(0), SlotNo(1), SlotNo(2));
     heap.alloc_obj(MUTATOR, target, 0)?;
-    for _ in 0..count {
+    for _ in 0..DEAD {
         heap.alloc_ref(MUTATOR, newest, Strength::Weak, target, Some(QUEUE), 1)?;
         heap.store(MUTATOR, newest, 0, last)?;
         heap.copy(MUTATOR, last, newest)?;
@@ -49,16 +85,23 @@ fn fill(heap: &mut Heap, count: u32) -> Result<(), Fault> {
     heap.drop_slot(MUTATOR, target)
 }
 
-fn clear_all(heap: &mut Heap, count: u32) -> Result<(), Fault> {
+fn scan_all(heap: &mut Heap) -> Result<(), Fault> {
+    for _ in 0..DEAD {
+        heap.scan(WORKER)?;
+    }
+    Ok(())
+}
+
+fn clear_all(heap: &mut Heap) -> Result<(), Fault> {
     heap.end_mark()?;
-    for _ in 0..count {
+    for _ in 0..DEAD {
         heap.clear_next(WORKER)?;
     }
     heap.end_clear()
 }
 
-fn deliver_all(heap: &mut Heap, queue: &mut Queue<Letter>, count: u32) -> Result<(), Fault> {
-    for _ in 0..count {
+fn deliver_all(heap: &mut Heap, queue: &mut Queue<Letter>) -> Result<(), Fault> {
+    for _ in 0..DEAD {
         if let Some(notice) = heap.hand(WORKER)? {
             if let Err((fault, _)) = queue.put(Letter::new(notice)) {
                 return Err(fault);
@@ -68,13 +111,17 @@ fn deliver_all(heap: &mut Heap, queue: &mut Queue<Letter>, count: u32) -> Result
     Ok(())
 }
 
-fn take_all(heap: &mut Heap, queue: &mut Queue<Letter>, count: u32) {
-    for _ in 0..count {
+fn take_all(heap: &mut Heap, queue: &mut Queue<Letter>) {
+    for _ in 0..DEAD {
         if let Polled::Took(letter) = queue.poll() {
-            if let Err((_, hold)) = heap.release(letter.into_notice().into_hold()) {
-                hold.leak();
-            }
+            give_back(heap, letter.into_notice());
         }
+    }
+}
+
+fn give_back(heap: &mut Heap, notice: Notice) {
+    if let Err((_, hold)) = heap.release(notice.into_hold()) {
+        hold.leak();
     }
 }
 

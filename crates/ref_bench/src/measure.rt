@@ -2,7 +2,7 @@
 
 use crate::cleaner_runs::jobs_registered_and_run;
 use crate::crowds::{plain_queue, shared_queue};
-use crate::heap_runs::{dead_references, heap_calls};
+use crate::heap_runs::{dead_references, hands, heap_calls, looks, scans};
 use crate::queue_runs::{plain_queue_alone, queue_alone, shared_queue_alone};
 use crate::script_run::script_steps;
 use crate::timing::Sample;
@@ -25,6 +25,12 @@ pub enum Measure {
     SharedQueueAmong(u32),
     /// The same of a deque and a set under a lock.
     PlainQueueAmong(u32),
+    /// The scan of a reference to a dead object, which a worker finds so.
+    Scan,
+    /// The look at it: it is cleared, and pending then.
+    Look,
+    /// The hand of its notice, and the release of its hold.
+    Hand,
     /// What one reference to a dead object costs, from the mark's end until its notice was polled and given back.
     DeadReference,
     /// Calls of a shared heap by so many threads.
@@ -36,7 +42,7 @@ pub enum Measure {
 }
 
 /// All measures, in the order in which they are printed.
-pub const ALL: [Measure; 17] = [
+pub const ALL: [Measure; 20] = [
     Measure::Queue,
     Measure::SharedQueue,
     Measure::PlainQueue,
@@ -46,6 +52,9 @@ pub const ALL: [Measure; 17] = [
     Measure::PlainQueueAmong(2),
     Measure::SharedQueueAmong(4),
     Measure::PlainQueueAmong(4),
+    Measure::Scan,
+    Measure::Look,
+    Measure::Hand,
     Measure::DeadReference,
     Measure::HeapCallAmong(1),
     Measure::HeapCallAmong(2),
@@ -71,6 +80,9 @@ impl Measure {
             Measure::PlainQueueAmong(n) => {
                 format!(in alloc; "lock, deque and set, {n} putting, {n} taking, a notice")
             }
+            Measure::Scan => format!(in alloc; "a scan that finds a reference"),
+            Measure::Look => format!(in alloc; "a look that clears it"),
+            Measure::Hand => format!(in alloc; "a hand of its notice, and its hold released"),
             Measure::DeadReference => {
                 format!(in alloc; "a dead reference, mark's end to notice polled")
             }
@@ -96,6 +108,9 @@ impl Measure {
             Measure::PlainQueue => plain_queue_alone(rt, alloc, notices),
             Measure::SharedQueueAmong(n) => shared_queue(rt, alloc, n, notices),
             Measure::PlainQueueAmong(n) => plain_queue(rt, alloc, n, notices),
+            Measure::Scan => scans(rt, alloc),
+            Measure::Look => looks(rt, alloc),
+            Measure::Hand => hands(rt, alloc),
             Measure::DeadReference => dead_references(rt, alloc),
             Measure::HeapCallAmong(n) => heap_calls(rt, alloc, n, size.saturating_mul(2_000)),
             Measure::CleanedJob(n) => jobs_registered_and_run(rt, alloc, n),

@@ -75,15 +75,11 @@ module _ {k : CycleHeap} {chains : List Chain} {swept_to : ℕ} (w : ℕ)
     left_cut : {j t : CycleHeap} → t ≡ taken → j ≡ cut_at t n → j ≡ cut
     left_cut took after = after ∙ ap (λ (i : CycleHeap). cut_at i n) took
 
-    -- none found is that one, or pending
+    -- it isn't found any more
     new_found : has (joined cut.found) n ≡ false
     new_found =
         (AreDistinct-taken k.found w n (rest_of (list_at k.found w)) (first_is (list_at k.found w) n first)
         (sound.lists.stands.1.mark.clearing (work_passed k Clearing w accepted).1).once).0
-
-    pub may_list : {j t : CycleHeap} → t ≡ taken → j ≡ cut_at t n → has (joined j.found) n ≡ false
-    may_list took after =
-        ap (λ (i : CycleHeap). has (joined i.found) n) (left_cut took after) ∙ new_found
 
     pub last_apart : {j t : CycleHeap} {c : Chain} → c ≡ get_or chains w c → t ≡ taken → j ≡ cut_at t n
         → (c.first == 0) ≡ false → has (joined j.found) c.last ≡ false

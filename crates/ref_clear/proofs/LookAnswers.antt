@@ -12,7 +12,8 @@ use Rattle.ref_clear.proofs.Common.{AreSoundLists, AreRegistered, has, joined, n
 use Rattle.ref_clear.proofs.Common.{cleared, pending_in, pendings_in}
 use Rattle.ref_base.specs.declared.heap_step.HeapStep.TheVariants as heap
 use Rattle.ref_base.specs.declared.plain_step.PlainStep.TheVariants as plain
-use Rattle.ref_objects.specs.Grounds.{IsWellFormed, cleared_in_at}
+use Rattle.ref_objects.specs.Grounds.{IsWellFormed, cleared_in_at, linked_in}
+use Rattle.ref_objects.specs.declared.linked.Linked.{Linked}
 use Rattle.ref_objects.proofs.TagLemmas.{cleared_in_at-other, cleared_in_at-own}
 use Rattle.ref_base.proofs.HasLaws.{has-cases, has-single}
 use Rattle.ref_base.proofs.StoreLaws.{is_there-has}
@@ -226,29 +227,31 @@ module _ (k : CycleHeap) (w : ℕ) {t : CycleHeap} {g : Ground} (taken : t ≡ w
   pub few_taken : IsWellFormed g → length k.heap.objects ≤ k.heap.config.cells
   few_taken formed = let few = formed.few in rw (objects, taken) at few
 
-  module _ (n : ℕ) {read : Option Reference} (reads : read ≡ reference_at g.heap n) where
-    read_before : reference_at k.heap n ≡ read
-    read_before = sym (reads ∙ ap (λ (h : Ground). reference_at h.heap n) (objects ∙ ap ground_of taken))
+-- what its list has of the reference that is taken
+module _ (k : CycleHeap) (w n : ℕ) {l : Linked} (told : l ≡ linked_in (ground_of k) n) where
+  read : l.reference ≡ reference_at k.heap n
+  read = ap (λ (i : Linked). i.reference) told
 
-    -- nothing is cleared of what is no reference
-    pub plain_stays : read ≡ None → is_to_clear k n ≡ false
-    plain_stays none = ap (refers_into (is_doomed k)) (read_before ∙ none)
+  -- nothing is cleared of what is no reference
+  pub plain_stays : l.reference ≡ None → is_to_clear k n ≡ false
+  plain_stays none = ap (refers_into (is_doomed k)) (sym read ∙ none)
 
-    module _ {r : Reference} (is : read ≡ Some r) where
-      -- nor of one without a referent
-      pub cleared_stays : r.referent ≡ None → is_to_clear k n ≡ false
-      cleared_stays none = cleared_refers_to_none (is_doomed k) (reference_at k.heap n)
-          (ap referent_of (read_before ∙ is) ∙ none)
+  module _ {r : Reference} (is : l.reference ≡ Some r) where
+    -- nor of one without a referent
+    pub cleared_stays : r.referent ≡ None → is_to_clear k n ≡ false
+    cleared_stays none =
+        cleared_refers_to_none (is_doomed k) (reference_at k.heap n) (ap referent_of (sym read ∙ is) ∙ none)
 
-      -- it is to be cleared exactly where its referent is doomed
-      pub clears_by : {m : ℕ} {goes : Bool} → r.referent ≡ Some m → is_doomed t m ≡ goes → is_to_clear k n ≡ goes
-      clears_by {m} {goes} referent doomed = grind arith
+    -- it is to be cleared exactly where its referent is doomed
+    pub clears_by : {t : CycleHeap} {m : ℕ} {goes : Bool} → t ≡ with_found_taken k w → r.referent ≡ Some m
+        → is_doomed t m ≡ goes → is_to_clear k n ≡ goes
+    clears_by {t} {m} {goes} taken referent doomed = grind (arith, read)
 
-      pub queue_read : is_some r.queue ≡ true → registered_in (reference_at k.heap n) ≡ Some (unwrap_or r.queue 0)
-      queue_read some = ap registered_in (read_before ∙ is) ∙ some_is r.queue some
+    pub queue_read : is_some r.queue ≡ true → registered_in (reference_at k.heap n) ≡ Some (unwrap_or r.queue 0)
+    queue_read some = ap registered_in (sym read ∙ is) ∙ some_is r.queue some
 
-      pub no_queue_read : is_some r.queue ≡ false → registered_in (reference_at k.heap n) ≡ None
-      no_queue_read none = ap registered_in (read_before ∙ is) ∙ no_queue_is r.queue none
+    pub no_queue_read : is_some r.queue ≡ false → registered_in (reference_at k.heap n) ≡ None
+    no_queue_read none = ap registered_in (sym read ∙ is) ∙ no_queue_is r.queue none
 
 -- no object has number 0
 pub none_0_taken : (k : CycleHeap) (w : ℕ) {t : CycleHeap} → t ≡ with_found_taken k w → is_tagged t.tags 0 ≡ false

@@ -8,7 +8,7 @@ use Rattle.ref_clear.proofs.Common.{has, referent_of, reference_at, refers_into,
 use Rattle.ref_clear.proofs.Common.{Object, NamedStep, Fault, Config, CycleHeap, is_white, shaded_all, with_cleared}
 use Rattle.ref_clear.proofs.Common.{unless_refused, linked_last_of, Chain, AreChains, lists_in, seen_heap, seen_lists}
 use Rattle.ref_clear.proofs.Common.{AreSoundLists, IsSoundHeap, is_kept, targets_at}
-use Rattle.ref_objects.specs.Grounds.{Tag, link_at, with_link, with_new_tag}
+use Rattle.ref_objects.specs.Grounds.{Tag, link_at, with_new_tag}
 use Rattle.ref_base.specs.declared.heap_step.HeapStep.TheVariants as heap
 use Rattle.ref_base.specs.declared.plain_step.PlainStep.TheVariants as plain
 use Rattle.ref_base.specs.declared.urgency.Urgency.{Urgency}
@@ -60,13 +60,10 @@ keeps_parts k j ps tags found apart = record {
 
 -- ---- the steps of marking
 
-same_last_of : (ts : List Tag) (ms : List ℕ) (n : ℕ) (ps : List ℕ) → has ps n ≡ false
+same_last_of : (ts : List Tag) (ms : List ℕ) (n : ℕ) (ps : List ℕ)
     → (is_empty ms ≡ false → has ps (last_of ms) ≡ false) → IsSame ts (linked_last_of ts ms n) ps
-same_last_of ts [] n ps lacks apart i within there = same_written ts n 0 ps lacks i within there
-same_last_of ts (m ∷ ms) n ps lacks apart i within there =
-    let first = same_written ts n 0 ps lacks i within there in
-    let second = same_written (with_link ts n 0) (last_of (m ∷ ms)) n ps (apart refl) i within first.1 in
-    (second.0 ∙ first.0, second.1)
+same_last_of ts [] n ps apart i within there = (refl, there)
+same_last_of ts (m ∷ ms) n ps apart i within there = same_written ts (last_of (m ∷ ms)) n ps (apart refl) i within there
 
 last-within : (m : ℕ) (ms : List ℕ) → has (m ∷ ms) (last_of (m ∷ ms)) ≡ true
 last-within m [] = has-first m []
@@ -116,7 +113,7 @@ module _ (ps : List ℕ) where
             tags = linked_last_of k.tags (list_at k.found w) n;
           }) ps
       one refers = record {
-        same = same_last_of k.tags (list_at k.found w) n ps (lacks refers)
+        same = same_last_of k.tags (list_at k.found w) n ps
             (λ full. are.apart _ (within_joined k.found w _ (last_of-within (list_at k.found w) full)));
         apart = λ m within.
             elim (grown-has k.found w n m within) [

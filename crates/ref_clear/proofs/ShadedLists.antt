@@ -3,7 +3,7 @@ use Rattle.std.proofs.Common.{◌≡◌, ℕ, ◌+◌, ◌<◌, ◌≤◌, ◌==
 use Rattle.std.proofs.Common.{get_or, sym, ap, ◌∙◌, arith}
 use Rattle.std.proofs.lemmas.List.{append-nil, append_assoc, take_all, get_or_default}
 use Rattle.ref_clear.proofs.Common.{joined, CycleHeap, shaded, shaded_all, Chain, listed, lists_in, walk}
-use Rattle.ref_objects.specs.Grounds.{link_at}
+use Rattle.ref_mark.specs.Chains.{next_of}
 use Rattle.ref_mark.proofs.ChainLemmas.{walk-none, list_at-lists_of}
 use Rattle.ref_mark.proofs.KeptParts.{shaded_all-tags}
 use Rattle.ref_mark.proofs.LoopLemmas.{shaded_heap, shaded_once-heap}
@@ -15,7 +15,8 @@ use Rattle.ref_mark.proofs.Shading.{shaded_all-append}
 -- once the numbers from next on are shaded, at most so many, all are that the chain has
 pub record IsShading (start k : CycleHeap) (list : Chain) (left next : ℕ) : Type 0 where
   pub shades :
-      shaded_all k (walk start.tags left next) ≡ shaded_all start (listed start.tags start.heap.config.cells list)
+      shaded_all k (walk start.tags list.last left next)
+      ≡ shaded_all start (listed start.tags start.heap.config.cells list)
   pub tags : k.tags ≡ start.tags
   pub heap : k.heap ≡ start.heap
 
@@ -23,27 +24,29 @@ shaded-tags : (k : CycleHeap) (n : ℕ) → (shaded k n).tags ≡ k.tags
 shaded-tags k n = grind arith
 
 pub shading_more : (start k : CycleHeap) (list : Chain) (left less next : ℕ) → left ≡ less + 1 → (next == 0) ≡ false
-    → IsShading start k list left next → IsShading start (shaded k next) list less (link_at start.tags next)
+    → IsShading start k list left next
+    → IsShading start (shaded k next) list less (next_of start.tags list.last next)
 shading_more start k list left less next size some shading = record {
-  shades = sym (step less next some) ∙ ap (λ i. shaded_all k (walk start.tags i next)) (sym size) ∙ shading.shades;
+  shades = sym (step less next some) ∙ ap (λ i. shaded_all k (walk start.tags list.last i next)) (sym size)
+      ∙ shading.shades;
   tags = shaded-tags k next ∙ shading.tags;
   heap = shaded_once-heap k next ∙ shading.heap;
 }
   where
     step : (less next : ℕ) → (next == 0) ≡ false
-        → shaded_all k (walk start.tags (less + 1) next)
-        ≡ shaded_all (shaded k next) (walk start.tags less (link_at start.tags next))
+        → shaded_all k (walk start.tags list.last (less + 1) next)
+        ≡ shaded_all (shaded k next) (walk start.tags list.last less (next_of start.tags list.last next))
     step less next some = grind arith
 
 pub shading_done : (start k : CycleHeap) (list : Chain) (left next : ℕ) → (next == 0) ≡ true
     → IsShading start k list left next → k ≡ shaded_all start (listed start.tags start.heap.config.cells list)
 shading_done start k list left next none shading =
-    ap (shaded_all k) (sym (walk-none start.tags left next none)) ∙ shading.shades
+    ap (shaded_all k) (sym (walk-none start.tags list.last left next none)) ∙ shading.shades
 
 pub shading_all : (start k : CycleHeap) (list : Chain) (left next : ℕ) → left ≡ 0
     → IsShading start k list left next → k ≡ shaded_all start (listed start.tags start.heap.config.cells list)
 shading_all start k list left next none shading =
-    ap (λ i. shaded_all k (walk start.tags i next)) (sym none) ∙ shading.shades
+    ap (λ i. shaded_all k (walk start.tags list.last i next)) (sym none) ∙ shading.shades
 
 -- ---- of all workers
 

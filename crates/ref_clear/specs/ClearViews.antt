@@ -10,6 +10,7 @@ use Rattle.ref_base.specs.Refusals.{is_in}
 use Rattle.ref_base.specs.Collectors.{State, joined}
 use Rattle.ref_base.specs.declared.phase.Phase.TheVariants.{Sweeping}
 use Rattle.ref_objects.specs.Grounds.{Tag, cleared_in_at}
+use Rattle.ref_objects.specs.declared.linked.Linked.{Linked}
 use Rattle.ref_mark.specs.CycleHeaps.{CycleHeap, is_white}
 use Rattle.ref_mark.specs.declared.chain.Chain.{Chain}
 use Rattle.ref_mark.specs.Chains.{AreChains, lists_of}
@@ -24,7 +25,12 @@ first_pending (p ∷ ps) = Some p
 abbrev pub pending_from : List Pending → ℕ → Option Pending
 pending_from ps place = first_pending (drop place ps)
 
--- what is told of pending reference n by its object and its tag: its queue, and the cycle in which it was cleared
+-- what is told of a pending reference by what its list has of it: its queue, and the cycle in which it was cleared
+abbrev pub pending_by : Linked → Pending
+pending_by l =
+    record { object = l.no; queue = unwrap_or (registered_in l.reference) 0; cycle = l.cleared_in }
+
+-- the same by its object and its tag
 abbrev pub pending_in : List Object → List Tag → ℕ → Pending
 pending_in os ts n = record {
   object = n;

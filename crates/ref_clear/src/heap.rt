@@ -160,7 +160,7 @@ impl<A: Allocator + Copy> Heap<A> {
     {
         let list = self.pending.get(worker.0 as usize)?;
         let no = list.get(self.marker.objects(), place)?;
-        Some(Pending::of(&self.marker, no))
+        Some(Pending::of(self.marker.objects().linked_of(no)))
     }
 }
 

@@ -1,12 +1,11 @@
 //! Pending references.
 
 ghost use Rattle.std.specs.Prelude.{◌≡◌, IsSome};
-ghost use Rattle.ref_base.specs.Heaps.{reference_at, registered_in};
-ghost use Rattle.ref_clear.specs.ClearViews.{pending_in};
+ghost use Rattle.ref_base.specs.Heaps.{registered_in};
+ghost use Rattle.ref_clear.specs.ClearViews.{pending_by};
 
 use ref_base::{ObjNo, QueueNo};
-use ref_mark::Marker;
-use std::alloc::Allocator;
+use ref_objects::Linked;
 use std::marker::Model;
 
 /// A reference that a worker cleared and hasn't handed on yet.
@@ -31,16 +30,15 @@ impl Model for Pending {
 }
 
 impl Pending {
-    /// The pending reference of this number, as its object tells it. In logarithmic time.
-    pub(crate) fn of<A: Allocator + Copy>(marker: &Marker<A>, no: ObjNo) -> Self
-        requires { IsSome (registered_in (reference_at marker.now.heap no)) }
-        ensures { result ≡ pending_in marker.now.heap.objects marker.now.tags no }
+    /// A pending reference, by what its list has of it.
+    pub(crate) fn of(linked: Linked) -> Self
+        requires { IsSome (registered_in linked.reference) }
+        ensures { result ≡ pending_by linked }
     {
-        let objects = marker.objects();
         Pending {
-            object: no,
-            queue: objects.queue_of(no).unwrap(),
-            cycle: objects.cleared_in(no),
+            object: linked.no,
+            queue: linked.reference.unwrap().queue.unwrap(),
+            cycle: linked.cleared_in,
         }
     }
 }

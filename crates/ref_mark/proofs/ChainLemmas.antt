@@ -1,15 +1,18 @@
 -- A chain as a list: one more at its end, its first taken, and links that are written elsewhere.
 use Rattle.std.proofs.Common.{◌≡◌, ℕ, zero, suc, ◌+◌, ◌<◌, ◌≤◌, Bool, true, false, ◌==◌, ◌||◌, refl, sym, ap, subst}
 use Rattle.std.proofs.Common.{◌∙◌, arith, List, [], ◌∷◌, ◌++◌, length, map, get_or, set, inl, inr, length-append}
-use Rattle.std.proofs.Common.{Some, None}
+use Rattle.std.proofs.Common.{Option, Some, None, if◌then◌else◌}
+use Rattle.std.specs.Option.{option_map}
 use Rattle.std.proofs.lemmas.List.{drop_all}
 use Rattle.ref_mark.specs.Worklists.{listed_at}
 use Rattle.std.proofs.lemmas.Bool.{cases_Bool, eq-eqb, or_right, or_parts, true≢false}
 use Rattle.ref_mark.proofs.Common.{has, AreDistinct, joined, list_at, is_empty, first_in, Chain}
 use Rattle.ref_base.specs.Members.{rest_of}
 use Rattle.ref_base.proofs.HasLaws.{has-first, has-append}
-use Rattle.ref_objects.specs.Grounds.{Tag, link_at, with_link, with_new_tag}
-use Rattle.ref_mark.specs.Chains.{no_chain, walk, listed, lists_of, chain_with, linked_last, chain_without_first}
+use Rattle.ref_objects.specs.Grounds.{Ground, Tag, link_at, with_link, with_new_tag, linked_in}
+use Rattle.ref_objects.specs.declared.linked.Linked.{Linked}
+use Rattle.ref_mark.specs.Chains.{no_chain, next_of, walk, listed, lists_of, chain_with, linked_last}
+use Rattle.ref_mark.specs.Chains.{chain_without_first}
 use Rattle.ref_mark.specs.Chains.{last_of, linked_last_of, chain_first, is_tagged, Links, Ends, IsChain, AreChains}
 use Rattle.ref_mark.proofs.DistinctLists.{lacks-parts, distinct-left, distinct-right, distinct-apart, has-other}
 use Rattle.ref_mark.proofs.LinkLemmas.{link_at-other, link_at-same, is_tagged-written, link_at-new, is_tagged-new}
@@ -21,36 +24,43 @@ abbrev pub IsSame : List Tag → List Tag → List ℕ → Type 0
 IsSame ts us ms =
     (m : ℕ) → has ms m ≡ true → is_tagged ts m ≡ true → (link_at us m ≡ link_at ts m) × (is_tagged us m ≡ true)
 
-pub Links-same : (ts us : List Tag) (n : ℕ) (ms : List ℕ) → IsSame ts us ms → Links ts n ms → Links us n ms
-Links-same ts us n [] same leads = leads
-Links-same ts us n (m ∷ ms) same leads =
+pub Links-same : (ts us : List Tag) (last n : ℕ) (ms : List ℕ) → IsSame ts us ms → Links ts last n ms
+    → Links us last n ms
+Links-same ts us last n [] same leads = leads
+Links-same ts us last n (m ∷ ms) same leads =
     let own = same m (has-first m ms) leads.2 in
-    let later : IsSame ts us ms = λ k within there. same k (simp within (or-true (m == k))) there in
-    (leads.0, leads.1, own.1, subst (λ k. Links us k ms) (sym own.0) (Links-same ts us (link_at ts m) ms later leads.3))
+    let next : next_of us last m ≡ next_of ts last m = ap (λ k. if m == last then 0 else k) own.0 in
+    let later : IsSame ts us ms = λ k within there. same k (simp within (or-true (m == k))) there in (
+      leads.0,
+      leads.1,
+      own.1,
+      subst (λ k. Links us last k ms) (sym next) (Links-same ts us last (next_of ts last m) ms later leads.3),
+    )
   where
     or-true : (b : Bool) → (b || true) ≡ true
     or-true true = refl
     or-true false = refl
 
 -- so many links lead through a list that is no longer
-pub walk-leads : (ts : List Tag) (most n : ℕ) (ms : List ℕ) → Links ts n ms → length ms ≤ most → walk ts most n ≡ ms
-walk-leads ts zero n [] leads few = refl
-walk-leads ts zero n (m ∷ ms) leads few = absurd (omega arith)
-walk-leads ts (suc most) n [] leads few = simp (eq-eqb n 0 leads) refl
-walk-leads ts (suc most) n (m ∷ ms) leads few = grind (arith, walk-leads ts most)
+pub walk-leads : (ts : List Tag) (last most n : ℕ) (ms : List ℕ) → Links ts last n ms → length ms ≤ most
+    → walk ts last most n ≡ ms
+walk-leads ts last zero n [] leads few = refl
+walk-leads ts last zero n (m ∷ ms) leads few = absurd (omega arith)
+walk-leads ts last (suc most) n [] leads few = simp (eq-eqb n 0 leads) refl
+walk-leads ts last (suc most) n (m ∷ ms) leads few = grind (arith, walk-leads ts last most)
 
-pub length-walk : (ts : List Tag) (most n : ℕ) → length (walk ts most n) ≤ most
-length-walk ts zero n = omega arith
-length-walk ts (suc most) n = grind (arith, length-walk ts most)
+pub length-walk : (ts : List Tag) (last most n : ℕ) → length (walk ts last most n) ≤ most
+length-walk ts last zero n = omega arith
+length-walk ts last (suc most) n = grind (arith, length-walk ts last most)
 
-pub walk-none : (ts : List Tag) (most n : ℕ) → (n == 0) ≡ true → walk ts most n ≡ []
-walk-none ts zero n none = refl
-walk-none ts (suc most) n none = simp none refl
+pub walk-none : (ts : List Tag) (last most n : ℕ) → (n == 0) ≡ true → walk ts last most n ≡ []
+walk-none ts last zero n none = refl
+walk-none ts last (suc most) n none = simp none refl
 
 -- links that are written elsewhere change no chain
 pub chain-same : (ts us : List Tag) (most : ℕ) (c : Chain) → IsChain ts most c → IsSame ts us (listed ts most c)
     → (listed us most c ≡ listed ts most c) × IsChain us most c
-chain-same ts us most c chain same = grind (arith, walk-leads, length-walk, Links-same ts us c.first)
+chain-same ts us most c chain same = grind (arith, walk-leads, length-walk, Links-same ts us c.last c.first)
 
 Ends-has : (last m : ℕ) (ms : List ℕ) → Ends last (m ∷ ms) → has (m ∷ ms) last ≡ true
 Ends-has last m [] ends = subst (λ k. has (m ∷ []) k ≡ true) (sym ends) (has-first m [])
@@ -62,50 +72,49 @@ Ends-push n [] = refl
 Ends-push n (m ∷ []) = refl
 Ends-push n (m ∷ k ∷ ms) = Ends-push n (k ∷ ms)
 
-Ends-rest : (last m : ℕ) (ms : List ℕ) → Ends last (m ∷ ms) → Ends last ms
-Ends-rest last m [] ends = tt
-Ends-rest last m (k ∷ ms) ends = ends
-
--- the last links to n, which links to nothing
-Links-push : (ts : List Tag) (a last n m : ℕ) (ms : List ℕ) → Links ts a (m ∷ ms) → Ends last (m ∷ ms)
-    → AreDistinct (m ∷ ms) → has (m ∷ ms) n ≡ false → (n == 0) ≡ false → is_tagged ts n ≡ true → link_at ts n ≡ 0
-    → Links (with_link ts last n) a ((m ∷ ms) ++ n ∷ [])
-Links-push ts a last n m [] leads ends distinct lacks some there none =
-    let apart : (last == n) ≡ false = ap (λ k. k == n) ends ∙ (or_parts (m == n) false lacks).0 in
+-- the last links to n, which is the last then
+Links-push : (ts : List Tag) (a last n m : ℕ) (ms : List ℕ) → Links ts last a (m ∷ ms) → Ends last (m ∷ ms)
+    → AreDistinct (m ∷ ms) → has (m ∷ ms) n ≡ false → (n == 0) ≡ false → is_tagged ts n ≡ true
+    → Links (with_link ts last n) n a ((m ∷ ms) ++ n ∷ [])
+Links-push ts a last n m [] leads ends distinct lacks some there =
+    let other : (m == n) ≡ false = (or_parts (m == n) false lacks).0 in
     let link : link_at (with_link ts last n) m ≡ n =
     subst (λ k. link_at (with_link ts k n) m ≡ n) (sym ends) (link_at-same ts m n leads.2) in (
       leads.0,
       leads.1,
       is_tagged-written ts last n m ∙ leads.2,
       (
-        link,
+        simp other link,
         some,
         is_tagged-written ts last n n ∙ there,
-        link_at-other ts last n n apart ∙ none,
+        simp (eq-eqb n n refl) refl,
       ),
     )
-Links-push ts a last n m (k ∷ ms) leads ends distinct lacks some there none =
+Links-push ts a last n m (k ∷ ms) leads ends distinct lacks some there =
+    let other = or_parts (m == n) (has (k ∷ ms) n) lacks in
     let apart : (last == m) ≡ false = has-other (k ∷ ms) last m (Ends-has last k ms ends) distinct.0 in
-    let rest : Links (with_link ts last n) (link_at ts m) ((k ∷ ms) ++ n ∷ []) =
-    Links-push ts (link_at ts m) last n k ms leads.3 ends distinct.1 (or_parts (m == n) (has (k ∷ ms) n) lacks).1 some
-    there none in (
+    let before : next_of ts last m ≡ link_at ts m = grind arith in
+    let rest : Links (with_link ts last n) n (next_of ts last m) ((k ∷ ms) ++ n ∷ []) =
+    Links-push ts (next_of ts last m) last n k ms leads.3 ends distinct.1 other.1 some there in
+    let next : next_of (with_link ts last n) n m ≡ next_of ts last m =
+    simp other.0 (link_at-other ts last n m apart ∙ sym before) in (
       leads.0,
       leads.1,
       is_tagged-written ts last n m ∙ leads.2,
-      subst (λ j. Links (with_link ts last n) j ((k ∷ ms) ++ n ∷ [])) (sym (link_at-other ts last n m apart)) rest,
+      subst (λ j. Links (with_link ts last n) n j ((k ∷ ms) ++ n ∷ [])) (sym next) rest,
     )
 
 -- the same of a list that isn't empty, whatever its first
-Links-pushed : (ts : List Tag) (a last n : ℕ) (ms : List ℕ) → (a == 0) ≡ false → Links ts a ms → Ends last ms
-    → AreDistinct ms → has ms n ≡ false → (n == 0) ≡ false → is_tagged ts n ≡ true → link_at ts n ≡ 0
-    → Links (with_link ts last n) a (ms ++ n ∷ [])
-Links-pushed ts a last n [] full leads ends distinct lacks some there none =
+Links-pushed : (ts : List Tag) (a last n : ℕ) (ms : List ℕ) → (a == 0) ≡ false → Links ts last a ms → Ends last ms
+    → AreDistinct ms → has ms n ≡ false → (n == 0) ≡ false → is_tagged ts n ≡ true
+    → Links (with_link ts last n) n a (ms ++ n ∷ [])
+Links-pushed ts a last n [] full leads ends distinct lacks some there =
     absurd (true≢false (sym (eq-eqb a 0 leads) ∙ full))
-Links-pushed ts a last n (m ∷ ms) full leads ends distinct lacks some there none =
-    Links-push ts a last n m ms leads ends distinct lacks some there none
+Links-pushed ts a last n (m ∷ ms) full leads ends distinct lacks some there =
+    Links-push ts a last n m ms leads ends distinct lacks some there
 
 -- a chain that isn't empty has its last
-last_within : (a last : ℕ) (ts : List Tag) (ms : List ℕ) → (a == 0) ≡ false → Links ts a ms → Ends last ms
+last_within : (a last : ℕ) (ts : List Tag) (ms : List ℕ) → (a == 0) ≡ false → Links ts last a ms → Ends last ms
     → has ms last ≡ true
 last_within a last ts [] full leads ends = absurd (true≢false (sym (eq-eqb a 0 leads) ∙ full))
 last_within a last ts (m ∷ ms) full leads ends = Ends-has last m ms ends
@@ -128,7 +137,7 @@ pub record IsPushed (ts : List Tag) (most : ℕ) (c : Chain) (n : ℕ) : Type 0 
 
 -- once the links lead so, it is so
 pushed_by : (ts : List Tag) (most : ℕ) (c : Chain) (n : ℕ) → length (listed ts most c) < most
-    → Links (linked_last ts c n) (chain_with c n).first (listed ts most c ++ n ∷ []) → IsPushed ts most c n
+    → Links (linked_last ts c n) n (chain_with c n).first (listed ts most c ++ n ∷ []) → IsPushed ts most c n
 pushed_by ts most c n room leads = grind (arith, length-append, walk-leads, Ends-push)
 
 -- no chain changes that hasn't the number whose link is written
@@ -138,18 +147,18 @@ same_written ts n to ms lacks m within there = grind (arith, link_at-other, is_t
 pub pushes : (ts : List Tag) (most : ℕ) (c : Chain) (n : ℕ) → IsChain ts most c → AreDistinct (listed ts most c)
     → IsNew ts n (listed ts most c) → length (listed ts most c) < most → IsPushed ts most c n
 pushes ts most c n chain distinct new room =
-    grind (arith, pushed_by, is_tagged-written, link_at-same, Links-same, same_written, Links-pushed)
-
--- no chain changes that has neither n nor the last that links to it
-pub same_last : (ts : List Tag) (c : Chain) (n : ℕ) (ms : List ℕ) → has ms n ≡ false
-    → ((c.first == 0) ≡ false → has ms c.last ≡ false) → IsSame ts (linked_last ts c n) ms
-same_last ts c n ms lacks apart m within there =
-    let first = same_written ts n 0 ms lacks m within there in
     elim (cases_Bool (c.first == 0)) [
-      | inl none ↦ simp none first
-      | inr full ↦
-          let second = same_written (with_link ts n 0) c.last n ms (apart full) m within first.1 in
-          simp full (second.0 ∙ first.0, second.1)
+      | inl none ↦ grind (arith, pushed_by, walk-none)
+      | inr full ↦ grind (arith, pushed_by, Links-pushed)
+    ]
+
+-- no chain changes that doesn't have the last that links to n
+pub same_last : (ts : List Tag) (c : Chain) (n : ℕ) (ms : List ℕ) → ((c.first == 0) ≡ false → has ms c.last ≡ false)
+    → IsSame ts (linked_last ts c n) ms
+same_last ts c n ms apart m within there =
+    elim (cases_Bool (c.first == 0)) [
+      | inl none ↦ simp none (refl, there)
+      | inr full ↦ simp full (same_written ts c.last n ms (apart full) m within there)
     ]
 
 -- ---- several chains
@@ -199,7 +208,7 @@ pushes_one ts most (d ∷ cs) (suc w) c n within is chains distinct new room =
     let later = pushes_one ts most cs w c n (omega arith) is chains.1 (distinct-right front back distinct)
     (record { some = new.some; there = new.there; lacks = lacks.1 }) room in
     let own = chain-same ts (linked_last ts c n) most d chains.0
-    (same_last ts c n front lacks.0
+    (same_last ts c n front
     (λ full. lacks_back front back c.last distinct
     (listed_within ts most cs w c.last c (omega arith) is (has-last ts most c chain full)))) in
     record {
@@ -217,19 +226,6 @@ pushes_one ts most (d ∷ cs) (suc w) c n within is chains distinct new room =
 
 -- ---- the first is taken
 
-rest-leads : (ts : List Tag) (a : ℕ) (ms : List ℕ) → (a == 0) ≡ false → Links ts a ms
-    → Links ts (link_at ts a) (rest_of ms)
-rest-leads ts a [] full leads = absurd (true≢false (sym (eq-eqb a 0 leads) ∙ full))
-rest-leads ts a (m ∷ ms) full leads = subst (λ k. Links ts (link_at ts k) ms) (sym leads.0) leads.3
-
-rest-ends : (last : ℕ) (ms : List ℕ) → Ends last ms → Ends last (rest_of ms)
-rest-ends last [] ends = tt
-rest-ends last (m ∷ ms) ends = Ends-rest last m ms ends
-
-rest-shorter : (ms : List ℕ) → length (rest_of ms) ≤ length ms
-rest-shorter [] = omega arith
-rest-shorter (m ∷ ms) = omega arith
-
 pub takes : (ts : List Tag) (most : ℕ) (c : Chain) → IsChain ts most c
     → (listed ts most (chain_without_first ts c) ≡ rest_of (listed ts most c)) × IsChain ts most
     (chain_without_first ts c)
@@ -243,6 +239,19 @@ pub takes_one : (ts : List Tag) (most : ℕ) (cs : List Chain) (w : ℕ) (c : Ch
 takes_one ts most [] w c within is chains = absurd (omega arith)
 takes_one ts most (d ∷ cs) zero c within is chains = grind (arith, takes)
 takes_one ts most (d ∷ cs) (suc w) c within is chains = grind (arith, takes_one ts most cs w c)
+
+-- what is told of a first tells its number
+pub first_linked : (g : Ground) (first : Option ℕ) (l : Linked) → Some l ≡ option_map (linked_in g) first
+    → (first ≡ Some l.no) × (l ≡ linked_in g l.no)
+first_linked g None l is = absurd (cc)
+first_linked g (Some m) l is =
+    let own : l ≡ linked_in g m = cc in
+    let no : l.no ≡ m = ap (λ (i : Linked). i.no) own in
+    (ap (λ i. Some i) (sym no), own ∙ ap (linked_in g) (sym no))
+
+pub none_linked : (g : Ground) (first : Option ℕ) → None ≡ option_map (linked_in g) first → first ≡ None
+none_linked g None is = refl
+none_linked g (Some m) is = absurd (cc)
 
 -- ---- objects come and go, and all lists are emptied
 
@@ -262,15 +271,15 @@ Ends-last_of last m [] ends = ends
 Ends-last_of last m (k ∷ ms) ends = Ends-last_of last k ms ends
 
 -- its first is 0 where nothing stands in it
-none_listed : (ts : List Tag) (a : ℕ) (ms : List ℕ) → Links ts a ms → (a == 0) ≡ is_empty ms
-none_listed ts a [] leads = eq-eqb a 0 leads
-none_listed ts a (m ∷ ms) leads = ap (λ k. k == 0) leads.0 ∙ leads.1
+none_listed : (ts : List Tag) (last a : ℕ) (ms : List ℕ) → Links ts last a ms → (a == 0) ≡ is_empty ms
+none_listed ts last a [] leads = eq-eqb a 0 leads
+none_listed ts last a (m ∷ ms) leads = ap (λ k. k == 0) leads.0 ∙ leads.1
 
 pub chain-is_empty : (ts : List Tag) (most : ℕ) (c : Chain) → IsChain ts most c
     → (c.first == 0) ≡ is_empty (listed ts most c)
-chain-is_empty ts most c chain = none_listed ts c.first (listed ts most c) chain.leads
+chain-is_empty ts most c chain = none_listed ts c.last c.first (listed ts most c) chain.leads
 
-first_listed : (ts : List Tag) (c : Chain) (ms : List ℕ) → Links ts c.first ms → chain_first c ≡ first_in ms
+first_listed : (ts : List Tag) (c : Chain) (ms : List ℕ) → Links ts c.last c.first ms → chain_first c ≡ first_in ms
 first_listed ts c [] leads = grind arith
 first_listed ts c (m ∷ ms) leads = grind arith
 
@@ -278,7 +287,7 @@ pub chain-first : (ts : List Tag) (most : ℕ) (c : Chain) → IsChain ts most c
     → chain_first c ≡ first_in (listed ts most c)
 chain-first ts most c chain = first_listed ts c (listed ts most c) chain.leads
 
-linked_by : (ts : List Tag) (c : Chain) (n : ℕ) (ms : List ℕ) → Links ts c.first ms → Ends c.last ms
+linked_by : (ts : List Tag) (c : Chain) (n : ℕ) (ms : List ℕ) → Links ts c.last c.first ms → Ends c.last ms
     → linked_last ts c n ≡ linked_last_of ts ms n
 linked_by ts c n [] leads ends = simp (eq-eqb c.first 0 leads) refl
 linked_by ts c n (m ∷ ms) leads ends = search (Ends-last_of c.last m ms ends)
@@ -290,18 +299,18 @@ chain-linked ts most c n chain = linked_by ts c n (listed ts most c) chain.leads
 -- ---- one at a place
 
 -- the one at a place is that at the place before, from the next on
-pub listed_at-next : (ts : List Tag) (most less n place before : ℕ) → most ≡ less + 1 → place ≡ before + 1
-    → (n == 0) ≡ false → listed_at (walk ts most n) place ≡ listed_at (walk ts less (link_at ts n)) before
-listed_at-next ts most less n place before size at some = grind arith
+pub listed_at-next : (ts : List Tag) (last most less n place before : ℕ) → most ≡ less + 1 → place ≡ before + 1
+    → (n == 0) ≡ false
+    → listed_at (walk ts last most n) place ≡ listed_at (walk ts last less (next_of ts last n)) before
+listed_at-next ts last most less n place before size at some = grind arith
 
-pub listed_at-none : (ts : List Tag) (most n place : ℕ) → (n == 0) ≡ true → listed_at (walk ts most n) place ≡ None
-listed_at-none ts most n place none = grind arith
-
-pub listed_at-first : (ts : List Tag) (most n : ℕ) → 0 < most → (n == 0) ≡ false → listed_at (walk ts most n) 0 ≡ Some n
-listed_at-first ts zero n room some = absurd (omega arith)
-listed_at-first ts (suc most) n room some = simp some refl
+pub listed_at-none : (ts : List Tag) (last most n place : ℕ) → (n == 0) ≡ true
+    → listed_at (walk ts last most n) place ≡ None
+listed_at-none ts last most n place none = grind arith
 
 -- behind the last is nothing
-pub listed_at-past : (ts : List Tag) (most n place : ℕ) → most ≤ place → listed_at (walk ts most n) place ≡ None
-listed_at-past ts most n place past =
-    let few = length-walk ts most n in ap first_in (drop_all place (walk ts most n) (omega (arith, past, few)))
+pub listed_at-past : (ts : List Tag) (last most n place : ℕ) → most ≤ place
+    → listed_at (walk ts last most n) place ≡ None
+listed_at-past ts last most n place past =
+    let few = length-walk ts last most n in
+    ap first_in (drop_all place (walk ts last most n) (omega (arith, past, few)))

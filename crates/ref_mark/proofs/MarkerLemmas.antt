@@ -1,7 +1,8 @@
 -- What holds of a marker's lists, as objects are marked, found, taken and freed.
 use Rattle.std.proofs.Common.{◌≡◌, ℕ, ◌+◌, ◌<◌, ◌≤◌, Bool, true, false, ◌==◌, ◌||◌, not, refl, sym, ◌∙◌, ap, subst}
 use Rattle.std.proofs.Common.{List, [], ◌∷◌, ◌++◌, length, map, take, drop, replicate, get_or, set, Some, None, zero}
-use Rattle.std.proofs.Common.{suc}
+use Rattle.std.proofs.Common.{suc, Option}
+use Rattle.std.specs.Option.{option_map}
 use Rattle.std.proofs.Common.{inl, inr, arith}
 use Rattle.std.specs.Prelude.{slice_set}
 use Rattle.std.specs.List.{list_any}
@@ -17,18 +18,17 @@ use Rattle.ref_mark.proofs.Common.{Chain, AreChains, chain_first, linked_last_of
 use Rattle.ref_mark.proofs.Common.{is_tagged, linked_last, listed}
 use Rattle.ref_mark.proofs.Common.{lists_of, no_chain, seen_marker, found_in, AreListed, IsSoundMarker, MayFind}
 use Rattle.ref_base.specs.Members.{rest_of}
-use Rattle.ref_base.specs.Graphs.{numbers}
+use Rattle.ref_base.specs.Graphs.{numbers, Reference}
 use Rattle.ref_base.specs.CollectorRows.{emptied as none_found}
 use Rattle.ref_base.specs.declared.urgency.Urgency.TheVariants.{Normal}
 use Rattle.ref_base.specs.KeptPaths.{policy_from}
 use Rattle.ref_base.proofs.HasLaws.{has-append}
 use Rattle.ref_base.proofs.FoundLists.{with_last, has-with_last, AreDistinct-with_last, joined-emptied}
-use Rattle.ref_objects.specs.declared.start.Start.{Start}
-use Rattle.ref_objects.specs.Grounds.{starting_refusal}
 use Rattle.ref_objects.specs.Grounds.{Tag, first_ground, is_unmarked, ground_marked, after_freeing, with_new_object}
-use Rattle.ref_objects.specs.Grounds.{IsWellFormed, with_cleared_tag, with_new_tag}
+use Rattle.ref_objects.specs.Grounds.{IsWellFormed, with_cleared_tag, with_new_tag, linked_in}
 use Rattle.ref_mark.specs.Worklists.{with_last as list_with, without_first_listed}
 use Rattle.ref_mark.specs.CycleHeaps.{with_found_taken, swept}
+use Rattle.ref_mark.specs.MarkViews.{found_first}
 use Rattle.ref_mark.proofs.Shading.{AreDistinct-push}
 use Rattle.ref_base.proofs.OneMore.{has-one_more}
 use Rattle.ref_mark.proofs.DistinctLists.{distinct_fit, has-taken, AreDistinct-taken}
@@ -54,12 +54,6 @@ listed_shaded marked grey found phase n new listed = grind (arith, AreDistinct-p
 listed_marked : (marked grey : List ℕ) (found : List (List ℕ)) (phase : Phase) (n : ℕ)
     → AreListed marked grey found phase → AreListed (one_more marked n) grey found phase
 listed_marked marked grey found phase n listed = grind (arith, has-one_more)
-
--- the first of the grey list is taken
-listed_scanned : (marked grey : List ℕ) (found : List (List ℕ)) (phase : Phase) → AreListed marked grey found phase
-    → AreListed marked (rest_of grey) found phase
-listed_scanned marked [] found phase listed = listed
-listed_scanned marked (n ∷ grey) found phase listed = grind arith
 
 -- a worker finds one of the marked that stands in no list
 listed_found : (marked grey : List ℕ) (found : List (List ℕ)) (phase : Phase) (w n : ℕ) → w < length found
@@ -178,13 +172,13 @@ is_tagged-linked ts c n m = grind (arith, is_tagged-written)
 
 -- one goes last in a list of the layer above
 module _ {g after : Ground} {grey : Worklist} {found : List Chain} {phase : Phase} (c : Chain) (n : ℕ)
-    (is : after ≡ record g { tags = linked_last g.tags c n }) (lacks : has (joined (found_in g found)) n ≡ false)
+    (is : after ≡ record g { tags = linked_last g.tags c n })
     (apart : (c.first == 0) ≡ false → has (joined (found_in g found)) c.last ≡ false)
     (sound : IsSoundMarker g grey found phase) where
   linked_same : IsSame g.tags after.tags (joined (found_in g found))
   linked_same =
       subst (λ (k : Ground). IsSame g.tags k.tags (joined (found_in g found))) (sym is)
-      (same_last g.tags c n (joined (found_in g found)) lacks apart)
+      (same_last g.tags c n (joined (found_in g found)) apart)
 
   linked_none : is_tagged after.tags 0 ≡ false
   linked_none = ap (λ (k : Ground). is_tagged k.tags 0) is ∙ is_tagged-linked g.tags c n 0 ∙ sound.none_0
@@ -421,11 +415,16 @@ module _ {g : Ground} {grey : Worklist} {found : List Chain} {phase : Phase} (w 
   taker_within : w < length found
   taker_within = let count = sound.finders in omega (arith, within, count)
 
-  pub first_found : chain_first c ≡ first_in (list_at (found_in g found) w)
+  first_found : chain_first c ≡ first_in (list_at (found_in g found) w)
   first_found =
       chain-first g.tags g.heap.config.cells c
       (chain_at g.tags g.heap.config.cells found w c taker_within read sound.chains)
       ∙ ap first_in (sym (list_at-lists_of g.tags g.heap.config.cells found w c taker_within read))
+
+  -- it is answered with what the list has of it
+  pub first_told : (how : Policy) (cycle : ℕ)
+      → option_map (linked_in g) (chain_first c) ≡ found_first (seen_marker g grey found phase how cycle) w
+  first_told how cycle = ap (option_map (linked_in g)) first_found
 
   one_taken : (lists_of g.tags g.heap.config.cells (set found w (chain_without_first g.tags c))
       ≡ slice_set (found_in g found) w (rest_of (list_at (found_in g found) w)))
@@ -491,10 +490,6 @@ sound_first config heap_no next begins =
       listed = listed_none [] [] _ Idle Idle (ap joined none.1 ∙ joined-none config.workers) tt
           (λ n there. absurd (true≢false (sym there)));
     }
-
--- numbers begin at 1 or later
-pub starts_at : (config : Config) (start : Start) → starting_refusal config start ≡ None → 1 ≤ start.obj
-starts_at config start accepted = grind arith
 
 pub seen_first : (config : Config) (heap_no next cycle : ℕ) {g : Ground} {grey : Worklist} {found : List Chain}
     {policy : Policy} → policy ≡ policy_from config 0 Normal
@@ -562,6 +557,12 @@ module _ (g : Ground) (grey : Worklist) (found : List Chain) (phase : Phase) (ho
 -- of what a worker may find
 pub may_find : {k now : CycleHeap} {v w : ℕ} (n : ℕ) → k ≡ now → v ≡ w → MayFind now w n → MayFind k v n
 may_find n is same may = rw (is, same) may
+
+-- and of a reference whose referent is white
+pub refers_white : {k now : CycleHeap} {read : Option Reference} {white : Bool} (n : ℕ) → k ≡ now
+    → reference_at now.heap n ≡ read → white ≡ refers_into (is_white now) read → white ≡ true
+    → refers_into (is_white k) (reference_at k.heap n) ≡ true
+refers_white n is reads refers white = cc
 
 -- a reference with a referent is there
 pub referring_is_there : (test : ℕ → Bool) (h : Heap) (n : ℕ) → refers_into test (reference_at h n) ≡ true

@@ -1,4 +1,4 @@
--- A list of objects as a chain: its first and its last, where each of its objects links to the next.
+-- A list of objects as a chain: its first and its last, where each of its objects but the last links to the next.
 use Rattle.std.specs.Prelude.{◌≡◌, ℕ, zero, suc, Bool, true, false, ◌==◌, if◌then◌else◌, List, [], ◌∷◌}
 use Rattle.std.specs.Prelude.{map, Option, Some, None}
 use Rattle.ref_base.specs.Members.{has}
@@ -12,14 +12,18 @@ no_chain = record { first = 0; last = 0 }
 abbrev pub chain_first : Chain → Option ℕ
 chain_first c = if c.first == 0 then None else Some c.first
 
--- the numbers that links lead through from n on, at most so many
-abbrev pub walk : List Tag → ℕ → ℕ → List ℕ
-walk ts zero n = []
-walk ts (suc most) n = if n == 0 then [] else n ∷ walk ts most (link_at ts n)
+-- what stands behind n in a chain of this last one: behind that nothing does, whatever it links to
+abbrev pub next_of : List Tag → ℕ → ℕ → ℕ
+next_of ts last n = if n == last then 0 else link_at ts n
+
+-- the numbers that links lead through from n on to the last, at most so many
+abbrev pub walk : List Tag → ℕ → ℕ → ℕ → List ℕ
+walk ts last zero n = []
+walk ts last (suc most) n = if n == 0 then [] else n ∷ walk ts last most (next_of ts last n)
 
 -- the list that a chain is
 abbrev pub listed : List Tag → ℕ → Chain → List ℕ
-listed ts most c = walk ts most c.first
+listed ts most c = walk ts c.last most c.first
 
 abbrev pub lists_of : List Tag → ℕ → List Chain → List (List ℕ)
 lists_of ts most [] = []
@@ -31,13 +35,13 @@ lists_of ts most (c ∷ cs) = listed ts most c ∷ lists_of ts most cs
 abbrev pub chain_with : Chain → ℕ → Chain
 chain_with c n = record { first = if c.first == 0 then n else c.first; last = n }
 
--- and the links that this takes: n links to nothing, and what was the last to n
+-- and the link that this takes: what was the last links to n
 abbrev pub linked_last : List Tag → Chain → ℕ → List Tag
-linked_last ts c n = if c.first == 0 then with_link ts n 0 else with_link (with_link ts n 0) c.last n
+linked_last ts c n = if c.first == 0 then ts else with_link ts c.last n
 
 -- the first goes
 abbrev pub chain_without_first : List Tag → Chain → Chain
-chain_without_first ts c = if c.first == 0 then c else record c { first = link_at ts c.first }
+chain_without_first ts c = if c.first == 0 then c else record c { first = next_of ts c.last c.first }
 
 -- ---- the same, told of the list that a chain is
 
@@ -49,7 +53,7 @@ last_of (m ∷ k ∷ ms) = last_of (k ∷ ms)
 
 -- the links as n goes last in this list
 abbrev pub linked_last_of : List Tag → List ℕ → ℕ → List Tag
-linked_last_of ts ms n = if is_empty ms then with_link ts n 0 else with_link (with_link ts n 0) (last_of ms) n
+linked_last_of ts ms n = if is_empty ms then ts else with_link ts (last_of ms) n
 
 -- ---- what holds
 
@@ -58,9 +62,10 @@ abbrev pub is_tagged : List Tag → ℕ → Bool
 is_tagged ts n = has (map (λ t. t.no) ts) n
 
 -- links lead from n through these numbers, each that of an object, to the end
-abbrev pub Links : List Tag → ℕ → List ℕ → Type 0
-Links ts n [] = n ≡ 0
-Links ts n (m ∷ ms) = (n ≡ m) × ((m == 0) ≡ false) × (is_tagged ts m ≡ true) × Links ts (link_at ts m) ms
+abbrev pub Links : List Tag → ℕ → ℕ → List ℕ → Type 0
+Links ts last n [] = n ≡ 0
+Links ts last n (m ∷ ms) =
+    (n ≡ m) × ((m == 0) ≡ false) × (is_tagged ts m ≡ true) × Links ts last (next_of ts last m) ms
 
 -- this is the last of these numbers, if there are any
 abbrev pub Ends : ℕ → List ℕ → Type 0
@@ -69,7 +74,7 @@ Ends last (m ∷ []) = last ≡ m
 Ends last (m ∷ k ∷ ms) = Ends last (k ∷ ms)
 
 pub record IsChain (ts : List Tag) (most : ℕ) (c : Chain) : Type 0 where
-  pub leads : Links ts c.first (listed ts most c)
+  pub leads : Links ts c.last c.first (listed ts most c)
   pub ends : Ends c.last (listed ts most c)
 
 abbrev pub AreChains : List Tag → ℕ → List Chain → Type 0

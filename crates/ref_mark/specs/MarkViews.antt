@@ -1,13 +1,16 @@
 -- What a contract sees of a marker's fields, and what holds of them.
-use Rattle.std.specs.Prelude.{◌≡◌, ℕ, ◌<◌, ◌≤◌, true, false, List, [], length}
+use Rattle.std.specs.Prelude.{◌≡◌, ℕ, ◌<◌, ◌≤◌, true, false, List, [], length, Option}
+use Rattle.std.specs.Option.{option_map}
 use Rattle.ref_base.specs.Members.{has, AreDistinct}
 use Rattle.ref_base.specs.Collectors.{joined}
+use Rattle.ref_base.specs.CollectorRows.{list_at}
 use Rattle.ref_base.specs.Refusals.{is_in}
 use Rattle.ref_base.specs.declared.phase.Phase.{Phase}
 use Rattle.ref_base.specs.declared.phase.Phase.TheVariants.{Sweeping}
 use Rattle.ref_base.specs.declared.policy.Policy.{Policy}
-use Rattle.ref_objects.specs.Grounds.{Ground}
-use Rattle.ref_mark.specs.Worklists.{Worklist}
+use Rattle.ref_objects.specs.Grounds.{Ground, linked_in}
+use Rattle.ref_objects.specs.declared.linked.Linked.{Linked}
+use Rattle.ref_mark.specs.Worklists.{Worklist, first_in}
 use Rattle.ref_mark.specs.declared.chain.Chain.{Chain}
 use Rattle.ref_mark.specs.Chains.{lists_of, is_tagged, AreChains}
 use Rattle.ref_mark.specs.CycleHeaps.{CycleHeap}
@@ -32,6 +35,10 @@ seen_marker g grey found phase policy cycle = record {
 -- the objects, slots and holds of the heap, with marks and tags
 abbrev pub ground_of : CycleHeap → Ground
 ground_of k = record { heap = k.heap; next = k.next; marked = k.marked; tags = k.tags }
+
+-- what the list has of the first that the worker found
+abbrev pub found_first : CycleHeap → ℕ → Option Linked
+found_first k w = option_map (linked_in (ground_of k)) (first_in (list_at k.found w))
 
 -- What is grey and what workers found are marked objects, each of which stands in one list and there once; and in a
 -- sweep nothing is left that was found.

@@ -1,16 +1,19 @@
 //! A list of objects as a chain of the links in their records.
 
-ghost use Rattle.std.specs.Prelude.{◌≡◌};
+ghost use Rattle.std.specs.Prelude.{◌≡◌, ◌==◌, if◌then◌else◌};
+ghost use Rattle.std.specs.Option.{option_map};
+ghost use Rattle.ref_objects.specs.Grounds.{linked_in};
 ghost use Rattle.ref_mark.specs.Worklists.{listed_at};
 ghost use Rattle.ref_mark.specs.Chains.{no_chain, chain_first, listed, linked_last, chain_with, chain_without_first};
+ghost use Rattle.ref_mark.specs.Chains.{next_of};
 
 use ref_base::ObjNo;
-use ref_objects::Objects;
+use ref_objects::{Linked, Objects};
 use std::alloc::Allocator;
 
-/// The first and the last object of a list in which each object links to the next. The first is 0 where nothing stands
-/// in it, and the last then says nothing. It takes no memory beside its 8 bytes; whose lists are disjoint can have many
-/// of them over the same objects.
+/// The first and the last object of a list in which each object but the last links to the next. The first is 0 where
+/// nothing stands in it, and the last then says nothing. It takes no memory beside its 8 bytes; whose lists are
+/// disjoint can have many of them over the same objects.
 #[derive(Clone, Copy)]
 pub struct Chain {
     /// The number of the first, or 0.
@@ -27,12 +30,12 @@ impl Chain {
         Chain { first: 0, last: 0 }
     }
 
-    /// One more, last. In logarithmic time.
+    /// One more, last: the one that was last links to it. In logarithmic time.
+    #[inline(always)]
     pub fn push<A: Allocator + Copy>(&mut self, objects: &mut Objects<A>, no: ObjNo)
         ensures links { objects.new ≡ record objects.old { tags = linked_last objects.old.tags self.old no } }
         ensures chain { self.new ≡ chain_with self.old no }
     {
-        objects.set_link(no, 0);
         if self.first == 0 {
             self.first = no.0;
         } else {
@@ -41,17 +44,32 @@ impl Chain {
         self.last = no.0;
     }
 
-    /// Takes the first. In logarithmic time.
-    pub fn take_first<A: Allocator + Copy>(&mut self, objects: &Objects<A>) -> Option<ObjNo>
-        ensures answer { result ≡ chain_first self.old }
+    /// Takes the first, and answers what the list has of it. In logarithmic time.
+    #[inline(always)]
+    pub fn take_first<A: Allocator + Copy>(&mut self, objects: &Objects<A>) -> Option<Linked>
+        ensures answer { result ≡ option_map (linked_in objects.now) (chain_first self.old) }
         ensures after { self.new ≡ chain_without_first objects.now.tags self.old }
     {
         if self.first == 0 {
             return None;
         }
-        let no = ObjNo(self.first);
-        self.first = objects.link_of(no);
-        Some(no)
+        let linked = objects.linked_of(ObjNo(self.first));
+        self.first = if self.first == self.last {
+            0
+        } else {
+            linked.link
+        };
+        Some(linked)
+    }
+
+    /// The number of the one that stands behind this one, or 0 behind the last. In logarithmic time.
+    pub fn next<A: Allocator + Copy>(&self, objects: &Objects<A>, no: u32) -> u32
+        ensures { result ≡ next_of objects.now.tags self.now.last no }
+    {
+        if no == self.last {
+            return 0;
+        }
+        objects.link_of(ObjNo(no))
     }
 
     /// That at this place, from 0 on. In logarithmic time for each place before it.
@@ -66,7 +84,7 @@ impl Chain {
             if no == 0 {
                 return None;
             }
-            no = objects.link_of(ObjNo(no));
+            no = self.next(objects, no);
         }
         if no == 0 { None } else { Some(ObjNo(no)) }
     }

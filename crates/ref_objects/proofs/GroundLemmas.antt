@@ -11,12 +11,14 @@ use Rattle.ref_objects.proofs.Common.{Tabled, Table, tabled_at, objects_of, hold
 use Rattle.ref_objects.proofs.Common.{is_unheld, on_object, more_held, less_held, changed, changed_tabled, made_entry}
 use Rattle.ref_objects.proofs.Common.{with_tabled, AllUpTo, kind_by, least_from, seen_ground, IsSoundGround, one_fewer}
 use Rattle.ref_objects.proofs.Common.{tags_of}
-use Rattle.ref_base.specs.Heaps.{reference_in, with_changed, with_hold, without_hold}
+use Rattle.ref_base.specs.Heaps.{reference_in, with_changed, changed_at, with_reference, cleared, with_hold}
+use Rattle.ref_base.specs.Heaps.{without_hold}
 use Rattle.ref_base.specs.Refusals.{field_count, object_refusal}
 use Rattle.ref_base.specs.declared.fault.Fault.TheVariants.{NoCell}
 use Rattle.ref_objects.specs.Tables.{tabled_fields, tabled_reference, numbers_by, tag_of}
 use Rattle.ref_objects.specs.Tables as table
 use Rattle.ref_objects.specs.Grounds.{Tag, fields_in, kind_in, ground_with_heap, after_freeing, changed_tag}
+use Rattle.ref_objects.specs.Grounds.{with_cleared_tag}
 use Rattle.ref_objects.specs.GroundViews.{heap_of, made_at}
 use Rattle.ref_objects.proofs.TabledLemmas.{object_at-objects_of, is_there-objects_of, objects_of-changed, map-changed}
 use Rattle.ref_objects.proofs.TabledLemmas.{objects_of-without}
@@ -114,6 +116,27 @@ pub seen_tagged : (config : Config) (heap_no : ℕ) (t : Table) (slots : List (O
     ≡ record (seen_ground config heap_no t slots clock next) { tags = changed_tag (tags_of t.tabled) n g }
 seen_tagged config heap_no t slots clock next n f g object holds marked is =
     grind (arith, map-changed, numbers_by-changed, tags_of-changed t.tabled n f g is)
+
+-- an object's reference is cleared, in this cycle
+pub seen_cleared : (config : Config) (heap_no : ℕ) (t : Table) (slots : List (Option ℕ)) (clock next n cycle : ℕ)
+    → seen_ground config heap_no (changed t n (table.cleared_by cycle)) slots clock next
+    ≡ record (seen_ground config heap_no t slots clock next) {
+      heap = with_changed (heap_of config heap_no t slots clock) n (with_reference cleared);
+      tags = with_cleared_tag (tags_of t.tabled) n cycle;
+    }
+seen_cleared config heap_no t slots clock next n cycle =
+    grind (
+      arith,
+      objects_of-cleared,
+      numbers_by-changed,
+      tags_of-changed t.tabled n (table.cleared_by cycle) (λ t. record t { cleared_in = cycle }) (λ k. refl),
+    )
+  where
+    objects_of-cleared : (ks : List Tabled)
+        → objects_of (changed_tabled ks n (table.cleared_by cycle))
+        ≡ changed_at (objects_of ks) n (with_reference cleared)
+    objects_of-cleared [] = refl
+    objects_of-cleared (k ∷ ks) = grind (arith, objects_of-cleared ks)
 
 -- ---- holds
 

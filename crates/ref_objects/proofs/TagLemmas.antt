@@ -7,7 +7,7 @@ use Rattle.ref_objects.proofs.Common.{Reference, Tabled, tabled_at, changed_tabl
 use Rattle.ref_objects.proofs.Common.{numbers, objects_of, tags_of}
 use Rattle.ref_objects.specs.Tables.{tag_of, tabled_cleared_in, tabled_link}
 use Rattle.ref_objects.specs.Grounds.{Tag, cleared_in_at, link_at, with_new_tag, without_tag, changed_tag}
-use Rattle.ref_objects.specs.Grounds.{with_cleared_tag, with_link}
+use Rattle.ref_objects.specs.Grounds.{with_cleared_tag}
 
 pub tags_of-made : (ks : List Tabled) (n count : ℕ) (r : Option Reference)
     → tags_of (ks ++ made_entry n count r ∷ []) ≡ with_new_tag (tags_of ks) n

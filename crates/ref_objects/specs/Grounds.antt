@@ -7,7 +7,7 @@ use Rattle.ref_base.specs.Members.{has, without_first}
 use Rattle.ref_base.specs.Graphs.{Object, Reference, is_there, numbers}
 use Rattle.ref_base.specs.Limits.{is_within_limits}
 use Rattle.ref_base.specs.Orderly.{IsOrderly}
-use Rattle.ref_base.specs.Heaps.{Heap, first_heap, slot_at, with_hold, made, one_more, one_fewer}
+use Rattle.ref_base.specs.Heaps.{Heap, first_heap, slot_at, reference_at, with_hold, made, one_more, one_fewer}
 use Rattle.ref_base.specs.CollectorRows.{without}
 use Rattle.ref_base.specs.Refusals.{unless, has_slot, holds_refusal, hold_refusal as returned_refusal}
 use Rattle.ref_base.specs.declared.config.Config.{Config}
@@ -17,6 +17,7 @@ use Rattle.ref_base.specs.declared.heap_step.HoldName.{HoldName}
 use Rattle.ref_objects.specs.declared.start.Start.{Start}
 use Rattle.ref_objects.specs.declared.kind.Kind.{Kind}
 use Rattle.ref_objects.specs.declared.kind.Kind.TheVariants as kind
+use Rattle.ref_objects.specs.declared.linked.Linked.{Linked}
 
 -- what a heap knows of an object that the model doesn't: of that of this number, its link, which is the number of the
 -- object behind it in the list that it stands in, or 0, and the cycle in which a worker cleared it last, or 0
@@ -124,6 +125,15 @@ cleared_in_at (t ∷ ts) n = if t.no == n then t.cleared_in else cleared_in_at t
 abbrev pub link_at : List Tag → ℕ → ℕ
 link_at [] n = 0
 link_at (t ∷ ts) n = if t.no == n then t.link else link_at ts n
+
+-- what a list has of object n
+abbrev pub linked_in : Ground → ℕ → Linked
+linked_in g n = record {
+  no = n;
+  reference = reference_at g.heap n;
+  link = link_at g.tags n;
+  cleared_in = cleared_in_at g.tags n;
+}
 
 -- the first of these numbers that is at least n: the least, where they are in order
 abbrev pub least_from : List ℕ → ℕ → Option ℕ

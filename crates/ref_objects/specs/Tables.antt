@@ -6,8 +6,9 @@ use Rattle.std.specs.Int.{from_bool}
 use Rattle.ref_base.specs.Members.{without_first}
 use Rattle.ref_base.specs.Graphs.{Object, Reference, numbers}
 use Rattle.ref_base.specs.Strengths.{IsRising}
-use Rattle.ref_base.specs.Heaps.{reference_in}
+use Rattle.ref_base.specs.Heaps.{reference_in, with_reference, cleared}
 use Rattle.ref_objects.specs.Grounds.{fields_in, Tag}
+use Rattle.ref_objects.specs.declared.linked.Linked.{Linked}
 
 -- an object of the table, how many holds of it are out, whether it is marked, its link, which is the number of another
 -- object or 0, and the cycle in which a worker cleared it last, or 0
@@ -209,6 +210,10 @@ tabled_cleared_in (Some k) = k.cleared_in
 abbrev pub with_cleared_in : ℕ → Tabled → Tabled
 with_cleared_in cycle k = record k { cleared_in = cycle }
 
+-- the reference cleared, in this cycle
+abbrev pub cleared_by : ℕ → Tabled → Tabled
+cleared_by cycle k = record k { object = with_reference cleared k.object; cleared_in = cycle }
+
 -- the object's link: 0 where there is none
 abbrev pub tabled_link : Option Tabled → ℕ
 tabled_link None = 0
@@ -217,3 +222,12 @@ tabled_link (Some k) = k.link
 -- linked to this
 abbrev pub linked_to : ℕ → Tabled → Tabled
 linked_to to k = record k { link = to }
+
+-- what a list has of the object of number n
+abbrev pub tabled_linked : ℕ → Option Tabled → Linked
+tabled_linked n k = record {
+  no = n;
+  reference = tabled_reference k;
+  link = tabled_link k;
+  cleared_in = tabled_cleared_in k;
+}

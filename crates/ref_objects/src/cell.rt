@@ -7,9 +7,11 @@ ghost use Rattle.ref_objects.specs.Places.{is_of, is_held_as, is_unmarked_as, un
 ghost use Rattle.ref_objects.specs.Tables.{made_entry, tabled_fields, has_field, tabled_reference, holds_in};
 ghost use Rattle.ref_objects.specs.Tables.{on_object, more_held, less_held};
 ghost use Rattle.ref_objects.specs.Tables.{is_marked_in, is_unmarked_in, with_marked};
-ghost use Rattle.ref_objects.specs.Tables.{tabled_cleared_in, with_cleared_in, tabled_link, linked_to};
+ghost use Rattle.ref_objects.specs.Tables.{tabled_cleared_in, with_cleared_in, cleared_by, tabled_link, linked_to};
+ghost use Rattle.ref_objects.specs.Tables.{tabled_linked};
 
 use crate::fields::Fields;
+use crate::linked::Linked;
 use crate::reference::Reference;
 use ref_base::ObjNo;
 use std::marker::Model;
@@ -193,6 +195,14 @@ impl Cell {
         self.cleared_in = cycle;
     }
 
+    /// Clears the reference, where the object is one, in this cycle.
+    pub(crate) fn clear_in(&mut self, cycle: u64)
+        ensures { self.new ≡ option_map (cleared_by cycle) self.old }
+    {
+        self.cut();
+        self.set_cleared_in(cycle);
+    }
+
     /// The object's link: 0 where it has none, and where there is no object.
     pub(crate) fn link(&self) -> u32
         ensures { result ≡ tabled_link self.now }
@@ -208,6 +218,18 @@ impl Cell {
         ensures { self.new ≡ option_map (linked_to to) self.old }
     {
         self.link = to;
+    }
+
+    /// What a list has of the object, which has this number.
+    pub(crate) fn linked(&self, no: ObjNo) -> Linked
+        ensures { result ≡ tabled_linked no self.now }
+    {
+        Linked {
+            no,
+            reference: self.reference(),
+            link: self.link(),
+            cleared_in: self.cleared_in(),
+        }
     }
 
     /// The cell has no object any more.

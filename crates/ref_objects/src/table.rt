@@ -12,6 +12,7 @@ use crate::fields::Fields;
 use crate::index::{
     Entry, cell_of, close_gaps, first_from, held_from, make_room, place_of, unmarked_from,
 };
+use crate::linked::Linked;
 use crate::reference::Reference;
 use ref_base::{Fault, ObjNo};
 use std::alloc::{AllocError, Allocator, Global};
@@ -55,8 +56,8 @@ impl<A: Allocator + Copy> Table<A> {
     ghost use Rattle.ref_objects.specs.Tables.{on_object, more_held, less_held};
     ghost use Rattle.ref_objects.specs.Tables.{changed, table_freed, made_entry, with_tabled};
     ghost use Rattle.ref_objects.specs.Tables.{is_marked_in, is_unmarked_in, marked_of, unmarked_from, with_marked};
-    ghost use Rattle.ref_objects.specs.Tables.{table_unmarked, tabled_cleared_in, with_cleared_in};
-    ghost use Rattle.ref_objects.specs.Tables.{tabled_link, linked_to};
+    ghost use Rattle.ref_objects.specs.Tables.{table_unmarked, tabled_cleared_in, with_cleared_in, cleared_by};
+    ghost use Rattle.ref_objects.specs.Tables.{tabled_link, linked_to, tabled_linked};
 
     /// A table of no objects, with so many free cells. The one error is `NoMemory`.
     pub(crate) fn new(alloc: A, room: usize) -> Result<Self, Fault>
@@ -204,6 +205,16 @@ impl<A: Allocator + Copy> Table<A> {
         }
     }
 
+    /// Clears the reference of this number in this cycle. Of an object that is none only the cycle is written, and
+    /// nothing changes where there is no such object.
+    pub(crate) fn clear_in(&mut self, no: ObjNo, cycle: u64)
+        ensures { self.new ≡ changed self.old no (cleared_by cycle) }
+    {
+        if let Some(place) = place_of(&self.cells, &self.index, no) {
+            self.cells[place].clear_in(cycle);
+        }
+    }
+
     /// The link of the object of this number: 0 where it has none, and where there is no such object.
     pub(crate) fn link_of(&self, no: ObjNo) -> u32
         ensures { result ≡ tabled_link (tabled_at self.now.tabled no) }
@@ -220,6 +231,21 @@ impl<A: Allocator + Copy> Table<A> {
     {
         if let Some(place) = place_of(&self.cells, &self.index, no) {
             self.cells[place].set_link(to);
+        }
+    }
+
+    /// What a list has of the object of this number: no reference, link or cycle where there is none.
+    pub(crate) fn linked(&self, no: ObjNo) -> Linked
+        ensures { result ≡ tabled_linked no (tabled_at self.now.tabled no) }
+    {
+        match cell_of(&self.cells, &self.index, no) {
+            Some(cell) => cell.linked(no),
+            None => Linked {
+                no,
+                reference: None,
+                link: 0,
+                cleared_in: 0,
+            },
         }
     }
 

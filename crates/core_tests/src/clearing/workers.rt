@@ -5,7 +5,7 @@ use super::Call::{Ask, Collect, Give, Keep, Mutate};
 use super::Collect::{Begin, ClearNext, EndClear, EndMark, EndSweep, Scan, Sweep};
 use super::Give::Hand;
 use super::Keep::{FirstPocket, Hold, Release, SecondPocket};
-use super::Mutate::{CopySlot, DropSlot, New, NewMany, Refer};
+use super::Mutate::{CopySlot, DropSlot, New, NewMany, Refer, Store};
 use super::{TWO_WORKERS, agree};
 use crate::told::Told;
 use ref_base::Cause::Cycle;
@@ -50,6 +50,70 @@ fn each_worker_hands_on_in_its_order_of_clearing(rt: HostRuntime) -> Result<(), 
         (Keep(FirstPocket), Told::Held(6, 1)),
         (Keep(Release), Told::Done),
         (Keep(SecondPocket), Told::Held(4, 1)),
+    ];
+    agree(&rt, rt.alloc(), TWO_WORKERS, &story)
+}
+
+#[test]
+fn a_link_of_an_earlier_cycle_leads_nowhere(rt: HostRuntime) -> Result<(), Fail> {
+    let story = [
+        // Object 4 has 1, to which references 2 and 3 refer, in a field.
+        (Mutate(New(0, 0)), Told::Object(1)),
+        (Mutate(Refer(WEAK, 1, 0, Some(0), 0)), Told::Object(2)),
+        (Mutate(Refer(WEAK, 2, 0, Some(0), 0)), Told::Object(3)),
+        (Mutate(New(3, 1)), Told::Object(4)),
+        (Mutate(Store(3, 0, 0)), Told::Done),
+        (Mutate(DropSlot(0)), Told::Done),
+        (Collect(Begin(1, NORMAL)), Told::Began(1)),
+        (Collect(Scan(0)), Told::Scanned(2)),
+        (Collect(Scan(0)), Told::Scanned(3)),
+        (Collect(Scan(1)), Told::Scanned(4)),
+        (Collect(Scan(1)), Told::Scanned(1)),
+        (Collect(EndMark), Told::Doomed(0)),
+        (Collect(ClearNext(0)), Told::Kept(2)),
+        (Collect(ClearNext(0)), Told::Kept(3)),
+        (Collect(ClearNext(0)), Told::Nothing),
+        (Collect(EndClear), Told::Done),
+        (Collect(EndSweep), Told::Done),
+        // Reference 3 dies, and 2, which linked to it, is found alone.
+        (Mutate(DropSlot(2)), Told::Done),
+        (Collect(Begin(1, NORMAL)), Told::Began(2)),
+        (Collect(Scan(0)), Told::Scanned(2)),
+        (Collect(Scan(1)), Told::Scanned(4)),
+        (Collect(Scan(1)), Told::Scanned(1)),
+        (Collect(EndMark), Told::Doomed(1)),
+        (Collect(ClearNext(0)), Told::Kept(2)),
+        (Collect(ClearNext(0)), Told::Nothing),
+        (Collect(EndClear), Told::Done),
+    ];
+    agree(&rt, rt.alloc(), TWO_WORKERS, &story)
+}
+
+#[test]
+fn what_is_pending_links_to_no_kept_reference(rt: HostRuntime) -> Result<(), Fail> {
+    let story = [
+        // Reference 2 is to 1, and 4 to 3, which object 5 has in a field.
+        (Mutate(New(0, 0)), Told::Object(1)),
+        (Mutate(Refer(WEAK, 1, 0, Some(0), 0)), Told::Object(2)),
+        (Mutate(New(0, 0)), Told::Object(3)),
+        (Mutate(Refer(WEAK, 2, 0, Some(0), 0)), Told::Object(4)),
+        (Mutate(New(3, 1)), Told::Object(5)),
+        (Mutate(Store(3, 0, 0)), Told::Done),
+        (Mutate(DropSlot(0)), Told::Done),
+        (Collect(Begin(1, NORMAL)), Told::Began(1)),
+        (Collect(Scan(1)), Told::Scanned(2)),
+        (Collect(Scan(1)), Told::Scanned(4)),
+        (Collect(Scan(0)), Told::Scanned(5)),
+        (Collect(Scan(0)), Told::Scanned(3)),
+        (Collect(EndMark), Told::Doomed(1)),
+        (Collect(ClearNext(1)), Told::Cleared(2)),
+        (Collect(ClearNext(1)), Told::Kept(4)),
+        (Collect(ClearNext(1)), Told::Nothing),
+        (Ask(PendingOf(1, 0)), Told::Pending(2, 0, 1)),
+        (Ask(PendingOf(1, 1)), Told::Nothing),
+        (Give(Hand(1)), Told::Notice(2, 0, Cycle(1, SECOND_WORKER))),
+        (Keep(Release), Told::Done),
+        (Give(Hand(1)), Told::Nothing),
     ];
     agree(&rt, rt.alloc(), TWO_WORKERS, &story)
 }

@@ -1,16 +1,16 @@
 //! What lies in the cells of a heap: objects found by number, their fields and references, gaps, cells used again.
 
 use super::Ask::{
-    ClearedIn, FieldCount, FieldOf, FirstFrom, HasObject, IsHeld, IsMarked, LinkOf, NextNo,
-    ObjectCount, ReferenceOf, UnmarkedCount, UnmarkedFrom,
+    ClearedIn, FieldCount, FieldOf, FirstFrom, HasObject, IsHeld, IsMarked, KindOf, LinkOf, NextNo,
+    ObjectCount, ReferenceOf, ReferentOf, UnmarkedCount, UnmarkedFrom,
 };
 use super::Call::{Ask, Do, Set};
 use super::Do::{Free, Mark, New, Refer, Store};
-use super::Set::{Cleared, ClockTo, CloseGaps, Cut, Link, Stamp, UnmarkAll};
+use super::Set::{ClearIn, Cleared, ClockTo, CloseGaps, Cut, Link, Stamp, UnmarkAll};
 use super::{agree, agree_from, config};
 use crate::told::Told;
 use ref_base::{Config, Fault, ObjNo, QueueNo, Strength};
-use ref_objects::{Reference, Start};
+use ref_objects::{Kind, Reference, Start};
 use std::test::Fail;
 
 #[test]
@@ -216,6 +216,27 @@ fn a_clear_is_told_till_its_object_goes(rt: HostRuntime) -> Result<(), Fail> {
         (Ask(ClearedIn(1)), Told::Began(0)),
         // It lies in the same cell.
         (Do(New(0, 0)), Told::Object(3)),
+        (Ask(ClearedIn(3)), Told::Began(0)),
+    ];
+    agree(&rt, rt.alloc(), 2, &story)
+}
+
+#[test]
+fn a_reference_is_cleared_in_a_cycle(rt: HostRuntime) -> Result<(), Fail> {
+    let story = [
+        (Do(New(0, 0)), Told::Object(1)),
+        (Do(Refer(Strength::Weak, 1, 0, None, 0)), Told::Object(2)),
+        (Set(Link(2, 1)), Told::Done),
+        (Set(ClearIn(2, 7)), Told::Done),
+        (Ask(ReferentOf(2)), Told::Null),
+        (Ask(ClearedIn(2)), Told::Began(7)),
+        (Ask(LinkOf(2)), Told::Count(1)),
+        // Of a plain object the cycle alone is written.
+        (Set(ClearIn(1, 8)), Told::Done),
+        (Ask(KindOf(1)), Told::Kind(Kind::Plain)),
+        (Ask(ClearedIn(1)), Told::Began(8)),
+        // There is none.
+        (Set(ClearIn(3, 9)), Told::Done),
         (Ask(ClearedIn(3)), Told::Began(0)),
     ];
     agree(&rt, rt.alloc(), 2, &story)

@@ -4,7 +4,7 @@ use super::Ask::ObjectCount;
 use super::Call::{Ask, Do, Keep, Set};
 use super::Do::{CopySlot, DropSlot, Free, Mark, New, Refer, SetSlot, Store};
 use super::Keep::{Adopt, Hold, Mint, Release};
-use super::Set::{Cleared, ClockTo, CloseGaps, Cut, Stamp, UnmarkAll};
+use super::Set::{ClearIn, Cleared, ClockTo, CloseGaps, Cut, Link, Stamp, UnmarkAll};
 use super::{Call, M, config, make_calls};
 use crate::arena::{all_that_is_left, limited};
 use crate::told::Told;
@@ -16,7 +16,7 @@ use std::process::Abort;
 use std::test::Fail;
 
 /// Each call once.
-const EACH_CALL: [(Call, Told); 19] = [
+const EACH_CALL: [(Call, Told); 21] = [
     (Do(New(0, 8)), Told::Object(1)),
     (Do(Refer(Strength::Soft, 1, 0, Some(0), 8)), Told::Object(2)),
     (Do(Store(0, 7, 1)), Told::Done),
@@ -27,6 +27,8 @@ const EACH_CALL: [(Call, Told); 19] = [
     (Set(Stamp(2, 5)), Told::Done),
     (Set(Cut(2)), Told::Done),
     (Set(Cleared(2, 1)), Told::Done),
+    (Set(ClearIn(2, 2)), Told::Done),
+    (Set(Link(2, 1)), Told::Done),
     (Keep(Hold(1)), Told::Held(2, 1)),
     (Keep(Adopt(4)), Told::Object(2)),
     (Keep(Mint(1)), Told::Held(1, 1)),

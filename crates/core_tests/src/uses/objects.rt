@@ -94,6 +94,23 @@ fn a_link_is_told_of_its_object_alone(objects: &mut Objects) -> bool
     objects.link_of(ObjNo(1)) == 2 && objects.link_of(ObjNo(2)) == 0
 }
 
+/// A list has of a reference what was written.
+fn a_list_has_what_was_written(objects: &mut Objects) -> bool
+    requires { objects.old ≡ first_ground CONFIG 1 1 }
+    ensures { result ≡ true }
+{
+    let _made = objects.alloc_obj(MutNo(0), SlotNo(0), 0);
+    let _refers = objects.alloc_ref(MutNo(0), SlotNo(1), Strength::Weak, SlotNo(0), None, 0);
+    objects.set_link(ObjNo(2), 1);
+    objects.clear_in(ObjNo(2), 7);
+    let linked = objects.linked_of(ObjNo(2));
+    linked.no.0 == 2
+        && linked.reference.is_some()
+        && objects.referent_of(ObjNo(2)).is_none()
+        && linked.link == 1
+        && linked.cleared_in == 7
+}
+
 /// A hold is counted once, and no more once it is released.
 fn a_hold_is_counted_till_its_release(objects: &mut Objects) -> bool
     requires { objects.old ≡ first_ground CONFIG 1 1 }
@@ -168,6 +185,10 @@ fn what_callers_of_objects_see(rt: HostRuntime) {
         (
             "a link is told of its object alone",
             a_link_is_told_of_its_object_alone(&mut heap(&rt, alloc, 1)),
+        ),
+        (
+            "a list has what was written",
+            a_list_has_what_was_written(&mut heap(&rt, alloc, 1)),
         ),
         (
             "a hold is counted till its release",

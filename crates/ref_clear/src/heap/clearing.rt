@@ -19,10 +19,11 @@ impl<A: Allocator + Copy> Heap<A> {
     pub fn clear_next(&mut self, worker: WorkerNo) -> Result<Option<Looked>, Fault>
         ensures { HeapDoes self.old (Plain (ClearNext worker)) (reply_of looked_reply result) self.new }
     {
-        let Some(no) = self.marker.take_found(worker)? else {
+        let Some(found) = self.marker.take_found(worker)? else {
             return Ok(None);
         };
-        let Some(reference) = self.marker.objects().reference_of(no) else {
+        let no = found.no;
+        let Some(reference) = found.reference else {
             return Ok(Some(Looked::Skipped(no)));
         };
         let Some(referent) = reference.referent else {

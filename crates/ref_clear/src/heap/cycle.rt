@@ -62,6 +62,6 @@ fn shade_listed<A: Allocator + Copy>(marker: &mut Marker<A>, list: &Chain)
             return;
         }
         marker.grey_root(ObjNo(next));
-        next = marker.objects().link_of(ObjNo(next));
+        next = list.next(marker.objects(), next);
     }
 }

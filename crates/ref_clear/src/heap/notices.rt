@@ -22,10 +22,10 @@ impl<A: Allocator + Copy> Heap<A> {
             return Err(Fault::NoSuchActor);
         }
         let mut list = self.pending[worker.0 as usize];
-        let Some(no) = list.take_first(self.marker.objects()) else {
+        let Some(linked) = list.take_first(self.marker.objects()) else {
             return Ok(None);
         };
-        let first = Pending::of(&self.marker, no);
+        let first = Pending::of(linked);
         let hold = self.marker.mint(first.object)?;
         self.pending[worker.0 as usize] = list;
         let cause = Cause::Cycle(first.cycle, worker);

@@ -4,17 +4,17 @@ ghost use Rattle.std.specs.Prelude.{◌≡◌, ◌==◌, IfOk, not, true, false}
 ghost use Rattle.ref_base.specs.Members.{has};
 ghost use Rattle.ref_base.specs.Heaps.{with_changed, with_reference, cleared};
 ghost use Rattle.ref_base.specs.Collectors.{joined};
-ghost use Rattle.ref_base.specs.CollectorRows.{list_at};
 ghost use Rattle.ref_base.specs.Refusals.{is_empty, work_refusal};
 ghost use Rattle.ref_objects.specs.Grounds.{IsRefused, if_done, least_from, with_cleared_tag};
-ghost use Rattle.ref_mark.specs.Worklists.{first_in};
 ghost use Rattle.ref_mark.specs.Chains.{linked_last, chain_with};
 ghost use Rattle.ref_mark.specs.CycleHeaps.{shaded, cycle_in_phase, with_found_taken, doomed, is_due};
 ghost use Rattle.ref_mark.specs.CycleHeaps.{is_swept, swept, is_past_mark};
+ghost use Rattle.ref_mark.specs.MarkViews.{found_first};
 
 use super::Marker;
 use crate::chain::Chain;
 use ref_base::{Fault, ObjNo, Phase, WorkerNo};
+use ref_objects::Linked;
 use std::alloc::Allocator;
 
 impl<A: Allocator + Copy> Marker<A> {
@@ -41,10 +41,10 @@ impl<A: Allocator + Copy> Marker<A> {
     }
 
     /// Takes the first reference that a worker found and that wasn't looked at since; none where there is none. Tried
-    /// in this order: `NoSuchActor`, `WrongPhase` but in Clearing. In logarithmic time.
-    pub fn take_found(&mut self, worker: WorkerNo) -> Result<Option<ObjNo>, Fault>
+    /// in this order: `NoSuchActor`, `WrongPhase` but in Clearing. By one search.
+    pub fn take_found(&mut self, worker: WorkerNo) -> Result<Option<Linked>, Fault>
         ensures refused { IsRefused (work_refusal self.old.heap self.old.phase Phase.Clearing worker) result }
-        ensures answer { IfOk result (λ taken. taken ≡ first_in (list_at self.old.found worker)) }
+        ensures answer { IfOk result (λ taken. taken ≡ found_first self.old worker) }
         ensures after { self.new ≡ if_done result (with_found_taken self.old worker) self.old }
     {
         self.check_work(worker, Phase::Clearing)?;
@@ -62,21 +62,19 @@ impl<A: Allocator + Copy> Marker<A> {
     }
 
     /// Clears the reference of this number, for a worker, in this cycle; nothing changes where there is no such object.
-    /// In logarithmic time.
+    /// By one search.
     pub fn cut(&mut self, no: ObjNo)
         ensures { self.new ≡ record self.old {
           heap = with_changed self.old.heap no (with_reference cleared);
           tags = with_cleared_tag self.old.tags no self.old.cycle;
         } }
     {
-        self.objects.cut(no);
-        self.objects.set_cleared_in(no, self.cycle);
+        self.objects.clear_in(no, self.cycle);
     }
 
-    /// One more in a list of the layer above, last; it has none of what workers found. In logarithmic time.
+    /// One more in a list of the layer above, last; its last is none of what workers found. In logarithmic time.
     pub fn list_last(&mut self, chain: &mut Chain, no: ObjNo)
-        requires new { has (joined self.old.found) no ≡ false }
-        requires apart { (chain.old.first == 0) ≡ false → has (joined self.old.found) chain.old.last ≡ false }
+        requires { (chain.old.first == 0) ≡ false → has (joined self.old.found) chain.old.last ≡ false }
         ensures links { self.new ≡ record self.old { tags = linked_last self.old.tags chain.old no } }
         ensures chain { chain.new ≡ chain_with chain.old no }
     {

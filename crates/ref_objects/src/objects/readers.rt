@@ -7,11 +7,12 @@ ghost use Rattle.ref_base.specs.Heaps.{slot_at, reference_at, registered_in};
 ghost use Rattle.ref_base.specs.CollectorRows.{referent_of};
 ghost use Rattle.ref_base.specs.Refusals.{drop_refusal};
 ghost use Rattle.ref_objects.specs.Grounds.{IsRefused, fields_in, kind_in, stamp_in, least_from, IsWellFormed};
-ghost use Rattle.ref_objects.specs.Grounds.{cleared_in_at, link_at};
+ghost use Rattle.ref_objects.specs.Grounds.{cleared_in_at, link_at, linked_in};
 
 use super::Objects;
 use crate::fields::Fields;
 use crate::kind::Kind;
+use crate::linked::Linked;
 use crate::reference::Reference;
 use ref_base::{Config, Fault, MutNo, ObjNo, QueueNo, SlotNo};
 use std::alloc::Allocator;
@@ -163,6 +164,14 @@ impl<A: Allocator + Copy> Objects<A> {
         ensures { result ≡ link_at self.now.tags no }
     {
         self.table.link_of(no)
+    }
+
+    /// What a list has of the object of this number: no reference, link or cycle where there is no such object. By one
+    /// search.
+    pub fn linked_of(&self, no: ObjNo) -> Linked
+        ensures { result ≡ linked_in self.now no }
+    {
+        self.table.linked(no)
     }
 
     /// The least number from this one on of an object that is there. In logarithmic time, and that of the gaps that

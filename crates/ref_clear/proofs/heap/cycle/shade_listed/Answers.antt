@@ -1,6 +1,7 @@
 use Rattle.std.proofs.Common.{◌≡◌, ◌-◌, ◌+◌, ◌<◌, ◌≤◌, refl, sym, ap, subst, ◌∙◌, arith}
 use Rattle.std.proofs.lemmas.Bool.{eq-eqb, ne_eqb}
-use Rattle.ref_objects.specs.Grounds.{Ground, link_at}
+use Rattle.ref_objects.specs.Grounds.{Ground}
+use Rattle.ref_mark.specs.Chains.{next_of}
 use Rattle.ref_clear.proofs.Common.{CycleHeap, shaded_all, walk}
 use Rattle.ref_clear.proofs.ShadedLists.{IsShading, shading_more, shading_done, shading_all}
 use Rattle.ref_clear.proofs.heap.cycle.shade_listed.Goals as goal
@@ -10,7 +11,7 @@ loop-step-init g c =
     let start : CycleHeap = c.args.marker.now in
     let all : start.heap.config.cells - 0 ≡ start.heap.config.cells = omega arith in
     record {
-      shades = ap (λ count. shaded_all start (walk start.tags count c.args.list.now.first)) all;
+      shades = ap (λ count. shaded_all start (walk start.tags c.args.list.now.last count c.args.list.now.first)) all;
       tags = refl;
       heap = refl;
     }
@@ -25,12 +26,13 @@ loop-step-preserved g c =
     (start.heap.config.cells - (c.loop-step._step + 1)) c.loop-step.next (omega (arith, size))
     (ne_eqb c.loop-step.next 0 c.if-next-eq0.false) c.loop-step.invariant in
     let now : IsShading start c.grey_root.new.self c.args.list.now (start.heap.config.cells - (c.loop-step._step + 1))
-    (link_at start.tags c.loop-step.next) =
+    (next_of start.tags c.args.list.now.last c.loop-step.next) =
     subst (λ (k : CycleHeap). IsShading start k c.args.list.now (start.heap.config.cells - (c.loop-step._step + 1))
-    (link_at start.tags c.loop-step.next)) (sym c.grey_root.ensures) more in
-    let next : c.link_of-next.result ≡ link_at start.tags c.loop-step.next =
-    c.link_of-next.ensures ∙ ap (λ (h : Ground). link_at h.tags c.loop-step.next) c.objects-in-loop-step.ensures
-    ∙ ap (λ ts. link_at ts c.loop-step.next) now.tags in
+    (next_of start.tags c.args.list.now.last c.loop-step.next)) (sym c.grey_root.ensures) more in
+    let next : c.next-next.result ≡ next_of start.tags c.args.list.now.last c.loop-step.next =
+    c.next-next.ensures
+    ∙ ap (λ (h : Ground). next_of h.tags c.args.list.now.last c.loop-step.next) c.objects-in-loop-step.ensures
+    ∙ ap (λ ts. next_of ts c.args.list.now.last c.loop-step.next) now.tags in
     rw next now
 
 pub returns-then-next-eq0 : goal.returns-then-next-eq0

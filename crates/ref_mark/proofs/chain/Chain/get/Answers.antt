@@ -8,11 +8,11 @@ returns-then-place-config g c = grind (arith, listed_at-past)
 
 pub returns-then-no-eq0 : goal.returns-then-no-eq0
 returns-then-no-eq0 g c =
-    sym (c.loop-step.invariant ∙ listed_at-none _ _ _ _ (eq-eqb c.loop-step.no 0 c.if-no-eq0.true))
+    sym (c.loop-step.invariant ∙ listed_at-none _ _ _ _ _ (eq-eqb c.loop-step.no 0 c.if-no-eq0.true))
 
 pub returns-then-no-eq0-2 : goal.returns-then-no-eq0-2
 returns-then-no-eq0-2 g c =
-    sym (c.loop-step.invariant ∙ listed_at-none _ _ _ _ (eq-eqb c.loop-step.no 0 c.if-no-eq0-2.true))
+    sym (c.loop-step.invariant ∙ listed_at-none _ _ _ _ _ (eq-eqb c.loop-step.no 0 c.if-no-eq0-2.true))
 
 pub returns-else-no-eq0-2 : goal.returns-else-no-eq0-2
 returns-else-no-eq0-2 g c = grind arith

@@ -6,11 +6,11 @@ use Rattle.ref_mark.proofs.marker.Marker.cut.Goals as goal
 pub invariant_of-self : goal.invariant_of-self
 invariant_of-self g c =
     sound_cut c.args.no c.self.inside.cycle (with_changed c.self.inside.objects.heap c.args.no (with_reference cleared))
-    refl (rw c.cut.ensures at c.set_cleared_in.ensures) c.self.invariant
+    refl c.clear_in.ensures c.self.invariant
 
 pub returns : goal.returns
 returns g c =
     rw (← c.self.view_is)
     (seen_cut c.args.no c.self.inside.cycle
     (with_changed c.self.inside.objects.heap c.args.no (with_reference cleared)) refl
-    (rw c.cut.ensures at c.set_cleared_in.ensures) c.self.invariant c.self.inside.policy c.self.inside.cycle)
+    c.clear_in.ensures c.self.invariant c.self.inside.policy c.self.inside.cycle)

@@ -6,18 +6,16 @@ use Rattle.ref_mark.proofs.marker.Marker.list_last.Goals as goal
 pub invariant_of-self : goal.invariant_of-self
 invariant_of-self g c =
     sound_linked c.args.chain.now c.args.no c.push.ensures.links
-    (subst (λ (k : CycleHeap). has (joined k.found) c.args.no ≡ false) (sym c.self.view_is) c.requires.new)
     (subst (λ (k : CycleHeap). (c.args.chain.now.first == 0) ≡ false → has (joined k.found)
     c.args.chain.now.last ≡ false)
-    (sym c.self.view_is) c.requires.apart)
+    (sym c.self.view_is) c.requires)
     c.self.invariant
 
 pub returns-clause-links : goal.returns-clause-links
 returns-clause-links g c =
     rw (← c.self.view_is)
     (seen_linked c.args.chain.now c.args.no c.push.ensures.links
-    (subst (λ (k : CycleHeap). has (joined k.found) c.args.no ≡ false) (sym c.self.view_is) c.requires.new)
     (subst (λ (k : CycleHeap). (c.args.chain.now.first == 0) ≡ false → has (joined k.found)
     c.args.chain.now.last ≡ false)
-    (sym c.self.view_is) c.requires.apart)
+    (sym c.self.view_is) c.requires)
     c.self.invariant c.self.inside.policy c.self.inside.cycle)

@@ -1,6 +1,6 @@
 use Rattle.std.proofs.Common.{◌≡◌, ◌<◌, ℕ, ◌∙◌}
 use Rattle.ref_mark.proofs.Common.{Clearing, CycleHeap}
-use Rattle.ref_mark.proofs.MarkerLemmas.{worker_within, first_found, sound_taken, seen_taken}
+use Rattle.ref_mark.proofs.MarkerLemmas.{worker_within, first_told, sound_taken, seen_taken}
 use Rattle.ref_mark.proofs.marker.Marker.take_found.Goals as goal
 
 -- the worker is one of the heap's, by the fields of both
@@ -22,7 +22,8 @@ returns-clause-answer g c =
     (worker_within c.args.self.now.heap c.args.self.now.phase Clearing c.args.worker c.in_ok-check_work.ensures) in
     rw (← c.self.view_is, ← c.worker.view_is)
     (c.take_first-first.ensures.answer
-    ∙ first_found c.worker.inside.0 worker c.index.ensures c.take_first-first.ensures.after c.self.invariant)
+    ∙ first_told c.worker.inside.0 worker c.index.ensures c.take_first-first.ensures.after c.self.invariant
+    c.self.inside.policy c.self.inside.cycle)
 
 pub returns-clause-after : goal.returns-clause-after
 returns-clause-after g c =
