@@ -179,6 +179,20 @@ fn what_callers_of_objects_see(rt: HostRuntime) {
             a_soft_reference_has_its_stamp_and_queue(&mut heap(&rt, alloc, 1)),
         ),
         (
+            "a hold is counted till its release",
+            a_hold_is_counted_till_its_release(&mut heap(&rt, alloc, 1)),
+        ),
+    ];
+    for (fact, holds) in facts {
+        assert!(rt; holds, "{fact}");
+    }
+}
+
+#[test]
+fn what_lists_see_of_objects(rt: HostRuntime) {
+    let alloc = rt.alloc();
+    let facts = [
+        (
             "a clear is told of its object alone",
             a_clear_is_told_of_its_object_alone(&mut heap(&rt, alloc, 1)),
         ),
@@ -189,10 +203,6 @@ fn what_callers_of_objects_see(rt: HostRuntime) {
         (
             "a list has what was written",
             a_list_has_what_was_written(&mut heap(&rt, alloc, 1)),
-        ),
-        (
-            "a hold is counted till its release",
-            a_hold_is_counted_till_its_release(&mut heap(&rt, alloc, 1)),
         ),
     ];
     for (fact, holds) in facts {
