@@ -119,7 +119,7 @@ seen_tagged config heap_no t slots clock next n f g object holds marked is =
 
 -- an object's reference is cleared, in this cycle
 pub seen_cleared : (config : Config) (heap_no : ℕ) (t : Table) (slots : List (Option ℕ)) (clock next n cycle : ℕ)
-    → seen_ground config heap_no (changed t n (table.cleared_by cycle)) slots clock next
+    → seen_ground config heap_no (changed t n (table.cleared_tabled cycle)) slots clock next
     ≡ record (seen_ground config heap_no t slots clock next) {
       heap = with_changed (heap_of config heap_no t slots clock) n (with_reference cleared);
       tags = with_cleared_tag (tags_of t.tabled) n cycle;
@@ -129,11 +129,11 @@ seen_cleared config heap_no t slots clock next n cycle =
       arith,
       objects_of-cleared,
       numbers_by-changed,
-      tags_of-changed t.tabled n (table.cleared_by cycle) (λ t. record t { cleared_in = cycle }) (λ k. refl),
+      tags_of-changed t.tabled n (table.cleared_tabled cycle) (λ t. record t { cleared_in = cycle }) (λ k. refl),
     )
   where
     objects_of-cleared : (ks : List Tabled)
-        → objects_of (changed_tabled ks n (table.cleared_by cycle))
+        → objects_of (changed_tabled ks n (table.cleared_tabled cycle))
         ≡ changed_at (objects_of ks) n (with_reference cleared)
     objects_of-cleared [] = refl
     objects_of-cleared (k ∷ ks) = grind (arith, objects_of-cleared ks)

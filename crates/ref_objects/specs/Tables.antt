@@ -211,8 +211,8 @@ abbrev pub with_cleared_in : ℕ → Tabled → Tabled
 with_cleared_in cycle k = record k { cleared_in = cycle }
 
 -- the reference cleared, in this cycle
-abbrev pub cleared_by : ℕ → Tabled → Tabled
-cleared_by cycle k = record k { object = with_reference cleared k.object; cleared_in = cycle }
+abbrev pub cleared_tabled : ℕ → Tabled → Tabled
+cleared_tabled cycle k = record k { object = with_reference cleared k.object; cleared_in = cycle }
 
 -- the object's link: 0 where there is none
 abbrev pub tabled_link : Option Tabled → ℕ

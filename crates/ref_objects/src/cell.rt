@@ -7,7 +7,7 @@ ghost use Rattle.ref_objects.specs.Places.{is_of, is_held_as, is_unmarked_as, un
 ghost use Rattle.ref_objects.specs.Tables.{made_entry, tabled_fields, has_field, tabled_reference, holds_in};
 ghost use Rattle.ref_objects.specs.Tables.{on_object, more_held, less_held};
 ghost use Rattle.ref_objects.specs.Tables.{is_marked_in, is_unmarked_in, with_marked};
-ghost use Rattle.ref_objects.specs.Tables.{tabled_cleared_in, with_cleared_in, cleared_by, tabled_link, linked_to};
+ghost use Rattle.ref_objects.specs.Tables.{tabled_cleared_in, with_cleared_in, cleared_tabled, tabled_link, linked_to};
 ghost use Rattle.ref_objects.specs.Tables.{tabled_linked};
 
 use crate::fields::Fields;
@@ -197,7 +197,7 @@ impl Cell {
 
     /// Clears the reference, where the object is one, in this cycle.
     pub(crate) fn clear_in(&mut self, cycle: u64)
-        ensures { self.new ≡ option_map (cleared_by cycle) self.old }
+        ensures { self.new ≡ option_map (cleared_tabled cycle) self.old }
     {
         self.cut();
         self.set_cleared_in(cycle);

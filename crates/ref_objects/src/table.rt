@@ -56,7 +56,7 @@ impl<A: Allocator + Copy> Table<A> {
     ghost use Rattle.ref_objects.specs.Tables.{on_object, more_held, less_held};
     ghost use Rattle.ref_objects.specs.Tables.{changed, table_freed, made_entry, with_tabled};
     ghost use Rattle.ref_objects.specs.Tables.{is_marked_in, is_unmarked_in, marked_of, unmarked_from, with_marked};
-    ghost use Rattle.ref_objects.specs.Tables.{table_unmarked, tabled_cleared_in, with_cleared_in, cleared_by};
+    ghost use Rattle.ref_objects.specs.Tables.{table_unmarked, tabled_cleared_in, with_cleared_in, cleared_tabled};
     ghost use Rattle.ref_objects.specs.Tables.{tabled_link, linked_to, tabled_linked};
 
     /// A table of no objects, with so many free cells. The one error is `NoMemory`.
@@ -208,7 +208,7 @@ impl<A: Allocator + Copy> Table<A> {
     /// Clears the reference of this number in this cycle. Of an object that is none only the cycle is written, and
     /// nothing changes where there is no such object.
     pub(crate) fn clear_in(&mut self, no: ObjNo, cycle: u64)
-        ensures { self.new ≡ changed self.old no (cleared_by cycle) }
+        ensures { self.new ≡ changed self.old no (cleared_tabled cycle) }
     {
         if let Some(place) = place_of(&self.cells, &self.index, no) {
             self.cells[place].clear_in(cycle);
