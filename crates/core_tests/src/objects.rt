@@ -6,7 +6,7 @@ mod stories;
 
 use crate::hand::{adopted, leak, released, shown, taken};
 use crate::told::{Told, done, expect, found, is, kind, made, queue, value, value_or_fault};
-use ref_base::{Config, MutNo, ObjNo, QueueNo, SlotNo, Strength};
+use ref_base::{Config, Fault, MutNo, ObjNo, QueueNo, SlotNo, Strength};
 use ref_objects::{Hold, Objects, Reference, Start};
 use std::alloc::{Allocator, Global};
 use std::mem;
@@ -40,6 +40,15 @@ enum Do {
     Store(u32, u32, u32),
     /// Into this slot what this one holds.
     CopySlot(u32, u32),
+    /// Into this slot what the object in this one has in this field.
+    Load(u32, u32, u32),
+    /// Into this slot the referent of the reference in this one, null where it isn't marked if that is told.
+    Get(u32, u32, bool),
+    /// The reference in this slot, but where its referent isn't marked if that is told.
+    CutIn(u32, bool),
+    MarkSlot(u32),
+    /// The slot at this place.
+    MarkSlotAt(usize),
     DropSlot(u32),
     SetSlot(u32, Option<u32>),
     Free(u32),
@@ -71,8 +80,12 @@ enum Ask {
     ObjectCount,
     HoldCount,
     SlotCount,
-    SlotAt(usize),
+    SlotAt(u32),
     SlotOf(u32),
+    /// The reference in this slot.
+    ReferenceIn(u32),
+    /// Its referent, null where it isn't marked if that is told.
+    ReferentIn(u32, bool),
     HasObject(u32),
     KindOf(u32),
     FieldCount(u32),
@@ -109,10 +122,18 @@ enum Keep {
     Hand,
 }
 
-fn slot_at<A: Allocator + Copy>(heap: &Objects<A>, place: usize) -> Told {
-    match heap.slots().get(place) {
-        Some(slot) => value(*slot),
-        None => Told::Nothing,
+/// The slots of all mutators have places, 16 of each mutator.
+fn slot_at<A: Allocator + Copy>(heap: &Objects<A>, place: u32) -> Told {
+    match heap.slot_of(MutNo(place / 16), SlotNo(place % 16)) {
+        Ok(slot) => value(slot),
+        Err(_) => Told::Nothing,
+    }
+}
+
+fn found_or_fault(answer: Result<Option<ObjNo>, Fault>) -> Told {
+    match answer {
+        Ok(answer) => found(answer),
+        Err(fault) => Told::Refused(fault),
     }
 }
 
@@ -133,6 +154,20 @@ fn changed<A: Allocator + Copy>(heap: &mut Objects<A>, call: Do) -> Told {
         }
         Do::Store(slot, field, source) => done(heap.store(M, SlotNo(slot), field, SlotNo(source))),
         Do::CopySlot(slot, source) => value_or_fault(heap.copy(M, SlotNo(slot), SlotNo(source))),
+        Do::Load(slot, source, field) => {
+            value_or_fault(heap.load(M, SlotNo(slot), SlotNo(source), field))
+        }
+        Do::Get(slot, source, hides) => {
+            value_or_fault(heap.get(M, SlotNo(slot), SlotNo(source), hides))
+        }
+        Do::CutIn(slot, spares) => done(heap.cut_in(M, SlotNo(slot), spares)),
+        Do::MarkSlot(slot) => found_or_fault(heap.mark_slot(M, SlotNo(slot))),
+        Do::MarkSlotAt(place) => {
+            if place >= heap.slot_count() {
+                return Told::Nothing;
+            }
+            found(heap.mark_slot_at(place))
+        }
         Do::DropSlot(slot) => done(heap.drop_slot(M, SlotNo(slot))),
         Do::SetSlot(slot, no) => done(heap.set_slot(M, SlotNo(slot), no.map(|no| ObjNo(no)))),
         Do::Free(no) => is(heap.free(ObjNo(no))),
@@ -162,9 +197,14 @@ fn asked<A: Allocator + Copy>(heap: &Objects<A>, call: Ask) -> Told {
         Ask::NextNo => Told::Next(heap.next_no()),
         Ask::ObjectCount => Told::Count(heap.object_count() as u64),
         Ask::HoldCount => Told::Count(heap.hold_count()),
-        Ask::SlotCount => Told::Count(heap.slots().len() as u64),
+        Ask::SlotCount => Told::Count(heap.slot_count() as u64),
         Ask::SlotAt(place) => slot_at(heap, place),
         Ask::SlotOf(slot) => value_or_fault(heap.slot_of(M, SlotNo(slot))),
+        Ask::ReferenceIn(slot) => match heap.reference_in(M, SlotNo(slot)) {
+            Ok((no, _)) => Told::Found(no.0),
+            Err(fault) => Told::Refused(fault),
+        },
+        Ask::ReferentIn(slot, hides) => value_or_fault(heap.referent_in(M, SlotNo(slot), hides)),
         Ask::HasObject(no) => is(heap.has_object(ObjNo(no))),
         Ask::KindOf(no) => kind(heap.kind_of(ObjNo(no))),
         Ask::FieldCount(no) => Told::Count(heap.fields_of(ObjNo(no)).len() as u64),

@@ -30,9 +30,7 @@ module _ {k j : CycleHeap} {lists : List (List ℕ)} {swept_to now : ℕ} {how :
         → j ≡ unless_refused refused (λ f. k) (cycle_begun k now how)
         → with_mark (seen_lists k lists) (shaded_all j (pending_numbers (seen_lists k lists).pending))
         ≡ unless_refused refused (λ f. seen_lists k lists) (begun_with (seen_lists k lists) now how)
-    begun_by None answer after =
-        ap (λ (h : CycleHeap).
-        with_mark (seen_lists k lists) (shaded_all h (pending_numbers (seen_lists k lists).pending))) after
+    begun_by None answer after = cc
     begun_by (Some first) answer after = absurd (cc)
 
     shades_lists : i ≡ shaded_all j (joined lists)

@@ -1,13 +1,14 @@
 -- What holds of a heap, its chains among it, goes on holding by the steps of marking and as phases end.
+use Rattle.std.proofs.Common.{arith}
 use Rattle.std.proofs.Common.{◌≡◌, ℕ, true, false, not, refl, sym, ap, subst, ◌∙◌, List, [], Option, Some, None}
-use Rattle.ref_clear.proofs.Common.{has, joined, NamedStep, Reply, is_in, is_empty, work_refusal, Fault, Urgency}
+use Rattle.ref_clear.proofs.Common.{joined, NamedStep, Reply, is_in, is_empty, work_refusal, Fault, Urgency}
 use Rattle.ref_clear.proofs.Common.{CycleHeap, Clearing, Idle, Sweeping, shaded_all, cycle_in_phase, doomed}
-use Rattle.ref_clear.proofs.Common.{ClearHeap, with_mark, answer_in, after_in, refusal_in, swept_some, Chain, lists_in}
+use Rattle.ref_clear.proofs.Common.{ClearHeap, with_mark, answer_in, after_in, swept_some, Chain, lists_in}
 use Rattle.ref_clear.proofs.Common.{seen_heap, seen_lists, IsSoundHeap, MaySweep}
 use Rattle.ref_base.specs.declared.heap_step.HeapStep.TheVariants as heap
 use Rattle.ref_base.specs.declared.plain_step.PlainStep.TheVariants as plain
 use Rattle.ref_base.specs.declared.reply.Reply.TheVariants as replies
-use Rattle.ref_mark.specs.MarkCalls.{MarkerDoes, answer_in_cycle, after_in_cycle, refusal_in_cycle}
+use Rattle.ref_mark.specs.MarkCalls.{MarkerDoes, answer_in_cycle, after_in_cycle}
 use Rattle.ref_clear.proofs.Common.{Heap, unless_refused, cycle_begun}
 use Rattle.ref_clear.proofs.KeptReferences.{begun-heap}
 use Rattle.ref_clear.specs.ClearCalls.{HeapDoes}
@@ -30,12 +31,7 @@ begin_config k now how (Some fault) = refl
 module _ {k : CycleHeap} {chains : List Chain} {swept_to : ℕ} (sound : IsSoundHeap k chains swept_to) where
   -- nothing pending has a referent, or is found
   pub none_found : AreCleared (joined (lists_in k chains)) k
-  none_found = record {
-    cleared = λ n within.
-        sound.lists.stands.1.waiting.cleared n
-        (ap (λ ns. has ns n) (pending_numbers-seen k.heap.objects k.tags (lists_in k chains)) ∙ within);
-    apart = sound.apart;
-  }
+  none_found = grind (arith, pending_numbers-seen)
 
   -- ---- a step of marking
 
@@ -69,23 +65,16 @@ module _ {k : CycleHeap} {chains : List Chain} {swept_to : ℕ} (sound : IsSound
     module _ {fault : Fault} (does : MarkerDoes k (heap.Plain (plain.Begin now how)) (replies.Refused fault) j) where
       pub does_refused : {d : ClearHeap} → seen_heap k chains ≡ d
           → HeapDoes d (heap.Plain (plain.Begin now how)) (replies.Refused fault) (seen_heap j chains)
-      does_refused view =
-          does_marked does refl
-          (refused_by sound.lists does (refusal_in (seen_heap k chains) (heap.Plain (plain.Begin now how))) does.answer)
-          refl view
+      does_refused view = search (does_marked, refused_by)
 
       pub sound_refused : IsSoundHeap j chains swept_to
-      sound_refused =
-          sound_marked does refl
-          (refused_by sound.lists does (refusal_in (seen_heap k chains) (heap.Plain (plain.Begin now how))) does.answer)
+      sound_refused = search (sound_marked, refused_by)
 
     -- and else the pending references are shaded
     module _ {n : ℕ} {i : CycleHeap} (does : MarkerDoes k (heap.Plain (plain.Begin now how)) (replies.Cycle n) j)
         (shades : i ≡ shaded_all j (joined (lists_in j chains))) where
       config : j.heap.config ≡ k.heap.config
-      config =
-          ap (λ (h : CycleHeap). h.heap.config) does.after
-          ∙ begin_config k now how (refusal_in_cycle k (heap.Plain (plain.Begin now how)))
+      config = grind (arith, begin_config)
 
       keeps : KeepsLinks k j (joined (lists_in k chains))
       keeps =
@@ -110,9 +99,7 @@ module _ {k : CycleHeap} {chains : List Chain} {swept_to : ℕ} (sound : IsSound
           (begun_lists sound.lists does shades (chains_stay config keeps sound) view)
 
       pub sound_begun : IsSoundHeap i chains swept_to
-      sound_begun =
-          sound_still begun_config begun_keeps sound swept_to
-          (sound_begun_lists sound.lists does shades (chains_stay config keeps sound))
+      sound_begun = search (sound_still, begun_config, begun_keeps, sound_begun_lists, chains_stay, config, keeps)
 
   -- ---- the ends of phases
 
@@ -139,10 +126,7 @@ module _ {k : CycleHeap} {chains : List Chain} {swept_to : ℕ} (sound : IsSound
     may_free = may_free_lists w none sound.lists
 
     swept_keeps : KeepsLinks k (swept_some k) (joined (lists_in k chains))
-    swept_keeps = record {
-      same = links_swept w none sound.lists;
-      apart = sound.apart;
-    }
+    swept_keeps = search links_swept
 
     pub sound_swept : {j : CycleHeap} {reached : ℕ} → j ≡ swept_some k → MaySweep j reached
         → IsSoundHeap j chains reached

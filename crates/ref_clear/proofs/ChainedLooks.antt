@@ -3,7 +3,7 @@ use Rattle.std.proofs.Common.{◌≡◌, ℕ, ◌<◌, ◌≤◌, true, false, r
 use Rattle.std.proofs.Common.{[], ◌∷◌, ◌++◌, length, map, get_or, set, Some, None, inl, inr, ◌==◌}
 use Rattle.std.proofs.lemmas.Bool.{or_cases, eqb-true, ne_eqb, true≢false, false_from_ne_true}
 use Rattle.std.proofs.lemmas.List.{get_or_default, length-map}
-use Rattle.ref_clear.proofs.Common.{has, AreDistinct, Object, is_there, numbers, joined, list_at, rest_of, work_refusal}
+use Rattle.ref_clear.proofs.Common.{has, AreDistinct, Object, is_there, numbers, joined, list_at, work_refusal}
 use Rattle.ref_clear.proofs.Common.{reference_at, registered_in, first_in, Clearing, CycleHeap}
 use Rattle.ref_clear.proofs.Common.{with_found_taken, is_to_clear, cut_at, after_in, Chain, AreChains, chain_with}
 use Rattle.ref_clear.proofs.Common.{listed}
@@ -20,13 +20,11 @@ use Rattle.ref_mark.proofs.DistinctLists.{distinct_fit, AreDistinct-taken}
 use Rattle.ref_mark.proofs.LinkLemmas.{link_at-cleared, is_tagged-cleared}
 use Rattle.ref_mark.proofs.MarkerLemmas.{length-lists_of, length-joined}
 use Rattle.ref_mark.proofs.Mutations.{referring_is_there}
-use Rattle.ref_mark.proofs.Passed.{work_passed}
 use Rattle.ref_clear.proofs.LookAnswers as lists
 use Rattle.ref_clear.proofs.LookAnswers.{first_is}
 use Rattle.ref_base.specs.declared.reply.Reply.TheVariants as replies
-use Rattle.ref_clear.proofs.Common.{answer_in, answer_of_look}
+use Rattle.ref_clear.proofs.Common.{answer_in}
 use Rattle.ref_clear.proofs.KeptPending.{waits_there}
-use Rattle.ref_clear.proofs.PendingRoom.{to_clear_is_not_pending}
 use Rattle.ref_clear.proofs.PendingLists.{pending_numbers-seen}
 use Rattle.ref_clear.proofs.PendingChains.{KeepsLinks, chains_stay, seen_still, sound_still, grown-has}
 use Rattle.ref_clear.proofs.ChainedNotices.{less-has}
@@ -67,19 +65,14 @@ module _ {k : CycleHeap} {chains : List Chain} {swept_to : ℕ} (w : ℕ)
     cut = cut_at taken n
 
     cut_keeps : KeepsLinks k cut (joined (lists_in k chains))
-    cut_keeps = record {
-      same = λ m within there. (link_at-cleared k.tags n k.cycle m, is_tagged-cleared k.tags n k.cycle m ∙ there);
-      apart = taken_apart;
-    }
+    cut_keeps = search (link_at-cleared, is_tagged-cleared, taken_apart)
 
     left_cut : {j t : CycleHeap} → t ≡ taken → j ≡ cut_at t n → j ≡ cut
     left_cut took after = after ∙ ap (λ (i : CycleHeap). cut_at i n) took
 
     -- it isn't found any more
     new_found : has (joined cut.found) n ≡ false
-    new_found =
-        (AreDistinct-taken k.found w n (rest_of (list_at k.found w)) (first_is (list_at k.found w) n first)
-        (sound.lists.stands.1.mark.clearing (work_passed k Clearing w accepted).1).once).0
+    new_found = grind (arith, AreDistinct-taken)
 
     pub last_apart : {j t : CycleHeap} {c : Chain} → c ≡ get_or chains w c → t ≡ taken → j ≡ cut_at t n
         → (c.first == 0) ≡ false → has (joined j.found) c.last ≡ false
@@ -96,9 +89,7 @@ module _ {k : CycleHeap} {chains : List Chain} {swept_to : ℕ} (w : ℕ)
 
     module _ (goes : is_to_clear k n ≡ true) where
       pub answers_cleared : replies.Cleared n ≡ answer_in (seen_heap k chains) (heap.Plain (plain.ClearNext w))
-      answers_cleared =
-          let is = first_is (list_at k.found w) n first in
-          sym (simp accepted (ap (answer_of_look k) is ∙ simp goes refl))
+      answers_cleared = grind arith
 
       -- without a queue nothing comes of it
       pub seen_cut : {j t : CycleHeap} → registered_in (reference_at k.heap n) ≡ None → t ≡ taken → j ≡ cut_at t n
@@ -137,19 +128,13 @@ module _ {k : CycleHeap} {chains : List Chain} {swept_to : ℕ} (w : ℕ)
         cut_linked = (lists-same k.tags cut.tags k.heap.config.cells chains sound.linked cut_keeps.same).1
 
         same_own : listed cut.tags k.heap.config.cells c ≡ own
-        same_own =
-            sym (list_at-lists_of cut.tags k.heap.config.cells chains w c look_within read)
-            ∙ ap (λ mss. list_at mss w) stay ∙ own_is
+        same_own = grind (arith, list_at-lists_of, look_within, stay, own_is)
 
         once : AreDistinct (joined (lists_in k chains))
-        once =
-            subst AreDistinct (pending_numbers-seen k.heap.objects k.tags (lists_in k chains))
-            sound.lists.stands.1.waiting.once
+        once = grind (arith, pending_numbers-seen)
 
         lacks : has (joined (lists_in k chains)) n ≡ false
-        lacks =
-            ap (λ ns. has ns n) (sym (pending_numbers-seen k.heap.objects k.tags (lists_in k chains)))
-            ∙ to_clear_is_not_pending (seen_heap k chains) sound.lists.stands.0 n sound.lists.stands.1 goes
+        lacks = grind (arith, pending_numbers-seen)
 
         there : is_there k.heap.objects n ≡ true
         there = referring_is_there _ k.heap n goes
@@ -196,20 +181,13 @@ module _ {k : CycleHeap} {chains : List Chain} {swept_to : ℕ} (w : ℕ)
               links ∙ ap (λ (h : CycleHeap). record h { tags = linked_last h.tags c n }) (left_cut took after)
 
           same_links : linked_last cut.tags c n ≡ linked_last_of cut.tags own n
-          same_links =
-              chain-linked cut.tags k.heap.config.cells c n
-              (chain_at cut.tags k.heap.config.cells chains w c look_within read cut_linked)
-              ∙ ap (λ ns. linked_last_of cut.tags ns n) same_own
+          same_links = grind (arith, chain-linked, chain_at, look_within, cut_linked, same_own)
 
           linked_as_told : i ≡ record cut { tags = linked_last_of cut.tags own n }
           linked_as_told = left_linked ∙ ap (λ ts. record cut { tags = ts }) same_links
 
           left_lists : lists_in i (set chains w d) ≡ set (lists_in k chains) w (own ++ n ∷ [])
-          left_lists =
-              ap (λ (h : CycleHeap). lists_in h (set chains w d)) left_linked
-              ∙ ap (λ (e : Chain). lists_in linked (set chains w e)) last ∙ pushed.lists
-              ∙ ap (λ mss. set mss w (list_at mss w ++ n ∷ [])) stay
-              ∙ ap (λ ns. set (lists_in k chains) w (ns ++ n ∷ [])) own_is
+          left_lists = grind (arith, pushed, stay, own_is)
 
           pub seen_pended : seen_heap i (set chains w d)
               ≡ after_in (seen_heap k chains) (heap.Plain (plain.ClearNext w))

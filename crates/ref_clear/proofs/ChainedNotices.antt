@@ -6,7 +6,7 @@ use Rattle.std.proofs.lemmas.Bool.{or_right, true≢false, false_from_ne_true}
 use Rattle.std.proofs.lemmas.List.{get_or_default}
 use Rattle.ref_clear.proofs.Common.{has, joined, list_at, rest_of, Pending, pending_at, pending_from, pending_in, Reply}
 use Rattle.ref_clear.proofs.Common.{Fault, Cycle, Own, Reference, reference_at, registered_in, slot_at, has_slot}
-use Rattle.ref_clear.proofs.Common.{CycleHeap, with_cleared, holding, mint_answer_in, after_mint_in, first_in}
+use Rattle.ref_clear.proofs.Common.{CycleHeap, with_cleared, holding, mint_answer_in, after_mint_in}
 use Rattle.ref_clear.proofs.Common.{Chain, chain_first, chain_without_first, listed, lists_in, seen_heap}
 use Rattle.ref_clear.proofs.Common.{seen_lists, IsSoundHeap, AreSoundLists, ClearHeap, AreRegistered}
 use Rattle.ref_base.specs.declared.heap_step.HeapStep.TheVariants as heap
@@ -18,7 +18,6 @@ use Rattle.ref_mark.specs.MarkCalls.{MarkerDoes}
 use Rattle.ref_mark.specs.Worklists.{listed_at}
 use Rattle.ref_mark.proofs.ChainLemmas.{list_at-lists_of, chain_at, chain-first, takes_one}
 use Rattle.ref_mark.proofs.MarkerLemmas.{length-lists_of}
-use Rattle.ref_mark.proofs.KeptParts.{cleared-tags}
 use Rattle.ref_clear.specs.ClearCalls.{HeapDoes}
 use Rattle.ref_clear.proofs.KeptReferences.{config-cleared}
 use Rattle.ref_clear.proofs.NoticeAnswers.{minted, mint_refused}
@@ -28,12 +27,8 @@ use Rattle.ref_clear.proofs.Common.{Ground, ground_of}
 use Rattle.ref_clear.proofs.HandAnswers.{handed as handed_lists, hand_refused as hand_refused_lists}
 use Rattle.ref_clear.proofs.UnhookAnswers.{unhook_cut as cut_lists, unhook_done as done_lists}
 use Rattle.ref_clear.proofs.SoundHeaps.{sound_after}
-use Rattle.ref_clear.proofs.PendingChains.{KeepsLinks, keeps_parts, cleared_found, seen_still, sound_still}
+use Rattle.ref_clear.proofs.PendingChains.{KeepsLinks, sound_still}
 use Rattle.ref_clear.proofs.ChainedHeaps.{seen_chains}
-
-first-listed : (ns : List ℕ) → first_in ns ≡ listed_at ns 0
-first-listed [] = refl
-first-listed (n ∷ ns) = refl
 
 -- what stands in the lists as one loses its first stood there
 pub less-has : (lists : List (List ℕ)) (w : ℕ) (ns : List ℕ) → list_at lists w ≡ ns → (m : ℕ)
@@ -68,9 +63,7 @@ module _ (k : CycleHeap) (chains : List Chain) (w place : ℕ) {c : Chain} (with
   pub told_of : {found other : Option ℕ} {g : Ground} → g ≡ ground_of k
       → found ≡ listed_at (listed g.tags g.heap.config.cells c) place → found ≡ other
       → pending_from (pending_at (seen_heap k chains) w) place ≡ option_map (pending_in k.heap.objects k.tags) other
-  told_of {found} {other} {g} objects is same =
-      told_as_seen k (lists_in k chains) w place inside listed_read
-      (is ∙ ap (λ (h : Ground). listed_at (listed h.tags h.heap.config.cells c) place) objects) same
+  told_of {found} {other} {g} objects is same = grind (arith, told_as_seen, inside, listed_read)
 
   pub registered_of : {swept_to : ℕ} {found : Option ℕ} {g : Ground} (n : ℕ) → IsSoundHeap k chains swept_to
       → g ≡ ground_of k → found ≡ listed_at (listed g.tags g.heap.config.cells c) place → found ≡ Some n
@@ -82,9 +75,7 @@ module _ (k : CycleHeap) (chains : List Chain) (w place : ℕ) {c : Chain} (with
 -- of a worker that isn't there nothing is pending
 pub none_behind : (k : CycleHeap) (chains : List Chain) (w place : ℕ) → (w < length chains → ⊥)
     → pending_from (pending_at (seen_heap k chains) w) place ≡ None
-none_behind k chains w place past =
-    none_past k (lists_in k chains) w place
-    (λ within. past (subst (λ count. w < count) (length-lists_of k.tags k.heap.config.cells chains) within))
+none_behind k chains w place past = grind (arith, none_past, length-lists_of)
 
 -- ---- a worker's chain
 
@@ -108,10 +99,7 @@ module _ {k : CycleHeap} {chains : List Chain} {swept_to : ℕ} (w : ℕ) (sound
         ∙ get_or_default (lists_in k chains) w [] own (worker_has_list w sound.lists within)
 
     first_at : chain_first c ≡ listed_at own 0
-    first_at =
-        chain-first k.tags k.heap.config.cells c
-        (chain_at k.tags k.heap.config.cells chains w c worker_has_chain read sound.linked)
-        ∙ first-listed own
+    first_at = search (chain-first, chain_at, worker_has_chain)
 
     -- the first of it, as its number is read
     pub first_seen : {other : Option ℕ} → chain_first c ≡ other
@@ -130,10 +118,7 @@ module _ {k : CycleHeap} {chains : List Chain} {swept_to : ℕ} (w : ℕ) (sound
       minted_now = (minted k p.object n answer after).2
 
       left_lists : lists_in k (set chains w d) ≡ set (lists_in k chains) w (rest_of own)
-      left_lists =
-          rw taken
-          ((takes_one k.tags k.heap.config.cells chains w c worker_has_chain read sound.linked).0
-          ∙ ap (λ ns. set (lists_in k chains) w (rest_of ns)) own_is)
+      left_lists = grind (arith, takes_one, worker_has_chain, own_is)
 
       step : HeapDoes (seen_lists k (lists_in k chains)) (heap.Hand w) (replies.Notice n p.queue (Cycle p.cycle w))
           (seen_lists j (set (lists_in k chains) w (rest_of own)))
@@ -145,9 +130,7 @@ module _ {k : CycleHeap} {chains : List Chain} {swept_to : ℕ} (w : ℕ) (sound
 
       pub handed : HeapDoes (seen_heap k chains) (heap.Hand w) (replies.Notice n p.queue (Cycle p.cycle w))
           (seen_heap j (set chains w d))
-      handed =
-          subst (λ mss. HeapDoes (seen_heap k chains) (heap.Hand w) (replies.Notice n p.queue (Cycle p.cycle w))
-          (seen_lists j mss)) (sym left_in) step.0
+      handed = search (left_in, step)
 
       pub sound_handed : IsSoundHeap j (set chains w d) swept_to
       sound_handed = record {
@@ -209,14 +192,10 @@ module _ {k : CycleHeap} {chains : List Chain} {swept_to : ℕ} (sound : IsSound
     unhook_config = ap (λ (h : CycleHeap). h.heap.config) unhook_step.2 ∙ config-cleared k m s
 
     unhook_keeps : KeepsLinks k j (joined (lists_in k chains))
-    unhook_keeps =
-        keeps_parts k j (joined (lists_in k chains)) (ap (λ (h : CycleHeap). h.tags) unhook_step.2 ∙ cleared-tags k m s)
-        (ap (λ (h : CycleHeap). h.found) unhook_step.2 ∙ cleared_found k m s) sound.apart
+    unhook_keeps = grind (arith, unhook_step)
 
     pub unhook_done : HeapDoes (seen_heap k chains) (heap.Unhook m s) (replies.Notice object q Own) (seen_heap j chains)
-    unhook_done =
-        subst (λ (d : ClearHeap). HeapDoes (seen_heap k chains) (heap.Unhook m s) (replies.Notice object q Own) d)
-        (sym (seen_still unhook_config unhook_keeps sound)) unhook_step.0
+    unhook_done = grind (arith, unhook_step)
 
     pub sound_unhooked : IsSoundHeap j chains swept_to
     sound_unhooked =

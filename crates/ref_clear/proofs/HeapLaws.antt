@@ -16,7 +16,7 @@ use Rattle.ref_base.proofs.RowForms.{accepted_row, refused_row}
 use Rattle.ref_mark.specs.MarkCalls as marks
 use Rattle.ref_mark.specs.MarkCalls.{late_roots}
 use Rattle.ref_mark.proofs.MarkLaws.{each_step as each_marking_step, on_own_heap}
-use Rattle.ref_clear.specs.ClearCalls.{answer_in, after_in, reply_or_fault, left}
+use Rattle.ref_clear.specs.ClearCalls.{after_in, reply_or_fault, left}
 use Rattle.ref_clear.specs.ClearRows.{IsHeapRowOf}
 use Rattle.ref_clear.proofs.KeptRows.{row_keeps}
 use Rattle.ref_clear.proofs.KeptReferences.{after_stays, begun-heap}
@@ -135,7 +135,4 @@ stands_number c a stands = ap (λ (h : Heap). h.no) stands.mark.heap
 -- which no step changes
 pub number_after : (c : ClearHeap) (a : State) (step : NamedStep) → HeapStands c a
     → (after_in c step).mark.heap.no ≡ c.mark.heap.no
-number_after c a step stands =
-    let row = each_step c step a stands in
-    sym (stands_number (after_in c step) row.0 row.2) ∙ row_number a row.0 step (answer_in c step) row.1
-    ∙ stands_number c a stands
+number_after c a step stands = grind (arith, row_number, each_step c step a stands)

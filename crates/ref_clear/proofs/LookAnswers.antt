@@ -203,9 +203,7 @@ module _ {k : CycleHeap} {lists : List (List ℕ)} {swept_to : ℕ} (w : ℕ)
               ]
 
           pub sound_pended : AreSoundLists j (set lists w m) swept_to
-          sound_pended =
-              sound_after (heap.Plain (plain.ClearNext w)) refl sound seen_pended
-              (subst (λ (i : CycleHeap). AreRegistered i.heap.objects (set lists w m)) (sym left_linked) all_registered)
+          sound_pended = search (sound_after, seen_pended, left_linked, all_registered)
 
 -- ---- what the code has read
 

@@ -1,23 +1,21 @@
 -- The chains of pending references stay as they are where the links in them do, and what is found isn't pending.
-use Rattle.std.proofs.Common.{◌≡◌, ℕ, ◌+◌, true, false, ◌==◌, refl, sym, ap, subst, ◌∙◌, arith, List, []}
+use Rattle.std.proofs.Common.{◌≡◌, ℕ, true, false, ◌==◌, refl, sym, ap, subst, ◌∙◌, arith, List, []}
 use Rattle.std.proofs.Common.{◌∷◌, ◌++◌, zero, suc, Option, Some, None, inl, inr, ◌⊎◌}
 use Rattle.std.specs.Prelude.{slice_set}
 use Rattle.std.proofs.lemmas.Bool.{cases_Bool, or_right, true≢false}
 use Rattle.std.proofs.lemmas.Bool.{false_from_ne_true}
 use Rattle.ref_clear.proofs.Common.{has, referent_of, reference_at, refers_into, joined, list_at, is_empty}
-use Rattle.ref_clear.proofs.Common.{Object, NamedStep, Fault, Config, CycleHeap, is_white, shaded_all, with_cleared}
-use Rattle.ref_clear.proofs.Common.{unless_refused, linked_last_of, Chain, AreChains, lists_in, seen_heap, seen_lists}
+use Rattle.ref_clear.proofs.Common.{Object, NamedStep, Fault, CycleHeap, is_white, shaded_all, with_cleared}
+use Rattle.ref_clear.proofs.Common.{unless_refused, linked_last_of, Chain, lists_in, seen_heap, seen_lists}
 use Rattle.ref_clear.proofs.Common.{AreSoundLists, IsSoundHeap, is_kept, targets_at}
-use Rattle.ref_objects.specs.Grounds.{Tag, link_at, with_new_tag}
+use Rattle.ref_objects.specs.Grounds.{Tag}
 use Rattle.ref_base.specs.declared.heap_step.HeapStep.TheVariants as heap
 use Rattle.ref_base.specs.declared.plain_step.PlainStep.TheVariants as plain
 use Rattle.ref_base.specs.declared.urgency.Urgency.{Urgency}
 use Rattle.ref_base.proofs.HasLaws.{has-left, has-right, has-cases, has-single, has-first}
 use Rattle.ref_base.proofs.FoundLists.{with_last, joined-emptied}
-use Rattle.ref_mark.specs.Chains.{is_tagged, last_of, lists_of}
-use Rattle.ref_mark.specs.CycleHeaps.{with_made, with_found, grey_scanned, cycle_begun, whitened, barred}
-use Rattle.ref_mark.specs.CycleHeaps.{roots_of, young}
-use Rattle.ref_clear.proofs.Common.{made}
+use Rattle.ref_mark.specs.Chains.{last_of}
+use Rattle.ref_mark.specs.CycleHeaps.{with_made, with_found, grey_scanned, cycle_begun, barred}
 use Rattle.ref_mark.specs.MarkCalls.{done_in, after_in_cycle, refusal_in_cycle}
 use Rattle.ref_mark.proofs.ChainLemmas.{IsSame, lists-same, same_new, same_written}
 use Rattle.ref_mark.proofs.KeptParts.{cleared-tags}
@@ -34,29 +32,18 @@ pub record KeepsLinks (k j : CycleHeap) (ps : List ℕ) : Type 0 where
 module _ {k j : CycleHeap} {chains : List Chain} {swept_to : ℕ} (config : j.heap.config ≡ k.heap.config)
     (keeps : KeepsLinks k j (joined (lists_in k chains))) (sound : IsSoundHeap k chains swept_to) where
   pub chains_stay : lists_in j chains ≡ lists_in k chains
-  chains_stay =
-      ap (λ (c : Config). lists_of j.tags c.cells chains) config
-      ∙ (lists-same k.tags j.tags k.heap.config.cells chains sound.linked keeps.same).0
+  chains_stay = grind (arith, lists-same)
 
   pub seen_still : seen_heap j chains ≡ seen_lists j (lists_in k chains)
   seen_still = ap (seen_lists j) chains_stay
 
   pub sound_still : (reached : ℕ) → AreSoundLists j (lists_in k chains) reached → IsSoundHeap j chains reached
-  sound_still reached lists = record {
-    linked = subst (λ (c : Config). AreChains j.tags c.cells chains) (sym config)
-        (lists-same k.tags j.tags k.heap.config.cells chains sound.linked keeps.same).1;
-    apart = λ n found. ap (λ mss. has (joined mss) n) chains_stay ∙ keeps.apart n found;
-    lists = subst (λ mss. AreSoundLists j mss reached) (sym chains_stay) lists;
-  }
+  sound_still reached lists = grind (arith, lists-same, chains_stay)
 
 -- where tags and what is found are as they were
 pub keeps_parts : (k j : CycleHeap) (ps : List ℕ) → j.tags ≡ k.tags → j.found ≡ k.found
     → ((n : ℕ) → has (joined k.found) n ≡ true → has ps n ≡ false) → KeepsLinks k j ps
-keeps_parts k j ps tags found apart = record {
-  same = λ n within there.
-      (ap (λ ts. link_at ts n) tags, ap (λ ts. is_tagged ts n) tags ∙ there);
-  apart = λ n within. apart n (ap (λ mss. has (joined mss) n) (sym found) ∙ within);
-}
+keeps_parts k j ps tags found apart = grind arith
 
 -- ---- the steps of marking
 
@@ -136,28 +123,10 @@ module _ (ps : List ℕ) where
       (record { same = keeps.same; apart = keeps.apart })
 
   made_keeps : (k : CycleHeap) (m d : ℕ) (o : Object) → AreCleared k → KeepsLinks k (with_made k m d o) ps
-  made_keeps k m d o are =
-      let more : CycleHeap = record k {
-        heap = made k.heap m d o;
-        next = k.next + 1;
-        tags = with_new_tag k.tags o.no;
-      } in
-      young_keeps k more o.no (record { same = same_new k.tags o.no ps; apart = are.apart })
-    where
-      young_keeps : (k j : CycleHeap) (n : ℕ) → KeepsLinks k j ps → KeepsLinks k (young j n) ps
-      young_keeps k j n keeps = grind arith
+  made_keeps k m d o are = grind (arith, same_new k.tags o.no)
 
   begun_keeps : (k : CycleHeap) (now : ℕ) (how : Urgency) → KeepsLinks k (cycle_begun k now how) ps
-  begun_keeps k now how =
-      let j : CycleHeap = cycle_begun k now how in
-      let only : j ≡ record (whitened k now how) { marked = j.marked; grey = j.grey } =
-      shaded_all-only (whitened k now how) (roots_of k.heap) in
-      subst (λ (i : CycleHeap). KeepsLinks k i ps) (sym only)
-      (record {
-        same = λ n within there. (refl, there);
-        apart = λ n found.
-            absurd (true≢false (sym found ∙ ap (λ ns. has ns n) (joined-emptied k.found)));
-      })
+  begun_keeps k now how = grind (arith, shaded_all-only, joined-emptied)
 
   barred-tags : (k : CycleHeap) (value : Option ℕ) → (barred k value).tags ≡ k.tags
   barred-tags k value = grind arith
@@ -168,9 +137,7 @@ module _ (ps : List ℕ) where
   done_keeps : (k : CycleHeap) (step : NamedStep) → AreCleared k → KeepsLinks k (done_in k step) ps
   done_keeps k (heap.Plain (plain.Scan w)) are = scanned_keeps k w k.grey are
   done_keeps k (heap.Plain (plain.Begin now how)) are = begun_keeps k now how
-  done_keeps k step are =
-      let apart = are.apart in
-      search (made_keeps, keeps_parts, barred-tags, barred_keeps, cleared-tags, cleared_found, refl)
+  done_keeps k step are = search (made_keeps, keeps_parts, barred-tags, barred_keeps, cleared-tags, cleared_found)
 
   unless_keeps : (k done : CycleHeap) (refused : Option Fault) → AreCleared k → KeepsLinks k done ps
       → KeepsLinks k (unless_refused refused (λ fault. k) done) ps
@@ -182,8 +149,4 @@ module _ (ps : List ℕ) where
 
 -- shading does nothing to links
 pub shading_keeps : (k j : CycleHeap) (ps ns : List ℕ) → KeepsLinks k j ps → KeepsLinks k (shaded_all j ns) ps
-shading_keeps k j ps ns keeps =
-    let i : CycleHeap = shaded_all j ns in
-    let only : i ≡ record j { marked = i.marked; grey = i.grey } = shaded_all-only j ns in
-    subst (λ (h : CycleHeap). KeepsLinks k h ps) (sym only)
-    (record { same = keeps.same; apart = keeps.apart })
+shading_keeps k j ps ns keeps = grind (arith, shaded_all-only)

@@ -43,11 +43,6 @@ pub shading_done : (start k : CycleHeap) (list : Chain) (left next : ℕ) → (n
 shading_done start k list left next none shading =
     ap (shaded_all k) (sym (walk-none start.tags list.last left next none)) ∙ shading.shades
 
-pub shading_all : (start k : CycleHeap) (list : Chain) (left next : ℕ) → left ≡ 0
-    → IsShading start k list left next → k ≡ shaded_all start (listed start.tags start.heap.config.cells list)
-shading_all start k list left next none shading =
-    ap (λ i. shaded_all k (walk start.tags list.last i next)) (sym none) ∙ shading.shades
-
 -- ---- of all workers
 
 joined-more : (ls : List (List ℕ)) (w : ℕ) (l : List ℕ) → w < length ls
@@ -67,22 +62,17 @@ pub chain_more : (start k j : CycleHeap) (chains : List Chain) (w : ℕ) (c : Ch
     → j ≡ shaded_all k (listed k.tags k.heap.config.cells (get_or chains w c))
     → j ≡ shaded_all start (joined (take (w + 1) (lists_in start chains)))
 chain_more start k j chains w d within so_far now =
-    let c : Chain = get_or chains w d in
-    let read : c ≡ get_or chains w c = get_or_default chains w d c within in
-    let ns : List ℕ = joined (take w (lists_in start chains)) in
-    let size = length-lists_of start.tags start.heap.config.cells chains in
-    let inside : w < length (lists_in start chains) = omega (arith, within, size) in
-    let tags : k.tags ≡ start.tags = ap (λ (i : CycleHeap). i.tags) so_far ∙ shaded_all-tags start ns in
-    let heap = shaded_heap start k ns so_far in
-    let own : listed k.tags k.heap.config.cells c ≡ get_or (lists_in start chains) w [] =
-    ap (λ ts. listed ts k.heap.config.cells c) tags ∙ ap (λ h. listed start.tags h.config.cells c) heap
-    ∙ sym (list_at-lists_of start.tags start.heap.config.cells chains w c within read) in
-    now ∙ ap (shaded_all k) own ∙ worker_more start k (lists_in start chains) w [] inside so_far
+    grind (
+      arith,
+      get_or_default,
+      length-lists_of,
+      shaded_all-tags,
+      worker_more,
+      shaded_heap start k,
+      list_at-lists_of start.tags start.heap.config.cells chains w,
+    )
 
 pub all_workers : (start k : CycleHeap) (chains : List Chain) (w : ℕ) → length chains ≤ w
     → k ≡ shaded_all start (joined (take w (lists_in start chains)))
     → k ≡ shaded_all start (joined (lists_in start chains))
-all_workers start k chains w all so_far =
-    let size = length-lists_of start.tags start.heap.config.cells chains in
-    let whole : length (lists_in start chains) ≤ w = omega (arith, all, size) in
-    so_far ∙ ap (λ mss. shaded_all start (joined mss)) (take_all w (lists_in start chains) whole)
+all_workers start k chains w all so_far = grind (arith, length-lists_of, take_all)

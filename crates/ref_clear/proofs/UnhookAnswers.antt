@@ -1,16 +1,16 @@
 -- What the code of an unhook answers and leaves: where the reference is registered, the hold comes first, then the cut.
 use Rattle.std.proofs.Common.{arith}
-use Rattle.std.proofs.Common.{◌≡◌, ℕ, true, refl, sym, ap, subst, ◌∙◌, List, Option, Some, None}
-use Rattle.ref_clear.proofs.Common.{Reference, is_there, slot_at, reference_at, registered_in, reference_of, has_slot}
-use Rattle.ref_clear.proofs.Common.{Reply, holds_refusal, Own, Ground, CycleHeap, with_cleared, mint_answer_in}
-use Rattle.ref_clear.proofs.Common.{after_mint_in, ground_of, holding, unhooked, refusal_in, queue_in}
+use Rattle.std.proofs.Common.{◌≡◌, ℕ, true, refl, sym, ap, subst, ◌∙◌, List, Some, None}
+use Rattle.ref_clear.proofs.Common.{Heap, Reference, is_there, slot_at, reference_at, registered_in, reference_of}
+use Rattle.ref_clear.proofs.Common.{has_slot}
+use Rattle.ref_clear.proofs.Common.{Reply, holds_refusal, Own, CycleHeap, with_cleared, mint_answer_in}
+use Rattle.ref_clear.proofs.Common.{after_mint_in, holding, unhooked, refusal_in, queue_in}
 use Rattle.ref_clear.proofs.Common.{after_in, answer_of_unhook, seen_lists, with_mark, AreRegistered}
 use Rattle.ref_clear.proofs.Common.{AreSoundLists}
-use Rattle.ref_objects.specs.Grounds.{cleared_in_at}
 use Rattle.ref_mark.proofs.KeptParts.{cleared-tags}
 use Rattle.ref_clear.proofs.KeptReferences.{cleared_stays}
 use Rattle.ref_clear.proofs.KeptPending.{AreKept, kept_by, seen_kept, registered_kept}
-use Rattle.ref_base.specs.Refusals.{drop_refusal}
+use Rattle.ref_base.specs.Refusals.{clear_refusal}
 use Rattle.ref_base.specs.declared.fault.Fault.TheVariants.{NoSuchObject}
 use Rattle.ref_base.specs.declared.heap_step.HeapStep.TheVariants as heap
 use Rattle.ref_base.specs.declared.plain_step.PlainStep.TheVariants as plain
@@ -22,19 +22,9 @@ use Rattle.ref_clear.specs.ClearCalls.{HeapDoes}
 use Rattle.ref_clear.proofs.MarkedHeaps.{seen_marked}
 use Rattle.ref_clear.proofs.NoticeAnswers.{minted, clear_holding}
 
--- ---- what is read through the view of the objects
-
-module _ (k : CycleHeap) (m s : ℕ) {g : Ground} (view : g ≡ ground_of k) where
-  pub slot_is_there : drop_refusal g.heap m s ≡ None → has_slot k.heap m s ≡ true
-  slot_is_there none = grind arith
-
-  pub slot_holds : {value : Option ℕ} {n : ℕ} → value ≡ slot_at g.heap m s → value ≡ Some n
-      → slot_at k.heap m s ≡ Some n
-  slot_holds reads is = sym (reads ∙ ap (λ (h : Ground). slot_at h.heap m s) view) ∙ is
-
-pub reference_is : (k : CycleHeap) (n : ℕ) {g : Ground} {value : Option Reference} {r : Reference} → g ≡ ground_of k
-    → value ≡ reference_at g.heap n → value ≡ Some r → reference_at k.heap n ≡ Some r
-reference_is k n view reads is = sym (reads ∙ ap (λ (h : Ground). reference_at h.heap n) view) ∙ is
+-- a reference that is read is in a slot that is there
+pub slot_is_there : (h : Heap) (m s : ℕ) → clear_refusal h m s ≡ None → has_slot h m s ≡ true
+slot_is_there h m s read = grind arith
 
 -- ---- the cut alone
 
@@ -68,9 +58,7 @@ module _ {k : CycleHeap} {lists : List (List ℕ)} {swept_to : ℕ} (sound : Are
 
   -- nothing pending is changed by it
   unhook_kept : AreKept k (holding (with_cleared k m s) n) lists
-  unhook_kept =
-      kept_by sound (holding (with_cleared k m s) n) (cleared_stays k m s)
-      (λ i. ap (λ ts. cleared_in_at ts i) (cleared-tags k m s))
+  unhook_kept = search (kept_by, cleared_stays, cleared-tags)
 
   pub unhook_done : {i j : CycleHeap} {object : ℕ} → replies.Object object ≡ mint_answer_in k n
       → i ≡ after_mint_in k n → j ≡ marks.after_in_cycle i (heap.Plain (plain.Clear m s))

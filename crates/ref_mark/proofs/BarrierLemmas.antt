@@ -1,38 +1,89 @@
--- What the calls of references leave, step by step of their code.
+-- What a get leaves, step by step of its code: the objects' part first, and then the barrier.
 use Rattle.std.proofs.Common.{arith}
-use Rattle.std.proofs.Common.{◌≡◌, ℕ, true, refl, List, [], ◌∷◌, Option, Some, None}
-use Rattle.std.proofs.Common.{false}
-use Rattle.std.proofs.lemmas.Bool.{false≢true}
-use Rattle.std.specs.Option.{is_some}
-use Rattle.ref_mark.proofs.Common.{Object, Reference, object_at, reference_at, reference_in, changed_at}
-use Rattle.ref_mark.proofs.Common.{with_changed, with_reference, is_soft, CycleHeap}
-use Rattle.ref_base.specs.Heaps.{with_stamp}
-use Rattle.ref_mark.specs.CycleHeaps.{renewed}
+use Rattle.std.proofs.Common.{◌≡◌, ℕ, ◌*◌, true, refl, sym, ap, ◌∙◌, Option, Some, None, length}
+use Rattle.std.proofs.lemmas.List.{get_or-set_same}
+use Rattle.ref_mark.proofs.Common.{Heap, Ground, slot_at, with_slot, has_slot, is_past_mark}
+use Rattle.ref_mark.proofs.Common.{CycleHeap, barred, undoomed, with_got, got, with_reference}
+use Rattle.ref_mark.proofs.Common.{changed_in, got_at}
+use Rattle.ref_objects.specs.Grounds.{ground_with_heap, read_as}
+use Rattle.ref_mark.specs.MarkViews.{ground_of}
+use Rattle.ref_mark.proofs.ReferenceChanges.{with_got-barred}
+use Rattle.std.proofs.Common.{Bool, List}
+use Rattle.ref_mark.proofs.Common.{Worklist, Chain, Phase, Policy, seen_marker, reference_of, referent_got, value_got}
+use Rattle.ref_mark.proofs.Common.{value_reply}
+use Rattle.ref_base.specs.Refusals.{get_refusal}
+use Rattle.ref_base.specs.declared.heap_step.HeapStep.TheVariants as heap
+use Rattle.ref_base.specs.declared.plain_step.PlainStep.TheVariants as plain
+use Rattle.ref_objects.specs.Grounds.{IsWellFormed}
+use Rattle.ref_mark.specs.MarkCalls.{MarkerDoes}
+use Rattle.ref_mark.proofs.Common.{IsSoundMarker}
+use Rattle.ref_mark.proofs.MarkerLemmas.{seen_heaped}
 
--- ---- a get renews a soft reference alone
+-- ---- a slot that was just written
 
--- changes that do the same to the object's reference are the same
-changed_alike : (os : List Object) (n : ℕ) (f h : Reference → Reference) (r : Reference)
-    → reference_in (object_at os n) ≡ Some r → f r ≡ h r
-    → changed_at os n (with_reference f) ≡ changed_at os n (with_reference h)
-changed_alike [] n f h r found alike = refl
-changed_alike (o ∷ os) n f h r found alike = grind (arith, changed_alike os n f h r)
+slot_at-written : (h : Heap) (m d : ℕ) (value : Option ℕ) → has_slot h m d ≡ true
+    → length h.slots ≡ 16 * h.config.mutators → slot_at (with_slot h m d value) m d ≡ value
+slot_at-written h m d value there sized = grind (arith, get_or-set_same)
 
--- and one that leaves it as it was leaves all
-changed_same : (os : List Object) (n : ℕ) (f : Reference → Reference) (r : Reference)
-    → reference_in (object_at os n) ≡ Some r → f r ≡ r → changed_at os n (with_reference f) ≡ os
-changed_same [] n f r found same_reference = refl
-changed_same (o ∷ os) n f r found same_reference = grind (arith, changed_same os n f r)
+-- a soft reference was stamped before
+slots-got : (h : Heap) (m s : ℕ) → (changed_in h (slot_at h m s) (with_reference (got_at h.clock))).slots ≡ h.slots
+slots-got h m s = grind arith
 
--- a stamp at the clock renews a soft reference
-pub stamped_renewed : (k : CycleHeap) (n : ℕ) (r : Reference) (value : Option ℕ) → reference_at k.heap n ≡ Some r
-    → is_soft r.strength ≡ true → is_some value ≡ true
-    → record k { heap = with_changed k.heap n (with_reference (with_stamp k.heap.clock)) } ≡ renewed k n value
-stamped_renewed k n r None found soft some = absurd (false≢true some)
-stamped_renewed k n r (Some value) found soft some = grind (arith, changed_alike)
+slot_at-got : (h : Heap) (m d s : ℕ) (value : Option ℕ) → has_slot h m d ≡ true
+    → length h.slots ≡ 16 * h.config.mutators → slot_at (got h m d s value) m d ≡ value
+slot_at-got h m d s None there sized = slot_at-written h m d None there sized
+slot_at-got h m d s (Some n) there sized = grind (arith, slots-got, get_or-set_same)
 
--- another reference isn't renewed
-pub unstamped_renewed : (k : CycleHeap) (n : ℕ) (r : Reference) (value : Option ℕ) → reference_at k.heap n ≡ Some r
-    → is_soft r.strength ≡ false → k ≡ renewed k n value
-unstamped_renewed k n r None found other = refl
-unstamped_renewed k n r (Some value) found other = grind (arith, changed_same)
+got-barred : (k : CycleHeap) (m d s : ℕ) (value : Option ℕ)
+    → barred (record k { heap = got k.heap m d s value }) value ≡ with_got k m d s value
+got-barred k m d s None = grind arith
+got-barred k m d s (Some n) = sym (with_got-barred k m d s n)
+
+got_by : (k : CycleHeap) (m d s : ℕ) (value : Option ℕ) → has_slot k.heap m d ≡ true
+    → length k.heap.slots ≡ 16 * k.heap.config.mutators
+    → barred (record k { heap = got k.heap m d s value }) (slot_at (got k.heap m d s value) m d)
+    ≡ with_got k m d s value
+got_by k m d s value there sized = search (slot_at-got, got-barred)
+
+config-got : (h : Heap) (m d s : ℕ) (value : Option ℕ) → (got h m d s value).config ≡ h.config
+config-got h m d s None = refl
+config-got h m d s (Some n) = grind arith
+
+-- ---- the doomed are what isn't marked, once a mark has ended
+
+read_as-undoomed : (k : CycleHeap) (value : Option ℕ)
+    → read_as (ground_of k) (is_past_mark k.phase) value ≡ undoomed k value
+read_as-undoomed k None = refl
+read_as-undoomed k (Some n) = refl
+
+-- ---- a get
+
+-- the objects' get, by what is hidden, and then the barrier
+pub get_does : {g after : Ground} {grey : Worklist} {found : List Chain} {phase : Phase} {how : Policy} {cycle : ℕ}
+    (m d s : ℕ) {hide : Bool} {value : Option ℕ} {j : CycleHeap} → IsSoundMarker g grey found phase → IsWellFormed g
+    → hide ≡ is_past_mark phase
+    → get_refusal g.heap m d s ≡ None
+    → value ≡ read_as g hide (referent_got (reference_of g.heap (slot_at g.heap m s)))
+    → after ≡ ground_with_heap g (got g.heap m d s
+    (read_as g hide (referent_got (reference_of g.heap (slot_at g.heap m s)))))
+    → j ≡ barred (seen_marker after grey found phase how cycle) (slot_at after.heap m d)
+    → MarkerDoes (seen_marker g grey found phase how cycle) (heap.Plain (plain.Get m d s)) (value_reply value) j
+get_does {g} {after} {grey} {found} {phase} {how} {cycle} m d s {hide} sound formed hides accepted answer objects bars =
+    let k : CycleHeap = seen_marker g grey found phase how cycle in
+    let read : Option ℕ = read_as g hide (referent_got (reference_of g.heap (slot_at g.heap m s))) in
+    let there : has_slot g.heap m d ≡ true = slot_there g.heap m d s accepted in
+    let told : read ≡ value_got k m s =
+    ap (λ i. read_as g i (referent_got (reference_of g.heap (slot_at g.heap m s)))) hides
+    ∙ read_as-undoomed k (referent_got (reference_of g.heap (slot_at g.heap m s))) in
+    let left =
+    bars
+    ∙ ap (λ (i : CycleHeap). barred i (slot_at i.heap m d))
+    (seen_heaped (got g.heap m d s read) (config-got g.heap m d s read) objects sound how cycle)
+    ∙ got_by k m d s read there formed.orderly.slots in
+    record {
+      answer = simp accepted (ap value_reply (answer ∙ told));
+      after = simp accepted (left ∙ ap (with_got k m d s) told);
+    }
+  where
+    slot_there : (h : Heap) (m d s : ℕ) → get_refusal h m d s ≡ None → has_slot h m d ≡ true
+    slot_there h m d s accepted = grind arith

@@ -146,20 +146,12 @@ same_written ts n to ms lacks m within there = grind (arith, link_at-other, is_t
 
 pub pushes : (ts : List Tag) (most : ℕ) (c : Chain) (n : ℕ) → IsChain ts most c → AreDistinct (listed ts most c)
     → IsNew ts n (listed ts most c) → length (listed ts most c) < most → IsPushed ts most c n
-pushes ts most c n chain distinct new room =
-    elim (cases_Bool (c.first == 0)) [
-      | inl none ↦ grind (arith, pushed_by, walk-none)
-      | inr full ↦ grind (arith, pushed_by, Links-pushed)
-    ]
+pushes ts most c n chain distinct new room = grind (arith, pushed_by, Links-pushed)
 
 -- no chain changes that doesn't have the last that links to n
 pub same_last : (ts : List Tag) (c : Chain) (n : ℕ) (ms : List ℕ) → ((c.first == 0) ≡ false → has ms c.last ≡ false)
     → IsSame ts (linked_last ts c n) ms
-same_last ts c n ms apart m within there =
-    elim (cases_Bool (c.first == 0)) [
-      | inl none ↦ simp none (refl, there)
-      | inr full ↦ simp full (same_written ts c.last n ms (apart full) m within there)
-    ]
+same_last ts c n ms apart m within there = grind (arith, same_written ts c.last n ms)
 
 -- ---- several chains
 
@@ -244,10 +236,7 @@ takes_one ts most (d ∷ cs) (suc w) c within is chains = grind (arith, takes_on
 pub first_linked : (g : Ground) (first : Option ℕ) (l : Linked) → Some l ≡ option_map (linked_in g) first
     → (first ≡ Some l.no) × (l ≡ linked_in g l.no)
 first_linked g None l is = absurd (cc)
-first_linked g (Some m) l is =
-    let own : l ≡ linked_in g m = cc in
-    let no : l.no ≡ m = ap (λ (i : Linked). i.no) own in
-    (ap (λ i. Some i) (sym no), own ∙ ap (linked_in g) (sym no))
+first_linked g (Some m) l is = grind arith
 
 pub none_linked : (g : Ground) (first : Option ℕ) → None ≡ option_map (linked_in g) first → first ≡ None
 none_linked g None is = refl
@@ -311,6 +300,4 @@ listed_at-none ts last most n place none = grind arith
 -- behind the last is nothing
 pub listed_at-past : (ts : List Tag) (last most n place : ℕ) → most ≤ place
     → listed_at (walk ts last most n) place ≡ None
-listed_at-past ts last most n place past =
-    let few = length-walk ts last most n in
-    ap first_in (drop_all place (walk ts last most n) (omega (arith, past, few)))
+listed_at-past ts last most n place past = grind (arith, length-walk, drop_all)

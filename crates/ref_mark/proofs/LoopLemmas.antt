@@ -1,9 +1,12 @@
 -- What the loops of a begin and of a scan shade, turn by turn.
-use Rattle.std.proofs.Common.{◌≡◌, ℕ, ◌+◌, ◌<◌, ◌≤◌, true, nat_le, refl, sym, ap, ◌∙◌, arith, List}
-use Rattle.std.proofs.Common.{[], ◌∷◌, ◌++◌, length, take, Option, Some, None, inl, inr}
+use Rattle.std.proofs.Common.{◌≡◌, ℕ, ◌+◌, ◌<◌, ◌≤◌, true, false, nat_le, refl, sym, ap, ◌∙◌, arith, List}
+use Rattle.std.proofs.Common.{[], ◌∷◌, ◌++◌, length, map, take, Option, Some, None, inl, inr, zero, suc}
 use Rattle.std.specs.Prelude.{slice_index_or, if◌then◌else◌}
 use Rattle.std.proofs.lemmas.Bool.{cases_Bool, le-leb}
-use Rattle.std.proofs.lemmas.List.{take_more}
+use Rattle.std.proofs.lemmas.List.{take_more, take_all, append-nil, append_assoc}
+use Rattle.ref_objects.specs.Grounds.{all_marked, all_newly_marked}
+use Rattle.ref_mark.specs.MarkViews.{ground_of}
+use Rattle.ref_mark.proofs.Common.{has, AreDistinct}
 use Rattle.ref_mark.proofs.Common.{Reference, object_at, present, targets_at}
 use Rattle.ref_mark.proofs.Common.{allowed_referent, is_kept, reference_at, Urgency}
 use Rattle.ref_mark.proofs.Common.{fields_in, least_from, IsInOrder, first_in, CycleHeap, shaded, shaded_all}
@@ -157,3 +160,71 @@ held_after_turn start k n holds order so_far = grind (arith, still-least_from, f
 pub fewer_after_turn : (start k : CycleHeap) (n : ℕ) (holds : List ℕ) → IsHeldFrom start k (Some n) holds
     → length (still_held (least_from holds (n + 1)) holds) < length (still_held (Some n) holds)
 fewer_after_turn start k n holds so_far = grind (arith, still-least_from, fewer)
+
+-- ---- what is marked anew becomes grey, one by one
+
+-- objects that become grey are marked, and what is marked anew is grey
+pub shaded_marks : (k : CycleHeap) (held : List (Option ℕ))
+    → record k {
+      marked = (all_marked (ground_of k) held).marked;
+      grey = k.grey ++ all_newly_marked (ground_of k) held;
+    }
+    ≡ shaded_all k (present held)
+shaded_marks k [] = ap (λ ns. record k { grey = ns }) (append-nil k.grey)
+shaded_marks k (None ∷ held) = shaded_marks k held
+shaded_marks k (Some n ∷ held) = grind (arith, append_assoc, append-nil, shaded_marks (shaded k n) held)
+
+-- the one at a place
+read_at : (ns : List ℕ) (place : ℕ) → place < length ns
+    → (n : ℕ) × (slice_index_or (map (λ m. Some m) ns) place None ≡ Some n)
+    × (take (place + 1) ns ≡ take place ns ++ n ∷ [])
+read_at [] place within = absurd (omega (arith, within))
+read_at (m ∷ ns) zero within = (m, refl, refl)
+read_at (m ∷ ns) (suc place) within = grind (arith, read_at ns place)
+
+pub read-has : (ns : List ℕ) (place n : ℕ) → slice_index_or (map (λ m. Some m) ns) place None ≡ Some n → has ns n ≡ true
+read-has [] place n is = absurd (cc)
+read-has (m ∷ ns) zero n is = grind arith
+read-has (m ∷ ns) (suc place) n is = grind (arith, read-has ns place n is)
+
+-- it isn't among those before it
+pub read-apart : (ns : List ℕ) (place n : ℕ) → AreDistinct ns
+    → slice_index_or (map (λ m. Some m) ns) place None ≡ Some n → has (take place ns) n ≡ false
+read-apart [] place n once is = absurd (cc)
+read-apart (m ∷ ns) zero n once is = refl
+read-apart (m ∷ ns) (suc place) n once is = grind (arith, read-has ns place n is, read-apart ns place n once.1 is)
+
+module _ {k : CycleHeap} (start : CycleHeap) (held : List (Option ℕ)) (place : ℕ)
+    (so_far : k ≡ record start {
+      marked = (all_marked (ground_of start) held).marked;
+      grey = start.grey ++ take place (all_newly_marked (ground_of start) held);
+    }) where
+  -- one of them more
+  pub greyed_on : {j : CycleHeap} (n : ℕ)
+      → slice_index_or (map (λ m. Some m) (all_newly_marked (ground_of start) held)) place None ≡ Some n
+      → place < length (all_newly_marked (ground_of start) held) → j ≡ record k { grey = k.grey ++ n ∷ [] }
+      → j ≡ record start {
+        marked = (all_marked (ground_of start) held).marked;
+        grey = start.grey ++ take (place + 1) (all_newly_marked (ground_of start) held);
+      }
+  greyed_on n is within pushed =
+      let one = read_at (all_newly_marked (ground_of start) held) place within in
+      let same : one.0 ≡ n = some_inj (sym one.1 ∙ is) in
+      pushed ∙ ap (λ (i : CycleHeap). record i { grey = i.grey ++ n ∷ [] }) so_far
+      ∙ ap (λ ns. record start { marked = (all_marked (ground_of start) held).marked; grey = ns })
+      (append_assoc start.grey (take place (all_newly_marked (ground_of start) held)) (n ∷ [])
+      ∙ ap (λ ns. start.grey ++ ns)
+      (ap (λ i. take place (all_newly_marked (ground_of start) held) ++ i ∷ []) (sym same) ∙ sym one.2))
+    where
+      some_inj : {a b : ℕ} → Some a ≡ Some b → a ≡ b
+      some_inj same = cc
+
+  pub none_at : slice_index_or (map (λ m. Some m) (all_newly_marked (ground_of start) held)) place None ≡ None
+      → place < length (all_newly_marked (ground_of start) held) → ⊥
+  none_at none within =
+      let one = read_at (all_newly_marked (ground_of start) held) place within in
+      let wrong : None ≡ Some one.0 = sym none ∙ one.1 in cc
+
+  -- all of them
+  pub greyed_all : length (all_newly_marked (ground_of start) held) ≤ place → k ≡ shaded_all start (present held)
+  greyed_all all = grind (arith, take_all, shaded_marks)

@@ -3,13 +3,13 @@ use Rattle.std.proofs.Common.{◌≡◌, ℕ, ◌+◌, ◌<◌, ◌≤◌, Bool,
 use Rattle.std.proofs.Common.{List, [], ◌∷◌, ◌++◌, length, map, take, drop, replicate, get_or, set, Some, None, zero}
 use Rattle.std.proofs.Common.{suc, Option}
 use Rattle.std.specs.Option.{option_map}
-use Rattle.std.proofs.Common.{inl, inr, arith}
+use Rattle.std.proofs.Common.{arith}
 use Rattle.std.specs.Prelude.{slice_set}
 use Rattle.std.specs.List.{list_any}
-use Rattle.std.proofs.lemmas.Bool.{cases_Bool, and_parts, not-true, true≢false, ne_eqb}
+use Rattle.std.proofs.lemmas.Bool.{and_parts, not-true, true≢false, ne_eqb, false_from_ne_true}
 use Rattle.std.proofs.lemmas.List.{append-nil, drop_all, take_all, length_push, length-map, length-set}
 use Rattle.std.proofs.lemmas.List.{length-replicate, length-append}
-use Rattle.ref_mark.proofs.Common.{refers_into, has, is_there, made, Heap, Object, reference_at, one_more, one_fewer}
+use Rattle.ref_mark.proofs.Common.{refers_into, has, is_there, made, Heap, Object, reference_at, one_fewer}
 use Rattle.ref_mark.proofs.Common.{joined}
 use Rattle.ref_mark.proofs.Common.{AreDistinct, list_at, is_in, is_empty, work_refusal, Config, Phase, Policy, Idle}
 use Rattle.ref_mark.proofs.Common.{Marking, Sweeping, Ground, Worklist, empty_worklist, first_in, emptied_list}
@@ -17,6 +17,15 @@ use Rattle.ref_mark.proofs.Common.{CycleHeap, first_cycle_heap, is_white, shaded
 use Rattle.ref_mark.proofs.Common.{Chain, AreChains, chain_first, linked_last_of, chain_with, chain_without_first}
 use Rattle.ref_mark.proofs.Common.{is_tagged, linked_last, listed}
 use Rattle.ref_mark.proofs.Common.{lists_of, no_chain, seen_marker, found_in, AreListed, IsSoundMarker, MayFind}
+use Rattle.ref_mark.specs.MarkViews.{MayGrey}
+use Rattle.ref_objects.proofs.NewMarks.{marked-if_any, marked-only, new_mark, all_marked-only, marked-stays, new_marks}
+use Rattle.ref_objects.proofs.NewMarks.{new_once}
+use Rattle.ref_objects.specs.Grounds.{all_marked, all_newly_marked}
+use Rattle.ref_mark.proofs.LoopLemmas.{read-has, read-apart}
+use Rattle.std.specs.Prelude.{slice_index_or}
+use Rattle.ref_objects.specs.Grounds.{cut_but, if_done}
+use Rattle.ref_mark.proofs.Common.{cleared, Fault}
+use Rattle.std.proofs.Common.{Result, Ok, Err}
 use Rattle.ref_base.specs.Members.{rest_of}
 use Rattle.ref_base.specs.Graphs.{numbers, Reference}
 use Rattle.ref_base.specs.CollectorRows.{emptied as none_found}
@@ -24,8 +33,9 @@ use Rattle.ref_base.specs.declared.urgency.Urgency.TheVariants.{Normal}
 use Rattle.ref_base.specs.KeptPaths.{policy_from}
 use Rattle.ref_base.proofs.HasLaws.{has-append}
 use Rattle.ref_base.proofs.FoundLists.{with_last, has-with_last, AreDistinct-with_last, joined-emptied}
-use Rattle.ref_objects.specs.Grounds.{Tag, first_ground, is_unmarked, ground_marked, after_freeing, with_new_object}
-use Rattle.ref_objects.specs.Grounds.{IsWellFormed, with_cleared_tag, with_new_tag, linked_in}
+use Rattle.ref_objects.specs.Grounds.{Tag, first_ground, is_unmarked, after_freeing, with_new_object}
+use Rattle.ref_objects.specs.Grounds.{IsWellFormed, with_cleared_tag, with_new_tag, linked_in, ground_with_heap}
+use Rattle.ref_objects.specs.Grounds.{newly_marked, ground_marked_if_any}
 use Rattle.ref_mark.specs.Worklists.{with_last as list_with, without_first_listed}
 use Rattle.ref_mark.specs.CycleHeaps.{with_found_taken, swept}
 use Rattle.ref_mark.specs.MarkViews.{found_first}
@@ -46,14 +56,11 @@ length-joined [] w = omega arith
 length-joined (ns ∷ lists) zero = grind (arith, length-append)
 length-joined (ns ∷ lists) (suc w) = grind (arith, length-append, length-joined lists w)
 
--- one more is marked and grey
-listed_shaded : (marked grey : List ℕ) (found : List (List ℕ)) (phase : Phase) (n : ℕ) → has marked n ≡ false
-    → AreListed marked grey found phase → AreListed (one_more marked n) (grey ++ n ∷ []) found phase
-listed_shaded marked grey found phase n new listed = grind (arith, AreDistinct-push, has-one_more, has-append)
-
-listed_marked : (marked grey : List ℕ) (found : List (List ℕ)) (phase : Phase) (n : ℕ)
-    → AreListed marked grey found phase → AreListed (one_more marked n) grey found phase
-listed_marked marked grey found phase n listed = grind (arith, has-one_more)
+-- one of the marked that stands in no list becomes grey
+listed_greyed : (marked grey : List ℕ) (found : List (List ℕ)) (phase : Phase) (n : ℕ) → has marked n ≡ true
+    → has grey n ≡ false → has (joined found) n ≡ false → AreListed marked grey found phase
+    → AreListed marked (grey ++ n ∷ []) found phase
+listed_greyed marked grey found phase n there new lacks listed = grind (arith, AreDistinct-push, has-append)
 
 -- a worker finds one of the marked that stands in no list
 listed_found : (marked grey : List ℕ) (found : List (List ℕ)) (phase : Phase) (w n : ℕ) → w < length found
@@ -102,6 +109,14 @@ module _ {g : Ground} (after : Ground) {grey : Worklist} {found : List Chain} {p
 
   sound_retagged : IsSoundMarker after grey found phase
   sound_retagged = grind (arith, lists-same, found_retagged)
+
+-- the heap alone
+module _ {g after : Ground} {grey : Worklist} {found : List Chain} {phase : Phase} (h : Heap)
+    (config : h.config ≡ g.heap.config) (is : after ≡ ground_with_heap g h)
+    (sound : IsSoundMarker g grey found phase) where
+  pub seen_heaped : (how : Policy) (cycle : ℕ)
+      → seen_marker after grey found phase how cycle ≡ record (seen_marker g grey found phase how cycle) { heap = h }
+  seen_heaped how cycle = rw (is, config) refl
 
 -- a new object
 module _ {g after : Ground} {grey : Worklist} {found : List Chain} {phase : Phase} (m d : ℕ) (o : Object)
@@ -241,63 +256,97 @@ module _ {g after : Ground} {grey : Worklist} {found : List Chain} {phase : Phas
       → seen_marker after grey found phase how cycle ≡ swept (seen_marker g grey found phase how cycle) n
   seen_freed how cycle due = rw found_freed (grind (arith, one_fewer-missing))
 
--- one more object is marked, or none
-pub sound_marked : {g after : Ground} {grey : Worklist} {found : List Chain} {phase : Phase} (n : ℕ)
-    → after ≡ ground_marked g n → IsWellFormed after → IsSoundMarker g grey found phase
-    → IsSoundMarker after grey found phase
-sound_marked {g} {after} {grey} {found} {phase} n is formed sound =
-    elim (cases_Bool (is_unmarked g n)) [
-      | inl new ↦
-          let one : after ≡ record g { marked = one_more g.marked n } = is ∙ simp new refl in
-          remarked g after grey found phase n one formed sound
-      | inr none ↦
-          let same : after ≡ g = is ∙ simp none refl in
-          subst (λ (h : Ground). IsSoundMarker h grey found phase) (sym same) sound
-    ]
-  where
-    remarked : (g after : Ground) (grey : Worklist) (found : List Chain) (phase : Phase) (n : ℕ)
-        → after ≡ record g { marked = one_more g.marked n } → IsWellFormed after → IsSoundMarker g grey found phase
-        → IsSoundMarker after grey found phase
-    remarked g after grey found phase n is formed sound =
-        let few = formed.marks in
-        let cells = formed.few in
-        record {
-          few = omega (arith, few, cells);
-          grey_fits = rw is sound.grey_fits;
-          finders = rw is sound.finders;
-          begins = rw is sound.begins;
-          none_0 = rw is sound.none_0;
-          chains = rw is sound.chains;
-          listed = rw is (listed_marked g.marked grey.stands (found_in g found) phase n sound.listed);
-        }
-
--- one more is marked and grey
-module _ {g after : Ground} {grey : Worklist} {found : List Chain} {phase : Phase} (n : ℕ)
-    (new : is_unmarked g n ≡ true) (is : after ≡ ground_marked g n) (formed : IsWellFormed after)
+-- more objects are marked
+module _ {g after : Ground} {grey : Worklist} {found : List Chain} {phase : Phase}
+    (is : after ≡ record g { marked = after.marked })
+    (grows : (n : ℕ) → has g.marked n ≡ true → has after.marked n ≡ true)
     (sound : IsSoundMarker g grey found phase) where
-  one : after ≡ record g { marked = one_more g.marked n }
-  one = is ∙ simp new refl
+  pub sound_remarked : IsWellFormed after → IsSoundMarker after grey found phase
+  sound_remarked formed = grind arith
 
-  unmarked : has g.marked n ≡ false
-  unmarked =
-      not-true (has g.marked n) (and_parts (is_there g.heap.objects n) (not (has g.marked n)) new).1
+  -- one that is marked anew may become grey
+  pub may_grey : (how : Policy) (cycle n : ℕ) → has g.marked n ≡ false → has after.marked n ≡ true
+      → MayGrey (seen_marker after grey found phase how cycle) n
+  may_grey how cycle n was now = grind arith
 
-  few : length after.marked ≤ after.heap.config.cells
-  few = omega (arith, formed.marks, formed.few)
+-- one is, by its number or as what a slot holds
+module _ {g after : Ground} {grey : Worklist} {found : List Chain} {phase : Phase} (value : Option ℕ)
+    (is : after ≡ ground_marked_if_any g value) (sound : IsSoundMarker g grey found phase) where
+  only : after ≡ record g { marked = after.marked }
+  only = rw is (marked-only g value)
 
-  shaded_listed : AreListed after.marked (grey.stands ++ n ∷ []) (found_in after found) phase
-  shaded_listed = rw one (listed_shaded g.marked grey.stands (found_in g found) phase n unmarked sound.listed)
+  grows : (n : ℕ) → has g.marked n ≡ true → has after.marked n ≡ true
+  grows n was = rw is (marked-if_any g value n was)
+
+  pub sound_marked : IsWellFormed after → IsSoundMarker after grey found phase
+  sound_marked formed = sound_remarked only grows sound formed
+
+  pub may_grey_new : (how : Policy) (cycle n : ℕ) → newly_marked g value ≡ Some n
+      → MayGrey (seen_marker after grey found phase how cycle) n
+  may_grey_new how cycle n new =
+      let one = new_mark g value n new in may_grey only grows sound how cycle n one.0 (rw is one.1)
+
+-- several are, as the fields of an object hold them
+module _ {g after : Ground} {grey : Worklist} {found : List Chain} {phase : Phase} (held : List (Option ℕ))
+    (is : after ≡ all_marked g held) (sound : IsSoundMarker g grey found phase) where
+  pub sound_all_marked : IsWellFormed after → IsSoundMarker after grey found phase
+  sound_all_marked formed =
+      sound_remarked (rw is (all_marked-only g held)) (λ n was. rw is (marked-stays g held n was)) sound formed
+
+  -- none of them is grey at first
+  pub seen_all_marked : (how : Policy) (cycle : ℕ)
+      → seen_marker after grey found phase how cycle
+      ≡ record (seen_marker g grey found phase how cycle) {
+        marked = (all_marked g held).marked;
+        grey = grey.stands ++ take 0 (all_newly_marked g held);
+      }
+  seen_all_marked how cycle = grind (arith, all_marked-only, append-nil)
+
+  -- each that was marked anew may become grey in its turn
+  pub may_grey_on : {k : CycleHeap} (how : Policy) (cycle place n : ℕ)
+      → slice_index_or (map (λ m. Some m) (all_newly_marked g held)) place None ≡ Some n
+      → k ≡ record (seen_marker g grey found phase how cycle) {
+        marked = (all_marked g held).marked;
+        grey = grey.stands ++ take place (all_newly_marked g held);
+      } → MayGrey k n
+  may_grey_on how cycle place n reads so_far =
+      let news = all_newly_marked g held in
+      let one = new_marks g held n (read-has news place n reads) in
+      let apart = read-apart news place n (new_once g held) reads in
+      let unlisted : has grey.stands n ≡ false =
+      false_from_ne_true (has grey.stands n) (λ stands. true≢false (sym (sound.listed.grey_marked n stands) ∙ one.0)) in
+      rw so_far (record {
+        marked = one.1;
+        new = has-append grey.stands (take place news) n ∙ simp unlisted apart;
+        lacks = false_from_ne_true (has (joined (found_in g found)) n)
+            (λ stands. true≢false (sym (sound.listed.found_marked n stands) ∙ one.0));
+      })
+
+-- a reference is cleared in its slot, unless it is spared
+pub sound_cut_in : {T : Type 0} {g after : Ground} {grey : Worklist} {found : List Chain} {phase : Phase}
+    (spare : Bool) (m s : ℕ) (result : Result T Fault) → after ≡ if_done result (cut_but g spare m s) g
+    → IsSoundMarker g grey found phase → IsSoundMarker after grey found phase
+sound_cut_in {T} {g} {after} {grey} {found} {phase} spare m s (Ok done) is sound = grind arith
+sound_cut_in {T} {g} {after} {grey} {found} {phase} spare m s (Err fault) is sound =
+    subst (λ (h : Ground). IsSoundMarker h grey found phase) (sym is) sound
+
+-- one that may become grey is the last of the grey list
+module _ {g : Ground} {grey : Worklist} {found : List Chain} {phase : Phase} {how : Policy} {cycle : ℕ} (n : ℕ)
+    (may : MayGrey (seen_marker g grey found phase how cycle) n) (sound : IsSoundMarker g grey found phase) where
+  greyed_listed : AreListed g.marked (grey.stands ++ n ∷ []) (found_in g found) phase
+  greyed_listed =
+      listed_greyed g.marked grey.stands (found_in g found) phase n may.marked may.new may.lacks sound.listed
 
   pub grey_has_room : length grey.stands < grey.room
   grey_has_room =
-      let fit = distinct_fit (grey.stands ++ n ∷ []) after.marked shaded_listed.grey_once shaded_listed.grey_marked in
+      let fit = distinct_fit (grey.stands ++ n ∷ []) g.marked greyed_listed.grey_once greyed_listed.grey_marked in
       let size = length_push grey.stands n in
-      let cells : after.heap.config.cells ≡ g.heap.config.cells = ap (λ (h : Ground). h.heap.config.cells) one in
+      let few = sound.few in
       let fits = sound.grey_fits in
-      omega (arith, fit, size, few, cells, fits)
+      omega (arith, fit, size, few, fits)
 
-  pub sound_shaded : {l : Worklist} → l ≡ list_with grey n → IsSoundMarker after l found phase
-  sound_shaded {l} pushed = grind (arith, shaded_listed)
+  pub sound_greyed : {l : Worklist} → l ≡ list_with grey n → IsSoundMarker g l found phase
+  sound_greyed {l} pushed = grind (arith, greyed_listed)
 
 -- ---- the grey list is taken from, or emptied
 

@@ -9,7 +9,7 @@ use Rattle.ref_base.specs.Paths.{present, targets_at}
 use Rattle.ref_base.specs.KeptPaths.{is_kept, policy_from}
 use Rattle.ref_base.specs.DoomedSets.{refers_into}
 use Rattle.ref_base.specs.Heaps.{Heap, first_heap, slot_at, reference_at, one_more, with_slot, made, got, cut}
-use Rattle.ref_base.specs.Heaps.{with_changed, with_reference, got_at, with_clock}
+use Rattle.ref_base.specs.Heaps.{with_clock}
 use Rattle.ref_base.specs.CollectorRows.{reference_of, referent_of, referent_got, is_same, list_at, emptied, without}
 use Rattle.ref_base.specs.Refusals.{is_in}
 use Rattle.ref_base.specs.declared.config.Config.{Config}
@@ -124,12 +124,6 @@ loaded k m d value = let after = barred k value in record after { heap = with_sl
 -- what a get of the reference in the slot answers: nothing of a phantom reference, and else the referent, as it reads
 abbrev pub value_got : CycleHeap → ℕ → ℕ → Option ℕ
 value_got k m s = undoomed k (referent_got (reference_of k.heap (slot_at k.heap m s)))
-
--- the reference n answered this: if it is an object, that renews the stamp of a soft reference
-abbrev pub renewed : CycleHeap → ℕ → Option ℕ → CycleHeap
-renewed k n None = k
-renewed k n (Some value) =
-    record k { heap = with_changed k.heap n (with_reference (got_at k.heap.clock)) }
 
 -- slot d holds what was got, which renews the stamp of a soft reference
 abbrev pub with_got : CycleHeap → ℕ → ℕ → ℕ → Option ℕ → CycleHeap

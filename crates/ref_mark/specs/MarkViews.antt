@@ -68,3 +68,9 @@ pub record MayFind (k : CycleHeap) (w n : ℕ) : Type 0 where
   pub marked : has k.marked n ≡ true
   pub black : has k.grey n ≡ false
   pub new : has (joined k.found) n ≡ false
+
+-- Object n may become grey: it is marked, and stands in no list.
+pub record MayGrey (k : CycleHeap) (n : ℕ) : Type 0 where
+  pub marked : has k.marked n ≡ true
+  pub new : has k.grey n ≡ false
+  pub lacks : has (joined k.found) n ≡ false

@@ -1,6 +1,6 @@
 //! The marker: a heap in its cycles, and the calls of mutators that make and change objects.
 
-ghost use Rattle.std.specs.Prelude.{◌≡◌, false, IfOk, replicate};
+ghost use Rattle.std.specs.Prelude.{◌≡◌, ◌++◌, ◌∷◌, [], false, IfOk, replicate};
 ghost use Rattle.ref_base.specs.Collectors.{first_state_of};
 ghost use Rattle.ref_base.specs.CollectorRows.{value_reply};
 ghost use Rattle.ref_base.specs.declared.heap_step.HeapStep.TheVariants.{Plain};
@@ -10,7 +10,7 @@ ghost use Rattle.ref_mark.specs.Worklists.{empty_worklist};
 ghost use Rattle.ref_mark.specs.Chains.{no_chain, is_tagged};
 ghost use Rattle.ref_mark.specs.CycleHeaps.{first_cycle_heap, is_in_cycle, shaded, shaded_if_any, young};
 ghost use Rattle.ref_mark.specs.MarkCalls.{MarkerDoes, reply_of, done_reply};
-ghost use Rattle.ref_mark.specs.MarkViews.{ground_of};
+ghost use Rattle.ref_mark.specs.MarkViews.{ground_of, MayGrey};
 ghost use Rattle.ref_mark.specs.Standing.{MarkStands};
 ghost use Rattle.ref_mark.specs.MarkRows.{starting_state};
 
@@ -209,8 +209,16 @@ impl<A: Allocator + Copy> Marker<A> {
     {
         if self.objects.mark(no) {
             self.objects.facts();
-            self.grey.push(no);
+            self.push_grey(no);
         }
+    }
+
+    // An object that was just marked becomes grey.
+    fn push_grey(&mut self, no: ObjNo)
+        requires { MayGrey self.old no }
+        ensures { self.new ≡ record self.old { grey = self.old.grey ++ no ∷ [] } }
+    {
+        self.grey.push(no);
     }
 
     fn shade_if_any(&mut self, value: Option<ObjNo>)

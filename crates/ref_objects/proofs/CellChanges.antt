@@ -5,6 +5,8 @@ use Rattle.std.proofs.lemmas.List.{length-set}
 use Rattle.std.specs.Option.{option_map, is_some}
 use Rattle.std.specs.Int.{from_bool}
 use Rattle.ref_objects.specs.Places.{IsSoundTable}
+use Rattle.ref_objects.specs.Tables.{change_of}
+use Rattle.ref_objects.specs.declared.cell.Change.{Change}
 use Rattle.ref_objects.proofs.Common.{Tabled, Table, tabled_at, tabled_by, place_in, place_if_live, seen_table, changed}
 use Rattle.ref_objects.proofs.Common.{Entry, changed_tabled, marked_of, holds_in, is_unheld, is_marked_in, table_freed}
 use Rattle.ref_objects.proofs.PlaceLemmas.{IsPlaceOf, IsPlaceOf-lent, IsMissing, IsMissing-lent}
@@ -103,3 +105,11 @@ module _ {cells borrowed : List (Option Tabled)} {es lent : List Entry} {ps : Li
 
       pub freed_nowhere : t ≡ table_freed t n
       freed_nowhere = rw (← view) (seen_missing_freed sound.placed missing)
+
+-- ---- what is written of an object
+
+pub change_keeps : (change : Change) (k : Tabled) → (change_of change k).object.no ≡ k.object.no
+change_keeps change k = grind arith
+
+pub change_leaves : (change : Change) (k : Tabled) → (change_of change k).marked ≡ k.marked
+change_leaves change k = grind arith

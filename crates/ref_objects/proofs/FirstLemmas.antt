@@ -1,17 +1,10 @@
 -- Which object is the first from a number on that passes a test, by the cells and the index.
-use Rattle.std.proofs.Common.{◌≡◌, ℕ, ◌-◌, ◌≤◌, Bool, true, ◌==◌, refl, sym}
-use Rattle.std.proofs.Common.{◌∙◌, ap, List, [], ◌∷◌, length, take, drop, Option, Some, None, inl, inr, arith}
-use Rattle.std.proofs.lemmas.Bool.{cases_Bool}
+use Rattle.std.proofs.Common.{◌≡◌, ℕ, ◌-◌, ◌≤◌, Bool, refl, sym}
+use Rattle.std.proofs.Common.{◌∙◌, ap, List, [], ◌∷◌, length, take, drop, Option, arith}
 use Rattle.std.proofs.lemmas.List.{take_rest}
 use Rattle.ref_objects.specs.Tables.{first_where}
 use Rattle.ref_objects.specs.Places.{first_entry, is_passing}
-use Rattle.ref_objects.proofs.Common.{cell_at, tabled_by, count_below, AllAbove, Rises, Tabled, Entry, is_of}
-
--- a test that each object passes is none
-pub is_passing-all : (c : Option Tabled) (n : ℕ) → is_of c n ≡ is_passing (λ k. true) c n
-is_passing-all None n = refl
-is_passing-all (Some k) n =
-    elim (cases_Bool (k.object.no == n)) [ inl own ↦ simp own refl | inr stale ↦ simp stale refl ]
+use Rattle.ref_objects.proofs.Common.{cell_at, tabled_by, count_below, AllAbove, Rises, Tabled, Entry}
 
 module _ (passes : Tabled → Bool) where
   module _ (cells : List (Option Tabled)) (test : Entry → Bool)

@@ -9,7 +9,7 @@ use Rattle.std.proofs.lemmas.List.{length-set, length-map, map-append}
 use Rattle.ref_objects.proofs.Common.{has, Object, Reference, object_at, is_there, numbers, IsRising, one_more, Config}
 use Rattle.ref_objects.proofs.Common.{Tabled, Table, tabled_at, objects_of, holds_of, object_in, holds_in, has_field}
 use Rattle.ref_objects.proofs.Common.{is_unheld, on_object, more_held, less_held, changed, changed_tabled, made_entry}
-use Rattle.ref_objects.proofs.Common.{with_tabled, AllUpTo, kind_by, least_from, seen_ground, IsSoundGround, one_fewer}
+use Rattle.ref_objects.proofs.Common.{with_tabled, AllUpTo, least_from, seen_ground, IsSoundGround, one_fewer}
 use Rattle.ref_objects.proofs.Common.{tags_of}
 use Rattle.ref_base.specs.Heaps.{reference_in, with_changed, changed_at, with_reference, cleared, with_hold}
 use Rattle.ref_base.specs.Heaps.{without_hold}
@@ -17,9 +17,12 @@ use Rattle.ref_base.specs.Refusals.{field_count, object_refusal}
 use Rattle.ref_base.specs.declared.fault.Fault.TheVariants.{NoCell}
 use Rattle.ref_objects.specs.Tables.{tabled_fields, tabled_reference, numbers_by, tag_of}
 use Rattle.ref_objects.specs.Tables as table
-use Rattle.ref_objects.specs.Grounds.{Tag, fields_in, kind_in, ground_with_heap, after_freeing, changed_tag}
+use Rattle.ref_objects.specs.Grounds.{Tag, fields_in, ground_with_heap, after_freeing, changed_tag}
 use Rattle.ref_objects.specs.Grounds.{with_cleared_tag}
-use Rattle.ref_objects.specs.GroundViews.{heap_of, made_at}
+use Rattle.ref_objects.specs.GroundViews.{heap_of, made_at, written}
+use Rattle.ref_objects.specs.declared.cell.Change.{Change}
+use Rattle.ref_objects.specs.declared.cell.Change.TheVariants.{Cut, Stamp, ClearedIn, ClearIn, Link}
+use Rattle.ref_base.specs.Heaps.{with_stamp}
 use Rattle.ref_objects.proofs.TabledLemmas.{object_at-objects_of, is_there-objects_of, objects_of-changed, map-changed}
 use Rattle.ref_objects.proofs.TabledLemmas.{objects_of-without}
 use Rattle.ref_objects.proofs.NumberLemmas.{has-numbers_by, length-changed, length-without, numbers_by-changed}
@@ -45,11 +48,6 @@ has_field-tabled ks n i = rw (object_at-objects_of ks n) (has_field-object (tabl
 pub reference-tabled : (ks : List Tabled) (n : ℕ)
     → tabled_reference (tabled_at ks n) ≡ reference_in (object_at (objects_of ks) n)
 reference-tabled ks n = ap reference_in (sym (object_at-objects_of ks n))
-
--- what an object is that is there
-pub kind_of-there : (o : Option Object) → is_some o ≡ true → Some (kind_by (reference_in o)) ≡ kind_in o
-kind_of-there None there = absurd (false≢true there)
-kind_of-there (Some o) there = refl
 
 -- each number is one of an object
 pub numbers-all : (ks : List Tabled) → numbers_by (λ k. 1) ks ≡ numbers (objects_of ks)
@@ -119,7 +117,7 @@ seen_tagged config heap_no t slots clock next n f g object holds marked is =
 
 -- an object's reference is cleared, in this cycle
 pub seen_cleared : (config : Config) (heap_no : ℕ) (t : Table) (slots : List (Option ℕ)) (clock next n cycle : ℕ)
-    → seen_ground config heap_no (changed t n (table.cleared_tabled cycle)) slots clock next
+    → seen_ground config heap_no (changed t n (table.change_of (ClearIn cycle))) slots clock next
     ≡ record (seen_ground config heap_no t slots clock next) {
       heap = with_changed (heap_of config heap_no t slots clock) n (with_reference cleared);
       tags = with_cleared_tag (tags_of t.tabled) n cycle;
@@ -129,14 +127,35 @@ seen_cleared config heap_no t slots clock next n cycle =
       arith,
       objects_of-cleared,
       numbers_by-changed,
-      tags_of-changed t.tabled n (table.cleared_tabled cycle) (λ t. record t { cleared_in = cycle }) (λ k. refl),
+      tags_of-changed t.tabled n (table.change_of (ClearIn cycle)) (λ t. record t { cleared_in = cycle }) (λ k. refl),
     )
   where
     objects_of-cleared : (ks : List Tabled)
-        → objects_of (changed_tabled ks n (table.cleared_tabled cycle))
+        → objects_of (changed_tabled ks n (table.change_of (ClearIn cycle)))
         ≡ changed_at (objects_of ks) n (with_reference cleared)
     objects_of-cleared [] = refl
     objects_of-cleared (k ∷ ks) = grind (arith, objects_of-cleared ks)
+
+-- what is written of it
+pub change_holds : (change : Change) (k : Tabled) → (table.change_of change k).holds ≡ k.holds
+change_holds change k = grind arith
+
+pub seen_written : (config : Config) (heap_no : ℕ) (t : Table) (slots : List (Option ℕ)) (clock next n : ℕ)
+    (change : Change)
+    → seen_ground config heap_no (changed t n (table.change_of change)) slots clock next
+    ≡ written (seen_ground config heap_no t slots clock next) n change
+seen_written config heap_no t slots clock next n Cut =
+    seen_changed config heap_no t slots clock next n (with_reference cleared) (λ o. refl)
+seen_written config heap_no t slots clock next n (Stamp stamp) =
+    seen_changed config heap_no t slots clock next n (with_reference (with_stamp stamp)) (λ o. refl)
+seen_written config heap_no t slots clock next n (ClearIn cycle) =
+    seen_cleared config heap_no t slots clock next n cycle
+seen_written config heap_no t slots clock next n (ClearedIn cycle) =
+    seen_tagged config heap_no t slots clock next n (table.change_of (ClearedIn cycle))
+    (λ i. record i { cleared_in = cycle }) (λ k. refl) (λ k. refl) (λ k. refl) (λ k. refl)
+seen_written config heap_no t slots clock next n (Link to) =
+    seen_tagged config heap_no t slots clock next n (table.change_of (Link to)) (λ i. record i { link = to })
+    (λ k. refl) (λ k. refl) (λ k. refl) (λ k. refl)
 
 -- ---- holds
 

@@ -14,3 +14,5 @@ pub mod UnmarkedLemmas
 pub mod MarkLemmas
 pub mod MarkedLemmas
 pub mod TagLemmas
+pub mod NewMarks
+pub mod GotLemmas

@@ -1,5 +1,5 @@
 -- Which objects of a table are marked, and how a change of the table changes it.
-use Rattle.std.proofs.Common.{◌≡◌, ℕ, ◌+◌, ◌-◌, ◌≤◌, Bool, true, false, ◌&&◌, not, nat_lt}
+use Rattle.std.proofs.Common.{◌≡◌, ℕ, ◌+◌, ◌-◌, ◌≤◌, Bool, true, false, ◌&&◌, not}
 use Rattle.std.proofs.Common.{refl, sym, ◌∙◌, ap, List, [], ◌∷◌, ◌++◌, length, Option, Some, None, inl}
 use Rattle.std.proofs.Common.{inr, arith}
 use Rattle.std.proofs.lemmas.Bool.{cases_Bool}
@@ -20,10 +20,6 @@ mark_count k = from_bool k.marked
 pub from_bool-le : (b : Bool) → from_bool b ≤ 1
 from_bool-le true = omega arith
 from_bool-le false = omega arith
-
-pub from_bool-counts : (b : Bool) → b ≡ nat_lt 0 (from_bool b)
-from_bool-counts true = refl
-from_bool-counts false = refl
 
 mark_count-in : (k : Option Tabled) → counted_in mark_count k ≡ from_bool (is_marked_in k)
 mark_count-in None = refl

@@ -21,10 +21,6 @@ one_more-from : (ns : List ℕ) (n : ℕ) → AllFrom n ns → one_more ns n ≡
 one_more-from [] n all = refl
 one_more-from (m ∷ ms) n all = let above : nat_lt m n ≡ false = le-ltb m n all.0 in simp above refl
 
-pub length-one_more : (ns : List ℕ) (n : ℕ) → length (one_more ns n) ≡ length ns + 1
-length-one_more [] n = refl
-length-one_more (m ∷ ms) n = grind (arith, length-one_more ms n)
-
 one_fewer-none : (ns : List ℕ) (n : ℕ) → AllFrom (suc n) ns → one_fewer ns n ≡ ns
 one_fewer-none [] n all = refl
 one_fewer-none (m ∷ ms) n all = grind (arith, one_fewer-none ms n all.1)

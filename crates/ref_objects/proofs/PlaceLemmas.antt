@@ -1,5 +1,5 @@
 -- What the cells and the index say together of the objects that a contract sees.
-use Rattle.std.proofs.Common.{◌≡◌, ℕ, ◌<◌, true, false, ◌==◌, if◌then◌else◌, nat_lt, refl, ◌∙◌, ap, List, []}
+use Rattle.std.proofs.Common.{◌≡◌, ℕ, ◌<◌, true, false, ◌==◌, if◌then◌else◌, nat_lt, refl, List, []}
 use Rattle.std.proofs.Common.{◌∷◌, ◌++◌, length, get_or, set, Option, Some, None, inl, inr, arith}
 use Rattle.std.proofs.lemmas.Bool.{cases_Bool, eqb-true, false≢true}
 use Rattle.std.proofs.lemmas.List.{get_or-set_same, get_or-set_other, get_or_past}
@@ -70,10 +70,6 @@ replaced (k ∷ ks) n c = if k.object.no == n then before c n ks else k ∷ repl
 abbrev pub IsOwn : ℕ → Option Tabled → Type 0
 IsOwn n None = Unit {0}
 IsOwn n (Some k) = k.object.no ≡ n
-
-pub IsAbsent-own : (es : List Entry) (n : ℕ) (c : Option Tabled) → IsOwn n c → place_in es n ≡ None → IsAbsent es c
-IsAbsent-own es n None own none = tt
-IsAbsent-own es n (Some k) own none = ap (place_in es) own ∙ none
 
 -- a write to the cell of number n is a change of that object alone
 pub tabled_by-replaced : (cells : List (Option Tabled)) (es : List Entry) (n p : ℕ) (c : Option Tabled) → Rises es

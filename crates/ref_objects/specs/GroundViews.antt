@@ -2,11 +2,13 @@
 use Rattle.std.specs.Prelude.{◌≡◌, ℕ, ◌+◌, ◌*◌, ◌^◌, ◌<◌, ◌≤◌, true, List, [], ◌∷◌, ◌++◌, length, Option, Some}
 use Rattle.std.specs.Prelude.{slice_set}
 use Rattle.ref_base.specs.Graphs.{Object, Reference}
-use Rattle.ref_base.specs.Heaps.{Heap, nulls}
+use Rattle.ref_base.specs.Heaps.{Heap, nulls, with_changed, with_reference, with_stamp, cleared}
 use Rattle.ref_base.specs.Limits.{is_within_limits}
 use Rattle.ref_base.specs.declared.config.Config.{Config}
 use Rattle.ref_objects.specs.Tables.{Table, objects_of, holds_of, marked_of, tags_of}
-use Rattle.ref_objects.specs.Grounds.{Ground, with_new_tag}
+use Rattle.ref_objects.specs.Grounds.{Ground, with_new_tag, ground_with_heap, with_cleared_tag, with_link}
+use Rattle.ref_objects.specs.declared.cell.Change.{Change}
+use Rattle.ref_objects.specs.declared.cell.Change.TheVariants.{Cut, Stamp, ClearedIn, ClearIn, Link}
 
 -- the heap of this number that a table, slots and the clock are
 abbrev pub heap_of : Config → ℕ → Table → List (Option ℕ) → ℕ → Heap
@@ -49,3 +51,14 @@ made_at g place fields reference =
       next = g.next + 1;
       tags = with_new_tag g.tags g.next;
     }
+
+-- what is written of object n
+abbrev pub written : Ground → ℕ → Change → Ground
+written g n Cut = ground_with_heap g (with_changed g.heap n (with_reference cleared))
+written g n (Stamp stamp) = ground_with_heap g (with_changed g.heap n (with_reference (with_stamp stamp)))
+written g n (ClearedIn cycle) = record g { tags = with_cleared_tag g.tags n cycle }
+written g n (ClearIn cycle) = record g {
+  heap = with_changed g.heap n (with_reference cleared);
+  tags = with_cleared_tag g.tags n cycle;
+}
+written g n (Link to) = record g { tags = with_link g.tags n to }

@@ -7,8 +7,11 @@ use Rattle.ref_base.specs.Members.{has, without_first}
 use Rattle.ref_base.specs.Graphs.{Object, Reference, is_there, numbers}
 use Rattle.ref_base.specs.Limits.{is_within_limits}
 use Rattle.ref_base.specs.Orderly.{IsOrderly}
-use Rattle.ref_base.specs.Heaps.{Heap, first_heap, slot_at, reference_at, with_hold, made, one_more, one_fewer}
-use Rattle.ref_base.specs.CollectorRows.{without}
+use Rattle.ref_base.specs.Heaps.{Heap, first_heap, slot_at, reference_at, with_hold, made, one_more, one_fewer, cut}
+use Rattle.ref_base.specs.Heaps.{with_changed, with_reference, got_at}
+use Rattle.ref_base.specs.CollectorRows.{without, reference_of}
+use Rattle.ref_base.specs.DoomedSets.{refers_into}
+use Rattle.ref_base.specs.Paths.{if_any}
 use Rattle.ref_base.specs.Refusals.{unless, has_slot, holds_refusal, hold_refusal as returned_refusal}
 use Rattle.ref_base.specs.declared.config.Config.{Config}
 use Rattle.ref_base.specs.declared.fault.Fault.{Fault}
@@ -208,6 +211,43 @@ is_unmarked g n = is_there g.heap.objects n && not (has g.marked n)
 -- the object of this number is marked, if there is one
 abbrev pub ground_marked : Ground → ℕ → Ground
 ground_marked g n = if is_unmarked g n then record g { marked = one_more g.marked n } else g
+
+-- the same of what a slot holds, if anything
+abbrev pub ground_marked_if_any : Ground → Option ℕ → Ground
+ground_marked_if_any g None = g
+ground_marked_if_any g (Some n) = ground_marked g n
+
+-- and what is marked anew so
+abbrev pub newly_marked : Ground → Option ℕ → Option ℕ
+newly_marked g None = None
+newly_marked g (Some n) = if is_unmarked g n then Some n else None
+
+-- the same of several, in order
+abbrev pub all_marked : Ground → List (Option ℕ) → Ground
+all_marked g [] = g
+all_marked g (value ∷ values) = all_marked (ground_marked_if_any g value) values
+
+abbrev pub all_newly_marked : Ground → List (Option ℕ) → List ℕ
+all_newly_marked g [] = []
+all_newly_marked g (value ∷ values) =
+    if_any (newly_marked g value) ++ all_newly_marked (ground_marked_if_any g value) values
+
+-- what reads as null where it isn't marked, if that is to be hidden
+abbrev pub read_as : Ground → Bool → Option ℕ → Option ℕ
+read_as g hide None = None
+read_as g hide (Some n) = if hide && is_unmarked g n then None else Some n
+
+-- reference n answered this: if it is an object, that renews the stamp of a soft reference
+abbrev pub renewed : Heap → ℕ → Option ℕ → Heap
+renewed h n None = h
+renewed h n (Some value) = with_changed h n (with_reference (got_at h.clock))
+
+-- a reference is cleared, but one is spared whose referent isn't marked, if that is told
+abbrev pub cut_but : Ground → Bool → ℕ → ℕ → Ground
+cut_but g spare m s =
+    if spare && refers_into (is_unmarked g) (reference_of g.heap (slot_at g.heap m s))
+    then g
+    else ground_with_heap g (cut g.heap m s)
 
 -- no object is marked
 abbrev pub without_marks : Ground → Ground

@@ -6,8 +6,10 @@ use Rattle.std.specs.Int.{from_bool}
 use Rattle.ref_base.specs.Members.{without_first}
 use Rattle.ref_base.specs.Graphs.{Object, Reference, numbers}
 use Rattle.ref_base.specs.Strengths.{IsRising}
-use Rattle.ref_base.specs.Heaps.{reference_in, with_reference, cleared}
+use Rattle.ref_base.specs.Heaps.{reference_in, with_reference, with_stamp, cleared}
 use Rattle.ref_objects.specs.Grounds.{fields_in, Tag}
+use Rattle.ref_objects.specs.declared.cell.Change.{Change}
+use Rattle.ref_objects.specs.declared.cell.Change.TheVariants.{Cut, Stamp, ClearedIn, ClearIn, Link}
 use Rattle.ref_objects.specs.declared.linked.Linked.{Linked}
 
 -- an object of the table, how many holds of it are out, whether it is marked, its link, which is the number of another
@@ -206,22 +208,10 @@ abbrev pub tabled_cleared_in : Option Tabled → ℕ
 tabled_cleared_in None = 0
 tabled_cleared_in (Some k) = k.cleared_in
 
--- cleared in this cycle
-abbrev pub with_cleared_in : ℕ → Tabled → Tabled
-with_cleared_in cycle k = record k { cleared_in = cycle }
-
--- the reference cleared, in this cycle
-abbrev pub cleared_tabled : ℕ → Tabled → Tabled
-cleared_tabled cycle k = record k { object = with_reference cleared k.object; cleared_in = cycle }
-
 -- the object's link: 0 where there is none
 abbrev pub tabled_link : Option Tabled → ℕ
 tabled_link None = 0
 tabled_link (Some k) = k.link
-
--- linked to this
-abbrev pub linked_to : ℕ → Tabled → Tabled
-linked_to to k = record k { link = to }
 
 -- what a list has of the object of number n
 abbrev pub tabled_linked : ℕ → Option Tabled → Linked
@@ -231,3 +221,11 @@ tabled_linked n k = record {
   link = tabled_link k;
   cleared_in = tabled_cleared_in k;
 }
+
+-- what is written of an object
+abbrev pub change_of : Change → Tabled → Tabled
+change_of Cut k = on_object (with_reference cleared) k
+change_of (Stamp stamp) k = on_object (with_reference (with_stamp stamp)) k
+change_of (ClearedIn cycle) k = record k { cleared_in = cycle }
+change_of (ClearIn cycle) k = record k { object = with_reference cleared k.object; cleared_in = cycle }
+change_of (Link to) k = record k { link = to }

@@ -7,14 +7,29 @@ ghost use Rattle.ref_objects.specs.Places.{is_of, is_held_as, is_unmarked_as, un
 ghost use Rattle.ref_objects.specs.Tables.{made_entry, tabled_fields, has_field, tabled_reference, holds_in};
 ghost use Rattle.ref_objects.specs.Tables.{on_object, more_held, less_held};
 ghost use Rattle.ref_objects.specs.Tables.{is_marked_in, is_unmarked_in, with_marked};
-ghost use Rattle.ref_objects.specs.Tables.{tabled_cleared_in, with_cleared_in, cleared_tabled, tabled_link, linked_to};
-ghost use Rattle.ref_objects.specs.Tables.{tabled_linked};
+ghost use Rattle.ref_objects.specs.Tables.{tabled_cleared_in, tabled_link};
+ghost use Rattle.ref_objects.specs.Tables.{tabled_linked, change_of};
 
 use crate::fields::Fields;
 use crate::linked::Linked;
 use crate::reference::Reference;
 use ref_base::ObjNo;
 use std::marker::Model;
+
+/// What is written of an object.
+#[derive(Clone, Copy)]
+pub(crate) enum Change {
+    /// Its reference is cleared, if it is one.
+    Cut,
+    /// It is stamped, if it is a reference.
+    Stamp(u64),
+    /// A worker cleared it in this cycle.
+    ClearedIn(u64),
+    /// Its reference is cleared, in this cycle.
+    ClearIn(u64),
+    /// It links to the object of this number, or to none.
+    Link(u32),
+}
 
 /// A place for one object. In a clause it is the object with its holds, or nothing where it is free.
 #[derive(Drop)]
@@ -136,7 +151,7 @@ impl Cell {
     }
 
     /// Clears the reference, where the object is one.
-    pub(crate) fn cut(&mut self)
+    fn cut(&mut self)
         ensures { self.new ≡ option_map (on_object (with_reference cleared)) self.old }
     {
         if let Some(reference) = self.reference {
@@ -148,11 +163,27 @@ impl Cell {
     }
 
     /// Writes the stamp, where the object is a reference.
-    pub(crate) fn set_stamp(&mut self, stamp: u64)
+    fn set_stamp(&mut self, stamp: u64)
         ensures { self.new ≡ option_map (on_object (with_reference (with_stamp stamp))) self.old }
     {
         if let Some(reference) = self.reference {
             self.reference = Some(Reference { stamp, ..reference });
+        }
+    }
+
+    /// Writes this of the object.
+    pub(crate) fn change(&mut self, change: Change)
+        ensures { self.new ≡ option_map (change_of change) self.old }
+    {
+        match change {
+            Change::Cut => self.cut(),
+            Change::Stamp(stamp) => self.set_stamp(stamp),
+            Change::ClearedIn(cycle) => self.cleared_in = cycle,
+            Change::ClearIn(cycle) => {
+                self.cut();
+                self.cleared_in = cycle;
+            }
+            Change::Link(to) => self.link = to,
         }
     }
 
@@ -188,21 +219,6 @@ impl Cell {
         }
     }
 
-    /// Writes that cycle.
-    pub(crate) fn set_cleared_in(&mut self, cycle: u64)
-        ensures { self.new ≡ option_map (with_cleared_in cycle) self.old }
-    {
-        self.cleared_in = cycle;
-    }
-
-    /// Clears the reference, where the object is one, in this cycle.
-    pub(crate) fn clear_in(&mut self, cycle: u64)
-        ensures { self.new ≡ option_map (cleared_tabled cycle) self.old }
-    {
-        self.cut();
-        self.set_cleared_in(cycle);
-    }
-
     /// The object's link: 0 where it has none, and where there is no object.
     pub(crate) fn link(&self) -> u32
         ensures { result ≡ tabled_link self.now }
@@ -211,13 +227,6 @@ impl Cell {
             Some(_) => self.link,
             None => 0,
         }
-    }
-
-    /// Writes the link.
-    pub(crate) fn set_link(&mut self, to: u32)
-        ensures { self.new ≡ option_map (linked_to to) self.old }
-    {
-        self.link = to;
     }
 
     /// What a list has of the object, which has this number.

@@ -1,6 +1,8 @@
 //! An object's fields.
 
-ghost use Rattle.std.specs.Prelude.{◌≡◌, ◌≤◌, nat_lt, length, replicate, slice_index_or, slice_set};
+ghost use Rattle.std.specs.Prelude.{◌≡◌, ◌≤◌, ◌<◌, ◌++◌, Some, nat_lt, length, map, replicate, slice_index_or};
+ghost use Rattle.std.specs.Prelude.{slice_set};
+ghost use Rattle.ref_base.specs.Paths.{if_any};
 
 use ref_base::{MOST_FIELDS, ObjNo};
 use std::marker::Model;
@@ -47,9 +49,10 @@ impl Fields {
         }
     }
 
-    /// How many fields there are.
+    /// How many fields there are, at most 8.
     pub fn len(&self) -> usize
-        ensures { result ≡ length self.now }
+        ensures count { result ≡ length self.now }
+        ensures few { result ≤ 8 }
     {
         self.count
     }
@@ -64,6 +67,18 @@ impl Fields {
         } else {
             None
         }
+    }
+
+    /// This one more, last, if it is one.
+    pub(crate) fn push_if_any(&mut self, value: Option<ObjNo>)
+        requires { length self.old < 8 }
+        ensures { self.new ≡ self.old ++ map Some (if_any value) }
+    {
+        let Some(no) = value else {
+            return;
+        };
+        self.held[self.count] = Some(no);
+        self.count += 1;
     }
 
     /// Writes a field. False where there is no such field: then nothing changes.

@@ -9,6 +9,8 @@ ghost use Rattle.ref_base.specs.Heaps.{slot_at, with_slot, with_changed, with_fi
 ghost use Rattle.ref_base.specs.Heaps.{reference_made, new_reference};
 ghost use Rattle.ref_base.specs.Refusals.{has_slot, is_queue_or_none, new_refusal, refer_refusal};
 ghost use Rattle.ref_base.specs.Refusals.{store_refusal, drop_refusal, copy_refusal, object_refusal, field_refusal};
+ghost use Rattle.ref_base.specs.Refusals.{load_refusal};
+ghost use Rattle.ref_base.specs.CollectorRows.{field_in};
 ghost use Rattle.ref_objects.specs.Grounds.{first_ground, starting_refusal, IsMade, IsRefused, if_done};
 ghost use Rattle.ref_objects.specs.Grounds.{ground_with_heap, with_new_object};
 ghost use Rattle.ref_objects.specs.GroundViews.{made_at};
@@ -17,6 +19,7 @@ mod holds;
 mod layer;
 mod marks;
 mod readers;
+mod references;
 
 use crate::reference::Reference;
 use crate::start::Start;
@@ -149,6 +152,28 @@ impl<A: Allocator + Copy> Objects<A> {
         self.set_field(no, field, value)
     }
 
+    /// Loads a field of the object in slot `from` into slot `into`, and answers what it holds: an object or null. Tried
+    /// in this order: `NoSuchActor`, `EmptySlot` of `from`, `BadField`. In logarithmic time.
+    pub fn load(
+        &mut self,
+        mutator: MutNo,
+        into: SlotNo,
+        from: SlotNo,
+        field: u32,
+    ) -> Result<Option<ObjNo>, Fault>
+        ensures refused { IsRefused (load_refusal self.old.heap mutator into from field) result }
+        ensures answer { IfOk result
+            (λ value. value ≡ field_in self.old.heap (slot_at self.old.heap mutator from) field) }
+        ensures after { self.new ≡ if_done result
+            (ground_with_heap self.old (with_slot self.old.heap mutator into
+            (field_in self.old.heap (slot_at self.old.heap mutator from) field))) self.old }
+    {
+        let value = self.loadable(mutator, into, from, field)?;
+        let answer = value;
+        let _written = self.set_slot(mutator, into, value);
+        Ok(answer)
+    }
+
     /// Empties a slot. The one error is `NoSuchActor`. In constant time.
     pub fn drop_slot(&mut self, mutator: MutNo, slot: SlotNo) -> Result<(), Fault>
         ensures refused { IsRefused (drop_refusal self.old.heap mutator slot) result }
@@ -181,6 +206,27 @@ impl<A: Allocator + Copy> Objects<A> {
     }
 
     // ---- parts of calls
+
+    // What a load answers, or why it is refused.
+    fn loadable(
+        &self,
+        mutator: MutNo,
+        into: SlotNo,
+        from: SlotNo,
+        field: u32,
+    ) -> Result<Option<ObjNo>, Fault>
+        ensures refused { IsRefused (load_refusal self.now.heap mutator into from field) result }
+        ensures answer { IfOk result
+            (λ value. value ≡ field_in self.now.heap (slot_at self.now.heap mutator from) field) }
+    {
+        self.slot_of(mutator, into)?;
+        let no = self.slot_of(mutator, from)?.ok_or(Fault::EmptySlot)?;
+        let fields = self.fields_of(no);
+        if field as usize >= fields.len() {
+            return Err(Fault::BadField);
+        }
+        Ok(fields.get(field as usize))
+    }
 
     // Where a slot lies.
     fn place(&self, mutator: MutNo, slot: SlotNo) -> Result<usize, Fault>

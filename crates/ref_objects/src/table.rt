@@ -5,9 +5,9 @@ ghost use Rattle.std.specs.Prelude.{replicate};
 ghost use Rattle.std.specs.Bool.{OnFalse};
 ghost use Rattle.std.specs.Vec.{vec_capacity};
 ghost use Rattle.ref_objects.specs.Places.{places_below, unmarked_cell};
-ghost use Rattle.ref_base.specs.Heaps.{with_field, with_reference, with_stamp, cleared};
+ghost use Rattle.ref_base.specs.Heaps.{with_field};
 
-use crate::cell::Cell;
+use crate::cell::{Cell, Change};
 use crate::fields::Fields;
 use crate::index::{
     Entry, cell_of, close_gaps, first_from, held_from, make_room, place_of, unmarked_from,
@@ -56,8 +56,8 @@ impl<A: Allocator + Copy> Table<A> {
     ghost use Rattle.ref_objects.specs.Tables.{on_object, more_held, less_held};
     ghost use Rattle.ref_objects.specs.Tables.{changed, table_freed, made_entry, with_tabled};
     ghost use Rattle.ref_objects.specs.Tables.{is_marked_in, is_unmarked_in, marked_of, unmarked_from, with_marked};
-    ghost use Rattle.ref_objects.specs.Tables.{table_unmarked, tabled_cleared_in, with_cleared_in, cleared_tabled};
-    ghost use Rattle.ref_objects.specs.Tables.{tabled_link, linked_to, tabled_linked};
+    ghost use Rattle.ref_objects.specs.Tables.{table_unmarked, tabled_cleared_in, change_of};
+    ghost use Rattle.ref_objects.specs.Tables.{tabled_link, tabled_linked};
 
     /// A table of no objects, with so many free cells. The one error is `NoMemory`.
     pub(crate) fn new(alloc: A, room: usize) -> Result<Self, Fault>
@@ -167,21 +167,12 @@ impl<A: Allocator + Copy> Table<A> {
         }
     }
 
-    /// Clears the reference of this number. Nothing changes where there is none.
-    pub(crate) fn cut(&mut self, no: ObjNo)
-        ensures { self.new ≡ changed self.old no (on_object (with_reference cleared)) }
+    /// Writes this of the object of this number. Nothing changes where there is none.
+    pub(crate) fn change(&mut self, no: ObjNo, change: Change)
+        ensures { self.new ≡ changed self.old no (change_of change) }
     {
         if let Some(place) = place_of(&self.cells, &self.index, no) {
-            self.cells[place].cut();
-        }
-    }
-
-    /// Writes the stamp of the object of this number. Nothing changes where there is no such reference.
-    pub(crate) fn set_stamp(&mut self, no: ObjNo, stamp: u64)
-        ensures { self.new ≡ changed self.old no (on_object (with_reference (with_stamp stamp))) }
-    {
-        if let Some(place) = place_of(&self.cells, &self.index, no) {
-            self.cells[place].set_stamp(stamp);
+            self.cells[place].change(change);
         }
     }
 
@@ -196,25 +187,6 @@ impl<A: Allocator + Copy> Table<A> {
         }
     }
 
-    /// Writes that cycle. Nothing changes where there is no such object.
-    pub(crate) fn set_cleared_in(&mut self, no: ObjNo, cycle: u64)
-        ensures { self.new ≡ changed self.old no (with_cleared_in cycle) }
-    {
-        if let Some(place) = place_of(&self.cells, &self.index, no) {
-            self.cells[place].set_cleared_in(cycle);
-        }
-    }
-
-    /// Clears the reference of this number in this cycle. Of an object that is none only the cycle is written, and
-    /// nothing changes where there is no such object.
-    pub(crate) fn clear_in(&mut self, no: ObjNo, cycle: u64)
-        ensures { self.new ≡ changed self.old no (cleared_tabled cycle) }
-    {
-        if let Some(place) = place_of(&self.cells, &self.index, no) {
-            self.cells[place].clear_in(cycle);
-        }
-    }
-
     /// The link of the object of this number: 0 where it has none, and where there is no such object.
     pub(crate) fn link_of(&self, no: ObjNo) -> u32
         ensures { result ≡ tabled_link (tabled_at self.now.tabled no) }
@@ -222,15 +194,6 @@ impl<A: Allocator + Copy> Table<A> {
         match cell_of(&self.cells, &self.index, no) {
             Some(cell) => cell.link(),
             None => 0,
-        }
-    }
-
-    /// Writes that link. Nothing changes where there is no such object.
-    pub(crate) fn set_link(&mut self, no: ObjNo, to: u32)
-        ensures { self.new ≡ changed self.old no (linked_to to) }
-    {
-        if let Some(place) = place_of(&self.cells, &self.index, no) {
-            self.cells[place].set_link(to);
         }
     }
 

@@ -2,7 +2,10 @@
 
 use super::Ask::ObjectCount;
 use super::Call::{Ask, Do, Keep, Set};
-use super::Do::{CopySlot, DropSlot, Free, Mark, New, Refer, SetSlot, Store};
+use super::Do::{
+    CopySlot, CutIn, DropSlot, Free, Get, Load, Mark, MarkSlot, MarkSlotAt, New, Refer, SetSlot,
+    Store,
+};
 use super::Keep::{Adopt, Hold, Mint, Release};
 use super::Set::{ClearIn, Cleared, ClockTo, CloseGaps, Cut, Link, Stamp, UnmarkAll};
 use super::{Call, M, config, make_calls};
@@ -16,16 +19,19 @@ use std::process::Abort;
 use std::test::Fail;
 
 /// Each call once.
-const EACH_CALL: [(Call, Told); 21] = [
+const EACH_CALL: [(Call, Told); 26] = [
     (Do(New(0, 8)), Told::Object(1)),
     (Do(Refer(Strength::Soft, 1, 0, Some(0), 8)), Told::Object(2)),
     (Do(Store(0, 7, 1)), Told::Done),
+    (Do(Load(5, 0, 7)), Told::Object(2)),
+    (Do(Get(6, 1, false)), Told::Object(1)),
     (Do(CopySlot(2, 1)), Told::Object(2)),
     (Do(DropSlot(2)), Told::Done),
     (Do(SetSlot(3, Some(1))), Told::Done),
     (Set(ClockTo(5)), Told::Done),
     (Set(Stamp(2, 5)), Told::Done),
     (Set(Cut(2)), Told::Done),
+    (Do(CutIn(1, false)), Told::Done),
     (Set(Cleared(2, 1)), Told::Done),
     (Set(ClearIn(2, 2)), Told::Done),
     (Set(Link(2, 1)), Told::Done),
@@ -34,6 +40,8 @@ const EACH_CALL: [(Call, Told); 21] = [
     (Keep(Mint(1)), Told::Held(1, 1)),
     (Keep(Release), Told::Done),
     (Do(Mark(1)), Told::Yes),
+    (Do(MarkSlot(0)), Told::Nothing),
+    (Do(MarkSlotAt(1)), Told::Found(2)),
     (Do(Free(1)), Told::Yes),
     (Set(UnmarkAll), Told::Done),
     (Set(CloseGaps), Told::Done),

@@ -2,11 +2,14 @@
 
 use super::Ask::{
     Clock, FieldCount, FieldOf, FirstFrom, HasObject, HeapNo, HeldAfter, HeldFrom, HoldCount,
-    IsHeld, IsMarked, IsUnmarked, KindOf, NextNo, ObjectCount, QueueOf, ReferenceOf, ReferentOf,
-    Size, SlotAt, SlotCount, SlotOf, StampOf, UnmarkedCount, UnmarkedFrom,
+    IsHeld, IsMarked, IsUnmarked, KindOf, NextNo, ObjectCount, QueueOf, ReferenceIn, ReferenceOf,
+    ReferentIn, ReferentOf, Size, SlotAt, SlotCount, SlotOf, StampOf, UnmarkedCount, UnmarkedFrom,
 };
 use super::Call::{Ask, Do, Keep, Set, TurnToOther};
-use super::Do::{CopySlot, DropSlot, Free, Mark, New, NewOf, Refer, SetSlot, Store};
+use super::Do::{
+    CopySlot, CutIn, DropSlot, Free, Get, Load, Mark, MarkSlot, MarkSlotAt, New, NewOf, Refer,
+    SetSlot, Store,
+};
 use super::Keep::{Adopt, Hand, Hold, Leak, Mint, Release};
 use super::Set::{ClockTo, Cut, Stamp, UnmarkAll};
 use super::{agree, agree_from, config};
@@ -138,6 +141,104 @@ fn slots_are_copied_dropped_and_set(rt: HostRuntime) -> Result<(), Fail> {
         (Ask(SlotCount), Told::Count(16)),
         (Ask(SlotAt(1)), Told::Object(1)),
         (Ask(SlotAt(3)), Told::Null),
+    ];
+    agree(&rt, rt.alloc(), 8, &story)
+}
+
+#[test]
+fn what_a_field_holds_is_loaded(rt: HostRuntime) -> Result<(), Fail> {
+    let story = [
+        (Do(New(0, 2)), Told::Object(1)),
+        (Do(New(1, 0)), Told::Object(2)),
+        (Do(Store(0, 1, 1)), Told::Done),
+        (Do(Load(2, 0, 1)), Told::Object(2)),
+        (Ask(SlotOf(2)), Told::Object(2)),
+        (Do(Load(2, 0, 0)), Told::Null),
+        (Ask(SlotOf(2)), Told::Null),
+        // Into its own slot.
+        (Do(Load(0, 0, 1)), Told::Object(2)),
+        (Ask(SlotOf(0)), Told::Object(2)),
+        (Do(Load(3, 16, 0)), Told::Refused(Fault::NoSuchActor)),
+        (Do(Load(16, 2, 0)), Told::Refused(Fault::NoSuchActor)),
+        (Do(Load(3, 2, 0)), Told::Refused(Fault::EmptySlot)),
+        (Do(Load(3, 0, 0)), Told::Refused(Fault::BadField)),
+        (Ask(SlotOf(3)), Told::Null),
+    ];
+    agree(&rt, rt.alloc(), 8, &story)
+}
+
+#[test]
+fn what_isnt_marked_reads_as_null_where_it_is_hidden(rt: HostRuntime) -> Result<(), Fail> {
+    let story = [
+        (Do(New(0, 0)), Told::Object(1)),
+        (Do(Refer(Strength::Soft, 1, 0, None, 0)), Told::Object(2)),
+        (Do(Refer(Strength::Phantom, 2, 0, None, 0)), Told::Object(3)),
+        (Ask(ReferenceIn(1)), Told::Found(2)),
+        (Ask(ReferentIn(1, false)), Told::Object(1)),
+        (Ask(ReferentIn(1, true)), Told::Null),
+        (Ask(ReferentIn(2, false)), Told::Object(1)),
+        (Set(ClockTo(7)), Told::Done),
+        (Do(Get(3, 1, true)), Told::Null),
+        (Ask(StampOf(2)), Told::Time(0)),
+        (Do(Get(3, 1, false)), Told::Object(1)),
+        (Ask(StampOf(2)), Told::Time(7)),
+        (Ask(SlotOf(3)), Told::Object(1)),
+        // A phantom reference gives nothing.
+        (Do(Get(3, 2, false)), Told::Null),
+        (Ask(SlotOf(3)), Told::Null),
+        (Do(CutIn(1, true)), Told::Done),
+        (Ask(ReferentIn(1, false)), Told::Object(1)),
+        (Do(MarkSlot(0)), Told::Found(1)),
+        (Do(Get(3, 1, true)), Told::Object(1)),
+        (Do(CutIn(1, true)), Told::Done),
+        (Ask(ReferentIn(1, false)), Told::Null),
+        (Do(CutIn(2, false)), Told::Done),
+        (Ask(ReferentOf(3)), Told::Null),
+    ];
+    agree(&rt, rt.alloc(), 8, &story)
+}
+
+#[test]
+fn only_a_reference_is_got_and_cut(rt: HostRuntime) -> Result<(), Fail> {
+    let story = [
+        (Do(New(0, 0)), Told::Object(1)),
+        (Do(Refer(Strength::Weak, 1, 0, None, 0)), Told::Object(2)),
+        (Do(Get(16, 1, false)), Told::Refused(Fault::NoSuchActor)),
+        (Do(Get(3, 16, false)), Told::Refused(Fault::NoSuchActor)),
+        (Do(Get(3, 4, false)), Told::Refused(Fault::EmptySlot)),
+        (Do(Get(3, 0, false)), Told::Refused(Fault::NotAReference)),
+        (Do(CutIn(16, false)), Told::Refused(Fault::NoSuchActor)),
+        (Do(CutIn(4, false)), Told::Refused(Fault::EmptySlot)),
+        (Do(CutIn(0, false)), Told::Refused(Fault::NotAReference)),
+        (Ask(ReferenceIn(16)), Told::Refused(Fault::NoSuchActor)),
+        (Ask(ReferenceIn(4)), Told::Refused(Fault::EmptySlot)),
+        (Ask(ReferenceIn(0)), Told::Refused(Fault::NotAReference)),
+        (Ask(ReferentIn(16, true)), Told::Refused(Fault::NoSuchActor)),
+        (Ask(ReferentIn(4, true)), Told::Refused(Fault::EmptySlot)),
+        (
+            Ask(ReferentIn(0, true)),
+            Told::Refused(Fault::NotAReference),
+        ),
+        (Ask(ReferentIn(1, false)), Told::Object(1)),
+    ];
+    agree(&rt, rt.alloc(), 8, &story)
+}
+
+#[test]
+fn what_slots_hold_is_marked_once(rt: HostRuntime) -> Result<(), Fail> {
+    let story = [
+        (Do(New(0, 0)), Told::Object(1)),
+        (Do(CopySlot(15, 0)), Told::Object(1)),
+        (Do(New(1, 0)), Told::Object(2)),
+        (Do(MarkSlot(0)), Told::Found(1)),
+        (Do(MarkSlot(15)), Told::Nothing),
+        (Do(MarkSlot(2)), Told::Nothing),
+        (Do(MarkSlot(16)), Told::Refused(Fault::NoSuchActor)),
+        (Do(MarkSlotAt(1)), Told::Found(2)),
+        (Do(MarkSlotAt(1)), Told::Nothing),
+        (Do(MarkSlotAt(16)), Told::Nothing),
+        (Ask(IsMarked(1)), Told::Yes),
+        (Ask(IsMarked(2)), Told::Yes),
     ];
     agree(&rt, rt.alloc(), 8, &story)
 }

@@ -40,16 +40,7 @@ impl<A: Allocator + Copy> Heap<A> {
         ensures does { HeapDoes self.old (Unhook mutator reference) (reply_of notice_reply result) self.new }
         ensures own { IfOk result (λ notice. IsOfHeap self.old.mark.heap.no notice) }
     {
-        let no = self
-            .marker
-            .objects()
-            .slot_of(mutator, reference)?
-            .ok_or(Fault::EmptySlot)?;
-        let unhooked = self
-            .marker
-            .objects()
-            .reference_of(no)
-            .ok_or(Fault::NotAReference)?;
+        let (no, unhooked) = self.marker.objects().reference_in(mutator, reference)?;
         let Some(queue) = unhooked.queue else {
             self.marker.clear(mutator, reference)?;
             return Ok(None);

@@ -1,6 +1,6 @@
 //! The cycle: its begin, the scans of its workers, and the mark's end.
 
-ghost use Rattle.std.specs.Prelude.{◌≡◌, ◌-◌, ◌^◌, ◌<◌, not, Some, length};
+ghost use Rattle.std.specs.Prelude.{◌≡◌, ◌-◌, ◌^◌, ◌<◌, not, Some, None, length, slice_index_or};
 ghost use Rattle.ref_base.specs.Graphs.{object_at};
 ghost use Rattle.ref_base.specs.Paths.{present, targets_at, allowed_referent, if_any};
 ghost use Rattle.ref_base.specs.KeptPaths.{is_kept};
@@ -13,7 +13,7 @@ ghost use Rattle.ref_base.specs.declared.plain_step.PlainStep.TheVariants.{Begin
 ghost use Rattle.ref_objects.specs.Grounds.{IsRefused, fields_in};
 ghost use Rattle.ref_mark.specs.MarkCalls.{MarkerDoes, reply_of, scan_reply};
 ghost use Rattle.ref_mark.specs.MarkViews.{MayFind};
-ghost use Rattle.ref_mark.specs.CycleHeaps.{shaded_all, whitened, with_found, is_white};
+ghost use Rattle.ref_mark.specs.CycleHeaps.{shaded_all, shaded_if_any, whitened, with_found, is_white};
 
 use super::Marker;
 use crate::chain::Chain;
@@ -110,9 +110,19 @@ impl<A: Allocator + Copy> Marker<A> {
     fn shade_slots(&mut self)
         ensures { self.new ≡ shaded_all self.old (present self.old.heap.slots) }
     {
-        for place in 0..self.objects.slots().len() {
-            let value = self.objects.slots()[place];
-            self.shade_if_any(value);
+        for place in 0..self.objects.slot_count() {
+            self.shade_slot_at(place);
+        }
+    }
+
+    // What the slot at a place holds becomes grey.
+    fn shade_slot_at(&mut self, place: usize)
+        requires { place < length self.old.heap.slots }
+        ensures { self.new ≡ shaded_if_any self.old (slice_index_or self.old.heap.slots place None) }
+    {
+        if let Some(no) = self.objects.mark_slot_at(place) {
+            self.objects.facts();
+            self.push_grey(no);
         }
     }
 
@@ -149,9 +159,12 @@ impl<A: Allocator + Copy> Marker<A> {
     fn shade_fields(&mut self, no: ObjNo)
         ensures { self.new ≡ shaded_all self.old (present (fields_in (object_at self.old.heap.objects no))) }
     {
-        let fields = self.objects.fields_of(no);
-        for field in 0..fields.len() {
-            self.shade_if_any(fields.get(field));
+        let anew = self.objects.mark_fields(no);
+        self.objects.facts();
+        for place in 0..anew.len() {
+            if let Some(no) = anew.get(place) {
+                self.push_grey(no);
+            }
         }
     }
 

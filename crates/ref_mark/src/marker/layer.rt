@@ -73,6 +73,7 @@ impl<A: Allocator + Copy> Marker<A> {
     }
 
     /// One more in a list of the layer above, last; its last is none of what workers found. In logarithmic time.
+    #[inline(always)]
     pub fn list_last(&mut self, chain: &mut Chain, no: ObjNo)
         requires { (chain.old.first == 0) ≡ false → has (joined self.old.found) chain.old.last ≡ false }
         ensures links { self.new ≡ record self.old { tags = linked_last self.old.tags chain.old no } }

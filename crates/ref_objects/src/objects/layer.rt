@@ -6,8 +6,10 @@ ghost use Rattle.ref_base.specs.Heaps.{with_slot, with_changed, with_reference, 
 ghost use Rattle.ref_base.specs.Refusals.{drop_refusal};
 ghost use Rattle.ref_objects.specs.Grounds.{IsRefused, if_done, ground_with_heap, is_free, after_freeing};
 ghost use Rattle.ref_objects.specs.Grounds.{with_cleared_tag, with_link};
+ghost use Rattle.ref_objects.specs.GroundViews.{written};
 
 use super::Objects;
+use crate::cell::Change;
 use ref_base::{Fault, MutNo, ObjNo, SlotNo};
 use std::alloc::Allocator;
 
@@ -40,14 +42,14 @@ impl<A: Allocator + Copy> Objects<A> {
         ensures { self.new ≡
             ground_with_heap self.old (with_changed self.old.heap no (with_reference (with_stamp stamp))) }
     {
-        self.table.set_stamp(no, stamp);
+        self.write(no, Change::Stamp(stamp));
     }
 
     /// Clears the reference of this number; nothing changes where there is none. In logarithmic time.
     pub fn cut(&mut self, no: ObjNo)
         ensures { self.new ≡ ground_with_heap self.old (with_changed self.old.heap no (with_reference cleared)) }
     {
-        self.table.cut(no);
+        self.write(no, Change::Cut);
     }
 
     /// Writes in which cycle a worker cleared the object of this number last; nothing changes where there is none. In
@@ -55,7 +57,7 @@ impl<A: Allocator + Copy> Objects<A> {
     pub fn set_cleared_in(&mut self, no: ObjNo, cycle: u64)
         ensures { self.new ≡ record self.old { tags = with_cleared_tag self.old.tags no cycle } }
     {
-        self.table.set_cleared_in(no, cycle);
+        self.write(no, Change::ClearedIn(cycle));
     }
 
     /// Clears the reference of this number, for a worker, in this cycle: as `cut` and `set_cleared_in`, by one search.
@@ -66,7 +68,7 @@ impl<A: Allocator + Copy> Objects<A> {
           tags = with_cleared_tag self.old.tags no cycle;
         } }
     {
-        self.table.clear_in(no, cycle);
+        self.write(no, Change::ClearIn(cycle));
     }
 
     /// Writes the link of the object of this number, which names another object or is 0; nothing changes where there is
@@ -75,7 +77,7 @@ impl<A: Allocator + Copy> Objects<A> {
     pub fn set_link(&mut self, no: ObjNo, to: u32)
         ensures { self.new ≡ record self.old { tags = with_link self.old.tags no to } }
     {
-        self.table.set_link(no, to);
+        self.write(no, Change::Link(to));
     }
 
     /// Frees the object of this number, and its cell; its mark goes. True exactly where there is one and nobody holds
@@ -97,5 +99,12 @@ impl<A: Allocator + Copy> Objects<A> {
         ensures { self.new ≡ self.old }
     {
         self.table.close_gaps();
+    }
+
+    // Writes this of the object of this number.
+    fn write(&mut self, no: ObjNo, change: Change)
+        ensures { self.new ≡ written self.old no change }
+    {
+        self.table.change(no, change);
     }
 }

@@ -68,11 +68,11 @@ impl<A: Allocator + Copy> Objects<A> {
         self.holds
     }
 
-    /// What the slots hold, mutator by mutator.
-    pub fn slots(&self) -> &[Option<ObjNo>]
-        ensures { result.now ≡ self.now.heap.slots }
+    /// How many slots there are, of all mutators.
+    pub fn slot_count(&self) -> usize
+        ensures { result ≡ length self.now.heap.slots }
     {
-        &self.slots
+        self.slots.len()
     }
 
     /// What a slot holds: an object or null. The one error is `NoSuchActor`.
@@ -168,6 +168,7 @@ impl<A: Allocator + Copy> Objects<A> {
 
     /// What a list has of the object of this number: no reference, link or cycle where there is no such object. By one
     /// search.
+    #[inline(always)]
     pub fn linked_of(&self, no: ObjNo) -> Linked
         ensures { result ≡ linked_in self.now no }
     {

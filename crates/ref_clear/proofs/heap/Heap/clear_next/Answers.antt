@@ -37,14 +37,7 @@ invariant_of-self-in_default-referent g c =
 
 pub invariant_of-self-then-not-is_doomed : goal.invariant_of-self-then-not-is_doomed
 invariant_of-self-then-not-is_doomed g c =
-    let first =
-    first_linked (ground_of c.self.inside.marker) _ c.in-Some.found
-    (sym c.in-Some.is ∙ c.in_ok-found.ensures.answer) in
-    sound_passed c.args.worker c.in_ok-found.ensures.refused c.self.invariant c.in-Some.found.no first.0
-    (clears_by c.self.inside.marker c.args.worker c.in-Some.found.no first.1
-    c.in-Some-reference.is c.in_ok-found.ensures.after
-    (ap (λ (r : Reference). r.referent) (sym c.reference.view_is) ∙ c.in-Some-referent.is)
-    (grind arith)) c.in_ok-found.ensures.after
+    grind (arith, sound_passed c.args.worker c.in_ok-found.ensures.refused c.self.invariant c.in-Some.found.no)
 
 pub index-requires : goal.index-requires
 index-requires g c = grind (arith, look_within c.args.worker c.in_ok-found.ensures.refused c.self.invariant)
@@ -54,11 +47,7 @@ index_mut-requires g c = grind (arith, look_within c.args.worker c.in_ok-found.e
 
 pub list_last-requires : goal.list_last-requires
 list_last-requires g c =
-    let first =
-    first_linked (ground_of c.self.inside.marker) _ c.in-Some.found
-    (sym c.in-Some.is ∙ c.in_ok-found.ensures.answer) in
-    last_apart c.args.worker c.in_ok-found.ensures.refused c.self.invariant c.in-Some.found.no first.0
-    (rw c.worker.view_is at c.index.ensures) c.in_ok-found.ensures.after c.cut.ensures
+    grind (arith, last_apart c.args.worker c.in_ok-found.ensures.refused c.self.invariant c.in-Some.found.no)
 
 pub invariant_of-self-then-is_some : goal.invariant_of-self-then-is_some
 invariant_of-self-then-is_some g c =

@@ -10,7 +10,4 @@ invariant_of-self g c =
     sound_marked c.self.invariant does refl refl
 
 pub returns-clause-does : goal.returns-clause-does
-returns-clause-does g c =
-    let none = no_slot_of_freed c.args.mutator c.args.slot c.self.invariant.lists in
-    let does = does_hold c.args.mutator c.args.slot none c.hold.ensures.answer c.hold.ensures.after in
-    does_marked c.self.invariant does refl refl refl c.self.view_is
+returns-clause-does g c = search (no_slot_of_freed, does_hold, does_marked)

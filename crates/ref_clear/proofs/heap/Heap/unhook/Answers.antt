@@ -1,9 +1,9 @@
 use Rattle.std.proofs.Common.{arith}
-use Rattle.std.proofs.Common.{◌≡◌, Some, None, sym, ap, ◌∙◌, subst}
+use Rattle.std.proofs.Common.{◌≡◌, Some, sym, ap, ◌∙◌, subst}
 use Rattle.ref_clear.proofs.Common.{Reference, CycleHeap, IsSoundHeap}
 use Rattle.ref_clear.proofs.NoticeAnswers.{mint_refused}
 use Rattle.ref_clear.proofs.ChainedHeaps.{sound_marked}
-use Rattle.ref_clear.proofs.UnhookAnswers.{slot_is_there, slot_holds, reference_is}
+use Rattle.ref_clear.proofs.UnhookAnswers.{slot_is_there}
 use Rattle.ref_clear.proofs.ChainedNotices.{unhook_cut, unhook_done, sound_unhooked}
 use Rattle.ref_clear.proofs.heap.Heap.unhook.Goals as goal
 
@@ -11,17 +11,7 @@ pub invariant_of-self-in_default : goal.invariant_of-self-in_default
 invariant_of-self-in_default g c = search sound_marked
 
 pub returns-in_default-clause-does : goal.returns-in_default-clause-does
-returns-in_default-clause-does g c =
-    let k : CycleHeap = c.self.inside.marker in
-    let queue : c.in_ok-unhooked.unhooked.queue ≡ None =
-    ap (λ (r : Reference). r.queue) (sym c.unhooked.view_is) ∙ c.in_default.is in
-    rw (← c.self.view_is)
-    (unhook_cut c.self.invariant c.args.mutator c.args.reference
-    (slot_is_there k c.args.mutator c.args.reference c.objects.ensures c.in_ok-slot_of.ensures.refused)
-    (slot_holds k c.args.mutator c.args.reference c.objects.ensures c.in_ok-slot_of.ensures.answer
-    c.in_ok-no.ensures.ok_part)
-    (reference_is k c.in_ok-no.no c.objects-2.ensures c.reference_of.ensures c.in_ok-unhooked.ensures.ok_part) queue
-    c.clear.ensures)
+returns-in_default-clause-does g c = grind (arith, unhook_cut c.self.invariant c.args.mutator c.args.reference)
 
 pub invariant_of-self-in_err-hold : goal.invariant_of-self-in_err-hold
 invariant_of-self-in_err-hold g c =
@@ -32,13 +22,12 @@ invariant_of-self-in_err-hold g c =
 pub invariant_of-self-2 : goal.invariant_of-self-2
 invariant_of-self-2 g c =
     let k : CycleHeap = c.self.inside.marker in
-    let queue : c.in_ok-unhooked.unhooked.queue ≡ Some c.in-Some.queue =
+    let read = rw c.objects.ensures at c.in_ok-no.ensures.answer in
+    let queue : c.in_ok-no.unhooked.queue ≡ Some c.in-Some.queue =
     ap (λ (r : Reference). r.queue) (sym c.unhooked.view_is) ∙ c.in-Some.is in
     sound_unhooked c.self.invariant c.args.mutator c.args.reference
-    (slot_is_there k c.args.mutator c.args.reference c.objects.ensures c.in_ok-slot_of.ensures.refused)
-    (slot_holds k c.args.mutator c.args.reference c.objects.ensures c.in_ok-slot_of.ensures.answer
-    c.in_ok-no.ensures.ok_part)
-    (reference_is k c.in_ok-no.no c.objects-2.ensures c.reference_of.ensures c.in_ok-unhooked.ensures.ok_part) queue
+    (slot_is_there k.heap c.args.mutator c.args.reference (rw c.objects.ensures at c.in_ok-no.ensures.refused))
+    read.0 read.1 queue
     c.in_ok-hold.ensures.answer c.in_ok-hold.ensures.after c.clear-cleared.ensures.after
 
 pub returns-in_err-hold-clause-does : goal.returns-in_err-hold-clause-does
@@ -47,13 +36,12 @@ returns-in_err-hold-clause-does g c = grind (arith, slot_is_there)
 pub returns-clause-does : goal.returns-clause-does
 returns-clause-does g c =
     let k : CycleHeap = c.self.inside.marker in
-    let queue : c.in_ok-unhooked.unhooked.queue ≡ Some c.in-Some.queue =
+    let read = rw c.objects.ensures at c.in_ok-no.ensures.answer in
+    let queue : c.in_ok-no.unhooked.queue ≡ Some c.in-Some.queue =
     ap (λ (r : Reference). r.queue) (sym c.unhooked.view_is) ∙ c.in-Some.is in
     let step =
     unhook_done c.self.invariant c.args.mutator c.args.reference
-    (slot_is_there k c.args.mutator c.args.reference c.objects.ensures c.in_ok-slot_of.ensures.refused)
-    (slot_holds k c.args.mutator c.args.reference c.objects.ensures c.in_ok-slot_of.ensures.answer
-    c.in_ok-no.ensures.ok_part)
-    (reference_is k c.in_ok-no.no c.objects-2.ensures c.reference_of.ensures c.in_ok-unhooked.ensures.ok_part) queue
+    (slot_is_there k.heap c.args.mutator c.args.reference (rw c.objects.ensures at c.in_ok-no.ensures.refused))
+    read.0 read.1 queue
     c.in_ok-hold.ensures.answer c.in_ok-hold.ensures.after c.clear-cleared.ensures.after in
     rw (c.new.ensures, ← c.self.view_is) step

@@ -1,13 +1,15 @@
-use Rattle.std.proofs.Common.{sym, ◌∙◌}
-use Rattle.ref_mark.proofs.MarkerLemmas.{grey_has_room, sound_shaded}
+use Rattle.std.proofs.Common.{arith}
+use Rattle.std.proofs.Common.{Some}
+use Rattle.ref_mark.proofs.MarkerLemmas.{sound_marked, may_grey_new}
 use Rattle.ref_mark.proofs.marker.Marker.shade.Goals as goal
 
-pub push-requires : goal.push-requires
-push-requires g c =
-    grey_has_room c.args.no (sym c.mark.ensures.answer ∙ c.if-mark.true) c.mark.ensures.after c.facts.ensures
-    c.self.invariant
-
 pub invariant_of-self : goal.invariant_of-self
-invariant_of-self g c =
-    sound_shaded c.args.no (sym c.mark.ensures.answer ∙ c.if-mark.true) c.mark.ensures.after c.facts.ensures
-    c.self.invariant c.push.ensures
+invariant_of-self g c = sound_marked (Some c.args.no) c.mark.ensures.after c.self.invariant c.facts.ensures
+
+pub push_grey-requires : goal.push_grey-requires
+push_grey-requires g c =
+    grind (
+      arith,
+      may_grey_new (Some c.args.no) c.mark.ensures.after c.self.invariant c.self.inside.policy c.self.inside.cycle
+          c.args.no,
+    )

@@ -1,7 +1,15 @@
-use Rattle.std.proofs.Common.{◌≡◌, take}
-use Rattle.ref_mark.proofs.Common.{object_at, present, fields_in, shaded_all}
+use Rattle.std.proofs.Common.{◌≡◌, ◌++◌, take}
+use Rattle.ref_mark.proofs.Common.{object_at, fields_in}
+use Rattle.ref_objects.specs.Grounds.{all_marked, all_newly_marked}
+use Rattle.ref_mark.specs.MarkViews.{ground_of}
 use Rattle.ref_mark.proofs.marker.Marker.shade_fields.Given as goal
 
-abbrev pub invariant-loop-field : goal.invariant-loop-field
-invariant-loop-field g l =
-    l.self ≡ shaded_all l.fn.self (present (take l.field (fields_in (object_at l.fn.self.heap.objects l.fn.no))))
+-- what the fields hold is marked, and of what was marked anew so many are grey
+abbrev pub invariant-loop-place : goal.invariant-loop-place
+invariant-loop-place g l =
+    let held = fields_in (object_at l.fn.self.heap.objects l.fn.no) in
+    l.self
+    ≡ record l.fn.self {
+      marked = (all_marked (ground_of l.fn.self) held).marked;
+      grey = l.fn.self.grey ++ take l.place (all_newly_marked (ground_of l.fn.self) held);
+    }

@@ -1,22 +1,18 @@
-use Rattle.std.proofs.Common.{◌≡◌, ◌<◌, List, length, take, Option, sym, ap, subst, ◌∙◌}
-use Rattle.std.specs.Prelude.{slice_index_or, None, ℕ}
-use Rattle.std.proofs.lemmas.List.{get_or_default}
+use Rattle.std.proofs.Common.{◌≡◌, ◌<◌, length, take, None, sym, ap, subst, ◌∙◌}
+use Rattle.std.specs.Prelude.{slice_index_or}
 use Rattle.ref_mark.proofs.Common.{present, Heap, CycleHeap, shaded_if_any}
 use Rattle.ref_mark.proofs.LoopLemmas.{shaded_more, shaded_heap}
 use Rattle.ref_mark.proofs.marker.Marker.shade_slots.Goals as goal
 
-pub bounds-slots-place : goal.bounds-slots-place
-bounds-slots-place g c =
+pub shade_slot_at-requires : goal.shade_slot_at-requires
+shade_slot_at-requires g c =
     let start : CycleHeap = c.args.self.now in
-    let k : CycleHeap = c.loop-place.self in
-    let heap : k.heap ≡ start.heap =
-    shaded_heap start k (present (take c.loop-place.place start.heap.slots)) c.loop-place.invariant in
-    let first : c.slots-place-end.result.now ≡ start.heap.slots =
-    subst (λ (j : CycleHeap). c.slots-place-end.result.now ≡ j.heap.slots) c.self.view_is c.slots-place-end.ensures in
-    let now : c.slots.result.now ≡ start.heap.slots =
-    subst (λ (j : CycleHeap). c.slots.result.now ≡ j.heap.slots) c.self-in-loop-place.view_is c.slots.ensures
-    ∙ ap (λ (h : Heap). h.slots) heap in
-    subst (λ (slots : List (Option ℕ)). c.loop-place.place < length slots) (first ∙ sym now) c.loop-place-test.true
+    let heap : c.loop-place.self.heap ≡ start.heap =
+    shaded_heap start c.loop-place.self (present (take c.loop-place.place start.heap.slots)) c.loop-place.invariant in
+    let within : c.loop-place.place < length start.heap.slots =
+    subst (λ (j : CycleHeap). c.loop-place.place < length j.heap.slots) c.self.view_is
+    (rw c.slot_count-place-end.ensures at c.loop-place-test.true) in
+    subst (λ (h : Heap). c.loop-place.place < length h.slots) (sym heap) within
 
 pub loop-place-preserved : goal.loop-place-preserved
 loop-place-preserved g c =
@@ -24,16 +20,9 @@ loop-place-preserved g c =
     let k : CycleHeap = c.loop-place.self in
     let heap : k.heap ≡ start.heap =
     shaded_heap start k (present (take c.loop-place.place start.heap.slots)) c.loop-place.invariant in
-    let first : c.slots-place-end.result.now ≡ start.heap.slots =
-    subst (λ (j : CycleHeap). c.slots-place-end.result.now ≡ j.heap.slots) c.self.view_is c.slots-place-end.ensures in
-    let now : c.slots.result.now ≡ start.heap.slots =
-    subst (λ (j : CycleHeap). c.slots.result.now ≡ j.heap.slots) c.self-in-loop-place.view_is c.slots.ensures
-    ∙ ap (λ (h : Heap). h.slots) heap in
     let within : c.loop-place.place < length start.heap.slots =
-    subst (λ (slots : List (Option ℕ)). c.loop-place.place < length slots) first c.loop-place-test.true in
-    let value : c.index-slots-place.result ≡ slice_index_or start.heap.slots c.loop-place.place None =
-    c.index-slots-place.is
-    ∙ ap (λ (slots : List (Option ℕ)). slice_index_or slots c.loop-place.place c.index-slots-place.result) now
-    ∙ get_or_default start.heap.slots c.loop-place.place c.index-slots-place.result None within in
-    c.shade_if_any.ensures ∙ ap (shaded_if_any k) value
+    subst (λ (j : CycleHeap). c.loop-place.place < length j.heap.slots) c.self.view_is
+    (rw c.slot_count-place-end.ensures at c.loop-place-test.true) in
+    c.shade_slot_at.ensures
+    ∙ ap (λ (h : Heap). shaded_if_any k (slice_index_or h.slots c.loop-place.place None)) heap
     ∙ shaded_more start k start.heap.slots c.loop-place.place within c.loop-place.invariant

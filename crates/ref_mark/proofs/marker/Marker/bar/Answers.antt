@@ -1,0 +1,15 @@
+use Rattle.std.proofs.Common.{sym, ◌∙◌}
+use Rattle.ref_mark.proofs.Common.{slot_at}
+use Rattle.ref_mark.proofs.MarkerLemmas.{sound_marked, may_grey_new}
+use Rattle.ref_mark.proofs.marker.Marker.bar.Goals as goal
+
+pub invariant_of-self : goal.invariant_of-self
+invariant_of-self g c =
+    sound_marked (slot_at c.self.inside.objects.heap c.args.mutator c.args.slot) c.in-Ok-Some.ensures.after
+    c.self.invariant c.facts.ensures
+
+pub push_grey-requires : goal.push_grey-requires
+push_grey-requires g c =
+    may_grey_new (slot_at c.self.inside.objects.heap c.args.mutator c.args.slot) c.in-Ok-Some.ensures.after
+    c.self.invariant c.self.inside.policy c.self.inside.cycle c.in-Ok-Some.no
+    (sym c.in-Ok-Some.ensures.answer ∙ c.in-Ok-Some.field-0-is)

@@ -1,0 +1,13 @@
+use Rattle.std.proofs.Common.{None, sym, ◌∙◌}
+use Rattle.std.specs.Prelude.{slice_index_or}
+use Rattle.ref_mark.proofs.MarkerLemmas.{sound_marked, may_grey_new}
+use Rattle.ref_mark.proofs.marker.Marker.shade_slot_at.Goals as goal
+
+pub invariant_of-self : goal.invariant_of-self
+invariant_of-self g c = search sound_marked
+
+pub push_grey-requires : goal.push_grey-requires
+push_grey-requires g c =
+    may_grey_new (slice_index_or c.self.inside.objects.heap.slots c.args.place None) c.mark_slot_at.ensures.after
+    c.self.invariant c.self.inside.policy c.self.inside.cycle c.in-Some.no
+    (sym c.mark_slot_at.ensures.answer ∙ c.in-Some.is)
