@@ -76,7 +76,7 @@ impl<'a> Program<'a> {
             slot,
             fields: 0,
         };
-        self.user.ask(rt, new)?;
+        self.user.perform(rt, new)?;
         let Program {
             user,
             cleaner,
@@ -91,8 +91,7 @@ impl<'a> Program<'a> {
             // The job comes back: the buffer is given back at once.
             Err((fault, job)) => {
                 job.run();
-                fault.give_up()?;
-                Err(Fault::TurnsSpent)
+                Err(fault.into_fault())
             }
         }
     }
@@ -118,10 +117,7 @@ impl<'a> Program<'a> {
                 hold.leak();
                 Ok(Some(ran))
             }
-            Err(fault) => {
-                fault.give_up()?;
-                Ok(None)
-            }
+            Err(fault) => Err(fault.into_fault()),
         }
     }
 }
@@ -140,12 +136,12 @@ pub fn let_go<R: Wait>(rt: &R, mut user: HeapUser) -> Result<(), Fault>
             queue: Some(LOST),
             fields: 0,
         };
-        user.ask(rt, refer)?;
+        user.perform(rt, refer)?;
         let drop = PlainStep::Drop {
             mutator: PROGRAM,
             slot: SlotNo(slot),
         };
-        user.ask(rt, drop)?;
+        user.perform(rt, drop)?;
     }
     Ok(())
 }

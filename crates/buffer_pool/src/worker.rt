@@ -46,20 +46,16 @@ impl Worker<'_> {
             heap,
             seat: mut heap_seat,
         } = user;
-        match cleaner.clean_loop(
-            rt,
-            &mut seat,
-            heap,
-            &mut heap_seat,
-            queue,
-            &mut queue_seat,
-            &Open,
-        ) {
-            Ok(count) => Ok(count),
-            Err(fault) => {
-                fault.give_up()?;
-                Err(Fault::TurnsSpent)
-            }
-        }
+        cleaner
+            .clean_loop(
+                rt,
+                &mut seat,
+                heap,
+                &mut heap_seat,
+                queue,
+                &mut queue_seat,
+                &Open,
+            )
+            .map_err(|fault| fault.into_fault())
     }
 }

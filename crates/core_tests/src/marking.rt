@@ -6,11 +6,12 @@ mod refusals;
 
 use crate::hand::{adopted, leak, released, taken};
 use crate::told::{
-    Told, began, done, doomed, expect, found, is, is_or_fault, made, scanned, value, value_or_fault,
+    Told, began, done, doomed, expect, found, is, is_or_fault, looked, made, scanned, value,
+    value_or_fault,
 };
 use ref_base::{Config, Fault, MutNo, ObjNo, QueueNo, SlotNo, Strength, Urgency, WorkerNo};
 use ref_mark::Marker;
-use ref_objects::{Hold, Linked, Start};
+use ref_objects::{Hold, Look, Start};
 use std::alloc::Global;
 use std::process::Abort;
 use std::test::Fail;
@@ -60,7 +61,6 @@ enum Collect {
     /// Of this worker.
     TakeFound(u32),
     GreyRoot(u32),
-    Cut(u32),
     Free(u32),
     ToSweeping,
     ToIdle,
@@ -93,9 +93,9 @@ enum Keep {
     Leak,
 }
 
-fn found_or_fault(answer: Result<Option<Linked>, Fault>) -> Told {
+fn found_or_fault(answer: Result<Option<Look>, Fault>) -> Told {
     match answer {
-        Ok(Some(linked)) => Told::Found(linked.no.0),
+        Ok(Some(look)) => looked(look),
         Ok(None) => Told::Nothing,
         Err(fault) => Told::Refused(fault),
     }
@@ -139,7 +139,6 @@ fn collected(heap: &mut Marker, call: Collect) -> Told {
         Collect::TakeFound(worker) => return found_or_fault(heap.take_found(WorkerNo(worker))),
         Collect::Free(no) => return is(heap.free(ObjNo(no))),
         Collect::GreyRoot(no) => heap.grey_root(ObjNo(no)),
-        Collect::Cut(no) => heap.cut(ObjNo(no)),
         Collect::ToSweeping => {
             if heap.has_found() {
                 return Told::No;

@@ -5,7 +5,9 @@ mod memory;
 mod stories;
 
 use crate::hand::{adopted, leak, released, shown, taken};
-use crate::told::{Told, done, expect, found, is, kind, made, queue, value, value_or_fault};
+use crate::told::{
+    Told, done, expect, found, is, kind, looked, made, queue, value, value_or_fault,
+};
 use ref_base::{Config, Fault, MutNo, ObjNo, QueueNo, SlotNo, Strength};
 use ref_objects::{Hold, Objects, Reference, Start};
 use std::alloc::{Allocator, Global};
@@ -53,6 +55,8 @@ enum Do {
     SetSlot(u32, Option<u32>),
     Free(u32),
     Mark(u32),
+    /// At the object of this number, in this cycle.
+    LookAt(u32, u64),
 }
 
 /// A call that changes a heap, and has no answer.
@@ -62,8 +66,6 @@ enum Set {
     Stamp(u32, u64),
     Cut(u32),
     Cleared(u32, u64),
-    /// The reference of this number is cleared in this cycle.
-    ClearIn(u32, u64),
     /// The object of this number links to this one.
     Link(u32, u32),
     UnmarkAll,
@@ -172,6 +174,7 @@ fn changed<A: Allocator + Copy>(heap: &mut Objects<A>, call: Do) -> Told {
         Do::SetSlot(slot, no) => done(heap.set_slot(M, SlotNo(slot), no.map(|no| ObjNo(no)))),
         Do::Free(no) => is(heap.free(ObjNo(no))),
         Do::Mark(no) => is(heap.mark(ObjNo(no))),
+        Do::LookAt(no, cycle) => looked(heap.look_at(ObjNo(no), cycle)),
     }
 }
 
@@ -181,7 +184,6 @@ fn after_setting<A: Allocator + Copy>(heap: &mut Objects<A>, call: Set) -> Told 
         Set::Stamp(no, stamp) => heap.set_stamp(ObjNo(no), stamp),
         Set::Cut(no) => heap.cut(ObjNo(no)),
         Set::Cleared(no, cycle) => heap.set_cleared_in(ObjNo(no), cycle),
-        Set::ClearIn(no, cycle) => heap.clear_in(ObjNo(no), cycle),
         Set::Link(no, to) => heap.set_link(ObjNo(no), to),
         Set::UnmarkAll => heap.unmark_all(),
         Set::CloseGaps => heap.close_gaps(),

@@ -2,7 +2,7 @@
 
 use crate::queues::Slip;
 use ref_base::{Cause, Config, Fault, ObjNo, Parcel, Phase, QueueNo, Reach, Strength};
-use ref_objects::{Kind, Reference};
+use ref_objects::{Kind, Look, Reference};
 use std::fmt;
 use std::process::Abort;
 
@@ -319,6 +319,16 @@ pub fn value_or_fault(answer: Result<Option<ObjNo>, Fault>) -> Told {
     match answer {
         Ok(answer) => value(answer),
         Err(fault) => Told::Refused(fault),
+    }
+}
+
+/// What came of a look.
+pub fn looked(look: Look) -> Told {
+    let no = look.was.no.0;
+    match look.was.reference {
+        Some(_) if look.is_cleared => Told::Cleared(no),
+        Some(reference) if reference.referent.is_some() => Told::Kept(no),
+        _ => Told::Skipped(no),
     }
 }
 

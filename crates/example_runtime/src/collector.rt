@@ -5,31 +5,12 @@ ghost use Rattle.example_runtime.specs.Users.{IsUser, IsCollector};
 
 use crate::heap_user::HeapUser;
 use crate::queue_end::close_all;
-use ref_base::{Fault, PlainStep, Reply, Urgency, WorkerNo};
-use ref_share::{Delivery, QueueSeat, SharedQueue, deliver_one};
+use ref_base::{Fault, Urgency, WorkerNo};
+use ref_share::{QueueSeat, SharedQueue, cycle};
 use std::sync::Wait;
 use std::sync::atomic::{AtomicU64, Ordering};
 
 const WORKER: WorkerNo = WorkerNo(0);
-
-/// Work of a cycle that is done bit by bit, until nothing is left of it.
-#[derive(Clone, Copy)]
-enum Work {
-    Scan,
-    Clear,
-    Sweep,
-}
-
-impl Work {
-    fn step(self) -> PlainStep {
-        let worker = WORKER;
-        match self {
-            Work::Scan => PlainStep::Scan { worker },
-            Work::Clear => PlainStep::ClearNext { worker },
-            Work::Sweep => PlainStep::Sweep { worker },
-        }
-    }
-}
 
 /// The collector's one worker, with the queues that it tells.
 #[derive(Drop)]
@@ -81,65 +62,25 @@ impl<'a> Collector<'a> {
         }
         Ok(())
     }
-
-    // One cycle: what it finds dead is cleared, told to its queue, and freed.
+    // One whole cycle.
     fn cycle<R: Wait>(&mut self, rt: &R, now: u64) -> Result<(), Fault>
         requires { IsCollector self.old }
         ensures { IsCollector self.new }
     {
-        let urgency = Urgency::Normal;
-        self.user.ask(rt, PlainStep::Begin { now, urgency })?;
-        self.mark(rt)?;
-        self.finish(rt, Work::Clear)?;
-        self.user.ask(rt, PlainStep::EndClear)?;
-        self.deliver(rt)?;
-        self.finish(rt, Work::Sweep)?;
-        self.user.ask(rt, PlainStep::EndSweep)?;
-        Ok(())
-    }
-
-    // Scans until the mark's end is accepted: what the program reads in between has to be scanned too.
-    fn mark<R: Wait>(&mut self, rt: &R) -> Result<(), Fault>
-        requires { IsCollector self.old }
-        ensures { IsCollector self.new }
-    {
-        for _ in rt.forever() {
-            self.finish(rt, Work::Scan)?;
-            match self.user.ask(rt, PlainStep::EndMark) {
-                Ok(_) => return Ok(()),
-                Err(Fault::GreyLeft) => {}
-                Err(fault) => return Err(fault),
-            }
+        let normal = Urgency::Normal;
+        let HeapUser { heap, seat } = &mut self.user;
+        match cycle(
+            rt,
+            heap,
+            seat,
+            self.queues,
+            &mut self.seats,
+            WORKER,
+            now,
+            normal,
+        ) {
+            Ok(()) => Ok(()),
+            Err(fault) => Err(fault.into_fault()),
         }
-        unreachable!()
-    }
-
-    // Does the work until nothing is left of it.
-    fn finish<R: Wait>(&mut self, rt: &R, work: Work) -> Result<(), Fault>
-        requires { IsCollector self.old }
-        ensures { IsCollector self.new }
-    {
-        for _ in rt.forever() {
-            if self.user.ask(rt, work.step())? == Reply::Nothing {
-                return Ok(());
-            }
-        }
-        unreachable!()
-    }
-
-    // Hands on all that is pending.
-    fn deliver<R: Wait>(&mut self, rt: &R) -> Result<(), Fault>
-        requires { IsCollector self.old }
-        ensures { IsCollector self.new }
-    {
-        for _ in rt.forever() {
-            let HeapUser { heap, seat, .. } = &mut self.user;
-            match deliver_one(rt, heap, seat, self.queues, &mut self.seats, WORKER) {
-                Ok(Delivery::Nothing) => return Ok(()),
-                Ok(_) => {}
-                Err(fault) => fault.give_up()?,
-            }
-        }
-        unreachable!()
     }
 }

@@ -5,7 +5,7 @@ ghost use Rattle.ref_share.specs.HeapSeats.{IsHeapSeat};
 
 use ref_base::{Fault, PlainStep, Reply};
 use ref_objects::Hold;
-use ref_share::{HeapSeat, ShareFault, SharedHeap};
+use ref_share::{HeapSeat, SharedHeap};
 use std::sync::Wait;
 
 /// The heap, with the seat of one thread.
@@ -33,24 +33,18 @@ impl<'a> HeapUser<'a> {
     }
 
     /// One step by which neither a hold nor a notice changes hands. A refusal is told as a fault.
-    pub fn ask<R: Wait>(&mut self, rt: &R, step: PlainStep) -> Result<Reply, Fault>
+    pub fn perform<R: Wait>(&mut self, rt: &R, step: PlainStep) -> Result<Reply, Fault>
         requires { IsUser self.old }
         ensures { IsUser self.new }
     {
-        match self.heap.ask(rt, &mut self.seat, step)? {
-            Reply::Refused(fault) => Err(fault),
-            reply => Ok(reply),
-        }
+        self.heap.perform(rt, &mut self.seat, step)
     }
 
     /// Gives a hold back: what it holds is no root any more, but for what else leads to it.
-    pub fn release<R: Wait>(&mut self, rt: &R, hold: Hold) -> Result<(), Fault>
+    pub fn give_back<R: Wait>(&mut self, rt: &R, hold: Hold) -> Result<(), Fault>
         requires { IsUser self.old }
         ensures { IsUser self.new }
     {
-        match self.heap.release(rt, &mut self.seat, hold) {
-            Ok(()) => Ok(()),
-            Err((fault, hold)) => ShareFault::Held(hold, fault).give_up(),
-        }
+        self.heap.give_back(rt, &mut self.seat, hold)
     }
 }

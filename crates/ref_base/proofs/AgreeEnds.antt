@@ -1,8 +1,7 @@
 -- A mark's end, a worker's look at a reference and a sweep keep that the collector has the world of the replay, but for
 -- what was swept and for what waits to be cleared.
-use Rattle.std.proofs.Common.{arith}
-use Rattle.std.proofs.Common.{◌≡◌, ℕ, ◌<◌, Bool, true, false, ◌&&◌, ◌==◌, List, ◌++◌, map, take, drop, Option, Some}
-use Rattle.std.proofs.Common.{None, refl, sym, ap, ◌∙◌, subst, inl, inr}
+use Rattle.std.proofs.Common.{arith, ◌≡◌, ℕ, ◌<◌, Bool, true, false, ◌&&◌, ◌==◌, List, ◌++◌, map, take, drop, Option}
+use Rattle.std.proofs.Common.{Some, None, refl, sym, ap, ◌∙◌, subst, inl, inr}
 use Rattle.std.specs.Prelude.{slice_set}
 use Rattle.std.proofs.lemmas.Bool.{cases_Bool, and_right, eq-eqb}
 use Rattle.std.proofs.lemmas.List.{map-id, take-append-drop}
@@ -27,14 +26,12 @@ use Rattle.ref_base.proofs.AgreeHeaps.{Agreeing, there-numbers, there-without, u
 
 -- where nothing waits, the collector has the objects that aren't gone
 pub as_there : (gone : List ℕ) (w : World) (a : State) (phase : Phase) → Agrees gone w a → a.world.phase ≡ phase
-    → is_in phase Clearing ≡ false
-    → a.world ≡ with_heap w (record w.heap { objects = without gone w.heap.objects })
+    → is_in phase Clearing ≡ false → a.world ≡ with_heap w (record w.heap { objects = without gone w.heap.objects })
 as_there gone w a phase agrees is other =
     agrees ∙ ap (λ (these : ℕ → Bool). under gone these w) (none_waits a phase is other)
     ∙ ap (λ (os : List Object). with_heap w (record w.heap { objects = os })) (map-id (without gone w.heap.objects))
 
-marks : (gone : List ℕ) (w : World) (a : State) (found : List (List ℕ)) → Agreeing gone w a
-    → a.world.phase ≡ Marking
+marks : (gone : List ℕ) (w : World) (a : State) (found : List (List ℕ)) → Agreeing gone w a → a.world.phase ≡ Marking
     → ((n : ℕ) → has (new_clears a.world.heap.objects (doomed_at a)) n ≡ true → has (joined found) n ≡ true)
     → Agreeing gone (with_phase w Clearing) (mark_ended a (doomed_at a) found)
 marks gone w a found is marking all =

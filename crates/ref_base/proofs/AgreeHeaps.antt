@@ -93,8 +93,7 @@ module _ (gone : List ℕ) (w : World) (a c : State) (reply : Reply) (is : Agree
   -- a row that ends no phase and makes nothing
   pub still : (step : NamedStep) → IsNoLook step → EndsNoPhase step → MakesNone step
       → IsApart gone (is_waiting a) (made_number step reply)
-      → settled c ≡ settled (with_world a (after_heap a.world step reply))
-      → Agreeing gone (after_heap w step reply) c
+      → settled c ≡ settled (with_world a (after_heap a.world step reply)) → Agreeing gone (after_heap w step reply) c
   still step no_end ends makes apart leads =
       let next : a.next ≡ c.next = ap (λ (s : State). s.next) (sym leads) in
       let phase : c.world.phase ≡ a.world.phase =
@@ -118,8 +117,7 @@ module _ (gone : List ℕ) (w : World) (a c : State) (reply : Reply) (is : Agree
       }
 
   -- a row that makes an object
-  pub makes : (step : NamedStep) → IsNoLook step → EndsNoPhase step
-      → made_number step reply ≡ Some a.next
+  pub makes : (step : NamedStep) → IsNoLook step → EndsNoPhase step → made_number step reply ≡ Some a.next
       → settled c ≡ settled (record a { world = after_heap a.world step reply; next = a.next + 1 })
       → Agreeing gone (after_heap w step reply) c
   makes step no_end ends number leads =

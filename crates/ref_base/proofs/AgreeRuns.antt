@@ -1,13 +1,10 @@
 -- Each row keeps that the collector has the world of the replay, but for what was swept and for what waits to be
 -- cleared.
-use Rattle.std.proofs.Common.{arith}
-use Rattle.std.proofs.Common.{◌≡◌, ℕ, List, [], Option, Some, None, refl, sym, ap, ◌∙◌, subst, inl}
-use Rattle.std.proofs.Common.{inr}
+use Rattle.std.proofs.Common.{arith, ◌≡◌, ℕ, Bool, List, [], Option, Some, None, refl, sym, ap, ◌∙◌, subst, inl, inr}
 use Rattle.std.proofs.lemmas.Bool.{false≢true}
-use Rattle.ref_base.proofs.Common.{has, World, first_world_of, told_object, NamedStep, heap_step, handed}
-use Rattle.ref_base.proofs.Common.{after_heap, after_queues, after, State, first_state_of, heap_refusal}
-use Rattle.ref_base.proofs.Common.{HeapAccepts, with_world, list_at, IsRow, AreCounted, under, is_waiting, Config}
-use Rattle.ref_base.proofs.Common.{Reply, Row}
+use Rattle.ref_base.proofs.Common.{has, IsRising, World, first_world_of, told_object, NamedStep, heap_step, handed}
+use Rattle.ref_base.proofs.Common.{after_heap, after_queues, after, State, first_state_of, heap_refusal, HeapAccepts}
+use Rattle.ref_base.proofs.Common.{with_world, list_at, IsRow, AreCounted, under, is_waiting, Config, Reply, Row}
 use Rattle.ref_base.specs.Replay.{after_asking}
 use Rattle.ref_base.specs.declared.heap_step.HeapStep.TheVariants as heap
 use Rattle.ref_base.specs.declared.plain_step.PlainStep.TheVariants as plain
@@ -15,10 +12,10 @@ use Rattle.ref_base.specs.declared.reply.Reply.TheVariants as replies
 use Rattle.ref_base.proofs.Outcomes.{settled, scanned_by, heap_outcome}
 use Rattle.ref_base.proofs.PhaseLaws.{of_phase}
 use Rattle.ref_base.proofs.ReplayUnder.{handed_through, queues_through, asks_same}
-use Rattle.ref_base.proofs.ReplayKeeps.{but_hands, handed_keeps, queues_keep}
+use Rattle.ref_base.proofs.ReplayKeeps.{numbers_of, but_hands, handed_keeps, queues_keep}
 use Rattle.ref_base.proofs.RowKinds.{queues_lead, IsRefused, IsOfQueues, IsOfHeap, row_kind}
 use Rattle.ref_base.proofs.WaitingClears.{look_tells}
-use Rattle.ref_base.proofs.AgreeHeaps.{Agreeing, AreBelow, gone_after, still, makes}
+use Rattle.ref_base.proofs.AgreeHeaps.{Agreeing, AreBelow, same_waits, gone_after, still, makes}
 use Rattle.ref_base.proofs.AgreeEnds.{end_agrees, cleared_agrees, passed_agrees, swept_agrees}
 
 -- ---- rows of a heap
@@ -70,7 +67,20 @@ heap_agrees gone w a c step reply is none row =
 -- other hands and queues
 with_others : (gone : List ℕ) (w : World) (a : State) (v next : World) → Agreeing gone w a
     → v ≡ under gone (is_waiting a) next → but_hands next ≡ but_hands w → Agreeing gone next (with_world a v)
-with_others gone w a v next is agrees others = grind arith
+with_others gone w a v next is agrees others =
+    let phase : v.phase ≡ a.world.phase =
+    ap (λ (u : World). u.phase) agrees ∙ ap (λ (u : World). u.phase) others
+    ∙ ap (λ (u : World). u.phase) (sym is.agrees) in
+    let numbers : numbers_of w ≡ numbers_of next = ap numbers_of (sym others) in
+    record {
+      agrees = agrees ∙ ap (λ (these : ℕ → Bool). under gone these next) (sym (same_waits a v phase));
+      rising = subst IsRising numbers is.rising;
+      below = subst (AreBelow a.next) numbers is.below;
+      gone_below = is.gone_below;
+      doomed_below = is.doomed_below;
+      cleared_below = is.cleared_below;
+      cleared_stay = λ clearing n cleared. is.cleared_stay (sym phase ∙ clearing) n cleared;
+    }
 
 -- what is gone after a row
 abbrev pub gone_next : State → List ℕ → Option NamedStep → Reply → List ℕ

@@ -1,6 +1,5 @@
 -- What no root names and nothing else refers to: changes of a world keep it so.
-use Rattle.std.proofs.Common.{arith}
-use Rattle.std.proofs.Common.{◌≡◌, ℕ, zero, suc, ◌+◌, ◌*◌, true, ◌==◌, List, [], ◌∷◌, ◌++◌, map, Option, Some}
+use Rattle.std.proofs.Common.{arith, ◌≡◌, ℕ, zero, suc, ◌+◌, ◌*◌, true, ◌==◌, List, [], ◌∷◌, ◌++◌, map, Option, Some}
 use Rattle.std.proofs.Common.{None, refl, subst, inl, inr, ◌⊎◌}
 use Rattle.std.specs.Prelude.{slice_index_or, replicate}
 use Rattle.std.specs.List.{AllByRecursion}
@@ -91,8 +90,7 @@ module _ (V : ℕ → Type 0) where
   -- a change of what an object is as a reference leaves its fields
   refers_reference : (f : Reference → Reference) (o : Object)
       → ((n : ℕ) → has (allowed_referent any_referent (changed_reference f o.reference)) n ≡ true
-      → has (allowed_referent any_referent o.reference) n ≡ true)
-      → Refers V (Some o) (Some (with_reference f o))
+      → has (allowed_referent any_referent o.reference) n ≡ true) → Refers V (Some o) (Some (with_reference f o))
   refers_reference f o fewer n target = grind (arith, has-cases, has-left)
 
   clears_referent : (r : Option Reference) (n : ℕ)

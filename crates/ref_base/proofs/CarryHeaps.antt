@@ -1,13 +1,10 @@
 -- What a row of a heap carries on: whatever holds of each object, of each notice and of the cycle holds afterwards
 -- where it holds of what the row makes anew.
-use Rattle.std.proofs.Common.{arith}
-use Rattle.std.proofs.Common.{◌≡◌, ℕ, ◌+◌, Bool, true, false, if◌then◌else◌, Option}
-use Rattle.std.proofs.Common.{Some, None, refl}
+use Rattle.std.proofs.Common.{arith, ◌≡◌, ℕ, ◌+◌, Bool, true, false, if◌then◌else◌, Option, Some, None, refl}
 use Rattle.ref_base.proofs.Common.{Object, plain_object, Heap, slot_at, reference_at, registered_in, with_reference}
-use Rattle.ref_base.proofs.Common.{got_at, with_field, got, cut, stored, nulls, new_reference, with_hold}
-use Rattle.ref_base.proofs.Common.{World, Notice, Pending, pending_of, with_heap, NamedStep, pended, handed_on}
-use Rattle.ref_base.proofs.Common.{without_pending, State, Makes, HeapAccepts}
-use Rattle.ref_base.proofs.Common.{Cycle, Reply}
+use Rattle.ref_base.proofs.Common.{got_at, with_field, got, cut, stored, nulls, new_reference, with_hold, World, Notice}
+use Rattle.ref_base.proofs.Common.{Pending, pending_of, with_heap, NamedStep, pended, handed_on, without_pending, State}
+use Rattle.ref_base.proofs.Common.{Makes, HeapAccepts, Cycle, Reply}
 use Rattle.ref_base.specs.declared.heap_step.HeapStep.TheVariants as heap
 use Rattle.ref_base.specs.declared.plain_step.PlainStep.TheVariants as plain
 use Rattle.ref_base.specs.declared.reply.Reply.TheVariants as replies

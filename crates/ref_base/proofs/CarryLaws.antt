@@ -1,14 +1,11 @@
 -- What changes of a world carry on: whatever holds of each object, of each notice, in hands, in queues and still to be
 -- handed on, and of the cycle.
-use Rattle.std.proofs.Common.{arith}
-use Rattle.std.proofs.Common.{◌≡◌, ℕ, List, [], ◌∷◌, map, Option, Some, None, sym}
-use Rattle.std.proofs.Common.{ap, ◌∙◌, subst}
+use Rattle.std.proofs.Common.{arith, ◌≡◌, ℕ, List, [], ◌∷◌, map, Option, Some, None, sym, ap, ◌∙◌, subst}
 use Rattle.std.specs.Prelude.{slice_index_or, slice_set}
 use Rattle.std.specs.List.{AllByRecursion}
-use Rattle.ref_base.proofs.Common.{Object, changed_at, changed_in, with_reference, cleared, got_at}
-use Rattle.ref_base.proofs.Common.{with_field, Lists, new_queue, World, Notice, Pending, with_heap, with_hand}
-use Rattle.ref_base.proofs.Common.{with_queue, State, Gives, Actor, Mutator, Worker}
-use Rattle.ref_base.proofs.Common.{Cycle, Reply, without}
+use Rattle.ref_base.proofs.Common.{Object, changed_at, changed_in, with_reference, cleared, got_at, with_field, Lists}
+use Rattle.ref_base.proofs.Common.{new_queue, World, Notice, Pending, with_heap, with_hand, with_queue, State, Gives}
+use Rattle.ref_base.proofs.Common.{Actor, Mutator, Worker, Cycle, Reply, without}
 use Rattle.ref_base.specs.Members.{without_first}
 use Rattle.ref_base.proofs.Places.{set_each}
 use Rattle.ref_base.proofs.RowForms.{ticked_world}
@@ -16,8 +13,7 @@ use Rattle.ref_base.proofs.RowForms.{ticked_world}
 -- ---- what holds of each object
 
 pub all_changed : {P : Object → Type 0} (os : List Object) (n : ℕ) (f : Object → Object)
-    → ((o : Object) → P o → P (f o))
-    → AllByRecursion P os → AllByRecursion P (changed_at os n f)
+    → ((o : Object) → P o → P (f o)) → AllByRecursion P os → AllByRecursion P (changed_at os n f)
 all_changed [] n f keeps all = tt
 all_changed (o ∷ os) n f keeps all = grind (arith, all_changed os n f keeps all.1)
 

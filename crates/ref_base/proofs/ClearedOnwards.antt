@@ -1,12 +1,11 @@
 -- What a mark's end clears reads as cleared from then on, in every state after it.
-use Rattle.std.proofs.Common.{◌≡◌, ℕ, ◌<◌, true, false, List, [], ◌∷◌, ◌++◌, map, Option, Some, None, inl, inr}
-use Rattle.std.proofs.Common.{refl, sym, ◌∙◌, arith}
+use Rattle.std.proofs.Common.{◌≡◌, ℕ, ◌<◌, true, false, List, [], ◌∷◌, ◌++◌, map, Option, Some, None, inl, inr, refl}
+use Rattle.std.proofs.Common.{sym, ◌∙◌, arith}
 use Rattle.std.specs.List.{AllByRecursion}
 use Rattle.std.proofs.lemmas.Bool.{cases_Bool, and_parts}
-use Rattle.ref_base.proofs.Common.{has, Object, Reference, object_at, is_there, numbers, IsRising, is_soft}
-use Rattle.ref_base.proofs.Common.{new_clears, slot_at, reference_in, reference_at, changed_reference}
-use Rattle.ref_base.proofs.Common.{cleared, got_at, World, Notice, Pending, State}
-use Rattle.ref_base.proofs.Common.{first_state, IsRow, IsRun, doomed_at, shown, referent_of}
+use Rattle.ref_base.proofs.Common.{has, Object, Reference, object_at, is_there, numbers, IsRising, is_soft, new_clears}
+use Rattle.ref_base.proofs.Common.{slot_at, reference_in, reference_at, changed_reference, cleared, got_at, World}
+use Rattle.ref_base.proofs.Common.{Notice, Pending, State, first_state, IsRow, IsRun, doomed_at, shown, referent_of}
 use Rattle.ref_base.proofs.Common.{EndsMark, HeapAccepts, NamedStep, Config, Reply, Row}
 use Rattle.ref_base.specs.declared.heap_step.HeapStep.TheVariants as heap
 use Rattle.ref_base.specs.declared.plain_step.PlainStep.TheVariants as plain
@@ -127,8 +126,7 @@ end_clears a b count n rising below ends new =
 pub stays_cleared : (config : Config) (front : List Row) (a b : State) (count : ℕ) (rows : List Row) (c : State) (n : ℕ)
     → IsRun (first_state config) front a
     → IsRow a (record { step = steps.Plain plain.EndMark; reply = replies.Doomed count }) b → IsRun b rows c
-    → has (new_clears a.world.heap.objects (doomed_at a)) n ≡ true
-    → referent_of (reference_at c.world.heap n) ≡ None
+    → has (new_clears a.world.heap.objects (doomed_at a)) n ≡ true → referent_of (reference_at c.world.heap n) ≡ None
 stays_cleared config front a b count rows c n first ends later new =
     let row : Row = record { step = steps.Plain plain.EndMark; reply = replies.Doomed count } in
     let old = legal_numbers config front a first in

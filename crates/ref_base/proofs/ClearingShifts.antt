@@ -1,14 +1,13 @@
 -- What waits to be added of what a worker cleared, its hand's notices and then its pending references, and how a row
 -- moves it on.
-use Rattle.std.proofs.Common.{arith}
-use Rattle.std.proofs.Common.{◌≡◌, ℕ, ◌<◌, Bool, true, false, ◌==◌, if◌then◌else◌, List, [], ◌∷◌, ◌++◌, length, Option}
-use Rattle.std.proofs.Common.{Some, None, ◌⊎◌, inl, inr, refl, sym, ap, ◌∙◌, subst, append_assoc}
+use Rattle.std.proofs.Common.{arith, ◌≡◌, ℕ, ◌<◌, Bool, true, false, ◌==◌, if◌then◌else◌, List, [], ◌∷◌, ◌++◌, length}
+use Rattle.std.proofs.Common.{Option, Some, None, ◌⊎◌, inl, inr, refl, sym, ap, ◌∙◌, subst, append_assoc}
 use Rattle.std.specs.Prelude.{slice_index_or, slice_set}
 use Rattle.std.proofs.lemmas.Bool.{cases_eq, eqb-true, ne_eqb, and_right}
 use Rattle.std.proofs.lemmas.List.{append-nil, get_or-set_same, get_or-set_other}
-use Rattle.ref_base.proofs.Common.{World, Notice, Pending, hand_of, pending_of, rest_of, with_rest}
-use Rattle.ref_base.proofs.Common.{pended, without_pending, is_registered, if_registered, is_by}
-use Rattle.ref_base.proofs.Common.{if_worked, Actor, Mutator, Worker, Cause, Own, Cycle, Row}
+use Rattle.ref_base.proofs.Common.{World, Notice, Pending, hand_of, pending_of, rest_of, with_rest, pended}
+use Rattle.ref_base.proofs.Common.{without_pending, is_registered, if_registered, is_by, if_worked, Actor, Mutator}
+use Rattle.ref_base.proofs.Common.{Worker, Cause, Own, Cycle, Row}
 use Rattle.ref_base.proofs.Places.{set_each, place_there}
 use Rattle.ref_base.proofs.Subsequences.{Sub, sub_through, sub_behind, sub_before, sub_longer, sub_after}
 
@@ -144,8 +143,7 @@ given_first k q j v w notice p rest is object queue by_it pends =
 
 pub hands_to : (k q : ℕ) (v w : World) (j n i : ℕ) (cause : Cause) (first : Pending) (rest : List Pending)
     → pending_of v j ≡ first ∷ rest → n ≡ first.object → i ≡ first.queue → hand_of v (Worker j) ≡ []
-    → is_by j cause ≡ true → j < length v.worker_hands
-    → hand_of w (Worker k)
+    → is_by j cause ≡ true → j < length v.worker_hands → hand_of w (Worker k)
     ≡ slice_index_or (slice_set v.worker_hands j (record { object = n; queue = i; cause = cause } ∷ [])) k []
     → w.pending ≡ slice_set v.pending j (without_pending (pending_of v j) n) → Shifts k q v w [] []
 hands_to k q v w j n i cause first rest pends object queue free by_it within hands lists =

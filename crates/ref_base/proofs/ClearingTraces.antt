@@ -1,16 +1,14 @@
 -- In every legal trace each queue has a worker's references in the order in which the worker cleared them.
-use Rattle.std.proofs.Common.{arith}
-use Rattle.std.proofs.Common.{◌≡◌, ℕ, true, List, [], ◌∷◌, ◌++◌, length}
-use Rattle.std.proofs.Common.{Option, Some, None, refl, sym, ap, ◌∙◌, subst, append_assoc}
+use Rattle.std.proofs.Common.{arith, ◌≡◌, ℕ, true, List, [], ◌∷◌, ◌++◌, length, Option, Some, None, refl, sym, ap, ◌∙◌}
+use Rattle.std.proofs.Common.{subst, append_assoc}
 use Rattle.std.specs.Prelude.{slice_index_or, slice_set}
 use Rattle.std.proofs.lemmas.Bool.{cases_eq}
 use Rattle.std.proofs.lemmas.List.{append-nil, get_or-set_same, get_or-set_other}
-use Rattle.ref_base.proofs.Common.{reference_at, registered_in, World, SameOthers, first_world}
-use Rattle.ref_base.proofs.Common.{hand_of, heap_step, put_in, after}
-use Rattle.ref_base.proofs.Common.{replayed, without_pending, pending_of, State, first_state, refusal, IsAnswer, IsRow}
-use Rattle.ref_base.proofs.Common.{IsRun, is_subsequence}
-use Rattle.ref_base.proofs.Common.{IsLegal, is_registered, clearing_order, first_worked, added_of}
-use Rattle.ref_base.proofs.Common.{Actor, Mutator, Worker, Cause, Config, Fault, Step, Reply, Row}
+use Rattle.ref_base.proofs.Common.{reference_at, registered_in, World, SameOthers, first_world, hand_of, heap_step}
+use Rattle.ref_base.proofs.Common.{put_in, after, replayed, without_pending, pending_of, State, first_state, refusal}
+use Rattle.ref_base.proofs.Common.{IsAnswer, IsRow, IsRun, is_subsequence, IsLegal, is_registered, clearing_order}
+use Rattle.ref_base.proofs.Common.{first_worked, added_of, Actor, Mutator, Worker, Cause, Config, Fault, Step, Reply}
+use Rattle.ref_base.proofs.Common.{Row}
 use Rattle.ref_base.specs.WorkerOrder.{cleared_in}
 use Rattle.ref_base.specs.Replay.{replayed_from}
 use Rattle.ref_base.specs.ClearingOrder.{added_by, added_from}
@@ -30,8 +28,8 @@ use Rattle.ref_base.proofs.RowChanges.{pending_after, row_changes}
 use Rattle.ref_base.proofs.RowHands.{others_after, row_hands}
 use Rattle.ref_base.proofs.HandCauses.{HaveCauses, legal_causes}
 use Rattle.ref_base.proofs.Subsequences.{sub_is}
-use Rattle.ref_base.proofs.ClearingShifts.{Shifts, still, put, spends, passes}
-use Rattle.ref_base.proofs.ClearingShifts.{released, not_by, none_worked, at, clears_for, hands_to}
+use Rattle.ref_base.proofs.ClearingShifts.{Shifts, still, put, spends, passes, released, not_by, none_worked, at}
+use Rattle.ref_base.proofs.ClearingShifts.{clears_for, hands_to}
 use Rattle.ref_base.proofs.ClearingOrders.{IsOrdered, more_ordered, nothing_waits, in_order}
 
 -- ---- a put that was added
@@ -60,8 +58,7 @@ adds k q a b (Worker j) position tells have hands pends =
 
 hands_on : (k q : ℕ) (a b : State) (j n i : ℕ) (cause : Cause) (fault : Option Fault)
     → refusal a (steps.Hand j) ≡ fault → length a.world.worker_hands ≡ a.world.heap.config.workers
-    → IsAnswer a fault (steps.Hand j) (replies.Notice n i cause) b
-    → hand_of b.world (Worker k)
+    → IsAnswer a fault (steps.Hand j) (replies.Notice n i cause) b → hand_of b.world (Worker k)
     ≡ slice_index_or (slice_set a.world.worker_hands j (record { object = n; queue = i; cause = cause } ∷ [])) k []
     → b.world.pending ≡ slice_set a.world.pending j (without_pending (pending_of a.world j) n)
     → Shifts k q a.world b.world [] []
@@ -71,8 +68,7 @@ hands_on k q a b j n i cause None is sound row hands pends = grind (arith, hands
 step_shifts : (whole : List Row) (k q : ℕ) (a b : State) (step : Step) (reply : Reply)
     → length a.world.worker_hands ≡ a.world.heap.config.workers → HaveCauses a.world
     → ((n i : ℕ) → registered_in (reference_at a.world.heap n) ≡ Some i → is_registered whole n i ≡ true)
-    → IsAnswer a (refusal a step) step reply b
-    → b.world.pending ≡ pending_after a.world (heap_step a.world step) reply
+    → IsAnswer a (refusal a step) step reply b → b.world.pending ≡ pending_after a.world (heap_step a.world step) reply
     → hand_of b.world (Worker k) ≡ hand_of (others_after a.world step reply) (Worker k)
     → Shifts k q a.world b.world (added_by a.world k q step reply)
     (cleared_in whole k q (record { step = step; reply = reply } ∷ []))

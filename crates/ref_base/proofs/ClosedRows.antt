@@ -1,28 +1,24 @@
 -- No row of a heap but a mark's end changes of what holds of whatever a root names, and whatever that refers to; and it
 -- holds of what a reply names.
-use Rattle.std.proofs.Common.{arith}
-use Rattle.std.proofs.Common.{◌≡◌, ℕ, ◌+◌, ◌*◌, Bool, true, false, if◌then◌else◌, List, [], ◌∷◌, ◌++◌, min, length}
-use Rattle.std.proofs.Common.{Option, Some, None, sym, ap, ◌∙◌, subst, inl, inr}
+use Rattle.std.proofs.Common.{arith, ◌≡◌, ℕ, ◌+◌, ◌*◌, Bool, true, false, if◌then◌else◌, List, [], ◌∷◌, ◌++◌, min}
+use Rattle.std.proofs.Common.{length, Option, Some, None, sym, ap, ◌∙◌, subst}
 use Rattle.std.specs.List.{AllByRecursion}
-use Rattle.ref_base.proofs.Common.{has, Object, object_at, plain_object, any_referent, present, if_any, targets_of}
-use Rattle.ref_base.proofs.Common.{Heap, slot_at, with_slot, with_reference}
-use Rattle.ref_base.proofs.Common.{got_at, got, cut, stored, made, nulls, new_reference, changed_in, with_hold}
-use Rattle.ref_base.proofs.Common.{without_hold, World, Pending, pending_of, with_heap, with_pending, told_object}
-use Rattle.ref_base.proofs.Common.{Notice, told_value, told_notice, told_cycle, is_done, begun, with_phase}
-use Rattle.ref_base.proofs.Common.{named_by, NamedStep, adopted, pended, handed_on, without_pending, after_heap, State}
-use Rattle.ref_base.proofs.Common.{Gives, Unhooks, Holds, Scans, ClearsNext, HandsOn, Sweeps, HeapAccepts, value_reply}
-use Rattle.ref_base.proofs.Common.{list_at, field_in, referent_got, reference_of}
+use Rattle.ref_base.proofs.Common.{has, Object, object_at, plain_object, any_referent, targets_of}
+use Rattle.ref_base.proofs.Common.{Heap, slot_at, with_slot, with_reference, got_at, got, cut, stored, made, nulls}
+use Rattle.ref_base.proofs.Common.{new_reference, changed_in, with_hold, without_hold, World, Pending, pending_of}
+use Rattle.ref_base.proofs.Common.{with_heap, with_pending, told_object, Notice, told_value, told_notice, told_cycle}
+use Rattle.ref_base.proofs.Common.{begun, with_phase, named_by, NamedStep, adopted, pended, handed_on}
+use Rattle.ref_base.proofs.Common.{without_pending, after_heap, State, Gives, Unhooks, Holds, Scans, ClearsNext}
+use Rattle.ref_base.proofs.Common.{HandsOn, Sweeps, HeapAccepts, value_reply, list_at, field_in, referent_got}
+use Rattle.ref_base.proofs.Common.{reference_of, heap_refusal, Own, Cycle, Phase, Clearing, Urgency, Reply}
 use Rattle.ref_base.specs.declared.strength.Strength.{Strength}
 use Rattle.ref_base.specs.Replay.{if_told}
-use Rattle.ref_base.proofs.Common.{heap_refusal, Own, Cycle, Phase, Clearing, Urgency}
-use Rattle.ref_base.proofs.Common.{Reply}
 use Rattle.ref_base.specs.declared.heap_step.HeapStep.TheVariants as heap
 use Rattle.ref_base.specs.declared.plain_step.PlainStep.TheVariants as plain
 use Rattle.ref_base.specs.declared.reply.Reply.TheVariants as replies
 use Rattle.ref_base.proofs.Places.{all_push}
 use Rattle.ref_base.proofs.CarryLaws.{all_without_first}
 use Rattle.ref_base.proofs.HasLaws.{has-cases}
-use Rattle.ref_base.proofs.StrengthLaws.{if_any-has}
 use Rattle.ref_base.proofs.RowForms.{ticked_world}
 use Rattle.ref_base.proofs.Outcomes.{IsNoEnd, outcome, heap_outcome}
 use Rattle.ref_base.proofs.ReplayUnder.{IsNoLook, made_number}
@@ -173,8 +169,7 @@ module _ (V : ℕ → Type 0) where
     plain_targets i k n target = grind (arith, has-cases, no_nulls)
 
     reference_targets : (i m s k n : ℕ) (strength : Strength) (q : Option ℕ)
-        → has (targets_of any_referent (Some (new_reference w.heap i strength (slot_at w.heap m s) q k))) n ≡ true
-        → V n
+        → has (targets_of any_referent (Some (new_reference w.heap i strength (slot_at w.heap m s) q k))) n ≡ true → V n
     reference_targets i m s k n strength q target = grind (arith, has-cases, no_nulls)
 
     done : (is : Bool) (u : World) → At u → At (if is then u else w)

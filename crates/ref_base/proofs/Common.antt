@@ -46,9 +46,8 @@ pub use Rattle.ref_base.specs.Told.{is_added, is_done, is_mark_end, is_nothing, 
 pub use Rattle.ref_base.specs.Told.{told_object, told_taken, told_value}
 pub use Rattle.ref_base.specs.WorkerOrder.{clearing_order, if_registered, is_registered, registers}
 pub use Rattle.ref_base.specs.Worlds.{Notice, Pending, SameOthers, World, first_world, first_world_of, graph_of}
-pub use Rattle.ref_base.specs.Worlds.{hand_of, object_of}
-pub use Rattle.ref_base.specs.Worlds.{pending_numbers, pending_of, queue_at, with_hand, with_heap, with_pending}
-pub use Rattle.ref_base.specs.Worlds.{with_queue}
+pub use Rattle.ref_base.specs.Worlds.{hand_of, object_of, pending_numbers, pending_of, queue_at, with_hand, with_heap}
+pub use Rattle.ref_base.specs.Worlds.{with_pending, with_queue}
 pub use Rattle.ref_base.specs.declared.actor.Actor.{Actor}
 pub use Rattle.ref_base.specs.declared.actor.Actor.TheVariants.{Mutator, Worker}
 pub use Rattle.ref_base.specs.declared.cause.Cause.{Cause}

@@ -1,26 +1,22 @@
 -- In every legal trace each notice that is out is a hold that the heap counts, row by row.
-use Rattle.std.proofs.Common.{arith}
-use Rattle.std.proofs.Common.{◌≡◌, ℕ, ◌<◌, Bool, true, false, List, [], ◌∷◌, length, Option, Some, None, refl, sym, ap}
-use Rattle.std.proofs.Common.{◌∙◌, subst}
+use Rattle.std.proofs.Common.{arith, ◌≡◌, ℕ, ◌<◌, Bool, true, false, List, [], ◌∷◌, length, Option, Some, None, refl}
+use Rattle.std.proofs.Common.{sym, ap, ◌∙◌, subst}
 use Rattle.std.proofs.lemmas.Bool.{and_parts}
 use Rattle.ref_base.proofs.Common.{one_more, one_fewer, World, Notice, Pending, SameOthers, hand_of, queue_at}
 use Rattle.ref_base.proofs.Common.{with_hand, NamedStep, hold_of, spending, handed, State, first_state, Gives}
 use Rattle.ref_base.proofs.Common.{with_handed, AcceptsAsking, Unhooks, HandsOn, PutsInto, Puts, Polls, Closes}
-use Rattle.ref_base.proofs.Common.{closed_queue, with_world, Accepts, IsAnswer}
-use Rattle.ref_base.proofs.Common.{IsRow, IsRun, unless_full, refusal, is_mutator}
-use Rattle.ref_base.proofs.Common.{has_slot, AreCounted, holds_after, Config, Actor, Mutator, Worker, Own, Cycle, Fault}
-use Rattle.ref_base.proofs.Common.{Step, Reply, Row}
+use Rattle.ref_base.proofs.Common.{closed_queue, with_world, Accepts, IsAnswer, IsRow, IsRun, unless_full, refusal}
+use Rattle.ref_base.proofs.Common.{is_mutator, has_slot, AreCounted, holds_after, Config, Actor, Mutator, Worker, Own}
+use Rattle.ref_base.proofs.Common.{Cycle, Fault, Step, Reply, Row, heap_step, with_rest}
 use Rattle.ref_base.specs.declared.heap_step.HeapStep.TheVariants as heap
 use Rattle.ref_base.specs.declared.plain_step.PlainStep.TheVariants as plain
 use Rattle.ref_base.specs.declared.step.Step.TheVariants as steps
 use Rattle.ref_base.specs.declared.reply.Reply.TheVariants as replies
 use Rattle.ref_base.proofs.CountedRows.{heap_holds}
-use Rattle.ref_base.proofs.CountedWorlds.{counted_given, counted_spent, counted_put, counted_took}
-use Rattle.ref_base.proofs.CountedWorlds.{counted_closed, first_counted}
-use Rattle.ref_base.proofs.Common.{heap_step, with_rest}
+use Rattle.ref_base.proofs.CountedWorlds.{counted_given, counted_spent, counted_put, counted_took, counted_closed}
+use Rattle.ref_base.proofs.CountedWorlds.{first_counted}
 use Rattle.ref_base.proofs.RowForms.{asked_of, ticked_world, unless_passes}
-use Rattle.ref_base.proofs.RowLaws.{heap_keeps, registered, IsRegistered, mutator_within}
-use Rattle.ref_base.proofs.RowLaws.{actor_has}
+use Rattle.ref_base.proofs.RowLaws.{heap_keeps, registered, IsRegistered, mutator_within, actor_has}
 use Rattle.ref_base.proofs.SameOthers.{same_hand}
 use Rattle.ref_base.proofs.SoundWorlds.{HasHand, IsSound, first_sound}
 use Rattle.ref_base.proofs.LegalQueues.{run_sound}
@@ -38,8 +34,7 @@ given c b answer reply gives counted =
 -- a row of the heap that has nothing to do with hands and holds
 quiet : (a b : State) (asked : NamedStep) (step : Step) (reply : Reply) → IsRegistered a asked → AreCounted a.world
     → AcceptsAsking a (Some asked) step reply b
-    → ((hs : List ℕ) → holds_after hs asked reply ≡ hs) → ((w : World) → handed w step reply ≡ w)
-    → AreCounted b.world
+    → ((hs : List ℕ) → holds_after hs asked reply ≡ hs) → ((w : World) → handed w step reply ≡ w) → AreCounted b.world
 quiet a b asked step reply is counted row still same_hands = grind (arith, heap_keeps, heap_holds)
 
 -- one that gives nothing
@@ -62,8 +57,7 @@ gives_notice a c b who notice asked step answer reply others has free held is mo
 
 -- one that spends a hand's first notice
 spends : (a c b : State) (who : Actor) (notice : Notice) (rest : List Notice) (asked : NamedStep) (step : Step)
-    (answer reply : Reply)
-    → SameOthers a.world c.world → HasHand a.world who → hand_of a.world who ≡ notice ∷ rest
+    (answer reply : Reply) → SameOthers a.world c.world → HasHand a.world who → hand_of a.world who ≡ notice ∷ rest
     → c.world.heap.holds ≡ holds_after a.world.heap.holds asked reply → reply ≡ answer
     → holds_after a.world.heap.holds asked answer ≡ one_fewer a.world.heap.holds notice.object
     → handed c.world step answer ≡ with_rest c.world who → b ≡ with_handed c step reply
@@ -89,8 +83,7 @@ unhooks a c b m s (Some n) (Some q) reply others has free holds row left counted
 hands : (a c b : State) (k : ℕ) (ps : List Pending) (reply : Reply) → SameOthers a.world c.world
     → k < length a.world.worker_hands → hand_of a.world (Worker k) ≡ []
     → c.world.heap.holds ≡ holds_after a.world.heap.holds (heap.Hand k) reply
-    → HandsOn a k ps reply c → b ≡ with_handed c (steps.Hand k) reply → AreCounted a.world
-    → AreCounted b.world
+    → HandsOn a k ps reply c → b ≡ with_handed c (steps.Hand k) reply → AreCounted a.world → AreCounted b.world
 hands a c b k [] reply others has free holds row left counted =
     gives_nothing a c b (heap.Hand k) (steps.Hand k) reply others holds row.0 refl refl left counted
 hands a c b k (p ∷ ps) reply others has free holds row left counted =

@@ -1,7 +1,5 @@
 -- Tests by which one shows of a concrete graph that a mark's end may doom what it dooms.
-use Rattle.std.proofs.Common.{arith}
-use Rattle.std.proofs.Common.{◌≡◌, ℕ, Bool, true, false, not, ◌&&◌, ◌||◌, sym, ◌∙◌, List, [], ◌∷◌, ◌⊎◌}
-use Rattle.std.proofs.Common.{inl, inr}
+use Rattle.std.proofs.Common.{arith, ◌≡◌, ℕ, Bool, true, false, not, ◌&&◌, ◌||◌, sym, ◌∙◌, List, [], ◌∷◌, ◌⊎◌, inl, inr}
 use Rattle.std.proofs.lemmas.Bool.{true≢false, false≢true}
 use Rattle.std.specs.List.{AllByRecursion}
 use Rattle.ref_base.proofs.Common.{has, Graph, Object, is_there, numbers, Allowed, targets_at, Policy, is_kept}

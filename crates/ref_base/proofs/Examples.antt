@@ -1,6 +1,5 @@
 -- The definitions of graphs and strengths at work on a graph that one can read off by hand.
-use Rattle.std.proofs.Common.{arith}
-use Rattle.std.proofs.Common.{◌≡◌, ℕ, false, [], ◌∷◌, Some, refl, sym, ◌∙◌}
+use Rattle.std.proofs.Common.{arith, ◌≡◌, ℕ, false, [], ◌∷◌, Some, refl, sym, ◌∙◌}
 use Rattle.std.proofs.lemmas.Bool.{true≢false, false≢true}
 use Rattle.ref_base.proofs.Common.{has, Graph, plain_object, numbers, with_object, EndsPath, no_referents}
 use Rattle.ref_base.proofs.Common.{soft_referents, soft_and_weak_referents, HasStrength, HangsOnPhantom}
@@ -36,8 +35,7 @@ no_soft_path : (n : ℕ) → has (1 ∷ 2 ∷ 3 ∷ 4 ∷ 6 ∷ []) n ≡ false 
 no_soft_path n out =
     λ ends. true≢false (sym (closed_has soft_referents example (1 ∷ 2 ∷ 3 ∷ 4 ∷ 6 ∷ []) refl n ends) ∙ out)
 
-no_weak_path : (n : ℕ) → has (1 ∷ 2 ∷ 3 ∷ 4 ∷ 5 ∷ 6 ∷ 8 ∷ []) n ≡ false
-    → ¬ (EndsPath soft_and_weak_referents example n)
+no_weak_path : (n : ℕ) → has (1 ∷ 2 ∷ 3 ∷ 4 ∷ 5 ∷ 6 ∷ 8 ∷ []) n ≡ false → ¬ (EndsPath soft_and_weak_referents example n)
 no_weak_path n out =
     λ ends. true≢false
     (sym (closed_has soft_and_weak_referents example (1 ∷ 2 ∷ 3 ∷ 4 ∷ 5 ∷ 6 ∷ 8 ∷ []) refl n ends) ∙ out)

@@ -1,7 +1,5 @@
 -- What is forgotten keeps its shape, and a call reads and changes the rest as if nothing were.
-use Rattle.std.proofs.Common.{arith}
-use Rattle.std.proofs.Common.{◌≡◌, ℕ, false, refl, ap, List, [], ◌∷◌, map, Option, Some}
-use Rattle.std.proofs.Common.{None}
+use Rattle.std.proofs.Common.{arith, ◌≡◌, ℕ, false, refl, ap, List, [], ◌∷◌, map, Option, Some, None}
 use Rattle.std.proofs.lemmas.List.{length-map, map-append}
 use Rattle.ref_base.proofs.Common.{has, Object, object_at, Heap, reference_in, changed_in, made, field_of, field_in}
 use Rattle.ref_base.proofs.Common.{reference_of}

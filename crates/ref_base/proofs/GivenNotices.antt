@@ -1,10 +1,9 @@
 -- In every legal trace each notice that an unhook gave, or that a worker handed on, comes from the rows up to it.
-use Rattle.std.proofs.Common.{arith}
-use Rattle.std.proofs.Common.{◌≡◌, ℕ, true, List, [], ◌∷◌, ◌++◌, Option, Some, None, refl, sym, subst}
+use Rattle.std.proofs.Common.{arith, ◌≡◌, ℕ, true, List, [], ◌∷◌, ◌++◌, Option, Some, None, refl, sym, subst}
 use Rattle.std.specs.List.{AllByRecursion}
 use Rattle.ref_base.proofs.Common.{Object, slot_at, registered_in, Notice, Pending, pending_of, told_notice, State}
-use Rattle.ref_base.proofs.Common.{first_state, Unhooks, HandsOn, IsAnswer, IsRun, reference_of, IsProven}
-use Rattle.ref_base.proofs.Common.{Config, Fault, Cause, Own, Cycle, Step, Reply, Row}
+use Rattle.ref_base.proofs.Common.{first_state, Unhooks, HandsOn, IsAnswer, IsRun, reference_of, IsProven, Config}
+use Rattle.ref_base.proofs.Common.{Fault, Cause, Own, Cycle, Step, Reply, Row}
 use Rattle.ref_base.specs.Provenance.{gives_notices}
 use Rattle.ref_base.specs.declared.step.Step.TheVariants as steps
 use Rattle.ref_base.specs.declared.reply.Reply.TheVariants as replies
@@ -33,8 +32,7 @@ handed_on P a c k (p ∷ ps) n q cause all row =
     as_told P n q cause (replies.Notice p.object p.queue (Cycle p.cycle k)) row.0 all.0
 
 pub unhooked : (O : Object → Type 0) (P : Notice → Type 0) (C : ℕ → Type 0) (a c : State) (m s : ℕ)
-    (held queue : Option ℕ) (n q : ℕ) (cause : Cause)
-    → Mints O P C a (steps.Unhook m s) (replies.Notice n q cause)
+    (held queue : Option ℕ) (n q : ℕ) (cause : Cause) → Mints O P C a (steps.Unhook m s) (replies.Notice n q cause)
     → registered_in (reference_of a.world.heap held) ≡ queue
     → Unhooks a m s held queue (replies.Notice n q cause) c → P (record { object = n; queue = q; cause = cause })
 unhooked O P C a c m s None queue n q cause mints is row = let no = row.0 in absurd cc

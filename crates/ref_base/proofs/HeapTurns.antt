@@ -1,9 +1,8 @@
 -- A turn at a heap, by a row of its world or by a call from outside: nothing comes of it there, or the heap accepts
 -- what is asked. Hands and queues are beside.
-use Rattle.std.proofs.Common.{arith}
-use Rattle.std.proofs.Common.{◌≡◌, Option, Some, None, refl, ap, ◌∙◌, inl, inr, ◌⊎◌}
-use Rattle.ref_base.proofs.Common.{heap_refusal, NamedStep, heap_step, State, with_world}
-use Rattle.ref_base.proofs.Common.{HeapAccepts, IsHeapAnswer, IsHeapRow, IsRow, AreCounted, World, Fault, Reply, Row}
+use Rattle.std.proofs.Common.{arith, ◌≡◌, Option, Some, None, refl, ap, ◌∙◌, inl, inr, ◌⊎◌}
+use Rattle.ref_base.proofs.Common.{heap_refusal, NamedStep, heap_step, State, with_world, HeapAccepts, IsHeapAnswer}
+use Rattle.ref_base.proofs.Common.{IsHeapRow, IsRow, AreCounted, World, Fault, Reply, Row}
 use Rattle.ref_base.specs.declared.reply.Reply.TheVariants as replies
 use Rattle.ref_base.proofs.OutcomeParts.{heap_number}
 use Rattle.ref_base.proofs.Outcomes.{settled}

@@ -1,6 +1,5 @@
 -- Traces that differ from worked ones in one reply, and are not legal.
-use Rattle.std.proofs.Common.{arith}
-use Rattle.std.proofs.Common.{◌≡◌, ℕ, Bool, false, List, [], ◌∷◌, replicate, Option, Some, None}
+use Rattle.std.proofs.Common.{arith, ◌≡◌, ℕ, Bool, false, List, [], ◌∷◌, replicate, Option, Some, None}
 use Rattle.ref_base.proofs.Common.{Graph, Object, plain_object, first_world, State, first_state, IsRun, IsLegal, Row}
 use Rattle.ref_base.proofs.Common.{Mutator, Weak, Normal, Own, Marking, HandEmpty, NoMemory}
 use Rattle.ref_base.specs.Heaps.{first_heap}

@@ -1,6 +1,5 @@
 -- What a cycle keeps is reachable, and what it keeps at one moment was ever kept.
-use Rattle.std.proofs.Common.{arith}
-use Rattle.std.proofs.Common.{◌≡◌, ℕ, false, ◌&&◌, nat_le, ◌-◌, sym, ◌∙◌, List, [], ◌∷◌, ◌++◌, ◌⊎◌, inl, inr}
+use Rattle.std.proofs.Common.{arith, ◌≡◌, ℕ, false, ◌&&◌, nat_le, ◌-◌, sym, ◌∙◌, List, [], ◌∷◌, ◌++◌, ◌⊎◌, inl, inr}
 use Rattle.std.proofs.lemmas.Bool.{and_parts, false≢true}
 use Rattle.ref_base.proofs.Common.{Graph, EndsPath, no_referents, soft_referents, is_soft, HasStrength, Policy, is_kept}
 use Rattle.ref_base.proofs.Common.{IsKept, EverKept, Reach, Strong, Soft, Phantom, Unreachable}
@@ -17,8 +16,7 @@ softly p g n kept =
     kept
 
 -- in an urgent cycle a kept path goes through no reference
-pub strongly : (p : Policy) (g : Graph) (n : ℕ) → is_normal p.urgency ≡ false → IsKept p g n
-    → EndsPath no_referents g n
+pub strongly : (p : Policy) (g : Graph) (n : ℕ) → is_normal p.urgency ≡ false → IsKept p g n → EndsPath no_referents g n
 strongly p g n urgent kept =
     ends-wider (is_kept p) no_referents
     (λ r may.
@@ -36,8 +34,7 @@ soft_or_strong g n ends Weak has = absurd (has.0 ends)
 soft_or_strong g n ends Phantom has = absurd (has.0 (weak_from_soft g n ends))
 soft_or_strong g n ends Unreachable has = absurd (has.0 (weak_from_soft g n ends))
 
-pub kept_is_reachable : (p : Policy) (g : Graph) (n : ℕ) → IsKept p g n
-    → HasStrength g n Strong ⊎ HasStrength g n Soft
+pub kept_is_reachable : (p : Policy) (g : Graph) (n : ℕ) → IsKept p g n → HasStrength g n Strong ⊎ HasStrength g n Soft
 kept_is_reachable p g n kept = grind (arith, soft_or_strong, some_strength g n, softly p g n kept)
 
 -- what is kept at one of the moments of a mark was ever kept in it

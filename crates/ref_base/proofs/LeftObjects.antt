@@ -1,14 +1,13 @@
 -- Where a state says in a mark that an object is left, one is: each row of a heap keeps this.
-use Rattle.std.proofs.Common.{arith}
-use Rattle.std.proofs.Common.{◌≡◌, ℕ, ◌+◌, ◌<◌, Bool, true, false, List, inl, inr, sym, ap, ◌∙◌, subst}
+use Rattle.std.proofs.Common.{arith, ◌≡◌, ℕ, ◌+◌, ◌<◌, Bool, true, false, List, inl, inr, refl, sym, ap, ◌∙◌, subst}
 use Rattle.std.proofs.lemmas.Bool.{false≢true}
-use Rattle.ref_base.proofs.Common.{has, Graph, Policy, EverKept, NamedStep, begun, State, joined, is_in}
-use Rattle.ref_base.proofs.Common.{HeapAccepts, begun_state, Scans, IsBut, IsLeft, ticked, Phase, Marking, Reply}
+use Rattle.ref_base.proofs.Common.{has, Graph, Policy, EverKept, NamedStep, begun, State, joined, is_in, HeapAccepts}
+use Rattle.ref_base.proofs.Common.{begun_state, Scans, IsBut, IsLeft, ticked, Phase, Marking, Reply}
 use Rattle.ref_base.specs.declared.heap_step.HeapStep.TheVariants as heap
 use Rattle.ref_base.specs.declared.plain_step.PlainStep.TheVariants as plain
 use Rattle.ref_base.specs.declared.reply.Reply.TheVariants as replies
-use Rattle.ref_base.proofs.Outcomes.{Becomes, outcome}
-use Rattle.ref_base.proofs.OutcomeParts.{mark_of}
+use Rattle.ref_base.proofs.Outcomes.{Becomes, outcome, IsNoEnd, heap_becomes}
+use Rattle.ref_base.proofs.OutcomeParts.{mark_of, mark_in, outcome_stage}
 
 -- where it is said in a mark that an object is left, one is
 abbrev pub LeftMeans : State → Type 0
@@ -47,6 +46,12 @@ scan_left a b k (replies.Scanned n) row means =
     left_anew (ticked (outcome a (heap.Plain (plain.Scan k)) (replies.Scanned n))) b row.2
 scan_left a b k reply row means = left_becomes a b means (inr (inl row.1.1))
 
+left_same : (a b : State) (step : NamedStep) (reply : Reply) → HeapAccepts a step reply b → IsNoEnd step
+    → mark_of (outcome a step reply) ≡ mark_of a → LeftMeans a → LeftMeans b
+left_same a b step reply row no_end same means =
+    left_becomes (outcome a step reply) b (left_kept a (outcome a step reply) same means)
+    (heap_becomes a b step reply no_end row)
+
 pub heap_left : (a b : State) (step : NamedStep) (reply : Reply) → HeapAccepts a step reply b → LeftMeans a
     → LeftMeans b
 heap_left a b (heap.Plain (plain.Begin now how)) reply row means =
@@ -58,4 +63,10 @@ heap_left a b (heap.Plain plain.EndClear) reply row means =
     subst LeftMeans (sym row.1) (λ marks _. absurd (false≢true marks))
 heap_left a b (heap.Plain plain.EndSweep) reply row means =
     subst LeftMeans (sym row.1) (λ marks _. absurd (false≢true marks))
-heap_left a b step reply row means = grind arith
+heap_left a b (heap.Plain (plain.ClearNext k)) (replies.Cleared n) row means =
+    left_same a b (heap.Plain (plain.ClearNext k)) (replies.Cleared n) row tt
+    (ap (mark_in a) (outcome_stage a (heap.Plain (plain.ClearNext k)) (replies.Cleared n) tt)) means
+heap_left a b (heap.Plain (plain.Sweep k)) (replies.Swept count) row means =
+    left_same a b (heap.Plain (plain.Sweep k)) (replies.Swept count) row tt refl means
+heap_left a b step reply row means =
+    left_same a b step reply row tt (ap (mark_in a) (outcome_stage a step reply tt)) means

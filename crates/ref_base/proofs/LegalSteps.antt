@@ -1,9 +1,8 @@
 -- How one shows of a concrete trace that it is legal, row by row.
-use Rattle.std.proofs.Common.{◌≡◌, ℕ, true, false, refl, ap, ◌∙◌, List, [], ◌∷◌, length}
+use Rattle.std.proofs.Common.{◌≡◌, ℕ, true, false, refl, List, [], ◌∷◌, length}
 use Rattle.std.proofs.lemmas.Bool.{false≢true}
 use Rattle.ref_base.proofs.Common.{State, first_state, IsLegal, Config, has, new_clears, MayDoom, graph_of, joined}
-use Rattle.ref_base.proofs.Common.{with_handed, EndsMark, AreFound, mark_ended, doomed_at, IsRow, IsRun, Row}
-use Rattle.ref_base.proofs.Common.{Step, Reply}
+use Rattle.ref_base.proofs.Common.{EndsMark, AreFound, mark_ended, doomed_at, IsRow, IsRun, Row}
 use Rattle.ref_base.specs.declared.reply.Reply.TheVariants.{Doomed}
 
 -- where none is said to be left
@@ -11,17 +10,11 @@ pub none_left : {T : Type 0} → false ≡ true → T
 none_left said = absurd (false≢true said)
 
 -- a mark ends, and the workers found these
-pub mark_ends : (a : State) (found : List (List ℕ))
-    → MayDoom a.world.policy (graph_of a.world) a.moments (doomed_at a)
+pub mark_ends : (a : State) (found : List (List ℕ)) → MayDoom a.world.policy (graph_of a.world) a.moments (doomed_at a)
     → AreFound a.world.heap.objects a.scanned found
     → ((n : ℕ) → has (new_clears a.world.heap.objects (doomed_at a)) n ≡ true → has (joined found) n ≡ true)
     → EndsMark a (Doomed (length (doomed_at a))) (mark_ended a (doomed_at a) found)
 mark_ends a found may are all = search
-
--- where the state of the heap's row is known, so is the state that the row leaves
-pub lands : (step : Step) (reply : Reply) {b c d : State} → b ≡ with_handed c step reply → c ≡ d
-    → b ≡ with_handed d step reply
-lands step reply left is = left ∙ ap (λ (s : State). with_handed s step reply) is
 
 infixr 20 ◌⨾◌
 -- rows, one after the other

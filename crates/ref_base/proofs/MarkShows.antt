@@ -1,10 +1,7 @@
 -- What a mark's end shows of each reference that it clears, in the world of the replay; and what stands after it.
-use Rattle.std.proofs.Common.{arith}
-use Rattle.std.proofs.Common.{◌≡◌, ℕ, true, false, List, [], ◌∷◌, ◌++◌, Some, refl, sym}
-use Rattle.std.proofs.Common.{ap, ◌∙◌, subst}
+use Rattle.std.proofs.Common.{arith, ◌≡◌, ℕ, true, false, List, [], ◌∷◌, ◌++◌, Some, refl, sym, ap, ◌∙◌, subst}
 use Rattle.std.proofs.lemmas.List.{append_assoc}
-use Rattle.ref_base.proofs.Common.{has, Object, is_there, IsKept, is_kept}
-use Rattle.ref_base.proofs.Common.{MayDoom, new_clears, reference_at, World}
+use Rattle.ref_base.proofs.Common.{has, Object, is_there, IsKept, is_kept, MayDoom, new_clears, reference_at, World}
 use Rattle.ref_base.proofs.Common.{graph_of, replayed, State, joined, without, referent_of, doomed_at, IsDead}
 use Rattle.ref_base.proofs.Common.{MarkEnded, WasDoomed, Config, Marking, Row}
 use Rattle.ref_base.specs.declared.plain_step.PlainStep.TheVariants as plain
@@ -31,8 +28,7 @@ module _ (gone : List ℕ) (w : World) (a : State) (is : Agreeing gone w a) (mar
   objects : a.world.heap.objects ≡ without gone w.heap.objects
   objects = ap (λ (v : World). v.heap.objects) there
 
-  known : (n : ℕ) → is_there a.world.heap.objects n ≡ true
-      → (has gone n ≡ false) × (is_there w.heap.objects n ≡ true)
+  known : (n : ℕ) → is_there a.world.heap.objects n ≡ true → (has gone n ≡ false) × (is_there w.heap.objects n ≡ true)
   known n at =
       there-without gone w.heap.objects n (subst (λ (os : List Object). is_there os n ≡ true) objects at)
 

@@ -1,6 +1,5 @@
 -- In every legal trace a notice of a cycle comes after the end of that cycle's mark, which showed what it had to.
-use Rattle.std.proofs.Common.{arith}
-use Rattle.std.proofs.Common.{ℕ, List, [], ◌∷◌, ◌++◌}
+use Rattle.std.proofs.Common.{arith, ℕ, List, [], ◌∷◌, ◌++◌}
 use Rattle.ref_base.proofs.Common.{replayed, State, first_state, IsRow, IsRun, MarkEnded, WasDoomed, Config, Row}
 use Rattle.ref_base.specs.MarkEnds.{AreAfterMarks}
 use Rattle.ref_base.specs.declared.plain_step.PlainStep.TheVariants as plain
@@ -17,8 +16,7 @@ use Rattle.ref_base.proofs.MarkedTurns.{AnyObject, any_lasts, IsMarked, AreMarke
 use Rattle.ref_base.proofs.OutTraces.{legal_out}
 
 -- what a worker cleared, the end of the cycle's mark showed to be out of reach
-pub cleared_shown : (config : Config) (front back : List Row) (k n : ℕ) (b : State)
-    → IsRun (first_state config)
+pub cleared_shown : (config : Config) (front back : List Row) (k n : ℕ) (b : State) → IsRun (first_state config)
     (front ++ record { step = steps.Plain (plain.ClearNext k); reply = replies.Cleared n } ∷ back) b
     → MarkEnded config front (replayed config front).cycle n
 cleared_shown config front back k n b run = grind (arith, cut, legal_out)

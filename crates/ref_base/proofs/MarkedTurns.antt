@@ -1,9 +1,8 @@
 -- A notice of a cycle comes after the end of that cycle's mark, which showed what it had to: how each turn at a heap
 -- keeps it.
-use Rattle.std.proofs.Common.{arith}
-use Rattle.std.proofs.Common.{ℕ, List, Some}
-use Rattle.ref_base.proofs.Common.{Object, World, Notice, first_world, heap_step, State, NamedStep}
-use Rattle.ref_base.proofs.Common.{Config, Cause, Own, Cycle, Step, Reply}
+use Rattle.std.proofs.Common.{arith, ℕ, List, Some}
+use Rattle.ref_base.proofs.Common.{Object, World, Notice, first_world, heap_step, State, NamedStep, Config, Cause, Own}
+use Rattle.ref_base.proofs.Common.{Cycle, Step, Reply}
 use Rattle.ref_base.specs.declared.heap_step.HeapStep.TheVariants as heap
 use Rattle.ref_base.specs.declared.plain_step.PlainStep.TheVariants as plain
 use Rattle.ref_base.specs.declared.step.Step.TheVariants as steps

@@ -1,6 +1,5 @@
 -- What is in the list of new clears, and what refers into the doomed.
-use Rattle.std.proofs.Common.{◌≡◌, ℕ, ◌≤◌, Bool, false, not, ◌&&◌, refl, arith, List, [], ◌∷◌}
-use Rattle.std.proofs.Common.{Option, Some, None}
+use Rattle.std.proofs.Common.{◌≡◌, ℕ, ◌≤◌, Bool, false, not, ◌&&◌, refl, arith, List, [], ◌∷◌, Option, Some, None}
 use Rattle.ref_base.proofs.Common.{has, Object, Reference, object_at, is_there, numbers, IsRising, any_is, refers_into}
 use Rattle.ref_base.proofs.Common.{new_clears, reference_in}
 
@@ -10,8 +9,7 @@ is_there-rising [] n m order rising = refl
 is_there-rising (o ∷ os) n m order rising = grind (arith, is_there-rising os n o.no)
 
 -- a number is a new clear where its object is a reference outside the doomed whose referent is doomed
-pub has-new_clears : (os : List Object) (d : List ℕ) (n : ℕ) → IsRising (numbers os)
-    → has (new_clears os d) n
+pub has-new_clears : (os : List Object) (d : List ℕ) (n : ℕ) → IsRising (numbers os) → has (new_clears os d) n
     ≡ (is_there os n && (not (has d n) && refers_into (has d) (reference_in (object_at os n))))
 has-new_clears [] d n rising = refl
 has-new_clears (o ∷ os) d n rising = grind (arith, is_there-rising, has-new_clears os d n)

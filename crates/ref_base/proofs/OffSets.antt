@@ -1,14 +1,12 @@
 -- What is gone or doomed is out of reach: no root names it, and nothing else refers to it. A mark's end makes it so.
-use Rattle.std.proofs.Common.{arith}
-use Rattle.std.proofs.Common.{◌≡◌, ℕ, zero, suc, true, false, List, [], ◌∷◌, ◌++◌, map, Option, Some, None}
+use Rattle.std.proofs.Common.{arith, ◌≡◌, ℕ, zero, suc, true, false, List, [], ◌∷◌, ◌++◌, map, Option, Some, None}
 use Rattle.std.proofs.Common.{is_some, refl, sym, ap, ◌∙◌, inl, inr, ◌⊎◌}
 use Rattle.std.specs.Prelude.{slice_index_or}
 use Rattle.std.specs.List.{AllByRecursion}
 use Rattle.std.proofs.lemmas.Bool.{or_parts, or_from, false≢true}
 use Rattle.ref_base.proofs.Common.{has, Graph, Object, Reference, object_at, is_there, Allowed, EndsPath, any_referent}
-use Rattle.ref_base.proofs.Common.{no_referents, present, targets_of, targets_at, is_kept, MayDoom}
-use Rattle.ref_base.proofs.Common.{World, Pending, graph_of}
-use Rattle.ref_base.proofs.Common.{pending_of, pending_numbers, with_heap, without, shown}
+use Rattle.ref_base.proofs.Common.{no_referents, present, targets_of, targets_at, is_kept, MayDoom, World, Pending}
+use Rattle.ref_base.proofs.Common.{graph_of, pending_of, pending_numbers, with_heap, without, shown}
 use Rattle.ref_base.proofs.CarryRows.{all_more}
 use Rattle.ref_base.proofs.HasLaws.{has-append, has-cases, has-left, has-right}
 use Rattle.ref_base.proofs.Lookups.{has-present_at}
@@ -52,14 +50,12 @@ target_there allow (Some o) n target = refl
 
 -- an object outside the doomed refers, once the mark has ended, by its fields as before, and to no doomed referent
 object_shown : (d : List ℕ) (o : Object) (n : ℕ) → has d o.no ≡ false
-    → has (targets_of any_referent (Some (shown d o))) n ≡ true
-    → (has (targets_of no_referents (Some o)) n ≡ true)
+    → has (targets_of any_referent (Some (shown d o))) n ≡ true → (has (targets_of no_referents (Some o)) n ≡ true)
     ⊎ ((has (targets_of any_referent (Some o)) n ≡ true) × (has d n ≡ false))
 object_shown d o n out target = grind (arith, has-cases, has-left)
 
 target_shown : (d : List ℕ) (os : List Object) (m n : ℕ) → has d m ≡ false
-    → has (targets_at any_referent (map (λ o. shown d o) os) m) n ≡ true
-    → (has (targets_at no_referents os m) n ≡ true)
+    → has (targets_at any_referent (map (λ o. shown d o) os) m) n ≡ true → (has (targets_at no_referents os m) n ≡ true)
     ⊎ ((has (targets_at any_referent os m) n ≡ true) × (has d n ≡ false))
 target_shown d [] m n out target = absurd (false≢true target)
 target_shown d (o ∷ os) m n out target = grind (arith, object_shown, target_shown d os m n out)

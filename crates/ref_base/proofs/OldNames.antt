@@ -1,11 +1,10 @@
 -- In every legal trace each number is given once: whatever is named has a number below the next.
-use Rattle.std.proofs.Common.{◌≡◌, ℕ, ◌+◌, ◌*◌, ◌<◌, ◌≤◌, true, List, [], ◌∷◌, map, Option, Some, None}
-use Rattle.std.proofs.Common.{refl, sym, ap, subst, arith, inl, inr}
+use Rattle.std.proofs.Common.{◌≡◌, ℕ, ◌+◌, ◌*◌, ◌<◌, ◌≤◌, true, List, [], ◌∷◌, map, Option, Some, None, refl, sym, ap}
+use Rattle.std.proofs.Common.{subst, arith, inl, inr}
 use Rattle.std.proofs.lemmas.Bool.{false≢true}
-use Rattle.ref_base.proofs.Common.{Object, object_at, is_there, numbers, IsRising, World}
-use Rattle.ref_base.proofs.Common.{NamedStep, replayed, State, first_state, heap_refusal}
-use Rattle.ref_base.proofs.Common.{HeapAccepts, shown, mark_ended, doomed_at, IsRun, HasOldNumbers}
-use Rattle.ref_base.proofs.Common.{Config, Reply, Row, heap_step}
+use Rattle.ref_base.proofs.Common.{Object, object_at, is_there, numbers, IsRising, World, NamedStep, replayed, State}
+use Rattle.ref_base.proofs.Common.{first_state, heap_refusal, HeapAccepts, shown, mark_ended, doomed_at, IsRun}
+use Rattle.ref_base.proofs.Common.{HasOldNumbers, Config, Reply, Row, heap_step}
 use Rattle.ref_base.specs.declared.heap_step.HeapStep.TheVariants as heap
 use Rattle.ref_base.specs.declared.plain_step.PlainStep.TheVariants as plain
 use Rattle.ref_base.proofs.CarryRows.{all_more, nothing_pending}
@@ -18,8 +17,7 @@ use Rattle.ref_base.proofs.ReplayKeeps.{but_hands}
 use Rattle.ref_base.proofs.RunFronts.{legal_holds}
 use Rattle.ref_base.proofs.OneQueue.{next_heap}
 use Rattle.ref_base.proofs.AgreeHeaps.{Agreeing, there-numbers}
-use Rattle.ref_base.proofs.ApartWorlds.{no_slot, IsClosed, Refers, closed_roots}
-use Rattle.ref_base.proofs.ApartWorlds.{refers_cleared}
+use Rattle.ref_base.proofs.ApartWorlds.{no_slot, IsClosed, Refers, closed_roots, refers_cleared}
 use Rattle.ref_base.proofs.ClosedRows.{closed_same, heap_closed}
 use Rattle.ref_base.proofs.OffSets.{target_there}
 use Rattle.ref_base.proofs.OutTraces.{legal_out, there_in}

@@ -64,8 +64,7 @@ pub record AreRegistered (rows : List Row) (a : State) : Type 0 where
   pub one : (n q r : ℕ) → is_registered rows n q ≡ true → is_registered rows n r ≡ true → q ≡ r
 
 registered_last : (config : Config) (past : List Row) (a : State) (row : Row) (b : State)
-    → IsRun (first_state config) past a → AreRegistered past a → IsRow a row b
-    → AreRegistered (past ++ row ∷ []) b
+    → IsRun (first_state config) past a → AreRegistered past a → IsRow a row b → AreRegistered (past ++ row ∷ []) b
 registered_last config past a row b run are h =
     grind (arith, next_grows, legal_counted, registers_next, registered_cases, row_kind a row b)
 

@@ -1,18 +1,19 @@
 -- Each row of a heap keeps that what is gone or doomed is out of reach, and that a mark's end has shown what it
 -- cleared.
-use Rattle.std.proofs.Common.{arith}
-use Rattle.std.proofs.Common.{◌≡◌, ℕ, true, false, List, [], ◌++◌, take, drop, None, refl, sym, ap, ◌∙◌, subst, inl}
-use Rattle.std.proofs.Common.{inr}
+use Rattle.std.proofs.Common.{arith, ◌≡◌, ℕ, true, false, List, [], ◌++◌, take, drop, None, refl, sym, ap, ◌∙◌, subst}
+use Rattle.std.proofs.Common.{inl, inr}
 use Rattle.std.proofs.lemmas.Bool.{or_from}
 use Rattle.std.proofs.lemmas.List.{append-nil, append_assoc, take-append-drop}
-use Rattle.ref_base.proofs.Common.{has, World, NamedStep, State, joined, heap_refusal, HeapAccepts}
-use Rattle.ref_base.proofs.Common.{EndsMark, doomed_at, IsDead, MarkEnded, WasDoomed, Config, Phase, Idle, Marking}
-use Rattle.ref_base.proofs.Common.{Clearing, Sweeping, Reply, Row}
+use Rattle.ref_base.proofs.Common.{has, World, NamedStep, State, joined, heap_refusal, HeapAccepts, EndsMark, doomed_at}
+use Rattle.ref_base.proofs.Common.{IsDead, MarkEnded, WasDoomed, Config, Phase, Idle, Marking, Clearing, Sweeping}
+use Rattle.ref_base.proofs.Common.{Reply, Row}
 use Rattle.ref_base.specs.declared.heap_step.HeapStep.TheVariants as heap
 use Rattle.ref_base.specs.declared.plain_step.PlainStep.TheVariants as plain
 use Rattle.ref_base.specs.declared.reply.Reply.TheVariants as replies
 use Rattle.ref_base.proofs.HasLaws.{has-append, has-cases}
-use Rattle.ref_base.proofs.Outcomes.{heap_outcome, IsNoEnd}
+use Rattle.ref_base.proofs.Outcomes.{heap_outcome, outcome, IsNoEnd}
+use Rattle.ref_base.proofs.OutcomeParts.{outcome_phase}
+use Rattle.ref_base.proofs.ReplayKeeps.{EndsNoPhase}
 use Rattle.ref_base.proofs.PhaseLaws.{of_phase}
 use Rattle.ref_base.proofs.AgreeHeaps.{Agreeing, gone_after, unscanned-there}
 use Rattle.ref_base.proofs.ApartWorlds.{IsClosed}
@@ -53,10 +54,18 @@ pub off_is : (gone doomed : List ℕ) (c : State) (phase : Phase) → c.world.ph
 off_is gone doomed c phase is same =
     ap (λ (p : Phase). gone ++ doomed_in p c.doomed) is ∙ ap (λ ds. gone ++ doomed_in phase ds) same
 
+-- a row that ends no phase and dooms the same
+off_still : (gone : List ℕ) (a c : State) (step : NamedStep) (reply : Reply) → EndsNoPhase step → IsNoEnd step
+    → HeapAccepts a step reply c → (outcome a step reply).doomed ≡ a.doomed → off gone c ≡ off gone a
+off_still gone a c step reply no_phase no_end row same =
+    let leads = heap_outcome a c step reply no_end row in
+    off_is gone a.doomed c a.world.phase
+    (ap (λ (s : State). s.world.phase) leads ∙ outcome_phase a step reply no_phase)
+    (ap (λ (s : State). s.doomed) leads ∙ same)
+
 -- no row but a mark's end changes what is off
 pub off_same : (gone : List ℕ) (a c : State) (step : NamedStep) (reply : Reply) → IsNoEnd step
-    → heap_refusal a step ≡ None → HeapAccepts a step reply c
-    → off (gone_after a gone step reply) c ≡ off gone a
+    → heap_refusal a step ≡ None → HeapAccepts a step reply c → off (gone_after a gone step reply) c ≡ off gone a
 off_same gone a c (heap.Plain (plain.Begin now how)) reply no_end none row = grind arith
 off_same gone a c (heap.Plain plain.EndMark) reply no_end none row = absurd no_end
 off_same gone a c (heap.Plain plain.EndClear) reply no_end none row = grind arith
@@ -69,12 +78,9 @@ off_same gone a c (heap.Plain (plain.Sweep k)) (replies.Swept count) no_end none
     ∙ append_assoc gone (take 64 a.doomed) (drop 64 a.doomed)
     ∙ ap (λ ns. gone ++ ns) (take-append-drop 64 a.doomed)
     ∙ sym (off_is gone a.doomed a Sweeping sweeping refl)
-off_same gone a c (heap.Plain (plain.Sweep k)) reply no_end none row = grind arith
-off_same gone a c (heap.Plain (plain.ClearNext k)) (replies.Cleared n) no_end none row = grind arith
-off_same gone a c (heap.Plain (plain.ClearNext k)) (replies.Kept n) no_end none row = grind arith
-off_same gone a c (heap.Plain (plain.ClearNext k)) (replies.Skipped n) no_end none row = grind arith
-off_same gone a c (heap.Plain (plain.ClearNext k)) reply no_end none row = grind arith
-off_same gone a c step reply no_end none row = grind arith
+off_same gone a c (heap.Plain (plain.ClearNext k)) (replies.Cleared n) no_end none row =
+    off_still gone a c (heap.Plain (plain.ClearNext k)) (replies.Cleared n) tt no_end row refl
+off_same gone a c step reply no_end none row = off_still gone a c step reply tt no_end row refl
 
 -- the next number isn't off
 pub next_out : (gone : List ℕ) (w : World) (a : State) → Agreeing gone w a → has (off gone a) a.next ≡ false
@@ -86,8 +92,7 @@ module _ (Dead : ℕ → Type 0) (Shown : ℕ → ℕ → Type 0) (gone : List �
     (is : Agreeing gone w a) (out : AreOutBy Dead Shown gone a) where
   -- a row that isn't a mark's end
   pub plain_out : (step : NamedStep) (reply : Reply) → IsNoEnd step → heap_refusal a step ≡ None
-      → HeapAccepts a step reply c
-      → (c.world.phase ≡ Clearing
+      → HeapAccepts a step reply c → (c.world.phase ≡ Clearing
       → (a.world.phase ≡ Clearing) × (c.cleared ≡ a.cleared) × (c.world.cycle ≡ a.world.cycle))
       → doomed_in c.world.phase c.doomed ≡ c.doomed → AreOutBy Dead Shown (gone_after a gone step reply) c
   plain_out step reply no_end none row still whole =

@@ -1,7 +1,6 @@
 -- Each row keeps that what is gone or doomed is out of reach, and that a mark's end has shown what it cleared.
-use Rattle.std.proofs.Common.{arith}
-use Rattle.std.proofs.Common.{◌≡◌, ℕ, ◌+◌, false, List, [], ◌∷◌, ◌++◌, length, Option, Some, None, refl, sym, ap, ◌∙◌}
-use Rattle.std.proofs.Common.{subst, inl, inr}
+use Rattle.std.proofs.Common.{arith, ◌≡◌, ℕ, ◌+◌, false, List, [], ◌∷◌, ◌++◌, length, Option, Some, None, refl, sym, ap}
+use Rattle.std.proofs.Common.{◌∙◌, subst, inl, inr}
 use Rattle.ref_base.proofs.Common.{has, World, Notice, hand_of, NamedStep, heap_step, spending, replayed, State}
 use Rattle.ref_base.proofs.Common.{heap_refusal, HeapAccepts, IsRow, doomed_at, AreCounted, MarkEnded, WasDoomed}
 use Rattle.ref_base.proofs.Common.{Config, Mutator, Phase, Idle, Marking, Clearing, Sweeping, HoldName, Step, Reply}
@@ -77,8 +76,7 @@ module _ (Dead : ℕ → Type 0) (Shown : ℕ → ℕ → Type 0) (gone : List �
     (is : Agreeing gone w a) (out : AreOutBy Dead Shown gone a) where
   -- a row that ends no phase
   calm : (step : NamedStep) (reply : Reply) → IsNoEnd step → EndsNoPhase step → heap_refusal a step ≡ None
-      → HeapAccepts a step reply c
-      → (c.world.phase ≡ a.world.phase → doomed_in c.world.phase c.doomed ≡ c.doomed)
+      → HeapAccepts a step reply c → (c.world.phase ≡ a.world.phase → doomed_in c.world.phase c.doomed ≡ c.doomed)
       → AreOutBy Dead Shown (gone_after a gone step reply) c
   calm step reply no_end ends none row whole =
       let leads : settled c ≡ settled (outcome a step reply) = heap_outcome a c step reply no_end row in

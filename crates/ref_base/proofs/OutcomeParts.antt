@@ -1,14 +1,12 @@
 -- What stays where a row of a heap leads.
-use Rattle.std.proofs.Common.{arith}
 use Rattle.std.proofs.Common.{◌≡◌, ℕ, Bool, List, refl, ap, ◌∙◌}
-use Rattle.ref_base.proofs.Common.{Graph, Policy, reference_at, registered_in, World, is_done, told_cycle}
-use Rattle.ref_base.proofs.Common.{NamedStep, State, Config, Phase, Reply, Notice, Lists, SameOthers, HeapAccepts}
+use Rattle.ref_base.proofs.Common.{Graph, Policy, reference_at, registered_in, World, is_done, told_cycle, NamedStep}
+use Rattle.ref_base.proofs.Common.{State, Config, Phase, Reply, Notice, Lists, SameOthers, HeapAccepts}
 use Rattle.ref_base.specs.declared.heap_step.HeapStep.TheVariants as heap
 use Rattle.ref_base.specs.declared.plain_step.PlainStep.TheVariants as plain
 use Rattle.ref_base.specs.declared.reply.Reply.TheVariants as replies
 use Rattle.ref_base.proofs.Outcomes.{outcome, IsNoEnd, heap_outcome}
-use Rattle.ref_base.proofs.ReplayKeeps.{EndsNoPhase, stage_of, stage_pended, same_stage}
-use Rattle.ref_base.proofs.ReplayKeeps.{told_keeps, done_keeps}
+use Rattle.ref_base.proofs.ReplayKeeps.{EndsNoPhase, stage_of, stage_pended, same_stage, told_keeps, done_keeps}
 
 -- ---- a row that ends no phase
 
@@ -57,8 +55,9 @@ mark_in a w = (w.phase, w.policy, a.moments, a.born, a.scanned, a.left)
 
 -- ---- any row but a mark's end
 
-abbrev identity_in : World → Config × ℕ
-identity_in w = (w.heap.config, w.heap.no)
+-- the configuration and number of the heap, hands and queues
+abbrev identity_in : World → Config × ℕ × List (List Notice) × List (List Notice) × List (Lists Notice)
+identity_in w = (w.heap.config, w.heap.no, w.mutator_hands, w.worker_hands, w.queues)
 
 outcome_identity : (a : State) (step : NamedStep) (reply : Reply) → IsNoEnd step
     → identity_in (outcome a step reply).world ≡ identity_in a.world
@@ -69,33 +68,26 @@ outcome_identity a (heap.Plain plain.EndClear) reply no_end = done_keeps identit
 outcome_identity a (heap.Plain plain.EndSweep) reply no_end = done_keeps identity_in (is_done reply) _ a.world refl
 outcome_identity a step reply no_end = ap identity_in (outcome_stage a step reply tt)
 
--- hands and queues
-abbrev others_in : World → List (List Notice) × List (List Notice) × List (Lists Notice)
-others_in w = (w.mutator_hands, w.worker_hands, w.queues)
-
 -- ---- what a row of a heap leaves
 
-same_others : (v w : World) → others_in w ≡ others_in v → SameOthers v w
-same_others v w is = grind arith
-
--- a row of the heap leaves hands and queues
-pub heap_others : (a b : State) (step : NamedStep) (reply : Reply) → HeapAccepts a step reply b
-    → SameOthers a.world b.world
-heap_others a b (heap.Plain plain.EndMark) reply row =
-    same_others a.world b.world (ap (λ (s : State). others_in s.world) row.after)
-heap_others a b step reply row = grind arith
-
--- and the configuration and number of the heap
 heap_identity : (a b : State) (step : NamedStep) (reply : Reply) → HeapAccepts a step reply b
     → identity_in b.world ≡ identity_in a.world
 heap_identity a b (heap.Plain plain.EndMark) reply row = ap (λ (s : State). identity_in s.world) row.after
 heap_identity a b step reply row =
     ap (λ (s : State). identity_in s.world) (heap_outcome a b step reply tt row) ∙ outcome_identity a step reply tt
 
+-- a row of the heap leaves hands and queues
+pub heap_others : (a b : State) (step : NamedStep) (reply : Reply) → HeapAccepts a step reply b
+    → SameOthers a.world b.world
+heap_others a b step reply row =
+    let same = heap_identity a b step reply row in
+    record { mutators = ap (λ i. i.2) same; workers = ap (λ i. i.3) same; queues = ap (λ i. i.4) same }
+
+-- and the configuration and number of the heap
 pub heap_config : (a b : State) (step : NamedStep) (reply : Reply) → HeapAccepts a step reply b
     → b.world.heap.config ≡ a.world.heap.config
-heap_config a b step reply row = ap (λ (i : Config × ℕ). i.0) (heap_identity a b step reply row)
+heap_config a b step reply row = ap (λ i. i.0) (heap_identity a b step reply row)
 
 pub heap_number : (a b : State) (step : NamedStep) (reply : Reply) → HeapAccepts a step reply b
     → b.world.heap.no ≡ a.world.heap.no
-heap_number a b step reply row = ap (λ (i : Config × ℕ). i.1) (heap_identity a b step reply row)
+heap_number a b step reply row = ap (λ i. i.1) (heap_identity a b step reply row)

@@ -1,15 +1,13 @@
 -- Where a row of a heap leads: to the world that its replay gives, but for what a worker looks at in Clearing and what
 -- a sweep frees; and then a moment of a mark joins the others. A mark's end says itself where it leads.
-use Rattle.std.proofs.Common.{arith}
-use Rattle.std.proofs.Common.{◌≡◌, ℕ, ◌+◌, false, List, [], ◌∷◌, ◌++◌, take, drop, Option}
-use Rattle.std.proofs.Common.{Some, None, refl, sym, ap, ◌∙◌, subst, inl, inr, ◌⊎◌}
+use Rattle.std.proofs.Common.{arith, ◌≡◌, ℕ, ◌+◌, Bool, true, false, List, [], ◌∷◌, ◌++◌, take, drop, Option, Some}
+use Rattle.std.proofs.Common.{None, refl, sym, ap, ◌∙◌, subst, inl, inr, ◌⊎◌}
 use Rattle.std.specs.Prelude.{slice_set}
 use Rattle.std.proofs.lemmas.Bool.{cases_Bool}
-use Rattle.ref_base.proofs.Common.{reference_at, registered_in, with_slot, got, cut, with_hold}
-use Rattle.ref_base.proofs.Common.{Pending, with_heap, NamedStep, pended, after_heap, State, Gives}
-use Rattle.ref_base.proofs.Common.{IsBut, ticked, on_heap, with_world, Loads, Gets, Unhooks, Holds, Scans}
-use Rattle.ref_base.proofs.Common.{ClearsNext, HandsOn, Sweeps, HeapAccepts, value_reply, looked_at, looked, list_at}
-use Rattle.ref_base.proofs.Common.{begun_state, without, is_in, Own, Marking, Reply}
+use Rattle.ref_base.proofs.Common.{reference_at, registered_in, with_slot, GivesAnewIf, Pending, with_heap, NamedStep}
+use Rattle.ref_base.proofs.Common.{pended, after_heap, State, Gives, IsBut, ticked, on_heap, with_world, Loads, Gets}
+use Rattle.ref_base.proofs.Common.{Unhooks, Holds, Scans, ClearsNext, HandsOn, Sweeps, HeapAccepts, value_reply}
+use Rattle.ref_base.proofs.Common.{looked_at, looked, list_at, begun_state, without, is_in, Marking, Reply}
 use Rattle.ref_base.specs.declared.heap_step.HeapStep.TheVariants as heap
 use Rattle.ref_base.specs.declared.plain_step.PlainStep.TheVariants as plain
 use Rattle.ref_base.specs.declared.reply.Reply.TheVariants as replies
@@ -81,44 +79,39 @@ given : (a c b : State) (step : NamedStep) (answer reply : Reply) → Gives answ
     → Leads a step reply b
 given a c b step answer reply row leads = answered a c b step answer reply row.0 leads (inr (inl row.1))
 
+given_anew : (a c b : State) (step : NamedStep) (marks : Bool) (answer reply : Reply)
+    → GivesAnewIf marks answer c reply b → c ≡ outcome a step answer → Leads a step reply b
+given_anew a c b step true answer reply row leads = answered a c b step answer reply row.0 leads (inr (inr row.1))
+given_anew a c b step false answer reply row leads = given a c b step answer reply row leads
+
 -- ---- rows
 
 loads : (a b : State) (m d s i : ℕ) (value : Option ℕ) (reply : Reply) → Loads a m d value reply b
     → Leads a (heap.Plain (plain.Load m d s i)) reply b
-loads a b m d s i None reply row =
-    given a (on_heap a (with_slot a.world.heap m d None)) b (heap.Plain (plain.Load m d s i)) replies.Null reply row
-    refl
-loads a b m d s i (Some n) reply row = grind arith
+loads a b m d s i None reply row = given a _ b (heap.Plain (plain.Load m d s i)) _ reply row refl
+loads a b m d s i (Some n) reply row = given_anew a _ b (heap.Plain (plain.Load m d s i)) _ _ reply row refl
 
 copies : (a b : State) (m d s : ℕ) (value : Option ℕ) (reply : Reply)
     → Gives (value_reply value) (on_heap a (with_slot a.world.heap m d value)) reply b
     → Leads a (heap.Plain (plain.Copy m d s)) reply b
-copies a b m d s None reply row =
-    given a (on_heap a (with_slot a.world.heap m d None)) b (heap.Plain (plain.Copy m d s)) replies.Null reply row refl
-copies a b m d s (Some n) reply row =
-    given a (on_heap a (with_slot a.world.heap m d (Some n))) b (heap.Plain (plain.Copy m d s)) (replies.Object n) reply
-    row refl
+copies a b m d s None reply row = given a _ b (heap.Plain (plain.Copy m d s)) _ reply row refl
+copies a b m d s (Some n) reply row = given a _ b (heap.Plain (plain.Copy m d s)) _ reply row refl
 
 gets : (a b : State) (m d s : ℕ) (value : Option ℕ) (reply : Reply) → Gets a m d s value reply b
     → Leads a (heap.Plain (plain.Get m d s)) reply b
-gets a b m d s None reply row =
-    given a (on_heap a (got a.world.heap m d s None)) b (heap.Plain (plain.Get m d s)) replies.Null reply row refl
-gets a b m d s (Some n) reply row = grind arith
+gets a b m d s None reply row = given a _ b (heap.Plain (plain.Get m d s)) _ reply row refl
+gets a b m d s (Some n) reply row = given_anew a _ b (heap.Plain (plain.Get m d s)) _ _ reply row refl
 
 unhooks : (a b : State) (m s : ℕ) (held queue : Option ℕ) (reply : Reply) → Unhooks a m s held queue reply b
     → Leads a (heap.Unhook m s) reply b
-unhooks a b m s None queue reply row =
-    given a (on_heap a (cut a.world.heap m s)) b (heap.Unhook m s) replies.Nothing reply row refl
-unhooks a b m s (Some n) None reply row =
-    given a (on_heap a (cut a.world.heap m s)) b (heap.Unhook m s) replies.Nothing reply row refl
-unhooks a b m s (Some n) (Some q) reply row =
-    given a (on_heap a (with_hold (cut a.world.heap m s) n)) b (heap.Unhook m s) (replies.Notice n q Own) reply row refl
+unhooks a b m s None queue reply row = given a _ b (heap.Unhook m s) _ reply row refl
+unhooks a b m s (Some n) None reply row = given a _ b (heap.Unhook m s) _ reply row refl
+unhooks a b m s (Some n) (Some q) reply row = given a _ b (heap.Unhook m s) _ reply row refl
 
 holds : (a b : State) (m s : ℕ) (held : Option ℕ) (reply : Reply) → Holds a held reply b
     → Leads a (heap.Hold m s) reply b
 holds a b m s None reply row = absurd row
-holds a b m s (Some n) reply row =
-    given a (on_heap a (with_hold a.world.heap n)) b (heap.Hold m s) (replies.Object n) reply row refl
+holds a b m s (Some n) reply row = given a _ b (heap.Hold m s) _ reply row refl
 
 scans : (a b : State) (k : ℕ) (reply : Reply) → Scans a k reply b → Leads a (heap.Plain (plain.Scan k)) reply b
 scans a b k (replies.Scanned n) row = inr (inr row.2)
@@ -136,7 +129,7 @@ looks_at a b k (n ∷ rest) reply is row = looks a b k n rest reply is row
 hands_on : (a b : State) (k : ℕ) (ps : List Pending) (reply : Reply) → HandsOn a k ps reply b
     → Leads a (heap.Hand k) reply b
 hands_on a b k [] reply row = given a a b (heap.Hand k) replies.Nothing reply row refl
-hands_on a b k (p ∷ ps) reply row = search given
+hands_on a b k (p ∷ ps) reply row = given a _ b (heap.Hand k) _ reply row refl
 
 sweeps : (a b : State) (k : ℕ) (doomed : List ℕ) (reply : Reply) → a.doomed ≡ doomed → Sweeps a doomed reply b
     → Leads a (heap.Plain (plain.Sweep k)) reply b
@@ -147,8 +140,18 @@ sweeps a b k (n ∷ ns) reply is row = grind arith
 pub heap_becomes : (a b : State) (step : NamedStep) (reply : Reply) → IsNoEnd step → HeapAccepts a step reply b
     → Becomes (outcome a step reply) b
 heap_becomes a b (heap.Plain (plain.Load m d s i)) reply no_end row = loads a b m d s i _ reply row
-heap_becomes a b step reply no_end row =
-    grind (arith, loads, copies, gets, unhooks, holds, scans, looks_at, hands_on, sweeps, given)
+heap_becomes a b (heap.Plain (plain.Copy m d s)) reply no_end row = copies a b m d s _ reply row
+heap_becomes a b (heap.Plain (plain.Get m d s)) reply no_end row = gets a b m d s _ reply row
+heap_becomes a b (heap.Unhook m s) reply no_end row = unhooks a b m s _ _ reply row
+heap_becomes a b (heap.Hold m s) reply no_end row = holds a b m s _ reply row
+heap_becomes a b (heap.Plain (plain.Begin now how)) reply no_end row =
+    given_anew a _ b (heap.Plain (plain.Begin now how)) true _ reply row refl
+heap_becomes a b (heap.Plain (plain.Scan k)) reply no_end row = scans a b k reply row
+heap_becomes a b (heap.Plain plain.EndMark) reply no_end row = absurd no_end
+heap_becomes a b (heap.Plain (plain.ClearNext k)) reply no_end row = looks_at a b k _ reply refl row
+heap_becomes a b (heap.Hand k) reply no_end row = hands_on a b k _ reply row
+heap_becomes a b (heap.Plain (plain.Sweep k)) reply no_end row = sweeps a b k a.doomed reply refl row
+heap_becomes a b step reply no_end row = given a _ b step _ reply row refl
 
 -- in one equation
 pub heap_outcome : (a b : State) (step : NamedStep) (reply : Reply) → IsNoEnd step → HeapAccepts a step reply b

@@ -1,9 +1,8 @@
 -- In which phase a row of a heap is accepted.
-use Rattle.std.proofs.Common.{arith}
-use Rattle.std.proofs.Common.{◌≡◌, true, [], None, refl}
+use Rattle.std.proofs.Common.{arith, ◌≡◌, true, [], None, refl}
 use Rattle.std.proofs.lemmas.Bool.{false≢true}
-use Rattle.ref_base.proofs.Common.{NamedStep, State, joined, heap_refusal, is_in, Phase, Idle}
-use Rattle.ref_base.proofs.Common.{Marking, Clearing, Sweeping}
+use Rattle.ref_base.proofs.Common.{NamedStep, State, joined, heap_refusal, is_in, Phase, Idle, Marking, Clearing}
+use Rattle.ref_base.proofs.Common.{Sweeping}
 use Rattle.ref_base.specs.declared.heap_step.HeapStep.TheVariants as heap
 use Rattle.ref_base.specs.declared.plain_step.PlainStep.TheVariants as plain
 use Rattle.ref_base.proofs.RowForms.{unless_passes}

@@ -1,15 +1,13 @@
 -- In every legal trace each notice that is out comes from the rows: one made its reference, registered with the
 -- notice's queue, and one is its cause.
-use Rattle.std.proofs.Common.{arith}
-use Rattle.std.proofs.Common.{◌≡◌, ℕ, Bool, true, ◌==◌, ◌&&◌, if◌then◌else◌, List, [], ◌∷◌, ◌++◌, Option, Some}
+use Rattle.std.proofs.Common.{arith, ◌≡◌, ℕ, Bool, true, ◌==◌, ◌&&◌, if◌then◌else◌, List, [], ◌∷◌, ◌++◌, Option, Some}
 use Rattle.std.proofs.Common.{None, refl, sym, ap, ◌∙◌, subst, inl, inr}
 use Rattle.std.specs.List.{AllByRecursion}
 use Rattle.std.proofs.lemmas.Bool.{cases_Bool, eq-eqb, and_from}
-use Rattle.ref_base.proofs.Common.{Object, object_at, registered_in, reference_in, reference_at}
-use Rattle.ref_base.proofs.Common.{World, Notice, hand_of, State, first_state}
-use Rattle.ref_base.proofs.Common.{refusal, HeapAccepts, IsAnswer, IsRow, IsRun, registers}
-use Rattle.ref_base.proofs.Common.{is_registered, IsProven, Config, Actor, Mutator, Worker, Cause, Own}
-use Rattle.ref_base.proofs.Common.{Cycle, Urgency, Fault, Step, Reply, Row}
+use Rattle.ref_base.proofs.Common.{Object, object_at, registered_in, reference_in, reference_at, World, Notice, hand_of}
+use Rattle.ref_base.proofs.Common.{State, first_state, refusal, HeapAccepts, IsAnswer, IsRow, IsRun, registers}
+use Rattle.ref_base.proofs.Common.{is_registered, IsProven, Config, Actor, Mutator, Worker, Cause, Own, Cycle, Urgency}
+use Rattle.ref_base.proofs.Common.{Fault, Step, Reply, Row}
 use Rattle.ref_base.specs.Provenance.{has_row, unhooks, clears, cycle_after, cleared_from, IsCause, AreProven}
 use Rattle.ref_base.specs.declared.heap_step.HeapStep.TheVariants as heap
 use Rattle.ref_base.specs.declared.plain_step.PlainStep.TheVariants as plain
@@ -20,8 +18,7 @@ use Rattle.ref_base.proofs.RunFronts.{legal_holds}
 
 -- ---- what rows have, more rows have
 
-has_more : (is : Step → Reply → Bool) (rows more : List Row) → has_row is rows ≡ true
-    → has_row is (rows ++ more) ≡ true
+has_more : (is : Step → Reply → Bool) (rows more : List Row) → has_row is rows ≡ true → has_row is (rows ++ more) ≡ true
 has_more is [] more has = absurd cc
 has_more is (row ∷ rows) more has = grind (arith, has_more is rows more)
 
@@ -175,8 +172,7 @@ row_known past a row b known h =
 
 -- ---- from the first state
 
-hand_known : (rows : List Row) (w : World) (who : Actor) → Known rows w
-    → AllByRecursion (IsProven rows) (hand_of w who)
+hand_known : (rows : List Row) (w : World) (who : Actor) → Known rows w → AllByRecursion (IsProven rows) (hand_of w who)
 hand_known rows w (Mutator m) known = known.of_mutators m
 hand_known rows w (Worker k) known = known.of_workers k
 

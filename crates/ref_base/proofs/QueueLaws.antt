@@ -121,12 +121,10 @@ goes_after a mid b step reply is goes = grind arith
 
 -- what a change of queue q does to each queue
 queue_set : (queues : List (Lists Notice)) (q : ℕ) (new : Lists Notice) (ins outs : ℕ → List ℕ) (closes : ℕ → Bool)
-    → q < length queues
-    → QueueChanges object_of (slice_index_or queues q (new_queue q)) new (ins q) (outs q) (closes q)
+    → q < length queues → QueueChanges object_of (slice_index_or queues q (new_queue q)) new (ins q) (outs q) (closes q)
     → ((k : ℕ) → (q == k) ≡ false
     → QueueChanges object_of (slice_index_or queues k (new_queue k)) (slice_index_or queues k (new_queue k))
-    (ins k) (outs k) (closes k))
-    → (k : ℕ) → QueueChanges object_of (slice_index_or queues k (new_queue k))
+    (ins k) (outs k) (closes k)) → (k : ℕ) → QueueChanges object_of (slice_index_or queues k (new_queue k))
     (slice_index_or (slice_set queues q new) k (new_queue k)) (ins k) (outs k) (closes k)
 queue_set queues q new ins outs closes within here others =
     set_at (λ k l. QueueChanges object_of (slice_index_or queues k (new_queue k)) l (ins k) (outs k) (closes k))

@@ -1,12 +1,11 @@
 -- What a row of the replay leaves as it was: all but objects, slots, holds and what is pending, but at the ends of
 -- phases; the numbers of objects, but where one is made; and all but hands and queues, where no heap is asked.
-use Rattle.std.proofs.Common.{arith}
-use Rattle.std.proofs.Common.{◌≡◌, ℕ, Bool, true, false, if◌then◌else◌, List, [], ◌∷◌, ◌++◌, Option, Some, None, refl}
-use Rattle.std.proofs.Common.{sym, ap, ◌∙◌, is_some}
+use Rattle.std.proofs.Common.{arith, ◌≡◌, ℕ, Bool, true, false, if◌then◌else◌, List, [], ◌∷◌, ◌++◌, Option, Some, None}
+use Rattle.std.proofs.Common.{refl, sym, ap, ◌∙◌, is_some}
 use Rattle.std.proofs.lemmas.List.{map-append, append-nil}
 use Rattle.ref_base.proofs.Common.{Object, numbers, plain_object, if_any, slot_at, reference_at, registered_in}
-use Rattle.ref_base.proofs.Common.{changed_in, with_reference, cleared, got_at, got, cut, nulls, World}
-use Rattle.ref_base.proofs.Common.{Notice, with_heap, hand_of, with_hand, told_object, is_done, told_notice, told_taken}
+use Rattle.ref_base.proofs.Common.{changed_in, with_reference, cleared, got_at, got, cut, nulls, World, Notice}
+use Rattle.ref_base.proofs.Common.{with_heap, hand_of, with_hand, told_object, is_done, told_notice, told_taken}
 use Rattle.ref_base.proofs.Common.{is_added, NamedStep, handed, taking, if_told, after_heap, after_queues, pended}
 use Rattle.ref_base.proofs.Common.{put_in, Actor, Mutator, Worker, Step, Reply}
 use Rattle.ref_base.specs.Told.{told_cleared}
@@ -27,8 +26,7 @@ module _ {R : Type 0} (get : World → R) where
   done_keeps false change w keeps = refl
 
   unhooked_keeps : (v w : World) (nothing : Bool) (told : Option Notice) (change : Notice → World) → get v ≡ get w
-      → ((notice : Notice) → get (change notice) ≡ get w)
-      → get (if nothing then v else if_told told change w) ≡ get w
+      → ((notice : Notice) → get (change notice) ≡ get w) → get (if nothing then v else if_told told change w) ≡ get w
   unhooked_keeps v w true told change same keeps = same
   unhooked_keeps v w false told change same keeps = told_keeps told change w keeps
 
@@ -79,6 +77,10 @@ same_frame w step reply no_end calm =
       calm,
       refl,
     )
+
+pub frame_pending : (w : World) (step : NamedStep) (reply : Reply) → EndsNoPhase step → PendsNone step
+    → (after_heap w step reply).pending ≡ w.pending
+frame_pending w step reply no_end calm = ap (λ (v : World). v.pending) (same_frame w step reply no_end calm)
 
 -- a world but for its objects, slots, holds and what is pending
 abbrev pub stage_of : World → World

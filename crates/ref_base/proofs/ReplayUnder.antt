@@ -1,14 +1,11 @@
 -- Each row of the replay goes through where some objects are gone and some references read as cleared.
-use Rattle.std.proofs.Common.{arith}
-use Rattle.std.proofs.Common.{◌≡◌, ℕ, Bool, true, false, if◌then◌else◌, List, [], ◌∷◌, Option, Some, None, refl, ap}
-use Rattle.std.proofs.Common.{is_some}
-use Rattle.ref_base.proofs.Common.{stored, has, Object, slot_at, got, cut}
-use Rattle.ref_base.proofs.Common.{made, with_hold, changed_in, with_reference, cleared}
-use Rattle.ref_base.proofs.Common.{with_field, World, Notice, with_heap, with_hand, told_object, is_done}
+use Rattle.std.proofs.Common.{arith, ◌≡◌, ℕ, Bool, true, false, if◌then◌else◌, List, [], ◌∷◌, Option, Some, None, refl}
+use Rattle.std.proofs.Common.{ap, is_some}
+use Rattle.ref_base.proofs.Common.{stored, has, Object, slot_at, got, cut, made, with_hold, changed_in, with_reference}
+use Rattle.ref_base.proofs.Common.{cleared, with_field, World, Notice, with_heap, with_hand, told_object, is_done}
 use Rattle.ref_base.proofs.Common.{told_notice, is_mark_end, told_taken, NamedStep, heap_step, handed, taking}
-use Rattle.ref_base.proofs.Common.{with_rest}
-use Rattle.ref_base.proofs.Common.{if_told, after_heap, after_queues, put_in, under, heap_under, Actor, Mutator, Worker}
-use Rattle.ref_base.proofs.Common.{Step, Reply}
+use Rattle.ref_base.proofs.Common.{with_rest, if_told, after_heap, after_queues, put_in, under, heap_under, Actor}
+use Rattle.ref_base.proofs.Common.{Mutator, Worker, Step, Reply}
 use Rattle.ref_base.specs.declared.heap_step.HeapStep.TheVariants as heap
 use Rattle.ref_base.specs.declared.plain_step.PlainStep.TheVariants as plain
 use Rattle.ref_base.specs.declared.step.Step.TheVariants as steps
@@ -64,8 +61,7 @@ module _ (gone : List ℕ) (these : ℕ → Bool) where
   stores_under w m s i v =
       ap (with_heap w) (changes w (slot_at w.heap m s) (with_field i (slot_at w.heap m v)) (λ o. refl) (λ o. refl))
 
-  cuts_under : (w : World) (m s : ℕ)
-      → with_heap (under gone these w) (cut (heap_under gone these w.heap) m s)
+  cuts_under : (w : World) (m s : ℕ) → with_heap (under gone these w) (cut (heap_under gone these w.heap) m s)
       ≡ under gone these (with_heap w (cut w.heap m s))
   cuts_under w m s = ap (with_heap w) (cuts w m s)
 

@@ -1,6 +1,5 @@
 -- What a row of the world does to the pending lists, to what was scanned and to the configuration; and that, where it
 -- says in a mark that an object is left, one is.
-use Rattle.std.proofs.Common.{arith}
 use Rattle.std.proofs.Common.{◌≡◌, ℕ, List, Option, Some, None, inl, inr, refl, sym, ap, ◌∙◌, subst}
 use Rattle.std.specs.Prelude.{slice_set}
 use Rattle.ref_base.proofs.Common.{reference_at, registered_in, World, Pending, pending_of, NamedStep, heap_step}
@@ -9,10 +8,10 @@ use Rattle.ref_base.proofs.Common.{HeapAccepts, IsRow, AreCounted, Fault, Reply,
 use Rattle.ref_base.specs.declared.heap_step.HeapStep.TheVariants as heap
 use Rattle.ref_base.specs.declared.plain_step.PlainStep.TheVariants as plain
 use Rattle.ref_base.specs.declared.reply.Reply.TheVariants as replies
-use Rattle.ref_base.proofs.Outcomes.{scanned_by}
-use Rattle.ref_base.proofs.OutcomeParts.{mark_in}
-use Rattle.ref_base.proofs.LeftObjects.{LeftMeans, left_kept, left_becomes}
-use Rattle.ref_base.proofs.ReplayKeeps.{but_hands, queues_keep, handed_keeps}
+use Rattle.ref_base.proofs.Outcomes.{scanned_by, outcome, heap_outcome, IsNoEnd}
+use Rattle.ref_base.proofs.OutcomeParts.{mark_in, heap_config}
+use Rattle.ref_base.proofs.LeftObjects.{LeftMeans, left_kept, left_becomes, heap_left}
+use Rattle.ref_base.proofs.ReplayKeeps.{but_hands, queues_keep, handed_keeps, done_keeps, frame_pending}
 use Rattle.ref_base.proofs.RowKinds.{IsOfQueues, queues_lead, IsOfHeap, row_kind}
 
 -- ---- what a row tells, by what it asks of its heap
@@ -39,10 +38,38 @@ pub record Changes (a : State) (asked : Option NamedStep) (reply : Reply) (b : S
 
 -- ---- rows of a heap
 
+pending_told : (a : State) (step : NamedStep) (reply : Reply) → IsNoEnd step
+    → (outcome a step reply).world.pending ≡ pending_after a.world (Some step) reply
+pending_told a (heap.Plain (plain.ClearNext k)) (replies.Cleared n) no_end = refl
+pending_told a (heap.Hand k) (replies.Notice n q cause) no_end = refl
+pending_told a (heap.Plain (plain.Begin now how)) (replies.Cycle n) no_end = refl
+pending_told a (heap.Plain (plain.Sweep k)) (replies.Swept n) no_end = refl
+pending_told a step reply no_end = search (frame_pending a.world, done_keeps (λ (w : World). w.pending), refl)
+
+scanned_told : (a b : State) (step : NamedStep) (reply : Reply) → IsNoEnd step → HeapAccepts a step reply b
+    → (outcome a step reply).scanned ≡ scanned_after a.scanned (Some step) reply
+scanned_told a b (heap.Plain (plain.Begin now how)) reply no_end row =
+    sym (ap (λ (r : Reply). scanned_after a.scanned (Some (heap.Plain (plain.Begin now how))) r) row.0)
+scanned_told a b (heap.Plain (plain.ClearNext k)) (replies.Cleared n) no_end row = refl
+scanned_told a b (heap.Plain (plain.Sweep k)) (replies.Swept n) no_end row = refl
+scanned_told a b step reply no_end row = refl
+
 pub heap_tells : (a b : State) (step : NamedStep) (reply : Reply) → HeapAccepts a step reply b
     → Changes a (Some step) reply b
-heap_tells a b (heap.Plain plain.EndMark) reply row = grind arith
-heap_tells a b step reply row = grind arith
+heap_tells a b (heap.Plain plain.EndMark) reply row = record {
+  pending = ap (λ (s : State). s.world.pending) row.after;
+  scanned = ap (λ (s : State). s.scanned) row.after;
+  config = ap (λ (s : State). s.world.heap.config) row.after;
+  left = heap_left a b (heap.Plain plain.EndMark) reply row;
+}
+heap_tells a b step reply row =
+    let leads = heap_outcome a b step reply tt row in
+    record {
+      pending = ap (λ (s : State). s.world.pending) leads ∙ pending_told a step reply tt;
+      scanned = ap (λ (s : State). s.scanned) leads ∙ scanned_told a b step reply tt row;
+      config = heap_config a b step reply row;
+      left = heap_left a b step reply row;
+    }
 
 -- ---- rows of the world
 

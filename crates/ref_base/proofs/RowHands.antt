@@ -1,11 +1,9 @@
 -- What a row does to hands and queues, and what the notices that an unhook and a hand give tell of the state before.
-use Rattle.std.proofs.Common.{arith}
-use Rattle.std.proofs.Common.{◌≡◌, ℕ, true, List, [], ◌∷◌, Option, Some, None, refl, sym, subst}
+use Rattle.std.proofs.Common.{arith, ◌≡◌, ℕ, true, List, [], ◌∷◌, Option, Some, None, refl, sym, subst}
 use Rattle.std.proofs.lemmas.Bool.{eq-eqb}
-use Rattle.ref_base.proofs.Common.{World, Notice, Pending, SameOthers, pending_of, told_notice, NamedStep}
-use Rattle.ref_base.proofs.Common.{heap_step, handed, after_queues, State, QueuesAccept}
-use Rattle.ref_base.proofs.Common.{AcceptsAsking, Accepts, IsAnswer, Unhooks, HandsOn, is_by, Own, Cycle}
-use Rattle.ref_base.proofs.Common.{Fault, Step, Reply}
+use Rattle.ref_base.proofs.Common.{World, Notice, Pending, SameOthers, pending_of, told_notice, NamedStep, heap_step}
+use Rattle.ref_base.proofs.Common.{handed, after_queues, State, QueuesAccept, AcceptsAsking, Accepts, IsAnswer, Unhooks}
+use Rattle.ref_base.proofs.Common.{HandsOn, is_by, Own, Cycle, Fault, Step, Reply}
 use Rattle.ref_base.specs.declared.step.Step.TheVariants as steps
 use Rattle.ref_base.specs.declared.reply.Reply.TheVariants as replies
 use Rattle.ref_base.proofs.CarryLaws.{OfTold}

@@ -1,12 +1,10 @@
 -- A row is refused, or one of queues, or one of its heap with what the step leaves in the hands.
-use Rattle.std.proofs.Common.{arith}
-use Rattle.std.proofs.Common.{◌≡◌, ℕ, if◌then◌else◌, Bool, true, false, List, [], ◌∷◌, Option, Some, None}
-use Rattle.std.proofs.Common.{refl, inl, inr, ◌⊎◌}
-use Rattle.ref_base.proofs.Common.{Notice, hand_of, queue_at, NamedStep, heap_step}
-use Rattle.ref_base.proofs.Common.{spending, after_queues, closed_queue, State, refusal, heap_refusal}
-use Rattle.ref_base.proofs.Common.{has_slot, is_counted, with_world, with_handed}
-use Rattle.ref_base.proofs.Common.{HeapAccepts, QueuesAccept, AcceptsAsking, IsAnswer, IsRow, Puts, PutsInto}
-use Rattle.ref_base.proofs.Common.{Polls, Closes, Gives, AreCounted, Actor, Mutator, Fault, HoldName, Step}
+use Rattle.std.proofs.Common.{arith, ◌≡◌, ℕ, if◌then◌else◌, Bool, true, false, List, [], ◌∷◌, Option, Some, None, refl}
+use Rattle.std.proofs.Common.{inl, inr, ◌⊎◌}
+use Rattle.ref_base.proofs.Common.{Notice, hand_of, queue_at, NamedStep, heap_step, spending, after_queues}
+use Rattle.ref_base.proofs.Common.{closed_queue, State, refusal, heap_refusal, has_slot, is_counted, with_world}
+use Rattle.ref_base.proofs.Common.{with_handed, HeapAccepts, QueuesAccept, AcceptsAsking, IsAnswer, IsRow, Puts}
+use Rattle.ref_base.proofs.Common.{PutsInto, Polls, Closes, Gives, AreCounted, Actor, Mutator, Fault, HoldName, Step}
 use Rattle.ref_base.proofs.Common.{Reply, Row}
 use Rattle.ref_base.specs.declared.heap_step.HeapStep.TheVariants as heap
 use Rattle.ref_base.specs.declared.step.Step.TheVariants as steps

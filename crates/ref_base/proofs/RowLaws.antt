@@ -1,15 +1,14 @@
 -- Each row of the abstract collector does to queues and hands what it says.
-use Rattle.std.proofs.Common.{arith}
-use Rattle.std.proofs.Common.{◌≡◌, ℕ, ◌<◌, Bool, true, false, if◌then◌else◌, List, [], ◌∷◌, length, Option, Some, None}
-use Rattle.std.proofs.Common.{inl, inr, refl, sym, ap, ◌∙◌, subst}
+use Rattle.std.proofs.Common.{arith, ◌≡◌, ℕ, ◌<◌, Bool, true, false, if◌then◌else◌, List, [], ◌∷◌, length, Option, Some}
+use Rattle.std.proofs.Common.{None, inl, inr, refl, sym, ap, ◌∙◌, subst}
 use Rattle.std.specs.List.{AllByRecursion}
 use Rattle.std.proofs.lemmas.Bool.{ltb-true, and_parts}
-use Rattle.ref_base.proofs.Common.{has, slot_at, was_put, HandNotices, with_held, held_after, World, Notice}
-use Rattle.ref_base.proofs.Common.{Pending, SameOthers, object_of, hand_of, queue_at, with_hand, NamedStep, hold_of}
-use Rattle.ref_base.proofs.Common.{spending, handed, State, refusal, heap_refusal, is_mutator, is_worker, is_queue}
-use Rattle.ref_base.proofs.Common.{is_actor, has_slot, with_handed, Gives, HeapAccepts}
-use Rattle.ref_base.proofs.Common.{Accepts, AcceptsAsking, IsAnswer, IsRow, Unhooks, PutsInto, Puts, Polls, Closes}
-use Rattle.ref_base.proofs.Common.{HandsOn, Fault, NoMemory, Own, Cycle, Actor, Mutator, Worker, Step, Reply, Row}
+use Rattle.ref_base.proofs.Common.{has, slot_at, was_put, HandNotices, with_held, held_after, World, Notice, Pending}
+use Rattle.ref_base.proofs.Common.{SameOthers, object_of, hand_of, queue_at, with_hand, NamedStep, hold_of, spending}
+use Rattle.ref_base.proofs.Common.{handed, State, refusal, heap_refusal, is_mutator, is_worker, is_queue, is_actor}
+use Rattle.ref_base.proofs.Common.{has_slot, with_handed, Gives, HeapAccepts, Accepts, AcceptsAsking, IsAnswer, IsRow}
+use Rattle.ref_base.proofs.Common.{Unhooks, PutsInto, Puts, Polls, Closes, HandsOn, Fault, NoMemory, Own, Cycle, Actor}
+use Rattle.ref_base.proofs.Common.{Mutator, Worker, Step, Reply, Row, heap_step, rest_of, with_rest, with_held_rest}
 use Rattle.ref_base.specs.declared.heap_step.HeapStep.TheVariants as heap
 use Rattle.ref_base.specs.declared.plain_step.PlainStep.TheVariants as plain
 use Rattle.ref_base.specs.declared.step.Step.TheVariants as steps
@@ -17,14 +16,12 @@ use Rattle.ref_base.specs.declared.reply.Reply.TheVariants as replies
 use Rattle.ref_base.proofs.CarryHeaps.{Anew, heap_carries}
 use Rattle.ref_base.proofs.CarryLaws.{AnyCycle}
 use Rattle.ref_base.proofs.OutcomeParts.{heap_others, heap_config}
-use Rattle.ref_base.proofs.Common.{heap_step, rest_of, with_rest, with_held_rest}
 use Rattle.ref_base.proofs.Places.{all_rest}
 use Rattle.ref_base.proofs.RowForms.{asked_of, unless_passes}
-use Rattle.ref_base.proofs.SoundWorlds.{QueueBelow, ObjectBelow, PendingBelow, IsBelow, HasHand, IsSound}
-use Rattle.ref_base.proofs.SoundWorlds.{below_lasts, names_below, sound_again, registered_below, held_below}
+use Rattle.ref_base.proofs.SoundWorlds.{QueueBelow, ObjectBelow, PendingBelow, IsBelow, HasHand, IsSound, below_lasts}
+use Rattle.ref_base.proofs.SoundWorlds.{names_below, sound_again, registered_below, held_below}
 use Rattle.ref_base.proofs.QueueLaws.{as_held, held_of, rest_held, queue_change_by, no_queue_change, Goes, IsStill}
-use Rattle.ref_base.proofs.QueueLaws.{same, stays, sets_hand, goes_after}
-use Rattle.ref_base.proofs.QueueLaws.{put_goes, close_goes, poll_goes}
+use Rattle.ref_base.proofs.QueueLaws.{same, stays, sets_hand, goes_after, put_goes, close_goes, poll_goes}
 
 -- ---- the rows of a heap
 
@@ -80,8 +77,7 @@ given a c b step answer reply gives goes = grind arith
 
 put_into_goes : (a b : State) (who : Actor) (notice : Notice) (rest : List Notice) (again shut : Bool) (reply : Reply)
     → IsSound a.world → HasHand a.world who → hand_of a.world who ≡ notice ∷ rest
-    → was_put object_of (queue_at a.world notice.queue) notice ≡ again
-    → (queue_at a.world notice.queue).closed ≡ shut
+    → was_put object_of (queue_at a.world notice.queue) notice ≡ again → (queue_at a.world notice.queue).closed ≡ shut
     → PutsInto again shut a who notice rest reply b → Goes a.world b.world (steps.Put who) reply
 put_into_goes a b who notice rest true shut reply sound has hand again_is shut_is gives = search (given, stays)
 put_into_goes a b who notice rest false true reply sound has hand again_is shut_is gives = search (given, stays)
@@ -134,8 +130,7 @@ quiet a b asked step reply sound is row stands same_hands =
 
 -- nothing is given into a hand
 gives_nothing : (a c b : State) (step : Step) (reply : Reply) → IsSound a.world → Keeps a.world c.world
-    → reply ≡ replies.Nothing
-    → b ≡ with_handed c step reply → IsStill step replies.Nothing
+    → reply ≡ replies.Nothing → b ≡ with_handed c step reply → IsStill step replies.Nothing
     → handed c.world step replies.Nothing ≡ c.world → Goes a.world b.world step reply
 gives_nothing a c b step reply sound keeps is left stands same_hands =
     handled a c b step replies.Nothing reply is left
@@ -152,8 +147,7 @@ same_queues a b sound keeps = sym (keeps.sound sound).queues ∙ ap length keeps
 -- a notice is given into a hand
 gives_notice : (a c b : State) (who : Actor) (notice : Notice) (step : Step) (answer reply : Reply) → IsSound a.world
     → Keeps a.world c.world → HasHand a.world who → notice.queue < a.world.heap.config.queues → reply ≡ answer
-    → b ≡ with_handed c step reply
-    → handed c.world step answer ≡ with_hand c.world who (notice ∷ [])
+    → b ≡ with_handed c step reply → handed c.world step answer ≡ with_hand c.world who (notice ∷ [])
     → ((hands : HandNotices) → held_after hands step answer ≡ with_held hands who (as_held (notice ∷ [])))
     → ((hands : HandNotices) (q : ℕ) → queue_change_by hands q step answer ≡ no_queue_change)
     → Goes a.world b.world step reply
@@ -196,8 +190,7 @@ unhook_goes a c b m s (Some n) (Some q) reply sound keeps has below gives left =
 
 hand_goes : (a c b : State) (k : ℕ) (ps : List Pending) (reply : Reply) → IsSound a.world → Keeps a.world c.world
     → k < length a.world.worker_hands → AllByRecursion (PendingBelow a.world.heap.config.queues) ps
-    → HandsOn a k ps reply c → b ≡ with_handed c (steps.Hand k) reply
-    → Goes a.world b.world (steps.Hand k) reply
+    → HandsOn a k ps reply c → b ≡ with_handed c (steps.Hand k) reply → Goes a.world b.world (steps.Hand k) reply
 hand_goes a c b k [] reply sound keeps has below gives left =
     gives_nothing a c b (steps.Hand k) reply sound keeps gives.0 left (λ _ _. refl) refl
 hand_goes a c b k (p ∷ ps) reply sound keeps has below gives left =
@@ -215,8 +208,7 @@ adopt_goes a b m d (notice ∷ rest) reply sound has row =
     spends a row.0 b (Mutator m) (steps.Adopt m d) (replies.Object notice.object) reply sound keeps has row.1.0 row.2
     refl (λ _. refl) (λ _ _. refl)
 
-release_goes : (a b : State) (who : Actor) (hand : List Notice) (reply : Reply) → IsSound a.world
-    → HasHand a.world who
+release_goes : (a b : State) (who : Actor) (hand : List Notice) (reply : Reply) → IsSound a.world → HasHand a.world who
     → AcceptsAsking a (spending a.world (λ hold. heap.Release hold) hand) (steps.Release who) reply b
     → Goes a.world b.world (steps.Release who) reply
 release_goes a b who [] reply sound has row = absurd row
@@ -228,8 +220,7 @@ release_goes a b who (notice ∷ rest) reply sound has row =
 -- ---- who and what is there
 
 -- a step that isn't refused names a queue of the configuration
-pub registered : (a : State) (step : NamedStep) → heap_refusal a step ≡ None
-    → IsRegistered a step
+pub registered : (a : State) (step : NamedStep) → heap_refusal a step ≡ None → IsRegistered a step
 registered a (heap.Plain (plain.Refer m strength d s q k)) none = grind arith
 registered a step none = tt
 

@@ -1,18 +1,15 @@
 -- In every legal trace no object is scanned twice in a cycle, and a mark goes on only while an object is left to scan.
-use Rattle.std.proofs.Common.{arith}
-use Rattle.std.proofs.Common.{◌≡◌, ℕ, ◌<◌, Bool, true, false, not, List, [], ◌∷◌, ◌++◌, length, Option}
-use Rattle.std.proofs.Common.{Some, None, refl, sym, ◌∙◌, subst}
+use Rattle.std.proofs.Common.{arith, ◌≡◌, ℕ, ◌<◌, Bool, true, false, not, List, [], ◌∷◌, ◌++◌, length, Option, Some}
+use Rattle.std.proofs.Common.{None, refl, sym, ◌∙◌, subst}
 use Rattle.std.specs.Prelude.{nat_eq}
 use Rattle.std.specs.List.{IsDistinct}
 use Rattle.std.proofs.lemmas.Bool.{false≢true}
 use Rattle.std.proofs.lemmas.List.{length-set, length-replicate}
 use Rattle.std.proofs.lemmas.Map.Keys.{IsDistinct-push}
 use Rattle.ref_base.proofs.Common.{has, Notice, hand_of, NamedStep, heap_step, spending, State, first_state, joined}
-use Rattle.ref_base.proofs.Common.{first_state_of}
-use Rattle.ref_base.proofs.Common.{unless, heap_refusal, is_in, IsLeft, emptied}
-use Rattle.ref_base.proofs.Common.{IsHeapAnswer, IsHeapRow, IsRow, IsRun, IsLegal}
-use Rattle.ref_base.proofs.Common.{scanned_in_cycle, Config, Mutator, WrongPhase, GreyLeft, Marking, Step, Reply}
-use Rattle.ref_base.proofs.Common.{Row, World, HoldName, hold_of, HeapAccepts}
+use Rattle.ref_base.proofs.Common.{first_state_of, unless, heap_refusal, is_in, IsLeft, emptied, IsHeapAnswer}
+use Rattle.ref_base.proofs.Common.{IsHeapRow, IsRow, IsRun, IsLegal, scanned_in_cycle, Config, Mutator, WrongPhase}
+use Rattle.ref_base.proofs.Common.{GreyLeft, Marking, Step, Reply, Row, World, HoldName, hold_of, HeapAccepts}
 use Rattle.ref_base.specs.ScannedRows.{scanned_with, scanned_from}
 use Rattle.ref_base.specs.declared.heap_step.HeapStep.TheVariants as heap
 use Rattle.ref_base.specs.declared.plain_step.PlainStep.TheVariants as plain
@@ -38,8 +35,7 @@ legal_left config rows b run =
 grey : (a b : State) (marks left : Bool)
     → IsHeapAnswer a (unless marks WrongPhase (unless (not left) GreyLeft None)) (heap.Plain plain.EndMark)
     (replies.Refused GreyLeft)
-    b
-    → (marks ≡ true) × (left ≡ true)
+    b → (marks ≡ true) × (left ≡ true)
 grey a b true true row = (refl, refl)
 grey a b true false row = let no = row.answer in absurd cc
 grey a b false left row = let no = row.0 in absurd cc

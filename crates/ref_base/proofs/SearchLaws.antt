@@ -1,15 +1,14 @@
 -- A search whose list of what it has seen is its own list of work finds exactly the ends of paths.
-use Rattle.std.proofs.Common.{◌≡◌, ℕ, ◌+◌, ◌-◌, ◌<◌, ◌≤◌, true, false, refl, sym, ap, subst}
-use Rattle.std.proofs.Common.{◌∙◌, arith, List, [], ◌∷◌, ◌++◌, length, get_or, take, append-nil, append_assoc}
-use Rattle.std.proofs.Common.{length-append, Option, Some, None, ◌⊎◌, inl, inr, zero, suc}
+use Rattle.std.proofs.Common.{◌≡◌, ℕ, ◌+◌, ◌-◌, ◌<◌, ◌≤◌, true, false, refl, sym, ap, subst, ◌∙◌, arith, List, [], ◌∷◌}
+use Rattle.std.proofs.Common.{◌++◌, length, get_or, take, append-nil, append_assoc, length-append, Option, Some, None}
+use Rattle.std.proofs.Common.{◌⊎◌, inl, inr, zero, suc}
 use Rattle.std.proofs.lemmas.Bool.{false≢true}
 use Rattle.std.proofs.lemmas.List.{take_all, take-append-le, length-take}
 use Rattle.ref_base.proofs.Common.{has, Graph, Object, Reference, object_at, is_there, Allowed, targets_at, targets_of}
 use Rattle.ref_base.proofs.Common.{present, allowed_referent, added_all, fields_of, searched_referents, ArePathEnds}
 use Rattle.ref_base.proofs.Common.{IsSearched}
 use Rattle.ref_base.specs.Searches.{with_reached, unseen}
-use Rattle.ref_base.proofs.HasLaws.{has-left, has-right, has-cases, has-get_or, has-take_at}
-use Rattle.ref_base.proofs.HasLaws.{has-take, has-take_more}
+use Rattle.ref_base.proofs.HasLaws.{has-left, has-right, has-cases, has-get_or, has-take_at, has-take, has-take_more}
 use Rattle.ref_base.proofs.PathLaws.{ends-wider, fields-targets, target_ends, path_within}
 
 -- one more number leaves no more unseen
@@ -29,8 +28,7 @@ length-front ms ns front = let same = ap length front in omega (arith, same, len
 
 module _ (os : List Object) where
   -- a candidate changes nothing, or goes last
-  pub added-cases : (ns : List ℕ) (n : ℕ)
-      → ((with_reached os ns n ≡ ns) × (is_there os n ≡ true → has ns n ≡ true))
+  pub added-cases : (ns : List ℕ) (n : ℕ) → ((with_reached os ns n ≡ ns) × (is_there os n ≡ true → has ns n ≡ true))
       ⊎ ((with_reached os ns n ≡ ns ++ n ∷ []) × (is_there os n ≡ true) × (has ns n ≡ false))
   added-cases ns n = grind arith
 
@@ -153,8 +151,7 @@ module _ (allow : Allowed) (g : Graph) where
         }
 
     -- where its fields were seen before, an object adds its referent alone
-    pub referent_alone : next < closed
-        → let m : ℕ = get_or seen next 0 in
+    pub referent_alone : next < closed → let m : ℕ = get_or seen next 0 in
         added_all g.objects seen (searched_referents allow (object_at g.objects m))
         ≡ added_all g.objects seen (targets_at allow g.objects m)
     referent_alone first = grind (arith, has-take_at, added_all-referent)

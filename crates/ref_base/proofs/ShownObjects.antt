@@ -1,13 +1,11 @@
 -- How objects read where references to the doomed read as cleared: with their shape, and changes of objects go through.
-use Rattle.std.proofs.Common.{arith}
-use Rattle.std.proofs.Common.{◌≡◌, ℕ, true, false, if◌then◌else◌, refl, ◌∙◌, ap, inl, inr, List}
-use Rattle.std.proofs.Common.{[], ◌∷◌, ◌++◌, map, Option, Some, None}
+use Rattle.std.proofs.Common.{arith, ◌≡◌, ℕ, true, false, if◌then◌else◌, refl, ◌∙◌, ap, inl, inr, List, [], ◌∷◌, ◌++◌}
+use Rattle.std.proofs.Common.{map, Option, Some, None}
 use Rattle.std.specs.Prelude.{slice_index_or}
 use Rattle.std.proofs.lemmas.Bool.{cases_Bool}
-use Rattle.ref_base.proofs.Common.{has, Object, Reference, object_at, is_soft, any_is, refers_into}
-use Rattle.ref_base.proofs.Common.{is_new_clear, Heap, reference_in, changed_at, with_field, changed_reference}
-use Rattle.ref_base.proofs.Common.{with_reference, cleared, got_at, shown, field_of, field_in, referent_of}
-use Rattle.ref_base.proofs.Common.{referent_got}
+use Rattle.ref_base.proofs.Common.{has, Object, Reference, object_at, is_soft, any_is, refers_into, is_new_clear, Heap}
+use Rattle.ref_base.proofs.Common.{reference_in, changed_at, with_field, changed_reference, with_reference, cleared}
+use Rattle.ref_base.proofs.Common.{got_at, shown, field_of, field_in, referent_of, referent_got}
 use Rattle.ref_base.proofs.Reshaping.{KeepsShape, reshaped, at-reshaped}
 
 -- an object is shown with its number
@@ -44,8 +42,7 @@ pub shown-field : (d : List ℕ) (i : ℕ) (value : Option ℕ) (o : Object)
 shown-field d i value o =
     elim (cases_Bool (is_new_clear d o)) [ inl clear ↦ simp clear refl | inr keeps ↦ simp keeps refl ]
 
-pub cleared_got : (clock : ℕ) (r : Option Reference)
-    → changed_reference cleared (changed_reference (got_at clock) r)
+pub cleared_got : (clock : ℕ) (r : Option Reference) → changed_reference cleared (changed_reference (got_at clock) r)
     ≡ changed_reference (got_at clock) (changed_reference cleared r)
 cleared_got clock None = refl
 cleared_got clock (Some r) =
@@ -57,8 +54,7 @@ pub shown-got : (d : List ℕ) (clock : ℕ) (o : Object)
 shown-got d clock o = grind arith
 
 -- a cut goes through
-pub shown-cleared : (d : List ℕ) (o : Object)
-    → shown d (with_reference cleared o) ≡ with_reference cleared (shown d o)
+pub shown-cleared : (d : List ℕ) (o : Object) → shown d (with_reference cleared o) ≡ with_reference cleared (shown d o)
 shown-cleared d o = grind arith
 
 -- an object outside the doomed reads as cleared where its referent is doomed, and a cut then changes nothing

@@ -1,6 +1,5 @@
 -- What was found among the references that a worker scanned is found among more of them.
-use Rattle.std.proofs.Common.{arith}
-use Rattle.std.proofs.Common.{◌≡◌, ℕ, true, refl, List, [], ◌∷◌, is_some}
+use Rattle.std.proofs.Common.{arith, ◌≡◌, ℕ, true, refl, List, [], ◌∷◌, is_some}
 use Rattle.std.proofs.lemmas.Bool.{false≢true}
 use Rattle.ref_base.proofs.Common.{Object, object_at, reference_in, references_among, is_subsequence, AreFound}
 

@@ -2,7 +2,8 @@
 use Rattle.std.proofs.Common.{◌≡◌, ℕ, ◌+◌, ◌<◌, true, false, ◌==◌, nat_eq, nat_lt, refl, sym, ap, ◌∙◌, arith}
 use Rattle.std.proofs.Common.{List, [], ◌∷◌, ◌++◌, Option, Some, None, is_some, inl, inr, Bor, suc}
 use native.Mathlib.Numerals.{unary_clauses}
-use Rattle.std.proofs.lemmas.Bool.{cases_Bool, true≢false, false≢true, eqb-true, ltb-true, ne_eqb}
+use Rattle.std.proofs.lemmas.Bool.{cases_Bool, true≢false, false≢true, eq-eqb, eqb-true, ltb-true, ltb-false}
+use Rattle.std.proofs.lemmas.Bool.{ne_eqb, or_cases}
 use Rattle.std.proofs.lemmas.List.Sorted.{IsNonDecreasingBy-from_sort, list_any-IsPermutation}
 use Rattle.std.proofs.lemmas.Map.Keys.{IsDistinct-IsPermutation, IsStrictlyIncreasing-from_distinct}
 use Rattle.std.specs.Cmp.{nat_eq_equiv}
@@ -42,7 +43,27 @@ rising-same [] [] ups downs same = refl
 rising-same [] (n ∷ ns) ups downs same = absurd (false≢true (same n ∙ has-first n ns))
 rising-same (m ∷ ms) [] ups downs same = absurd (true≢false (sym (has-first m ms) ∙ same m))
 rising-same (m ∷ ms) (n ∷ ns) ups downs same =
-    grind (arith, has-first, eqb-true, rising-lacks, rising-same ms ns, eqb-true n m, eqb-true m n)
+    let among : (has (n ∷ ns) m) ≡ true = sym (same m) ∙ has-first m ms in
+    let back : (has (m ∷ ms) n) ≡ true = same n ∙ has-first n ns in
+    let first : m ≡ n = elim (or_cases (n == m) (has ns m) among) [
+      | inl is ↦ sym (eqb-true n m is)
+      | inr above ↦ elim (or_cases (m == n) (has ms n) back) [
+        | inl is ↦ eqb-true m n is
+        | inr below ↦
+            let up = rising-above n ns downs m above in
+            let down = rising-above m ms ups n below in
+            absurd (omega arith)
+      ]
+    ] in
+    let rest : (k : ℕ) → has ms k ≡ has ns k = λ k. elim (cases_Bool (m == k)) [
+      | inl is ↦
+          let number : m ≡ k = eqb-true m k is in
+          rising-lacks m ms ups k (omega arith) ∙ sym (rising-lacks n ns downs k (omega arith))
+      | inr other ↦
+          let turned : (n == k) ≡ false = ap (λ j. j == k) (sym first) ∙ other in
+          simp (other, turned) at (same k)
+    ] in
+    rw (first, rising-same ms ns (rising-tail m ms ups) (rising-tail n ns downs) rest) refl
 
 pub rising_from_increasing : (ns : List ℕ) → IsStrictlyIncreasing ns → IsRising ns
 rising_from_increasing [] up = tt
@@ -113,11 +134,33 @@ with_object-only : (os : List Object) (o : Object) (n m : ℕ) → n < o.no
 with_object-only [] o n m before above h = grind arith
 with_object-only (p ∷ ps) o n m before above h = grind (arith, with_object-only ps o n m before)
 
+less_from_other : (m n : ℕ) → m < n + 1 → (m == n) ≡ false → m < n
+less_from_other m n most other =
+    elim (cases_Bool (nat_lt m n)) [
+      | inl below ↦ ltb-true m n below
+      | inr above ↦
+          let least = ltb-false m n above in
+          let same : m ≡ n = omega arith in
+          absurd (true≢false (sym (eq-eqb m n same) ∙ other))
+    ]
+
 -- numbers still rise
 pub rising-with_object : (os : List Object) (o : Object) → IsRising (numbers os) → IsRising (numbers (with_object os o))
 rising-with_object [] o rising = tt
 rising-with_object (p ∷ ps) o rising =
-    grind (arith, rising-cons, rising-above, rising-with_object ps o, with_object-only ps o p.no)
+    elim (cases_Bool (nat_lt o.no p.no)) [
+      | inl below ↦ simp below (ltb-true o.no p.no below, rising)
+      | inr above ↦ elim (cases_Bool (p.no == o.no)) [
+        | inl same ↦ simp (above, same) rising
+        | inr different ↦
+            let most = ltb-false o.no p.no above in
+            let least : p.no < o.no = less_from_other p.no o.no (omega arith) different in
+            simp (above, different)
+            (rising-cons p.no (numbers (with_object ps o))
+            (λ m. with_object-only ps o p.no m least (rising-above p.no (numbers ps) rising))
+            (rising-with_object ps o (rising-tail p.no (numbers ps) rising)))
+      ]
+    ]
 
 -- where its number is there, an object isn't added
 pub with_object-same : (os : List Object) (o : Object) → IsRising (numbers os) → is_there os o.no ≡ true
@@ -170,8 +213,7 @@ is_some-option_map f None = refl
 is_some-option_map f (Some x) = refl
 
 -- whether the map has a number is whether an object of it is there
-pub is_there-objects_in : (es : List (ℕ × Stored)) (n : ℕ)
-    → is_some (lookup (nat_eq n) es) ≡ is_there (objects_in es) n
+pub is_there-objects_in : (es : List (ℕ × Stored)) (n : ℕ) → is_some (lookup (nat_eq n) es) ≡ is_there (objects_in es) n
 is_there-objects_in es n =
     sym (ap is_some (object_at-objects_in es n) ∙ is_some-option_map (λ s. stored_object (n, s)) (lookup (nat_eq n) es))
 
@@ -191,8 +233,7 @@ placed-last os (d ∷ es) e = placed-last (with_object os (stored_object d)) es 
 
 -- what is stored last comes to its place
 pub stored-last : (es new : List (ℕ × Stored)) (n : ℕ) (s : Stored) (fields : List (Option ℕ)) → s.fields ≡ fields
-    → new ≡ es ++ (n, s) ∷ []
-    → objects_in new ≡ with_object (objects_in es)
+    → new ≡ es ++ (n, s) ∷ [] → objects_in new ≡ with_object (objects_in es)
     (record { no = n; fields = fields; reference = linked_reference s.link })
 stored-last es new n s fields held is = grind (arith, placed-last)
 

@@ -1,28 +1,22 @@
 -- Each number has exactly one strength, and it is read off what was found.
-use Rattle.std.proofs.Common.{◌≡◌, ℕ, ◌+◌, ◌<◌, ◌≤◌, true, false, refl, sym, ap, subst, ◌∙◌, nat_eq, arith, List}
-use Rattle.std.proofs.Common.{[], ◌∷◌, length, map, take, Option, Some, None, inl, inr}
+use Rattle.std.proofs.Common.{◌≡◌, ℕ, ◌+◌, ◌<◌, ◌≤◌, true, false, refl, sym, ap, subst, ◌∙◌, nat_eq, arith, List, []}
+use Rattle.std.proofs.Common.{◌∷◌, length, map, take, Some, inl, inr}
 use Rattle.std.proofs.lemmas.Bool.{cases_Bool, true≢false, false≢true}
 use Rattle.std.proofs.lemmas.List.{take-take}
 use Rattle.std.specs.List.{AllByRecursion, position}
-use Rattle.ref_base.proofs.Common.{has, Graph, Object, object_at, is_there, numbers, Allowed, EndsPath}
-use Rattle.ref_base.proofs.Common.{no_referents, soft_referents, soft_and_weak_referents, if_any}
-use Rattle.ref_base.proofs.Common.{HasStrength, HangsOnPhantom, IsRising, ArePathEnds, added_all, phantom_referents}
-use Rattle.ref_base.proofs.Common.{Reach, Strong, Soft, Phantom, Unreachable}
+use Rattle.ref_base.proofs.Common.{has, Graph, Object, object_at, is_there, numbers, Allowed, EndsPath, no_referents}
+use Rattle.ref_base.proofs.Common.{soft_referents, soft_and_weak_referents, HasStrength, HangsOnPhantom}
+use Rattle.ref_base.proofs.Common.{IsRising, ArePathEnds, added_all, phantom_referents, Reach, Strong, Soft, Phantom}
+use Rattle.ref_base.proofs.Common.{Unreachable}
 use Rattle.ref_base.specs.Strengths.{IsPhantomObjectTo, AreStrengths}
 use Rattle.ref_base.specs.Searches.{AreSearched, found_reach, found_reaches}
 use Rattle.ref_base.specs.declared.reach.Reach.TheVariants.{Weak}
 use Rattle.ref_base.specs.declared.reach.ObjectReach.{ObjectReach}
-use Rattle.ref_base.proofs.HasLaws.{has-first, has-front, has-right, has-single, has-take}
-use Rattle.ref_base.proofs.HasLaws.{lacks-front, lacks-take}
+use Rattle.ref_base.proofs.HasLaws.{has-first, has-front, has-right, has-take, lacks-front, lacks-take}
 use Rattle.ref_base.proofs.PathLaws.{ends-wider}
 use Rattle.ref_base.proofs.SearchLaws.{reached, added_all-only, added_all-has, length-front}
 
 -- ---- what hangs on phantom references
-
--- the number that may be there is the one in the list
-pub if_any-has : (o : Option ℕ) (n : ℕ) → has (if_any o) n ≡ true → o ≡ Some n
-if_any-has None n h = absurd (false≢true h)
-if_any-has (Some m) n h = ap (λ k. Some k) (has-single m n h)
 
 pub phantom_referents-sound : (os : List Object) (ms : List ℕ) (n : ℕ) → has (phantom_referents os ms) n ≡ true
     → (m : ℕ) × (has ms m ≡ true) × IsPhantomObjectTo n (object_at os m)
@@ -37,7 +31,9 @@ phantom_referents-complete os (k ∷ ks) n m h phantom = grind (arith, phantom_r
 module _ (g : Graph) (weak : List ℕ) (all : ArePathEnds soft_and_weak_referents g weak) where
   -- what the phantom references among all weakly reachable objects refer to hangs on one
   pub hangs-sound : (n : ℕ) → has (phantom_referents g.objects weak) n ≡ true → HangsOnPhantom g n
-  hangs-sound n h = grind (arith, phantom_referents-sound)
+  hangs-sound n h =
+      let found = phantom_referents-sound g.objects weak n h in
+      (found.0, all.sound found.0 found.1, found.2)
 
   pub hangs-complete : (n : ℕ) → HangsOnPhantom g n → has (phantom_referents g.objects weak) n ≡ true
   hangs-complete n h = phantom_referents-complete g.objects weak n h.0 (all.complete h.0 h.1) h.2
@@ -147,8 +143,7 @@ module _ (reached hung : List ℕ) (strong soft n place : ℕ) (at : Some place 
 
 -- and where it wasn't, what hangs on phantom references does
 module _ (reached hung : List ℕ) (strong soft n : ℕ) (none : has reached n ≡ false) where
-  pub found-phantom : has hung n ≡ true
-      → Phantom ≡ found_reach (take strong reached) (take soft reached) reached hung n
+  pub found-phantom : has hung n ≡ true → Phantom ≡ found_reach (take strong reached) (take soft reached) reached hung n
   found-phantom hangs = grind (arith, lacks-take)
 
   pub found-nowhere : has hung n ≡ false
@@ -171,7 +166,10 @@ some_strength g n =
 pub AreFound-reach : (g : Graph) (strong soft weak hung : List ℕ) → AreSearched g strong soft weak hung → (n : ℕ)
     → is_there g.objects n ≡ true → (reach : Reach) → reach ≡ found_reach strong soft weak hung n
     → HasStrength g n reach
-AreFound-reach g strong soft weak hung found n there reach is = grind (arith, found_is)
+AreFound-reach g strong soft weak hung found n there reach is =
+    subst (HasStrength g n) (sym is)
+    (found_is g strong soft weak hung found.strong_reached found.soft_reached found.weak_reached n
+    (found.hung_sound n) (found.hung_complete n there))
 
 -- and the pass over the last finds what hangs on phantom references, of what is there
 AreFound_from : (g : Graph) (strong soft weak hung : List ℕ) → ArePathEnds no_referents g strong
@@ -187,7 +185,10 @@ pub AreFound_fronts : (g : Graph) (strong soft weak hung : List ℕ) → ArePath
     → hung ≡ added_all g.objects [] (phantom_referents g.objects weak)
     → AreSearched g (take (length strong) weak) (take (length soft) weak) weak hung
 AreFound_fronts g strong soft weak hung strong_all soft_all weak_all front later is =
-    grind (arith, length-front, take-take, AreFound_from g strong soft weak hung strong_all soft_all weak_all is)
+    let first : take (length strong) weak ≡ strong =
+    sym (take-take (length strong) (length soft) weak (length-front strong soft front))
+    ∙ ap (take (length strong)) later ∙ front in
+    rw (first, later) (AreFound_from g strong soft weak hung strong_all soft_all weak_all is)
 
 -- ---- the strengths of all objects
 
@@ -210,4 +211,12 @@ module _ (g : Graph) (strong soft weak hung : List ℕ) where
     -- the strengths that are read off what was found, by number, are those of all objects
     pub AreStrengths_from : (listed : List ObjectReach) → IsRising (numbers g.objects)
         → listed ≡ found_reaches strong soft weak hung (numbers g.objects) → AreStrengths g listed
-    AreStrengths_from listed rising is = grind (arith, found_reaches-objects, found_reaches-each, there_from_numbers)
+    AreStrengths_from listed rising is =
+        let objects : map (λ l. l.object) listed ≡ numbers g.objects =
+        ap (map (λ l. l.object)) is ∙ found_reaches-objects (numbers g.objects) in
+        record {
+          all = objects;
+          by_number = subst IsRising (sym objects) rising;
+          each = subst (AllByRecursion (λ l. HasStrength g l.object l.reach)) (sym is)
+              (found_reaches-each (numbers g.objects) (there_from_numbers g.objects));
+        }

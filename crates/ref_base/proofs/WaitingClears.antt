@@ -1,12 +1,11 @@
 -- The references that the mark's end cleared and that no worker has looked at since: at the mark's end these are all
 -- new clears, and a look at one takes it away.
-use Rattle.std.proofs.Common.{◌≡◌, ℕ, zero, suc, Bool, true, false, ◌==◌, ◌||◌, List, [], ◌∷◌, ◌++◌, map, refl}
-use Rattle.std.proofs.Common.{sym, ap, subst, arith}
+use Rattle.std.proofs.Common.{◌≡◌, ℕ, zero, suc, Bool, true, false, ◌==◌, ◌||◌, List, [], ◌∷◌, ◌++◌, map, refl, sym, ap}
+use Rattle.std.proofs.Common.{subst, arith}
 use Rattle.std.specs.Prelude.{slice_set}
 use Rattle.std.proofs.lemmas.Bool.{false≢true}
-use Rattle.ref_base.proofs.Common.{has, Object, is_there, numbers, IsRising, is_new_clear, new_clears}
-use Rattle.ref_base.proofs.Common.{with_reference, cleared, changed_at, State, joined, shown, list_at}
-use Rattle.ref_base.proofs.Common.{ClearsNext, cleared_if, Reply}
+use Rattle.ref_base.proofs.Common.{has, Object, is_there, numbers, IsRising, is_new_clear, new_clears, with_reference}
+use Rattle.ref_base.proofs.Common.{cleared, changed_at, State, joined, shown, list_at, ClearsNext, cleared_if, Reply}
 use Rattle.ref_base.specs.declared.reply.Reply.TheVariants as replies
 use Rattle.ref_base.proofs.HasLaws.{has-append}
 use Rattle.ref_base.proofs.OneMore.{or-swap}
@@ -38,8 +37,7 @@ module _ (these those : ℕ → Bool) (n : ℕ) (agree : (m : ℕ) → (n == m) 
   same_objects (o ∷ os) none = grind (arith, same_objects os)
 
   -- a reference that read as cleared is cleared
-  pub looked-waiting : (os : List Object) → IsRising (numbers os) → these n ≡ true
-      → map (λ o. cleared_if these o) os
+  pub looked-waiting : (os : List Object) → IsRising (numbers os) → these n ≡ true → map (λ o. cleared_if these o) os
       ≡ map (λ o. cleared_if those o) (changed_at os n (with_reference cleared))
   looked-waiting [] rising waits = refl
   looked-waiting (o ∷ os) rising waits = grind (arith, is_there-rising, same_objects, looked-waiting os)

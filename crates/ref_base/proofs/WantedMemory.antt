@@ -1,6 +1,5 @@
 -- Want of memory is answered by puts alone.
-use Rattle.std.proofs.Common.{arith}
-use Rattle.std.proofs.Common.{◌≡◌, ℕ, Bool, true, false, List, [], ◌∷◌, Option, Some, None, refl, sym, ap, ◌∙◌}
+use Rattle.std.proofs.Common.{arith, ◌≡◌, ℕ, Bool, true, false, List, [], ◌∷◌, Option, Some, None, refl, sym, ap, ◌∙◌}
 use Rattle.std.specs.Prelude.{is_some, nat_lt, length, ◌^◌, ◌-◌}
 use Rattle.std.proofs.lemmas.Bool.{false≢true}
 use Rattle.ref_base.proofs.Common.{Reference, object_at, Heap, reference_at, NamedStep, heap_step, Notice, Pending}
@@ -8,9 +7,9 @@ use Rattle.ref_base.proofs.Common.{queue_at, State, unless, unless_empty, unless
 use Rattle.ref_base.proofs.Common.{field_refusal, reference_refusal, holds_refusal, minting_refusal, unhook_refusal}
 use Rattle.ref_base.proofs.Common.{hand_refusal, held_refusal, is_in, empty_hand_refusal, heap_refusal, asked_refusal}
 use Rattle.ref_base.proofs.Common.{refusal, Gives, GivesAnewIf, Loads, Gets, Unhooks, Holds, Polls, Closes, Scans}
-use Rattle.ref_base.proofs.Common.{ClearsNext, HandsOn, Sweeps, looked_at, value_reply, HeapAccepts}
-use Rattle.ref_base.proofs.Common.{AcceptsAsking, IsAnswer, IsRow, Fault, NoMemory, BadField, NumbersSpent}
-use Rattle.ref_base.proofs.Common.{NotAReference, Actor, Marking, Reply, Step}
+use Rattle.ref_base.proofs.Common.{ClearsNext, HandsOn, Sweeps, looked_at, value_reply, HeapAccepts, AcceptsAsking}
+use Rattle.ref_base.proofs.Common.{IsAnswer, IsRow, Fault, NoMemory, BadField, NumbersSpent, NotAReference, Actor}
+use Rattle.ref_base.proofs.Common.{Marking, Reply, Step}
 use Rattle.ref_base.specs.declared.heap_step.HeapStep.TheVariants as heap
 use Rattle.ref_base.specs.declared.reply.Reply.TheVariants as replies
 use Rattle.ref_base.specs.declared.plain_step.PlainStep.TheVariants as plain
@@ -65,8 +64,7 @@ empty_wants : (held : Option ℕ) (later : Option Fault) → wants later ≡ fal
 empty_wants None later none = refl
 empty_wants (Some n) later none = none
 
-full_wants : (hand : List Notice) (later : Option Fault) → wants later ≡ false
-    → wants (unless_full hand later) ≡ false
+full_wants : (hand : List Notice) (later : Option Fault) → wants later ≡ false → wants (unless_full hand later) ≡ false
 full_wants [] later none = none
 full_wants (notice ∷ rest) later none = refl
 

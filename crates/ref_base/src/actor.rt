@@ -6,7 +6,7 @@ use crate::{MutNo, WorkerNo};
 use std::fmt;
 
 /// A program thread or a thread of the collector: each has one hand. It prints as `m0` or `w0`.
-#[derive(Clone, Copy, Debug, PartialEq, Eq)]
+#[derive(Clone, Copy, PartialEq, Eq)]
 pub enum Actor {
     /// A program thread.
     Mutator(MutNo),
@@ -22,8 +22,15 @@ impl fmt::Display for Actor {
 
     fn fmt<W: fmt::Write>(&self, f: &mut fmt::Formatter<W>) -> fmt::Result {
         match *self {
-            Actor::Mutator(mutator) => write!(f, "{mutator}"),
-            Actor::Worker(worker) => write!(f, "{worker}"),
+            Actor::Mutator(mutator) => fmt::Display::fmt(&mutator, f),
+            Actor::Worker(worker) => fmt::Display::fmt(&worker, f),
         }
+    }
+}
+
+// As in a trace: what a failed test prints reads as the trace does.
+impl fmt::Debug for Actor {
+    fn fmt<W: fmt::Write>(&self, f: &mut fmt::Formatter<W>) -> fmt::Result {
+        fmt::Display::fmt(self, f)
     }
 }

@@ -1,5 +1,8 @@
 //! How large a heap and its world are.
 
+ghost use Rattle.std.specs.Prelude.{◌≡◌};
+ghost use Rattle.ref_base.specs.Limits.{is_between};
+
 use crate::Fault;
 
 /// How many mutators, workers, queues and cells there are, and how long a soft reference is kept.
@@ -18,21 +21,26 @@ pub struct Config {
 }
 
 impl Config {
-    ghost use Rattle.std.specs.Prelude.{◌≡◌, if◌then◌else◌};
+    ghost use Rattle.std.specs.Prelude.{if◌then◌else◌};
     ghost use Rattle.ref_base.specs.Limits.{is_within_limits};
 
     /// Whether each number is within its limits. The one error is `BadConfig`. Takes no memory.
     pub fn check(&self) -> Result<(), Fault>
         ensures { result ≡ (if is_within_limits self.now then Ok tt else Err Fault.BadConfig) }
     {
-        let mutators_fit = (1..=8).contains(&self.mutators);
-        let workers_fit = (1..=8).contains(&self.workers);
-        let queues_fit = (1..=16).contains(&self.queues);
-        let cells_fit = (1..=4_096).contains(&self.cells);
-        if mutators_fit && workers_fit && queues_fit && cells_fit {
+        let actors_fit = is_up_to(self.mutators, 8) && is_up_to(self.workers, 8);
+        let rest_fits = is_up_to(self.queues, 16) && is_up_to(self.cells, 4_096);
+        if actors_fit && rest_fits {
             Ok(())
         } else {
             Err(Fault::BadConfig)
         }
     }
+}
+
+// Whether there is one at least, and at most so many.
+fn is_up_to(count: u32, most: u32) -> bool
+    ensures { result ≡ is_between 1 most count }
+{
+    count >= 1 && count <= most
 }

@@ -4,7 +4,7 @@ use std::fmt;
 use thiserror::Error;
 
 /// A refusal. After it the state is as before, and what was handed in comes back. It prints as its name.
-#[derive(Clone, Copy, Debug, PartialEq, Eq, Error)]
+#[derive(Clone, Copy, PartialEq, Eq, Error)]
 pub enum Fault {
     /// A number is outside its limits.
     BadConfig = 1,
@@ -112,5 +112,12 @@ impl fmt::Display for Fault {
 
     fn fmt<W: fmt::Write>(&self, f: &mut fmt::Formatter<W>) -> fmt::Result {
         f.write_str(self.name())
+    }
+}
+
+// It is spelled as its variant.
+impl fmt::Debug for Fault {
+    fn fmt<W: fmt::Write>(&self, f: &mut fmt::Formatter<W>) -> fmt::Result {
+        fmt::Display::fmt(self, f)
     }
 }

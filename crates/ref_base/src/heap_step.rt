@@ -12,7 +12,7 @@ pub struct HoldName {
 /// One step of a heap (this project's profile). A step of the world (`Step`) asks one of these of its heap, or is one
 /// of queues. Where that one names a hand, this one names the hold: as a value, or as plain data (`HoldName`). Any
 /// number can be named: a step with one outside the configuration is refused as it runs.
-#[derive(Clone, Copy)]
+#[derive(Drop)]
 pub enum HeapStep<H> {
     /// A step that hands nothing over.
     Plain(PlainStep),

@@ -20,19 +20,31 @@ pub enum Reach {
     Unreachable,
 }
 
+impl Reach {
+    ghost use Rattle.std.specs.Prelude.{◌≡◌};
+    ghost use Rattle.ref_base.specs.ReachNames.{name_of_reach};
+
+    // The word that it prints as.
+    fn name(self) -> &'static str
+        ensures { result.now ≡ name_of_reach self }
+    {
+        match self {
+            Reach::Strong => "strong",
+            Reach::Soft => "soft",
+            Reach::Weak => "weak",
+            Reach::Phantom => "phantom",
+            Reach::Unreachable => "unreachable",
+        }
+    }
+}
+
 impl fmt::Display for Reach {
     ghost use Rattle.ref_base.specs.ReachNames.{name_of_reach};
 
     ghost output = { λ reach. Some (name_of_reach reach) };
 
     fn fmt<W: fmt::Write>(&self, f: &mut fmt::Formatter<W>) -> fmt::Result {
-        match *self {
-            Reach::Strong => write!(f, "strong"),
-            Reach::Soft => write!(f, "soft"),
-            Reach::Weak => write!(f, "weak"),
-            Reach::Phantom => write!(f, "phantom"),
-            Reach::Unreachable => write!(f, "unreachable"),
-        }
+        f.write_str(self.name())
     }
 }
 

@@ -1,6 +1,6 @@
 //! How strongly the objects of a graph are reachable.
 
-ghost use Rattle.std.specs.Prelude.{◌≡◌, IfOk, OnErr, [], take};
+ghost use Rattle.std.specs.Prelude.{◌≡◌, IfOk, OnOk, OnErr, [], take};
 ghost use Rattle.ref_base.specs.Graphs.{numbers, object_at};
 ghost use Rattle.ref_base.specs.GraphAnswers.{AnswersStrength};
 ghost use Rattle.ref_base.specs.Paths.{if_any};
@@ -25,19 +25,18 @@ fn phantom_referent<A: Allocator + Copy>(graph: &Graph<A>, no: ObjNo) -> Option<
 
 // The referents of those of these objects that are phantom references. What lies behind such a referent is not among
 // them: it is phantom reachable only where a phantom reference refers to it too.
-fn hung_on<A: Allocator + Copy, B: Allocator + Copy>(
-    alloc: B,
+fn add_hung<A: Allocator + Copy, B: Allocator + Copy>(
+    hung: &mut Numbers<B>,
     graph: &Graph<A>,
-    reached: &Numbers<B>,
-) -> Result<Numbers<B>, AllocError>
-    ensures { IfOk result (λ hung. hung.keys
-        ≡ added_all graph.now.objects [] (phantom_referents graph.now.objects reached.now.keys)) }
+    reached: &[ObjNo],
+) -> Result<(), AllocError>
+    ensures { OnOk result (hung.new.keys
+        ≡ added_all graph.now.objects hung.old.keys (phantom_referents graph.now.objects reached.now)) }
 {
-    let mut hung = IndexSet::new(alloc);
-    for no in reached.as_slice() {
-        add_if_any(&mut hung, graph, phantom_referent(graph, *no))?;
+    for no in reached {
+        add_if_any(hung, graph, phantom_referent(graph, *no))?;
     }
-    Ok(hung)
+    Ok(())
 }
 
 // What a search found: first what paths lead to that go through no references, then what else they lead to through soft
@@ -51,31 +50,34 @@ struct Found<B: Allocator> {
     hung: Numbers<B>,
 }
 
-// What a search finds that goes on twice.
-fn find<A: Allocator + Copy, B: Allocator + Copy>(
-    alloc: B,
-    graph: &Graph<A>,
-) -> Result<Found<B>, AllocError>
-    ensures { IfOk result (λ f. AreSearched graph.now (take f.strong f.reached.keys) (take f.soft f.reached.keys)
-        f.reached.keys f.hung.keys) }
-{
-    let mut reached = IndexSet::new(alloc);
-    add_roots(&mut reached, graph, graph.roots())?;
-    go_on(&mut reached, graph, Allow::NoReferents, 0)?;
-    let strong = reached.len();
-    go_on(&mut reached, graph, Allow::Soft, strong)?;
-    let soft = reached.len();
-    go_on(&mut reached, graph, Allow::SoftAndWeak, soft)?;
-    let hung = hung_on(alloc, graph, &reached)?;
-    Ok(Found {
-        reached,
-        strong,
-        soft,
-        hung,
-    })
-}
-
 impl<B: Allocator + Copy> Found<B> {
+    // Nothing yet. Takes no memory.
+    fn new(alloc: B) -> Self
+        ensures { (result.reached.keys ≡ []) × (result.hung.keys ≡ []) }
+    {
+        Found {
+            reached: IndexSet::new(alloc),
+            strong: 0,
+            soft: 0,
+            hung: IndexSet::new(alloc),
+        }
+    }
+
+    // Searches, and goes on twice, from nothing.
+    fn search<A: Allocator + Copy>(&mut self, graph: &Graph<A>) -> Result<(), AllocError>
+        requires { (self.old.reached.keys ≡ []) × (self.old.hung.keys ≡ []) }
+        ensures { OnOk result (AreSearched graph.now (take self.new.strong self.new.reached.keys)
+            (take self.new.soft self.new.reached.keys) self.new.reached.keys self.new.hung.keys) }
+    {
+        add_roots(&mut self.reached, graph, graph.roots())?;
+        go_on(&mut self.reached, graph, Allow::NoReferents, 0)?;
+        self.strong = self.reached.len();
+        go_on(&mut self.reached, graph, Allow::Soft, self.strong)?;
+        self.soft = self.reached.len();
+        go_on(&mut self.reached, graph, Allow::SoftAndWeak, self.soft)?;
+        add_hung(&mut self.hung, graph, self.reached.as_slice())
+    }
+
     // Where in the search the number was found tells its strength.
     fn reach_of(&self, no: ObjNo) -> Reach
         ensures { result ≡ found_reach (take self.now.strong self.now.reached.keys)
@@ -128,8 +130,9 @@ pub fn strength_of<A: Allocator + Copy, B: Allocator + Copy>(
     if !graph.has_object(no) {
         return Err(Fault::NoSuchObject);
     }
-    match find(alloc, graph) {
-        Ok(found) => Ok(found.reach_of(no)),
+    let mut found = Found::new(alloc);
+    match found.search(graph) {
+        Ok(()) => Ok(found.reach_of(no)),
         Err(_) => Err(Fault::NoMemory),
     }
 }
@@ -156,6 +159,7 @@ fn list<A: Allocator + Copy, B: Allocator + Copy>(
 ) -> Result<Vec<ObjectReach, B>, AllocError>
     ensures { IfOk result (λ listed. AreStrengths graph.now listed.items) }
 {
-    let found = find(alloc, graph)?;
+    let mut found = Found::new(alloc);
+    found.search(graph)?;
     found.reach_of_all(alloc, graph)
 }

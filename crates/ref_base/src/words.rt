@@ -1,6 +1,6 @@
 //! The words that steps and replies print as.
 
-ghost use Rattle.std.specs.Prelude.{◌≡◌, [], ◌∷◌, Some};
+ghost use Rattle.std.specs.Prelude.{◌≡◌, ◌==◌, [], ◌∷◌, Some, length};
 ghost use Rattle.std.specs.Fmt.{DisplaysOnOk};
 ghost use Rattle.ref_base.specs.Texts.{Letters, word_text, text_of, mutator, worker, slot};
 ghost use Rattle.ref_base.specs.Words.{word_of, spelt};
@@ -62,16 +62,25 @@ pub(crate) fn at_slot(by: MutNo, name: &'static str, at: SlotNo) -> [Word; 6]
     [Mutator(by), Name(name), Slot(at), End, End, End]
 }
 
+// Whether there are no more.
+fn is_over(words: &[Word]) -> bool
+    ensures { result ≡ (length (spelt words.now) == 0) }
+{
+    matches!(words, [] | [Word::End, ..])
+}
+
 /// Prints the words up to the first `End`, with one space between each two.
 pub(crate) fn say<W: fmt::Write>(f: &mut fmt::Formatter<W>, words: &[Word]) -> fmt::Result
     ensures { DisplaysOnOk W.write_str_gives f.old result (Some (text_of (spelt words.now))) f.new }
 {
     match words {
-        [] | [Word::End, ..] => Ok(()),
-        [last] | [last, Word::End, ..] => fmt::Display::fmt(last, f),
-        [first, rest @ ..] => {
+        [first, rest @ ..] if !is_over(words) => {
+            if is_over(rest) {
+                return fmt::Display::fmt(first, f);
+            }
             write!(f, "{first} ")?;
             say(f, rest)
         }
+        _ => Ok(()),
     }
 }

@@ -46,10 +46,7 @@ impl User<'_> {
         } = self;
         match cleaner.register(rt, seat, heap, heap_seat, MUTATOR, OBJECT, REFERENCE, job) {
             Ok(cleanable) => Ok(cleanable),
-            Err((fault, _job)) => {
-                fault.give_up()?;
-                Err(Fault::TurnsSpent)
-            }
+            Err((fault, _job)) => Err(fault.into_fault()),
         }
     }
 

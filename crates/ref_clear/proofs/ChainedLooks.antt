@@ -1,7 +1,18 @@
 -- What a look at a found reference leaves of a heap, its chains among it: one that is pending then goes last in one.
-use Rattle.std.proofs.Common.{◌≡◌, ℕ, ◌<◌, ◌≤◌, true, false, refl, sym, ap, subst, ◌∙◌, arith, List}
-use Rattle.std.proofs.Common.{[], ◌∷◌, ◌++◌, length, map, get_or, set, Some, None, inl, inr, ◌==◌}
-use Rattle.std.proofs.lemmas.Bool.{or_cases, eqb-true, ne_eqb, true≢false, false_from_ne_true}
+use Rattle.std.proofs.Common.{◌≡◌, ℕ, ◌<◌, true, false, refl, sym, ap, subst, ◌∙◌, arith, List}
+use Rattle.std.proofs.Common.{[], ◌∷◌, ◌++◌, length, get_or, set, Option, Some, None, inl, inr, ◌==◌, Bool}
+use Rattle.std.proofs.lemmas.Bool.{or_cases, eqb-true, ne_eqb, true≢false, false≢true, false_from_ne_true}
+use Rattle.std.specs.Option.{unwrap_or, is_some}
+use Rattle.ref_base.specs.DoomedSets.{refers_into}
+use Rattle.ref_base.specs.CollectorRows.{referent_of}
+use Rattle.ref_objects.specs.Grounds.{Ground, IsWellFormed, look_of}
+use Rattle.ref_objects.specs.declared.linked.Look.{Look}
+use Rattle.ref_mark.specs.CycleHeaps.{is_doomed, is_past_mark}
+use Rattle.ref_mark.specs.MarkViews.{found_look, ground_of}
+use Rattle.ref_mark.proofs.ChainLemmas.{first_look, none_told}
+use Rattle.ref_mark.proofs.MarkerLemmas.{past_refers}
+use Rattle.ref_clear.proofs.Common.{Reference}
+use Rattle.ref_clear.proofs.PendingRoom.{cleared_refers_to_none}
 use Rattle.std.proofs.lemmas.List.{get_or_default, length-map}
 use Rattle.ref_clear.proofs.Common.{has, AreDistinct, Object, is_there, numbers, joined, list_at, work_refusal}
 use Rattle.ref_clear.proofs.Common.{reference_at, registered_in, first_in, Clearing, CycleHeap}
@@ -21,7 +32,9 @@ use Rattle.ref_mark.proofs.LinkLemmas.{link_at-cleared, is_tagged-cleared}
 use Rattle.ref_mark.proofs.MarkerLemmas.{length-lists_of, length-joined}
 use Rattle.ref_mark.proofs.Mutations.{referring_is_there}
 use Rattle.ref_clear.proofs.LookAnswers as lists
-use Rattle.ref_clear.proofs.LookAnswers.{first_is}
+use Rattle.ref_clear.proofs.LookAnswers.{first_is, none_is}
+use Rattle.ref_mark.specs.CycleHeaps.{found_looked_at}
+use Rattle.ref_base.specs.Members.{rest_of}
 use Rattle.ref_base.specs.declared.reply.Reply.TheVariants as replies
 use Rattle.ref_clear.proofs.Common.{answer_in}
 use Rattle.ref_clear.proofs.KeptPending.{waits_there}
@@ -29,10 +42,26 @@ use Rattle.ref_clear.proofs.PendingLists.{pending_numbers-seen}
 use Rattle.ref_clear.proofs.PendingChains.{KeepsLinks, chains_stay, seen_still, sound_still, grown-has}
 use Rattle.ref_clear.proofs.ChainedNotices.{less-has}
 
+-- a number, or none
+some_is : (q : Option ℕ) → is_some q ≡ true → q ≡ Some (unwrap_or q 0)
+some_is None some = absurd (false≢true some)
+some_is (Some q) some = refl
+
+not_some : (q : Option ℕ) → is_some q ≡ false → q ≡ None
+not_some None none = refl
+not_some (Some q) none = absurd (true≢false none)
+
 module _ {k : CycleHeap} {chains : List Chain} {swept_to : ℕ} (w : ℕ)
     (accepted : work_refusal k.heap k.phase Clearing w ≡ None) (sound : IsSoundHeap k chains swept_to) where
   abbrev taken : CycleHeap
   taken = with_found_taken k w
+
+  -- what the look leaves
+  abbrev left : CycleHeap
+  left = found_looked_at k w (list_at k.found w)
+
+  left_by : {j : CycleHeap} (ns : List ℕ) → list_at k.found w ≡ ns → j ≡ left → j ≡ found_looked_at k w ns
+  left_by ns is after = after ∙ ap (found_looked_at k w) is
 
   taken_apart : AreApart taken (lists_in k chains)
   taken_apart n within = sound.apart n (less-has k.found w (list_at k.found w) refl n within)
@@ -47,18 +76,48 @@ module _ {k : CycleHeap} {chains : List Chain} {swept_to : ℕ} (w : ℕ)
       (lists.look_within w accepted sound.lists)
 
   -- it found nothing more
-  pub sound_none : {j : CycleHeap} → first_in (list_at k.found w) ≡ None → j ≡ taken → IsSoundHeap j chains swept_to
-  sound_none {j} first after =
-      subst (λ (i : CycleHeap). IsSoundHeap i chains swept_to) (sym after)
+  pub sound_none : {j : CycleHeap} → None ≡ found_look k w → j ≡ left → IsSoundHeap j chains swept_to
+  sound_none {j} told after =
+      let first = none_told (look_of (ground_of k)) (first_in (list_at k.found w)) told in
+      subst (λ (i : CycleHeap). IsSoundHeap i chains swept_to)
+      (sym (left_by [] (none_is (list_at k.found w) first) after))
       (sound_still refl taken_keeps sound swept_to (lists.sound_none w accepted sound.lists first refl))
 
-  -- this is the first that it found
-  module _ (n : ℕ) (first : first_in (list_at k.found w) ≡ Some n) where
+  -- this is the look at the first that it found
+  module _ {l : Look} (told : Some l ≡ found_look k w) where
+    abbrev n : ℕ
+    n = l.was.no
+
+    first : first_in (list_at k.found w) ≡ Some n
+    first = (first_look (ground_of k) (first_in (list_at k.found w)) l told).0
+
+    is_look : l ≡ look_of (ground_of k) n
+    is_look = (first_look (ground_of k) (first_in (list_at k.found w)) l told).1
+
+    clears_by : {b : Bool} → l.is_cleared ≡ b → is_to_clear k n ≡ b
+    clears_by is = grind arith
+
+    read : l.was.reference ≡ reference_at k.heap n
+    read = ap (λ (i : Look). i.was.reference) is_look
+
+    left_first : {j : CycleHeap} → j ≡ left → j ≡ found_looked_at k w (n ∷ rest_of (list_at k.found w))
+    left_first = left_by (n ∷ rest_of (list_at k.found w)) (first_is (list_at k.found w) n first)
+
     -- it is kept, or skipped
-    pub sound_passed : {j : CycleHeap} → is_to_clear k n ≡ false → j ≡ taken → IsSoundHeap j chains swept_to
-    sound_passed {j} stays after =
-        subst (λ (i : CycleHeap). IsSoundHeap i chains swept_to) (sym after)
+    sound_stays : {j : CycleHeap} → is_to_clear k n ≡ false → j ≡ left → IsSoundHeap j chains swept_to
+    sound_stays {j} stays after =
+        subst (λ (i : CycleHeap). IsSoundHeap i chains swept_to) (sym (left_first after ∙ simp stays refl))
         (sound_still refl taken_keeps sound swept_to (lists.sound_passed w accepted sound.lists n first stays refl))
+
+    pub sound_kept : {j : CycleHeap} → l.is_cleared ≡ false → j ≡ left → IsSoundHeap j chains swept_to
+    sound_kept spares = sound_stays (clears_by spares)
+
+    pub sound_plain : {j : CycleHeap} → l.was.reference ≡ None → j ≡ left → IsSoundHeap j chains swept_to
+    sound_plain none = sound_stays (ap (refers_into (is_doomed k)) (sym read ∙ none))
+
+    pub sound_skipped : {j : CycleHeap} {r : Reference} → l.was.reference ≡ Some r → is_some r.referent ≡ false
+        → j ≡ left → IsSoundHeap j chains swept_to
+    sound_skipped {j} {r} is none = grind (arith, sound_stays)
 
     -- it is cleared
     abbrev cut : CycleHeap
@@ -67,54 +126,70 @@ module _ {k : CycleHeap} {chains : List Chain} {swept_to : ℕ} (w : ℕ)
     cut_keeps : KeepsLinks k cut (joined (lists_in k chains))
     cut_keeps = search (link_at-cleared, is_tagged-cleared, taken_apart)
 
-    left_cut : {j t : CycleHeap} → t ≡ taken → j ≡ cut_at t n → j ≡ cut
-    left_cut took after = after ∙ ap (λ (i : CycleHeap). cut_at i n) took
-
     -- it isn't found any more
     new_found : has (joined cut.found) n ≡ false
     new_found = grind (arith, AreDistinct-taken)
 
-    pub last_apart : {j t : CycleHeap} {c : Chain} → c ≡ get_or chains w c → t ≡ taken → j ≡ cut_at t n
-        → (c.first == 0) ≡ false → has (joined j.found) c.last ≡ false
-    last_apart {j} {t} {c} read took after full =
-        ap (λ (i : CycleHeap). has (joined i.found) c.last) (left_cut took after)
-        ∙ false_from_ne_true (has (joined cut.found) c.last)
-        (λ found.
-        true≢false
-        (sym
-        (listed_within k.tags k.heap.config.cells chains w c.last c look_within read
-        (has-last k.tags k.heap.config.cells c
-        (chain_at k.tags k.heap.config.cells chains w c look_within read sound.linked) full))
-        ∙ taken_apart c.last found))
+    module _ (clears : l.is_cleared ≡ true) where
+      goes : is_to_clear k n ≡ true
+      goes = clears_by clears
 
-    module _ (goes : is_to_clear k n ≡ true) where
+      left_cut : {j : CycleHeap} → j ≡ left → j ≡ cut
+      left_cut after = left_first after ∙ simp goes refl
+
+      pub last_apart : {j : CycleHeap} {c : Chain} → c ≡ get_or chains w c → j ≡ left → (c.first == 0) ≡ false
+          → has (joined j.found) c.last ≡ false
+      last_apart {j} {c} its after full =
+          ap (λ (i : CycleHeap). has (joined i.found) c.last) (left_cut after)
+          ∙ false_from_ne_true (has (joined cut.found) c.last)
+          (λ found.
+          true≢false
+          (sym
+          (listed_within k.tags k.heap.config.cells chains w c.last c look_within its
+          (has-last k.tags k.heap.config.cells c
+          (chain_at k.tags k.heap.config.cells chains w c look_within its sound.linked) full))
+          ∙ taken_apart c.last found))
+
       pub answers_cleared : replies.Cleared n ≡ answer_in (seen_heap k chains) (heap.Plain (plain.ClearNext w))
       answers_cleared = grind arith
 
       -- without a queue nothing comes of it
-      pub seen_cut : {j t : CycleHeap} → registered_in (reference_at k.heap n) ≡ None → t ≡ taken → j ≡ cut_at t n
-          → seen_heap j chains ≡ after_in (seen_heap k chains) (heap.Plain (plain.ClearNext w))
-      seen_cut none took after =
-          ap (λ (i : CycleHeap). seen_heap i chains) (left_cut took after) ∙ seen_still refl cut_keeps sound
-          ∙ lists.seen_cut w accepted sound.lists n first goes none refl refl
+      no_queue : {r : Reference} → l.was.reference ≡ Some r → is_some r.queue ≡ false
+          → registered_in (reference_at k.heap n) ≡ None
+      no_queue {r} is none = ap registered_in (sym read ∙ is) ∙ not_some r.queue none
 
-      pub sound_cut : {j t : CycleHeap} → registered_in (reference_at k.heap n) ≡ None → t ≡ taken → j ≡ cut_at t n
+      pub seen_cut : {j : CycleHeap} {r : Reference} → l.was.reference ≡ Some r → is_some r.queue ≡ false → j ≡ left
+          → seen_heap j chains ≡ after_in (seen_heap k chains) (heap.Plain (plain.ClearNext w))
+      seen_cut is unregistered after =
+          let none = no_queue is unregistered in
+          ap (λ (i : CycleHeap). seen_heap i chains) (left_cut after) ∙ seen_still refl cut_keeps sound
+          ∙ lists.seen_cut w accepted sound.lists n first goes none
+
+      pub sound_cut : {j : CycleHeap} {r : Reference} → l.was.reference ≡ Some r → is_some r.queue ≡ false → j ≡ left
           → IsSoundHeap j chains swept_to
-      sound_cut none took after =
-          subst (λ (i : CycleHeap). IsSoundHeap i chains swept_to) (sym (left_cut took after))
-          (sound_still refl cut_keeps sound swept_to
-          (lists.sound_cut w accepted sound.lists n first goes none refl refl))
+      sound_cut is unregistered after =
+          let none = no_queue is unregistered in
+          subst (λ (i : CycleHeap). IsSoundHeap i chains swept_to) (sym (left_cut after))
+          (sound_still refl cut_keeps sound swept_to (lists.sound_cut w accepted sound.lists n first goes none))
 
       -- with one it goes last in the worker's chain
-      module _ {c : Chain} (read : c ≡ get_or chains w c) (q : ℕ)
-          (registered : registered_in (reference_at k.heap n) ≡ Some q)
-          (tagged : map (λ i. i.no) k.tags ≡ numbers k.heap.objects) (none_0 : is_tagged k.tags 0 ≡ false)
-          (few : length k.heap.objects ≤ k.heap.config.cells) where
+      module _ {c : Chain} (its : c ≡ get_or chains w c) {r : Reference} (is : l.was.reference ≡ Some r)
+          (some : is_some r.queue ≡ true) {g : Ground} (same : g ≡ ground_of k) (well : IsWellFormed g)
+          (none_0 : is_tagged k.tags 0 ≡ false) where
+        formed : IsWellFormed (ground_of k)
+        formed = rw same at well
+
+        abbrev q : ℕ
+        q = unwrap_or r.queue 0
+
+        registered : registered_in (reference_at k.heap n) ≡ Some q
+        registered = ap registered_in (sym read ∙ is) ∙ some_is r.queue some
+
         abbrev own : List ℕ
         own = listed k.tags k.heap.config.cells c
 
         own_is : list_at (lists_in k chains) w ≡ own
-        own_is = list_at-lists_of k.tags k.heap.config.cells chains w c look_within read
+        own_is = list_at-lists_of k.tags k.heap.config.cells chains w c look_within its
 
         own_read : own ≡ get_or (lists_in k chains) w own
         own_read =
@@ -149,7 +224,7 @@ module _ {k : CycleHeap} {chains : List Chain} {swept_to : ℕ} (w : ℕ)
             let less = length-joined (lists_in k chains) w in
             let size : length (listed cut.tags k.heap.config.cells c) ≡ length (list_at (lists_in k chains) w) =
             ap length (same_own ∙ sym own_is) in
-            omega (arith, fit, count, less, size, few)
+            omega (arith, fit, count, less, size, formed.few)
           where
             all : (m : ℕ) → has (n ∷ joined (lists_in k chains)) m ≡ true → has (numbers k.heap.objects) m ≡ true
             all m within =
@@ -159,11 +234,11 @@ module _ {k : CycleHeap} {chains : List Chain} {swept_to : ℕ} (w : ℕ)
                 ]
 
         own_tagged : is_tagged k.tags n ≡ true
-        own_tagged = ap (λ ns. has ns n) tagged ∙ numbered n there
+        own_tagged = ap (λ ns. has ns n) formed.tagged ∙ numbered n there
 
         pushed : ArePushed cut.tags k.heap.config.cells chains w c n
         pushed =
-            pushes_one cut.tags k.heap.config.cells chains w c n look_within read cut_linked
+            pushes_one cut.tags k.heap.config.cells chains w c n look_within its cut_linked
             (subst (λ mss. AreDistinct (joined mss)) (sym stay) once)
             (record {
               some = ne_eqb n 0 (λ zero. true≢false (sym own_tagged ∙ ap (is_tagged k.tags) zero ∙ none_0));
@@ -171,14 +246,14 @@ module _ {k : CycleHeap} {chains : List Chain} {swept_to : ℕ} (w : ℕ)
               lacks = ap (λ mss. has (joined mss) n) stay ∙ lacks;
             }) room
 
-        module _ {i j t : CycleHeap} {d : Chain} (took : t ≡ taken) (after : j ≡ cut_at t n)
+        module _ {i j : CycleHeap} {d : Chain} (after : j ≡ left)
             (links : i ≡ record j { tags = linked_last j.tags c n }) (last : d ≡ chain_with c n) where
           abbrev linked : CycleHeap
           linked = record cut { tags = linked_last cut.tags c n }
 
           left_linked : i ≡ linked
           left_linked =
-              links ∙ ap (λ (h : CycleHeap). record h { tags = linked_last h.tags c n }) (left_cut took after)
+              links ∙ ap (λ (h : CycleHeap). record h { tags = linked_last h.tags c n }) (left_cut after)
 
           same_links : linked_last cut.tags c n ≡ linked_last_of cut.tags own n
           same_links = grind (arith, chain-linked, chain_at, look_within, cut_linked, same_own)
@@ -193,8 +268,8 @@ module _ {k : CycleHeap} {chains : List Chain} {swept_to : ℕ} (w : ℕ)
               ≡ after_in (seen_heap k chains) (heap.Plain (plain.ClearNext w))
           seen_pended =
               ap (seen_lists i) left_lists
-              ∙ lists.seen_pended w accepted sound.lists n first goes own_read q registered refl linked_as_told refl
-              tagged
+              ∙ lists.seen_pended w accepted sound.lists n first goes own_read q registered linked_as_told refl
+              formed.tagged
 
           pub sound_pended : IsSoundHeap i (set chains w d) swept_to
           sound_pended = record {
@@ -205,8 +280,8 @@ module _ {k : CycleHeap} {chains : List Chain} {swept_to : ℕ} (w : ℕ)
                 (λ stands. none_grown m (ap (λ (h : CycleHeap). has (joined h.found) m) (sym left_linked) ∙ found)
                 stands);
             lists = subst (λ mss. AreSoundLists i mss swept_to) (sym left_lists)
-                (lists.sound_pended w accepted sound.lists n first goes own_read q registered refl linked_as_told refl
-                tagged);
+                (lists.sound_pended w accepted sound.lists n first goes own_read q registered linked_as_told refl
+                formed.tagged);
           }
             where
               none_grown : (m : ℕ) → has (joined cut.found) m ≡ true

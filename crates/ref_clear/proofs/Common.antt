@@ -28,7 +28,7 @@ pub use Rattle.ref_base.specs.declared.urgency.Urgency.{Urgency}
 pub use Rattle.ref_objects.specs.Grounds.{Ground, least_from, mint_refusal, unmarked}
 pub use Rattle.ref_mark.specs.CycleHeaps.{CycleHeap, cycle_begun, cycle_in_phase, doomed, is_black, is_doomed}
 pub use Rattle.ref_mark.specs.CycleHeaps.{is_in_cycle, is_past_mark, is_white, shaded, shaded_all, with_cleared}
-pub use Rattle.ref_mark.specs.CycleHeaps.{with_found_taken}
+pub use Rattle.ref_mark.specs.CycleHeaps.{with_found_taken, is_to_clear, cut_at}
 pub use Rattle.ref_mark.specs.MarkCalls.{after_mint_in, is_of_marking, mint_answer_in, unless_refused}
 pub use Rattle.ref_mark.specs.MarkRows.{starting_state}
 pub use Rattle.ref_mark.specs.MarkViews.{ground_of}
@@ -39,8 +39,8 @@ pub use Rattle.ref_mark.specs.Chains.{AreChains, chain_first, chain_with, chain_
 pub use Rattle.ref_mark.specs.Chains.{linked_last_of, listed, no_chain, walk}
 pub use Rattle.ref_clear.specs.ClearCalls.{after_in, answer_in, answer_of_hand, answer_of_look, answer_of_sweep}
 pub use Rattle.ref_clear.specs.ClearCalls.{answer_of_unhook, queue_in, refusal_in}
-pub use Rattle.ref_clear.specs.ClearHeaps.{ClearHeap, begun_with, cut_at, handed_from, heap_pended, holding}
-pub use Rattle.ref_clear.specs.ClearHeaps.{is_to_clear, looked_from, pending_at, swept_some, unhooked, with_mark}
+pub use Rattle.ref_clear.specs.ClearHeaps.{ClearHeap, begun_with, handed_from, heap_pended, holding}
+pub use Rattle.ref_clear.specs.ClearHeaps.{looked_from, pending_at, swept_some, unhooked, with_mark}
 pub use Rattle.ref_clear.specs.ClearViews.{AreApart, AreRegistered, AreSoundLists, IsSoundHeap, MaySweep, lists_in}
 pub use Rattle.ref_clear.specs.ClearViews.{pending_from, pending_in, seen_lists}
 pub use Rattle.ref_clear.specs.ClearViews.{pending_lists_of, pendings_in, seen_heap}

@@ -1,20 +1,13 @@
 -- What workers found is there and isn't doomed, and once a sweep has begun nothing that stays refers to the doomed.
 use Rattle.std.proofs.Common.{arith}
-use Rattle.std.proofs.Common.{◌≡◌, ℕ, true, false, refl}
+use Rattle.std.proofs.Common.{◌≡◌, ℕ, true, false}
 use Rattle.ref_clear.proofs.Common.{has, is_there, refers_into, reference_at, is_in, State, joined, Clearing, Sweeping}
-use Rattle.ref_clear.proofs.Common.{CycleHeap, is_white, is_black, is_past_mark, is_doomed, ClearHeap, HeapStands}
-use Rattle.ref_base.proofs.NewClears.{refers_into-same}
+use Rattle.ref_clear.proofs.Common.{CycleHeap, is_white, is_black, is_doomed, ClearHeap, HeapStands}
 
 -- what is black is there, and isn't white
 pub black_parts : (k : CycleHeap) (n : ℕ) → is_black k n ≡ true
     → (is_there k.heap.objects n ≡ true) × (is_white k n ≡ false)
 black_parts k n black = grind arith
-
--- once a mark has ended, the doomed are the white
-pub past_refers : (k : CycleHeap) (n : ℕ) → is_past_mark k.phase ≡ true
-    → refers_into (is_doomed k) (reference_at k.heap n) ≡ refers_into (is_white k) (reference_at k.heap n)
-past_refers k n past =
-    refers_into-same (is_doomed k) (is_white k) (λ m. simp past refl) (reference_at k.heap n)
 
 -- ---- what was found
 

@@ -1,19 +1,17 @@
--- What the code of a look at a found reference asks and leaves, by what it has read of it.
-use Rattle.std.proofs.Common.{◌≡◌, ℕ, ◌<◌, ◌≤◌, Bool, true, false, refl, sym, ap, subst, ◌∙◌, arith, List, [], ◌∷◌}
+-- What a look at a found reference leaves of a heap with lists.
+use Rattle.std.proofs.Common.{◌≡◌, ℕ, ◌<◌, true, false, refl, sym, ap, subst, ◌∙◌, arith, List, [], ◌∷◌}
 use Rattle.std.proofs.Common.{◌++◌, length, map, get_or, set, Option, Some, None, inl, inr, ◌==◌}
 use Rattle.std.proofs.lemmas.List.{set-get_or, map-append}
-use Rattle.std.proofs.lemmas.Bool.{true≢false, false≢true}
-use Rattle.std.specs.Option.{unwrap_or, is_some, IsSome}
-use Rattle.ref_clear.proofs.Common.{Reference, is_there, reference_at, registered_in, Pending}
-use Rattle.ref_clear.proofs.Common.{list_at, work_refusal, Clearing, Ground, CycleHeap, is_doomed, with_found_taken}
-use Rattle.ref_clear.proofs.Common.{ground_of, first_in, rest_of, ClearHeap, with_mark, pending_at}
+use Rattle.std.specs.Option.{unwrap_or, IsSome}
+use Rattle.ref_clear.proofs.Common.{is_there, reference_at, registered_in, Pending}
+use Rattle.ref_clear.proofs.Common.{list_at, work_refusal, Clearing, CycleHeap, is_doomed, with_found_taken}
+use Rattle.ref_clear.proofs.Common.{first_in, rest_of, ClearHeap, with_mark, pending_at}
 use Rattle.ref_clear.proofs.Common.{is_to_clear, cut_at, heap_pended, looked_from, after_in, seen_lists}
 use Rattle.ref_clear.proofs.Common.{AreSoundLists, AreRegistered, has, joined, numbers, with_reference}
 use Rattle.ref_clear.proofs.Common.{cleared, pending_in, pendings_in}
 use Rattle.ref_base.specs.declared.heap_step.HeapStep.TheVariants as heap
 use Rattle.ref_base.specs.declared.plain_step.PlainStep.TheVariants as plain
-use Rattle.ref_objects.specs.Grounds.{IsWellFormed, cleared_in_at, linked_in}
-use Rattle.ref_objects.specs.declared.linked.Linked.{Linked}
+use Rattle.ref_objects.specs.Grounds.{cleared_in_at}
 use Rattle.ref_objects.proofs.TagLemmas.{cleared_in_at-other, cleared_in_at-own}
 use Rattle.ref_base.proofs.HasLaws.{has-cases, has-single}
 use Rattle.ref_base.proofs.StoreLaws.{is_there-has}
@@ -28,9 +26,6 @@ use Rattle.ref_clear.proofs.PendingLists.{length-lists_of, lists_of-set, pending
 use Rattle.ref_clear.proofs.PendingLists.{has-list, has-replaced}
 use Rattle.ref_clear.proofs.PendingLists.{numbers_in-pendings}
 use Rattle.ref_mark.proofs.KeptParts.{linked-cycles}
-use Rattle.ref_mark.specs.Chains.{is_tagged}
-use Rattle.ref_clear.proofs.Common.{refers_into, referent_of}
-use Rattle.ref_clear.proofs.PendingRoom.{cleared_refers_to_none}
 use Rattle.ref_clear.proofs.SoundHeaps.{sound_after}
 
 -- ---- the first of a list
@@ -38,6 +33,10 @@ use Rattle.ref_clear.proofs.SoundHeaps.{sound_after}
 pub first_is : (ns : List ℕ) (n : ℕ) → first_in ns ≡ Some n → ns ≡ n ∷ rest_of ns
 first_is [] n first = absurd (let wrong : None ≡ Some n = first in cc)
 first_is (m ∷ ms) n first = let is : Some m ≡ Some n = first in let same : m ≡ n = cc in ap (λ i. i ∷ ms) same
+
+pub none_is : (ns : List ℕ) → first_in ns ≡ None → ns ≡ []
+none_is [] none = refl
+none_is (n ∷ ns) none = absurd (let wrong : Some n ≡ None = none in cc)
 
 -- ---- what is left
 
@@ -90,9 +89,6 @@ module _ {k : CycleHeap} {lists : List (List ℕ)} {swept_to : ℕ} (w : ℕ)
       after_cut queue is =
           after_look (heap_pended (with_mark c cut) w n queue) (simp goes (ap (heap_pended (with_mark c cut) w n) is))
 
-      left_cut : {j t : CycleHeap} → t ≡ with_found_taken k w → j ≡ cut_at t n → j ≡ cut
-      left_cut taken after = after ∙ ap (λ (i : CycleHeap). cut_at i n) taken
-
       -- it isn't pending
       apart : (m : ℕ) → has (joined lists) m ≡ true → (n == m) ≡ false
       apart m within = grind (arith, pending_numbers-seen)
@@ -112,18 +108,14 @@ module _ {k : CycleHeap} {lists : List (List ℕ)} {swept_to : ℕ} (w : ℕ)
           (queue_still m (waits_there sound m within), cleared_in_at-other k.tags n m k.cycle (apart m within))
 
       -- without a queue nothing comes of it
-      pub seen_cut : {j t : CycleHeap} → registered_in (reference_at k.heap n) ≡ None → t ≡ with_found_taken k w
-          → j ≡ cut_at t n → seen_lists j lists ≡ after_in c (heap.Plain (plain.ClearNext w))
-      seen_cut none taken after =
-          ap (λ (i : CycleHeap). seen_lists i lists) (left_cut taken after) ∙ seen_kept k cut lists cut_kept
-          ∙ after_cut None none
+      pub seen_cut : registered_in (reference_at k.heap n) ≡ None
+          → seen_lists cut lists ≡ after_in c (heap.Plain (plain.ClearNext w))
+      seen_cut none = seen_kept k cut lists cut_kept ∙ after_cut None none
 
-      pub sound_cut : {j t : CycleHeap} → registered_in (reference_at k.heap n) ≡ None → t ≡ with_found_taken k w
-          → j ≡ cut_at t n → AreSoundLists j lists swept_to
-      sound_cut none taken after =
-          sound_after (heap.Plain (plain.ClearNext w)) refl sound (seen_cut none taken after)
-          (subst (λ (i : CycleHeap). AreRegistered i.heap.objects lists) (sym (left_cut taken after))
-          (registered_kept k cut lists cut_kept sound.registered))
+      pub sound_cut : registered_in (reference_at k.heap n) ≡ None → AreSoundLists cut lists swept_to
+      sound_cut none =
+          sound_after (heap.Plain (plain.ClearNext w)) refl sound (seen_cut none)
+          (registered_kept k cut lists cut_kept sound.registered)
 
       -- with one it goes last in the worker's list
       module _ {l : List ℕ} (is : l ≡ get_or lists w l) where
@@ -140,9 +132,8 @@ module _ {k : CycleHeap} {lists : List (List ℕ)} {swept_to : ℕ} (w : ℕ)
         linked_kept m within =
             ((cut_kept m within).0, linked-cycles cut.tags l n m ∙ (cut_kept m within).1)
 
-        module _ {j t : CycleHeap} {m : List ℕ} (q : ℕ)
-            (registered : registered_in (reference_at k.heap n) ≡ Some q) (taken : t ≡ with_found_taken k w)
-            (after : j ≡ record (cut_at t n) { tags = linked_last_of (cut_at t n).tags l n }) (pushed : m ≡ l ++ n ∷ [])
+        module _ {j : CycleHeap} {m : List ℕ} (q : ℕ) (registered : registered_in (reference_at k.heap n) ≡ Some q)
+            (after : j ≡ linked) (pushed : m ≡ l ++ n ∷ [])
             (tagged : map (λ i. i.no) k.tags ≡ numbers k.heap.objects) where
           -- what is told of it then
           abbrev pended : Pending
@@ -153,10 +144,6 @@ module _ {k : CycleHeap} {lists : List (List ℕ)} {swept_to : ℕ} (w : ℕ)
 
           cycle_told : cleared_in_at linked.tags n ≡ k.cycle
           cycle_told = grind (arith, cleared_in_at-own, is_there-has, linked-cycles)
-
-          left_linked : j ≡ linked
-          left_linked =
-              after ∙ ap (λ (i : CycleHeap). record (cut_at i n) { tags = linked_last_of (cut_at i n).tags l n }) taken
 
           own_told : pending_in cut.heap.objects linked.tags n ≡ pended
           own_told = λ i. record { object = n; queue = unwrap_or (queue_told i) 0; cycle = cycle_told i }
@@ -174,7 +161,7 @@ module _ {k : CycleHeap} {lists : List (List ℕ)} {swept_to : ℕ} (w : ℕ)
 
           pub seen_pended : seen_lists j (set lists w m) ≡ after_in c (heap.Plain (plain.ClearNext w))
           seen_pended =
-              ap (λ (i : CycleHeap). seen_lists i (set lists w m)) left_linked
+              ap (λ (i : CycleHeap). seen_lists i (set lists w m)) after
               ∙ ap (λ (pss : List (List Pending)). record { mark = linked; pending = pss })
               (lists_of-set cut.heap.objects linked.tags lists w m
               ∙ ap (λ (pss : List (List Pending)). set pss w (pendings_in cut.heap.objects linked.tags m))
@@ -203,55 +190,6 @@ module _ {k : CycleHeap} {lists : List (List ℕ)} {swept_to : ℕ} (w : ℕ)
               ]
 
           pub sound_pended : AreSoundLists j (set lists w m) swept_to
-          sound_pended = search (sound_after, seen_pended, left_linked, all_registered)
-
--- ---- what the code has read
-
--- a queue, or none
-some_is : (q : Option ℕ) → is_some q ≡ true → q ≡ Some (unwrap_or q 0)
-some_is None some = absurd (false≢true some)
-some_is (Some q) some = refl
-
-no_queue_is : (q : Option ℕ) → is_some q ≡ false → q ≡ None
-no_queue_is None none = refl
-no_queue_is (Some q) none = absurd (true≢false none)
-
--- once a reference is taken, all objects are as before
-module _ (k : CycleHeap) (w : ℕ) {t : CycleHeap} {g : Ground} (taken : t ≡ with_found_taken k w)
-    (objects : g ≡ ground_of t) where
-  pub tagged_taken : IsWellFormed g → map (λ i. i.no) k.tags ≡ numbers k.heap.objects
-  tagged_taken formed = cc
-
-  pub few_taken : IsWellFormed g → length k.heap.objects ≤ k.heap.config.cells
-  few_taken formed = let few = formed.few in rw (objects, taken) at few
-
--- what its list has of the reference that is taken
-module _ (k : CycleHeap) (w n : ℕ) {l : Linked} (told : l ≡ linked_in (ground_of k) n) where
-  read : l.reference ≡ reference_at k.heap n
-  read = ap (λ (i : Linked). i.reference) told
-
-  -- nothing is cleared of what is no reference
-  pub plain_stays : l.reference ≡ None → is_to_clear k n ≡ false
-  plain_stays none = ap (refers_into (is_doomed k)) (sym read ∙ none)
-
-  module _ {r : Reference} (is : l.reference ≡ Some r) where
-    -- nor of one without a referent
-    pub cleared_stays : r.referent ≡ None → is_to_clear k n ≡ false
-    cleared_stays none =
-        cleared_refers_to_none (is_doomed k) (reference_at k.heap n) (ap referent_of (sym read ∙ is) ∙ none)
-
-    -- it is to be cleared exactly where its referent is doomed
-    pub clears_by : {t : CycleHeap} {m : ℕ} {goes : Bool} → t ≡ with_found_taken k w → r.referent ≡ Some m
-        → is_doomed t m ≡ goes → is_to_clear k n ≡ goes
-    clears_by {t} {m} {goes} taken referent doomed = grind (arith, read)
-
-    pub queue_read : is_some r.queue ≡ true → registered_in (reference_at k.heap n) ≡ Some (unwrap_or r.queue 0)
-    queue_read some = ap registered_in (sym read ∙ is) ∙ some_is r.queue some
-
-    pub no_queue_read : is_some r.queue ≡ false → registered_in (reference_at k.heap n) ≡ None
-    no_queue_read none = ap registered_in (sym read ∙ is) ∙ no_queue_is r.queue none
-
--- no object has number 0
-pub none_0_taken : (k : CycleHeap) (w : ℕ) {t : CycleHeap} → t ≡ with_found_taken k w → is_tagged t.tags 0 ≡ false
-    → is_tagged k.tags 0 ≡ false
-none_0_taken k w taken none = rw taken at none
+          sound_pended =
+              sound_after (heap.Plain (plain.ClearNext w)) refl sound seen_pended
+              (subst (λ (i : CycleHeap). AreRegistered i.heap.objects (set lists w m)) (sym after) all_registered)

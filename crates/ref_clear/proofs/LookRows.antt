@@ -26,7 +26,8 @@ use Rattle.ref_mark.proofs.Passed.{work_passed}
 use Rattle.ref_mark.proofs.ShownHeaps.{shown_heap-changed_in, cut-shown}
 use Rattle.ref_mark.proofs.ShownReads.{reference_of-shown}
 use Rattle.ref_mark.proofs.Passed.{is_clearing}
-use Rattle.ref_clear.proofs.FoundFacts.{black_parts, past_refers}
+use Rattle.ref_clear.proofs.FoundFacts.{black_parts}
+use Rattle.ref_mark.proofs.MarkerLemmas.{past_refers}
 use Rattle.ref_clear.proofs.PendingRoom.{cleared_refers_to_none, to_clear_is_not_pending}
 use Rattle.ref_clear.proofs.TakenLists.{numbers_in, pended_tags, pended_lists, length-pended, has-pended}
 use Rattle.ref_clear.proofs.TakenLists.{AreDistinct-pended}

@@ -14,10 +14,10 @@ use Rattle.ref_base.specs.declared.heap_step.HeapStep.TheVariants as heap
 use Rattle.ref_base.specs.declared.plain_step.PlainStep.TheVariants as plain
 use Rattle.ref_base.specs.declared.reply.Reply.{Reply}
 use Rattle.ref_base.specs.declared.reply.Reply.TheVariants as replies
-use Rattle.ref_mark.specs.CycleHeaps.{CycleHeap, doomed, cycle_in_phase}
+use Rattle.ref_mark.specs.CycleHeaps.{is_to_clear, CycleHeap, doomed, cycle_in_phase}
 use Rattle.ref_mark.specs.MarkCalls as marks
 use Rattle.ref_mark.specs.MarkCalls.{unless_refused}
-use Rattle.ref_clear.specs.ClearHeaps.{ClearHeap, HeldNotice, with_mark, pending_at, begun_with, is_to_clear}
+use Rattle.ref_clear.specs.ClearHeaps.{ClearHeap, HeldNotice, with_mark, pending_at, begun_with}
 use Rattle.ref_clear.specs.ClearHeaps.{looked_from, handed_from, unhooked, swept_some}
 use Rattle.ref_clear.specs.declared.looked.Looked.{Looked}
 use Rattle.ref_clear.specs.declared.looked.Looked.TheVariants as looked

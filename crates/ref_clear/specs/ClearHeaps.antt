@@ -1,20 +1,19 @@
 -- A whole heap, as plain data: a heap in its cycles, and the references that its workers cleared and haven't handed on;
 -- and the changes that calls make to it (package `java.lang.ref` of Java SE 17 for what clears a reference and what
 -- comes of it; pending lists, notices and sweeps by 64: this project's profile).
-use Rattle.std.specs.Prelude.{ℕ, if◌then◌else◌, Bool, List, [], ◌∷◌, ◌++◌, map, take, replicate, Option, Some, None}
+use Rattle.std.specs.Prelude.{ℕ, if◌then◌else◌, List, [], ◌∷◌, ◌++◌, map, take, replicate, Option, Some, None}
 use Rattle.std.specs.Prelude.{slice_index_or, slice_set}
-use Rattle.ref_base.specs.DoomedSets.{refers_into}
-use Rattle.ref_base.specs.Heaps.{reference_at, registered_in, with_hold, with_changed, with_reference, cleared}
+use Rattle.ref_base.specs.Heaps.{reference_at, registered_in, with_hold}
 use Rattle.ref_base.specs.Worlds.{Pending, pending_numbers}
 use Rattle.ref_base.specs.CollectorRows.{without}
 use Rattle.ref_base.specs.declared.cause.Cause.{Cause}
 use Rattle.ref_base.specs.declared.config.Config.{Config}
 use Rattle.ref_base.specs.declared.heap_step.HoldName.{HoldName}
 use Rattle.ref_base.specs.declared.urgency.Urgency.{Urgency}
-use Rattle.ref_objects.specs.Grounds.{Tag, with_cleared_tag, without_tag}
+use Rattle.ref_objects.specs.Grounds.{Tag, without_tag}
 use Rattle.ref_mark.specs.Chains.{linked_last_of}
-use Rattle.ref_mark.specs.CycleHeaps.{CycleHeap, first_cycle_heap, is_doomed, doomed, with_cleared, with_found_taken}
-use Rattle.ref_mark.specs.CycleHeaps.{cycle_begun, shaded_all}
+use Rattle.ref_mark.specs.CycleHeaps.{CycleHeap, first_cycle_heap, doomed, with_cleared, with_found_taken, is_to_clear}
+use Rattle.ref_mark.specs.CycleHeaps.{cut_at, cycle_begun, shaded_all}
 
 -- a heap in its cycles, and for each worker the references that it cleared and hasn't handed on, first first
 pub record ClearHeap : Type 0 where
@@ -54,17 +53,6 @@ abbrev pub begun_with : ClearHeap → ℕ → Urgency → ClearHeap
 begun_with c now urgency = with_mark c (shaded_all (cycle_begun c.mark now urgency) (pending_numbers c.pending))
 
 -- ---- clearing
-
--- whether n is a reference to the doomed
-abbrev pub is_to_clear : CycleHeap → ℕ → Bool
-is_to_clear k n = refers_into (is_doomed k) (reference_at k.heap n)
-
--- reference n is cleared, in this cycle
-abbrev pub cut_at : CycleHeap → ℕ → CycleHeap
-cut_at k n = record k {
-  heap = with_changed k.heap n (with_reference cleared);
-  tags = with_cleared_tag k.tags n k.cycle;
-}
 
 -- it goes last in the worker's pending list, if it is registered with a queue
 abbrev pub heap_pended : ClearHeap → ℕ → ℕ → Option ℕ → ClearHeap

@@ -9,8 +9,9 @@ use Rattle.std.proofs.lemmas.Bool.{cases_Bool, eq-eqb, or_right, or_parts, true�
 use Rattle.ref_mark.proofs.Common.{has, AreDistinct, joined, list_at, is_empty, first_in, Chain}
 use Rattle.ref_base.specs.Members.{rest_of}
 use Rattle.ref_base.proofs.HasLaws.{has-first, has-append}
-use Rattle.ref_objects.specs.Grounds.{Ground, Tag, link_at, with_link, with_new_tag, linked_in}
+use Rattle.ref_objects.specs.Grounds.{Ground, Tag, link_at, with_link, with_new_tag, linked_in, look_of}
 use Rattle.ref_objects.specs.declared.linked.Linked.{Linked}
+use Rattle.ref_objects.specs.declared.linked.Look.{Look}
 use Rattle.ref_mark.specs.Chains.{no_chain, next_of, walk, listed, lists_of, chain_with, linked_last}
 use Rattle.ref_mark.specs.Chains.{chain_without_first}
 use Rattle.ref_mark.specs.Chains.{last_of, linked_last_of, chain_first, is_tagged, Links, Ends, IsChain, AreChains}
@@ -238,9 +239,14 @@ pub first_linked : (g : Ground) (first : Option ℕ) (l : Linked) → Some l ≡
 first_linked g None l is = absurd (cc)
 first_linked g (Some m) l is = grind arith
 
-pub none_linked : (g : Ground) (first : Option ℕ) → None ≡ option_map (linked_in g) first → first ≡ None
-none_linked g None is = refl
-none_linked g (Some m) is = absurd (cc)
+pub first_look : (g : Ground) (first : Option ℕ) (l : Look) → Some l ≡ option_map (look_of g) first
+    → (first ≡ Some l.was.no) × (l ≡ look_of g l.was.no)
+first_look g None l is = absurd (cc)
+first_look g (Some m) l is = grind arith
+
+pub none_told : {T : Type 0} (f : ℕ → T) (first : Option ℕ) → None ≡ option_map f first → first ≡ None
+none_told f None is = refl
+none_told f (Some m) is = absurd (cc)
 
 -- ---- objects come and go, and all lists are emptied
 

@@ -34,11 +34,17 @@ use Rattle.ref_base.specs.KeptPaths.{policy_from}
 use Rattle.ref_base.proofs.HasLaws.{has-append}
 use Rattle.ref_base.proofs.FoundLists.{with_last, has-with_last, AreDistinct-with_last, joined-emptied}
 use Rattle.ref_objects.specs.Grounds.{Tag, first_ground, is_unmarked, after_freeing, with_new_object}
-use Rattle.ref_objects.specs.Grounds.{IsWellFormed, with_cleared_tag, with_new_tag, linked_in, ground_with_heap}
+use Rattle.ref_objects.specs.Grounds.{IsWellFormed, with_cleared_tag, with_new_tag, look_of, ground_with_heap}
 use Rattle.ref_objects.specs.Grounds.{newly_marked, ground_marked_if_any}
 use Rattle.ref_mark.specs.Worklists.{with_last as list_with, without_first_listed}
-use Rattle.ref_mark.specs.CycleHeaps.{with_found_taken, swept}
-use Rattle.ref_mark.specs.MarkViews.{found_first}
+use Rattle.ref_mark.specs.CycleHeaps.{with_found_taken, swept, is_doomed, is_past_mark, is_to_clear, cut_at}
+use Rattle.ref_mark.specs.CycleHeaps.{found_looked_at}
+use Rattle.ref_mark.specs.Chains.{first_looked_at}
+use Rattle.ref_mark.specs.MarkViews.{found_look}
+use Rattle.ref_base.proofs.NewClears.{refers_into-same}
+use Rattle.ref_base.specs.Heaps.{with_changed, with_reference}
+use Rattle.std.proofs.lemmas.Bool.{cases_Bool}
+use Rattle.std.proofs.Common.{inl, inr}
 use Rattle.ref_mark.proofs.Shading.{AreDistinct-push}
 use Rattle.ref_base.proofs.OneMore.{has-one_more}
 use Rattle.ref_mark.proofs.DistinctLists.{distinct_fit, has-taken, AreDistinct-taken}
@@ -48,6 +54,12 @@ use Rattle.ref_mark.proofs.ChainLemmas.{ArePushed, IsSame, lists-same, same_last
 use Rattle.ref_mark.proofs.ChainLemmas.{emptied_lists, list_at-lists_of, chain-is_empty, chain-first, chain-linked}
 use Rattle.ref_mark.proofs.ChainLemmas.{walk-none}
 use Rattle.ref_mark.proofs.ChainLemmas.{chain_at}
+
+-- once a mark has ended, the doomed are the white
+pub past_refers : (k : CycleHeap) (n : ℕ) → is_past_mark k.phase ≡ true
+    → is_to_clear k n ≡ refers_into (is_white k) (reference_at k.heap n)
+past_refers k n past =
+    refers_into-same (is_doomed k) (is_white k) (λ m. simp past refl) (reference_at k.heap n)
 
 -- ---- the lists themselves
 
@@ -470,10 +482,10 @@ module _ {g : Ground} {grey : Worklist} {found : List Chain} {phase : Phase} (w 
       (chain_at g.tags g.heap.config.cells found w c taker_within read sound.chains)
       ∙ ap first_in (sym (list_at-lists_of g.tags g.heap.config.cells found w c taker_within read))
 
-  -- it is answered with what the list has of it
+  -- it is answered with the look at it
   pub first_told : (how : Policy) (cycle : ℕ)
-      → option_map (linked_in g) (chain_first c) ≡ found_first (seen_marker g grey found phase how cycle) w
-  first_told how cycle = ap (option_map (linked_in g)) first_found
+      → option_map (look_of g) (chain_first c) ≡ found_look (seen_marker g grey found phase how cycle) w
+  first_told how cycle = ap (option_map (look_of g)) first_found
 
   one_taken : (lists_of g.tags g.heap.config.cells (set found w (chain_without_first g.tags c))
       ≡ slice_set (found_in g found) w (rest_of (list_at (found_in g found) w)))
@@ -484,7 +496,7 @@ module _ {g : Ground} {grey : Worklist} {found : List Chain} {phase : Phase} (w 
       ≡ slice_set (found_in g found) w (rest_of (list_at (found_in g found) w))
   taken_lists = rw taken one_taken.0
 
-  pub sound_taken : IsSoundMarker g grey (set found w d) phase
+  sound_taken : IsSoundMarker g grey (set found w d) phase
   sound_taken = record {
     few = sound.few;
     grey_fits = sound.grey_fits;
@@ -496,10 +508,53 @@ module _ {g : Ground} {grey : Worklist} {found : List Chain} {phase : Phase} (w 
         (listed_taken g.marked grey.stands (found_in g found) phase w (list_at (found_in g found) w) refl sound.listed);
   }
 
-  pub seen_taken : (how : Policy) (cycle : ℕ)
+  seen_taken : (how : Policy) (cycle : ℕ)
       → seen_marker g grey (set found w d) phase how cycle
       ≡ with_found_taken (seen_marker g grey found phase how cycle) w
   seen_taken how cycle = rw taken_lists refl
+
+  -- and looked at
+  module _ {after : Ground} (cycle : ℕ) (is : after ≡ first_looked_at g (chain_first c) cycle) where
+    pub sound_looked : IsSoundMarker after grey (set found w d) phase
+    sound_looked = looked (chain_first c) is
+      where
+        looked : (first : Option ℕ) → after ≡ first_looked_at g first cycle
+            → IsSoundMarker after grey (set found w d) phase
+        looked None same = subst (λ (k : Ground). IsSoundMarker k grey (set found w d) phase) (sym same) sound_taken
+        looked (Some n) is =
+            elim (cases_Bool (look_of g n).is_cleared) [
+              | inl goes ↦
+                  sound_cut n cycle (with_changed g.heap n (with_reference cleared)) refl (is ∙ simp goes refl)
+                  sound_taken
+              | inr stays ↦
+                  subst (λ (k : Ground). IsSoundMarker k grey (set found w d) phase) (sym (is ∙ simp stays refl))
+                  sound_taken
+            ]
+
+    pub seen_looked : (how : Policy) → is_past_mark phase ≡ true
+        → seen_marker after grey (set found w d) phase how cycle
+        ≡ found_looked_at (seen_marker g grey found phase how cycle) w (list_at (found_in g found) w)
+    seen_looked how past = looked (list_at (found_in g found) w) (is ∙ ap (λ f. first_looked_at g f cycle) first_found)
+      where
+        k : CycleHeap
+        k = seen_marker g grey found phase how cycle
+
+        looked : (ns : List ℕ) → after ≡ first_looked_at g (first_in ns) cycle
+            → seen_marker after grey (set found w d) phase how cycle ≡ found_looked_at k w ns
+        looked [] same =
+            ap (λ (h : Ground). seen_marker h grey (set found w d) phase how cycle) same ∙ seen_taken how cycle
+        looked (n ∷ ns) is =
+            elim (cases_Bool (look_of g n).is_cleared) [
+              | inl goes ↦
+                  simp (past_refers k n past ∙ goes)
+                  (seen_cut n cycle (with_changed g.heap n (with_reference cleared)) refl (is ∙ simp goes refl)
+                  sound_taken how cycle
+                  ∙ ap (λ (j : CycleHeap). cut_at j n) (seen_taken how cycle))
+              | inr stays ↦
+                  simp (past_refers k n past ∙ stays)
+                  (ap (λ (h : Ground). seen_marker h grey (set found w d) phase how cycle) (is ∙ simp stays refl)
+                  ∙ seen_taken how cycle)
+            ]
 
 -- some worker has found something where a chain isn't empty
 is_empty-append : (ns ms : List ℕ) → not (is_empty (ns ++ ms)) ≡ (not (is_empty ns) || not (is_empty ms))

@@ -3,7 +3,7 @@ use Rattle.std.specs.Prelude.{◌≡◌, ℕ, zero, suc, Bool, true, false, ◌=
 use Rattle.std.specs.Prelude.{map, Option, Some, None}
 use Rattle.ref_base.specs.Members.{has}
 use Rattle.ref_base.specs.Refusals.{is_empty}
-use Rattle.ref_objects.specs.Grounds.{Tag, link_at, with_link}
+use Rattle.ref_objects.specs.Grounds.{Tag, Ground, link_at, with_link, ground_looked_at}
 use Rattle.ref_mark.specs.declared.chain.Chain.{Chain}
 
 abbrev pub no_chain : Chain
@@ -39,9 +39,17 @@ chain_with c n = record { first = if c.first == 0 then n else c.first; last = n 
 abbrev pub linked_last : List Tag → Chain → ℕ → List Tag
 linked_last ts c n = if c.first == 0 then ts else with_link ts c.last n
 
--- the first goes
+-- the first goes, which links to this
+abbrev pub chain_from : Chain → ℕ → Chain
+chain_from c link = record c { first = if c.first == c.last then 0 else link }
+
 abbrev pub chain_without_first : List Tag → Chain → Chain
-chain_without_first ts c = if c.first == 0 then c else record c { first = next_of ts c.last c.first }
+chain_without_first ts c = if c.first == 0 then c else chain_from c (link_at ts c.first)
+
+-- it is looked at, if there is one
+abbrev pub first_looked_at : Ground → Option ℕ → ℕ → Ground
+first_looked_at g None cycle = g
+first_looked_at g (Some n) cycle = ground_looked_at g n cycle
 
 -- ---- the same, told of the list that a chain is
 

@@ -9,7 +9,7 @@ use Rattle.ref_base.specs.Paths.{present, targets_at}
 use Rattle.ref_base.specs.KeptPaths.{is_kept, policy_from}
 use Rattle.ref_base.specs.DoomedSets.{refers_into}
 use Rattle.ref_base.specs.Heaps.{Heap, first_heap, slot_at, reference_at, one_more, with_slot, made, got, cut}
-use Rattle.ref_base.specs.Heaps.{with_clock}
+use Rattle.ref_base.specs.Heaps.{with_clock, with_changed, with_reference, cleared}
 use Rattle.ref_base.specs.CollectorRows.{reference_of, referent_of, referent_got, is_same, list_at, emptied, without}
 use Rattle.ref_base.specs.Refusals.{is_in}
 use Rattle.ref_base.specs.declared.config.Config.{Config}
@@ -18,7 +18,7 @@ use Rattle.ref_base.specs.declared.phase.Phase.TheVariants.{Idle, Marking, Clear
 use Rattle.ref_base.specs.declared.policy.Policy.{Policy}
 use Rattle.ref_base.specs.declared.urgency.Urgency.{Urgency}
 use Rattle.ref_base.specs.declared.urgency.Urgency.TheVariants.{Normal}
-use Rattle.ref_objects.specs.Grounds.{Tag, unmarked, with_new_tag, without_tag}
+use Rattle.ref_objects.specs.Grounds.{Tag, unmarked, with_new_tag, without_tag, with_cleared_tag}
 use Rattle.ref_mark.specs.Chains.{linked_last_of}
 
 -- A heap, the number of its next object; the objects that the cycle has reached, or that were made in it
@@ -185,9 +185,25 @@ scanned k w = grey_scanned k w k.grey
 abbrev pub cycle_in_phase : CycleHeap → Phase → CycleHeap
 cycle_in_phase k phase = record k { phase = phase }
 
--- the first that the worker found is looked at
+-- the first that the worker found goes from its list
 abbrev pub with_found_taken : CycleHeap → ℕ → CycleHeap
 with_found_taken k w = record k { found = slice_set k.found w (rest_of (list_at k.found w)) }
+
+-- whether n is a reference to the doomed
+abbrev pub is_to_clear : CycleHeap → ℕ → Bool
+is_to_clear k n = refers_into (is_doomed k) (reference_at k.heap n)
+
+-- reference n is cleared, in this cycle
+abbrev pub cut_at : CycleHeap → ℕ → CycleHeap
+cut_at k n = record k {
+  heap = with_changed k.heap n (with_reference cleared);
+  tags = with_cleared_tag k.tags n k.cycle;
+}
+
+-- the first that the worker found is looked at: it is cleared where its referent is doomed
+abbrev pub found_looked_at : CycleHeap → ℕ → List ℕ → CycleHeap
+found_looked_at k w [] = with_found_taken k w
+found_looked_at k w (n ∷ rest) = if is_to_clear k n then cut_at (with_found_taken k w) n else with_found_taken k w
 
 -- an object is due to be swept that is doomed once a sweep has begun
 abbrev pub is_due : CycleHeap → ℕ → Bool

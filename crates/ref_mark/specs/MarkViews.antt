@@ -8,8 +8,8 @@ use Rattle.ref_base.specs.Refusals.{is_in}
 use Rattle.ref_base.specs.declared.phase.Phase.{Phase}
 use Rattle.ref_base.specs.declared.phase.Phase.TheVariants.{Sweeping}
 use Rattle.ref_base.specs.declared.policy.Policy.{Policy}
-use Rattle.ref_objects.specs.Grounds.{Ground, linked_in}
-use Rattle.ref_objects.specs.declared.linked.Linked.{Linked}
+use Rattle.ref_objects.specs.Grounds.{Ground, look_of}
+use Rattle.ref_objects.specs.declared.linked.Look.{Look}
 use Rattle.ref_mark.specs.Worklists.{Worklist, first_in}
 use Rattle.ref_mark.specs.declared.chain.Chain.{Chain}
 use Rattle.ref_mark.specs.Chains.{lists_of, is_tagged, AreChains}
@@ -36,9 +36,9 @@ seen_marker g grey found phase policy cycle = record {
 abbrev pub ground_of : CycleHeap → Ground
 ground_of k = record { heap = k.heap; next = k.next; marked = k.marked; tags = k.tags }
 
--- what the list has of the first that the worker found
-abbrev pub found_first : CycleHeap → ℕ → Option Linked
-found_first k w = option_map (linked_in (ground_of k)) (first_in (list_at k.found w))
+-- the look at the first that the worker found
+abbrev pub found_look : CycleHeap → ℕ → Option Look
+found_look k w = option_map (look_of (ground_of k)) (first_in (list_at k.found w))
 
 -- What is grey and what workers found are marked objects, each of which stands in one list and there once; and in a
 -- sweep nothing is left that was found.

@@ -2,13 +2,13 @@
 
 ghost use Rattle.std.specs.Prelude.{◌≡◌, ◌==◌, if◌then◌else◌};
 ghost use Rattle.std.specs.Option.{option_map};
-ghost use Rattle.ref_objects.specs.Grounds.{linked_in};
+ghost use Rattle.ref_objects.specs.Grounds.{linked_in, look_of};
 ghost use Rattle.ref_mark.specs.Worklists.{listed_at};
 ghost use Rattle.ref_mark.specs.Chains.{no_chain, chain_first, listed, linked_last, chain_with, chain_without_first};
-ghost use Rattle.ref_mark.specs.Chains.{next_of};
+ghost use Rattle.ref_mark.specs.Chains.{next_of, chain_from, first_looked_at};
 
 use ref_base::ObjNo;
-use ref_objects::{Linked, Objects};
+use ref_objects::{Linked, Look, Objects};
 use std::alloc::Allocator;
 
 /// The first and the last object of a list in which each object but the last links to the next. The first is 0 where
@@ -54,12 +54,36 @@ impl Chain {
             return None;
         }
         let linked = objects.linked_of(ObjNo(self.first));
-        self.first = if self.first == self.last {
-            0
-        } else {
-            linked.link
-        };
+        self.drop_first(linked.link);
         Some(linked)
+    }
+
+    /// Takes the first, and looks at it: where it is a reference to an object that isn't marked, it is cleared, in this
+    /// cycle. By one search for it, and one for its referent.
+    #[inline(always)]
+    pub fn look_at_first<A: Allocator + Copy>(
+        &mut self,
+        objects: &mut Objects<A>,
+        cycle: u64,
+    ) -> Option<Look>
+        ensures answer { result ≡ option_map (look_of objects.old) (chain_first self.old) }
+        ensures objects { objects.new ≡ first_looked_at objects.old (chain_first self.old) cycle }
+        ensures after { self.new ≡ chain_without_first objects.old.tags self.old }
+    {
+        if self.first == 0 {
+            return None;
+        }
+        let look = objects.look_at(ObjNo(self.first), cycle);
+        self.drop_first(look.was.link);
+        Some(look)
+    }
+
+    // The first goes, which links to this.
+    #[inline(always)]
+    fn drop_first(&mut self, link: u32)
+        ensures { self.new ≡ chain_from self.old link }
+    {
+        self.first = if self.first == self.last { 0 } else { link };
     }
 
     /// The number of the one that stands behind this one, or 0 behind the last. In logarithmic time.

@@ -5,7 +5,11 @@ use Rattle.std.proofs.lemmas.List.{length-set}
 use Rattle.std.specs.Option.{option_map, is_some}
 use Rattle.std.specs.Int.{from_bool}
 use Rattle.ref_objects.specs.Places.{IsSoundTable}
-use Rattle.ref_objects.specs.Tables.{change_of}
+use Rattle.ref_objects.specs.Tables.{change_of, tabled_linked, is_unmarked_at, look_by, table_look, table_looked_at}
+use Rattle.ref_objects.specs.declared.linked.Linked.{Linked}
+use Rattle.ref_objects.specs.declared.linked.Look.{Look}
+use Rattle.ref_objects.specs.declared.cell.Change.TheVariants.{ClearIn}
+use Rattle.ref_base.specs.DoomedSets.{refers_into}
 use Rattle.ref_objects.specs.declared.cell.Change.{Change}
 use Rattle.ref_objects.proofs.Common.{Tabled, Table, tabled_at, tabled_by, place_in, place_if_live, seen_table, changed}
 use Rattle.ref_objects.proofs.Common.{Entry, changed_tabled, marked_of, holds_in, is_unheld, is_marked_in, table_freed}
@@ -14,6 +18,16 @@ use Rattle.ref_objects.proofs.ChangeLemmas.{told_of, seen_changed, placed_change
 use Rattle.ref_objects.proofs.ChangeLemmas.{room_to_free, goes, stays, seen_freed, placed_freed, tabled_by-freed}
 use Rattle.ref_objects.proofs.ChangeLemmas.{told_of_none, seen_missing_changed, seen_missing_freed}
 use Rattle.ref_objects.proofs.MarkLemmas.{marks_same, marks_changed, marks_le, marks_fewer}
+
+-- ---- what is written of an object
+
+pub change_keeps : (change : Change) (k : Tabled) → (change_of change k).object.no ≡ k.object.no
+change_keeps change k = grind arith
+
+pub change_leaves : (change : Change) (k : Tabled) → (change_of change k).marked ≡ k.marked
+change_leaves change k = grind arith
+
+-- ---- a call
 
 -- the call lends its cells and its index to a search
 module _ {cells borrowed : List (Option Tabled)} {es lent : List Entry} {ps : List ℕ}
@@ -51,6 +65,23 @@ module _ {cells borrowed : List (Option Tabled)} {es lent : List Entry} {ps : Li
           → IsSoundTable (set cells p new) es ps last index_room places_room marked
       sound_there leaves =
           sound_counted (marks_changed (tabled_by cells es) n f keeps leaves sound.marks_counted)
+
+    -- the object is looked at
+    module _ {t : Table} (view : seen_table cells es last ≡ t) {cell : Option Tabled} (was : cell ≡ get_or cells p cell)
+        {l : Linked} (told : l ≡ tabled_linked n cell) {b : Bool}
+        (is : b ≡ refers_into (is_unmarked_at t.tabled) l.reference) where
+      pub look_told : (let look : Look = record { was = l; is_cleared = b } in look) ≡ table_look t n
+      look_told = answered_there view (look_by t.tabled n) was (rw (is, told) refl)
+
+      pub cleared_there : (cycle : ℕ) → b ≡ true → {old new : Option Tabled} → old ≡ get_or cells p old
+          → new ≡ option_map (change_of (ClearIn cycle)) old
+          → seen_table (set cells p new) es last ≡ table_looked_at t n cycle
+      cleared_there cycle clears {old} {new} found change =
+          left_there (change_of (ClearIn cycle)) (change_keeps (ClearIn cycle)) found change view
+          ∙ simp (sym (ap (λ (i : Look). i.is_cleared) look_told) ∙ clears) refl
+
+      pub uncleared_there : (cycle : ℕ) → b ≡ false → t ≡ table_looked_at t n cycle
+      uncleared_there cycle spares = simp (sym (ap (λ (i : Look). i.is_cleared) look_told) ∙ spares) refl
 
     -- the object goes, and its place is free, where nobody holds it
     module _ {t : Table} (view : seen_table cells es last ≡ t) {cell : Option Tabled} (was : cell ≡ get_or cells p cell)
@@ -103,13 +134,12 @@ module _ {cells borrowed : List (Option Tabled)} {es lent : List Entry} {ps : Li
       pub left_nowhere : (f : Tabled → Tabled) → t ≡ changed t n f
       left_nowhere f = rw (← view) (seen_missing_changed sound.placed missing f)
 
+      pub look_nowhere : (let look : Look = record { was = tabled_linked n None; is_cleared = false } in look)
+          ≡ table_look t n
+      look_nowhere = answered_nowhere (look_by t.tabled n)
+
+      pub uncleared_nowhere : (cycle : ℕ) → t ≡ table_looked_at t n cycle
+      uncleared_nowhere cycle = simp (sym (ap (λ (i : Look). i.is_cleared) look_nowhere)) refl
+
       pub freed_nowhere : t ≡ table_freed t n
       freed_nowhere = rw (← view) (seen_missing_freed sound.placed missing)
-
--- ---- what is written of an object
-
-pub change_keeps : (change : Change) (k : Tabled) → (change_of change k).object.no ≡ k.object.no
-change_keeps change k = grind arith
-
-pub change_leaves : (change : Change) (k : Tabled) → (change_of change k).marked ≡ k.marked
-change_leaves change k = grind arith

@@ -16,3 +16,4 @@ pub mod MarkedLemmas
 pub mod TagLemmas
 pub mod NewMarks
 pub mod GotLemmas
+pub mod LookLemmas

@@ -8,7 +8,7 @@ use Rattle.ref_base.specs.Graphs.{Object, Reference, is_there, numbers}
 use Rattle.ref_base.specs.Limits.{is_within_limits}
 use Rattle.ref_base.specs.Orderly.{IsOrderly}
 use Rattle.ref_base.specs.Heaps.{Heap, first_heap, slot_at, reference_at, with_hold, made, one_more, one_fewer, cut}
-use Rattle.ref_base.specs.Heaps.{with_changed, with_reference, got_at}
+use Rattle.ref_base.specs.Heaps.{with_changed, with_reference, got_at, cleared}
 use Rattle.ref_base.specs.CollectorRows.{without, reference_of}
 use Rattle.ref_base.specs.DoomedSets.{refers_into}
 use Rattle.ref_base.specs.Paths.{if_any}
@@ -21,6 +21,7 @@ use Rattle.ref_objects.specs.declared.start.Start.{Start}
 use Rattle.ref_objects.specs.declared.kind.Kind.{Kind}
 use Rattle.ref_objects.specs.declared.kind.Kind.TheVariants as kind
 use Rattle.ref_objects.specs.declared.linked.Linked.{Linked}
+use Rattle.ref_objects.specs.declared.linked.Look.{Look}
 
 -- what a heap knows of an object that the model doesn't: of that of this number, its link, which is the number of the
 -- object behind it in the list that it stands in, or 0, and the cycle in which a worker cleared it last, or 0
@@ -248,6 +249,20 @@ cut_but g spare m s =
     if spare && refers_into (is_unmarked g) (reference_of g.heap (slot_at g.heap m s))
     then g
     else ground_with_heap g (cut g.heap m s)
+
+-- a look at object n: it clears a reference to an object that isn't marked
+abbrev pub look_of : Ground → ℕ → Look
+look_of g n = record { was = linked_in g n; is_cleared = refers_into (is_unmarked g) (reference_at g.heap n) }
+
+-- what it leaves, in this cycle
+abbrev pub ground_looked_at : Ground → ℕ → ℕ → Ground
+ground_looked_at g n cycle =
+    if (look_of g n).is_cleared
+    then record g {
+      heap = with_changed g.heap n (with_reference cleared);
+      tags = with_cleared_tag g.tags n cycle;
+    }
+    else g
 
 -- no object is marked
 abbrev pub without_marks : Ground → Ground

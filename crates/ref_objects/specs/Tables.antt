@@ -5,12 +5,14 @@ use Rattle.std.specs.Prelude.{[], ◌∷◌, ◌++◌, length, map, replicate, O
 use Rattle.std.specs.Int.{from_bool}
 use Rattle.ref_base.specs.Members.{without_first}
 use Rattle.ref_base.specs.Graphs.{Object, Reference, numbers}
+use Rattle.ref_base.specs.DoomedSets.{refers_into}
 use Rattle.ref_base.specs.Strengths.{IsRising}
 use Rattle.ref_base.specs.Heaps.{reference_in, with_reference, with_stamp, cleared}
 use Rattle.ref_objects.specs.Grounds.{fields_in, Tag}
 use Rattle.ref_objects.specs.declared.cell.Change.{Change}
 use Rattle.ref_objects.specs.declared.cell.Change.TheVariants.{Cut, Stamp, ClearedIn, ClearIn, Link}
 use Rattle.ref_objects.specs.declared.linked.Linked.{Linked}
+use Rattle.ref_objects.specs.declared.linked.Look.{Look}
 
 -- an object of the table, how many holds of it are out, whether it is marked, its link, which is the number of another
 -- object or 0, and the cycle in which a worker cleared it last, or 0
@@ -229,3 +231,22 @@ change_of (Stamp stamp) k = on_object (with_reference (with_stamp stamp)) k
 change_of (ClearedIn cycle) k = record k { cleared_in = cycle }
 change_of (ClearIn cycle) k = record k { object = with_reference cleared k.object; cleared_in = cycle }
 change_of (Link to) k = record k { link = to }
+
+-- ---- looks
+
+-- whether there is an object of number n, and it isn't marked
+abbrev pub is_unmarked_at : List Tabled → ℕ → Bool
+is_unmarked_at ks n = is_unmarked_in (tabled_at ks n)
+
+-- a look at an object of this number: it clears a reference to an object that isn't marked
+abbrev pub look_by : List Tabled → ℕ → Option Tabled → Look
+look_by ks n k =
+    record { was = tabled_linked n k; is_cleared = refers_into (is_unmarked_at ks) (tabled_reference k) }
+
+abbrev pub table_look : Table → ℕ → Look
+table_look t n = look_by t.tabled n (tabled_at t.tabled n)
+
+-- what it leaves
+abbrev pub table_looked_at : Table → ℕ → ℕ → Table
+table_looked_at t n cycle =
+    if (table_look t n).is_cleared then changed t n (change_of (ClearIn cycle)) else t

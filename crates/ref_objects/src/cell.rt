@@ -4,10 +4,9 @@ ghost use Rattle.std.specs.Prelude.{◌≡◌, ◌-◌, ◌^◌, ◌<◌, ◌≤
 ghost use Rattle.std.specs.Option.{option_map};
 ghost use Rattle.ref_base.specs.Heaps.{with_field, with_reference, with_stamp, cleared};
 ghost use Rattle.ref_objects.specs.Places.{is_of, is_held_as, is_unmarked_as, unmarked_cell};
-ghost use Rattle.ref_objects.specs.Tables.{made_entry, tabled_fields, has_field, tabled_reference, holds_in};
+ghost use Rattle.ref_objects.specs.Tables.{made_entry, tabled_fields, has_field, holds_in};
 ghost use Rattle.ref_objects.specs.Tables.{on_object, more_held, less_held};
 ghost use Rattle.ref_objects.specs.Tables.{is_marked_in, is_unmarked_in, with_marked};
-ghost use Rattle.ref_objects.specs.Tables.{tabled_cleared_in, tabled_link};
 ghost use Rattle.ref_objects.specs.Tables.{tabled_linked, change_of};
 
 use crate::fields::Fields;
@@ -119,16 +118,6 @@ impl Cell {
         }
     }
 
-    /// What the object has as a reference.
-    pub(crate) fn reference(&self) -> Option<Reference>
-        ensures { result ≡ tabled_reference self.now }
-    {
-        match self.no {
-            Some(_) => self.reference,
-            None => None,
-        }
-    }
-
     /// Whether the object is held.
     pub(crate) fn is_held(&self) -> bool
         ensures { result ≡ nat_lt 0 (holds_in self.now) }
@@ -172,6 +161,7 @@ impl Cell {
     }
 
     /// Writes this of the object.
+    #[inline(always)]
     pub(crate) fn change(&mut self, change: Change)
         ensures { self.new ≡ option_map (change_of change) self.old }
     {
@@ -209,35 +199,19 @@ impl Cell {
         is_held
     }
 
-    /// The cycle in which a worker cleared the object last: 0 where none did, and where there is no object.
-    pub(crate) fn cleared_in(&self) -> u64
-        ensures { result ≡ tabled_cleared_in self.now }
-    {
-        match self.no {
-            Some(_) => self.cleared_in,
-            None => 0,
-        }
-    }
-
-    /// The object's link: 0 where it has none, and where there is no object.
-    pub(crate) fn link(&self) -> u32
-        ensures { result ≡ tabled_link self.now }
-    {
-        match self.no {
-            Some(_) => self.link,
-            None => 0,
-        }
-    }
-
     /// What a list has of the object, which has this number.
+    #[inline(always)]
     pub(crate) fn linked(&self, no: ObjNo) -> Linked
         ensures { result ≡ tabled_linked no self.now }
     {
-        Linked {
-            no,
-            reference: self.reference(),
-            link: self.link(),
-            cleared_in: self.cleared_in(),
+        match self.no {
+            Some(_) => Linked {
+                no,
+                reference: self.reference,
+                link: self.link,
+                cleared_in: self.cleared_in,
+            },
+            None => Linked::missing(no),
         }
     }
 

@@ -15,7 +15,7 @@ mod table;
 pub use fields::Fields;
 pub use hold::Hold;
 pub use kind::Kind;
-pub use linked::Linked;
+pub use linked::{Linked, Look};
 pub use objects::Objects;
 pub use reference::Reference;
 pub use start::Start;

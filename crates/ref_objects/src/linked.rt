@@ -1,10 +1,13 @@
 //! An object as a list has it.
 
+ghost use Rattle.std.specs.Prelude.{◌≡◌, None};
+ghost use Rattle.ref_objects.specs.Tables.{tabled_linked};
+
 use crate::reference::Reference;
 use ref_base::ObjNo;
 
 /// What is read of an object that stands in a list, all at once.
-#[derive(Clone, Copy, Debug, PartialEq, Eq)]
+#[derive(Clone, Copy, Debug)]
 pub struct Linked {
     /// The number of the object.
     pub no: ObjNo,
@@ -14,4 +17,27 @@ pub struct Linked {
     pub link: u32,
     /// The cycle in which a worker cleared it last, or 0.
     pub cleared_in: u64,
+}
+
+impl Linked {
+    /// What a list has of a number of which there is no object.
+    pub(crate) fn missing(no: ObjNo) -> Self
+        ensures { result ≡ tabled_linked no None }
+    {
+        Linked {
+            no,
+            reference: None,
+            link: 0,
+            cleared_in: 0,
+        }
+    }
+}
+
+/// A look at an object that stands in a list.
+#[derive(Clone, Copy, Debug)]
+pub struct Look {
+    /// What the list had of it before.
+    pub was: Linked,
+    /// Whether the look cleared it.
+    pub is_cleared: bool,
 }

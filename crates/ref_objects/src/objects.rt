@@ -25,7 +25,7 @@ use crate::reference::Reference;
 use crate::start::Start;
 use crate::table::Table;
 use ref_base::{Config, Fault, MOST_FIELDS, MutNo, ObjNo, QueueNo, SLOTS, SlotNo, Strength};
-use std::alloc::{AllocError, Allocator, Global};
+use std::alloc::{Allocator, Global};
 use std::marker::Model;
 
 /// The objects of a heap: their fields and references, the slots of the mutators, and the holds that are out.
@@ -75,19 +75,19 @@ impl<A: Allocator + Copy> Objects<A> {
         if config.check().is_err() || !start.is_allowed(&config) {
             return Err(Fault::BadConfig);
         }
+        let Ok(slots) = vec![in alloc; None; SLOTS * config.mutators as usize] else {
+            return Err(Fault::NoMemory);
+        };
         let table = Table::new(alloc, config.cells as usize)?;
-        match empty_slots(alloc, config.mutators as usize) {
-            Ok(slots) => Ok(Objects {
-                config,
-                heap_no,
-                table,
-                slots,
-                holds: 0,
-                clock: 0,
-                next: u64::from(start.obj),
-            }),
-            Err(_) => Err(Fault::NoMemory),
-        }
+        Ok(Objects {
+            config,
+            heap_no,
+            table,
+            slots,
+            holds: 0,
+            clock: 0,
+            next: u64::from(start.obj),
+        })
     }
 
     /// Makes a plain object with so many null fields; the slot holds it. Tried in this order: `NoSuchActor`, `BadField`
@@ -325,17 +325,4 @@ impl<A: Allocator + Copy> Objects<A> {
         }
         Ok(())
     }
-}
-
-// The slots of so many mutators, all empty.
-fn empty_slots<A: Allocator>(alloc: A, mutators: usize) -> Result<Vec<Option<ObjNo>, A>, AllocError>
-    requires { mutators ≤ 8 }
-    ensures { IfOk result (λ v. v.items ≡ replicate (16 * mutators) None) }
-{
-    let count = SLOTS * mutators;
-    let mut slots = Vec::with_capacity(alloc, count)?;
-    for _place in 0..count {
-        slots.push_reserved(None);
-    }
-    Ok(slots)
 }

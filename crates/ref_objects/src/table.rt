@@ -12,7 +12,7 @@ use crate::fields::Fields;
 use crate::index::{
     Entry, cell_of, close_gaps, first_from, held_from, make_room, place_of, unmarked_from,
 };
-use crate::linked::Linked;
+use crate::linked::{Linked, Look};
 use crate::reference::Reference;
 use ref_base::{Fault, ObjNo};
 use std::alloc::{AllocError, Allocator, Global};
@@ -50,14 +50,16 @@ impl<A: Allocator> Model for Table<A> {
 
 impl<A: Allocator + Copy> Table<A> {
     ghost use Rattle.ref_objects.specs.Tables.{IsOrderlyTable, empty_table};
-    ghost use Rattle.ref_objects.specs.Tables.{tabled_at, tabled_reference, tabled_fields, has_field};
+    ghost use Rattle.ref_objects.specs.Tables.{tabled_at, tabled_fields, has_field};
     ghost use Rattle.ref_objects.specs.Tables.{holds_in, holds_of, is_unheld};
     ghost use Rattle.ref_objects.specs.Tables.{first_from, held_from};
     ghost use Rattle.ref_objects.specs.Tables.{on_object, more_held, less_held};
     ghost use Rattle.ref_objects.specs.Tables.{changed, table_freed, made_entry, with_tabled};
     ghost use Rattle.ref_objects.specs.Tables.{is_marked_in, is_unmarked_in, marked_of, unmarked_from, with_marked};
-    ghost use Rattle.ref_objects.specs.Tables.{table_unmarked, tabled_cleared_in, change_of};
-    ghost use Rattle.ref_objects.specs.Tables.{tabled_link, tabled_linked};
+    ghost use Rattle.ref_objects.specs.Tables.{table_unmarked, change_of};
+    ghost use Rattle.ref_objects.specs.Tables.{tabled_linked, is_unmarked_at, table_look};
+    ghost use Rattle.ref_objects.specs.Tables.{table_looked_at};
+    ghost use Rattle.ref_base.specs.DoomedSets.{refers_into};
 
     /// A table of no objects, with so many free cells. The one error is `NoMemory`.
     pub(crate) fn new(alloc: A, room: usize) -> Result<Self, Fault>
@@ -73,9 +75,9 @@ impl<A: Allocator + Copy> Table<A> {
         requires { room ≤ 2 ^ 16 }
         ensures { IfOk result (λ t. t ≡ empty_table room) }
     {
-        let cells = free_cells(alloc, room)?;
         let index = Vec::with_capacity(alloc, 2 * room)?;
         let free = free_places(alloc, room)?;
+        let cells = free_cells(alloc, room)?;
         Ok(Table {
             cells,
             index,
@@ -125,13 +127,6 @@ impl<A: Allocator + Copy> Table<A> {
         }
     }
 
-    /// What the object of this number has as a reference.
-    pub(crate) fn reference(&self, no: ObjNo) -> Option<Reference>
-        ensures { result ≡ tabled_reference (tabled_at self.now.tabled no) }
-    {
-        cell_of(&self.cells, &self.index, no)?.reference()
-    }
-
     /// Whether the object of this number is held.
     pub(crate) fn is_held(&self, no: ObjNo) -> bool
         ensures { result ≡ nat_lt 0 (holds_in (tabled_at self.now.tabled no)) }
@@ -168,6 +163,7 @@ impl<A: Allocator + Copy> Table<A> {
     }
 
     /// Writes this of the object of this number. Nothing changes where there is none.
+    #[inline(always)]
     pub(crate) fn change(&mut self, no: ObjNo, change: Change)
         ensures { self.new ≡ changed self.old no (change_of change) }
     {
@@ -176,39 +172,49 @@ impl<A: Allocator + Copy> Table<A> {
         }
     }
 
-    /// The cycle in which a worker cleared the object of this number last: 0 where none did, and where there is no such
-    /// object.
-    pub(crate) fn cleared_in(&self, no: ObjNo) -> u64
-        ensures { result ≡ tabled_cleared_in (tabled_at self.now.tabled no) }
-    {
-        match cell_of(&self.cells, &self.index, no) {
-            Some(cell) => cell.cleared_in(),
-            None => 0,
-        }
-    }
-
-    /// The link of the object of this number: 0 where it has none, and where there is no such object.
-    pub(crate) fn link_of(&self, no: ObjNo) -> u32
-        ensures { result ≡ tabled_link (tabled_at self.now.tabled no) }
-    {
-        match cell_of(&self.cells, &self.index, no) {
-            Some(cell) => cell.link(),
-            None => 0,
-        }
-    }
-
     /// What a list has of the object of this number: no reference, link or cycle where there is none.
+    #[inline(always)]
     pub(crate) fn linked(&self, no: ObjNo) -> Linked
         ensures { result ≡ tabled_linked no (tabled_at self.now.tabled no) }
     {
         match cell_of(&self.cells, &self.index, no) {
             Some(cell) => cell.linked(no),
-            None => Linked {
-                no,
-                reference: None,
-                link: 0,
-                cleared_in: 0,
-            },
+            None => Linked::missing(no),
+        }
+    }
+
+    /// The same; and where it is a reference to an object that isn't marked, it is cleared, in this cycle.
+    #[inline(always)]
+    pub(crate) fn look_at(&mut self, no: ObjNo, cycle: u64) -> Look
+        ensures answer { result ≡ table_look self.old no }
+        ensures after { self.new ≡ table_looked_at self.old no cycle }
+    {
+        let Some(place) = place_of(&self.cells, &self.index, no) else {
+            return Look {
+                was: Linked::missing(no),
+                is_cleared: false,
+            };
+        };
+        let was = self.cells[place].linked(no);
+        let is_cleared = self.refers_to_unmarked(&was);
+        if is_cleared {
+            self.cells[place].change(Change::ClearIn(cycle));
+        }
+        Look { was, is_cleared }
+    }
+
+    // Whether this is a reference to an object that isn't marked.
+    fn refers_to_unmarked(&self, linked: &Linked) -> bool
+        ensures { result ≡ refers_into (is_unmarked_at self.now.tabled) linked.now.reference }
+    {
+        match linked.reference {
+            Some(
+                Reference {
+                    referent: Some(referent),
+                    ..
+                },
+            ) => self.is_unmarked(referent),
+            _ => false,
         }
     }
 

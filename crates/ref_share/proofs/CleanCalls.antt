@@ -1,20 +1,10 @@
 -- What the calls of a cleaner have made.
-use Rattle.std.proofs.Common.{arith}
-use Rattle.std.proofs.Common.{◌≡◌, ℕ, Option, Some, Result, Ok, Err, IfOk, IfErr, inl, inr}
-use Rattle.ref_share.proofs.Common.{Fault, HoldName, Reply, HeldNotice, CleanView, TakesJob, makes_phantom}
-use Rattle.ref_share.proofs.Common.{HeapView, Releases, Called}
-use Rattle.ref_base.specs.declared.heap_step.HeapStep.TheVariants as heap
+use Rattle.std.proofs.Common.{arith, ◌≡◌, ℕ, Option, Some, Result, Ok, Err, IfOk, IfErr, inl, inr}
+use Rattle.ref_share.proofs.Common.{Fault, HoldName, Reply, HeldNotice, CleanView, TakesJob, makes_phantom, HeapView}
+use Rattle.ref_share.proofs.Common.{Releases}
 use Rattle.ref_base.specs.declared.plain_step.PlainStep.{PlainStep}
-use Rattle.ref_base.specs.declared.reply.Reply.TheVariants as told
-use Rattle.ref_world.specs.declared.heap_machine.HeapReply.TheVariants as replies
 use Rattle.ref_share.specs.Cleanings.{HasMade, HasNotMade, Tries, HasTaken}
 use Rattle.ref_share.specs.HeapCalls.{AsksHeap, Accepted, HoldsSlot}
-
--- a step whose reply tells of no refusal is accepted
-pub accepts_unless_refused : (v w : HeapView) (step : PlainStep) (reply : Reply)
-    → ((fault : Fault) → reply ≡ told.Refused fault → ⊥) → Called v (heap.Plain step) (replies.Told reply) w
-    → Accepted v step w
-accepts_unless_refused v w step reply other called = grind arith
 
 -- a step that is asked of a heap is tried
 pub tries_of_ask : (v w : HeapView) (step : PlainStep) (result : Result Reply Fault) → AsksHeap v step result w

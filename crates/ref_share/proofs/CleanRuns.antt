@@ -1,7 +1,5 @@
 -- The history of a cleaner: which job stands in its table is told by its entries.
-use Rattle.std.proofs.Common.{arith}
-use Rattle.std.proofs.Common.{◌≡◌, ℕ, true, List, [], ◌∷◌, ◌++◌, Option, Some, None, Ok, Err, refl}
-use Rattle.std.proofs.Common.{ap, ◌∙◌}
+use Rattle.std.proofs.Common.{arith, ◌≡◌, ℕ, true, List, [], ◌∷◌, ◌++◌, Option, Some, None, Ok, Err, refl, ap, ◌∙◌}
 use Rattle.std.specs.Cmp.{nat_eq_equiv}
 use Rattle.ref_share.proofs.Common.{new_registry, Leads, entry, Entry, IsCleanTurn}
 use Rattle.ref_queue.specs.CleanTables.{Registry, job_of}

@@ -1,11 +1,8 @@
 -- What a heap answers to the calls that give notices or spend holds. Turns are no fault of its own.
-use Rattle.std.proofs.Common.{arith}
-use Rattle.std.proofs.Common.{◌≡◌, true, false, Bool, Option}
-use Rattle.std.proofs.Common.{Some, None, Result, Ok, Err, refl, sym, subst}
+use Rattle.std.proofs.Common.{arith, ◌≡◌, true, false, Bool, Option, Some, None, Result, Ok, Err, refl, sym, subst}
 use Rattle.std.proofs.lemmas.Bool.{false≢true}
-use Rattle.ref_share.proofs.Common.{NamedStep, unless}
-use Rattle.ref_share.proofs.Common.{Fault, HoldName, TurnsSpent, Reply, ClearHeap, HeldNotice, is_counted}
-use Rattle.ref_share.proofs.Common.{Acts, HeapView, Called}
+use Rattle.ref_share.proofs.Common.{NamedStep, unless, Fault, HoldName, TurnsSpent, Reply, ClearHeap, HeldNotice}
+use Rattle.ref_share.proofs.Common.{is_counted, Acts, HeapView, Called}
 use Rattle.ref_base.specs.Heaps.{Heap}
 use Rattle.ref_base.specs.Refusals.{hold_refusal}
 use Rattle.ref_base.specs.declared.fault.Fault.TheVariants.{ForeignHold}

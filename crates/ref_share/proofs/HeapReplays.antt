@@ -1,7 +1,6 @@
 -- After every history of a heap the collector has the world of its replay, but for what was swept and for what waits to
 -- be cleared; what is gone or doomed is out of reach; and a mark's end has shown what it cleared.
-use Rattle.std.proofs.Common.{arith}
-use Rattle.std.proofs.Common.{◌≡◌, ℕ, List, [], ◌∷◌, ◌++◌, Option, Some, None, inl, inr, refl}
+use Rattle.std.proofs.Common.{arith, ◌≡◌, ℕ, List, [], ◌∷◌, ◌++◌, Some, inl, inr, refl}
 use Rattle.std.proofs.lemmas.List.{append_assoc}
 use Rattle.ref_share.proofs.Common.{State, NamedStep, World, graph_of, Config, Fault, Reply, entry, told_reply}
 use Rattle.ref_share.proofs.Common.{HeapReply, IsHeapTurn, HeapEntry, IsHeapRun, first_state_of}

@@ -2,9 +2,8 @@
 use Rattle.std.proofs.Common.{◌≡◌, ℕ, ◌+◌, ◌<◌, true, List, [], ◌∷◌, ◌++◌, Option, Some, None, is_some, refl, sym}
 use Rattle.std.proofs.Common.{ap, ◌∙◌, arith}
 use Rattle.std.proofs.lemmas.Bool.{false≢true, eq-eqb}
-use Rattle.ref_share.proofs.Common.{State, IsHeapAnswer, tally, NamedStep, has}
-use Rattle.ref_share.proofs.Common.{told_notice, Config, Fault, Reply, Leads, GivesOut, HeapReply}
-use Rattle.ref_share.proofs.Common.{IsHeapTurn, HeapEntry, IsHeapRun, first_state_of}
+use Rattle.ref_share.proofs.Common.{State, IsHeapAnswer, tally, NamedStep, has, told_notice, Config, Fault, Reply}
+use Rattle.ref_share.proofs.Common.{Leads, GivesOut, HeapReply, IsHeapTurn, HeapEntry, IsHeapRun, first_state_of}
 use Rattle.ref_base.specs.CollectorRows.{IsHeapRow}
 use Rattle.ref_base.specs.CountedHolds.{holds_after}
 use Rattle.ref_base.specs.Heaps.{one_more, one_fewer}

@@ -1,6 +1,5 @@
 -- The history of a heap: how each path to what a mark's end dooms leaves what lives.
-use Rattle.std.proofs.Common.{arith}
-use Rattle.std.proofs.Common.{◌≡◌, ℕ, true, List}
+use Rattle.std.proofs.Common.{arith, ◌≡◌, ℕ, true, List}
 use Rattle.ref_share.proofs.Common.{doomed_at, has, graph_of, State, IsHeapTurn}
 use Rattle.ref_base.specs.LeavingEdges.{FirstLeaves, LeavesBy}
 use Rattle.ref_base.specs.Paths.{IsPath, soft_and_weak_referents}

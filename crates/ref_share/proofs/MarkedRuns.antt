@@ -1,6 +1,5 @@
 -- The history of a heap: a notice of a cycle comes after the end of that cycle's mark, which showed what it had to.
-use Rattle.std.proofs.Common.{arith}
-use Rattle.std.proofs.Common.{◌≡◌, ℕ, List, [], ◌∷◌, ◌++◌, inl, inr, sym, subst}
+use Rattle.std.proofs.Common.{arith, ◌≡◌, ℕ, List, [], ◌∷◌, ◌++◌, inl, inr, sym, subst}
 use Rattle.ref_share.proofs.Common.{State, NamedStep, Cycle, Config, Reply, entry, HeldNotice, told_reply}
 use Rattle.ref_share.proofs.Common.{HeapEntry, IsHeapRun, HeapMarkEnded}
 use Rattle.ref_base.proofs.CarryHeaps.{heap_carries}

@@ -1,20 +1,14 @@
 -- The history of a heap: what a mark's end dooms, no call gives from then on.
-use Rattle.std.proofs.Common.{arith}
-use Rattle.std.proofs.Common.{◌≡◌, ℕ, ◌+◌, ◌*◌, true, List, [], ◌∷◌, ◌++◌, min, length, Option, Some}
-use Rattle.std.proofs.Common.{None, inl, inr, sym, ap, ◌∙◌, subst}
-use Rattle.std.specs.List.{AllByRecursion}
+use Rattle.std.proofs.Common.{arith, ◌≡◌, ℕ, true, List, [], ◌∷◌, ◌++◌, Option, Some, None, inl}
+use Rattle.std.proofs.Common.{inr, ap, ◌∙◌}
 use Rattle.std.proofs.lemmas.List.{append-nil}
-use Rattle.ref_share.proofs.Common.{HeapAccepts, HandsOn, EndsMark, doomed_at, State, slot_at}
-use Rattle.ref_share.proofs.Common.{NamedStep, has, heap_refusal, Pending}
-use Rattle.ref_share.proofs.Common.{Config, Own, Cycle, Reply, Leads, entry, told_reply}
+use Rattle.ref_share.proofs.Common.{HeapAccepts, EndsMark, doomed_at, State, NamedStep, has}
+use Rattle.ref_share.proofs.Common.{heap_refusal, Config, Reply, Leads, entry, told_reply}
 use Rattle.ref_share.proofs.Common.{HeapReply, IsHeapTurn, HeapEntry, IsHeapRun, first_state_of}
-use Rattle.ref_base.specs.CollectorRows.{Unhooks, Holds, Scans, ClearsNext, Sweeps}
-use Rattle.ref_base.specs.CollectorRows.{value_reply}
 use Rattle.ref_base.specs.declared.heap_step.HeapStep.TheVariants as heap
 use Rattle.ref_base.specs.declared.plain_step.PlainStep.TheVariants as plain
 use Rattle.ref_base.specs.declared.reply.Reply.TheVariants as told
 use Rattle.ref_base.proofs.AgreeHeaps.{gone_after}
-use Rattle.ref_base.proofs.ApartWorlds.{OfValue, IsClosed}
 use Rattle.ref_base.proofs.ClosedRows.{named_is}
 use Rattle.ref_base.proofs.AgreeRuns.{gone_next}
 use Rattle.ref_base.proofs.HeapTurns.{IsTurn, accepted, heap_kind}

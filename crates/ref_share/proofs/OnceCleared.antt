@@ -1,7 +1,6 @@
 -- Each row of a heap keeps that what a worker has cleared no worker clears again: it has no referent any more, and
 -- doesn't wait to be cleared.
-use Rattle.std.proofs.Common.{arith}
-use Rattle.std.proofs.Common.{◌≡◌, ℕ, ◌+◌, Bool, true, false, ◌==◌, ◌&&◌, List, [], ◌∷◌, drop, Option, Some}
+use Rattle.std.proofs.Common.{arith, ◌≡◌, ℕ, ◌+◌, Bool, true, false, ◌==◌, ◌&&◌, List, [], ◌∷◌, drop, Option, Some}
 use Rattle.std.proofs.Common.{None, inl, inr, refl, sym, ap, ◌∙◌, subst}
 use Rattle.std.specs.Prelude.{slice_set}
 use Rattle.std.proofs.lemmas.Bool.{cases_Bool, and_right, or_parts, or_right, false≢true}

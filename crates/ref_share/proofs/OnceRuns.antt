@@ -6,11 +6,10 @@ use Rattle.std.specs.List.{IsDistinct, AllByRecursion}
 use Rattle.std.proofs.lemmas.Map.Keys.{IsDistinct-cons}
 use Rattle.std.proofs.lemmas.Bool.{cases_Bool, eq-eqb, eqb-true, false≢true, false_from_ne_true}
 use Rattle.std.proofs.lemmas.List.{map-append}
-use Rattle.ref_share.proofs.Common.{is_waiting, HandsOn, HeapAccepts, State, joined, tally, NamedStep}
-use Rattle.ref_share.proofs.Common.{has, AreDistinct, heap_refusal, pended, without_pending, told_notice}
-use Rattle.ref_share.proofs.Common.{World, Pending, pending_of, Cause, Cycle, Config, Fault, Reply}
-use Rattle.ref_share.proofs.Common.{told_reply, GivesOut, HeapReply, HeapEntry, IsHeapRun}
-use Rattle.ref_share.proofs.Common.{gathered, all_handed_on, heap_replayed}
+use Rattle.ref_share.proofs.Common.{is_waiting, HandsOn, HeapAccepts, State, joined, tally, NamedStep, has, AreDistinct}
+use Rattle.ref_share.proofs.Common.{heap_refusal, pended, without_pending, told_notice, World, Pending, pending_of}
+use Rattle.ref_share.proofs.Common.{Cause, Cycle, Config, Fault, Reply, told_reply, GivesOut, HeapReply, HeapEntry}
+use Rattle.ref_share.proofs.Common.{IsHeapRun, gathered, all_handed_on, heap_replayed}
 use Rattle.ref_base.specs.Collectors.{first_state_of}
 use Rattle.ref_base.specs.Worlds.{pending_numbers}
 use Rattle.ref_base.specs.declared.heap_step.HeapStep.TheVariants as heap

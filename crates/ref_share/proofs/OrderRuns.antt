@@ -1,15 +1,12 @@
 -- The history of a heap: each worker hands references on in the order in which it cleared them.
-use Rattle.std.proofs.Common.{arith}
-use Rattle.std.proofs.Common.{◌≡◌, ℕ, true, List, [], ◌∷◌, ◌++◌, Some, None}
-use Rattle.std.proofs.Common.{inl, inr, refl}
+use Rattle.std.proofs.Common.{arith, ◌≡◌, ℕ, true, List, [], ◌∷◌, ◌++◌, Some, None, inl, inr, refl}
 use Rattle.std.specs.Prelude.{slice_set}
 use Rattle.std.proofs.lemmas.Bool.{eq-eqb}
 use Rattle.std.proofs.lemmas.List.{append-nil}
 use Rattle.ref_share.proofs.Common.{HandsOn, is_subsequence, State, reference_at, registered_in, NamedStep}
-use Rattle.ref_share.proofs.Common.{without_pending, told_notice, clearing_order, Pending, pending_of}
-use Rattle.ref_share.proofs.Common.{Config, Fault, Reply, Row, HeldNotice, as_notice, told_reply, GivesOut, HeapReply}
-use Rattle.ref_share.proofs.Common.{HeapEntry, IsHeapRun, world_step, row_of, rows_of, handed_of}
-use Rattle.ref_share.proofs.Common.{handed_in}
+use Rattle.ref_share.proofs.Common.{without_pending, told_notice, clearing_order, Pending, pending_of, Config, Fault}
+use Rattle.ref_share.proofs.Common.{Reply, Row, HeldNotice, as_notice, told_reply, GivesOut, HeapReply, HeapEntry}
+use Rattle.ref_share.proofs.Common.{IsHeapRun, world_step, row_of, rows_of, handed_of, handed_in}
 use Rattle.ref_base.specs.ClearingOrder.{if_worked}
 use Rattle.ref_base.specs.WorkerOrder.{is_registered, cleared_in}
 use Rattle.ref_base.specs.Worlds.{hand_of}

@@ -1,8 +1,7 @@
 -- The seats of queues, place by place.
 use Rattle.std.proofs.Common.{◌≡◌, ℕ, zero, suc, ◌<◌, List, [], ◌∷◌, length, Option, Some, ◌⊎◌, inl, inr, refl, ap, sym}
-use Rattle.std.proofs.Common.{subst, ◌∙◌, ◌≢◌, arith}
+use Rattle.std.proofs.Common.{subst, ◌∙◌, ◌≢◌, arith, Result, Ok, Err, IfErr, true}
 use Rattle.std.specs.Prelude.{slice_get, slice_set, unwrap_or}
-use Rattle.std.proofs.Common.{Result, Ok, Err, IfErr, true}
 use Rattle.std.proofs.lemmas.Bool.{false≢true}
 use Rattle.ref_share.proofs.Common.{Fault, BadQueue, HeldNotice, Put, AreSeats, PutsAt, PutsNotice, IsQueueSeat}
 use Rattle.ref_share.proofs.Common.{queue_view, SharedQueue, QueueSeat}

@@ -1,12 +1,11 @@
 -- Calls of a seat, one after the other; and polls that found nothing, until one answers.
-use Rattle.std.proofs.Common.{◌≡◌, ℕ, zero, suc, List, [], ◌∷◌, ◌++◌, refl, ap, ◌∙◌, subst, replicate, Result, Ok, Err}
-use Rattle.std.proofs.Common.{Some, None, rules}
+use Rattle.std.proofs.Common.{◌≡◌, ℕ, zero, suc, List, [], ◌∷◌, ◌++◌, refl, ap, ◌∙◌, subst, replicate}
+use Rattle.std.proofs.Common.{None, rules}
 use Rattle.std.proofs.lemmas.List.{append_assoc}
-use Rattle.ref_share.proofs.Common.{TurnsSpent, entry, Extends, Longer, Entry, View, empty_polls, QueueView, QueueEntry}
-use Rattle.ref_share.proofs.Common.{Made, Took, Closed, ShareFault, Refused}
+use Rattle.ref_share.proofs.Common.{entry, Extends, Longer, Entry, View, empty_polls, QueueView, QueueEntry}
+use Rattle.ref_share.proofs.Common.{Made}
 use Rattle.ref_queue.specs.declared.queue.Polled.TheVariants as answers
-use Rattle.ref_share.specs.QueueCalls.{PollsOnce, PollsTo, polled}
-use Rattle.ref_share.specs.declared.answers.Polled.{Polled}
+use Rattle.ref_share.specs.QueueCalls.{PollsOnce, polled}
 use Rattle.ref_share.specs.declared.queue_machine.QueueStep.TheVariants as steps
 use Rattle.ref_share.specs.declared.queue_machine.QueueReply.TheVariants as replies
 
@@ -53,14 +52,3 @@ module _ (v u w : QueueView) (k : ℕ) (made : Made v (empty_polls v k) u) where
   one_more_empty polls =
       subst (λ (calls : List QueueEntry). Made v calls w) (one_more k (polled v answers.Empty))
       (made_more v u w (empty_polls v k) steps.Poll (replies.Polled answers.Empty) made polls)
-
-  -- a poll that ends the waiting
-  pub last_poll : (MayGo : ℕ → Type 0) (TimesOut : QueueView → Type 0) (result : Result Polled ShareFault) → MayGo k
-      → PollsOnce u (Some result) w → PollsTo v MayGo TimesOut result w
-  last_poll MayGo TimesOut (Ok (Took notice)) may polls =
-      (k, may, made_more v u w (empty_polls v k) steps.Poll (replies.Polled (answers.Took notice)) made polls)
-  last_poll MayGo TimesOut (Ok Closed) may polls =
-      (k, may, made_more v u w (empty_polls v k) steps.Poll (replies.Polled answers.Closed) made polls)
-  last_poll MayGo TimesOut (Err (Refused TurnsSpent)) may polls =
-      (k, may, made_longer v u w (empty_polls v k) made polls.0, polls.1)
-  last_poll MayGo TimesOut result may polls = absurd polls

@@ -1,5 +1,4 @@
--- What a cleaner's thread has called, round by round (this project's profile; the threads of `java.lang.ref.Cleaner` of
--- Java SE 17).
+-- What a cleaner's thread has called, round by round (this project's profile; `java.lang.ref.Cleaner` of Java SE 17).
 use Rattle.std.specs.Prelude.{◌≡◌, ℕ, ◌+◌, ◌⊎◌, List, [], ◌∷◌, ◌++◌, length, Option, Some, None, Result, Ok, Err}
 use Rattle.ref_base.specs.declared.heap_step.HeapStep.TheVariants as heap
 use Rattle.ref_base.specs.declared.heap_step.HoldName.{HoldName}

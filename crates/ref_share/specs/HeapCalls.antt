@@ -29,6 +29,11 @@ abbrev pub Declined : HeapView → PlainStep → Fault → HeapView → Type 0
 Declined v step fault w =
     Called v (heap.Plain step) (replies.Told (told.Refused fault)) w ⊎ ((fault ≡ TurnsSpent) × RanOut v w)
 
+-- the one or the other
+abbrev pub Performs : HeapView → PlainStep → Result Reply Fault → HeapView → Type 0
+Performs v step (Ok reply) w = (is_refusal reply ≡ false) × Called v (heap.Plain step) (replies.Told reply) w
+Performs v step (Err fault) w = Declined v step fault w
+
 -- the step is the heap's one call, and answers so; or no turn is left for it
 abbrev pub AsksHeap : HeapView → PlainStep → Result Reply Fault → HeapView → Type 0
 AsksHeap v step (Ok reply) w = Called v (heap.Plain step) (replies.Told reply) w

@@ -1,5 +1,4 @@
 -- The heap's own machine, one step of it in one turn (this project's profile).
-use Rattle.std.specs.Prelude.{◌≡◌}
 use Rattle.ref_base.specs.Collectors.{State}
 use Rattle.ref_base.specs.CollectorRows.{IsHeapRow}
 use Rattle.ref_base.specs.HeapSteps.{NamedStep}

@@ -18,6 +18,7 @@ pub mod CleanMachines
 pub mod CleanSeats
 pub mod HeapCalls
 pub mod Answers
+pub mod CleanedHeaps
 pub mod Cleanings
 pub mod CleanLoops
 pub mod CleanHistories

@@ -21,7 +21,7 @@ pub enum ShareFault {
 
 impl ShareFault {
     ghost use Rattle.std.specs.Prelude.{◌≡◌};
-    ghost use Rattle.ref_share.specs.Answers.{given_up};
+    ghost use Rattle.ref_share.specs.Answers.{given_up, fault_of};
 
     /// What to do about it: nothing where another turn was open, since the call can be made again; else to end with
     /// this fault. What came back is given up: its heap, if it is still there, counts it for good. Takes no memory.
@@ -39,6 +39,17 @@ impl ShareFault {
                 hold.leak();
                 Err(fault)
             }
+        }
+    }
+
+    /// The fault of a call that waits, to end with; what came back is given up as by `give_up`. `Busy`, which no call
+    /// that waits answers, becomes `TurnsSpent`. Takes no memory.
+    pub fn into_fault(self) -> Fault
+        ensures { result ≡ fault_of self }
+    {
+        match self.give_up() {
+            Ok(()) => Fault::TurnsSpent,
+            Err(fault) => fault,
         }
     }
 }

@@ -12,7 +12,7 @@ use crate::{
     CleanReply, CleanSeat, CleanStep, Cleanable, Cleaned, HeapSeat, ShareFault, SharedCleaner,
     SharedHeap,
 };
-use ref_base::{Fault, MutNo, ObjNo, PlainStep, QueueNo, Reply, SLOTS, SlotNo, Strength};
+use ref_base::{Fault, MutNo, ObjNo, PlainStep, QueueNo, SLOTS, SlotNo, Strength};
 use ref_objects::Hold;
 use ref_queue::Job;
 use ref_turn::TurnFault;
@@ -177,9 +177,7 @@ fn refer<R: Wait, A: Allocator + Copy>(
         queue: Some(queue),
         fields: 0,
     };
-    if let Reply::Refused(fault) = heap.ask(rt, seat, step)? {
-        return Err(fault);
-    }
+    heap.perform(rt, seat, step)?;
     heap.hold(rt, seat, mutator, slot)
 }
 

@@ -1,13 +1,15 @@
 //! From the heap to a queue: a notice that the heap gives is put into its own queue, by one thread, in turns of its
 //! own. No lock is held between them.
 
-ghost use Rattle.std.specs.Prelude.{◌≡◌};
+ghost use Rattle.std.specs.Prelude.{◌≡◌, List, Ok, Err, IfOk, IfErr};
 ghost use Rattle.ref_base.specs.declared.heap_step.HeapStep.TheVariants as steps;
 ghost use Rattle.ref_base.specs.HeapSteps.{NamedStep};
 ghost use Rattle.ref_share.specs.HeapSeats.{HeapView, heap_view, IsHeapSeat};
 ghost use Rattle.ref_share.specs.HeapCalls.{GivesNotice};
 ghost use Rattle.ref_share.specs.Deliveries.{AreSeats, PutsAt, Sends, Delivers, GoesBack, was_added};
 ghost use Rattle.ref_share.specs.QueueCalls.{ComesBack};
+ghost use Rattle.ref_share.specs.QueueSeats.{QueueSeat};
+ghost use Rattle.ref_share.specs.declared.answers.Delivery.TheVariants.{Nothing};
 
 use crate::{Delivery, HeapSeat, QueueSeat, ShareFault, SharedHeap, SharedQueue};
 use ref_base::{Fault, MutNo, ObjNo, Parcel, SlotNo, WorkerNo};
@@ -70,6 +72,35 @@ pub fn deliver_one<R: Wait, A: Allocator + Copy>(
 {
     let given = heap.hand(rt, heap_seat, worker);
     deliver(rt, heap, heap_seat, queues, queue_seats, given)
+}
+
+/// Hands on all that is pending of the worker, as `deliver_one` does one after the other, until there is `Nothing`.
+///
+/// Turns, lists and faults are as those of `deliver_one`; with the first fault it ends, and what is pending then stays
+/// so.
+pub fn deliver_all<R: Wait, A: Allocator + Copy>(
+    rt: &R,
+    heap: &SharedHeap<A>,
+    heap_seat: &mut HeapSeat<A>,
+    queues: &[SharedQueue<A>],
+    queue_seats: &mut [QueueSeat<A>],
+    worker: WorkerNo,
+) -> Result<(), ShareFault>
+    requires { IsHeapSeat heap.now heap_seat.old × AreSeats queues.now queue_seats.old }
+    ensures seats { IsHeapSeat heap.now heap_seat.new × AreSeats queues.now queue_seats.new }
+    ensures ok { IfOk result (λ _. (v : HeapView) × (seats : List QueueSeat)
+        × Delivers (steps.Hand worker) v queues.now seats (Ok Nothing) (heap_view heap_seat.new) queue_seats.new) }
+    ensures err { IfErr result (λ fault. (v : HeapView) × (seats : List QueueSeat)
+        × Delivers (steps.Hand worker) v queues.now seats (Err fault) (heap_view heap_seat.new) queue_seats.new) }
+{
+    for _ in rt.forever() {
+        match deliver_one(rt, heap, heap_seat, queues, queue_seats, worker) {
+            Ok(Delivery::Nothing) => break,
+            Ok(_) => {}
+            Err(fault) => return Err(fault),
+        }
+    }
+    Ok(())
 }
 
 // What the heap has given goes into its queue.

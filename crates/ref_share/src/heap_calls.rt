@@ -1,10 +1,10 @@
 //! Calls of a shared heap by what they answer.
 
-ghost use Rattle.std.specs.Prelude.{◌≡◌, true, false, IfOk, IfErr};
+ghost use Rattle.std.specs.Prelude.{◌≡◌, true, false, Ok, Err, IfOk, IfErr};
 ghost use Rattle.ref_base.specs.declared.fault.Fault.TheVariants.{TurnsSpent};
 ghost use Rattle.ref_base.specs.declared.heap_step.HeapStep.TheVariants as steps;
 ghost use Rattle.ref_share.specs.HeapSeats.{heap_view, IsHeapSeat};
-ghost use Rattle.ref_share.specs.HeapCalls.{AsksHeap, HoldsSlot, asks_for_a_notice};
+ghost use Rattle.ref_share.specs.HeapCalls.{AsksHeap, Performs, HoldsSlot, asks_for_a_notice};
 ghost use Rattle.ref_share.specs.HeapCalls.{GivesNotice, TellsOfNone, takes_a_hold, Spends, Adopts, Releases};
 ghost use Rattle.ref_share.specs.HeapMachines.{Acts};
 ghost use Rattle.ref_share.specs.SeatCalls.{Called, RanOut};
@@ -137,6 +137,29 @@ impl<A: Allocator + Copy> SharedHeap<A> {
         self.spend(rt, seat, HeapStep::Release { hold })
     }
 
+    /// Releases the hold, and gives it up where it would come back: then the heap counts it for good. The faults are
+    /// those of `release`.
+    pub fn give_back<R: Wait>(
+        &self,
+        rt: &R,
+        seat: &mut HeapSeat<A>,
+        hold: Hold,
+    ) -> Result<(), Fault>
+        requires { IsHeapSeat self.now seat.old }
+        ensures seat { IsHeapSeat self.now seat.new }
+        ensures ok { IfOk result (λ _. Releases (heap_view seat.old) hold (Ok tt) (heap_view seat.new)) }
+        ensures err { IfErr result (λ fault.
+            Releases (heap_view seat.old) hold (Err (fault, hold)) (heap_view seat.new)) }
+    {
+        match self.release(rt, seat, hold) {
+            Ok(()) => Ok(()),
+            Err((fault, hold)) => {
+                hold.leak();
+                Err(fault)
+            }
+        }
+    }
+
     // Does a step that spends a hold, which comes back where it is not spent.
     #[inline(always)]
     fn spend<R: Wait>(
@@ -177,6 +200,23 @@ impl<A: Allocator + Copy> SharedHeap<A> {
         match self.without_hold(rt, seat, HeapStep::Plain(step))? {
             HeapReply::Told(reply) => Ok(reply),
             _reply => unreachable!(),
+        }
+    }
+
+    /// Does such a step as `ask` does, and answers a refusal of the heap as an `Err`, so that `?` passes it on.
+    pub fn perform<R: Wait>(
+        &self,
+        rt: &R,
+        seat: &mut HeapSeat<A>,
+        step: PlainStep,
+    ) -> Result<Reply, Fault>
+        requires { IsHeapSeat self.now seat.old }
+        ensures seat { IsHeapSeat self.now seat.new }
+        ensures performs { Performs (heap_view seat.old) step result (heap_view seat.new) }
+    {
+        match self.ask(rt, seat, step)? {
+            Reply::Refused(fault) => Err(fault),
+            reply => Ok(reply),
         }
     }
 

@@ -21,9 +21,3 @@ module _ (config : Config) (stands : HeapStands (first_clear_heap config 0 1 0) 
     reached = record { config = config; rows = []; state = first_state config; run = refl; stands = first_stands };
     numbered = λ q. ap (λ (l : Lists Notice). l.queue) (first_queue config q);
   }
-
--- what is made of new parts is the world at first
-pub made_core : (config : Config) {heap : WorldHeap} {hands : Hands} {queues : List (Lists Notice)}
-    → heap ≡ first_clear_heap config 0 1 0 → hands ≡ first_hands config → queues ≡ new_queues 0 config.queues
-    → record { heap = heap; hands = hands; queues = queues } ≡ first_core config
-made_core config {heap} {hands} {queues} heap_is hands_are queues_are = rw (heap_is, hands_are, queues_are) refl

@@ -47,11 +47,6 @@ hand_row c k free a stands =
 
 -- ---- a full hand: its first notice is a hold that the heap counts, so an adopt and a release are accepted
 
--- a hand that is taken from is there
-pub there_from : (hands : Hands) (who : Actor) → emptying_refusal hands who ≡ None → has_hand hands who ≡ true
-there_from hands who accepted =
-    (unless_passes (has_hand hands who) NoSuchActor (empty_hand_refusal (hand_in hands who)) accepted).0
-
 -- what is accepted gives no hold back
 pub adopted_told : (number m d : ℕ) (hold : HoldName) (reply : HeapReply) (n : ℕ)
     → GivesOut number (heap.Adopt m d hold) reply → told_reply reply ≡ replies.Object n → IsTold reply

@@ -16,10 +16,6 @@ use Rattle.ref_world.proofs.ReachedCores.{same_config, same_hand, same_actors, q
 
 -- ---- tests
 
-pub empty_from : (hand : List Notice) → unless_full hand None ≡ None → hand ≡ []
-empty_from [] is = refl
-empty_from (notice ∷ rest) is = absurd cc
-
 -- a mutator and a queue come before what is later
 called : (mutator queue : Bool) (told : Fault) (later : Option Fault)
     → unless mutator NoSuchActor (unless queue BadQueue None) ≡ Some told
@@ -47,30 +43,6 @@ module _ (c : Core) (a : State) (stands : Stands c a) where
 pub refused_row : (c : Core) (step : Step) (fault : Fault)
     → ((a : State) → Stands c a → refusal a step ≡ Some fault) → IsRowOf c step (replies.Refused fault) c
 refused_row c step fault refuses a stands = (a, rw (refuses a stands) (refl, refl), stands)
-
--- by a slot that isn't there
-no_slot : (c : Core) (m s : ℕ) (fault : Fault) → drop_refusal (model_heap c.heap) m s ≡ Some fault
-    → (later : Option Fault) (a : State) → Stands c a
-    → unless (has_slot a.world.heap m s) NoSuchActor later ≡ Some fault
-no_slot c m s fault refused later a stands = grind arith
-
-pub no_slot_of_unhook : (c : Core) (m s : ℕ) (fault : Fault) → drop_refusal (model_heap c.heap) m s ≡ Some fault
-    → IsRowOf c (steps.Unhook m s) (replies.Refused fault) c
-no_slot_of_unhook c m s fault refused = search (refused_row, no_slot)
-
-pub no_slot_of_adopt : (c : Core) (m d : ℕ) (fault : Fault) → drop_refusal (model_heap c.heap) m d ≡ Some fault
-    → IsRowOf c (steps.Adopt m d) (replies.Refused fault) c
-no_slot_of_adopt c m d fault refused = search (refused_row, no_slot)
-
-module _ (c : Core) (m q : ℕ) where
-  -- by a mutator or a queue that isn't there
-  pub no_queue_of_poll : (fault : Fault) → calling_refusal c m q ≡ Some fault
-      → IsRowOf c (steps.Poll m q) (replies.Refused fault) c
-  no_queue_of_poll fault refused = grind arith
-
-  pub no_queue_of_close : (fault : Fault) → calling_refusal c m q ≡ Some fault
-      → IsRowOf c (steps.Close m q) (replies.Refused fault) c
-  no_queue_of_close fault refused = grind arith
 
 module _ (c : Core) (reached : IsReached c) where
   -- by an actor that isn't there, or a hand that is full

@@ -128,9 +128,6 @@ pub content_before_cr : (line : TextLine) (front : List ℕ) (last : ℕ) → li
     → line.bytes ≡ front ++ last ∷ [] → last ≡ 13 → content_of line ≡ front
 content_before_cr line front last ended bytes_are is_cr = simp (ended, bytes_are, is_cr) (without_last_cr front)
 
-pub content_whole : (line : TextLine) → line.is_ended ≡ false → content_of line ≡ line.bytes
-content_whole line open_end = simp open_end refl
-
 pub content_kept : (line : TextLine) (front : List ℕ) (last : ℕ) → line.is_ended ≡ true
     → line.bytes ≡ front ++ last ∷ [] → (last == 13) ≡ false → content_of line ≡ line.bytes
 content_kept line front last ended bytes_are isnt = simp (ended, bytes_are) (with_other_last front last isnt)

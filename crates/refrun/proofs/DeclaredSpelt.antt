@@ -1,6 +1,5 @@
 -- Words that spell what a line says have no fault.
-use Rattle.std.proofs.Common.{◌≡◌, ℕ, ◌+◌, ◌≤◌, true, List, [], ◌∷◌, length, None, refl}
-use Rattle.std.proofs.Common.{arith}
+use Rattle.std.proofs.Common.{◌≡◌, ℕ, ◌+◌, ◌≤◌, true, List, [], ◌∷◌, length, None, refl, arith}
 use Rattle.std.proofs.lemmas.List.{take_all}
 use Rattle.refrun.proofs.Common.{words_fault, declaration_fault, number_in, are_operands}
 use Rattle.refrun.proofs.Common.{Declared, Root, Plain, Reference, SpellsDeclared, declared_no}

@@ -1,12 +1,11 @@
 -- A text that spells a script, or declares a graph, has no fault.
-use Rattle.std.proofs.Common.{arith}
+use Rattle.std.proofs.Common.{arith, ◌≡◌, ℕ, ◌+◌, true, List, [], ◌∷◌, Some, None, refl, inl, inr}
 use Rattle.refrun.proofs.Common.{Graph, Declared, NoneTwice, SpellAll, SpellGraph, DeclaresGraph, GraphHeader}
 use Rattle.refrun.proofs.Common.{Declarations, Place, place_after, place_fault, graph_fault, Config, ScriptStep}
 use Rattle.refrun.proofs.Common.{TextLine, lines_of, ScriptHeader, Configuration, Steps, plain_fault, first_fault}
 use Rattle.refrun.proofs.Common.{script_fault, is_short, is_plain_line, says_nothing, line_words, told, config_of}
 use Rattle.refrun.proofs.Common.{SpellSteps, SpellScript, IsScript}
 use Rattle.refrun.proofs.DeclaredSpelt.{declared_without_fault, number_of_words}
-use Rattle.std.proofs.Common.{◌≡◌, ℕ, ◌+◌, true, List, [], ◌∷◌, Some, None, refl, inl, inr}
 use Rattle.std.specs.Char.{is_ascii}
 use Rattle.std.specs.List.{list_all}
 use Rattle.std.proofs.lemmas.Bool.{cases_Bool, and_parts}

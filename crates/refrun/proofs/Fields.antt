@@ -56,9 +56,6 @@ pub record HasFields (words : List (List ℕ)) (fields : List (Option ℕ)) (res
   pub spelt : SpellFields read fields
   pub most : length fields ≤ 8
 
-pub has_no_fields : (words : List (List ℕ)) → HasFields words [] words
-has_no_fields words = record { read = []; parts = refl; spelt = tt; most = omega arith }
-
 pub has_field_more : (words rest behind : List (List ℕ)) (fields more : List (Option ℕ)) (word : List ℕ)
     (field : Option ℕ) → HasFields words fields rest → rest ≡ word ∷ behind → length fields < 8
     → SpellsObjectOrNone word field → more ≡ fields ++ field ∷ [] → HasFields words more behind

@@ -1,19 +1,17 @@
 -- How the reading of a graph text goes on by one line.
-use Rattle.std.proofs.Common.{arith}
-use Rattle.std.proofs.Common.{◌≡◌, ℕ, ◌+◌, ◌≤◌, ◌||◌, ◌==◌, Bool, true, false, List, [], ◌∷◌, ◌++◌, length, Option}
-use Rattle.std.proofs.Common.{Some, None, OnSome, IfNone, refl, sym, ap, ◌∙◌, append_assoc}
+use Rattle.std.proofs.Common.{arith, ◌≡◌, ℕ, ◌+◌, ◌≤◌, ◌||◌, ◌==◌, Bool, true, false, List, [], ◌∷◌, ◌++◌, length}
+use Rattle.std.proofs.Common.{Option, Some, None, OnSome, IfNone, refl, sym, ap, ◌∙◌, append_assoc}
 use Rattle.std.specs.Borrow.{Bor}
 use Rattle.std.specs.List.{list_all}
 use Rattle.std.proofs.lemmas.List.{append-nil}
-use Rattle.refrun.proofs.Common.{Graph, plain_object, declaration_fault, number_in, Declared, Root, Plain, Reference}
+use Rattle.refrun.proofs.Common.{Graph, plain_object, number_in, Declared, Root, Plain, Reference}
 use Rattle.refrun.proofs.Common.{SpellsDeclared, declared_no, with_declared_no, NoneTwice, declared_graph, SpellAll}
-use Rattle.refrun.proofs.Common.{DeclareGraph, FailsFor, in_front, fault_from, Finds, lines_of, words_of, Place}
-use Rattle.refrun.proofs.Common.{GraphHeader, Declarations, place_fault, fault_or, first_fault, is_plain_line, told}
+use Rattle.refrun.proofs.Common.{in_front, fault_from, Finds, lines_of, words_of, Place}
+use Rattle.refrun.proofs.Common.{Declarations, place_fault, fault_or, first_fault, is_plain_line, told}
 use Rattle.refrun.proofs.Common.{LineFault, DoubleObject, TextFault, Told}
 use Rattle.ref_base.specs.Graphs.{Object, empty_graph, is_there, with_object, reference_object}
 use Rattle.refrun.specs.Declarations.{is_declared, with_declared, with_all}
 use Rattle.refrun.specs.GraphReading.{AreNumbersOf, has_object, AddsObject, AddsDeclared, AddsAll, FailsAfter}
-use Rattle.refrun.specs.GraphTexts.{is_graph_header}
 use Rattle.refrun.specs.declared.fault.TextFault.TheVariants as texts
 use Rattle.refrun.proofs.DeclaredSpelt.{declared_without_fault, number_of_words}
 use Rattle.refrun.proofs.LineLemmas.{onsome_before}
@@ -42,20 +40,10 @@ seen_there seen g (Some n) h = h n
 
 -- ---- one line
 
--- a line with a fault of its own
-pub fails_by_words : (words : List (List ℕ)) (k : ℕ) (g : Graph) (fault : LineFault)
-    → declaration_fault words ≡ Some fault → FailsAfter words k g (texts.Line k fault)
-fails_by_words words k g fault h seen numbers = rw h refl
-
 -- a line that says what can't be said a second time
 pub fails_by_double : (words : List (List ℕ)) (k : ℕ) (g h : Graph) (d : Declared) (added : Bool)
     → SpellsDeclared words d → AddsObject g h d added → added ≡ false → FailsAfter words k g (texts.Line k DoubleObject)
 fails_by_double words k g h d added spelt adds refused seen numbers = grind (arith, declared_without_fault)
-
--- a line that says something new
-pub adds_declared : (words : List (List ℕ)) (g h : Graph) (d : Declared) (added : Bool) → SpellsDeclared words d
-    → AddsObject g h d added → added ≡ true → AddsDeclared words g h
-adds_declared words g h d added spelt adds done = grind arith
 
 -- ---- line by line
 
@@ -153,12 +141,6 @@ has_declared_all text number found g r found_is =
       r.plain ∙ rw none refl,
     )
 
--- the fault of a line that adds nothing is that of the text
-pub has_declared_fault : (text : List ℕ) (number : ℕ) (found : Told) (g : Graph) (c : Bor (List ℕ)) (e : TextFault)
-    → HasDeclared text number found g → found.content ≡ Some c → FailsAfter (words_of c.now) found.number g e
-    → FailsFor e (first_fault (Declarations []) (number + 1) (lines_of text))
-has_declared_fault text number found g c e r found_is fails = grind arith
-
 -- a fault behind it is that of the text too
 pub has_declared_later_fault : (text : List ℕ) (number : ℕ) (found : Told) (g h : Graph) (c : Bor (List ℕ))
     (e : TextFault) → HasDeclared text number found g → found.content ≡ Some c → AddsDeclared (words_of c.now) g h
@@ -167,16 +149,3 @@ pub has_declared_later_fault : (text : List ℕ) (number : ℕ) (found : Told) (
 has_declared_later_fault text number found g h c e r found_is a later = grind (arith, declared_without_fault)
 
 -- ---- behind the header
-
--- the fault of the lines that follow is that of the text
-pub behind_graph_header : (text : List ℕ) (found : Told) (c : Bor (List ℕ)) (e : TextFault) → Finds text 0 found
-    → found.content ≡ Some c → is_graph_header (words_of c.now) ≡ true
-    → FailsFor e (first_fault (Declarations []) (found.number + 1) (lines_of found.rest.now))
-    → FailsFor e (first_fault GraphHeader 1 (lines_of text))
-behind_graph_header text found c e f found_is header fails = grind arith
-
--- what the lines that follow declare is what the text declares
-pub declares_behind : (text : List ℕ) (found : Told) (c : Bor (List ℕ)) (g : Graph) → Finds text 0 found
-    → found.content ≡ Some c → is_graph_header (words_of c.now) ≡ true → AddsAll (told (lines_of found.rest.now)) g
-    → list_all is_plain_line (lines_of found.rest.now) ≡ true → DeclareGraph (lines_of text) g
-declares_behind text found c g f found_is header adds plain = grind arith

@@ -1,13 +1,10 @@
 -- Rows of jobs, from each state that the world stands for.
-use Rattle.std.proofs.Common.{arith}
-use Rattle.std.proofs.Common.{◌≡◌, ℕ, ◌<◌, List, [], ◌∷◌, ◌++◌, length, get_or, Option, Some, None, Ok, Err, refl}
-use Rattle.std.proofs.Common.{ap, ◌∙◌}
-use Rattle.std.specs.Prelude.{All, HoldsAt, IsPermutation, MatchOption, swap_remove}
-use Rattle.std.specs.List.{AllWithin}
-use Rattle.std.proofs.lemmas.List.Elements.{All-from_all_within}
+use Rattle.std.proofs.Common.{arith, ◌≡◌, ℕ, ◌<◌, List, [], ◌∷◌, ◌++◌, length, get_or, Some, None, Ok, Err}
+use Rattle.std.proofs.Common.{refl, ap, ◌∙◌}
+use Rattle.std.specs.Prelude.{HoldsAt, IsPermutation, swap_remove}
 use Rattle.std.proofs.lemmas.List.Sorted.{IsPermutation-swap_remove, IsPermutation-to_front, IsPermutation-sym}
 use Rattle.std.proofs.lemmas.List.Sorted.{IsPermutation-trans}
-use Rattle.refrun.proofs.Common.{State, Fault, Refused, Step, Core, Stands, StageJobs}
+use Rattle.refrun.proofs.Common.{State, Fault, Refused, Core, Stands, StageJobs}
 use Rattle.refrun.proofs.Common.{RegistersStageJob, IsScriptRowOf, jobs, ScriptReply}
 use Rattle.ref_base.specs.Heaps.{slot_at}
 use Rattle.ref_base.specs.Refusals.{clear_refusal}
@@ -27,13 +24,6 @@ module _ (c : Core) (a : State) (stands : Stands c a) (m s : ℕ) where
   -- what refuses a clear, and what its slot holds, is as the heap has it
   same_refusal : clear_refusal a.world.heap m s ≡ clear_refusal (model_heap c.heap) m s
   same_refusal = on_own_heap (cycles_of c.heap) a stands.heap.mark (heap.Plain (plain.Clear m s))
-
--- the place of the first of these, if there is one
-pub place_or_none : {X : Type 0} (Yes No : X → Type 0) (xs : List X) (r : Option ℕ)
-    → MatchOption r (AllWithin No xs 0 (length xs)) (λ i. (i < length xs) × HoldsAt Yes xs i × AllWithin No xs 0 i)
-    → MatchOption r (All No xs) (λ i. (i < length xs) × HoldsAt Yes xs i)
-place_or_none Yes No xs None none = All-from_all_within No xs none
-place_or_none Yes No xs (Some i) found = (found.0, found.1)
 
 module _ {J : Type 0} (number : J → ℕ) (object n : ℕ) (table after : Registry (Unit {0}) J) (left rest : List J)
     (i : ℕ) (job : J) (inside : i < length left) (holds : HoldsAt (λ j. number j ≡ n) left i)
@@ -58,11 +48,6 @@ module _ {J : Type 0} (number : J → ℕ) (object n : ℕ) (table after : Regis
       grind (arith, IsPermutation-trans, taken_out, IsPermutation-sym, IsPermutation-to_front)
 
 module _ {J : Type 0} (number note : J → ℕ) (old new : Core) (before after : StageJobs J) where
-  -- no job has a part in a step of the world
-  pub world_step_row : (step : Step) (reply : Reply) → IsRowOf old step reply new → after ≡ before
-      → IsScriptRowOf number note old before (scripts.World step) (replies.World reply) new after
-  world_step_row step reply row same a stands = let next = row a stands in (next.0, (next.1, same), next.2)
-
   module _ (m s object : ℕ) (refused : clear_refusal (model_heap old.heap) m s ≡ None)
       (held : slot_at (model_heap old.heap) m s ≡ Some object) where
     -- a job is registered for the reference in the slot

@@ -11,11 +11,9 @@ pub mod LineLemmas
 pub mod DeclaredSpelt
 pub mod GraphLines
 pub mod ScriptLines
-pub mod Rebuilding
 pub mod OneReading
 pub mod OneGraph
 pub mod FaultLaws
-pub mod AnswerLemmas
 pub mod JobLemmas
 pub mod TraceLemmas
 pub mod ListingLemmas

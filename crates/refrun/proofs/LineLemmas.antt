@@ -1,12 +1,12 @@
 -- How the reading of a text goes on by one line.
-use Rattle.std.proofs.Common.{◌≡◌, ℕ, suc, ◌+◌, ◌≤◌, ◌<◌, Bool, true, false, List, [], ◌∷◌, length, Option, Some, None}
+use Rattle.std.proofs.Common.{◌≡◌, ℕ, suc, ◌+◌, ◌≤◌, Bool, true, false, List, [], ◌∷◌, length, Option, Some, None}
 use Rattle.std.proofs.Common.{OnSome, refl, sym, ap, ◌∙◌, inl, inr, arith}
 use Rattle.std.specs.Borrow.{Bor}
 use Rattle.std.specs.List.{list_all}
 use Rattle.std.proofs.lemmas.Bool.{cases_Bool, false≢true}
-use Rattle.refrun.proofs.Common.{TextLine, lines_of, content_of, words_of, Place, place_after, place_fault, fault_or}
+use Rattle.refrun.proofs.Common.{TextLine, lines_of, Place, place_after, place_fault, fault_or}
 use Rattle.refrun.proofs.Common.{plain_fault, first_fault, is_plain_line, says_nothing, line_words, told}
-use Rattle.refrun.proofs.Common.{FailsFor, Finds, LineFault, TextFault, Told}
+use Rattle.refrun.proofs.Common.{FailsFor, LineFault, TextFault}
 use Rattle.refrun.specs.TextFaults.{end_fault}
 use Rattle.refrun.specs.declared.fault.TextFault.TheVariants as texts
 
@@ -55,46 +55,6 @@ pub record Skips (text : List ℕ) (number : ℕ) (rest : List ℕ) (k : ℕ) : 
   pub behind : k + length rest ≤ number + length text
   pub no_longer : length rest ≤ length text
 
-pub skips_nothing : (text : List ℕ) (number : ℕ) → Skips text number text number
-skips_nothing text number = grind arith
-
--- a line with a fault of its own
-pub faulty_line : (text rest behind : List ℕ) (number k : ℕ) (line : TextLine) (fault : LineFault)
-    → Skips text number rest k → lines_of rest ≡ line ∷ lines_of behind → plain_fault line ≡ Some fault
-    → (place : Place) → first_fault place (number + 1) (lines_of text) ≡ Some (texts.Line (k + 1) fault)
-faulty_line text rest behind number k line fault s cut h place = search (s.fault place)
-
--- a line that says nothing
-pub skips_line : (text rest behind : List ℕ) (number k : ℕ) (line : TextLine) (content : List ℕ)
-    → Skips text number rest k → lines_of rest ≡ line ∷ lines_of behind → length behind < length rest
-    → plain_fault line ≡ None
-    → content ≡ content_of line → says_nothing (words_of content) ≡ true → Skips text number behind (k + 1)
-skips_line text rest behind number k line content s cut shorter h content_is nothing = grind arith
-
--- a line that says something is found
-pub finds_line : (text rest behind content : List ℕ) (number k : ℕ) (line : TextLine) (found : Told)
-    → Skips text number rest k → lines_of rest ≡ line ∷ lines_of behind → plain_fault line ≡ None
-    → content ≡ content_of line → says_nothing (words_of content) ≡ false
-    → (c : Bor (List ℕ)) → found.content ≡ Some c → c.now ≡ content → found.number ≡ k + 1
-    → found.rest.now ≡ behind → Finds text number found
-finds_line text rest behind content number k line found s cut h content_is says c found_is c_is number_is rest_is =
-    grind arith
-
--- no line is left
-pub finds_none : (text rest : List ℕ) (number k : ℕ) (found : Told) → Skips text number rest k → lines_of rest ≡ []
-    → found.content ≡ None → found.number ≡ k + 1 → found.rest.now ≡ rest → Finds text number found
-finds_none text rest number k found s cut found_is number_is rest_is = grind arith
-
--- what fails for the first of two faults, or for none, fails for the first that there is
-pub first_of_two : (e : TextFault) (k : ℕ) (fault : Option LineFault) (later : Option TextFault)
-    → FailsFor e (fault_or k fault None) → FailsFor e (fault_or k fault later)
-first_of_two e k (Some f) later h = h
-first_of_two texts.NoMemory k None later h = tt
-first_of_two (texts.Line j f) k None later h = absurd cc
-first_of_two texts.TooLong k None later h = absurd cc
-first_of_two texts.CannotRead k None later h = h
-first_of_two texts.CannotWrite k None later h = h
-
 -- what is left is no more than before
 pub onsome_before : (o : Option (Bor (List ℕ))) (a b d : ℕ) → OnSome o (a ≤ b) → b ≤ d → OnSome o (a ≤ d)
 onsome_before None a b d h le = tt
@@ -104,8 +64,3 @@ onsome_before (Some x) a b d h le = omega (arith, h)
 abbrev pub left_in : Option (Bor (List ℕ)) → List ℕ → ℕ
 left_in None rest = 0
 left_in (Some c) rest = suc (length rest)
-
-pub left_falls : (found next : Option (Bor (List ℕ))) (rest behind : List ℕ) (c : Bor (List ℕ)) → found ≡ Some c
-    → OnSome next (length behind < length rest) → left_in next behind < left_in found rest
-left_falls found None rest behind c found_is shorter = rw found_is (omega arith)
-left_falls found (Some d) rest behind c found_is shorter = rw found_is (omega (arith, shorter))

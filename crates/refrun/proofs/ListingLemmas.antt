@@ -1,7 +1,5 @@
 -- The listing so far, and the listing of a whole graph text.
-use Rattle.std.proofs.Common.{arith}
-use Rattle.std.proofs.Common.{◌≡◌, ℕ, ◌+◌, ◌<◌, List, [], ◌∷◌, ◌++◌, length, take, get_or, append_assoc}
-use Rattle.std.proofs.Common.{◌≤◌}
+use Rattle.std.proofs.Common.{arith, ◌≡◌, ℕ, ◌+◌, ◌<◌, List, [], ◌∷◌, ◌++◌, length, take, get_or, append_assoc, ◌≤◌}
 use Rattle.std.proofs.lemmas.Bool.{le-leb}
 use Rattle.refrun.proofs.Common.{Graph, DeclareGraph, DeclaresGraph, lines_of, most_bytes, ObjectReach, listing_text}
 use Rattle.std.proofs.lemmas.List.{append-nil, take_more}

@@ -1,16 +1,14 @@
 -- What a search of a queue's lists has found out where it tells nothing.
-use Rattle.std.proofs.Common.{arith}
-use Rattle.std.proofs.Common.{◌≡◌, ℕ, ◌+◌, ◌<◌, nat_eq, ◌==◌, refl, sym, ap, subst, ◌∙◌, Bool, true, false}
-use Rattle.std.proofs.Common.{◌||◌, Option, Some, None, IfNone, inl, inr, List, [], ◌∷◌, ◌++◌, length, get_or, take}
-use Rattle.std.proofs.Common.{drop, map, flat_map, append_assoc, append-nil}
+use Rattle.std.proofs.Common.{arith, ◌≡◌, ℕ, ◌+◌, ◌<◌, nat_eq, ◌==◌, refl, sym, ap, subst, ◌∙◌, Bool, true, false, ◌||◌}
+use Rattle.std.proofs.Common.{Option, Some, None, IfNone, inl, inr, List, [], ◌∷◌, ◌++◌, length, get_or, take, drop}
+use Rattle.std.proofs.Common.{map, flat_map, append_assoc, append-nil}
 use Rattle.std.proofs.lemmas.Bool.{true≢false}
 use Rattle.std.proofs.lemmas.Grind.{flat_map-append}
 use Rattle.std.proofs.lemmas.List.{take_more, take-append-drop}
-use Rattle.std.proofs.lemmas.List.Elements.{All-push}
 use Rattle.std.proofs.lemmas.Map.Keys.{IsDistinct-push}
 use Rattle.std.proofs.lemmas.Map.Views.{list_any-from_Contains}
 use Rattle.std.specs.Cmp.{nat_eq_equiv}
-use Rattle.std.specs.List.{All, AllByRecursion, Contains, IsDistinct, list_any}
+use Rattle.std.specs.List.{AllByRecursion, Contains, IsDistinct, list_any}
 use Rattle.ref_base.proofs.HasLaws.{has-list_any, has-first, has-left, has-right, has-cases, has-single, has-append}
 use Rattle.refrun.proofs.Common.{has}
 use Rattle.refrun.proofs.ListChecks.{one_more, concat-flat_map}
@@ -114,13 +112,6 @@ module _ {X : Type 0} (numbers : X → List ℕ) (xs : List X) where
         ∙ flat_map-append numbers (take (i + 1) xs) (drop (i + 1) xs))
         ∙ has-left (flat_map numbers (take (i + 1) xs)) (flat_map numbers (drop (i + 1) xs)) m
         (ap (λ l. has l m) next_list ∙ has-right (flat_map numbers (take i xs)) ns m here)
-
-    pub next_list_passes : (P : List ℕ → Type 0) → All (λ y. P (numbers y)) (take i xs) → P ns
-        → All (λ y. P (numbers y)) (take (i + 1) xs)
-    next_list_passes P so_far this =
-        subst (All (λ y. P (numbers y)))
-        (sym (take_more xs i x within ∙ ap (λ (y : X). take i xs ++ y ∷ []) (sym is_x)))
-        (All-push (λ y. P (numbers y)) (take i xs) x so_far (subst P are this))
 
   same_truth : (a b : Bool) → (a ≡ true → b ≡ true) → (b ≡ true → a ≡ true) → a ≡ b
   same_truth true b there back = sym (there refl)

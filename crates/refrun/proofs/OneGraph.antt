@@ -1,6 +1,5 @@
 -- A text declares at most one graph.
-use Rattle.std.proofs.Common.{arith}
-use Rattle.std.proofs.Common.{◌≡◌, ℕ, List, [], ◌∷◌, Option, Some, None, codes, refl, ap}
+use Rattle.std.proofs.Common.{arith, ◌≡◌, ℕ, List, [], ◌∷◌, Option, Some, None, codes, refl, ap}
 use Rattle.refrun.proofs.Common.{Graph, Strength, Soft, Weak, Phantom, Declared, Root, Plain, Reference, SpellsObject}
 use Rattle.refrun.proofs.Common.{SpellsObjectOrNone, SpellFields, strength_name, SpellsDeclared}
 use Rattle.refrun.proofs.Common.{SpellAll, SpellGraph, DeclaresGraph}
@@ -38,11 +37,6 @@ one_strength name Weak Soft h k = absurd (other_name name _ _ h k refl)
 one_strength name Weak Phantom h k = absurd (other_name name _ _ h k refl)
 one_strength name Phantom Soft h k = absurd (other_name name _ _ h k refl)
 one_strength name Phantom Weak h k = absurd (other_name name _ _ h k refl)
-
-no_root : (name : List ℕ) (s : Strength) → name ≡ codes "root" → name ≡ strength_name s → ⊥
-no_root name Soft h k = other_name name _ _ h k refl
-no_root name Weak h k = other_name name _ _ h k refl
-no_root name Phantom h k = other_name name _ _ h k refl
 
 no_plain : (name : List ℕ) (s : Strength) → name ≡ codes "plain" → name ≡ strength_name s → ⊥
 no_plain name Soft h k = other_name name _ _ h k refl

@@ -5,12 +5,10 @@ use Rattle.std.proofs.lemmas.List.{append-nil}
 use Rattle.std.specs.Prelude.{MatchResult}
 use Rattle.std.proofs.lemmas.Bool.{eq-eqb, le-ltb, lt-ltb}
 use Rattle.std.proofs.lemmas.Bool.Decides.{nat_tests}
-use Rattle.refrun.proofs.Common.{Word, Letters, Numbered, Long, script_step_words, ScriptStep}
-use Rattle.refrun.proofs.Common.{SpellsScriptStep, AreSpelt, number, Operand, Number, LineFault, operands_in}
-use Rattle.refrun.proofs.Common.{forms_of_letter}
+use Rattle.refrun.proofs.Common.{Word, Letters, Numbered, Long, script_step_words, ScriptStep, SpellsScriptStep}
+use Rattle.refrun.proofs.Common.{AreSpelt, number, Operand, Number, LineFault, operands_in, forms_of_letter}
 use Rattle.refrun.specs.OperandReading.{Reading, unread, taken, all_taken, fault_at_end, IsUnfaulted, IsRead}
-use Rattle.refrun.specs.OperandReading.{IsReadNamed}
-use Rattle.refrun.specs.OperandReading.{IsReadBehind}
+use Rattle.refrun.specs.OperandReading.{IsReadNamed, IsReadBehind}
 use Rattle.refrun.specs.StepFaults.{all_fit, operand_fault, actor_fault}
 use Rattle.refrun.specs.declared.fault.LineFault.TheVariants.{MissingWord, BadWord, ExtraWord}
 

@@ -1,12 +1,11 @@
 -- How the reading of a script goes on by one line.
-use Rattle.std.proofs.Common.{arith}
-use Rattle.std.proofs.Common.{◌≡◌, ℕ, ◌+◌, ◌≤◌, true, List, [], ◌∷◌, ◌++◌, length, Some, None, OnSome, IfNone, refl}
-use Rattle.std.proofs.Common.{◌∙◌, append_assoc}
+use Rattle.std.proofs.Common.{arith, ◌≡◌, ℕ, ◌+◌, ◌≤◌, true, List, [], ◌∷◌, ◌++◌, length, Some, None, OnSome, IfNone}
+use Rattle.std.proofs.Common.{refl, ◌∙◌, append_assoc}
 use Rattle.std.specs.Borrow.{Bor}
 use Rattle.std.specs.List.{list_all}
 use Rattle.std.proofs.lemmas.List.{append-nil}
-use Rattle.refrun.proofs.Common.{lines_of, words_of, SpellsScriptStep, Place, ScriptHeader, Configuration, Steps}
-use Rattle.refrun.proofs.Common.{fault_or, first_fault, is_header, SpellSteps, is_plain_line, told, step_fault}
+use Rattle.refrun.proofs.Common.{lines_of, words_of, SpellsScriptStep, Place, Steps}
+use Rattle.refrun.proofs.Common.{fault_or, first_fault, SpellSteps, is_plain_line, told, step_fault}
 use Rattle.refrun.proofs.Common.{FailsFor, in_front, fault_from, Finds, TextFault, Told, ScriptStep}
 use Rattle.refrun.proofs.Spelt.{spelt_without_fault}
 
@@ -19,10 +18,6 @@ pub record HasRead (text : List ℕ) (number : ℕ) (found : Told) (steps : List
       (lines_of found.rest.now)
   pub behind : OnSome found.content (found.number + length found.rest.now ≤ number + length text)
   pub done : IfNone found.content (lines_of found.rest.now ≡ [])
-
-pub has_read_none : (text : List ℕ) (number : ℕ) (found : Told) → Finds text number found
-    → OnSome found.content (found.number + length found.rest.now ≤ number + length text) → HasRead text number found []
-has_read_none text number found f behind = grind arith
 
 -- one step more
 pub has_read_more : (text : List ℕ) (number : ℕ) (found next : Told) (steps items : List ScriptStep) (c : Bor (List ℕ))
@@ -56,10 +51,3 @@ pub has_read_later_fault : (text : List ℕ) (number : ℕ) (found : Told) (step
     → SpellsScriptStep (words_of c.now) step → ((place : Place) → first_fault place (found.number + 1)
     (lines_of found.rest.now) ≡ Some e) → first_fault Steps (number + 1) (lines_of text) ≡ Some e
 has_read_later_fault text number found steps c step e r found_is spells later = grind (arith, spelt_without_fault)
-
--- behind a header, the fault of the lines that follow is that of the text
-pub behind_header : (text : List ℕ) (found : Told) (c : Bor (List ℕ)) (e : TextFault) → Finds text 0 found
-    → found.content ≡ Some c → is_header (words_of c.now) ≡ true
-    → first_fault Configuration (found.number + 1) (lines_of found.rest.now) ≡ Some e
-    → first_fault ScriptHeader 1 (lines_of text) ≡ Some e
-behind_header text found c e f found_is header later = f.fault ScriptHeader ∙ rw found_is (simp header later)

@@ -3,10 +3,9 @@ use Rattle.std.proofs.Common.{◌≡◌, ℕ, ◌^◌, true, List, [], ◌∷◌
 use Rattle.std.proofs.Common.{is_some, codes, refl, subst, if◌then◌else◌, inl, inr, arith}
 use Rattle.std.proofs.lemmas.Bool.{cases_Bool}
 use Rattle.std.specs.Str.{bytes_eq}
-use Rattle.refrun.proofs.Common.{Word, Letters, Long, slot, queue, number, Normal, Urgent}
-use Rattle.refrun.proofs.Common.{number_below, number_behind, IsSpelt, AreSpelt, SpellsScriptStep, ScriptStep, Operand}
-use Rattle.refrun.proofs.Common.{Slot, Queue, QueueOrNone, Number, Clock, UrgencyName, operands_in, forms_of_letter}
-use Rattle.refrun.proofs.Common.{turn_forms, step_fault}
+use Rattle.refrun.proofs.Common.{Word, Letters, Long, slot, queue, number, Normal, Urgent, number_below, number_behind}
+use Rattle.refrun.proofs.Common.{IsSpelt, AreSpelt, SpellsScriptStep, ScriptStep, Operand, Slot, Queue, QueueOrNone}
+use Rattle.refrun.proofs.Common.{Number, Clock, UrgencyName, operands_in, forms_of_letter, turn_forms, step_fault}
 use Rattle.refrun.specs.StepFaults.{fits, all_fit, operand_fault}
 use Rattle.refrun.proofs.StepForms.{IsOf, AreOf, Lead, By, Turn, words_behind, forms_of, form_of_step}
 

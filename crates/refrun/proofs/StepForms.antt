@@ -2,10 +2,9 @@
 use Rattle.std.proofs.Common.{◌≡◌, ℕ, List, [], ◌∷◌, Option, Some, codes, refl, rules}
 use Rattle.refrun.proofs.Common.{Word, Letters, Numbered, Long, slot, queue, queue_or_none, number, step_words}
 use Rattle.refrun.proofs.Common.{strength_name, urgency_name, Mutator, Worker, Strength, Soft, Weak, Phantom, Urgency}
-use Rattle.refrun.proofs.Common.{Step, New, Refer, Store, Load, Put}
-use Rattle.refrun.proofs.Common.{Release, Begin, EndMark, EndClear}
-use Rattle.refrun.proofs.Common.{EndSweep, script_step_words, ScriptStep, Operand, Slot, Queue, QueueOrNone, Number}
-use Rattle.refrun.proofs.Common.{Clock, UrgencyName, operands_in, forms_of_letter, turn_forms}
+use Rattle.refrun.proofs.Common.{Step, New, Refer, Store, Load, Put, Release, Begin, EndMark, EndClear, EndSweep}
+use Rattle.refrun.proofs.Common.{script_step_words, ScriptStep, Operand, Slot, Queue, QueueOrNone, Number, Clock}
+use Rattle.refrun.proofs.Common.{UrgencyName, operands_in, forms_of_letter, turn_forms}
 use Rattle.ref_base.specs.declared.step.Step.TheVariants as steps
 use Rattle.refrun.specs.declared.script_step.ScriptStep.TheVariants as scripts
 use Rattle.refrun.specs.StepForms.{Form}

@@ -1,21 +1,10 @@
 -- A text that goes out in several writes.
-use Rattle.std.proofs.Common.{arith}
-use Rattle.std.proofs.Common.{◌≡◌, ℕ, List, [], ◌++◌, length, take, drop, Option, Some, None, refl, sym, ap, ◌∙◌}
+use Rattle.std.proofs.Common.{arith, ◌≡◌, ℕ, List, [], ◌++◌, length, take, drop, Option, Some, None, ap, ◌∙◌}
 use Rattle.std.proofs.Common.{append_assoc}
 use Rattle.std.specs.Io.KnownBytes.{Keeps, Appends}
 use Rattle.std.proofs.lemmas.List.{append-nil, take-append-drop}
 use Rattle.std.proofs.Math.Seq.{take-append_seam}
 use Rattle.refrun.proofs.Common.{AppendsPrefix}
-
-pub keeps_nothing : (known : Option (List ℕ)) → Keeps known known
-keeps_nothing None = tt
-keeps_nothing (Some xs) = refl
-
-pub keeps_then : (a b c : Option (List ℕ)) → Keeps a b → Keeps b c → Keeps a c
-keeps_then None b c h k = tt
-keeps_then (Some xs) None c h k = absurd h
-keeps_then (Some xs) (Some ys) None h k = absurd k
-keeps_then (Some xs) (Some ys) (Some zs) h k = k ∙ h
 
 pub appends_then : (a b c : Option (List ℕ)) (x y : List ℕ) → Appends a b x → Appends b c y → Appends a c (x ++ y)
 appends_then None b c x y h k = tt
@@ -29,27 +18,16 @@ appends_kept (Some xs) None c x h k = absurd h
 appends_kept (Some xs) (Some ys) None x h k = absurd k
 appends_kept (Some xs) (Some ys) (Some zs) x h k = k ∙ h
 
-appends_none : (known : Option (List ℕ)) → Appends known known []
-appends_none None = tt
-appends_none (Some xs) = sym (append-nil xs)
-
 -- what has gone out of the text, and what is left of it
 pub record HasWritten (old new : Option (List ℕ)) (text rest : List ℕ) : Type 0 where
   pub gone : List ℕ
   pub parts : text ≡ gone ++ rest
   pub appends : Appends old new gone
 
-pub written_nothing : (known : Option (List ℕ)) (text : List ℕ) → HasWritten known known text text
-written_nothing known text = record { gone = []; parts = refl; appends = appends_none known }
-
 pub written_more : (old mid new : Option (List ℕ)) (text rest behind : List ℕ) (n : ℕ)
     → HasWritten old mid text rest → Appends mid new (take n rest) → behind ≡ drop n rest
     → HasWritten old new text behind
 written_more old mid new text rest behind n h k behind_is = grind (arith, take-append-drop, append_assoc, appends_then)
-
-pub written_all : (old mid new : Option (List ℕ)) (text rest : List ℕ) → HasWritten old mid text rest → rest ≡ []
-    → Keeps mid new → Appends old new text
-written_all old mid new text rest h none k = grind (arith, append-nil)
 
 pub written_prefix : (old mid new : Option (List ℕ)) (text rest : List ℕ) → HasWritten old mid text rest
     → Keeps mid new → AppendsPrefix old new text

@@ -1,6 +1,6 @@
 -- The rows that a world and a cleaner's table give, from each state of the abstract collector that the world stands
 -- for.
-use Rattle.std.specs.Prelude.{List}
+use Rattle.std.specs.Prelude.{List, ℕ}
 use Rattle.ref_base.specs.Collectors.{State}
 use Rattle.ref_queue.specs.CleanTables.{Registry}
 use Rattle.ref_world.specs.Cores.{Core}
@@ -9,7 +9,6 @@ use Rattle.refrun.specs.ScriptRuns.{StageJobs, IsScriptRow, IsScriptRun}
 use Rattle.refrun.specs.declared.script_step.ScriptReply.{ScriptReply}
 use Rattle.refrun.specs.declared.script_step.ScriptRow.{ScriptRow}
 use Rattle.refrun.specs.declared.script_step.ScriptStep.{ScriptStep}
-use Rattle.std.specs.Prelude.{ℕ}
 
 abbrev pub jobs : {J : Type 0} → Registry (Unit {0}) J → List J → StageJobs J
 jobs table left = record { table = table; left = left }

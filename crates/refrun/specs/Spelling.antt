@@ -1,8 +1,6 @@
 -- The grammar of a line: which words spell which step.
 use Rattle.std.specs.Prelude.{◌≡◌, ℕ, ◌^◌, List, [], ◌∷◌, Some}
 use Rattle.ref_base.specs.Texts.{Word, Letters, Numbered, Long}
-use Rattle.ref_base.specs.Steps.{step_words}
-use Rattle.ref_base.specs.declared.step.Step.{Step}
 use Rattle.refrun.specs.ScriptSteps.{script_step_words}
 use Rattle.refrun.specs.declared.script_step.ScriptStep.{ScriptStep}
 use Rattle.refrun.specs.Numerals.{number_below, number_behind}
@@ -20,10 +18,6 @@ AreSpelt [] (v ∷ vs) = ⊥
 AreSpelt (w ∷ ws) [] = ⊥
 AreSpelt (w ∷ ws) (v ∷ vs) = IsSpelt w v × AreSpelt ws vs
 
--- the words of a line spell a step of the world
-abbrev pub SpellsStep : List (List ℕ) → Step → Type 0
-SpellsStep words step = AreSpelt words (step_words step)
-
--- and a step of a script
+-- the words of a line spell a step of a script
 abbrev pub SpellsScriptStep : List (List ℕ) → ScriptStep → Type 0
 SpellsScriptStep words step = AreSpelt words (script_step_words step)

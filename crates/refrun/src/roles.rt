@@ -292,10 +292,7 @@ impl<'a> Station<'a> {
         requires { IsSeated self.old }
         ensures { StaysSeated self.old self.new }
     {
-        match self.shared.heap.ask(rt, &mut self.heap_seat, step)? {
-            Reply::Refused(fault) => Err(fault),
-            reply => Ok(reply),
-        }
+        self.shared.heap.perform(rt, &mut self.heap_seat, step)
     }
 
     /// Gives a hold back. One that comes back is given up.

@@ -17,6 +17,7 @@ use std::test::Fail;
 
 pub mod calls;
 pub mod cleaners;
+mod cycles;
 mod last_turns;
 mod many_queues;
 mod memory;

@@ -46,7 +46,7 @@ impl<'a> Cleaner<'a> {
             match cleaner.queue.remove_wait(rt, &mut cleaner.seat) {
                 Ok(Polled::Took(notice)) => {
                     cleaner.table.lock(rt).remove(&notice.obj());
-                    cleaner.user.release(rt, notice.into_hold())?;
+                    cleaner.user.give_back(rt, notice.into_hold())?;
                 }
                 Ok(Polled::Closed) => return Ok(()),
                 Ok(Polled::Empty | Polled::TimedOut) => {}

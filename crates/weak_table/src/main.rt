@@ -156,7 +156,7 @@ fn fill<R: Wait>(rt: &R, program: HeapUser, table: &Table) -> Result<(), Fault>
             slot: SlotNo(key),
             fields: 0,
         };
-        heap.ask(rt, new)?;
+        heap.perform(rt, new)?;
         let refer = PlainStep::Refer {
             mutator: PROGRAM,
             strength: Strength::Weak,
@@ -165,7 +165,7 @@ fn fill<R: Wait>(rt: &R, program: HeapUser, table: &Table) -> Result<(), Fault>
             queue: Some(QueueNo(key * 2 / KEYS)),
             fields: 0,
         };
-        if let Reply::Object(reference) = heap.ask(rt, refer)? {
+        if let Reply::Object(reference) = heap.perform(rt, refer)? {
             let added = table.lock(rt).insert(reference, key);
             added.map_err(|_| Fault::NoMemory)?;
         }
@@ -175,7 +175,7 @@ fn fill<R: Wait>(rt: &R, program: HeapUser, table: &Table) -> Result<(), Fault>
             mutator: PROGRAM,
             slot: SlotNo(key),
         };
-        heap.ask(rt, drop)?;
+        heap.perform(rt, drop)?;
     }
     Ok(())
 }

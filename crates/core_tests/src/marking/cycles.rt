@@ -2,7 +2,7 @@
 
 use super::Ask::{DoomedFrom, HasFound, HoldCount, InPhase, IsDoomed, ReferentOf, StampOf};
 use super::Call::{Ask, Collect, Keep, Mutate};
-use super::Collect::{Begin, Cut, EndMark, Free, GreyRoot, Scan, TakeFound, ToIdle, ToSweeping};
+use super::Collect::{Begin, EndMark, Free, GreyRoot, Scan, TakeFound, ToIdle, ToSweeping};
 use super::Keep::{Adopt, Hold, Leak, Mint, Release};
 use super::Mutate::{Clear, CopySlot, DropSlot, Get, Load, New, Refer, RefersTo, Store};
 use super::agree;
@@ -40,9 +40,8 @@ fn death_is_told_after_a_cycle(rt: HostRuntime) -> Result<(), Fail> {
         (Mutate(Clear(1)), Told::Done),
         (Ask(ReferentOf(2)), Told::Object(1)),
         (Ask(HasFound), Told::Yes),
-        (Collect(TakeFound(0)), Told::Found(2)),
+        (Collect(TakeFound(0)), Told::Cleared(2)),
         (Ask(HasFound), Told::No),
-        (Collect(Cut(2)), Told::Done),
         (Ask(ReferentOf(2)), Told::Null),
         (Collect(TakeFound(0)), Told::Nothing),
         (Collect(ToSweeping), Told::Done),
@@ -150,7 +149,7 @@ fn get_renews_a_soft_reference(rt: HostRuntime) -> Result<(), Fail> {
         (Mutate(DropSlot(3)), Told::Done),
         (Collect(Scan(0)), Told::Scanned(1)),
         (Collect(EndMark), Told::Doomed(0)),
-        (Collect(TakeFound(0)), Told::Found(2)),
+        (Collect(TakeFound(0)), Told::Kept(2)),
         (Collect(ToSweeping), Told::Done),
         (Collect(ToIdle), Told::Done),
         (Collect(Begin(21, NORMAL)), Told::Began(2)),

@@ -5,8 +5,8 @@ use super::Ask::{
     ObjectCount, ReferenceOf, ReferentOf, UnmarkedCount, UnmarkedFrom,
 };
 use super::Call::{Ask, Do, Set};
-use super::Do::{Free, Mark, New, Refer, Store};
-use super::Set::{ClearIn, Cleared, ClockTo, CloseGaps, Cut, Link, Stamp, UnmarkAll};
+use super::Do::{Free, LookAt, Mark, New, Refer, Store};
+use super::Set::{Cleared, ClockTo, CloseGaps, Cut, Link, Stamp, UnmarkAll};
 use super::{agree, agree_from, config};
 use crate::told::Told;
 use ref_base::{Config, Fault, ObjNo, QueueNo, Strength};
@@ -222,21 +222,28 @@ fn a_clear_is_told_till_its_object_goes(rt: HostRuntime) -> Result<(), Fail> {
 }
 
 #[test]
-fn a_reference_is_cleared_in_a_cycle(rt: HostRuntime) -> Result<(), Fail> {
+fn a_look_clears_what_refers_to_the_unmarked(rt: HostRuntime) -> Result<(), Fail> {
     let story = [
         (Do(New(0, 0)), Told::Object(1)),
         (Do(Refer(Strength::Weak, 1, 0, None, 0)), Told::Object(2)),
         (Set(Link(2, 1)), Told::Done),
-        (Set(ClearIn(2, 7)), Told::Done),
+        (Do(Mark(1)), Told::Yes),
+        (Do(LookAt(2, 7)), Told::Kept(2)),
+        (Ask(ReferentOf(2)), Told::Object(1)),
+        (Ask(ClearedIn(2)), Told::Began(0)),
+        (Set(UnmarkAll), Told::Done),
+        (Do(LookAt(2, 7)), Told::Cleared(2)),
         (Ask(ReferentOf(2)), Told::Null),
         (Ask(ClearedIn(2)), Told::Began(7)),
         (Ask(LinkOf(2)), Told::Count(1)),
-        // Of a plain object the cycle alone is written.
-        (Set(ClearIn(1, 8)), Told::Done),
+        // It has no referent any more.
+        (Do(LookAt(2, 8)), Told::Skipped(2)),
+        (Ask(ClearedIn(2)), Told::Began(7)),
+        // A plain object, and none.
+        (Do(LookAt(1, 8)), Told::Skipped(1)),
         (Ask(KindOf(1)), Told::Kind(Kind::Plain)),
-        (Ask(ClearedIn(1)), Told::Began(8)),
-        // There is none.
-        (Set(ClearIn(3, 9)), Told::Done),
+        (Ask(ClearedIn(1)), Told::Began(0)),
+        (Do(LookAt(3, 9)), Told::Skipped(3)),
         (Ask(ClearedIn(3)), Told::Began(0)),
     ];
     agree(&rt, rt.alloc(), 2, &story)

@@ -3,11 +3,11 @@
 use super::Ask::ObjectCount;
 use super::Call::{Ask, Do, Keep, Set};
 use super::Do::{
-    CopySlot, CutIn, DropSlot, Free, Get, Load, Mark, MarkSlot, MarkSlotAt, New, Refer, SetSlot,
-    Store,
+    CopySlot, CutIn, DropSlot, Free, Get, Load, LookAt, Mark, MarkSlot, MarkSlotAt, New, Refer,
+    SetSlot, Store,
 };
 use super::Keep::{Adopt, Hold, Mint, Release};
-use super::Set::{ClearIn, Cleared, ClockTo, CloseGaps, Cut, Link, Stamp, UnmarkAll};
+use super::Set::{Cleared, ClockTo, CloseGaps, Cut, Link, Stamp, UnmarkAll};
 use super::{Call, M, config, make_calls};
 use crate::arena::{all_that_is_left, limited};
 use crate::told::Told;
@@ -33,7 +33,7 @@ const EACH_CALL: [(Call, Told); 26] = [
     (Set(Cut(2)), Told::Done),
     (Do(CutIn(1, false)), Told::Done),
     (Set(Cleared(2, 1)), Told::Done),
-    (Set(ClearIn(2, 2)), Told::Done),
+    (Do(LookAt(2, 2)), Told::Skipped(2)),
     (Set(Link(2, 1)), Told::Done),
     (Keep(Hold(1)), Told::Held(2, 1)),
     (Keep(Adopt(4)), Told::Object(2)),

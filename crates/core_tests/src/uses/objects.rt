@@ -102,13 +102,25 @@ fn a_list_has_what_was_written(objects: &mut Objects) -> bool
     let _made = objects.alloc_obj(MutNo(0), SlotNo(0), 0);
     let _refers = objects.alloc_ref(MutNo(0), SlotNo(1), Strength::Weak, SlotNo(0), None, 0);
     objects.set_link(ObjNo(2), 1);
-    objects.clear_in(ObjNo(2), 7);
+    objects.cut(ObjNo(2));
+    objects.set_cleared_in(ObjNo(2), 7);
     let linked = objects.linked_of(ObjNo(2));
     linked.no.0 == 2
         && linked.reference.is_some()
         && objects.referent_of(ObjNo(2)).is_none()
         && linked.link == 1
         && linked.cleared_in == 7
+}
+
+/// A look clears a reference to what isn't marked.
+fn a_look_clears(objects: &mut Objects) -> bool
+    requires { objects.old ≡ first_ground CONFIG 1 1 }
+    ensures { result ≡ true }
+{
+    let _made = objects.alloc_obj(MutNo(0), SlotNo(0), 0);
+    let _refers = objects.alloc_ref(MutNo(0), SlotNo(1), Strength::Weak, SlotNo(0), None, 0);
+    let look = objects.look_at(ObjNo(2), 7);
+    look.is_cleared
 }
 
 /// A hold is counted once, and no more once it is released.
@@ -203,6 +215,10 @@ fn what_lists_see_of_objects(rt: HostRuntime) {
         (
             "a list has what was written",
             a_list_has_what_was_written(&mut heap(&rt, alloc, 1)),
+        ),
+        (
+            "a look clears a reference to what isn't marked",
+            a_look_clears(&mut heap(&rt, alloc, 1)),
         ),
     ];
     for (fact, holds) in facts {

@@ -8,7 +8,7 @@ ghost use Rattle.ref_clear.specs.ClearCalls.{HeapDoes, looked_reply};
 use super::Heap;
 use crate::Looked;
 use ref_base::{Fault, ObjNo, Phase, WorkerNo};
-use ref_objects::Reference;
+use ref_objects::{Look, Reference};
 use std::alloc::Allocator;
 
 impl<A: Allocator + Copy> Heap<A> {
@@ -19,23 +19,23 @@ impl<A: Allocator + Copy> Heap<A> {
     pub fn clear_next(&mut self, worker: WorkerNo) -> Result<Option<Looked>, Fault>
         ensures { HeapDoes self.old (Plain (ClearNext worker)) (reply_of looked_reply result) self.new }
     {
-        let Some(found) = self.marker.take_found(worker)? else {
-            return Ok(None);
-        };
-        let no = found.no;
-        let Some(reference) = found.reference else {
-            return Ok(Some(Looked::Skipped(no)));
-        };
-        let Some(referent) = reference.referent else {
-            return Ok(Some(Looked::Skipped(no)));
-        };
-        if !self.marker.is_doomed(referent) {
-            return Ok(Some(Looked::Kept(no)));
-        }
-        // Gives the proof that the object has a record for the link and the cycle, and that its number isn't 0.
+        // Gives the proof that an object has a record for the link and the cycle, and that its number isn't 0.
         self.marker.objects().facts();
         self.marker.facts();
-        self.marker.cut(no);
+        let Some(look) = self.marker.take_found(worker)? else {
+            return Ok(None);
+        };
+        let Look { was, is_cleared } = look;
+        let no = was.no;
+        let Some(reference) = was.reference else {
+            return Ok(Some(Looked::Skipped(no)));
+        };
+        if reference.referent.is_none() {
+            return Ok(Some(Looked::Skipped(no)));
+        }
+        if !is_cleared {
+            return Ok(Some(Looked::Kept(no)));
+        }
         if reference.queue.is_some() {
             let mut list = self.pending[worker.0 as usize];
             self.marker.list_last(&mut list, no);

@@ -2,19 +2,19 @@
 
 ghost use Rattle.std.specs.Prelude.{◌≡◌, ◌==◌, IfOk, not, true, false};
 ghost use Rattle.ref_base.specs.Members.{has};
-ghost use Rattle.ref_base.specs.Heaps.{with_changed, with_reference, cleared};
 ghost use Rattle.ref_base.specs.Collectors.{joined};
 ghost use Rattle.ref_base.specs.Refusals.{is_empty, work_refusal};
-ghost use Rattle.ref_objects.specs.Grounds.{IsRefused, if_done, least_from, with_cleared_tag};
+ghost use Rattle.ref_base.specs.CollectorRows.{list_at};
+ghost use Rattle.ref_objects.specs.Grounds.{IsRefused, if_done, least_from};
 ghost use Rattle.ref_mark.specs.Chains.{linked_last, chain_with};
-ghost use Rattle.ref_mark.specs.CycleHeaps.{shaded, cycle_in_phase, with_found_taken, doomed, is_due};
+ghost use Rattle.ref_mark.specs.CycleHeaps.{shaded, cycle_in_phase, found_looked_at, doomed, is_due};
 ghost use Rattle.ref_mark.specs.CycleHeaps.{is_swept, swept, is_past_mark};
-ghost use Rattle.ref_mark.specs.MarkViews.{found_first};
+ghost use Rattle.ref_mark.specs.MarkViews.{found_look};
 
 use super::Marker;
 use crate::chain::Chain;
 use ref_base::{Fault, ObjNo, Phase, WorkerNo};
-use ref_objects::Linked;
+use ref_objects::Look;
 use std::alloc::Allocator;
 
 impl<A: Allocator + Copy> Marker<A> {
@@ -40,18 +40,21 @@ impl<A: Allocator + Copy> Marker<A> {
         Ok(())
     }
 
-    /// Takes the first reference that a worker found and that wasn't looked at since; none where there is none. Tried
-    /// in this order: `NoSuchActor`, `WrongPhase` but in Clearing. By one search.
-    pub fn take_found(&mut self, worker: WorkerNo) -> Result<Option<Linked>, Fault>
+    /// Takes the first reference that a worker found and that wasn't looked at since, and looks at it: where its
+    /// referent is doomed it is cleared, for the worker, in this cycle. None where there is none. Tried in this order:
+    /// `NoSuchActor`, `WrongPhase` but in Clearing. By one search for it, and one for its referent.
+    #[inline(always)]
+    pub fn take_found(&mut self, worker: WorkerNo) -> Result<Option<Look>, Fault>
         ensures refused { IsRefused (work_refusal self.old.heap self.old.phase Phase.Clearing worker) result }
-        ensures answer { IfOk result (λ taken. taken ≡ found_first self.old worker) }
-        ensures after { self.new ≡ if_done result (with_found_taken self.old worker) self.old }
+        ensures answer { IfOk result (λ look. look ≡ found_look self.old worker) }
+        ensures after { self.new ≡ if_done result
+            (found_looked_at self.old worker (list_at self.old.found worker)) self.old }
     {
         self.check_work(worker, Phase::Clearing)?;
         let mut list = self.found[worker.0 as usize];
-        let first = list.take_first(&self.objects);
+        let look = list.look_at_first(&mut self.objects, self.cycle);
         self.found[worker.0 as usize] = list;
-        Ok(first)
+        Ok(look)
     }
 
     /// Whether some worker found a reference that wasn't looked at since. In time of the workers.
@@ -59,17 +62,6 @@ impl<A: Allocator + Copy> Marker<A> {
         ensures { result ≡ not (is_empty (joined self.now.found)) }
     {
         self.found.iter().any(|list| list.first != 0)
-    }
-
-    /// Clears the reference of this number, for a worker, in this cycle; nothing changes where there is no such object.
-    /// By one search.
-    pub fn cut(&mut self, no: ObjNo)
-        ensures { self.new ≡ record self.old {
-          heap = with_changed self.old.heap no (with_reference cleared);
-          tags = with_cleared_tag self.old.tags no self.old.cycle;
-        } }
-    {
-        self.objects.clear_in(no, self.cycle);
     }
 
     /// One more in a list of the layer above, last; its last is none of what workers found. In logarithmic time.

@@ -5,11 +5,12 @@ ghost use Rattle.std.specs.Prelude.{◌≡◌, true};
 ghost use Rattle.ref_base.specs.Heaps.{with_slot, with_changed, with_reference, with_stamp, cleared, with_clock};
 ghost use Rattle.ref_base.specs.Refusals.{drop_refusal};
 ghost use Rattle.ref_objects.specs.Grounds.{IsRefused, if_done, ground_with_heap, is_free, after_freeing};
-ghost use Rattle.ref_objects.specs.Grounds.{with_cleared_tag, with_link};
+ghost use Rattle.ref_objects.specs.Grounds.{with_cleared_tag, with_link, look_of, ground_looked_at};
 ghost use Rattle.ref_objects.specs.GroundViews.{written};
 
 use super::Objects;
 use crate::cell::Change;
+use crate::linked::Look;
 use ref_base::{Fault, MutNo, ObjNo, SlotNo};
 use std::alloc::Allocator;
 
@@ -60,15 +61,17 @@ impl<A: Allocator + Copy> Objects<A> {
         self.write(no, Change::ClearedIn(cycle));
     }
 
-    /// Clears the reference of this number, for a worker, in this cycle: as `cut` and `set_cleared_in`, by one search.
-    /// Of a plain object only the cycle is written, and nothing changes where there is no object. In logarithmic time.
-    pub fn clear_in(&mut self, no: ObjNo, cycle: u64)
-        ensures { self.new ≡ record self.old {
-          heap = with_changed self.old.heap no (with_reference cleared);
-          tags = with_cleared_tag self.old.tags no cycle;
-        } }
+    /// What a list has of the object of this number. Where that is a reference to an object that isn't marked, it is
+    /// cleared, for a worker, in this cycle: as by `cut` and `set_cleared_in`. By one search for it, and one for its
+    /// referent.
+    #[inline(always)]
+    pub fn look_at(&mut self, no: ObjNo, cycle: u64) -> Look
+        ensures answer { result ≡ look_of self.old no }
+        ensures after { self.new ≡ ground_looked_at self.old no cycle }
     {
-        self.write(no, Change::ClearIn(cycle));
+        // Gives the proof that the numbers rise.
+        let _count = self.table.len();
+        self.table.look_at(no, cycle)
     }
 
     /// Writes the link of the object of this number, which names another object or is 0; nothing changes where there is
@@ -102,6 +105,7 @@ impl<A: Allocator + Copy> Objects<A> {
     }
 
     // Writes this of the object of this number.
+    #[inline(always)]
     fn write(&mut self, no: ObjNo, change: Change)
         ensures { self.new ≡ written self.old no change }
     {

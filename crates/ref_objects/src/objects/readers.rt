@@ -124,7 +124,7 @@ impl<A: Allocator + Copy> Objects<A> {
     pub fn reference_of(&self, no: ObjNo) -> Option<Reference>
         ensures { result ≡ reference_at self.now.heap no }
     {
-        self.table.reference(no)
+        self.linked_of(no).reference
     }
 
     /// The referent of the reference of this number: null where it is cleared, or there is no such reference.
@@ -156,14 +156,14 @@ impl<A: Allocator + Copy> Objects<A> {
     pub fn cleared_in(&self, no: ObjNo) -> u64
         ensures { result ≡ cleared_in_at self.now.tags no }
     {
-        self.table.cleared_in(no)
+        self.linked_of(no).cleared_in
     }
 
     /// The link of the object of this number: 0 where it was never written, and where there is no such object.
     pub fn link_of(&self, no: ObjNo) -> u32
         ensures { result ≡ link_at self.now.tags no }
     {
-        self.table.link_of(no)
+        self.linked_of(no).link
     }
 
     /// What a list has of the object of this number: no reference, link or cycle where there is no such object. By one

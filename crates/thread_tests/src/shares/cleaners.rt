@@ -23,6 +23,7 @@ use std::thread::Threads;
 
 mod acts;
 pub mod hearing;
+mod one_thread;
 mod stories;
 mod threads;
 

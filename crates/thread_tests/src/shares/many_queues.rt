@@ -23,8 +23,8 @@ pub struct Lists {
 }
 
 impl Lists {
-    /// So many queues, numbered from 0.
-    fn new<R: Abort>(rt: &R, alloc: Global, count: u32) -> Lists
+    /// So many queues, numbered from 0, whose turns are counted from `first` on.
+    pub fn new<R: Abort>(rt: &R, alloc: Global, count: u32, first: u64) -> Lists
         ensures { AreSeated result.queues.items result.seats.items }
     {
         let mut lists = Lists {
@@ -32,17 +32,17 @@ impl Lists {
             seats: Vec::new(alloc),
         };
         for number in 0..count {
-            lists.add(rt, alloc, QueueNo(number));
+            lists.add(rt, alloc, QueueNo(number), first);
         }
         lists
     }
 
     /// One queue more.
-    fn add<R: Abort>(&mut self, rt: &R, alloc: Global, number: QueueNo)
+    fn add<R: Abort>(&mut self, rt: &R, alloc: Global, number: QueueNo, first: u64)
         requires { AreSeated self.old.queues.items self.old.seats.items }
         ensures { AreSeated self.new.queues.items self.new.seats.items }
     {
-        let (queue, seat) = match SharedQueue::new(alloc, number) {
+        let (queue, seat) = match SharedQueue::starting(alloc, number, first) {
             Ok(made) => made,
             Err(fault) => panic!(rt; "{fault}"),
         };
@@ -54,8 +54,8 @@ impl Lists {
         }
     }
 
-    /// Ends all queues, the last first. Each has got one notice, of the reference for it.
-    fn end<R: Abort>(self, rt: &R, alloc: Global)
+    /// Ends all queues, the last first. Each was told of the reference for it, or nothing.
+    pub fn end<R: Abort>(self, rt: &R, alloc: Global, is_told: bool)
         requires { AreSeated self.queues.items self.seats.items }
     {
         let Lists {
@@ -64,7 +64,7 @@ impl Lists {
         } = self;
         while let Some(queue) = queues.pop() {
             match seats.pop() {
-                Some(seat) => has_one(rt, alloc, queue, seat),
+                Some(seat) => has_its_own(rt, alloc, queue, seat, is_told),
                 None => unreachable!(),
             }
         }
@@ -72,23 +72,19 @@ impl Lists {
     }
 }
 
-/// The one notice that this queue got is of its own reference, whose number is by two the greater.
-fn has_one<R: Abort>(rt: &R, alloc: Global, queue: SharedQueue, seat: QueueSeat)
+/// The one notice that this queue got is of its own reference, whose number is by two the greater; or it got none.
+fn has_its_own<R: Abort>(rt: &R, alloc: Global, queue: SharedQueue, seat: QueueSeat, is_told: bool)
     requires { IsQueueSeat queue seat }
 {
     let number = queue.number();
+    let own = [ObjNo(number.0.wrapping_add(2))];
+    let want = if is_told { own.as_slice() } else { &[] };
     match queue.finish(seat) {
         Ok(left) => {
             let enqueued = left.enqueued(alloc);
             end_queue(Ok(left));
             match enqueued {
-                Ok(found) => {
-                    assert_eq!(rt;
-                        found.as_slice(),
-                        [ObjNo(number.0.wrapping_add(2))].as_slice(),
-                        "{number}"
-                    );
-                }
+                Ok(found) => assert_eq!(rt; found.as_slice(), want, "{number}"),
                 Err(fault) => panic!(rt; "{fault}"),
             }
         }
@@ -101,7 +97,7 @@ fn has_one<R: Abort>(rt: &R, alloc: Global, queue: SharedQueue, seat: QueueSeat)
 
 /// An object, and for each queue a weak reference to it, numbered from 2 on in the order of the queues. The last of
 /// them takes the object's slot, so that nothing else refers to it.
-fn make_references<R: Abort>(rt: &R, heap: &SharedHeap, seat: &mut HeapSeat, queues: u32)
+pub fn make_references<R: Abort>(rt: &R, heap: &SharedHeap, seat: &mut HeapSeat, queues: u32)
     requires seat { IsHeapSeat heap.now seat.old }
     requires queues { queues ≤ 16 }
     ensures { IsHeapSeat heap.now seat.new }
@@ -208,7 +204,7 @@ fn is_enqueued<R: Wait>(
 }
 
 /// So many queues.
-const fn with(queues: u32) -> Config {
+pub const fn with(queues: u32) -> Config {
     Config {
         queues,
         cells: 32,
@@ -221,7 +217,7 @@ fn deliver_all<R: Wait + Abort>(rt: &R, alloc: Global, queues: u32) -> Result<()
     requires { 0 < queues × queues ≤ 16 }
 {
     let (heap, mut seat) = SharedHeap::new(alloc, with(queues), 0)?;
-    let mut lists = Lists::new(rt, alloc, queues);
+    let mut lists = Lists::new(rt, alloc, queues, 0);
     make_references(rt, &heap, &mut seat, queues);
     find_dead(rt, &heap, &mut seat, queues);
     for place in 0..queues {
@@ -237,7 +233,7 @@ fn deliver_all<R: Wait + Abort>(rt: &R, alloc: Global, queues: u32) -> Result<()
         delivered(rt, &heap, &mut seat, &mut lists),
         Some(Delivery::Nothing)
     );
-    lists.end(rt, alloc);
+    lists.end(rt, alloc, true);
     Ok(())
 }
 
@@ -246,7 +242,7 @@ fn enqueue_all<R: Wait + Abort>(rt: &R, alloc: Global, queues: u32) -> Result<()
     requires { 0 < queues × queues ≤ 16 }
 {
     let (heap, mut seat) = SharedHeap::new(alloc, with(queues), 0)?;
-    let mut lists = Lists::new(rt, alloc, queues);
+    let mut lists = Lists::new(rt, alloc, queues, 0);
     make_references(rt, &heap, &mut seat, queues);
     for queue in 0..queues {
         let slot = slot_of(queue, queues);
@@ -255,7 +251,7 @@ fn enqueue_all<R: Wait + Abort>(rt: &R, alloc: Global, queues: u32) -> Result<()
             assert_eq!(rt; is_added, Some(want), "queue {queue}");
         }
     }
-    lists.end(rt, alloc);
+    lists.end(rt, alloc, true);
     Ok(())
 }
 

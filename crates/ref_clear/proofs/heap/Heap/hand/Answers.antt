@@ -1,7 +1,8 @@
 use Rattle.std.proofs.Common.{Some, sym, ap, subst, ◌∙◌, arith}
 use Rattle.std.specs.Option.{IsSome}
 use Rattle.ref_objects.specs.declared.linked.Linked.{Linked}
-use Rattle.ref_mark.proofs.ChainLemmas.{first_linked, none_linked}
+use Rattle.ref_objects.specs.Grounds.{linked_in}
+use Rattle.ref_mark.proofs.ChainLemmas.{first_linked, none_told}
 use Rattle.ref_clear.specs.ClearViews.{pending_by}
 use Rattle.ref_clear.proofs.Common.{ground_of, registered_in}
 use Rattle.std.proofs.lemmas.Result.{err_from_is_err_and}
@@ -31,7 +32,7 @@ returns-in_default-clause-does g c =
     let within = worker_within w c.self.invariant.lists c.self.view_is c.config.ensures c.if-worker-config.false in
     let none =
     first_seen w c.self.invariant within c.index.ensures
-    (none_linked (ground_of c.self.inside.marker) _
+    (none_told (linked_in (ground_of c.self.inside.marker)) _
     (sym c.in_default.is ∙ rw c.objects.ensures at c.take_first.ensures.answer)) in
     rw (← c.self.view_is, ← c.worker.view_is) (none_to_hand w c.self.invariant.lists within none)
 

@@ -1,6 +1,7 @@
-use Rattle.std.proofs.Common.{◌≡◌, ◌<◌, ℕ, ◌∙◌}
-use Rattle.ref_mark.proofs.Common.{Clearing, CycleHeap}
-use Rattle.ref_mark.proofs.MarkerLemmas.{worker_within, first_told, sound_taken, seen_taken}
+use Rattle.std.proofs.Common.{◌≡◌, ◌<◌, ℕ, ◌∙◌, true, None}
+use Rattle.std.proofs.Common.{arith, ap}
+use Rattle.ref_mark.proofs.Common.{Clearing, CycleHeap, Phase, Heap, work_refusal, is_past_mark}
+use Rattle.ref_mark.proofs.MarkerLemmas.{worker_within, first_told, sound_looked, seen_looked}
 use Rattle.ref_mark.proofs.marker.Marker.take_found.Goals as goal
 
 -- the worker is one of the heap's, by the fields of both
@@ -8,12 +9,17 @@ clearer_within : {k now : CycleHeap} {v w : ℕ} → k ≡ now → v ≡ w → w
     → v < k.heap.config.workers
 clearer_within same own within = rw (same, own) within
 
+-- and it clears
+is_clearing : (h : Heap) (phase : Phase) (w : ℕ) → work_refusal h phase Clearing w ≡ None → is_past_mark phase ≡ true
+is_clearing h phase w accepted = grind arith
+
 pub invariant_of-self : goal.invariant_of-self
 invariant_of-self g c =
     let worker =
     clearer_within c.self.view_is c.worker.view_is
     (worker_within c.args.self.now.heap c.args.self.now.phase Clearing c.args.worker c.in_ok-check_work.ensures) in
-    sound_taken c.worker.inside.0 worker c.index.ensures c.take_first-first.ensures.after c.self.invariant
+    sound_looked c.worker.inside.0 worker c.index.ensures c.look_at_first-look.ensures.after c.self.invariant
+    c.self.inside.cycle c.look_at_first-look.ensures.objects
 
 pub returns-clause-answer : goal.returns-clause-answer
 returns-clause-answer g c =
@@ -21,15 +27,9 @@ returns-clause-answer g c =
     clearer_within c.self.view_is c.worker.view_is
     (worker_within c.args.self.now.heap c.args.self.now.phase Clearing c.args.worker c.in_ok-check_work.ensures) in
     rw (← c.self.view_is, ← c.worker.view_is)
-    (c.take_first-first.ensures.answer
-    ∙ first_told c.worker.inside.0 worker c.index.ensures c.take_first-first.ensures.after c.self.invariant
+    (c.look_at_first-look.ensures.answer
+    ∙ first_told c.worker.inside.0 worker c.index.ensures c.look_at_first-look.ensures.after c.self.invariant
     c.self.inside.policy c.self.inside.cycle)
 
 pub returns-clause-after : goal.returns-clause-after
-returns-clause-after g c =
-    let worker =
-    clearer_within c.self.view_is c.worker.view_is
-    (worker_within c.args.self.now.heap c.args.self.now.phase Clearing c.args.worker c.in_ok-check_work.ensures) in
-    rw (← c.self.view_is, ← c.worker.view_is)
-    (seen_taken c.worker.inside.0 worker c.index.ensures c.take_first-first.ensures.after c.self.invariant
-    c.self.inside.policy c.self.inside.cycle)
+returns-clause-after g c = grind (arith, seen_looked)

@@ -1,7 +1,10 @@
-use Rattle.std.proofs.Common.{arith}
-use Rattle.ref_objects.proofs.GroundLemmas.{reference-tabled}
-use Rattle.ref_objects.proofs.TagLemmas.{cleared_in-tabled, link-tabled}
+use Rattle.std.proofs.Common.{◌∙◌}
+use Rattle.ref_objects.proofs.LookLemmas.{linked_seen}
 use Rattle.ref_objects.proofs.objects.Objects.linked_of.Goals as goal
 
 pub returns : goal.returns
-returns g c = grind (arith, reference-tabled, cleared_in-tabled, link-tabled)
+returns g c =
+    rw (← c.self.view_is)
+    (c.linked.ensures
+    ∙ linked_seen c.self.inside.config c.self.inside.heap_no c.self.inside.table c.self.inside.slots.items
+    c.self.inside.clock c.self.inside.next c.args.no)

@@ -10,7 +10,7 @@ returns g c =
     let queue = c.in-Ok.made.0 in
     let seat = c.in-Ok.made.1 in
     let more = seat_more queues seats queue seat c.requires.0 c.requires.1
-    (new_seat queue c.args.number 0 seat c.in-Ok.ensures.made) in (
+    (new_seat queue c.args.number c.args.first seat c.in-Ok.ensures.made) in (
       subst (λ l. AreSeats l c.push-2.new.self.items) (sym c.in_default.ensures.items)
           (subst (λ l. AreSeats (queues ++ queue ∷ []) l) (sym c.in_default-push.ensures.items) more),
       omega (

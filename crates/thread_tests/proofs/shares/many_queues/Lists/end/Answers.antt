@@ -3,8 +3,8 @@ use Rattle.ref_share.proofs.SeatLists.{seat_last, seats_before}
 use Rattle.ref_share.specs.Deliveries.{AreSeats}
 use Rattle.thread_tests.proofs.shares.many_queues.Lists.end.Goals as goal
 
-pub has_one-requires : goal.has_one-requires
-has_one-requires g c =
+pub has_its_own-requires : goal.has_its_own-requires
+has_its_own-requires g c =
     let queues = c.pop.new.self.items in
     let seats = c.pop-in-Some.new.self.items in
     let are = subst (λ l. AreSeats (queues ++ c.in-Some.queue ∷ []) l) c.in-Some-pop.ensures.items

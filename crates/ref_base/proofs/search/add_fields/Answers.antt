@@ -1,0 +1,6 @@
+use Rattle.std.proofs.Common.{arith}
+use Rattle.std.proofs.lemmas.Grind.{common_steps}
+use Rattle.ref_base.proofs.search.add_fields.Goals as goal
+
+pub loop-field-preserved : goal.loop-field-preserved
+loop-field-preserved g c = grind (arith, common_steps)

@@ -1,0 +1,12 @@
+use Rattle.std.proofs.Common.{arith}
+use Rattle.ref_objects.proofs.LookLemmas.{look_seen, looked_seen, sound_looked}
+use Rattle.ref_objects.proofs.objects.Objects.look_at.Goals as goal
+
+pub invariant_of-self : goal.invariant_of-self
+invariant_of-self g c = rw c.look_at.ensures.after (sound_looked c.args.no c.args.cycle c.self.invariant)
+
+pub returns-clause-answer : goal.returns-clause-answer
+returns-clause-answer g c = grind (arith, look_seen)
+
+pub returns-clause-after : goal.returns-clause-after
+returns-clause-after g c = grind (arith, looked_seen)

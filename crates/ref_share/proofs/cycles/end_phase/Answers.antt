@@ -1,0 +1,15 @@
+use Rattle.std.proofs.Common.{subst}
+use Rattle.std.proofs.lemmas.Bool.{false≢true}
+use Rattle.std.specs.Option.{IsSome}
+use Rattle.ref_share.proofs.Common.{heap_view}
+use Rattle.ref_share.proofs.cycles.end_phase.Goals as goal
+use Rattle.ref_share.proofs.cycles.end_phase.Goals.{in-None, in-Some+in_ok-perform+then-eq+in-Ok}
+
+pub returns-clause-ends : goal.returns-clause-ends
+returns-clause-ends g c =
+    elim c.match-next.branch [
+      | in-None w ↦ absurd (false≢true (subst IsSome w.in-None.is c.next.ensures.steps))
+      | in-Some+in_ok-perform+then-eq+in-Ok w ↦
+          let ends = w.in-Ok.ensures.performs in
+          rw w.seat-is (heap_view w.perform.new.seat, (w.in-Ok.field-0, ends.0, ends.1))
+    ]

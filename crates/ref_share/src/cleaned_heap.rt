@@ -1,0 +1,238 @@
+//! All that a program of one thread uses: a heap with one queue, and the cleaner that the queue tells what is gone.
+
+ghost use Rattle.std.specs.Prelude.{◌≡◌, IfOk};
+ghost use Rattle.ref_base.specs.declared.plain_step.PlainStep.TheVariants.{New, Refer, Drop, RefersTo};
+ghost use Rattle.ref_base.specs.declared.plain_step.PlainStep.TheVariants.{Begin, EndSweep};
+ghost use Rattle.ref_objects.specs.Grounds.{starting_refusal};
+ghost use Rattle.ref_share.specs.CleanSeats.{clean_view};
+ghost use Rattle.ref_share.specs.CleanedHeaps.{HasSeats};
+ghost use Rattle.ref_share.specs.Cleanings.{RegistersJob};
+ghost use Rattle.ref_share.specs.CleanLoops.{GoesOn};
+ghost use Rattle.ref_share.specs.HeapCalls.{Performs, Accepted};
+ghost use Rattle.ref_share.specs.HeapSeats.{HeapView, heap_view};
+ghost use Rattle.ref_share.specs.QueueSeats.{queue_view};
+ghost use Rattle.ref_share.specs.SeatCalls.{MakesUnless};
+
+use crate::{
+    CleanMachine, Cleanable, Gate, HeapSeat, QueueSeat, SeatFor, ShareFault, Shared, SharedCleaner,
+    SharedHeap, SharedQueue, cycle, end_queue, run_jobs_left,
+};
+use ref_base::{
+    Config, Fault, MutNo, PlainStep, QueueNo, Reply, SlotNo, Strength, Urgency, WorkerNo,
+};
+use ref_objects::Hold;
+use ref_queue::Job;
+use std::alloc::Global;
+use std::slice;
+use std::sync::Wait;
+
+const MUTATOR: MutNo = MutNo(0);
+
+const QUEUE: QueueNo = QueueNo(0);
+
+const WORKER: WorkerNo = WorkerNo(0);
+
+/// A heap, its queue 0, and the cleaner that this queue tells what is gone, with a seat of each, for a program of one
+/// thread. That thread is mutator 0, and worker 0 where it collects. It must be ended by `end`, since the holds in
+/// queue and cleaner must be given up.
+///
+/// Calls that it has not are made of its parts, as `heap.heap.hold(rt, &mut heap.heap_seat, mutator, slot)`.
+pub struct CleanedHeap<J = Job> {
+    pub heap: SharedHeap,
+    pub heap_seat: HeapSeat,
+    pub queue: SharedQueue,
+    pub queue_seat: QueueSeat,
+    pub cleaner: Shared<CleanMachine<Hold, J>>,
+    pub clean_seat: SeatFor<CleanMachine<Hold, J>>,
+}
+
+impl CleanedHeap<Job> {
+    /// A heap without objects, its number 0, with an empty queue and a cleaner without jobs. Tried in this order:
+    /// `BadConfig`, `NoMemory`.
+    pub fn new(alloc: Global, config: Config) -> Result<Self, Fault>
+        ensures made { IfOk result (λ made. HasSeats made × (made.heap.frame.config ≡ config)) }
+        ensures refused { MakesUnless (starting_refusal config (record { obj = 1; cycle = 0; page = 1 })) result }
+    {
+        let (heap, heap_seat) = SharedHeap::new(alloc, config, 0)?;
+        let (queue, queue_seat) = SharedQueue::new(alloc, QUEUE)?;
+        match SharedCleaner::new(alloc, QUEUE) {
+            Ok((cleaner, clean_seat)) => Ok(CleanedHeap {
+                heap,
+                heap_seat,
+                queue,
+                queue_seat,
+                cleaner,
+                clean_seat,
+            }),
+            Err(fault) => {
+                end_queue(queue.finish(queue_seat));
+                Err(fault)
+            }
+        }
+    }
+
+    /// Does a step by which neither a hold nor a notice changes hands, as `SharedHeap::perform`: a refusal is an `Err`,
+    /// of the heap's own or `TurnsSpent`. What follows is such a step of mutator 0.
+    pub fn perform<R: Wait>(&mut self, rt: &R, step: PlainStep) -> Result<Reply, Fault>
+        requires { HasSeats self.old }
+        ensures seats { HasSeats self.new }
+        ensures performs { Performs (heap_view self.old.heap_seat) step result (heap_view self.new.heap_seat) }
+    {
+        self.heap.perform(rt, &mut self.heap_seat, step)
+    }
+
+    /// Makes an object with so many fields, all of them null, and the slot then holds it. The reply is `Object`.
+    pub fn make<R: Wait>(&mut self, rt: &R, slot: SlotNo, fields: u32) -> Result<Reply, Fault>
+        requires { HasSeats self.old }
+        ensures seats { HasSeats self.new }
+        ensures performs { Performs (heap_view self.old.heap_seat) (New 0 slot fields) result
+            (heap_view self.new.heap_seat) }
+    {
+        let mutator = MUTATOR;
+        let step = PlainStep::New {
+            mutator,
+            slot,
+            fields,
+        };
+        self.perform(rt, step)
+    }
+
+    /// Makes a reference to what the source slot holds, and the slot then holds it. The reply is `Object`.
+    pub fn refer<R: Wait>(
+        &mut self,
+        rt: &R,
+        strength: Strength,
+        slot: SlotNo,
+        source: SlotNo,
+        queue: Option<QueueNo>,
+    ) -> Result<Reply, Fault>
+        requires { HasSeats self.old }
+        ensures seats { HasSeats self.new }
+        ensures performs { Performs (heap_view self.old.heap_seat) (Refer 0 strength slot source queue 0) result
+            (heap_view self.new.heap_seat) }
+    {
+        let step = PlainStep::Refer {
+            mutator: MUTATOR,
+            strength,
+            slot,
+            source,
+            queue,
+            fields: 0,
+        };
+        self.perform(rt, step)
+    }
+
+    /// Empties the slot. The reply is `Done`.
+    pub fn empty<R: Wait>(&mut self, rt: &R, slot: SlotNo) -> Result<Reply, Fault>
+        requires { HasSeats self.old }
+        ensures seats { HasSeats self.new }
+        ensures performs { Performs (heap_view self.old.heap_seat) (Drop 0 slot) result
+            (heap_view self.new.heap_seat) }
+    {
+        let mutator = MUTATOR;
+        self.perform(rt, PlainStep::Drop { mutator, slot })
+    }
+
+    /// Whether the reference is to what the other slot holds, or cleared where that is empty. The reply is `Refers`.
+    pub fn refers_to<R: Wait>(
+        &mut self,
+        rt: &R,
+        reference: SlotNo,
+        other: SlotNo,
+    ) -> Result<Reply, Fault>
+        requires { HasSeats self.old }
+        ensures seats { HasSeats self.new }
+        ensures performs { Performs (heap_view self.old.heap_seat) (RefersTo 0 reference other) result
+            (heap_view self.new.heap_seat) }
+    {
+        let mutator = MUTATOR;
+        let step = PlainStep::RefersTo {
+            mutator,
+            reference,
+            other,
+        };
+        self.perform(rt, step)
+    }
+
+    /// Registers a job for what the source slot holds, as `SharedCleaner::register`: it runs once, in a `clean_some`
+    /// after a cycle found the object dead. A reference to the object stays in the other slot, which can be used for
+    /// something else then.
+    pub fn register<R: Wait>(
+        &mut self,
+        rt: &R,
+        source: SlotNo,
+        slot: SlotNo,
+        job: Job,
+    ) -> Result<Cleanable, (ShareFault, Job)>
+        requires { HasSeats self.old }
+        ensures seats { HasSeats self.new }
+        ensures registers { RegistersJob job (clean_view self.old.clean_seat) self.old.cleaner.frame 0 source slot
+            (heap_view self.old.heap_seat) result (heap_view self.new.heap_seat) (clean_view self.new.clean_seat) }
+    {
+        let CleanedHeap {
+            heap,
+            heap_seat,
+            cleaner,
+            clean_seat,
+            ..
+        } = self;
+        cleaner.register(rt, clean_seat, heap, heap_seat, MUTATOR, source, slot, job)
+    }
+
+    /// One whole cycle, as `cycle`, by worker 0: what it finds dead is cleared, told to its queue, and freed.
+    pub fn cycle<R: Wait>(&mut self, rt: &R, now: u64, urgency: Urgency) -> Result<(), ShareFault>
+        requires { HasSeats self.old }
+        ensures seats { HasSeats self.new }
+        ensures begins { IfOk result (λ _. (v : HeapView)
+            × Accepted (heap_view self.old.heap_seat) (Begin now urgency) v) }
+        ensures ends { IfOk result (λ _. (v : HeapView) × Accepted v EndSweep (heap_view self.new.heap_seat)) }
+    {
+        let queues = slice::from_ref(&self.queue);
+        let seats = slice::from_mut(&mut self.queue_seat);
+        cycle(
+            rt,
+            &self.heap,
+            &mut self.heap_seat,
+            queues,
+            seats,
+            WORKER,
+            now,
+            urgency,
+        )
+    }
+
+    /// Runs the jobs of what the queue tells, as `SharedCleaner::clean_some`, and answers how many that were.
+    pub fn clean_some<R: Wait, G: Gate>(&mut self, rt: &R, gate: &G) -> Result<u64, ShareFault>
+        requires { HasSeats self.old }
+        ensures seats { HasSeats self.new }
+        ensures goes { GoesOn (queue_view self.old.queue_seat) (heap_view self.old.heap_seat)
+            (clean_view self.old.clean_seat) result (queue_view self.new.queue_seat) (heap_view self.new.heap_seat)
+            (clean_view self.new.clean_seat) }
+    {
+        let CleanedHeap {
+            heap,
+            heap_seat,
+            queue,
+            queue_seat,
+            cleaner,
+            clean_seat,
+        } = self;
+        cleaner.clean_some(rt, clean_seat, heap, heap_seat, queue, queue_seat, gate)
+    }
+
+    /// Ends all of it: notices that stand are given up, and jobs that are still registered are run.
+    pub fn end(self)
+        requires { HasSeats self }
+    {
+        let CleanedHeap {
+            heap: _heap,
+            heap_seat: _heap_seat,
+            queue,
+            queue_seat,
+            cleaner,
+            clean_seat,
+        } = self;
+        end_queue(queue.finish(queue_seat));
+        run_jobs_left(cleaner.finish(clean_seat));
+    }
+}

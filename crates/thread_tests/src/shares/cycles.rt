@@ -1,0 +1,197 @@
+//! Whole cycles and deliveries of all that is pending, on a heap with two queues, each call with its answer.
+
+ghost use Rattle.std.specs.Prelude.{◌≤◌};
+ghost use Rattle.ref_share.specs.HeapSeats.{IsHeapSeat};
+ghost use Rattle.thread_tests.specs.QueueLists.{AreSeated};
+
+use super::calls::{Do, step_of};
+use super::many_queues::{Lists, make_references, with};
+use ref_base::{Fault, QueueNo, Urgency, WorkerNo};
+use ref_share::{HeapSeat, QueueSeat, SharedHeap, SharedQueue, cycle, deliver_all};
+use std::alloc::Global;
+use std::process::Abort;
+use std::sync::Wait;
+use std::test::Fail;
+
+/// What a worker calls.
+#[derive(Clone, Copy)]
+enum Call {
+    /// A whole cycle at this clock, by this worker.
+    Cycle(u64, u32),
+    /// The same with no queue in the lists.
+    CycleNowhere(u64, u32),
+    /// A delivery of all that is pending of this worker.
+    DeliverAll(u32),
+    /// The same with no queue in the lists.
+    DeliverNowhere(u32),
+    /// A step alone.
+    Step(Do),
+}
+
+/// A story on a heap with two queues, an object, and a weak reference to it for each of the queues.
+#[derive(Drop)]
+struct Story<'a> {
+    /// The heap's first ticket.
+    heap_first: u64,
+    /// The first ticket of each queue.
+    first: u64,
+    /// Each call, and why it is refused.
+    calls: &'a [(Call, Option<Fault>)],
+    /// Whether each queue was told of its reference.
+    is_told: bool,
+}
+
+/// Nobody calls anything, and then each queue is told.
+fn quiet<'a>() -> Story<'a> {
+    Story {
+        heap_first: 0,
+        first: 0,
+        calls: &[],
+        is_told: true,
+    }
+}
+
+/// Makes a call, and tells why it is refused.
+fn refusal<R: Wait>(
+    rt: &R,
+    heap: &SharedHeap,
+    seat: &mut HeapSeat,
+    lists: &mut Lists,
+    call: Call,
+) -> Option<Fault>
+    requires { IsHeapSeat heap.now seat.old × AreSeated lists.old.queues.items lists.old.seats.items }
+    ensures { IsHeapSeat heap.now seat.new × AreSeated lists.new.queues.items lists.new.seats.items }
+{
+    let no_queues: [SharedQueue; 0] = [];
+    let mut no_seats: [QueueSeat; 0] = [];
+    let normal = Urgency::Normal;
+    let Lists { queues, seats } = lists;
+    let answer = match call {
+        Call::Cycle(now, w) => cycle(rt, heap, seat, queues, seats, WorkerNo(w), now, normal),
+        Call::CycleNowhere(now, w) => cycle(
+            rt,
+            heap,
+            seat,
+            &no_queues,
+            &mut no_seats,
+            WorkerNo(w),
+            now,
+            normal,
+        ),
+        Call::DeliverAll(w) => deliver_all(rt, heap, seat, queues, seats, WorkerNo(w)),
+        Call::DeliverNowhere(w) => {
+            deliver_all(rt, heap, seat, &no_queues, &mut no_seats, WorkerNo(w))
+        }
+        Call::Step(step) => match heap.perform(rt, seat, step_of(step)) {
+            Ok(_) => Ok(()),
+            Err(fault) => Err(fault.into()),
+        },
+    };
+    match answer {
+        Ok(()) => None,
+        Err(fault) => Some(fault.into_fault()),
+    }
+}
+
+/// The story's calls in turn, and what is in the queues then.
+fn agree<R: Wait + Abort>(rt: &R, alloc: Global, story: &Story) -> Result<(), Fail> {
+    let (heap, mut seat) = SharedHeap::starting(alloc, with(2), 0, story.heap_first)?;
+    let mut lists = Lists::new(rt, alloc, 2, story.first);
+    make_references(rt, &heap, &mut seat, 2);
+    for (row, &(call, want)) in story.calls.iter().enumerate() {
+        assert_eq!(rt;
+            refusal(rt, &heap, &mut seat, &mut lists, call),
+            want,
+            "row {row}"
+        );
+    }
+    lists.end(rt, alloc, story.is_told);
+    Ok(())
+}
+
+#[test]
+fn a_cycle_tells_each_queue_what_it_cleared(rt: HostRuntime) -> Result<(), Fail> {
+    let story = Story {
+        calls: &[
+            (Call::Cycle(5, 0), None),
+            (Call::Cycle(5, 0), None),
+            (Call::DeliverAll(0), None),
+        ],
+        ..quiet()
+    };
+    agree(&rt, rt.alloc(), &story)
+}
+
+#[test]
+fn all_that_is_pending_is_handed_on(rt: HostRuntime) -> Result<(), Fail> {
+    let story = Story {
+        calls: &[
+            (Call::Step(Do::Begin), None),
+            (Call::Step(Do::Scan), None),
+            (Call::Step(Do::Scan), None),
+            (Call::Step(Do::EndMark), None),
+            (Call::Step(Do::ClearNext), None),
+            (Call::Step(Do::ClearNext), None),
+            (Call::DeliverAll(1), Some(Fault::NoSuchActor)),
+            (Call::DeliverAll(0), None),
+            (Call::DeliverAll(0), None),
+        ],
+        ..quiet()
+    };
+    agree(&rt, rt.alloc(), &story)
+}
+
+#[test]
+fn what_the_heap_refuses_in_a_cycle_is_told(rt: HostRuntime) -> Result<(), Fail> {
+    let story = Story {
+        calls: &[
+            (Call::Cycle(5, 0), None),
+            (Call::Cycle(4, 0), Some(Fault::ClockBack)),
+            (Call::Cycle(5, 1), Some(Fault::NoSuchActor)),
+            (Call::Cycle(5, 0), Some(Fault::WrongPhase)),
+            (Call::Step(Do::Begin), Some(Fault::WrongPhase)),
+        ],
+        ..quiet()
+    };
+    agree(&rt, rt.alloc(), &story)
+}
+
+#[test]
+fn a_cycle_stops_where_a_notice_comes_back(rt: HostRuntime) -> Result<(), Fail> {
+    let nowhere = Story {
+        calls: &[
+            (Call::CycleNowhere(5, 0), Some(Fault::BadQueue)),
+            (Call::DeliverNowhere(0), Some(Fault::BadQueue)),
+            (Call::DeliverNowhere(0), None),
+            (Call::Cycle(5, 0), Some(Fault::WrongPhase)),
+        ],
+        is_told: false,
+        ..quiet()
+    };
+    agree(&rt, rt.alloc(), &nowhere)?;
+    let spent = Story {
+        first: u64::MAX,
+        calls: &[
+            (Call::Cycle(5, 0), Some(Fault::TurnsSpent)),
+            (Call::DeliverAll(0), Some(Fault::TurnsSpent)),
+            (Call::DeliverAll(0), None),
+        ],
+        is_told: false,
+        ..quiet()
+    };
+    agree(&rt, rt.alloc(), &spent)
+}
+
+#[test]
+fn a_cycle_stops_where_the_heap_has_no_turn_left(rt: HostRuntime) -> Result<(), Fail> {
+    let story = Story {
+        heap_first: u64::MAX - 5,
+        calls: &[
+            (Call::Cycle(5, 0), Some(Fault::TurnsSpent)),
+            (Call::DeliverAll(0), Some(Fault::TurnsSpent)),
+        ],
+        is_told: false,
+        ..quiet()
+    };
+    agree(&rt, rt.alloc(), &story)
+}
