@@ -100,6 +100,7 @@ fn fill<R: Wait>(rt: &R, heap: &mut CleanedHeap, mut jobs: VecDeque<Job>) -> Res
             return Err(fault.into_fault().into());
         }
     }
+    heap.empty(rt, SPARE)?;
     Ok(())
 }
 

@@ -7,7 +7,7 @@ ghost use Rattle.thread_tests.specs.QueueLists.{AreSeated};
 use super::calls::{Do, step_of};
 use super::many_queues::{Lists, make_references, with};
 use ref_base::{Fault, QueueNo, Urgency, WorkerNo};
-use ref_share::{HeapSeat, QueueSeat, SharedHeap, SharedQueue, cycle, deliver_all};
+use ref_share::{HeapSeat, QueueSeat, ShareFault, SharedHeap, SharedQueue, cycle, deliver_all};
 use std::alloc::Global;
 use std::process::Abort;
 use std::sync::Wait;
@@ -66,9 +66,18 @@ fn refusal<R: Wait>(
     let mut no_seats: [QueueSeat; 0] = [];
     let normal = Urgency::Normal;
     let Lists { queues, seats } = lists;
-    let answer = match call {
-        Call::Cycle(now, w) => cycle(rt, heap, seat, queues, seats, WorkerNo(w), now, normal),
-        Call::CycleNowhere(now, w) => cycle(
+    match call {
+        Call::Cycle(now, w) => told(cycle(
+            rt,
+            heap,
+            seat,
+            queues,
+            seats,
+            WorkerNo(w),
+            now,
+            normal,
+        )),
+        Call::CycleNowhere(now, w) => told(cycle(
             rt,
             heap,
             seat,
@@ -77,16 +86,24 @@ fn refusal<R: Wait>(
             WorkerNo(w),
             now,
             normal,
-        ),
-        Call::DeliverAll(w) => deliver_all(rt, heap, seat, queues, seats, WorkerNo(w)),
-        Call::DeliverNowhere(w) => {
-            deliver_all(rt, heap, seat, &no_queues, &mut no_seats, WorkerNo(w))
-        }
+        )),
+        Call::DeliverAll(w) => told(deliver_all(rt, heap, seat, queues, seats, WorkerNo(w))),
+        Call::DeliverNowhere(w) => told(deliver_all(
+            rt,
+            heap,
+            seat,
+            &no_queues,
+            &mut no_seats,
+            WorkerNo(w),
+        )),
         Call::Step(step) => match heap.perform(rt, seat, step_of(step)) {
-            Ok(_) => Ok(()),
-            Err(fault) => Err(fault.into()),
+            Ok(_) => None,
+            Err(fault) => Some(fault),
         },
-    };
+    }
+}
+
+fn told(answer: Result<(), ShareFault>) -> Option<Fault> {
     match answer {
         Ok(()) => None,
         Err(fault) => Some(fault.into_fault()),
