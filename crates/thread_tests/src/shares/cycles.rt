@@ -67,16 +67,7 @@ fn refusal<R: Wait>(
     let normal = Urgency::Normal;
     let Lists { queues, seats } = lists;
     match call {
-        Call::Cycle(now, w) => told(cycle(
-            rt,
-            heap,
-            seat,
-            queues,
-            seats,
-            WorkerNo(w),
-            now,
-            normal,
-        )),
+        Call::Cycle(now, w) => told(cycle(rt, heap, seat, queues, seats, WorkerNo(w), now, normal)),
         Call::CycleNowhere(now, w) => told(cycle(
             rt,
             heap,
