@@ -1,1 +1,3 @@
 mod SmallGraphs
+mod ClosedLemmas
+mod ClosedExamples

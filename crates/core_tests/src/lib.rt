@@ -14,6 +14,8 @@ mod clean_tables;
 #[cfg(test)]
 mod clearing;
 #[cfg(test)]
+mod closed;
+#[cfg(test)]
 mod graphs;
 #[cfg(test)]
 mod hand;

@@ -4,6 +4,7 @@ mod chains;
 mod cycles;
 mod refusals;
 
+use crate::closed::is_closed;
 use crate::hand::{adopted, leak, released, taken};
 use crate::told::{
     Told, began, done, doomed, expect, found, is, is_or_fault, looked, made, scanned, value,
@@ -140,7 +141,7 @@ fn collected(heap: &mut Marker, call: Collect) -> Told {
         Collect::Free(no) => return is(heap.free(ObjNo(no))),
         Collect::GreyRoot(no) => heap.grey_root(ObjNo(no)),
         Collect::ToSweeping => {
-            if heap.has_found() {
+            if heap.has_found() || !is_closed(heap.objects()) {
                 return Told::No;
             }
             heap.to_sweeping();

@@ -4,6 +4,7 @@ mod cells;
 mod memory;
 mod stories;
 
+use crate::closed::is_closed;
 use crate::hand::{adopted, leak, released, shown, taken};
 use crate::told::{
     Told, done, expect, found, is, kind, looked, made, queue, value, value_or_fault,
@@ -54,6 +55,8 @@ enum Do {
     DropSlot(u32),
     SetSlot(u32, Option<u32>),
     Free(u32),
+    /// Frees the object of this number as a cycle does that reaches every other. No object is marked then.
+    Sweep(u32),
     Mark(u32),
     /// At the object of this number, in this cycle.
     LookAt(u32, u64),
@@ -69,7 +72,9 @@ enum Set {
     /// The object of this number links to this one.
     Link(u32, u32),
     UnmarkAll,
-    CloseGaps,
+    /// It isn't made where something that is marked, a slot or a hold refers to what isn't.
+    Condemn,
+    EndCycle,
 }
 
 /// A call that reads a heap.
@@ -105,6 +110,7 @@ enum Ask {
     HeldAfter(u32),
     IsMarked(u32),
     IsUnmarked(u32),
+    IsCondemned(u32),
     UnmarkedCount,
     UnmarkedFrom(u32),
 }
@@ -146,6 +152,33 @@ fn reference(answer: Option<Reference>) -> Told {
     }
 }
 
+// Marks each object but this one.
+fn mark_but<A: Allocator + Copy>(heap: &mut Objects<A>, no: ObjNo) {
+    let Some(first) = heap.first_from(ObjNo(0)) else {
+        return;
+    };
+    for number in u64::from(first.0)..heap.next_no() {
+        if let Ok(other) = u32::try_from(number) {
+            if other != no.0 {
+                heap.mark(ObjNo(other));
+            }
+        }
+    }
+}
+
+// Frees an object as a cycle does that reaches every other: false where something else refers to it.
+fn swept<A: Allocator + Copy>(heap: &mut Objects<A>, no: ObjNo) -> bool {
+    heap.unmark_all();
+    mark_but(heap, no);
+    if is_closed(heap) {
+        heap.condemn();
+    }
+    let is_free = heap.free(no);
+    heap.end_cycle();
+    heap.unmark_all();
+    is_free
+}
+
 fn changed<A: Allocator + Copy>(heap: &mut Objects<A>, call: Do) -> Told {
     match call {
         Do::New(slot, fields) => made(heap.alloc_obj(M, SlotNo(slot), fields)),
@@ -173,6 +206,7 @@ fn changed<A: Allocator + Copy>(heap: &mut Objects<A>, call: Do) -> Told {
         Do::DropSlot(slot) => done(heap.drop_slot(M, SlotNo(slot))),
         Do::SetSlot(slot, no) => done(heap.set_slot(M, SlotNo(slot), no.map(|no| ObjNo(no)))),
         Do::Free(no) => is(heap.free(ObjNo(no))),
+        Do::Sweep(no) => is(swept(heap, ObjNo(no))),
         Do::Mark(no) => is(heap.mark(ObjNo(no))),
         Do::LookAt(no, cycle) => looked(heap.look_at(ObjNo(no), cycle)),
     }
@@ -186,7 +220,13 @@ fn after_setting<A: Allocator + Copy>(heap: &mut Objects<A>, call: Set) -> Told 
         Set::Cleared(no, cycle) => heap.set_cleared_in(ObjNo(no), cycle),
         Set::Link(no, to) => heap.set_link(ObjNo(no), to),
         Set::UnmarkAll => heap.unmark_all(),
-        Set::CloseGaps => heap.close_gaps(),
+        Set::Condemn => {
+            if !is_closed(heap) {
+                return Told::No;
+            }
+            heap.condemn();
+        }
+        Set::EndCycle => heap.end_cycle(),
     }
     Told::Done
 }
@@ -223,6 +263,7 @@ fn asked<A: Allocator + Copy>(heap: &Objects<A>, call: Ask) -> Told {
         Ask::HeldAfter(no) => found(heap.held_after(ObjNo(no))),
         Ask::IsMarked(no) => is(heap.is_marked(ObjNo(no))),
         Ask::IsUnmarked(no) => is(heap.is_unmarked(ObjNo(no))),
+        Ask::IsCondemned(no) => is(heap.is_condemned(ObjNo(no))),
         Ask::UnmarkedCount => Told::Count(heap.unmarked_count() as u64),
         Ask::UnmarkedFrom(no) => found(heap.unmarked_from(ObjNo(no))),
     }

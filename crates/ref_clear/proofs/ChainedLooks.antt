@@ -4,15 +4,12 @@ use Rattle.std.proofs.Common.{[], ◌∷◌, ◌++◌, length, get_or, set, Opti
 use Rattle.std.proofs.lemmas.Bool.{or_cases, eqb-true, ne_eqb, true≢false, false≢true, false_from_ne_true}
 use Rattle.std.specs.Option.{unwrap_or, is_some}
 use Rattle.ref_base.specs.DoomedSets.{refers_into}
-use Rattle.ref_base.specs.CollectorRows.{referent_of}
 use Rattle.ref_objects.specs.Grounds.{Ground, IsWellFormed, look_of}
 use Rattle.ref_objects.specs.declared.linked.Look.{Look}
-use Rattle.ref_mark.specs.CycleHeaps.{is_doomed, is_past_mark}
+use Rattle.ref_mark.specs.CycleHeaps.{is_doomed}
 use Rattle.ref_mark.specs.MarkViews.{found_look, ground_of}
 use Rattle.ref_mark.proofs.ChainLemmas.{first_look, none_told}
-use Rattle.ref_mark.proofs.MarkerLemmas.{past_refers}
 use Rattle.ref_clear.proofs.Common.{Reference}
-use Rattle.ref_clear.proofs.PendingRoom.{cleared_refers_to_none}
 use Rattle.std.proofs.lemmas.List.{get_or_default, length-map}
 use Rattle.ref_clear.proofs.Common.{has, AreDistinct, Object, is_there, numbers, joined, list_at, work_refusal}
 use Rattle.ref_clear.proofs.Common.{reference_at, registered_in, first_in, Clearing, CycleHeap}

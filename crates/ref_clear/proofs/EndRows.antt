@@ -1,26 +1,29 @@
 -- The ends of the clearing and of the sweep: nothing found is left, and then nothing doomed.
 use Rattle.std.proofs.Common.{arith}
-use Rattle.std.proofs.Common.{◌≡◌, refl, sym, ap, ◌∙◌, [], None}
+use Rattle.std.proofs.Common.{◌≡◌, ℕ, refl, sym, ap, ◌∙◌, [], None}
 use Rattle.std.proofs.lemmas.Bool.{false≢true, false_from_ne_true}
 use Rattle.ref_clear.proofs.Common.{has, refers_into, reference_at, graph_of, State}
 use Rattle.ref_clear.proofs.Common.{joined, HeapAccepts, with_world, heap_but}
 use Rattle.ref_clear.proofs.Common.{Idle, Clearing, Sweeping, unmarked, CycleHeap, is_white}
 use Rattle.ref_clear.proofs.Common.{cycle_in_phase, MarkStands, FactsBut, shown_heap, ClearHeap, with_mark, refusal_in}
 use Rattle.ref_clear.proofs.Common.{HeapStands}
+use Rattle.ref_base.specs.CollectorRows.{referent_of}
 use Rattle.ref_base.specs.Replay.{with_phase as world_with_phase}
 use Rattle.ref_base.specs.declared.heap_step.HeapStep.TheVariants as heap
 use Rattle.ref_base.specs.declared.plain_step.PlainStep.TheVariants as plain
 use Rattle.ref_base.specs.declared.reply.Reply.TheVariants as replies
 use Rattle.ref_base.proofs.Forgetting.{heap_but-none}
-use Rattle.ref_mark.proofs.DoomedLists.{has-unmarked}
+use Rattle.ref_objects.proofs.SparedLemmas.{has-unmarked, unreferring_at}
+use Rattle.ref_mark.proofs.SweepBegins.{sweep_begun_stands}
+use Rattle.ref_mark.specs.CycleHeaps.{sweep_begun}
 
 -- ---- what a step that isn't refused has passed
 
 -- ---- the clearing ends
 
-clear_ended_stands : (k : CycleHeap) (a : State) → MarkStands (cycle_in_phase k Clearing) a → joined k.found ≡ []
+phase_ended_stands : (k : CycleHeap) (a : State) → MarkStands (cycle_in_phase k Clearing) a → joined k.found ≡ []
     → MarkStands (cycle_in_phase k Sweeping) (with_world a (world_with_phase a.world Sweeping))
-clear_ended_stands k a stands none =
+phase_ended_stands k a stands none =
     let before = cycle_in_phase k Clearing in
     let facts : FactsBut before (graph_of a.world).roots [] = stands.facts refl in
     let cleared = stands.clearing refl in
@@ -50,10 +53,21 @@ clear_ended_stands k a stands none =
       };
     }
 
+-- and what the doomed refer to is forgotten
+clear_ended_stands : (k : CycleHeap) (a : State) → MarkStands (cycle_in_phase k Clearing) a → joined k.found ≡ []
+    → MarkStands (sweep_begun k) (with_world a (world_with_phase a.world Sweeping))
+clear_ended_stands k a stands none =
+    sweep_begun_stands k (with_world a (world_with_phase a.world Sweeping)) (phase_ended_stands k a stands none)
+
+-- what is pending has no referent still
+still_cleared : (k : CycleHeap) (n : ℕ) → referent_of (reference_at k.heap n) ≡ None
+    → referent_of (reference_at (sweep_begun k).heap n) ≡ None
+still_cleared k n cleared = unreferring_at (unmarked k.heap.objects k.marked) k.heap.objects n cleared
+
 pub end_clear_row : (c : ClearHeap) (a : State) → HeapStands c a → refusal_in c (heap.Plain plain.EndClear) ≡ None
     → (b : State) × HeapAccepts a (heap.Plain plain.EndClear) replies.Done b
-    × HeapStands (with_mark c (cycle_in_phase c.mark Sweeping)) b
-end_clear_row c a stands none = grind (arith, clear_ended_stands)
+    × HeapStands (with_mark c (sweep_begun c.mark)) b
+end_clear_row c a stands none = grind (arith, clear_ended_stands, still_cleared)
 
 -- ---- the sweep ends
 

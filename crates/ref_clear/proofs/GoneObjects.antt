@@ -10,7 +10,7 @@ use Rattle.ref_objects.proofs.TagLemmas.{cleared_in_at-without}
 use Rattle.ref_clear.specs.ClearHeaps.{without_tags}
 use Rattle.ref_base.proofs.HasLaws.{has-append}
 use Rattle.ref_base.proofs.NewClears.{is_there-rising}
-use Rattle.ref_mark.proofs.DoomedLists.{has-unmarked}
+use Rattle.ref_objects.proofs.SparedLemmas.{has-unmarked}
 
 -- ---- one after the other
 

@@ -1,34 +1,27 @@
 -- What the code of holds and notices asks: when a hold is minted, and that a cut may come behind a hold.
 use Rattle.std.proofs.Common.{arith}
-use Rattle.std.proofs.Common.{◌≡◌, ℕ, true, false, refl, List, Option, Some, None, if◌then◌else◌}
-use Rattle.ref_clear.proofs.Common.{has, is_there}
-use Rattle.ref_clear.proofs.Common.{pending_numbers, holds_refusal, Reply, State, Fault}
+use Rattle.std.proofs.Common.{◌≡◌, ℕ, true, refl, ap, Option, Some, None}
+use Rattle.ref_clear.proofs.Common.{has, unless}
+use Rattle.ref_objects.specs.Grounds.{is_spared}
+use Rattle.ref_clear.proofs.Common.{pending_numbers, holds_refusal, State, Fault}
 use Rattle.ref_clear.proofs.Common.{mint_refusal, CycleHeap, with_cleared, unless_refused, mint_answer_in}
-use Rattle.ref_clear.proofs.Common.{after_mint_in, ground_of, ClearHeap, holding, AreSoundLists, HeapStands}
+use Rattle.ref_clear.proofs.Common.{after_mint_in, ground_of, ClearHeap, holding, HeapStands}
 use Rattle.ref_base.specs.declared.fault.Fault.TheVariants.{NoSuchObject}
-use Rattle.ref_base.specs.declared.heap_step.HeapStep.TheVariants as heap
 use Rattle.ref_base.specs.declared.reply.Reply.TheVariants as replies
-use Rattle.ref_mark.specs.MarkCalls.{MarkerDoes, names_freed, answer_in_cycle, after_in_cycle}
-use Rattle.ref_mark.proofs.HoldRows.{names_none_freed}
-use Rattle.ref_clear.proofs.PendingFacts.{pending_is_there}
+use Rattle.ref_clear.proofs.PendingFacts.{pending_is_there, pending_is_not_doomed}
 
--- no slot of a heap names an object that was freed
-pub no_slot_of_freed : {k : CycleHeap} {lists : List (List ℕ)} {swept_to : ℕ} (m s : ℕ)
-    → AreSoundLists k lists swept_to
-    → names_freed k m s ≡ false
-no_slot_of_freed {k} m s sound = names_none_freed k sound.stands.0 m s sound.stands.1.mark
-
--- so a hold of what a slot names is that step
-pub does_hold : {k j : CycleHeap} {reply : Reply} (m s : ℕ) → names_freed k m s ≡ false
-    → reply ≡ (if names_freed k m s then replies.Refused NoSuchObject else answer_in_cycle k (heap.Hold m s))
-    → j ≡ (if names_freed k m s then k else after_in_cycle k (heap.Hold m s)) → MarkerDoes k (heap.Hold m s) reply j
-does_hold m s none answer after = record { answer = simp none at answer; after = simp none at after }
+-- of what is spared only the count of holds may refuse one more
+pub mint_of_spared : (k : CycleHeap) (n : ℕ) → is_spared (ground_of k) n ≡ true
+    → mint_refusal (ground_of k) n ≡ holds_refusal k.heap
+mint_of_spared k n spared = ap (λ b. unless b NoSuchObject (holds_refusal k.heap)) spared
 
 -- what is pending is there, so only the count of holds may refuse a hold of it
 pub mint_of_pending : (c : ClearHeap) (a : State) (n : ℕ) → HeapStands c a → has (pending_numbers c.pending) n ≡ true
     → mint_refusal (ground_of c.mark) n ≡ holds_refusal c.mark.heap
 mint_of_pending c a n stands waits =
-    let there : is_there c.mark.heap.objects n ≡ true = pending_is_there c a n stands waits in simp there refl
+    let there = pending_is_there c a n stands waits in
+    let stays = pending_is_not_doomed c a n stands waits in
+    mint_of_spared c.mark n (grind arith)
 
 -- and so may a clear
 pub clear_holding : (k : CycleHeap) (m s n : ℕ) → with_cleared (holding k n) m s ≡ holding (with_cleared k m s) n

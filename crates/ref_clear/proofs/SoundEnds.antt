@@ -8,6 +8,12 @@ use Rattle.ref_clear.proofs.Common.{reference_in, registered_in, after_in, AreRe
 use Rattle.ref_clear.proofs.Common.{AreSoundLists, MaySweep}
 use Rattle.ref_base.specs.declared.heap_step.HeapStep.TheVariants as heap
 use Rattle.ref_base.specs.declared.plain_step.PlainStep.TheVariants as plain
+use Rattle.ref_base.specs.Forgetting.{forgotten}
+use Rattle.ref_base.specs.Graphs.{Object}
+use Rattle.ref_base.proofs.Forgetting.{forgotten-shape}
+use Rattle.ref_base.proofs.Reshaping.{at-reshaped}
+use Rattle.ref_objects.specs.Grounds.{unmarked}
+use Rattle.ref_mark.specs.CycleHeaps.{sweep_begun}
 use Rattle.ref_mark.proofs.Passed.{work_passed}
 use Rattle.ref_clear.proofs.EndRows.{end_clear_row}
 use Rattle.ref_clear.proofs.SweepRows.{sweep_row, may_sweep}
@@ -24,21 +30,52 @@ both_hold : (first second : Bool) (early late : Fault) → first ≡ true → se
     → unless first early (unless second late None) ≡ None
 both_hold first second early late holds too = simp (holds, too) refl
 
+-- clearing may end where nothing found is left
+pub may_end_clear : (k : CycleHeap) (lists : List (List ℕ)) → is_in k.phase Clearing ≡ true
+    → not (is_empty (joined k.found)) ≡ false → refusal_in (seen_lists k lists) (heap.Plain plain.EndClear) ≡ None
+may_end_clear k lists clearing looked =
+    both_hold (is_in k.phase Clearing) (is_empty (joined k.found)) WrongPhase ClearingLeft clearing
+    (not-false (is_empty (joined k.found)) looked)
+
+-- what a sweep that begins forgets leaves what is pending as it was
+kept_forgotten : (k : CycleHeap) (lists : List (List ℕ)) → AreKept k (sweep_begun k) lists
+kept_forgotten k lists n within = (
+  at-reshaped (λ o. forgotten (unmarked k.heap.objects k.marked) o) (forgotten-shape (unmarked k.heap.objects k.marked))
+      (λ o. registered_in (reference_in o)) k.heap.objects n (λ o. queue_forgotten (unmarked k.heap.objects k.marked) o),
+  refl,
+)
+  where
+    queue_forgotten : (d : List ℕ) (o : Object)
+        → registered_in (forgotten d o).reference ≡ registered_in o.reference
+    queue_forgotten d o = (forgotten-shape d).queue o
+
 -- the clearing ends: the sweep starts from the first number
 pub sound_clear_ended : {j k : CycleHeap} {lists : List (List ℕ)} {swept_to : ℕ} → is_in k.phase Clearing ≡ true
-    → not (is_empty (joined k.found)) ≡ false → j ≡ cycle_in_phase k Sweeping → AreSoundLists k lists swept_to
+    → not (is_empty (joined k.found)) ≡ false → j ≡ sweep_begun k → AreSoundLists k lists swept_to
     → AreSoundLists j lists 0
 sound_clear_ended {j} {k} {lists} {swept_to} clearing looked after sound =
-    let none : refusal_in (seen_lists k lists) (heap.Plain plain.EndClear) ≡ None =
-    both_hold (is_in k.phase Clearing) (is_empty (joined k.found)) WrongPhase ClearingLeft clearing
-    (not-false (is_empty (joined k.found)) looked) in
+    let none = may_end_clear k lists clearing looked in
     let row = end_clear_row (seen_lists k lists) sound.stands.0 sound.stands.1 none in
+    let kept = kept_forgotten k lists in
     subst (λ (i : CycleHeap). AreSoundLists i lists 0) (sym after)
     (record {
-      registered = sound.registered;
-      stands = (row.0, row.2);
+      registered = registered_kept k (sweep_begun k) lists kept sound.registered;
+      stands = (
+        row.0,
+        subst (λ (d : ClearHeap). HeapStands d row.0) (sym (seen_kept k (sweep_begun k) lists kept)) row.2,
+      );
       swept = λ now n white. omega arith;
     })
+
+-- and what is seen then is what that step leaves
+pub seen_clear_ended : {j : CycleHeap} (k : CycleHeap) (lists : List (List ℕ)) → is_in k.phase Clearing ≡ true
+    → not (is_empty (joined k.found)) ≡ false → j ≡ sweep_begun k
+    → seen_lists j lists ≡ after_in (seen_lists k lists) (heap.Plain plain.EndClear)
+seen_clear_ended {j} k lists clearing looked after =
+    let none = may_end_clear k lists clearing looked in
+    ap (λ (i : CycleHeap). seen_lists i lists) after ∙ seen_kept k (sweep_begun k) lists (kept_forgotten k lists)
+    ∙ sym (ap (λ refused. unless_refused refused (λ fault. seen_lists k lists)
+    (with_mark (seen_lists k lists) (sweep_begun k))) none)
 
 -- the sweep ends
 pub sound_sweep_ended : {j k : CycleHeap} {lists : List (List ℕ)} {swept_to : ℕ} → is_in k.phase Sweeping ≡ true

@@ -8,7 +8,8 @@ use Rattle.ref_clear.proofs.Common.{least_from, first_in, CycleHeap, is_white, d
 use Rattle.ref_clear.proofs.Common.{MaySweep}
 use Rattle.ref_base.proofs.HasLaws.{has-first}
 use Rattle.ref_mark.specs.CycleHeaps.{swept}
-use Rattle.ref_mark.proofs.DoomedLists.{has-unmarked, has-doomed}
+use Rattle.ref_mark.proofs.DoomedLists.{has-doomed}
+use Rattle.ref_objects.proofs.SparedLemmas.{has-unmarked}
 use Rattle.ref_mark.proofs.MutatedStates.{sweeping_is_past}
 use Rattle.ref_objects.specs.Grounds.{Tag}
 use Rattle.ref_clear.specs.ClearHeaps.{without_tags}

@@ -20,7 +20,8 @@ use Rattle.ref_base.proofs.HasLaws.{has-append, has-cases, has-left, has-first}
 use Rattle.ref_base.proofs.NewClears.{has-new_clears, refers_into-same}
 use Rattle.ref_mark.specs.CycleHeaps.{is_due}
 use Rattle.ref_mark.specs.Standing.{AreThere, InSweeping}
-use Rattle.ref_mark.proofs.DoomedLists.{has-unmarked, past_is_in_cycle, past_is_not_marking}
+use Rattle.ref_mark.proofs.DoomedLists.{past_is_in_cycle, past_is_not_marking}
+use Rattle.ref_objects.proofs.SparedLemmas.{has-unmarked}
 use Rattle.ref_mark.proofs.Mutations.{leading_is_there}
 use Rattle.ref_mark.proofs.MutatedStates.{ticked_other}
 use Rattle.ref_mark.proofs.Passed.{work_passed}

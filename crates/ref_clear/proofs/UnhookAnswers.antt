@@ -1,7 +1,7 @@
 -- What the code of an unhook answers and leaves: where the reference is registered, the hold comes first, then the cut.
 use Rattle.std.proofs.Common.{arith}
 use Rattle.std.proofs.Common.{◌≡◌, ℕ, true, refl, sym, ap, subst, ◌∙◌, List, Some, None}
-use Rattle.ref_clear.proofs.Common.{Heap, Reference, is_there, slot_at, reference_at, registered_in, reference_of}
+use Rattle.ref_clear.proofs.Common.{Heap, Reference, slot_at, reference_at, registered_in, reference_of}
 use Rattle.ref_clear.proofs.Common.{has_slot}
 use Rattle.ref_clear.proofs.Common.{Reply, holds_refusal, Own, CycleHeap, with_cleared, mint_answer_in}
 use Rattle.ref_clear.proofs.Common.{after_mint_in, holding, unhooked, refusal_in, queue_in}
@@ -16,6 +16,8 @@ use Rattle.ref_base.specs.declared.heap_step.HeapStep.TheVariants as heap
 use Rattle.ref_base.specs.declared.plain_step.PlainStep.TheVariants as plain
 use Rattle.ref_base.specs.declared.reply.Reply.TheVariants as replies
 use Rattle.ref_base.proofs.RowForms.{unless_passes}
+use Rattle.ref_objects.specs.Grounds.{is_spared}
+use Rattle.ref_mark.specs.MarkViews.{ground_of}
 use Rattle.ref_mark.specs.MarkCalls as marks
 use Rattle.ref_mark.specs.MarkCalls.{MarkerDoes}
 use Rattle.ref_clear.specs.ClearCalls.{HeapDoes}
@@ -67,7 +69,7 @@ module _ {k : CycleHeap} {lists : List (List ℕ)} {swept_to : ℕ} (sound : Are
   unhook_done {i} {j} {object} answer after cut =
       let mint = minted k n object answer after in
       let counted : holds_refusal k.heap ≡ None =
-      (unless_passes (is_there k.heap.objects n) NoSuchObject (holds_refusal k.heap) mint.0).1 in
+      (unless_passes (is_spared (ground_of k) n) NoSuchObject (holds_refusal k.heap) mint.0).1 in
       let none : refusal_in (seen_lists k lists) (heap.Unhook m s) ≡ None = refusal ∙ counted in
       let reply : answer_of_unhook (slot_at k.heap m s) (queue_in k m s) ≡ replies.Notice n q Own =
       ap (λ v. answer_of_unhook v (queue_in k m s)) held ∙ ap (answer_of_unhook (Some n)) registered in

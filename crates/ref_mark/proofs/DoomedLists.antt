@@ -1,5 +1,5 @@
 -- The list of the doomed: its members are the doomed, and what doesn't change it.
-use Rattle.std.proofs.Common.{◌≡◌, ℕ, ◌+◌, ◌<◌, true, false, ◌&&◌, not, ◌==◌, if◌then◌else◌, refl, sym, ◌∙◌, ap}
+use Rattle.std.proofs.Common.{◌≡◌, ℕ, ◌+◌, ◌<◌, true, false, ◌==◌, if◌then◌else◌, refl, sym, ◌∙◌, ap}
 use Rattle.std.proofs.Common.{arith, inl, inr, List, [], ◌∷◌, ◌++◌, Option, Some, None}
 use Rattle.std.proofs.lemmas.Bool.{cases_Bool, eq-eqb}
 use Rattle.ref_objects.specs.Grounds.{with_new_tag}
@@ -7,15 +7,10 @@ use Rattle.ref_mark.proofs.Common.{has, Object, is_there, changed_at, with_chang
 use Rattle.ref_mark.proofs.Common.{is_in, Phase, Idle, Marking, Clearing, Sweeping, is_in_cycle, CycleHeap}
 use Rattle.ref_mark.proofs.Common.{is_past_mark, is_doomed, doomed, young, with_made, unmarked, shown_heap}
 use Rattle.ref_base.proofs.OneMore.{has-one_more}
+use Rattle.ref_objects.proofs.SparedLemmas.{has-unmarked}
 use Rattle.ref_base.proofs.ShownObjects.{map-shown_none}
 
 -- ---- what isn't marked
-
--- the list of what isn't marked has the objects that aren't marked
-pub has-unmarked : (os : List Object) (marked : List ℕ) (n : ℕ)
-    → has (unmarked os marked) n ≡ (is_there os n && not (has marked n))
-has-unmarked [] marked n = refl
-has-unmarked (o ∷ os) marked n = grind (arith, has-unmarked os marked n)
 
 -- a changed object that keeps its number changes nothing of it
 pub unmarked-changed : (os : List Object) (marked : List ℕ) (n : ℕ) (f : Object → Object)
@@ -61,7 +56,7 @@ past_is_not_marking Marking past = sym past
 past_is_not_marking Clearing past = refl
 past_is_not_marking Sweeping past = refl
 
-is_there-push : (os : List Object) (o : Object) → is_there (os ++ o ∷ []) o.no ≡ true
+pub is_there-push : (os : List Object) (o : Object) → is_there (os ++ o ∷ []) o.no ≡ true
 is_there-push [] o = let own : (o.no == o.no) ≡ true = eq-eqb o.no o.no refl in simp own refl
 is_there-push (p ∷ os) o = grind (arith, is_there-push os o)
 

@@ -1,6 +1,6 @@
 -- The rows of holds: they come and go, and what is held comes into a slot.
 use Rattle.std.proofs.Common.{arith}
-use Rattle.std.proofs.Common.{◌≡◌, ℕ, ◌+◌, ◌*◌, true, false, refl, ap, subst, List, [], ◌∷◌}
+use Rattle.std.proofs.Common.{◌≡◌, ℕ, ◌+◌, ◌*◌, true, refl, ap, subst, List, [], ◌∷◌}
 use Rattle.std.proofs.Common.{length, Option, Some, None, ◌⊎◌, inl, inr}
 use Rattle.std.specs.Prelude.{slice_set}
 use Rattle.std.proofs.lemmas.List.{length-set}
@@ -15,7 +15,7 @@ use Rattle.ref_base.specs.declared.heap_step.HoldName.{HoldName}
 use Rattle.ref_base.specs.declared.heap_step.HeapStep.TheVariants as heap
 use Rattle.ref_base.specs.declared.reply.Reply.TheVariants as replies
 use Rattle.ref_objects.specs.Grounds.{mint_refusal}
-use Rattle.ref_mark.specs.MarkCalls.{with_hold_of, is_freed, names_freed}
+use Rattle.ref_mark.specs.MarkCalls.{with_hold_of}
 use Rattle.ref_mark.specs.MarkRows.{KeepsStanding}
 use Rattle.ref_mark.specs.MarkViews.{ground_of}
 use Rattle.ref_base.proofs.OneMore.{has-one_more}
@@ -23,7 +23,6 @@ use Rattle.ref_mark.proofs.Mutations.{IsMutation}
 use Rattle.ref_mark.proofs.MutatedStates.{mutated_stands}
 use Rattle.ref_base.proofs.Lookups.{has-present_at, has-present_set}
 use Rattle.ref_mark.proofs.RootFacts.{slot_root, hold_root, pending_root, root_cases}
-use Rattle.ref_mark.proofs.RootFacts.{slot_is_there}
 use Rattle.ref_mark.proofs.MutationKinds.{rooted}
 
 -- what is held after a hold goes was held
@@ -97,15 +96,6 @@ pub release_row : (k : CycleHeap) (a : State) (hold : HoldName) → MarkStands k
     → (b : State) × HeapAccepts a (heap.Release hold) replies.Done b
     × MarkStands (record k { heap = without_hold k.heap hold.object }) b
 release_row k a hold stands = search (without_hold_stands k a stands hold.object)
-
-freed_none : (k : CycleHeap) (a : State) (m s : ℕ) (held : Option ℕ) → MarkStands k a → slot_at k.heap m s ≡ held
-    → is_freed k.heap held ≡ false
-freed_none k a m s None stands is = refl
-freed_none k a m s (Some n) stands is = let there = slot_is_there k a stands m s n is in simp there refl
-
--- no slot names an object that was freed
-pub names_none_freed : (k : CycleHeap) (a : State) (m s : ℕ) → MarkStands k a → names_freed k m s ≡ false
-names_none_freed k a m s stands = grind (arith, freed_none)
 
 -- ---- mints
 

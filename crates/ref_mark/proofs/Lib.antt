@@ -32,3 +32,4 @@ pub mod MarkerLemmas
 pub mod LoopLemmas
 pub mod FirstStates
 pub mod KeptParts
+pub mod SweepBegins

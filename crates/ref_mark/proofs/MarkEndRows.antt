@@ -12,7 +12,7 @@ use Rattle.ref_base.specs.declared.reply.Reply.TheVariants as replies
 use Rattle.ref_mark.specs.CycleHeaps.{cycle_in_phase}
 use Rattle.ref_mark.proofs.PlainStates.{plain_state, plain_state-is}
 use Rattle.ref_base.proofs.FoundLists.{AreFound-scanned, AreFound-some}
-use Rattle.ref_mark.proofs.DoomedLists.{has-unmarked}
+use Rattle.ref_objects.proofs.SparedLemmas.{has-unmarked}
 use Rattle.ref_base.proofs.NewClears.{has-new_clears}
 use Rattle.ref_mark.proofs.SafeMarks.{unmarked_may_be_doomed, unscanned_is_unmarked}
 

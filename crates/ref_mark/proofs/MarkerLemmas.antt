@@ -1,19 +1,27 @@
 -- What holds of a marker's lists, as objects are marked, found, taken and freed.
 use Rattle.std.proofs.Common.{◌≡◌, ℕ, ◌+◌, ◌<◌, ◌≤◌, Bool, true, false, ◌==◌, ◌||◌, not, refl, sym, ◌∙◌, ap, subst}
 use Rattle.std.proofs.Common.{List, [], ◌∷◌, ◌++◌, length, map, take, drop, replicate, get_or, set, Some, None, zero}
-use Rattle.std.proofs.Common.{suc, Option}
+use Rattle.std.proofs.Common.{suc, Option, if◌then◌else◌}
 use Rattle.std.specs.Option.{option_map}
 use Rattle.std.proofs.Common.{arith}
 use Rattle.std.specs.Prelude.{slice_set}
 use Rattle.std.specs.List.{list_any}
-use Rattle.std.proofs.lemmas.Bool.{and_parts, not-true, true≢false, ne_eqb, false_from_ne_true}
+use Rattle.std.proofs.lemmas.Bool.{true≢false, ne_eqb, false_from_ne_true}
 use Rattle.std.proofs.lemmas.List.{append-nil, drop_all, take_all, length_push, length-map, length-set}
 use Rattle.std.proofs.lemmas.List.{length-replicate, length-append}
-use Rattle.ref_mark.proofs.Common.{refers_into, has, is_there, made, Heap, Object, reference_at, one_fewer}
+use Rattle.ref_mark.proofs.Common.{refers_into, has, is_there, made, Heap, Object, reference_at}
 use Rattle.ref_mark.proofs.Common.{joined}
 use Rattle.ref_mark.proofs.Common.{AreDistinct, list_at, is_in, is_empty, work_refusal, Config, Phase, Policy, Idle}
 use Rattle.ref_mark.proofs.Common.{Marking, Sweeping, Ground, Worklist, empty_worklist, first_in, emptied_list}
-use Rattle.ref_mark.proofs.Common.{CycleHeap, first_cycle_heap, is_white, shaded, shaded_all, with_found, is_due}
+use Rattle.ref_mark.proofs.Common.{CycleHeap, first_cycle_heap, is_white, shaded, shaded_all, with_found}
+use Rattle.ref_base.specs.Paths.{present}
+use Rattle.ref_mark.specs.CycleHeaps.{young, with_made, is_swept}
+use Rattle.ref_mark.specs.MarkViews.{ground_of}
+use Rattle.ref_base.specs.Heaps.{one_more}
+use Rattle.ref_base.proofs.HasLaws.{has-right}
+use Rattle.ref_objects.specs.Grounds.{is_condemned, with_condemned, without_tag}
+use Rattle.ref_base.specs.CollectorRows.{without}
+use Rattle.ref_mark.proofs.DoomedLists.{is_there-push}
 use Rattle.ref_mark.proofs.Common.{Chain, AreChains, chain_first, linked_last_of, chain_with, chain_without_first}
 use Rattle.ref_mark.proofs.Common.{is_tagged, linked_last, listed}
 use Rattle.ref_mark.proofs.Common.{lists_of, no_chain, seen_marker, found_in, AreListed, IsSoundMarker, MayFind}
@@ -33,7 +41,7 @@ use Rattle.ref_base.specs.declared.urgency.Urgency.TheVariants.{Normal}
 use Rattle.ref_base.specs.KeptPaths.{policy_from}
 use Rattle.ref_base.proofs.HasLaws.{has-append}
 use Rattle.ref_base.proofs.FoundLists.{with_last, has-with_last, AreDistinct-with_last, joined-emptied}
-use Rattle.ref_objects.specs.Grounds.{Tag, first_ground, is_unmarked, after_freeing, with_new_object}
+use Rattle.ref_objects.specs.Grounds.{Tag, first_ground, after_freeing, with_new_object}
 use Rattle.ref_objects.specs.Grounds.{IsWellFormed, with_cleared_tag, with_new_tag, look_of, ground_with_heap}
 use Rattle.ref_objects.specs.Grounds.{newly_marked, ground_marked_if_any}
 use Rattle.ref_mark.specs.Worklists.{with_last as list_with, without_first_listed}
@@ -96,9 +104,9 @@ listed_taken marked grey found phase w (n ∷ ms) is listed =
     grind (arith, has-taken found w n ms is, AreDistinct-taken found w n ms is listed.found_once)
 
 -- nothing is found
-listed_none : (marked grey : List ℕ) (found : List (List ℕ)) (phase then : Phase) → joined found ≡ []
-    → AreDistinct grey → ((n : ℕ) → has grey n ≡ true → has marked n ≡ true) → AreListed marked grey found then
-listed_none marked grey found phase then none once marks = grind arith
+listed_none : (marked grey : List ℕ) (found : List (List ℕ)) (phase next : Phase) → joined found ≡ []
+    → AreDistinct grey → ((n : ℕ) → has grey n ≡ true → has marked n ≡ true) → AreListed marked grey found next
+listed_none marked grey found phase next none once marks = grind arith
 
 -- ---- objects come, go and are cleared
 
@@ -112,15 +120,40 @@ tagged_if_there g n formed there = ap (λ ns. has ns n) formed.tagged ∙ number
     numbered (o ∷ os) n there = grind (arith, numbered os n)
 
 module _ {g : Ground} (after : Ground) {grey : Worklist} {found : List Chain} {phase : Phase}
-    (config : after.heap.config ≡ g.heap.config) (marks : after.marked ≡ g.marked) (begins : 1 ≤ after.next)
-    (none : is_tagged after.tags 0 ≡ false) (same : IsSame g.tags after.tags (joined (found_in g found)))
+    (config : after.heap.config ≡ g.heap.config) (begins : 1 ≤ after.next) (none : is_tagged after.tags 0 ≡ false)
+    (goes : after.condemning ≡ g.condemning) (same : IsSame g.tags after.tags (joined (found_in g found)))
     (sound : IsSoundMarker g grey found phase) where
   -- the lists are as they were where the links are of what stands in them
   found_retagged : found_in after found ≡ found_in g found
   found_retagged = grind (arith, lists-same)
 
-  sound_retagged : IsSoundMarker after grey found phase
-  sound_retagged = grind (arith, lists-same, found_retagged)
+  sound_more : length after.marked ≤ after.heap.config.cells
+      → ((n : ℕ) → has g.marked n ≡ true → has after.marked n ≡ true) → IsSoundMarker after grey found phase
+  sound_more few grows = grind (arith, lists-same, found_retagged)
+
+  sound_retagged : after.marked ≡ g.marked → IsSoundMarker after grey found phase
+  sound_retagged marks = grind (arith, lists-same, found_retagged)
+
+-- nothing but its phase tells the marker's objects from what is seen of them
+pub ground_same : {g : Ground} {grey : Worklist} {found : List Chain} {phase : Phase} (how : Policy) (cycle : ℕ)
+    → IsSoundMarker g grey found phase → ground_of (seen_marker g grey found phase how cycle) ≡ g
+ground_same {g} how cycle sound = λ i. record g { condemning = (sym sound.condemning) i }
+
+-- the next number isn't marked
+pub unmarked_next : (g : Ground) → IsWellFormed g → has g.marked g.next ≡ false
+unmarked_next g formed =
+    false_from_ne_true (has g.marked g.next)
+    (λ is. let below = formed.orderly.below g.next (formed.marked g.next is) in absurd (omega (arith, below)))
+
+-- what is marked already in a sweep needn't be marked as it becomes young
+already : (k : CycleHeap) (m d : ℕ) (o : Object) → has k.marked o.no ≡ false
+    → young (record k {
+      heap = made k.heap m d o;
+      next = k.next + 1;
+      marked = if is_in k.phase Sweeping then one_more k.marked o.no else k.marked;
+      tags = with_new_tag k.tags o.no;
+    }) o.no ≡ with_made k m d o
+already k m d o new = grind (arith, is_there-push, has-one_more)
 
 -- the heap alone
 module _ {g after : Ground} {grey : Worklist} {found : List Chain} {phase : Phase} (h : Heap)
@@ -147,23 +180,35 @@ module _ {g after : Ground} {grey : Worklist} {found : List Chain} {phase : Phas
   made_config : after.heap.config ≡ g.heap.config
   made_config = ap (λ (h : Ground). h.heap.config) is
 
-  made_marks : after.marked ≡ g.marked
-  made_marks = ap (λ (h : Ground). h.marked) is
+  made_goes : after.condemning ≡ g.condemning
+  made_goes = ap (λ (h : Ground). h.condemning) is
 
-  pub sound_made : IsSoundMarker after grey found phase
-  sound_made = sound_retagged after made_config made_marks made_begins made_none made_same sound
+  pub sound_made : IsWellFormed after → IsSoundMarker after grey found phase
+  sound_made formed =
+      sound_more after made_config made_begins made_none made_goes made_same sound
+      (let few = formed.few in let marks = formed.marks in omega (arith, few, marks))
+      (λ n was. grind (arith, has-one_more))
 
   pub found_made : found_in after found ≡ found_in g found
-  found_made = found_retagged after made_config made_marks made_begins made_none made_same sound
+  found_made = found_retagged after made_config made_begins made_none made_goes made_same sound
 
   pub seen_made : (how : Policy) (cycle : ℕ)
       → seen_marker after grey found phase how cycle
       ≡ record (seen_marker g grey found phase how cycle) {
         heap = made g.heap m d o;
         next = g.next + 1;
+        marked = if is_in phase Sweeping then one_more g.marked o.no else g.marked;
         tags = with_new_tag g.tags o.no;
       }
-  seen_made how cycle = rw found_made (rw is refl)
+  seen_made how cycle = rw found_made (rw is (rw sound.condemning refl))
+
+  -- in a sweep it is marked already, and else as it becomes young
+  pub young_made : (how : Policy) (cycle : ℕ) → has g.marked o.no ≡ false
+      → young (seen_marker after grey found phase how cycle) o.no
+      ≡ with_made (seen_marker g grey found phase how cycle) m d o
+  young_made how cycle new =
+      ap (λ (k : CycleHeap). young k o.no) (seen_made how cycle)
+      ∙ already (seen_marker g grey found phase how cycle) m d o new
 
 -- a reference is cleared
 module _ {g after : Ground} {grey : Worklist} {found : List Chain} {phase : Phase} (n cycle : ℕ) (h : Heap)
@@ -184,10 +229,11 @@ module _ {g after : Ground} {grey : Worklist} {found : List Chain} {phase : Phas
   cut_begins = subst (λ (k : Ground). 1 ≤ k.next) (sym is) sound.begins
 
   pub sound_cut : IsSoundMarker after grey found phase
-  sound_cut = sound_retagged after cut_config (ap (λ (k : Ground). k.marked) is) cut_begins cut_none cut_same sound
+  sound_cut = sound_retagged after cut_config cut_begins cut_none (ap (λ (k : Ground). k.condemning) is) cut_same sound
+      (ap (λ (k : Ground). k.marked) is)
 
   pub found_cut : found_in after found ≡ found_in g found
-  found_cut = found_retagged after cut_config (ap (λ (k : Ground). k.marked) is) cut_begins cut_none cut_same sound
+  found_cut = found_retagged after cut_config cut_begins cut_none (ap (λ (k : Ground). k.condemning) is) cut_same sound
 
   pub seen_cut : (how : Policy) (of : ℕ)
       → seen_marker after grey found phase how of
@@ -215,15 +261,13 @@ module _ {g after : Ground} {grey : Worklist} {found : List Chain} {phase : Phas
 
   pub sound_linked : IsSoundMarker after grey found phase
   sound_linked =
-      sound_retagged after (ap (λ (k : Ground). k.heap.config) is) (ap (λ (k : Ground). k.marked) is) linked_begins
-      linked_none
-      linked_same sound
+      sound_retagged after (ap (λ (k : Ground). k.heap.config) is) linked_begins linked_none
+      (ap (λ (k : Ground). k.condemning) is) linked_same sound (ap (λ (k : Ground). k.marked) is)
 
   pub found_linked : found_in after found ≡ found_in g found
   found_linked =
-      found_retagged after (ap (λ (k : Ground). k.heap.config) is) (ap (λ (k : Ground). k.marked) is) linked_begins
-      linked_none
-      linked_same sound
+      found_retagged after (ap (λ (k : Ground). k.heap.config) is) linked_begins linked_none
+      (ap (λ (k : Ground). k.condemning) is) linked_same sound
 
   pub seen_linked : (how : Policy) (cycle : ℕ)
       → seen_marker after grey found phase how cycle
@@ -232,41 +276,95 @@ module _ {g after : Ground} {grey : Worklist} {found : List Chain} {phase : Phas
 
 -- ---- the marked
 
--- nothing goes that isn't there
-pub one_fewer-missing : (ns : List ℕ) (n : ℕ) → has ns n ≡ false → one_fewer ns n ≡ ns
-one_fewer-missing [] n missing = refl
-one_fewer-missing (m ∷ ms) n missing = grind (arith, one_fewer-missing ms n)
+-- what is condemned is due to be swept, and nobody holds it
+pub condemned_swept : (g : Ground) (grey : Worklist) (found : List Chain) (phase : Phase) (how : Policy) (cycle n : ℕ)
+    → IsWellFormed g → IsSoundMarker g grey found phase
+    → is_condemned g n ≡ is_swept (seen_marker g grey found phase how cycle) n
+condemned_swept g grey found phase how cycle n formed sound =
+    let unheld : is_condemned g n ≡ true → has g.heap.holds n ≡ false = λ out.
+    false_from_ne_true (has g.heap.holds n)
+    (λ held. let kept = formed.closed.rooted n (has-right (present g.heap.slots) g.heap.holds n held) in grind arith)
+    in
+    let phases = sound.condemning in
+    grind arith
 
--- an unmarked object goes in a sweep
+-- a condemned object goes
 module _ {g after : Ground} {grey : Worklist} {found : List Chain} {phase : Phase} (n : ℕ)
-    (plain : has g.marked n ≡ false) (sweeps : is_in phase Sweeping ≡ true) (is : after ≡ after_freeing g n)
-    (sound : IsSoundMarker g grey found phase) where
-  freed_same : IsSame g.tags after.tags (joined (found_in g found))
-  freed_same m within there =
+    (goes : is_condemned g n ≡ true) (is : after ≡ after_freeing g n) (sound : IsSoundMarker g grey found phase) where
+  sweeps : is_in phase Sweeping ≡ true
+  sweeps = let phases = sound.condemning in grind arith
+
+  gone_same : IsSame g.tags after.tags (joined (found_in g found))
+  gone_same m within there =
       absurd (true≢false (sym within ∙ ap (λ ns. has ns m) (sound.listed.none_left sweeps)))
 
-  freed_none : is_tagged after.tags 0 ≡ false
-  freed_none = let none = sound.none_0 in grind (arith, untagged-gone)
+  gone_none : is_tagged after.tags 0 ≡ false
+  gone_none = let none = sound.none_0 in grind (arith, untagged-gone)
 
-  freed_config : after.heap.config ≡ g.heap.config
-  freed_config = grind arith
+  gone_config : after.heap.config ≡ g.heap.config
+  gone_config = grind arith
 
-  freed_marks : after.marked ≡ g.marked
-  freed_marks = grind (arith, one_fewer-missing)
+  gone_marks : after.marked ≡ g.marked
+  gone_marks = grind arith
 
-  freed_begins : 1 ≤ after.next
-  freed_begins = let begins = sound.begins in grind arith
+  gone_goes : after.condemning ≡ g.condemning
+  gone_goes = grind arith
 
+  gone_begins : 1 ≤ after.next
+  gone_begins = let begins = sound.begins in grind arith
+
+  sound_gone : IsSoundMarker after grey found phase
+  sound_gone = sound_retagged after gone_config gone_begins gone_none gone_goes gone_same sound gone_marks
+
+  found_gone : found_in after found ≡ found_in g found
+  found_gone = found_retagged after gone_config gone_begins gone_none gone_goes gone_same sound
+
+module _ {g after : Ground} {grey : Worklist} {found : List Chain} {phase : Phase} (n : ℕ) (formed : IsWellFormed g)
+    (is : after ≡ after_freeing g n) (sound : IsSoundMarker g grey found phase) where
   pub sound_freed : IsSoundMarker after grey found phase
-  sound_freed = sound_retagged after freed_config freed_marks freed_begins freed_none freed_same sound
-
-  pub found_freed : found_in after found ≡ found_in g found
-  found_freed = found_retagged after freed_config freed_marks freed_begins freed_none freed_same sound
+  sound_freed =
+      elim (cases_Bool (is_condemned g n)) [
+        | inl goes ↦ sound_gone n goes is sound
+        | inr stays ↦
+            subst (λ (h : Ground). IsSoundMarker h grey found phase) (sym (is ∙ simp stays refl)) sound
+      ]
 
   pub seen_freed : (how : Policy) (cycle : ℕ)
-      → is_due (seen_marker g grey found phase how cycle) n ≡ true
       → seen_marker after grey found phase how cycle ≡ swept (seen_marker g grey found phase how cycle) n
-  seen_freed how cycle due = rw found_freed (grind (arith, one_fewer-missing))
+  seen_freed how cycle =
+      let told = condemned_swept g grey found phase how cycle n formed sound in
+      elim (cases_Bool (is_condemned g n)) [
+        | inl goes ↦
+            let left : Ground = record g {
+              heap = record g.heap { objects = without (n ∷ []) g.heap.objects };
+              tags = without_tag g.tags n;
+            } in
+            let same : after ≡ left = is ∙ simp goes refl in
+            rw (found_gone n goes is sound) (rw same (simp (sym told ∙ goes) refl))
+        | inr stays ↦
+            let same : after ≡ g = is ∙ simp stays refl in rw same (simp (sym told ∙ stays) refl)
+      ]
+
+none_in : (ns : List ℕ) → is_empty ns ≡ true → ns ≡ []
+none_in [] empty = refl
+none_in (n ∷ ns) empty = absurd (true≢false (sym empty))
+
+-- a sweep begins
+pub sound_condemned : {g after : Ground} {grey : Worklist} {found : List Chain} {phase : Phase}
+    → is_empty (joined (found_in g found)) ≡ true → after ≡ with_condemned g → IsSoundMarker g grey found phase
+    → IsSoundMarker after grey found Sweeping
+sound_condemned {g} {after} {grey} {found} {phase} none is sound = rw is (record {
+  few = sound.few;
+  grey_fits = sound.grey_fits;
+  finders = sound.finders;
+  begins = sound.begins;
+  none_0 = sound.none_0;
+  chains = sound.chains;
+  listed = listed_none g.marked grey.stands (found_in g found) phase Sweeping
+      (none_in (joined (found_in g found)) none) sound.listed.grey_once
+      sound.listed.grey_marked;
+  condemning = refl;
+})
 
 -- more objects are marked
 module _ {g after : Ground} {grey : Worklist} {found : List Chain} {phase : Phase}
@@ -309,17 +407,20 @@ module _ {g after : Ground} {grey : Worklist} {found : List Chain} {phase : Phas
   pub seen_all_marked : (how : Policy) (cycle : ℕ)
       → seen_marker after grey found phase how cycle
       ≡ record (seen_marker g grey found phase how cycle) {
-        marked = (all_marked g held).marked;
-        grey = grey.stands ++ take 0 (all_newly_marked g held);
+        marked = (all_marked (ground_of (seen_marker g grey found phase how cycle)) held).marked;
+        grey = grey.stands
+            ++ take 0 (all_newly_marked (ground_of (seen_marker g grey found phase how cycle)) held);
       }
-  seen_all_marked how cycle = grind (arith, all_marked-only, append-nil)
+  seen_all_marked how cycle =
+      rw (ground_same how cycle sound) (grind (arith, all_marked-only, append-nil))
 
   -- each that was marked anew may become grey in its turn
   pub may_grey_on : {k : CycleHeap} (how : Policy) (cycle place n : ℕ)
       → slice_index_or (map (λ m. Some m) (all_newly_marked g held)) place None ≡ Some n
       → k ≡ record (seen_marker g grey found phase how cycle) {
-        marked = (all_marked g held).marked;
-        grey = grey.stands ++ take place (all_newly_marked g held);
+        marked = (all_marked (ground_of (seen_marker g grey found phase how cycle)) held).marked;
+        grey = grey.stands
+            ++ take place (all_newly_marked (ground_of (seen_marker g grey found phase how cycle)) held);
       } → MayGrey k n
   may_grey_on how cycle place n reads so_far =
       let news = all_newly_marked g held in
@@ -327,7 +428,7 @@ module _ {g after : Ground} {grey : Worklist} {found : List Chain} {phase : Phas
       let apart = read-apart news place n (new_once g held) reads in
       let unlisted : has grey.stands n ≡ false =
       false_from_ne_true (has grey.stands n) (λ stands. true≢false (sym (sound.listed.grey_marked n stands) ∙ one.0)) in
-      rw so_far (record {
+      rw (so_far, ground_same how cycle sound) (record {
         marked = one.1;
         new = has-append grey.stands (take place news) n ∙ simp unlisted apart;
         lacks = false_from_ne_true (has (joined (found_in g found)) n)
@@ -395,6 +496,7 @@ sound_emptied {g} {grey} {found} {phase} sound =
       chains = none.1;
       listed = listed_none g.marked grey.stands (found_in g (map (λ c. no_chain) found)) phase phase
           (ap joined none.0 ∙ joined-emptied (found_in g found)) sound.listed.grey_once sound.listed.grey_marked;
+      condemning = sound.condemning;
     }
 
 pub seen_emptied : (g : Ground) (grey : Worklist) (found : List Chain) (phase : Phase) (how : Policy) (cycle : ℕ)
@@ -403,11 +505,11 @@ pub seen_emptied : (g : Ground) (grey : Worklist) (found : List Chain) (phase : 
 seen_emptied g grey found phase how cycle = rw (emptied_lists g.tags g.heap.config.cells found).0 refl
 
 -- all objects are white
-pub sound_whitened : {g after : Ground} {grey : Worklist} {found : List Chain} {phase : Phase} (then : Phase)
+pub sound_whitened : {g after : Ground} {grey : Worklist} {found : List Chain} {phase : Phase} (begun : Phase)
     (ms : List (List ℕ)) → after.heap.config ≡ g.heap.config → after.next ≡ g.next → after.tags ≡ g.tags
-    → after.marked ≡ [] → grey.stands ≡ [] → found_in g found ≡ none_found ms
-    → IsSoundMarker g grey found phase → IsSoundMarker after grey found then
-sound_whitened {g} {after} {grey} {found} {phase} then ms config next tags unmarked white none sound =
+    → after.marked ≡ [] → after.condemning ≡ is_in begun Sweeping → grey.stands ≡ []
+    → found_in g found ≡ none_found ms → IsSoundMarker g grey found phase → IsSoundMarker after grey found begun
+sound_whitened {g} {after} {grey} {found} {phase} begun ms config next tags unmarked spared white none sound =
     grind (arith, joined-emptied)
 
 pub length-lists_of : (ts : List Tag) (most : ℕ) (cs : List Chain) → length (lists_of ts most cs) ≡ length cs
@@ -454,6 +556,7 @@ module _ {g after : Ground} {grey : Worklist} {found : List Chain} {phase : Phas
     chains = rw pushed one_found.chains;
     listed = rw (pushed, one_found.lists)
         (listed_found g.marked grey.stands (found_in g found) phase w n finder going there black new sound.listed);
+    condemning = sound.condemning;
   })
     where
       finder : w < length (found_in g found)
@@ -506,6 +609,7 @@ module _ {g : Ground} {grey : Worklist} {found : List Chain} {phase : Phase} (w 
     chains = rw taken one_taken.1;
     listed = rw taken_lists
         (listed_taken g.marked grey.stands (found_in g found) phase w (list_at (found_in g found) w) refl sound.listed);
+    condemning = sound.condemning;
   }
 
   seen_taken : (how : Policy) (cycle : ℕ)
@@ -551,9 +655,9 @@ module _ {g : Ground} {grey : Worklist} {found : List Chain} {phase : Phase} (w 
                   sound_taken how cycle
                   ∙ ap (λ (j : CycleHeap). cut_at j n) (seen_taken how cycle))
               | inr stays ↦
+                  let same : after ≡ g = is ∙ simp stays refl in
                   simp (past_refers k n past ∙ stays)
-                  (ap (λ (h : Ground). seen_marker h grey (set found w d) phase how cycle) (is ∙ simp stays refl)
-                  ∙ seen_taken how cycle)
+                  (ap (λ (h : Ground). seen_marker h grey (set found w d) phase how cycle) same ∙ seen_taken how cycle)
             ]
 
 -- some worker has found something where a chain isn't empty
@@ -593,6 +697,7 @@ sound_first config heap_no next begins =
       chains = none.0;
       listed = listed_none [] [] _ Idle Idle (ap joined none.1 ∙ joined-none config.workers) tt
           (λ n there. absurd (true≢false (sym there)));
+      condemning = refl;
     }
 
 pub seen_first : (config : Config) (heap_no next cycle : ℕ) {g : Ground} {grey : Worklist} {found : List Chain}
@@ -640,21 +745,6 @@ pub scan_may_find : {g : Ground} {grey l : Worklist} {found : List Chain} {phase
     → Greys (seen_marker g l found phase how cycle) after → MayFind after w n
 scan_may_find {g} {grey} {l} {found} {phase} {how} {cycle} {now} {after} w n is accepted sound first taken grown =
     grind arith
-
--- ---- the sweep
-
--- a doomed object goes, unless somebody holds it
-module _ (g : Ground) (grey : Worklist) (found : List Chain) (phase : Phase) (how : Policy) (cycle n : ℕ)
-    (due : is_due (seen_marker g grey found phase how cycle) n ≡ true) where
-  white : is_unmarked g n ≡ true
-  white = (and_parts (is_in phase Sweeping) (is_unmarked g n) due).1
-
-  pub due_sweeps : is_in phase Sweeping ≡ true
-  due_sweeps = (and_parts (is_in phase Sweeping) (is_unmarked g n) due).0
-
-  pub due_unmarked : has g.marked n ≡ false
-  due_unmarked =
-      not-true (has g.marked n) (and_parts (is_there g.heap.objects n) (not (has g.marked n)) white).1
 
 -- ---- what calls know of the heap as it is seen
 

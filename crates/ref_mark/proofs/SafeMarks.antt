@@ -9,7 +9,7 @@ use Rattle.ref_mark.proofs.Common.{MarkStands}
 use Rattle.ref_base.specs.KeptPaths.{IsKept}
 use Rattle.ref_base.specs.DoomedSets.{unscanned}
 use Rattle.ref_base.proofs.PathLaws.{path_within}
-use Rattle.ref_mark.proofs.DoomedLists.{has-unmarked}
+use Rattle.ref_objects.proofs.SparedLemmas.{has-unmarked}
 
 -- ---- between any two steps of a cycle
 

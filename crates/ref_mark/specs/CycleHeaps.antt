@@ -8,6 +8,7 @@ use Rattle.ref_base.specs.Graphs.{Object, is_there}
 use Rattle.ref_base.specs.Paths.{present, targets_at}
 use Rattle.ref_base.specs.KeptPaths.{is_kept, policy_from}
 use Rattle.ref_base.specs.DoomedSets.{refers_into}
+use Rattle.ref_base.specs.Forgetting.{heap_but}
 use Rattle.ref_base.specs.Heaps.{Heap, first_heap, slot_at, reference_at, one_more, with_slot, made, got, cut}
 use Rattle.ref_base.specs.Heaps.{with_clock, with_changed, with_reference, cleared}
 use Rattle.ref_base.specs.CollectorRows.{reference_of, referent_of, referent_got, is_same, list_at, emptied, without}
@@ -184,6 +185,10 @@ scanned k w = grey_scanned k w k.grey
 -- a phase begins
 abbrev pub cycle_in_phase : CycleHeap → Phase → CycleHeap
 cycle_in_phase k phase = record k { phase = phase }
+
+-- a sweep begins: what the doomed refer to is forgotten
+abbrev pub sweep_begun : CycleHeap → CycleHeap
+sweep_begun k = record k { heap = heap_but (unmarked k.heap.objects k.marked) k.heap; phase = Sweeping }
 
 -- the first that the worker found goes from its list
 abbrev pub with_found_taken : CycleHeap → ℕ → CycleHeap

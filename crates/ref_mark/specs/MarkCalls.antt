@@ -1,14 +1,14 @@
 -- What the calls of a heap in its cycles answer and leave, step by step: one table for all of them, by the steps and
 -- refusals of the abstract collector.
-use Rattle.std.specs.Prelude.{◌≡◌, ℕ, ◌+◌, Bool, true, false, ◌&&◌, not, List, [], length, Option, Some, None}
+use Rattle.std.specs.Prelude.{◌≡◌, ℕ, ◌+◌, Bool, true, false, not, List, [], length, Option, Some, None}
 use Rattle.std.specs.Prelude.{Result, Ok, Err}
-use Rattle.ref_base.specs.Graphs.{plain_object, is_there}
+use Rattle.ref_base.specs.Graphs.{plain_object}
 use Rattle.ref_base.specs.HeapSteps.{NamedStep}
 use Rattle.ref_base.specs.Heaps.{Heap, slot_at, nulls, new_reference, stored, with_slot, with_hold, without_hold}
 use Rattle.ref_base.specs.Worlds.{first_world, pending_numbers}
 use Rattle.ref_base.specs.Collectors.{State, first_state}
 use Rattle.ref_base.specs.CollectorRows.{field_in, value_reply}
-use Rattle.ref_base.specs.Refusals.{heap_refusal, has_slot, is_empty}
+use Rattle.ref_base.specs.Refusals.{heap_refusal, is_empty}
 use Rattle.ref_base.specs.Replay.{adopted}
 use Rattle.ref_base.specs.declared.fault.Fault.{Fault}
 use Rattle.ref_base.specs.declared.phase.Phase.TheVariants.{Clearing}
@@ -133,15 +133,6 @@ late_roots a (heap.Plain (plain.Begin now how)) = pending_numbers a.world.pendin
 late_roots a step = []
 
 -- ---- holds
-
--- whether this is an object that was freed
-abbrev pub is_freed : Heap → Option ℕ → Bool
-is_freed h None = false
-is_freed h (Some n) = not (is_there h.objects n)
-
--- whether a slot that is there names an object that was freed
-abbrev pub names_freed : CycleHeap → ℕ → ℕ → Bool
-names_freed k m s = has_slot k.heap m s && is_freed k.heap (slot_at k.heap m s)
 
 -- a hold is minted of the object of a number, for the layer above
 abbrev pub mint_answer_in : CycleHeap → ℕ → Reply

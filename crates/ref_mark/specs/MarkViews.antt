@@ -32,9 +32,15 @@ seen_marker g grey found phase policy cycle = record {
   cycle = cycle;
 }
 
--- the objects, slots and holds of the heap, with marks and tags
+-- the objects, slots and holds of the heap, with marks and tags: in a sweep what isn't marked is condemned
 abbrev pub ground_of : CycleHeap → Ground
-ground_of k = record { heap = k.heap; next = k.next; marked = k.marked; tags = k.tags }
+ground_of k = record {
+  heap = k.heap;
+  next = k.next;
+  marked = k.marked;
+  tags = k.tags;
+  condemning = is_in k.phase Sweeping;
+}
 
 -- the look at the first that the worker found
 abbrev pub found_look : CycleHeap → ℕ → Option Look
@@ -51,7 +57,7 @@ pub record AreListed (marked grey : List ℕ) (found : List (List ℕ)) (phase :
   pub none_left : is_in phase Sweeping ≡ true → joined found ≡ []
 
 -- No list is ever full: the grey list has room for as many as there are cells, and no more are marked. There is a chain
--- for each worker, and it is one. No object has number 0.
+-- for each worker, and it is one. No object has number 0. What isn't marked is condemned in a sweep, and only then.
 pub record IsSoundMarker (g : Ground) (grey : Worklist) (found : List Chain) (phase : Phase) : Type 0 where
   pub few : length g.marked ≤ g.heap.config.cells
   pub grey_fits : g.heap.config.cells ≤ grey.room
@@ -60,6 +66,7 @@ pub record IsSoundMarker (g : Ground) (grey : Worklist) (found : List Chain) (ph
   pub none_0 : is_tagged g.tags 0 ≡ false
   pub chains : AreChains g.tags g.heap.config.cells found
   pub listed : AreListed g.marked grey.stands (found_in g found) phase
+  pub condemning : g.condemning ≡ is_in phase Sweeping
 
 -- A worker may find object n: it is black, and nobody has found it, while the cycle marks.
 pub record MayFind (k : CycleHeap) (w n : ℕ) : Type 0 where

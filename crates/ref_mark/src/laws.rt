@@ -1,15 +1,19 @@
 //! What the calls of a heap in its cycles say together of the abstract collector, and the two facts on which safe
 //! marking rests.
 
-ghost use Rattle.std.specs.Prelude.{◌≡◌, ℕ, true, false};
-ghost use Rattle.ref_base.specs.Collectors.{State};
+ghost use Rattle.std.specs.Prelude.{◌≡◌, ℕ, true, false, []};
+ghost use Rattle.ref_base.specs.Collectors.{State, joined};
 ghost use Rattle.ref_base.specs.HeapSteps.{NamedStep};
 ghost use Rattle.ref_base.specs.KeptPaths.{is_kept};
 ghost use Rattle.ref_base.specs.Members.{has};
 ghost use Rattle.ref_base.specs.Paths.{targets_at};
+ghost use Rattle.ref_base.specs.Refusals.{is_in};
 ghost use Rattle.ref_base.specs.Worlds.{graph_of};
-ghost use Rattle.ref_mark.specs.CycleHeaps.{CycleHeap, is_white, is_black, is_in_cycle};
-ghost use Rattle.ref_mark.specs.MarkCalls.{is_of_marking, names_freed};
+ghost use Rattle.ref_base.specs.declared.phase.Phase.TheVariants.{Clearing, Sweeping};
+ghost use Rattle.ref_objects.specs.Grounds.{NamesSpared, IsClosed};
+ghost use Rattle.ref_mark.specs.CycleHeaps.{CycleHeap, is_white, is_black, is_in_cycle, cycle_in_phase, sweep_begun};
+ghost use Rattle.ref_mark.specs.MarkViews.{ground_of};
+ghost use Rattle.ref_mark.specs.MarkCalls.{is_of_marking};
 ghost use Rattle.ref_mark.specs.MarkRows.{IsMarkRowOf, KeepsStanding};
 ghost use Rattle.ref_mark.specs.Standing.{MarkStands};
 
@@ -24,10 +28,16 @@ pub fn each_mint_keeps_standing()
     ensures { (k : CycleHeap) (n : ℕ) → KeepsStanding k n }
 {}
 
-/// No slot of a heap that stands for a state names an object that was freed, so that each hold of it is a step of the
-/// heap.
-pub fn no_slot_names_what_was_freed()
-    ensures { (k : CycleHeap) (a : State) (m s : ℕ) → MarkStands k a → names_freed k m s ≡ false }
+/// Once all that was found was looked at, no slot, no hold and nothing that is marked refers to what isn't marked: so
+/// clearing may end.
+pub fn nothing_refers_to_the_doomed_once_clearing_is_done()
+    ensures { (k : CycleHeap) (a : State) → MarkStands k a → is_in k.phase Clearing ≡ true → joined k.found ≡ []
+        → NamesSpared (ground_of k) → IsClosed k.heap (has k.marked) }
+{}
+
+/// A heap whose sweep begins stands for what it stood for, though what the doomed refer to is forgotten.
+pub fn each_sweep_that_begins_keeps_standing()
+    ensures { (k : CycleHeap) (a : State) → MarkStands (cycle_in_phase k Sweeping) a → MarkStands (sweep_begun k) a }
 {}
 
 /// Between any two steps of a cycle what a root names isn't white: what a slot holds, what is held, what is pending.

@@ -122,7 +122,10 @@ impl<A: Allocator + Copy> Marker<A> {
     pub fn alloc_obj(&mut self, mutator: MutNo, into: SlotNo, fields: u32) -> Result<ObjNo, Fault>
         ensures { MarkerDoes self.old (Plain (New mutator into fields)) (reply_of Reply.Object result) self.new }
     {
+        // Gives the proof that the next number is that of no object, nor marked.
+        self.objects.facts();
         let no = self.objects.alloc_obj(mutator, into, fields)?;
+        self.objects.facts();
         self.make_young(no);
         Ok(no)
     }
@@ -141,9 +144,12 @@ impl<A: Allocator + Copy> Marker<A> {
         ensures { MarkerDoes self.old (Plain (Refer mutator strength into from queue fields))
             (reply_of Reply.Object result) self.new }
     {
+        // Gives the proof that the next number is that of no object, nor marked.
+        self.objects.facts();
         let no = self
             .objects
             .alloc_ref(mutator, into, strength, from, queue, fields)?;
+        self.objects.facts();
         self.make_young(no);
         Ok(no)
     }

@@ -1,9 +1,8 @@
 -- What a call answers and leaves that changes the cell of one object, where it is found and where there is none.
-use Rattle.std.proofs.Common.{◌≡◌, ℕ, ◌-◌, ◌<◌, ◌≤◌, Bool, true, false, nat_lt, refl, sym, ◌∙◌, ap, arith, List, []}
+use Rattle.std.proofs.Common.{◌≡◌, ℕ, ◌<◌, Bool, true, false, refl, sym, ◌∙◌, ap, arith, List, []}
 use Rattle.std.proofs.Common.{◌∷◌, ◌++◌, length, get_or, set, Option, Some, None}
 use Rattle.std.proofs.lemmas.List.{length-set}
 use Rattle.std.specs.Option.{option_map, is_some}
-use Rattle.std.specs.Int.{from_bool}
 use Rattle.ref_objects.specs.Places.{IsSoundTable}
 use Rattle.ref_objects.specs.Tables.{change_of, tabled_linked, is_unmarked_at, look_by, table_look, table_looked_at}
 use Rattle.ref_objects.specs.declared.linked.Linked.{Linked}
@@ -12,12 +11,12 @@ use Rattle.ref_objects.specs.declared.cell.Change.TheVariants.{ClearIn}
 use Rattle.ref_base.specs.DoomedSets.{refers_into}
 use Rattle.ref_objects.specs.declared.cell.Change.{Change}
 use Rattle.ref_objects.proofs.Common.{Tabled, Table, tabled_at, tabled_by, place_in, place_if_live, seen_table, changed}
-use Rattle.ref_objects.proofs.Common.{Entry, changed_tabled, marked_of, holds_in, is_unheld, is_marked_in, table_freed}
+use Rattle.ref_objects.proofs.Common.{Entry, changed_tabled, marked_of, is_unmarked_in, table_freed}
 use Rattle.ref_objects.proofs.PlaceLemmas.{IsPlaceOf, IsPlaceOf-lent, IsMissing, IsMissing-lent}
 use Rattle.ref_objects.proofs.ChangeLemmas.{told_of, seen_changed, placed_changed, tabled_by-changed, there}
-use Rattle.ref_objects.proofs.ChangeLemmas.{room_to_free, goes, stays, seen_freed, placed_freed, tabled_by-freed}
+use Rattle.ref_objects.proofs.ChangeLemmas.{room_to_free, seen_freed, placed_freed, tabled_by-freed}
 use Rattle.ref_objects.proofs.ChangeLemmas.{told_of_none, seen_missing_changed, seen_missing_freed}
-use Rattle.ref_objects.proofs.MarkLemmas.{marks_same, marks_changed, marks_le, marks_fewer}
+use Rattle.ref_objects.proofs.MarkLemmas.{marks_same, marks_changed, marks_without}
 
 -- ---- what is written of an object
 
@@ -83,43 +82,32 @@ module _ {cells borrowed : List (Option Tabled)} {es lent : List Entry} {ps : Li
       pub uncleared_there : (cycle : ℕ) → b ≡ false → t ≡ table_looked_at t n cycle
       uncleared_there cycle spares = simp (sym (ap (λ (i : Look). i.is_cleared) look_told) ∙ spares) refl
 
-    -- the object goes, and its place is free, where nobody holds it
+    -- the object goes, and its place is free, where it isn't marked
     module _ {t : Table} (view : seen_table cells es last ≡ t) {cell : Option Tabled} (was : cell ≡ get_or cells p cell)
-        {held : Bool} (is : held ≡ nat_lt 0 (holds_in cell)) where
-      pub kept_answer : held ≡ true → false ≡ is_unheld (tabled_at t.tabled n)
-      kept_answer is_held = answered_there view is_unheld was (sym (stays cell (sym is ∙ is_held)))
+        {goes : Bool} (is : goes ≡ is_unmarked_in cell) where
+      pub goes_answer : goes ≡ is_unmarked_in (tabled_at t.tabled n)
+      goes_answer = answered_there view is_unmarked_in was is
 
-      pub kept_there : held ≡ true → t ≡ table_freed t n
-      kept_there is_held = let stays = sym (kept_answer is_held) in simp stays refl
+      pub kept_there : goes ≡ false → t ≡ table_freed t n
+      kept_there stays = let kept = sym goes_answer ∙ stays in simp kept refl
 
-      pub freed_answer : held ≡ false → true ≡ is_unheld (tabled_at t.tabled n)
-      freed_answer unheld =
-          let some : is_some cell ≡ true = told_of sound.placed place is_some was ∙ sym (there sound.placed place) in
-          answered_there view is_unheld was (sym (goes cell some (sym is ∙ unheld)))
-
-      pub freed_there : held ≡ false → {new : Option Tabled} → new ≡ None → {free : List ℕ} → free ≡ ps ++ p ∷ []
+      pub freed_there : goes ≡ true → {new : Option Tabled} → new ≡ None → {free : List ℕ} → free ≡ ps ++ p ∷ []
           → seen_table (set cells p new) es last ≡ table_freed t n
-      freed_there unheld gone more =
-          let goes = ap (λ (s : Table). is_unheld (tabled_at s.tabled n)) view ∙ sym (freed_answer unheld) in
+      freed_there leaves gone more =
+          let goes = ap (λ (s : Table). is_unmarked_in (tabled_at s.tabled n)) view ∙ sym goes_answer ∙ leaves in
           seen_freed sound.placed place gone more goes ∙ ap (λ (s : Table). table_freed s n) view
 
-    -- its mark is counted no more
-    module _ {cell : Option Tabled} (was : cell ≡ get_or cells p cell) {less : ℕ}
-        (one : less ≡ from_bool (is_marked_in cell)) where
-      one_there : less ≡ from_bool (is_marked_in (tabled_at (tabled_by cells es) n))
-      one_there = one ∙ ap from_bool (answered_there refl is_marked_in was refl)
-
-      pub mark_counted : less ≤ marked
-      mark_counted = marks_le (tabled_by cells es) n one_there sound.marks_counted
-
-      pub sound_freed : {new : Option Tabled} → new ≡ None → {free : List ℕ} {room : ℕ} → free ≡ ps ++ p ∷ []
-          → room ≡ places_room → IsSoundTable (set cells p new) es free last index_room room (marked - less)
-      sound_freed {new} gone {free} {room} more capacity = record {
+      -- and the marked are as many as before
+      pub sound_freed : goes ≡ true → {new : Option Tabled} → new ≡ None → {free : List ℕ} {room : ℕ}
+          → free ≡ ps ++ p ∷ [] → room ≡ places_room
+          → IsSoundTable (set cells p new) es free last index_room room marked
+      sound_freed leaves {new} gone {free} {room} more capacity = record {
         placed = placed_freed sound.placed place gone more;
         index_fits = omega (arith, sound.index_fits, length-set cells p new);
         places_fit = omega (arith, sound.places_fit, length-set cells p new, capacity);
         marks_counted = marks_same (tabled_by-freed sound.placed place gone more)
-            (marks_fewer (tabled_by cells es) n one_there sound.marks_counted);
+            (marks_without (tabled_by cells es) n (answered_there refl is_unmarked_in was (sym leaves ∙ is))
+            sound.marks_counted);
       }
 
   -- or none: then what is answered of no cell is answered of the number, and the table is left as it was

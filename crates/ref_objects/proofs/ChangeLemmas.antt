@@ -4,10 +4,9 @@ use Rattle.std.proofs.Common.{length, get_or, set, Option, Some, None, suc, arit
 use Rattle.std.proofs.lemmas.List.{get_or-set_same, get_or_read, length-set, length_push}
 use Rattle.std.specs.Option.{option_map, is_some}
 use Rattle.ref_objects.proofs.Common.{has, cell_at, tabled_by, place_in, place_if_live, seen_table, IsPlaced}
-use Rattle.ref_objects.proofs.Common.{Tabled, Table, tabled_at, has_field, holds_in, is_unheld, changed_tabled}
+use Rattle.ref_objects.proofs.Common.{Tabled, Table, tabled_at, has_field, holds_in, is_unmarked_in, changed_tabled}
 use Rattle.ref_objects.proofs.Common.{without_tabled, on_object, less_held, changed, table_freed, with_field, Entry}
-use Rattle.std.proofs.Common.{nat_lt, not}
-use Rattle.std.proofs.lemmas.Bool.{false≢true}
+use Rattle.std.proofs.Common.{nat_lt}
 use Rattle.std.proofs.lemmas.List.{set_past}
 use Rattle.ref_objects.proofs.FreeLemmas.{AreFree-apart, AreFree-set, AreFree-push}
 use Rattle.ref_objects.proofs.PlaceLemmas.{at_place, tabled_at-place, tabled_by-replaced, replaced, replaced-none}
@@ -26,20 +25,11 @@ pub length-without_tabled : (ks : List Tabled) (n : ℕ) (k : Tabled) → tabled
 length-without_tabled [] n k at = absurd (cc)
 length-without_tabled (l ∷ ls) n k at = grind (arith, length-without_tabled ls n k)
 
-is_none : (k : Option Tabled) → is_some k ≡ false → k ≡ None
-is_none None none = refl
-is_none (Some k) none = absurd (false≢true (sym none))
-
 -- a change of an object that isn't there is none
 pub changed_tabled-none : (ks : List Tabled) (n : ℕ) (f : Tabled → Tabled) → tabled_at ks n ≡ None
     → changed_tabled ks n f ≡ ks
 changed_tabled-none [] n f none = refl
 changed_tabled-none (k ∷ ks) n f none = grind (arith, changed_tabled-none ks n f)
-
-pub changed-none : (t : Table) (n : ℕ) (f : Tabled → Tabled) → is_some (tabled_at t.tabled n) ≡ false
-    → changed t n f ≡ t
-changed-none t n f none =
-    ap (λ ks. record t { tabled = ks }) (changed_tabled-none t.tabled n f (is_none (tabled_at t.tabled n) none))
 
 -- so is one hold fewer of an object that nobody holds
 changed_tabled-unheld : (ks : List Tabled) (n : ℕ) → holds_in (tabled_at ks n) ≡ 0 → changed_tabled ks n less_held ≡ ks
@@ -59,15 +49,6 @@ changed_tabled-past (k ∷ ks) n i value past = grind (arith, set_past, changed_
 pub changed-past : (t : Table) (n i : ℕ) (value : Option ℕ) → has_field (tabled_at t.tabled n) i ≡ false
     → changed t n (on_object (with_field i value)) ≡ t
 changed-past t n i value past = ap (λ ks. record t { tabled = ks }) (changed_tabled-past t.tabled n i value past)
-
--- an object goes where it is there and nobody holds it
-pub goes : (k : Option Tabled) → is_some k ≡ true → nat_lt 0 (holds_in k) ≡ false → is_unheld k ≡ true
-goes None there unheld = absurd (false≢true there)
-goes (Some k) there unheld = ap not unheld
-
-pub stays : (k : Option Tabled) → nat_lt 0 (holds_in k) ≡ true → is_unheld k ≡ false
-stays None held = refl
-stays (Some k) held = ap not held
 
 -- ---- a change of one object
 
@@ -119,9 +100,9 @@ module _ {cells : List (Option Tabled)} {es : List Entry} {ps : List ℕ} {last 
     tabled_by-freed =
         ap (λ c. tabled_by (set cells p c) es) is ∙ tabled_by-written None tt ∙ replaced-none (tabled_by cells es) n
 
-    pub seen_freed : is_unheld (tabled_at (tabled_by cells es) n) ≡ true
+    pub seen_freed : is_unmarked_in (tabled_at (tabled_by cells es) n) ≡ true
         → seen_table (set cells p new) es last ≡ table_freed (seen_table cells es last) n
-    seen_freed unheld = grind (arith, tabled_by-freed, length-set)
+    seen_freed unmarked = grind (arith, tabled_by-freed, length-set)
 
     pub placed_freed : IsPlaced (set cells p new) es free last
     placed_freed =
@@ -154,7 +135,8 @@ module _ {cells : List (Option Tabled)} {es : List Entry} {ps : List ℕ} {last 
 
   pub seen_missing_freed : seen_table cells es last ≡ table_freed (seen_table cells es last) n
   seen_missing_freed =
-      let stays : is_unheld (tabled_at (tabled_by cells es) n) ≡ false = ap is_unheld missing_at in simp stays refl
+      let stays : is_unmarked_in (tabled_at (tabled_by cells es) n) ≡ false = ap is_unmarked_in missing_at in
+      simp stays refl
 
 -- a search finds a place exactly where there is an object
 pub found_where_there : {cells borrowed : List (Option Tabled)} {es lent : List Entry} {ps : List ℕ} {last : ℕ} (n : ℕ)

@@ -8,9 +8,9 @@ pub use Rattle.ref_objects.specs.GroundViews.{IsSoundGround, seen_ground}
 pub use Rattle.ref_objects.specs.Grounds.{kind_by, least_from, unmarked}
 pub use Rattle.ref_objects.specs.Places.{AllAbove, AreFree, IsPlaced, NoneAbove, Rises, before, cell_at, count_below}
 pub use Rattle.ref_objects.specs.Places.{is_live, is_of, place_if_live, place_in, places_below, seen_table, tabled_by}
-pub use Rattle.ref_objects.specs.Places.{unmarked_cell}
+pub use Rattle.ref_objects.specs.Places.{blanked_cell, unmarked_cell}
 pub use Rattle.ref_objects.specs.Tables.{AllUpTo, IsOrderlyTable, Table, Tabled, changed, changed_tabled, has_field}
-pub use Rattle.ref_objects.specs.Tables.{holds_in, holds_of, is_marked_in, is_unheld, is_unmarked_in, less_held}
+pub use Rattle.ref_objects.specs.Tables.{holds_in, holds_of, is_marked_in, is_unmarked_in, less_held}
 pub use Rattle.ref_objects.specs.Tables.{made_entry, marked_of, more_held, object_in, objects_of, on_object}
 pub use Rattle.ref_objects.specs.Tables.{table_freed, table_unmarked, tabled_at, tags_of, unmarked_of, unmarked_tabled}
 pub use Rattle.ref_objects.specs.Tables.{with_marked, with_tabled, without_tabled}

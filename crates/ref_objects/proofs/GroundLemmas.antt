@@ -1,16 +1,16 @@
 -- What the fields of a heap's objects say as a heap, and what keeps them sound.
-use Rattle.std.proofs.Common.{◌≡◌, ℕ, ◌+◌, ◌-◌, ◌^◌, ◌<◌, ◌≤◌, true, not, ◌==◌, ◌&&◌, nat_lt, refl, sym}
-use Rattle.std.proofs.Common.{ap, arith, List, [], ◌∷◌, length, Option, Some, None, inl, inr}
+use Rattle.std.proofs.Common.{◌≡◌, ℕ, ◌+◌, ◌-◌, ◌^◌, ◌<◌, ◌≤◌, Bool, true, false, ◌==◌, nat_lt, refl, sym}
+use Rattle.std.proofs.Common.{ap, arith, List, [], ◌∷◌, ◌++◌, length, Option, Some, None, inl, inr}
 use Rattle.std.specs.Prelude.{slice_set}
 use Rattle.std.specs.Option.{is_some}
 use Rattle.std.proofs.lemmas.Bool.{cases_Bool, le-ltb}
-use Rattle.std.proofs.lemmas.Bool.{false≢true}
 use Rattle.std.proofs.lemmas.List.{length-set, length-map, map-append}
-use Rattle.ref_objects.proofs.Common.{has, Object, Reference, object_at, is_there, numbers, IsRising, one_more, Config}
+use Rattle.ref_objects.proofs.Common.{has, Object, Reference, object_at, numbers, IsRising, one_more, Config}
 use Rattle.ref_objects.proofs.Common.{Tabled, Table, tabled_at, objects_of, holds_of, object_in, holds_in, has_field}
-use Rattle.ref_objects.proofs.Common.{is_unheld, on_object, more_held, less_held, changed, changed_tabled, made_entry}
+use Rattle.ref_objects.proofs.Common.{on_object, more_held, less_held, changed, changed_tabled, made_entry}
 use Rattle.ref_objects.proofs.Common.{with_tabled, AllUpTo, least_from, seen_ground, IsSoundGround, one_fewer}
-use Rattle.ref_objects.proofs.Common.{tags_of}
+use Rattle.ref_objects.proofs.Common.{tags_of, marked_of}
+use Rattle.std.specs.Int.{from_bool}
 use Rattle.ref_base.specs.Heaps.{reference_in, with_changed, changed_at, with_reference, cleared, with_hold}
 use Rattle.ref_base.specs.Heaps.{without_hold}
 use Rattle.ref_base.specs.Refusals.{field_count, object_refusal}
@@ -23,12 +23,12 @@ use Rattle.ref_objects.specs.GroundViews.{heap_of, made_at, written}
 use Rattle.ref_objects.specs.declared.cell.Change.{Change}
 use Rattle.ref_objects.specs.declared.cell.Change.TheVariants.{Cut, Stamp, ClearedIn, ClearIn, Link}
 use Rattle.ref_base.specs.Heaps.{with_stamp}
-use Rattle.ref_objects.proofs.TabledLemmas.{object_at-objects_of, is_there-objects_of, objects_of-changed, map-changed}
+use Rattle.ref_objects.proofs.TabledLemmas.{object_at-objects_of, objects_of-changed, map-changed}
 use Rattle.ref_objects.proofs.TabledLemmas.{objects_of-without}
 use Rattle.ref_objects.proofs.NumberLemmas.{has-numbers_by, length-changed, length-without, numbers_by-changed}
 use Rattle.ref_objects.proofs.NumberLemmas.{numbers_by-made, numbers_by-without, numbers_by-more, numbers_by-fewer}
-use Rattle.ref_objects.proofs.NumberLemmas.{least_from-below}
-use Rattle.ref_objects.proofs.MarkLemmas.{marked_of-without}
+use Rattle.ref_objects.proofs.NumberLemmas.{least_from-below, numbers_by-last}
+use Rattle.ref_objects.proofs.MarkLemmas.{marked_of-without, is_unmarked-tabled}
 use Rattle.ref_objects.proofs.TagLemmas.{tags_of-without, tags_of-changed}
 
 -- ---- what is read
@@ -73,16 +73,25 @@ pub has_cell : (config : Config) (heap_no : ℕ) (t : Table) (slots : List (Opti
 has_cell config heap_no t slots holds clock next k sound few below spare = grind (arith, length-map)
 
 pub sound_made : {config : Config} {t : Table} {slots : List (Option ℕ)} {holds next : ℕ} (place k : ℕ)
-    (r : Option Reference) → IsSoundGround config t slots holds next → next < 2 ^ 32
-    → IsSoundGround config (with_tabled t (made_entry next k r)) (slice_set slots place (Some next)) holds (next + 1)
-sound_made {config} {t} {slots} {holds} {next} place k r sound below = grind (arith, length-set, numbers_by-made)
-
-pub seen_made : (config : Config) (heap_no : ℕ) (t : Table) (slots : List (Option ℕ)) (clock next place k : ℕ)
-    (r : Option Reference)
-    → seen_ground config heap_no (with_tabled t (made_entry next k r)) (slice_set slots place (Some next)) clock
+    (r : Option Reference) (marked : Bool) → IsSoundGround config t slots holds next → next < 2 ^ 32
+    → IsSoundGround config (with_tabled t (made_entry next k r marked)) (slice_set slots place (Some next)) holds
     (next + 1)
-    ≡ made_at (seen_ground config heap_no t slots clock next) place k r
-seen_made config heap_no t slots clock next place k r = search (map-append, numbers_by-made)
+sound_made {config} {t} {slots} {holds} {next} place k r marked sound below =
+    grind (arith, length-set, numbers_by-made)
+
+pub seen_made : (config : Config) (heap_no : ℕ) (t : Table) (slots : List (Option ℕ)) (condemning : Bool) (clock next place k : ℕ)
+    (r : Option Reference) → t.last < next → AllUpTo t.last (numbers (objects_of t.tabled))
+    → seen_ground config heap_no (with_tabled t (made_entry next k r condemning)) (slice_set slots place (Some next))
+    condemning clock (next + 1)
+    ≡ made_at (seen_ground config heap_no t slots condemning clock next) place k r
+seen_made config heap_no t slots true clock next place k r below given =
+    search (map-append, numbers_by-made, marked_of-last below given)
+  where
+    marked_of-last : t.last < next → AllUpTo t.last (numbers (objects_of t.tabled))
+        → marked_of (t.tabled ++ made_entry next k r true ∷ []) ≡ one_more (marked_of t.tabled) next
+    marked_of-last below given =
+        numbers_by-last (λ k. from_bool k.marked) t.tabled (made_entry next k r true) t.last given below refl
+seen_made config heap_no t slots false clock next place k r below given = search (map-append, numbers_by-made)
 
 -- ---- an object changed
 
@@ -97,32 +106,32 @@ pub sound_changed : {config : Config} {t : Table} {slots : List (Option ℕ)} {h
     → IsSoundGround config t slots holds next → IsSoundGround config (changed t n f) slots holds next
 sound_changed {config} {t} n f keeps leaves sound = search numbers_by-changed
 
-pub seen_changed : (config : Config) (heap_no : ℕ) (t : Table) (slots : List (Option ℕ)) (clock next n : ℕ)
+pub seen_changed : (config : Config) (heap_no : ℕ) (t : Table) (slots : List (Option ℕ)) (condemning : Bool) (clock next n : ℕ)
     (f : Object → Object) → ((o : Object) → (f o).no ≡ o.no)
-    → seen_ground config heap_no (changed t n (on_object f)) slots clock next
-    ≡ ground_with_heap (seen_ground config heap_no t slots clock next)
+    → seen_ground config heap_no (changed t n (on_object f)) slots condemning clock next
+    ≡ ground_with_heap (seen_ground config heap_no t slots condemning clock next)
     (with_changed (heap_of config heap_no t slots clock) n f)
-seen_changed config heap_no t slots clock next n f keeps =
+seen_changed config heap_no t slots condemning clock next n f keeps =
     grind (arith, objects_of-changed, numbers_by-changed, map-changed)
 
 -- a change of an object's tag alone
-pub seen_tagged : (config : Config) (heap_no : ℕ) (t : Table) (slots : List (Option ℕ)) (clock next n : ℕ)
+pub seen_tagged : (config : Config) (heap_no : ℕ) (t : Table) (slots : List (Option ℕ)) (condemning : Bool) (clock next n : ℕ)
     (f : Tabled → Tabled) (g : Tag → Tag) → ((k : Tabled) → (f k).object ≡ k.object)
     → ((k : Tabled) → (f k).holds ≡ k.holds) → ((k : Tabled) → (f k).marked ≡ k.marked)
     → ((k : Tabled) → tag_of (f k) ≡ g (tag_of k))
-    → seen_ground config heap_no (changed t n f) slots clock next
-    ≡ record (seen_ground config heap_no t slots clock next) { tags = changed_tag (tags_of t.tabled) n g }
-seen_tagged config heap_no t slots clock next n f g object holds marked is =
+    → seen_ground config heap_no (changed t n f) slots condemning clock next
+    ≡ record (seen_ground config heap_no t slots condemning clock next) { tags = changed_tag (tags_of t.tabled) n g }
+seen_tagged config heap_no t slots condemning clock next n f g object holds marked is =
     grind (arith, map-changed, numbers_by-changed, tags_of-changed t.tabled n f g is)
 
 -- an object's reference is cleared, in this cycle
-pub seen_cleared : (config : Config) (heap_no : ℕ) (t : Table) (slots : List (Option ℕ)) (clock next n cycle : ℕ)
-    → seen_ground config heap_no (changed t n (table.change_of (ClearIn cycle))) slots clock next
-    ≡ record (seen_ground config heap_no t slots clock next) {
+pub seen_cleared : (config : Config) (heap_no : ℕ) (t : Table) (slots : List (Option ℕ)) (condemning : Bool) (clock next n cycle : ℕ)
+    → seen_ground config heap_no (changed t n (table.change_of (ClearIn cycle))) slots condemning clock next
+    ≡ record (seen_ground config heap_no t slots condemning clock next) {
       heap = with_changed (heap_of config heap_no t slots clock) n (with_reference cleared);
       tags = with_cleared_tag (tags_of t.tabled) n cycle;
     }
-seen_cleared config heap_no t slots clock next n cycle =
+seen_cleared config heap_no t slots condemning clock next n cycle =
     grind (
       arith,
       objects_of-cleared,
@@ -140,21 +149,21 @@ seen_cleared config heap_no t slots clock next n cycle =
 pub change_holds : (change : Change) (k : Tabled) → (table.change_of change k).holds ≡ k.holds
 change_holds change k = grind arith
 
-pub seen_written : (config : Config) (heap_no : ℕ) (t : Table) (slots : List (Option ℕ)) (clock next n : ℕ)
+pub seen_written : (config : Config) (heap_no : ℕ) (t : Table) (slots : List (Option ℕ)) (condemning : Bool) (clock next n : ℕ)
     (change : Change)
-    → seen_ground config heap_no (changed t n (table.change_of change)) slots clock next
-    ≡ written (seen_ground config heap_no t slots clock next) n change
-seen_written config heap_no t slots clock next n Cut =
-    seen_changed config heap_no t slots clock next n (with_reference cleared) (λ o. refl)
-seen_written config heap_no t slots clock next n (Stamp stamp) =
-    seen_changed config heap_no t slots clock next n (with_reference (with_stamp stamp)) (λ o. refl)
-seen_written config heap_no t slots clock next n (ClearIn cycle) =
-    seen_cleared config heap_no t slots clock next n cycle
-seen_written config heap_no t slots clock next n (ClearedIn cycle) =
-    seen_tagged config heap_no t slots clock next n (table.change_of (ClearedIn cycle))
+    → seen_ground config heap_no (changed t n (table.change_of change)) slots condemning clock next
+    ≡ written (seen_ground config heap_no t slots condemning clock next) n change
+seen_written config heap_no t slots condemning clock next n Cut =
+    seen_changed config heap_no t slots condemning clock next n (with_reference cleared) (λ o. refl)
+seen_written config heap_no t slots condemning clock next n (Stamp stamp) =
+    seen_changed config heap_no t slots condemning clock next n (with_reference (with_stamp stamp)) (λ o. refl)
+seen_written config heap_no t slots condemning clock next n (ClearIn cycle) =
+    seen_cleared config heap_no t slots condemning clock next n cycle
+seen_written config heap_no t slots condemning clock next n (ClearedIn cycle) =
+    seen_tagged config heap_no t slots condemning clock next n (table.change_of (ClearedIn cycle))
     (λ i. record i { cleared_in = cycle }) (λ k. refl) (λ k. refl) (λ k. refl) (λ k. refl)
-seen_written config heap_no t slots clock next n (Link to) =
-    seen_tagged config heap_no t slots clock next n (table.change_of (Link to)) (λ i. record i { link = to })
+seen_written config heap_no t slots condemning clock next n (Link to) =
+    seen_tagged config heap_no t slots condemning clock next n (table.change_of (Link to)) (λ i. record i { link = to })
     (λ k. refl) (λ k. refl) (λ k. refl) (λ k. refl)
 
 -- ---- holds
@@ -191,45 +200,34 @@ module _ {config : Config} {t : Table} {slots : List (Option ℕ)} {holds next :
 
 -- ---- an object goes
 
-unheld_count : (k : Option Tabled) → is_unheld k ≡ true → holds_in k ≡ 0
-unheld_count None unheld = absurd (false≢true unheld)
-unheld_count (Some k) unheld = grind arith
-
-unheld_in : (k : Option Tabled) → is_unheld k ≡ (is_some k && not (nat_lt 0 (holds_in k)))
-unheld_in None = refl
-unheld_in (Some k) = refl
-
--- an object may go where it is there and nobody holds it
-pub is_unheld-tabled : (ks : List Tabled) (n : ℕ) → IsRising (numbers (objects_of ks))
-    → is_unheld (tabled_at ks n) ≡ (is_there (objects_of ks) n && not (has (holds_of ks) n))
-is_unheld-tabled ks n rising = search (unheld_in, is_there-objects_of, has-holds_of)
-
+-- of one that nobody holds no hold is counted
 pub sound_freed : {config : Config} {t : Table} {slots : List (Option ℕ)} {holds next : ℕ} (n : ℕ)
-    → IsSoundGround config t slots holds next → IsSoundGround config (table.table_freed t n) slots holds next
-sound_freed {config} {t} n sound =
-    elim (cases_Bool (is_unheld (tabled_at t.tabled n))) [
-      | inl unheld ↦
-          let none : holds_in (tabled_at t.tabled n) ≡ 0 = unheld_count (tabled_at t.tabled n) unheld in
-          simp unheld
-          (sound_counted sound (omega (arith, sound.counted, length-without (λ k. k.holds) t.tabled n, none)))
-      | inr held ↦ simp held sound
+    → holds_in (tabled_at t.tabled n) ≡ 0 → IsSoundGround config t slots holds next
+    → IsSoundGround config (table.table_freed t n) slots holds next
+sound_freed {config} {t} n none sound =
+    elim (cases_Bool (table.is_unmarked_in (tabled_at t.tabled n))) [
+      | inl goes ↦
+          simp goes (sound_counted sound (omega (arith, sound.counted, length-without (λ k. k.holds) t.tabled n, none)))
+      | inr stays ↦ simp stays sound
     ]
 
-module _ (config : Config) (heap_no : ℕ) (t : Table) (slots : List (Option ℕ)) (clock next n : ℕ)
+module _ (config : Config) (heap_no : ℕ) (t : Table) (slots : List (Option ℕ)) (condemning : Bool) (clock next n : ℕ)
     (rising : IsRising (numbers (objects_of t.tabled))) where
   pub seen_added : is_some (tabled_at t.tabled n) ≡ true
-      → seen_ground config heap_no (changed t n more_held) slots clock next
-      ≡ ground_with_heap (seen_ground config heap_no t slots clock next)
+      → seen_ground config heap_no (changed t n more_held) slots condemning clock next
+      ≡ ground_with_heap (seen_ground config heap_no t slots condemning clock next)
       (with_hold (heap_of config heap_no t slots clock) n)
   seen_added there = search (map-changed, holds_of-added, numbers_by-changed)
 
   pub seen_dropped : 0 < holds_in (tabled_at t.tabled n)
-      → seen_ground config heap_no (changed t n less_held) slots clock next
-      ≡ ground_with_heap (seen_ground config heap_no t slots clock next)
+      → seen_ground config heap_no (changed t n less_held) slots condemning clock next
+      ≡ ground_with_heap (seen_ground config heap_no t slots condemning clock next)
       (without_hold (heap_of config heap_no t slots clock) n)
   seen_dropped held = search (map-changed, holds_of-dropped, numbers_by-changed)
 
-  pub seen_freed : seen_ground config heap_no (table.table_freed t n) slots clock next
-      ≡ after_freeing (seen_ground config heap_no t slots clock next) n
-  seen_freed =
-      grind (arith, is_unheld-tabled, objects_of-without, numbers_by-without, marked_of-without, tags_of-without)
+  -- a condemned object goes
+  pub seen_freed : condemning ≡ true → holds_in (tabled_at t.tabled n) ≡ 0
+      → seen_ground config heap_no (table.table_freed t n) slots condemning clock next
+      ≡ after_freeing (seen_ground config heap_no t slots condemning clock next) n
+  seen_freed goes none =
+      grind (arith, is_unmarked-tabled, objects_of-without, numbers_by-without, marked_of-without, tags_of-without)

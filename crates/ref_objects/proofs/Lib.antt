@@ -10,10 +10,12 @@ pub mod TableLemmas
 pub mod NumberLemmas
 pub mod TabledLemmas
 pub mod GroundLemmas
-pub mod UnmarkedLemmas
+pub mod EachLemmas
 pub mod MarkLemmas
 pub mod MarkedLemmas
 pub mod TagLemmas
 pub mod NewMarks
 pub mod GotLemmas
 pub mod LookLemmas
+pub mod SparedLemmas
+pub mod SoundLemmas

@@ -1,13 +1,12 @@
 -- A look at an object of the table, as a look at that of the heap.
-use Rattle.std.proofs.Common.{◌≡◌, ℕ, refl, sym, ap, ◌∙◌, arith, List, Option, inl, inr}
+use Rattle.std.proofs.Common.{Bool, ◌≡◌, ℕ, refl, ◌∙◌, arith, List, Option, inl, inr}
 use Rattle.std.proofs.lemmas.Bool.{cases_Bool}
-use Rattle.ref_base.specs.DoomedSets.{refers_into}
 use Rattle.ref_base.specs.Strengths.{IsRising}
 use Rattle.ref_base.specs.declared.config.Config.{Config}
 use Rattle.ref_base.proofs.NewClears.{refers_into-same}
-use Rattle.ref_objects.specs.Grounds.{Ground, is_unmarked, linked_in, look_of, ground_looked_at}
+use Rattle.ref_objects.specs.Grounds.{Ground, linked_in, look_of, ground_looked_at}
 use Rattle.ref_objects.specs.GroundViews.{seen_ground, IsSoundGround}
-use Rattle.ref_objects.specs.Tables.{tabled_linked, tabled_reference, is_unmarked_at, table_look, table_looked_at}
+use Rattle.ref_objects.specs.Tables.{tabled_linked, table_look, table_looked_at}
 use Rattle.ref_objects.specs.Tables.{change_of}
 use Rattle.ref_objects.specs.declared.cell.Change.TheVariants.{ClearIn}
 use Rattle.ref_objects.proofs.Common.{Table, tabled_at, objects_of, numbers}
@@ -16,27 +15,27 @@ use Rattle.ref_objects.proofs.GroundLemmas.{reference-tabled, seen_written, soun
 use Rattle.ref_objects.proofs.MarkLemmas.{is_unmarked-tabled}
 use Rattle.ref_objects.proofs.TagLemmas.{cleared_in-tabled, link-tabled}
 
-pub linked_seen : (config : Config) (heap_no : ℕ) (t : Table) (slots : List (Option ℕ)) (clock next n : ℕ)
-    → tabled_linked n (tabled_at t.tabled n) ≡ linked_in (seen_ground config heap_no t slots clock next) n
-linked_seen config heap_no t slots clock next n = grind (arith, reference-tabled, cleared_in-tabled, link-tabled)
+pub linked_seen : (config : Config) (heap_no : ℕ) (t : Table) (slots : List (Option ℕ)) (condemning : Bool) (clock next n : ℕ)
+    → tabled_linked n (tabled_at t.tabled n) ≡ linked_in (seen_ground config heap_no t slots condemning clock next) n
+linked_seen config heap_no t slots condemning clock next n = grind (arith, reference-tabled, cleared_in-tabled, link-tabled)
 
-module _ (config : Config) (heap_no : ℕ) (t : Table) (slots : List (Option ℕ)) (clock next n : ℕ)
+module _ (config : Config) (heap_no : ℕ) (t : Table) (slots : List (Option ℕ)) (condemning : Bool) (clock next n : ℕ)
     (rising : IsRising (numbers (objects_of t.tabled))) where
   abbrev g : Ground
-  g = seen_ground config heap_no t slots clock next
+  g = seen_ground config heap_no t slots condemning clock next
 
   clears : (table_look t n).is_cleared ≡ (look_of g n).is_cleared
   clears = search (refers_into-same, is_unmarked-tabled, reference-tabled)
 
   pub look_seen : table_look t n ≡ look_of g n
-  look_seen = λ i. record { was = linked_seen config heap_no t slots clock next n i; is_cleared = clears i }
+  look_seen = λ i. record { was = linked_seen config heap_no t slots condemning clock next n i; is_cleared = clears i }
 
   pub looked_seen : (cycle : ℕ)
-      → seen_ground config heap_no (table_looked_at t n cycle) slots clock next ≡ ground_looked_at g n cycle
+      → seen_ground config heap_no (table_looked_at t n cycle) slots condemning clock next ≡ ground_looked_at g n cycle
   looked_seen cycle =
       elim (cases_Bool (look_of g n).is_cleared) [
         | inl goes ↦
-            simp (clears ∙ goes) (simp goes (seen_written config heap_no t slots clock next n (ClearIn cycle)))
+            simp (clears ∙ goes) (simp goes (seen_written config heap_no t slots condemning clock next n (ClearIn cycle)))
         | inr stays ↦ simp (clears ∙ stays) (simp stays refl)
       ]
 

@@ -1,16 +1,16 @@
 -- Which objects of a table are marked, and how a change of the table changes it.
-use Rattle.std.proofs.Common.{◌≡◌, ℕ, ◌+◌, ◌-◌, ◌≤◌, Bool, true, false, ◌&&◌, not}
+use Rattle.std.proofs.Common.{◌≡◌, ℕ, ◌+◌, ◌≤◌, Bool, true, false, ◌&&◌, not}
 use Rattle.std.proofs.Common.{refl, sym, ◌∙◌, ap, List, [], ◌∷◌, ◌++◌, length, Option, Some, None, inl}
 use Rattle.std.proofs.Common.{inr, arith}
-use Rattle.std.proofs.lemmas.Bool.{cases_Bool}
+use Rattle.std.proofs.lemmas.Bool.{cases_Bool, true≢false}
 use Rattle.std.specs.Option.{option_map, is_some}
 use Rattle.std.specs.Int.{from_bool}
 use Rattle.ref_objects.specs.Tables.{counted_in}
-use Rattle.ref_objects.proofs.Common.{Object, is_there, numbers, has, IsRising, one_more, one_fewer, Tabled, tabled_at}
+use Rattle.ref_objects.proofs.Common.{Object, is_there, numbers, has, IsRising, one_more, Tabled, tabled_at}
 use Rattle.ref_objects.proofs.Common.{objects_of, changed_tabled, without_tabled, is_marked_in, is_unmarked_in}
 use Rattle.ref_objects.proofs.Common.{marked_of, unmarked_of, with_marked, unmarked}
-use Rattle.ref_objects.proofs.NumberLemmas.{has-numbers_by, numbers_by-changed, numbers_by-made}
-use Rattle.ref_objects.proofs.NumberLemmas.{numbers_by-more, numbers_by-gone, length-changed, length-without}
+use Rattle.ref_objects.proofs.NumberLemmas.{has-numbers_by, numbers_by-changed, numbers_by-without}
+use Rattle.ref_objects.proofs.NumberLemmas.{numbers_by-more, length-changed, length-without, length-made}
 use Rattle.ref_objects.proofs.TabledLemmas.{is_there-objects_of}
 
 -- an object that is marked counts once among the marked
@@ -21,16 +21,21 @@ pub from_bool-le : (b : Bool) → from_bool b ≤ 1
 from_bool-le true = omega arith
 from_bool-le false = omega arith
 
-mark_count-in : (k : Option Tabled) → counted_in mark_count k ≡ from_bool (is_marked_in k)
-mark_count-in None = refl
-mark_count-in (Some k) = refl
-
 -- ---- which are marked
 
 -- a number is among the marked exactly where its object is
 pub has-marked_of : (ks : List Tabled) (n : ℕ) → IsRising (numbers (objects_of ks))
     → has (marked_of ks) n ≡ is_marked_in (tabled_at ks n)
 has-marked_of ks n rising = grind (arith, has-numbers_by)
+
+some_marked : (k : Option Tabled) → is_marked_in k ≡ true → is_some k ≡ true
+some_marked None is = is
+some_marked (Some k) is = refl
+
+pub marked_there : (ks : List Tabled) → IsRising (numbers (objects_of ks)) → (n : ℕ) → has (marked_of ks) n ≡ true
+    → is_there (objects_of ks) n ≡ true
+marked_there ks rising n is =
+    is_there-objects_of ks n ∙ some_marked (tabled_at ks n) (sym (has-marked_of ks n rising) ∙ is)
 
 there_unmarked : (k : Option Tabled) → (is_some k && not (is_marked_in k)) ≡ is_unmarked_in k
 there_unmarked None = refl
@@ -73,10 +78,11 @@ pub marks_changed : (ks : List Tabled) (n : ℕ) (f : Tabled → Tabled) → ((k
 marks_changed ks n f keeps leaves counted =
     counted ∙ ap length (sym (numbers_by-changed mark_count ks n f keeps (λ k. ap from_bool (leaves k))))
 
-pub marks_made : (ks : List Tabled) (k : Tabled) → k.marked ≡ false → {ls : List Tabled} {count : ℕ} → ls ≡ ks ++ k ∷ []
-    → count ≡ length (marked_of ks) → count ≡ length (marked_of ls)
-marks_made ks k plain is counted =
-    marks_same is (counted ∙ ap length (sym (numbers_by-made mark_count ks k (ap from_bool plain))))
+pub marks_made : (ks : List Tabled) (k : Tabled) → {ls : List Tabled} {count more : ℕ} → ls ≡ ks ++ k ∷ []
+    → more ≡ from_bool k.marked → count ≡ length (marked_of ks) → count + more ≡ length (marked_of ls)
+marks_made ks k {ls} {count} {more} is one counted =
+    let pushed = ap (λ ms. length (marked_of ms)) is ∙ length-made mark_count ks k in
+    omega (arith, pushed, one, counted)
 
 once_marked : (k : Option Tabled)
     → counted_in mark_count (option_map (with_marked true) k) ≡ counted_in mark_count k + from_bool (is_unmarked_in k)
@@ -88,13 +94,15 @@ pub marks_more : (ks : List Tabled) (n : ℕ) {count more : ℕ} → more ≡ fr
 marks_more ks n {count} {more} one counted =
     omega (arith, length-changed mark_count ks n (with_marked true), once_marked (tabled_at ks n), one, counted)
 
-module _ (ks : List Tabled) (n : ℕ) {count less : ℕ} (one : less ≡ from_bool (is_marked_in (tabled_at ks n)))
-    (counted : count ≡ length (marked_of ks)) where
-  pub marks_le : less ≤ count
-  marks_le = omega (arith, length-without mark_count ks n, mark_count-in (tabled_at ks n), one, counted)
+unmarked_count : (k : Option Tabled) → true ≡ is_unmarked_in k → counted_in mark_count k ≡ 0
+unmarked_count None new = absurd (true≢false new)
+unmarked_count (Some k) new = grind arith
 
-  pub marks_fewer : count - less ≡ length (marked_of (without_tabled ks n))
-  marks_fewer = omega (arith, length-without mark_count ks n, mark_count-in (tabled_at ks n), one, counted)
+-- one that isn't marked goes
+pub marks_without : (ks : List Tabled) (n : ℕ) → true ≡ is_unmarked_in (tabled_at ks n) → {count : ℕ}
+    → count ≡ length (marked_of ks) → count ≡ length (marked_of (without_tabled ks n))
+marks_without ks n new counted =
+    omega (arith, length-without mark_count ks n, unmarked_count (tabled_at ks n) new, counted)
 
 -- ---- an object is marked, or goes
 
@@ -110,7 +118,7 @@ pub marked_of-marked_again : (ks : List Tabled) (n : ℕ) → is_unmarked_in (ta
 marked_of-marked_again [] n was = refl
 marked_of-marked_again (k ∷ ks) n was = grind (arith, marked_of-marked_again ks n)
 
--- its mark goes with it
-pub marked_of-without : (ks : List Tabled) (n : ℕ) → IsRising (numbers (objects_of ks))
-    → marked_of (without_tabled ks n) ≡ one_fewer (marked_of ks) n
-marked_of-without = numbers_by-gone mark_count (λ k. from_bool-le k.marked)
+-- and where one goes that wasn't
+pub marked_of-without : (ks : List Tabled) (n : ℕ) → is_unmarked_in (tabled_at ks n) ≡ true
+    → marked_of (without_tabled ks n) ≡ marked_of ks
+marked_of-without ks n new = numbers_by-without mark_count ks n (unmarked_count (tabled_at ks n) (sym new))

@@ -1,29 +1,24 @@
 -- The numbers of a table's objects, each as often as a count says: so are the holds, the marked, and the others.
 use Rattle.std.proofs.Common.{◌≡◌, ℕ, zero, suc, ◌+◌, ◌<◌, ◌≤◌, Bool, true, false, ◌==◌, nat_lt, nat_le, refl}
-use Rattle.std.proofs.Common.{sym, ◌∙◌, ap, arith, length-append, List, [], ◌∷◌, ◌++◌, length, replicate, Some, inl}
-use Rattle.std.proofs.Common.{inr}
-use Rattle.std.proofs.lemmas.Bool.{cases_Bool, eq-eqb, eqb-true, lt-ltb, le-ltb, false≢true}
+use Rattle.std.proofs.Common.{sym, ap, arith, length-append, List, [], ◌∷◌, ◌++◌, length, replicate, Some}
+use Rattle.std.proofs.lemmas.Bool.{eq-eqb, lt-ltb, le-ltb, false≢true}
 use Rattle.std.proofs.lemmas.List.{length-replicate}
 use Rattle.std.specs.Option.{option_map, is_some}
 use Rattle.ref_base.proofs.HasLaws.{has-append}
 use Rattle.ref_objects.specs.Tables.{numbers_by, counted_in, first_where}
 use Rattle.ref_objects.specs.Grounds.{AllFrom, IsInOrder}
-use Rattle.ref_objects.proofs.Common.{has, numbers, IsRising, one_more, one_fewer, least_from, Tabled, tabled_at}
+use Rattle.ref_objects.proofs.Common.{has, numbers, IsRising, one_more, one_fewer, least_from, Tabled, tabled_at, AllUpTo}
 use Rattle.ref_objects.proofs.Common.{objects_of, changed_tabled, without_tabled}
 
 -- ---- lists of numbers
 
-has-from : (ns : List ℕ) (n : ℕ) → AllFrom (suc n) ns → has ns n ≡ false
+pub has-from : (ns : List ℕ) (n : ℕ) → AllFrom (suc n) ns → has ns n ≡ false
 has-from [] n all = refl
 has-from (m ∷ ms) n all = grind (arith, has-from ms n all.1)
 
 one_more-from : (ns : List ℕ) (n : ℕ) → AllFrom n ns → one_more ns n ≡ n ∷ ns
 one_more-from [] n all = refl
 one_more-from (m ∷ ms) n all = let above : nat_lt m n ≡ false = le-ltb m n all.0 in simp above refl
-
-one_fewer-none : (ns : List ℕ) (n : ℕ) → AllFrom (suc n) ns → one_fewer ns n ≡ ns
-one_fewer-none [] n all = refl
-one_fewer-none (m ∷ ms) n all = grind (arith, one_fewer-none ms n all.1)
 
 AllFrom-replicate : (count n m : ℕ) (ms : List ℕ) → n ≤ m → AllFrom n ms → AllFrom n (replicate count m ++ ms)
 AllFrom-replicate zero n m ms order all = all
@@ -73,7 +68,7 @@ module _ (count : Tabled → ℕ) where
   -- ---- what is read
 
   -- numbers that rise are all above the first
-  AllFrom-numbers_by : (ks : List Tabled) (n m : ℕ) → n ≤ suc m → IsRising (m ∷ numbers (objects_of ks))
+  pub AllFrom-numbers_by : (ks : List Tabled) (n m : ℕ) → n ≤ suc m → IsRising (m ∷ numbers (objects_of ks))
       → AllFrom n (numbers_by count ks)
   AllFrom-numbers_by [] n m order rising = tt
   AllFrom-numbers_by (k ∷ ks) n m order rising = grind (arith, AllFrom-replicate, AllFrom-numbers_by ks n k.object.no)
@@ -118,6 +113,12 @@ module _ (count : Tabled → ℕ) where
   length-without [] n = refl
   length-without (k ∷ ks) n = grind (arith, length-append, length-replicate, length-without ks n)
 
+  -- one more object adds its count
+  pub length-made : (ks : List Tabled) (k : Tabled)
+      → length (numbers_by count (ks ++ k ∷ [])) ≡ length (numbers_by count ks) + count k
+  length-made [] k = grind (arith, length-append, length-replicate)
+  length-made (l ∷ ls) k = grind (arith, length-append, length-replicate, length-made ls k)
+
   -- ---- changes that leave them
 
   pub numbers_by-changed : (ks : List Tabled) (n : ℕ) (f : Tabled → Tabled)
@@ -131,6 +132,13 @@ module _ (count : Tabled → ℕ) where
   numbers_by-made [] k none = ap (λ times. replicate times k.object.no ++ []) none
   numbers_by-made (l ∷ ls) k none =
       ap (λ ms. replicate (count l) l.object.no ++ ms) (numbers_by-made ls k none)
+
+  -- and the number of one that counts once stands last, where it is above all others
+  pub numbers_by-last : (ks : List Tabled) (k : Tabled) (last : ℕ) → AllUpTo last (numbers (objects_of ks))
+      → last < k.object.no → count k ≡ 1 → numbers_by count (ks ++ k ∷ []) ≡ one_more (numbers_by count ks) k.object.no
+  numbers_by-last [] k last given above once = ap (λ times. replicate times k.object.no ++ []) once
+  numbers_by-last (l ∷ ls) k last given above once =
+      grind (arith, one_more-past, numbers_by-last ls k last given.1 above once)
 
   pub numbers_by-without : (ks : List Tabled) (n : ℕ) → counted_in count (tabled_at ks n) ≡ 0
       → numbers_by count (without_tabled ks n) ≡ numbers_by count ks
@@ -160,28 +168,3 @@ module _ (count : Tabled → ℕ) where
         → numbers_by count (changed_tabled ks n f) ≡ one_fewer (numbers_by count ks) n
     numbers_by-fewer [] n there down = absurd (false≢true there)
     numbers_by-fewer (k ∷ ks) n there down = grind (arith, one_fewer-past, numbers_by-fewer ks n)
-
-  -- an object that counts once, or not at all, takes one with it, or none
-  pub numbers_by-gone : ((k : Tabled) → count k ≤ 1) → (ks : List Tabled) (n : ℕ) → IsRising (numbers (objects_of ks))
-      → numbers_by count (without_tabled ks n) ≡ one_fewer (numbers_by count ks) n
-  numbers_by-gone most [] n rising = refl
-  numbers_by-gone most (k ∷ ks) n rising =
-      elim (cases_Bool (k.object.no == n)) [
-        | inl same ↦
-            let number : k.object.no ≡ n = eqb-true k.object.no n same in
-            let none : one_fewer (numbers_by count ks) n ≡ numbers_by count ks =
-            one_fewer-none (numbers_by count ks) n
-            (AllFrom-numbers_by ks (suc n) k.object.no (omega (arith, number)) rising) in
-            simp same (sym (gone (count k) k.object.no n (numbers_by count ks) (most k) same none))
-        | inr other ↦
-            simp other
-            (ap (λ ms. replicate (count k) k.object.no ++ ms)
-            (numbers_by-gone most ks n (IsRising-tail k.object.no (numbers (objects_of ks)) rising))
-            ∙ sym (one_fewer-past (count k) k.object.no n (numbers_by count ks) other))
-      ]
-    where
-      gone : (times m n : ℕ) (ms : List ℕ) → times ≤ 1 → (m == n) ≡ true → one_fewer ms n ≡ ms
-          → one_fewer (replicate times m ++ ms) n ≡ ms
-      gone zero m n ms most same none = none
-      gone (suc zero) m n ms most same none = simp same refl
-      gone (suc (suc times)) m n ms most same none = absurd (omega (arith, most))

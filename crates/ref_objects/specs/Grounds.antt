@@ -1,21 +1,22 @@
 -- What one sees of the objects of a heap: the heap as plain data, what refuses its calls, and what they leave (package
 -- `java.lang.ref` of Java SE 17 for what making a reference does; numbers, slots, holds and cells: this project's
 -- profile). The functions of a heap are those of the model of the whole collector.
-use Rattle.std.specs.Prelude.{◌≡◌, ℕ, ◌+◌, ◌*◌, ◌/◌, ◌^◌, ◌≤◌, Bool, ◌==◌, ◌&&◌, not, if◌then◌else◌, nat_le, List, []}
+use Rattle.std.specs.Prelude.{◌≡◌, ℕ, ◌+◌, ◌*◌, ◌/◌, ◌^◌, ◌≤◌, Bool, true, false, ◌==◌, ◌&&◌, not, if◌then◌else◌, nat_le, List, []}
 use Rattle.std.specs.Prelude.{◌∷◌, ◌++◌, length, map, Option, Some, None, Result, Ok, Err}
 use Rattle.ref_base.specs.Members.{has, without_first}
-use Rattle.ref_base.specs.Graphs.{Object, Reference, is_there, numbers}
+use Rattle.ref_base.specs.Graphs.{Object, Reference, is_there, numbers, object_at}
+use Rattle.ref_base.specs.Forgetting.{heap_but}
 use Rattle.ref_base.specs.Limits.{is_within_limits}
 use Rattle.ref_base.specs.Orderly.{IsOrderly}
-use Rattle.ref_base.specs.Heaps.{Heap, first_heap, slot_at, reference_at, with_hold, made, one_more, one_fewer, cut}
-use Rattle.ref_base.specs.Heaps.{with_changed, with_reference, got_at, cleared}
-use Rattle.ref_base.specs.CollectorRows.{without, reference_of}
+use Rattle.ref_base.specs.Heaps.{Heap, first_heap, slot_at, reference_at, with_hold, made, one_more, cut}
+use Rattle.ref_base.specs.Heaps.{with_changed, with_reference, got_at, cleared, reference_in}
+use Rattle.ref_base.specs.CollectorRows.{without, reference_of, referent_of}
 use Rattle.ref_base.specs.DoomedSets.{refers_into}
-use Rattle.ref_base.specs.Paths.{if_any}
-use Rattle.ref_base.specs.Refusals.{unless, has_slot, holds_refusal, hold_refusal as returned_refusal}
+use Rattle.ref_base.specs.Paths.{if_any, present}
+use Rattle.ref_base.specs.Refusals.{unless, has_slot, holds_refusal, held_refusal, hold_refusal as returned_refusal}
 use Rattle.ref_base.specs.declared.config.Config.{Config}
 use Rattle.ref_base.specs.declared.fault.Fault.{Fault}
-use Rattle.ref_base.specs.declared.fault.Fault.TheVariants.{BadConfig, EmptySlot, NoSuchObject, NoMemory, NoSuchActor}
+use Rattle.ref_base.specs.declared.fault.Fault.TheVariants.{BadConfig, NoSuchObject, NoMemory, NoSuchActor}
 use Rattle.ref_base.specs.declared.heap_step.HoldName.{HoldName}
 use Rattle.ref_objects.specs.declared.start.Start.{Start}
 use Rattle.ref_objects.specs.declared.kind.Kind.{Kind}
@@ -31,12 +32,13 @@ pub record Tag : Type 0 where
   pub cleared_in : ℕ
 
 -- a heap, the number of its next object, the numbers of the objects that are marked, and the tag of each object, both
--- in order
+-- in order; and whether the objects that aren't marked are condemned
 pub record Ground : Type 0 where
   pub heap : Heap
   pub next : ℕ
   pub marked : List ℕ
   pub tags : List Tag
+  pub condemning : Bool
 
 -- ---- a new heap
 
@@ -56,13 +58,46 @@ starting_refusal config start =
 -- a heap in which nothing was made yet
 abbrev pub first_ground : Config → ℕ → ℕ → Ground
 first_ground config number next =
-    record { heap = first_heap config number; next = next; marked = []; tags = [] }
+    record { heap = first_heap config number; next = next; marked = []; tags = []; condemning = false }
 
 -- this is made, unless it is refused with just this fault, or memory isn't there
 abbrev pub IsMade : {T : Type 0} → Option Fault → T → Result T Fault → Type 0
 IsMade refusal new (Ok answer) = (refusal ≡ None) × (answer ≡ new)
 IsMade None new (Err fault) = fault ≡ NoMemory
 IsMade (Some first) new (Err fault) = fault ≡ first
+
+-- ---- the condemned
+
+-- whether there is such an object, and it isn't marked
+abbrev pub is_unmarked : Ground → ℕ → Bool
+is_unmarked g n = is_there g.heap.objects n && not (has g.marked n)
+
+-- whether it is condemned
+abbrev pub is_condemned : Ground → ℕ → Bool
+is_condemned g n = g.condemning && is_unmarked g n
+
+-- whether there is such an object, and it isn't condemned
+abbrev pub is_spared : Ground → ℕ → Bool
+is_spared g n = is_there g.heap.objects n && not (is_condemned g n)
+
+-- the fields of an object, if there is one
+abbrev pub fields_in : Option Object → List (Option ℕ)
+fields_in None = []
+fields_in (Some o) = o.fields
+
+-- what an object names: what its fields hold, and its referent
+abbrev pub named_in : Option Object → List ℕ
+named_in o = present (fields_in o) ++ if_any (referent_of (reference_in o))
+
+-- what a slot or a hold names passes a test, and so does what an object names that passes
+pub record IsClosed (h : Heap) (passes : ℕ → Bool) : Type 0 where
+  pub rooted : (n : ℕ) → has (present h.slots ++ h.holds) n ≡ true → passes n ≡ true
+  pub closed : (m n : ℕ) → passes m ≡ true → has (named_in (object_at h.objects m)) n ≡ true → passes n ≡ true
+
+-- what slots, holds and objects name is there, and isn't condemned
+pub record NamesSpared (g : Ground) : Type 0 where
+  pub rooted : (n : ℕ) → has (present g.heap.slots ++ g.heap.holds) n ≡ true → is_spared g n ≡ true
+  pub named : (m n : ℕ) → has (named_in (object_at g.heap.objects m)) n ≡ true → is_spared g n ≡ true
 
 -- ---- refusals
 
@@ -76,16 +111,13 @@ abbrev pub GivesBack : {T : Type 0} → Option Fault → HoldName → Result T (
 GivesBack refusal hold (Ok answer) = refusal ≡ None
 GivesBack refusal hold (Err back) = (refusal ≡ Some back.0) × (back.1 ≡ hold)
 
--- there is such an object, and its hold can be counted
+-- there is such an object that isn't condemned, and its hold can be counted
 abbrev pub mint_refusal : Ground → ℕ → Option Fault
-mint_refusal g n = unless (is_there g.heap.objects n) NoSuchObject (holds_refusal g.heap)
+mint_refusal g n = unless (is_spared g n) NoSuchObject (holds_refusal g.heap)
 
-abbrev pub held_mint_refusal : Ground → Option ℕ → Option Fault
-held_mint_refusal g None = Some EmptySlot
-held_mint_refusal g (Some n) = mint_refusal g n
-
+-- the slot holds an object, whose hold can be counted: none of a slot is condemned
 abbrev pub holding_refusal : Ground → ℕ → ℕ → Option Fault
-holding_refusal g m s = unless (has_slot g.heap m s) NoSuchActor (held_mint_refusal g (slot_at g.heap m s))
+holding_refusal g m s = unless (has_slot g.heap m s) NoSuchActor (held_refusal g.heap (slot_at g.heap m s))
 
 -- the hold is one of this heap, which counts it
 abbrev pub release_refusal : Ground → HoldName → Option Fault
@@ -104,11 +136,6 @@ IsHoldOf g named hold = (hold.heap_no ≡ g.heap.no) × (Some hold.object ≡ na
 abbrev pub kind_by : Option Reference → Kind
 kind_by None = kind.Plain
 kind_by (Some r) = kind.Reference r.strength
-
--- the fields of an object, if there is one
-abbrev pub fields_in : Option Object → List (Option ℕ)
-fields_in None = []
-fields_in (Some o) = o.fields
 
 -- what an object is, if there is one
 abbrev pub kind_in : Option Object → Option Kind
@@ -185,29 +212,30 @@ with_cleared_tag ts n cycle = changed_tag ts n (λ t. record t { cleared_in = cy
 abbrev pub with_link : List Tag → ℕ → ℕ → List Tag
 with_link ts n to = changed_tag ts n (λ t. record t { link = to })
 
+-- the marks with that of a new object, which is marked from the start where what isn't is condemned
+abbrev pub marked_if_spared : Ground → ℕ → List ℕ
+marked_if_spared g n = if g.condemning then one_more g.marked n else g.marked
+
 -- one more object, in the slot
 abbrev pub with_new_object : Ground → ℕ → ℕ → Object → Ground
-with_new_object g m d o =
-    record g { heap = made g.heap m d o; next = g.next + 1; tags = with_new_tag g.tags o.no }
+with_new_object g m d o = record g {
+  heap = made g.heap m d o;
+  next = g.next + 1;
+  marked = marked_if_spared g o.no;
+  tags = with_new_tag g.tags o.no;
+}
+
+-- what is there and isn't condemned, and else null
+abbrev pub spared_only : Ground → Option ℕ → Option ℕ
+spared_only g None = None
+spared_only g (Some n) = if is_spared g n then Some n else None
 
 -- one more hold of what was minted
 abbrev pub after_minting : Ground → Result HoldName Fault → Ground
 after_minting g (Ok hold) = ground_with_heap g (with_hold g.heap hold.object)
 after_minting g (Err fault) = g
 
--- there is such an object, and nobody holds it
-abbrev pub is_free : Heap → ℕ → Bool
-is_free h n = is_there h.objects n && not (has h.holds n)
-
--- an object goes that nobody holds
-abbrev pub freed : Heap → ℕ → Heap
-freed h n = if is_free h n then record h { objects = without (n ∷ []) h.objects } else h
-
 -- ---- marks
-
--- whether there is such an object, and it isn't marked
-abbrev pub is_unmarked : Ground → ℕ → Bool
-is_unmarked g n = is_there g.heap.objects n && not (has g.marked n)
 
 -- the object of this number is marked, if there is one
 abbrev pub ground_marked : Ground → ℕ → Ground
@@ -264,29 +292,43 @@ ground_looked_at g n cycle =
     }
     else g
 
--- no object is marked
+-- no object is marked, and none condemned
 abbrev pub without_marks : Ground → Ground
-without_marks g = record g { marked = [] }
+without_marks g = record g { marked = []; condemning = false }
 
 -- the numbers of the objects that aren't marked, in order
 abbrev pub unmarked : List Object → List ℕ → List ℕ
 unmarked [] marked = []
 unmarked (o ∷ os) marked = if has marked o.no then unmarked os marked else o.no ∷ unmarked os marked
 
--- an object goes that nobody holds, and its mark and tag with it
+-- what isn't marked is condemned: it reads as referring to nothing
+abbrev pub with_condemned : Ground → Ground
+with_condemned g =
+    record g { heap = heap_but (unmarked g.heap.objects g.marked) g.heap; condemning = true }
+
+-- nothing is condemned any more
+abbrev pub with_none_condemned : Ground → Ground
+with_none_condemned g = record g { condemning = false }
+
+-- a condemned object goes, and its tag with it
 abbrev pub after_freeing : Ground → ℕ → Ground
 after_freeing g n =
-    if is_free g.heap n
-    then record g { heap = freed g.heap n; marked = one_fewer g.marked n; tags = without_tag g.tags n }
+    if is_condemned g n
+    then record g {
+      heap = record g.heap { objects = without (n ∷ []) g.heap.objects };
+      tags = without_tag g.tags n;
+    }
     else g
 
 -- ---- what holds at all times
 
 -- objects and slots are in order, and so are the holds; there are at most as many objects as cells, and marks as
--- objects; and each object has its tag
+-- objects; what is marked is there; each object has its tag; and what slots, holds and objects name is spared
 pub record IsWellFormed (g : Ground) : Type 0 where
   pub orderly : IsOrderly g.heap g.next
   pub held : IsInOrder g.heap.holds
   pub few : length g.heap.objects ≤ g.heap.config.cells
   pub marks : length g.marked ≤ length g.heap.objects
+  pub marked : (n : ℕ) → has g.marked n ≡ true → is_there g.heap.objects n ≡ true
   pub tagged : map (λ t. t.no) g.tags ≡ numbers g.heap.objects
+  pub closed : NamesSpared g

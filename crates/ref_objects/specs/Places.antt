@@ -5,7 +5,8 @@ use Rattle.std.specs.List.{filter}
 use Rattle.std.specs.Borrow.{Bor}
 use Rattle.ref_base.specs.Graphs.{Reference}
 use Rattle.ref_base.specs.Members.{has}
-use Rattle.ref_objects.specs.Tables.{Tabled, Table, marked_of, with_marked}
+use Rattle.std.specs.Option.{option_map}
+use Rattle.ref_objects.specs.Tables.{Tabled, Table, marked_of, with_marked, blanked_unless_marked}
 use Rattle.ref_objects.specs.declared.index.Entry.{Entry}
 
 -- what a cell holds: an object, or nothing where it has no number
@@ -143,5 +144,8 @@ is_unmarked_entry cells e = is_unmarked_as (cell_at cells e.place) e.no
 
 -- what a cell holds, unmarked
 abbrev pub unmarked_cell : Option Tabled → Option Tabled
-unmarked_cell None = None
-unmarked_cell (Some k) = Some (with_marked false k)
+unmarked_cell = option_map (with_marked false)
+
+-- what a cell holds, which refers to nothing unless it is marked
+abbrev pub blanked_cell : Option Tabled → Option Tabled
+blanked_cell = option_map blanked_unless_marked

@@ -5,6 +5,7 @@ use Rattle.std.specs.Prelude.{[], ◌∷◌, ◌++◌, length, map, replicate, O
 use Rattle.std.specs.Int.{from_bool}
 use Rattle.ref_base.specs.Members.{without_first}
 use Rattle.ref_base.specs.Graphs.{Object, Reference, numbers}
+use Rattle.ref_base.specs.Forgetting.{blanked}
 use Rattle.ref_base.specs.DoomedSets.{refers_into}
 use Rattle.ref_base.specs.Strengths.{IsRising}
 use Rattle.ref_base.specs.Heaps.{reference_in, with_reference, with_stamp, cleared}
@@ -80,11 +81,6 @@ has_field (Some k) i = nat_lt i (length k.object.fields)
 abbrev pub holds_in : Option Tabled → ℕ
 holds_in = counted_in (λ k. k.holds)
 
--- whether there is an object, and nobody holds it
-abbrev pub is_unheld : Option Tabled → Bool
-is_unheld None = false
-is_unheld (Some k) = not (nat_lt 0 k.holds)
-
 -- the first number from n on of an object that passes a test
 abbrev pub first_where : (Tabled → Bool) → List Tabled → ℕ → Option ℕ
 first_where passes [] n = None
@@ -141,16 +137,12 @@ changed t n f = record t { tabled = changed_tabled t.tabled n f }
 abbrev pub without_object : Table → ℕ → Table
 without_object t n = record t { tabled = without_tabled t.tabled n }
 
--- the table without the object of number n, where nobody holds it
-abbrev pub table_freed : Table → ℕ → Table
-table_freed t n = if is_unheld (tabled_at t.tabled n) then without_object t n else t
-
--- an object that nobody holds, unmarked, without a link, never cleared and of so many null fields
-abbrev pub made_entry : ℕ → ℕ → Option Reference → Tabled
-made_entry n count reference = record {
+-- an object that nobody holds, without a link, never cleared and of so many null fields
+abbrev pub made_entry : ℕ → ℕ → Option Reference → Bool → Tabled
+made_entry n count reference marked = record {
   object = record { no = n; fields = replicate count None; reference = reference };
   holds = 0;
-  marked = false;
+  marked = marked;
   link = 0;
   cleared_in = 0;
 }
@@ -194,6 +186,18 @@ unmarked_tabled = map (with_marked false)
 -- the table with none of its objects marked
 abbrev pub table_unmarked : Table → Table
 table_unmarked t = record t { tabled = unmarked_tabled t.tabled }
+
+-- the table without the object of number n, where that isn't marked
+abbrev pub table_freed : Table → ℕ → Table
+table_freed t n = if is_unmarked_in (tabled_at t.tabled n) then without_object t n else t
+
+-- an object that refers to nothing, unless it is marked
+abbrev pub blanked_unless_marked : Tabled → Tabled
+blanked_unless_marked k = if k.marked then k else on_object blanked k
+
+-- the table with each object so
+abbrev pub table_blanked : Table → Table
+table_blanked t = record t { tabled = map blanked_unless_marked t.tabled }
 
 -- ---- tags
 

@@ -3,7 +3,7 @@
 ghost use Rattle.std.specs.Prelude.{◌≡◌, ◌-◌, ◌^◌, ◌<◌, ◌≤◌, nat_lt, true};
 ghost use Rattle.std.specs.Option.{option_map};
 ghost use Rattle.ref_base.specs.Heaps.{with_field, with_reference, with_stamp, cleared};
-ghost use Rattle.ref_objects.specs.Places.{is_of, is_held_as, is_unmarked_as, unmarked_cell};
+ghost use Rattle.ref_objects.specs.Places.{is_of, is_held_as, is_unmarked_as, unmarked_cell, blanked_cell};
 ghost use Rattle.ref_objects.specs.Tables.{made_entry, tabled_fields, has_field, holds_in};
 ghost use Rattle.ref_objects.specs.Tables.{on_object, more_held, less_held};
 ghost use Rattle.ref_objects.specs.Tables.{is_marked_in, is_unmarked_in, with_marked};
@@ -72,17 +72,17 @@ impl Cell {
         }
     }
 
-    /// The cell of a new object that nobody holds, unmarked, without a link, never cleared, with so many null fields.
-    pub(crate) fn of(no: ObjNo, count: usize, reference: Option<Reference>) -> Self
+    /// The cell of a new object that nobody holds, without a link, never cleared, with so many null fields.
+    pub(crate) fn of(no: ObjNo, count: usize, reference: Option<Reference>, marked: bool) -> Self
         requires { count ≤ 8 }
-        ensures { result ≡ Some (made_entry no count reference) }
+        ensures { result ≡ Some (made_entry no count reference marked) }
     {
         Cell {
             no: Some(no),
             fields: Fields::nulls(count),
             reference,
             holds: 0,
-            marked: false,
+            marked,
             link: 0,
             cleared_in: 0,
         }
@@ -260,6 +260,16 @@ impl Cell {
         let is_new = self.no.is_some() && !self.marked;
         self.marked = true;
         is_new
+    }
+
+    /// The object refers to nothing from now on, unless it is marked.
+    pub(crate) fn blank_unless_marked(&mut self)
+        ensures { self.new ≡ blanked_cell self.old }
+    {
+        if !self.marked {
+            self.fields = Fields::nulls(self.fields.len());
+            self.cut();
+        }
     }
 
     /// Takes the object's mark away.

@@ -7,13 +7,13 @@ ghost use Rattle.ref_base.specs.Paths.{is_soft};
 ghost use Rattle.ref_base.specs.Graphs.{plain_object};
 ghost use Rattle.ref_base.specs.Heaps.{slot_at, with_slot, with_changed, with_field, nulls, stored};
 ghost use Rattle.ref_base.specs.Heaps.{reference_made, new_reference};
-ghost use Rattle.ref_base.specs.Refusals.{has_slot, is_queue_or_none, new_refusal, refer_refusal};
+ghost use Rattle.ref_base.specs.Refusals.{unless, has_slot, is_queue_or_none, new_refusal, refer_refusal};
 ghost use Rattle.ref_base.specs.Refusals.{store_refusal, drop_refusal, copy_refusal, object_refusal, field_refusal};
 ghost use Rattle.ref_base.specs.Refusals.{load_refusal};
-ghost use Rattle.ref_base.specs.CollectorRows.{field_in};
+ghost use Rattle.ref_base.specs.CollectorRows.{field_in, referent_of};
 ghost use Rattle.ref_objects.specs.Grounds.{first_ground, starting_refusal, IsMade, IsRefused, if_done};
-ghost use Rattle.ref_objects.specs.Grounds.{ground_with_heap, with_new_object};
-ghost use Rattle.ref_objects.specs.GroundViews.{made_at};
+ghost use Rattle.ref_objects.specs.Grounds.{ground_with_heap, with_new_object, is_spared};
+ghost use Rattle.ref_objects.specs.GroundViews.{made_at, with_slot_at, IsSparedIfAny};
 
 mod holds;
 mod layer;
@@ -45,17 +45,20 @@ pub struct Objects<A: Allocator = Global> {
     clock: u64,
     // The number of the next object: 2^32 where none is left.
     next: u64,
+    // Whether what isn't marked is condemned.
+    condemning: bool,
 }
 
 impl<A: Allocator> Model for Objects<A> {
     ghost use Rattle.ref_objects.specs.Grounds.{Ground};
-    ghost use Rattle.ref_objects.specs.GroundViews.{seen_ground, IsSoundGround};
+    ghost use Rattle.ref_objects.specs.GroundViews.{seen_ground, IsSoundObjects};
 
     ghost Value = { Ground };
 
-    ghost view = { λ o. seen_ground o.config o.heap_no o.table o.slots.items o.clock o.next };
+    ghost view = { λ o. seen_ground o.config o.heap_no o.table o.slots.items o.condemning o.clock o.next };
 
-    ghost invariant = { λ o. IsSoundGround o.config o.table o.slots.items o.holds o.next };
+    ghost invariant = { λ o. IsSoundObjects o.config o.heap_no o.table o.slots.items o.holds o.condemning o.clock
+        o.next };
 }
 
 impl<A: Allocator + Copy> Objects<A> {
@@ -87,12 +90,13 @@ impl<A: Allocator + Copy> Objects<A> {
             holds: 0,
             clock: 0,
             next: u64::from(start.obj),
+            condemning: false,
         })
     }
 
     /// Makes a plain object with so many null fields; the slot holds it. Tried in this order: `NoSuchActor`, `BadField`
     /// above 8 fields, `NumbersSpent`, `NoCell` where every cell is taken. In constant time, but that one call in as
-    /// many as there are cells passes over them where `close_gaps` wasn't called for so long.
+    /// many as there are cells passes over them where `end_cycle` wasn't called for so long.
     pub fn alloc_obj(&mut self, mutator: MutNo, into: SlotNo, fields: u32) -> Result<ObjNo, Fault>
         ensures refused { IsRefused (new_refusal self.old.heap self.old.next mutator into fields) result }
         ensures answer { IfOk result (λ no. no ≡ self.old.next) }
@@ -123,12 +127,12 @@ impl<A: Allocator + Copy> Objects<A> {
             queue fields)) self.old }
     {
         let place = self.place(mutator, into)?;
-        let source = self.place(mutator, from)?;
+        let held = self.slot_of(mutator, from)?;
         let registered = queue;
         if !self.is_queue(queue) {
             return Err(Fault::BadQueue);
         }
-        let no = self.slots[source].ok_or(Fault::EmptySlot)?;
+        let no = held.ok_or(Fault::EmptySlot)?;
         self.make_reference(place, fields, strength, no, registered)
     }
 
@@ -145,10 +149,9 @@ impl<A: Allocator + Copy> Objects<A> {
         ensures after { self.new ≡ if_done result
             (ground_with_heap self.old (stored self.old.heap mutator into field from)) self.old }
     {
-        let target = self.place(mutator, into)?;
-        let source = self.place(mutator, from)?;
-        let no = self.slots[target].ok_or(Fault::EmptySlot)?;
-        let value = self.slots[source];
+        let held = self.slot_of(mutator, into)?;
+        let value = self.slot_of(mutator, from)?;
+        let no = held.ok_or(Fault::EmptySlot)?;
         self.set_field(no, field, value)
     }
 
@@ -168,9 +171,10 @@ impl<A: Allocator + Copy> Objects<A> {
             (ground_with_heap self.old (with_slot self.old.heap mutator into
             (field_in self.old.heap (slot_at self.old.heap mutator from) field))) self.old }
     {
-        let value = self.loadable(mutator, into, from, field)?;
+        let place = self.place(mutator, into)?;
+        let value = self.loadable(mutator, from, field)?;
         let answer = value;
-        let _written = self.set_slot(mutator, into, value);
+        self.write_slot(place, value);
         Ok(answer)
     }
 
@@ -180,7 +184,9 @@ impl<A: Allocator + Copy> Objects<A> {
         ensures after { self.new ≡ if_done result
             (ground_with_heap self.old (with_slot self.old.heap mutator slot None)) self.old }
     {
-        self.set_slot(mutator, slot, None)
+        let place = self.place(mutator, slot)?;
+        self.write_slot(place, None);
+        Ok(())
     }
 
     /// Copies what slot `from` holds, an object or null, into slot `into`, and answers it. The one error is
@@ -198,34 +204,39 @@ impl<A: Allocator + Copy> Objects<A> {
             (slot_at self.old.heap mutator from))) self.old }
     {
         let place = self.place(mutator, into)?;
-        let source = self.place(mutator, from)?;
-        let value = self.slots[source];
+        let value = self.slot_of(mutator, from)?;
         let answer = value;
-        self.slots[place] = value;
+        self.write_slot(place, value);
         Ok(answer)
     }
 
     // ---- parts of calls
 
-    // What a load answers, or why it is refused.
-    fn loadable(
-        &self,
-        mutator: MutNo,
-        into: SlotNo,
-        from: SlotNo,
-        field: u32,
-    ) -> Result<Option<ObjNo>, Fault>
-        ensures refused { IsRefused (load_refusal self.now.heap mutator into from field) result }
+    // What a field of the object in a slot holds, or why a load of it is refused.
+    fn loadable(&self, mutator: MutNo, from: SlotNo, field: u32) -> Result<Option<ObjNo>, Fault>
+        ensures refused { IsRefused (unless (has_slot self.now.heap mutator from) Fault.NoSuchActor
+            (field_refusal self.now.heap (slot_at self.now.heap mutator from) field)) result }
         ensures answer { IfOk result
             (λ value. value ≡ field_in self.now.heap (slot_at self.now.heap mutator from) field) }
+        ensures spared { IfOk result (λ value. IsSparedIfAny self.now value) }
     {
-        self.slot_of(mutator, into)?;
+        // Gives the proof that what a field holds is spared.
+        self.facts();
         let no = self.slot_of(mutator, from)?.ok_or(Fault::EmptySlot)?;
         let fields = self.fields_of(no);
         if field as usize >= fields.len() {
             return Err(Fault::BadField);
         }
         Ok(fields.get(field as usize))
+    }
+
+    // Writes the slot at this place.
+    fn write_slot(&mut self, place: usize, value: Option<ObjNo>)
+        requires place { place < length self.old.heap.slots }
+        requires spared { IsSparedIfAny self.old value }
+        ensures { self.new ≡ with_slot_at self.old place value }
+    {
+        self.slots[place] = value;
     }
 
     // Where a slot lies.
@@ -268,7 +279,8 @@ impl<A: Allocator + Copy> Objects<A> {
         fields: u32,
         reference: Option<Reference>,
     ) -> Result<ObjNo, Fault>
-        requires { place < length self.old.heap.slots }
+        requires place { place < length self.old.heap.slots }
+        requires spared { IsSparedIfAny self.old (referent_of reference) }
         ensures refused { IsRefused (object_refusal self.old.heap self.old.next fields) result }
         ensures answer { IfOk result (λ no. no ≡ self.old.next) }
         ensures after { self.new ≡ if_done result (made_at self.old place fields reference) self.old }
@@ -282,8 +294,12 @@ impl<A: Allocator + Copy> Objects<A> {
         if self.table.is_full() {
             return Err(Fault::NoCell);
         }
+        // Gives the proof that no number is above the last.
+        let _count = self.table.len();
         let no = ObjNo(self.next as u32);
-        self.table.push(no, fields as usize, reference);
+        // What isn't marked would be condemned.
+        self.table
+            .push(no, fields as usize, reference, self.condemning);
         self.slots[place] = Some(no);
         self.next += 1;
         Ok(no)
@@ -298,7 +314,8 @@ impl<A: Allocator + Copy> Objects<A> {
         referent: ObjNo,
         queue: Option<QueueNo>,
     ) -> Result<ObjNo, Fault>
-        requires { place < length self.old.heap.slots }
+        requires place { place < length self.old.heap.slots }
+        requires spared { is_spared self.old referent ≡ true }
         ensures refused { IsRefused (object_refusal self.old.heap self.old.next fields) result }
         ensures answer { IfOk result (λ no. no ≡ self.old.next) }
         ensures after { self.new ≡ if_done result
@@ -316,6 +333,7 @@ impl<A: Allocator + Copy> Objects<A> {
 
     // Writes a field of the object of this number.
     fn set_field(&mut self, no: ObjNo, field: u32, value: Option<ObjNo>) -> Result<(), Fault>
+        requires { IsSparedIfAny self.old value }
         ensures refused { IsRefused (field_refusal self.old.heap (Some no) field) result }
         ensures after { self.new ≡ if_done result
             (ground_with_heap self.old (with_changed self.old.heap no (with_field field value))) self.old }

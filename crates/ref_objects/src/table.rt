@@ -4,7 +4,7 @@ ghost use Rattle.std.specs.Prelude.{◌≡◌, ◌-◌, ◌^◌, ◌==◌, ◌�
 ghost use Rattle.std.specs.Prelude.{replicate};
 ghost use Rattle.std.specs.Bool.{OnFalse};
 ghost use Rattle.std.specs.Vec.{vec_capacity};
-ghost use Rattle.ref_objects.specs.Places.{places_below, unmarked_cell};
+ghost use Rattle.ref_objects.specs.Places.{places_below, unmarked_cell, blanked_cell};
 ghost use Rattle.ref_base.specs.Heaps.{with_field};
 
 use crate::cell::{Cell, Change};
@@ -51,12 +51,12 @@ impl<A: Allocator> Model for Table<A> {
 impl<A: Allocator + Copy> Table<A> {
     ghost use Rattle.ref_objects.specs.Tables.{IsOrderlyTable, empty_table};
     ghost use Rattle.ref_objects.specs.Tables.{tabled_at, tabled_fields, has_field};
-    ghost use Rattle.ref_objects.specs.Tables.{holds_in, holds_of, is_unheld};
+    ghost use Rattle.ref_objects.specs.Tables.{holds_in, holds_of};
     ghost use Rattle.ref_objects.specs.Tables.{first_from, held_from};
     ghost use Rattle.ref_objects.specs.Tables.{on_object, more_held, less_held};
     ghost use Rattle.ref_objects.specs.Tables.{changed, table_freed, made_entry, with_tabled};
     ghost use Rattle.ref_objects.specs.Tables.{is_marked_in, is_unmarked_in, marked_of, unmarked_from, with_marked};
-    ghost use Rattle.ref_objects.specs.Tables.{table_unmarked, change_of};
+    ghost use Rattle.ref_objects.specs.Tables.{table_unmarked, table_blanked, change_of};
     ghost use Rattle.ref_objects.specs.Tables.{tabled_linked, is_unmarked_at, table_look};
     ghost use Rattle.ref_objects.specs.Tables.{table_looked_at};
     ghost use Rattle.ref_base.specs.DoomedSets.{refers_into};
@@ -245,35 +245,40 @@ impl<A: Allocator + Copy> Table<A> {
     }
 
     /// A new object that nobody holds, with so many null fields.
-    pub(crate) fn push(&mut self, no: ObjNo, count: usize, reference: Option<Reference>)
+    pub(crate) fn push(
+        &mut self,
+        no: ObjNo,
+        count: usize,
+        reference: Option<Reference>,
+        marked: bool,
+    )
         requires fields { count ≤ 8 }
         requires rises { self.old.last < no }
         requires room { length self.old.tabled < self.old.room }
-        ensures { self.new ≡ with_tabled self.old (made_entry no count reference) }
+        ensures { self.new ≡ with_tabled self.old (made_entry no count reference marked) }
     {
         make_room(&mut self.index, &self.cells, 2 * self.cells.len());
         let place = self.free.pop().unwrap();
-        self.cells[place as usize] = Cell::of(no, count, reference);
+        self.cells[place as usize] = Cell::of(no, count, reference, marked);
         self.index.push_reserved(Entry { no, place });
         self.last = no;
+        self.marked += usize::from(marked);
     }
 
-    /// Frees the object of this number. False where there is none, or it is held: then nothing changes.
+    /// Frees the object of this number. False where there is none, or it is marked: then nothing changes.
     pub(crate) fn free(&mut self, no: ObjNo) -> bool
-        ensures answer { result ≡ is_unheld (tabled_at self.old.tabled no) }
+        ensures answer { result ≡ is_unmarked_in (tabled_at self.old.tabled no) }
         ensures after { self.new ≡ table_freed self.old no }
     {
         let Some(place) = place_of(&self.cells, &self.index, no) else {
             return false;
         };
-        if self.cells[place].is_held() {
-            return false;
+        let goes = self.cells[place].is_unmarked();
+        if goes {
+            self.cells[place].vacate();
+            self.free.push_reserved(place as u32);
         }
-        let was_marked = self.cells[place].is_marked();
-        self.cells[place].vacate();
-        self.free.push_reserved(place as u32);
-        self.marked -= usize::from(was_marked);
-        true
+        goes
     }
 
     /// Takes the gaps out of the index where they are more than the objects, so that no more are left to pass over.
@@ -336,6 +341,13 @@ impl<A: Allocator + Copy> Table<A> {
         }
     }
 
+    /// What isn't marked refers to nothing from now on. In time of the cells.
+    pub(crate) fn blank_unmarked(&mut self)
+        ensures { self.new ≡ table_blanked self.old }
+    {
+        blank(&mut self.cells);
+    }
+
     /// Takes every mark away. In time of the cells.
     pub(crate) fn unmark_all(&mut self)
         ensures { self.new ≡ table_unmarked self.old }
@@ -351,6 +363,15 @@ fn unmark(cells: &mut [Cell])
 {
     for cell in cells.iter_mut() {
         cell.unmark();
+    }
+}
+
+// What of these cells isn't marked refers to nothing from now on.
+fn blank(cells: &mut [Cell])
+    ensures { cells.new ≡ map blanked_cell cells.old }
+{
+    for cell in cells.iter_mut() {
+        cell.blank_unless_marked();
     }
 }
 

@@ -1,12 +1,12 @@
 //! What lies in the cells of a heap: objects found by number, their fields and references, gaps, cells used again.
 
 use super::Ask::{
-    ClearedIn, FieldCount, FieldOf, FirstFrom, HasObject, IsHeld, IsMarked, KindOf, LinkOf, NextNo,
-    ObjectCount, ReferenceOf, ReferentOf, UnmarkedCount, UnmarkedFrom,
+    ClearedIn, FieldCount, FieldOf, FirstFrom, HasObject, IsCondemned, IsHeld, IsMarked, KindOf,
+    LinkOf, NextNo, ObjectCount, ReferenceOf, ReferentOf, UnmarkedCount, UnmarkedFrom,
 };
 use super::Call::{Ask, Do, Set};
-use super::Do::{Free, LookAt, Mark, New, Refer, Store};
-use super::Set::{Cleared, ClockTo, CloseGaps, Cut, Link, Stamp, UnmarkAll};
+use super::Do::{DropSlot, Free, LookAt, Mark, New, Refer, Store, Sweep};
+use super::Set::{Cleared, ClockTo, Condemn, Cut, EndCycle, Link, Stamp, UnmarkAll};
 use super::{agree, agree_from, config};
 use crate::told::Told;
 use ref_base::{Config, Fault, ObjNo, QueueNo, Strength};
@@ -19,8 +19,11 @@ fn what_is_made_is_found_by_its_number(rt: HostRuntime) -> Result<(), Fail> {
         (Do(New(0, 2)), Told::Object(1)),
         (Do(New(1, 2)), Told::Object(2)),
         (Do(New(1, 2)), Told::Object(3)),
-        (Do(Free(2)), Told::Yes),
-        (Do(Free(3)), Told::Yes),
+        (Do(Sweep(2)), Told::Yes),
+        // A slot holds it.
+        (Do(Sweep(3)), Told::No),
+        (Do(DropSlot(1)), Told::Done),
+        (Do(Sweep(3)), Told::Yes),
         (Do(New(1, 2)), Told::Object(4)),
         (Ask(HasObject(1)), Told::Yes),
         (Ask(HasObject(2)), Told::No),
@@ -102,18 +105,18 @@ fn gaps_are_passed_over_and_closed(rt: HostRuntime) -> Result<(), Fail> {
         (Do(New(0, 2)), Told::Object(3)),
         (Do(New(0, 2)), Told::Object(4)),
         (Do(New(0, 2)), Told::Object(5)),
-        (Do(Free(3)), Told::Yes),
-        (Do(Free(4)), Told::Yes),
-        (Do(Free(4)), Told::No),
+        (Do(Sweep(3)), Told::Yes),
+        (Do(Sweep(4)), Told::Yes),
+        (Do(Sweep(4)), Told::No),
         (Ask(FirstFrom(3)), Told::Found(5)),
         // Fewer gaps than objects stay, and more are closed.
-        (Set(CloseGaps), Told::Done),
+        (Set(EndCycle), Told::Done),
         (Ask(FirstFrom(3)), Told::Found(5)),
         (Ask(FirstFrom(6)), Told::Nothing),
         (Ask(ObjectCount), Told::Count(3)),
-        (Do(Free(1)), Told::Yes),
-        (Do(Free(2)), Told::Yes),
-        (Set(CloseGaps), Told::Done),
+        (Do(Sweep(1)), Told::Yes),
+        (Do(Sweep(2)), Told::Yes),
+        (Set(EndCycle), Told::Done),
         (Ask(FirstFrom(1)), Told::Found(5)),
         (Ask(FirstFrom(6)), Told::Nothing),
         (Ask(ObjectCount), Told::Count(1)),
@@ -126,7 +129,8 @@ fn a_cell_is_used_again_and_holds_nothing_of_before(rt: HostRuntime) -> Result<(
     let story = [
         (Do(New(0, 2)), Told::Object(1)),
         (Do(Store(0, 0, 0)), Told::Done),
-        (Do(Free(1)), Told::Yes),
+        (Do(DropSlot(0)), Told::Done),
+        (Do(Sweep(1)), Told::Yes),
         (Do(New(0, 2)), Told::Object(2)),
         (Ask(HasObject(1)), Told::No),
         (Ask(FieldOf(2, 0)), Told::Null),
@@ -160,20 +164,32 @@ fn what_is_marked_is_counted_and_passed_over(rt: HostRuntime) -> Result<(), Fail
 }
 
 #[test]
-fn a_mark_goes_with_its_object(rt: HostRuntime) -> Result<(), Fail> {
+fn what_is_not_marked_is_condemned_and_may_be_freed(rt: HostRuntime) -> Result<(), Fail> {
     let story = [
         (Do(New(0, 2)), Told::Object(1)),
         (Do(New(1, 2)), Told::Object(2)),
-        (Do(Mark(1)), Told::Yes),
+        (Do(DropSlot(0)), Told::Done),
+        (Do(Free(1)), Told::No),
+        (Do(Mark(2)), Told::Yes),
+        (Set(Condemn), Told::Done),
+        (Ask(IsCondemned(1)), Told::Yes),
+        (Ask(IsCondemned(2)), Told::No),
+        (Ask(IsCondemned(3)), Told::No),
+        (Do(Free(2)), Told::No),
         (Do(Free(1)), Told::Yes),
-        (Ask(IsMarked(1)), Told::No),
-        // None of one is marked.
-        (Ask(UnmarkedCount), Told::Count(1)),
-        // The cell is used again.
+        (Do(Free(1)), Told::No),
+        (Ask(IsCondemned(1)), Told::No),
+        (Ask(UnmarkedCount), Told::Count(0)),
+        // The cell is used again, by an object that is marked from the start.
         (Do(New(0, 2)), Told::Object(3)),
-        (Ask(IsMarked(3)), Told::No),
-        (Do(Free(3)), Told::Yes),
-        (Ask(UnmarkedCount), Told::Count(1)),
+        (Ask(IsMarked(3)), Told::Yes),
+        (Ask(IsCondemned(3)), Told::No),
+        (Do(Free(3)), Told::No),
+        (Set(EndCycle), Told::Done),
+        (Set(UnmarkAll), Told::Done),
+        (Ask(UnmarkedCount), Told::Count(2)),
+        (Ask(IsCondemned(2)), Told::No),
+        (Do(Free(3)), Told::No),
     ];
     agree(&rt, rt.alloc(), 2, &story)
 }
@@ -212,7 +228,8 @@ fn a_clear_is_told_till_its_object_goes(rt: HostRuntime) -> Result<(), Fail> {
         // There is none.
         (Set(Cleared(3, 9)), Told::Done),
         (Ask(ClearedIn(3)), Told::Began(0)),
-        (Do(Free(1)), Told::Yes),
+        (Do(DropSlot(0)), Told::Done),
+        (Do(Sweep(1)), Told::Yes),
         (Ask(ClearedIn(1)), Told::Began(0)),
         // It lies in the same cell.
         (Do(New(0, 0)), Told::Object(3)),
@@ -266,7 +283,8 @@ fn a_link_is_told_till_its_object_goes(rt: HostRuntime) -> Result<(), Fail> {
         // There is none.
         (Set(Link(3, 1)), Told::Done),
         (Ask(LinkOf(3)), Told::Count(0)),
-        (Do(Free(1)), Told::Yes),
+        (Do(DropSlot(0)), Told::Done),
+        (Do(Sweep(1)), Told::Yes),
         (Ask(LinkOf(1)), Told::Count(0)),
         // It lies in the same cell.
         (Do(New(0, 0)), Told::Object(3)),

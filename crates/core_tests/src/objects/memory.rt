@@ -7,9 +7,10 @@ use super::Do::{
     SetSlot, Store,
 };
 use super::Keep::{Adopt, Hold, Mint, Release};
-use super::Set::{Cleared, ClockTo, CloseGaps, Cut, Link, Stamp, UnmarkAll};
+use super::Set::{Cleared, ClockTo, Condemn, Cut, EndCycle, Link, Stamp, UnmarkAll};
 use super::{Call, M, config, make_calls};
 use crate::arena::{all_that_is_left, limited};
+use crate::closed::is_closed;
 use crate::told::Told;
 use bumpalo::Bump;
 use ref_base::{Fault, ObjNo, SlotNo, Strength};
@@ -19,7 +20,7 @@ use std::process::Abort;
 use std::test::Fail;
 
 /// Each call once.
-const EACH_CALL: [(Call, Told); 26] = [
+const EACH_CALL: [(Call, Told); 27] = [
     (Do(New(0, 8)), Told::Object(1)),
     (Do(Refer(Strength::Soft, 1, 0, Some(0), 8)), Told::Object(2)),
     (Do(Store(0, 7, 1)), Told::Done),
@@ -42,10 +43,11 @@ const EACH_CALL: [(Call, Told); 26] = [
     (Do(Mark(1)), Told::Yes),
     (Do(MarkSlot(0)), Told::Nothing),
     (Do(MarkSlotAt(1)), Told::Found(2)),
-    (Do(Free(1)), Told::Yes),
+    (Set(Condemn), Told::Done),
+    (Do(Free(1)), Told::No),
     (Set(UnmarkAll), Told::Done),
-    (Set(CloseGaps), Told::Done),
-    (Ask(ObjectCount), Told::Count(1)),
+    (Set(EndCycle), Told::Done),
+    (Ask(ObjectCount), Told::Count(2)),
 ];
 
 /// There is no memory for a heap of so many cells.
@@ -81,12 +83,19 @@ fn fill<A: Allocator + Copy>(rt: &impl Abort, heap: &mut Objects<A>, cells: u32)
     assert!(rt; false, "it is never full");
 }
 
-/// Frees all objects but the first.
+/// Frees all objects but the first, as a cycle does.
 fn free_all_but_one<A: Allocator + Copy>(heap: &mut Objects<A>) {
+    let _dropped = heap.drop_slot(M, SlotNo(0));
+    heap.mark(ObjNo(1));
+    if is_closed(heap) {
+        heap.condemn();
+    }
     // No number is greater than the last of 32 bits.
     for no in 2..heap.next_no().min(1 << 32) {
         heap.free(ObjNo(no as u32));
     }
+    heap.end_cycle();
+    heap.unmark_all();
 }
 
 /// Fills the heap, and again each time that all but the first object were freed. As that one stays, the index fills

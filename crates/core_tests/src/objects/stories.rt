@@ -2,16 +2,17 @@
 
 use super::Ask::{
     Clock, FieldCount, FieldOf, FirstFrom, HasObject, HeapNo, HeldAfter, HeldFrom, HoldCount,
-    IsHeld, IsMarked, IsUnmarked, KindOf, NextNo, ObjectCount, QueueOf, ReferenceIn, ReferenceOf,
-    ReferentIn, ReferentOf, Size, SlotAt, SlotCount, SlotOf, StampOf, UnmarkedCount, UnmarkedFrom,
+    IsCondemned, IsHeld, IsMarked, IsUnmarked, KindOf, NextNo, ObjectCount, QueueOf, ReferenceIn,
+    ReferenceOf, ReferentIn, ReferentOf, Size, SlotAt, SlotCount, SlotOf, StampOf, UnmarkedCount,
+    UnmarkedFrom,
 };
 use super::Call::{Ask, Do, Keep, Set, TurnToOther};
 use super::Do::{
     CopySlot, CutIn, DropSlot, Free, Get, Load, Mark, MarkSlot, MarkSlotAt, New, NewOf, Refer,
-    SetSlot, Store,
+    SetSlot, Store, Sweep,
 };
 use super::Keep::{Adopt, Hand, Hold, Leak, Mint, Release};
-use super::Set::{ClockTo, Cut, Stamp, UnmarkAll};
+use super::Set::{ClockTo, Condemn, Cut, EndCycle, Stamp, UnmarkAll};
 use super::{agree, agree_from, config};
 use crate::told::Told;
 use ref_base::{Fault, Strength};
@@ -34,7 +35,7 @@ fn no_cell_is_told_at_the_last_cell(rt: HostRuntime) -> Result<(), Fail> {
         (Do(New(1, 0)), Told::Object(2)),
         (Do(New(2, 0)), Told::Refused(Fault::NoCell)),
         (Do(DropSlot(1)), Told::Done),
-        (Do(Free(2)), Told::Yes),
+        (Do(Sweep(2)), Told::Yes),
         (Do(New(2, 0)), Told::Object(3)),
         (Ask(ObjectCount), Told::Count(2)),
     ];
@@ -289,10 +290,11 @@ fn each_hold_is_counted(rt: HostRuntime) -> Result<(), Fail> {
         (Keep(Mint(2)), Told::Held(2, 1)),
         (Ask(HoldCount), Told::Count(1)),
         (Ask(HeldFrom(1)), Told::Found(2)),
-        (Do(Free(2)), Told::No),
+        (Do(DropSlot(1)), Told::Done),
+        (Do(Sweep(2)), Told::No),
         (Keep(Release), Told::Done),
         (Ask(HeldFrom(1)), Told::Nothing),
-        (Do(Free(2)), Told::Yes),
+        (Do(Sweep(2)), Told::Yes),
     ];
     agree(&rt, rt.alloc(), 8, &story)
 }
@@ -355,18 +357,70 @@ fn what_a_cycle_reaches_is_marked_and_the_rest_is_white(rt: HostRuntime) -> Resu
 }
 
 #[test]
-fn a_freed_object_takes_its_mark_along(rt: HostRuntime) -> Result<(), Fail> {
+fn nothing_is_condemned_that_something_else_refers_to(rt: HostRuntime) -> Result<(), Fail> {
     let story = [
-        (Do(New(0, 0)), Told::Object(1)),
-        (Do(New(1, 0)), Told::Object(2)),
+        (Do(New(0, 1)), Told::Object(1)),
+        // Slot 1 holds what isn't marked.
+        (Do(New(1, 1)), Told::Object(2)),
         (Do(Mark(1)), Told::Yes),
-        (Do(Free(1)), Told::Yes),
-        (Ask(IsMarked(1)), Told::No),
-        (Ask(UnmarkedCount), Told::Count(1)),
-        // A new object is white, whatever cell it lies in.
-        (Do(New(0, 0)), Told::Object(3)),
-        (Ask(IsMarked(3)), Told::No),
-        (Ask(UnmarkedCount), Told::Count(2)),
+        (Set(Condemn), Told::No),
+        // So does a hold.
+        (Keep(Hold(1)), Told::Held(2, 1)),
+        (Do(DropSlot(1)), Told::Done),
+        (Set(Condemn), Told::No),
+        (Keep(Adopt(1)), Told::Object(2)),
+        // And a field of what is marked.
+        (Do(Store(0, 0, 1)), Told::Done),
+        (Do(DropSlot(1)), Told::Done),
+        (Set(Condemn), Told::No),
+        (Do(Load(1, 0, 0)), Told::Object(2)),
+        (Do(Store(0, 0, 2)), Told::Done),
+        // And a reference that is marked.
+        (Do(Refer(Strength::Phantom, 2, 1, None, 0)), Told::Object(3)),
+        (Do(Mark(3)), Told::Yes),
+        (Do(DropSlot(1)), Told::Done),
+        (Set(Condemn), Told::No),
+        (Set(Cut(3)), Told::Done),
+        (Set(Condemn), Told::Done),
+        (Ask(IsCondemned(2)), Told::Yes),
+    ];
+    agree(&rt, rt.alloc(), 8, &story)
+}
+
+#[test]
+fn the_condemned_refer_to_nothing_and_nothing_comes_to_name_them(
+    rt: HostRuntime,
+) -> Result<(), Fail> {
+    let story = [
+        (Do(New(0, 1)), Told::Object(1)),
+        (Do(New(1, 1)), Told::Object(2)),
+        (Do(Store(1, 0, 0)), Told::Done),
+        (Do(Refer(Strength::Weak, 2, 0, Some(0), 0)), Told::Object(3)),
+        (Do(Mark(1)), Told::Yes),
+        (Do(DropSlot(1)), Told::Done),
+        (Do(DropSlot(2)), Told::Done),
+        (Ask(FieldOf(2, 0)), Told::Object(1)),
+        (Ask(ReferentOf(3)), Told::Object(1)),
+        (Set(Condemn), Told::Done),
+        (Ask(FieldOf(2, 0)), Told::Null),
+        (Ask(FieldCount(2)), Told::Count(1)),
+        (Ask(ReferentOf(3)), Told::Null),
+        (Ask(QueueOf(3)), Told::Queue(0)),
+        (Ask(HasObject(2)), Told::Yes),
+        (Keep(Mint(2)), Told::Refused(Fault::NoSuchObject)),
+        (Do(SetSlot(3, Some(2))), Told::Done),
+        (Ask(SlotOf(3)), Told::Null),
+        // Nor what isn't there, but what is marked.
+        (Do(SetSlot(3, Some(4))), Told::Done),
+        (Ask(SlotOf(3)), Told::Null),
+        (Do(SetSlot(3, Some(1))), Told::Done),
+        (Ask(SlotOf(3)), Told::Object(1)),
+        // What isn't freed refers to nothing afterwards, too.
+        (Do(Free(3)), Told::Yes),
+        (Set(EndCycle), Told::Done),
+        (Ask(IsCondemned(2)), Told::No),
+        (Ask(FieldOf(2, 0)), Told::Null),
+        (Keep(Mint(2)), Told::Held(2, 1)),
     ];
     agree(&rt, rt.alloc(), 8, &story)
 }

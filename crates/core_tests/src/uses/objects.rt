@@ -51,12 +51,14 @@ fn a_store_writes_its_field(objects: &mut Objects) -> bool
     objects.fields_of(ObjNo(1)).get(0).is_some()
 }
 
-/// An object that nobody holds is freed by its number.
+/// An object that nothing refers to is condemned, and freed by its number.
 fn an_object_is_freed(objects: &mut Objects) -> bool
     requires { objects.old ≡ first_ground CONFIG 1 1 }
     ensures { result ≡ true }
 {
     let _made = objects.alloc_obj(MutNo(0), SlotNo(0), 0);
+    let _dropped = objects.drop_slot(MutNo(0), SlotNo(0));
+    objects.condemn();
     objects.free(ObjNo(1))
 }
 

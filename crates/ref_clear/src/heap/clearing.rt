@@ -45,7 +45,7 @@ impl<A: Allocator + Copy> Heap<A> {
     }
 
     /// Ends clearing: the sweep may begin. Tried in this order: `WrongPhase`, `ClearingLeft` while a worker has found a
-    /// reference that it didn't look at. In time of the workers.
+    /// reference that it didn't look at. In time of the cells.
     pub fn end_clear(&mut self) -> Result<(), Fault>
         ensures { HeapDoes self.old (Plain EndClear) (reply_of done_reply result) self.new }
     {
@@ -55,6 +55,8 @@ impl<A: Allocator + Copy> Heap<A> {
         if self.marker.has_found() {
             return Err(Fault::ClearingLeft);
         }
+        // Gives the proof that what is named is there.
+        self.marker.objects().facts();
         self.marker.to_sweeping();
         self.swept_to = ObjNo(0);
         Ok(())

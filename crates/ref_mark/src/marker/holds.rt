@@ -1,8 +1,8 @@
 //! Holds: what is held is a root.
 
-ghost use Rattle.std.specs.Prelude.{◌≡◌, if◌then◌else◌, IfOk, IfErr};
+ghost use Rattle.std.specs.Prelude.{◌≡◌, IfOk, IfErr};
 ghost use Rattle.ref_base.specs.declared.heap_step.HeapStep.TheVariants.{Adopt, Release};
-ghost use Rattle.ref_mark.specs.MarkCalls.{MarkerDoes, answer_in_cycle, after_in_cycle, names_freed};
+ghost use Rattle.ref_mark.specs.MarkCalls.{MarkerDoes};
 ghost use Rattle.ref_mark.specs.MarkCalls.{mint_answer_in, after_mint_in};
 ghost use Rattle.ref_mark.specs.MarkCalls.{reply_of, reply_or_back, hold_reply, done_reply};
 
@@ -12,16 +12,10 @@ use ref_objects::Hold;
 use std::alloc::Allocator;
 
 impl<A: Allocator + Copy> Marker<A> {
-    /// Takes a hold of the object in a slot, as `Objects::hold` does: `NoSuchActor`, `EmptySlot`, `NoSuchObject`,
-    /// `NumbersSpent`.
+    /// Takes a hold of the object in a slot, as `Objects::hold` does: `NoSuchActor`, `EmptySlot`, `NumbersSpent`.
     pub fn hold(&mut self, mutator: MutNo, slot: SlotNo) -> Result<Hold, Fault>
-        ensures answer { reply_of hold_reply result
-            ≡ (if names_freed self.old mutator slot then Reply.Refused Fault.NoSuchObject
-            else answer_in_cycle self.old (HeapStep.Hold mutator slot)) }
+        ensures does { MarkerDoes self.old (HeapStep.Hold mutator slot) (reply_of hold_reply result) self.new }
         ensures own { IfOk result (λ hold. hold.heap_no ≡ self.old.heap.no) }
-        ensures after { self.new
-            ≡ (if names_freed self.old mutator slot then self.old
-            else after_in_cycle self.old (HeapStep.Hold mutator slot)) }
     {
         self.objects.hold(mutator, slot)
     }

@@ -5,9 +5,9 @@ ghost use Rattle.ref_base.specs.Members.{has};
 ghost use Rattle.ref_base.specs.Collectors.{joined};
 ghost use Rattle.ref_base.specs.Refusals.{is_empty, work_refusal};
 ghost use Rattle.ref_base.specs.CollectorRows.{list_at};
-ghost use Rattle.ref_objects.specs.Grounds.{IsRefused, if_done, least_from};
+ghost use Rattle.ref_objects.specs.Grounds.{IsRefused, IsClosed, if_done, least_from};
 ghost use Rattle.ref_mark.specs.Chains.{linked_last, chain_with};
-ghost use Rattle.ref_mark.specs.CycleHeaps.{shaded, cycle_in_phase, found_looked_at, doomed, is_due};
+ghost use Rattle.ref_mark.specs.CycleHeaps.{shaded, cycle_in_phase, found_looked_at, doomed, sweep_begun};
 ghost use Rattle.ref_mark.specs.CycleHeaps.{is_swept, swept, is_past_mark};
 ghost use Rattle.ref_mark.specs.MarkViews.{found_look};
 
@@ -92,27 +92,25 @@ impl<A: Allocator + Copy> Marker<A> {
         self.is_past_mark() && self.objects.unmarked_count() > 0
     }
 
-    /// In Sweeping, frees the doomed object of this number, as `Objects::free` does. True where it was doomed and
-    /// nobody holds it; else nothing changes. In logarithmic time.
+    /// In Sweeping, frees the doomed object of this number, as `Objects::free` does. True where it was doomed, and
+    /// then nobody holds it; else nothing changes. In logarithmic time.
     pub fn free(&mut self, no: ObjNo) -> bool
         ensures answer { result ≡ is_swept self.old no }
         ensures after { self.new ≡ swept self.old no }
     {
-        self.is_due(no) && self.objects.free(no)
+        // Gives the proof that nobody holds what is condemned.
+        self.objects.facts();
+        self.objects.free(no)
     }
 
-    // Whether a sweep has begun, and the object of this number is doomed.
-    fn is_due(&self, no: ObjNo) -> bool
-        ensures { result ≡ is_due self.now no }
-    {
-        self.phase == Phase::Sweeping && self.objects.is_unmarked(no)
-    }
-
-    /// Clearing ends. The layer above has looked at all that was found.
+    /// Clearing ends: what isn't marked is condemned, as `Objects::condemn` does. The layer above has looked at all that
+    /// was found, and nothing that is marked, no slot and no hold refers to what isn't. In time of the cells.
     pub fn to_sweeping(&mut self)
-        requires { is_empty (joined self.old.found) ≡ true }
-        ensures { self.new ≡ cycle_in_phase self.old Phase.Sweeping }
+        requires found { is_empty (joined self.old.found) ≡ true }
+        requires closed { IsClosed self.old.heap (has self.old.marked) }
+        ensures { self.new ≡ sweep_begun self.old }
     {
+        self.objects.condemn();
         self.phase = Phase::Sweeping;
     }
 
@@ -122,7 +120,7 @@ impl<A: Allocator + Copy> Marker<A> {
         requires { is_empty (doomed self.old) ≡ true }
         ensures { self.new ≡ cycle_in_phase self.old Phase.Idle }
     {
-        self.objects.close_gaps();
+        self.objects.end_cycle();
         self.phase = Phase::Idle;
     }
 

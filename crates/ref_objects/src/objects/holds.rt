@@ -1,10 +1,11 @@
 //! Holds of a heap's objects: they are made, counted and taken back.
 
-ghost use Rattle.std.specs.Prelude.{◌≡◌, ◌-◌, ◌^◌, ◌<◌, if◌then◌else◌, Some, IfOk, length};
+ghost use Rattle.std.specs.Prelude.{◌≡◌, ◌-◌, ◌^◌, ◌<◌, if◌then◌else◌, true, Some, IfOk, length};
+ghost use Rattle.std.specs.Bool.{OnTrue};
 ghost use Rattle.ref_base.specs.Members.{has};
-ghost use Rattle.ref_base.specs.Graphs.{is_there};
 ghost use Rattle.ref_base.specs.Heaps.{slot_at, with_slot, with_hold, without_hold};
 ghost use Rattle.ref_objects.specs.Grounds.{IsRefused, GivesBack, if_done, ground_with_heap, after_minting, IsHoldOf};
+ghost use Rattle.ref_objects.specs.Grounds.{is_spared};
 ghost use Rattle.ref_objects.specs.Grounds.{mint_refusal, holding_refusal, release_refusal, adopt_refusal};
 
 use super::Objects;
@@ -13,15 +14,14 @@ use ref_base::{Fault, MutNo, ObjNo, SlotNo};
 use std::alloc::Allocator;
 
 impl<A: Allocator + Copy> Objects<A> {
-    /// Takes a hold of the object in a slot. Tried in this order: `NoSuchActor`, `EmptySlot`, `NoSuchObject` where the
-    /// object was freed, `NumbersSpent` where 2^64 - 1 holds are out. In logarithmic time.
+    /// Takes a hold of the object in a slot. Tried in this order: `NoSuchActor`, `EmptySlot`, `NumbersSpent` where
+    /// 2^64 - 1 holds are out. In logarithmic time.
     pub fn hold(&mut self, mutator: MutNo, slot: SlotNo) -> Result<Hold, Fault>
         ensures refused { IsRefused (holding_refusal self.old mutator slot) result }
         ensures answer { IfOk result (λ hold. IsHoldOf self.old (slot_at self.old.heap mutator slot) hold) }
         ensures after { self.new ≡ after_minting self.old result }
     {
-        let place = self.place(mutator, slot)?;
-        let no = self.slots[place].ok_or(Fault::EmptySlot)?;
+        let no = self.slot_of(mutator, slot)?.ok_or(Fault::EmptySlot)?;
         self.mint(no)
     }
 
@@ -42,7 +42,7 @@ impl<A: Allocator + Copy> Objects<A> {
         match self.place(mutator, into) {
             Ok(place) => {
                 let no = self.take_back(hold)?;
-                self.slots[place] = Some(no);
+                self.write_slot(place, Some(no));
                 Ok(no)
             }
             Err(fault) => Err((fault, hold)),
@@ -59,43 +59,39 @@ impl<A: Allocator + Copy> Objects<A> {
         Ok(())
     }
 
-    /// Takes a hold of the object of this number. Tried in this order: `NoSuchObject`, `NumbersSpent` where 2^64 - 1
-    /// holds are out. In logarithmic time.
+    /// Takes a hold of the object of this number. Tried in this order: `NoSuchObject` where there is none that isn't
+    /// condemned, `NumbersSpent` where 2^64 - 1 holds are out. In logarithmic time.
     pub fn mint(&mut self, no: ObjNo) -> Result<Hold, Fault>
         ensures refused { IsRefused (mint_refusal self.old no) result }
         ensures answer { IfOk result (λ hold. IsHoldOf self.old (Some no) hold) }
         ensures after { self.new ≡ after_minting self.old result }
     {
-        let no_more = self.holds == u64::MAX;
-        if no_more && self.has_object(no) {
-            return Err(Fault::NumbersSpent);
-        }
-        if no_more || !self.add_hold(no) {
+        if !self.is_spared(no) {
             return Err(Fault::NoSuchObject);
         }
+        if self.holds == u64::MAX {
+            return Err(Fault::NumbersSpent);
+        }
+        self.add_hold(no);
         Ok(Hold::new(self.heap_no, no))
     }
 
-    // One more hold of the object of this number. False where there is none: then nothing changes.
-    fn add_hold(&mut self, no: ObjNo) -> bool
-        requires { length self.old.heap.holds < 2 ^ 64 - 1 }
-        ensures there { result ≡ is_there self.old.heap.objects no }
-        ensures after { self.new ≡
-            (if is_there self.old.heap.objects no then ground_with_heap self.old (with_hold self.old.heap no) else
-            self.old) }
+    // One more hold of the object of this number.
+    fn add_hold(&mut self, no: ObjNo)
+        requires few { length self.old.heap.holds < 2 ^ 64 - 1 }
+        requires spared { is_spared self.old no ≡ true }
+        ensures { self.new ≡ ground_with_heap self.old (with_hold self.old.heap no) }
     {
         // Gives the proof that the numbers rise.
         let _count = self.table.len();
-        let is_there = self.table.add_hold(no);
-        if is_there {
-            self.holds += 1;
-        }
-        is_there
+        self.table.add_hold(no);
+        self.holds += 1;
     }
 
     // One hold fewer of the object of this number. False where nobody holds it: then nothing changes.
     fn drop_hold(&mut self, no: ObjNo) -> bool
         ensures held { result ≡ has self.old.heap.holds no }
+        ensures spared { OnTrue result (is_spared self.new no ≡ true) }
         ensures after { self.new ≡
             (if has self.old.heap.holds no then ground_with_heap self.old (without_hold self.old.heap no) else
             self.old) }
@@ -113,6 +109,7 @@ impl<A: Allocator + Copy> Objects<A> {
     fn take_back(&mut self, hold: Hold) -> Result<ObjNo, (Fault, Hold)>
         ensures refused { GivesBack (release_refusal self.old hold) hold result }
         ensures answer { IfOk result (λ no. no ≡ hold.object) }
+        ensures spared { IfOk result (λ no. is_spared self.new no ≡ true) }
         ensures after { self.new ≡ if_done result
             (ground_with_heap self.old (without_hold self.old.heap hold.object)) self.old }
     {

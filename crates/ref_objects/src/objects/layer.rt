@@ -4,7 +4,9 @@
 ghost use Rattle.std.specs.Prelude.{◌≡◌, true};
 ghost use Rattle.ref_base.specs.Heaps.{with_slot, with_changed, with_reference, with_stamp, cleared, with_clock};
 ghost use Rattle.ref_base.specs.Refusals.{drop_refusal};
-ghost use Rattle.ref_objects.specs.Grounds.{IsRefused, if_done, ground_with_heap, is_free, after_freeing};
+ghost use Rattle.ref_base.specs.Members.{has};
+ghost use Rattle.ref_objects.specs.Grounds.{IsRefused, if_done, ground_with_heap, is_condemned, after_freeing};
+ghost use Rattle.ref_objects.specs.Grounds.{IsClosed, with_condemned, with_none_condemned, is_spared, spared_only};
 ghost use Rattle.ref_objects.specs.Grounds.{with_cleared_tag, with_link, look_of, ground_looked_at};
 ghost use Rattle.ref_objects.specs.GroundViews.{written};
 
@@ -15,7 +17,8 @@ use ref_base::{Fault, MutNo, ObjNo, SlotNo};
 use std::alloc::Allocator;
 
 impl<A: Allocator + Copy> Objects<A> {
-    /// Writes a slot. The one error is `NoSuchActor`. In constant time.
+    /// Writes a slot: null where the object isn't there, or is condemned. The one error is `NoSuchActor`. In logarithmic
+    /// time.
     pub fn set_slot(
         &mut self,
         mutator: MutNo,
@@ -24,10 +27,12 @@ impl<A: Allocator + Copy> Objects<A> {
     ) -> Result<(), Fault>
         ensures refused { IsRefused (drop_refusal self.old.heap mutator slot) result }
         ensures after { self.new ≡ if_done result
-            (ground_with_heap self.old (with_slot self.old.heap mutator slot value)) self.old }
+            (ground_with_heap self.old (with_slot self.old.heap mutator slot (spared_only self.old value)))
+            self.old }
     {
         let place = self.place(mutator, slot)?;
-        self.slots[place] = value;
+        let written = self.spared_only(value);
+        self.write_slot(place, written);
         Ok(())
     }
 
@@ -83,25 +88,66 @@ impl<A: Allocator + Copy> Objects<A> {
         self.write(no, Change::Link(to));
     }
 
-    /// Frees the object of this number, and its cell; its mark goes. True exactly where there is one and nobody holds
-    /// it; else nothing changes. Slots and fields that hold its number do so still, and lead nowhere. In logarithmic
-    /// time.
+    /// Condemns what isn't marked: from now on it reads as referring to nothing, nothing can come to name it, and it may
+    /// be freed. What is made from now on is marked from the start. Nothing that is marked refers to what isn't, and no
+    /// slot or hold names it. In time of the cells.
+    pub fn condemn(&mut self)
+        requires { IsClosed self.old.heap (has self.old.marked) }
+        ensures { self.new ≡ with_condemned self.old }
+    {
+        // Gives the proof that the numbers rise.
+        let _count = self.table.len();
+        self.table.blank_unmarked();
+        self.condemning = true;
+    }
+
+    /// Whether the object of this number is condemned: false also where there is none. In logarithmic time.
+    pub fn is_condemned(&self, no: ObjNo) -> bool
+        ensures { result ≡ is_condemned self.now no }
+    {
+        self.condemning && self.is_unmarked(no)
+    }
+
+    /// Frees the object of this number, and its cell. True exactly where it is condemned; else nothing changes. In
+    /// logarithmic time.
     pub fn free(&mut self, no: ObjNo) -> bool
-        ensures answer { result ≡ is_free self.old.heap no }
+        ensures answer { result ≡ is_condemned self.old no }
         ensures after { self.new ≡ after_freeing self.old no }
     {
         // Gives the proof that the numbers rise.
         let _count = self.table.len();
-        self.table.free(no)
+        self.condemning && self.table.free(no)
     }
 
-    /// Closes the gaps that freed objects left in the index where they are more than the objects; nothing that is seen
-    /// changes. To be called once in a cycle. In time of the objects that are there and of those freed since the last
-    /// time.
-    pub fn close_gaps(&mut self)
-        ensures { self.new ≡ self.old }
+    /// Ends a cycle. Nothing is condemned any more; what was and wasn't freed refers to nothing still. Gaps that freed
+    /// objects left in the index are closed where they are more than the objects. In time of the objects that are there
+    /// and of those freed since the last time.
+    pub fn end_cycle(&mut self)
+        ensures { self.new ≡ with_none_condemned self.old }
     {
         self.table.close_gaps();
+        self.condemning = false;
+    }
+
+    // Whether there is this object, and it isn't condemned.
+    pub(super) fn is_spared(&self, no: ObjNo) -> bool
+        ensures { result ≡ is_spared self.now no }
+    {
+        // Gives the proof that the numbers rise.
+        let _count = self.table.len();
+        if self.condemning {
+            self.table.is_marked(no)
+        } else {
+            self.table.has(no)
+        }
+    }
+
+    // Null where this isn't there, or is condemned.
+    fn spared_only(&self, value: Option<ObjNo>) -> Option<ObjNo>
+        ensures { result ≡ spared_only self.now value }
+    {
+        let no = value?;
+        if self.is_spared(no) { Some(no) } else { None }
     }
 
     // Writes this of the object of this number.

@@ -83,11 +83,12 @@ impl<A: Allocator + Copy> Objects<A> {
         anew
     }
 
-    /// Takes every mark away. In time of the cells.
+    /// Takes every mark away, and nothing is condemned any more. In time of the cells.
     pub fn unmark_all(&mut self)
         ensures { self.new ≡ without_marks self.old }
     {
         self.table.unmark_all();
+        self.condemning = false;
     }
 
     /// How many objects aren't marked. In constant time.

@@ -8,6 +8,7 @@ ghost use Rattle.ref_base.specs.CollectorRows.{referent_of};
 ghost use Rattle.ref_base.specs.Refusals.{drop_refusal};
 ghost use Rattle.ref_objects.specs.Grounds.{IsRefused, fields_in, kind_in, stamp_in, least_from, IsWellFormed};
 ghost use Rattle.ref_objects.specs.Grounds.{cleared_in_at, link_at, linked_in};
+ghost use Rattle.ref_objects.specs.GroundViews.{IsSparedIfAny};
 
 use super::Objects;
 use crate::fields::Fields;
@@ -75,10 +76,11 @@ impl<A: Allocator + Copy> Objects<A> {
         self.slots.len()
     }
 
-    /// What a slot holds: an object or null. The one error is `NoSuchActor`.
+    /// What a slot holds: an object that is there and isn't condemned, or null. The one error is `NoSuchActor`.
     pub fn slot_of(&self, mutator: MutNo, slot: SlotNo) -> Result<Option<ObjNo>, Fault>
         ensures refused { IsRefused (drop_refusal self.now.heap mutator slot) result }
         ensures answer { IfOk result (λ value. value ≡ slot_at self.now.heap mutator slot) }
+        ensures spared { IfOk result (λ value. IsSparedIfAny self.now value) }
     {
         let place = self.place(mutator, slot)?;
         Ok(self.slots[place])

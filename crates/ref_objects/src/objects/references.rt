@@ -1,13 +1,14 @@
 //! References that slots hold: what they refer to, and what a get and a clear change.
 
-ghost use Rattle.std.specs.Prelude.{◌≡◌, Some, IfOk};
+ghost use Rattle.std.specs.Prelude.{◌≡◌, true, Some, IfOk};
 ghost use Rattle.ref_base.specs.CollectorRows.{reference_of, referent_of, referent_got};
 ghost use Rattle.ref_base.specs.DoomedSets.{refers_into};
 ghost use Rattle.ref_base.specs.Heaps.{slot_at, reference_at, got};
 ghost use Rattle.ref_base.specs.Paths.{is_soft};
 ghost use Rattle.ref_base.specs.Refusals.{clear_refusal, get_refusal};
 ghost use Rattle.ref_objects.specs.Grounds.{IsRefused, if_done, ground_with_heap, is_unmarked, read_as, cut_but};
-ghost use Rattle.ref_objects.specs.Grounds.{renewed};
+ghost use Rattle.ref_objects.specs.Grounds.{renewed, is_spared};
+ghost use Rattle.ref_objects.specs.GroundViews.{IsSparedIfAny};
 
 use super::Objects;
 use crate::reference::Reference;
@@ -15,14 +16,18 @@ use ref_base::{Fault, MutNo, ObjNo, SlotNo, Strength};
 use std::alloc::Allocator;
 
 impl<A: Allocator + Copy> Objects<A> {
-    /// The reference that a slot holds, and its number. Tried in this order: `NoSuchActor`, `EmptySlot`,
+    /// The reference that a slot holds, and its number. Neither it nor its referent is condemned. Tried in this order: `NoSuchActor`, `EmptySlot`,
     /// `NotAReference`. In logarithmic time.
     pub fn reference_in(&self, mutator: MutNo, slot: SlotNo) -> Result<(ObjNo, Reference), Fault>
         ensures refused { IsRefused (clear_refusal self.now.heap mutator slot) result }
         ensures answer { IfOk result
             (λ read. (slot_at self.now.heap mutator slot ≡ Some read.0)
             × (reference_at self.now.heap read.0 ≡ Some read.1)) }
+        ensures spared { IfOk result
+            (λ read. (is_spared self.now read.0 ≡ true) × IsSparedIfAny self.now (referent_of (Some read.1))) }
     {
+        // Gives the proof that what it refers to is spared.
+        self.facts();
         let no = self.slot_of(mutator, slot)?.ok_or(Fault::EmptySlot)?;
         let reference = self.reference_of(no).ok_or(Fault::NotAReference)?;
         Ok((no, reference))
@@ -65,13 +70,13 @@ impl<A: Allocator + Copy> Objects<A> {
             (read_as self.old hide_unmarked
             (referent_got (reference_of self.old.heap (slot_at self.old.heap mutator from)))))) self.old }
     {
-        self.slot_of(mutator, into)?;
+        let place = self.place(mutator, into)?;
         let (no, reference) = self.reference_in(mutator, from)?;
         let value = self.gets(reference, hide_unmarked);
         // The prover takes an Option that is passed on by value as spent.
         let (renewing, answer) = (value, value);
+        self.write_slot(place, value);
         self.renew(no, reference, renewing);
-        self.set_slot(mutator, into, value)?;
         Ok(answer)
     }
 

@@ -1,6 +1,6 @@
 use Rattle.std.proofs.Common.{arith, refl}
 use Rattle.ref_mark.proofs.Common.{Object, new_reference, slot_at}
-use Rattle.ref_mark.proofs.MarkerLemmas.{sound_made, seen_made}
+use Rattle.ref_mark.proofs.MarkerLemmas.{sound_made, young_made, unmarked_next}
 use Rattle.ref_mark.proofs.marker.Marker.alloc_ref.Goals as goal
 
 pub invariant_of-self-2 : goal.invariant_of-self-2
@@ -8,14 +8,14 @@ invariant_of-self-2 g c =
     let o : Object =
     new_reference c.self.inside.objects.heap c.self.inside.objects.next c.args.strength
     (slot_at c.self.inside.objects.heap c.args.mutator c.args.from) c.args.queue c.args.fields in
-    sound_made c.args.mutator c.args.into o refl c.in_ok-no.ensures.after c.self.invariant
+    sound_made c.args.mutator c.args.into o refl c.in_ok-no.ensures.after c.self.invariant c.facts-2.ensures
 
 pub returns : goal.returns
 returns g c =
     let o : Object =
     new_reference c.self.inside.objects.heap c.self.inside.objects.next c.args.strength
     (slot_at c.self.inside.objects.heap c.args.mutator c.args.from) c.args.queue c.args.fields in
-    let seen =
-    seen_made c.args.mutator c.args.into o refl c.in_ok-no.ensures.after c.self.invariant c.self.inside.policy
-    c.self.inside.cycle in
+    let young =
+    young_made c.args.mutator c.args.into o refl c.in_ok-no.ensures.after c.self.invariant c.self.inside.policy
+    c.self.inside.cycle (unmarked_next c.self.inside.objects c.facts.ensures) in
     grind arith

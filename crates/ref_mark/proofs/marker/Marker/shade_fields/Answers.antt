@@ -3,9 +3,9 @@ use Rattle.std.specs.Prelude.{slice_index_or}
 use Rattle.std.proofs.lemmas.List.{length-map}
 use Rattle.ref_objects.specs.Grounds.{all_newly_marked}
 use Rattle.ref_mark.specs.MarkViews.{ground_of}
-use Rattle.ref_mark.proofs.Common.{CycleHeap, fields_in, object_at}
+use Rattle.ref_mark.proofs.Common.{CycleHeap, Ground, fields_in, object_at}
 use Rattle.ref_mark.proofs.LoopLemmas.{greyed_on, none_at, greyed_all}
-use Rattle.ref_mark.proofs.MarkerLemmas.{sound_all_marked, seen_all_marked, may_grey_on}
+use Rattle.ref_mark.proofs.MarkerLemmas.{ground_same, sound_all_marked, seen_all_marked, may_grey_on}
 use Rattle.ref_mark.proofs.marker.Marker.shade_fields.Goals as goal
 use Rattle.ref_mark.proofs.marker.Marker.shade_fields.Goals.{in-Some, in_default}
 
@@ -33,8 +33,10 @@ loop-place-preserved g c =
     let news : List ℕ = all_newly_marked (ground_of start) held in
     let anew : c.mark_fields-anew.result ≡ map (λ n. Some n) news =
     c.mark_fields-anew.ensures.answer
-    ∙ ap (λ (k : CycleHeap). map (λ n. Some n)
-    (all_newly_marked (ground_of k) (fields_in (object_at k.heap.objects c.args.no)))) c.self.view_is in
+    ∙ ap (λ (h : Ground). map (λ n. Some n)
+    (all_newly_marked h (fields_in (object_at h.heap.objects c.args.no))))
+    (sym (ground_same c.self.inside.policy c.self.inside.cycle c.self.invariant)
+    ∙ ap (λ (k : CycleHeap). ground_of k) c.self.view_is) in
     let within : c.loop-place.place < length news =
     subst (λ count. c.loop-place.place < count)
     (c.len-place-end.ensures.count ∙ ap length anew ∙ length-map news (λ n. Some n)) c.loop-place-test.true in
@@ -57,8 +59,10 @@ returns g c =
     let news : List ℕ = all_newly_marked (ground_of start) held in
     let anew : c.mark_fields-anew.result ≡ map (λ n. Some n) news =
     c.mark_fields-anew.ensures.answer
-    ∙ ap (λ (k : CycleHeap). map (λ n. Some n)
-    (all_newly_marked (ground_of k) (fields_in (object_at k.heap.objects c.args.no)))) c.self.view_is in
+    ∙ ap (λ (h : Ground). map (λ n. Some n)
+    (all_newly_marked h (fields_in (object_at h.heap.objects c.args.no))))
+    (sym (ground_same c.self.inside.policy c.self.inside.cycle c.self.invariant)
+    ∙ ap (λ (k : CycleHeap). ground_of k) c.self.view_is) in
     let all : length news ≤ c.loop-place.place =
     subst (λ count. count ≤ c.loop-place.place)
     (c.len-place-end.ensures.count ∙ ap length anew ∙ length-map news (λ n. Some n)) c.loop-place-test.false in

@@ -1,5 +1,5 @@
 use Rattle.std.proofs.Common.{◌≡◌, ◌<◌, ℕ, ◌∙◌, true, None}
-use Rattle.std.proofs.Common.{arith, ap}
+use Rattle.std.proofs.Common.{arith}
 use Rattle.ref_mark.proofs.Common.{Clearing, CycleHeap, Phase, Heap, work_refusal, is_past_mark}
 use Rattle.ref_mark.proofs.MarkerLemmas.{worker_within, first_told, sound_looked, seen_looked}
 use Rattle.ref_mark.proofs.marker.Marker.take_found.Goals as goal

@@ -5,6 +5,7 @@ use Rattle.ref_objects.proofs.NumberLemmas.{numbers_in_order}
 use Rattle.ref_objects.proofs.MarkLemmas.{length-unmarked_of}
 use Rattle.ref_objects.proofs.MarkedLemmas.{there_below}
 use Rattle.ref_objects.proofs.TagLemmas.{numbers-tags_of}
+use Rattle.ref_objects.proofs.MarkLemmas.{marked_there}
 use Rattle.ref_objects.proofs.objects.Objects.facts.Goals as goal
 
 pub returns : goal.returns
@@ -16,11 +17,13 @@ returns g c =
     rw (← c.self.view_is) (record {
       orderly = record {
         rising = orderly.rising;
-        below = λ n there. there_below (objects_of ks) _ _ c.self.invariant.given orderly.given n there;
-        slots = c.self.invariant.slot_count;
+        below = λ n there. there_below (objects_of ks) _ _ c.self.invariant.ground.given orderly.given n there;
+        slots = c.self.invariant.ground.slot_count;
       };
       held = numbers_in_order (λ k. k.holds) ks orderly.rising;
-      few = omega (arith, same, orderly.few, c.self.invariant.room);
+      few = omega (arith, same, orderly.few, c.self.invariant.ground.room);
       marks = omega (arith, same, marks);
+      marked = marked_there ks orderly.rising;
       tagged = numbers-tags_of ks;
+      closed = c.self.invariant.closed;
     })

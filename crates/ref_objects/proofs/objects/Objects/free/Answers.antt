@@ -1,12 +1,19 @@
-use Rattle.std.proofs.Common.{arith}
-use Rattle.ref_objects.proofs.GroundLemmas.{is_unheld-tabled, sound_freed, seen_freed}
+use Rattle.std.proofs.Common.{◌∙◌, ap, arith}
+use Rattle.ref_objects.specs.Grounds.{Ground, after_freeing}
+use Rattle.ref_objects.proofs.SoundLemmas.{freed_sound, freed_seen}
+use Rattle.ref_objects.proofs.MarkLemmas.{is_unmarked-tabled}
 use Rattle.ref_objects.proofs.objects.Objects.free.Goals as goal
 
 pub invariant_of-self : goal.invariant_of-self
-invariant_of-self g c = grind (arith, sound_freed c.args.no c.self.invariant)
+invariant_of-self g c =
+    rw c.free.ensures.after
+    (freed_sound c.self.invariant c.args.no c.len-count.ensures.orderly.rising c.if-self.true)
 
-pub returns-clause-answer : goal.returns-clause-answer
-returns-clause-answer g c = grind (arith, is_unheld-tabled)
+pub returns-then-self-clause-answer : goal.returns-then-self-clause-answer
+returns-then-self-clause-answer g c = grind (arith, is_unmarked-tabled)
 
-pub returns-clause-after : goal.returns-clause-after
-returns-clause-after g c = grind (arith, seen_freed)
+pub returns-then-self-clause-after : goal.returns-then-self-clause-after
+returns-then-self-clause-after g c =
+    rw c.free.ensures.after
+    (freed_seen c.self.invariant c.args.no c.len-count.ensures.orderly.rising c.if-self.true
+    ∙ ap (λ (h : Ground). after_freeing h c.args.no) c.self.view_is)

@@ -6,5 +6,5 @@ pub returns : goal.returns
 returns g c =
     rw (← c.self.view_is)
     (c.linked.ensures
-    ∙ linked_seen c.self.inside.config c.self.inside.heap_no c.self.inside.table c.self.inside.slots.items
+    ∙ linked_seen c.self.inside.config c.self.inside.heap_no c.self.inside.table c.self.inside.slots.items c.self.inside.condemning
     c.self.inside.clock c.self.inside.next c.args.no)

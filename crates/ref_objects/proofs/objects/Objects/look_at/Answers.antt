@@ -1,9 +1,12 @@
 use Rattle.std.proofs.Common.{arith}
-use Rattle.ref_objects.proofs.LookLemmas.{look_seen, looked_seen, sound_looked}
+use Rattle.ref_objects.proofs.LookLemmas.{look_seen, looked_seen}
+use Rattle.ref_objects.proofs.SoundLemmas.{looked_sound}
 use Rattle.ref_objects.proofs.objects.Objects.look_at.Goals as goal
 
 pub invariant_of-self : goal.invariant_of-self
-invariant_of-self g c = rw c.look_at.ensures.after (sound_looked c.args.no c.args.cycle c.self.invariant)
+invariant_of-self g c =
+    rw c.look_at.ensures.after
+    (looked_sound c.self.invariant c.args.no c.len-count.ensures.orderly.rising c.args.cycle)
 
 pub returns-clause-answer : goal.returns-clause-answer
 returns-clause-answer g c = grind (arith, look_seen)

@@ -1,7 +1,5 @@
 use Rattle.std.proofs.Common.{arith}
-use Rattle.ref_objects.specs.Tables.{change_of}
-use Rattle.ref_objects.specs.declared.cell.Change.TheVariants.{ClearIn}
-use Rattle.ref_objects.proofs.CellChanges.{sound_there, change_keeps, change_leaves, look_told, cleared_there}
+use Rattle.ref_objects.proofs.CellChanges.{sound_there, look_told, cleared_there}
 use Rattle.ref_objects.proofs.CellChanges.{uncleared_there, look_nowhere, uncleared_nowhere}
 use Rattle.ref_objects.proofs.table.Table.look_at.Goals as goal
 use Rattle.ref_objects.proofs.table.Table.look_at.Goals.{then-is_cleared, else-is_cleared}

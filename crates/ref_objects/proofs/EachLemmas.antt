@@ -1,0 +1,93 @@
+-- What the cells hold as each object is changed: no mark is left, or what isn't marked refers to nothing.
+use Rattle.std.proofs.Common.{◌≡◌, ℕ, ◌<◌, ◌==◌, refl, sym, ◌∙◌, ap, List, [], ◌∷◌, length, map, Option}
+use Rattle.std.proofs.Common.{Some, None, inl, inr, arith}
+use Rattle.std.proofs.lemmas.Bool.{cases_Bool}
+use Rattle.std.proofs.lemmas.List.{length-map}
+use Rattle.std.proofs.Math.ListN.{get_or-map}
+use Rattle.std.specs.Option.{option_map}
+use Rattle.ref_base.specs.Heaps.{nulls}
+use Rattle.ref_objects.specs.Places.{IsSoundTable}
+use Rattle.ref_objects.specs.Tables.{numbers_by, blanked_unless_marked}
+use Rattle.ref_objects.proofs.Common.{cell_at, before, tabled_by, seen_table, AreFree, IsPlaced, Tabled, Table}
+use Rattle.ref_objects.proofs.Common.{unmarked_tabled, marked_of, Entry}
+
+module _ (f : Tabled → Tabled) (keeps : (k : Tabled) → (f k).object.no ≡ k.object.no) where
+  before-each : (c : Option Tabled) (n : ℕ) (ks : List Tabled)
+      → before (option_map f c) n (map f ks) ≡ map f (before c n ks)
+  before-each None n ks = refl
+  before-each (Some k) n ks =
+      elim (cases_Bool (k.object.no == n)) [
+        | inl own ↦ let same = ap (λ m. m == n) (keeps k) ∙ own in simp (own, same) refl
+        | inr stale ↦ let other = ap (λ m. m == n) (keeps k) ∙ stale in simp (stale, other) refl
+      ]
+
+  -- each cell changed is each object changed
+  tabled_by-each : (cells : List (Option Tabled)) (es : List Entry)
+      → tabled_by (map (option_map f) cells) es ≡ map f (tabled_by cells es)
+  tabled_by-each cells [] = refl
+  tabled_by-each cells (e ∷ es) =
+      ap (λ c. before c e.no (tabled_by (map (option_map f) cells) es)) (get_or-map (option_map f) cells e.place None)
+      ∙ ap (before (option_map f (cell_at cells e.place)) e.no) (tabled_by-each cells es)
+      ∙ before-each (cell_at cells e.place) e.no (tabled_by cells es)
+
+  AreFree-each : (cells : List (Option Tabled)) (ps : List ℕ) → AreFree cells ps
+      → AreFree (map (option_map f) cells) ps
+  AreFree-each cells [] free = tt
+  AreFree-each cells (p ∷ ps) free = (
+    (let within : p < length cells = free.0 in omega (arith, length-map cells (option_map f))),
+    get_or-map (option_map f) cells p None ∙ ap (option_map f) free.1,
+    free.2,
+    AreFree-each cells ps free.3,
+  )
+
+  module _ (cells : List (Option Tabled)) {ds : List (Option Tabled)} (is : ds ≡ map (option_map f) cells)
+      (es : List Entry) where
+    pub tabled_by-all : tabled_by ds es ≡ map f (tabled_by cells es)
+    tabled_by-all = ap (λ cs. tabled_by cs es) is ∙ tabled_by-each cells es
+
+    pub length-all : length ds ≡ length cells
+    length-all = ap length is ∙ length-map cells (option_map f)
+
+    pub seen_all : (last : ℕ)
+        → seen_table ds es last
+        ≡ (let t : Table = seen_table cells es last in record t { tabled = map f t.tabled })
+    seen_all last = λ i. record { tabled = tabled_by-all i; room = length-all i; last = last }
+
+    pub placed_all : {ps : List ℕ} {last : ℕ} → IsPlaced cells es ps last → IsPlaced ds es ps last
+    placed_all {ps} {last} placed = grind (arith, tabled_by-all, length-map, AreFree-each)
+
+    pub sound_all : {ps : List ℕ} {last index_room places_room marked count : ℕ}
+        → IsSoundTable cells es ps last index_room places_room marked
+        → count ≡ length (marked_of (map f (tabled_by cells es)))
+        → IsSoundTable ds es ps last index_room places_room count
+    sound_all sound counted = record {
+      placed = placed_all sound.placed;
+      index_fits = omega (arith, sound.index_fits, length-all);
+      places_fit = omega (arith, sound.places_fit, length-all);
+      marks_counted = counted ∙ ap (λ ks. length (marked_of ks)) (sym tabled_by-all);
+    }
+
+  -- what is counted of each object is counted of it changed
+  pub numbers_by-each : (count : Tabled → ℕ) → ((k : Tabled) → count (f k) ≡ count k) → (ks : List Tabled)
+      → numbers_by count (map f ks) ≡ numbers_by count ks
+  numbers_by-each count same [] = refl
+  numbers_by-each count same (k ∷ ks) = grind (arith, numbers_by-each count same ks)
+
+pub marked_of-unmarked_tabled : (ks : List Tabled) → marked_of (unmarked_tabled ks) ≡ []
+marked_of-unmarked_tabled [] = refl
+marked_of-unmarked_tabled (k ∷ ks) = marked_of-unmarked_tabled ks
+
+-- what isn't marked keeps its number, and all marks and holds stay
+pub blanked_keeps : (k : Tabled) → (blanked_unless_marked k).object.no ≡ k.object.no
+blanked_keeps k = grind arith
+
+pub blanked_marked : (k : Tabled) → (blanked_unless_marked k).marked ≡ k.marked
+blanked_marked k = grind arith
+
+pub blanked_holds : (k : Tabled) → (blanked_unless_marked k).holds ≡ k.holds
+blanked_holds k = grind arith
+
+-- as many nulls as there were values
+pub nulls-each : (vs : List (Option ℕ)) → nulls (length vs) ≡ map (λ v. None) vs
+nulls-each [] = refl
+nulls-each (v ∷ vs) = ap (λ ws. None ∷ ws) (nulls-each vs)
