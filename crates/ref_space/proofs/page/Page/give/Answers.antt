@@ -1,0 +1,6 @@
+use Rattle.std.proofs.Common.{arith}
+use Rattle.ref_space.proofs.BitLemmas.{bits_of-set}
+use Rattle.ref_space.proofs.page.Page.give.Goals as goal
+
+pub returns : goal.returns
+returns c = grind (arith, bits_of-set)

@@ -1,0 +1,44 @@
+-- Coloured words, by which slots and fields name an object (JEP 333, ZGC: a pointer that has a colour in bits of its
+-- own). Three colours, pages of 64 cells and where the bits stand are this project's profile.
+use Rattle.std.specs.Prelude.{◌≡◌, ℕ, ◌+◌, ◌*◌, ◌/◌, ◌%◌, ◌^◌, ◌<◌, ◌≤◌, ◌==◌, nat_lt, Bool, if◌then◌else◌}
+use Rattle.std.specs.Prelude.{Option, Some, None}
+use Rattle.ref_space.specs.declared.colour.Colour.{Colour}
+use Rattle.ref_space.specs.declared.colour.Colour.TheVariants.{A, B, R}
+
+-- the number of a colour, and the colour of a number
+abbrev pub colour_number : Colour → ℕ
+colour_number A = 1
+colour_number B = 2
+colour_number R = 3
+
+abbrev pub colour_of : ℕ → Option Colour
+colour_of n = if n == 1 then Some A else if n == 2 then Some B else if n == 3 then Some R else None
+
+-- an object's cell: the address of its page, from 1 on and below 2^32, and which of the page's 64 cells it is
+abbrev pub IsCell : ℕ → ℕ → Type 0
+IsCell page cell = (1 ≤ page) × (page < 2 ^ 32) × (cell < 64)
+
+-- the word of a cell in a colour
+abbrev pub coloured_word : Colour → ℕ → ℕ → ℕ
+coloured_word colour page cell = colour_number colour * 2 ^ 62 + page * 64 + cell
+
+-- the number is the word of these parts
+abbrev pub IsWordOf : ℕ → Colour × ℕ × ℕ → Type 0
+IsWordOf word (colour, page, cell) = IsCell page cell × (word ≡ coloured_word colour page cell)
+
+-- it has this colour, which the two highest bits tell
+abbrev pub is_coloured : ℕ → Colour → Bool
+is_coloured word colour = word / 2 ^ 62 == colour_number colour
+
+-- a page and a cell in the colour of a number, where there are such
+abbrev pub in_colour : Option Colour → ℕ → ℕ → Option (Colour × ℕ × ℕ)
+in_colour None page cell = None
+in_colour (Some colour) page cell = Some (colour, page, cell)
+
+abbrev pub parts_by : ℕ → ℕ → ℕ → Option (Colour × ℕ × ℕ)
+parts_by number page cell =
+    if page == 0 then None else if nat_lt page (2 ^ 32) then in_colour (colour_of number) page cell else None
+
+-- the parts of a word; none of null, which is 0, and of each other number that is no word
+abbrev pub parts_of : ℕ → Option (Colour × ℕ × ℕ)
+parts_of word = parts_by (word / 2 ^ 62) (word / 64 % 2 ^ 56) (word % 64)

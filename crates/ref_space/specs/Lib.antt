@@ -1,0 +1,4 @@
+pub mod ColouredWords
+pub mod Bits
+pub mod Pages
+pub mod PageViews

@@ -1,0 +1,78 @@
+//! What words have in them, and what is none.
+
+use ref_space::{Colour, has_colour, parts_of, word_of};
+use std::process::Abort;
+
+/// Colours, pages and cells, with their words.
+const WORDS: [(Colour, u32, u32, u64); 7] = [
+    (Colour::A, 1, 0, 4_611_686_018_427_387_968),
+    (Colour::R, 2, 5, 13_835_058_055_282_163_845),
+    (Colour::B, 1, 0, 0x8000_0000_0000_0040),
+    (Colour::R, 1, 63, 0xc000_0000_0000_007f),
+    (Colour::A, u32::MAX, 63, 0x4000_003f_ffff_ffff),
+    (Colour::B, u32::MAX, 0, 0x8000_003f_ffff_ffc0),
+    (Colour::R, u32::MAX, 63, 0xc000_003f_ffff_ffff),
+];
+
+/// Null, two without a colour, one of each colour in page 0, and two with too high a page.
+const NO_WORDS: [u64; 8] = [
+    0,
+    64,
+    0x3f_ffff_ffff,
+    0x4000_0000_0000_0000,
+    0x8000_0000_0000_003f,
+    0xc000_0000_0000_0005,
+    0x4000_0040_0000_0000,
+    u64::MAX,
+];
+
+#[test]
+fn colours_have_numbers(rt: HostRuntime) {
+    for (colour, want) in [(Colour::A, 1), (Colour::B, 2), (Colour::R, 3)] {
+        assert_eq!(rt; colour.number(), want, "{colour:?}");
+    }
+}
+
+#[test]
+fn a_word_is_of_its_parts(rt: HostRuntime) {
+    for (row, &(colour, page, cell, word)) in WORDS.iter().enumerate() {
+        // Which `word_of` asks of its callers.
+        assert!(rt; page >= 1 && cell < 64, "row {row}");
+        assert_eq!(rt; word_of(colour, page, cell), word, "row {row}");
+        assert_eq!(rt; parts_of(word), Some((colour, page, cell)), "row {row}");
+    }
+}
+
+#[test]
+fn a_word_has_its_own_colour_alone(rt: HostRuntime) {
+    for (row, &(own, _, _, word)) in WORDS.iter().enumerate() {
+        for colour in [Colour::A, Colour::B, Colour::R] {
+            assert_eq!(rt; has_colour(word, colour), colour == own, "row {row}");
+        }
+    }
+}
+
+#[test]
+fn null_has_no_colour(rt: HostRuntime) {
+    for colour in [Colour::A, Colour::B, Colour::R] {
+        assert!(rt; !has_colour(0, colour), "{colour:?}");
+    }
+}
+
+fn is_no_word(rt: &impl Abort, number: u64) {
+    assert_eq!(rt; parts_of(number), None, "{number}");
+}
+
+#[test]
+fn other_numbers_are_no_words(rt: HostRuntime) {
+    for &number in &NO_WORDS {
+        is_no_word(&rt, number);
+    }
+}
+
+#[test]
+fn no_bit_from_38_to_61_is_one_of_a_word(rt: HostRuntime) {
+    for bit in 38..62u32 {
+        is_no_word(&rt, 0x4000_0000_0000_0040 | 1u64 << bit);
+    }
+}
