@@ -1,15 +1,15 @@
 -- What a put that was added tells: whose notice it was, that it is new in its queue, and at which position it stands.
-use Rattle.std.proofs.Common.{arith, ◌≡◌, ℕ, Bool, true, false, List, [], ◌∷◌, ◌++◌, length, Option, Some, None, refl}
-use Rattle.ref_base.proofs.Common.{enqueued, was_put, put_into, taken_from, was_closed, Notice, object_of, hand_of}
-use Rattle.ref_base.proofs.Common.{queue_at, replayed, State, first_state, PutsInto, Puts, IsAnswer, IsRun, IsLegal}
-use Rattle.ref_base.proofs.Common.{IsProven, Config, Actor, Fault, Row}
-use Rattle.ref_base.specs.declared.step.Step.TheVariants as steps
-use Rattle.ref_base.specs.declared.reply.Reply.TheVariants as replies
+use Rattle.ref_base.proofs.Common.{arith, ◌≡◌, ℕ, Bool, true, false, List, [], ◌∷◌, ◌++◌, length, Option, Some, None}
+use Rattle.ref_base.proofs.Common.{refl, enqueued, was_put, put_into, taken_from, was_closed, Notice, object_of}
+use Rattle.ref_base.proofs.Common.{hand_of, queue_at, replayed, State, first_state, PutsInto, Puts, IsAnswer, IsRun}
+use Rattle.ref_base.proofs.Common.{IsLegal, IsProven, Config, Actor, Fault, Row}
 use Rattle.ref_base.proofs.LegalQueues.{first_run_changes}
 use Rattle.ref_base.proofs.ProvenTraces.{legal_proven}
 use Rattle.ref_base.proofs.OutTraces.{legal_others}
 use Rattle.ref_base.proofs.RunLaws.{cut}
 use Rattle.ref_base.proofs.SameOthers.{same_hand}
+use Rattle.ref_base.specs.declared.step.Step.TheVariants as steps
+use Rattle.ref_base.specs.declared.reply.Reply.TheVariants as replies
 
 -- after a legal trace the lists of each queue are those of the rows
 pub legal_lists : (config : Config) (rows : List Row) (b : State) (q : ℕ) → IsRun (first_state config) rows b

@@ -1,26 +1,24 @@
 -- A mark's end, a worker's look at a reference and a sweep keep that the collector has the world of the replay, but for
 -- what was swept and for what waits to be cleared.
-use Rattle.std.proofs.Common.{arith, ◌≡◌, ℕ, ◌<◌, Bool, true, false, ◌&&◌, ◌==◌, List, ◌++◌, map, take, drop, Option}
-use Rattle.std.proofs.Common.{Some, None, refl, sym, ap, ◌∙◌, subst, inl, inr}
-use Rattle.std.specs.Prelude.{slice_set}
-use Rattle.std.proofs.lemmas.Bool.{cases_Bool, and_right, eq-eqb}
-use Rattle.std.proofs.lemmas.List.{map-id, take-append-drop}
-use Rattle.ref_base.proofs.Common.{has, Object, is_there, numbers, IsRising, new_clears, reference_at, registered_in}
-use Rattle.ref_base.proofs.Common.{with_reference, cleared, changed_at, World, with_heap, after_heap, with_phase}
-use Rattle.ref_base.proofs.Common.{pended, State, joined, is_in, with_world, without, mark_ended, doomed_at, EndsMark}
-use Rattle.ref_base.proofs.Common.{under, objects_under, is_waiting, Agrees, cleared_if, Phase, Marking, Clearing}
-use Rattle.ref_base.proofs.Common.{Sweeping, Reply}
+use Rattle.ref_base.proofs.Common.{arith, ◌≡◌, ℕ, ◌<◌, Bool, true, false, ◌&&◌, ◌==◌, List, ◌++◌, map, take, drop}
+use Rattle.ref_base.proofs.Common.{Option, Some, None, refl, sym, ap, ◌∙◌, subst, inl, inr, slice_set, cases_Bool}
+use Rattle.ref_base.proofs.Common.{and_right, eq-eqb, take-append-drop, has, Object, is_there, numbers, IsRising}
+use Rattle.ref_base.proofs.Common.{new_clears, reference_at, registered_in, with_reference, cleared, changed_at, World}
+use Rattle.ref_base.proofs.Common.{with_heap, after_heap, with_phase, pended, State, joined, is_in, with_world, without}
+use Rattle.ref_base.proofs.Common.{mark_ended, doomed_at, EndsMark, under, objects_under, is_waiting, Agrees}
+use Rattle.ref_base.proofs.Common.{cleared_if, Phase, Marking, Clearing, Sweeping, Reply}
+use Rattle.std.proofs.lemmas.List.{map-id}
 use Rattle.ref_base.specs.Heaps.{with_changed}
 use Rattle.ref_base.specs.Replay.{cleared_for}
-use Rattle.ref_base.specs.declared.heap_step.HeapStep.TheVariants as heap
-use Rattle.ref_base.specs.declared.plain_step.PlainStep.TheVariants as plain
-use Rattle.ref_base.specs.declared.reply.Reply.TheVariants as replies
 use Rattle.ref_base.proofs.HasLaws.{has-left, has-right, has-cases}
 use Rattle.ref_base.proofs.Outcomes.{settled, outcome, found_less}
 use Rattle.ref_base.proofs.ReplayKeeps.{numbers_of, numbers_same, stage_pended}
 use Rattle.ref_base.proofs.SeenObjects.{without-changed_at, rising-without, seen_queue, seen_swept}
 use Rattle.ref_base.proofs.WaitingClears.{shown-waiting, looked-waiting, has-found, Looks, new_clears-there}
 use Rattle.ref_base.proofs.AgreeHeaps.{Agreeing, there-numbers, there-without, unscanned-there, none_waits}
+use Rattle.ref_base.specs.declared.heap_step.HeapStep.TheVariants as heap
+use Rattle.ref_base.specs.declared.plain_step.PlainStep.TheVariants as plain
+use Rattle.ref_base.specs.declared.reply.Reply.TheVariants as replies
 
 -- ---- a mark's end
 

@@ -1,20 +1,19 @@
 -- A row of a heap keeps that the collector has the world of the replay, but for what was swept and for what waits to be
 -- cleared: a row that ends no phase, one that makes an object, and one that ends a phase in which nothing waits.
-use Rattle.std.proofs.Common.{◌≡◌, ℕ, ◌+◌, ◌<◌, ◌≤◌, Bool, true, false, ◌&&◌, ◌==◌, List, [], ◌∷◌, ◌++◌}
-use Rattle.std.proofs.Common.{take, Some, refl, sym, ap, ◌∙◌, subst, arith}
-use Rattle.std.proofs.lemmas.Bool.{and_right, false_from_ne_true, false≢true, eq-eqb}
-use Rattle.ref_base.proofs.Common.{has, Object, is_there, numbers, IsRising, if_any, World, NamedStep, after_heap}
-use Rattle.ref_base.proofs.Common.{State, joined, is_in, with_world, without, is_waiting, Agrees, Phase}
-use Rattle.ref_base.proofs.Common.{Clearing, Reply}
+use Rattle.ref_base.proofs.Common.{◌≡◌, ℕ, ◌+◌, ◌<◌, ◌≤◌, Bool, true, false, ◌&&◌, ◌==◌, List, [], ◌∷◌, ◌++◌, take}
+use Rattle.ref_base.proofs.Common.{Some, refl, sym, ap, ◌∙◌, subst, arith, and_right, false≢true, eq-eqb, has, Object}
+use Rattle.ref_base.proofs.Common.{is_there, numbers, IsRising, if_any, World, NamedStep, after_heap, State, joined}
+use Rattle.ref_base.proofs.Common.{is_in, with_world, without, is_waiting, Agrees, Phase, Clearing, Reply}
+use Rattle.std.proofs.lemmas.Bool.{false_from_ne_true}
 use Rattle.ref_base.specs.DoomedSets.{unscanned}
-use Rattle.ref_base.specs.declared.heap_step.HeapStep.TheVariants as heap
-use Rattle.ref_base.specs.declared.plain_step.PlainStep.TheVariants as plain
-use Rattle.ref_base.specs.declared.reply.Reply.TheVariants as replies
 use Rattle.ref_base.proofs.HasLaws.{has-cases}
 use Rattle.ref_base.proofs.Outcomes.{settled}
 use Rattle.ref_base.proofs.ReplayUnder.{made_number, IsNoLook, IsApart, heap_through}
 use Rattle.ref_base.proofs.ReplayKeeps.{numbers_of, numbers_same, numbers_after, same_phase, EndsNoPhase, MakesNone}
 use Rattle.ref_base.proofs.SeenObjects.{object_at-without, object_at-gone}
+use Rattle.ref_base.specs.declared.heap_step.HeapStep.TheVariants as heap
+use Rattle.ref_base.specs.declared.plain_step.PlainStep.TheVariants as plain
+use Rattle.ref_base.specs.declared.reply.Reply.TheVariants as replies
 
 abbrev pub AreBelow : ℕ → List ℕ → Type 0
 AreBelow next ns = (n : ℕ) → has ns n ≡ true → n < next

@@ -1,14 +1,11 @@
 -- Each row keeps that the collector has the world of the replay, but for what was swept and for what waits to be
 -- cleared.
-use Rattle.std.proofs.Common.{arith, ◌≡◌, ℕ, Bool, List, [], Option, Some, None, refl, sym, ap, ◌∙◌, subst, inl, inr}
-use Rattle.std.proofs.lemmas.Bool.{false≢true}
-use Rattle.ref_base.proofs.Common.{has, IsRising, World, first_world_of, told_object, NamedStep, heap_step, handed}
+use Rattle.ref_base.proofs.Common.{arith, ◌≡◌, ℕ, Bool, List, [], Option, Some, None, refl, sym, ap, ◌∙◌, subst, inl}
+use Rattle.ref_base.proofs.Common.{inr, false≢true, has, IsRising, World, told_object, NamedStep, heap_step, handed}
 use Rattle.ref_base.proofs.Common.{after_heap, after_queues, after, State, first_state_of, heap_refusal, HeapAccepts}
 use Rattle.ref_base.proofs.Common.{with_world, list_at, IsRow, AreCounted, under, is_waiting, Config, Reply, Row}
+use Rattle.ref_base.specs.Worlds.{first_world_of}
 use Rattle.ref_base.specs.Replay.{after_asking}
-use Rattle.ref_base.specs.declared.heap_step.HeapStep.TheVariants as heap
-use Rattle.ref_base.specs.declared.plain_step.PlainStep.TheVariants as plain
-use Rattle.ref_base.specs.declared.reply.Reply.TheVariants as replies
 use Rattle.ref_base.proofs.Outcomes.{settled, scanned_by, heap_outcome}
 use Rattle.ref_base.proofs.PhaseLaws.{of_phase}
 use Rattle.ref_base.proofs.ReplayUnder.{handed_through, queues_through, asks_same}
@@ -17,6 +14,9 @@ use Rattle.ref_base.proofs.RowKinds.{queues_lead, IsRefused, IsOfQueues, IsOfHea
 use Rattle.ref_base.proofs.WaitingClears.{look_tells}
 use Rattle.ref_base.proofs.AgreeHeaps.{Agreeing, AreBelow, same_waits, gone_after, still, makes}
 use Rattle.ref_base.proofs.AgreeEnds.{end_agrees, cleared_agrees, passed_agrees, swept_agrees}
+use Rattle.ref_base.specs.declared.heap_step.HeapStep.TheVariants as heap
+use Rattle.ref_base.specs.declared.plain_step.PlainStep.TheVariants as plain
+use Rattle.ref_base.specs.declared.reply.Reply.TheVariants as replies
 
 -- ---- rows of a heap
 

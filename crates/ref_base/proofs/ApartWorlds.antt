@@ -1,14 +1,11 @@
 -- What no root names and nothing else refers to: changes of a world keep it so.
-use Rattle.std.proofs.Common.{arith, ◌≡◌, ℕ, zero, suc, ◌+◌, ◌*◌, true, ◌==◌, List, [], ◌∷◌, ◌++◌, map, Option, Some}
-use Rattle.std.proofs.Common.{None, refl, subst, inl, inr, ◌⊎◌}
-use Rattle.std.specs.Prelude.{slice_index_or, replicate}
-use Rattle.std.specs.List.{AllByRecursion}
-use Rattle.std.proofs.lemmas.Bool.{cases_Bool, or_cases, eqb-true, false≢true}
-use Rattle.ref_base.proofs.Common.{has, Object, Reference, object_at, any_referent, present, allowed_referent}
-use Rattle.ref_base.proofs.Common.{targets_of, targets_at, is_soft, with_slot, with_hold, without_hold, one_fewer}
-use Rattle.ref_base.proofs.Common.{changed_in, changed_at, with_field, with_reference, cleared, got_at}
-use Rattle.ref_base.proofs.Common.{changed_reference, World, Pending, pending_of, pending_numbers, graph_of, with_heap}
-use Rattle.ref_base.proofs.Common.{with_pending, without}
+use Rattle.ref_base.proofs.Common.{arith, ◌≡◌, ℕ, zero, suc, ◌+◌, ◌*◌, true, ◌==◌, List, [], ◌∷◌, ◌++◌, map, Option}
+use Rattle.ref_base.proofs.Common.{Some, None, refl, subst, inl, inr, ◌⊎◌, slice_index_or, replicate, AllByRecursion}
+use Rattle.ref_base.proofs.Common.{cases_Bool, or_cases, eqb-true, false≢true, has, Object, Reference, object_at}
+use Rattle.ref_base.proofs.Common.{any_referent, present, allowed_referent, targets_of, targets_at, is_soft, with_slot}
+use Rattle.ref_base.proofs.Common.{with_hold, without_hold, one_fewer, changed_in, changed_at, with_field}
+use Rattle.ref_base.proofs.Common.{with_reference, cleared, got_at, changed_reference, World, Pending, pending_of}
+use Rattle.ref_base.proofs.Common.{pending_numbers, graph_of, with_heap, with_pending, without}
 use Rattle.ref_base.proofs.HasLaws.{has-cases, has-left, has-right}
 use Rattle.ref_base.proofs.Lookups.{lookup-changed, object_at-push, object_at-pushed, has-present_set}
 use Rattle.ref_base.proofs.OneMore.{has-one_more}

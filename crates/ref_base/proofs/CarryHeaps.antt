@@ -1,18 +1,18 @@
 -- What a row of a heap carries on: whatever holds of each object, of each notice and of the cycle holds afterwards
 -- where it holds of what the row makes anew.
-use Rattle.std.proofs.Common.{arith, ◌≡◌, ℕ, ◌+◌, Bool, true, false, if◌then◌else◌, Option, Some, None, refl}
+use Rattle.ref_base.proofs.Common.{arith, ◌≡◌, ℕ, ◌+◌, Bool, true, false, if◌then◌else◌, Option, Some, None, refl}
 use Rattle.ref_base.proofs.Common.{Object, plain_object, Heap, slot_at, reference_at, registered_in, with_reference}
 use Rattle.ref_base.proofs.Common.{got_at, with_field, got, cut, stored, nulls, new_reference, with_hold, World, Notice}
 use Rattle.ref_base.proofs.Common.{Pending, pending_of, with_heap, NamedStep, pended, handed_on, without_pending, State}
-use Rattle.ref_base.proofs.Common.{Makes, HeapAccepts, Cycle, Reply}
-use Rattle.ref_base.specs.declared.heap_step.HeapStep.TheVariants as heap
-use Rattle.ref_base.specs.declared.plain_step.PlainStep.TheVariants as plain
-use Rattle.ref_base.specs.declared.reply.Reply.TheVariants as replies
-use Rattle.ref_base.specs.Replay.{if_told, after_heap}
+use Rattle.ref_base.proofs.Common.{HeapAccepts, Cycle, Reply, if_told, after_heap}
+use Rattle.ref_base.specs.CollectorRows.{Makes}
 use Rattle.ref_base.proofs.Outcomes.{IsNoEnd, outcome, heap_outcome}
 use Rattle.ref_base.proofs.Places.{all_push}
 use Rattle.ref_base.proofs.CarryLaws.{all_map, all_without, Carries, Lasts, notice_from, all_without_first}
 use Rattle.ref_base.proofs.CarryLaws.{carries_changed, carries_pending, given}
+use Rattle.ref_base.specs.declared.heap_step.HeapStep.TheVariants as heap
+use Rattle.ref_base.specs.declared.plain_step.PlainStep.TheVariants as plain
+use Rattle.ref_base.specs.declared.reply.Reply.TheVariants as replies
 
 module _ (O : Object → Type 0) (P : Notice → Type 0) (C : ℕ → Type 0) where
   -- ---- the rows of a heap

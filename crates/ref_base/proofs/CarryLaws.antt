@@ -1,11 +1,10 @@
 -- What changes of a world carry on: whatever holds of each object, of each notice, in hands, in queues and still to be
 -- handed on, and of the cycle.
-use Rattle.std.proofs.Common.{arith, ◌≡◌, ℕ, List, [], ◌∷◌, map, Option, Some, None, sym, ap, ◌∙◌, subst}
-use Rattle.std.specs.Prelude.{slice_index_or, slice_set}
-use Rattle.std.specs.List.{AllByRecursion}
-use Rattle.ref_base.proofs.Common.{Object, changed_at, changed_in, with_reference, cleared, got_at, with_field, Lists}
-use Rattle.ref_base.proofs.Common.{new_queue, World, Notice, Pending, with_heap, with_hand, with_queue, State, Gives}
-use Rattle.ref_base.proofs.Common.{Actor, Mutator, Worker, Cycle, Reply, without}
+use Rattle.ref_base.proofs.Common.{arith, ◌≡◌, ℕ, List, [], ◌∷◌, map, Option, Some, None, sym, ap, ◌∙◌, subst}
+use Rattle.ref_base.proofs.Common.{slice_index_or, slice_set, AllByRecursion, Object, changed_at, changed_in}
+use Rattle.ref_base.proofs.Common.{with_reference, cleared, got_at, with_field, Lists, new_queue, World, Notice}
+use Rattle.ref_base.proofs.Common.{Pending, with_heap, with_hand, with_queue, State, Gives, Actor, Mutator, Worker}
+use Rattle.ref_base.proofs.Common.{Cycle, Reply, without}
 use Rattle.ref_base.specs.Members.{without_first}
 use Rattle.ref_base.proofs.Places.{set_each}
 use Rattle.ref_base.proofs.RowForms.{ticked_world}

@@ -1,23 +1,22 @@
 -- What a row of the world carries on: whatever holds of each object, of each notice that is out or will be given, and
 -- of the cycle holds afterwards where it holds of what the row makes anew.
-use Rattle.std.proofs.Common.{arith, ◌≡◌, ℕ, Bool, true, false, List, [], ◌∷◌, length, Option, Some, None, refl, sym}
-use Rattle.std.proofs.Common.{ap, ◌∙◌, subst, inl, inr}
-use Rattle.std.specs.List.{AllByRecursion}
-use Rattle.ref_base.proofs.Common.{Object, slot_at, reference_at, registered_in, Lists, enqueued, with_parcel, World}
-use Rattle.ref_base.proofs.Common.{Notice, Pending, first_world, object_of, hand_of, queue_at, pending_of, with_hand}
-use Rattle.ref_base.proofs.Common.{NamedStep, hold_of, spending, handed, put_in, notice_of, State, with_world}
-use Rattle.ref_base.proofs.Common.{with_handed, AcceptsAsking, Unhooks, HandsOn, PutsInto, Puts, Polls, Closes, Accepts}
-use Rattle.ref_base.proofs.Common.{IsAnswer, IsRow, reference_of, refusal, Config, Actor, Mutator, Worker, Own, Cycle}
-use Rattle.ref_base.proofs.Common.{Fault, Step, Reply, Row, heap_step, rest_of, with_rest}
-use Rattle.ref_base.specs.declared.heap_step.HeapStep.TheVariants as heap
-use Rattle.ref_base.specs.declared.step.Step.TheVariants as steps
-use Rattle.ref_base.specs.declared.reply.Reply.TheVariants as replies
+use Rattle.ref_base.proofs.Common.{arith, ◌≡◌, ℕ, Bool, true, false, List, [], ◌∷◌, length, Option, Some, None, refl}
+use Rattle.ref_base.proofs.Common.{sym, ap, ◌∙◌, subst, inl, inr, AllByRecursion, Object, slot_at, reference_at}
+use Rattle.ref_base.proofs.Common.{registered_in, Lists, enqueued, with_parcel, World, Notice, Pending, first_world}
+use Rattle.ref_base.proofs.Common.{object_of, hand_of, queue_at, pending_of, with_hand, NamedStep, hold_of, spending}
+use Rattle.ref_base.proofs.Common.{handed, put_in, notice_of, State, with_world, with_handed, AcceptsAsking, Unhooks}
+use Rattle.ref_base.proofs.Common.{HandsOn, PutsInto, Puts, Polls, Closes, Accepts, IsAnswer, IsRow, reference_of}
+use Rattle.ref_base.proofs.Common.{refusal, Config, Actor, Mutator, Worker, Own, Cycle, Fault, Step, Reply, Row}
+use Rattle.ref_base.proofs.Common.{heap_step, rest_of, with_rest}
 use Rattle.ref_base.proofs.Places.{all_push, all_rest}
 use Rattle.ref_base.proofs.RowForms.{asked_of}
 use Rattle.ref_base.proofs.SoundWorlds.{first_queue, first_hand, first_pending}
 use Rattle.ref_base.proofs.CarryLaws.{Carries, Lasts, notice_from, all_without_first, carries_hand, carries_queue}
 use Rattle.ref_base.proofs.CarryLaws.{in_world, given}
 use Rattle.ref_base.proofs.CarryHeaps.{Anew, heap_carries}
+use Rattle.ref_base.specs.declared.heap_step.HeapStep.TheVariants as heap
+use Rattle.ref_base.specs.declared.step.Step.TheVariants as steps
+use Rattle.ref_base.specs.declared.reply.Reply.TheVariants as replies
 
 -- the notice of that number among these is one of them
 pub all_notice_of : (P : Notice → Type 0) (notices : List Notice) (n : ℕ) → AllByRecursion P notices

@@ -1,16 +1,10 @@
 -- What a mark's end clears reads as cleared from then on, in every state after it.
-use Rattle.std.proofs.Common.{◌≡◌, ℕ, ◌<◌, true, false, List, [], ◌∷◌, ◌++◌, map, Option, Some, None, inl, inr, refl}
-use Rattle.std.proofs.Common.{sym, ◌∙◌, arith}
-use Rattle.std.specs.List.{AllByRecursion}
-use Rattle.std.proofs.lemmas.Bool.{cases_Bool, and_parts}
-use Rattle.ref_base.proofs.Common.{has, Object, Reference, object_at, is_there, numbers, IsRising, is_soft, new_clears}
-use Rattle.ref_base.proofs.Common.{slot_at, reference_in, reference_at, changed_reference, cleared, got_at, World}
-use Rattle.ref_base.proofs.Common.{Notice, Pending, State, first_state, IsRow, IsRun, doomed_at, shown, referent_of}
-use Rattle.ref_base.proofs.Common.{EndsMark, HeapAccepts, NamedStep, Config, Reply, Row}
-use Rattle.ref_base.specs.declared.heap_step.HeapStep.TheVariants as heap
-use Rattle.ref_base.specs.declared.plain_step.PlainStep.TheVariants as plain
-use Rattle.ref_base.specs.declared.step.Step.TheVariants as steps
-use Rattle.ref_base.specs.declared.reply.Reply.TheVariants as replies
+use Rattle.ref_base.proofs.Common.{◌≡◌, ℕ, ◌<◌, true, false, List, [], ◌∷◌, ◌++◌, map, Option, Some, None, inl, inr}
+use Rattle.ref_base.proofs.Common.{refl, sym, ◌∙◌, arith, AllByRecursion, cases_Bool, and_parts, has, Object, Reference}
+use Rattle.ref_base.proofs.Common.{object_at, is_there, numbers, IsRising, is_soft, new_clears, slot_at, reference_in}
+use Rattle.ref_base.proofs.Common.{reference_at, changed_reference, cleared, got_at, World, Notice, Pending, State}
+use Rattle.ref_base.proofs.Common.{first_state, IsRow, IsRun, doomed_at, shown, referent_of, EndsMark, HeapAccepts}
+use Rattle.ref_base.proofs.Common.{NamedStep, Config, Reply, Row}
 use Rattle.ref_base.proofs.CarryLaws.{AnyCycle, Carries, Lasts, notice_from}
 use Rattle.ref_base.proofs.CarryHeaps.{Anew, heap_carries}
 use Rattle.ref_base.proofs.CountedTraces.{legal_counted}
@@ -19,6 +13,10 @@ use Rattle.ref_base.proofs.OldNames.{legal_numbers}
 use Rattle.ref_base.proofs.OneQueue.{next_heap}
 use Rattle.ref_base.proofs.HeapTurns.{at_rest, IsTurn, accepted, row_turn}
 use Rattle.ref_base.proofs.RunLaws.{run_more, holds_on}
+use Rattle.ref_base.specs.declared.heap_step.HeapStep.TheVariants as heap
+use Rattle.ref_base.specs.declared.plain_step.PlainStep.TheVariants as plain
+use Rattle.ref_base.specs.declared.step.Step.TheVariants as steps
+use Rattle.ref_base.specs.declared.reply.Reply.TheVariants as replies
 
 -- ---- a reference that has no referent
 

@@ -1,8 +1,7 @@
 -- What was added, and then what waits, comes in the order in which a worker cleared it; and so it does after a step
 -- that moves it on.
-use Rattle.std.proofs.Common.{arith, ◌≡◌, ℕ, List, [], ◌∷◌, ◌++◌, Option, Some, None, refl, append_assoc}
-use Rattle.ref_base.proofs.Common.{World, first_world, if_registered, clearing_order, Worker, Config, Row}
-use Rattle.ref_base.specs.WorkerOrder.{cleared_in}
+use Rattle.ref_base.proofs.Common.{arith, ◌≡◌, ℕ, List, [], ◌∷◌, ◌++◌, Option, Some, None, refl, append_assoc, World}
+use Rattle.ref_base.proofs.Common.{first_world, if_registered, clearing_order, Worker, Config, Row, cleared_in}
 use Rattle.ref_base.proofs.ClearingShifts.{waiting_in, Shifts}
 use Rattle.ref_base.proofs.ProvenTraces.{registered_more}
 use Rattle.ref_base.proofs.SoundWorlds.{first_hand, first_pending}

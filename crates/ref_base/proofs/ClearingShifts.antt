@@ -1,13 +1,12 @@
 -- What waits to be added of what a worker cleared, its hand's notices and then its pending references, and how a row
 -- moves it on.
-use Rattle.std.proofs.Common.{arith, ◌≡◌, ℕ, ◌<◌, Bool, true, false, ◌==◌, if◌then◌else◌, List, [], ◌∷◌, ◌++◌, length}
-use Rattle.std.proofs.Common.{Option, Some, None, ◌⊎◌, inl, inr, refl, sym, ap, ◌∙◌, subst, append_assoc}
-use Rattle.std.specs.Prelude.{slice_index_or, slice_set}
-use Rattle.std.proofs.lemmas.Bool.{cases_eq, eqb-true, ne_eqb, and_right}
-use Rattle.std.proofs.lemmas.List.{append-nil, get_or-set_same, get_or-set_other}
-use Rattle.ref_base.proofs.Common.{World, Notice, Pending, hand_of, pending_of, rest_of, with_rest, pended}
-use Rattle.ref_base.proofs.Common.{without_pending, is_registered, if_registered, is_by, if_worked, Actor, Mutator}
-use Rattle.ref_base.proofs.Common.{Worker, Cause, Own, Cycle, Row}
+use Rattle.ref_base.proofs.Common.{arith, ◌≡◌, ℕ, ◌<◌, Bool, true, false, ◌==◌, if◌then◌else◌, List, [], ◌∷◌, ◌++◌}
+use Rattle.ref_base.proofs.Common.{length, Option, Some, None, ◌⊎◌, inl, inr, refl, sym, ap, ◌∙◌, subst, append_assoc}
+use Rattle.ref_base.proofs.Common.{slice_index_or, slice_set, cases_eq, eqb-true, ne_eqb, and_right, append-nil}
+use Rattle.ref_base.proofs.Common.{get_or-set_same, get_or-set_other, World, Notice, Pending, hand_of, pending_of}
+use Rattle.ref_base.proofs.Common.{rest_of, with_rest, pended, without_pending, is_registered, if_registered, is_by}
+use Rattle.ref_base.proofs.Common.{Actor, Mutator, Worker, Cause, Own, Cycle, Row}
+use Rattle.ref_base.specs.ClearingOrder.{if_worked}
 use Rattle.ref_base.proofs.Places.{set_each, place_there}
 use Rattle.ref_base.proofs.Subsequences.{Sub, sub_through, sub_behind, sub_before, sub_longer, sub_after}
 

@@ -1,20 +1,12 @@
 -- In every legal trace each queue has a worker's references in the order in which the worker cleared them.
-use Rattle.std.proofs.Common.{arith, ◌≡◌, ℕ, true, List, [], ◌∷◌, ◌++◌, length, Option, Some, None, refl, sym, ap, ◌∙◌}
-use Rattle.std.proofs.Common.{subst, append_assoc}
-use Rattle.std.specs.Prelude.{slice_index_or, slice_set}
-use Rattle.std.proofs.lemmas.Bool.{cases_eq}
-use Rattle.std.proofs.lemmas.List.{append-nil, get_or-set_same, get_or-set_other}
-use Rattle.ref_base.proofs.Common.{reference_at, registered_in, World, SameOthers, first_world, hand_of, heap_step}
-use Rattle.ref_base.proofs.Common.{put_in, after, replayed, without_pending, pending_of, State, first_state, refusal}
-use Rattle.ref_base.proofs.Common.{IsAnswer, IsRow, IsRun, is_subsequence, IsLegal, is_registered, clearing_order}
-use Rattle.ref_base.proofs.Common.{first_worked, added_of, Actor, Mutator, Worker, Cause, Config, Fault, Step, Reply}
-use Rattle.ref_base.proofs.Common.{Row}
-use Rattle.ref_base.specs.WorkerOrder.{cleared_in}
-use Rattle.ref_base.specs.Replay.{replayed_from}
-use Rattle.ref_base.specs.ClearingOrder.{added_by, added_from}
-use Rattle.ref_base.specs.declared.plain_step.PlainStep.TheVariants as plain
-use Rattle.ref_base.specs.declared.step.Step.TheVariants as steps
-use Rattle.ref_base.specs.declared.reply.Reply.TheVariants as replies
+use Rattle.ref_base.proofs.Common.{arith, ◌≡◌, ℕ, true, List, [], ◌∷◌, ◌++◌, length, Option, Some, None, refl, sym, ap}
+use Rattle.ref_base.proofs.Common.{◌∙◌, subst, append_assoc, slice_index_or, slice_set, cases_eq, append-nil}
+use Rattle.ref_base.proofs.Common.{get_or-set_same, get_or-set_other, reference_at, registered_in, World, SameOthers}
+use Rattle.ref_base.proofs.Common.{first_world, hand_of, heap_step, put_in, after, replayed, without_pending}
+use Rattle.ref_base.proofs.Common.{pending_of, State, first_state, refusal, IsAnswer, IsRow, IsRun, is_subsequence}
+use Rattle.ref_base.proofs.Common.{IsLegal, is_registered, clearing_order, added_of, Actor, Mutator, Worker, Cause}
+use Rattle.ref_base.proofs.Common.{Config, Fault, Step, Reply, Row, cleared_in, replayed_from}
+use Rattle.ref_base.specs.ClearingOrder.{first_worked, added_by, added_from}
 use Rattle.ref_base.proofs.SoundWorlds.{first_sound}
 use Rattle.ref_base.proofs.Places.{place_there}
 use Rattle.ref_base.proofs.CountedTraces.{legal_counted}
@@ -31,6 +23,9 @@ use Rattle.ref_base.proofs.Subsequences.{sub_is}
 use Rattle.ref_base.proofs.ClearingShifts.{Shifts, still, put, spends, passes, released, not_by, none_worked, at}
 use Rattle.ref_base.proofs.ClearingShifts.{clears_for, hands_to}
 use Rattle.ref_base.proofs.ClearingOrders.{IsOrdered, more_ordered, nothing_waits, in_order}
+use Rattle.ref_base.specs.declared.plain_step.PlainStep.TheVariants as plain
+use Rattle.ref_base.specs.declared.step.Step.TheVariants as steps
+use Rattle.ref_base.specs.declared.reply.Reply.TheVariants as replies
 
 -- ---- a put that was added
 

@@ -1,21 +1,18 @@
 -- No row of a heap but a mark's end changes of what holds of whatever a root names, and whatever that refers to; and it
 -- holds of what a reply names.
-use Rattle.std.proofs.Common.{arith, ◌≡◌, ℕ, ◌+◌, ◌*◌, Bool, true, false, if◌then◌else◌, List, [], ◌∷◌, ◌++◌, min}
-use Rattle.std.proofs.Common.{length, Option, Some, None, sym, ap, ◌∙◌, subst}
-use Rattle.std.specs.List.{AllByRecursion}
-use Rattle.ref_base.proofs.Common.{has, Object, object_at, plain_object, any_referent, targets_of}
-use Rattle.ref_base.proofs.Common.{Heap, slot_at, with_slot, with_reference, got_at, got, cut, stored, made, nulls}
-use Rattle.ref_base.proofs.Common.{new_reference, changed_in, with_hold, without_hold, World, Pending, pending_of}
-use Rattle.ref_base.proofs.Common.{with_heap, with_pending, told_object, Notice, told_value, told_notice, told_cycle}
-use Rattle.ref_base.proofs.Common.{begun, with_phase, named_by, NamedStep, adopted, pended, handed_on}
-use Rattle.ref_base.proofs.Common.{without_pending, after_heap, State, Gives, Unhooks, Holds, Scans, ClearsNext}
-use Rattle.ref_base.proofs.Common.{HandsOn, Sweeps, HeapAccepts, value_reply, list_at, field_in, referent_got}
-use Rattle.ref_base.proofs.Common.{reference_of, heap_refusal, Own, Cycle, Phase, Clearing, Urgency, Reply}
-use Rattle.ref_base.specs.declared.strength.Strength.{Strength}
-use Rattle.ref_base.specs.Replay.{if_told}
-use Rattle.ref_base.specs.declared.heap_step.HeapStep.TheVariants as heap
-use Rattle.ref_base.specs.declared.plain_step.PlainStep.TheVariants as plain
-use Rattle.ref_base.specs.declared.reply.Reply.TheVariants as replies
+use Rattle.ref_base.proofs.Common.{arith, ◌≡◌, ℕ, ◌+◌, ◌*◌, Bool, true, false, if◌then◌else◌, List, [], ◌∷◌, ◌++◌}
+use Rattle.ref_base.proofs.Common.{length, Option, Some, None, sym, ap, ◌∙◌, subst, AllByRecursion, has, Object}
+use Rattle.ref_base.proofs.Common.{object_at, plain_object, any_referent, targets_of, Heap, slot_at, with_slot}
+use Rattle.ref_base.proofs.Common.{with_reference, got_at, got, cut, stored, made, nulls, new_reference, changed_in}
+use Rattle.ref_base.proofs.Common.{with_hold, without_hold, World, Pending, pending_of, with_heap, with_pending}
+use Rattle.ref_base.proofs.Common.{told_object, Notice, told_notice, told_cycle, begun, with_phase, NamedStep, pended}
+use Rattle.ref_base.proofs.Common.{handed_on, without_pending, after_heap, State, Gives, Unhooks, Holds, Scans}
+use Rattle.ref_base.proofs.Common.{ClearsNext, HandsOn, Sweeps, HeapAccepts, value_reply, list_at, field_in}
+use Rattle.ref_base.proofs.Common.{referent_got, reference_of, heap_refusal, Own, Cycle, Phase, Clearing, Urgency}
+use Rattle.ref_base.proofs.Common.{Reply, Strength, if_told}
+use Rattle.std.proofs.Common.{min}
+use Rattle.ref_base.specs.Told.{told_value, named_by}
+use Rattle.ref_base.specs.Replay.{adopted}
 use Rattle.ref_base.proofs.Places.{all_push}
 use Rattle.ref_base.proofs.CarryLaws.{all_without_first}
 use Rattle.ref_base.proofs.HasLaws.{has-cases}
@@ -26,6 +23,9 @@ use Rattle.ref_base.proofs.PhaseLaws.{of_phase}
 use Rattle.ref_base.proofs.ObjectTargets.{field_target, got_target, no_nulls}
 use Rattle.ref_base.proofs.ApartWorlds.{OfValue, IsClosed, closed_slot, closed_hold, closed_fewer, closed_pending}
 use Rattle.ref_base.proofs.ApartWorlds.{closed_stored, closed_cut, closed_got, closed_push, closed_swept}
+use Rattle.ref_base.specs.declared.heap_step.HeapStep.TheVariants as heap
+use Rattle.ref_base.specs.declared.plain_step.PlainStep.TheVariants as plain
+use Rattle.ref_base.specs.declared.reply.Reply.TheVariants as replies
 
 -- V holds of whatever these roots and objects name, also where the rest of the world is another
 pub closed_same : (V : ℕ → Type 0) (v w : World) → w.heap.slots ≡ v.heap.slots → w.heap.holds ≡ v.heap.holds

@@ -1,7 +1,6 @@
 -- No path leads out of a closed set of numbers that has the roots.
-use Rattle.std.proofs.Common.{arith, ◌≡◌, ℕ, Bool, true, ◌&&◌, List, [], ◌∷◌}
-use Rattle.std.proofs.lemmas.Bool.{false≢true, and_parts}
-use Rattle.ref_base.proofs.Common.{has, Graph, Object, Allowed, EndsPath, targets_at}
+use Rattle.ref_base.proofs.Common.{arith, ◌≡◌, ℕ, Bool, true, ◌&&◌, List, [], ◌∷◌, false≢true, and_parts, has, Graph}
+use Rattle.ref_base.proofs.Common.{Object, Allowed, EndsPath, targets_at}
 use Rattle.ref_base.proofs.PathLaws.{path_within}
 
 -- each of ns is in the set

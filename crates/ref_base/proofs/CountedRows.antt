@@ -1,13 +1,12 @@
 -- The holds that a row of a heap leaves are those that its answer tells.
-use Rattle.std.proofs.Common.{arith, ◌≡◌, ℕ, List, Option, Some, None, refl, ap, ◌∙◌}
-use Rattle.ref_base.proofs.Common.{Object, Heap, slot_at, reference_at, registered_in, changed_in, with_reference}
-use Rattle.ref_base.proofs.Common.{cleared, got_at, got, cut, one_more, World, NamedStep, pended, State, HeapAccepts}
-use Rattle.ref_base.proofs.Common.{holds_after, Reply}
+use Rattle.ref_base.proofs.Common.{arith, ◌≡◌, ℕ, List, Option, Some, None, refl, ap, ◌∙◌, Object, Heap, slot_at}
+use Rattle.ref_base.proofs.Common.{reference_at, registered_in, changed_in, with_reference, cleared, got_at, got, cut}
+use Rattle.ref_base.proofs.Common.{one_more, World, NamedStep, pended, State, HeapAccepts, holds_after, Reply}
+use Rattle.ref_base.proofs.Outcomes.{outcome, heap_outcome}
+use Rattle.ref_base.proofs.ReplayKeeps.{told_keeps, done_keeps}
 use Rattle.ref_base.specs.declared.heap_step.HeapStep.TheVariants as heap
 use Rattle.ref_base.specs.declared.plain_step.PlainStep.TheVariants as plain
 use Rattle.ref_base.specs.declared.reply.Reply.TheVariants as replies
-use Rattle.ref_base.proofs.Outcomes.{outcome, heap_outcome}
-use Rattle.ref_base.proofs.ReplayKeeps.{told_keeps, done_keeps}
 
 abbrev holds_of : World → List ℕ
 holds_of w = w.heap.holds

@@ -1,17 +1,11 @@
 -- In every legal trace each notice that is out is a hold that the heap counts, row by row.
-use Rattle.std.proofs.Common.{arith, ◌≡◌, ℕ, ◌<◌, Bool, true, false, List, [], ◌∷◌, length, Option, Some, None, refl}
-use Rattle.std.proofs.Common.{sym, ap, ◌∙◌, subst}
-use Rattle.std.proofs.lemmas.Bool.{and_parts}
-use Rattle.ref_base.proofs.Common.{one_more, one_fewer, World, Notice, Pending, SameOthers, hand_of, queue_at}
-use Rattle.ref_base.proofs.Common.{with_hand, NamedStep, hold_of, spending, handed, State, first_state, Gives}
-use Rattle.ref_base.proofs.Common.{with_handed, AcceptsAsking, Unhooks, HandsOn, PutsInto, Puts, Polls, Closes}
-use Rattle.ref_base.proofs.Common.{closed_queue, with_world, Accepts, IsAnswer, IsRow, IsRun, unless_full, refusal}
-use Rattle.ref_base.proofs.Common.{is_mutator, has_slot, AreCounted, holds_after, Config, Actor, Mutator, Worker, Own}
-use Rattle.ref_base.proofs.Common.{Cycle, Fault, Step, Reply, Row, heap_step, with_rest}
-use Rattle.ref_base.specs.declared.heap_step.HeapStep.TheVariants as heap
-use Rattle.ref_base.specs.declared.plain_step.PlainStep.TheVariants as plain
-use Rattle.ref_base.specs.declared.step.Step.TheVariants as steps
-use Rattle.ref_base.specs.declared.reply.Reply.TheVariants as replies
+use Rattle.ref_base.proofs.Common.{arith, ◌≡◌, ℕ, ◌<◌, Bool, true, false, List, [], ◌∷◌, length, Option, Some, None}
+use Rattle.ref_base.proofs.Common.{refl, sym, ap, ◌∙◌, subst, and_parts, one_more, one_fewer, World, Notice, Pending}
+use Rattle.ref_base.proofs.Common.{SameOthers, hand_of, queue_at, with_hand, NamedStep, hold_of, spending, handed}
+use Rattle.ref_base.proofs.Common.{State, first_state, Gives, with_handed, AcceptsAsking, Unhooks, HandsOn, PutsInto}
+use Rattle.ref_base.proofs.Common.{Puts, Polls, Closes, closed_queue, with_world, Accepts, IsAnswer, IsRow, IsRun}
+use Rattle.ref_base.proofs.Common.{unless_full, refusal, is_mutator, has_slot, AreCounted, holds_after, Config, Actor}
+use Rattle.ref_base.proofs.Common.{Mutator, Worker, Own, Cycle, Fault, Step, Reply, Row, heap_step, with_rest}
 use Rattle.ref_base.proofs.CountedRows.{heap_holds}
 use Rattle.ref_base.proofs.CountedWorlds.{counted_given, counted_spent, counted_put, counted_took, counted_closed}
 use Rattle.ref_base.proofs.CountedWorlds.{first_counted}
@@ -21,6 +15,10 @@ use Rattle.ref_base.proofs.SameOthers.{same_hand}
 use Rattle.ref_base.proofs.SoundWorlds.{HasHand, IsSound, first_sound}
 use Rattle.ref_base.proofs.LegalQueues.{run_sound}
 use Rattle.ref_base.proofs.RunFronts.{legal_holds}
+use Rattle.ref_base.specs.declared.heap_step.HeapStep.TheVariants as heap
+use Rattle.ref_base.specs.declared.plain_step.PlainStep.TheVariants as plain
+use Rattle.ref_base.specs.declared.step.Step.TheVariants as steps
+use Rattle.ref_base.specs.declared.reply.Reply.TheVariants as replies
 
 -- ---- the forms of a row
 

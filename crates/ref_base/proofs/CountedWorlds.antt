@@ -1,12 +1,9 @@
 -- In every legal trace each notice that is out is a hold that the heap counts.
-use Rattle.std.proofs.Common.{◌≡◌, ℕ, ◌+◌, ◌<◌, ◌≤◌, zero, suc, true, List, [], ◌∷◌, map, length, replicate}
-use Rattle.std.proofs.Common.{refl, sym, ap, ◌∙◌, arith}
-use Rattle.std.proofs.lemmas.Bool.{eq-eqb}
-use Rattle.std.proofs.lemmas.List.{map-append}
-use Rattle.ref_base.proofs.Common.{has, one_more, one_fewer, Lists, new_queue, new_queues, World}
-use Rattle.ref_base.proofs.Common.{Notice, SameOthers, first_world, object_of, hand_of, queue_at, with_hand, with_queue}
-use Rattle.ref_base.proofs.Common.{put_in, took, taken_out, notice_of, closed_queue, tally, in_hands}
-use Rattle.ref_base.proofs.Common.{in_queues, AreCounted, Config, Actor, Mutator, Worker}
+use Rattle.ref_base.proofs.Common.{◌≡◌, ℕ, ◌+◌, ◌<◌, ◌≤◌, zero, suc, true, List, [], ◌∷◌, map, length, replicate, refl}
+use Rattle.ref_base.proofs.Common.{sym, ap, ◌∙◌, arith, eq-eqb, map-append, has, one_more, one_fewer, Lists, new_queue}
+use Rattle.ref_base.proofs.Common.{new_queues, World, Notice, SameOthers, first_world, object_of, hand_of, queue_at}
+use Rattle.ref_base.proofs.Common.{with_hand, with_queue, put_in, took, taken_out, notice_of, closed_queue, tally}
+use Rattle.ref_base.proofs.Common.{in_hands, in_queues, AreCounted, Config, Actor, Mutator, Worker}
 use Rattle.ref_base.specs.CountedHolds.{reported}
 use Rattle.ref_base.proofs.HoldCounts.{tally-has, tally-first, tally-append, tally-one_more, tally-one_fewer}
 use Rattle.ref_base.proofs.HoldCounts.{tally-hand_set, tally-queue_set}

@@ -1,9 +1,7 @@
 -- Tests by which one shows of a concrete graph that a mark's end may doom what it dooms.
-use Rattle.std.proofs.Common.{arith, ◌≡◌, ℕ, Bool, true, false, not, ◌&&◌, ◌||◌, sym, ◌∙◌, List, [], ◌∷◌, ◌⊎◌, inl, inr}
-use Rattle.std.proofs.lemmas.Bool.{true≢false, false≢true}
-use Rattle.std.specs.List.{AllByRecursion}
-use Rattle.ref_base.proofs.Common.{has, Graph, Object, is_there, numbers, Allowed, targets_at, Policy, is_kept}
-use Rattle.ref_base.proofs.Common.{EverKept, MayDoom, meets}
+use Rattle.ref_base.proofs.Common.{arith, ◌≡◌, ℕ, Bool, true, false, not, ◌&&◌, ◌||◌, sym, ◌∙◌, List, [], ◌∷◌, ◌⊎◌, inl}
+use Rattle.ref_base.proofs.Common.{inr, true≢false, false≢true, AllByRecursion, has, Graph, Object, is_there, numbers}
+use Rattle.ref_base.proofs.Common.{Allowed, targets_at, Policy, is_kept, EverKept, MayDoom, meets}
 use Rattle.ref_base.proofs.ClosedSets.{is_closed, closed_has}
 
 -- whether each of these objects is in the set or has no target in it

@@ -1,13 +1,12 @@
 -- The definitions of graphs and strengths at work on a graph that one can read off by hand.
-use Rattle.std.proofs.Common.{arith, ◌≡◌, ℕ, false, [], ◌∷◌, Some, refl, sym, ◌∙◌}
-use Rattle.std.proofs.lemmas.Bool.{true≢false, false≢true}
-use Rattle.ref_base.proofs.Common.{has, Graph, plain_object, numbers, with_object, EndsPath, no_referents}
-use Rattle.ref_base.proofs.Common.{soft_referents, soft_and_weak_referents, HasStrength, HangsOnPhantom}
+use Rattle.ref_base.proofs.Common.{arith, ◌≡◌, ℕ, false, [], ◌∷◌, Some, refl, sym, ◌∙◌, true≢false, false≢true, has}
+use Rattle.ref_base.proofs.Common.{Graph, plain_object, numbers, with_object, EndsPath, no_referents, soft_referents}
+use Rattle.ref_base.proofs.Common.{soft_and_weak_referents, HasStrength, HangsOnPhantom}
 use Rattle.ref_base.specs.Graphs.{reference_object}
-use Rattle.ref_base.specs.declared.strength.Strength.TheVariants as strength
-use Rattle.ref_base.specs.declared.reach.Reach.TheVariants as reach
 use Rattle.ref_base.proofs.ClosedSets.{closed_has}
 use Rattle.ref_base.proofs.PathLaws.{path_within}
+use Rattle.ref_base.specs.declared.strength.Strength.TheVariants as strength
+use Rattle.ref_base.specs.declared.reach.Reach.TheVariants as reach
 
 -- object 1 is the root
 abbrev pub example : Graph

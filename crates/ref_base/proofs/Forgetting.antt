@@ -1,8 +1,7 @@
 -- What is forgotten keeps its shape, and a call reads and changes the rest as if nothing were.
-use Rattle.std.proofs.Common.{arith, ◌≡◌, ℕ, false, refl, ap, List, [], ◌∷◌, map, Option, Some, None}
-use Rattle.std.proofs.lemmas.List.{length-map, map-append}
-use Rattle.ref_base.proofs.Common.{has, Object, object_at, Heap, reference_in, changed_in, made, field_of, field_in}
-use Rattle.ref_base.proofs.Common.{reference_of}
+use Rattle.ref_base.proofs.Common.{arith, ◌≡◌, ℕ, false, refl, ap, List, [], ◌∷◌, map, Option, Some, None, length-map}
+use Rattle.ref_base.proofs.Common.{map-append, has, Object, object_at, Heap, reference_in, changed_in, made, field_of}
+use Rattle.ref_base.proofs.Common.{field_in, reference_of}
 use Rattle.ref_base.specs.Forgetting.{forgotten, heap_but}
 use Rattle.ref_base.proofs.Reshaping.{KeepsShape, map-changed_at}
 

@@ -1,10 +1,8 @@
 -- How the lists of all workers change as one of them grows, and what each worker found among what it scanned.
-use Rattle.std.proofs.Common.{◌≡◌, ℕ, ◌<◌, true, false, ◌||◌, ◌==◌, refl, ap, arith, List, [], ◌∷◌}
-use Rattle.std.proofs.Common.{◌++◌, length, zero, suc, append_assoc}
-use Rattle.std.specs.Prelude.{slice_set, is_some}
-use Rattle.std.proofs.lemmas.Bool.{false≢true, eq-eqb}
-use Rattle.ref_base.proofs.Common.{has, Object, object_at, reference_in, joined, emptied, AreFound, references_among}
-use Rattle.ref_base.proofs.Common.{is_subsequence, list_at}
+use Rattle.ref_base.proofs.Common.{◌≡◌, ℕ, ◌<◌, true, false, ◌||◌, ◌==◌, refl, ap, arith, List, [], ◌∷◌, ◌++◌, length}
+use Rattle.ref_base.proofs.Common.{zero, suc, append_assoc, slice_set, is_some, false≢true, eq-eqb, has, Object}
+use Rattle.ref_base.proofs.Common.{object_at, reference_in, joined, emptied, AreFound, references_among, is_subsequence}
+use Rattle.ref_base.proofs.Common.{list_at}
 use Rattle.ref_base.specs.Members.{AreDistinct}
 use Rattle.ref_base.proofs.HasLaws.{has-append, has-cases, has-left, has-right}
 use Rattle.ref_base.proofs.OneMore.{or-swap}

@@ -1,16 +1,15 @@
 -- In every legal trace each notice that an unhook gave, or that a worker handed on, comes from the rows up to it.
-use Rattle.std.proofs.Common.{arith, ◌≡◌, ℕ, true, List, [], ◌∷◌, ◌++◌, Option, Some, None, refl, sym, subst}
-use Rattle.std.specs.List.{AllByRecursion}
-use Rattle.ref_base.proofs.Common.{Object, slot_at, registered_in, Notice, Pending, pending_of, told_notice, State}
-use Rattle.ref_base.proofs.Common.{first_state, Unhooks, HandsOn, IsAnswer, IsRun, reference_of, IsProven, Config}
-use Rattle.ref_base.proofs.Common.{Fault, Cause, Own, Cycle, Step, Reply, Row}
+use Rattle.ref_base.proofs.Common.{arith, ◌≡◌, ℕ, true, List, [], ◌∷◌, ◌++◌, Option, Some, None, refl, sym, subst}
+use Rattle.ref_base.proofs.Common.{AllByRecursion, Object, slot_at, registered_in, Notice, Pending, pending_of}
+use Rattle.ref_base.proofs.Common.{told_notice, State, first_state, Unhooks, HandsOn, IsAnswer, IsRun, reference_of}
+use Rattle.ref_base.proofs.Common.{IsProven, Config, Fault, Cause, Own, Cycle, Step, Reply, Row}
 use Rattle.ref_base.specs.Provenance.{gives_notices}
-use Rattle.ref_base.specs.declared.step.Step.TheVariants as steps
-use Rattle.ref_base.specs.declared.reply.Reply.TheVariants as replies
 use Rattle.ref_base.proofs.RunLaws.{cut}
 use Rattle.ref_base.proofs.CarryLaws.{OfTold, notice_from}
 use Rattle.ref_base.proofs.CarryRows.{Mints}
 use Rattle.ref_base.proofs.ProvenTraces.{IsMade, Known, Stays, lifted, legal_known, mints}
+use Rattle.ref_base.specs.declared.step.Step.TheVariants as steps
+use Rattle.ref_base.specs.declared.reply.Reply.TheVariants as replies
 
 -- a row that answers so, and the rows up to it
 abbrev gave : Step → ℕ → ℕ → Cause → Row

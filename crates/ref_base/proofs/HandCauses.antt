@@ -1,17 +1,14 @@
 -- Why there is a notice in a hand: a worker's comes from its own clearing; a mutator's from the reference's own call,
 -- or it was put in its queue before.
-use Rattle.std.proofs.Common.{arith, ◌≡◌, ℕ, Bool, true, false, if◌then◌else◌, List, [], ◌∷◌, map, Option, Some, None}
-use Rattle.std.proofs.Common.{◌⊎◌, inl, inr, sym, subst}
-use Rattle.std.specs.List.{AllByRecursion}
-use Rattle.ref_base.proofs.Common.{has, Lists, enqueued, was_put, World, Notice, first_world, object_of, hand_of}
-use Rattle.ref_base.proofs.Common.{queue_at, with_hand, with_queue, told_notice, taking, with_rest, rest_of, if_told}
-use Rattle.ref_base.proofs.Common.{put_in, notice_of, took, closed_queue, State, first_state, refusal, IsAnswer, IsRow}
-use Rattle.ref_base.proofs.Common.{IsRun, Config, Actor, Mutator, Worker, Step, Reply, Row}
-use Rattle.ref_base.specs.declared.step.Step.TheVariants as steps
+use Rattle.ref_base.proofs.Common.{arith, ◌≡◌, ℕ, Bool, true, false, if◌then◌else◌, List, [], ◌∷◌, map, Option, Some}
+use Rattle.ref_base.proofs.Common.{None, ◌⊎◌, inl, inr, sym, subst, AllByRecursion, has, Lists, enqueued, was_put}
+use Rattle.ref_base.proofs.Common.{World, Notice, first_world, object_of, hand_of, queue_at, with_hand, with_queue}
+use Rattle.ref_base.proofs.Common.{told_notice, taking, with_rest, rest_of, if_told, put_in, notice_of, took}
+use Rattle.ref_base.proofs.Common.{closed_queue, State, first_state, refusal, IsAnswer, IsRow, IsRun, Config, Actor}
+use Rattle.ref_base.proofs.Common.{Mutator, Worker, Step, Reply, Row}
 use Rattle.ref_base.proofs.HasLaws.{has-left, has-right}
 use Rattle.ref_base.proofs.Places.{set_each, all_rest}
-use Rattle.ref_base.proofs.SoundWorlds.{IsSound, first_hand, first_sound}
-use Rattle.ref_base.proofs.SoundWorlds.{IsOwn as IsFor}
+use Rattle.ref_base.proofs.SoundWorlds.{IsSound, first_hand, first_sound, IsOwn as IsFor}
 use Rattle.ref_base.proofs.CarryLaws.{OfTold}
 use Rattle.ref_base.proofs.CarryRows.{all_notice_of, all_more}
 use Rattle.ref_base.proofs.RowLaws.{row_goes}
@@ -19,6 +16,7 @@ use Rattle.ref_base.proofs.LegalQueues.{run_sound}
 use Rattle.ref_base.proofs.RunFronts.{legal_holds}
 use Rattle.ref_base.proofs.SameOthers.{same_hand}
 use Rattle.ref_base.proofs.RowHands.{others_after, row_hands, IsOwn, IsBy, unhook_tells, hand_tells}
+use Rattle.ref_base.specs.declared.step.Step.TheVariants as steps
 
 -- ---- what holds of each notice in each hand in its own way
 

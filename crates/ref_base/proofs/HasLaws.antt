@@ -1,13 +1,12 @@
 -- What `has` says of lists that are put together.
-use Rattle.std.proofs.Common.{◌≡◌, ℕ, ◌+◌, ◌<◌, ◌≤◌, Bool, true, false, not, ◌||◌, ◌==◌, nat_eq, nat_lt, refl, sym, ap}
-use Rattle.std.proofs.Common.{subst, ◌∙◌, arith, Some, None, List, [], ◌∷◌, ◌++◌, length, get_or, take, drop, ◌⊎◌, inl}
-use Rattle.std.proofs.Common.{inr, zero, suc}
-use Rattle.std.proofs.lemmas.Bool.{cases_Bool, or_cases, or_left, or_right, true≢false, eq-eqb, eqb-true, ltb-true}
-use Rattle.std.proofs.lemmas.List.{take_more, take-append-le, take-append-drop, get_or_default}
-use Rattle.std.proofs.lemmas.List.Sums.{prefix_len_stops}
-use Rattle.std.specs.List.{list_any, position, position_or_len}
-use Rattle.std.specs.Cmp.{nat_eq_equiv}
+use Rattle.ref_base.proofs.Common.{◌≡◌, ℕ, ◌+◌, ◌<◌, ◌≤◌, Bool, true, false, not, ◌||◌, ◌==◌, nat_eq, nat_lt, refl, sym}
+use Rattle.ref_base.proofs.Common.{ap, subst, ◌∙◌, arith, Some, None, List, [], ◌∷◌, ◌++◌, length, get_or, take, drop}
+use Rattle.ref_base.proofs.Common.{◌⊎◌, inl, inr, zero, suc, cases_Bool, or_cases, or_left, or_right, true≢false}
+use Rattle.ref_base.proofs.Common.{eq-eqb, eqb-true, ltb-true, take-append-le, take-append-drop, position, nat_eq_equiv}
 use Rattle.ref_base.proofs.Common.{has}
+use Rattle.std.proofs.lemmas.List.{take_more, get_or_default}
+use Rattle.std.proofs.lemmas.List.Sums.{prefix_len_stops}
+use Rattle.std.specs.List.{list_any, position_or_len}
 
 not-false : (b : Bool) → not b ≡ false → b ≡ true
 not-false true e = refl

@@ -1,14 +1,13 @@
 -- A row of a heap, with what its step leaves in the hands, is a row of the world; and no row of a heap touches hands
 -- and queues.
-use Rattle.std.proofs.Common.{arith, ◌≡◌, ℕ, true, List, [], ◌∷◌, Option, Some, None, refl, sym, subst}
-use Rattle.ref_base.proofs.Common.{has, Notice, SameOthers, hand_of, NamedStep, hold_of, heap_step, State, is_actor}
+use Rattle.ref_base.proofs.Common.{arith, ◌≡◌, ℕ, true, List, [], ◌∷◌, Option, Some, None, refl, sym, subst, has}
+use Rattle.ref_base.proofs.Common.{Notice, SameOthers, hand_of, NamedStep, hold_of, heap_step, State, is_actor}
 use Rattle.ref_base.proofs.Common.{heap_refusal, refusal, with_handed, AcceptsAsking, IsHeapAnswer, IsHeapRow, IsAnswer}
-use Rattle.ref_base.proofs.Common.{IsRow, Fault, Actor, Mutator, Worker, Step, Reply}
-use Rattle.ref_base.specs.declared.heap_step.HeapStep.TheVariants as heap
-use Rattle.ref_base.specs.declared.step.Step.TheVariants as steps
-use Rattle.std.proofs.lemmas.Bool.{eq-eqb}
+use Rattle.ref_base.proofs.Common.{IsRow, Fault, Actor, Mutator, Worker, Step, Reply, eq-eqb}
 use Rattle.ref_base.proofs.QueueLaws.{same}
 use Rattle.ref_base.proofs.OutcomeParts.{heap_others}
+use Rattle.ref_base.specs.declared.heap_step.HeapStep.TheVariants as heap
+use Rattle.ref_base.specs.declared.step.Step.TheVariants as steps
 
 -- ---- from a row of the heap to one of the world
 

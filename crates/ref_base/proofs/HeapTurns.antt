@@ -1,13 +1,13 @@
 -- A turn at a heap, by a row of its world or by a call from outside: nothing comes of it there, or the heap accepts
 -- what is asked. Hands and queues are beside.
-use Rattle.std.proofs.Common.{arith, ◌≡◌, Option, Some, None, refl, ap, ◌∙◌, inl, inr, ◌⊎◌}
-use Rattle.ref_base.proofs.Common.{heap_refusal, NamedStep, heap_step, State, with_world, HeapAccepts, IsHeapAnswer}
-use Rattle.ref_base.proofs.Common.{IsHeapRow, IsRow, AreCounted, World, Fault, Reply, Row}
-use Rattle.ref_base.specs.declared.reply.Reply.TheVariants as replies
+use Rattle.ref_base.proofs.Common.{arith, ◌≡◌, Option, Some, None, refl, ap, ◌∙◌, inl, inr, ◌⊎◌, heap_refusal}
+use Rattle.ref_base.proofs.Common.{NamedStep, heap_step, State, with_world, HeapAccepts, IsHeapAnswer, IsHeapRow, IsRow}
+use Rattle.ref_base.proofs.Common.{AreCounted, World, Fault, Reply, Row}
 use Rattle.ref_base.proofs.OutcomeParts.{heap_number}
 use Rattle.ref_base.proofs.Outcomes.{settled}
 use Rattle.ref_base.proofs.ReplayKeeps.{but_hands, handed_keeps, queues_keep}
 use Rattle.ref_base.proofs.RowKinds.{queues_lead, row_kind}
+use Rattle.ref_base.specs.declared.reply.Reply.TheVariants as replies
 
 -- a state but for hands, queues, the moments of its mark and whether it says that an object is left
 abbrev pub at_rest : State → State

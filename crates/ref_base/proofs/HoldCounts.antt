@@ -1,8 +1,7 @@
 -- How often each number stands in the lists of holds, hands and queues as these change.
-use Rattle.std.proofs.Common.{◌≡◌, ℕ, ◌+◌, ◌<◌, ◌≤◌, zero, suc, true, ◌==◌, if◌then◌else◌, List, [], ◌∷◌, ◌++◌, length}
-use Rattle.std.proofs.Common.{map, arith}
-use Rattle.std.specs.Prelude.{slice_index_or, slice_set}
-use Rattle.ref_base.proofs.Common.{has, one_more, one_fewer, Lists, Notice, object_of, tally, in_hands, in_queues}
+use Rattle.ref_base.proofs.Common.{◌≡◌, ℕ, ◌+◌, ◌<◌, ◌≤◌, zero, suc, true, ◌==◌, if◌then◌else◌, List, [], ◌∷◌, ◌++◌}
+use Rattle.ref_base.proofs.Common.{length, map, arith, slice_index_or, slice_set, has, one_more, one_fewer, Lists}
+use Rattle.ref_base.proofs.Common.{Notice, object_of, tally, in_hands, in_queues}
 
 -- one or none
 abbrev pub one_if : ℕ → ℕ → ℕ

@@ -1,13 +1,13 @@
 -- Traces that differ from worked ones in one reply, and are not legal.
-use Rattle.std.proofs.Common.{arith, ◌≡◌, ℕ, Bool, false, List, [], ◌∷◌, replicate, Option, Some, None}
-use Rattle.ref_base.proofs.Common.{Graph, Object, plain_object, first_world, State, first_state, IsRun, IsLegal, Row}
-use Rattle.ref_base.proofs.Common.{Mutator, Weak, Normal, Own, Marking, HandEmpty, NoMemory}
+use Rattle.ref_base.proofs.Common.{arith, ◌≡◌, ℕ, Bool, false, List, [], ◌∷◌, replicate, Option, Some, None, Graph}
+use Rattle.ref_base.proofs.Common.{Object, plain_object, first_world, State, first_state, IsRun, IsLegal, Row, Mutator}
+use Rattle.ref_base.proofs.Common.{Weak, Normal, Own, Marking, HandEmpty, NoMemory}
 use Rattle.ref_base.specs.Heaps.{first_heap}
 use Rattle.ref_base.specs.KeptPaths.{policy_from}
+use Rattle.ref_base.proofs.WorkedTraces.{row, config_of}
 use Rattle.ref_base.specs.declared.plain_step.PlainStep.TheVariants as plain
 use Rattle.ref_base.specs.declared.step.Step.TheVariants as steps
 use Rattle.ref_base.specs.declared.reply.Reply.TheVariants as replies
-use Rattle.ref_base.proofs.WorkedTraces.{row, config_of}
 
 -- ---- replies
 
@@ -84,12 +84,7 @@ put_once_by rows last run = grind arith
 
 -- a refusal where none applies: the hand holds a notice
 abbrev refused_without_cause : List Row
-refused_without_cause =
-    row (steps.Plain (plain.New 0 0 0)) (replies.Object 1) ∷
-    row (steps.Plain (plain.Refer 0 Weak 1 0 (Some 0) 0)) (replies.Object 2) ∷
-    row (steps.Unhook 0 1) (replies.Notice 2 0 Own) ∷
-    row (steps.Put (Mutator 0)) (replies.Refused HandEmpty) ∷
-    []
+refused_without_cause = after_unhooking (row (steps.Put (Mutator 0)) (replies.Refused HandEmpty) ∷ [])
 
 refused_without_cause_is_not_legal : ¬ (IsLegal (config_of 1) refused_without_cause)
 refused_without_cause_is_not_legal legal = grind arith
@@ -97,14 +92,11 @@ refused_without_cause_is_not_legal legal = grind arith
 -- the one notice that was put in is taken a second time
 abbrev taken_twice : List Row
 taken_twice =
-    row (steps.Plain (plain.New 0 0 0)) (replies.Object 1) ∷
-    row (steps.Plain (plain.Refer 0 Weak 1 0 (Some 0) 0)) (replies.Object 2) ∷
-    row (steps.Unhook 0 1) (replies.Notice 2 0 Own) ∷
-    row (steps.Put (Mutator 0)) (replies.Added 0) ∷
+    after_unhooking
+    (row (steps.Put (Mutator 0)) (replies.Added 0) ∷
     row (steps.Poll 0 0) (replies.Took 2) ∷
     row (steps.Release (Mutator 0)) replies.Done ∷
-    row (steps.Poll 0 0) (replies.Took 2) ∷
-    []
+    row (steps.Poll 0 0) (replies.Took 2) ∷ [])
 
 taken_twice_is_not_legal : ¬ (IsLegal (config_of 1) taken_twice)
 taken_twice_is_not_legal legal = grind arith
@@ -112,12 +104,9 @@ taken_twice_is_not_legal legal = grind arith
 -- a queue that is closed takes a notice
 abbrev put_after_close : List Row
 put_after_close =
-    row (steps.Plain (plain.New 0 0 0)) (replies.Object 1) ∷
-    row (steps.Plain (plain.Refer 0 Weak 1 0 (Some 0) 0)) (replies.Object 2) ∷
-    row (steps.Unhook 0 1) (replies.Notice 2 0 Own) ∷
-    row (steps.Close 0 0) replies.Done ∷
-    row (steps.Put (Mutator 0)) (replies.Added 0) ∷
-    []
+    after_unhooking
+    (row (steps.Close 0 0) replies.Done ∷
+    row (steps.Put (Mutator 0)) (replies.Added 0) ∷ [])
 
 put_after_close_is_not_legal : ¬ (IsLegal (config_of 1) put_after_close)
 put_after_close_is_not_legal legal = grind arith
@@ -125,13 +114,10 @@ put_after_close_is_not_legal legal = grind arith
 -- a reference that was put in is put in a second time
 abbrev put_twice : List Row
 put_twice =
-    row (steps.Plain (plain.New 0 0 0)) (replies.Object 1) ∷
-    row (steps.Plain (plain.Refer 0 Weak 1 0 (Some 0) 0)) (replies.Object 2) ∷
+    after_unhooking
+    (row (steps.Put (Mutator 0)) (replies.Added 0) ∷
     row (steps.Unhook 0 1) (replies.Notice 2 0 Own) ∷
-    row (steps.Put (Mutator 0)) (replies.Added 0) ∷
-    row (steps.Unhook 0 1) (replies.Notice 2 0 Own) ∷
-    row (steps.Put (Mutator 0)) (replies.Added 1) ∷
-    []
+    row (steps.Put (Mutator 0)) (replies.Added 1) ∷ [])
 
 put_twice_is_not_legal : ¬ (IsLegal (config_of 1) put_twice)
 put_twice_is_not_legal legal = grind arith
@@ -191,15 +177,10 @@ scanned_by rows last run = grind arith
 -- a get answers an object that is doomed
 abbrev doomed_got : List Row
 doomed_got =
-    row (steps.Plain (plain.New 0 0 0)) (replies.Object 1) ∷
-    row (steps.Plain (plain.Refer 0 Weak 1 0 (Some 0) 0)) (replies.Object 2) ∷
-    row (steps.Plain (plain.Drop 0 0)) replies.Done ∷
-    row (steps.Plain (plain.Begin 5 Normal)) (replies.Cycle 1) ∷
-    row (steps.Plain (plain.Scan 0)) (replies.Scanned 2) ∷
-    row (steps.Plain (plain.Scan 0)) replies.Nothing ∷
+    after_scanning
+    (row (steps.Plain (plain.Scan 0)) replies.Nothing ∷
     row (steps.Plain plain.EndMark) (replies.Doomed 1) ∷
-    row (steps.Plain (plain.Get 0 3 1)) (replies.Object 1) ∷
-    []
+    row (steps.Plain (plain.Get 0 3 1)) (replies.Object 1) ∷ [])
 
 doomed_got_is_not_legal : ¬ (IsLegal (config_of 1) doomed_got)
 doomed_got_is_not_legal legal = grind arith
@@ -207,14 +188,9 @@ doomed_got_is_not_legal legal = grind arith
 -- an object that a slot holds is doomed
 abbrev kept_doomed : List Row
 kept_doomed =
-    row (steps.Plain (plain.New 0 0 0)) (replies.Object 1) ∷
-    row (steps.Plain (plain.Refer 0 Weak 1 0 (Some 0) 0)) (replies.Object 2) ∷
-    row (steps.Plain (plain.Drop 0 0)) replies.Done ∷
-    row (steps.Plain (plain.Begin 5 Normal)) (replies.Cycle 1) ∷
-    row (steps.Plain (plain.Scan 0)) (replies.Scanned 2) ∷
-    row (steps.Plain (plain.Get 0 3 1)) (replies.Object 1) ∷
-    row (steps.Plain plain.EndMark) (replies.Doomed 1) ∷
-    []
+    after_scanning
+    (row (steps.Plain (plain.Get 0 3 1)) (replies.Object 1) ∷
+    row (steps.Plain plain.EndMark) (replies.Doomed 1) ∷ [])
 
 kept_doomed_is_not_legal : ¬ (IsLegal (config_of 1) kept_doomed)
 kept_doomed_is_not_legal legal = grind arith

@@ -1,8 +1,9 @@
 -- What a cycle keeps is reachable, and what it keeps at one moment was ever kept.
-use Rattle.std.proofs.Common.{arith, ◌≡◌, ℕ, false, ◌&&◌, nat_le, ◌-◌, sym, ◌∙◌, List, [], ◌∷◌, ◌++◌, ◌⊎◌, inl, inr}
-use Rattle.std.proofs.lemmas.Bool.{and_parts, false≢true}
-use Rattle.ref_base.proofs.Common.{Graph, EndsPath, no_referents, soft_referents, is_soft, HasStrength, Policy, is_kept}
-use Rattle.ref_base.proofs.Common.{IsKept, EverKept, Reach, Strong, Soft, Phantom, Unreachable}
+use Rattle.ref_base.proofs.Common.{arith, ◌≡◌, ℕ, false, ◌&&◌, ◌-◌, sym, ◌∙◌, List, [], ◌∷◌, ◌++◌, ◌⊎◌, inl, inr}
+use Rattle.ref_base.proofs.Common.{and_parts, false≢true, Graph, EndsPath, no_referents, soft_referents, is_soft}
+use Rattle.ref_base.proofs.Common.{HasStrength, Policy, is_kept, IsKept, EverKept, Reach, Strong, Soft, Phantom}
+use Rattle.ref_base.proofs.Common.{Unreachable}
+use Rattle.std.proofs.Common.{nat_le}
 use Rattle.ref_base.specs.KeptPaths.{is_normal}
 use Rattle.ref_base.specs.declared.reach.Reach.TheVariants.{Weak}
 use Rattle.ref_base.proofs.PathLaws.{ends-wider}

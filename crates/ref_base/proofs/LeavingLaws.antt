@@ -1,9 +1,9 @@
 -- A path leaves what lives by a reference that the mark's end clears.
-use Rattle.std.proofs.Common.{arith, ◌≡◌, ℕ, true, false, refl, sym, ◌∙◌, List, [], ◌∷◌, Option, Some, None, inl, inr}
-use Rattle.std.proofs.lemmas.Bool.{cases_Bool, or_cases, or_left, false≢true}
-use Rattle.ref_base.proofs.Common.{has, Graph, Object, Reference, object_at, is_there, Allowed, IsPath}
-use Rattle.ref_base.proofs.Common.{soft_and_weak_referents, targets_at, targets_of, allowed_referent, Policy, MayDoom}
-use Rattle.ref_base.proofs.Common.{refers_into, new_clears, meets, FirstLeaves, reference_in}
+use Rattle.ref_base.proofs.Common.{arith, ◌≡◌, ℕ, true, false, refl, sym, ◌∙◌, List, [], ◌∷◌, Option, Some, None, inl}
+use Rattle.ref_base.proofs.Common.{inr, cases_Bool, or_cases, or_left, false≢true, has, Graph, Object, Reference}
+use Rattle.ref_base.proofs.Common.{object_at, is_there, Allowed, IsPath, soft_and_weak_referents, targets_at}
+use Rattle.ref_base.proofs.Common.{targets_of, allowed_referent, Policy, MayDoom, refers_into, new_clears, meets}
+use Rattle.ref_base.proofs.Common.{FirstLeaves, reference_in}
 use Rattle.ref_base.specs.LeavingEdges.{LeavesBy}
 use Rattle.ref_base.proofs.HasLaws.{has-cases, has-left}
 

@@ -1,13 +1,12 @@
 -- Where a state says in a mark that an object is left, one is: each row of a heap keeps this.
-use Rattle.std.proofs.Common.{arith, ◌≡◌, ℕ, ◌+◌, ◌<◌, Bool, true, false, List, inl, inr, refl, sym, ap, ◌∙◌, subst}
-use Rattle.std.proofs.lemmas.Bool.{false≢true}
-use Rattle.ref_base.proofs.Common.{has, Graph, Policy, EverKept, NamedStep, begun, State, joined, is_in, HeapAccepts}
-use Rattle.ref_base.proofs.Common.{begun_state, Scans, IsBut, IsLeft, ticked, Phase, Marking, Reply}
+use Rattle.ref_base.proofs.Common.{arith, ◌≡◌, ℕ, ◌+◌, ◌<◌, Bool, true, false, List, inl, inr, refl, sym, ap, ◌∙◌}
+use Rattle.ref_base.proofs.Common.{subst, false≢true, has, Graph, Policy, EverKept, NamedStep, begun, State, joined}
+use Rattle.ref_base.proofs.Common.{is_in, HeapAccepts, begun_state, Scans, IsBut, IsLeft, ticked, Phase, Marking, Reply}
+use Rattle.ref_base.proofs.Outcomes.{Becomes, outcome, IsNoEnd, heap_becomes}
+use Rattle.ref_base.proofs.OutcomeParts.{mark_of, mark_in, outcome_stage}
 use Rattle.ref_base.specs.declared.heap_step.HeapStep.TheVariants as heap
 use Rattle.ref_base.specs.declared.plain_step.PlainStep.TheVariants as plain
 use Rattle.ref_base.specs.declared.reply.Reply.TheVariants as replies
-use Rattle.ref_base.proofs.Outcomes.{Becomes, outcome, IsNoEnd, heap_becomes}
-use Rattle.ref_base.proofs.OutcomeParts.{mark_of, mark_in, outcome_stage}
 
 -- where it is said in a mark that an object is left, one is
 abbrev pub LeftMeans : State → Type 0

@@ -1,6 +1,6 @@
 -- Worked traces are legal.
-use Rattle.std.proofs.Common.{true, false, refl, [], ◌∷◌, inl, inr}
-use Rattle.ref_base.proofs.Common.{IsLegal}
+use Rattle.ref_base.proofs.Common.{true, false, refl, [], ◌∷◌, inl, inr, IsLegal, false≢true}
+use Rattle.std.proofs.lemmas.Bool.{ltb-true as below}
 use Rattle.ref_base.proofs.DoomChecks.{may_doom}
 use Rattle.ref_base.proofs.ClosedSets.{are_in-has}
 use Rattle.ref_base.proofs.LegalSteps.{none_left, mark_ends, legal, stop, ◌⨾◌}
@@ -8,7 +8,6 @@ use Rattle.ref_base.proofs.WorkedTraces.{config_of, two_enqueued_in_order, death
 use Rattle.ref_base.proofs.WorkedTraces.{order_of_refusals, first_leaving_edge, soft_kept_within_the_span}
 use Rattle.ref_base.proofs.WorkedTraces.{cleared_for_every_mutator_at_once, get_keeps_the_referent}
 use Rattle.ref_base.proofs.WorkedTraces.{two_workers_in_clearing_order}
-use Rattle.std.proofs.lemmas.Bool.{false≢true, ltb-true as below}
 
 two_enqueued_in_order_is_legal : IsLegal (config_of 1) two_enqueued_in_order
 two_enqueued_in_order_is_legal = legal (config_of 1) two_enqueued_in_order (

@@ -1,11 +1,9 @@
 -- In a legal trace the lists of each queue are those that its rows say.
-use Rattle.std.proofs.Common.{◌≡◌, ℕ, true, List, [], ◌∷◌, ◌++◌, map, sym, ap, ◌∙◌, subst}
-use Rattle.std.specs.Prelude.{nat_eq}
-use Rattle.std.specs.List.{IsDistinct}
-use Rattle.std.proofs.lemmas.List.{append-nil}
+use Rattle.ref_base.proofs.Common.{◌≡◌, ℕ, true, List, [], ◌∷◌, ◌++◌, map, sym, ap, ◌∙◌, subst, nat_eq, append-nil}
 use Rattle.ref_base.proofs.Common.{Lists, new_queue, enqueued, HandNotices, held_after, put_into, taken_from}
 use Rattle.ref_base.proofs.Common.{was_closed, World, Notice, first_world, object_of, queue_at, State, first_state}
 use Rattle.ref_base.proofs.Common.{IsRun, IsLegal, Config, Row, IsRow}
+use Rattle.std.specs.List.{IsDistinct}
 use Rattle.ref_base.specs.QueueRows.{empty_hands, put_from, KeepsQueue}
 use Rattle.ref_base.proofs.QueueChanges.{QueueChanges, changes_nothing, changes_more}
 use Rattle.ref_base.proofs.SoundWorlds.{IsSound, first_hand, first_queue, first_sound}

@@ -1,8 +1,7 @@
 -- How one shows of a concrete trace that it is legal, row by row.
-use Rattle.std.proofs.Common.{◌≡◌, ℕ, true, false, refl, List, [], ◌∷◌, length}
-use Rattle.std.proofs.lemmas.Bool.{false≢true}
-use Rattle.ref_base.proofs.Common.{State, first_state, IsLegal, Config, has, new_clears, MayDoom, graph_of, joined}
-use Rattle.ref_base.proofs.Common.{EndsMark, AreFound, mark_ended, doomed_at, IsRow, IsRun, Row}
+use Rattle.ref_base.proofs.Common.{◌≡◌, ℕ, true, false, refl, List, [], ◌∷◌, length, false≢true, State, first_state}
+use Rattle.ref_base.proofs.Common.{IsLegal, Config, has, new_clears, MayDoom, graph_of, joined, EndsMark, AreFound}
+use Rattle.ref_base.proofs.Common.{mark_ended, doomed_at, IsRow, IsRun, Row}
 use Rattle.ref_base.specs.declared.reply.Reply.TheVariants.{Doomed}
 
 -- where none is said to be left

@@ -1,10 +1,8 @@
 -- What a look-up finds after an object is changed or made, and what lists of values hold after one is set.
-use Rattle.std.proofs.Common.{◌≡◌, ℕ, zero, suc, ◌<◌, true, false, ◌==◌, refl, arith, List, [], ◌∷◌, ◌++◌}
-use Rattle.std.proofs.Common.{length, Option, Some, None, ◌⊎◌, inl}
-use Rattle.std.specs.Prelude.{slice_index_or, slice_set}
-use Rattle.std.proofs.lemmas.Bool.{or_left, or_right, false≢true, eq-eqb}
-use Rattle.ref_base.proofs.Common.{has, Object, Reference, object_at, is_there, numbers, Allowed, present}
-use Rattle.ref_base.proofs.Common.{allowed_referent, IsRising, changed_at}
+use Rattle.ref_base.proofs.Common.{◌≡◌, ℕ, zero, suc, ◌<◌, true, false, ◌==◌, refl, arith, List, [], ◌∷◌, ◌++◌, length}
+use Rattle.ref_base.proofs.Common.{Option, Some, None, ◌⊎◌, inl, slice_index_or, slice_set, or_left, or_right}
+use Rattle.ref_base.proofs.Common.{false≢true, eq-eqb, has, Object, Reference, object_at, is_there, numbers, Allowed}
+use Rattle.ref_base.proofs.Common.{present, allowed_referent, IsRising, changed_at}
 use Rattle.ref_base.proofs.HasLaws.{has-first}
 
 -- ---- objects

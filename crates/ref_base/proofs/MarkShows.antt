@@ -1,18 +1,17 @@
 -- What a mark's end shows of each reference that it clears, in the world of the replay; and what stands after it.
-use Rattle.std.proofs.Common.{arith, ◌≡◌, ℕ, true, false, List, [], ◌∷◌, ◌++◌, Some, refl, sym, ap, ◌∙◌, subst}
-use Rattle.std.proofs.lemmas.List.{append_assoc}
-use Rattle.ref_base.proofs.Common.{has, Object, is_there, IsKept, is_kept, MayDoom, new_clears, reference_at, World}
-use Rattle.ref_base.proofs.Common.{graph_of, replayed, State, joined, without, referent_of, doomed_at, IsDead}
-use Rattle.ref_base.proofs.Common.{MarkEnded, WasDoomed, Config, Marking, Row}
-use Rattle.ref_base.specs.declared.plain_step.PlainStep.TheVariants as plain
-use Rattle.ref_base.specs.declared.step.Step.TheVariants as steps
-use Rattle.ref_base.specs.declared.reply.Reply.TheVariants as replies
+use Rattle.ref_base.proofs.Common.{arith, ◌≡◌, ℕ, true, false, List, [], ◌∷◌, ◌++◌, Some, refl, sym, ap, ◌∙◌, subst}
+use Rattle.ref_base.proofs.Common.{append_assoc, has, Object, is_there, IsKept, is_kept, MayDoom, new_clears}
+use Rattle.ref_base.proofs.Common.{reference_at, World, graph_of, replayed, State, joined, without, referent_of}
+use Rattle.ref_base.proofs.Common.{doomed_at, IsDead, MarkEnded, WasDoomed, Config, Marking, Row}
 use Rattle.ref_base.proofs.NewClears.{has-new_clears}
 use Rattle.ref_base.proofs.SeenObjects.{object_at-without, rising-without}
 use Rattle.ref_base.proofs.AgreeHeaps.{Agreeing, there-without, unscanned-there}
 use Rattle.ref_base.proofs.AgreeEnds.{as_there}
 use Rattle.ref_base.proofs.ApartWorlds.{IsClosed}
 use Rattle.ref_base.proofs.OffSets.{world_but, path_but}
+use Rattle.ref_base.specs.declared.plain_step.PlainStep.TheVariants as plain
+use Rattle.ref_base.specs.declared.step.Step.TheVariants as steps
+use Rattle.ref_base.specs.declared.reply.Reply.TheVariants as replies
 
 -- n is a reference, and its referent is dead
 abbrev pub RefersToDead : World → ℕ → Type 0

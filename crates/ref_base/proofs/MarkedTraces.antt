@@ -1,10 +1,7 @@
 -- In every legal trace a notice of a cycle comes after the end of that cycle's mark, which showed what it had to.
-use Rattle.std.proofs.Common.{arith, ℕ, List, [], ◌∷◌, ◌++◌}
-use Rattle.ref_base.proofs.Common.{replayed, State, first_state, IsRow, IsRun, MarkEnded, WasDoomed, Config, Row}
+use Rattle.ref_base.proofs.Common.{arith, ℕ, List, [], ◌∷◌, ◌++◌, replayed, State, first_state, IsRow, IsRun, MarkEnded}
+use Rattle.ref_base.proofs.Common.{WasDoomed, Config, Row}
 use Rattle.ref_base.specs.MarkEnds.{AreAfterMarks}
-use Rattle.ref_base.specs.declared.plain_step.PlainStep.TheVariants as plain
-use Rattle.ref_base.specs.declared.step.Step.TheVariants as steps
-use Rattle.ref_base.specs.declared.reply.Reply.TheVariants as replies
 use Rattle.ref_base.proofs.RunLaws.{cut}
 use Rattle.ref_base.proofs.RunFronts.{legal_holds}
 use Rattle.ref_base.proofs.CarryLaws.{AnyCycle}
@@ -14,6 +11,9 @@ use Rattle.ref_base.proofs.HeapTurns.{row_turn}
 use Rattle.ref_base.proofs.MarkShows.{ended_more}
 use Rattle.ref_base.proofs.MarkedTurns.{AnyObject, any_lasts, IsMarked, AreMarked, first_marked, row_mints, more_marked}
 use Rattle.ref_base.proofs.OutTraces.{legal_out}
+use Rattle.ref_base.specs.declared.plain_step.PlainStep.TheVariants as plain
+use Rattle.ref_base.specs.declared.step.Step.TheVariants as steps
+use Rattle.ref_base.specs.declared.reply.Reply.TheVariants as replies
 
 -- what a worker cleared, the end of the cycle's mark showed to be out of reach
 pub cleared_shown : (config : Config) (front back : List Row) (k n : ℕ) (b : State) → IsRun (first_state config)

@@ -1,16 +1,15 @@
 -- A notice of a cycle comes after the end of that cycle's mark, which showed what it had to: how each turn at a heap
 -- keeps it.
-use Rattle.std.proofs.Common.{arith, ℕ, List, Some}
-use Rattle.ref_base.proofs.Common.{Object, World, Notice, first_world, heap_step, State, NamedStep, Config, Cause, Own}
-use Rattle.ref_base.proofs.Common.{Cycle, Step, Reply}
-use Rattle.ref_base.specs.declared.heap_step.HeapStep.TheVariants as heap
-use Rattle.ref_base.specs.declared.plain_step.PlainStep.TheVariants as plain
-use Rattle.ref_base.specs.declared.step.Step.TheVariants as steps
+use Rattle.ref_base.proofs.Common.{arith, ℕ, List, Some, Object, World, Notice, first_world, heap_step, State}
+use Rattle.ref_base.proofs.Common.{NamedStep, Config, Cause, Own, Cycle, Step, Reply}
 use Rattle.ref_base.proofs.HeapTurns.{IsTurn}
 use Rattle.ref_base.proofs.OutHeaps.{AreOutBy}
 use Rattle.ref_base.proofs.CarryHeaps.{Anew}
 use Rattle.ref_base.proofs.CarryLaws.{AnyCycle, Carries, Lasts}
 use Rattle.ref_base.proofs.CarryRows.{Mints, first_carries, carries_more}
+use Rattle.ref_base.specs.declared.heap_step.HeapStep.TheVariants as heap
+use Rattle.ref_base.specs.declared.plain_step.PlainStep.TheVariants as plain
+use Rattle.ref_base.specs.declared.step.Step.TheVariants as steps
 
 abbrev pub AnyObject : Object → Type 0
 AnyObject o = Unit {0}

@@ -1,5 +1,5 @@
 -- What is in the list of new clears, and what refers into the doomed.
-use Rattle.std.proofs.Common.{◌≡◌, ℕ, ◌≤◌, Bool, false, not, ◌&&◌, refl, arith, List, [], ◌∷◌, Option, Some, None}
+use Rattle.ref_base.proofs.Common.{◌≡◌, ℕ, ◌≤◌, Bool, false, not, ◌&&◌, refl, arith, List, [], ◌∷◌, Option, Some, None}
 use Rattle.ref_base.proofs.Common.{has, Object, Reference, object_at, is_there, numbers, IsRising, any_is, refers_into}
 use Rattle.ref_base.proofs.Common.{new_clears, reference_in}
 

@@ -1,8 +1,7 @@
 -- What a load or a get finds is what the object refers to.
-use Rattle.std.proofs.Common.{arith, ◌≡◌, ℕ, zero, suc, true, Option, Some, None}
-use Rattle.std.proofs.lemmas.Bool.{false≢true}
-use Rattle.ref_base.proofs.Common.{has, Object, any_referent, present, allowed_referent, targets_of, reference_in}
-use Rattle.ref_base.proofs.Common.{nulls, field_of, referent_got}
+use Rattle.ref_base.proofs.Common.{arith, ◌≡◌, ℕ, zero, suc, true, Option, Some, None, false≢true, has, Object}
+use Rattle.ref_base.proofs.Common.{any_referent, present, allowed_referent, targets_of, reference_in, nulls, field_of}
+use Rattle.ref_base.proofs.Common.{referent_got}
 use Rattle.ref_base.proofs.HasLaws.{has-left, has-right}
 use Rattle.ref_base.proofs.Lookups.{has-present_at}
 

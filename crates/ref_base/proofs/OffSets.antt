@@ -1,12 +1,10 @@
 -- What is gone or doomed is out of reach: no root names it, and nothing else refers to it. A mark's end makes it so.
-use Rattle.std.proofs.Common.{arith, ◌≡◌, ℕ, zero, suc, true, false, List, [], ◌∷◌, ◌++◌, map, Option, Some, None}
-use Rattle.std.proofs.Common.{is_some, refl, sym, ap, ◌∙◌, inl, inr, ◌⊎◌}
-use Rattle.std.specs.Prelude.{slice_index_or}
-use Rattle.std.specs.List.{AllByRecursion}
-use Rattle.std.proofs.lemmas.Bool.{or_parts, or_from, false≢true}
-use Rattle.ref_base.proofs.Common.{has, Graph, Object, Reference, object_at, is_there, Allowed, EndsPath, any_referent}
-use Rattle.ref_base.proofs.Common.{no_referents, present, targets_of, targets_at, is_kept, MayDoom, World, Pending}
-use Rattle.ref_base.proofs.Common.{graph_of, pending_of, pending_numbers, with_heap, without, shown}
+use Rattle.ref_base.proofs.Common.{arith, ◌≡◌, ℕ, zero, suc, true, false, List, [], ◌∷◌, ◌++◌, map, Option, Some, None}
+use Rattle.ref_base.proofs.Common.{is_some, refl, sym, ap, ◌∙◌, inl, inr, ◌⊎◌, slice_index_or, AllByRecursion, or_from}
+use Rattle.ref_base.proofs.Common.{false≢true, has, Graph, Object, Reference, object_at, is_there, Allowed, EndsPath}
+use Rattle.ref_base.proofs.Common.{any_referent, no_referents, present, targets_of, targets_at, is_kept, MayDoom, World}
+use Rattle.ref_base.proofs.Common.{Pending, graph_of, pending_of, pending_numbers, with_heap, without, shown}
+use Rattle.std.proofs.lemmas.Bool.{or_parts}
 use Rattle.ref_base.proofs.CarryRows.{all_more}
 use Rattle.ref_base.proofs.HasLaws.{has-append, has-cases, has-left, has-right}
 use Rattle.ref_base.proofs.Lookups.{has-present_at}

@@ -1,12 +1,9 @@
 -- In every legal trace each number is given once: whatever is named has a number below the next.
-use Rattle.std.proofs.Common.{◌≡◌, ℕ, ◌+◌, ◌*◌, ◌<◌, ◌≤◌, true, List, [], ◌∷◌, map, Option, Some, None, refl, sym, ap}
-use Rattle.std.proofs.Common.{subst, arith, inl, inr}
-use Rattle.std.proofs.lemmas.Bool.{false≢true}
-use Rattle.ref_base.proofs.Common.{Object, object_at, is_there, numbers, IsRising, World, NamedStep, replayed, State}
-use Rattle.ref_base.proofs.Common.{first_state, heap_refusal, HeapAccepts, shown, mark_ended, doomed_at, IsRun}
-use Rattle.ref_base.proofs.Common.{HasOldNumbers, Config, Reply, Row, heap_step}
-use Rattle.ref_base.specs.declared.heap_step.HeapStep.TheVariants as heap
-use Rattle.ref_base.specs.declared.plain_step.PlainStep.TheVariants as plain
+use Rattle.ref_base.proofs.Common.{◌≡◌, ℕ, ◌+◌, ◌*◌, ◌<◌, ◌≤◌, true, List, [], ◌∷◌, map, Option, Some, None, refl, sym}
+use Rattle.ref_base.proofs.Common.{ap, subst, arith, inl, inr, false≢true, Object, object_at, is_there, numbers}
+use Rattle.ref_base.proofs.Common.{IsRising, World, NamedStep, replayed, State, first_state, heap_refusal, HeapAccepts}
+use Rattle.ref_base.proofs.Common.{shown, mark_ended, doomed_at, IsRun, Config, Reply, Row, heap_step}
+use Rattle.ref_base.specs.OldNumbers.{HasOldNumbers}
 use Rattle.ref_base.proofs.CarryRows.{all_more, nothing_pending}
 use Rattle.ref_base.proofs.CountedTraces.{legal_counted}
 use Rattle.ref_base.proofs.Outcomes.{outcome, heap_outcome, IsNoEnd}
@@ -21,6 +18,8 @@ use Rattle.ref_base.proofs.ApartWorlds.{no_slot, IsClosed, Refers, closed_roots,
 use Rattle.ref_base.proofs.ClosedRows.{closed_same, heap_closed}
 use Rattle.ref_base.proofs.OffSets.{target_there}
 use Rattle.ref_base.proofs.OutTraces.{legal_out, there_in}
+use Rattle.ref_base.specs.declared.heap_step.HeapStep.TheVariants as heap
+use Rattle.ref_base.specs.declared.plain_step.PlainStep.TheVariants as plain
 
 -- ---- a mark's end
 

@@ -1,6 +1,5 @@
 -- What is in a rising list with one number more.
-use Rattle.std.proofs.Common.{arith, ◌≡◌, ℕ, Bool, true, false, ◌||◌, ◌==◌, refl, List, [], ◌∷◌}
-use Rattle.ref_base.proofs.Common.{has, one_more}
+use Rattle.ref_base.proofs.Common.{arith, ◌≡◌, ℕ, Bool, true, false, ◌||◌, ◌==◌, refl, List, [], ◌∷◌, has, one_more}
 
 -- whether one of three holds, in another order
 pub or-swap : (x y z : Bool) → (x || (y || z)) ≡ (y || (x || z))

@@ -1,17 +1,15 @@
 -- Each number is given once, so in every legal trace a reference is registered with one queue.
-use Rattle.std.proofs.Common.{◌≡◌, ℕ, ◌+◌, ◌<◌, ◌≤◌, true, List, [], ◌∷◌, ◌++◌, Option, Some, None, ap}
-use Rattle.std.proofs.Common.{arith, inl, inr, ◌⊎◌}
-use Rattle.std.proofs.lemmas.Bool.{false≢true}
-use Rattle.ref_base.proofs.Common.{NamedStep, State, first_state, HeapAccepts, IsAnswer, IsRow, IsRun}
-use Rattle.ref_base.proofs.Common.{registers, is_registered, IsLegal, Config, Fault, Step, Reply, Row}
-use Rattle.ref_base.specs.declared.heap_step.HeapStep.TheVariants as heap
-use Rattle.ref_base.specs.declared.plain_step.PlainStep.TheVariants as plain
-use Rattle.ref_base.specs.declared.step.Step.TheVariants as steps
-use Rattle.ref_base.specs.declared.reply.Reply.TheVariants as replies
+use Rattle.ref_base.proofs.Common.{◌≡◌, ℕ, ◌+◌, ◌<◌, ◌≤◌, true, List, [], ◌∷◌, ◌++◌, Option, Some, None, ap, arith, inl}
+use Rattle.ref_base.proofs.Common.{inr, ◌⊎◌, false≢true, NamedStep, State, first_state, HeapAccepts, IsAnswer, IsRow}
+use Rattle.ref_base.proofs.Common.{IsRun, registers, is_registered, IsLegal, Config, Fault, Step, Reply, Row}
 use Rattle.ref_base.proofs.CountedTraces.{legal_counted}
 use Rattle.ref_base.proofs.Outcomes.{settled, outcome, heap_outcome}
 use Rattle.ref_base.proofs.RowKinds.{queues_lead, IsRefused, IsOfQueues, IsOfHeap, row_kind}
 use Rattle.ref_base.proofs.RunFronts.{legal_holds}
+use Rattle.ref_base.specs.declared.heap_step.HeapStep.TheVariants as heap
+use Rattle.ref_base.specs.declared.plain_step.PlainStep.TheVariants as plain
+use Rattle.ref_base.specs.declared.step.Step.TheVariants as steps
+use Rattle.ref_base.specs.declared.reply.Reply.TheVariants as replies
 
 -- ---- the next number grows
 

@@ -1,6 +1,6 @@
 -- What the rows of worked traces say of the order of clearing and of what a cycle scanned.
-use Rattle.std.proofs.Common.{◌≡◌, false, [], ◌∷◌, take, refl}
-use Rattle.ref_base.proofs.Common.{is_subsequence, added_of, scanned_in_cycle, clearing_order}
+use Rattle.ref_base.proofs.Common.{◌≡◌, false, [], ◌∷◌, take, refl, is_subsequence, added_of, scanned_in_cycle}
+use Rattle.ref_base.proofs.Common.{clearing_order}
 use Rattle.ref_base.proofs.WorkedTraces.{config_of, two_workers_in_clearing_order, two_enqueued_in_order}
 use Rattle.ref_base.proofs.WorkedTraces.{soft_kept_within_the_span}
 

@@ -1,15 +1,9 @@
 -- Each row of a heap keeps that what is gone or doomed is out of reach, and that a mark's end has shown what it
 -- cleared.
-use Rattle.std.proofs.Common.{arith, ◌≡◌, ℕ, true, false, List, [], ◌++◌, take, drop, None, refl, sym, ap, ◌∙◌, subst}
-use Rattle.std.proofs.Common.{inl, inr}
-use Rattle.std.proofs.lemmas.Bool.{or_from}
-use Rattle.std.proofs.lemmas.List.{append-nil, append_assoc, take-append-drop}
-use Rattle.ref_base.proofs.Common.{has, World, NamedStep, State, joined, heap_refusal, HeapAccepts, EndsMark, doomed_at}
-use Rattle.ref_base.proofs.Common.{IsDead, MarkEnded, WasDoomed, Config, Phase, Idle, Marking, Clearing, Sweeping}
-use Rattle.ref_base.proofs.Common.{Reply, Row}
-use Rattle.ref_base.specs.declared.heap_step.HeapStep.TheVariants as heap
-use Rattle.ref_base.specs.declared.plain_step.PlainStep.TheVariants as plain
-use Rattle.ref_base.specs.declared.reply.Reply.TheVariants as replies
+use Rattle.ref_base.proofs.Common.{arith, ◌≡◌, ℕ, true, false, List, [], ◌++◌, take, drop, None, refl, sym, ap, ◌∙◌}
+use Rattle.ref_base.proofs.Common.{subst, inl, inr, or_from, append-nil, append_assoc, take-append-drop, has, World}
+use Rattle.ref_base.proofs.Common.{NamedStep, State, joined, heap_refusal, HeapAccepts, EndsMark, doomed_at, IsDead}
+use Rattle.ref_base.proofs.Common.{MarkEnded, WasDoomed, Config, Phase, Idle, Marking, Clearing, Sweeping, Reply, Row}
 use Rattle.ref_base.proofs.HasLaws.{has-append, has-cases}
 use Rattle.ref_base.proofs.Outcomes.{heap_outcome, outcome, IsNoEnd}
 use Rattle.ref_base.proofs.OutcomeParts.{outcome_phase}
@@ -20,6 +14,9 @@ use Rattle.ref_base.proofs.ApartWorlds.{IsClosed}
 use Rattle.ref_base.proofs.ClosedRows.{closed_same, heap_closed}
 use Rattle.ref_base.proofs.OffSets.{ended_closed}
 use Rattle.ref_base.proofs.MarkShows.{RefersToDead, doomed_dead, mark_shows}
+use Rattle.ref_base.specs.declared.heap_step.HeapStep.TheVariants as heap
+use Rattle.ref_base.specs.declared.plain_step.PlainStep.TheVariants as plain
+use Rattle.ref_base.specs.declared.reply.Reply.TheVariants as replies
 
 -- what is doomed and not swept yet
 abbrev pub doomed_in : Phase → List ℕ → List ℕ

@@ -1,14 +1,9 @@
 -- Each row keeps that what is gone or doomed is out of reach, and that a mark's end has shown what it cleared.
-use Rattle.std.proofs.Common.{arith, ◌≡◌, ℕ, ◌+◌, false, List, [], ◌∷◌, ◌++◌, length, Option, Some, None, refl, sym, ap}
-use Rattle.std.proofs.Common.{◌∙◌, subst, inl, inr}
-use Rattle.ref_base.proofs.Common.{has, World, Notice, hand_of, NamedStep, heap_step, spending, replayed, State}
-use Rattle.ref_base.proofs.Common.{heap_refusal, HeapAccepts, IsRow, doomed_at, AreCounted, MarkEnded, WasDoomed}
-use Rattle.ref_base.proofs.Common.{Config, Mutator, Phase, Idle, Marking, Clearing, Sweeping, HoldName, Step, Reply}
-use Rattle.ref_base.proofs.Common.{Row, IsDead, hold_of}
-use Rattle.ref_base.specs.declared.heap_step.HeapStep.TheVariants as heap
-use Rattle.ref_base.specs.declared.plain_step.PlainStep.TheVariants as plain
-use Rattle.ref_base.specs.declared.step.Step.TheVariants as steps
-use Rattle.ref_base.specs.declared.reply.Reply.TheVariants as replies
+use Rattle.ref_base.proofs.Common.{arith, ◌≡◌, ℕ, ◌+◌, false, List, [], ◌∷◌, ◌++◌, length, Option, Some, None, refl}
+use Rattle.ref_base.proofs.Common.{sym, ap, ◌∙◌, subst, inl, inr, has, World, Notice, hand_of, NamedStep, heap_step}
+use Rattle.ref_base.proofs.Common.{spending, replayed, State, heap_refusal, HeapAccepts, IsRow, doomed_at, AreCounted}
+use Rattle.ref_base.proofs.Common.{MarkEnded, WasDoomed, Config, Mutator, Phase, Idle, Marking, Clearing, Sweeping}
+use Rattle.ref_base.proofs.Common.{HoldName, Step, Reply, Row, IsDead, hold_of}
 use Rattle.ref_base.proofs.Outcomes.{settled, outcome, heap_outcome, IsNoEnd}
 use Rattle.ref_base.proofs.PhaseLaws.{of_phase}
 use Rattle.ref_base.proofs.HeapTurns.{at_rest, IsIdle, IsTurn, row_turn}
@@ -20,6 +15,10 @@ use Rattle.ref_base.proofs.ClosedRows.{closed_same}
 use Rattle.ref_base.proofs.MarkShows.{RefersToDead, mark_ended, was_doomed, ended_more, doomed_more}
 use Rattle.ref_base.proofs.OutHeaps.{AreOutBy, AreOut, off, doomed_in, plain_out, end_out}
 use Rattle.ref_base.proofs.OutcomeParts.{outcome_phase, outcome_cycle, outcome_cleared, FreesNone}
+use Rattle.ref_base.specs.declared.heap_step.HeapStep.TheVariants as heap
+use Rattle.ref_base.specs.declared.plain_step.PlainStep.TheVariants as plain
+use Rattle.ref_base.specs.declared.step.Step.TheVariants as steps
+use Rattle.ref_base.specs.declared.reply.Reply.TheVariants as replies
 
 -- ---- more that was found dead and shown, and other states that are the same
 

@@ -1,8 +1,7 @@
 -- After every legal trace the collector has the world of the replay, but for what was swept and for what waits to be
 -- cleared; what is gone or doomed is out of reach; and a mark's end has shown what it cleared.
-use Rattle.std.proofs.Common.{arith, ◌≡◌, ℕ, ◌*◌, true, false, List, [], ◌++◌, refl, sym, subst}
-use Rattle.std.proofs.lemmas.Bool.{false≢true}
-use Rattle.ref_base.proofs.Common.{has, is_there, World, SameOthers, first_world, graph_of, heap_step, replayed, State}
+use Rattle.ref_base.proofs.Common.{arith, ◌≡◌, ℕ, ◌*◌, true, false, List, [], ◌++◌, refl, sym, subst, false≢true, has}
+use Rattle.ref_base.proofs.Common.{is_there, World, SameOthers, first_world, graph_of, heap_step, replayed, State}
 use Rattle.ref_base.proofs.Common.{first_state, first_state_of, IsRun, Agrees, MarkEnded, WasDoomed, Config, Row}
 use Rattle.ref_base.specs.MarkEnds.{AreOutOfReach}
 use Rattle.ref_base.proofs.CountedTraces.{legal_counted}

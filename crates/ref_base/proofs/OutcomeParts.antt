@@ -1,12 +1,12 @@
 -- What stays where a row of a heap leads.
-use Rattle.std.proofs.Common.{◌≡◌, ℕ, Bool, List, refl, ap, ◌∙◌}
-use Rattle.ref_base.proofs.Common.{Graph, Policy, reference_at, registered_in, World, is_done, told_cycle, NamedStep}
-use Rattle.ref_base.proofs.Common.{State, Config, Phase, Reply, Notice, Lists, SameOthers, HeapAccepts}
+use Rattle.ref_base.proofs.Common.{◌≡◌, ℕ, Bool, List, refl, ap, ◌∙◌, Graph, Policy, reference_at, registered_in, World}
+use Rattle.ref_base.proofs.Common.{is_done, told_cycle, NamedStep, State, Config, Phase, Reply, Notice, Lists}
+use Rattle.ref_base.proofs.Common.{SameOthers, HeapAccepts}
+use Rattle.ref_base.proofs.Outcomes.{outcome, IsNoEnd, heap_outcome}
+use Rattle.ref_base.proofs.ReplayKeeps.{EndsNoPhase, stage_of, stage_pended, same_stage, told_keeps, done_keeps}
 use Rattle.ref_base.specs.declared.heap_step.HeapStep.TheVariants as heap
 use Rattle.ref_base.specs.declared.plain_step.PlainStep.TheVariants as plain
 use Rattle.ref_base.specs.declared.reply.Reply.TheVariants as replies
-use Rattle.ref_base.proofs.Outcomes.{outcome, IsNoEnd, heap_outcome}
-use Rattle.ref_base.proofs.ReplayKeeps.{EndsNoPhase, stage_of, stage_pended, same_stage, told_keeps, done_keeps}
 
 -- ---- a row that ends no phase
 

@@ -1,13 +1,12 @@
 -- Where a row of a heap leads: to the world that its replay gives, but for what a worker looks at in Clearing and what
 -- a sweep frees; and then a moment of a mark joins the others. A mark's end says itself where it leads.
-use Rattle.std.proofs.Common.{arith, ◌≡◌, ℕ, ◌+◌, Bool, true, false, List, [], ◌∷◌, ◌++◌, take, drop, Option, Some}
-use Rattle.std.proofs.Common.{None, refl, sym, ap, ◌∙◌, subst, inl, inr, ◌⊎◌}
-use Rattle.std.specs.Prelude.{slice_set}
-use Rattle.std.proofs.lemmas.Bool.{cases_Bool}
-use Rattle.ref_base.proofs.Common.{reference_at, registered_in, with_slot, GivesAnewIf, Pending, with_heap, NamedStep}
-use Rattle.ref_base.proofs.Common.{pended, after_heap, State, Gives, IsBut, ticked, on_heap, with_world, Loads, Gets}
-use Rattle.ref_base.proofs.Common.{Unhooks, Holds, Scans, ClearsNext, HandsOn, Sweeps, HeapAccepts, value_reply}
-use Rattle.ref_base.proofs.Common.{looked_at, looked, list_at, begun_state, without, is_in, Marking, Reply}
+use Rattle.ref_base.proofs.Common.{arith, ◌≡◌, ℕ, ◌+◌, Bool, true, false, List, [], ◌∷◌, ◌++◌, take, drop, Option, Some}
+use Rattle.ref_base.proofs.Common.{None, refl, sym, ap, ◌∙◌, subst, inl, inr, ◌⊎◌, slice_set, cases_Bool, reference_at}
+use Rattle.ref_base.proofs.Common.{registered_in, with_slot, GivesAnewIf, Pending, with_heap, NamedStep, pended}
+use Rattle.ref_base.proofs.Common.{after_heap, State, Gives, IsBut, ticked, on_heap, with_world, Loads, Gets, Unhooks}
+use Rattle.ref_base.proofs.Common.{Holds, Scans, ClearsNext, HandsOn, Sweeps, HeapAccepts, value_reply, looked_at}
+use Rattle.ref_base.proofs.Common.{list_at, begun_state, without, is_in, Marking, Reply}
+use Rattle.ref_base.specs.CollectorRows.{looked}
 use Rattle.ref_base.specs.declared.heap_step.HeapStep.TheVariants as heap
 use Rattle.ref_base.specs.declared.plain_step.PlainStep.TheVariants as plain
 use Rattle.ref_base.specs.declared.reply.Reply.TheVariants as replies

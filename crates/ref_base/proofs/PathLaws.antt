@@ -1,7 +1,7 @@
 -- How paths begin, go on, and stay within what is closed.
-use Rattle.std.proofs.Common.{arith, ◌≡◌, ℕ, true, List, [], ◌∷◌, Option, Some, None}
-use Rattle.ref_base.proofs.Common.{has, Graph, Object, Reference, object_at, is_there, Allowed, IsPath, EndsPath}
-use Rattle.ref_base.proofs.Common.{targets_at, targets_of, allowed_referent, present, fields_of}
+use Rattle.ref_base.proofs.Common.{arith, ◌≡◌, ℕ, true, List, [], ◌∷◌, Option, Some, None, has, Graph, Object}
+use Rattle.ref_base.proofs.Common.{Reference, object_at, is_there, Allowed, IsPath, EndsPath, targets_at, targets_of}
+use Rattle.ref_base.proofs.Common.{allowed_referent, present, fields_of}
 use Rattle.ref_base.proofs.HasLaws.{has-cases, has-left}
 
 module _ (allow : Allowed) (g : Graph) where

@@ -1,11 +1,9 @@
 -- In which phase a row of a heap is accepted.
-use Rattle.std.proofs.Common.{arith, ◌≡◌, true, [], None, refl}
-use Rattle.std.proofs.lemmas.Bool.{false≢true}
-use Rattle.ref_base.proofs.Common.{NamedStep, State, joined, heap_refusal, is_in, Phase, Idle, Marking, Clearing}
-use Rattle.ref_base.proofs.Common.{Sweeping}
+use Rattle.ref_base.proofs.Common.{arith, ◌≡◌, true, [], None, refl, false≢true, NamedStep, State, joined, heap_refusal}
+use Rattle.ref_base.proofs.Common.{is_in, Phase, Idle, Marking, Clearing, Sweeping}
+use Rattle.ref_base.proofs.RowForms.{unless_passes}
 use Rattle.ref_base.specs.declared.heap_step.HeapStep.TheVariants as heap
 use Rattle.ref_base.specs.declared.plain_step.PlainStep.TheVariants as plain
-use Rattle.ref_base.proofs.RowForms.{unless_passes}
 
 is_phase : (p q : Phase) → is_in p q ≡ true → p ≡ q
 is_phase Idle Idle h = refl

@@ -1,9 +1,6 @@
 -- What holds at each place of a list, after one place is set or the list has grown.
-use Rattle.std.proofs.Common.{◌≡◌, ℕ, zero, suc, ◌<◌, List, [], ◌∷◌, ◌++◌, length, refl, arith}
-use Rattle.std.specs.Prelude.{slice_index_or, slice_set, replicate}
-use Rattle.std.specs.List.{AllByRecursion}
-use Rattle.std.proofs.lemmas.List.{get_or-set_same, get_or-set_other}
-use Rattle.ref_base.proofs.Common.{rest_of}
+use Rattle.ref_base.proofs.Common.{◌≡◌, ℕ, zero, suc, ◌<◌, List, [], ◌∷◌, ◌++◌, length, refl, arith, slice_index_or}
+use Rattle.ref_base.proofs.Common.{slice_set, replicate, AllByRecursion, get_or-set_same, get_or-set_other, rest_of}
 
 -- where there is the same at each place, and at none, it is everywhere
 pub same_at : {X : Type 0} (x : X) (count k : ℕ) → slice_index_or (replicate count x) k x ≡ x

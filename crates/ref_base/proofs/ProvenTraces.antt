@@ -1,20 +1,19 @@
 -- In every legal trace each notice that is out comes from the rows: one made its reference, registered with the
 -- notice's queue, and one is its cause.
-use Rattle.std.proofs.Common.{arith, ◌≡◌, ℕ, Bool, true, ◌==◌, ◌&&◌, if◌then◌else◌, List, [], ◌∷◌, ◌++◌, Option, Some}
-use Rattle.std.proofs.Common.{None, refl, sym, ap, ◌∙◌, subst, inl, inr}
-use Rattle.std.specs.List.{AllByRecursion}
-use Rattle.std.proofs.lemmas.Bool.{cases_Bool, eq-eqb, and_from}
+use Rattle.ref_base.proofs.Common.{arith, ◌≡◌, ℕ, Bool, true, ◌==◌, ◌&&◌, if◌then◌else◌, List, [], ◌∷◌, ◌++◌, Option}
+use Rattle.ref_base.proofs.Common.{Some, None, refl, sym, ap, ◌∙◌, subst, inl, inr, AllByRecursion, cases_Bool, eq-eqb}
 use Rattle.ref_base.proofs.Common.{Object, object_at, registered_in, reference_in, reference_at, World, Notice, hand_of}
 use Rattle.ref_base.proofs.Common.{State, first_state, refusal, HeapAccepts, IsAnswer, IsRow, IsRun, registers}
 use Rattle.ref_base.proofs.Common.{is_registered, IsProven, Config, Actor, Mutator, Worker, Cause, Own, Cycle, Urgency}
 use Rattle.ref_base.proofs.Common.{Fault, Step, Reply, Row}
+use Rattle.std.proofs.lemmas.Bool.{and_from}
 use Rattle.ref_base.specs.Provenance.{has_row, unhooks, clears, cycle_after, cleared_from, IsCause, AreProven}
-use Rattle.ref_base.specs.declared.heap_step.HeapStep.TheVariants as heap
-use Rattle.ref_base.specs.declared.plain_step.PlainStep.TheVariants as plain
-use Rattle.ref_base.specs.declared.step.Step.TheVariants as steps
 use Rattle.ref_base.proofs.CarryLaws.{Carries, Lasts}
 use Rattle.ref_base.proofs.CarryRows.{Mints, row_carries, first_carries, carries_more}
 use Rattle.ref_base.proofs.RunFronts.{legal_holds}
+use Rattle.ref_base.specs.declared.heap_step.HeapStep.TheVariants as heap
+use Rattle.ref_base.specs.declared.plain_step.PlainStep.TheVariants as plain
+use Rattle.ref_base.specs.declared.step.Step.TheVariants as steps
 
 -- ---- what rows have, more rows have
 

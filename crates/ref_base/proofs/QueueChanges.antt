@@ -1,12 +1,10 @@
 -- How a queue's lists change, whatever stands in it.
-use Rattle.std.proofs.Common.{◌≡◌, ℕ, zero, suc, ◌+◌, Bool, true, false, ◌||◌, List, [], ◌∷◌, ◌++◌, length, refl}
-use Rattle.std.proofs.Common.{ap, append_assoc, arith}
-use Rattle.std.specs.Prelude.{nat_eq, slice_index_or}
+use Rattle.ref_base.proofs.Common.{◌≡◌, ℕ, zero, suc, ◌+◌, Bool, true, false, ◌||◌, List, [], ◌∷◌, ◌++◌, length, refl}
+use Rattle.ref_base.proofs.Common.{ap, append_assoc, arith, nat_eq, slice_index_or, append-nil, map-append}
+use Rattle.ref_base.proofs.Common.{IsDistinct-push, Lists, new_queue, new_queues, enqueued, was_put, with_parcel}
+use Rattle.ref_base.proofs.Common.{with_taken}
 use Rattle.std.specs.List.{IsDistinct}
-use Rattle.std.proofs.lemmas.List.{append-nil, map-append}
-use Rattle.std.proofs.lemmas.Map.Keys.{IsDistinct-push}
 use Rattle.ref_base.proofs.HasLaws.{has-list_any}
-use Rattle.ref_base.proofs.Common.{Lists, new_queue, new_queues, enqueued, was_put, with_parcel, with_taken}
 
 module _ {T : Type 0} (object_of : T → ℕ) where
   -- how a queue's lists change where this is put in and that taken, and where it is closed or not

@@ -1,19 +1,16 @@
 -- What a row of the abstract collector does to each queue and each hand: what the row says that it does.
-use Rattle.std.proofs.Common.{◌≡◌, ℕ, ◌<◌, Bool, true, false, if◌then◌else◌, ◌==◌, List, [], ◌∷◌, length, map}
-use Rattle.std.proofs.Common.{refl, sym, ap, ◌∙◌, subst, arith}
-use Rattle.std.specs.Prelude.{slice_index_or, slice_set}
-use Rattle.std.specs.List.{AllByRecursion}
-use Rattle.std.proofs.lemmas.Bool.{eq-eqb, ne_eqb}
-use Rattle.ref_base.proofs.Common.{Lists, new_queue, was_put, with_parcel, with_taken, HandNotices, with_held}
-use Rattle.ref_base.proofs.Common.{with_held_rest, rest_of}
-use Rattle.ref_base.proofs.Common.{held_after, World, Notice, SameOthers, object_of, hand_of, queue_at, with_hand}
-use Rattle.ref_base.proofs.Common.{with_queue, notice_of, taken_out, took, put_in, Actor, Mutator, Worker, Step, Reply}
+use Rattle.ref_base.proofs.Common.{◌≡◌, ℕ, ◌<◌, Bool, true, false, if◌then◌else◌, ◌==◌, List, [], ◌∷◌, length, map}
+use Rattle.ref_base.proofs.Common.{refl, sym, ap, ◌∙◌, subst, arith, slice_index_or, slice_set, AllByRecursion, eq-eqb}
+use Rattle.ref_base.proofs.Common.{ne_eqb, Lists, new_queue, was_put, with_parcel, with_taken, HandNotices, with_held}
+use Rattle.ref_base.proofs.Common.{with_held_rest, rest_of, held_after, World, Notice, SameOthers, object_of, hand_of}
+use Rattle.ref_base.proofs.Common.{queue_at, with_hand, with_queue, notice_of, taken_out, took, put_in, Actor, Mutator}
+use Rattle.ref_base.proofs.Common.{Worker, Step, Reply}
 use Rattle.ref_base.specs.QueueRows.{HandNotice, put_by, taken_by, closed_by}
-use Rattle.ref_base.specs.declared.step.Step.TheVariants as steps
-use Rattle.ref_base.specs.declared.reply.Reply.TheVariants as replies
 use Rattle.ref_base.proofs.Places.{set_at, all_push}
 use Rattle.ref_base.proofs.QueueChanges.{QueueChanges, changes_nothing, changes_added, changes_took, changes_closed}
 use Rattle.ref_base.proofs.SoundWorlds.{NoticesBelow, IsOwn, HasHand, IsSound, sound_hand, sound_queue}
+use Rattle.ref_base.specs.declared.step.Step.TheVariants as steps
+use Rattle.ref_base.specs.declared.reply.Reply.TheVariants as replies
 
 -- the hands as rows see them
 abbrev pub as_held : List Notice → List HandNotice

@@ -1,9 +1,8 @@
 -- What the replay of worked traces gives, as one reads it off their rows.
-use Rattle.std.proofs.Common.{◌≡◌, ℕ, List, [], ◌∷◌, take, Option, Some, None, inl, inr, refl}
-use Rattle.ref_base.proofs.Common.{Graph, Object, plain_object, IsPath, soft_and_weak_referents, new_clears}
-use Rattle.ref_base.proofs.Common.{FirstLeaves, slot_at, World, graph_of, hand_of, pending_numbers, replayed, put_into}
-use Rattle.ref_base.proofs.Common.{taken_from, clearing_order, Weak, Own, Cycle, Mutator, Sweeping}
-use Rattle.ref_base.specs.declared.strength.Strength.{Strength}
+use Rattle.ref_base.proofs.Common.{◌≡◌, ℕ, List, [], ◌∷◌, take, Option, Some, None, inl, inr, refl, Graph, Object}
+use Rattle.ref_base.proofs.Common.{plain_object, IsPath, soft_and_weak_referents, new_clears, FirstLeaves, slot_at}
+use Rattle.ref_base.proofs.Common.{World, graph_of, hand_of, pending_numbers, replayed, put_into, taken_from}
+use Rattle.ref_base.proofs.Common.{clearing_order, Weak, Own, Cycle, Mutator, Sweeping, Strength}
 use Rattle.ref_base.specs.declared.strength.Strength.TheVariants.{Soft}
 use Rattle.ref_base.proofs.WorkedTraces.{config_of, two_enqueued_in_order, death_reported_after_a_cycle}
 use Rattle.ref_base.proofs.WorkedTraces.{get_keeps_the_referent, two_workers_in_clearing_order}

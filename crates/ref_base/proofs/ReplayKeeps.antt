@@ -1,19 +1,18 @@
 -- What a row of the replay leaves as it was: all but objects, slots, holds and what is pending, but at the ends of
 -- phases; the numbers of objects, but where one is made; and all but hands and queues, where no heap is asked.
-use Rattle.std.proofs.Common.{arith, ◌≡◌, ℕ, Bool, true, false, if◌then◌else◌, List, [], ◌∷◌, ◌++◌, Option, Some, None}
-use Rattle.std.proofs.Common.{refl, sym, ap, ◌∙◌, is_some}
-use Rattle.std.proofs.lemmas.List.{map-append, append-nil}
-use Rattle.ref_base.proofs.Common.{Object, numbers, plain_object, if_any, slot_at, reference_at, registered_in}
-use Rattle.ref_base.proofs.Common.{changed_in, with_reference, cleared, got_at, got, cut, nulls, World, Notice}
-use Rattle.ref_base.proofs.Common.{with_heap, hand_of, with_hand, told_object, is_done, told_notice, told_taken}
-use Rattle.ref_base.proofs.Common.{is_added, NamedStep, handed, taking, if_told, after_heap, after_queues, pended}
-use Rattle.ref_base.proofs.Common.{put_in, Actor, Mutator, Worker, Step, Reply}
-use Rattle.ref_base.specs.Told.{told_cleared}
+use Rattle.ref_base.proofs.Common.{arith, ◌≡◌, ℕ, Bool, true, false, if◌then◌else◌, List, [], ◌∷◌, ◌++◌, Option, Some}
+use Rattle.ref_base.proofs.Common.{None, refl, sym, ap, ◌∙◌, is_some, map-append, append-nil, Object, numbers}
+use Rattle.ref_base.proofs.Common.{plain_object, if_any, slot_at, reference_at, registered_in, changed_in}
+use Rattle.ref_base.proofs.Common.{with_reference, cleared, got_at, got, cut, nulls, World, Notice, with_heap, hand_of}
+use Rattle.ref_base.proofs.Common.{with_hand, told_object, is_done, told_notice, told_taken, NamedStep, handed, taking}
+use Rattle.ref_base.proofs.Common.{if_told, after_heap, after_queues, pended, put_in, Actor, Mutator, Worker, Step}
+use Rattle.ref_base.proofs.Common.{Reply}
+use Rattle.ref_base.specs.Told.{is_added, told_cleared}
+use Rattle.ref_base.proofs.Lookups.{numbers-changed}
+use Rattle.ref_base.proofs.ReplayUnder.{made_number}
 use Rattle.ref_base.specs.declared.heap_step.HeapStep.TheVariants as heap
 use Rattle.ref_base.specs.declared.plain_step.PlainStep.TheVariants as plain
 use Rattle.ref_base.specs.declared.step.Step.TheVariants as steps
-use Rattle.ref_base.proofs.Lookups.{numbers-changed}
-use Rattle.ref_base.proofs.ReplayUnder.{made_number}
 
 module _ {R : Type 0} (get : World → R) where
   pub told_keeps : {T : Type 0} (told : Option T) (change : T → World) (w : World) → ((x : T) → get (change x) ≡ get w)

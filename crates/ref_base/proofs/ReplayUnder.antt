@@ -1,16 +1,16 @@
 -- Each row of the replay goes through where some objects are gone and some references read as cleared.
-use Rattle.std.proofs.Common.{arith, ◌≡◌, ℕ, Bool, true, false, if◌then◌else◌, List, [], ◌∷◌, Option, Some, None, refl}
-use Rattle.std.proofs.Common.{ap, is_some}
-use Rattle.ref_base.proofs.Common.{stored, has, Object, slot_at, got, cut, made, with_hold, changed_in, with_reference}
-use Rattle.ref_base.proofs.Common.{cleared, with_field, World, Notice, with_heap, with_hand, told_object, is_done}
-use Rattle.ref_base.proofs.Common.{told_notice, is_mark_end, told_taken, NamedStep, heap_step, handed, taking}
+use Rattle.ref_base.proofs.Common.{arith, ◌≡◌, ℕ, Bool, true, false, if◌then◌else◌, List, [], ◌∷◌, Option, Some, None}
+use Rattle.ref_base.proofs.Common.{refl, ap, is_some, stored, has, Object, slot_at, got, cut, made, with_hold}
+use Rattle.ref_base.proofs.Common.{changed_in, with_reference, cleared, with_field, World, Notice, with_heap, with_hand}
+use Rattle.ref_base.proofs.Common.{told_object, is_done, told_notice, told_taken, NamedStep, heap_step, handed, taking}
 use Rattle.ref_base.proofs.Common.{with_rest, if_told, after_heap, after_queues, put_in, under, heap_under, Actor}
 use Rattle.ref_base.proofs.Common.{Mutator, Worker, Step, Reply}
+use Rattle.ref_base.specs.Told.{is_mark_end}
+use Rattle.ref_base.proofs.ShownObjects.{cleared_got}
+use Rattle.ref_base.proofs.SeenObjects.{heap_changed, seen_push}
 use Rattle.ref_base.specs.declared.heap_step.HeapStep.TheVariants as heap
 use Rattle.ref_base.specs.declared.plain_step.PlainStep.TheVariants as plain
 use Rattle.ref_base.specs.declared.step.Step.TheVariants as steps
-use Rattle.ref_base.proofs.ShownObjects.{cleared_got}
-use Rattle.ref_base.proofs.SeenObjects.{heap_changed, seen_push}
 
 -- the number of what a row made
 abbrev pub made_number : NamedStep → Reply → Option ℕ

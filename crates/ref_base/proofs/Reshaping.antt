@@ -1,13 +1,11 @@
 -- A change of all objects that keeps their shape changes no refusal.
-use Rattle.std.proofs.Common.{arith, ◌≡◌, ℕ, Bool, if◌then◌else◌, nat_lt, refl, sym, ap, List, [], ◌∷◌, map, length}
-use Rattle.std.proofs.Common.{Option, Some, None, is_some}
-use Rattle.std.proofs.lemmas.Bool.{true≢false}
-use Rattle.std.proofs.lemmas.List.{length-map}
-use Rattle.ref_base.proofs.Common.{Object, Reference, object_at, is_there, Heap, reference_in, registered_in}
-use Rattle.ref_base.proofs.Common.{changed_at, changed_reference, cleared, Pending, NamedStep, State, on_heap, unless}
-use Rattle.ref_base.proofs.Common.{has_slot, field_count, object_refusal, field_refusal, reference_refusal}
-use Rattle.ref_base.proofs.Common.{holds_refusal, minting_refusal, unhook_refusal, held_refusal, hand_refusal}
-use Rattle.ref_base.proofs.Common.{heap_refusal, Fault, BadField, NoSuchActor, NotAReference}
+use Rattle.ref_base.proofs.Common.{arith, ◌≡◌, ℕ, Bool, if◌then◌else◌, nat_lt, refl, sym, ap, List, [], ◌∷◌, map}
+use Rattle.ref_base.proofs.Common.{length, Option, Some, None, is_some, true≢false, length-map, Object, Reference}
+use Rattle.ref_base.proofs.Common.{object_at, is_there, Heap, reference_in, registered_in, changed_at}
+use Rattle.ref_base.proofs.Common.{changed_reference, cleared, Pending, NamedStep, State, on_heap, unless, has_slot}
+use Rattle.ref_base.proofs.Common.{field_count, object_refusal, field_refusal, reference_refusal, holds_refusal}
+use Rattle.ref_base.proofs.Common.{minting_refusal, unhook_refusal, held_refusal, hand_refusal, heap_refusal, Fault}
+use Rattle.ref_base.proofs.Common.{BadField, NoSuchActor, NotAReference}
 use Rattle.ref_base.specs.Refusals.{new_refusal, refer_refusal}
 use Rattle.ref_base.specs.declared.heap_step.HeapStep.TheVariants as heap
 use Rattle.ref_base.specs.declared.plain_step.PlainStep.TheVariants as plain

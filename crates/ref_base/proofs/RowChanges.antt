@@ -1,18 +1,17 @@
 -- What a row of the world does to the pending lists, to what was scanned and to the configuration; and that, where it
 -- says in a mark that an object is left, one is.
-use Rattle.std.proofs.Common.{◌≡◌, ℕ, List, Option, Some, None, inl, inr, refl, sym, ap, ◌∙◌, subst}
-use Rattle.std.specs.Prelude.{slice_set}
+use Rattle.ref_base.proofs.Common.{◌≡◌, ℕ, List, Option, Some, None, inl, inr, refl, sym, ap, ◌∙◌, subst, slice_set}
 use Rattle.ref_base.proofs.Common.{reference_at, registered_in, World, Pending, pending_of, NamedStep, heap_step}
 use Rattle.ref_base.proofs.Common.{pended, without_pending, after_queues, State, emptied, with_world, with_handed}
 use Rattle.ref_base.proofs.Common.{HeapAccepts, IsRow, AreCounted, Fault, Reply, Row}
-use Rattle.ref_base.specs.declared.heap_step.HeapStep.TheVariants as heap
-use Rattle.ref_base.specs.declared.plain_step.PlainStep.TheVariants as plain
-use Rattle.ref_base.specs.declared.reply.Reply.TheVariants as replies
 use Rattle.ref_base.proofs.Outcomes.{scanned_by, outcome, heap_outcome, IsNoEnd}
 use Rattle.ref_base.proofs.OutcomeParts.{mark_in, heap_config}
 use Rattle.ref_base.proofs.LeftObjects.{LeftMeans, left_kept, left_becomes, heap_left}
 use Rattle.ref_base.proofs.ReplayKeeps.{but_hands, queues_keep, handed_keeps, done_keeps, frame_pending}
 use Rattle.ref_base.proofs.RowKinds.{IsOfQueues, queues_lead, IsOfHeap, row_kind}
+use Rattle.ref_base.specs.declared.heap_step.HeapStep.TheVariants as heap
+use Rattle.ref_base.specs.declared.plain_step.PlainStep.TheVariants as plain
+use Rattle.ref_base.specs.declared.reply.Reply.TheVariants as replies
 
 -- ---- what a row tells, by what it asks of its heap
 

@@ -1,6 +1,5 @@
 -- How a row of a heap is accepted or refused.
-use Rattle.std.proofs.Common.{◌≡◌, Bool, true, false, refl, sym, subst, Option, Some, None, inl, inr}
-use Rattle.std.proofs.lemmas.Bool.{cases_Bool}
+use Rattle.ref_base.proofs.Common.{◌≡◌, Bool, true, false, refl, sym, subst, Option, Some, None, inl, inr, cases_Bool}
 use Rattle.ref_base.proofs.Common.{heap_refusal, unless, NamedStep, State, IsHeapRow, IsHeapAnswer, HeapAccepts, Fault}
 use Rattle.ref_base.proofs.Common.{Reply, ticked, is_in, Marking}
 use Rattle.ref_base.specs.declared.heap_step.HeapStep.TheVariants as heap

@@ -1,14 +1,13 @@
 -- What a row does to hands and queues, and what the notices that an unhook and a hand give tell of the state before.
-use Rattle.std.proofs.Common.{arith, ◌≡◌, ℕ, true, List, [], ◌∷◌, Option, Some, None, refl, sym, subst}
-use Rattle.std.proofs.lemmas.Bool.{eq-eqb}
+use Rattle.ref_base.proofs.Common.{arith, ◌≡◌, ℕ, true, List, [], ◌∷◌, Option, Some, None, refl, sym, subst, eq-eqb}
 use Rattle.ref_base.proofs.Common.{World, Notice, Pending, SameOthers, pending_of, told_notice, NamedStep, heap_step}
 use Rattle.ref_base.proofs.Common.{handed, after_queues, State, QueuesAccept, AcceptsAsking, Accepts, IsAnswer, Unhooks}
 use Rattle.ref_base.proofs.Common.{HandsOn, is_by, Own, Cycle, Fault, Step, Reply}
-use Rattle.ref_base.specs.declared.step.Step.TheVariants as steps
-use Rattle.ref_base.specs.declared.reply.Reply.TheVariants as replies
 use Rattle.ref_base.proofs.CarryLaws.{OfTold}
 use Rattle.ref_base.proofs.RowKinds.{queues_become}
 use Rattle.ref_base.proofs.OutcomeParts.{heap_others}
+use Rattle.ref_base.specs.declared.step.Step.TheVariants as steps
+use Rattle.ref_base.specs.declared.reply.Reply.TheVariants as replies
 
 -- the world with the hands and queues that the row leaves
 abbrev pub others_after : World → Step → Reply → World

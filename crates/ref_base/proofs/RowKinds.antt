@@ -1,18 +1,17 @@
 -- A row is refused, or one of queues, or one of its heap with what the step leaves in the hands.
-use Rattle.std.proofs.Common.{arith, ◌≡◌, ℕ, if◌then◌else◌, Bool, true, false, List, [], ◌∷◌, Option, Some, None, refl}
-use Rattle.std.proofs.Common.{inl, inr, ◌⊎◌}
-use Rattle.ref_base.proofs.Common.{Notice, hand_of, queue_at, NamedStep, heap_step, spending, after_queues}
-use Rattle.ref_base.proofs.Common.{closed_queue, State, refusal, heap_refusal, has_slot, is_counted, with_world}
+use Rattle.ref_base.proofs.Common.{arith, ◌≡◌, ℕ, if◌then◌else◌, Bool, true, false, List, [], ◌∷◌, Option, Some, None}
+use Rattle.ref_base.proofs.Common.{refl, inl, inr, ◌⊎◌, Notice, hand_of, queue_at, NamedStep, heap_step, spending}
+use Rattle.ref_base.proofs.Common.{after_queues, closed_queue, State, refusal, heap_refusal, has_slot, with_world}
 use Rattle.ref_base.proofs.Common.{with_handed, HeapAccepts, QueuesAccept, AcceptsAsking, IsAnswer, IsRow, Puts}
 use Rattle.ref_base.proofs.Common.{PutsInto, Polls, Closes, Gives, AreCounted, Actor, Mutator, Fault, HoldName, Step}
-use Rattle.ref_base.proofs.Common.{Reply, Row}
-use Rattle.ref_base.specs.declared.heap_step.HeapStep.TheVariants as heap
-use Rattle.ref_base.specs.declared.step.Step.TheVariants as steps
-use Rattle.ref_base.specs.declared.reply.Reply.TheVariants as replies
-use Rattle.std.proofs.lemmas.Bool.{eq-eqb}
+use Rattle.ref_base.proofs.Common.{Reply, Row, eq-eqb}
+use Rattle.ref_base.specs.Refusals.{is_counted}
 use Rattle.ref_base.proofs.RowForms.{unless_passes}
 use Rattle.ref_base.proofs.CountedWorlds.{holding_hand, counted_hand}
 use Rattle.ref_base.proofs.Outcomes.{Becomes, settled, settled_becomes}
+use Rattle.ref_base.specs.declared.heap_step.HeapStep.TheVariants as heap
+use Rattle.ref_base.specs.declared.step.Step.TheVariants as steps
+use Rattle.ref_base.specs.declared.reply.Reply.TheVariants as replies
 
 pub record IsRefused (a : State) (row : Row) (b : State) : Type 0 where
   pub fault : Fault

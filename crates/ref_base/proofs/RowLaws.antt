@@ -1,18 +1,13 @@
 -- Each row of the abstract collector does to queues and hands what it says.
-use Rattle.std.proofs.Common.{arith, ◌≡◌, ℕ, ◌<◌, Bool, true, false, if◌then◌else◌, List, [], ◌∷◌, length, Option, Some}
-use Rattle.std.proofs.Common.{None, inl, inr, refl, sym, ap, ◌∙◌, subst}
-use Rattle.std.specs.List.{AllByRecursion}
-use Rattle.std.proofs.lemmas.Bool.{ltb-true, and_parts}
+use Rattle.ref_base.proofs.Common.{arith, ◌≡◌, ℕ, ◌<◌, Bool, true, false, if◌then◌else◌, List, [], ◌∷◌, length, Option}
+use Rattle.ref_base.proofs.Common.{Some, None, inl, inr, refl, sym, ap, ◌∙◌, subst, AllByRecursion, ltb-true, and_parts}
 use Rattle.ref_base.proofs.Common.{has, slot_at, was_put, HandNotices, with_held, held_after, World, Notice, Pending}
 use Rattle.ref_base.proofs.Common.{SameOthers, object_of, hand_of, queue_at, with_hand, NamedStep, hold_of, spending}
-use Rattle.ref_base.proofs.Common.{handed, State, refusal, heap_refusal, is_mutator, is_worker, is_queue, is_actor}
-use Rattle.ref_base.proofs.Common.{has_slot, with_handed, Gives, HeapAccepts, Accepts, AcceptsAsking, IsAnswer, IsRow}
-use Rattle.ref_base.proofs.Common.{Unhooks, PutsInto, Puts, Polls, Closes, HandsOn, Fault, NoMemory, Own, Cycle, Actor}
-use Rattle.ref_base.proofs.Common.{Mutator, Worker, Step, Reply, Row, heap_step, rest_of, with_rest, with_held_rest}
-use Rattle.ref_base.specs.declared.heap_step.HeapStep.TheVariants as heap
-use Rattle.ref_base.specs.declared.plain_step.PlainStep.TheVariants as plain
-use Rattle.ref_base.specs.declared.step.Step.TheVariants as steps
-use Rattle.ref_base.specs.declared.reply.Reply.TheVariants as replies
+use Rattle.ref_base.proofs.Common.{handed, State, refusal, heap_refusal, is_mutator, is_actor, has_slot, with_handed}
+use Rattle.ref_base.proofs.Common.{Gives, HeapAccepts, Accepts, AcceptsAsking, IsAnswer, IsRow, Unhooks, PutsInto, Puts}
+use Rattle.ref_base.proofs.Common.{Polls, Closes, HandsOn, Fault, NoMemory, Own, Cycle, Actor, Mutator, Worker, Step}
+use Rattle.ref_base.proofs.Common.{Reply, Row, heap_step, rest_of, with_rest, with_held_rest}
+use Rattle.ref_base.specs.Refusals.{is_worker, is_queue}
 use Rattle.ref_base.proofs.CarryHeaps.{Anew, heap_carries}
 use Rattle.ref_base.proofs.CarryLaws.{AnyCycle}
 use Rattle.ref_base.proofs.OutcomeParts.{heap_others, heap_config}
@@ -22,6 +17,10 @@ use Rattle.ref_base.proofs.SoundWorlds.{QueueBelow, ObjectBelow, PendingBelow, I
 use Rattle.ref_base.proofs.SoundWorlds.{names_below, sound_again, registered_below, held_below}
 use Rattle.ref_base.proofs.QueueLaws.{as_held, held_of, rest_held, queue_change_by, no_queue_change, Goes, IsStill}
 use Rattle.ref_base.proofs.QueueLaws.{same, stays, sets_hand, goes_after, put_goes, close_goes, poll_goes}
+use Rattle.ref_base.specs.declared.heap_step.HeapStep.TheVariants as heap
+use Rattle.ref_base.specs.declared.plain_step.PlainStep.TheVariants as plain
+use Rattle.ref_base.specs.declared.step.Step.TheVariants as steps
+use Rattle.ref_base.specs.declared.reply.Reply.TheVariants as replies
 
 -- ---- the rows of a heap
 

@@ -1,7 +1,6 @@
 -- What holds at first and is kept by each row holds after every legal trace.
-use Rattle.std.proofs.Common.{List, [], ◌∷◌, ◌++◌, refl, ◌≡◌}
-use Rattle.ref_base.proofs.Common.{State, first_state, IsRow, IsRun, after, World, Config, Row}
-use Rattle.ref_base.specs.Replay.{replayed_from}
+use Rattle.ref_base.proofs.Common.{List, [], ◌∷◌, ◌++◌, refl, ◌≡◌, State, first_state, IsRow, IsRun, after, World}
+use Rattle.ref_base.proofs.Common.{Config, Row, replayed_from}
 use Rattle.ref_base.proofs.RunLaws.{holds_after}
 
 -- the replay goes on row by row

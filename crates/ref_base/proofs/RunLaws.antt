@@ -1,8 +1,7 @@
 -- A run of a machine can be cut at any entry, and goes on entry by entry; so what each entry keeps holds after all, and
 -- what goes on over each entry holds over all. The laws of legal traces and of histories rest on these two inductions.
-use Rattle.std.proofs.Common.{arith, List, [], ◌∷◌, ◌++◌, refl, sym, subst}
-use Rattle.std.proofs.lemmas.List.{append-nil, append_assoc}
-use Rattle.ref_base.proofs.Common.{State, IsRow, IsRun, IsLegal, Config, Row}
+use Rattle.ref_base.proofs.Common.{arith, List, [], ◌∷◌, ◌++◌, refl, sym, subst, append-nil, append_assoc, State, IsRow}
+use Rattle.ref_base.proofs.Common.{IsRun, IsLegal, Config, Row}
 use Rattle.ref_base.specs.Runs.{LeadsThrough}
 
 module _ {S E : Type 0} (leads : S → E → S → Type 0) where

@@ -1,7 +1,6 @@
 -- What leaves hands and queues the same: the heap has no say in them.
-use Rattle.std.proofs.Common.{◌≡◌, List, [], ap}
-use Rattle.std.specs.Prelude.{slice_index_or}
-use Rattle.ref_base.proofs.Common.{World, Notice, SameOthers, hand_of, Actor, Mutator, Worker}
+use Rattle.ref_base.proofs.Common.{◌≡◌, List, [], ap, slice_index_or, World, Notice, SameOthers, hand_of, Actor}
+use Rattle.ref_base.proofs.Common.{Mutator, Worker}
 
 -- ---- the same hands and queues
 

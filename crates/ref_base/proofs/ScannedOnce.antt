@@ -1,20 +1,13 @@
 -- In every legal trace no object is scanned twice in a cycle, and a mark goes on only while an object is left to scan.
-use Rattle.std.proofs.Common.{arith, ◌≡◌, ℕ, ◌<◌, Bool, true, false, not, List, [], ◌∷◌, ◌++◌, length, Option, Some}
-use Rattle.std.proofs.Common.{None, refl, sym, ◌∙◌, subst}
-use Rattle.std.specs.Prelude.{nat_eq}
+use Rattle.ref_base.proofs.Common.{arith, ◌≡◌, ℕ, ◌<◌, Bool, true, false, not, List, [], ◌∷◌, ◌++◌, length, Option}
+use Rattle.ref_base.proofs.Common.{Some, None, refl, sym, ◌∙◌, subst, nat_eq, false≢true, length-set, length-replicate}
+use Rattle.ref_base.proofs.Common.{IsDistinct-push, has, Notice, hand_of, NamedStep, heap_step, spending, State}
+use Rattle.ref_base.proofs.Common.{first_state, joined, first_state_of, unless, heap_refusal, is_in, IsLeft, emptied}
+use Rattle.ref_base.proofs.Common.{IsHeapAnswer, IsHeapRow, IsRow, IsRun, IsLegal, scanned_in_cycle, Config, Mutator}
+use Rattle.ref_base.proofs.Common.{WrongPhase, GreyLeft, Marking, Step, Reply, Row, World, HoldName, hold_of}
+use Rattle.ref_base.proofs.Common.{HeapAccepts}
 use Rattle.std.specs.List.{IsDistinct}
-use Rattle.std.proofs.lemmas.Bool.{false≢true}
-use Rattle.std.proofs.lemmas.List.{length-set, length-replicate}
-use Rattle.std.proofs.lemmas.Map.Keys.{IsDistinct-push}
-use Rattle.ref_base.proofs.Common.{has, Notice, hand_of, NamedStep, heap_step, spending, State, first_state, joined}
-use Rattle.ref_base.proofs.Common.{first_state_of, unless, heap_refusal, is_in, IsLeft, emptied, IsHeapAnswer}
-use Rattle.ref_base.proofs.Common.{IsHeapRow, IsRow, IsRun, IsLegal, scanned_in_cycle, Config, Mutator, WrongPhase}
-use Rattle.ref_base.proofs.Common.{GreyLeft, Marking, Step, Reply, Row, World, HoldName, hold_of, HeapAccepts}
 use Rattle.ref_base.specs.ScannedRows.{scanned_with, scanned_from}
-use Rattle.ref_base.specs.declared.heap_step.HeapStep.TheVariants as heap
-use Rattle.ref_base.specs.declared.plain_step.PlainStep.TheVariants as plain
-use Rattle.ref_base.specs.declared.step.Step.TheVariants as steps
-use Rattle.ref_base.specs.declared.reply.Reply.TheVariants as replies
 use Rattle.ref_base.proofs.HasLaws.{has-list_any, has-cases}
 use Rattle.ref_base.proofs.FoundLists.{has-with_last, length-emptied}
 use Rattle.ref_base.proofs.CountedTraces.{legal_counted}
@@ -23,6 +16,10 @@ use Rattle.ref_base.proofs.HeapTurns.{IsTurn, row_turn}
 use Rattle.ref_base.proofs.RunFronts.{legal_holds}
 use Rattle.ref_base.proofs.LegalQueues.{distinct_nil}
 use Rattle.ref_base.proofs.RowChanges.{scanned_after, Changes, heap_tells, row_changes}
+use Rattle.ref_base.specs.declared.heap_step.HeapStep.TheVariants as heap
+use Rattle.ref_base.specs.declared.plain_step.PlainStep.TheVariants as plain
+use Rattle.ref_base.specs.declared.step.Step.TheVariants as steps
+use Rattle.ref_base.specs.declared.reply.Reply.TheVariants as replies
 
 -- ---- a mark goes on only while an object is left
 

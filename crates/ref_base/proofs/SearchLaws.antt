@@ -1,13 +1,12 @@
 -- A search whose list of what it has seen is its own list of work finds exactly the ends of paths.
-use Rattle.std.proofs.Common.{◌≡◌, ℕ, ◌+◌, ◌-◌, ◌<◌, ◌≤◌, true, false, refl, sym, ap, subst, ◌∙◌, arith, List, [], ◌∷◌}
-use Rattle.std.proofs.Common.{◌++◌, length, get_or, take, append-nil, append_assoc, length-append, Option, Some, None}
-use Rattle.std.proofs.Common.{◌⊎◌, inl, inr, zero, suc}
-use Rattle.std.proofs.lemmas.Bool.{false≢true}
-use Rattle.std.proofs.lemmas.List.{take_all, take-append-le, length-take}
-use Rattle.ref_base.proofs.Common.{has, Graph, Object, Reference, object_at, is_there, Allowed, targets_at, targets_of}
-use Rattle.ref_base.proofs.Common.{present, allowed_referent, added_all, fields_of, searched_referents, ArePathEnds}
-use Rattle.ref_base.proofs.Common.{IsSearched}
-use Rattle.ref_base.specs.Searches.{with_reached, unseen}
+use Rattle.ref_base.proofs.Common.{◌≡◌, ℕ, ◌+◌, ◌-◌, ◌<◌, ◌≤◌, true, false, refl, sym, ap, subst, ◌∙◌, arith, List, []}
+use Rattle.ref_base.proofs.Common.{◌∷◌, ◌++◌, length, get_or, take, append-nil, append_assoc, Option, Some, None, ◌⊎◌}
+use Rattle.ref_base.proofs.Common.{inl, inr, zero, suc, false≢true, take-append-le, has, Graph, Object, Reference}
+use Rattle.ref_base.proofs.Common.{object_at, is_there, Allowed, targets_at, targets_of, present, allowed_referent}
+use Rattle.ref_base.proofs.Common.{added_all, fields_of, ArePathEnds, IsSearched}
+use Rattle.std.proofs.Common.{length-append}
+use Rattle.std.proofs.lemmas.List.{take_all, length-take}
+use Rattle.ref_base.specs.Searches.{searched_referents, with_reached, unseen}
 use Rattle.ref_base.proofs.HasLaws.{has-left, has-right, has-cases, has-get_or, has-take_at, has-take, has-take_more}
 use Rattle.ref_base.proofs.PathLaws.{ends-wider, fields-targets, target_ends, path_within}
 

@@ -1,8 +1,6 @@
 -- How objects read where some are gone and some references read as cleared: changes of objects go through.
-use Rattle.std.proofs.Common.{◌≡◌, ℕ, Bool, true, false, ◌==◌, refl, sym, ap, ◌∙◌, arith, List, [], ◌∷◌, ◌++◌}
-use Rattle.std.proofs.Common.{map, Option, Some, None, inl, inr}
-use Rattle.std.proofs.lemmas.Bool.{cases_Bool, eqb-true, ne_eqb, true≢false}
-use Rattle.std.proofs.lemmas.List.{map-append}
+use Rattle.ref_base.proofs.Common.{◌≡◌, ℕ, Bool, true, false, ◌==◌, refl, sym, ap, ◌∙◌, arith, List, [], ◌∷◌, ◌++◌, map}
+use Rattle.ref_base.proofs.Common.{Option, Some, None, inl, inr, cases_Bool, eqb-true, ne_eqb, true≢false, map-append}
 use Rattle.ref_base.proofs.Common.{has, Object, object_at, numbers, IsRising, Heap, reference_in, registered_in}
 use Rattle.ref_base.proofs.Common.{changed_at, changed_in, with_reference, cleared, without, cleared_if, objects_under}
 use Rattle.ref_base.proofs.Common.{heap_under}

@@ -1,11 +1,9 @@
 -- How objects read where references to the doomed read as cleared: with their shape, and changes of objects go through.
-use Rattle.std.proofs.Common.{arith, ◌≡◌, ℕ, true, false, if◌then◌else◌, refl, ◌∙◌, ap, inl, inr, List, [], ◌∷◌, ◌++◌}
-use Rattle.std.proofs.Common.{map, Option, Some, None}
-use Rattle.std.specs.Prelude.{slice_index_or}
-use Rattle.std.proofs.lemmas.Bool.{cases_Bool}
-use Rattle.ref_base.proofs.Common.{has, Object, Reference, object_at, is_soft, any_is, refers_into, is_new_clear, Heap}
-use Rattle.ref_base.proofs.Common.{reference_in, changed_at, with_field, changed_reference, with_reference, cleared}
-use Rattle.ref_base.proofs.Common.{got_at, shown, field_of, field_in, referent_of, referent_got}
+use Rattle.ref_base.proofs.Common.{arith, ◌≡◌, ℕ, true, false, if◌then◌else◌, refl, ◌∙◌, ap, inl, inr, List, [], ◌∷◌}
+use Rattle.ref_base.proofs.Common.{◌++◌, map, Option, Some, None, slice_index_or, cases_Bool, has, Object, Reference}
+use Rattle.ref_base.proofs.Common.{object_at, is_soft, any_is, refers_into, is_new_clear, Heap, reference_in}
+use Rattle.ref_base.proofs.Common.{changed_at, with_field, changed_reference, with_reference, cleared, got_at, shown}
+use Rattle.ref_base.proofs.Common.{field_of, field_in, referent_of, referent_got}
 use Rattle.ref_base.proofs.Reshaping.{KeepsShape, reshaped, at-reshaped}
 
 -- an object is shown with its number

@@ -1,14 +1,10 @@
 -- That every queue which a world names is one of its configuration's, and what keeps this so.
-use Rattle.std.proofs.Common.{◌≡◌, ℕ, ◌<◌, List, [], ◌∷◌, length, Option, Some, None, inl, inr}
-use Rattle.std.proofs.Common.{sym, ap, ◌∙◌, subst, arith}
-use Rattle.std.specs.Prelude.{slice_index_or}
-use Rattle.std.specs.List.{AllByRecursion}
-use Rattle.std.proofs.lemmas.Bool.{cases_Bool}
-use Rattle.std.proofs.lemmas.List.{length-set, length-replicate}
-use Rattle.ref_base.proofs.Common.{has, Object, Reference, object_at, is_soft, registered_in, reference_in}
-use Rattle.ref_base.proofs.Common.{changed_reference, cleared, got_at, reference_at, Lists, new_queue, World, Notice}
-use Rattle.ref_base.proofs.Common.{Pending, first_world, hand_of, queue_at, pending_of, with_hand, with_queue}
-use Rattle.ref_base.proofs.Common.{SameOthers, reference_of, Config, Actor, Mutator, Worker}
+use Rattle.ref_base.proofs.Common.{◌≡◌, ℕ, ◌<◌, List, [], ◌∷◌, length, Option, Some, None, inl, inr, sym, ap, ◌∙◌}
+use Rattle.ref_base.proofs.Common.{subst, arith, slice_index_or, AllByRecursion, cases_Bool, length-set}
+use Rattle.ref_base.proofs.Common.{length-replicate, has, Object, Reference, object_at, is_soft, registered_in}
+use Rattle.ref_base.proofs.Common.{reference_in, changed_reference, cleared, got_at, reference_at, Lists, new_queue}
+use Rattle.ref_base.proofs.Common.{World, Notice, Pending, first_world, hand_of, queue_at, pending_of, with_hand}
+use Rattle.ref_base.proofs.Common.{with_queue, SameOthers, reference_of, Config, Actor, Mutator, Worker}
 use Rattle.ref_base.proofs.CarryLaws.{AnyCycle, Carries, Lasts}
 use Rattle.ref_base.proofs.Places.{same_at, set_at, each_or}
 use Rattle.ref_base.proofs.QueueChanges.{length-new_queues, new_queues_at}

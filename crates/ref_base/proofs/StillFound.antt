@@ -1,7 +1,6 @@
 -- What was found among the references that a worker scanned is found among more of them.
-use Rattle.std.proofs.Common.{arith, ◌≡◌, ℕ, true, refl, List, [], ◌∷◌, is_some}
-use Rattle.std.proofs.lemmas.Bool.{false≢true}
-use Rattle.ref_base.proofs.Common.{Object, object_at, reference_in, references_among, is_subsequence, AreFound}
+use Rattle.ref_base.proofs.Common.{arith, ◌≡◌, ℕ, true, refl, List, [], ◌∷◌, is_some, false≢true, Object, object_at}
+use Rattle.ref_base.proofs.Common.{reference_in, references_among, is_subsequence, AreFound}
 
 -- without its first, what is left of a list is still left of it, and of the list with one more before it
 subsequence-rest : (m : ℕ) (ms ns : List ℕ) → is_subsequence (m ∷ ms) ns ≡ true → is_subsequence ms ns ≡ true

@@ -1,22 +1,21 @@
 -- What a map from numbers to stored objects says of the list of objects that a contract sees.
-use Rattle.std.proofs.Common.{◌≡◌, ℕ, ◌+◌, ◌<◌, true, false, ◌==◌, nat_eq, nat_lt, refl, sym, ap, ◌∙◌, arith}
-use Rattle.std.proofs.Common.{List, [], ◌∷◌, ◌++◌, Option, Some, None, is_some, inl, inr, Bor, suc}
-use native.Mathlib.Numerals.{unary_clauses}
-use Rattle.std.proofs.lemmas.Bool.{cases_Bool, true≢false, false≢true, eq-eqb, eqb-true, ltb-true, ltb-false}
-use Rattle.std.proofs.lemmas.Bool.{ne_eqb, or_cases}
+use Rattle.ref_base.proofs.Common.{◌≡◌, ℕ, ◌+◌, ◌<◌, true, false, ◌==◌, nat_eq, nat_lt, refl, sym, ap, ◌∙◌, arith, List}
+use Rattle.ref_base.proofs.Common.{[], ◌∷◌, ◌++◌, Option, Some, None, is_some, inl, inr, suc, cases_Bool, true≢false}
+use Rattle.ref_base.proofs.Common.{false≢true, eq-eqb, eqb-true, ltb-true, ne_eqb, or_cases, nat_eq_equiv, lookup}
+use Rattle.ref_base.proofs.Common.{Object, object_at, is_there, with_object, numbers, stored_object, has, IsRising}
+use Rattle.std.proofs.Common.{Bor}
+use Rattle.std.proofs.lemmas.Bool.{ltb-false}
 use Rattle.std.proofs.lemmas.List.Sorted.{IsNonDecreasingBy-from_sort, list_any-IsPermutation}
 use Rattle.std.proofs.lemmas.Map.Keys.{IsDistinct-IsPermutation, IsStrictlyIncreasing-from_distinct}
-use Rattle.std.specs.Cmp.{nat_eq_equiv}
 use Rattle.std.specs.List.{IsDistinct}
 use Rattle.std.specs.List.Sorted.{IsPermutation, IsSorted, IsStrictlyIncreasing}
-use Rattle.std.specs.Map.{keys_of, lookup}
+use Rattle.std.specs.Map.{keys_of}
 use Rattle.std.specs.Option.{option_map, option_copied}
 use Rattle.std.specs.Ordering.{nat_cmp}
-use Rattle.ref_base.proofs.Common.{Object, object_at, is_there, with_object, numbers, stored_object, objects_in}
-use Rattle.ref_base.proofs.Common.{linked_reference, has, IsRising}
-use Rattle.ref_base.specs.GraphViews.{placed}
+use Rattle.ref_base.specs.GraphViews.{objects_in, linked_reference, placed}
 use Rattle.ref_base.specs.declared.stored.Stored.{Stored}
 use Rattle.ref_base.proofs.HasLaws.{has-first, has-list_any}
+use native.Mathlib.Numerals.{unary_clauses}
 
 -- ---- lists of numbers that rise
 

@@ -1,13 +1,11 @@
 -- Each number has exactly one strength, and it is read off what was found.
-use Rattle.std.proofs.Common.{◌≡◌, ℕ, ◌+◌, ◌<◌, ◌≤◌, true, false, refl, sym, ap, subst, ◌∙◌, nat_eq, arith, List, []}
-use Rattle.std.proofs.Common.{◌∷◌, length, map, take, Some, inl, inr}
-use Rattle.std.proofs.lemmas.Bool.{cases_Bool, true≢false, false≢true}
+use Rattle.ref_base.proofs.Common.{◌≡◌, ℕ, ◌+◌, ◌<◌, ◌≤◌, true, false, refl, sym, ap, subst, ◌∙◌, nat_eq, arith, List}
+use Rattle.ref_base.proofs.Common.{[], ◌∷◌, length, map, take, Some, inl, inr, cases_Bool, true≢false, false≢true}
+use Rattle.ref_base.proofs.Common.{AllByRecursion, position, has, Graph, Object, object_at, is_there, numbers, Allowed}
+use Rattle.ref_base.proofs.Common.{EndsPath, no_referents, soft_referents, soft_and_weak_referents, HasStrength}
+use Rattle.ref_base.proofs.Common.{HangsOnPhantom, IsRising, ArePathEnds, added_all, phantom_referents, Reach, Strong}
+use Rattle.ref_base.proofs.Common.{Soft, Phantom, Unreachable}
 use Rattle.std.proofs.lemmas.List.{take-take}
-use Rattle.std.specs.List.{AllByRecursion, position}
-use Rattle.ref_base.proofs.Common.{has, Graph, Object, object_at, is_there, numbers, Allowed, EndsPath, no_referents}
-use Rattle.ref_base.proofs.Common.{soft_referents, soft_and_weak_referents, HasStrength, HangsOnPhantom}
-use Rattle.ref_base.proofs.Common.{IsRising, ArePathEnds, added_all, phantom_referents, Reach, Strong, Soft, Phantom}
-use Rattle.ref_base.proofs.Common.{Unreachable}
 use Rattle.ref_base.specs.Strengths.{IsPhantomObjectTo, AreStrengths}
 use Rattle.ref_base.specs.Searches.{AreSearched, found_reach, found_reaches}
 use Rattle.ref_base.specs.declared.reach.Reach.TheVariants.{Weak}

@@ -1,7 +1,6 @@
 -- What is left of a list where some entries are taken out.
-use Rattle.std.proofs.Common.{arith, ◌≡◌, ℕ, true, List, [], ◌∷◌, ◌++◌, ◌⊎◌, inl, inr, refl, sym, ap, subst}
-use Rattle.std.proofs.lemmas.List.{append-nil}
-use Rattle.ref_base.proofs.Common.{is_subsequence}
+use Rattle.ref_base.proofs.Common.{arith, ◌≡◌, ℕ, true, List, [], ◌∷◌, ◌++◌, ◌⊎◌, inl, inr, refl, sym, ap, subst}
+use Rattle.ref_base.proofs.Common.{append-nil, is_subsequence}
 
 -- the one is what is left of the other where some entries are taken out
 abbrev pub Sub : List ℕ → List ℕ → Type 0

@@ -1,15 +1,13 @@
 -- The references that the mark's end cleared and that no worker has looked at since: at the mark's end these are all
 -- new clears, and a look at one takes it away.
-use Rattle.std.proofs.Common.{◌≡◌, ℕ, zero, suc, Bool, true, false, ◌==◌, ◌||◌, List, [], ◌∷◌, ◌++◌, map, refl, sym, ap}
-use Rattle.std.proofs.Common.{subst, arith}
-use Rattle.std.specs.Prelude.{slice_set}
-use Rattle.std.proofs.lemmas.Bool.{false≢true}
-use Rattle.ref_base.proofs.Common.{has, Object, is_there, numbers, IsRising, is_new_clear, new_clears, with_reference}
-use Rattle.ref_base.proofs.Common.{cleared, changed_at, State, joined, shown, list_at, ClearsNext, cleared_if, Reply}
-use Rattle.ref_base.specs.declared.reply.Reply.TheVariants as replies
+use Rattle.ref_base.proofs.Common.{◌≡◌, ℕ, zero, suc, Bool, true, false, ◌==◌, ◌||◌, List, [], ◌∷◌, ◌++◌, map, refl}
+use Rattle.ref_base.proofs.Common.{sym, ap, subst, arith, slice_set, false≢true, has, Object, is_there, numbers}
+use Rattle.ref_base.proofs.Common.{IsRising, is_new_clear, new_clears, with_reference, cleared, changed_at, State}
+use Rattle.ref_base.proofs.Common.{joined, shown, list_at, ClearsNext, cleared_if, Reply}
 use Rattle.ref_base.proofs.HasLaws.{has-append}
 use Rattle.ref_base.proofs.OneMore.{or-swap}
 use Rattle.ref_base.proofs.NewClears.{is_there-rising}
+use Rattle.ref_base.specs.declared.reply.Reply.TheVariants as replies
 
 -- ---- at a mark's end
 

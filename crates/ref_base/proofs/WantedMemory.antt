@@ -1,15 +1,16 @@
 -- Want of memory is answered by puts alone.
-use Rattle.std.proofs.Common.{arith, ◌≡◌, ℕ, Bool, true, false, List, [], ◌∷◌, Option, Some, None, refl, sym, ap, ◌∙◌}
-use Rattle.std.specs.Prelude.{is_some, nat_lt, length, ◌^◌, ◌-◌}
-use Rattle.std.proofs.lemmas.Bool.{false≢true}
-use Rattle.ref_base.proofs.Common.{Reference, object_at, Heap, reference_at, NamedStep, heap_step, Notice, Pending}
-use Rattle.ref_base.proofs.Common.{queue_at, State, unless, unless_empty, unless_full, field_count, object_refusal}
-use Rattle.ref_base.proofs.Common.{field_refusal, reference_refusal, holds_refusal, minting_refusal, unhook_refusal}
-use Rattle.ref_base.proofs.Common.{hand_refusal, held_refusal, is_in, empty_hand_refusal, heap_refusal, asked_refusal}
-use Rattle.ref_base.proofs.Common.{refusal, Gives, GivesAnewIf, Loads, Gets, Unhooks, Holds, Polls, Closes, Scans}
-use Rattle.ref_base.proofs.Common.{ClearsNext, HandsOn, Sweeps, looked_at, value_reply, HeapAccepts, AcceptsAsking}
-use Rattle.ref_base.proofs.Common.{IsAnswer, IsRow, Fault, NoMemory, BadField, NumbersSpent, NotAReference, Actor}
+use Rattle.ref_base.proofs.Common.{arith, ◌≡◌, ℕ, Bool, true, false, List, [], ◌∷◌, Option, Some, None, refl, sym, ap}
+use Rattle.ref_base.proofs.Common.{◌∙◌, is_some, nat_lt, length, ◌-◌, false≢true, Reference, object_at, Heap}
+use Rattle.ref_base.proofs.Common.{reference_at, NamedStep, heap_step, Notice, Pending, queue_at, State, unless}
+use Rattle.ref_base.proofs.Common.{unless_full, field_count, object_refusal, field_refusal, reference_refusal}
+use Rattle.ref_base.proofs.Common.{holds_refusal, minting_refusal, unhook_refusal, hand_refusal, held_refusal, is_in}
+use Rattle.ref_base.proofs.Common.{heap_refusal, refusal, Gives, GivesAnewIf, Loads, Gets, Unhooks, Holds, Polls}
+use Rattle.ref_base.proofs.Common.{Closes, Scans, ClearsNext, HandsOn, Sweeps, looked_at, value_reply, HeapAccepts}
+use Rattle.ref_base.proofs.Common.{AcceptsAsking, IsAnswer, IsRow, Fault, NoMemory, BadField, NotAReference, Actor}
 use Rattle.ref_base.proofs.Common.{Marking, Reply, Step}
+use Rattle.std.specs.Prelude.{◌^◌}
+use Rattle.ref_base.specs.Refusals.{unless_empty, empty_hand_refusal, asked_refusal}
+use Rattle.ref_base.specs.declared.fault.Fault.TheVariants.{NumbersSpent}
 use Rattle.ref_base.specs.declared.heap_step.HeapStep.TheVariants as heap
 use Rattle.ref_base.specs.declared.reply.Reply.TheVariants as replies
 use Rattle.ref_base.specs.declared.plain_step.PlainStep.TheVariants as plain

@@ -1,9 +1,8 @@
 -- Worked traces, as rows.
-use Rattle.std.specs.Prelude.{ℕ, List, [], ◌∷◌, Some}
-use Rattle.ref_base.proofs.Common.{Config, Weak, Normal, Own, Cycle, Mutator, Worker, GreyLeft, HandEmpty, BadField}
-use Rattle.ref_base.proofs.Common.{NoSuchActor, NotAReference, BadQueue, WrongPhase, Step, Reply, Row}
+use Rattle.ref_base.proofs.Common.{ℕ, List, [], ◌∷◌, Some, Config, Weak, Normal, Own, Cycle, Mutator, Worker, GreyLeft}
+use Rattle.ref_base.proofs.Common.{HandEmpty, BadField, NoSuchActor, NotAReference, WrongPhase, Step, Reply, Row}
+use Rattle.ref_base.specs.declared.fault.Fault.TheVariants.{BadQueue, EmptySlot, HandFull}
 use Rattle.ref_base.specs.declared.strength.Strength.TheVariants.{Soft}
-use Rattle.ref_base.specs.declared.fault.Fault.TheVariants.{EmptySlot, HandFull}
 use Rattle.ref_base.specs.declared.plain_step.PlainStep.TheVariants as plain
 use Rattle.ref_base.specs.declared.step.Step.TheVariants as steps
 use Rattle.ref_base.specs.declared.reply.Reply.TheVariants as replies

@@ -1,14 +1,12 @@
 -- What a begin of the marker is to the heap.
-use Rattle.std.proofs.Common.{◌≡◌, ℕ, ◌+◌, List, Option, Some, None, refl, ap, ◌∙◌}
-use Rattle.ref_clear.proofs.Common.{joined, pending_numbers, Fault, Urgency, CycleHeap, cycle_begun, shaded_all}
-use Rattle.ref_clear.proofs.Common.{unless_refused, ClearHeap, with_mark, begun_with, refusal_in, after_in, seen_lists}
-use Rattle.ref_clear.proofs.Common.{AreSoundLists}
+use Rattle.ref_clear.proofs.Common.{◌≡◌, ℕ, ◌+◌, List, Option, Some, None, refl, ap, ◌∙◌, joined, pending_numbers}
+use Rattle.ref_clear.proofs.Common.{Fault, Urgency, CycleHeap, cycle_begun, shaded_all, unless_refused, ClearHeap}
+use Rattle.ref_clear.proofs.Common.{with_mark, begun_with, refusal_in, after_in, seen_lists, AreSoundLists, MarkerDoes}
+use Rattle.ref_clear.proofs.Common.{HeapDoes}
+use Rattle.ref_clear.proofs.MarkedHeaps.{seen_shaded, sound_shaded}
 use Rattle.ref_base.specs.declared.heap_step.HeapStep.TheVariants as heap
 use Rattle.ref_base.specs.declared.plain_step.PlainStep.TheVariants as plain
 use Rattle.ref_base.specs.declared.reply.Reply.TheVariants as replies
-use Rattle.ref_mark.specs.MarkCalls.{MarkerDoes}
-use Rattle.ref_clear.specs.ClearCalls.{HeapDoes}
-use Rattle.ref_clear.proofs.MarkedHeaps.{seen_shaded, sound_shaded}
 
 module _ {k j : CycleHeap} {lists : List (List ℕ)} {swept_to now : ℕ} {how : Urgency}
     (sound : AreSoundLists k lists swept_to) where

@@ -1,17 +1,12 @@
 -- What holds of a heap, its chains among it, goes on holding by the steps of marking and as phases end.
-use Rattle.std.proofs.Common.{arith}
-use Rattle.std.proofs.Common.{◌≡◌, ℕ, true, false, not, refl, sym, ap, subst, ◌∙◌, List, [], ◌∷◌, Option, Some, None}
-use Rattle.ref_clear.proofs.Common.{joined, NamedStep, Reply, is_in, is_empty, work_refusal, Fault, Urgency}
-use Rattle.ref_clear.proofs.Common.{CycleHeap, Clearing, Idle, Sweeping, shaded_all, cycle_in_phase, doomed}
-use Rattle.ref_clear.proofs.Common.{ClearHeap, with_mark, answer_in, after_in, swept_some, Chain, lists_in}
-use Rattle.ref_clear.proofs.Common.{seen_heap, seen_lists, IsSoundHeap, MaySweep}
-use Rattle.ref_base.specs.declared.heap_step.HeapStep.TheVariants as heap
-use Rattle.ref_base.specs.declared.plain_step.PlainStep.TheVariants as plain
-use Rattle.ref_base.specs.declared.reply.Reply.TheVariants as replies
-use Rattle.ref_mark.specs.MarkCalls.{MarkerDoes, answer_in_cycle, after_in_cycle}
-use Rattle.ref_clear.proofs.Common.{Heap, unless_refused, cycle_begun}
+use Rattle.ref_clear.proofs.Common.{arith, ◌≡◌, ℕ, true, false, not, refl, sym, ap, subst, ◌∙◌, List, [], Option, Some}
+use Rattle.ref_clear.proofs.Common.{None, joined, NamedStep, Reply, is_in, is_empty, work_refusal, Fault, Urgency}
+use Rattle.ref_clear.proofs.Common.{CycleHeap, Clearing, Idle, Sweeping, shaded_all, cycle_in_phase, doomed, ClearHeap}
+use Rattle.ref_clear.proofs.Common.{with_mark, answer_in, after_in, swept_some, Chain, lists_in, seen_heap, seen_lists}
+use Rattle.ref_clear.proofs.Common.{IsSoundHeap, MaySweep, MarkerDoes, answer_in_cycle, after_in_cycle, Heap}
+use Rattle.ref_clear.proofs.Common.{unless_refused, cycle_begun, HeapDoes, IsWellFormed, sweep_begun, ground_of, has}
+use Rattle.ref_objects.specs.Grounds.{IsClosed}
 use Rattle.ref_clear.proofs.KeptReferences.{begun-heap}
-use Rattle.ref_clear.specs.ClearCalls.{HeapDoes}
 use Rattle.ref_clear.proofs.KeptRows.{goes_on_sweeping}
 use Rattle.ref_clear.proofs.PendingLists.{pending_numbers-seen}
 use Rattle.ref_clear.proofs.SoundHeaps.{config_after}
@@ -19,15 +14,13 @@ use Rattle.ref_clear.proofs.MarkedHeaps.{seen_marked, does_marked as does_listed
 use Rattle.ref_clear.proofs.BeginAnswers.{refused_by, left, does_begun as begun_lists, sound_begun as sound_begun_lists}
 use Rattle.ref_clear.proofs.SoundEnds.{sound_clear_ended as clear_ended, sound_sweep_ended as sweep_ended}
 use Rattle.ref_clear.proofs.SoundEnds.{sound_swept as sound_swept_lists, seen_swept as seen_swept_lists}
-use Rattle.ref_clear.proofs.SoundEnds.{may_free as may_free_lists, links_swept, may_end_clear, seen_clear_ended}
-use Rattle.std.proofs.lemmas.Bool.{not-false, true≢false}
-use Rattle.ref_objects.specs.Grounds.{IsClosed, IsWellFormed}
-use Rattle.ref_mark.specs.CycleHeaps.{sweep_begun}
-use Rattle.ref_mark.specs.MarkViews.{ground_of}
+use Rattle.ref_clear.proofs.SoundEnds.{may_free as may_free_lists, links_swept, seen_clear_ended}
 use Rattle.ref_mark.proofs.SweepBegins.{closed_clearing}
-use Rattle.ref_base.specs.Members.{has}
 use Rattle.ref_clear.proofs.PendingChains.{KeepsLinks, AreCleared, keeps_parts, marks_keep, shading_keeps, chains_stay}
 use Rattle.ref_clear.proofs.PendingChains.{seen_still, sound_still}
+use Rattle.ref_base.specs.declared.heap_step.HeapStep.TheVariants as heap
+use Rattle.ref_base.specs.declared.plain_step.PlainStep.TheVariants as plain
+use Rattle.ref_base.specs.declared.reply.Reply.TheVariants as replies
 
 begin_config : (k : CycleHeap) (now : ℕ) (how : Urgency) (refused : Option Fault)
     → (unless_refused refused (λ fault. k) (cycle_begun k now how)).heap.config ≡ k.heap.config
@@ -119,25 +112,12 @@ module _ {k : CycleHeap} {chains : List Chain} {swept_to : ℕ} (sound : IsSound
 
   pub does_clear_ended : {j : CycleHeap} → is_in k.phase Clearing ≡ true → not (is_empty (joined k.found)) ≡ false
       → j ≡ sweep_begun k → HeapDoes (seen_heap k chains) (heap.Plain plain.EndClear) replies.Done (seen_heap j chains)
-  does_clear_ended {j} clearing looked after = record {
-    answer = sym (ap (λ refused. unless_refused refused replies.Refused replies.Done)
-        (may_end_clear k (lists_in k chains) clearing looked));
-    after =
-        ap (λ (i : CycleHeap). seen_heap i chains) after
-        ∙ seen_still refl (keeps_parts k (sweep_begun k) (joined (lists_in k chains)) refl refl sound.apart) sound
-        ∙ seen_clear_ended k (lists_in k chains) clearing looked refl;
-  }
+  does_clear_ended {j} clearing looked after = grind (arith, seen_clear_ended)
 
   -- and nothing of what isn't marked is named then by what is
   pub closed_clear_ended : is_in k.phase Clearing ≡ true → not (is_empty (joined k.found)) ≡ false
       → IsWellFormed (ground_of k) → IsClosed k.heap (has k.marked)
-  closed_clear_ended clearing looked formed =
-      closed_clearing k sound.lists.stands.0 sound.lists.stands.1.mark clearing
-      (empty_is (joined k.found) (not-false (is_empty (joined k.found)) looked)) formed.closed
-    where
-      empty_is : (ns : List ℕ) → is_empty ns ≡ true → ns ≡ []
-      empty_is [] empty = refl
-      empty_is (n ∷ ns) empty = absurd (true≢false (sym empty))
+  closed_clear_ended clearing looked formed = grind (arith, closed_clearing)
 
   pub sound_sweep_ended : {j : CycleHeap} → is_in k.phase Sweeping ≡ true → not (is_empty (doomed k)) ≡ false
       → j ≡ cycle_in_phase k Idle → IsSoundHeap j chains swept_to

@@ -1,43 +1,35 @@
 -- What a look at a found reference leaves of a heap, its chains among it: one that is pending then goes last in one.
-use Rattle.std.proofs.Common.{◌≡◌, ℕ, ◌<◌, true, false, refl, sym, ap, subst, ◌∙◌, arith, List}
-use Rattle.std.proofs.Common.{[], ◌∷◌, ◌++◌, length, get_or, set, Option, Some, None, inl, inr, ◌==◌, Bool}
-use Rattle.std.proofs.lemmas.Bool.{or_cases, eqb-true, ne_eqb, true≢false, false≢true, false_from_ne_true}
-use Rattle.std.specs.Option.{unwrap_or, is_some}
-use Rattle.ref_base.specs.DoomedSets.{refers_into}
-use Rattle.ref_objects.specs.Grounds.{Ground, IsWellFormed, look_of}
+use Rattle.ref_clear.proofs.Common.{◌≡◌, ℕ, ◌<◌, true, false, refl, sym, ap, subst, ◌∙◌, arith, List, [], ◌∷◌, ◌++◌}
+use Rattle.ref_clear.proofs.Common.{length, get_or, set, Option, Some, None, inl, inr, ◌==◌, Bool, or_cases, eqb-true}
+use Rattle.ref_clear.proofs.Common.{true≢false, false≢true, false_from_ne_true, unwrap_or, is_some, refers_into, Ground}
+use Rattle.ref_clear.proofs.Common.{IsWellFormed, is_doomed, ground_of, Reference, get_or_default, length-map, has}
+use Rattle.ref_clear.proofs.Common.{AreDistinct, Object, is_there, numbers, joined, list_at, work_refusal, reference_at}
+use Rattle.ref_clear.proofs.Common.{registered_in, first_in, Clearing, CycleHeap, with_found_taken, is_to_clear, cut_at}
+use Rattle.ref_clear.proofs.Common.{after_in, Chain, listed, linked_last_of, lists_in, seen_heap, seen_lists}
+use Rattle.ref_clear.proofs.Common.{AreSoundLists, IsSoundHeap, is_tagged, rest_of, answer_in}
+use Rattle.std.proofs.lemmas.Bool.{ne_eqb}
+use Rattle.ref_objects.specs.Grounds.{look_of}
 use Rattle.ref_objects.specs.declared.linked.Look.{Look}
-use Rattle.ref_mark.specs.CycleHeaps.{is_doomed}
-use Rattle.ref_mark.specs.MarkViews.{found_look, ground_of}
-use Rattle.ref_mark.proofs.ChainLemmas.{first_look, none_told}
-use Rattle.ref_clear.proofs.Common.{Reference}
-use Rattle.std.proofs.lemmas.List.{get_or_default, length-map}
-use Rattle.ref_clear.proofs.Common.{has, AreDistinct, Object, is_there, numbers, joined, list_at, work_refusal}
-use Rattle.ref_clear.proofs.Common.{reference_at, registered_in, first_in, Clearing, CycleHeap}
-use Rattle.ref_clear.proofs.Common.{with_found_taken, is_to_clear, cut_at, after_in, Chain, AreChains, chain_with}
-use Rattle.ref_clear.proofs.Common.{listed}
-use Rattle.ref_clear.proofs.Common.{linked_last, linked_last_of, lists_in, seen_heap, seen_lists, AreApart}
-use Rattle.ref_clear.proofs.Common.{AreSoundLists}
-use Rattle.ref_clear.proofs.Common.{IsSoundHeap}
-use Rattle.ref_base.specs.declared.heap_step.HeapStep.TheVariants as heap
-use Rattle.ref_base.specs.declared.plain_step.PlainStep.TheVariants as plain
-use Rattle.ref_base.proofs.StoreLaws.{is_there-has}
-use Rattle.ref_mark.specs.Chains.{is_tagged}
-use Rattle.ref_mark.proofs.ChainLemmas.{ArePushed, pushes_one, chain_at, chain-linked, has-last}
+use Rattle.ref_mark.specs.MarkViews.{found_look}
+use Rattle.ref_mark.specs.Chains.{AreChains, chain_with, linked_last}
+use Rattle.ref_clear.specs.ClearViews.{AreApart}
+use Rattle.ref_mark.specs.CycleHeaps.{found_looked_at}
+use Rattle.ref_mark.proofs.ChainLemmas.{first_look, none_told, ArePushed, pushes_one, chain_at, chain-linked, has-last}
 use Rattle.ref_mark.proofs.ChainLemmas.{listed_within, list_at-lists_of, lists-same}
+use Rattle.ref_base.proofs.StoreLaws.{is_there-has}
 use Rattle.ref_mark.proofs.DistinctLists.{distinct_fit, AreDistinct-taken}
 use Rattle.ref_mark.proofs.LinkLemmas.{link_at-cleared, is_tagged-cleared}
 use Rattle.ref_mark.proofs.MarkerLemmas.{length-lists_of, length-joined}
 use Rattle.ref_mark.proofs.Mutations.{referring_is_there}
-use Rattle.ref_clear.proofs.LookAnswers as lists
 use Rattle.ref_clear.proofs.LookAnswers.{first_is, none_is}
-use Rattle.ref_mark.specs.CycleHeaps.{found_looked_at}
-use Rattle.ref_base.specs.Members.{rest_of}
-use Rattle.ref_base.specs.declared.reply.Reply.TheVariants as replies
-use Rattle.ref_clear.proofs.Common.{answer_in}
 use Rattle.ref_clear.proofs.KeptPending.{waits_there}
 use Rattle.ref_clear.proofs.PendingLists.{pending_numbers-seen}
 use Rattle.ref_clear.proofs.PendingChains.{KeepsLinks, chains_stay, seen_still, sound_still, grown-has}
 use Rattle.ref_clear.proofs.ChainedNotices.{less-has}
+use Rattle.ref_base.specs.declared.heap_step.HeapStep.TheVariants as heap
+use Rattle.ref_base.specs.declared.plain_step.PlainStep.TheVariants as plain
+use Rattle.ref_clear.proofs.LookAnswers as lists
+use Rattle.ref_base.specs.declared.reply.Reply.TheVariants as replies
 
 -- a number, or none
 some_is : (q : Option ℕ) → is_some q ≡ true → q ≡ Some (unwrap_or q 0)

@@ -1,34 +1,32 @@
 -- What a hand and an unhook answer and leave of a heap, its chains among it.
-use Rattle.std.proofs.Common.{◌≡◌, ℕ, ◌<◌, true, refl, sym, ap, subst, ◌∙◌, arith, List, [], ◌∷◌, zero}
-use Rattle.std.proofs.Common.{length, get_or, set, Option, Some, None, suc, ◌==◌, nat_lt}
-use Rattle.std.specs.Option.{option_map, IsSome}
-use Rattle.std.proofs.lemmas.Bool.{or_right, true≢false, false_from_ne_true}
-use Rattle.std.proofs.lemmas.List.{get_or_default}
-use Rattle.ref_clear.proofs.Common.{has, joined, list_at, rest_of, Pending, pending_at, pending_from, pending_in, Reply}
-use Rattle.ref_clear.proofs.Common.{Fault, Cycle, Own, Reference, reference_at, registered_in, slot_at, has_slot}
-use Rattle.ref_clear.proofs.Common.{CycleHeap, with_cleared, holding, mint_answer_in, after_mint_in}
-use Rattle.ref_clear.proofs.Common.{Chain, chain_first, chain_without_first, listed, lists_in, seen_heap}
-use Rattle.ref_clear.proofs.Common.{seen_lists, IsSoundHeap, AreSoundLists, ClearHeap, AreRegistered}
-use Rattle.ref_base.specs.declared.heap_step.HeapStep.TheVariants as heap
-use Rattle.ref_base.specs.declared.plain_step.PlainStep.TheVariants as plain
-use Rattle.ref_base.specs.declared.reply.Reply.TheVariants as replies
+use Rattle.ref_clear.proofs.Common.{◌≡◌, ℕ, ◌<◌, true, refl, sym, ap, subst, ◌∙◌, arith, List, [], ◌∷◌, zero, length}
+use Rattle.ref_clear.proofs.Common.{get_or, set, Option, Some, None, suc, ◌==◌, option_map, IsSome, or_right}
+use Rattle.ref_clear.proofs.Common.{true≢false, false_from_ne_true, get_or_default, has, joined, list_at, rest_of}
+use Rattle.ref_clear.proofs.Common.{Pending, pending_at, pending_from, pending_in, Reply, Fault, Cycle, Own, Reference}
+use Rattle.ref_clear.proofs.Common.{reference_at, registered_in, slot_at, has_slot, CycleHeap, with_cleared, holding}
+use Rattle.ref_clear.proofs.Common.{mint_answer_in, after_mint_in, Chain, listed, lists_in, seen_heap, seen_lists}
+use Rattle.ref_clear.proofs.Common.{IsSoundHeap, AreSoundLists, ClearHeap, AreRegistered, MarkerDoes, listed_at}
+use Rattle.ref_clear.proofs.Common.{HeapDoes, Ground, ground_of, Config, pending_by}
+use Rattle.std.proofs.Common.{nat_lt}
+use Rattle.ref_mark.specs.Chains.{chain_first, chain_without_first}
+use Rattle.ref_objects.specs.declared.linked.Linked.{Linked}
+use Rattle.ref_objects.specs.Grounds.{linked_in}
 use Rattle.ref_base.proofs.HasLaws.{has-left, has-right, has-cases}
-use Rattle.ref_mark.specs.MarkCalls as marks
-use Rattle.ref_mark.specs.MarkCalls.{MarkerDoes}
-use Rattle.ref_mark.specs.Worklists.{listed_at}
-use Rattle.ref_mark.proofs.ChainLemmas.{list_at-lists_of, chain_at, chain-first, takes_one}
+use Rattle.ref_mark.proofs.ChainLemmas.{first_linked, none_told, list_at-lists_of, chain_at, chain-first, takes_one}
 use Rattle.ref_mark.proofs.MarkerLemmas.{length-lists_of}
-use Rattle.ref_clear.specs.ClearCalls.{HeapDoes}
 use Rattle.ref_clear.proofs.KeptReferences.{config-cleared}
 use Rattle.ref_clear.proofs.NoticeAnswers.{minted, mint_refused}
-use Rattle.ref_clear.proofs.PendingLists.{worker_has_list, first_as_seen, listed_registered}
+use Rattle.ref_clear.proofs.PendingLists.{worker_within, worker_has_list, first_as_seen, listed_registered}
 use Rattle.ref_clear.proofs.PendingLists.{told_as_seen, none_past}
-use Rattle.ref_clear.proofs.Common.{Ground, ground_of}
-use Rattle.ref_clear.proofs.HandAnswers.{handed as handed_lists, hand_refused as hand_refused_lists}
+use Rattle.ref_clear.proofs.HandAnswers.{none_to_hand, handed as handed_lists, hand_refused as hand_refused_lists}
 use Rattle.ref_clear.proofs.UnhookAnswers.{unhook_cut as cut_lists, unhook_done as done_lists}
 use Rattle.ref_clear.proofs.SoundHeaps.{sound_after}
 use Rattle.ref_clear.proofs.PendingChains.{KeepsLinks, sound_still}
 use Rattle.ref_clear.proofs.ChainedHeaps.{seen_chains}
+use Rattle.ref_base.specs.declared.heap_step.HeapStep.TheVariants as heap
+use Rattle.ref_base.specs.declared.plain_step.PlainStep.TheVariants as plain
+use Rattle.ref_base.specs.declared.reply.Reply.TheVariants as replies
+use Rattle.ref_mark.specs.MarkCalls as marks
 
 -- what stands in the lists as one loses its first stood there
 pub less-has : (lists : List (List ℕ)) (w : ℕ) (ns : List ℕ) → list_at lists w ≡ ns → (m : ℕ)
@@ -80,20 +78,25 @@ none_behind k chains w place past = grind (arith, none_past, length-lists_of)
 -- ---- a worker's chain
 
 module _ {k : CycleHeap} {chains : List Chain} {swept_to : ℕ} (w : ℕ) (sound : IsSoundHeap k chains swept_to)
-    (within : w < k.heap.config.workers) where
+    {now : ClearHeap} {config : Config} (seen : seen_heap k chains ≡ now) (fixed : config ≡ now.mark.heap.config)
+    (named : w < config.workers) where
+  within : w < k.heap.config.workers
+  within = worker_within w sound.lists seen fixed named
+
   pub worker_has_chain : w < length chains
   worker_has_chain =
       subst (λ count. w < count) (length-lists_of k.tags k.heap.config.cells chains)
       (worker_has_list w sound.lists within)
 
-  module _ {c : Chain} (read : c ≡ get_or chains w c) where
-    abbrev pub own : List ℕ
+  module _ {c : Chain} (read : c ≡ get_or chains w c) {objects : Ground} (lent : objects ≡ ground_of k)
+      {answer : Option Linked} (told : answer ≡ option_map (linked_in objects) (chain_first c)) where
+    abbrev own : List ℕ
     own = listed k.tags k.heap.config.cells c
 
-    pub own_is : list_at (lists_in k chains) w ≡ own
+    own_is : list_at (lists_in k chains) w ≡ own
     own_is = list_at-lists_of k.tags k.heap.config.cells chains w c worker_has_chain read
 
-    pub own_read : own ≡ get_or (lists_in k chains) w own
+    own_read : own ≡ get_or (lists_in k chains) w own
     own_read =
         sym own_is
         ∙ get_or_default (lists_in k chains) w [] own (worker_has_list w sound.lists within)
@@ -101,69 +104,78 @@ module _ {k : CycleHeap} {chains : List Chain} {swept_to : ℕ} (w : ℕ) (sound
     first_at : chain_first c ≡ listed_at own 0
     first_at = search (chain-first, chain_at, worker_has_chain)
 
-    -- the first of it, as its number is read
-    pub first_seen : {other : Option ℕ} → chain_first c ≡ other
-        → pending_from (pending_at (seen_heap k chains) w) 0 ≡ option_map (pending_in k.heap.objects k.tags) other
-    first_seen same = first_as_seen w sound.lists within own_read first_at same
+    -- where nothing is told, nothing is pending
+    pub none_first : answer ≡ None
+        → HeapDoes (seen_heap k chains) (heap.Hand w) replies.Nothing (seen_heap k chains)
+    none_first none =
+        none_to_hand w sound.lists within
+        (first_as_seen w sound.lists within own_read first_at
+        (none_told (linked_in (ground_of k)) (chain_first c) (sym none ∙ rw lent at told)))
 
-    pub first_registered : (n : ℕ) → chain_first c ≡ Some n → IsSome (registered_in (reference_at k.heap n))
-    first_registered n same =
-        listed_registered w sound.lists 0 n (worker_has_list w sound.lists within) own_read first_at same
+    -- the first of it is told
+    module _ {l : Linked} (some : answer ≡ Some l) where
+      first_told : (chain_first c ≡ Some l.no) × (l ≡ linked_in (ground_of k) l.no)
+      first_told = first_linked (ground_of k) (chain_first c) l (sym some ∙ rw lent at told)
 
-    -- it is handed on
-    module _ {p : Pending} (first : pending_from (pending_at (seen_heap k chains) w) 0 ≡ Some p) {j : CycleHeap}
-        {d : Chain} {n : ℕ} (answer : replies.Object n ≡ mint_answer_in k p.object)
-        (after : j ≡ after_mint_in k p.object) (taken : d ≡ chain_without_first k.tags c) where
-      minted_now : j ≡ holding k p.object
-      minted_now = (minted k p.object n answer after).2
+      pub first_registered : IsSome (registered_in l.reference)
+      first_registered =
+          rw first_told.1
+          (listed_registered w sound.lists 0 l.no (worker_has_list w sound.lists within) own_read first_at first_told.0)
 
-      left_lists : lists_in k (set chains w d) ≡ set (lists_in k chains) w (rest_of own)
-      left_lists = grind (arith, takes_one, worker_has_chain, own_is)
+      -- and pending
+      module _ {p : Pending} (is : p ≡ pending_by l) where
+        first : pending_from (pending_at (seen_heap k chains) w) 0 ≡ Some p
+        first =
+            first_as_seen w sound.lists within own_read first_at first_told.0
+            ∙ ap (λ p. Some p) (sym (is ∙ ap pending_by first_told.1))
 
-      step : HeapDoes (seen_lists k (lists_in k chains)) (heap.Hand w) (replies.Notice n p.queue (Cycle p.cycle w))
-          (seen_lists j (set (lists_in k chains) w (rest_of own)))
-          × AreRegistered j.heap.objects (set (lists_in k chains) w (rest_of own))
-      step = handed_lists w sound.lists within first answer after own_read refl
+        -- it is handed on
+        module _ {j : CycleHeap} {d : Chain} {n : ℕ} (answers : replies.Object n ≡ mint_answer_in k p.object)
+            (after : j ≡ after_mint_in k p.object) (taken : d ≡ chain_without_first objects.tags c) where
+          minted_now : j ≡ holding k p.object
+          minted_now = (minted k p.object n answers after).2
 
-      left_in : lists_in j (set chains w d) ≡ set (lists_in k chains) w (rest_of own)
-      left_in = ap (λ (i : CycleHeap). lists_in i (set chains w d)) minted_now ∙ left_lists
+          taken_now : d ≡ chain_without_first k.tags c
+          taken_now = taken ∙ ap (λ (g : Ground). chain_without_first g.tags c) lent
 
-      pub handed : HeapDoes (seen_heap k chains) (heap.Hand w) (replies.Notice n p.queue (Cycle p.cycle w))
-          (seen_heap j (set chains w d))
-      handed = search (left_in, step)
+          left_lists : lists_in k (set chains w d) ≡ set (lists_in k chains) w (rest_of own)
+          left_lists = grind (arith, takes_one, worker_has_chain, own_is, taken_now)
 
-      pub sound_handed : IsSoundHeap j (set chains w d) swept_to
-      sound_handed = record {
-        linked = rw (minted_now, taken)
-            (takes_one k.tags k.heap.config.cells chains w c worker_has_chain read sound.linked).1;
-        apart = λ m found.
-            ap (λ mss. has (joined mss) m) left_in
-            ∙ false_from_ne_true (has (joined (set (lists_in k chains) w (rest_of own))) m)
-            (λ stands.
-            true≢false
-            (sym (less-has (lists_in k chains) w own own_is m stands)
-            ∙ sound.apart m (ap (λ (i : CycleHeap). has (joined i.found) m) (sym minted_now) ∙ found)));
-        lists = subst (λ mss. AreSoundLists j mss swept_to) (sym left_in)
-            (sound_after (heap.Hand w) refl sound.lists step.0.after step.1);
-      }
+          step : HeapDoes (seen_lists k (lists_in k chains)) (heap.Hand w) (replies.Notice n p.queue (Cycle p.cycle w))
+              (seen_lists j (set (lists_in k chains) w (rest_of own)))
+              × AreRegistered j.heap.objects (set (lists_in k chains) w (rest_of own))
+          step = handed_lists w sound.lists within first answers after own_read refl
 
-  -- where the mint of its hold is refused nothing changes
-  pub hand_refused : {p : Pending} {j : CycleHeap} {fault : Fault}
-      → pending_from (pending_at (seen_heap k chains) w) 0 ≡ Some p
-      → replies.Refused fault ≡ mint_answer_in k p.object → j ≡ after_mint_in k p.object
-      → HeapDoes (seen_heap k chains) (heap.Hand w) (replies.Refused fault) (seen_heap j chains)
-      × IsSoundHeap j chains swept_to
-  hand_refused {p} {j} {fault} first answer after =
-      let same : j ≡ k = (mint_refused k p.object fault answer after).1 in
-      let step = (hand_refused_lists w sound.lists within first answer refl).0 in
-      let does : HeapDoes (seen_heap k chains) (heap.Hand w) (replies.Refused fault) (seen_heap k chains) =
-      subst (λ (i : CycleHeap). HeapDoes (seen_heap k chains) (heap.Hand w) (replies.Refused fault)
-      (seen_lists i (lists_in k chains))) (mint_refused k p.object fault answer refl).1 step in (
-        subst (λ (i : CycleHeap). HeapDoes (seen_heap k chains) (heap.Hand w) (replies.Refused fault)
-            (seen_heap i chains))
-            (sym same) does,
-        subst (λ (i : CycleHeap). IsSoundHeap i chains swept_to) (sym same) sound,
-      )
+          left_in : lists_in j (set chains w d) ≡ set (lists_in k chains) w (rest_of own)
+          left_in = ap (λ (i : CycleHeap). lists_in i (set chains w d)) minted_now ∙ left_lists
+
+          pub handed : HeapDoes (seen_heap k chains) (heap.Hand w) (replies.Notice n p.queue (Cycle p.cycle w))
+              (seen_heap j (set chains w d))
+          handed = search (left_in, step)
+
+          pub sound_handed : IsSoundHeap j (set chains w d) swept_to
+          sound_handed = record {
+            linked = rw (minted_now, taken_now)
+                (takes_one k.tags k.heap.config.cells chains w c worker_has_chain read sound.linked).1;
+            apart = λ m found.
+                ap (λ mss. has (joined mss) m) left_in
+                ∙ false_from_ne_true (has (joined (set (lists_in k chains) w (rest_of own))) m)
+                (λ stands.
+                true≢false
+                (sym (less-has (lists_in k chains) w own own_is m stands)
+                ∙ sound.apart m (ap (λ (i : CycleHeap). has (joined i.found) m) (sym minted_now) ∙ found)));
+            lists = subst (λ mss. AreSoundLists j mss swept_to) (sym left_in)
+                (sound_after (heap.Hand w) refl sound.lists step.0.after step.1);
+          }
+
+        -- where the mint of its hold is refused nothing changes
+        pub hand_refused : {j : CycleHeap} {fault : Fault} → replies.Refused fault ≡ mint_answer_in k p.object
+            → j ≡ after_mint_in k p.object
+            → HeapDoes (seen_heap k chains) (heap.Hand w) (replies.Refused fault) (seen_heap j chains)
+            × IsSoundHeap j chains swept_to
+        hand_refused {j} {fault} answers after =
+            let same : j ≡ k = (mint_refused k p.object fault answers after).1 in
+            rw same ((hand_refused_lists w sound.lists within first answers (sym same ∙ after)).0, sound)
 
 -- ---- an unhook
 

@@ -1,21 +1,16 @@
 -- The ends of the clearing and of the sweep: nothing found is left, and then nothing doomed.
-use Rattle.std.proofs.Common.{arith}
-use Rattle.std.proofs.Common.{◌≡◌, ℕ, refl, sym, ap, ◌∙◌, [], None}
-use Rattle.std.proofs.lemmas.Bool.{false≢true, false_from_ne_true}
-use Rattle.ref_clear.proofs.Common.{has, refers_into, reference_at, graph_of, State}
-use Rattle.ref_clear.proofs.Common.{joined, HeapAccepts, with_world, heap_but}
-use Rattle.ref_clear.proofs.Common.{Idle, Clearing, Sweeping, unmarked, CycleHeap, is_white}
-use Rattle.ref_clear.proofs.Common.{cycle_in_phase, MarkStands, FactsBut, shown_heap, ClearHeap, with_mark, refusal_in}
-use Rattle.ref_clear.proofs.Common.{HeapStands}
-use Rattle.ref_base.specs.CollectorRows.{referent_of}
+use Rattle.ref_clear.proofs.Common.{arith, ◌≡◌, ℕ, refl, sym, ap, ◌∙◌, [], None, false≢true, false_from_ne_true, has}
+use Rattle.ref_clear.proofs.Common.{refers_into, reference_at, graph_of, State, joined, HeapAccepts, with_world}
+use Rattle.ref_clear.proofs.Common.{heap_but, Idle, Clearing, Sweeping, unmarked, CycleHeap, is_white, cycle_in_phase}
+use Rattle.ref_clear.proofs.Common.{MarkStands, FactsBut, shown_heap, ClearHeap, with_mark, refusal_in, HeapStands}
+use Rattle.ref_clear.proofs.Common.{referent_of, sweep_begun}
 use Rattle.ref_base.specs.Replay.{with_phase as world_with_phase}
-use Rattle.ref_base.specs.declared.heap_step.HeapStep.TheVariants as heap
-use Rattle.ref_base.specs.declared.plain_step.PlainStep.TheVariants as plain
-use Rattle.ref_base.specs.declared.reply.Reply.TheVariants as replies
 use Rattle.ref_base.proofs.Forgetting.{heap_but-none}
 use Rattle.ref_objects.proofs.SparedLemmas.{has-unmarked, unreferring_at}
 use Rattle.ref_mark.proofs.SweepBegins.{sweep_begun_stands}
-use Rattle.ref_mark.specs.CycleHeaps.{sweep_begun}
+use Rattle.ref_base.specs.declared.heap_step.HeapStep.TheVariants as heap
+use Rattle.ref_base.specs.declared.plain_step.PlainStep.TheVariants as plain
+use Rattle.ref_base.specs.declared.reply.Reply.TheVariants as replies
 
 -- ---- what a step that isn't refused has passed
 

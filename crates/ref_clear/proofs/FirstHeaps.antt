@@ -1,14 +1,13 @@
 -- A new heap: nothing is pending.
-use Rattle.std.proofs.Common.{◌≡◌, ℕ, zero, suc, List, [], ◌∷◌, replicate, refl, ap, ◌∙◌, arith}
+use Rattle.ref_clear.proofs.Common.{◌≡◌, ℕ, zero, suc, List, [], ◌∷◌, replicate, refl, ap, ◌∙◌, arith, Object, joined}
+use Rattle.ref_clear.proofs.Common.{pending_numbers, Config, CycleHeap, MarkStands, pending_lists_of, seen_lists}
+use Rattle.ref_clear.proofs.Common.{AreSoundLists, HeapStands, has, Chain, no_chain, lists_in, seen_heap, IsSoundHeap}
+use Rattle.ref_clear.proofs.Common.{Tag}
 use Rattle.std.proofs.lemmas.List.{length-replicate}
-use Rattle.ref_clear.proofs.Common.{Object, joined, pending_numbers}
-use Rattle.ref_clear.proofs.Common.{Config, CycleHeap, starting_state, MarkStands}
-use Rattle.ref_clear.proofs.Common.{pending_lists_of, seen_lists, AreSoundLists, HeapStands}
-use Rattle.ref_clear.proofs.Common.{has, Chain, no_chain, lists_in, seen_heap, IsSoundHeap}
-use Rattle.ref_mark.proofs.MarkerLemmas.{are_none}
+use Rattle.ref_mark.specs.MarkRows.{starting_state}
 use Rattle.ref_mark.specs.CycleHeaps.{first_cycle_heap}
 use Rattle.ref_clear.specs.ClearHeaps.{first_clear_heap}
-use Rattle.ref_objects.specs.Grounds.{Tag}
+use Rattle.ref_mark.proofs.MarkerLemmas.{are_none}
 
 lists_of-none : (os : List Object) (ts : List Tag) (count : ℕ)
     → pending_lists_of os ts (replicate count []) ≡ replicate count []

@@ -1,8 +1,7 @@
 -- What workers found is there and isn't doomed, and once a sweep has begun nothing that stays refers to the doomed.
-use Rattle.std.proofs.Common.{arith}
-use Rattle.std.proofs.Common.{◌≡◌, ℕ, true, false}
-use Rattle.ref_clear.proofs.Common.{has, is_there, refers_into, reference_at, is_in, State, joined, Clearing, Sweeping}
-use Rattle.ref_clear.proofs.Common.{CycleHeap, is_white, is_black, is_doomed, ClearHeap, HeapStands}
+use Rattle.ref_clear.proofs.Common.{arith, ◌≡◌, ℕ, true, false, has, is_there, refers_into, reference_at, is_in, State}
+use Rattle.ref_clear.proofs.Common.{joined, Clearing, Sweeping, CycleHeap, is_white, is_black, is_doomed, ClearHeap}
+use Rattle.ref_clear.proofs.Common.{HeapStands}
 
 -- what is black is there, and isn't white
 pub black_parts : (k : CycleHeap) (n : ℕ) → is_black k n ≡ true

@@ -1,13 +1,10 @@
 -- What is left of some objects, and of their tags, where those of some numbers go.
-use Rattle.std.proofs.Common.{◌≡◌, ℕ, zero, suc, ◌≤◌, true, false, refl, ap}
-use Rattle.std.proofs.Common.{arith, List, [], ◌∷◌, ◌++◌, take, drop, Some, None}
-use Rattle.std.proofs.lemmas.Bool.{false≢true}
-use Rattle.ref_clear.proofs.Common.{has, Object, object_at, is_there, numbers, IsRising, without, unmarked, first_in}
-use Rattle.ref_mark.specs.Chains.{is_tagged}
+use Rattle.ref_clear.proofs.Common.{◌≡◌, ℕ, zero, suc, ◌≤◌, true, false, refl, ap, arith, List, [], ◌∷◌, ◌++◌, take}
+use Rattle.ref_clear.proofs.Common.{drop, Some, None, false≢true, has, Object, object_at, is_there, numbers, IsRising}
+use Rattle.ref_clear.proofs.Common.{without, unmarked, first_in, is_tagged, Tag, cleared_in_at, without_tags}
+use Rattle.ref_objects.specs.Grounds.{link_at, without_tag}
 use Rattle.ref_mark.proofs.LinkLemmas.{link_at-gone, is_tagged-gone}
-use Rattle.ref_objects.specs.Grounds.{link_at, Tag, cleared_in_at, without_tag}
 use Rattle.ref_objects.proofs.TagLemmas.{cleared_in_at-without}
-use Rattle.ref_clear.specs.ClearHeaps.{without_tags}
 use Rattle.ref_base.proofs.HasLaws.{has-append}
 use Rattle.ref_base.proofs.NewClears.{is_there-rising}
 use Rattle.ref_objects.proofs.SparedLemmas.{has-unmarked}

@@ -1,23 +1,19 @@
 -- What the code of a hand answers and leaves.
-use Rattle.std.proofs.Common.{arith}
-use Rattle.std.proofs.Common.{◌≡◌, ℕ, ◌<◌, ◌==◌, true, refl, sym, ap, subst, ◌∙◌, List, [], ◌∷◌, set, get_or, Some}
-use Rattle.std.proofs.Common.{None, inl, inr}
-use Rattle.std.proofs.lemmas.Bool.{lt-ltb, or_right}
-use Rattle.ref_clear.proofs.Common.{has, Pending, pending_numbers, is_worker, hand_refusal, Cycle, Fault, mint_refusal}
-use Rattle.ref_clear.proofs.Common.{CycleHeap, mint_answer_in, after_mint_in, ground_of, pending_at, holding}
-use Rattle.ref_clear.proofs.Common.{handed_from, refusal_in, answer_of_hand}
-use Rattle.ref_clear.proofs.Common.{pending_lists_of, pendings_in, seen_lists, AreRegistered, AreSoundLists}
-use Rattle.ref_clear.proofs.Common.{pending_from}
-use Rattle.ref_clear.proofs.Common.{Object, rest_of}
-use Rattle.ref_base.specs.declared.heap_step.HeapStep.TheVariants as heap
-use Rattle.ref_base.specs.declared.reply.Reply.TheVariants as replies
-use Rattle.ref_base.proofs.HasLaws.{has-right}
-use Rattle.ref_clear.specs.ClearCalls.{HeapDoes}
+use Rattle.ref_clear.proofs.Common.{arith, ◌≡◌, ℕ, ◌<◌, ◌==◌, true, refl, sym, ap, subst, ◌∙◌, List, [], ◌∷◌, set}
+use Rattle.ref_clear.proofs.Common.{get_or, Some, None, inl, inr, or_right, has, Pending, pending_numbers, Cycle, Fault}
+use Rattle.ref_clear.proofs.Common.{mint_refusal, CycleHeap, mint_answer_in, after_mint_in, ground_of, pending_at}
+use Rattle.ref_clear.proofs.Common.{holding, handed_from, refusal_in, answer_of_hand, pending_lists_of, pendings_in}
+use Rattle.ref_clear.proofs.Common.{seen_lists, AreRegistered, AreSoundLists, pending_from, Object, rest_of, HeapDoes}
+use Rattle.ref_clear.proofs.Common.{Tag}
+use Rattle.std.proofs.lemmas.Bool.{lt-ltb}
+use Rattle.ref_base.specs.Refusals.{is_worker, hand_refusal}
 use Rattle.ref_clear.specs.ClearViews.{first_pending}
-use Rattle.ref_objects.specs.Grounds.{Tag}
+use Rattle.ref_base.proofs.HasLaws.{has-right}
 use Rattle.ref_clear.proofs.HandRows.{pending_numbers-rest}
 use Rattle.ref_clear.proofs.NoticeAnswers.{mint_of_pending, minted}
 use Rattle.ref_clear.proofs.PendingLists.{lists_of-set, stands_as_seen, has-replaced}
+use Rattle.ref_base.specs.declared.heap_step.HeapStep.TheVariants as heap
+use Rattle.ref_base.specs.declared.reply.Reply.TheVariants as replies
 
 abbrev pub rest_pending : List Pending → List Pending
 rest_pending [] = []

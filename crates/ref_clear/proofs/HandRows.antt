@@ -1,17 +1,12 @@
 -- The row of a hand: the first pending reference of a worker leaves its list, and there is one hold more of it.
-use Rattle.std.proofs.Common.{arith}
-use Rattle.std.proofs.Common.{◌≡◌, ℕ, zero, suc, true, ◌==◌, refl, sym, ap, subst, ◌∙◌, List, [], ◌∷◌, ◌++◌, map, None}
-use Rattle.std.proofs.Common.{inl, append_assoc}
-use Rattle.std.specs.Prelude.{slice_index_or, slice_set}
-use Rattle.std.proofs.lemmas.Bool.{eq-eqb}
-use Rattle.std.proofs.lemmas.List.{length-set}
+use Rattle.ref_clear.proofs.Common.{arith, ◌≡◌, ℕ, zero, suc, true, ◌==◌, refl, sym, ap, subst, ◌∙◌, List, [], ◌∷◌}
+use Rattle.ref_clear.proofs.Common.{◌++◌, map, None, inl, append_assoc, slice_index_or, slice_set, eq-eqb, length-set}
 use Rattle.ref_clear.proofs.Common.{has, AreDistinct, present, Heap, one_more, with_hold, World, Pending}
-use Rattle.ref_clear.proofs.Common.{pending_numbers, pending_of, handed_on, State, ticked, with_world, HandsOn}
-use Rattle.ref_clear.proofs.Common.{HeapAccepts, ClearHeap, pending_at, handed_from, refusal_in, answer_of_hand}
-use Rattle.ref_clear.proofs.Common.{HeapStands}
-use Rattle.ref_base.specs.Worlds.{with_pending}
-use Rattle.ref_base.specs.Replay.{without_pending}
-use Rattle.ref_base.specs.declared.heap_step.HeapStep.TheVariants as heap
+use Rattle.ref_clear.proofs.Common.{pending_numbers, State, ticked, with_world, HeapAccepts, ClearHeap, pending_at}
+use Rattle.ref_clear.proofs.Common.{handed_from, refusal_in, answer_of_hand, HeapStands}
+use Rattle.ref_base.specs.Worlds.{pending_of, with_pending}
+use Rattle.ref_base.specs.Replay.{handed_on, without_pending}
+use Rattle.ref_base.specs.CollectorRows.{HandsOn}
 use Rattle.ref_base.proofs.HasLaws.{has-first, has-left, has-right, has-cases}
 use Rattle.ref_base.proofs.RowForms.{ticked_world}
 use Rattle.ref_mark.proofs.Mutations.{Change, IsMutation}
@@ -20,6 +15,7 @@ use Rattle.ref_mark.proofs.MutationKinds.{rooted, rooted_mutation}
 use Rattle.ref_mark.proofs.RootFacts.{root_is_there, root_is_not_white}
 use Rattle.ref_mark.proofs.ReferenceRows.{unmutated_stands}
 use Rattle.ref_clear.proofs.PendingFacts.{root_before, pending_is_root}
+use Rattle.ref_base.specs.declared.heap_step.HeapStep.TheVariants as heap
 
 -- ---- lists of which one is without its first
 

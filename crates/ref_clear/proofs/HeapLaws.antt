@@ -1,23 +1,16 @@
 -- Each step of a heap is a row of the abstract collector, in every phase.
-use Rattle.std.proofs.Common.{arith}
-use Rattle.std.proofs.Common.{◌≡◌, ℕ, true, false, List, [], Option, Some, None, refl, sym, ap, subst, ◌∙◌}
-use Rattle.ref_clear.proofs.Common.{Heap, NamedStep, pending_numbers, State, joined, unless, is_in}
-use Rattle.ref_clear.proofs.Common.{is_empty, heap_refusal, HeapAccepts}
-use Rattle.ref_clear.proofs.Common.{IsHeapRow, Fault, WrongPhase, ClearingLeft}
-use Rattle.ref_clear.proofs.Common.{Clearing, Urgency, Reply, CycleHeap, cycle_begun, shaded_all}
-use Rattle.ref_clear.proofs.Common.{is_of_marking, unless_refused, MarkStands, ClearHeap, with_mark}
-use Rattle.ref_clear.proofs.Common.{begun_with, refusal_in}
-use Rattle.ref_clear.proofs.Common.{HeapStands}
-use Rattle.ref_base.specs.declared.heap_step.HeapStep.TheVariants as heap
-use Rattle.ref_base.specs.declared.plain_step.PlainStep.TheVariants as plain
-use Rattle.ref_base.specs.declared.reply.Reply.TheVariants as replies
+use Rattle.ref_clear.proofs.Common.{arith, ◌≡◌, ℕ, true, false, List, [], Option, Some, None, refl, sym, ap, subst, ◌∙◌}
+use Rattle.ref_clear.proofs.Common.{Heap, NamedStep, pending_numbers, State, joined, unless, is_in, is_empty}
+use Rattle.ref_clear.proofs.Common.{heap_refusal, HeapAccepts, IsHeapRow, Fault, WrongPhase, Clearing, Urgency, Reply}
+use Rattle.ref_clear.proofs.Common.{CycleHeap, cycle_begun, shaded_all, is_of_marking, unless_refused, MarkStands}
+use Rattle.ref_clear.proofs.Common.{ClearHeap, with_mark, begun_with, refusal_in, HeapStands, after_in}
+use Rattle.ref_base.specs.declared.fault.Fault.TheVariants.{ClearingLeft}
+use Rattle.ref_mark.specs.MarkCalls.{late_roots}
+use Rattle.ref_clear.specs.ClearCalls.{reply_or_fault, left}
+use Rattle.ref_clear.specs.ClearRows.{IsHeapRowOf}
 use Rattle.ref_base.proofs.HeapTurns.{row_number}
 use Rattle.ref_base.proofs.RowForms.{accepted_row, refused_row}
-use Rattle.ref_mark.specs.MarkCalls as marks
-use Rattle.ref_mark.specs.MarkCalls.{late_roots}
 use Rattle.ref_mark.proofs.MarkLaws.{each_step as each_marking_step, on_own_heap}
-use Rattle.ref_clear.specs.ClearCalls.{after_in, reply_or_fault, left}
-use Rattle.ref_clear.specs.ClearRows.{IsHeapRowOf}
 use Rattle.ref_clear.proofs.KeptRows.{row_keeps}
 use Rattle.ref_clear.proofs.KeptReferences.{after_stays, begun-heap}
 use Rattle.ref_clear.proofs.PendingFacts.{waiting_still}
@@ -26,6 +19,10 @@ use Rattle.ref_clear.proofs.HandRows.{hand_row}
 use Rattle.ref_clear.proofs.LookRows.{look_row}
 use Rattle.ref_clear.proofs.EndRows.{end_clear_row, end_sweep_row}
 use Rattle.ref_clear.proofs.SweepRows.{sweep_row}
+use Rattle.ref_base.specs.declared.heap_step.HeapStep.TheVariants as heap
+use Rattle.ref_base.specs.declared.plain_step.PlainStep.TheVariants as plain
+use Rattle.ref_base.specs.declared.reply.Reply.TheVariants as replies
+use Rattle.ref_mark.specs.MarkCalls as marks
 
 -- the heap that stands for a state has its configuration
 pub config_of : (k : CycleHeap) (a : State) → MarkStands k a → a.world.heap.config ≡ k.heap.config

@@ -1,13 +1,9 @@
 -- What is pending is seen as before where each reference keeps its queue and the cycle in which it was cleared.
-use Rattle.std.proofs.Common.{arith}
-use Rattle.std.proofs.Common.{◌≡◌, ℕ, true, List, [], ◌∷◌, refl, ap, subst, sym}
-use Rattle.std.specs.Option.{unwrap_or, IsSome}
-use Rattle.std.proofs.lemmas.Bool.{or_right}
-use Rattle.ref_clear.proofs.Common.{has, is_there, Object, reference_at, registered_in, Pending, joined, CycleHeap}
-use Rattle.ref_clear.proofs.Common.{shaded_all, with_mark, seen_lists, AreSoundLists, pending_in, pendings_in}
-use Rattle.ref_clear.proofs.Common.{pending_lists_of, AreRegistered}
+use Rattle.ref_clear.proofs.Common.{arith, ◌≡◌, ℕ, true, List, [], ◌∷◌, refl, ap, subst, sym, unwrap_or, IsSome}
+use Rattle.ref_clear.proofs.Common.{or_right, has, is_there, Object, reference_at, registered_in, Pending, joined}
+use Rattle.ref_clear.proofs.Common.{CycleHeap, shaded_all, with_mark, seen_lists, AreSoundLists, pending_in}
+use Rattle.ref_clear.proofs.Common.{pendings_in, pending_lists_of, AreRegistered, Tag, cleared_in_at}
 use Rattle.ref_base.proofs.HasLaws.{has-first, has-left, has-right}
-use Rattle.ref_objects.specs.Grounds.{Tag, cleared_in_at}
 use Rattle.ref_mark.proofs.KeptParts.{KeepsCycles, shaded_all-tags}
 use Rattle.ref_mark.proofs.LoopLemmas.{shaded_heap}
 use Rattle.ref_clear.proofs.KeptReferences.{KeepsReferences}

@@ -1,21 +1,19 @@
 -- No step of marking gives a cleared reference a referent, or changes the queue of one.
-use Rattle.std.proofs.Common.{arith}
-use Rattle.std.proofs.Common.{◌≡◌, ℕ, true, Option, Some, None, refl, ap, ◌∙◌, inl, inr, List, ◌∷◌, []}
-use Rattle.std.proofs.lemmas.Bool.{cases_Bool}
-use Rattle.ref_clear.proofs.Common.{Object, Reference, is_there, Heap, slot_at}
-use Rattle.ref_clear.proofs.Common.{reference_in, reference_at, changed_in, made, stored, got, cut, with_field}
-use Rattle.ref_clear.proofs.Common.{with_reference, changed_reference, cleared, got_at}
-use Rattle.ref_clear.proofs.Common.{registered_in, with_hold, targets_at, is_kept, NamedStep, is_in, referent_of}
-use Rattle.ref_clear.proofs.Common.{Fault, Marking, CycleHeap, shaded_all}
-use Rattle.ref_clear.proofs.Common.{with_cleared, cycle_begun, unless_refused}
-use Rattle.ref_base.specs.declared.heap_step.HeapStep.TheVariants as heap
-use Rattle.ref_base.specs.declared.plain_step.PlainStep.TheVariants as plain
+use Rattle.ref_clear.proofs.Common.{arith, ◌≡◌, ℕ, true, Option, Some, None, refl, ap, ◌∙◌, inl, inr, List, ◌∷◌, []}
+use Rattle.ref_clear.proofs.Common.{cases_Bool, Object, Reference, is_there, Heap, slot_at, reference_in, reference_at}
+use Rattle.ref_clear.proofs.Common.{changed_in, cut, with_reference, changed_reference, cleared, registered_in}
+use Rattle.ref_clear.proofs.Common.{with_hold, targets_at, is_kept, NamedStep, is_in, referent_of, Fault, Marking}
+use Rattle.ref_clear.proofs.Common.{CycleHeap, shaded_all, with_cleared, cycle_begun, unless_refused, barred, with_made}
+use Rattle.ref_clear.proofs.Common.{grey_scanned, done_in, after_in_cycle, refusal_in_cycle}
+use Rattle.ref_base.specs.Heaps.{made, stored, got, with_field, got_at}
+use Rattle.ref_mark.specs.CycleHeaps.{whitened, roots_of}
+use Rattle.ref_mark.specs.MarkCalls.{with_hold_of}
 use Rattle.ref_base.proofs.Lookups.{lookup-changed, object_at-push}
 use Rattle.ref_base.proofs.Reshaping.{queue-cleared}
-use Rattle.ref_mark.specs.CycleHeaps.{barred, with_made, whitened, grey_scanned, roots_of}
-use Rattle.ref_mark.specs.MarkCalls.{done_in, after_in_cycle, refusal_in_cycle, with_hold_of}
 use Rattle.ref_mark.proofs.LoopLemmas.{shaded_heap}
 use Rattle.ref_mark.proofs.Scanning.{with_found-only}
+use Rattle.ref_base.specs.declared.heap_step.HeapStep.TheVariants as heap
+use Rattle.ref_base.specs.declared.plain_step.PlainStep.TheVariants as plain
 
 -- a reference gets no referent where it had none, and its queue is the same
 abbrev pub IsKeptAs : Option Reference → Option Reference → Type 0

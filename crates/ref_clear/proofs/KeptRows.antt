@@ -1,16 +1,13 @@
 -- What steps don't change: no step the configuration, one of marking not the pending references, and one in a sweep
 -- that isn't one of its own not the doomed.
-use Rattle.std.proofs.Common.{arith}
-use Rattle.std.proofs.Common.{◌≡◌, Bool, true, false, Option, Some, None, refl, sym, ap, subst, ◌∙◌}
-use Rattle.std.proofs.lemmas.Bool.{false≢true}
-use Rattle.ref_clear.proofs.Common.{World, NamedStep, State, is_in, heap_refusal, HeapAccepts, IsHeapRow, Fault}
-use Rattle.ref_clear.proofs.Common.{Sweeping, Reply, is_of_marking}
+use Rattle.ref_clear.proofs.Common.{arith, ◌≡◌, Bool, true, false, Option, Some, None, refl, sym, ap, subst, ◌∙◌}
+use Rattle.ref_clear.proofs.Common.{false≢true, World, NamedStep, State, is_in, heap_refusal, HeapAccepts, IsHeapRow}
+use Rattle.ref_clear.proofs.Common.{Fault, Sweeping, Reply, is_of_marking, Clearing}
 use Rattle.ref_base.specs.CollectorRows.{IsHeapAnswer}
+use Rattle.ref_base.specs.declared.phase.Phase.{Phase}
+use Rattle.ref_base.proofs.RowChanges.{pending_after, heap_tells}
 use Rattle.ref_base.specs.declared.heap_step.HeapStep.TheVariants as heap
 use Rattle.ref_base.specs.declared.plain_step.PlainStep.TheVariants as plain
-use Rattle.ref_base.specs.declared.phase.Phase.{Phase}
-use Rattle.ref_base.specs.declared.phase.Phase.TheVariants.{Clearing}
-use Rattle.ref_base.proofs.RowChanges.{pending_after, heap_tells}
 
 -- ---- the steps of marking
 

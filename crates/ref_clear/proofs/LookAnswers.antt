@@ -1,32 +1,27 @@
 -- What a look at a found reference leaves of a heap with lists.
-use Rattle.std.proofs.Common.{◌≡◌, ℕ, ◌<◌, true, false, refl, sym, ap, subst, ◌∙◌, arith, List, [], ◌∷◌}
-use Rattle.std.proofs.Common.{◌++◌, length, map, get_or, set, Option, Some, None, inl, inr, ◌==◌}
-use Rattle.std.proofs.lemmas.List.{set-get_or, map-append}
-use Rattle.std.specs.Option.{unwrap_or, IsSome}
-use Rattle.ref_clear.proofs.Common.{is_there, reference_at, registered_in, Pending}
-use Rattle.ref_clear.proofs.Common.{list_at, work_refusal, Clearing, CycleHeap, is_doomed, with_found_taken}
-use Rattle.ref_clear.proofs.Common.{first_in, rest_of, ClearHeap, with_mark, pending_at}
-use Rattle.ref_clear.proofs.Common.{is_to_clear, cut_at, heap_pended, looked_from, after_in, seen_lists}
-use Rattle.ref_clear.proofs.Common.{AreSoundLists, AreRegistered, has, joined, numbers, with_reference}
-use Rattle.ref_clear.proofs.Common.{cleared, pending_in, pendings_in}
-use Rattle.ref_base.specs.declared.heap_step.HeapStep.TheVariants as heap
-use Rattle.ref_base.specs.declared.plain_step.PlainStep.TheVariants as plain
-use Rattle.ref_objects.specs.Grounds.{cleared_in_at}
+use Rattle.ref_clear.proofs.Common.{◌≡◌, ℕ, ◌<◌, true, false, refl, sym, ap, subst, ◌∙◌, arith, List, [], ◌∷◌, ◌++◌}
+use Rattle.ref_clear.proofs.Common.{length, map, get_or, set, Option, Some, None, inl, inr, ◌==◌, map-append, unwrap_or}
+use Rattle.ref_clear.proofs.Common.{IsSome, is_there, reference_at, registered_in, Pending, list_at, work_refusal}
+use Rattle.ref_clear.proofs.Common.{Clearing, CycleHeap, is_doomed, with_found_taken, first_in, rest_of, ClearHeap}
+use Rattle.ref_clear.proofs.Common.{with_mark, pending_at, is_to_clear, cut_at, heap_pended, looked_from, after_in}
+use Rattle.ref_clear.proofs.Common.{seen_lists, AreSoundLists, AreRegistered, has, joined, numbers, with_reference}
+use Rattle.ref_clear.proofs.Common.{cleared, pending_in, pendings_in, cleared_in_at, linked_last_of}
+use Rattle.std.proofs.lemmas.List.{set-get_or}
+use Rattle.ref_clear.specs.ClearHeaps.{heap_looked_at}
 use Rattle.ref_objects.proofs.TagLemmas.{cleared_in_at-other, cleared_in_at-own}
 use Rattle.ref_base.proofs.HasLaws.{has-cases, has-single}
 use Rattle.ref_base.proofs.StoreLaws.{is_there-has}
 use Rattle.ref_mark.proofs.Mutations.{referring_is_there}
-use Rattle.ref_clear.specs.ClearHeaps.{heap_looked_at}
-use Rattle.ref_clear.proofs.Common.{linked_last_of}
 use Rattle.ref_clear.proofs.TakenLists.{numbers_in}
 use Rattle.ref_clear.proofs.KeptPending.{AreKept, waits_there, seen_kept, registered_kept, lists_kept, told_same}
 use Rattle.ref_clear.proofs.KeptPending.{pendings_in-same}
 use Rattle.ref_clear.proofs.KeptReferences.{stays-changed, cleared-kept}
 use Rattle.ref_clear.proofs.PendingLists.{length-lists_of, lists_of-set, pending_at-seen, pending_numbers-seen}
-use Rattle.ref_clear.proofs.PendingLists.{has-list, has-replaced}
-use Rattle.ref_clear.proofs.PendingLists.{numbers_in-pendings}
+use Rattle.ref_clear.proofs.PendingLists.{has-list, has-replaced, numbers_in-pendings}
 use Rattle.ref_mark.proofs.KeptParts.{linked-cycles}
 use Rattle.ref_clear.proofs.SoundHeaps.{sound_after}
+use Rattle.ref_base.specs.declared.heap_step.HeapStep.TheVariants as heap
+use Rattle.ref_base.specs.declared.plain_step.PlainStep.TheVariants as plain
 
 -- ---- the first of a list
 

@@ -1,41 +1,38 @@
 -- The row in which a worker looks at the first reference that it found, and clears it where its referent is doomed.
-use Rattle.std.proofs.Common.{◌≡◌, ℕ, ◌<◌, true, false, if◌then◌else◌, refl, sym, ap, subst, ◌∙◌, arith, List, [], ◌∷◌}
-use Rattle.std.proofs.Common.{length, Some, None, is_some, ◌⊎◌, inl, inr}
-use Rattle.std.specs.Prelude.{slice_set}
-use Rattle.std.proofs.lemmas.Bool.{or_left}
-use Rattle.ref_clear.proofs.Common.{has, Object, object_at, present, refers_into, Heap, reference_in, reference_at}
-use Rattle.ref_clear.proofs.Common.{registered_in, with_changed, changed_reference, with_reference, cleared}
-use Rattle.ref_clear.proofs.Common.{pending_numbers, State, joined, is_in, HeapAccepts, ClearsNext, list_at}
-use Rattle.ref_clear.proofs.Common.{reference_of, referent_of, Clearing, Sweeping, CycleHeap, is_white}
-use Rattle.ref_clear.proofs.Common.{is_past_mark, is_doomed, doomed, with_found_taken, rest_of, unsaid, shown_heap}
-use Rattle.ref_clear.proofs.Common.{ClearHeap, pending_at, is_to_clear, cut_at, looked_from, refusal_in}
-use Rattle.ref_clear.proofs.Common.{answer_of_look, HeapStands}
+use Rattle.ref_clear.proofs.Common.{◌≡◌, ℕ, ◌<◌, true, false, refl, sym, ap, subst, ◌∙◌, arith, List, [], ◌∷◌, length}
+use Rattle.ref_clear.proofs.Common.{Some, None, is_some, ◌⊎◌, inl, inr, slice_set, or_left, has, Object, object_at}
+use Rattle.ref_clear.proofs.Common.{present, refers_into, Heap, reference_in, reference_at, registered_in, with_changed}
+use Rattle.ref_clear.proofs.Common.{changed_reference, with_reference, cleared, pending_numbers, State, joined, is_in}
+use Rattle.ref_clear.proofs.Common.{HeapAccepts, list_at, reference_of, referent_of, Clearing, Sweeping, CycleHeap}
+use Rattle.ref_clear.proofs.Common.{is_white, is_past_mark, is_doomed, doomed, with_found_taken, rest_of, unsaid}
+use Rattle.ref_clear.proofs.Common.{shown_heap, ClearHeap, pending_at, is_to_clear, cut_at, looked_from, refusal_in}
+use Rattle.ref_clear.proofs.Common.{HeapStands}
+use Rattle.std.proofs.Common.{if◌then◌else◌}
+use Rattle.ref_base.specs.CollectorRows.{ClearsNext, looked_at as state_answer, looked as state_looked}
+use Rattle.ref_clear.specs.ClearCalls.{answer_of_look}
 use Rattle.ref_base.specs.Replay.{pended as world_pended}
 use Rattle.ref_objects.specs.Grounds.{with_cleared_tag}
-use Rattle.ref_base.specs.CollectorRows.{looked_at as state_answer, looked as state_looked}
-use Rattle.ref_base.specs.declared.heap_step.HeapStep.TheVariants as heap
-use Rattle.ref_base.specs.declared.plain_step.PlainStep.TheVariants as plain
-use Rattle.ref_base.specs.declared.reply.Reply.TheVariants as replies
 use Rattle.ref_base.proofs.Forgetting.{reference_of-but}
 use Rattle.ref_base.proofs.Lookups.{lookup-changed}
 use Rattle.ref_base.proofs.NewClears.{refers_into-same}
 use Rattle.ref_base.proofs.Reshaping.{queue-cleared}
 use Rattle.ref_base.proofs.ShownObjects.{shown_reference, shown-cleared}
 use Rattle.ref_mark.proofs.DoomedLists.{has-doomed}
-use Rattle.ref_mark.proofs.Passed.{work_passed}
+use Rattle.ref_mark.proofs.Passed.{work_passed, is_clearing}
 use Rattle.ref_mark.proofs.ShownHeaps.{shown_heap-changed_in, cut-shown}
 use Rattle.ref_mark.proofs.ShownReads.{reference_of-shown}
-use Rattle.ref_mark.proofs.Passed.{is_clearing}
 use Rattle.ref_clear.proofs.FoundFacts.{black_parts}
 use Rattle.ref_mark.proofs.MarkerLemmas.{past_refers}
 use Rattle.ref_clear.proofs.PendingRoom.{cleared_refers_to_none, to_clear_is_not_pending}
 use Rattle.ref_clear.proofs.TakenLists.{numbers_in, pended_tags, pended_lists, length-pended, has-pended}
-use Rattle.ref_clear.proofs.TakenLists.{AreDistinct-pended}
-use Rattle.ref_clear.proofs.TakenLists.{world-pended, heap-pended}
+use Rattle.ref_clear.proofs.TakenLists.{AreDistinct-pended, world-pended, heap-pended}
 use Rattle.ref_mark.proofs.DistinctLists.{has-first_taken}
-use Rattle.ref_clear.proofs.LookedHeaps.{changed_here, changed_to_itself, leads-cleared}
+use Rattle.ref_clear.proofs.LookedHeaps.{changed_here, changed_to_itself, leads-cleared, MayLook, looked_heap}
+use Rattle.ref_clear.proofs.LookedHeaps.{state_with, looked_stands}
 use Rattle.ref_clear.proofs.KeptReferences.{cleared-none}
-use Rattle.ref_clear.proofs.LookedHeaps.{MayLook, looked_heap, state_with, looked_stands}
+use Rattle.ref_base.specs.declared.heap_step.HeapStep.TheVariants as heap
+use Rattle.ref_base.specs.declared.plain_step.PlainStep.TheVariants as plain
+use Rattle.ref_base.specs.declared.reply.Reply.TheVariants as replies
 
 module _ (c : ClearHeap) (a : State) (w n : ℕ) (rest : List ℕ) (stands : HeapStands c a) (within : w < length c.pending)
     (clearing : is_in c.mark.phase Clearing ≡ true) (is : list_at c.mark.found w ≡ n ∷ rest) where

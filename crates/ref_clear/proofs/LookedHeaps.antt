@@ -1,22 +1,18 @@
 -- The heap that a look at a found reference leaves, and that it stands for what the row of the collector leaves.
-use Rattle.std.proofs.Common.{arith}
-use Rattle.std.proofs.Common.{◌≡◌, ℕ, true, false, ◌==◌, refl, sym, ap, subst, ◌∙◌, List, [], ◌∷◌, ◌++◌, Option, Some}
-use Rattle.std.proofs.Common.{None, is_some, ◌⊎◌, inl, inr}
-use Rattle.std.specs.Prelude.{slice_set}
-use Rattle.std.proofs.lemmas.Bool.{cases_Bool, or_cases, or_left, or_right, eqb-true, false≢true, true≢false}
-use Rattle.std.proofs.lemmas.List.{length-set}
-use Rattle.ref_clear.proofs.Common.{has, Object, Reference, object_at, is_there, Allowed, allowed_referent}
-use Rattle.ref_clear.proofs.Common.{targets_of, targets_at, soft_and_weak_referents, IsRising, is_kept, refers_into}
-use Rattle.ref_clear.proofs.Common.{reference_in, reference_at, with_changed, changed_reference, cleared, Pending}
-use Rattle.ref_clear.proofs.Common.{graph_of, pending_numbers, State, joined, is_in, list_at, Marking, Clearing}
-use Rattle.ref_clear.proofs.Common.{Sweeping, CycleHeap, is_white, is_black, is_past_mark, doomed, MarkStands}
-use Rattle.ref_clear.proofs.Common.{shown_heap}
+use Rattle.ref_clear.proofs.Common.{arith, ◌≡◌, ℕ, true, false, ◌==◌, refl, sym, ap, subst, ◌∙◌, List, [], ◌∷◌, ◌++◌}
+use Rattle.ref_clear.proofs.Common.{Option, Some, None, is_some, ◌⊎◌, inl, inr, slice_set, cases_Bool, or_cases}
+use Rattle.ref_clear.proofs.Common.{or_left, or_right, eqb-true, false≢true, true≢false, length-set, has, Object}
+use Rattle.ref_clear.proofs.Common.{Reference, object_at, is_there, Allowed, targets_of, targets_at}
+use Rattle.ref_clear.proofs.Common.{soft_and_weak_referents, IsRising, is_kept, refers_into, reference_in, reference_at}
+use Rattle.ref_clear.proofs.Common.{with_changed, changed_reference, cleared, Pending, graph_of, pending_numbers, State}
+use Rattle.ref_clear.proofs.Common.{joined, is_in, list_at, Marking, Clearing, Sweeping, CycleHeap, is_white, is_black}
+use Rattle.ref_clear.proofs.Common.{is_past_mark, doomed, MarkStands, shown_heap, Tag}
+use Rattle.ref_base.specs.Paths.{allowed_referent}
 use Rattle.ref_base.specs.Heaps.{changed_at}
+use Rattle.ref_mark.specs.Standing.{InClearing}
 use Rattle.ref_base.proofs.HasLaws.{has-left, has-cases}
 use Rattle.ref_base.proofs.Lookups.{lookup-changed, numbers-changed}
 use Rattle.ref_base.proofs.NewClears.{refers_into-same}
-use Rattle.ref_objects.specs.Grounds.{Tag}
-use Rattle.ref_mark.specs.Standing.{InClearing}
 use Rattle.ref_mark.proofs.Agreeing.{agrees_next, unsaid_same}
 use Rattle.ref_mark.proofs.DoomedLists.{doomed-changed, past_is_in_cycle}
 use Rattle.ref_mark.proofs.Passed.{is_clearing}

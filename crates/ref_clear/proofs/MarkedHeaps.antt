@@ -1,9 +1,7 @@
 -- A step of marking leaves what is pending, and what holds of a heap.
-use Rattle.std.proofs.Common.{◌≡◌, ℕ, true, List, sym, ap, subst, ◌∙◌}
-use Rattle.ref_clear.proofs.Common.{NamedStep, joined, pending_numbers, CycleHeap, shaded_all, ClearHeap, with_mark}
-use Rattle.ref_clear.proofs.Common.{Reply, after_in, answer_in, seen_lists, AreSoundLists}
-use Rattle.ref_mark.specs.MarkCalls.{MarkerDoes, answer_in_cycle, after_in_cycle}
-use Rattle.ref_clear.specs.ClearCalls.{HeapDoes}
+use Rattle.ref_clear.proofs.Common.{◌≡◌, ℕ, true, List, sym, ap, subst, ◌∙◌, NamedStep, joined, pending_numbers}
+use Rattle.ref_clear.proofs.Common.{CycleHeap, shaded_all, ClearHeap, with_mark, Reply, after_in, answer_in, seen_lists}
+use Rattle.ref_clear.proofs.Common.{AreSoundLists, MarkerDoes, answer_in_cycle, after_in_cycle, HeapDoes}
 use Rattle.ref_mark.proofs.KeptParts.{cycles_after}
 use Rattle.ref_clear.proofs.KeptRows.{goes_on_sweeping}
 use Rattle.ref_clear.proofs.KeptReferences.{after_stays}

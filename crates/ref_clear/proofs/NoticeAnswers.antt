@@ -1,27 +1,14 @@
 -- What the code of holds and notices asks: when a hold is minted, and that a cut may come behind a hold.
-use Rattle.std.proofs.Common.{arith}
-use Rattle.std.proofs.Common.{◌≡◌, ℕ, true, refl, ap, Option, Some, None}
-use Rattle.ref_clear.proofs.Common.{has, unless}
-use Rattle.ref_objects.specs.Grounds.{is_spared}
-use Rattle.ref_clear.proofs.Common.{pending_numbers, holds_refusal, State, Fault}
-use Rattle.ref_clear.proofs.Common.{mint_refusal, CycleHeap, with_cleared, unless_refused, mint_answer_in}
+use Rattle.ref_clear.proofs.Common.{arith, ◌≡◌, ℕ, true, refl, Option, Some, None, has, pending_numbers, holds_refusal}
+use Rattle.ref_clear.proofs.Common.{State, Fault, mint_refusal, CycleHeap, with_cleared, unless_refused, mint_answer_in}
 use Rattle.ref_clear.proofs.Common.{after_mint_in, ground_of, ClearHeap, holding, HeapStands}
-use Rattle.ref_base.specs.declared.fault.Fault.TheVariants.{NoSuchObject}
-use Rattle.ref_base.specs.declared.reply.Reply.TheVariants as replies
 use Rattle.ref_clear.proofs.PendingFacts.{pending_is_there, pending_is_not_doomed}
-
--- of what is spared only the count of holds may refuse one more
-pub mint_of_spared : (k : CycleHeap) (n : ℕ) → is_spared (ground_of k) n ≡ true
-    → mint_refusal (ground_of k) n ≡ holds_refusal k.heap
-mint_of_spared k n spared = ap (λ b. unless b NoSuchObject (holds_refusal k.heap)) spared
+use Rattle.ref_base.specs.declared.reply.Reply.TheVariants as replies
 
 -- what is pending is there, so only the count of holds may refuse a hold of it
 pub mint_of_pending : (c : ClearHeap) (a : State) (n : ℕ) → HeapStands c a → has (pending_numbers c.pending) n ≡ true
     → mint_refusal (ground_of c.mark) n ≡ holds_refusal c.mark.heap
-mint_of_pending c a n stands waits =
-    let there = pending_is_there c a n stands waits in
-    let stays = pending_is_not_doomed c a n stands waits in
-    mint_of_spared c.mark n (grind arith)
+mint_of_pending c a n stands waits = grind (arith, pending_is_there, pending_is_not_doomed)
 
 -- and so may a clear
 pub clear_holding : (k : CycleHeap) (m s n : ℕ) → with_cleared (holding k n) m s ≡ holding (with_cleared k m s) n

@@ -1,26 +1,22 @@
 -- The chains of pending references stay as they are where the links in them do, and what is found isn't pending.
-use Rattle.std.proofs.Common.{◌≡◌, ℕ, true, false, ◌==◌, refl, sym, ap, subst, ◌∙◌, arith, List, []}
-use Rattle.std.proofs.Common.{◌∷◌, ◌++◌, zero, suc, Option, Some, None, inl, inr, ◌⊎◌}
-use Rattle.std.specs.Prelude.{slice_set}
-use Rattle.std.proofs.lemmas.Bool.{cases_Bool, or_right, true≢false}
-use Rattle.std.proofs.lemmas.Bool.{false_from_ne_true}
-use Rattle.ref_clear.proofs.Common.{has, referent_of, reference_at, refers_into, joined, list_at, is_empty}
-use Rattle.ref_clear.proofs.Common.{Object, NamedStep, Fault, CycleHeap, is_white, shaded_all, with_cleared}
-use Rattle.ref_clear.proofs.Common.{unless_refused, linked_last_of, Chain, lists_in, seen_heap, seen_lists}
-use Rattle.ref_clear.proofs.Common.{AreSoundLists, IsSoundHeap, is_kept, targets_at}
-use Rattle.ref_objects.specs.Grounds.{Tag}
-use Rattle.ref_base.specs.declared.heap_step.HeapStep.TheVariants as heap
-use Rattle.ref_base.specs.declared.plain_step.PlainStep.TheVariants as plain
-use Rattle.ref_base.specs.declared.urgency.Urgency.{Urgency}
+use Rattle.ref_clear.proofs.Common.{◌≡◌, ℕ, true, false, ◌==◌, refl, sym, ap, subst, ◌∙◌, arith, List, [], ◌∷◌, ◌++◌}
+use Rattle.ref_clear.proofs.Common.{zero, suc, Option, Some, None, inl, inr, ◌⊎◌, slice_set, cases_Bool, or_right}
+use Rattle.ref_clear.proofs.Common.{true≢false, false_from_ne_true, has, referent_of, reference_at, refers_into, joined}
+use Rattle.ref_clear.proofs.Common.{list_at, is_empty, Object, NamedStep, Fault, CycleHeap, is_white, shaded_all}
+use Rattle.ref_clear.proofs.Common.{with_cleared, unless_refused, linked_last_of, Chain, lists_in, seen_heap}
+use Rattle.ref_clear.proofs.Common.{seen_lists, AreSoundLists, IsSoundHeap, is_kept, targets_at, Tag, Urgency}
+use Rattle.ref_clear.proofs.Common.{with_made, grey_scanned, cycle_begun, barred, done_in, after_in_cycle}
+use Rattle.ref_clear.proofs.Common.{refusal_in_cycle}
+use Rattle.ref_mark.specs.Chains.{last_of}
+use Rattle.ref_mark.specs.CycleHeaps.{with_found}
 use Rattle.ref_base.proofs.HasLaws.{has-left, has-right, has-cases, has-single, has-first}
 use Rattle.ref_base.proofs.FoundLists.{with_last, joined-emptied}
-use Rattle.ref_mark.specs.Chains.{last_of}
-use Rattle.ref_mark.specs.CycleHeaps.{with_made, with_found, grey_scanned, cycle_begun, barred}
-use Rattle.ref_mark.specs.MarkCalls.{done_in, after_in_cycle, refusal_in_cycle}
 use Rattle.ref_mark.proofs.ChainLemmas.{IsSame, lists-same, same_new, same_written}
 use Rattle.ref_mark.proofs.KeptParts.{cleared-tags}
 use Rattle.ref_mark.proofs.Shading.{shaded_all-only}
 use Rattle.ref_clear.proofs.PendingRoom.{cleared_refers_to_none}
+use Rattle.ref_base.specs.declared.heap_step.HeapStep.TheVariants as heap
+use Rattle.ref_base.specs.declared.plain_step.PlainStep.TheVariants as plain
 
 -- ---- the chains stay
 

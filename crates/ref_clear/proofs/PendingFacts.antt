@@ -1,9 +1,7 @@
 -- What is pending is there, is reached, and stays cleared.
-use Rattle.std.proofs.Common.{arith}
-use Rattle.std.proofs.Common.{◌≡◌, ℕ, true, false, List, ◌++◌}
-use Rattle.ref_clear.proofs.Common.{has, is_there, present, one_more, pending_numbers, State, CycleHeap}
-use Rattle.ref_clear.proofs.Common.{is_white, is_in_cycle, is_doomed, ClearHeap, HeapStands}
-use Rattle.ref_clear.proofs.Common.{ArePending}
+use Rattle.ref_clear.proofs.Common.{arith, ◌≡◌, ℕ, true, false, List, ◌++◌, has, is_there, present, one_more}
+use Rattle.ref_clear.proofs.Common.{pending_numbers, State, CycleHeap, is_white, is_in_cycle, is_doomed, ClearHeap}
+use Rattle.ref_clear.proofs.Common.{HeapStands, ArePending}
 use Rattle.ref_base.proofs.OneMore.{has-one_more}
 use Rattle.ref_mark.proofs.RootFacts.{slot_root, hold_root, pending_root, root_cases, root_is_there, root_is_not_white}
 use Rattle.ref_clear.proofs.KeptReferences.{KeepsReferences}

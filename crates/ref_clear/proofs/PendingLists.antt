@@ -1,16 +1,12 @@
 -- The lists of pending references as they are seen: one of them is read, or replaced.
-use Rattle.std.proofs.Common.{◌≡◌, ℕ, ◌<◌, ◌==◌, refl, sym, ap, subst, ◌∙◌, arith, zero, suc, true, List}
-use Rattle.std.proofs.Common.{[], ◌∷◌, length, map, get_or, set, Option, Some, None, ◌⊎◌, inr}
-use Rattle.std.proofs.lemmas.Bool.{or_left, or_right, eq-eqb}
-use Rattle.std.proofs.lemmas.List.{length-map, map-set, get_or_read}
-use Rattle.std.proofs.Math.ListN.{get_or-map}
-use Rattle.std.specs.Option.{option_map, IsSome}
-use Rattle.ref_clear.proofs.Common.{has, Object, reference_at, registered_in, Pending, pending_numbers, joined, Config}
-use Rattle.ref_clear.proofs.Common.{CycleHeap, ClearHeap, pending_at, pending_in, pendings_in, pending_lists_of}
-use Rattle.ref_clear.proofs.Common.{seen_lists, pending_from, AreSoundLists}
-use Rattle.ref_objects.specs.Grounds.{Tag}
+use Rattle.ref_clear.proofs.Common.{◌≡◌, ℕ, ◌<◌, ◌==◌, refl, sym, ap, subst, ◌∙◌, arith, zero, suc, true, List, [], ◌∷◌}
+use Rattle.ref_clear.proofs.Common.{length, map, get_or, set, Option, Some, None, ◌⊎◌, inr, or_left, or_right, eq-eqb}
+use Rattle.ref_clear.proofs.Common.{length-map, map-set, get_or-map, option_map, IsSome, has, Object, reference_at}
+use Rattle.ref_clear.proofs.Common.{registered_in, Pending, pending_numbers, joined, Config, CycleHeap, ClearHeap}
+use Rattle.ref_clear.proofs.Common.{pending_at, pending_in, pendings_in, pending_lists_of, seen_lists, pending_from}
+use Rattle.ref_clear.proofs.Common.{AreSoundLists, Tag, listed_at}
+use Rattle.std.proofs.lemmas.List.{get_or_read}
 use Rattle.ref_base.proofs.HasLaws.{has-left, has-right, has-cases}
-use Rattle.ref_mark.specs.Worklists.{listed_at}
 use Rattle.ref_clear.proofs.TakenLists.{numbers_in}
 
 -- ---- what is told of numbers

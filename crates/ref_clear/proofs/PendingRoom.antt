@@ -1,9 +1,8 @@
 -- What has no referent refers to nothing, so that no reference to the doomed is pending.
-use Rattle.std.proofs.Common.{◌≡◌, ℕ, Bool, true, false, refl, ap, arith}
-use Rattle.std.proofs.Common.{Option, Some, None}
-use Rattle.ref_clear.proofs.Common.{has, Reference, any_is, refers_into}
-use Rattle.ref_clear.proofs.Common.{pending_numbers, State, referent_of, ClearHeap}
-use Rattle.ref_clear.proofs.Common.{is_to_clear, HeapStands}
+use Rattle.ref_clear.proofs.Common.{◌≡◌, ℕ, Bool, true, false, refl, ap, arith, Option, Some, None, has, Reference}
+use Rattle.ref_clear.proofs.Common.{refers_into, pending_numbers, State, referent_of, ClearHeap, is_to_clear}
+use Rattle.ref_clear.proofs.Common.{HeapStands}
+use Rattle.ref_base.specs.DoomedSets.{any_is}
 
 -- what has no referent refers to nothing
 pub cleared_refers_to_none : (test : ℕ → Bool) (r : Option Reference) → referent_of r ≡ None

@@ -1,9 +1,10 @@
 -- As a cycle begins the pending references become grey, worker by worker in list order.
-use Rattle.std.proofs.Common.{◌≡◌, ℕ, ◌+◌, ◌<◌, ◌≤◌, ◌==◌, true, false, zero, suc, List, [], ◌∷◌, ◌++◌, length, take}
-use Rattle.std.proofs.Common.{get_or, sym, ap, ◌∙◌, arith}
-use Rattle.std.proofs.lemmas.List.{append-nil, append_assoc, take_all, get_or_default}
-use Rattle.ref_clear.proofs.Common.{joined, CycleHeap, shaded, shaded_all, Chain, listed, lists_in, walk}
-use Rattle.ref_mark.specs.Chains.{next_of}
+use Rattle.ref_clear.proofs.Common.{◌≡◌, ℕ, ◌+◌, ◌<◌, ◌≤◌, ◌==◌, true, false, zero, suc, List, [], ◌∷◌, ◌++◌, length}
+use Rattle.ref_clear.proofs.Common.{take, get_or, sym, ap, ◌∙◌, arith, append_assoc, take_all, get_or_default, joined}
+use Rattle.ref_clear.proofs.Common.{CycleHeap, shaded_all, Chain, listed, lists_in}
+use Rattle.std.proofs.lemmas.List.{append-nil}
+use Rattle.ref_mark.specs.CycleHeaps.{shaded}
+use Rattle.ref_mark.specs.Chains.{walk, next_of}
 use Rattle.ref_mark.proofs.ChainLemmas.{walk-none, list_at-lists_of}
 use Rattle.ref_mark.proofs.KeptParts.{shaded_all-tags}
 use Rattle.ref_mark.proofs.LoopLemmas.{shaded_heap, shaded_once-heap}

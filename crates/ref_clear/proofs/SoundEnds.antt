@@ -1,19 +1,14 @@
 -- What holds of a heap goes on holding as its clearing ends, by a sweep, and as the sweep ends.
-use Rattle.std.proofs.Common.{◌≡◌, ℕ, Bool, true, false, not, refl, sym, ap, subst, ◌∙◌, arith, List, None, take}
+use Rattle.ref_clear.proofs.Common.{◌≡◌, ℕ, Bool, true, false, not, refl, sym, ap, subst, ◌∙◌, arith, List, None, take}
+use Rattle.ref_clear.proofs.Common.{joined, unless, is_in, is_empty, work_refusal, Fault, WrongPhase, Idle, Clearing}
+use Rattle.ref_clear.proofs.Common.{Sweeping, CycleHeap, doomed, cycle_in_phase, unless_refused, ClearHeap, with_mark}
+use Rattle.ref_clear.proofs.Common.{swept_some, refusal_in, has, reference_in, registered_in, after_in, AreRegistered}
+use Rattle.ref_clear.proofs.Common.{HeapStands, seen_lists, AreSoundLists, MaySweep, forgotten, Object, unmarked}
+use Rattle.ref_clear.proofs.Common.{sweep_begun}
 use Rattle.std.proofs.lemmas.Bool.{not-false}
-use Rattle.ref_clear.proofs.Common.{joined, unless, is_in, is_empty, work_refusal, Fault, WrongPhase, ClearingLeft}
-use Rattle.ref_clear.proofs.Common.{SweepLeft, Idle, Clearing, Sweeping, CycleHeap, doomed, cycle_in_phase}
-use Rattle.ref_clear.proofs.Common.{unless_refused, ClearHeap, with_mark, swept_some, refusal_in, has}
-use Rattle.ref_clear.proofs.Common.{reference_in, registered_in, after_in, AreRegistered, HeapStands, seen_lists}
-use Rattle.ref_clear.proofs.Common.{AreSoundLists, MaySweep}
-use Rattle.ref_base.specs.declared.heap_step.HeapStep.TheVariants as heap
-use Rattle.ref_base.specs.declared.plain_step.PlainStep.TheVariants as plain
-use Rattle.ref_base.specs.Forgetting.{forgotten}
-use Rattle.ref_base.specs.Graphs.{Object}
+use Rattle.ref_base.specs.declared.fault.Fault.TheVariants.{SweepLeft}
 use Rattle.ref_base.proofs.Forgetting.{forgotten-shape}
 use Rattle.ref_base.proofs.Reshaping.{at-reshaped}
-use Rattle.ref_objects.specs.Grounds.{unmarked}
-use Rattle.ref_mark.specs.CycleHeaps.{sweep_begun}
 use Rattle.ref_mark.proofs.Passed.{work_passed}
 use Rattle.ref_clear.proofs.EndRows.{end_clear_row}
 use Rattle.ref_clear.proofs.SweepRows.{sweep_row, may_sweep}
@@ -24,6 +19,8 @@ use Rattle.ref_clear.proofs.PendingLists.{pending_numbers-seen}
 use Rattle.ref_clear.proofs.GoneObjects.{has-take, object_at-left, cleared_in_at-left, link_at-left, is_tagged-left}
 use Rattle.ref_mark.proofs.ChainLemmas.{IsSame}
 use Rattle.ref_clear.proofs.KeptPending.{AreKept, seen_kept, registered_kept}
+use Rattle.ref_base.specs.declared.heap_step.HeapStep.TheVariants as heap
+use Rattle.ref_base.specs.declared.plain_step.PlainStep.TheVariants as plain
 
 -- where both tests hold nothing is refused
 both_hold : (first second : Bool) (early late : Fault) → first ≡ true → second ≡ true
@@ -33,15 +30,14 @@ both_hold first second early late holds too = simp (holds, too) refl
 -- clearing may end where nothing found is left
 pub may_end_clear : (k : CycleHeap) (lists : List (List ℕ)) → is_in k.phase Clearing ≡ true
     → not (is_empty (joined k.found)) ≡ false → refusal_in (seen_lists k lists) (heap.Plain plain.EndClear) ≡ None
-may_end_clear k lists clearing looked =
-    both_hold (is_in k.phase Clearing) (is_empty (joined k.found)) WrongPhase ClearingLeft clearing
-    (not-false (is_empty (joined k.found)) looked)
+may_end_clear k lists clearing looked = search (both_hold, not-false)
 
 -- what a sweep that begins forgets leaves what is pending as it was
 kept_forgotten : (k : CycleHeap) (lists : List (List ℕ)) → AreKept k (sweep_begun k) lists
 kept_forgotten k lists n within = (
   at-reshaped (λ o. forgotten (unmarked k.heap.objects k.marked) o) (forgotten-shape (unmarked k.heap.objects k.marked))
-      (λ o. registered_in (reference_in o)) k.heap.objects n (λ o. queue_forgotten (unmarked k.heap.objects k.marked) o),
+      (λ o. registered_in (reference_in o)) k.heap.objects n
+      (λ o. queue_forgotten (unmarked k.heap.objects k.marked) o),
   refl,
 )
   where
@@ -71,11 +67,7 @@ sound_clear_ended {j} {k} {lists} {swept_to} clearing looked after sound =
 pub seen_clear_ended : {j : CycleHeap} (k : CycleHeap) (lists : List (List ℕ)) → is_in k.phase Clearing ≡ true
     → not (is_empty (joined k.found)) ≡ false → j ≡ sweep_begun k
     → seen_lists j lists ≡ after_in (seen_lists k lists) (heap.Plain plain.EndClear)
-seen_clear_ended {j} k lists clearing looked after =
-    let none = may_end_clear k lists clearing looked in
-    ap (λ (i : CycleHeap). seen_lists i lists) after ∙ seen_kept k (sweep_begun k) lists (kept_forgotten k lists)
-    ∙ sym (ap (λ refused. unless_refused refused (λ fault. seen_lists k lists)
-    (with_mark (seen_lists k lists) (sweep_begun k))) none)
+seen_clear_ended {j} k lists clearing looked after = grind (arith, seen_kept, kept_forgotten)
 
 -- the sweep ends
 pub sound_sweep_ended : {j k : CycleHeap} {lists : List (List ℕ)} {swept_to : ℕ} → is_in k.phase Sweeping ≡ true

@@ -1,8 +1,6 @@
 -- What holds of a heap goes on holding by each of its steps.
-use Rattle.std.proofs.Common.{arith}
-use Rattle.std.proofs.Common.{◌≡◌, ℕ, ◌≤◌, true, List, sym, subst, ◌∙◌}
-use Rattle.ref_clear.proofs.Common.{has, NamedStep, State, is_in, Sweeping, CycleHeap, is_white}
-use Rattle.ref_clear.proofs.Common.{doomed, MarkStands, ClearHeap, answer_in, after_in}
+use Rattle.ref_clear.proofs.Common.{arith, ◌≡◌, ℕ, ◌≤◌, true, List, sym, subst, ◌∙◌, has, NamedStep, State, is_in}
+use Rattle.ref_clear.proofs.Common.{Sweeping, CycleHeap, is_white, doomed, MarkStands, ClearHeap, answer_in, after_in}
 use Rattle.ref_clear.proofs.Common.{seen_lists, AreRegistered, AreSoundLists, HeapStands}
 use Rattle.ref_mark.proofs.DoomedLists.{has-doomed}
 use Rattle.ref_clear.proofs.KeptRows.{goes_on_sweeping, SweepsOn, sweeps_on}

@@ -1,18 +1,17 @@
 -- What the loop of a sweep frees, turn by turn.
-use Rattle.std.proofs.Common.{◌≡◌, ℕ, ◌+◌, ◌<◌, ◌≤◌, true, nat_le, ◌&&◌, not, is_some, refl, sym, ap, ◌∙◌}
-use Rattle.std.proofs.Common.{arith, List, [], ◌∷◌, ◌++◌, length, take, drop, min, Some, None, ◌⊎◌, inl, inr}
-use Rattle.std.proofs.lemmas.Bool.{le-leb, and_parts}
-use Rattle.std.proofs.lemmas.List.{take_more, drop_more, drop_all, take_all}
+use Rattle.ref_clear.proofs.Common.{◌≡◌, ℕ, ◌+◌, ◌<◌, ◌≤◌, true, ◌&&◌, not, is_some, refl, sym, ap, ◌∙◌, arith, List}
+use Rattle.ref_clear.proofs.Common.{[], ◌∷◌, ◌++◌, length, take, drop, Some, None, ◌⊎◌, inl, inr, and_parts, take_all}
 use Rattle.ref_clear.proofs.Common.{has, Object, is_there, numbers, IsRising, without, is_in, Sweeping, unmarked}
-use Rattle.ref_clear.proofs.Common.{least_from, first_in, CycleHeap, is_white, doomed, swept_some}
-use Rattle.ref_clear.proofs.Common.{MaySweep}
-use Rattle.ref_base.proofs.HasLaws.{has-first}
+use Rattle.ref_clear.proofs.Common.{first_in, CycleHeap, is_white, doomed, swept_some, MaySweep, Tag, without_tags}
+use Rattle.std.proofs.Common.{nat_le, min}
+use Rattle.std.proofs.lemmas.Bool.{le-leb}
+use Rattle.std.proofs.lemmas.List.{take_more, drop_more, drop_all}
+use Rattle.ref_objects.specs.Grounds.{least_from}
 use Rattle.ref_mark.specs.CycleHeaps.{swept}
+use Rattle.ref_base.proofs.HasLaws.{has-first}
 use Rattle.ref_mark.proofs.DoomedLists.{has-doomed}
 use Rattle.ref_objects.proofs.SparedLemmas.{has-unmarked}
 use Rattle.ref_mark.proofs.MutatedStates.{sweeping_is_past}
-use Rattle.ref_objects.specs.Grounds.{Tag}
-use Rattle.ref_clear.specs.ClearHeaps.{without_tags}
 use Rattle.ref_clear.proofs.GoneObjects.{without-none, without-append, object_at-left, left_from_there, rising-without}
 use Rattle.ref_clear.proofs.GoneObjects.{without_tags-append, unmarked-swept, first_unmarked-least}
 

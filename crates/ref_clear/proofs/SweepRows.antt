@@ -1,29 +1,28 @@
 -- A sweep of the abstract collector, and that the heap stands for the state that it leaves.
-use Rattle.std.proofs.Common.{arith}
-use Rattle.std.proofs.Common.{◌≡◌, ℕ, ◌≤◌, Bool, true, false, not, ◌&&◌, ◌||◌, refl, sym, ap, subst, ◌∙◌}
-use Rattle.std.proofs.Common.{List, [], ◌∷◌, map, take, drop, Option, Some, None, is_some, ◌⊎◌, inl, inr}
-use Rattle.std.proofs.lemmas.Bool.{cond-true, and_parts, not-true, false≢true, true≢false}
-use Rattle.std.proofs.lemmas.Bool.{false_from_ne_true}
+use Rattle.ref_clear.proofs.Common.{arith, ◌≡◌, ℕ, ◌≤◌, Bool, true, false, not, ◌&&◌, refl, sym, ap, subst, ◌∙◌, List}
+use Rattle.ref_clear.proofs.Common.{[], ◌∷◌, map, take, drop, Option, Some, None, is_some, ◌⊎◌, inl, inr, and_parts}
+use Rattle.ref_clear.proofs.Common.{false≢true, true≢false, false_from_ne_true, has, Object, object_at, is_there}
+use Rattle.ref_clear.proofs.Common.{numbers, Allowed, targets_of, targets_at, soft_and_weak_referents, is_kept}
+use Rattle.ref_clear.proofs.Common.{refers_into, Heap, reference_at, reference_in, IsRising, graph_of, is_in, State}
+use Rattle.ref_clear.proofs.Common.{HeapAccepts, without, shown, referent_of, forgotten, heap_but, Marking, Sweeping}
+use Rattle.ref_clear.proofs.Common.{unmarked, CycleHeap, is_white, is_black, is_in_cycle, doomed, MarkStands, FactsBut}
+use Rattle.ref_clear.proofs.Common.{unsaid, ReadsAs, shown_heap, ClearHeap, with_mark, swept_some, refusal_in}
+use Rattle.ref_clear.proofs.Common.{HeapStands, MaySweep}
+use Rattle.std.proofs.Common.{◌||◌}
+use Rattle.std.proofs.lemmas.Bool.{cond-true, not-true}
 use Rattle.std.proofs.lemmas.List.{take-append-drop}
-use Rattle.ref_clear.proofs.Common.{has, Object, object_at, is_there, numbers, Allowed, targets_of}
-use Rattle.ref_clear.proofs.Common.{targets_at, soft_and_weak_referents, is_kept}
-use Rattle.ref_clear.proofs.Common.{refers_into, Heap, reference_at, reference_in, IsRising, graph_of}
-use Rattle.ref_clear.proofs.Common.{with_heap, is_in, State, HeapAccepts, without, shown, referent_of, forgotten}
-use Rattle.ref_clear.proofs.Common.{heap_but, Marking, Sweeping, unmarked, CycleHeap, is_white, is_black}
-use Rattle.ref_clear.proofs.Common.{is_in_cycle, doomed, MarkStands, FactsBut, unsaid, ReadsAs, shown_heap, ClearHeap}
-use Rattle.ref_clear.proofs.Common.{with_mark, swept_some, refusal_in, answer_of_sweep, HeapStands, MaySweep}
+use Rattle.ref_base.specs.Worlds.{with_heap}
+use Rattle.ref_clear.specs.ClearCalls.{answer_of_sweep}
 use Rattle.ref_base.specs.DoomedSets.{new_clears}
 use Rattle.ref_base.specs.CollectorRows.{Sweeps}
-use Rattle.ref_base.specs.declared.heap_step.HeapStep.TheVariants as heap
-use Rattle.ref_base.specs.declared.plain_step.PlainStep.TheVariants as plain
-use Rattle.ref_base.proofs.HasLaws.{has-append, has-cases, has-left, has-first}
-use Rattle.ref_base.proofs.NewClears.{has-new_clears, refers_into-same}
 use Rattle.ref_mark.specs.CycleHeaps.{is_due}
 use Rattle.ref_mark.specs.Standing.{AreThere, InSweeping}
+use Rattle.ref_base.proofs.HasLaws.{has-append, has-cases, has-left, has-first}
+use Rattle.ref_base.proofs.NewClears.{has-new_clears, refers_into-same}
 use Rattle.ref_mark.proofs.DoomedLists.{past_is_in_cycle, past_is_not_marking}
 use Rattle.ref_objects.proofs.SparedLemmas.{has-unmarked}
 use Rattle.ref_mark.proofs.Mutations.{leading_is_there}
-use Rattle.ref_mark.proofs.MutatedStates.{ticked_other}
+use Rattle.ref_mark.proofs.MutatedStates.{ticked_other, sweeping_is_past}
 use Rattle.ref_mark.proofs.Passed.{work_passed}
 use Rattle.ref_mark.proofs.RootFacts.{hold_root}
 use Rattle.ref_mark.proofs.SafeMarks.{marked_is_black}
@@ -31,7 +30,8 @@ use Rattle.ref_mark.proofs.Shading.{not_white_marked}
 use Rattle.ref_clear.proofs.GoneObjects.{without-none, has-take, object_at-gone, object_at-left, left_from_there}
 use Rattle.ref_clear.proofs.GoneObjects.{rising-without}
 use Rattle.ref_clear.proofs.SweepLoops.{doomed-so_many, doomed-sweeping, white_is_doomed}
-use Rattle.ref_mark.proofs.MutatedStates.{sweeping_is_past}
+use Rattle.ref_base.specs.declared.heap_step.HeapStep.TheVariants as heap
+use Rattle.ref_base.specs.declared.plain_step.PlainStep.TheVariants as plain
 
 -- ---- in a sweep mutators read the heap as it is
 

@@ -1,13 +1,8 @@
 -- How the lists of all workers change as a pending reference goes last in one.
-use Rattle.std.proofs.Common.{arith}
-use Rattle.std.proofs.Common.{◌≡◌, ℕ, ◌<◌, true, false, refl, sym, ap, subst, ◌∙◌, List, [], ◌∷◌, ◌++◌, map}
-use Rattle.std.proofs.Common.{length, Option, Some, None, ◌⊎◌, inr}
-use Rattle.std.specs.Prelude.{slice_index_or, slice_set}
-use Rattle.std.proofs.Math.ListN.{get_or-map}
-use Rattle.std.proofs.lemmas.List.{length-map, length-set, map-append, map-set}
-use Rattle.ref_clear.proofs.Common.{has, AreDistinct, World, Pending, pending_numbers, joined, ClearHeap}
-use Rattle.ref_clear.proofs.Common.{heap_pended, pending_at, linked_last_of}
-use Rattle.ref_objects.specs.Grounds.{Tag}
+use Rattle.ref_clear.proofs.Common.{arith, ◌≡◌, ℕ, ◌<◌, true, false, refl, sym, ap, subst, ◌∙◌, List, [], ◌∷◌, ◌++◌}
+use Rattle.ref_clear.proofs.Common.{map, length, Option, Some, None, ◌⊎◌, inr, slice_index_or, slice_set, get_or-map}
+use Rattle.ref_clear.proofs.Common.{length-map, length-set, map-append, map-set, has, AreDistinct, World, Pending}
+use Rattle.ref_clear.proofs.Common.{pending_numbers, joined, ClearHeap, heap_pended, pending_at, linked_last_of, Tag}
 use Rattle.ref_base.specs.Replay.{pended as world_pended}
 use Rattle.ref_base.proofs.FoundLists.{with_last, has-with_last, AreDistinct-with_last}
 

@@ -1,28 +1,21 @@
 -- What the code of an unhook answers and leaves: where the reference is registered, the hold comes first, then the cut.
-use Rattle.std.proofs.Common.{arith}
-use Rattle.std.proofs.Common.{◌≡◌, ℕ, true, refl, sym, ap, subst, ◌∙◌, List, Some, None}
-use Rattle.ref_clear.proofs.Common.{Heap, Reference, slot_at, reference_at, registered_in, reference_of}
-use Rattle.ref_clear.proofs.Common.{has_slot}
-use Rattle.ref_clear.proofs.Common.{Reply, holds_refusal, Own, CycleHeap, with_cleared, mint_answer_in}
-use Rattle.ref_clear.proofs.Common.{after_mint_in, holding, unhooked, refusal_in, queue_in}
-use Rattle.ref_clear.proofs.Common.{after_in, answer_of_unhook, seen_lists, with_mark, AreRegistered}
-use Rattle.ref_clear.proofs.Common.{AreSoundLists}
+use Rattle.ref_clear.proofs.Common.{arith, ◌≡◌, ℕ, true, refl, sym, ap, subst, ◌∙◌, List, Some, None, Heap, Reference}
+use Rattle.ref_clear.proofs.Common.{slot_at, reference_at, registered_in, reference_of, has_slot, Reply, holds_refusal}
+use Rattle.ref_clear.proofs.Common.{Own, CycleHeap, with_cleared, mint_answer_in, after_mint_in, holding, unhooked}
+use Rattle.ref_clear.proofs.Common.{refusal_in, queue_in, after_in, answer_of_unhook, seen_lists, with_mark}
+use Rattle.ref_clear.proofs.Common.{AreRegistered, AreSoundLists, clear_refusal, ground_of, MarkerDoes, HeapDoes}
+use Rattle.ref_base.specs.declared.fault.Fault.TheVariants.{NoSuchObject}
+use Rattle.ref_objects.specs.Grounds.{is_spared}
 use Rattle.ref_mark.proofs.KeptParts.{cleared-tags}
 use Rattle.ref_clear.proofs.KeptReferences.{cleared_stays}
 use Rattle.ref_clear.proofs.KeptPending.{AreKept, kept_by, seen_kept, registered_kept}
-use Rattle.ref_base.specs.Refusals.{clear_refusal}
-use Rattle.ref_base.specs.declared.fault.Fault.TheVariants.{NoSuchObject}
+use Rattle.ref_base.proofs.RowForms.{unless_passes}
+use Rattle.ref_clear.proofs.MarkedHeaps.{seen_marked}
+use Rattle.ref_clear.proofs.NoticeAnswers.{minted, clear_holding}
 use Rattle.ref_base.specs.declared.heap_step.HeapStep.TheVariants as heap
 use Rattle.ref_base.specs.declared.plain_step.PlainStep.TheVariants as plain
 use Rattle.ref_base.specs.declared.reply.Reply.TheVariants as replies
-use Rattle.ref_base.proofs.RowForms.{unless_passes}
-use Rattle.ref_objects.specs.Grounds.{is_spared}
-use Rattle.ref_mark.specs.MarkViews.{ground_of}
 use Rattle.ref_mark.specs.MarkCalls as marks
-use Rattle.ref_mark.specs.MarkCalls.{MarkerDoes}
-use Rattle.ref_clear.specs.ClearCalls.{HeapDoes}
-use Rattle.ref_clear.proofs.MarkedHeaps.{seen_marked}
-use Rattle.ref_clear.proofs.NoticeAnswers.{minted, clear_holding}
 
 -- a reference that is read is in a slot that is there
 pub slot_is_there : (h : Heap) (m s : ℕ) → clear_refusal h m s ≡ None → has_slot h m s ≡ true

@@ -1,16 +1,15 @@
 -- The row of an unhook: the reference in the slot is cleared, and where it is registered there is one hold more of it.
-use Rattle.std.proofs.Common.{arith}
-use Rattle.std.proofs.Common.{◌≡◌, ℕ, ◌+◌, ◌*◌, false, refl, sym, ap, subst, ◌∙◌, [], ◌++◌, Option, Some, None}
-use Rattle.std.proofs.Common.{inl, inr}
-use Rattle.std.proofs.lemmas.Bool.{cases_Bool}
-use Rattle.ref_clear.proofs.Common.{Object, present, refers_into, Heap, slot_at, reference_in}
+use Rattle.ref_clear.proofs.Common.{arith, ◌≡◌, ℕ, ◌+◌, false, refl, sym, ap, subst, ◌∙◌, [], ◌++◌, Option, Some, None}
+use Rattle.ref_clear.proofs.Common.{inl, inr, cases_Bool, Object, present, refers_into, Heap, slot_at, reference_in}
 use Rattle.ref_clear.proofs.Common.{registered_in, one_more, with_hold, changed_in, with_reference, cleared, cut, World}
-use Rattle.ref_clear.proofs.Common.{pending_numbers, unless, has_slot, State, ticked, on_heap, shown, reference_of}
-use Rattle.ref_clear.proofs.Common.{Unhooks, HeapAccepts, forgotten, heap_but, NoSuchActor, CycleHeap, is_doomed}
-use Rattle.ref_clear.proofs.Common.{doomed, with_cleared, MarkStands, ReadsAs, unsaid, shown_heap, ClearHeap, with_mark}
-use Rattle.ref_clear.proofs.Common.{holding, unhooked, refusal_in, queue_in, answer_of_unhook, HeapStands, ArePending}
-use Rattle.ref_base.specs.Refusals.{unhook_refusal, clear_refusal}
-use Rattle.ref_base.specs.declared.heap_step.HeapStep.TheVariants as heap
+use Rattle.ref_clear.proofs.Common.{pending_numbers, unless, has_slot, State, ticked, shown, reference_of, HeapAccepts}
+use Rattle.ref_clear.proofs.Common.{forgotten, heap_but, CycleHeap, is_doomed, doomed, with_cleared, MarkStands}
+use Rattle.ref_clear.proofs.Common.{ReadsAs, unsaid, shown_heap, ClearHeap, with_mark, holding, unhooked, refusal_in}
+use Rattle.ref_clear.proofs.Common.{queue_in, answer_of_unhook, HeapStands, ArePending, clear_refusal}
+use Rattle.std.proofs.Common.{◌*◌}
+use Rattle.ref_base.specs.CollectorRows.{on_heap, Unhooks}
+use Rattle.ref_base.specs.declared.fault.Fault.TheVariants.{NoSuchActor}
+use Rattle.ref_base.specs.Refusals.{unhook_refusal}
 use Rattle.ref_base.proofs.Forgetting.{forgotten-shape}
 use Rattle.ref_base.proofs.Lookups.{has-present_at}
 use Rattle.ref_base.proofs.Reshaping.{KeepsShape, reshaped, at-reshaped}
@@ -27,6 +26,7 @@ use Rattle.ref_mark.proofs.ReferenceChanges.{refers_into_doomed-past, cleared_be
 use Rattle.ref_mark.proofs.ReferenceRows.{clear_row}
 use Rattle.ref_clear.proofs.PendingFacts.{root_before, waiting_still}
 use Rattle.ref_clear.proofs.KeptReferences.{config-cleared, cleared_stays}
+use Rattle.ref_base.specs.declared.heap_step.HeapStep.TheVariants as heap
 
 -- ---- refusals
 

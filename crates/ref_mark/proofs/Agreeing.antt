@@ -1,7 +1,6 @@
 -- What agrees with the heap as mutators read it reads and changes as it does.
-use Rattle.std.proofs.Common.{arith}
-use Rattle.std.proofs.Common.{◌≡◌, ℕ, true, false, refl, sym, ap, ◌∙◌, List, [], Option, Some, None}
-use Rattle.ref_mark.proofs.Common.{has, Object, is_there, any_is, Heap, slot_at, changed_in, made, shown, field_in}
+use Rattle.ref_mark.proofs.Common.{arith, ◌≡◌, ℕ, true, false, refl, sym, ap, ◌∙◌, List, [], Option, Some, None, has}
+use Rattle.ref_mark.proofs.Common.{Object, is_there, any_is, Heap, slot_at, changed_in, made, shown, field_in}
 use Rattle.ref_mark.proofs.Common.{reference_of, heap_but, is_in, State, Phase, Idle, Marking, Clearing, Sweeping}
 use Rattle.ref_mark.proofs.Common.{CycleHeap, is_white, is_past_mark, is_in_cycle, doomed, MarkStands, ReadsAs, unsaid}
 use Rattle.ref_mark.proofs.Common.{shown_heap}

@@ -1,23 +1,16 @@
 -- What a get leaves, step by step of its code: the objects' part first, and then the barrier.
-use Rattle.std.proofs.Common.{arith}
-use Rattle.std.proofs.Common.{◌≡◌, ℕ, ◌*◌, true, refl, sym, ap, ◌∙◌, Option, Some, None, length}
+use Rattle.ref_mark.proofs.Common.{arith, ◌≡◌, ℕ, ◌*◌, true, refl, sym, ap, ◌∙◌, Option, Some, None, length, Heap}
+use Rattle.ref_mark.proofs.Common.{Ground, slot_at, with_slot, has_slot, is_past_mark, CycleHeap, barred, undoomed}
+use Rattle.ref_mark.proofs.Common.{with_got, got, with_reference, changed_in, got_at, ground_with_heap, ground_of, Bool}
+use Rattle.ref_mark.proofs.Common.{List, Worklist, Chain, Phase, Policy, seen_marker, reference_of, referent_got}
+use Rattle.ref_mark.proofs.Common.{value_got, value_reply, get_refusal, IsWellFormed, IsSoundMarker}
 use Rattle.std.proofs.lemmas.List.{get_or-set_same}
-use Rattle.ref_mark.proofs.Common.{Heap, Ground, slot_at, with_slot, has_slot, is_past_mark}
-use Rattle.ref_mark.proofs.Common.{CycleHeap, barred, undoomed, with_got, got, with_reference}
-use Rattle.ref_mark.proofs.Common.{changed_in, got_at}
-use Rattle.ref_objects.specs.Grounds.{ground_with_heap, read_as}
-use Rattle.ref_mark.specs.MarkViews.{ground_of}
+use Rattle.ref_objects.specs.Grounds.{read_as}
+use Rattle.ref_mark.specs.MarkCalls.{MarkerDoes}
 use Rattle.ref_mark.proofs.ReferenceChanges.{with_got-barred}
-use Rattle.std.proofs.Common.{Bool, List}
-use Rattle.ref_mark.proofs.Common.{Worklist, Chain, Phase, Policy, seen_marker, reference_of, referent_got, value_got}
-use Rattle.ref_mark.proofs.Common.{value_reply}
-use Rattle.ref_base.specs.Refusals.{get_refusal}
+use Rattle.ref_mark.proofs.MarkerLemmas.{seen_heaped}
 use Rattle.ref_base.specs.declared.heap_step.HeapStep.TheVariants as heap
 use Rattle.ref_base.specs.declared.plain_step.PlainStep.TheVariants as plain
-use Rattle.ref_objects.specs.Grounds.{IsWellFormed}
-use Rattle.ref_mark.specs.MarkCalls.{MarkerDoes}
-use Rattle.ref_mark.proofs.Common.{IsSoundMarker}
-use Rattle.ref_mark.proofs.MarkerLemmas.{seen_heaped}
 
 -- ---- a slot that was just written
 

@@ -1,21 +1,21 @@
 -- A cycle's begin: nothing is marked, then all roots become grey.
-use Rattle.std.proofs.Common.{◌≡◌, ℕ, ◌+◌, ◌<◌, Bool, true, false, not, refl, sym, ap, subst, ◌∙◌, arith, [], ◌∷◌, ◌++◌}
-use Rattle.std.proofs.Common.{length, None, inl, inr}
-use Rattle.std.proofs.lemmas.Bool.{and_parts, false≢true}
-use Rattle.ref_mark.proofs.Common.{AreDistinct, has, Graph, is_there, is_kept, graph_of, pending_numbers, is_in}
-use Rattle.ref_mark.proofs.Common.{is_empty, begin_refusal, State, HeapAccepts, Urgency, Idle, Sweeping, CycleHeap}
-use Rattle.ref_mark.proofs.Common.{is_black, shaded_all, roots_of, whitened, cycle_begun, MarkStands}
+use Rattle.ref_mark.proofs.Common.{◌≡◌, ℕ, ◌+◌, ◌<◌, Bool, true, false, not, refl, sym, ap, subst, ◌∙◌, arith, [], ◌∷◌}
+use Rattle.ref_mark.proofs.Common.{◌++◌, length, None, inl, inr, and_parts, false≢true, AreDistinct, has, Graph}
+use Rattle.ref_mark.proofs.Common.{is_there, is_kept, graph_of, pending_numbers, is_in, is_empty, State, HeapAccepts}
+use Rattle.ref_mark.proofs.Common.{Urgency, Idle, Sweeping, CycleHeap, is_black, shaded_all, roots_of, whitened}
+use Rattle.ref_mark.proofs.Common.{cycle_begun, MarkStands}
+use Rattle.ref_base.specs.Refusals.{begin_refusal}
 use Rattle.ref_base.specs.Replay.{begun as world_begun}
 use Rattle.ref_base.specs.CollectorRows.{begun_state}
-use Rattle.ref_base.specs.declared.heap_step.HeapStep.TheVariants as heap
-use Rattle.ref_base.specs.declared.plain_step.PlainStep.TheVariants as plain
-use Rattle.ref_base.specs.declared.reply.Reply.TheVariants as replies
 use Rattle.ref_base.proofs.HasLaws.{has-left}
 use Rattle.ref_base.proofs.PathLaws.{root_ends, target_ends}
 use Rattle.ref_mark.proofs.Shading.{MarkingBut, shaded_all-only, shaded_all-append, shaded_all_marking, some_left}
 use Rattle.ref_mark.proofs.RootFacts.{plain_there}
 use Rattle.ref_mark.proofs.PlainStates.{plain_state, plain_state-is, marking_stands}
 use Rattle.ref_base.proofs.FoundLists.{joined-emptied, length-emptied, AreFound-emptied}
+use Rattle.ref_base.specs.declared.heap_step.HeapStep.TheVariants as heap
+use Rattle.ref_base.specs.declared.plain_step.PlainStep.TheVariants as plain
+use Rattle.ref_base.specs.declared.reply.Reply.TheVariants as replies
 
 -- the state that begins, in which it is said so whether an object is left
 abbrev pub state_begun : CycleHeap → State → ℕ → Urgency → Bool → State

@@ -1,20 +1,16 @@
 -- A chain as a list: one more at its end, its first taken, and links that are written elsewhere.
-use Rattle.std.proofs.Common.{◌≡◌, ℕ, zero, suc, ◌+◌, ◌<◌, ◌≤◌, Bool, true, false, ◌==◌, ◌||◌, refl, sym, ap, subst}
-use Rattle.std.proofs.Common.{◌∙◌, arith, List, [], ◌∷◌, ◌++◌, length, map, get_or, set, inl, inr, length-append}
-use Rattle.std.proofs.Common.{Option, Some, None, if◌then◌else◌}
-use Rattle.std.specs.Option.{option_map}
-use Rattle.std.proofs.lemmas.List.{drop_all}
-use Rattle.ref_mark.specs.Worklists.{listed_at}
-use Rattle.std.proofs.lemmas.Bool.{cases_Bool, eq-eqb, or_right, or_parts, true≢false}
-use Rattle.ref_mark.proofs.Common.{has, AreDistinct, joined, list_at, is_empty, first_in, Chain}
-use Rattle.ref_base.specs.Members.{rest_of}
-use Rattle.ref_base.proofs.HasLaws.{has-first, has-append}
-use Rattle.ref_objects.specs.Grounds.{Ground, Tag, link_at, with_link, with_new_tag, linked_in, look_of}
+use Rattle.ref_mark.proofs.Common.{◌≡◌, ℕ, zero, suc, ◌+◌, ◌<◌, ◌≤◌, Bool, true, false, ◌==◌, ◌||◌, refl, sym, ap}
+use Rattle.ref_mark.proofs.Common.{subst, ◌∙◌, arith, List, [], ◌∷◌, ◌++◌, length, map, get_or, set, inl, inr}
+use Rattle.ref_mark.proofs.Common.{length-append, Option, Some, None, if◌then◌else◌, option_map, drop_all, listed_at}
+use Rattle.ref_mark.proofs.Common.{cases_Bool, eq-eqb, or_right, or_parts, true≢false, has, AreDistinct, joined}
+use Rattle.ref_mark.proofs.Common.{list_at, is_empty, first_in, Chain, rest_of, Ground, Tag, link_at, with_link}
+use Rattle.ref_mark.proofs.Common.{with_new_tag, look_of, no_chain, walk, listed, lists_of, chain_with, linked_last}
+use Rattle.ref_mark.proofs.Common.{chain_without_first, linked_last_of, chain_first, is_tagged, AreChains}
+use Rattle.ref_objects.specs.Grounds.{linked_in}
 use Rattle.ref_objects.specs.declared.linked.Linked.{Linked}
 use Rattle.ref_objects.specs.declared.linked.Look.{Look}
-use Rattle.ref_mark.specs.Chains.{no_chain, next_of, walk, listed, lists_of, chain_with, linked_last}
-use Rattle.ref_mark.specs.Chains.{chain_without_first}
-use Rattle.ref_mark.specs.Chains.{last_of, linked_last_of, chain_first, is_tagged, Links, Ends, IsChain, AreChains}
+use Rattle.ref_mark.specs.Chains.{next_of, last_of, Links, Ends, IsChain}
+use Rattle.ref_base.proofs.HasLaws.{has-first, has-append}
 use Rattle.ref_mark.proofs.DistinctLists.{lacks-parts, distinct-left, distinct-right, distinct-apart, has-other}
 use Rattle.ref_mark.proofs.LinkLemmas.{link_at-other, link_at-same, is_tagged-written, link_at-new, is_tagged-new}
 

@@ -1,9 +1,7 @@
 -- Lists of distinct numbers: put together, of one number less, and how long they can be.
-use Rattle.std.proofs.Common.{◌≡◌, ℕ, ◌≤◌, ◌+◌, true, false, ◌==◌, ◌||◌, refl, sym, ap, ◌∙◌, arith, List, [], ◌∷◌}
-use Rattle.std.proofs.Common.{◌++◌, length, zero, suc, append_assoc}
-use Rattle.std.specs.Prelude.{slice_set}
-use Rattle.std.proofs.lemmas.Bool.{or_parts, or_left, eq-eqb, ne_eqb, true≢false}
-use Rattle.ref_mark.proofs.Common.{has, AreDistinct, joined, list_at, one_fewer}
+use Rattle.ref_mark.proofs.Common.{◌≡◌, ℕ, ◌≤◌, ◌+◌, true, false, ◌==◌, ◌||◌, refl, sym, ap, ◌∙◌, arith, List, [], ◌∷◌}
+use Rattle.ref_mark.proofs.Common.{◌++◌, length, zero, suc, append_assoc, slice_set, or_parts, or_left, eq-eqb, ne_eqb}
+use Rattle.ref_mark.proofs.Common.{true≢false, has, AreDistinct, joined, list_at, one_fewer}
 use Rattle.ref_base.proofs.HasLaws.{has-append}
 use Rattle.ref_base.proofs.FoundLists.{has-between}
 

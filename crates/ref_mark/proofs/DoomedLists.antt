@@ -1,11 +1,9 @@
 -- The list of the doomed: its members are the doomed, and what doesn't change it.
-use Rattle.std.proofs.Common.{◌≡◌, ℕ, ◌+◌, ◌<◌, true, false, ◌==◌, if◌then◌else◌, refl, sym, ◌∙◌, ap}
-use Rattle.std.proofs.Common.{arith, inl, inr, List, [], ◌∷◌, ◌++◌, Option, Some, None}
-use Rattle.std.proofs.lemmas.Bool.{cases_Bool, eq-eqb}
-use Rattle.ref_objects.specs.Grounds.{with_new_tag}
-use Rattle.ref_mark.proofs.Common.{has, Object, is_there, changed_at, with_changed, changed_in, made}
-use Rattle.ref_mark.proofs.Common.{is_in, Phase, Idle, Marking, Clearing, Sweeping, is_in_cycle, CycleHeap}
-use Rattle.ref_mark.proofs.Common.{is_past_mark, is_doomed, doomed, young, with_made, unmarked, shown_heap}
+use Rattle.ref_mark.proofs.Common.{◌≡◌, ℕ, ◌+◌, ◌<◌, true, false, ◌==◌, if◌then◌else◌, refl, sym, ◌∙◌, ap, arith, inl}
+use Rattle.ref_mark.proofs.Common.{inr, List, [], ◌∷◌, ◌++◌, Option, Some, None, cases_Bool, eq-eqb, with_new_tag, has}
+use Rattle.ref_mark.proofs.Common.{Object, is_there, changed_at, with_changed, changed_in, made, is_in, Phase, Idle}
+use Rattle.ref_mark.proofs.Common.{Marking, Clearing, Sweeping, is_in_cycle, CycleHeap, is_past_mark, is_doomed, doomed}
+use Rattle.ref_mark.proofs.Common.{young, with_made, unmarked, shown_heap}
 use Rattle.ref_base.proofs.OneMore.{has-one_more}
 use Rattle.ref_objects.proofs.SparedLemmas.{has-unmarked}
 use Rattle.ref_base.proofs.ShownObjects.{map-shown_none}

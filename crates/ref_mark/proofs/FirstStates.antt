@@ -1,8 +1,6 @@
 -- A new heap stands for the first state.
-use Rattle.std.proofs.Common.{◌≡◌, ℕ, zero, suc, refl, arith}
-use Rattle.std.specs.Prelude.{[], replicate}
-use Rattle.std.proofs.lemmas.List.{length-replicate}
-use Rattle.ref_mark.proofs.Common.{pending_numbers, Config, first_cycle_heap, MarkStands}
+use Rattle.ref_mark.proofs.Common.{◌≡◌, ℕ, zero, suc, refl, arith, [], replicate, length-replicate, pending_numbers}
+use Rattle.ref_mark.proofs.Common.{Config, first_cycle_heap, MarkStands}
 use Rattle.ref_mark.specs.MarkRows.{starting_state}
 use Rattle.ref_mark.proofs.RootFacts.{root_cases}
 use Rattle.ref_mark.proofs.ObjectRows.{has-present_nulls}

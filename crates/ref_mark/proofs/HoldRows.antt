@@ -1,29 +1,25 @@
 -- The rows of holds: they come and go, and what is held comes into a slot.
-use Rattle.std.proofs.Common.{arith}
-use Rattle.std.proofs.Common.{◌≡◌, ℕ, ◌+◌, ◌*◌, true, refl, ap, subst, List, [], ◌∷◌}
-use Rattle.std.proofs.Common.{length, Option, Some, None, ◌⊎◌, inl, inr}
-use Rattle.std.specs.Prelude.{slice_set}
-use Rattle.std.proofs.lemmas.List.{length-set}
-use Rattle.ref_mark.proofs.Common.{has, present, Heap, slot_at, with_slot, one_more, one_fewer, graph_of}
-use Rattle.ref_mark.proofs.Common.{pending_numbers, unless, has_slot, State, Fault, NoSuchActor, ticked, on_heap}
-use Rattle.ref_mark.proofs.Common.{value_reply, HeapAccepts, CycleHeap, unless_refused, MarkStands}
+use Rattle.ref_mark.proofs.Common.{arith, ◌≡◌, ℕ, ◌+◌, ◌*◌, true, refl, ap, subst, List, [], ◌∷◌, length, Option, Some}
+use Rattle.ref_mark.proofs.Common.{None, ◌⊎◌, inl, inr, slice_set, length-set, has, present, Heap, slot_at, with_slot}
+use Rattle.ref_mark.proofs.Common.{one_more, one_fewer, graph_of, pending_numbers, unless, has_slot, State, Fault}
+use Rattle.ref_mark.proofs.Common.{NoSuchActor, ticked, on_heap, value_reply, HeapAccepts, CycleHeap, unless_refused}
+use Rattle.ref_mark.proofs.Common.{MarkStands, ground_of}
 use Rattle.ref_base.specs.Heaps.{with_hold, without_hold}
 use Rattle.ref_base.specs.Refusals.{held_refusal, hold_refusal}
 use Rattle.ref_base.specs.Replay.{adopted}
 use Rattle.ref_base.specs.CollectorRows.{Holds}
 use Rattle.ref_base.specs.declared.heap_step.HoldName.{HoldName}
-use Rattle.ref_base.specs.declared.heap_step.HeapStep.TheVariants as heap
-use Rattle.ref_base.specs.declared.reply.Reply.TheVariants as replies
 use Rattle.ref_objects.specs.Grounds.{mint_refusal}
 use Rattle.ref_mark.specs.MarkCalls.{with_hold_of}
 use Rattle.ref_mark.specs.MarkRows.{KeepsStanding}
-use Rattle.ref_mark.specs.MarkViews.{ground_of}
 use Rattle.ref_base.proofs.OneMore.{has-one_more}
 use Rattle.ref_mark.proofs.Mutations.{IsMutation}
 use Rattle.ref_mark.proofs.MutatedStates.{mutated_stands}
 use Rattle.ref_base.proofs.Lookups.{has-present_at, has-present_set}
 use Rattle.ref_mark.proofs.RootFacts.{slot_root, hold_root, pending_root, root_cases}
 use Rattle.ref_mark.proofs.MutationKinds.{rooted}
+use Rattle.ref_base.specs.declared.heap_step.HeapStep.TheVariants as heap
+use Rattle.ref_base.specs.declared.reply.Reply.TheVariants as replies
 
 -- what is held after a hold goes was held
 pub has-one_fewer : (ns : List ℕ) (n m : ℕ) → has (one_fewer ns n) m ≡ true → has ns m ≡ true

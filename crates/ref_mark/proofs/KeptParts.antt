@@ -1,18 +1,14 @@
 -- No step of marking changes in which cycle an object was cleared.
-use Rattle.std.proofs.Common.{arith}
-use Rattle.std.proofs.Common.{◌≡◌, ℕ, List, Option, Some, None, refl, ap, [], ◌∷◌}
-use Rattle.ref_objects.specs.Grounds.{Tag, cleared_in_at}
-use Rattle.ref_objects.proofs.TagLemmas.{cleared_in_at-new}
-use Rattle.ref_mark.proofs.Common.{Object, plain_object, nulls}
-use Rattle.ref_mark.proofs.Common.{NamedStep, Fault}
-use Rattle.ref_mark.proofs.Common.{CycleHeap, shaded_all, with_found, linked_last_of}
-use Rattle.ref_mark.proofs.Common.{with_made, barred, with_cleared, grey_scanned}
-use Rattle.ref_mark.proofs.Common.{done_in, refusal_in_cycle, unless_refused}
-use Rattle.ref_base.specs.declared.heap_step.HeapStep.TheVariants as heap
-use Rattle.ref_base.specs.declared.plain_step.PlainStep.TheVariants as plain
+use Rattle.ref_mark.proofs.Common.{arith, ◌≡◌, ℕ, List, Option, Some, None, refl, ap, [], ◌∷◌, Tag, cleared_in_at}
+use Rattle.ref_mark.proofs.Common.{Object, plain_object, nulls, NamedStep, Fault, CycleHeap, shaded_all, with_found}
+use Rattle.ref_mark.proofs.Common.{linked_last_of, with_made, barred, with_cleared, grey_scanned, done_in}
+use Rattle.ref_mark.proofs.Common.{refusal_in_cycle, unless_refused}
 use Rattle.ref_mark.specs.MarkCalls.{after_in_cycle}
+use Rattle.ref_objects.proofs.TagLemmas.{cleared_in_at-new}
 use Rattle.ref_mark.proofs.LinkLemmas.{cleared_in_at-written}
 use Rattle.ref_mark.proofs.Shading.{shaded_all-only}
+use Rattle.ref_base.specs.declared.heap_step.HeapStep.TheVariants as heap
+use Rattle.ref_base.specs.declared.plain_step.PlainStep.TheVariants as plain
 
 -- ---- what leaves the tags as they are
 

@@ -1,9 +1,6 @@
 -- Links and tags that are read after one is written, or after an object came or went.
-use Rattle.std.proofs.Common.{◌≡◌, ℕ, true, false, ◌==◌, refl, sym, arith, List, [], ◌∷◌}
-use Rattle.std.proofs.lemmas.Bool.{true≢false}
-use Rattle.ref_objects.specs.Grounds.{Tag, link_at, cleared_in_at, with_link, with_new_tag, without_tag}
-use Rattle.ref_objects.specs.Grounds.{with_cleared_tag}
-use Rattle.ref_mark.specs.Chains.{is_tagged}
+use Rattle.ref_mark.proofs.Common.{◌≡◌, ℕ, true, false, ◌==◌, refl, sym, arith, List, [], ◌∷◌, true≢false, Tag, link_at}
+use Rattle.ref_mark.proofs.Common.{cleared_in_at, with_link, with_new_tag, without_tag, with_cleared_tag, is_tagged}
 
 -- ---- a link is written
 

@@ -1,20 +1,16 @@
 -- What the loops of a begin and of a scan shade, turn by turn.
-use Rattle.std.proofs.Common.{◌≡◌, ℕ, ◌+◌, ◌<◌, ◌≤◌, true, false, nat_le, refl, sym, ap, ◌∙◌, arith, List}
-use Rattle.std.proofs.Common.{[], ◌∷◌, ◌++◌, length, map, take, Option, Some, None, inl, inr, zero, suc}
-use Rattle.std.specs.Prelude.{slice_index_or, if◌then◌else◌}
-use Rattle.std.proofs.lemmas.Bool.{cases_Bool, le-leb}
-use Rattle.std.proofs.lemmas.List.{take_more, take_all, append-nil, append_assoc}
-use Rattle.ref_objects.specs.Grounds.{all_marked, all_newly_marked}
-use Rattle.ref_mark.specs.MarkViews.{ground_of}
-use Rattle.ref_mark.proofs.Common.{has, AreDistinct}
-use Rattle.ref_mark.proofs.Common.{Reference, object_at, present, targets_at}
-use Rattle.ref_mark.proofs.Common.{allowed_referent, is_kept, reference_at, Urgency}
-use Rattle.ref_mark.proofs.Common.{fields_in, least_from, IsInOrder, first_in, CycleHeap, shaded, shaded_all}
-use Rattle.ref_mark.proofs.Common.{shaded_if_any, whitened, cycle_begun, roots_of}
-use Rattle.ref_base.specs.Paths.{if_any}
+use Rattle.ref_mark.proofs.Common.{◌≡◌, ℕ, ◌+◌, ◌<◌, ◌≤◌, true, false, refl, sym, ap, ◌∙◌, arith, List, [], ◌∷◌, ◌++◌}
+use Rattle.ref_mark.proofs.Common.{length, map, take, Option, Some, None, inl, inr, zero, suc, slice_index_or}
+use Rattle.ref_mark.proofs.Common.{if◌then◌else◌, cases_Bool, take_all, append-nil, append_assoc, all_marked}
+use Rattle.ref_mark.proofs.Common.{all_newly_marked, ground_of, has, AreDistinct, Reference, object_at, present}
+use Rattle.ref_mark.proofs.Common.{targets_at, allowed_referent, is_kept, reference_at, Urgency, fields_in, least_from}
+use Rattle.ref_mark.proofs.Common.{IsInOrder, first_in, CycleHeap, shaded, shaded_all, shaded_if_any, whitened}
+use Rattle.ref_mark.proofs.Common.{cycle_begun, roots_of, if_any}
+use Rattle.std.proofs.Common.{nat_le}
+use Rattle.std.proofs.lemmas.Bool.{le-leb}
+use Rattle.std.proofs.lemmas.List.{take_more}
 use Rattle.ref_objects.specs.Grounds.{AllFrom}
-use Rattle.ref_mark.proofs.Shading.{shaded-only, shaded_all-only, shaded_all-append}
-use Rattle.ref_mark.proofs.Shading.{own-greyed}
+use Rattle.ref_mark.proofs.Shading.{shaded-only, shaded_all-only, shaded_all-append, own-greyed}
 
 -- ---- place by place
 

@@ -1,14 +1,11 @@
 -- A mutator makes an object: it is marked where a cycle has begun, and a slot holds it.
-use Rattle.std.proofs.Common.{◌≡◌, ℕ, ◌+◌, ◌*◌, ◌<◌, true, false, ◌==◌, arith, refl, sym, ap, subst, ◌∙◌, [], ◌∷◌, ◌++◌}
-use Rattle.std.proofs.Common.{Option, Some, None, is_some, ◌⊎◌, inl, inr}
-use Rattle.std.specs.Prelude.{slice_set}
-use Rattle.std.proofs.lemmas.Bool.{cases_Bool, eqb-true, eq-eqb, false≢true, true≢false}
-use Rattle.std.proofs.lemmas.List.{length-set}
-use Rattle.ref_objects.specs.Grounds.{with_new_tag}
-use Rattle.ref_mark.proofs.Common.{refers_into, has, Object, object_at, is_there, targets_of, targets_at}
-use Rattle.ref_mark.proofs.Common.{soft_and_weak_referents, is_kept, made, reference_in, reference_at}
-use Rattle.ref_mark.proofs.Common.{pending_numbers, has_slot, State, is_in_cycle, CycleHeap, is_white, is_due, doomed}
-use Rattle.ref_mark.proofs.Common.{young, with_made, MarkStands}
+use Rattle.ref_mark.proofs.Common.{◌≡◌, ℕ, ◌+◌, ◌*◌, ◌<◌, true, false, ◌==◌, arith, refl, sym, ap, subst, ◌∙◌, [], ◌∷◌}
+use Rattle.ref_mark.proofs.Common.{◌++◌, Option, Some, None, is_some, ◌⊎◌, inl, inr, slice_set, cases_Bool, eq-eqb}
+use Rattle.ref_mark.proofs.Common.{false≢true, true≢false, length-set, with_new_tag, refers_into, has, Object}
+use Rattle.ref_mark.proofs.Common.{object_at, is_there, targets_of, targets_at, soft_and_weak_referents, is_kept, made}
+use Rattle.ref_mark.proofs.Common.{reference_in, reference_at, pending_numbers, has_slot, State, is_in_cycle, CycleHeap}
+use Rattle.ref_mark.proofs.Common.{is_white, is_due, doomed, young, with_made, MarkStands}
+use Rattle.std.proofs.lemmas.Bool.{eqb-true}
 use Rattle.ref_base.proofs.OneMore.{has-one_more}
 use Rattle.ref_mark.proofs.DoomedLists.{doomed-made}
 use Rattle.ref_mark.proofs.Mutations.{Change, mutated, IsMutation, IsNew, MayLead, roots_after, referring_is_there}

@@ -1,20 +1,18 @@
 -- A mark's end, where nothing is grey: what isn't marked is doomed, and all references to it are cleared at once.
-use Rattle.std.proofs.Common.{arith}
-use Rattle.std.proofs.Common.{◌≡◌, ℕ, true, not, List, [], ◌∷◌}
-use Rattle.std.proofs.Common.{length, None}
-use Rattle.std.specs.Prelude.{is_some}
-use Rattle.ref_mark.proofs.Common.{has, Object, is_there, object_at, refers_into, reference_at, reference_in}
-use Rattle.ref_mark.proofs.Common.{is_empty, end_mark_refusal, State, Marking, Clearing}
-use Rattle.ref_mark.proofs.Common.{CycleHeap, is_white, is_black, unmarked, MarkStands, InClearing}
+use Rattle.ref_mark.proofs.Common.{arith, ◌≡◌, ℕ, true, not, List, [], ◌∷◌, length, None, is_some, has, Object}
+use Rattle.ref_mark.proofs.Common.{is_there, object_at, refers_into, reference_at, reference_in, is_empty, State}
+use Rattle.ref_mark.proofs.Common.{Marking, Clearing, CycleHeap, is_white, is_black, unmarked, MarkStands}
+use Rattle.ref_mark.proofs.Common.{cycle_in_phase}
+use Rattle.ref_base.specs.Refusals.{end_mark_refusal}
+use Rattle.ref_mark.specs.Standing.{InClearing}
 use Rattle.ref_base.specs.DoomedSets.{new_clears}
 use Rattle.ref_base.specs.CollectorRows.{EndsMark, mark_ended}
-use Rattle.ref_base.specs.declared.reply.Reply.TheVariants as replies
-use Rattle.ref_mark.specs.CycleHeaps.{cycle_in_phase}
 use Rattle.ref_mark.proofs.PlainStates.{plain_state, plain_state-is}
 use Rattle.ref_base.proofs.FoundLists.{AreFound-scanned, AreFound-some}
 use Rattle.ref_objects.proofs.SparedLemmas.{has-unmarked}
 use Rattle.ref_base.proofs.NewClears.{has-new_clears}
 use Rattle.ref_mark.proofs.SafeMarks.{unmarked_may_be_doomed, unscanned_is_unmarked}
+use Rattle.ref_base.specs.declared.reply.Reply.TheVariants as replies
 
 -- what refers to something is there
 pub reference_there : (os : List Object) (n : ℕ) → is_some (reference_in (object_at os n)) ≡ true

@@ -1,21 +1,16 @@
 -- Each step that is a call of a heap in its cycles is a row of the abstract collector.
-use Rattle.std.proofs.Common.{◌≡◌, true, sym, ap, ◌∙◌, [], Option, Some, None, refl}
-use Rattle.std.proofs.lemmas.Bool.{false≢true}
-use Rattle.ref_mark.proofs.Common.{Heap, NamedStep, new_refusal, refer_refusal, work_refusal, State}
-use Rattle.ref_mark.proofs.Common.{HeapAccepts, on_heap, shown, Fault, Marking, CycleHeap, doomed, shaded_all}
-use Rattle.ref_mark.proofs.Common.{refusal_in_cycle, done_in, unless_refused, MarkStands, unsaid, shown_heap}
+use Rattle.ref_mark.proofs.Common.{◌≡◌, true, sym, ap, ◌∙◌, [], Option, Some, None, refl, false≢true, Heap, NamedStep}
+use Rattle.ref_mark.proofs.Common.{new_refusal, refer_refusal, work_refusal, State, HeapAccepts, on_heap, shown, Fault}
+use Rattle.ref_mark.proofs.Common.{Marking, CycleHeap, doomed, shaded_all, refusal_in_cycle, done_in, unless_refused}
+use Rattle.ref_mark.proofs.Common.{MarkStands, unsaid, shown_heap, forgotten}
 use Rattle.ref_base.specs.Refusals.{heap_refusal}
 use Rattle.ref_base.specs.CollectorRows.{IsHeapRow}
-use Rattle.ref_base.specs.Forgetting.{forgotten}
-use Rattle.ref_base.specs.declared.heap_step.HeapStep.TheVariants as heap
-use Rattle.ref_base.specs.declared.plain_step.PlainStep.TheVariants as plain
-use Rattle.ref_base.specs.declared.reply.Reply.TheVariants as replies
+use Rattle.ref_mark.specs.MarkCalls.{is_of_marking, reply_in, late_roots}
+use Rattle.ref_mark.specs.MarkRows.{IsMarkRowOf}
 use Rattle.ref_base.proofs.Forgetting.{forgotten-shape}
 use Rattle.ref_base.proofs.Reshaping.{same_refusal}
 use Rattle.ref_base.proofs.RowForms.{accepted_row, refused_row}
 use Rattle.ref_base.proofs.ShownObjects.{shown-shape}
-use Rattle.ref_mark.specs.MarkCalls.{is_of_marking, reply_in, late_roots}
-use Rattle.ref_mark.specs.MarkRows.{IsMarkRowOf}
 use Rattle.ref_mark.proofs.ObjectRows.{new_row, refer_row, store_row}
 use Rattle.ref_mark.proofs.SlotRows.{copy_row, drop_row, load_row}
 use Rattle.ref_mark.proofs.ReferenceRows.{get_row, clear_row, refers_to_row}
@@ -23,6 +18,9 @@ use Rattle.ref_mark.proofs.HoldRows.{hold_row, adopt_row, release_row}
 use Rattle.ref_mark.proofs.BeginRows.{begin_row}
 use Rattle.ref_mark.proofs.ScanRows.{scan_row}
 use Rattle.ref_mark.proofs.MarkEndRows.{end_mark_row, same_end_mark}
+use Rattle.ref_base.specs.declared.heap_step.HeapStep.TheVariants as heap
+use Rattle.ref_base.specs.declared.plain_step.PlainStep.TheVariants as plain
+use Rattle.ref_base.specs.declared.reply.Reply.TheVariants as replies
 
 module _ (k : CycleHeap) (a : State) (stands : MarkStands k a) where
   -- ---- refusals

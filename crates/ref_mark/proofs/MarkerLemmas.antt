@@ -1,58 +1,37 @@
 -- What holds of a marker's lists, as objects are marked, found, taken and freed.
-use Rattle.std.proofs.Common.{◌≡◌, ℕ, ◌+◌, ◌<◌, ◌≤◌, Bool, true, false, ◌==◌, ◌||◌, not, refl, sym, ◌∙◌, ap, subst}
-use Rattle.std.proofs.Common.{List, [], ◌∷◌, ◌++◌, length, map, take, drop, replicate, get_or, set, Some, None, zero}
-use Rattle.std.proofs.Common.{suc, Option, if◌then◌else◌}
-use Rattle.std.specs.Option.{option_map}
-use Rattle.std.proofs.Common.{arith}
-use Rattle.std.specs.Prelude.{slice_set}
+use Rattle.ref_mark.proofs.Common.{◌≡◌, ℕ, ◌+◌, ◌<◌, ◌≤◌, Bool, true, false, ◌==◌, ◌||◌, not, refl, sym, ◌∙◌, ap, subst}
+use Rattle.ref_mark.proofs.Common.{List, [], ◌∷◌, ◌++◌, length, map, take, drop, replicate, get_or, set, Some, None}
+use Rattle.ref_mark.proofs.Common.{zero, suc, Option, if◌then◌else◌, option_map, arith, slice_set, true≢false, ne_eqb}
+use Rattle.ref_mark.proofs.Common.{false_from_ne_true, append-nil, drop_all, take_all, length-map, length-set}
+use Rattle.ref_mark.proofs.Common.{length-replicate, length-append, refers_into, has, is_there, made, Heap, Object}
+use Rattle.ref_mark.proofs.Common.{reference_at, joined, AreDistinct, list_at, is_in, is_empty, work_refusal, Config}
+use Rattle.ref_mark.proofs.Common.{Phase, Policy, Idle, Marking, Sweeping, Ground, Worklist, first_in, CycleHeap}
+use Rattle.ref_mark.proofs.Common.{first_cycle_heap, is_white, shaded, shaded_all, with_found, young, with_made}
+use Rattle.ref_mark.proofs.Common.{ground_of, one_more, without_tag, Chain, AreChains, chain_first, linked_last_of}
+use Rattle.ref_mark.proofs.Common.{chain_with, chain_without_first, is_tagged, linked_last, listed, lists_of, no_chain}
+use Rattle.ref_mark.proofs.Common.{seen_marker, found_in, IsSoundMarker, MayFind, MayGrey, all_marked, all_newly_marked}
+use Rattle.ref_mark.proofs.Common.{slice_index_or, cleared, Fault, rest_of, numbers, Reference, Tag, IsWellFormed}
+use Rattle.ref_mark.proofs.Common.{with_cleared_tag, with_new_tag, look_of, ground_with_heap, is_doomed, is_past_mark}
+use Rattle.ref_mark.proofs.Common.{with_changed, with_reference, cases_Bool, inl, inr}
 use Rattle.std.specs.List.{list_any}
-use Rattle.std.proofs.lemmas.Bool.{true≢false, ne_eqb, false_from_ne_true}
-use Rattle.std.proofs.lemmas.List.{append-nil, drop_all, take_all, length_push, length-map, length-set}
-use Rattle.std.proofs.lemmas.List.{length-replicate, length-append}
-use Rattle.ref_mark.proofs.Common.{refers_into, has, is_there, made, Heap, Object, reference_at}
-use Rattle.ref_mark.proofs.Common.{joined}
-use Rattle.ref_mark.proofs.Common.{AreDistinct, list_at, is_in, is_empty, work_refusal, Config, Phase, Policy, Idle}
-use Rattle.ref_mark.proofs.Common.{Marking, Sweeping, Ground, Worklist, empty_worklist, first_in, emptied_list}
-use Rattle.ref_mark.proofs.Common.{CycleHeap, first_cycle_heap, is_white, shaded, shaded_all, with_found}
-use Rattle.ref_base.specs.Paths.{present}
-use Rattle.ref_mark.specs.CycleHeaps.{young, with_made, is_swept}
-use Rattle.ref_mark.specs.MarkViews.{ground_of}
-use Rattle.ref_base.specs.Heaps.{one_more}
-use Rattle.ref_base.proofs.HasLaws.{has-right}
-use Rattle.ref_objects.specs.Grounds.{is_condemned, with_condemned, without_tag}
-use Rattle.ref_base.specs.CollectorRows.{without}
-use Rattle.ref_mark.proofs.DoomedLists.{is_there-push}
-use Rattle.ref_mark.proofs.Common.{Chain, AreChains, chain_first, linked_last_of, chain_with, chain_without_first}
-use Rattle.ref_mark.proofs.Common.{is_tagged, linked_last, listed}
-use Rattle.ref_mark.proofs.Common.{lists_of, no_chain, seen_marker, found_in, AreListed, IsSoundMarker, MayFind}
-use Rattle.ref_mark.specs.MarkViews.{MayGrey}
-use Rattle.ref_objects.proofs.NewMarks.{marked-if_any, marked-only, new_mark, all_marked-only, marked-stays, new_marks}
-use Rattle.ref_objects.proofs.NewMarks.{new_once}
-use Rattle.ref_objects.specs.Grounds.{all_marked, all_newly_marked}
-use Rattle.ref_mark.proofs.LoopLemmas.{read-has, read-apart}
-use Rattle.std.specs.Prelude.{slice_index_or}
-use Rattle.ref_objects.specs.Grounds.{cut_but, if_done}
-use Rattle.ref_mark.proofs.Common.{cleared, Fault}
+use Rattle.std.proofs.lemmas.List.{length_push}
 use Rattle.std.proofs.Common.{Result, Ok, Err}
-use Rattle.ref_base.specs.Members.{rest_of}
-use Rattle.ref_base.specs.Graphs.{numbers, Reference}
-use Rattle.ref_base.specs.CollectorRows.{emptied as none_found}
+use Rattle.ref_mark.specs.CycleHeaps.{is_swept, with_found_taken, swept, is_to_clear, cut_at, found_looked_at}
+use Rattle.ref_mark.specs.Worklists.{empty_worklist, emptied_list, with_last as list_with, without_first_listed}
+use Rattle.ref_objects.specs.Grounds.{is_condemned, cut_but, if_done, first_ground, after_freeing, with_new_object}
+use Rattle.ref_objects.specs.Grounds.{newly_marked, ground_marked_if_any}
+use Rattle.ref_base.specs.CollectorRows.{without, emptied as none_found}
+use Rattle.ref_mark.specs.MarkViews.{AreListed, found_look}
 use Rattle.ref_base.specs.declared.urgency.Urgency.TheVariants.{Normal}
 use Rattle.ref_base.specs.KeptPaths.{policy_from}
-use Rattle.ref_base.proofs.HasLaws.{has-append}
-use Rattle.ref_base.proofs.FoundLists.{with_last, has-with_last, AreDistinct-with_last, joined-emptied}
-use Rattle.ref_objects.specs.Grounds.{Tag, first_ground, after_freeing, with_new_object}
-use Rattle.ref_objects.specs.Grounds.{IsWellFormed, with_cleared_tag, with_new_tag, look_of, ground_with_heap}
-use Rattle.ref_objects.specs.Grounds.{newly_marked, ground_marked_if_any}
-use Rattle.ref_mark.specs.Worklists.{with_last as list_with, without_first_listed}
-use Rattle.ref_mark.specs.CycleHeaps.{with_found_taken, swept, is_doomed, is_past_mark, is_to_clear, cut_at}
-use Rattle.ref_mark.specs.CycleHeaps.{found_looked_at}
 use Rattle.ref_mark.specs.Chains.{first_looked_at}
-use Rattle.ref_mark.specs.MarkViews.{found_look}
+use Rattle.ref_base.proofs.HasLaws.{has-right, has-append}
+use Rattle.ref_mark.proofs.DoomedLists.{is_there-push}
+use Rattle.ref_objects.proofs.NewMarks.{marked-if_any, marked-only, new_mark, all_marked-only, marked-stays, new_marks}
+use Rattle.ref_objects.proofs.NewMarks.{new_once}
+use Rattle.ref_mark.proofs.LoopLemmas.{read-has, read-apart}
+use Rattle.ref_base.proofs.FoundLists.{with_last, has-with_last, AreDistinct-with_last, joined-emptied}
 use Rattle.ref_base.proofs.NewClears.{refers_into-same}
-use Rattle.ref_base.specs.Heaps.{with_changed, with_reference}
-use Rattle.std.proofs.lemmas.Bool.{cases_Bool}
-use Rattle.std.proofs.Common.{inl, inr}
 use Rattle.ref_mark.proofs.Shading.{AreDistinct-push}
 use Rattle.ref_base.proofs.OneMore.{has-one_more}
 use Rattle.ref_mark.proofs.DistinctLists.{distinct_fit, has-taken, AreDistinct-taken}
@@ -60,8 +39,7 @@ use Rattle.ref_mark.proofs.LinkLemmas.{link_at-cleared, is_tagged-cleared, is_ta
 use Rattle.ref_mark.proofs.LinkLemmas.{untagged-gone}
 use Rattle.ref_mark.proofs.ChainLemmas.{ArePushed, IsSame, lists-same, same_last, same_new, pushes_one, takes_one}
 use Rattle.ref_mark.proofs.ChainLemmas.{emptied_lists, list_at-lists_of, chain-is_empty, chain-first, chain-linked}
-use Rattle.ref_mark.proofs.ChainLemmas.{walk-none}
-use Rattle.ref_mark.proofs.ChainLemmas.{chain_at}
+use Rattle.ref_mark.proofs.ChainLemmas.{walk-none, chain_at}
 
 -- once a mark has ended, the doomed are the white
 pub past_refers : (k : CycleHeap) (n : ℕ) → is_past_mark k.phase ≡ true
@@ -141,9 +119,7 @@ ground_same {g} how cycle sound = λ i. record g { condemning = (sym sound.conde
 
 -- the next number isn't marked
 pub unmarked_next : (g : Ground) → IsWellFormed g → has g.marked g.next ≡ false
-unmarked_next g formed =
-    false_from_ne_true (has g.marked g.next)
-    (λ is. let below = formed.orderly.below g.next (formed.marked g.next is) in absurd (omega (arith, below)))
+unmarked_next g formed = grind arith
 
 -- what is marked already in a sweep needn't be marked as it becomes young
 already : (k : CycleHeap) (m d : ℕ) (o : Object) → has k.marked o.no ≡ false
@@ -280,13 +256,7 @@ module _ {g after : Ground} {grey : Worklist} {found : List Chain} {phase : Phas
 pub condemned_swept : (g : Ground) (grey : Worklist) (found : List Chain) (phase : Phase) (how : Policy) (cycle n : ℕ)
     → IsWellFormed g → IsSoundMarker g grey found phase
     → is_condemned g n ≡ is_swept (seen_marker g grey found phase how cycle) n
-condemned_swept g grey found phase how cycle n formed sound =
-    let unheld : is_condemned g n ≡ true → has g.heap.holds n ≡ false = λ out.
-    false_from_ne_true (has g.heap.holds n)
-    (λ held. let kept = formed.closed.rooted n (has-right (present g.heap.slots) g.heap.holds n held) in grind arith)
-    in
-    let phases = sound.condemning in
-    grind arith
+condemned_swept g grey found phase how cycle n formed sound = grind (arith, has-right)
 
 -- a condemned object goes
 module _ {g after : Ground} {grey : Worklist} {found : List Chain} {phase : Phase} (n : ℕ)
@@ -344,27 +314,6 @@ module _ {g after : Ground} {grey : Worklist} {found : List Chain} {phase : Phas
         | inr stays ↦
             let same : after ≡ g = is ∙ simp stays refl in rw same (simp (sym told ∙ stays) refl)
       ]
-
-none_in : (ns : List ℕ) → is_empty ns ≡ true → ns ≡ []
-none_in [] empty = refl
-none_in (n ∷ ns) empty = absurd (true≢false (sym empty))
-
--- a sweep begins
-pub sound_condemned : {g after : Ground} {grey : Worklist} {found : List Chain} {phase : Phase}
-    → is_empty (joined (found_in g found)) ≡ true → after ≡ with_condemned g → IsSoundMarker g grey found phase
-    → IsSoundMarker after grey found Sweeping
-sound_condemned {g} {after} {grey} {found} {phase} none is sound = rw is (record {
-  few = sound.few;
-  grey_fits = sound.grey_fits;
-  finders = sound.finders;
-  begins = sound.begins;
-  none_0 = sound.none_0;
-  chains = sound.chains;
-  listed = listed_none g.marked grey.stands (found_in g found) phase Sweeping
-      (none_in (joined (found_in g found)) none) sound.listed.grey_once
-      sound.listed.grey_marked;
-  condemning = refl;
-})
 
 -- more objects are marked
 module _ {g after : Ground} {grey : Worklist} {found : List Chain} {phase : Phase}

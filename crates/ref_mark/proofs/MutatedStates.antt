@@ -1,10 +1,8 @@
 -- A heap that a mutator changed stands for the state that the row of the abstract collector gives.
-use Rattle.std.proofs.Common.{◌≡◌, ℕ, ◌≤◌, Bool, true, false, not, refl, sym, ap, subst, ◌∙◌, arith, List, [], ◌∷◌}
-use Rattle.std.proofs.Common.{inl, inr}
-use Rattle.std.proofs.lemmas.Bool.{cases_Bool, true≢false, or_right}
-use Rattle.ref_mark.proofs.Common.{Heap, IsOrderly, World, with_heap, graph_of, pending_numbers, is_in, is_empty, State}
-use Rattle.ref_mark.proofs.Common.{ticked, Phase, Idle, Marking, Clearing, Sweeping, is_in_cycle, CycleHeap}
-use Rattle.ref_mark.proofs.Common.{is_past_mark, MarkStands, ReadsAs}
+use Rattle.ref_mark.proofs.Common.{◌≡◌, ℕ, ◌≤◌, Bool, true, false, not, refl, sym, ap, subst, ◌∙◌, arith, List, [], ◌∷◌}
+use Rattle.ref_mark.proofs.Common.{inl, inr, cases_Bool, true≢false, or_right, Heap, IsOrderly, World, with_heap}
+use Rattle.ref_mark.proofs.Common.{graph_of, pending_numbers, is_in, is_empty, State, ticked, Phase, Idle, Marking}
+use Rattle.ref_mark.proofs.Common.{Clearing, Sweeping, is_in_cycle, CycleHeap, is_past_mark, MarkStands, ReadsAs}
 use Rattle.ref_mark.proofs.Agreeing.{agrees_same, same_before}
 use Rattle.ref_mark.proofs.Shading.{MarkingBut}
 use Rattle.ref_mark.proofs.DoomedLists.{shown_heap-before}

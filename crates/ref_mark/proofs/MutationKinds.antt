@@ -1,7 +1,6 @@
 -- The kinds of mutations: of slots and holds alone, of one object, and of one more object.
-use Rattle.std.proofs.Common.{◌≡◌, ℕ, true, false, refl, sym, subst, arith, List, length, Option, Some, is_some, ◌⊎◌}
-use Rattle.std.proofs.Common.{inl, inr}
-use Rattle.ref_mark.proofs.Common.{refers_into, has, Object, object_at, is_there, Allowed, targets_of}
+use Rattle.ref_mark.proofs.Common.{◌≡◌, ℕ, true, false, refl, sym, subst, arith, List, length, Option, Some, is_some}
+use Rattle.ref_mark.proofs.Common.{◌⊎◌, inl, inr, refers_into, has, Object, object_at, is_there, Allowed, targets_of}
 use Rattle.ref_mark.proofs.Common.{soft_and_weak_referents, IsRising, is_kept, changed_at, reference_in, State}
 use Rattle.ref_mark.proofs.Common.{is_in_cycle, CycleHeap, is_white, is_past_mark, MarkStands}
 use Rattle.ref_mark.proofs.DoomedLists.{doomed-changed}

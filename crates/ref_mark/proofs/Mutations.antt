@@ -1,14 +1,11 @@
 -- What holds of a heap in its cycles goes on holding after a step of a mutator.
-use Rattle.std.proofs.Common.{◌≡◌, ℕ, ◌<◌, ◌≤◌, Bool, true, false, refl, arith, List, [], ◌∷◌}
-use Rattle.std.proofs.Common.{◌++◌, length, Option, Some, None, is_some, ◌⊎◌, inl, inr}
-use Rattle.ref_mark.proofs.Common.{refers_into, has, Graph, Object, object_at, is_there, Allowed, present}
-use Rattle.ref_mark.proofs.Common.{targets_of, targets_at, soft_and_weak_referents, IsRising, is_kept, Heap}
-use Rattle.ref_mark.proofs.Common.{reference_in, reference_at, World, with_heap, pending_numbers, State}
-use Rattle.ref_mark.proofs.Common.{is_in_cycle, CycleHeap, is_white, is_past_mark, is_due, doomed, FactsBut}
-use Rattle.ref_mark.proofs.Common.{Coloured, Reached, FoundBut}
-use Rattle.ref_base.specs.Graphs.{numbers}
+use Rattle.ref_mark.proofs.Common.{◌≡◌, ℕ, ◌<◌, ◌≤◌, Bool, true, false, refl, arith, List, [], ◌∷◌, ◌++◌, length}
+use Rattle.ref_mark.proofs.Common.{Option, Some, None, is_some, ◌⊎◌, inl, inr, refers_into, has, Graph, Object}
+use Rattle.ref_mark.proofs.Common.{object_at, is_there, Allowed, present, targets_of, targets_at}
+use Rattle.ref_mark.proofs.Common.{soft_and_weak_referents, IsRising, is_kept, Heap, reference_in, reference_at, World}
+use Rattle.ref_mark.proofs.Common.{with_heap, pending_numbers, State, is_in_cycle, CycleHeap, is_white, is_past_mark}
+use Rattle.ref_mark.proofs.Common.{is_due, doomed, FactsBut, Coloured, Reached, FoundBut, numbers, Tag}
 use Rattle.ref_base.proofs.PathLaws.{root_ends, target_ends}
-use Rattle.ref_objects.specs.Grounds.{Tag}
 use Rattle.ref_mark.proofs.Shading.{MarkingBut}
 use Rattle.ref_base.proofs.StillFound.{are_found-still}
 

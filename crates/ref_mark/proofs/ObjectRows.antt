@@ -1,11 +1,8 @@
 -- The rows that make objects and references, and the rows that store into a field.
-use Rattle.std.proofs.Common.{arith}
-use Rattle.std.proofs.Common.{◌≡◌, ℕ, ◌+◌, ◌*◌, true, false, zero, suc, refl, sym, ap, subst, ◌∙◌, List}
-use Rattle.std.proofs.Common.{[], ◌++◌, Option, Some, None, inl, inr, nat_lt}
-use Rattle.std.proofs.lemmas.Bool.{cases_Bool, and_parts, false≢true, true≢false}
-use Rattle.ref_objects.specs.Grounds.{with_new_tag}
-use Rattle.ref_mark.proofs.Common.{refers_into, has, Object, plain_object, Allowed, present, targets_of}
-use Rattle.ref_mark.proofs.Common.{allowed_referent, soft_and_weak_referents, is_kept, is_new_clear, Heap}
+use Rattle.ref_mark.proofs.Common.{arith, ◌≡◌, ℕ, ◌+◌, ◌*◌, true, false, zero, suc, refl, sym, ap, subst, ◌∙◌, List, []}
+use Rattle.ref_mark.proofs.Common.{◌++◌, Option, Some, None, inl, inr, nat_lt, cases_Bool, and_parts, false≢true}
+use Rattle.ref_mark.proofs.Common.{true≢false, with_new_tag, refers_into, has, Object, plain_object, Allowed, present}
+use Rattle.ref_mark.proofs.Common.{targets_of, allowed_referent, soft_and_weak_referents, is_kept, is_new_clear, Heap}
 use Rattle.ref_mark.proofs.Common.{slot_at, nulls, new_reference, made, changed_in, with_heap, pending_numbers}
 use Rattle.ref_mark.proofs.Common.{has_slot, has_slots, unless, field_refusal, new_refusal, refer_refusal, State}
 use Rattle.ref_mark.proofs.Common.{ticked, on_heap, HeapAccepts, Strength, NoSuchActor, is_in_cycle, CycleHeap}
@@ -14,13 +11,9 @@ use Rattle.ref_mark.proofs.Common.{unsaid, shown_heap}
 use Rattle.ref_base.specs.Heaps.{stored, with_field}
 use Rattle.ref_base.specs.Refusals.{is_queue_or_none, unless_empty, object_refusal, store_refusal}
 use Rattle.ref_base.specs.declared.fault.Fault.TheVariants.{BadQueue}
-use Rattle.ref_base.specs.declared.heap_step.HeapStep.TheVariants as heap
-use Rattle.ref_base.specs.declared.plain_step.PlainStep.TheVariants as plain
-use Rattle.ref_base.specs.declared.reply.Reply.TheVariants as replies
 use Rattle.ref_base.proofs.HasLaws.{has-left, has-right, has-cases}
-use Rattle.ref_mark.proofs.DoomedLists.{doomed-made, young-phase}
+use Rattle.ref_mark.proofs.DoomedLists.{doomed-made, young-phase, past_is_in_cycle, is_there-above}
 use Rattle.ref_mark.proofs.Agreeing.{agrees_changed, made-agrees, said_slot, said_new, agrees_next, unsaid_same}
-use Rattle.ref_mark.proofs.DoomedLists.{past_is_in_cycle, is_there-above}
 use Rattle.ref_base.proofs.ShownObjects.{shown-field, is_new_clear-none}
 use Rattle.ref_mark.proofs.ShownHeaps.{shown_heap-made, shown_heap-made_plain, is_new_clear-reference}
 use Rattle.ref_mark.proofs.Mutations.{Change, mutated}
@@ -31,6 +24,9 @@ use Rattle.ref_mark.proofs.RootFacts.{slot_is_there}
 use Rattle.ref_mark.proofs.MutationKinds.{altered, MayBecome, altered_mutation}
 use Rattle.ref_mark.proofs.MadeObjects.{making, mutated-making, made_mutation}
 use Rattle.ref_base.proofs.RowForms.{unless_passes}
+use Rattle.ref_base.specs.declared.heap_step.HeapStep.TheVariants as heap
+use Rattle.ref_base.specs.declared.plain_step.PlainStep.TheVariants as plain
+use Rattle.ref_base.specs.declared.reply.Reply.TheVariants as replies
 
 -- ---- what is made
 

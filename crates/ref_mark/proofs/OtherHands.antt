@@ -1,7 +1,6 @@
 -- Whether a heap stands for a state is no matter of hands and queues, nor of moments but for what was ever kept in
 -- them.
-use Rattle.std.proofs.Common.{List}
-use Rattle.ref_mark.proofs.Common.{State}
+use Rattle.ref_mark.proofs.Common.{List, State}
 use Rattle.ref_base.specs.QueueLists.{Lists}
 use Rattle.ref_base.specs.Worlds.{Notice}
 

@@ -1,9 +1,6 @@
 -- What a step of the cycle that isn't refused has passed.
-use Rattle.std.proofs.Common.{arith}
-use Rattle.std.proofs.Common.{◌≡◌, ℕ, ◌<◌, true, refl, None}
-use Rattle.std.proofs.lemmas.Bool.{false≢true}
-use Rattle.ref_mark.proofs.Common.{is_in, work_refusal}
-use Rattle.ref_mark.proofs.Common.{Phase, Idle, Marking, Clearing, Sweeping, CycleHeap}
+use Rattle.ref_mark.proofs.Common.{arith, ◌≡◌, ℕ, ◌<◌, true, refl, None, false≢true, is_in, work_refusal, Phase, Idle}
+use Rattle.ref_mark.proofs.Common.{Marking, Clearing, Sweeping, CycleHeap}
 
 pub is_clearing : (phase : Phase) → is_in phase Clearing ≡ true → phase ≡ Clearing
 is_clearing Idle is = absurd (false≢true is)

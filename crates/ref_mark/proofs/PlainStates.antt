@@ -1,8 +1,7 @@
 -- Before a mark has ended mutators read the heap as it is, and a state that it stands for has the heap's own parts.
-use Rattle.std.proofs.Common.{arith}
-use Rattle.std.proofs.Common.{◌≡◌, ℕ, ◌≤◌, false, not, List, [], length}
-use Rattle.ref_mark.proofs.Common.{Heap, IsOrderly, graph_of, is_empty, State, Policy, Phase, Marking}
-use Rattle.ref_mark.proofs.Common.{CycleHeap, is_past_mark, AreThere, MarkStands}
+use Rattle.ref_mark.proofs.Common.{arith, ◌≡◌, ℕ, ◌≤◌, false, not, List, [], length, Heap, IsOrderly, graph_of}
+use Rattle.ref_mark.proofs.Common.{is_empty, State, Policy, Phase, Marking, CycleHeap, is_past_mark, AreThere}
+use Rattle.ref_mark.proofs.Common.{MarkStands}
 use Rattle.ref_mark.proofs.Agreeing.{same_before}
 use Rattle.ref_mark.proofs.Shading.{MarkingBut}
 use Rattle.ref_mark.proofs.DoomedLists.{shown_heap-before}

@@ -1,13 +1,10 @@
 -- How references change as they are got or cleared, and what their referents read as.
-use Rattle.std.proofs.Common.{arith}
-use Rattle.std.proofs.Common.{◌≡◌, ℕ, true, false, refl, List}
-use Rattle.std.proofs.Common.{Option, Some, None, is_some}
-use Rattle.std.proofs.lemmas.Bool.{and_parts, false≢true}
-use Rattle.ref_mark.proofs.Common.{refers_into, any_is, has, Object, Reference, object_at, is_there}
+use Rattle.ref_mark.proofs.Common.{arith, ◌≡◌, ℕ, true, false, refl, List, Option, Some, None, is_some, and_parts}
+use Rattle.ref_mark.proofs.Common.{false≢true, refers_into, any_is, has, Object, Reference, object_at, is_there}
 use Rattle.ref_mark.proofs.Common.{allowed_referent, targets_of, targets_at, soft_and_weak_referents, Heap}
-use Rattle.ref_mark.proofs.Common.{reference_in, changed_in, with_reference, cleared}
-use Rattle.ref_mark.proofs.Common.{got_at, got, reference_refusal, reference_of, referent_got}
-use Rattle.ref_mark.proofs.Common.{CycleHeap, is_white, is_past_mark, is_doomed, undoomed, barred, with_got}
+use Rattle.ref_mark.proofs.Common.{reference_in, changed_in, with_reference, cleared, got_at, got, reference_refusal}
+use Rattle.ref_mark.proofs.Common.{reference_of, referent_got, CycleHeap, is_white, is_past_mark, is_doomed, undoomed}
+use Rattle.ref_mark.proofs.Common.{barred, with_got}
 use Rattle.ref_base.proofs.HasLaws.{has-left, has-right, has-cases}
 use Rattle.ref_base.proofs.Lookups.{lookup-changed}
 use Rattle.ref_mark.proofs.MutationKinds.{MayBecome}

@@ -1,27 +1,21 @@
 -- The rows that get, clear and compare what a reference refers to.
-use Rattle.std.proofs.Common.{arith}
-use Rattle.std.proofs.Common.{◌≡◌, ℕ, ◌+◌, ◌*◌, true, false, ◌==◌, nat_lt, refl, sym, ap, subst, ◌∙◌, List, [], ◌∷◌}
-use Rattle.std.proofs.Common.{◌++◌, Option, Some, None, ◌⊎◌, inl, inr}
-use Rattle.std.specs.Prelude.{slice_set}
-use Rattle.std.proofs.lemmas.Bool.{cases_Bool, and_parts, or_left, eq-eqb}
-use Rattle.std.proofs.lemmas.List.{length-set}
-use Rattle.ref_mark.proofs.Common.{has, Object, Reference, is_there, present, refers_into, Heap, slot_at, with_slot}
-use Rattle.ref_mark.proofs.Common.{reference_in, changed_in, with_reference, cleared, got_at, got, pending_numbers}
-use Rattle.ref_mark.proofs.Common.{has_slot, has_slots, reference_refusal, State, ticked, on_heap, value_reply}
-use Rattle.ref_mark.proofs.Common.{HeapAccepts, reference_of, referent_got, heap_but, NoSuchActor, CycleHeap}
-use Rattle.ref_mark.proofs.Common.{is_white, is_past_mark, is_in_cycle, is_doomed, doomed, undoomed, value_got, barred}
-use Rattle.ref_mark.proofs.Common.{with_got, with_cleared, MarkStands, ReadsAs, unsaid}
+use Rattle.ref_mark.proofs.Common.{arith, ◌≡◌, ℕ, ◌+◌, ◌*◌, true, false, ◌==◌, nat_lt, refl, sym, ap, subst, ◌∙◌, List}
+use Rattle.ref_mark.proofs.Common.{[], ◌∷◌, ◌++◌, Option, Some, None, ◌⊎◌, inl, inr, slice_set, cases_Bool, and_parts}
+use Rattle.ref_mark.proofs.Common.{or_left, eq-eqb, length-set, has, Object, Reference, is_there, present, refers_into}
+use Rattle.ref_mark.proofs.Common.{Heap, slot_at, with_slot, reference_in, changed_in, with_reference, cleared, got_at}
+use Rattle.ref_mark.proofs.Common.{got, pending_numbers, has_slot, has_slots, reference_refusal, State, ticked, on_heap}
+use Rattle.ref_mark.proofs.Common.{value_reply, HeapAccepts, reference_of, referent_got, heap_but, NoSuchActor}
+use Rattle.ref_mark.proofs.Common.{CycleHeap, is_white, is_past_mark, is_in_cycle, is_doomed, doomed, undoomed}
+use Rattle.ref_mark.proofs.Common.{value_got, barred, with_got, with_cleared, MarkStands, ReadsAs, unsaid, get_refusal}
+use Rattle.ref_mark.proofs.Common.{referent_of}
 use Rattle.ref_base.specs.Heaps.{cut}
-use Rattle.ref_base.specs.Refusals.{get_refusal, clear_refusal}
-use Rattle.ref_base.specs.CollectorRows.{Gets, referent_of, is_same}
-use Rattle.ref_base.specs.declared.heap_step.HeapStep.TheVariants as heap
-use Rattle.ref_base.specs.declared.plain_step.PlainStep.TheVariants as plain
-use Rattle.ref_base.specs.declared.reply.Reply.TheVariants as replies
+use Rattle.ref_base.specs.Refusals.{clear_refusal}
+use Rattle.ref_base.specs.CollectorRows.{Gets, is_same}
+use Rattle.ref_mark.specs.CycleHeaps.{reads_same}
 use Rattle.ref_base.proofs.Lookups.{has-present_here}
 use Rattle.ref_base.proofs.RowForms.{unless_passes}
 use Rattle.ref_base.proofs.ShownObjects.{shown_reference, unless_among, referent_of-shown, referent_got-shown}
 use Rattle.ref_base.proofs.ShownObjects.{shown-cleared, shown-got}
-use Rattle.ref_mark.specs.CycleHeaps.{reads_same}
 use Rattle.ref_mark.proofs.Agreeing.{reference_of-agrees, changed_in-agrees, agrees_changed, said_slot}
 use Rattle.ref_mark.proofs.DoomedLists.{past_is_in_cycle, shown_heap-before}
 use Rattle.ref_mark.proofs.ShownHeaps.{cut-shown}
@@ -36,6 +30,9 @@ use Rattle.ref_mark.proofs.SlotRows.{set_stands}
 use Rattle.ref_mark.proofs.ReferenceChanges.{reference_refusal-there, refers_into_doomed-past, cleared_becomes}
 use Rattle.ref_mark.proofs.ReferenceChanges.{got_becomes, gives_target, undoomed-some, with_got-barred}
 use Rattle.ref_mark.proofs.ReferenceChanges.{reference_of-held}
+use Rattle.ref_base.specs.declared.heap_step.HeapStep.TheVariants as heap
+use Rattle.ref_base.specs.declared.plain_step.PlainStep.TheVariants as plain
+use Rattle.ref_base.specs.declared.reply.Reply.TheVariants as replies
 
 module _ (k : CycleHeap) (a : State) (stands : MarkStands k a) where
   -- what is told of a reference in a slot, told so of what is shown, is told of it as it reads

@@ -1,12 +1,9 @@
 -- What a mutator can name isn't white once a cycle has begun, and what a mark has reached leads to nothing white once
 -- the mark has ended.
-use Rattle.std.proofs.Common.{◌≡◌, ℕ, ◌+◌, ◌*◌, ◌<◌, true, false, refl, arith, List, ◌++◌}
-use Rattle.std.proofs.Common.{length, Option, Some, None, ◌⊎◌, inl}
-use Rattle.std.specs.Prelude.{slice_set}
-use Rattle.ref_mark.proofs.Common.{any_is, has, is_there, present, targets_at, is_kept}
-use Rattle.ref_mark.proofs.Common.{slot_at, pending_numbers, is_in, has_slot, State, Phase, Marking}
-use Rattle.ref_mark.proofs.Common.{Sweeping, is_in_cycle, CycleHeap, is_white, is_past_mark, is_due, AreThere}
-use Rattle.ref_mark.proofs.Common.{MarkStands}
+use Rattle.ref_mark.proofs.Common.{◌≡◌, ℕ, ◌+◌, ◌*◌, ◌<◌, true, false, refl, arith, List, ◌++◌, length, Option, Some}
+use Rattle.ref_mark.proofs.Common.{None, ◌⊎◌, inl, slice_set, any_is, has, is_there, present, targets_at, is_kept}
+use Rattle.ref_mark.proofs.Common.{slot_at, pending_numbers, is_in, has_slot, State, Phase, Marking, Sweeping}
+use Rattle.ref_mark.proofs.Common.{is_in_cycle, CycleHeap, is_white, is_past_mark, is_due, AreThere, MarkStands}
 use Rattle.ref_base.proofs.HasLaws.{has-left, has-right, has-cases}
 use Rattle.ref_base.proofs.Lookups.{has-present_set, has-present_at}
 

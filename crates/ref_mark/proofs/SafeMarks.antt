@@ -1,13 +1,11 @@
 -- Once nothing is grey, what isn't marked may be doomed: nothing that is kept is white, and no marked object leads to a
 -- white one.
-use Rattle.std.proofs.Common.{arith}
-use Rattle.std.proofs.Common.{◌≡◌, ℕ, true, false, not, ◌&&◌, nat_lt, refl, ap, List, [], ◌∷◌, inl, inr}
-use Rattle.std.proofs.lemmas.Bool.{false≢true}
-use Rattle.ref_mark.proofs.Common.{has, Graph, Object, is_there, targets_at, is_kept, MayDoom, graph_of, State, joined}
-use Rattle.ref_mark.proofs.Common.{CycleHeap, is_white, is_black, is_in_cycle, unmarked, FactsBut, Coloured, Reached}
-use Rattle.ref_mark.proofs.Common.{MarkStands}
+use Rattle.ref_mark.proofs.Common.{arith, ◌≡◌, ℕ, true, false, not, ◌&&◌, nat_lt, refl, ap, List, [], ◌∷◌, inl, inr}
+use Rattle.ref_mark.proofs.Common.{false≢true, has, Graph, Object, is_there, targets_at, is_kept, graph_of, State}
+use Rattle.ref_mark.proofs.Common.{joined, CycleHeap, is_white, is_black, is_in_cycle, unmarked, FactsBut, Coloured}
+use Rattle.ref_mark.proofs.Common.{Reached, MarkStands}
+use Rattle.ref_base.specs.DoomedSets.{MayDoom, unscanned}
 use Rattle.ref_base.specs.KeptPaths.{IsKept}
-use Rattle.ref_base.specs.DoomedSets.{unscanned}
 use Rattle.ref_base.proofs.PathLaws.{path_within}
 use Rattle.ref_objects.proofs.SparedLemmas.{has-unmarked}
 

@@ -1,25 +1,21 @@
 -- A scan: the first of the grey list becomes black, what it leads to becomes grey, and a reference to what is still
 -- white is found.
-use Rattle.std.proofs.Common.{arith}
-use Rattle.std.proofs.Common.{◌≡◌, ℕ, ◌<◌, Bool, true, false, not, refl, sym, ap, subst, ◌∙◌, List, [], ◌∷◌, ◌++◌}
-use Rattle.std.proofs.Common.{length, None}
-use Rattle.std.proofs.lemmas.Bool.{true≢false, false_from_ne_true}
-use Rattle.std.proofs.lemmas.List.{length-set}
-use Rattle.ref_mark.proofs.Common.{has, targets_at, is_kept, EverKept, graph_of, is_in, is_empty, work_refusal, State}
-use Rattle.ref_mark.proofs.Common.{joined, list_at, Marking, Sweeping, CycleHeap, shaded_all, with_found, grey_scanned}
-use Rattle.ref_mark.proofs.Common.{MarkStands, first_in}
+use Rattle.ref_mark.proofs.Common.{arith, ◌≡◌, ℕ, ◌<◌, Bool, true, false, not, refl, sym, ap, subst, ◌∙◌, List, [], ◌∷◌}
+use Rattle.ref_mark.proofs.Common.{◌++◌, length, None, true≢false, false_from_ne_true, length-set, has, targets_at}
+use Rattle.ref_mark.proofs.Common.{is_kept, EverKept, graph_of, is_in, is_empty, work_refusal, State, joined, list_at}
+use Rattle.ref_mark.proofs.Common.{Marking, Sweeping, CycleHeap, shaded_all, with_found, grey_scanned, MarkStands}
+use Rattle.ref_mark.proofs.Common.{first_in, Tag}
 use Rattle.ref_base.specs.CollectorRows.{Scans}
-use Rattle.ref_base.specs.declared.reply.Reply.TheVariants as replies
-use Rattle.ref_base.proofs.HasLaws.{has-first}
-use Rattle.ref_objects.specs.Grounds.{Tag}
 use Rattle.ref_mark.specs.CycleHeaps.{scanned}
 use Rattle.ref_mark.specs.MarkCalls.{scan_reply}
+use Rattle.ref_base.proofs.HasLaws.{has-first}
 use Rattle.ref_mark.proofs.Shading.{MarkingBut, shaded_all-only, shaded_all_marking, some_left, grey_is_left}
 use Rattle.ref_mark.proofs.RootFacts.{plain_there}
 use Rattle.ref_mark.proofs.PlainStates.{plain_state, plain_state-is, marking_stands, plain_marking}
 use Rattle.ref_base.proofs.FoundLists.{AreFound-scanned, AreFound-more_found}
 use Rattle.ref_mark.proofs.Scanning.{reached_later, without_first, state_scanned, without_first_marking}
 use Rattle.ref_mark.proofs.Scanning.{with_found-only, length-with_found, with_found_marking}
+use Rattle.ref_base.specs.declared.reply.Reply.TheVariants as replies
 
 -- a scan where nothing is grey
 scan_none : (k : CycleHeap) (a : State) (w : ℕ) → MarkStands k a → k.phase ≡ Marking → k.grey ≡ []

@@ -1,14 +1,9 @@
 -- What holds in a mark while one object is scanned: it is off the grey list, what it leads to is still to be shaded,
 -- and it may be a reference that is found late.
-use Rattle.std.proofs.Common.{arith}
-use Rattle.std.proofs.Common.{◌≡◌, ℕ, ◌<◌, Bool, true, false, ◌==◌, List, [], ◌∷◌}
-use Rattle.std.proofs.Common.{◌++◌, length, ◌⊎◌}
-use Rattle.std.specs.Prelude.{is_some}
-use Rattle.std.proofs.lemmas.List.{length-set}
-use Rattle.ref_mark.proofs.Common.{refers_into, has, Graph, targets_at}
-use Rattle.ref_mark.proofs.Common.{is_kept, reference_at, graph_of, State, joined, Marking, CycleHeap}
-use Rattle.ref_mark.proofs.Common.{is_white, is_black, with_found, FactsBut, Coloured, Reached, FoundBut}
-use Rattle.ref_mark.proofs.Common.{list_at, linked_last_of}
+use Rattle.ref_mark.proofs.Common.{arith, ◌≡◌, ℕ, ◌<◌, Bool, true, false, ◌==◌, List, [], ◌∷◌, ◌++◌, length, ◌⊎◌}
+use Rattle.ref_mark.proofs.Common.{is_some, length-set, refers_into, has, Graph, targets_at, is_kept, reference_at}
+use Rattle.ref_mark.proofs.Common.{graph_of, State, joined, Marking, CycleHeap, is_white, is_black, with_found}
+use Rattle.ref_mark.proofs.Common.{FactsBut, Coloured, Reached, FoundBut, list_at, linked_last_of}
 use Rattle.ref_base.specs.CollectorRows.{AreFound}
 use Rattle.ref_base.proofs.HasLaws.{has-left}
 use Rattle.ref_base.proofs.PathLaws.{target_ends}

@@ -1,9 +1,8 @@
 -- A row that gives out an object: in a mark the barrier shades it, and it is said anew whether an object is left.
-use Rattle.std.proofs.Common.{arith}
-use Rattle.std.proofs.Common.{◌≡◌, ℕ, true, false, not, refl, sym, ap, subst, ◌∙◌, [], ◌∷◌, Some, inl, inr}
-use Rattle.std.proofs.lemmas.Bool.{cases_Bool}
-use Rattle.ref_mark.proofs.Common.{has, is_there, is_kept, EverKept, Heap, World, with_heap, pending_numbers, is_in}
-use Rattle.ref_mark.proofs.Common.{is_empty, State, ticked, Marking, CycleHeap, shaded, barred, ReadsAs, MarkStands}
+use Rattle.ref_mark.proofs.Common.{arith, ◌≡◌, ℕ, true, false, not, refl, sym, ap, subst, ◌∙◌, [], ◌∷◌, Some, inl, inr}
+use Rattle.ref_mark.proofs.Common.{cases_Bool, has, is_there, is_kept, EverKept, Heap, World, with_heap}
+use Rattle.ref_mark.proofs.Common.{pending_numbers, is_in, is_empty, State, ticked, Marking, CycleHeap, shaded, barred}
+use Rattle.ref_mark.proofs.Common.{ReadsAs, MarkStands}
 use Rattle.ref_base.specs.CollectorRows.{with_world, IsBut, GivesAnew, GivesAnewIf}
 use Rattle.ref_base.specs.declared.reply.Reply.{Reply}
 use Rattle.ref_base.proofs.PathLaws.{root_ends}
@@ -12,8 +11,8 @@ use Rattle.ref_mark.proofs.Shading.{MarkingBut, shaded_marking, shaded-only, som
 use Rattle.ref_mark.proofs.DoomedLists.{shown_heap-before}
 use Rattle.ref_mark.proofs.Mutations.{Change, mutated, IsMutation, roots_after, graph_after, mutated_state}
 use Rattle.ref_mark.proofs.Mutations.{mutated_marking}
-use Rattle.ref_mark.proofs.MutatedStates.{IsAlongside, in_mark, marking_stands, mutated_beside}
-use Rattle.ref_mark.proofs.MutatedStates.{marking_is_in_cycle, marking_is_not_past}
+use Rattle.ref_mark.proofs.MutatedStates.{IsAlongside, in_mark, marking_stands, mutated_beside, marking_is_in_cycle}
+use Rattle.ref_mark.proofs.MutatedStates.{marking_is_not_past}
 
 module _ (k : CycleHeap) (c : Change) (a : State) (w : World) (beside : IsAlongside a.world w) (n : ℕ)
     (stands : MarkStands k a)

@@ -1,11 +1,8 @@
 -- What holds in a mark goes on holding as white objects become grey.
-use Rattle.std.proofs.Common.{arith}
-use Rattle.std.proofs.Common.{◌≡◌, ℕ, true, false, not, ◌==◌, refl, sym, ap, subst, ◌∙◌, List}
-use Rattle.std.proofs.Common.{[], ◌∷◌, ◌++◌, inl, inr}
-use Rattle.std.proofs.lemmas.Bool.{cases_Bool, and_parts, or_right, false≢true}
-use Rattle.ref_mark.proofs.Common.{AreDistinct, has, is_there, EverKept}
-use Rattle.ref_mark.proofs.Common.{one_more, graph_of, is_empty, State, CycleHeap}
-use Rattle.ref_mark.proofs.Common.{is_white, is_black, shaded, shaded_all, FactsBut, Coloured, Reached, FoundBut}
+use Rattle.ref_mark.proofs.Common.{arith, ◌≡◌, ℕ, true, false, not, ◌==◌, refl, sym, ap, subst, ◌∙◌, List, [], ◌∷◌}
+use Rattle.ref_mark.proofs.Common.{◌++◌, inl, inr, cases_Bool, and_parts, or_right, false≢true, AreDistinct, has}
+use Rattle.ref_mark.proofs.Common.{is_there, EverKept, one_more, graph_of, is_empty, State, CycleHeap, is_white}
+use Rattle.ref_mark.proofs.Common.{is_black, shaded, shaded_all, FactsBut, Coloured, Reached, FoundBut}
 use Rattle.ref_base.specs.CollectorRows.{IsLeft}
 use Rattle.ref_base.proofs.HasLaws.{has-append, has-first}
 use Rattle.ref_base.proofs.OneMore.{has-one_more}

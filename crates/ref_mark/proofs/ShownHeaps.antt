@@ -1,13 +1,9 @@
 -- What mutators do to a heap, they do to the heap as they read it.
-use Rattle.std.proofs.Common.{arith}
-use Rattle.std.proofs.Common.{◌≡◌, ℕ, ◌+◌, ◌<◌, true, false, not, refl, ◌∙◌, ap, List, map, Option, Some}
-use Rattle.std.proofs.Common.{None}
-use Rattle.std.proofs.lemmas.Bool.{and_right}
-use Rattle.ref_objects.specs.Grounds.{with_new_tag}
-use Rattle.ref_mark.proofs.Common.{has, Object, is_there, plain_object, any_is, refers_into, is_new_clear, Heap}
-use Rattle.ref_mark.proofs.Common.{reference_at, changed_in, with_reference, cleared, new_reference, made}
-use Rattle.ref_mark.proofs.Common.{shown, reference_of, Strength, CycleHeap, is_white, is_past_mark}
-use Rattle.ref_mark.proofs.Common.{is_doomed, doomed, young, with_made, shown_heap}
+use Rattle.ref_mark.proofs.Common.{arith, ◌≡◌, ℕ, ◌+◌, ◌<◌, true, false, not, refl, ◌∙◌, ap, List, map, Option, Some}
+use Rattle.ref_mark.proofs.Common.{None, and_right, with_new_tag, has, Object, is_there, plain_object, any_is}
+use Rattle.ref_mark.proofs.Common.{refers_into, is_new_clear, Heap, reference_at, changed_in, with_reference, cleared}
+use Rattle.ref_mark.proofs.Common.{new_reference, made, shown, reference_of, Strength, CycleHeap, is_white}
+use Rattle.ref_mark.proofs.Common.{is_past_mark, is_doomed, doomed, young, with_made, shown_heap}
 use Rattle.ref_base.proofs.NewClears.{refers_into-same}
 use Rattle.ref_base.proofs.Reshaping.{map-changed_at}
 use Rattle.ref_base.proofs.ShownObjects.{shown-no, map-shown_push, changed_at-cleared}

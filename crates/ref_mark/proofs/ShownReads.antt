@@ -1,8 +1,6 @@
 -- What a heap reads as, of what isn't white.
-use Rattle.std.proofs.Common.{◌≡◌, ℕ, false, refl, ap, if◌then◌else◌, Option, Some, None}
-use Rattle.std.proofs.lemmas.Bool.{and_right}
-use Rattle.ref_mark.proofs.Common.{any_is, reference_of, CycleHeap, is_white, is_past_mark, doomed, undoomed}
-use Rattle.ref_mark.proofs.Common.{shown_heap}
+use Rattle.ref_mark.proofs.Common.{◌≡◌, ℕ, false, refl, ap, if◌then◌else◌, Option, Some, None, and_right, any_is}
+use Rattle.ref_mark.proofs.Common.{reference_of, CycleHeap, is_white, is_past_mark, doomed, undoomed, shown_heap}
 use Rattle.ref_base.proofs.ShownObjects.{shown_reference, reference_in-shown, unless_among}
 use Rattle.ref_mark.proofs.DoomedLists.{has-doomed}
 

@@ -1,22 +1,15 @@
 -- The rows of copies, drops and loads, and what holds change.
-use Rattle.std.proofs.Common.{arith}
-use Rattle.std.proofs.Common.{◌≡◌, ℕ, ◌+◌, ◌*◌, true, false, ◌==◌, refl, sym, ap, subst, nat_lt, List, [], ◌∷◌, ◌++◌}
-use Rattle.std.proofs.Common.{Option, Some, None, ◌⊎◌, inl, inr}
-use Rattle.std.specs.Prelude.{slice_set}
-use Rattle.std.proofs.lemmas.Bool.{cases_Bool, and_parts, or_left, eq-eqb}
-use Rattle.std.proofs.lemmas.List.{length-set}
-use Rattle.ref_mark.proofs.Common.{has, Object, object_at, is_there, Allowed, present, targets_of, targets_at}
-use Rattle.ref_mark.proofs.Common.{allowed_referent, soft_and_weak_referents, is_kept, Heap, slot_at, with_slot}
-use Rattle.ref_mark.proofs.Common.{pending_numbers, is_in, has_slot, has_slots, field_refusal, State, ticked, on_heap}
-use Rattle.ref_mark.proofs.Common.{field_in, value_reply, HeapAccepts, Marking, NoSuchActor, is_in_cycle, CycleHeap}
-use Rattle.ref_mark.proofs.Common.{is_white, barred, MarkStands}
+use Rattle.ref_mark.proofs.Common.{arith, ◌≡◌, ℕ, ◌+◌, ◌*◌, true, false, ◌==◌, refl, sym, ap, subst, nat_lt, List, []}
+use Rattle.ref_mark.proofs.Common.{◌∷◌, ◌++◌, Option, Some, None, ◌⊎◌, inl, inr, slice_set, cases_Bool, and_parts}
+use Rattle.ref_mark.proofs.Common.{or_left, eq-eqb, length-set, has, Object, object_at, is_there, Allowed, present}
+use Rattle.ref_mark.proofs.Common.{targets_of, targets_at, allowed_referent, soft_and_weak_referents, is_kept, Heap}
+use Rattle.ref_mark.proofs.Common.{slot_at, with_slot, pending_numbers, is_in, has_slot, has_slots, field_refusal}
+use Rattle.ref_mark.proofs.Common.{State, ticked, on_heap, field_in, value_reply, HeapAccepts, Marking, NoSuchActor}
+use Rattle.ref_mark.proofs.Common.{is_in_cycle, CycleHeap, is_white, barred, MarkStands}
 use Rattle.ref_base.specs.Refusals.{load_refusal}
 use Rattle.ref_base.specs.CollectorRows.{field_of, Loads}
-use Rattle.ref_base.specs.declared.heap_step.HeapStep.TheVariants as heap
-use Rattle.ref_base.specs.declared.plain_step.PlainStep.TheVariants as plain
-use Rattle.ref_base.specs.declared.reply.Reply.TheVariants as replies
-use Rattle.ref_base.proofs.HasLaws.{has-left}
 use Rattle.ref_mark.specs.CycleHeaps.{loaded}
+use Rattle.ref_base.proofs.HasLaws.{has-left}
 use Rattle.ref_mark.proofs.Agreeing.{field_in-agrees, said_slot}
 use Rattle.ref_mark.proofs.Mutations.{Change, mutated, IsMutation}
 use Rattle.ref_mark.proofs.MutatedStates.{mutated_stands, alongside_itself}
@@ -26,6 +19,9 @@ use Rattle.ref_mark.proofs.RootFacts.{slot_root, slot_is_not_white, roots_of_set
 use Rattle.ref_mark.proofs.RootFacts.{named_of_set, slot_is_there, slot_is_not_due}
 use Rattle.ref_mark.proofs.MutationKinds.{rooted, rooted_mutation}
 use Rattle.ref_base.proofs.RowForms.{unless_passes}
+use Rattle.ref_base.specs.declared.heap_step.HeapStep.TheVariants as heap
+use Rattle.ref_base.specs.declared.plain_step.PlainStep.TheVariants as plain
+use Rattle.ref_base.specs.declared.reply.Reply.TheVariants as replies
 
 -- ---- slots
 

@@ -1,23 +1,14 @@
 -- A sweep begins: what isn't marked is condemned, and what it refers to forgotten.
-use Rattle.std.proofs.Common.{◌≡◌, ℕ, true, false, ◌&&◌, not, refl, sym, ap, ◌∙◌, arith, List, [], ◌∷◌, ◌++◌, map, Option}
-use Rattle.std.proofs.Common.{Some, None, inl, inr, Bool, subst}
-use Rattle.ref_mark.proofs.Common.{Allowed, allowed_referent, targets_of, any_is, Heap}
-use Rattle.std.proofs.lemmas.Bool.{cases_Bool, false≢true, false_from_ne_true}
-use Rattle.ref_base.specs.Paths.{present, if_any}
-use Rattle.ref_base.specs.Forgetting.{forgotten}
-use Rattle.ref_base.specs.Graphs.{numbers}
-use Rattle.ref_base.specs.CollectorRows.{referent_of}
-use Rattle.ref_mark.proofs.Common.{has, Object, Reference, is_there, object_at, reference_in, reference_at, refers_into}
-use Rattle.ref_mark.proofs.Common.{heap_but, shown, is_in, is_kept, targets_at, joined}
-use Rattle.ref_mark.proofs.Common.{soft_and_weak_referents, IsRising, State, graph_of, Clearing, Sweeping, CycleHeap}
-use Rattle.ref_mark.proofs.Common.{is_white, is_black, is_in_cycle, unmarked, doomed, MarkStands}
-use Rattle.ref_mark.proofs.Common.{ReadsAs}
-use Rattle.ref_mark.specs.CycleHeaps.{cycle_in_phase, sweep_begun}
-use Rattle.ref_mark.specs.MarkViews.{ground_of}
-use Rattle.ref_objects.specs.Grounds.{NamesSpared, IsClosed, named_in, fields_in}
-use Rattle.ref_base.proofs.HasLaws.{has-cases, has-left, has-single}
-use Rattle.ref_base.proofs.NewClears.{refers_into-same}
-use Rattle.std.specs.Option.{is_some}
+use Rattle.ref_mark.proofs.Common.{◌≡◌, ℕ, true, false, ◌&&◌, not, refl, sym, ap, ◌∙◌, arith, List, [], ◌∷◌, ◌++◌, map}
+use Rattle.ref_mark.proofs.Common.{Option, Some, None, inl, inr, Bool, Allowed, allowed_referent, targets_of, Heap}
+use Rattle.ref_mark.proofs.Common.{false≢true, false_from_ne_true, present, if_any, forgotten, numbers, referent_of}
+use Rattle.ref_mark.proofs.Common.{has, Object, Reference, is_there, object_at, reference_at, refers_into, heap_but}
+use Rattle.ref_mark.proofs.Common.{shown, is_in, is_kept, joined, State, graph_of, Clearing, Sweeping, CycleHeap}
+use Rattle.ref_mark.proofs.Common.{is_white, is_black, is_in_cycle, unmarked, doomed, MarkStands, ReadsAs}
+use Rattle.ref_mark.proofs.Common.{cycle_in_phase, ground_of, fields_in}
+use Rattle.ref_mark.specs.CycleHeaps.{sweep_begun}
+use Rattle.ref_objects.specs.Grounds.{NamesSpared, IsClosed, named_in}
+use Rattle.ref_base.proofs.HasLaws.{has-cases, has-left}
 use Rattle.ref_base.proofs.Reshaping.{is_there-reshaped}
 use Rattle.ref_base.proofs.Forgetting.{forgotten-shape}
 use Rattle.ref_objects.proofs.SparedLemmas.{has-unmarked, kept_at, named_there}
@@ -33,12 +24,7 @@ field_target allow (Some o) n field = has-left (present o.fields) (allowed_refer
 refers_to : (test : ℕ → Bool) (r : Option Reference) (n : ℕ) → has (if_any (referent_of r)) n ≡ true
     → test n ≡ true → refers_into test r ≡ true
 refers_to test None n referent passes = absurd (false≢true referent)
-refers_to test (Some r) n referent passes = any_referent test r.referent n referent passes
-  where
-    any_referent : (test : ℕ → Bool) (value : Option ℕ) (n : ℕ) → has (if_any value) n ≡ true → test n ≡ true
-        → any_is test value ≡ true
-    any_referent test None n referent passes = absurd (false≢true referent)
-    any_referent test (Some m) n referent passes = ap test (has-single m n referent) ∙ passes
+refers_to test (Some r) n referent passes = grind arith
 
 module _ (k : CycleHeap) (a : State) (stands : MarkStands k a) (clearing : is_in k.phase Clearing ≡ true)
     (none : joined k.found ≡ []) (names : NamesSpared (ground_of k)) where
@@ -50,18 +36,16 @@ module _ (k : CycleHeap) (a : State) (stands : MarkStands k a) (clearing : is_in
   any_root n root = grind (arith, has-cases, slot_root, hold_root)
 
   root_marked : (n : ℕ) → has (present k.heap.slots ++ k.heap.holds) n ≡ true → has k.marked n ≡ true
-  root_marked n root =
-      let there = names.rooted n root in
-      let shaded = (stands.facts begun).rooted n (any_root n root) in
-      grind arith
+  root_marked n root = grind (arith, any_root)
 
-  -- what a marked object names isn't white: as a field, since it is black, or as a referent, since none is left to look at
+  -- what a marked object names isn't white: as a field, since it is black, or as a referent, since none is left to
+  -- look at
   not_white : (m n : ℕ) → has k.marked m ≡ true → has (named_in (object_at k.heap.objects m)) n ≡ true
       → is_white k n ≡ false
   not_white m n marked by =
       let black = is_black_there m marked (named_there (object_at k.heap.objects m) n by) in
-      elim (has-cases (present (fields_in (object_at k.heap.objects m))) (if_any (referent_of (reference_at k.heap m)))
-      n by) [
+      elim (has-cases (present (fields_in (object_at k.heap.objects m)))
+      (if_any (referent_of (reference_at k.heap m))) n by) [
         | inl field ↦
             elim ((stands.facts begun).closed m n black
             (field_target (is_kept k.policy) (object_at k.heap.objects m) n field)) [
@@ -82,10 +66,7 @@ module _ (k : CycleHeap) (a : State) (stands : MarkStands k a) (clearing : is_in
 
   named_marked : (m n : ℕ) → has k.marked m ≡ true → has (named_in (object_at k.heap.objects m)) n ≡ true
       → has k.marked n ≡ true
-  named_marked m n marked by =
-      let there = names.named m n by in
-      let other = not_white m n marked by in
-      grind arith
+  named_marked m n marked by = grind (arith, not_white)
 
   pub closed_clearing : IsClosed k.heap (has k.marked)
   closed_clearing = record { rooted = root_marked; closed = named_marked }
@@ -132,7 +113,8 @@ module _ (k : CycleHeap) (a : State) (stands : MarkStands (cycle_in_phase k Swee
   reads =
       ap (λ e. heap_but e a.world.heap) same_doomed ∙ stands.heap
       ∙ sym (ap (λ e. heap_but e (shown_by e)) same_doomed
-      ∙ ap (λ (os : List Object). let h : Heap = record k.heap { objects = os } in h) (all_forgot_twice d k.heap.objects))
+      ∙ ap (λ (os : List Object). let h : Heap = record k.heap { objects = os } in h)
+      (all_forgot_twice d k.heap.objects))
 
   there_same : (n : ℕ) → is_there j.heap.objects n ≡ is_there k.heap.objects n
   there_same n = is_there-reshaped (λ o. forgotten d o) (forgotten-shape d) k.heap.objects n
@@ -142,70 +124,8 @@ module _ (k : CycleHeap) (a : State) (stands : MarkStands (cycle_in_phase k Swee
 
   -- a marked object is as it was
   marked_same : (n : ℕ) → has k.marked n ≡ true → object_at j.heap.objects n ≡ object_at k.heap.objects n
-  marked_same n marked = kept_at d k.heap.objects n (has-unmarked k.heap.objects k.marked n ∙ simp marked (grind arith))
-
-  -- and another that isn't white isn't there
-  led : (m n : ℕ) → is_white j m ≡ false → has (targets_at soft_and_weak_referents j.heap.objects m) n ≡ true
-      → is_there k.heap.objects n ≡ true
-  led m n other target =
-      elim (cases_Bool (has k.marked m)) [
-        | inl marked ↦
-            stands.there.led m n (sym (white_same m) ∙ other)
-            (subst (λ (o : Option Object). has (targets_of soft_and_weak_referents o) n ≡ true) (marked_same m marked)
-            target)
-        | inr plain ↦ absurd (false≢true (sym (gone (object_at j.heap.objects m) (absent plain)) ∙ target))
-      ]
-    where
-      absent : has k.marked m ≡ false → is_some (object_at j.heap.objects m) ≡ false
-      absent plain = grind arith
-
-      gone : (o : Option Object) → is_some o ≡ false → has (targets_of soft_and_weak_referents o) n ≡ false
-      gone None none = refl
-      gone (Some o) none = absurd (false≢true (sym none))
-
-  black_marked : (m : ℕ) → is_black j m ≡ true → (has k.marked m ≡ true) × (is_black k m ≡ true)
-  black_marked m black = let there = there_same m in grind arith
+  marked_same n marked =
+      kept_at d k.heap.objects n (has-unmarked k.heap.objects k.marked n ∙ simp marked (grind arith))
 
   pub sweep_begun_stands : MarkStands j a
-  sweep_begun_stands = record {
-    heap = reads;
-    next = stands.next;
-    policy = stands.policy;
-    cycle = stands.cycle;
-    phase = stands.phase;
-    doomed = stands.doomed ∙ sym same_doomed;
-    born = stands.born;
-    orderly = record {
-      rising = subst IsRising (sym (numbers-forgotten d k.heap.objects)) stands.orderly.rising;
-      below = λ n there. stands.orderly.below n (sym (there_same n) ∙ there);
-      slots = stands.orderly.slots;
-    };
-    scanners = stands.scanners;
-    finders = stands.finders;
-    there = record {
-      named = λ n root. there_same n ∙ stands.there.named n root;
-      led = λ m n due target. there_same n ∙ led m n due target;
-    };
-    facts = λ now. record {
-      rooted = λ n root.
-          elim ((stands.facts refl).rooted n root) [ inl other ↦ inl (white_same n ∙ other) | inr todo ↦ inr todo ];
-      closed = λ m n black target.
-          let was = black_marked m black in
-          elim ((stands.facts refl).closed m n was.1
-          (subst (λ (o : Option Object). has (targets_of (is_kept k.policy) o) n ≡ true) (marked_same m was.0)
-          target)) [
-            | inl other ↦ inl (white_same n ∙ other)
-            | inr todo ↦ inr todo
-          ];
-    };
-    marking = λ now. absurd (false≢true now);
-    clearing = λ now. absurd (false≢true now);
-    sweeping = λ now. record {
-      no_grey = (stands.sweeping refl).no_grey;
-      none_left = λ n black.
-          let was = black_marked n black in
-          ap (λ (o : Option Object). refers_into (is_white j) (reference_in o)) (marked_same n was.0)
-          ∙ refers_into-same (is_white j) (is_white k) white_same (reference_at k.heap n)
-          ∙ (stands.sweeping refl).none_left n was.1;
-    };
-  }
+  sweep_begun_stands = grind (arith, reads, same_doomed, numbers-forgotten, white_same, marked_same)

@@ -1,22 +1,18 @@
 -- What a call answers and leaves that changes the cell of one object, where it is found and where there is none.
-use Rattle.std.proofs.Common.{◌≡◌, ℕ, ◌<◌, Bool, true, false, refl, sym, ◌∙◌, ap, arith, List, []}
-use Rattle.std.proofs.Common.{◌∷◌, ◌++◌, length, get_or, set, Option, Some, None}
-use Rattle.std.proofs.lemmas.List.{length-set}
-use Rattle.std.specs.Option.{option_map, is_some}
-use Rattle.ref_objects.specs.Places.{IsSoundTable}
-use Rattle.ref_objects.specs.Tables.{change_of, tabled_linked, is_unmarked_at, look_by, table_look, table_looked_at}
+use Rattle.ref_objects.proofs.Common.{◌≡◌, ℕ, ◌<◌, Bool, true, false, refl, sym, ◌∙◌, ap, arith, List, [], ◌∷◌, ◌++◌}
+use Rattle.ref_objects.proofs.Common.{length, get_or, set, Option, Some, None, length-set, option_map, IsSoundTable}
+use Rattle.ref_objects.proofs.Common.{change_of, tabled_linked, table_look, table_looked_at, ClearIn, Change, Tabled}
+use Rattle.ref_objects.proofs.Common.{Table, tabled_at, tabled_by, place_in, place_if_live, seen_table, changed, Entry}
+use Rattle.ref_objects.proofs.Common.{changed_tabled, marked_of, is_unmarked_in, table_freed, from_bool, ◌+◌, ◌^◌}
+use Rattle.ref_objects.specs.Tables.{is_unmarked_at, look_by}
 use Rattle.ref_objects.specs.declared.linked.Linked.{Linked}
 use Rattle.ref_objects.specs.declared.linked.Look.{Look}
-use Rattle.ref_objects.specs.declared.cell.Change.TheVariants.{ClearIn}
 use Rattle.ref_base.specs.DoomedSets.{refers_into}
-use Rattle.ref_objects.specs.declared.cell.Change.{Change}
-use Rattle.ref_objects.proofs.Common.{Tabled, Table, tabled_at, tabled_by, place_in, place_if_live, seen_table, changed}
-use Rattle.ref_objects.proofs.Common.{Entry, changed_tabled, marked_of, is_unmarked_in, table_freed}
 use Rattle.ref_objects.proofs.PlaceLemmas.{IsPlaceOf, IsPlaceOf-lent, IsMissing, IsMissing-lent}
-use Rattle.ref_objects.proofs.ChangeLemmas.{told_of, seen_changed, placed_changed, tabled_by-changed, there}
-use Rattle.ref_objects.proofs.ChangeLemmas.{room_to_free, seen_freed, placed_freed, tabled_by-freed}
-use Rattle.ref_objects.proofs.ChangeLemmas.{told_of_none, seen_missing_changed, seen_missing_freed}
-use Rattle.ref_objects.proofs.MarkLemmas.{marks_same, marks_changed, marks_without}
+use Rattle.ref_objects.proofs.ChangeLemmas.{told_of, seen_changed, placed_changed, tabled_by-changed, room_to_free}
+use Rattle.ref_objects.proofs.ChangeLemmas.{seen_freed, placed_freed, tabled_by-freed, told_of_none}
+use Rattle.ref_objects.proofs.ChangeLemmas.{seen_missing_changed, seen_missing_freed}
+use Rattle.ref_objects.proofs.MarkLemmas.{marks_same, marks_changed, marks_without, from_bool-le, length-unmarked_of}
 
 -- ---- what is written of an object
 
@@ -25,6 +21,23 @@ change_keeps change k = grind arith
 
 pub change_leaves : (change : Change) (k : Tabled) → (change_of change k).marked ≡ k.marked
 change_leaves change k = grind arith
+
+-- ---- the count of the marked
+
+-- one more can be counted
+pub marks_fit : {cells : List (Option Tabled)} {es : List Entry} {ps : List ℕ}
+    {last index_room places_room marked : ℕ} → IsSoundTable cells es ps last index_room places_room marked
+    → (b : Bool) {more : ℕ} → more ≡ from_bool b → marked + more < 2 ^ 64
+marks_fit {cells} {es} sound b one =
+    omega (
+      arith,
+      length-unmarked_of (tabled_by cells es),
+      from_bool-le b,
+      one,
+      sound.marks_counted,
+      sound.placed.counted,
+      sound.placed.small,
+    )
 
 -- ---- a call
 
@@ -36,9 +49,6 @@ module _ {cells borrowed : List (Option Tabled)} {es lent : List Entry} {ps : Li
   module _ {p : ℕ} (found : Some p ≡ place_if_live borrowed (place_in lent n) n) where
     place : IsPlaceOf cells es n p
     place = IsPlaceOf-lent n same_cells same_index found
-
-    pub is_there : {t : Table} → seen_table cells es last ≡ t → true ≡ is_some (tabled_at t.tabled n)
-    is_there view = there sound.placed place ∙ ap (λ (s : Table). is_some (tabled_at s.tabled n)) view
 
     pub has_room : length ps < length cells
     has_room = room_to_free sound.placed place

@@ -1,12 +1,10 @@
 -- What a change of one object, or its end, does to a table's fields.
-use Rattle.std.proofs.Common.{◌≡◌, ℕ, ◌<◌, true, false, refl, sym, ◌∙◌, ap, List, [], ◌∷◌, ◌++◌}
-use Rattle.std.proofs.Common.{length, get_or, set, Option, Some, None, suc, arith}
-use Rattle.std.proofs.lemmas.List.{get_or-set_same, get_or_read, length-set, length_push}
-use Rattle.std.specs.Option.{option_map, is_some}
-use Rattle.ref_objects.proofs.Common.{has, cell_at, tabled_by, place_in, place_if_live, seen_table, IsPlaced}
-use Rattle.ref_objects.proofs.Common.{Tabled, Table, tabled_at, has_field, holds_in, is_unmarked_in, changed_tabled}
-use Rattle.ref_objects.proofs.Common.{without_tabled, on_object, less_held, changed, table_freed, with_field, Entry}
-use Rattle.std.proofs.Common.{nat_lt}
+use Rattle.ref_objects.proofs.Common.{◌≡◌, ℕ, ◌<◌, true, false, refl, sym, ◌∙◌, ap, List, [], ◌∷◌, ◌++◌, length, get_or}
+use Rattle.ref_objects.proofs.Common.{set, Option, Some, None, suc, arith, get_or-set_same, get_or_read, length-set}
+use Rattle.ref_objects.proofs.Common.{length_push, option_map, is_some, has, cell_at, tabled_by, place_in}
+use Rattle.ref_objects.proofs.Common.{place_if_live, seen_table, IsPlaced, Tabled, Table, tabled_at, has_field}
+use Rattle.ref_objects.proofs.Common.{holds_in, is_unmarked_in, changed_tabled, without_tabled, on_object, less_held}
+use Rattle.ref_objects.proofs.Common.{changed, table_freed, with_field, Entry, nat_lt}
 use Rattle.std.proofs.lemmas.List.{set_past}
 use Rattle.ref_objects.proofs.FreeLemmas.{AreFree-apart, AreFree-set, AreFree-push}
 use Rattle.ref_objects.proofs.PlaceLemmas.{at_place, tabled_at-place, tabled_by-replaced, replaced, replaced-none}
@@ -134,9 +132,7 @@ module _ {cells : List (Option Tabled)} {es : List Entry} {ps : List ℕ} {last 
   seen_missing_changed f = search (changed_tabled-none, missing_at)
 
   pub seen_missing_freed : seen_table cells es last ≡ table_freed (seen_table cells es last) n
-  seen_missing_freed =
-      let stays : is_unmarked_in (tabled_at (tabled_by cells es) n) ≡ false = ap is_unmarked_in missing_at in
-      simp stays refl
+  seen_missing_freed = search missing_at
 
 -- a search finds a place exactly where there is an object
 pub found_where_there : {cells borrowed : List (Option Tabled)} {es lent : List Entry} {ps : List ℕ} {last : ℕ} (n : ℕ)

@@ -1,25 +1,19 @@
 -- What the cells hold as each object is changed: no mark is left, or what isn't marked refers to nothing.
-use Rattle.std.proofs.Common.{◌≡◌, ℕ, ◌<◌, ◌==◌, refl, sym, ◌∙◌, ap, List, [], ◌∷◌, length, map, Option}
-use Rattle.std.proofs.Common.{Some, None, inl, inr, arith}
-use Rattle.std.proofs.lemmas.Bool.{cases_Bool}
-use Rattle.std.proofs.lemmas.List.{length-map}
-use Rattle.std.proofs.Math.ListN.{get_or-map}
-use Rattle.std.specs.Option.{option_map}
-use Rattle.ref_base.specs.Heaps.{nulls}
-use Rattle.ref_objects.specs.Places.{IsSoundTable}
-use Rattle.ref_objects.specs.Tables.{numbers_by, blanked_unless_marked}
+use Rattle.ref_objects.proofs.Common.{◌≡◌, ℕ, ◌<◌, refl, ◌∙◌, ap, List, [], ◌∷◌, length, map, Option, Some, None, arith}
+use Rattle.ref_objects.proofs.Common.{length-map, option_map, nulls, IsSoundTable, numbers_by, blanked_unless_marked}
 use Rattle.ref_objects.proofs.Common.{cell_at, before, tabled_by, seen_table, AreFree, IsPlaced, Tabled, Table}
-use Rattle.ref_objects.proofs.Common.{unmarked_tabled, marked_of, Entry}
+use Rattle.ref_objects.proofs.Common.{marked_of, Entry}
+use Rattle.std.proofs.lemmas.List.{with_items_is}
+use Rattle.std.specs.Prelude.{Vec}
+use Rattle.std.specs.Vec.{with_items}
+use Rattle.std.proofs.Math.ListN.{get_or-map}
+use Rattle.ref_objects.specs.Tables.{unmarked_tabled}
 
 module _ (f : Tabled → Tabled) (keeps : (k : Tabled) → (f k).object.no ≡ k.object.no) where
   before-each : (c : Option Tabled) (n : ℕ) (ks : List Tabled)
       → before (option_map f c) n (map f ks) ≡ map f (before c n ks)
   before-each None n ks = refl
-  before-each (Some k) n ks =
-      elim (cases_Bool (k.object.no == n)) [
-        | inl own ↦ let same = ap (λ m. m == n) (keeps k) ∙ own in simp (own, same) refl
-        | inr stale ↦ let other = ap (λ m. m == n) (keeps k) ∙ stale in simp (stale, other) refl
-      ]
+  before-each (Some k) n ks = grind arith
 
   -- each cell changed is each object changed
   tabled_by-each : (cells : List (Option Tabled)) (es : List Entry)
@@ -39,6 +33,13 @@ module _ (f : Tabled → Tabled) (keeps : (k : Tabled) → (f k).object.no ≡ k
     free.2,
     AreFree-each cells ps free.3,
   )
+
+  -- and so where they are lent for it
+  pub items_each : {Z : Type 0} (v : Vec (Option Tabled) Z) {lent now : List (Option Tabled)} → length v.items ≡ v.len
+      → now ≡ map (option_map f) lent → lent ≡ v.items → (with_items v now).items ≡ map (option_map f) v.items
+  items_each v {lent} {now} size is same =
+      with_items_is v now (ap length is ∙ length-map lent (option_map f) ∙ ap length same ∙ size)
+      ∙ is ∙ ap (map (option_map f)) same
 
   module _ (cells : List (Option Tabled)) {ds : List (Option Tabled)} (is : ds ≡ map (option_map f) cells)
       (es : List Entry) where
@@ -60,12 +61,7 @@ module _ (f : Tabled → Tabled) (keeps : (k : Tabled) → (f k).object.no ≡ k
         → IsSoundTable cells es ps last index_room places_room marked
         → count ≡ length (marked_of (map f (tabled_by cells es)))
         → IsSoundTable ds es ps last index_room places_room count
-    sound_all sound counted = record {
-      placed = placed_all sound.placed;
-      index_fits = omega (arith, sound.index_fits, length-all);
-      places_fit = omega (arith, sound.places_fit, length-all);
-      marks_counted = counted ∙ ap (λ ks. length (marked_of ks)) (sym tabled_by-all);
-    }
+    sound_all sound counted = search (placed_all, length-all, tabled_by-all)
 
   -- what is counted of each object is counted of it changed
   pub numbers_by-each : (count : Tabled → ℕ) → ((k : Tabled) → count (f k) ≡ count k) → (ks : List Tabled)

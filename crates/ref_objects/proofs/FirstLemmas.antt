@@ -1,10 +1,9 @@
 -- Which object is the first from a number on that passes a test, by the cells and the index.
-use Rattle.std.proofs.Common.{◌≡◌, ℕ, ◌-◌, ◌≤◌, Bool, refl, sym}
-use Rattle.std.proofs.Common.{◌∙◌, ap, List, [], ◌∷◌, length, take, drop, Option, arith}
+use Rattle.ref_objects.proofs.Common.{◌≡◌, ℕ, ◌-◌, ◌≤◌, Bool, refl, sym, ◌∙◌, ap, List, [], ◌∷◌, length, take, drop}
+use Rattle.ref_objects.proofs.Common.{Option, arith, first_where, first_entry, cell_at, tabled_by, count_below}
+use Rattle.ref_objects.proofs.Common.{AllAbove, Rises, Tabled, Entry}
 use Rattle.std.proofs.lemmas.List.{take_rest}
-use Rattle.ref_objects.specs.Tables.{first_where}
-use Rattle.ref_objects.specs.Places.{first_entry, is_passing}
-use Rattle.ref_objects.proofs.Common.{cell_at, tabled_by, count_below, AllAbove, Rises, Tabled, Entry}
+use Rattle.ref_objects.specs.Places.{is_passing}
 
 module _ (passes : Tabled → Bool) where
   module _ (cells : List (Option Tabled)) (test : Entry → Bool)

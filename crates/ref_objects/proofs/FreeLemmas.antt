@@ -1,8 +1,8 @@
 -- Which places are free.
-use Rattle.std.proofs.Common.{◌≡◌, ℕ, ◌+◌, ◌<◌, ◌≤◌, true, false, refl, List, [], ◌∷◌}
-use Rattle.std.proofs.Common.{◌++◌, length, set, replicate, Option, None, zero, suc, arith}
-use Rattle.std.proofs.lemmas.List.{get_or-set_other, length-set, get_or-replicate, length-replicate, length_push}
-use Rattle.ref_objects.proofs.Common.{has, cell_at, is_of, places_below, AreFree, Tabled}
+use Rattle.ref_objects.proofs.Common.{◌≡◌, ℕ, ◌+◌, ◌<◌, ◌≤◌, true, false, refl, List, [], ◌∷◌, ◌++◌, length, set}
+use Rattle.ref_objects.proofs.Common.{replicate, Option, None, zero, suc, arith, get_or-set_other, length-set}
+use Rattle.ref_objects.proofs.Common.{length-replicate, length_push, has, cell_at, is_of, places_below, AreFree, Tabled}
+use Rattle.std.proofs.lemmas.List.{get_or-replicate}
 use Rattle.ref_base.proofs.HasLaws.{has-append}
 
 -- a place whose cell holds something isn't free

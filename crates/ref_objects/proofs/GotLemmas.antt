@@ -1,11 +1,8 @@
 -- What a get leaves: a soft reference is stamped, and the slot holds what was got.
-use Rattle.std.proofs.Common.{arith}
-use Rattle.std.proofs.Common.{◌≡◌, ℕ, true, false, refl, List, [], ◌∷◌, Option, Some, None}
-use Rattle.std.proofs.lemmas.Bool.{false≢true}
-use Rattle.std.specs.Option.{is_some}
-use Rattle.ref_objects.proofs.Common.{Object, Reference, object_at}
-use Rattle.ref_base.specs.Heaps.{Heap, changed_at, with_changed, with_reference, with_stamp, with_slot, reference_in}
-use Rattle.ref_base.specs.Heaps.{reference_at, slot_at, got}
+use Rattle.ref_objects.proofs.Common.{arith, ◌≡◌, ℕ, true, false, refl, List, [], ◌∷◌, Option, Some, None, false≢true}
+use Rattle.ref_objects.proofs.Common.{is_some, Object, Reference, object_at, changed_at, with_changed, with_reference}
+use Rattle.ref_objects.proofs.Common.{with_stamp, reference_in, reference_at}
+use Rattle.ref_base.specs.Heaps.{Heap, with_slot, slot_at, got}
 use Rattle.ref_base.specs.Paths.{is_soft}
 use Rattle.ref_objects.specs.Grounds.{renewed}
 

@@ -1,9 +1,8 @@
 -- What the index says of a number, and how it changes.
-use Rattle.std.proofs.Common.{◌≡◌, ℕ, ◌<◌, ◌≤◌, Bool, true, false, ◌==◌, if◌then◌else◌, nat_lt, refl, ap}
-use Rattle.std.proofs.Common.{List, [], ◌∷◌, ◌++◌, length, get_or, Some, None, zero, suc, arith}
-use Rattle.std.specs.List.{filter}
+use Rattle.ref_objects.proofs.Common.{◌≡◌, ℕ, ◌<◌, ◌≤◌, Bool, true, false, ◌==◌, if◌then◌else◌, nat_lt, refl, ap, List}
+use Rattle.ref_objects.proofs.Common.{[], ◌∷◌, ◌++◌, length, get_or, Some, None, zero, suc, arith, filter, place_in}
+use Rattle.ref_objects.proofs.Common.{count_below, AllAbove, NoneAbove, Rises, Entry}
 use Rattle.std.specs.List.Sorted.{IsPartitionedBy, IsPartitionPoint}
-use Rattle.ref_objects.proofs.Common.{place_in, count_below, AllAbove, NoneAbove, Rises, Entry}
 
 -- ---- numbers that rise
 

@@ -1,16 +1,12 @@
 -- Which objects of a table are marked, and how a change of the table changes it.
-use Rattle.std.proofs.Common.{◌≡◌, ℕ, ◌+◌, ◌≤◌, Bool, true, false, ◌&&◌, not}
-use Rattle.std.proofs.Common.{refl, sym, ◌∙◌, ap, List, [], ◌∷◌, ◌++◌, length, Option, Some, None, inl}
-use Rattle.std.proofs.Common.{inr, arith}
-use Rattle.std.proofs.lemmas.Bool.{cases_Bool, true≢false}
-use Rattle.std.specs.Option.{option_map, is_some}
-use Rattle.std.specs.Int.{from_bool}
-use Rattle.ref_objects.specs.Tables.{counted_in}
-use Rattle.ref_objects.proofs.Common.{Object, is_there, numbers, has, IsRising, one_more, Tabled, tabled_at}
-use Rattle.ref_objects.proofs.Common.{objects_of, changed_tabled, without_tabled, is_marked_in, is_unmarked_in}
-use Rattle.ref_objects.proofs.Common.{marked_of, unmarked_of, with_marked, unmarked}
-use Rattle.ref_objects.proofs.NumberLemmas.{has-numbers_by, numbers_by-changed, numbers_by-without}
-use Rattle.ref_objects.proofs.NumberLemmas.{numbers_by-more, length-changed, length-without, length-made}
+use Rattle.ref_objects.proofs.Common.{◌≡◌, ℕ, ◌+◌, ◌≤◌, Bool, true, false, ◌&&◌, not, refl, sym, ◌∙◌, ap, List, [], ◌∷◌}
+use Rattle.ref_objects.proofs.Common.{◌++◌, length, Option, Some, None, inl, inr, arith, cases_Bool, option_map}
+use Rattle.ref_objects.proofs.Common.{is_some, from_bool, counted_in, Object, is_there, numbers, has, IsRising}
+use Rattle.ref_objects.proofs.Common.{one_more, Tabled, tabled_at, objects_of, changed_tabled, without_tabled}
+use Rattle.ref_objects.proofs.Common.{is_marked_in, is_unmarked_in, marked_of, unmarked_of, with_marked, unmarked}
+use Rattle.std.proofs.lemmas.Bool.{true≢false}
+use Rattle.ref_objects.proofs.NumberLemmas.{has-numbers_by, numbers_by-changed, numbers_by-without, numbers_by-more}
+use Rattle.ref_objects.proofs.NumberLemmas.{length-changed, length-without, length-made}
 use Rattle.ref_objects.proofs.TabledLemmas.{is_there-objects_of}
 
 -- an object that is marked counts once among the marked
@@ -80,9 +76,7 @@ marks_changed ks n f keeps leaves counted =
 
 pub marks_made : (ks : List Tabled) (k : Tabled) → {ls : List Tabled} {count more : ℕ} → ls ≡ ks ++ k ∷ []
     → more ≡ from_bool k.marked → count ≡ length (marked_of ks) → count + more ≡ length (marked_of ls)
-marks_made ks k {ls} {count} {more} is one counted =
-    let pushed = ap (λ ms. length (marked_of ms)) is ∙ length-made mark_count ks k in
-    omega (arith, pushed, one, counted)
+marks_made ks k {ls} {count} {more} is one counted = grind (arith, length-made)
 
 once_marked : (k : Option Tabled)
     → counted_in mark_count (option_map (with_marked true) k) ≡ counted_in mark_count k + from_bool (is_unmarked_in k)

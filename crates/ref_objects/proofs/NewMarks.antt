@@ -1,16 +1,13 @@
 -- What is marked anew as several objects are marked one by one.
-use Rattle.std.proofs.Common.{◌≡◌, ℕ, ◌+◌, ◌<◌, ◌≤◌, true, false, refl, ap, ◌∙◌, arith, List, []}
-use Rattle.std.proofs.Common.{◌∷◌, ◌++◌, length, map, take, Option, Some, None, zero, suc}
-use Rattle.std.specs.Prelude.{slice_index_or, slice_set}
-use Rattle.std.proofs.lemmas.List.{append-nil, append_assoc, length-append, length-map, length-take-le, map-append}
-use Rattle.std.proofs.lemmas.List.{take_more}
+use Rattle.ref_objects.proofs.Common.{◌≡◌, ℕ, ◌+◌, ◌<◌, ◌≤◌, true, false, refl, arith, List, [], ◌∷◌, ◌++◌, length, map}
+use Rattle.ref_objects.proofs.Common.{take, Option, Some, None, zero, suc, slice_index_or, slice_set, append-nil}
+use Rattle.ref_objects.proofs.Common.{length-append, length-map, length-take-le, map-append, if_any, has, Ground}
+use Rattle.ref_objects.proofs.Common.{all_marked, all_newly_marked}
+use Rattle.std.proofs.lemmas.List.{append_assoc, take_more}
 use Rattle.ref_base.specs.Members.{AreDistinct}
-use Rattle.ref_base.specs.Paths.{if_any}
+use Rattle.ref_objects.specs.Grounds.{ground_marked_if_any, newly_marked}
 use Rattle.ref_base.proofs.HasLaws.{has-cases}
 use Rattle.ref_base.proofs.OneMore.{has-one_more}
-use Rattle.ref_objects.proofs.Common.{has}
-use Rattle.ref_objects.specs.Grounds.{Ground, ground_marked_if_any, newly_marked}
-use Rattle.ref_objects.specs.Grounds.{all_marked, all_newly_marked}
 
 -- ---- one more
 
@@ -137,7 +134,4 @@ all_marked-only g (Some m ∷ xs) = grind (arith, all_marked-only (ground_marked
 pub listed_few : (g : Ground) (held anew : List (Option ℕ)) (field : ℕ)
     → anew ≡ map (λ n. Some n) (all_newly_marked g (take field held)) → field < length held → length held ≤ 8
     → length anew < 8
-listed_few g held anew field listed within few =
-    let count = few_newly g (take field held) in
-    let size = ap length listed ∙ length-map (all_newly_marked g (take field held)) (λ n. Some n) in
-    grind (arith, count, size, length-take-le)
+listed_few g held anew field listed within few = grind (arith, few_newly, length-map, length-take-le)

@@ -1,14 +1,12 @@
 -- The numbers of a table's objects, each as often as a count says: so are the holds, the marked, and the others.
-use Rattle.std.proofs.Common.{◌≡◌, ℕ, zero, suc, ◌+◌, ◌<◌, ◌≤◌, Bool, true, false, ◌==◌, nat_lt, nat_le, refl}
-use Rattle.std.proofs.Common.{sym, ap, arith, length-append, List, [], ◌∷◌, ◌++◌, length, replicate, Some}
-use Rattle.std.proofs.lemmas.Bool.{eq-eqb, lt-ltb, le-ltb, false≢true}
-use Rattle.std.proofs.lemmas.List.{length-replicate}
-use Rattle.std.specs.Option.{option_map, is_some}
-use Rattle.ref_base.proofs.HasLaws.{has-append}
-use Rattle.ref_objects.specs.Tables.{numbers_by, counted_in, first_where}
+use Rattle.ref_objects.proofs.Common.{◌≡◌, ℕ, zero, suc, ◌+◌, ◌<◌, ◌≤◌, Bool, true, false, ◌==◌, nat_lt, refl, sym, ap}
+use Rattle.ref_objects.proofs.Common.{arith, length-append, List, [], ◌∷◌, ◌++◌, length, replicate, Some, eq-eqb}
+use Rattle.ref_objects.proofs.Common.{lt-ltb, le-ltb, false≢true, length-replicate, option_map, is_some, numbers_by}
+use Rattle.ref_objects.proofs.Common.{counted_in, first_where, has, numbers, IsRising, one_more, one_fewer, least_from}
+use Rattle.ref_objects.proofs.Common.{Tabled, tabled_at, AllUpTo, objects_of, changed_tabled, without_tabled}
+use Rattle.std.proofs.Common.{nat_le}
 use Rattle.ref_objects.specs.Grounds.{AllFrom, IsInOrder}
-use Rattle.ref_objects.proofs.Common.{has, numbers, IsRising, one_more, one_fewer, least_from, Tabled, tabled_at, AllUpTo}
-use Rattle.ref_objects.proofs.Common.{objects_of, changed_tabled, without_tabled}
+use Rattle.ref_base.proofs.HasLaws.{has-append}
 
 -- ---- lists of numbers
 

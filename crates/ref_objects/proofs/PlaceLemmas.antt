@@ -1,11 +1,10 @@
 -- What the cells and the index say together of the objects that a contract sees.
-use Rattle.std.proofs.Common.{◌≡◌, ℕ, ◌<◌, true, false, ◌==◌, if◌then◌else◌, nat_lt, refl, List, []}
-use Rattle.std.proofs.Common.{◌∷◌, ◌++◌, length, get_or, set, Option, Some, None, inl, inr, arith}
-use Rattle.std.proofs.lemmas.Bool.{cases_Bool, eqb-true, false≢true}
-use Rattle.std.proofs.lemmas.List.{get_or-set_same, get_or-set_other, get_or_past}
-use Rattle.std.specs.List.{filter}
-use Rattle.ref_objects.proofs.Common.{cell_at, is_of, is_live, before, tabled_by, place_in, place_if_live, count_below}
-use Rattle.ref_objects.proofs.Common.{Rises, Tabled, tabled_at, changed_tabled, without_tabled, Entry}
+use Rattle.ref_objects.proofs.Common.{◌≡◌, ℕ, ◌<◌, true, false, ◌==◌, if◌then◌else◌, nat_lt, refl, List, [], ◌∷◌, ◌++◌}
+use Rattle.ref_objects.proofs.Common.{length, get_or, set, Option, Some, None, inl, inr, arith, cases_Bool, eqb-true}
+use Rattle.ref_objects.proofs.Common.{false≢true, get_or-set_same, get_or-set_other, filter, cell_at, is_of, is_live}
+use Rattle.ref_objects.proofs.Common.{before, tabled_by, place_in, place_if_live, count_below, Rises, Tabled, tabled_at}
+use Rattle.ref_objects.proofs.Common.{changed_tabled, without_tabled, Entry}
+use Rattle.std.proofs.lemmas.List.{get_or_past}
 use Rattle.ref_objects.proofs.IndexLemmas.{place_in-none, place_in-at, place_in-past}
 
 -- ---- one cell

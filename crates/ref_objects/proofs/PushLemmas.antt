@@ -1,17 +1,13 @@
 -- What closed gaps and a new object do to a table's fields.
-use Rattle.std.proofs.Common.{◌≡◌, ℕ, ◌+◌, ◌*◌, ◌<◌, ◌==◌, refl, sym, ◌∙◌, ap, subst, List, [], ◌∷◌, ◌++◌, length}
-use Rattle.std.proofs.Common.{set, Option, Some, inl, inr, arith}
-use Rattle.std.proofs.lemmas.Bool.{cases_Bool, eq-eqb, false≢true}
-use Rattle.std.proofs.lemmas.List.{get_or-set_same, length-set, length_push}
-use Rattle.std.specs.List.{filter}
-use Rattle.std.specs.Option.{option_to_list}
-use Rattle.ref_objects.proofs.Common.{is_live, tabled_by, seen_table}
+use Rattle.ref_objects.proofs.Common.{◌≡◌, ℕ, ◌+◌, ◌*◌, ◌<◌, ◌==◌, refl, sym, ◌∙◌, ap, subst, List, [], ◌∷◌, ◌++◌}
+use Rattle.ref_objects.proofs.Common.{length, set, Option, Some, inl, inr, arith, cases_Bool, eq-eqb, false≢true}
+use Rattle.ref_objects.proofs.Common.{get_or-set_same, length-set, length_push, filter, is_live, tabled_by, seen_table}
 use Rattle.ref_objects.proofs.Common.{IsPlaced, Tabled, with_tabled, Entry}
+use Rattle.std.specs.Option.{option_to_list}
 use Rattle.ref_objects.specs.Places.{with_room}
 use Rattle.ref_objects.proofs.FreeLemmas.{AreFree-set, AreFree-pop, PopsFree}
 use Rattle.ref_objects.proofs.IndexLemmas.{place_in-new, Rises-push, NoneAbove-push, Rises-filter, NoneAbove-filter}
-use Rattle.ref_objects.proofs.PlaceLemmas.{tabled_by-set, tabled_by-push}
-use Rattle.ref_objects.proofs.PlaceLemmas.{tabled_by-filter, length-filter_live}
+use Rattle.ref_objects.proofs.PlaceLemmas.{tabled_by-set, tabled_by-push, tabled_by-filter, length-filter_live}
 
 -- ---- gaps
 

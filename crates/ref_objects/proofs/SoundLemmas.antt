@@ -1,229 +1,186 @@
 -- What each call that writes fields of a heap's objects leaves sound.
-use Rattle.std.proofs.Common.{◌≡◌, ℕ, ◌+◌, ◌-◌, ◌*◌, ◌^◌, ◌<◌, ◌≤◌, Bool, true, false, refl, sym, ap, subst, ◌∙◌, arith}
-use Rattle.std.proofs.Common.{List, [], ◌++◌, length, get_or, replicate, Option, Some, None}
-use Rattle.ref_base.specs.Graphs.{object_at}
-use Rattle.ref_base.specs.Paths.{present}
-use Rattle.ref_base.specs.Limits.{is_within_limits}
-use Rattle.ref_objects.specs.Tables.{empty_table}
-use Rattle.ref_base.proofs.HasLaws.{has-append}
-use Rattle.ref_objects.specs.Grounds.{named_in}
-use Rattle.std.specs.Prelude.{slice_set}
-use Rattle.std.specs.Option.{is_some}
-use Rattle.std.proofs.lemmas.Bool.{false≢true, lt-ltb}
-use Rattle.std.proofs.lemmas.List.{length-set, length-replicate, get_or_read}
-use Rattle.ref_base.specs.Members.{has}
-use Rattle.ref_base.specs.Graphs.{Reference, numbers}
-use Rattle.ref_base.specs.Heaps.{with_field, with_hold}
-use Rattle.ref_base.specs.Strengths.{IsRising}
-use Rattle.ref_base.specs.CollectorRows.{referent_of}
+use Rattle.ref_objects.proofs.Common.{◌≡◌, ℕ, ◌+◌, ◌-◌, ◌*◌, ◌^◌, ◌<◌, ◌≤◌, Bool, true, false, refl, sym, ap, subst}
+use Rattle.ref_objects.proofs.Common.{◌∙◌, arith, List, [], ◌++◌, length, get_or, replicate, Option, None, object_at}
+use Rattle.ref_objects.proofs.Common.{present, is_within_limits, named_in, slice_set, is_some, false≢true, lt-ltb}
+use Rattle.ref_objects.proofs.Common.{cases_Bool, inl, inr, if◌then◌else◌, length-set, length-replicate, get_or_read}
+use Rattle.ref_objects.proofs.Common.{has, Reference, numbers, with_field, with_hold, IsRising, referent_of, AllUpTo}
+use Rattle.ref_objects.proofs.Common.{Table, tabled_at, objects_of, holds_of, holds_in, changed, on_object, less_held}
+use Rattle.ref_objects.proofs.Common.{with_marked, is_unmarked_in, is_marked_in, table_freed, seen_ground}
+use Rattle.ref_objects.proofs.Common.{table_unmarked, change_of, table_blanked, table_looked_at, may_hold, from_bool}
+use Rattle.ref_objects.proofs.Common.{Ground, NamesSpared, IsClosed, IsSparedIfAny, is_spared, after_freeing}
+use Rattle.ref_objects.proofs.Common.{ground_with_heap, Stored, IsSoundGround, Change}
+use Rattle.ref_objects.specs.Tables.{empty_table, more_held_if}
 use Rattle.ref_base.specs.declared.config.Config.{Config}
-use Rattle.ref_objects.proofs.Common.{AllUpTo, Table, tabled_at, objects_of, holds_of, holds_in, changed, on_object}
-use Rattle.ref_objects.proofs.Common.{more_held, less_held, made_entry, with_tabled, with_marked, is_unmarked_in, is_marked_in}
-use Rattle.ref_objects.proofs.Common.{table_freed, seen_ground, table_unmarked}
-use Rattle.ref_objects.specs.Tables.{change_of, table_blanked, table_looked_at}
-use Rattle.ref_objects.specs.Grounds.{Ground, NamesSpared, IsClosed, is_spared, after_freeing, ground_with_heap}
-use Rattle.ref_objects.specs.GroundViews.{IsSoundObjects, IsSparedIfAny}
-use Rattle.ref_objects.specs.declared.cell.Change.{Change}
+use Rattle.ref_objects.specs.GroundViews.{stored_fields, IsSoundObjects}
+use Rattle.ref_base.proofs.HasLaws.{has-append}
 use Rattle.ref_objects.proofs.TabledLemmas.{is_there-objects_of}
 use Rattle.ref_objects.proofs.MarkLemmas.{is_unmarked-tabled, has-marked_of}
 use Rattle.ref_objects.proofs.CellChanges.{change_keeps}
 use Rattle.ref_objects.proofs.GroundLemmas.{sound_made, seen_made, sound_changed, seen_changed, change_holds}
 use Rattle.ref_objects.proofs.GroundLemmas.{seen_written, has-holds_of, sound_added, sound_dropped, seen_added}
-use Rattle.ref_objects.proofs.GroundLemmas.{seen_dropped, sound_freed, seen_freed}
+use Rattle.ref_objects.proofs.GroundLemmas.{seen_dropped, sound_freed, seen_freed, with_made_at, changed-held}
 use Rattle.ref_objects.proofs.MarkedLemmas.{seen_marked, sound_without_marks, seen_without_marks, sound_blanked}
 use Rattle.ref_objects.proofs.MarkedLemmas.{seen_condemned}
 use Rattle.ref_objects.proofs.LookLemmas.{looked_seen, sound_looked}
 use Rattle.ref_objects.proofs.SparedLemmas.{names_slot, names_made, names_field, names_written, names_looked}
 use Rattle.ref_objects.proofs.SparedLemmas.{names_held, names_unheld, names_marked, names_without_marks}
-use Rattle.ref_objects.proofs.SparedLemmas.{names_none_condemned, names_freed, names_condemned, spared_hold, spared_slot, no_names}
+use Rattle.ref_objects.proofs.SparedLemmas.{names_none_condemned, names_freed, names_condemned, spared_hold}
+use Rattle.ref_objects.proofs.SparedLemmas.{spared_slot, no_names}
 
-module _ {config : Config} {heap_no : ℕ} {t : Table} {slots : List (Option ℕ)} {holds : ℕ} {condemning : Bool}
-    {clock next : ℕ} (sound : IsSoundObjects config heap_no t slots holds condemning clock next) where
+module _ {s : Stored} (sound : IsSoundObjects s) where
   -- what is seen of them
   abbrev was : Ground
-  was = seen_ground config heap_no t slots condemning clock next
+  was = seen_ground s
+
+  -- other fields are sound of which this is seen
+  leaves : {t : Stored} {g : Ground} → IsSoundGround t → seen_ground t ≡ g → NamesSpared g → IsSoundObjects t
+  leaves ground seen names = record { ground = ground; closed = rw seen names }
 
   -- a slot is written
   pub slot_sound : (place : ℕ) (value : Option ℕ) {g : Ground} → was ≡ g → IsSparedIfAny g value
-      → IsSoundObjects config heap_no t (slice_set slots place value) holds condemning clock next
+      → IsSoundObjects (record s { slots = slice_set s.slots place value })
   slot_sound place value view spared = record {
     ground = record {
       within = sound.ground.within;
       room = sound.ground.room;
-      slot_count = length-set slots place value ∙ sound.ground.slot_count;
+      slot_count = length-set s.slots place value ∙ sound.ground.slot_count;
       counted = sound.ground.counted;
       given = sound.ground.given;
       bounded = sound.ground.bounded;
     };
-    closed = names_slot was place value sound.closed (subst (λ (g : Ground). IsSparedIfAny g value) (sym view) spared);
+    closed = names_slot was place value sound.closed (rw view spared);
   }
 
   -- what is read of one is spared
-  pub slot_spared : {g : Ground} → was ≡ g → (place : ℕ) {value : Option ℕ} → value ≡ get_or slots place value
+  pub slot_spared : {g : Ground} → was ≡ g → (place : ℕ) {value : Option ℕ} → value ≡ get_or s.slots place value
       → place < length g.heap.slots → IsSparedIfAny g value
   slot_spared {g} view place {value} reads within =
       subst (λ (h : Ground). IsSparedIfAny h value) view
       (spared_slot was sound.closed place value
-      (get_or_read slots place value (subst (λ (h : Ground). place < length h.heap.slots) (sym view) within) reads None))
+      (let there = subst (λ (h : Ground). place < length h.heap.slots) (sym view) within in
+      get_or_read s.slots place value there reads None))
 
   -- an object is made
-  pub made_sound : (place k : ℕ) (r : Option Reference) → next < 2 ^ 32
-      → AllUpTo t.last (numbers (objects_of t.tabled)) → {g : Ground} → was ≡ g → IsSparedIfAny g (referent_of r)
-      → IsSoundObjects config heap_no (with_tabled t (made_entry next k r condemning))
-      (slice_set slots place (Some next)) holds condemning clock (next + 1)
-  made_sound place k r below given view spared = record {
-    ground = sound_made place k r condemning sound.ground below;
-    closed = subst NamesSpared
-        (sym (seen_made config heap_no t slots condemning clock next place k r sound.ground.given given))
-        (names_made was place k r sound.closed
-        (subst (λ (g : Ground). IsSparedIfAny g (referent_of r)) (sym view) spared));
-  }
+  pub made_sound : (place k : ℕ) (r : Option Reference) → s.next < 2 ^ 32
+      → AllUpTo s.table.last (numbers (objects_of s.table.tabled)) → {g : Ground} → was ≡ g
+      → IsSparedIfAny g (referent_of r) → IsSoundObjects (with_made_at s place k r)
+  made_sound place k r below given view spared =
+      leaves (sound_made sound.ground place k r below) (seen_made sound.ground place k r given)
+      (names_made was place k r sound.closed (rw view spared))
 
   -- a field is written
   pub field_sound : (n i : ℕ) (value : Option ℕ) {g : Ground} → was ≡ g → IsSparedIfAny g value
-      → IsSoundObjects config heap_no (changed t n (on_object (with_field i value))) slots holds condemning clock next
-  field_sound n i value view spared = record {
-    ground = sound_changed n (on_object (with_field i value)) (λ k. refl) (λ k. refl) sound.ground;
-    closed = subst NamesSpared
-        (sym (seen_changed config heap_no t slots condemning clock next n (with_field i value) (λ o. refl)))
-        (names_field was n i value sound.closed (subst (λ (g : Ground). IsSparedIfAny g value) (sym view) spared));
-  }
+      → IsSoundObjects (record s { table = changed s.table n (on_object (with_field i value)) })
+  field_sound n i value view spared =
+      leaves (sound_changed sound.ground n (on_object (with_field i value)) (λ k. refl) (λ k. refl))
+      (seen_changed sound.ground n (with_field i value) (λ o. refl))
+      (names_field was n i value sound.closed (rw view spared))
 
   -- something else is written of an object
   pub written_sound : (n : ℕ) (change : Change)
-      → IsSoundObjects config heap_no (changed t n (change_of change)) slots holds condemning clock next
-  written_sound n change = record {
-    ground = sound_changed n (change_of change) (change_keeps change) (change_holds change) sound.ground;
-    closed = subst NamesSpared (sym (seen_written config heap_no t slots condemning clock next n change))
-        (names_written was n change sound.closed);
-  }
+      → IsSoundObjects (record s { table = changed s.table n (change_of change) })
+  written_sound n change = search (sound_changed, change_keeps, change_holds, seen_written, names_written)
 
   -- the clock is set
-  pub clock_sound : (now : ℕ) → IsSoundObjects config heap_no t slots holds condemning now next
-  clock_sound now =
-      record { ground = sound.ground; closed = record { rooted = sound.closed.rooted; named = sound.closed.named } }
+  pub clock_sound : (now : ℕ) → IsSoundObjects (record s { clock = now })
+  clock_sound now = search
 
   -- nothing is condemned any more
-  pub ended_sound : IsSoundObjects config heap_no t slots holds false clock next
-  ended_sound = record { ground = sound.ground; closed = names_none_condemned was sound.closed }
+  pub ended_sound : IsSoundObjects (record s { condemning = false })
+  ended_sound = search names_none_condemned
 
   -- no object is marked
-  pub unmarked_sound : IsSoundObjects config heap_no (table_unmarked t) slots holds false clock next
-  unmarked_sound = record {
-    ground = sound_without_marks sound.ground;
-    closed = subst NamesSpared (sym (seen_without_marks config heap_no t slots condemning clock next))
-        (names_without_marks was sound.closed);
-  }
+  pub unmarked_sound : IsSoundObjects (record s { table = table_unmarked s.table; condemning = false })
+  unmarked_sound = search (sound_without_marks, seen_without_marks, names_without_marks)
 
-  module _ (n : ℕ) (rising : IsRising (numbers (objects_of t.tabled))) where
-    -- an object is looked at
-    pub looked_sound : (cycle : ℕ)
-        → IsSoundObjects config heap_no (table_looked_at t n cycle) slots holds condemning clock next
-    looked_sound cycle = record {
-      ground = sound_looked n cycle sound.ground;
-      closed = subst NamesSpared (sym (looked_seen config heap_no t slots condemning clock next n rising cycle))
-          (names_looked was n cycle sound.closed);
-    }
-
-    -- an object is marked
-    pub marked_sound : IsSoundObjects config heap_no (changed t n (with_marked true)) slots holds condemning clock next
-    marked_sound = record {
-      ground = sound_changed n (with_marked true) (λ k. refl) (λ k. refl) sound.ground;
-      closed = subst NamesSpared (sym (seen_marked config heap_no t slots condemning clock next n rising))
-          (names_marked was n sound.closed);
-    }
-
-    there_of : is_spared was n ≡ true → is_some (tabled_at t.tabled n) ≡ true
-    there_of spared = grind (arith, is_there-objects_of)
-
-    -- one more hold
-    module _ {g : Ground} (view : was ≡ g) (spared : is_spared g n ≡ true) where
-      spared_was : is_spared was n ≡ true
-      spared_was = subst (λ (g : Ground). is_spared g n ≡ true) (sym view) spared
-
-      pub held_sound : IsSoundObjects config heap_no (changed t n more_held) slots (holds + 1) condemning clock next
-      held_sound = record {
-        ground = sound_added n sound.ground (there_of spared_was);
-        closed = subst NamesSpared
-            (sym (seen_added config heap_no t slots condemning clock next n rising (there_of spared_was)))
-            (names_held was n sound.closed spared_was);
-      }
-
-      pub held_seen : seen_ground config heap_no (changed t n more_held) slots condemning clock next
-          ≡ ground_with_heap g (with_hold g.heap n)
-      held_seen =
-          seen_added config heap_no t slots condemning clock next n rising (there_of spared_was)
-          ∙ ap (λ (g : Ground). ground_with_heap g (with_hold g.heap n)) view
-
-    -- one hold fewer
-    pub unheld_sound : 0 < holds_in (tabled_at t.tabled n)
-        → IsSoundObjects config heap_no (changed t n less_held) slots (holds - 1) condemning clock next
-    unheld_sound held = record {
-      ground = sound_dropped n sound.ground held;
-      closed = subst NamesSpared (sym (seen_dropped config heap_no t slots condemning clock next n rising held))
-          (names_unheld was n sound.closed);
-    }
-
-    -- what is held is spared
-    pub held_spared : 0 < holds_in (tabled_at t.tabled n) → is_spared was n ≡ true
-    held_spared held =
-        spared_hold was sound.closed n
-        (has-holds_of t.tabled n rising ∙ lt-ltb 0 (holds_in (tabled_at t.tabled n)) held)
-
-    -- still
-    pub unheld_spared : 0 < holds_in (tabled_at t.tabled n)
-        → is_spared (seen_ground config heap_no (changed t n less_held) slots condemning clock next) n ≡ true
-    unheld_spared held =
-        subst (λ (g : Ground). is_spared g n ≡ true)
-        (sym (seen_dropped config heap_no t slots condemning clock next n rising held)) (held_spared held)
-
-    -- so nobody holds what is condemned
-    unheld : condemning ≡ true → is_unmarked_in (tabled_at t.tabled n) ≡ true → holds_in (tabled_at t.tabled n) ≡ 0
-    unheld goes new = grind (arith, held_spared, is_unmarked-tabled)
-
-    freed_where : condemning ≡ true → (b : Bool) → is_unmarked_in (tabled_at t.tabled n) ≡ b
-        → IsSoundObjects config heap_no (table_freed t n) slots holds condemning clock next
-    freed_where goes true new = record {
-      ground = sound_freed n (unheld goes new) sound.ground;
-      closed = subst NamesSpared
-          (sym (seen_freed config heap_no t slots condemning clock next n rising goes (unheld goes new)))
-          (names_freed was n sound.closed);
-    }
-    freed_where goes false stays = simp stays sound
-
-    seen_where : condemning ≡ true → (b : Bool) → is_unmarked_in (tabled_at t.tabled n) ≡ b
-        → seen_ground config heap_no (table_freed t n) slots condemning clock next ≡ after_freeing was n
-    seen_where goes true new =
-        seen_freed config heap_no t slots condemning clock next n rising goes (unheld goes new)
-    seen_where goes false stays = grind (arith, is_unmarked-tabled)
-
-    pub freed_sound : condemning ≡ true
-        → IsSoundObjects config heap_no (table_freed t n) slots holds condemning clock next
-    freed_sound goes = freed_where goes (is_unmarked_in (tabled_at t.tabled n)) refl
-
-    pub freed_seen : condemning ≡ true
-        → seen_ground config heap_no (table_freed t n) slots condemning clock next ≡ after_freeing was n
-    freed_seen goes = seen_where goes (is_unmarked_in (tabled_at t.tabled n)) refl
-
-    -- where something may be condemned, the marked are spared
-    pub marked_spared : condemning ≡ true → is_marked_in (tabled_at t.tabled n) ≡ is_spared was n
-    marked_spared goes = grind (arith, has-marked_of, is_there-objects_of, is_unmarked-tabled)
-
-  -- what isn't marked is condemned
-  pub condemned_sound : IsRising (numbers (objects_of t.tabled)) → {g : Ground} → was ≡ g
-      → IsClosed g.heap (has g.marked)
-      → IsSoundObjects config heap_no (table_blanked t) slots holds true clock next
-  condemned_sound rising view closed = record {
-    ground = sound_blanked sound.ground;
-    closed = subst NamesSpared (sym (seen_condemned config heap_no t slots condemning clock next rising))
+  module _ (rising : IsRising (numbers (objects_of s.table.tabled))) where
+    -- what isn't marked is condemned
+    pub condemned_sound : {g : Ground} → was ≡ g → IsClosed g.heap (has g.marked)
+        → IsSoundObjects (record s { table = table_blanked s.table; condemning = true })
+    condemned_sound view closed =
+        leaves (sound_blanked sound.ground) (seen_condemned sound.ground rising)
         (names_condemned was sound.closed
-        (subst (λ (g : Ground). IsClosed g.heap (has g.marked)) (sym view) closed));
-  }
+        (subst (λ (g : Ground). IsClosed g.heap (has g.marked)) (sym view) closed))
+
+    module _ (n : ℕ) where
+      -- an object is looked at
+      pub looked_sound : (cycle : ℕ) → IsSoundObjects (record s { table = table_looked_at s.table n cycle })
+      looked_sound cycle = search (sound_looked, looked_seen, names_looked)
+
+      -- an object is marked
+      pub marked_sound : IsSoundObjects (record s { table = changed s.table n (with_marked true) })
+      marked_sound = search (sound_changed, seen_marked, names_marked)
+
+      -- the object may be held exactly where it is spared
+      pub may_hold_spared : may_hold s.condemning (tabled_at s.table.tabled n) ≡ is_spared was n
+      may_hold_spared = grind (arith, has-marked_of, is_there-objects_of, is_unmarked-tabled)
+
+      -- one more hold
+      module _ {g : Ground} (view : was ≡ g) where
+        spared_at : (b : Bool) → b ≡ may_hold s.condemning (tabled_at s.table.tabled n) → is_spared g n ≡ b
+        spared_at b may = sym (ap (λ (g : Ground). is_spared g n) view) ∙ sym may_hold_spared ∙ sym may
+
+        there_at : true ≡ may_hold s.condemning (tabled_at s.table.tabled n)
+            → is_some (tabled_at s.table.tabled n) ≡ true
+        there_at may = grind (arith, may_hold_spared, is_there-objects_of)
+
+        pub held_sound : (b : Bool) → b ≡ may_hold s.condemning (tabled_at s.table.tabled n) → {more : ℕ}
+            → more ≡ from_bool b → IsSoundObjects
+            (record s { table = changed s.table n (more_held_if s.condemning); holds = s.holds + more })
+        held_sound true may {more} one =
+            rw (changed-held s.table.tabled n s.condemning true (sym may), one)
+            (leaves (sound_added sound.ground n (there_at may)) (seen_added sound.ground n rising (there_at may))
+            (names_held was n sound.closed (sym may_hold_spared ∙ sym may)))
+        held_sound false may {more} one = grind (arith, changed-held)
+
+        pub held_seen : (b : Bool) → b ≡ may_hold s.condemning (tabled_at s.table.tabled n)
+            → seen_ground (record s { table = changed s.table n (more_held_if s.condemning) })
+            ≡ (if is_spared g n then ground_with_heap g (with_hold g.heap n) else g)
+        held_seen true may = grind (arith, changed-held, seen_added, spared_at true may)
+        held_seen false may = grind (arith, changed-held, spared_at false may)
+
+      -- one hold fewer
+      module _ (held : 0 < holds_in (tabled_at s.table.tabled n)) where
+        pub unheld_sound : IsSoundObjects (record s { table = changed s.table n less_held; holds = s.holds - 1 })
+        unheld_sound =
+            leaves (sound_dropped sound.ground n held) (seen_dropped sound.ground n rising held)
+            (names_unheld was n sound.closed)
+
+        -- what is held is spared
+        held_spared : is_spared was n ≡ true
+        held_spared = search (spared_hold, has-holds_of, lt-ltb)
+
+        -- still
+        pub unheld_spared : is_spared
+            (seen_ground (record s { table = changed s.table n less_held; holds = s.holds - 1 })) n ≡ true
+        unheld_spared =
+            subst (λ (g : Ground). is_spared g n ≡ true) (sym (seen_dropped sound.ground n rising held)) held_spared
+
+      -- so nobody holds what is condemned
+      module _ (condemned : s.condemning ≡ true) where
+        unheld : is_unmarked_in (tabled_at s.table.tabled n) ≡ true → holds_in (tabled_at s.table.tabled n) ≡ 0
+        unheld new = grind (arith, held_spared, is_unmarked-tabled)
+
+        pub freed_sound : IsSoundObjects (record s { table = table_freed s.table n })
+        freed_sound =
+            elim (cases_Bool (is_unmarked_in (tabled_at s.table.tabled n))) [
+              | inl goes ↦
+                  leaves (sound_freed sound.ground n (unheld goes))
+                  (seen_freed sound.ground n rising condemned (unheld goes)) (names_freed was n sound.closed)
+              | inr stays ↦ simp stays sound
+            ]
+
+        pub freed_seen : seen_ground (record s { table = table_freed s.table n }) ≡ after_freeing was n
+        freed_seen = grind (arith, seen_freed, unheld, is_unmarked-tabled)
+
+        -- where something may be condemned, the marked are spared
+        pub marked_spared : is_marked_in (tabled_at s.table.tabled n) ≡ is_spared was n
+        marked_spared = grind (arith, has-marked_of, is_there-objects_of, is_unmarked-tabled)
 
 -- at first nothing is named
 pub first_sound : {config : Config} {heap_no : ℕ} {t : Table} {slots : List (Option ℕ)} {next : ℕ}
     → is_within_limits config ≡ true → t ≡ empty_table config.cells → slots ≡ replicate (16 * config.mutators) None
-    → 1 ≤ next → next ≤ 2 ^ 32 → IsSoundObjects config heap_no t slots 0 false 0 next
+    → 1 ≤ next → next ≤ 2 ^ 32 → IsSoundObjects (stored_fields config heap_no t slots 0 0 next false)
 first_sound {config} {heap_no} {t} {slots} {next} within made nulls begins bounded = record {
   ground = record {
     within = within;

@@ -1,33 +1,29 @@
 -- What slots, holds and objects name is there, and isn't condemned: what each call does to that.
-use Rattle.std.proofs.Common.{◌≡◌, ℕ, zero, suc, true, false, not, ◌==◌, ◌&&◌, ◌||◌, refl, sym, subst, ◌∙◌, arith}
-use Rattle.std.proofs.Common.{List, [], ◌∷◌, ◌++◌, map, Option, Some, None, ◌⊎◌, inl, inr}
-use Rattle.std.specs.Prelude.{slice_set, slice_index_or}
-use Rattle.std.specs.Option.{is_some}
-use Rattle.std.proofs.lemmas.Bool.{cases_Bool, false≢true, eq-eqb, eqb-true}
-use Rattle.ref_objects.proofs.Common.{has, Object, Reference, object_at, is_there, one_more, one_fewer, unmarked, cleared}
-use Rattle.ref_objects.proofs.Common.{with_field, with_reference, with_stamp}
-use Rattle.ref_base.specs.Paths.{present, if_any}
-use Rattle.ref_base.specs.Forgetting.{forgotten}
-use Rattle.ref_base.specs.Heaps.{reference_in, reference_at, changed_at, changed_reference, with_changed, nulls}
-use Rattle.ref_base.specs.Heaps.{with_hold, without_hold}
-use Rattle.ref_base.specs.CollectorRows.{referent_of, without}
+use Rattle.ref_objects.proofs.Common.{◌≡◌, ℕ, zero, suc, true, false, not, ◌==◌, ◌&&◌, refl, sym, subst, arith, List}
+use Rattle.ref_objects.proofs.Common.{[], ◌∷◌, ◌++◌, map, Option, Some, None, inl, inr, slice_index_or, is_some}
+use Rattle.ref_objects.proofs.Common.{cases_Bool, false≢true, eq-eqb, eqb-true, has, Object, Reference, object_at}
+use Rattle.ref_objects.proofs.Common.{is_there, one_fewer, unmarked, cleared, with_field, with_reference, with_stamp}
+use Rattle.ref_objects.proofs.Common.{present, if_any, forgotten, reference_in, reference_at, changed_at, with_changed}
+use Rattle.ref_objects.proofs.Common.{nulls, with_hold, without_hold, referent_of, Ground, NamesSpared, IsClosed}
+use Rattle.ref_objects.proofs.Common.{is_spared, named_in, IsSparedIfAny, fields_in, ground_with_heap, ground_marked}
+use Rattle.ref_objects.proofs.Common.{without_marks, with_condemned, after_freeing, ground_looked_at, look_of, made_at}
+use Rattle.ref_objects.proofs.Common.{written, Change, Cut, Stamp, ClearedIn, ClearIn, Link}
+use Rattle.std.proofs.Common.{◌||◌, ◌⊎◌}
+use Rattle.ref_base.specs.Heaps.{changed_reference}
+use Rattle.ref_objects.specs.Grounds.{with_none_condemned}
+use Rattle.ref_objects.specs.GroundViews.{with_slot_at}
 use Rattle.ref_base.proofs.HasLaws.{has-left, has-right, has-cases}
 use Rattle.ref_base.proofs.OneMore.{has-one_more}
 use Rattle.ref_base.proofs.Lookups.{lookup-changed, object_at-push, object_at-pushed, has-present_set, has-present_at}
 use Rattle.ref_base.proofs.SeenObjects.{object_at-without, object_at-gone}
 use Rattle.ref_base.proofs.Reshaping.{is_there-reshaped}
 use Rattle.ref_base.proofs.Forgetting.{forgotten-shape}
-use Rattle.ref_objects.specs.Grounds.{Ground, NamesSpared, IsClosed, is_spared, is_condemned, is_unmarked, named_in}
-use Rattle.ref_objects.specs.Grounds.{fields_in, ground_with_heap, ground_marked, without_marks, with_condemned}
-use Rattle.ref_objects.specs.Grounds.{with_none_condemned, without_tag, after_freeing, ground_looked_at, look_of}
-use Rattle.ref_objects.specs.GroundViews.{IsSparedIfAny, with_slot_at, made_at, written}
-use Rattle.ref_objects.specs.declared.cell.Change.{Change}
-use Rattle.ref_objects.specs.declared.cell.Change.TheVariants.{Cut, Stamp, ClearedIn, ClearIn, Link}
 
 -- ---- what is named
 
 -- what a list of values holds, and what is read of a reference, is spared where what they have is
-pub spared_some : (g : Ground) (value : Option ℕ) (n : ℕ) → IsSparedIfAny g value → value ≡ Some n → is_spared g n ≡ true
+pub spared_some : (g : Ground) (value : Option ℕ) (n : ℕ) → IsSparedIfAny g value → value ≡ Some n
+    → is_spared g n ≡ true
 spared_some g None n spared is = absurd (cc)
 spared_some g (Some m) n spared is = subst (λ (v : Option ℕ). IsSparedIfAny g v) is spared
 
@@ -58,31 +54,12 @@ module _ (g : Ground) (names : NamesSpared g) where
       (subst (λ (v : Option ℕ). has (if_any v) n ≡ true) (sym is)
       (let own : (n == n) ≡ true = eq-eqb n n refl in simp own refl)))
 
--- ---- from one state to the next
-
--- what was spared is; and what is named now was named, or was spared
-pub record GoesOn (g j : Ground) : Type 0 where
-  pub spared : (n : ℕ) → is_spared g n ≡ true → is_spared j n ≡ true
-  pub rooted : (n : ℕ) → has (present j.heap.slots ++ j.heap.holds) n ≡ true
-      → (has (present g.heap.slots ++ g.heap.holds) n ≡ true) ⊎ (is_spared j n ≡ true)
-  pub named : (m n : ℕ) → has (named_in (object_at j.heap.objects m)) n ≡ true
-      → (has (named_in (object_at g.heap.objects m)) n ≡ true) ⊎ (is_spared j n ≡ true)
-
-pub names_next : (g j : Ground) → GoesOn g j → NamesSpared g → NamesSpared j
-names_next g j on names = record {
-  rooted = λ n root.
-      elim (on.rooted n root) [ inl was ↦ on.spared n (names.rooted n was) | inr is ↦ is ];
-  named = λ m n by. elim (on.named m n by) [ inl was ↦ on.spared n (names.named m n was) | inr is ↦ is ];
-}
+-- ---- what is written
 
 -- a slot is written
 pub names_slot : (g : Ground) (place : ℕ) (value : Option ℕ) → NamesSpared g → IsSparedIfAny g value
     → NamesSpared (with_slot_at g place value)
-names_slot g place value names spared = record {
-  rooted = λ n root.
-      grind (arith, has-cases, has-present_set, has-left, has-right, spared_some g value n spared, names.rooted n);
-  named = names.named;
-}
+names_slot g place value names spared = grind (arith, has-cases, has-present_set, has-left, has-right)
 
 -- an object is changed
 module _ (g : Ground) (n : ℕ) (f : Object → Object) (number : (o : Object) → (f o).no ≡ o.no) where
@@ -94,46 +71,30 @@ module _ (g : Ground) (n : ℕ) (f : Object → Object) (number : (o : Object) �
       → ((o : Object) (m : ℕ) → has (named_in (Some (f o))) m ≡ true
       → (has (named_in (Some o)) m ≡ true) ⊎ (is_spared g m ≡ true))
       → NamesSpared (ground_with_heap g (with_changed g.heap n f))
-  names_changed names each =
-      names_next g (ground_with_heap g (with_changed g.heap n f)) (record {
-        spared = λ m is. rw (there_changed m) is;
-        rooted = λ m root. inl root;
-        named = λ m k by. rw (there_changed k)
-            (lookup-changed
-            (λ a b. has (named_in b) k ≡ true → (has (named_in a) k ≡ true) ⊎ (is_spared g k ≡ true))
-            g.heap.objects n f number (λ o was. inl was) (λ o is now. each o k now) m by);
-      }) names
-
-names_cleared : (r : Option Reference) (m : ℕ) → has (if_any (referent_of (changed_reference cleared r))) m ≡ true
-    → has (if_any (referent_of r)) m ≡ true
-names_cleared None m by = by
-names_cleared (Some r) m by = absurd (false≢true by)
-
-names_stamped : (stamp : ℕ) (r : Option Reference)
-    → referent_of (changed_reference (with_stamp stamp) r) ≡ referent_of r
-names_stamped stamp None = refl
-names_stamped stamp (Some r) = refl
+  names_changed names each = record {
+    rooted = λ m root. rw (there_changed m) (names.rooted m root);
+    named = λ m k by. rw (there_changed k)
+        (elim (lookup-changed
+        (λ a b. has (named_in b) k ≡ true → (has (named_in a) k ≡ true) ⊎ (is_spared g k ≡ true))
+        g.heap.objects n f number (λ o was. inl was) (λ o is now. each o k now) m by) [
+          | inl was ↦ names.named m k was
+          | inr is ↦ is
+        ]);
+  }
 
 -- a field is written
 pub names_field : (g : Ground) (n i : ℕ) (value : Option ℕ) → NamesSpared g → IsSparedIfAny g value
     → NamesSpared (ground_with_heap g (with_changed g.heap n (with_field i value)))
-names_field g n i value names spared =
-    names_changed g n (with_field i value) (λ o. refl) names
-    (λ o m by. grind (arith, has-cases, has-present_set, has-left, has-right, spared_some g value m spared))
+names_field g n i value names spared = grind (arith, names_changed, has-cases, has-present_set, has-left, has-right)
 
 -- a reference is cleared, or stamped
 pub names_cut : (g : Ground) (n : ℕ) → NamesSpared g
     → NamesSpared (ground_with_heap g (with_changed g.heap n (with_reference cleared)))
-names_cut g n names =
-    names_changed g n (with_reference cleared) (λ o. refl) names
-    (λ o m by. inl (grind (arith, has-cases, has-left, has-right, names_cleared)))
+names_cut g n names = grind (arith, names_changed, has-cases, has-left)
 
 pub names_stamp : (g : Ground) (n stamp : ℕ) → NamesSpared g
     → NamesSpared (ground_with_heap g (with_changed g.heap n (with_reference (with_stamp stamp))))
-names_stamp g n stamp names =
-    names_changed g n (with_reference (with_stamp stamp)) (λ o. refl) names
-    (λ o m by. inl (subst (λ (v : Option ℕ). has (present o.fields ++ if_any v) m ≡ true)
-    (names_stamped stamp o.reference) by))
+names_stamp g n stamp names = grind (arith, names_changed)
 
 pub names_written : (g : Ground) (n : ℕ) (change : Change) → NamesSpared g → NamesSpared (written g n change)
 names_written g n Cut names = names_cut g n names
@@ -158,39 +119,21 @@ has-fewer (k ∷ ks) n m within = grind (arith, has-fewer ks n m)
 
 pub names_held : (g : Ground) (n : ℕ) → NamesSpared g → is_spared g n ≡ true
     → NamesSpared (ground_with_heap g (with_hold g.heap n))
-names_held g n names spared = record {
-  rooted = λ m root. grind (arith, has-cases, has-left, has-right, has-one_more, eqb-true, names.rooted m);
-  named = names.named;
-}
+names_held g n names spared = grind (arith, has-cases, has-left, has-right, has-one_more)
 
 pub names_unheld : (g : Ground) (n : ℕ) → NamesSpared g → NamesSpared (ground_with_heap g (without_hold g.heap n))
-names_unheld g n names = record {
-  rooted = λ m root. grind (arith, has-cases, has-left, has-right, has-fewer, names.rooted m);
-  named = names.named;
-}
+names_unheld g n names = grind (arith, has-cases, has-left, has-right, has-fewer)
 
 -- ---- marks
 
 pub names_marked : (g : Ground) (n : ℕ) → NamesSpared g → NamesSpared (ground_marked g n)
-names_marked g n names =
-    elim (cases_Bool (is_unmarked g n)) [
-      | inl new ↦ simp new (names_next g (record g { marked = one_more g.marked n }) (record {
-        spared = λ m is. grind (arith, has-one_more);
-        rooted = λ m root. inl root;
-        named = λ m k by. inl by;
-      }) names)
-      | inr old ↦ simp old names
-    ]
+names_marked g n names = grind (arith, has-one_more)
 
 pub names_without_marks : (g : Ground) → NamesSpared g → NamesSpared (without_marks g)
-names_without_marks g names =
-    names_next g (without_marks g)
-    (record { spared = λ m is. grind arith; rooted = λ m root. inl root; named = λ m k by. inl by }) names
+names_without_marks g names = grind arith
 
 pub names_none_condemned : (g : Ground) → NamesSpared g → NamesSpared (with_none_condemned g)
-names_none_condemned g names =
-    names_next g (with_none_condemned g)
-    (record { spared = λ m is. grind arith; rooted = λ m root. inl root; named = λ m k by. inl by }) names
+names_none_condemned g names = grind arith
 
 -- ---- objects that come and go
 
@@ -205,8 +148,10 @@ there_pushed (p ∷ os) o n = grind (arith, there_pushed os o n)
 -- a new object is spared, and names nothing but what its referent is
 pub names_made : (g : Ground) (place k : ℕ) (r : Option Reference) → NamesSpared g → IsSparedIfAny g (referent_of r)
     → NamesSpared (made_at g place k r)
-names_made g place k r names spared =
-    names_next g (made_at g place k r) (record { spared = goes_on; rooted = roots; named = names_now }) names
+names_made g place k r names spared = record {
+  rooted = λ n root. grind (arith, has-cases, has-present_set, has-left, has-right, goes_on, new);
+  named = named_now;
+}
   where
     o : Object
     o = record { no = g.next; fields = nulls k; reference = r }
@@ -217,38 +162,20 @@ names_made g place k r names spared =
     new : is_spared (made_at g place k r) g.next ≡ true
     new = grind (arith, there_pushed, has-one_more)
 
-    roots : (n : ℕ) → has (present (slice_set g.heap.slots place (Some g.next)) ++ g.heap.holds) n ≡ true
-        → (has (present g.heap.slots ++ g.heap.holds) n ≡ true)
-        ⊎ (is_spared (made_at g place k r) n ≡ true)
-    roots n root = grind (arith, has-cases, has-present_set, has-left, has-right, new)
+    of_new : (n : ℕ) → has (present (nulls k) ++ if_any (referent_of r)) n ≡ true → is_spared g n ≡ true
+    of_new n now = grind (arith, has-cases, no_names, spared_some g (referent_of r) n spared)
 
-    names_now : (m n : ℕ) → has (named_in (object_at (g.heap.objects ++ o ∷ []) m)) n ≡ true
-        → (has (named_in (object_at g.heap.objects m)) n ≡ true) ⊎ (is_spared (made_at g place k r) n ≡ true)
-    names_now m n by =
+    named_now : (m n : ℕ) → has (named_in (object_at (g.heap.objects ++ o ∷ []) m)) n ≡ true
+        → is_spared (made_at g place k r) n ≡ true
+    named_now m n by =
         elim (cases_Bool (is_there g.heap.objects m)) [
-          | inl there ↦ inl (subst (λ (p : Option Object). has (named_in p) n ≡ true)
-              (object_at-push g.heap.objects o m there) by)
-          | inr absent ↦ inr (goes_on n (of_new (subst (λ (p : Option Object). has (named_in p) n ≡ true)
-              (object_at-pushed g.heap.objects o m absent) by)))
+          | inl there ↦ grind (arith, object_at-push, goes_on)
+          | inr absent ↦ grind (arith, object_at-pushed, goes_on, of_new)
         ]
-      where
-        of_new : has (named_in (object_at (o ∷ []) m)) n ≡ true → is_spared g n ≡ true
-        of_new now = grind (arith, has-cases, no_names, spared_some g (referent_of r) n spared)
 
 -- an object that goes was condemned: nothing that is left names it
 pub names_freed : (g : Ground) (n : ℕ) → NamesSpared g → NamesSpared (after_freeing g n)
-names_freed g n names =
-    elim (cases_Bool (is_condemned g n)) [
-      | inl goes ↦ simp goes (names_next g (record g {
-        heap = record g.heap { objects = without (n ∷ []) g.heap.objects };
-        tags = without_tag g.tags n;
-      }) (record {
-        spared = λ m is. grind (arith, object_at-without);
-        rooted = λ m root. inl root;
-        named = λ m k by. grind (arith, object_at-without, object_at-gone);
-      }) names)
-      | inr stays ↦ simp stays names
-    ]
+names_freed g n names = grind (arith, object_at-without, object_at-gone)
 
 -- ---- what isn't marked is condemned
 
@@ -297,18 +224,7 @@ module _ (g : Ground) (names : NamesSpared g) (closed : IsClosed g.heap (has g.m
 
   named_then : (m n : ℕ) → has (named_in (object_at (map (λ o. forgotten d o) g.heap.objects) m)) n ≡ true
       → is_spared (with_condemned g) n ≡ true
-  named_then m n by =
-      elim (cases_Bool (has d m)) [
-        | inl out ↦ absurd (false≢true (sym (blanked_at d g.heap.objects m n out) ∙ by))
-        | inr kept ↦ of_kept (has-unmarked g.heap.objects g.marked m) kept
-            (subst (λ (o : Option Object). has (named_in o) n ≡ true) (kept_at d g.heap.objects m kept) by)
-      ]
-    where
-      of_kept : has d m ≡ (is_there g.heap.objects m && not (has g.marked m)) → has d m ≡ false
-          → has (named_in (object_at g.heap.objects m)) n ≡ true → is_spared (with_condemned g) n ≡ true
-      of_kept told kept now =
-          still_spared n (let was = names.named m n now in grind arith)
-          (closed.closed m n (let there = named_there (object_at g.heap.objects m) n now in grind arith) now)
+  named_then m n by = grind (arith, blanked_at, has-unmarked, kept_at)
 
   pub names_condemned : NamesSpared (with_condemned g)
   names_condemned = record {

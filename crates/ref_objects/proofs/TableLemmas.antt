@@ -1,10 +1,8 @@
 -- What holds of every table, and of a new one.
-use Rattle.std.proofs.Common.{◌≡◌, ℕ, ◌<◌, ◌≤◌, ◌^◌, ◌∙◌, ap, List, [], ◌∷◌, length, replicate}
-use Rattle.std.proofs.Common.{Option, Some, None, arith}
-use Rattle.std.proofs.lemmas.List.{length-replicate}
-use Rattle.ref_objects.proofs.Common.{numbers, IsRising, cell_at, before, tabled_by, places_below, seen_table, AllAbove}
-use Rattle.ref_objects.proofs.Common.{NoneAbove, Rises, IsPlaced, Tabled, objects_of, AllUpTo, IsOrderlyTable}
-use Rattle.ref_objects.proofs.Common.{Entry}
+use Rattle.ref_objects.proofs.Common.{◌≡◌, ℕ, ◌<◌, ◌≤◌, ◌^◌, ◌∙◌, ap, List, [], ◌∷◌, length, replicate, Option, Some}
+use Rattle.ref_objects.proofs.Common.{None, arith, length-replicate, numbers, IsRising, cell_at, before, tabled_by}
+use Rattle.ref_objects.proofs.Common.{places_below, seen_table, AllAbove, NoneAbove, Rises, IsPlaced, Tabled}
+use Rattle.ref_objects.proofs.Common.{objects_of, AllUpTo, IsOrderlyTable, Entry}
 use Rattle.ref_objects.proofs.FreeLemmas.{length-places_below, AreFree-places_below}
 
 -- ---- numbers that rise

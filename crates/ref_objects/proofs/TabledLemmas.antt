@@ -1,10 +1,7 @@
 -- What the table's objects say as the list of a world's objects.
-use Rattle.std.proofs.Common.{◌≡◌, ℕ, ◌≤◌, refl, ◌∙◌, ap, List, [], ◌∷◌, map, Option, Some}
-use Rattle.std.proofs.Common.{None, arith}
-use Rattle.std.specs.Option.{is_some}
-use Rattle.ref_objects.proofs.Common.{Object, object_at, is_there, numbers, IsRising, Tabled, tabled_at, objects_of}
-use Rattle.ref_objects.proofs.Common.{object_in, on_object, changed_tabled, without_tabled}
-use Rattle.ref_base.specs.Heaps.{changed_at}
+use Rattle.ref_objects.proofs.Common.{◌≡◌, ℕ, ◌≤◌, refl, ◌∙◌, ap, List, [], ◌∷◌, map, Option, Some, None, arith}
+use Rattle.ref_objects.proofs.Common.{is_some, Object, object_at, is_there, numbers, IsRising, Tabled, tabled_at}
+use Rattle.ref_objects.proofs.Common.{objects_of, object_in, on_object, changed_tabled, without_tabled, changed_at}
 use Rattle.ref_base.specs.CollectorRows.{without as without_numbers}
 
 -- ---- the objects

@@ -1,50 +1,73 @@
 -- What a contract sees of the fields of a heap's objects, and what holds of them.
-use Rattle.std.specs.Prelude.{◌≡◌, ℕ, ◌+◌, ◌*◌, ◌^◌, ◌<◌, ◌≤◌, Bool, true, List, [], ◌∷◌, ◌++◌, length, Option, Some, None}
+use Rattle.std.specs.Prelude.{◌≡◌, ℕ, ◌+◌, ◌*◌, ◌^◌, ◌<◌, ◌≤◌, Bool, true, List, [], ◌∷◌, ◌++◌, length, Option, Some}
 use Rattle.std.specs.Prelude.{slice_set}
 use Rattle.ref_base.specs.Graphs.{Object, Reference}
 use Rattle.ref_base.specs.Heaps.{Heap, nulls, with_changed, with_reference, with_stamp, cleared}
 use Rattle.ref_base.specs.Limits.{is_within_limits}
 use Rattle.ref_base.specs.declared.config.Config.{Config}
 use Rattle.ref_objects.specs.Tables.{Table, objects_of, holds_of, marked_of, tags_of}
-use Rattle.ref_objects.specs.Grounds.{Ground, NamesSpared, is_spared, with_new_tag, marked_if_spared, ground_with_heap, with_cleared_tag, with_link}
+use Rattle.ref_objects.specs.Grounds.{Ground, NamesSpared, with_new_tag, marks_with_new, ground_with_heap}
+use Rattle.ref_objects.specs.Grounds.{with_cleared_tag, with_link}
 use Rattle.ref_objects.specs.declared.cell.Change.{Change}
 use Rattle.ref_objects.specs.declared.cell.Change.TheVariants.{Cut, Stamp, ClearedIn, ClearIn, Link}
 
--- the heap of this number that a table, slots and the clock are
-abbrev pub heap_of : Config → ℕ → Table → List (Option ℕ) → ℕ → Heap
-heap_of config number table slots clock = record {
+-- what a heap's objects have in their fields: of the table what is seen of it, and the count of the holds that are out
+pub record Stored : Type 0 where
+  pub config : Config
+  pub heap_no : ℕ
+  pub table : Table
+  pub slots : List (Option ℕ)
+  pub holds : ℕ
+  pub clock : ℕ
+  pub next : ℕ
+  pub condemning : Bool
+
+abbrev pub stored_fields : Config → ℕ → Table → List (Option ℕ) → ℕ → ℕ → ℕ → Bool → Stored
+stored_fields config heap_no table slots holds clock next condemning = record {
   config = config;
-  no = number;
-  objects = objects_of table.tabled;
+  heap_no = heap_no;
+  table = table;
   slots = slots;
-  holds = holds_of table.tabled;
+  holds = holds;
   clock = clock;
+  next = next;
+  condemning = condemning;
 }
 
-abbrev pub seen_ground : Config → ℕ → Table → List (Option ℕ) → Bool → ℕ → ℕ → Ground
-seen_ground config heap_no table slots condemning clock next = record {
-  heap = heap_of config heap_no table slots clock;
-  next = next;
-  marked = marked_of table.tabled;
-  tags = tags_of table.tabled;
-  condemning = condemning;
+-- the heap that they are
+abbrev pub heap_of : Stored → Heap
+heap_of s = record {
+  config = s.config;
+  no = s.heap_no;
+  objects = objects_of s.table.tabled;
+  slots = s.slots;
+  holds = holds_of s.table.tabled;
+  clock = s.clock;
+}
+
+abbrev pub seen_ground : Stored → Ground
+seen_ground s = record {
+  heap = heap_of s;
+  next = s.next;
+  marked = marked_of s.table.tabled;
+  tags = tags_of s.table.tabled;
+  condemning = s.condemning;
 }
 
 -- The configuration is within its limits; there is a cell for each object that it allows, and a slot for each; holds
 -- are counted; and each number that was given is below the next, which is at most 2^32.
-pub record IsSoundGround (config : Config) (table : Table) (slots : List (Option ℕ)) (holds next : ℕ) : Type 0 where
-  pub within : is_within_limits config ≡ true
-  pub room : table.room ≡ config.cells
-  pub slot_count : length slots ≡ 16 * config.mutators
-  pub counted : holds ≡ length (holds_of table.tabled)
-  pub given : table.last < next
-  pub bounded : next ≤ 2 ^ 32
+pub record IsSoundGround (s : Stored) : Type 0 where
+  pub within : is_within_limits s.config ≡ true
+  pub room : s.table.room ≡ s.config.cells
+  pub slot_count : length s.slots ≡ 16 * s.config.mutators
+  pub counted : s.holds ≡ length (holds_of s.table.tabled)
+  pub given : s.table.last < s.next
+  pub bounded : s.next ≤ 2 ^ 32
 
 -- the same, and what slots, holds and objects name is there, and isn't condemned
-pub record IsSoundObjects (config : Config) (heap_no : ℕ) (table : Table) (slots : List (Option ℕ)) (holds : ℕ)
-    (condemning : Bool) (clock next : ℕ) : Type 0 where
-  pub ground : IsSoundGround config table slots holds next
-  pub closed : NamesSpared (seen_ground config heap_no table slots condemning clock next)
+pub record IsSoundObjects (s : Stored) : Type 0 where
+  pub ground : IsSoundGround s
+  pub closed : NamesSpared (seen_ground s)
 
 -- an object of so many null fields is made, and the slot at this place holds it
 abbrev pub made_at : Ground → ℕ → ℕ → Option Reference → Ground
@@ -56,7 +79,7 @@ made_at g place fields reference =
         slots = slice_set g.heap.slots place (Some g.next);
       };
       next = g.next + 1;
-      marked = marked_if_spared g g.next;
+      marked = marks_with_new g g.next;
       tags = with_new_tag g.tags g.next;
     }
 
@@ -64,11 +87,6 @@ made_at g place fields reference =
 abbrev pub with_slot_at : Ground → ℕ → Option ℕ → Ground
 with_slot_at g place value =
     ground_with_heap g (record g.heap { slots = slice_set g.heap.slots place value })
-
--- it names what is there and isn't condemned, if anything
-abbrev pub IsSparedIfAny : Ground → Option ℕ → Type 0
-IsSparedIfAny g None = Unit {0}
-IsSparedIfAny g (Some n) = is_spared g n ≡ true
 
 -- what is written of object n
 abbrev pub written : Ground → ℕ → Change → Ground

@@ -1,8 +1,8 @@
 -- What one sees of the objects of a heap: the heap as plain data, what refuses its calls, and what they leave (package
 -- `java.lang.ref` of Java SE 17 for what making a reference does; numbers, slots, holds and cells: this project's
 -- profile). The functions of a heap are those of the model of the whole collector.
-use Rattle.std.specs.Prelude.{◌≡◌, ℕ, ◌+◌, ◌*◌, ◌/◌, ◌^◌, ◌≤◌, Bool, true, false, ◌==◌, ◌&&◌, not, if◌then◌else◌, nat_le, List, []}
-use Rattle.std.specs.Prelude.{◌∷◌, ◌++◌, length, map, Option, Some, None, Result, Ok, Err}
+use Rattle.std.specs.Prelude.{◌≡◌, ℕ, ◌+◌, ◌*◌, ◌/◌, ◌^◌, ◌≤◌, Bool, true, false, ◌==◌, ◌&&◌, not, if◌then◌else◌}
+use Rattle.std.specs.Prelude.{nat_le, List, [], ◌∷◌, ◌++◌, length, map, Option, Some, None, Result, Ok, Err}
 use Rattle.ref_base.specs.Members.{has, without_first}
 use Rattle.ref_base.specs.Graphs.{Object, Reference, is_there, numbers, object_at}
 use Rattle.ref_base.specs.Forgetting.{heap_but}
@@ -79,6 +79,11 @@ is_condemned g n = g.condemning && is_unmarked g n
 -- whether there is such an object, and it isn't condemned
 abbrev pub is_spared : Ground → ℕ → Bool
 is_spared g n = is_there g.heap.objects n && not (is_condemned g n)
+
+-- it names what is there and isn't condemned, if anything
+abbrev pub IsSparedIfAny : Ground → Option ℕ → Type 0
+IsSparedIfAny g None = Unit {0}
+IsSparedIfAny g (Some n) = is_spared g n ≡ true
 
 -- the fields of an object, if there is one
 abbrev pub fields_in : Option Object → List (Option ℕ)
@@ -213,15 +218,15 @@ abbrev pub with_link : List Tag → ℕ → ℕ → List Tag
 with_link ts n to = changed_tag ts n (λ t. record t { link = to })
 
 -- the marks with that of a new object, which is marked from the start where what isn't is condemned
-abbrev pub marked_if_spared : Ground → ℕ → List ℕ
-marked_if_spared g n = if g.condemning then one_more g.marked n else g.marked
+abbrev pub marks_with_new : Ground → ℕ → List ℕ
+marks_with_new g n = if g.condemning then one_more g.marked n else g.marked
 
 -- one more object, in the slot
 abbrev pub with_new_object : Ground → ℕ → ℕ → Object → Ground
 with_new_object g m d o = record g {
   heap = made g.heap m d o;
   next = g.next + 1;
-  marked = marked_if_spared g o.no;
+  marked = marks_with_new g o.no;
   tags = with_new_tag g.tags o.no;
 }
 

@@ -1,7 +1,7 @@
 -- The heap's table of objects, as plain data, and the changes that calls make to it (package `java.lang.ref` of Java SE
 -- 17; numbers, holds and a heap's room: this project's profile).
-use Rattle.std.specs.Prelude.{ℕ, ◌+◌, ◌-◌, ◌≤◌, Bool, true, false, not, ◌==◌, ◌&&◌, if◌then◌else◌, nat_le, nat_lt, List}
-use Rattle.std.specs.Prelude.{[], ◌∷◌, ◌++◌, length, map, replicate, Option, Some, None}
+use Rattle.std.specs.Prelude.{ℕ, ◌+◌, ◌-◌, ◌≤◌, Bool, true, false, not, ◌==◌, ◌&&◌, ◌||◌, if◌then◌else◌, nat_le, nat_lt}
+use Rattle.std.specs.Prelude.{List, [], ◌∷◌, ◌++◌, length, map, replicate, Option, Some, None}
 use Rattle.std.specs.Int.{from_bool}
 use Rattle.ref_base.specs.Members.{without_first}
 use Rattle.ref_base.specs.Graphs.{Object, Reference, numbers}
@@ -124,6 +124,15 @@ on_object f k = record k { object = f k.object }
 -- one more hold
 abbrev pub more_held : Tabled → Tabled
 more_held k = record k { holds = k.holds + 1 }
+
+-- whether there is an object, and it is marked where it has to be
+abbrev pub may_hold : Bool → Option Tabled → Bool
+may_hold if_marked None = false
+may_hold if_marked (Some k) = k.marked || not if_marked
+
+-- one more hold then
+abbrev pub more_held_if : Bool → Tabled → Tabled
+more_held_if if_marked k = if k.marked || not if_marked then more_held k else k
 
 -- one hold fewer, where there is one
 abbrev pub less_held : Tabled → Tabled

@@ -5,7 +5,7 @@ ghost use Rattle.std.specs.Option.{option_map};
 ghost use Rattle.ref_base.specs.Heaps.{with_field, with_reference, with_stamp, cleared};
 ghost use Rattle.ref_objects.specs.Places.{is_of, is_held_as, is_unmarked_as, unmarked_cell, blanked_cell};
 ghost use Rattle.ref_objects.specs.Tables.{made_entry, tabled_fields, has_field, holds_in};
-ghost use Rattle.ref_objects.specs.Tables.{on_object, more_held, less_held};
+ghost use Rattle.ref_objects.specs.Tables.{on_object, may_hold, more_held_if, less_held};
 ghost use Rattle.ref_objects.specs.Tables.{is_marked_in, is_unmarked_in, with_marked};
 ghost use Rattle.ref_objects.specs.Tables.{tabled_linked, change_of};
 
@@ -177,14 +177,18 @@ impl Cell {
         }
     }
 
-    /// Counts one more hold of the object.
-    pub(crate) fn add_hold(&mut self)
+    /// Counts one more hold of the object, which has to be marked where that is told. False where there is no such
+    /// object: then nothing changes.
+    pub(crate) fn add_hold(&mut self, if_marked: bool) -> bool
         requires { holds_in self.old < 2 ^ 64 - 1 }
-        ensures { self.new ≡ option_map more_held self.old }
+        ensures there { result ≡ may_hold if_marked self.old }
+        ensures after { self.new ≡ option_map (more_held_if if_marked) self.old }
     {
-        if self.no.is_some() {
+        let may_hold = self.no.is_some() && (self.marked || !if_marked);
+        if may_hold {
             self.holds += 1;
         }
+        may_hold
     }
 
     /// Counts one hold of the object fewer. False where nobody holds it: then nothing changes.

@@ -12,8 +12,8 @@ ghost use Rattle.ref_base.specs.Refusals.{store_refusal, drop_refusal, copy_refu
 ghost use Rattle.ref_base.specs.Refusals.{load_refusal};
 ghost use Rattle.ref_base.specs.CollectorRows.{field_in, referent_of};
 ghost use Rattle.ref_objects.specs.Grounds.{first_ground, starting_refusal, IsMade, IsRefused, if_done};
-ghost use Rattle.ref_objects.specs.Grounds.{ground_with_heap, with_new_object, is_spared};
-ghost use Rattle.ref_objects.specs.GroundViews.{made_at, with_slot_at, IsSparedIfAny};
+ghost use Rattle.ref_objects.specs.Grounds.{ground_with_heap, with_new_object, is_spared, IsSparedIfAny};
+ghost use Rattle.ref_objects.specs.GroundViews.{made_at, with_slot_at};
 
 mod holds;
 mod layer;
@@ -51,14 +51,15 @@ pub struct Objects<A: Allocator = Global> {
 
 impl<A: Allocator> Model for Objects<A> {
     ghost use Rattle.ref_objects.specs.Grounds.{Ground};
-    ghost use Rattle.ref_objects.specs.GroundViews.{seen_ground, IsSoundObjects};
+    ghost use Rattle.ref_objects.specs.GroundViews.{stored_fields, seen_ground, IsSoundObjects};
 
     ghost Value = { Ground };
 
-    ghost view = { λ o. seen_ground o.config o.heap_no o.table o.slots.items o.condemning o.clock o.next };
+    ghost view = { λ o. seen_ground
+        (stored_fields o.config o.heap_no o.table o.slots.items o.holds o.clock o.next o.condemning) };
 
-    ghost invariant = { λ o. IsSoundObjects o.config o.heap_no o.table o.slots.items o.holds o.condemning o.clock
-        o.next };
+    ghost invariant = { λ o. IsSoundObjects
+        (stored_fields o.config o.heap_no o.table o.slots.items o.holds o.clock o.next o.condemning) };
 }
 
 impl<A: Allocator + Copy> Objects<A> {

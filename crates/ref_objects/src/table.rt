@@ -53,7 +53,7 @@ impl<A: Allocator + Copy> Table<A> {
     ghost use Rattle.ref_objects.specs.Tables.{tabled_at, tabled_fields, has_field};
     ghost use Rattle.ref_objects.specs.Tables.{holds_in, holds_of};
     ghost use Rattle.ref_objects.specs.Tables.{first_from, held_from};
-    ghost use Rattle.ref_objects.specs.Tables.{on_object, more_held, less_held};
+    ghost use Rattle.ref_objects.specs.Tables.{on_object, may_hold, more_held_if, less_held};
     ghost use Rattle.ref_objects.specs.Tables.{changed, table_freed, made_entry, with_tabled};
     ghost use Rattle.ref_objects.specs.Tables.{is_marked_in, is_unmarked_in, marked_of, unmarked_from, with_marked};
     ghost use Rattle.ref_objects.specs.Tables.{table_unmarked, table_blanked, change_of};
@@ -218,17 +218,15 @@ impl<A: Allocator + Copy> Table<A> {
         }
     }
 
-    /// Counts one more hold of the object of this number. False where there is none: then nothing changes.
-    pub(crate) fn add_hold(&mut self, no: ObjNo) -> bool
+    /// Counts one more hold of the object of this number, which has to be marked where that is told. False where there
+    /// is no such object: then nothing changes.
+    pub(crate) fn add_hold(&mut self, no: ObjNo, if_marked: bool) -> bool
         requires { length (holds_of self.old.tabled) < 2 ^ 64 - 1 }
-        ensures there { result ≡ is_some (tabled_at self.old.tabled no) }
-        ensures after { self.new ≡ changed self.old no more_held }
+        ensures there { result ≡ may_hold if_marked (tabled_at self.old.tabled no) }
+        ensures after { self.new ≡ changed self.old no (more_held_if if_marked) }
     {
         match place_of(&self.cells, &self.index, no) {
-            Some(place) => {
-                self.cells[place].add_hold();
-                true
-            }
+            Some(place) => self.cells[place].add_hold(if_marked),
             None => false,
         }
     }

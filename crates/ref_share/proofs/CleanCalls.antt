@@ -1,7 +1,6 @@
 -- What the calls of a cleaner have made.
-use Rattle.std.proofs.Common.{arith, ◌≡◌, ℕ, Option, Some, Result, Ok, Err, IfOk, IfErr, inl, inr}
-use Rattle.ref_share.proofs.Common.{Fault, HoldName, Reply, HeldNotice, CleanView, TakesJob, makes_phantom, HeapView}
-use Rattle.ref_share.proofs.Common.{Releases}
+use Rattle.ref_share.proofs.Common.{arith, ◌≡◌, ℕ, Option, Some, Result, Ok, Err, IfOk, IfErr, inl, inr, Fault}
+use Rattle.ref_share.proofs.Common.{HoldName, Reply, HeldNotice, CleanView, TakesJob, makes_phantom, HeapView, Releases}
 use Rattle.ref_base.specs.declared.plain_step.PlainStep.{PlainStep}
 use Rattle.ref_share.specs.Cleanings.{HasMade, HasNotMade, Tries, HasTaken}
 use Rattle.ref_share.specs.HeapCalls.{AsksHeap, Accepted, HoldsSlot}

@@ -1,19 +1,19 @@
 -- What a cleaner's thread has called, one round after the other.
-use Rattle.std.proofs.Common.{◌≡◌, ℕ, ◌+◌, ◌<◌, ◌≤◌, true, false, List, [], ◌∷◌, ◌++◌, length, replicate, Option, Some}
-use Rattle.std.proofs.Common.{None, Result, Ok, refl, sym, ap, ◌∙◌, subst, arith, length-append}
-use Rattle.std.proofs.lemmas.List.{append_assoc, append-nil}
-use Rattle.ref_base.specs.declared.heap_step.HeapStep.TheVariants as heap
-use Rattle.ref_share.proofs.Common.{HoldName, HeldNotice, entry, Longer, Round, all_of, takes_in, jobs_run, HasGone}
-use Rattle.ref_share.proofs.Common.{CleanView, CleanEntry, TakesJob, CleansDead, HeapView, HeapEntry, PollsUntil}
-use Rattle.ref_share.proofs.Common.{QueueView, QueueEntry, Releases, Made, Took, ShareFault}
-use Rattle.ref_base.specs.declared.reply.Reply.TheVariants as told
-use Rattle.ref_queue.specs.declared.queue.Polled.TheVariants as answers
-use Rattle.ref_world.specs.declared.heap_machine.HeapReply.TheVariants as replies
-use Rattle.ref_share.proofs.Polls.{made_none, made_more, made_longer, made_after}
-use Rattle.ref_share.specs.CleanLoops.{polls_in, releases_in, job_in, released, polls_in_vain, IsQuiet, PollsBy}
+use Rattle.ref_share.proofs.Common.{Bool, ◌≡◌, ℕ, ◌+◌, ◌<◌, ◌≤◌, true, false, List, [], ◌∷◌, ◌++◌, length, replicate}
+use Rattle.ref_share.proofs.Common.{Option, Some, None, Result, Ok, refl, sym, ap, ◌∙◌, subst, arith, length-append}
+use Rattle.ref_share.proofs.Common.{append_assoc, append-nil, HoldName, HeldNotice, entry, Longer, Round, all_of}
+use Rattle.ref_share.proofs.Common.{takes_in, jobs_run, HasGone, CleanView, CleanEntry, TakesJob, CleansDead, HeapView}
+use Rattle.ref_share.proofs.Common.{HeapEntry, PollsUntil, QueueView, QueueEntry, Releases, Made, Took, ShareFault}
+use Rattle.ref_share.proofs.Common.{IsQuiet, PollsBy}
+use Rattle.ref_share.specs.CleanLoops.{polls_in, releases_in, job_in, released, polls_in_vain}
 use Rattle.ref_share.specs.declared.answers.Polled.{Polled}
 use Rattle.ref_share.specs.declared.clean_loop.Polling.{Polling}
 use Rattle.ref_share.specs.declared.clean_loop.Polling.TheVariants.{Waits, Once}
+use Rattle.ref_share.proofs.Polls.{made_none, made_more, made_longer, made_after}
+use Rattle.ref_base.specs.declared.heap_step.HeapStep.TheVariants as heap
+use Rattle.ref_base.specs.declared.reply.Reply.TheVariants as told
+use Rattle.ref_queue.specs.declared.queue.Polled.TheVariants as answers
+use Rattle.ref_world.specs.declared.heap_machine.HeapReply.TheVariants as replies
 use Rattle.ref_share.specs.declared.clean_machine.CleanStep.TheVariants as steps
 use Rattle.ref_share.specs.declared.clean_machine.CleanReply.TheVariants as gives
 use Rattle.ref_share.specs.declared.queue_machine.QueueStep.TheVariants as asks
@@ -33,9 +33,9 @@ until_found Once notice u w polls =
 
 -- what a poll answered is that it took a notice
 pub took : (polling : Polling) (u w : QueueView) {answer : Result Polled ShareFault} {found : Polled}
-    (notice : HeldNotice) → answer ≡ Ok found → found ≡ Took notice → PollsBy polling u (Some answer) w
+    {notice : HeldNotice} → answer ≡ Ok found → found ≡ Took notice → PollsBy polling u (Some answer) w
     → PollsBy polling u (Some (Ok (Took notice))) w
-took polling u w notice was is polls = grind arith
+took polling u w was is polls = grind arith
 
 -- no poll was in vain before the first round
 pub still_quiet : (J : Type 0) (polling : Polling) → IsQuiet {J = J} polling []
@@ -83,81 +83,83 @@ module _ {J : Type 0} where
   quiet_on Once notice u w by rs taken quiet =
       omega (arith, quiet, vain_of_one_more rs (record { empties = 0; notice = notice; taken = taken }))
 
-  module _ (q : QueueView) (v : HeapView) (c : CleanView J) where
-    pub gone_nowhere : HasGone q v c [] q v c
-    gone_nowhere = (made_none q, made_none v, made_none c)
+  pub gone_nowhere : (q : QueueView) (v : HeapView) (c : CleanView J) → HasGone q v c [] q v c
+  gone_nowhere q v c = (made_none q, made_none v, made_none c)
 
-    module _ (rs : List (Round J)) (q1 : QueueView) (v1 : HeapView) (c1 : CleanView J)
-        (gone : HasGone q v c rs q1 v1 c1) (polling : Polling) (quiet : IsQuiet polling rs) (notice : HeldNotice)
-        (q2 : QueueView) (by : PollsBy polling q1 (Some (Ok (Took notice))) q2) (v2 : HeapView) (c2 : CleanView J) where
-      abbrev polls : PollsUntil q1 (Ok (Took notice)) q2
-      polls = until_found polling notice q1 q2 by
+  module _ (q : QueueView) (v : HeapView) (c : CleanView J) (rs : List (Round J)) (q1 : QueueView) (v1 : HeapView)
+      (c1 : CleanView J) (gone : HasGone q v c rs q1 v1 c1) (polling : Polling) (quiet : IsQuiet polling rs)
+      (notice : HeldNotice) (q2 : QueueView) (by : PollsBy polling q1 (Some (Ok (Took notice))) q2) where
+    abbrev polls : PollsUntil q1 (Ok (Took notice)) q2
+    polls = until_found polling notice q1 q2 by
 
-      abbrev next : Option (HoldName × J) → Round J
-      next taken = record { empties = polls.0; notice = notice; taken = taken }
+    abbrev next : Option (HoldName × J) → Round J
+    next taken = record { empties = polls.0; notice = notice; taken = taken }
 
-      -- the round's calls follow those of the rounds before
-      next_polls : (taken : Option (HoldName × J)) → Made q (all_of (polls_in q) (rs ++ next taken ∷ [])) q2
-      next_polls taken =
-          let own = subst
-          (λ (n : ℕ). Made q1 (replicate polls.0 (entry n asks.Poll (gets.Polled answers.Empty))
-          ++ entry n asks.Poll (gets.Polled (answers.Took notice)) ∷ []) q2) gone.0.0.0 polls.2 in
-          subst (λ (calls : List QueueEntry). Made q calls q2) (sym (all_of_one_more (polls_in q) rs (next taken)))
-          (made_after q q1 q2 (all_of (polls_in q) rs) (polls_in q (next taken)) gone.0 own)
+    -- the round's calls follow those of the rounds before
+    next_polls : (taken : Option (HoldName × J)) → Made q (all_of (polls_in q) (rs ++ next taken ∷ [])) q2
+    next_polls taken =
+        let own = subst
+        (λ (n : ℕ). Made q1 (replicate polls.0 (entry n asks.Poll (gets.Polled answers.Empty))
+        ++ entry n asks.Poll (gets.Polled (answers.Took notice)) ∷ []) q2) gone.0.0.0 polls.2 in
+        subst (λ (calls : List QueueEntry). Made q calls q2) (sym (all_of_one_more (polls_in q) rs (next taken)))
+        (made_after q q1 q2 (all_of (polls_in q) rs) (polls_in q (next taken)) gone.0 own)
 
-      next_takes : (taken : Option (HoldName × J)) (c3 : CleanView J) → TakesJob c1 notice.hold.object taken c2
-          → Longer c2 c3
-          → Made c (all_of (takes_in c) (rs ++ next taken ∷ [])) c3
-      next_takes taken c3 takes longer =
-          let made = made_more c c1 c2 (all_of (takes_in c) rs) (steps.Take notice.hold.object) (gives.Taken taken)
-          gone.2
-          takes in
-          subst (λ (calls : List (CleanEntry J)). Made c calls c3) (sym (all_of_one_more (takes_in c) rs (next taken)))
-          (made_longer c c2 c3 (all_of (takes_in c) rs ++ takes_in c (next taken)) made longer)
+    next_takes : (taken : Option (HoldName × J)) (c2 c3 : CleanView J) → TakesJob c1 notice.hold.object taken c2
+        → Longer c2 c3
+        → Made c (all_of (takes_in c) (rs ++ next taken ∷ [])) c3
+    next_takes taken c2 c3 takes longer =
+        let made = made_more c c1 c2 (all_of (takes_in c) rs) (steps.Take notice.hold.object) (gives.Taken taken)
+        gone.2
+        takes in
+        subst (λ (calls : List (CleanEntry J)). Made c calls c3) (sym (all_of_one_more (takes_in c) rs (next taken)))
+        (made_longer c c2 c3 (all_of (takes_in c) rs ++ takes_in c (next taken)) made longer)
 
-      next_release : (u : HeapView) → Releases v1 notice.hold (Ok tt) u
-          → Made v (all_of (releases_in v) rs ++ released v notice.hold ∷ []) u
-      next_release u releases = search made_more
+    next_release : (u : HeapView) → Releases v1 notice.hold (Ok tt) u
+        → Made v (all_of (releases_in v) rs ++ released v notice.hold ∷ []) u
+    next_release u releases = search made_more
 
+    module _ (v2 : HeapView) (c2 : CleanView J) {found : Bool} (cleans : CleansDead notice v1 c1 (Ok found) v2 c2) where
       -- a round without a job
-      pub gone_in_vain : CleansDead notice v1 c1 (Ok false) v2 c2
+      pub gone_in_vain : found ≡ false
           → (more : List (Round J)) × HasGone q v c more q2 v2 c2 × IsQuiet polling more
           × (jobs_run more ≡ jobs_run rs)
-      gone_in_vain cleans = (
-        rs ++ next None ∷ [],
-        (
-          next_polls None,
-          subst (λ (calls : List HeapEntry). Made v calls v2) (sym (all_of_one_more (releases_in v) rs (next None)))
-              (next_release v2 cleans.0),
-          next_takes None c2 cleans.1 ((refl, refl, refl), (made_none c2).1, refl),
-        ),
-        quiet_on polling notice q1 q2 by rs None quiet,
-        omega (arith, jobs_of_one_more rs (next None)),
-      )
+      gone_in_vain is =
+          let none = subst (λ b. CleansDead notice v1 c1 (Ok b) v2 c2) is cleans in (
+            rs ++ next None ∷ [],
+            (
+              next_polls None,
+              subst (λ (calls : List HeapEntry). Made v calls v2) (sym (all_of_one_more (releases_in v) rs (next None)))
+                  (next_release v2 none.0),
+              next_takes None c2 c2 none.1 ((refl, refl, refl), (made_none c2).1, refl),
+            ),
+            quiet_on polling notice q1 q2 by rs None quiet,
+            omega (arith, jobs_of_one_more rs (next None)),
+          )
 
       -- a round with a job
-      pub gone_for_a_job : (c3 : CleanView J) → CleansDead notice v1 c1 (Ok true) v2 c2 → Longer c2 c3
+      pub gone_for_a_job : found ≡ true → (c3 : CleanView J) → Longer c2 c3
           → (more : List (Round J)) × HasGone q v c more q2 v2 c3 × IsQuiet polling more
           × (jobs_run more ≡ jobs_run rs + 1)
-      gone_for_a_job c3 cleans longer =
-          let taken = Some (cleans.0, cleans.1) in
-          let both = made_more v cleans.2 v2 (all_of (releases_in v) rs ++ released v notice.hold ∷ [])
-          (heap.Release cleans.0) (replies.Told told.Done) (next_release cleans.2 cleans.3.0) cleans.4 in
+      gone_for_a_job is c3 longer =
+          let job = subst (λ b. CleansDead notice v1 c1 (Ok b) v2 c2) is cleans in
+          let taken = Some (job.0, job.1) in
+          let both = made_more v job.2 v2 (all_of (releases_in v) rs ++ released v notice.hold ∷ [])
+          (heap.Release job.0) (replies.Told told.Done) (next_release job.2 job.3.0) job.4 in
           let calls_are = append_assoc (all_of (releases_in v) rs) (released v notice.hold ∷ [])
-          (released v cleans.0 ∷ [])
+          (released v job.0 ∷ [])
           ∙ sym (all_of_one_more (releases_in v) rs (next taken)) in (
             rs ++ next taken ∷ [],
             (
               next_polls taken,
               subst (λ (calls : List HeapEntry). Made v calls v2) calls_are both,
-              next_takes taken c3 cleans.3.1 longer,
+              next_takes taken c2 c3 job.3.1 longer,
             ),
             quiet_on polling notice q1 q2 by rs taken quiet,
             omega (arith, jobs_of_one_more rs (next taken)),
           )
 
       -- its take is one call more than those that gave the jobs before
-      pub job_is_a_call : CleansDead notice v1 c1 (Ok true) v2 c2 → jobs_run rs < length c2.mine
-      job_is_a_call cleans =
-          let on = gone_for_a_job c2 cleans ((refl, refl, refl), (made_none c2).1, refl) in
+      pub job_is_a_call : found ≡ true → jobs_run rs < length c2.mine
+      job_is_a_call is =
+          let on = gone_for_a_job is c2 ((refl, refl, refl), (made_none c2).1, refl) in
           omega (arith, on.3, jobs_at_most_calls c c2 on.0 on.1.2)

@@ -1,15 +1,16 @@
 -- The history of a cleaner: which job stands in its table is told by its entries.
-use Rattle.std.proofs.Common.{arith, ◌≡◌, ℕ, true, List, [], ◌∷◌, ◌++◌, Option, Some, None, Ok, Err, refl, ap, ◌∙◌}
+use Rattle.ref_share.proofs.Common.{arith, ◌≡◌, ℕ, true, List, [], ◌∷◌, ◌++◌, Option, Some, None, Ok, Err, refl, ap}
+use Rattle.ref_share.proofs.Common.{◌∙◌, new_registry, Leads, entry, Entry}
 use Rattle.std.specs.Cmp.{nat_eq_equiv}
-use Rattle.ref_share.proofs.Common.{new_registry, Leads, entry, Entry, IsCleanTurn}
+use Rattle.ref_share.specs.CleanMachines.{IsCleanTurn}
 use Rattle.ref_queue.specs.CleanTables.{Registry, job_of}
-use Rattle.ref_base.proofs.RunLaws.{holds_over}
-use Rattle.ref_turn.proofs.Logs.{leads_cut}
 use Rattle.ref_share.specs.CleanHistories.{some_registers, job_after, job_left}
 use Rattle.ref_share.specs.CleanSeats.{IsCleanRun}
 use Rattle.ref_share.specs.declared.clean_machine.CleanStep.{CleanStep}
-use Rattle.ref_share.specs.declared.clean_machine.CleanStep.TheVariants as steps
 use Rattle.ref_share.specs.declared.clean_machine.CleanReply.{CleanReply}
+use Rattle.ref_base.proofs.RunLaws.{holds_over}
+use Rattle.ref_turn.proofs.Logs.{leads_cut}
+use Rattle.ref_share.specs.declared.clean_machine.CleanStep.TheVariants as steps
 use Rattle.ref_share.specs.declared.clean_machine.CleanReply.TheVariants as replies
 
 module _ {K J : Type 0} (n : ℕ) where

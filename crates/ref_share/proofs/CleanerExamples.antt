@@ -1,18 +1,18 @@
 -- What `register`, `clean` and a cleaner's thread may have called, and what not: the job 30 of reference 2, whose
 -- notice comes once its object is gone.
-use Rattle.std.proofs.Common.{◌≡◌, ℕ, List, [], ◌∷◌, Option, Some, None, Ok, true, inl, inr, refl, ap, ◌+◌, map, arith}
-use Rattle.ref_share.proofs.Common.{Cycle, HoldName, ClearHeap, HeldNotice, new_registry, entry, Entry, Idle, View}
-use Rattle.ref_share.proofs.Common.{new_queue, Round, all_of, jobs_run, takes_in, CleanView, CleanEntry, makes_phantom}
-use Rattle.ref_share.proofs.Common.{CleansDead, HeapView, HeapEntry, QueueView, QueueEntry, Releases}
-use Rattle.ref_base.specs.declared.heap_step.HeapStep.TheVariants as heap
-use Rattle.ref_base.specs.declared.plain_step.PlainStep.TheVariants as plain
-use Rattle.ref_base.specs.declared.reply.Reply.TheVariants as told
+use Rattle.ref_share.proofs.Common.{◌≡◌, ℕ, List, [], ◌∷◌, Option, Some, None, Ok, true, inl, inr, refl, ap, ◌+◌, map}
+use Rattle.ref_share.proofs.Common.{arith, Cycle, HoldName, ClearHeap, HeldNotice, new_registry, entry, Entry, Idle}
+use Rattle.ref_share.proofs.Common.{View, new_queue, Round, all_of, jobs_run, takes_in, CleanView, CleanEntry}
+use Rattle.ref_share.proofs.Common.{makes_phantom, CleansDead, HeapView, HeapEntry, QueueView, QueueEntry, Releases}
 use Rattle.ref_queue.specs.declared.job.Ran.{Ran}
-use Rattle.ref_queue.specs.declared.queue.Polled.TheVariants as found
-use Rattle.ref_world.specs.declared.heap_machine.HeapReply.TheVariants as replies
 use Rattle.ref_share.specs.CleanLoops.{GoesRound, GoesOn}
 use Rattle.ref_share.specs.Cleanings.{RegistersJob, CleansNow}
 use Rattle.ref_share.specs.declared.answers.Cleaned.TheVariants.{Gone, Ran as DidRun}
+use Rattle.ref_base.specs.declared.heap_step.HeapStep.TheVariants as heap
+use Rattle.ref_base.specs.declared.plain_step.PlainStep.TheVariants as plain
+use Rattle.ref_base.specs.declared.reply.Reply.TheVariants as told
+use Rattle.ref_queue.specs.declared.queue.Polled.TheVariants as found
+use Rattle.ref_world.specs.declared.heap_machine.HeapReply.TheVariants as replies
 use Rattle.ref_share.specs.declared.clean_machine.CleanStep.TheVariants as steps
 use Rattle.ref_share.specs.declared.clean_machine.CleanReply.TheVariants as answers
 use Rattle.ref_share.specs.declared.queue_machine.QueueStep.TheVariants as queue

@@ -1,17 +1,17 @@
 -- The history of a heap: what a mark's end clears reads as cleared from then on, and no get of it answers an object.
-use Rattle.std.proofs.Common.{◌≡◌, ℕ, true, List, Some, None}
-use Rattle.ref_share.proofs.Common.{doomed_at, referent_of, new_clears, slot_at, reference_at, has, Config, Leads}
-use Rattle.ref_share.proofs.Common.{told_reply, State, IsHeapTurn, HeapEntry, IsHeapRun, heap_replayed}
-use Rattle.ref_base.specs.Worlds.{World}
-use Rattle.ref_base.specs.declared.heap_step.HeapStep.TheVariants as heap
-use Rattle.ref_base.specs.declared.plain_step.PlainStep.TheVariants as plain
-use Rattle.ref_base.specs.declared.reply.Reply.TheVariants as told
+use Rattle.ref_share.proofs.Common.{◌≡◌, ℕ, true, List, Some, None, doomed_at, referent_of, new_clears, reference_at}
+use Rattle.ref_share.proofs.Common.{has, Config, Leads, told_reply, State, IsHeapTurn, HeapEntry, IsHeapRun}
+use Rattle.ref_share.proofs.Common.{heap_replayed, World}
+use Rattle.ref_base.specs.Heaps.{slot_at}
 use Rattle.ref_base.proofs.ClearedOnwards.{StaysCleared, turn_cleared, end_clears, cleared_at, no_get}
 use Rattle.ref_base.proofs.OldNames.{rising_objects, old_objects}
-use Rattle.ref_world.specs.declared.heap_machine.HeapReply.TheVariants as replies
 use Rattle.ref_share.proofs.HeapReplays.{run_known}
 use Rattle.ref_base.proofs.RunLaws.{holds_after}
 use Rattle.ref_share.proofs.HeapRuns.{IsCall, as_turn}
+use Rattle.ref_base.specs.declared.heap_step.HeapStep.TheVariants as heap
+use Rattle.ref_base.specs.declared.plain_step.PlainStep.TheVariants as plain
+use Rattle.ref_base.specs.declared.reply.Reply.TheVariants as told
+use Rattle.ref_world.specs.declared.heap_machine.HeapReply.TheVariants as replies
 
 -- what a mark's end clears reads as cleared from then on
 pub stays_cleared : (config : Config) (number count : ℕ) (front : List HeapEntry) (a b : State)

@@ -1,10 +1,11 @@
 -- What deliveries may have called, and what not, with two queues: worker 0 hands on the notice of reference 2, which is
 -- for queue 1, and then that of reference 6.
-use Rattle.std.proofs.Common.{◌≡◌, ℕ, List, [], ◌∷◌, length, Option, Some, Ok, Err, inl, inr, refl, sym, ap, ◌∙◌, arith}
-use Rattle.std.proofs.Common.{get_or, length-append, map, zero, suc}
-use Rattle.ref_share.proofs.Common.{Cycle, BadQueue, HoldName, ClearHeap, HeldNotice, entry, Idle, GoesBack, Sends}
-use Rattle.ref_share.proofs.Common.{Delivers, HeapView, HeapEntry, PutsNotice, QueueEntry, queue_view, KeepsPace, Works}
-use Rattle.ref_share.proofs.Common.{notices_put, references_of, Nothing, Added, Dropped, Notice, QueueSeat, SharedQueue}
+use Rattle.ref_share.proofs.Common.{◌≡◌, ℕ, List, [], ◌∷◌, length, Option, Some, Ok, Err, inl, inr, refl, sym, ap, ◌∙◌}
+use Rattle.ref_share.proofs.Common.{arith, get_or, length-append, map, zero, suc, Cycle, BadQueue, HoldName, ClearHeap}
+use Rattle.ref_share.proofs.Common.{HeldNotice, entry, Idle, GoesBack, Delivers, HeapView, HeapEntry, PutsNotice}
+use Rattle.ref_share.proofs.Common.{QueueEntry, queue_view, KeepsPace, Works, notices_put, references_of, Nothing}
+use Rattle.ref_share.proofs.Common.{Added, Dropped, Notice, QueueSeat, SharedQueue}
+use Rattle.ref_share.specs.Deliveries.{Sends}
 use Rattle.ref_base.specs.declared.heap_step.HeapStep.TheVariants as heap
 use Rattle.ref_queue.specs.declared.queue.Put.TheVariants as puts
 use Rattle.ref_world.specs.declared.heap_machine.HeapReply.TheVariants as replies

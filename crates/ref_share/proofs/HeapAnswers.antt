@@ -1,16 +1,15 @@
 -- What a heap answers to the calls that give notices or spend holds. Turns are no fault of its own.
-use Rattle.std.proofs.Common.{arith, ◌≡◌, true, false, Bool, Option, Some, None, Result, Ok, Err, refl, sym, subst}
-use Rattle.std.proofs.lemmas.Bool.{false≢true}
-use Rattle.ref_share.proofs.Common.{NamedStep, unless, Fault, HoldName, TurnsSpent, Reply, ClearHeap, HeldNotice}
-use Rattle.ref_share.proofs.Common.{is_counted, Acts, HeapView, Called}
+use Rattle.ref_share.proofs.Common.{arith, ◌≡◌, true, false, Bool, Option, Some, None, Result, Ok, Err, refl, sym}
+use Rattle.ref_share.proofs.Common.{subst, false≢true, NamedStep, Fault, HoldName, TurnsSpent, Reply, ClearHeap}
+use Rattle.ref_share.proofs.Common.{HeldNotice, Acts, HeapView, Called}
+use Rattle.ref_base.specs.Refusals.{unless, is_counted, hold_refusal}
 use Rattle.ref_base.specs.Heaps.{Heap}
-use Rattle.ref_base.specs.Refusals.{hold_refusal}
 use Rattle.ref_base.specs.declared.fault.Fault.TheVariants.{ForeignHold}
+use Rattle.ref_mark.specs.MarkCalls.{unless_refused}
+use Rattle.ref_share.specs.HeapCalls.{asks_for_a_notice, TellsOfNone, KeepsBack, GivesNotice, takes_a_hold, Spends}
 use Rattle.ref_base.specs.declared.heap_step.HeapStep.TheVariants as heap
 use Rattle.ref_base.specs.declared.reply.Reply.TheVariants as told
-use Rattle.ref_mark.specs.MarkCalls.{unless_refused}
 use Rattle.ref_world.specs.declared.heap_machine.HeapReply.TheVariants as replies
-use Rattle.ref_share.specs.HeapCalls.{asks_for_a_notice, TellsOfNone, KeepsBack, GivesNotice, takes_a_hold, Spends}
 
 -- ---- a step that may give a notice
 

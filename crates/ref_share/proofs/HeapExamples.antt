@@ -1,16 +1,16 @@
 -- What a worked history of a heap tells, as one reads it off its entries: three seats, two workers, and two notices of
 -- one worker that are out at once.
-use Rattle.std.proofs.Common.{◌≡◌, ℕ, List, [], ◌∷◌, take, Some, refl}
-use Rattle.ref_share.proofs.Common.{NamedStep, scanned_in_cycle, clearing_order, graph_of, Cycle, Config, HoldName}
-use Rattle.ref_share.proofs.Common.{Reply, Row, Step, entry, HeapEntry, rows_of, heap_replayed, all_handed_on}
-use Rattle.ref_share.proofs.Common.{handed_in}
+use Rattle.ref_share.proofs.Common.{◌≡◌, ℕ, List, [], ◌∷◌, Some, refl, NamedStep, scanned_in_cycle, clearing_order}
+use Rattle.ref_share.proofs.Common.{graph_of, Cycle, Config, HoldName, Reply, Row, Step, entry, HeapEntry, rows_of}
+use Rattle.ref_share.proofs.Common.{heap_replayed, all_handed_on, handed_in}
+use Rattle.std.proofs.Common.{take}
+use Rattle.ref_base.specs.declared.strength.Strength.TheVariants.{Weak}
+use Rattle.ref_base.specs.declared.urgency.Urgency.TheVariants.{Normal}
+use Rattle.ref_base.proofs.WorkedTraces.{config_of}
 use Rattle.ref_base.specs.declared.heap_step.HeapStep.TheVariants as heap
 use Rattle.ref_base.specs.declared.reply.Reply.TheVariants as told
 use Rattle.ref_base.specs.declared.plain_step.PlainStep.TheVariants as plain
 use Rattle.ref_base.specs.declared.step.Step.TheVariants as steps
-use Rattle.ref_base.specs.declared.strength.Strength.TheVariants.{Weak}
-use Rattle.ref_base.specs.declared.urgency.Urgency.TheVariants.{Normal}
-use Rattle.ref_base.proofs.WorkedTraces.{config_of}
 use Rattle.ref_world.specs.declared.heap_machine.HeapReply.TheVariants as replies
 
 -- a hold of the heap with number 7

@@ -1,15 +1,11 @@
 -- After every history of a heap the collector has the world of its replay, but for what was swept and for what waits to
 -- be cleared; what is gone or doomed is out of reach; and a mark's end has shown what it cleared.
-use Rattle.std.proofs.Common.{arith, ◌≡◌, ℕ, List, [], ◌∷◌, ◌++◌, Some, inl, inr, refl}
-use Rattle.std.proofs.lemmas.List.{append_assoc}
-use Rattle.ref_share.proofs.Common.{State, NamedStep, World, graph_of, Config, Fault, Reply, entry, told_reply}
-use Rattle.ref_share.proofs.Common.{HeapReply, IsHeapTurn, HeapEntry, IsHeapRun, first_state_of}
-use Rattle.ref_share.proofs.Common.{heap_replayed, HeapMarkEnded}
+use Rattle.ref_share.proofs.Common.{arith, ◌≡◌, ℕ, List, [], ◌∷◌, ◌++◌, Some, inl, inr, refl, append_assoc, State}
+use Rattle.ref_share.proofs.Common.{NamedStep, World, graph_of, Config, Fault, Reply, entry, told_reply, HeapReply}
+use Rattle.ref_share.proofs.Common.{IsHeapTurn, HeapEntry, IsHeapRun, first_state_of, heap_replayed, HeapMarkEnded}
 use Rattle.ref_base.specs.MarkEnds.{AreOutOfReach}
 use Rattle.ref_base.specs.Replay.{after_heap}
-use Rattle.ref_base.specs.declared.heap_step.HeapStep.TheVariants as heap
-use Rattle.ref_base.specs.declared.plain_step.PlainStep.TheVariants as plain
-use Rattle.ref_base.specs.declared.reply.Reply.TheVariants as told
+use Rattle.ref_share.specs.HeapTraces.{heap_replayed_from}
 use Rattle.ref_base.proofs.AgreeHeaps.{Agreeing}
 use Rattle.ref_base.proofs.AgreeRuns.{heap_agrees, first_agrees, gone_next}
 use Rattle.ref_base.proofs.HeapTurns.{IsIdle, IsRefusedOrAccepted, heap_kind}
@@ -17,9 +13,11 @@ use Rattle.ref_base.proofs.MarkShows.{RefersToDead}
 use Rattle.ref_base.proofs.OutHeaps.{AreOutBy}
 use Rattle.ref_base.proofs.OutRuns.{idle_gone, turn_out}
 use Rattle.ref_base.proofs.OutTraces.{first_out, out_of_reach}
-use Rattle.ref_world.specs.declared.heap_machine.HeapReply.TheVariants as replies
-use Rattle.ref_share.specs.HeapTraces.{heap_replayed_from}
 use Rattle.ref_share.proofs.HeapRuns.{as_turn, run_holds}
+use Rattle.ref_base.specs.declared.heap_step.HeapStep.TheVariants as heap
+use Rattle.ref_base.specs.declared.plain_step.PlainStep.TheVariants as plain
+use Rattle.ref_base.specs.declared.reply.Reply.TheVariants as told
+use Rattle.ref_world.specs.declared.heap_machine.HeapReply.TheVariants as replies
 
 -- ---- the replay goes on call by call
 

@@ -1,16 +1,13 @@
 -- What the calls of a heap tell, call by call; and a call that tells a row is one of a world, whose hands are empty.
-use Rattle.std.proofs.Common.{◌≡◌, ℕ, List, [], ◌∷◌, ◌++◌, Option, Some, None, refl, ◌∙◌, subst}
-use Rattle.std.proofs.lemmas.List.{append-nil, append_assoc}
-use Rattle.ref_share.proofs.Common.{NamedStep, told_reply, HeapReply, HeapEntry, world_step, row_of, rows_of}
-use Rattle.ref_share.proofs.Common.{gathered, State, World, Reply, Step}
-use Rattle.ref_base.specs.CollectorRows.{IsHeapRow, IsRow, with_handed}
-use Rattle.ref_base.specs.Worlds.{hand_of}
+use Rattle.ref_share.proofs.Common.{◌≡◌, ℕ, List, [], ◌∷◌, ◌++◌, Option, Some, None, refl, ◌∙◌, subst, append-nil}
+use Rattle.ref_share.proofs.Common.{append_assoc, NamedStep, told_reply, HeapReply, HeapEntry, world_step, row_of}
+use Rattle.ref_share.proofs.Common.{rows_of, gathered, State, World, Reply, Step, IsHeapRow, IsRow, with_handed}
+use Rattle.ref_share.proofs.Common.{hand_of, Mutator, Worker}
 use Rattle.ref_base.specs.declared.actor.Actor.{Actor}
-use Rattle.ref_base.specs.declared.actor.Actor.TheVariants.{Mutator, Worker}
-use Rattle.ref_base.specs.declared.heap_step.HeapStep.TheVariants as heap
-use Rattle.ref_base.specs.declared.step.Step.TheVariants as steps
 use Rattle.ref_base.proofs.HeapRowLaws.{carried_row, free_unhook, free_hand, row_others}
 use Rattle.ref_base.proofs.SameOthers.{same_hand}
+use Rattle.ref_base.specs.declared.heap_step.HeapStep.TheVariants as heap
+use Rattle.ref_base.specs.declared.step.Step.TheVariants as steps
 
 -- a call more tells its own row last, if it tells one
 pub rows_last : (past : List HeapEntry) (call : HeapEntry)

@@ -1,7 +1,6 @@
 -- What each call of a heap keeps holds after every history.
-use Rattle.std.proofs.Common.{◌≡◌, ℕ, List, [], ◌∷◌, ◌++◌, Some, None}
-use Rattle.ref_share.proofs.Common.{NamedStep, Config, told_reply, HeapReply, State, IsHeapTurn, HeapEntry}
-use Rattle.ref_share.proofs.Common.{HeapAccepts, heap_refusal, IsHeapRun, first_state_of}
+use Rattle.ref_share.proofs.Common.{◌≡◌, ℕ, List, [], ◌∷◌, ◌++◌, Some, None, NamedStep, Config, told_reply, HeapReply}
+use Rattle.ref_share.proofs.Common.{State, IsHeapTurn, HeapEntry, HeapAccepts, heap_refusal, IsHeapRun, first_state_of}
 use Rattle.ref_base.proofs.HeapTurns.{IsTurn, heap_turn}
 use Rattle.ref_base.proofs.RunLaws.{holds_after}
 

@@ -1,23 +1,23 @@
 -- The history of a heap: what is held is what was given out and not taken back.
-use Rattle.std.proofs.Common.{◌≡◌, ℕ, ◌+◌, ◌<◌, true, List, [], ◌∷◌, ◌++◌, Option, Some, None, is_some, refl, sym}
-use Rattle.std.proofs.Common.{ap, ◌∙◌, arith}
-use Rattle.std.proofs.lemmas.Bool.{false≢true, eq-eqb}
-use Rattle.ref_share.proofs.Common.{State, IsHeapAnswer, tally, NamedStep, has, told_notice, Config, Fault, Reply}
-use Rattle.ref_share.proofs.Common.{Leads, GivesOut, HeapReply, IsHeapTurn, HeapEntry, IsHeapRun, first_state_of}
-use Rattle.ref_base.specs.CollectorRows.{IsHeapRow}
+use Rattle.ref_share.proofs.Common.{◌≡◌, ℕ, ◌+◌, ◌<◌, true, List, [], ◌∷◌, ◌++◌, Option, Some, None, refl, sym, ap, ◌∙◌}
+use Rattle.ref_share.proofs.Common.{arith, false≢true, eq-eqb, State, tally, NamedStep, has, told_notice, Config, Fault}
+use Rattle.ref_share.proofs.Common.{Reply, Leads, GivesOut, HeapReply, IsHeapTurn, HeapEntry, IsHeapRun, first_state_of}
+use Rattle.ref_share.proofs.Common.{IsHeapRow}
+use Rattle.std.proofs.Common.{is_some}
+use Rattle.ref_base.specs.CollectorRows.{IsHeapAnswer}
 use Rattle.ref_base.specs.CountedHolds.{holds_after}
 use Rattle.ref_base.specs.Heaps.{one_more, one_fewer}
 use Rattle.ref_base.specs.Told.{told_object}
-use Rattle.ref_base.specs.declared.heap_step.HeapStep.TheVariants as heap
-use Rattle.ref_base.specs.declared.plain_step.PlainStep.TheVariants as plain
-use Rattle.ref_base.specs.declared.reply.Reply.TheVariants as told
+use Rattle.ref_share.specs.HeapHistories.{minted_by, spent_by, minted, spent}
 use Rattle.ref_base.proofs.CountedRows.{heap_holds}
 use Rattle.ref_base.proofs.HoldCounts.{one_if, tally-first, tally-append, tally-one_more}
 use Rattle.ref_base.proofs.RunLaws.{holds_over}
 use Rattle.ref_turn.proofs.Logs.{leads_cut}
-use Rattle.ref_world.specs.declared.heap_machine.HeapReply.TheVariants as replies
 use Rattle.ref_share.proofs.HeapRuns.{IsCall}
-use Rattle.ref_share.specs.HeapHistories.{minted_by, spent_by, minted, spent}
+use Rattle.ref_base.specs.declared.heap_step.HeapStep.TheVariants as heap
+use Rattle.ref_base.specs.declared.plain_step.PlainStep.TheVariants as plain
+use Rattle.ref_base.specs.declared.reply.Reply.TheVariants as told
+use Rattle.ref_world.specs.declared.heap_machine.HeapReply.TheVariants as replies
 
 -- ---- one row
 

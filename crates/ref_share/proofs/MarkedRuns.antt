@@ -1,15 +1,14 @@
 -- The history of a heap: a notice of a cycle comes after the end of that cycle's mark, which showed what it had to.
-use Rattle.std.proofs.Common.{arith, ◌≡◌, ℕ, List, [], ◌∷◌, ◌++◌, inl, inr, sym, subst}
-use Rattle.ref_share.proofs.Common.{State, NamedStep, Cycle, Config, Reply, entry, HeldNotice, told_reply}
-use Rattle.ref_share.proofs.Common.{HeapEntry, IsHeapRun, HeapMarkEnded}
+use Rattle.ref_share.proofs.Common.{arith, ◌≡◌, ℕ, List, [], ◌∷◌, ◌++◌, inl, inr, sym, subst, State, NamedStep, Cycle}
+use Rattle.ref_share.proofs.Common.{Config, Reply, entry, HeldNotice, told_reply, HeapEntry, IsHeapRun, HeapMarkEnded}
 use Rattle.ref_base.proofs.CarryHeaps.{heap_carries}
 use Rattle.ref_base.proofs.CarryLaws.{AnyCycle}
 use Rattle.ref_base.proofs.HeapTurns.{heap_kind}
 use Rattle.ref_base.proofs.MarkedTurns.{AnyObject, any_lasts, IsMarked, AreMarked, first_marked, turn_anew, more_marked}
 use Rattle.ref_turn.proofs.Logs.{leads_cut}
-use Rattle.ref_world.specs.declared.heap_machine.HeapReply.TheVariants as replies
 use Rattle.ref_share.proofs.HeapReplays.{run_known, shown_more}
 use Rattle.ref_share.proofs.HeapRuns.{IsCall, as_turn, run_holds}
+use Rattle.ref_world.specs.declared.heap_machine.HeapReply.TheVariants as replies
 
 call_marked : (config : Config) (number : ℕ) (past : List HeapEntry) (x : State) (call : HeapEntry) (y : State)
     → IsHeapRun config number past x → AreMarked (HeapMarkEnded config number past) x.world → IsCall x call y

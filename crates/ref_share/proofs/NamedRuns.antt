@@ -1,24 +1,22 @@
 -- The history of a heap: what a mark's end dooms, no call gives from then on.
-use Rattle.std.proofs.Common.{arith, ◌≡◌, ℕ, true, List, [], ◌∷◌, ◌++◌, Option, Some, None, inl}
-use Rattle.std.proofs.Common.{inr, ap, ◌∙◌}
-use Rattle.std.proofs.lemmas.List.{append-nil}
-use Rattle.ref_share.proofs.Common.{HeapAccepts, EndsMark, doomed_at, State, NamedStep, has}
-use Rattle.ref_share.proofs.Common.{heap_refusal, Config, Reply, Leads, entry, told_reply}
-use Rattle.ref_share.proofs.Common.{HeapReply, IsHeapTurn, HeapEntry, IsHeapRun, first_state_of}
-use Rattle.ref_base.specs.declared.heap_step.HeapStep.TheVariants as heap
-use Rattle.ref_base.specs.declared.plain_step.PlainStep.TheVariants as plain
-use Rattle.ref_base.specs.declared.reply.Reply.TheVariants as told
+use Rattle.ref_share.proofs.Common.{arith, ◌≡◌, ℕ, true, List, [], ◌∷◌, ◌++◌, Option, Some, None, inl, inr, ap, ◌∙◌}
+use Rattle.ref_share.proofs.Common.{append-nil, HeapAccepts, EndsMark, doomed_at, State, NamedStep, has, heap_refusal}
+use Rattle.ref_share.proofs.Common.{Config, Reply, Leads, entry, told_reply, HeapReply, IsHeapTurn, HeapEntry}
+use Rattle.ref_share.proofs.Common.{IsHeapRun, first_state_of}
+use Rattle.ref_base.specs.Told.{named_by}
 use Rattle.ref_base.proofs.AgreeHeaps.{gone_after}
 use Rattle.ref_base.proofs.ClosedRows.{named_is}
 use Rattle.ref_base.proofs.AgreeRuns.{gone_next}
 use Rattle.ref_base.proofs.HeapTurns.{IsTurn, accepted, heap_kind}
 use Rattle.ref_base.proofs.HasLaws.{has-left, has-right}
 use Rattle.ref_base.proofs.OutHeaps.{off, off_same, next_out}
-use Rattle.ref_world.specs.declared.heap_machine.HeapReply.TheVariants as replies
-use Rattle.ref_base.specs.Told.{named_by}
 use Rattle.ref_share.proofs.HeapReplays.{IsKnownBut, run_known, call_known_but}
 use Rattle.ref_base.proofs.RunLaws.{holds_on, one_on}
 use Rattle.ref_share.proofs.HeapRuns.{IsCall, as_turn}
+use Rattle.ref_base.specs.declared.heap_step.HeapStep.TheVariants as heap
+use Rattle.ref_base.specs.declared.plain_step.PlainStep.TheVariants as plain
+use Rattle.ref_base.specs.declared.reply.Reply.TheVariants as told
+use Rattle.ref_world.specs.declared.heap_machine.HeapReply.TheVariants as replies
 
 -- ---- what is gone or doomed stays so
 

@@ -1,22 +1,18 @@
 -- Each row of a heap keeps that what a worker has cleared no worker clears again: it has no referent any more, and
 -- doesn't wait to be cleared.
-use Rattle.std.proofs.Common.{arith, ◌≡◌, ℕ, ◌+◌, Bool, true, false, ◌==◌, ◌&&◌, List, [], ◌∷◌, drop, Option, Some}
-use Rattle.std.proofs.Common.{None, inl, inr, refl, sym, ap, ◌∙◌, subst}
-use Rattle.std.specs.Prelude.{slice_set}
-use Rattle.std.proofs.lemmas.Bool.{cases_Bool, and_right, or_parts, or_right, false≢true}
-use Rattle.ref_share.proofs.Common.{is_waiting, EndsMark, HeapAccepts, doomed_at, is_subsequence, list_at, referent_of}
-use Rattle.ref_share.proofs.Common.{State, joined, new_clears, Object, Reference, NamedStep, has, AreDistinct}
-use Rattle.ref_share.proofs.Common.{heap_refusal, World, Marking, Clearing, Reply}
-use Rattle.ref_base.specs.CollectorRows.{AreFound, references_among}
+use Rattle.ref_share.proofs.Common.{arith, ◌≡◌, ℕ, ◌+◌, Bool, true, false, ◌==◌, List, [], ◌∷◌, Option, Some, None, inl}
+use Rattle.ref_share.proofs.Common.{inr, refl, sym, ap, ◌∙◌, subst, slice_set, cases_Bool, false≢true, is_waiting}
+use Rattle.ref_share.proofs.Common.{EndsMark, HeapAccepts, doomed_at, is_subsequence, referent_of, State, joined}
+use Rattle.ref_share.proofs.Common.{new_clears, NamedStep, has, AreDistinct, heap_refusal, World, Reply}
+use Rattle.std.proofs.Common.{◌&&◌, drop}
+use Rattle.std.proofs.lemmas.Bool.{and_right, or_parts, or_right}
+use Rattle.ref_base.specs.CollectorRows.{list_at, AreFound, references_among}
+use Rattle.ref_base.specs.Graphs.{Object, Reference, numbers}
+use Rattle.ref_base.specs.declared.phase.Phase.TheVariants.{Marking, Clearing, Idle, Sweeping}
 use Rattle.ref_base.specs.DoomedSets.{any_is, refers_into}
 use Rattle.ref_base.specs.Strengths.{IsRising}
-use Rattle.ref_base.specs.Graphs.{numbers}
 use Rattle.ref_base.specs.Refusals.{is_in}
-use Rattle.ref_base.specs.declared.heap_step.HeapStep.TheVariants as heap
-use Rattle.ref_base.specs.declared.plain_step.PlainStep.TheVariants as plain
 use Rattle.ref_base.specs.declared.phase.Phase.{Phase}
-use Rattle.ref_base.specs.declared.phase.Phase.TheVariants.{Idle, Sweeping}
-use Rattle.ref_base.specs.declared.reply.Reply.TheVariants as told
 use Rattle.ref_base.proofs.AgreeHeaps.{Agreeing, none_waits}
 use Rattle.ref_base.proofs.ClearedOnwards.{StaysCleared, cleared_at, ended_cleared, heap_cleared}
 use Rattle.ref_base.proofs.Outcomes.{IsNoEnd, heap_outcome, outcome}
@@ -28,6 +24,9 @@ use Rattle.ref_base.proofs.ReplayKeeps.{EndsNoPhase}
 use Rattle.ref_base.proofs.Subsequences.{Sub, sub_none, sub_through, sub_behind, sub_before}
 use Rattle.ref_base.proofs.WaitingClears.{Looks, Tells, look_tells}
 use Rattle.ref_mark.proofs.DistinctLists.{AreDistinct-taken, has-taken, has-first_taken}
+use Rattle.ref_base.specs.declared.heap_step.HeapStep.TheVariants as heap
+use Rattle.ref_base.specs.declared.plain_step.PlainStep.TheVariants as plain
+use Rattle.ref_base.specs.declared.reply.Reply.TheVariants as told
 
 -- ---- what workers found stands once, as what they scanned does
 

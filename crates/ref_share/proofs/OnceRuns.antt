@@ -1,33 +1,33 @@
 -- The history of a heap: workers hand each reference on at most once.
-use Rattle.std.proofs.Common.{◌≡◌, ℕ, zero, suc, ◌+◌, ◌≤◌, true, false, ◌==◌, List, [], ◌∷◌, ◌++◌, length, map}
-use Rattle.std.proofs.Common.{replicate, Option, ◌⊎◌, Some, None, inl, inr, refl, sym, ap, ◌∙◌, subst, arith}
-use Rattle.std.specs.Prelude.{nat_eq, slice_index_or, slice_set}
-use Rattle.std.specs.List.{IsDistinct, AllByRecursion}
+use Rattle.ref_share.proofs.Common.{◌≡◌, ℕ, zero, suc, ◌+◌, ◌≤◌, true, false, ◌==◌, List, [], ◌∷◌, ◌++◌, length, map}
+use Rattle.ref_share.proofs.Common.{replicate, Option, ◌⊎◌, Some, None, inl, inr, refl, sym, ap, ◌∙◌, subst, arith}
+use Rattle.ref_share.proofs.Common.{nat_eq, slice_index_or, slice_set, IsDistinct, AllByRecursion, cases_Bool, eq-eqb}
+use Rattle.ref_share.proofs.Common.{false≢true, is_waiting, HandsOn, HeapAccepts, State, joined, tally, NamedStep, has}
+use Rattle.ref_share.proofs.Common.{AreDistinct, heap_refusal, without_pending, told_notice, World, Pending, pending_of}
+use Rattle.ref_share.proofs.Common.{Cycle, Config, Fault, Reply, told_reply, GivesOut, HeapReply, HeapEntry, IsHeapRun}
+use Rattle.ref_share.proofs.Common.{gathered, all_handed_on, heap_replayed, first_state_of}
 use Rattle.std.proofs.lemmas.Map.Keys.{IsDistinct-cons}
-use Rattle.std.proofs.lemmas.Bool.{cases_Bool, eq-eqb, eqb-true, false≢true, false_from_ne_true}
+use Rattle.std.proofs.lemmas.Bool.{eqb-true, false_from_ne_true}
 use Rattle.std.proofs.lemmas.List.{map-append}
-use Rattle.ref_share.proofs.Common.{is_waiting, HandsOn, HeapAccepts, State, joined, tally, NamedStep, has, AreDistinct}
-use Rattle.ref_share.proofs.Common.{heap_refusal, pended, without_pending, told_notice, World, Pending, pending_of}
-use Rattle.ref_share.proofs.Common.{Cause, Cycle, Config, Fault, Reply, told_reply, GivesOut, HeapReply, HeapEntry}
-use Rattle.ref_share.proofs.Common.{IsHeapRun, gathered, all_handed_on, heap_replayed}
-use Rattle.ref_base.specs.Collectors.{first_state_of}
+use Rattle.ref_base.specs.Replay.{pended}
+use Rattle.ref_base.specs.declared.cause.Cause.{Cause}
 use Rattle.ref_base.specs.Worlds.{pending_numbers}
-use Rattle.ref_base.specs.declared.heap_step.HeapStep.TheVariants as heap
-use Rattle.ref_base.specs.declared.plain_step.PlainStep.TheVariants as plain
-use Rattle.ref_base.specs.declared.reply.Reply.TheVariants as told
+use Rattle.ref_share.specs.HeapTraces.{handed_by}
 use Rattle.ref_base.proofs.HoldCounts.{one_if, tally-first, tally-append}
 use Rattle.ref_base.proofs.LegalQueues.{distinct_nil}
 use Rattle.ref_base.proofs.RowChanges.{Changes, heap_tells, pending_after}
 use Rattle.ref_base.proofs.FoundLists.{AreDistinct-with_last, joined-emptied}
 use Rattle.ref_base.proofs.AgreeHeaps.{Agreeing}
-use Rattle.ref_world.specs.declared.heap_machine.HeapReply.TheVariants as replies
-use Rattle.ref_share.specs.HeapTraces.{handed_by}
 use Rattle.ref_share.proofs.HeapReplays.{run_known}
 use Rattle.ref_share.proofs.HeapRows.{gathered_last}
 use Rattle.ref_share.proofs.HeapRuns.{IsAccepted, IsCall, run_holds}
 use Rattle.ref_base.proofs.HeapTurns.{heap_kind}
 use Rattle.ref_share.proofs.OnceCleared.{Waits, IsPast, heap_keeps, clears_once}
 use Rattle.ref_share.proofs.ScannedRuns.{run_scanned}
+use Rattle.ref_base.specs.declared.heap_step.HeapStep.TheVariants as heap
+use Rattle.ref_base.specs.declared.plain_step.PlainStep.TheVariants as plain
+use Rattle.ref_base.specs.declared.reply.Reply.TheVariants as told
+use Rattle.ref_world.specs.declared.heap_machine.HeapReply.TheVariants as replies
 
 -- ---- counts of what is pending
 

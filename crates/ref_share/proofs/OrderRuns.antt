@@ -1,19 +1,12 @@
 -- The history of a heap: each worker hands references on in the order in which it cleared them.
-use Rattle.std.proofs.Common.{arith, ◌≡◌, ℕ, true, List, [], ◌∷◌, ◌++◌, Some, None, inl, inr, refl}
-use Rattle.std.specs.Prelude.{slice_set}
-use Rattle.std.proofs.lemmas.Bool.{eq-eqb}
-use Rattle.std.proofs.lemmas.List.{append-nil}
-use Rattle.ref_share.proofs.Common.{HandsOn, is_subsequence, State, reference_at, registered_in, NamedStep}
+use Rattle.ref_share.proofs.Common.{arith, ◌≡◌, ℕ, true, List, [], ◌∷◌, ◌++◌, Some, None, inl, inr, refl, slice_set}
+use Rattle.ref_share.proofs.Common.{eq-eqb, append-nil, HandsOn, is_subsequence, State, reference_at, NamedStep}
 use Rattle.ref_share.proofs.Common.{without_pending, told_notice, clearing_order, Pending, pending_of, Config, Fault}
 use Rattle.ref_share.proofs.Common.{Reply, Row, HeldNotice, as_notice, told_reply, GivesOut, HeapReply, HeapEntry}
-use Rattle.ref_share.proofs.Common.{IsHeapRun, world_step, row_of, rows_of, handed_of, handed_in}
+use Rattle.ref_share.proofs.Common.{IsHeapRun, world_step, row_of, rows_of, handed_of, handed_in, hand_of, Worker}
+use Rattle.ref_base.specs.Heaps.{registered_in}
 use Rattle.ref_base.specs.ClearingOrder.{if_worked}
 use Rattle.ref_base.specs.WorkerOrder.{is_registered, cleared_in}
-use Rattle.ref_base.specs.Worlds.{hand_of}
-use Rattle.ref_base.specs.declared.actor.Actor.TheVariants.{Worker}
-use Rattle.ref_base.specs.declared.heap_step.HeapStep.TheVariants as heap
-use Rattle.ref_base.specs.declared.plain_step.PlainStep.TheVariants as plain
-use Rattle.ref_base.specs.declared.reply.Reply.TheVariants as told
 use Rattle.ref_base.proofs.ClearingShifts.{Shifts, still, at, clears_for, given_first}
 use Rattle.ref_base.proofs.ClearingOrders.{IsOrdered, more_ordered, nothing_waits, in_order}
 use Rattle.ref_base.proofs.HeapRowLaws.{row_others}
@@ -22,10 +15,13 @@ use Rattle.ref_base.proofs.RowChanges.{Changes, heap_tells, pending_after}
 use Rattle.ref_base.proofs.HeapTurns.{heap_kind}
 use Rattle.ref_base.proofs.SameOthers.{same_hand}
 use Rattle.ref_base.proofs.Subsequences.{Sub, sub_longer, sub_is}
-use Rattle.ref_world.specs.declared.heap_machine.HeapReply.TheVariants as replies
 use Rattle.ref_share.proofs.HeapRows.{rows_last, gathered_last, HandsFree}
 use Rattle.ref_share.proofs.HeapRuns.{IsAccepted, IsCall, run_holds}
 use Rattle.ref_share.proofs.ProvenRuns.{IsFrom, run_from}
+use Rattle.ref_base.specs.declared.heap_step.HeapStep.TheVariants as heap
+use Rattle.ref_base.specs.declared.plain_step.PlainStep.TheVariants as plain
+use Rattle.ref_base.specs.declared.reply.Reply.TheVariants as told
+use Rattle.ref_world.specs.declared.heap_machine.HeapReply.TheVariants as replies
 
 -- ---- calls
 

@@ -1,10 +1,9 @@
 -- The seats of queues, place by place.
-use Rattle.std.proofs.Common.{◌≡◌, ℕ, zero, suc, ◌<◌, List, [], ◌∷◌, length, Option, Some, ◌⊎◌, inl, inr, refl, ap, sym}
-use Rattle.std.proofs.Common.{subst, ◌∙◌, ◌≢◌, arith, Result, Ok, Err, IfErr, true}
-use Rattle.std.specs.Prelude.{slice_get, slice_set, unwrap_or}
-use Rattle.std.proofs.lemmas.Bool.{false≢true}
-use Rattle.ref_share.proofs.Common.{Fault, BadQueue, HeldNotice, Put, AreSeats, PutsAt, PutsNotice, IsQueueSeat}
-use Rattle.ref_share.proofs.Common.{queue_view, SharedQueue, QueueSeat}
+use Rattle.ref_share.proofs.Common.{◌≡◌, ℕ, zero, suc, ◌<◌, List, [], ◌∷◌, length, Option, Some, ◌⊎◌, inl, inr, refl}
+use Rattle.ref_share.proofs.Common.{ap, sym, subst, ◌∙◌, ◌≢◌, arith, Result, Ok, Err, IfErr, true, slice_get, slice_set}
+use Rattle.ref_share.proofs.Common.{false≢true, Fault, BadQueue, HeldNotice, Put, AreSeats, PutsAt, PutsNotice}
+use Rattle.ref_share.proofs.Common.{IsQueueSeat, queue_view, SharedQueue, QueueSeat}
+use Rattle.std.specs.Prelude.{unwrap_or}
 use Rattle.ref_share.specs.QueueCalls.{refuses_put}
 
 -- what stands in a list after a change at k is what it was changed to, or stood there before, elsewhere

@@ -1,11 +1,10 @@
 -- Calls of a seat, one after the other; and polls that found nothing, until one answers.
-use Rattle.std.proofs.Common.{◌≡◌, ℕ, zero, suc, List, [], ◌∷◌, ◌++◌, refl, ap, ◌∙◌, subst, replicate}
-use Rattle.std.proofs.Common.{None, rules}
-use Rattle.std.proofs.lemmas.List.{append_assoc}
-use Rattle.ref_share.proofs.Common.{entry, Extends, Longer, Entry, View, empty_polls, QueueView, QueueEntry}
-use Rattle.ref_share.proofs.Common.{Made}
-use Rattle.ref_queue.specs.declared.queue.Polled.TheVariants as answers
+use Rattle.ref_share.proofs.Common.{◌≡◌, ℕ, zero, suc, List, [], ◌∷◌, ◌++◌, refl, ap, ◌∙◌, subst, replicate, None}
+use Rattle.ref_share.proofs.Common.{append_assoc, entry, Extends, Longer, Entry, View, empty_polls, QueueView}
+use Rattle.ref_share.proofs.Common.{QueueEntry, Made}
+use Rattle.std.proofs.Common.{rules}
 use Rattle.ref_share.specs.QueueCalls.{PollsOnce, polled}
+use Rattle.ref_queue.specs.declared.queue.Polled.TheVariants as answers
 use Rattle.ref_share.specs.declared.queue_machine.QueueStep.TheVariants as steps
 use Rattle.ref_share.specs.declared.queue_machine.QueueReply.TheVariants as replies
 

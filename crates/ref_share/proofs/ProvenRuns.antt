@@ -1,20 +1,13 @@
 -- The history of a heap: each notice that is given comes from the entries up to it.
-use Rattle.std.proofs.Common.{arith}
-use Rattle.std.proofs.Common.{◌≡◌, ℕ, List, [], ◌∷◌, ◌++◌, Option, Some, None, inl, inr, refl, sym, ap, ◌∙◌, subst}
-use Rattle.std.specs.Prelude.{slice_index_or}
-use Rattle.std.specs.List.{AllByRecursion}
-use Rattle.std.proofs.lemmas.List.{append-nil}
-use Rattle.ref_share.proofs.Common.{State, NamedStep, Pending, World, new_queue, Config, Reply, Row, Step}
-use Rattle.ref_share.proofs.Common.{entry, HeldNotice, as_notice, told_reply, IsHeapTurn, HeapEntry}
-use Rattle.ref_share.proofs.Common.{IsHeapRun, first_state_of, world_step, row_of, rows_of}
-use Rattle.ref_base.specs.CollectorRows.{IsHeapRow, IsRow, with_handed}
+use Rattle.ref_share.proofs.Common.{arith, ◌≡◌, ℕ, List, [], ◌∷◌, ◌++◌, Option, Some, None, inl, inr, refl, sym, ap}
+use Rattle.ref_share.proofs.Common.{◌∙◌, subst, slice_index_or, AllByRecursion, append-nil, State, NamedStep, Pending}
+use Rattle.ref_share.proofs.Common.{World, new_queue, Config, Reply, Row, Step, entry, HeldNotice, as_notice}
+use Rattle.ref_share.proofs.Common.{told_reply, IsHeapTurn, HeapEntry, IsHeapRun, first_state_of, world_step, row_of}
+use Rattle.ref_share.proofs.Common.{rows_of, IsHeapRow, IsRow, with_handed, Mutator, Worker}
 use Rattle.ref_base.specs.Provenance.{IsProven}
 use Rattle.ref_base.specs.QueueLists.{Lists}
 use Rattle.ref_base.specs.Refusals.{refusal}
 use Rattle.ref_base.specs.Worlds.{Notice, SameOthers}
-use Rattle.ref_base.specs.declared.actor.Actor.TheVariants.{Mutator, Worker}
-use Rattle.ref_base.specs.declared.heap_step.HeapStep.TheVariants as heap
-use Rattle.ref_base.specs.declared.step.Step.TheVariants as steps
 use Rattle.ref_base.proofs.CarryLaws.{notice_from}
 use Rattle.ref_base.proofs.CarryRows.{first_carries}
 use Rattle.ref_base.proofs.GivenNotices.{answered}
@@ -24,9 +17,11 @@ use Rattle.ref_base.proofs.ProvenTraces.{IsMade, Known, lifted, row_known}
 use Rattle.ref_base.proofs.ReplayKeeps.{handed_keeps}
 use Rattle.ref_base.proofs.SoundWorlds.{first_hand}
 use Rattle.ref_turn.proofs.Logs.{leads_cut}
-use Rattle.ref_world.specs.declared.heap_machine.HeapReply.TheVariants as replies
 use Rattle.ref_share.proofs.HeapRows.{rows_last, HandsFree, still_free, told_row}
 use Rattle.ref_share.proofs.HeapRuns.{run_holds}
+use Rattle.ref_base.specs.declared.heap_step.HeapStep.TheVariants as heap
+use Rattle.ref_base.specs.declared.step.Step.TheVariants as steps
+use Rattle.ref_world.specs.declared.heap_machine.HeapReply.TheVariants as replies
 
 -- ---- a call that tells no row
 

@@ -1,12 +1,14 @@
 -- What a seat of a shared queue may have called, by what its call answers, and what not: queue 0, in which the notice
 -- of reference 2 is put.
-use Rattle.std.proofs.Common.{ℕ, ◌-◌, ◌^◌, List, [], ◌∷◌, Some, Ok, Err, true, false, refl, ap, arith, map}
-use Rattle.ref_share.proofs.Common.{new_queue, Own, TurnsSpent, HeldNotice, entry, Idle, PutsNotice, PollsUntil}
-use Rattle.ref_share.proofs.Common.{QueueView, QueueEntry, Took, Closed, Busy}
+use Rattle.ref_share.proofs.Common.{ℕ, List, [], ◌∷◌, Some, Ok, Err, true, false, refl, ap, arith, map, new_queue}
+use Rattle.ref_share.proofs.Common.{TurnsSpent, HeldNotice, entry, Idle, PutsNotice, PollsUntil, QueueView, QueueEntry}
+use Rattle.ref_share.proofs.Common.{Took, Busy}
+use Rattle.std.proofs.Common.{◌-◌, ◌^◌}
+use Rattle.ref_base.specs.declared.cause.Cause.TheVariants.{Own}
+use Rattle.ref_share.specs.declared.answers.Polled.TheVariants.{Closed, Empty, TimedOut}
+use Rattle.ref_share.specs.QueueCalls.{PollsNow, PollsWithin, ClosesQueue}
 use Rattle.ref_queue.specs.declared.queue.Polled.TheVariants as answers
 use Rattle.ref_queue.specs.declared.queue.Put.TheVariants as puts
-use Rattle.ref_share.specs.QueueCalls.{PollsNow, PollsWithin, ClosesQueue}
-use Rattle.ref_share.specs.declared.answers.Polled.TheVariants.{Empty, TimedOut}
 use Rattle.ref_share.specs.declared.queue_machine.QueueStep.TheVariants as steps
 use Rattle.ref_share.specs.declared.queue_machine.QueueReply.TheVariants as replies
 

@@ -1,19 +1,20 @@
 -- The history of a queue: its lists are those of its entries.
-use Rattle.std.proofs.Common.{arith, ◌≡◌, ℕ, Bool, true, false, ◌||◌, List, [], ◌∷◌, ◌++◌, length, Ok, Err, refl, sym}
-use Rattle.std.proofs.Common.{ap, ◌∙◌, subst}
-use Rattle.ref_share.proofs.Common.{HeldNotice, Leads, entry, IsQueueTurn, QueueEntry, QueueStep, QueueReply}
-use Rattle.ref_base.proofs.LegalQueues.{distinct_nil}
-use Rattle.ref_base.proofs.RunLaws.{holds_over}
-use Rattle.ref_base.proofs.QueueChanges.{QueueChanges, changes_nothing, changes_more, changes_added, changes_took}
-use Rattle.ref_base.proofs.QueueChanges.{changes_closed}
-use Rattle.ref_queue.specs.declared.queue.Put.TheVariants as puts
-use Rattle.ref_queue.specs.declared.queue.Polled.TheVariants as polls
-use Rattle.ref_turn.proofs.Logs.{leads_cut}
+use Rattle.ref_share.proofs.Common.{arith, ◌≡◌, ℕ, Bool, true, false, List, [], ◌∷◌, ◌++◌, length, Ok, Err, refl, sym}
+use Rattle.ref_share.proofs.Common.{ap, ◌∙◌, subst, HeldNotice, Leads, entry, IsQueueTurn, QueueEntry, QueueStep}
+use Rattle.ref_share.proofs.Common.{QueueReply}
+use Rattle.std.proofs.Common.{◌||◌}
 use Rattle.ref_share.specs.QueueHistories.{put_by_call, taken_by_call, closed_by_call, all_put_in, all_taken_out}
 use Rattle.ref_share.specs.QueueHistories.{is_closed_after, KeepsLists}
 use Rattle.ref_share.specs.QueueMachines.{reported_object}
 use Rattle.ref_share.specs.QueueSeats.{IsQueueRun}
 use Rattle.ref_share.specs.QueueStates.{NoticeLists}
+use Rattle.ref_base.proofs.LegalQueues.{distinct_nil}
+use Rattle.ref_base.proofs.RunLaws.{holds_over}
+use Rattle.ref_base.proofs.QueueChanges.{QueueChanges, changes_nothing, changes_more, changes_added, changes_took}
+use Rattle.ref_base.proofs.QueueChanges.{changes_closed}
+use Rattle.ref_turn.proofs.Logs.{leads_cut}
+use Rattle.ref_queue.specs.declared.queue.Put.TheVariants as puts
+use Rattle.ref_queue.specs.declared.queue.Polled.TheVariants as polls
 use Rattle.ref_share.specs.declared.queue_machine.QueueStep.TheVariants as steps
 use Rattle.ref_share.specs.declared.queue_machine.QueueReply.TheVariants as replies
 

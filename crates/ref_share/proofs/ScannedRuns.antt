@@ -1,23 +1,20 @@
 -- The history of a heap: no object is scanned twice in a cycle, and a mark goes on only while an object is left to
 -- scan.
-use Rattle.std.proofs.Common.{◌≡◌, ℕ, List, [], ◌∷◌, ◌++◌, Some, inl, inr, refl, sym, ap, ◌∙◌, subst}
-use Rattle.std.specs.Prelude.{nat_eq}
-use Rattle.std.specs.List.{IsDistinct}
-use Rattle.std.proofs.lemmas.Bool.{false≢true}
-use Rattle.ref_share.proofs.Common.{NamedStep, scanned_in_cycle, Config, Reply, Row, told_reply, State}
-use Rattle.ref_share.proofs.Common.{IsHeapTurn, HeapEntry, IsHeapRun, world_step, row_of, rows_of}
+use Rattle.ref_share.proofs.Common.{◌≡◌, ℕ, List, [], ◌∷◌, ◌++◌, Some, inl, inr, refl, sym, ap, ◌∙◌, subst, nat_eq}
+use Rattle.ref_share.proofs.Common.{IsDistinct, false≢true, NamedStep, scanned_in_cycle, Config, Reply, Row, told_reply}
+use Rattle.ref_share.proofs.Common.{State, IsHeapTurn, HeapEntry, IsHeapRun, world_step, row_of, rows_of}
 use Rattle.ref_base.specs.CollectorRows.{IsLeft}
 use Rattle.ref_base.specs.ScannedRows.{scanned_with, scanned_from}
 use Rattle.ref_base.specs.declared.fault.Fault.TheVariants.{GreyLeft}
-use Rattle.ref_base.specs.declared.heap_step.HeapStep.TheVariants as heap
-use Rattle.ref_base.specs.declared.plain_step.PlainStep.TheVariants as plain
-use Rattle.ref_base.specs.declared.reply.Reply.TheVariants as told
 use Rattle.ref_base.proofs.LeftObjects.{LeftMeans, heap_left}
 use Rattle.ref_base.proofs.HeapTurns.{heap_kind}
 use Rattle.ref_base.proofs.ScannedOnce.{HasScanned, first_scanned, scanned_then, turn_scanned, left_if_grey}
-use Rattle.ref_world.specs.declared.heap_machine.HeapReply.TheVariants as replies
 use Rattle.ref_share.proofs.HeapRows.{rows_last}
 use Rattle.ref_share.proofs.HeapRuns.{IsCall, as_turn, run_holds}
+use Rattle.ref_base.specs.declared.heap_step.HeapStep.TheVariants as heap
+use Rattle.ref_base.specs.declared.plain_step.PlainStep.TheVariants as plain
+use Rattle.ref_base.specs.declared.reply.Reply.TheVariants as told
+use Rattle.ref_world.specs.declared.heap_machine.HeapReply.TheVariants as replies
 
 -- ---- a mark goes on only while an object is left
 

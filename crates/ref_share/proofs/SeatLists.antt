@@ -1,9 +1,9 @@
 -- Lists of queues and of their seats, place by place: for those who keep such lists.
-use Rattle.std.proofs.Common.{◌≡◌, ℕ, zero, suc, List, [], ◌∷◌, ◌++◌, length, get_or, Some, ◌⊎◌, inl, inr, refl, sym}
-use Rattle.std.proofs.Common.{ap, subst, arith, slice_get}
-use Rattle.std.proofs.lemmas.Option.{slice_get-get_or, slice_get_within, same_Some}
-use Rattle.ref_share.proofs.Common.{AreSeats, new_queue, IsQueueTurn, IsItself, IsQueueSeat, IsSeatFrom, QueueSeat}
-use Rattle.ref_share.proofs.Common.{SharedQueue}
+use Rattle.ref_share.proofs.Common.{◌≡◌, ℕ, zero, suc, List, [], ◌∷◌, ◌++◌, length, get_or, Some, ◌⊎◌, inl, inr, refl}
+use Rattle.ref_share.proofs.Common.{sym, ap, subst, arith, slice_get, slice_get-get_or, slice_get_within, AreSeats}
+use Rattle.ref_share.proofs.Common.{new_queue, IsQueueTurn, IsQueueSeat, IsSeatFrom, QueueSeat, SharedQueue}
+use Rattle.std.proofs.lemmas.Option.{same_Some}
+use Rattle.ref_share.specs.Selves.{IsItself}
 use Rattle.ref_share.specs.QueueSeats.{IsNewQueue}
 
 -- what stands in a list with one more stood there before, or is that one

@@ -1,6 +1,6 @@
 -- The seats of a turn that began with a machine in a known state stay such seats.
-use Rattle.std.proofs.Common.{◌≡◌, ℕ, List, refl, sym, ◌∙◌, subst, Result, Ok, Err, IfOk, IfErr}
-use Rattle.ref_share.proofs.Common.{Leads, calls_by, entry, EndsAs, Extends, Longer, view, Entry, View, IsSeatFrom}
+use Rattle.ref_share.proofs.Common.{◌≡◌, ℕ, List, refl, sym, ◌∙◌, subst, Result, Ok, Err, IfOk, IfErr, Leads, calls_by}
+use Rattle.ref_share.proofs.Common.{entry, EndsAs, Extends, Longer, view, Entry, View, IsSeatFrom}
 use Rattle.ref_turn.specs.Seats.{IsSame, IsHistory, IsFirst}
 use Rattle.ref_turn.specs.Turns.{IsBeside, IsSeatOf}
 use Rattle.ref_turn.specs.declared.turn.SeatOf.{SeatOf}

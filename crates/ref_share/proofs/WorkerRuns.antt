@@ -1,28 +1,26 @@
 -- A worker's thread that hands on by deliveries alone puts into each queue what it hands on for it, in order.
-use Rattle.std.proofs.Common.{◌≡◌, ◌≢◌, ℕ, zero, suc, ◌<◌, Bool, true, false, arith, List}
-use Rattle.std.proofs.Common.{[], ◌∷◌, ◌++◌, length, Some, Result, Ok, Err, ◌⊎◌, inl, inr, refl, sym, ap, subst, ◌∙◌}
-use Rattle.std.proofs.lemmas.Bool.{false≢true}
-use Rattle.std.proofs.lemmas.List.{append-nil, append_assoc}
-use Rattle.std.proofs.lemmas.Option.{slice_get_within}
-use Rattle.std.specs.Prelude.{slice_get}
-use Rattle.ref_share.proofs.Common.{is_subsequence, NamedStep, clearing_order, Fault, BadQueue, TurnsSpent}
-use Rattle.ref_share.proofs.Common.{HoldName, HeldNotice, Put, calls_by, HeapReply, PutsAt, GoesBack, Delivers}
-use Rattle.ref_share.proofs.Common.{HeapView, HeapEntry, heap_view, IsHeapSeat, rows_of, handed_of, handed_in}
-use Rattle.ref_share.proofs.Common.{PutsNotice, QueueView, QueueEntry, queue_view, Called, notices_put, KeepsPace}
-use Rattle.ref_share.proofs.Common.{Works, references_of, Delivery, Nothing, Added, Dropped, ShareFault, Refused, Busy}
-use Rattle.ref_share.proofs.Common.{Notice, Held, QueueReply, QueueStep, SharedQueue, QueueSeat}
-use Rattle.ref_base.specs.declared.heap_step.HeapStep.TheVariants as heap
-use Rattle.ref_base.specs.declared.reply.Reply.TheVariants as told
-use Rattle.ref_base.proofs.Subsequences.{Sub, sub_is, sub_through}
-use Rattle.ref_queue.specs.declared.queue.Put.TheVariants as puts
-use Rattle.ref_world.specs.declared.heap_machine.HeapReply.TheVariants as replies
+use Rattle.ref_share.proofs.Common.{◌≡◌, ◌≢◌, ℕ, zero, suc, ◌<◌, Bool, true, false, arith, List, [], ◌∷◌, ◌++◌, length}
+use Rattle.ref_share.proofs.Common.{Some, Result, Ok, Err, ◌⊎◌, inl, inr, refl, sym, ap, subst, ◌∙◌, false≢true}
+use Rattle.ref_share.proofs.Common.{append-nil, append_assoc, slice_get_within, slice_get, is_subsequence, NamedStep}
+use Rattle.ref_share.proofs.Common.{clearing_order, Fault, BadQueue, TurnsSpent, HoldName, HeldNotice, Put, calls_by}
+use Rattle.ref_share.proofs.Common.{HeapReply, PutsAt, GoesBack, Delivers, HeapView, HeapEntry, heap_view, IsHeapSeat}
+use Rattle.ref_share.proofs.Common.{rows_of, handed_of, handed_in, PutsNotice, QueueView, QueueEntry, queue_view}
+use Rattle.ref_share.proofs.Common.{Called, notices_put, KeepsPace, Works, references_of, Nothing, Added, Dropped}
+use Rattle.ref_share.proofs.Common.{ShareFault, Busy, Notice, QueueReply, QueueStep, SharedQueue, QueueSeat}
+use Rattle.ref_share.specs.declared.answers.Delivery.{Delivery}
+use Rattle.ref_share.specs.declared.answers.ShareFault.TheVariants.{Refused, Held}
 use Rattle.ref_share.specs.Deliveries.{IsPut, IsBeyond}
 use Rattle.ref_share.specs.WorkerCalls.{worked_notice, notice_handed, notice_put, notices_handed, had_turn}
-use Rattle.ref_share.specs.declared.queue_machine.QueueReply.TheVariants as answers
-use Rattle.ref_share.specs.declared.queue_machine.QueueStep.TheVariants as queue
 use Rattle.ref_share.specs.HeapSeats.{SharedHeap, HeapSeat}
+use Rattle.ref_base.proofs.Subsequences.{Sub, sub_is, sub_through}
 use Rattle.ref_share.proofs.OrderRuns.{handed_in_order}
 use Rattle.ref_share.proofs.Places.{changed_there}
+use Rattle.ref_base.specs.declared.heap_step.HeapStep.TheVariants as heap
+use Rattle.ref_base.specs.declared.reply.Reply.TheVariants as told
+use Rattle.ref_queue.specs.declared.queue.Put.TheVariants as puts
+use Rattle.ref_world.specs.declared.heap_machine.HeapReply.TheVariants as replies
+use Rattle.ref_share.specs.declared.queue_machine.QueueReply.TheVariants as answers
+use Rattle.ref_share.specs.declared.queue_machine.QueueStep.TheVariants as queue
 
 -- ---- call by call
 

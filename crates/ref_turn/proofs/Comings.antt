@@ -1,20 +1,18 @@
 -- How a turn begins and ends, and how seats come and go.
-use Rattle.std.proofs.Common.{◌≡◌, ◌≢◌, ℕ, zero, suc, ◌^◌, ◌<◌, ◌⊎◌, inl, inr, ⊎_elim, refl, sym, ap, ◌∙◌, List, []}
-use Rattle.std.proofs.Common.{◌∷◌, ◌++◌, length, set, length-append, subst, arith, le_refl, Some}
-use mathlib.Core.Option.{some, some-injective, some-ne-none}
-use lib.ListN.{get_elem?}
-use Rattle.atomic_table.specs.Table.{State, Splits, Joins, Final, Seen, opening}
-use Rattle.atomic_table.proofs.Lists.{set_here, set_else, set_again, at_longer}
+use Rattle.ref_turn.proofs.Common.{◌≡◌, ◌≢◌, zero, suc, ◌^◌, ◌<◌, ◌⊎◌, inr, ⊎_elim, refl, sym, ap, ◌∙◌, [], ◌∷◌, ◌++◌}
+use Rattle.ref_turn.proofs.Common.{length, set, length-append, subst, arith, Some, some-injective, some-ne-none, State}
+use Rattle.ref_turn.proofs.Common.{opening, Idle, Spent, View, Option, calls_by, Reaches, IsOpen, Knows, SeatOk}
+use Rattle.ref_turn.proofs.Common.{first_view, EndsAs}
+use Rattle.std.proofs.Common.{ℕ, inl, List, le_refl}
+use Rattle.atomic_table.specs.Table.{Splits, Joins, Final, Seen}
 use Rattle.ref_turn.specs.declared.history.Origin.{Origin}
-use Rattle.ref_turn.specs.declared.history.Stage.TheVariants.{Idle, Spent}
-use Rattle.ref_turn.specs.declared.history.View.{View}
-use Rattle.std.specs.Prelude.{Option}
-use Rattle.ref_turn.specs.History.{calls_by, Reaches}
-use Rattle.ref_turn.specs.Rule.{IsOpen, Knows, SeatOk, first_view, Turned}
-use Rattle.ref_turn.specs.Seats.{EndsAs}
+use Rattle.ref_turn.specs.Rule.{Turned}
 use Rattle.ref_turn.specs.Steps.{split_view, taken_in, spent_view}
+use Rattle.atomic_table.proofs.Lists.{set_here, set_else, set_again, at_longer}
 use Rattle.ref_turn.proofs.Logs.{starts_self, reaches_start, reaches_legal}
 use Rattle.ref_turn.proofs.Stays.{at_below, differs, knows_more, none_open, settled}
+use mathlib.Core.Option.{some}
+use lib.ListN.{get_elem?}
 
 module _ {A : Type 0} where
   -- an element of a list with one more is an old one, or the new one, which stands at the end

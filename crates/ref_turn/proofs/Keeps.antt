@@ -1,25 +1,21 @@
 -- Each step on the table keeps the rule, and what it tells.
-use Rattle.std.proofs.Common.{◌≡◌, ◌≢◌, ℕ, suc, ◌+◌, ◌%◌, ◌^◌, ◌<◌, ◌≤◌, eqb, inr, refl, sym, ap, ◌∙◌, List, [], ◌∷◌}
-use Rattle.std.proofs.Common.{◌++◌, length, get_or, set, subst, arith, Some, mod-eq_of_lt}
-use Rattle.std.proofs.lemmas.Option.{same_Some}
-use mathlib.Core.Option.{none, some}
-use lib.ListN.{get_elem?}
-use prog.Atomic.{either}
-use Rattle.std.specs.Prelude.{Option}
-use Rattle.atomic_table.specs.Table.{State, Me, step, Act, keeps, takes, gives, Valid, carried_after, stepped, put_back}
-use Rattle.atomic_table.specs.Table.{rest, Allows}
-use Rattle.atomic_table.proofs.Lists.{set_here, exchanged}
-use Rattle.ref_turn.specs.declared.history.Entry.{Entry}
+use Rattle.ref_turn.proofs.Common.{◌≡◌, ◌≢◌, suc, ◌+◌, ◌^◌, ◌<◌, ◌≤◌, inr, refl, sym, ap, ◌∙◌, [], ◌∷◌, ◌++◌, length}
+use Rattle.ref_turn.proofs.Common.{set, subst, arith, Some, same_Some, none, Option, State, rest, Entry, Stage, Fresh}
+use Rattle.ref_turn.proofs.Common.{Idle, Open, Met, Spent, View, calls_by, StartsWith, Reaches, IsLegalLog, IsOpen}
+use Rattle.ref_turn.proofs.Common.{IsOwnView, IsSpent, Knows}
+use Rattle.std.proofs.Common.{ℕ, ◌%◌, eqb, List, get_or, mod-eq_of_lt}
+use Rattle.atomic_table.specs.Table.{Me, step, Act, keeps, takes, gives, Valid, carried_after, stepped, put_back}
+use Rattle.atomic_table.specs.Table.{Allows}
 use Rattle.ref_turn.specs.declared.history.Origin.{Origin}
-use Rattle.ref_turn.specs.declared.history.Stage.{Stage}
-use Rattle.ref_turn.specs.declared.history.Stage.TheVariants.{Fresh, Idle, Open, Met, Spent}
-use Rattle.ref_turn.specs.declared.history.View.{View}
-use Rattle.ref_turn.specs.History.{calls_by, StartsWith, Reaches, IsLegalLog}
-use Rattle.ref_turn.specs.Rule.{IsOpen, IsOwnView, IsSpent, Knows, Turned}
+use Rattle.ref_turn.specs.Rule.{Turned}
 use Rattle.ref_turn.specs.Steps.{drew, named, Shows, gave_back, saw, grabbed}
+use Rattle.atomic_table.proofs.Lists.{set_here, exchanged}
 use Rattle.ref_turn.proofs.Logs.{calls_by-none, starts_self, starts_length, starts_whole}
 use Rattle.ref_turn.proofs.Stays.{at_below, Rests, idle_rests, rests_own, rests_shut, rests_unspent, none_within}
 use Rattle.ref_turn.proofs.Stays.{none_open, settled, after, ended, differs, spent_other}
+use mathlib.Core.Option.{some}
+use lib.ListN.{get_elem?}
+use prog.Atomic.{either}
 
 module _ {M S R : Type 0} (log : List (Entry S R)) (served tickets : ℕ) (views : List (View M S R)) (seat : ℕ)
     (v : View M S R) where

@@ -1,3 +1,4 @@
+pub mod Common
 pub mod Logs
 pub mod Stays
 pub mod Keeps

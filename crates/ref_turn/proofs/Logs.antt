@@ -1,11 +1,9 @@
 -- Facts of histories as lists.
-use Rattle.std.proofs.Common.{◌≡◌, ◌≢◌, ◌==◌, ℕ, Bool, true, false, eq-eqb, if◌then◌else◌, List, [], ◌∷◌, ◌++◌}
-use Rattle.std.proofs.Common.{length, append_assoc, length-append, ◌≤◌, refl, sym, ap, ◌∙◌, subst, arith, Option, Some}
-use Rattle.std.proofs.lemmas.List.{append-nil}
-use Rattle.std.proofs.lemmas.Option.{same_Some}
+use Rattle.ref_turn.proofs.Common.{◌≡◌, ◌≢◌, [], ◌∷◌, ◌++◌, length, length-append, ◌≤◌, refl, sym, ap, ◌∙◌, subst}
+use Rattle.ref_turn.proofs.Common.{arith, Option, Some, append-nil, same_Some, Entry, calls_by, StartsWith, Leads}
+use Rattle.ref_turn.proofs.Common.{Reaches, IsLegalLog}
+use Rattle.std.proofs.Common.{◌==◌, ℕ, Bool, true, false, eq-eqb, if◌then◌else◌, List, append_assoc}
 use Rattle.ref_base.proofs.RunLaws.{cut_at, one_on}
-use Rattle.ref_turn.specs.declared.history.Entry.{Entry}
-use Rattle.ref_turn.specs.History.{calls_by, StartsWith, Leads, Reaches, IsLegalLog}
 
 -- a list is empty where what it begins is empty
 pub nil_before : {A : Type 0} (xs ys : List A) → xs ++ ys ≡ [] → xs ≡ []

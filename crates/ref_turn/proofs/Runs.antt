@@ -1,13 +1,7 @@
 -- What a turn adds to the history.
-use Rattle.std.proofs.Common.{arith}
-use Rattle.std.proofs.Common.{◌≡◌, ℕ, List, [], ◌∷◌, ◌++◌, sym, ap, ◌∙◌, subst, Some, None}
-use Rattle.std.proofs.lemmas.Option.{same_Some}
-use Rattle.std.specs.Prelude.{Option}
-use Rattle.atomic_table.specs.Table.{rest}
-use Rattle.ref_turn.specs.declared.history.Entry.{Entry}
-use Rattle.ref_turn.specs.declared.history.View.{View}
-use Rattle.ref_turn.specs.History.{calls_by, Reaches}
-use Rattle.ref_turn.specs.Seats.{entry, Extends, IsHistory}
+use Rattle.ref_turn.proofs.Common.{arith, ◌≡◌, [], ◌∷◌, ◌++◌, sym, ap, ◌∙◌, subst, Some, same_Some, Option, rest, Entry}
+use Rattle.ref_turn.proofs.Common.{View, calls_by, Reaches, entry, Extends, IsHistory}
+use Rattle.std.proofs.Common.{ℕ, List, None}
 use Rattle.ref_turn.specs.Turns.{HoldsMachine, HoldsTurn}
 use Rattle.ref_turn.proofs.Logs.{calls_by-own, reaches-snoc}
 

@@ -1,11 +1,9 @@
 -- What seats may know and what they may not, of a count to which two of them add: seat 0 added 2 to 10, and then seat 1
 -- added 3.
-use Rattle.std.proofs.Common.{◌≡◌, ℕ, ◌+◌, ◌-◌, ◌^◌, ◌≤◌, List, [], ◌∷◌, Some, refl, arith}
-use Rattle.ref_turn.specs.declared.history.Entry.{Entry}
-use Rattle.ref_turn.specs.declared.history.Stage.TheVariants.{Idle}
-use Rattle.ref_turn.specs.declared.history.View.{View}
-use Rattle.ref_turn.specs.History.{Leads}
-use Rattle.ref_turn.specs.Seats.{entry, Longer, Extends, IsHistory, EndsAs, SawBusy, Begins, IsFirst}
+use Rattle.ref_turn.proofs.Common.{◌≡◌, ◌+◌, ◌^◌, ◌≤◌, [], ◌∷◌, Some, refl, arith, Entry, Idle, View, Leads, entry}
+use Rattle.ref_turn.proofs.Common.{Longer, Extends, IsHistory, EndsAs}
+use Rattle.std.proofs.Common.{ℕ, ◌-◌, List}
+use Rattle.ref_turn.specs.Seats.{SawBusy, Begins, IsFirst}
 
 abbrev IsCount : ℕ → ℕ → Type 0
 IsCount m x = x ≡ m

@@ -1,22 +1,18 @@
 -- What stays of the rule as one seat moves.
-use Rattle.std.proofs.Common.{◌≡◌, ◌≢◌, ℕ, zero, suc, ◌^◌, ◌<◌, ◌≤◌, ◌⊎◌, ⊎_elim, sym, ap, ◌∙◌, List, [], ◌∷◌, ◌++◌}
-use Rattle.std.proofs.Common.{length, set, length-set, length-append, subst, arith, Some}
+use Rattle.ref_turn.proofs.Common.{◌≡◌, ◌≢◌, zero, suc, ◌^◌, ◌<◌, ◌≤◌, ◌⊎◌, ⊎_elim, sym, ap, ◌∙◌, [], ◌∷◌, ◌++◌, length}
+use Rattle.ref_turn.proofs.Common.{set, length-append, subst, arith, Some, some-injective, some-ne-none, Option, State}
+use Rattle.ref_turn.proofs.Common.{Entry, Stage, Fresh, Idle, Open, Met, Spent, View, StartsWith, Reaches, IsOpen}
+use Rattle.ref_turn.proofs.Common.{IsSpent, IsOwnView, Knows, SeatOk}
+use Rattle.std.proofs.Common.{ℕ, List, length-set}
+use Rattle.ref_turn.specs.declared.history.Origin.{Origin}
+use Rattle.ref_turn.specs.Rule.{NoneOpen, IsHome, Turned}
+use Rattle.atomic_table.proofs.Lists.{at_set, set_here, set_else}
+use Rattle.ref_turn.proofs.Logs.{calls_by-own, calls_by-other, starts_self, starts_more, reaches_legal}
 use mathlib.Core.Logic.{dite}
-use mathlib.Core.Option.{some, some-injective, some-ne-none}
-use mathlib.Core.Option as maybe
+use mathlib.Core.Option.{some}
 use native.Mathlib.Decide.{ℕ_discrete}
 use lib.ListN.{get_elem?}
-use Rattle.std.specs.Prelude.{Option}
-use Rattle.atomic_table.specs.Table.{State}
-use Rattle.atomic_table.proofs.Lists.{at_set, set_here, set_else}
-use Rattle.ref_turn.specs.declared.history.Entry.{Entry}
-use Rattle.ref_turn.specs.declared.history.Origin.{Origin}
-use Rattle.ref_turn.specs.declared.history.Stage.{Stage}
-use Rattle.ref_turn.specs.declared.history.Stage.TheVariants.{Fresh, Idle, Open, Met, Spent}
-use Rattle.ref_turn.specs.declared.history.View.{View}
-use Rattle.ref_turn.specs.History.{StartsWith, Reaches}
-use Rattle.ref_turn.specs.Rule.{IsOpen, NoneOpen, IsSpent, IsOwnView, Knows, SeatOk, IsHome, Turned}
-use Rattle.ref_turn.proofs.Logs.{calls_by-own, calls_by-other, starts_self, starts_more, reaches_legal}
+use mathlib.Core.Option as maybe
 
 pub at_below : {A : Type 0} (l : List A) (i : ℕ) (a : A) → get_elem? l i ≡ some a → i < length l
 at_below [] i a at = absurd (some-ne-none a (sym at))

@@ -1,14 +1,12 @@
 -- Which states the rule of a turn's table allows: a turn ends once, one seat at most holds it, and while it is held the
 -- machine is not in its slot.
-use Rattle.std.proofs.Common.{◌≡◌, ℕ, zero, suc, ◌+◌, ◌<◌, ◌^◌, List, [], ◌∷◌, Option, refl, sym, ap, ◌∙◌, subst}
-use Rattle.std.proofs.Common.{arith}
-use lib.ListN.{get_elem?}
-use mathlib.Core.Option.{some, none, some-injective, some-ne-none}
-use Rattle.atomic_table.specs.Table.{State}
+use Rattle.ref_turn.proofs.Common.{◌≡◌, zero, suc, ◌+◌, ◌<◌, ◌^◌, [], ◌∷◌, Option, refl, sym, ap, ◌∙◌, subst, arith}
+use Rattle.ref_turn.proofs.Common.{none, some-injective, some-ne-none, State, Open, View, first_view, SeatOk}
+use Rattle.std.proofs.Common.{ℕ, List}
 use Rattle.ref_turn.specs.declared.history.Origin.{Origin}
-use Rattle.ref_turn.specs.declared.history.Stage.TheVariants.{Open}
-use Rattle.ref_turn.specs.declared.history.View.{View}
-use Rattle.ref_turn.specs.Rule.{first_view, SeatOk, Turned}
+use Rattle.ref_turn.specs.Rule.{Turned}
+use lib.ListN.{get_elem?}
+use mathlib.Core.Option.{some}
 
 module _ {M X S R : Type 0} (stands_for : M → X → Type 0) (steps_to : X → S → R → X → Type 0) (k : Origin M) where
   -- two turns have ended, where one ticket was drawn

@@ -1,20 +1,19 @@
 -- What a step of the world asks of its heap is a row of the world, with what it leaves in the hands.
-use Rattle.std.proofs.Common.{◌≡◌, Bool, true, false, if◌then◌else◌, List, [], ◌∷◌, Option, Some, None, Result, Ok, Err}
-use Rattle.std.proofs.Common.{refl, ap, subst, ◌∙◌, arith}
-use Rattle.std.specs.Prelude.{is_some}
-use Rattle.ref_world.proofs.Common.{NamedStep, told_notice, World, Notice, with_hand, heap_refusal, refusal, State}
-use Rattle.ref_world.proofs.Common.{with_world, IsHeapRow, IsRow, Actor, Mutator, Worker, Reply, Step, WorldHeap}
+use Rattle.ref_world.proofs.Common.{◌≡◌, Bool, true, false, List, [], ◌∷◌, Option, Some, None, Result, Ok, Err, refl}
+use Rattle.ref_world.proofs.Common.{ap, subst, ◌∙◌, arith, told_notice, Notice, heap_refusal, refusal, State}
+use Rattle.ref_world.proofs.Common.{with_world, IsRow, Actor, Mutator, Worker, Reply, Step, WorldHeap}
 use Rattle.ref_world.proofs.Common.{HeapDoes, answer_in, after_in, HeapStands, received, Core, Hands, with_hand_in}
-use Rattle.ref_world.proofs.Common.{with_rest_in, Stands, IsRowOf}
-use Rattle.ref_base.specs.HeapSteps.{heap_step, handed, taking, with_rest}
+use Rattle.ref_world.proofs.Common.{with_rest_in, Stands, IsRowOf, Fault, answered, Does}
+use Rattle.std.proofs.Common.{if◌then◌else◌}
+use Rattle.std.specs.Prelude.{is_some}
+use Rattle.ref_base.specs.HeapSteps.{NamedStep, heap_step, handed, taking, with_rest}
+use Rattle.ref_base.specs.Worlds.{World, with_hand}
 use Rattle.ref_base.specs.Told.{told_object, is_done}
-use Rattle.ref_base.specs.declared.heap_step.HeapStep.TheVariants as heap
 use Rattle.ref_base.specs.declared.plain_step.PlainStep.{PlainStep}
-use Rattle.ref_base.specs.declared.step.Step.TheVariants as steps
 use Rattle.ref_base.proofs.HeapRowLaws.{carried_row, row_others}
-use Rattle.ref_base.specs.declared.fault.Fault.{Fault}
 use Rattle.ref_clear.proofs.HeapLaws.{each_step, number_after}
-use Rattle.ref_world.specs.Standing.{answered, Does}
+use Rattle.ref_base.specs.declared.heap_step.HeapStep.TheVariants as heap
+use Rattle.ref_base.specs.declared.step.Step.TheVariants as steps
 
 -- ---- hands
 

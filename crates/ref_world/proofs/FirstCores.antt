@@ -1,10 +1,10 @@
 -- The world at first.
-use Rattle.std.proofs.Common.{◌≡◌, ℕ, ◌+◌, zero, suc, List, [], ◌∷◌, ◌++◌, refl, ap, arith}
-use Rattle.ref_world.proofs.Common.{Lists, new_queue, new_queues, Notice, first_state, Config, WorldHeap, HeapStands}
-use Rattle.ref_world.proofs.Common.{Hands, Stands, IsSound}
-use Rattle.ref_base.proofs.SoundWorlds.{first_queue}
+use Rattle.ref_world.proofs.Common.{◌≡◌, ℕ, ◌+◌, [], ◌∷◌, ◌++◌, refl, ap, arith, Lists, new_queue, new_queues}
+use Rattle.ref_world.proofs.Common.{Notice, first_state, Config, HeapStands, Stands, IsSound}
+use Rattle.std.proofs.Common.{zero, suc}
 use Rattle.ref_clear.specs.ClearHeaps.{first_clear_heap}
-use Rattle.ref_world.specs.Cores.{first_hands, first_core}
+use Rattle.ref_world.specs.Cores.{first_core}
+use Rattle.ref_base.proofs.SoundWorlds.{first_queue}
 
 -- one more new queue, last
 pub new_queues_more : (first count next : ℕ) → next ≡ first + count

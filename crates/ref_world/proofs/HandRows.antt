@@ -1,29 +1,26 @@
 -- Rows of the steps that fill or empty a hand by way of the heap.
-use Rattle.std.proofs.Common.{arith}
-use Rattle.std.proofs.Common.{◌≡◌, ℕ, true, ◌==◌, ◌&&◌, List, [], ◌∷◌, Some, None, refl, sym, ap, subst, ◌∙◌}
-use Rattle.ref_world.proofs.Common.{has, told_notice, Notice, hand_of, unless, empty_hand_refusal}
-use Rattle.ref_world.proofs.Common.{has_slot, drop_refusal, Actor, Mutator, Worker, NoSuchActor, Reply, unless_refused}
-use Rattle.ref_world.proofs.Common.{HeapDoes, WorldHeap, answer_in, received, Core, Hands, hand_in, with_rest_in}
-use Rattle.ref_world.proofs.Common.{has_hand, filling_refusal, emptying_refusal, IsReached, IsRowOf, heap_no_of}
-use Rattle.ref_world.proofs.Common.{model_heap}
-use Rattle.ref_base.specs.Collectors.{State}
+use Rattle.ref_world.proofs.Common.{arith, ◌≡◌, ℕ, true, List, [], ◌∷◌, Some, None, refl, sym, ap, subst, ◌∙◌, has}
+use Rattle.ref_world.proofs.Common.{told_notice, Notice, hand_of, unless, has_slot, drop_refusal}
+use Rattle.ref_world.proofs.Common.{Actor, Mutator, Worker, NoSuchActor, Reply, unless_refused, HeapDoes, WorldHeap}
+use Rattle.ref_world.proofs.Common.{answer_in, received, Core, Hands, hand_in, with_rest_in, has_hand, filling_refusal}
+use Rattle.ref_world.proofs.Common.{emptying_refusal, IsReached, IsRowOf, heap_no_of, model_heap, State, heap_refusal}
+use Rattle.ref_world.proofs.Common.{Stands}
+use Rattle.std.proofs.Common.{◌==◌, ◌&&◌}
 use Rattle.ref_base.specs.HeapSteps.{hold_of, spending}
-use Rattle.ref_base.specs.Refusals.{heap_refusal}
-use Rattle.ref_clear.proofs.HeapLaws.{stands_number}
-use Rattle.ref_world.specs.Standing.{Stands}
 use Rattle.ref_base.specs.declared.fault.Fault.TheVariants.{ForeignHold}
 use Rattle.ref_base.specs.declared.heap_step.HoldName.{HoldName}
-use Rattle.ref_base.specs.declared.heap_step.HeapStep.TheVariants as heap
-use Rattle.ref_base.specs.declared.reply.Reply.TheVariants as replies
-use Rattle.ref_base.specs.declared.step.Step.TheVariants as steps
-use Rattle.ref_base.proofs.HeapRowLaws.{free_unhook, free_hand, full_adopt, full_release}
 use Rattle.ref_world.specs.HeapReplies.{told_reply, GivesOut, IsTold}
 use Rattle.ref_world.specs.declared.heap_machine.HeapReply.{HeapReply}
 use Rattle.ref_world.specs.declared.heap_machine.HeapReply.TheVariants.{Told, Notice as Given, Held, Back}
+use Rattle.ref_clear.proofs.HeapLaws.{stands_number}
+use Rattle.ref_base.proofs.HeapRowLaws.{free_unhook, free_hand, full_adopt, full_release}
 use Rattle.ref_world.proofs.AskedRows.{handed_in, asked_core, row_to, asked_row}
 use Rattle.ref_world.proofs.ReachedCores.{same_hand, same_holds, same_actors, hand_is_counted}
 use Rattle.ref_base.proofs.RowForms.{unless_passes}
 use Rattle.ref_world.proofs.Refusals.{same_actor}
+use Rattle.ref_base.specs.declared.heap_step.HeapStep.TheVariants as heap
+use Rattle.ref_base.specs.declared.reply.Reply.TheVariants as replies
+use Rattle.ref_base.specs.declared.step.Step.TheVariants as steps
 
 -- ---- an empty hand
 
@@ -63,7 +60,7 @@ released_told number hold (Held held) gives is = absurd gives
 released_told number hold (Back fault back) gives is = absurd cc
 
 -- the hold of what a notice reports: the world's heap has number 0
-abbrev own_hold : Notice → HoldName
+abbrev pub own_hold : Notice → HoldName
 own_hold notice = record { heap_no = 0; object = notice.object }
 
 module _ (c : Core) (reached : IsReached c) where

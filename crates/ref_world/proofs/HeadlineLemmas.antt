@@ -1,8 +1,7 @@
 -- The headline's clauses, of every legal trace.
-use Rattle.std.proofs.Common.{arith}
-use Rattle.std.proofs.Common.{◌≡◌, ℕ, List, [], ◌∷◌, ◌++◌, length, map, sym, ap, subst, ◌∙◌}
-use Rattle.ref_world.proofs.Common.{State, first_state, Lists, enqueued, Notice, object_of, Config, Row}
-use Rattle.ref_world.proofs.Common.{Core, Stands}
+use Rattle.ref_world.proofs.Common.{arith, ◌≡◌, ℕ, List, [], ◌∷◌, ◌++◌, length, sym, ap, subst, ◌∙◌, State, first_state}
+use Rattle.ref_world.proofs.Common.{Lists, enqueued, Notice, object_of, Config, Row, Core, Stands, core_queue_at}
+use Rattle.std.proofs.Common.{map}
 use Rattle.ref_base.specs.CollectorRows.{IsRun}
 use Rattle.ref_base.specs.LegalTraces.{IsLegal}
 use Rattle.ref_base.specs.MarkEnds.{IsAfterMark, AllAfterMarks}
@@ -10,8 +9,9 @@ use Rattle.ref_base.specs.Provenance.{IsCause, IsProven}
 use Rattle.ref_base.specs.QueueRows.{put_into}
 use Rattle.ref_base.specs.Replay.{replayed}
 use Rattle.ref_base.specs.declared.cause.Cause.{Cause}
-use Rattle.ref_base.specs.declared.reply.Reply.TheVariants as replies
-use Rattle.ref_base.specs.declared.step.Step.TheVariants as steps
+use Rattle.ref_world.specs.Headline.{Adds, TakenThenStanding, QueuesTell, Positions, InClearingOrder, AtMostOnce}
+use Rattle.ref_world.specs.Headline.{OwnQueue, OwnEnqueueCall, AfterAMarkEnded, NothingAfterClose, ScannedOnce}
+use Rattle.ref_world.specs.HeapOfRows.{HeapTells}
 use Rattle.ref_base.proofs.AddedRows.{legal_lists, added_position, added_proven}
 use Rattle.ref_base.proofs.ClearingTraces.{legal_in_order}
 use Rattle.ref_base.proofs.LegalQueues.{legal_keeps_queue}
@@ -21,11 +21,9 @@ use Rattle.ref_base.proofs.OutTraces.{legal_agrees, legal_others}
 use Rattle.ref_base.proofs.ScannedOnce.{legal_scanned_once}
 use Rattle.ref_base.proofs.RunLaws.{front_is_legal}
 use Rattle.ref_base.proofs.SameOthers.{same_hand}
-use Rattle.ref_world.specs.Cores.{core_queue_at}
-use Rattle.ref_world.specs.Headline.{Adds, TakenThenStanding, QueuesTell, Positions, InClearingOrder, AtMostOnce}
-use Rattle.ref_world.specs.Headline.{OwnQueue, OwnEnqueueCall, AfterAMarkEnded, NothingAfterClose, ScannedOnce}
-use Rattle.ref_world.specs.HeapOfRows.{HeapTells}
 use Rattle.ref_world.proofs.QueueRows.{queue_is}
+use Rattle.ref_base.specs.declared.reply.Reply.TheVariants as replies
+use Rattle.ref_base.specs.declared.step.Step.TheVariants as steps
 
 -- ---- the queues of the world that a trace leaves
 

@@ -1,8 +1,7 @@
 -- What a step of the heap's machine leaves.
-use Rattle.std.proofs.Common.{◌≡◌, ℕ, Option, Some, None, refl}
+use Rattle.ref_world.proofs.Common.{◌≡◌, ℕ, Option, Some, None, refl, Fault, unless_refused, WorldHeap, after_in}
 use Rattle.ref_base.specs.declared.heap_step.HeapStep.TheVariants as heap
 use Rattle.ref_base.specs.declared.plain_step.PlainStep.TheVariants as plain
-use Rattle.ref_world.proofs.Common.{Fault, unless_refused, WorldHeap, after_in}
 
 same_either_way : {T : Type 0} (refused : Option Fault) (k : T) → unless_refused refused (λ fault. k) k ≡ k
 same_either_way None k = refl

@@ -6,6 +6,7 @@ pub mod Refusals
 pub mod HandRows
 pub mod QueueRows
 pub mod SoundCores
+pub mod HandSteps
 pub mod QueueSteps
 pub mod FirstCores
 pub mod RunLemmas

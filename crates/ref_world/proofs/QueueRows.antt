@@ -1,37 +1,32 @@
 -- Rows of the steps of queues.
-use Rattle.std.proofs.Common.{arith}
-use Rattle.std.proofs.Common.{◌≡◌, ℕ, ◌<◌, Bool, true, false, List, [], ◌∷◌, not, length, Option, Some, None}
-use Rattle.std.proofs.Common.{Result, Ok, Err, refl, sym, ap, subst, ◌∙◌, inl, inr}
-use Rattle.std.specs.Prelude.{slice_index_or, slice_set}
+use Rattle.ref_world.proofs.Common.{arith, ◌≡◌, ℕ, ◌<◌, Bool, true, false, List, [], ◌∷◌, not, length, Option, Some}
+use Rattle.ref_world.proofs.Common.{None, Result, Ok, Err, refl, sym, ap, subst, ◌∙◌, slice_index_or, slice_set, Lists}
+use Rattle.ref_world.proofs.Common.{enqueued, new_queue, Notice, object_of, State, with_world, IsRow, Actor, Mutator}
+use Rattle.ref_world.proofs.Common.{Worker, Fault, Reply, Step, WorldHeap, HeapStands, Core, Hands, hand_in}
+use Rattle.ref_world.proofs.Common.{with_hand_in, emptying_refusal, calling_refusal, taken_back, Stands, IsReached}
+use Rattle.ref_world.proofs.Common.{IsRowOf, PutsOne, PollsOne, Does, received}
+use Rattle.std.proofs.Common.{inl, inr}
 use Rattle.std.proofs.lemmas.List.{set-set, set-get_or, get_or_read, get_or-set_same}
-use Rattle.ref_world.proofs.Common.{Lists, enqueued, with_parcel, with_taken, new_queue, Notice, object_of}
-use Rattle.ref_world.proofs.Common.{State, with_world}
-use Rattle.ref_world.proofs.Common.{IsRow, Actor, Mutator, Worker, Fault, Reply, Step, WorldHeap}
-use Rattle.ref_world.proofs.Common.{HeapStands, Core, Hands, hand_in, with_hand_in, emptying_refusal, calling_refusal}
-use Rattle.ref_world.proofs.Common.{taken_back}
-use Rattle.ref_world.proofs.Common.{Stands, IsReached, IsRowOf}
-use Rattle.ref_base.specs.QueueLists.{was_put}
+use Rattle.ref_base.specs.QueueLists.{with_parcel, with_taken, was_put}
 use Rattle.ref_base.specs.Worlds.{queue_at}
 use Rattle.ref_base.specs.Replay.{put_in, took, closed_queue}
 use Rattle.ref_base.specs.CollectorRows.{ticked, PutsInto, Polls, Closes}
 use Rattle.ref_base.specs.declared.fault.Fault.TheVariants.{NoMemory, WrongQueue}
-use Rattle.ref_base.specs.declared.reply.Reply.TheVariants as replies
-use Rattle.ref_base.specs.declared.step.Step.TheVariants as steps
-use Rattle.ref_base.proofs.Places.{place_there}
-use Rattle.ref_base.proofs.RowForms.{ticked_world}
-use Rattle.ref_mark.proofs.OtherHands.{with_others}
-use Rattle.ref_mark.proofs.ReferenceRows.{unmutated_stands}
 use Rattle.ref_queue.specs.QueueAnswers.{RefusesPut, AnswersPut, after_put, AnswersPoll}
 use Rattle.ref_queue.specs.declared.queue.Put.{Put}
 use Rattle.ref_queue.specs.declared.queue.Put.TheVariants.{Added, Already, Closed as Shut}
 use Rattle.ref_queue.specs.declared.queue.Polled.{Polled}
 use Rattle.ref_queue.specs.declared.queue.Polled.TheVariants.{Took, Empty, Closed as Ended}
-use Rattle.ref_world.specs.QueueReplies.{put_reply, left_by_put, PutsOne, poll_reply, taken_by_poll, PollsOne}
-use Rattle.ref_world.specs.Standing.{Does}
-use Rattle.ref_world.specs.AskedSteps.{received}
+use Rattle.ref_world.specs.QueueReplies.{put_reply, left_by_put, poll_reply, taken_by_poll}
 use Rattle.ref_world.specs.Cores.{core_queue_at as queue_in}
+use Rattle.ref_base.proofs.Places.{place_there}
+use Rattle.ref_base.proofs.RowForms.{ticked_world}
+use Rattle.ref_mark.proofs.OtherHands.{with_others}
+use Rattle.ref_mark.proofs.ReferenceRows.{unmutated_stands}
 use Rattle.ref_world.proofs.AskedRows.{hands_of, hands_are, row_to}
 use Rattle.ref_world.proofs.ReachedCores.{same_actors}
+use Rattle.ref_base.specs.declared.reply.Reply.TheVariants as replies
+use Rattle.ref_base.specs.declared.step.Step.TheVariants as steps
 
 -- ---- hands and queues
 

@@ -1,9 +1,7 @@
 -- What holds of every world to which a legal trace leads.
-use Rattle.std.proofs.Common.{◌≡◌, ◌<◌, true, List, [], ◌∷◌, ◌++◌, length, ap, sym, subst, ◌∙◌}
-use Rattle.std.specs.Prelude.{slice_index_or}
+use Rattle.ref_world.proofs.Common.{◌≡◌, ◌<◌, true, List, [], ◌∷◌, ◌++◌, length, ap, sym, subst, ◌∙◌, slice_index_or}
 use Rattle.ref_world.proofs.Common.{has, Lists, Notice, hand_of, is_actor, State, first_state, Actor, Mutator, Worker}
-use Rattle.ref_world.proofs.Common.{Reply, Step, Core, has_hand, hand_in, Stands, IsRowOf, IsReached}
-use Rattle.ref_world.proofs.Common.{model_heap}
+use Rattle.ref_world.proofs.Common.{Reply, Step, Core, has_hand, hand_in, Stands, IsRowOf, IsReached, model_heap}
 use Rattle.ref_base.specs.Heaps.{Heap}
 use Rattle.ref_base.specs.CountedHolds.{AreCounted}
 use Rattle.ref_base.proofs.CountedTraces.{legal_counted}

@@ -1,18 +1,18 @@
 -- Where a step of the world is refused before its heap or a queue is asked.
-use Rattle.std.proofs.Common.{arith}
-use Rattle.std.proofs.Common.{◌≡◌, ℕ, ◌<◌, length, Bool, true, false, List, [], ◌∷◌, Option, Some, None, refl, sym, ap}
-use Rattle.std.proofs.Common.{subst, ◌∙◌}
+use Rattle.ref_world.proofs.Common.{arith, ◌≡◌, ℕ, ◌<◌, length, Bool, true, false, Option, Some, None}
+use Rattle.ref_world.proofs.Common.{refl, sym, ap, subst, ◌∙◌, hand_of, unless, empty_hand_refusal, has_slot}
+use Rattle.ref_world.proofs.Common.{is_actor, drop_refusal, heap_refusal, refusal, State, Actor, Mutator, Worker}
+use Rattle.ref_world.proofs.Common.{Config, Fault, NoSuchActor, Step, Core, filling_refusal, emptying_refusal}
+use Rattle.ref_world.proofs.Common.{calling_refusal, Stands, IsReached, IsRowOf, model_heap}
 use Rattle.std.specs.Prelude.{nat_lt}
-use Rattle.ref_world.proofs.Common.{Notice, hand_of, unless, unless_full, empty_hand_refusal, has_slot, is_actor}
-use Rattle.ref_world.proofs.Common.{is_mutator, is_queue, drop_refusal, heap_refusal, refusal, State, Actor, Mutator}
-use Rattle.ref_world.proofs.Common.{Worker, Config, Fault, NoSuchActor, BadQueue, Step, Core}
-use Rattle.ref_world.proofs.Common.{filling_refusal, emptying_refusal, calling_refusal, queue_refusal, Stands}
-use Rattle.ref_world.proofs.Common.{IsReached, IsRowOf, model_heap}
+use Rattle.ref_base.specs.Refusals.{unless_full, is_mutator, is_queue}
+use Rattle.ref_base.specs.declared.fault.Fault.TheVariants.{BadQueue}
+use Rattle.ref_world.specs.Cores.{queue_refusal}
+use Rattle.ref_base.proofs.RowForms.{unless_passes}
+use Rattle.ref_world.proofs.ReachedCores.{same_config, same_hand, same_actors, queue_count}
 use Rattle.ref_base.specs.declared.heap_step.HeapStep.TheVariants as heap
 use Rattle.ref_base.specs.declared.reply.Reply.TheVariants as replies
 use Rattle.ref_base.specs.declared.step.Step.TheVariants as steps
-use Rattle.ref_base.proofs.RowForms.{unless_passes}
-use Rattle.ref_world.proofs.ReachedCores.{same_config, same_hand, same_actors, queue_count}
 
 -- ---- tests
 

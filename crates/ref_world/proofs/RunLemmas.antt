@@ -1,8 +1,8 @@
 -- A run goes on by one more step.
-use Rattle.std.proofs.Common.{◌≡◌, ℕ, ◌+◌, ◌<◌, List, [], ◌∷◌, ◌++◌, length, take, arith}
+use Rattle.ref_world.proofs.Common.{◌≡◌, ℕ, ◌+◌, ◌<◌, List, [], ◌∷◌, ◌++◌, length, take, arith, Reply, Row, Step, Core}
+use Rattle.ref_world.proofs.Common.{RunsFrom, steps_of, IsRowOf}
 use Rattle.std.specs.Prelude.{slice_index_or as get_or}
 use Rattle.std.proofs.lemmas.List.{take_more, map-append}
-use Rattle.ref_world.proofs.Common.{Reply, Row, Step, Core, RunsFrom, steps_of, IsRowOf}
 use Rattle.ref_base.proofs.RunLaws.{run_more}
 
 -- the steps that have their rows are one more

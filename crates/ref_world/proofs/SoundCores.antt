@@ -1,11 +1,8 @@
 -- What holds of every world still holds after a row.
-use Rattle.std.proofs.Common.{arith}
-use Rattle.std.proofs.Common.{◌≡◌, ℕ, List, Result, Ok, Err, ap, ◌∙◌}
-use Rattle.std.specs.Prelude.{slice_index_or, slice_set}
-use Rattle.ref_world.proofs.Common.{Lists, new_queue, Notice, Fault, Reply, Step, Core, IsRowOf, IsSound}
+use Rattle.ref_world.proofs.Common.{arith, ◌≡◌, ℕ, List, Result, Ok, Err, ap, ◌∙◌, slice_index_or, slice_set, Lists}
+use Rattle.ref_world.proofs.Common.{new_queue, Notice, Fault, Reply, Step, Core, IsRowOf, IsSound, Does}
 use Rattle.ref_base.specs.declared.reply.Reply.TheVariants.{Refused}
 use Rattle.ref_base.proofs.Places.{set_each}
-use Rattle.ref_world.specs.Standing.{Does}
 use Rattle.ref_world.proofs.ReachedCores.{reached_after}
 
 -- where the queues stay

@@ -1,10 +1,8 @@
 -- Where a text is cut into its first line and the rest, and a line into its first word and the rest.
-use Rattle.std.proofs.Common.{◌≡◌, ℕ, suc, ◌+◌, ◌<◌, ◌≤◌, true, false, not, ◌==◌, List, [], ◌∷◌, ◌++◌, length, take}
-use Rattle.std.proofs.Common.{drop, refl, sym, ap, ◌∙◌, inl, inr, arith}
-use Rattle.std.proofs.lemmas.Bool.{cases_Bool}
-use Rattle.std.proofs.lemmas.List.{nil_from_length, length-drop, take_all}
-use Rattle.std.specs.List.{prefix_len}
-use Rattle.refrun.proofs.Common.{TextLine, lines_of, content_of, words_of}
+use Rattle.refrun.proofs.Common.{◌≡◌, ℕ, suc, ◌+◌, ◌<◌, ◌≤◌, true, false, not, ◌==◌, List, [], ◌∷◌, ◌++◌, length, take}
+use Rattle.refrun.proofs.Common.{drop, refl, sym, ap, ◌∙◌, inl, inr, arith, cases_Bool, take_all, prefix_len, TextLine}
+use Rattle.refrun.proofs.Common.{lines_of, content_of, words_of}
+use Rattle.std.proofs.lemmas.List.{nil_from_length, length-drop}
 use Rattle.refrun.specs.Lines.{onto_line, without_cr, goes_on, onto_word}
 
 -- no byte before the first LF

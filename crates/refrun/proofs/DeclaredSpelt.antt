@@ -1,8 +1,7 @@
 -- Words that spell what a line says have no fault.
-use Rattle.std.proofs.Common.{◌≡◌, ℕ, ◌+◌, ◌≤◌, true, List, [], ◌∷◌, length, None, refl, arith}
-use Rattle.std.proofs.lemmas.List.{take_all}
-use Rattle.refrun.proofs.Common.{words_fault, declaration_fault, number_in, are_operands}
-use Rattle.refrun.proofs.Common.{Declared, Root, Plain, Reference, SpellsDeclared, declared_no}
+use Rattle.refrun.proofs.Common.{◌≡◌, ℕ, ◌+◌, ◌≤◌, true, List, [], ◌∷◌, length, None, refl, arith, take_all}
+use Rattle.refrun.proofs.Common.{words_fault, declaration_fault, number_in, are_operands, Declared, Root, Plain}
+use Rattle.refrun.proofs.Common.{Reference, SpellsDeclared, declared_no}
 use Rattle.refrun.proofs.Fields.{object_fits, object_or_none_fits, fields_fit, fields_length}
 
 -- enough words, of their forms, and no more than may stand there

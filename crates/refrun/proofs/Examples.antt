@@ -1,14 +1,14 @@
 -- The definitions at work on what one can read off by hand.
-use Rattle.std.proofs.Common.{◌≡◌, ◌^◌, true, false, [], ◌∷◌, ◌++◌, Some, None, codes, refl, arith}
-use Rattle.refrun.proofs.Common.{Worker, Urgent, Refer, Put, Begin, lines_of, content_of, words_of, number_below}
-use Rattle.refrun.proofs.Common.{number_behind, script_fault, graph_fault, SpellsScriptStep, step_fault}
-use Rattle.refrun.proofs.Common.{declaration_fault, Root, Plain, Reference, SpellsDeclared, DeclaresGraph, Graph}
-use Rattle.refrun.proofs.Common.{plain_object, ExtraWord, DoubleObject}
+use Rattle.refrun.proofs.Common.{◌≡◌, ◌^◌, true, false, [], ◌∷◌, ◌++◌, Some, None, codes, refl, arith, Worker, Urgent}
+use Rattle.refrun.proofs.Common.{Refer, Put, Begin, lines_of, content_of, words_of, number_below, number_behind}
+use Rattle.refrun.proofs.Common.{script_fault, graph_fault, SpellsScriptStep, step_fault, declaration_fault, Root}
+use Rattle.refrun.proofs.Common.{Plain, Reference, SpellsDeclared, DeclaresGraph, Graph, plain_object, ExtraWord}
+use Rattle.refrun.proofs.Common.{DoubleObject, MissingWord, BadWord}
+use Rattle.refrun.specs.declared.fault.LineFault.TheVariants.{UnknownStep, BadHeader, UnknownLine}
+use Rattle.refrun.specs.declared.fault.TextFault.TheVariants.{Line}
 use Rattle.ref_base.specs.declared.step.Step.TheVariants as steps
 use Rattle.refrun.specs.declared.script_step.ScriptStep.TheVariants as scripts
 use Rattle.ref_base.specs.declared.strength.Strength.TheVariants as strengths
-use Rattle.refrun.specs.declared.fault.LineFault.TheVariants.{UnknownStep, MissingWord, BadWord, BadHeader, UnknownLine}
-use Rattle.refrun.specs.declared.fault.TextFault.TheVariants.{Line}
 
 -- ---- words and numbers
 

@@ -1,16 +1,14 @@
 -- A text that spells a script, or declares a graph, has no fault.
-use Rattle.std.proofs.Common.{arith, ◌≡◌, ℕ, ◌+◌, true, List, [], ◌∷◌, Some, None, refl, inl, inr}
-use Rattle.refrun.proofs.Common.{Graph, Declared, NoneTwice, SpellAll, SpellGraph, DeclaresGraph, GraphHeader}
-use Rattle.refrun.proofs.Common.{Declarations, Place, place_after, place_fault, graph_fault, Config, ScriptStep}
-use Rattle.refrun.proofs.Common.{TextLine, lines_of, ScriptHeader, Configuration, Steps, plain_fault, first_fault}
-use Rattle.refrun.proofs.Common.{script_fault, is_short, is_plain_line, says_nothing, line_words, told, config_of}
-use Rattle.refrun.proofs.Common.{SpellSteps, SpellScript, IsScript}
-use Rattle.refrun.proofs.DeclaredSpelt.{declared_without_fault, number_of_words}
+use Rattle.refrun.proofs.Common.{arith, ◌≡◌, ℕ, ◌+◌, true, List, [], ◌∷◌, Some, None, refl, inl, inr, Graph, Declared}
+use Rattle.refrun.proofs.Common.{NoneTwice, SpellAll, SpellGraph, DeclaresGraph, Declarations, Place, place_after}
+use Rattle.refrun.proofs.Common.{place_fault, graph_fault, Config, ScriptStep, TextLine, lines_of, Steps, plain_fault}
+use Rattle.refrun.proofs.Common.{first_fault, script_fault, is_plain_line, says_nothing, line_words, told, config_of}
+use Rattle.refrun.proofs.Common.{SpellSteps, SpellScript, IsScript, list_all, cases_Bool, and_parts, end_fault}
 use Rattle.std.specs.Char.{is_ascii}
-use Rattle.std.specs.List.{list_all}
-use Rattle.std.proofs.lemmas.Bool.{cases_Bool, and_parts}
+use Rattle.refrun.specs.TextFaults.{GraphHeader, ScriptHeader, Configuration}
+use Rattle.refrun.specs.ToldLines.{is_short}
 use Rattle.ref_base.specs.Limits.{is_within_limits}
-use Rattle.refrun.specs.TextFaults.{end_fault}
+use Rattle.refrun.proofs.DeclaredSpelt.{declared_without_fault, number_of_words}
 use Rattle.refrun.proofs.Spelt.{spelt_without_fault}
 
 plain_without_fault : (line : TextLine) → is_plain_line line ≡ true → plain_fault line ≡ None

@@ -1,11 +1,11 @@
 -- The fields of a line of a graph text, word by word.
-use Rattle.std.proofs.Common.{◌≡◌, ℕ, zero, suc, ◌≤◌, ◌<◌, true, false, List, [], ◌∷◌, ◌++◌, length, take}
-use Rattle.std.proofs.Common.{Option, Some, None, refl, ap, append_assoc, arith, ◌⊎◌}
-use Rattle.std.specs.List.{list_all}
-use Rattle.std.proofs.lemmas.Bool.{lt-ltb, le-ltb, or_right}
-use Rattle.std.proofs.Math.Seq.{take-append_seam}
-use Rattle.std.proofs.lemmas.List.{append-nil, length-append}
-use Rattle.refrun.proofs.Common.{are_operands, words_fault, SpellsObject, SpellsObjectOrNone, SpellFields, ExtraWord}
+use Rattle.refrun.proofs.Common.{◌≡◌, ℕ, zero, suc, ◌≤◌, ◌<◌, true, false, List, [], ◌∷◌, ◌++◌, length, take, Option}
+use Rattle.refrun.proofs.Common.{Some, None, refl, ap, append_assoc, arith, list_all, lt-ltb, le-ltb, take-append_seam}
+use Rattle.refrun.proofs.Common.{append-nil, are_operands, words_fault, SpellsObject, SpellsObjectOrNone, SpellFields}
+use Rattle.refrun.proofs.Common.{ExtraWord}
+use Rattle.std.proofs.Common.{◌⊎◌}
+use Rattle.std.proofs.lemmas.Bool.{or_right}
+use Rattle.std.proofs.lemmas.List.{length-append}
 use Rattle.refrun.specs.DeclarationFaults.{is_object, is_object_or_none}
 use Rattle.refrun.specs.DeclarationViews.{ReadsFields}
 

@@ -1,20 +1,16 @@
 -- How the reading of a graph text goes on by one line.
-use Rattle.std.proofs.Common.{arith, ◌≡◌, ℕ, ◌+◌, ◌≤◌, ◌||◌, ◌==◌, Bool, true, false, List, [], ◌∷◌, ◌++◌, length}
-use Rattle.std.proofs.Common.{Option, Some, None, OnSome, IfNone, refl, sym, ap, ◌∙◌, append_assoc}
-use Rattle.std.specs.Borrow.{Bor}
-use Rattle.std.specs.List.{list_all}
-use Rattle.std.proofs.lemmas.List.{append-nil}
-use Rattle.refrun.proofs.Common.{Graph, plain_object, number_in, Declared, Root, Plain, Reference}
-use Rattle.refrun.proofs.Common.{SpellsDeclared, declared_no, with_declared_no, NoneTwice, declared_graph, SpellAll}
-use Rattle.refrun.proofs.Common.{in_front, fault_from, Finds, lines_of, words_of, Place}
-use Rattle.refrun.proofs.Common.{Declarations, place_fault, fault_or, first_fault, is_plain_line, told}
-use Rattle.refrun.proofs.Common.{LineFault, DoubleObject, TextFault, Told}
+use Rattle.refrun.proofs.Common.{arith, ◌≡◌, ℕ, ◌+◌, ◌≤◌, ◌||◌, ◌==◌, Bool, true, false, List, [], ◌∷◌, ◌++◌, length}
+use Rattle.refrun.proofs.Common.{Option, Some, None, OnSome, IfNone, refl, sym, ap, ◌∙◌, append_assoc, Bor, list_all}
+use Rattle.refrun.proofs.Common.{append-nil, Graph, plain_object, number_in, Declared, Root, Plain, Reference}
+use Rattle.refrun.proofs.Common.{SpellsDeclared, declared_no, NoneTwice, SpellAll, in_front, fault_from, Finds}
+use Rattle.refrun.proofs.Common.{lines_of, words_of, Place, Declarations, place_fault, fault_or, first_fault}
+use Rattle.refrun.proofs.Common.{is_plain_line, told, LineFault, DoubleObject, TextFault, Told}
+use Rattle.refrun.specs.Declarations.{with_declared_no, declared_graph, is_declared, with_declared, with_all}
 use Rattle.ref_base.specs.Graphs.{Object, empty_graph, is_there, with_object, reference_object}
-use Rattle.refrun.specs.Declarations.{is_declared, with_declared, with_all}
 use Rattle.refrun.specs.GraphReading.{AreNumbersOf, has_object, AddsObject, AddsDeclared, AddsAll, FailsAfter}
-use Rattle.refrun.specs.declared.fault.TextFault.TheVariants as texts
 use Rattle.refrun.proofs.DeclaredSpelt.{declared_without_fault, number_of_words}
 use Rattle.refrun.proofs.LineLemmas.{onsome_before}
+use Rattle.refrun.specs.declared.fault.TextFault.TheVariants as texts
 
 -- ---- the numbers of a graph's objects
 

@@ -1,16 +1,18 @@
 -- Rows and texts that differ in one place from what a script or a graph text prints, and are none of it.
-use Rattle.std.proofs.Common.{◌≡◌, ℕ, ◌+◌, ◌++◌, [], ◌∷◌, List, map, take, Some, None, codes, refl, arith, replicate}
+use Rattle.refrun.proofs.Common.{◌≡◌, ℕ, ◌+◌, ◌++◌, [], ◌∷◌, List, map, take, Some, None, codes, refl, arith, State}
+use Rattle.refrun.proofs.Common.{first_state, Graph, plain_object, Config, ObjectReach, Refused, New, Refer, Weak}
+use Rattle.refrun.proofs.Common.{Plain, DeclaresGraph, words_of, listing_text, StageJobs, IsScriptRun, SpellsScriptStep}
+use Rattle.refrun.proofs.Common.{IsFirstFailure, trace_text, ScriptReply, ScriptRow, ScriptStep}
+use Rattle.std.proofs.Common.{replicate}
 use Rattle.std.proofs.lemmas.Fmt.{decimal_digit}
-use Rattle.refrun.proofs.Common.{State, first_state, Graph, plain_object, Config, ObjectReach, Refused, New, Refer}
-use Rattle.refrun.proofs.Common.{Copy, Weak, Plain, DeclaresGraph, words_of, PrintsStrengths, listing_text, StageJobs}
-use Rattle.refrun.proofs.Common.{IsScriptRun, SpellsScriptStep, IsFirstFailure, trace_text, ScriptReply}
-use Rattle.refrun.proofs.Common.{ScriptRow, ScriptStep}
-use Rattle.ref_base.specs.declared.step.Step.TheVariants as world
+use Rattle.ref_base.specs.declared.plain_step.PlainStep.TheVariants.{Copy}
+use Rattle.refrun.specs.Listings.{PrintsStrengths}
 use Rattle.ref_base.specs.Heaps.{first_heap}
 use Rattle.ref_base.specs.Worlds.{first_world}
 use Rattle.ref_base.specs.declared.fault.Fault.TheVariants.{NoCell, NoSuchActor}
 use Rattle.ref_base.specs.declared.reply.Reply.TheVariants.{Object}
 use Rattle.refrun.specs.ScriptRuns.{IsScriptTrace}
+use Rattle.ref_base.specs.declared.step.Step.TheVariants as world
 use Rattle.refrun.specs.declared.script_step.ScriptReply.TheVariants as replies
 use Rattle.refrun.specs.declared.script_step.ScriptStep.TheVariants as steps
 

@@ -1,22 +1,21 @@
 -- Rows of jobs, from each state that the world stands for.
-use Rattle.std.proofs.Common.{arith, ◌≡◌, ℕ, ◌<◌, List, [], ◌∷◌, ◌++◌, length, get_or, Some, None, Ok, Err}
-use Rattle.std.proofs.Common.{refl, ap, ◌∙◌}
+use Rattle.refrun.proofs.Common.{arith, ◌≡◌, ℕ, ◌<◌, List, [], ◌∷◌, ◌++◌, length, get_or, Some, None, Ok, Err, refl, ap}
+use Rattle.refrun.proofs.Common.{◌∙◌, State, Fault, Refused, Core, Stands, StageJobs, RegistersStageJob, IsScriptRowOf}
+use Rattle.refrun.proofs.Common.{jobs, ScriptReply}
 use Rattle.std.specs.Prelude.{HoldsAt, IsPermutation, swap_remove}
 use Rattle.std.proofs.lemmas.List.Sorted.{IsPermutation-swap_remove, IsPermutation-to_front, IsPermutation-sym}
 use Rattle.std.proofs.lemmas.List.Sorted.{IsPermutation-trans}
-use Rattle.refrun.proofs.Common.{State, Fault, Refused, Core, Stands, StageJobs}
-use Rattle.refrun.proofs.Common.{RegistersStageJob, IsScriptRowOf, jobs, ScriptReply}
 use Rattle.ref_base.specs.Heaps.{slot_at}
 use Rattle.ref_base.specs.Refusals.{clear_refusal}
-use Rattle.ref_base.specs.declared.heap_step.HeapStep.TheVariants as heap
-use Rattle.ref_base.specs.declared.plain_step.PlainStep.TheVariants as plain
 use Rattle.ref_base.specs.declared.reply.Reply.{Reply}
-use Rattle.ref_base.specs.declared.step.Step.TheVariants as steps
-use Rattle.ref_mark.proofs.MarkLaws.{on_own_heap}
 use Rattle.ref_queue.specs.CleanTables.{Registry, Registers, Takes}
 use Rattle.ref_queue.specs.declared.job.Ran.{Ran}
 use Rattle.ref_world.specs.Standing.{IsRowOf}
 use Rattle.ref_world.specs.WorldHeaps.{cycles_of, model_heap}
+use Rattle.ref_mark.proofs.MarkLaws.{on_own_heap}
+use Rattle.ref_base.specs.declared.heap_step.HeapStep.TheVariants as heap
+use Rattle.ref_base.specs.declared.plain_step.PlainStep.TheVariants as plain
+use Rattle.ref_base.specs.declared.step.Step.TheVariants as steps
 use Rattle.refrun.specs.declared.script_step.ScriptReply.TheVariants as replies
 use Rattle.refrun.specs.declared.script_step.ScriptStep.TheVariants as scripts
 

@@ -1,13 +1,10 @@
 -- How the reading of a text goes on by one line.
-use Rattle.std.proofs.Common.{◌≡◌, ℕ, suc, ◌+◌, ◌≤◌, Bool, true, false, List, [], ◌∷◌, length, Option, Some, None}
-use Rattle.std.proofs.Common.{OnSome, refl, sym, ap, ◌∙◌, inl, inr, arith}
-use Rattle.std.specs.Borrow.{Bor}
-use Rattle.std.specs.List.{list_all}
-use Rattle.std.proofs.lemmas.Bool.{cases_Bool, false≢true}
-use Rattle.refrun.proofs.Common.{TextLine, lines_of, Place, place_after, place_fault, fault_or}
-use Rattle.refrun.proofs.Common.{plain_fault, first_fault, is_plain_line, says_nothing, line_words, told}
-use Rattle.refrun.proofs.Common.{FailsFor, LineFault, TextFault}
-use Rattle.refrun.specs.TextFaults.{end_fault}
+use Rattle.refrun.proofs.Common.{◌≡◌, ℕ, suc, ◌+◌, ◌≤◌, Bool, true, false, List, [], ◌∷◌, length, Option, Some, None}
+use Rattle.refrun.proofs.Common.{OnSome, refl, sym, ap, ◌∙◌, inl, inr, arith, Bor, list_all, cases_Bool, TextLine}
+use Rattle.refrun.proofs.Common.{lines_of, Place, place_after, place_fault, fault_or, plain_fault, first_fault}
+use Rattle.refrun.proofs.Common.{is_plain_line, says_nothing, line_words, told, FailsFor, LineFault, TextFault}
+use Rattle.refrun.proofs.Common.{end_fault}
+use Rattle.std.proofs.lemmas.Bool.{false≢true}
 use Rattle.refrun.specs.declared.fault.TextFault.TheVariants as texts
 
 -- a text's lines have the fault of a line and no other

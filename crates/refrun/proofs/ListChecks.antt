@@ -1,19 +1,17 @@
 -- What the checks of a queue's lists find out, number by number.
-use Rattle.std.proofs.Common.{◌≡◌, ℕ, ◌+◌, ◌<◌, ◌≤◌, zero, suc, nat_eq, ◌==◌, arith, refl, sym, ap, subst, ◌∙◌, Bool}
-use Rattle.std.proofs.Common.{true, false, not, ◌&&◌, ◌||◌, cond, IsTrue, ◌↔◌, inl, inr, List, [], ◌∷◌, ◌++◌, length}
-use Rattle.std.proofs.Common.{get_or, take, drop, map, flat_map, append_assoc}
-use Rattle.std.proofs.lemmas.Bool.{true≢false, ne_eqb, or_cases}
-use Rattle.std.proofs.lemmas.List.{take-append-drop, take_all, take_more, drop_all, get_or-map, length-map}
+use Rattle.refrun.proofs.Common.{◌≡◌, ℕ, ◌+◌, ◌<◌, ◌≤◌, zero, suc, nat_eq, ◌==◌, arith, refl, sym, ap, subst, ◌∙◌, Bool}
+use Rattle.refrun.proofs.Common.{true, false, not, ◌&&◌, ◌||◌, inl, inr, List, [], ◌∷◌, ◌++◌, length, get_or, take}
+use Rattle.refrun.proofs.Common.{drop, map, flat_map, append_assoc, true≢false, ne_eqb, take-append-drop, take_all}
+use Rattle.refrun.proofs.Common.{take_more, length-map, IsDistinct-push, bytes_eq-Decides, All, AllByRecursion}
+use Rattle.refrun.proofs.Common.{list_any, nat_eq_equiv, has, is_subsequence, TookInOrder, GivesEachOnce}
+use Rattle.std.proofs.Common.{cond, IsTrue, ◌↔◌}
+use Rattle.std.proofs.lemmas.Bool.{or_cases}
+use Rattle.std.proofs.lemmas.List.{drop_all, get_or-map}
 use Rattle.std.proofs.lemmas.List.Elements.{All-map}
-use Rattle.std.proofs.lemmas.Map.Keys.{IsDistinct-push}
-use Rattle.std.proofs.lemmas.Slice.Eq.{bytes_eq-Decides}
 use Rattle.std.proofs.Math.Seq.{drop-cons}
-use Rattle.std.specs.List.{All, AllByRecursion, IsDistinct, list_any, concat}
-use Rattle.std.specs.Cmp.{nat_eq_equiv}
+use Rattle.std.specs.List.{IsDistinct, concat}
 use Rattle.std.specs.Cmp.Lexicographic.{pointwise}
-use Rattle.refrun.proofs.Common.{has, is_subsequence, TookInOrder}
 use Rattle.ref_base.proofs.HasLaws.{has-list_any, has-right, has-cases, has-single, has-append}
-use Rattle.refrun.specs.StressChecks.{GivesEachOnce}
 
 -- what a test says of the fact that it decides
 pub passes : {P : Type 0} {b : Bool} → (IsTrue b ↔ P) → b ≡ true → P

@@ -1,8 +1,8 @@
 -- The listing so far, and the listing of a whole graph text.
-use Rattle.std.proofs.Common.{arith, ◌≡◌, ℕ, ◌+◌, ◌<◌, List, [], ◌∷◌, ◌++◌, length, take, get_or, append_assoc, ◌≤◌}
-use Rattle.std.proofs.lemmas.Bool.{le-leb}
-use Rattle.refrun.proofs.Common.{Graph, DeclareGraph, DeclaresGraph, lines_of, most_bytes, ObjectReach, listing_text}
-use Rattle.std.proofs.lemmas.List.{append-nil, take_more}
+use Rattle.refrun.proofs.Common.{arith, ◌≡◌, ℕ, ◌+◌, ◌<◌, List, [], ◌∷◌, ◌++◌, length, take, get_or, append_assoc, ◌≤◌}
+use Rattle.refrun.proofs.Common.{le-leb, Graph, DeclaresGraph, lines_of, most_bytes, ObjectReach, listing_text}
+use Rattle.refrun.proofs.Common.{append-nil, take_more}
+use Rattle.refrun.specs.GraphTexts.{DeclareGraph}
 use Rattle.refrun.specs.Listings.{listing_line}
 
 listing_push : (ls : List ObjectReach) (l : ObjectReach)

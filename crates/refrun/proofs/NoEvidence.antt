@@ -1,18 +1,13 @@
 -- What a search of a queue's lists has found out where it tells nothing.
-use Rattle.std.proofs.Common.{arith, ◌≡◌, ℕ, ◌+◌, ◌<◌, nat_eq, ◌==◌, refl, sym, ap, subst, ◌∙◌, Bool, true, false, ◌||◌}
-use Rattle.std.proofs.Common.{Option, Some, None, IfNone, inl, inr, List, [], ◌∷◌, ◌++◌, length, get_or, take, drop}
-use Rattle.std.proofs.Common.{map, flat_map, append_assoc, append-nil}
-use Rattle.std.proofs.lemmas.Bool.{true≢false}
+use Rattle.refrun.proofs.Common.{arith, ◌≡◌, ℕ, ◌+◌, ◌<◌, nat_eq, ◌==◌, refl, sym, ap, subst, ◌∙◌, Bool, true, false}
+use Rattle.refrun.proofs.Common.{◌||◌, Option, Some, None, IfNone, inl, inr, List, [], ◌∷◌, ◌++◌, length, get_or, take}
+use Rattle.refrun.proofs.Common.{drop, map, flat_map, append_assoc, append-nil, true≢false, take_more, take-append-drop}
+use Rattle.refrun.proofs.Common.{IsDistinct-push, nat_eq_equiv, AllByRecursion, Contains, list_any, has, GivesEachOnce}
 use Rattle.std.proofs.lemmas.Grind.{flat_map-append}
-use Rattle.std.proofs.lemmas.List.{take_more, take-append-drop}
-use Rattle.std.proofs.lemmas.Map.Keys.{IsDistinct-push}
 use Rattle.std.proofs.lemmas.Map.Views.{list_any-from_Contains}
-use Rattle.std.specs.Cmp.{nat_eq_equiv}
-use Rattle.std.specs.List.{AllByRecursion, Contains, IsDistinct, list_any}
+use Rattle.std.specs.List.{IsDistinct}
 use Rattle.ref_base.proofs.HasLaws.{has-list_any, has-first, has-left, has-right, has-cases, has-single, has-append}
-use Rattle.refrun.proofs.Common.{has}
 use Rattle.refrun.proofs.ListChecks.{one_more, concat-flat_map}
-use Rattle.refrun.specs.StressChecks.{GivesEachOnce}
 
 pub if_none : {T P Q : Type 0} → (P → Q) → (o : Option T) → IfNone o P → IfNone o Q
 if_none so None p = so p

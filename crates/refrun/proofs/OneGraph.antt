@@ -1,8 +1,8 @@
 -- A text declares at most one graph.
-use Rattle.std.proofs.Common.{arith, ◌≡◌, ℕ, List, [], ◌∷◌, Option, Some, None, codes, refl, ap}
-use Rattle.refrun.proofs.Common.{Graph, Strength, Soft, Weak, Phantom, Declared, Root, Plain, Reference, SpellsObject}
-use Rattle.refrun.proofs.Common.{SpellsObjectOrNone, SpellFields, strength_name, SpellsDeclared}
-use Rattle.refrun.proofs.Common.{SpellAll, SpellGraph, DeclaresGraph}
+use Rattle.refrun.proofs.Common.{arith, ◌≡◌, ℕ, List, [], ◌∷◌, Option, Some, None, codes, refl, ap, Graph, Strength}
+use Rattle.refrun.proofs.Common.{Soft, Weak, Phantom, Declared, Root, Plain, Reference, SpellsObject}
+use Rattle.refrun.proofs.Common.{SpellsObjectOrNone, SpellFields, strength_name, SpellsDeclared, SpellAll, SpellGraph}
+use Rattle.refrun.proofs.Common.{DeclaresGraph}
 use Rattle.refrun.proofs.OneReading.{some_is, other_name}
 
 one_object : (word : List ℕ) (n m : ℕ) → SpellsObject word n → SpellsObject word m → n ≡ m

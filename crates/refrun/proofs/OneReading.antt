@@ -1,10 +1,8 @@
 -- A text spells at most one script.
-use Rattle.std.proofs.Common.{arith, ◌≡◌, ℕ, ◌^◌, false, List, [], ◌∷◌, Option, Some, None, refl, sym, ap, ◌∙◌}
-use Rattle.std.specs.Str.{bytes_eq}
-use Rattle.std.proofs.lemmas.Slice.Eq.{bytes_eq-Decides}
-use Rattle.refrun.proofs.Common.{Word, Config, lines_of, number_below, IsSpelt, AreSpelt, SpellsScriptStep, Operand}
-use Rattle.refrun.proofs.Common.{operands_in, forms_of_letter, turn_forms, told, ScriptStep, config_of, SpellSteps}
-use Rattle.refrun.proofs.Common.{SpellScript, IsScript}
+use Rattle.refrun.proofs.Common.{arith, ◌≡◌, ℕ, ◌^◌, false, List, [], ◌∷◌, Option, Some, None, refl, sym, ap, ◌∙◌}
+use Rattle.refrun.proofs.Common.{bytes_eq, bytes_eq-Decides, Word, Config, lines_of, number_below, IsSpelt, AreSpelt}
+use Rattle.refrun.proofs.Common.{SpellsScriptStep, Operand, operands_in, forms_of_letter, turn_forms, told, ScriptStep}
+use Rattle.refrun.proofs.Common.{config_of, SpellSteps, SpellScript, IsScript}
 use Rattle.refrun.proofs.Spelt.{actor_number, no_turn, word_as, says_it}
 use Rattle.refrun.proofs.StepForms.{IsOf, AreOf, Lead, By, Turn, words_behind, forms_of, form_of_step}
 

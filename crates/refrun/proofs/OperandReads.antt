@@ -1,16 +1,16 @@
 -- What was read of the operands of a step.
-use Rattle.std.proofs.Common.{◌≡◌, ℕ, Bool, true, false, not, ◌&&◌, ◌||◌, if◌then◌else◌, nat_lt, List, [], ◌∷◌, length}
-use Rattle.std.proofs.Common.{Option, Some, None, Result, Ok, Err, suc, refl, sym, ap, ◌∙◌, arith}
-use Rattle.std.proofs.lemmas.List.{append-nil}
+use Rattle.refrun.proofs.Common.{◌≡◌, ℕ, Bool, true, false, not, ◌&&◌, ◌||◌, if◌then◌else◌, List, [], ◌∷◌, length}
+use Rattle.refrun.proofs.Common.{Option, Some, None, Ok, Err, suc, refl, sym, ap, ◌∙◌, arith, append-nil, le-ltb}
+use Rattle.refrun.proofs.Common.{lt-ltb, Word, Letters, Numbered, Long, script_step_words, ScriptStep, SpellsScriptStep}
+use Rattle.refrun.proofs.Common.{AreSpelt, number, Operand, Number, LineFault, operands_in, forms_of_letter, all_fit}
+use Rattle.refrun.proofs.Common.{operand_fault, MissingWord, BadWord, ExtraWord}
+use Rattle.std.proofs.Common.{nat_lt, Result}
 use Rattle.std.specs.Prelude.{MatchResult}
-use Rattle.std.proofs.lemmas.Bool.{eq-eqb, le-ltb, lt-ltb}
+use Rattle.std.proofs.lemmas.Bool.{eq-eqb}
 use Rattle.std.proofs.lemmas.Bool.Decides.{nat_tests}
-use Rattle.refrun.proofs.Common.{Word, Letters, Numbered, Long, script_step_words, ScriptStep, SpellsScriptStep}
-use Rattle.refrun.proofs.Common.{AreSpelt, number, Operand, Number, LineFault, operands_in, forms_of_letter}
 use Rattle.refrun.specs.OperandReading.{Reading, unread, taken, all_taken, fault_at_end, IsUnfaulted, IsRead}
 use Rattle.refrun.specs.OperandReading.{IsReadNamed, IsReadBehind}
-use Rattle.refrun.specs.StepFaults.{all_fit, operand_fault, actor_fault}
-use Rattle.refrun.specs.declared.fault.LineFault.TheVariants.{MissingWord, BadWord, ExtraWord}
+use Rattle.refrun.specs.StepFaults.{actor_fault}
 
 pub reads_more : (o : Operand) (operands : List Operand) (a b c : Reading) (v : Word) (words : List Word)
     → IsRead (o ∷ []) a b (v ∷ []) → IsRead operands b c words → IsRead (o ∷ operands) a c (v ∷ words)

@@ -1,5 +1,5 @@
 -- What holds while a text is read.
-use Rattle.std.proofs.Common.{◌≡◌, ℕ, ◌<◌, Bool, List, Option}
+use Rattle.refrun.proofs.Common.{◌≡◌, ℕ, ◌<◌, Bool, List, Option}
 use Rattle.std.specs.Io.KnownBytes.{Consumes}
 
 -- what was read so far was in front, no read has failed since, and there is room for more

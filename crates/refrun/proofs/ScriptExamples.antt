@@ -1,13 +1,15 @@
 -- What the rows of jobs and the checks of a stress run may say at worked states, and what they may not.
-use Rattle.std.proofs.Common.{◌≢◌, ℕ, zero, suc, ◌+◌, ◌<◌, List, [], ◌∷◌, None, Some, get_or, refl, arith, nat_eq}
-use Rattle.std.proofs.Common.{false}
+use Rattle.refrun.proofs.Common.{ℕ, zero, suc, ◌+◌, ◌<◌, List, [], ◌∷◌, None, Some, get_or, refl, arith, nat_eq, false}
+use Rattle.refrun.proofs.Common.{State, StageJobs, first_jobs, RegistersStageJob, TookInOrder, IsFirstFailure}
+use Rattle.std.proofs.Common.{◌≢◌}
 use Rattle.std.specs.List.{IsDistinct}
-use Rattle.refrun.proofs.Common.{IsRow, State, Done, Clear, StageJobs, first_jobs, RegistersStageJob, TookInOrder}
-use Rattle.refrun.proofs.Common.{IsFirstFailure}
-use Rattle.ref_base.specs.declared.step.Step.TheVariants as world
-use Rattle.ref_queue.proofs.TableLemmas.{first_out}
+use Rattle.ref_base.specs.CollectorRows.{IsRow}
+use Rattle.ref_base.specs.declared.reply.Reply.TheVariants.{Done}
+use Rattle.ref_base.specs.declared.plain_step.PlainStep.TheVariants.{Clear}
 use Rattle.refrun.specs.ScriptRuns.{RunsJob}
 use Rattle.refrun.specs.declared.lists.Check.TheVariants.{Order, Rest}
+use Rattle.ref_queue.proofs.TableLemmas.{first_out}
+use Rattle.ref_base.specs.declared.step.Step.TheVariants as world
 use Rattle.refrun.specs.declared.script_step.ScriptReply.TheVariants as replies
 
 -- ---- jobs: 3 and 4, of which 3 is registered for object 2

@@ -1,12 +1,8 @@
 -- How the reading of a script goes on by one line.
-use Rattle.std.proofs.Common.{arith, ◌≡◌, ℕ, ◌+◌, ◌≤◌, true, List, [], ◌∷◌, ◌++◌, length, Some, None, OnSome, IfNone}
-use Rattle.std.proofs.Common.{refl, ◌∙◌, append_assoc}
-use Rattle.std.specs.Borrow.{Bor}
-use Rattle.std.specs.List.{list_all}
-use Rattle.std.proofs.lemmas.List.{append-nil}
-use Rattle.refrun.proofs.Common.{lines_of, words_of, SpellsScriptStep, Place, Steps}
-use Rattle.refrun.proofs.Common.{fault_or, first_fault, SpellSteps, is_plain_line, told, step_fault}
-use Rattle.refrun.proofs.Common.{FailsFor, in_front, fault_from, Finds, TextFault, Told, ScriptStep}
+use Rattle.refrun.proofs.Common.{arith, ◌≡◌, ℕ, ◌+◌, ◌≤◌, true, List, [], ◌∷◌, ◌++◌, length, Some, None, OnSome, IfNone}
+use Rattle.refrun.proofs.Common.{refl, ◌∙◌, append_assoc, Bor, list_all, append-nil, lines_of, words_of}
+use Rattle.refrun.proofs.Common.{SpellsScriptStep, Place, Steps, fault_or, first_fault, SpellSteps, is_plain_line, told}
+use Rattle.refrun.proofs.Common.{step_fault, FailsFor, in_front, fault_from, Finds, TextFault, Told, ScriptStep}
 use Rattle.refrun.proofs.Spelt.{spelt_without_fault}
 
 -- the steps so far, whatever spells what is left

@@ -1,8 +1,6 @@
 -- The seats of a stress run's threads.
-use Rattle.std.proofs.Common.{◌≡◌, List, [], ◌∷◌, ◌++◌, ◌∙◌, sym, subst}
+use Rattle.refrun.proofs.Common.{◌≡◌, List, [], ◌∷◌, ◌++◌, ◌∙◌, sym, subst, All, IsSeatedAt, StaysSeated, Shared, Job}
 use Rattle.std.proofs.lemmas.List.Elements.{All-push}
-use Rattle.std.specs.List.{All}
-use Rattle.refrun.proofs.Common.{IsSeatedAt, StaysSeated, Shared, Job}
 use Rattle.refrun.specs.declared.roles.Station.{Station}
 
 -- one step after the other

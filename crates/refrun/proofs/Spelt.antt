@@ -1,12 +1,12 @@
 -- Words that spell a step have no fault.
-use Rattle.std.proofs.Common.{◌≡◌, ℕ, ◌^◌, true, List, [], ◌∷◌, length, Option, Some, None}
-use Rattle.std.proofs.Common.{is_some, codes, refl, subst, if◌then◌else◌, inl, inr, arith}
-use Rattle.std.proofs.lemmas.Bool.{cases_Bool}
-use Rattle.std.specs.Str.{bytes_eq}
-use Rattle.refrun.proofs.Common.{Word, Letters, Long, slot, queue, number, Normal, Urgent, number_below, number_behind}
-use Rattle.refrun.proofs.Common.{IsSpelt, AreSpelt, SpellsScriptStep, ScriptStep, Operand, Slot, Queue, QueueOrNone}
-use Rattle.refrun.proofs.Common.{Number, Clock, UrgencyName, operands_in, forms_of_letter, turn_forms, step_fault}
-use Rattle.refrun.specs.StepFaults.{fits, all_fit, operand_fault}
+use Rattle.refrun.proofs.Common.{◌≡◌, ℕ, ◌^◌, true, List, [], ◌∷◌, length, Option, Some, None, codes, refl, subst}
+use Rattle.refrun.proofs.Common.{if◌then◌else◌, inl, inr, arith, cases_Bool, bytes_eq, Word, Letters, Long, slot, queue}
+use Rattle.refrun.proofs.Common.{number, Urgent, number_below, number_behind, IsSpelt, AreSpelt, SpellsScriptStep}
+use Rattle.refrun.proofs.Common.{ScriptStep, Operand, Slot, Queue, QueueOrNone, Number, Clock, UrgencyName, operands_in}
+use Rattle.refrun.proofs.Common.{forms_of_letter, turn_forms, step_fault, all_fit, operand_fault}
+use Rattle.std.proofs.Common.{is_some}
+use Rattle.ref_base.specs.declared.urgency.Urgency.TheVariants.{Normal}
+use Rattle.refrun.specs.StepFaults.{fits}
 use Rattle.refrun.proofs.StepForms.{IsOf, AreOf, Lead, By, Turn, words_behind, forms_of, form_of_step}
 
 -- the number of an actor stands behind its letter

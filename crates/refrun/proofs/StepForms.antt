@@ -1,13 +1,18 @@
 -- Each step has a form of the table: an actor or none, a name, and operands behind it.
-use Rattle.std.proofs.Common.{◌≡◌, ℕ, List, [], ◌∷◌, Option, Some, codes, refl, rules}
-use Rattle.refrun.proofs.Common.{Word, Letters, Numbered, Long, slot, queue, queue_or_none, number, step_words}
-use Rattle.refrun.proofs.Common.{strength_name, urgency_name, Mutator, Worker, Strength, Soft, Weak, Phantom, Urgency}
-use Rattle.refrun.proofs.Common.{Step, New, Refer, Store, Load, Put, Release, Begin, EndMark, EndClear, EndSweep}
-use Rattle.refrun.proofs.Common.{script_step_words, ScriptStep, Operand, Slot, Queue, QueueOrNone, Number, Clock}
-use Rattle.refrun.proofs.Common.{UrgencyName, operands_in, forms_of_letter, turn_forms}
+use Rattle.refrun.proofs.Common.{◌≡◌, ℕ, List, [], ◌∷◌, Option, Some, codes, refl, rules, Word, Letters, Numbered, Long}
+use Rattle.refrun.proofs.Common.{slot, queue, number, strength_name, Worker, Strength, Soft, Weak, Phantom, New, Refer}
+use Rattle.refrun.proofs.Common.{Put, Begin, script_step_words, ScriptStep, Operand, Slot, Queue, QueueOrNone, Number}
+use Rattle.refrun.proofs.Common.{Clock, UrgencyName, operands_in, forms_of_letter, turn_forms}
+use Rattle.ref_base.specs.Texts.{queue_or_none}
+use Rattle.ref_base.specs.Steps.{step_words, urgency_name}
+use Rattle.ref_base.specs.declared.actor.Actor.TheVariants.{Mutator}
+use Rattle.ref_base.specs.declared.urgency.Urgency.{Urgency}
+use Rattle.ref_base.specs.declared.step.Step.{Step}
+use Rattle.ref_base.specs.declared.plain_step.PlainStep.TheVariants.{Store, Load, EndMark, EndClear, EndSweep}
+use Rattle.ref_base.specs.declared.step.Step.TheVariants.{Release}
+use Rattle.refrun.specs.StepForms.{Form}
 use Rattle.ref_base.specs.declared.step.Step.TheVariants as steps
 use Rattle.refrun.specs.declared.script_step.ScriptStep.TheVariants as scripts
-use Rattle.refrun.specs.StepForms.{Form}
 
 -- the word is one of the operand
 abbrev pub IsOf : Operand → Word → Type 0

@@ -1,16 +1,17 @@
 -- The text of a trace so far, and the trace that a script's text prints.
-use Rattle.std.proofs.Common.{◌≡◌, ℕ, ◌+◌, ◌<◌, ◌≤◌, List, [], ◌∷◌, ◌++◌, length, take, get_or, Option, Some, None}
-use Rattle.std.proofs.Common.{codes, decimal, refl, sym, ap, subst, ◌∙◌, append_assoc, arith}
-use Rattle.std.proofs.lemmas.List.{length-map, length-take-le, take_more, map-append}
-use Rattle.std.proofs.lemmas.Bool.{le-leb}
+use Rattle.refrun.proofs.Common.{◌≡◌, ℕ, ◌+◌, ◌<◌, ◌≤◌, List, [], ◌∷◌, ◌++◌, length, take, get_or, Option, Some, None}
+use Rattle.refrun.proofs.Common.{codes, refl, sym, ap, subst, ◌∙◌, append_assoc, arith, length-map, take_more, le-leb}
 use Rattle.refrun.proofs.Common.{State, first_state, Config, Fault, Core, Stands, StageJobs, first_jobs, IsScriptRun}
-use Rattle.refrun.proofs.Common.{IsScriptRowOf, IsScript, AreScript, lines_of, most_bytes, trace_text, PrintsTrace}
-use Rattle.refrun.proofs.Common.{TellsRun, ScriptReply, ScriptRow, ScriptStep}
+use Rattle.refrun.proofs.Common.{IsScriptRowOf, IsScript, lines_of, most_bytes, trace_text, TellsRun, ScriptReply}
+use Rattle.refrun.proofs.Common.{ScriptRow, ScriptStep}
+use Rattle.std.proofs.Common.{decimal}
+use Rattle.std.proofs.lemmas.List.{length-take-le, map-append}
+use Rattle.refrun.specs.Scripts.{AreScript}
+use Rattle.refrun.specs.Traces.{PrintsTrace, numbered, script_steps_of, TellsTrace}
 use Rattle.ref_base.specs.CollectorRows.{IsRun}
 use Rattle.ref_base.specs.declared.row.Row.{Row}
 use Rattle.refrun.specs.ScriptRuns.{world_row, world_rows, RunsIn, IsScriptRow}
 use Rattle.refrun.specs.ScriptSteps.{script_row_text}
-use Rattle.refrun.specs.Traces.{numbered, script_steps_of, TellsTrace}
 use Rattle.refrun.specs.declared.script_step.ScriptReply.TheVariants as replies
 use Rattle.refrun.specs.declared.script_step.ScriptStep.TheVariants as scripts
 

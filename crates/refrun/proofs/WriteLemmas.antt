@@ -1,10 +1,8 @@
 -- A text that goes out in several writes.
-use Rattle.std.proofs.Common.{arith, ◌≡◌, ℕ, List, [], ◌++◌, length, take, drop, Option, Some, None, ap, ◌∙◌}
-use Rattle.std.proofs.Common.{append_assoc}
-use Rattle.std.specs.Io.KnownBytes.{Keeps, Appends}
-use Rattle.std.proofs.lemmas.List.{append-nil, take-append-drop}
-use Rattle.std.proofs.Math.Seq.{take-append_seam}
-use Rattle.refrun.proofs.Common.{AppendsPrefix}
+use Rattle.refrun.proofs.Common.{arith, ◌≡◌, ℕ, List, [], ◌++◌, length, take, drop, Option, Some, None, ap, ◌∙◌}
+use Rattle.refrun.proofs.Common.{append_assoc, Keeps, append-nil, take-append-drop, take-append_seam}
+use Rattle.std.specs.Io.KnownBytes.{Appends}
+use Rattle.refrun.specs.Streams.{AppendsPrefix}
 
 pub appends_then : (a b c : Option (List ℕ)) (x y : List ℕ) → Appends a b x → Appends b c y → Appends a c (x ++ y)
 appends_then None b c x y h k = tt

@@ -103,8 +103,8 @@ impl<A: Allocator + Copy> Marker<A> {
         self.objects.free(no)
     }
 
-    /// Clearing ends: what isn't marked is condemned, as `Objects::condemn` does. The layer above has looked at all that
-    /// was found, and nothing that is marked, no slot and no hold refers to what isn't. In time of the cells.
+    /// Clearing ends: what isn't marked is condemned, as `Objects::condemn` does. The layer above has looked at all
+    /// that was found, and nothing that is marked, no slot and no hold refers to what isn't. In time of the cells.
     pub fn to_sweeping(&mut self)
         requires found { is_empty (joined self.old.found) ≡ true }
         requires closed { IsClosed self.old.heap (has self.old.marked) }

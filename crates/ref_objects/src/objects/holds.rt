@@ -66,26 +66,33 @@ impl<A: Allocator + Copy> Objects<A> {
         ensures answer { IfOk result (λ hold. IsHoldOf self.old (Some no) hold) }
         ensures after { self.new ≡ after_minting self.old result }
     {
-        if !self.is_spared(no) {
+        if self.holds == u64::MAX {
+            let is_there = self.is_spared(no);
+            return Err(if is_there {
+                Fault::NumbersSpent
+            } else {
+                Fault::NoSuchObject
+            });
+        }
+        if !self.add_hold(no) {
             return Err(Fault::NoSuchObject);
         }
-        if self.holds == u64::MAX {
-            return Err(Fault::NumbersSpent);
-        }
-        self.add_hold(no);
         Ok(Hold::new(self.heap_no, no))
     }
 
-    // One more hold of the object of this number.
-    fn add_hold(&mut self, no: ObjNo)
-        requires few { length self.old.heap.holds < 2 ^ 64 - 1 }
-        requires spared { is_spared self.old no ≡ true }
-        ensures { self.new ≡ ground_with_heap self.old (with_hold self.old.heap no) }
+    // One more hold of the object of this number. False where there is none, or it is condemned: then nothing changes.
+    // By one search.
+    fn add_hold(&mut self, no: ObjNo) -> bool
+        requires { length self.old.heap.holds < 2 ^ 64 - 1 }
+        ensures spared { result ≡ is_spared self.old no }
+        ensures after { self.new ≡ (if is_spared self.old no
+            then ground_with_heap self.old (with_hold self.old.heap no) else self.old) }
     {
         // Gives the proof that the numbers rise.
         let _count = self.table.len();
-        self.table.add_hold(no);
-        self.holds += 1;
+        let is_held = self.table.add_hold(no, self.condemning);
+        self.holds += u64::from(is_held);
+        is_held
     }
 
     // One hold fewer of the object of this number. False where nobody holds it: then nothing changes.

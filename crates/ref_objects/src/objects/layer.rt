@@ -17,8 +17,8 @@ use ref_base::{Fault, MutNo, ObjNo, SlotNo};
 use std::alloc::Allocator;
 
 impl<A: Allocator + Copy> Objects<A> {
-    /// Writes a slot: null where the object isn't there, or is condemned. The one error is `NoSuchActor`. In logarithmic
-    /// time.
+    /// Writes a slot: null where the object isn't there, or is condemned. The one error is `NoSuchActor`. In
+    /// logarithmic time.
     pub fn set_slot(
         &mut self,
         mutator: MutNo,
@@ -88,9 +88,9 @@ impl<A: Allocator + Copy> Objects<A> {
         self.write(no, Change::Link(to));
     }
 
-    /// Condemns what isn't marked: from now on it reads as referring to nothing, nothing can come to name it, and it may
-    /// be freed. What is made from now on is marked from the start. Nothing that is marked refers to what isn't, and no
-    /// slot or hold names it. In time of the cells.
+    /// Condemns what isn't marked: from now on it reads as referring to nothing, nothing can come to name it, and it
+    /// may be freed. What is made from now on is marked from the start. Nothing that is marked refers to what isn't,
+    /// and no slot or hold names it. In time of the cells.
     pub fn condemn(&mut self)
         requires { IsClosed self.old.heap (has self.old.marked) }
         ensures { self.new ≡ with_condemned self.old }

@@ -8,7 +8,7 @@ ghost use Rattle.ref_base.specs.CollectorRows.{referent_of};
 ghost use Rattle.ref_base.specs.Refusals.{drop_refusal};
 ghost use Rattle.ref_objects.specs.Grounds.{IsRefused, fields_in, kind_in, stamp_in, least_from, IsWellFormed};
 ghost use Rattle.ref_objects.specs.Grounds.{cleared_in_at, link_at, linked_in};
-ghost use Rattle.ref_objects.specs.GroundViews.{IsSparedIfAny};
+ghost use Rattle.ref_objects.specs.Grounds.{IsSparedIfAny};
 
 use super::Objects;
 use crate::fields::Fields;

@@ -8,7 +8,7 @@ ghost use Rattle.ref_base.specs.Paths.{is_soft};
 ghost use Rattle.ref_base.specs.Refusals.{clear_refusal, get_refusal};
 ghost use Rattle.ref_objects.specs.Grounds.{IsRefused, if_done, ground_with_heap, is_unmarked, read_as, cut_but};
 ghost use Rattle.ref_objects.specs.Grounds.{renewed, is_spared};
-ghost use Rattle.ref_objects.specs.GroundViews.{IsSparedIfAny};
+ghost use Rattle.ref_objects.specs.Grounds.{IsSparedIfAny};
 
 use super::Objects;
 use crate::reference::Reference;
@@ -16,8 +16,8 @@ use ref_base::{Fault, MutNo, ObjNo, SlotNo, Strength};
 use std::alloc::Allocator;
 
 impl<A: Allocator + Copy> Objects<A> {
-    /// The reference that a slot holds, and its number. Neither it nor its referent is condemned. Tried in this order: `NoSuchActor`, `EmptySlot`,
-    /// `NotAReference`. In logarithmic time.
+    /// The reference that a slot holds, and its number. Neither it nor its referent is condemned. Tried in this order:
+    /// `NoSuchActor`, `EmptySlot`, `NotAReference`. In logarithmic time.
     pub fn reference_in(&self, mutator: MutNo, slot: SlotNo) -> Result<(ObjNo, Reference), Fault>
         ensures refused { IsRefused (clear_refusal self.now.heap mutator slot) result }
         ensures answer { IfOk result

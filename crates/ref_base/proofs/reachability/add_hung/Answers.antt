@@ -1,6 +1,5 @@
-use Rattle.std.proofs.Common.{◌+◌, ◌++◌, ap, sym, ◌∙◌, arith, drop}
-use Rattle.std.proofs.lemmas.List.{at_drop_more}
-use Rattle.ref_base.proofs.Common.{added_all, object_at, phantom_referents}
+use Rattle.ref_base.proofs.Common.{◌+◌, ◌++◌, ap, sym, ◌∙◌, arith, drop, at_drop_more, added_all, object_at}
+use Rattle.ref_base.proofs.Common.{phantom_referents}
 use Rattle.ref_base.specs.Searches.{phantom_referent_at}
 use Rattle.ref_base.proofs.SearchLaws.{added_all-append}
 use Rattle.ref_base.proofs.reachability.add_hung.Goals as goal

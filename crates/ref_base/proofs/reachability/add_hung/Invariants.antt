@@ -1,5 +1,4 @@
-use Rattle.std.proofs.Common.{◌≡◌, drop}
-use Rattle.ref_base.proofs.Common.{added_all, phantom_referents}
+use Rattle.ref_base.proofs.Common.{◌≡◌, drop, added_all, phantom_referents}
 use Rattle.ref_base.proofs.reachability.add_hung.Given as goal
 
 -- adding what hangs on the objects that are left ends as adding what hangs on any of them does

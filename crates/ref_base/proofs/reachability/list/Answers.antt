@@ -1,4 +1,4 @@
-use Rattle.std.proofs.Common.{arith}
+use Rattle.ref_base.proofs.Common.{arith}
 use Rattle.ref_base.proofs.StrengthLaws.{AreStrengths_from}
 use Rattle.ref_base.proofs.reachability.list.Goals as goal
 

@@ -1,4 +1,4 @@
-use Rattle.std.proofs.Common.{arith}
+use Rattle.ref_base.proofs.Common.{arith}
 use Rattle.ref_base.proofs.StrengthLaws.{AreFound-reach}
 use Rattle.ref_base.proofs.reachability.strength_of.Goals as goal
 

@@ -1,4 +1,4 @@
-use Rattle.std.proofs.Common.{arith}
+use Rattle.ref_base.proofs.Common.{arith}
 use Rattle.ref_base.proofs.HasLaws.{has-list_any}
 use Rattle.ref_base.proofs.search.add.Goals as goal
 

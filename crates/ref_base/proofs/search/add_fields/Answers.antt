@@ -1,5 +1,4 @@
-use Rattle.std.proofs.Common.{arith}
-use Rattle.std.proofs.lemmas.Grind.{common_steps}
+use Rattle.ref_base.proofs.Common.{arith, common_steps}
 use Rattle.ref_base.proofs.search.add_fields.Goals as goal
 
 pub loop-field-preserved : goal.loop-field-preserved

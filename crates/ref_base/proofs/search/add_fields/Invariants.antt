@@ -1,5 +1,4 @@
-use Rattle.std.proofs.Common.{◌≡◌, drop}
-use Rattle.ref_base.proofs.Common.{present, added_all}
+use Rattle.ref_base.proofs.Common.{◌≡◌, drop, present, added_all}
 use Rattle.ref_base.proofs.search.add_fields.Given as goal
 
 -- adding what is left of the fields ends as adding all of them does

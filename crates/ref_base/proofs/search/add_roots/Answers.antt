@@ -1,6 +1,4 @@
-use Rattle.std.proofs.Common.{◌+◌, ◌∷◌, ap, sym, ◌∙◌, arith, drop}
-use Rattle.std.proofs.lemmas.List.{at_drop_more}
-use Rattle.ref_base.proofs.Common.{added_all}
+use Rattle.ref_base.proofs.Common.{◌+◌, ◌∷◌, ap, sym, ◌∙◌, arith, drop, at_drop_more, added_all}
 use Rattle.ref_base.proofs.search.add_roots.Goals as goal
 
 pub loop-root-preserved : goal.loop-root-preserved

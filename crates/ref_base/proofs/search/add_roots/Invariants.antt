@@ -1,5 +1,4 @@
-use Rattle.std.proofs.Common.{◌≡◌, drop}
-use Rattle.ref_base.proofs.Common.{added_all}
+use Rattle.ref_base.proofs.Common.{◌≡◌, drop, added_all}
 use Rattle.ref_base.proofs.search.add_roots.Given as goal
 
 -- adding what is left of the roots ends as adding all of them does

@@ -1,5 +1,4 @@
-use Rattle.std.proofs.Common.{◌≡◌, ◌<◌, ◌≤◌, length, get_or, arith, refl}
-use Rattle.ref_base.proofs.Common.{targets_at, allowed, added_all}
+use Rattle.ref_base.proofs.Common.{◌≡◌, ◌<◌, ◌≤◌, length, get_or, arith, refl, targets_at, allowed, added_all}
 use Rattle.ref_base.proofs.SearchLaws.{added_all-take, referent_alone, searched_more, searched_all, work_left-less}
 use Rattle.ref_base.proofs.HasLaws.{get_or-number}
 use Rattle.ref_base.proofs.search.go_on.Goals.{then-next-closed+in_ok-add_referent, else-next-closed+in_ok-add_targets}

@@ -1,5 +1,4 @@
-use Rattle.std.proofs.Common.{◌≡◌, ◌-◌, length, take}
-use Rattle.ref_base.proofs.Common.{allowed, IsSearched}
+use Rattle.ref_base.proofs.Common.{◌≡◌, ◌-◌, length, take, allowed, IsSearched}
 use Rattle.ref_base.proofs.SearchLaws.{work_left}
 use Rattle.ref_base.proofs.search.go_on.Given as goal
 

@@ -1,5 +1,4 @@
-use Rattle.std.proofs.Common.{arith}
-use Rattle.std.proofs.lemmas.Grind.{common_steps}
+use Rattle.ref_base.proofs.Common.{arith, common_steps}
 use Rattle.ref_base.proofs.words.+say.Goals as goal
 
 pub returns-in_ok-write-in-len1-up : goal.returns-in_ok-write-in-len1-up

@@ -1,4 +1,4 @@
-use Rattle.std.proofs.Common.{length}
+use Rattle.ref_base.proofs.Common.{length}
 use Rattle.ref_base.proofs.words.+say.Given as goal
 
 abbrev pub decreases-say : goal.decreases-say

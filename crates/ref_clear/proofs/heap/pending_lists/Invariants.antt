@@ -1,6 +1,6 @@
-use Rattle.std.proofs.Common.{◌≡◌, replicate, vec_len}
+use Rattle.ref_clear.proofs.Common.{◌≡◌, replicate, no_chain}
+use Rattle.std.proofs.Common.{vec_len}
 use Rattle.std.specs.Vec.{vec_capacity}
-use Rattle.ref_clear.proofs.Common.{no_chain}
 use Rattle.ref_clear.proofs.heap.pending_lists.Given as goal
 
 -- the lists so far are empty, and there is room for the others

@@ -1,5 +1,4 @@
-use Rattle.std.proofs.Common.{arith}
-use Rattle.std.proofs.lemmas.List.{get_or_read}
+use Rattle.ref_objects.proofs.Common.{arith, get_or_read}
 use Rattle.ref_objects.proofs.PlaceLemmas.{tabled_at-place, IsPlaceOf-lent}
 use Rattle.ref_objects.proofs.index.cell_of.Goals as goal
 

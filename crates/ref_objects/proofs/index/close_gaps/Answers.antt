@@ -1,6 +1,5 @@
-use Rattle.std.proofs.Common.{rules}
+use Rattle.ref_objects.proofs.Common.{rules, is_live}
 use Rattle.std.proofs.lemmas.Fn.{filter_same}
-use Rattle.ref_objects.proofs.Common.{is_live}
 use Rattle.ref_objects.proofs.index.close_gaps.Goals as goal
 
 pub returns-clause-entries : goal.returns-clause-entries

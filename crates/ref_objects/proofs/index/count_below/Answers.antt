@@ -1,5 +1,4 @@
-use Rattle.std.proofs.Common.{arith}
-use Rattle.std.proofs.Common.{nat_lt, rules}
+use Rattle.ref_objects.proofs.Common.{arith, nat_lt, rules}
 use Rattle.std.proofs.lemmas.List.Sorted.{IsPartitionPoint-from_clause}
 use Rattle.ref_objects.proofs.IndexLemmas.{partitioned, count_below-point, count_below-at}
 use Rattle.ref_objects.proofs.index.count_below.Goals as goal

@@ -1,5 +1,4 @@
-use Rattle.std.proofs.Common.{◌≡◌, drop}
-use Rattle.ref_objects.specs.Places.{first_entry, is_live}
+use Rattle.ref_objects.proofs.Common.{◌≡◌, drop, first_entry, is_live}
 use Rattle.ref_objects.proofs.index.first_live.Given as goal
 
 -- what is left has the same first as all of them

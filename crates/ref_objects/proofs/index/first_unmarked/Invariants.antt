@@ -1,5 +1,5 @@
-use Rattle.std.proofs.Common.{◌≡◌, drop}
-use Rattle.ref_objects.specs.Places.{first_entry, is_unmarked_entry}
+use Rattle.ref_objects.proofs.Common.{◌≡◌, drop, first_entry}
+use Rattle.ref_objects.specs.Places.{is_unmarked_entry}
 use Rattle.ref_objects.proofs.index.first_unmarked.Given as goal
 
 -- what is left has the same first as all of them

@@ -1,4 +1,4 @@
-use Rattle.std.proofs.Common.{arith}
+use Rattle.ref_objects.proofs.Common.{arith}
 use Rattle.ref_objects.proofs.FirstLemmas.{found_first}
 use Rattle.ref_objects.proofs.index.held_from.Goals as goal
 

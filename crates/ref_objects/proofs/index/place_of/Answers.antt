@@ -1,4 +1,4 @@
-use Rattle.std.proofs.Common.{arith}
+use Rattle.ref_objects.proofs.Common.{arith}
 use Rattle.ref_objects.proofs.PlaceLemmas.{place_found, place_gap, place_other, place_past}
 use Rattle.ref_objects.proofs.index.place_of.Goals as goal
 

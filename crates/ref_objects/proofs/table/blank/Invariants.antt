@@ -1,5 +1,4 @@
-use Rattle.std.proofs.Common.{◌≡◌, ◌++◌, map, take, drop}
-use Rattle.ref_objects.proofs.Common.{blanked_cell}
+use Rattle.ref_objects.proofs.Common.{◌≡◌, ◌++◌, map, take, drop, blanked_cell}
 use Rattle.ref_objects.proofs.table.blank.Given as goal
 
 -- the cells so far are blanked, the others as they were

@@ -1,5 +1,4 @@
-use Rattle.std.proofs.Common.{◌≡◌, replicate, None, vec_len}
-use Rattle.std.specs.Vec.{vec_capacity}
+use Rattle.ref_objects.proofs.Common.{◌≡◌, replicate, None, vec_len, vec_capacity}
 use Rattle.ref_objects.proofs.table.free_cells.Given as goal
 
 abbrev pub invariant-loop-place : goal.invariant-loop-place

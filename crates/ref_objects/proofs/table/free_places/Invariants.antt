@@ -1,6 +1,4 @@
-use Rattle.std.proofs.Common.{◌≡◌, vec_len}
-use Rattle.std.specs.Vec.{vec_capacity}
-use Rattle.ref_objects.proofs.Common.{places_below}
+use Rattle.ref_objects.proofs.Common.{◌≡◌, vec_len, vec_capacity, places_below}
 use Rattle.ref_objects.proofs.table.free_places.Given as goal
 
 abbrev pub invariant-loop-given : goal.invariant-loop-given

@@ -1,6 +1,4 @@
-use Rattle.std.proofs.Common.{◌∙◌, ap, sym, slice_set, arith}
-use Rattle.std.proofs.lemmas.List.Edits.{map_over_more}
-use Rattle.ref_objects.proofs.Common.{unmarked_cell}
+use Rattle.ref_objects.proofs.Common.{◌∙◌, ap, sym, slice_set, arith, map_over_more, unmarked_cell}
 use Rattle.ref_objects.proofs.table.unmark.Goals as goal
 
 pub loop-cell-preserved : goal.loop-cell-preserved

@@ -1,5 +1,4 @@
-use Rattle.std.proofs.Common.{◌≡◌, ◌++◌, map, take, drop}
-use Rattle.ref_objects.proofs.Common.{unmarked_cell}
+use Rattle.ref_objects.proofs.Common.{◌≡◌, ◌++◌, map, take, drop, unmarked_cell}
 use Rattle.ref_objects.proofs.table.unmark.Given as goal
 
 -- the cells so far are unmarked, the others as they were

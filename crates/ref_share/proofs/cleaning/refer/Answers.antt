@@ -1,5 +1,5 @@
-use Rattle.ref_share.proofs.CleanCalls.{made_or_not}
 use Rattle.ref_share.proofs.Common.{heap_view}
+use Rattle.ref_share.proofs.CleanCalls.{made_or_not}
 use Rattle.ref_share.proofs.cleaning.refer.Goals as goal
 
 pub returns : goal.returns

@@ -1,4 +1,4 @@
-use Rattle.std.proofs.Common.{arith}
+use Rattle.ref_share.proofs.Common.{arith}
 use Rattle.ref_share.proofs.CleanCalls.{tries_of_ask}
 use Rattle.ref_share.proofs.cleaning.retire.Goals as goal
 

@@ -1,9 +1,6 @@
-use Rattle.std.proofs.Common.{subst}
-use Rattle.std.proofs.lemmas.Bool.{false≢true}
-use Rattle.std.specs.Option.{IsSome}
-use Rattle.ref_share.proofs.Common.{heap_view}
-use Rattle.ref_share.proofs.cycles.end_phase.Goals as goal
+use Rattle.ref_share.proofs.Common.{subst, false≢true, IsSome, heap_view}
 use Rattle.ref_share.proofs.cycles.end_phase.Goals.{in-None, in-Some+in_ok-perform+then-eq+in-Ok}
+use Rattle.ref_share.proofs.cycles.end_phase.Goals as goal
 
 pub returns-clause-ends : goal.returns-clause-ends
 returns-clause-ends g c =

@@ -1,10 +1,7 @@
-use Rattle.std.proofs.Common.{Ok, subst}
-use Rattle.std.proofs.lemmas.Bool.{false≢true}
-use Rattle.std.specs.Option.{IsSome}
+use Rattle.ref_share.proofs.Common.{Ok, subst, false≢true, IsSome, heap_view, Delivers}
 use Rattle.ref_base.specs.declared.heap_step.HeapStep.TheVariants.{Hand}
-use Rattle.ref_share.proofs.Common.{heap_view, Delivers}
-use Rattle.ref_share.proofs.delivery.deliver_all.Goals as goal
 use Rattle.ref_share.proofs.delivery.deliver_all.Goals.{in-None, in-Some+in-Ok-Nothing}
+use Rattle.ref_share.proofs.delivery.deliver_all.Goals as goal
 
 pub returns-clause-seats : goal.returns-clause-seats
 returns-clause-seats g c =

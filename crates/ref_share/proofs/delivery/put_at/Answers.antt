@@ -1,6 +1,4 @@
-use Rattle.std.proofs.Common.{arith, Some, ap, sym, ◌∙◌}
-use Rattle.std.proofs.lemmas.Option.{slice_get-get_or}
-use Rattle.std.specs.Prelude.{slice_index_or}
+use Rattle.ref_share.proofs.Common.{arith, Some, ap, sym, ◌∙◌, slice_get-get_or, slice_index_or}
 use Rattle.ref_share.proofs.Places.{still_seats, put_at_place}
 use Rattle.ref_share.proofs.delivery.put_at.Goals as goal
 

@@ -1,4 +1,4 @@
-use Rattle.std.proofs.Common.{length}
+use Rattle.ref_share.proofs.Common.{length}
 use Rattle.ref_share.proofs.endings.run_jobs_left.Given as goal
 
 -- how many jobs are left

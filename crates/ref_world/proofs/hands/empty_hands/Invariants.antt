@@ -1,5 +1,5 @@
-use Rattle.std.proofs.Common.{◌≡◌, [], replicate, vec_len}
-use Rattle.std.specs.Vec.{vec_capacity}
+use Rattle.ref_world.proofs.Common.{◌≡◌, [], vec_len, vec_capacity}
+use Rattle.std.proofs.Common.{replicate}
 use Rattle.ref_world.proofs.hands.empty_hands.Given as goal
 
 -- the hands so far are empty, and there is room for the others

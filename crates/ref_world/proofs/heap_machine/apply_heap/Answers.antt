@@ -1,5 +1,4 @@
-use Rattle.std.proofs.Common.{sym, subst}
-use Rattle.ref_world.proofs.Common.{IsHeapRow, Reply, WorldHeap, HeapStands, heap_no_of}
+use Rattle.ref_world.proofs.Common.{sym, subst, IsHeapRow, Reply, WorldHeap, HeapStands}
 use Rattle.ref_clear.proofs.HeapLaws.{each_step}
 use Rattle.ref_world.proofs.heap_machine.apply_heap.Goals as goal
 

@@ -1,4 +1,4 @@
-use Rattle.std.proofs.Common.{arith}
+use Rattle.ref_world.proofs.Common.{arith}
 use Rattle.ref_world.proofs.HeapSteps.{comparison_changes_nothing}
 use Rattle.ref_world.proofs.heap_machine.plain_call.Goals as goal
 

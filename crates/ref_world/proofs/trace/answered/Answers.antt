@@ -1,4 +1,4 @@
-use Rattle.std.proofs.Common.{refl, arith}
+use Rattle.ref_world.proofs.Common.{refl, arith}
 use Rattle.ref_world.proofs.RunLemmas.{step_taken, runs_more}
 use Rattle.ref_world.proofs.trace.answered.Goals as goal
 

@@ -1,6 +1,5 @@
-use Rattle.std.proofs.Common.{◌≡◌, ◌≤◌, take, vec_len}
-use Rattle.std.specs.Vec.{vec_capacity}
-use Rattle.ref_world.proofs.Common.{RunsFrom, steps_of}
+use Rattle.ref_world.proofs.Common.{◌≡◌, take, vec_len, vec_capacity, RunsFrom, steps_of}
+use Rattle.std.proofs.Common.{◌≤◌}
 use Rattle.ref_world.proofs.trace.answered.Given as goal
 
 -- the steps so far have their rows, which are a run, and there is room for the others

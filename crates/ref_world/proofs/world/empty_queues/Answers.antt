@@ -1,5 +1,4 @@
-use Rattle.std.proofs.Common.{◌∙◌, ap, arith}
-use Rattle.ref_world.proofs.Common.{new_queues}
+use Rattle.ref_world.proofs.Common.{◌∙◌, ap, arith, new_queues}
 use Rattle.ref_world.proofs.FirstCores.{new_queues_more}
 use Rattle.ref_world.proofs.world.empty_queues.Goals as goal
 

@@ -1,6 +1,4 @@
-use Rattle.std.proofs.Common.{◌≡◌, vec_len}
-use Rattle.std.specs.Vec.{vec_capacity}
-use Rattle.ref_world.proofs.Common.{new_queues}
+use Rattle.ref_world.proofs.Common.{◌≡◌, vec_len, vec_capacity, new_queues}
 use Rattle.ref_world.proofs.world.empty_queues.Given as goal
 
 -- the queues so far are new, and there is room for the others

@@ -1,4 +1,4 @@
-use Rattle.std.proofs.Common.{length}
+use Rattle.ref_world.proofs.Common.{length}
 use Rattle.ref_world.proofs.world.end_queue.Given as goal
 
 abbrev pub invariant-loop-notice : goal.invariant-loop-notice

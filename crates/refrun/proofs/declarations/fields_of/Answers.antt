@@ -1,6 +1,4 @@
-use Rattle.std.proofs.Common.{arith}
-use Rattle.std.proofs.lemmas.Result.{err_from_is_err_and}
-use Rattle.refrun.proofs.Common.{words_of}
+use Rattle.refrun.proofs.Common.{arith, err_from_is_err_and, words_of}
 use Rattle.refrun.proofs.Fields.{has_bad_field, has_field_more, reads_fields}
 use Rattle.refrun.proofs.declarations.fields_of.Goals.{else-loop-rest-test, then-loop-rest-test+in_default}
 use Rattle.refrun.proofs.declarations.fields_of.Goals as goal

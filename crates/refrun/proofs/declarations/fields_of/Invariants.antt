@@ -1,5 +1,4 @@
-use Rattle.std.proofs.Common.{◌-◌, vec_len}
-use Rattle.refrun.proofs.Common.{words_of}
+use Rattle.refrun.proofs.Common.{◌-◌, vec_len, words_of}
 use Rattle.refrun.proofs.Fields.{HasFields}
 use Rattle.refrun.proofs.declarations.fields_of.Given as goal
 

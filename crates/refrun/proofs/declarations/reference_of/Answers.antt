@@ -1,6 +1,4 @@
-use Rattle.std.proofs.Common.{arith, ◌∷◌, []}
-use Rattle.std.proofs.lemmas.Result.{err_from_is_err_and}
-use Rattle.refrun.proofs.Common.{words_of}
+use Rattle.refrun.proofs.Common.{arith, ◌∷◌, [], err_from_is_err_and, words_of}
 use Rattle.refrun.proofs.Fields.{object_fits, object_or_none_fits, all_fields, extra_words}
 use Rattle.refrun.proofs.declarations.reference_of.Goals as goal
 

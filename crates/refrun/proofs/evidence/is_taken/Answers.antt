@@ -1,4 +1,4 @@
-use Rattle.std.proofs.Common.{arith}
+use Rattle.refrun.proofs.Common.{arith}
 use Rattle.refrun.proofs.NoEvidence.{has-any, is_given, next_list_lacks}
 use Rattle.refrun.proofs.evidence.is_taken.Goals as goal
 

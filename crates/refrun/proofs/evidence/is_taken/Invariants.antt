@@ -1,5 +1,4 @@
-use Rattle.std.proofs.Common.{◌≡◌, false, take, flat_map}
-use Rattle.refrun.proofs.Common.{has}
+use Rattle.refrun.proofs.Common.{◌≡◌, false, take, flat_map, has}
 use Rattle.refrun.proofs.evidence.is_taken.Given as goal
 
 abbrev pub invariant-loop-poller : goal.invariant-loop-poller

@@ -1,4 +1,4 @@
-use Rattle.std.proofs.Common.{◌≡◌, take}
+use Rattle.refrun.proofs.Common.{◌≡◌, take}
 use Rattle.refrun.proofs.evidence.left_over.Given as goal
 
 abbrev pub invariant-loop-place : goal.invariant-loop-place

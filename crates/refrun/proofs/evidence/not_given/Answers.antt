@@ -1,8 +1,5 @@
-use Rattle.std.proofs.Common.{◌≡◌, true, length, refl, subst, arith}
-use Rattle.refrun.proofs.Common.{has}
+use Rattle.refrun.proofs.Common.{◌≡◌, true, length, refl, subst, arith, has, slice_get_read, Contains}
 use Rattle.refrun.proofs.NoEvidence.{next_list_of_all}
-use Rattle.std.proofs.lemmas.Option.{slice_get_read}
-use Rattle.std.specs.List.{Contains}
 use Rattle.refrun.proofs.evidence.not_given.Goals as goal
 
 pub returns-in-Some-clause-shows : goal.returns-in-Some-clause-shows

@@ -1,5 +1,4 @@
-use Rattle.std.proofs.Common.{◌≡◌, ℕ, true, take, flat_map}
-use Rattle.refrun.proofs.Common.{has}
+use Rattle.refrun.proofs.Common.{◌≡◌, ℕ, true, take, flat_map, has}
 use Rattle.refrun.proofs.evidence.not_given.Given as goal
 
 abbrev pub invariant-loop-poller : goal.invariant-loop-poller

@@ -1,8 +1,6 @@
-use Rattle.std.proofs.Common.{◌≡◌, true, refl, sym, ◌∙◌, flat_map, arith}
-use Rattle.std.proofs.lemmas.Bool.{true≢false}
+use Rattle.refrun.proofs.Common.{◌≡◌, true, refl, sym, ◌∙◌, flat_map, arith, true≢false, has}
 use Rattle.std.specs.Prelude.{slice_index_or}
 use Rattle.std.proofs.lemmas.List.{get_or_default}
-use Rattle.refrun.proofs.Common.{has}
 use Rattle.refrun.proofs.NoEvidence.{contained, is_given, next_of_all}
 use Rattle.refrun.proofs.evidence.not_taken.Goals as goal
 

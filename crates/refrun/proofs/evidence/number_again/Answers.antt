@@ -1,4 +1,4 @@
-use Rattle.std.proofs.Common.{arith}
+use Rattle.refrun.proofs.Common.{arith}
 use Rattle.refrun.proofs.NoEvidence.{has-any, next_distinct, none_distinct}
 use Rattle.refrun.proofs.evidence.number_again.Goals as goal
 

@@ -1,4 +1,4 @@
-use Rattle.std.proofs.Common.{nat_eq, take}
+use Rattle.refrun.proofs.Common.{nat_eq, take}
 use Rattle.std.specs.List.{IsDistinct}
 use Rattle.refrun.proofs.evidence.number_again.Given as goal
 

@@ -1,5 +1,4 @@
-use Rattle.std.proofs.Common.{◌≡◌, ℕ, true, false, take}
-use Rattle.refrun.proofs.Common.{has}
+use Rattle.refrun.proofs.Common.{◌≡◌, ℕ, true, false, take, has}
 use Rattle.refrun.proofs.evidence.number_of_both.Given as goal
 
 abbrev pub invariant-loop-number : goal.invariant-loop-number

@@ -1,5 +1,4 @@
-use Rattle.std.proofs.Common.{◌≡◌, true, sym, ◌∙◌, arith}
-use Rattle.refrun.proofs.Common.{has}
+use Rattle.refrun.proofs.Common.{◌≡◌, true, sym, ◌∙◌, arith, has}
 use Rattle.refrun.proofs.NoEvidence.{has-any, next_of_all}
 use Rattle.refrun.proofs.evidence.number_outside.Goals as goal
 

@@ -1,5 +1,4 @@
-use Rattle.std.proofs.Common.{◌≡◌, ℕ, true, take}
-use Rattle.refrun.proofs.Common.{has}
+use Rattle.refrun.proofs.Common.{◌≡◌, ℕ, true, take, has}
 use Rattle.refrun.proofs.evidence.number_outside.Given as goal
 
 abbrev pub invariant-loop-number : goal.invariant-loop-number

@@ -1,7 +1,5 @@
-use Rattle.std.proofs.Common.{◌≡◌, ◌+◌, false, length, Some, refl, subst, arith}
-use Rattle.std.proofs.lemmas.Option.{slice_get_read}
+use Rattle.refrun.proofs.Common.{◌≡◌, ◌+◌, false, length, Some, refl, subst, arith, slice_get_read, is_subsequence}
 use Rattle.std.specs.Prelude.{slice_get, slice_range}
-use Rattle.ref_base.specs.CollectorRows.{is_subsequence}
 use Rattle.refrun.specs.StressEvidence.{before_place}
 use Rattle.refrun.proofs.evidence.out_of_order.Goals as goal
 

@@ -1,6 +1,4 @@
-use Rattle.std.proofs.Common.{◌≡◌, true, take}
-use Rattle.std.specs.List.{All}
-use Rattle.refrun.proofs.Common.{is_subsequence}
+use Rattle.refrun.proofs.Common.{◌≡◌, true, take, All, is_subsequence}
 use Rattle.refrun.proofs.evidence.out_of_order.Given as goal
 
 abbrev pub invariant-loop-poller : goal.invariant-loop-poller

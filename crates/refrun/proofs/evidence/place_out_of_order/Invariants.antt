@@ -1,5 +1,4 @@
-use Rattle.std.proofs.Common.{◌≡◌, true, take}
-use Rattle.refrun.proofs.Common.{is_subsequence}
+use Rattle.refrun.proofs.Common.{◌≡◌, true, take, is_subsequence}
 use Rattle.refrun.proofs.evidence.place_out_of_order.Given as goal
 
 abbrev pub invariant-loop-place : goal.invariant-loop-place

@@ -1,4 +1,4 @@
-use Rattle.std.proofs.Common.{sym, arith}
+use Rattle.refrun.proofs.Common.{sym, arith}
 use Rattle.refrun.proofs.NoEvidence.{next_distinct, next_lacks, none_distinct}
 use Rattle.refrun.proofs.evidence.put_twice.Goals as goal
 

@@ -1,6 +1,5 @@
-use Rattle.std.proofs.Common.{◌≡◌, false, nat_eq, take}
+use Rattle.refrun.proofs.Common.{◌≡◌, false, nat_eq, take, has}
 use Rattle.std.specs.List.{IsDistinct}
-use Rattle.refrun.proofs.Common.{has}
 use Rattle.refrun.proofs.evidence.put_twice.Given as goal
 
 abbrev pub invariant-loop-again : goal.invariant-loop-again

@@ -1,7 +1,5 @@
+use Rattle.refrun.proofs.Common.{length, refl, subst, arith, slice_get_read, Contains}
 use Rattle.refrun.proofs.NoEvidence.{none_distinct, next_list_distinct, next_list_lacks}
-use Rattle.std.proofs.Common.{length, refl, subst, arith}
-use Rattle.std.proofs.lemmas.Option.{slice_get_read}
-use Rattle.std.specs.List.{Contains}
 use Rattle.refrun.proofs.evidence.taken_twice.Goals as goal
 
 pub returns-in-Some-clause-shows : goal.returns-in-Some-clause-shows

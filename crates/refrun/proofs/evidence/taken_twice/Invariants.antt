@@ -1,6 +1,5 @@
-use Rattle.std.proofs.Common.{◌≡◌, ℕ, true, false, nat_eq, take, flat_map}
+use Rattle.refrun.proofs.Common.{◌≡◌, ℕ, true, false, nat_eq, take, flat_map, has}
 use Rattle.std.specs.List.{IsDistinct}
-use Rattle.refrun.proofs.Common.{has}
 use Rattle.refrun.proofs.evidence.taken_twice.Given as goal
 
 abbrev pub invariant-loop-poller : goal.invariant-loop-poller

@@ -1,4 +1,4 @@
-use Rattle.std.proofs.Common.{arith}
+use Rattle.refrun.proofs.Common.{arith}
 use Rattle.refrun.proofs.LineLemmas.{fails_for}
 use Rattle.refrun.proofs.graph_text.declared_graph.Goals as goal
 

@@ -1,6 +1,4 @@
-use Rattle.std.proofs.Common.{arith, ◌+◌, []}
-use Rattle.std.proofs.lemmas.Result.{err_from_is_err_and}
-use Rattle.refrun.proofs.Common.{lines_of, Declarations}
+use Rattle.refrun.proofs.Common.{arith, ◌+◌, [], err_from_is_err_and, lines_of, Declarations}
 use Rattle.refrun.proofs.LineLemmas.{fails_for}
 use Rattle.refrun.proofs.GraphLines.{has_declared_none, has_declared_more, has_declared_all, has_declared_later_fault}
 use Rattle.refrun.proofs.graph_text.graph_behind.Goals as goal

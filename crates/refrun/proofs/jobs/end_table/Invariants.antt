@@ -1,4 +1,4 @@
-use Rattle.std.proofs.Common.{length}
+use Rattle.refrun.proofs.Common.{length}
 use Rattle.refrun.proofs.jobs.end_table.Given as goal
 
 -- how many jobs are left

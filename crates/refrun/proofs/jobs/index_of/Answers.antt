@@ -1,4 +1,4 @@
-use Rattle.std.proofs.Common.{arith}
+use Rattle.refrun.proofs.Common.{arith}
 use Rattle.refrun.proofs.jobs.index_of.Goals as goal
 
 pub returns : goal.returns

@@ -1,5 +1,4 @@
-use Rattle.std.proofs.Common.{◌≡◌, ◌+◌, ◌==◌, not, drop}
-use Rattle.std.specs.List.{prefix_len}
+use Rattle.refrun.proofs.Common.{◌≡◌, ◌+◌, ◌==◌, not, drop, prefix_len}
 use Rattle.refrun.proofs.lines.length_before.Given as goal
 
 abbrev pub invariant-loop-other : goal.invariant-loop-other

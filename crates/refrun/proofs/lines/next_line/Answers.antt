@@ -1,4 +1,4 @@
-use Rattle.std.proofs.Common.{arith}
+use Rattle.refrun.proofs.Common.{arith}
 use Rattle.refrun.proofs.Cuts.{line_cut, last_cut}
 use Rattle.refrun.proofs.lines.next_line.Goals as goal
 

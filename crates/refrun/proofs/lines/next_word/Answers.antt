@@ -1,4 +1,4 @@
-use Rattle.std.proofs.Common.{arith, sym, ◌∙◌}
+use Rattle.refrun.proofs.Common.{arith, sym, ◌∙◌}
 use Rattle.refrun.proofs.Cuts.{no_word_cut, word_cut}
 use Rattle.refrun.proofs.lines.next_word.Goals as goal
 

@@ -1,4 +1,4 @@
-use Rattle.std.proofs.Common.{arith}
+use Rattle.refrun.proofs.Common.{arith}
 use Rattle.refrun.proofs.ListingLemmas.{listed_more}
 use Rattle.refrun.proofs.listing.lines_of_objects.Goals as goal
 

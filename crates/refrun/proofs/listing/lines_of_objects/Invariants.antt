@@ -1,5 +1,4 @@
-use Rattle.std.proofs.Common.{◌≡◌, string_bytes, take}
-use Rattle.refrun.proofs.Common.{listing_text}
+use Rattle.refrun.proofs.Common.{◌≡◌, string_bytes, take, listing_text}
 use Rattle.refrun.proofs.listing.lines_of_objects.Given as goal
 
 abbrev pub invariant-loop-object : goal.invariant-loop-object

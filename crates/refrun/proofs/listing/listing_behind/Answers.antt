@@ -1,4 +1,4 @@
-use Rattle.std.proofs.Common.{arith}
+use Rattle.refrun.proofs.Common.{arith}
 use Rattle.refrun.proofs.FaultLaws.{graph_without_fault}
 use Rattle.refrun.proofs.ListingLemmas.{declares_graph}
 use Rattle.refrun.proofs.listing.listing_behind.Goals as goal

@@ -1,4 +1,4 @@
-use Rattle.std.proofs.Common.{arith}
+use Rattle.refrun.proofs.Common.{arith}
 use Rattle.refrun.proofs.ListChecks.{not_so, put_more, distinct_more, stands_twice}
 use Rattle.refrun.proofs.lists.are_distinct.Goals as goal
 

@@ -1,6 +1,5 @@
-use Rattle.std.proofs.Common.{◌≡◌, ℕ, nat_eq, take}
+use Rattle.refrun.proofs.Common.{◌≡◌, ℕ, nat_eq, take, has}
 use Rattle.std.specs.List.{IsDistinct}
-use Rattle.refrun.proofs.Common.{has}
 use Rattle.refrun.proofs.lists.are_distinct.Given as goal
 
 abbrev pub invariant-loop-number : goal.invariant-loop-number

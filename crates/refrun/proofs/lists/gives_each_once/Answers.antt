@@ -1,4 +1,4 @@
-use Rattle.std.proofs.Common.{arith}
+use Rattle.refrun.proofs.Common.{arith}
 use Rattle.refrun.proofs.ListChecks.{not_so, put_more, nothing_given, given_next, given_wrongly, gave_all}
 use Rattle.refrun.proofs.lists.gives_each_once.Goals as goal
 

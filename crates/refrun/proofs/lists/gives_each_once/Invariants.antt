@@ -1,5 +1,4 @@
-use Rattle.std.proofs.Common.{◌≡◌, ℕ, ◌++◌, take, flat_map}
-use Rattle.refrun.proofs.Common.{has}
+use Rattle.refrun.proofs.Common.{◌≡◌, ℕ, ◌++◌, take, flat_map, has}
 use Rattle.refrun.proofs.ListChecks.{Left}
 use Rattle.refrun.proofs.lists.gives_each_once.Given as goal
 

@@ -1,5 +1,4 @@
-use Rattle.std.proofs.Common.{◌≡◌, drop}
-use Rattle.refrun.proofs.Common.{is_subsequence}
+use Rattle.refrun.proofs.Common.{◌≡◌, drop, is_subsequence}
 use Rattle.refrun.proofs.lists.is_in_order.Given as goal
 
 abbrev pub invariant-loop-number : goal.invariant-loop-number

@@ -1,5 +1,4 @@
-use Rattle.std.proofs.Common.{arith}
-use Rattle.std.proofs.lemmas.List.{take_all}
+use Rattle.refrun.proofs.Common.{arith, take_all}
 use Rattle.refrun.proofs.Digits.{front_value, one_digit_more}
 use Rattle.refrun.proofs.numerals.value_of.Goals as goal
 

@@ -1,5 +1,4 @@
-use Rattle.std.proofs.Common.{◌+◌, ◌-◌, vec_len}
-use Rattle.refrun.proofs.Common.{most_bytes}
+use Rattle.refrun.proofs.Common.{◌+◌, ◌-◌, vec_len, most_bytes}
 use Rattle.refrun.proofs.ReadLemmas.{IsReading}
 use Rattle.refrun.proofs.reading.text_of.Given as goal
 

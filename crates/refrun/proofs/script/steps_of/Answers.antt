@@ -1,6 +1,4 @@
-use Rattle.std.proofs.Common.{arith, ◌+◌}
-use Rattle.std.proofs.lemmas.Result.{err_from_is_err_and}
-use Rattle.refrun.proofs.Common.{lines_of, Steps}
+use Rattle.refrun.proofs.Common.{arith, ◌+◌, err_from_is_err_and, lines_of, Steps}
 use Rattle.refrun.proofs.LineLemmas.{fails_for}
 use Rattle.refrun.proofs.ScriptLines.{has_read_more, has_read_all, has_read_fault, has_read_later_fault}
 use Rattle.refrun.proofs.script.steps_of.Goals as goal

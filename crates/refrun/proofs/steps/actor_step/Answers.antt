@@ -1,5 +1,4 @@
-use Rattle.std.proofs.Common.{rules}
-use Rattle.refrun.proofs.Common.{words_of}
+use Rattle.refrun.proofs.Common.{rules, words_of}
 use Rattle.refrun.proofs.OperandReads.{actor_read}
 use Rattle.refrun.proofs.steps.actor_step.Goals as goal
 

@@ -1,5 +1,4 @@
-use Rattle.std.proofs.Common.{All}
-use Rattle.refrun.proofs.Common.{IsHeapSeat, IsQueueSeat, IsSeatedAt}
+use Rattle.refrun.proofs.Common.{All, IsHeapSeat, IsQueueSeat, IsSeatedAt}
 use Rattle.refrun.proofs.threads.jobs.Given as goal
 
 abbrev pub invariant-loop-number : goal.invariant-loop-number

@@ -1,5 +1,5 @@
-use Rattle.std.proofs.lemmas.List.Elements.{All-rest}
 use Rattle.refrun.proofs.Common.{IsHeapSeat, IsQueueSeat}
+use Rattle.std.proofs.lemmas.List.Elements.{All-rest}
 use Rattle.refrun.specs.declared.threads.Left.{Left}
 use Rattle.refrun.proofs.threads.joined.Goals as goal
 

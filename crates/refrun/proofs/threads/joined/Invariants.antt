@@ -1,6 +1,5 @@
-use Rattle.std.proofs.Common.{All}
+use Rattle.refrun.proofs.Common.{All, IsHeapSeat, IsQueueSeat}
 use Rattle.std.specs.Vec.Iter.{into_iter_items}
-use Rattle.refrun.proofs.Common.{IsHeapSeat, IsQueueSeat}
 use Rattle.refrun.proofs.threads.joined.Given as goal
 
 abbrev pub invariant-loop-left : goal.invariant-loop-left

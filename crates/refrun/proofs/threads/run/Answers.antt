@@ -1,5 +1,4 @@
-use Rattle.std.proofs.Common.{◌≡◌, ◌<◌, length, get_or, subst, arith}
-use Rattle.refrun.proofs.Common.{IsHeapSeat, IsQueueSeat, Shared, Job}
+use Rattle.refrun.proofs.Common.{◌≡◌, ◌<◌, length, get_or, subst, arith, IsHeapSeat, IsQueueSeat, Shared, Job}
 use Rattle.refrun.proofs.threads.run.Goals as goal
 
 pub joined-requires-clause-left : goal.joined-requires-clause-left

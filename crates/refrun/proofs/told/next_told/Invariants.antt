@@ -1,4 +1,4 @@
-use Rattle.std.proofs.Common.{length}
+use Rattle.refrun.proofs.Common.{length}
 use Rattle.refrun.proofs.LineLemmas.{Skips}
 use Rattle.refrun.proofs.told.next_told.Given as goal
 

@@ -1,5 +1,4 @@
-use Rattle.std.proofs.Common.{arith, refl}
-use Rattle.refrun.proofs.Common.{job_number, note_of, jobs}
+use Rattle.refrun.proofs.Common.{arith, refl, job_number, note_of, jobs}
 use Rattle.refrun.proofs.TraceLemmas.{tells_nothing_yet, tells_more}
 use Rattle.refrun.proofs.trace.told_run.Goals as goal
 

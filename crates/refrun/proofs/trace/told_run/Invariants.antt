@@ -1,5 +1,4 @@
-use Rattle.std.proofs.Common.{◌≡◌, string_bytes, take}
-use Rattle.refrun.proofs.Common.{job_number, note_of, jobs, TellsRun}
+use Rattle.refrun.proofs.Common.{◌≡◌, string_bytes, take, job_number, note_of, jobs, TellsRun}
 use Rattle.refrun.proofs.trace.told_run.Given as goal
 
 abbrev pub invariant-loop-step : goal.invariant-loop-step

@@ -1,5 +1,4 @@
-use Rattle.std.proofs.Common.{refl}
-use Rattle.refrun.proofs.Common.{job_number, note_of}
+use Rattle.refrun.proofs.Common.{refl, job_number, note_of}
 use Rattle.refrun.proofs.TraceLemmas.{tells_trace}
 use Rattle.refrun.proofs.trace.trace_of.Goals as goal
 

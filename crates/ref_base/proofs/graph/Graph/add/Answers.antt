@@ -1,5 +1,4 @@
-use Rattle.std.proofs.Common.{refl, sym, ◌∙◌, arith, ◌≡◌, nat_eq, None}
-use Rattle.std.specs.Map.{lookup}
+use Rattle.ref_base.proofs.Common.{refl, sym, ◌∙◌, arith, ◌≡◌, nat_eq, None, lookup}
 use Rattle.indexmap.proofs.CallerLemmas.{insert_entry-new}
 use Rattle.ref_base.proofs.StoreLaws.{is_there-objects_in, none_from_is_some, rising-objects_in, stored-last}
 use Rattle.ref_base.proofs.StoreLaws.{with_object-same}

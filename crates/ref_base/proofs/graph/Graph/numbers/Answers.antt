@@ -1,4 +1,4 @@
-use Rattle.std.proofs.Common.{arith}
+use Rattle.ref_base.proofs.Common.{arith}
 use Rattle.ref_base.proofs.StoreLaws.{numbers_from_sorted, rising-objects_in}
 use Rattle.ref_base.proofs.graph.Graph.numbers.Goals as goal
 

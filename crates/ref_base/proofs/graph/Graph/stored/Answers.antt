@@ -1,6 +1,4 @@
-use Rattle.std.proofs.Common.{arith, ◌≡◌, ◌∙◌, nat_eq, Some, subst, sym}
-use Rattle.std.proofs.lemmas.Bool.{eqb-true}
-use Rattle.std.specs.Map.{lookup}
+use Rattle.ref_base.proofs.Common.{arith, ◌≡◌, ◌∙◌, nat_eq, Some, subst, sym, eqb-true, lookup}
 use Rattle.ref_base.proofs.StoreLaws.{object_at-stored}
 use Rattle.ref_base.proofs.graph.Graph.stored.Goals as goal
 

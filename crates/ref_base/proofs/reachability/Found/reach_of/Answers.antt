@@ -1,4 +1,4 @@
-use Rattle.std.proofs.Common.{arith}
+use Rattle.ref_base.proofs.Common.{arith}
 use Rattle.ref_base.proofs.HasLaws.{has-list_any}
 use Rattle.ref_base.proofs.StrengthLaws.{found-nowhere, found-phantom, found-soft, found-strong, found-weak}
 use Rattle.ref_base.proofs.reachability.Found.reach_of.Goals as goal

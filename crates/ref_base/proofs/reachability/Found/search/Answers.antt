@@ -1,7 +1,6 @@
-use Rattle.std.proofs.Common.{[], ap, refl, ◌∙◌}
-use Rattle.std.proofs.lemmas.Bool.{false≢true}
+use Rattle.ref_base.proofs.Common.{[], ap, refl, ◌∙◌, false≢true, added_all, phantom_referents, no_referents}
+use Rattle.ref_base.proofs.Common.{soft_referents, soft_and_weak_referents}
 use Rattle.std.proofs.lemmas.Result.{on_ok_weaker}
-use Rattle.ref_base.proofs.Common.{added_all, phantom_referents, no_referents, soft_referents, soft_and_weak_referents}
 use Rattle.ref_base.proofs.SearchLaws.{searched_from_reached, searched_from_roots}
 use Rattle.ref_base.proofs.StrengthLaws.{AreFound_fronts}
 use Rattle.ref_base.proofs.reachability.Found.search.Goals as goal

@@ -1,4 +1,4 @@
-use Rattle.std.proofs.Common.{arith}
+use Rattle.ref_clear.proofs.Common.{arith}
 use Rattle.ref_clear.proofs.ChainedHeaps.{does_refused, sound_refused, does_begun, sound_begun}
 use Rattle.ref_clear.proofs.heap.Heap.begin.Goals as goal
 

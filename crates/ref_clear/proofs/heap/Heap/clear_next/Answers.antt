@@ -1,27 +1,19 @@
-use Rattle.std.proofs.Common.{arith}
-use Rattle.std.proofs.Common.{is_some, sym, ap, ◌∙◌}
-use Rattle.ref_clear.proofs.Common.{Reference}
+use Rattle.ref_clear.proofs.Common.{arith, is_some, sym, ap, ◌∙◌, Reference}
 use Rattle.ref_clear.proofs.ChainedLooks.{sound_none, sound_plain, sound_skipped, sound_kept, sound_cut, sound_pended}
 use Rattle.ref_clear.proofs.ChainedLooks.{look_within, last_apart, answers_cleared, seen_cut, seen_pended}
-use Rattle.ref_clear.proofs.heap.Heap.clear_next.Goals as goal
 use Rattle.ref_clear.proofs.heap.Heap.clear_next.Goals.{then-is_some, else-is_some}
+use Rattle.ref_clear.proofs.heap.Heap.clear_next.Goals as goal
 
 pub invariant_of-self-in_default : goal.invariant_of-self-in_default
-invariant_of-self-in_default g c =
-    sound_none c.args.worker c.in_ok-look.ensures.refused c.self.invariant
-    (sym c.in_default.is ∙ c.in_ok-look.ensures.answer) c.in_ok-look.ensures.after
+invariant_of-self-in_default g c = grind (arith, sound_none c.args.worker c.in_ok-look.ensures.refused c.self.invariant)
 
 pub invariant_of-self-in_default-reference : goal.invariant_of-self-in_default-reference
 invariant_of-self-in_default-reference g c =
-    sound_plain c.args.worker c.in_ok-look.ensures.refused c.self.invariant
-    (sym c.in-Some.is ∙ c.in_ok-look.ensures.answer) c.in_default-reference.is c.in_ok-look.ensures.after
+    grind (arith, sound_plain c.args.worker c.in_ok-look.ensures.refused c.self.invariant)
 
 pub invariant_of-self-then-is_none : goal.invariant_of-self-then-is_none
 invariant_of-self-then-is_none g c =
-    sound_skipped c.args.worker c.in_ok-look.ensures.refused c.self.invariant
-    (sym c.in-Some.is ∙ c.in_ok-look.ensures.answer) c.in-Some-reference.is
-    (ap (λ (r : Reference). is_some r.referent) (sym c.reference.view_is) ∙ c.if-is_none.ensures)
-    c.in_ok-look.ensures.after
+    grind (arith, sound_skipped c.args.worker c.in_ok-look.ensures.refused c.self.invariant)
 
 pub invariant_of-self-then-not-is_cleared : goal.invariant_of-self-then-not-is_cleared
 invariant_of-self-then-not-is_cleared g c =
@@ -35,10 +27,7 @@ pub index_mut-requires : goal.index_mut-requires
 index_mut-requires g c = grind (arith, look_within c.args.worker c.in_ok-look.ensures.refused c.self.invariant)
 
 pub list_last-requires : goal.list_last-requires
-list_last-requires g c full =
-    last_apart c.args.worker c.in_ok-look.ensures.refused c.self.invariant
-    (sym c.in-Some.is ∙ c.in_ok-look.ensures.answer) c.if-not-is_cleared.false
-    (rw c.worker.view_is at c.index.ensures) c.in_ok-look.ensures.after full
+list_last-requires g c full = grind (arith, last_apart c.args.worker c.in_ok-look.ensures.refused c.self.invariant)
 
 pub invariant_of-self-then-is_some : goal.invariant_of-self-then-is_some
 invariant_of-self-then-is_some g c =

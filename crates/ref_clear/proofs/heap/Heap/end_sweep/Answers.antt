@@ -1,5 +1,4 @@
-use Rattle.std.proofs.Common.{◌≡◌, true, sym, ◌∙◌, rules}
-use Rattle.ref_clear.proofs.Common.{is_in, Sweeping}
+use Rattle.ref_clear.proofs.Common.{◌≡◌, true, sym, ◌∙◌, rules, is_in, Sweeping}
 use Rattle.ref_clear.proofs.ChainedHeaps.{sound_sweep_ended}
 use Rattle.ref_clear.proofs.heap.Heap.end_sweep.Goals as goal
 

@@ -1,4 +1,4 @@
-use Rattle.std.proofs.Common.{refl}
+use Rattle.ref_clear.proofs.Common.{refl}
 use Rattle.ref_clear.proofs.ChainedHeaps.{does_marked, sound_marked}
 use Rattle.ref_clear.proofs.heap.Heap.hold.Goals as goal
 

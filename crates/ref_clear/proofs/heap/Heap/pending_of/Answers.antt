@@ -1,6 +1,4 @@
-use Rattle.std.proofs.Common.{arith}
-use Rattle.std.proofs.Common.{sym, ap, ◌∙◌, Some}
-use Rattle.ref_clear.specs.ClearViews.{pending_by}
+use Rattle.ref_clear.proofs.Common.{arith, sym, ap, ◌∙◌, Some, pending_by}
 use Rattle.ref_clear.proofs.ChainedNotices.{found_chain, told_of, registered_of, none_behind}
 use Rattle.ref_clear.proofs.heap.Heap.pending_of.Goals as goal
 

@@ -1,4 +1,4 @@
-use Rattle.std.proofs.Common.{arith}
+use Rattle.ref_clear.proofs.Common.{arith}
 use Rattle.ref_clear.proofs.FirstHeaps.{seen_first, first_stands, first_sound}
 use Rattle.ref_clear.proofs.heap.Heap.starting.Goals as goal
 

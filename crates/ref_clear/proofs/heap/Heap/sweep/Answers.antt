@@ -1,4 +1,4 @@
-use Rattle.std.proofs.Common.{arith}
+use Rattle.ref_clear.proofs.Common.{arith}
 use Rattle.ref_clear.proofs.ChainedHeaps.{may_free, sound_swept, seen_swept}
 use Rattle.ref_clear.proofs.heap.Heap.sweep.Goals as goal
 

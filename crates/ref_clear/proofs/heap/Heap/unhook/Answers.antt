@@ -1,7 +1,5 @@
-use Rattle.std.proofs.Common.{arith}
-use Rattle.std.proofs.Common.{◌≡◌, Some, sym, ap, ◌∙◌, subst}
-use Rattle.ref_clear.proofs.Common.{Reference, CycleHeap, IsSoundHeap}
-use Rattle.ref_clear.proofs.NoticeAnswers.{mint_refused, mint_of_spared}
+use Rattle.ref_clear.proofs.Common.{arith, ◌≡◌, Some, sym, ap, ◌∙◌, subst, Reference, CycleHeap, IsSoundHeap}
+use Rattle.ref_clear.proofs.NoticeAnswers.{mint_refused}
 use Rattle.ref_clear.proofs.ChainedHeaps.{sound_marked}
 use Rattle.ref_clear.proofs.UnhookAnswers.{slot_is_there}
 use Rattle.ref_clear.proofs.ChainedNotices.{unhook_cut, unhook_done, sound_unhooked}
@@ -31,10 +29,7 @@ invariant_of-self-2 g c =
     c.in_ok-hold.ensures.answer c.in_ok-hold.ensures.after c.clear-cleared.ensures.after
 
 pub returns-in_err-hold-clause-does : goal.returns-in_err-hold-clause-does
-returns-in_err-hold-clause-does g c =
-    let spared = rw c.objects.ensures at c.in_ok-no.ensures.spared in
-    let mint = mint_of_spared c.self.inside.marker c.in_ok-no.no spared.0 in
-    grind (arith, slot_is_there)
+returns-in_err-hold-clause-does g c = grind arith
 
 pub returns-clause-does : goal.returns-clause-does
 returns-clause-does g c =

@@ -1,5 +1,4 @@
-use Rattle.std.proofs.Common.{arith}
-use Rattle.std.proofs.lemmas.Bool.{eq-eqb}
+use Rattle.ref_clear.proofs.Common.{arith, eq-eqb}
 use Rattle.ref_clear.proofs.ShadedLists.{shading_more, shading_done}
 use Rattle.ref_clear.proofs.heap.cycle.shade_listed.Goals as goal
 

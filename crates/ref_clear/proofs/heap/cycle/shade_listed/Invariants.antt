@@ -1,4 +1,4 @@
-use Rattle.std.proofs.Common.{◌-◌}
+use Rattle.ref_clear.proofs.Common.{◌-◌}
 use Rattle.ref_clear.proofs.ShadedLists.{IsShading}
 use Rattle.ref_clear.proofs.heap.cycle.shade_listed.Given as goal
 

@@ -1,5 +1,4 @@
-use Rattle.std.proofs.Common.{◌≡◌, take}
-use Rattle.ref_clear.proofs.Common.{joined, lists_in, shaded_all}
+use Rattle.ref_clear.proofs.Common.{◌≡◌, take, joined, lists_in, shaded_all}
 use Rattle.ref_clear.proofs.heap.cycle.shade_pending.Given as goal
 
 abbrev pub invariant-loop-worker : goal.invariant-loop-worker

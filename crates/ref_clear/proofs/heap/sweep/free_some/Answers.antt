@@ -1,7 +1,7 @@
-use Rattle.std.proofs.Common.{arith}
+use Rattle.ref_clear.proofs.Common.{arith}
 use Rattle.ref_clear.proofs.SweepLoops.{nothing_swept, one_more_swept, sweep_is_done}
-use Rattle.ref_clear.proofs.heap.sweep.free_some.Goals as goal
 use Rattle.ref_clear.proofs.heap.sweep.free_some.Goals.{else-loop-freed-test, then-loop-freed-test+in_default}
+use Rattle.ref_clear.proofs.heap.sweep.free_some.Goals as goal
 
 pub loop-freed-init : goal.loop-freed-init
 loop-freed-init g c = nothing_swept c.args.marker.now c.args.from c.requires

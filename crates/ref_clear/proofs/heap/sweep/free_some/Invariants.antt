@@ -1,4 +1,4 @@
-use Rattle.std.proofs.Common.{◌-◌}
+use Rattle.ref_clear.proofs.Common.{◌-◌}
 use Rattle.ref_clear.proofs.SweepLoops.{IsSwept}
 use Rattle.ref_clear.proofs.heap.sweep.free_some.Given as goal
 

@@ -1,5 +1,4 @@
-use Rattle.std.proofs.Common.{sym, ◌∙◌, arith}
-use Rattle.std.proofs.lemmas.Bool.{eq-eqb}
+use Rattle.ref_mark.proofs.Common.{sym, ◌∙◌, arith, eq-eqb}
 use Rattle.ref_mark.proofs.ChainLemmas.{listed_at-next, listed_at-none, listed_at-past}
 use Rattle.ref_mark.proofs.chain.Chain.get.Goals as goal
 

@@ -1,6 +1,5 @@
-use Rattle.std.proofs.Common.{◌≡◌, ◌-◌}
-use Rattle.ref_mark.proofs.Common.{walk, listed}
-use Rattle.ref_mark.specs.Worklists.{listed_at}
+use Rattle.ref_mark.proofs.Common.{◌≡◌, walk, listed, listed_at}
+use Rattle.std.proofs.Common.{◌-◌}
 use Rattle.ref_mark.proofs.chain.Chain.get.Given as goal
 
 -- it is that at the rest of the places from here on

@@ -1,5 +1,4 @@
-use Rattle.std.proofs.Common.{arith, refl}
-use Rattle.ref_mark.proofs.Common.{plain_object, nulls}
+use Rattle.ref_mark.proofs.Common.{arith, refl, plain_object, nulls}
 use Rattle.ref_mark.proofs.MarkerLemmas.{sound_made, young_made, unmarked_next}
 use Rattle.ref_mark.proofs.marker.Marker.alloc_obj.Goals as goal
 

@@ -1,5 +1,4 @@
-use Rattle.std.proofs.Common.{sym, ◌∙◌}
-use Rattle.ref_mark.proofs.Common.{slot_at}
+use Rattle.ref_mark.proofs.Common.{sym, ◌∙◌, slot_at}
 use Rattle.ref_mark.proofs.MarkerLemmas.{sound_marked, may_grey_new}
 use Rattle.ref_mark.proofs.marker.Marker.bar.Goals as goal
 

@@ -1,4 +1,4 @@
-use Rattle.std.proofs.Common.{arith}
+use Rattle.ref_mark.proofs.Common.{arith}
 use Rattle.ref_mark.proofs.LoopLemmas.{begun_by_parts, begun_cycle}
 use Rattle.ref_mark.proofs.marker.Marker.begin.Goals as goal
 

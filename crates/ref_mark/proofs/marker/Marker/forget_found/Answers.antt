@@ -1,6 +1,5 @@
-use Rattle.std.proofs.Common.{◌≡◌, ◌≤◌, map, length, set, ◌∙◌, ap, arith}
+use Rattle.ref_mark.proofs.Common.{◌≡◌, ◌≤◌, map, length, set, ◌∙◌, ap, arith, no_chain}
 use Rattle.std.proofs.lemmas.List.Edits.{map_over_more}
-use Rattle.ref_mark.proofs.Common.{no_chain}
 use Rattle.ref_mark.proofs.MarkerLemmas.{all_cleared, sound_emptied, seen_emptied}
 use Rattle.ref_mark.proofs.marker.Marker.forget_found.Goals as goal
 

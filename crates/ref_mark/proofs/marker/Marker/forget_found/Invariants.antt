@@ -1,5 +1,4 @@
-use Rattle.std.proofs.Common.{◌≡◌, ◌++◌, map, take, drop}
-use Rattle.ref_mark.proofs.Common.{no_chain}
+use Rattle.ref_mark.proofs.Common.{◌≡◌, ◌++◌, map, take, drop, no_chain}
 use Rattle.ref_mark.proofs.marker.Marker.forget_found.Given as goal
 
 -- the lists so far are empty, the others as they were, and nothing else changes

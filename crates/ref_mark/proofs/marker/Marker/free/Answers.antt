@@ -1,6 +1,4 @@
-use Rattle.std.proofs.Common.{◌∙◌, ap}
-use Rattle.ref_mark.proofs.Common.{CycleHeap}
-use Rattle.ref_mark.specs.CycleHeaps.{is_swept}
+use Rattle.ref_mark.proofs.Common.{arith}
 use Rattle.ref_mark.proofs.MarkerLemmas.{condemned_swept, sound_freed, seen_freed}
 use Rattle.ref_mark.proofs.marker.Marker.free.Goals as goal
 
@@ -9,10 +7,11 @@ invariant_of-self g c = sound_freed c.args.no c.facts.ensures c.free.ensures.aft
 
 pub returns-clause-answer : goal.returns-clause-answer
 returns-clause-answer g c =
-    c.free.ensures.answer
-    ∙ condemned_swept c.self.inside.objects c.self.inside.grey c.self.inside.found.items c.self.inside.phase
-    c.self.inside.policy c.self.inside.cycle c.args.no c.facts.ensures c.self.invariant
-    ∙ ap (λ (k : CycleHeap). is_swept k c.args.no) c.self.view_is
+    grind (
+      arith,
+      condemned_swept c.self.inside.objects c.self.inside.grey c.self.inside.found.items c.self.inside.phase
+          c.self.inside.policy c.self.inside.cycle c.args.no c.facts.ensures c.self.invariant,
+    )
 
 pub returns-clause-after : goal.returns-clause-after
 returns-clause-after g c =

@@ -1,5 +1,4 @@
-use Rattle.std.proofs.Common.{sym, ap, ◌∙◌}
-use Rattle.ref_mark.proofs.Common.{CycleHeap, is_past_mark}
+use Rattle.ref_mark.proofs.Common.{sym, ap, ◌∙◌, CycleHeap, is_past_mark}
 use Rattle.ref_mark.proofs.BarrierLemmas.{get_does}
 use Rattle.ref_mark.proofs.marker.Marker.get.Goals as goal
 

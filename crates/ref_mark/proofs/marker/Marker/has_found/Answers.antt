@@ -1,7 +1,7 @@
-use Rattle.std.proofs.Common.{not, ◌∙◌, ◌==◌, rules, tests}
+use Rattle.ref_mark.proofs.Common.{not, ◌∙◌, ◌==◌, Chain}
+use Rattle.std.proofs.Common.{rules, tests}
 use Rattle.std.proofs.lemmas.Iterator.{YieldsList-from_slice}
 use Rattle.std.proofs.lemmas.Iterator.Search.{any_from_yields_List}
-use Rattle.ref_mark.proofs.Common.{Chain}
 use Rattle.ref_mark.proofs.MarkerLemmas.{any_found}
 use Rattle.ref_mark.proofs.marker.Marker.has_found.Goals as goal
 

@@ -1,5 +1,4 @@
-use Rattle.std.proofs.Common.{◌≡◌, false, ◌==◌, sym, subst}
-use Rattle.ref_mark.proofs.Common.{CycleHeap, has, joined}
+use Rattle.ref_mark.proofs.Common.{◌≡◌, false, ◌==◌, sym, subst, CycleHeap, has, joined}
 use Rattle.ref_mark.proofs.MarkerLemmas.{sound_linked, seen_linked}
 use Rattle.ref_mark.proofs.marker.Marker.list_last.Goals as goal
 

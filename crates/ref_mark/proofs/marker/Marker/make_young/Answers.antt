@@ -1,4 +1,4 @@
-use Rattle.std.proofs.Common.{Some}
+use Rattle.ref_mark.proofs.Common.{Some}
 use Rattle.ref_mark.proofs.MarkerLemmas.{sound_marked}
 use Rattle.ref_mark.proofs.marker.Marker.make_young.Goals as goal
 

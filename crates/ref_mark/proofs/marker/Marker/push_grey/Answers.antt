@@ -1,6 +1,4 @@
-use Rattle.std.proofs.Common.{sym, subst}
-use Rattle.ref_mark.proofs.Common.{CycleHeap}
-use Rattle.ref_mark.specs.MarkViews.{MayGrey}
+use Rattle.ref_mark.proofs.Common.{sym, subst, CycleHeap, MayGrey}
 use Rattle.ref_mark.proofs.MarkerLemmas.{grey_has_room, sound_greyed}
 use Rattle.ref_mark.proofs.marker.Marker.push_grey.Goals as goal
 

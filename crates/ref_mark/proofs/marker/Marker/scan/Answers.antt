@@ -1,5 +1,4 @@
-use Rattle.std.proofs.Common.{sym, ap, ◌∙◌}
-use Rattle.ref_mark.proofs.Common.{targets_at, is_kept, Heap, reference_at, CycleHeap, seen_marker}
+use Rattle.ref_mark.proofs.Common.{sym, ap, ◌∙◌, targets_at, is_kept, Heap, reference_at, CycleHeap, seen_marker}
 use Rattle.ref_mark.proofs.MarkerLemmas.{Greys, shaded_greys, sound_scanned, scan_may_find}
 use Rattle.ref_mark.proofs.marker.Marker.scan.Goals as goal
 

@@ -1,5 +1,4 @@
-use Rattle.std.proofs.Common.{arith}
-use Rattle.std.proofs.Common.{Some}
+use Rattle.ref_mark.proofs.Common.{arith, Some}
 use Rattle.ref_mark.proofs.MarkerLemmas.{sound_marked, may_grey_new}
 use Rattle.ref_mark.proofs.marker.Marker.shade.Goals as goal
 

@@ -1,13 +1,10 @@
-use Rattle.std.proofs.Common.{◌≡◌, ◌<◌, ◌≤◌, ℕ, length, map, Some, None, sym, ap, subst, ◌∙◌, List, Option}
-use Rattle.std.specs.Prelude.{slice_index_or}
-use Rattle.std.proofs.lemmas.List.{length-map}
-use Rattle.ref_objects.specs.Grounds.{all_newly_marked}
-use Rattle.ref_mark.specs.MarkViews.{ground_of}
-use Rattle.ref_mark.proofs.Common.{CycleHeap, Ground, fields_in, object_at}
+use Rattle.ref_mark.proofs.Common.{◌≡◌, ◌<◌, ◌≤◌, ℕ, length, map, Some, None, sym, ap, subst, ◌∙◌, List, Option}
+use Rattle.ref_mark.proofs.Common.{slice_index_or, length-map, all_newly_marked, ground_of, CycleHeap, Ground}
+use Rattle.ref_mark.proofs.Common.{fields_in, object_at}
 use Rattle.ref_mark.proofs.LoopLemmas.{greyed_on, none_at, greyed_all}
 use Rattle.ref_mark.proofs.MarkerLemmas.{ground_same, sound_all_marked, seen_all_marked, may_grey_on}
-use Rattle.ref_mark.proofs.marker.Marker.shade_fields.Goals as goal
 use Rattle.ref_mark.proofs.marker.Marker.shade_fields.Goals.{in-Some, in_default}
+use Rattle.ref_mark.proofs.marker.Marker.shade_fields.Goals as goal
 
 pub invariant_of-self : goal.invariant_of-self
 invariant_of-self g c = search sound_all_marked

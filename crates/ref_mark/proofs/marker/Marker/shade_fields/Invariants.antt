@@ -1,7 +1,4 @@
-use Rattle.std.proofs.Common.{◌≡◌, ◌++◌, take}
-use Rattle.ref_mark.proofs.Common.{object_at, fields_in}
-use Rattle.ref_objects.specs.Grounds.{all_marked, all_newly_marked}
-use Rattle.ref_mark.specs.MarkViews.{ground_of}
+use Rattle.ref_mark.proofs.Common.{◌≡◌, ◌++◌, take, object_at, fields_in, all_marked, all_newly_marked, ground_of}
 use Rattle.ref_mark.proofs.marker.Marker.shade_fields.Given as goal
 
 -- what the fields hold is marked, and of what was marked anew so many are grey

@@ -1,8 +1,6 @@
-use Rattle.std.proofs.Common.{arith}
-use Rattle.std.proofs.Common.{◌≡◌, ℕ, ◌+◌, Option, Some, sym, ap, refl, subst, ◌∙◌}
-use Rattle.ref_mark.proofs.Common.{Heap, least_from, IsInOrder, CycleHeap, shaded}
-use Rattle.ref_mark.proofs.LoopLemmas.{IsHeldFrom, held_from_first, held_after_turn, fewer_after_turn}
-use Rattle.ref_mark.proofs.LoopLemmas.{shaded_once-heap}
+use Rattle.ref_mark.proofs.Common.{arith, ◌≡◌, ℕ, ◌+◌, Option, Some, sym, ap, refl, subst, ◌∙◌, Heap, least_from}
+use Rattle.ref_mark.proofs.Common.{IsInOrder, CycleHeap, shaded}
+use Rattle.ref_mark.proofs.LoopLemmas.{IsHeldFrom, held_from_first, held_after_turn, fewer_after_turn, shaded_once-heap}
 use Rattle.ref_mark.proofs.marker.Marker.shade_held.Goals as goal
 
 pub loop-held-init : goal.loop-held-init

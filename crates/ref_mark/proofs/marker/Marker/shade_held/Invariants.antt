@@ -1,5 +1,4 @@
-use Rattle.std.proofs.Common.{◌≡◌, length}
-use Rattle.ref_mark.proofs.Common.{IsInOrder}
+use Rattle.ref_mark.proofs.Common.{◌≡◌, length, IsInOrder}
 use Rattle.ref_mark.proofs.LoopLemmas.{IsHeldFrom, still_held}
 use Rattle.ref_mark.proofs.marker.Marker.shade_held.Given as goal
 

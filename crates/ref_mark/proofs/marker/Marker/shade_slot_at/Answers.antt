@@ -1,5 +1,4 @@
-use Rattle.std.proofs.Common.{None, sym, ◌∙◌}
-use Rattle.std.specs.Prelude.{slice_index_or}
+use Rattle.ref_mark.proofs.Common.{None, sym, ◌∙◌, slice_index_or}
 use Rattle.ref_mark.proofs.MarkerLemmas.{sound_marked, may_grey_new}
 use Rattle.ref_mark.proofs.marker.Marker.shade_slot_at.Goals as goal
 

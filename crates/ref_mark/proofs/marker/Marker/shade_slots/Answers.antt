@@ -1,6 +1,5 @@
-use Rattle.std.proofs.Common.{◌≡◌, ◌<◌, length, take, None, sym, ap, subst, ◌∙◌}
-use Rattle.std.specs.Prelude.{slice_index_or}
-use Rattle.ref_mark.proofs.Common.{present, Heap, CycleHeap, shaded_if_any}
+use Rattle.ref_mark.proofs.Common.{◌≡◌, ◌<◌, length, take, None, sym, ap, subst, ◌∙◌, slice_index_or, present, Heap}
+use Rattle.ref_mark.proofs.Common.{CycleHeap, shaded_if_any}
 use Rattle.ref_mark.proofs.LoopLemmas.{shaded_more, shaded_heap}
 use Rattle.ref_mark.proofs.marker.Marker.shade_slots.Goals as goal
 

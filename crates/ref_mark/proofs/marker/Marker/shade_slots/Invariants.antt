@@ -1,5 +1,4 @@
-use Rattle.std.proofs.Common.{◌≡◌, take}
-use Rattle.ref_mark.proofs.Common.{present, shaded_all}
+use Rattle.ref_mark.proofs.Common.{◌≡◌, take, present, shaded_all}
 use Rattle.ref_mark.proofs.marker.Marker.shade_slots.Given as goal
 
 abbrev pub invariant-loop-place : goal.invariant-loop-place

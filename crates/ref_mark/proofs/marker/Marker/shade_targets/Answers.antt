@@ -1,4 +1,4 @@
-use Rattle.std.proofs.Common.{arith}
+use Rattle.ref_mark.proofs.Common.{arith}
 use Rattle.ref_mark.proofs.LoopLemmas.{shaded_targets}
 use Rattle.ref_mark.proofs.marker.Marker.shade_targets.Goals as goal
 

@@ -1,4 +1,4 @@
-use Rattle.std.proofs.Common.{arith}
+use Rattle.ref_mark.proofs.Common.{arith}
 use Rattle.ref_mark.proofs.MarkerLemmas.{sound_first, seen_first}
 use Rattle.ref_mark.proofs.FirstStates.{first_stands}
 use Rattle.ref_mark.proofs.marker.Marker.starting.Goals as goal

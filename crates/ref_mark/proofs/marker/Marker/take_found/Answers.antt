@@ -1,6 +1,4 @@
-use Rattle.std.proofs.Common.{◌≡◌, ◌<◌, ℕ, ◌∙◌, true, None}
-use Rattle.std.proofs.Common.{arith}
-use Rattle.ref_mark.proofs.Common.{Clearing, CycleHeap, Phase, Heap, work_refusal, is_past_mark}
+use Rattle.ref_mark.proofs.Common.{◌≡◌, ◌<◌, ℕ, ◌∙◌, arith, Clearing, CycleHeap}
 use Rattle.ref_mark.proofs.MarkerLemmas.{worker_within, first_told, sound_looked, seen_looked}
 use Rattle.ref_mark.proofs.marker.Marker.take_found.Goals as goal
 
@@ -8,10 +6,6 @@ use Rattle.ref_mark.proofs.marker.Marker.take_found.Goals as goal
 clearer_within : {k now : CycleHeap} {v w : ℕ} → k ≡ now → v ≡ w → w < now.heap.config.workers
     → v < k.heap.config.workers
 clearer_within same own within = rw (same, own) within
-
--- and it clears
-is_clearing : (h : Heap) (phase : Phase) (w : ℕ) → work_refusal h phase Clearing w ≡ None → is_past_mark phase ≡ true
-is_clearing h phase w accepted = grind arith
 
 pub invariant_of-self : goal.invariant_of-self
 invariant_of-self g c =

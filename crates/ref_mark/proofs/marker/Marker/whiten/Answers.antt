@@ -1,5 +1,4 @@
-use Rattle.std.proofs.Common.{◌≡◌, [], refl, ap, ◌∙◌}
-use Rattle.ref_mark.proofs.Common.{CycleHeap, Marking, Worklist, found_in}
+use Rattle.ref_mark.proofs.Common.{◌≡◌, [], refl, ap, ◌∙◌, CycleHeap, Marking, Worklist, found_in}
 use Rattle.ref_mark.proofs.MarkerLemmas.{sound_cleared, sound_whitened}
 use Rattle.ref_mark.proofs.marker.Marker.whiten.Goals as goal
 
@@ -13,5 +12,5 @@ invariant_of-self-2 g c =
     ap (λ (k : CycleHeap). k.grey) seen ∙ ap (λ (l : Worklist). l.stands) c.clear.ensures in
     let none = ap (λ (k : CycleHeap). k.found) seen in
     rw (c.set_clock.ensures, c.unmark_all.ensures)
-    (sound_whitened Marking (found_in c.self.inside.objects c.self.inside.found.items) refl refl refl refl refl white none
-    c.self-2.invariant)
+    (sound_whitened Marking (found_in c.self.inside.objects c.self.inside.found.items) refl refl refl refl refl white
+    none c.self-2.invariant)

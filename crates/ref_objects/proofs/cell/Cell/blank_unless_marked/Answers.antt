@@ -1,4 +1,4 @@
-use Rattle.std.proofs.Common.{arith}
+use Rattle.ref_objects.proofs.Common.{arith}
 use Rattle.ref_objects.proofs.EachLemmas.{nulls-each}
 use Rattle.ref_objects.proofs.cell.Cell.blank_unless_marked.Goals as goal
 

@@ -1,4 +1,4 @@
-use Rattle.std.proofs.Common.{None}
+use Rattle.ref_objects.proofs.Common.{None}
 use Rattle.std.proofs.lemmas.List.{take-replicate}
 use Rattle.ref_objects.proofs.fields.Fields.nulls.Goals as goal
 

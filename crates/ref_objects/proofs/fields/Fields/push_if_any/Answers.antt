@@ -1,5 +1,4 @@
-use Rattle.std.proofs.Common.{arith}
-use Rattle.std.proofs.lemmas.List.{append-nil, length-take-le}
+use Rattle.ref_objects.proofs.Common.{arith, append-nil, length-take-le}
 use Rattle.ref_objects.proofs.NewMarks.{take-pushed}
 use Rattle.ref_objects.proofs.fields.Fields.push_if_any.Goals as goal
 

@@ -1,11 +1,8 @@
-use Rattle.std.proofs.Common.{arith}
-use Rattle.std.proofs.lemmas.List.{length-map}
-use Rattle.ref_objects.proofs.Common.{objects_of}
+use Rattle.ref_objects.proofs.Common.{arith, length-map, objects_of}
 use Rattle.ref_objects.proofs.NumberLemmas.{numbers_in_order}
-use Rattle.ref_objects.proofs.MarkLemmas.{length-unmarked_of}
+use Rattle.ref_objects.proofs.MarkLemmas.{length-unmarked_of, marked_there}
 use Rattle.ref_objects.proofs.MarkedLemmas.{there_below}
 use Rattle.ref_objects.proofs.TagLemmas.{numbers-tags_of}
-use Rattle.ref_objects.proofs.MarkLemmas.{marked_there}
 use Rattle.ref_objects.proofs.objects.Objects.facts.Goals as goal
 
 pub returns : goal.returns

@@ -1,4 +1,4 @@
-use Rattle.std.proofs.Common.{◌∙◌}
+use Rattle.ref_objects.proofs.Common.{◌∙◌}
 use Rattle.ref_objects.proofs.GroundLemmas.{fields-tabled}
 use Rattle.ref_objects.proofs.objects.Objects.fields_of.Goals as goal
 

@@ -1,4 +1,4 @@
-use Rattle.std.proofs.Common.{arith}
+use Rattle.ref_objects.proofs.Common.{arith}
 use Rattle.ref_objects.proofs.NumberLemmas.{least_where}
 use Rattle.ref_objects.proofs.GroundLemmas.{numbers-all}
 use Rattle.ref_objects.proofs.objects.Objects.first_from.Goals as goal

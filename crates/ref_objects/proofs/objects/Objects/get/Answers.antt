@@ -1,4 +1,4 @@
-use Rattle.std.proofs.Common.{arith}
+use Rattle.ref_objects.proofs.Common.{arith}
 use Rattle.ref_objects.proofs.GotLemmas.{got_renewed}
 use Rattle.ref_objects.proofs.objects.Objects.get.Goals as goal
 

@@ -1,4 +1,4 @@
-use Rattle.std.proofs.Common.{sym, ◌∙◌}
+use Rattle.ref_objects.proofs.Common.{sym, ◌∙◌}
 use Rattle.ref_objects.proofs.TabledLemmas.{is_there-objects_of}
 use Rattle.ref_objects.proofs.objects.Objects.has_object.Goals as goal
 

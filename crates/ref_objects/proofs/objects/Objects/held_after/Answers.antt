@@ -1,4 +1,4 @@
-use Rattle.std.proofs.Common.{◌+◌, arith}
+use Rattle.ref_objects.proofs.Common.{◌+◌, arith}
 use Rattle.ref_objects.proofs.GroundLemmas.{least_from-past}
 use Rattle.ref_objects.proofs.objects.Objects.held_after.Goals as goal
 

@@ -1,4 +1,4 @@
-use Rattle.std.proofs.Common.{arith}
+use Rattle.ref_objects.proofs.Common.{arith}
 use Rattle.ref_objects.proofs.MarkLemmas.{has-marked_of}
 use Rattle.ref_objects.proofs.objects.Objects.is_marked.Goals as goal
 

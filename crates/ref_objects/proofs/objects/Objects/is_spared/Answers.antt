@@ -1,12 +1,11 @@
-use Rattle.std.proofs.Common.{◌∙◌, arith}
+use Rattle.ref_objects.proofs.Common.{arith}
 use Rattle.ref_objects.proofs.TabledLemmas.{is_there-objects_of}
 use Rattle.ref_objects.proofs.SoundLemmas.{marked_spared}
 use Rattle.ref_objects.proofs.objects.Objects.is_spared.Goals as goal
 
 pub returns-then-self : goal.returns-then-self
 returns-then-self g c =
-    rw (← c.self.view_is)
-    (c.is_marked.ensures ∙ marked_spared c.self.invariant c.args.no c.len-count.ensures.orderly.rising c.if-self.true)
+    grind (arith, marked_spared c.self.invariant c.len-count.ensures.orderly.rising c.args.no c.if-self.true)
 
 pub returns-else-self : goal.returns-else-self
 returns-else-self g c = grind (arith, is_there-objects_of)

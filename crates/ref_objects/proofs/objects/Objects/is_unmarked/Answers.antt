@@ -1,4 +1,4 @@
-use Rattle.std.proofs.Common.{arith}
+use Rattle.ref_objects.proofs.Common.{arith}
 use Rattle.ref_objects.proofs.MarkLemmas.{is_unmarked-tabled}
 use Rattle.ref_objects.proofs.objects.Objects.is_unmarked.Goals as goal
 

@@ -1,4 +1,4 @@
-use Rattle.std.proofs.Common.{arith}
+use Rattle.ref_objects.proofs.Common.{arith}
 use Rattle.ref_objects.proofs.objects.Objects.kind_of.Goals as goal
 
 pub returns-in-Some : goal.returns-in-Some

@@ -1,16 +1,11 @@
-use Rattle.std.proofs.Common.{arith}
+use Rattle.ref_objects.proofs.Common.{arith}
 use Rattle.ref_objects.proofs.GroundLemmas.{no_cell, has_cell, seen_made}
 use Rattle.ref_objects.proofs.SoundLemmas.{made_sound}
 use Rattle.ref_objects.proofs.objects.Objects.make.Goals as goal
 
 pub returns-then-is_full-clause-refused : goal.returns-then-is_full-clause-refused
 returns-then-is_full-clause-refused g c =
-    grind (
-      arith,
-      no_cell c.self.inside.config c.self.inside.heap_no c.self.inside.table c.self.inside.slots.items
-          c.self.inside.holds c.self.inside.clock c.self.inside.next c.args.fields c.self.invariant.ground
-          c.if-fields-gt-MOST_FIELDS.false,
-    )
+    grind (arith, no_cell c.self.invariant.ground c.args.fields c.if-fields-gt-MOST_FIELDS.false)
 
 pub invariant_of-self : goal.invariant_of-self
 invariant_of-self g c =
@@ -21,18 +16,11 @@ invariant_of-self g c =
 
 pub returns-clause-refused : goal.returns-clause-refused
 returns-clause-refused g c =
-    grind (
-      arith,
-      has_cell c.self.inside.config c.self.inside.heap_no c.self.inside.table c.self.inside.slots.items
-          c.self.inside.holds c.self.inside.clock c.self.inside.next c.args.fields c.self.invariant.ground
-          c.if-fields-gt-MOST_FIELDS.false,
-    )
+    grind (arith, has_cell c.self.invariant.ground c.args.fields c.if-fields-gt-MOST_FIELDS.false)
 
 pub returns-clause-after : goal.returns-clause-after
 returns-clause-after g c =
     grind (
       arith,
-      seen_made c.self.inside.config c.self.inside.heap_no c.self.inside.table c.self.inside.slots.items c.self.inside.condemning
-          c.self.inside.clock c.self.inside.next c.args.place c.args.fields c.args.reference
-          c.self.invariant.ground.given c.len-count.ensures.orderly.given,
+      seen_made c.self.invariant.ground c.args.place c.args.fields c.args.reference c.len-count.ensures.orderly.given,
     )

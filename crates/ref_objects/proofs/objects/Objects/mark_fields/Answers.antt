@@ -1,16 +1,9 @@
-use Rattle.std.proofs.Common.{◌∙◌, ap, None, Option, ℕ, List}
-use Rattle.std.specs.Prelude.{slice_index_or}
-use Rattle.ref_objects.proofs.Common.{object_at}
-use Rattle.ref_objects.specs.Grounds.{fields_in}
+use Rattle.ref_objects.proofs.Common.{arith, ◌∙◌, ap, None, Option, ℕ, List, slice_index_or, object_at, fields_in}
 use Rattle.ref_objects.proofs.NewMarks.{marked_on, listed_few}
 use Rattle.ref_objects.proofs.objects.Objects.mark_fields.Goals as goal
 
 pub push_if_any-requires : goal.push_if_any-requires
-push_if_any-requires g c =
-    listed_few c.args.self.now (fields_in (object_at c.args.self.now.heap.objects c.args.no)) c.loop-field.anew
-    c.loop-field.field c.loop-field.invariant.1
-    (rw (c.len-field-end.ensures.count, c.fields_of-fields.ensures) at c.loop-field-test.true)
-    (rw (c.len-field-end.ensures.count, c.fields_of-fields.ensures) at c.len-field-end.ensures.few)
+push_if_any-requires g c = grind (arith, listed_few)
 
 pub loop-field-preserved : goal.loop-field-preserved
 loop-field-preserved g c =

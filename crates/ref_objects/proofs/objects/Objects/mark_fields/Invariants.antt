@@ -1,6 +1,4 @@
-use Rattle.std.proofs.Common.{◌≡◌, Some, map, take}
-use Rattle.ref_objects.proofs.Common.{object_at}
-use Rattle.ref_objects.specs.Grounds.{fields_in, all_marked, all_newly_marked}
+use Rattle.ref_objects.proofs.Common.{◌≡◌, Some, map, take, object_at, fields_in, all_marked, all_newly_marked}
 use Rattle.ref_objects.proofs.objects.Objects.mark_fields.Given as goal
 
 -- the fields up to here are marked, and those anew are listed

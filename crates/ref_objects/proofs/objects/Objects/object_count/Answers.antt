@@ -1,5 +1,4 @@
-use Rattle.std.proofs.Common.{sym, ◌∙◌}
-use Rattle.std.proofs.lemmas.List.{length-map}
+use Rattle.ref_objects.proofs.Common.{sym, ◌∙◌, length-map}
 use Rattle.ref_objects.proofs.objects.Objects.object_count.Goals as goal
 
 pub returns : goal.returns

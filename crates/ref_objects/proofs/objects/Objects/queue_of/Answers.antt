@@ -1,5 +1,4 @@
-use Rattle.std.proofs.Common.{arith}
-use Rattle.std.proofs.Common.{sym, ◌∙◌, ap}
+use Rattle.ref_objects.proofs.Common.{arith, sym, ◌∙◌, ap}
 use Rattle.ref_base.specs.Heaps.{registered_in}
 use Rattle.ref_objects.proofs.objects.Objects.queue_of.Goals as goal
 

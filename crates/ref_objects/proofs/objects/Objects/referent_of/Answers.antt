@@ -1,6 +1,4 @@
-use Rattle.std.proofs.Common.{arith}
-use Rattle.std.proofs.Common.{sym, ◌∙◌, ap}
-use Rattle.ref_base.specs.CollectorRows.{referent_of}
+use Rattle.ref_objects.proofs.Common.{arith, sym, ◌∙◌, ap, referent_of}
 use Rattle.ref_objects.proofs.objects.Objects.referent_of.Goals as goal
 
 pub returns-in_err-reference_of : goal.returns-in_err-reference_of

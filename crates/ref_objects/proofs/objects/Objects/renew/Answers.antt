@@ -1,4 +1,4 @@
-use Rattle.std.proofs.Common.{arith}
+use Rattle.ref_objects.proofs.Common.{arith}
 use Rattle.ref_objects.proofs.GotLemmas.{stamped_renewed, unstamped_renewed}
 use Rattle.ref_objects.proofs.objects.Objects.renew.Goals.{else-is_soft-via-then-is_soft+else-is_some}
 use Rattle.ref_objects.proofs.objects.Objects.renew.Goals.{else-is_soft-via-else-is_soft}

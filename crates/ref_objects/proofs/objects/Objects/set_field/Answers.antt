@@ -1,4 +1,4 @@
-use Rattle.std.proofs.Common.{arith}
+use Rattle.ref_objects.proofs.Common.{arith}
 use Rattle.ref_objects.proofs.ChangeLemmas.{changed-past}
 use Rattle.ref_objects.proofs.GroundLemmas.{has_field-tabled, seen_changed}
 use Rattle.ref_objects.proofs.SoundLemmas.{field_sound}
@@ -6,13 +6,11 @@ use Rattle.ref_objects.proofs.objects.Objects.set_field.Goals as goal
 
 pub invariant_of-self : goal.invariant_of-self
 invariant_of-self g c =
-    rw c.set_field.ensures.after
-    (field_sound c.self.invariant c.args.no c.args.field c.args.value c.self.view_is c.requires)
+    grind (arith, field_sound c.self.invariant c.args.no c.args.field c.args.value c.self.view_is c.requires)
 
 pub invariant_of-self-2 : goal.invariant_of-self-2
 invariant_of-self-2 g c =
-    rw c.set_field.ensures.after
-    (field_sound c.self.invariant c.args.no c.args.field c.args.value c.self.view_is c.requires)
+    grind (arith, field_sound c.self.invariant c.args.no c.args.field c.args.value c.self.view_is c.requires)
 
 pub returns-then-not-set_field-clause-refused : goal.returns-then-not-set_field-clause-refused
 returns-then-not-set_field-clause-refused g c = grind (arith, has_field-tabled)
@@ -25,8 +23,4 @@ returns-clause-refused g c = grind (arith, has_field-tabled)
 
 pub returns-clause-after : goal.returns-clause-after
 returns-clause-after g c =
-    grind (
-      arith,
-      seen_changed c.self.inside.config c.self.inside.heap_no c.self.inside.table c.self.inside.slots.items c.self.inside.condemning
-          c.self.inside.clock c.self.inside.next c.args.no,
-    )
+    grind (arith, seen_changed c.self.invariant.ground c.args.no)

@@ -1,4 +1,4 @@
-use Rattle.std.proofs.Common.{Some, sym, ◌∙◌, ap}
+use Rattle.ref_objects.proofs.Common.{Some, sym, ◌∙◌, ap}
 use Rattle.ref_objects.specs.Grounds.{stamp_in}
 use Rattle.ref_objects.proofs.objects.Objects.stamp_of.Goals as goal
 

@@ -1,5 +1,4 @@
-use Rattle.std.proofs.Common.{rules, ◌≡◌, ◌≤◌, ◌*◌, ◌^◌, true, None, replicate, arith}
-use Rattle.ref_base.specs.Limits.{is_within_limits}
+use Rattle.ref_objects.proofs.Common.{rules, ◌≡◌, ◌≤◌, ◌*◌, ◌^◌, true, None, replicate, arith, is_within_limits}
 use Rattle.ref_objects.proofs.SoundLemmas.{first_sound}
 use Rattle.ref_objects.proofs.objects.Objects.starting.Goals as goal
 

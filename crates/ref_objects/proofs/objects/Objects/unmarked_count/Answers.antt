@@ -1,4 +1,4 @@
-use Rattle.std.proofs.Common.{arith}
+use Rattle.ref_objects.proofs.Common.{arith}
 use Rattle.ref_objects.proofs.MarkLemmas.{unmarked-tabled, length-unmarked_of}
 use Rattle.ref_objects.proofs.objects.Objects.unmarked_count.Goals as goal
 

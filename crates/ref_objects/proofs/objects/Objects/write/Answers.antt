@@ -7,6 +7,4 @@ invariant_of-self g c = rw c.change.ensures (written_sound c.self.invariant c.ar
 
 pub returns : goal.returns
 returns g c =
-    rw (c.change.ensures, ← c.self.view_is)
-    (seen_written c.self.inside.config c.self.inside.heap_no c.self.inside.table c.self.inside.slots.items c.self.inside.condemning
-    c.self.inside.clock c.self.inside.next c.args.no c.args.change)
+    rw (c.change.ensures, ← c.self.view_is) (seen_written c.self.invariant.ground c.args.no c.args.change)

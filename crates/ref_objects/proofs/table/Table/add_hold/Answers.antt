@@ -1,27 +1,32 @@
-use Rattle.std.proofs.Common.{refl, arith}
-use Rattle.std.specs.Option.{is_some}
-use Rattle.ref_objects.proofs.Common.{holds_in}
-use Rattle.ref_objects.proofs.GroundLemmas.{holds_in-le}
-use Rattle.ref_objects.proofs.CellChanges.{sound_there, is_there, answered_there, left_there, answered_nowhere}
-use Rattle.ref_objects.proofs.CellChanges.{left_nowhere}
+use Rattle.ref_objects.proofs.Common.{refl, arith, may_hold, holds_in}
+use Rattle.ref_objects.proofs.GroundLemmas.{holds_in-le, held_keeps, held_leaves}
+use Rattle.ref_objects.proofs.CellChanges.{sound_there, answered_there, left_there, answered_nowhere, left_nowhere}
 use Rattle.ref_objects.proofs.table.Table.add_hold.Goals as goal
 
 pub invariant_of-self : goal.invariant_of-self
 invariant_of-self g c =
-    search (sound_there c.self.invariant c.args.no c.deref.ensures.value c.deref-2.ensures.value c.in-Some.ensures)
+    search (
+      held_keeps,
+      held_leaves,
+      sound_there c.self.invariant c.args.no c.deref.ensures.value c.deref-2.ensures.value c.in-Some.ensures,
+    )
 
 pub returns-in-Some-clause-there : goal.returns-in-Some-clause-there
 returns-in-Some-clause-there g c =
-    is_there c.self.invariant c.args.no c.deref.ensures.value c.deref-2.ensures.value c.in-Some.ensures c.self.view_is
+    answered_there c.self.invariant c.args.no c.deref.ensures.value c.deref-2.ensures.value c.in-Some.ensures
+    c.self.view_is (may_hold c.args.if_marked) c.index_mut.ensures.value c.add_hold.ensures.there
 
 pub returns-in-Some-clause-after : goal.returns-in-Some-clause-after
 returns-in-Some-clause-after g c =
-    search (left_there c.self.invariant c.args.no c.deref.ensures.value c.deref-2.ensures.value c.in-Some.ensures)
+    search (
+      held_keeps,
+      left_there c.self.invariant c.args.no c.deref.ensures.value c.deref-2.ensures.value c.in-Some.ensures,
+    )
 
 pub returns-in-None-clause-there : goal.returns-in-None-clause-there
 returns-in-None-clause-there g c =
     answered_nowhere c.self.invariant c.args.no c.deref.ensures.value c.deref-2.ensures.value c.in-None.ensures
-    c.self.view_is is_some
+    c.self.view_is (may_hold c.args.if_marked)
 
 pub returns-in-None-clause-after : goal.returns-in-None-clause-after
 returns-in-None-clause-after g c =

@@ -1,17 +1,20 @@
-use Rattle.ref_objects.specs.Tables.{change_of}
 use Rattle.ref_objects.proofs.CellChanges.{sound_there, left_there, left_nowhere, change_keeps, change_leaves}
 use Rattle.ref_objects.proofs.table.Table.change.Goals as goal
 
 pub invariant_of-self : goal.invariant_of-self
 invariant_of-self g c =
-    sound_there c.self.invariant c.args.no c.deref.ensures.value c.deref-2.ensures.value c.in-Some.ensures
-    (change_of c.args.change) (change_keeps c.args.change) c.index_mut.ensures.value c.change.ensures
-    (change_leaves c.args.change)
+    search (
+      change_keeps,
+      change_leaves,
+      sound_there c.self.invariant c.args.no c.deref.ensures.value c.deref-2.ensures.value c.in-Some.ensures,
+    )
 
 pub returns-in-Some : goal.returns-in-Some
 returns-in-Some g c =
-    left_there c.self.invariant c.args.no c.deref.ensures.value c.deref-2.ensures.value c.in-Some.ensures
-    (change_of c.args.change) (change_keeps c.args.change) c.index_mut.ensures.value c.change.ensures c.self.view_is
+    search (
+      change_keeps,
+      left_there c.self.invariant c.args.no c.deref.ensures.value c.deref-2.ensures.value c.in-Some.ensures,
+    )
 
 pub returns-in_default : goal.returns-in_default
 returns-in_default g c =

@@ -1,4 +1,4 @@
-use Rattle.std.proofs.Common.{arith}
+use Rattle.ref_objects.proofs.Common.{arith}
 use Rattle.ref_objects.proofs.PushLemmas.{seen_closed, placed_closed}
 use Rattle.ref_objects.proofs.table.Table.close_gaps.Goals as goal
 

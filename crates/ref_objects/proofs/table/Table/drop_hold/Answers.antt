@@ -1,5 +1,4 @@
-use Rattle.std.proofs.Common.{nat_lt}
-use Rattle.ref_objects.proofs.Common.{holds_in}
+use Rattle.ref_objects.proofs.Common.{nat_lt, holds_in}
 use Rattle.ref_objects.proofs.CellChanges.{sound_there, answered_there, left_there, answered_nowhere, left_nowhere}
 use Rattle.ref_objects.proofs.table.Table.drop_hold.Goals as goal
 

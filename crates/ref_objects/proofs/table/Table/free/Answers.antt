@@ -1,5 +1,4 @@
-use Rattle.std.proofs.Common.{arith}
-use Rattle.ref_objects.proofs.Common.{is_unmarked_in}
+use Rattle.ref_objects.proofs.Common.{arith, is_unmarked_in}
 use Rattle.ref_objects.proofs.CellChanges.{has_room, goes_answer, kept_there, freed_there, sound_freed}
 use Rattle.ref_objects.proofs.CellChanges.{answered_nowhere, freed_nowhere}
 use Rattle.ref_objects.proofs.table.Table.free.Goals as goal

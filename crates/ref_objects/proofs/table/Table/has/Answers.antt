@@ -1,4 +1,4 @@
-use Rattle.std.proofs.Common.{arith}
+use Rattle.ref_objects.proofs.Common.{arith}
 use Rattle.ref_objects.proofs.ChangeLemmas.{found_where_there}
 use Rattle.ref_objects.proofs.table.Table.has.Goals as goal
 

@@ -1,5 +1,4 @@
-use Rattle.std.proofs.Common.{subst}
-use Rattle.ref_objects.proofs.Common.{IsOrderlyTable}
+use Rattle.ref_objects.proofs.Common.{subst, IsOrderlyTable}
 use Rattle.ref_objects.proofs.TableLemmas.{orderly}
 use Rattle.ref_objects.proofs.table.Table.len.Goals as goal
 

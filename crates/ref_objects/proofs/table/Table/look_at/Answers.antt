@@ -1,8 +1,8 @@
-use Rattle.std.proofs.Common.{arith}
-use Rattle.ref_objects.proofs.CellChanges.{sound_there, look_told, cleared_there}
-use Rattle.ref_objects.proofs.CellChanges.{uncleared_there, look_nowhere, uncleared_nowhere}
-use Rattle.ref_objects.proofs.table.Table.look_at.Goals as goal
+use Rattle.ref_objects.proofs.Common.{arith}
+use Rattle.ref_objects.proofs.CellChanges.{sound_there, look_told, cleared_there, uncleared_there, look_nowhere}
+use Rattle.ref_objects.proofs.CellChanges.{uncleared_nowhere}
 use Rattle.ref_objects.proofs.table.Table.look_at.Goals.{then-is_cleared, else-is_cleared}
+use Rattle.ref_objects.proofs.table.Table.look_at.Goals as goal
 
 pub returns-in_default-clause-answer : goal.returns-in_default-clause-answer
 returns-in_default-clause-answer g c =

@@ -1,23 +1,11 @@
-use Rattle.std.proofs.Common.{true, ◌∙◌, ap, refl, arith}
-use Rattle.std.specs.Int.{from_bool}
-use Rattle.ref_objects.proofs.Common.{tabled_by, is_unmarked_in, with_marked}
-use Rattle.ref_objects.proofs.MarkLemmas.{from_bool-le, length-unmarked_of, marks_more}
-use Rattle.ref_objects.proofs.CellChanges.{sound_counted, answered_there, left_there, answered_nowhere, left_nowhere}
+use Rattle.ref_objects.proofs.Common.{true, ◌∙◌, ap, refl, arith, from_bool, tabled_by, is_unmarked_in, with_marked}
+use Rattle.ref_objects.proofs.MarkLemmas.{marks_more}
+use Rattle.ref_objects.proofs.CellChanges.{marks_fit, sound_counted, answered_there, left_there, answered_nowhere}
+use Rattle.ref_objects.proofs.CellChanges.{left_nowhere}
 use Rattle.ref_objects.proofs.table.Table.mark.Goals as goal
 
 pub overflow_add-self : goal.overflow_add-self
-overflow_add-self g c =
-    let marked = length-unmarked_of (tabled_by c.self.inside.cells.items c.self.inside.index.items) in
-    let one = from_bool-le c.mark-is_new.result in
-    omega (
-      arith,
-      marked,
-      one,
-      c.from.ensures,
-      c.self.invariant.marks_counted,
-      c.self.invariant.placed.counted,
-      c.self.invariant.placed.small,
-    )
+overflow_add-self g c = omega (arith, marks_fit c.self.invariant c.mark-is_new.result c.from.ensures)
 
 pub invariant_of-self : goal.invariant_of-self
 invariant_of-self g c =

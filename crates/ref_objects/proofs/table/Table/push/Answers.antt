@@ -1,8 +1,8 @@
-use Rattle.std.proofs.Common.{◌≡◌, ◌∙◌, ◌<◌, ap, sym, subst, refl, arith}
-use Rattle.std.proofs.lemmas.List.{length-set}
-use Rattle.ref_objects.proofs.Common.{tabled_by, Table, made_entry, with_tabled}
+use Rattle.ref_objects.proofs.Common.{◌≡◌, ◌∙◌, ◌<◌, sym, subst, refl, arith, length-set, tabled_by, Table}
+use Rattle.ref_objects.proofs.Common.{made_entry}
 use Rattle.ref_objects.proofs.PushLemmas.{can_make, tabled_by-made, seen_made, placed_made}
-use Rattle.ref_objects.proofs.MarkLemmas.{marks_made, from_bool-le, length-unmarked_of}
+use Rattle.ref_objects.proofs.MarkLemmas.{marks_made}
+use Rattle.ref_objects.proofs.CellChanges.{marks_fit}
 use Rattle.ref_objects.proofs.table.Table.push.Goals as goal
 
 pub index_mut-requires : goal.index_mut-requires
@@ -18,18 +18,7 @@ push_reserved-requires g c =
     omega (arith, c.make_room.new.index.ok.0, c.self.invariant.index_fits, c.make_room.ensures.capacity, can.room.room)
 
 pub overflow_add-self : goal.overflow_add-self
-overflow_add-self g c =
-    let marked = length-unmarked_of (tabled_by c.self.inside.cells.items c.self.inside.index.items) in
-    let one = from_bool-le c.args.marked in
-    omega (
-      arith,
-      marked,
-      one,
-      c.from.ensures,
-      c.self.invariant.marks_counted,
-      c.self.invariant.placed.counted,
-      c.self.invariant.placed.small,
-    )
+overflow_add-self g c = omega (arith, marks_fit c.self.invariant c.args.marked c.from.ensures)
 
 pub invariant_of-self : goal.invariant_of-self
 invariant_of-self g c =
@@ -60,5 +49,5 @@ returns g c =
     (c.len.ensures ∙ c.self.inside.cells.ok.0) c.make_room.ensures.entries c.pop.ensures.items c.unwrap-place.ensures in
     let rises = subst (λ (t : Table). t.last < c.args.no) (sym c.self.view_is) c.requires.rises in
     let number : (made_entry c.args.no c.args.count c.args.reference c.args.marked).object.no ≡ c.args.no = refl in
-    seen_made c.self.invariant.placed can rises number c.of.ensures c.push_reserved.ensures.items
-    ∙ ap (λ (t : Table). with_tabled t (made_entry c.args.no c.args.count c.args.reference c.args.marked)) c.self.view_is
+    rw (← c.self.view_is)
+    (seen_made c.self.invariant.placed can rises number c.of.ensures c.push_reserved.ensures.items)

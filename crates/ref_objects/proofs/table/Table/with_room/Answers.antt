@@ -1,4 +1,4 @@
-use Rattle.std.proofs.Common.{arith}
+use Rattle.ref_objects.proofs.Common.{arith}
 use Rattle.ref_objects.proofs.TableLemmas.{placed_new}
 use Rattle.ref_objects.proofs.table.Table.with_room.Goals as goal
 

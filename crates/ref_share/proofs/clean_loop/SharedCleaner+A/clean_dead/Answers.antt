@@ -1,5 +1,4 @@
-use Rattle.std.proofs.Common.{inr}
-use Rattle.ref_share.proofs.Common.{clean_view, heap_view}
+use Rattle.ref_share.proofs.Common.{inr, clean_view, heap_view}
 use Rattle.ref_share.proofs.CleanCalls.{has_taken}
 use Rattle.ref_share.proofs.clean_loop.SharedCleaner+A.clean_dead.Goals as goal
 

@@ -1,6 +1,5 @@
-use Rattle.std.proofs.Common.{length, ap, arith, subst, ◌≤◌}
+use Rattle.ref_share.proofs.Common.{length, ap, arith, subst, ◌≤◌, clean_view}
 use Rattle.ref_turn.proofs.Logs.{calls_by-shorter}
-use Rattle.ref_share.proofs.Common.{clean_view}
 use Rattle.ref_share.proofs.clean_loop.SharedCleaner+A.one_more.Goals as goal
 
 pub overflow_add-result : goal.overflow_add-result

@@ -1,7 +1,5 @@
-use Rattle.std.proofs.Common.{◌≡◌, List}
-use Rattle.ref_share.proofs.Common.{clean_view, Round, HasGone, jobs_run, heap_view, IsHeapSeat, queue_view}
-use Rattle.ref_share.proofs.Common.{IsQueueSeat}
-use Rattle.ref_share.specs.CleanLoops.{IsQuiet}
+use Rattle.ref_share.proofs.Common.{◌≡◌, List, clean_view, Round, HasGone, jobs_run, heap_view, IsHeapSeat, queue_view}
+use Rattle.ref_share.proofs.Common.{IsQueueSeat, IsQuiet}
 use Rattle.ref_share.specs.CleanSeats.{IsCleanSeat}
 use Rattle.ref_share.proofs.clean_loop.SharedCleaner+A.rounds.Given as goal
 

@@ -1,4 +1,4 @@
-use Rattle.std.proofs.Common.{arith}
+use Rattle.ref_share.proofs.Common.{arith}
 use Rattle.ref_share.proofs.SeatLists.{only_seat}
 use Rattle.ref_share.proofs.cleaned_heap.CleanedHeap+Job.cycle.Goals as goal
 

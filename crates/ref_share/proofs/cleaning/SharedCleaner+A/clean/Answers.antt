@@ -1,5 +1,4 @@
-use Rattle.std.proofs.Common.{subst}
-use Rattle.ref_share.proofs.Common.{clean_view, TakesJob}
+use Rattle.ref_share.proofs.Common.{subst, clean_view, TakesJob}
 use Rattle.ref_share.proofs.cleaning.SharedCleaner+A.clean.Goals as goal
 
 pub returns-in-Some-clause-cleans : goal.returns-in-Some-clause-cleans

@@ -1,5 +1,4 @@
-use Rattle.std.proofs.Common.{Err, subst}
-use Rattle.ref_share.proofs.Common.{heap_view, Releases}
+use Rattle.ref_share.proofs.Common.{Err, subst, heap_view, Releases}
 use Rattle.ref_share.proofs.cleaning.SharedCleaner+A.register.Goals as goal
 
 pub returns-in-Err-release-clause-registers : goal.returns-in-Err-release-clause-registers

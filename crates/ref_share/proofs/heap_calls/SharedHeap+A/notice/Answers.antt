@@ -1,6 +1,5 @@
-use Rattle.std.proofs.Common.{subst}
+use Rattle.ref_share.proofs.Common.{subst, Acts, heap_view, Called}
 use Rattle.ref_share.proofs.HeapAnswers.{gives_none}
-use Rattle.ref_share.proofs.Common.{Acts, heap_view, Called}
 use Rattle.ref_share.proofs.heap_calls.SharedHeap+A.notice.Goals as goal
 
 pub returns-in-Told-clause-gives : goal.returns-in-Told-clause-gives

@@ -1,6 +1,5 @@
-use Rattle.std.proofs.Common.{subst}
+use Rattle.ref_share.proofs.Common.{subst, Acts, heap_view, Called}
 use Rattle.ref_share.proofs.HeapAnswers.{spends_it, spends_none}
-use Rattle.ref_share.proofs.Common.{Acts, heap_view, Called}
 use Rattle.ref_share.proofs.heap_calls.SharedHeap+A.spend.Goals as goal
 
 pub returns-in-Ok-Told-clause-spends : goal.returns-in-Ok-Told-clause-spends

@@ -1,6 +1,5 @@
-use Rattle.std.proofs.Common.{subst}
+use Rattle.ref_share.proofs.Common.{subst, EndsAs, view}
 use Rattle.std.proofs.lemmas.Result.{IfOk-weaker}
-use Rattle.ref_share.proofs.Common.{EndsAs, view}
 use Rattle.ref_share.proofs.Seats.{left_so}
 use Rattle.ref_share.proofs.shared.Shared.end.Goals as goal
 

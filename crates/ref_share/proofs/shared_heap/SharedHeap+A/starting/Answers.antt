@@ -1,5 +1,5 @@
-use Rattle.std.proofs.Common.{refl}
-use Rattle.ref_share.proofs.Common.{HeapStands, IsHeapTurn}
+use Rattle.ref_share.proofs.Common.{refl, IsHeapTurn}
+use Rattle.ref_clear.specs.Standing.{HeapStands}
 use Rattle.ref_share.proofs.Seats.{first_seat}
 use Rattle.ref_share.proofs.shared_heap.SharedHeap+A.starting.Goals as goal
 

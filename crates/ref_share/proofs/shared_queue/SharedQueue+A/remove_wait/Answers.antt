@@ -1,6 +1,5 @@
-use Rattle.std.proofs.Common.{suc}
+use Rattle.ref_share.proofs.Common.{suc, queue_view}
 use Rattle.ref_share.proofs.Polls.{made_none, one_more_empty}
-use Rattle.ref_share.proofs.Common.{queue_view}
 use Rattle.ref_share.proofs.shared_queue.SharedQueue+A.remove_wait.Goals as goal
 
 pub loop-init : goal.loop-init

@@ -1,5 +1,4 @@
-use Rattle.std.proofs.Common.{ℕ}
-use Rattle.ref_share.proofs.Common.{empty_polls, queue_view, IsQueueSeat, Made}
+use Rattle.ref_share.proofs.Common.{ℕ, empty_polls, queue_view, IsQueueSeat, Made}
 use Rattle.ref_share.proofs.shared_queue.SharedQueue+A.remove_wait.Given as goal
 
 abbrev pub invariant-loop : goal.invariant-loop

@@ -1,5 +1,5 @@
-use Rattle.ref_share.proofs.Polls.{made_none}
 use Rattle.ref_share.proofs.Common.{queue_view}
+use Rattle.ref_share.proofs.Polls.{made_none}
 use Rattle.ref_share.proofs.shared_queue.SharedQueue+A.remove_within.Goals as goal
 
 pub loop-init : goal.loop-init

@@ -1,8 +1,5 @@
-use Rattle.std.proofs.Common.{rules, [], ◌∷◌, ◌++◌, refl, sym, ap, ◌∙◌}
-use Rattle.std.proofs.lemmas.List.{append-nil}
-use Rattle.atomic_table.specs.Table.{rest}
+use Rattle.ref_turn.proofs.Common.{rules, [], ◌∷◌, ◌++◌, refl, sym, ap, ◌∙◌, append-nil, rest, entry}
 use Rattle.ref_turn.proofs.Keeps.{adds}
-use Rattle.ref_turn.specs.Seats.{entry}
 use Rattle.ref_turn.proofs.turn.Turn.append.Goals as goal
 
 pub fetch_add-requires : goal.fetch_add-requires

@@ -1,5 +1,4 @@
-use Rattle.std.proofs.Common.{arith}
-use Rattle.std.proofs.Common.{rules}
+use Rattle.ref_turn.proofs.Common.{arith, rules}
 use Rattle.ref_turn.proofs.Keeps.{draws, looks, grabs}
 use Rattle.ref_turn.proofs.Stays.{idle_rests}
 use Rattle.ref_turn.proofs.turn.Turn.enter.Goals as goal

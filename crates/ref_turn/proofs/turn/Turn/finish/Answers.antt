@@ -1,7 +1,6 @@
-use Rattle.std.proofs.Common.{refl, sym, ap, ◌∙◌, subst, IsSome}
-use Rattle.std.proofs.lemmas.Option.{same_Some}
+use Rattle.ref_turn.proofs.Common.{refl, sym, ap, ◌∙◌, subst, same_Some, EndsAs}
+use Rattle.std.proofs.Common.{IsSome}
 use Rattle.ref_turn.proofs.Comings.{finishes}
-use Rattle.ref_turn.specs.Seats.{EndsAs}
 use Rattle.ref_turn.proofs.turn.Turn.finish.Goals as goal
 
 pub unwrap-requires : goal.unwrap-requires

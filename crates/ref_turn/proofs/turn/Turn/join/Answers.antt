@@ -1,5 +1,4 @@
-use Rattle.std.proofs.Common.{arith}
-use Rattle.std.proofs.Common.{rules, subst, sym, ap}
+use Rattle.ref_turn.proofs.Common.{arith, rules, subst, sym, ap}
 use Rattle.ref_turn.proofs.Comings.{joins}
 use Rattle.ref_turn.proofs.Keeps.{looks}
 use Rattle.ref_turn.proofs.Stays.{Rests}

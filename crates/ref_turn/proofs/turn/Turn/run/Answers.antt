@@ -1,5 +1,4 @@
-use Rattle.std.proofs.Common.{rules, ◌∷◌, refl, sym, ap, ◌∙◌, Some}
-use Rattle.atomic_table.specs.Table.{rest}
+use Rattle.ref_turn.proofs.Common.{rules, ◌∷◌, refl, sym, ap, ◌∙◌, Some, rest}
 use Rattle.ref_turn.proofs.Runs.{reached, ran}
 use Rattle.ref_turn.proofs.turn.Turn.run.Goals as goal
 

@@ -1,5 +1,4 @@
-use Rattle.std.proofs.Common.{Some}
-use Rattle.ref_turn.specs.Seats.{entry}
+use Rattle.ref_turn.proofs.Common.{Some, entry}
 use Rattle.ref_turn.proofs.turn.Turn.run.Given as goal
 
 abbrev pub ghosts-append : goal.ghosts-append

@@ -1,4 +1,4 @@
-use Rattle.std.proofs.Common.{rules}
+use Rattle.ref_turn.proofs.Common.{rules}
 use Rattle.ref_turn.proofs.Keeps.{looks}
 use Rattle.ref_turn.proofs.Stays.{idle_rests}
 use Rattle.ref_turn.proofs.turn.Turn.served.Goals as goal

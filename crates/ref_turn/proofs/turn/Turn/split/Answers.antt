@@ -1,4 +1,4 @@
-use Rattle.std.proofs.Common.{rules}
+use Rattle.ref_turn.proofs.Common.{rules}
 use Rattle.ref_turn.proofs.Comings.{splits}
 use Rattle.ref_turn.proofs.Keeps.{names}
 use Rattle.ref_turn.proofs.turn.Turn.split.Goals as goal

@@ -1,8 +1,7 @@
-use Rattle.std.proofs.Common.{◌∷◌, [], ◌++◌, Some, sym, ap, ◌∙◌, subst}
-use Rattle.atomic_table.specs.Table.{opening}
-use Rattle.ref_turn.proofs.Comings.{starts}
+use Rattle.ref_turn.proofs.Common.{◌∷◌, [], ◌++◌, Some, sym, ap, ◌∙◌, subst, opening, first_view}
 use Rattle.ref_turn.specs.declared.history.Origin.{Origin}
-use Rattle.ref_turn.specs.Rule.{first_view, Turned}
+use Rattle.ref_turn.specs.Rule.{Turned}
+use Rattle.ref_turn.proofs.Comings.{starts}
 use Rattle.ref_turn.proofs.turn.Turn.starting.Goals as goal
 
 pub new-requires : goal.new-requires

@@ -1,4 +1,4 @@
-use Rattle.ref_turn.specs.Seats.{Longer}
+use Rattle.ref_turn.proofs.Common.{Longer}
 use Rattle.ref_turn.specs.Turns.{IsSamePlace, IsIdle}
 use Rattle.ref_turn.proofs.turn.Turn.wait_turn.Given as goal
 

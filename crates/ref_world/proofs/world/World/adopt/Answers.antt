@@ -1,12 +1,7 @@
-use Rattle.std.proofs.Common.{arith}
-use Rattle.std.proofs.Common.{◌≡◌, None, refl, sym, subst}
-use Rattle.ref_world.proofs.Common.{drop_refusal, Core, heap_no_of, model_heap}
-use Rattle.ref_base.specs.declared.step.Step.TheVariants as steps
-use Rattle.ref_world.proofs.AskedRows.{does_answered}
-use Rattle.ref_world.proofs.HandRows.{adopt_reply, adopt_done, adopted_told}
+use Rattle.ref_world.proofs.Common.{arith, ◌≡◌, None, sym, subst, drop_refusal, Core, heap_no_of, model_heap}
+use Rattle.ref_world.proofs.HandRows.{adopt_reply, adopted_told}
 use Rattle.ref_world.proofs.Refusals.{empty_at_adopt}
-use Rattle.ref_world.proofs.SoundCores.{sound_after}
-use Rattle.ref_world.specs.Standing.{answered}
+use Rattle.ref_world.proofs.HandSteps.{adopt_does}
 use Rattle.ref_world.proofs.world.World.adopt.Goals as goal
 
 pub returns-in_err-take : goal.returns-in_err-take
@@ -32,28 +27,12 @@ invariant_of-self g c = rw c.in_err-take.ensures.kept c.self.invariant
 
 pub invariant_of-self-2 : goal.invariant_of-self-2
 invariant_of-self-2 g c =
-    let old : Core =
-    record { heap = c.self.inside.heap; hands = c.self.inside.hands; queues = c.self.inside.queues.items } in
-    let slot =
-    subst (λ (o : Core). drop_refusal (model_heap o.heap) c.args.mutator c.args.slot ≡ None) (sym c.self.view_is)
-    c.in_ok-check_slot.ensures in
-    let notice = c.in_ok-take.field-0 in
-    sound_after old (record old { heap = c.apply_heap.new.heap; hands = c.take.new.self })
-    (steps.Adopt c.args.mutator c.args.slot) (answered c.told.result) refl c.self.invariant
-    (adopt_done old c.self.invariant.reached c.args.mutator c.args.slot notice _ c.into_hold-hold.result slot
-    c.in_ok-take.ensures.refused c.in_ok-take.ensures.answer c.into_hold-hold.ensures
-    c.told.ensures c.apply_heap.ensures.does c.in_ok-take.ensures.taken)
+    (adopt_does c.self.invariant c.self.view_is c.told.result c.args.mutator c.args.slot c.in_ok-take.field-0 _
+    c.into_hold-hold.result c.in_ok-check_slot.ensures c.in_ok-take.ensures.refused c.in_ok-take.ensures.answer
+    c.into_hold-hold.ensures c.told.ensures c.apply_heap.ensures.does c.in_ok-take.ensures.taken).1
 
 pub returns : goal.returns
 returns g c =
-    let old : Core =
-    record { heap = c.self.inside.heap; hands = c.self.inside.hands; queues = c.self.inside.queues.items } in
-    let slot =
-    subst (λ (o : Core). drop_refusal (model_heap o.heap) c.args.mutator c.args.slot ≡ None) (sym c.self.view_is)
-    c.in_ok-check_slot.ensures in
-    let notice = c.in_ok-take.field-0 in
-    rw (← c.self.view_is)
-    (does_answered old (steps.Adopt c.args.mutator c.args.slot) c.told.result _
-    (adopt_done old c.self.invariant.reached c.args.mutator c.args.slot notice _ c.into_hold-hold.result slot
-    c.in_ok-take.ensures.refused c.in_ok-take.ensures.answer c.into_hold-hold.ensures
-    c.told.ensures c.apply_heap.ensures.does c.in_ok-take.ensures.taken))
+    (adopt_does c.self.invariant c.self.view_is c.told.result c.args.mutator c.args.slot c.in_ok-take.field-0 _
+    c.into_hold-hold.result c.in_ok-check_slot.ensures c.in_ok-take.ensures.refused c.in_ok-take.ensures.answer
+    c.into_hold-hold.ensures c.told.ensures c.apply_heap.ensures.does c.in_ok-take.ensures.taken).0

@@ -1,4 +1,4 @@
-use Rattle.std.proofs.Common.{arith}
+use Rattle.ref_world.proofs.Common.{arith}
 use Rattle.ref_world.proofs.FirstCores.{first_sound}
 use Rattle.ref_world.proofs.world.World.new.Goals as goal
 

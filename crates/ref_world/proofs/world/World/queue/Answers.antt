@@ -1,5 +1,4 @@
-use Rattle.std.proofs.Common.{ap, arith}
-use Rattle.ref_world.proofs.Common.{Config, Core}
+use Rattle.ref_world.proofs.Common.{ap, arith, Config, Core}
 use Rattle.ref_world.proofs.QueueRows.{read_here}
 use Rattle.ref_world.proofs.ReachedCores.{queue_count}
 use Rattle.ref_world.proofs.world.World.queue.Goals as goal

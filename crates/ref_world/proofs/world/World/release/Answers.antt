@@ -1,12 +1,7 @@
-use Rattle.std.proofs.Common.{arith}
-use Rattle.std.proofs.Common.{refl}
-use Rattle.ref_base.specs.declared.step.Step.TheVariants as steps
-use Rattle.ref_world.proofs.Common.{Core, heap_no_of}
-use Rattle.ref_world.proofs.AskedRows.{does_answered}
-use Rattle.ref_world.proofs.HandRows.{release_reply, release_done, released_told}
+use Rattle.ref_world.proofs.Common.{arith, Core, heap_no_of}
+use Rattle.ref_world.proofs.HandRows.{release_reply, released_told}
 use Rattle.ref_world.proofs.Refusals.{empty_at_release}
-use Rattle.ref_world.proofs.SoundCores.{sound_after}
-use Rattle.ref_world.specs.Standing.{answered}
+use Rattle.ref_world.proofs.HandSteps.{release_does}
 use Rattle.ref_world.proofs.world.World.release.Goals as goal
 
 pub returns-in_err-take : goal.returns-in_err-take
@@ -27,22 +22,12 @@ invariant_of-self g c = rw c.in_err-take.ensures.kept c.self.invariant
 
 pub invariant_of-self-2 : goal.invariant_of-self-2
 invariant_of-self-2 g c =
-    let old : Core =
-    record { heap = c.self.inside.heap; hands = c.self.inside.hands; queues = c.self.inside.queues.items } in
-    let notice = c.in_ok-take.field-0 in
-    sound_after old (record old { heap = c.apply_heap.new.heap; hands = c.take.new.self })
-    (steps.Release c.args.actor) (answered c.told.result) refl c.self.invariant
-    (release_done old c.self.invariant.reached c.args.actor notice _ c.into_hold-hold.result
-    c.in_ok-take.ensures.refused c.in_ok-take.ensures.answer c.into_hold-hold.ensures
-    c.told.ensures c.apply_heap.ensures.does c.in_ok-take.ensures.taken)
+    (release_does c.self.invariant c.self.view_is c.told.result c.args.actor c.in_ok-take.field-0 _
+    c.into_hold-hold.result c.in_ok-take.ensures.refused c.in_ok-take.ensures.answer c.into_hold-hold.ensures
+    c.told.ensures c.apply_heap.ensures.does c.in_ok-take.ensures.taken).1
 
 pub returns : goal.returns
 returns g c =
-    let old : Core =
-    record { heap = c.self.inside.heap; hands = c.self.inside.hands; queues = c.self.inside.queues.items } in
-    let notice = c.in_ok-take.field-0 in
-    rw (← c.self.view_is)
-    (does_answered old (steps.Release c.args.actor) c.told.result _
-    (release_done old c.self.invariant.reached c.args.actor notice _ c.into_hold-hold.result
-    c.in_ok-take.ensures.refused c.in_ok-take.ensures.answer c.into_hold-hold.ensures
-    c.told.ensures c.apply_heap.ensures.does c.in_ok-take.ensures.taken))
+    (release_does c.self.invariant c.self.view_is c.told.result c.args.actor c.in_ok-take.field-0 _
+    c.into_hold-hold.result c.in_ok-take.ensures.refused c.in_ok-take.ensures.answer c.into_hold-hold.ensures
+    c.told.ensures c.apply_heap.ensures.does c.in_ok-take.ensures.taken).0

@@ -1,5 +1,4 @@
-use Rattle.std.proofs.Common.{refl}
-use Rattle.refrun.proofs.Common.{job_number}
+use Rattle.refrun.proofs.Common.{refl, job_number}
 use Rattle.refrun.proofs.JobLemmas.{registers_job, refuses_job}
 use Rattle.refrun.proofs.jobs.Stage.register.Goals as goal
 

@@ -1,5 +1,4 @@
-use Rattle.std.proofs.Common.{refl}
-use Rattle.refrun.proofs.Common.{job_number, note_of}
+use Rattle.refrun.proofs.Common.{refl, job_number, note_of}
 use Rattle.refrun.proofs.JobLemmas.{gone_row, ran_row}
 use Rattle.refrun.proofs.jobs.Stage.run.Goals as goal
 

@@ -1,5 +1,4 @@
-use Rattle.std.proofs.Common.{refl}
-use Rattle.refrun.proofs.Common.{job_number, note_of}
+use Rattle.refrun.proofs.Common.{refl, job_number, note_of}
 use Rattle.refrun.proofs.JobLemmas.{job_row, job_refused_row, run_refused_row}
 use Rattle.refrun.proofs.jobs.Stage.step.Goals as goal
 

@@ -1,5 +1,4 @@
-use Rattle.std.proofs.Common.{sym}
-use Rattle.std.proofs.lemmas.Bool.{ne_eqb}
+use Rattle.refrun.proofs.Common.{sym, ne_eqb}
 use Rattle.refrun.specs.LineViews.{line_of}
 use Rattle.refrun.proofs.Cuts.{content_before_cr, content_kept}
 use Rattle.refrun.proofs.lines.Line.content.Goals as goal

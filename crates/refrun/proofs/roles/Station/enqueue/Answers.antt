@@ -1,4 +1,4 @@
-use Rattle.std.proofs.Common.{arith, refl}
+use Rattle.refrun.proofs.Common.{arith, refl}
 use Rattle.ref_share.proofs.SeatLists.{only_seat}
 use Rattle.refrun.proofs.roles.Station.enqueue.Goals as goal
 

@@ -1,6 +1,5 @@
-use Rattle.std.proofs.Common.{subst, sym}
+use Rattle.refrun.proofs.Common.{subst, sym, StaysSeated}
 use Rattle.refrun.proofs.SeatLists.{stays_on}
-use Rattle.refrun.proofs.Common.{StaysSeated}
 use Rattle.refrun.proofs.roles.Station.mutate.Goals.{then-is_made+then-round-eq0+in_ok-enqueue, else-is_made}
 use Rattle.refrun.proofs.roles.Station.mutate.Goals as goal
 

@@ -1,5 +1,4 @@
-use Rattle.std.proofs.Common.{arith}
-use Rattle.std.proofs.lemmas.Result.{err_from_is_err_and}
+use Rattle.refrun.proofs.Common.{arith, err_from_is_err_and}
 use Rattle.refrun.proofs.WriteLemmas.{written_more, written_prefix, written_then}
 use Rattle.refrun.proofs.sink.ToWriterTextSink.write_text.Goals as goal
 

@@ -1,4 +1,4 @@
-use Rattle.std.proofs.Common.{◌≡◌, length}
+use Rattle.refrun.proofs.Common.{◌≡◌, length}
 use Rattle.refrun.proofs.WriteLemmas.{HasWritten}
 use Rattle.refrun.proofs.sink.ToWriterTextSink.write_text.Given as goal
 

@@ -1,5 +1,4 @@
-use Rattle.std.proofs.Common.{◌≡◌, ◌-◌}
-use Rattle.std.specs.Io.KnownBytes.{Keeps}
+use Rattle.refrun.proofs.Common.{◌≡◌, ◌-◌, Keeps}
 use Rattle.refrun.proofs.source.FromReaderTextSource.read.Given as goal
 
 abbrev pub invariant-loop-self : goal.invariant-loop-self
