@@ -1,9 +1,10 @@
 -- What the cells hold as each object is changed: no mark is left, or what isn't marked refers to nothing.
-use Rattle.ref_objects.proofs.Common.{◌≡◌, ℕ, ◌<◌, refl, ◌∙◌, ap, List, [], ◌∷◌, length, map, Option, Some, None, arith}
+use Rattle.ref_objects.proofs.Common.{◌≡◌, ℕ, refl, ◌∙◌, ap, List, [], ◌∷◌, length, map, Option, Some, None, arith}
 use Rattle.ref_objects.proofs.Common.{length-map, option_map, nulls, IsSoundTable, numbers_by, blanked_unless_marked}
-use Rattle.ref_objects.proofs.Common.{cell_at, before, tabled_by, seen_table, AreFree, IsPlaced, Tabled, Table}
-use Rattle.ref_objects.proofs.Common.{marked_of, Entry}
+use Rattle.ref_objects.proofs.Common.{cell_at, before, tabled_by, seen_table, IsPlaced, Tabled, Table, Use, marked_of}
+use Rattle.ref_objects.proofs.Common.{Entry, is_none}
 use Rattle.std.proofs.lemmas.List.{with_items_is}
+use Rattle.ref_objects.proofs.FreeLemmas.{is_none-mapped}
 use Rattle.std.specs.Prelude.{Vec}
 use Rattle.std.specs.Vec.{with_items}
 use Rattle.std.proofs.Math.ListN.{get_or-map}
@@ -24,15 +25,10 @@ module _ (f : Tabled → Tabled) (keeps : (k : Tabled) → (f k).object.no ≡ k
       ∙ ap (before (option_map f (cell_at cells e.place)) e.no) (tabled_by-each cells es)
       ∙ before-each (cell_at cells e.place) e.no (tabled_by cells es)
 
-  AreFree-each : (cells : List (Option Tabled)) (ps : List ℕ) → AreFree cells ps
-      → AreFree (map (option_map f) cells) ps
-  AreFree-each cells [] free = tt
-  AreFree-each cells (p ∷ ps) free = (
-    (let within : p < length cells = free.0 in omega (arith, length-map cells (option_map f))),
-    get_or-map (option_map f) cells p None ∙ ap (option_map f) free.1,
-    free.2,
-    AreFree-each cells ps free.3,
-  )
+  -- and as many hold something
+  is_none-each : (cells : List (Option Tabled)) → map is_none (map (option_map f) cells) ≡ map is_none cells
+  is_none-each [] = refl
+  is_none-each (c ∷ cs) = grind (arith, is_none-mapped, is_none-each cs)
 
   -- and so where they are lent for it
   pub items_each : {Z : Type 0} (v : Vec (Option Tabled) Z) {lent now : List (Option Tabled)} → length v.items ≡ v.len
@@ -49,19 +45,19 @@ module _ (f : Tabled → Tabled) (keeps : (k : Tabled) → (f k).object.no ≡ k
     pub length-all : length ds ≡ length cells
     length-all = ap length is ∙ length-map cells (option_map f)
 
-    pub seen_all : (last : ℕ)
-        → seen_table ds es last
-        ≡ (let t : Table = seen_table cells es last in record t { tabled = map f t.tabled })
-    seen_all last = λ i. record { tabled = tabled_by-all i; room = length-all i; last = last }
+    pub seen_all : (last room : ℕ)
+        → seen_table ds es last room
+        ≡ (let t : Table = seen_table cells es last room in record t { tabled = map f t.tabled })
+    seen_all last room = λ i. record { tabled = tabled_by-all i; room = room; last = last }
 
-    pub placed_all : {ps : List ℕ} {last : ℕ} → IsPlaced cells es ps last → IsPlaced ds es ps last
-    placed_all {ps} {last} placed = grind (arith, tabled_by-all, length-map, AreFree-each)
+    pub placed_all : {ps : List Use} {last : ℕ} → IsPlaced cells es ps last → IsPlaced ds es ps last
+    placed_all {ps} {last} placed = grind (arith, tabled_by-all, length-map, is_none-each)
 
-    pub sound_all : {ps : List ℕ} {last index_room places_room marked count : ℕ}
-        → IsSoundTable cells es ps last index_room places_room marked
-        → count ≡ length (marked_of (map f (tabled_by cells es)))
-        → IsSoundTable ds es ps last index_room places_room count
-    sound_all sound counted = search (placed_all, length-all, tabled_by-all)
+    pub sound_all : {ps : List Use} {last room count index_room marked marks : ℕ}
+        → IsSoundTable cells es ps last room count index_room marked
+        → marks ≡ length (marked_of (map f (tabled_by cells es)))
+        → IsSoundTable ds es ps last room count index_room marks
+    sound_all sound counted = search (placed_all, length-all, tabled_by-all, length-map)
 
   -- what is counted of each object is counted of it changed
   pub numbers_by-each : (count : Tabled → ℕ) → ((k : Tabled) → count (f k) ≡ count k) → (ks : List Tabled)

@@ -1,53 +1,83 @@
--- Which places are free.
-use Rattle.ref_objects.proofs.Common.{◌≡◌, ℕ, ◌+◌, ◌<◌, ◌≤◌, true, false, refl, List, [], ◌∷◌, ◌++◌, length, set}
-use Rattle.ref_objects.proofs.Common.{replicate, Option, None, zero, suc, arith, get_or-set_other, length-set}
-use Rattle.ref_objects.proofs.Common.{length-replicate, length_push, has, cell_at, is_of, places_below, AreFree, Tabled}
-use Rattle.std.proofs.lemmas.List.{get_or-replicate}
-use Rattle.ref_base.proofs.HasLaws.{has-append}
+-- Which cells are free: those that hold nothing, as the pages have it.
+use Rattle.ref_objects.proofs.Common.{◌≡◌, ℕ, ◌+◌, ◌*◌, ◌<◌, Bool, true, false, sym, refl, ◌∙◌, ap, List, length, set}
+use Rattle.ref_objects.proofs.Common.{map, replicate, zero, Option, Some, None, suc, arith, length-map, is_none}
+use Rattle.ref_objects.proofs.Common.{option_map, cell_at, AreFree, Tabled, Use, next_place, taken_of, with_cell, ◌∷◌}
+use Rattle.std.proofs.lemmas.Bool.{false≢true}
+use Rattle.std.proofs.lemmas.List.{map-set, get_or-map}
+use Rattle.std.proofs.Math.Seq.{map-set_same}
+use Rattle.ref_space.specs.Pages.{fresh_pages, is_free_at}
+use Rattle.ref_space.proofs.PageLemmas.{fresh_whole, whole_with}
+use Rattle.ref_space.proofs.RoomLemmas.{taken_more, taken_fewer}
+use Rattle.ref_space.proofs.FreeCells.{length-free_in, free_in-with, free_in-fresh, is_free_at-free_in, next_place_free}
+use Rattle.ref_space.proofs.FreeCells.{IsFreeCell}
 
--- a place whose cell holds something isn't free
-pub AreFree-apart : (cells : List (Option Tabled)) (ps : List ℕ) (p n : ℕ) → AreFree cells ps
-    → is_of (cell_at cells p) n ≡ true → has ps p ≡ false
-AreFree-apart cells [] p n free own = refl
-AreFree-apart cells (q ∷ qs) p n free own = grind (arith, AreFree-apart cells qs p n free.3 own)
+pub is_none-mapped : (f : Tabled → Tabled) (c : Option Tabled) → is_none (option_map f c) ≡ is_none c
+is_none-mapped f None = refl
+is_none-mapped f (Some k) = refl
 
--- the others stay free after a write to a cell
-pub AreFree-set : (cells : List (Option Tabled)) (ps : List ℕ) (p : ℕ) (c : Option Tabled) → AreFree cells ps
-    → has ps p ≡ false → AreFree (set cells p c) ps
-AreFree-set cells [] p c free apart = tt
-AreFree-set cells (q ∷ qs) p c free apart = grind (arith, length-set, get_or-set_other, AreFree-set cells qs p c free.3)
+holds_nothing : (c : Option Tabled) → is_none c ≡ true → c ≡ None
+holds_nothing None none = refl
+holds_nothing (Some k) none = absurd (false≢true none)
 
--- one more free place
-pub AreFree-push : (cells : List (Option Tabled)) (ps : List ℕ) (p : ℕ) → AreFree cells ps → p < length cells
-    → cell_at cells p ≡ None → has ps p ≡ false → AreFree cells (ps ++ p ∷ [])
-AreFree-push cells [] p free within none apart = (within, none, refl, tt)
-AreFree-push cells (q ∷ qs) p free within none apart =
-    grind (arith, has-append, AreFree-push cells qs p free.3 within none)
-
--- what a free place says that stands last
-pub record PopsFree (cells : List (Option Tabled)) (ps : List ℕ) (p : ℕ) : Type 0 where
+-- a new object's place: a free cell, which the pages have as taken once it holds the object
+pub record IsTaken (cells : List (Option Tabled)) (ps qs : List Use) (p : ℕ) : Type 0 where
   pub within : p < length cells
   pub none : cell_at cells p ≡ None
-  pub apart : has ps p ≡ false
-  pub rest : AreFree cells ps
+  pub free : (c : Option Tabled) → is_none c ≡ false → AreFree (set cells p c) qs
+  pub more : taken_of qs ≡ suc (taken_of ps)
 
-pub AreFree-pop : (cells : List (Option Tabled)) (ps : List ℕ) (p : ℕ) → AreFree cells (ps ++ p ∷ [])
-    → PopsFree cells ps p
-AreFree-pop cells [] p free = record { within = free.0; none = free.1; apart = refl; rest = tt }
-AreFree-pop cells (q ∷ qs) p free = grind (arith, has-append, AreFree-pop cells qs p free.3)
+-- the place of an object that goes
+pub record IsGiven (cells : List (Option Tabled)) (ps qs : List Use) (p : ℕ) : Type 0 where
+  pub free : AreFree (set cells p None) qs
+  pub fewer : taken_of ps ≡ suc (taken_of qs)
 
--- ---- the places of a new table
+module _ {cells : List (Option Tabled)} {ps : List Use} (free : AreFree cells ps) where
+  -- the pages have as many cells
+  pub length-free : length cells ≡ 64 * length ps
+  length-free = sym (length-map cells is_none) ∙ ap length free.empty ∙ length-free_in ps free.whole
 
-pub length-places_below : (room count : ℕ) → length (places_below room count) ≡ count
-length-places_below room zero = refl
-length-places_below room (suc count) = grind (arith, length_push, length-places_below room count)
+  -- a change of what a cell holds leaves which are free
+  pub AreFree-changed : (p : ℕ) (c : Option Tabled) → is_none c ≡ is_none (cell_at cells p)
+      → AreFree (set cells p c) ps
+  AreFree-changed p c same =
+      record { whole = free.whole; empty = map-set_same is_none cells p c None same ∙ free.empty }
 
--- a place that is lower than those that were counted isn't among them
-has-places_below : (room count p : ℕ) → count ≤ room → p + count < room → has (places_below room count) p ≡ false
-has-places_below room zero p fits low = refl
-has-places_below room (suc count) p fits low = grind (arith, has-append, has-places_below room count p)
+  module _ (page cell p : ℕ) (cell_there : cell < 64) (at : 64 * page + cell ≡ p) where
+    -- a cell of a page is taken or given back
+    AreFree-with : (c : Option Tabled) (b : Bool) → page < length ps → is_none c ≡ b
+        → AreFree (set cells p c) (with_cell ps page cell b)
+    AreFree-with c b page_there is = grind (arith, map-set, free_in-with, whole_with)
 
-pub AreFree-places_below : (room count : ℕ) → count ≤ room → AreFree (replicate room None) (places_below room count)
-AreFree-places_below room zero fits = tt
-AreFree-places_below room (suc count) fits =
-    grind (arith, length-replicate, AreFree-push, get_or-replicate, has-places_below, AreFree-places_below room count)
+    -- whether it is free is whether it holds nothing
+    is_free-none : p < length cells → is_free_at ps page cell ≡ is_none (cell_at cells p)
+    is_free-none within = grind (arith, is_free_at-free_in, get_or-map)
+
+  pub taken_next : (at : ℕ × ℕ) → next_place ps ≡ Some at
+      → IsTaken cells ps (with_cell ps at.0 at.1 false) (64 * at.0 + at.1)
+  taken_next at next =
+      let there : IsFreeCell ps at.0 at.1 = next_place_free ps at free.whole next in
+      let p = 64 * at.0 + at.1 in
+      let within : p < length cells = omega (arith, length-free, there.page_there, there.cell_there) in
+      record {
+        within = within;
+        none = grind (arith, holds_nothing, is_free-none at.0 at.1 p there.cell_there);
+        free = λ c some. AreFree-with at.0 at.1 p there.cell_there refl c false there.page_there some;
+        more = taken_more ps at.0 at.1 there.is_free;
+      }
+
+  pub given_back : (page cell p : ℕ) → cell < 64 → 64 * page + cell ≡ p → p < length cells
+      → is_none (cell_at cells p) ≡ false → IsGiven cells ps (with_cell ps page cell true) p
+  given_back page cell p cell_there at within own =
+      let page_there : page < length ps = omega (arith, length-free, at) in
+      record {
+        free = AreFree-with page cell p cell_there at None true page_there refl;
+        fewer = grind (arith, taken_fewer, is_free-none page cell p);
+      }
+
+map-nothing : (n : ℕ) → map is_none (let nothing : Option Tabled = None in replicate n nothing) ≡ replicate n true
+map-nothing zero = refl
+map-nothing (suc n) = ap (λ bs. true ∷ bs) (map-nothing n)
+
+pub AreFree-fresh : (first count : ℕ) → AreFree (replicate (64 * count) None) (fresh_pages first count)
+AreFree-fresh first count =
+    record { whole = fresh_whole first count; empty = map-nothing (64 * count) ∙ sym (free_in-fresh first count) }

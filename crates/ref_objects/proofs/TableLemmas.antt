@@ -1,9 +1,11 @@
 -- What holds of every table, and of a new one.
-use Rattle.ref_objects.proofs.Common.{◌≡◌, ℕ, ◌<◌, ◌≤◌, ◌^◌, ◌∙◌, ap, List, [], ◌∷◌, length, replicate, Option, Some}
-use Rattle.ref_objects.proofs.Common.{None, arith, length-replicate, numbers, IsRising, cell_at, before, tabled_by}
-use Rattle.ref_objects.proofs.Common.{places_below, seen_table, AllAbove, NoneAbove, Rises, IsPlaced, Tabled}
+use Rattle.ref_objects.proofs.Common.{◌≡◌, ℕ, ◌<◌, ◌≤◌, ◌^◌, ◌∙◌, ◌*◌, ap, List, [], ◌∷◌, length, replicate, Option}
+use Rattle.ref_objects.proofs.Common.{Some, None, arith, length-replicate, numbers, IsRising, cell_at, before}
+use Rattle.ref_objects.proofs.Common.{tabled_by, seen_table, AllAbove, NoneAbove, Rises, IsSoundTable, Tabled, Use}
 use Rattle.ref_objects.proofs.Common.{objects_of, AllUpTo, IsOrderlyTable, Entry}
-use Rattle.ref_objects.proofs.FreeLemmas.{length-places_below, AreFree-places_below}
+use Rattle.ref_space.specs.Pages.{fresh_pages}
+use Rattle.ref_space.proofs.RoomLemmas.{fresh_taken}
+use Rattle.ref_objects.proofs.FreeLemmas.{AreFree-fresh}
 
 -- ---- numbers that rise
 
@@ -48,16 +50,16 @@ AllUpTo-tabled_by : (cells : List (Option Tabled)) (es : List Entry) (last : ℕ
 AllUpTo-tabled_by cells [] last given = tt
 AllUpTo-tabled_by cells (e ∷ es) last given = search (AllUpTo-before, AllUpTo-tabled_by cells es last given.1)
 
-pub orderly : {cells : List (Option Tabled)} {es : List Entry} {ps : List ℕ} {last : ℕ} → IsPlaced cells es ps last
-    → IsOrderlyTable (seen_table cells es last)
-orderly {cells} {es} {ps} {last} placed = grind (arith, IsRising-tabled_by, AllUpTo-tabled_by)
+pub orderly : {cells : List (Option Tabled)} {es : List Entry} {ps : List Use}
+    {last room count index_room marked : ℕ} → IsSoundTable cells es ps last room count index_room marked
+    → IsOrderlyTable (seen_table cells es last room)
+orderly {cells} {es} {ps} {last} {room} sound = grind (arith, IsRising-tabled_by, AllUpTo-tabled_by)
 
 -- ---- a new table
 
-module _ {cells : List (Option Tabled)} {es : List Entry} {ps : List ℕ} {room : ℕ} (small : room ≤ 2 ^ 16)
-    (are : cells ≡ replicate room None) (none : es ≡ []) (places : ps ≡ places_below room room) where
-  pub length_new : length cells ≡ room
-  length_new = ap length are ∙ length-replicate room None
-
-  pub placed_new : IsPlaced cells es ps 0
-  placed_new = grind (arith, length-places_below, AreFree-places_below, length_new)
+pub sound_new : {cells : List (Option Tabled)} {es : List Entry} {ps : List Use} (first count room index_room : ℕ)
+    → room ≤ 64 * count → 64 * count ≤ 2 ^ 16 → 128 * count ≤ index_room → cells ≡ replicate (64 * count) None
+    → es ≡ [] → ps ≡ fresh_pages first count → IsSoundTable cells es ps 0 room 0 index_room 0
+sound_new {cells} {es} {ps} first count room index_room fits small index_fits are none new =
+    let size : length cells ≡ 64 * count = ap length are ∙ length-replicate (64 * count) None in
+    grind (arith, AreFree-fresh first count, fresh_taken first count, size)

@@ -1,11 +1,11 @@
--- How the table lies in memory: cells by place, an index of places by number, and the places that are free.
-use Rattle.std.specs.Prelude.{◌≡◌, ℕ, zero, suc, ◌+◌, ◌-◌, ◌*◌, ◌<◌, ◌≤◌, ◌^◌, Bool, false, ◌==◌, ◌&&◌, not}
-use Rattle.std.specs.Prelude.{if◌then◌else◌, nat_lt, List, [], ◌∷◌, length, Option, Some, None, slice_index_or, ◌++◌}
+-- How the table lies in memory: cells by place, 64 a page, an index of places by number, and the cells that are free.
+use Rattle.std.specs.Prelude.{◌≡◌, ℕ, suc, ◌*◌, ◌<◌, ◌≤◌, ◌^◌, Bool, false, ◌==◌, ◌&&◌, not}
+use Rattle.std.specs.Prelude.{if◌then◌else◌, nat_lt, List, [], ◌∷◌, length, map, Option, Some, None, slice_index_or}
 use Rattle.std.specs.List.{filter}
 use Rattle.std.specs.Borrow.{Bor}
 use Rattle.ref_base.specs.Graphs.{Reference}
-use Rattle.ref_base.specs.Members.{has}
-use Rattle.std.specs.Option.{option_map}
+use Rattle.ref_space.specs.Pages.{Use, free_in, taken_of, AreWhole}
+use Rattle.std.specs.Option.{option_map, is_none}
 use Rattle.ref_objects.specs.Tables.{Tabled, Table, marked_of, with_marked, blanked_unless_marked}
 use Rattle.ref_objects.specs.declared.index.Entry.{Entry}
 
@@ -96,41 +96,38 @@ abbrev pub Rises : List Entry → Type 0
 Rises [] = Unit {0}
 Rises (e ∷ es) = AllAbove e.no es × Rises es
 
--- the free places are places of cells that hold nothing, and none of them stands twice
-abbrev pub AreFree : List (Option Tabled) → List ℕ → Type 0
-AreFree cells [] = Unit {0}
-AreFree cells (p ∷ ps) = (p < length cells) × (cell_at cells p ≡ None) × (has ps p ≡ false) × AreFree cells ps
+-- each page has 64 cells, and those are free that hold nothing
+pub record AreFree (cells : List (Option Tabled)) (pages : List Use) : Type 0 where
+  pub whole : AreWhole pages
+  pub empty : map is_none cells ≡ free_in pages
 
 -- the index as it is before one more entry: where it has this many already, its gaps are closed
 abbrev pub with_room : ℕ → List (Option Tabled) → List Entry → List Entry
 with_room most cells es = if length es == most then filter (is_live cells) es else es
 
--- what holds of a table's cells, index and free places: each object has its entry, and each cell without one is free
-pub record IsPlaced (cells : List (Option Tabled)) (index : List Entry) (places : List ℕ) (last : ℕ) : Type 0 where
+-- what holds of a table's cells, index and pages: each object has its entry, and each cell without one is free
+pub record IsPlaced (cells : List (Option Tabled)) (index : List Entry) (pages : List Use) (last : ℕ) : Type 0 where
   pub rises : Rises index
   pub given : NoneAbove last index
-  pub free : AreFree cells places
-  pub counted : length (tabled_by cells index) + length places ≡ length cells
+  pub free : AreFree cells pages
+  pub taken : taken_of pages ≡ length (tabled_by cells index)
   pub small : length cells ≤ 2 ^ 16
   pub few : length index ≤ 2 * length cells
 
--- what holds of a table's fields: that, no push to the index or to the free places ever takes memory, and the marked
--- objects are counted
-pub record IsSoundTable (cells : List (Option Tabled)) (index : List Entry) (places : List ℕ)
-    (last index_room places_room marked : ℕ) : Type 0 where
-  pub placed : IsPlaced cells index places last
+-- what holds of a table's fields: that, there are cells for as many objects as there may be, no push to the index ever
+-- takes memory, and the objects and the marked ones are counted
+pub record IsSoundTable (cells : List (Option Tabled)) (index : List Entry) (pages : List Use)
+    (last room count index_room marked : ℕ) : Type 0 where
+  pub placed : IsPlaced cells index pages last
+  pub cells_fit : room ≤ length cells
+  pub counted : count ≡ length (tabled_by cells index)
+  pub within : count ≤ room
   pub index_fits : 2 * length cells ≤ index_room
-  pub places_fit : length cells ≤ places_room
   pub marks_counted : marked ≡ length (marked_of (tabled_by cells index))
 
 -- what a contract sees of a table's fields
-abbrev pub seen_table : List (Option Tabled) → List Entry → ℕ → Table
-seen_table cells index last = record { tabled = tabled_by cells index; room = length cells; last = last }
-
--- so many of the places below room, from the highest down
-abbrev pub places_below : ℕ → ℕ → List ℕ
-places_below room zero = []
-places_below room (suc count) = places_below room count ++ (room - 1 - count) ∷ []
+abbrev pub seen_table : List (Option Tabled) → List Entry → ℕ → ℕ → Table
+seen_table cells index last room = record { tabled = tabled_by cells index; room = room; last = last }
 
 -- ---- marks
 

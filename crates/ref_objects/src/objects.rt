@@ -30,9 +30,10 @@ use std::marker::Model;
 
 /// The objects of a heap: their fields and references, the slots of the mutators, and the holds that are out.
 ///
-/// All its memory is taken as it is made: 164 bytes for each cell, 128 for each mutator's slots, and none by any other
-/// call. An object is found by its number in logarithmic time, and in constant time where none with a greater number
-/// was freed before the gaps were last closed: so is each that was made since.
+/// All its memory is taken as it is made, and none by any other call: 10,256 bytes for each page of 64 cells, of which
+/// there are as many as the objects fill that there may be, and 128 for each mutator's slots. An object is found by its
+/// number in logarithmic time, and in constant time where none with a greater number was freed before the gaps were
+/// last closed: so is each that was made since.
 #[derive(Drop)]
 pub struct Objects<A: Allocator = Global> {
     config: Config,
@@ -82,7 +83,7 @@ impl<A: Allocator + Copy> Objects<A> {
         let Ok(slots) = vec![in alloc; None; SLOTS * config.mutators as usize] else {
             return Err(Fault::NoMemory);
         };
-        let table = Table::new(alloc, config.cells as usize)?;
+        let table = Table::new(alloc, config.cells as usize, start.page)?;
         Ok(Objects {
             config,
             heap_no,
@@ -96,8 +97,9 @@ impl<A: Allocator + Copy> Objects<A> {
     }
 
     /// Makes a plain object with so many null fields; the slot holds it. Tried in this order: `NoSuchActor`, `BadField`
-    /// above 8 fields, `NumbersSpent`, `NoCell` where every cell is taken. In constant time, but that one call in as
-    /// many as there are cells passes over them where `end_cycle` wasn't called for so long.
+    /// above 8 fields, `NumbersSpent`, `NoCell` where there are as many objects as there may be. In constant time, but
+    /// for the full pages that it passes over, each once, and again after an object in front of them was freed; and one
+    /// call in as many as there are cells passes over them where `end_cycle` wasn't called for so long.
     pub fn alloc_obj(&mut self, mutator: MutNo, into: SlotNo, fields: u32) -> Result<ObjNo, Fault>
         ensures refused { IsRefused (new_refusal self.old.heap self.old.next mutator into fields) result }
         ensures answer { IfOk result (λ no. no ≡ self.old.next) }

@@ -1,10 +1,9 @@
 //! The table of a heap's objects.
 
-ghost use Rattle.std.specs.Prelude.{◌≡◌, ◌-◌, ◌^◌, ◌==◌, ◌≤◌, ◌<◌, nat_lt, IfOk, OnErr, true, length, map, is_some};
-ghost use Rattle.std.specs.Prelude.{replicate};
+ghost use Rattle.std.specs.Prelude.{◌≡◌, ◌+◌, ◌-◌, ◌/◌, ◌^◌, ◌==◌, ◌≤◌, ◌<◌, nat_lt, IfOk, OnErr, true, length, map};
+ghost use Rattle.std.specs.Prelude.{is_some, replicate};
 ghost use Rattle.std.specs.Bool.{OnFalse};
-ghost use Rattle.std.specs.Vec.{vec_capacity};
-ghost use Rattle.ref_objects.specs.Places.{places_below, unmarked_cell, blanked_cell};
+ghost use Rattle.ref_objects.specs.Places.{unmarked_cell, blanked_cell};
 ghost use Rattle.ref_base.specs.Heaps.{with_field};
 
 use crate::cell::{Cell, Change};
@@ -15,19 +14,25 @@ use crate::index::{
 use crate::linked::{Linked, Look};
 use crate::reference::Reference;
 use ref_base::{Fault, ObjNo};
+use ref_space::Pages;
 use std::alloc::{AllocError, Allocator, Global};
 use std::marker::Model;
 
 /// The objects of a heap, each with a count of holds and a mark. All memory is taken by `new`: for each cell 144 bytes
-/// of its own, 16 of the index and 4 of the free places.
+/// of its own and 16 of the index, and 16 for each page of 64 cells.
 #[derive(Drop)]
 pub(crate) struct Table<A: Allocator = Global> {
+    // Cell c of page p stands at place 64 * p + c.
     cells: Vec<Cell, A>,
     // In order of number. It has room for two entries a cell, so gaps are closed at most once in as many new objects as
     // there are cells.
     index: Vec<Entry, A>,
-    // The places of the free cells. The last is given to the next new object.
-    free: Vec<u32, A>,
+    // Which cells are free. A new object gets the lowest of the first page that has one.
+    pages: Pages<A>,
+    // How many objects there may be: the pages are as many as these fill.
+    room: usize,
+    // How many there are.
+    count: usize,
     // The greatest number that was ever given, or 0.
     last: ObjNo,
     // How many of the objects are marked.
@@ -42,10 +47,10 @@ impl<A: Allocator> Model for Table<A> {
 
     ghost use Rattle.ref_objects.specs.Places.{IsSoundTable, seen_table};
 
-    ghost view = { λ t. seen_table t.cells.items t.index.items t.last };
+    ghost view = { λ t. seen_table t.cells.items t.index.items t.last t.room };
 
-    ghost invariant = { λ t. IsSoundTable t.cells.items t.index.items t.free.items t.last
-        (vec_capacity t.index) (vec_capacity t.free) t.marked };
+    ghost invariant = { λ t. IsSoundTable t.cells.items t.index.items t.pages t.last t.room t.count
+        (vec_capacity t.index) t.marked };
 }
 
 impl<A: Allocator + Copy> Table<A> {
@@ -61,27 +66,33 @@ impl<A: Allocator + Copy> Table<A> {
     ghost use Rattle.ref_objects.specs.Tables.{table_looked_at};
     ghost use Rattle.ref_base.specs.DoomedSets.{refers_into};
 
-    /// A table of no objects, with so many free cells. The one error is `NoMemory`.
-    pub(crate) fn new(alloc: A, room: usize) -> Result<Self, Fault>
-        requires { room ≤ 2 ^ 16 }
+    /// A table of no objects, with room for so many, in pages at this address and those that follow it. The one error
+    /// is `NoMemory`.
+    pub(crate) fn new(alloc: A, room: usize, first_page: u32) -> Result<Self, Fault>
+        requires small { room ≤ 2 ^ 16 }
+        requires addresses { first_page + (room + 63) / 64 ≤ 2 ^ 32 }
         ensures ok { IfOk result (λ t. t ≡ empty_table room) }
         ensures err { OnErr result (result ≡ Err Fault.NoMemory) }
     {
-        Self::with_room(alloc, room).map_err(|_| Fault::NoMemory)
+        Self::with_room(alloc, room, first_page).map_err(|_| Fault::NoMemory)
     }
 
-    // A table of no objects, with so many free cells.
-    fn with_room(alloc: A, room: usize) -> Result<Self, AllocError>
-        requires { room ≤ 2 ^ 16 }
+    // A table of no objects, with room for so many, in pages at this address and those that follow it.
+    fn with_room(alloc: A, room: usize, first_page: u32) -> Result<Self, AllocError>
+        requires small { room ≤ 2 ^ 16 }
+        requires addresses { first_page + (room + 63) / 64 ≤ 2 ^ 32 }
         ensures { IfOk result (λ t. t ≡ empty_table room) }
     {
-        let index = Vec::with_capacity(alloc, 2 * room)?;
-        let free = free_places(alloc, room)?;
-        let cells = free_cells(alloc, room)?;
+        let page_count = room.div_ceil(64);
+        let pages = Pages::new(alloc, page_count, first_page)?;
+        let index = Vec::with_capacity(alloc, 128 * page_count)?;
+        let cells = free_cells(alloc, 64 * page_count)?;
         Ok(Table {
             cells,
             index,
-            free,
+            pages,
+            room,
+            count: 0,
             last: ObjNo(0),
             marked: 0,
         })
@@ -92,7 +103,7 @@ impl<A: Allocator + Copy> Table<A> {
         ensures count { result ≡ length self.now.tabled }
         ensures orderly { IsOrderlyTable self.now }
     {
-        self.cells.len() - self.free.len()
+        self.count
     }
 
     /// Whether there is no room for one more object.
@@ -100,7 +111,7 @@ impl<A: Allocator + Copy> Table<A> {
         ensures full { result ≡ (length self.now.tabled == self.now.room) }
         ensures spare { OnFalse result (length self.now.tabled < self.now.room) }
     {
-        self.free.is_empty()
+        self.count == self.room
     }
 
     /// The greatest number that was ever given, or 0.
@@ -256,10 +267,15 @@ impl<A: Allocator + Copy> Table<A> {
         ensures { self.new ≡ with_tabled self.old (made_entry no count reference marked) }
     {
         make_room(&mut self.index, &self.cells, 2 * self.cells.len());
-        let place = self.free.pop().unwrap();
-        self.cells[place as usize] = Cell::of(no, count, reference, marked);
-        self.index.push_reserved(Entry { no, place });
+        let (page, cell) = self.pages.place().unwrap();
+        let place = 64 * page + cell as usize;
+        self.cells[place] = Cell::of(no, count, reference, marked);
+        self.index.push_reserved(Entry {
+            no,
+            place: place as u32,
+        });
         self.last = no;
+        self.count += 1;
         self.marked += usize::from(marked);
     }
 
@@ -274,7 +290,8 @@ impl<A: Allocator + Copy> Table<A> {
         let goes = self.cells[place].is_unmarked();
         if goes {
             self.cells[place].vacate();
-            self.free.push_reserved(place as u32);
+            self.pages.give(place / 64, (place % 64) as u32);
+            self.count -= 1;
         }
         goes
     }
@@ -382,17 +399,4 @@ fn free_cells<A: Allocator>(alloc: A, room: usize) -> Result<Vec<Cell, A>, Alloc
         cells.push_reserved(Cell::vacant());
     }
     Ok(cells)
-}
-
-// The places below this one, the lowest last.
-fn free_places<A: Allocator>(alloc: A, room: usize) -> Result<Vec<u32, A>, AllocError>
-    requires { room ≤ 2 ^ 16 }
-    ensures places { IfOk result (λ v. v.items ≡ places_below room room) }
-    ensures capacity { IfOk result (λ v. vec_capacity v ≡ room) }
-{
-    let mut places = Vec::with_capacity(alloc, room)?;
-    for given in 0..room {
-        places.push_reserved((room - 1 - given) as u32);
-    }
-    Ok(places)
 }

@@ -1,7 +1,7 @@
 -- Pages of 64 cells: which cells are free, and where the next object is placed (this project's profile; ZGC, JEP 333,
 -- has pages of other sizes, and fills each in order of address).
 use Rattle.std.specs.Prelude.{◌≡◌, ℕ, zero, suc, ◌+◌, ◌<◌, Bool, true, false, if◌then◌else◌}
-use Rattle.std.specs.Prelude.{List, [], ◌∷◌, length, replicate, Option, Some, None, slice_set, slice_index_or}
+use Rattle.std.specs.Prelude.{List, [], ◌∷◌, ◌++◌, length, replicate, Option, Some, None, slice_set, slice_index_or}
 use Rattle.ref_space.specs.Bits.{first_set, any_set, count_clear}
 
 -- a page: its address, and of each cell whether it is free
@@ -25,6 +25,11 @@ fresh_page address = record { address = address; free = all_free }
 abbrev pub fresh_pages : ℕ → ℕ → List Use
 fresh_pages first zero = []
 fresh_pages first (suc count) = fresh_page first ∷ fresh_pages (suc first) count
+
+-- of each cell whether it is free, page by page
+abbrev pub free_in : List Use → List Bool
+free_in [] = []
+free_in (p ∷ ps) = p.free ++ free_in ps
 
 abbrev pub is_free_at : List Use → ℕ → ℕ → Bool
 is_free_at ps page cell = slice_index_or (use_at ps page).free cell false

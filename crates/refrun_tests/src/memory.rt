@@ -108,7 +108,7 @@ fn printed_in(
     room: usize,
 ) -> Result<(Result<(), TextFault>, Vec<u8>), AllocError> {
     // What is given back to the arena isn't given out again, so a call takes the sum of all that it asks for.
-    let mut memory = Bump::try_with_capacity(alloc, 98_304)?;
+    let mut memory = Bump::try_with_capacity(alloc, 114_688)?;
     memory.set_allocation_limit(Some(memory.allocated_bytes()));
     let taken = memory.chunk_capacity().saturating_sub(room);
     let filler = Vec::<u8, &Bump>::with_capacity(&memory, taken)?;
@@ -122,7 +122,7 @@ fn printed_in(
 fn an_allocation_that_fails_is_told_of(rt: HostRuntime) -> Result<(), Fail> {
     let alloc = rt.alloc();
     let (mut without, mut partly, mut wholly) = (false, false, false);
-    for size in 0..1_500 {
+    for size in 0..1_700 {
         let (answer, trace) = printed_in(&rt, alloc, Task::Run, SCRIPT, 64 * size)?;
         match answer {
             Err(fault) => {
@@ -172,7 +172,7 @@ const NOT_REGISTERED: &[u8] = b"reftrace 1
 #[test]
 fn a_job_that_finds_no_memory_stays_to_be_registered(rt: HostRuntime) -> Result<(), Fail> {
     let (mut without, mut partly, mut wholly) = (false, false, false);
-    for size in 0..1_500 {
+    for size in 0..1_700 {
         let (answer, trace) = printed_in(&rt, rt.alloc(), Task::RunWithJobs, ONE_JOB, 64 * size)?;
         match answer {
             Err(fault) => {

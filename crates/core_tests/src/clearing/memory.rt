@@ -94,7 +94,7 @@ fn make_without_memory(rt: &impl Abort, memory: &Bump, calls: &[(Call, Told)]) -
 
 #[test]
 fn after_new_no_call_takes_memory(rt: HostRuntime) -> Result<(), Fail> {
-    let memory = limited(rt.alloc(), 8_192)?;
+    let memory = limited(rt.alloc(), 32_768)?;
     make_without_memory(&rt, &memory, &EACH_CALL)
 }
 
@@ -103,8 +103,8 @@ fn want_of_memory_is_told_by_new(rt: HostRuntime) -> Result<(), Fail> {
     let mut was_refused = false;
     let mut was_made = false;
     // What is left grows by steps so small that in some of them only the pending lists have too little.
-    for step in 0..128 {
-        let memory = limited(rt.alloc(), 4_096)?;
+    for step in 0..720 {
+        let memory = limited(rt.alloc(), 16_384)?;
         let _rest = all_but(&memory, 16 * step)?;
         match Heap::new(&memory, SMALL, 1) {
             Ok(heap) => {
@@ -165,17 +165,14 @@ fn taken_by(alloc: Global, workers: u32) -> Result<usize, Fail> {
 }
 
 #[test]
-fn a_heap_takes_168_bytes_a_cell_and_16_a_worker(rt: HostRuntime) -> Result<(), Fail> {
+fn a_heap_takes_164_bytes_a_cell_16_a_page_and_16_a_worker(rt: HostRuntime) -> Result<(), Fail> {
+    let cells = 4_096 * 164 + 64 * 16;
     // Beside them are the 16 slots of one mutator.
     let slots = 128;
-    assert_eq!(rt;
-        taken_by(rt.alloc(), 1)?,
-        4_096 * 168 + 16 + slots,
-        "one worker"
-    );
+    assert_eq!(rt; taken_by(rt.alloc(), 1)?, cells + 16 + slots, "one worker");
     assert_eq!(rt;
         taken_by(rt.alloc(), 8)?,
-        4_096 * 168 + 8 * 16 + slots,
+        cells + 8 * 16 + slots,
         "eight workers"
     );
     Ok(())

@@ -68,7 +68,7 @@ fn make_without_memory(rt: &impl Abort, memory: &Bump, calls: &[(Call, Told)]) -
 
 #[test]
 fn after_new_no_call_takes_memory(rt: HostRuntime) -> Result<(), Fail> {
-    let memory = limited(rt.alloc(), 4_096)?;
+    let memory = limited(rt.alloc(), 32_768)?;
     make_without_memory(&rt, &memory, &EACH_CALL)
 }
 
@@ -112,8 +112,9 @@ fn fill_again_and_again<A: Allocator + Copy>(rt: &impl Abort, heap: &mut Objects
 
 #[test]
 fn after_new_no_memory_is_taken(rt: HostRuntime) -> Result<(), Fail> {
-    for cells in 1..60 {
-        let memory = limited(rt.alloc(), 192 * cells as usize + 256)?;
+    for cells in 1..70 {
+        let pages = (cells as usize).div_ceil(64);
+        let memory = limited(rt.alloc(), 10_256 * pages + 256)?;
         let mut heap = Objects::new(&memory, config(cells), 1)?;
         let _rest = all_that_is_left(&rt, &memory)?;
         fill_again_and_again(&rt, &mut heap, cells);

@@ -35,8 +35,8 @@ fn want_of_memory_is_told_by_new(rt: HostRuntime) -> Result<(), Fail> {
     let mut was_refused = false;
     let mut was_made = false;
     // What is left grows by steps so small that in some of them only hands or queues have too little.
-    for step in 0..160 {
-        let memory = limited(rt.alloc(), 4_096)?;
+    for step in 0..800 {
+        let memory = limited(rt.alloc(), 16_384)?;
         let _rest = all_but(&memory, 16 * step)?;
         match World::new(&memory, CONFIG) {
             Ok(world) => {
@@ -88,7 +88,7 @@ fn a_run_without_room_gives_world_and_steps_back(rt: HostRuntime) -> Result<(), 
     let mut was_refused = false;
     let mut was_run = false;
     for step in 0..16 {
-        let memory = limited(rt.alloc(), 8_192)?;
+        let memory = limited(rt.alloc(), 32_768)?;
         // The rows have an arena of their own.
         let room = limited(rt.alloc(), 1_024)?;
         let _rest = all_but(&room, 16 * step)?;
@@ -139,7 +139,7 @@ fn a_put_without_memory_leaves_its_notice_in_the_hand(rt: HostRuntime) -> Result
     let mut was_refused = false;
     let mut was_added = false;
     for step in 0..64 {
-        let memory = limited(rt.alloc(), 8_192)?;
+        let memory = limited(rt.alloc(), 32_768)?;
         if is_put(&rt, &memory, 16 * step, &still_in_hand)? {
             was_added = true;
         } else {
@@ -153,7 +153,7 @@ fn a_put_without_memory_leaves_its_notice_in_the_hand(rt: HostRuntime) -> Result
 
 #[test]
 fn a_refused_put_succeeds_once_there_is_memory(rt: HostRuntime) -> Result<(), Fail> {
-    let memory = limited(rt.alloc(), 8_192)?;
+    let memory = limited(rt.alloc(), 32_768)?;
     let mut world = World::new(&memory, CONFIG)?;
     do_steps(&rt, &mut world, &in_hand());
     let rest = all_that_is_left(&rt, &memory);
@@ -217,7 +217,7 @@ fn each_step() -> [(Step, Reply); 32] {
 
 #[test]
 fn no_step_takes_memory_but_a_put(rt: HostRuntime) -> Result<(), Fail> {
-    let memory = limited(rt.alloc(), 8_192)?;
+    let memory = limited(rt.alloc(), 32_768)?;
     let mut world = World::new(&memory, TWO_QUEUES)?;
     do_steps(&rt, &mut world, &in_hand());
     do_steps(&rt, &mut world, &[(PUT, Reply::Added(0))]);

@@ -21,5 +21,5 @@ returns g c =
     items_each blanked_unless_marked blanked_keeps c.self.inside.cells (sym c.self.inside.cells.ok.0) c.blank.ensures
     c.deref_mut.ensures.value in
     seen_all blanked_unless_marked blanked_keeps c.self.inside.cells.items is c.self.inside.index.items
-    c.self.inside.last
+    c.self.inside.last c.self.inside.room
     ∙ ap (λ (t : Table). table_blanked t) c.self.view_is

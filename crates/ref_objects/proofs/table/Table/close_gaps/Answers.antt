@@ -7,9 +7,11 @@ invariant_of-self g c =
     grind (
       arith,
       placed_closed c.self.invariant.placed c.deref.ensures.value c.close_gaps.ensures.entries,
-      seen_closed c.self.inside.index.items c.self.inside.last c.deref.ensures.value c.close_gaps.ensures.entries,
+      seen_closed c.self.inside.index.items c.self.inside.last c.self.inside.room c.deref.ensures.value
+          c.close_gaps.ensures.entries,
     )
 
 pub returns-then-len : goal.returns-then-len
 returns-then-len g c =
-    search (seen_closed c.self.inside.index.items c.self.inside.last c.deref.ensures.value c.close_gaps.ensures.entries)
+    search (seen_closed c.self.inside.index.items c.self.inside.last c.self.inside.room c.deref.ensures.value
+    c.close_gaps.ensures.entries)

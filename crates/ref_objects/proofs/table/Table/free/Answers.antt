@@ -1,5 +1,5 @@
 use Rattle.ref_objects.proofs.Common.{arith, is_unmarked_in}
-use Rattle.ref_objects.proofs.CellChanges.{has_room, goes_answer, kept_there, freed_there, sound_freed}
+use Rattle.ref_objects.proofs.CellChanges.{has_page, one_fewer, goes_answer, kept_there, freed_there, sound_freed}
 use Rattle.ref_objects.proofs.CellChanges.{answered_nowhere, freed_nowhere}
 use Rattle.ref_objects.proofs.table.Table.free.Goals as goal
 
@@ -13,20 +13,22 @@ returns-in_default-clause-after g c =
     search (freed_nowhere c.self.invariant c.args.no c.deref.ensures.value c.deref-2.ensures.value
     c.in_default.ensures c.self.view_is)
 
-pub push_reserved-requires : goal.push_reserved-requires
-push_reserved-requires g c =
+pub give-requires : goal.give-requires
+give-requires g c =
+    grind (arith, has_page c.self.invariant c.args.no c.deref.ensures.value c.deref-2.ensures.value c.in-Some.ensures)
+
+pub overflow_sub-self : goal.overflow_sub-self
+overflow_sub-self g c =
     omega (
       arith,
-      c.self.invariant.places_fit,
-      c.self.inside.free.ok.0,
-      has_room c.self.invariant c.args.no c.deref.ensures.value c.deref-2.ensures.value c.in-Some.ensures,
+      one_fewer c.self.invariant c.args.no c.deref.ensures.value c.deref-2.ensures.value c.in-Some.ensures,
     )
 
 pub invariant_of-self : goal.invariant_of-self
 invariant_of-self g c =
     sound_freed c.self.invariant c.args.no c.deref.ensures.value c.deref-2.ensures.value c.in-Some.ensures
     c.self.view_is c.index.ensures c.is_unmarked-goes.ensures c.if-goes.true c.vacate.ensures
-    c.push_reserved.ensures.items c.push_reserved.ensures.capacity
+    c.give.ensures
 
 pub returns-then-goes-clause-answer : goal.returns-then-goes-clause-answer
 returns-then-goes-clause-answer g c =
@@ -37,7 +39,7 @@ pub returns-then-goes-clause-after : goal.returns-then-goes-clause-after
 returns-then-goes-clause-after g c =
     freed_there c.self.invariant c.args.no c.deref.ensures.value c.deref-2.ensures.value c.in-Some.ensures
     c.self.view_is c.index.ensures c.is_unmarked-goes.ensures c.if-goes.true c.vacate.ensures
-    c.push_reserved.ensures.items
+    c.give.ensures
 
 pub returns-else-goes-clause-answer : goal.returns-else-goes-clause-answer
 returns-else-goes-clause-answer g c =

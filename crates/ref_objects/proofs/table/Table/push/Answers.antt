@@ -1,53 +1,55 @@
-use Rattle.ref_objects.proofs.Common.{◌≡◌, ◌∙◌, ◌<◌, sym, subst, refl, arith, length-set, tabled_by, Table}
-use Rattle.ref_objects.proofs.Common.{made_entry}
-use Rattle.ref_objects.proofs.PushLemmas.{can_make, tabled_by-made, seen_made, placed_made}
-use Rattle.ref_objects.proofs.MarkLemmas.{marks_made}
+use Rattle.ref_objects.proofs.Common.{◌∙◌, ◌+◌, ◌*◌, arith, made_entry}
+use Rattle.ref_objects.proofs.PushLemmas.{has_place, can_make, CanMake, seen_made, sound_made}
 use Rattle.ref_objects.proofs.CellChanges.{marks_fit}
+use Rattle.ref_objects.proofs.table.Table.push.Given.{Over}
+use Rattle.ref_objects.proofs.table.Table.push.Goals.{After-unwrap-page}
 use Rattle.ref_objects.proofs.table.Table.push.Goals as goal
+
+-- an object may be made once its place was taken
+can : (g : Over) (c : After-unwrap-page g)
+    → CanMake c.self.inside.cells.items c.self.inside.index.items c.make_room.new.index.items c.self.inside.pages
+    c.place.new.self c.self.inside.last c.self.inside.room (64 * c.unwrap-page.result.0 + c.unwrap-page.result.1)
+can g c =
+    can_make c.self.invariant c.self.view_is c.requires.room c.deref.ensures.value
+    (c.len.ensures ∙ c.self.inside.cells.ok.0) c.make_room.ensures.entries c.place.ensures.answer
+    c.place.ensures.after c.unwrap-page.ensures
+
+pub unwrap-page-requires : goal.unwrap-page-requires
+unwrap-page-requires g c = grind (arith, has_place c.self.invariant c.self.view_is c.requires.room)
+
+pub overflow_mul-place : goal.overflow_mul-place
+overflow_mul-place g c = omega (arith, (can g c).taken.within, c.self.invariant.placed.small)
+
+pub overflow_add-place : goal.overflow_add-place
+overflow_add-place g c = omega (arith, (can g c).taken.within, c.self.invariant.placed.small)
 
 pub index_mut-requires : goal.index_mut-requires
 index_mut-requires g c =
-    let can = can_make c.pop.new.self.items c.self.invariant.placed c.deref.ensures.value
-    (c.len.ensures ∙ c.self.inside.cells.ok.0) c.make_room.ensures.entries c.pop.ensures.items c.unwrap-place.ensures in
-    omega (arith, c.self.inside.cells.ok.0, can.freed.within)
+    let within = (can g (goal.at.index_mut-requires g c).After-unwrap-page).taken.within in
+    omega (arith, c.self.inside.cells.ok.0, within)
+
+pub overflow_cast-place-2 : goal.overflow_cast-place-2
+overflow_cast-place-2 g c =
+    let within = (can g (goal.at.overflow_cast-place-2 g c).After-unwrap-page).taken.within in
+    omega (arith, within, c.self.invariant.placed.small)
 
 pub push_reserved-requires : goal.push_reserved-requires
 push_reserved-requires g c =
-    let can = can_make c.pop.new.self.items c.self.invariant.placed c.deref.ensures.value
-    (c.len.ensures ∙ c.self.inside.cells.ok.0) c.make_room.ensures.entries c.pop.ensures.items c.unwrap-place.ensures in
-    omega (arith, c.make_room.new.index.ok.0, c.self.invariant.index_fits, c.make_room.ensures.capacity, can.room.room)
+    let room = (can g (goal.at.push_reserved-requires g c).After-unwrap-page).closed.room in
+    omega (arith, c.make_room.new.index.ok.0, c.self.invariant.index_fits, c.make_room.ensures.capacity, room)
 
-pub overflow_add-self : goal.overflow_add-self
-overflow_add-self g c = omega (arith, marks_fit c.self.invariant c.args.marked c.from.ensures)
+pub overflow_add-self-2 : goal.overflow_add-self-2
+overflow_add-self-2 g c = omega (arith, marks_fit c.self.invariant c.args.marked c.from.ensures)
 
 pub invariant_of-self : goal.invariant_of-self
 invariant_of-self g c =
-    let can = can_make c.pop.new.self.items c.self.invariant.placed c.deref.ensures.value
-    (c.len.ensures ∙ c.self.inside.cells.ok.0) c.make_room.ensures.entries c.pop.ensures.items c.unwrap-place.ensures in
-    let rises = subst (λ (t : Table). t.last < c.args.no) (sym c.self.view_is) c.requires.rises in
-    let number : (made_entry c.args.no c.args.count c.args.reference c.args.marked).object.no ≡ c.args.no = refl in
-    let size = length-set c.self.inside.cells.items c.unwrap-place.result c.of.result in
-    record {
-      placed = placed_made c.self.invariant.placed can rises number c.of.ensures c.push_reserved.ensures.items;
-      index_fits = omega (
-        arith,
-        c.self.invariant.index_fits,
-        c.make_room.ensures.capacity,
-        c.push_reserved.ensures.capacity,
-        size,
-      );
-      places_fit = omega (arith, c.self.invariant.places_fit, c.pop.ensures.capacity, size);
-      marks_counted = marks_made (tabled_by c.self.inside.cells.items c.self.inside.index.items)
-          (made_entry c.args.no c.args.count c.args.reference c.args.marked)
-          (tabled_by-made c.self.invariant.placed can rises number c.of.ensures c.push_reserved.ensures.items)
-          c.from.ensures c.self.invariant.marks_counted;
-    }
+    sound_made c.self.invariant c.self.view_is (can g (goal.at.invariant_of-self g c).After-unwrap-page)
+    (made_entry c.args.no c.args.count c.args.reference c.args.marked) c.requires.rises c.of.ensures
+    c.push_reserved.ensures.items (omega (arith, c.make_room.ensures.capacity, c.push_reserved.ensures.capacity))
+    c.from.ensures
 
 pub returns : goal.returns
 returns g c =
-    let can = can_make c.pop.new.self.items c.self.invariant.placed c.deref.ensures.value
-    (c.len.ensures ∙ c.self.inside.cells.ok.0) c.make_room.ensures.entries c.pop.ensures.items c.unwrap-place.ensures in
-    let rises = subst (λ (t : Table). t.last < c.args.no) (sym c.self.view_is) c.requires.rises in
-    let number : (made_entry c.args.no c.args.count c.args.reference c.args.marked).object.no ≡ c.args.no = refl in
-    rw (← c.self.view_is)
-    (seen_made c.self.invariant.placed can rises number c.of.ensures c.push_reserved.ensures.items)
+    seen_made c.self.invariant c.self.view_is (can g (goal.at.returns g c).After-unwrap-page)
+    (made_entry c.args.no c.args.count c.args.reference c.args.marked) c.requires.rises c.of.ensures
+    c.push_reserved.ensures.items

@@ -16,4 +16,5 @@ returns g c =
     items_each (with_marked false) (λ k. refl) c.self.inside.cells (sym c.self.inside.cells.ok.0) c.unmark.ensures
     c.deref_mut.ensures.value in
     seen_all (with_marked false) (λ k. refl) c.self.inside.cells.items is c.self.inside.index.items c.self.inside.last
+    c.self.inside.room
     ∙ ap (λ (t : Table). table_unmarked t) c.self.view_is

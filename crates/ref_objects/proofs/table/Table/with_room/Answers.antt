@@ -1,7 +1,13 @@
-use Rattle.ref_objects.proofs.Common.{arith}
-use Rattle.ref_objects.proofs.TableLemmas.{placed_new}
+use Rattle.ref_objects.proofs.Common.{◌≡◌, ◌/◌, ◌+◌, ◌%◌, arith, vec_capacity}
+use Rattle.std.proofs.Common.{min}
+use Rattle.ref_objects.proofs.TableLemmas.{sound_new}
 use Rattle.ref_objects.proofs.table.Table.with_room.Goals as goal
 
 pub invariant_of-result : goal.invariant_of-result
 invariant_of-result g c =
-    grind (arith, placed_new c.requires c.in_ok-cells.ensures c.in_ok-index.ensures.items c.in_ok-free.ensures.places)
+    let count = c.div_ceil-page_count.result in
+    let bound : count ≡ c.args.room / 64 + min 1 (c.args.room % 64) = c.div_ceil-page_count.ensures in
+    let capacity = c.in_ok-index.ensures.capacity in
+    sound_new c.args.first_page count c.args.room (vec_capacity c.in_ok-index.index) (omega (arith, bound))
+    (omega (arith, bound)) (omega (arith, capacity)) c.in_ok-cells.ensures c.in_ok-index.ensures.items
+    c.in_ok-pages.ensures
