@@ -11,7 +11,8 @@ use Rattle.ref_base.specs.Strengths.{IsRising}
 use Rattle.ref_base.specs.Heaps.{reference_in}
 use Rattle.ref_base.specs.CollectorRows.{referent_of}
 use Rattle.ref_base.specs.Paths.{present, if_any}
-use Rattle.ref_objects.specs.Grounds.{Ground, IsWellFormed, IsClosed, fields_in, named_in, least_from}
+use Rattle.ref_space.specs.Tables.{fields_in}
+use Rattle.ref_objects.specs.Grounds.{Ground, IsWellFormed, IsClosed, named_in, least_from}
 use Rattle.ref_base.proofs.HasLaws.{has-cases, has-right, has-single}
 use Rattle.ref_base.proofs.NewClears.{is_there-rising}
 

@@ -5,7 +5,8 @@ ghost use Rattle.std.specs.Bool.{OnTrue};
 ghost use Rattle.ref_base.specs.Graphs.{object_at};
 ghost use Rattle.ref_base.specs.Members.{has};
 ghost use Rattle.ref_base.specs.Paths.{present};
-ghost use Rattle.ref_objects.specs.Grounds.{IsClosed, fields_in, named_in};
+ghost use Rattle.ref_space.specs.Tables.{fields_in};
+ghost use Rattle.ref_objects.specs.Grounds.{IsClosed, named_in};
 
 use ref_base::{MutNo, ObjNo, SlotNo};
 use ref_objects::{Fields, Objects};

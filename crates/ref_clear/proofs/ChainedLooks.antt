@@ -9,7 +9,7 @@ use Rattle.ref_clear.proofs.Common.{after_in, Chain, listed, linked_last_of, lis
 use Rattle.ref_clear.proofs.Common.{AreSoundLists, IsSoundHeap, is_tagged, rest_of, answer_in}
 use Rattle.std.proofs.lemmas.Bool.{ne_eqb}
 use Rattle.ref_objects.specs.Grounds.{look_of}
-use Rattle.ref_objects.specs.declared.linked.Look.{Look}
+use Rattle.ref_space.specs.declared.linked.Look.{Look}
 use Rattle.ref_mark.specs.MarkViews.{found_look}
 use Rattle.ref_mark.specs.Chains.{AreChains, chain_with, linked_last}
 use Rattle.ref_clear.specs.ClearViews.{AreApart}

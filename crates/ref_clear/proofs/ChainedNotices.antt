@@ -9,7 +9,7 @@ use Rattle.ref_clear.proofs.Common.{IsSoundHeap, AreSoundLists, ClearHeap, AreRe
 use Rattle.ref_clear.proofs.Common.{HeapDoes, Ground, ground_of, Config, pending_by}
 use Rattle.std.proofs.Common.{nat_lt}
 use Rattle.ref_mark.specs.Chains.{chain_first, chain_without_first}
-use Rattle.ref_objects.specs.declared.linked.Linked.{Linked}
+use Rattle.ref_space.specs.declared.linked.Linked.{Linked}
 use Rattle.ref_objects.specs.Grounds.{linked_in}
 use Rattle.ref_base.proofs.HasLaws.{has-left, has-right, has-cases}
 use Rattle.ref_mark.proofs.ChainLemmas.{first_linked, none_told, list_at-lists_of, chain_at, chain-first, takes_one}

@@ -32,7 +32,8 @@ pub use Rattle.ref_base.specs.declared.fault.Fault.TheVariants.{WrongPhase}
 pub use Rattle.ref_base.specs.declared.phase.Phase.TheVariants.{Clearing, Idle, Marking, Sweeping}
 pub use Rattle.ref_base.specs.declared.reply.Reply.{Reply}
 pub use Rattle.ref_base.specs.declared.urgency.Urgency.{Urgency}
-pub use Rattle.ref_objects.specs.Grounds.{Ground, IsWellFormed, Tag, cleared_in_at, mint_refusal, unmarked}
+pub use Rattle.ref_space.specs.Tables.{Tag}
+pub use Rattle.ref_objects.specs.Grounds.{Ground, IsWellFormed, cleared_in_at, mint_refusal, unmarked}
 pub use Rattle.ref_mark.specs.Chains.{is_tagged, linked_last_of, listed, no_chain}
 pub use Rattle.ref_mark.specs.CycleHeaps.{CycleHeap, barred, cut_at, cycle_begun, cycle_in_phase, doomed, grey_scanned}
 pub use Rattle.ref_mark.specs.CycleHeaps.{is_black, is_doomed, is_in_cycle, is_past_mark, is_to_clear, is_white}

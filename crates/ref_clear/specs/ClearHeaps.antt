@@ -10,7 +10,8 @@ use Rattle.ref_base.specs.declared.cause.Cause.{Cause}
 use Rattle.ref_base.specs.declared.config.Config.{Config}
 use Rattle.ref_base.specs.declared.heap_step.HoldName.{HoldName}
 use Rattle.ref_base.specs.declared.urgency.Urgency.{Urgency}
-use Rattle.ref_objects.specs.Grounds.{Tag, without_tag}
+use Rattle.ref_space.specs.Tables.{Tag}
+use Rattle.ref_objects.specs.Grounds.{without_tag}
 use Rattle.ref_mark.specs.Chains.{linked_last_of}
 use Rattle.ref_mark.specs.CycleHeaps.{CycleHeap, first_cycle_heap, doomed, with_cleared, with_found_taken, is_to_clear}
 use Rattle.ref_mark.specs.CycleHeaps.{cut_at, cycle_begun, shaded_all}

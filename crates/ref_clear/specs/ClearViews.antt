@@ -9,8 +9,9 @@ use Rattle.ref_base.specs.Worlds.{Pending}
 use Rattle.ref_base.specs.Refusals.{is_in}
 use Rattle.ref_base.specs.Collectors.{State, joined}
 use Rattle.ref_base.specs.declared.phase.Phase.TheVariants.{Sweeping}
-use Rattle.ref_objects.specs.Grounds.{Tag, cleared_in_at}
-use Rattle.ref_objects.specs.declared.linked.Linked.{Linked}
+use Rattle.ref_space.specs.Tables.{Tag}
+use Rattle.ref_objects.specs.Grounds.{cleared_in_at}
+use Rattle.ref_space.specs.declared.linked.Linked.{Linked}
 use Rattle.ref_mark.specs.CycleHeaps.{CycleHeap, is_white}
 use Rattle.ref_mark.specs.declared.chain.Chain.{Chain}
 use Rattle.ref_mark.specs.Chains.{AreChains, lists_of}

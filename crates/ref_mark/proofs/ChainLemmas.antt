@@ -7,8 +7,8 @@ use Rattle.ref_mark.proofs.Common.{list_at, is_empty, first_in, Chain, rest_of, 
 use Rattle.ref_mark.proofs.Common.{with_new_tag, look_of, no_chain, walk, listed, lists_of, chain_with, linked_last}
 use Rattle.ref_mark.proofs.Common.{chain_without_first, linked_last_of, chain_first, is_tagged, AreChains}
 use Rattle.ref_objects.specs.Grounds.{linked_in}
-use Rattle.ref_objects.specs.declared.linked.Linked.{Linked}
-use Rattle.ref_objects.specs.declared.linked.Look.{Look}
+use Rattle.ref_space.specs.declared.linked.Linked.{Linked}
+use Rattle.ref_space.specs.declared.linked.Look.{Look}
 use Rattle.ref_mark.specs.Chains.{next_of, last_of, Links, Ends, IsChain}
 use Rattle.ref_base.proofs.HasLaws.{has-first, has-append}
 use Rattle.ref_mark.proofs.DistinctLists.{lacks-parts, distinct-left, distinct-right, distinct-apart, has-other}

@@ -3,7 +3,8 @@ use Rattle.std.specs.Prelude.{◌≡◌, ℕ, zero, suc, Bool, true, false, ◌=
 use Rattle.std.specs.Prelude.{map, Option, Some, None}
 use Rattle.ref_base.specs.Members.{has}
 use Rattle.ref_base.specs.Refusals.{is_empty}
-use Rattle.ref_objects.specs.Grounds.{Tag, Ground, link_at, with_link, ground_looked_at}
+use Rattle.ref_space.specs.Tables.{Tag}
+use Rattle.ref_objects.specs.Grounds.{Ground, link_at, with_link, ground_looked_at}
 use Rattle.ref_mark.specs.declared.chain.Chain.{Chain}
 
 abbrev pub no_chain : Chain

@@ -19,7 +19,8 @@ use Rattle.ref_base.specs.declared.phase.Phase.TheVariants.{Idle, Marking, Clear
 use Rattle.ref_base.specs.declared.policy.Policy.{Policy}
 use Rattle.ref_base.specs.declared.urgency.Urgency.{Urgency}
 use Rattle.ref_base.specs.declared.urgency.Urgency.TheVariants.{Normal}
-use Rattle.ref_objects.specs.Grounds.{Tag, unmarked, with_new_tag, without_tag, with_cleared_tag}
+use Rattle.ref_space.specs.Tables.{Tag}
+use Rattle.ref_objects.specs.Grounds.{unmarked, with_new_tag, without_tag, with_cleared_tag}
 use Rattle.ref_mark.specs.Chains.{linked_last_of}
 
 -- A heap, the number of its next object; the objects that the cycle has reached, or that were made in it

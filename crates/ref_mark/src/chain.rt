@@ -59,7 +59,7 @@ impl Chain {
     }
 
     /// Takes the first, and looks at it: where it is a reference to an object that isn't marked, it is cleared, in this
-    /// cycle. By one search for it, and one for its referent.
+    /// cycle. By one search.
     #[inline(always)]
     pub fn look_at_first<A: Allocator + Copy>(
         &mut self,

@@ -1,10 +1,13 @@
 -- What a get leaves: a soft reference is stamped, and the slot holds what was got.
-use Rattle.ref_objects.proofs.Common.{arith, ◌≡◌, ℕ, true, false, refl, List, [], ◌∷◌, Option, Some, None, false≢true}
-use Rattle.ref_objects.proofs.Common.{is_some, Object, Reference, object_at, changed_at, with_changed, with_reference}
-use Rattle.ref_objects.proofs.Common.{with_stamp, reference_in, reference_at}
-use Rattle.ref_base.specs.Heaps.{Heap, with_slot, slot_at, got}
+use Rattle.ref_objects.proofs.Common.{arith, ◌≡◌, ℕ, Bool, Ground, ap, referent_of, slice_index_or, sym, ◌∙◌, true}
+use Rattle.ref_objects.proofs.Common.{false, refl, List, [], ◌∷◌, Option, Some, None, false≢true, is_some, Object}
+use Rattle.ref_objects.proofs.Common.{Reference, object_at, changed_at, with_changed, with_reference, with_stamp}
+use Rattle.ref_objects.proofs.Common.{reference_in, reference_at, with_slot, slot_at, reference_of}
+use Rattle.ref_base.specs.Heaps.{Heap, got}
 use Rattle.ref_base.specs.Paths.{is_soft}
-use Rattle.ref_objects.specs.Grounds.{renewed}
+use Rattle.ref_base.specs.Heaps.{got_at}
+use Rattle.ref_base.specs.CollectorRows.{referent_got}
+use Rattle.ref_objects.specs.Grounds.{read_as, renewed}
 
 -- changes that do the same to the object's reference are the same
 changed_alike : (os : List Object) (n : ℕ) (f h : Reference → Reference) (r : Reference)
@@ -37,3 +40,39 @@ pub got_renewed : (h : Heap) (m d s n : ℕ) (value : Option ℕ) → slot_at h 
     → with_slot (renewed h n value) m d value ≡ got h m d s value
 got_renewed h m d s n None held = refl
 got_renewed h m d s n (Some value) held = grind arith
+
+-- it refers to what it did
+changed_referent : (os : List Object) (n : ℕ) (f : Reference → Reference)
+    → ((r : Reference) → (f r).referent ≡ r.referent)
+    → referent_of (reference_in (object_at (changed_at os n (with_reference f)) n))
+    ≡ referent_of (reference_in (object_at os n))
+changed_referent [] n f keeps = refl
+changed_referent (o ∷ os) n f keeps = grind (arith, changed_referent os n f keeps)
+
+renewed_referent : (h : Heap) (n : ℕ) (value : Option ℕ)
+    → referent_of (reference_at (renewed h n value) n) ≡ referent_of (reference_at h n)
+renewed_referent h n None = refl
+renewed_referent h n (Some value) = changed_referent h.objects n (got_at h.clock) (λ r. grind arith)
+
+renewed_slots : (h : Heap) (n : ℕ) (value : Option ℕ) → (renewed h n value).slots ≡ h.slots
+renewed_slots h n None = refl
+renewed_slots h n (Some value) = refl
+
+-- an object that a get answers is the referent
+read_some : (g : Ground) (hide : Bool) (value : Option ℕ) (n : ℕ) → read_as g hide value ≡ Some n → value ≡ Some n
+read_some g hide None n is = is
+read_some g hide (Some m) n is = grind arith
+
+got_referent : (g : Ground) (hide : Bool) (r : Reference) (n : ℕ)
+    → read_as g hide (referent_got (Some r)) ≡ Some n → r.referent ≡ Some n
+got_referent g hide r n is = grind (arith, read_some g hide (referent_got (Some r)) n is)
+
+-- so after a get the slot that was read still holds a reference to it
+pub still_refers : (g : Ground) (hide : Bool) (r : Reference) (k n place : ℕ) (value : Option ℕ)
+    → slice_index_or g.heap.slots place None ≡ Some k → reference_at g.heap k ≡ Some r
+    → value ≡ read_as g hide (referent_got (Some r)) → value ≡ Some n
+    → referent_of (reference_of (renewed g.heap k value) (slice_index_or (renewed g.heap k value).slots place None))
+    ≡ Some n
+still_refers g hide r k n place value held reads answers is =
+    rw (renewed_slots g.heap k value, held)
+    (renewed_referent g.heap k value ∙ ap referent_of reads ∙ got_referent g hide r n (sym answers ∙ is))

@@ -1,49 +1,27 @@
 -- What the fields of a heap's objects say as a heap, and what keeps them sound.
-use Rattle.ref_objects.proofs.Common.{◌≡◌, ℕ, ◌+◌, ◌-◌, ◌^◌, ◌<◌, ◌≤◌, Bool, true, false, ◌==◌, nat_lt, refl, sym}
+use Rattle.ref_objects.proofs.Common.{◌≡◌, ℕ, ◌+◌, ◌-◌, ◌^◌, ◌<◌, ◌≤◌, Bool, true, false, ◌==◌, nat_lt, refl}
 use Rattle.ref_objects.proofs.Common.{if◌then◌else◌, ap, arith, List, [], ◌∷◌, ◌++◌, length, Option, Some, None}
-use Rattle.ref_objects.proofs.Common.{slice_set, is_some, le-ltb, false≢true, length-set, length-map, map-append, has}
-use Rattle.ref_objects.proofs.Common.{Object, Reference, object_at, numbers, IsRising, one_more, Tabled, tabled_at}
-use Rattle.ref_objects.proofs.Common.{objects_of, holds_of, object_in, holds_in, has_field, on_object, less_held}
-use Rattle.ref_objects.proofs.Common.{changed, changed_tabled, made_entry, with_tabled, AllUpTo, least_from}
+use Rattle.ref_objects.proofs.Common.{is_some, length-set, length-map, map-append, has, Object, Reference, numbers}
+use Rattle.ref_objects.proofs.Common.{IsRising, one_more, Tabled, tabled_at, objects_of, holds_of, holds_in, on_object}
+use Rattle.ref_objects.proofs.Common.{less_held, changed, changed_tabled, made_entry, with_tabled, AllUpTo, least_from}
 use Rattle.ref_objects.proofs.Common.{seen_ground, IsSoundGround, one_fewer, tags_of, marked_of, from_bool}
-use Rattle.ref_objects.proofs.Common.{reference_in, with_changed, changed_at, with_reference, cleared, with_hold}
-use Rattle.ref_objects.proofs.Common.{without_hold, numbers_by, tag_of, Tag, fields_in, ground_with_heap, after_freeing}
-use Rattle.ref_objects.proofs.Common.{changed_tag, Stored, made_at, written, Change, Cut, Stamp, ClearedIn, ClearIn}
-use Rattle.ref_objects.proofs.Common.{Link, with_stamp}
-use Rattle.ref_objects.specs.Tables.{more_held, tabled_fields, tabled_reference}
-use Rattle.ref_base.specs.Refusals.{field_count, object_refusal}
+use Rattle.ref_objects.proofs.Common.{with_changed, changed_at, with_reference, cleared, with_hold, without_hold}
+use Rattle.ref_objects.proofs.Common.{tag_of, Tag, ground_with_heap, after_freeing, changed_tag, Stored, made_at}
+use Rattle.ref_objects.proofs.Common.{written, Change, Cut, Stamp, ClearedIn, ClearIn, Link, with_stamp}
+use Rattle.ref_space.specs.Tables.{more_held}
+use Rattle.ref_base.specs.Refusals.{object_refusal}
 use Rattle.ref_base.specs.declared.fault.Fault.TheVariants.{NoCell}
 use Rattle.ref_objects.specs.GroundViews.{heap_of}
-use Rattle.ref_objects.proofs.TabledLemmas.{object_at-objects_of, objects_of-changed, map-changed, objects_of-without}
-use Rattle.ref_objects.proofs.NumberLemmas.{has-numbers_by, length-changed, length-without, numbers_by-changed}
-use Rattle.ref_objects.proofs.NumberLemmas.{numbers_by-made, numbers_by-without, numbers_by-more, numbers_by-fewer}
-use Rattle.ref_objects.proofs.NumberLemmas.{least_from-below, numbers_by-last}
-use Rattle.ref_objects.proofs.MarkLemmas.{marked_of-without, is_unmarked-tabled}
+use Rattle.ref_space.proofs.TabledLemmas.{objects_of-changed, map-changed, objects_of-without}
+use Rattle.ref_objects.proofs.NumberLemmas.{has-numbers_by, numbers_by-more, least_from-below}
+use Rattle.ref_space.proofs.CountLemmas.{length-changed, length-without, numbers_by-changed, numbers_by-made}
+use Rattle.ref_space.proofs.CountLemmas.{numbers_by-without, numbers_by-fewer, numbers_by-last}
+use Rattle.ref_space.proofs.MarkCounts.{marked_of-without}
+use Rattle.ref_objects.proofs.MarkLemmas.{is_unmarked-tabled}
 use Rattle.ref_objects.proofs.TagLemmas.{tags_of-without, tags_of-changed}
-use Rattle.ref_objects.specs.Tables as table
+use Rattle.ref_space.specs.Tables as table
 
 -- ---- what is read
-
-pub fields-tabled : (ks : List Tabled) (n : ℕ)
-    → tabled_fields (tabled_at ks n) ≡ fields_in (object_at (objects_of ks) n)
-fields-tabled ks n = rw (object_at-objects_of ks n) refl
-
-has_field-object : (k : Option Tabled) (i : ℕ) → has_field k i ≡ nat_lt i (field_count (object_in k))
-has_field-object None i = sym (le-ltb i 0 (omega arith))
-has_field-object (Some k) i = refl
-
-pub has_field-tabled : (ks : List Tabled) (n i : ℕ)
-    → has_field (tabled_at ks n) i ≡ nat_lt i (field_count (object_at (objects_of ks) n))
-has_field-tabled ks n i = rw (object_at-objects_of ks n) (has_field-object (tabled_at ks n) i)
-
-pub reference-tabled : (ks : List Tabled) (n : ℕ)
-    → tabled_reference (tabled_at ks n) ≡ reference_in (object_at (objects_of ks) n)
-reference-tabled ks n = ap reference_in (sym (object_at-objects_of ks n))
-
--- each number is one of an object
-pub numbers-all : (ks : List Tabled) → numbers_by (λ k. 1) ks ≡ numbers (objects_of ks)
-numbers-all [] = refl
-numbers-all (k ∷ ks) = ap (λ ns. k.object.no ∷ ns) (numbers-all ks)
 
 -- above the last number there is no hold
 pub least_from-past : (ks : List Tabled) (last n : ℕ) → AllUpTo last (numbers (objects_of ks)) → last < n
@@ -54,10 +32,9 @@ least_from-past (k ∷ ks) last n given past = grind (arith, least_from-below, l
 -- ---- a new object
 
 -- so many null fields and this reference are an object that the slot at a place holds
-abbrev pub with_made_at : Stored → ℕ → ℕ → Option Reference → Stored
-with_made_at s place k r = record s {
-  table = with_tabled s.table (made_entry s.next k r s.condemning);
-  slots = slice_set s.slots place (Some s.next);
+abbrev pub with_made_at : Stored → ℕ → ℕ → Option Reference → List (Option ℕ) → Stored
+with_made_at s place k r occupants = record s {
+  table = with_tabled s.table place (made_entry s.next k r s.condemning) occupants;
   next = s.next + 1;
 }
 
@@ -78,12 +55,14 @@ module _ {s : Stored} (sound : IsSoundGround s) where
       → object_refusal (heap_of s) s.next k ≡ None
   has_cell k few below spare = grind (arith, length-map)
 
-  pub sound_made : (place k : ℕ) (r : Option Reference) → s.next < 2 ^ 32 → IsSoundGround (with_made_at s place k r)
-  sound_made place k r below = grind (arith, length-set, numbers_by-made)
+  pub sound_made : (place k : ℕ) (r : Option Reference) (occupants : List (Option ℕ)) → s.next < 2 ^ 32
+      → IsSoundGround (with_made_at s place k r occupants)
+  sound_made place k r occupants below = grind (arith, length-set, numbers_by-made)
 
-  pub seen_made : (place k : ℕ) (r : Option Reference) → AllUpTo s.table.last (numbers (objects_of s.table.tabled))
-      → seen_ground (with_made_at s place k r) ≡ made_at (seen_ground s) place k r
-  seen_made place k r given =
+  pub seen_made : (place k : ℕ) (r : Option Reference) (occupants : List (Option ℕ))
+      → AllUpTo s.table.last (numbers (objects_of s.table.tabled))
+      → seen_ground (with_made_at s place k r occupants) ≡ made_at (seen_ground s) place k r
+  seen_made place k r occupants given =
       search (
         map-append,
         numbers_by-made,
@@ -140,19 +119,12 @@ module _ {s : Stored} (sound : IsSoundGround s) where
   seen_written n (ClearedIn cycle) = search seen_tagged
   seen_written n (Link to) = search seen_tagged
 
-pub change_holds : (change : Change) (k : Tabled) → (table.change_of change k).holds ≡ k.holds
-change_holds change k = grind arith
-
 -- ---- holds
 
 -- an object is held exactly where its number is among the holds
 pub has-holds_of : (ks : List Tabled) (n : ℕ) → IsRising (numbers (objects_of ks))
     → has (holds_of ks) n ≡ nat_lt 0 (holds_in (tabled_at ks n))
 has-holds_of = has-numbers_by (λ k. k.holds)
-
--- no object is held oftener than there are holds
-pub holds_in-le : (ks : List Tabled) (n : ℕ) → holds_in (tabled_at ks n) ≤ length (holds_of ks)
-holds_in-le ks n = omega (arith, length-without (λ k. k.holds) ks n)
 
 -- one hold more of an object is one more among the holds
 holds_of-added : (ks : List Tabled) (n : ℕ) → IsRising (numbers (objects_of ks)) → is_some (tabled_at ks n) ≡ true
@@ -164,19 +136,6 @@ holds_of-added ks n rising there =
 holds_of-dropped : (ks : List Tabled) (n : ℕ) → 0 < holds_in (tabled_at ks n)
     → holds_of (changed_tabled ks n less_held) ≡ one_fewer (holds_of ks) n
 holds_of-dropped ks n held = grind (arith, numbers_by-fewer)
-
--- one hold more where the object may be held, and else none
-pub held_keeps : (if_marked : Bool) (k : Tabled) → (table.more_held_if if_marked k).object.no ≡ k.object.no
-held_keeps if_marked k = grind arith
-
-pub held_leaves : (if_marked : Bool) (k : Tabled) → (table.more_held_if if_marked k).marked ≡ k.marked
-held_leaves if_marked k = grind arith
-
-pub changed-held : (ks : List Tabled) (n : ℕ) (if_marked b : Bool) → table.may_hold if_marked (tabled_at ks n) ≡ b
-    → changed_tabled ks n (table.more_held_if if_marked) ≡ (if b then changed_tabled ks n more_held else ks)
-changed-held [] n if_marked true may = absurd (false≢true may)
-changed-held [] n if_marked false not = refl
-changed-held (k ∷ ks) n if_marked b may = grind (arith, changed-held ks n if_marked b)
 
 module _ {s : Stored} (sound : IsSoundGround s) (n : ℕ) where
   pub sound_added : is_some (tabled_at s.table.tabled n) ≡ true
@@ -190,9 +149,9 @@ module _ {s : Stored} (sound : IsSoundGround s) (n : ℕ) where
   -- ---- an object goes
 
   -- of one that nobody holds no hold is counted
-  pub sound_freed : holds_in (tabled_at s.table.tabled n) ≡ 0
-      → IsSoundGround (record s { table = table.table_freed s.table n })
-  sound_freed none = grind (arith, length-without)
+  pub sound_freed : (occupants : List (Option ℕ)) → holds_in (tabled_at s.table.tabled n) ≡ 0
+      → IsSoundGround (record s { table = table.table_freed s.table n occupants })
+  sound_freed occupants none = grind (arith, length-without)
 
   module _ (rising : IsRising (numbers (objects_of s.table.tabled))) where
     pub seen_added : is_some (tabled_at s.table.tabled n) ≡ true
@@ -206,7 +165,7 @@ module _ {s : Stored} (sound : IsSoundGround s) (n : ℕ) where
     seen_dropped held = search (map-changed, holds_of-dropped, numbers_by-changed)
 
     -- a condemned object goes
-    pub seen_freed : s.condemning ≡ true → holds_in (tabled_at s.table.tabled n) ≡ 0
-        → seen_ground (record s { table = table.table_freed s.table n }) ≡ after_freeing (seen_ground s) n
-    seen_freed goes none =
+    pub seen_freed : (occupants : List (Option ℕ)) → s.condemning ≡ true → holds_in (tabled_at s.table.tabled n) ≡ 0
+        → seen_ground (record s { table = table.table_freed s.table n occupants }) ≡ after_freeing (seen_ground s) n
+    seen_freed occupants goes none =
         grind (arith, is_unmarked-tabled, objects_of-without, numbers_by-without, marked_of-without, tags_of-without)

@@ -1,16 +1,6 @@
 pub mod Common
-pub mod IndexLemmas
-pub mod PlaceLemmas
-pub mod FirstLemmas
-pub mod FreeLemmas
-pub mod ChangeLemmas
-pub mod CellChanges
-pub mod PushLemmas
-pub mod TableLemmas
 pub mod NumberLemmas
-pub mod TabledLemmas
 pub mod GroundLemmas
-pub mod EachLemmas
 pub mod MarkLemmas
 pub mod MarkedLemmas
 pub mod TagLemmas
@@ -19,3 +9,4 @@ pub mod GotLemmas
 pub mod LookLemmas
 pub mod SparedLemmas
 pub mod SoundLemmas
+pub mod SlotLemmas

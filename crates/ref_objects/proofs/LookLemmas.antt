@@ -4,7 +4,8 @@ use Rattle.ref_objects.proofs.Common.{ground_looked_at, Stored, seen_ground, IsS
 use Rattle.ref_objects.proofs.Common.{table_looked_at, ClearIn, tabled_at, objects_of, numbers}
 use Rattle.ref_objects.specs.Grounds.{linked_in}
 use Rattle.ref_base.proofs.NewClears.{refers_into-same}
-use Rattle.ref_objects.proofs.GroundLemmas.{reference-tabled, seen_written, sound_changed}
+use Rattle.ref_space.proofs.TableReads.{reference-tabled}
+use Rattle.ref_objects.proofs.GroundLemmas.{seen_written, sound_changed}
 use Rattle.ref_objects.proofs.MarkLemmas.{is_unmarked-tabled}
 use Rattle.ref_objects.proofs.TagLemmas.{cleared_in-tabled, link-tabled}
 

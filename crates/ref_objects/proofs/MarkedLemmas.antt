@@ -4,12 +4,14 @@ use Rattle.ref_objects.proofs.Common.{false≢true, Object, is_there, numbers, I
 use Rattle.ref_objects.proofs.Common.{with_marked, AllUpTo, seen_ground, IsSoundGround, unmarked_of, tags_of, Stored}
 use Rattle.ref_objects.proofs.Common.{table_blanked, blanked_unless_marked, ground_marked, without_marks}
 use Rattle.ref_objects.proofs.Common.{with_condemned, forgotten, from_bool}
-use Rattle.ref_objects.specs.Tables.{table_unmarked as without_table_marks}
-use Rattle.ref_objects.proofs.NumberLemmas.{numbers_by-changed, has-from, AllFrom-numbers_by, IsRising-tail}
-use Rattle.ref_objects.proofs.TabledLemmas.{map-changed, map-each}
-use Rattle.ref_objects.proofs.MarkLemmas.{is_unmarked-tabled, unmarked-tabled, marked_of-marked, marked_of-marked_again}
-use Rattle.ref_objects.proofs.EachLemmas.{marked_of-unmarked_tabled, numbers_by-each, blanked_keeps, blanked_marked}
-use Rattle.ref_objects.proofs.EachLemmas.{blanked_holds}
+use Rattle.ref_space.specs.Tables.{table_unmarked as without_table_marks}
+use Rattle.ref_space.proofs.CountLemmas.{numbers_by-changed, IsRising-tail}
+use Rattle.ref_objects.proofs.NumberLemmas.{has-from, AllFrom-numbers_by}
+use Rattle.ref_space.proofs.TabledLemmas.{map-changed, map-each}
+use Rattle.ref_space.proofs.MarkCounts.{marked_of-marked_again}
+use Rattle.ref_objects.proofs.MarkLemmas.{is_unmarked-tabled, unmarked-tabled, marked_of-marked}
+use Rattle.ref_space.proofs.EachLemmas.{marked_of-unmarked_tabled, numbers_by-each, blanked_keeps, blanked_marked}
+use Rattle.ref_space.proofs.EachLemmas.{blanked_holds}
 
 -- a number below those of the objects forgets none of them
 forgotten-above : (d : List ℕ) (os : List Object) (m : ℕ) → IsRising (m ∷ numbers os)

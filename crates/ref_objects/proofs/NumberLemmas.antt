@@ -1,12 +1,13 @@
--- The numbers of a table's objects, each as often as a count says: so are the holds, the marked, and the others.
-use Rattle.ref_objects.proofs.Common.{◌≡◌, ℕ, zero, suc, ◌+◌, ◌<◌, ◌≤◌, Bool, true, false, ◌==◌, nat_lt, refl, sym, ap}
-use Rattle.ref_objects.proofs.Common.{arith, length-append, List, [], ◌∷◌, ◌++◌, length, replicate, Some, eq-eqb}
-use Rattle.ref_objects.proofs.Common.{lt-ltb, le-ltb, false≢true, length-replicate, option_map, is_some, numbers_by}
-use Rattle.ref_objects.proofs.Common.{counted_in, first_where, has, numbers, IsRising, one_more, one_fewer, least_from}
-use Rattle.ref_objects.proofs.Common.{Tabled, tabled_at, AllUpTo, objects_of, changed_tabled, without_tabled}
+-- The numbers of a table's objects, each as often as a count says, as lists in order: so are the holds, the marked, and
+-- the others.
+use Rattle.ref_objects.proofs.Common.{◌≡◌, ℕ, zero, suc, ◌<◌, ◌≤◌, Bool, true, false, ◌==◌, nat_lt, refl, sym, arith}
+use Rattle.ref_objects.proofs.Common.{List, [], ◌∷◌, ◌++◌, replicate, Some, eq-eqb, lt-ltb, le-ltb, false≢true, is_some}
+use Rattle.ref_objects.proofs.Common.{numbers_by, counted_in, first_where, has, numbers, IsRising, one_more, least_from}
+use Rattle.ref_objects.proofs.Common.{Tabled, tabled_at, objects_of, changed_tabled}
 use Rattle.std.proofs.Common.{nat_le}
 use Rattle.ref_objects.specs.Grounds.{AllFrom, IsInOrder}
 use Rattle.ref_base.proofs.HasLaws.{has-append}
+use Rattle.ref_space.proofs.CountLemmas.{one_more-past}
 
 -- ---- lists of numbers
 
@@ -32,17 +33,6 @@ pub least_from-below : (count m n : ℕ) (ms : List ℕ) → nat_le n m ≡ fals
 least_from-below zero m n ms below = refl
 least_from-below (suc count) m n ms below = simp below (least_from-below count m n ms below)
 
--- numbers below stay in front
-one_more-past : (count m n : ℕ) (ms : List ℕ) → m < n
-    → one_more (replicate count m ++ ms) n ≡ replicate count m ++ one_more ms n
-one_more-past zero m n ms below = refl
-one_more-past (suc count) m n ms below = search (lt-ltb, one_more-past count m n ms below)
-
-one_fewer-past : (count m n : ℕ) (ms : List ℕ) → (m == n) ≡ false
-    → one_fewer (replicate count m ++ ms) n ≡ replicate count m ++ one_fewer ms n
-one_fewer-past zero m n ms other = refl
-one_fewer-past (suc count) m n ms other = simp other (ap (λ ns. m ∷ ns) (one_fewer-past count m n ms other))
-
 has-replicate : (count n : ℕ) → has (replicate count n) n ≡ nat_lt 0 count
 has-replicate zero n = refl
 has-replicate (suc count) n =
@@ -51,10 +41,6 @@ has-replicate (suc count) n =
 has-replicate_other : (count m n : ℕ) → (m == n) ≡ false → has (replicate count m) n ≡ false
 has-replicate_other zero m n other = refl
 has-replicate_other (suc count) m n other = simp other (has-replicate_other count m n other)
-
-pub IsRising-tail : (n : ℕ) (ns : List ℕ) → IsRising (n ∷ ns) → IsRising ns
-IsRising-tail n [] rising = tt
-IsRising-tail n (m ∷ ms) rising = rising.1
 
 -- what is found among rising numbers is above those before
 below_found : (ks : List Tabled) (m n : ℕ) → IsRising (m ∷ numbers (objects_of ks)) → is_some (tabled_at ks n) ≡ true
@@ -95,54 +81,6 @@ module _ (count : Tabled → ℕ) where
   least_where keeps kept [] n = refl
   least_where keeps kept (k ∷ ks) n = least_at keeps k ks n (count k) refl (kept k) (least_where keeps kept ks n)
 
-  -- ---- how many there are
-
-  -- a change of one object is told by its count before and after
-  pub length-changed : (ks : List Tabled) (n : ℕ) (f : Tabled → Tabled)
-      → length (numbers_by count (changed_tabled ks n f)) + counted_in count (tabled_at ks n)
-      ≡ length (numbers_by count ks) + counted_in count (option_map f (tabled_at ks n))
-  length-changed [] n f = refl
-  length-changed (k ∷ ks) n f = grind (arith, length-append, length-replicate, length-changed ks n f)
-
-  -- and so is its end
-  pub length-without : (ks : List Tabled) (n : ℕ)
-      → length (numbers_by count ks)
-      ≡ counted_in count (tabled_at ks n) + length (numbers_by count (without_tabled ks n))
-  length-without [] n = refl
-  length-without (k ∷ ks) n = grind (arith, length-append, length-replicate, length-without ks n)
-
-  -- one more object adds its count
-  pub length-made : (ks : List Tabled) (k : Tabled)
-      → length (numbers_by count (ks ++ k ∷ [])) ≡ length (numbers_by count ks) + count k
-  length-made [] k = grind (arith, length-append, length-replicate)
-  length-made (l ∷ ls) k = grind (arith, length-append, length-replicate, length-made ls k)
-
-  -- ---- changes that leave them
-
-  pub numbers_by-changed : (ks : List Tabled) (n : ℕ) (f : Tabled → Tabled)
-      → ((k : Tabled) → (f k).object.no ≡ k.object.no) → ((k : Tabled) → count (f k) ≡ count k)
-      → numbers_by count (changed_tabled ks n f) ≡ numbers_by count ks
-  numbers_by-changed [] n f keeps leaves = refl
-  numbers_by-changed (k ∷ ks) n f keeps leaves = grind (arith, numbers_by-changed ks n f keeps leaves)
-
-  pub numbers_by-made : (ks : List Tabled) (k : Tabled) → count k ≡ 0
-      → numbers_by count (ks ++ k ∷ []) ≡ numbers_by count ks
-  numbers_by-made [] k none = ap (λ times. replicate times k.object.no ++ []) none
-  numbers_by-made (l ∷ ls) k none =
-      ap (λ ms. replicate (count l) l.object.no ++ ms) (numbers_by-made ls k none)
-
-  -- and the number of one that counts once stands last, where it is above all others
-  pub numbers_by-last : (ks : List Tabled) (k : Tabled) (last : ℕ) → AllUpTo last (numbers (objects_of ks))
-      → last < k.object.no → count k ≡ 1 → numbers_by count (ks ++ k ∷ []) ≡ one_more (numbers_by count ks) k.object.no
-  numbers_by-last [] k last given above once = ap (λ times. replicate times k.object.no ++ []) once
-  numbers_by-last (l ∷ ls) k last given above once =
-      grind (arith, one_more-past, numbers_by-last ls k last given.1 above once)
-
-  pub numbers_by-without : (ks : List Tabled) (n : ℕ) → counted_in count (tabled_at ks n) ≡ 0
-      → numbers_by count (without_tabled ks n) ≡ numbers_by count ks
-  numbers_by-without [] n none = refl
-  numbers_by-without (k ∷ ks) n none = grind (arith, numbers_by-without ks n)
-
   -- ---- one more, and one fewer
 
   module _ (f : Tabled → Tabled) (keeps : (k : Tabled) → (f k).object.no ≡ k.object.no) where
@@ -160,9 +98,3 @@ module _ (count : Tabled → ℕ) where
           numbers_by-more ks n,
           AllFrom-numbers_by ks k.object.no k.object.no,
         )
-
-    pub numbers_by-fewer : (ks : List Tabled) (n : ℕ)
-        → is_some (tabled_at ks n) ≡ true → ((k : Tabled) → tabled_at ks n ≡ Some k → count k ≡ suc (count (f k)))
-        → numbers_by count (changed_tabled ks n f) ≡ one_fewer (numbers_by count ks) n
-    numbers_by-fewer [] n there down = absurd (false≢true there)
-    numbers_by-fewer (k ∷ ks) n there down = grind (arith, one_fewer-past, numbers_by-fewer ks n)

@@ -1,24 +1,25 @@
 -- What each call that writes fields of a heap's objects leaves sound.
 use Rattle.ref_objects.proofs.Common.{◌≡◌, ℕ, ◌+◌, ◌-◌, ◌*◌, ◌^◌, ◌<◌, ◌≤◌, Bool, true, false, refl, sym, ap, subst}
-use Rattle.ref_objects.proofs.Common.{◌∙◌, arith, List, [], ◌++◌, length, get_or, replicate, Option, None, object_at}
-use Rattle.ref_objects.proofs.Common.{present, is_within_limits, named_in, slice_set, is_some, false≢true, lt-ltb}
-use Rattle.ref_objects.proofs.Common.{cases_Bool, inl, inr, if◌then◌else◌, length-set, length-replicate, get_or_read}
-use Rattle.ref_objects.proofs.Common.{has, Reference, numbers, with_field, with_hold, IsRising, referent_of, AllUpTo}
-use Rattle.ref_objects.proofs.Common.{Table, tabled_at, objects_of, holds_of, holds_in, changed, on_object, less_held}
-use Rattle.ref_objects.proofs.Common.{with_marked, is_unmarked_in, is_marked_in, table_freed, seen_ground}
-use Rattle.ref_objects.proofs.Common.{table_unmarked, change_of, table_blanked, table_looked_at, may_hold, from_bool}
-use Rattle.ref_objects.proofs.Common.{Ground, NamesSpared, IsClosed, IsSparedIfAny, is_spared, after_freeing}
-use Rattle.ref_objects.proofs.Common.{ground_with_heap, Stored, IsSoundGround, Change}
-use Rattle.ref_objects.specs.Tables.{empty_table, more_held_if}
+use Rattle.ref_objects.proofs.Common.{◌∙◌, arith, List, [], ◌++◌, length, replicate, Option, None, object_at, present}
+use Rattle.ref_objects.proofs.Common.{is_within_limits, named_in, is_some, false≢true, lt-ltb, cases_Bool, inl, inr}
+use Rattle.ref_objects.proofs.Common.{if◌then◌else◌, length-set, length-replicate, has, Reference, numbers, with_field}
+use Rattle.ref_objects.proofs.Common.{with_hold, IsRising, referent_of, AllUpTo, Table, tabled_at, objects_of, holds_of}
+use Rattle.ref_objects.proofs.Common.{holds_in, changed, on_object, less_held, with_marked, is_unmarked_in}
+use Rattle.ref_objects.proofs.Common.{is_marked_in, table_freed, seen_ground, table_unmarked, change_of, table_blanked}
+use Rattle.ref_objects.proofs.Common.{table_looked_at, may_hold, from_bool, Ground, NamesSpared, IsClosed}
+use Rattle.ref_objects.proofs.Common.{IsSparedIfAny, is_spared, after_freeing, ground_with_heap, Stored, IsSoundGround}
+use Rattle.ref_objects.proofs.Common.{Change, held_at, slotted, IsSoundObjects}
+use Rattle.ref_space.specs.Tables.{empty_table, more_held_if}
 use Rattle.ref_base.specs.declared.config.Config.{Config}
-use Rattle.ref_objects.specs.GroundViews.{stored_fields, IsSoundObjects}
+use Rattle.ref_objects.specs.GroundViews.{stored_fields}
 use Rattle.ref_base.proofs.HasLaws.{has-append}
-use Rattle.ref_objects.proofs.TabledLemmas.{is_there-objects_of}
+use Rattle.ref_space.proofs.TabledLemmas.{is_there-objects_of}
 use Rattle.ref_objects.proofs.MarkLemmas.{is_unmarked-tabled, has-marked_of}
-use Rattle.ref_objects.proofs.CellChanges.{change_keeps}
-use Rattle.ref_objects.proofs.GroundLemmas.{sound_made, seen_made, sound_changed, seen_changed, change_holds}
+use Rattle.ref_space.proofs.CellChanges.{change_keeps}
+use Rattle.ref_space.proofs.TableReads.{change_holds, changed-held}
+use Rattle.ref_objects.proofs.GroundLemmas.{sound_made, seen_made, sound_changed, seen_changed}
 use Rattle.ref_objects.proofs.GroundLemmas.{seen_written, has-holds_of, sound_added, sound_dropped, seen_added}
-use Rattle.ref_objects.proofs.GroundLemmas.{seen_dropped, sound_freed, seen_freed, with_made_at, changed-held}
+use Rattle.ref_objects.proofs.GroundLemmas.{seen_dropped, sound_freed, seen_freed, with_made_at}
 use Rattle.ref_objects.proofs.MarkedLemmas.{seen_marked, sound_without_marks, seen_without_marks, sound_blanked}
 use Rattle.ref_objects.proofs.MarkedLemmas.{seen_condemned}
 use Rattle.ref_objects.proofs.LookLemmas.{looked_seen, sound_looked}
@@ -38,12 +39,12 @@ module _ {s : Stored} (sound : IsSoundObjects s) where
 
   -- a slot is written
   pub slot_sound : (place : ℕ) (value : Option ℕ) {g : Ground} → was ≡ g → IsSparedIfAny g value
-      → IsSoundObjects (record s { slots = slice_set s.slots place value })
+      → IsSoundObjects (record s { table = slotted s.table place value })
   slot_sound place value view spared = record {
     ground = record {
       within = sound.ground.within;
       room = sound.ground.room;
-      slot_count = length-set s.slots place value ∙ sound.ground.slot_count;
+      slot_count = length-set s.table.slots place value ∙ sound.ground.slot_count;
       counted = sound.ground.counted;
       given = sound.ground.given;
       bounded = sound.ground.bounded;
@@ -52,20 +53,17 @@ module _ {s : Stored} (sound : IsSoundObjects s) where
   }
 
   -- what is read of one is spared
-  pub slot_spared : {g : Ground} → was ≡ g → (place : ℕ) {value : Option ℕ} → value ≡ get_or s.slots place value
-      → place < length g.heap.slots → IsSparedIfAny g value
-  slot_spared {g} view place {value} reads within =
-      subst (λ (h : Ground). IsSparedIfAny h value) view
-      (spared_slot was sound.closed place value
-      (let there = subst (λ (h : Ground). place < length h.heap.slots) (sym view) within in
-      get_or_read s.slots place value there reads None))
+  pub slot_spared : {g : Ground} → was ≡ g → (place : ℕ) {value : Option ℕ} → value ≡ held_at s.table place
+      → IsSparedIfAny g value
+  slot_spared {g} view place {value} reads =
+      subst (λ (h : Ground). IsSparedIfAny h value) view (spared_slot was sound.closed place value reads)
 
   -- an object is made
-  pub made_sound : (place k : ℕ) (r : Option Reference) → s.next < 2 ^ 32
+  pub made_sound : (place k : ℕ) (r : Option Reference) (occupants : List (Option ℕ)) → s.next < 2 ^ 32
       → AllUpTo s.table.last (numbers (objects_of s.table.tabled)) → {g : Ground} → was ≡ g
-      → IsSparedIfAny g (referent_of r) → IsSoundObjects (with_made_at s place k r)
-  made_sound place k r below given view spared =
-      leaves (sound_made sound.ground place k r below) (seen_made sound.ground place k r given)
+      → IsSparedIfAny g (referent_of r) → IsSoundObjects (with_made_at s place k r occupants)
+  made_sound place k r occupants below given view spared =
+      leaves (sound_made sound.ground place k r occupants below) (seen_made sound.ground place k r occupants given)
       (names_made was place k r sound.closed (rw view spared))
 
   -- a field is written
@@ -161,31 +159,33 @@ module _ {s : Stored} (sound : IsSoundObjects s) where
         unheld : is_unmarked_in (tabled_at s.table.tabled n) ≡ true → holds_in (tabled_at s.table.tabled n) ≡ 0
         unheld new = grind (arith, held_spared, is_unmarked-tabled)
 
-        pub freed_sound : IsSoundObjects (record s { table = table_freed s.table n })
-        freed_sound =
+        pub freed_sound : (occupants : List (Option ℕ))
+            → IsSoundObjects (record s { table = table_freed s.table n occupants })
+        freed_sound occupants =
             elim (cases_Bool (is_unmarked_in (tabled_at s.table.tabled n))) [
               | inl goes ↦
-                  leaves (sound_freed sound.ground n (unheld goes))
-                  (seen_freed sound.ground n rising condemned (unheld goes)) (names_freed was n sound.closed)
+                  leaves (sound_freed sound.ground n occupants (unheld goes))
+                  (seen_freed sound.ground n rising occupants condemned (unheld goes)) (names_freed was n sound.closed)
               | inr stays ↦ simp stays sound
             ]
 
-        pub freed_seen : seen_ground (record s { table = table_freed s.table n }) ≡ after_freeing was n
-        freed_seen = grind (arith, seen_freed, unheld, is_unmarked-tabled)
+        pub freed_seen : (occupants : List (Option ℕ))
+            → seen_ground (record s { table = table_freed s.table n occupants }) ≡ after_freeing was n
+        freed_seen occupants = grind (arith, seen_freed, unheld, is_unmarked-tabled)
 
         -- where something may be condemned, the marked are spared
         pub marked_spared : is_marked_in (tabled_at s.table.tabled n) ≡ is_spared was n
         marked_spared = grind (arith, has-marked_of, is_there-objects_of, is_unmarked-tabled)
 
 -- at first nothing is named
-pub first_sound : {config : Config} {heap_no : ℕ} {t : Table} {slots : List (Option ℕ)} {next : ℕ}
-    → is_within_limits config ≡ true → t ≡ empty_table config.cells → slots ≡ replicate (16 * config.mutators) None
-    → 1 ≤ next → next ≤ 2 ^ 32 → IsSoundObjects (stored_fields config heap_no t slots 0 0 next false)
-first_sound {config} {heap_no} {t} {slots} {next} within made nulls begins bounded = record {
+pub first_sound : {config : Config} {heap_no : ℕ} {t : Table} {count first next : ℕ}
+    → is_within_limits config ≡ true → t ≡ empty_table config.cells count first → count ≡ 16 * config.mutators
+    → 1 ≤ next → next ≤ 2 ^ 32 → IsSoundObjects (stored_fields config heap_no t 0 0 next false)
+first_sound {config} {heap_no} {t} {count} {first} {next} within made counted begins bounded = record {
   ground = record {
     within = within;
     room = ap (λ (t : Table). t.room) made;
-    slot_count = ap length nulls ∙ length-replicate (16 * config.mutators) None;
+    slot_count = ap (λ (t : Table). length t.slots) made ∙ length-replicate count None ∙ counted;
     counted = ap (λ (t : Table). length (holds_of t.tabled)) (sym made);
     given = rw made (omega (arith, begins));
     bounded = bounded;
@@ -196,10 +196,8 @@ first_sound {config} {heap_no} {t} {slots} {next} within made nulls begins bound
   };
 }
   where
-    no_root : (n : ℕ) → has (present slots ++ holds_of t.tabled) n ≡ false
-    no_root n = rw (nulls, made)
-        (has-append (present (replicate (16 * config.mutators) None)) [] n
-        ∙ rw (no_names (16 * config.mutators) n) refl)
+    no_root : (n : ℕ) → has (present t.slots ++ holds_of t.tabled) n ≡ false
+    no_root n = rw made (has-append (present (replicate count None)) [] n ∙ rw (no_names count n) refl)
 
     no_name : (m n : ℕ) → has (named_in (object_at (objects_of t.tabled) m)) n ≡ false
     no_name m n = rw made refl

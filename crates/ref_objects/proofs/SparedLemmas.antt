@@ -7,11 +7,10 @@ use Rattle.ref_objects.proofs.Common.{present, if_any, forgotten, reference_in, 
 use Rattle.ref_objects.proofs.Common.{nulls, with_hold, without_hold, referent_of, Ground, NamesSpared, IsClosed}
 use Rattle.ref_objects.proofs.Common.{is_spared, named_in, IsSparedIfAny, fields_in, ground_with_heap, ground_marked}
 use Rattle.ref_objects.proofs.Common.{without_marks, with_condemned, after_freeing, ground_looked_at, look_of, made_at}
-use Rattle.ref_objects.proofs.Common.{written, Change, Cut, Stamp, ClearedIn, ClearIn, Link}
+use Rattle.ref_objects.proofs.Common.{written, Change, Cut, Stamp, ClearedIn, ClearIn, Link, with_slot_at}
 use Rattle.std.proofs.Common.{◌||◌, ◌⊎◌}
 use Rattle.ref_base.specs.Heaps.{changed_reference}
 use Rattle.ref_objects.specs.Grounds.{with_none_condemned}
-use Rattle.ref_objects.specs.GroundViews.{with_slot_at}
 use Rattle.ref_base.proofs.HasLaws.{has-left, has-right, has-cases}
 use Rattle.ref_base.proofs.OneMore.{has-one_more}
 use Rattle.ref_base.proofs.Lookups.{lookup-changed, object_at-push, object_at-pushed, has-present_set, has-present_at}

@@ -2,7 +2,7 @@
 use Rattle.ref_objects.proofs.Common.{arith, ◌≡◌, ℕ, ◌==◌, refl, ap, List, [], ◌∷◌, map, true, false, inl, inr}
 use Rattle.ref_objects.proofs.Common.{cases_Bool, false≢true, Tabled, tabled_at, changed_tabled, without_tabled, has}
 use Rattle.ref_objects.proofs.Common.{numbers, objects_of, tags_of, tag_of, Tag, changed_tag}
-use Rattle.ref_objects.specs.Tables.{tabled_cleared_in, tabled_link}
+use Rattle.ref_space.specs.Tables.{tabled_cleared_in, tabled_link}
 use Rattle.ref_objects.specs.Grounds.{cleared_in_at, link_at, with_new_tag, without_tag, with_cleared_tag}
 
 pub tags_of-without : (ks : List Tabled) (n : ℕ) → tags_of (without_tabled ks n) ≡ without_tag (tags_of ks) n

@@ -1,33 +1,31 @@
 -- What a contract sees of the fields of a heap's objects, and what holds of them.
-use Rattle.std.specs.Prelude.{◌≡◌, ℕ, ◌+◌, ◌*◌, ◌^◌, ◌<◌, ◌≤◌, Bool, true, List, [], ◌∷◌, ◌++◌, length, Option, Some}
+use Rattle.std.specs.Prelude.{◌≡◌, ℕ, ◌+◌, ◌*◌, ◌^◌, ◌<◌, ◌≤◌, Bool, true, [], ◌∷◌, ◌++◌, length, Option, Some}
 use Rattle.std.specs.Prelude.{slice_set}
 use Rattle.ref_base.specs.Graphs.{Object, Reference}
 use Rattle.ref_base.specs.Heaps.{Heap, nulls, with_changed, with_reference, with_stamp, cleared}
 use Rattle.ref_base.specs.Limits.{is_within_limits}
 use Rattle.ref_base.specs.declared.config.Config.{Config}
-use Rattle.ref_objects.specs.Tables.{Table, objects_of, holds_of, marked_of, tags_of}
+use Rattle.ref_space.specs.Tables.{Table, objects_of, holds_of, marked_of, tags_of}
 use Rattle.ref_objects.specs.Grounds.{Ground, NamesSpared, with_new_tag, marks_with_new, ground_with_heap}
 use Rattle.ref_objects.specs.Grounds.{with_cleared_tag, with_link}
-use Rattle.ref_objects.specs.declared.cell.Change.{Change}
-use Rattle.ref_objects.specs.declared.cell.Change.TheVariants.{Cut, Stamp, ClearedIn, ClearIn, Link}
+use Rattle.ref_space.specs.declared.cell.Change.{Change}
+use Rattle.ref_space.specs.declared.cell.Change.TheVariants.{Cut, Stamp, ClearedIn, ClearIn, Link}
 
 -- what a heap's objects have in their fields: of the table what is seen of it, and the count of the holds that are out
 pub record Stored : Type 0 where
   pub config : Config
   pub heap_no : ℕ
   pub table : Table
-  pub slots : List (Option ℕ)
   pub holds : ℕ
   pub clock : ℕ
   pub next : ℕ
   pub condemning : Bool
 
-abbrev pub stored_fields : Config → ℕ → Table → List (Option ℕ) → ℕ → ℕ → ℕ → Bool → Stored
-stored_fields config heap_no table slots holds clock next condemning = record {
+abbrev pub stored_fields : Config → ℕ → Table → ℕ → ℕ → ℕ → Bool → Stored
+stored_fields config heap_no table holds clock next condemning = record {
   config = config;
   heap_no = heap_no;
   table = table;
-  slots = slots;
   holds = holds;
   clock = clock;
   next = next;
@@ -40,7 +38,7 @@ heap_of s = record {
   config = s.config;
   no = s.heap_no;
   objects = objects_of s.table.tabled;
-  slots = s.slots;
+  slots = s.table.slots;
   holds = holds_of s.table.tabled;
   clock = s.clock;
 }
@@ -59,7 +57,7 @@ seen_ground s = record {
 pub record IsSoundGround (s : Stored) : Type 0 where
   pub within : is_within_limits s.config ≡ true
   pub room : s.table.room ≡ s.config.cells
-  pub slot_count : length s.slots ≡ 16 * s.config.mutators
+  pub slot_count : length s.table.slots ≡ 16 * s.config.mutators
   pub counted : s.holds ≡ length (holds_of s.table.tabled)
   pub given : s.table.last < s.next
   pub bounded : s.next ≤ 2 ^ 32

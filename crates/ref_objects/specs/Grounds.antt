@@ -18,18 +18,12 @@ use Rattle.ref_base.specs.declared.config.Config.{Config}
 use Rattle.ref_base.specs.declared.fault.Fault.{Fault}
 use Rattle.ref_base.specs.declared.fault.Fault.TheVariants.{BadConfig, NoSuchObject, NoMemory, NoSuchActor}
 use Rattle.ref_base.specs.declared.heap_step.HoldName.{HoldName}
+use Rattle.ref_space.specs.Tables.{Tag, fields_in}
 use Rattle.ref_objects.specs.declared.start.Start.{Start}
 use Rattle.ref_objects.specs.declared.kind.Kind.{Kind}
 use Rattle.ref_objects.specs.declared.kind.Kind.TheVariants as kind
-use Rattle.ref_objects.specs.declared.linked.Linked.{Linked}
-use Rattle.ref_objects.specs.declared.linked.Look.{Look}
-
--- what a heap knows of an object that the model doesn't: of that of this number, its link, which is the number of the
--- object behind it in the list that it stands in, or 0, and the cycle in which a worker cleared it last, or 0
-pub record Tag : Type 0 where
-  pub no : ℕ
-  pub link : ℕ
-  pub cleared_in : ℕ
+use Rattle.ref_space.specs.declared.linked.Linked.{Linked}
+use Rattle.ref_space.specs.declared.linked.Look.{Look}
 
 -- a heap, the number of its next object, the numbers of the objects that are marked, and the tag of each object, both
 -- in order; and whether the objects that aren't marked are condemned
@@ -84,11 +78,6 @@ is_spared g n = is_there g.heap.objects n && not (is_condemned g n)
 abbrev pub IsSparedIfAny : Ground → Option ℕ → Type 0
 IsSparedIfAny g None = Unit {0}
 IsSparedIfAny g (Some n) = is_spared g n ≡ true
-
--- the fields of an object, if there is one
-abbrev pub fields_in : Option Object → List (Option ℕ)
-fields_in None = []
-fields_in (Some o) = o.fields
 
 -- what an object names: what its fields hold, and its referent
 abbrev pub named_in : Option Object → List ℕ

@@ -1,4 +1,2 @@
-pub mod Tables
-pub mod Places
 pub mod Grounds
 pub mod GroundViews

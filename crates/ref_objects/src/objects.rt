@@ -2,7 +2,7 @@
 //! change them.
 
 ghost use Rattle.std.specs.Prelude.{◌≡◌, ◌*◌, ◌+◌, ◌^◌, ◌<◌, ◌≤◌, if◌then◌else◌, true, false, None, Some};
-ghost use Rattle.std.specs.Prelude.{length, replicate, IfOk, MatchResult};
+ghost use Rattle.std.specs.Prelude.{length, slice_index_or, replicate, IfOk, MatchResult};
 ghost use Rattle.ref_base.specs.Paths.{is_soft};
 ghost use Rattle.ref_base.specs.Graphs.{plain_object};
 ghost use Rattle.ref_base.specs.Heaps.{slot_at, with_slot, with_changed, with_field, nulls, stored};
@@ -10,10 +10,12 @@ ghost use Rattle.ref_base.specs.Heaps.{reference_made, new_reference};
 ghost use Rattle.ref_base.specs.Refusals.{unless, has_slot, is_queue_or_none, new_refusal, refer_refusal};
 ghost use Rattle.ref_base.specs.Refusals.{store_refusal, drop_refusal, copy_refusal, object_refusal, field_refusal};
 ghost use Rattle.ref_base.specs.Refusals.{load_refusal};
-ghost use Rattle.ref_base.specs.CollectorRows.{field_in, referent_of};
+ghost use Rattle.ref_base.specs.CollectorRows.{field_in};
 ghost use Rattle.ref_objects.specs.Grounds.{first_ground, starting_refusal, IsMade, IsRefused, if_done};
 ghost use Rattle.ref_objects.specs.Grounds.{ground_with_heap, with_new_object, is_spared, IsSparedIfAny};
-ghost use Rattle.ref_objects.specs.GroundViews.{made_at, with_slot_at};
+ghost use Rattle.ref_objects.specs.GroundViews.{made_at};
+ghost use Rattle.ref_space.specs.Tables.{made_of};
+ghost use Rattle.std.specs.Option.{option_map, IfSome};
 
 mod holds;
 mod layer;
@@ -21,26 +23,24 @@ mod marks;
 mod readers;
 mod references;
 
-use crate::reference::Reference;
 use crate::start::Start;
-use crate::table::Table;
 use ref_base::{Config, Fault, MOST_FIELDS, MutNo, ObjNo, QueueNo, SLOTS, SlotNo, Strength};
+use ref_space::{NewReference, Table};
 use std::alloc::{Allocator, Global};
 use std::marker::Model;
 
 /// The objects of a heap: their fields and references, the slots of the mutators, and the holds that are out.
 ///
 /// All its memory is taken as it is made, and none by any other call: 10,256 bytes for each page of 64 cells, of which
-/// there are as many as the objects fill that there may be, and 128 for each mutator's slots. An object is found by its
-/// number in logarithmic time, and in constant time where none with a greater number was freed before the gaps were
-/// last closed: so is each that was made since.
+/// there are as many as the objects fill that there may be, and 128 for each mutator's slots. What a slot or a field
+/// holds is found by its word, in constant time. An object is found by its number in logarithmic time, and in constant
+/// time where none with a greater number was freed before the gaps were last closed: so is each that was made since.
 #[derive(Drop)]
 pub struct Objects<A: Allocator = Global> {
     config: Config,
     heap_no: u64,
+    // The slots of mutator m begin at 16 * m.
     table: Table<A>,
-    // Those of mutator m begin at 16 * m.
-    slots: Vec<Option<ObjNo>, A>,
     // How many holds are out.
     holds: u64,
     clock: u64,
@@ -57,10 +57,10 @@ impl<A: Allocator> Model for Objects<A> {
     ghost Value = { Ground };
 
     ghost view = { λ o. seen_ground
-        (stored_fields o.config o.heap_no o.table o.slots.items o.holds o.clock o.next o.condemning) };
+        (stored_fields o.config o.heap_no o.table o.holds o.clock o.next o.condemning) };
 
     ghost invariant = { λ o. IsSoundObjects
-        (stored_fields o.config o.heap_no o.table o.slots.items o.holds o.clock o.next o.condemning) };
+        (stored_fields o.config o.heap_no o.table o.holds o.clock o.next o.condemning) };
 }
 
 impl<A: Allocator + Copy> Objects<A> {
@@ -80,15 +80,12 @@ impl<A: Allocator + Copy> Objects<A> {
         if config.check().is_err() || !start.is_allowed(&config) {
             return Err(Fault::BadConfig);
         }
-        let Ok(slots) = vec![in alloc; None; SLOTS * config.mutators as usize] else {
-            return Err(Fault::NoMemory);
-        };
-        let table = Table::new(alloc, config.cells as usize, start.page)?;
+        let slots = SLOTS * config.mutators as usize;
+        let table = Table::new(alloc, config.cells as usize, slots, start.page)?;
         Ok(Objects {
             config,
             heap_no,
             table,
-            slots,
             holds: 0,
             clock: 0,
             next: u64::from(start.obj),
@@ -130,17 +127,19 @@ impl<A: Allocator + Copy> Objects<A> {
             queue fields)) self.old }
     {
         let place = self.place(mutator, into)?;
-        let held = self.slot_of(mutator, from)?;
+        let held = self.place(mutator, from)?;
         let registered = queue;
         if !self.is_queue(queue) {
             return Err(Fault::BadQueue);
         }
-        let no = held.ok_or(Fault::EmptySlot)?;
-        self.make_reference(place, fields, strength, no, registered)
+        if self.table.slot(held).is_none() {
+            return Err(Fault::EmptySlot);
+        }
+        self.make_reference(place, fields, strength, held, registered)
     }
 
     /// Writes what slot `from` holds, an object or null, into a field of the object in slot `into`. Tried in this
-    /// order: `NoSuchActor`, `EmptySlot` of `into`, `BadField`. In logarithmic time.
+    /// order: `NoSuchActor`, `EmptySlot` of `into`, `BadField`. In constant time.
     pub fn store(
         &mut self,
         mutator: MutNo,
@@ -152,14 +151,19 @@ impl<A: Allocator + Copy> Objects<A> {
         ensures after { self.new ≡ if_done result
             (ground_with_heap self.old (stored self.old.heap mutator into field from)) self.old }
     {
-        let held = self.slot_of(mutator, into)?;
-        let value = self.slot_of(mutator, from)?;
-        let no = held.ok_or(Fault::EmptySlot)?;
-        self.set_field(no, field, value)
+        let object = self.place(mutator, into)?;
+        let value = self.place(mutator, from)?;
+        if self.table.slot(object).is_none() {
+            return Err(Fault::EmptySlot);
+        }
+        if !self.table.store(object, field as usize, value) {
+            return Err(Fault::BadField);
+        }
+        Ok(())
     }
 
     /// Loads a field of the object in slot `from` into slot `into`, and answers what it holds: an object or null. Tried
-    /// in this order: `NoSuchActor`, `EmptySlot` of `from`, `BadField`. In logarithmic time.
+    /// in this order: `NoSuchActor`, `EmptySlot` of `from`, `BadField`. In constant time.
     pub fn load(
         &mut self,
         mutator: MutNo,
@@ -175,10 +179,14 @@ impl<A: Allocator + Copy> Objects<A> {
             (field_in self.old.heap (slot_at self.old.heap mutator from) field))) self.old }
     {
         let place = self.place(mutator, into)?;
-        let value = self.loadable(mutator, from, field)?;
-        let answer = value;
-        self.write_slot(place, value);
-        Ok(answer)
+        let object = self.place(mutator, from)?;
+        if self.table.slot(object).is_none() {
+            return Err(Fault::EmptySlot);
+        }
+        match self.table.load(place, object, field as usize) {
+            Some(value) => Ok(value),
+            None => Err(Fault::BadField),
+        }
     }
 
     /// Empties a slot. The one error is `NoSuchActor`. In constant time.
@@ -188,7 +196,7 @@ impl<A: Allocator + Copy> Objects<A> {
             (ground_with_heap self.old (with_slot self.old.heap mutator slot None)) self.old }
     {
         let place = self.place(mutator, slot)?;
-        self.write_slot(place, None);
+        self.table.empty_slot(place);
         Ok(())
     }
 
@@ -207,40 +215,12 @@ impl<A: Allocator + Copy> Objects<A> {
             (slot_at self.old.heap mutator from))) self.old }
     {
         let place = self.place(mutator, into)?;
-        let value = self.slot_of(mutator, from)?;
-        let answer = value;
-        self.write_slot(place, value);
-        Ok(answer)
+        let from = self.place(mutator, from)?;
+        self.table.copy_slot(place, from);
+        Ok(self.table.slot(from))
     }
 
     // ---- parts of calls
-
-    // What a field of the object in a slot holds, or why a load of it is refused.
-    fn loadable(&self, mutator: MutNo, from: SlotNo, field: u32) -> Result<Option<ObjNo>, Fault>
-        ensures refused { IsRefused (unless (has_slot self.now.heap mutator from) Fault.NoSuchActor
-            (field_refusal self.now.heap (slot_at self.now.heap mutator from) field)) result }
-        ensures answer { IfOk result
-            (λ value. value ≡ field_in self.now.heap (slot_at self.now.heap mutator from) field) }
-        ensures spared { IfOk result (λ value. IsSparedIfAny self.now value) }
-    {
-        // Gives the proof that what a field holds is spared.
-        self.facts();
-        let no = self.slot_of(mutator, from)?.ok_or(Fault::EmptySlot)?;
-        let fields = self.fields_of(no);
-        if field as usize >= fields.len() {
-            return Err(Fault::BadField);
-        }
-        Ok(fields.get(field as usize))
-    }
-
-    // Writes the slot at this place.
-    fn write_slot(&mut self, place: usize, value: Option<ObjNo>)
-        requires place { place < length self.old.heap.slots }
-        requires spared { IsSparedIfAny self.old value }
-        ensures { self.new ≡ with_slot_at self.old place value }
-    {
-        self.slots[place] = value;
-    }
 
     // Where a slot lies.
     fn place(&self, mutator: MutNo, slot: SlotNo) -> Result<usize, Fault>
@@ -280,13 +260,14 @@ impl<A: Allocator + Copy> Objects<A> {
         &mut self,
         place: usize,
         fields: u32,
-        reference: Option<Reference>,
+        reference: Option<NewReference>,
     ) -> Result<ObjNo, Fault>
         requires place { place < length self.old.heap.slots }
-        requires spared { IsSparedIfAny self.old (referent_of reference) }
+        requires from { IfSome reference (λ r. r.from < length self.old.heap.slots) }
         ensures refused { IsRefused (object_refusal self.old.heap self.old.next fields) result }
         ensures answer { IfOk result (λ no. no ≡ self.old.next) }
-        ensures after { self.new ≡ if_done result (made_at self.old place fields reference) self.old }
+        ensures after { self.new ≡ if_done result
+            (made_at self.old place fields (option_map (made_of self.old.heap.slots) reference)) self.old }
     {
         if fields as usize > MOST_FIELDS {
             return Err(Fault::BadField);
@@ -302,48 +283,35 @@ impl<A: Allocator + Copy> Objects<A> {
         let no = ObjNo(self.next as u32);
         // What isn't marked would be condemned.
         self.table
-            .push(no, fields as usize, reference, self.condemning);
-        self.slots[place] = Some(no);
+            .push(place, no, fields as usize, reference, self.condemning);
         self.next += 1;
         Ok(no)
     }
 
-    // Makes a reference; the slot at this place holds it.
+    // Makes a reference to what the slot at place `from` holds; the slot at place `place` holds it.
     fn make_reference(
         &mut self,
         place: usize,
         fields: u32,
         strength: Strength,
-        referent: ObjNo,
+        from: usize,
         queue: Option<QueueNo>,
     ) -> Result<ObjNo, Fault>
         requires place { place < length self.old.heap.slots }
-        requires spared { is_spared self.old referent ≡ true }
+        requires from { from < length self.old.heap.slots }
         ensures refused { IsRefused (object_refusal self.old.heap self.old.next fields) result }
         ensures answer { IfOk result (λ no. no ≡ self.old.next) }
         ensures after { self.new ≡ if_done result
             (made_at self.old place fields
-            (Some (reference_made self.old.heap strength (Some referent) queue))) self.old }
+            (Some (reference_made self.old.heap strength (slice_index_or self.old.heap.slots from None) queue)))
+            self.old }
     {
-        let reference = Reference {
+        let reference = NewReference {
             strength,
-            referent: Some(referent),
+            from,
             stamp: self.stamp_of_new(strength),
             queue,
         };
         self.make(place, fields, Some(reference))
-    }
-
-    // Writes a field of the object of this number.
-    fn set_field(&mut self, no: ObjNo, field: u32, value: Option<ObjNo>) -> Result<(), Fault>
-        requires { IsSparedIfAny self.old value }
-        ensures refused { IsRefused (field_refusal self.old.heap (Some no) field) result }
-        ensures after { self.new ≡ if_done result
-            (ground_with_heap self.old (with_changed self.old.heap no (with_field field value))) self.old }
-    {
-        if !self.table.set_field(no, field as usize, value) {
-            return Err(Fault::BadField);
-        }
-        Ok(())
     }
 }

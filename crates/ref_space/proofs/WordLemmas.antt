@@ -1,6 +1,7 @@
 -- A word has the parts that it was made of, and no other number has parts.
-use Rattle.std.proofs.Common.{◌≡◌, ℕ, ◌==◌, arith, Some}
+use Rattle.std.proofs.Common.{◌≡◌, ℕ, ◌==◌, ◌+◌, ◌*◌, arith, Some}
 use Rattle.ref_space.specs.ColouredWords.{colour_number, IsCell, coloured_word, is_coloured, IsWordOf, parts_of}
+use Rattle.ref_space.specs.ColouredWords.{place_by, word_in_colour}
 use Rattle.ref_space.specs.declared.colour.Colour.{Colour}
 
 pub parts_of-coloured : (colour : Colour) (page cell : ℕ) → IsCell page cell
@@ -21,3 +22,10 @@ is_coloured-coloured own other page cell at = grind arith
 pub coloured-same : (c d : Colour) (page other cell own : ℕ) → IsCell page cell → IsCell other own
     → coloured_word c page cell ≡ coloured_word d other own → (c ≡ d) × (page ≡ other) × (cell ≡ own)
 coloured-same c d page other cell own at there same = grind arith
+
+-- ---- what is held
+
+-- the cell's place among those of the pages from the first one on
+pub place_by-word : (colour : Colour) (first page cell : ℕ) → IsCell (first + page) cell
+    → place_by first (word_in_colour colour (first + page) cell) ≡ Some (64 * page + cell)
+place_by-word colour first page cell at = grind arith

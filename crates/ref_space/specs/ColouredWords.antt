@@ -1,6 +1,9 @@
 -- Coloured words, by which slots and fields name an object (JEP 333, ZGC: a pointer that has a colour in bits of its
 -- own). Three colours, pages of 64 cells and where the bits stand are this project's profile.
-use Rattle.std.specs.Prelude.{◌≡◌, ℕ, ◌+◌, ◌*◌, ◌/◌, ◌%◌, ◌^◌, ◌<◌, ◌≤◌, ◌==◌, nat_lt, Bool, if◌then◌else◌}
+use Rattle.std.specs.Prelude.{◌≡◌, ℕ, ◌+◌, ◌-◌, ◌*◌, ◌/◌, ◌%◌, ◌^◌, ◌<◌, ◌≤◌, ◌==◌, nat_lt, nat_le, Bool}
+use Rattle.std.specs.Prelude.{if◌then◌else◌}
+use Rattle.std.proofs.Common.{ap, sym, ◌∙◌, inl, inr}
+use Rattle.std.proofs.lemmas.Bool.{cases_Bool, eqb-true}
 use Rattle.std.specs.Prelude.{Option, Some, None}
 use Rattle.ref_space.specs.declared.colour.Colour.{Colour}
 use Rattle.ref_space.specs.declared.colour.Colour.TheVariants.{A, B, R}
@@ -42,3 +45,32 @@ parts_by number page cell =
 -- the parts of a word; none of null, which is 0, and of each other number that is no word
 abbrev pub parts_of : ℕ → Option (Colour × ℕ × ℕ)
 parts_of word = parts_by (word / 2 ^ 62) (word / 64 % 2 ^ 56) (word % 64)
+
+-- ---- what a slot or a field holds
+
+-- null, or a word: of these bits, and the bits of either
+abbrev pub word_held : ℕ → Option ℕ
+word_held bits = if bits == 0 then None else Some bits
+
+abbrev pub bits_held : Option ℕ → ℕ
+bits_held None = 0
+bits_held (Some word) = word
+
+-- what is held tells its bits
+pub bits-word_held : (bits : ℕ) → bits_held (word_held bits) ≡ bits
+bits-word_held bits =
+    elim (cases_Bool (bits == 0)) [
+      | inl null ↦ ap (λ b. bits_held (if b then None else Some bits)) null ∙ sym (eqb-true bits 0 null)
+      | inr word ↦ ap (λ b. bits_held (if b then None else Some bits)) word
+    ]
+
+-- a word, as what is held
+abbrev pub word_in_colour : Colour → ℕ → ℕ → Option ℕ
+word_in_colour colour page cell = Some (coloured_word colour page cell)
+
+-- where its cell stands among those of the pages that have this address and those behind it: none of null, and of a
+-- word of a page in front of these
+abbrev pub place_by : ℕ → Option ℕ → Option ℕ
+place_by first None = None
+place_by first (Some word) =
+    if nat_le (64 * first) (word % 2 ^ 62) then Some (word % 2 ^ 62 - 64 * first) else None

@@ -1,15 +1,31 @@
-//! The space of a heap: pages of 64 cells, each with a bitmap of those that are free; and coloured words, by which
-//! slots and fields name an object, each by a colour, the address of a page and a cell of it. A collector that moves
-//! objects changes colours and addresses, and no program sees either. Coloured pointers are those of ZGC (JEP 333);
-//! pages of 64 cells, three colours and where their bits stand are this project's profile.
+//! The space of a heap: pages of 64 cells with bitmaps of the free ones; coloured words, by which slots and fields name
+//! an object by a colour, a page's address and a cell; and the table of the objects that lie there, found by number. A
+//! collector that moves objects changes colours and addresses, and no program sees either. Coloured pointers are those
+//! of ZGC (JEP 333); pages of 64 cells, three colours and where their bits stand are this project's profile.
 #![tactic(auto)]
 
+mod cell;
 mod colour;
+mod field_words;
+mod fields;
+mod index;
+mod kept;
 pub mod laws;
+mod linked;
 mod page;
 mod pages;
+mod reference;
+mod table;
+mod word;
 mod words;
 
+pub use cell::Change;
 pub use colour::Colour;
+pub use fields::Fields;
+pub use kept::NewReference;
+pub use linked::{Linked, Look};
 pub use pages::Pages;
+pub use reference::Reference;
+pub use table::Table;
+pub use word::Word;
 pub use words::{has_colour, parts_of, word_of};

@@ -67,7 +67,7 @@ impl<A: Allocator + Copy> World<A> {
         }
     }
 
-    /// The reference in a slot. Tried in this order: `NoSuchActor`, `EmptySlot`, `NotAReference`. In logarithmic time.
+    /// The reference in a slot. Tried in this order: `NoSuchActor`, `EmptySlot`, `NotAReference`. In constant time.
     pub fn ref_in(&self, mutator: MutNo, slot: SlotNo) -> Result<ObjNo, Fault>
         ensures refused { IsRefused (clear_refusal (model_heap self.now.heap) mutator slot) result }
         ensures answer { IfOk result (λ no. slot_at (model_heap self.now.heap) mutator slot ≡ Some no) }

@@ -1,6 +1,6 @@
 //! What words have in them, and what is none.
 
-use ref_space::{Colour, has_colour, parts_of, word_of};
+use ref_space::{Colour, Word, has_colour, parts_of, word_of};
 use std::process::Abort;
 
 /// Colours, pages and cells, with their words.
@@ -74,5 +74,38 @@ fn other_numbers_are_no_words(rt: HostRuntime) {
 fn no_bit_from_38_to_61_is_one_of_a_word(rt: HostRuntime) {
     for bit in 38..62u32 {
         is_no_word(&rt, 0x4000_0000_0000_0040 | 1u64 << bit);
+    }
+}
+
+/// The address of the first page, the address of a word's page and its cell, with the place of that cell.
+const PLACES: [(u32, u32, u32, Option<u64>); 7] = [
+    (1, 1, 0, Some(0)),
+    (1, 1, 63, Some(63)),
+    (1, 2, 0, Some(64)),
+    (7, 9, 5, Some(133)),
+    (u32::MAX - 1, u32::MAX, 63, Some(127)),
+    (2, 1, 63, None),
+    (u32::MAX, 1, 0, None),
+];
+
+#[test]
+fn a_word_leads_to_a_place(rt: HostRuntime) {
+    for (row, &(first_page, page, cell, want)) in PLACES.iter().enumerate() {
+        // Which `Word::of` asks of its callers.
+        assert!(rt; page >= 1 && cell < 64, "row {row}");
+        for colour in [Colour::A, Colour::B, Colour::R] {
+            assert_eq!(rt;
+                Word::of(colour, page, cell).place(first_page),
+                want,
+                "row {row}"
+            );
+        }
+    }
+}
+
+#[test]
+fn null_leads_nowhere(rt: HostRuntime) {
+    for first_page in [1, 2, u32::MAX] {
+        assert_eq!(rt; Word::null().place(first_page), None, "{first_page}");
     }
 }

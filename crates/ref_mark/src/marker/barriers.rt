@@ -16,8 +16,7 @@ use std::alloc::Allocator;
 
 impl<A: Allocator + Copy> Marker<A> {
     /// Loads a field of the object in slot `from` into slot `into`: an object or null. Tried in this order:
-    /// `NoSuchActor`, `EmptySlot`, `BadField`. In a mark, a white object that is loaded becomes grey. In logarithmic
-    /// time.
+    /// `NoSuchActor`, `EmptySlot`, `BadField`. In a mark, a white object that is loaded becomes grey. In constant time.
     pub fn load(
         &mut self,
         mutator: MutNo,
@@ -36,7 +35,7 @@ impl<A: Allocator + Copy> Marker<A> {
     /// Gets the referent of the reference in slot `reference` into slot `into`: null where it is cleared, where the
     /// referent is doomed, and of a phantom reference. Tried in this order: `NoSuchActor`, `EmptySlot`,
     /// `NotAReference`. In a mark, a white referent becomes grey; a soft reference that answers an object is stamped
-    /// with the clock. In logarithmic time.
+    /// with the clock. In constant time.
     pub fn get(
         &mut self,
         mutator: MutNo,
@@ -53,8 +52,7 @@ impl<A: Allocator + Copy> Marker<A> {
     }
 
     /// Clears the reference in a slot, and doesn't enqueue it. Nothing is left to clear where its referent is doomed:
-    /// that is left to a worker. Tried in this order: `NoSuchActor`, `EmptySlot`, `NotAReference`. In logarithmic
-    /// time.
+    /// that is left to a worker. Tried in this order: `NoSuchActor`, `EmptySlot`, `NotAReference`. In constant time.
     pub fn clear(&mut self, mutator: MutNo, reference: SlotNo) -> Result<(), Fault>
         ensures { MarkerDoes self.old (Plain (Clear mutator reference)) (reply_of done_reply result) self.new }
     {
@@ -64,7 +62,7 @@ impl<A: Allocator + Copy> Marker<A> {
 
     /// Whether the reference in a slot refers to what slot `other` holds: to null where it is cleared, or its referent
     /// is doomed. It makes nothing grey. Tried in this order: `NoSuchActor`, `EmptySlot`, `NotAReference`. In
-    /// logarithmic time.
+    /// constant time.
     pub fn refers_to(&self, mutator: MutNo, reference: SlotNo, other: SlotNo) -> Result<bool, Fault>
         ensures { reply_of Reply.Refers result ≡ answer_in_cycle self.now (Plain (RefersTo mutator reference other)) }
     {

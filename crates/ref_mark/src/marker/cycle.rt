@@ -10,7 +10,8 @@ ghost use Rattle.ref_base.specs.CollectorRows.{emptied};
 ghost use Rattle.ref_base.specs.Refusals.{is_empty, begin_refusal, work_refusal, end_mark_refusal};
 ghost use Rattle.ref_base.specs.declared.heap_step.HeapStep.TheVariants.{Plain};
 ghost use Rattle.ref_base.specs.declared.plain_step.PlainStep.TheVariants.{Begin, EndMark, Scan};
-ghost use Rattle.ref_objects.specs.Grounds.{IsRefused, fields_in};
+ghost use Rattle.ref_space.specs.Tables.{fields_in};
+ghost use Rattle.ref_objects.specs.Grounds.{IsRefused};
 ghost use Rattle.ref_mark.specs.MarkCalls.{MarkerDoes, reply_of, scan_reply};
 ghost use Rattle.ref_mark.specs.MarkViews.{MayFind};
 ghost use Rattle.ref_mark.specs.CycleHeaps.{shaded_all, shaded_if_any, whitened, with_found, is_white};
@@ -39,7 +40,7 @@ impl<A: Allocator + Copy> Marker<A> {
     /// Scans the first of the grey list for this worker: what its fields refer to becomes grey, in order, and so does
     /// the referent of a soft reference that the cycle keeps; another reference whose referent is white is found by
     /// the worker. Answers the object, or none where the list is empty. Tried in this order: `NoSuchActor`,
-    /// `WrongPhase`. In logarithmic time for each field.
+    /// `WrongPhase`. In logarithmic time.
     pub fn scan(&mut self, worker: WorkerNo) -> Result<Option<ObjNo>, Fault>
         ensures { MarkerDoes self.old (Plain (Scan worker)) (reply_of scan_reply result) self.new }
     {

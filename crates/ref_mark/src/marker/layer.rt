@@ -42,7 +42,7 @@ impl<A: Allocator + Copy> Marker<A> {
 
     /// Takes the first reference that a worker found and that wasn't looked at since, and looks at it: where its
     /// referent is doomed it is cleared, for the worker, in this cycle. None where there is none. Tried in this order:
-    /// `NoSuchActor`, `WrongPhase` but in Clearing. By one search for it, and one for its referent.
+    /// `NoSuchActor`, `WrongPhase` but in Clearing. By one search.
     #[inline(always)]
     pub fn take_found(&mut self, worker: WorkerNo) -> Result<Option<Look>, Fault>
         ensures refused { IsRefused (work_refusal self.old.heap self.old.phase Phase.Clearing worker) result }

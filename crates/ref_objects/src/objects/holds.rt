@@ -42,7 +42,7 @@ impl<A: Allocator + Copy> Objects<A> {
         match self.place(mutator, into) {
             Ok(place) => {
                 let no = self.take_back(hold)?;
-                self.write_slot(place, Some(no));
+                self.set_slot_at(place, no);
                 Ok(no)
             }
             Err(fault) => Err((fault, hold)),

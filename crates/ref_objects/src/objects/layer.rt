@@ -1,19 +1,18 @@
 //! What the layers above change of a heap's objects: slots, stamps, referents, the cycle of a clear, the clock, and
 //! which objects there are.
 
-ghost use Rattle.std.specs.Prelude.{◌≡◌, true};
+ghost use Rattle.std.specs.Prelude.{◌≡◌, ◌<◌, true, Some, length};
 ghost use Rattle.ref_base.specs.Heaps.{with_slot, with_changed, with_reference, with_stamp, cleared, with_clock};
 ghost use Rattle.ref_base.specs.Refusals.{drop_refusal};
 ghost use Rattle.ref_base.specs.Members.{has};
 ghost use Rattle.ref_objects.specs.Grounds.{IsRefused, if_done, ground_with_heap, is_condemned, after_freeing};
 ghost use Rattle.ref_objects.specs.Grounds.{IsClosed, with_condemned, with_none_condemned, is_spared, spared_only};
 ghost use Rattle.ref_objects.specs.Grounds.{with_cleared_tag, with_link, look_of, ground_looked_at};
-ghost use Rattle.ref_objects.specs.GroundViews.{written};
+ghost use Rattle.ref_objects.specs.GroundViews.{with_slot_at, written};
 
 use super::Objects;
-use crate::cell::Change;
-use crate::linked::Look;
 use ref_base::{Fault, MutNo, ObjNo, SlotNo};
+use ref_space::{Change, Look};
 use std::alloc::Allocator;
 
 impl<A: Allocator + Copy> Objects<A> {
@@ -31,8 +30,10 @@ impl<A: Allocator + Copy> Objects<A> {
             self.old }
     {
         let place = self.place(mutator, slot)?;
-        let written = self.spared_only(value);
-        self.write_slot(place, written);
+        match self.spared_only(value) {
+            Some(no) => self.set_slot_at(place, no),
+            None => self.table.empty_slot(place),
+        }
         Ok(())
     }
 
@@ -67,8 +68,7 @@ impl<A: Allocator + Copy> Objects<A> {
     }
 
     /// What a list has of the object of this number. Where that is a reference to an object that isn't marked, it is
-    /// cleared, for a worker, in this cycle: as by `cut` and `set_cleared_in`. By one search for it, and one for its
-    /// referent.
+    /// cleared, for a worker, in this cycle: as by `cut` and `set_cleared_in`. By one search.
     #[inline(always)]
     pub fn look_at(&mut self, no: ObjNo, cycle: u64) -> Look
         ensures answer { result ≡ look_of self.old no }
@@ -148,6 +148,15 @@ impl<A: Allocator + Copy> Objects<A> {
     {
         let no = value?;
         if self.is_spared(no) { Some(no) } else { None }
+    }
+
+    // The slot at this place holds the object of this number.
+    pub(super) fn set_slot_at(&mut self, place: usize, no: ObjNo)
+        requires place { place < length self.old.heap.slots }
+        requires spared { is_spared self.old no ≡ true }
+        ensures { self.new ≡ with_slot_at self.old place (Some no) }
+    {
+        self.table.set_slot(place, no);
     }
 
     // Writes this of the object of this number.

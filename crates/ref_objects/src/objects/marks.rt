@@ -5,13 +5,14 @@ ghost use Rattle.ref_base.specs.Graphs.{object_at};
 ghost use Rattle.ref_base.specs.Heaps.{slot_at};
 ghost use Rattle.ref_base.specs.Members.{has};
 ghost use Rattle.ref_base.specs.Refusals.{drop_refusal};
+ghost use Rattle.ref_space.specs.Tables.{fields_in};
 ghost use Rattle.ref_objects.specs.Grounds.{is_unmarked, ground_marked, without_marks, unmarked, least_from};
-ghost use Rattle.ref_objects.specs.Grounds.{IsRefused, if_done, ground_marked_if_any, newly_marked, fields_in};
+ghost use Rattle.ref_objects.specs.Grounds.{IsRefused, if_done, ground_marked_if_any, newly_marked};
 ghost use Rattle.ref_objects.specs.Grounds.{all_marked, all_newly_marked};
 
 use super::Objects;
-use crate::fields::Fields;
 use ref_base::{Fault, MutNo, ObjNo, SlotNo};
+use ref_space::Fields;
 use std::alloc::Allocator;
 
 impl<A: Allocator + Copy> Objects<A> {
@@ -45,7 +46,7 @@ impl<A: Allocator + Copy> Objects<A> {
     }
 
     /// Marks the object that a slot holds, and answers it where it wasn't marked before; else nothing changes. The one
-    /// error is `NoSuchActor`. In logarithmic time.
+    /// error is `NoSuchActor`. In constant time.
     pub fn mark_slot(&mut self, mutator: MutNo, slot: SlotNo) -> Result<Option<ObjNo>, Fault>
         ensures refused { IsRefused (drop_refusal self.old.heap mutator slot) result }
         ensures answer { IfOk result
@@ -53,8 +54,8 @@ impl<A: Allocator + Copy> Objects<A> {
         ensures after { self.new ≡ if_done result
             (ground_marked_if_any self.old (slot_at self.old.heap mutator slot)) self.old }
     {
-        let value = self.slot_of(mutator, slot)?;
-        Ok(self.mark_if_any(value))
+        let place = self.place(mutator, slot)?;
+        Ok(self.mark_slot_at(place))
     }
 
     /// The same of the slot at this place among those of all mutators, from 0 on.
@@ -63,24 +64,21 @@ impl<A: Allocator + Copy> Objects<A> {
         ensures answer { result ≡ newly_marked self.old (slice_index_or self.old.heap.slots place None) }
         ensures after { self.new ≡ ground_marked_if_any self.old (slice_index_or self.old.heap.slots place None) }
     {
-        let value = self.slots[place];
-        self.mark_if_any(value)
+        // Gives the proof that the numbers rise.
+        let _count = self.table.len();
+        self.table.mark_in(place)
     }
 
     /// Marks what the fields of the object of this number hold, and answers what wasn't marked before, in order:
-    /// nothing where there is no such object. In logarithmic time for each field.
+    /// nothing where there is no such object. In logarithmic time, once for all fields.
     pub fn mark_fields(&mut self, no: ObjNo) -> Fields
         ensures answer { result ≡
             map Some (all_newly_marked self.old (fields_in (object_at self.old.heap.objects no))) }
         ensures after { self.new ≡ all_marked self.old (fields_in (object_at self.old.heap.objects no)) }
     {
-        let fields = self.fields_of(no);
-        let mut anew = Fields::nulls(0);
-        for field in 0..fields.len() {
-            let marked = self.mark_if_any(fields.get(field));
-            anew.push_if_any(marked);
-        }
-        anew
+        // Gives the proof that the numbers rise.
+        let _count = self.table.len();
+        self.table.mark_fields(no)
     }
 
     /// Takes every mark away, and nothing is condemned any more. In time of the cells.
@@ -106,15 +104,5 @@ impl<A: Allocator + Copy> Objects<A> {
         // Gives the proof that the numbers rise.
         let _count = self.table.len();
         self.table.unmarked_from(no)
-    }
-
-    // Marks this object, if any, and answers it where it wasn't marked.
-    #[inline(always)]
-    fn mark_if_any(&mut self, value: Option<ObjNo>) -> Option<ObjNo>
-        ensures answer { result ≡ newly_marked self.old value }
-        ensures after { self.new ≡ ground_marked_if_any self.old value }
-    {
-        let no = value?;
-        if self.mark(no) { Some(no) } else { None }
     }
 }

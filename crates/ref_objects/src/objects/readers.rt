@@ -6,16 +6,15 @@ ghost use Rattle.ref_base.specs.Graphs.{object_at, is_there, numbers};
 ghost use Rattle.ref_base.specs.Heaps.{slot_at, reference_at, registered_in};
 ghost use Rattle.ref_base.specs.CollectorRows.{referent_of};
 ghost use Rattle.ref_base.specs.Refusals.{drop_refusal};
-ghost use Rattle.ref_objects.specs.Grounds.{IsRefused, fields_in, kind_in, stamp_in, least_from, IsWellFormed};
+ghost use Rattle.ref_space.specs.Tables.{fields_in};
+ghost use Rattle.ref_objects.specs.Grounds.{IsRefused, kind_in, stamp_in, least_from, IsWellFormed};
 ghost use Rattle.ref_objects.specs.Grounds.{cleared_in_at, link_at, linked_in};
 ghost use Rattle.ref_objects.specs.Grounds.{IsSparedIfAny};
 
 use super::Objects;
-use crate::fields::Fields;
 use crate::kind::Kind;
-use crate::linked::Linked;
-use crate::reference::Reference;
 use ref_base::{Config, Fault, MutNo, ObjNo, QueueNo, SlotNo};
+use ref_space::{Fields, Linked, Reference};
 use std::alloc::Allocator;
 
 impl<A: Allocator + Copy> Objects<A> {
@@ -73,7 +72,7 @@ impl<A: Allocator + Copy> Objects<A> {
     pub fn slot_count(&self) -> usize
         ensures { result ≡ length self.now.heap.slots }
     {
-        self.slots.len()
+        self.table.slot_count()
     }
 
     /// What a slot holds: an object that is there and isn't condemned, or null. The one error is `NoSuchActor`.
@@ -83,7 +82,7 @@ impl<A: Allocator + Copy> Objects<A> {
         ensures spared { IfOk result (λ value. IsSparedIfAny self.now value) }
     {
         let place = self.place(mutator, slot)?;
-        Ok(self.slots[place])
+        Ok(self.table.slot(place))
     }
 
     /// Whether there is an object of this number. In logarithmic time, as are the other readers of an object.

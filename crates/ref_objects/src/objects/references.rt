@@ -1,6 +1,6 @@
 //! References that slots hold: what they refer to, and what a get and a clear change.
 
-ghost use Rattle.std.specs.Prelude.{◌≡◌, true, Some, IfOk};
+ghost use Rattle.std.specs.Prelude.{◌≡◌, ◌<◌, ℕ, true, Some, None, IfOk, length, slice_index_or};
 ghost use Rattle.ref_base.specs.CollectorRows.{reference_of, referent_of, referent_got};
 ghost use Rattle.ref_base.specs.DoomedSets.{refers_into};
 ghost use Rattle.ref_base.specs.Heaps.{slot_at, reference_at, got};
@@ -9,15 +9,16 @@ ghost use Rattle.ref_base.specs.Refusals.{clear_refusal, get_refusal};
 ghost use Rattle.ref_objects.specs.Grounds.{IsRefused, if_done, ground_with_heap, is_unmarked, read_as, cut_but};
 ghost use Rattle.ref_objects.specs.Grounds.{renewed, is_spared};
 ghost use Rattle.ref_objects.specs.Grounds.{IsSparedIfAny};
+ghost use Rattle.ref_objects.specs.GroundViews.{with_slot_at, written};
 
 use super::Objects;
-use crate::reference::Reference;
 use ref_base::{Fault, MutNo, ObjNo, SlotNo, Strength};
+use ref_space::{Change, Reference};
 use std::alloc::Allocator;
 
 impl<A: Allocator + Copy> Objects<A> {
     /// The reference that a slot holds, and its number. Neither it nor its referent is condemned. Tried in this order:
-    /// `NoSuchActor`, `EmptySlot`, `NotAReference`. In logarithmic time.
+    /// `NoSuchActor`, `EmptySlot`, `NotAReference`. In constant time.
     pub fn reference_in(&self, mutator: MutNo, slot: SlotNo) -> Result<(ObjNo, Reference), Fault>
         ensures refused { IsRefused (clear_refusal self.now.heap mutator slot) result }
         ensures answer { IfOk result
@@ -28,13 +29,14 @@ impl<A: Allocator + Copy> Objects<A> {
     {
         // Gives the proof that what it refers to is spared.
         self.facts();
-        let no = self.slot_of(mutator, slot)?.ok_or(Fault::EmptySlot)?;
-        let reference = self.reference_of(no).ok_or(Fault::NotAReference)?;
+        let place = self.place(mutator, slot)?;
+        let no = self.table.slot(place).ok_or(Fault::EmptySlot)?;
+        let reference = self.table.reference_in(place).ok_or(Fault::NotAReference)?;
         Ok((no, reference))
     }
 
     /// The referent of the reference that a slot holds: null where it is cleared, and where it isn't marked if that is
-    /// to be hidden. Refused as `reference_in`. In logarithmic time.
+    /// to be hidden. Refused as `reference_in`. In constant time.
     pub fn referent_in(
         &self,
         mutator: MutNo,
@@ -47,13 +49,13 @@ impl<A: Allocator + Copy> Objects<A> {
             (referent_of (reference_of self.now.heap (slot_at self.now.heap mutator slot)))) }
     {
         let (_no, reference) = self.reference_in(mutator, slot)?;
-        Ok(self.read_as(reference.referent, hide_unmarked))
+        let place = self.place(mutator, slot)?;
+        Ok(self.read_at(place, reference, hide_unmarked))
     }
 
     /// Gets the referent of the reference in slot `from` into slot `into`, and answers it: null where it is cleared, of
     /// a phantom reference, and where it isn't marked if that is to be hidden. Where it is an object, a soft reference
-    /// is stamped with the clock. Tried in this order: `NoSuchActor`, `EmptySlot`, `NotAReference`. In logarithmic
-    /// time.
+    /// is stamped with the clock. Tried in this order: `NoSuchActor`, `EmptySlot`, `NotAReference`. In constant time.
     pub fn get(
         &mut self,
         mutator: MutNo,
@@ -72,16 +74,18 @@ impl<A: Allocator + Copy> Objects<A> {
     {
         let place = self.place(mutator, into)?;
         let (no, reference) = self.reference_in(mutator, from)?;
-        let value = self.gets(reference, hide_unmarked);
+        let read = self.place(mutator, from)?;
+        let value = self.gets(read, reference, hide_unmarked);
         // The prover takes an Option that is passed on by value as spent.
-        let (renewing, answer) = (value, value);
-        self.write_slot(place, value);
-        self.renew(no, reference, renewing);
+        let (renewing, putting, answer) = (value, value, value);
+        // First, since the slot that is written may be the one that is read.
+        self.renew(read, no, reference, renewing);
+        self.put_got(place, read, putting);
         Ok(answer)
     }
 
     /// Clears the reference that a slot holds, but spares one whose referent isn't marked if that is told. Refused as
-    /// `reference_in`. In logarithmic time.
+    /// `reference_in`. In constant time.
     pub fn cut_in(
         &mut self,
         mutator: MutNo,
@@ -91,56 +95,87 @@ impl<A: Allocator + Copy> Objects<A> {
         ensures refused { IsRefused (clear_refusal self.old.heap mutator slot) result }
         ensures after { self.new ≡ if_done result (cut_but self.old spare_unmarked mutator slot) self.old }
     {
-        let (no, reference) = self.reference_in(mutator, slot)?;
-        if !(spare_unmarked && self.refers_to_unmarked(reference)) {
-            self.cut(no);
+        let (no, _reference) = self.reference_in(mutator, slot)?;
+        let place = self.place(mutator, slot)?;
+        if !(spare_unmarked && self.refers_to_unmarked_at(place)) {
+            self.write_in(place, no, Change::Cut);
         }
         Ok(())
     }
 
     // ---- parts of calls
 
-    // Null where this isn't marked and is to be hidden.
-    fn read_as(&self, referent: Option<ObjNo>, hide_unmarked: bool) -> Option<ObjNo>
-        ensures { result ≡ read_as self.now hide_unmarked referent }
+    // The referent of the reference in the slot at this place: null where it isn't marked and is to be hidden.
+    fn read_at(&self, place: usize, reference: Reference, hide_unmarked: bool) -> Option<ObjNo>
+        requires place { place < length self.now.heap.slots }
+        requires own { reference_of self.now.heap (slice_index_or self.now.heap.slots place None) ≡ Some reference }
+        ensures { result ≡ read_as self.now hide_unmarked reference.referent }
     {
-        let no = referent?;
-        if hide_unmarked && self.is_unmarked(no) {
+        if hide_unmarked && self.refers_to_unmarked_at(place) {
             None
         } else {
-            Some(no)
+            reference.referent
         }
     }
 
-    // What a get of this reference answers.
-    fn gets(&self, reference: Reference, hide_unmarked: bool) -> Option<ObjNo>
+    // What a get of the reference in the slot at this place answers.
+    fn gets(&self, place: usize, reference: Reference, hide_unmarked: bool) -> Option<ObjNo>
+        requires place { place < length self.now.heap.slots }
+        requires own { reference_of self.now.heap (slice_index_or self.now.heap.slots place None) ≡ Some reference }
         ensures { result ≡ read_as self.now hide_unmarked (referent_got (Some reference)) }
     {
         match reference.strength {
             Strength::Phantom => None,
-            Strength::Soft | Strength::Weak => self.read_as(reference.referent, hide_unmarked),
+            Strength::Soft | Strength::Weak => self.read_at(place, reference, hide_unmarked),
         }
     }
 
-    // Whether its referent isn't marked.
-    fn refers_to_unmarked(&self, reference: Reference) -> bool
-        ensures { result ≡ refers_into (is_unmarked self.now) (Some reference) }
+    // Whether the slot at this place holds a reference to an object that isn't marked.
+    fn refers_to_unmarked_at(&self, place: usize) -> bool
+        requires { place < length self.now.heap.slots }
+        ensures { result ≡ refers_into (is_unmarked self.now)
+            (reference_of self.now.heap (slice_index_or self.now.heap.slots place None)) }
     {
-        match reference.referent {
-            Some(no) => self.is_unmarked(no),
-            None => false,
-        }
+        // Gives the proof that the numbers rise.
+        let _count = self.table.len();
+        self.table.refers_to_unmarked_in(place)
     }
 
-    // A soft reference is stamped with the clock where it answers an object.
-    fn renew(&mut self, no: ObjNo, reference: Reference, value: Option<ObjNo>)
-        requires { reference_at self.old.heap no ≡ Some reference }
+    // A soft reference, which the slot at this place holds, is stamped with the clock where it answers an object.
+    fn renew(&mut self, place: usize, no: ObjNo, reference: Reference, value: Option<ObjNo>)
+        requires place { place < length self.old.heap.slots }
+        requires own { slice_index_or self.old.heap.slots place None ≡ Some no }
+        requires read { reference_at self.old.heap no ≡ Some reference }
         ensures { self.new ≡ ground_with_heap self.old (renewed self.old.heap no value) }
     {
         if is_soft(reference.strength) && value.is_some() {
             let clock = self.clock;
-            self.set_stamp(no, clock);
+            self.write_in(place, no, Change::Stamp(clock));
         }
+    }
+
+    // The slot at place `into` holds what a get of the reference in that at place `from` answers: its referent or null.
+    fn put_got(&mut self, into: usize, from: usize, value: Option<ObjNo>)
+        requires into { into < length self.old.heap.slots }
+        requires from { from < length self.old.heap.slots }
+        requires read { (n : ℕ) → value ≡ Some n
+            → referent_of (reference_of self.old.heap (slice_index_or self.old.heap.slots from None)) ≡ Some n }
+        ensures { self.new ≡ with_slot_at self.old into value }
+    {
+        if value.is_some() {
+            self.table.get_referent(into, from);
+        } else {
+            self.table.empty_slot(into);
+        }
+    }
+
+    // Writes this of the object of this number, which the slot at this place holds.
+    fn write_in(&mut self, place: usize, no: ObjNo, change: Change)
+        requires place { place < length self.old.heap.slots }
+        requires own { slice_index_or self.old.heap.slots place None ≡ Some no }
+        ensures { self.new ≡ written self.old no change }
+    {
+        self.table.change_in(place, change);
     }
 }
 

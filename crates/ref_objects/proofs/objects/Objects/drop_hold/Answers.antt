@@ -1,6 +1,7 @@
 use Rattle.ref_objects.proofs.Common.{arith}
-use Rattle.ref_objects.proofs.GroundLemmas.{holds_in-le, has-holds_of, seen_dropped}
-use Rattle.ref_objects.proofs.ChangeLemmas.{changed-unheld}
+use Rattle.ref_space.proofs.TableReads.{holds_in-le}
+use Rattle.ref_objects.proofs.GroundLemmas.{has-holds_of, seen_dropped}
+use Rattle.ref_space.proofs.ChangeLemmas.{changed-unheld}
 use Rattle.ref_objects.proofs.SoundLemmas.{unheld_sound, unheld_spared}
 use Rattle.ref_objects.proofs.objects.Objects.drop_hold.Goals as goal
 

@@ -1,6 +1,7 @@
 use Rattle.ref_objects.proofs.Common.{arith, length-map, objects_of}
 use Rattle.ref_objects.proofs.NumberLemmas.{numbers_in_order}
-use Rattle.ref_objects.proofs.MarkLemmas.{length-unmarked_of, marked_there}
+use Rattle.ref_space.proofs.MarkCounts.{length-unmarked_of}
+use Rattle.ref_objects.proofs.MarkLemmas.{marked_there}
 use Rattle.ref_objects.proofs.MarkedLemmas.{there_below}
 use Rattle.ref_objects.proofs.TagLemmas.{numbers-tags_of}
 use Rattle.ref_objects.proofs.objects.Objects.facts.Goals as goal

@@ -1,5 +1,5 @@
 use Rattle.ref_objects.proofs.Common.{◌∙◌}
-use Rattle.ref_objects.proofs.GroundLemmas.{fields-tabled}
+use Rattle.ref_space.proofs.TableReads.{fields-tabled}
 use Rattle.ref_objects.proofs.objects.Objects.fields_of.Goals as goal
 
 pub returns : goal.returns

@@ -1,15 +1,21 @@
 use Rattle.ref_objects.proofs.Common.{arith}
 use Rattle.ref_objects.proofs.SoundLemmas.{freed_sound, freed_seen}
+use Rattle.ref_objects.proofs.SlotLemmas.{condemned_unnamed}
 use Rattle.ref_objects.proofs.MarkLemmas.{is_unmarked-tabled}
 use Rattle.ref_objects.proofs.objects.Objects.free.Goals as goal
 
+pub free-requires : goal.free-requires
+free-requires g c = condemned_unnamed c.self.invariant c.len-count.ensures.orderly.rising c.if-self.true c.args.no
+
 pub invariant_of-self : goal.invariant_of-self
 invariant_of-self g c =
-    grind (arith, freed_sound c.self.invariant c.len-count.ensures.orderly.rising c.args.no c.if-self.true)
+    rw c.free.ensures.after
+    (freed_sound c.self.invariant c.len-count.ensures.orderly.rising c.args.no c.if-self.true c.free.new.self.occupants)
 
 pub returns-then-self-clause-answer : goal.returns-then-self-clause-answer
 returns-then-self-clause-answer g c = grind (arith, is_unmarked-tabled)
 
 pub returns-then-self-clause-after : goal.returns-then-self-clause-after
 returns-then-self-clause-after g c =
-    grind (arith, freed_seen c.self.invariant c.len-count.ensures.orderly.rising c.args.no c.if-self.true)
+    rw (c.free.ensures.after, ← c.self.view_is)
+    (freed_seen c.self.invariant c.len-count.ensures.orderly.rising c.args.no c.if-self.true c.free.new.self.occupants)

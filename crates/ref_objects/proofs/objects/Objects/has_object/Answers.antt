@@ -1,5 +1,5 @@
 use Rattle.ref_objects.proofs.Common.{sym, ◌∙◌}
-use Rattle.ref_objects.proofs.TabledLemmas.{is_there-objects_of}
+use Rattle.ref_space.proofs.TabledLemmas.{is_there-objects_of}
 use Rattle.ref_objects.proofs.objects.Objects.has_object.Goals as goal
 
 pub returns : goal.returns

@@ -1,5 +1,5 @@
 use Rattle.ref_objects.proofs.Common.{arith}
-use Rattle.ref_objects.proofs.TabledLemmas.{is_there-objects_of}
+use Rattle.ref_space.proofs.TabledLemmas.{is_there-objects_of}
 use Rattle.ref_objects.proofs.SoundLemmas.{marked_spared}
 use Rattle.ref_objects.proofs.objects.Objects.is_spared.Goals as goal
 

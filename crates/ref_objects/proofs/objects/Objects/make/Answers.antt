@@ -1,6 +1,6 @@
-use Rattle.ref_objects.proofs.Common.{arith}
+use Rattle.ref_objects.proofs.Common.{arith, option_map, made_of}
 use Rattle.ref_objects.proofs.GroundLemmas.{no_cell, has_cell, seen_made}
-use Rattle.ref_objects.proofs.SoundLemmas.{made_sound}
+use Rattle.ref_objects.proofs.SlotLemmas.{new_sound}
 use Rattle.ref_objects.proofs.objects.Objects.make.Goals as goal
 
 pub returns-then-is_full-clause-refused : goal.returns-then-is_full-clause-refused
@@ -10,9 +10,8 @@ returns-then-is_full-clause-refused g c =
 pub invariant_of-self : goal.invariant_of-self
 invariant_of-self g c =
     rw c.push.ensures
-    (made_sound c.self.invariant c.args.place c.args.fields c.args.reference
-    (omega (arith, c.if-self-from.false, c.from.ensures)) c.len-count.ensures.orderly.given c.self.view_is
-    c.requires.spared)
+    (new_sound c.self.invariant c.args.place c.args.fields c.args.reference c.push.new.self.occupants
+    (omega (arith, c.if-self-from.false, c.from.ensures)) c.len-count.ensures.orderly.given)
 
 pub returns-clause-refused : goal.returns-clause-refused
 returns-clause-refused g c =
@@ -20,7 +19,7 @@ returns-clause-refused g c =
 
 pub returns-clause-after : goal.returns-clause-after
 returns-clause-after g c =
-    grind (
-      arith,
-      seen_made c.self.invariant.ground c.args.place c.args.fields c.args.reference c.len-count.ensures.orderly.given,
-    )
+    rw (c.push.ensures, ← c.self.view_is)
+    (seen_made c.self.invariant.ground c.args.place c.args.fields
+    (option_map (made_of c.self.inside.table.slots) c.args.reference) c.push.new.self.occupants
+    c.len-count.ensures.orderly.given)

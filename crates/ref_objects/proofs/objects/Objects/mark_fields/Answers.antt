@@ -1,16 +1,23 @@
-use Rattle.ref_objects.proofs.Common.{arith, ◌∙◌, ap, None, Option, ℕ, List, slice_index_or, object_at, fields_in}
-use Rattle.ref_objects.proofs.NewMarks.{marked_on, listed_few}
+use Rattle.ref_objects.proofs.Common.{Some, map, tabled_at, ap, tabled_fields}
+use Rattle.ref_space.proofs.TableReads.{fields-tabled}
+use Rattle.ref_objects.proofs.SlotLemmas.{anew_each-seen, marked_each-seen, marked_each-sound}
 use Rattle.ref_objects.proofs.objects.Objects.mark_fields.Goals as goal
 
-pub push_if_any-requires : goal.push_if_any-requires
-push_if_any-requires g c = grind (arith, listed_few)
+pub invariant_of-self : goal.invariant_of-self
+invariant_of-self g c =
+    rw c.mark_fields.ensures.after
+    (marked_each-sound (tabled_fields (tabled_at c.self.inside.table.tabled c.args.no)) c.self.invariant
+    c.len-count.ensures.orderly.rising)
 
-pub loop-field-preserved : goal.loop-field-preserved
-loop-field-preserved g c =
-    marked_on c.args.self.now c.loop-field.self c.mark_if_any-marked.new.self
-    (fields_in (object_at c.args.self.now.heap.objects c.args.no)) c.loop-field.anew c.push_if_any.new.self
-    c.loop-field.field c.get.result c.mark_if_any-marked.result
-    (rw (c.len-field-end.ensures.count, c.fields_of-fields.ensures) at c.loop-field-test.true)
-    c.loop-field.invariant.0 c.loop-field.invariant.1
-    (c.get.ensures ∙ ap (λ (f : List (Option ℕ)). slice_index_or f c.loop-field.field None) c.fields_of-fields.ensures)
-    c.mark_if_any-marked.ensures.answer c.mark_if_any-marked.ensures.after c.push_if_any.ensures
+pub returns-clause-answer : goal.returns-clause-answer
+returns-clause-answer g c =
+    rw (c.mark_fields.ensures.answer, ← c.self.view_is, ← fields-tabled c.self.inside.table.tabled c.args.no)
+    (ap (map Some)
+    (anew_each-seen (tabled_fields (tabled_at c.self.inside.table.tabled c.args.no)) c.self.invariant
+    c.len-count.ensures.orderly.rising))
+
+pub returns-clause-after : goal.returns-clause-after
+returns-clause-after g c =
+    rw (c.mark_fields.ensures.after, ← c.self.view_is, ← fields-tabled c.self.inside.table.tabled c.args.no)
+    (marked_each-seen (tabled_fields (tabled_at c.self.inside.table.tabled c.args.no)) c.self.invariant
+    c.len-count.ensures.orderly.rising)

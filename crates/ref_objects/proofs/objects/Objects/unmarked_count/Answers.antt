@@ -1,5 +1,6 @@
 use Rattle.ref_objects.proofs.Common.{arith}
-use Rattle.ref_objects.proofs.MarkLemmas.{unmarked-tabled, length-unmarked_of}
+use Rattle.ref_space.proofs.MarkCounts.{length-unmarked_of}
+use Rattle.ref_objects.proofs.MarkLemmas.{unmarked-tabled}
 use Rattle.ref_objects.proofs.objects.Objects.unmarked_count.Goals as goal
 
 pub overflow_sub-result : goal.overflow_sub-result

@@ -1,6 +1,0 @@
-use Rattle.ref_objects.proofs.Common.{arith}
-use Rattle.ref_objects.proofs.EachLemmas.{nulls-each}
-use Rattle.ref_objects.proofs.cell.Cell.blank_unless_marked.Goals as goal
-
-pub returns-then-not-self : goal.returns-then-not-self
-returns-then-not-self c = grind (arith, nulls-each)

@@ -1,6 +1,0 @@
-use Rattle.ref_objects.proofs.Common.{None}
-use Rattle.std.proofs.lemmas.List.{take-replicate}
-use Rattle.ref_objects.proofs.fields.Fields.nulls.Goals as goal
-
-pub returns : goal.returns
-returns c = take-replicate c.args.count 8 None c.requires

@@ -1,0 +1,282 @@
+-- What a change of one object, or its end, does to a table's fields.
+use Rattle.ref_space.proofs.Common.{◌≡◌, ℕ, ◌<◌, true, false, refl, sym, ◌∙◌, ap, List, [], ◌∷◌, length, get_or, set}
+use Rattle.ref_space.proofs.Common.{Option, Some, None, suc, arith, get_or_read, length-set, option_map, is_some}
+use Rattle.ref_space.proofs.Common.{cell_at, tabled_by, place_in, place_if_live, seen_table, IsPlaced, Tabled, Table}
+use Rattle.ref_space.proofs.Common.{tabled_at, has_field, holds_in, changed_tabled, without_tabled}
+use Rattle.ref_space.proofs.Common.{on_object, less_held, changed, with_field, Entry, nat_lt, is_none}
+use Rattle.ref_space.proofs.Common.{Use, with_cell, ◌/◌, ◌%◌, ◌==◌, map, inl, inr, cases_Bool, eq-eqb, eqb-true}
+use Rattle.ref_space.proofs.Common.{false≢true, get_or-set_other, get_or-set_same, IsSoundNaming, AreIndexed, Each}
+use Rattle.ref_space.proofs.Common.{by_number, leads_by, target_by, occupant_in, occupants_of, values_in}
+use Rattle.std.proofs.lemmas.List.{set_past}
+use Rattle.std.proofs.Math.Seq.{map-set_same}
+use Rattle.ref_space.proofs.NamingLemmas.{changed-named, held_changed, held_without, held_to, each_to, held_unnamed}
+use Rattle.ref_space.proofs.NamingLemmas.{each_unnamed, named_same, map_same, without-named, given_at, is_name}
+use Rattle.ref_space.proofs.Common.{Bool, EachHeld, NoneNames, has, named_slots, named_tabled, not, place_by, present}
+use Rattle.ref_space.proofs.Common.{◌&&◌}
+use Rattle.ref_space.specs.Tables.{without_object}
+use Rattle.std.proofs.lemmas.List.{map-set}
+use Rattle.std.proofs.Math.ListN.{get_or-map}
+use Rattle.ref_space.proofs.FreeLemmas.{AreFree-changed, given_back, length-free, is_none-mapped}
+use Rattle.ref_space.proofs.Common.{at_place}
+use Rattle.ref_space.proofs.PlaceLemmas.{tabled_at-place, tabled_by-replaced, replaced, replaced-none}
+use Rattle.ref_space.proofs.PlaceLemmas.{replaced-changed, is_of-some, IsOwn, IsPlaceOf, IsPlaceOf-live}
+use Rattle.ref_space.proofs.PlaceLemmas.{IsPlaceOf-lent, IsMissing, IsMissing-lent}
+
+-- ---- the objects that are listed
+
+pub length-changed_tabled : (ks : List Tabled) (n : ℕ) (f : Tabled → Tabled)
+    → length (changed_tabled ks n f) ≡ length ks
+length-changed_tabled [] n f = refl
+length-changed_tabled (k ∷ ks) n f = grind (arith, length-changed_tabled ks n f)
+
+pub length-without_tabled : (ks : List Tabled) (n : ℕ) (k : Tabled) → tabled_at ks n ≡ Some k
+    → suc (length (without_tabled ks n)) ≡ length ks
+length-without_tabled [] n k at = absurd (cc)
+length-without_tabled (l ∷ ls) n k at = grind (arith, length-without_tabled ls n k)
+
+-- a change of an object that isn't there is none
+pub changed_tabled-none : (ks : List Tabled) (n : ℕ) (f : Tabled → Tabled) → tabled_at ks n ≡ None
+    → changed_tabled ks n f ≡ ks
+changed_tabled-none [] n f none = refl
+changed_tabled-none (k ∷ ks) n f none = grind (arith, changed_tabled-none ks n f)
+
+-- so is one hold fewer of an object that nobody holds
+changed_tabled-unheld : (ks : List Tabled) (n : ℕ) → holds_in (tabled_at ks n) ≡ 0 → changed_tabled ks n less_held ≡ ks
+changed_tabled-unheld [] n none = refl
+changed_tabled-unheld (k ∷ ks) n none = grind (arith, changed_tabled-unheld ks n)
+
+pub changed-unheld : (t : Table) (n : ℕ) → nat_lt 0 (holds_in (tabled_at t.tabled n)) ≡ false
+    → changed t n less_held ≡ t
+changed-unheld t n unheld = grind (arith, changed_tabled-unheld)
+
+-- and a write to a field that isn't there
+changed_tabled-past : (ks : List Tabled) (n i : ℕ) (value : Option ℕ) → has_field (tabled_at ks n) i ≡ false
+    → changed_tabled ks n (on_object (with_field i value)) ≡ ks
+changed_tabled-past [] n i value past = refl
+changed_tabled-past (k ∷ ks) n i value past = grind (arith, set_past, changed_tabled-past ks n i value)
+
+pub changed-past : (t : Table) (n i : ℕ) (value : Option ℕ) → has_field (tabled_at t.tabled n) i ≡ false
+    → changed t n (on_object (with_field i value)) ≡ t
+changed-past t n i value past = ap (λ ks. record t { tabled = ks }) (changed_tabled-past t.tabled n i value past)
+
+-- ---- a change of one object
+
+-- what a contract sees of a table, by the objects that the index leads to and those that the cells hold
+abbrev pub seen_by : ℕ → ℕ → ℕ → List Tabled → List (Option ℕ) → List (Option ℕ) → Table
+seen_by first last room ks slots occupants = record {
+  tabled = map (by_number (target_by first occupants)) ks;
+  room = room;
+  last = last;
+  slots = map (target_by first occupants) slots;
+  first = first;
+  occupants = occupants;
+}
+
+module _ {cells : List (Option Tabled)} {es : List Entry} {ps : List Use} {last : ℕ}
+    (placed : IsPlaced cells es ps last) {n p : ℕ} (place : IsPlaceOf cells es n p) where
+  -- the object that was found
+  found_tabled : (k : Tabled) × (cell_at cells p ≡ Some k) × (k.object.no ≡ n)
+  found_tabled = is_of-some (cell_at cells p) n place.own
+
+  -- which is that of the number
+  found_at : (k : Tabled) → cell_at cells p ≡ Some k → tabled_at (tabled_by cells es) n ≡ Some k
+  found_at k is = tabled_at-place cells es n placed.rises ∙ ap (at_place cells) (IsPlaceOf-live place) ∙ is
+
+  -- what is said of its cell is said of it
+  pub told_of : {X : Type 0} (f : Option Tabled → X) {cell : Option Tabled} → cell ≡ get_or cells p cell
+      → f cell ≡ f (tabled_at (tabled_by cells es) n)
+  told_of f {cell} was =
+      let k = found_tabled in ap f (get_or_read cells p cell place.within was None ∙ k.1 ∙ sym (found_at k.0 k.1))
+
+  -- a write of that object's cell
+  tabled_by-written : (c : Option Tabled) → IsOwn n c → tabled_by (set cells p c) es ≡ replaced (tabled_by cells es) n c
+  tabled_by-written c own =
+      tabled_by-replaced cells es n p c placed.rises place.listed place.within place.own own
+
+  pub there : true ≡ is_some (tabled_at (tabled_by cells es) n)
+  there = let k = found_tabled in sym (ap is_some (found_at k.0 k.1))
+
+  -- there is an object, since that is one
+  pub one_there : 0 < length (tabled_by cells es)
+  one_there = grind (arith, length-without_tabled, found_at)
+
+  pub number_there : occupant_in (cell_at cells p) ≡ Some n
+  number_there = let k = found_tabled in ap occupant_in k.1 ∙ ap Some k.2
+
+  -- its page is there
+  pub page_there : p / 64 < length ps
+  page_there = omega (arith, place.within, length-free placed.free)
+
+  module _ (f : Tabled → Tabled) (keeps : (k : Tabled) → (f k).object.no ≡ k.object.no) {old new : Option Tabled}
+      (was : old ≡ get_or cells p old) (is : new ≡ option_map f old) where
+    pub tabled_by-changed : tabled_by (set cells p new) es ≡ changed_tabled (tabled_by cells es) n f
+    tabled_by-changed = grind (arith, get_or_read, tabled_by-written, replaced-changed, found_at)
+
+    -- the cell's object has the same number
+    number-changed : occupant_in new ≡ occupant_in (cell_at cells p)
+    number-changed =
+        let k = found_tabled in
+        ap occupant_in (is ∙ ap (option_map f) (get_or_read cells p old place.within was None ∙ k.1))
+        ∙ ap Some (keeps k.0) ∙ sym (ap occupant_in k.1)
+
+    pub occupants-changed : occupants_of (set cells p new) ≡ occupants_of cells
+    occupants-changed = map-set_same occupant_in cells p new None number-changed
+
+    module _ (first : ℕ) (slots : List (Option ℕ)) where
+      abbrev name : Option ℕ → Option ℕ
+      name = target_by first (occupants_of cells)
+
+      pub seen_changed : (room : ℕ) (h : Tabled → Tabled) → ((k : Tabled) → by_number name (f k) ≡ h (by_number name k))
+          → seen_table first (set cells p new) es slots last room
+          ≡ changed (seen_table first cells es slots last room) n h
+      seen_changed room h same =
+          ap (seen_by first last room (tabled_by (set cells p new) es) slots) occupants-changed
+          ∙ ap (λ ks. seen_by first last room ks slots (occupants_of cells)) tabled_by-changed
+          ∙ ap (λ ks. record (seen_table first cells es slots last room) { tabled = ks })
+          (changed-named name f h keeps same (tabled_by cells es) n)
+
+      listed_own : (q : ℕ) (k : Tabled) → q ≡ p → cell_at (set cells p new) q ≡ Some k
+          → place_in es k.object.no ≡ Some q
+      listed_own q k same at =
+          let m = found_tabled in
+          let own : Some k.object.no ≡ Some n =
+          ap occupant_in (sym at ∙ ap (λ j. cell_at (set cells p new) j) same
+          ∙ get_or-set_same cells p new None place.within)
+          ∙ number-changed ∙ ap occupant_in m.1 ∙ ap Some m.2 in
+          let number : k.object.no ≡ n = cc in
+          rw (number, same) place.listed
+
+      -- each entry is the one of its cell's object still, and each word leads to an object
+      listed_changed : AreIndexed cells es → AreIndexed (set cells p new) es
+      listed_changed listed q k at =
+          elim (cases_Bool (q == p)) [
+            | inl own ↦ listed_own q k (eqb-true q p own) at
+            | inr other ↦ listed q k
+                (sym (get_or-set_other cells p q new None (λ same. false≢true (sym other ∙ eq-eqb q p same))) ∙ at)
+          ]
+
+      pub naming_changed : IsSoundNaming first cells es slots
+          → ((k : Tabled) → Each (leads_by first (occupants_of cells)) (values_in k)
+          → Each (leads_by first (occupants_of cells)) (values_in (f k)))
+          → IsSoundNaming first (set cells p new) es slots
+      naming_changed naming holds = record {
+        begins = naming.begins;
+        addresses = rw (length-set cells p new) naming.addresses;
+        listed = listed_changed naming.listed;
+        rooted = rw occupants-changed naming.rooted;
+        led = rw (occupants-changed, tabled_by-changed)
+            (held_changed (leads_by first (occupants_of cells)) f holds (tabled_by cells es) n naming.led);
+      }
+
+    pub placed_changed : IsPlaced (set cells p new) es ps last
+    placed_changed =
+        let free = AreFree-changed placed.free p new in
+        grind (arith, length-set, tabled_by-changed, length-changed_tabled, is_none-mapped, get_or_read)
+
+  module _ {new : Option Tabled} (is : new ≡ None) {qs : List Use}
+      (less : qs ≡ with_cell ps (p / 64) (p % 64) true) where
+    pub tabled_by-freed : tabled_by (set cells p new) es ≡ without_tabled (tabled_by cells es) n
+    tabled_by-freed =
+        ap (λ c. tabled_by (set cells p c) es) is ∙ tabled_by-written None tt ∙ replaced-none (tabled_by cells es) n
+
+    pub length-freed : suc (length (tabled_by (set cells p new) es)) ≡ length (tabled_by cells es)
+    length-freed = grind (arith, length-without_tabled, found_at, tabled_by-freed)
+
+    -- what names another object names it still
+    module _ {first : ℕ} {slots : List (Option ℕ)} (naming : IsSoundNaming first cells es slots)
+        (free_slots : has (present (named_slots first cells slots)) n ≡ false)
+        (free_objects : NoneNames (named_tabled first cells es) n) where
+      abbrev then : List (Option ℕ)
+      then = occupants_of (set cells p new)
+
+      -- leads to an object, and not to that
+      abbrev stays : Option ℕ → Bool
+      stays v = leads_by first (occupants_of cells) v && not (is_name (target_by first (occupants_of cells) v) n)
+
+      occupants-freed : then ≡ set (occupants_of cells) p None
+      occupants-freed = ap (λ c. occupants_of (set cells p c)) is ∙ map-set occupant_in cells p None
+
+      named_still : (v : Option ℕ) → stays v ≡ true → target_by first then v ≡ target_by first (occupants_of cells) v
+      named_still v is_other =
+          ap (λ os. target_by first os v) occupants-freed
+          ∙ given_at (occupants_of cells) p n None (place_by first v)
+          (get_or-map occupant_in cells p None ∙ number_there) (grind arith)
+
+      leads_still : (v : Option ℕ) → stays v ≡ true → leads_by first then v ≡ true
+      leads_still v is_other = rw (named_still v is_other) (grind arith)
+
+      held_still : EachHeld stays (tabled_by cells es)
+      held_still =
+          held_unnamed (target_by first (occupants_of cells)) n (leads_by first (occupants_of cells)) refl
+          (tabled_by cells es) naming.led free_objects
+
+      slots_still : Each stays slots
+      slots_still =
+          each_unnamed (target_by first (occupants_of cells)) n (leads_by first (occupants_of cells)) slots
+          naming.rooted
+          free_slots
+
+      pub seen_freed : (room : ℕ)
+          → seen_table first (set cells p new) es slots last room
+          ≡ without_object (seen_table first cells es slots last room) n then
+      seen_freed room =
+          ap (λ ks. seen_by first last room ks slots then) tabled_by-freed
+          ∙ (λ i. record {
+            tabled = (named_same stays (target_by first then) (target_by first (occupants_of cells)) named_still
+                (without_tabled (tabled_by cells es) n) (held_without stays (tabled_by cells es) n held_still)
+                ∙ without-named (target_by first (occupants_of cells)) (tabled_by cells es) n) i;
+            room = room;
+            last = last;
+            slots = map_same stays (target_by first then) (target_by first (occupants_of cells)) named_still slots
+                slots_still i;
+            first = first;
+            occupants = then;
+          })
+
+      listed_freed : AreIndexed (set cells p new) es
+      listed_freed q k at =
+          elim (cases_Bool (q == p)) [
+            | inl own ↦
+                let same : q ≡ p = eqb-true q p own in
+                let free : cell_at (set cells p new) q ≡ None =
+                ap (λ j. cell_at (set cells p new) j) same ∙ get_or-set_same cells p new None place.within ∙ is in
+                absurd (cc)
+            | inr other ↦
+                naming.listed q k
+                (sym (get_or-set_other cells p q new None (λ same. false≢true (sym other ∙ eq-eqb q p same))) ∙ at)
+          ]
+
+      pub naming_freed : IsSoundNaming first (set cells p new) es slots
+      naming_freed = record {
+        begins = naming.begins;
+        addresses = rw (length-set cells p new) naming.addresses;
+        listed = listed_freed;
+        rooted = each_to stays (leads_by first then) leads_still slots slots_still;
+        led = rw tabled_by-freed
+            (held_without (leads_by first then) (tabled_by cells es) n
+            (held_to stays (leads_by first then) leads_still (tabled_by cells es) held_still));
+      }
+
+    pub placed_freed : IsPlaced (set cells p new) es qs last
+    placed_freed =
+        let given = given_back placed.free (p / 64) (p % 64) p (omega arith) (omega arith) place.within
+        (ap is_none found_tabled.1) in
+        grind (arith, length-set, length-freed, given)
+
+module _ {cells : List (Option Tabled)} {es : List Entry} {ps : List Use} {last : ℕ}
+    (placed : IsPlaced cells es ps last) {n : ℕ} (missing : IsMissing cells es n) where
+  -- a number that has no place has no object
+  pub missing_at : tabled_at (tabled_by cells es) n ≡ None
+  missing_at = tabled_at-place cells es n placed.rises ∙ ap (at_place cells) missing.none
+
+  -- what is said of no object is said of it
+  pub told_of_none : {X : Type 0} (f : Option Tabled → X) → f None ≡ f (tabled_at (tabled_by cells es) n)
+  told_of_none f = sym (ap f missing_at)
+
+-- a search finds a place exactly where there is an object
+pub found_where_there : {cells borrowed : List (Option Tabled)} {es lent : List Entry} {ps : List Use} {last : ℕ}
+    (n : ℕ) (place : Option ℕ) → IsPlaced cells es ps last → borrowed ≡ cells → lent ≡ es
+    → place ≡ place_if_live borrowed (place_in lent n) n → is_some place ≡ is_some (tabled_at (tabled_by cells es) n)
+found_where_there n None placed same_cells same_index is =
+    told_of_none placed (IsMissing-lent n same_cells same_index is) is_some
+found_where_there n (Some p) placed same_cells same_index is = there placed (IsPlaceOf-lent n same_cells same_index is)

@@ -1,0 +1,152 @@
+-- Objects by number: what is read of them, and what becomes of the names of words as a cell is written.
+use Rattle.ref_space.proofs.Common.{◌≡◌, ℕ, zero, suc, Bool, true, false, not, ◌==◌, ◌&&◌, refl, sym, ◌∙◌, ap, arith}
+use Rattle.ref_space.proofs.Common.{List, []}
+use Rattle.ref_space.proofs.Common.{◌∷◌, ◌++◌, map, set, Option, Some, None, slice_index_or, is_some, option_map}
+use Rattle.ref_space.proofs.Common.{false≢true, get_or-set_other, has, present, Tabled, tabled_at, first_where}
+use Rattle.ref_space.proofs.Common.{numbers_by, changed_tabled, without_tabled, values_in, NoneNames, Each, EachHeld}
+use Rattle.ref_space.proofs.Common.{by_number, occupant_at, reference_by_number, tabled_if, Reference, referent_of}
+
+-- ---- what is read
+
+module _ (name : Option ℕ → Option ℕ) where
+  pub tabled_at-named : (ks : List Tabled) (n : ℕ)
+      → tabled_at (map (by_number name) ks) n ≡ option_map (by_number name) (tabled_at ks n)
+  tabled_at-named [] n = refl
+  tabled_at-named (k ∷ ks) n = grind (arith, tabled_at-named ks n)
+
+  pub tabled_if-named : (ks : List Tabled) (n : Option ℕ)
+      → tabled_if (map (by_number name) ks) n ≡ option_map (by_number name) (tabled_if ks n)
+  tabled_if-named ks None = refl
+  tabled_if-named ks (Some n) = tabled_at-named ks n
+
+  pub first_where-named : (passes : Tabled → Bool) → ((k : Tabled) → passes (by_number name k) ≡ passes k)
+      → (ks : List Tabled) (n : ℕ) → first_where passes (map (by_number name) ks) n ≡ first_where passes ks n
+  first_where-named passes blind [] n = refl
+  first_where-named passes blind (k ∷ ks) n = grind (arith, blind, first_where-named passes blind ks n)
+
+  pub numbers_by-named : (count : Tabled → ℕ) → ((k : Tabled) → count (by_number name k) ≡ count k)
+      → (ks : List Tabled) → numbers_by count (map (by_number name) ks) ≡ numbers_by count ks
+  numbers_by-named count blind [] = refl
+  numbers_by-named count blind (k ∷ ks) = grind (arith, blind, numbers_by-named count blind ks)
+
+  -- ---- what is written
+
+  pub changed-named : (f h : Tabled → Tabled) → ((k : Tabled) → (f k).object.no ≡ k.object.no)
+      → ((k : Tabled) → by_number name (f k) ≡ h (by_number name k)) → (ks : List Tabled) (n : ℕ)
+      → map (by_number name) (changed_tabled ks n f) ≡ changed_tabled (map (by_number name) ks) n h
+  changed-named f h keeps same [] n = refl
+  changed-named f h keeps same (k ∷ ks) n = grind (arith, same, changed-named f h keeps same ks n)
+
+  pub without-named : (ks : List Tabled) (n : ℕ)
+      → map (by_number name) (without_tabled ks n) ≡ without_tabled (map (by_number name) ks) n
+  without-named [] n = refl
+  without-named (k ∷ ks) n = grind (arith, without-named ks n)
+
+-- ---- what each passes
+
+module _ (p : Option ℕ → Bool) where
+  pub each_at : (vs : List (Option ℕ)) (i : ℕ) → p None ≡ true → Each p vs → p (slice_index_or vs i None) ≡ true
+  each_at [] i null each = null
+  each_at (v ∷ vs) zero null each = each.0
+  each_at (v ∷ vs) (suc i) null each = each_at vs i null each.1
+
+  pub each_set : (vs : List (Option ℕ)) (i : ℕ) (v : Option ℕ) → p v ≡ true → Each p vs → Each p (set vs i v)
+  each_set [] i v is each = each
+  each_set (w ∷ ws) zero v is each = (is, each.1)
+  each_set (w ∷ ws) (suc i) v is each = (each.0, each_set ws i v is each.1)
+
+  pub each_held : (ks : List Tabled) (n : ℕ) (k : Tabled) → tabled_at ks n ≡ Some k → EachHeld p ks
+      → Each p (values_in k)
+  each_held [] n k at held = absurd (cc)
+  each_held (l ∷ ls) n k at held = grind (arith, each_held ls n k)
+
+  pub held_changed : (f : Tabled → Tabled) → ((k : Tabled) → Each p (values_in k) → Each p (values_in (f k)))
+      → (ks : List Tabled) (n : ℕ) → EachHeld p ks → EachHeld p (changed_tabled ks n f)
+  held_changed f keeps [] n held = held
+  held_changed f keeps (k ∷ ks) n held = grind (arith, keeps, held_changed f keeps ks n)
+
+  pub held_without : (ks : List Tabled) (n : ℕ) → EachHeld p ks → EachHeld p (without_tabled ks n)
+  held_without [] n held = held
+  held_without (k ∷ ks) n held = grind (arith, held_without ks n)
+
+  pub held_push : (ks : List Tabled) (k : Tabled) → EachHeld p ks → Each p (values_in k) → EachHeld p (ks ++ k ∷ [])
+  held_push [] k held own = (own, tt)
+  held_push (l ∷ ls) k held own = (held.0, held_push ls k held.1 own)
+
+  pub held_map : (f : Tabled → Tabled) → ((k : Tabled) → Each p (values_in k) → Each p (values_in (f k)))
+      → (ks : List Tabled) → EachHeld p ks → EachHeld p (map f ks)
+  held_map f keeps [] held = tt
+  held_map f keeps (k ∷ ks) held = (keeps k held.0, held_map f keeps ks held.1)
+
+module _ (p q : Option ℕ → Bool) (to : (v : Option ℕ) → p v ≡ true → q v ≡ true) where
+  pub each_to : (vs : List (Option ℕ)) → Each p vs → Each q vs
+  each_to [] each = tt
+  each_to (v ∷ vs) each = (to v each.0, each_to vs each.1)
+
+  pub held_to : (ks : List Tabled) → EachHeld p ks → EachHeld q ks
+  held_to [] held = tt
+  held_to (k ∷ ks) held = (each_to (values_in k) held.0, held_to ks held.1)
+
+-- ---- names that stay
+
+module _ (p : Option ℕ → Bool) (f h : Option ℕ → Option ℕ) (same : (v : Option ℕ) → p v ≡ true → f v ≡ h v) where
+  pub map_same : (vs : List (Option ℕ)) → Each p vs → map f vs ≡ map h vs
+  map_same [] each = refl
+  map_same (v ∷ vs) each = grind (arith, same, map_same vs each.1)
+
+  reference_same : (r : Option Reference) → p (referent_of r) ≡ true
+      → option_map (reference_by_number f) r ≡ option_map (reference_by_number h) r
+  reference_same None is = refl
+  reference_same (Some r) is = ap (λ (n : Option ℕ). Some (record r { referent = n })) (same r.referent is)
+
+  object_same : (k : Tabled) → Each p (values_in k) → by_number f k ≡ by_number h k
+  object_same k each =
+      λ i. record k {
+        object = record k.object {
+          fields = map_same k.object.fields each.1 i;
+          reference = reference_same k.object.reference each.0 i;
+        };
+      }
+
+  pub named_same : (ks : List Tabled) → EachHeld p ks → map (by_number f) ks ≡ map (by_number h) ks
+  named_same [] held = refl
+  named_same (k ∷ ks) held =
+      ap (λ l. l ∷ map (by_number f) ks) (object_same k held.0)
+      ∙ ap (λ ls. by_number h k ∷ ls) (named_same ks held.1)
+
+-- a word that leads to an object leads there still where another cell gets one
+pub taken_at : (os : List (Option ℕ)) (p : ℕ) (new : Option ℕ) (place : Option ℕ) → slice_index_or os p None ≡ None
+    → is_some (occupant_at os place) ≡ true → occupant_at (set os p new) place ≡ occupant_at os place
+taken_at os p new None none led = absurd (false≢true led)
+taken_at os p new (Some q) none led = grind (arith, get_or-set_other)
+
+-- whether a name is that of number n
+abbrev pub is_name : Option ℕ → ℕ → Bool
+is_name None n = false
+is_name (Some m) n = m == n
+
+-- and one that doesn't lead to the object that goes
+pub given_at : (os : List (Option ℕ)) (p n : ℕ) (new : Option ℕ) (place : Option ℕ)
+    → slice_index_or os p None ≡ Some n → is_name (occupant_at os place) n ≡ false
+    → occupant_at (set os p new) place ≡ occupant_at os place
+given_at os p n new None own other = refl
+given_at os p n new (Some q) own other = grind (arith, get_or-set_other)
+
+-- ---- what nothing names
+
+module _ (name : Option ℕ → Option ℕ) (n : ℕ) where
+  pub each_unnamed : (p : Option ℕ → Bool) (vs : List (Option ℕ)) → Each p vs → has (present (map name vs)) n ≡ false
+      → Each (λ v. p v && not (is_name (name v) n)) vs
+  each_unnamed p [] each none = tt
+  each_unnamed p (v ∷ vs) each none = grind (arith, each_unnamed p vs each.1)
+
+  values-named : (k : Tabled) → name None ≡ None → values_in (by_number name k) ≡ map name (values_in k)
+  values-named k null = grind arith
+
+  pub held_unnamed : (p : Option ℕ → Bool) → name None ≡ None → (ks : List Tabled) → EachHeld p ks
+      → NoneNames (map (by_number name) ks) n → EachHeld (λ v. p v && not (is_name (name v) n)) ks
+  held_unnamed p null [] held none = tt
+  held_unnamed p null (k ∷ ks) held none = (
+    each_unnamed p (values_in k) held.0 (ap (λ vs. has (present vs) n) (sym (values-named k null)) ∙ none.0),
+    held_unnamed p null ks held.1 none.1,
+  )

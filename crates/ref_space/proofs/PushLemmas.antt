@@ -1,0 +1,314 @@
+-- What closed gaps and a new object do to a table's fields.
+use Rattle.ref_space.proofs.Common.{◌≡◌, ℕ, ◌+◌, ◌*◌, ◌<◌, ◌==◌, refl, sym, ◌∙◌, ap, subst, List, [], ◌∷◌, ◌++◌}
+use Rattle.ref_space.proofs.Common.{length, set, Option, Some, inl, inr, arith, cases_Bool, eq-eqb, false≢true}
+use Rattle.ref_space.proofs.Common.{get_or-set_same, length-set, length_push, filter, is_live, tabled_by, seen_table}
+use Rattle.ref_space.proofs.Common.{IsPlaced, IsSoundTable, Table, Tabled, with_tabled, Entry, Use, next_place}
+use Rattle.ref_space.proofs.Common.{after_placing, is_none, is_some, true, not, from_bool, ◌≤◌}
+use Rattle.ref_space.proofs.Common.{AreIndexed, Each, IsSoundNaming, Reference, by_number, leads_by, made_entry, map}
+use Rattle.ref_space.proofs.Common.{map-append, target_of, target_by, occupant_in, occupant_at, occupants_of, place_by}
+use Rattle.ref_space.proofs.Common.{place_in}
+use Rattle.ref_space.proofs.Common.{values_in, cell_at, is_of, None, Bool, eqb-true, get_or-set_other, length-map}
+use Rattle.ref_space.proofs.ChangeLemmas.{seen_by}
+use Rattle.ref_space.proofs.Common.{option_map, reference_by_number}
+use Rattle.ref_space.proofs.TableLemmas.{map-nulls}
+use Rattle.ref_space.proofs.NamingLemmas.{each_set, each_to, held_push, held_to, map_same, named_same, taken_at}
+use Rattle.std.proofs.lemmas.List.{map-set}
+use Rattle.std.proofs.Math.ListN.{get_or-map}
+use Rattle.std.proofs.lemmas.List.Filters.{length-filter_both}
+use Rattle.ref_space.specs.Places.{with_room}
+use Rattle.ref_space.proofs.RoomLemmas.{always_room}
+use Rattle.ref_space.proofs.FreeLemmas.{length-free, taken_next, IsTaken}
+use Rattle.ref_space.proofs.MarkCounts.{marks_made}
+use Rattle.ref_space.proofs.IndexLemmas.{place_in-new, Rises-push, NoneAbove-push, Rises-filter, NoneAbove-filter}
+use Rattle.ref_space.proofs.PlaceLemmas.{tabled_by-set, tabled_by-push, tabled_by-filter, length-filter_live}
+
+-- ---- gaps
+
+-- closed gaps change nothing that is seen; the cells are looked at through a slice that was lent
+pub seen_closed : {cells borrowed : List (Option Tabled)} {fs : List Entry} (es : List Entry) (first last room : ℕ)
+    (slots : List (Option ℕ)) → borrowed ≡ cells → fs ≡ filter (is_live borrowed) es
+    → seen_table first cells fs slots last room ≡ seen_table first cells es slots last room
+seen_closed {cells} {borrowed} {fs} es first last room slots same is =
+    ap (λ ks. seen_by first last room ks slots (occupants_of cells))
+    (ap (tabled_by cells) (is ∙ ap (λ cs. filter (is_live cs) es) same) ∙ tabled_by-filter cells es)
+
+-- an entry of an object stays
+place_in-filter : (cells : List (Option Tabled)) (es : List Entry) (n p : ℕ) → place_in es n ≡ Some p
+    → is_of (cell_at cells p) n ≡ true → place_in (filter (is_live cells) es) n ≡ Some p
+place_in-filter cells [] n p at own = absurd (cc)
+place_in-filter cells (e ∷ es) n p at own = grind (arith, place_in-filter cells es n p)
+
+listed_filter : (cells : List (Option Tabled)) (es : List Entry) → AreIndexed cells es
+    → AreIndexed cells (filter (is_live cells) es)
+listed_filter cells es listed p k at =
+    let own : (k.object.no == k.object.no) ≡ true = eq-eqb k.object.no k.object.no refl in
+    place_in-filter cells es k.object.no p (listed p k at) (rw at own)
+
+-- closed gaps leave what words lead to
+pub naming_relisted : {first : ℕ} {cells : List (Option Tabled)} {es fs : List Entry} {slots : List (Option ℕ)}
+    → IsSoundNaming first cells es slots → AreIndexed cells fs → tabled_by cells fs ≡ tabled_by cells es
+    → IsSoundNaming first cells fs slots
+naming_relisted naming listed same = record {
+  begins = naming.begins;
+  addresses = naming.addresses;
+  listed = listed;
+  rooted = naming.rooted;
+  led = rw same naming.led;
+}
+
+pub naming_closed : {first : ℕ} {cells borrowed : List (Option Tabled)} {es fs : List Entry}
+    {slots : List (Option ℕ)} → IsSoundNaming first cells es slots → borrowed ≡ cells
+    → fs ≡ filter (is_live borrowed) es → IsSoundNaming first cells fs slots
+naming_closed {first} {cells} {borrowed} {es} {fs} naming same is =
+    let closed : fs ≡ filter (is_live cells) es = is ∙ ap (λ cs. filter (is_live cs) es) same in
+    naming_relisted naming (subst (AreIndexed cells) (sym closed) (listed_filter cells es naming.listed))
+    (ap (tabled_by cells) closed ∙ tabled_by-filter cells es)
+
+pub placed_closed : {cells borrowed : List (Option Tabled)} {es fs : List Entry} {ps : List Use} {last : ℕ}
+    → IsPlaced cells es ps last → borrowed ≡ cells → fs ≡ filter (is_live borrowed) es → IsPlaced cells fs ps last
+placed_closed {cells} {borrowed} {es} {fs} {ps} {last} placed same is =
+    grind (
+      arith,
+      length-filter_both (is_live cells) (λ e. not (is_live cells e)) (λ e. refl) es,
+      length-filter_live,
+      tabled_by-filter,
+      Rises-filter,
+      NoneAbove-filter,
+    )
+
+pub counted_closed : {cells borrowed : List (Option Tabled)} {es fs : List Entry} {ps : List Use}
+    {last room count index_room marked : ℕ} → IsSoundTable cells es ps last room count index_room marked
+    → borrowed ≡ cells → fs ≡ filter (is_live borrowed) es → {capacity : ℕ} → capacity ≡ index_room
+    → IsSoundTable cells fs ps last room count capacity marked
+counted_closed {cells} {borrowed} {es} {fs} sound same is fits =
+    let seen : tabled_by cells fs ≡ tabled_by cells es =
+    ap (tabled_by cells) (is ∙ ap (λ cs. filter (is_live cs) es) same) ∙ tabled_by-filter cells es in
+    grind (arith, placed_closed sound.placed same is, seen)
+
+-- where not every cell has an object, the index has room for one more entry once its gaps are closed
+pub record HasRoom (cells : List (Option Tabled)) (es fs : List Entry) (ps : List Use) (last : ℕ) : Type 0 where
+  pub placed : IsPlaced cells fs ps last
+  pub same : tabled_by cells fs ≡ tabled_by cells es
+  pub room : length fs < 2 * length cells
+  pub listed : AreIndexed cells es → AreIndexed cells fs
+
+has_room : (cells : List (Option Tabled)) (es fs : List Entry) (ps : List Use) (last most : ℕ)
+    → most ≡ 2 * length cells → fs ≡ with_room most cells es → length (tabled_by cells es) < length cells
+    → IsPlaced cells es ps last → HasRoom cells es fs ps last
+has_room cells es fs ps last most limit is spare placed =
+    elim (cases_Bool (length es == most)) [
+      | inl full ↦
+          let closed : fs ≡ filter (is_live cells) es = is ∙ simp full refl in
+          let size : length fs ≡ length (tabled_by cells es) = ap length closed ∙ length-filter_live cells es in
+          record {
+            placed = placed_closed placed refl closed;
+            same = ap (tabled_by cells) closed ∙ tabled_by-filter cells es;
+            room = omega (arith, spare, size);
+            listed = λ listed. subst (AreIndexed cells) (sym closed) (listed_filter cells es listed);
+          }
+      | inr others ↦
+          let unchanged : fs ≡ es = is ∙ simp others refl in
+          let size : length fs ≡ length es = ap length unchanged in
+          let ne : length es ≡ most → ⊥ = λ same. false≢true (sym others ∙ eq-eqb (length es) most same) in
+          record {
+            placed = subst (λ gs. IsPlaced cells gs ps last) (sym unchanged) placed;
+            same = ap (tabled_by cells) unchanged;
+            room = omega (arith, placed.few, size, ne, limit);
+            listed = subst (AreIndexed cells) (sym unchanged);
+          }
+    ]
+
+-- ---- one more entry
+
+place_in-append : (es : List Entry) (e : Entry) (n p : ℕ) → place_in es n ≡ Some p → place_in (es ++ e ∷ []) n ≡ Some p
+place_in-append [] e n p at = absurd (cc)
+place_in-append (x ∷ xs) e n p at = grind (arith, place_in-append xs e n p)
+
+place_in-last : (es : List Entry) (e : Entry) (n : ℕ) → place_in es n ≡ None → e.no ≡ n
+    → place_in (es ++ e ∷ []) n ≡ Some e.place
+place_in-last [] e n none own = let is : (e.no == n) ≡ true = eq-eqb e.no n own in simp is refl
+place_in-last (x ∷ xs) e n none own = grind (arith, place_in-last xs e n)
+
+abbrev number_or_0 : Option Tabled → ℕ
+number_or_0 None = 0
+number_or_0 (Some k) = k.object.no
+
+abbrev occupant_at_place : ℕ → List (Option ℕ) → Option ℕ
+occupant_at_place p os = occupant_at os (Some p)
+
+-- ---- a new object
+
+-- a new cell's object, by number
+pub entry-named : (name : Option ℕ → Option ℕ) → name None ≡ None → (n count : ℕ) (marked : Bool)
+    (kept : Option Reference) {r : Option Reference} → option_map (reference_by_number name) kept ≡ r
+    → by_number name (made_entry n count kept marked) ≡ made_entry n count r marked
+entry-named name null n count marked kept {r} is =
+    λ i. record (made_entry n count kept marked) {
+      object = record {
+        no = n;
+        fields = map-nulls name None null count i;
+        reference = is i;
+      };
+    }
+
+-- an object may be made: there may be one more, its place was taken, and the index has room
+pub record CanMake (cells : List (Option Tabled)) (es fs : List Entry) (ps qs : List Use) (last room p : ℕ) : Type 0
+  where
+    pub fewer : length (tabled_by cells es) < room
+    pub closed : HasRoom cells es fs ps last
+    pub taken : IsTaken cells ps qs p
+
+module _ {first : ℕ} {cells : List (Option Tabled)} {es : List Entry} {ps : List Use} {slots : List (Option ℕ)}
+    {last room count index_room marked : ℕ}
+    (sound : IsSoundTable cells es ps last room count index_room marked × IsSoundNaming first cells es slots)
+    {t : Table} (view : seen_table first cells es slots last room ≡ t) where
+  module _ (spare : length t.tabled < t.room) where
+    fewer : length (tabled_by cells es) < room
+    fewer =
+        let seen : length (map (by_number (target_by first (occupants_of cells))) (tabled_by cells es)) < room =
+        subst (λ (s : Table). length s.tabled < s.room) (sym view) spare in
+        omega (arith, seen, length-map (tabled_by cells es) (by_number (target_by first (occupants_of cells))))
+
+    -- there is a next place
+    pub has_place : is_some (next_place ps) ≡ true
+    has_place =
+        always_room ps sound.0.placed.free.whole
+        (omega (arith, fewer, sound.0.cells_fit, sound.0.placed.taken, length-free sound.0.placed.free))
+
+    pub can_make : {borrowed : List (Option Tabled)} {fs : List Entry} {qs : List Use} {size : ℕ}
+        {next : Option (ℕ × ℕ)} {at : ℕ × ℕ} → borrowed ≡ cells → size ≡ length cells
+        → fs ≡ with_room (2 * size) borrowed es → next ≡ next_place ps → qs ≡ after_placing ps (next_place ps)
+        → next ≡ Some at → CanMake cells es fs ps qs last room (64 * at.0 + at.1)
+    can_make {borrowed} {fs} {qs} {size} {next} {at} same all made_room is after found =
+        let place = sym is ∙ found in
+        record {
+          fewer = fewer;
+          closed = has_room cells es fs ps last (2 * size) (omega (arith, all))
+              (made_room ∙ ap (λ cs. with_room (2 * size) cs es) same) (omega (arith, fewer, sound.0.cells_fit))
+              sound.0.placed;
+          taken = subst (λ rs. IsTaken cells ps rs (64 * at.0 + at.1)) (sym (after ∙ ap (after_placing ps) place))
+              (taken_next sound.0.placed.free at place);
+        }
+
+  -- it is made
+  module _ {fs gs : List Entry} {qs : List Use} {p : ℕ} (can : CanMake cells es fs ps qs last room p) (k : Tabled)
+      (rises : t.last < k.object.no) {c : Option Tabled} (is : c ≡ Some k)
+      (pushed : gs ≡ fs ++ record { no = k.object.no; place = p } ∷ []) where
+    new : last < k.object.no
+    new = subst (λ (s : Table). s.last < k.object.no) (sym view) rises
+
+    tabled_by-made : tabled_by (set cells p c) gs ≡ tabled_by cells es ++ k ∷ []
+    tabled_by-made = grind (arith, new, place_in-new, get_or-set_same, tabled_by-push, tabled_by-set)
+
+    length-made : length (tabled_by (set cells p c) gs) ≡ length (tabled_by cells es) + 1
+    length-made = grind (arith, tabled_by-made, length_push)
+
+    placed_made : IsPlaced (set cells p c) gs qs k.object.no
+    placed_made =
+        let free = can.taken.free c (ap is_none is) in
+        grind (arith, new, length-set, length_push, Rises-push, NoneAbove-push, length-made)
+
+    table_made : {capacity more : ℕ} → index_room ≤ capacity → more ≡ from_bool k.marked
+        → IsSoundTable (set cells p c) gs qs k.object.no room (count + 1) capacity (marked + more)
+    table_made {capacity} {more} fits one =
+        let marks = marks_made (tabled_by cells es) k tabled_by-made one sound.0.marks_counted in
+        grind (arith, placed_made, length-set, length-made)
+
+    -- ---- what words lead to then
+
+    abbrev leads : Option ℕ → Bool
+    leads = leads_by first (occupants_of cells)
+
+    abbrev then : List (Option ℕ)
+    then = occupants_of (set cells p c)
+
+    occupants-made : then ≡ set (occupants_of cells) p (Some k.object.no)
+    occupants-made =
+        ap (λ c. occupants_of (set cells p c)) is ∙ map-set occupant_in cells p (Some k)
+
+    named_still : (v : Option ℕ) → leads v ≡ true → target_by first then v ≡ target_by first (occupants_of cells) v
+    named_still None led = refl
+    named_still (Some w) led =
+        ap (λ os. target_by first os (Some w)) occupants-made
+        ∙ taken_at (occupants_of cells) p (Some k.object.no) (place_by first (Some w))
+        (get_or-map occupant_in cells p None ∙ ap occupant_in can.taken.none) led
+
+    leads_still : (v : Option ℕ) → leads v ≡ true → leads_by first then v ≡ true
+    leads_still v led = rw (named_still v led) led
+
+    module _ (holds : Each leads (values_in k)) (into : ℕ) (w : Option ℕ) (word : place_by first w ≡ Some p) where
+      named_new : target_by first then w ≡ Some k.object.no
+      named_new =
+          ap (occupant_at then) word ∙ ap (occupant_at_place p) occupants-made
+          ∙ get_or-set_same (occupants_of cells) p (Some k.object.no) None
+          (let size = length-map cells occupant_in in omega (arith, size, can.taken.within))
+
+      pub seen_made : (r : Option Reference) (n : ℕ) (marks : Bool)
+          → by_number (target_of t) k ≡ made_entry k.object.no n r marks → {os : List (Option ℕ)} → then ≡ os
+          → seen_table first (set cells p c) gs (set slots into w) k.object.no room
+          ≡ with_tabled t into (made_entry k.object.no n r marks) os
+      seen_made r n marks entry {os} now =
+          (λ i. record {
+            tabled = tabled_then i;
+            room = room;
+            last = k.object.no;
+            slots = slots_then i;
+            first = first;
+            occupants = now i;
+          })
+          ∙ ap (λ (s : Table). with_tabled s into (by_number (target_of s) k) os) view
+          ∙ ap (λ l. with_tabled t into l os) entry
+        where
+          tabled_then : map (by_number (target_by first then)) (tabled_by (set cells p c) gs)
+              ≡ map (by_number (target_by first (occupants_of cells))) (tabled_by cells es)
+              ++ by_number (target_by first (occupants_of cells)) k ∷ []
+          tabled_then =
+              ap (map (by_number (target_by first then))) tabled_by-made
+              ∙ named_same leads (target_by first then) (target_by first (occupants_of cells)) named_still
+              (tabled_by cells es ++ k ∷ []) (held_push leads (tabled_by cells es) k sound.1.led holds)
+              ∙ map-append (by_number (target_by first (occupants_of cells))) (tabled_by cells es) (k ∷ [])
+
+          slots_then : map (target_by first then) (set slots into w)
+              ≡ set (map (target_by first (occupants_of cells)) slots) into (Some k.object.no)
+          slots_then =
+              map-set (target_by first then) slots into w
+              ∙ ap (λ vs. set vs into (target_by first then w))
+              (map_same leads (target_by first then) (target_by first (occupants_of cells)) named_still slots
+              sound.1.rooted)
+              ∙ ap (set (map (target_by first (occupants_of cells)) slots) into) named_new
+
+      listed_made : AreIndexed (set cells p c) gs
+      listed_made q l at =
+          rw pushed
+          (elim (cases_Bool (q == p)) [
+            | inl own ↦
+                let same : q ≡ p = eqb-true q p own in
+                let here : Some k ≡ Some l =
+                sym is ∙ sym (get_or-set_same cells p c None can.taken.within)
+                ∙ ap (λ j. cell_at (set cells p c) j) (sym same) ∙ at in
+                let number : l.object.no ≡ k.object.no = ap (λ (m : Option Tabled). number_or_0 m) (sym here) in
+                place_in-last fs (record { no = k.object.no; place = p }) l.object.no
+                (place_in-new fs l.object.no last can.closed.placed.given (rw number new)) (sym number)
+                ∙ ap Some (sym same)
+            | inr other ↦
+                place_in-append fs (record { no = k.object.no; place = p }) l.object.no q
+                (can.closed.listed sound.1.listed q l
+                (sym (get_or-set_other cells p q c None (λ same. false≢true (sym other ∙ eq-eqb q p same))) ∙ at))
+          ])
+
+      pub sound_made : {capacity more : ℕ} → index_room ≤ capacity → more ≡ from_bool k.marked
+          → IsSoundTable (set cells p c) gs qs k.object.no room (count + 1) capacity (marked + more)
+          × IsSoundNaming first (set cells p c) gs (set slots into w)
+      sound_made fits one = (
+        table_made fits one,
+        record {
+          begins = sound.1.begins;
+          addresses = rw (length-set cells p c) sound.1.addresses;
+          listed = listed_made;
+          rooted = each_set (leads_by first then) slots into w (rw named_new (grind arith))
+              (each_to leads (leads_by first then) leads_still slots sound.1.rooted);
+          led = rw tabled_by-made
+              (held_to leads (leads_by first then) leads_still (tabled_by cells es ++ k ∷ [])
+              (held_push leads (tabled_by cells es) k sound.1.led holds));
+        },
+      )

@@ -1,0 +1,145 @@
+-- What holds of every table, and of a new one.
+use Rattle.ref_space.proofs.Common.{◌≡◌, ℕ, ◌<◌, ◌≤◌, ◌^◌, ◌∙◌, ◌*◌, ap, List, [], ◌∷◌, length, replicate, Option}
+use Rattle.ref_space.proofs.Common.{Some, None, arith, length-replicate, numbers, IsRising, cell_at, before}
+use Rattle.ref_space.proofs.Common.{tabled_by, seen_table, AllAbove, NoneAbove, Rises, IsSoundTable, Tabled, Use}
+use Rattle.ref_space.proofs.Common.{objects_of, AllUpTo, IsOrderlyTable, Entry}
+use Rattle.ref_space.proofs.Common.{by_number, target_by, occupants_of, map, length-map, refl}
+use Rattle.ref_space.proofs.Common.{Each, IsSoundNaming, leads_by, occupant_in, place_by, zero, suc, Bool, true}
+use Rattle.ref_space.proofs.Common.{◌+◌, ◌/◌, ◌%◌}
+use Rattle.ref_space.specs.Tables.{empty_table}
+use Rattle.ref_space.specs.ColouredWords.{IsCell, word_in_colour}
+use Rattle.ref_space.specs.declared.colour.Colour.TheVariants.{R}
+use Rattle.ref_space.proofs.WordLemmas.{place_by-word}
+use Rattle.ref_space.specs.Pages.{fresh_pages}
+use Rattle.ref_space.proofs.RoomLemmas.{fresh_taken}
+use Rattle.ref_space.proofs.FreeLemmas.{AreFree-fresh}
+
+-- ---- numbers that rise
+
+-- every number is above n
+abbrev AllOver : ℕ → List Tabled → Type 0
+AllOver n [] = Unit {0}
+AllOver n (k ∷ ks) = (n < k.object.no) × AllOver n ks
+
+AllOver-before : (n m : ℕ) (c : Option Tabled) (ks : List Tabled) → n < m → AllOver n ks → AllOver n (before c m ks)
+AllOver-before n m None ks over all = all
+AllOver-before n m (Some k) ks over all = grind arith
+
+AllOver-tabled_by : (cells : List (Option Tabled)) (es : List Entry) (n : ℕ) → AllAbove n es
+    → AllOver n (tabled_by cells es)
+AllOver-tabled_by cells [] n above = tt
+AllOver-tabled_by cells (e ∷ es) n above =
+    AllOver-before n e.no (cell_at cells e.place) (tabled_by cells es) above.0 (AllOver-tabled_by cells es n above.1)
+
+IsRising-cons : (k : Tabled) (ks : List Tabled) → AllOver k.object.no ks → IsRising (numbers (objects_of ks))
+    → IsRising (numbers (objects_of (k ∷ ks)))
+IsRising-cons k [] over rising = tt
+IsRising-cons k (l ∷ ls) over rising = (over.0, rising)
+
+IsRising-before : (c : Option Tabled) (n : ℕ) (ks : List Tabled) → AllOver n ks → IsRising (numbers (objects_of ks))
+    → IsRising (numbers (objects_of (before c n ks)))
+IsRising-before None n ks over rising = rising
+IsRising-before (Some k) n ks over rising = grind (arith, IsRising-cons)
+
+IsRising-tabled_by : (cells : List (Option Tabled)) (es : List Entry) → Rises es
+    → IsRising (numbers (objects_of (tabled_by cells es)))
+IsRising-tabled_by cells [] rises = tt
+IsRising-tabled_by cells (e ∷ es) rises =
+    search (IsRising-before, IsRising-tabled_by cells es rises.1, AllOver-tabled_by cells es e.no rises.0)
+
+AllUpTo-before : (last : ℕ) (c : Option Tabled) (n : ℕ) (ks : List Tabled) → n ≤ last
+    → AllUpTo last (numbers (objects_of ks)) → AllUpTo last (numbers (objects_of (before c n ks)))
+AllUpTo-before last None n ks order all = all
+AllUpTo-before last (Some k) n ks order all = grind arith
+
+AllUpTo-tabled_by : (cells : List (Option Tabled)) (es : List Entry) (last : ℕ) → NoneAbove last es
+    → AllUpTo last (numbers (objects_of (tabled_by cells es)))
+AllUpTo-tabled_by cells [] last given = tt
+AllUpTo-tabled_by cells (e ∷ es) last given = search (AllUpTo-before, AllUpTo-tabled_by cells es last given.1)
+
+-- names leave the numbers
+numbers-named : (name : Option ℕ → Option ℕ) (ks : List Tabled)
+    → numbers (objects_of (map (by_number name) ks)) ≡ numbers (objects_of ks)
+numbers-named name [] = refl
+numbers-named name (k ∷ ks) = ap (λ ns. k.object.no ∷ ns) (numbers-named name ks)
+
+pub orderly : {first : ℕ} {cells : List (Option Tabled)} {es : List Entry} {ps : List Use} (slots : List (Option ℕ))
+    {last room count index_room marked : ℕ} → IsSoundTable cells es ps last room count index_room marked
+    → IsOrderlyTable (seen_table first cells es slots last room)
+orderly {first} {cells} {es} {ps} slots {last} {room} sound =
+    let name = target_by first (occupants_of cells) in
+    let numbers = numbers-named name (tabled_by cells es) in
+    record {
+      rising = rw numbers (IsRising-tabled_by cells es sound.placed.rises);
+      given = rw numbers (AllUpTo-tabled_by cells es last sound.placed.given);
+      few = omega (arith, length-map (tabled_by cells es) (by_number name), sound.counted, sound.within);
+    }
+
+-- ---- addresses
+
+-- each cell has a word
+pub has_address : {first : ℕ} {cells : List (Option Tabled)} {es : List Entry} {slots : List (Option ℕ)}
+    → IsSoundNaming first cells es slots → (place : ℕ) → place < length cells
+    → IsCell (first + place / 64) (place % 64)
+has_address naming place within =
+    (omega (arith, naming.begins), omega (arith, naming.addresses, within), omega arith)
+
+pub word_place : (place first : ℕ) → IsCell (first + place / 64) (place % 64)
+    → place_by first (word_in_colour R (first + place / 64) (place % 64)) ≡ Some place
+word_place place first at =
+    let same : 64 * (place / 64) + place % 64 ≡ place = omega arith in
+    place_by-word R first (place / 64) (place % 64) at ∙ ap Some same
+
+-- ---- a new table
+
+pub sound_new : {cells : List (Option Tabled)} {es : List Entry} {ps : List Use} (first count room index_room : ℕ)
+    → room ≤ 64 * count → 64 * count ≤ 2 ^ 16 → 128 * count ≤ index_room → cells ≡ replicate (64 * count) None
+    → es ≡ [] → ps ≡ fresh_pages first count → IsSoundTable cells es ps 0 room 0 index_room 0
+sound_new {cells} {es} {ps} first count room index_room fits small index_fits are none new =
+    let size : length cells ≡ 64 * count = ap length are ∙ length-replicate (64 * count) None in
+    grind (arith, AreFree-fresh first count, fresh_taken first count, size)
+
+none_taken : (n p : ℕ) → cell_at (replicate n None) p ≡ None
+none_taken zero p = refl
+none_taken (suc n) zero = refl
+none_taken (suc n) (suc p) = none_taken n p
+
+pub all_null : (p : Option ℕ → Bool) → p None ≡ true → (n : ℕ) → Each p (replicate n None)
+all_null p null zero = tt
+all_null p null (suc n) = (null, all_null p null n)
+
+pub naming_new : {cells : List (Option Tabled)} {es : List Entry} {slots : List (Option ℕ)} (first count n : ℕ)
+    → 1 ≤ first → first + count ≤ 2 ^ 32 → cells ≡ replicate (64 * count) None → es ≡ [] → slots ≡ replicate n None
+    → IsSoundNaming first cells es slots
+naming_new {cells} {es} {slots} first count n begins addresses are none nulls =
+    let size : length cells ≡ 64 * count = ap length are ∙ length-replicate (64 * count) None in
+    record {
+      begins = begins;
+      addresses = omega (arith, size, addresses);
+      listed = λ p k at.
+          let free : cell_at cells p ≡ None = ap (λ cs. cell_at cs p) are ∙ none_taken (64 * count) p in absurd (cc);
+      rooted = rw nulls (all_null (leads_by first (occupants_of cells)) refl n);
+      led = rw none tt;
+    }
+
+pub map-nulls : {X : Type 0} (f : X → Option ℕ) (x : X) → f x ≡ None → (n : ℕ)
+    → map f (replicate n x) ≡ replicate n None
+map-nulls f x is zero = refl
+map-nulls f x is (suc n) = ap (λ v. v ∷ map f (replicate n x)) is ∙ ap (λ vs. None ∷ vs) (map-nulls f x is n)
+
+pub seen_new : {cells : List (Option Tabled)} {es : List Entry} {slots : List (Option ℕ)} (first count n room : ℕ)
+    → count ≡ (room + 63) / 64 → cells ≡ replicate (64 * count) None → es ≡ [] → slots ≡ replicate n None
+    → seen_table first cells es slots 0 room ≡ empty_table room n first
+seen_new {cells} {es} {slots} first count n room fills are none nulls =
+    let occupants = ap occupants_of are ∙ map-nulls occupant_in None refl (64 * count)
+    ∙ ap (λ m. replicate (64 * m) None) fills in
+    let held = ap (map (target_by first (occupants_of cells))) nulls
+    ∙ map-nulls (target_by first (occupants_of cells)) None refl n in
+    rw none (λ i. record {
+      tabled = [];
+      room = room;
+      last = 0;
+      slots = held i;
+      first = first;
+      occupants = occupants i;
+    })

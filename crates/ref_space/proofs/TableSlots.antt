@@ -1,0 +1,60 @@
+-- What the slots of a table hold, and what a write to one leaves.
+use Rattle.ref_space.proofs.Common.{◌≡◌, ℕ, ◌<◌, true, refl, sym, ◌∙◌, ap, subst, arith, List, length, get_or, set}
+use Rattle.ref_space.proofs.Common.{Option}
+use Rattle.ref_space.proofs.Common.{None, slice_index_or, get_or_read, length-map, IsSoundTable, IsSoundNaming, Tabled}
+use Rattle.ref_space.proofs.Common.{Entry, Use, Table, seen_table, slotted, held_at, target_of, target_by, occupants_of}
+use Rattle.ref_space.proofs.Common.{leads_by}
+use Rattle.std.proofs.Math.ListN.{get_or-map}
+use Rattle.std.proofs.lemmas.List.{map-set}
+use Rattle.ref_space.specs.Naming.{HasTarget}
+use Rattle.ref_space.proofs.NamingLemmas.{each_at, each_set}
+
+module _ {first : ℕ} {cells : List (Option Tabled)} {es : List Entry} {ps : List Use} {slots : List (Option ℕ)}
+    {last room count index_room marked : ℕ}
+    (sound : IsSoundTable cells es ps last room count index_room marked × IsSoundNaming first cells es slots)
+    {t : Table} (view : seen_table first cells es slots last room ≡ t) (place : ℕ) where
+  abbrev name : Option ℕ → Option ℕ
+  name = target_by first (occupants_of cells)
+
+  -- ---- what a slot holds
+
+  module _ (within : place < length t.slots) {v : Option ℕ} (reads : v ≡ get_or slots place v) where
+    there : place < length slots
+    there =
+        omega (arith, within, sym (ap (λ (s : Table). length s.slots) view) ∙ length-map slots name)
+
+    read : v ≡ slice_index_or slots place None
+    read = get_or_read slots place v there reads None
+
+    pub slot_leads : HasTarget t v
+    slot_leads =
+        subst (λ (s : Table). leads_by s.first s.occupants v ≡ true) view
+        (rw read (each_at (leads_by first (occupants_of cells)) slots place refl sound.1.rooted))
+
+    pub slot_named : target_of t v ≡ held_at t place
+    slot_named =
+        ap (λ (s : Table). target_of s v) (sym view) ∙ ap name read ∙ sym (get_or-map name slots place None)
+        ∙ ap (λ (s : Table). held_at s place) view
+
+  -- ---- a write to it
+
+  module _ (v : Option ℕ) where
+    pub slot_sound : HasTarget t v
+        → IsSoundTable cells es ps last room count index_room marked × IsSoundNaming first cells es (set slots place v)
+    slot_sound leads = (
+      sound.0,
+      record {
+        begins = sound.1.begins;
+        addresses = sound.1.addresses;
+        listed = sound.1.listed;
+        rooted = each_set (leads_by first (occupants_of cells)) slots place v
+            (ap (λ (s : Table). leads_by s.first s.occupants v) view ∙ leads) sound.1.rooted;
+        led = sound.1.led;
+      },
+    )
+
+    pub slot_seen : {n : Option ℕ} → target_of t v ≡ n
+        → seen_table first cells es (set slots place v) last room ≡ slotted t place n
+    slot_seen {n} is =
+        ap (λ ns. record (seen_table first cells es slots last room) { slots = ns }) (map-set name slots place v)
+        ∙ ap (λ (s : Table). slotted s place (target_of s v)) view ∙ ap (slotted t place) is

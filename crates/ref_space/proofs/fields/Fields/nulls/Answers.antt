@@ -1,0 +1,6 @@
+use Rattle.ref_space.proofs.Common.{None}
+use Rattle.std.proofs.lemmas.List.{take-replicate}
+use Rattle.ref_space.proofs.fields.Fields.nulls.Goals as goal
+
+pub returns : goal.returns
+returns c = take-replicate c.args.count 8 None c.requires

@@ -1,0 +1,52 @@
+use Rattle.ref_space.proofs.Common.{refl, arith, leads_by, target_by, occupants_of}
+use Rattle.ref_space.proofs.PlaceLemmas.{IsPlaceOf-lent, IsMissing-lent}
+use Rattle.ref_space.proofs.Common.{may_hold, holds_in}
+use Rattle.ref_space.specs.Tables.{more_held_if}
+use Rattle.ref_space.proofs.TableReads.{held_keeps, held_leaves, holds_in-le}
+use Rattle.ref_space.proofs.CellChanges.{sound_there, left_there, left_nowhere, answered_there, answered_nowhere}
+use Rattle.ref_space.proofs.CellChanges.{may_hold-named, holds-named, held-named, held_values}
+use Rattle.ref_space.proofs.table.Table.add_hold.Goals as goal
+
+pub invariant_of-self : goal.invariant_of-self
+invariant_of-self g c =
+    sound_there c.self.invariant
+    (IsPlaceOf-lent c.args.no c.deref.ensures.value c.deref-2.ensures.value c.in-Some.ensures)
+    (more_held_if c.args.if_marked) (more_held_if c.args.if_marked) (held_keeps c.args.if_marked)
+    c.index_mut.ensures.value c.add_hold.ensures.after
+    (held_values (leads_by c.self.inside.first_page (occupants_of c.self.inside.cells.items)) c.args.if_marked)
+    (held_leaves c.args.if_marked)
+
+pub returns-in-Some-clause-there : goal.returns-in-Some-clause-there
+returns-in-Some-clause-there g c =
+    answered_there c.self.invariant
+    (IsPlaceOf-lent c.args.no c.deref.ensures.value c.deref-2.ensures.value c.in-Some.ensures)
+    c.self.view_is (may_hold c.args.if_marked) (may_hold-named c.args.if_marked) c.index_mut.ensures.value
+    c.add_hold.ensures.there
+
+pub returns-in-Some-clause-after : goal.returns-in-Some-clause-after
+returns-in-Some-clause-after g c =
+    left_there c.self.invariant
+    (IsPlaceOf-lent c.args.no c.deref.ensures.value c.deref-2.ensures.value c.in-Some.ensures)
+    (more_held_if c.args.if_marked) (more_held_if c.args.if_marked) (held_keeps c.args.if_marked)
+    c.index_mut.ensures.value c.add_hold.ensures.after c.self.view_is
+    (held-named (target_by c.self.inside.first_page (occupants_of c.self.inside.cells.items)) c.args.if_marked)
+
+pub returns-in-None-clause-there : goal.returns-in-None-clause-there
+returns-in-None-clause-there g c =
+    answered_nowhere c.self.invariant
+    (IsMissing-lent c.args.no c.deref.ensures.value c.deref-2.ensures.value c.in-None.ensures) c.self.view_is
+    (may_hold c.args.if_marked)
+
+pub returns-in-None-clause-after : goal.returns-in-None-clause-after
+returns-in-None-clause-after g c =
+    left_nowhere c.self.invariant
+    (IsMissing-lent c.args.no c.deref.ensures.value c.deref-2.ensures.value c.in-None.ensures) c.self.view_is
+    (more_held_if c.args.if_marked)
+
+pub add_hold-requires : goal.add_hold-requires
+add_hold-requires g c =
+    let count =
+    answered_there c.self.invariant
+    (IsPlaceOf-lent c.args.no c.deref.ensures.value c.deref-2.ensures.value c.in-Some.ensures)
+    c.self.view_is holds_in holds-named c.index_mut.ensures.value refl in
+    omega (arith, count, c.requires, holds_in-le c.args.self.now.tabled c.args.no)

@@ -1,0 +1,32 @@
+use Rattle.ref_space.proofs.Common.{refl, leads_by, target_by, occupants_of}
+use Rattle.ref_space.proofs.Common.{◌∙◌, ap, sym, length, Table, tabled_by, from_bool, blanked_unless_marked}
+use Rattle.ref_space.proofs.Common.{table_blanked}
+use Rattle.ref_space.proofs.EachLemmas.{naming_all, blanked_leads, blanked-named, items_each, seen_all, sound_all}
+use Rattle.ref_space.proofs.EachLemmas.{numbers_by-each, blanked_keeps}
+use Rattle.ref_space.proofs.EachLemmas.{blanked_marked}
+use Rattle.ref_space.proofs.table.Table.blank_unmarked.Goals as goal
+
+pub invariant_of-self : goal.invariant_of-self
+invariant_of-self g c =
+    let is =
+    items_each blanked_unless_marked blanked_keeps c.self.inside.cells (sym c.self.inside.cells.ok.0) c.blank.ensures
+    c.deref_mut.ensures.value in (
+      sound_all blanked_unless_marked blanked_keeps c.self.inside.cells.items is c.self.inside.index.items
+          c.self.invariant.0
+          (c.self.invariant.0.marks_counted
+          ∙ ap length (sym (numbers_by-each blanked_unless_marked blanked_keeps (λ k. from_bool k.marked)
+          (λ k. ap from_bool (blanked_marked k)) (tabled_by c.self.inside.cells.items c.self.inside.index.items)))),
+      naming_all blanked_unless_marked blanked_keeps c.self.inside.cells.items is c.self.inside.index.items
+          c.self.inside.first_page c.self.inside.slots.items c.self.invariant.1
+          (blanked_leads (leads_by c.self.inside.first_page (occupants_of c.self.inside.cells.items)) refl),
+    )
+
+pub returns : goal.returns
+returns g c =
+    let is =
+    items_each blanked_unless_marked blanked_keeps c.self.inside.cells (sym c.self.inside.cells.ok.0) c.blank.ensures
+    c.deref_mut.ensures.value in
+    seen_all blanked_unless_marked blanked_keeps c.self.inside.cells.items is c.self.inside.index.items
+    c.self.inside.first_page c.self.inside.slots.items c.self.inside.last c.self.inside.room
+    (blanked-named (target_by c.self.inside.first_page (occupants_of c.self.inside.cells.items)) refl)
+    ∙ ap (λ (t : Table). table_blanked t) c.self.view_is

@@ -1,0 +1,29 @@
+use Rattle.ref_space.proofs.Common.{refl, leads_by, target_by, occupants_of}
+use Rattle.ref_space.proofs.PlaceLemmas.{IsPlaceOf-lent, IsMissing-lent}
+use Rattle.ref_space.proofs.Common.{change_of}
+use Rattle.ref_space.proofs.CellChanges.{sound_there, left_there, left_nowhere, change_keeps, change_leaves}
+use Rattle.ref_space.proofs.CellChanges.{change-named, change_leads}
+use Rattle.ref_space.proofs.table.Table.change.Goals as goal
+
+pub invariant_of-self : goal.invariant_of-self
+invariant_of-self g c =
+    sound_there c.self.invariant
+    (IsPlaceOf-lent c.args.no c.deref.ensures.value c.deref-2.ensures.value c.in-Some.ensures)
+    (change_of c.args.change) (change_of c.args.change) (change_keeps c.args.change) c.index_mut.ensures.value
+    c.change.ensures (change_leads (leads_by c.self.inside.first_page (occupants_of c.self.inside.cells.items)) refl
+    c.args.change)
+    (change_leaves c.args.change)
+
+pub returns-in-Some : goal.returns-in-Some
+returns-in-Some g c =
+    left_there c.self.invariant
+    (IsPlaceOf-lent c.args.no c.deref.ensures.value c.deref-2.ensures.value c.in-Some.ensures)
+    (change_of c.args.change) (change_of c.args.change) (change_keeps c.args.change) c.index_mut.ensures.value
+    c.change.ensures c.self.view_is
+    (change-named (target_by c.self.inside.first_page (occupants_of c.self.inside.cells.items)) refl c.args.change)
+
+pub returns-in_default : goal.returns-in_default
+returns-in_default g c =
+    left_nowhere c.self.invariant
+    (IsMissing-lent c.args.no c.deref.ensures.value c.deref-2.ensures.value c.in_default.ensures) c.self.view_is
+    (change_of c.args.change)

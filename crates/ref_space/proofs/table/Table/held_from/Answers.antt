@@ -1,0 +1,11 @@
+use Rattle.ref_space.proofs.Common.{refl, nat_lt, arith, target_by, occupants_of}
+use Rattle.ref_space.proofs.NamingLemmas.{first_where-named}
+use Rattle.ref_space.proofs.table.Table.held_from.Goals as goal
+
+pub returns : goal.returns
+returns g c =
+    grind (
+      arith,
+      first_where-named (target_by c.self.inside.first_page (occupants_of c.self.inside.cells.items))
+          (λ k. nat_lt 0 k.holds) (λ k. refl),
+    )

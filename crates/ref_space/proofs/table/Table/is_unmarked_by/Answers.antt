@@ -1,0 +1,15 @@
+use Rattle.ref_space.proofs.Common.{◌∙◌}
+use Rattle.ref_space.proofs.Common.{is_unmarked_in}
+use Rattle.ref_space.proofs.CellChanges.{blind_read, unmarked-named}
+use Rattle.ref_space.proofs.table.Table.is_unmarked_by.Goals as goal
+
+pub returns-in-Some : goal.returns-in-Some
+returns-in-Some g c =
+    c.is_unmarked.ensures
+    ∙ blind_read c.self.invariant c.args.value c.self.view_is c.deref.ensures.value c.in-Some.ensures
+    is_unmarked_in unmarked-named
+
+pub returns-in-None : goal.returns-in-None
+returns-in-None g c =
+    blind_read c.self.invariant c.args.value c.self.view_is c.deref.ensures.value c.in-None.ensures
+    is_unmarked_in unmarked-named

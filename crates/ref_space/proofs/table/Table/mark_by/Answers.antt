@@ -1,0 +1,49 @@
+use Rattle.ref_space.proofs.Common.{refl, ◌∙◌, ap, arith, tabled_by}
+use Rattle.ref_space.proofs.Common.{true, from_bool, with_marked, is_unmarked_in}
+use Rattle.ref_space.proofs.CellChanges.{marks_fit, sound_counted, left_there, left_led_nowhere, answered_there}
+use Rattle.ref_space.proofs.CellChanges.{answered_led_nowhere, unmarked-named, led_place, led_no, tabled_here}
+use Rattle.ref_space.proofs.CellChanges.{changed_here}
+use Rattle.ref_space.proofs.ChangeLemmas.{told_of}
+use Rattle.ref_space.proofs.MarkCounts.{marks_more}
+use Rattle.ref_space.proofs.table.Table.mark_by.Goals as goal
+
+pub overflow_add-self : goal.overflow_add-self
+overflow_add-self g c = omega (arith, marks_fit c.self.invariant.0 c.mark-is_new.result c.from.ensures)
+
+pub invariant_of-self : goal.invariant_of-self
+invariant_of-self g c =
+    let place = (led_place c.self.invariant c.args.value c.self.view_is c.deref.ensures.value c.in-Some.ensures) in
+    let new = c.mark-is_new.ensures.answer
+    ∙ told_of c.self.invariant.0.placed place is_unmarked_in c.index_mut.ensures.value in
+    sound_counted c.self.invariant place (with_marked true) (with_marked true) (λ k. refl)
+    c.index_mut.ensures.value c.mark-is_new.ensures.after (λ k each. each)
+    (marks_more (tabled_by c.self.inside.cells.items c.self.inside.index.items)
+    (led_no c.self.invariant c.args.value c.self.view_is c.deref.ensures.value c.in-Some.ensures)
+    (c.from.ensures ∙ ap from_bool new) c.self.invariant.0.marks_counted)
+
+pub returns-in-Some-clause-answer : goal.returns-in-Some-clause-answer
+returns-in-Some-clause-answer g c =
+    answered_there c.self.invariant
+    (led_place c.self.invariant c.args.value c.self.view_is c.deref.ensures.value c.in-Some.ensures)
+    c.self.view_is is_unmarked_in unmarked-named c.index_mut.ensures.value c.mark-is_new.ensures.answer
+    ∙ ap is_unmarked_in
+    (tabled_here c.self.invariant c.args.value c.self.view_is c.deref.ensures.value c.in-Some.ensures)
+
+pub returns-in-Some-clause-after : goal.returns-in-Some-clause-after
+returns-in-Some-clause-after g c =
+    left_there c.self.invariant
+    (led_place c.self.invariant c.args.value c.self.view_is c.deref.ensures.value c.in-Some.ensures)
+    (with_marked true) (with_marked true) (λ k. refl) c.index_mut.ensures.value c.mark-is_new.ensures.after
+    c.self.view_is (λ k. refl)
+    ∙ changed_here c.self.invariant c.args.value c.self.view_is c.deref.ensures.value c.in-Some.ensures
+    (with_marked true)
+
+pub returns-in-None-clause-answer : goal.returns-in-None-clause-answer
+returns-in-None-clause-answer g c =
+    answered_led_nowhere c.self.invariant c.args.value c.self.view_is c.deref.ensures.value c.in-None.ensures
+    is_unmarked_in
+
+pub returns-in-None-clause-after : goal.returns-in-None-clause-after
+returns-in-None-clause-after g c =
+    left_led_nowhere c.self.invariant c.args.value c.self.view_is c.deref.ensures.value c.in-None.ensures
+    (with_marked true)

@@ -1,0 +1,11 @@
+use Rattle.ref_space.proofs.Common.{refl, from_bool, arith, target_by, occupants_of, tabled_by}
+use Rattle.ref_space.proofs.NamingLemmas.{numbers_by-named}
+use Rattle.ref_space.proofs.table.Table.marked_count.Goals as goal
+
+pub returns : goal.returns
+returns g c =
+    grind (
+      arith,
+      numbers_by-named (target_by c.self.inside.first_page (occupants_of c.self.inside.cells.items))
+          (λ k. from_bool k.marked) (λ k. refl) (tabled_by c.self.inside.cells.items c.self.inside.index.items),
+    )

@@ -1,0 +1,198 @@
+-- How the table lies in memory: cells by place, 64 a page, an index of places by number, and the cells that are free.
+use Rattle.std.specs.Prelude.{◌≡◌, ℕ, suc, ◌+◌, ◌*◌, ◌<◌, ◌≤◌, ◌^◌, Bool, false, ◌==◌, ◌&&◌, not}
+use Rattle.std.specs.Prelude.{if◌then◌else◌, nat_lt, List, [], ◌∷◌, length, map, Option, Some, None, slice_index_or}
+use Rattle.std.specs.List.{filter}
+use Rattle.std.specs.Borrow.{Bor}
+use Rattle.ref_base.specs.Graphs.{Reference}
+use Rattle.ref_space.specs.Pages.{Use, free_in, taken_of, AreWhole}
+use Rattle.std.specs.Option.{option_map, is_none, is_some}
+use Rattle.ref_space.specs.ColouredWords.{place_by}
+use Rattle.ref_space.specs.Tables.{Tabled, Table, marked_of, with_marked, blanked_unless_marked}
+use Rattle.ref_space.specs.Naming.{occupants_of, target_by, leads_by, by_number, Each, EachHeld}
+use Rattle.ref_space.specs.declared.index.Entry.{Entry}
+
+-- what a cell holds: an object, or nothing where it has no number
+abbrev pub tabled_in : Option ℕ → List (Option ℕ) → Option Reference → ℕ → Bool → ℕ → ℕ → Option Tabled
+tabled_in None fields reference holds marked link cleared_in = None
+tabled_in (Some n) fields reference holds marked link cleared_in = Some (record {
+  object = record { no = n; fields = fields; reference = reference };
+  holds = holds;
+  marked = marked;
+  link = link;
+  cleared_in = cleared_in;
+})
+
+-- what the cell at a place holds: nothing where there is no such place
+abbrev pub cell_at : List (Option Tabled) → ℕ → Option Tabled
+cell_at cells place = slice_index_or cells place None
+
+-- whether a cell holds the object of number n
+abbrev pub is_of : Option Tabled → ℕ → Bool
+is_of None n = false
+is_of (Some k) n = k.object.no == n
+
+-- whether a cell holds the object of number n, and that passes a test
+abbrev pub is_passing : (Tabled → Bool) → Option Tabled → ℕ → Bool
+is_passing passes None n = false
+is_passing passes (Some k) n = k.object.no == n && passes k
+
+-- whether a cell holds the object of number n, and that is held
+abbrev pub is_held_as : Option Tabled → ℕ → Bool
+is_held_as = is_passing (λ k. nat_lt 0 k.holds)
+
+-- whether the cell that an entry names still holds the entry's object: if not, the entry is a gap
+abbrev pub is_live : List (Option Tabled) → Entry → Bool
+is_live cells e = is_of (cell_at cells e.place) e.no
+
+-- whether it does, and the object is held
+abbrev pub is_held : List (Option Tabled) → Entry → Bool
+is_held cells e = is_held_as (cell_at cells e.place) e.no
+
+-- the object in front, if the cell holds that of number n
+abbrev pub before : Option Tabled → ℕ → List Tabled → List Tabled
+before None n ks = ks
+before (Some k) n ks = if k.object.no == n then k ∷ ks else ks
+
+-- the objects that the index leads to, in its order
+abbrev pub tabled_by : List (Option Tabled) → List Entry → List Tabled
+tabled_by cells [] = []
+tabled_by cells (e ∷ es) = before (cell_at cells e.place) e.no (tabled_by cells es)
+
+-- the place that the index has for number n
+abbrev pub place_in : List Entry → ℕ → Option ℕ
+place_in [] n = None
+place_in (e ∷ es) n = if e.no == n then Some e.place else place_in es n
+
+-- that place, if its cell holds the object of number n
+abbrev pub place_if_live : List (Option Tabled) → Option ℕ → ℕ → Option ℕ
+place_if_live cells None n = None
+place_if_live cells (Some place) n = if is_of (cell_at cells place) n then Some place else None
+
+-- what a borrowed cell holds, if there is one
+abbrev pub lent : Option (Bor (Option Tabled)) → Option Tabled
+lent None = None
+lent (Some cell) = cell.now
+
+-- what the cell at a place holds, if there is a place
+abbrev pub at_place : List (Option Tabled) → Option ℕ → Option Tabled
+at_place cells None = None
+at_place cells (Some place) = cell_at cells place
+
+-- what the cell of a word holds, in pages of which this is the first one's address: nothing of null
+abbrev pub cell_of_word : List (Option Tabled) → ℕ → Option ℕ → Option Tabled
+cell_of_word cells first value = at_place cells (place_by first value)
+
+-- a place, if its cell holds an object
+abbrev pub place_if_taken : List (Option Tabled) → Option ℕ → Option ℕ
+place_if_taken cells None = None
+place_if_taken cells (Some place) = if is_some (cell_at cells place) then Some place else None
+
+-- the place of the cell of a word, if an object lies there
+abbrev pub place_of_word : List (Option Tabled) → ℕ → Option ℕ → Option ℕ
+place_of_word cells first value = place_if_taken cells (place_by first value)
+
+-- how many entries in front are of numbers below n
+abbrev pub count_below : List Entry → ℕ → ℕ
+count_below [] n = 0
+count_below (e ∷ es) n = if nat_lt e.no n then suc (count_below es n) else 0
+
+-- the number of the first entry that passes a test
+abbrev pub first_entry : (Entry → Bool) → List Entry → Option ℕ
+first_entry passes [] = None
+first_entry passes (e ∷ es) = if passes e then Some e.no else first_entry passes es
+
+-- every entry's number is above n
+abbrev pub AllAbove : ℕ → List Entry → Type 0
+AllAbove n [] = Unit {0}
+AllAbove n (e ∷ es) = (n < e.no) × AllAbove n es
+
+-- no entry's number is above the last
+abbrev pub NoneAbove : ℕ → List Entry → Type 0
+NoneAbove last [] = Unit {0}
+NoneAbove last (e ∷ es) = (e.no ≤ last) × NoneAbove last es
+
+-- the numbers of the entries rise
+abbrev pub Rises : List Entry → Type 0
+Rises [] = Unit {0}
+Rises (e ∷ es) = AllAbove e.no es × Rises es
+
+-- each page has 64 cells, and those are free that hold nothing
+pub record AreFree (cells : List (Option Tabled)) (pages : List Use) : Type 0 where
+  pub whole : AreWhole pages
+  pub empty : map is_none cells ≡ free_in pages
+
+-- the index as it is before one more entry: where it has this many already, its gaps are closed
+abbrev pub with_room : ℕ → List (Option Tabled) → List Entry → List Entry
+with_room most cells es = if length es == most then filter (is_live cells) es else es
+
+-- each object has its entry, which names its cell
+abbrev pub AreIndexed : List (Option Tabled) → List Entry → Type 0
+AreIndexed cells index =
+    (place : ℕ) (k : Tabled) → cell_at cells place ≡ Some k → place_in index k.object.no ≡ Some place
+
+-- what holds of a table's cells, index and pages: each object has its entry, and each cell without one is free
+pub record IsPlaced (cells : List (Option Tabled)) (index : List Entry) (pages : List Use) (last : ℕ) : Type 0 where
+  pub rises : Rises index
+  pub given : NoneAbove last index
+  pub free : AreFree cells pages
+  pub taken : taken_of pages ≡ length (tabled_by cells index)
+  pub small : length cells ≤ 2 ^ 16
+  pub few : length index ≤ 2 * length cells
+
+-- what holds of a table's fields: that, there are cells for as many objects as there may be, no push to the index ever
+-- takes memory, and the objects and the marked ones are counted
+pub record IsSoundTable (cells : List (Option Tabled)) (index : List Entry) (pages : List Use)
+    (last room count index_room marked : ℕ) : Type 0 where
+  pub placed : IsPlaced cells index pages last
+  pub cells_fit : room ≤ length cells
+  pub counted : count ≡ length (tabled_by cells index)
+  pub within : count ≤ room
+  pub index_fits : 2 * length cells ≤ index_room
+  pub marks_counted : marked ≡ length (marked_of (tabled_by cells index))
+
+-- what holds of words: each cell has one, each object has its entry, and each word that a slot or an object holds leads
+-- to an object
+pub record IsSoundNaming (first : ℕ) (cells : List (Option Tabled)) (index : List Entry) (slots : List (Option ℕ))
+    : Type 0 where
+  pub begins : 1 ≤ first
+  pub addresses : 64 * first + length cells ≤ 2 ^ 38
+  pub listed : AreIndexed cells index
+  pub rooted : Each (leads_by first (occupants_of cells)) slots
+  pub led : EachHeld (leads_by first (occupants_of cells)) (tabled_by cells index)
+
+-- the objects that the index leads to, and what slots hold, with numbers in the place of words
+abbrev pub named_tabled : ℕ → List (Option Tabled) → List Entry → List Tabled
+named_tabled first cells index =
+    map (by_number (target_by first (occupants_of cells))) (tabled_by cells index)
+
+abbrev pub named_slots : ℕ → List (Option Tabled) → List (Option ℕ) → List (Option ℕ)
+named_slots first cells slots = map (target_by first (occupants_of cells)) slots
+
+-- what a contract sees of a table's fields
+abbrev pub seen_table : ℕ → List (Option Tabled) → List Entry → List (Option ℕ) → ℕ → ℕ → Table
+seen_table first cells index slots last room = record {
+  tabled = named_tabled first cells index;
+  room = room;
+  last = last;
+  slots = named_slots first cells slots;
+  first = first;
+  occupants = occupants_of cells;
+}
+
+-- ---- marks
+
+-- whether a cell holds the object of number n, and that isn't marked
+abbrev pub is_unmarked_as : Option Tabled → ℕ → Bool
+is_unmarked_as = is_passing (λ k. not k.marked)
+
+-- whether the cell that an entry names still holds the entry's object, and that isn't marked
+abbrev pub is_unmarked_entry : List (Option Tabled) → Entry → Bool
+is_unmarked_entry cells e = is_unmarked_as (cell_at cells e.place) e.no
+
+-- what a cell holds, unmarked
+abbrev pub unmarked_cell : Option Tabled → Option Tabled
+unmarked_cell = option_map (with_marked false)
+
+-- what a cell holds, which refers to nothing unless it is marked
+abbrev pub blanked_cell : Option Tabled → Option Tabled
+blanked_cell = option_map blanked_unless_marked

@@ -1,0 +1,372 @@
+-- The heap's table of objects, as plain data, and the changes that calls make to it (package `java.lang.ref` of Java SE
+-- 17; numbers, holds and a heap's room: this project's profile).
+use Rattle.std.specs.Prelude.{◌≡◌, ℕ, ◌+◌, ◌-◌, ◌*◌, ◌/◌, ◌≤◌, Bool, true, false, not, ◌==◌, ◌&&◌, ◌||◌, if◌then◌else◌}
+use Rattle.std.specs.Prelude.{nat_le, nat_lt}
+use Rattle.std.specs.Prelude.{List, [], ◌∷◌, ◌++◌, length, map, replicate, Option, Some, None}
+use Rattle.std.specs.Prelude.{slice_index_or, slice_set}
+use Rattle.std.specs.Int.{from_bool}
+use Rattle.ref_base.specs.CollectorRows.{referent_of}
+use Rattle.ref_base.specs.Paths.{if_any, present}
+use Rattle.ref_space.specs.declared.kept.NewReference.{NewReference}
+use Rattle.ref_base.specs.Members.{has, without_first}
+use Rattle.ref_base.specs.Graphs.{Object, Reference, numbers}
+use Rattle.ref_base.specs.Forgetting.{blanked}
+use Rattle.ref_base.specs.DoomedSets.{refers_into}
+use Rattle.ref_base.specs.Strengths.{IsRising}
+use Rattle.ref_base.specs.Heaps.{reference_in, with_reference, with_stamp, cleared}
+use Rattle.ref_space.specs.declared.cell.Change.{Change}
+use Rattle.ref_space.specs.declared.cell.Change.TheVariants.{Cut, Stamp, ClearedIn, ClearIn, Link}
+use Rattle.ref_space.specs.declared.linked.Linked.{Linked}
+use Rattle.ref_space.specs.declared.linked.Look.{Look}
+
+-- an object of the table, how many holds of it are out, whether it is marked, its link, which is the number of another
+-- object or 0, and the cycle in which a worker cleared it last, or 0
+pub record Tabled : Type 0 where
+  pub object : Object
+  pub holds : ℕ
+  pub marked : Bool
+  pub link : ℕ
+  pub cleared_in : ℕ
+
+-- the objects that there are, in order of number, how many there may be, the greatest number that was ever given, and
+-- what each slot holds, an object or null; and where the objects lie: the address of the first page, and of each cell,
+-- by place, the number of its object
+pub record Table : Type 0 where
+  pub tabled : List Tabled
+  pub room : ℕ
+  pub last : ℕ
+  pub slots : List (Option ℕ)
+  pub first : ℕ
+  pub occupants : List (Option ℕ)
+
+-- a table of no objects, with so many slots, each empty, in pages of 64 cells from this address on
+abbrev pub empty_table : ℕ → ℕ → ℕ → Table
+empty_table room slots first = record {
+  tabled = [];
+  room = room;
+  last = 0;
+  slots = replicate slots None;
+  first = first;
+  occupants = replicate (64 * ((room + 63) / 64)) None;
+}
+
+-- ---- what is read
+
+-- what an object holds: its referent, and its fields
+abbrev pub values_in : Tabled → List (Option ℕ)
+values_in k = referent_of k.object.reference ∷ k.object.fields
+
+-- the object of number n
+abbrev pub tabled_at : List Tabled → ℕ → Option Tabled
+tabled_at [] n = None
+tabled_at (k ∷ ks) n = if k.object.no == n then Some k else tabled_at ks n
+
+-- the objects without their holds
+abbrev pub objects_of : List Tabled → List Object
+objects_of = map (λ k. k.object)
+
+-- each object's number as often as a count says, in order of number
+abbrev pub numbers_by : (Tabled → ℕ) → List Tabled → List ℕ
+numbers_by count [] = []
+numbers_by count (k ∷ ks) = replicate (count k) k.object.no ++ numbers_by count ks
+
+-- the count of an object: 0 where there is none
+abbrev pub counted_in : (Tabled → ℕ) → Option Tabled → ℕ
+counted_in count None = 0
+counted_in count (Some k) = count k
+
+-- each object's number as often as it is held, in order of number
+abbrev pub holds_of : List Tabled → List ℕ
+holds_of = numbers_by (λ k. k.holds)
+
+-- an object of the table as a graph has it
+abbrev pub object_in : Option Tabled → Option Object
+object_in None = None
+object_in (Some k) = Some k.object
+
+-- the fields of an object, if there is one
+abbrev pub fields_in : Option Object → List (Option ℕ)
+fields_in None = []
+fields_in (Some o) = o.fields
+
+-- its fields, if there is one
+abbrev pub tabled_fields : Option Tabled → List (Option ℕ)
+tabled_fields k = fields_in (object_in k)
+
+-- what the object has as a reference, if there is one and it is a reference
+abbrev pub tabled_reference : Option Tabled → Option Reference
+tabled_reference k = reference_in (object_in k)
+
+-- whether there is an object that has field i
+abbrev pub has_field : Option Tabled → ℕ → Bool
+has_field None i = false
+has_field (Some k) i = nat_lt i (length k.object.fields)
+
+-- how often the object is held: 0 where there is none
+abbrev pub holds_in : Option Tabled → ℕ
+holds_in = counted_in (λ k. k.holds)
+
+-- the first number from n on of an object that passes a test
+abbrev pub first_where : (Tabled → Bool) → List Tabled → ℕ → Option ℕ
+first_where passes [] n = None
+first_where passes (k ∷ ks) n =
+    if nat_le n k.object.no && passes k then Some k.object.no else first_where passes ks n
+
+-- the first number from n on
+abbrev pub first_from : List Tabled → ℕ → Option ℕ
+first_from = first_where (λ k. true)
+
+-- the first number from n on of an object that is held
+abbrev pub held_from : List Tabled → ℕ → Option ℕ
+held_from = first_where (λ k. nat_lt 0 k.holds)
+
+-- no number is above the last
+abbrev pub AllUpTo : ℕ → List ℕ → Type 0
+AllUpTo last [] = Unit {0}
+AllUpTo last (n ∷ ns) = (n ≤ last) × AllUpTo last ns
+
+-- what holds of every table: the numbers rise, none is above the last that was given, and the objects have room
+pub record IsOrderlyTable (t : Table) : Type 0 where
+  pub rising : IsRising (numbers (objects_of t.tabled))
+  pub given : AllUpTo t.last (numbers (objects_of t.tabled))
+  pub few : length t.tabled ≤ t.room
+
+-- ---- what is changed
+
+-- the objects with the one of number n changed
+abbrev pub changed_tabled : List Tabled → ℕ → (Tabled → Tabled) → List Tabled
+changed_tabled [] n f = []
+changed_tabled (k ∷ ks) n f = if k.object.no == n then f k ∷ ks else k ∷ changed_tabled ks n f
+
+-- the objects but the one of number n
+abbrev pub without_tabled : List Tabled → ℕ → List Tabled
+without_tabled = without_first (λ k. k.object.no)
+
+-- a change of the object, and not of its holds
+abbrev pub on_object : (Object → Object) → Tabled → Tabled
+on_object f k = record k { object = f k.object }
+
+-- one more hold
+abbrev pub more_held : Tabled → Tabled
+more_held k = record k { holds = k.holds + 1 }
+
+-- whether there is an object, and it is marked where it has to be
+abbrev pub may_hold : Bool → Option Tabled → Bool
+may_hold if_marked None = false
+may_hold if_marked (Some k) = k.marked || not if_marked
+
+-- one more hold then
+abbrev pub more_held_if : Bool → Tabled → Tabled
+more_held_if if_marked k = if k.marked || not if_marked then more_held k else k
+
+-- one hold fewer, where there is one
+abbrev pub less_held : Tabled → Tabled
+less_held k = record k { holds = k.holds - 1 }
+
+-- the table with the object of number n changed
+abbrev pub changed : Table → ℕ → (Tabled → Tabled) → Table
+changed t n f = record t { tabled = changed_tabled t.tabled n f }
+
+-- the table without the object of number n
+abbrev pub without_object : Table → ℕ → List (Option ℕ) → Table
+without_object t n occupants = record t { tabled = without_tabled t.tabled n; occupants = occupants }
+
+-- an object that nobody holds, without a link, never cleared and of so many null fields
+abbrev pub made_entry : ℕ → ℕ → Option Reference → Bool → Tabled
+made_entry n count reference marked = record {
+  object = record { no = n; fields = replicate count None; reference = reference };
+  holds = 0;
+  marked = marked;
+  link = 0;
+  cleared_in = 0;
+}
+
+-- the table with one more object, whose number is the greatest; the slot at this place holds it
+abbrev pub with_tabled : Table → ℕ → Tabled → List (Option ℕ) → Table
+with_tabled t into k occupants = record t {
+  tabled = t.tabled ++ k ∷ [];
+  last = k.object.no;
+  slots = slice_set t.slots into (Some k.object.no);
+  occupants = occupants;
+}
+
+-- ---- marks
+
+-- whether there is an object, and it is marked
+abbrev pub is_marked_in : Option Tabled → Bool
+is_marked_in None = false
+is_marked_in (Some k) = k.marked
+
+-- whether there is an object, and it isn't marked
+abbrev pub is_unmarked_in : Option Tabled → Bool
+is_unmarked_in None = false
+is_unmarked_in (Some k) = not k.marked
+
+-- the numbers of the objects that are marked, in order
+abbrev pub marked_of : List Tabled → List ℕ
+marked_of = numbers_by (λ k. from_bool k.marked)
+
+-- and of those that aren't
+abbrev pub unmarked_of : List Tabled → List ℕ
+unmarked_of = numbers_by (λ k. from_bool (not k.marked))
+
+-- the first number from n on of an object that isn't marked
+abbrev pub unmarked_from : List Tabled → ℕ → Option ℕ
+unmarked_from = first_where (λ k. not k.marked)
+
+-- marked, or not
+abbrev pub with_marked : Bool → Tabled → Tabled
+with_marked marked k = record k { marked = marked }
+
+-- the objects, none of them marked
+abbrev pub unmarked_tabled : List Tabled → List Tabled
+unmarked_tabled = map (with_marked false)
+
+-- the table with none of its objects marked
+abbrev pub table_unmarked : Table → Table
+table_unmarked t = record t { tabled = unmarked_tabled t.tabled }
+
+-- the table without the object of number n, where that isn't marked
+abbrev pub table_freed : Table → ℕ → List (Option ℕ) → Table
+table_freed t n occupants = if is_unmarked_in (tabled_at t.tabled n) then without_object t n occupants else t
+
+-- an object that refers to nothing, unless it is marked
+abbrev pub blanked_unless_marked : Tabled → Tabled
+blanked_unless_marked k = if k.marked then k else on_object blanked k
+
+-- the table with each object so
+abbrev pub table_blanked : Table → Table
+table_blanked t = record t { tabled = map blanked_unless_marked t.tabled }
+
+-- ---- tags
+
+-- what a heap knows of an object that the model doesn't: of that of this number, its link, which is the number of the
+-- object behind it in the list that it stands in, or 0, and the cycle in which a worker cleared it last, or 0
+pub record Tag : Type 0 where
+  pub no : ℕ
+  pub link : ℕ
+  pub cleared_in : ℕ
+
+-- an object's tag
+abbrev pub tag_of : Tabled → Tag
+tag_of k = record { no = k.object.no; link = k.link; cleared_in = k.cleared_in }
+
+-- the tag of each object, in order
+abbrev pub tags_of : List Tabled → List Tag
+tags_of = map tag_of
+
+-- the cycle in which the object was cleared last: 0 where there is none
+abbrev pub tabled_cleared_in : Option Tabled → ℕ
+tabled_cleared_in None = 0
+tabled_cleared_in (Some k) = k.cleared_in
+
+-- the object's link: 0 where there is none
+abbrev pub tabled_link : Option Tabled → ℕ
+tabled_link None = 0
+tabled_link (Some k) = k.link
+
+-- what a list has of the object of number n
+abbrev pub tabled_linked : ℕ → Option Tabled → Linked
+tabled_linked n k = record {
+  no = n;
+  reference = tabled_reference k;
+  link = tabled_link k;
+  cleared_in = tabled_cleared_in k;
+}
+
+-- what is written of an object
+abbrev pub change_of : Change → Tabled → Tabled
+change_of Cut k = on_object (with_reference cleared) k
+change_of (Stamp stamp) k = on_object (with_reference (with_stamp stamp)) k
+change_of (ClearedIn cycle) k = record k { cleared_in = cycle }
+change_of (ClearIn cycle) k = record k { object = with_reference cleared k.object; cleared_in = cycle }
+change_of (Link to) k = record k { link = to }
+
+-- ---- looks
+
+-- whether there is an object of number n, and it isn't marked
+abbrev pub is_unmarked_at : List Tabled → ℕ → Bool
+is_unmarked_at ks n = is_unmarked_in (tabled_at ks n)
+
+-- a look at an object of this number: it clears a reference to an object that isn't marked
+abbrev pub look_by : List Tabled → ℕ → Option Tabled → Look
+look_by ks n k =
+    record { was = tabled_linked n k; is_cleared = refers_into (is_unmarked_at ks) (tabled_reference k) }
+
+abbrev pub table_look : Table → ℕ → Look
+table_look t n = look_by t.tabled n (tabled_at t.tabled n)
+
+-- what it leaves
+abbrev pub table_looked_at : Table → ℕ → ℕ → Table
+table_looked_at t n cycle =
+    if (table_look t n).is_cleared then changed t n (change_of (ClearIn cycle)) else t
+
+-- ---- slots
+
+-- what the slot at this place holds
+abbrev pub held_at : Table → ℕ → Option ℕ
+held_at t place = slice_index_or t.slots place None
+
+-- the slot at this place holds this
+abbrev pub slotted : Table → ℕ → Option ℕ → Table
+slotted t place value = record t { slots = slice_set t.slots place value }
+
+-- the object of a number, if it is one
+abbrev pub tabled_if : List Tabled → Option ℕ → Option Tabled
+tabled_if ks None = None
+tabled_if ks (Some n) = tabled_at ks n
+
+-- the object that the slot at this place holds
+abbrev pub tabled_held : Table → ℕ → Option Tabled
+tabled_held t place = tabled_if t.tabled (held_at t place)
+
+-- the table with the object of a number changed, if it is one
+abbrev pub changed_if : Table → Option ℕ → (Tabled → Tabled) → Table
+changed_if t None f = t
+changed_if t (Some n) f = changed t n f
+
+-- the table with the object changed that the slot at this place holds
+abbrev pub changed_held : Table → ℕ → (Tabled → Tabled) → Table
+changed_held t place f = changed_if t (held_at t place) f
+
+-- what field i of an object holds: null where there is no such field
+abbrev pub field_held : Option Tabled → ℕ → Option ℕ
+field_held k i = slice_index_or (tabled_fields k) i None
+
+-- what field i of an object holds, where there is such a field
+abbrev pub field_in_cell : Option Tabled → ℕ → Option (Option ℕ)
+field_in_cell k i = if has_field k i then Some (field_held k i) else None
+
+-- a new reference, by what slots hold
+abbrev pub made_of : List (Option ℕ) → NewReference → Reference
+made_of slots r =
+    record { strength = r.strength; referent = slice_index_or slots r.from None; stamp = r.stamp; queue = r.queue }
+
+-- ---- marks of several objects, in order
+
+abbrev pub marked_if : Table → Option ℕ → Table
+marked_if t value = changed_if t value (with_marked true)
+
+-- what is marked anew so
+abbrev pub anew_if : Table → Option ℕ → Option ℕ
+anew_if t None = None
+anew_if t (Some n) = if is_unmarked_in (tabled_at t.tabled n) then Some n else None
+
+abbrev pub marked_each : Table → List (Option ℕ) → Table
+marked_each t [] = t
+marked_each t (value ∷ values) = marked_each (marked_if t value) values
+
+abbrev pub anew_each : Table → List (Option ℕ) → List ℕ
+anew_each t [] = []
+anew_each t (value ∷ values) = if_any (anew_if t value) ++ anew_each (marked_if t value) values
+
+-- ---- names
+
+-- neither a slot nor an object, by a field or as its referent, names number n
+abbrev pub NoneNames : List Tabled → ℕ → Type 0
+NoneNames [] n = Unit {0}
+NoneNames (k ∷ ks) n = (has (present (values_in k)) n ≡ false) × NoneNames ks n
+
+pub record IsUnnamed (t : Table) (n : ℕ) : Type 0 where
+  pub slots : has (present t.slots) n ≡ false
+  pub objects : NoneNames t.tabled n

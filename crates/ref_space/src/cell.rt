@@ -1,0 +1,322 @@
+//! A place for one object.
+
+ghost use Rattle.std.specs.Prelude.{◌≡◌, ◌-◌, ◌^◌, ◌<◌, ◌≤◌, nat_lt, true};
+ghost use Rattle.std.specs.Option.{option_map};
+ghost use Rattle.ref_base.specs.Heaps.{with_field, with_reference, with_stamp, cleared};
+ghost use Rattle.ref_space.specs.Places.{is_of, is_held_as, is_unmarked_as, unmarked_cell, blanked_cell};
+ghost use Rattle.ref_space.specs.Tables.{made_entry, tabled_fields, has_field, holds_in};
+ghost use Rattle.ref_space.specs.Tables.{on_object, may_hold, more_held_if, less_held};
+ghost use Rattle.ref_space.specs.Tables.{is_marked_in, is_unmarked_in, with_marked};
+ghost use Rattle.ref_space.specs.Tables.{tabled_reference, tabled_link, tabled_cleared_in, change_of};
+ghost use Rattle.ref_space.specs.Naming.{occupant_in};
+ghost use Rattle.ref_space.specs.Tables.{field_in_cell};
+
+use crate::field_words::Words;
+use crate::kept::Kept;
+use crate::word::Word;
+use ref_base::ObjNo;
+use std::marker::Model;
+
+/// What is written of an object.
+#[derive(Clone, Copy)]
+pub enum Change {
+    /// Its reference is cleared, if it is one.
+    Cut,
+    /// It is stamped, if it is a reference.
+    Stamp(u64),
+    /// A worker cleared it in this cycle.
+    ClearedIn(u64),
+    /// Its reference is cleared, in this cycle.
+    ClearIn(u64),
+    /// It links to the object of this number, or to none.
+    Link(u32),
+}
+
+/// A place for one object. In a clause it is the object with its holds, or nothing where it is free.
+#[derive(Drop)]
+pub(crate) struct Cell {
+    // None where the cell is free: the rest then says nothing.
+    no: Option<ObjNo>,
+    fields: Words,
+    reference: Option<Kept>,
+    holds: u64,
+    marked: bool,
+    // The number of the object behind it in the list that it stands in, or 0.
+    link: u32,
+    // The cycle in which a worker cleared it last, or 0.
+    cleared_in: u64,
+}
+
+impl Model for Cell {
+    ghost use Rattle.std.specs.Prelude.{Option};
+    ghost use Rattle.ref_space.specs.Tables.{Tabled};
+
+    ghost Value = { Option Tabled };
+
+    ghost use Rattle.ref_space.specs.Places.{tabled_in};
+
+    ghost view = { λ c. tabled_in c.no c.fields c.reference c.holds c.marked c.link c.cleared_in };
+}
+
+impl Cell {
+    /// A cell that has no object.
+    pub(crate) fn vacant() -> Self
+        ensures { result ≡ None }
+    {
+        Cell {
+            no: None,
+            fields: Words::nulls(0),
+            reference: None,
+            holds: 0,
+            marked: false,
+            link: 0,
+            cleared_in: 0,
+        }
+    }
+
+    /// The cell of a new object that nobody holds, without a link, never cleared, with so many null fields.
+    pub(crate) fn of(no: ObjNo, count: usize, reference: Option<Kept>, marked: bool) -> Self
+        requires { count ≤ 8 }
+        ensures { result ≡ Some (made_entry no count reference marked) }
+    {
+        Cell {
+            no: Some(no),
+            fields: Words::nulls(count),
+            reference,
+            holds: 0,
+            marked,
+            link: 0,
+            cleared_in: 0,
+        }
+    }
+
+    /// Whether this is the cell of the object of this number.
+    pub(crate) fn is_of(&self, no: ObjNo) -> bool
+        ensures { result ≡ is_of self.now no }
+    {
+        match self.no {
+            Some(own) => own == no,
+            None => false,
+        }
+    }
+
+    /// Whether this is the cell of the object of this number, and that is held.
+    pub(crate) fn is_held_as(&self, no: ObjNo) -> bool
+        ensures { result ≡ is_held_as self.now no }
+    {
+        match self.no {
+            Some(own) => own == no && self.holds > 0,
+            None => false,
+        }
+    }
+
+    /// The fields of the object: none where the cell is free.
+    pub(crate) fn fields(&self) -> Words
+        ensures { result ≡ tabled_fields self.now }
+    {
+        match self.no {
+            Some(_) => self.fields.copied(),
+            None => Words::nulls(0),
+        }
+    }
+
+    /// Whether the object is held.
+    pub(crate) fn is_held(&self) -> bool
+        ensures { result ≡ nat_lt 0 (holds_in self.now) }
+    {
+        match self.no {
+            Some(_) => self.holds > 0,
+            None => false,
+        }
+    }
+
+    /// Writes a field of the object. False where there is no such field: then nothing changes.
+    pub(crate) fn set_field(&mut self, field: usize, value: Word) -> bool
+        ensures there { result ≡ has_field self.old field }
+        ensures after { self.new ≡ option_map (on_object (with_field field value)) self.old }
+    {
+        match self.no {
+            Some(_) => self.fields.set(field, value),
+            None => false,
+        }
+    }
+
+    /// Clears the reference, where the object is one.
+    fn cut(&mut self)
+        ensures { self.new ≡ option_map (on_object (with_reference cleared)) self.old }
+    {
+        if let Some(reference) = self.reference {
+            self.reference = Some(Kept {
+                referent: Word::null(),
+                ..reference
+            });
+        }
+    }
+
+    /// Writes the stamp, where the object is a reference.
+    fn set_stamp(&mut self, stamp: u64)
+        ensures { self.new ≡ option_map (on_object (with_reference (with_stamp stamp))) self.old }
+    {
+        if let Some(reference) = self.reference {
+            self.reference = Some(Kept { stamp, ..reference });
+        }
+    }
+
+    /// Writes this of the object.
+    #[inline(always)]
+    pub(crate) fn change(&mut self, change: Change)
+        ensures { self.new ≡ option_map (change_of change) self.old }
+    {
+        match change {
+            Change::Cut => self.cut(),
+            Change::Stamp(stamp) => self.set_stamp(stamp),
+            Change::ClearedIn(cycle) => self.cleared_in = cycle,
+            Change::ClearIn(cycle) => {
+                self.cut();
+                self.cleared_in = cycle;
+            }
+            Change::Link(to) => self.link = to,
+        }
+    }
+
+    /// Counts one more hold of the object, which has to be marked where that is told. False where there is no such
+    /// object: then nothing changes.
+    pub(crate) fn add_hold(&mut self, if_marked: bool) -> bool
+        requires { holds_in self.old < 2 ^ 64 - 1 }
+        ensures there { result ≡ may_hold if_marked self.old }
+        ensures after { self.new ≡ option_map (more_held_if if_marked) self.old }
+    {
+        let may_hold = self.no.is_some() && (self.marked || !if_marked);
+        if may_hold {
+            self.holds += 1;
+        }
+        may_hold
+    }
+
+    /// Counts one hold of the object fewer. False where nobody holds it: then nothing changes.
+    pub(crate) fn drop_hold(&mut self) -> bool
+        ensures held { result ≡ nat_lt 0 (holds_in self.old) }
+        ensures after { self.new ≡ option_map less_held self.old }
+    {
+        let is_held = self.is_held();
+        if is_held {
+            self.holds -= 1;
+        }
+        is_held
+    }
+
+    /// The number of the object, if there is one.
+    pub(crate) fn number(&self) -> Option<ObjNo>
+        ensures { result ≡ occupant_in self.now }
+    {
+        self.no
+    }
+
+    /// What a field of the object holds: none where there is no such field.
+    pub(crate) fn field(&self, field: usize) -> Option<Word>
+        ensures { result ≡ field_in_cell self.now field }
+    {
+        if self.no.is_some() && field < self.fields.len() {
+            Some(self.fields.get(field))
+        } else {
+            None
+        }
+    }
+
+    /// What the object has as a reference, if there is one and it is a reference.
+    #[inline(always)]
+    pub(crate) fn kept(&self) -> Option<Kept>
+        ensures { result ≡ tabled_reference self.now }
+    {
+        match self.no {
+            Some(_) => self.reference,
+            None => None,
+        }
+    }
+
+    /// The object's link: 0 where there is none.
+    #[inline(always)]
+    pub(crate) fn link(&self) -> u32
+        ensures { result ≡ tabled_link self.now }
+    {
+        match self.no {
+            Some(_) => self.link,
+            None => 0,
+        }
+    }
+
+    /// The cycle in which the object was cleared last: 0 where there is none.
+    #[inline(always)]
+    pub(crate) fn cleared_in(&self) -> u64
+        ensures { result ≡ tabled_cleared_in self.now }
+    {
+        match self.no {
+            Some(_) => self.cleared_in,
+            None => 0,
+        }
+    }
+
+    /// The cell has no object any more.
+    pub(crate) fn vacate(&mut self)
+        ensures { self.new ≡ None }
+    {
+        self.no = None;
+    }
+
+    /// Whether there is an object, and it is marked.
+    pub(crate) fn is_marked(&self) -> bool
+        ensures { result ≡ is_marked_in self.now }
+    {
+        match self.no {
+            Some(_) => self.marked,
+            None => false,
+        }
+    }
+
+    /// Whether there is an object, and it isn't marked.
+    pub(crate) fn is_unmarked(&self) -> bool
+        ensures { result ≡ is_unmarked_in self.now }
+    {
+        match self.no {
+            Some(_) => !self.marked,
+            None => false,
+        }
+    }
+
+    /// Whether this is the cell of the object of this number, and that isn't marked.
+    pub(crate) fn is_unmarked_as(&self, no: ObjNo) -> bool
+        ensures { result ≡ is_unmarked_as self.now no }
+    {
+        match self.no {
+            Some(own) => own == no && !self.marked,
+            None => false,
+        }
+    }
+
+    /// Marks the object. True where there is one and it wasn't marked.
+    pub(crate) fn mark(&mut self) -> bool
+        ensures answer { result ≡ is_unmarked_in self.old }
+        ensures after { self.new ≡ option_map (with_marked true) self.old }
+    {
+        let is_new = self.no.is_some() && !self.marked;
+        self.marked = true;
+        is_new
+    }
+
+    /// The object refers to nothing from now on, unless it is marked.
+    pub(crate) fn blank_unless_marked(&mut self)
+        ensures { self.new ≡ blanked_cell self.old }
+    {
+        if !self.marked {
+            self.fields = Words::nulls(self.fields.len());
+            self.cut();
+        }
+    }
+
+    /// Takes the object's mark away.
+    pub(crate) fn unmark(&mut self)
+        ensures { self.new ≡ unmarked_cell self.old }
+    {
+        self.marked = false;
+    }
+}

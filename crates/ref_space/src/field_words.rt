@@ -1,0 +1,81 @@
+//! An object's fields, as its cell has them.
+
+ghost use Rattle.std.specs.Prelude.{◌≡◌, ◌≤◌, nat_lt, length, replicate, None, slice_index_or, slice_set};
+
+use crate::word::Word;
+use ref_base::MOST_FIELDS;
+use std::marker::Model;
+
+/// The fields of an object, at most 8, kept in place: each holds a word or null. In a clause they are their list.
+#[derive(Drop)]
+pub(crate) struct Words {
+    held: [Word; MOST_FIELDS],
+    count: usize,
+}
+
+impl Model for Words {
+    ghost use Rattle.std.specs.Prelude.{◌≡◌, ◌≤◌, ℕ, List, Option, length, take};
+
+    ghost Value = { List (Option ℕ) };
+
+    ghost view = { λ f. take f.count f.held };
+
+    ghost invariant = { λ f. (f.count ≤ 8) × (length f.held ≡ 8) };
+}
+
+impl Words {
+    /// So many fields, each null.
+    pub(crate) fn nulls(count: usize) -> Self
+        requires { count ≤ 8 }
+        ensures { result ≡ replicate count None }
+    {
+        Words {
+            held: [Word::null(); MOST_FIELDS],
+            count,
+        }
+    }
+
+    /// The same fields.
+    pub(crate) fn copied(&self) -> Self
+        ensures { result ≡ self.now }
+    {
+        let mut held = [Word::null(); MOST_FIELDS];
+        held.copy_from_slice(&self.held);
+        Words {
+            held,
+            count: self.len(),
+        }
+    }
+
+    /// How many fields there are, at most 8.
+    pub(crate) fn len(&self) -> usize
+        ensures count { result ≡ length self.now }
+        ensures few { result ≤ 8 }
+    {
+        self.count
+    }
+
+    /// What a field holds: null also where there is no such field.
+    pub(crate) fn get(&self, field: usize) -> Word
+        ensures { result ≡ slice_index_or self.now field None }
+    {
+        let values = &self.held;
+        if field < self.len() {
+            values[field]
+        } else {
+            Word::null()
+        }
+    }
+
+    /// Writes a field. False where there is no such field: then nothing changes.
+    pub(crate) fn set(&mut self, field: usize, value: Word) -> bool
+        ensures there { result ≡ nat_lt field (length self.old) }
+        ensures after { self.new ≡ slice_set self.old field value }
+    {
+        if field >= self.len() {
+            return false;
+        }
+        self.held[field] = value;
+        true
+    }
+}

@@ -1,0 +1,177 @@
+//! The index of the table: where the object of each number lies. Its entries stand in order of number. As an object
+//! goes, its entry stays, and is a gap: the cell that it names no longer holds its object.
+
+ghost use Rattle.std.specs.Prelude.{◌≡◌, ◌≤◌, length};
+ghost use Rattle.std.specs.List.{filter};
+ghost use Rattle.std.specs.Vec.{vec_capacity};
+ghost use Rattle.ref_space.specs.Places.{is_live, is_held, tabled_by, place_in, place_if_live, lent};
+ghost use Rattle.ref_space.specs.Places.{count_below, first_entry, with_room, Rises};
+ghost use Rattle.ref_space.specs.Places.{is_unmarked_entry};
+ghost use Rattle.ref_space.specs.Tables.{first_from, held_from, unmarked_from, tabled_at};
+
+use crate::cell::Cell;
+use ref_base::ObjNo;
+use std::alloc::Allocator;
+
+/// Where the object of a number was put.
+#[derive(Clone, Copy)]
+pub(crate) struct Entry {
+    pub(crate) no: ObjNo,
+    pub(crate) place: u32,
+}
+
+// Whether the entry's object is still there.
+fn is_live(cells: &[Cell], entry: Entry) -> bool
+    ensures { result ≡ is_live cells.now entry }
+{
+    match cells.get(entry.place as usize) {
+        Some(cell) => cell.is_of(entry.no),
+        None => false,
+    }
+}
+
+// Whether the entry's object is still there, and is held.
+fn is_held(cells: &[Cell], entry: Entry) -> bool
+    ensures { result ≡ is_held cells.now entry }
+{
+    match cells.get(entry.place as usize) {
+        Some(cell) => cell.is_held_as(entry.no),
+        None => false,
+    }
+}
+
+// Where the entry of this number stands if each number from it on has one. So it is of every
+// object that was made since gaps were closed last, and where no gap behind it was closed.
+fn likely_place(index: &[Entry], no: ObjNo) -> usize {
+    match index.last() {
+        Some(last) => {
+            let behind = last.no.0.saturating_sub(no.0) as usize;
+            index.len().saturating_sub(1 + behind)
+        }
+        None => 0,
+    }
+}
+
+// How many entries are of numbers below this. In constant time where its entry stands in its likely place, and else in
+// logarithmic time.
+fn count_below(index: &[Entry], no: ObjNo) -> usize
+    requires { Rises index.now }
+    ensures count { result ≡ count_below index.now no }
+    ensures within { result ≤ length index.now }
+{
+    let likely = likely_place(index, no);
+    match index.get(likely) {
+        Some(entry) if entry.no == no => likely,
+        _ => index.partition_point(|entry| entry.no < no),
+    }
+}
+
+/// The place of the object of this number. In time as for `count_below`.
+pub(crate) fn place_of(cells: &[Cell], index: &[Entry], no: ObjNo) -> Option<usize>
+    requires { Rises index.now }
+    ensures { result ≡ place_if_live cells.now (place_in index.now no) no }
+{
+    match index.get(count_below(index, no)) {
+        Some(entry) if entry.no == no && is_live(cells, *entry) => Some(entry.place as usize),
+        _ => None,
+    }
+}
+
+/// The cell of the object of this number. In time as for `count_below`.
+pub(crate) fn cell_of<'a>(cells: &'a [Cell], index: &[Entry], no: ObjNo) -> Option<&'a Cell>
+    requires { Rises index.now }
+    ensures { lent result ≡ tabled_at (tabled_by cells.entry.now index.now) no }
+{
+    match place_of(cells, index, no) {
+        Some(place) => Some(&cells[place]),
+        None => None,
+    }
+}
+
+// The number of the first of these entries that is no gap.
+fn first_live(cells: &[Cell], entries: &[Entry]) -> Option<ObjNo>
+    ensures { result ≡ first_entry (is_live cells.now) entries.now }
+{
+    for entry in entries {
+        if is_live(cells, *entry) {
+            return Some(entry.no);
+        }
+    }
+    None
+}
+
+// The number of the first of these entries whose object is held.
+fn first_held(cells: &[Cell], entries: &[Entry]) -> Option<ObjNo>
+    ensures { result ≡ first_entry (is_held cells.now) entries.now }
+{
+    for entry in entries {
+        if is_held(cells, *entry) {
+            return Some(entry.no);
+        }
+    }
+    None
+}
+
+/// The first number from this one on. In logarithmic time, and that of the gaps there.
+pub(crate) fn first_from(cells: &[Cell], index: &[Entry], no: ObjNo) -> Option<ObjNo>
+    requires { Rises index.now }
+    ensures { result ≡ first_from (tabled_by cells.now index.now) no }
+{
+    first_live(cells, &index[count_below(index, no)..])
+}
+
+/// The first number from this one on of an object that is held. In time of the entries up to there.
+pub(crate) fn held_from(cells: &[Cell], index: &[Entry], no: ObjNo) -> Option<ObjNo>
+    requires { Rises index.now }
+    ensures { result ≡ held_from (tabled_by cells.now index.now) no }
+{
+    first_held(cells, &index[count_below(index, no)..])
+}
+
+/// Takes the gaps out. In time of the entries.
+pub(crate) fn close_gaps<A: Allocator>(index: &mut Vec<Entry, A>, cells: &[Cell])
+    ensures entries { index.new.items ≡ filter (is_live cells.now) index.old.items }
+    ensures capacity { vec_capacity index.new ≡ vec_capacity index.old }
+{
+    index.retain(|entry| is_live(cells, *entry));
+}
+
+/// Takes the gaps out where this many entries are there.
+pub(crate) fn make_room<A: Allocator>(index: &mut Vec<Entry, A>, cells: &[Cell], most: usize)
+    ensures entries { index.new.items ≡ with_room most cells.now index.old.items }
+    ensures capacity { vec_capacity index.new ≡ vec_capacity index.old }
+{
+    if index.len() == most {
+        close_gaps(index, cells);
+    }
+}
+
+// Whether the entry's object is still there, and isn't marked.
+fn is_unmarked(cells: &[Cell], entry: Entry) -> bool
+    ensures { result ≡ is_unmarked_entry cells.now entry }
+{
+    match cells.get(entry.place as usize) {
+        Some(cell) => cell.is_unmarked_as(entry.no),
+        None => false,
+    }
+}
+
+// The number of the first of these entries whose object isn't marked.
+fn first_unmarked(cells: &[Cell], entries: &[Entry]) -> Option<ObjNo>
+    ensures { result ≡ first_entry (is_unmarked_entry cells.now) entries.now }
+{
+    for entry in entries {
+        if is_unmarked(cells, *entry) {
+            return Some(entry.no);
+        }
+    }
+    None
+}
+
+/// The first number from this one on of an object that isn't marked. In time of the entries up to there.
+pub(crate) fn unmarked_from(cells: &[Cell], index: &[Entry], no: ObjNo) -> Option<ObjNo>
+    requires { Rises index.now }
+    ensures { result ≡ unmarked_from (tabled_by cells.now index.now) no }
+{
+    first_unmarked(cells, &index[count_below(index, no)..])
+}

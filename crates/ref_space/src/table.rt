@@ -1,0 +1,514 @@
+//! The table of a heap's objects, and of the slots that hold them: how they lie, and the calls that name an object by
+//! its number.
+
+ghost use Rattle.std.specs.Prelude.{◌≡◌, ◌+◌, ◌-◌, ◌/◌, ◌%◌, ◌^◌, ◌==◌, ◌≤◌, ◌<◌, nat_lt, IfOk, OnErr, true, length};
+ghost use Rattle.std.specs.Prelude.{map};
+ghost use Rattle.std.specs.Prelude.{is_some, replicate, if◌then◌else◌, None, Some};
+ghost use Rattle.std.specs.Option.{option_map};
+ghost use Rattle.std.specs.Bool.{OnFalse};
+ghost use Rattle.ref_space.specs.Places.{unmarked_cell, blanked_cell};
+ghost use Rattle.ref_space.specs.ColouredWords.{IsCell, place_by};
+
+mod by_word;
+mod slots;
+
+use crate::cell::{Cell, Change};
+use crate::colour::Colour;
+use crate::field_words::Words;
+use crate::fields::Fields;
+use crate::index::{
+    Entry, cell_of, close_gaps, first_from, held_from, make_room, place_of, unmarked_from,
+};
+use crate::kept::{Kept, NewReference};
+use crate::linked::{Linked, Look};
+use crate::pages::Pages;
+use crate::reference::Reference;
+use crate::word::Word;
+use ref_base::{Fault, ObjNo};
+use std::alloc::{AllocError, Allocator, Global};
+use std::marker::Model;
+
+/// The objects of a heap, each with a count of holds and a mark. All memory is taken by `new`: for each cell 144 bytes
+/// of its own and 16 of the index, and 16 for each page of 64 cells.
+#[derive(Drop)]
+pub struct Table<A: Allocator = Global> {
+    // Cell c of page p stands at place 64 * p + c.
+    cells: Vec<Cell, A>,
+    // In order of number. It has room for two entries a cell, so gaps are closed at most once in as many new objects as
+    // there are cells.
+    index: Vec<Entry, A>,
+    // Which cells are free. A new object gets the lowest of the first page that has one.
+    pages: Pages<A>,
+    // The address of the first page. The others follow it.
+    first_page: u32,
+    // What the slots hold.
+    slots: Vec<Word, A>,
+    // How many objects there may be: the pages are as many as these fill.
+    room: usize,
+    // How many there are.
+    count: usize,
+    // The greatest number that was ever given, or 0.
+    last: ObjNo,
+    // How many of the objects are marked.
+    marked: usize,
+}
+
+impl<A: Allocator> Model for Table<A> {
+    ghost use Rattle.std.specs.Vec.{vec_capacity};
+    ghost use Rattle.ref_space.specs.Tables.{Table as Data};
+
+    ghost Value = { Data };
+
+    ghost use Rattle.ref_space.specs.Places.{IsSoundTable, IsSoundNaming, seen_table};
+
+    ghost view = { λ t. seen_table t.first_page t.cells.items t.index.items t.slots.items t.last t.room };
+
+    ghost invariant = { λ t. IsSoundTable t.cells.items t.index.items t.pages t.last t.room t.count
+        (vec_capacity t.index) t.marked
+        × IsSoundNaming t.first_page t.cells.items t.index.items t.slots.items };
+}
+
+impl<A: Allocator + Copy> Table<A> {
+    ghost use Rattle.ref_space.specs.Tables.{IsOrderlyTable, empty_table};
+    ghost use Rattle.ref_space.specs.Tables.{tabled_at, tabled_fields};
+    ghost use Rattle.ref_space.specs.Tables.{holds_in, holds_of};
+    ghost use Rattle.ref_space.specs.Tables.{first_from, held_from};
+    ghost use Rattle.ref_space.specs.Tables.{may_hold, more_held_if, less_held};
+    ghost use Rattle.ref_space.specs.Tables.{changed, table_freed, made_entry, with_tabled};
+    ghost use Rattle.ref_space.specs.Tables.{is_marked_in, is_unmarked_in, marked_of, unmarked_from, with_marked};
+    ghost use Rattle.ref_space.specs.Tables.{table_unmarked, table_blanked, change_of};
+    ghost use Rattle.ref_space.specs.Tables.{tabled_linked, is_unmarked_at, table_look};
+    ghost use Rattle.ref_space.specs.Tables.{table_looked_at};
+    ghost use Rattle.std.specs.Option.{IfSome};
+    ghost use Rattle.ref_base.specs.DoomedSets.{refers_into};
+    ghost use Rattle.ref_base.specs.CollectorRows.{referent_of};
+    ghost use Rattle.ref_space.specs.Tables.{made_of, IsUnnamed};
+    ghost use Rattle.ref_space.specs.Naming.{target_of, HasTarget, by_number, reference_by_number};
+
+    /// A table of no objects, with room for so many, in pages at this address and those that follow it, and with so
+    /// many slots, each empty. The one error is `NoMemory`.
+    pub fn new(alloc: A, room: usize, slots: usize, first_page: u32) -> Result<Self, Fault>
+        requires small { room ≤ 2 ^ 16 }
+        requires begins { 1 ≤ first_page }
+        requires addresses { first_page + (room + 63) / 64 ≤ 2 ^ 32 }
+        ensures ok { IfOk result (λ t. t ≡ empty_table room slots first_page) }
+        ensures err { OnErr result (result ≡ Err Fault.NoMemory) }
+    {
+        Self::with_room(alloc, room, slots, first_page).map_err(|_| Fault::NoMemory)
+    }
+
+    // The same.
+    fn with_room(alloc: A, room: usize, slots: usize, first_page: u32) -> Result<Self, AllocError>
+        requires small { room ≤ 2 ^ 16 }
+        requires begins { 1 ≤ first_page }
+        requires addresses { first_page + (room + 63) / 64 ≤ 2 ^ 32 }
+        ensures { IfOk result (λ t. t ≡ empty_table room slots first_page) }
+    {
+        let page_count = room.div_ceil(64);
+        let pages = Pages::new(alloc, page_count, first_page)?;
+        let index = Vec::with_capacity(alloc, 128 * page_count)?;
+        let slots = empty_slots(alloc, slots)?;
+        let cells = free_cells(alloc, 64 * page_count)?;
+        Ok(Table {
+            cells,
+            index,
+            pages,
+            first_page,
+            slots,
+            room,
+            count: 0,
+            last: ObjNo(0),
+            marked: 0,
+        })
+    }
+
+    /// How many objects there are.
+    pub fn len(&self) -> usize
+        ensures count { result ≡ length self.now.tabled }
+        ensures orderly { IsOrderlyTable self.now }
+    {
+        self.count
+    }
+
+    /// Whether there is no room for one more object.
+    pub fn is_full(&self) -> bool
+        ensures full { result ≡ (length self.now.tabled == self.now.room) }
+        ensures spare { OnFalse result (length self.now.tabled < self.now.room) }
+    {
+        self.count == self.room
+    }
+
+    /// The greatest number that was ever given, or 0.
+    pub fn last(&self) -> ObjNo
+        ensures { result ≡ self.now.last }
+    {
+        self.last
+    }
+
+    /// Whether there is an object of this number.
+    pub fn has(&self, no: ObjNo) -> bool
+        ensures { result ≡ is_some (tabled_at self.now.tabled no) }
+    {
+        place_of(&self.cells, &self.index, no).is_some()
+    }
+
+    /// The fields of the object of this number: none where there is no such object.
+    pub fn fields(&self, no: ObjNo) -> Fields
+        ensures { result ≡ tabled_fields (tabled_at self.now.tabled no) }
+    {
+        let words = self.words(no);
+        let mut fields = Fields::nulls(0);
+        for field in 0..words.len() {
+            fields.push(self.name(words.get(field)));
+        }
+        fields
+    }
+
+    // What the fields of the object of this number hold: none where there is no such object.
+    fn words(&self, no: ObjNo) -> Words
+        ensures { map (target_of self.now) result ≡ tabled_fields (tabled_at self.now.tabled no) }
+    {
+        match cell_of(&self.cells, &self.index, no) {
+            Some(cell) => cell.fields(),
+            None => Words::nulls(0),
+        }
+    }
+
+    // The word of the object of this number: null where there is no such object.
+    fn word_of(&self, no: ObjNo) -> Word
+        ensures named { target_of self.now result ≡
+            (if is_some (tabled_at self.now.tabled no) then Some no else None) }
+        ensures led { HasTarget self.now result }
+    {
+        match place_of(&self.cells, &self.index, no) {
+            Some(place) => word_at(self.first_page, place),
+            None => Word::null(),
+        }
+    }
+
+    /// Whether the object of this number is held.
+    pub fn is_held(&self, no: ObjNo) -> bool
+        ensures { result ≡ nat_lt 0 (holds_in (tabled_at self.now.tabled no)) }
+    {
+        match cell_of(&self.cells, &self.index, no) {
+            Some(cell) => cell.is_held(),
+            None => false,
+        }
+    }
+
+    /// The first number from this one on.
+    pub fn first_from(&self, no: ObjNo) -> Option<ObjNo>
+        ensures { result ≡ first_from self.now.tabled no }
+    {
+        first_from(&self.cells, &self.index, no)
+    }
+
+    /// The first number from this one on of an object that is held.
+    pub fn held_from(&self, no: ObjNo) -> Option<ObjNo>
+        ensures { result ≡ held_from self.now.tabled no }
+    {
+        held_from(&self.cells, &self.index, no)
+    }
+
+    /// Writes this of the object of this number. Nothing changes where there is none.
+    #[inline(always)]
+    pub fn change(&mut self, no: ObjNo, change: Change)
+        ensures { self.new ≡ changed self.old no (change_of change) }
+    {
+        if let Some(place) = place_of(&self.cells, &self.index, no) {
+            self.cells[place].change(change);
+        }
+    }
+
+    /// What a list has of the object of this number: no reference, link or cycle where there is none.
+    #[inline(always)]
+    pub fn linked(&self, no: ObjNo) -> Linked
+        ensures { result ≡ tabled_linked no (tabled_at self.now.tabled no) }
+    {
+        match cell_of(&self.cells, &self.index, no) {
+            Some(cell) => self.told(no, cell),
+            None => Linked::missing(no),
+        }
+    }
+
+    /// The same; and where it is a reference to an object that isn't marked, it is cleared, in this cycle.
+    #[inline(always)]
+    pub fn look_at(&mut self, no: ObjNo, cycle: u64) -> Look
+        ensures answer { result ≡ table_look self.old no }
+        ensures after { self.new ≡ table_looked_at self.old no cycle }
+    {
+        let Some(place) = place_of(&self.cells, &self.index, no) else {
+            return Look {
+                was: Linked::missing(no),
+                is_cleared: false,
+            };
+        };
+        let was = self.told(no, &self.cells[place]);
+        let is_cleared = self.refers_to_unmarked(self.cells[place].kept());
+        if is_cleared {
+            self.cells[place].change(Change::ClearIn(cycle));
+        }
+        Look { was, is_cleared }
+    }
+
+    // What a list has of the object in this cell.
+    #[inline(always)]
+    fn told(&self, no: ObjNo, cell: &Cell) -> Linked
+        ensures { result ≡ tabled_linked no (option_map (by_number (target_of self.now)) cell.now) }
+    {
+        Linked {
+            no,
+            reference: self.reference(cell.kept()),
+            link: cell.link(),
+            cleared_in: cell.cleared_in(),
+        }
+    }
+
+    // What an object has as a reference, with its referent's number.
+    #[inline(always)]
+    fn reference(&self, kept: Option<Kept>) -> Option<Reference>
+        ensures { result ≡ option_map (reference_by_number (target_of self.now)) kept }
+    {
+        match kept {
+            Some(kept) => Some(Reference {
+                strength: kept.strength,
+                referent: self.name(kept.referent),
+                stamp: kept.stamp,
+                queue: kept.queue,
+            }),
+            None => None,
+        }
+    }
+
+    // Whether this is a reference to an object that isn't marked.
+    #[inline(always)]
+    fn refers_to_unmarked(&self, kept: Option<Kept>) -> bool
+        ensures { result ≡ refers_into (is_unmarked_at self.now.tabled)
+            (option_map (reference_by_number (target_of self.now)) kept) }
+    {
+        match kept {
+            Some(kept) => self.is_unmarked_by(kept.referent),
+            None => false,
+        }
+    }
+
+    /// Counts one more hold of the object of this number, which has to be marked where that is told. False where there
+    /// is no such object: then nothing changes.
+    pub fn add_hold(&mut self, no: ObjNo, if_marked: bool) -> bool
+        requires { length (holds_of self.old.tabled) < 2 ^ 64 - 1 }
+        ensures there { result ≡ may_hold if_marked (tabled_at self.old.tabled no) }
+        ensures after { self.new ≡ changed self.old no (more_held_if if_marked) }
+    {
+        match place_of(&self.cells, &self.index, no) {
+            Some(place) => self.cells[place].add_hold(if_marked),
+            None => false,
+        }
+    }
+
+    /// Counts one hold of the object of this number fewer. False where nobody holds it: then nothing changes.
+    pub fn drop_hold(&mut self, no: ObjNo) -> bool
+        ensures held { result ≡ nat_lt 0 (holds_in (tabled_at self.old.tabled no)) }
+        ensures after { self.new ≡ changed self.old no less_held }
+    {
+        match place_of(&self.cells, &self.index, no) {
+            Some(place) => self.cells[place].drop_hold(),
+            None => false,
+        }
+    }
+
+    /// A new object that nobody holds, with so many null fields; the slot at place `into` holds it.
+    pub fn push(
+        &mut self,
+        into: usize,
+        no: ObjNo,
+        count: usize,
+        reference: Option<NewReference>,
+        marked: bool,
+    )
+        requires into { into < length self.old.slots }
+        requires fields { count ≤ 8 }
+        requires rises { self.old.last < no }
+        requires room { length self.old.tabled < self.old.room }
+        requires from { IfSome reference (λ r. r.from < length self.old.slots) }
+        ensures { self.new ≡ with_tabled self.old into
+            (made_entry no count (option_map (made_of self.old.slots) reference) marked) self.new.occupants }
+    {
+        let kept = self.kept_of_new(reference);
+        make_room(&mut self.index, &self.cells, 2 * self.cells.len());
+        let (page, cell) = self.pages.place().unwrap();
+        let place = 64 * page + cell as usize;
+        self.cells[place] = Cell::of(no, count, kept, marked);
+        self.index.push_reserved(Entry {
+            no,
+            place: place as u32,
+        });
+        self.last = no;
+        self.count += 1;
+        self.marked += usize::from(marked);
+        self.slots[into] = word_at(self.first_page, place);
+    }
+
+    // What the cell of a new reference has of it.
+    fn kept_of_new(&self, reference: Option<NewReference>) -> Option<Kept>
+        requires { IfSome reference (λ r. r.from < length self.now.slots) }
+        ensures named { option_map (reference_by_number (target_of self.now)) result
+            ≡ option_map (made_of self.now.slots) reference }
+        ensures led { HasTarget self.now (referent_of result) }
+    {
+        match reference {
+            Some(reference) => Some(Kept {
+                strength: reference.strength,
+                referent: self.slots[reference.from],
+                stamp: reference.stamp,
+                queue: reference.queue,
+            }),
+            None => None,
+        }
+    }
+
+    /// Frees the object of this number. False where there is none, or it is marked: then nothing changes. Nothing names
+    /// one that goes.
+    pub fn free(&mut self, no: ObjNo) -> bool
+        requires { is_unmarked_in (tabled_at self.old.tabled no) ≡ true → IsUnnamed self.old no }
+        ensures answer { result ≡ is_unmarked_in (tabled_at self.old.tabled no) }
+        ensures after { self.new ≡ table_freed self.old no self.new.occupants }
+    {
+        let Some(place) = place_of(&self.cells, &self.index, no) else {
+            return false;
+        };
+        let goes = self.cells[place].is_unmarked();
+        if goes {
+            self.cells[place].vacate();
+            self.pages.give(place / 64, (place % 64) as u32);
+            self.count -= 1;
+        }
+        goes
+    }
+
+    /// Takes the gaps out of the index where they are more than the objects, so that no more are left to pass over.
+    /// While they stay, each object that was made since they were taken out last is found at once. In constant time, or
+    /// in that of the entries.
+    pub fn close_gaps(&mut self)
+        ensures { self.new ≡ self.old }
+    {
+        if self.index.len() / 2 > self.len() {
+            close_gaps(&mut self.index, &self.cells);
+        }
+    }
+
+    /// How many of the objects are marked.
+    pub fn marked_count(&self) -> usize
+        ensures { result ≡ length (marked_of self.now.tabled) }
+    {
+        self.marked
+    }
+
+    /// Whether there is an object of this number, and it is marked.
+    pub fn is_marked(&self, no: ObjNo) -> bool
+        ensures { result ≡ is_marked_in (tabled_at self.now.tabled no) }
+    {
+        match cell_of(&self.cells, &self.index, no) {
+            Some(cell) => cell.is_marked(),
+            None => false,
+        }
+    }
+
+    /// Whether there is an object of this number, and it isn't marked.
+    pub fn is_unmarked(&self, no: ObjNo) -> bool
+        ensures { result ≡ is_unmarked_in (tabled_at self.now.tabled no) }
+    {
+        match cell_of(&self.cells, &self.index, no) {
+            Some(cell) => cell.is_unmarked(),
+            None => false,
+        }
+    }
+
+    /// The first number from this one on of an object that isn't marked.
+    pub fn unmarked_from(&self, no: ObjNo) -> Option<ObjNo>
+        ensures { result ≡ unmarked_from self.now.tabled no }
+    {
+        unmarked_from(&self.cells, &self.index, no)
+    }
+
+    /// Marks the object of this number. True where there is one and it wasn't marked.
+    pub fn mark(&mut self, no: ObjNo) -> bool
+        ensures answer { result ≡ is_unmarked_in (tabled_at self.old.tabled no) }
+        ensures after { self.new ≡ changed self.old no (with_marked true) }
+    {
+        match place_of(&self.cells, &self.index, no) {
+            Some(place) => {
+                let is_new = self.cells[place].mark();
+                self.marked += usize::from(is_new);
+                is_new
+            }
+            None => false,
+        }
+    }
+
+    /// What isn't marked refers to nothing from now on. In time of the cells.
+    pub fn blank_unmarked(&mut self)
+        ensures { self.new ≡ table_blanked self.old }
+    {
+        blank(&mut self.cells);
+    }
+
+    /// Takes every mark away. In time of the cells.
+    pub fn unmark_all(&mut self)
+        ensures { self.new ≡ table_unmarked self.old }
+    {
+        unmark(&mut self.cells);
+        self.marked = 0;
+    }
+}
+
+// Takes the marks of these cells away.
+fn unmark(cells: &mut [Cell])
+    ensures { cells.new ≡ map unmarked_cell cells.old }
+{
+    for cell in cells.iter_mut() {
+        cell.unmark();
+    }
+}
+
+// What of these cells isn't marked refers to nothing from now on.
+fn blank(cells: &mut [Cell])
+    ensures { cells.new ≡ map blanked_cell cells.old }
+{
+    for cell in cells.iter_mut() {
+        cell.blank_unless_marked();
+    }
+}
+
+// So many free cells.
+fn free_cells<A: Allocator>(alloc: A, room: usize) -> Result<Vec<Cell, A>, AllocError>
+    ensures { IfOk result (λ v. v.items ≡ replicate room None) }
+{
+    let mut cells = Vec::with_capacity(alloc, room)?;
+    for _place in 0..room {
+        cells.push_reserved(Cell::vacant());
+    }
+    Ok(cells)
+}
+
+// So many empty slots.
+fn empty_slots<A: Allocator>(alloc: A, count: usize) -> Result<Vec<Word, A>, AllocError>
+    ensures { IfOk result (λ v. v.items ≡ replicate count None) }
+{
+    let mut slots = Vec::with_capacity(alloc, count)?;
+    for _place in 0..count {
+        slots.push_reserved(Word::null());
+    }
+    Ok(slots)
+}
+
+// The word of the cell at this place, where the first page has this address.
+fn word_at(first_page: u32, place: usize) -> Word
+    requires { IsCell (first_page + place / 64) (place % 64) }
+    ensures { place_by first_page result ≡ Some place }
+{
+    Word::of(
+        Colour::R,
+        first_page + (place / 64) as u32,
+        (place % 64) as u32,
+    )
+}

@@ -1,0 +1,141 @@
+//! What a table's calls do by a word: they search nothing.
+
+ghost use Rattle.std.specs.Prelude.{◌≡◌, true};
+ghost use Rattle.std.specs.Option.{option_map, IfSome};
+ghost use Rattle.ref_base.specs.CollectorRows.{referent_of};
+ghost use Rattle.ref_base.specs.Heaps.{with_field};
+ghost use Rattle.ref_space.specs.Tables.{has_field, field_in_cell, tabled_reference, is_unmarked_in, on_object};
+ghost use Rattle.ref_space.specs.Tables.{with_marked, change_of};
+ghost use Rattle.ref_space.specs.Naming.{target_of, HasTarget, tabled_of, changed_of, reference_by_number};
+ghost use Rattle.ref_space.specs.Places.{lent, cell_of_word, place_of_word};
+
+use super::Table;
+use crate::cell::{Cell, Change};
+use crate::kept::Kept;
+use crate::word::Word;
+use ref_base::ObjNo;
+use std::alloc::Allocator;
+
+impl<A: Allocator + Copy> Table<A> {
+    /// The number of the object that a word leads to: none of null.
+    #[inline(always)]
+    pub(super) fn name(&self, value: Word) -> Option<ObjNo>
+        ensures { result ≡ target_of self.now value }
+    {
+        match cell_by(&self.cells, self.first_page, value) {
+            Some(cell) => cell.number(),
+            None => None,
+        }
+    }
+
+    /// What a field of the object that a word leads to holds: none where there is no such object or field.
+    #[inline(always)]
+    pub(super) fn field(&self, object: Word, field: usize) -> Option<Word>
+        ensures held { option_map (target_of self.now) result ≡ field_in_cell (tabled_of self.now object) field }
+        ensures led { IfSome result (λ value. HasTarget self.now value) }
+    {
+        match cell_by(&self.cells, self.first_page, object) {
+            Some(cell) => cell.field(field),
+            None => None,
+        }
+    }
+
+    /// What the object that a word leads to has as a reference: nothing where there is none, or it is plain.
+    #[inline(always)]
+    pub(super) fn kept(&self, object: Word) -> Option<Kept>
+        ensures held { option_map (reference_by_number (target_of self.now)) result
+            ≡ tabled_reference (tabled_of self.now object) }
+        ensures led { HasTarget self.now (referent_of result) }
+    {
+        match cell_by(&self.cells, self.first_page, object) {
+            Some(cell) => cell.kept(),
+            None => None,
+        }
+    }
+
+    /// The referent of the reference that a word leads to: null where it is cleared, or there is no such reference.
+    #[inline(always)]
+    pub(super) fn referent(&self, object: Word) -> Word
+        ensures named { target_of self.now result ≡ referent_of (tabled_reference (tabled_of self.now object)) }
+        ensures led { HasTarget self.now result }
+    {
+        match self.kept(object) {
+            Some(kept) => kept.referent,
+            None => Word::null(),
+        }
+    }
+
+    /// Whether a word leads to an object that isn't marked.
+    #[inline(always)]
+    pub(super) fn is_unmarked_by(&self, value: Word) -> bool
+        ensures { result ≡ is_unmarked_in (tabled_of self.now value) }
+    {
+        match cell_by(&self.cells, self.first_page, value) {
+            Some(cell) => cell.is_unmarked(),
+            None => false,
+        }
+    }
+
+    /// Writes a field of the object that a word leads to. False where there is no such object or field: then nothing
+    /// changes.
+    pub(super) fn set_field(&mut self, object: Word, field: usize, value: Word) -> bool
+        requires { HasTarget self.old value }
+        ensures there { result ≡ has_field (tabled_of self.old object) field }
+        ensures after { self.new ≡ changed_of self.old object
+            (on_object (with_field field (target_of self.old value))) }
+    {
+        match place_by(&self.cells, self.first_page, object) {
+            Some(place) => self.cells[place].set_field(field, value),
+            None => false,
+        }
+    }
+
+    /// Writes this of the object that a word leads to. Nothing changes where there is none.
+    #[inline(always)]
+    pub(super) fn change_by(&mut self, object: Word, change: Change)
+        ensures { self.new ≡ changed_of self.old object (change_of change) }
+    {
+        if let Some(place) = place_by(&self.cells, self.first_page, object) {
+            self.cells[place].change(change);
+        }
+    }
+
+    /// Marks the object that a word leads to. True where there is one and it wasn't marked.
+    #[inline(always)]
+    pub(super) fn mark_by(&mut self, value: Word) -> bool
+        ensures answer { result ≡ is_unmarked_in (tabled_of self.old value) }
+        ensures after { self.new ≡ changed_of self.old value (with_marked true) }
+    {
+        match place_by(&self.cells, self.first_page, value) {
+            Some(place) => {
+                let is_new = self.cells[place].mark();
+                self.marked += usize::from(is_new);
+                is_new
+            }
+            None => false,
+        }
+    }
+}
+
+// The cell that a word leads to, if any.
+#[inline(always)]
+fn cell_by<'a>(cells: &'a [Cell], first_page: u32, value: Word) -> Option<&'a Cell>
+    ensures { lent result ≡ cell_of_word cells.entry.now first_page value }
+{
+    match value.place(first_page) {
+        Some(place) => cells.get(place as usize),
+        None => None,
+    }
+}
+
+// The place of that cell, if an object lies there.
+#[inline(always)]
+fn place_by(cells: &[Cell], first_page: u32, value: Word) -> Option<usize>
+    ensures { result ≡ place_of_word cells.now first_page value }
+{
+    let place = value.place(first_page)? as usize;
+    match cells.get(place) {
+        Some(cell) if cell.number().is_some() => Some(place),
+        _ => None,
+    }
+}

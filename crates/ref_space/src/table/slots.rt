@@ -1,0 +1,175 @@
+//! The slots of a table: what they hold, and the calls that name an object by its slot. They search nothing, but for
+//! that which puts an object into a slot by its number.
+
+ghost use Rattle.std.specs.Prelude.{◌≡◌, ◌<◌, if◌then◌else◌, true, None, Some, length, map, is_some};
+ghost use Rattle.std.specs.Option.{IfSome};
+ghost use Rattle.ref_base.specs.CollectorRows.{referent_of};
+ghost use Rattle.ref_base.specs.DoomedSets.{refers_into};
+ghost use Rattle.ref_base.specs.Heaps.{with_field};
+ghost use Rattle.ref_space.specs.Tables.{held_at, slotted, tabled_held, changed_held, tabled_at, field_in_cell};
+ghost use Rattle.ref_space.specs.Tables.{field_held, has_field, on_object, change_of, tabled_reference};
+ghost use Rattle.ref_space.specs.Tables.{is_unmarked_at, tabled_fields, marked_if, anew_if, marked_each, anew_each};
+ghost use Rattle.ref_space.specs.Naming.{target_of};
+
+use super::Table;
+use crate::cell::Change;
+use crate::fields::Fields;
+use crate::reference::Reference;
+use crate::word::Word;
+use ref_base::ObjNo;
+use std::alloc::Allocator;
+
+impl<A: Allocator + Copy> Table<A> {
+    /// How many slots there are.
+    pub fn slot_count(&self) -> usize
+        ensures { result ≡ length self.now.slots }
+    {
+        self.slots.len()
+    }
+
+    /// What the slot at this place holds.
+    #[inline(always)]
+    pub fn slot(&self, place: usize) -> Option<ObjNo>
+        requires { place < length self.now.slots }
+        ensures { result ≡ held_at self.now place }
+    {
+        self.name(self.slots[place])
+    }
+
+    /// Empties the slot at this place.
+    pub fn empty_slot(&mut self, place: usize)
+        requires { place < length self.old.slots }
+        ensures { self.new ≡ slotted self.old place None }
+    {
+        self.slots[place] = Word::null();
+    }
+
+    /// The slot at this place holds the object of this number, or nothing where there is no such object.
+    pub fn set_slot(&mut self, place: usize, no: ObjNo)
+        requires { place < length self.old.slots }
+        ensures { self.new ≡ slotted self.old place
+            (if is_some (tabled_at self.old.tabled no) then Some no else None) }
+    {
+        let word = self.word_of(no);
+        self.slots[place] = word;
+    }
+
+    /// The slot at place `into` holds what that at place `from` holds.
+    #[inline(always)]
+    pub fn copy_slot(&mut self, into: usize, from: usize)
+        requires into { into < length self.old.slots }
+        requires from { from < length self.old.slots }
+        ensures { self.new ≡ slotted self.old into (held_at self.old from) }
+    {
+        self.slots[into] = self.slots[from];
+    }
+
+    /// Loads a field of the object in the slot at place `from` into that at place `into`, and answers what it holds.
+    /// None where there is no such object or field: then nothing changes.
+    #[inline(always)]
+    pub fn load(&mut self, into: usize, from: usize, field: usize) -> Option<Option<ObjNo>>
+        requires into { into < length self.old.slots }
+        requires from { from < length self.old.slots }
+        ensures answer { result ≡ field_in_cell (tabled_held self.old from) field }
+        ensures after { self.new ≡ (if has_field (tabled_held self.old from) field
+            then slotted self.old into (field_held (tabled_held self.old from) field) else self.old) }
+    {
+        let value = self.field(self.slots[from], field)?;
+        self.slots[into] = value;
+        Some(self.name(value))
+    }
+
+    /// Writes what the slot at place `from` holds into a field of the object in that at place `into`. False where there
+    /// is no such object or field: then nothing changes.
+    #[inline(always)]
+    pub fn store(&mut self, into: usize, field: usize, from: usize) -> bool
+        requires into { into < length self.old.slots }
+        requires from { from < length self.old.slots }
+        ensures there { result ≡ has_field (tabled_held self.old into) field }
+        ensures after { self.new ≡ changed_held self.old into
+            (on_object (with_field field (held_at self.old from))) }
+    {
+        let (object, value) = (self.slots[into], self.slots[from]);
+        self.set_field(object, field, value)
+    }
+
+    /// What the object in the slot at this place has as a reference: nothing where there is none, or it is plain.
+    #[inline(always)]
+    pub fn reference_in(&self, place: usize) -> Option<Reference>
+        requires { place < length self.now.slots }
+        ensures { result ≡ tabled_reference (tabled_held self.now place) }
+    {
+        self.reference(self.kept(self.slots[place]))
+    }
+
+    /// Whether the slot at this place holds a reference to an object that isn't marked.
+    #[inline(always)]
+    pub fn refers_to_unmarked_in(&self, place: usize) -> bool
+        requires { place < length self.now.slots }
+        ensures { result ≡ refers_into (is_unmarked_at self.now.tabled)
+            (tabled_reference (tabled_held self.now place)) }
+    {
+        self.refers_to_unmarked(self.kept(self.slots[place]))
+    }
+
+    /// The slot at place `into` holds the referent of the reference in that at place `from`: nothing where it is
+    /// cleared, or there is no such reference.
+    #[inline(always)]
+    pub fn get_referent(&mut self, into: usize, from: usize)
+        requires into { into < length self.old.slots }
+        requires from { from < length self.old.slots }
+        ensures { self.new ≡ slotted self.old into (referent_of (tabled_reference (tabled_held self.old from))) }
+    {
+        let referent = self.referent(self.slots[from]);
+        self.slots[into] = referent;
+    }
+
+    /// Writes this of the object in the slot at this place. Nothing changes where there is none.
+    #[inline(always)]
+    pub fn change_in(&mut self, place: usize, change: Change)
+        requires { place < length self.old.slots }
+        ensures { self.new ≡ changed_held self.old place (change_of change) }
+    {
+        let object = self.slots[place];
+        self.change_by(object, change);
+    }
+
+    /// Marks the object in the slot at this place, and answers it where it wasn't marked.
+    #[inline(always)]
+    pub fn mark_in(&mut self, place: usize) -> Option<ObjNo>
+        requires { place < length self.old.slots }
+        ensures answer { result ≡ anew_if self.old (held_at self.old place) }
+        ensures after { self.new ≡ marked_if self.old (held_at self.old place) }
+    {
+        let value = self.slots[place];
+        self.mark_word(value)
+    }
+
+    /// Marks what the fields of the object of this number hold, and answers what wasn't marked before, in order:
+    /// nothing where there is no such object.
+    pub fn mark_fields(&mut self, no: ObjNo) -> Fields
+        ensures answer { result ≡ map Some (anew_each self.old (tabled_fields (tabled_at self.old.tabled no))) }
+        ensures after { self.new ≡ marked_each self.old (tabled_fields (tabled_at self.old.tabled no)) }
+    {
+        let words = self.words(no);
+        let mut anew = Fields::nulls(0);
+        for field in 0..words.len() {
+            let marked = self.mark_word(words.get(field));
+            anew.push_if_any(marked);
+        }
+        anew
+    }
+
+    // Marks what a word leads to, and answers it where it wasn't marked.
+    #[inline(always)]
+    fn mark_word(&mut self, value: Word) -> Option<ObjNo>
+        ensures answer { result ≡ anew_if self.old (target_of self.old value) }
+        ensures after { self.new ≡ marked_if self.old (target_of self.old value) }
+    {
+        if self.mark_by(value) {
+            self.name(value)
+        } else {
+            None
+        }
+    }
+}
