@@ -1,17 +1,17 @@
 -- What a cleaner's thread has called, one round after the other.
 use Rattle.ref_share.proofs.Common.{Bool, ◌≡◌, ℕ, ◌+◌, ◌<◌, ◌≤◌, true, false, List, [], ◌∷◌, ◌++◌, length, replicate}
-use Rattle.ref_share.proofs.Common.{Option, Some, None, Result, Ok, refl, sym, ap, ◌∙◌, subst, arith, length-append}
+use Rattle.ref_share.proofs.Common.{Option, Some, None, Ok, refl, sym, ap, ◌∙◌, subst, arith, length-append}
 use Rattle.ref_share.proofs.Common.{append_assoc, append-nil, HoldName, HeldNotice, entry, Longer, Round, all_of}
 use Rattle.ref_share.proofs.Common.{takes_in, jobs_run, HasGone, CleanView, CleanEntry, TakesJob, CleansDead, HeapView}
-use Rattle.ref_share.proofs.Common.{HeapEntry, PollsUntil, QueueView, QueueEntry, Releases, Made, Took, ShareFault}
+use Rattle.ref_share.proofs.Common.{HeapEntry, PollsUntil, QueueView, QueueEntry, Releases, Made, Took}
 use Rattle.ref_share.proofs.Common.{IsQuiet, PollsBy}
-use Rattle.ref_share.specs.CleanLoops.{polls_in, releases_in, job_in, released, polls_in_vain}
+use Rattle.ref_share.specs.CleanLoops.{polls_in, releases_in, job_in, released, polls_in_vain, PollsFor}
 use Rattle.ref_share.specs.declared.answers.Polled.{Polled}
 use Rattle.ref_share.specs.declared.clean_loop.Polling.{Polling}
 use Rattle.ref_share.specs.declared.clean_loop.Polling.TheVariants.{Waits, Once}
 use Rattle.ref_share.proofs.Polls.{made_none, made_more, made_longer, made_after}
 use Rattle.ref_base.specs.declared.heap_step.HeapStep.TheVariants as heap
-use Rattle.ref_base.specs.declared.reply.Reply.TheVariants as told
+use Rattle.ref_base.specs.declared.reply.Reply.TheVariants as tells
 use Rattle.ref_queue.specs.declared.queue.Polled.TheVariants as answers
 use Rattle.ref_world.specs.declared.heap_machine.HeapReply.TheVariants as replies
 use Rattle.ref_share.specs.declared.clean_machine.CleanStep.TheVariants as steps
@@ -31,14 +31,8 @@ until_found Waits notice u w polls = polls
 until_found Once notice u w polls =
     (0, tt, made_more u u w [] asks.Poll (gets.Polled (answers.Took notice)) (made_none u) polls)
 
--- what a poll answered is that it took a notice
-pub took : (polling : Polling) (u w : QueueView) {answer : Result Polled ShareFault} {found : Polled}
-    {notice : HeldNotice} → answer ≡ Ok found → found ≡ Took notice → PollsBy polling u (Some answer) w
-    → PollsBy polling u (Some (Ok (Took notice))) w
-took polling u w was is polls = grind arith
-
 -- no poll was in vain before the first round
-pub still_quiet : (J : Type 0) (polling : Polling) → IsQuiet {J = J} polling []
+still_quiet : (J : Type 0) (polling : Polling) → IsQuiet {J = J} polling []
 still_quiet J Waits = tt
 still_quiet J Once = refl
 
@@ -83,14 +77,36 @@ module _ {J : Type 0} where
   quiet_on Once notice u w by rs taken quiet =
       omega (arith, quiet, vain_of_one_more rs (record { empties = 0; notice = notice; taken = taken }))
 
-  pub gone_nowhere : (q : QueueView) (v : HeapView) (c : CleanView J) → HasGone q v c [] q v c
-  gone_nowhere q v c = (made_none q, made_none v, made_none c)
+  -- the seats have made just the calls of some rounds, in which so many jobs were run
+  pub record GoneSoFar (q : QueueView) (v : HeapView) (c : CleanView J) (polling : Polling) (count : ℕ)
+      (q1 : QueueView) (v1 : HeapView) (c1 : CleanView J) : Type 0 where
+    pub rounds : List (Round J)
+    pub gone : HasGone q v c rounds q1 v1 c1
+    pub quiet : IsQuiet polling rounds
+    pub counted : count ≡ jobs_run rounds
 
-  module _ (q : QueueView) (v : HeapView) (c : CleanView J) (rs : List (Round J)) (q1 : QueueView) (v1 : HeapView)
-      (c1 : CleanView J) (gone : HasGone q v c rs q1 v1 c1) (polling : Polling) (quiet : IsQuiet polling rs)
-      (notice : HeldNotice) (q2 : QueueView) (by : PollsBy polling q1 (Some (Ok (Took notice))) q2) where
+  pub gone_nowhere : {q : QueueView} {v : HeapView} {c : CleanView J} {polling : Polling}
+      → GoneSoFar q v c polling 0 q v c
+  gone_nowhere {q = q} {v = v} {c = c} {polling = polling} = record {
+    rounds = [];
+    gone = (made_none q, made_none v, made_none c);
+    quiet = still_quiet J polling;
+    counted = refl;
+  }
+
+  module _ {q : QueueView} {v : HeapView} {c : CleanView J} {polling : Polling} {count : ℕ} {q1 : QueueView}
+      {v1 : HeapView} {c1 : CleanView J} (so_far : GoneSoFar q v c polling count q1 v1 c1) (q2 : QueueView)
+      {asked : Option HeldNotice} {notice : HeldNotice} (is : asked ≡ Some notice)
+      (told : PollsFor polling q1 (Ok asked) q2) where
+    abbrev rs : List (Round J)
+    rs = so_far.rounds
+
+    -- its poll took the notice
+    abbrev pub took : PollsBy polling q1 (Some (Ok (Took notice))) q2
+    took = subst (λ n. PollsFor polling q1 (Ok n) q2) is told
+
     abbrev polls : PollsUntil q1 (Ok (Took notice)) q2
-    polls = until_found polling notice q1 q2 by
+    polls = until_found polling notice q1 q2 took
 
     abbrev next : Option (HoldName × J) → Round J
     next taken = record { empties = polls.0; notice = notice; taken = taken }
@@ -100,17 +116,15 @@ module _ {J : Type 0} where
     next_polls taken =
         let own = subst
         (λ (n : ℕ). Made q1 (replicate polls.0 (entry n asks.Poll (gets.Polled answers.Empty))
-        ++ entry n asks.Poll (gets.Polled (answers.Took notice)) ∷ []) q2) gone.0.0.0 polls.2 in
+        ++ entry n asks.Poll (gets.Polled (answers.Took notice)) ∷ []) q2) so_far.gone.0.0.0 polls.2 in
         subst (λ (calls : List QueueEntry). Made q calls q2) (sym (all_of_one_more (polls_in q) rs (next taken)))
-        (made_after q q1 q2 (all_of (polls_in q) rs) (polls_in q (next taken)) gone.0 own)
+        (made_after q q1 q2 (all_of (polls_in q) rs) (polls_in q (next taken)) so_far.gone.0 own)
 
     next_takes : (taken : Option (HoldName × J)) (c2 c3 : CleanView J) → TakesJob c1 notice.hold.object taken c2
-        → Longer c2 c3
-        → Made c (all_of (takes_in c) (rs ++ next taken ∷ [])) c3
+        → Longer c2 c3 → Made c (all_of (takes_in c) (rs ++ next taken ∷ [])) c3
     next_takes taken c2 c3 takes longer =
         let made = made_more c c1 c2 (all_of (takes_in c) rs) (steps.Take notice.hold.object) (gives.Taken taken)
-        gone.2
-        takes in
+        so_far.gone.2 takes in
         subst (λ (calls : List (CleanEntry J)). Made c calls c3) (sym (all_of_one_more (takes_in c) rs (next taken)))
         (made_longer c c2 c3 (all_of (takes_in c) rs ++ takes_in c (next taken)) made longer)
 
@@ -120,46 +134,42 @@ module _ {J : Type 0} where
 
     module _ (v2 : HeapView) (c2 : CleanView J) {found : Bool} (cleans : CleansDead notice v1 c1 (Ok found) v2 c2) where
       -- a round without a job
-      pub gone_in_vain : found ≡ false
-          → (more : List (Round J)) × HasGone q v c more q2 v2 c2 × IsQuiet polling more
-          × (jobs_run more ≡ jobs_run rs)
-      gone_in_vain is =
-          let none = subst (λ b. CleansDead notice v1 c1 (Ok b) v2 c2) is cleans in (
-            rs ++ next None ∷ [],
-            (
+      pub gone_in_vain : found ≡ false → GoneSoFar q v c polling count q2 v2 c2
+      gone_in_vain jobless =
+          let none = subst (λ b. CleansDead notice v1 c1 (Ok b) v2 c2) jobless cleans in record {
+            rounds = rs ++ next None ∷ [];
+            gone = (
               next_polls None,
               subst (λ (calls : List HeapEntry). Made v calls v2) (sym (all_of_one_more (releases_in v) rs (next None)))
                   (next_release v2 none.0),
               next_takes None c2 c2 none.1 ((refl, refl, refl), (made_none c2).1, refl),
-            ),
-            quiet_on polling notice q1 q2 by rs None quiet,
-            omega (arith, jobs_of_one_more rs (next None)),
-          )
+            );
+            quiet = quiet_on polling notice q1 q2 took rs None so_far.quiet;
+            counted = omega (arith, so_far.counted, jobs_of_one_more rs (next None));
+          }
 
       -- a round with a job
-      pub gone_for_a_job : found ≡ true → (c3 : CleanView J) → Longer c2 c3
-          → (more : List (Round J)) × HasGone q v c more q2 v2 c3 × IsQuiet polling more
-          × (jobs_run more ≡ jobs_run rs + 1)
-      gone_for_a_job is c3 longer =
-          let job = subst (λ b. CleansDead notice v1 c1 (Ok b) v2 c2) is cleans in
+      pub gone_for_a_job : found ≡ true → (c3 : CleanView J) → Longer c2 c3 → {more : ℕ} → more ≡ count + 1
+          → GoneSoFar q v c polling more q2 v2 c3
+      gone_for_a_job jobful c3 longer more =
+          let job = subst (λ b. CleansDead notice v1 c1 (Ok b) v2 c2) jobful cleans in
           let taken = Some (job.0, job.1) in
           let both = made_more v job.2 v2 (all_of (releases_in v) rs ++ released v notice.hold ∷ [])
-          (heap.Release job.0) (replies.Told told.Done) (next_release job.2 job.3.0) job.4 in
+          (heap.Release job.0) (replies.Told tells.Done) (next_release job.2 job.3.0) job.4 in
           let calls_are = append_assoc (all_of (releases_in v) rs) (released v notice.hold ∷ [])
-          (released v job.0 ∷ [])
-          ∙ sym (all_of_one_more (releases_in v) rs (next taken)) in (
-            rs ++ next taken ∷ [],
-            (
+          (released v job.0 ∷ []) ∙ sym (all_of_one_more (releases_in v) rs (next taken)) in record {
+            rounds = rs ++ next taken ∷ [];
+            gone = (
               next_polls taken,
               subst (λ (calls : List HeapEntry). Made v calls v2) calls_are both,
               next_takes taken c2 c3 job.3.1 longer,
-            ),
-            quiet_on polling notice q1 q2 by rs taken quiet,
-            omega (arith, jobs_of_one_more rs (next taken)),
-          )
+            );
+            quiet = quiet_on polling notice q1 q2 took rs taken so_far.quiet;
+            counted = omega (arith, more, so_far.counted, jobs_of_one_more rs (next taken));
+          }
 
       -- its take is one call more than those that gave the jobs before
-      pub job_is_a_call : found ≡ true → jobs_run rs < length c2.mine
-      job_is_a_call is =
-          let on = gone_for_a_job is c2 ((refl, refl, refl), (made_none c2).1, refl) in
-          omega (arith, on.3, jobs_at_most_calls c c2 on.0 on.1.2)
+      pub job_is_a_call : found ≡ true → count < length c2.mine
+      job_is_a_call jobful =
+          let on = gone_for_a_job jobful c2 ((refl, refl, refl), (made_none c2).1, refl) {more = count + 1} refl in
+          omega (arith, on.counted, jobs_at_most_calls c c2 on.rounds on.gone.2)

@@ -42,6 +42,12 @@ PollsBy Waits v (Some answer) w = PollsUntil v answer w
 PollsBy Waits v None w = ⊥
 PollsBy Once v answer w = PollsOnce v answer w
 
+-- the same, told by the notice that it took: without one nothing stood, or the queue is closed
+abbrev pub PollsFor : Polling → QueueView → Result (Option HeldNotice) ShareFault → QueueView → Type 0
+PollsFor polling v (Ok (Some notice)) w = PollsBy polling v (Some (Ok (Took notice))) w
+PollsFor polling v (Ok None) w = PollsBy polling v None w ⊎ PollsBy polling v (Some (Ok Closed)) w
+PollsFor polling v (Err fault) w = PollsBy polling v (Some (Err fault)) w
+
 module _ {J : Type 0} where
   -- the calls of a round: the polls of its queue; the release of the notice and, where there was a job, of its hold;
   -- the take
@@ -88,7 +94,7 @@ module _ {J : Type 0} where
     abbrev pub GoesBy : Polling → Result ℕ ShareFault → QueueView → HeapView → CleanView J → Type 0
     GoesBy polling (Ok count) q' v' c' =
         (rs : List (Round J)) × (last : QueueView) × HasGone rs last v' c' × IsQuiet polling rs
-        × (PollsBy polling last None q' ⊎ PollsBy polling last (Some (Ok Closed)) q') × (count ≡ jobs_run rs)
+        × PollsFor polling last (Ok None) q' × (count ≡ jobs_run rs)
     GoesBy polling (Err fault) q' v' c' =
         (rs : List (Round J)) × (last : QueueView) × (u : HeapView) × (d : CleanView J) × HasGone rs last u d
         × IsQuiet polling rs

@@ -7,7 +7,6 @@ use ref_queue::Ran;
 use std::fmt;
 
 /// Why a call of a shared heap or queue is refused. It prints as one line, without what comes back.
-#[derive(Debug)]
 pub enum ShareFault {
     /// The call is refused with this fault, and nothing has changed but what was seen.
     Refused(Fault),
@@ -56,18 +55,19 @@ impl ShareFault {
 
 impl fmt::Display for ShareFault {
     fn fmt<W: fmt::Write>(&self, f: &mut fmt::Formatter<W>) -> fmt::Result {
-        match self {
-            ShareFault::Refused(fault) => write!(f, "refused: {fault}"),
-            ShareFault::Busy => write!(f, "another turn is open"),
-            ShareFault::Notice(notice, fault) => {
-                let object = notice.obj();
-                write!(f, "the notice of {object} comes back: {fault}")
-            }
-            ShareFault::Held(hold, fault) => {
-                let object = hold.obj();
-                write!(f, "the hold of {object} comes back: {fault}")
-            }
-        }
+        let (what, object, fault) = match self {
+            ShareFault::Refused(fault) => return write!(f, "refused: {fault}"),
+            ShareFault::Busy => return f.write_str("another turn is open"),
+            ShareFault::Notice(notice, fault) => ("notice", notice.obj(), *fault),
+            ShareFault::Held(hold, fault) => ("hold", hold.obj(), *fault),
+        };
+        write!(f, "the {what} of {object} comes back: {fault}")
+    }
+}
+
+impl fmt::Debug for ShareFault {
+    fn fmt<W: fmt::Write>(&self, f: &mut fmt::Formatter<W>) -> fmt::Result {
+        fmt::Display::fmt(self, f)
     }
 }
 
@@ -83,7 +83,7 @@ impl From<Fault> for ShareFault {
 }
 
 /// What became of a notice.
-#[derive(Clone, Copy, Debug, PartialEq, Eq)]
+#[derive(Clone, Copy, PartialEq, Eq)]
 pub enum Delivery {
     /// There was none.
     Nothing,
@@ -96,7 +96,7 @@ pub enum Delivery {
 impl fmt::Display for Delivery {
     fn fmt<W: fmt::Write>(&self, f: &mut fmt::Formatter<W>) -> fmt::Result {
         match *self {
-            Delivery::Nothing => write!(f, "nothing"),
+            Delivery::Nothing => f.write_str("nothing"),
             Delivery::Added(object, queue, position) => {
                 write!(f, "{object} added to {queue} at {position}")
             }
@@ -105,8 +105,13 @@ impl fmt::Display for Delivery {
     }
 }
 
+impl fmt::Debug for Delivery {
+    fn fmt<W: fmt::Write>(&self, f: &mut fmt::Formatter<W>) -> fmt::Result {
+        fmt::Display::fmt(self, f)
+    }
+}
+
 /// What a poll of a shared queue answers.
-#[derive(Debug)]
 pub enum Polled {
     /// The first that stood.
     Took(Notice),
@@ -125,10 +130,16 @@ impl fmt::Display for Polled {
                 let object = notice.obj();
                 write!(f, "took {object}")
             }
-            Polled::Empty => write!(f, "empty"),
-            Polled::Closed => write!(f, "closed"),
-            Polled::TimedOut => write!(f, "timed out"),
+            Polled::Empty => f.write_str("empty"),
+            Polled::Closed => f.write_str("closed"),
+            Polled::TimedOut => f.write_str("timed out"),
         }
+    }
+}
+
+impl fmt::Debug for Polled {
+    fn fmt<W: fmt::Write>(&self, f: &mut fmt::Formatter<W>) -> fmt::Result {
+        fmt::Display::fmt(self, f)
     }
 }
 
@@ -139,7 +150,6 @@ pub struct Cleanable {
 }
 
 /// What a clean did.
-#[derive(Debug)]
 pub enum Cleaned {
     /// Nothing: the job was taken before.
     Gone,
@@ -151,11 +161,17 @@ pub enum Cleaned {
 impl fmt::Display for Cleaned {
     fn fmt<W: fmt::Write>(&self, f: &mut fmt::Formatter<W>) -> fmt::Result {
         match self {
-            Cleaned::Gone => write!(f, "gone"),
+            Cleaned::Gone => f.write_str("gone"),
             Cleaned::Ran(ran, _) => {
                 let Ran { number, answer } = *ran;
                 write!(f, "ran {number}, which answered {answer}")
             }
         }
+    }
+}
+
+impl fmt::Debug for Cleaned {
+    fn fmt<W: fmt::Write>(&self, f: &mut fmt::Formatter<W>) -> fmt::Result {
+        fmt::Display::fmt(self, f)
     }
 }

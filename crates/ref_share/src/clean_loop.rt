@@ -2,11 +2,12 @@
 
 ghost use Rattle.std.specs.Prelude.{◌≡◌, ◌+◌, ◌<◌, length};
 ghost use Rattle.ref_turn.specs.Seats.{Longer};
-ghost use Rattle.ref_share.specs.CleanLoops.{GoesBy, GoesRound, GoesOn, PollsBy};
+ghost use Rattle.ref_share.specs.CleanLoops.{GoesBy, GoesRound, GoesOn, PollsBy, PollsFor};
 ghost use Rattle.ref_share.specs.CleanSeats.{clean_view, IsCleanSeat};
 ghost use Rattle.ref_share.specs.Cleanings.{CleansDead};
 ghost use Rattle.ref_share.specs.HeapSeats.{heap_view, IsHeapSeat};
-ghost use Rattle.ref_share.specs.QueueSeats.{queue_view, IsQueueSeat};
+ghost use Rattle.ref_share.specs.QueueSeats.{QueueView, queue_view, IsQueueSeat};
+ghost use Rattle.ref_share.specs.declared.clean_loop.Polling.{Polling};
 
 use crate::{
     CleanSeat, HeapSeat, Polled, QueueSeat, ShareFault, SharedCleaner, SharedHeap, SharedQueue,
@@ -133,17 +134,15 @@ impl<A: Allocator + Copy> SharedCleaner<A> {
     {
         let mut count = 0;
         for _ in rt.forever() {
-            let Some(answer) = poll_by(rt, queue, queue_seat, polling) else {
-                break;
+            let notice = match poll_by(rt, queue, queue_seat, polling) {
+                Ok(Some(notice)) => notice,
+                Ok(None) => break,
+                Err(fault) => return Err(fault),
             };
-            match answer? {
-                Polled::Took(notice) => {
-                    if self.clean_dead(rt, seat, heap, heap_seat, notice, gate)? {
-                        count = self.one_more(seat, count);
-                    }
-                }
-                // A poll tells of nothing else but the end.
-                Polled::Closed | Polled::Empty | Polled::TimedOut => break,
+            match self.clean_dead(rt, seat, heap, heap_seat, notice, gate) {
+                Ok(true) => count = self.one_more(seat, count),
+                Ok(false) => {}
+                Err(fault) => return Err(fault),
             }
         }
         Ok(count)
@@ -169,15 +168,18 @@ impl<A: Allocator + Copy> SharedCleaner<A> {
         if let Err((fault, hold)) = heap.release(rt, heap_seat, notice.into_hold()) {
             return Err(ShareFault::Held(hold, fault));
         }
-        let Some((hold, job)) = self.take(rt, seat, object)? else {
-            return Ok(false);
-        };
-        let released = heap.release(rt, heap_seat, hold);
-        gate.before(job.number());
-        gate.after(job.run());
-        match released {
-            Ok(()) => Ok(true),
-            Err((fault, hold)) => Err(ShareFault::Held(hold, fault)),
+        match self.take(rt, seat, object) {
+            Ok(None) => Ok(false),
+            Ok(Some((hold, job))) => {
+                let released = heap.release(rt, heap_seat, hold);
+                gate.before(job.number());
+                gate.after(job.run());
+                match released {
+                    Ok(()) => Ok(true),
+                    Err((fault, hold)) => Err(ShareFault::Held(hold, fault)),
+                }
+            }
+            Err(fault) => Err(fault),
         }
     }
 
@@ -194,19 +196,34 @@ impl<A: Allocator + Copy> SharedCleaner<A> {
     }
 }
 
-// A poll of the queue, in this way; none where nothing stood.
+// The notice that a poll of the queue took, in this way.
 fn poll_by<R: Wait, A: Allocator + Copy>(
     rt: &R,
     queue: &SharedQueue<A>,
     seat: &mut QueueSeat<A>,
     polling: Polling,
-) -> Option<Result<Polled, ShareFault>>
+) -> Result<Option<Notice>, ShareFault>
     requires { IsQueueSeat queue.now seat.old }
     ensures seat { IsQueueSeat queue.now seat.new }
-    ensures polls { PollsBy polling (queue_view seat.old) result (queue_view seat.new) }
+    ensures polls { PollsFor polling (queue_view seat.old) result (queue_view seat.new) }
 {
     match polling {
-        Polling::Waits => Some(queue.remove_wait(rt, seat)),
-        Polling::Once => queue.poll(rt, seat),
+        Polling::Waits => taken(Some(queue.remove_wait(rt, seat))),
+        Polling::Once => taken(queue.poll(rt, seat)),
+    }
+}
+
+// The notice that was taken, if one was.
+fn taken(answer: Option<Result<Polled, ShareFault>>) -> Result<Option<Notice>, ShareFault>
+    ensures { (polling : Polling) (v w : QueueView) → PollsBy polling v answer w → PollsFor polling v result w }
+{
+    let Some(answer) = answer else {
+        return Ok(None);
+    };
+    match answer {
+        Ok(Polled::Took(notice)) => Ok(Some(notice)),
+        // A poll tells of nothing else but the end.
+        Ok(Polled::Closed | Polled::Empty | Polled::TimedOut) => Ok(None),
+        Err(fault) => Err(fault),
     }
 }

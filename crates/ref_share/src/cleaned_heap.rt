@@ -209,15 +209,15 @@ impl CleanedHeap<Job> {
             (clean_view self.old.clean_seat) result (queue_view self.new.queue_seat) (heap_view self.new.heap_seat)
             (clean_view self.new.clean_seat) }
     {
-        let CleanedHeap {
-            heap,
-            heap_seat,
-            queue,
-            queue_seat,
-            cleaner,
-            clean_seat,
-        } = self;
-        cleaner.clean_some(rt, clean_seat, heap, heap_seat, queue, queue_seat, gate)
+        self.cleaner.clean_some(
+            rt,
+            &mut self.clean_seat,
+            &self.heap,
+            &mut self.heap_seat,
+            &self.queue,
+            &mut self.queue_seat,
+            gate,
+        )
     }
 
     /// Ends all of it: notices that stand are given up, and jobs that are still registered are run.

@@ -59,8 +59,7 @@ pub fn cycle<R: Wait, A: Allocator + Copy>(
         heap_seat,
         PlainStep::Sweep { worker },
         PlainStep::EndSweep,
-    )?;
-    Ok(())
+    )
 }
 
 // Does the work of a phase until nothing is left of it and its end is accepted.
@@ -70,7 +69,7 @@ fn end_phase<R: Wait, A: Allocator + Copy>(
     seat: &mut HeapSeat<A>,
     work: PlainStep,
     end: PlainStep,
-) -> Result<(), Fault>
+) -> Result<(), ShareFault>
     requires { IsHeapSeat heap.now seat.old }
     ensures seat { IsHeapSeat heap.now seat.new }
     ensures ends { IfOk result (λ _. (v : HeapView) × Accepted v end (heap_view seat.new)) }
@@ -80,7 +79,7 @@ fn end_phase<R: Wait, A: Allocator + Copy>(
             match heap.perform(rt, seat, end) {
                 Ok(_) => break,
                 Err(Fault::GreyLeft | Fault::ClearingLeft | Fault::SweepLeft) => {}
-                Err(fault) => return Err(fault),
+                Err(fault) => return Err(ShareFault::Refused(fault)),
             }
         }
     }

@@ -34,10 +34,11 @@ impl<A: Allocator + Copy> SharedHeap<A> {
         ensures seat { IsHeapSeat self.now seat.new }
         ensures holds { HoldsSlot (heap_view seat.old) mutator slot result (heap_view seat.new) }
     {
-        match self.without_hold(rt, seat, HeapStep::Hold { mutator, slot })? {
-            HeapReply::Held(hold) => Ok(hold),
-            HeapReply::Told(Reply::Refused(fault)) => Err(fault),
-            _reply => unreachable!(),
+        match self.without_hold(rt, seat, HeapStep::Hold { mutator, slot }) {
+            Ok(HeapReply::Held(hold)) => Ok(hold),
+            Ok(HeapReply::Told(Reply::Refused(fault))) => Err(fault),
+            Err(fault) => Err(fault),
+            _answer => unreachable!(),
         }
     }
 
@@ -90,10 +91,11 @@ impl<A: Allocator + Copy> SharedHeap<A> {
         ensures seat { IsHeapSeat self.now seat.new }
         ensures gives { GivesNotice (heap_view seat.old) step result (heap_view seat.new) }
     {
-        match self.without_hold(rt, seat, step)? {
-            HeapReply::Notice(notice) => Ok(Some(notice)),
-            HeapReply::Told(reply) => none_given(reply),
-            _reply => unreachable!(),
+        match self.without_hold(rt, seat, step) {
+            Ok(HeapReply::Notice(notice)) => Ok(Some(notice)),
+            Ok(HeapReply::Told(reply)) => none_given(reply),
+            Err(fault) => Err(fault),
+            _answer => unreachable!(),
         }
     }
 
@@ -197,9 +199,10 @@ impl<A: Allocator + Copy> SharedHeap<A> {
         ensures seat { IsHeapSeat self.now seat.new }
         ensures asks { AsksHeap (heap_view seat.old) step result (heap_view seat.new) }
     {
-        match self.without_hold(rt, seat, HeapStep::Plain(step))? {
-            HeapReply::Told(reply) => Ok(reply),
-            _reply => unreachable!(),
+        match self.without_hold(rt, seat, HeapStep::Plain(step)) {
+            Ok(HeapReply::Told(reply)) => Ok(reply),
+            Err(fault) => Err(fault),
+            _answer => unreachable!(),
         }
     }
 
@@ -214,9 +217,9 @@ impl<A: Allocator + Copy> SharedHeap<A> {
         ensures seat { IsHeapSeat self.now seat.new }
         ensures performs { Performs (heap_view seat.old) step result (heap_view seat.new) }
     {
-        match self.ask(rt, seat, step)? {
-            Reply::Refused(fault) => Err(fault),
-            reply => Ok(reply),
+        match self.ask(rt, seat, step) {
+            Ok(Reply::Refused(fault)) => Err(fault),
+            answer => answer,
         }
     }
 

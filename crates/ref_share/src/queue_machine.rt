@@ -9,7 +9,6 @@ use std::alloc::{Allocator, Global};
 use std::marker::Model;
 
 /// One step of a queue.
-#[derive(Debug)]
 pub enum QueueStep {
     /// Puts a notice in.
     Put(Notice),
@@ -20,7 +19,6 @@ pub enum QueueStep {
 }
 
 /// What a step of a queue answers: just what the queue's own call does.
-#[derive(Debug)]
 pub enum QueueReply {
     /// To a put.
     Put(Result<Put<Notice>, (Fault, Notice)>),
