@@ -10,7 +10,7 @@ use crate::told::{
     Told, done, expect, found, is, kind, looked, made, queue, value, value_or_fault,
 };
 use ref_base::{Config, Fault, MutNo, ObjNo, QueueNo, SlotNo, Strength};
-use ref_objects::{Hold, Objects, Reference, Start};
+use ref_objects::{Colour, Hold, Objects, Reference, Start};
 use std::alloc::{Allocator, Global};
 use std::mem;
 use std::process::Abort;
@@ -71,7 +71,7 @@ enum Set {
     Cleared(u32, u64),
     /// The object of this number links to this one.
     Link(u32, u32),
-    UnmarkAll,
+    BeginMarks,
     /// It isn't made where something that is marked, a slot or a hold refers to what isn't.
     Condemn,
     EndCycle,
@@ -98,6 +98,8 @@ enum Ask {
     FieldCount(u32),
     /// What the object of this number has in this field.
     FieldOf(u32, usize),
+    /// The word that the object of this number has in this field.
+    WordAt(u32, u32),
     ReferenceOf(u32),
     ReferentOf(u32),
     StampOf(u32),
@@ -145,6 +147,13 @@ fn found_or_fault(answer: Result<Option<ObjNo>, Fault>) -> Told {
     }
 }
 
+fn word(answer: Option<u64>) -> Told {
+    match answer {
+        Some(bits) => Told::Word(bits),
+        None => Told::Nothing,
+    }
+}
+
 fn reference(answer: Option<Reference>) -> Told {
     match answer {
         Some(reference) => Told::Reference(reference),
@@ -168,14 +177,14 @@ fn mark_but<A: Allocator + Copy>(heap: &mut Objects<A>, no: ObjNo) {
 
 // Frees an object as a cycle does that reaches every other: false where something else refers to it.
 fn swept<A: Allocator + Copy>(heap: &mut Objects<A>, no: ObjNo) -> bool {
-    heap.unmark_all();
+    heap.begin_marks(Colour::A);
     mark_but(heap, no);
     if is_closed(heap) {
         heap.condemn();
     }
     let is_free = heap.free(no);
     heap.end_cycle();
-    heap.unmark_all();
+    heap.begin_marks(Colour::A);
     is_free
 }
 
@@ -219,7 +228,7 @@ fn after_setting<A: Allocator + Copy>(heap: &mut Objects<A>, call: Set) -> Told 
         Set::Cut(no) => heap.cut(ObjNo(no)),
         Set::Cleared(no, cycle) => heap.set_cleared_in(ObjNo(no), cycle),
         Set::Link(no, to) => heap.set_link(ObjNo(no), to),
-        Set::UnmarkAll => heap.unmark_all(),
+        Set::BeginMarks => heap.begin_marks(Colour::A),
         Set::Condemn => {
             if !is_closed(heap) {
                 return Told::No;
@@ -251,6 +260,7 @@ fn asked<A: Allocator + Copy>(heap: &Objects<A>, call: Ask) -> Told {
         Ask::KindOf(no) => kind(heap.kind_of(ObjNo(no))),
         Ask::FieldCount(no) => Told::Count(heap.fields_of(ObjNo(no)).len() as u64),
         Ask::FieldOf(no, field) => value(heap.fields_of(ObjNo(no)).get(field)),
+        Ask::WordAt(no, field) => word(heap.word_at(ObjNo(no), field)),
         Ask::ReferenceOf(no) => reference(heap.reference_of(ObjNo(no))),
         Ask::ReferentOf(no) => value(heap.referent_of(ObjNo(no))),
         Ask::StampOf(no) => Told::Time(heap.stamp_of(ObjNo(no))),

@@ -24,6 +24,8 @@ pub enum Told {
     No,
     /// So many.
     Count(u64),
+    /// The bits of a word: 0 of null.
+    Word(u64),
     /// The number of the next object.
     Next(u64),
     /// The number of the heap.
@@ -105,6 +107,7 @@ impl Told {
             Told::Yes => "yes",
             Told::No => "no",
             Told::Count(_) => "count",
+            Told::Word(_) => "word",
             Told::Next(_) => "next",
             Told::Heap(_) => "heap",
             Told::Time(_) => "time",
@@ -163,7 +166,9 @@ impl Told {
             Told::Object(no) | Told::Found(no) | Told::Queue(no) | Told::Scanned(no) => one(no),
             Told::Doomed(no) | Told::Cleared(no) | Told::Kept(no) | Told::Skipped(no) => one(no),
             Told::Swept(count) => one(count),
-            Told::Count(count) | Told::Next(count) | Told::Heap(count) => [count, 0, 0, 0, 0],
+            Told::Count(count) | Told::Word(count) | Told::Next(count) | Told::Heap(count) => {
+                [count, 0, 0, 0, 0]
+            }
             Told::Time(count) | Told::Began(count) | Told::Added(count) => [count, 0, 0, 0, 0],
             Told::Refused(fault) => one(fault.number()),
             Told::Kind(kind) => one(number_of_kind(kind)),

@@ -10,7 +10,7 @@ use Rattle.ref_clear.proofs.Common.{HeapDoes, Ground, ground_of, Config, pending
 use Rattle.std.proofs.Common.{nat_lt}
 use Rattle.ref_mark.specs.Chains.{chain_first, chain_without_first}
 use Rattle.ref_space.specs.declared.linked.Linked.{Linked}
-use Rattle.ref_objects.specs.Grounds.{linked_in}
+use Rattle.ref_objects.specs.Grounds.{is_spared, linked_in}
 use Rattle.ref_base.proofs.HasLaws.{has-left, has-right, has-cases}
 use Rattle.ref_mark.proofs.ChainLemmas.{first_linked, none_told, list_at-lists_of, chain_at, chain-first, takes_one}
 use Rattle.ref_mark.proofs.MarkerLemmas.{length-lists_of}
@@ -19,7 +19,8 @@ use Rattle.ref_clear.proofs.NoticeAnswers.{minted, mint_refused}
 use Rattle.ref_clear.proofs.PendingLists.{worker_within, worker_has_list, first_as_seen, listed_registered}
 use Rattle.ref_clear.proofs.PendingLists.{told_as_seen, none_past}
 use Rattle.ref_clear.proofs.HandAnswers.{none_to_hand, handed as handed_lists, hand_refused as hand_refused_lists}
-use Rattle.ref_clear.proofs.UnhookAnswers.{unhook_cut as cut_lists, unhook_done as done_lists}
+use Rattle.ref_clear.proofs.UnhookAnswers.{unhook_cut as cut_lists, unhook_refused as refused_lists}
+use Rattle.ref_clear.proofs.UnhookAnswers.{unhook_done as done_lists}
 use Rattle.ref_clear.proofs.SoundHeaps.{sound_after}
 use Rattle.ref_clear.proofs.PendingChains.{KeepsLinks, sound_still}
 use Rattle.ref_clear.proofs.ChainedHeaps.{seen_chains}
@@ -190,6 +191,14 @@ module _ {k : CycleHeap} {chains : List Chain} {swept_to : ℕ} (sound : IsSound
       subst (λ (d : ClearHeap). HeapDoes (seen_heap k chains) (heap.Unhook m s) replies.Nothing d)
       (sym (seen_chains sound does refl refl))
       (cut_lists k (lists_in k chains) m s has held found queue sound.lists does)
+
+  -- where the hold is refused, nothing changes
+  pub unhook_refused : {q : ℕ} → r.queue ≡ Some q → {j : CycleHeap} {fault : Fault} → is_spared (ground_of k) n ≡ true
+      → replies.Refused fault ≡ mint_answer_in k n → j ≡ after_mint_in k n
+      → HeapDoes (seen_heap k chains) (heap.Unhook m s) (replies.Refused fault) (seen_heap j chains)
+  unhook_refused queue {j} {fault} spared answer after =
+      let same : j ≡ k = (mint_refused k n fault answer after).1 in
+      rw same (refused_lists sound.lists m s has held found queue spared answer (sym same ∙ after))
 
   -- the hold and the cut
   module _ {q : ℕ} (queue : r.queue ≡ Some q) {i j : CycleHeap} {object : ℕ}

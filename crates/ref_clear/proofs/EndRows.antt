@@ -36,6 +36,7 @@ phase_ended_stands k a stands none =
       scanners = stands.scanners;
       finders = stands.finders;
       there = record { named = stands.there.named; led = λ m n due target. stands.there.led m n refl target };
+      healed = λ n unhealed. let was = stands.healed n unhealed in (was.0, refl, was.2);
       facts = λ begun. record { rooted = facts.rooted; closed = facts.closed };
       marking = λ now. absurd (false≢true now);
       clearing = λ now. absurd (false≢true now);
@@ -66,12 +67,16 @@ end_clear_row c a stands none = grind (arith, clear_ended_stands, still_cleared)
 
 -- ---- the sweep ends
 
-sweep_ended_stands : (k : CycleHeap) (a : State) → MarkStands (cycle_in_phase k Sweeping) a
+sweep_ended_stands : (k : CycleHeap) (a : State) → MarkStands k a → k.phase ≡ Sweeping
     → unmarked k.heap.objects k.marked ≡ []
     → MarkStands (cycle_in_phase k Idle) (with_world a (world_with_phase a.world Idle))
-sweep_ended_stands k a stands none = grind (arith, has-unmarked)
+sweep_ended_stands k a stands sweeping none = grind (arith, has-unmarked)
 
 pub end_sweep_row : (c : ClearHeap) (a : State) → HeapStands c a → refusal_in c (heap.Plain plain.EndSweep) ≡ None
     → (b : State) × HeapAccepts a (heap.Plain plain.EndSweep) replies.Done b
     × HeapStands (with_mark c (cycle_in_phase c.mark Idle)) b
-end_sweep_row c a stands none = grind (arith, sweep_ended_stands)
+end_sweep_row c a stands none =
+    let sweeping : c.mark.phase ≡ Sweeping = grind arith in
+    let swept : unmarked c.mark.heap.objects c.mark.marked ≡ [] = grind arith in
+    let mark = sweep_ended_stands c.mark a stands.mark sweeping swept in
+    (with_world a (world_with_phase a.world Idle), grind arith, assumption (stands, mark))

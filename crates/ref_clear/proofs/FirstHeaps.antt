@@ -7,6 +7,7 @@ use Rattle.std.proofs.lemmas.List.{length-replicate}
 use Rattle.ref_mark.specs.MarkRows.{starting_state}
 use Rattle.ref_mark.specs.CycleHeaps.{first_cycle_heap}
 use Rattle.ref_clear.specs.ClearHeaps.{first_clear_heap}
+use Rattle.ref_objects.specs.declared.start.Start.{Start}
 use Rattle.ref_mark.proofs.MarkerLemmas.{are_none}
 
 lists_of-none : (os : List Object) (ts : List Tag) (count : ℕ)
@@ -22,34 +23,35 @@ none_pending : (count : ℕ) → pending_numbers (replicate count []) ≡ []
 none_pending zero = refl
 none_pending (suc count) = none_pending count
 
-module _ (config : Config) (heap_no obj cycle : ℕ) where
-  seen_first_lists : {k : CycleHeap} {lists : List (List ℕ)} → k ≡ first_cycle_heap config heap_no obj cycle
+module _ (config : Config) (heap_no : ℕ) (start : Start) where
+  seen_first_lists : {k : CycleHeap} {lists : List (List ℕ)} → k ≡ first_cycle_heap config heap_no start
       → lists ≡ replicate config.workers []
-      → seen_lists k lists ≡ first_clear_heap config heap_no obj cycle
+      → seen_lists k lists ≡ first_clear_heap config heap_no start
   seen_first_lists {k} {lists} first are = grind (arith, lists_of-none)
 
-  pub first_stands : MarkStands (first_cycle_heap config heap_no obj cycle) (starting_state config heap_no obj cycle)
-      → HeapStands (first_clear_heap config heap_no obj cycle) (starting_state config heap_no obj cycle)
+  pub first_stands : MarkStands (first_cycle_heap config heap_no start)
+      (starting_state config heap_no start.obj start.cycle)
+      → HeapStands (first_clear_heap config heap_no start) (starting_state config heap_no start.obj start.cycle)
   first_stands stands = search (length-replicate, none_pending)
 
-  first_sound_lists : {k : CycleHeap} {lists : List (List ℕ)} → k ≡ first_cycle_heap config heap_no obj cycle
-      → MarkStands k (starting_state config heap_no obj cycle)
+  first_sound_lists : {k : CycleHeap} {lists : List (List ℕ)} → k ≡ first_cycle_heap config heap_no start
+      → MarkStands k (starting_state config heap_no start.obj start.cycle)
       → lists ≡ replicate config.workers [] → AreSoundLists k lists 0
   first_sound_lists {k} {lists} first stands are = grind (arith, none_listed, seen_first_lists, first_stands)
 
   -- ---- of chains
 
-  none_in : {k : CycleHeap} {chains : List Chain} → k ≡ first_cycle_heap config heap_no obj cycle
+  none_in : {k : CycleHeap} {chains : List Chain} → k ≡ first_cycle_heap config heap_no start
       → chains ≡ replicate config.workers no_chain → lists_in k chains ≡ replicate config.workers []
   none_in first are = rw (first, are) (are_none [] config.cells config.workers).1
 
-  pub seen_first : {k : CycleHeap} {chains : List Chain} → k ≡ first_cycle_heap config heap_no obj cycle
+  pub seen_first : {k : CycleHeap} {chains : List Chain} → k ≡ first_cycle_heap config heap_no start
       → chains ≡ replicate config.workers no_chain
-      → seen_heap k chains ≡ first_clear_heap config heap_no obj cycle
+      → seen_heap k chains ≡ first_clear_heap config heap_no start
   seen_first first are = seen_first_lists first (none_in first are)
 
-  pub first_sound : {k : CycleHeap} {chains : List Chain} → k ≡ first_cycle_heap config heap_no obj cycle
-      → MarkStands k (starting_state config heap_no obj cycle)
+  pub first_sound : {k : CycleHeap} {chains : List Chain} → k ≡ first_cycle_heap config heap_no start
+      → MarkStands k (starting_state config heap_no start.obj start.cycle)
       → chains ≡ replicate config.workers no_chain → IsSoundHeap k chains 0
   first_sound first stands are = record {
     linked = rw (first, are) (are_none [] config.cells config.workers).0;

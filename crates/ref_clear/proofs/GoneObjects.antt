@@ -1,12 +1,14 @@
--- What is left of some objects, and of their tags, where those of some numbers go.
+-- What is left of some objects, of their tags and of their cells, where those of some numbers go.
 use Rattle.ref_clear.proofs.Common.{◌≡◌, ℕ, zero, suc, ◌≤◌, true, false, refl, ap, arith, List, [], ◌∷◌, ◌++◌, take}
 use Rattle.ref_clear.proofs.Common.{drop, Some, None, false≢true, has, Object, object_at, is_there, numbers, IsRising}
 use Rattle.ref_clear.proofs.Common.{without, unmarked, first_in, is_tagged, Tag, cleared_in_at, without_tags}
-use Rattle.ref_objects.specs.Grounds.{link_at, without_tag}
+use Rattle.ref_objects.specs.Grounds.{Space, link_at, vacated, without_tag}
+use Rattle.ref_clear.specs.ClearHeaps.{vacated_all}
 use Rattle.ref_mark.proofs.LinkLemmas.{link_at-gone, is_tagged-gone}
 use Rattle.ref_objects.proofs.TagLemmas.{cleared_in_at-without}
 use Rattle.ref_base.proofs.HasLaws.{has-append}
 use Rattle.ref_base.proofs.NewClears.{is_there-rising}
+use Rattle.ref_objects.proofs.HealedLemmas.{has-without_number}
 use Rattle.ref_objects.proofs.SparedLemmas.{has-unmarked}
 
 -- ---- one after the other
@@ -23,6 +25,10 @@ pub without_tags-append : (ms : List ℕ) (n : ℕ) (ts : List Tag)
     → without_tag (without_tags ms ts) n ≡ without_tags (ms ++ n ∷ []) ts
 without_tags-append [] n ts = refl
 without_tags-append (m ∷ ms) n ts = without_tags-append ms n (without_tag ts m)
+
+pub vacated_all-append : (ms : List ℕ) (n : ℕ) (s : Space) → vacated (vacated_all ms s) n ≡ vacated_all (ms ++ n ∷ []) s
+vacated_all-append [] n s = refl
+vacated_all-append (m ∷ ms) n s = vacated_all-append ms n (vacated s m)
 
 -- ---- look-ups
 
@@ -42,6 +48,12 @@ pub is_tagged-left : (gone : List ℕ) (ts : List Tag) (n : ℕ) → has gone n 
     → is_tagged (without_tags gone ts) n ≡ is_tagged ts n
 is_tagged-left [] ts n left = refl
 is_tagged-left (m ∷ ms) ts n left = grind (arith, is_tagged-gone, is_tagged-left ms)
+
+-- what is unhealed still was before, and is none of them
+pub unhealed-left : (gone : List ℕ) (s : Space) (n : ℕ) → has (vacated_all gone s).unhealed n ≡ true
+    → (has s.unhealed n ≡ true) × (has gone n ≡ false)
+unhealed-left [] s n unhealed = (unhealed, refl)
+unhealed-left (m ∷ ms) s n unhealed = grind (arith, has-without_number, unhealed-left ms (vacated s m) n)
 
 -- what goes isn't there any more
 pub object_at-gone : (gone : List ℕ) (os : List Object) (n : ℕ) → has gone n ≡ true

@@ -6,7 +6,7 @@ use Rattle.ref_clear.proofs.Common.{with_hold, targets_at, is_kept, NamedStep, i
 use Rattle.ref_clear.proofs.Common.{CycleHeap, shaded_all, with_cleared, cycle_begun, unless_refused, barred, with_made}
 use Rattle.ref_clear.proofs.Common.{grey_scanned, done_in, after_in_cycle, refusal_in_cycle}
 use Rattle.ref_base.specs.Heaps.{made, stored, got, with_field, got_at}
-use Rattle.ref_mark.specs.CycleHeaps.{whitened, roots_of}
+use Rattle.ref_mark.specs.CycleHeaps.{cycle_healed, whitened, roots_of}
 use Rattle.ref_mark.specs.MarkCalls.{with_hold_of}
 use Rattle.ref_base.proofs.Lookups.{lookup-changed, object_at-push}
 use Rattle.ref_base.proofs.Reshaping.{queue-cleared}
@@ -80,9 +80,9 @@ scanned-heap : (k : CycleHeap) (w : ℕ) (grey : List ℕ) → (grey_scanned k w
 scanned-heap k w [] = refl
 scanned-heap k w (n ∷ rest) =
     let targets = targets_at (is_kept k.policy) k.heap.objects n in
-    let grown : CycleHeap = shaded_all (record k { grey = rest }) targets in
+    let grown : CycleHeap = shaded_all (cycle_healed (record k { grey = rest }) n) targets in
     ap (λ (j : CycleHeap). j.heap) (with_found-only grown w n)
-    ∙ shaded_heap (record k { grey = rest }) grown targets refl
+    ∙ shaded_heap (cycle_healed (record k { grey = rest }) n) grown targets refl
 
 pub begun-heap : (k : CycleHeap) (now : ℕ) (how : _) (late : List ℕ)
     → (shaded_all (cycle_begun k now how) late).heap ≡ (whitened k now how).heap

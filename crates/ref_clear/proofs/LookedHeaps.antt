@@ -196,6 +196,9 @@ module _ (k : CycleHeap) (a : State) (w n : ℕ) (rest : List ℕ) (f : Object �
               same_there i
               ∙ stands.there.led m i (simp quiet refl) (led_before soft_and_weak_referents m i target);
         };
+        healed = λ m unhealed.
+            let was = stands.healed m unhealed in
+            (same_there m ∙ was.0, was.1, same_black m ∙ was.2);
         facts = λ begun. record {
           rooted = λ m root.
               elim (roots_before m root) [

@@ -8,7 +8,7 @@ use Rattle.ref_clear.proofs.Common.{seen_lists, AreSoundLists, IsSoundHeap, is_k
 use Rattle.ref_clear.proofs.Common.{with_made, grey_scanned, cycle_begun, barred, done_in, after_in_cycle}
 use Rattle.ref_clear.proofs.Common.{refusal_in_cycle}
 use Rattle.ref_mark.specs.Chains.{last_of}
-use Rattle.ref_mark.specs.CycleHeaps.{with_found}
+use Rattle.ref_mark.specs.CycleHeaps.{cycle_healed, with_found}
 use Rattle.ref_base.proofs.HasLaws.{has-left, has-right, has-cases, has-single, has-first}
 use Rattle.ref_base.proofs.FoundLists.{with_last, joined-emptied}
 use Rattle.ref_mark.proofs.ChainLemmas.{IsSame, lists-same, same_new, same_written}
@@ -108,7 +108,7 @@ module _ (ps : List ℕ) where
   scanned_keeps : (k : CycleHeap) (w : ℕ) (grey : List ℕ) → AreCleared k → KeepsLinks k (grey_scanned k w grey) ps
   scanned_keeps k w [] are = keeps_parts k k ps refl refl are.apart
   scanned_keeps k w (n ∷ rest) are =
-      let one : CycleHeap = record k { grey = rest } in
+      let one : CycleHeap = cycle_healed (record k { grey = rest }) n in
       let j : CycleHeap = shaded_all one (targets_at (is_kept k.policy) k.heap.objects n) in
       let only : j ≡ record one { marked = j.marked; grey = j.grey } =
       shaded_all-only one (targets_at (is_kept k.policy) k.heap.objects n) in

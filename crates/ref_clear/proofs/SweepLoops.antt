@@ -6,14 +6,15 @@ use Rattle.ref_clear.proofs.Common.{first_in, CycleHeap, is_white, doomed, swept
 use Rattle.std.proofs.Common.{nat_le, min}
 use Rattle.std.proofs.lemmas.Bool.{le-leb}
 use Rattle.std.proofs.lemmas.List.{take_more, drop_more, drop_all}
-use Rattle.ref_objects.specs.Grounds.{least_from}
+use Rattle.ref_objects.specs.Grounds.{Space, least_from}
+use Rattle.ref_clear.specs.ClearHeaps.{vacated_all}
 use Rattle.ref_mark.specs.CycleHeaps.{swept}
 use Rattle.ref_base.proofs.HasLaws.{has-first}
 use Rattle.ref_mark.proofs.DoomedLists.{has-doomed}
 use Rattle.ref_objects.proofs.SparedLemmas.{has-unmarked}
 use Rattle.ref_mark.proofs.MutatedStates.{sweeping_is_past}
 use Rattle.ref_clear.proofs.GoneObjects.{without-none, without-append, object_at-left, left_from_there, rising-without}
-use Rattle.ref_clear.proofs.GoneObjects.{without_tags-append, unmarked-swept, first_unmarked-least}
+use Rattle.ref_clear.proofs.GoneObjects.{without_tags-append, vacated_all-append, unmarked-swept, first_unmarked-least}
 
 -- ---- lists
 
@@ -34,12 +35,13 @@ none_left ns i first = grind (arith, drop_more ns i 0)
 
 -- ---- heaps
 
-abbrev with_objects : CycleHeap → List Object → List Tag → CycleHeap
-with_objects k os ts = record k { heap = record k.heap { objects = os }; tags = ts }
+abbrev with_objects : CycleHeap → List Object → List Tag → Space → CycleHeap
+with_objects k os ts s = record k { heap = record k.heap { objects = os }; tags = ts; space = s }
 
 -- these objects are freed
 abbrev without_objects : CycleHeap → List ℕ → CycleHeap
-without_objects k ns = with_objects k (without ns k.heap.objects) (without_tags ns k.tags)
+without_objects k ns =
+    with_objects k (without ns k.heap.objects) (without_tags ns k.tags) (vacated_all ns k.space)
 
 -- so many of the doomed are freed, those of least number
 abbrev swept_so_many : CycleHeap → ℕ → CycleHeap
@@ -109,6 +111,7 @@ one_more_swept start k i from n rising more so_far next =
       first_left,
       without-append,
       without_tags-append,
+      vacated_all-append,
       left_doomed start k i from rising so_far,
       white_is_doomed k,
       may_go_on k from n,

@@ -16,7 +16,7 @@ use Rattle.ref_clear.specs.ClearCalls.{answer_of_sweep}
 use Rattle.ref_base.specs.DoomedSets.{new_clears}
 use Rattle.ref_base.specs.CollectorRows.{Sweeps}
 use Rattle.ref_mark.specs.CycleHeaps.{is_due}
-use Rattle.ref_mark.specs.Standing.{AreThere, InSweeping}
+use Rattle.ref_mark.specs.Standing.{AreHealed, AreThere, InSweeping}
 use Rattle.ref_base.proofs.HasLaws.{has-append, has-cases, has-left, has-first}
 use Rattle.ref_base.proofs.NewClears.{has-new_clears, refers_into-same}
 use Rattle.ref_mark.proofs.DoomedLists.{past_is_in_cycle, past_is_not_marking}
@@ -28,7 +28,7 @@ use Rattle.ref_mark.proofs.RootFacts.{hold_root}
 use Rattle.ref_mark.proofs.SafeMarks.{marked_is_black}
 use Rattle.ref_mark.proofs.Shading.{not_white_marked}
 use Rattle.ref_clear.proofs.GoneObjects.{without-none, has-take, object_at-gone, object_at-left, left_from_there}
-use Rattle.ref_clear.proofs.GoneObjects.{rising-without}
+use Rattle.ref_clear.proofs.GoneObjects.{rising-without, unhealed-left}
 use Rattle.ref_clear.proofs.SweepLoops.{doomed-so_many, doomed-sweeping, white_is_doomed}
 use Rattle.ref_base.specs.declared.heap_step.HeapStep.TheVariants as heap
 use Rattle.ref_base.specs.declared.plain_step.PlainStep.TheVariants as plain
@@ -187,6 +187,9 @@ module _ (k : CycleHeap) (a : State) (stands : MarkStands k a) (sweeping : is_in
   swept_sweeping : InSweeping (swept_some k)
   swept_sweeping = grind (arith, not_gone, object_at-left)
 
+  swept_healed : AreHealed (swept_some k)
+  swept_healed n unhealed = grind (arith, unhealed-left gone k.space n, object_at-left, black_was n)
+
   swept_rising : IsRising (numbers (without gone os))
   swept_rising = rising-without gone os stands.orderly.rising
 
@@ -209,7 +212,17 @@ module _ (k : CycleHeap) (a : State) (stands : MarkStands k a) (sweeping : is_in
 
   swept_stands : MarkStands (swept_some k) (state_swept a (doomed k))
   swept_stands =
-      grind (arith, swept_agrees, swept_doomed, swept_rising, there_was, swept_there, swept_facts, swept_sweeping)
+      grind (
+        arith,
+        swept_agrees,
+        swept_doomed,
+        swept_rising,
+        there_was,
+        swept_there,
+        swept_healed,
+        swept_facts,
+        swept_sweeping,
+      )
 
 -- ---- rows
 

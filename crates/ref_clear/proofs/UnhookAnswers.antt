@@ -2,7 +2,7 @@
 use Rattle.ref_clear.proofs.Common.{arith, ◌≡◌, ℕ, true, refl, sym, ap, subst, ◌∙◌, List, Some, None, Heap, Reference}
 use Rattle.ref_clear.proofs.Common.{slot_at, reference_at, registered_in, reference_of, has_slot, Reply, holds_refusal}
 use Rattle.ref_clear.proofs.Common.{Own, CycleHeap, with_cleared, mint_answer_in, after_mint_in, holding, unhooked}
-use Rattle.ref_clear.proofs.Common.{refusal_in, queue_in, after_in, answer_of_unhook, seen_lists, with_mark}
+use Rattle.ref_clear.proofs.Common.{Fault, refusal_in, queue_in, after_in, answer_of_unhook, seen_lists, with_mark}
 use Rattle.ref_clear.proofs.Common.{AreRegistered, AreSoundLists, clear_refusal, ground_of, MarkerDoes, HeapDoes}
 use Rattle.ref_base.specs.declared.fault.Fault.TheVariants.{NoSuchObject}
 use Rattle.ref_objects.specs.Grounds.{is_spared}
@@ -11,7 +11,7 @@ use Rattle.ref_clear.proofs.KeptReferences.{cleared_stays}
 use Rattle.ref_clear.proofs.KeptPending.{AreKept, kept_by, seen_kept, registered_kept}
 use Rattle.ref_base.proofs.RowForms.{unless_passes}
 use Rattle.ref_clear.proofs.MarkedHeaps.{seen_marked}
-use Rattle.ref_clear.proofs.NoticeAnswers.{minted, clear_holding}
+use Rattle.ref_clear.proofs.NoticeAnswers.{mint_refused, minted, clear_holding}
 use Rattle.ref_base.specs.declared.heap_step.HeapStep.TheVariants as heap
 use Rattle.ref_base.specs.declared.plain_step.PlainStep.TheVariants as plain
 use Rattle.ref_base.specs.declared.reply.Reply.TheVariants as replies
@@ -54,6 +54,19 @@ module _ {k : CycleHeap} {lists : List (List ℕ)} {swept_to : ℕ} (sound : Are
   -- nothing pending is changed by it
   unhook_kept : AreKept k (holding (with_cleared k m s) n) lists
   unhook_kept = search (kept_by, cleared_stays, cleared-tags)
+
+  -- where its hold is refused, nothing changes
+  pub unhook_refused : {j : CycleHeap} {fault : Fault} → is_spared (ground_of k) n ≡ true
+      → replies.Refused fault ≡ mint_answer_in k n → j ≡ after_mint_in k n
+      → HeapDoes (seen_lists k lists) (heap.Unhook m s) (replies.Refused fault) (seen_lists j lists)
+  unhook_refused {j} {fault} spared answer after =
+      let mint = mint_refused k n fault answer after in
+      let counted : holds_refusal k.heap ≡ Some fault = simp spared at mint.0 in
+      let refused : refusal_in (seen_lists k lists) (heap.Unhook m s) ≡ Some fault = refusal ∙ counted in
+      record {
+        answer = simp refused refl;
+        after = ap (λ (h : CycleHeap). seen_lists h lists) mint.1 ∙ simp refused refl;
+      }
 
   pub unhook_done : {i j : CycleHeap} {object : ℕ} → replies.Object object ≡ mint_answer_in k n
       → i ≡ after_mint_in k n → j ≡ marks.after_in_cycle i (heap.Plain (plain.Clear m s))

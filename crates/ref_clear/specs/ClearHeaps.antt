@@ -11,7 +11,8 @@ use Rattle.ref_base.specs.declared.config.Config.{Config}
 use Rattle.ref_base.specs.declared.heap_step.HoldName.{HoldName}
 use Rattle.ref_base.specs.declared.urgency.Urgency.{Urgency}
 use Rattle.ref_space.specs.Tables.{Tag}
-use Rattle.ref_objects.specs.Grounds.{without_tag}
+use Rattle.ref_objects.specs.Grounds.{Space, vacated, without_tag}
+use Rattle.ref_objects.specs.declared.start.Start.{Start}
 use Rattle.ref_mark.specs.Chains.{linked_last_of}
 use Rattle.ref_mark.specs.CycleHeaps.{CycleHeap, first_cycle_heap, doomed, with_cleared, with_found_taken, is_to_clear}
 use Rattle.ref_mark.specs.CycleHeaps.{cut_at, cycle_begun, shaded_all}
@@ -28,9 +29,9 @@ pub record HeldNotice : Type 0 where
   pub cause : Cause
 
 -- at first nothing is pending
-abbrev pub first_clear_heap : Config → ℕ → ℕ → ℕ → ClearHeap
-first_clear_heap config number next cycle = record {
-  mark = first_cycle_heap config number next cycle;
+abbrev pub first_clear_heap : Config → ℕ → Start → ClearHeap
+first_clear_heap config number start = record {
+  mark = first_cycle_heap config number start;
   pending = replicate config.workers [];
 }
 
@@ -96,9 +97,15 @@ abbrev pub without_tags : List ℕ → List Tag → List Tag
 without_tags [] ts = ts
 without_tags (n ∷ ns) ts = without_tags ns (without_tag ts n)
 
+-- the cells of these objects are free
+abbrev pub vacated_all : List ℕ → Space → Space
+vacated_all [] s = s
+vacated_all (n ∷ ns) s = vacated_all ns (vacated s n)
+
 -- the 64 doomed of least number are freed, or all
 abbrev pub swept_some : CycleHeap → CycleHeap
 swept_some k = record k {
   heap = record k.heap { objects = without (take 64 (doomed k)) k.heap.objects };
   tags = without_tags (take 64 (doomed k)) k.tags;
+  space = vacated_all (take 64 (doomed k)) k.space;
 }

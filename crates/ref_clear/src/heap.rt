@@ -55,7 +55,7 @@ impl<A: Allocator + Copy> Heap<A> {
     /// have distinct numbers, by the caller. Tried in this order: `BadConfig`, `NoMemory`.
     pub fn new(alloc: A, config: Config, heap_no: u64) -> Result<Self, Fault>
         ensures made { IsMade (starting_refusal config (record { obj = 1; cycle = 0; page = 1 }))
-            (first_clear_heap config heap_no 1 0) result }
+            (first_clear_heap config heap_no (record { obj = 1; cycle = 0; page = 1 })) result }
         ensures stands { IfOk result (λ heap. HeapStands heap (first_state_of config heap_no)) }
     {
         Self::starting(alloc, config, heap_no, Start::FIRST)
@@ -64,7 +64,7 @@ impl<A: Allocator + Copy> Heap<A> {
     /// The same, where numbers begin as they are told. `BadConfig` also where they can't begin so.
     pub fn starting(alloc: A, config: Config, heap_no: u64, start: Start) -> Result<Self, Fault>
         ensures made { IsMade (starting_refusal config start)
-            (first_clear_heap config heap_no start.obj start.cycle) result }
+            (first_clear_heap config heap_no start) result }
         ensures stands { IfOk result (λ heap. HeapStands heap (starting_state config heap_no start.obj start.cycle)) }
     {
         let marker = Marker::starting(alloc, config, heap_no, start)?;

@@ -3,14 +3,15 @@ use Rattle.ref_mark.proofs.Common.{◌≡◌, ℕ, ◌+◌, ◌<◌, Bool, true,
 use Rattle.ref_mark.proofs.Common.{◌++◌, length, None, inl, inr, and_parts, false≢true, AreDistinct, has, Graph}
 use Rattle.ref_mark.proofs.Common.{is_there, is_kept, graph_of, pending_numbers, is_in, is_empty, State, HeapAccepts}
 use Rattle.ref_mark.proofs.Common.{Urgency, Idle, Sweeping, CycleHeap, is_black, shaded_all, roots_of, whitened}
-use Rattle.ref_mark.proofs.Common.{cycle_begun, MarkStands}
+use Rattle.ref_mark.proofs.Common.{cycle_begun, MarkStands, List, Object, numbers}
 use Rattle.ref_base.specs.Refusals.{begin_refusal}
 use Rattle.ref_base.specs.Replay.{begun as world_begun}
-use Rattle.ref_base.specs.CollectorRows.{begun_state}
+use Rattle.ref_base.specs.CollectorRows.{begun_state, emptied}
 use Rattle.ref_base.proofs.HasLaws.{has-left}
 use Rattle.ref_base.proofs.PathLaws.{root_ends, target_ends}
 use Rattle.ref_mark.proofs.Shading.{MarkingBut, shaded_all-only, shaded_all-append, shaded_all_marking, some_left}
 use Rattle.ref_mark.proofs.RootFacts.{plain_there}
+use Rattle.ref_mark.proofs.HealedMarks.{AreUnscanned}
 use Rattle.ref_mark.proofs.PlainStates.{plain_state, plain_state-is, marking_stands}
 use Rattle.ref_base.proofs.FoundLists.{joined-emptied, length-emptied, AreFound-emptied}
 use Rattle.ref_base.specs.declared.heap_step.HeapStep.TheVariants as heap
@@ -94,6 +95,18 @@ begun_marking k a now urgent left stands =
     shaded_all_marking w b g.roots [] [] (λ n root there. inl (root_ends (is_kept w.policy) g n there root))
     (whitened_marking k a now urgent left stands.orderly.below (stands.scanners ∙ sym stands.finders))
 
+-- no object was scanned yet
+all_unscanned : (k : CycleHeap) (a : State) (now : ℕ) (how : Urgency)
+    → ((n : ℕ) → is_there k.heap.objects n ≡ true → n < k.next)
+    → AreUnscanned (whitened k now how) k.next (emptied a.scanned)
+all_unscanned k a now how below n within =
+    let there : is_there k.heap.objects n ≡ true = numbered k.heap.objects n within in
+    (there, below n there, ap (λ ns. has ns n) (joined-emptied a.scanned))
+  where
+    numbered : (os : List Object) (n : ℕ) → has (numbers os) n ≡ true → is_there os n ≡ true
+    numbered [] n within = within
+    numbered (o ∷ os) n within = grind (arith, numbered os n)
+
 begun_stands : (k : CycleHeap) (a : State) (now : ℕ) (urgent : Urgency) → MarkStands k a → k.phase ≡ Idle
     → MarkStands (mark_begun k a now urgent)
     (state_begun k a now urgent (not (is_empty (mark_begun k a now urgent).grey)))
@@ -111,6 +124,7 @@ begun_stands k a now urgent stands idle =
     (length-emptied k.found ∙ stands.finders)
     (plain_there k a stands (ap (λ p. is_in p Sweeping) idle)
     (record (whitened k now urgent) { marked = j.marked; grey = j.grey }) refl)
+    (all_unscanned k a now urgent stands.orderly.below)
     (subst (λ (i : CycleHeap). MarkingBut i b [] []) only
     (begun_marking k a now urgent (not (is_empty j.grey)) stands)))
 

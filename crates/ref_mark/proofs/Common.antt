@@ -36,8 +36,10 @@ pub use Rattle.ref_base.specs.declared.policy.Policy.{Policy}
 pub use Rattle.ref_base.specs.declared.strength.Strength.{Strength}
 pub use Rattle.ref_base.specs.declared.urgency.Urgency.{Urgency}
 pub use Rattle.ref_space.specs.Tables.{Tag, fields_in}
-pub use Rattle.ref_objects.specs.Grounds.{Ground, IsInOrder, IsWellFormed, all_marked, all_newly_marked}
-pub use Rattle.ref_objects.specs.Grounds.{cleared_in_at, ground_with_heap, least_from, link_at, look_of}
+pub use Rattle.ref_objects.specs.declared.start.Start.{Start}
+pub use Rattle.ref_objects.specs.Grounds.{Ground, IsInOrder, IsWellFormed, Space, all_marked, all_newly_marked}
+pub use Rattle.ref_objects.specs.Grounds.{cleared_in_at, ground_with_heap, healed, least_from, link_at, look_of}
+pub use Rattle.ref_objects.specs.Grounds.{occupied}
 pub use Rattle.ref_objects.specs.Grounds.{unmarked, with_cleared_tag, with_link, with_new_tag, without_tag}
 pub use Rattle.ref_mark.specs.Chains.{AreChains, chain_first, chain_with, chain_without_first, is_tagged, linked_last}
 pub use Rattle.ref_mark.specs.Chains.{linked_last_of, listed, lists_of, no_chain, walk}

@@ -1,5 +1,6 @@
 -- The list of the doomed: its members are the doomed, and what doesn't change it.
-use Rattle.ref_mark.proofs.Common.{◌≡◌, ℕ, ◌+◌, ◌<◌, true, false, ◌==◌, if◌then◌else◌, refl, sym, ◌∙◌, ap, arith, inl}
+use Rattle.ref_mark.proofs.Common.{occupied, ◌≡◌, ℕ, ◌+◌, ◌<◌, true, false, ◌==◌, if◌then◌else◌, refl, sym, ◌∙◌, ap}
+use Rattle.ref_mark.proofs.Common.{arith, inl}
 use Rattle.ref_mark.proofs.Common.{inr, List, [], ◌∷◌, ◌++◌, Option, Some, None, cases_Bool, eq-eqb, with_new_tag, has}
 use Rattle.ref_mark.proofs.Common.{Object, is_there, changed_at, with_changed, changed_in, made, is_in, Phase, Idle}
 use Rattle.ref_mark.proofs.Common.{Marking, Clearing, Sweeping, is_in_cycle, CycleHeap, is_past_mark, is_doomed, doomed}
@@ -75,7 +76,12 @@ young-phase k n = grind arith
 pub doomed-made : (k : CycleHeap) (m d : ℕ) (o : Object) → is_there k.heap.objects o.no ≡ false
     → doomed (with_made k m d o) ≡ doomed k
 doomed-made k m d o new =
-    let more : CycleHeap = record k { heap = made k.heap m d o; next = k.next + 1; tags = with_new_tag k.tags o.no } in
+    let more : CycleHeap = record k {
+      heap = made k.heap m d o;
+      next = k.next + 1;
+      tags = with_new_tag k.tags o.no;
+      space = occupied k.space o.no;
+    } in
     let phase : (with_made k m d o).phase ≡ k.phase = young-phase more o.no in
     elim (cases_Bool (is_past_mark k.phase)) [
       | inl past ↦

@@ -4,6 +4,7 @@ pub mod DoomedLists
 pub mod ShownHeaps
 pub mod ShownReads
 pub mod Passed
+pub mod HealedMarks
 pub mod PlainStates
 pub mod BeginRows
 pub mod Scanning

@@ -1,5 +1,6 @@
 -- A mutator makes an object: it is marked where a cycle has begun, and a slot holds it.
-use Rattle.ref_mark.proofs.Common.{◌≡◌, ℕ, ◌+◌, ◌*◌, ◌<◌, true, false, ◌==◌, arith, refl, sym, ap, subst, ◌∙◌, [], ◌∷◌}
+use Rattle.ref_mark.proofs.Common.{occupied, ◌≡◌, ℕ, ◌+◌, ◌*◌, ◌<◌, true, false, ◌==◌, arith, refl, sym, ap, subst, ◌∙◌}
+use Rattle.ref_mark.proofs.Common.{[], ◌∷◌}
 use Rattle.ref_mark.proofs.Common.{◌++◌, Option, Some, None, is_some, ◌⊎◌, inl, inr, slice_set, cases_Bool, eq-eqb}
 use Rattle.ref_mark.proofs.Common.{false≢true, true≢false, length-set, with_new_tag, refers_into, has, Object}
 use Rattle.ref_mark.proofs.Common.{object_at, is_there, targets_of, targets_at, soft_and_weak_referents, is_kept, made}
@@ -31,7 +32,12 @@ young-marked k n begun there = grind (arith, has-one_more)
 
 -- the heap with one more object, before that is marked
 abbrev pub grown : CycleHeap → ℕ → ℕ → Object → CycleHeap
-grown k m d o = record k { heap = made k.heap m d o; next = k.next + 1; tags = with_new_tag k.tags o.no }
+grown k m d o = record k {
+  heap = made k.heap m d o;
+  next = k.next + 1;
+  tags = with_new_tag k.tags o.no;
+  space = occupied k.space o.no;
+}
 
 abbrev pub making : CycleHeap → ℕ → ℕ → Object → Change
 making k m d o = record {
@@ -41,6 +47,7 @@ making k m d o = record {
   next = k.next + 1;
   marked = (young (grown k m d o) o.no).marked;
   tags = with_new_tag k.tags o.no;
+  space = occupied k.space o.no;
 }
 
 pub mutated-making : (k : CycleHeap) (m d : ℕ) (o : Object) → with_made k m d o ≡ mutated k (making k m d o)
@@ -187,6 +194,7 @@ module _ (k : CycleHeap) (a : State) (m d : ℕ) (o : Object) (stands : MarkStan
           | inl before ↦ inl before
           | inr same ↦ inr (omega (arith, same, number))
         ];
+    unhealed = refl;
     roots = λ begun.
         roots_of_set k a stands begun (16 * m + d) (Some o.no) []
         (λ n is.

@@ -19,7 +19,8 @@ use Rattle.std.proofs.Common.{Result, Ok, Err}
 use Rattle.ref_mark.specs.CycleHeaps.{is_swept, with_found_taken, swept, is_to_clear, cut_at, found_looked_at}
 use Rattle.ref_mark.specs.Worklists.{empty_worklist, emptied_list, with_last as list_with, without_first_listed}
 use Rattle.ref_objects.specs.Grounds.{is_condemned, cut_but, if_done, first_ground, after_freeing, with_new_object}
-use Rattle.ref_objects.specs.Grounds.{newly_marked, ground_marked_if_any}
+use Rattle.ref_objects.specs.Grounds.{newly_marked, ground_marked_if_any, ground_healed, occupied, vacated}
+use Rattle.ref_objects.specs.declared.start.Start.{Start}
 use Rattle.ref_base.specs.CollectorRows.{without, emptied as none_found}
 use Rattle.ref_mark.specs.MarkViews.{AreListed, found_look}
 use Rattle.ref_base.specs.declared.urgency.Urgency.TheVariants.{Normal}
@@ -128,6 +129,7 @@ already : (k : CycleHeap) (m d : ℕ) (o : Object) → has k.marked o.no ≡ fal
       next = k.next + 1;
       marked = if is_in k.phase Sweeping then one_more k.marked o.no else k.marked;
       tags = with_new_tag k.tags o.no;
+      space = occupied k.space o.no;
     }) o.no ≡ with_made k m d o
 already k m d o new = grind (arith, is_there-push, has-one_more)
 
@@ -175,6 +177,7 @@ module _ {g after : Ground} {grey : Worklist} {found : List Chain} {phase : Phas
         next = g.next + 1;
         marked = if is_in phase Sweeping then one_more g.marked o.no else g.marked;
         tags = with_new_tag g.tags o.no;
+        space = occupied g.space o.no;
       }
   seen_made how cycle = rw found_made (rw is (rw sound.condemning refl))
 
@@ -308,6 +311,7 @@ module _ {g after : Ground} {grey : Worklist} {found : List Chain} {phase : Phas
             let left : Ground = record g {
               heap = record g.heap { objects = without (n ∷ []) g.heap.objects };
               tags = without_tag g.tags n;
+              space = vacated g.space n;
             } in
             let same : after ≡ left = is ∙ simp goes refl in
             rw (found_gone n goes is sound) (rw same (simp (sym told ∙ goes) refl))
@@ -419,6 +423,12 @@ sound_scanned {g} {grey} {l} {found} {phase} taken sound = grind arith
 pub sound_cleared : {g : Ground} {grey l : Worklist} {found : List Chain} {phase : Phase}
     → l ≡ emptied_list grey → IsSoundMarker g grey found phase → IsSoundMarker g l found phase
 sound_cleared {g} {grey} {l} {found} {phase} cleared sound = grind arith
+
+-- the first is healed
+module _ {g after : Ground} {grey : Worklist} {found : List Chain} {phase : Phase} (n : ℕ)
+    (is : after ≡ ground_healed g n) (sound : IsSoundMarker g grey found phase) where
+  pub sound_healed : IsSoundMarker after grey found phase
+  sound_healed = subst (λ (h : Ground). IsSoundMarker h grey found phase) (sym is) (assumption sound)
 
 -- ---- what workers found
 
@@ -632,10 +642,10 @@ joined-none zero = refl
 joined-none (suc count) = joined-none count
 
 -- at first all lists are empty
-pub sound_first : (config : Config) (heap_no next : ℕ) → 1 ≤ next
-    → IsSoundMarker (first_ground config heap_no next) (empty_worklist config.cells)
+pub sound_first : (config : Config) (heap_no : ℕ) (start : Start) → 1 ≤ start.obj
+    → IsSoundMarker (first_ground config heap_no start) (empty_worklist config.cells)
     (replicate config.workers no_chain) Idle
-sound_first config heap_no next begins =
+sound_first config heap_no start begins =
     let none = are_none [] config.cells config.workers in
     record {
       few = omega arith;
@@ -649,12 +659,12 @@ sound_first config heap_no next begins =
       condemning = refl;
     }
 
-pub seen_first : (config : Config) (heap_no next cycle : ℕ) {g : Ground} {grey : Worklist} {found : List Chain}
+pub seen_first : (config : Config) (heap_no : ℕ) (start : Start) {g : Ground} {grey : Worklist} {found : List Chain}
     {policy : Policy} → policy ≡ policy_from config 0 Normal
-    → g ≡ first_ground config heap_no next → grey ≡ empty_worklist config.cells
+    → g ≡ first_ground config heap_no start → grey ≡ empty_worklist config.cells
     → found ≡ replicate config.workers no_chain
-    → seen_marker g grey found Idle policy cycle ≡ first_cycle_heap config heap_no next cycle
-seen_first config heap_no next cycle {g} {grey} {found} {policy} fixed objects greys lists =
+    → seen_marker g grey found Idle policy start.cycle ≡ first_cycle_heap config heap_no start
+seen_first config heap_no start {g} {grey} {found} {policy} fixed objects greys lists =
     rw (fixed, objects, greys, lists, (are_none [] config.cells config.workers).1) refl
 
 -- ---- a scan
@@ -687,12 +697,15 @@ pub shaded_greys : (k j : CycleHeap) (ns : List ℕ) → j ≡ shaded_all k ns �
 shaded_greys k j ns is = subst (λ (m : CycleHeap). Greys k m) (sym is) (greys_all k ns)
 
 -- the first of the grey list may be found by the worker that scans it, also once its targets are grey
-pub scan_may_find : {g : Ground} {grey l : Worklist} {found : List Chain} {phase : Phase} {how : Policy} {cycle : ℕ}
+pub scan_may_find : {g h : Ground} {grey l : Worklist} {found : List Chain} {phase : Phase} {how : Policy} {cycle : ℕ}
     {now after : CycleHeap} (w n : ℕ) → seen_marker g grey found phase how cycle ≡ now
     → work_refusal now.heap now.phase Marking w ≡ None → IsSoundMarker g grey found phase
-    → first_in grey.stands ≡ Some n → l ≡ without_first_listed grey
-    → Greys (seen_marker g l found phase how cycle) after → MayFind after w n
-scan_may_find {g} {grey} {l} {found} {phase} {how} {cycle} {now} {after} w n is accepted sound first taken grown =
+    → first_in grey.stands ≡ Some n → l ≡ without_first_listed grey → h ≡ ground_healed g n
+    → Greys (seen_marker h l found phase how cycle) after → MayFind after w n
+scan_may_find {g} {h} {grey} {l} {found} {phase} {how} {cycle} {now} {after} w n is accepted sound first taken healed
+    grown =
+    let since : Greys (seen_marker (ground_healed g n) l found phase how cycle) after =
+    subst (λ (i : Ground). Greys (seen_marker i l found phase how cycle) after) healed grown in
     grind arith
 
 -- ---- what calls know of the heap as it is seen

@@ -6,6 +6,7 @@ use Rattle.ref_mark.proofs.Common.{Clearing, Sweeping, is_in_cycle, CycleHeap, i
 use Rattle.ref_mark.proofs.Agreeing.{agrees_same, same_before}
 use Rattle.ref_mark.proofs.Shading.{MarkingBut}
 use Rattle.ref_mark.proofs.DoomedLists.{shown_heap-before}
+use Rattle.ref_mark.proofs.HealedMarks.{AreUnscanned, unscanned_healed, unhealed_unscanned}
 use Rattle.ref_mark.proofs.Mutations.{Change, mutated, IsMutation, graph_after, mutated_state, mutated_marking}
 
 -- ---- phases
@@ -60,6 +61,9 @@ module _ (k : CycleHeap) (c : Change) (a : State) (w : World) (beside : IsAlongs
   born_after : a.born ≤ c.next
   born_after = grind arith
 
+  unscanned_after : (marking : is_in k.phase Marking ≡ true) → AreUnscanned (mutated k c) a.born a.scanned
+  unscanned_after marking n unhealed = grind (arith, unhealed_unscanned k a stands marking n)
+
   -- what holds in a mark makes a state that the mutated heap stands for, also where more of it is marked and grey
   pub marking_stands : (marked grey : List ℕ) (left : Bool) → is_in k.phase Marking ≡ true
       → let b = mutated_state a (with_heap w (mutated k c).heap) c.next
@@ -86,6 +90,7 @@ module _ (k : CycleHeap) (c : Change) (a : State) (w : World) (beside : IsAlongs
               let quiet : is_in k.phase Sweeping ≡ false = (marking_is_not k.phase marking).1 in
               mutation.led m n (simp quiet refl) target;
         };
+        healed = unscanned_healed j a.born a.scanned marking but.coloured (unscanned_after marking);
         facts = λ begun. but.facts;
         marking = λ again. record { coloured = but.coloured; reached = but.reached; found = but.found; left = left_is };
         clearing = λ clearing. absurd (true≢false (sym clearing ∙ (marking_is_not k.phase marking).0));

@@ -16,6 +16,7 @@ rooted k slots holds = record {
   next = k.next;
   marked = k.marked;
   tags = k.tags;
+  space = k.space;
 }
 
 pub rooted_mutation : (k : CycleHeap) (a : State) (slots : List (Option ℕ)) (holds pending todo : List ℕ)
@@ -35,6 +36,7 @@ altered k slots holds n f = record {
   next = k.next;
   marked = k.marked;
   tags = k.tags;
+  space = k.space;
 }
 
 -- An object may change so: it leads where it did or to roots; it stays a reference if it is one; it
@@ -75,6 +77,7 @@ altered_mutation k a slots holds i f pending todo stands keeps count roots named
       doomed = doomed-changed k i f keeps;
       marked_stays = λ n marked. marked;
       marked_was = λ n marked. inl marked;
+      unhealed = refl;
       roots = roots;
       named = λ n root. stays n (named n root);
       led = λ m n due target.

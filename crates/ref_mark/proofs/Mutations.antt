@@ -4,7 +4,7 @@ use Rattle.ref_mark.proofs.Common.{Option, Some, None, is_some, ◌⊎◌, inl, 
 use Rattle.ref_mark.proofs.Common.{object_at, is_there, Allowed, present, targets_of, targets_at}
 use Rattle.ref_mark.proofs.Common.{soft_and_weak_referents, IsRising, is_kept, Heap, reference_in, reference_at, World}
 use Rattle.ref_mark.proofs.Common.{with_heap, pending_numbers, State, is_in_cycle, CycleHeap, is_white, is_past_mark}
-use Rattle.ref_mark.proofs.Common.{is_due, doomed, FactsBut, Coloured, Reached, FoundBut, numbers, Tag}
+use Rattle.ref_mark.proofs.Common.{is_due, doomed, FactsBut, Coloured, Reached, FoundBut, numbers, Tag, Space}
 use Rattle.ref_base.proofs.PathLaws.{root_ends, target_ends}
 use Rattle.ref_mark.proofs.Shading.{MarkingBut}
 use Rattle.ref_base.proofs.StillFound.{are_found-still}
@@ -19,6 +19,7 @@ pub record Change : Type 0 where
   pub next : ℕ
   pub marked : List ℕ
   pub tags : List Tag
+  pub space : Space
 
 abbrev pub mutated : CycleHeap → Change → CycleHeap
 mutated k c = record k {
@@ -26,6 +27,7 @@ mutated k c = record k {
   next = c.next;
   marked = c.marked;
   tags = c.tags;
+  space = c.space;
 }
 
 -- the roots after it, where these references are pending
@@ -49,10 +51,10 @@ MayLead k c pending m n =
     (has (targets_at (is_kept k.policy) k.heap.objects m) n ≡ true) ⊎ (has (roots_after c pending) n ≡ true)
     ⊎ ((has (roots_after c pending) m ≡ true) × (is_in_cycle k.phase ≡ true → is_white k n ≡ false))
 
--- A step of a mutator: no object goes, and what comes is new; nothing else is doomed than before; no root is white but
--- for some numbers that are still to be shaded; what is named is there; where an object leads to another, this is
--- allowed; references stay references, and none refers to a white object that didn't before; and once a mark has ended
--- none stops to.
+-- A step of a mutator: no object goes, and what comes is new and healed; nothing else is doomed than before; no root is
+-- white but for some numbers that are still to be shaded; what is named is there; where an object leads to another,
+-- this is allowed; references stay references, and none refers to a white object that didn't before; and once a mark
+-- has ended none stops to.
 pub record IsMutation (k : CycleHeap) (c : Change) (pending todo : List ℕ) : Type 0 where
   pub next : k.next ≤ c.next
   pub stays : (n : ℕ) → is_there k.heap.objects n ≡ true → is_there c.objects n ≡ true
@@ -62,6 +64,7 @@ pub record IsMutation (k : CycleHeap) (c : Change) (pending todo : List ℕ) : T
   pub doomed : doomed (mutated k c) ≡ doomed k
   pub marked_stays : (n : ℕ) → has k.marked n ≡ true → has c.marked n ≡ true
   pub marked_was : (n : ℕ) → has c.marked n ≡ true → (has k.marked n ≡ true) ⊎ (k.next ≤ n)
+  pub unhealed : c.space.unhealed ≡ k.space.unhealed
   pub roots : is_in_cycle k.phase ≡ true → (n : ℕ) → has (roots_after c pending) n ≡ true
       → (is_white k n ≡ false) ⊎ (has todo n ≡ true)
   pub named : (n : ℕ) → has (roots_after c pending) n ≡ true → is_there c.objects n ≡ true

@@ -1,7 +1,7 @@
 -- The rows that make objects and references, and the rows that store into a field.
 use Rattle.ref_mark.proofs.Common.{arith, ◌≡◌, ℕ, ◌+◌, ◌*◌, true, false, zero, suc, refl, sym, ap, subst, ◌∙◌, List, []}
 use Rattle.ref_mark.proofs.Common.{◌++◌, Option, Some, None, inl, inr, nat_lt, cases_Bool, and_parts, false≢true}
-use Rattle.ref_mark.proofs.Common.{true≢false, with_new_tag, refers_into, has, Object, plain_object, Allowed, present}
+use Rattle.ref_mark.proofs.Common.{true≢false, refers_into, has, Object, plain_object, Allowed, present}
 use Rattle.ref_mark.proofs.Common.{targets_of, allowed_referent, soft_and_weak_referents, is_kept, is_new_clear, Heap}
 use Rattle.ref_mark.proofs.Common.{slot_at, nulls, new_reference, made, changed_in, with_heap, pending_numbers}
 use Rattle.ref_mark.proofs.Common.{has_slot, has_slots, unless, field_refusal, new_refusal, refer_refusal, State}
@@ -22,7 +22,7 @@ use Rattle.ref_base.proofs.Lookups.{allowed_referent-cases, has-present_set, has
 use Rattle.ref_mark.proofs.RootFacts.{slot_off, slot_root, root_is_not_white, slot_is_not_white, root_is_there}
 use Rattle.ref_mark.proofs.RootFacts.{slot_is_there}
 use Rattle.ref_mark.proofs.MutationKinds.{altered, MayBecome, altered_mutation}
-use Rattle.ref_mark.proofs.MadeObjects.{making, mutated-making, made_mutation}
+use Rattle.ref_mark.proofs.MadeObjects.{grown, making, mutated-making, made_mutation}
 use Rattle.ref_base.proofs.RowForms.{unless_passes}
 use Rattle.ref_base.specs.declared.heap_step.HeapStep.TheVariants as heap
 use Rattle.ref_base.specs.declared.plain_step.PlainStep.TheVariants as plain
@@ -49,7 +49,7 @@ made_stands k a m d o p stands slot number leads_off refers_off led shows same =
     subst (λ (j : CycleHeap). ReadsAs j (made a.world.heap m d p)) is
     (agrees_next k (with_made k m d o) (made a.world.heap m d p) (made (shown_heap k) m d o)
     (unsaid_same k (with_made k m d o)
-    (young-phase (record k { heap = made k.heap m d o; next = k.next + 1; tags = with_new_tag k.tags o.no }) o.no)
+    (young-phase (grown k m d o) o.no)
     (doomed-made k m d o new))
     shows
     (ap (λ (q : Object). heap_but (unsaid k) (made a.world.heap m d q)) same

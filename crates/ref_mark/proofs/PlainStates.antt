@@ -5,6 +5,7 @@ use Rattle.ref_mark.proofs.Common.{MarkStands}
 use Rattle.ref_mark.proofs.Agreeing.{same_before}
 use Rattle.ref_mark.proofs.Shading.{MarkingBut}
 use Rattle.ref_mark.proofs.DoomedLists.{shown_heap-before}
+use Rattle.ref_mark.proofs.HealedMarks.{AreUnscanned, unscanned_healed}
 
 -- ---- the parts that a state has of the heap that stands for it
 
@@ -30,8 +31,9 @@ plain_state-is k a phase stands is before = grind (arith, same_before, shown_hea
 pub marking_stands : (k : CycleHeap) (a : State) → k.phase ≡ Marking → a ≡ plain_state k Marking a
     → a.left ≡ not (is_empty k.grey) → a.born ≤ k.next → IsOrderly k.heap k.next
     → length a.scanned ≡ k.heap.config.workers → length k.found ≡ k.heap.config.workers
-    → AreThere k (graph_of a.world).roots → MarkingBut k a [] [] → MarkStands k a
-marking_stands k a phase plain left born orderly scanners finders there but = grind (arith, shown_heap-before)
+    → AreThere k (graph_of a.world).roots → AreUnscanned k a.born a.scanned → MarkingBut k a [] [] → MarkStands k a
+marking_stands k a phase plain left born orderly scanners finders there unscanned but =
+    grind (arith, shown_heap-before, unscanned_healed)
 
 -- a mark that is under way is so in its plain state
 pub plain_marking : (k : CycleHeap) (a : State) → MarkStands k a → k.phase ≡ Marking

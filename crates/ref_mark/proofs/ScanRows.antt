@@ -11,8 +11,11 @@ use Rattle.ref_mark.specs.MarkCalls.{scan_reply}
 use Rattle.ref_base.proofs.HasLaws.{has-first}
 use Rattle.ref_mark.proofs.Shading.{MarkingBut, shaded_all-only, shaded_all_marking, some_left, grey_is_left}
 use Rattle.ref_mark.proofs.RootFacts.{plain_there}
+use Rattle.ref_mark.specs.CycleHeaps.{cycle_healed}
+use Rattle.ref_objects.proofs.HealedLemmas.{has-without_number}
+use Rattle.ref_mark.proofs.HealedMarks.{AreUnscanned, unhealed_unscanned}
 use Rattle.ref_mark.proofs.PlainStates.{plain_state, plain_state-is, marking_stands, plain_marking}
-use Rattle.ref_base.proofs.FoundLists.{AreFound-scanned, AreFound-more_found}
+use Rattle.ref_base.proofs.FoundLists.{with_last, has-with_last, AreFound-scanned, AreFound-more_found}
 use Rattle.ref_mark.proofs.Scanning.{reached_later, without_first, state_scanned, without_first_marking}
 use Rattle.ref_mark.proofs.Scanning.{with_found-only, length-with_found, with_found_marking}
 use Rattle.ref_base.specs.declared.reply.Reply.TheVariants as replies
@@ -35,8 +38,13 @@ scan_none k a w stands phase is =
       b,
       (left ∙ ap (λ ns. not (is_empty ns)) is, (refl, refl)),
       marking_stands k b phase refl left stands.born stands.orderly stands.scanners stands.finders
-          (plain_there k a stands (ap (λ p. is_in p Sweeping) phase) k refl) later,
+          (plain_there k a stands (ap (λ p. is_in p Sweeping) phase) k refl) (unhealed_unscanned k a stands now) later,
     )
+
+-- of what is unhealed the others weren't scanned
+unscanned_still : (k : CycleHeap) (a : State) (w n : ℕ) → w < length a.scanned → AreUnscanned k a.born a.scanned
+    → AreUnscanned (cycle_healed k n) a.born (with_last a.scanned w n)
+unscanned_still k a w n within unscanned m unhealed = grind (arith, has-without_number, has-with_last)
 
 -- a scan of the first of the grey list
 scan_some : (k : CycleHeap) (a : State) (w n : ℕ) (rest : List ℕ) → MarkStands k a → k.phase ≡ Marking
@@ -47,7 +55,7 @@ scan_some k a w n rest stands phase within is =
     let but : MarkingBut k s [] [] = plain_marking k a stands phase in
     let first : has k.grey n ≡ true = ap (λ ns. has ns n) is ∙ has-first n rest in
     let targets : List ℕ = targets_at (is_kept k.policy) k.heap.objects n in
-    let one : CycleHeap = without_first k rest in
+    let one : CycleHeap = without_first k n rest in
     let j : CycleHeap = shaded_all one targets in
     let left : Bool = not (is_empty j.grey) in
     let b : State = state_scanned k a w n left in
@@ -72,6 +80,7 @@ scan_some k a w n rest stands phase within is =
     with_found_marking i b w n finder new
     (λ some. AreFound-more_found k.heap.objects a.scanned k.found w n some but.found.are_found)
     (subst (λ (l : CycleHeap). MarkingBut l b [] (n ∷ [])) only all_shaded) in
+    let now : is_in k.phase Marking ≡ true = ap (λ p. is_in p Marking) phase in
     let found : List (List ℕ) = (with_found i w n).found in
     let tags : List Tag = (with_found i w n).tags in
     let found_only : with_found i w n ≡ record i { found = found; tags = tags } = with_found-only i w n in
@@ -82,8 +91,8 @@ scan_some k a w n rest stands phase within is =
     marking_stands (record i { found = found; tags = tags }) b phase refl refl stands.born stands.orderly scanners
     finders
     (plain_there k a stands (ap (λ p. is_in p Sweeping) phase) (record i { found = found; tags = tags }) refl)
+    (unscanned_still k a w n scanner (unhealed_unscanned k a stands now))
     (subst (λ (l : CycleHeap). MarkingBut l b [] []) found_only done) in
-    let now : is_in k.phase Marking ≡ true = ap (λ p. is_in p Marking) phase in
     let was_left : a.left ≡ true = (stands.marking now).left ∙ ap (λ ns. not (is_empty ns)) is in
     let policy : b.world.policy ≡ j.policy = sym (ap (λ (l : CycleHeap). l.policy) only) in (
       b,

@@ -5,6 +5,7 @@ use Rattle.ref_mark.proofs.Common.{is_some, length-set, refers_into, has, Graph,
 use Rattle.ref_mark.proofs.Common.{graph_of, State, joined, Marking, CycleHeap, is_white, is_black, with_found}
 use Rattle.ref_mark.proofs.Common.{FactsBut, Coloured, Reached, FoundBut, list_at, linked_last_of}
 use Rattle.ref_base.specs.CollectorRows.{AreFound}
+use Rattle.ref_mark.specs.CycleHeaps.{cycle_healed}
 use Rattle.ref_base.proofs.HasLaws.{has-left}
 use Rattle.ref_base.proofs.PathLaws.{target_ends}
 use Rattle.ref_mark.proofs.Shading.{MarkingBut}
@@ -20,16 +21,16 @@ reached_later k moments g same reached = grind (arith, target_ends)
 
 -- ---- the first of the grey list becomes black
 
--- the first is off the grey list
-abbrev pub without_first : CycleHeap → List ℕ → CycleHeap
-without_first k rest = record k { grey = rest }
+-- the first is off the grey list, and healed
+abbrev pub without_first : CycleHeap → ℕ → List ℕ → CycleHeap
+without_first k n rest = cycle_healed (record k { grey = rest }) n
 
 black-without_first : (k : CycleHeap) (n m : ℕ) (rest : List ℕ) → k.grey ≡ n ∷ rest
-    → is_black (without_first k rest) m ≡ true → ((n == m) ≡ true) ⊎ (is_black k m ≡ true)
+    → is_black (without_first k n rest) m ≡ true → ((n == m) ≡ true) ⊎ (is_black k m ≡ true)
 black-without_first k n m rest is black = grind arith
 
 facts-without_first : (k : CycleHeap) (n : ℕ) (rest roots : List ℕ) → k.grey ≡ n ∷ rest → FactsBut k roots []
-    → FactsBut (without_first k rest) roots (targets_at (is_kept k.policy) k.heap.objects n ++ [])
+    → FactsBut (without_first k n rest) roots (targets_at (is_kept k.policy) k.heap.objects n ++ [])
 facts-without_first k n rest roots is facts = grind (arith, has-left)
 
 -- the state in which worker w scanned n in one more moment
@@ -40,17 +41,17 @@ state_scanned k a w n left =
 
 coloured-without_first : (k : CycleHeap) (born : ℕ) (lists : List (List ℕ)) (w n : ℕ) (rest : List ℕ)
     → k.grey ≡ n ∷ rest
-    → w < length lists → Coloured k born lists → Coloured (without_first k rest) born (with_last lists w n)
+    → w < length lists → Coloured k born lists → Coloured (without_first k n rest) born (with_last lists w n)
 coloured-without_first k born lists w n rest is within coloured = grind (arith, has-with_last, black-without_first k n)
 
 found-without_first : (k : CycleHeap) (lists : List (List ℕ)) (w n : ℕ) (rest : List ℕ) → k.grey ≡ n ∷ rest
-    → FoundBut k lists [] → FoundBut (without_first k rest) (with_last lists w n) (n ∷ [])
+    → FoundBut k lists [] → FoundBut (without_first k n rest) (with_last lists w n) (n ∷ [])
 found-without_first k lists w n rest is found = grind (arith, AreFound-more_scanned)
 
 -- what it leads to is still to be shaded, and it may be found late
 pub without_first_marking : (k : CycleHeap) (a : State) (w n : ℕ) (rest : List ℕ) (left : Bool) → k.grey ≡ n ∷ rest
     → w < length a.scanned → MarkingBut k (plain_state k Marking a) [] []
-    → MarkingBut (without_first k rest) (state_scanned k a w n left)
+    → MarkingBut (without_first k n rest) (state_scanned k a w n left)
     (targets_at (is_kept k.policy) k.heap.objects n ++ []) (n ∷ [])
 without_first_marking k a w n rest left is within but =
     search (reached_later, facts-without_first, coloured-without_first, found-without_first)

@@ -1,5 +1,6 @@
 -- What mutators do to a heap, they do to the heap as they read it.
-use Rattle.ref_mark.proofs.Common.{arith, ◌≡◌, ℕ, ◌+◌, ◌<◌, true, false, not, refl, ◌∙◌, ap, List, map, Option, Some}
+use Rattle.ref_mark.proofs.Common.{occupied, arith, ◌≡◌, ℕ, ◌+◌, ◌<◌, true, false, not, refl, ◌∙◌, ap, List, map}
+use Rattle.ref_mark.proofs.Common.{Option, Some}
 use Rattle.ref_mark.proofs.Common.{None, and_right, with_new_tag, has, Object, is_there, plain_object, any_is}
 use Rattle.ref_mark.proofs.Common.{refers_into, is_new_clear, Heap, reference_at, changed_in, with_reference, cleared}
 use Rattle.ref_mark.proofs.Common.{new_reference, made, shown, reference_of, Strength, CycleHeap, is_white}
@@ -43,7 +44,12 @@ young-heap k n = grind arith
 pub shown_heap-made : (k : CycleHeap) (m d : ℕ) (o : Object) → is_there k.heap.objects o.no ≡ false
     → is_new_clear (doomed k) o ≡ false → shown_heap (with_made k m d o) ≡ made (shown_heap k) m d o
 shown_heap-made k m d o new keeps =
-    let more : CycleHeap = record k { heap = made k.heap m d o; next = k.next + 1; tags = with_new_tag k.tags o.no } in
+    let more : CycleHeap = record k {
+      heap = made k.heap m d o;
+      next = k.next + 1;
+      tags = with_new_tag k.tags o.no;
+      space = occupied k.space o.no;
+    } in
     let same : (with_made k m d o).heap ≡ made k.heap m d o = young-heap more o.no in
     ap (λ (e : List ℕ). record (with_made k m d o).heap {
       objects = map (λ p. shown e p) (with_made k m d o).heap.objects;

@@ -128,4 +128,4 @@ module _ (k : CycleHeap) (a : State) (stands : MarkStands (cycle_in_phase k Swee
       kept_at d k.heap.objects n (has-unmarked k.heap.objects k.marked n ∙ simp marked (grind arith))
 
   pub sweep_begun_stands : MarkStands j a
-  sweep_begun_stands = grind (arith, reads, same_doomed, numbers-forgotten, white_same, marked_same)
+  sweep_begun_stands = grind (arith, reads, same_doomed, numbers-forgotten, white_same, marked_same, there_same)

@@ -4,7 +4,7 @@
 use Rattle.std.specs.Prelude.{ℕ, ◌+◌, Bool, true, false, ◌&&◌, ◌||◌, not, if◌then◌else◌, List, [], ◌∷◌, ◌++◌, replicate}
 use Rattle.std.specs.Prelude.{Option, Some, None, slice_set}
 use Rattle.ref_base.specs.Members.{has, rest_of}
-use Rattle.ref_base.specs.Graphs.{Object, is_there}
+use Rattle.ref_base.specs.Graphs.{Object, is_there, numbers}
 use Rattle.ref_base.specs.Paths.{present, targets_at}
 use Rattle.ref_base.specs.KeptPaths.{is_kept, policy_from}
 use Rattle.ref_base.specs.DoomedSets.{refers_into}
@@ -20,36 +20,41 @@ use Rattle.ref_base.specs.declared.policy.Policy.{Policy}
 use Rattle.ref_base.specs.declared.urgency.Urgency.{Urgency}
 use Rattle.ref_base.specs.declared.urgency.Urgency.TheVariants.{Normal}
 use Rattle.ref_space.specs.Tables.{Tag}
+use Rattle.ref_space.specs.ColouredWords.{cycle_colour}
 use Rattle.ref_objects.specs.Grounds.{unmarked, with_new_tag, without_tag, with_cleared_tag}
+use Rattle.ref_objects.specs.Grounds.{Space, first_space, occupied, vacated, coloured_anew, healed}
+use Rattle.ref_objects.specs.declared.start.Start.{Start}
 use Rattle.ref_mark.specs.Chains.{linked_last_of}
 
 -- A heap, the number of its next object; the objects that the cycle has reached, or that were made in it
--- once it had begun; the tag of each object; the grey list: those of the reached that are still to be scanned, in
--- order; for each worker the references that it found, and that weren't looked at since; the phase, the policy of
--- the cycle, and its number.
+-- once it had begun; the tag of each object; where the objects lie; the grey list: those of the reached that are still
+-- to be scanned, in order; for each worker the references that it found, and that weren't looked at since; the phase,
+-- the policy of the cycle, and its number.
 pub record CycleHeap : Type 0 where
   pub heap : Heap
   pub next : ℕ
   pub marked : List ℕ
   pub tags : List Tag
+  pub space : Space
   pub grey : List ℕ
   pub found : List (List ℕ)
   pub phase : Phase
   pub policy : Policy
   pub cycle : ℕ
 
--- at first there is nothing, and so many cycles were there
-abbrev pub first_cycle_heap : Config → ℕ → ℕ → ℕ → CycleHeap
-first_cycle_heap config number next cycle = record {
+-- at first there is nothing, and numbers begin so
+abbrev pub first_cycle_heap : Config → ℕ → Start → CycleHeap
+first_cycle_heap config number start = record {
   heap = first_heap config number;
-  next = next;
+  next = start.obj;
   marked = [];
   tags = [];
+  space = first_space config.cells start.page;
   grey = [];
   found = replicate config.workers [];
   phase = Idle;
   policy = policy_from config 0 Normal;
-  cycle = cycle;
+  cycle = start.cycle;
 }
 
 -- ---- colours
@@ -117,7 +122,12 @@ young k n = if is_in_cycle k.phase then blackened k n else k
 -- one more object, in the slot
 abbrev pub with_made : CycleHeap → ℕ → ℕ → Object → CycleHeap
 with_made k m d o =
-    young (record k { heap = made k.heap m d o; next = k.next + 1; tags = with_new_tag k.tags o.no }) o.no
+    young (record k {
+      heap = made k.heap m d o;
+      next = k.next + 1;
+      tags = with_new_tag k.tags o.no;
+      space = occupied k.space o.no;
+    }) o.no
 
 -- the slot holds what was loaded
 abbrev pub loaded : CycleHeap → ℕ → ℕ → Option ℕ → CycleHeap
@@ -148,11 +158,12 @@ reads_same k m s v =
 abbrev pub roots_of : Heap → List ℕ
 roots_of h = present h.slots ++ h.holds
 
--- all objects are white
+-- all objects are white, and another colour is good
 abbrev pub whitened : CycleHeap → ℕ → Urgency → CycleHeap
 whitened k now urgency = record k {
   heap = with_clock k.heap now;
   marked = [];
+  space = coloured_anew k.space (cycle_colour (k.cycle + 1)) (numbers k.heap.objects);
   grey = [];
   found = emptied k.found;
   phase = Marking;
@@ -174,11 +185,17 @@ with_found k w n =
     }
     else k
 
--- the first of the grey list becomes black, and what its fields and it, as a kept soft reference, refer to becomes grey
+-- each word of an object has the good colour
+abbrev pub cycle_healed : CycleHeap → ℕ → CycleHeap
+cycle_healed k n = record k { space = healed k.space n }
+
+-- the first of the grey list becomes black and is healed, and what its fields and it, as a kept soft reference, refer
+-- to becomes grey
 abbrev pub grey_scanned : CycleHeap → ℕ → List ℕ → CycleHeap
 grey_scanned k w [] = k
 grey_scanned k w (n ∷ rest) =
-    with_found (shaded_all (record k { grey = rest }) (targets_at (is_kept k.policy) k.heap.objects n)) w n
+    with_found (shaded_all (cycle_healed (record k { grey = rest }) n)
+    (targets_at (is_kept k.policy) k.heap.objects n)) w n
 
 abbrev pub scanned : CycleHeap → ℕ → CycleHeap
 scanned k w = grey_scanned k w k.grey
@@ -225,5 +242,6 @@ swept k n =
     then record k {
       heap = record k.heap { objects = without (n ∷ []) k.heap.objects };
       tags = without_tag k.tags n;
+      space = vacated k.space n;
     }
     else k

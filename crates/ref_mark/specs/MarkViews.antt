@@ -25,6 +25,7 @@ seen_marker g grey found phase policy cycle = record {
   next = g.next;
   marked = g.marked;
   tags = g.tags;
+  space = g.space;
   grey = grey.stands;
   found = found_in g found;
   phase = phase;
@@ -32,7 +33,8 @@ seen_marker g grey found phase policy cycle = record {
   cycle = cycle;
 }
 
--- the objects, slots and holds of the heap, with marks and tags: in a sweep what isn't marked is condemned
+-- the objects, slots and holds of the heap, with marks and tags, and where they lie: in a sweep what isn't marked is
+-- condemned
 abbrev pub ground_of : CycleHeap → Ground
 ground_of k = record {
   heap = k.heap;
@@ -40,6 +42,7 @@ ground_of k = record {
   marked = k.marked;
   tags = k.tags;
   condemning = is_in k.phase Sweeping;
+  space = k.space;
 }
 
 -- the look at the first that the worker found

@@ -70,6 +70,12 @@ pub record FoundBut (k : CycleHeap) (scanned : List (List ℕ)) (late : List ℕ
       (n : ℕ) → is_black k n ≡ true → refers_into (is_white k) (reference_at k.heap n) ≡ true
       → (has (joined k.found) n ≡ true) ⊎ (has late n ≡ true)
 
+-- an object may be unhealed only in a cycle that has begun, and only until it is scanned
+abbrev pub AreHealed : CycleHeap → Type 0
+AreHealed k =
+    (n : ℕ) → has k.space.unhealed n ≡ true
+    → (is_there k.heap.objects n ≡ true) × (is_in_cycle k.phase ≡ true) × (is_black k n ≡ false)
+
 -- ---- phases
 
 -- what holds in Marking: it is said that an object is left exactly where one is grey
@@ -124,6 +130,7 @@ pub record MarkStands (k : CycleHeap) (a : State) : Type 0 where
   pub scanners : length a.scanned ≡ k.heap.config.workers
   pub finders : length k.found ≡ k.heap.config.workers
   pub there : AreThere k (graph_of a.world).roots
+  pub healed : AreHealed k
   pub facts : is_in_cycle k.phase ≡ true → FactsBut k (graph_of a.world).roots []
   pub marking : is_in k.phase Marking ≡ true → InMarking k a.born a.moments a.scanned a.left
   pub clearing : is_in k.phase Clearing ≡ true → InClearing k a.found a.cleared

@@ -52,3 +52,9 @@ pub fn no_black_object_leads_to_a_white_one()
     ensures { (k : CycleHeap) (a : State) (m n : ℕ) → MarkStands k a → is_in_cycle k.phase ≡ true → is_black k m ≡ true
         → has (targets_at (is_kept k.policy) k.heap.objects m) n ≡ true → is_white k n ≡ false }
 {}
+
+/// Between cycles no object is unhealed: each word that an object holds has the good colour. In a cycle only what isn't
+/// scanned yet may hold a word of another.
+pub fn between_cycles_each_object_is_healed()
+    ensures { (k : CycleHeap) (a : State) → MarkStands k a → is_in_cycle k.phase ≡ false → k.space.unhealed ≡ [] }
+{}

@@ -23,14 +23,17 @@ pub use Rattle.ref_space.specs.Tables.{changed_tabled, counted_in, fields_in, fi
 pub use Rattle.ref_space.specs.Tables.{holds_in, holds_of, is_marked_in, is_unmarked_at, is_unmarked_in, less_held}
 pub use Rattle.ref_space.specs.Tables.{made_entry, made_of, marked_of, may_hold, numbers_by, objects_of, on_object}
 pub use Rattle.ref_space.specs.Tables.{slotted, slotted, table_blanked, table_freed, table_look, table_looked_at}
-pub use Rattle.ref_space.specs.Tables.{table_unmarked, tabled_at, tabled_fields, tabled_fields, tabled_held}
+pub use Rattle.ref_space.specs.Tables.{table_begun, tabled_at, tabled_fields, tabled_fields, tabled_held}
 pub use Rattle.ref_space.specs.Tables.{tabled_held, tabled_linked, tabled_reference, tabled_reference, tag_of, tags_of}
-pub use Rattle.ref_space.specs.Tables.{unmarked_of, with_marked, with_tabled, without_tabled}
+pub use Rattle.ref_space.specs.Tables.{unmarked_of, with_healed, with_marked, with_nothing_done, with_tabled}
+pub use Rattle.ref_space.specs.Tables.{without_tabled}
+pub use Rattle.ref_space.specs.declared.colour.Colour.{Colour}
 pub use Rattle.ref_space.specs.declared.cell.Change.{Change}
 pub use Rattle.ref_space.specs.declared.cell.Change.TheVariants.{ClearIn, ClearedIn, Cut, Link, Stamp}
-pub use Rattle.ref_objects.specs.GroundViews.{IsSoundGround, IsSoundObjects, Stored, made_at, seen_ground, with_slot_at}
-pub use Rattle.ref_objects.specs.GroundViews.{written}
+pub use Rattle.ref_objects.specs.GroundViews.{IsSoundGround, IsSoundObjects, Stored, made_at, seen_ground, space_of}
+pub use Rattle.ref_objects.specs.GroundViews.{unhealed_of, with_slot_at, written}
 pub use Rattle.ref_objects.specs.Grounds.{Ground, IsClosed, IsSparedIfAny, NamesSpared, after_freeing, all_marked}
-pub use Rattle.ref_objects.specs.Grounds.{all_newly_marked, changed_tag, ground_looked_at, ground_marked}
+pub use Rattle.ref_objects.specs.Grounds.{all_newly_marked, changed_tag, ground_healed, ground_looked_at, ground_marked}
 pub use Rattle.ref_objects.specs.Grounds.{ground_marked_if_any, ground_with_heap, is_spared, least_from, look_of}
-pub use Rattle.ref_objects.specs.Grounds.{named_in, newly_marked, unmarked, with_condemned, without_marks}
+pub use Rattle.ref_objects.specs.Grounds.{marks_begun}
+pub use Rattle.ref_objects.specs.Grounds.{named_in, newly_marked, unmarked, with_condemned, without_number}

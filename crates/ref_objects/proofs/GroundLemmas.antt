@@ -12,6 +12,9 @@ use Rattle.ref_space.specs.Tables.{more_held}
 use Rattle.ref_base.specs.Refusals.{object_refusal}
 use Rattle.ref_base.specs.declared.fault.Fault.TheVariants.{NoCell}
 use Rattle.ref_objects.specs.GroundViews.{heap_of}
+use Rattle.ref_space.specs.Tables.{is_marked, is_healed}
+use Rattle.ref_objects.proofs.Common.{unhealed_of, not, eq-eqb}
+use Rattle.ref_space.proofs.PushLemmas.{made_marked}
 use Rattle.ref_space.proofs.TabledLemmas.{objects_of-changed, map-changed, objects_of-without}
 use Rattle.ref_objects.proofs.NumberLemmas.{has-numbers_by, numbers_by-more, least_from-below}
 use Rattle.ref_space.proofs.CountLemmas.{length-changed, length-without, numbers_by-changed, numbers_by-made}
@@ -19,6 +22,7 @@ use Rattle.ref_space.proofs.CountLemmas.{numbers_by-without, numbers_by-fewer, n
 use Rattle.ref_space.proofs.MarkCounts.{marked_of-without}
 use Rattle.ref_objects.proofs.MarkLemmas.{is_unmarked-tabled}
 use Rattle.ref_objects.proofs.TagLemmas.{tags_of-without, tags_of-changed}
+use Rattle.ref_objects.proofs.HealedLemmas.{unhealed_of-without}
 use Rattle.ref_space.specs.Tables as table
 
 -- ---- what is read
@@ -32,19 +36,27 @@ least_from-past (k ∷ ks) last n given past = grind (arith, least_from-below, l
 -- ---- a new object
 
 -- so many null fields and this reference are an object that the slot at a place holds
-abbrev pub with_made_at : Stored → ℕ → ℕ → Option Reference → List (Option ℕ) → Stored
-with_made_at s place k r occupants = record s {
-  table = with_tabled s.table place (made_entry s.next k r s.condemning) occupants;
+abbrev pub with_made_at : Stored → ℕ → ℕ → Option Reference → Stored
+with_made_at s place k r = record s {
+  table = with_tabled s.table place (made_entry s.table.round.number s.next k r s.condemning);
   next = s.next + 1;
 }
 
 -- the new object stands last among the marked, where it is marked
-marked_of-made : (ks : List Tabled) (k : Tabled) (last : ℕ) → AllUpTo last (numbers (objects_of ks))
-    → last < k.object.no → (b : Bool) → k.marked ≡ b
-    → marked_of (ks ++ k ∷ []) ≡ (if b then one_more (marked_of ks) k.object.no else marked_of ks)
-marked_of-made ks k last given above true is =
-    numbers_by-last (λ k. from_bool k.marked) ks k last given above (ap from_bool is)
-marked_of-made ks k last given above false is = numbers_by-made (λ k. from_bool k.marked) ks k (ap from_bool is)
+marked_of-made : (q : ℕ) (ks : List Tabled) (k : Tabled) (last : ℕ) → AllUpTo last (numbers (objects_of ks))
+    → last < k.object.no → (b : Bool) → is_marked q k ≡ b
+    → marked_of q (ks ++ k ∷ []) ≡ (if b then one_more (marked_of q ks) k.object.no else marked_of q ks)
+marked_of-made q ks k last given above true is =
+    numbers_by-last (λ k. from_bool (is_marked q k)) ks k last given above (ap from_bool is)
+marked_of-made q ks k last given above false is =
+    numbers_by-made (λ k. from_bool (is_marked q k)) ks k (ap from_bool is)
+
+-- and is healed
+unhealed_of-made : (q : ℕ) (ks : List Tabled) (n count : ℕ) (r : Option Reference) (marked : Bool)
+    → unhealed_of q (ks ++ made_entry q n count r marked ∷ []) ≡ unhealed_of q ks
+unhealed_of-made q ks n count r marked =
+    numbers_by-made (λ k. from_bool (not (is_healed q k))) ks (made_entry q n count r marked)
+    (ap (λ b. from_bool (not b)) (eq-eqb q q refl))
 
 module _ {s : Stored} (sound : IsSoundGround s) where
   pub no_cell : (k : ℕ) → k ≤ 8 → s.next < 2 ^ 32 → (length s.table.tabled == s.table.room) ≡ true
@@ -55,19 +67,20 @@ module _ {s : Stored} (sound : IsSoundGround s) where
       → object_refusal (heap_of s) s.next k ≡ None
   has_cell k few below spare = grind (arith, length-map)
 
-  pub sound_made : (place k : ℕ) (r : Option Reference) (occupants : List (Option ℕ)) → s.next < 2 ^ 32
-      → IsSoundGround (with_made_at s place k r occupants)
-  sound_made place k r occupants below = grind (arith, length-set, numbers_by-made)
+  pub sound_made : (place k : ℕ) (r : Option Reference) → s.next < 2 ^ 32
+      → IsSoundGround (with_made_at s place k r)
+  sound_made place k r below = grind (arith, length-set, numbers_by-made)
 
-  pub seen_made : (place k : ℕ) (r : Option Reference) (occupants : List (Option ℕ))
-      → AllUpTo s.table.last (numbers (objects_of s.table.tabled))
-      → seen_ground (with_made_at s place k r occupants) ≡ made_at (seen_ground s) place k r
-  seen_made place k r occupants given =
+  pub seen_made : (place k : ℕ) (r : Option Reference) → AllUpTo s.table.last (numbers (objects_of s.table.tabled))
+      → 1 ≤ s.table.round.number → seen_ground (with_made_at s place k r) ≡ made_at (seen_ground s) place k r
+  seen_made place k r given begun =
       search (
         map-append,
         numbers_by-made,
-        marked_of-made s.table.tabled (made_entry s.next k r s.condemning) s.table.last given sound.given s.condemning
-            refl,
+        marked_of-made s.table.round.number s.table.tabled
+            (made_entry s.table.round.number s.next k r s.condemning) s.table.last given sound.given s.condemning
+            (made_marked s.table.round.number s.next k r s.condemning begun),
+        unhealed_of-made s.table.round.number s.table.tabled s.next k r s.condemning,
       )
 
   -- ---- an object changed
@@ -83,11 +96,11 @@ module _ {s : Stored} (sound : IsSoundGround s) where
 
   -- a change of an object's tag alone
   seen_tagged : (n : ℕ) (f : Tabled → Tabled) (g : Tag → Tag) → ((k : Tabled) → (f k).object ≡ k.object)
-      → ((k : Tabled) → (f k).holds ≡ k.holds) → ((k : Tabled) → (f k).marked ≡ k.marked)
-      → ((k : Tabled) → tag_of (f k) ≡ g (tag_of k))
+      → ((k : Tabled) → (f k).holds ≡ k.holds) → ((k : Tabled) → (f k).marked_in ≡ k.marked_in)
+      → ((k : Tabled) → (f k).healed_in ≡ k.healed_in) → ((k : Tabled) → tag_of (f k) ≡ g (tag_of k))
       → seen_ground (record s { table = changed s.table n f })
       ≡ record (seen_ground s) { tags = changed_tag (tags_of s.table.tabled) n g }
-  seen_tagged n f g object holds marked is =
+  seen_tagged n f g object holds marked healed is =
       grind (arith, map-changed, numbers_by-changed, tags_of-changed s.table.tabled n f g is)
 
   -- an object's reference is cleared, in this cycle
@@ -149,9 +162,9 @@ module _ {s : Stored} (sound : IsSoundGround s) (n : ℕ) where
   -- ---- an object goes
 
   -- of one that nobody holds no hold is counted
-  pub sound_freed : (occupants : List (Option ℕ)) → holds_in (tabled_at s.table.tabled n) ≡ 0
-      → IsSoundGround (record s { table = table.table_freed s.table n occupants })
-  sound_freed occupants none = grind (arith, length-without)
+  pub sound_freed : holds_in (tabled_at s.table.tabled n) ≡ 0
+      → IsSoundGround (record s { table = table.table_freed s.table n })
+  sound_freed none = grind (arith, length-without)
 
   module _ (rising : IsRising (numbers (objects_of s.table.tabled))) where
     pub seen_added : is_some (tabled_at s.table.tabled n) ≡ true
@@ -165,7 +178,15 @@ module _ {s : Stored} (sound : IsSoundGround s) (n : ℕ) where
     seen_dropped held = search (map-changed, holds_of-dropped, numbers_by-changed)
 
     -- a condemned object goes
-    pub seen_freed : (occupants : List (Option ℕ)) → s.condemning ≡ true → holds_in (tabled_at s.table.tabled n) ≡ 0
-        → seen_ground (record s { table = table.table_freed s.table n occupants }) ≡ after_freeing (seen_ground s) n
-    seen_freed occupants goes none =
-        grind (arith, is_unmarked-tabled, objects_of-without, numbers_by-without, marked_of-without, tags_of-without)
+    pub seen_freed : s.condemning ≡ true → holds_in (tabled_at s.table.tabled n) ≡ 0
+        → seen_ground (record s { table = table.table_freed s.table n }) ≡ after_freeing (seen_ground s) n
+    seen_freed goes none =
+        grind (
+          arith,
+          is_unmarked-tabled,
+          objects_of-without,
+          numbers_by-without,
+          marked_of-without,
+          tags_of-without,
+          unhealed_of-without,
+        )

@@ -2,6 +2,7 @@ pub mod Common
 pub mod NumberLemmas
 pub mod GroundLemmas
 pub mod MarkLemmas
+pub mod HealedLemmas
 pub mod MarkedLemmas
 pub mod TagLemmas
 pub mod NewMarks

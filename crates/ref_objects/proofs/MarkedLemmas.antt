@@ -1,17 +1,21 @@
--- What a contract sees of a heap's objects as one is marked, as no mark is left, and as what isn't marked is condemned.
+-- What a contract sees of a heap's objects as one is marked, as a cycle begins, and as what isn't marked is condemned.
 use Rattle.ref_objects.proofs.Common.{◌≡◌, ℕ, ◌<◌, true, refl, ap, arith, List, [], ◌∷◌, false, not, suc, map}
 use Rattle.ref_objects.proofs.Common.{false≢true, Object, is_there, numbers, IsRising, Tabled, objects_of, changed}
 use Rattle.ref_objects.proofs.Common.{with_marked, AllUpTo, seen_ground, IsSoundGround, unmarked_of, tags_of, Stored}
-use Rattle.ref_objects.proofs.Common.{table_blanked, blanked_unless_marked, ground_marked, without_marks}
+use Rattle.ref_objects.proofs.Common.{table_blanked, blanked_unless_marked, ground_marked, marks_begun, table_begun}
+use Rattle.ref_objects.proofs.Common.{Colour}
+use Rattle.ref_objects.proofs.Common.{with_nothing_done, with_healed, ground_healed}
 use Rattle.ref_objects.proofs.Common.{with_condemned, forgotten, from_bool}
-use Rattle.ref_space.specs.Tables.{table_unmarked as without_table_marks}
 use Rattle.ref_space.proofs.CountLemmas.{numbers_by-changed, IsRising-tail}
 use Rattle.ref_objects.proofs.NumberLemmas.{has-from, AllFrom-numbers_by}
 use Rattle.ref_space.proofs.TabledLemmas.{map-changed, map-each}
 use Rattle.ref_space.proofs.MarkCounts.{marked_of-marked_again}
 use Rattle.ref_objects.proofs.MarkLemmas.{is_unmarked-tabled, unmarked-tabled, marked_of-marked}
-use Rattle.ref_space.proofs.EachLemmas.{marked_of-unmarked_tabled, numbers_by-each, blanked_keeps, blanked_marked}
+use Rattle.ref_space.proofs.EachLemmas.{marked_of-anew, numbers_by-each, blanked_keeps, blanked_marked}
 use Rattle.ref_space.proofs.EachLemmas.{blanked_holds}
+use Rattle.ref_objects.proofs.HealedLemmas.{unhealed_of-next, unhealed_of-anew, unhealed_of-healed, marked_of-next}
+use Rattle.ref_space.specs.Tables.{is_marked, is_healed, AllDated}
+use Rattle.ref_objects.proofs.Common.{◌==◌, ◌^◌, ◌-◌, nat_lt, cases_Bool, inl, inr}
 
 -- a number below those of the objects forgets none of them
 forgotten-above : (d : List ℕ) (os : List Object) (m : ℕ) → IsRising (m ∷ numbers os)
@@ -20,31 +24,56 @@ forgotten-above d [] m rising = refl
 forgotten-above d (o ∷ os) m rising = grind (arith, forgotten-above d os m)
 
 -- what isn't marked is forgotten
-objects_of-blanked : (ks : List Tabled) → IsRising (numbers (objects_of ks))
-    → objects_of (map blanked_unless_marked ks) ≡ map (λ o. forgotten (unmarked_of ks) o) (objects_of ks)
-objects_of-blanked [] rising = refl
-objects_of-blanked (k ∷ ks) rising =
-    let below = has-from (unmarked_of ks) k.object.no
-    (AllFrom-numbers_by (λ k. from_bool (not k.marked)) ks (suc k.object.no) k.object.no (omega arith) rising) in
-    grind (arith, forgotten-above (unmarked_of ks) (objects_of ks) k.object.no, objects_of-blanked ks, IsRising-tail)
+objects_of-blanked : (r : ℕ) (ks : List Tabled) → IsRising (numbers (objects_of ks))
+    → objects_of (map (blanked_unless_marked r) ks) ≡ map (λ o. forgotten (unmarked_of r ks) o) (objects_of ks)
+objects_of-blanked r [] rising = refl
+objects_of-blanked r (k ∷ ks) rising =
+    let below = has-from (unmarked_of r ks) k.object.no
+    (AllFrom-numbers_by (λ k. from_bool (not (is_marked r k))) ks (suc k.object.no) k.object.no (omega arith) rising) in
+    grind (
+      arith,
+      forgotten-above (unmarked_of r ks)
+          (objects_of ks) k.object.no,
+      objects_of-blanked r ks,
+      IsRising-tail,
+    )
 
-tags_of-blanked : (ks : List Tabled) → tags_of (map blanked_unless_marked ks) ≡ tags_of ks
-tags_of-blanked [] = refl
-tags_of-blanked (k ∷ ks) = grind (arith, tags_of-blanked ks)
+blanked_healed : (r : ℕ) (k : Tabled) → (blanked_unless_marked r k).healed_in ≡ k.healed_in
+blanked_healed r k = grind arith
+
+tags_of-blanked : (r : ℕ) (ks : List Tabled) → tags_of (map (blanked_unless_marked r) ks) ≡ tags_of ks
+tags_of-blanked r [] = refl
+tags_of-blanked r (k ∷ ks) = grind (arith, tags_of-blanked r ks)
 
 module _ {s : Stored} (sound : IsSoundGround s) where
-  -- no object is marked
-  pub sound_without_marks : IsSoundGround (record s { table = without_table_marks s.table; condemning = false })
-  sound_without_marks = search numbers_by-each
+  -- no object is marked, and this colour is good
+  module _ (good : Colour) (dated : AllDated s.table.round.number s.table.tabled) where
+    pub sound_begun : IsSoundGround (record s { table = table_begun s.table good; condemning = false })
+    sound_begun =
+        elim (cases_Bool (nat_lt s.table.round.number (2 ^ 64 - 1))) [
+          | inl next ↦ simp next (search numbers_by-each)
+          | inr spent ↦ simp spent (search numbers_by-each)
+        ]
 
-  pub seen_without_marks : seen_ground (record s { table = without_table_marks s.table; condemning = false })
-      ≡ without_marks (seen_ground s)
-  seen_without_marks =
-      search (
-        map-each,
-        numbers_by-each (with_marked false) (λ k. refl) (λ k. k.holds) (λ k. refl),
-        marked_of-unmarked_tabled,
-      )
+    pub seen_begun : seen_ground (record s { table = table_begun s.table good; condemning = false })
+        ≡ marks_begun (seen_ground s) good
+    seen_begun =
+        elim (cases_Bool (nat_lt s.table.round.number (2 ^ 64 - 1))) [
+          | inl next ↦
+              simp next
+              (search (
+                marked_of-next s.table.round.number s.table.tabled dated,
+                unhealed_of-next s.table.round.number s.table.tabled dated,
+              ))
+          | inr spent ↦
+              simp spent
+              (search (
+                map-each,
+                numbers_by-each with_nothing_done (λ k. refl) (λ k. k.holds) (λ k. refl),
+                marked_of-anew,
+                unhealed_of-anew,
+              ))
+        ]
 
   -- what isn't marked is condemned
   pub sound_blanked : IsSoundGround (record s { table = table_blanked s.table; condemning = true })
@@ -55,19 +84,32 @@ module _ {s : Stored} (sound : IsSoundGround s) where
         ≡ with_condemned (seen_ground s)
     seen_condemned =
         search (
-          objects_of-blanked s.table.tabled rising,
-          unmarked-tabled s.table.tabled rising,
+          objects_of-blanked s.table.round.number s.table.tabled rising,
+          unmarked-tabled s.table.round.number s.table.tabled rising,
           tags_of-blanked,
-          numbers_by-each blanked_unless_marked blanked_keeps (λ k. k.holds) blanked_holds,
-          numbers_by-each blanked_unless_marked blanked_keeps (λ k. from_bool k.marked)
-              (λ k. ap from_bool (blanked_marked k)),
+          numbers_by-each (blanked_unless_marked s.table.round.number) (blanked_keeps s.table.round.number)
+              (λ k. k.holds)
+              (blanked_holds s.table.round.number),
+          numbers_by-each (blanked_unless_marked s.table.round.number) (blanked_keeps s.table.round.number)
+              (λ k. from_bool (is_marked s.table.round.number k))
+              (λ k. ap (λ m. from_bool (m == s.table.round.number)) (blanked_marked s.table.round.number k)),
+          numbers_by-each (blanked_unless_marked s.table.round.number) (blanked_keeps s.table.round.number)
+              (λ k. from_bool (not (is_healed s.table.round.number k)))
+              (λ k. ap (λ m. from_bool (not (m == s.table.round.number))) (blanked_healed s.table.round.number k)),
         )
 
     -- one object is marked
     pub seen_marked : (n : ℕ)
-        → seen_ground (record s { table = changed s.table n (with_marked true) }) ≡ ground_marked (seen_ground s) n
+        → seen_ground (record s { table = changed s.table n (with_marked s.table.round.number) })
+        ≡ ground_marked (seen_ground s) n
     seen_marked n =
         grind (arith, is_unmarked-tabled, map-changed, numbers_by-changed, marked_of-marked, marked_of-marked_again)
+
+    -- one object is healed
+    pub seen_healed : (n : ℕ)
+        → seen_ground (record s { table = changed s.table n (with_healed s.table.round.number) })
+        ≡ ground_healed (seen_ground s) n
+    seen_healed n = grind (arith, map-changed, numbers_by-changed, unhealed_of-healed)
 
 -- numbers up to the last are below the next
 pub there_below : (os : List Object) (last next : ℕ) → last < next → AllUpTo last (numbers os) → (n : ℕ)

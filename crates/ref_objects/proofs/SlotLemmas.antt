@@ -79,7 +79,8 @@ module _ {s : Stored} (sound : IsSoundObjects s) where
 
   -- whether it refers to what isn't marked
   pub unmarked-held : IsRising (numbers (objects_of s.table.tabled)) → (value : Option ℕ)
-      → refers_into (is_unmarked_at s.table.tabled) (tabled_reference (tabled_if s.table.tabled value))
+      → refers_into (is_unmarked_at s.table.round.number s.table.tabled) (tabled_reference
+      (tabled_if s.table.tabled value))
       ≡ refers_into (is_unmarked was) (reference_of was.heap value)
   unmarked-held rising value = search (refers_into-same, is_unmarked-tabled, reference-held)
 
@@ -170,11 +171,11 @@ module _ {s : Stored} (sound : IsSoundObjects s) where
     seen_written_in = rw (own_change, ← view) (seen_written sound.ground n change)
 
   -- an object is made, which refers to what a slot holds if it is a reference
-  pub new_sound : (place k : ℕ) (r : Option NewReference) (occupants : List (Option ℕ)) → s.next < 2 ^ 32
-      → AllUpTo s.table.last (numbers (objects_of s.table.tabled))
-      → IsSoundObjects (with_made_at s place k (option_map (made_of s.table.slots) r) occupants)
-  new_sound place k r occupants below given =
-      made_sound sound place k (option_map (made_of s.table.slots) r) occupants below given refl (spared_new r)
+  pub new_sound : (place k : ℕ) (r : Option NewReference) → s.next < 2 ^ 32
+      → AllUpTo s.table.last (numbers (objects_of s.table.tabled)) → 1 ≤ s.table.round.number
+      → IsSoundObjects (with_made_at s place k (option_map (made_of s.table.slots) r))
+  new_sound place k r below given begun =
+      made_sound sound place k (option_map (made_of s.table.slots) r) below given begun refl (spared_new r)
     where
       spared_new : (r : Option NewReference)
           → IsSparedIfAny was (referent_of (option_map (made_of s.table.slots) r))
@@ -206,7 +207,7 @@ rising_marked : (t : Table) (value : Option ℕ) → IsRising (numbers (objects_
     → IsRising (numbers (objects_of (marked_if t value).tabled))
 rising_marked t None rising = rising
 rising_marked t (Some n) rising =
-    grind (arith, map-changed (λ k. k.object) (with_marked true) (λ k. refl) t.tabled n)
+    grind (arith, map-changed (λ k. k.object) (with_marked t.round.number) (λ k. refl) t.tabled n)
 
 module _ {s : Stored} (sound : IsSoundObjects s) (rising : IsRising (numbers (objects_of s.table.tabled))) where
   -- of what a slot or a field holds
@@ -279,7 +280,8 @@ none_names (k ∷ ks) n rising none = (own, none_names ks n (IsRising-tail k.obj
 
 -- nothing names what is condemned
 pub condemned_unnamed : {s : Stored} → IsSoundObjects s → IsRising (numbers (objects_of s.table.tabled))
-    → s.condemning ≡ true → (n : ℕ) → is_unmarked_in (tabled_at s.table.tabled n) ≡ true → IsUnnamed s.table n
+    → s.condemning ≡ true → (n : ℕ) → is_unmarked_in s.table.round.number (tabled_at s.table.tabled n) ≡ true
+    → IsUnnamed s.table n
 condemned_unnamed {s} sound rising condemned n unmarked = record {
   slots =
       unless_named (present s.table.slots)

@@ -1,11 +1,12 @@
 -- What each call that writes fields of a heap's objects leaves sound.
 use Rattle.ref_objects.proofs.Common.{◌≡◌, ℕ, ◌+◌, ◌-◌, ◌*◌, ◌^◌, ◌<◌, ◌≤◌, Bool, true, false, refl, sym, ap, subst}
-use Rattle.ref_objects.proofs.Common.{◌∙◌, arith, List, [], ◌++◌, length, replicate, Option, None, object_at, present}
+use Rattle.ref_objects.proofs.Common.{◌∙◌, arith, [], ◌++◌, length, replicate, Option, None, object_at, present}
 use Rattle.ref_objects.proofs.Common.{is_within_limits, named_in, is_some, false≢true, lt-ltb, cases_Bool, inl, inr}
 use Rattle.ref_objects.proofs.Common.{if◌then◌else◌, length-set, length-replicate, has, Reference, numbers, with_field}
 use Rattle.ref_objects.proofs.Common.{with_hold, IsRising, referent_of, AllUpTo, Table, tabled_at, objects_of, holds_of}
 use Rattle.ref_objects.proofs.Common.{holds_in, changed, on_object, less_held, with_marked, is_unmarked_in}
-use Rattle.ref_objects.proofs.Common.{is_marked_in, table_freed, seen_ground, table_unmarked, change_of, table_blanked}
+use Rattle.ref_objects.proofs.Common.{is_marked_in, table_freed, seen_ground, table_begun, change_of, table_blanked}
+use Rattle.ref_objects.proofs.Common.{Colour, with_healed}
 use Rattle.ref_objects.proofs.Common.{table_looked_at, may_hold, from_bool, Ground, NamesSpared, IsClosed}
 use Rattle.ref_objects.proofs.Common.{IsSparedIfAny, is_spared, after_freeing, ground_with_heap, Stored, IsSoundGround}
 use Rattle.ref_objects.proofs.Common.{Change, held_at, slotted, IsSoundObjects}
@@ -17,14 +18,15 @@ use Rattle.ref_space.proofs.TabledLemmas.{is_there-objects_of}
 use Rattle.ref_objects.proofs.MarkLemmas.{is_unmarked-tabled, has-marked_of}
 use Rattle.ref_space.proofs.CellChanges.{change_keeps}
 use Rattle.ref_space.proofs.TableReads.{change_holds, changed-held}
+use Rattle.ref_space.specs.Tables.{AllDated}
 use Rattle.ref_objects.proofs.GroundLemmas.{sound_made, seen_made, sound_changed, seen_changed}
 use Rattle.ref_objects.proofs.GroundLemmas.{seen_written, has-holds_of, sound_added, sound_dropped, seen_added}
 use Rattle.ref_objects.proofs.GroundLemmas.{seen_dropped, sound_freed, seen_freed, with_made_at}
-use Rattle.ref_objects.proofs.MarkedLemmas.{seen_marked, sound_without_marks, seen_without_marks, sound_blanked}
-use Rattle.ref_objects.proofs.MarkedLemmas.{seen_condemned}
+use Rattle.ref_objects.proofs.MarkedLemmas.{seen_marked, sound_begun, seen_begun, sound_blanked}
+use Rattle.ref_objects.proofs.MarkedLemmas.{seen_condemned, seen_healed}
 use Rattle.ref_objects.proofs.LookLemmas.{looked_seen, sound_looked}
 use Rattle.ref_objects.proofs.SparedLemmas.{names_slot, names_made, names_field, names_written, names_looked}
-use Rattle.ref_objects.proofs.SparedLemmas.{names_held, names_unheld, names_marked, names_without_marks}
+use Rattle.ref_objects.proofs.SparedLemmas.{names_held, names_unheld, names_marked, names_begun, names_healed}
 use Rattle.ref_objects.proofs.SparedLemmas.{names_none_condemned, names_freed, names_condemned, spared_hold}
 use Rattle.ref_objects.proofs.SparedLemmas.{spared_slot, no_names}
 
@@ -59,11 +61,11 @@ module _ {s : Stored} (sound : IsSoundObjects s) where
       subst (λ (h : Ground). IsSparedIfAny h value) view (spared_slot was sound.closed place value reads)
 
   -- an object is made
-  pub made_sound : (place k : ℕ) (r : Option Reference) (occupants : List (Option ℕ)) → s.next < 2 ^ 32
-      → AllUpTo s.table.last (numbers (objects_of s.table.tabled)) → {g : Ground} → was ≡ g
-      → IsSparedIfAny g (referent_of r) → IsSoundObjects (with_made_at s place k r occupants)
-  made_sound place k r occupants below given view spared =
-      leaves (sound_made sound.ground place k r occupants below) (seen_made sound.ground place k r occupants given)
+  pub made_sound : (place k : ℕ) (r : Option Reference) → s.next < 2 ^ 32
+      → AllUpTo s.table.last (numbers (objects_of s.table.tabled)) → 1 ≤ s.table.round.number → {g : Ground} → was ≡ g
+      → IsSparedIfAny g (referent_of r) → IsSoundObjects (with_made_at s place k r)
+  made_sound place k r below given begun view spared =
+      leaves (sound_made sound.ground place k r below) (seen_made sound.ground place k r given begun)
       (names_made was place k r sound.closed (rw view spared))
 
   -- a field is written
@@ -87,9 +89,10 @@ module _ {s : Stored} (sound : IsSoundObjects s) where
   pub ended_sound : IsSoundObjects (record s { condemning = false })
   ended_sound = search names_none_condemned
 
-  -- no object is marked
-  pub unmarked_sound : IsSoundObjects (record s { table = table_unmarked s.table; condemning = false })
-  unmarked_sound = search (sound_without_marks, seen_without_marks, names_without_marks)
+  -- a cycle begins
+  pub begun_sound : (good : Colour) → AllDated s.table.round.number s.table.tabled
+      → IsSoundObjects (record s { table = table_begun s.table good; condemning = false })
+  begun_sound good dated = search (sound_begun sound.ground good dated, seen_begun sound.ground good dated, names_begun)
 
   module _ (rising : IsRising (numbers (objects_of s.table.tabled))) where
     -- what isn't marked is condemned
@@ -106,33 +109,43 @@ module _ {s : Stored} (sound : IsSoundObjects s) where
       looked_sound cycle = search (sound_looked, looked_seen, names_looked)
 
       -- an object is marked
-      pub marked_sound : IsSoundObjects (record s { table = changed s.table n (with_marked true) })
+      pub marked_sound : IsSoundObjects (record s { table = changed s.table n (with_marked s.table.round.number) })
       marked_sound = search (sound_changed, seen_marked, names_marked)
 
+      -- an object is healed
+      pub healed_sound : IsSoundObjects (record s { table = changed s.table n (with_healed s.table.round.number) })
+      healed_sound = search (sound_changed, seen_healed, names_healed)
+
       -- the object may be held exactly where it is spared
-      pub may_hold_spared : may_hold s.condemning (tabled_at s.table.tabled n) ≡ is_spared was n
+      pub may_hold_spared : may_hold s.table.round.number s.condemning (tabled_at s.table.tabled n) ≡ is_spared was n
       may_hold_spared = grind (arith, has-marked_of, is_there-objects_of, is_unmarked-tabled)
 
       -- one more hold
       module _ {g : Ground} (view : was ≡ g) where
-        spared_at : (b : Bool) → b ≡ may_hold s.condemning (tabled_at s.table.tabled n) → is_spared g n ≡ b
+        spared_at : (b : Bool) → b ≡ may_hold s.table.round.number s.condemning (tabled_at s.table.tabled n)
+            → is_spared g n ≡ b
         spared_at b may = sym (ap (λ (g : Ground). is_spared g n) view) ∙ sym may_hold_spared ∙ sym may
 
-        there_at : true ≡ may_hold s.condemning (tabled_at s.table.tabled n)
+        there_at : true ≡ may_hold s.table.round.number s.condemning (tabled_at s.table.tabled n)
             → is_some (tabled_at s.table.tabled n) ≡ true
         there_at may = grind (arith, may_hold_spared, is_there-objects_of)
 
-        pub held_sound : (b : Bool) → b ≡ may_hold s.condemning (tabled_at s.table.tabled n) → {more : ℕ}
+        pub held_sound : (b : Bool) → b ≡ may_hold s.table.round.number s.condemning (tabled_at s.table.tabled n)
+            → {more : ℕ}
             → more ≡ from_bool b → IsSoundObjects
-            (record s { table = changed s.table n (more_held_if s.condemning); holds = s.holds + more })
+            (record s {
+              table = changed s.table n (more_held_if s.table.round.number s.condemning);
+              holds = s.holds +
+                  more;
+            })
         held_sound true may {more} one =
-            rw (changed-held s.table.tabled n s.condemning true (sym may), one)
+            rw (changed-held s.table.round.number s.table.tabled n s.condemning true (sym may), one)
             (leaves (sound_added sound.ground n (there_at may)) (seen_added sound.ground n rising (there_at may))
             (names_held was n sound.closed (sym may_hold_spared ∙ sym may)))
         held_sound false may {more} one = grind (arith, changed-held)
 
-        pub held_seen : (b : Bool) → b ≡ may_hold s.condemning (tabled_at s.table.tabled n)
-            → seen_ground (record s { table = changed s.table n (more_held_if s.condemning) })
+        pub held_seen : (b : Bool) → b ≡ may_hold s.table.round.number s.condemning (tabled_at s.table.tabled n)
+            → seen_ground (record s { table = changed s.table n (more_held_if s.table.round.number s.condemning) })
             ≡ (if is_spared g n then ground_with_heap g (with_hold g.heap n) else g)
         held_seen true may = grind (arith, changed-held, seen_added, spared_at true may)
         held_seen false may = grind (arith, changed-held, spared_at false may)
@@ -156,25 +169,24 @@ module _ {s : Stored} (sound : IsSoundObjects s) where
 
       -- so nobody holds what is condemned
       module _ (condemned : s.condemning ≡ true) where
-        unheld : is_unmarked_in (tabled_at s.table.tabled n) ≡ true → holds_in (tabled_at s.table.tabled n) ≡ 0
+        unheld : is_unmarked_in s.table.round.number (tabled_at s.table.tabled n) ≡ true
+            → holds_in (tabled_at s.table.tabled n) ≡ 0
         unheld new = grind (arith, held_spared, is_unmarked-tabled)
 
-        pub freed_sound : (occupants : List (Option ℕ))
-            → IsSoundObjects (record s { table = table_freed s.table n occupants })
-        freed_sound occupants =
-            elim (cases_Bool (is_unmarked_in (tabled_at s.table.tabled n))) [
+        pub freed_sound : IsSoundObjects (record s { table = table_freed s.table n })
+        freed_sound =
+            elim (cases_Bool (is_unmarked_in s.table.round.number (tabled_at s.table.tabled n))) [
               | inl goes ↦
-                  leaves (sound_freed sound.ground n occupants (unheld goes))
-                  (seen_freed sound.ground n rising occupants condemned (unheld goes)) (names_freed was n sound.closed)
+                  leaves (sound_freed sound.ground n (unheld goes))
+                  (seen_freed sound.ground n rising condemned (unheld goes)) (names_freed was n sound.closed)
               | inr stays ↦ simp stays sound
             ]
 
-        pub freed_seen : (occupants : List (Option ℕ))
-            → seen_ground (record s { table = table_freed s.table n occupants }) ≡ after_freeing was n
-        freed_seen occupants = grind (arith, seen_freed, unheld, is_unmarked-tabled)
+        pub freed_seen : seen_ground (record s { table = table_freed s.table n }) ≡ after_freeing was n
+        freed_seen = grind (arith, seen_freed, unheld, is_unmarked-tabled)
 
         -- where something may be condemned, the marked are spared
-        pub marked_spared : is_marked_in (tabled_at s.table.tabled n) ≡ is_spared was n
+        pub marked_spared : is_marked_in s.table.round.number (tabled_at s.table.tabled n) ≡ is_spared was n
         marked_spared = grind (arith, has-marked_of, is_there-objects_of, is_unmarked-tabled)
 
 -- at first nothing is named

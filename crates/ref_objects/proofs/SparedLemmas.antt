@@ -6,8 +6,9 @@ use Rattle.ref_objects.proofs.Common.{is_there, one_fewer, unmarked, cleared, wi
 use Rattle.ref_objects.proofs.Common.{present, if_any, forgotten, reference_in, reference_at, changed_at, with_changed}
 use Rattle.ref_objects.proofs.Common.{nulls, with_hold, without_hold, referent_of, Ground, NamesSpared, IsClosed}
 use Rattle.ref_objects.proofs.Common.{is_spared, named_in, IsSparedIfAny, fields_in, ground_with_heap, ground_marked}
-use Rattle.ref_objects.proofs.Common.{without_marks, with_condemned, after_freeing, ground_looked_at, look_of, made_at}
-use Rattle.ref_objects.proofs.Common.{written, Change, Cut, Stamp, ClearedIn, ClearIn, Link, with_slot_at}
+use Rattle.ref_objects.proofs.Common.{marks_begun, with_condemned, after_freeing, ground_looked_at, look_of, made_at}
+use Rattle.ref_objects.proofs.Common.{Colour, ground_healed, written, Change, Cut, Stamp, ClearedIn, ClearIn, Link}
+use Rattle.ref_objects.proofs.Common.{with_slot_at}
 use Rattle.std.proofs.Common.{◌||◌, ◌⊎◌}
 use Rattle.ref_base.specs.Heaps.{changed_reference}
 use Rattle.ref_objects.specs.Grounds.{with_none_condemned}
@@ -128,8 +129,11 @@ names_unheld g n names = grind (arith, has-cases, has-left, has-right, has-fewer
 pub names_marked : (g : Ground) (n : ℕ) → NamesSpared g → NamesSpared (ground_marked g n)
 names_marked g n names = grind (arith, has-one_more)
 
-pub names_without_marks : (g : Ground) → NamesSpared g → NamesSpared (without_marks g)
-names_without_marks g names = grind arith
+pub names_begun : (g : Ground) (good : Colour) → NamesSpared g → NamesSpared (marks_begun g good)
+names_begun g good names = grind arith
+
+pub names_healed : (g : Ground) (n : ℕ) → NamesSpared g → NamesSpared (ground_healed g n)
+names_healed g n names = record { rooted = names.rooted; named = names.named }
 
 pub names_none_condemned : (g : Ground) → NamesSpared g → NamesSpared (with_none_condemned g)
 names_none_condemned g names = grind arith

@@ -1,12 +1,15 @@
 -- What a contract sees of the fields of a heap's objects, and what holds of them.
-use Rattle.std.specs.Prelude.{◌≡◌, ℕ, ◌+◌, ◌*◌, ◌^◌, ◌<◌, ◌≤◌, Bool, true, [], ◌∷◌, ◌++◌, length, Option, Some}
-use Rattle.std.specs.Prelude.{slice_set}
+use Rattle.std.specs.Prelude.{◌≡◌, ℕ, ◌+◌, ◌*◌, ◌^◌, ◌<◌, ◌≤◌, Bool, true, List, [], ◌∷◌, ◌++◌, length, Option, Some}
+use Rattle.std.specs.Prelude.{not, slice_set}
+use Rattle.std.specs.Int.{from_bool}
 use Rattle.ref_base.specs.Graphs.{Object, Reference}
 use Rattle.ref_base.specs.Heaps.{Heap, nulls, with_changed, with_reference, with_stamp, cleared}
 use Rattle.ref_base.specs.Limits.{is_within_limits}
 use Rattle.ref_base.specs.declared.config.Config.{Config}
-use Rattle.ref_space.specs.Tables.{Table, objects_of, holds_of, marked_of, tags_of}
-use Rattle.ref_objects.specs.Grounds.{Ground, NamesSpared, with_new_tag, marks_with_new, ground_with_heap}
+use Rattle.ref_space.specs.Tables.{is_healed}
+use Rattle.ref_space.specs.Tables.{Table, Tabled, numbers_by, objects_of, holds_of, marked_of, tags_of}
+use Rattle.ref_objects.specs.Grounds.{Ground, NamesSpared, Space, occupied, with_new_tag, marks_with_new}
+use Rattle.ref_objects.specs.Grounds.{ground_with_heap}
 use Rattle.ref_objects.specs.Grounds.{with_cleared_tag, with_link}
 use Rattle.ref_space.specs.declared.cell.Change.{Change}
 use Rattle.ref_space.specs.declared.cell.Change.TheVariants.{Cut, Stamp, ClearedIn, ClearIn, Link}
@@ -43,13 +46,28 @@ heap_of s = record {
   clock = s.clock;
 }
 
+-- the numbers of the objects that aren't healed, in order
+abbrev pub unhealed_of : ℕ → List Tabled → List ℕ
+unhealed_of round = numbers_by (λ k. from_bool (not (is_healed round k)))
+
+-- where they lie
+abbrev pub space_of : Table → Space
+space_of t = record {
+  first = t.first;
+  cells = t.occupants;
+  good = t.round.good;
+  unhealed = unhealed_of
+      t.round.number t.tabled;
+}
+
 abbrev pub seen_ground : Stored → Ground
 seen_ground s = record {
   heap = heap_of s;
   next = s.next;
-  marked = marked_of s.table.tabled;
+  marked = marked_of s.table.round.number s.table.tabled;
   tags = tags_of s.table.tabled;
   condemning = s.condemning;
+  space = space_of s.table;
 }
 
 -- The configuration is within its limits; there is a cell for each object that it allows, and a slot for each; holds
@@ -79,6 +97,7 @@ made_at g place fields reference =
       next = g.next + 1;
       marked = marks_with_new g g.next;
       tags = with_new_tag g.tags g.next;
+      space = occupied g.space g.next;
     }
 
 -- the slot at this place holds this

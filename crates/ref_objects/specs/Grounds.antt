@@ -2,7 +2,7 @@
 -- `java.lang.ref` of Java SE 17 for what making a reference does; numbers, slots, holds and cells: this project's
 -- profile). The functions of a heap are those of the model of the whole collector.
 use Rattle.std.specs.Prelude.{◌≡◌, ℕ, ◌+◌, ◌*◌, ◌/◌, ◌^◌, ◌≤◌, Bool, true, false, ◌==◌, ◌&&◌, not, if◌then◌else◌}
-use Rattle.std.specs.Prelude.{nat_le, List, [], ◌∷◌, ◌++◌, length, map, Option, Some, None, Result, Ok, Err}
+use Rattle.std.specs.Prelude.{nat_le, List, [], ◌∷◌, ◌++◌, length, map, replicate, Option, Some, None, Result, Ok, Err}
 use Rattle.ref_base.specs.Members.{has, without_first}
 use Rattle.ref_base.specs.Graphs.{Object, Reference, is_there, numbers, object_at}
 use Rattle.ref_base.specs.Forgetting.{heap_but}
@@ -18,21 +18,67 @@ use Rattle.ref_base.specs.declared.config.Config.{Config}
 use Rattle.ref_base.specs.declared.fault.Fault.{Fault}
 use Rattle.ref_base.specs.declared.fault.Fault.TheVariants.{BadConfig, NoSuchObject, NoMemory, NoSuchActor}
 use Rattle.ref_base.specs.declared.heap_step.HoldName.{HoldName}
-use Rattle.ref_space.specs.Tables.{Tag, fields_in}
+use Rattle.ref_space.specs.Naming.{IsWordHeld}
+use Rattle.std.specs.Prelude.{slice_index_or}
+use Rattle.ref_space.specs.Tables.{Tag, fields_in, with_occupant, without_occupant}
 use Rattle.ref_objects.specs.declared.start.Start.{Start}
 use Rattle.ref_objects.specs.declared.kind.Kind.{Kind}
 use Rattle.ref_objects.specs.declared.kind.Kind.TheVariants as kind
+use Rattle.ref_space.specs.declared.colour.Colour.{Colour}
+use Rattle.ref_space.specs.declared.colour.Colour.TheVariants.{R}
 use Rattle.ref_space.specs.declared.linked.Linked.{Linked}
 use Rattle.ref_space.specs.declared.linked.Look.{Look}
 
+-- Where the objects lie, and how words name them: the address of the first page; of each cell, 64 to a page, the
+-- number of its object; the good colour; and, in order, the objects that may hold a word of another colour
+pub record Space : Type 0 where
+  pub first : ℕ
+  pub cells : List (Option ℕ)
+  pub good : Colour
+  pub unhealed : List ℕ
+
 -- a heap, the number of its next object, the numbers of the objects that are marked, and the tag of each object, both
--- in order; and whether the objects that aren't marked are condemned
+-- in order; whether the objects that aren't marked are condemned; and where the objects lie
 pub record Ground : Type 0 where
   pub heap : Heap
   pub next : ℕ
   pub marked : List ℕ
   pub tags : List Tag
   pub condemning : Bool
+  pub space : Space
+
+-- ---- where objects lie
+
+-- no object lies there yet
+abbrev pub first_space : ℕ → ℕ → Space
+first_space cells page = record {
+  first = page;
+  cells = replicate (64 * ((cells + 63) / 64)) None;
+  good = R;
+  unhealed = [];
+}
+
+-- the numbers without n
+abbrev pub without_number : List ℕ → ℕ → List ℕ
+without_number [] n = []
+without_number (m ∷ ms) n = if m == n then without_number ms n else m ∷ without_number ms n
+
+-- a new object lies in the first free cell, and is healed
+abbrev pub occupied : Space → ℕ → Space
+occupied s n = record s { cells = with_occupant s.cells n }
+
+-- the cell of one that goes is free
+abbrev pub vacated : Space → ℕ → Space
+vacated s n =
+    record s { cells = without_occupant s.cells n; unhealed = without_number s.unhealed n }
+
+-- another colour is good, and the words of all these objects may have the colour that was
+abbrev pub coloured_anew : Space → Colour → List ℕ → Space
+coloured_anew s good all = record s { good = good; unhealed = all }
+
+-- each word of an object has the good colour
+abbrev pub healed : Space → ℕ → Space
+healed s n = record s { unhealed = without_number s.unhealed n }
 
 -- ---- a new heap
 
@@ -50,9 +96,15 @@ starting_refusal config start =
     if is_within_limits config && may_start config start then None else Some BadConfig
 
 -- a heap in which nothing was made yet
-abbrev pub first_ground : Config → ℕ → ℕ → Ground
-first_ground config number next =
-    record { heap = first_heap config number; next = next; marked = []; tags = []; condemning = false }
+abbrev pub first_ground : Config → ℕ → Start → Ground
+first_ground config number start = record {
+  heap = first_heap config number;
+  next = start.obj;
+  marked = [];
+  tags = [];
+  condemning = false;
+  space = first_space config.cells start.page;
+}
 
 -- this is made, unless it is refused with just this fault, or memory isn't there
 abbrev pub IsMade : {T : Type 0} → Option Fault → T → Result T Fault → Type 0
@@ -136,6 +188,13 @@ abbrev pub kind_in : Option Object → Option Kind
 kind_in None = None
 kind_in (Some o) = Some (kind_by o.reference)
 
+-- these are the bits of what field i of object n holds: of an object, a word of the cell in which that lies, which has
+-- the good colour unless object n is unhealed
+abbrev pub IsWordIn : Ground → ℕ → ℕ → ℕ → Type 0
+IsWordIn g n i =
+    IsWordHeld g.space.good g.space.first g.space.cells (not (has g.space.unhealed n))
+    (slice_index_or (fields_in (object_at g.heap.objects n)) i None)
+
 -- the clock at which a reference was made or last got, or 0
 abbrev pub stamp_in : Option Reference → ℕ
 stamp_in None = 0
@@ -217,6 +276,7 @@ with_new_object g m d o = record g {
   next = g.next + 1;
   marked = marks_with_new g o.no;
   tags = with_new_tag g.tags o.no;
+  space = occupied g.space o.no;
 }
 
 -- what is there and isn't condemned, and else null
@@ -286,9 +346,17 @@ ground_looked_at g n cycle =
     }
     else g
 
--- no object is marked, and none condemned
-abbrev pub without_marks : Ground → Ground
-without_marks g = record g { marked = []; condemning = false }
+-- a cycle begins: no object is marked, none condemned, this colour is good, and none is healed
+abbrev pub marks_begun : Ground → Colour → Ground
+marks_begun g good = record g {
+  marked = [];
+  condemning = false;
+  space = coloured_anew g.space good (numbers g.heap.objects);
+}
+
+-- each word of an object has the good colour
+abbrev pub ground_healed : Ground → ℕ → Ground
+ground_healed g n = record g { space = healed g.space n }
 
 -- the numbers of the objects that aren't marked, in order
 abbrev pub unmarked : List Object → List ℕ → List ℕ
@@ -304,25 +372,28 @@ with_condemned g =
 abbrev pub with_none_condemned : Ground → Ground
 with_none_condemned g = record g { condemning = false }
 
--- a condemned object goes, and its tag with it
+-- a condemned object goes, its tag with it, and its cell is free
 abbrev pub after_freeing : Ground → ℕ → Ground
 after_freeing g n =
     if is_condemned g n
     then record g {
       heap = record g.heap { objects = without (n ∷ []) g.heap.objects };
       tags = without_tag g.tags n;
+      space = vacated g.space n;
     }
     else g
 
 -- ---- what holds at all times
 
 -- objects and slots are in order, and so are the holds; there are at most as many objects as cells, and marks as
--- objects; what is marked is there; each object has its tag; and what slots, holds and objects name is spared
+-- objects; what is marked is there, and what is unhealed; each object has its tag; and what slots, holds and objects
+-- name is spared
 pub record IsWellFormed (g : Ground) : Type 0 where
   pub orderly : IsOrderly g.heap g.next
   pub held : IsInOrder g.heap.holds
   pub few : length g.heap.objects ≤ g.heap.config.cells
   pub marks : length g.marked ≤ length g.heap.objects
   pub marked : (n : ℕ) → has g.marked n ≡ true → is_there g.heap.objects n ≡ true
+  pub unhealed : (n : ℕ) → has g.space.unhealed n ≡ true → is_there g.heap.objects n ≡ true
   pub tagged : map (λ t. t.no) g.tags ≡ numbers g.heap.objects
   pub closed : NamesSpared g

@@ -31,7 +31,7 @@ use std::marker::Model;
 
 /// The objects of a heap: their fields and references, the slots of the mutators, and the holds that are out.
 ///
-/// All its memory is taken as it is made, and none by any other call: 10,256 bytes for each page of 64 cells, of which
+/// All its memory is taken as it is made, and none by any other call: 11,280 bytes for each page of 64 cells, of which
 /// there are as many as the objects fill that there may be, and 128 for each mutator's slots. What a slot or a field
 /// holds is found by its word, in constant time. An object is found by its number in logarithmic time, and in constant
 /// time where none with a greater number was freed before the gaps were last closed: so is each that was made since.
@@ -68,14 +68,14 @@ impl<A: Allocator + Copy> Objects<A> {
     /// caller. Tried in this order: `BadConfig`, `NoMemory`.
     pub fn new(alloc: A, config: Config, heap_no: u64) -> Result<Self, Fault>
         ensures { IsMade (starting_refusal config (record { obj = 1; cycle = 0; page = 1 }))
-            (first_ground config heap_no 1) result }
+            (first_ground config heap_no (record { obj = 1; cycle = 0; page = 1 })) result }
     {
         Self::starting(alloc, config, heap_no, Start::FIRST)
     }
 
     /// The same, where numbers begin as they are told. `BadConfig` also where they can't begin so.
     pub fn starting(alloc: A, config: Config, heap_no: u64, start: Start) -> Result<Self, Fault>
-        ensures { IsMade (starting_refusal config start) (first_ground config heap_no start.obj) result }
+        ensures { IsMade (starting_refusal config start) (first_ground config heap_no start) result }
     {
         if config.check().is_err() || !start.is_allowed(&config) {
             return Err(Fault::BadConfig);
@@ -164,6 +164,7 @@ impl<A: Allocator + Copy> Objects<A> {
 
     /// Loads a field of the object in slot `from` into slot `into`, and answers what it holds: an object or null. Tried
     /// in this order: `NoSuchActor`, `EmptySlot` of `from`, `BadField`. In constant time.
+    #[inline(always)]
     pub fn load(
         &mut self,
         mutator: MutNo,
@@ -223,6 +224,7 @@ impl<A: Allocator + Copy> Objects<A> {
     // ---- parts of calls
 
     // Where a slot lies.
+    #[inline(always)]
     fn place(&self, mutator: MutNo, slot: SlotNo) -> Result<usize, Fault>
         ensures place { MatchResult result
             (λ place. (has_slot self.now.heap mutator slot ≡ true) × (place ≡ 16 * mutator + slot)

@@ -1,4 +1,5 @@
 -- What a call answers and leaves that changes the cell of one object, where it is found and where there is none.
+use Rattle.ref_space.specs.declared.round.Round.{Round}
 use Rattle.ref_space.proofs.Common.{◌≡◌, ℕ, ◌<◌, Bool, true, false, refl, sym, ◌∙◌, ap, arith, List, length, get_or}
 use Rattle.ref_space.proofs.Common.{set, Option, Some, None, length-set, option_map, IsSoundTable, change_of}
 use Rattle.ref_space.proofs.Common.{tabled_linked, table_look, table_looked_at, ClearIn, Change, Tabled, Table}
@@ -14,6 +15,14 @@ use Rattle.ref_space.proofs.ChangeLemmas.{told_of, seen_changed, placed_changed,
 use Rattle.ref_space.proofs.ChangeLemmas.{page_there, length-freed, length-changed_tabled, placed_freed}
 use Rattle.ref_space.proofs.ChangeLemmas.{tabled_by-freed, naming_changed, changed_tabled-none}
 use Rattle.ref_space.proofs.ChangeLemmas.{missing_at as none_there}
+use Rattle.ref_space.proofs.NamingLemmas.{Keeps, good_anywhere, each_anyhow}
+use Rattle.ref_space.proofs.WordLemmas.{IsGood, good_leads, word_is_good}
+use Rattle.ref_space.specs.ColouredWords.{IsCell, word_in_colour}
+use Rattle.ref_space.proofs.TableLemmas.{has_address, word_place}
+use Rattle.ref_space.specs.Naming.{IsHealed, IsWordHeld}
+use Rattle.ref_space.specs.ColouredWords.{bits_held}
+use Rattle.ref_space.proofs.HealLemmas.{word_held}
+use Rattle.ref_space.specs.Tables.{is_healed, is_healed_in}
 use Rattle.ref_space.proofs.NamingLemmas.{tabled_at-named, tabled_if-named, each_set, each_at, each_held}
 use Rattle.ref_space.proofs.Common.{field_in_cell, reference_by_number, referent_of, subst, tabled_reference}
 use Rattle.std.specs.Option.{IfSome}
@@ -33,7 +42,10 @@ use Rattle.ref_space.proofs.PlaceLemmas.{LeadsTo, leads_to, leads_nowhere, led_t
 use Rattle.ref_space.proofs.Common.{by_number, Each, IsSoundNaming, leads_by, target_by, occupants_of, values_in}
 use Rattle.ref_space.proofs.Common.{has_field}
 use Rattle.ref_space.proofs.Common.{is_marked_in, holds_in, may_hold, nat_lt, length-map, on_object, with_field, map}
-use Rattle.std.proofs.lemmas.List.{map-set}
+use Rattle.std.proofs.lemmas.List.{map-set, set-get_or}
+use Rattle.ref_base.specs.Heaps.{changed_reference, with_reference}
+use Rattle.ref_space.specs.Naming.{with_referent}
+use Rattle.ref_space.proofs.Common.{slice_index_or, ◌∷◌, []}
 use Rattle.ref_space.proofs.MarkCounts.{marks_same, marks_changed, marks_without, from_bool-le, length-unmarked_of}
 
 -- ---- what is written of an object
@@ -41,19 +53,19 @@ use Rattle.ref_space.proofs.MarkCounts.{marks_same, marks_changed, marks_without
 pub change_keeps : (change : Change) (k : Tabled) → (change_of change k).object.no ≡ k.object.no
 change_keeps change k = grind arith
 
-pub change_leaves : (change : Change) (k : Tabled) → (change_of change k).marked ≡ k.marked
+pub change_leaves : (change : Change) (k : Tabled) → (change_of change k).marked_in ≡ k.marked_in
 change_leaves change k = grind arith
 
 -- ---- the count of the marked
 
 -- one more can be counted
-pub marks_fit : {cells : List (Option Tabled)} {es : List Entry} {ps : List Use}
-    {last room count index_room marked : ℕ} → IsSoundTable cells es ps last room count index_room marked
+pub marks_fit : {round : Round} {cells : List (Option Tabled)} {es : List Entry} {ps : List Use}
+    {last room count index_room marked : ℕ} → IsSoundTable round cells es ps last room count index_room marked
     → (b : Bool) {more : ℕ} → more ≡ from_bool b → marked + more < 2 ^ 64
-marks_fit {cells} {es} sound b one =
+marks_fit {round} {cells} {es} sound b one =
     omega (
       arith,
-      length-unmarked_of (tabled_by cells es),
+      length-unmarked_of round.number (tabled_by cells es),
       from_bool-le b,
       one,
       sound.marks_counted,
@@ -65,30 +77,30 @@ marks_fit {cells} {es} sound b one =
 
 -- ---- what a name doesn't change of an object
 
-pub unmarked-named : (name : Option ℕ → Option ℕ) (c : Option Tabled)
-    → is_unmarked_in (option_map (by_number name) c) ≡ is_unmarked_in c
-unmarked-named name None = refl
-unmarked-named name (Some k) = refl
+pub unmarked-named : (r : ℕ) (name : Option ℕ → Option ℕ) (c : Option Tabled)
+    → is_unmarked_in r (option_map (by_number name) c) ≡ is_unmarked_in r c
+unmarked-named r name None = refl
+unmarked-named r name (Some k) = refl
 
 pub some-named : (name : Option ℕ → Option ℕ) (c : Option Tabled)
     → is_some (option_map (by_number name) c) ≡ is_some c
 some-named name None = refl
 some-named name (Some k) = refl
 
-pub marked-named : (name : Option ℕ → Option ℕ) (c : Option Tabled)
-    → is_marked_in (option_map (by_number name) c) ≡ is_marked_in c
-marked-named name None = refl
-marked-named name (Some k) = refl
+pub marked-named : (r : ℕ) (name : Option ℕ → Option ℕ) (c : Option Tabled)
+    → is_marked_in r (option_map (by_number name) c) ≡ is_marked_in r c
+marked-named r name None = refl
+marked-named r name (Some k) = refl
 
 pub holds-named : (name : Option ℕ → Option ℕ) (c : Option Tabled)
     → holds_in (option_map (by_number name) c) ≡ holds_in c
 holds-named name None = refl
 holds-named name (Some k) = refl
 
-pub may_hold-named : (if_marked : Bool) (name : Option ℕ → Option ℕ) (c : Option Tabled)
-    → may_hold if_marked (option_map (by_number name) c) ≡ may_hold if_marked c
-may_hold-named if_marked name None = refl
-may_hold-named if_marked name (Some k) = refl
+pub may_hold-named : (r : ℕ) (if_marked : Bool) (name : Option ℕ → Option ℕ) (c : Option Tabled)
+    → may_hold r if_marked (option_map (by_number name) c) ≡ may_hold r if_marked c
+may_hold-named r if_marked name None = refl
+may_hold-named r if_marked name (Some k) = refl
 
 pub has_field-named : (i : ℕ) (name : Option ℕ → Option ℕ) (c : Option Tabled)
     → has_field (option_map (by_number name) c) i ≡ has_field c i
@@ -138,36 +150,106 @@ pub change-named : (name : Option ℕ → Option ℕ) → name None ≡ None →
     → by_number name (change_of change k) ≡ change_of change (by_number name k)
 change-named name null change k = grind arith
 
-pub change_leads : (p : Option ℕ → Bool) → p None ≡ true → (change : Change) (k : Tabled) → Each p (values_in k)
-    → Each p (values_in (change_of change k))
-change_leads p null change k each = grind arith
+pub change_leads : (r : ℕ) (p : Bool → Option ℕ → Bool) → ((b : Bool) → p b None ≡ true) → (change : Change)
+    → Keeps r p (change_of change)
+change_leads r p null change k each = grind (arith, null (is_healed r k))
 
 pub field-named : (name : Option ℕ → Option ℕ) (i : ℕ) (value : Option ℕ) (k : Tabled)
     → by_number name (on_object (with_field i value) k) ≡ on_object (with_field i (name value)) (by_number name k)
 field-named name i value k = grind (arith, map-set)
 
-pub field_leads : (p : Option ℕ → Bool) (i : ℕ) (value : Option ℕ) → p value ≡ true → (k : Tabled)
-    → Each p (values_in k) → Each p (values_in (on_object (with_field i value) k))
-field_leads p i value is k each = (each.0, each_set p k.object.fields i value is each.1)
+pub field_leads : (r : ℕ) (p : Bool → Option ℕ → Bool) (i : ℕ) (value : Option ℕ) → ((b : Bool) → p b value ≡ true)
+    → Keeps r p (on_object (with_field i value))
+field_leads r p i value is k held = (
+  held.0,
+  held.1,
+  (held.2.0, each_set (p (is_healed r k)) k.object.fields i value (is (is_healed r k)) held.2.1),
+)
 
-pub held-named : (name : Option ℕ → Option ℕ) (if_marked : Bool) (k : Tabled)
-    → by_number name (more_held_if if_marked k) ≡ more_held_if if_marked (by_number name k)
-held-named name if_marked k = grind arith
+pub referent-named : (name : Option ℕ → Option ℕ) (value : Option ℕ) (k : Tabled)
+    → by_number name (on_object (with_reference (with_referent value)) k)
+    ≡ on_object (with_reference (with_referent (name value))) (by_number name k)
+referent-named name value k =
+    ap (λ r. on_object (λ o. record o { reference = r }) (by_number name k)) (same k.object.reference)
+  where
+    same : (r : Option Reference)
+        → option_map (reference_by_number name) (changed_reference (with_referent value) r)
+        ≡ changed_reference (with_referent (name value)) (option_map (reference_by_number name) r)
+    same None = refl
+    same (Some r) = refl
 
-pub held_values : (p : Option ℕ → Bool) (if_marked : Bool) (k : Tabled) → Each p (values_in k)
-    → Each p (values_in (more_held_if if_marked k))
-held_values p if_marked k each = grind arith
+pub referent_leads : (q : ℕ) (p : Bool → Option ℕ → Bool) (value : Option ℕ) → ((b : Bool) → p b value ≡ true)
+    → Keeps q p (on_object (with_reference (with_referent value)))
+referent_leads q p value is k held = (held.0, held.1, (own k.object.reference held.2.0, held.2.1))
+  where
+    own : (r : Option Reference) → p (is_healed q k) (referent_of r) ≡ true
+        → p (is_healed q k) (referent_of (changed_reference (with_referent value) r)) ≡ true
+    own None leads = leads
+    own (Some r) leads = is (is_healed q k)
+
+-- ---- what is written again as it was
+
+tabled_same : (f : Tabled → Tabled) (ks : List Tabled) (n : ℕ)
+    → ((k : Tabled) → tabled_at ks n ≡ Some k → f k ≡ k) → changed_tabled ks n f ≡ ks
+tabled_same f [] n same = refl
+tabled_same f (k ∷ ks) n same = grind (arith, same, tabled_same f ks n)
+
+changed_same : (t : Table) (v : Option ℕ) (f : Tabled → Tabled) → ((k : Tabled) → tabled_of t v ≡ Some k → f k ≡ k)
+    → changed_of t v f ≡ t
+changed_same t v f same = by (target_of t v) same
+  where
+    by : (n : Option ℕ) → ((k : Tabled) → tabled_if t.tabled n ≡ Some k → f k ≡ k) → changed_if t n f ≡ t
+    by None same = refl
+    by (Some n) same = ap (λ ks. record t { tabled = ks }) (tabled_same f t.tabled n same)
+
+pub field_again : (t : Table) (v : Option ℕ) (i : ℕ) (n : Option ℕ) → Some n ≡ field_in_cell (tabled_of t v) i
+    → changed_of t v (on_object (with_field i n)) ≡ t
+field_again t v i n is =
+    changed_same t v (on_object (with_field i n))
+    (λ k at. own k (is ∙ ap (λ c. field_in_cell c i) at))
+  where
+    own : (k : Tabled) → Some n ≡ field_in_cell (Some k) i → on_object (with_field i n) k ≡ k
+    own k is =
+        let held : n ≡ slice_index_or k.object.fields i None = grind (arith) in
+        ap (λ vs. on_object (λ o. record o { fields = vs }) k)
+        (ap (set k.object.fields i) held ∙ set-get_or k.object.fields i None)
+
+pub referent_again : (t : Table) (v n : Option ℕ) → n ≡ referent_of (tabled_reference (tabled_of t v))
+    → changed_of t v (on_object (with_reference (with_referent n))) ≡ t
+referent_again t v n is =
+    changed_same t v (on_object (with_reference (with_referent n)))
+    (λ k at. own k (is ∙ ap (λ c. referent_of (tabled_reference c)) at))
+  where
+    own : (k : Tabled) → n ≡ referent_of k.object.reference → on_object (with_reference (with_referent n)) k ≡ k
+    own k is = ap (λ r. on_object (λ o. record o { reference = r }) k) (same k.object.reference is)
+      where
+        same : (r : Option Reference) → n ≡ referent_of r → changed_reference (with_referent n) r ≡ r
+        same None is = refl
+        same (Some r) is = ap (λ m. Some (record r { referent = m })) is
+
+pub held-named : (r : ℕ) (name : Option ℕ → Option ℕ) (if_marked : Bool) (k : Tabled)
+    → by_number name (more_held_if r if_marked k) ≡ more_held_if r if_marked (by_number name k)
+held-named r name if_marked k = grind arith
+
+pub held_values : (r : ℕ) (p : Bool → Option ℕ → Bool) (if_marked : Bool) → Keeps r p (more_held_if r if_marked)
+held_values r p if_marked k each = grind arith
 
 -- ---- the cell of an object
 
-module _ {first : ℕ} {cells : List (Option Tabled)} {es : List Entry} {ps : List Use} {slots : List (Option ℕ)}
+module _ {round : Round} {first : ℕ} {cells : List (Option Tabled)} {es : List Entry} {ps : List Use} {slots : List
+    (Option ℕ)}
     {last room count index_room marked : ℕ}
-    (sound : IsSoundTable cells es ps last room count index_room marked × IsSoundNaming first cells es slots) where
+    (sound : IsSoundTable round cells es ps last room count index_room marked × IsSoundNaming round first cells es
+    slots) where
   abbrev name : Option ℕ → Option ℕ
   name = target_by first (occupants_of cells)
 
-  abbrev leads : Option ℕ → Bool
-  leads = leads_by first (occupants_of cells)
+  abbrev leads : Bool → Option ℕ → Bool
+  leads = leads_by round.good first (occupants_of cells)
+
+  -- a contract sees the same round
+  pub round_seen : {t : Table} → seen_table round first cells es slots last room ≡ t → t.round.number ≡ round.number
+  round_seen view = ap (λ (s : Table). s.round.number) (sym view)
 
   -- a number's place
   module _ {n p : ℕ} (place : IsPlaceOf cells es n p) where
@@ -178,8 +260,14 @@ module _ {first : ℕ} {cells : List (Option Tabled)} {es : List Entry} {ps : Li
     has_page = page_there sound.0.placed place
 
     -- its word leads to it
-    module _ {t : Table} (view : seen_table first cells es slots last room ≡ t) where
-      module _ (w : Option ℕ) (leads_here : place_by first w ≡ Some p) where
+    module _ {t : Table} (view : seen_table round first cells es slots last room ≡ t) where
+      module _ {w : Option ℕ} (is : w ≡ word_in_colour round.good (first + p / 64) (p % 64)) where
+        at : IsCell (first + p / 64) (p % 64)
+        at = has_address sound.1 p place.within
+
+        leads_here : place_by first w ≡ Some p
+        leads_here = rw is (word_place round.good p first at)
+
         word_cell : cell_of_word cells first w ≡ get_or cells p None
         word_cell = ap (at_place cells) leads_here
 
@@ -196,15 +284,20 @@ module _ {first : ℕ} {cells : List (Option Tabled)} {es : List Entry} {ps : Li
             ∙ some-named name (tabled_at (tabled_by cells es) n) ∙ sym (there sound.0.placed place) in
             word_named ∙ simp is refl
 
-        pub word_led : leads_by t.first t.occupants w ≡ true
-        word_led = rw word_named (grind arith)
+        pub word_led : IsHealed t w
+        word_led =
+            let same : t.round.good ≡ round.good = ap (λ (s : Table). s.round.good) (sym view) in
+            rw (word_named, same)
+            (good_leads round.good w (subst (IsGood round.good) (sym is) (word_is_good round.good (first + p / 64)
+            (p % 64) at)))
 
     -- the object is looked at
-    module _ {t : Table} (view : seen_table first cells es slots last room ≡ t) {cell also : Option Tabled}
+    module _ {t : Table} (view : seen_table round first cells es slots last room ≡ t) {cell also : Option Tabled}
         (was : cell ≡ get_or cells p cell) (same : also ≡ get_or cells p also) {l : Linked}
         (told : l ≡ tabled_linked n (option_map (by_number (target_of t)) cell)) {r : Option Reference}
         (kept : r ≡ tabled_reference also) {b : Bool}
-        (is : b ≡ refers_into (is_unmarked_at t.tabled) (option_map (reference_by_number (target_of t)) r)) where
+        (is : b ≡ refers_into (is_unmarked_at t.round.number t.tabled) (option_map (reference_by_number
+        (target_of t)) r)) where
       object_here : {c : Option Tabled} → c ≡ get_or cells p c
           → option_map (by_number (target_of t)) c ≡ tabled_at t.tabled n
       object_here {c} reads =
@@ -217,19 +310,19 @@ module _ {first : ℕ} {cells : List (Option Tabled)} {es : List Entry} {ps : Li
           λ i. record {
             was = (told ∙ ap (tabled_linked n) (object_here was)) i;
             is_cleared = (is
-                ∙ ap (λ o. refers_into (is_unmarked_at t.tabled) (option_map (reference_by_number (target_of t)) o))
+                ∙ ap (λ o. refers_into (is_unmarked_at t.round.number t.tabled) (option_map (reference_by_number
+                (target_of t)) o))
                 kept
-                ∙ ap (refers_into (is_unmarked_at t.tabled))
+                ∙ ap (refers_into (is_unmarked_at t.round.number t.tabled))
                 (reference-named (target_of t) also ∙ ap tabled_reference (object_here same))) i;
           }
 
       pub cleared_there : (cycle : ℕ) → b ≡ true → {old new : Option Tabled} → old ≡ get_or cells p old
           → new ≡ option_map (change_of (ClearIn cycle)) old
-          → seen_table first (set cells p new) es slots last room ≡ table_looked_at t n cycle
+          → seen_table round first (set cells p new) es slots last room ≡ table_looked_at t n cycle
       cleared_there cycle clears {old} {new} found change =
           seen_changed sound.0.placed place (change_of (ClearIn cycle)) (change_keeps (ClearIn cycle)) found change
-          first
-          slots room (change_of (ClearIn cycle)) (change-named name refl (ClearIn cycle))
+          round first slots room (change_of (ClearIn cycle)) (change-named name refl (ClearIn cycle))
           ∙ ap (λ (s : Table). changed s n (change_of (ClearIn cycle))) view
           ∙ simp (sym (ap (λ (i : Look). i.is_cleared) look_told) ∙ clears) refl
 
@@ -237,52 +330,51 @@ module _ {first : ℕ} {cells : List (Option Tabled)} {es : List Entry} {ps : Li
       uncleared_there cycle spares = simp (sym (ap (λ (i : Look). i.is_cleared) look_told) ∙ spares) refl
 
     -- the object goes, and its place is free, where it isn't marked
-    module _ {t : Table} (view : seen_table first cells es slots last room ≡ t) {cell : Option Tabled}
-        (was : cell ≡ get_or cells p cell) {goes : Bool} (is : goes ≡ is_unmarked_in cell) where
-      pub goes_answer : goes ≡ is_unmarked_in (tabled_at t.tabled n)
+    module _ {t : Table} (view : seen_table round first cells es slots last room ≡ t) {cell : Option Tabled}
+        (was : cell ≡ get_or cells p cell) {goes : Bool} (is : goes ≡ is_unmarked_in round.number cell) where
+      pub goes_answer : goes ≡ is_unmarked_in t.round.number (tabled_at t.tabled n)
       goes_answer =
-          is ∙ told_of sound.0.placed place is_unmarked_in was
-          ∙ sym (unmarked-named name (tabled_at (tabled_by cells es) n))
-          ∙ ap is_unmarked_in (sym (tabled_at-named name (tabled_by cells es) n))
-          ∙ ap (λ (s : Table). is_unmarked_in (tabled_at s.tabled n)) view
+          is ∙ told_of sound.0.placed place (is_unmarked_in round.number) was
+          ∙ sym (unmarked-named round.number name (tabled_at (tabled_by cells es) n))
+          ∙ ap (is_unmarked_in round.number) (sym (tabled_at-named name (tabled_by cells es) n))
+          ∙ ap (λ (s : Table). is_unmarked_in s.round.number (tabled_at s.tabled n)) view
 
-      pub kept_there : (os : List (Option ℕ)) → goes ≡ false → t ≡ table_freed t n os
-      kept_there os stays = let kept = sym goes_answer ∙ stays in simp kept refl
+      pub kept_there : goes ≡ false → t ≡ table_freed t n
+      kept_there stays = let kept = sym goes_answer ∙ stays in simp kept refl
 
       module _ (leaves : goes ≡ true) {new : Option Tabled} (gone : new ≡ None) {qs : List Use}
           (less : qs ≡ with_cell ps (p / 64) (p % 64) true)
-          (unnamed : is_unmarked_in (tabled_at t.tabled n) ≡ true → IsUnnamed t n) where
-        nobody : IsUnnamed (seen_table first cells es slots last room) n
+          (unnamed : is_unmarked_in t.round.number (tabled_at t.tabled n) ≡ true → IsUnnamed t n) where
+        nobody : IsUnnamed (seen_table round first cells es slots last room) n
         nobody = subst (λ (s : Table). IsUnnamed s n) (sym view) (unnamed (sym goes_answer ∙ leaves))
 
-        pub freed_there : {os : List (Option ℕ)} → occupants_of (set cells p new) ≡ os
-            → seen_table first (set cells p new) es slots last room ≡ table_freed t n os
-        freed_there {os} now =
+        pub freed_there : seen_table round first (set cells p new) es slots last room ≡ table_freed t n
+        freed_there =
             seen_freed sound.0.placed place gone less sound.1 nobody.slots nobody.objects room
-            ∙ ap (without_object (seen_table first cells es slots last room) n) now
-            ∙ ap (λ (s : Table). without_object s n os) view
+            ∙ ap (λ (s : Table). without_object s n) view
             ∙ (let goes = sym goes_answer ∙ leaves in simp goes refl)
 
         -- and the marked are as many as before
-        pub sound_freed : IsSoundTable (set cells p new) es qs last room (count - 1) index_room marked
-            × IsSoundNaming first (set cells p new) es slots
+        pub sound_freed : IsSoundTable round (set cells p new) es qs last room (count - 1) index_room marked
+            × IsSoundNaming round first (set cells p new) es slots
         sound_freed =
             let placed = placed_freed sound.0.placed place gone less in
             let fewer = length-freed sound.0.placed place gone less in
-            let marks = marks_same (tabled_by-freed sound.0.placed place gone less)
-            (marks_without (tabled_by cells es) n
-            (sym leaves ∙ is ∙ told_of sound.0.placed place is_unmarked_in was) sound.0.marks_counted) in
+            let marks = marks_same round.number (tabled_by-freed sound.0.placed place gone less)
+            (marks_without round.number (tabled_by cells es) n
+            (sym leaves ∙ is ∙ told_of sound.0.placed place (is_unmarked_in round.number) was) sound.0.marks_counted) in
             (grind (arith, length-set), naming_freed sound.0.placed place gone less sound.1 nobody.slots nobody.objects)
 
     -- what is answered of the cell there is answered of the object
-    pub named_there : {t : Table} → seen_table first cells es slots last room ≡ t → {X : Type 0} (f : Option Tabled → X)
+    pub named_there : {t : Table} → seen_table round first cells es slots last room ≡ t
+        → {X : Type 0} (f : Option Tabled → X)
         {cell : Option Tabled} {x : X} → cell ≡ get_or cells p cell → x ≡ f (option_map (by_number name) cell)
         → x ≡ f (tabled_at t.tabled n)
     named_there view f was is =
         is ∙ told_of sound.0.placed place (λ c. f (option_map (by_number name) c)) was
         ∙ ap f (sym (tabled_at-named name (tabled_by cells es) n)) ∙ ap (λ (s : Table). f (tabled_at s.tabled n)) view
 
-    pub answered_there : {t : Table} → seen_table first cells es slots last room ≡ t → {X : Type 0}
+    pub answered_there : {t : Table} → seen_table round first cells es slots last room ≡ t → {X : Type 0}
         (f : Option Tabled → X)
         → ((name : Option ℕ → Option ℕ) (c : Option Tabled) → f (option_map (by_number name) c) ≡ f c)
         → {cell : Option Tabled} {x : X} → cell ≡ get_or cells p cell → x ≡ f cell → x ≡ f (tabled_at t.tabled n)
@@ -290,35 +382,36 @@ module _ {first : ℕ} {cells : List (Option Tabled)} {es : List Entry} {ps : Li
 
     module _ (f h : Tabled → Tabled) (keeps : (k : Tabled) → (f k).object.no ≡ k.object.no) {old new : Option Tabled}
         (was : old ≡ get_or cells p old) (is : new ≡ option_map f old) where
-      pub left_there : {t : Table} → seen_table first cells es slots last room ≡ t
+      pub left_there : {t : Table} → seen_table round first cells es slots last room ≡ t
           → ((k : Tabled) → by_number name (f k) ≡ h (by_number name k))
-          → seen_table first (set cells p new) es slots last room ≡ changed t n h
+          → seen_table round first (set cells p new) es slots last room ≡ changed t n h
       left_there view same =
-          seen_changed sound.0.placed place f keeps was is first slots room h same
+          seen_changed sound.0.placed place f keeps was is round first slots room h same
           ∙ ap (λ (s : Table). changed s n h) view
 
-      module _ (holds : (k : Tabled) → Each leads (values_in k) → Each leads (values_in (f k))) where
+      module _ (holds : Keeps round.number leads f) where
         -- the marked are counted anew
-        pub sound_counted : {marks : ℕ} → marks ≡ length (marked_of (changed_tabled (tabled_by cells es) n f))
-            → IsSoundTable (set cells p new) es ps last room count index_room marks
-            × IsSoundNaming first (set cells p new) es slots
+        pub sound_counted : {marks : ℕ} → marks ≡ length (marked_of round.number (changed_tabled
+            (tabled_by cells es) n f))
+            → IsSoundTable round (set cells p new) es ps last room count index_room marks
+            × IsSoundNaming round first (set cells p new) es slots
         sound_counted counted =
             let placed = placed_changed sound.0.placed place f keeps was is in
             let same = tabled_by-changed sound.0.placed place f keeps was is in (
               grind (arith, length-set, length-changed_tabled),
-              naming_changed sound.0.placed place f keeps was is first slots sound.1 holds,
+              naming_changed sound.0.placed place f keeps was is round first slots sound.1 holds,
             )
 
         -- or stay as many, where the change leaves the mark
-        pub sound_there : ((k : Tabled) → (f k).marked ≡ k.marked)
-            → IsSoundTable (set cells p new) es ps last room count index_room marked
-            × IsSoundNaming first (set cells p new) es slots
+        pub sound_there : ((k : Tabled) → (f k).marked_in ≡ k.marked_in)
+            → IsSoundTable round (set cells p new) es ps last room count index_room marked
+            × IsSoundNaming round first (set cells p new) es slots
         sound_there leaves =
-            sound_counted (marks_changed (tabled_by cells es) n f keeps leaves sound.0.marks_counted)
+            sound_counted (marks_changed round.number (tabled_by cells es) n f keeps leaves sound.0.marks_counted)
 
   -- a number without a place: what is answered of no cell is answered of it, and the table is left as it was
   module _ {n : ℕ} (missing : IsMissing cells es n) where
-    module _ {t : Table} (view : seen_table first cells es slots last room ≡ t) where
+    module _ {t : Table} (view : seen_table round first cells es slots last room ≡ t) where
       pub missing_at : tabled_at t.tabled n ≡ None
       missing_at =
           ap (λ (s : Table). tabled_at s.tabled n) (sym view) ∙ tabled_at-named name (tabled_by cells es) n
@@ -329,25 +422,27 @@ module _ {first : ℕ} {cells : List (Option Tabled)} {es : List Entry} {ps : Li
 
       pub look_nowhere : (let look : Look = record { was = tabled_linked n None; is_cleared = false } in look)
           ≡ table_look t n
-      look_nowhere = answered_nowhere (look_by t.tabled n)
+      look_nowhere = answered_nowhere (look_by t.round.number t.tabled n)
 
       pub uncleared_nowhere : (cycle : ℕ) → t ≡ table_looked_at t n cycle
       uncleared_nowhere cycle = simp (sym (ap (λ (i : Look). i.is_cleared) look_nowhere)) refl
 
-      pub freed_nowhere : (os : List (Option ℕ)) → t ≡ table_freed t n os
-      freed_nowhere os = simp (sym (answered_nowhere is_unmarked_in)) refl
+      pub freed_nowhere : t ≡ table_freed t n
+      freed_nowhere = simp (sym (answered_nowhere (is_unmarked_in t.round.number))) refl
 
       pub left_nowhere : (f : Tabled → Tabled) → t ≡ changed t n f
       left_nowhere f = ap (λ ks. record t { tabled = ks }) (sym (changed_tabled-none t.tabled n f missing_at))
 
   -- ---- a word
 
-  module _ (v : Option ℕ) {t : Table} (view : seen_table first cells es slots last room ≡ t) where
+  module _ (v : Option ℕ) {t : Table} (view : seen_table round first cells es slots last room ≡ t) where
     pub named_seen : target_of t v ≡ name v
     named_seen = ap (λ (s : Table). target_of s v) (sym view)
 
-    pub leads_seen : leads_by t.first t.occupants v ≡ true → leads v ≡ true
-    leads_seen is = ap (λ (s : Table). leads_by s.first s.occupants v) view ∙ is
+    pub leads_seen : IsHealed t v → (b : Bool) → leads b v ≡ true
+    leads_seen is b =
+        good_anywhere round.good first (occupants_of cells) b v
+        (ap (λ (s : Table). leads_by s.round.good s.first s.occupants true v) view ∙ is)
 
     -- its name is the number of the object in its cell
     pub named_led : target_of t v ≡ occupant_in (cell_of_word cells first v)
@@ -419,18 +514,48 @@ module _ {first : ℕ} {cells : List (Option Tabled)} {es : List Entry} {ps : Li
         blind_read f blind = answered_led f blind (ap f read_here)
 
         -- and each word that it holds leads to an object
-        pub each_read : (k : Tabled) → c ≡ Some k → Each (leads_by t.first t.occupants) (values_in k)
+        pub each_read : (k : Tabled) → c ≡ Some k → Each (leads_by t.round.good t.first t.occupants false) (values_in k)
         each_read k is =
             let at : tabled_at (tabled_by cells es) k.object.no ≡ Some k =
             ap (λ d. tabled_if (tabled_by cells es) (occupant_in d)) (sym is)
             ∙ ap (λ d. tabled_if (tabled_by cells es) (occupant_in d)) read_here
             ∙ led_tabled cells es sound.1.listed sound.0.placed.rises (place_by first v) ∙ sym read_here ∙ is in
-            subst (λ (s : Table). Each (leads_by s.first s.occupants) (values_in k)) view
-            (each_held leads (tabled_by cells es) k.object.no k at sound.1.led)
+            subst (λ (s : Table). Each (leads_by s.round.good s.first s.occupants false) (values_in k)) view
+            (each_anyhow round.good first (occupants_of cells) (is_healed round.number k) (values_in k)
+            (each_held round.number leads (tabled_by cells es) k.object.no k at sound.1.led).2)
 
   -- ---- what is read of the cell of a number
 
-  module _ (n : ℕ) {t : Table} (view : seen_table first cells es slots last room ≡ t) {borrowed : List (Option Tabled)}
+  held_in : (c : Option Tabled) (i : ℕ) {bits : Option ℕ} → bits ≡ option_map bits_held (field_in_cell c i)
+      → ((k : Tabled) → c ≡ Some k → Each (leads (is_healed round.number k)) (values_in k))
+      → IfSome bits (IsWordHeld round.good first (occupants_of cells) (is_healed_in round.number (option_map
+      (by_number name) c))
+      (field_held (option_map (by_number name) c) i))
+  held_in None i own each = rw own tt
+  held_in (Some k) i own each =
+      rw (own, get_or-map name k.object.fields i None)
+      (elim (cases_Bool (nat_lt i (length k.object.fields))) [
+        | inl within ↦
+            simp within
+            (word_held round.good first (occupants_of cells) (is_healed round.number k)
+            (slice_index_or k.object.fields i None)
+            (bits_held (slice_index_or k.object.fields i None)) refl
+            (each_at (leads (is_healed round.number k)) k.object.fields i refl (each k refl).1))
+        | inr past ↦ simp past tt
+      ])
+
+  pub some_bits : (c : Option Tabled) (i : ℕ) {bits : Option ℕ} → bits ≡ option_map bits_held (field_in_cell c i)
+      → is_some bits ≡ has_field c i
+  some_bits None i own = rw own refl
+  some_bits (Some k) i own =
+      rw own
+      (elim (cases_Bool (nat_lt i (length k.object.fields))) [
+        | inl within ↦ simp within refl
+        | inr past ↦ simp past refl
+      ])
+
+  module _ (n : ℕ) {t : Table} (view : seen_table round first cells es slots last room
+      ≡ t) {borrowed : List (Option Tabled)}
       {lent : List Entry} (same_cells : borrowed ≡ cells) (same_index : lent ≡ es) {c : Option Tabled}
       (reads : c ≡ tabled_at (tabled_by borrowed lent) n) where
     pub object_told : option_map (by_number (target_of t)) c ≡ tabled_at t.tabled n
@@ -441,13 +566,30 @@ module _ {first : ℕ} {cells : List (Option Tabled)} {es : List Entry} {ps : Li
         ∙ ap (λ gs. tabled_at (tabled_by cells gs) n) same_index)
         ∙ sym (tabled_at-named name (tabled_by cells es) n) ∙ ap (λ (s : Table). tabled_at s.tabled n) view
 
+    -- each word that it holds is what the object holds by number
+    pub word_told : (i : ℕ) {bits : Option ℕ} → bits ≡ option_map bits_held (field_in_cell c i)
+        → IfSome bits (IsWordHeld t.round.good t.first t.occupants (is_healed_in t.round.number (tabled_at t.tabled n))
+        (field_held (tabled_at t.tabled n) i))
+    word_told i {bits} own =
+        subst (λ (s : Table). IfSome bits (IsWordHeld s.round.good s.first s.occupants (is_healed_in s.round.number
+        (tabled_at s.tabled n))
+        (field_held (tabled_at s.tabled n) i))) view
+        (rw (tabled_at-named name (tabled_by cells es) n)
+        (held_in (tabled_at (tabled_by cells es) n) i (own ∙ ap (λ d. option_map bits_held (field_in_cell d i)) here)
+        (λ k at. (each_held round.number leads (tabled_by cells es) n k at sound.1.led).2)))
+      where
+        here : c ≡ tabled_at (tabled_by cells es) n
+        here =
+            reads ∙ ap (λ cs. tabled_at (tabled_by cs lent) n) same_cells
+            ∙ ap (λ gs. tabled_at (tabled_by cells gs) n) same_index
+
     pub blind_told : {X : Type 0} (f : Option Tabled → X)
         → ((name : Option ℕ → Option ℕ) (c : Option Tabled) → f (option_map (by_number name) c) ≡ f c)
         → f c ≡ f (tabled_at t.tabled n)
     blind_told f blind = sym (blind (target_of t) c) ∙ ap f object_told
 
   -- a search finds a place exactly where there is an object
-  pub found_there : (n : ℕ) (place : Option ℕ) {t : Table} → seen_table first cells es slots last room ≡ t
+  pub found_there : (n : ℕ) (place : Option ℕ) {t : Table} → seen_table round first cells es slots last room ≡ t
       → {borrowed : List (Option Tabled)} {lent : List Entry} → borrowed ≡ cells → lent ≡ es
       → place ≡ place_if_live borrowed (place_in lent n) n → is_some place ≡ is_some (tabled_at t.tabled n)
   found_there n place view same_cells same_index is =

@@ -6,11 +6,15 @@ use Rattle.ref_space.proofs.Common.{tabled_at, has_field, holds_in, changed_tabl
 use Rattle.ref_space.proofs.Common.{on_object, less_held, changed, with_field, Entry, nat_lt, is_none}
 use Rattle.ref_space.proofs.Common.{Use, with_cell, ◌/◌, ◌%◌, ◌==◌, map, inl, inr, cases_Bool, eq-eqb, eqb-true}
 use Rattle.ref_space.proofs.Common.{false≢true, get_or-set_other, get_or-set_same, IsSoundNaming, AreIndexed, Each}
-use Rattle.ref_space.proofs.Common.{by_number, leads_by, target_by, occupant_in, occupants_of, values_in}
+use Rattle.ref_space.proofs.Common.{by_number, leads_by, target_by, occupant_in, occupants_of}
 use Rattle.std.proofs.lemmas.List.{set_past}
 use Rattle.std.proofs.Math.Seq.{map-set_same}
+use Rattle.ref_space.proofs.NamingLemmas.{Keeps}
 use Rattle.ref_space.proofs.NamingLemmas.{changed-named, held_changed, held_without, held_to, each_to, held_unnamed}
-use Rattle.ref_space.proofs.NamingLemmas.{each_unnamed, named_same, map_same, without-named, given_at, is_name}
+use Rattle.ref_space.proofs.NamingLemmas.{each_unnamed, named_same, map_same, without-named, given_at}
+use Rattle.ref_space.specs.Tables.{is_number}
+use Rattle.ref_space.specs.declared.round.Round.{Round}
+use Rattle.ref_space.proofs.OccupantLemmas.{vacated}
 use Rattle.ref_space.proofs.Common.{Bool, EachHeld, NoneNames, has, named_slots, named_tabled, not, place_by, present}
 use Rattle.ref_space.proofs.Common.{◌&&◌}
 use Rattle.ref_space.specs.Tables.{without_object}
@@ -62,14 +66,15 @@ changed-past t n i value past = ap (λ ks. record t { tabled = ks }) (changed_ta
 -- ---- a change of one object
 
 -- what a contract sees of a table, by the objects that the index leads to and those that the cells hold
-abbrev pub seen_by : ℕ → ℕ → ℕ → List Tabled → List (Option ℕ) → List (Option ℕ) → Table
-seen_by first last room ks slots occupants = record {
+abbrev pub seen_by : Round → ℕ → ℕ → ℕ → List Tabled → List (Option ℕ) → List (Option ℕ) → Table
+seen_by round first last room ks slots occupants = record {
   tabled = map (by_number (target_by first occupants)) ks;
   room = room;
   last = last;
   slots = map (target_by first occupants) slots;
   first = first;
   occupants = occupants;
+  round = round;
 }
 
 module _ {cells : List (Option Tabled)} {es : List Entry} {ps : List Use} {last : ℕ}
@@ -122,17 +127,17 @@ module _ {cells : List (Option Tabled)} {es : List Entry} {ps : List Use} {last 
     pub occupants-changed : occupants_of (set cells p new) ≡ occupants_of cells
     occupants-changed = map-set_same occupant_in cells p new None number-changed
 
-    module _ (first : ℕ) (slots : List (Option ℕ)) where
+    module _ (round : Round) (first : ℕ) (slots : List (Option ℕ)) where
       abbrev name : Option ℕ → Option ℕ
       name = target_by first (occupants_of cells)
 
       pub seen_changed : (room : ℕ) (h : Tabled → Tabled) → ((k : Tabled) → by_number name (f k) ≡ h (by_number name k))
-          → seen_table first (set cells p new) es slots last room
-          ≡ changed (seen_table first cells es slots last room) n h
+          → seen_table round first (set cells p new) es slots last room
+          ≡ changed (seen_table round first cells es slots last room) n h
       seen_changed room h same =
-          ap (seen_by first last room (tabled_by (set cells p new) es) slots) occupants-changed
-          ∙ ap (λ ks. seen_by first last room ks slots (occupants_of cells)) tabled_by-changed
-          ∙ ap (λ ks. record (seen_table first cells es slots last room) { tabled = ks })
+          ap (seen_by round first last room (tabled_by (set cells p new) es) slots) occupants-changed
+          ∙ ap (λ ks. seen_by round first last room ks slots (occupants_of cells)) tabled_by-changed
+          ∙ ap (λ ks. record (seen_table round first cells es slots last room) { tabled = ks })
           (changed-named name f h keeps same (tabled_by cells es) n)
 
       listed_own : (q : ℕ) (k : Tabled) → q ≡ p → cell_at (set cells p new) q ≡ Some k
@@ -155,17 +160,18 @@ module _ {cells : List (Option Tabled)} {es : List Entry} {ps : List Use} {last 
                 (sym (get_or-set_other cells p q new None (λ same. false≢true (sym other ∙ eq-eqb q p same))) ∙ at)
           ]
 
-      pub naming_changed : IsSoundNaming first cells es slots
-          → ((k : Tabled) → Each (leads_by first (occupants_of cells)) (values_in k)
-          → Each (leads_by first (occupants_of cells)) (values_in (f k)))
-          → IsSoundNaming first (set cells p new) es slots
+      pub naming_changed : IsSoundNaming round first cells es slots
+          → Keeps round.number (leads_by round.good first (occupants_of cells)) f
+          → IsSoundNaming round first (set cells p new) es slots
       naming_changed naming holds = record {
         begins = naming.begins;
         addresses = rw (length-set cells p new) naming.addresses;
         listed = listed_changed naming.listed;
         rooted = rw occupants-changed naming.rooted;
+        begun = naming.begun;
         led = rw (occupants-changed, tabled_by-changed)
-            (held_changed (leads_by first (occupants_of cells)) f holds (tabled_by cells es) n naming.led);
+            (held_changed round.number (leads_by round.good first (occupants_of cells)) f holds
+            (tabled_by cells es) n naming.led);
       }
 
     pub placed_changed : IsPlaced (set cells p new) es ps last
@@ -183,54 +189,61 @@ module _ {cells : List (Option Tabled)} {es : List Entry} {ps : List Use} {last 
     length-freed = grind (arith, length-without_tabled, found_at, tabled_by-freed)
 
     -- what names another object names it still
-    module _ {first : ℕ} {slots : List (Option ℕ)} (naming : IsSoundNaming first cells es slots)
+    module _ {round : Round} {first : ℕ} {slots : List (Option ℕ)} (naming : IsSoundNaming round first cells es slots)
         (free_slots : has (present (named_slots first cells slots)) n ≡ false)
         (free_objects : NoneNames (named_tabled first cells es) n) where
       abbrev then : List (Option ℕ)
       then = occupants_of (set cells p new)
 
       -- leads to an object, and not to that
-      abbrev stays : Option ℕ → Bool
-      stays v = leads_by first (occupants_of cells) v && not (is_name (target_by first (occupants_of cells) v) n)
+      abbrev stays : Bool → Option ℕ → Bool
+      stays b v = leads_by round.good first (occupants_of cells) b v && not (is_number (target_by first
+          (occupants_of cells) v) n)
 
       occupants-freed : then ≡ set (occupants_of cells) p None
       occupants-freed = ap (λ c. occupants_of (set cells p c)) is ∙ map-set occupant_in cells p None
 
-      named_still : (v : Option ℕ) → stays v ≡ true → target_by first then v ≡ target_by first (occupants_of cells) v
-      named_still v is_other =
+      named_still : (b : Bool) (v : Option ℕ) → stays b v ≡ true
+          → target_by first then v ≡ target_by first (occupants_of cells) v
+      named_still b v is_other =
           ap (λ os. target_by first os v) occupants-freed
           ∙ given_at (occupants_of cells) p n None (place_by first v)
           (get_or-map occupant_in cells p None ∙ number_there) (grind arith)
 
-      leads_still : (v : Option ℕ) → stays v ≡ true → leads_by first then v ≡ true
-      leads_still v is_other = rw (named_still v is_other) (grind arith)
+      leads_still : (b : Bool) (v : Option ℕ) → stays b v ≡ true → leads_by round.good first then b v ≡ true
+      leads_still b v is_other = rw (named_still b v is_other) (grind arith)
 
-      held_still : EachHeld stays (tabled_by cells es)
+      held_still : EachHeld round.number stays (tabled_by cells es)
       held_still =
-          held_unnamed (target_by first (occupants_of cells)) n (leads_by first (occupants_of cells)) refl
+          held_unnamed (target_by first (occupants_of cells)) n round.number (leads_by round.good first
+          (occupants_of cells)) refl
           (tabled_by cells es) naming.led free_objects
 
-      slots_still : Each stays slots
+      slots_still : Each (stays true) slots
       slots_still =
-          each_unnamed (target_by first (occupants_of cells)) n (leads_by first (occupants_of cells)) slots
-          naming.rooted
-          free_slots
+          each_unnamed (target_by first (occupants_of cells)) n (leads_by round.good first
+          (occupants_of cells) true) slots
+          naming.rooted free_slots
 
       pub seen_freed : (room : ℕ)
-          → seen_table first (set cells p new) es slots last room
-          ≡ without_object (seen_table first cells es slots last room) n then
+          → seen_table round first (set cells p new) es slots last room
+          ≡ without_object (seen_table round first cells es slots last room) n
       seen_freed room =
-          ap (λ ks. seen_by first last room ks slots then) tabled_by-freed
+          ap (λ ks. seen_by round first last room ks slots then) tabled_by-freed
           ∙ (λ i. record {
-            tabled = (named_same stays (target_by first then) (target_by first (occupants_of cells)) named_still
-                (without_tabled (tabled_by cells es) n) (held_without stays (tabled_by cells es) n held_still)
+            tabled = (named_same round.number stays (target_by first then) (target_by first
+                (occupants_of cells)) named_still
+                (without_tabled (tabled_by cells es) n) (held_without round.number stays
+                (tabled_by cells es) n held_still)
                 ∙ without-named (target_by first (occupants_of cells)) (tabled_by cells es) n) i;
             room = room;
             last = last;
-            slots = map_same stays (target_by first then) (target_by first (occupants_of cells)) named_still slots
+            slots = map_same round.number stays (target_by first then) (target_by first
+                (occupants_of cells)) named_still true slots
                 slots_still i;
             first = first;
-            occupants = then;
+            occupants = (occupants-freed ∙ sym (vacated cells es n p naming.listed place.listed number_there)) i;
+            round = round;
           })
 
       listed_freed : AreIndexed (set cells p new) es
@@ -246,15 +259,16 @@ module _ {cells : List (Option Tabled)} {es : List Entry} {ps : List Use} {last 
                 (sym (get_or-set_other cells p q new None (λ same. false≢true (sym other ∙ eq-eqb q p same))) ∙ at)
           ]
 
-      pub naming_freed : IsSoundNaming first (set cells p new) es slots
+      pub naming_freed : IsSoundNaming round first (set cells p new) es slots
       naming_freed = record {
         begins = naming.begins;
         addresses = rw (length-set cells p new) naming.addresses;
         listed = listed_freed;
-        rooted = each_to stays (leads_by first then) leads_still slots slots_still;
+        begun = naming.begun;
+        rooted = each_to round.number stays (leads_by round.good first then) leads_still true slots slots_still;
         led = rw tabled_by-freed
-            (held_without (leads_by first then) (tabled_by cells es) n
-            (held_to stays (leads_by first then) leads_still (tabled_by cells es) held_still));
+            (held_without round.number (leads_by round.good first then) (tabled_by cells es) n
+            (held_to round.number stays (leads_by round.good first then) leads_still (tabled_by cells es) held_still));
       }
 
     pub placed_freed : IsPlaced (set cells p new) es qs last

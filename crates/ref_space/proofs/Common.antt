@@ -27,14 +27,15 @@ pub use Rattle.ref_space.specs.Pages.{Use, after_placing, next_place, taken_of, 
 pub use Rattle.ref_space.specs.Places.{AllAbove, AreFree, AreIndexed, IsPlaced, IsSoundNaming, IsSoundTable, NoneAbove}
 pub use Rattle.ref_space.specs.Places.{Rises, at_place, before, blanked_cell, cell_at, cell_of_word, count_below}
 pub use Rattle.ref_space.specs.Places.{first_entry, is_live, is_of, named_slots, named_tabled, place_if_live}
-pub use Rattle.ref_space.specs.Places.{place_if_taken, place_in, place_of_word, seen_table, tabled_by, unmarked_cell}
+pub use Rattle.ref_space.specs.Places.{place_if_taken, place_in, place_of_word, seen_table, tabled_by, begun_cell}
 pub use Rattle.ref_space.specs.Tables.{AllUpTo, IsOrderlyTable, IsUnnamed, NoneNames, Table, Tabled, anew_each}
-pub use Rattle.ref_space.specs.Tables.{blanked_unless_marked, change_of, changed, changed_if, changed_tabled}
+pub use Rattle.ref_space.specs.Tables.{blanked_unless_marked, table_begun, change_of, changed, changed_if}
+pub use Rattle.ref_space.specs.Tables.{changed_tabled}
 pub use Rattle.ref_space.specs.Tables.{counted_in, field_held, field_in_cell, fields_in, first_where, has_field}
 pub use Rattle.ref_space.specs.Tables.{held_at, held_at, holds_in, holds_of, is_marked_in, is_unmarked_in, less_held}
 pub use Rattle.ref_space.specs.Tables.{made_entry, marked_each, marked_of, may_hold, numbers_by, object_in, objects_of}
 pub use Rattle.ref_space.specs.Tables.{on_object, slotted, slotted, table_blanked, table_freed, table_look}
-pub use Rattle.ref_space.specs.Tables.{table_looked_at, table_unmarked, tabled_at, tabled_fields, tabled_fields}
+pub use Rattle.ref_space.specs.Tables.{table_looked_at, tabled_at, tabled_fields, tabled_fields}
 pub use Rattle.ref_space.specs.Tables.{tabled_held, tabled_held, tabled_if, tabled_linked, tabled_reference}
 pub use Rattle.ref_space.specs.Tables.{tabled_reference, unmarked_of, values_in, with_marked, with_tabled}
 pub use Rattle.ref_space.specs.Tables.{without_tabled}

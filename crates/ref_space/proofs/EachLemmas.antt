@@ -6,7 +6,7 @@ use Rattle.ref_space.proofs.Common.{Entry, is_none}
 use Rattle.ref_space.proofs.Common.{sym, AreIndexed, Each, IsSoundNaming, by_number, leads_by, target_by, occupants_of}
 use Rattle.ref_space.proofs.Common.{place_in, values_in}
 use Rattle.ref_space.proofs.ChangeLemmas.{seen_by}
-use Rattle.ref_space.proofs.NamingLemmas.{held_map}
+use Rattle.ref_space.proofs.NamingLemmas.{held_map, each_in_none, Keeps}
 use Rattle.ref_space.proofs.Common.{Bool, true, Reference, cleared, reference_by_number}
 use Rattle.ref_base.specs.Heaps.{changed_reference}
 use Rattle.std.proofs.lemmas.List.{with_items_is}
@@ -14,7 +14,21 @@ use Rattle.ref_space.proofs.FreeLemmas.{is_none-mapped}
 use Rattle.std.specs.Prelude.{Vec}
 use Rattle.std.specs.Vec.{with_items}
 use Rattle.std.proofs.Math.ListN.{get_or-map}
-use Rattle.ref_space.specs.Tables.{unmarked_tabled}
+use Rattle.ref_space.specs.Tables.{with_nothing_done, table_begun, is_healed}
+use Rattle.ref_space.specs.Naming.{EachHeld, IsHeldIn}
+use Rattle.ref_space.specs.declared.colour.Colour.{Colour}
+use Rattle.ref_space.proofs.Common.{◌+◌, ◌-◌, ◌^◌, ◌<◌, ◌==◌, false, true, ◌≤◌, nat_lt, le-ltb, lt-ltb}
+use Rattle.std.proofs.lemmas.Bool.{ne_eqb}
+use Rattle.ref_space.proofs.Common.{subst}
+use Rattle.ref_space.specs.ColouredWords.{recoloured}
+use Rattle.ref_space.proofs.HealLemmas.{slots_healed, slots-healed}
+use Rattle.ref_space.specs.declared.round.Round.{Round}
+
+-- items that are lent to be changed each
+pub items_mapped : {X Z : Type 0} (g : X → X) (v : Vec X Z) {lent now : List X} → length v.items ≡ v.len
+    → now ≡ map g lent → lent ≡ v.items → (with_items v now).items ≡ map g v.items
+items_mapped g v {lent} {now} size is same =
+    with_items_is v now (ap length is ∙ length-map lent g ∙ ap length same ∙ size) ∙ is ∙ ap (map g) same
 
 module _ (f : Tabled → Tabled) (keeps : (k : Tabled) → (f k).object.no ≡ k.object.no) where
   before-each : (c : Option Tabled) (n : ℕ) (ks : List Tabled)
@@ -62,9 +76,7 @@ module _ (f : Tabled → Tabled) (keeps : (k : Tabled) → (f k).object.no ≡ k
   -- and so where they are lent for it
   pub items_each : {Z : Type 0} (v : Vec (Option Tabled) Z) {lent now : List (Option Tabled)} → length v.items ≡ v.len
       → now ≡ map (option_map f) lent → lent ≡ v.items → (with_items v now).items ≡ map (option_map f) v.items
-  items_each v {lent} {now} size is same =
-      with_items_is v now (ap length is ∙ length-map lent (option_map f) ∙ ap length same ∙ size)
-      ∙ is ∙ ap (map (option_map f)) same
+  items_each v = items_mapped (option_map f) v
 
   module _ (cells : List (Option Tabled)) {ds : List (Option Tabled)} (is : ds ≡ map (option_map f) cells)
       (es : List Entry) where
@@ -77,44 +89,46 @@ module _ (f : Tabled → Tabled) (keeps : (k : Tabled) → (f k).object.no ≡ k
     pub length-all : length ds ≡ length cells
     length-all = ap length is ∙ length-map cells (option_map f)
 
-    occupants-all : occupants_of ds ≡ occupants_of cells
+    pub occupants-all : occupants_of ds ≡ occupants_of cells
     occupants-all = ap occupants_of is ∙ number_in-each cells
 
-    module _ (first : ℕ) (slots : List (Option ℕ)) where
+    module _ (round : Round) (first : ℕ) (slots : List (Option ℕ)) where
       pub seen_all : (last room : ℕ)
           → ((k : Tabled) → by_number (target_by first (occupants_of cells)) (f k)
           ≡ f (by_number (target_by first (occupants_of cells)) k))
-          → seen_table first ds es slots last room
-          ≡ (let t : Table = seen_table first cells es slots last room in record t { tabled = map f t.tabled })
+          → seen_table round first ds es slots last room
+          ≡ (let t : Table = seen_table round first cells es slots last room in record t { tabled = map f t.tabled })
       seen_all last room same =
-          ap (seen_by first last room (tabled_by ds es) slots) occupants-all
-          ∙ ap (λ ks. seen_by first last room ks slots (occupants_of cells)) tabled_by-all
-          ∙ ap (λ ks. record (seen_table first cells es slots last room) { tabled = ks })
+          ap (seen_by round first last room (tabled_by ds es) slots) occupants-all
+          ∙ ap (λ ks. seen_by round first last room ks slots (occupants_of cells)) tabled_by-all
+          ∙ ap (λ ks. record (seen_table round first cells es slots last room) { tabled = ks })
           (map_commutes (by_number (target_by first (occupants_of cells))) same (tabled_by cells es))
 
-      listed_all : AreIndexed cells es → AreIndexed ds es
+      pub listed_all : AreIndexed cells es → AreIndexed ds es
       listed_all listed p k at = listed_each cells es listed p (cell_at cells p) refl k (sym (cell_at-all p) ∙ at)
 
-      pub naming_all : IsSoundNaming first cells es slots
-          → ((k : Tabled) → Each (leads_by first (occupants_of cells)) (values_in k)
-          → Each (leads_by first (occupants_of cells)) (values_in (f k)))
-          → IsSoundNaming first ds es slots
+      pub naming_all : IsSoundNaming round first cells es slots
+          → Keeps round.number (leads_by round.good first (occupants_of cells)) f
+          → IsSoundNaming round first ds es slots
       naming_all naming holds = record {
         begins = naming.begins;
         addresses = rw length-all naming.addresses;
         listed = listed_all naming.listed;
+        begun = naming.begun;
         rooted = rw occupants-all naming.rooted;
         led = rw (occupants-all, tabled_by-all)
-            (held_map (leads_by first (occupants_of cells)) f holds (tabled_by cells es) naming.led);
+            (held_map round.number (leads_by round.good first (occupants_of cells)) round.number
+            (leads_by round.good first (occupants_of cells)) f holds
+            (tabled_by cells es) naming.led);
       }
 
     pub placed_all : {ps : List Use} {last : ℕ} → IsPlaced cells es ps last → IsPlaced ds es ps last
     placed_all {ps} {last} placed = grind (arith, tabled_by-all, length-map, is_none-each)
 
-    pub sound_all : {ps : List Use} {last room count index_room marked marks : ℕ}
-        → IsSoundTable cells es ps last room count index_room marked
-        → marks ≡ length (marked_of (map f (tabled_by cells es)))
-        → IsSoundTable ds es ps last room count index_room marks
+    pub sound_all : {round next : Round} {ps : List Use} {last room count index_room marked marks : ℕ}
+        → IsSoundTable round cells es ps last room count index_room marked
+        → marks ≡ length (marked_of next.number (map f (tabled_by cells es)))
+        → IsSoundTable next ds es ps last room count index_room marks
     sound_all sound counted = search (placed_all, length-all, tabled_by-all, length-map)
 
   -- what is counted of each object is counted of it changed
@@ -123,19 +137,27 @@ module _ (f : Tabled → Tabled) (keeps : (k : Tabled) → (f k).object.no ≡ k
   numbers_by-each count same [] = refl
   numbers_by-each count same (k ∷ ks) = grind (arith, numbers_by-each count same ks)
 
-pub marked_of-unmarked_tabled : (ks : List Tabled) → marked_of (unmarked_tabled ks) ≡ []
-marked_of-unmarked_tabled [] = refl
-marked_of-unmarked_tabled (k ∷ ks) = marked_of-unmarked_tabled ks
+pub marked_of-anew : (ks : List Tabled) → marked_of 1 (map with_nothing_done ks) ≡ []
+marked_of-anew [] = refl
+marked_of-anew (k ∷ ks) = marked_of-anew ks
+
+-- nothing is marked in the next round
+pub marked_of-next : (n : ℕ) (p : Bool → Option ℕ → Bool) (ks : List Tabled) → EachHeld n p ks
+    → marked_of (n + 1) ks ≡ []
+marked_of-next n p [] held = refl
+marked_of-next n p (k ∷ ks) held =
+    let other : (k.marked_in == n + 1) ≡ false = ne_eqb k.marked_in (n + 1) (λ same. omega (arith, held.0.0, same)) in
+    simp other (marked_of-next n p ks held.1)
 
 -- what isn't marked keeps its number, and all marks and holds stay
-pub blanked_keeps : (k : Tabled) → (blanked_unless_marked k).object.no ≡ k.object.no
-blanked_keeps k = grind arith
+pub blanked_keeps : (r : ℕ) (k : Tabled) → (blanked_unless_marked r k).object.no ≡ k.object.no
+blanked_keeps r k = grind arith
 
-pub blanked_marked : (k : Tabled) → (blanked_unless_marked k).marked ≡ k.marked
-blanked_marked k = grind arith
+pub blanked_marked : (r : ℕ) (k : Tabled) → (blanked_unless_marked r k).marked_in ≡ k.marked_in
+blanked_marked r k = grind arith
 
-pub blanked_holds : (k : Tabled) → (blanked_unless_marked k).holds ≡ k.holds
-blanked_holds k = grind arith
+pub blanked_holds : (r : ℕ) (k : Tabled) → (blanked_unless_marked r k).holds ≡ k.holds
+blanked_holds r k = grind arith
 
 -- as many nulls as there were values
 pub nulls-each : (vs : List (Option ℕ)) → nulls (length vs) ≡ map (λ v. None) vs
@@ -143,9 +165,9 @@ nulls-each [] = refl
 nulls-each (v ∷ vs) = ap (λ ws. None ∷ ws) (nulls-each vs)
 
 -- what it holds leads to objects still
-pub blanked-named : (name : Option ℕ → Option ℕ) → name None ≡ None → (k : Tabled)
-    → by_number name (blanked_unless_marked k) ≡ blanked_unless_marked (by_number name k)
-blanked-named name null k = grind (arith, nulls_named k.object.fields, cleared_named k.object.reference)
+pub blanked-named : (r : ℕ) (name : Option ℕ → Option ℕ) → name None ≡ None → (k : Tabled)
+    → by_number name (blanked_unless_marked r k) ≡ blanked_unless_marked r (by_number name k)
+blanked-named r name null k = grind (arith, nulls_named k.object.fields, cleared_named k.object.reference)
   where
     nulls_named : (vs : List (Option ℕ)) → map name (map (λ v. None) vs) ≡ map (λ v. None) (map name vs)
     nulls_named [] = refl
@@ -161,6 +183,109 @@ nulls_lead : (p : Option ℕ → Bool) → p None ≡ true → (vs : List (Optio
 nulls_lead p null [] = tt
 nulls_lead p null (v ∷ vs) = (null, nulls_lead p null vs)
 
-pub blanked_leads : (p : Option ℕ → Bool) → p None ≡ true → (k : Tabled) → Each p (values_in k)
-    → Each p (values_in (blanked_unless_marked k))
-blanked_leads p null k each = grind (arith, nulls_lead p null k.object.fields)
+pub blanked_leads : (r : ℕ) (p : Bool → Option ℕ → Bool) → ((b : Bool) → p b None ≡ true)
+    → Keeps r p (blanked_unless_marked r)
+blanked_leads r p null k held =
+    grind (
+      arith,
+      null (is_healed r k),
+      nulls_lead (p (is_healed r k)) (null (is_healed r k)) k.object.fields,
+    )
+
+-- ---- a round begins
+
+held_next : (n : ℕ) (old new : Colour) (first : ℕ) (os : List (Option ℕ)) (ks : List Tabled)
+    → EachHeld n (leads_by old first os) ks → EachHeld (n + 1) (leads_by new first os) ks
+held_next n old new first os [] held = tt
+held_next n old new first os (k ∷ ks) held =
+    let other : (k.healed_in == n + 1) ≡ false = ne_eqb k.healed_in (n + 1) (λ same. omega (arith, held.0.1, same)) in (
+      (
+        omega (arith, held.0.0),
+        omega (arith, held.0.1),
+        subst (λ b. Each (leads_by new first os b) (values_in k)) (sym other)
+            (each_in_none old new first os (is_healed n k) (values_in k) held.0.2),
+      ),
+      held_next n old new first os ks held.1,
+    )
+
+held_anew : (n : ℕ) (old new : Colour) (first : ℕ) (os : List (Option ℕ)) (k : Tabled)
+    → IsHeldIn n (leads_by old first os) k → IsHeldIn 1 (leads_by new first os) (with_nothing_done k)
+held_anew n old new first os k held =
+    (omega arith, omega arith, each_in_none old new first os (is_healed n k) (values_in k) held.2)
+
+module _ (old : Round) (new : Colour) (first : ℕ) (cells : List (Option Tabled)) (es : List Entry)
+    (slots : List (Option ℕ)) {healed : List (Option ℕ)} (recolours : healed ≡ map (recoloured new) slots) where
+  -- the next
+  module _ (less : old.number < 2 ^ 64 - 1) {next : Round} (is : next ≡ record { number = old.number + 1; good = new })
+    where
+      pub sound_next : {ps : List Use} {last room count index_room marked : ℕ}
+          → IsSoundTable old cells es ps last room count index_room marked → IsSoundNaming old first cells es slots
+          → IsSoundTable next cells es ps last room count index_room 0
+      sound_next sound naming = record {
+        placed = sound.placed;
+        cells_fit = sound.cells_fit;
+        counted = sound.counted;
+        within = sound.within;
+        index_fits = sound.index_fits;
+        marks_counted = rw is
+            (sym (ap length (marked_of-next old.number (leads_by old.good first (occupants_of cells))
+            (tabled_by cells es)
+            naming.led)));
+      }
+
+      pub naming_next : IsSoundNaming old first cells es slots → IsSoundNaming next first cells es healed
+      naming_next naming = record {
+        begins = naming.begins;
+        addresses = naming.addresses;
+        listed = naming.listed;
+        rooted = rw (is, recolours) (slots_healed new first (occupants_of cells) old.good slots naming.rooted);
+        begun = rw is (omega arith);
+        led = rw is (held_next old.number old.good new first (occupants_of cells) (tabled_by cells es) naming.led);
+      }
+
+      pub seen_next : (last room : ℕ)
+          → seen_table next first cells es healed last room ≡ table_begun
+          (seen_table old first cells es slots last room) new
+      seen_next last room =
+          let own : nat_lt old.number (2 ^ 64 - 1) ≡ true =
+          lt-ltb old.number (2 ^ 64 - 1) less in
+          ap (λ r. seen_table r first cells es healed last room) is
+          ∙ ap (λ vs. record (seen_table (record { number = old.number + 1; good = new }) first cells es slots last
+          room) {
+            slots = vs;
+          })
+          (ap (map (target_by first (occupants_of cells))) recolours
+          ∙ slots-healed new first (occupants_of cells) slots)
+          ∙ simp own refl
+
+  -- the first again, once all numbers are spent
+  module _ {ds : List (Option Tabled)} (each : ds ≡ map (option_map with_nothing_done) cells) {next : Round}
+      (is : next ≡ record { number = 1; good = new }) where
+    pub naming_anew : IsSoundNaming old first cells es slots → IsSoundNaming next first ds es healed
+    naming_anew naming = record {
+      begins = naming.begins;
+      addresses = rw (length-all with_nothing_done (λ k. refl) cells each es) naming.addresses;
+      listed = listed_all with_nothing_done (λ k. refl) cells each es old first slots naming.listed;
+      rooted = rw (is, recolours, occupants-all with_nothing_done (λ k. refl) cells each es)
+          (slots_healed new first (occupants_of cells) old.good slots naming.rooted);
+      begun = rw is (omega arith);
+      led = rw (
+        is,
+        occupants-all with_nothing_done (λ k. refl) cells each es,
+        tabled_by-all with_nothing_done (λ k. refl) cells each es,
+      )
+          (held_map old.number (leads_by old.good first (occupants_of cells)) 1
+          (leads_by new first (occupants_of cells)) with_nothing_done
+          (held_anew old.number old.good new first (occupants_of cells)) (tabled_by cells es) naming.led);
+    }
+
+    pub seen_anew : 2 ^ 64 - 1 ≤ old.number → (last room : ℕ)
+        → seen_table next first ds es healed last room ≡ table_begun (seen_table old first cells es slots last room) new
+    seen_anew spent last room =
+        let own : nat_lt old.number (2 ^ 64 - 1) ≡ false = le-ltb old.number (2 ^ 64 - 1) spent in
+        ap (λ r. seen_table r first ds es healed last room) is
+        ∙ ap (λ vs. record (seen_table (record { number = 1; good = new }) first ds es slots last room) { slots = vs })
+        (ap (map (target_by first (occupants_of ds))) recolours ∙ slots-healed new first (occupants_of ds) slots)
+        ∙ ap (λ (t : Table). record t { round = record { number = 1; good = new } })
+        (seen_all with_nothing_done (λ k. refl) cells each es old first slots last room (λ k. refl))
+        ∙ simp own refl

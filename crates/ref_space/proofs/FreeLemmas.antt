@@ -5,7 +5,9 @@ use Rattle.ref_space.proofs.Common.{option_map, cell_at, AreFree, Tabled, Use, n
 use Rattle.std.proofs.lemmas.Bool.{false≢true}
 use Rattle.std.proofs.lemmas.List.{map-set, get_or-map}
 use Rattle.std.proofs.Math.Seq.{map-set_same}
+use Rattle.ref_space.specs.Bits.{first_set}
 use Rattle.ref_space.specs.Pages.{fresh_pages, is_free_at}
+use Rattle.ref_space.proofs.OccupantLemmas.{first_free}
 use Rattle.ref_space.proofs.PageLemmas.{fresh_whole, whole_with}
 use Rattle.ref_space.proofs.RoomLemmas.{taken_more, taken_fewer}
 use Rattle.ref_space.proofs.FreeCells.{length-free_in, free_in-with, free_in-fresh, is_free_at-free_in, next_place_free}
@@ -23,6 +25,7 @@ holds_nothing (Some k) none = absurd (false≢true none)
 pub record IsTaken (cells : List (Option Tabled)) (ps qs : List Use) (p : ℕ) : Type 0 where
   pub within : p < length cells
   pub none : cell_at cells p ≡ None
+  pub first : first_set (map is_none cells) ≡ Some p
   pub free : (c : Option Tabled) → is_none c ≡ false → AreFree (set cells p c) qs
   pub more : taken_of qs ≡ suc (taken_of ps)
 
@@ -61,6 +64,7 @@ module _ {cells : List (Option Tabled)} {ps : List Use} (free : AreFree cells ps
       record {
         within = within;
         none = grind (arith, holds_nothing, is_free-none at.0 at.1 p there.cell_there);
+        first = ap first_set free.empty ∙ first_free ps at free.whole next;
         free = λ c some. AreFree-with at.0 at.1 p there.cell_there refl c false there.page_there some;
         more = taken_more ps at.0 at.1 there.is_free;
       }

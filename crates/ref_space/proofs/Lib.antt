@@ -9,6 +9,7 @@ pub mod IndexLemmas
 pub mod PlaceLemmas
 pub mod FirstLemmas
 pub mod FreeLemmas
+pub mod OccupantLemmas
 pub mod ChangeLemmas
 pub mod CellChanges
 pub mod PushLemmas
@@ -20,6 +21,7 @@ pub mod EachLemmas
 pub mod MarkCounts
 pub mod NamingLemmas
 pub mod TableSlots
+pub mod HealLemmas
 pub mod TableMarks
 pub mod FieldLemmas
 mod WordExamples

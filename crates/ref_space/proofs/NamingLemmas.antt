@@ -5,6 +5,12 @@ use Rattle.ref_space.proofs.Common.{◌∷◌, ◌++◌, map, set, Option, Some,
 use Rattle.ref_space.proofs.Common.{false≢true, get_or-set_other, has, present, Tabled, tabled_at, first_where}
 use Rattle.ref_space.proofs.Common.{numbers_by, changed_tabled, without_tabled, values_in, NoneNames, Each, EachHeld}
 use Rattle.ref_space.proofs.Common.{by_number, occupant_at, reference_by_number, tabled_if, Reference, referent_of}
+use Rattle.ref_space.specs.Tables.{is_number, is_healed, AllDated}
+use Rattle.ref_space.specs.Naming.{IsHeldIn}
+use Rattle.ref_space.proofs.Common.{cases_Bool, inl, inr}
+use Rattle.ref_space.proofs.Common.{leads_by, target_by}
+use Rattle.ref_space.proofs.WordLemmas.{IsGood, good_leads}
+use Rattle.ref_space.specs.declared.colour.Colour.{Colour}
 
 -- ---- what is read
 
@@ -55,63 +61,84 @@ module _ (p : Option ℕ → Bool) where
   each_set (w ∷ ws) zero v is each = (is, each.1)
   each_set (w ∷ ws) (suc i) v is each = (each.0, each_set ws i v is each.1)
 
-  pub each_held : (ks : List Tabled) (n : ℕ) (k : Tabled) → tabled_at ks n ≡ Some k → EachHeld p ks
-      → Each p (values_in k)
+module _ (r : ℕ) (p : Bool → Option ℕ → Bool) where
+  pub each_held : (ks : List Tabled) (n : ℕ) (k : Tabled) → tabled_at ks n ≡ Some k → EachHeld r p ks → IsHeldIn r p k
   each_held [] n k at held = absurd (cc)
   each_held (l ∷ ls) n k at held = grind (arith, each_held ls n k)
 
-  pub held_changed : (f : Tabled → Tabled) → ((k : Tabled) → Each p (values_in k) → Each p (values_in (f k)))
-      → (ks : List Tabled) (n : ℕ) → EachHeld p ks → EachHeld p (changed_tabled ks n f)
+  -- a change of an object keeps what holds of it
+  abbrev pub Keeps : (Tabled → Tabled) → Type 0
+  Keeps f = (k : Tabled) → IsHeldIn r p k → IsHeldIn r p (f k)
+
+  pub held_changed : (f : Tabled → Tabled) → Keeps f → (ks : List Tabled) (n : ℕ) → EachHeld r p ks
+      → EachHeld r p (changed_tabled ks n f)
   held_changed f keeps [] n held = held
-  held_changed f keeps (k ∷ ks) n held = grind (arith, keeps, held_changed f keeps ks n)
+  held_changed f keeps (k ∷ ks) n held =
+      elim (cases_Bool (k.object.no == n)) [
+        | inl own ↦ simp own (keeps k held.0, held.1)
+        | inr other ↦ simp other (held.0, held_changed f keeps ks n held.1)
+      ]
 
-  pub held_without : (ks : List Tabled) (n : ℕ) → EachHeld p ks → EachHeld p (without_tabled ks n)
+  pub held_without : (ks : List Tabled) (n : ℕ) → EachHeld r p ks → EachHeld r p (without_tabled ks n)
   held_without [] n held = held
-  held_without (k ∷ ks) n held = grind (arith, held_without ks n)
+  held_without (k ∷ ks) n held =
+      elim (cases_Bool (k.object.no == n)) [
+        | inl own ↦ simp own held.1
+        | inr other ↦ simp other (held.0, held_without ks n held.1)
+      ]
 
-  pub held_push : (ks : List Tabled) (k : Tabled) → EachHeld p ks → Each p (values_in k) → EachHeld p (ks ++ k ∷ [])
+  pub held_push : (ks : List Tabled) (k : Tabled) → EachHeld r p ks → IsHeldIn r p k → EachHeld r p (ks ++ k ∷ [])
   held_push [] k held own = (own, tt)
   held_push (l ∷ ls) k held own = (held.0, held_push ls k held.1 own)
 
-  pub held_map : (f : Tabled → Tabled) → ((k : Tabled) → Each p (values_in k) → Each p (values_in (f k)))
-      → (ks : List Tabled) → EachHeld p ks → EachHeld p (map f ks)
+  -- where they hold words they hold numbers, and were marked and healed in the same rounds
+  pub dated : (name : Option ℕ → Option ℕ) (ks : List Tabled) → EachHeld r p ks → AllDated r (map (by_number name) ks)
+  dated name [] held = tt
+  dated name (k ∷ ks) held = (held.0.0, held.0.1, dated name ks held.1)
+
+module _ (q : ℕ) (p : Bool → Option ℕ → Bool) (r : ℕ) (o : Bool → Option ℕ → Bool) where
+  pub held_map : (f : Tabled → Tabled) → ((k : Tabled) → IsHeldIn q p k → IsHeldIn r o (f k)) → (ks : List Tabled)
+      → EachHeld q p ks → EachHeld r o (map f ks)
   held_map f keeps [] held = tt
   held_map f keeps (k ∷ ks) held = (keeps k held.0, held_map f keeps ks held.1)
 
-module _ (p q : Option ℕ → Bool) (to : (v : Option ℕ) → p v ≡ true → q v ≡ true) where
-  pub each_to : (vs : List (Option ℕ)) → Each p vs → Each q vs
-  each_to [] each = tt
-  each_to (v ∷ vs) each = (to v each.0, each_to vs each.1)
+module _ (r : ℕ) (p q : Bool → Option ℕ → Bool) (to : (b : Bool) (v : Option ℕ) → p b v ≡ true → q b v ≡ true) where
+  pub each_to : (b : Bool) (vs : List (Option ℕ)) → Each (p b) vs → Each (q b) vs
+  each_to b [] each = tt
+  each_to b (v ∷ vs) each = (to b v each.0, each_to b vs each.1)
 
-  pub held_to : (ks : List Tabled) → EachHeld p ks → EachHeld q ks
+  pub held_to : (ks : List Tabled) → EachHeld r p ks → EachHeld r q ks
   held_to [] held = tt
-  held_to (k ∷ ks) held = (each_to (values_in k) held.0, held_to ks held.1)
+  held_to (k ∷ ks) held =
+      ((held.0.0, held.0.1, each_to (is_healed r k) (values_in k) held.0.2), held_to ks held.1)
 
 -- ---- names that stay
 
-module _ (p : Option ℕ → Bool) (f h : Option ℕ → Option ℕ) (same : (v : Option ℕ) → p v ≡ true → f v ≡ h v) where
-  pub map_same : (vs : List (Option ℕ)) → Each p vs → map f vs ≡ map h vs
-  map_same [] each = refl
-  map_same (v ∷ vs) each = grind (arith, same, map_same vs each.1)
+module _ (r : ℕ) (p : Bool → Option ℕ → Bool) (f h : Option ℕ → Option ℕ)
+    (same : (b : Bool) (v : Option ℕ) → p b v ≡ true → f v ≡ h v) where
+  pub map_same : (b : Bool) (vs : List (Option ℕ)) → Each (p b) vs → map f vs ≡ map h vs
+  map_same b [] each = refl
+  map_same b (v ∷ vs) each =
+      ap (λ w. w ∷ map f vs) (same b v each.0) ∙ ap (λ ws. h v ∷ ws) (map_same b vs each.1)
 
-  reference_same : (r : Option Reference) → p (referent_of r) ≡ true
+  reference_same : (b : Bool) (r : Option Reference) → p b (referent_of r) ≡ true
       → option_map (reference_by_number f) r ≡ option_map (reference_by_number h) r
-  reference_same None is = refl
-  reference_same (Some r) is = ap (λ (n : Option ℕ). Some (record r { referent = n })) (same r.referent is)
+  reference_same b None is = refl
+  reference_same b (Some r) is = ap (λ (n : Option ℕ). Some (record r { referent = n })) (same b r.referent is)
 
-  object_same : (k : Tabled) → Each p (values_in k) → by_number f k ≡ by_number h k
+  object_same : (k : Tabled) → Each (p (is_healed r k)) (values_in k) → by_number f k ≡ by_number h k
   object_same k each =
       λ i. record k {
         object = record k.object {
-          fields = map_same k.object.fields each.1 i;
-          reference = reference_same k.object.reference each.0 i;
+          fields = map_same (is_healed r k) k.object.fields each.1 i;
+          reference = reference_same (is_healed r k) k.object.reference each.0 i;
         };
       }
 
-  pub named_same : (ks : List Tabled) → EachHeld p ks → map (by_number f) ks ≡ map (by_number h) ks
+  pub named_same : (ks : List Tabled) → EachHeld r p ks → map (by_number f) ks ≡ map (by_number h) ks
   named_same [] held = refl
   named_same (k ∷ ks) held =
-      ap (λ l. l ∷ map (by_number f) ks) (object_same k held.0)
+      ap (λ l. l ∷ map (by_number f) ks) (object_same k held.0.2)
       ∙ ap (λ ls. by_number h k ∷ ls) (named_same ks held.1)
 
 -- a word that leads to an object leads there still where another cell gets one
@@ -120,33 +147,68 @@ pub taken_at : (os : List (Option ℕ)) (p : ℕ) (new : Option ℕ) (place : Op
 taken_at os p new None none led = absurd (false≢true led)
 taken_at os p new (Some q) none led = grind (arith, get_or-set_other)
 
--- whether a name is that of number n
-abbrev pub is_name : Option ℕ → ℕ → Bool
-is_name None n = false
-is_name (Some m) n = m == n
-
 -- and one that doesn't lead to the object that goes
 pub given_at : (os : List (Option ℕ)) (p n : ℕ) (new : Option ℕ) (place : Option ℕ)
-    → slice_index_or os p None ≡ Some n → is_name (occupant_at os place) n ≡ false
+    → slice_index_or os p None ≡ Some n → is_number (occupant_at os place) n ≡ false
     → occupant_at (set os p new) place ≡ occupant_at os place
 given_at os p n new None own other = refl
 given_at os p n new (Some q) own other = grind (arith, get_or-set_other)
+
+-- ---- what has to have the good colour
+
+module _ (good : Colour) (first : ℕ) (os : List (Option ℕ)) where
+  -- a word of the good colour may stand anywhere, and each word where none has to have it
+  pub good_anywhere : (b : Bool) (v : Option ℕ) → leads_by good first os true v ≡ true
+      → leads_by good first os b v ≡ true
+  good_anywhere true v leads = leads
+  good_anywhere false None leads = refl
+  good_anywhere false (Some w) leads = grind arith
+
+  pub good_word : (n : ℕ) (v : Option ℕ) → target_by first os v ≡ Some n → IsGood good v
+      → leads_by good first os true v ≡ true
+  good_word n v named is = rw named (good_leads good v is)
+
+  pub leads_anyhow : (b : Bool) (v : Option ℕ) → leads_by good first os b v ≡ true
+      → leads_by good first os false v ≡ true
+  leads_anyhow false v leads = leads
+  leads_anyhow true v leads = good_anywhere false v leads
+
+  pub each_anyhow : (b : Bool) (vs : List (Option ℕ)) → Each (leads_by good first os b) vs
+      → Each (leads_by good first os false) vs
+  each_anyhow b [] each = tt
+  each_anyhow b (v ∷ vs) each = (leads_anyhow b v each.0, each_anyhow b vs each.1)
+
+-- where none has to have the good colour, it is all the same which one that is
+module _ (old new : Colour) (first : ℕ) (os : List (Option ℕ)) where
+  in_none : (v : Option ℕ) → leads_by old first os false v ≡ true → leads_by new first os false v ≡ true
+  in_none None leads = leads
+  in_none (Some w) leads = leads
+
+  pub each_in_none : (b : Bool) (vs : List (Option ℕ)) → Each (leads_by old first os b) vs
+      → Each (leads_by new first os false) vs
+  each_in_none b [] each = tt
+  each_in_none b (v ∷ vs) each = (in_none v (leads_anyhow old first os b v each.0), each_in_none b vs each.1)
 
 -- ---- what nothing names
 
 module _ (name : Option ℕ → Option ℕ) (n : ℕ) where
   pub each_unnamed : (p : Option ℕ → Bool) (vs : List (Option ℕ)) → Each p vs → has (present (map name vs)) n ≡ false
-      → Each (λ v. p v && not (is_name (name v) n)) vs
+      → Each (λ v. p v && not (is_number (name v) n)) vs
   each_unnamed p [] each none = tt
   each_unnamed p (v ∷ vs) each none = grind (arith, each_unnamed p vs each.1)
 
   values-named : (k : Tabled) → name None ≡ None → values_in (by_number name k) ≡ map name (values_in k)
   values-named k null = grind arith
 
-  pub held_unnamed : (p : Option ℕ → Bool) → name None ≡ None → (ks : List Tabled) → EachHeld p ks
-      → NoneNames (map (by_number name) ks) n → EachHeld (λ v. p v && not (is_name (name v) n)) ks
-  held_unnamed p null [] held none = tt
-  held_unnamed p null (k ∷ ks) held none = (
-    each_unnamed p (values_in k) held.0 (ap (λ vs. has (present vs) n) (sym (values-named k null)) ∙ none.0),
-    held_unnamed p null ks held.1 none.1,
+  pub held_unnamed : (r : ℕ) (p : Bool → Option ℕ → Bool) → name None ≡ None → (ks : List Tabled) → EachHeld r p ks
+      → NoneNames (map (by_number name) ks) n → EachHeld r (λ b v. p b v && not (is_number (name v) n)) ks
+  held_unnamed r p null [] held none = tt
+  held_unnamed r p null (k ∷ ks) held none = (
+    (
+      held.0.0,
+      held.0.1,
+      each_unnamed (p (is_healed r k)) (values_in k) held.0.2 (ap (λ vs. has (present vs) n) (sym
+          (values-named k null)) ∙ none.0),
+    ),
+    held_unnamed r p null ks held.1 none.1,
   )

@@ -10,12 +10,24 @@ use Rattle.ref_space.proofs.Common.{place_in}
 use Rattle.ref_space.proofs.Common.{values_in, cell_at, is_of, None, Bool, eqb-true, get_or-set_other, length-map}
 use Rattle.ref_space.proofs.ChangeLemmas.{seen_by}
 use Rattle.ref_space.proofs.Common.{option_map, reference_by_number}
-use Rattle.ref_space.proofs.TableLemmas.{map-nulls}
+use Rattle.ref_space.proofs.TableLemmas.{map-nulls, has_address, word_place}
 use Rattle.ref_space.proofs.NamingLemmas.{each_set, each_to, held_push, held_to, map_same, named_same, taken_at}
 use Rattle.std.proofs.lemmas.List.{map-set}
+use Rattle.ref_space.proofs.WordLemmas.{IsGood, good_leads, word_is_good}
+use Rattle.ref_space.specs.ColouredWords.{IsCell, word_in_colour}
+use Rattle.ref_space.proofs.Common.{◌/◌, ◌%◌}
 use Rattle.std.proofs.Math.ListN.{get_or-map}
 use Rattle.std.proofs.lemmas.List.Filters.{length-filter_both}
 use Rattle.ref_space.specs.Places.{with_room}
+use Rattle.ref_space.specs.Bits.{first_set}
+use Rattle.ref_space.specs.Tables.{with_occupant, is_marked}
+use Rattle.ref_space.specs.Naming.{IsHeldIn}
+use Rattle.std.proofs.lemmas.Bool.{ne_eqb}
+use Rattle.ref_space.proofs.TableLemmas.{all_null}
+use Rattle.ref_space.proofs.Common.{referent_of, false}
+use Rattle.ref_space.specs.declared.colour.Colour.{Colour}
+use Rattle.ref_space.specs.declared.round.Round.{Round}
+use Rattle.ref_space.proofs.OccupantLemmas.{none-occupants, occupied_first}
 use Rattle.ref_space.proofs.RoomLemmas.{always_room}
 use Rattle.ref_space.proofs.FreeLemmas.{length-free, taken_next, IsTaken}
 use Rattle.ref_space.proofs.MarkCounts.{marks_made}
@@ -25,11 +37,12 @@ use Rattle.ref_space.proofs.PlaceLemmas.{tabled_by-set, tabled_by-push, tabled_b
 -- ---- gaps
 
 -- closed gaps change nothing that is seen; the cells are looked at through a slice that was lent
-pub seen_closed : {cells borrowed : List (Option Tabled)} {fs : List Entry} (es : List Entry) (first last room : ℕ)
+pub seen_closed : {cells borrowed : List (Option Tabled)} {fs : List Entry} (es : List Entry) (round : Round)
+    (first last room : ℕ)
     (slots : List (Option ℕ)) → borrowed ≡ cells → fs ≡ filter (is_live borrowed) es
-    → seen_table first cells fs slots last room ≡ seen_table first cells es slots last room
-seen_closed {cells} {borrowed} {fs} es first last room slots same is =
-    ap (λ ks. seen_by first last room ks slots (occupants_of cells))
+    → seen_table round first cells fs slots last room ≡ seen_table round first cells es slots last room
+seen_closed {cells} {borrowed} {fs} es round first last room slots same is =
+    ap (λ ks. seen_by round first last room ks slots (occupants_of cells))
     (ap (tabled_by cells) (is ∙ ap (λ cs. filter (is_live cs) es) same) ∙ tabled_by-filter cells es)
 
 -- an entry of an object stays
@@ -45,20 +58,22 @@ listed_filter cells es listed p k at =
     place_in-filter cells es k.object.no p (listed p k at) (rw at own)
 
 -- closed gaps leave what words lead to
-pub naming_relisted : {first : ℕ} {cells : List (Option Tabled)} {es fs : List Entry} {slots : List (Option ℕ)}
-    → IsSoundNaming first cells es slots → AreIndexed cells fs → tabled_by cells fs ≡ tabled_by cells es
-    → IsSoundNaming first cells fs slots
+pub naming_relisted : {round : Round} {first : ℕ} {cells : List (Option Tabled)} {es fs : List Entry} {slots : List
+    (Option ℕ)}
+    → IsSoundNaming round first cells es slots → AreIndexed cells fs → tabled_by cells fs ≡ tabled_by cells es
+    → IsSoundNaming round first cells fs slots
 naming_relisted naming listed same = record {
   begins = naming.begins;
   addresses = naming.addresses;
   listed = listed;
+  begun = naming.begun;
   rooted = naming.rooted;
   led = rw same naming.led;
 }
 
-pub naming_closed : {first : ℕ} {cells borrowed : List (Option Tabled)} {es fs : List Entry}
-    {slots : List (Option ℕ)} → IsSoundNaming first cells es slots → borrowed ≡ cells
-    → fs ≡ filter (is_live borrowed) es → IsSoundNaming first cells fs slots
+pub naming_closed : {round : Round} {first : ℕ} {cells borrowed : List (Option Tabled)} {es fs : List Entry}
+    {slots : List (Option ℕ)} → IsSoundNaming round first cells es slots → borrowed ≡ cells
+    → fs ≡ filter (is_live borrowed) es → IsSoundNaming round first cells fs slots
 naming_closed {first} {cells} {borrowed} {es} {fs} naming same is =
     let closed : fs ≡ filter (is_live cells) es = is ∙ ap (λ cs. filter (is_live cs) es) same in
     naming_relisted naming (subst (AreIndexed cells) (sym closed) (listed_filter cells es naming.listed))
@@ -76,11 +91,11 @@ placed_closed {cells} {borrowed} {es} {fs} {ps} {last} placed same is =
       NoneAbove-filter,
     )
 
-pub counted_closed : {cells borrowed : List (Option Tabled)} {es fs : List Entry} {ps : List Use}
-    {last room count index_room marked : ℕ} → IsSoundTable cells es ps last room count index_room marked
+pub counted_closed : {round : Round} {cells borrowed : List (Option Tabled)} {es fs : List Entry} {ps : List Use}
+    {last room count index_room marked : ℕ} → IsSoundTable round cells es ps last room count index_room marked
     → borrowed ≡ cells → fs ≡ filter (is_live borrowed) es → {capacity : ℕ} → capacity ≡ index_room
-    → IsSoundTable cells fs ps last room count capacity marked
-counted_closed {cells} {borrowed} {es} {fs} sound same is fits =
+    → IsSoundTable round cells fs ps last room count capacity marked
+counted_closed {round} {cells} {borrowed} {es} {fs} sound same is fits =
     let seen : tabled_by cells fs ≡ tabled_by cells es =
     ap (tabled_by cells) (is ∙ ap (λ cs. filter (is_live cs) es) same) ∙ tabled_by-filter cells es in
     grind (arith, placed_closed sound.placed same is, seen)
@@ -139,17 +154,39 @@ occupant_at_place p os = occupant_at os (Some p)
 -- ---- a new object
 
 -- a new cell's object, by number
-pub entry-named : (name : Option ℕ → Option ℕ) → name None ≡ None → (n count : ℕ) (marked : Bool)
+pub entry-named : (name : Option ℕ → Option ℕ) → name None ≡ None → (q n count : ℕ) (marked : Bool)
     (kept : Option Reference) {r : Option Reference} → option_map (reference_by_number name) kept ≡ r
-    → by_number name (made_entry n count kept marked) ≡ made_entry n count r marked
-entry-named name null n count marked kept {r} is =
-    λ i. record (made_entry n count kept marked) {
+    → by_number name (made_entry q n count kept marked) ≡ made_entry q n count r marked
+entry-named name null q n count marked kept {r} is =
+    λ i. record (made_entry q n count kept marked) {
       object = record {
         no = n;
         fields = map-nulls name None null count i;
         reference = is i;
       };
     }
+
+-- it is marked where that is told
+pub made_marked : (q n count : ℕ) (kept : Option Reference) (marked : Bool) → 1 ≤ q
+    → is_marked q (made_entry q n count kept marked) ≡ marked
+made_marked q n count kept true begun = eq-eqb q q refl
+made_marked q n count kept false begun = ne_eqb 0 q (λ same. omega (arith, begun, same))
+
+-- and healed: what it holds has the good colour
+pub made_held : (q : ℕ) (good : Colour) (first : ℕ) (os : List (Option ℕ)) (n count : ℕ) (kept : Option Reference)
+    (marked : Bool) → leads_by good first os true (referent_of kept) ≡ true
+    → IsHeldIn q (leads_by good first os) (made_entry q n count kept marked)
+made_held q good first os n count kept marked leads =
+    let own : (q == q) ≡ true = eq-eqb q q refl in (
+      dated marked,
+      omega arith,
+      subst (λ b. Each (leads_by good first os b) (values_in (made_entry q n count kept marked))) (sym own)
+          (leads, all_null (leads_by good first os true) refl count),
+    )
+  where
+    dated : (marked : Bool) → (made_entry q n count kept marked).marked_in ≤ q
+    dated true = omega arith
+    dated false = omega arith
 
 -- an object may be made: there may be one more, its place was taken, and the index has room
 pub record CanMake (cells : List (Option Tabled)) (es fs : List Entry) (ps qs : List Use) (last room p : ℕ) : Type 0
@@ -158,10 +195,12 @@ pub record CanMake (cells : List (Option Tabled)) (es fs : List Entry) (ps qs : 
     pub closed : HasRoom cells es fs ps last
     pub taken : IsTaken cells ps qs p
 
-module _ {first : ℕ} {cells : List (Option Tabled)} {es : List Entry} {ps : List Use} {slots : List (Option ℕ)}
+module _ {round : Round} {first : ℕ} {cells : List (Option Tabled)} {es : List Entry} {ps : List Use} {slots : List
+    (Option ℕ)}
     {last room count index_room marked : ℕ}
-    (sound : IsSoundTable cells es ps last room count index_room marked × IsSoundNaming first cells es slots)
-    {t : Table} (view : seen_table first cells es slots last room ≡ t) where
+    (sound : IsSoundTable round cells es ps last room count index_room marked × IsSoundNaming round first cells es
+    slots)
+    {t : Table} (view : seen_table round first cells es slots last room ≡ t) where
   module _ (spare : length t.tabled < t.room) where
     fewer : length (tabled_by cells es) < room
     fewer =
@@ -208,16 +247,16 @@ module _ {first : ℕ} {cells : List (Option Tabled)} {es : List Entry} {ps : Li
         let free = can.taken.free c (ap is_none is) in
         grind (arith, new, length-set, length_push, Rises-push, NoneAbove-push, length-made)
 
-    table_made : {capacity more : ℕ} → index_room ≤ capacity → more ≡ from_bool k.marked
-        → IsSoundTable (set cells p c) gs qs k.object.no room (count + 1) capacity (marked + more)
+    table_made : {capacity more : ℕ} → index_room ≤ capacity → more ≡ from_bool (is_marked round.number k)
+        → IsSoundTable round (set cells p c) gs qs k.object.no room (count + 1) capacity (marked + more)
     table_made {capacity} {more} fits one =
-        let marks = marks_made (tabled_by cells es) k tabled_by-made one sound.0.marks_counted in
+        let marks = marks_made round.number (tabled_by cells es) k tabled_by-made one sound.0.marks_counted in
         grind (arith, placed_made, length-set, length-made)
 
     -- ---- what words lead to then
 
-    abbrev leads : Option ℕ → Bool
-    leads = leads_by first (occupants_of cells)
+    abbrev leads : Bool → Option ℕ → Bool
+    leads = leads_by round.good first (occupants_of cells)
 
     abbrev then : List (Option ℕ)
     then = occupants_of (set cells p c)
@@ -226,17 +265,28 @@ module _ {first : ℕ} {cells : List (Option Tabled)} {es : List Entry} {ps : Li
     occupants-made =
         ap (λ c. occupants_of (set cells p c)) is ∙ map-set occupant_in cells p (Some k)
 
-    named_still : (v : Option ℕ) → leads v ≡ true → target_by first then v ≡ target_by first (occupants_of cells) v
-    named_still None led = refl
-    named_still (Some w) led =
+    named_still : (b : Bool) (v : Option ℕ) → leads b v ≡ true
+        → target_by first then v ≡ target_by first (occupants_of cells) v
+    named_still b None led = refl
+    named_still b (Some w) led =
         ap (λ os. target_by first os (Some w)) occupants-made
         ∙ taken_at (occupants_of cells) p (Some k.object.no) (place_by first (Some w))
-        (get_or-map occupant_in cells p None ∙ ap occupant_in can.taken.none) led
+        (get_or-map occupant_in cells p None ∙ ap occupant_in can.taken.none) (grind arith)
 
-    leads_still : (v : Option ℕ) → leads v ≡ true → leads_by first then v ≡ true
-    leads_still v led = rw (named_still v led) led
+    leads_still : (b : Bool) (v : Option ℕ) → leads b v ≡ true → leads_by round.good first then b v ≡ true
+    leads_still b v led = rw (named_still b v led) led
 
-    module _ (holds : Each leads (values_in k)) (into : ℕ) (w : Option ℕ) (word : place_by first w ≡ Some p) where
+    module _ (holds : IsHeldIn round.number leads k) (into : ℕ) {w : Option ℕ}
+        (made : w ≡ word_in_colour round.good (first + p / 64) (p % 64)) where
+      at : IsCell (first + p / 64) (p % 64)
+      at = has_address sound.1 p can.taken.within
+
+      word : place_by first w ≡ Some p
+      word = rw made (word_place round.good p first at)
+
+      is_good : IsGood round.good w
+      is_good = subst (IsGood round.good) (sym made) (word_is_good round.good (first + p / 64) (p % 64) at)
+
       named_new : target_by first then w ≡ Some k.object.no
       named_new =
           ap (occupant_at then) word ∙ ap (occupant_at_place p) occupants-made
@@ -244,28 +294,35 @@ module _ {first : ℕ} {cells : List (Option Tabled)} {es : List Entry} {ps : Li
           (let size = length-map cells occupant_in in omega (arith, size, can.taken.within))
 
       pub seen_made : (r : Option Reference) (n : ℕ) (marks : Bool)
-          → by_number (target_of t) k ≡ made_entry k.object.no n r marks → {os : List (Option ℕ)} → then ≡ os
-          → seen_table first (set cells p c) gs (set slots into w) k.object.no room
-          ≡ with_tabled t into (made_entry k.object.no n r marks) os
-      seen_made r n marks entry {os} now =
+          → by_number (target_of t) k ≡ made_entry round.number k.object.no n r marks
+          → seen_table round first (set cells p c) gs (set slots into w) k.object.no room
+          ≡ with_tabled t into (made_entry round.number k.object.no n r marks)
+      seen_made r n marks entry =
           (λ i. record {
             tabled = tabled_then i;
             room = room;
             last = k.object.no;
             slots = slots_then i;
             first = first;
-            occupants = now i;
+            occupants = occupants_then i;
+            round = round;
           })
-          ∙ ap (λ (s : Table). with_tabled s into (by_number (target_of s) k) os) view
-          ∙ ap (λ l. with_tabled t into l os) entry
+          ∙ ap (λ (s : Table). with_tabled s into (by_number (target_of s) k)) view
+          ∙ ap (with_tabled t into) entry
         where
+          occupants_then : then ≡ with_occupant (occupants_of cells) k.object.no
+          occupants_then =
+              occupants-made
+              ∙ sym (occupied_first (occupants_of cells) k.object.no p
+              (ap first_set (none-occupants cells) ∙ can.taken.first))
+
           tabled_then : map (by_number (target_by first then)) (tabled_by (set cells p c) gs)
               ≡ map (by_number (target_by first (occupants_of cells))) (tabled_by cells es)
               ++ by_number (target_by first (occupants_of cells)) k ∷ []
           tabled_then =
               ap (map (by_number (target_by first then))) tabled_by-made
-              ∙ named_same leads (target_by first then) (target_by first (occupants_of cells)) named_still
-              (tabled_by cells es ++ k ∷ []) (held_push leads (tabled_by cells es) k sound.1.led holds)
+              ∙ named_same round.number leads (target_by first then) (target_by first (occupants_of cells)) named_still
+              (tabled_by cells es ++ k ∷ []) (held_push round.number leads (tabled_by cells es) k sound.1.led holds)
               ∙ map-append (by_number (target_by first (occupants_of cells))) (tabled_by cells es) (k ∷ [])
 
           slots_then : map (target_by first then) (set slots into w)
@@ -273,19 +330,20 @@ module _ {first : ℕ} {cells : List (Option Tabled)} {es : List Entry} {ps : Li
           slots_then =
               map-set (target_by first then) slots into w
               ∙ ap (λ vs. set vs into (target_by first then w))
-              (map_same leads (target_by first then) (target_by first (occupants_of cells)) named_still slots
+              (map_same round.number leads (target_by first then) (target_by first
+              (occupants_of cells)) named_still true slots
               sound.1.rooted)
               ∙ ap (set (map (target_by first (occupants_of cells)) slots) into) named_new
 
       listed_made : AreIndexed (set cells p c) gs
-      listed_made q l at =
+      listed_made q l here =
           rw pushed
           (elim (cases_Bool (q == p)) [
             | inl own ↦
                 let same : q ≡ p = eqb-true q p own in
                 let here : Some k ≡ Some l =
                 sym is ∙ sym (get_or-set_same cells p c None can.taken.within)
-                ∙ ap (λ j. cell_at (set cells p c) j) (sym same) ∙ at in
+                ∙ ap (λ j. cell_at (set cells p c) j) (sym same) ∙ here in
                 let number : l.object.no ≡ k.object.no = ap (λ (m : Option Tabled). number_or_0 m) (sym here) in
                 place_in-last fs (record { no = k.object.no; place = p }) l.object.no
                 (place_in-new fs l.object.no last can.closed.placed.given (rw number new)) (sym number)
@@ -293,22 +351,24 @@ module _ {first : ℕ} {cells : List (Option Tabled)} {es : List Entry} {ps : Li
             | inr other ↦
                 place_in-append fs (record { no = k.object.no; place = p }) l.object.no q
                 (can.closed.listed sound.1.listed q l
-                (sym (get_or-set_other cells p q c None (λ same. false≢true (sym other ∙ eq-eqb q p same))) ∙ at))
+                (sym (get_or-set_other cells p q c None (λ same. false≢true (sym other ∙ eq-eqb q p same))) ∙ here))
           ])
 
-      pub sound_made : {capacity more : ℕ} → index_room ≤ capacity → more ≡ from_bool k.marked
-          → IsSoundTable (set cells p c) gs qs k.object.no room (count + 1) capacity (marked + more)
-          × IsSoundNaming first (set cells p c) gs (set slots into w)
+      pub sound_made : {capacity more : ℕ} → index_room ≤ capacity → more ≡ from_bool (is_marked round.number k)
+          → IsSoundTable round (set cells p c) gs qs k.object.no room (count + 1) capacity (marked + more)
+          × IsSoundNaming round first (set cells p c) gs (set slots into w)
       sound_made fits one = (
         table_made fits one,
         record {
           begins = sound.1.begins;
           addresses = rw (length-set cells p c) sound.1.addresses;
           listed = listed_made;
-          rooted = each_set (leads_by first then) slots into w (rw named_new (grind arith))
-              (each_to leads (leads_by first then) leads_still slots sound.1.rooted);
+          begun = sound.1.begun;
+          rooted = each_set (leads_by round.good first then true) slots into w (rw named_new
+              (good_leads round.good w is_good))
+              (each_to round.number leads (leads_by round.good first then) leads_still true slots sound.1.rooted);
           led = rw tabled_by-made
-              (held_to leads (leads_by first then) leads_still (tabled_by cells es ++ k ∷ [])
-              (held_push leads (tabled_by cells es) k sound.1.led holds));
+              (held_to round.number leads (leads_by round.good first then) leads_still (tabled_by cells es ++ k ∷ [])
+              (held_push round.number leads (tabled_by cells es) k sound.1.led holds));
         },
       )

@@ -1,7 +1,14 @@
 -- Worked and illegal examples of words that lead to objects, and of numbers that nothing names.
-use Rattle.ref_space.proofs.Common.{◌≡◌, ℕ, refl, true, false≢true, sym, [], ◌∷◌, Option, Some, None, List, Table}
+use Rattle.ref_space.proofs.Common.{◌≡◌, ℕ, refl, true, false, false≢true, sym, [], ◌∷◌, Option, Some, None, List}
+use Rattle.ref_space.proofs.Common.{Table}
 use Rattle.ref_space.proofs.Common.{IsUnnamed, Tabled, leads_by, target_by}
-use Rattle.ref_space.specs.ColouredWords.{word_in_colour}
+use Rattle.ref_space.specs.ColouredWords.{word_in_colour, recoloured, colour_number}
+use Rattle.ref_space.specs.declared.colour.Colour.{Colour}
+use Rattle.std.proofs.lemmas.Option.{none-some}
+use Rattle.ref_space.proofs.Common.{subst, ap, slice_index_or, ◌+◌, ◌-◌, ◌*◌}
+use Rattle.ref_space.specs.Naming.{IsWordHeld}
+use Rattle.ref_space.specs.Tables.{with_occupant, without_occupant}
+use Rattle.ref_space.proofs.Common.{arith}
 use Rattle.ref_space.specs.declared.colour.Colour.TheVariants.{A, R}
 
 -- ---- the first two cells of the page at address 3, with objects 7 and none
@@ -19,17 +26,83 @@ null_leads_nowhere : target_by 3 occupants None ≡ None
 null_leads_nowhere = refl
 
 -- null may be held, and no word of a free cell, of another page, or of one in front of the first
-null_may_be_held : leads_by 3 occupants None ≡ true
+null_may_be_held : leads_by R 3 occupants true None ≡ true
 null_may_be_held = refl
 
-no_word_of_a_free_cell : leads_by 3 occupants (word_in_colour R 3 1) ≡ true → ⊥
+no_word_of_a_free_cell : leads_by R 3 occupants false (word_in_colour R 3 1) ≡ true → ⊥
 no_word_of_a_free_cell leads = false≢true leads
 
-no_word_of_another_page : leads_by 3 occupants (word_in_colour R 4 0) ≡ true → ⊥
+no_word_of_another_page : leads_by R 3 occupants false (word_in_colour R 4 0) ≡ true → ⊥
 no_word_of_another_page leads = false≢true leads
 
-no_word_in_front_of_the_first : leads_by 3 occupants (word_in_colour R 2 63) ≡ true → ⊥
+no_word_in_front_of_the_first : leads_by R 3 occupants false (word_in_colour R 2 63) ≡ true → ⊥
 no_word_in_front_of_the_first leads = false≢true leads
+
+-- it has to have the good colour where a slot or a healed object holds it
+a_slot_may_hold_it : leads_by R 3 occupants true (word_in_colour R 3 0) ≡ true
+a_slot_may_hold_it = refl
+
+no_slot_holds_it_in_another_colour : leads_by R 3 occupants true (word_in_colour A 3 0) ≡ true → ⊥
+no_slot_holds_it_in_another_colour leads = false≢true leads
+
+it_is_healed_by_the_good_colour : recoloured R (word_in_colour A 3 0) ≡ word_in_colour R 3 0
+it_is_healed_by_the_good_colour = refl
+
+-- ---- its bits, in hexadecimal c0000000000000c0
+
+abbrev page_in : Option (Colour × ℕ × ℕ) → ℕ
+page_in None = 0
+page_in (Some parts) = parts.1
+
+abbrev cell_in : Option (Colour × ℕ × ℕ) → ℕ
+cell_in None = 0
+cell_in (Some parts) = parts.2
+
+abbrev colour_in : Option (Colour × ℕ × ℕ) → ℕ
+colour_in None = 0
+colour_in (Some parts) = colour_number parts.0
+
+its_bits : IsWordHeld R 3 occupants true (Some 7) 13835058055282163904
+its_bits = record {
+  colour = R;
+  page = 3;
+  cell = 0;
+  parts = refl;
+  front = omega arith;
+  lies = refl;
+  healed = λ
+      has_to. refl;
+}
+
+-- none of another cell, of another colour where it has to have the good one, or of null
+no_bits_of_another_cell : IsWordHeld R 3 occupants false (Some 7) 13835058055282163905 → ⊥
+no_bits_of_another_cell is =
+    let page : 3 ≡ is.page = ap page_in is.parts in
+    let cell : 1 ≡ is.cell = ap cell_in is.parts in
+    let there : slice_index_or occupants (64 * (is.page - 3) + 1) None ≡ Some 7 =
+    subst (λ c. slice_index_or occupants (64 * (is.page - 3) + c) None ≡ Some 7) (sym cell) is.lies in
+    none-some 7 (subst (λ p. slice_index_or occupants (64 * (p - 3) + 1) None ≡ Some 7) (sym page) there)
+
+no_bits_of_another_colour : IsWordHeld R 3 occupants true (Some 7) 4611686018427388096 → ⊥
+no_bits_of_another_colour is =
+    let colour : 1 ≡ colour_number is.colour = ap colour_in is.parts in
+    let good : colour_number is.colour ≡ 3 = ap colour_number (is.healed refl) in
+    absurd (omega (arith, colour, good))
+
+null_has_no_word : IsWordHeld R 3 occupants true None 13835058055282163904 → ⊥
+null_has_no_word is = absurd (omega (arith, is))
+
+-- ---- where objects lie
+
+the_first_free_cell_is_taken : with_occupant (Some 7 ∷ None ∷ Some 8 ∷ None ∷ []) 9
+    ≡ Some 7 ∷ Some 9 ∷ Some 8 ∷ None ∷ []
+the_first_free_cell_is_taken = refl
+
+no_later_cell_is_taken : with_occupant (Some 7 ∷ None ∷ Some 8 ∷ None ∷ []) 9 ≡ Some 7 ∷ None ∷ Some 8 ∷ Some 9 ∷ [] → ⊥
+no_later_cell_is_taken same = none-some 9 (sym (ap (λ os. slice_index_or os 1 None) same))
+
+its_cell_alone_is_given_back : without_occupant (Some 7 ∷ None ∷ Some 8 ∷ []) 8 ≡ Some 7 ∷ None ∷ None ∷ []
+its_cell_alone_is_given_back = refl
 
 -- ---- object 7, which a slot holds, and which refers to object 9
 
@@ -37,7 +110,8 @@ abbrev seven : Tabled
 seven = record {
   object = record { no = 7; fields = None ∷ Some 9 ∷ []; reference = None };
   holds = 0;
-  marked = true;
+  marked_in = 1;
+  healed_in = 1;
   link = 0;
   cleared_in = 0;
 }
@@ -50,6 +124,7 @@ table = record {
   slots = None ∷ Some 7 ∷ [];
   first = 3;
   occupants = occupants;
+  round = record { number = 1; good = R };
 }
 
 number_8_is_unnamed : IsUnnamed table 8

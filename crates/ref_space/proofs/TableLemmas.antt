@@ -9,10 +9,13 @@ use Rattle.ref_space.proofs.Common.{◌+◌, ◌/◌, ◌%◌}
 use Rattle.ref_space.specs.Tables.{empty_table}
 use Rattle.ref_space.specs.ColouredWords.{IsCell, word_in_colour}
 use Rattle.ref_space.specs.declared.colour.Colour.TheVariants.{R}
+use Rattle.ref_space.specs.declared.round.Round.{Round}
+use Rattle.ref_space.specs.declared.colour.Colour.{Colour}
 use Rattle.ref_space.proofs.WordLemmas.{place_by-word}
 use Rattle.ref_space.specs.Pages.{fresh_pages}
 use Rattle.ref_space.proofs.RoomLemmas.{fresh_taken}
 use Rattle.ref_space.proofs.FreeLemmas.{AreFree-fresh}
+use Rattle.ref_space.proofs.NamingLemmas.{dated}
 
 -- ---- numbers that rise
 
@@ -63,39 +66,43 @@ numbers-named : (name : Option ℕ → Option ℕ) (ks : List Tabled)
 numbers-named name [] = refl
 numbers-named name (k ∷ ks) = ap (λ ns. k.object.no ∷ ns) (numbers-named name ks)
 
-pub orderly : {first : ℕ} {cells : List (Option Tabled)} {es : List Entry} {ps : List Use} (slots : List (Option ℕ))
-    {last room count index_room marked : ℕ} → IsSoundTable cells es ps last room count index_room marked
-    → IsOrderlyTable (seen_table first cells es slots last room)
-orderly {first} {cells} {es} {ps} slots {last} {room} sound =
+pub orderly : {round : Round} {first : ℕ} {cells : List (Option Tabled)} {es : List Entry} {ps : List Use}
+    (slots : List (Option ℕ))
+    {last room count index_room marked : ℕ} → IsSoundTable round cells es ps last room count index_room marked
+    → IsSoundNaming round first cells es slots → IsOrderlyTable (seen_table round first cells es slots last room)
+orderly {round} {first} {cells} {es} {ps} slots {last} {room} sound naming =
     let name = target_by first (occupants_of cells) in
     let numbers = numbers-named name (tabled_by cells es) in
     record {
       rising = rw numbers (IsRising-tabled_by cells es sound.placed.rises);
       given = rw numbers (AllUpTo-tabled_by cells es last sound.placed.given);
       few = omega (arith, length-map (tabled_by cells es) (by_number name), sound.counted, sound.within);
+      begun = naming.begun;
+      dated = dated round.number (leads_by round.good first (occupants_of cells)) name (tabled_by cells es) naming.led;
     }
 
 -- ---- addresses
 
 -- each cell has a word
-pub has_address : {first : ℕ} {cells : List (Option Tabled)} {es : List Entry} {slots : List (Option ℕ)}
-    → IsSoundNaming first cells es slots → (place : ℕ) → place < length cells
+pub has_address : {round : Round} {first : ℕ} {cells : List (Option Tabled)} {es : List Entry} {slots : List (Option ℕ)}
+    → IsSoundNaming round first cells es slots → (place : ℕ) → place < length cells
     → IsCell (first + place / 64) (place % 64)
 has_address naming place within =
     (omega (arith, naming.begins), omega (arith, naming.addresses, within), omega arith)
 
-pub word_place : (place first : ℕ) → IsCell (first + place / 64) (place % 64)
-    → place_by first (word_in_colour R (first + place / 64) (place % 64)) ≡ Some place
-word_place place first at =
+pub word_place : (colour : Colour) (place first : ℕ) → IsCell (first + place / 64) (place % 64)
+    → place_by first (word_in_colour colour (first + place / 64) (place % 64)) ≡ Some place
+word_place colour place first at =
     let same : 64 * (place / 64) + place % 64 ≡ place = omega arith in
-    place_by-word R first (place / 64) (place % 64) at ∙ ap Some same
+    place_by-word colour first (place / 64) (place % 64) at ∙ ap Some same
 
 -- ---- a new table
 
-pub sound_new : {cells : List (Option Tabled)} {es : List Entry} {ps : List Use} (first count room index_room : ℕ)
+pub sound_new : {round : Round} {cells : List (Option Tabled)} {es : List Entry} {ps : List Use}
+    (first count room index_room : ℕ)
     → room ≤ 64 * count → 64 * count ≤ 2 ^ 16 → 128 * count ≤ index_room → cells ≡ replicate (64 * count) None
-    → es ≡ [] → ps ≡ fresh_pages first count → IsSoundTable cells es ps 0 room 0 index_room 0
-sound_new {cells} {es} {ps} first count room index_room fits small index_fits are none new =
+    → es ≡ [] → ps ≡ fresh_pages first count → IsSoundTable round cells es ps 0 room 0 index_room 0
+sound_new {round} {cells} {es} {ps} first count room index_room fits small index_fits are none new =
     let size : length cells ≡ 64 * count = ap length are ∙ length-replicate (64 * count) None in
     grind (arith, AreFree-fresh first count, fresh_taken first count, size)
 
@@ -108,17 +115,20 @@ pub all_null : (p : Option ℕ → Bool) → p None ≡ true → (n : ℕ) → E
 all_null p null zero = tt
 all_null p null (suc n) = (null, all_null p null n)
 
-pub naming_new : {cells : List (Option Tabled)} {es : List Entry} {slots : List (Option ℕ)} (first count n : ℕ)
-    → 1 ≤ first → first + count ≤ 2 ^ 32 → cells ≡ replicate (64 * count) None → es ≡ [] → slots ≡ replicate n None
-    → IsSoundNaming first cells es slots
-naming_new {cells} {es} {slots} first count n begins addresses are none nulls =
+pub naming_new : {round : Round} {cells : List (Option Tabled)} {es : List Entry} {slots : List (Option ℕ)}
+    (first count n : ℕ)
+    → 1 ≤ round.number → 1 ≤ first → first + count ≤ 2 ^ 32 → cells ≡ replicate (64 * count) None → es ≡ []
+    → slots ≡ replicate n None
+    → IsSoundNaming round first cells es slots
+naming_new {round} {cells} {es} {slots} first count n begun begins addresses are none nulls =
     let size : length cells ≡ 64 * count = ap length are ∙ length-replicate (64 * count) None in
     record {
       begins = begins;
+      begun = begun;
       addresses = omega (arith, size, addresses);
       listed = λ p k at.
           let free : cell_at cells p ≡ None = ap (λ cs. cell_at cs p) are ∙ none_taken (64 * count) p in absurd (cc);
-      rooted = rw nulls (all_null (leads_by first (occupants_of cells)) refl n);
+      rooted = rw nulls (all_null (leads_by round.good first (occupants_of cells) true) refl n);
       led = rw none tt;
     }
 
@@ -129,7 +139,7 @@ map-nulls f x is (suc n) = ap (λ v. v ∷ map f (replicate n x)) is ∙ ap (λ 
 
 pub seen_new : {cells : List (Option Tabled)} {es : List Entry} {slots : List (Option ℕ)} (first count n room : ℕ)
     → count ≡ (room + 63) / 64 → cells ≡ replicate (64 * count) None → es ≡ [] → slots ≡ replicate n None
-    → seen_table first cells es slots 0 room ≡ empty_table room n first
+    → seen_table (record { number = 1; good = R }) first cells es slots 0 room ≡ empty_table room n first
 seen_new {cells} {es} {slots} first count n room fills are none nulls =
     let occupants = ap occupants_of are ∙ map-nulls occupant_in None refl (64 * count)
     ∙ ap (λ m. replicate (64 * m) None) fills in
@@ -142,4 +152,5 @@ seen_new {cells} {es} {slots} first count n room fills are none nulls =
       slots = held i;
       first = first;
       occupants = occupants i;
+      round = record { number = 1; good = R };
     })

@@ -44,14 +44,17 @@ pub holds_in-le : (ks : List Tabled) (n : ℕ) → holds_in (tabled_at ks n) ≤
 holds_in-le ks n = omega (arith, length-without (λ k. k.holds) ks n)
 
 -- one hold more where the object may be held, and else none
-pub held_keeps : (if_marked : Bool) (k : Tabled) → (table.more_held_if if_marked k).object.no ≡ k.object.no
-held_keeps if_marked k = grind arith
+pub held_keeps : (r : ℕ) (if_marked : Bool) (k : Tabled)
+    → (table.more_held_if r if_marked k).object.no ≡ k.object.no
+held_keeps r if_marked k = grind arith
 
-pub held_leaves : (if_marked : Bool) (k : Tabled) → (table.more_held_if if_marked k).marked ≡ k.marked
-held_leaves if_marked k = grind arith
+pub held_leaves : (r : ℕ) (if_marked : Bool) (k : Tabled)
+    → (table.more_held_if r if_marked k).marked_in ≡ k.marked_in
+held_leaves r if_marked k = grind arith
 
-pub changed-held : (ks : List Tabled) (n : ℕ) (if_marked b : Bool) → table.may_hold if_marked (tabled_at ks n) ≡ b
-    → changed_tabled ks n (table.more_held_if if_marked) ≡ (if b then changed_tabled ks n more_held else ks)
-changed-held [] n if_marked true may = absurd (false≢true may)
-changed-held [] n if_marked false not = refl
-changed-held (k ∷ ks) n if_marked b may = grind (arith, changed-held ks n if_marked b)
+pub changed-held : (r : ℕ) (ks : List Tabled) (n : ℕ) (if_marked b : Bool)
+    → table.may_hold r if_marked (tabled_at ks n) ≡ b
+    → changed_tabled ks n (table.more_held_if r if_marked) ≡ (if b then changed_tabled ks n more_held else ks)
+changed-held r [] n if_marked true may = absurd (false≢true may)
+changed-held r [] n if_marked false not = refl
+changed-held r (k ∷ ks) n if_marked b may = grind (arith, changed-held r ks n if_marked b)

@@ -1,10 +1,11 @@
 -- Coloured words, by which slots and fields name an object (JEP 333, ZGC: a pointer that has a colour in bits of its
 -- own). Three colours, pages of 64 cells and where the bits stand are this project's profile.
-use Rattle.std.specs.Prelude.{◌≡◌, ℕ, ◌+◌, ◌-◌, ◌*◌, ◌/◌, ◌%◌, ◌^◌, ◌<◌, ◌≤◌, ◌==◌, nat_lt, nat_le, Bool}
+use Rattle.std.specs.Prelude.{◌≡◌, ℕ, ◌+◌, ◌-◌, ◌*◌, ◌/◌, ◌%◌, ◌^◌, ◌<◌, ◌≤◌, ◌==◌, nat_lt, nat_le, Bool, false}
 use Rattle.std.specs.Prelude.{if◌then◌else◌}
 use Rattle.std.proofs.Common.{ap, sym, ◌∙◌, inl, inr}
 use Rattle.std.proofs.lemmas.Bool.{cases_Bool, eqb-true}
 use Rattle.std.specs.Prelude.{Option, Some, None}
+use Rattle.std.specs.Option.{is_some}
 use Rattle.ref_space.specs.declared.colour.Colour.{Colour}
 use Rattle.ref_space.specs.declared.colour.Colour.TheVariants.{A, B, R}
 
@@ -16,6 +17,10 @@ colour_number R = 3
 
 abbrev pub colour_of : ℕ → Option Colour
 colour_of n = if n == 1 then Some A else if n == 2 then Some B else if n == 3 then Some R else None
+
+-- the colour that the begin of a cycle makes good
+abbrev pub cycle_colour : ℕ → Colour
+cycle_colour cycle = if cycle % 2 == 1 then A else B
 
 -- an object's cell: the address of its page, from 1 on and below 2^32, and which of the page's 64 cells it is
 abbrev pub IsCell : ℕ → ℕ → Type 0
@@ -67,6 +72,20 @@ bits-word_held bits =
 -- a word, as what is held
 abbrev pub word_in_colour : Colour → ℕ → ℕ → Option ℕ
 word_in_colour colour page cell = Some (coloured_word colour page cell)
+
+-- whether it is the word of a cell, and whether it has this colour
+abbrev pub is_word : Option ℕ → Bool
+is_word None = false
+is_word (Some word) = is_some (parts_of word)
+
+abbrev pub has_colour : Colour → Option ℕ → Bool
+has_colour colour None = false
+has_colour colour (Some word) = is_coloured word colour
+
+-- the word of the same cell in this colour
+abbrev pub recoloured : Colour → Option ℕ → Option ℕ
+recoloured colour None = None
+recoloured colour (Some word) = Some (colour_number colour * 2 ^ 62 + word % 2 ^ 62)
 
 -- where its cell stands among those of the pages that have this address and those behind it: none of null, and of a
 -- word of a page in front of these

@@ -1,11 +1,13 @@
 -- Which object a word leads to (JEP 333, ZGC: a coloured pointer leads to its object's address), and objects that hold
 -- words as objects that hold numbers.
-use Rattle.std.specs.Prelude.{◌≡◌, ℕ, Bool, true, List, [], ◌∷◌, map, Option, Some, None, ◌||◌}
+use Rattle.std.specs.Prelude.{◌≡◌, ℕ, Bool, true, false, List, [], ◌∷◌, map, Option, Some, None, ◌||◌, ◌&&◌, not, ◌+◌}
+use Rattle.std.specs.Prelude.{◌-◌, ◌*◌, ◌≤◌}
 use Rattle.std.specs.Prelude.{slice_index_or}
 use Rattle.std.specs.Option.{option_map, is_none, is_some}
 use Rattle.ref_base.specs.Graphs.{Object, Reference}
-use Rattle.ref_space.specs.ColouredWords.{place_by}
-use Rattle.ref_space.specs.Tables.{Tabled, Table, on_object, values_in, tabled_if, changed_if}
+use Rattle.ref_space.specs.ColouredWords.{place_by, parts_of, is_word, has_colour, recoloured}
+use Rattle.ref_space.specs.declared.colour.Colour.{Colour}
+use Rattle.ref_space.specs.Tables.{Tabled, Table, is_healed, on_object, values_in, tabled_if, changed_if}
 
 -- ---- cells
 
@@ -41,12 +43,34 @@ tabled_of t value = tabled_if t.tabled (target_of t value)
 abbrev pub changed_of : Table → Option ℕ → (Tabled → Tabled) → Table
 changed_of t value f = changed_if t (target_of t value) f
 
--- whether it is null, or leads to an object
-abbrev pub leads_by : ℕ → List (Option ℕ) → Option ℕ → Bool
-leads_by first os value = is_none value || is_some (target_by first os value)
+-- whether it is null, or a word that leads to an object, and has the good colour where it has to
+abbrev pub leads_by : Colour → ℕ → List (Option ℕ) → Bool → Option ℕ → Bool
+leads_by good first os has_to value =
+    is_none value
+    || (is_some (target_by first os value) && (is_word value && (not has_to || has_colour good value)))
 
 abbrev pub HasTarget : Table → Option ℕ → Type 0
-HasTarget t value = leads_by t.first t.occupants value ≡ true
+HasTarget t value = leads_by t.round.good t.first t.occupants false value ≡ true
+
+-- the same, and it has the good colour
+abbrev pub IsHealed : Table → Option ℕ → Type 0
+IsHealed t value = leads_by t.round.good t.first t.occupants true value ≡ true
+
+-- these are the bits of a word of an object that lies in one of these cells, the first of which are those of the first
+-- page: of the good colour, where it has to be
+pub record IsWordOfObject (good : Colour) (first : ℕ) (os : List (Option ℕ)) (has_to : Bool) (n bits : ℕ) : Type 0 where
+  pub colour : Colour
+  pub page : ℕ
+  pub cell : ℕ
+  pub parts : parts_of bits ≡ Some (colour, page, cell)
+  pub front : first ≤ page
+  pub lies : slice_index_or os (64 * (page - first) + cell) None ≡ Some n
+  pub healed : has_to ≡ true → colour ≡ good
+
+-- the bits of what is held, an object or null
+abbrev pub IsWordHeld : Colour → ℕ → List (Option ℕ) → Bool → Option ℕ → ℕ → Type 0
+IsWordHeld good first os has_to None bits = bits ≡ 0
+IsWordHeld good first os has_to (Some n) bits = IsWordOfObject good first os has_to n bits
 
 -- each of these passes a test
 abbrev pub Each : (Option ℕ → Bool) → List (Option ℕ) → Type 0
@@ -58,6 +82,13 @@ Each passes (v ∷ vs) = (passes v ≡ true) × Each passes vs
 abbrev pub reference_by_number : (Option ℕ → Option ℕ) → Reference → Reference
 reference_by_number name r = record r { referent = name r.referent }
 
+-- a reference with this referent, and with its own in this colour
+abbrev pub with_referent : Option ℕ → Reference → Reference
+with_referent value r = record r { referent = value }
+
+abbrev pub with_referent_in : Colour → Reference → Reference
+with_referent_in colour = reference_by_number (recoloured colour)
+
 abbrev pub object_by_number : (Option ℕ → Option ℕ) → Object → Object
 object_by_number name o =
     record o { fields = map name o.fields; reference = option_map (reference_by_number name) o.reference }
@@ -65,7 +96,12 @@ object_by_number name o =
 abbrev pub by_number : (Option ℕ → Option ℕ) → Tabled → Tabled
 by_number name k = on_object (object_by_number name) k
 
--- what each of these objects holds passes a test
-abbrev pub EachHeld : (Option ℕ → Bool) → List Tabled → Type 0
-EachHeld passes [] = Unit {0}
-EachHeld passes (k ∷ ks) = Each passes (values_in k) × EachHeld passes ks
+-- an object was marked and healed in rounds up to this one, and what it holds passes a test, which knows whether the
+-- object is healed
+abbrev pub IsHeldIn : ℕ → (Bool → Option ℕ → Bool) → Tabled → Type 0
+IsHeldIn round passes k =
+    (k.marked_in ≤ round) × (k.healed_in ≤ round) × Each (passes (is_healed round k)) (values_in k)
+
+abbrev pub EachHeld : ℕ → (Bool → Option ℕ → Bool) → List Tabled → Type 0
+EachHeld round passes [] = Unit {0}
+EachHeld round passes (k ∷ ks) = IsHeldIn round passes k × EachHeld round passes ks

@@ -1,5 +1,5 @@
 -- How the table lies in memory: cells by place, 64 a page, an index of places by number, and the cells that are free.
-use Rattle.std.specs.Prelude.{◌≡◌, ℕ, suc, ◌+◌, ◌*◌, ◌<◌, ◌≤◌, ◌^◌, Bool, false, ◌==◌, ◌&&◌, not}
+use Rattle.std.specs.Prelude.{◌≡◌, ℕ, suc, ◌+◌, ◌*◌, ◌<◌, ◌≤◌, ◌^◌, Bool, true, false, ◌==◌, ◌&&◌, not}
 use Rattle.std.specs.Prelude.{if◌then◌else◌, nat_lt, List, [], ◌∷◌, length, map, Option, Some, None, slice_index_or}
 use Rattle.std.specs.List.{filter}
 use Rattle.std.specs.Borrow.{Bor}
@@ -7,17 +7,19 @@ use Rattle.ref_base.specs.Graphs.{Reference}
 use Rattle.ref_space.specs.Pages.{Use, free_in, taken_of, AreWhole}
 use Rattle.std.specs.Option.{option_map, is_none, is_some}
 use Rattle.ref_space.specs.ColouredWords.{place_by}
-use Rattle.ref_space.specs.Tables.{Tabled, Table, marked_of, with_marked, blanked_unless_marked}
+use Rattle.ref_space.specs.Tables.{Tabled, Table, is_marked, marked_of, with_nothing_done, blanked_unless_marked}
+use Rattle.ref_space.specs.declared.round.Round.{Round}
 use Rattle.ref_space.specs.Naming.{occupants_of, target_by, leads_by, by_number, Each, EachHeld}
 use Rattle.ref_space.specs.declared.index.Entry.{Entry}
 
 -- what a cell holds: an object, or nothing where it has no number
-abbrev pub tabled_in : Option ℕ → List (Option ℕ) → Option Reference → ℕ → Bool → ℕ → ℕ → Option Tabled
-tabled_in None fields reference holds marked link cleared_in = None
-tabled_in (Some n) fields reference holds marked link cleared_in = Some (record {
+abbrev pub tabled_in : Option ℕ → List (Option ℕ) → Option Reference → ℕ → ℕ → ℕ → ℕ → ℕ → Option Tabled
+tabled_in None fields reference holds marked_in healed_in link cleared_in = None
+tabled_in (Some n) fields reference holds marked_in healed_in link cleared_in = Some (record {
   object = record { no = n; fields = fields; reference = reference };
   holds = holds;
-  marked = marked;
+  marked_in = marked_in;
+  healed_in = healed_in;
   link = link;
   cleared_in = cleared_in;
 })
@@ -141,24 +143,26 @@ pub record IsPlaced (cells : List (Option Tabled)) (index : List Entry) (pages :
 
 -- what holds of a table's fields: that, there are cells for as many objects as there may be, no push to the index ever
 -- takes memory, and the objects and the marked ones are counted
-pub record IsSoundTable (cells : List (Option Tabled)) (index : List Entry) (pages : List Use)
+pub record IsSoundTable (round : Round) (cells : List (Option Tabled)) (index : List Entry) (pages : List Use)
     (last room count index_room marked : ℕ) : Type 0 where
   pub placed : IsPlaced cells index pages last
   pub cells_fit : room ≤ length cells
   pub counted : count ≡ length (tabled_by cells index)
   pub within : count ≤ room
   pub index_fits : 2 * length cells ≤ index_room
-  pub marks_counted : marked ≡ length (marked_of (tabled_by cells index))
+  pub marks_counted : marked ≡ length (marked_of round.number (tabled_by cells index))
 
 -- what holds of words: each cell has one, each object has its entry, and each word that a slot or an object holds leads
--- to an object
-pub record IsSoundNaming (first : ℕ) (cells : List (Option Tabled)) (index : List Entry) (slots : List (Option ℕ))
+-- to an object; those of slots and of healed objects have the good colour
+pub record IsSoundNaming (round : Round) (first : ℕ) (cells : List (Option Tabled)) (index : List Entry)
+    (slots : List (Option ℕ))
     : Type 0 where
   pub begins : 1 ≤ first
   pub addresses : 64 * first + length cells ≤ 2 ^ 38
   pub listed : AreIndexed cells index
-  pub rooted : Each (leads_by first (occupants_of cells)) slots
-  pub led : EachHeld (leads_by first (occupants_of cells)) (tabled_by cells index)
+  pub rooted : Each (leads_by round.good first (occupants_of cells) true) slots
+  pub begun : 1 ≤ round.number
+  pub led : EachHeld round.number (leads_by round.good first (occupants_of cells)) (tabled_by cells index)
 
 -- the objects that the index leads to, and what slots hold, with numbers in the place of words
 abbrev pub named_tabled : ℕ → List (Option Tabled) → List Entry → List Tabled
@@ -169,30 +173,31 @@ abbrev pub named_slots : ℕ → List (Option Tabled) → List (Option ℕ) → 
 named_slots first cells slots = map (target_by first (occupants_of cells)) slots
 
 -- what a contract sees of a table's fields
-abbrev pub seen_table : ℕ → List (Option Tabled) → List Entry → List (Option ℕ) → ℕ → ℕ → Table
-seen_table first cells index slots last room = record {
+abbrev pub seen_table : Round → ℕ → List (Option Tabled) → List Entry → List (Option ℕ) → ℕ → ℕ → Table
+seen_table round first cells index slots last room = record {
   tabled = named_tabled first cells index;
   room = room;
   last = last;
   slots = named_slots first cells slots;
   first = first;
   occupants = occupants_of cells;
+  round = round;
 }
 
 -- ---- marks
 
 -- whether a cell holds the object of number n, and that isn't marked
-abbrev pub is_unmarked_as : Option Tabled → ℕ → Bool
-is_unmarked_as = is_passing (λ k. not k.marked)
+abbrev pub is_unmarked_as : ℕ → Option Tabled → ℕ → Bool
+is_unmarked_as round = is_passing (λ k. not (is_marked round k))
 
 -- whether the cell that an entry names still holds the entry's object, and that isn't marked
-abbrev pub is_unmarked_entry : List (Option Tabled) → Entry → Bool
-is_unmarked_entry cells e = is_unmarked_as (cell_at cells e.place) e.no
+abbrev pub is_unmarked_entry : ℕ → List (Option Tabled) → Entry → Bool
+is_unmarked_entry round cells e = is_unmarked_as round (cell_at cells e.place) e.no
 
--- what a cell holds, unmarked
-abbrev pub unmarked_cell : Option Tabled → Option Tabled
-unmarked_cell = option_map (with_marked false)
+-- what a cell holds, as if it had never been marked or healed
+abbrev pub begun_cell : Option Tabled → Option Tabled
+begun_cell = option_map with_nothing_done
 
 -- what a cell holds, which refers to nothing unless it is marked
-abbrev pub blanked_cell : Option Tabled → Option Tabled
-blanked_cell = option_map blanked_unless_marked
+abbrev pub blanked_cell : ℕ → Option Tabled → Option Tabled
+blanked_cell round = option_map (blanked_unless_marked round)

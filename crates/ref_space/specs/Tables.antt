@@ -1,6 +1,7 @@
 -- The heap's table of objects, as plain data, and the changes that calls make to it (package `java.lang.ref` of Java SE
 -- 17; numbers, holds and a heap's room: this project's profile).
-use Rattle.std.specs.Prelude.{◌≡◌, ℕ, ◌+◌, ◌-◌, ◌*◌, ◌/◌, ◌≤◌, Bool, true, false, not, ◌==◌, ◌&&◌, ◌||◌, if◌then◌else◌}
+use Rattle.std.specs.Prelude.{◌≡◌, ℕ, ◌+◌, ◌-◌, ◌*◌, ◌/◌, ◌^◌, ◌≤◌, Bool, true, false, not, ◌==◌, ◌&&◌, ◌||◌}
+use Rattle.std.specs.Prelude.{if◌then◌else◌}
 use Rattle.std.specs.Prelude.{nat_le, nat_lt}
 use Rattle.std.specs.Prelude.{List, [], ◌∷◌, ◌++◌, length, map, replicate, Option, Some, None}
 use Rattle.std.specs.Prelude.{slice_index_or, slice_set}
@@ -15,22 +16,27 @@ use Rattle.ref_base.specs.DoomedSets.{refers_into}
 use Rattle.ref_base.specs.Strengths.{IsRising}
 use Rattle.ref_base.specs.Heaps.{reference_in, with_reference, with_stamp, cleared}
 use Rattle.ref_space.specs.declared.cell.Change.{Change}
+use Rattle.ref_space.specs.declared.colour.Colour.{Colour}
+use Rattle.ref_space.specs.declared.round.Round.{Round}
+use Rattle.ref_space.specs.declared.colour.Colour.TheVariants.{R}
 use Rattle.ref_space.specs.declared.cell.Change.TheVariants.{Cut, Stamp, ClearedIn, ClearIn, Link}
 use Rattle.ref_space.specs.declared.linked.Linked.{Linked}
 use Rattle.ref_space.specs.declared.linked.Look.{Look}
 
--- an object of the table, how many holds of it are out, whether it is marked, its link, which is the number of another
--- object or 0, and the cycle in which a worker cleared it last, or 0
+-- an object of the table, how many holds of it are out, the round in which it was marked last, and that in which it was
+-- healed last, so that each word that it holds had the colour that was good then, 0 where it never was; its link, which
+-- is the number of another object or 0, and the cycle in which a worker cleared it last, or 0
 pub record Tabled : Type 0 where
   pub object : Object
   pub holds : ℕ
-  pub marked : Bool
+  pub marked_in : ℕ
+  pub healed_in : ℕ
   pub link : ℕ
   pub cleared_in : ℕ
 
 -- the objects that there are, in order of number, how many there may be, the greatest number that was ever given, and
--- what each slot holds, an object or null; and where the objects lie: the address of the first page, and of each cell,
--- by place, the number of its object
+-- what each slot holds, an object or null; where the objects lie: the address of the first page, and of each cell, by
+-- place, the number of its object; and the round that goes on
 pub record Table : Type 0 where
   pub tabled : List Tabled
   pub room : ℕ
@@ -38,6 +44,7 @@ pub record Table : Type 0 where
   pub slots : List (Option ℕ)
   pub first : ℕ
   pub occupants : List (Option ℕ)
+  pub round : Round
 
 -- a table of no objects, with so many slots, each empty, in pages of 64 cells from this address on
 abbrev pub empty_table : ℕ → ℕ → ℕ → Table
@@ -48,9 +55,17 @@ empty_table room slots first = record {
   slots = replicate slots None;
   first = first;
   occupants = replicate (64 * ((room + 63) / 64)) None;
+  round = record { number = 1; good = R };
 }
 
 -- ---- what is read
+
+-- whether an object is marked, and whether it is healed, in this round
+abbrev pub is_marked : ℕ → Tabled → Bool
+is_marked round k = k.marked_in == round
+
+abbrev pub is_healed : ℕ → Tabled → Bool
+is_healed round k = k.healed_in == round
 
 -- what an object holds: its referent, and its fields
 abbrev pub values_in : Tabled → List (Option ℕ)
@@ -125,11 +140,19 @@ abbrev pub AllUpTo : ℕ → List ℕ → Type 0
 AllUpTo last [] = Unit {0}
 AllUpTo last (n ∷ ns) = (n ≤ last) × AllUpTo last ns
 
--- what holds of every table: the numbers rise, none is above the last that was given, and the objects have room
+-- no object was marked or healed in a later round
+abbrev pub AllDated : ℕ → List Tabled → Type 0
+AllDated round [] = Unit {0}
+AllDated round (k ∷ ks) = (k.marked_in ≤ round) × (k.healed_in ≤ round) × AllDated round ks
+
+-- what holds of every table: the numbers rise, none is above the last that was given, the objects have room, and none
+-- was marked or healed in a later round than the one that goes on, which has a number
 pub record IsOrderlyTable (t : Table) : Type 0 where
   pub rising : IsRising (numbers (objects_of t.tabled))
   pub given : AllUpTo t.last (numbers (objects_of t.tabled))
   pub few : length t.tabled ≤ t.room
+  pub begun : 1 ≤ t.round.number
+  pub dated : AllDated t.round.number t.tabled
 
 -- ---- what is changed
 
@@ -151,13 +174,13 @@ abbrev pub more_held : Tabled → Tabled
 more_held k = record k { holds = k.holds + 1 }
 
 -- whether there is an object, and it is marked where it has to be
-abbrev pub may_hold : Bool → Option Tabled → Bool
-may_hold if_marked None = false
-may_hold if_marked (Some k) = k.marked || not if_marked
+abbrev pub may_hold : ℕ → Bool → Option Tabled → Bool
+may_hold round if_marked None = false
+may_hold round if_marked (Some k) = is_marked round k || not if_marked
 
 -- one more hold then
-abbrev pub more_held_if : Bool → Tabled → Tabled
-more_held_if if_marked k = if k.marked || not if_marked then more_held k else k
+abbrev pub more_held_if : ℕ → Bool → Tabled → Tabled
+more_held_if round if_marked k = if is_marked round k || not if_marked then more_held k else k
 
 -- one hold fewer, where there is one
 abbrev pub less_held : Tabled → Tabled
@@ -167,76 +190,105 @@ less_held k = record k { holds = k.holds - 1 }
 abbrev pub changed : Table → ℕ → (Tabled → Tabled) → Table
 changed t n f = record t { tabled = changed_tabled t.tabled n f }
 
--- the table without the object of number n
-abbrev pub without_object : Table → ℕ → List (Option ℕ) → Table
-without_object t n occupants = record t { tabled = without_tabled t.tabled n; occupants = occupants }
+-- whether a cell's object is that of number n
+abbrev pub is_number : Option ℕ → ℕ → Bool
+is_number None n = false
+is_number (Some m) n = m == n
 
--- an object that nobody holds, without a link, never cleared and of so many null fields
-abbrev pub made_entry : ℕ → ℕ → Option Reference → Bool → Tabled
-made_entry n count reference marked = record {
+-- a new object gets the first free cell, and the cell of one that goes is free
+abbrev pub with_occupant : List (Option ℕ) → ℕ → List (Option ℕ)
+with_occupant [] n = []
+with_occupant (None ∷ os) n = Some n ∷ os
+with_occupant (Some m ∷ os) n = Some m ∷ with_occupant os n
+
+abbrev pub without_occupant : List (Option ℕ) → ℕ → List (Option ℕ)
+without_occupant [] n = []
+without_occupant (o ∷ os) n = (if is_number o n then None else o) ∷ without_occupant os n
+
+-- the table without the object of number n
+abbrev pub without_object : Table → ℕ → Table
+without_object t n =
+    record t { tabled = without_tabled t.tabled n; occupants = without_occupant t.occupants n }
+
+-- an object that nobody holds, without a link, never cleared and of so many null fields: it is healed
+abbrev pub made_entry : ℕ → ℕ → ℕ → Option Reference → Bool → Tabled
+made_entry round n count reference marked = record {
   object = record { no = n; fields = replicate count None; reference = reference };
   holds = 0;
-  marked = marked;
+  marked_in = if marked then round else 0;
+  healed_in = round;
   link = 0;
   cleared_in = 0;
 }
 
 -- the table with one more object, whose number is the greatest; the slot at this place holds it
-abbrev pub with_tabled : Table → ℕ → Tabled → List (Option ℕ) → Table
-with_tabled t into k occupants = record t {
+abbrev pub with_tabled : Table → ℕ → Tabled → Table
+with_tabled t into k = record t {
   tabled = t.tabled ++ k ∷ [];
   last = k.object.no;
   slots = slice_set t.slots into (Some k.object.no);
-  occupants = occupants;
+  occupants = with_occupant t.occupants k.object.no;
 }
 
 -- ---- marks
 
 -- whether there is an object, and it is marked
-abbrev pub is_marked_in : Option Tabled → Bool
-is_marked_in None = false
-is_marked_in (Some k) = k.marked
+abbrev pub is_marked_in : ℕ → Option Tabled → Bool
+is_marked_in round None = false
+is_marked_in round (Some k) = is_marked round k
 
 -- whether there is an object, and it isn't marked
-abbrev pub is_unmarked_in : Option Tabled → Bool
-is_unmarked_in None = false
-is_unmarked_in (Some k) = not k.marked
+abbrev pub is_unmarked_in : ℕ → Option Tabled → Bool
+is_unmarked_in round None = false
+is_unmarked_in round (Some k) = not (is_marked round k)
 
 -- the numbers of the objects that are marked, in order
-abbrev pub marked_of : List Tabled → List ℕ
-marked_of = numbers_by (λ k. from_bool k.marked)
+abbrev pub marked_of : ℕ → List Tabled → List ℕ
+marked_of round = numbers_by (λ k. from_bool (is_marked round k))
 
 -- and of those that aren't
-abbrev pub unmarked_of : List Tabled → List ℕ
-unmarked_of = numbers_by (λ k. from_bool (not k.marked))
+abbrev pub unmarked_of : ℕ → List Tabled → List ℕ
+unmarked_of round = numbers_by (λ k. from_bool (not (is_marked round k)))
 
 -- the first number from n on of an object that isn't marked
-abbrev pub unmarked_from : List Tabled → ℕ → Option ℕ
-unmarked_from = first_where (λ k. not k.marked)
+abbrev pub unmarked_from : ℕ → List Tabled → ℕ → Option ℕ
+unmarked_from round = first_where (λ k. not (is_marked round k))
 
--- marked, or not
-abbrev pub with_marked : Bool → Tabled → Tabled
-with_marked marked k = record k { marked = marked }
+-- marked in this round
+abbrev pub with_marked : ℕ → Tabled → Tabled
+with_marked round k = record k { marked_in = round }
 
--- the objects, none of them marked
-abbrev pub unmarked_tabled : List Tabled → List Tabled
-unmarked_tabled = map (with_marked false)
+-- healed in this round
+abbrev pub with_healed : ℕ → Tabled → Tabled
+with_healed round k = record k { healed_in = round }
 
--- the table with none of its objects marked
-abbrev pub table_unmarked : Table → Table
-table_unmarked t = record t { tabled = unmarked_tabled t.tabled }
+-- whether there is an object, and it is healed
+abbrev pub is_healed_in : ℕ → Option Tabled → Bool
+is_healed_in round None = false
+is_healed_in round (Some k) = is_healed round k
+
+-- as if it had never been marked or healed
+abbrev pub with_nothing_done : Tabled → Tabled
+with_nothing_done k = record k { marked_in = 0; healed_in = 0 }
+
+-- the table as a round begins, in which this colour is good: numbers of rounds begin anew once they are spent
+abbrev pub table_begun : Table → Colour → Table
+table_begun t good =
+    if nat_lt t.round.number (2 ^ 64 - 1)
+    then record t { round = record { number = t.round.number + 1; good = good } }
+    else record t { tabled = map with_nothing_done t.tabled; round = record { number = 1; good = good } }
 
 -- the table without the object of number n, where that isn't marked
-abbrev pub table_freed : Table → ℕ → List (Option ℕ) → Table
-table_freed t n occupants = if is_unmarked_in (tabled_at t.tabled n) then without_object t n occupants else t
+abbrev pub table_freed : Table → ℕ → Table
+table_freed t n = if is_unmarked_in t.round.number (tabled_at t.tabled n) then without_object t n else t
 
 -- an object that refers to nothing, unless it is marked
-abbrev pub blanked_unless_marked : Tabled → Tabled
-blanked_unless_marked k = if k.marked then k else on_object blanked k
+abbrev pub blanked_unless_marked : ℕ → Tabled → Tabled
+blanked_unless_marked round k = if is_marked round k then k else on_object blanked k
 
 -- the table with each object so
 abbrev pub table_blanked : Table → Table
-table_blanked t = record t { tabled = map blanked_unless_marked t.tabled }
+table_blanked t = record t { tabled = map (blanked_unless_marked t.round.number) t.tabled }
 
 -- ---- tags
 
@@ -285,16 +337,16 @@ change_of (Link to) k = record k { link = to }
 -- ---- looks
 
 -- whether there is an object of number n, and it isn't marked
-abbrev pub is_unmarked_at : List Tabled → ℕ → Bool
-is_unmarked_at ks n = is_unmarked_in (tabled_at ks n)
+abbrev pub is_unmarked_at : ℕ → List Tabled → ℕ → Bool
+is_unmarked_at round ks n = is_unmarked_in round (tabled_at ks n)
 
 -- a look at an object of this number: it clears a reference to an object that isn't marked
-abbrev pub look_by : List Tabled → ℕ → Option Tabled → Look
-look_by ks n k =
-    record { was = tabled_linked n k; is_cleared = refers_into (is_unmarked_at ks) (tabled_reference k) }
+abbrev pub look_by : ℕ → List Tabled → ℕ → Option Tabled → Look
+look_by round ks n k =
+    record { was = tabled_linked n k; is_cleared = refers_into (is_unmarked_at round ks) (tabled_reference k) }
 
 abbrev pub table_look : Table → ℕ → Look
-table_look t n = look_by t.tabled n (tabled_at t.tabled n)
+table_look t n = look_by t.round.number t.tabled n (tabled_at t.tabled n)
 
 -- what it leaves
 abbrev pub table_looked_at : Table → ℕ → ℕ → Table
@@ -345,12 +397,12 @@ made_of slots r =
 -- ---- marks of several objects, in order
 
 abbrev pub marked_if : Table → Option ℕ → Table
-marked_if t value = changed_if t value (with_marked true)
+marked_if t value = changed_if t value (with_marked t.round.number)
 
 -- what is marked anew so
 abbrev pub anew_if : Table → Option ℕ → Option ℕ
 anew_if t None = None
-anew_if t (Some n) = if is_unmarked_in (tabled_at t.tabled n) then Some n else None
+anew_if t (Some n) = if is_unmarked_in t.round.number (tabled_at t.tabled n) then Some n else None
 
 abbrev pub marked_each : Table → List (Option ℕ) → Table
 marked_each t [] = t

@@ -3,16 +3,20 @@
 ghost use Rattle.std.specs.Prelude.{◌≡◌, ◌-◌, ◌^◌, ◌<◌, ◌≤◌, nat_lt, true};
 ghost use Rattle.std.specs.Option.{option_map};
 ghost use Rattle.ref_base.specs.Heaps.{with_field, with_reference, with_stamp, cleared};
-ghost use Rattle.ref_space.specs.Places.{is_of, is_held_as, is_unmarked_as, unmarked_cell, blanked_cell};
+ghost use Rattle.ref_space.specs.Places.{is_of, is_held_as, is_unmarked_as, begun_cell, blanked_cell};
+ghost use Rattle.ref_space.specs.Naming.{by_number, with_referent, with_referent_in};
+ghost use Rattle.ref_space.specs.ColouredWords.{recoloured, bits_held};
 ghost use Rattle.ref_space.specs.Tables.{made_entry, tabled_fields, has_field, holds_in};
 ghost use Rattle.ref_space.specs.Tables.{on_object, may_hold, more_held_if, less_held};
-ghost use Rattle.ref_space.specs.Tables.{is_marked_in, is_unmarked_in, with_marked};
+ghost use Rattle.ref_space.specs.Tables.{is_marked_in, is_unmarked_in, with_marked, with_healed};
 ghost use Rattle.ref_space.specs.Tables.{tabled_reference, tabled_link, tabled_cleared_in, change_of};
 ghost use Rattle.ref_space.specs.Naming.{occupant_in};
 ghost use Rattle.ref_space.specs.Tables.{field_in_cell};
 
+use crate::colour::Colour;
 use crate::field_words::Words;
 use crate::kept::Kept;
+use crate::round::Round;
 use crate::word::Word;
 use ref_base::ObjNo;
 use std::marker::Model;
@@ -40,7 +44,10 @@ pub(crate) struct Cell {
     fields: Words,
     reference: Option<Kept>,
     holds: u64,
-    marked: bool,
+    // The round in which it was marked last, or 0.
+    marked_in: u64,
+    // The round in which each word here had the good colour last, or 0.
+    healed_in: u64,
     // The number of the object behind it in the list that it stands in, or 0.
     link: u32,
     // The cycle in which a worker cleared it last, or 0.
@@ -55,7 +62,7 @@ impl Model for Cell {
 
     ghost use Rattle.ref_space.specs.Places.{tabled_in};
 
-    ghost view = { λ c. tabled_in c.no c.fields c.reference c.holds c.marked c.link c.cleared_in };
+    ghost view = { λ c. tabled_in c.no c.fields c.reference c.holds c.marked_in c.healed_in c.link c.cleared_in };
 }
 
 impl Cell {
@@ -68,26 +75,35 @@ impl Cell {
             fields: Words::nulls(0),
             reference: None,
             holds: 0,
-            marked: false,
+            marked_in: 0,
+            healed_in: 0,
             link: 0,
             cleared_in: 0,
         }
     }
 
-    /// The cell of a new object that nobody holds, without a link, never cleared, with so many null fields.
-    pub(crate) fn of(no: ObjNo, count: usize, reference: Option<Kept>, marked: bool) -> Self
+    /// The cell gets a new object that nobody holds, without a link, never cleared, with so many null fields.
+    pub(crate) fn occupy(
+        &mut self,
+        no: ObjNo,
+        count: usize,
+        reference: Option<Kept>,
+        marked: bool,
+        round: u64,
+    )
         requires { count ≤ 8 }
-        ensures { result ≡ Some (made_entry no count reference marked) }
+        ensures { self.new ≡ Some (made_entry round no count reference marked) }
     {
-        Cell {
+        *self = Cell {
             no: Some(no),
             fields: Words::nulls(count),
             reference,
             holds: 0,
-            marked,
+            marked_in: if marked { round } else { 0 },
+            healed_in: round,
             link: 0,
             cleared_in: 0,
-        }
+        };
     }
 
     /// Whether this is the cell of the object of this number.
@@ -181,12 +197,12 @@ impl Cell {
 
     /// Counts one more hold of the object, which has to be marked where that is told. False where there is no such
     /// object: then nothing changes.
-    pub(crate) fn add_hold(&mut self, if_marked: bool) -> bool
+    pub(crate) fn add_hold(&mut self, if_marked: bool, round: u64) -> bool
         requires { holds_in self.old < 2 ^ 64 - 1 }
-        ensures there { result ≡ may_hold if_marked self.old }
-        ensures after { self.new ≡ option_map (more_held_if if_marked) self.old }
+        ensures there { result ≡ may_hold round if_marked self.old }
+        ensures after { self.new ≡ option_map (more_held_if round if_marked) self.old }
     {
-        let may_hold = self.no.is_some() && (self.marked || !if_marked);
+        let may_hold = self.no.is_some() && (self.marked_in == round || !if_marked);
         if may_hold {
             self.holds += 1;
         }
@@ -220,6 +236,16 @@ impl Cell {
             Some(self.fields.get(field))
         } else {
             None
+        }
+    }
+
+    /// The bits of what a field of the object holds: none where there is no such field.
+    pub(crate) fn bits(&self, field: usize) -> Option<u64>
+        ensures { result ≡ option_map bits_held (field_in_cell self.now field) }
+    {
+        match self.field(field) {
+            Some(value) => Some(value.bits()),
+            None => None,
         }
     }
 
@@ -264,59 +290,94 @@ impl Cell {
     }
 
     /// Whether there is an object, and it is marked.
-    pub(crate) fn is_marked(&self) -> bool
-        ensures { result ≡ is_marked_in self.now }
+    pub(crate) fn is_marked(&self, round: u64) -> bool
+        ensures { result ≡ is_marked_in round self.now }
     {
         match self.no {
-            Some(_) => self.marked,
+            Some(_) => self.marked_in == round,
             None => false,
         }
     }
 
     /// Whether there is an object, and it isn't marked.
-    pub(crate) fn is_unmarked(&self) -> bool
-        ensures { result ≡ is_unmarked_in self.now }
+    pub(crate) fn is_unmarked(&self, round: u64) -> bool
+        ensures { result ≡ is_unmarked_in round self.now }
     {
         match self.no {
-            Some(_) => !self.marked,
+            Some(_) => self.marked_in != round,
             None => false,
         }
     }
 
     /// Whether this is the cell of the object of this number, and that isn't marked.
-    pub(crate) fn is_unmarked_as(&self, no: ObjNo) -> bool
-        ensures { result ≡ is_unmarked_as self.now no }
+    pub(crate) fn is_unmarked_as(&self, no: ObjNo, round: u64) -> bool
+        ensures { result ≡ is_unmarked_as round self.now no }
     {
         match self.no {
-            Some(own) => own == no && !self.marked,
+            Some(own) => own == no && self.marked_in != round,
             None => false,
         }
     }
 
     /// Marks the object. True where there is one and it wasn't marked.
-    pub(crate) fn mark(&mut self) -> bool
-        ensures answer { result ≡ is_unmarked_in self.old }
-        ensures after { self.new ≡ option_map (with_marked true) self.old }
+    pub(crate) fn mark(&mut self, round: u64) -> bool
+        ensures answer { result ≡ is_unmarked_in round self.old }
+        ensures after { self.new ≡ option_map (with_marked round) self.old }
     {
-        let is_new = self.no.is_some() && !self.marked;
-        self.marked = true;
+        let is_new = self.is_unmarked(round);
+        self.marked_in = round;
         is_new
     }
 
     /// The object refers to nothing from now on, unless it is marked.
-    pub(crate) fn blank_unless_marked(&mut self)
-        ensures { self.new ≡ blanked_cell self.old }
+    pub(crate) fn blank_unless_marked(&mut self, round: u64)
+        ensures { self.new ≡ blanked_cell round self.old }
     {
-        if !self.marked {
+        if self.marked_in != round {
             self.fields = Words::nulls(self.fields.len());
             self.cut();
         }
     }
 
-    /// Takes the object's mark away.
-    pub(crate) fn unmark(&mut self)
-        ensures { self.new ≡ unmarked_cell self.old }
+    /// Each word of the object gets the good colour: it is healed in this round.
+    pub(crate) fn heal(&mut self, round: Round)
+        ensures { self.new ≡
+            option_map (λ k. with_healed round.number (by_number (recoloured round.good) k)) self.old }
     {
-        self.marked = false;
+        self.fields.recolour(round.good);
+        self.heal_referent(round.good);
+        self.healed_in = round.number;
+    }
+
+    // So does its referent, if it is a reference.
+    fn heal_referent(&mut self, good: Colour)
+        ensures { self.new ≡ option_map (on_object (with_reference (with_referent_in good))) self.old }
+    {
+        if let Some(reference) = self.reference {
+            self.reference = Some(Kept {
+                referent: reference.referent.in_colour(good),
+                ..reference
+            });
+        }
+    }
+
+    /// Writes the referent of the object, where it is a reference.
+    pub(crate) fn set_referent(&mut self, referent: Word)
+        ensures { self.new ≡ option_map (on_object (with_reference (with_referent referent))) self.old }
+    {
+        if let Some(reference) = self.reference {
+            self.reference = Some(Kept {
+                referent,
+                ..reference
+            });
+        }
+    }
+
+    /// The object is as if it had never been marked or healed.
+    pub(crate) fn forget_rounds(&mut self)
+        ensures { self.new ≡ begun_cell self.old }
+    {
+        self.marked_in = 0;
+        self.healed_in = 0;
     }
 }

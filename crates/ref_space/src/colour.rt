@@ -13,7 +13,7 @@ pub enum Colour {
 
 impl Colour {
     ghost use Rattle.std.specs.Prelude.{◌≡◌};
-    ghost use Rattle.ref_space.specs.ColouredWords.{colour_number, colour_of};
+    ghost use Rattle.ref_space.specs.ColouredWords.{colour_number, colour_of, cycle_colour};
 
     /// The colour's number: 1 for A, 2 for B, 3 for R. Takes no memory, in constant time.
     pub fn number(self) -> u32
@@ -24,6 +24,13 @@ impl Colour {
             Colour::B => 2,
             Colour::R => 3,
         }
+    }
+
+    /// The colour that the begin of the cycle of this number makes good. Takes no memory, in constant time.
+    pub fn of_cycle(cycle: u64) -> Colour
+        ensures { result ≡ cycle_colour cycle }
+    {
+        if cycle % 2 == 1 { Colour::A } else { Colour::B }
     }
 
     /// The colour of this number, or none.

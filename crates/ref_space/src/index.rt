@@ -146,32 +146,33 @@ pub(crate) fn make_room<A: Allocator>(index: &mut Vec<Entry, A>, cells: &[Cell],
     }
 }
 
-// Whether the entry's object is still there, and isn't marked.
-fn is_unmarked(cells: &[Cell], entry: Entry) -> bool
-    ensures { result ≡ is_unmarked_entry cells.now entry }
+// Whether the entry's object is still there, and isn't marked in this round.
+fn is_unmarked(cells: &[Cell], entry: Entry, round: u64) -> bool
+    ensures { result ≡ is_unmarked_entry round cells.now entry }
 {
     match cells.get(entry.place as usize) {
-        Some(cell) => cell.is_unmarked_as(entry.no),
+        Some(cell) => cell.is_unmarked_as(entry.no, round),
         None => false,
     }
 }
 
-// The number of the first of these entries whose object isn't marked.
-fn first_unmarked(cells: &[Cell], entries: &[Entry]) -> Option<ObjNo>
-    ensures { result ≡ first_entry (is_unmarked_entry cells.now) entries.now }
+// The number of the first of these entries whose object isn't marked in this round.
+fn first_unmarked(cells: &[Cell], entries: &[Entry], round: u64) -> Option<ObjNo>
+    ensures { result ≡ first_entry (is_unmarked_entry round cells.now) entries.now }
 {
     for entry in entries {
-        if is_unmarked(cells, *entry) {
+        if is_unmarked(cells, *entry, round) {
             return Some(entry.no);
         }
     }
     None
 }
 
-/// The first number from this one on of an object that isn't marked. In time of the entries up to there.
-pub(crate) fn unmarked_from(cells: &[Cell], index: &[Entry], no: ObjNo) -> Option<ObjNo>
+/// The first number from this one on of an object that isn't marked in this round. In time of the entries up to
+/// there.
+pub(crate) fn unmarked_from(cells: &[Cell], index: &[Entry], no: ObjNo, round: u64) -> Option<ObjNo>
     requires { Rises index.now }
-    ensures { result ≡ unmarked_from (tabled_by cells.now index.now) no }
+    ensures { result ≡ unmarked_from round (tabled_by cells.now index.now) no }
 {
-    first_unmarked(cells, &index[count_below(index, no)..])
+    first_unmarked(cells, &index[count_below(index, no)..], round)
 }

@@ -6,8 +6,8 @@ ghost use Rattle.std.specs.Prelude.{map};
 ghost use Rattle.std.specs.Prelude.{is_some, replicate, if◌then◌else◌, None, Some};
 ghost use Rattle.std.specs.Option.{option_map};
 ghost use Rattle.std.specs.Bool.{OnFalse};
-ghost use Rattle.ref_space.specs.Places.{unmarked_cell, blanked_cell};
-ghost use Rattle.ref_space.specs.ColouredWords.{IsCell, place_by};
+ghost use Rattle.ref_space.specs.Places.{begun_cell, blanked_cell};
+ghost use Rattle.ref_space.specs.ColouredWords.{IsCell, word_in_colour, recoloured};
 
 mod by_word;
 mod slots;
@@ -23,12 +23,13 @@ use crate::kept::{Kept, NewReference};
 use crate::linked::{Linked, Look};
 use crate::pages::Pages;
 use crate::reference::Reference;
+use crate::round::Round;
 use crate::word::Word;
 use ref_base::{Fault, ObjNo};
 use std::alloc::{AllocError, Allocator, Global};
 use std::marker::Model;
 
-/// The objects of a heap, each with a count of holds and a mark. All memory is taken by `new`: for each cell 144 bytes
+/// The objects of a heap, each with a count of holds and a mark. All memory is taken by `new`: for each cell 160 bytes
 /// of its own and 16 of the index, and 16 for each page of 64 cells.
 #[derive(Drop)]
 pub struct Table<A: Allocator = Global> {
@@ -41,6 +42,8 @@ pub struct Table<A: Allocator = Global> {
     pages: Pages<A>,
     // The address of the first page. The others follow it.
     first_page: u32,
+    // The round that goes on.
+    round: Round,
     // What the slots hold.
     slots: Vec<Word, A>,
     // How many objects there may be: the pages are as many as these fill.
@@ -61,11 +64,11 @@ impl<A: Allocator> Model for Table<A> {
 
     ghost use Rattle.ref_space.specs.Places.{IsSoundTable, IsSoundNaming, seen_table};
 
-    ghost view = { λ t. seen_table t.first_page t.cells.items t.index.items t.slots.items t.last t.room };
+    ghost view = { λ t. seen_table t.round t.first_page t.cells.items t.index.items t.slots.items t.last t.room };
 
-    ghost invariant = { λ t. IsSoundTable t.cells.items t.index.items t.pages t.last t.room t.count
+    ghost invariant = { λ t. IsSoundTable t.round t.cells.items t.index.items t.pages t.last t.room t.count
         (vec_capacity t.index) t.marked
-        × IsSoundNaming t.first_page t.cells.items t.index.items t.slots.items };
+        × IsSoundNaming t.round t.first_page t.cells.items t.index.items t.slots.items };
 }
 
 impl<A: Allocator + Copy> Table<A> {
@@ -76,14 +79,15 @@ impl<A: Allocator + Copy> Table<A> {
     ghost use Rattle.ref_space.specs.Tables.{may_hold, more_held_if, less_held};
     ghost use Rattle.ref_space.specs.Tables.{changed, table_freed, made_entry, with_tabled};
     ghost use Rattle.ref_space.specs.Tables.{is_marked_in, is_unmarked_in, marked_of, unmarked_from, with_marked};
-    ghost use Rattle.ref_space.specs.Tables.{table_unmarked, table_blanked, change_of};
+    ghost use Rattle.ref_space.specs.Tables.{table_begun, with_healed, table_blanked, change_of, tabled_reference};
+    ghost use Rattle.ref_space.specs.Tables.{has_field, field_held, is_healed_in};
     ghost use Rattle.ref_space.specs.Tables.{tabled_linked, is_unmarked_at, table_look};
     ghost use Rattle.ref_space.specs.Tables.{table_looked_at};
     ghost use Rattle.std.specs.Option.{IfSome};
     ghost use Rattle.ref_base.specs.DoomedSets.{refers_into};
     ghost use Rattle.ref_base.specs.CollectorRows.{referent_of};
     ghost use Rattle.ref_space.specs.Tables.{made_of, IsUnnamed};
-    ghost use Rattle.ref_space.specs.Naming.{target_of, HasTarget, by_number, reference_by_number};
+    ghost use Rattle.ref_space.specs.Naming.{target_of, IsHealed, IsWordHeld, by_number, reference_by_number};
 
     /// A table of no objects, with room for so many, in pages at this address and those that follow it, and with so
     /// many slots, each empty. The one error is `NoMemory`.
@@ -114,6 +118,7 @@ impl<A: Allocator + Copy> Table<A> {
             index,
             pages,
             first_page,
+            round: Round::FIRST,
             slots,
             room,
             count: 0,
@@ -164,6 +169,20 @@ impl<A: Allocator + Copy> Table<A> {
         fields
     }
 
+    /// The bits of the word that a field of the object of this number holds, 0 where it holds null: none where there is
+    /// no such object or field. The word is one of the cell in which the field's object lies.
+    pub fn word_at(&self, no: ObjNo, field: usize) -> Option<u64>
+        ensures there { is_some result ≡ has_field (tabled_at self.now.tabled no) field }
+        ensures word { IfSome result (IsWordHeld self.now.round.good self.now.first self.now.occupants
+            (is_healed_in self.now.round.number (tabled_at self.now.tabled no))
+            (field_held (tabled_at self.now.tabled no) field)) }
+    {
+        match cell_of(&self.cells, &self.index, no) {
+            Some(cell) => cell.bits(field),
+            None => None,
+        }
+    }
+
     // What the fields of the object of this number hold: none where there is no such object.
     fn words(&self, no: ObjNo) -> Words
         ensures { map (target_of self.now) result ≡ tabled_fields (tabled_at self.now.tabled no) }
@@ -174,14 +193,30 @@ impl<A: Allocator + Copy> Table<A> {
         }
     }
 
+    /// Heals the object of this number, so that each word that it holds has the good colour, and answers what it has as
+    /// a reference: nothing where there is no such object, or it is plain.
+    pub fn heal(&mut self, no: ObjNo) -> Option<Reference>
+        ensures answer { result ≡ tabled_reference (tabled_at self.old.tabled no) }
+        ensures after { self.new ≡ changed self.old no (with_healed self.old.round.number) }
+    {
+        match place_of(&self.cells, &self.index, no) {
+            Some(place) => {
+                let reference = self.reference(self.cells[place].kept());
+                self.cells[place].heal(self.round);
+                reference
+            }
+            None => None,
+        }
+    }
+
     // The word of the object of this number: null where there is no such object.
     fn word_of(&self, no: ObjNo) -> Word
         ensures named { target_of self.now result ≡
             (if is_some (tabled_at self.now.tabled no) then Some no else None) }
-        ensures led { HasTarget self.now result }
+        ensures healed { IsHealed self.now result }
     {
         match place_of(&self.cells, &self.index, no) {
-            Some(place) => word_at(self.first_page, place),
+            Some(place) => word_at(self.round.good, self.first_page, place),
             None => Word::null(),
         }
     }
@@ -283,7 +318,7 @@ impl<A: Allocator + Copy> Table<A> {
     // Whether this is a reference to an object that isn't marked.
     #[inline(always)]
     fn refers_to_unmarked(&self, kept: Option<Kept>) -> bool
-        ensures { result ≡ refers_into (is_unmarked_at self.now.tabled)
+        ensures { result ≡ refers_into (is_unmarked_at self.now.round.number self.now.tabled)
             (option_map (reference_by_number (target_of self.now)) kept) }
     {
         match kept {
@@ -296,11 +331,11 @@ impl<A: Allocator + Copy> Table<A> {
     /// is no such object: then nothing changes.
     pub fn add_hold(&mut self, no: ObjNo, if_marked: bool) -> bool
         requires { length (holds_of self.old.tabled) < 2 ^ 64 - 1 }
-        ensures there { result ≡ may_hold if_marked (tabled_at self.old.tabled no) }
-        ensures after { self.new ≡ changed self.old no (more_held_if if_marked) }
+        ensures there { result ≡ may_hold self.old.round.number if_marked (tabled_at self.old.tabled no) }
+        ensures after { self.new ≡ changed self.old no (more_held_if self.old.round.number if_marked) }
     {
         match place_of(&self.cells, &self.index, no) {
-            Some(place) => self.cells[place].add_hold(if_marked),
+            Some(place) => self.cells[place].add_hold(if_marked, self.round.number),
             None => false,
         }
     }
@@ -316,7 +351,8 @@ impl<A: Allocator + Copy> Table<A> {
         }
     }
 
-    /// A new object that nobody holds, with so many null fields; the slot at place `into` holds it.
+    /// A new object that nobody holds, with so many null fields, in the first free cell; the slot at place `into` holds
+    /// it.
     pub fn push(
         &mut self,
         into: usize,
@@ -331,13 +367,13 @@ impl<A: Allocator + Copy> Table<A> {
         requires room { length self.old.tabled < self.old.room }
         requires from { IfSome reference (λ r. r.from < length self.old.slots) }
         ensures { self.new ≡ with_tabled self.old into
-            (made_entry no count (option_map (made_of self.old.slots) reference) marked) self.new.occupants }
+            (made_entry self.old.round.number no count (option_map (made_of self.old.slots) reference) marked) }
     {
         let kept = self.kept_of_new(reference);
         make_room(&mut self.index, &self.cells, 2 * self.cells.len());
         let (page, cell) = self.pages.place().unwrap();
         let place = 64 * page + cell as usize;
-        self.cells[place] = Cell::of(no, count, kept, marked);
+        self.cells[place].occupy(no, count, kept, marked, self.round.number);
         self.index.push_reserved(Entry {
             no,
             place: place as u32,
@@ -345,7 +381,7 @@ impl<A: Allocator + Copy> Table<A> {
         self.last = no;
         self.count += 1;
         self.marked += usize::from(marked);
-        self.slots[into] = word_at(self.first_page, place);
+        self.slots[into] = word_at(self.round.good, self.first_page, place);
     }
 
     // What the cell of a new reference has of it.
@@ -353,7 +389,7 @@ impl<A: Allocator + Copy> Table<A> {
         requires { IfSome reference (λ r. r.from < length self.now.slots) }
         ensures named { option_map (reference_by_number (target_of self.now)) result
             ≡ option_map (made_of self.now.slots) reference }
-        ensures led { HasTarget self.now (referent_of result) }
+        ensures healed { IsHealed self.now (referent_of result) }
     {
         match reference {
             Some(reference) => Some(Kept {
@@ -369,14 +405,14 @@ impl<A: Allocator + Copy> Table<A> {
     /// Frees the object of this number. False where there is none, or it is marked: then nothing changes. Nothing names
     /// one that goes.
     pub fn free(&mut self, no: ObjNo) -> bool
-        requires { is_unmarked_in (tabled_at self.old.tabled no) ≡ true → IsUnnamed self.old no }
-        ensures answer { result ≡ is_unmarked_in (tabled_at self.old.tabled no) }
-        ensures after { self.new ≡ table_freed self.old no self.new.occupants }
+        requires { is_unmarked_in self.old.round.number (tabled_at self.old.tabled no) ≡ true → IsUnnamed self.old no }
+        ensures answer { result ≡ is_unmarked_in self.old.round.number (tabled_at self.old.tabled no) }
+        ensures after { self.new ≡ table_freed self.old no }
     {
         let Some(place) = place_of(&self.cells, &self.index, no) else {
             return false;
         };
-        let goes = self.cells[place].is_unmarked();
+        let goes = self.cells[place].is_unmarked(self.round.number);
         if goes {
             self.cells[place].vacate();
             self.pages.give(place / 64, (place % 64) as u32);
@@ -398,46 +434,46 @@ impl<A: Allocator + Copy> Table<A> {
 
     /// How many of the objects are marked.
     pub fn marked_count(&self) -> usize
-        ensures { result ≡ length (marked_of self.now.tabled) }
+        ensures { result ≡ length (marked_of self.now.round.number self.now.tabled) }
     {
         self.marked
     }
 
     /// Whether there is an object of this number, and it is marked.
     pub fn is_marked(&self, no: ObjNo) -> bool
-        ensures { result ≡ is_marked_in (tabled_at self.now.tabled no) }
+        ensures { result ≡ is_marked_in self.now.round.number (tabled_at self.now.tabled no) }
     {
         match cell_of(&self.cells, &self.index, no) {
-            Some(cell) => cell.is_marked(),
+            Some(cell) => cell.is_marked(self.round.number),
             None => false,
         }
     }
 
     /// Whether there is an object of this number, and it isn't marked.
     pub fn is_unmarked(&self, no: ObjNo) -> bool
-        ensures { result ≡ is_unmarked_in (tabled_at self.now.tabled no) }
+        ensures { result ≡ is_unmarked_in self.now.round.number (tabled_at self.now.tabled no) }
     {
         match cell_of(&self.cells, &self.index, no) {
-            Some(cell) => cell.is_unmarked(),
+            Some(cell) => cell.is_unmarked(self.round.number),
             None => false,
         }
     }
 
     /// The first number from this one on of an object that isn't marked.
     pub fn unmarked_from(&self, no: ObjNo) -> Option<ObjNo>
-        ensures { result ≡ unmarked_from self.now.tabled no }
+        ensures { result ≡ unmarked_from self.now.round.number self.now.tabled no }
     {
-        unmarked_from(&self.cells, &self.index, no)
+        unmarked_from(&self.cells, &self.index, no, self.round.number)
     }
 
     /// Marks the object of this number. True where there is one and it wasn't marked.
     pub fn mark(&mut self, no: ObjNo) -> bool
-        ensures answer { result ≡ is_unmarked_in (tabled_at self.old.tabled no) }
-        ensures after { self.new ≡ changed self.old no (with_marked true) }
+        ensures answer { result ≡ is_unmarked_in self.old.round.number (tabled_at self.old.tabled no) }
+        ensures after { self.new ≡ changed self.old no (with_marked self.old.round.number) }
     {
         match place_of(&self.cells, &self.index, no) {
             Some(place) => {
-                let is_new = self.cells[place].mark();
+                let is_new = self.cells[place].mark(self.round.number);
                 self.marked += usize::from(is_new);
                 is_new
             }
@@ -449,33 +485,51 @@ impl<A: Allocator + Copy> Table<A> {
     pub fn blank_unmarked(&mut self)
         ensures { self.new ≡ table_blanked self.old }
     {
-        blank(&mut self.cells);
+        blank(&mut self.cells, self.round.number);
     }
 
-    /// Takes every mark away. In time of the cells.
-    pub fn unmark_all(&mut self)
-        ensures { self.new ≡ table_unmarked self.old }
+    /// A round begins, in which this colour is good: the slots are healed, and no object is marked or healed. In time
+    /// of the slots; and, once in 2^64 - 1 rounds, of the cells.
+    pub fn begin(&mut self, good: Colour)
+        ensures { self.new ≡ table_begun self.old good }
     {
-        unmark(&mut self.cells);
+        recolour(&mut self.slots, good);
         self.marked = 0;
+        if self.round.number < u64::MAX {
+            let number = self.round.number + 1;
+            self.round = Round { number, good };
+            return;
+        }
+        // The numbers of rounds begin anew.
+        forget_rounds(&mut self.cells);
+        self.round = Round { number: 1, good };
     }
 }
 
-// Takes the marks of these cells away.
-fn unmark(cells: &mut [Cell])
-    ensures { cells.new ≡ map unmarked_cell cells.old }
+// The objects of these cells are as if they had never been marked or healed.
+fn forget_rounds(cells: &mut [Cell])
+    ensures { cells.new ≡ map begun_cell cells.old }
 {
     for cell in cells.iter_mut() {
-        cell.unmark();
+        cell.forget_rounds();
     }
 }
 
-// What of these cells isn't marked refers to nothing from now on.
-fn blank(cells: &mut [Cell])
-    ensures { cells.new ≡ map blanked_cell cells.old }
+// These words get this colour.
+fn recolour(words: &mut [Word], colour: Colour)
+    ensures { words.new ≡ map (recoloured colour) words.old }
+{
+    for word in words.iter_mut() {
+        *word = word.in_colour(colour);
+    }
+}
+
+// What of these cells isn't marked in this round refers to nothing from now on.
+fn blank(cells: &mut [Cell], round: u64)
+    ensures { cells.new ≡ map (blanked_cell round) cells.old }
 {
     for cell in cells.iter_mut() {
-        cell.blank_unless_marked();
+        cell.blank_unless_marked(round);
     }
 }
 
@@ -501,13 +555,13 @@ fn empty_slots<A: Allocator>(alloc: A, count: usize) -> Result<Vec<Word, A>, All
     Ok(slots)
 }
 
-// The word of the cell at this place, where the first page has this address.
-fn word_at(first_page: u32, place: usize) -> Word
+// The word of the cell at this place in this colour, where the first page has this address.
+fn word_at(colour: Colour, first_page: u32, place: usize) -> Word
     requires { IsCell (first_page + place / 64) (place % 64) }
-    ensures { place_by first_page result ≡ Some place }
+    ensures { result ≡ word_in_colour colour (first_page + place / 64) (place % 64) }
 {
     Word::of(
-        Colour::R,
+        colour,
         first_page + (place / 64) as u32,
         (place % 64) as u32,
     )

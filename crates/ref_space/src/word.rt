@@ -1,10 +1,11 @@
 //! What a slot or a field holds.
 
-ghost use Rattle.std.specs.Prelude.{◌≡◌, None};
-ghost use Rattle.ref_space.specs.ColouredWords.{IsCell, place_by, word_in_colour};
+ghost use Rattle.std.specs.Prelude.{◌≡◌, ◌≤◌, None};
+ghost use Rattle.std.specs.Option.{is_none};
+ghost use Rattle.ref_space.specs.ColouredWords.{IsCell, place_by, word_in_colour, has_colour, recoloured, bits_held};
 
 use crate::colour::Colour;
-use crate::words::word_of;
+use crate::words::{has_colour, word_of};
 use std::marker::Model;
 
 /// What a slot or a field holds: null, or the coloured word of a cell. In a clause it is that word, if there is one.
@@ -45,15 +46,50 @@ impl Word {
         }
     }
 
+    /// Whether it is null.
+    #[inline(always)]
+    pub fn is_null(self) -> bool
+        ensures { result ≡ is_none self }
+    {
+        self.bits == 0
+    }
+
+    /// Whether it has this colour: false for null.
+    #[inline(always)]
+    pub fn has_colour(self, colour: Colour) -> bool
+        ensures { result ≡ has_colour colour self }
+    {
+        has_colour(self.bits, colour)
+    }
+
+    /// The word of the same cell in this colour, or null.
+    #[inline(always)]
+    pub fn in_colour(self, colour: Colour) -> Word
+        ensures { result ≡ recoloured colour self }
+    {
+        if self.is_null() {
+            return self;
+        }
+        Word {
+            bits: u64::from(colour.number()) * (1 << 62) + self.bits % (1 << 62),
+        }
+    }
+
+    /// Its bits: 0 for null.
+    pub fn bits(self) -> u64
+        ensures { result ≡ bits_held self }
+    {
+        self.bits
+    }
+
     /// The place of its cell among those of the pages at this address and those that follow it: none of null, and of a
-    /// word of a page in front of these.
+    /// word of a page in front of these. The address is from 1 on.
     #[inline(always)]
     pub fn place(self, first_page: u32) -> Option<u64>
+        requires { 1 ≤ first_page }
         ensures { result ≡ place_by first_page self }
     {
-        if self.bits == 0 {
-            return None;
-        }
+        // The bits of null are in front of each page's.
         (self.bits % (1 << 62)).checked_sub(64 * u64::from(first_page))
     }
 }

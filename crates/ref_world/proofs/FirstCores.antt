@@ -12,12 +12,14 @@ pub new_queues_more : (first count next : ℕ) → next ≡ first + count
 new_queues_more first zero next is = ap (λ q. new_queue q ∷ []) (omega (arith, is))
 new_queues_more first (suc count) next is = grind (arith, new_queues_more (first + 1) count next)
 
-module _ (config : Config) (stands : HeapStands (first_clear_heap config 0 1 0) (first_state config)) where
-  pub first_stands : Stands (first_core config) (first_state config)
-  first_stands = record { heap = stands; number = refl; mutator_hands = refl; worker_hands = refl; queues = refl }
+module _ (config : Config)
+    (stands : HeapStands (first_clear_heap config 0 (record { obj = 1; cycle = 0; page = 1 })) (first_state config))
+  where
+    pub first_stands : Stands (first_core config) (first_state config)
+    first_stands = record { heap = stands; number = refl; mutator_hands = refl; worker_hands = refl; queues = refl }
 
-  pub first_sound : IsSound (first_core config)
-  first_sound = record {
-    reached = record { config = config; rows = []; state = first_state config; run = refl; stands = first_stands };
-    numbered = λ q. ap (λ (l : Lists Notice). l.queue) (first_queue config q);
-  }
+    pub first_sound : IsSound (first_core config)
+    first_sound = record {
+      reached = record { config = config; rows = []; state = first_state config; run = refl; stands = first_stands };
+      numbered = λ q. ap (λ (l : Lists Notice). l.queue) (first_queue config q);
+    }

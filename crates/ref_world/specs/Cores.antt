@@ -36,7 +36,7 @@ first_hands config = record { mutators = replicate config.mutators []; workers =
 -- the heap has number 0
 abbrev pub first_core : Config → Core
 first_core config = record {
-  heap = first_clear_heap config 0 1 0;
+  heap = first_clear_heap config 0 (record { obj = 1; cycle = 0; page = 1 });
   hands = first_hands config;
   queues = new_queues 0 config.queues;
 }

@@ -5,9 +5,12 @@ use super::Call::{Ask, Collect, Keep, Mutate};
 use super::Collect::{Begin, EndMark, Free, GreyRoot, Scan, TakeFound, ToIdle, ToSweeping};
 use super::Keep::{Adopt, Hold, Leak, Mint, Release};
 use super::Mutate::{Clear, CopySlot, DropSlot, Get, Load, New, Refer, RefersTo, Store};
-use super::agree;
+use super::{M, agree};
 use crate::told::Told;
-use ref_base::{Fault, Phase, Strength, Urgency};
+use ref_base::{Config, Fault, ObjNo, Phase, SlotNo, Strength, Urgency, WorkerNo};
+use ref_mark::Marker;
+use std::alloc::Global;
+use std::process::Abort;
 use std::test::Fail;
 
 const NORMAL: Urgency = Urgency::Normal;
@@ -249,4 +252,36 @@ fn a_hold_is_taken_back(rt: HostRuntime) -> Result<(), Fail> {
         (Ask(HoldCount), Told::Count(0)),
     ];
     agree(&rt, rt.alloc(), &story)
+}
+
+/// Object 1 with a field that holds object 65, the first of the second page; the others are garbage but object 2.
+fn with_a_field_across_pages(alloc: Global) -> Result<Marker, Fault> {
+    let config = Config {
+        mutators: 1,
+        workers: 1,
+        queues: 1,
+        cells: 128,
+        span: 0,
+    };
+    let mut heap = Marker::new(alloc, config, 1)?;
+    heap.alloc_obj(M, SlotNo(0), 1)?;
+    heap.alloc_obj(M, SlotNo(2), 0)?;
+    for _no in 3..66 {
+        heap.alloc_obj(M, SlotNo(1), 0)?;
+    }
+    heap.store(M, SlotNo(0), 0, SlotNo(1))?;
+    Ok(heap)
+}
+
+#[test]
+fn a_scan_heals_what_its_object_holds(rt: HostRuntime) -> Result<(), Fail> {
+    let mut heap = with_a_field_across_pages(rt.alloc())?;
+    // Colour R, page 2, cell 0.
+    assert!(rt; heap.objects().word_at(ObjNo(1), 0) == Some(13_835_058_055_282_163_840));
+    heap.begin(0, NORMAL)?;
+    assert!(rt; heap.objects().word_at(ObjNo(1), 0) == Some(13_835_058_055_282_163_840));
+    assert!(rt; heap.scan(WorkerNo(0))? == Some(ObjNo(1)));
+    // Colour A.
+    assert!(rt; heap.objects().word_at(ObjNo(1), 0) == Some(4_611_686_018_427_388_032));
+    Ok(())
 }

@@ -2,11 +2,11 @@
 
 use super::Ask::{
     ClearedIn, FieldCount, FieldOf, FirstFrom, HasObject, IsCondemned, IsHeld, IsMarked, KindOf,
-    LinkOf, NextNo, ObjectCount, ReferenceOf, ReferentOf, UnmarkedCount, UnmarkedFrom,
+    LinkOf, NextNo, ObjectCount, ReferenceOf, ReferentOf, UnmarkedCount, UnmarkedFrom, WordAt,
 };
 use super::Call::{Ask, Do, Set};
-use super::Do::{DropSlot, Free, LookAt, Mark, New, Refer, Store, Sweep};
-use super::Set::{Cleared, ClockTo, Condemn, Cut, EndCycle, Link, Stamp, UnmarkAll};
+use super::Do::{DropSlot, Free, Load, LookAt, Mark, New, Refer, Store, Sweep};
+use super::Set::{BeginMarks, Cleared, ClockTo, Condemn, Cut, EndCycle, Link, Stamp};
 use super::{agree, agree_from, config};
 use crate::told::Told;
 use ref_base::{Config, Fault, ObjNo, QueueNo, Strength};
@@ -60,6 +60,48 @@ fn a_field_is_written_alone(rt: HostRuntime) -> Result<(), Fail> {
         (Ask(FieldOf(2, 1)), Told::Null),
     ];
     agree(&rt, rt.alloc(), 2, &story)
+}
+
+#[test]
+fn a_field_has_a_word_of_its_objects_cell(rt: HostRuntime) -> Result<(), Fail> {
+    let story = [
+        (Do(New(0, 2)), Told::Object(1)),
+        (Do(New(1, 0)), Told::Object(2)),
+        (Do(New(2, 0)), Told::Object(3)),
+        (Ask(WordAt(1, 0)), Told::Word(0)),
+        (Do(Store(0, 0, 2)), Told::Done),
+        // Colour R, page 1, cell 2: in hexadecimal c000000000000042.
+        (Ask(WordAt(1, 0)), Told::Word(13_835_058_055_282_163_778)),
+        (Ask(WordAt(1, 2)), Told::Nothing),
+        (Ask(WordAt(4, 0)), Told::Nothing),
+        // Colour A is good now: a slot has it, and a field as soon as it is loaded.
+        (Set(BeginMarks), Told::Done),
+        (Do(Store(0, 1, 1)), Told::Done),
+        (Ask(WordAt(1, 0)), Told::Word(13_835_058_055_282_163_778)),
+        (Ask(WordAt(1, 1)), Told::Word(4_611_686_018_427_387_969)),
+        (Do(Load(3, 0, 0)), Told::Object(3)),
+        (Ask(WordAt(1, 0)), Told::Word(4_611_686_018_427_387_970)),
+    ];
+    agree(&rt, rt.alloc(), 4, &story)
+}
+
+#[test]
+fn a_new_object_lies_in_the_first_free_cell(rt: HostRuntime) -> Result<(), Fail> {
+    let story = [
+        (Do(New(0, 1)), Told::Object(1)),
+        (Do(New(1, 0)), Told::Object(2)),
+        (Do(New(2, 0)), Told::Object(3)),
+        (Do(DropSlot(1)), Told::Done),
+        (Do(Sweep(2)), Told::Yes),
+        (Do(New(1, 0)), Told::Object(4)),
+        (Do(Store(0, 0, 1)), Told::Done),
+        // Where object 2 lay: colour A, page 1, cell 1.
+        (Ask(WordAt(1, 0)), Told::Word(4_611_686_018_427_387_969)),
+        (Do(New(3, 0)), Told::Object(5)),
+        (Do(Store(0, 0, 3)), Told::Done),
+        (Ask(WordAt(1, 0)), Told::Word(4_611_686_018_427_387_971)),
+    ];
+    agree(&rt, rt.alloc(), 4, &story)
 }
 
 #[test]
@@ -186,7 +228,7 @@ fn what_is_not_marked_is_condemned_and_may_be_freed(rt: HostRuntime) -> Result<(
         (Ask(IsCondemned(3)), Told::No),
         (Do(Free(3)), Told::No),
         (Set(EndCycle), Told::Done),
-        (Set(UnmarkAll), Told::Done),
+        (Set(BeginMarks), Told::Done),
         (Ask(UnmarkedCount), Told::Count(2)),
         (Ask(IsCondemned(2)), Told::No),
         (Do(Free(3)), Told::No),
@@ -203,7 +245,7 @@ fn every_mark_is_taken_away(rt: HostRuntime) -> Result<(), Fail> {
         (Do(New(0, 2)), Told::Object(4)),
         (Do(Mark(1)), Told::Yes),
         (Do(Mark(4)), Told::Yes),
-        (Set(UnmarkAll), Told::Done),
+        (Set(BeginMarks), Told::Done),
         // None of four is marked.
         (Ask(UnmarkedCount), Told::Count(4)),
         (Ask(IsMarked(1)), Told::No),
@@ -248,7 +290,7 @@ fn a_look_clears_what_refers_to_the_unmarked(rt: HostRuntime) -> Result<(), Fail
         (Do(LookAt(2, 7)), Told::Kept(2)),
         (Ask(ReferentOf(2)), Told::Object(1)),
         (Ask(ClearedIn(2)), Told::Began(0)),
-        (Set(UnmarkAll), Told::Done),
+        (Set(BeginMarks), Told::Done),
         (Do(LookAt(2, 7)), Told::Cleared(2)),
         (Ask(ReferentOf(2)), Told::Null),
         (Ask(ClearedIn(2)), Told::Began(7)),

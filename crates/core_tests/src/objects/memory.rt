@@ -7,14 +7,14 @@ use super::Do::{
     SetSlot, Store,
 };
 use super::Keep::{Adopt, Hold, Mint, Release};
-use super::Set::{Cleared, ClockTo, Condemn, Cut, EndCycle, Link, Stamp, UnmarkAll};
+use super::Set::{BeginMarks, Cleared, ClockTo, Condemn, Cut, EndCycle, Link, Stamp};
 use super::{Call, M, config, make_calls};
 use crate::arena::{all_that_is_left, limited};
 use crate::closed::is_closed;
 use crate::told::Told;
 use bumpalo::Bump;
 use ref_base::{Fault, ObjNo, SlotNo, Strength};
-use ref_objects::Objects;
+use ref_objects::{Colour, Objects};
 use std::alloc::Allocator;
 use std::process::Abort;
 use std::test::Fail;
@@ -45,7 +45,7 @@ const EACH_CALL: [(Call, Told); 27] = [
     (Do(MarkSlotAt(1)), Told::Found(2)),
     (Set(Condemn), Told::Done),
     (Do(Free(1)), Told::No),
-    (Set(UnmarkAll), Told::Done),
+    (Set(BeginMarks), Told::Done),
     (Set(EndCycle), Told::Done),
     (Ask(ObjectCount), Told::Count(2)),
 ];
@@ -95,7 +95,7 @@ fn free_all_but_one<A: Allocator + Copy>(heap: &mut Objects<A>) {
         heap.free(ObjNo(no as u32));
     }
     heap.end_cycle();
-    heap.unmark_all();
+    heap.begin_marks(Colour::A);
 }
 
 /// Fills the heap, and again each time that all but the first object were freed. As that one stays, the index fills

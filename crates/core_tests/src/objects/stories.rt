@@ -12,7 +12,7 @@ use super::Do::{
     SetSlot, Store, Sweep,
 };
 use super::Keep::{Adopt, Hand, Hold, Leak, Mint, Release};
-use super::Set::{ClockTo, Condemn, Cut, EndCycle, Stamp, UnmarkAll};
+use super::Set::{BeginMarks, ClockTo, Condemn, Cut, EndCycle, Stamp};
 use super::{agree, agree_from, config};
 use crate::told::Told;
 use ref_base::{Fault, Strength};
@@ -436,7 +436,7 @@ fn a_new_cycle_begins_with_no_mark(rt: HostRuntime) -> Result<(), Fail> {
         (Do(Mark(2)), Told::Yes),
         (Ask(UnmarkedCount), Told::Count(0)),
         (Ask(UnmarkedFrom(1)), Told::Nothing),
-        (Set(UnmarkAll), Told::Done),
+        (Set(BeginMarks), Told::Done),
         (Ask(UnmarkedCount), Told::Count(2)),
         (Ask(UnmarkedFrom(2)), Told::Found(2)),
         // Only marks are taken away.

@@ -5,6 +5,7 @@ ghost use Rattle.ref_mark.specs.CycleHeaps.{first_cycle_heap};
 
 use ref_base::{Config, MutNo, ObjNo, SlotNo, Strength, Urgency, WorkerNo};
 use ref_mark::Marker;
+use ref_objects::Start;
 use std::alloc::Global;
 use std::process::Abort;
 
@@ -16,9 +17,11 @@ const CONFIG: Config = Config {
     span: 10,
 };
 
+const START: Start = Start::FIRST;
+
 /// A get stamps the soft reference with the clock.
 fn a_get_renews_the_stamp(heap: &mut Marker) -> bool
-    requires { heap.old ≡ first_cycle_heap CONFIG 1 1 0 }
+    requires { heap.old ≡ first_cycle_heap CONFIG 1 START }
     ensures { result ≡ true }
 {
     let _made = heap.alloc_obj(MutNo(0), SlotNo(0), 0);
@@ -30,7 +33,7 @@ fn a_get_renews_the_stamp(heap: &mut Marker) -> bool
 
 /// What is made in a mark is not doomed at its end.
 fn what_is_made_in_a_mark_survives_it(heap: &mut Marker) -> bool
-    requires { heap.old ≡ first_cycle_heap CONFIG 1 1 0 }
+    requires { heap.old ≡ first_cycle_heap CONFIG 1 START }
     ensures { result ≡ true }
 {
     let _began = heap.begin(0, Urgency::Normal);
@@ -41,7 +44,7 @@ fn what_is_made_in_a_mark_survives_it(heap: &mut Marker) -> bool
 
 /// What is held is a root, and its heap takes the hold back.
 fn what_is_held_is_a_root(heap: &mut Marker) -> bool
-    requires { heap.old ≡ first_cycle_heap CONFIG 1 1 0 }
+    requires { heap.old ≡ first_cycle_heap CONFIG 1 START }
     ensures { result ≡ true }
 {
     let _made = heap.alloc_obj(MutNo(0), SlotNo(0), 0);
@@ -65,7 +68,7 @@ fn what_is_held_is_a_root(heap: &mut Marker) -> bool
 
 /// A doomed referent reads as null, its reference is not cleared by a mutator, and nothing is freed before the sweep.
 fn a_doomed_referent_reads_as_null(heap: &mut Marker) -> bool
-    requires { heap.old ≡ first_cycle_heap CONFIG 1 1 0 }
+    requires { heap.old ≡ first_cycle_heap CONFIG 1 START }
     ensures { result ≡ true }
 {
     let _made = heap.alloc_obj(MutNo(0), SlotNo(0), 0);
@@ -85,7 +88,7 @@ fn a_doomed_referent_reads_as_null(heap: &mut Marker) -> bool
 
 /// A heap where nothing was made yet, between cycles.
 fn heap(rt: &impl Abort, alloc: Global) -> Marker
-    ensures { result ≡ first_cycle_heap CONFIG 1 1 0 }
+    ensures { result ≡ first_cycle_heap CONFIG 1 START }
 {
     match Marker::new(alloc, CONFIG, 1) {
         Ok(heap) => heap,

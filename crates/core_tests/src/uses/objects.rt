@@ -4,7 +4,7 @@ ghost use Rattle.std.specs.Prelude.{◌≡◌, ◌≢◌, true};
 ghost use Rattle.ref_objects.specs.Grounds.{first_ground};
 
 use ref_base::{Config, MutNo, ObjNo, QueueNo, SlotNo, Strength};
-use ref_objects::{Hold, Objects};
+use ref_objects::{Hold, Objects, Start};
 use std::alloc::Global;
 use std::process::Abort;
 
@@ -16,9 +16,11 @@ const CONFIG: Config = Config {
     span: 10,
 };
 
+const START: Start = Start::FIRST;
+
 /// Each cell takes an object, which has the next number.
 fn each_object_has_a_cell_and_a_number(objects: &mut Objects) -> bool
-    requires { objects.old ≡ first_ground CONFIG 1 1 }
+    requires { objects.old ≡ first_ground CONFIG 1 START }
     ensures { result ≡ true }
 {
     let _first = objects.alloc_obj(MutNo(0), SlotNo(0), 0);
@@ -30,7 +32,7 @@ fn each_object_has_a_cell_and_a_number(objects: &mut Objects) -> bool
 
 /// A slot that is copied still holds what it held.
 fn a_copy_is_no_move(objects: &mut Objects) -> bool
-    requires { objects.old ≡ first_ground CONFIG 1 1 }
+    requires { objects.old ≡ first_ground CONFIG 1 START }
     ensures { result ≡ true }
 {
     let _made = objects.alloc_obj(MutNo(0), SlotNo(0), 0);
@@ -43,7 +45,7 @@ fn a_copy_is_no_move(objects: &mut Objects) -> bool
 
 /// A store writes the field that it names.
 fn a_store_writes_its_field(objects: &mut Objects) -> bool
-    requires { objects.old ≡ first_ground CONFIG 1 1 }
+    requires { objects.old ≡ first_ground CONFIG 1 START }
     ensures { result ≡ true }
 {
     let _made = objects.alloc_obj(MutNo(0), SlotNo(0), 2);
@@ -53,7 +55,7 @@ fn a_store_writes_its_field(objects: &mut Objects) -> bool
 
 /// An object that nothing refers to is condemned, and freed by its number.
 fn an_object_is_freed(objects: &mut Objects) -> bool
-    requires { objects.old ≡ first_ground CONFIG 1 1 }
+    requires { objects.old ≡ first_ground CONFIG 1 START }
     ensures { result ≡ true }
 {
     let _made = objects.alloc_obj(MutNo(0), SlotNo(0), 0);
@@ -64,7 +66,7 @@ fn an_object_is_freed(objects: &mut Objects) -> bool
 
 /// A soft reference, also one with fields, is stamped with the clock and registered with its queue.
 fn a_soft_reference_has_its_stamp_and_queue(objects: &mut Objects) -> bool
-    requires { objects.old ≡ first_ground CONFIG 1 1 }
+    requires { objects.old ≡ first_ground CONFIG 1 START }
     ensures { result ≡ true }
 {
     objects.set_clock(5);
@@ -76,7 +78,7 @@ fn a_soft_reference_has_its_stamp_and_queue(objects: &mut Objects) -> bool
 
 /// The cycle in which an object was cleared is told of it, and of no other.
 fn a_clear_is_told_of_its_object_alone(objects: &mut Objects) -> bool
-    requires { objects.old ≡ first_ground CONFIG 1 1 }
+    requires { objects.old ≡ first_ground CONFIG 1 START }
     ensures { result ≡ true }
 {
     let _first = objects.alloc_obj(MutNo(0), SlotNo(0), 0);
@@ -87,7 +89,7 @@ fn a_clear_is_told_of_its_object_alone(objects: &mut Objects) -> bool
 
 /// The link of an object is told of it, and of no other.
 fn a_link_is_told_of_its_object_alone(objects: &mut Objects) -> bool
-    requires { objects.old ≡ first_ground CONFIG 1 1 }
+    requires { objects.old ≡ first_ground CONFIG 1 START }
     ensures { result ≡ true }
 {
     let _first = objects.alloc_obj(MutNo(0), SlotNo(0), 0);
@@ -98,7 +100,7 @@ fn a_link_is_told_of_its_object_alone(objects: &mut Objects) -> bool
 
 /// A list has of a reference what was written.
 fn a_list_has_what_was_written(objects: &mut Objects) -> bool
-    requires { objects.old ≡ first_ground CONFIG 1 1 }
+    requires { objects.old ≡ first_ground CONFIG 1 START }
     ensures { result ≡ true }
 {
     let _made = objects.alloc_obj(MutNo(0), SlotNo(0), 0);
@@ -116,7 +118,7 @@ fn a_list_has_what_was_written(objects: &mut Objects) -> bool
 
 /// A look clears a reference to what isn't marked.
 fn a_look_clears(objects: &mut Objects) -> bool
-    requires { objects.old ≡ first_ground CONFIG 1 1 }
+    requires { objects.old ≡ first_ground CONFIG 1 START }
     ensures { result ≡ true }
 {
     let _made = objects.alloc_obj(MutNo(0), SlotNo(0), 0);
@@ -127,7 +129,7 @@ fn a_look_clears(objects: &mut Objects) -> bool
 
 /// A hold is counted once, and no more once it is released.
 fn a_hold_is_counted_till_its_release(objects: &mut Objects) -> bool
-    requires { objects.old ≡ first_ground CONFIG 1 1 }
+    requires { objects.old ≡ first_ground CONFIG 1 START }
     ensures { result ≡ true }
 {
     let _made = objects.alloc_obj(MutNo(0), SlotNo(0), 0);
@@ -160,7 +162,7 @@ fn adopts_no_hold_of_another_heap(objects: &mut Objects, hold: Hold) -> bool
 
 /// A heap of this number, where nothing was made yet.
 fn heap(rt: &impl Abort, alloc: Global, heap_no: u64) -> Objects
-    ensures { result ≡ first_ground CONFIG heap_no 1 }
+    ensures { result ≡ first_ground CONFIG heap_no START }
 {
     match Objects::new(alloc, CONFIG, heap_no) {
         Ok(objects) => objects,

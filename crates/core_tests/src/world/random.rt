@@ -43,7 +43,7 @@ const SMALL: Config = Config {
 const ROOMY: Config = Config { cells: 16, ..SMALL };
 
 /// Sizes of worlds, each with the seed of its draws.
-const SIZES: [(Config, u64); 5] = [
+const SIZES: [(Config, u64); 11] = [
     (SMALL, 1),
     (ROOMY, 2),
     (Config { span: 0, ..ROOMY }, 3),
@@ -66,9 +66,28 @@ const SIZES: [(Config, u64); 5] = [
         },
         5,
     ),
+    // About a page, and more of them.
+    (Config { cells: 1, ..SMALL }, 6),
+    (Config { cells: 63, ..SMALL }, 7),
+    (Config { cells: 64, ..SMALL }, 8),
+    (Config { cells: 65, ..SMALL }, 9),
+    (
+        Config {
+            cells: 128,
+            ..SMALL
+        },
+        10,
+    ),
+    (
+        Config {
+            cells: 4_096,
+            ..SMALL
+        },
+        11,
+    ),
 ];
 
-/// How many worlds of each size there are, one after the other, and how many steps each does: 100,000 steps in all.
+/// How many worlds of each size there are, one after the other, and how many steps each does: 220,000 steps in all.
 const WORLDS: u32 = 10;
 
 const STEPS: u32 = 2_000;

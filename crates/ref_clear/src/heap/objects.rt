@@ -55,6 +55,7 @@ impl<A: Allocator + Copy> Heap<A> {
 
     /// Loads a field of the object in slot `from` into slot `into`, as `Marker::load` does: `NoSuchActor`, `EmptySlot`,
     /// `BadField`.
+    #[inline(always)]
     pub fn load(
         &mut self,
         mutator: MutNo,
@@ -88,6 +89,7 @@ impl<A: Allocator + Copy> Heap<A> {
 
     /// Gets the referent of the reference in slot `reference` into slot `into`, as `Marker::get` does: null once it is
     /// cleared, or its referent doomed. `NoSuchActor`, `EmptySlot`, `NotAReference`.
+    #[inline(always)]
     pub fn get(
         &mut self,
         mutator: MutNo,

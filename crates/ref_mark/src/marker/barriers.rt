@@ -17,6 +17,7 @@ use std::alloc::Allocator;
 impl<A: Allocator + Copy> Marker<A> {
     /// Loads a field of the object in slot `from` into slot `into`: an object or null. Tried in this order:
     /// `NoSuchActor`, `EmptySlot`, `BadField`. In a mark, a white object that is loaded becomes grey. In constant time.
+    #[inline(always)]
     pub fn load(
         &mut self,
         mutator: MutNo,
@@ -36,6 +37,7 @@ impl<A: Allocator + Copy> Marker<A> {
     /// referent is doomed, and of a phantom reference. Tried in this order: `NoSuchActor`, `EmptySlot`,
     /// `NotAReference`. In a mark, a white referent becomes grey; a soft reference that answers an object is stamped
     /// with the clock. In constant time.
+    #[inline(always)]
     pub fn get(
         &mut self,
         mutator: MutNo,
@@ -83,6 +85,7 @@ impl<A: Allocator + Copy> Marker<A> {
     // ---- parts of calls
 
     // The load barrier, once a slot that is there holds what is loaded: in a mark, a white object becomes grey.
+    #[inline(always)]
     fn bar(&mut self, mutator: MutNo, slot: SlotNo)
         requires { has_slot self.old.heap mutator slot ≡ true }
         ensures { self.new ≡ barred self.old (slot_at self.old.heap mutator slot) }

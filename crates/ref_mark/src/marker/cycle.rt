@@ -19,7 +19,7 @@ ghost use Rattle.ref_mark.specs.CycleHeaps.{shaded_all, shaded_if_any, whitened,
 use super::Marker;
 use crate::chain::Chain;
 use ref_base::{Fault, ObjNo, Phase, Policy, Reply, Strength, Urgency, WorkerNo, keeps};
-use ref_objects::Reference;
+use ref_objects::{Colour, Reference};
 use std::alloc::Allocator;
 
 impl<A: Allocator + Copy> Marker<A> {
@@ -39,8 +39,8 @@ impl<A: Allocator + Copy> Marker<A> {
 
     /// Scans the first of the grey list for this worker: what its fields refer to becomes grey, in order, and so does
     /// the referent of a soft reference that the cycle keeps; another reference whose referent is white is found by
-    /// the worker. Answers the object, or none where the list is empty. Tried in this order: `NoSuchActor`,
-    /// `WrongPhase`. In logarithmic time.
+    /// the worker. Each word of the object has the good colour then. Answers the object, or none where the list is
+    /// empty. Tried in this order: `NoSuchActor`, `WrongPhase`. In logarithmic time.
     pub fn scan(&mut self, worker: WorkerNo) -> Result<Option<ObjNo>, Fault>
         ensures { MarkerDoes self.old (Plain (Scan worker)) (reply_of scan_reply result) self.new }
     {
@@ -48,7 +48,7 @@ impl<A: Allocator + Copy> Marker<A> {
         let Some(no) = self.grey.take_first() else {
             return Ok(None);
         };
-        let reference = self.objects.reference_of(no);
+        let reference = self.objects.heal(no);
         // The prover takes an Option that is passed on by value as spent.
         let (shading, finding) = (reference, reference);
         self.shade_targets(no, shading);
@@ -84,18 +84,18 @@ impl<A: Allocator + Copy> Marker<A> {
         Ok(())
     }
 
-    // All objects become white.
+    // All objects become white, and another colour is good.
     fn whiten(&mut self, now: u64, urgency: Urgency)
         requires { self.old.cycle < 2 ^ 64 - 1 }
         ensures { self.new ≡ whitened self.old now urgency }
     {
         self.grey.clear();
         self.forget_found();
-        self.objects.unmark_all();
+        self.cycle += 1;
+        self.objects.begin_marks(Colour::of_cycle(self.cycle));
         self.objects.set_clock(now);
         self.phase = Phase::Marking;
         self.policy = Policy::of(self.objects.config(), now, urgency);
-        self.cycle += 1;
     }
 
     // No worker has found anything.

@@ -1,18 +1,18 @@
-//! Marks of a heap's objects, for the layer that marks what a cycle reaches.
+//! Marks of a heap's objects, and their colour, for the layer that marks what a cycle reaches.
 
 ghost use Rattle.std.specs.Prelude.{◌≡◌, ◌<◌, Some, None, IfOk, length, map, slice_index_or};
 ghost use Rattle.ref_base.specs.Graphs.{object_at};
-ghost use Rattle.ref_base.specs.Heaps.{slot_at};
+ghost use Rattle.ref_base.specs.Heaps.{slot_at, reference_at};
 ghost use Rattle.ref_base.specs.Members.{has};
 ghost use Rattle.ref_base.specs.Refusals.{drop_refusal};
 ghost use Rattle.ref_space.specs.Tables.{fields_in};
-ghost use Rattle.ref_objects.specs.Grounds.{is_unmarked, ground_marked, without_marks, unmarked, least_from};
+ghost use Rattle.ref_objects.specs.Grounds.{is_unmarked, ground_marked, marks_begun, unmarked, least_from};
 ghost use Rattle.ref_objects.specs.Grounds.{IsRefused, if_done, ground_marked_if_any, newly_marked};
-ghost use Rattle.ref_objects.specs.Grounds.{all_marked, all_newly_marked};
+ghost use Rattle.ref_objects.specs.Grounds.{all_marked, all_newly_marked, ground_healed};
 
 use super::Objects;
 use ref_base::{Fault, MutNo, ObjNo, SlotNo};
-use ref_space::Fields;
+use ref_space::{Colour, Fields, Reference};
 use std::alloc::Allocator;
 
 impl<A: Allocator + Copy> Objects<A> {
@@ -47,6 +47,7 @@ impl<A: Allocator + Copy> Objects<A> {
 
     /// Marks the object that a slot holds, and answers it where it wasn't marked before; else nothing changes. The one
     /// error is `NoSuchActor`. In constant time.
+    #[inline(always)]
     pub fn mark_slot(&mut self, mutator: MutNo, slot: SlotNo) -> Result<Option<ObjNo>, Fault>
         ensures refused { IsRefused (drop_refusal self.old.heap mutator slot) result }
         ensures answer { IfOk result
@@ -59,6 +60,7 @@ impl<A: Allocator + Copy> Objects<A> {
     }
 
     /// The same of the slot at this place among those of all mutators, from 0 on.
+    #[inline(always)]
     pub fn mark_slot_at(&mut self, place: usize) -> Option<ObjNo>
         requires { place < length self.old.heap.slots }
         ensures answer { result ≡ newly_marked self.old (slice_index_or self.old.heap.slots place None) }
@@ -81,12 +83,26 @@ impl<A: Allocator + Copy> Objects<A> {
         self.table.mark_fields(no)
     }
 
-    /// Takes every mark away, and nothing is condemned any more. In time of the cells.
-    pub fn unmark_all(&mut self)
-        ensures { self.new ≡ without_marks self.old }
+    /// Takes every mark away, and nothing is condemned any more; this colour is good, and no object is healed. In time
+    /// of the slots.
+    pub fn begin_marks(&mut self, good: Colour)
+        ensures { self.new ≡ marks_begun self.old good }
     {
-        self.table.unmark_all();
+        // Gives the proof that nothing was marked or healed in a later round.
+        let _count = self.table.len();
+        self.table.begin(good);
         self.condemning = false;
+    }
+
+    /// Heals the object of this number, so that each word that it holds has the good colour, and answers what it has as
+    /// a reference: nothing where there is no such object, or it is plain. In logarithmic time.
+    pub fn heal(&mut self, no: ObjNo) -> Option<Reference>
+        ensures answer { result ≡ reference_at self.old.heap no }
+        ensures after { self.new ≡ ground_healed self.old no }
+    {
+        // Gives the proof that the numbers rise.
+        let _count = self.table.len();
+        self.table.heal(no)
     }
 
     /// How many objects aren't marked. In constant time.

@@ -1,15 +1,16 @@
 //! What one reads of a heap's objects.
 
-ghost use Rattle.std.specs.Prelude.{◌≡◌, ◌+◌, IfOk, length};
+ghost use Rattle.std.specs.Prelude.{◌≡◌, ◌+◌, IfOk, length, nat_lt, is_some};
+ghost use Rattle.std.specs.Option.{IfSome};
 ghost use Rattle.ref_base.specs.Members.{has};
 ghost use Rattle.ref_base.specs.Graphs.{object_at, is_there, numbers};
 ghost use Rattle.ref_base.specs.Heaps.{slot_at, reference_at, registered_in};
 ghost use Rattle.ref_base.specs.CollectorRows.{referent_of};
-ghost use Rattle.ref_base.specs.Refusals.{drop_refusal};
+ghost use Rattle.ref_base.specs.Refusals.{drop_refusal, field_count};
 ghost use Rattle.ref_space.specs.Tables.{fields_in};
 ghost use Rattle.ref_objects.specs.Grounds.{IsRefused, kind_in, stamp_in, least_from, IsWellFormed};
 ghost use Rattle.ref_objects.specs.Grounds.{cleared_in_at, link_at, linked_in};
-ghost use Rattle.ref_objects.specs.Grounds.{IsSparedIfAny};
+ghost use Rattle.ref_objects.specs.Grounds.{IsSparedIfAny, IsWordIn};
 
 use super::Objects;
 use crate::kind::Kind;
@@ -119,6 +120,18 @@ impl<A: Allocator + Copy> Objects<A> {
         ensures { result ≡ fields_in (object_at self.now.heap.objects no) }
     {
         self.table.fields(no)
+    }
+
+    /// The word that a field of the object of this number holds, 0 where it holds null: none where there is no such
+    /// object or field. Its page and cell are those in which the field's object lies, and it has the good colour where
+    /// the object is healed. Mutators never see it: it is for who inspects a heap.
+    pub fn word_at(&self, no: ObjNo, field: u32) -> Option<u64>
+        ensures there { is_some result ≡ nat_lt field (field_count (object_at self.now.heap.objects no)) }
+        ensures word { IfSome result (IsWordIn self.now no field) }
+    {
+        // Gives the proof that the numbers rise.
+        let _count = self.table.len();
+        self.table.word_at(no, field as usize)
     }
 
     /// What the object of this number has as a reference: nothing where there is no such object, or it is plain.

@@ -19,6 +19,7 @@ use std::alloc::Allocator;
 impl<A: Allocator + Copy> Objects<A> {
     /// The reference that a slot holds, and its number. Neither it nor its referent is condemned. Tried in this order:
     /// `NoSuchActor`, `EmptySlot`, `NotAReference`. In constant time.
+    #[inline(always)]
     pub fn reference_in(&self, mutator: MutNo, slot: SlotNo) -> Result<(ObjNo, Reference), Fault>
         ensures refused { IsRefused (clear_refusal self.now.heap mutator slot) result }
         ensures answer { IfOk result
@@ -56,6 +57,7 @@ impl<A: Allocator + Copy> Objects<A> {
     /// Gets the referent of the reference in slot `from` into slot `into`, and answers it: null where it is cleared, of
     /// a phantom reference, and where it isn't marked if that is to be hidden. Where it is an object, a soft reference
     /// is stamped with the clock. Tried in this order: `NoSuchActor`, `EmptySlot`, `NotAReference`. In constant time.
+    #[inline(always)]
     pub fn get(
         &mut self,
         mutator: MutNo,
@@ -106,6 +108,7 @@ impl<A: Allocator + Copy> Objects<A> {
     // ---- parts of calls
 
     // The referent of the reference in the slot at this place: null where it isn't marked and is to be hidden.
+    #[inline(always)]
     fn read_at(&self, place: usize, reference: Reference, hide_unmarked: bool) -> Option<ObjNo>
         requires place { place < length self.now.heap.slots }
         requires own { reference_of self.now.heap (slice_index_or self.now.heap.slots place None) ≡ Some reference }
@@ -119,6 +122,7 @@ impl<A: Allocator + Copy> Objects<A> {
     }
 
     // What a get of the reference in the slot at this place answers.
+    #[inline(always)]
     fn gets(&self, place: usize, reference: Reference, hide_unmarked: bool) -> Option<ObjNo>
         requires place { place < length self.now.heap.slots }
         requires own { reference_of self.now.heap (slice_index_or self.now.heap.slots place None) ≡ Some reference }
@@ -131,6 +135,7 @@ impl<A: Allocator + Copy> Objects<A> {
     }
 
     // Whether the slot at this place holds a reference to an object that isn't marked.
+    #[inline(always)]
     fn refers_to_unmarked_at(&self, place: usize) -> bool
         requires { place < length self.now.heap.slots }
         ensures { result ≡ refers_into (is_unmarked self.now)
@@ -142,6 +147,7 @@ impl<A: Allocator + Copy> Objects<A> {
     }
 
     // A soft reference, which the slot at this place holds, is stamped with the clock where it answers an object.
+    #[inline(always)]
     fn renew(&mut self, place: usize, no: ObjNo, reference: Reference, value: Option<ObjNo>)
         requires place { place < length self.old.heap.slots }
         requires own { slice_index_or self.old.heap.slots place None ≡ Some no }
@@ -155,6 +161,7 @@ impl<A: Allocator + Copy> Objects<A> {
     }
 
     // The slot at place `into` holds what a get of the reference in that at place `from` answers: its referent or null.
+    #[inline(always)]
     fn put_got(&mut self, into: usize, from: usize, value: Option<ObjNo>)
         requires into { into < length self.old.heap.slots }
         requires from { from < length self.old.heap.slots }
@@ -170,6 +177,7 @@ impl<A: Allocator + Copy> Objects<A> {
     }
 
     // Writes this of the object of this number, which the slot at this place holds.
+    #[inline(always)]
     fn write_in(&mut self, place: usize, no: ObjNo, change: Change)
         requires place { place < length self.old.heap.slots }
         requires own { slice_index_or self.old.heap.slots place None ≡ Some no }

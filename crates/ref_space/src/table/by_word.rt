@@ -1,12 +1,14 @@
 //! What a table's calls do by a word: they search nothing.
 
-ghost use Rattle.std.specs.Prelude.{◌≡◌, true};
+ghost use Rattle.std.specs.Prelude.{◌≡◌, ◌≤◌, true};
 ghost use Rattle.std.specs.Option.{option_map, IfSome};
 ghost use Rattle.ref_base.specs.CollectorRows.{referent_of};
-ghost use Rattle.ref_base.specs.Heaps.{with_field};
+ghost use Rattle.ref_base.specs.Heaps.{with_field, with_reference};
+ghost use Rattle.std.specs.Bool.{OnTrue};
 ghost use Rattle.ref_space.specs.Tables.{has_field, field_in_cell, tabled_reference, is_unmarked_in, on_object};
 ghost use Rattle.ref_space.specs.Tables.{with_marked, change_of};
-ghost use Rattle.ref_space.specs.Naming.{target_of, HasTarget, tabled_of, changed_of, reference_by_number};
+ghost use Rattle.ref_space.specs.Naming.{target_of, HasTarget, IsHealed, tabled_of, changed_of};
+ghost use Rattle.ref_space.specs.Naming.{reference_by_number, with_referent};
 ghost use Rattle.ref_space.specs.Places.{lent, cell_of_word, place_of_word};
 
 use super::Table;
@@ -28,9 +30,61 @@ impl<A: Allocator + Copy> Table<A> {
         }
     }
 
-    /// What a field of the object that a word leads to holds: none where there is no such object or field.
+    /// What a field of the object that a word leads to holds, in the good colour: none where there is no such object or
+    /// field. A word of another colour is healed, and one of the good colour is left as it is.
     #[inline(always)]
-    pub(super) fn field(&self, object: Word, field: usize) -> Option<Word>
+    pub(super) fn load_field(&mut self, object: Word, field: usize) -> Option<Word>
+        ensures held { option_map (target_of self.old) result ≡ field_in_cell (tabled_of self.old object) field }
+        ensures healed { IfSome result (λ value. IsHealed self.old value) }
+        ensures after { self.new ≡ self.old }
+    {
+        let value = self.field(object, field)?;
+        if self.is_good(value) {
+            return Some(value);
+        }
+        let healed = self.healed(value);
+        self.set_field(object, field, healed);
+        Some(healed)
+    }
+
+    /// The referent of the reference that a word leads to, in the good colour: null where it is cleared, or there is no
+    /// such reference. It is healed as the word of a field is.
+    #[inline(always)]
+    pub(super) fn load_referent(&mut self, object: Word) -> Word
+        ensures named { target_of self.old result ≡ referent_of (tabled_reference (tabled_of self.old object)) }
+        ensures healed { IsHealed self.old result }
+        ensures after { self.new ≡ self.old }
+    {
+        let value = self.referent(object);
+        if self.is_good(value) {
+            return value;
+        }
+        let healed = self.healed(value);
+        self.set_referent(object, healed);
+        healed
+    }
+
+    // Whether a word may be used as it is: it is null, or has the good colour.
+    #[inline(always)]
+    fn is_good(&self, value: Word) -> bool
+        requires { HasTarget self.now value }
+        ensures { OnTrue result (IsHealed self.now value) }
+    {
+        value.has_colour(self.round.good) || value.is_null()
+    }
+
+    // The word of the same object in the good colour.
+    fn healed(&self, value: Word) -> Word
+        requires { HasTarget self.now value }
+        ensures named { target_of self.now result ≡ target_of self.now value }
+        ensures healed { IsHealed self.now result }
+    {
+        value.in_colour(self.round.good)
+    }
+
+    // What a field of the object that a word leads to holds: none where there is no such object or field.
+    #[inline(always)]
+    fn field(&self, object: Word, field: usize) -> Option<Word>
         ensures held { option_map (target_of self.now) result ≡ field_in_cell (tabled_of self.now object) field }
         ensures led { IfSome result (λ value. HasTarget self.now value) }
     {
@@ -53,9 +107,9 @@ impl<A: Allocator + Copy> Table<A> {
         }
     }
 
-    /// The referent of the reference that a word leads to: null where it is cleared, or there is no such reference.
+    // The referent of the reference that a word leads to: null where it is cleared, or there is no such reference.
     #[inline(always)]
-    pub(super) fn referent(&self, object: Word) -> Word
+    fn referent(&self, object: Word) -> Word
         ensures named { target_of self.now result ≡ referent_of (tabled_reference (tabled_of self.now object)) }
         ensures led { HasTarget self.now result }
     {
@@ -68,10 +122,10 @@ impl<A: Allocator + Copy> Table<A> {
     /// Whether a word leads to an object that isn't marked.
     #[inline(always)]
     pub(super) fn is_unmarked_by(&self, value: Word) -> bool
-        ensures { result ≡ is_unmarked_in (tabled_of self.now value) }
+        ensures { result ≡ is_unmarked_in self.now.round.number (tabled_of self.now value) }
     {
         match cell_by(&self.cells, self.first_page, value) {
-            Some(cell) => cell.is_unmarked(),
+            Some(cell) => cell.is_unmarked(self.round.number),
             None => false,
         }
     }
@@ -79,7 +133,7 @@ impl<A: Allocator + Copy> Table<A> {
     /// Writes a field of the object that a word leads to. False where there is no such object or field: then nothing
     /// changes.
     pub(super) fn set_field(&mut self, object: Word, field: usize, value: Word) -> bool
-        requires { HasTarget self.old value }
+        requires { IsHealed self.old value }
         ensures there { result ≡ has_field (tabled_of self.old object) field }
         ensures after { self.new ≡ changed_of self.old object
             (on_object (with_field field (target_of self.old value))) }
@@ -87,6 +141,17 @@ impl<A: Allocator + Copy> Table<A> {
         match place_by(&self.cells, self.first_page, object) {
             Some(place) => self.cells[place].set_field(field, value),
             None => false,
+        }
+    }
+
+    // Writes the referent of the object that a word leads to. Nothing changes where there is no such reference.
+    fn set_referent(&mut self, object: Word, referent: Word)
+        requires { IsHealed self.old referent }
+        ensures { self.new ≡ changed_of self.old object
+            (on_object (with_reference (with_referent (target_of self.old referent)))) }
+    {
+        if let Some(place) = place_by(&self.cells, self.first_page, object) {
+            self.cells[place].set_referent(referent);
         }
     }
 
@@ -103,12 +168,12 @@ impl<A: Allocator + Copy> Table<A> {
     /// Marks the object that a word leads to. True where there is one and it wasn't marked.
     #[inline(always)]
     pub(super) fn mark_by(&mut self, value: Word) -> bool
-        ensures answer { result ≡ is_unmarked_in (tabled_of self.old value) }
-        ensures after { self.new ≡ changed_of self.old value (with_marked true) }
+        ensures answer { result ≡ is_unmarked_in self.old.round.number (tabled_of self.old value) }
+        ensures after { self.new ≡ changed_of self.old value (with_marked self.old.round.number) }
     {
         match place_by(&self.cells, self.first_page, value) {
             Some(place) => {
-                let is_new = self.cells[place].mark();
+                let is_new = self.cells[place].mark(self.round.number);
                 self.marked += usize::from(is_new);
                 is_new
             }
@@ -120,6 +185,7 @@ impl<A: Allocator + Copy> Table<A> {
 // The cell that a word leads to, if any.
 #[inline(always)]
 fn cell_by<'a>(cells: &'a [Cell], first_page: u32, value: Word) -> Option<&'a Cell>
+    requires { 1 ≤ first_page }
     ensures { lent result ≡ cell_of_word cells.entry.now first_page value }
 {
     match value.place(first_page) {
@@ -131,6 +197,7 @@ fn cell_by<'a>(cells: &'a [Cell], first_page: u32, value: Word) -> Option<&'a Ce
 // The place of that cell, if an object lies there.
 #[inline(always)]
 fn place_by(cells: &[Cell], first_page: u32, value: Word) -> Option<usize>
+    requires { 1 ≤ first_page }
     ensures { result ≡ place_of_word cells.now first_page value }
 {
     let place = value.place(first_page)? as usize;

@@ -74,7 +74,8 @@ impl<A: Allocator + Copy> Table<A> {
         ensures after { self.new ≡ (if has_field (tabled_held self.old from) field
             then slotted self.old into (field_held (tabled_held self.old from) field) else self.old) }
     {
-        let value = self.field(self.slots[from], field)?;
+        let object = self.slots[from];
+        let value = self.load_field(object, field)?;
         self.slots[into] = value;
         Some(self.name(value))
     }
@@ -106,7 +107,7 @@ impl<A: Allocator + Copy> Table<A> {
     #[inline(always)]
     pub fn refers_to_unmarked_in(&self, place: usize) -> bool
         requires { place < length self.now.slots }
-        ensures { result ≡ refers_into (is_unmarked_at self.now.tabled)
+        ensures { result ≡ refers_into (is_unmarked_at self.now.round.number self.now.tabled)
             (tabled_reference (tabled_held self.now place)) }
     {
         self.refers_to_unmarked(self.kept(self.slots[place]))
@@ -120,7 +121,8 @@ impl<A: Allocator + Copy> Table<A> {
         requires from { from < length self.old.slots }
         ensures { self.new ≡ slotted self.old into (referent_of (tabled_reference (tabled_held self.old from))) }
     {
-        let referent = self.referent(self.slots[from]);
+        let object = self.slots[from];
+        let referent = self.load_referent(object);
         self.slots[into] = referent;
     }
 

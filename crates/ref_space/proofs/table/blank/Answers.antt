@@ -4,6 +4,7 @@ use Rattle.ref_space.proofs.table.blank.Goals as goal
 pub loop-cell-preserved : goal.loop-cell-preserved
 loop-cell-preserved c =
     ap (slice_set c.loop-cell.cells c.loop-cell.cell-index)
-    (c.blank_unless_marked.ensures ∙ ap blanked_cell (sym c.cell-item.is))
-    ∙ map_over_more blanked_cell c.args.cells.now c.loop-cell.cells c.loop-cell.cell-index c.cell-item.result
+    (c.blank_unless_marked.ensures ∙ ap (blanked_cell c.args.round) (sym c.cell-item.is))
+    ∙ map_over_more (blanked_cell c.args.round) c.args.cells.now c.loop-cell.cells c.loop-cell.cell-index
+    c.cell-item.result
     (omega (arith, c.loop-cell-test.true)) c.loop-cell.invariant c.cell-item.is

@@ -11,6 +11,6 @@ invariant_of-self-2 g c =
     let white : c.self-2.inside.grey.stands ≡ [] =
     ap (λ (k : CycleHeap). k.grey) seen ∙ ap (λ (l : Worklist). l.stands) c.clear.ensures in
     let none = ap (λ (k : CycleHeap). k.found) seen in
-    rw (c.set_clock.ensures, c.unmark_all.ensures)
+    rw (c.set_clock.ensures, c.begin_marks.ensures)
     (sound_whitened Marking (found_in c.self.inside.objects c.self.inside.found.items) refl refl refl refl refl white
     none c.self-2.invariant)

@@ -2,6 +2,7 @@ use Rattle.ref_objects.proofs.Common.{arith, length-map, objects_of}
 use Rattle.ref_objects.proofs.NumberLemmas.{numbers_in_order}
 use Rattle.ref_space.proofs.MarkCounts.{length-unmarked_of}
 use Rattle.ref_objects.proofs.MarkLemmas.{marked_there}
+use Rattle.ref_objects.proofs.HealedLemmas.{unhealed_there}
 use Rattle.ref_objects.proofs.MarkedLemmas.{there_below}
 use Rattle.ref_objects.proofs.TagLemmas.{numbers-tags_of}
 use Rattle.ref_objects.proofs.objects.Objects.facts.Goals as goal
@@ -11,7 +12,7 @@ returns g c =
     let ks = c.self.inside.table.tabled in
     let orderly = c.len-count.ensures.orderly in
     let same = length-map ks (λ k. k.object) in
-    let marks = length-unmarked_of ks in
+    let marks = length-unmarked_of c.self.inside.table.round.number ks in
     rw (← c.self.view_is) (record {
       orderly = record {
         rising = orderly.rising;
@@ -21,7 +22,8 @@ returns g c =
       held = numbers_in_order (λ k. k.holds) ks orderly.rising;
       few = omega (arith, same, orderly.few, c.self.invariant.ground.room);
       marks = omega (arith, same, marks);
-      marked = marked_there ks orderly.rising;
+      marked = marked_there c.self.inside.table.round.number ks orderly.rising;
+      unhealed = unhealed_there c.self.inside.table.round.number ks orderly.rising;
       tagged = numbers-tags_of ks;
       closed = c.self.invariant.closed;
     })

@@ -10,8 +10,9 @@ returns-then-is_full-clause-refused g c =
 pub invariant_of-self : goal.invariant_of-self
 invariant_of-self g c =
     rw c.push.ensures
-    (new_sound c.self.invariant c.args.place c.args.fields c.args.reference c.push.new.self.occupants
-    (omega (arith, c.if-self-from.false, c.from.ensures)) c.len-count.ensures.orderly.given)
+    (new_sound c.self.invariant c.args.place c.args.fields c.args.reference
+    (omega (arith, c.if-self-from.false, c.from.ensures)) c.len-count.ensures.orderly.given
+    c.len-count.ensures.orderly.begun)
 
 pub returns-clause-refused : goal.returns-clause-refused
 returns-clause-refused g c =
@@ -21,5 +22,5 @@ pub returns-clause-after : goal.returns-clause-after
 returns-clause-after g c =
     rw (c.push.ensures, ← c.self.view_is)
     (seen_made c.self.invariant.ground c.args.place c.args.fields
-    (option_map (made_of c.self.inside.table.slots) c.args.reference) c.push.new.self.occupants
-    c.len-count.ensures.orderly.given)
+    (option_map (made_of c.self.inside.table.slots) c.args.reference)
+    c.len-count.ensures.orderly.given c.len-count.ensures.orderly.begun)

@@ -1,3 +1,8 @@
+use Rattle.ref_space.proofs.Common.{changed}
+use Rattle.ref_space.proofs.Common.{◌∙◌}
+use Rattle.ref_space.proofs.Common.{sym}
+use Rattle.ref_space.proofs.Common.{ap}
+use Rattle.ref_space.proofs.CellChanges.{round_seen}
 use Rattle.ref_space.proofs.Common.{refl, arith, leads_by, target_by, occupants_of}
 use Rattle.ref_space.proofs.PlaceLemmas.{IsPlaceOf-lent, IsMissing-lent}
 use Rattle.ref_space.proofs.Common.{may_hold, holds_in}
@@ -11,37 +16,50 @@ pub invariant_of-self : goal.invariant_of-self
 invariant_of-self g c =
     sound_there c.self.invariant
     (IsPlaceOf-lent c.args.no c.deref.ensures.value c.deref-2.ensures.value c.in-Some.ensures)
-    (more_held_if c.args.if_marked) (more_held_if c.args.if_marked) (held_keeps c.args.if_marked)
+    (more_held_if c.self.inside.round.number c.args.if_marked)
+    (more_held_if c.self.inside.round.number c.args.if_marked)
+    (held_keeps c.self.inside.round.number c.args.if_marked)
     c.index_mut.ensures.value c.add_hold.ensures.after
-    (held_values (leads_by c.self.inside.first_page (occupants_of c.self.inside.cells.items)) c.args.if_marked)
-    (held_leaves c.args.if_marked)
+    (held_values c.self.inside.round.number (leads_by c.self.inside.round.good c.self.inside.first_page
+    (occupants_of c.self.inside.cells.items)) c.args.if_marked)
+    (held_leaves c.self.inside.round.number c.args.if_marked)
 
 pub returns-in-Some-clause-there : goal.returns-in-Some-clause-there
 returns-in-Some-clause-there g c =
-    answered_there c.self.invariant
+    rw (round_seen c.self.invariant c.self.view_is)
+    (answered_there c.self.invariant
     (IsPlaceOf-lent c.args.no c.deref.ensures.value c.deref-2.ensures.value c.in-Some.ensures)
-    c.self.view_is (may_hold c.args.if_marked) (may_hold-named c.args.if_marked) c.index_mut.ensures.value
-    c.add_hold.ensures.there
+    c.self.view_is (may_hold c.self.inside.round.number c.args.if_marked)
+    (may_hold-named c.self.inside.round.number c.args.if_marked) c.index_mut.ensures.value
+    c.add_hold.ensures.there)
 
 pub returns-in-Some-clause-after : goal.returns-in-Some-clause-after
 returns-in-Some-clause-after g c =
     left_there c.self.invariant
     (IsPlaceOf-lent c.args.no c.deref.ensures.value c.deref-2.ensures.value c.in-Some.ensures)
-    (more_held_if c.args.if_marked) (more_held_if c.args.if_marked) (held_keeps c.args.if_marked)
+    (more_held_if c.self.inside.round.number c.args.if_marked)
+    (more_held_if c.self.inside.round.number c.args.if_marked)
+    (held_keeps c.self.inside.round.number c.args.if_marked)
     c.index_mut.ensures.value c.add_hold.ensures.after c.self.view_is
-    (held-named (target_by c.self.inside.first_page (occupants_of c.self.inside.cells.items)) c.args.if_marked)
+    (held-named c.self.inside.round.number (target_by c.self.inside.first_page
+    (occupants_of c.self.inside.cells.items)) c.args.if_marked)
+    ∙ ap (λ r. changed c.args.self.now c.args.no (more_held_if r c.args.if_marked)) (sym
+    (round_seen c.self.invariant c.self.view_is))
 
 pub returns-in-None-clause-there : goal.returns-in-None-clause-there
 returns-in-None-clause-there g c =
-    answered_nowhere c.self.invariant
+    rw (round_seen c.self.invariant c.self.view_is)
+    (answered_nowhere c.self.invariant
     (IsMissing-lent c.args.no c.deref.ensures.value c.deref-2.ensures.value c.in-None.ensures) c.self.view_is
-    (may_hold c.args.if_marked)
+    (may_hold c.self.inside.round.number c.args.if_marked))
 
 pub returns-in-None-clause-after : goal.returns-in-None-clause-after
 returns-in-None-clause-after g c =
     left_nowhere c.self.invariant
     (IsMissing-lent c.args.no c.deref.ensures.value c.deref-2.ensures.value c.in-None.ensures) c.self.view_is
-    (more_held_if c.args.if_marked)
+    (more_held_if c.self.inside.round.number c.args.if_marked)
+    ∙ ap (λ r. changed c.args.self.now c.args.no (more_held_if r c.args.if_marked)) (sym
+    (round_seen c.self.invariant c.self.view_is))
 
 pub add_hold-requires : goal.add_hold-requires
 add_hold-requires g c =

@@ -10,7 +10,9 @@ invariant_of-self g c =
     sound_there c.self.invariant
     (IsPlaceOf-lent c.args.no c.deref.ensures.value c.deref-2.ensures.value c.in-Some.ensures)
     (change_of c.args.change) (change_of c.args.change) (change_keeps c.args.change) c.index_mut.ensures.value
-    c.change.ensures (change_leads (leads_by c.self.inside.first_page (occupants_of c.self.inside.cells.items)) refl
+    c.change.ensures (change_leads c.self.inside.round.number
+    (leads_by c.self.inside.round.good c.self.inside.first_page (occupants_of c.self.inside.cells.items))
+    (λ b. refl)
     c.args.change)
     (change_leaves c.args.change)
 

@@ -1,4 +1,5 @@
-use Rattle.ref_space.proofs.Common.{refl, arith, is_unmarked_in}
+use Rattle.ref_space.proofs.CellChanges.{round_seen}
+use Rattle.ref_space.proofs.Common.{arith, is_unmarked_in}
 use Rattle.ref_space.proofs.PlaceLemmas.{IsPlaceOf-lent, IsMissing-lent}
 use Rattle.ref_space.proofs.CellChanges.{answered_nowhere, freed_nowhere, has_page, one_fewer, sound_freed, goes_answer}
 use Rattle.ref_space.proofs.CellChanges.{freed_there, kept_there}
@@ -6,14 +7,15 @@ use Rattle.ref_space.proofs.table.Table.free.Goals as goal
 
 pub returns-in_default-clause-answer : goal.returns-in_default-clause-answer
 returns-in_default-clause-answer g c =
-    answered_nowhere c.self.invariant
+    rw (round_seen c.self.invariant c.self.view_is)
+    (answered_nowhere c.self.invariant
     (IsMissing-lent c.args.no c.deref.ensures.value c.deref-2.ensures.value c.in_default.ensures) c.self.view_is
-    is_unmarked_in
+    (is_unmarked_in c.self.inside.round.number))
 
 pub returns-in_default-clause-after : goal.returns-in_default-clause-after
 returns-in_default-clause-after g c =
     freed_nowhere c.self.invariant
-    (IsMissing-lent c.args.no c.deref.ensures.value c.deref-2.ensures.value c.in_default.ensures) c.self.view_is _
+    (IsMissing-lent c.args.no c.deref.ensures.value c.deref-2.ensures.value c.in_default.ensures) c.self.view_is
 
 pub give-requires : goal.give-requires
 give-requires g c =
@@ -49,7 +51,7 @@ returns-then-goes-clause-after g c =
     freed_there c.self.invariant
     (IsPlaceOf-lent c.args.no c.deref.ensures.value c.deref-2.ensures.value c.in-Some.ensures)
     c.self.view_is c.index.ensures c.is_unmarked-goes.ensures c.if-goes.true c.vacate.ensures
-    c.give.ensures c.requires refl
+    c.give.ensures c.requires
 
 pub returns-else-goes-clause-answer : goal.returns-else-goes-clause-answer
 returns-else-goes-clause-answer g c =
@@ -61,4 +63,4 @@ pub returns-else-goes-clause-after : goal.returns-else-goes-clause-after
 returns-else-goes-clause-after g c =
     kept_there c.self.invariant
     (IsPlaceOf-lent c.args.no c.deref.ensures.value c.deref-2.ensures.value c.in-Some.ensures)
-    c.self.view_is c.index.ensures c.is_unmarked-goes.ensures _ c.if-goes.false
+    c.self.view_is c.index.ensures c.is_unmarked-goes.ensures c.if-goes.false

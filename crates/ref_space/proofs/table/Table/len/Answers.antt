@@ -13,4 +13,5 @@ returns-clause-count g c =
     ∙ ap (λ (t : Table). length t.tabled) c.self.view_is
 
 pub returns-clause-orderly : goal.returns-clause-orderly
-returns-clause-orderly g c = subst IsOrderlyTable c.self.view_is (orderly c.self.inside.slots.items c.self.invariant.0)
+returns-clause-orderly g c = subst IsOrderlyTable c.self.view_is
+    (orderly c.self.inside.slots.items c.self.invariant.0 c.self.invariant.1)

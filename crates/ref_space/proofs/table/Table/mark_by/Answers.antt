@@ -1,5 +1,8 @@
+use Rattle.ref_space.proofs.Common.{changed_of}
+use Rattle.ref_space.proofs.Common.{sym}
+use Rattle.ref_space.proofs.CellChanges.{round_seen}
 use Rattle.ref_space.proofs.Common.{refl, ◌∙◌, ap, arith, tabled_by}
-use Rattle.ref_space.proofs.Common.{true, from_bool, with_marked, is_unmarked_in}
+use Rattle.ref_space.proofs.Common.{from_bool, with_marked, is_unmarked_in}
 use Rattle.ref_space.proofs.CellChanges.{marks_fit, sound_counted, left_there, left_led_nowhere, answered_there}
 use Rattle.ref_space.proofs.CellChanges.{answered_led_nowhere, unmarked-named, led_place, led_no, tabled_here}
 use Rattle.ref_space.proofs.CellChanges.{changed_here}
@@ -14,36 +17,45 @@ pub invariant_of-self : goal.invariant_of-self
 invariant_of-self g c =
     let place = (led_place c.self.invariant c.args.value c.self.view_is c.deref.ensures.value c.in-Some.ensures) in
     let new = c.mark-is_new.ensures.answer
-    ∙ told_of c.self.invariant.0.placed place is_unmarked_in c.index_mut.ensures.value in
-    sound_counted c.self.invariant place (with_marked true) (with_marked true) (λ k. refl)
-    c.index_mut.ensures.value c.mark-is_new.ensures.after (λ k each. each)
-    (marks_more (tabled_by c.self.inside.cells.items c.self.inside.index.items)
+    ∙ told_of c.self.invariant.0.placed place (is_unmarked_in c.self.inside.round.number) c.index_mut.ensures.value in
+    sound_counted c.self.invariant place (with_marked c.self.inside.round.number)
+    (with_marked c.self.inside.round.number) (λ k. refl)
+    c.index_mut.ensures.value c.mark-is_new.ensures.after (λ k held. (omega arith, held.1, held.2))
+    (marks_more c.self.inside.round.number (tabled_by c.self.inside.cells.items c.self.inside.index.items)
     (led_no c.self.invariant c.args.value c.self.view_is c.deref.ensures.value c.in-Some.ensures)
     (c.from.ensures ∙ ap from_bool new) c.self.invariant.0.marks_counted)
 
 pub returns-in-Some-clause-answer : goal.returns-in-Some-clause-answer
 returns-in-Some-clause-answer g c =
-    answered_there c.self.invariant
+    rw (round_seen c.self.invariant c.self.view_is)
+    (answered_there c.self.invariant
     (led_place c.self.invariant c.args.value c.self.view_is c.deref.ensures.value c.in-Some.ensures)
-    c.self.view_is is_unmarked_in unmarked-named c.index_mut.ensures.value c.mark-is_new.ensures.answer
-    ∙ ap is_unmarked_in
-    (tabled_here c.self.invariant c.args.value c.self.view_is c.deref.ensures.value c.in-Some.ensures)
+    c.self.view_is (is_unmarked_in c.self.inside.round.number)
+    (unmarked-named c.self.inside.round.number) c.index_mut.ensures.value c.mark-is_new.ensures.answer
+    ∙ ap (is_unmarked_in c.self.inside.round.number)
+    (tabled_here c.self.invariant c.args.value c.self.view_is c.deref.ensures.value c.in-Some.ensures))
 
 pub returns-in-Some-clause-after : goal.returns-in-Some-clause-after
 returns-in-Some-clause-after g c =
     left_there c.self.invariant
     (led_place c.self.invariant c.args.value c.self.view_is c.deref.ensures.value c.in-Some.ensures)
-    (with_marked true) (with_marked true) (λ k. refl) c.index_mut.ensures.value c.mark-is_new.ensures.after
+    (with_marked c.self.inside.round.number) (with_marked c.self.inside.round.number)
+    (λ k. refl) c.index_mut.ensures.value c.mark-is_new.ensures.after
     c.self.view_is (λ k. refl)
     ∙ changed_here c.self.invariant c.args.value c.self.view_is c.deref.ensures.value c.in-Some.ensures
-    (with_marked true)
+    (with_marked c.self.inside.round.number)
+    ∙ ap (λ r. changed_of c.args.self.now c.args.value (with_marked r)) (sym
+    (round_seen c.self.invariant c.self.view_is))
 
 pub returns-in-None-clause-answer : goal.returns-in-None-clause-answer
 returns-in-None-clause-answer g c =
-    answered_led_nowhere c.self.invariant c.args.value c.self.view_is c.deref.ensures.value c.in-None.ensures
-    is_unmarked_in
+    rw (round_seen c.self.invariant c.self.view_is)
+    (answered_led_nowhere c.self.invariant c.args.value c.self.view_is c.deref.ensures.value c.in-None.ensures
+    (is_unmarked_in c.self.inside.round.number))
 
 pub returns-in-None-clause-after : goal.returns-in-None-clause-after
 returns-in-None-clause-after g c =
     left_led_nowhere c.self.invariant c.args.value c.self.view_is c.deref.ensures.value c.in-None.ensures
-    (with_marked true)
+    (with_marked c.self.inside.round.number)
+    ∙ ap (λ r. changed_of c.args.self.now c.args.value (with_marked r)) (sym
+    (round_seen c.self.invariant c.self.view_is))

@@ -1,3 +1,4 @@
+use Rattle.ref_space.specs.Tables.{is_marked}
 use Rattle.ref_space.proofs.Common.{refl, from_bool, arith, target_by, occupants_of, tabled_by}
 use Rattle.ref_space.proofs.NamingLemmas.{numbers_by-named}
 use Rattle.ref_space.proofs.table.Table.marked_count.Goals as goal
@@ -7,5 +8,6 @@ returns g c =
     grind (
       arith,
       numbers_by-named (target_by c.self.inside.first_page (occupants_of c.self.inside.cells.items))
-          (λ k. from_bool k.marked) (λ k. refl) (tabled_by c.self.inside.cells.items c.self.inside.index.items),
+          (λ k. from_bool (is_marked c.self.inside.round.number k)) (λ k. refl)
+          (tabled_by c.self.inside.cells.items c.self.inside.index.items),
     )

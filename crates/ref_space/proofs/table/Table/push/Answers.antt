@@ -1,11 +1,15 @@
+use Rattle.ref_space.proofs.Common.{with_tabled}
 use Rattle.ref_space.proofs.Common.{◌∙◌, ◌+◌, ◌*◌, arith, made_entry}
 use Rattle.ref_space.proofs.PushLemmas.{has_place, can_make, CanMake, seen_made, sound_made}
 use Rattle.ref_space.proofs.CellChanges.{marks_fit}
-use Rattle.ref_space.proofs.Common.{ap, refl, Each, Table, leads_by, target_of, occupants_of, option_map, referent_of}
-use Rattle.ref_space.proofs.Common.{values_in}
+use Rattle.ref_space.proofs.Common.{ap, refl, Table, leads_by, target_of, occupants_of, option_map, referent_of}
+use Rattle.ref_space.proofs.Common.{true}
 use Rattle.ref_space.specs.Tables.{made_of}
-use Rattle.ref_space.proofs.PushLemmas.{entry-named}
-use Rattle.ref_space.proofs.TableLemmas.{all_null, has_address}
+use Rattle.ref_space.proofs.PushLemmas.{entry-named, made_held, made_marked}
+use Rattle.ref_space.specs.Naming.{IsHeldIn}
+use Rattle.ref_space.proofs.Common.{sym, from_bool}
+use Rattle.ref_space.proofs.CellChanges.{round_seen}
+use Rattle.ref_space.proofs.TableLemmas.{has_address}
 use Rattle.ref_space.proofs.table.Table.push.Given.{Over}
 use Rattle.ref_space.proofs.table.Table.push.Goals.{After-unwrap-page}
 use Rattle.ref_space.proofs.table.Table.push.Goals as goal
@@ -53,29 +57,38 @@ word_at-requires g c =
 
 -- what the new cell holds leads to objects, and is by number what it is made of
 holds : (g : Over) (c : After-unwrap-page g)
-    → Each (leads_by c.self.inside.first_page (occupants_of c.self.inside.cells.items))
-    (values_in (made_entry c.args.no c.args.count c.kept_of_new-kept.result c.args.marked))
-holds g c = (
-  ap (λ (t : Table). leads_by t.first t.occupants (referent_of c.kept_of_new-kept.result)) c.self.view_is
-      ∙ c.kept_of_new-kept.ensures.led,
-  all_null (leads_by c.self.inside.first_page (occupants_of c.self.inside.cells.items)) refl c.args.count,
-)
+    → IsHeldIn c.self.inside.round.number
+    (leads_by c.self.inside.round.good c.self.inside.first_page (occupants_of c.self.inside.cells.items))
+    (made_entry c.self.inside.round.number c.args.no c.args.count c.kept_of_new-kept.result c.args.marked)
+holds g c =
+    made_held c.self.inside.round.number c.self.inside.round.good c.self.inside.first_page
+    (occupants_of c.self.inside.cells.items) c.args.no c.args.count c.kept_of_new-kept.result c.args.marked
+    (ap (λ (t : Table). leads_by t.round.good t.first t.occupants true (referent_of c.kept_of_new-kept.result))
+    c.self.view_is
+    ∙ c.kept_of_new-kept.ensures.healed)
 
 pub invariant_of-self : goal.invariant_of-self
 invariant_of-self g c =
     sound_made c.self.invariant c.self.view_is (can g (goal.at.invariant_of-self g c).After-unwrap-page)
-    (made_entry c.args.no c.args.count c.kept_of_new-kept.result c.args.marked) c.requires.rises c.of.ensures
+    (made_entry c.self.inside.round.number c.args.no c.args.count c.kept_of_new-kept.result c.args.marked)
+    c.requires.rises c.occupy.ensures
     c.push_reserved.ensures.items (holds g (goal.at.invariant_of-self g c).After-unwrap-page) c.args.into
-    c.word_at.result c.word_at.ensures
-    (omega (arith, c.make_room.ensures.capacity, c.push_reserved.ensures.capacity)) c.from.ensures
+    c.word_at.ensures
+    (omega (arith, c.make_room.ensures.capacity, c.push_reserved.ensures.capacity))
+    (c.from.ensures
+    ∙ ap from_bool (sym (made_marked c.self.inside.round.number c.args.no c.args.count c.kept_of_new-kept.result
+    c.args.marked c.self.invariant.1.begun)))
 
 pub returns : goal.returns
 returns g c =
     seen_made c.self.invariant c.self.view_is (can g (goal.at.returns g c).After-unwrap-page)
-    (made_entry c.args.no c.args.count c.kept_of_new-kept.result c.args.marked) c.requires.rises c.of.ensures
+    (made_entry c.self.inside.round.number c.args.no c.args.count c.kept_of_new-kept.result c.args.marked)
+    c.requires.rises c.occupy.ensures
     c.push_reserved.ensures.items (holds g (goal.at.returns g c).After-unwrap-page) c.args.into
-    c.word_at.result c.word_at.ensures
+    c.word_at.ensures
     (option_map (made_of c.args.self.now.slots) c.args.reference) c.args.count c.args.marked
-    (entry-named (target_of c.args.self.now) refl c.args.no c.args.count c.args.marked
+    (entry-named (target_of c.args.self.now) refl c.self.inside.round.number c.args.no c.args.count c.args.marked
     c.kept_of_new-kept.result c.kept_of_new-kept.ensures.named)
-    refl
+    ∙ ap (λ r. with_tabled c.args.self.now c.args.into (made_entry r c.args.no c.args.count
+    (option_map (made_of c.args.self.now.slots) c.args.reference) c.args.marked)) (sym
+    (round_seen c.self.invariant c.self.view_is))

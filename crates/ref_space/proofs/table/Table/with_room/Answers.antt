@@ -11,7 +11,8 @@ invariant_of-result g c =
       sound_new c.args.first_page count c.args.room (vec_capacity c.in_ok-index.index) (omega (arith, bound))
           (omega (arith, bound)) (omega (arith, capacity)) c.in_ok-cells.ensures c.in_ok-index.ensures.items
           c.in_ok-pages.ensures,
-      naming_new c.args.first_page count c.args.slots c.requires.begins (omega (arith, bound, c.requires.addresses))
+      naming_new c.args.first_page count c.args.slots (omega arith) c.requires.begins (omega
+          (arith, bound, c.requires.addresses))
           c.in_ok-cells.ensures c.in_ok-index.ensures.items c.in_ok-slots.ensures,
     )
 

@@ -14,12 +14,12 @@ pub returns-in-Some-clause-named : goal.returns-in-Some-clause-named
 returns-in-Some-clause-named g c =
     word_there c.self.invariant
     (IsPlaceOf-lent c.args.no c.deref.ensures.value c.deref-2.ensures.value c.in-Some.ensures)
-    c.self.view_is c.word_at.result c.word_at.ensures
+    c.self.view_is c.word_at.ensures
 
-pub returns-in-Some-clause-led : goal.returns-in-Some-clause-led
-returns-in-Some-clause-led g c =
+pub returns-in-Some-clause-healed : goal.returns-in-Some-clause-healed
+returns-in-Some-clause-healed g c =
     word_led c.self.invariant (IsPlaceOf-lent c.args.no c.deref.ensures.value c.deref-2.ensures.value c.in-Some.ensures)
-    c.self.view_is c.word_at.result c.word_at.ensures
+    c.self.view_is c.word_at.ensures
 
 pub returns-in-None-clause-named : goal.returns-in-None-clause-named
 returns-in-None-clause-named g c =
